@@ -1,1 +1,3 @@
 pub mod Source
+pub mod Command
+pub mod Words

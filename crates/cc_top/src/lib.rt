@@ -1,3 +1,4 @@
 #![tactic(auto)]
 
 pub mod source;
+pub mod words;

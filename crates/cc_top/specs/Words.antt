@@ -1,0 +1,7 @@
+use Rattle.cc_top.specs.Command.{Command, build}
+use Rattle.cc_top.specs.declared.words.Command.{Command as Parsed}
+use Rattle.cc_top.specs.declared.words.Command.TheVariants.{Build}
+
+-- the plain form of a parsed command
+abbrev pub plain_command : Parsed → Command
+plain_command (Build source image) = build source.now image.now
