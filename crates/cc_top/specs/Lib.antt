@@ -1,3 +1,4 @@
 pub mod Source
 pub mod Command
 pub mod Words
+pub mod Templates

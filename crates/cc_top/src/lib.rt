@@ -1,4 +1,5 @@
 #![tactic(auto)]
 
-pub mod source;
-pub mod words;
+mod source;
+mod templates;
+mod words;
