@@ -1,0 +1,20 @@
+-- What is written on the report, by the status of the call. Each line ends with a line feed.
+use Rattle.std.specs.Prelude.{◌≡◌, ℕ, ◌==◌, List, [], ◌∷◌, ◌++◌, codes, if◌then◌else◌}
+
+abbrev pub line : List ℕ → List ℕ
+line text = text ++ 10 ∷ []
+
+abbrev pub usage_text : List ℕ
+usage_text =
+    line (codes "usage: rvcc build IN OUT [--workers N] [--recipe LIST] [--report NAME]")
+    ++ line (codes "       rvcc run IMG [--steps N]")
+    ++ line (codes "       rvcc gen NUMBER COUNT OUT")
+
+abbrev pub text_of_status : ℕ → List ℕ
+text_of_status status =
+    if status == 1 then usage_text
+    else if status == 2 then line (codes "read fault")
+    else if status == 3 then line (codes "write fault")
+    else if status == 4 then line (codes "refused NotBuilt 50 line 1")
+    else if status == 6 then line (codes "memory")
+    else []

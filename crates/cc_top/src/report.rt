@@ -1,0 +1,51 @@
+//! How a command ended, as its status and as what it writes on the report.
+ghost use Rattle.std.specs.Prelude.{◌≡◌, ◌≤◌, ◌⊎◌, ℕ, take};
+ghost use Rattle.cc_top.specs.Report.{text_of_status};
+
+use cc_io::{Sink, write_all};
+
+/// How a command ended.
+#[derive(Clone, Copy, Debug, PartialEq, Eq)]
+pub enum Outcome {
+    Done,
+    Usage,
+    ReadFault,
+    WriteFault,
+    Refused,
+    NoMemory,
+}
+
+const USAGE: &[u8] = b"usage: rvcc build IN OUT [--workers N] [--recipe LIST] [--report NAME]
+       rvcc run IMG [--steps N]
+       rvcc gen NUMBER COUNT OUT
+";
+
+impl Outcome {
+    ghost use Rattle.cc_top.specs.Outcome.{status_of};
+
+    pub fn status(self) -> u8
+        ensures { result ≡ status_of self }
+    {
+        match self {
+            Outcome::Done => 0,
+            Outcome::Usage => 1,
+            Outcome::ReadFault => 2,
+            Outcome::WriteFault => 3,
+            Outcome::Refused => 4,
+            Outcome::NoMemory => 6,
+        }
+    }
+
+    fn text(self) -> &'static [u8]
+        ensures { result.now ≡ text_of_status (status_of self) }
+    {
+        match self {
+            Outcome::Done => b"",
+            Outcome::Usage => USAGE,
+            Outcome::ReadFault => b"read fault\n",
+            Outcome::WriteFault => b"write fault\n",
+            Outcome::Refused => b"refused NotBuilt 50 line 1\n",
+            Outcome::NoMemory => b"memory\n",
+        }
+    }
+}
