@@ -1,0 +1,74 @@
+// The created file of a `Files`, lent as a sink.
+ghost use Rattle.std.specs.Prelude.{◌≡◌, ◌≢◌, ◌≤◌, ◌⊎◌, ℕ, Some, length, take, option_map, IsSome, OnOk, OnErr};
+ghost use Rattle.cc_io.specs.Faults.{Rose};
+ghost use Rattle.cc_io.specs.Files.{Name, put_file};
+
+use crate::failed::Failed;
+use crate::files::Files;
+use crate::sink::{Sink, write_all};
+
+/// The created file of a `Files`, lent as a sink.
+#[derive(Drop)]
+pub struct Created<'a, F: Files> {
+    /// Those whose file is lent.
+    pub files: &'a mut F,
+    ghost is_written: { IsSome (F.writing files.now) },
+}
+
+impl<'a, F: Files> Created<'a, F> {
+    /// Lends the file that is written.
+    pub fn new(files: &'a mut F) -> Self
+        requires { IsSome (F.writing files.old) }
+        ensures same_reference { result.files.ghost_name ≡ files.entry.ghost_name }
+        ensures files { result.files.now ≡ files.old }
+    {
+        Created { files }
+    }
+}
+
+impl<F: Files> Sink for Created<'_, F> {
+    ghost use Rattle.cc_io.specs.Created.{BesideCreated, written_content, other_files, other_left};
+
+    ghost faults = { λ c. F.write_faults c.files.now };
+
+    ghost held = { λ c. written_content (F.writing c.files.now) (F.told c.files.now) };
+
+    ghost Beside = { BesideCreated };
+
+    ghost beside = { λ c. record {
+      lender = c.files.ghost_name;
+      writing = F.writing c.files.now;
+      others = other_files (F.writing c.files.now) (F.told c.files.now);
+      reading = F.reading c.files.now;
+      left = other_left (F.reading c.files.now) (F.writing c.files.now) (F.left c.files.now);
+      read_faults = F.read_faults c.files.now;
+      open_faults = F.open_faults c.files.now;
+      create_faults = F.create_faults c.files.now;
+    } };
+
+    fn write(&mut self, piece: &[u8]) -> Result<usize, Failed> {
+        self.files.write(piece)
+    }
+}
+
+/// Creates the file of this name with these bytes. After an `Err` no file has changed, or that file holds a prefix
+/// of the bytes.
+pub fn save<F: Files>(files: &mut F, name: &str, bytes: &[u8]) -> Result<(), Failed>
+    ensures ok { OnOk result (F.told files.new ≡ option_map (put_file name.now bytes.now) (F.told files.old)) }
+    ensures err { OnErr result ((F.told files.new ≡ F.told files.old)
+        ⊎ ((k : ℕ) × (k ≤ length bytes.now)
+        × (F.told files.new ≡ option_map (put_file name.now (take k bytes.now)) (F.told files.old)))) }
+    ensures cause { OnErr result (Rose (F.create_faults files.old name.now) (F.create_faults files.new name.now)
+        ⊎ Rose (F.write_faults files.old) (F.write_faults files.new)) }
+
+    ensures writing { OnOk result (F.writing files.new ≡ Some name.now) }
+    ensures reading { F.reading files.new ≡ F.reading files.old }
+    ensures left { F.reading files.old ≢ Some name.now → F.left files.new ≡ F.left files.old }
+    ensures read_faults { F.read_faults files.new ≡ F.read_faults files.old }
+    ensures write_faults { F.write_faults files.old ≤ F.write_faults files.new }
+    ensures open_faults { F.open_faults files.new ≡ F.open_faults files.old }
+    ensures create_faults { (other : Name) → F.create_faults files.old other ≤ F.create_faults files.new other }
+{
+    files.create(name)?;
+    write_all(&mut Created::new(files), bytes)
+}

@@ -1,0 +1,16 @@
+//! The outside of the compiler: where it reads from, where it writes to, and its files. Every crate that reads or
+//! writes stands on it, and on nothing else of the outside. It promises that a call fails only where a count of
+//! faults rose in it, and that bytes come and go in order, none lost and none twice.
+#![tactic(auto)]
+
+mod created;
+mod failed;
+mod files;
+mod sink;
+mod source;
+
+pub use created::{Created, save};
+pub use failed::Failed;
+pub use files::Files;
+pub use sink::{PIECE, Sink, write_all};
+pub use source::Source;
