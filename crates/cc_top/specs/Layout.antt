@@ -10,16 +10,20 @@ use Rattle.cc_top.specs.Templates.{ra, sp, t0, s0, a0, load_address, call, negat
 
 abbrev pub a1 : ℕ
 a1 = 11
+
 abbrev pub a2 : ℕ
 a2 = 12
+
 abbrev pub a7 : ℕ
 a7 = 17
 
 -- the environment calls of Linux on RISC-V
 abbrev pub read_call : ℕ
 read_call = 63
+
 abbrev pub write_call : ℕ
 write_call = 64
+
 abbrev pub exit_call : ℕ
 exit_call = 93
 
@@ -47,6 +51,16 @@ put_stub buffer =
     ∷ Jalr 0 ra 0
     ∷ []
 
+-- What is done with the answer of the call that reads: 1, or 0 at the end of the input.
+abbrev pub read_answer : List Instr
+read_answer =
+    Beq a0 0 12
+    ∷ Lbu a0 a1 0
+    ∷ Jalr 0 ra 0
+    ∷ Addi a0 0 (negative 1)
+    ∷ Jalr 0 ra 0
+    ∷ []
+
 -- Reads a byte to a0, which is -1 at the end of the input.
 abbrev pub get_stub : (buffer : ℕ) → List Instr
 get_stub buffer =
@@ -56,12 +70,7 @@ get_stub buffer =
     ∷ Addi a2 0 1
     ∷ Addi a7 0 read_call
     ∷ Ecall
-    ∷ Beq a0 0 12
-    ∷ Lbu a0 a1 0
-    ∷ Jalr 0 ra 0
-    ∷ Addi a0 0 (negative 1)
-    ∷ Jalr 0 ra 0
-    ∷ []
+    ∷ read_answer
 
 -- the first address after the start code, the put stub and the get stub
 abbrev pub functions_at : ℕ
@@ -92,7 +101,8 @@ parts_of_code code = record {
   fixed_at = data_place code;
   globals = replicate 8 0;
   data_at = data_place code;
-  stack_at = stack_place code }
+  stack_at = stack_place code;
+}
 
 -- the image of the program that returns a constant
 abbrev pub image_of_constant : ℕ → List ℕ

@@ -1,29 +1,45 @@
 //! Where the parts of a program stand, and the bytes of its text.
-ghost use Rattle.std.specs.Prelude.{◌≡◌, ◌<◌, ◌≤◌, ◌++◌, ◌∷◌, ◌+◌, ◌*◌, ◌%◌, ◌^◌, [], OnOk, IfOk};
-ghost use Rattle.elf_file.specs.Image.{parts_of};
+ghost use Rattle.std.specs.Prelude.{◌≡◌, ◌<◌, ◌≤◌, ◌++◌, ◌∷◌, ◌+◌, ◌-◌, ◌*◌, ◌%◌, ◌^◌, [], length, OnOk, IfOk};
+ghost use Rattle.elf_file.specs.Image.{parts_of, next_page};
 ghost use Rattle.cc_top.specs.Templates.{call};
-ghost use Rattle.cc_top.specs.Layout.{bytes_of, get_stub, parts_of_code, put_stub, start_code};
+ghost use Rattle.cc_top.specs.Layout.{bytes_of, get_stub, parts_of_code, put_stub, read_answer, start_code};
 
-use elf_file::{Image, STACK_SIZE, TEXT_AT};
+use crate::templates::{low_part, push_load_address, upper_part};
+use elf_file::{Image, PAGE, STACK_SIZE, TEXT_AT};
 use rv_isa::{BranchOffset, Imm12, Instr, Reg, Upper, encode};
 use std::alloc::{AllocError, Global};
 
-use crate::templates::{low_part, push_load_address, upper_part};
-
 /// The environment calls of Linux on RISC-V.
 const READ_CALL: u32 = 63;
+
 const WRITE_CALL: u32 = 64;
+
 const EXIT_CALL: u32 = 93;
 
 /// The first address after the start code and the two stubs.
 const FUNCTIONS_AT: u32 = TEXT_AT + 4 * (8 + 9 + 12);
 
+/// The least multiple of a page's size that is not below `end`.
+fn next_page(end: u32) -> u32
+    requires { end + PAGE < 2 ^ 32 }
+    ensures { result ≡ next_page end }
+{
+    end.next_multiple_of(PAGE)
+}
+
 fn push_call(code: &mut Vec<Instr>, offset: u32) -> Result<(), AllocError>
     ensures { OnOk result (code.new.items ≡ code.old.items ++ call offset) }
 {
     let ra = Reg::RA;
-    code.push(Instr::Auipc { rd: ra, imm: upper_part(offset) })?;
-    code.push(Instr::Jalr { rd: ra, rs1: ra, offset: low_part(offset) })?;
+    code.push(Instr::Auipc {
+        rd: ra,
+        imm: upper_part(offset),
+    })?;
+    code.push(Instr::Jalr {
+        rd: ra,
+        rs1: ra,
+        offset: low_part(offset),
+    })?;
     Ok(())
 }
 
@@ -33,8 +49,15 @@ fn push_start_code(code: &mut Vec<Instr>, stack: u32) -> Result<(), AllocError>
 {
     let (sp, t0, s0) = (Reg::SP, Reg::T0, Reg::S0);
     push_load_address(code, s0, stack)?;
-    code.push(Instr::Lui { rd: t0, imm: Upper::new(STACK_SIZE >> 12) })?;
-    code.push(Instr::Add { rd: sp, rs1: s0, rs2: t0 })?;
+    code.push(Instr::Lui {
+        rd: t0,
+        imm: Upper::new(STACK_SIZE >> 12),
+    })?;
+    code.push(Instr::Add {
+        rd: sp,
+        rs1: s0,
+        rs2: t0,
+    })?;
     push_call(code, FUNCTIONS_AT - (TEXT_AT + 16))?;
     push_environment_call(code, EXIT_CALL)
 }
@@ -44,7 +67,11 @@ fn add_immediate(rd: Reg, rs1: Reg, imm: u32) -> Instr
     requires { imm < 2048 }
     ensures { result ≡ Instr.Addi rd rs1 imm }
 {
-    Instr::Addi { rd, rs1, imm: Imm12::new(imm) }
+    Instr::Addi {
+        rd,
+        rs1,
+        imm: Imm12::new(imm),
+    }
 }
 
 fn push_environment_call(code: &mut Vec<Instr>, number: u32) -> Result<(), AllocError>
@@ -59,7 +86,11 @@ fn push_environment_call(code: &mut Vec<Instr>, number: u32) -> Result<(), Alloc
 fn push_return(code: &mut Vec<Instr>) -> Result<(), AllocError>
     ensures { OnOk result (code.new.items ≡ code.old.items ++ Instr.Jalr 0 1 0 ∷ []) }
 {
-    code.push(Instr::Jalr { rd: Reg::ZERO, rs1: Reg::RA, offset: Imm12::new(0) })?;
+    code.push(Instr::Jalr {
+        rd: Reg::ZERO,
+        rs1: Reg::RA,
+        offset: Imm12::new(0),
+    })?;
     Ok(())
 }
 
@@ -69,7 +100,11 @@ fn push_put_stub(code: &mut Vec<Instr>, buffer: u32) -> Result<(), AllocError>
 {
     let (t0, a0) = (Reg::T0, Reg::A0);
     push_load_address(code, t0, buffer)?;
-    code.push(Instr::Sb { rs1: t0, rs2: a0, offset: Imm12::new(0) })?;
+    code.push(Instr::Sb {
+        rs1: t0,
+        rs2: a0,
+        offset: Imm12::new(0),
+    })?;
     code.push(add_immediate(a0, Reg::ZERO, 1))?;
     code.push(add_immediate(Reg::A1, t0, 0))?;
     code.push(add_immediate(Reg::A2, Reg::ZERO, 1))?;
@@ -81,16 +116,36 @@ fn push_put_stub(code: &mut Vec<Instr>, buffer: u32) -> Result<(), AllocError>
 fn push_get_stub(code: &mut Vec<Instr>, buffer: u32) -> Result<(), AllocError>
     ensures { OnOk result (code.new.items ≡ code.old.items ++ get_stub buffer) }
 {
-    let (t0, a0, a1) = (Reg::T0, Reg::A0, Reg::A1);
+    let (t0, a0) = (Reg::T0, Reg::A0);
     push_load_address(code, t0, buffer)?;
     code.push(add_immediate(a0, Reg::ZERO, 0))?;
-    code.push(add_immediate(a1, t0, 0))?;
+    code.push(add_immediate(Reg::A1, t0, 0))?;
     code.push(add_immediate(Reg::A2, Reg::ZERO, 1))?;
     push_environment_call(code, READ_CALL)?;
-    code.push(Instr::Beq { rs1: a0, rs2: Reg::ZERO, offset: BranchOffset::new(12) })?;
-    code.push(Instr::Lbu { rd: a0, rs1: a1, offset: Imm12::new(0) })?;
+    push_read_answer(code)
+}
+
+/// What the get stub does with the answer of the environment call, which is 1, or 0 at the end.
+fn push_read_answer(code: &mut Vec<Instr>) -> Result<(), AllocError>
+    ensures { OnOk result (code.new.items ≡ code.old.items ++ read_answer) }
+{
+    let a0 = Reg::A0;
+    code.push(Instr::Beq {
+        rs1: a0,
+        rs2: Reg::ZERO,
+        offset: BranchOffset::new(12),
+    })?;
+    code.push(Instr::Lbu {
+        rd: a0,
+        rs1: Reg::A1,
+        offset: Imm12::new(0),
+    })?;
     push_return(code)?;
-    code.push(Instr::Addi { rd: a0, rs1: Reg::ZERO, imm: Imm12::new(u32::MAX) })?;
+    code.push(Instr::Addi {
+        rd: a0,
+        rs1: Reg::ZERO,
+        imm: Imm12::new(u32::MAX),
+    })?;
     push_return(code)
 }
 

@@ -1,5 +1,8 @@
 #![tactic(auto)]
 
+mod layout;
+mod load;
+mod report;
 mod source;
 mod templates;
 mod words;
