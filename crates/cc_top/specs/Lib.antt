@@ -5,3 +5,4 @@ pub mod Templates
 pub mod Layout
 pub mod Report
 pub mod Outcome
+pub mod Build

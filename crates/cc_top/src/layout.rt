@@ -1,6 +1,6 @@
 //! Where the parts of a program stand, and the bytes of its text.
-ghost use Rattle.std.specs.Prelude.{◌≡◌, ◌<◌, ◌≤◌, ◌++◌, ◌∷◌, ◌+◌, ◌-◌, ◌*◌, ◌%◌, ◌^◌, [], length, OnOk, IfOk};
-ghost use Rattle.elf_file.specs.Image.{parts_of, next_page};
+ghost use Rattle.std.specs.Prelude.{◌≡◌, ◌<◌, ◌≤◌, ◌++◌, ◌∷◌, ◌+◌, ◌-◌, ◌*◌, ◌%◌, ◌^◌, [], length, vec_len, OnOk, IfOk};
+ghost use Rattle.elf_file.specs.Image.{parts_of, next_page, IsPlaced};
 ghost use Rattle.cc_top.specs.Templates.{call};
 ghost use Rattle.cc_top.specs.Layout.{bytes_of, get_stub, parts_of_code, put_stub, read_answer, start_code};
 
@@ -151,7 +151,8 @@ fn push_read_answer(code: &mut Vec<Instr>) -> Result<(), AllocError>
 
 /// The bytes of instructions, each little-endian.
 fn bytes_of(alloc: Global, code: &[Instr]) -> Result<Vec<u8>, AllocError>
-    ensures { IfOk result (λ bytes. bytes.items ≡ bytes_of code.now) }
+    ensures bytes { IfOk result (λ bytes. bytes.items ≡ bytes_of code.now) }
+    ensures len { IfOk result (λ bytes. vec_len bytes ≡ 4 * length code.now) }
 {
     let mut bytes = Vec::with_capacity(alloc, 4 * code.len())?;
     for i in code {
@@ -163,7 +164,8 @@ fn bytes_of(alloc: Global, code: &[Instr]) -> Result<Vec<u8>, AllocError>
 /// The image of the program whose one function, `main`, is this code.
 pub fn image_of_code(alloc: Global, code: &[Instr]) -> Result<Image, AllocError>
     requires { length code.now < 1024 - 29 }
-    ensures { IfOk result (λ image. parts_of image ≡ parts_of_code code.now) }
+    ensures parts { IfOk result (λ image. parts_of image ≡ parts_of_code code.now) }
+    ensures placed { IfOk result (λ image. IsPlaced (parts_of image)) }
 {
     let data_at = next_page(FUNCTIONS_AT + 4 * code.len() as u32);
     let stack_at = next_page(data_at + 8);

@@ -1,5 +1,6 @@
 #![tactic(auto)]
 
+mod build;
 mod layout;
 mod load;
 mod report;

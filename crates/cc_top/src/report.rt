@@ -1,8 +1,10 @@
 //! How a command ended, as its status and as what it writes on the report.
 ghost use Rattle.std.specs.Prelude.{◌≡◌, ◌≤◌, ◌⊎◌, ℕ, take};
 ghost use Rattle.cc_top.specs.Report.{text_of_status};
+ghost use Rattle.cc_top.specs.declared.report.Outcome.TheVariants.{NoMemory};
 
 use cc_io::{Sink, write_all};
+use std::alloc::AllocError;
 
 /// How a command ended.
 #[derive(Clone, Copy, Debug, PartialEq, Eq)]
@@ -13,6 +15,22 @@ pub enum Outcome {
     WriteFault,
     Refused,
     NoMemory,
+}
+
+impl From<AllocError> for Outcome {
+    ghost from_gives = { λ _ e. e ≡ NoMemory };
+
+    fn from(_: AllocError) -> Self {
+        Outcome::NoMemory
+    }
+}
+
+impl From<elf_file::NoMemory> for Outcome {
+    ghost from_gives = { λ _ e. e ≡ NoMemory };
+
+    fn from(_: elf_file::NoMemory) -> Self {
+        Outcome::NoMemory
+    }
 }
 
 const USAGE: &[u8] = b"usage: rvcc build IN OUT [--workers N] [--recipe LIST] [--report NAME]
