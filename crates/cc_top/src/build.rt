@@ -1,5 +1,5 @@
 //! The command `build`.
-ghost use Rattle.std.specs.Prelude.{◌≡◌, ◌≤◌, ◌⊎◌, ℕ, None, Some, take, length, option_map, IsSome, IfOk, OnOk, OnErr, IsErrOf, IfErr};
+ghost use Rattle.std.specs.Prelude.{◌≡◌, ◌≤◌, ◌⊎◌, ℕ, None, Some, take, length, option_map, IsSome, IfOk, OnOk, OnErr, IsErrOf, IfErr, ◌≢◌};
 ghost use Rattle.std.specs.Option.{ForSome};
 ghost use Rattle.cc_io.specs.Faults.{Rose};
 ghost use Rattle.cc_io.specs.Files.{Name, content, put_file};
@@ -36,4 +36,46 @@ fn compile(alloc: Global, source: &[u8]) -> Result<Vec<u8>, Outcome>
         return Err(Outcome::Refused);
     };
     image_of_constant(alloc, constant)
+}
+
+/// The bytes of the source file of this name and the image that they compile to.
+fn compile_file<F: Files>(alloc: Global, files: &mut F, source: &str) -> Result<Vec<u8>, Outcome>
+    ensures bytes { ForSome (F.told files.old) (λ all. IfOk result (λ bytes. image_of_source (content source.now all) ≡ Some bytes.items)) }
+    ensures refused { IsErrOf result Outcome.Refused → ForSome (F.told files.old) (λ all. returned (content source.now all) ≡ None) }
+    ensures read_fault { IsErrOf result Outcome.ReadFault → Rose (F.open_faults files.old source.now) (F.open_faults files.new source.now)
+        ⊎ Rose (F.read_faults files.old) (F.read_faults files.new) }
+    ensures errors { IfErr result (λ e. (e ≡ Outcome.NoMemory) ⊎ ((e ≡ Outcome.Refused) ⊎ (e ≡ Outcome.ReadFault))) }
+    ensures told { F.told files.new ≡ F.told files.old }
+    ensures create_faults { F.create_faults files.new ≡ F.create_faults files.old }
+    ensures write_faults { F.write_faults files.new ≡ F.write_faults files.old }
+    ensures open_faults { F.open_faults files.old source.now ≤ F.open_faults files.new source.now }
+    ensures read_faults { F.read_faults files.old ≤ F.read_faults files.new }
+{
+    let text = match load(alloc, files, source, SOURCE_LIMIT + 1) {
+        Ok(text) => text,
+        Err(LoadError::Failed) => return Err(Outcome::ReadFault),
+        Err(LoadError::NoMemory) => return Err(Outcome::NoMemory),
+    };
+    compile(alloc, &text)
+}
+
+/// Compiles the file named `source` to the file named `image`.
+pub fn build<F: Files>(alloc: Global, files: &mut F, source: &str, image: &str) -> Outcome
+    ensures outcomes { result ≢ Outcome.Usage }
+    ensures done { result ≡ Outcome.Done → F.told files.new ≡ built (Some (build source.now image.now)) (F.told files.old) }
+    ensures accepted { result ≡ Outcome.Done → ForSome (F.told files.old) (λ all. IsSome (returned (content source.now all))) }
+    ensures refused { result ≡ Outcome.Refused → ForSome (F.told files.old) (λ all. returned (content source.now all) ≡ None) }
+    ensures read_fault { result ≡ Outcome.ReadFault → ReadRose F.open_faults F.read_faults (Some (build source.now image.now)) files.old files.new }
+    ensures write_fault { result ≡ Outcome.WriteFault → WriteRose F.create_faults F.write_faults (Some (build source.now image.now)) files.old files.new }
+    ensures part { result ≡ Outcome.WriteFault → (F.told files.new ≡ F.told files.old)
+        ⊎ ((count : ℕ) × (F.told files.new ≡ built_part count (Some (build source.now image.now)) (F.told files.old))) }
+    ensures unchanged { ((result ≡ Outcome.Done) ⊎ (result ≡ Outcome.WriteFault)) ⊎ (F.told files.new ≡ F.told files.old) }
+{
+    match compile_file(alloc, files, source) {
+        Ok(bytes) => match save(files, image, &bytes) {
+            Ok(()) => Outcome::Done,
+            Err(_) => Outcome::WriteFault,
+        },
+        Err(outcome) => outcome,
+    }
 }

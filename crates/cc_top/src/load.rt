@@ -31,7 +31,7 @@ pub fn load<F: Files>(
     name: &str,
     limit: usize,
 ) -> Result<Vec<u8>, LoadError>
-    ensures bytes { IfOk result (λ bytes. ForSome (F.told files.old) (λ all. bytes.items ≡ take limit (content name.now all))) }
+    ensures bytes { ForSome (F.told files.old) (λ all. IfOk result (λ bytes. bytes.items ≡ take limit (content name.now all))) }
     ensures fault { IsErrOf result LoadError.Failed → Rose (F.open_faults files.old name.now) (F.open_faults files.new name.now)
         ⊎ Rose (F.read_faults files.old) (F.read_faults files.new) }
     ensures told { F.told files.new ≡ F.told files.old }
@@ -49,7 +49,7 @@ pub fn load<F: Files>(
 /// The bytes that are left of the open file, of which no more than `limit` are read.
 fn read_open<F: Files>(alloc: Global, files: &mut F, limit: usize) -> Result<Vec<u8>, LoadError>
     requires { IsSome (F.reading files.old) }
-    ensures bytes { IfOk result (λ bytes. ForSome (F.left files.old) (λ left. bytes.items ≡ take limit left)) }
+    ensures bytes { ForSome (F.left files.old) (λ left. IfOk result (λ bytes. bytes.items ≡ take limit left)) }
     ensures fault { IsErrOf result LoadError.Failed → Rose (F.read_faults files.old) (F.read_faults files.new) }
     ensures told { F.told files.new ≡ F.told files.old }
     ensures create_faults { F.create_faults files.new ≡ F.create_faults files.old }
