@@ -1,5 +1,5 @@
 -- What `build` does to the files, and why it fails.
-use Rattle.std.specs.Prelude.{◌≡◌, ◌⊎◌, ℕ, List, take, Option, None, Some, option_map}
+use Rattle.std.specs.Prelude.{◌⊎◌, ℕ, List, take, Option, None, Some, option_map}
 use Rattle.std.specs.Option.{option_and_then}
 use Rattle.cc_io.specs.Faults.{Rose}
 use Rattle.cc_io.specs.Files.{Name, FileSet, content, put_file}

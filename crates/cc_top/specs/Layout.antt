@@ -1,5 +1,5 @@
 -- Where the parts of a program stand, and the bytes of its text.
-use Rattle.std.specs.Prelude.{ℕ, ◌+◌, ◌-◌, ◌*◌, ◌/◌, ◌%◌, ◌^◌, ◌==◌, List, [], ◌∷◌, ◌++◌, length, replicate}
+use Rattle.std.specs.Prelude.{ℕ, ◌+◌, ◌-◌, ◌*◌, ◌/◌, ◌^◌, List, [], ◌∷◌, ◌++◌, length, replicate}
 use Rattle.std.specs.List.{flat_map}
 use Rattle.elf_file.specs.Image.{Parts, text_at, next_page, stack_size}
 use Rattle.elf_file.specs.Written.{word, file_of}

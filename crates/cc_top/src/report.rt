@@ -1,6 +1,7 @@
 //! How a command ended, as its status and as what it writes on the report.
 ghost use Rattle.std.specs.Prelude.{◌≡◌, ◌≤◌, ◌⊎◌, ℕ, take};
-ghost use Rattle.cc_top.specs.Report.{text_of_status};
+ghost use Rattle.cc_top.specs.Outcome.{status_of};
+ghost use Rattle.cc_top.specs.Report.{text_of_status, IsReported};
 ghost use Rattle.cc_top.specs.declared.report.Outcome.TheVariants.{NoMemory};
 
 use cc_io::{Sink, write_all};
@@ -39,8 +40,6 @@ const USAGE: &[u8] = b"usage: rvcc build IN OUT [--workers N] [--recipe LIST] [-
 ";
 
 impl Outcome {
-    ghost use Rattle.cc_top.specs.Outcome.{status_of};
-
     pub fn status(self) -> u8
         ensures { result ≡ status_of self }
     {
@@ -65,5 +64,16 @@ impl Outcome {
             Outcome::Refused => b"refused NotBuilt 50 line 1\n",
             Outcome::NoMemory => b"memory\n",
         }
+    }
+}
+
+/// Writes how a command ended, and gives the status of the call: that of the outcome, or 3 where the
+/// report was not written.
+pub fn tell<E: Sink>(report: &mut E, outcome: Outcome) -> u8
+    ensures reported { IsReported (status_of outcome) result (E.held report.old) (E.held report.new) (E.faults report.old) (E.faults report.new) }
+{
+    match write_all(report, outcome.text()) {
+        Ok(()) => outcome.status(),
+        Err(_) => Outcome::WriteFault.status(),
     }
 }

@@ -1,4 +1,4 @@
-use Rattle.std.proofs.Common.{◌≡◌, ◌∙◌, ap, sym, subst, Some, IfOk, take}
+use Rattle.std.proofs.Common.{◌≡◌, ◌∙◌, ap, sym, subst, Some, IfOk}
 use Rattle.cc_io.specs.Files.{content}
 use Rattle.cc_top.proofs.SourceLemmas.{returned-take, image_of_source-take}
 use Rattle.cc_top.specs.Build.{image_of_source}
