@@ -3,3 +3,5 @@ pub mod Source
 pub mod Sink
 pub mod Files
 pub mod Created
+pub mod Calls
+pub mod Memory

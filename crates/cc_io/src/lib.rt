@@ -5,12 +5,15 @@
 
 mod created;
 mod failed;
+mod failing;
 mod files;
+mod mem_source;
 mod sink;
 mod source;
 
 pub use created::{Created, save};
 pub use failed::Failed;
 pub use files::Files;
+pub use mem_source::NoFailSource;
 pub use sink::{PIECE, Sink, write_all};
 pub use source::Source;
