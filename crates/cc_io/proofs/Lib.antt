@@ -1,2 +1,3 @@
 pub mod SinkLemmas
 pub mod CreatedLemmas
+pub mod FileMapLemmas

@@ -4,4 +4,5 @@ pub mod Sink
 pub mod Files
 pub mod Created
 pub mod Calls
+pub mod FileMap
 pub mod Memory

@@ -6,6 +6,7 @@
 mod created;
 mod failed;
 mod failing;
+mod file_map;
 mod files;
 mod mem_sink;
 mod mem_source;
