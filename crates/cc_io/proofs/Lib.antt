@@ -1,3 +1,4 @@
 pub mod SinkLemmas
 pub mod CreatedLemmas
 pub mod FileMapLemmas
+pub mod FileNamesLemmas

@@ -5,4 +5,6 @@ pub mod Files
 pub mod Created
 pub mod Calls
 pub mod FileMap
+pub mod FileNames
+pub mod MemFiles
 pub mod Memory
