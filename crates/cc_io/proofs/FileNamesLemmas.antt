@@ -1,5 +1,5 @@
 -- The names still fit once a file is put or appended to.
-use Rattle.std.proofs.Common.{◌≡◌, ◌≤◌, ℕ, Bool, true, false, cond, List, ◌++◌, length, Option, None, Some, IsSome, option_map, Result, Ok, Err, OnOk, OnErr, refl, sym, ap, subst, ◌∙◌, arith}
+use Rattle.std.proofs.Common.{◌≡◌, ◌≤◌, ℕ, Bool, true, false, cond, List, ◌++◌, length, Option, None, Some, IsSome, is_some, is_err, option_map, Result, Ok, Err, OnOk, OnErr, refl, ap, subst, ◌∙◌, arith}
 use Rattle.std.specs.Str.{bytes_eq}
 use Rattle.std.proofs.lemmas.Slice.Eq.{bytes_eq-Decides}
 use Rattle.cc_io.specs.Files.{Name, FileSet, put_file, append_file}
@@ -27,3 +27,9 @@ pub NamesFit-append : {E : Type 0} (r : Result (Unit {0}) E) (name : Name) (piec
 NamesFit-append (Ok u) name piece old new room all ok err =
     λ other is. all other (append-at other piece (old other) (bytes_eq name other) (subst (λ f. IsSome (f other)) ok is))
 NamesFit-append (Err e) name piece old new room all ok err = λ other is. all other (subst (λ f. IsSome (f other)) err is)
+
+-- the file that was put is there
+pub put-some : {E : Type 0} (r : Result (Unit {0}) E) (name : Name) (bytes : List ℕ) (old new : FileSet) → OnOk r (new ≡ put_file name bytes old) → false ≡ is_err r → IsSome (new name)
+put-some (Ok u) name bytes old new ok is =
+    ap (λ f. is_some (f name)) ok ∙ ap (λ b. is_some (cond b (Some bytes) (old name))) ((bytes_eq-Decides name name).1 refl)
+put-some (Err e) name bytes old new ok is = cc

@@ -2,3 +2,4 @@ pub mod SinkLemmas
 pub mod CreatedLemmas
 pub mod FileMapLemmas
 pub mod FileNamesLemmas
+pub mod OpenLemmas

@@ -1,5 +1,5 @@
 -- A map from names to bytes, as a set of files.
-use Rattle.std.specs.Prelude.{ℕ, ◌-◌, Option, option_map, unwrap_or, vec_len}
+use Rattle.std.specs.Prelude.{ℕ, ◌-◌, option_map, unwrap_or, vec_len}
 use Rattle.std.specs.declared.vec.Vec.{Vec}
 use Rattle.std.specs.Vec.{vec_capacity}
 use Rattle.std.specs.declared.string.String.{String}

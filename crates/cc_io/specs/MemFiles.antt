@@ -1,5 +1,5 @@
 -- What files in memory show of themselves.
-use Rattle.std.specs.Prelude.{ℕ, ◌≤◌, List, Option, None, Some, IsSome, length, drop, option_map, if◌then◌else◌}
+use Rattle.std.specs.Prelude.{◌≡◌, ℕ, List, Option, None, Some, drop, option_map, if◌then◌else◌}
 use Rattle.std.specs.String.{string_bytes}
 use Rattle.cc_io.specs.Files.{Name, FileSet, content}
 use Rattle.cc_io.specs.FileMap.{file_set, file_room}
@@ -43,3 +43,10 @@ opens_failed files = λ name. files.open_faults
 
 abbrev pub creates_failed : MemFiles → Name → ℕ
 creates_failed files = λ name. files.create_faults
+
+-- no count of faults has changed
+pub record IsSameFaults (old new : MemFiles) : Type 0 where
+  pub reads : new.read_faults ≡ old.read_faults
+  pub writes : new.write_faults ≡ old.write_faults
+  pub opens : new.open_faults ≡ old.open_faults
+  pub creates : new.create_faults ≡ old.create_faults

@@ -1,6 +1,8 @@
 // What the forms in memory have in common: the calls that are to fail, counts of faults, and a read of bytes.
-ghost use Rattle.std.specs.Prelude.{◌≡◌, ◌↔◌, ℕ, List, [], length, min, take, drop, ◌++◌, IsTrue};
+ghost use Rattle.std.specs.Prelude.{◌≡◌, ◌≤◌, ◌↔◌, ℕ, List, [], length, min, take, drop, ◌++◌, IsTrue};
 ghost use Rattle.cc_io.specs.Faults.{raised};
+
+use crate::failed::Failed;
 
 /// Which calls of a value are to fail, counted from 0, and how many were made.
 #[derive(Drop)]
@@ -30,8 +32,17 @@ impl FailingCalls {
     }
 }
 
+/// Counts a fault, and gives it.
+pub(crate) fn fault(count: &mut u64) -> Failed
+    ensures raised { count.new ≡ raised count.old }
+    ensures no_less { count.old ≤ count.new }
+{
+    *count = raised(*count);
+    Failed
+}
+
 /// One more, or the last value.
-pub(crate) fn raised(count: u64) -> u64
+fn raised(count: u64) -> u64
     ensures { result ≡ raised count }
 {
     count.saturating_add(1)

@@ -1,8 +1,9 @@
 // A map from names to bytes, as files in memory.
-ghost use Rattle.std.specs.Prelude.{◌≡◌, ◌<◌, None, length, OnOk, OnErr};
-ghost use Rattle.cc_io.specs.Files.{put_file, append_file};
+ghost use Rattle.std.specs.Prelude.{◌≡◌, ◌<◌, None, length, min, take, drop, OnOk, OnErr};
+ghost use Rattle.cc_io.specs.Files.{content, put_file, append_file};
 ghost use Rattle.cc_io.specs.FileMap.{file_set, file_room};
 
+use crate::failing::copy_front;
 use std::alloc::{AllocError, Global};
 use std::collections::BTreeMap;
 
@@ -37,5 +38,16 @@ pub(crate) fn append(files: &mut FileMap, name: &str, piece: &[u8]) -> Result<()
     match files.get_mut(name) {
         Some(held) => held.extend_from_slice(piece),
         None => Ok(()),
+    }
+}
+
+/// Copies as much of the file of this name, from this place on, as there is and fits, and says how much.
+pub(crate) fn read_at(files: &FileMap, name: &str, at: usize, buf: &mut [u8]) -> usize
+    ensures count { result ≡ min (length buf.old) (length (drop at (content name.now (file_set files.now)))) }
+    ensures bytes { take result buf.new ≡ take result (drop at (content name.now (file_set files.now))) }
+{
+    match files.get(name) {
+        Some(bytes) if at < bytes.len() => copy_front(&bytes[at..], buf),
+        _ => 0,
     }
 }

@@ -2,7 +2,7 @@
 ghost use Rattle.std.specs.Prelude.{◌≡◌, ◌<◌, ◌≤◌, ◌⊎◌, ℕ, List, [], ◌++◌, Some, length, IfOk, OnOk, OnErr, IsErr, is_ok, if◌then◌else◌};
 
 use crate::failed::Failed;
-use crate::failing::{FailingCalls, raised};
+use crate::failing::{FailingCalls, fault};
 use crate::sink::Sink;
 use std::alloc::Global;
 
@@ -66,8 +66,7 @@ impl Sink for MemSink {
         ensures err { OnErr result (sink_held self.new ≡ sink_held self.old) }
     {
         if self.calls.fails_next() || self.bytes.extend_from_slice(piece).is_err() {
-            self.faults = raised(self.faults);
-            return Err(Failed);
+            return Err(fault(&mut self.faults));
         }
         Ok(piece.len())
     }

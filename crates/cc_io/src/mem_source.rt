@@ -2,7 +2,7 @@
 ghost use Rattle.std.specs.Prelude.{◌≡◌, ◌<◌, ◌≤◌, ◌↔◌, ℕ, List, [], ◌++◌, Ok, Some, length, min, take, vec_len, IfOk, OnErr, IsErr, is_ok, if◌then◌else◌};
 
 use crate::failed::Failed;
-use crate::failing::{FailingCalls, copy_front, raised};
+use crate::failing::{FailingCalls, copy_front, fault};
 use crate::source::Source;
 
 /// A source in memory that never fails and takes no memory.
@@ -94,8 +94,7 @@ impl Source for MemSource {
         ensures err { OnErr result (source_left self.new ≡ source_left self.old) }
     {
         if self.calls.fails_next() {
-            self.faults = raised(self.faults);
-            return Err(Failed);
+            return Err(fault(&mut self.faults));
         }
         self.rest.read(buf)
     }
