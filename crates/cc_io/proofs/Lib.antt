@@ -1,2 +1,5 @@
 pub mod SinkLemmas
 pub mod CreatedLemmas
+pub mod FileMapLemmas
+pub mod FileNamesLemmas
+pub mod OpenLemmas

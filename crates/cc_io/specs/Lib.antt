@@ -3,3 +3,8 @@ pub mod Source
 pub mod Sink
 pub mod Files
 pub mod Created
+pub mod Calls
+pub mod FileMap
+pub mod FileNames
+pub mod MemFiles
+pub mod Memory

@@ -5,12 +5,20 @@
 
 mod created;
 mod failed;
+mod failing;
+mod file_map;
 mod files;
+mod mem_files;
+mod mem_sink;
+mod mem_source;
 mod sink;
 mod source;
 
 pub use created::{Created, save};
 pub use failed::Failed;
 pub use files::Files;
+pub use mem_files::MemFiles;
+pub use mem_sink::MemSink;
+pub use mem_source::{MemSource, NoFailSource};
 pub use sink::{PIECE, Sink, write_all};
 pub use source::Source;
