@@ -4,6 +4,7 @@ pub mod Sink
 pub mod Files
 pub mod Created
 pub mod Calls
+pub mod DirFiles
 pub mod FileMap
 pub mod FileNames
 pub mod MemFiles

@@ -4,6 +4,7 @@
 #![tactic(auto)]
 
 mod created;
+mod dir_files;
 mod failed;
 mod failing;
 mod file_map;
@@ -13,8 +14,10 @@ mod mem_sink;
 mod mem_source;
 mod sink;
 mod source;
+mod std_streams;
 
 pub use created::{Created, save};
+pub use dir_files::DirFiles;
 pub use failed::Failed;
 pub use files::Files;
 pub use mem_files::MemFiles;
@@ -22,3 +25,4 @@ pub use mem_sink::MemSink;
 pub use mem_source::{MemSource, NoFailSource};
 pub use sink::{PIECE, Sink, write_all};
 pub use source::Source;
+pub use std_streams::{StdSink, StdSource};

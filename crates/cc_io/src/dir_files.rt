@@ -1,0 +1,150 @@
+// The files of a folder.
+ghost use Rattle.std.specs.Prelude.{◌≡◌, ◌≤◌, None, length, IsSome, IfOk};
+ghost use Rattle.std.specs.String.{string_bytes};
+ghost use Rattle.cc_io.specs.DirFiles.{name_of};
+
+use crate::failed::Failed;
+use crate::failing::fault;
+use crate::files::Files;
+use std::alloc::{AllocError, Global};
+use std::fs::OpenFile;
+use std::io::{ErrorKind, Read, Write};
+use std::path::Path;
+use std::{fs, io, rt};
+
+// An open file, and the name that it was asked for by.
+#[derive(Drop)]
+struct NamedFile<H> {
+    name: String,
+    file: H,
+}
+
+fn read_from<H: Read>(reading: &mut Option<NamedFile<H>>, buf: &mut [u8]) -> io::Result<usize>
+    requires { IsSome reading.old }
+    ensures count { IfOk result (λ n. n ≤ length buf.old) }
+    ensures name { name_of reading.new ≡ name_of reading.old }
+{
+    match reading {
+        Some(found) => found.file.read(buf),
+        None => unreachable!(),
+    }
+}
+
+fn write_to<H: Write>(writing: &mut Option<NamedFile<H>>, piece: &[u8]) -> io::Result<usize>
+    requires { IsSome writing.old }
+    ensures count { IfOk result (λ n. n ≤ length piece.now) }
+    ensures name { name_of writing.new ≡ name_of writing.old }
+{
+    match writing {
+        Some(made) => made.file.write(piece),
+        None => unreachable!(),
+    }
+}
+
+/// The files of a folder. A name is a path from there; one that begins with a slash stands for itself. It tells no
+/// content.
+#[derive(Drop)]
+pub struct DirFiles<'a, R: rt::Files> {
+    alloc: Global,
+    system: &'a R,
+    folder: String,
+    reading: Option<NamedFile<R::File>>,
+    writing: Option<NamedFile<R::File>>,
+    read_faults: u64,
+    write_faults: u64,
+    open_faults: u64,
+    create_faults: u64,
+}
+
+impl<'a, R: rt::Files> DirFiles<'a, R> {
+    /// As `DirFiles::new(rt.alloc(), &rt, ".")`.
+    pub fn new(alloc: Global, system: &'a R, folder: &str) -> Result<Self, AllocError> {
+        Ok(DirFiles {
+            alloc,
+            system,
+            folder: String::from_str(alloc, folder)?,
+            reading: None,
+            writing: None,
+            read_faults: 0,
+            write_faults: 0,
+            open_faults: 0,
+            create_faults: 0,
+        })
+    }
+
+    fn find(&self, name: &str) -> io::Result<NamedFile<R::File>>
+        ensures { IfOk result (λ found. string_bytes found.name ≡ name.now) }
+    {
+        let path = Path::new(self.folder.as_str()).join(self.alloc, name)?;
+        let file = fs::open(self.system, path.as_path())?;
+        if file.metadata()?.is_dir() {
+            return Err(io::Error::from(ErrorKind::IsADirectory));
+        }
+        let name = String::from_str(self.alloc, name)?;
+        Ok(NamedFile { name, file })
+    }
+
+    fn make(&self, name: &str) -> io::Result<NamedFile<R::File>>
+        ensures { IfOk result (λ made. string_bytes made.name ≡ name.now) }
+    {
+        let path = Path::new(self.folder.as_str()).join(self.alloc, name)?;
+        let name = String::from_str(self.alloc, name)?;
+        let file = fs::create(self.system, path.as_path())?;
+        Ok(NamedFile { name, file })
+    }
+}
+
+impl<R: rt::Files> Files for DirFiles<'_, R> {
+    ghost read_faults = { λ files. files.read_faults };
+
+    ghost write_faults = { λ files. files.write_faults };
+
+    ghost open_faults = { λ files name. files.open_faults };
+
+    ghost create_faults = { λ files name. files.create_faults };
+
+    ghost told = { λ _. None };
+
+    ghost reading = { λ files. name_of files.reading };
+
+    ghost left = { λ _. None };
+
+    ghost writing = { λ files. name_of files.writing };
+
+    /// Fails at a missing file and at a folder.
+    fn open(&mut self, name: &str) -> Result<(), Failed> {
+        self.reading = None;
+        match self.find(name) {
+            Ok(file) => {
+                self.reading = Some(file);
+                Ok(())
+            }
+            Err(_) => Err(fault(&mut self.open_faults)),
+        }
+    }
+
+    fn read(&mut self, buf: &mut [u8]) -> Result<usize, Failed> {
+        match read_from(&mut self.reading, buf) {
+            Ok(n) => Ok(n),
+            Err(_) => Err(fault(&mut self.read_faults)),
+        }
+    }
+
+    fn create(&mut self, name: &str) -> Result<(), Failed> {
+        self.writing = None;
+        match self.make(name) {
+            Ok(file) => {
+                self.writing = Some(file);
+                Ok(())
+            }
+            Err(_) => Err(fault(&mut self.create_faults)),
+        }
+    }
+
+    fn write(&mut self, piece: &[u8]) -> Result<usize, Failed> {
+        match write_to(&mut self.writing, piece) {
+            Ok(n) if n > 0 || piece.is_empty() => Ok(n),
+            _ => Err(fault(&mut self.write_faults)),
+        }
+    }
+}

@@ -1,0 +1,67 @@
+// The standard streams of the process, or any other reader or writer of the system.
+ghost use Rattle.std.specs.Prelude.{◌≡◌, ◌≤◌, ◌<◌, ℕ, List, None, length};
+
+use crate::failed::Failed;
+use crate::failing::fault;
+use crate::sink::Sink;
+use crate::source::Source;
+use std::io::{Read, Write};
+
+/// A source over a reader of the system, as standard input. It tells no content.
+#[derive(Drop)]
+pub struct StdSource<R> {
+    reader: R,
+    faults: u64,
+}
+
+impl<R> StdSource<R> {
+    /// As `StdSource::new(rt.stdin())`.
+    pub fn new(reader: R) -> Self {
+        StdSource { reader, faults: 0 }
+    }
+}
+
+impl<R: Read> Source for StdSource<R> {
+    ghost faults = { λ source. source.faults };
+
+    ghost left = { λ _. None };
+
+    fn read(&mut self, buf: &mut [u8]) -> Result<usize, Failed> {
+        match self.reader.read(buf) {
+            Ok(n) => Ok(n),
+            Err(_) => Err(fault(&mut self.faults)),
+        }
+    }
+}
+
+/// A sink over a writer of the system, as standard output or standard error. It keeps nothing back, and tells no
+/// content.
+#[derive(Drop)]
+pub struct StdSink<W> {
+    writer: W,
+    faults: u64,
+}
+
+impl<W> StdSink<W> {
+    /// As `StdSink::new(rt.stdout())` or `StdSink::new(rt.stderr())`.
+    pub fn new(writer: W) -> Self {
+        StdSink { writer, faults: 0 }
+    }
+}
+
+impl<W: Write> Sink for StdSink<W> {
+    ghost faults = { λ sink. sink.faults };
+
+    ghost held = { λ _. None };
+
+    ghost Beside = { Unit {0} };
+
+    ghost beside = { λ _. tt };
+
+    fn write(&mut self, piece: &[u8]) -> Result<usize, Failed> {
+        match self.writer.write(piece) {
+            Ok(n) if n > 0 || piece.is_empty() => Ok(n),
+            _ => Err(fault(&mut self.faults)),
+        }
+    }
+}
