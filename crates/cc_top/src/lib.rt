@@ -81,3 +81,6 @@ fn carry_out<F: Files>(alloc: Global, words: &[String], files: &mut F) -> Outcom
         None => Outcome::Usage,
     }
 }
+
+#[cfg(test)]
+mod tests;

@@ -1,0 +1,44 @@
+//! The program `rvcc`: it hands the words of the command line, the files of the working folder and the
+//! standard streams to the top call, and ends with its status. Reports go to standard error.
+#![tactic(auto)]
+
+use cc_io::{DirFiles, StdSink, StdSource};
+use cc_top::top;
+use std::alloc::AllocError;
+use std::env;
+use std::io::ErrorKind;
+use std::process::ExitCode;
+use std::rt::Env;
+
+/// The status where there is no memory even for the words.
+const NO_MEMORY: u8 = 6;
+
+/// The words of the command line, the program's name first. There are none where one of them is no
+/// text, and such words are no command.
+fn words_of(rt: &(impl Env + AllocGlobal)) -> Result<Vec<String>, AllocError> {
+    match env::args(rt) {
+        Ok(words) => words.collect(rt.alloc()),
+        Err(error) if error.kind() == ErrorKind::OutOfMemory => Err(AllocError),
+        Err(_) => Ok(Vec::new(rt.alloc())),
+    }
+}
+
+fn run(rt: &HostRuntime) -> Result<u8, AllocError> {
+    let words = words_of(rt)?;
+    let mut files = DirFiles::new(rt.alloc(), rt, ".")?;
+    let mut input = StdSource::new(rt.stdin());
+    let mut output = StdSink::new(rt.stdout());
+    let mut report = StdSink::new(rt.stderr());
+    Ok(top(
+        rt.alloc(),
+        &words,
+        &mut files,
+        &mut input,
+        &mut output,
+        &mut report,
+    ))
+}
+
+fn main(rt: HostRuntime) -> ExitCode {
+    ExitCode::from(run(&rt).unwrap_or(NO_MEMORY))
+}

@@ -1,0 +1,161 @@
+//! Builds through the top call, over files in memory.
+use crate::top;
+use cc_io::{MemFiles, MemSink, NoFailSource};
+use std::alloc::{AllocError, Global};
+use std::test::Fail;
+
+/// What a call of `build IN OUT` left.
+#[derive(Drop)]
+struct Left {
+    status: u8,
+    files: MemFiles,
+    report: MemSink,
+}
+
+fn words_of(alloc: Global, texts: &[&str]) -> Result<Vec<String>, AllocError> {
+    let mut words = Vec::new(alloc);
+    for text in texts {
+        words.push(String::from_str(alloc, text)?)?;
+    }
+    Ok(words)
+}
+
+/// Calls `top` with these words on a file `in` of these bytes, the numbered calls on the files failing.
+fn called(
+    alloc: Global,
+    texts: &[&str],
+    source: &[u8],
+    failing: &[u64],
+) -> Result<Left, AllocError> {
+    let words = words_of(alloc, texts)?;
+    let mut files = MemFiles::new(alloc, failing.to_vec(alloc)?);
+    files.insert("in", source.to_vec(alloc)?)?;
+    let mut input = NoFailSource::new(Vec::new(alloc));
+    let mut output = MemSink::new(alloc, Vec::new(alloc));
+    let mut report = MemSink::new(alloc, Vec::new(alloc));
+    let status = top(
+        alloc,
+        &words,
+        &mut files,
+        &mut input,
+        &mut output,
+        &mut report,
+    );
+    Ok(Left {
+        status,
+        files,
+        report,
+    })
+}
+
+const BUILD: [&str; 4] = ["rvcc", "build", "in", "out"];
+
+const ANSWER: &[u8] = b"int main(void) { return 42; }";
+
+#[test]
+fn sources_are_accepted_or_refused(rt: HostRuntime) -> Result<(), Fail> {
+    let accepted: [&[u8]; 6] = [
+        ANSWER,
+        b"int main(void) { return 300; }",
+        b"int main(void) { return 2147483647; }",
+        b"int main(void) { return 0; }",
+        b" int\tmain\n(\x0bvoid\x0c)\r{return 7;}\n",
+        b"int main(void){return 1 ; }",
+    ];
+    for source in accepted {
+        let left = called(rt.alloc(), &BUILD, source, &[])?;
+        assert_eq!(rt; left.status, 0);
+        assert_eq!(rt; left.report.bytes().len(), 0);
+        assert_eq!(rt; left.files.get("out").map_or(0, |image| image.len()), 8200);
+    }
+    let refused: [&[u8]; 15] = [
+        b"",
+        b"int main(void) { return 1 + 1; }",
+        b"int main(void) { return 42; ",
+        b"int main(void) { retu",
+        b"int main(void) { return 042; }",
+        b"int main(void) { return 00; }",
+        b"int main(void) { return 2147483648; }",
+        b"int main(void) { return 99999999999999999999; }",
+        b"int main(void) { return; }",
+        b"int main(void) { return42; }",
+        b"intmain(void) { return 42; }",
+        b"int main() { return 42; }",
+        b"int main(void) { return 42; } x",
+        b"int main(void) { return 42; }\x00",
+        b"int main(void) { return \xff; }",
+    ];
+    for source in refused {
+        let left = called(rt.alloc(), &BUILD, source, &[])?;
+        assert_eq!(rt; left.status, 4);
+        assert_eq!(rt;
+            left.report.bytes(),
+            b"refused NotBuilt 50 line 1\n".as_slice()
+        );
+        assert!(rt; left.files.get("out").is_none());
+    }
+    Ok(())
+}
+
+#[test]
+fn long_sources_are_refused(rt: HostRuntime) -> Result<(), Fail> {
+    let alloc = rt.alloc();
+    let mut source = ANSWER.to_vec(alloc)?;
+    source.resize(1_048_576, b' ')?;
+    assert_eq!(rt; called(alloc, &BUILD, &source, &[])?.status, 0);
+    source.push(b' ')?;
+    assert_eq!(rt; called(alloc, &BUILD, &source, &[])?.status, 4);
+    Ok(())
+}
+
+#[test]
+fn failing_calls_have_their_status(rt: HostRuntime) -> Result<(), Fail> {
+    // The number of the call that fails, the status, and the bytes of OUT, where it is there.
+    let rows = [
+        (0, 2, None),
+        (1, 2, None),
+        (2, 2, None),
+        (3, 3, None),
+        (4, 3, Some(0)),
+        (5, 3, Some(4096)),
+        (6, 3, Some(8192)),
+        (7, 0, Some(8200)),
+    ];
+    for (failing, status, len) in rows {
+        let left = called(rt.alloc(), &BUILD, ANSWER, &[failing])?;
+        assert_eq!(rt; left.status, status, "call {failing}");
+        assert_eq!(rt;
+            left.files.get("out").map(|image| image.len()),
+            len,
+            "call {failing}"
+        );
+    }
+    Ok(())
+}
+
+#[test]
+fn other_words_are_usage(rt: HostRuntime) -> Result<(), Fail> {
+    let alloc = rt.alloc();
+    for texts in [
+        &BUILD[..1],
+        &BUILD[..2],
+        &BUILD[..3],
+        &["rvcc", "run", "in", "out"],
+        &["rvcc", "build", "in", "out", "out"],
+        &BUILD[..0],
+    ] {
+        let left = called(alloc, texts, ANSWER, &[])?;
+        assert_eq!(rt; left.status, 1);
+        assert!(rt;
+            left.report
+                .bytes()
+                .starts_with(b"usage: rvcc build IN OUT ")
+        );
+        assert!(rt; left.files.get("out").is_none());
+    }
+    let missing = called(alloc, &["rvcc", "build", "none", "out"], ANSWER, &[])?;
+    assert_eq!(rt; missing.status, 2);
+    assert_eq!(rt; missing.report.bytes(), b"read fault\n".as_slice());
+    assert!(rt; missing.files.get("out").is_none());
+    Ok(())
+}
