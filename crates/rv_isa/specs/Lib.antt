@@ -1,2 +1,4 @@
 pub mod Formats
+pub mod RoundTrip
+pub mod Rows
 pub mod Words

@@ -1,5 +1,5 @@
 ghost use Rattle.std.specs.Prelude.{◌≡◌};
-ghost use Rattle.rv_isa.specs.Words.{word_of};
+ghost use Rattle.rv_isa.specs.Words.{word_of, FitsFormat};
 
 use crate::formats::{b_type, i_type, j_type, r_type, s_type, shift_type, u_type};
 use crate::instruction::Instr;
@@ -7,9 +7,11 @@ use crate::opcodes::{
     AUIPC, BRANCH, EBREAK, ECALL, JAL, JALR, LOAD, LUI, MISC_MEM, OP, OP_IMM, STORE,
 };
 
-/// The word of an instruction.
+/// The 32-bit word of an instruction.
+#[tactic(auto, unfolding(crate::specs::Words::word_of, crate::specs::Words::FitsFormat))]
 pub fn encode(i: Instr) -> u32
-    ensures { result ≡ word_of i }
+    ensures word { result ≡ word_of i }
+    ensures fits { FitsFormat i }
 {
     match i {
         Instr::Lui { rd, imm } => u_type(imm, rd, LUI),

@@ -1,0 +1,5 @@
+use Rattle.rv_isa.proofs.EncodedDecodes.{encoded_decodes}
+use Rattle.rv_isa.proofs.laws.encoded_decodes.Goals as goal
+
+pub returns : goal.returns
+returns c = encoded_decodes
