@@ -1,3 +1,3 @@
+pub mod Header
 pub mod Image
 pub mod Written
-pub mod Header

@@ -2,6 +2,7 @@
 // exactly the file that specs/Written.antt defines.
 #![tactic(auto)]
 
+mod header;
 mod image;
 mod writer;
 
