@@ -1,2 +1,4 @@
 pub mod Appends
 pub mod WrittenLemmas
+pub mod LoadingLemmas
+pub mod SoundLemmas
