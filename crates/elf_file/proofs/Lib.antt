@@ -2,3 +2,5 @@ pub mod Appends
 pub mod WrittenLemmas
 pub mod LoadingLemmas
 pub mod SoundLemmas
+pub mod ReadBack
+pub mod RoundTrip

@@ -96,6 +96,25 @@ length-next xs ys whole =
 next_page-again : (m n : ℕ) → m ≡ next_page n → m ≡ next_page m
 next_page-again m n e = omega arith
 
+-- the lengths of the file up to each part
+pub record Lengths (i : Parts) : Type 0 where
+  pub head : length (padded (headers i)) ≡ 4096
+  pub with_text : length (padded (headers i) ++ padded i.text) ≡ fixed_offset i
+  pub with_fixed : length (padded (headers i) ++ padded i.text ++ padded i.fixed) ≡ data_offset i
+
+pub lengths : (i : Parts) → Lengths i
+lengths i =
+    let low = (length-headers i).some in
+    let high = (length-headers i).few in
+    let page : 4096 ≡ next_page (length (headers i)) = omega arith in
+    let head : List ℕ = padded (headers i) in
+    let with_text : List ℕ = head ++ padded i.text in
+    let n1 : length head ≡ 4096 = length-padded (headers i) ∙ sym page in
+    let w1 : length head ≡ next_page (length head) = next_page-again (length head) (length (headers i)) (length-padded (headers i)) in
+    let n2 : length with_text ≡ fixed_offset i = length-next head i.text w1 ∙ rw n1 refl in
+    let w2 : length with_text ≡ next_page (length with_text) = next_page-again (length with_text) (4096 + length i.text) n2 in
+    record { head = n1; with_text = n2; with_fixed = length-next with_text i.fixed w2 ∙ rw n2 refl }
+
 -- the file after each of its parts: f2, f4 and f6 are filled up to a page
 pub file-grown : (i : Parts) (f1 f2 f3 f4 f5 f6 f7 : List ℕ) → f1 ≡ headers i
     → f2 ≡ take 4096 f1 ++ replicate (4096 - length f1) 0
@@ -109,16 +128,15 @@ unfolding file_of
 file-grown i f1 f2 f3 f4 f5 f6 f7 e1 e2 e3 e4 e5 e6 e7 =
     let low = (length-headers i).some in
     let high = (length-headers i).few in
-    let first : 4096 ≡ next_page (0 + length (headers i)) = omega arith in
-    let bare : 4096 ≡ next_page (length (headers i)) = omega arith in
+    let page : 4096 ≡ next_page (0 + length (headers i)) = omega arith in
     let head : List ℕ = padded (headers i) in
     let with_text : List ℕ = head ++ padded i.text in
-    let s2 : f2 ≡ head = next-part [] (headers i) f1 f2 4096 e1 e2 refl first in
-    let n2 : length head ≡ 4096 = length-padded (headers i) ∙ sym bare in
+    let s2 : f2 ≡ head = next-part [] (headers i) f1 f2 4096 e1 e2 refl page in
+    let n2 : length head ≡ 4096 = (lengths i).head in
     let w2 : length head ≡ next_page (length head) = next_page-again (length head) (length (headers i)) (length-padded (headers i)) in
     let s3 : f3 ≡ head ++ i.text = e3 ∙ ap (λ f. f ++ i.text) s2 in
     let s4 : f4 ≡ with_text = next-part head i.text f3 f4 (fixed_offset i) s3 e4 w2 (rw n2 refl) in
-    let n4 : length with_text ≡ fixed_offset i = length-next head i.text w2 ∙ rw n2 refl in
+    let n4 : length with_text ≡ fixed_offset i = (lengths i).with_text in
     let w4 : length with_text ≡ next_page (length with_text) = next_page-again (length with_text) (4096 + length i.text) n4 in
     let s5 : f5 ≡ with_text ++ i.fixed = e5 ∙ ap (λ f. f ++ i.fixed) s4 in
     let s6 : f6 ≡ with_text ++ padded i.fixed = next-part with_text i.fixed f5 f6 (data_offset i) s5 e6 w4 (rw n4 refl) in

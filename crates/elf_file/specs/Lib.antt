@@ -2,6 +2,7 @@ pub mod ElfFault
 pub mod Header
 pub mod Image
 pub mod ImageView
+pub mod Laws
 pub mod Loading
 pub mod Segment
 pub mod Written

@@ -6,6 +6,7 @@
 mod fault;
 mod header;
 mod image;
+pub mod laws;
 mod reader;
 mod view;
 mod writer;
