@@ -4,3 +4,4 @@ pub mod LoadingLemmas
 pub mod SoundLemmas
 pub mod ReadBack
 pub mod RoundTrip
+pub mod SegmentLemmas

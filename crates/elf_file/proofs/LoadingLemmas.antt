@@ -141,3 +141,10 @@ get-later b at n k before h is below load some =
     let loading : is_load (header_at b (at + 32 * k)) ≡ true = ap is_load (sym is) ∙ eq-eqb h.kind 1 load in
     rw (loads_from-load b at n k below loading)
     (get-cons (header_at b (at + 32 * k)) (loads_from b (at + 32 * (k + 1)) (n - (k + 1))) before some)
+
+-- one of a list, which is the first of those from the header i on
+pub get-here : (all : List ProgramHeader) (b : List ℕ) (at n i k before : ℕ) (h : ProgramHeader)
+    → slice_get all k ≡ slice_get (loads_from b (at + 32 * i) (n - i)) before → before ≡ 0 → h ≡ header_at b (at + 32 * i) → i < n → h.kind ≡ 1
+    → slice_get all k ≡ Some h
+get-here all b at n i k before h same none is below load =
+    same ∙ ap (slice_get (loads_from b (at + 32 * i) (n - i))) none ∙ get-first b at n i h is below load

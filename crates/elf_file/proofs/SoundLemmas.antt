@@ -1,8 +1,9 @@
 -- What holds of a file without a fault.
 use Rattle.std.proofs.Common.{◌≡◌, ℕ, ◌+◌, ◌≤◌, Bool, true, false, if◌then◌else◌, List, Option, Some, is_none, not, length, refl, slice_get, [], ◌∷◌, zero, suc, unwrap_or, sym, ap, ◌∙◌}
 use Rattle.std.proofs.lemmas.Bool.{ltb-false, leb-true}
+use Rattle.elf_file.specs.Image.{memory_limit}
 use Rattle.elf_file.specs.Header.{ProgramHeader}
-use Rattle.elf_file.specs.Loading.{fault_of, headers_end, header_count, load_headers, is_contained, are_separate, are_loadable}
+use Rattle.elf_file.specs.Loading.{fault_of, headers_end, header_count, load_headers, is_contained, are_separate, are_loadable, total_memory}
 use Rattle.elf_file.specs.declared.fault.ElfFault.{ElfFault}
 use Rattle.elf_file.proofs.LoadingLemmas.{left-true, right-true, few-headers}
 
@@ -11,6 +12,7 @@ pub record IsSound (b : List ℕ) : Type 0 where
   pub few : header_count b ≤ 16
   pub whole : headers_end b ≤ length b
   pub separate : are_separate (length b) (load_headers b) ≡ true
+  pub memory : total_memory (load_headers b) ≤ memory_limit
 
 if-none : (t : Bool) (f : ElfFault) (rest : Option ElfFault) → is_none (if t then Some f else rest) ≡ true → (t ≡ false) × (is_none rest ≡ true)
 if-none true f rest e = cc
@@ -34,6 +36,7 @@ is_sound b e =
       few = few-headers b (not-false _ profile.0);
       whole = ltb-false (length b) (headers_end b) whole.0;
       separate = left-true _ _ (not-false _ loadable.0);
+      memory = leb-true (total_memory (load_headers b)) memory_limit (right-true _ _ (not-false _ loadable.0));
     }
 
 some-same : (x y : ProgramHeader) → Some x ≡ Some y → x ≡ y

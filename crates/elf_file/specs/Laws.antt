@@ -1,8 +1,9 @@
 -- What the file of an image loads as.
-use Rattle.std.specs.Prelude.{◌≡◌, ◌==◌, [], ◌∷◌, ◌++◌, length, Ok, if◌then◌else◌}
+use Rattle.std.specs.Prelude.{◌≡◌, ℕ, ◌==◌, List, [], ◌∷◌, ◌++◌, length, Ok, if◌then◌else◌}
 use Rattle.elf_file.specs.Image.{Parts, IsPlaced, text_at, data_size}
 use Rattle.elf_file.specs.Written.{file_of}
 use Rattle.elf_file.specs.Loading.{LoadedSegment, Executable, loaded}
+use Rattle.elf_file.specs.Segments.{AreSound}
 
 abbrev pub text_segment : Parts → LoadedSegment
 text_segment i = record { at = text_at; size = length i.text; flags = 5; bytes = i.text }
@@ -24,3 +25,7 @@ executable_for i = record {
 -- The file of an image loads as the image.
 abbrev pub WrittenLoads : Type 0
 WrittenLoads = (i : Parts) → IsPlaced i → loaded (file_of i) ≡ Ok (executable_for i)
+
+-- The segments of every executable are contained in the address space, apart from one another, and few.
+abbrev pub LoadedIsSound : Type 0
+LoadedIsSound = (bytes : List ℕ) (e : Executable) → loaded bytes ≡ Ok e → AreSound e.segments

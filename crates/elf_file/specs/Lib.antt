@@ -5,4 +5,5 @@ pub mod ImageView
 pub mod Laws
 pub mod Loading
 pub mod Segment
+pub mod Segments
 pub mod Written

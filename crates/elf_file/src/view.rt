@@ -2,6 +2,7 @@ ghost use Rattle.std.specs.Prelude.{◌≡◌, ℕ, ◌+◌, ◌*◌, ◌<◌, �
 ghost use Rattle.elf_file.specs.Header.{header_of, header_at};
 ghost use Rattle.elf_file.specs.Loading.{headers_start, header_count, segment_at, fault_of};
 ghost use Rattle.elf_file.specs.Segment.{segment_of};
+ghost use Rattle.elf_file.specs.Segments.{IsContained, AreSound};
 
 use crate::header::{
     LOAD, PROGRAM_HEADER_SIZE, ProgramHeader, read_half, read_program_header, read_word,
@@ -64,7 +65,8 @@ impl<'a> ImageView<'a> {
 
     /// The number of segments that are loaded.
     pub fn count(&self) -> u32
-        ensures { result ≡ length (executable_of self.now).segments }
+        ensures value { result ≡ length (executable_of self.now).segments }
+        ensures sound { AreSound (executable_of self.now).segments }
     {
         let mut found = 0;
         for k in 0..self.header_count() {
@@ -78,7 +80,8 @@ impl<'a> ImageView<'a> {
     /// The segment `k` of those that are loaded, in the order of their headers.
     pub fn segment(&self, k: u32) -> Segment<'a>
         requires { k < length (executable_of self.now).segments }
-        ensures { slice_get (executable_of self.now).segments k ≡ Some (segment_of result) }
+        ensures value { slice_get (executable_of self.now).segments k ≡ Some (segment_of result) }
+        ensures contained { IsContained (segment_of result) }
     {
         let mut before = k;
         for i in 0..self.header_count() {

@@ -3,6 +3,7 @@ use Rattle.std.proofs.lemmas.List.{length-map}
 use Rattle.elf_file.specs.Header.{header_of}
 use Rattle.elf_file.specs.Loading.{executable, headers_start, header_count, load_headers, segment_at}
 use Rattle.elf_file.proofs.LoadingLemmas.{length-load, length-end, other-at}
+use Rattle.elf_file.proofs.SegmentLemmas.{segments-sound}
 use Rattle.elf_file.proofs.SoundLemmas.{is_sound}
 use Rattle.elf_file.proofs.view.ImageView.count.Goals as goal
 use Rattle.elf_file.proofs.view.ImageView.count.Goals.{then-header-eq-LOAD, else-header-eq-LOAD}
@@ -37,9 +38,9 @@ loop-k-preserved c =
           record { counted = omega arith; small = omega arith })
     ]
 
-pub returns : goal.returns
+pub returns-clause-value : goal.returns-clause-value
 unfolding executable
-returns c =
+returns-clause-value c =
     let b = c.args.self.now.bytes.now in
     let end = c.header_count-k-end.ensures in
     let past = c.loop-k-test.false in
@@ -47,3 +48,6 @@ returns c =
     let counted = c.loop-k.invariant.counted in
     let mapped = length-map (load_headers b) (segment_at b) in
     omega arith
+
+pub returns-clause-sound : goal.returns-clause-sound
+returns-clause-sound c = segments-sound c.args.self.now.bytes.now c.args.self.now.sound

@@ -1,10 +1,11 @@
-use Rattle.std.proofs.Common.{◌≡◌, ◌∙◌, ◌+◌, ◌*◌, ◌-◌, ◌<◌, List, Some, arith, ap, sym, length, slice_get}
+use Rattle.std.proofs.Common.{◌∙◌, ◌+◌, ◌*◌, ◌-◌, ◌<◌, List, Some, arith, ap, sym, length, slice_get}
 use Rattle.std.proofs.lemmas.List.{length-map}
 use Rattle.std.proofs.lemmas.Option.{slice_get-map}
 use Rattle.std.specs.Option.{option_map}
 use Rattle.elf_file.specs.Header.{ProgramHeader, header_of}
 use Rattle.elf_file.specs.Loading.{executable, headers_start, header_count, load_headers, loads_from, segment_at}
-use Rattle.elf_file.proofs.LoadingLemmas.{loads_from-start, length-load, length-end, other-at, get-first, get-later}
+use Rattle.elf_file.proofs.LoadingLemmas.{loads_from-start, length-load, length-end, other-at, get-here, get-later}
+use Rattle.elf_file.proofs.SegmentLemmas.{segment-contained}
 use Rattle.elf_file.proofs.SoundLemmas.{is_sound, contained-at, within-file}
 use Rattle.elf_file.proofs.view.ImageView.segment.Goals as goal
 use Rattle.elf_file.proofs.view.ImageView.segment.Goals.{then-header-eq-LOAD+else-before-eq0, else-header-eq-LOAD}
@@ -25,11 +26,8 @@ load-requires c =
     let header = header_of c.header-header.result in
     let end = c.header_count-i-end.ensures in
     let test = c.loop-i-test.true in
-    let below : c.loop-i.i < header_count b = omega arith in
-    let found : slice_get (load_headers b) c.args.k ≡ Some header =
-    c.loop-i.invariant.same
-    ∙ ap (slice_get (loads_from b (headers_start b + 32 * c.loop-i.i) (header_count b - c.loop-i.i))) c.if-before-eq0.true
-    ∙ get-first b (headers_start b) (header_count b) c.loop-i.i header c.header-header.ensures below c.if-header-eq-LOAD.true in
+    let found = get-here (load_headers b) b (headers_start b) (header_count b) c.loop-i.i c.args.k c.loop-i.before header
+    c.loop-i.invariant.same c.if-before-eq0.true c.header-header.ensures (omega arith) c.if-header-eq-LOAD.true in
     within-file (length b) header (contained-at (length b) (load_headers b) c.args.k header (is_sound b c.args.self.now.sound).separate found)
 
 pub returns-then-before-eq0 : goal.returns-then-before-eq0
@@ -39,14 +37,15 @@ returns-then-before-eq0 c =
     let header = header_of c.header-header.result in
     let end = c.header_count-i-end.ensures in
     let test = c.loop-i-test.true in
-    let below : c.loop-i.i < header_count b = omega arith in
-    let found : slice_get (load_headers b) c.args.k ≡ Some header =
-    c.loop-i.invariant.same
-    ∙ ap (slice_get (loads_from b (headers_start b + 32 * c.loop-i.i) (header_count b - c.loop-i.i))) c.if-before-eq0.true
-    ∙ get-first b (headers_start b) (header_count b) c.loop-i.i header c.header-header.ensures below c.if-header-eq-LOAD.true in
-    slice_get-map (segment_at b) (load_headers b) c.args.k
-    ∙ ap (option_map (segment_at b)) found
-    ∙ ap (λ s. Some s) (sym c.load.ensures)
+    let found = get-here (load_headers b) b (headers_start b) (header_count b) c.loop-i.i c.args.k c.loop-i.before header
+    c.loop-i.invariant.same c.if-before-eq0.true c.header-header.ensures (omega arith) c.if-header-eq-LOAD.true in
+    record {
+      value = slice_get-map (segment_at b) (load_headers b) c.args.k
+          ∙ ap (option_map (segment_at b)) found
+          ∙ ap (λ s. Some s) (sym c.load.ensures);
+      contained = rw c.load.ensures (segment-contained b header (length b)
+          (contained-at (length b) (load_headers b) c.args.k header (is_sound b c.args.self.now.sound).separate found));
+    }
 
 pub loop-i-preserved : goal.loop-i-preserved
 loop-i-preserved c =
