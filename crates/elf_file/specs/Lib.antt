@@ -1,3 +1,9 @@
-pub mod Image
-pub mod Written
+pub mod ElfFault
 pub mod Header
+pub mod Image
+pub mod ImageView
+pub mod Laws
+pub mod Loading
+pub mod Segment
+pub mod Segments
+pub mod Written

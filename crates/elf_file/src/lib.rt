@@ -1,11 +1,20 @@
-// The executable file of a program image: ELF for 32-bit RISC-V. It stands on std alone. `write` gives
-// exactly the file that specs/Written.antt defines.
+// Executable files: ELF for 32-bit RISC-V. It stands on std alone. `write` gives exactly the file of an
+// image that specs/Written.antt defines, and `read` exactly what specs/Loading.antt says that a file loads
+// as, or its fault.
 #![tactic(auto)]
 
+mod fault;
+mod header;
 mod image;
+pub mod laws;
+mod reader;
+mod view;
 mod writer;
 
+pub use fault::ElfFault;
 pub use image::{Image, NoMemory, PAGE, STACK_SIZE, TEXT_AT};
+pub use reader::read;
+pub use view::{ImageView, Segment};
 pub use writer::write;
 
 #[cfg(test)]

@@ -1,0 +1,5 @@
+use Rattle.elf_file.proofs.RoundTrip.{written_loads}
+use Rattle.elf_file.proofs.laws.written_loads.Goals as goal
+
+pub returns : goal.returns
+returns c = written_loads
