@@ -9,3 +9,4 @@ pub mod FileMap
 pub mod FileNames
 pub mod MemFiles
 pub mod Memory
+pub mod Laws
