@@ -3,7 +3,7 @@ use Rattle.std.proofs.Common.{◌≡◌, ◌≢◌, ℕ, Bool, true, false, cond
 use mathlib.Core.Path.{fun_ext}
 use Rattle.std.specs.Str.{bytes_eq}
 use Rattle.std.proofs.lemmas.Slice.Eq.{bytes_eq-Decides}
-use Rattle.cc_io.specs.Files.{Name, FileSet, put_file}
+use Rattle.cc_io.specs.Files.{Name, FileSet}
 use Rattle.cc_io.specs.Laws.{PrependTwice, PutThenAppend, PutTwice, PutHere, PutElsewhere}
 
 pub prepend-twice : PrependTwice
