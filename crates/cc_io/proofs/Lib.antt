@@ -3,3 +3,4 @@ pub mod CreatedLemmas
 pub mod FileMapLemmas
 pub mod FileNamesLemmas
 pub mod OpenLemmas
+pub mod LawsLemmas

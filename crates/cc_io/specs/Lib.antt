@@ -9,3 +9,5 @@ pub mod FileMap
 pub mod FileNames
 pub mod MemFiles
 pub mod Memory
+pub mod StdStreams
+pub mod Laws

@@ -44,6 +44,13 @@ opens_failed files = λ name. files.open_faults
 abbrev pub creates_failed : MemFiles → Name → ℕ
 creates_failed files = λ name. files.create_faults
 
+-- no call has failed
+pub record IsFaultless (files : MemFiles) : Type 0 where
+  pub reads : files.read_faults ≡ 0
+  pub writes : files.write_faults ≡ 0
+  pub opens : files.open_faults ≡ 0
+  pub creates : files.create_faults ≡ 0
+
 -- no count of faults has changed
 pub record IsSameFaults (old new : MemFiles) : Type 0 where
   pub reads : new.read_faults ≡ old.read_faults

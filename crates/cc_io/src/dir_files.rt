@@ -57,8 +57,12 @@ pub struct DirFiles<'a, R: rt::Files> {
 }
 
 impl<'a, R: rt::Files> DirFiles<'a, R> {
+    ghost use Rattle.cc_io.specs.DirFiles.{IsNew};
+
     /// As `DirFiles::new(rt.alloc(), &rt, ".")`.
-    pub fn new(alloc: Global, system: &'a R, folder: &str) -> Result<Self, AllocError> {
+    pub fn new(alloc: Global, system: &'a R, folder: &str) -> Result<Self, AllocError>
+        ensures { IfOk result (IsNew folder.now) }
+    {
         Ok(DirFiles {
             alloc,
             system,

@@ -9,6 +9,7 @@ mod failed;
 mod failing;
 mod file_map;
 mod files;
+pub mod laws;
 mod mem_files;
 mod mem_sink;
 mod mem_source;
@@ -26,3 +27,6 @@ pub use mem_source::{MemSource, NoFailSource};
 pub use sink::{PIECE, Sink, write_all};
 pub use source::Source;
 pub use std_streams::{StdSink, StdSource};
+
+#[cfg(test)]
+mod tests;

@@ -55,7 +55,7 @@ fn make_room(text: &mut String, len: usize) -> Result<(), AllocError>
 
 impl MemFiles {
     ghost use Rattle.cc_io.specs.Files.{put_file, append_file};
-    ghost use Rattle.cc_io.specs.MemFiles.{files_of, open_name, open_left, written_name, written_room, files_calls, IsSameFaults};
+    ghost use Rattle.cc_io.specs.MemFiles.{files_of, open_name, open_left, written_name, written_room, files_calls, IsFaultless, IsSameFaults};
 
     /// No files. `failing` has the numbers of the calls that are to fail, counted from 0 over all calls of `Files`.
     pub fn new(alloc: Global, failing: Vec<u64>) -> Self
@@ -64,6 +64,7 @@ impl MemFiles {
         ensures written { written_name result ≡ None }
         ensures failing { (files_calls result).listed.items ≡ failing.items }
         ensures calls { (files_calls result).made ≡ 0 }
+        ensures faults { IsFaultless result }
     {
         MemFiles {
             alloc,

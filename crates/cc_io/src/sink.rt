@@ -43,7 +43,8 @@ pub fn write_all<S: Sink>(sink: &mut S, piece: &[u8]) -> Result<(), Failed>
     let mut at = 0;
     while at < piece.len() {
         let end = at + PIECE.min(piece.len() - at);
-        at += sink.write(&piece[at..end])?;
+        let n = sink.write(&piece[at..end])?;
+        at += n;
     }
     Ok(())
 }

@@ -15,14 +15,21 @@ pub struct StdSource<R> {
 }
 
 impl<R> StdSource<R> {
+    ghost use Rattle.cc_io.specs.StdStreams.{reader_of, source_faults};
+
     /// As `StdSource::new(rt.stdin())`.
-    pub fn new(reader: R) -> Self {
+    pub fn new(reader: R) -> Self
+        ensures reader { reader_of result ≡ reader }
+        ensures faults { source_faults result ≡ 0 }
+    {
         StdSource { reader, faults: 0 }
     }
 }
 
 impl<R: Read> Source for StdSource<R> {
-    ghost faults = { λ source. source.faults };
+    ghost use Rattle.cc_io.specs.StdStreams.{source_faults};
+
+    ghost faults = { source_faults };
 
     ghost left = { λ _. None };
 
@@ -43,14 +50,21 @@ pub struct StdSink<W> {
 }
 
 impl<W> StdSink<W> {
+    ghost use Rattle.cc_io.specs.StdStreams.{writer_of, sink_faults};
+
     /// As `StdSink::new(rt.stdout())` or `StdSink::new(rt.stderr())`.
-    pub fn new(writer: W) -> Self {
+    pub fn new(writer: W) -> Self
+        ensures writer { writer_of result ≡ writer }
+        ensures faults { sink_faults result ≡ 0 }
+    {
         StdSink { writer, faults: 0 }
     }
 }
 
 impl<W: Write> Sink for StdSink<W> {
-    ghost faults = { λ sink. sink.faults };
+    ghost use Rattle.cc_io.specs.StdStreams.{sink_faults};
+
+    ghost faults = { sink_faults };
 
     ghost held = { λ _. None };
 

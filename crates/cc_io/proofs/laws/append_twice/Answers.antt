@@ -1,0 +1,5 @@
+use Rattle.cc_io.proofs.SinkLemmas.{append-append}
+use Rattle.cc_io.proofs.laws.append_twice.Goals as goal
+
+pub returns : goal.returns
+returns c = append-append

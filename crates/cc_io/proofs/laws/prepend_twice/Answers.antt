@@ -1,0 +1,5 @@
+use Rattle.cc_io.proofs.LawsLemmas.{prepend-twice}
+use Rattle.cc_io.proofs.laws.prepend_twice.Goals as goal
+
+pub returns : goal.returns
+returns c = prepend-twice
