@@ -5,11 +5,16 @@
 
 mod bytes;
 mod classes;
+mod digits;
 mod fault;
+mod gap;
 mod item;
 mod keyword;
 mod name;
+mod number;
 mod punct;
+mod runs;
+mod text;
 mod token;
 
 pub use bytes::Bytes;
