@@ -1,3 +1,5 @@
 pub mod RunLemmas
 pub mod Scans
 pub mod Characters
+pub mod Lengths
+pub mod Driver

@@ -46,10 +46,10 @@ ends_line (b ∷ bs) = is_line_end b
 unfoldable pub past_include : List ℕ → Option (List ℕ)
 past_include line =
     option_and_then (λ a. option_and_then (λ b. option_and_then
-        (λ c. if ends_line (past_blanks c) then Some (past_blanks c) else None)
-        (past_header (past_blanks b)))
-        (past (codes "include") (past_blanks a)))
-        (past (codes "#") (past_blanks line))
+    (λ c. if ends_line (past_blanks c) then Some (past_blanks c) else None)
+    (past_header (past_blanks b)))
+    (past (codes "include") (past_blanks a)))
+    (past (codes "#") (past_blanks line))
 
 -- how many bytes of the text are an include line; none where its first line is not one
 abbrev pub include_len : List ℕ → ℕ

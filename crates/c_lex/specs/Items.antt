@@ -65,3 +65,8 @@ item_of start.Other at text = punct_item at (punct_at text)
 -- what stands at the front of a text that begins at the place `at`
 abbrev pub item_at : ℕ → List ℕ → Result Item LexFault
 item_at at text = item_of (start_of (slice_index text 0)) at text
+
+-- how many bytes an item has
+abbrev pub item_len : Item → ℕ
+item_len (Gap n) = n
+item_len (Piece k n) = n

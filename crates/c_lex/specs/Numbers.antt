@@ -31,7 +31,7 @@ digits_at base at text =
     let n = prefix_len (is_digit_in base) text in
     if n == 0 then Err (BadNumber at)
     else (ok_or (suffix (drop n text)) (BadNumber at) >>= λ unsigned.
-        typed base at (digits_value base (take n text)) unsigned)
+    typed base at (digits_value base (take n text)) unsigned)
 
 -- hexadecimal behind `0x` or `0X`, else octal behind `0`, else decimal
 unfoldable pub constant_at : ℕ → List ℕ → Result TokenKind LexFault

@@ -104,7 +104,10 @@ impl Keyword {
     pub fn from_bytes(bytes: &[u8]) -> Option<Keyword>
         ensures { result ≡ keyword_of bytes.now }
     {
-        KEYWORDS.iter().copied().find(|keyword| keyword.spelling() == bytes)
+        KEYWORDS
+            .iter()
+            .copied()
+            .find(|keyword| keyword.spelling() == bytes)
     }
 
     /// How it is written.

@@ -150,7 +150,10 @@ impl Punct {
     pub fn at_front(text: &[u8]) -> Option<Punct>
         ensures { result ≡ punct_at text.now }
     {
-        PUNCTUATORS.iter().copied().find(|punct| text.starts_with(punct.spelling()))
+        PUNCTUATORS
+            .iter()
+            .copied()
+            .find(|punct| text.starts_with(punct.spelling()))
     }
 
     /// How it is written.
