@@ -1,10 +1,9 @@
 -- An item takes at least one byte, and no more than there are.
-use Rattle.std.proofs.Common.{◌≡◌, ◌⊎◌, ℕ, zero, suc, ◌+◌, ◌-◌, ◌<◌, ◌≤◌, Bool, true, false, cond, not, ◌&&◌, ◌||◌, subst, lit<, eqb, ltb, List, [], ◌∷◌, length, drop, take, Option, Some, None, Result, Ok, Err, codes, refl, sym, ap, ◌∙◌, arith, inl, inr}
-use Rattle.std.specs.Prelude.{nat_eq, slice_index, find}
-use Rattle.std.specs.Option.{ok_or, option_and_then, option_map, option_map_or}
+use Rattle.std.proofs.Common.{◌≡◌, ◌⊎◌, ℕ, ◌+◌, ◌-◌, ◌<◌, ◌≤◌, Bool, true, false, cond, not, ◌&&◌, ◌||◌, subst, lit<, eqb, ltb, List, [], ◌∷◌, length, drop, take, Option, Some, None, Result, Ok, Err, codes, refl, sym, ap, ◌∙◌, arith, inl, inr}
+use Rattle.std.specs.Prelude.{nat_eq, find}
+use Rattle.std.specs.Option.{ok_or, option_and_then, option_map_or}
 use Rattle.std.specs.List.{starts_with, prefix_len, position_or_len}
-use Rattle.std.specs.Cmp.Lexicographic.{pointwise}
-use Rattle.std.proofs.lemmas.List.{length-drop, length-take}
+use Rattle.std.proofs.lemmas.List.{length-drop}
 use Rattle.std.proofs.lemmas.List.Sums.{prefix_len-le-length}
 use Rattle.c_lex.specs.Results.{◌>>=◌}
 use Rattle.c_lex.specs.Classes.{is_letter, is_digit, is_word, is_number_byte, is_inner_blank, is_line_end}
@@ -22,7 +21,6 @@ use Rattle.c_lex.specs.declared.item.Start.{Start}
 use Rattle.c_lex.specs.declared.item.Start.TheVariants as start
 use Rattle.c_lex.specs.declared.punct.Punct.{Punct}
 use Rattle.c_lex.specs.declared.punct.Punct.TheVariants as mark
-use Rattle.c_lex.specs.declared.token.TokenKind.{TokenKind}
 use Rattle.c_lex.specs.declared.token.TokenKind.TheVariants as kind
 
 -- ---- steps that did not fail

@@ -1,5 +1,5 @@
 -- What stands between tokens: blanks, comments (ISO 9899:2011, 6.4.9) and include lines.
-use Rattle.std.specs.Prelude.{ℕ, ◌+◌, ◌-◌, Bool, true, false, ◌==◌, ◌||◌, nat_eq, List, [], ◌∷◌, drop, length, Option, Some, None, Result, Ok, Err, codes, if◌then◌else◌}
+use Rattle.std.specs.Prelude.{ℕ, ◌+◌, ◌-◌, Bool, true, nat_eq, List, [], ◌∷◌, drop, length, Option, Some, None, Result, Ok, codes, if◌then◌else◌}
 use Rattle.std.specs.List.{starts_with, position_or_len, prefix_len}
 use Rattle.std.specs.Option.{ok_or, option_and_then, option_map_or}
 use Rattle.c_lex.specs.Classes.{is_inner_blank, is_line_end}

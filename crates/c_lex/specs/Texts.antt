@@ -1,5 +1,5 @@
 -- Character constants and string literals (ISO 9899:2011, 6.4.4.4 and 6.4.5).
-use Rattle.std.specs.Prelude.{ℕ, zero, suc, ◌+◌, ◌-◌, Bool, true, false, ◌==◌, nat_lt, List, [], ◌∷◌, take, drop, length, Option, Some, None, Result, Ok, Err, if◌then◌else◌}
+use Rattle.std.specs.Prelude.{ℕ, zero, suc, ◌+◌, ◌-◌, Bool, false, ◌==◌, nat_lt, List, [], ◌∷◌, take, Option, Some, None, Result, Ok, if◌then◌else◌}
 use Rattle.std.specs.List.{prefix_len}
 use Rattle.std.specs.Option.{ok_or, option_map, option_and_then}
 use Rattle.c_lex.specs.Digits.{is_digit_in, digits_value}

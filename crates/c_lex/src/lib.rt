@@ -26,3 +26,6 @@ pub use lexer::lex;
 pub use name::Name;
 pub use punct::Punct;
 pub use token::{Token, TokenKind};
+
+#[cfg(test)]
+mod tests;

@@ -1,5 +1,5 @@
 use Rattle.c_lex.proofs.Driver.{next_within, counted_gives}
-use Rattle.std.proofs.Common.{◌≡◌, sym, subst, Result, ◌∙◌, rules}
+use Rattle.std.proofs.Common.{sym, subst, Result}
 use Rattle.c_lex.specs.Results.{Gives}
 use Rattle.c_lex.specs.Items.{item_at}
 use Rattle.c_lex.specs.Tokens.{counted}
