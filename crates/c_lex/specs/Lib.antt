@@ -1,6 +1,7 @@
 pub mod Classes
 pub mod Digits
 pub mod Gaps
+pub mod Grammar
 pub mod Items
 pub mod Keywords
 pub mod Numbers

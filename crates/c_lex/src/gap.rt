@@ -6,7 +6,8 @@ ghost use Rattle.c_lex.specs.Classes as class;
 ghost use Rattle.c_lex.specs.Gaps as spec;
 
 use crate::runs::{blanks_len, line_len};
-use crate::{Item, LexFault};
+use crate::LexFault;
+use crate::item::Item;
 
 /// Where the first `*/` ends.
 #[tactic(auto, using(crate::proofs::Scans::comment_step, crate::proofs::Scans::comment_all, std::proofs::lemmas::Bool::Decides::nat_tests))]

@@ -15,7 +15,7 @@ use std::alloc::{AllocError, Global};
 
 /// What stands at the front of a text, with the number of its bytes.
 #[derive(Debug, Drop)]
-pub enum Item {
+pub(crate) enum Item {
     /// A blank, a comment, or the end of a line with the include line behind it.
     Gap(usize),
     Piece(TokenKind, usize),
@@ -23,7 +23,7 @@ pub enum Item {
 
 /// What the first byte of a text begins.
 #[derive(Clone, Copy, Debug, PartialEq, Eq)]
-pub enum Start {
+pub(crate) enum Start {
     LineEnd,
     Blank,
     Letter,

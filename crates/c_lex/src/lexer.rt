@@ -5,8 +5,8 @@ ghost use Rattle.c_lex.specs.Items.{item_at, item_len};
 ghost use Rattle.c_lex.specs.Tokens.{counted, lexed};
 
 use crate::gap::include_len;
-use crate::item::item_at;
-use crate::{Item, LexFault, Token};
+use crate::item::{Item, item_at};
+use crate::{LexFault, Token};
 use std::alloc::Global;
 
 const MAX_SOURCE: usize = 1_048_576;

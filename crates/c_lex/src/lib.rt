@@ -20,7 +20,6 @@ mod token;
 
 pub use bytes::Bytes;
 pub use fault::LexFault;
-pub use item::{Item, Start};
 pub use keyword::Keyword;
 pub use lexer::lex;
 pub use name::Name;

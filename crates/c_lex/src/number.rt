@@ -7,7 +7,8 @@ ghost use Rattle.c_lex.specs.Digits.{digits_value};
 
 use crate::digits::digits_value;
 use crate::runs::{digits_len, number_len};
-use crate::{Item, LexFault, TokenKind};
+use crate::item::Item;
+use crate::{LexFault, TokenKind};
 
 /// Whether `u` or `U` stands behind the digits; none where anything else does.
 fn suffix(text: &[u8]) -> Option<bool>

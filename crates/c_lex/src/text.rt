@@ -6,7 +6,8 @@ ghost use Rattle.c_lex.specs.Texts as spec;
 
 use crate::digits::{digits_value, is_digit_in};
 use crate::runs::digits_len;
-use crate::{Bytes, Item, LexFault, TokenKind};
+use crate::item::Item;
+use crate::{Bytes, LexFault, TokenKind};
 use std::alloc::{AllocError, Global};
 
 /// Where the closing quote stands.

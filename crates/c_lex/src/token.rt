@@ -1,7 +1,7 @@
 use crate::{Bytes, Keyword, Name, Punct};
 
 /// A token and where it stands: its bytes are those of the source from `at` up to `end`.
-#[derive(Debug, Drop)]
+#[derive(Clone, Debug, Drop, PartialEq, Eq)]
 pub struct Token {
     pub kind: TokenKind,
     pub at: u32,
@@ -9,7 +9,7 @@ pub struct Token {
 }
 
 /// What a token is (ISO 9899:2011, 6.4).
-#[derive(Debug, Drop)]
+#[derive(Clone, Debug, Drop, PartialEq, Eq)]
 pub enum TokenKind {
     /// An identifier that is no keyword, of at most 63 bytes (6.4.2).
     Name(Name),
