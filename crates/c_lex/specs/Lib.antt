@@ -1,0 +1,11 @@
+pub mod Classes
+pub mod Digits
+pub mod Gaps
+pub mod Grammar
+pub mod Items
+pub mod Keywords
+pub mod Numbers
+pub mod Punctuators
+pub mod Results
+pub mod Texts
+pub mod Tokens

@@ -1,0 +1,30 @@
+//! The first phase of the front end: the tokens of a source text, or its first lexical fault with its place
+//! (ISO 9899:2011, 6.4). The tree, the parser and the checker stand on its tokens. It promises that the tokens are
+//! those of the definition, each the longest run that is one, and that a fault is the one that the definition names.
+#![tactic(auto)]
+
+mod bytes;
+mod classes;
+mod digits;
+mod fault;
+mod gap;
+mod item;
+mod keyword;
+mod lexer;
+mod name;
+mod number;
+mod punct;
+mod runs;
+mod text;
+mod token;
+
+pub use bytes::Bytes;
+pub use fault::LexFault;
+pub use keyword::Keyword;
+pub use lexer::lex;
+pub use name::Name;
+pub use punct::Punct;
+pub use token::{Token, TokenKind};
+
+#[cfg(test)]
+mod tests;
