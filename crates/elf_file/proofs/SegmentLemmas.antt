@@ -1,6 +1,6 @@
 -- The segments of an executable, as sets of addresses.
-use Rattle.std.proofs.Common.{◌≡◌, ℕ, zero, suc, ◌+◌, ◌-◌, ◌≤◌, ◌^◌, ◌==◌, ◌&&◌, ◌||◌, Bool, true, false, ◌⊎◌, inl, inr, List, [], ◌∷◌, length, map, drop, All, AllPairs, sum_by, Option, Some, None, Ok, is_none, refl, arith, sym, ap, ◌∙◌, nat_le}
-use Rattle.std.proofs.lemmas.Bool.{leb-true, eqb-true}
+use Rattle.std.proofs.Common.{◌≡◌, ◌<◌, ℕ, zero, suc, ◌+◌, ◌-◌, ◌≤◌, ◌^◌, ◌==◌, ◌&&◌, ◌||◌, Bool, true, false, ◌⊎◌, inl, inr, List, [], ◌∷◌, length, map, drop, All, AllPairs, sum_by, Option, Some, None, Ok, is_none, refl, arith, sym, ap, ◌∙◌, nat_le}
+use Rattle.std.proofs.lemmas.Bool.{leb-true, leb-false, eqb-true, eqb-false}
 use Rattle.std.proofs.lemmas.List.{length-map, length-take}
 use Rattle.std.proofs.lemmas.List.Sums.{sum_by-cons, length-filter, count_by-le-length}
 use Rattle.std.proofs.lemmas.List.Kept.{AllPairs-cons}
@@ -10,7 +10,7 @@ use Rattle.elf_file.specs.declared.fault.ElfFault.{ElfFault}
 use Rattle.elf_file.specs.Header.{ProgramHeader}
 use Rattle.elf_file.specs.Loading.{Executable, is_contained, is_apart, are_separate, total_memory, load_headers, loads_from, headers_from, headers_start, header_count, is_load, segment_at, executable, fault_of, unless_fault}
 use Rattle.elf_file.specs.Segments.{IsContained, AreApart, AreSound}
-use Rattle.elf_file.specs.Laws.{LoadedIsSound}
+use Rattle.elf_file.specs.Laws.{LoadedIsSound, OverlapHasAddress}
 use Rattle.elf_file.proofs.LoadingLemmas.{left-true, right-true}
 use Rattle.elf_file.proofs.SoundLemmas.{is_sound}
 
@@ -108,3 +108,33 @@ pub loaded_is_sound : LoadedIsSound
 loaded_is_sound bytes e is =
     let both = ok-only (fault_of bytes) (executable bytes) e is in
     rw (sym both.1) (segments-sound bytes both.0)
+
+neither : (a b : Bool) → (a || b) ≡ false → (a ≡ false) × (b ≡ false)
+neither true b e = cc
+neither false b e = (refl, e)
+
+later-start : (a b : ProgramHeader) (t : Bool) → nat_le a.at b.at ≡ t → 0 < a.memory_size → 0 < b.memory_size
+    → b.at < a.at + a.memory_size → a.at < b.at + b.memory_size
+    → (address : ℕ) × (a.at ≤ address) × (address < a.at + a.memory_size) × (b.at ≤ address) × (address < b.at + b.memory_size)
+later-start a b true first some_a some_b end_a end_b =
+    let order : a.at ≤ b.at = leb-true a.at b.at first in
+    (b.at, order, end_a, omega arith, omega arith)
+later-start a b false first some_a some_b end_a end_b =
+    let order : b.at < a.at = leb-false a.at b.at first in
+    (a.at, omega arith, omega arith, omega arith, end_b)
+
+pub overlap_has_address : OverlapHasAddress
+unfolding is_apart
+overlap_has_address a b e =
+    let none_a : Bool = a.memory_size == 0 in
+    let none_b : Bool = b.memory_size == 0 in
+    let a_first : Bool = nat_le (a.at + a.memory_size) b.at in
+    let b_first : Bool = nat_le (b.at + b.memory_size) a.at in
+    let last = neither (none_a || none_b || a_first) b_first e in
+    let third = neither (none_a || none_b) a_first last.0 in
+    let sizes = neither none_a none_b third.0 in
+    let some_a = eqb-false a.memory_size 0 sizes.0 in
+    let some_b = eqb-false b.memory_size 0 sizes.1 in
+    later-start a b (nat_le a.at b.at) refl (omega arith) (omega arith)
+    (leb-false (a.at + a.memory_size) b.at third.1)
+    (leb-false (b.at + b.memory_size) a.at last.1)

@@ -1,8 +1,9 @@
 -- What the file of an image loads as.
-use Rattle.std.specs.Prelude.{◌≡◌, ℕ, ◌==◌, List, [], ◌∷◌, ◌++◌, length, Ok, if◌then◌else◌}
+use Rattle.std.specs.Prelude.{◌≡◌, ℕ, ◌+◌, ◌≤◌, ◌<◌, false, ◌==◌, List, [], ◌∷◌, ◌++◌, length, Ok, if◌then◌else◌}
 use Rattle.elf_file.specs.Image.{Parts, IsPlaced, text_at, data_size}
 use Rattle.elf_file.specs.Written.{file_of}
-use Rattle.elf_file.specs.Loading.{LoadedSegment, Executable, loaded}
+use Rattle.elf_file.specs.Loading.{LoadedSegment, Executable, is_apart, loaded}
+use Rattle.elf_file.specs.Header.{ProgramHeader}
 use Rattle.elf_file.specs.Segments.{AreSound}
 
 abbrev pub text_segment : Parts → LoadedSegment
@@ -29,3 +30,9 @@ WrittenLoads = (i : Parts) → IsPlaced i → loaded (file_of i) ≡ Ok (executa
 -- The segments of every executable are contained in the address space, apart from one another, and few.
 abbrev pub LoadedIsSound : Type 0
 LoadedIsSound = (bytes : List ℕ) (e : Executable) → loaded bytes ≡ Ok e → AreSound e.segments
+
+-- Two segments that are not apart have an address in common.
+abbrev pub OverlapHasAddress : Type 0
+OverlapHasAddress =
+    (a b : ProgramHeader) → is_apart a b ≡ false
+    → (address : ℕ) × (a.at ≤ address) × (address < a.at + a.memory_size) × (b.at ≤ address) × (address < b.at + b.memory_size)

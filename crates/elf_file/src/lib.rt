@@ -1,6 +1,6 @@
-// Executable files: ELF for 32-bit RISC-V. It stands on std alone. `write` gives exactly the file of an
-// image that specs/Written.antt defines, and `read` exactly what specs/Loading.antt says that a file loads
-// as, or its fault.
+// Executable files: ELF for 32-bit RISC-V. It stands on std and thiserror. `write` gives exactly the file
+// of an image that specs/Written.antt defines, and `read` exactly what specs/Loading.antt says that a file
+// loads as, or its fault.
 #![tactic(auto)]
 
 mod fault;
