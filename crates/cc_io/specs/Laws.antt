@@ -1,7 +1,8 @@
 -- Laws of what is read, written and filed.
-use Rattle.std.specs.Prelude.{◌≡◌, ◌≢◌, ℕ, List, ◌++◌, Option, Some}
+use Rattle.std.specs.Prelude.{◌≡◌, ◌≢◌, ℕ, List, [], ◌++◌, Option, Some, option_map}
 use Rattle.cc_io.specs.Source.{prepend}
 use Rattle.cc_io.specs.Sink.{append}
+use Rattle.cc_io.specs.Created.{written_content, other_files}
 use Rattle.cc_io.specs.Files.{Name, FileSet, put_file, append_file}
 
 -- two pieces read one after the other are one
@@ -30,3 +31,8 @@ PutHere = (name : Name) (bytes : List ℕ) (files : FileSet) → put_file name b
 abbrev pub PutElsewhere : Type 0
 PutElsewhere =
     (name other : Name) (bytes : List ℕ) (files : FileSet) → name ≢ other → put_file name bytes files other ≡ files other
+
+-- a file that was created, and to which bytes were then appended while those beside it stayed, was put there with them
+abbrev pub WrittenWhole : Type 0
+WrittenWhole =
+    (name : Name) (bytes : List ℕ) (old made new : Option FileSet) (writing writing' : Option Name) → writing ≡ Some name → writing' ≡ writing → made ≡ option_map (put_file name []) old → written_content writing' new ≡ append (written_content writing made) bytes → other_files writing' new ≡ other_files writing made → new ≡ option_map (put_file name bytes) old

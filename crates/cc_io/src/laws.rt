@@ -1,6 +1,6 @@
 //! Laws of what is read, written and filed, for the proofs of callers: each is the contract of a function that does
 //! nothing.
-ghost use Rattle.cc_io.specs.Laws.{PrependTwice, AppendTwice, PutThenAppend, PutTwice, PutHere, PutElsewhere};
+ghost use Rattle.cc_io.specs.Laws.{PrependTwice, AppendTwice, PutThenAppend, PutTwice, PutHere, PutElsewhere, WrittenWhole};
 
 /// Two pieces read one after the other are one.
 pub fn prepend_twice()
@@ -30,4 +30,10 @@ pub fn put_here()
 /// Every other file holds what it held.
 pub fn put_elsewhere()
     ensures { PutElsewhere }
+{}
+
+/// A file that was created, and to which bytes were then appended while those beside it stayed, was put there with
+/// them: what a caller of `Created` knows once the loan is over.
+pub fn written_whole()
+    ensures { WrittenWhole }
 {}

@@ -1,5 +1,5 @@
 // The standard streams of the process, or any other reader or writer of the system.
-ghost use Rattle.std.specs.Prelude.{◌≡◌, ◌≤◌, ◌<◌, ℕ, List, None, length};
+ghost use Rattle.std.specs.Prelude.{◌≡◌, ◌≤◌, ◌<◌, ℕ, List, None, length, IfOk};
 
 use crate::failed::Failed;
 use crate::failing::fault;
@@ -27,13 +27,21 @@ impl<R> StdSource<R> {
 }
 
 impl<R: Read> Source for StdSource<R> {
-    ghost use Rattle.cc_io.specs.StdStreams.{source_faults};
+    ghost use Rattle.std.specs.Io.KnownBytes.{ReadConsumes};
+    ghost use Rattle.cc_io.specs.Faults.{HasCause};
+    ghost use Rattle.cc_io.specs.StdStreams.{reader_of, source_faults};
 
     ghost faults = { source_faults };
 
     ghost left = { λ _. None };
 
-    fn read(&mut self, buf: &mut [u8]) -> Result<usize, Failed> {
+    /// Hands on what the reader gives.
+    fn read(&mut self, buf: &mut [u8]) -> Result<usize, Failed>
+        requires { 0 < length buf.old }
+        ensures count { IfOk result (λ n. n ≤ length buf.old) }
+        ensures reader { ReadConsumes (R.remaining (reader_of self.old)) (R.remaining (reader_of self.new)) result buf.new }
+        ensures cause { HasCause (source_faults self.old) (source_faults self.new) result }
+    {
         match self.reader.read(buf) {
             Ok(n) => Ok(n),
             Err(_) => Err(fault(&mut self.faults)),
@@ -62,7 +70,9 @@ impl<W> StdSink<W> {
 }
 
 impl<W: Write> Sink for StdSink<W> {
-    ghost use Rattle.cc_io.specs.StdStreams.{sink_faults};
+    ghost use Rattle.std.specs.Io.KnownBytes.{WriteAppends};
+    ghost use Rattle.cc_io.specs.Faults.{HasCause};
+    ghost use Rattle.cc_io.specs.StdStreams.{writer_of, sink_faults};
 
     ghost faults = { sink_faults };
 
@@ -72,7 +82,13 @@ impl<W: Write> Sink for StdSink<W> {
 
     ghost beside = { λ _. tt };
 
-    fn write(&mut self, piece: &[u8]) -> Result<usize, Failed> {
+    /// Hands on to the writer; where it takes nothing of a piece, this is a fault.
+    fn write(&mut self, piece: &[u8]) -> Result<usize, Failed>
+        ensures count { IfOk result (λ n. n ≤ length piece.now) }
+        ensures some { IfOk result (λ n. 0 < length piece.now → 0 < n) }
+        ensures writer { WriteAppends (W.contents (writer_of self.old)) (W.contents (writer_of self.new)) result piece.now }
+        ensures cause { HasCause (sink_faults self.old) (sink_faults self.new) result }
+    {
         match self.writer.write(piece) {
             Ok(n) if n > 0 || piece.is_empty() => Ok(n),
             _ => Err(fault(&mut self.faults)),
