@@ -8,3 +8,5 @@ pub mod Sorts
 pub mod Munch
 pub mod GapLaws
 pub mod Whole
+pub mod Reading
+pub mod Again
