@@ -54,7 +54,7 @@ closing_within quote taken at (b ∷ bs) n e =
       ]
     ]
 
-starts_long : (text word : List ℕ) → starts_with nat_eq text word ≡ true → length word ≤ length text
+pub starts_long : (text word : List ℕ) → starts_with nat_eq text word ≡ true → length word ≤ length text
 starts_long text [] e = omega arith
 starts_long [] (c ∷ cs) e = absurd cc
 starts_long (b ∷ bs) (c ∷ cs) e = omega (arith, starts_long bs cs (and_right (nat_eq c b) (starts_with nat_eq bs cs) e))
@@ -78,7 +78,7 @@ include_within line = by_rest (past_include line)
     by_rest None = omega arith
     by_rest (Some rest) = omega arith
 
-run_some : (p : ℕ → Bool) (b : ℕ) (bs : List ℕ) → p b ≡ true → 0 < prefix_len p (b ∷ bs)
+pub run_some : (p : ℕ → Bool) (b : ℕ) (bs : List ℕ) → p b ≡ true → 0 < prefix_len p (b ∷ bs)
 run_some p b bs e = let first : prefix_len p (b ∷ bs) ≡ 1 + prefix_len p bs = ap (λ t. cond t (1 + prefix_len p bs) 0) e in omega arith
 
 or_left : (x y : Bool) → x ≡ true → (x || y) ≡ true
@@ -89,15 +89,15 @@ or_right : (x y : Bool) → y ≡ true → (x || y) ≡ true
 or_right true y e = refl
 or_right false y e = e
 
-letter_is_word : (b : ℕ) → is_letter b ≡ true → is_word b ≡ true
+pub letter_is_word : (b : ℕ) → is_letter b ≡ true → is_word b ≡ true
 letter_is_word b e = or_left (is_letter b) (is_digit b) e
 
-digit_goes_on : (b : ℕ) → is_digit b ≡ true → is_number_byte b ≡ true
+pub digit_goes_on : (b : ℕ) → is_digit b ≡ true → is_number_byte b ≡ true
 digit_goes_on b e = or_left (is_word b) (eqb b 46) (or_right (is_letter b) (is_digit b) e)
 
 -- ---- what a first byte begins
 
-start_by : (line blank letter digit quote double hash slash : Bool) → Start
+unfoldable pub start_by : (line blank letter digit quote double hash slash : Bool) → Start
 start_by line blank letter digit quote double hash slash =
     cond line start.LineEnd (cond blank start.Blank (cond letter start.Letter (cond digit start.Digit (cond quote start.Quote (cond double start.DoubleQuote (cond hash start.Hash (cond slash start.Slash start.Other)))))))
 
@@ -193,7 +193,7 @@ comment_fits at text i long e =
     let size = length-drop 2 text in
     fits_ok (Gap (n + 2)) i text (omega arith, omega arith) closed.2
 
-punct_some : (p : Punct) → 0 < length (punct_spelling p)
+pub punct_some : (p : Punct) → 0 < length (punct_spelling p)
 punct_some mark.LParen = lit< tt
 punct_some mark.RParen = lit< tt
 punct_some mark.LBracket = lit< tt

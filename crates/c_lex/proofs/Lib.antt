@@ -5,3 +5,8 @@ pub mod Lengths
 pub mod Driver
 pub mod Tables
 pub mod Sorts
+pub mod Munch
+pub mod GapLaws
+pub mod Whole
+pub mod Reading
+pub mod Again

@@ -9,3 +9,4 @@ pub mod Punctuators
 pub mod Results
 pub mod Texts
 pub mod Tokens
+pub mod Written

@@ -5,9 +5,9 @@ ghost use Rattle.std.specs.List.{position_or_len};
 ghost use Rattle.c_lex.specs.Classes as class;
 ghost use Rattle.c_lex.specs.Gaps as spec;
 
-use crate::runs::{blanks_len, line_len};
 use crate::LexFault;
 use crate::item::Item;
+use crate::runs::{blanks_len, line_len};
 
 /// Where the first `*/` ends.
 #[tactic(auto, using(crate::proofs::Scans::comment_step, crate::proofs::Scans::comment_all, std::proofs::lemmas::Bool::Decides::nat_tests))]

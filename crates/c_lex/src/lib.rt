@@ -10,6 +10,7 @@ mod fault;
 mod gap;
 mod item;
 mod keyword;
+pub mod laws;
 mod lexer;
 mod name;
 mod number;

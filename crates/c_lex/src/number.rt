@@ -6,8 +6,8 @@ ghost use Rattle.c_lex.specs.Numbers as spec;
 ghost use Rattle.c_lex.specs.Digits.{digits_value};
 
 use crate::digits::digits_value;
-use crate::runs::{digits_len, number_len};
 use crate::item::Item;
+use crate::runs::{digits_len, number_len};
 use crate::{LexFault, TokenKind};
 
 /// Whether `u` or `U` stands behind the digits; none where anything else does.

@@ -5,8 +5,8 @@ ghost use Rattle.c_lex.specs.Results.{Gives};
 ghost use Rattle.c_lex.specs.Texts as spec;
 
 use crate::digits::{digits_value, is_digit_in};
-use crate::runs::digits_len;
 use crate::item::Item;
+use crate::runs::digits_len;
 use crate::{Bytes, LexFault, TokenKind};
 use std::alloc::{AllocError, Global};
 

@@ -1,0 +1,266 @@
+-- The tokens of a source, from the definition to the grammar.
+use Rattle.std.proofs.Common.{◌≡◌, ◌≢◌, ◌⊎◌, ℕ, zero, suc, ◌+◌, ◌-◌, ◌<◌, ◌≤◌, Bool, true, false, cond, not, eqb, leb, ltb, ◌&&◌, ◌||◌, List, [], ◌∷◌, ◌++◌, length, take, drop, get_or, Option, Some, None, Result, Ok, Err, codes, refl, sym, ap, ◌∙◌, subst, arith, inl, inr, zero-add}
+use Rattle.std.specs.Prelude.{nat_eq, slice_index, slice_range}
+use Rattle.std.specs.Option.{ok_or, option_and_then}
+use Rattle.std.specs.List.{starts_with, prefix_len, position_or_len}
+use Rattle.std.proofs.lemmas.Bool.{cases_lt, ltb-false}
+use Rattle.std.proofs.lemmas.List.{drop_all, drop-drop, length-drop, get_or-drop}
+use Rattle.c_lex.specs.Results.{◌>>=◌}
+use Rattle.c_lex.specs.Classes.{is_letter, is_digit, is_word, is_number_byte, is_line_end, is_inner_blank}
+use Rattle.c_lex.specs.Gaps.{comment_at, comment_end, line_comment, include_len}
+use Rattle.c_lex.specs.Numbers.{number_at, constant_at}
+use Rattle.c_lex.specs.Texts.{closing_from, characters, only, char_at, text_at}
+use Rattle.c_lex.specs.Keywords.{keyword_of}
+use Rattle.c_lex.specs.Punctuators.{punct_at, punct_spelling}
+use Rattle.c_lex.specs.Items.{item_at, item_of, item_len, start_of, word_at, word_kind_of, slash_at, punct_item}
+use Rattle.c_lex.specs.Tokens.{tokens_from, counted, behind, item_then, lexed}
+use Rattle.c_lex.specs.Grammar.{IsGap, IsLineStart, IsBlockComment, IsLineComment, IsIncludeLine, IsToken, Spells, Holds, done, gap, token, Stands, TokensAreLongest}
+use Rattle.c_lex.specs.declared.fault.LexFault.{LexFault}
+use Rattle.c_lex.specs.declared.fault.LexFault.TheVariants as fault
+use Rattle.c_lex.specs.declared.item.Item.{Item}
+use Rattle.c_lex.specs.declared.item.Item.TheVariants.{Gap, Piece}
+use Rattle.c_lex.specs.declared.item.Start.{Start}
+use Rattle.c_lex.specs.declared.item.Start.TheVariants as start
+use Rattle.c_lex.specs.declared.punct.Punct.{Punct}
+use Rattle.c_lex.specs.declared.token.Token.{Token}
+use Rattle.c_lex.specs.declared.token.TokenKind.{TokenKind}
+use Rattle.c_lex.specs.declared.token.TokenKind.TheVariants as kind
+use Rattle.c_lex.proofs.Lengths.{bind_ok, ok_or_ok, chosen, found, item_fits, IsFitting, start_by, include_within}
+use Rattle.c_lex.proofs.Driver.{step, stops, skipped, counted_ok}
+use Rattle.c_lex.proofs.GapLaws.{include_is, line_comment_is, block_comment_is}
+use Rattle.c_lex.proofs.Munch.{IsLongest, item_longest}
+
+-- ---- gaps
+
+abbrev pub IsPassed : List ℕ → ℕ → ℕ → Type 0
+IsPassed source at n = (ts : List Token) → Holds source (at + n) ts → Holds source at ts
+
+no_piece : (k : TokenKind) (n m : ℕ) → found (Piece k n) ≡ found (Gap m) → ⊥
+no_piece k n m e = cc
+
+word_no_gap : (at : ℕ) (text : List ℕ) (n : ℕ) → word_at at text ≡ Ok (Gap n) → ⊥
+unfolding word_at
+word_no_gap at text n e =
+    let m = prefix_len is_word text in
+    elim (chosen (ltb 63 m) (Err (fault.LongName at)) (Ok (Piece (word_kind_of (take m text) (keyword_of (take m text))) m)) (Ok (Gap n)) e) [
+      | inl (_, f) ↦ cc
+      | inr (_, f) ↦ no_piece _ m n f
+    ]
+
+number_no_gap : (at : ℕ) (text : List ℕ) (n : ℕ) → number_at at text ≡ Ok (Gap n) → ⊥
+unfolding number_at
+number_no_gap at text n e =
+    let m = prefix_len is_number_byte text in
+    let made = bind_ok (constant_at at (take m text)) (λ k. Ok (Piece k m)) (Gap n) e in
+    no_piece made.0 m n made.2
+
+char_no_gap : (at : ℕ) (text : List ℕ) (n : ℕ) → char_at at text ≡ Ok (Gap n) → ⊥
+unfolding char_at
+char_no_gap at bs n e =
+    let closed = bind_ok (ok_or (closing_from 39 false 0 bs) (fault.OpenText at)) (λ m. ok_or (option_and_then only (characters 0 (take m bs))) (fault.BadText at) >>= λ c. Ok (Piece (kind.Char c) (m + 2))) (Gap n) e in
+    let made = bind_ok (ok_or (option_and_then only (characters 0 (take closed.0 bs))) (fault.BadText at)) (λ c. Ok (Piece (kind.Char c) (closed.0 + 2))) (Gap n) closed.2 in
+    no_piece (kind.Char made.0) (closed.0 + 2) n made.2
+
+text_no_gap : (at : ℕ) (text : List ℕ) (n : ℕ) → text_at at text ≡ Ok (Gap n) → ⊥
+unfolding text_at
+text_no_gap at bs n e =
+    let closed = bind_ok (ok_or (closing_from 34 false 0 bs) (fault.OpenText at)) (λ m. ok_or (characters 0 (take m bs)) (fault.BadText at) >>= λ c. Ok (Piece (kind.Text c) (m + 2))) (Gap n) e in
+    let made = bind_ok (ok_or (characters 0 (take closed.0 bs)) (fault.BadText at)) (λ c. Ok (Piece (kind.Text c) (closed.0 + 2))) (Gap n) closed.2 in
+    no_piece (kind.Text made.0) (closed.0 + 2) n made.2
+
+punct_no_gap : (at : ℕ) (o : Option Punct) (n : ℕ) → punct_item at o ≡ Ok (Gap n) → ⊥
+punct_no_gap at None n e = cc
+punct_no_gap at (Some p) n e = no_piece (kind.Punct p) (length (punct_spelling p)) n e
+
+gap_is : (n m : ℕ) → found (Gap n) ≡ found (Gap m) → n ≡ m
+gap_is n m e = cc
+
+-- the bytes behind a place, as a range
+range_is : (source : List ℕ) (at n : ℕ) → slice_range source at (at + n) ≡ take n (drop at source)
+range_is source at n = let size : at + n - at ≡ n = omega arith in ap (λ k. take k (drop at source)) size
+
+first_is : (source : List ℕ) (at b : ℕ) (bs : List ℕ) → drop at source ≡ b ∷ bs → slice_index source at ≡ b
+first_is source at b bs e =
+    let place : at ≡ at + 0 = omega arith in
+    ap (slice_index source) place ∙ sym (get_or-drop at source 0 0) ∙ ap (λ (t : List ℕ). slice_index t 0) e
+
+slash_passed : (source : List ℕ) (at n : ℕ) → at + n ≤ length source → 0 < n → slash_at at (drop at source) ≡ Ok (Gap n) → IsPassed source at n
+unfolding slash_at comment_at line_comment
+slash_passed source at n within some e ts rest =
+    let text = drop at source in
+    elim (chosen (starts_with nat_eq text (codes "/*")) (comment_at at (drop 2 text)) (cond (starts_with nat_eq text (codes "//")) (Ok (line_comment (drop 2 text))) (punct_item at (punct_at text))) (Ok (Gap n)) e) [
+      | inl (starts, f) ↦
+          let made = bind_ok (ok_or (comment_end 0 (drop 2 text)) (fault.OpenComment at)) (λ m. Ok (Gap (m + 2))) (Gap n) f in
+          let is = ok_or_ok (comment_end 0 (drop 2 text)) (fault.OpenComment at) made.0 made.1 in
+          let size = gap_is (made.0 + 2) n made.2 in
+          let comment = subst (λ (k : ℕ). IsBlockComment (take k text)) size (block_comment_is text made.0 starts is) in
+          gap at (at + n) ts (omega arith) within (inr (inl (subst (λ (t : List ℕ). IsBlockComment t) (sym (range_is source at n)) comment))) rest
+      | inr (_, f) ↦ elim (chosen (starts_with nat_eq text (codes "//")) (Ok (line_comment (drop 2 text))) (punct_item at (punct_at text)) (Ok (Gap n)) f) [
+        | inl (starts, g) ↦
+            let size = gap_is (position_or_len is_line_end (drop 2 text) + 2) n g in
+            let comment = line_comment_is text n starts size in
+            let behind : drop n text ≡ drop (at + n) source = drop-drop n at source in
+            gap at (at + n) ts (omega arith) within (inr (inr (inl (subst (λ (t : List ℕ). IsLineComment t (drop (at + n) source)) (sym (range_is source at n)) (subst (λ (t : List ℕ). IsLineComment (take n text) t) behind comment))))) rest
+        | inr (_, g) ↦ absurd (punct_no_gap at (punct_at text) n g)
+      ]
+    ]
+
+-- ---- line ends and blanks
+
+line_by : (line blank letter digit quote double hash slash : Bool) → start_by line blank letter digit quote double hash slash ≡ start.LineEnd → line ≡ true
+unfolding start_by
+line_by true _ _ _ _ _ _ _ e = refl
+line_by false true _ _ _ _ _ _ e = absurd cc
+line_by false false true _ _ _ _ _ e = absurd cc
+line_by false false false true _ _ _ _ e = absurd cc
+line_by false false false false true _ _ _ e = absurd cc
+line_by false false false false false true _ _ e = absurd cc
+line_by false false false false false false true _ e = absurd cc
+line_by false false false false false false false true e = absurd cc
+line_by false false false false false false false false e = absurd cc
+
+blank_by : (line blank letter digit quote double hash slash : Bool) → start_by line blank letter digit quote double hash slash ≡ start.Blank → blank ≡ true
+unfolding start_by
+blank_by true _ _ _ _ _ _ _ e = absurd cc
+blank_by false true _ _ _ _ _ _ e = refl
+blank_by false false true _ _ _ _ _ e = absurd cc
+blank_by false false false true _ _ _ _ e = absurd cc
+blank_by false false false false true _ _ _ e = absurd cc
+blank_by false false false false false true _ _ e = absurd cc
+blank_by false false false false false false true _ e = absurd cc
+blank_by false false false false false false false true e = absurd cc
+blank_by false false false false false false false false e = absurd cc
+
+start_line : (b : ℕ) → start_of b ≡ start.LineEnd → is_line_end b ≡ true
+unfolding start_of start_by
+start_line b e = line_by (is_line_end b) (is_inner_blank b) (is_letter b) (is_digit b) (eqb b 39) (eqb b 34) (eqb b 35) (eqb b 47) e
+
+start_blank : (b : ℕ) → start_of b ≡ start.Blank → is_inner_blank b ≡ true
+unfolding start_of start_by
+start_blank b e = blank_by (is_line_end b) (is_inner_blank b) (is_letter b) (is_digit b) (eqb b 39) (eqb b 34) (eqb b 35) (eqb b 47) e
+
+or_left : (x y : Bool) → x ≡ true → (x || y) ≡ true
+or_left true y e = refl
+or_left false y e = absurd cc
+
+or_right : (x y : Bool) → y ≡ true → (x || y) ≡ true
+or_right true y e = refl
+or_right false y e = e
+
+-- an include line, where there is one, is passed over from the start of its line
+include_passed : (source : List ℕ) (at n : ℕ) → IsLineStart source at → at + n ≤ length source → include_len (drop at source) ≡ n → IsPassed source at n
+include_passed source at zero start within is ts rest = let place : at + 0 ≡ at = omega arith in subst (λ (i : ℕ). Holds source i ts) place rest
+include_passed source at (suc n) start within is ts rest =
+    let line = include_is (drop at source) (suc n) is (omega arith) in
+    let behind : drop (suc n) (drop at source) ≡ drop (at + suc n) source = drop-drop (suc n) at source in
+    gap at (at + suc n) ts (omega arith) within (inr (inr (inr (start, subst (λ (t : List ℕ). IsIncludeLine t (drop (at + suc n) source)) (sym (range_is source at (suc n))) (subst (λ (t : List ℕ). IsIncludeLine (take (suc n) (drop at source)) t) behind line))))) rest
+
+blank_passed : (source : List ℕ) (at : ℕ) → at + 1 ≤ length source → (is_line_end (slice_index source at) || is_inner_blank (slice_index source at)) ≡ true → IsPassed source at 1
+blank_passed source at within is ts rest = gap at (at + 1) ts (omega arith) within (inl (refl, is)) rest
+
+line_passed : (source : List ℕ) (at n b : ℕ) (bs : List ℕ) → drop at source ≡ b ∷ bs → is_line_end b ≡ true → at + n ≤ length source → include_len bs + 1 ≡ n → IsPassed source at n
+line_passed source at n b bs split ends within size ts rest =
+    let next : drop (at + 1) source ≡ bs = sym (drop-drop 1 at source) ∙ ap (drop 1) split in
+    let i = include_len bs in
+    let len : include_len (drop (at + 1) source) ≡ i = ap include_len next in
+    let place : at + n ≡ at + 1 + i = omega arith in
+    let ended : is_line_end (slice_index source at) ≡ true = ap is_line_end (first_is source at b bs split) ∙ ends in
+    let back : at + 1 - 1 ≡ at = omega arith in
+    let start : IsLineStart source (at + 1) = inr (omega arith, ap (λ j. is_line_end (slice_index source j)) back ∙ ended) in
+    let behind : Holds source (at + 1) ts = include_passed source (at + 1) i start (omega arith) len ts (subst (λ (j : ℕ). Holds source j ts) place rest) in
+    blank_passed source at (omega arith) (or_left (is_line_end (slice_index source at)) (is_inner_blank (slice_index source at)) ended) ts behind
+
+gap_passed_of : (s : Start) (source : List ℕ) (at n b : ℕ) (bs : List ℕ) → drop at source ≡ b ∷ bs → start_of b ≡ s → at + n ≤ length source → 0 < n → item_of s at (b ∷ bs) ≡ Ok (Gap n) → IsPassed source at n
+unfolding item_of
+gap_passed_of start.LineEnd source at n b bs split is within some e = line_passed source at n b bs split (start_line b is) within (gap_is (include_len bs + 1) n e)
+gap_passed_of start.Blank source at n b bs split is within some e =
+    let size = gap_is 1 n e in
+    let blank : is_inner_blank (slice_index source at) ≡ true = ap is_inner_blank (first_is source at b bs split) ∙ start_blank b is in
+    λ ts rest. blank_passed source at (omega arith) (or_right (is_line_end (slice_index source at)) (is_inner_blank (slice_index source at)) blank) ts (subst (λ (k : ℕ). Holds source (at + k) ts) (sym size) rest)
+gap_passed_of start.Letter source at n b bs split is within some e = absurd (word_no_gap at (b ∷ bs) n e)
+gap_passed_of start.Digit source at n b bs split is within some e = absurd (number_no_gap at (b ∷ bs) n e)
+gap_passed_of start.Quote source at n b bs split is within some e = absurd (char_no_gap at bs n e)
+gap_passed_of start.DoubleQuote source at n b bs split is within some e = absurd (text_no_gap at bs n e)
+gap_passed_of start.Hash source at n b bs split is within some e = absurd cc
+gap_passed_of start.Slash source at n b bs split is within some e = slash_passed source at n within some (ap (slash_at at) split ∙ e)
+gap_passed_of start.Other source at n b bs split is within some e = absurd (punct_no_gap at (punct_at (b ∷ bs)) n e)
+
+gap_passed : (source : List ℕ) (at n : ℕ) (text : List ℕ) → drop at source ≡ text → 0 < length text → at + n ≤ length source → 0 < n → item_at at text ≡ Ok (Gap n) → IsPassed source at n
+gap_passed source at n [] split some within pos e = absurd (omega arith)
+gap_passed source at n (b ∷ bs) split some within pos e = gap_passed_of (start_of b) source at n b bs split refl within pos e
+
+-- ---- tokens
+
+token_stands : (source : List ℕ) (at n : ℕ) (k : TokenKind) → 0 < n → at + n ≤ length source → IsLongest (drop at source) n k → Stands source (record { kind = k; at = at; end = at + n })
+token_stands source at n k some within h = record {
+  some = omega arith;
+  within = within;
+  token = subst (λ (t : List ℕ). IsToken t) (sym (range_is source at n)) h.token;
+  spells = subst (λ (t : List ℕ). Spells t k) (sym (range_is source at n)) h.spells;
+  longest = λ end more fits is. h.longest (end - at) (omega arith) (omega (arith, length-drop at source)) is;
+}
+
+-- ---- all of a source
+
+behind_ok : (t : Token) (o : Result (List Token) LexFault) (ts : List Token) → behind (t ∷ []) o ≡ Ok ts → (us : List Token) × (o ≡ Ok us) × (t ∷ us ≡ ts)
+behind_ok t (Ok us) ts e = (us, refl, cc)
+behind_ok t (Err f) ts e = absurd cc
+
+-- what is behind the next item
+abbrev Next : List ℕ → ℕ → ℕ → Type 0
+Next source at fuel = (count place : ℕ) (ts : List Token) → at < place → place ≤ length source → tokens_from count place 0 (drop place source) ≡ Ok ts → Holds source place ts
+
+by_item : (source : List ℕ) (count at fuel : ℕ) (ts : List Token) (r : Result Item LexFault) → at < length source → Next source at fuel → counted count at (item_at at (drop at source)) ≡ r → tokens_from count at 0 (drop at source) ≡ Ok ts → Holds source at ts
+by_item source count at fuel ts (Err f) less next is e =
+    let some : 0 < length (drop at source) = omega (arith, length-drop at source) in
+    let stop = stops count at (drop at source) f is some in
+    absurd cc
+by_item source count at fuel ts (Ok (Gap n)) less next is e =
+    let text = drop at source in
+    let some : 0 < length text = omega (arith, length-drop at source) in
+    let item = counted_ok count at (item_at at text) (Gap n) is in
+    let fits = item_fits at text (Gap n) some item in
+    let within : at + n ≤ length source = omega (arith, length-drop at source, fits.1) in
+    let more : drop n text ≡ drop (at + n) source = drop-drop n at source in
+    let there : tokens_from count (at + n) 0 (drop (at + n) source) ≡ Ok ts = ap (tokens_from count (at + n) 0) (sym more) ∙ sym (step count at text (Gap n) is fits.0 some) ∙ e in
+    gap_passed source at n text refl some within fits.0 item ts (next count (at + n) ts (omega (arith, fits.0)) within there)
+by_item source count at fuel ts (Ok (Piece k n)) less next is e =
+    let text = drop at source in
+    let some : 0 < length text = omega (arith, length-drop at source) in
+    let item = counted_ok count at (item_at at text) (Piece k n) is in
+    let fits = item_fits at text (Piece k n) some item in
+    let within : at + n ≤ length source = omega (arith, length-drop at source, fits.1) in
+    let more : drop n text ≡ drop (at + n) source = drop-drop n at source in
+    let t : Token = record { kind = k; at = at; end = at + n } in
+    let split = behind_ok t (tokens_from (count + 1) (at + n) 0 (drop n text)) ts (sym (step count at text (Piece k n) is fits.0 some) ∙ e) in
+    let there : tokens_from (count + 1) (at + n) 0 (drop (at + n) source) ≡ Ok split.0 = ap (tokens_from (count + 1) (at + n) 0) (sym more) ∙ split.1 in
+    let rest = next (count + 1) (at + n) split.0 (omega (arith, fits.0)) within there in
+    subst (λ (us : List Token). Holds source at us) split.2 (token t split.0 (token_stands source at n k fits.0 within (item_longest at text n k some item)) rest)
+
+holds_from : (fuel : ℕ) (source : List ℕ) (count at : ℕ) (ts : List Token) → length source ≤ at + fuel → at ≤ length source → tokens_from count at 0 (drop at source) ≡ Ok ts → Holds source at ts
+holds_from zero source count at ts enough within e =
+    let none : drop at source ≡ [] = drop_all at source (omega arith) in
+    let made : Ok [] ≡ Ok ts = ap (tokens_from count at 0) (sym none) ∙ e in
+    let empty : [] ≡ ts = cc in
+    subst (λ (us : List Token). Holds source at us) empty (done at (omega arith))
+holds_from (suc fuel) source count at ts enough within e =
+    elim (cases_lt at (length source)) [
+      | inl less ↦ by_item source count at fuel ts (counted count at (item_at at (drop at source))) less (λ c place us later fits f. holds_from fuel source c place us (omega arith) fits f) refl e
+      | inr over ↦
+          let none : drop at source ≡ [] = drop_all at source over in
+          let made : Ok [] ≡ Ok ts = ap (tokens_from count at 0) (sym none) ∙ e in
+          let empty : [] ≡ ts = cc in
+          subst (λ (us : List Token). Holds source at us) empty (done at (omega arith))
+    ]
+
+pub tokens_are_longest : TokensAreLongest
+unfolding lexed
+tokens_are_longest source ts e =
+    let i = include_len source in
+    elim (chosen (ltb 1048576 (length source)) (Err (fault.LongSource 1048576)) (tokens_from 0 0 i source) (Ok ts) e) [
+      | inl (_, f) ↦ absurd cc
+      | inr (_, f) ↦
+          let within : i ≤ length source = include_within source in
+          let there : tokens_from 0 (0 + i) 0 (drop (0 + i) source) ≡ Ok ts = ap (λ j. tokens_from 0 (0 + i) 0 (drop j source)) (zero-add i) ∙ sym (skipped 0 0 i source) ∙ f in
+          include_passed source 0 i (inl refl) (omega arith) refl ts (holds_from (length source) source 0 (0 + i) ts (omega arith) (omega arith) there)
+    ]

@@ -1,0 +1,15 @@
+//! Laws of the definition: each function has one as its contract, and does nothing.
+ghost use Rattle.c_lex.specs.Grammar.{TokensAreLongest};
+ghost use Rattle.c_lex.specs.Written.{TokensAreReadAgain};
+
+/// Each token of a source is the longest run from its start that is a token, and only blanks, comments and include
+/// lines stand between tokens (ISO 9899:2011, 6.4).
+pub fn tokens_are_longest()
+    ensures { TokensAreLongest }
+{}
+
+/// The tokens of a source say all of it but what stands between them: written again, with a space behind each, they
+/// give the same tokens, where that text is not too long.
+pub fn tokens_are_read_again()
+    ensures { TokensAreReadAgain }
+{}
