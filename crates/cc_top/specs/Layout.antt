@@ -2,7 +2,8 @@
 use Rattle.std.specs.Prelude.{ℕ, ◌+◌, ◌-◌, ◌*◌, ◌/◌, ◌^◌, List, [], ◌∷◌, ◌++◌, length, replicate}
 use Rattle.std.specs.List.{flat_map}
 use Rattle.elf_file.specs.Image.{Parts, text_at, next_page, stack_size}
-use Rattle.elf_file.specs.Written.{word, file_of}
+use Rattle.elf_file.specs.Header.{word}
+use Rattle.elf_file.specs.Written.{file_of}
 use Rattle.rv_isa.specs.Words.{word_of}
 use Rattle.rv_isa.specs.declared.instruction.Instr.{Instr}
 use Rattle.rv_isa.specs.declared.instruction.Instr.TheVariants.{Lui, Jalr, Beq, Lbu, Sb, Addi, Add, Ecall}
