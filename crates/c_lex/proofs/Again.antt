@@ -14,7 +14,7 @@ use Rattle.c_lex.specs.Keywords.{keyword_of, keyword_spelling}
 use Rattle.c_lex.specs.Numbers.{constant_at, digits_at, typed, suffix}
 use Rattle.c_lex.specs.Items.{item_at, item_of, item_len, start_of}
 use Rattle.c_lex.specs.Tokens.{tokens_from, counted, behind, item_then, lexed}
-use Rattle.c_lex.specs.Grammar.{IsWord, Spells, Stands, Holds, done, gap, token}
+use Rattle.c_lex.specs.Grammar.{IsWord, Spells, Stands, Reads, done, gap, token}
 use Rattle.c_lex.specs.Written.{written, written_all, kinds, TokensAreReadAgain}
 use Rattle.c_lex.specs.declared.fault.LexFault.{LexFault}
 use Rattle.c_lex.specs.declared.fault.LexFault.TheVariants as fault
@@ -102,10 +102,10 @@ abbrev AllProper : List TokenKind → Type 0
 AllProper [] = Unit {0}
 AllProper (k ∷ ks) = IsProper k × AllProper ks
 
-all_proper : (source : List ℕ) (at : ℕ) (ts : List Token) → Holds source at ts → AllProper (kinds ts)
-all_proper source at _ (done _ e) = tt
-all_proper source at ts (gap _ end _ less within g rest) = all_proper source end ts rest
-all_proper source _ _ (token t ts stands rest) = (proper_of _ t.kind stands.spells, all_proper source t.end ts rest)
+all_proper : (source : List ℕ) (to at : ℕ) (ts : List Token) → Reads source to at ts → AllProper (kinds ts)
+all_proper source to at _ (done _ e) = tt
+all_proper source to at ts (gap _ end _ less within g rest) = all_proper source to end ts rest
+all_proper source to _ _ (token t ts stands rest) = (proper_of _ t.kind stands.spells, all_proper source to t.end ts rest)
 
 -- ---- how many there are
 
@@ -263,7 +263,7 @@ pub tokens_are_read_again : TokensAreReadAgain
 unfolding lexed
 tokens_are_read_again source ts e short =
     let ks = kinds ts in
-    let proper = all_proper source 0 ts (tokens_are_longest source ts e) in
+    let proper = all_proper source (length source) 0 ts (tokens_are_longest source ts e) in
     let few : 0 + length ks ≤ 200000 = omega (arith, few_tokens source ts e, length-map ts (λ (t : Token). t.kind)) in
     let text = written_all ks in
     let fits : ltb 1048576 (length text) ≡ false = le-ltb 1048576 (length text) short in (

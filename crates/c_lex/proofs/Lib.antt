@@ -10,3 +10,4 @@ pub mod GapLaws
 pub mod Whole
 pub mod Reading
 pub mod Again
+pub mod FaultLaws

@@ -16,6 +16,7 @@ use Rattle.c_lex.specs.Digits.{is_digit_in, digits_value}
 use Rattle.c_lex.specs.Texts.{closing_from, characters, only, char_at, text_at}
 use Rattle.c_lex.specs.Items.{item_at, item_of, item_len, start_of, word_at, word_kind_of, slash_at, punct_item}
 use Rattle.c_lex.specs.Gaps.{comment_at, comment_end, line_comment}
+use Rattle.c_lex.specs.Faults.{IsLongest}
 use Rattle.c_lex.specs.Grammar.{IsWord, IsNumber, IsClosed, IsQuoted, IsPunctuator, IsToken, Spells}
 use Rattle.c_lex.specs.declared.fault.LexFault.{LexFault}
 use Rattle.c_lex.specs.declared.fault.LexFault.TheVariants as fault
@@ -31,12 +32,6 @@ use Rattle.c_lex.proofs.Lengths.{bind_ok, ok_or_ok, chosen, closing_within, foun
 use Rattle.c_lex.proofs.Tables.{is_mark, keyword_is, keyword_none, punct_begins, punct_longest, punct_first}
 use Rattle.c_lex.proofs.Sorts.{token_word, token_number, token_quoted, token_double, token_mark, run_all, run_most, run_first, closed_is, closed_found, closing_at}
 
--- the first n bytes of the text are a token of this kind, and no more of them are a token
-pub record IsLongest (text : List ℕ) (n : ℕ) (k : TokenKind) : Type 0 where
-  pub token : IsToken (take n text)
-  pub spells : Spells (take n text) k
-  pub longest : (m : ℕ) → n < m → m ≤ length text → IsToken (take m text) → ⊥
-
 piece_is : (k l : TokenKind) (n m : ℕ) → found (Piece k n) ≡ found (Piece l m) → (k ≡ l) × (n ≡ m)
 piece_is k l n m e = (cc, cc)
 
@@ -51,7 +46,7 @@ word_spells : (bytes : List ℕ) (o : Option Keyword) → keyword_of bytes ≡ o
 word_spells bytes None is word short = (word, refl, short, λ k. keyword_none bytes k is)
 word_spells bytes (Some k) is word short = keyword_is bytes k is
 
-word_longest_by : (b : ℕ) (bs : List ℕ) (m : ℕ) → is_letter b ≡ true → prefix_len is_word (b ∷ bs) < m → m ≤ length (b ∷ bs) → IsToken (take m (b ∷ bs)) → ⊥
+pub word_longest_by : (b : ℕ) (bs : List ℕ) (m : ℕ) → is_letter b ≡ true → prefix_len is_word (b ∷ bs) < m → m ≤ length (b ∷ bs) → IsToken (take m (b ∷ bs)) → ⊥
 word_longest_by b bs zero letter less within token = omega arith
 word_longest_by b bs (suc m) letter less within token =
     let word = token_word b (take m bs) letter token in
@@ -59,7 +54,7 @@ word_longest_by b bs (suc m) letter less within token =
     let size = run_first is_word b bs (letter_is_word b letter) in
     omega arith
 
-word_is : (b : ℕ) (bs : List ℕ) → is_letter b ≡ true → IsWord (take (prefix_len is_word (b ∷ bs)) (b ∷ bs))
+pub word_is : (b : ℕ) (bs : List ℕ) → is_letter b ≡ true → IsWord (take (prefix_len is_word (b ∷ bs)) (b ∷ bs))
 word_is b bs letter =
     let size = run_first is_word b bs (letter_is_word b letter) in
     subst (λ (n : ℕ). IsWord (take n (b ∷ bs))) (sym size) (letter, run_all is_word bs)
@@ -132,7 +127,7 @@ constant_number at run k e =
       ]
     ]
 
-number_longest_by : (b : ℕ) (bs : List ℕ) (m : ℕ) → is_digit b ≡ true → prefix_len is_number_byte (b ∷ bs) < m → m ≤ length (b ∷ bs) → IsToken (take m (b ∷ bs)) → ⊥
+pub number_longest_by : (b : ℕ) (bs : List ℕ) (m : ℕ) → is_digit b ≡ true → prefix_len is_number_byte (b ∷ bs) < m → m ≤ length (b ∷ bs) → IsToken (take m (b ∷ bs)) → ⊥
 number_longest_by b bs zero digit less within token = omega arith
 number_longest_by b bs (suc m) digit less within token =
     let number = token_number b (take m bs) digit token in
@@ -140,7 +135,7 @@ number_longest_by b bs (suc m) digit less within token =
     let size = run_first is_number_byte b bs (digit_goes_on b digit) in
     omega arith
 
-number_is : (b : ℕ) (bs : List ℕ) → is_digit b ≡ true → IsNumber (take (prefix_len is_number_byte (b ∷ bs)) (b ∷ bs))
+pub number_is : (b : ℕ) (bs : List ℕ) → is_digit b ≡ true → IsNumber (take (prefix_len is_number_byte (b ∷ bs)) (b ∷ bs))
 number_is b bs digit =
     let size = run_first is_number_byte b bs (digit_goes_on b digit) in
     subst (λ (n : ℕ). IsNumber (take n (b ∷ bs))) (sym size) (digit, run_all is_number_byte bs)
@@ -171,29 +166,29 @@ quoted_longest_by quote n bs (suc m) q10 q92 is less within closed =
     let n_is : n ≡ 0 + m = cc in
     omega arith
 
-quoted_is : (quote b m : ℕ) (bs : List ℕ) → b ≡ quote → closing_from quote false 0 bs ≡ Some m → IsQuoted quote (take (m + 2) (b ∷ bs))
+pub quoted_is : (quote b m : ℕ) (bs : List ℕ) → b ≡ quote → closing_from quote false 0 bs ≡ Some m → IsQuoted quote (take (m + 2) (b ∷ bs))
 quoted_is quote b m bs same is =
     let two : suc (suc m) ≡ m + 2 = omega arith in
     let place : m ≡ 0 + m = omega arith in
     subst (λ (i : ℕ). IsQuoted quote (take i (b ∷ bs))) two (same, closed_is quote 0 m bs (is ∙ ap Some place))
 
-quoted_bytes : (quote b m : ℕ) (bs : List ℕ) → b ≡ quote → closing_from quote false 0 bs ≡ Some m → take (m + 2) (b ∷ bs) ≡ quote ∷ (take m bs ++ quote ∷ [])
+pub quoted_bytes : (quote b m : ℕ) (bs : List ℕ) → b ≡ quote → closing_from quote false 0 bs ≡ Some m → take (m + 2) (b ∷ bs) ≡ quote ∷ (take m bs ++ quote ∷ [])
 quoted_bytes quote b m bs same is =
     let two : m + 2 ≡ suc (suc m) = omega arith in
     let place : m ≡ 0 + m = omega arith in
     ap (λ i. take i (b ∷ bs)) two ∙ ap (λ (t : List ℕ). b ∷ t) (closing_at quote 0 m false bs (is ∙ ap Some place)) ∙ ap (λ x. x ∷ (take m bs ++ quote ∷ [])) same
 
-only_is : (o : Option (List ℕ)) (c : ℕ) → option_and_then only o ≡ Some c → o ≡ Some (c ∷ [])
+pub only_is : (o : Option (List ℕ)) (c : ℕ) → option_and_then only o ≡ Some c → o ≡ Some (c ∷ [])
 only_is None c f = absurd cc
 only_is (Some []) c f = absurd cc
 only_is (Some (d ∷ [])) c f = let same : d ≡ c = cc in ap (λ x. Some (x ∷ [])) same
 only_is (Some (d ∷ x ∷ xs)) c f = absurd cc
 
-char_longest_by : (b m : ℕ) (bs : List ℕ) (i : ℕ) → b ≡ 39 → closing_from 39 false 0 bs ≡ Some m → m + 2 < i → i ≤ length (b ∷ bs) → IsToken (take i (b ∷ bs)) → ⊥
+pub char_longest_by : (b m : ℕ) (bs : List ℕ) (i : ℕ) → b ≡ 39 → closing_from 39 false 0 bs ≡ Some m → m + 2 < i → i ≤ length (b ∷ bs) → IsToken (take i (b ∷ bs)) → ⊥
 char_longest_by b m bs zero same is less within token = omega arith
 char_longest_by b m bs (suc i) same is less within token = quoted_longest_by 39 m bs i (λ q. omega arith) (λ q. omega arith) is less (omega arith) (token_quoted b (take i bs) same token)
 
-text_longest_by : (b m : ℕ) (bs : List ℕ) (i : ℕ) → b ≡ 34 → closing_from 34 false 0 bs ≡ Some m → m + 2 < i → i ≤ length (b ∷ bs) → IsToken (take i (b ∷ bs)) → ⊥
+pub text_longest_by : (b m : ℕ) (bs : List ℕ) (i : ℕ) → b ≡ 34 → closing_from 34 false 0 bs ≡ Some m → m + 2 < i → i ≤ length (b ∷ bs) → IsToken (take i (b ∷ bs)) → ⊥
 text_longest_by b m bs zero same is less within token = omega arith
 text_longest_by b m bs (suc i) same is less within token = quoted_longest_by 34 m bs i (λ q. omega arith) (λ q. omega arith) is less (omega arith) (token_double b (take i bs) same token)
 
@@ -291,7 +286,7 @@ double_by false false false false false false true _ e = absurd cc
 double_by false false false false false false false true e = absurd cc
 double_by false false false false false false false false e = absurd cc
 
-same_byte : (x y : ℕ) → eqb x y ≡ true → x ≡ y
+pub same_byte : (x y : ℕ) → eqb x y ≡ true → x ≡ y
 same_byte x y e = grind (arith, nat_tests)
 
 pub start_quote : (b : ℕ) → start_of b ≡ start.Quote → b ≡ 39

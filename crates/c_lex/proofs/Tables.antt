@@ -286,6 +286,12 @@ pub punct_longest : (text : List ℕ) (p q : Punct) → punct_at text ≡ Some p
 punct_longest text p q e begins =
     longest_of (λ r. starts_with nat_eq text (punct_spelling r)) all_puncts (punct_place q) p q puncts_fall e (punct_stands q) ((bytes_eq-Decides (punct_spelling q) (take (length (punct_spelling q)) text)).1 (sym begins))
 
+pub punct_none : (text : List ℕ) (q : Punct) → punct_at text ≡ None → take (length (punct_spelling q)) text ≡ punct_spelling q → ⊥
+punct_none text q e begins =
+    let fails = none_passes (λ r. starts_with nat_eq text (punct_spelling r)) all_puncts (punct_place q) q e (punct_stands q) in
+    let passes = (bytes_eq-Decides (punct_spelling q) (take (length (punct_spelling q)) text)).1 (sym begins) in
+    cc
+
 -- ---- the first byte of a punctuator
 
 -- begins no name, no number and no quoted text

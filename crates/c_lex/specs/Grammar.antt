@@ -108,14 +108,14 @@ IsGap source at end =
     ⊎ IsLineComment (slice_range source at end) (drop end source)
     ⊎ (IsLineStart source at × IsIncludeLine (slice_range source at end) (drop end source))
 
--- From a place on the source is these tokens, with gaps between them.
-pub data Holds (source : List ℕ) : ℕ → List Token → Type 0 where
-  done : (at : ℕ) → at ≡ length source → Holds source at []
-  gap : (at end : ℕ) (ts : List Token) → at < end → end ≤ length source → IsGap source at end → Holds source end ts → Holds source at ts
-  token : (t : Token) (ts : List Token) → Stands source t → Holds source t.end ts → Holds source t.at (t ∷ ts)
+-- From one place up to another the source is these tokens, with gaps between them.
+pub data Reads (source : List ℕ) (to : ℕ) : ℕ → List Token → Type 0 where
+  done : (at : ℕ) → at ≡ to → Reads source to at []
+  gap : (at end : ℕ) (ts : List Token) → at < end → end ≤ length source → IsGap source at end → Reads source to end ts → Reads source to at ts
+  token : (t : Token) (ts : List Token) → Stands source t → Reads source to t.end ts → Reads source to t.at (t ∷ ts)
 
 -- ---- the law
 
--- The tokens that the definition gives stand so in the source.
+-- The tokens that the definition gives stand so in the source, and there is nothing else in it.
 abbrev pub TokensAreLongest : Type 0
-TokensAreLongest = (source : List ℕ) (ts : List Token) → lexed source ≡ Ok ts → Holds source 0 ts
+TokensAreLongest = (source : List ℕ) (ts : List Token) → lexed source ≡ Ok ts → Reads source (length source) 0 ts

@@ -1,4 +1,5 @@
 //! Laws of the definition: each function has one as its contract, and does nothing.
+ghost use Rattle.c_lex.specs.Faults.{FaultsAreFirst};
 ghost use Rattle.c_lex.specs.Grammar.{TokensAreLongest};
 ghost use Rattle.c_lex.specs.Written.{TokensAreReadAgain};
 
@@ -6,6 +7,12 @@ ghost use Rattle.c_lex.specs.Written.{TokensAreReadAgain};
 /// lines stand between tokens (ISO 9899:2011, 6.4).
 pub fn tokens_are_longest()
     ensures { TokensAreLongest }
+{}
+
+/// A fault comes where a source is too long, or up to its place the source is tokens and gaps, and what its name says
+/// stands there.
+pub fn faults_are_first()
+    ensures { FaultsAreFirst }
 {}
 
 /// The tokens of a source say all of it but what stands between them: written again, with a space behind each, they
