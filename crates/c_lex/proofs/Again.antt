@@ -29,12 +29,12 @@ use Rattle.c_lex.specs.declared.token.TokenKind.TheVariants as kind
 use Rattle.c_lex.proofs.Lengths.{bind_ok, ok_or_ok, chosen, found, item_fits, include_within}
 use Rattle.c_lex.proofs.Driver.{step, stops, skipped, counted_ok}
 use Rattle.c_lex.proofs.Tables.{keyword_is}
-use Rattle.c_lex.proofs.Whole.{tokens_are_longest}
+use Rattle.c_lex.proofs.Whole.{lexed_reads}
 use Rattle.c_lex.proofs.Reading.{IsProper, IsRead, kind_read}
 
 -- ---- what the tokens are
 
-no_keyword : (bytes : List ℕ) (o : Option Keyword) → keyword_of bytes ≡ o → ((k : Keyword) → keyword_spelling k ≡ bytes → ⊥) → o ≡ None
+pub no_keyword : (bytes : List ℕ) (o : Option Keyword) → keyword_of bytes ≡ o → ((k : Keyword) → keyword_spelling k ≡ bytes → ⊥) → o ≡ None
 no_keyword bytes None is none = refl
 no_keyword bytes (Some k) is none = absurd (none k (keyword_is bytes k is))
 
@@ -168,7 +168,7 @@ counts_from (suc fuel) source count at ts enough within low e =
           empty_counts count ts low (ap (tokens_from count at 0) (sym none) ∙ e)
     ]
 
-few_tokens : (source : List ℕ) (ts : List Token) → lexed source ≡ Ok ts → length ts ≤ 200000
+pub few_tokens : (source : List ℕ) (ts : List Token) → lexed source ≡ Ok ts → length ts ≤ 200000
 unfolding lexed
 few_tokens source ts e =
     let i = include_len source in
@@ -229,7 +229,7 @@ hash_item : (at : ℕ) (bs : List ℕ) (k : TokenKind) (n : ℕ) → item_at at 
 unfolding item_of start_of
 hash_item at bs k n e = cc
 
-include_none : (b : ℕ) (bs : List ℕ) → is_inner_blank b ≡ false → eqb 35 b ≡ false → include_len (b ∷ bs) ≡ 0
+pub include_none : (b : ℕ) (bs : List ℕ) → is_inner_blank b ≡ false → eqb 35 b ≡ false → include_len (b ∷ bs) ≡ 0
 unfolding past_include
 include_none b bs blank hash =
     let line : List ℕ = b ∷ bs in
@@ -263,7 +263,7 @@ pub tokens_are_read_again : TokensAreReadAgain
 unfolding lexed
 tokens_are_read_again source ts e short =
     let ks = kinds ts in
-    let proper = all_proper source (length source) 0 ts (tokens_are_longest source ts e) in
+    let proper = all_proper source (length source) 0 ts (lexed_reads source ts e) in
     let few : 0 + length ks ≤ 200000 = omega (arith, few_tokens source ts e, length-map ts (λ (t : Token). t.kind)) in
     let text = written_all ks in
     let fits : ltb 1048576 (length text) ≡ false = le-ltb 1048576 (length text) short in (

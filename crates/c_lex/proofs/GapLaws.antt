@@ -149,7 +149,7 @@ comment_low at (b ∷ bs) n e =
       | inr (_, f) ↦ omega (arith, comment_low (at + 1) bs n f)
     ]
 
-abbrev closes : List ℕ → Bool
+abbrev pub closes : List ℕ → Bool
 closes text = starts_with nat_eq text (codes "*/")
 
 -- the first `*/` ends where it was found
@@ -180,7 +180,7 @@ comment_first at k (b ∷ bs) e =
       | inr (fails, f) ↦ first_later at k b bs fails (λ j g. comment_first (at + 1) j bs g) f
     ]
 
-closes_front : (xs ys : List ℕ) → 2 ≤ length xs → closes (xs ++ ys) ≡ closes xs
+pub closes_front : (xs ys : List ℕ) → 2 ≤ length xs → closes (xs ++ ys) ≡ closes xs
 closes_front xs ys long = ap (λ (t : List ℕ). pointwise nat_eq (codes "*/") t) (take-append-le 2 xs ys long)
 
 block_by : (text : List ℕ) (n k : ℕ) → starts_with nat_eq text (codes "/*") ≡ true → k + 4 ≡ n → IsFirstEnd k (drop 2 text) → IsBlockComment (take n text)

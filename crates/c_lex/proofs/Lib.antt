@@ -11,3 +11,5 @@ pub mod Whole
 pub mod Reading
 pub mod Again
 pub mod FaultLaws
+pub mod Complete
+pub mod Converse

@@ -17,7 +17,7 @@ use Rattle.c_lex.specs.Texts.{closing_from, characters, only, char_at, text_at}
 use Rattle.c_lex.specs.Items.{item_at, item_of, item_len, start_of, word_at, word_kind_of, slash_at, punct_item}
 use Rattle.c_lex.specs.Gaps.{comment_at, comment_end, line_comment}
 use Rattle.c_lex.specs.Faults.{IsLongest}
-use Rattle.c_lex.specs.Grammar.{IsWord, IsNumber, IsClosed, IsQuoted, IsPunctuator, IsToken, Spells}
+use Rattle.c_lex.specs.Grammar.{IsWord, IsNumber, IsClosed, IsQuoted, IsPunctuator, IsToken, Spells, begins_comment}
 use Rattle.c_lex.specs.declared.fault.LexFault.{LexFault}
 use Rattle.c_lex.specs.declared.fault.LexFault.TheVariants as fault
 use Rattle.c_lex.specs.declared.item.Item.{Item}
@@ -31,6 +31,17 @@ use Rattle.c_lex.specs.declared.token.TokenKind.TheVariants as kind
 use Rattle.c_lex.proofs.Lengths.{bind_ok, ok_or_ok, chosen, closing_within, found, start_letter, start_digit, letter_is_word, digit_goes_on, run_some, punct_some, start_by}
 use Rattle.c_lex.proofs.Tables.{is_mark, keyword_is, keyword_none, punct_begins, punct_longest, punct_first}
 use Rattle.c_lex.proofs.Sorts.{token_word, token_number, token_quoted, token_double, token_mark, run_all, run_most, run_first, closed_is, closed_found, closing_at}
+
+-- ---- where no comment begins
+
+pub no_slash : (b : ℕ) (bs : List ℕ) → (b ≡ 47 → ⊥) → begins_comment (b ∷ bs) ≡ false
+no_slash b bs h = let e : eqb 47 b ≡ false = grind (arith, nat_tests) in rw e refl
+
+letter_no_slash : (b : ℕ) → is_letter b ≡ true → b ≡ 47 → ⊥
+letter_no_slash b m e = let f = ap is_letter (sym e) ∙ m in cc
+
+digit_no_slash : (b : ℕ) → is_digit b ≡ true → b ≡ 47 → ⊥
+digit_no_slash b m e = let f = ap is_digit (sym e) ∙ m in cc
 
 piece_is : (k l : TokenKind) (n m : ℕ) → found (Piece k n) ≡ found (Piece l m) → (k ≡ l) × (n ≡ m)
 piece_is k l n m e = (cc, cc)
@@ -72,6 +83,7 @@ word_longest at b bs n k letter e =
       | inr (short, f) ↦
           let size : m ≤ 63 = ltb-false 63 m short in
           longest_at text m n j k (record {
+            no_comment = no_slash b bs (letter_no_slash b letter);
             token = inl word;
             spells = word_spells bytes (keyword_of bytes) refl word (omega (arith, length-take m text));
             longest = λ i. word_longest_by b bs i letter;
@@ -80,18 +92,18 @@ word_longest at b bs n k letter e =
 
 -- ---- numbers
 
-typed_number : (base at value : ℕ) (unsigned : Bool) (k : TokenKind) → typed base at value unsigned ≡ Ok k → (v : ℕ) × (u : Bool) × (k ≡ kind.Number v u) × (typed base 0 value unsigned ≡ Ok (kind.Number v u))
-typed_number base at value unsigned k e =
+typed_number : (base at to value : ℕ) (unsigned : Bool) (k : TokenKind) → typed base at value unsigned ≡ Ok k → (v : ℕ) × (u : Bool) × (k ≡ kind.Number v u) × (typed base to value unsigned ≡ Ok (kind.Number v u))
+typed_number base at to value unsigned k e =
     let wide = ltb 4294967295 value || (eqb base 10 && not unsigned && ltb 2147483647 value) in
     let made : TokenKind = kind.Number value (unsigned || ltb 2147483647 value) in
     elim (chosen wide (Err (fault.TooWide at)) (Ok made) (Ok k) e) [
       | inl (_, f) ↦ absurd cc
-      | inr (fits, f) ↦ (value, unsigned || ltb 2147483647 value, cc, ap (λ b. cond b (Err (fault.TooWide 0)) (Ok made)) fits)
+      | inr (fits, f) ↦ (value, unsigned || ltb 2147483647 value, cc, ap (λ b. cond b (Err (fault.TooWide to)) (Ok made)) fits)
     ]
 
-digits_number : (base at : ℕ) (text : List ℕ) (k : TokenKind) → digits_at base at text ≡ Ok k → (v : ℕ) × (u : Bool) × (k ≡ kind.Number v u) × (digits_at base 0 text ≡ Ok (kind.Number v u))
+digits_number : (base at to : ℕ) (text : List ℕ) (k : TokenKind) → digits_at base at text ≡ Ok k → (v : ℕ) × (u : Bool) × (k ≡ kind.Number v u) × (digits_at base to text ≡ Ok (kind.Number v u))
 unfolding digits_at
-digits_number base at text k e =
+digits_number base at to text k e =
     let n = prefix_len (is_digit_in base) text in
     let value = digits_value base (take n text) in
     elim (chosen (eqb n 0) (Err (fault.BadNumber at)) (ok_or (suffix (drop n text)) (fault.BadNumber at) >>= λ u. typed base at value u) (Ok k) e) [
@@ -99,31 +111,31 @@ digits_number base at text k e =
       | inr (some, f) ↦
           let u = bind_ok (ok_or (suffix (drop n text)) (fault.BadNumber at)) (λ u. typed base at value u) k f in
           let is = ok_or_ok (suffix (drop n text)) (fault.BadNumber at) u.0 u.1 in
-          let made = typed_number base at value u.0 k u.2 in (
+          let made = typed_number base at to value u.0 k u.2 in (
             made.0,
             made.1,
             made.2,
-            ap (λ b. cond b (Err (fault.BadNumber 0)) (ok_or (suffix (drop n text)) (fault.BadNumber 0) >>= λ w. typed base 0 value w)) some
-                ∙ ap (λ o. ok_or o (fault.BadNumber 0) >>= λ w. typed base 0 value w) is ∙ made.3,
+            ap (λ b. cond b (Err (fault.BadNumber to)) (ok_or (suffix (drop n text)) (fault.BadNumber to) >>= λ w. typed base to value w)) some
+                ∙ ap (λ o. ok_or o (fault.BadNumber to) >>= λ w. typed base to value w) is ∙ made.3,
           )
     ]
 
-pub constant_number : (at : ℕ) (run : List ℕ) (k : TokenKind) → constant_at at run ≡ Ok k → (v : ℕ) × (u : Bool) × (k ≡ kind.Number v u) × (constant_at 0 run ≡ Ok (kind.Number v u))
+pub constant_number : (at to : ℕ) (run : List ℕ) (k : TokenKind) → constant_at at run ≡ Ok k → (v : ℕ) × (u : Bool) × (k ≡ kind.Number v u) × (constant_at to run ≡ Ok (kind.Number v u))
 unfolding constant_at
-constant_number at run k e =
+constant_number at to run k e =
     let hex = starts_with nat_eq run (codes "0x") || starts_with nat_eq run (codes "0X") in
     let octal = starts_with nat_eq run (codes "0") in
     elim (chosen hex (digits_at 16 at (drop 2 run)) (cond octal (digits_at 8 at run) (digits_at 10 at run)) (Ok k) e) [
       | inl (is, f) ↦
-          let made = digits_number 16 at (drop 2 run) k f in
-          (made.0, made.1, made.2, ap (λ b. cond b (digits_at 16 0 (drop 2 run)) (cond octal (digits_at 8 0 run) (digits_at 10 0 run))) is ∙ made.3)
+          let made = digits_number 16 at to (drop 2 run) k f in
+          (made.0, made.1, made.2, ap (λ b. cond b (digits_at 16 to (drop 2 run)) (cond octal (digits_at 8 to run) (digits_at 10 to run))) is ∙ made.3)
       | inr (is, f) ↦ elim (chosen octal (digits_at 8 at run) (digits_at 10 at run) (Ok k) f) [
         | inl (zero_first, g) ↦
-            let made = digits_number 8 at run k g in
-            (made.0, made.1, made.2, ap (λ b. cond b (digits_at 16 0 (drop 2 run)) (cond octal (digits_at 8 0 run) (digits_at 10 0 run))) is ∙ ap (λ b. cond b (digits_at 8 0 run) (digits_at 10 0 run)) zero_first ∙ made.3)
+            let made = digits_number 8 at to run k g in
+            (made.0, made.1, made.2, ap (λ b. cond b (digits_at 16 to (drop 2 run)) (cond octal (digits_at 8 to run) (digits_at 10 to run))) is ∙ ap (λ b. cond b (digits_at 8 to run) (digits_at 10 to run)) zero_first ∙ made.3)
         | inr (zero_first, g) ↦
-            let made = digits_number 10 at run k g in
-            (made.0, made.1, made.2, ap (λ b. cond b (digits_at 16 0 (drop 2 run)) (cond octal (digits_at 8 0 run) (digits_at 10 0 run))) is ∙ ap (λ b. cond b (digits_at 8 0 run) (digits_at 10 0 run)) zero_first ∙ made.3)
+            let made = digits_number 10 at to run k g in
+            (made.0, made.1, made.2, ap (λ b. cond b (digits_at 16 to (drop 2 run)) (cond octal (digits_at 8 to run) (digits_at 10 to run))) is ∙ ap (λ b. cond b (digits_at 8 to run) (digits_at 10 to run)) zero_first ∙ made.3)
       ]
     ]
 
@@ -146,9 +158,10 @@ number_longest at b bs n k digit e =
     let text = b ∷ bs in
     let m = prefix_len is_number_byte text in
     let made = bind_ok (constant_at at (take m text)) (λ j. Ok (Piece j m)) (Piece k n) e in
-    let number = constant_number at (take m text) made.0 made.1 in
+    let number = constant_number at 0 (take m text) made.0 made.1 in
     let is = number_is b bs digit in
     longest_at text m n made.0 k (record {
+      no_comment = no_slash b bs (digit_no_slash b digit);
       token = inr (inl is);
       spells = subst (λ (j : TokenKind). Spells (take m text) j) (sym number.2) (is, number.3);
       longest = λ i. number_longest_by b bs i digit;
@@ -194,6 +207,7 @@ text_longest_by b m bs (suc i) same is less within token = quoted_longest_by 34 
 
 char_spells : (b m c : ℕ) (bs : List ℕ) → b ≡ 39 → closing_from 39 false 0 bs ≡ Some m → characters 0 (take m bs) ≡ Some (c ∷ []) → IsLongest (b ∷ bs) (m + 2) (kind.Char c)
 char_spells b m c bs same is one = record {
+  no_comment = no_slash b bs (λ e. omega (arith, e, same));
   token = inr (inr (inl (quoted_is 39 b m bs same is)));
   spells = (take m bs, quoted_bytes 39 b m bs same is, one);
   longest = λ i. char_longest_by b m bs i same is;
@@ -201,6 +215,7 @@ char_spells b m c bs same is one = record {
 
 text_spells : (b m : ℕ) (cs bs : List ℕ) → b ≡ 34 → closing_from 34 false 0 bs ≡ Some m → characters 0 (take m bs) ≡ Some cs → IsLongest (b ∷ bs) (m + 2) (kind.Text cs)
 text_spells b m cs bs same is all = record {
+  no_comment = no_slash b bs (λ e. omega (arith, e, same));
   token = inr (inr (inr (inl (quoted_is 34 b m bs same is))));
   spells = (take m bs, quoted_bytes 34 b m bs same is, all);
   longest = λ i. text_longest_by b m bs i same is;
@@ -247,18 +262,19 @@ punct_longest_by b bs p (suc i) is less within token =
     let begins : take (length (punct_spelling q.0)) (b ∷ bs) ≡ punct_spelling q.0 = ap (λ j. take j (b ∷ bs)) size ∙ sym q.1 in
     omega (arith, punct_longest (b ∷ bs) p q.0 is begins)
 
-punct_found : (at b : ℕ) (bs : List ℕ) (n : ℕ) (k : TokenKind) (o : Option Punct) → punct_at (b ∷ bs) ≡ o → punct_item at o ≡ Ok (Piece k n) → IsLongest (b ∷ bs) n k
-punct_found at b bs n k None is e = absurd cc
-punct_found at b bs n k (Some p) is e =
+punct_found : (at b : ℕ) (bs : List ℕ) (n : ℕ) (k : TokenKind) (o : Option Punct) → begins_comment (b ∷ bs) ≡ false → punct_at (b ∷ bs) ≡ o → punct_item at o ≡ Ok (Piece k n) → IsLongest (b ∷ bs) n k
+punct_found at b bs n k None no_comment is e = absurd cc
+punct_found at b bs n k (Some p) no_comment is e =
     let begins = punct_begins (b ∷ bs) p is in
     longest_at (b ∷ bs) (length (punct_spelling p)) n (kind.Punct p) k (record {
+      no_comment = no_comment;
       token = inr (inr (inr (inr (p, sym begins))));
       spells = sym begins;
       longest = λ i. punct_longest_by b bs p i is;
     }) e
 
-pub punct_is_longest : (at b : ℕ) (bs : List ℕ) (n : ℕ) (k : TokenKind) → punct_item at (punct_at (b ∷ bs)) ≡ Ok (Piece k n) → IsLongest (b ∷ bs) n k
-punct_is_longest at b bs n k e = punct_found at b bs n k (punct_at (b ∷ bs)) refl e
+pub punct_is_longest : (at b : ℕ) (bs : List ℕ) (n : ℕ) (k : TokenKind) → begins_comment (b ∷ bs) ≡ false → punct_item at (punct_at (b ∷ bs)) ≡ Ok (Piece k n) → IsLongest (b ∷ bs) n k
+punct_is_longest at b bs n k no_comment e = punct_found at b bs n k (punct_at (b ∷ bs)) no_comment refl e
 
 -- ---- every item
 
@@ -297,15 +313,33 @@ pub start_double : (b : ℕ) → start_of b ≡ start.DoubleQuote → b ≡ 34
 unfolding start_of start_by
 start_double b e = same_byte b 34 (double_by (is_line_end b) (is_inner_blank b) (is_letter b) (is_digit b) (eqb b 39) (eqb b 34) (eqb b 35) (eqb b 47) e)
 
+other_by : (line blank letter digit quote double hash slash : Bool) → start_by line blank letter digit quote double hash slash ≡ start.Other → slash ≡ false
+unfolding start_by
+other_by true _ _ _ _ _ _ _ e = absurd cc
+other_by false true _ _ _ _ _ _ e = absurd cc
+other_by false false true _ _ _ _ _ e = absurd cc
+other_by false false false true _ _ _ _ e = absurd cc
+other_by false false false false true _ _ _ e = absurd cc
+other_by false false false false false true _ _ e = absurd cc
+other_by false false false false false false true _ e = absurd cc
+other_by false false false false false false false true e = absurd cc
+other_by false false false false false false false false e = refl
+
+start_no_slash : (b : ℕ) → start_of b ≡ start.Other → b ≡ 47 → ⊥
+unfolding start_of start_by
+start_no_slash b e same =
+    let no = other_by (is_line_end b) (is_inner_blank b) (is_letter b) (is_digit b) (eqb b 39) (eqb b 34) (eqb b 35) (eqb b 47) e in
+    grind (arith, nat_tests)
+
 slash_longest : (at b : ℕ) (bs : List ℕ) (n : ℕ) (k : TokenKind) → slash_at at (b ∷ bs) ≡ Ok (Piece k n) → IsLongest (b ∷ bs) n k
 unfolding slash_at comment_at line_comment
 slash_longest at b bs n k e =
     let text = b ∷ bs in
     elim (chosen (starts_with nat_eq text (codes "/*")) (comment_at at (drop 2 text)) (cond (starts_with nat_eq text (codes "//")) (Ok (line_comment (drop 2 text))) (punct_item at (punct_at text))) (Ok (Piece k n)) e) [
       | inl (_, f) ↦ let gap = bind_ok (ok_or (comment_end 0 (drop 2 text)) (fault.OpenComment at)) (λ m. Ok (Gap (m + 2))) (Piece k n) f in absurd (no_gap (gap.0 + 2) k n gap.2)
-      | inr (_, f) ↦ elim (chosen (starts_with nat_eq text (codes "//")) (Ok (line_comment (drop 2 text))) (punct_item at (punct_at text)) (Ok (Piece k n)) f) [
+      | inr (no_block, f) ↦ elim (chosen (starts_with nat_eq text (codes "//")) (Ok (line_comment (drop 2 text))) (punct_item at (punct_at text)) (Ok (Piece k n)) f) [
         | inl (_, g) ↦ absurd (no_gap (position_or_len is_line_end (drop 2 text) + 2) k n g)
-        | inr (_, g) ↦ punct_is_longest at b bs n k g
+        | inr (no_line, g) ↦ punct_is_longest at b bs n k (ap (λ t. t || starts_with nat_eq text (codes "//")) no_block ∙ no_line) g
       ]
     ]
   where
@@ -322,7 +356,7 @@ item_longest_of start.Quote at b bs n k is e = char_longest at b bs n k (start_q
 item_longest_of start.DoubleQuote at b bs n k is e = text_longest at b bs n k (start_double b is) e
 item_longest_of start.Hash at b bs n k is e = absurd cc
 item_longest_of start.Slash at b bs n k is e = slash_longest at b bs n k e
-item_longest_of start.Other at b bs n k is e = punct_is_longest at b bs n k e
+item_longest_of start.Other at b bs n k is e = punct_is_longest at b bs n k (no_slash b bs (start_no_slash b is)) e
 
 pub item_longest : (at : ℕ) (text : List ℕ) (n : ℕ) (k : TokenKind) → 0 < length text → item_at at text ≡ Ok (Piece k n) → IsLongest text n k
 item_longest at [] n k some e = absurd (omega arith)

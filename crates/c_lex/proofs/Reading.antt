@@ -139,7 +139,7 @@ punct_read mark.PipeEqual at more = refl
 
 -- ---- names
 
-run_before : (p : ℕ → Bool) (xs : List ℕ) (y : ℕ) (more : List ℕ) → list_all p xs ≡ true → p y ≡ false → prefix_len p (xs ++ y ∷ more) ≡ length xs
+pub run_before : (p : ℕ → Bool) (xs : List ℕ) (y : ℕ) (more : List ℕ) → list_all p xs ≡ true → p y ≡ false → prefix_len p (xs ++ y ∷ more) ≡ length xs
 run_before p [] y more all stop = ap (λ t. cond t (1 + prefix_len p more) 0) stop
 run_before p (x ∷ xs) y more all stop =
     let both = and_both (p x) (list_all p xs) all in
@@ -149,14 +149,14 @@ run_before p (x ∷ xs) y more all stop =
     and_both true y e = (refl, e)
     and_both false y e = absurd cc
 
-letter_starts : (b : ℕ) → is_letter b ≡ true → start_of b ≡ start.Letter
+pub letter_starts : (b : ℕ) → is_letter b ≡ true → start_of b ≡ start.Letter
 unfolding start_of
 letter_starts b e =
     let line : is_line_end b ≡ false = grind (arith, nat_tests) in
     let blank : is_inner_blank b ≡ false = grind (arith, nat_tests) in
     rw (line, blank, e) refl
 
-word_all : (b : ℕ) (bs : List ℕ) → IsWord (b ∷ bs) → list_all is_word (b ∷ bs) ≡ true
+pub word_all : (b : ℕ) (bs : List ℕ) → IsWord (b ∷ bs) → list_all is_word (b ∷ bs) ≡ true
 word_all b bs h = let first : is_word b ≡ true = or_left (is_letter b) (is_digit b) h.0 in ap (λ t. t && list_all is_word bs) first ∙ h.1
   where
     or_left : (x y : Bool) → x ≡ true → (x || y) ≡ true
@@ -184,7 +184,7 @@ octal_len : (n value : ℕ) → length (octal n value) ≡ n
 octal_len zero value = refl
 octal_len (suc n) value = omega (arith, length-append (octal n (value / 8)) ((value % 8 + 48) ∷ []), octal_len n (value / 8))
 
-all_append : (p : ℕ → Bool) (xs ys : List ℕ) → list_all p xs ≡ true → list_all p ys ≡ true → list_all p (xs ++ ys) ≡ true
+pub all_append : (p : ℕ → Bool) (xs ys : List ℕ) → list_all p xs ≡ true → list_all p ys ≡ true → list_all p (xs ++ ys) ≡ true
 all_append p [] ys h k = k
 all_append p (x ∷ xs) ys h k =
     let both = and_both (p x) (list_all p xs) h in
@@ -234,7 +234,7 @@ octal_bytes zero value = refl
 octal_bytes (suc n) value =
     all_append is_number_byte (octal n (value / 8)) ((value % 8 + 48) ∷ []) (octal_bytes n (value / 8)) (ap (λ t. t && true) (byte_of (value % 8 + 48) (digit_of (value % 8) (omega arith))))
 
-run_whole : (p : ℕ → Bool) (xs : List ℕ) → list_all p xs ≡ true → prefix_len p xs ≡ length xs
+pub run_whole : (p : ℕ → Bool) (xs : List ℕ) → list_all p xs ≡ true → prefix_len p xs ≡ length xs
 run_whole p [] all = refl
 run_whole p (x ∷ xs) all =
     let both = and_both (p x) (list_all p xs) all in

@@ -14,7 +14,7 @@ use Rattle.c_lex.specs.Keywords.{keyword_of}
 use Rattle.c_lex.specs.Punctuators.{punct_at, punct_spelling}
 use Rattle.c_lex.specs.Items.{item_at, item_of, item_len, start_of, word_at, word_kind_of, slash_at, punct_item}
 use Rattle.c_lex.specs.Tokens.{tokens_from, counted, behind, item_then, lexed}
-use Rattle.c_lex.specs.Grammar.{IsGap, IsLineStart, IsBlockComment, IsLineComment, IsIncludeLine, IsToken, Spells, Reads, done, gap, token, Stands, TokensAreLongest}
+use Rattle.c_lex.specs.Grammar.{IsGap, IsLineStart, IsBlockComment, IsLineComment, IsIncludeLine, IsToken, Spells, Reads, done, gap, token, Stands}
 use Rattle.c_lex.specs.declared.fault.LexFault.{LexFault}
 use Rattle.c_lex.specs.declared.fault.LexFault.TheVariants as fault
 use Rattle.c_lex.specs.declared.item.Item.{Item}
@@ -78,10 +78,10 @@ gap_is : (n m : ℕ) → found (Gap n) ≡ found (Gap m) → n ≡ m
 gap_is n m e = cc
 
 -- the bytes behind a place, as a range
-range_is : (source : List ℕ) (at n : ℕ) → slice_range source at (at + n) ≡ take n (drop at source)
+pub range_is : (source : List ℕ) (at n : ℕ) → slice_range source at (at + n) ≡ take n (drop at source)
 range_is source at n = let size : at + n - at ≡ n = omega arith in ap (λ k. take k (drop at source)) size
 
-first_is : (source : List ℕ) (at b : ℕ) (bs : List ℕ) → drop at source ≡ b ∷ bs → slice_index source at ≡ b
+pub first_is : (source : List ℕ) (at b : ℕ) (bs : List ℕ) → drop at source ≡ b ∷ bs → slice_index source at ≡ b
 first_is source at b bs e =
     let place : at ≡ at + 0 = omega arith in
     ap (slice_index source) place ∙ sym (get_or-drop at source 0 0) ∙ ap (λ (t : List ℕ). slice_index t 0) e
@@ -197,6 +197,7 @@ token_stands : (source : List ℕ) (at n : ℕ) (k : TokenKind) → 0 < n → at
 token_stands source at n k some within h = record {
   some = omega arith;
   within = within;
+  no_comment = h.no_comment;
   token = subst (λ (t : List ℕ). IsToken t) (sym (range_is source at n)) h.token;
   spells = subst (λ (t : List ℕ). Spells t k) (sym (range_is source at n)) h.spells;
   longest = λ end more fits is. h.longest (end - at) (omega arith) (omega (arith, length-drop at source)) is;
@@ -278,9 +279,9 @@ whole source =
     let outcome = outcome_from (length source) source 0 (0 + i) (omega arith) (omega arith) in
     subst (λ (r : Result (List Token) LexFault). Outcome source 0 0 r) there (passed_outcome source 0 0 i (tokens_from 0 (0 + i) 0 (drop (0 + i) source)) (include_passed source 0 i (inl refl) (omega arith) refl) outcome)
 
-pub tokens_are_longest : TokensAreLongest
+pub lexed_reads : (source : List ℕ) (ts : List Token) → lexed source ≡ Ok ts → Reads source (length source) 0 ts
 unfolding lexed
-tokens_are_longest source ts e =
+lexed_reads source ts e =
     let from = tokens_from 0 0 (include_len source) source in
     elim (chosen (ltb 1048576 (length source)) (Err (fault.LongSource 1048576)) from (Ok ts) e) [
       | inl (_, f) ↦ absurd cc

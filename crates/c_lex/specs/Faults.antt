@@ -5,14 +5,15 @@ use Rattle.c_lex.specs.Classes.{is_inner_blank, is_line_end}
 use Rattle.c_lex.specs.Numbers.{constant_at}
 use Rattle.c_lex.specs.Texts.{characters}
 use Rattle.c_lex.specs.Tokens.{lexed}
-use Rattle.c_lex.specs.Grammar.{IsWord, IsNumber, IsQuoted, IsToken, Spells, Reads}
+use Rattle.c_lex.specs.Grammar.{IsWord, IsNumber, IsQuoted, IsToken, Spells, Reads, begins_comment}
 use Rattle.c_lex.specs.declared.fault.LexFault.{LexFault}
 use Rattle.c_lex.specs.declared.fault.LexFault.TheVariants as fault
 use Rattle.c_lex.specs.declared.token.Token.{Token}
 use Rattle.c_lex.specs.declared.token.TokenKind.{TokenKind}
 
--- the first n bytes of a text are a token of this kind, and no more of them are a token
+-- the first n bytes of a text are a token of this kind, where no comment begins, and no more of them are a token
 pub record IsLongest (text : List ℕ) (n : ℕ) (k : TokenKind) : Type 0 where
+  pub no_comment : begins_comment text ≡ false
   pub token : IsToken (take n text)
   pub spells : Spells (take n text) k
   pub longest : (m : ℕ) → n < m → m ≤ length text → IsToken (take m text) → ⊥

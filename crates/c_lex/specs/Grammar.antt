@@ -1,6 +1,6 @@
 -- Tokens by a grammar, and a source as the tokens that stand in it: each of them the longest run from its start that
 -- is one, with only blanks, comments and include lines between them (ISO 9899:2011, 6.4).
-use Rattle.std.specs.Prelude.{◌≡◌, ◌≢◌, ◌⊎◌, ℕ, ◌+◌, ◌-◌, ◌<◌, ◌≤◌, Bool, true, false, ◌||◌, not, List, [], ◌∷◌, ◌++◌, length, take, drop, nat_eq, slice_index, slice_range, Some, None, Ok, codes}
+use Rattle.std.specs.Prelude.{◌≡◌, ◌≢◌, ◌⊎◌, ◌↔◌, ℕ, ◌+◌, ◌-◌, ◌<◌, ◌≤◌, Bool, true, false, ◌||◌, not, List, [], ◌∷◌, ◌++◌, length, take, drop, nat_eq, slice_index, slice_range, Some, None, Ok, codes}
 use Rattle.std.specs.List.{starts_with, list_all}
 use Rattle.c_lex.specs.Classes.{is_letter, is_digit, is_word, is_number_byte, is_inner_blank, is_line_end}
 use Rattle.c_lex.specs.Keywords.{keyword_spelling}
@@ -58,10 +58,15 @@ Spells bytes (kind.Char c) = (inner : List ℕ) × (bytes ≡ 39 ∷ (inner ++ 3
 Spells bytes (kind.Text cs) = (inner : List ℕ) × (bytes ≡ 34 ∷ (inner ++ 34 ∷ [])) × (characters 0 inner ≡ Some cs)
 Spells bytes (kind.Punct p) = punct_spelling p ≡ bytes
 
--- a token stands in the source, and no longer run from its start is a token
+-- a comment begins with the first byte
+abbrev pub begins_comment : List ℕ → Bool
+begins_comment text = starts_with nat_eq text (codes "/*") || starts_with nat_eq text (codes "//")
+
+-- A token stands in the source: no comment begins there, and no longer run from its start is a token.
 pub record Stands (source : List ℕ) (t : Token) : Type 0 where
   pub some : t.at < t.end
   pub within : t.end ≤ length source
+  pub no_comment : begins_comment (drop t.at source) ≡ false
   pub token : IsToken (slice_range source t.at t.end)
   pub spells : Spells (slice_range source t.at t.end) t.kind
   pub longest : (end : ℕ) → t.end < end → end ≤ length source → IsToken (slice_range source t.at end) → ⊥
@@ -116,6 +121,8 @@ pub data Reads (source : List ℕ) (to : ℕ) : ℕ → List Token → Type 0 wh
 
 -- ---- the law
 
--- The tokens that the definition gives stand so in the source, and there is nothing else in it.
+-- The tokens of a source are those that stand so in it, where it and they are not too many.
 abbrev pub TokensAreLongest : Type 0
-TokensAreLongest = (source : List ℕ) (ts : List Token) → lexed source ≡ Ok ts → Reads source (length source) 0 ts
+TokensAreLongest =
+    (source : List ℕ) (ts : List Token) →
+    (lexed source ≡ Ok ts) ↔ ((length source ≤ 1048576) × (length ts ≤ 200000) × Reads source (length source) 0 ts)
