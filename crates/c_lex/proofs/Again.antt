@@ -1,36 +1,35 @@
 -- The tokens of a source, written again, are read again.
-use Rattle.std.proofs.Common.{◌≡◌, ◌⊎◌, ℕ, zero, suc, ◌+◌, ◌-◌, ◌<◌, ◌≤◌, Bool, true, false, cond, not, eqb, ltb, ◌&&◌, ◌||◌, List, [], ◌∷◌, ◌++◌, length, take, drop, Option, Some, None, Result, Ok, Err, codes, refl, sym, ap, ◌∙◌, subst, arith, inl, inr, map, zero-add, add-zero}
-use Rattle.std.specs.Prelude.{nat_eq, slice_index}
+use Rattle.std.proofs.Common.{◌≡◌, ℕ, zero, suc, ◌+◌, ◌-◌, ◌<◌, ◌≤◌, Bool, true, false, cond, not, eqb, ltb, ◌&&◌, ◌||◌, List, [], ◌∷◌, ◌++◌, length, take, drop, Option, Some, None, Result, Ok, Err, codes, refl, sym, ap, ◌∙◌, subst, arith, inl, inr, zero-add}
+use Rattle.std.specs.Prelude.{nat_eq}
 use Rattle.std.specs.Option.{ok_or, option_and_then, option_map_or}
 use Rattle.std.specs.List.{starts_with, prefix_len}
 use Rattle.std.proofs.lemmas.Bool.{cases_lt, ltb-false, ltb-true, lt-ltb, le-ltb}
 use Rattle.std.proofs.lemmas.Bool.Decides.{nat_tests}
 use Rattle.std.proofs.lemmas.List.{drop_all, drop-drop, drop_at, length-drop, length-append, length-map}
 use Rattle.c_lex.specs.Results.{◌>>=◌}
-use Rattle.c_lex.specs.Classes.{is_letter, is_digit, is_line_end, is_inner_blank}
+use Rattle.c_lex.specs.Classes.{is_line_end, is_inner_blank}
 use Rattle.c_lex.specs.Digits.{is_digit_in, digits_value}
 use Rattle.c_lex.specs.Gaps.{include_len, past_include, past, past_blanks, past_header, ends_line}
 use Rattle.c_lex.specs.Keywords.{keyword_of, keyword_spelling}
 use Rattle.c_lex.specs.Numbers.{constant_at, digits_at, typed, suffix}
-use Rattle.c_lex.specs.Items.{item_at, item_of, item_len, start_of}
-use Rattle.c_lex.specs.Tokens.{tokens_from, counted, behind, item_then, lexed}
-use Rattle.c_lex.specs.Grammar.{IsWord, Spells, Stands, Reads, done, gap, token}
+use Rattle.c_lex.specs.Items.{item_at, item_of, start_of}
+use Rattle.c_lex.specs.Tokens.{tokens_from, counted, behind, lexed}
+use Rattle.c_lex.specs.Grammar.{Spells, Reads, done, gap, token}
 use Rattle.c_lex.specs.Written.{written, written_all, kinds, TokensAreReadAgain}
 use Rattle.c_lex.specs.declared.fault.LexFault.{LexFault}
 use Rattle.c_lex.specs.declared.fault.LexFault.TheVariants as fault
 use Rattle.c_lex.specs.declared.item.Item.{Item}
 use Rattle.c_lex.specs.declared.item.Item.TheVariants.{Gap, Piece}
-use Rattle.c_lex.specs.declared.item.Start.{Start}
 use Rattle.c_lex.specs.declared.item.Start.TheVariants as start
 use Rattle.c_lex.specs.declared.keyword.Keyword.{Keyword}
 use Rattle.c_lex.specs.declared.token.Token.{Token}
 use Rattle.c_lex.specs.declared.token.TokenKind.{TokenKind}
 use Rattle.c_lex.specs.declared.token.TokenKind.TheVariants as kind
-use Rattle.c_lex.proofs.Lengths.{bind_ok, ok_or_ok, chosen, found, item_fits, include_within}
+use Rattle.c_lex.proofs.Lengths.{bind_ok, chosen, item_fits, include_within}
 use Rattle.c_lex.proofs.Driver.{step, stops, skipped, counted_ok}
 use Rattle.c_lex.proofs.Tables.{keyword_is}
 use Rattle.c_lex.proofs.Whole.{lexed_reads}
-use Rattle.c_lex.proofs.Reading.{IsProper, IsRead, kind_read}
+use Rattle.c_lex.proofs.Reading.{IsProper, kind_read}
 
 -- ---- what the tokens are
 

@@ -1,11 +1,11 @@
 -- What stands in a source by the grammar is what the definition gives there.
-use Rattle.std.proofs.Common.{◌≡◌, ◌≢◌, ◌⊎◌, ℕ, zero, suc, ◌+◌, ◌-◌, ◌<◌, ◌≤◌, Bool, true, false, cond, not, eqb, leb, ltb, ◌&&◌, ◌||◌, List, [], ◌∷◌, ◌++◌, length, take, drop, get_or, Option, Some, None, Result, Ok, Err, codes, refl, sym, ap, ◌∙◌, subst, arith, inl, inr, append_assoc, zero-add, lit≤}
-use Rattle.std.specs.Prelude.{nat_eq, slice_index, slice_range}
-use Rattle.std.specs.Option.{ok_or, option_and_then, option_map_or}
-use Rattle.std.specs.List.{list_all, prefix_len, position_or_len, starts_with}
-use Rattle.std.proofs.lemmas.Bool.{cases_lt, ltb-true, ltb-false, lt-ltb, le-ltb}
+use Rattle.std.proofs.Common.{◌≡◌, ℕ, suc, ◌+◌, ◌<◌, ◌≤◌, Bool, true, false, cond, not, ltb, ◌&&◌, ◌||◌, List, [], ◌∷◌, ◌++◌, length, take, drop, Option, Some, None, Result, Ok, Err, codes, refl, sym, ap, ◌∙◌, subst, arith, inl, inr, append_assoc, zero-add, lit≤}
+use Rattle.std.specs.Prelude.{nat_eq, slice_index}
+use Rattle.std.specs.Option.{ok_or, option_and_then}
+use Rattle.std.specs.List.{list_all, prefix_len, starts_with}
+use Rattle.std.proofs.lemmas.Bool.{cases_lt, le-ltb}
 use Rattle.std.proofs.lemmas.Bool.Decides.{nat_tests}
-use Rattle.std.proofs.lemmas.List.{length-take, length-take-le, length-drop, length-append, take-append-drop, take_at, drop_at, take_all, drop_all, drop-drop, get_or-drop, get_or-take}
+use Rattle.std.proofs.lemmas.List.{length-take, length-take-le, length-append, take-append-drop, take_at}
 use Rattle.std.proofs.lemmas.List.Sums.{prefix_len-le-length}
 use Rattle.c_lex.specs.Results.{◌>>=◌}
 use Rattle.c_lex.specs.Classes.{is_letter, is_digit, is_word, is_number_byte, is_line_end, is_inner_blank}
@@ -13,14 +13,14 @@ use Rattle.c_lex.specs.Keywords.{keyword_of, keyword_spelling}
 use Rattle.c_lex.specs.Punctuators.{punct_at, punct_spelling}
 use Rattle.c_lex.specs.Numbers.{number_at, constant_at}
 use Rattle.c_lex.specs.Texts.{closing_from, characters, only, char_at, text_at}
-use Rattle.c_lex.specs.Gaps.{comment_at, comment_end, line_comment, include_len, past_include, past, past_blanks, past_header, ends_line}
+use Rattle.c_lex.specs.Gaps.{comment_at, line_comment}
 use Rattle.c_lex.specs.Items.{item_at, item_of, start_of, word_at, word_kind_of, slash_at, punct_item}
-use Rattle.c_lex.specs.Grammar.{IsWord, IsNumber, IsClosed, IsQuoted, IsPunctuator, IsToken, Spells, begins_comment, IsBlockComment, IsLineComment, IsIncludeLine, AreBlanks}
+use Rattle.c_lex.specs.Grammar.{IsWord, IsNumber, IsClosed, IsToken, begins_comment}
 use Rattle.c_lex.specs.Faults.{IsLongest}
 use Rattle.c_lex.specs.declared.fault.LexFault.{LexFault}
 use Rattle.c_lex.specs.declared.fault.LexFault.TheVariants as fault
 use Rattle.c_lex.specs.declared.item.Item.{Item}
-use Rattle.c_lex.specs.declared.item.Item.TheVariants.{Gap, Piece}
+use Rattle.c_lex.specs.declared.item.Item.TheVariants.{Piece}
 use Rattle.c_lex.specs.declared.item.Start.{Start}
 use Rattle.c_lex.specs.declared.item.Start.TheVariants as start
 use Rattle.c_lex.specs.declared.keyword.Keyword.{Keyword}
@@ -29,12 +29,11 @@ use Rattle.c_lex.specs.declared.punct.Punct.{Punct}
 use Rattle.c_lex.specs.declared.punct.Punct.TheVariants as mark
 use Rattle.c_lex.specs.declared.token.TokenKind.{TokenKind}
 use Rattle.c_lex.specs.declared.token.TokenKind.TheVariants as kind
-use Rattle.c_lex.proofs.Lengths.{chosen, letter_is_word, digit_goes_on, starts_long}
-use Rattle.c_lex.proofs.Tables.{punct_begins, punct_longest, punct_none, punct_first}
-use Rattle.c_lex.proofs.Sorts.{run_most, run_first, closed_found, token_quoted, token_double}
+use Rattle.c_lex.proofs.Lengths.{digit_goes_on}
+use Rattle.c_lex.proofs.Tables.{punct_begins, punct_longest, punct_none}
+use Rattle.c_lex.proofs.Sorts.{run_most, closed_found, token_quoted, token_double}
 use Rattle.c_lex.proofs.Munch.{word_is, number_is, constant_number}
-use Rattle.c_lex.proofs.GapLaws.{closes, closes_front}
-use Rattle.c_lex.proofs.Reading.{run_before, run_whole, letter_starts, word_all}
+use Rattle.c_lex.proofs.Reading.{letter_starts, word_all}
 use Rattle.c_lex.proofs.Again.{no_keyword}
 
 -- ---- tables
@@ -438,8 +437,10 @@ punct_here rest n p within is longest = by_found (punct_at rest) refl
   where
     size : length (punct_spelling p) ≡ n
     size = ap length is ∙ length-take-le n rest within
+
     begins : take (length (punct_spelling p)) rest ≡ punct_spelling p
     begins = ap (λ m. take m rest) size ∙ sym is
+
     by_found : (o : Option Punct) → punct_at rest ≡ o → o ≡ Some p
     by_found None none = absurd (punct_none rest p none begins)
     by_found (Some q) found =

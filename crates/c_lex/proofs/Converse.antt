@@ -1,34 +1,30 @@
 -- The tokens that stand in a source are those of the definition.
-use Rattle.std.proofs.Common.{◌≡◌, ◌≢◌, ◌⊎◌, ℕ, zero, suc, ◌+◌, ◌-◌, ◌<◌, ◌≤◌, Bool, true, false, cond, not, eqb, ltb, ◌&&◌, ◌||◌, List, [], ◌∷◌, ◌++◌, length, take, drop, get_or, Option, Some, None, Result, Ok, Err, codes, refl, sym, ap, ◌∙◌, subst, arith, inl, inr, append_assoc, zero-add, add-zero}
+use Rattle.std.proofs.Common.{◌≡◌, ◌⊎◌, ℕ, zero, suc, ◌+◌, ◌-◌, ◌<◌, ◌≤◌, Bool, true, false, cond, not, eqb, ltb, ◌&&◌, ◌||◌, List, [], ◌∷◌, ◌++◌, length, take, drop, Option, Some, None, Ok, Err, codes, refl, sym, ap, ◌∙◌, subst, arith, inl, inr, append_assoc, zero-add}
 use Rattle.std.specs.Prelude.{nat_eq, slice_index, slice_range}
 use Rattle.std.specs.Option.{ok_or, option_and_then, option_map_or}
-use Rattle.std.specs.List.{list_all, prefix_len, position_or_len, starts_with}
-use Rattle.std.proofs.lemmas.Bool.{cases_lt, ltb-true, ltb-false, lt-ltb, le-ltb}
+use Rattle.std.specs.List.{list_all, prefix_len, starts_with}
+use Rattle.std.proofs.lemmas.Bool.{ltb-false, lt-ltb, le-ltb}
 use Rattle.std.proofs.lemmas.Bool.Decides.{nat_tests}
-use Rattle.std.proofs.lemmas.List.{length-take, length-take-le, length-drop, length-append, take-append-drop, take_at, drop_at, take_all, drop_all, drop-drop, get_or-drop, get_or-take, append-nil}
+use Rattle.std.proofs.lemmas.List.{length-take-le, length-drop, length-append, take-append-drop, drop_at, drop_all, drop-drop, get_or-drop, get_or-take, append-nil}
 use Rattle.c_lex.specs.Results.{◌>>=◌}
-use Rattle.c_lex.specs.Classes.{is_letter, is_digit, is_word, is_number_byte, is_line_end, is_inner_blank}
-use Rattle.c_lex.specs.Punctuators.{punct_at, punct_spelling}
+use Rattle.c_lex.specs.Classes.{is_word, is_number_byte, is_line_end, is_inner_blank}
 use Rattle.c_lex.specs.Gaps.{comment_at, comment_end, line_comment, include_len, past_include, past, past_blanks, past_header, ends_line}
-use Rattle.c_lex.specs.Items.{item_at, item_of, start_of, slash_at, punct_item}
-use Rattle.c_lex.specs.Tokens.{tokens_from, counted, behind, item_then, lexed}
-use Rattle.c_lex.specs.Grammar.{IsWord, IsNumber, IsClosed, IsQuoted, IsPunctuator, IsToken, IsGap, IsLineStart, IsBlockComment, IsLineComment, IsIncludeLine, AreBlanks, Reads, done, gap, token, Stands, Spells, begins_comment, TokensAreLongest}
+use Rattle.c_lex.specs.Items.{item_at, item_of, start_of, slash_at}
+use Rattle.c_lex.specs.Tokens.{tokens_from, counted, behind, lexed}
+use Rattle.c_lex.specs.Grammar.{IsClosed, IsQuoted, IsToken, IsGap, IsLineStart, IsBlockComment, IsLineComment, IsIncludeLine, AreBlanks, Reads, done, gap, token, Stands, Spells, begins_comment, TokensAreLongest}
 use Rattle.c_lex.specs.Faults.{IsLongest}
-use Rattle.c_lex.specs.declared.fault.LexFault.{LexFault}
 use Rattle.c_lex.specs.declared.fault.LexFault.TheVariants as fault
-use Rattle.c_lex.specs.declared.item.Item.{Item}
 use Rattle.c_lex.specs.declared.item.Item.TheVariants.{Gap, Piece}
 use Rattle.c_lex.specs.declared.item.Start.{Start}
 use Rattle.c_lex.specs.declared.item.Start.TheVariants as start
 use Rattle.c_lex.specs.declared.token.Token.{Token}
-use Rattle.c_lex.specs.declared.token.TokenKind.{TokenKind}
-use Rattle.c_lex.proofs.Lengths.{chosen, starts_long, letter_is_word, digit_goes_on}
-use Rattle.c_lex.proofs.Munch.{same_byte, no_slash}
+use Rattle.c_lex.proofs.Lengths.{chosen}
+use Rattle.c_lex.proofs.Munch.{same_byte}
 use Rattle.c_lex.proofs.Driver.{step, skipped}
-use Rattle.c_lex.proofs.Whole.{lexed_reads, range_is, first_is}
-use Rattle.c_lex.proofs.GapLaws.{closes, closes_front, include_line_is}
+use Rattle.c_lex.proofs.Whole.{lexed_reads, first_is}
+use Rattle.c_lex.proofs.GapLaws.{closes, closes_front}
 use Rattle.c_lex.proofs.Reading.{run_before, run_whole, letter_starts, word_all, all_append}
-use Rattle.c_lex.proofs.Again.{few_tokens, include_none}
+use Rattle.c_lex.proofs.Again.{few_tokens}
 use Rattle.c_lex.proofs.Complete.{on_line, punct_on_line, token_piece, is_punct_start, punct_starts, digit_starts, number_all}
 
 -- ---- lists

@@ -1,13 +1,11 @@
 -- Each fault of the definition is what its name says.
-use Rattle.std.proofs.Common.{◌≡◌, ◌≢◌, ◌⊎◌, ℕ, zero, suc, ◌+◌, ◌-◌, ◌<◌, ◌≤◌, Bool, true, false, cond, not, eqb, ltb, ◌&&◌, ◌||◌, List, [], ◌∷◌, ◌++◌, length, take, drop, Option, Some, None, Result, Ok, Err, codes, refl, sym, ap, ◌∙◌, subst, arith, inl, inr}
-use Rattle.std.specs.Prelude.{nat_eq, slice_index}
+use Rattle.std.proofs.Common.{◌≡◌, ◌⊎◌, ℕ, zero, suc, ◌+◌, ◌<◌, ◌≤◌, Bool, true, false, cond, not, eqb, ltb, ◌&&◌, ◌||◌, List, [], ◌∷◌, length, take, drop, Option, Some, None, Result, Ok, Err, codes, refl, sym, ap, ◌∙◌, subst, arith, inl, inr}
+use Rattle.std.specs.Prelude.{nat_eq}
 use Rattle.std.specs.Option.{ok_or, option_and_then}
-use Rattle.std.specs.List.{starts_with, prefix_len, position_or_len}
+use Rattle.std.specs.List.{starts_with, prefix_len}
 use Rattle.std.proofs.lemmas.Bool.{ltb-true, ltb-false}
 use Rattle.std.proofs.lemmas.Bool.Decides.{nat_tests}
-use Rattle.std.proofs.lemmas.Slice.Eq.{bytes_eq-Decides}
-use Rattle.std.proofs.lemmas.List.{length-take, length-take-le, length-drop, take-append-drop, drop_all}
-use Rattle.std.proofs.lemmas.List.Sums.{prefix_len-le-length}
+use Rattle.std.proofs.lemmas.List.{length-take-le, take-append-drop, drop_all}
 use Rattle.c_lex.specs.Results.{◌>>=◌}
 use Rattle.c_lex.specs.Classes.{is_letter, is_digit, is_word, is_number_byte, is_line_end, is_inner_blank}
 use Rattle.c_lex.specs.Digits.{is_digit_in, digits_value}
@@ -15,11 +13,11 @@ use Rattle.c_lex.specs.Keywords.{keyword_of}
 use Rattle.c_lex.specs.Punctuators.{punct_at, punct_spelling}
 use Rattle.c_lex.specs.Numbers.{number_at, constant_at, digits_at, typed, suffix}
 use Rattle.c_lex.specs.Texts.{closing_from, characters, only, char_at, text_at}
-use Rattle.c_lex.specs.Gaps.{comment_at, comment_end, line_comment, include_len}
+use Rattle.c_lex.specs.Gaps.{comment_at, comment_end, line_comment}
 use Rattle.c_lex.specs.Items.{item_at, item_of, start_of, word_at, word_kind_of, slash_at, punct_item}
 use Rattle.c_lex.specs.Tokens.{counted}
-use Rattle.c_lex.specs.Grammar.{IsWord, IsNumber, IsClosed, IsQuoted, IsPunctuator, IsToken, Spells}
-use Rattle.c_lex.specs.Faults.{IsLongest, IsLongestNumber, IsLongestWord, BeginsNothing, IsOpen, IsText, IsFault}
+use Rattle.c_lex.specs.Grammar.{IsQuoted, IsToken}
+use Rattle.c_lex.specs.Faults.{IsLongest, IsLongestNumber, IsLongestWord, IsFault}
 use Rattle.c_lex.specs.declared.fault.LexFault.{LexFault}
 use Rattle.c_lex.specs.declared.fault.LexFault.TheVariants as fault
 use Rattle.c_lex.specs.declared.item.Item.{Item}
@@ -29,10 +27,10 @@ use Rattle.c_lex.specs.declared.item.Start.TheVariants as start
 use Rattle.c_lex.specs.declared.punct.Punct.{Punct}
 use Rattle.c_lex.specs.declared.token.TokenKind.{TokenKind}
 use Rattle.c_lex.specs.declared.token.TokenKind.TheVariants as kind
-use Rattle.c_lex.proofs.Lengths.{ok_or_ok, chosen, punct_some, closing_within, start_by, start_letter, start_digit}
+use Rattle.c_lex.proofs.Lengths.{ok_or_ok, chosen, punct_some, start_by, start_letter, start_digit}
 use Rattle.c_lex.proofs.Tables.{is_mark, punct_none}
 use Rattle.c_lex.proofs.Sorts.{token_mark, closed_found}
-use Rattle.c_lex.proofs.Munch.{word_longest_by, word_is, number_longest_by, number_is, quoted_is, quoted_bytes, same_byte, start_quote, start_double, item_longest, only_is}
+use Rattle.c_lex.proofs.Munch.{word_longest_by, word_is, number_longest_by, number_is, quoted_is, quoted_bytes, same_byte, start_quote, start_double, item_longest}
 
 abbrev refused : LexFault → Result Item LexFault
 refused f = Err f

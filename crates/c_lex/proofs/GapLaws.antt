@@ -1,21 +1,16 @@
 -- What the definition passes over is a blank, a comment or an include line.
-use Rattle.std.proofs.Common.{◌≡◌, ◌≢◌, ◌⊎◌, ℕ, zero, suc, ◌+◌, ◌-◌, ◌<◌, ◌≤◌, Bool, true, false, cond, not, eqb, leb, ltb, ◌&&◌, ◌||◌, List, [], ◌∷◌, ◌++◌, length, take, drop, get_or, Option, Some, None, Result, Ok, Err, codes, refl, sym, ap, ◌∙◌, subst, arith, inl, inr, append_assoc}
-use Rattle.std.specs.Prelude.{nat_eq, slice_index, slice_range}
-use Rattle.std.specs.Option.{ok_or, option_and_then, option_map_or}
-use Rattle.std.specs.List.{list_all, prefix_len, position_or_len, starts_with}
+use Rattle.std.proofs.Common.{◌≡◌, ◌⊎◌, ℕ, zero, suc, ◌+◌, ◌-◌, ◌<◌, ◌≤◌, Bool, true, false, cond, not, List, [], ◌∷◌, ◌++◌, length, take, drop, Option, Some, None, codes, refl, sym, ap, ◌∙◌, subst, arith, inl, inr, append_assoc}
+use Rattle.std.specs.Prelude.{nat_eq}
+use Rattle.std.specs.Option.{option_and_then, option_map_or}
+use Rattle.std.specs.List.{prefix_len, position_or_len, starts_with}
 use Rattle.std.specs.Cmp.Lexicographic.{pointwise}
 use Rattle.std.proofs.lemmas.Slice.Eq.{bytes_eq-Decides}
-use Rattle.std.proofs.lemmas.List.{length-take, length-take-le, length-drop, length-append, take-append-drop, take_at, drop_at, take-append-le, drop-append-le}
+use Rattle.std.proofs.lemmas.List.{length-take-le, length-drop, length-append, take-append-drop, take_at, drop_at, take-append-le, drop-append-le}
 use Rattle.std.proofs.lemmas.List.Sums.{prefix_len-le-length}
-use Rattle.c_lex.specs.Results.{◌>>=◌}
 use Rattle.c_lex.specs.Classes.{is_line_end, is_inner_blank}
-use Rattle.c_lex.specs.Gaps.{comment_end, comment_at, line_comment, include_len, past_include, past, past_blanks, past_header, ends_line}
-use Rattle.c_lex.specs.Grammar.{IsBlockComment, IsLineComment, IsIncludeLine, AreBlanks}
-use Rattle.c_lex.specs.declared.fault.LexFault.{LexFault}
-use Rattle.c_lex.specs.declared.fault.LexFault.TheVariants as fault
-use Rattle.c_lex.specs.declared.item.Item.{Item}
-use Rattle.c_lex.specs.declared.item.Item.TheVariants.{Gap, Piece}
-use Rattle.c_lex.proofs.Lengths.{bind_ok, ok_or_ok, chosen, comment_within, starts_long, found}
+use Rattle.c_lex.specs.Gaps.{comment_end, include_len, past_include, past, past_blanks, past_header, ends_line}
+use Rattle.c_lex.specs.Grammar.{IsBlockComment, IsLineComment, IsIncludeLine}
+use Rattle.c_lex.proofs.Lengths.{chosen}
 use Rattle.c_lex.proofs.Sorts.{run_all}
 
 -- ---- words at the front

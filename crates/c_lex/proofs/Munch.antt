@@ -1,26 +1,23 @@
 -- Each token of the definition is the longest run from its start that is a token.
-use Rattle.std.proofs.Common.{◌≡◌, ◌≢◌, ◌⊎◌, ℕ, zero, suc, ◌+◌, ◌-◌, ◌<◌, ◌≤◌, Bool, true, false, cond, not, eqb, leb, ltb, ◌&&◌, ◌||◌, List, [], ◌∷◌, ◌++◌, length, take, drop, Option, Some, None, Result, Ok, Err, codes, refl, sym, ap, ◌∙◌, subst, arith, inl, inr}
-use Rattle.std.specs.Prelude.{nat_eq, slice_index}
+use Rattle.std.proofs.Common.{◌≡◌, ℕ, zero, suc, ◌+◌, ◌<◌, ◌≤◌, Bool, true, false, cond, not, eqb, ltb, ◌&&◌, ◌||◌, List, [], ◌∷◌, ◌++◌, length, take, drop, Option, Some, None, Ok, Err, codes, refl, sym, ap, ◌∙◌, subst, arith, inl, inr}
+use Rattle.std.specs.Prelude.{nat_eq}
 use Rattle.std.specs.Option.{ok_or, option_and_then}
-use Rattle.std.specs.List.{list_all, prefix_len, position_or_len, starts_with}
+use Rattle.std.specs.List.{prefix_len, position_or_len, starts_with}
 use Rattle.std.proofs.lemmas.Bool.{ltb-false}
 use Rattle.std.proofs.lemmas.Bool.Decides.{nat_tests}
-use Rattle.std.proofs.lemmas.List.{length-take, length-take-le, length-drop, take-append-drop, take_all}
-use Rattle.std.proofs.lemmas.List.Sums.{prefix_len-le-length}
+use Rattle.std.proofs.lemmas.List.{length-take, length-take-le, take-append-drop}
 use Rattle.c_lex.specs.Results.{◌>>=◌}
 use Rattle.c_lex.specs.Classes.{is_letter, is_digit, is_word, is_number_byte, is_line_end, is_inner_blank}
-use Rattle.c_lex.specs.Keywords.{keyword_of, keyword_spelling}
+use Rattle.c_lex.specs.Keywords.{keyword_of}
 use Rattle.c_lex.specs.Punctuators.{punct_at, punct_spelling}
 use Rattle.c_lex.specs.Numbers.{number_at, constant_at, digits_at, typed, suffix}
 use Rattle.c_lex.specs.Digits.{is_digit_in, digits_value}
 use Rattle.c_lex.specs.Texts.{closing_from, characters, only, char_at, text_at}
-use Rattle.c_lex.specs.Items.{item_at, item_of, item_len, start_of, word_at, word_kind_of, slash_at, punct_item}
+use Rattle.c_lex.specs.Items.{item_at, item_of, start_of, word_at, word_kind_of, slash_at, punct_item}
 use Rattle.c_lex.specs.Gaps.{comment_at, comment_end, line_comment}
 use Rattle.c_lex.specs.Faults.{IsLongest}
-use Rattle.c_lex.specs.Grammar.{IsWord, IsNumber, IsClosed, IsQuoted, IsPunctuator, IsToken, Spells, begins_comment}
-use Rattle.c_lex.specs.declared.fault.LexFault.{LexFault}
+use Rattle.c_lex.specs.Grammar.{IsWord, IsNumber, IsClosed, IsQuoted, IsToken, Spells, begins_comment}
 use Rattle.c_lex.specs.declared.fault.LexFault.TheVariants as fault
-use Rattle.c_lex.specs.declared.item.Item.{Item}
 use Rattle.c_lex.specs.declared.item.Item.TheVariants.{Gap, Piece}
 use Rattle.c_lex.specs.declared.item.Start.{Start}
 use Rattle.c_lex.specs.declared.item.Start.TheVariants as start
@@ -28,7 +25,7 @@ use Rattle.c_lex.specs.declared.keyword.Keyword.{Keyword}
 use Rattle.c_lex.specs.declared.punct.Punct.{Punct}
 use Rattle.c_lex.specs.declared.token.TokenKind.{TokenKind}
 use Rattle.c_lex.specs.declared.token.TokenKind.TheVariants as kind
-use Rattle.c_lex.proofs.Lengths.{bind_ok, ok_or_ok, chosen, closing_within, found, start_letter, start_digit, letter_is_word, digit_goes_on, run_some, punct_some, start_by}
+use Rattle.c_lex.proofs.Lengths.{bind_ok, ok_or_ok, chosen, found, start_letter, start_digit, letter_is_word, digit_goes_on, punct_some, start_by}
 use Rattle.c_lex.proofs.Tables.{is_mark, keyword_is, keyword_none, punct_begins, punct_longest, punct_first}
 use Rattle.c_lex.proofs.Sorts.{token_word, token_number, token_quoted, token_double, token_mark, run_all, run_most, run_first, closed_is, closed_found, closing_at}
 

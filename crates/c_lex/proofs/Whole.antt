@@ -1,5 +1,5 @@
 -- The tokens of a source, from the definition to the grammar.
-use Rattle.std.proofs.Common.{◌≡◌, ◌≢◌, ◌⊎◌, ℕ, zero, suc, ◌+◌, ◌-◌, ◌<◌, ◌≤◌, Bool, true, false, cond, not, eqb, leb, ltb, ◌&&◌, ◌||◌, List, [], ◌∷◌, ◌++◌, length, take, drop, get_or, Option, Some, None, Result, Ok, Err, codes, refl, sym, ap, ◌∙◌, subst, arith, inl, inr, zero-add}
+use Rattle.std.proofs.Common.{◌≡◌, ℕ, zero, suc, ◌+◌, ◌-◌, ◌<◌, ◌≤◌, Bool, true, false, cond, eqb, ltb, ◌||◌, List, [], ◌∷◌, length, take, drop, Option, Some, None, Result, Ok, Err, codes, refl, sym, ap, ◌∙◌, subst, arith, inl, inr, zero-add}
 use Rattle.std.specs.Prelude.{nat_eq, slice_index, slice_range}
 use Rattle.std.specs.Option.{ok_or, option_and_then}
 use Rattle.std.specs.List.{starts_with, prefix_len, position_or_len}
@@ -12,9 +12,9 @@ use Rattle.c_lex.specs.Numbers.{number_at, constant_at}
 use Rattle.c_lex.specs.Texts.{closing_from, characters, only, char_at, text_at}
 use Rattle.c_lex.specs.Keywords.{keyword_of}
 use Rattle.c_lex.specs.Punctuators.{punct_at, punct_spelling}
-use Rattle.c_lex.specs.Items.{item_at, item_of, item_len, start_of, word_at, word_kind_of, slash_at, punct_item}
-use Rattle.c_lex.specs.Tokens.{tokens_from, counted, behind, item_then, lexed}
-use Rattle.c_lex.specs.Grammar.{IsGap, IsLineStart, IsBlockComment, IsLineComment, IsIncludeLine, IsToken, Spells, Reads, done, gap, token, Stands}
+use Rattle.c_lex.specs.Items.{item_at, item_of, start_of, word_at, word_kind_of, slash_at, punct_item}
+use Rattle.c_lex.specs.Tokens.{tokens_from, counted, behind, lexed}
+use Rattle.c_lex.specs.Grammar.{IsLineStart, IsBlockComment, IsLineComment, IsIncludeLine, IsToken, Spells, Reads, done, gap, token, Stands}
 use Rattle.c_lex.specs.declared.fault.LexFault.{LexFault}
 use Rattle.c_lex.specs.declared.fault.LexFault.TheVariants as fault
 use Rattle.c_lex.specs.declared.item.Item.{Item}
@@ -25,7 +25,7 @@ use Rattle.c_lex.specs.declared.punct.Punct.{Punct}
 use Rattle.c_lex.specs.declared.token.Token.{Token}
 use Rattle.c_lex.specs.declared.token.TokenKind.{TokenKind}
 use Rattle.c_lex.specs.declared.token.TokenKind.TheVariants as kind
-use Rattle.c_lex.proofs.Lengths.{bind_ok, ok_or_ok, chosen, found, item_fits, IsFitting, start_by, include_within}
+use Rattle.c_lex.proofs.Lengths.{bind_ok, ok_or_ok, chosen, found, item_fits, start_by, include_within}
 use Rattle.c_lex.proofs.Driver.{step, stops, skipped, counted_ok}
 use Rattle.c_lex.proofs.GapLaws.{include_is, line_comment_is, block_comment_is}
 use Rattle.c_lex.specs.Faults.{IsLongest, IsFault, FaultsAreFirst}

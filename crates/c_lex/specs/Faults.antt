@@ -1,5 +1,5 @@
 -- What is wrong where a fault is told.
-use Rattle.std.specs.Prelude.{◌≡◌, ◌≢◌, ◌⊎◌, ℕ, ◌+◌, ◌<◌, ◌≤◌, Bool, true, false, List, [], ◌∷◌, ◌++◌, length, take, drop, nat_eq, slice_index, Some, None, Ok, Err, codes}
+use Rattle.std.specs.Prelude.{◌≡◌, ◌≢◌, ◌⊎◌, ℕ, ◌<◌, ◌≤◌, true, false, List, [], ◌∷◌, ◌++◌, length, take, drop, nat_eq, slice_index, Some, None, Err, codes}
 use Rattle.std.specs.List.{starts_with}
 use Rattle.c_lex.specs.Classes.{is_inner_blank, is_line_end}
 use Rattle.c_lex.specs.Numbers.{constant_at}

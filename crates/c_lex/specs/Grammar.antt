@@ -1,6 +1,6 @@
 -- Tokens by a grammar, and a source as the tokens that stand in it: each of them the longest run from its start that
 -- is one, with only blanks, comments and include lines between them (ISO 9899:2011, 6.4).
-use Rattle.std.specs.Prelude.{◌≡◌, ◌≢◌, ◌⊎◌, ◌↔◌, ℕ, ◌+◌, ◌-◌, ◌<◌, ◌≤◌, Bool, true, false, ◌||◌, not, List, [], ◌∷◌, ◌++◌, length, take, drop, nat_eq, slice_index, slice_range, Some, None, Ok, codes}
+use Rattle.std.specs.Prelude.{◌≡◌, ◌≢◌, ◌⊎◌, ◌↔◌, ℕ, ◌+◌, ◌-◌, ◌<◌, ◌≤◌, Bool, true, false, ◌||◌, not, List, [], ◌∷◌, ◌++◌, length, drop, nat_eq, slice_index, slice_range, Some, Ok, codes}
 use Rattle.std.specs.List.{starts_with, list_all}
 use Rattle.c_lex.specs.Classes.{is_letter, is_digit, is_word, is_number_byte, is_inner_blank, is_line_end}
 use Rattle.c_lex.specs.Keywords.{keyword_spelling}
