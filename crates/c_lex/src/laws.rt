@@ -3,14 +3,14 @@ ghost use Rattle.c_lex.specs.Faults.{FaultsAreFirst};
 ghost use Rattle.c_lex.specs.Grammar.{TokensAreLongest};
 ghost use Rattle.c_lex.specs.Written.{TokensAreReadAgain};
 
-/// Each token of a source is the longest run from its start that is a token, and only blanks, comments and include
-/// lines stand between tokens (ISO 9899:2011, 6.4).
+/// The tokens of a source are exactly those that stand in it so: each is the longest run from its start that is a
+/// token, and only blanks, comments and include lines stand between them (ISO 9899:2011, 6.4).
 pub fn tokens_are_longest()
     ensures { TokensAreLongest }
 {}
 
-/// A fault comes where a source is too long, or up to its place the source is tokens and gaps, and what its name says
-/// stands there.
+/// A fault comes where the source is too long, or else up to its place the source is tokens with such gaps, and there
+/// stands what its name says. So it is the one at the least place.
 pub fn faults_are_first()
     ensures { FaultsAreFirst }
 {}
