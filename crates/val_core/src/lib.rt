@@ -4,10 +4,15 @@
 //! answers and runs hold as stated.
 #![tactic(auto)]
 
+pub mod laws;
 mod leaf;
 mod operation;
+#[cfg(test)]
+mod tests;
+mod values;
 mod word;
 
 pub use leaf::Leaf;
 pub use operation::{Op1, Op2};
+pub use values::{BlockName, Value, kept, value1, value2};
 pub use word::{op1, op2};
