@@ -4,3 +4,4 @@ pub mod FileMapLemmas
 pub mod FileNamesLemmas
 pub mod OpenLemmas
 pub mod LawsLemmas
+pub mod UntoldLemmas

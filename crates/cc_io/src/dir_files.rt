@@ -1,7 +1,8 @@
 // The files of a folder.
 ghost use Rattle.std.specs.Prelude.{◌≡◌, ◌≤◌, None, length, IsSome, IfOk};
 ghost use Rattle.std.specs.String.{string_bytes};
-ghost use Rattle.cc_io.specs.DirFiles.{name_of};
+ghost use Rattle.std.specs.Io.KnownBytes.{ReadConsumes, WriteAppends};
+ghost use Rattle.cc_io.specs.DirFiles.{name_of, bytes_of};
 
 use crate::failed::Failed;
 use crate::failing::fault;
@@ -23,6 +24,7 @@ fn read_from<H: Read>(reading: &mut Option<NamedFile<H>>, buf: &mut [u8]) -> io:
     requires { IsSome reading.old }
     ensures count { IfOk result (λ n. n ≤ length buf.old) }
     ensures name { name_of reading.new ≡ name_of reading.old }
+    ensures file { ReadConsumes (bytes_of H.remaining reading.old) (bytes_of H.remaining reading.new) result buf.new }
 {
     match reading {
         Some(found) => found.file.read(buf),
@@ -34,6 +36,7 @@ fn write_to<H: Write>(writing: &mut Option<NamedFile<H>>, piece: &[u8]) -> io::R
     requires { IsSome writing.old }
     ensures count { IfOk result (λ n. n ≤ length piece.now) }
     ensures name { name_of writing.new ≡ name_of writing.old }
+    ensures file { WriteAppends (bytes_of H.contents writing.old) (bytes_of H.contents writing.new) result piece.now }
 {
     match writing {
         Some(made) => made.file.write(piece),
@@ -99,21 +102,27 @@ impl<'a, R: rt::Files> DirFiles<'a, R> {
 }
 
 impl<R: rt::Files> Files for DirFiles<'_, R> {
-    ghost read_faults = { λ files. files.read_faults };
+    ghost use Rattle.std.specs.Prelude.{◌≡◌, ◌≤◌, ◌<◌, None, length, IsSome, IfOk};
+    ghost use Rattle.std.specs.Io.KnownBytes.{ReadConsumes, WriteAppends};
+    ghost use Rattle.cc_io.specs.Faults.{HasCause};
+    ghost use Rattle.cc_io.specs.Files.{Name, OnlyReadsRise, OnlyWritesRise};
+    ghost use Rattle.cc_io.specs.DirFiles.{name_of, bytes_of, open_file, made_file, reads_failed, writes_failed, opens_failed, creates_failed};
 
-    ghost write_faults = { λ files. files.write_faults };
+    ghost read_faults = { reads_failed };
 
-    ghost open_faults = { λ files name. files.open_faults };
+    ghost write_faults = { writes_failed };
 
-    ghost create_faults = { λ files name. files.create_faults };
+    ghost open_faults = { opens_failed };
+
+    ghost create_faults = { creates_failed };
 
     ghost told = { λ _. None };
 
-    ghost reading = { λ files. name_of files.reading };
+    ghost reading = { λ files. name_of (open_file files) };
 
     ghost left = { λ _. None };
 
-    ghost writing = { λ files. name_of files.writing };
+    ghost writing = { λ files. name_of (made_file files) };
 
     /// Fails at a missing file and at a folder.
     fn open(&mut self, name: &str) -> Result<(), Failed> {
@@ -127,7 +136,17 @@ impl<R: rt::Files> Files for DirFiles<'_, R> {
         }
     }
 
-    fn read(&mut self, buf: &mut [u8]) -> Result<usize, Failed> {
+    /// Hands on what the system's file gives.
+    fn read(&mut self, buf: &mut [u8]) -> Result<usize, Failed>
+        requires open { IsSome (name_of (open_file self.old)) }
+        requires room { 0 < length buf.old }
+        ensures count { IfOk result (λ n. n ≤ length buf.old) }
+        ensures file { ReadConsumes (bytes_of R.File.remaining (open_file self.old)) (bytes_of R.File.remaining (open_file self.new)) result buf.new }
+        ensures cause { HasCause (reads_failed self.old) (reads_failed self.new) result }
+        ensures reading { name_of (open_file self.new) ≡ name_of (open_file self.old) }
+        ensures writing { made_file self.new ≡ made_file self.old }
+        ensures counts { OnlyReadsRise reads_failed writes_failed opens_failed creates_failed self.old self.new }
+    {
         match read_from(&mut self.reading, buf) {
             Ok(n) => Ok(n),
             Err(_) => Err(fault(&mut self.read_faults)),
@@ -145,7 +164,17 @@ impl<R: rt::Files> Files for DirFiles<'_, R> {
         }
     }
 
-    fn write(&mut self, piece: &[u8]) -> Result<usize, Failed> {
+    /// Hands on to the system's file; where it takes nothing of a piece, this is a fault.
+    fn write(&mut self, piece: &[u8]) -> Result<usize, Failed>
+        requires { IsSome (name_of (made_file self.old)) }
+        ensures count { IfOk result (λ n. n ≤ length piece.now) }
+        ensures some { IfOk result (λ n. 0 < length piece.now → 0 < n) }
+        ensures file { WriteAppends (bytes_of R.File.contents (made_file self.old)) (bytes_of R.File.contents (made_file self.new)) result piece.now }
+        ensures cause { HasCause (writes_failed self.old) (writes_failed self.new) result }
+        ensures writing { name_of (made_file self.new) ≡ name_of (made_file self.old) }
+        ensures reading { open_file self.new ≡ open_file self.old }
+        ensures counts { OnlyWritesRise reads_failed writes_failed opens_failed creates_failed self.old self.new }
+    {
         match write_to(&mut self.writing, piece) {
             Ok(n) if n > 0 || piece.is_empty() => Ok(n),
             _ => Err(fault(&mut self.write_faults)),

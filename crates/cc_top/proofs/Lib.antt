@@ -1,2 +1,2 @@
 pub mod SourceLemmas
-pub mod BuildLemmas
+pub mod Digits

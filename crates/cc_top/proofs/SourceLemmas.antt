@@ -3,7 +3,7 @@ use Rattle.std.proofs.Common.{◌≡◌, ℕ, ◌<◌, List, None, length, take,
 use Rattle.std.proofs.lemmas.Bool.{cases_lt, lt-ltb}
 use Rattle.std.proofs.lemmas.List.{take_all, length-take-le}
 use Rattle.std.specs.Prelude.{option_map}
-use Rattle.cc_top.specs.Build.{image_of_source}
+use Rattle.cc_top.specs.BuildEnds.{image_of_source}
 use Rattle.cc_top.specs.Layout.{image_of_constant}
 use Rattle.cc_top.specs.Source.{returned}
 

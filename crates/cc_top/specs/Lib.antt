@@ -5,4 +5,7 @@ pub mod Templates
 pub mod Layout
 pub mod Report
 pub mod Outcome
-pub mod Build
+pub mod Text
+pub mod Outside
+pub mod BuildEnds
+pub mod Ends

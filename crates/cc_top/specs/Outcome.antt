@@ -1,12 +1,41 @@
-use Rattle.std.specs.Prelude.{ℕ}
-use Rattle.cc_top.specs.declared.report.Outcome.{Outcome}
-use Rattle.cc_top.specs.declared.report.Outcome.TheVariants.{Done, Usage, ReadFault, WriteFault, Refused, NoMemory}
+-- How a call ends: its status, and what it writes on the report. Each line ends with a line feed.
+use Rattle.std.specs.Prelude.{ℕ, List, [], ◌∷◌, ◌++◌, codes}
+use Rattle.elf_file.specs.ElfFault.{name_of, number_of}
+use Rattle.cc_top.specs.Text.{decimal_text, hex_text}
+use Rattle.cc_top.specs.declared.outcome.Outcome.{Outcome}
+use Rattle.cc_top.specs.declared.outcome.Outcome.TheVariants.{Done, Usage, ReadFault, WriteFault, Refused, BadImage, NoMemory, Exit, Stack, Budget, Stuck}
 
--- the status of a call that ended so
 abbrev pub status_of : Outcome → ℕ
 status_of Done = 0
 status_of Usage = 1
 status_of ReadFault = 2
 status_of WriteFault = 3
 status_of Refused = 4
+status_of (BadImage fault) = 5
 status_of NoMemory = 6
+status_of (Exit status) = 0
+status_of Stack = 7
+status_of Budget = 7
+status_of (Stuck pc why) = 7
+
+abbrev pub line : List ℕ → List ℕ
+line text = text ++ 10 ∷ []
+
+abbrev pub usage_text : List ℕ
+usage_text =
+    line (codes "usage: rvcc build IN OUT [--workers N] [--recipe LIST] [--report NAME]")
+    ++ line (codes "       rvcc run IMG [--steps N]")
+    ++ line (codes "       rvcc gen NUMBER COUNT OUT")
+
+abbrev pub text_of : Outcome → List ℕ
+text_of Done = []
+text_of Usage = usage_text
+text_of ReadFault = line (codes "read fault")
+text_of WriteFault = line (codes "write fault")
+text_of Refused = line (codes "refused NotBuilt 50 line 1")
+text_of (BadImage fault) = line (codes "image " ++ name_of fault ++ 32 ∷ decimal_text (number_of fault))
+text_of NoMemory = line (codes "memory")
+text_of (Exit status) = line (codes "exit " ++ decimal_text status)
+text_of Stack = line (codes "stack")
+text_of Budget = line (codes "budget")
+text_of (Stuck pc why) = line (codes "stuck " ++ hex_text 8 pc ++ 32 ∷ decimal_text why)

@@ -3,14 +3,14 @@ ghost use Rattle.std.specs.Prelude.{◌≡◌, ◌≤◌, ◌⊎◌, ℕ, None, 
 ghost use Rattle.std.specs.Option.{ForSome};
 ghost use Rattle.cc_io.specs.Faults.{Rose};
 ghost use Rattle.cc_io.specs.Files.{Name, content, put_file};
-ghost use Rattle.cc_top.specs.Build.{built, built_part, image_of_source, ReadRose, WriteRose};
-ghost use Rattle.cc_top.specs.Command.{build};
+ghost use Rattle.cc_top.specs.BuildEnds.{image_of_source, BuildEnds};
+ghost use Rattle.cc_top.specs.Outside.{files_seen};
 ghost use Rattle.cc_top.specs.Layout.{image_of_constant};
 ghost use Rattle.cc_top.specs.Source.{returned};
 
 use crate::layout::image_of_code;
 use crate::load::{LoadError, load};
-use crate::report::Outcome;
+use crate::outcome::Outcome;
 use crate::source::{SOURCE_LIMIT, returned_constant};
 use crate::templates::return_constant;
 use cc_io::{Files, save};
@@ -61,15 +61,9 @@ fn compile_file<F: Files>(alloc: Global, files: &mut F, source: &str) -> Result<
 
 /// Compiles the file named `source` to the file named `image`.
 pub fn build<F: Files>(alloc: Global, files: &mut F, source: &str, image: &str) -> Outcome
-    ensures outcomes { result ≢ Outcome.Usage }
-    ensures done { result ≡ Outcome.Done → F.told files.new ≡ built (Some (build source.now image.now)) (F.told files.old) }
-    ensures accepted { result ≡ Outcome.Done → ForSome (F.told files.old) (λ all. IsSome (returned (content source.now all))) }
-    ensures refused { result ≡ Outcome.Refused → ForSome (F.told files.old) (λ all. returned (content source.now all) ≡ None) }
-    ensures read_fault { result ≡ Outcome.ReadFault → ReadRose F.open_faults F.read_faults (Some (build source.now image.now)) files.old files.new }
-    ensures write_fault { result ≡ Outcome.WriteFault → WriteRose F.create_faults F.write_faults (Some (build source.now image.now)) files.old files.new }
-    ensures part { result ≡ Outcome.WriteFault → (F.told files.new ≡ F.told files.old)
-        ⊎ ((count : ℕ) × (F.told files.new ≡ built_part count (Some (build source.now image.now)) (F.told files.old))) }
-    ensures unchanged { ((result ≡ Outcome.Done) ⊎ (result ≡ Outcome.WriteFault)) ⊎ (F.told files.new ≡ F.told files.old) }
+    ensures { BuildEnds source.now image.now result
+        (files_seen F.told F.read_faults F.write_faults F.open_faults F.create_faults files.old)
+        (files_seen F.told F.read_faults F.write_faults F.open_faults F.create_faults files.new) }
 {
     match compile_file(alloc, files, source) {
         Ok(bytes) => match save(files, image, &bytes) {

@@ -1,79 +1,104 @@
-//! How a command ended, as its status and as what it writes on the report.
-ghost use Rattle.std.specs.Prelude.{◌≡◌, ◌≤◌, ◌⊎◌, ℕ, take};
-ghost use Rattle.cc_top.specs.Outcome.{status_of};
-ghost use Rattle.cc_top.specs.Report.{text_of_status, IsReported};
-ghost use Rattle.cc_top.specs.declared.report.Outcome.TheVariants.{NoMemory};
+//! What a user is told of how a command ended.
+ghost use Rattle.std.specs.Prelude.{◌≡◌, ◌≤◌, length};
+ghost use Rattle.cc_top.specs.Outcome.{status_of, text_of};
+ghost use Rattle.cc_top.specs.Report.{IsReported};
+ghost use Rattle.cc_top.specs.declared.outcome.Outcome.TheVariants.{BadImage, Exit, Stuck};
 
+use crate::line::{Line, push_decimal, push_hex, push_text};
+use crate::outcome::Outcome;
 use cc_io::{Sink, write_all};
-use std::alloc::AllocError;
-
-/// How a command ended.
-#[derive(Clone, Copy, Debug, PartialEq, Eq)]
-pub enum Outcome {
-    Done,
-    Usage,
-    ReadFault,
-    WriteFault,
-    Refused,
-    NoMemory,
-}
-
-impl From<AllocError> for Outcome {
-    ghost from_gives = { λ _ e. e ≡ NoMemory };
-
-    fn from(_: AllocError) -> Self {
-        Outcome::NoMemory
-    }
-}
-
-impl From<elf_file::NoMemory> for Outcome {
-    ghost from_gives = { λ _ e. e ≡ NoMemory };
-
-    fn from(_: elf_file::NoMemory) -> Self {
-        Outcome::NoMemory
-    }
-}
+use elf_file::ElfFault;
 
 const USAGE: &[u8] = b"usage: rvcc build IN OUT [--workers N] [--recipe LIST] [--report NAME]
        rvcc run IMG [--steps N]
        rvcc gen NUMBER COUNT OUT
 ";
 
-impl Outcome {
-    pub fn status(self) -> u8
-        ensures { result ≡ status_of self }
-    {
-        match self {
-            Outcome::Done => 0,
-            Outcome::Usage => 1,
-            Outcome::ReadFault => 2,
-            Outcome::WriteFault => 3,
-            Outcome::Refused => 4,
-            Outcome::NoMemory => 6,
-        }
+fn status_of(outcome: Outcome) -> u8
+    ensures { result ≡ status_of outcome }
+{
+    match outcome {
+        Outcome::Done | Outcome::Exit(_) => 0,
+        Outcome::Usage => 1,
+        Outcome::ReadFault => 2,
+        Outcome::WriteFault => 3,
+        Outcome::Refused => 4,
+        Outcome::BadImage(_) => 5,
+        Outcome::NoMemory => 6,
+        Outcome::Stack | Outcome::Budget | Outcome::Stuck { .. } => 7,
     }
+}
 
-    fn text(self) -> &'static [u8]
-        ensures { result.now ≡ text_of_status (status_of self) }
-    {
-        match self {
-            Outcome::Done => b"",
-            Outcome::Usage => USAGE,
-            Outcome::ReadFault => b"read fault\n",
-            Outcome::WriteFault => b"write fault\n",
-            Outcome::Refused => b"refused NotBuilt 50 line 1\n",
-            Outcome::NoMemory => b"memory\n",
-        }
+fn exit_line(status: u8) -> Line
+    ensures { result ≡ text_of (Exit status) }
+{
+    let mut line = Line::new();
+    push_text(&mut line, b"exit ");
+    push_decimal(&mut line, status.into());
+    line.push(b'\n');
+    line
+}
+
+fn image_line(fault: ElfFault) -> Line
+    ensures { result ≡ text_of (BadImage fault) }
+{
+    let mut line = Line::new();
+    push_text(&mut line, b"image ");
+    push_text(&mut line, fault.name().as_bytes());
+    line.push(b' ');
+    push_decimal(&mut line, fault.number().into());
+    line.push(b'\n');
+    line
+}
+
+fn stuck_line(pc: u32, why: u8) -> Line
+    ensures { result ≡ text_of (Stuck pc why) }
+{
+    let mut line = Line::new();
+    push_text(&mut line, b"stuck ");
+    push_hex(&mut line, 8, pc);
+    line.push(b' ');
+    push_decimal(&mut line, why.into());
+    line.push(b'\n');
+    line
+}
+
+fn line_of(text: &[u8]) -> Line
+    requires { length text.now ≤ 192 }
+    ensures { result ≡ text.now }
+{
+    let mut line = Line::new();
+    push_text(&mut line, text);
+    line
+}
+
+/// What is written of this outcome.
+fn text_of(outcome: Outcome) -> Line
+    ensures { result ≡ text_of outcome }
+{
+    match outcome {
+        Outcome::Done => Line::new(),
+        Outcome::Usage => line_of(USAGE),
+        Outcome::ReadFault => line_of(b"read fault\n"),
+        Outcome::WriteFault => line_of(b"write fault\n"),
+        Outcome::Refused => line_of(b"refused NotBuilt 50 line 1\n"),
+        Outcome::BadImage(fault) => image_line(fault),
+        Outcome::NoMemory => line_of(b"memory\n"),
+        Outcome::Exit(status) => exit_line(status),
+        Outcome::Stack => line_of(b"stack\n"),
+        Outcome::Budget => line_of(b"budget\n"),
+        Outcome::Stuck { pc, why } => stuck_line(pc, why),
     }
 }
 
 /// Writes how a command ended, and gives the status of the call: that of the outcome, or 3 where the
 /// report was not written.
 pub fn tell<E: Sink>(report: &mut E, outcome: Outcome) -> u8
-    ensures reported { IsReported (status_of outcome) result (E.held report.old) (E.held report.new) (E.faults report.old) (E.faults report.new) }
+    ensures { IsReported outcome result (E.held report.old) (E.held report.new) (E.faults report.old) (E.faults report.new) }
 {
-    match write_all(report, outcome.text()) {
-        Ok(()) => outcome.status(),
-        Err(_) => Outcome::WriteFault.status(),
+    let line = text_of(outcome);
+    match write_all(report, line.as_bytes()) {
+        Ok(()) => status_of(outcome),
+        Err(_) => status_of(Outcome::WriteFault),
     }
 }

@@ -1,7 +1,7 @@
 use Rattle.std.proofs.Common.{◌≡◌, ◌∙◌, ap, sym, subst, Some, IfOk}
 use Rattle.cc_io.specs.Files.{content}
 use Rattle.cc_top.proofs.SourceLemmas.{returned-take, image_of_source-take}
-use Rattle.cc_top.specs.Build.{image_of_source}
+use Rattle.cc_top.specs.BuildEnds.{image_of_source}
 use Rattle.cc_top.specs.Source.{returned}
 use Rattle.cc_top.proofs.build.compile_file.Goals as goal
 

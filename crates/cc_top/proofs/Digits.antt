@@ -1,0 +1,21 @@
+-- The digits of a number, the last one apart.
+use Rattle.std.proofs.Common.{◌≡◌, ℕ, zero, suc, ◌<◌, ◌≤◌, ◌/◌, ◌%◌, ◌+◌, ◌^◌, [], ◌∷◌, ◌++◌, length, map, ap, refl, ◌∙◌, arith, length-append}
+use Rattle.std.specs.Int.Digits.{digits_of}
+use Rattle.std.proofs.lemmas.Int.Digits.{digits_of_step, length-digits_of_step, length-digits_of-le}
+use Rattle.std.proofs.lemmas.List.{map-append}
+use Rattle.cc_top.specs.Text.{hex_text, hex_digit}
+
+pub digits_text_step : (n : ℕ) → 0 < n → map (λ d. 48 + d) (digits_of 10 n) ≡ map (λ d. 48 + d) (digits_of 10 (n / 10)) ++ (48 + n % 10) ∷ []
+digits_text_step n positive =
+    ap (map (λ d. 48 + d)) (digits_of_step 10 n (omega arith) positive)
+    ∙ map-append (λ d. 48 + d) (digits_of 10 (n / 10)) (n % 10 ∷ [])
+
+pub digits_length_step : (n : ℕ) → 0 < n → length (digits_of 10 n) ≡ length (digits_of 10 (n / 10)) + 1
+digits_length_step n positive = length-digits_of_step 10 n (omega arith) positive
+
+pub digits_room : (n : ℕ) → n < 2 ^ 64 → length (digits_of 10 n) ≤ 20
+digits_room n small = length-digits_of-le 10 20 n (omega arith) (omega arith)
+
+pub length-hex_text : (digits n : ℕ) → length (hex_text digits n) ≡ digits
+length-hex_text zero n = refl
+length-hex_text (suc digits) n = let shorter = length-hex_text digits (n / 16) in omega (arith, length-append (hex_text digits (n / 16)) (hex_digit (n % 16) ∷ []), shorter)

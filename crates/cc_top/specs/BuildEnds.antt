@@ -1,0 +1,51 @@
+-- How `build` ends: the cause of each outcome, and what the files hold then.
+use Rattle.std.specs.Prelude.{◌≡◌, ◌⊎◌, ℕ, List, take, Option, Some, None, option_map}
+use Rattle.std.specs.Option.{ForSome}
+use Rattle.cc_io.specs.Faults.{Rose}
+use Rattle.cc_io.specs.Files.{Name, content, put_file}
+use Rattle.cc_top.specs.Layout.{image_of_constant}
+use Rattle.cc_top.specs.Outside.{FilesSeen}
+use Rattle.cc_top.specs.Source.{returned}
+use Rattle.cc_top.specs.declared.outcome.Outcome.{Outcome}
+use Rattle.cc_top.specs.declared.outcome.Outcome.TheVariants.{Done, ReadFault, WriteFault, Refused, NoMemory}
+
+-- the image of a source that is accepted
+abbrev pub image_of_source : List ℕ → Option (List ℕ)
+image_of_source source = option_map image_of_constant (returned source)
+
+-- the file of this name was not read
+abbrev pub ReadFails : Name → FilesSeen → FilesSeen → Type 0
+ReadFails name before after =
+    Rose (before.open_faults name) (after.open_faults name) ⊎ Rose before.read_faults after.read_faults
+
+-- the file of this name was not written
+abbrev pub WriteFails : Name → FilesSeen → FilesSeen → Type 0
+WriteFails name before after =
+    Rose (before.create_faults name) (after.create_faults name) ⊎ Rose before.write_faults after.write_faults
+
+-- The file of this name holds this and every other file is as it was.
+abbrev pub Puts : Name → List ℕ → FilesSeen → FilesSeen → Type 0
+Puts name bytes before after = after.told ≡ option_map (put_file name bytes) before.told
+
+-- No file has changed.
+abbrev pub Keeps : FilesSeen → FilesSeen → Type 0
+Keeps before after = after.told ≡ before.told
+
+-- No file has changed, or the file of this name holds the bytes from their front on, and every other is as it was.
+abbrev pub PutsPart : Name → List ℕ → FilesSeen → FilesSeen → Type 0
+PutsPart name bytes before after = Keeps before after ⊎ ((count : ℕ) × Puts name (take count bytes) before after)
+
+-- of the source's text, where the files are told
+abbrev pub OfSource : Name → FilesSeen → (List ℕ → Type 0) → Type 0
+OfSource source before P = ForSome before.told (λ files. P (content source files))
+
+abbrev pub BuildEnds : (source image : Name) → Outcome → FilesSeen → FilesSeen → Type 0
+BuildEnds source image Done before after =
+    OfSource source before (λ text. (bytes : List ℕ) × (image_of_source text ≡ Some bytes) × Puts image bytes before after)
+BuildEnds source image ReadFault before after = ReadFails source before after × Keeps before after
+BuildEnds source image WriteFault before after =
+    WriteFails image before after
+    × OfSource source before (λ text. (bytes : List ℕ) × (image_of_source text ≡ Some bytes) × PutsPart image bytes before after)
+BuildEnds source image Refused before after = OfSource source before (λ text. returned text ≡ None) × Keeps before after
+BuildEnds source image NoMemory before after = Keeps before after
+BuildEnds source image _ before after = ⊥
