@@ -9,3 +9,4 @@ pub mod Text
 pub mod Outside
 pub mod BuildEnds
 pub mod Ends
+pub mod Program

@@ -4,6 +4,7 @@
 #![tactic(auto)]
 
 mod build;
+pub mod laws;
 mod layout;
 mod line;
 mod load;
