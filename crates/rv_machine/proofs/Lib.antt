@@ -6,4 +6,7 @@ pub mod Loads
 pub mod Lookups
 pub mod Parts
 pub mod Ports
+pub mod Reached
+pub mod RunLaws
+pub mod Stopped
 pub mod Writes

@@ -5,8 +5,10 @@
 
 mod block;
 mod execute;
+pub mod laws;
 mod machine;
 mod memory;
+mod run;
 mod step;
 mod stop;
 mod words;
