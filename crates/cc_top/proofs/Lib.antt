@@ -1,2 +1,5 @@
 pub mod SourceLemmas
 pub mod Digits
+pub mod CommandRowsLemmas
+pub mod WordsLemmas
+pub mod GenerateLemmas
