@@ -1,17 +1,20 @@
 -- How a command ends: the cause of each outcome, and what the outside holds then.
-use Rattle.std.specs.Prelude.{◌≡◌, Option, Some, None}
+use Rattle.std.specs.Prelude.{◌≡◌, ◌⊎◌, Option, Some, None}
 use Rattle.cc_top.specs.BuildEnds.{BuildEnds}
-use Rattle.cc_top.specs.Command.{Command, build}
+use Rattle.cc_top.specs.GenerateEnds.{GenerateEnds}
+use Rattle.cc_top.specs.Command.{Command, build, generate}
 use Rattle.cc_top.specs.Outside.{Outside}
 use Rattle.cc_top.specs.declared.outcome.Outcome.{Outcome}
-use Rattle.cc_top.specs.declared.outcome.Outcome.TheVariants.{Usage}
+use Rattle.cc_top.specs.declared.outcome.Outcome.TheVariants.{Usage, NoMemory}
 
 -- the input and the output are as they were
 abbrev pub KeepsStreams : Outside → Outside → Type 0
 KeepsStreams before after = (after.input ≡ before.input) × (after.output ≡ before.output)
 
--- The command of the words ends so. Words that are no command leave all as it was.
+-- The command of the words ends so. Words that are no command leave all as it was; memory may be wanting for them too.
 abbrev pub Ends : Option Command → Outcome → Outside → Outside → Type 0
-Ends None ended before after = (ended ≡ Usage) × (after ≡ before)
+Ends None ended before after = ((ended ≡ Usage) ⊎ (ended ≡ NoMemory)) × (after ≡ before)
 Ends (Some (build source image)) ended before after =
     BuildEnds source image ended before.files after.files × KeepsStreams before after
+Ends (Some (generate start functions out)) ended before after =
+    GenerateEnds start functions out ended before.files after.files × KeepsStreams before after

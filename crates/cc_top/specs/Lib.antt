@@ -1,5 +1,7 @@
 pub mod Source
+pub mod Arguments
 pub mod Command
+pub mod CommandRows
 pub mod Words
 pub mod Templates
 pub mod Layout
@@ -8,5 +10,6 @@ pub mod Outcome
 pub mod Text
 pub mod Outside
 pub mod BuildEnds
+pub mod GenerateEnds
 pub mod Ends
 pub mod Program

@@ -4,6 +4,7 @@
 #![tactic(auto)]
 
 mod build;
+mod generated;
 pub mod laws;
 mod layout;
 mod line;
@@ -28,10 +29,11 @@ use words::{Command, parse_command};
 
 /// Carries out the command of the words, the program's name first, and gives the status of the process.
 ///
-/// `build IN OUT` compiles the source file IN to the executable OUT. The statuses are 0 where the image
-/// was written, 1 where the words are no command, 2 where IN was not read, 3 where OUT or the report was
-/// not written, 4 where the source is refused and 6 where memory was wanting. What a user is told is
-/// written on `report`.
+/// `build IN OUT` compiles the source file IN to the executable OUT. `gen NUMBER COUNT OUT` writes the
+/// generated program of COUNT functions, 1 to 511, whose draws begin with NUMBER, 0 to 4294967295, to the
+/// file OUT. The statuses are 0 where OUT was written, 1 where the words are no command, 2 where IN was not
+/// read, 3 where OUT or the report was not written, 4 where the source is refused and 6 where memory was
+/// wanting. What a user is told is written on `report`.
 pub fn top<F: Files, I: Source, O: Sink, E: Sink>(
     alloc: Global,
     words: &[String],
@@ -79,9 +81,18 @@ fn carry_out<F: Files, I: Source, O: Sink>(
           output = stream_seen O.held O.faults output.new;
         }) }
 {
-    match parse_command(words) {
-        Some(Command::Build { source, image }) => build::build(alloc, files, source, image),
-        None => Outcome::Usage,
+    let command = match parse_command(alloc, words) {
+        Ok(Some(command)) => command,
+        Ok(None) => return Outcome::Usage,
+        Err(_) => return Outcome::NoMemory,
+    };
+    match command {
+        Command::Build { source, image } => build::build(alloc, files, source, image),
+        Command::Generate {
+            start,
+            functions,
+            out,
+        } => generated::write_generated(files, start, functions, out),
     }
 }
 

@@ -136,14 +136,23 @@ fn failing_calls_have_their_status(rt: HostRuntime) -> Result<(), Fail> {
 #[test]
 fn other_words_are_usage(rt: HostRuntime) -> Result<(), Fail> {
     let alloc = rt.alloc();
-    for texts in [
-        &BUILD[..1],
-        &BUILD[..2],
-        &BUILD[..3],
-        &["rvcc", "run", "in", "out"],
+    let rows: [&[&str]; 14] = [
+        &[],
+        &["rvcc"],
+        &["rvcc", "build"],
+        &["rvcc", "build", "in"],
         &["rvcc", "build", "in", "out", "out"],
-        &BUILD[..0],
-    ] {
+        &["rvcc", "build", "in", "out", "--work", "2"],
+        &["rvcc", "build", "-o", "out", "in"],
+        &["rvcc", "--", "build", "in", "out"],
+        &["rvcc", "help", "build"],
+        &["rvcc", "build", "in", "out", "--help"],
+        &["rvcc", "gen", "+1", "1", "out"],
+        &["rvcc", "gen", "4294967296", "1", "out"],
+        &["rvcc", "gen", "1", "512", "out"],
+        &["rvcc", "gen", "1", "", "out"],
+    ];
+    for texts in rows {
         let left = called(alloc, texts, ANSWER, &[])?;
         assert_eq!(rt; left.status, 1);
         assert!(rt;
@@ -153,9 +162,54 @@ fn other_words_are_usage(rt: HostRuntime) -> Result<(), Fail> {
         );
         assert!(rt; left.files.get("out").is_none());
     }
+    let after_hyphens = ["rvcc", "build", "--", "in", "out"];
+    assert_eq!(rt; called(alloc, &after_hyphens, ANSWER, &[])?.status, 0);
     let missing = called(alloc, &["rvcc", "build", "none", "out"], ANSWER, &[])?;
     assert_eq!(rt; missing.status, 2);
     assert_eq!(rt; missing.report.bytes(), b"read fault\n".as_slice());
     assert!(rt; missing.files.get("out").is_none());
+    Ok(())
+}
+
+const GEN: [&str; 5] = ["rvcc", "gen", "1", "1", "out"];
+
+const ONE_FUNCTION: &[u8] = b"int f0(int a, int b)
+{
+    int s = a;
+    int k = 0;
+    while (k < 1) {
+        s = (s + b) + 46;
+        k = k + 1;
+    }
+    if (s & 1) s = s - b; else s = s ^ k;
+    return s;
+}
+int main(void)
+{
+    int s = 0;
+    s = s ^ f0(0, 7);
+    putchar(65 + (s & 15));
+    putchar(10);
+    return s & 255;
+}
+";
+
+#[test]
+fn a_program_is_generated(rt: HostRuntime) -> Result<(), Fail> {
+    let alloc = rt.alloc();
+    let left = called(alloc, &GEN, ANSWER, &[])?;
+    assert_eq!(rt; left.status, 0);
+    assert_eq!(rt; left.report.bytes().len(), 0);
+    assert_eq!(rt; left.files.get("out"), Some(ONE_FUNCTION));
+    assert_eq!(rt; left.files.get("in"), Some(ANSWER));
+
+    let uncreated = called(alloc, &GEN, ANSWER, &[0])?;
+    assert_eq!(rt; uncreated.status, 3);
+    assert!(rt; uncreated.files.get("out").is_none());
+
+    let cut = called(alloc, &GEN, ANSWER, &[3])?;
+    assert_eq!(rt; cut.status, 3);
+    assert_eq!(rt; cut.report.bytes(), b"write fault\n".as_slice());
+    assert_eq!(rt; cut.files.get("out"), Some(b"int f0".as_slice()));
     Ok(())
 }

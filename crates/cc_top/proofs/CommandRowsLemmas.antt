@@ -1,0 +1,18 @@
+-- Each list of words is read as its row says.
+use Rattle.std.proofs.Common.{refl}
+use Rattle.clap.proofs.OnLiterals.{clap_on_literals}
+use Rattle.cc_top.specs.Arguments.{rvcc}
+use Rattle.cc_top.specs.Command.{command_of, number_in}
+use Rattle.cc_top.specs.CommandRows.{BuildRows, OtherRows, GenRows}
+
+pub build_rows : BuildRows
+unfolding clap_on_literals rvcc command_of number_in
+build_rows = record { two_names = refl; empty_name = refl; lone_hyphen = refl; hyphens_first = refl; hyphens_between = refl; one_name = refl; three_names = refl; no_name = refl; unknown_option = refl; unknown_letter = refl }
+
+pub other_rows : OtherRows
+unfolding clap_on_literals rvcc command_of number_in
+other_rows = record { nothing = refl; name_alone = refl; hyphens_before = refl; another_case = refl; help_word = refl; help_on_build = refl; help_first = refl; help_last = refl; version_first = refl; version_last = refl }
+
+pub gen_rows : GenRows
+unfolding clap_on_literals rvcc command_of number_in
+gen_rows = record { least = refl; greatest = refl; twenty_digits = refl; more_digits = refl; great_number = refl; great_count = refl; no_functions = refl; plus = refl; minus = refl; blank = refl; empty = refl; two_words = refl; four_words = refl }

@@ -1,0 +1,10 @@
+use Rattle.std.proofs.Common.{◌∙◌, ap₂}
+use Rattle.std.proofs.lemmas.Result.{IfOk-weaker}
+use Rattle.clap.specs.Words.{with_subcommand}
+use Rattle.cc_top.specs.Arguments.{rvcc}
+use Rattle.cc_top.proofs.words.rvcc.Goals as goal
+
+pub returns : goal.returns
+unfolding rvcc
+returns c =
+    IfOk-weaker c.subcommand-2.result _ _ (λ m added. added.shape c.in_ok-gen_words.ensures.globals ∙ ap₂ with_subcommand (c.in_ok-subcommand.ensures.shape c.in_ok-build_words.ensures.globals ∙ ap₂ with_subcommand c.new.ensures.app c.in_ok-build_words.ensures.shape) c.in_ok-gen_words.ensures.shape) c.subcommand-2.ensures

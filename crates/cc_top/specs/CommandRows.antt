@@ -1,0 +1,52 @@
+-- Lists of words with their commands.
+use Rattle.std.specs.Prelude.{◌≡◌, ℕ, List, [], ◌∷◌, Option, Some, None, codes}
+use Rattle.cc_top.specs.Command.{Command, build, generate, command_of}
+
+-- the command of the words after the program's name
+abbrev pub command_after_name : List (List ℕ) → Option Command
+command_after_name words = command_of (codes "rvcc" ∷ words)
+
+-- how many words there are, and what a word looks like
+pub record BuildRows : Type 0 where
+  pub two_names : command_after_name (codes "build" ∷ codes "a" ∷ codes "b" ∷ []) ≡ Some (build (codes "a") (codes "b"))
+  pub empty_name : command_after_name (codes "build" ∷ [] ∷ codes "b" ∷ []) ≡ Some (build [] (codes "b"))
+  pub lone_hyphen : command_after_name (codes "build" ∷ codes "-" ∷ codes "b" ∷ []) ≡ Some (build (codes "-") (codes "b"))
+  pub hyphens_first : command_after_name (codes "build" ∷ codes "--" ∷ codes "-a" ∷ codes "--" ∷ []) ≡ Some (build (codes "-a") (codes "--"))
+  pub hyphens_between : command_after_name (codes "build" ∷ codes "a" ∷ codes "--" ∷ codes "--help" ∷ []) ≡ Some (build (codes "a") (codes "--help"))
+  pub one_name : command_after_name (codes "build" ∷ codes "a" ∷ []) ≡ None
+  pub three_names : command_after_name (codes "build" ∷ codes "a" ∷ codes "b" ∷ codes "c" ∷ []) ≡ None
+  pub no_name : command_after_name (codes "build" ∷ []) ≡ None
+  pub unknown_option : command_after_name (codes "build" ∷ codes "a" ∷ codes "b" ∷ codes "--work" ∷ codes "2" ∷ []) ≡ None
+  pub unknown_letter : command_after_name (codes "build" ∷ codes "-o" ∷ codes "a" ∷ codes "b" ∷ []) ≡ None
+
+-- words that are no command, or ask for help or a version
+pub record OtherRows : Type 0 where
+  pub nothing : command_of [] ≡ None
+  pub name_alone : command_after_name [] ≡ None
+  pub hyphens_before : command_after_name (codes "--" ∷ codes "build" ∷ codes "a" ∷ codes "b" ∷ []) ≡ None
+  pub another_case : command_after_name (codes "Build" ∷ codes "a" ∷ codes "b" ∷ []) ≡ None
+  pub help_word : command_after_name (codes "help" ∷ []) ≡ None
+  pub help_on_build : command_after_name (codes "help" ∷ codes "build" ∷ []) ≡ None
+  pub help_first : command_after_name (codes "--help" ∷ []) ≡ None
+  pub help_last : command_after_name (codes "build" ∷ codes "a" ∷ codes "b" ∷ codes "-h" ∷ []) ≡ None
+  pub version_first : command_after_name (codes "-V" ∷ []) ≡ None
+  pub version_last : command_after_name (codes "build" ∷ codes "a" ∷ codes "b" ∷ codes "--version" ∷ []) ≡ None
+
+-- the numbers of `gen`
+pub record GenRows : Type 0 where
+  pub least : command_after_name (codes "gen" ∷ codes "0" ∷ codes "1" ∷ codes "x" ∷ []) ≡ Some (generate 0 1 (codes "x"))
+  pub greatest : command_after_name (codes "gen" ∷ codes "4294967295" ∷ codes "511" ∷ codes "x" ∷ []) ≡ Some (generate 4294967295 511 (codes "x"))
+  pub twenty_digits : command_after_name (codes "gen" ∷ codes "00000000000000000012" ∷ codes "03" ∷ codes "x" ∷ []) ≡ Some (generate 12 3 (codes "x"))
+  pub more_digits : command_after_name (codes "gen" ∷ codes "000000000000000000012" ∷ codes "3" ∷ codes "x" ∷ []) ≡ None
+  pub great_number : command_after_name (codes "gen" ∷ codes "4294967296" ∷ codes "1" ∷ codes "x" ∷ []) ≡ None
+  pub great_count : command_after_name (codes "gen" ∷ codes "1" ∷ codes "512" ∷ codes "x" ∷ []) ≡ None
+  pub no_functions : command_after_name (codes "gen" ∷ codes "1" ∷ codes "0" ∷ codes "x" ∷ []) ≡ None
+  pub plus : command_after_name (codes "gen" ∷ codes "+1" ∷ codes "1" ∷ codes "x" ∷ []) ≡ None
+  pub minus : command_after_name (codes "gen" ∷ codes "--" ∷ codes "-1" ∷ codes "1" ∷ codes "x" ∷ []) ≡ None
+  pub blank : command_after_name (codes "gen" ∷ codes " 1" ∷ codes "1" ∷ codes "x" ∷ []) ≡ None
+  pub empty : command_after_name (codes "gen" ∷ [] ∷ codes "1" ∷ codes "x" ∷ []) ≡ None
+  pub two_words : command_after_name (codes "gen" ∷ codes "1" ∷ codes "1" ∷ []) ≡ None
+  pub four_words : command_after_name (codes "gen" ∷ codes "1" ∷ codes "1" ∷ codes "x" ∷ codes "y" ∷ []) ≡ None
+
+abbrev pub CommandRows : Type 0
+CommandRows = BuildRows × OtherRows × GenRows
