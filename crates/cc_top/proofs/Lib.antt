@@ -8,3 +8,4 @@ pub mod ConstantExits
 pub mod CommandRowsLemmas
 pub mod WordsLemmas
 pub mod GenerateLemmas
+pub mod RunLemmas
