@@ -1,40 +1,39 @@
 -- The tokens of a source, written again, are read again.
-use Rattle.std.proofs.Common.{◌≡◌, ◌⊎◌, ℕ, zero, suc, ◌+◌, ◌-◌, ◌<◌, ◌≤◌, Bool, true, false, cond, not, eqb, ltb, ◌&&◌, ◌||◌, List, [], ◌∷◌, ◌++◌, length, take, drop, Option, Some, None, Result, Ok, Err, codes, refl, sym, ap, ◌∙◌, subst, arith, inl, inr, map, zero-add, add-zero}
-use Rattle.std.specs.Prelude.{nat_eq, slice_index}
+use Rattle.std.proofs.Common.{◌≡◌, ℕ, zero, suc, ◌+◌, ◌-◌, ◌<◌, ◌≤◌, Bool, true, false, cond, not, eqb, ltb, ◌&&◌, ◌||◌, List, [], ◌∷◌, ◌++◌, length, take, drop, Option, Some, None, Result, Ok, Err, codes, refl, sym, ap, ◌∙◌, subst, arith, inl, inr, zero-add}
+use Rattle.std.specs.Prelude.{nat_eq}
 use Rattle.std.specs.Option.{ok_or, option_and_then, option_map_or}
 use Rattle.std.specs.List.{starts_with, prefix_len}
 use Rattle.std.proofs.lemmas.Bool.{cases_lt, ltb-false, ltb-true, lt-ltb, le-ltb}
 use Rattle.std.proofs.lemmas.Bool.Decides.{nat_tests}
 use Rattle.std.proofs.lemmas.List.{drop_all, drop-drop, drop_at, length-drop, length-append, length-map}
 use Rattle.c_lex.specs.Results.{◌>>=◌}
-use Rattle.c_lex.specs.Classes.{is_letter, is_digit, is_line_end, is_inner_blank}
+use Rattle.c_lex.specs.Classes.{is_line_end, is_inner_blank}
 use Rattle.c_lex.specs.Digits.{is_digit_in, digits_value}
 use Rattle.c_lex.specs.Gaps.{include_len, past_include, past, past_blanks, past_header, ends_line}
 use Rattle.c_lex.specs.Keywords.{keyword_of, keyword_spelling}
 use Rattle.c_lex.specs.Numbers.{constant_at, digits_at, typed, suffix}
-use Rattle.c_lex.specs.Items.{item_at, item_of, item_len, start_of}
-use Rattle.c_lex.specs.Tokens.{tokens_from, counted, behind, item_then, lexed}
-use Rattle.c_lex.specs.Grammar.{IsWord, Spells, Stands, Holds, done, gap, token}
+use Rattle.c_lex.specs.Items.{item_at, item_of, start_of}
+use Rattle.c_lex.specs.Tokens.{tokens_from, counted, behind, lexed}
+use Rattle.c_lex.specs.Grammar.{Spells, Reads, done, gap, token}
 use Rattle.c_lex.specs.Written.{written, written_all, kinds, TokensAreReadAgain}
 use Rattle.c_lex.specs.declared.fault.LexFault.{LexFault}
 use Rattle.c_lex.specs.declared.fault.LexFault.TheVariants as fault
 use Rattle.c_lex.specs.declared.item.Item.{Item}
 use Rattle.c_lex.specs.declared.item.Item.TheVariants.{Gap, Piece}
-use Rattle.c_lex.specs.declared.item.Start.{Start}
 use Rattle.c_lex.specs.declared.item.Start.TheVariants as start
 use Rattle.c_lex.specs.declared.keyword.Keyword.{Keyword}
 use Rattle.c_lex.specs.declared.token.Token.{Token}
 use Rattle.c_lex.specs.declared.token.TokenKind.{TokenKind}
 use Rattle.c_lex.specs.declared.token.TokenKind.TheVariants as kind
-use Rattle.c_lex.proofs.Lengths.{bind_ok, ok_or_ok, chosen, found, item_fits, include_within}
+use Rattle.c_lex.proofs.Lengths.{bind_ok, chosen, item_fits, include_within}
 use Rattle.c_lex.proofs.Driver.{step, stops, skipped, counted_ok}
 use Rattle.c_lex.proofs.Tables.{keyword_is}
-use Rattle.c_lex.proofs.Whole.{tokens_are_longest}
-use Rattle.c_lex.proofs.Reading.{IsProper, IsRead, kind_read}
+use Rattle.c_lex.proofs.Whole.{lexed_reads}
+use Rattle.c_lex.proofs.Reading.{IsProper, kind_read}
 
 -- ---- what the tokens are
 
-no_keyword : (bytes : List ℕ) (o : Option Keyword) → keyword_of bytes ≡ o → ((k : Keyword) → keyword_spelling k ≡ bytes → ⊥) → o ≡ None
+pub no_keyword : (bytes : List ℕ) (o : Option Keyword) → keyword_of bytes ≡ o → ((k : Keyword) → keyword_spelling k ≡ bytes → ⊥) → o ≡ None
 no_keyword bytes None is none = refl
 no_keyword bytes (Some k) is none = absurd (none k (keyword_is bytes k is))
 
@@ -102,10 +101,10 @@ abbrev AllProper : List TokenKind → Type 0
 AllProper [] = Unit {0}
 AllProper (k ∷ ks) = IsProper k × AllProper ks
 
-all_proper : (source : List ℕ) (at : ℕ) (ts : List Token) → Holds source at ts → AllProper (kinds ts)
-all_proper source at _ (done _ e) = tt
-all_proper source at ts (gap _ end _ less within g rest) = all_proper source end ts rest
-all_proper source _ _ (token t ts stands rest) = (proper_of _ t.kind stands.spells, all_proper source t.end ts rest)
+all_proper : (source : List ℕ) (to at : ℕ) (ts : List Token) → Reads source to at ts → AllProper (kinds ts)
+all_proper source to at _ (done _ e) = tt
+all_proper source to at ts (gap _ end _ less within g rest) = all_proper source to end ts rest
+all_proper source to _ _ (token t ts stands rest) = (proper_of _ t.kind stands.spells, all_proper source to t.end ts rest)
 
 -- ---- how many there are
 
@@ -168,7 +167,7 @@ counts_from (suc fuel) source count at ts enough within low e =
           empty_counts count ts low (ap (tokens_from count at 0) (sym none) ∙ e)
     ]
 
-few_tokens : (source : List ℕ) (ts : List Token) → lexed source ≡ Ok ts → length ts ≤ 200000
+pub few_tokens : (source : List ℕ) (ts : List Token) → lexed source ≡ Ok ts → length ts ≤ 200000
 unfolding lexed
 few_tokens source ts e =
     let i = include_len source in
@@ -229,7 +228,7 @@ hash_item : (at : ℕ) (bs : List ℕ) (k : TokenKind) (n : ℕ) → item_at at 
 unfolding item_of start_of
 hash_item at bs k n e = cc
 
-include_none : (b : ℕ) (bs : List ℕ) → is_inner_blank b ≡ false → eqb 35 b ≡ false → include_len (b ∷ bs) ≡ 0
+pub include_none : (b : ℕ) (bs : List ℕ) → is_inner_blank b ≡ false → eqb 35 b ≡ false → include_len (b ∷ bs) ≡ 0
 unfolding past_include
 include_none b bs blank hash =
     let line : List ℕ = b ∷ bs in
@@ -263,7 +262,7 @@ pub tokens_are_read_again : TokensAreReadAgain
 unfolding lexed
 tokens_are_read_again source ts e short =
     let ks = kinds ts in
-    let proper = all_proper source 0 ts (tokens_are_longest source ts e) in
+    let proper = all_proper source (length source) 0 ts (lexed_reads source ts e) in
     let few : 0 + length ks ≤ 200000 = omega (arith, few_tokens source ts e, length-map ts (λ (t : Token). t.kind)) in
     let text = written_all ks in
     let fits : ltb 1048576 (length text) ≡ false = le-ltb 1048576 (length text) short in (

@@ -1,21 +1,16 @@
 -- What the definition passes over is a blank, a comment or an include line.
-use Rattle.std.proofs.Common.{◌≡◌, ◌≢◌, ◌⊎◌, ℕ, zero, suc, ◌+◌, ◌-◌, ◌<◌, ◌≤◌, Bool, true, false, cond, not, eqb, leb, ltb, ◌&&◌, ◌||◌, List, [], ◌∷◌, ◌++◌, length, take, drop, get_or, Option, Some, None, Result, Ok, Err, codes, refl, sym, ap, ◌∙◌, subst, arith, inl, inr, append_assoc}
-use Rattle.std.specs.Prelude.{nat_eq, slice_index, slice_range}
-use Rattle.std.specs.Option.{ok_or, option_and_then, option_map_or}
-use Rattle.std.specs.List.{list_all, prefix_len, position_or_len, starts_with}
+use Rattle.std.proofs.Common.{◌≡◌, ◌⊎◌, ℕ, zero, suc, ◌+◌, ◌-◌, ◌<◌, ◌≤◌, Bool, true, false, cond, not, List, [], ◌∷◌, ◌++◌, length, take, drop, Option, Some, None, codes, refl, sym, ap, ◌∙◌, subst, arith, inl, inr, append_assoc}
+use Rattle.std.specs.Prelude.{nat_eq}
+use Rattle.std.specs.Option.{option_and_then, option_map_or}
+use Rattle.std.specs.List.{prefix_len, position_or_len, starts_with}
 use Rattle.std.specs.Cmp.Lexicographic.{pointwise}
 use Rattle.std.proofs.lemmas.Slice.Eq.{bytes_eq-Decides}
-use Rattle.std.proofs.lemmas.List.{length-take, length-take-le, length-drop, length-append, take-append-drop, take_at, drop_at, take-append-le, drop-append-le}
+use Rattle.std.proofs.lemmas.List.{length-take-le, length-drop, length-append, take-append-drop, take_at, drop_at, take-append-le, drop-append-le}
 use Rattle.std.proofs.lemmas.List.Sums.{prefix_len-le-length}
-use Rattle.c_lex.specs.Results.{◌>>=◌}
 use Rattle.c_lex.specs.Classes.{is_line_end, is_inner_blank}
-use Rattle.c_lex.specs.Gaps.{comment_end, comment_at, line_comment, include_len, past_include, past, past_blanks, past_header, ends_line}
-use Rattle.c_lex.specs.Grammar.{IsBlockComment, IsLineComment, IsIncludeLine, AreBlanks}
-use Rattle.c_lex.specs.declared.fault.LexFault.{LexFault}
-use Rattle.c_lex.specs.declared.fault.LexFault.TheVariants as fault
-use Rattle.c_lex.specs.declared.item.Item.{Item}
-use Rattle.c_lex.specs.declared.item.Item.TheVariants.{Gap, Piece}
-use Rattle.c_lex.proofs.Lengths.{bind_ok, ok_or_ok, chosen, comment_within, starts_long, found}
+use Rattle.c_lex.specs.Gaps.{comment_end, include_len, past_include, past, past_blanks, past_header, ends_line}
+use Rattle.c_lex.specs.Grammar.{IsBlockComment, IsLineComment, IsIncludeLine}
+use Rattle.c_lex.proofs.Lengths.{chosen}
 use Rattle.c_lex.proofs.Sorts.{run_all}
 
 -- ---- words at the front
@@ -149,7 +144,7 @@ comment_low at (b ∷ bs) n e =
       | inr (_, f) ↦ omega (arith, comment_low (at + 1) bs n f)
     ]
 
-abbrev closes : List ℕ → Bool
+abbrev pub closes : List ℕ → Bool
 closes text = starts_with nat_eq text (codes "*/")
 
 -- the first `*/` ends where it was found
@@ -180,7 +175,7 @@ comment_first at k (b ∷ bs) e =
       | inr (fails, f) ↦ first_later at k b bs fails (λ j g. comment_first (at + 1) j bs g) f
     ]
 
-closes_front : (xs ys : List ℕ) → 2 ≤ length xs → closes (xs ++ ys) ≡ closes xs
+pub closes_front : (xs ys : List ℕ) → 2 ≤ length xs → closes (xs ++ ys) ≡ closes xs
 closes_front xs ys long = ap (λ (t : List ℕ). pointwise nat_eq (codes "*/") t) (take-append-le 2 xs ys long)
 
 block_by : (text : List ℕ) (n k : ℕ) → starts_with nat_eq text (codes "/*") ≡ true → k + 4 ≡ n → IsFirstEnd k (drop 2 text) → IsBlockComment (take n text)

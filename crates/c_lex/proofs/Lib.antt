@@ -10,3 +10,6 @@ pub mod GapLaws
 pub mod Whole
 pub mod Reading
 pub mod Again
+pub mod FaultLaws
+pub mod Complete
+pub mod Converse

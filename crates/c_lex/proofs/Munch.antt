@@ -1,25 +1,23 @@
 -- Each token of the definition is the longest run from its start that is a token.
-use Rattle.std.proofs.Common.{◌≡◌, ◌≢◌, ◌⊎◌, ℕ, zero, suc, ◌+◌, ◌-◌, ◌<◌, ◌≤◌, Bool, true, false, cond, not, eqb, leb, ltb, ◌&&◌, ◌||◌, List, [], ◌∷◌, ◌++◌, length, take, drop, Option, Some, None, Result, Ok, Err, codes, refl, sym, ap, ◌∙◌, subst, arith, inl, inr}
-use Rattle.std.specs.Prelude.{nat_eq, slice_index}
+use Rattle.std.proofs.Common.{◌≡◌, ℕ, zero, suc, ◌+◌, ◌<◌, ◌≤◌, Bool, true, false, cond, not, eqb, ltb, ◌&&◌, ◌||◌, List, [], ◌∷◌, ◌++◌, length, take, drop, Option, Some, None, Ok, Err, codes, refl, sym, ap, ◌∙◌, subst, arith, inl, inr}
+use Rattle.std.specs.Prelude.{nat_eq}
 use Rattle.std.specs.Option.{ok_or, option_and_then}
-use Rattle.std.specs.List.{list_all, prefix_len, position_or_len, starts_with}
+use Rattle.std.specs.List.{prefix_len, position_or_len, starts_with}
 use Rattle.std.proofs.lemmas.Bool.{ltb-false}
 use Rattle.std.proofs.lemmas.Bool.Decides.{nat_tests}
-use Rattle.std.proofs.lemmas.List.{length-take, length-take-le, length-drop, take-append-drop, take_all}
-use Rattle.std.proofs.lemmas.List.Sums.{prefix_len-le-length}
+use Rattle.std.proofs.lemmas.List.{length-take, length-take-le, take-append-drop}
 use Rattle.c_lex.specs.Results.{◌>>=◌}
 use Rattle.c_lex.specs.Classes.{is_letter, is_digit, is_word, is_number_byte, is_line_end, is_inner_blank}
-use Rattle.c_lex.specs.Keywords.{keyword_of, keyword_spelling}
+use Rattle.c_lex.specs.Keywords.{keyword_of}
 use Rattle.c_lex.specs.Punctuators.{punct_at, punct_spelling}
 use Rattle.c_lex.specs.Numbers.{number_at, constant_at, digits_at, typed, suffix}
 use Rattle.c_lex.specs.Digits.{is_digit_in, digits_value}
 use Rattle.c_lex.specs.Texts.{closing_from, characters, only, char_at, text_at}
-use Rattle.c_lex.specs.Items.{item_at, item_of, item_len, start_of, word_at, word_kind_of, slash_at, punct_item}
+use Rattle.c_lex.specs.Items.{item_at, item_of, start_of, word_at, word_kind_of, slash_at, punct_item}
 use Rattle.c_lex.specs.Gaps.{comment_at, comment_end, line_comment}
-use Rattle.c_lex.specs.Grammar.{IsWord, IsNumber, IsClosed, IsQuoted, IsPunctuator, IsToken, Spells}
-use Rattle.c_lex.specs.declared.fault.LexFault.{LexFault}
+use Rattle.c_lex.specs.Faults.{IsLongest}
+use Rattle.c_lex.specs.Grammar.{IsWord, IsNumber, IsClosed, IsQuoted, IsToken, Spells, begins_comment}
 use Rattle.c_lex.specs.declared.fault.LexFault.TheVariants as fault
-use Rattle.c_lex.specs.declared.item.Item.{Item}
 use Rattle.c_lex.specs.declared.item.Item.TheVariants.{Gap, Piece}
 use Rattle.c_lex.specs.declared.item.Start.{Start}
 use Rattle.c_lex.specs.declared.item.Start.TheVariants as start
@@ -27,15 +25,20 @@ use Rattle.c_lex.specs.declared.keyword.Keyword.{Keyword}
 use Rattle.c_lex.specs.declared.punct.Punct.{Punct}
 use Rattle.c_lex.specs.declared.token.TokenKind.{TokenKind}
 use Rattle.c_lex.specs.declared.token.TokenKind.TheVariants as kind
-use Rattle.c_lex.proofs.Lengths.{bind_ok, ok_or_ok, chosen, closing_within, found, start_letter, start_digit, letter_is_word, digit_goes_on, run_some, punct_some, start_by}
+use Rattle.c_lex.proofs.Lengths.{bind_ok, ok_or_ok, chosen, found, start_letter, start_digit, letter_is_word, digit_goes_on, punct_some, start_by}
 use Rattle.c_lex.proofs.Tables.{is_mark, keyword_is, keyword_none, punct_begins, punct_longest, punct_first}
 use Rattle.c_lex.proofs.Sorts.{token_word, token_number, token_quoted, token_double, token_mark, run_all, run_most, run_first, closed_is, closed_found, closing_at}
 
--- the first n bytes of the text are a token of this kind, and no more of them are a token
-pub record IsLongest (text : List ℕ) (n : ℕ) (k : TokenKind) : Type 0 where
-  pub token : IsToken (take n text)
-  pub spells : Spells (take n text) k
-  pub longest : (m : ℕ) → n < m → m ≤ length text → IsToken (take m text) → ⊥
+-- ---- where no comment begins
+
+pub no_slash : (b : ℕ) (bs : List ℕ) → (b ≡ 47 → ⊥) → begins_comment (b ∷ bs) ≡ false
+no_slash b bs h = let e : eqb 47 b ≡ false = grind (arith, nat_tests) in rw e refl
+
+letter_no_slash : (b : ℕ) → is_letter b ≡ true → b ≡ 47 → ⊥
+letter_no_slash b m e = let f = ap is_letter (sym e) ∙ m in cc
+
+digit_no_slash : (b : ℕ) → is_digit b ≡ true → b ≡ 47 → ⊥
+digit_no_slash b m e = let f = ap is_digit (sym e) ∙ m in cc
 
 piece_is : (k l : TokenKind) (n m : ℕ) → found (Piece k n) ≡ found (Piece l m) → (k ≡ l) × (n ≡ m)
 piece_is k l n m e = (cc, cc)
@@ -51,7 +54,7 @@ word_spells : (bytes : List ℕ) (o : Option Keyword) → keyword_of bytes ≡ o
 word_spells bytes None is word short = (word, refl, short, λ k. keyword_none bytes k is)
 word_spells bytes (Some k) is word short = keyword_is bytes k is
 
-word_longest_by : (b : ℕ) (bs : List ℕ) (m : ℕ) → is_letter b ≡ true → prefix_len is_word (b ∷ bs) < m → m ≤ length (b ∷ bs) → IsToken (take m (b ∷ bs)) → ⊥
+pub word_longest_by : (b : ℕ) (bs : List ℕ) (m : ℕ) → is_letter b ≡ true → prefix_len is_word (b ∷ bs) < m → m ≤ length (b ∷ bs) → IsToken (take m (b ∷ bs)) → ⊥
 word_longest_by b bs zero letter less within token = omega arith
 word_longest_by b bs (suc m) letter less within token =
     let word = token_word b (take m bs) letter token in
@@ -59,7 +62,7 @@ word_longest_by b bs (suc m) letter less within token =
     let size = run_first is_word b bs (letter_is_word b letter) in
     omega arith
 
-word_is : (b : ℕ) (bs : List ℕ) → is_letter b ≡ true → IsWord (take (prefix_len is_word (b ∷ bs)) (b ∷ bs))
+pub word_is : (b : ℕ) (bs : List ℕ) → is_letter b ≡ true → IsWord (take (prefix_len is_word (b ∷ bs)) (b ∷ bs))
 word_is b bs letter =
     let size = run_first is_word b bs (letter_is_word b letter) in
     subst (λ (n : ℕ). IsWord (take n (b ∷ bs))) (sym size) (letter, run_all is_word bs)
@@ -77,6 +80,7 @@ word_longest at b bs n k letter e =
       | inr (short, f) ↦
           let size : m ≤ 63 = ltb-false 63 m short in
           longest_at text m n j k (record {
+            no_comment = no_slash b bs (letter_no_slash b letter);
             token = inl word;
             spells = word_spells bytes (keyword_of bytes) refl word (omega (arith, length-take m text));
             longest = λ i. word_longest_by b bs i letter;
@@ -85,18 +89,18 @@ word_longest at b bs n k letter e =
 
 -- ---- numbers
 
-typed_number : (base at value : ℕ) (unsigned : Bool) (k : TokenKind) → typed base at value unsigned ≡ Ok k → (v : ℕ) × (u : Bool) × (k ≡ kind.Number v u) × (typed base 0 value unsigned ≡ Ok (kind.Number v u))
-typed_number base at value unsigned k e =
+typed_number : (base at to value : ℕ) (unsigned : Bool) (k : TokenKind) → typed base at value unsigned ≡ Ok k → (v : ℕ) × (u : Bool) × (k ≡ kind.Number v u) × (typed base to value unsigned ≡ Ok (kind.Number v u))
+typed_number base at to value unsigned k e =
     let wide = ltb 4294967295 value || (eqb base 10 && not unsigned && ltb 2147483647 value) in
     let made : TokenKind = kind.Number value (unsigned || ltb 2147483647 value) in
     elim (chosen wide (Err (fault.TooWide at)) (Ok made) (Ok k) e) [
       | inl (_, f) ↦ absurd cc
-      | inr (fits, f) ↦ (value, unsigned || ltb 2147483647 value, cc, ap (λ b. cond b (Err (fault.TooWide 0)) (Ok made)) fits)
+      | inr (fits, f) ↦ (value, unsigned || ltb 2147483647 value, cc, ap (λ b. cond b (Err (fault.TooWide to)) (Ok made)) fits)
     ]
 
-digits_number : (base at : ℕ) (text : List ℕ) (k : TokenKind) → digits_at base at text ≡ Ok k → (v : ℕ) × (u : Bool) × (k ≡ kind.Number v u) × (digits_at base 0 text ≡ Ok (kind.Number v u))
+digits_number : (base at to : ℕ) (text : List ℕ) (k : TokenKind) → digits_at base at text ≡ Ok k → (v : ℕ) × (u : Bool) × (k ≡ kind.Number v u) × (digits_at base to text ≡ Ok (kind.Number v u))
 unfolding digits_at
-digits_number base at text k e =
+digits_number base at to text k e =
     let n = prefix_len (is_digit_in base) text in
     let value = digits_value base (take n text) in
     elim (chosen (eqb n 0) (Err (fault.BadNumber at)) (ok_or (suffix (drop n text)) (fault.BadNumber at) >>= λ u. typed base at value u) (Ok k) e) [
@@ -104,35 +108,35 @@ digits_number base at text k e =
       | inr (some, f) ↦
           let u = bind_ok (ok_or (suffix (drop n text)) (fault.BadNumber at)) (λ u. typed base at value u) k f in
           let is = ok_or_ok (suffix (drop n text)) (fault.BadNumber at) u.0 u.1 in
-          let made = typed_number base at value u.0 k u.2 in (
+          let made = typed_number base at to value u.0 k u.2 in (
             made.0,
             made.1,
             made.2,
-            ap (λ b. cond b (Err (fault.BadNumber 0)) (ok_or (suffix (drop n text)) (fault.BadNumber 0) >>= λ w. typed base 0 value w)) some
-                ∙ ap (λ o. ok_or o (fault.BadNumber 0) >>= λ w. typed base 0 value w) is ∙ made.3,
+            ap (λ b. cond b (Err (fault.BadNumber to)) (ok_or (suffix (drop n text)) (fault.BadNumber to) >>= λ w. typed base to value w)) some
+                ∙ ap (λ o. ok_or o (fault.BadNumber to) >>= λ w. typed base to value w) is ∙ made.3,
           )
     ]
 
-pub constant_number : (at : ℕ) (run : List ℕ) (k : TokenKind) → constant_at at run ≡ Ok k → (v : ℕ) × (u : Bool) × (k ≡ kind.Number v u) × (constant_at 0 run ≡ Ok (kind.Number v u))
+pub constant_number : (at to : ℕ) (run : List ℕ) (k : TokenKind) → constant_at at run ≡ Ok k → (v : ℕ) × (u : Bool) × (k ≡ kind.Number v u) × (constant_at to run ≡ Ok (kind.Number v u))
 unfolding constant_at
-constant_number at run k e =
+constant_number at to run k e =
     let hex = starts_with nat_eq run (codes "0x") || starts_with nat_eq run (codes "0X") in
     let octal = starts_with nat_eq run (codes "0") in
     elim (chosen hex (digits_at 16 at (drop 2 run)) (cond octal (digits_at 8 at run) (digits_at 10 at run)) (Ok k) e) [
       | inl (is, f) ↦
-          let made = digits_number 16 at (drop 2 run) k f in
-          (made.0, made.1, made.2, ap (λ b. cond b (digits_at 16 0 (drop 2 run)) (cond octal (digits_at 8 0 run) (digits_at 10 0 run))) is ∙ made.3)
+          let made = digits_number 16 at to (drop 2 run) k f in
+          (made.0, made.1, made.2, ap (λ b. cond b (digits_at 16 to (drop 2 run)) (cond octal (digits_at 8 to run) (digits_at 10 to run))) is ∙ made.3)
       | inr (is, f) ↦ elim (chosen octal (digits_at 8 at run) (digits_at 10 at run) (Ok k) f) [
         | inl (zero_first, g) ↦
-            let made = digits_number 8 at run k g in
-            (made.0, made.1, made.2, ap (λ b. cond b (digits_at 16 0 (drop 2 run)) (cond octal (digits_at 8 0 run) (digits_at 10 0 run))) is ∙ ap (λ b. cond b (digits_at 8 0 run) (digits_at 10 0 run)) zero_first ∙ made.3)
+            let made = digits_number 8 at to run k g in
+            (made.0, made.1, made.2, ap (λ b. cond b (digits_at 16 to (drop 2 run)) (cond octal (digits_at 8 to run) (digits_at 10 to run))) is ∙ ap (λ b. cond b (digits_at 8 to run) (digits_at 10 to run)) zero_first ∙ made.3)
         | inr (zero_first, g) ↦
-            let made = digits_number 10 at run k g in
-            (made.0, made.1, made.2, ap (λ b. cond b (digits_at 16 0 (drop 2 run)) (cond octal (digits_at 8 0 run) (digits_at 10 0 run))) is ∙ ap (λ b. cond b (digits_at 8 0 run) (digits_at 10 0 run)) zero_first ∙ made.3)
+            let made = digits_number 10 at to run k g in
+            (made.0, made.1, made.2, ap (λ b. cond b (digits_at 16 to (drop 2 run)) (cond octal (digits_at 8 to run) (digits_at 10 to run))) is ∙ ap (λ b. cond b (digits_at 8 to run) (digits_at 10 to run)) zero_first ∙ made.3)
       ]
     ]
 
-number_longest_by : (b : ℕ) (bs : List ℕ) (m : ℕ) → is_digit b ≡ true → prefix_len is_number_byte (b ∷ bs) < m → m ≤ length (b ∷ bs) → IsToken (take m (b ∷ bs)) → ⊥
+pub number_longest_by : (b : ℕ) (bs : List ℕ) (m : ℕ) → is_digit b ≡ true → prefix_len is_number_byte (b ∷ bs) < m → m ≤ length (b ∷ bs) → IsToken (take m (b ∷ bs)) → ⊥
 number_longest_by b bs zero digit less within token = omega arith
 number_longest_by b bs (suc m) digit less within token =
     let number = token_number b (take m bs) digit token in
@@ -140,7 +144,7 @@ number_longest_by b bs (suc m) digit less within token =
     let size = run_first is_number_byte b bs (digit_goes_on b digit) in
     omega arith
 
-number_is : (b : ℕ) (bs : List ℕ) → is_digit b ≡ true → IsNumber (take (prefix_len is_number_byte (b ∷ bs)) (b ∷ bs))
+pub number_is : (b : ℕ) (bs : List ℕ) → is_digit b ≡ true → IsNumber (take (prefix_len is_number_byte (b ∷ bs)) (b ∷ bs))
 number_is b bs digit =
     let size = run_first is_number_byte b bs (digit_goes_on b digit) in
     subst (λ (n : ℕ). IsNumber (take n (b ∷ bs))) (sym size) (digit, run_all is_number_byte bs)
@@ -151,9 +155,10 @@ number_longest at b bs n k digit e =
     let text = b ∷ bs in
     let m = prefix_len is_number_byte text in
     let made = bind_ok (constant_at at (take m text)) (λ j. Ok (Piece j m)) (Piece k n) e in
-    let number = constant_number at (take m text) made.0 made.1 in
+    let number = constant_number at 0 (take m text) made.0 made.1 in
     let is = number_is b bs digit in
     longest_at text m n made.0 k (record {
+      no_comment = no_slash b bs (digit_no_slash b digit);
       token = inr (inl is);
       spells = subst (λ (j : TokenKind). Spells (take m text) j) (sym number.2) (is, number.3);
       longest = λ i. number_longest_by b bs i digit;
@@ -171,34 +176,35 @@ quoted_longest_by quote n bs (suc m) q10 q92 is less within closed =
     let n_is : n ≡ 0 + m = cc in
     omega arith
 
-quoted_is : (quote b m : ℕ) (bs : List ℕ) → b ≡ quote → closing_from quote false 0 bs ≡ Some m → IsQuoted quote (take (m + 2) (b ∷ bs))
+pub quoted_is : (quote b m : ℕ) (bs : List ℕ) → b ≡ quote → closing_from quote false 0 bs ≡ Some m → IsQuoted quote (take (m + 2) (b ∷ bs))
 quoted_is quote b m bs same is =
     let two : suc (suc m) ≡ m + 2 = omega arith in
     let place : m ≡ 0 + m = omega arith in
     subst (λ (i : ℕ). IsQuoted quote (take i (b ∷ bs))) two (same, closed_is quote 0 m bs (is ∙ ap Some place))
 
-quoted_bytes : (quote b m : ℕ) (bs : List ℕ) → b ≡ quote → closing_from quote false 0 bs ≡ Some m → take (m + 2) (b ∷ bs) ≡ quote ∷ (take m bs ++ quote ∷ [])
+pub quoted_bytes : (quote b m : ℕ) (bs : List ℕ) → b ≡ quote → closing_from quote false 0 bs ≡ Some m → take (m + 2) (b ∷ bs) ≡ quote ∷ (take m bs ++ quote ∷ [])
 quoted_bytes quote b m bs same is =
     let two : m + 2 ≡ suc (suc m) = omega arith in
     let place : m ≡ 0 + m = omega arith in
     ap (λ i. take i (b ∷ bs)) two ∙ ap (λ (t : List ℕ). b ∷ t) (closing_at quote 0 m false bs (is ∙ ap Some place)) ∙ ap (λ x. x ∷ (take m bs ++ quote ∷ [])) same
 
-only_is : (o : Option (List ℕ)) (c : ℕ) → option_and_then only o ≡ Some c → o ≡ Some (c ∷ [])
+pub only_is : (o : Option (List ℕ)) (c : ℕ) → option_and_then only o ≡ Some c → o ≡ Some (c ∷ [])
 only_is None c f = absurd cc
 only_is (Some []) c f = absurd cc
 only_is (Some (d ∷ [])) c f = let same : d ≡ c = cc in ap (λ x. Some (x ∷ [])) same
 only_is (Some (d ∷ x ∷ xs)) c f = absurd cc
 
-char_longest_by : (b m : ℕ) (bs : List ℕ) (i : ℕ) → b ≡ 39 → closing_from 39 false 0 bs ≡ Some m → m + 2 < i → i ≤ length (b ∷ bs) → IsToken (take i (b ∷ bs)) → ⊥
+pub char_longest_by : (b m : ℕ) (bs : List ℕ) (i : ℕ) → b ≡ 39 → closing_from 39 false 0 bs ≡ Some m → m + 2 < i → i ≤ length (b ∷ bs) → IsToken (take i (b ∷ bs)) → ⊥
 char_longest_by b m bs zero same is less within token = omega arith
 char_longest_by b m bs (suc i) same is less within token = quoted_longest_by 39 m bs i (λ q. omega arith) (λ q. omega arith) is less (omega arith) (token_quoted b (take i bs) same token)
 
-text_longest_by : (b m : ℕ) (bs : List ℕ) (i : ℕ) → b ≡ 34 → closing_from 34 false 0 bs ≡ Some m → m + 2 < i → i ≤ length (b ∷ bs) → IsToken (take i (b ∷ bs)) → ⊥
+pub text_longest_by : (b m : ℕ) (bs : List ℕ) (i : ℕ) → b ≡ 34 → closing_from 34 false 0 bs ≡ Some m → m + 2 < i → i ≤ length (b ∷ bs) → IsToken (take i (b ∷ bs)) → ⊥
 text_longest_by b m bs zero same is less within token = omega arith
 text_longest_by b m bs (suc i) same is less within token = quoted_longest_by 34 m bs i (λ q. omega arith) (λ q. omega arith) is less (omega arith) (token_double b (take i bs) same token)
 
 char_spells : (b m c : ℕ) (bs : List ℕ) → b ≡ 39 → closing_from 39 false 0 bs ≡ Some m → characters 0 (take m bs) ≡ Some (c ∷ []) → IsLongest (b ∷ bs) (m + 2) (kind.Char c)
 char_spells b m c bs same is one = record {
+  no_comment = no_slash b bs (λ e. omega (arith, e, same));
   token = inr (inr (inl (quoted_is 39 b m bs same is)));
   spells = (take m bs, quoted_bytes 39 b m bs same is, one);
   longest = λ i. char_longest_by b m bs i same is;
@@ -206,6 +212,7 @@ char_spells b m c bs same is one = record {
 
 text_spells : (b m : ℕ) (cs bs : List ℕ) → b ≡ 34 → closing_from 34 false 0 bs ≡ Some m → characters 0 (take m bs) ≡ Some cs → IsLongest (b ∷ bs) (m + 2) (kind.Text cs)
 text_spells b m cs bs same is all = record {
+  no_comment = no_slash b bs (λ e. omega (arith, e, same));
   token = inr (inr (inr (inl (quoted_is 34 b m bs same is))));
   spells = (take m bs, quoted_bytes 34 b m bs same is, all);
   longest = λ i. text_longest_by b m bs i same is;
@@ -252,18 +259,19 @@ punct_longest_by b bs p (suc i) is less within token =
     let begins : take (length (punct_spelling q.0)) (b ∷ bs) ≡ punct_spelling q.0 = ap (λ j. take j (b ∷ bs)) size ∙ sym q.1 in
     omega (arith, punct_longest (b ∷ bs) p q.0 is begins)
 
-punct_found : (at b : ℕ) (bs : List ℕ) (n : ℕ) (k : TokenKind) (o : Option Punct) → punct_at (b ∷ bs) ≡ o → punct_item at o ≡ Ok (Piece k n) → IsLongest (b ∷ bs) n k
-punct_found at b bs n k None is e = absurd cc
-punct_found at b bs n k (Some p) is e =
+punct_found : (at b : ℕ) (bs : List ℕ) (n : ℕ) (k : TokenKind) (o : Option Punct) → begins_comment (b ∷ bs) ≡ false → punct_at (b ∷ bs) ≡ o → punct_item at o ≡ Ok (Piece k n) → IsLongest (b ∷ bs) n k
+punct_found at b bs n k None no_comment is e = absurd cc
+punct_found at b bs n k (Some p) no_comment is e =
     let begins = punct_begins (b ∷ bs) p is in
     longest_at (b ∷ bs) (length (punct_spelling p)) n (kind.Punct p) k (record {
+      no_comment = no_comment;
       token = inr (inr (inr (inr (p, sym begins))));
       spells = sym begins;
       longest = λ i. punct_longest_by b bs p i is;
     }) e
 
-pub punct_is_longest : (at b : ℕ) (bs : List ℕ) (n : ℕ) (k : TokenKind) → punct_item at (punct_at (b ∷ bs)) ≡ Ok (Piece k n) → IsLongest (b ∷ bs) n k
-punct_is_longest at b bs n k e = punct_found at b bs n k (punct_at (b ∷ bs)) refl e
+pub punct_is_longest : (at b : ℕ) (bs : List ℕ) (n : ℕ) (k : TokenKind) → begins_comment (b ∷ bs) ≡ false → punct_item at (punct_at (b ∷ bs)) ≡ Ok (Piece k n) → IsLongest (b ∷ bs) n k
+punct_is_longest at b bs n k no_comment e = punct_found at b bs n k (punct_at (b ∷ bs)) no_comment refl e
 
 -- ---- every item
 
@@ -291,7 +299,7 @@ double_by false false false false false false true _ e = absurd cc
 double_by false false false false false false false true e = absurd cc
 double_by false false false false false false false false e = absurd cc
 
-same_byte : (x y : ℕ) → eqb x y ≡ true → x ≡ y
+pub same_byte : (x y : ℕ) → eqb x y ≡ true → x ≡ y
 same_byte x y e = grind (arith, nat_tests)
 
 pub start_quote : (b : ℕ) → start_of b ≡ start.Quote → b ≡ 39
@@ -302,15 +310,33 @@ pub start_double : (b : ℕ) → start_of b ≡ start.DoubleQuote → b ≡ 34
 unfolding start_of start_by
 start_double b e = same_byte b 34 (double_by (is_line_end b) (is_inner_blank b) (is_letter b) (is_digit b) (eqb b 39) (eqb b 34) (eqb b 35) (eqb b 47) e)
 
+other_by : (line blank letter digit quote double hash slash : Bool) → start_by line blank letter digit quote double hash slash ≡ start.Other → slash ≡ false
+unfolding start_by
+other_by true _ _ _ _ _ _ _ e = absurd cc
+other_by false true _ _ _ _ _ _ e = absurd cc
+other_by false false true _ _ _ _ _ e = absurd cc
+other_by false false false true _ _ _ _ e = absurd cc
+other_by false false false false true _ _ _ e = absurd cc
+other_by false false false false false true _ _ e = absurd cc
+other_by false false false false false false true _ e = absurd cc
+other_by false false false false false false false true e = absurd cc
+other_by false false false false false false false false e = refl
+
+start_no_slash : (b : ℕ) → start_of b ≡ start.Other → b ≡ 47 → ⊥
+unfolding start_of start_by
+start_no_slash b e same =
+    let no = other_by (is_line_end b) (is_inner_blank b) (is_letter b) (is_digit b) (eqb b 39) (eqb b 34) (eqb b 35) (eqb b 47) e in
+    grind (arith, nat_tests)
+
 slash_longest : (at b : ℕ) (bs : List ℕ) (n : ℕ) (k : TokenKind) → slash_at at (b ∷ bs) ≡ Ok (Piece k n) → IsLongest (b ∷ bs) n k
 unfolding slash_at comment_at line_comment
 slash_longest at b bs n k e =
     let text = b ∷ bs in
     elim (chosen (starts_with nat_eq text (codes "/*")) (comment_at at (drop 2 text)) (cond (starts_with nat_eq text (codes "//")) (Ok (line_comment (drop 2 text))) (punct_item at (punct_at text))) (Ok (Piece k n)) e) [
       | inl (_, f) ↦ let gap = bind_ok (ok_or (comment_end 0 (drop 2 text)) (fault.OpenComment at)) (λ m. Ok (Gap (m + 2))) (Piece k n) f in absurd (no_gap (gap.0 + 2) k n gap.2)
-      | inr (_, f) ↦ elim (chosen (starts_with nat_eq text (codes "//")) (Ok (line_comment (drop 2 text))) (punct_item at (punct_at text)) (Ok (Piece k n)) f) [
+      | inr (no_block, f) ↦ elim (chosen (starts_with nat_eq text (codes "//")) (Ok (line_comment (drop 2 text))) (punct_item at (punct_at text)) (Ok (Piece k n)) f) [
         | inl (_, g) ↦ absurd (no_gap (position_or_len is_line_end (drop 2 text) + 2) k n g)
-        | inr (_, g) ↦ punct_is_longest at b bs n k g
+        | inr (no_line, g) ↦ punct_is_longest at b bs n k (ap (λ t. t || starts_with nat_eq text (codes "//")) no_block ∙ no_line) g
       ]
     ]
   where
@@ -327,7 +353,7 @@ item_longest_of start.Quote at b bs n k is e = char_longest at b bs n k (start_q
 item_longest_of start.DoubleQuote at b bs n k is e = text_longest at b bs n k (start_double b is) e
 item_longest_of start.Hash at b bs n k is e = absurd cc
 item_longest_of start.Slash at b bs n k is e = slash_longest at b bs n k e
-item_longest_of start.Other at b bs n k is e = punct_is_longest at b bs n k e
+item_longest_of start.Other at b bs n k is e = punct_is_longest at b bs n k (no_slash b bs (start_no_slash b is)) e
 
 pub item_longest : (at : ℕ) (text : List ℕ) (n : ℕ) (k : TokenKind) → 0 < length text → item_at at text ≡ Ok (Piece k n) → IsLongest text n k
 item_longest at [] n k some e = absurd (omega arith)

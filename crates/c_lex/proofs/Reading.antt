@@ -1,26 +1,24 @@
 -- What is written for a token is read as that token.
-use Rattle.std.proofs.Common.{◌≡◌, ◌⊎◌, ℕ, zero, suc, ◌+◌, ◌-◌, ◌*◌, ◌/◌, ◌%◌, ◌<◌, ◌≤◌, Bool, true, false, cond, not, eqb, leb, ltb, ◌&&◌, ◌||◌, List, [], ◌∷◌, ◌++◌, length, take, drop, Option, Some, None, Result, Ok, Err, codes, refl, sym, ap, ◌∙◌, subst, arith, inl, inr, append_assoc, zero-add}
-use Rattle.std.specs.Prelude.{nat_eq, slice_index}
+use Rattle.std.proofs.Common.{◌≡◌, ◌⊎◌, ℕ, zero, suc, ◌+◌, ◌-◌, ◌*◌, ◌/◌, ◌%◌, ◌<◌, ◌≤◌, Bool, true, false, cond, eqb, ltb, ◌&&◌, ◌||◌, List, [], ◌∷◌, ◌++◌, length, take, drop, Some, None, Result, Ok, Err, refl, ap, ◌∙◌, arith, inl, inr, append_assoc, zero-add}
 use Rattle.std.specs.Option.{ok_or, option_and_then}
-use Rattle.std.specs.List.{starts_with, prefix_len, list_all, fold}
+use Rattle.std.specs.List.{prefix_len, list_all}
 use Rattle.std.proofs.lemmas.Bool.{le-ltb}
 use Rattle.std.proofs.lemmas.Bool.Decides.{nat_tests}
 use Rattle.std.proofs.lemmas.List.{take_at, drop_at, length-append, append-nil}
 use Rattle.std.proofs.lemmas.List.Sums.{fold_push}
 use Rattle.c_lex.specs.Results.{◌>>=◌}
-use Rattle.c_lex.specs.Classes.{is_letter, is_digit, is_hex_digit, is_word, is_number_byte, is_line_end, is_inner_blank}
+use Rattle.c_lex.specs.Classes.{is_letter, is_digit, is_word, is_number_byte, is_line_end, is_inner_blank}
 use Rattle.c_lex.specs.Digits.{is_digit_in, digit_value, digits_value}
-use Rattle.c_lex.specs.Keywords.{keyword_of, keyword_spelling}
-use Rattle.c_lex.specs.Punctuators.{punct_at, punct_spelling}
+use Rattle.c_lex.specs.Keywords.{keyword_of}
 use Rattle.c_lex.specs.Numbers.{number_at, constant_at, digits_at, typed, suffix}
 use Rattle.c_lex.specs.Texts.{closing_from, characters, character_at, escape_at, simple_escape, with_first, only, char_at, text_at}
-use Rattle.c_lex.specs.Items.{item_at, item_of, start_of, word_at, word_kind_of, slash_at, punct_item}
+use Rattle.c_lex.specs.Items.{item_at, item_of, start_of, word_at, word_kind_of, slash_at}
 use Rattle.c_lex.specs.Grammar.{IsWord}
 use Rattle.c_lex.specs.Written.{octal, is_escaped, escapes, quoted, written}
 use Rattle.c_lex.specs.declared.fault.LexFault.{LexFault}
 use Rattle.c_lex.specs.declared.fault.LexFault.TheVariants as fault
 use Rattle.c_lex.specs.declared.item.Item.{Item}
-use Rattle.c_lex.specs.declared.item.Item.TheVariants.{Gap, Piece}
+use Rattle.c_lex.specs.declared.item.Item.TheVariants.{Piece}
 use Rattle.c_lex.specs.declared.item.Start.TheVariants as start
 use Rattle.c_lex.specs.declared.keyword.Keyword.{Keyword}
 use Rattle.c_lex.specs.declared.keyword.Keyword.TheVariants as word
@@ -28,7 +26,7 @@ use Rattle.c_lex.specs.declared.punct.Punct.{Punct}
 use Rattle.c_lex.specs.declared.punct.Punct.TheVariants as mark
 use Rattle.c_lex.specs.declared.token.TokenKind.{TokenKind}
 use Rattle.c_lex.specs.declared.token.TokenKind.TheVariants as kind
-use Rattle.c_lex.proofs.Lengths.{chosen, digit_goes_on}
+use Rattle.c_lex.proofs.Lengths.{digit_goes_on}
 
 -- what the tokens of a source are
 abbrev pub IsProper : TokenKind → Type 0
@@ -139,7 +137,7 @@ punct_read mark.PipeEqual at more = refl
 
 -- ---- names
 
-run_before : (p : ℕ → Bool) (xs : List ℕ) (y : ℕ) (more : List ℕ) → list_all p xs ≡ true → p y ≡ false → prefix_len p (xs ++ y ∷ more) ≡ length xs
+pub run_before : (p : ℕ → Bool) (xs : List ℕ) (y : ℕ) (more : List ℕ) → list_all p xs ≡ true → p y ≡ false → prefix_len p (xs ++ y ∷ more) ≡ length xs
 run_before p [] y more all stop = ap (λ t. cond t (1 + prefix_len p more) 0) stop
 run_before p (x ∷ xs) y more all stop =
     let both = and_both (p x) (list_all p xs) all in
@@ -149,14 +147,14 @@ run_before p (x ∷ xs) y more all stop =
     and_both true y e = (refl, e)
     and_both false y e = absurd cc
 
-letter_starts : (b : ℕ) → is_letter b ≡ true → start_of b ≡ start.Letter
+pub letter_starts : (b : ℕ) → is_letter b ≡ true → start_of b ≡ start.Letter
 unfolding start_of
 letter_starts b e =
     let line : is_line_end b ≡ false = grind (arith, nat_tests) in
     let blank : is_inner_blank b ≡ false = grind (arith, nat_tests) in
     rw (line, blank, e) refl
 
-word_all : (b : ℕ) (bs : List ℕ) → IsWord (b ∷ bs) → list_all is_word (b ∷ bs) ≡ true
+pub word_all : (b : ℕ) (bs : List ℕ) → IsWord (b ∷ bs) → list_all is_word (b ∷ bs) ≡ true
 word_all b bs h = let first : is_word b ≡ true = or_left (is_letter b) (is_digit b) h.0 in ap (λ t. t && list_all is_word bs) first ∙ h.1
   where
     or_left : (x y : Bool) → x ≡ true → (x || y) ≡ true
@@ -184,7 +182,7 @@ octal_len : (n value : ℕ) → length (octal n value) ≡ n
 octal_len zero value = refl
 octal_len (suc n) value = omega (arith, length-append (octal n (value / 8)) ((value % 8 + 48) ∷ []), octal_len n (value / 8))
 
-all_append : (p : ℕ → Bool) (xs ys : List ℕ) → list_all p xs ≡ true → list_all p ys ≡ true → list_all p (xs ++ ys) ≡ true
+pub all_append : (p : ℕ → Bool) (xs ys : List ℕ) → list_all p xs ≡ true → list_all p ys ≡ true → list_all p (xs ++ ys) ≡ true
 all_append p [] ys h k = k
 all_append p (x ∷ xs) ys h k =
     let both = and_both (p x) (list_all p xs) h in
@@ -234,7 +232,7 @@ octal_bytes zero value = refl
 octal_bytes (suc n) value =
     all_append is_number_byte (octal n (value / 8)) ((value % 8 + 48) ∷ []) (octal_bytes n (value / 8)) (ap (λ t. t && true) (byte_of (value % 8 + 48) (digit_of (value % 8) (omega arith))))
 
-run_whole : (p : ℕ → Bool) (xs : List ℕ) → list_all p xs ≡ true → prefix_len p xs ≡ length xs
+pub run_whole : (p : ℕ → Bool) (xs : List ℕ) → list_all p xs ≡ true → prefix_len p xs ≡ length xs
 run_whole p [] all = refl
 run_whole p (x ∷ xs) all =
     let both = and_both (p x) (list_all p xs) all in

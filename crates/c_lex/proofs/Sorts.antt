@@ -1,12 +1,10 @@
 -- The sort of a token by its first byte, and the longest runs of each sort.
-use Rattle.std.proofs.Common.{◌≡◌, ◌≢◌, ◌⊎◌, ℕ, zero, suc, ◌+◌, ◌-◌, ◌<◌, ◌≤◌, Bool, true, false, cond, not, eqb, leb, ltb, ◌&&◌, ◌||◌, List, [], ◌∷◌, ◌++◌, length, take, drop, Option, Some, None, refl, sym, ap, ◌∙◌, subst, arith, inl, inr}
+use Rattle.std.proofs.Common.{◌≡◌, ℕ, zero, suc, ◌+◌, ◌-◌, ◌≤◌, Bool, true, false, cond, not, eqb, ◌&&◌, List, [], ◌∷◌, ◌++◌, length, take, Some, None, refl, sym, ap, ◌∙◌, arith, inl, inr}
 use Rattle.std.specs.List.{list_all, prefix_len}
-use Rattle.std.proofs.lemmas.Bool.{false≢true}
 use Rattle.std.proofs.lemmas.Bool.Decides.{nat_tests}
-use Rattle.c_lex.specs.Classes.{is_letter, is_digit, is_word, is_number_byte}
+use Rattle.c_lex.specs.Classes.{is_letter, is_digit}
 use Rattle.c_lex.specs.Texts.{closing_from}
-use Rattle.c_lex.specs.Punctuators.{punct_spelling}
-use Rattle.c_lex.specs.Grammar.{IsWord, IsNumber, IsClosed, IsQuoted, IsPunctuator, IsToken}
+use Rattle.c_lex.specs.Grammar.{IsWord, IsNumber, IsClosed, IsPunctuator, IsToken}
 use Rattle.c_lex.proofs.Lengths.{chosen, closing_within}
 use Rattle.c_lex.proofs.Tables.{is_mark, punct_first}
 

@@ -1,6 +1,6 @@
 -- The tables of keywords and punctuators: each stands in its list, and longer punctuators first.
-use Rattle.std.proofs.Common.{◌≡◌, ℕ, zero, suc, ◌+◌, ◌<◌, ◌≤◌, Bool, true, false, cond, not, eqb, leb, List, [], ◌∷◌, length, take, Option, Some, None, ◌&&◌, refl, sym, ap, ◌∙◌, arith, inl, inr}
-use Rattle.std.specs.Prelude.{nat_eq, nat_le, slice_index, slice_get, find}
+use Rattle.std.proofs.Common.{◌≡◌, ℕ, zero, suc, ◌≤◌, Bool, true, false, not, eqb, leb, List, [], ◌∷◌, length, take, Option, Some, None, ◌&&◌, refl, sym, ap, ◌∙◌, arith, inl, inr}
+use Rattle.std.specs.Prelude.{nat_eq, slice_index, find}
 use Rattle.std.specs.List.{starts_with, list_all}
 use Rattle.std.specs.Str.{bytes_eq}
 use Rattle.std.proofs.lemmas.Bool.{leb-true}
@@ -285,6 +285,12 @@ punct_begins text p e =
 pub punct_longest : (text : List ℕ) (p q : Punct) → punct_at text ≡ Some p → take (length (punct_spelling q)) text ≡ punct_spelling q → length (punct_spelling q) ≤ length (punct_spelling p)
 punct_longest text p q e begins =
     longest_of (λ r. starts_with nat_eq text (punct_spelling r)) all_puncts (punct_place q) p q puncts_fall e (punct_stands q) ((bytes_eq-Decides (punct_spelling q) (take (length (punct_spelling q)) text)).1 (sym begins))
+
+pub punct_none : (text : List ℕ) (q : Punct) → punct_at text ≡ None → take (length (punct_spelling q)) text ≡ punct_spelling q → ⊥
+punct_none text q e begins =
+    let fails = none_passes (λ r. starts_with nat_eq text (punct_spelling r)) all_puncts (punct_place q) q e (punct_stands q) in
+    let passes = (bytes_eq-Decides (punct_spelling q) (take (length (punct_spelling q)) text)).1 (sym begins) in
+    cc
 
 -- ---- the first byte of a punctuator
 

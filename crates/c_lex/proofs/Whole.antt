@@ -1,9 +1,9 @@
 -- The tokens of a source, from the definition to the grammar.
-use Rattle.std.proofs.Common.{◌≡◌, ◌≢◌, ◌⊎◌, ℕ, zero, suc, ◌+◌, ◌-◌, ◌<◌, ◌≤◌, Bool, true, false, cond, not, eqb, leb, ltb, ◌&&◌, ◌||◌, List, [], ◌∷◌, ◌++◌, length, take, drop, get_or, Option, Some, None, Result, Ok, Err, codes, refl, sym, ap, ◌∙◌, subst, arith, inl, inr, zero-add}
+use Rattle.std.proofs.Common.{◌≡◌, ℕ, zero, suc, ◌+◌, ◌-◌, ◌<◌, ◌≤◌, Bool, true, false, cond, eqb, ltb, ◌||◌, List, [], ◌∷◌, length, take, drop, Option, Some, None, Result, Ok, Err, codes, refl, sym, ap, ◌∙◌, subst, arith, inl, inr, zero-add}
 use Rattle.std.specs.Prelude.{nat_eq, slice_index, slice_range}
 use Rattle.std.specs.Option.{ok_or, option_and_then}
 use Rattle.std.specs.List.{starts_with, prefix_len, position_or_len}
-use Rattle.std.proofs.lemmas.Bool.{cases_lt, ltb-false}
+use Rattle.std.proofs.lemmas.Bool.{cases_lt, ltb-false, ltb-true}
 use Rattle.std.proofs.lemmas.List.{drop_all, drop-drop, length-drop, get_or-drop}
 use Rattle.c_lex.specs.Results.{◌>>=◌}
 use Rattle.c_lex.specs.Classes.{is_letter, is_digit, is_word, is_number_byte, is_line_end, is_inner_blank}
@@ -12,9 +12,9 @@ use Rattle.c_lex.specs.Numbers.{number_at, constant_at}
 use Rattle.c_lex.specs.Texts.{closing_from, characters, only, char_at, text_at}
 use Rattle.c_lex.specs.Keywords.{keyword_of}
 use Rattle.c_lex.specs.Punctuators.{punct_at, punct_spelling}
-use Rattle.c_lex.specs.Items.{item_at, item_of, item_len, start_of, word_at, word_kind_of, slash_at, punct_item}
-use Rattle.c_lex.specs.Tokens.{tokens_from, counted, behind, item_then, lexed}
-use Rattle.c_lex.specs.Grammar.{IsGap, IsLineStart, IsBlockComment, IsLineComment, IsIncludeLine, IsToken, Spells, Holds, done, gap, token, Stands, TokensAreLongest}
+use Rattle.c_lex.specs.Items.{item_at, item_of, start_of, word_at, word_kind_of, slash_at, punct_item}
+use Rattle.c_lex.specs.Tokens.{tokens_from, counted, behind, lexed}
+use Rattle.c_lex.specs.Grammar.{IsLineStart, IsBlockComment, IsLineComment, IsIncludeLine, IsToken, Spells, Reads, done, gap, token, Stands}
 use Rattle.c_lex.specs.declared.fault.LexFault.{LexFault}
 use Rattle.c_lex.specs.declared.fault.LexFault.TheVariants as fault
 use Rattle.c_lex.specs.declared.item.Item.{Item}
@@ -25,15 +25,17 @@ use Rattle.c_lex.specs.declared.punct.Punct.{Punct}
 use Rattle.c_lex.specs.declared.token.Token.{Token}
 use Rattle.c_lex.specs.declared.token.TokenKind.{TokenKind}
 use Rattle.c_lex.specs.declared.token.TokenKind.TheVariants as kind
-use Rattle.c_lex.proofs.Lengths.{bind_ok, ok_or_ok, chosen, found, item_fits, IsFitting, start_by, include_within}
+use Rattle.c_lex.proofs.Lengths.{bind_ok, ok_or_ok, chosen, found, item_fits, start_by, include_within}
 use Rattle.c_lex.proofs.Driver.{step, stops, skipped, counted_ok}
 use Rattle.c_lex.proofs.GapLaws.{include_is, line_comment_is, block_comment_is}
-use Rattle.c_lex.proofs.Munch.{IsLongest, item_longest}
+use Rattle.c_lex.specs.Faults.{IsLongest, IsFault, FaultsAreFirst}
+use Rattle.c_lex.proofs.Munch.{item_longest}
+use Rattle.c_lex.proofs.FaultLaws.{counted_fault}
 
 -- ---- gaps
 
 abbrev pub IsPassed : List ℕ → ℕ → ℕ → Type 0
-IsPassed source at n = (ts : List Token) → Holds source (at + n) ts → Holds source at ts
+IsPassed source at n = (to : ℕ) (ts : List Token) → Reads source to (at + n) ts → Reads source to at ts
 
 no_piece : (k : TokenKind) (n m : ℕ) → found (Piece k n) ≡ found (Gap m) → ⊥
 no_piece k n m e = cc
@@ -76,17 +78,17 @@ gap_is : (n m : ℕ) → found (Gap n) ≡ found (Gap m) → n ≡ m
 gap_is n m e = cc
 
 -- the bytes behind a place, as a range
-range_is : (source : List ℕ) (at n : ℕ) → slice_range source at (at + n) ≡ take n (drop at source)
+pub range_is : (source : List ℕ) (at n : ℕ) → slice_range source at (at + n) ≡ take n (drop at source)
 range_is source at n = let size : at + n - at ≡ n = omega arith in ap (λ k. take k (drop at source)) size
 
-first_is : (source : List ℕ) (at b : ℕ) (bs : List ℕ) → drop at source ≡ b ∷ bs → slice_index source at ≡ b
+pub first_is : (source : List ℕ) (at b : ℕ) (bs : List ℕ) → drop at source ≡ b ∷ bs → slice_index source at ≡ b
 first_is source at b bs e =
     let place : at ≡ at + 0 = omega arith in
     ap (slice_index source) place ∙ sym (get_or-drop at source 0 0) ∙ ap (λ (t : List ℕ). slice_index t 0) e
 
 slash_passed : (source : List ℕ) (at n : ℕ) → at + n ≤ length source → 0 < n → slash_at at (drop at source) ≡ Ok (Gap n) → IsPassed source at n
 unfolding slash_at comment_at line_comment
-slash_passed source at n within some e ts rest =
+slash_passed source at n within some e to ts rest =
     let text = drop at source in
     elim (chosen (starts_with nat_eq text (codes "/*")) (comment_at at (drop 2 text)) (cond (starts_with nat_eq text (codes "//")) (Ok (line_comment (drop 2 text))) (punct_item at (punct_at text))) (Ok (Gap n)) e) [
       | inl (starts, f) ↦
@@ -149,17 +151,17 @@ or_right false y e = e
 
 -- an include line, where there is one, is passed over from the start of its line
 include_passed : (source : List ℕ) (at n : ℕ) → IsLineStart source at → at + n ≤ length source → include_len (drop at source) ≡ n → IsPassed source at n
-include_passed source at zero start within is ts rest = let place : at + 0 ≡ at = omega arith in subst (λ (i : ℕ). Holds source i ts) place rest
-include_passed source at (suc n) start within is ts rest =
+include_passed source at zero start within is to ts rest = let place : at + 0 ≡ at = omega arith in subst (λ (i : ℕ). Reads source to i ts) place rest
+include_passed source at (suc n) start within is to ts rest =
     let line = include_is (drop at source) (suc n) is (omega arith) in
     let behind : drop (suc n) (drop at source) ≡ drop (at + suc n) source = drop-drop (suc n) at source in
     gap at (at + suc n) ts (omega arith) within (inr (inr (inr (start, subst (λ (t : List ℕ). IsIncludeLine t (drop (at + suc n) source)) (sym (range_is source at (suc n))) (subst (λ (t : List ℕ). IsIncludeLine (take (suc n) (drop at source)) t) behind line))))) rest
 
 blank_passed : (source : List ℕ) (at : ℕ) → at + 1 ≤ length source → (is_line_end (slice_index source at) || is_inner_blank (slice_index source at)) ≡ true → IsPassed source at 1
-blank_passed source at within is ts rest = gap at (at + 1) ts (omega arith) within (inl (refl, is)) rest
+blank_passed source at within is to ts rest = gap at (at + 1) ts (omega arith) within (inl (refl, is)) rest
 
 line_passed : (source : List ℕ) (at n b : ℕ) (bs : List ℕ) → drop at source ≡ b ∷ bs → is_line_end b ≡ true → at + n ≤ length source → include_len bs + 1 ≡ n → IsPassed source at n
-line_passed source at n b bs split ends within size ts rest =
+line_passed source at n b bs split ends within size to ts rest =
     let next : drop (at + 1) source ≡ bs = sym (drop-drop 1 at source) ∙ ap (drop 1) split in
     let i = include_len bs in
     let len : include_len (drop (at + 1) source) ≡ i = ap include_len next in
@@ -167,8 +169,8 @@ line_passed source at n b bs split ends within size ts rest =
     let ended : is_line_end (slice_index source at) ≡ true = ap is_line_end (first_is source at b bs split) ∙ ends in
     let back : at + 1 - 1 ≡ at = omega arith in
     let start : IsLineStart source (at + 1) = inr (omega arith, ap (λ j. is_line_end (slice_index source j)) back ∙ ended) in
-    let behind : Holds source (at + 1) ts = include_passed source (at + 1) i start (omega arith) len ts (subst (λ (j : ℕ). Holds source j ts) place rest) in
-    blank_passed source at (omega arith) (or_left (is_line_end (slice_index source at)) (is_inner_blank (slice_index source at)) ended) ts behind
+    let behind : Reads source to (at + 1) ts = include_passed source (at + 1) i start (omega arith) len to ts (subst (λ (j : ℕ). Reads source to j ts) place rest) in
+    blank_passed source at (omega arith) (or_left (is_line_end (slice_index source at)) (is_inner_blank (slice_index source at)) ended) to ts behind
 
 gap_passed_of : (s : Start) (source : List ℕ) (at n b : ℕ) (bs : List ℕ) → drop at source ≡ b ∷ bs → start_of b ≡ s → at + n ≤ length source → 0 < n → item_of s at (b ∷ bs) ≡ Ok (Gap n) → IsPassed source at n
 unfolding item_of
@@ -176,7 +178,7 @@ gap_passed_of start.LineEnd source at n b bs split is within some e = line_passe
 gap_passed_of start.Blank source at n b bs split is within some e =
     let size = gap_is 1 n e in
     let blank : is_inner_blank (slice_index source at) ≡ true = ap is_inner_blank (first_is source at b bs split) ∙ start_blank b is in
-    λ ts rest. blank_passed source at (omega arith) (or_right (is_line_end (slice_index source at)) (is_inner_blank (slice_index source at)) blank) ts (subst (λ (k : ℕ). Holds source (at + k) ts) (sym size) rest)
+    λ to ts rest. blank_passed source at (omega arith) (or_right (is_line_end (slice_index source at)) (is_inner_blank (slice_index source at)) blank) to ts (subst (λ (k : ℕ). Reads source to (at + k) ts) (sym size) rest)
 gap_passed_of start.Letter source at n b bs split is within some e = absurd (word_no_gap at (b ∷ bs) n e)
 gap_passed_of start.Digit source at n b bs split is within some e = absurd (number_no_gap at (b ∷ bs) n e)
 gap_passed_of start.Quote source at n b bs split is within some e = absurd (char_no_gap at bs n e)
@@ -195,6 +197,7 @@ token_stands : (source : List ℕ) (at n : ℕ) (k : TokenKind) → 0 < n → at
 token_stands source at n k some within h = record {
   some = omega arith;
   within = within;
+  no_comment = h.no_comment;
   token = subst (λ (t : List ℕ). IsToken t) (sym (range_is source at n)) h.token;
   spells = subst (λ (t : List ℕ). Spells t k) (sym (range_is source at n)) h.spells;
   longest = λ end more fits is. h.longest (end - at) (omega arith) (omega (arith, length-drop at source)) is;
@@ -202,29 +205,46 @@ token_stands source at n k some within h = record {
 
 -- ---- all of a source
 
-behind_ok : (t : Token) (o : Result (List Token) LexFault) (ts : List Token) → behind (t ∷ []) o ≡ Ok ts → (us : List Token) × (o ≡ Ok us) × (t ∷ us ≡ ts)
-behind_ok t (Ok us) ts e = (us, refl, cc)
-behind_ok t (Err f) ts e = absurd cc
+abbrev no_tokens : LexFault → Result (List Token) LexFault
+no_tokens f = Err f
+
+-- What the tokens from a place on say of the source, behind `count` tokens.
+abbrev pub Outcome : List ℕ → ℕ → ℕ → Result (List Token) LexFault → Type 0
+Outcome source count at (Ok ts) = Reads source (length source) at ts
+Outcome source count at (Err f) =
+    (ts : List Token) × (place : ℕ) × Reads source place at ts × IsFault (drop place source) (count + length ts) place f
+
+passed_outcome : (source : List ℕ) (count at n : ℕ) (r : Result (List Token) LexFault) → IsPassed source at n → Outcome source count (at + n) r → Outcome source count at r
+passed_outcome source count at n (Ok ts) passed rest = passed (length source) ts rest
+passed_outcome source count at n (Err f) passed rest = (rest.0, rest.1, passed rest.1 rest.0 rest.2, rest.3)
+
+token_outcome : (source : List ℕ) (count : ℕ) (t : Token) (r : Result (List Token) LexFault) → Stands source t → Outcome source (count + 1) t.end r → Outcome source count t.at (behind (t ∷ []) r)
+token_outcome source count t (Ok ts) stands rest = token t ts stands rest
+token_outcome source count t (Err f) stands rest =
+    let size : count + 1 + length rest.0 ≡ count + suc (length rest.0) = omega arith in
+    (t ∷ rest.0, rest.1, token t rest.0 stands rest.2, subst (λ (c : ℕ). IsFault (drop rest.1 source) c rest.1 f) size rest.3)
 
 -- what is behind the next item
-abbrev Next : List ℕ → ℕ → ℕ → Type 0
-Next source at fuel = (count place : ℕ) (ts : List Token) → at < place → place ≤ length source → tokens_from count place 0 (drop place source) ≡ Ok ts → Holds source place ts
+abbrev Next : List ℕ → ℕ → Type 0
+Next source at = (count place : ℕ) → at < place → place ≤ length source → Outcome source count place (tokens_from count place 0 (drop place source))
 
-by_item : (source : List ℕ) (count at fuel : ℕ) (ts : List Token) (r : Result Item LexFault) → at < length source → Next source at fuel → counted count at (item_at at (drop at source)) ≡ r → tokens_from count at 0 (drop at source) ≡ Ok ts → Holds source at ts
-by_item source count at fuel ts (Err f) less next is e =
+by_item : (source : List ℕ) (count at : ℕ) (r : Result Item LexFault) → at < length source → Next source at → counted count at (item_at at (drop at source)) ≡ r → Outcome source count at (tokens_from count at 0 (drop at source))
+by_item source count at (Err f) less next is =
     let some : 0 < length (drop at source) = omega (arith, length-drop at source) in
     let stop = stops count at (drop at source) f is some in
-    absurd cc
-by_item source count at fuel ts (Ok (Gap n)) less next is e =
+    let none : count ≡ count + 0 = omega arith in
+    let faulty = subst (λ (c : ℕ). IsFault (drop at source) c at f) none (counted_fault count at (drop at source) f some is) in
+    subst (λ (r : Result (List Token) LexFault). Outcome source count at r) (sym stop) ([], at, done at refl, faulty)
+by_item source count at (Ok (Gap n)) less next is =
     let text = drop at source in
     let some : 0 < length text = omega (arith, length-drop at source) in
     let item = counted_ok count at (item_at at text) (Gap n) is in
     let fits = item_fits at text (Gap n) some item in
     let within : at + n ≤ length source = omega (arith, length-drop at source, fits.1) in
     let more : drop n text ≡ drop (at + n) source = drop-drop n at source in
-    let there : tokens_from count (at + n) 0 (drop (at + n) source) ≡ Ok ts = ap (tokens_from count (at + n) 0) (sym more) ∙ sym (step count at text (Gap n) is fits.0 some) ∙ e in
-    gap_passed source at n text refl some within fits.0 item ts (next count (at + n) ts (omega (arith, fits.0)) within there)
-by_item source count at fuel ts (Ok (Piece k n)) less next is e =
+    let there : tokens_from count (at + n) 0 (drop (at + n) source) ≡ tokens_from count at 0 text = ap (tokens_from count (at + n) 0) (sym more) ∙ sym (step count at text (Gap n) is fits.0 some) in
+    subst (λ (r : Result (List Token) LexFault). Outcome source count at r) there (passed_outcome source count at n (tokens_from count (at + n) 0 (drop (at + n) source)) (gap_passed source at n text refl some within fits.0 item) (next count (at + n) (omega (arith, fits.0)) within))
+by_item source count at (Ok (Piece k n)) less next is =
     let text = drop at source in
     let some : 0 < length text = omega (arith, length-drop at source) in
     let item = counted_ok count at (item_at at text) (Piece k n) is in
@@ -232,35 +252,53 @@ by_item source count at fuel ts (Ok (Piece k n)) less next is e =
     let within : at + n ≤ length source = omega (arith, length-drop at source, fits.1) in
     let more : drop n text ≡ drop (at + n) source = drop-drop n at source in
     let t : Token = record { kind = k; at = at; end = at + n } in
-    let split = behind_ok t (tokens_from (count + 1) (at + n) 0 (drop n text)) ts (sym (step count at text (Piece k n) is fits.0 some) ∙ e) in
-    let there : tokens_from (count + 1) (at + n) 0 (drop (at + n) source) ≡ Ok split.0 = ap (tokens_from (count + 1) (at + n) 0) (sym more) ∙ split.1 in
-    let rest = next (count + 1) (at + n) split.0 (omega (arith, fits.0)) within there in
-    subst (λ (us : List Token). Holds source at us) split.2 (token t split.0 (token_stands source at n k fits.0 within (item_longest at text n k some item)) rest)
+    let there : behind (t ∷ []) (tokens_from (count + 1) (at + n) 0 (drop (at + n) source)) ≡ tokens_from count at 0 text = ap (λ (u : List ℕ). behind (t ∷ []) (tokens_from (count + 1) (at + n) 0 u)) (sym more) ∙ sym (step count at text (Piece k n) is fits.0 some) in
+    let stands = token_stands source at n k fits.0 within (item_longest at text n k some item) in
+    subst (λ (r : Result (List Token) LexFault). Outcome source count at r) there (token_outcome source count t (tokens_from (count + 1) (at + n) 0 (drop (at + n) source)) stands (next (count + 1) (at + n) (omega (arith, fits.0)) within))
 
-holds_from : (fuel : ℕ) (source : List ℕ) (count at : ℕ) (ts : List Token) → length source ≤ at + fuel → at ≤ length source → tokens_from count at 0 (drop at source) ≡ Ok ts → Holds source at ts
-holds_from zero source count at ts enough within e =
+outcome_from : (fuel : ℕ) (source : List ℕ) (count at : ℕ) → length source ≤ at + fuel → at ≤ length source → Outcome source count at (tokens_from count at 0 (drop at source))
+outcome_from zero source count at enough within =
     let none : drop at source ≡ [] = drop_all at source (omega arith) in
-    let made : Ok [] ≡ Ok ts = ap (tokens_from count at 0) (sym none) ∙ e in
-    let empty : [] ≡ ts = cc in
-    subst (λ (us : List Token). Holds source at us) empty (done at (omega arith))
-holds_from (suc fuel) source count at ts enough within e =
+    let made : Ok [] ≡ tokens_from count at 0 (drop at source) = ap (tokens_from count at 0) (sym none) in
+    subst (λ (r : Result (List Token) LexFault). Outcome source count at r) made (done at (omega arith))
+outcome_from (suc fuel) source count at enough within =
     elim (cases_lt at (length source)) [
-      | inl less ↦ by_item source count at fuel ts (counted count at (item_at at (drop at source))) less (λ c place us later fits f. holds_from fuel source c place us (omega arith) fits f) refl e
+      | inl less ↦ by_item source count at (counted count at (item_at at (drop at source))) less (λ c place later fits. outcome_from fuel source c place (omega arith) fits) refl
       | inr over ↦
           let none : drop at source ≡ [] = drop_all at source over in
-          let made : Ok [] ≡ Ok ts = ap (tokens_from count at 0) (sym none) ∙ e in
-          let empty : [] ≡ ts = cc in
-          subst (λ (us : List Token). Holds source at us) empty (done at (omega arith))
+          let made : Ok [] ≡ tokens_from count at 0 (drop at source) = ap (tokens_from count at 0) (sym none) in
+          subst (λ (r : Result (List Token) LexFault). Outcome source count at r) made (done at (omega arith))
     ]
 
-pub tokens_are_longest : TokensAreLongest
-unfolding lexed
-tokens_are_longest source ts e =
+-- the whole source, its first line included
+whole : (source : List ℕ) → Outcome source 0 0 (tokens_from 0 0 (include_len source) source)
+whole source =
     let i = include_len source in
-    elim (chosen (ltb 1048576 (length source)) (Err (fault.LongSource 1048576)) (tokens_from 0 0 i source) (Ok ts) e) [
+    let within : i ≤ length source = include_within source in
+    let there : tokens_from 0 (0 + i) 0 (drop (0 + i) source) ≡ tokens_from 0 0 i source = ap (λ j. tokens_from 0 (0 + i) 0 (drop j source)) (zero-add i) ∙ sym (skipped 0 0 i source) in
+    let outcome = outcome_from (length source) source 0 (0 + i) (omega arith) (omega arith) in
+    subst (λ (r : Result (List Token) LexFault). Outcome source 0 0 r) there (passed_outcome source 0 0 i (tokens_from 0 (0 + i) 0 (drop (0 + i) source)) (include_passed source 0 i (inl refl) (omega arith) refl) outcome)
+
+pub lexed_reads : (source : List ℕ) (ts : List Token) → lexed source ≡ Ok ts → Reads source (length source) 0 ts
+unfolding lexed
+lexed_reads source ts e =
+    let from = tokens_from 0 0 (include_len source) source in
+    elim (chosen (ltb 1048576 (length source)) (Err (fault.LongSource 1048576)) from (Ok ts) e) [
       | inl (_, f) ↦ absurd cc
-      | inr (_, f) ↦
-          let within : i ≤ length source = include_within source in
-          let there : tokens_from 0 (0 + i) 0 (drop (0 + i) source) ≡ Ok ts = ap (λ j. tokens_from 0 (0 + i) 0 (drop j source)) (zero-add i) ∙ sym (skipped 0 0 i source) ∙ f in
-          include_passed source 0 i (inl refl) (omega arith) refl ts (holds_from (length source) source 0 (0 + i) ts (omega arith) (omega arith) there)
+      | inr (_, f) ↦ subst (λ (r : Result (List Token) LexFault). Outcome source 0 0 r) f (whole source)
     ]
+
+pub faults_are_first : FaultsAreFirst
+unfolding lexed
+faults_are_first source g e =
+    let from = tokens_from 0 0 (include_len source) source in
+    elim (chosen (ltb 1048576 (length source)) (Err (fault.LongSource 1048576)) from (Err g) e) [
+      | inl (long, f) ↦ inl (ltb-true 1048576 (length source) long, same_fault (fault.LongSource 1048576) g f)
+      | inr (short, f) ↦
+          let outcome = subst (λ (r : Result (List Token) LexFault). Outcome source 0 0 r) f (whole source) in
+          let count : 0 + length outcome.0 ≡ length outcome.0 = zero-add (length outcome.0) in
+          inr (ltb-false 1048576 (length source) short, (outcome.0, outcome.1, outcome.2, subst (λ (c : ℕ). IsFault (drop outcome.1 source) c outcome.1 g) count outcome.3))
+    ]
+  where
+    same_fault : (x y : LexFault) → no_tokens x ≡ no_tokens y → y ≡ x
+    same_fault x y f = cc

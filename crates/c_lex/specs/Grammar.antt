@@ -1,6 +1,6 @@
 -- Tokens by a grammar, and a source as the tokens that stand in it: each of them the longest run from its start that
 -- is one, with only blanks, comments and include lines between them (ISO 9899:2011, 6.4).
-use Rattle.std.specs.Prelude.{◌≡◌, ◌≢◌, ◌⊎◌, ℕ, ◌+◌, ◌-◌, ◌<◌, ◌≤◌, Bool, true, false, ◌||◌, not, List, [], ◌∷◌, ◌++◌, length, take, drop, nat_eq, slice_index, slice_range, Some, None, Ok, codes}
+use Rattle.std.specs.Prelude.{◌≡◌, ◌≢◌, ◌⊎◌, ◌↔◌, ℕ, ◌+◌, ◌-◌, ◌<◌, ◌≤◌, Bool, true, false, ◌||◌, not, List, [], ◌∷◌, ◌++◌, length, drop, nat_eq, slice_index, slice_range, Some, Ok, codes}
 use Rattle.std.specs.List.{starts_with, list_all}
 use Rattle.c_lex.specs.Classes.{is_letter, is_digit, is_word, is_number_byte, is_inner_blank, is_line_end}
 use Rattle.c_lex.specs.Keywords.{keyword_spelling}
@@ -58,10 +58,15 @@ Spells bytes (kind.Char c) = (inner : List ℕ) × (bytes ≡ 39 ∷ (inner ++ 3
 Spells bytes (kind.Text cs) = (inner : List ℕ) × (bytes ≡ 34 ∷ (inner ++ 34 ∷ [])) × (characters 0 inner ≡ Some cs)
 Spells bytes (kind.Punct p) = punct_spelling p ≡ bytes
 
--- a token stands in the source, and no longer run from its start is a token
+-- a comment begins with the first byte
+abbrev pub begins_comment : List ℕ → Bool
+begins_comment text = starts_with nat_eq text (codes "/*") || starts_with nat_eq text (codes "//")
+
+-- A token stands in the source: no comment begins there, and no longer run from its start is a token.
 pub record Stands (source : List ℕ) (t : Token) : Type 0 where
   pub some : t.at < t.end
   pub within : t.end ≤ length source
+  pub no_comment : begins_comment (drop t.at source) ≡ false
   pub token : IsToken (slice_range source t.at t.end)
   pub spells : Spells (slice_range source t.at t.end) t.kind
   pub longest : (end : ℕ) → t.end < end → end ≤ length source → IsToken (slice_range source t.at end) → ⊥
@@ -108,14 +113,16 @@ IsGap source at end =
     ⊎ IsLineComment (slice_range source at end) (drop end source)
     ⊎ (IsLineStart source at × IsIncludeLine (slice_range source at end) (drop end source))
 
--- From a place on the source is these tokens, with gaps between them.
-pub data Holds (source : List ℕ) : ℕ → List Token → Type 0 where
-  done : (at : ℕ) → at ≡ length source → Holds source at []
-  gap : (at end : ℕ) (ts : List Token) → at < end → end ≤ length source → IsGap source at end → Holds source end ts → Holds source at ts
-  token : (t : Token) (ts : List Token) → Stands source t → Holds source t.end ts → Holds source t.at (t ∷ ts)
+-- From one place up to another the source is these tokens, with gaps between them.
+pub data Reads (source : List ℕ) (to : ℕ) : ℕ → List Token → Type 0 where
+  done : (at : ℕ) → at ≡ to → Reads source to at []
+  gap : (at end : ℕ) (ts : List Token) → at < end → end ≤ length source → IsGap source at end → Reads source to end ts → Reads source to at ts
+  token : (t : Token) (ts : List Token) → Stands source t → Reads source to t.end ts → Reads source to t.at (t ∷ ts)
 
 -- ---- the law
 
--- The tokens that the definition gives stand so in the source.
+-- The tokens of a source are those that stand so in it, where it and they are not too many.
 abbrev pub TokensAreLongest : Type 0
-TokensAreLongest = (source : List ℕ) (ts : List Token) → lexed source ≡ Ok ts → Holds source 0 ts
+TokensAreLongest =
+    (source : List ℕ) (ts : List Token) →
+    (lexed source ≡ Ok ts) ↔ ((length source ≤ 1048576) × (length ts ≤ 200000) × Reads source (length source) 0 ts)

@@ -1,5 +1,6 @@
 pub mod Classes
 pub mod Digits
+pub mod Faults
 pub mod Gaps
 pub mod Grammar
 pub mod Items

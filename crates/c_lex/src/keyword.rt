@@ -52,7 +52,7 @@ pub enum Keyword {
 }
 
 /// Every keyword.
-pub const KEYWORDS: [Keyword; 44] = [
+const KEYWORDS: [Keyword; 44] = [
     Keyword::Break,
     Keyword::Case,
     Keyword::Char,

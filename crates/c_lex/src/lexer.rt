@@ -1,5 +1,5 @@
 //! From a source to its tokens.
-ghost use Rattle.std.specs.Prelude.{◌≡◌, ◌≤◌, ◌<◌, ◌+◌, length, IfOk};
+ghost use Rattle.std.specs.Prelude.{◌≡◌, ◌≤◌, ◌<◌, ◌+◌, length, vec_len, IfOk};
 ghost use Rattle.c_lex.specs.Results.{Gives};
 ghost use Rattle.c_lex.specs.Items.{item_at, item_len};
 ghost use Rattle.c_lex.specs.Tokens.{counted, lexed};
@@ -39,7 +39,8 @@ fn next_item(alloc: Global, count: usize, at: u32, text: &[u8]) -> Result<Item, 
 ///
 /// A fault is the one at the least place, but `LongSource` before all others.
 pub fn lex(alloc: Global, source: &[u8]) -> Result<Vec<Token>, LexFault>
-    ensures { Gives (λ v. v.items) result (lexed source.now) }
+    ensures exact { Gives (λ v. v.items) result (lexed source.now) }
+    ensures few { IfOk result (λ v. vec_len v ≤ 200000) }
 {
     if source.len() > MAX_SOURCE {
         return Err(LexFault::LongSource(1_048_576));

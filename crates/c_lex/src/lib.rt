@@ -1,6 +1,6 @@
 //! The first phase of the front end: the tokens of a source text, or its first lexical fault with its place
-//! (ISO 9899:2011, 6.4). The tree, the parser and the checker stand on its tokens. It promises that the tokens are
-//! those of the definition, each the longest run that is one, and that a fault is the one that the definition names.
+//! (ISO 9899:2011, 6.4). The tree, the parser and the checker stand on its tokens. It promises exactly the tokens that
+//! stand in the source, each the longest run that is one, and exactly the fault that the definition names.
 #![tactic(auto)]
 
 mod bytes;

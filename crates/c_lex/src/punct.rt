@@ -97,7 +97,7 @@ pub enum Punct {
 }
 
 /// Every punctuator, the longer ones first.
-pub const PUNCTUATORS: [Punct; 45] = [
+const PUNCTUATORS: [Punct; 45] = [
     Punct::ShiftLeftEqual,
     Punct::ShiftRightEqual,
     Punct::Arrow,

@@ -1,4 +1,4 @@
-use crate::{LexFault, Token, TokenKind, lex};
+use crate::{Bytes, Keyword, LexFault, Name, Token, TokenKind, lex};
 use std::alloc::{AllocError, Global};
 use std::test::Fail;
 
@@ -280,5 +280,25 @@ fn limits_are_kept(rt: HostRuntime) -> Result<(), Fail> {
         let source = repeated(rt.alloc(), piece, *count, end)?;
         assert_eq!(rt; outcome(rt.alloc(), source.as_slice()), *want);
     }
+    Ok(())
+}
+
+#[test]
+fn names_and_texts_are_copied(rt: HostRuntime) -> Result<(), Fail> {
+    for len in [1, 20, 21, 63] {
+        let bytes = repeated(rt.alloc(), b"x", len, b"")?;
+        let name = Name::from_slice(rt.alloc(), bytes.as_slice())?;
+        let copy = name.clone()?;
+        assert_eq!(rt; copy.as_slice(), bytes.as_slice());
+        assert!(rt; copy == name);
+        let text = Bytes::from_vec(bytes);
+        let copy = text.clone()?;
+        assert!(rt; copy == text);
+        assert_eq!(rt; copy.into_vec().len(), len);
+    }
+    let kind = TokenKind::Name(Name::from_slice(rt.alloc(), b"x")?);
+    assert!(rt; kind.clone()? == kind);
+    assert!(rt; kind != TokenKind::Keyword(Keyword::Int));
+    assert!(rt; Keyword::Goto.is_left_out() && !Keyword::While.is_left_out());
     Ok(())
 }

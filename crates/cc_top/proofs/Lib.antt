@@ -3,3 +3,8 @@ pub mod Digits
 pub mod CommandRowsLemmas
 pub mod WordsLemmas
 pub mod GenerateLemmas
+pub mod Standing
+pub mod Text
+pub mod ProgramFits
+pub mod ConstantRun
+pub mod ConstantExits

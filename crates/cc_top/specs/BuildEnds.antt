@@ -1,17 +1,13 @@
 -- How `build` ends: the cause of each outcome, and what the files hold then.
-use Rattle.std.specs.Prelude.{◌≡◌, ◌⊎◌, ℕ, List, take, Option, Some, None, option_map}
+use Rattle.std.specs.Prelude.{◌≡◌, ◌⊎◌, ℕ, List, take, None, option_map}
 use Rattle.std.specs.Option.{ForSome}
 use Rattle.cc_io.specs.Faults.{Rose}
 use Rattle.cc_io.specs.Files.{Name, content, put_file}
-use Rattle.cc_top.specs.Layout.{image_of_constant}
 use Rattle.cc_top.specs.Outside.{FilesSeen}
+use Rattle.cc_top.specs.Program.{Compiles}
 use Rattle.cc_top.specs.Source.{returned}
 use Rattle.cc_top.specs.declared.outcome.Outcome.{Outcome}
 use Rattle.cc_top.specs.declared.outcome.Outcome.TheVariants.{Done, ReadFault, WriteFault, Refused, NoMemory}
-
--- the image of a source that is accepted
-abbrev pub image_of_source : List ℕ → Option (List ℕ)
-image_of_source source = option_map image_of_constant (returned source)
 
 -- the file of this name was not read
 abbrev pub ReadFails : Name → FilesSeen → FilesSeen → Type 0
@@ -41,11 +37,11 @@ OfSource source before P = ForSome before.told (λ files. P (content source file
 
 abbrev pub BuildEnds : (source image : Name) → Outcome → FilesSeen → FilesSeen → Type 0
 BuildEnds source image Done before after =
-    OfSource source before (λ text. (bytes : List ℕ) × (image_of_source text ≡ Some bytes) × Puts image bytes before after)
+    OfSource source before (λ text. (bytes : List ℕ) × Compiles text bytes × Puts image bytes before after)
 BuildEnds source image ReadFault before after = ReadFails source before after × Keeps before after
 BuildEnds source image WriteFault before after =
     WriteFails image before after
-    × OfSource source before (λ text. (bytes : List ℕ) × (image_of_source text ≡ Some bytes) × PutsPart image bytes before after)
+    × OfSource source before (λ text. (bytes : List ℕ) × Compiles text bytes × PutsPart image bytes before after)
 BuildEnds source image Refused before after = OfSource source before (λ text. returned text ≡ None) × Keeps before after
 BuildEnds source image NoMemory before after = Keeps before after
 BuildEnds source image _ before after = ⊥

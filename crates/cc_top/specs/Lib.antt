@@ -12,3 +12,4 @@ pub mod Outside
 pub mod BuildEnds
 pub mod GenerateEnds
 pub mod Ends
+pub mod Program

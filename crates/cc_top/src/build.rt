@@ -3,7 +3,8 @@ ghost use Rattle.std.specs.Prelude.{◌≡◌, ◌≤◌, ◌⊎◌, ℕ, None, 
 ghost use Rattle.std.specs.Option.{ForSome};
 ghost use Rattle.cc_io.specs.Faults.{Rose};
 ghost use Rattle.cc_io.specs.Files.{Name, content, put_file};
-ghost use Rattle.cc_top.specs.BuildEnds.{image_of_source, BuildEnds};
+ghost use Rattle.cc_top.specs.BuildEnds.{BuildEnds};
+ghost use Rattle.cc_top.specs.Program.{Compiles};
 ghost use Rattle.cc_top.specs.Outside.{files_seen};
 ghost use Rattle.cc_top.specs.Layout.{image_of_constant};
 ghost use Rattle.cc_top.specs.Source.{returned};
@@ -28,19 +29,20 @@ fn image_of_constant(alloc: Global, constant: u32) -> Result<Vec<u8>, Outcome>
 
 /// The image of a source text.
 fn compile(alloc: Global, source: &[u8]) -> Result<Vec<u8>, Outcome>
-    ensures bytes { IfOk result (λ bytes. image_of_source source.now ≡ Some bytes.items) }
+    ensures bytes { IfOk result (λ bytes. Compiles source.now bytes.items) }
     ensures refused { IsErrOf result Outcome.Refused → returned source.now ≡ None }
     ensures errors { IfErr result (λ e. (e ≡ Outcome.NoMemory) ⊎ (e ≡ Outcome.Refused)) }
 {
     let Some(constant) = returned_constant(source) else {
         return Err(Outcome::Refused);
     };
-    image_of_constant(alloc, constant)
+    let image = image_of_constant(alloc, constant)?;
+    Ok(image)
 }
 
 /// The bytes of the source file of this name and the image that they compile to.
 fn compile_file<F: Files>(alloc: Global, files: &mut F, source: &str) -> Result<Vec<u8>, Outcome>
-    ensures bytes { ForSome (F.told files.old) (λ all. IfOk result (λ bytes. image_of_source (content source.now all) ≡ Some bytes.items)) }
+    ensures bytes { ForSome (F.told files.old) (λ all. IfOk result (λ bytes. Compiles (content source.now all) bytes.items)) }
     ensures refused { IsErrOf result Outcome.Refused → ForSome (F.told files.old) (λ all. returned (content source.now all) ≡ None) }
     ensures read_fault { IsErrOf result Outcome.ReadFault → Rose (F.open_faults files.old source.now) (F.open_faults files.new source.now)
         ⊎ Rose (F.read_faults files.old) (F.read_faults files.new) }

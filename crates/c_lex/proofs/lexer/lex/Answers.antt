@@ -3,11 +3,12 @@ use Rattle.std.proofs.lemmas.List.{take_rest, length-take, length-drop, length-a
 use Rattle.c_lex.specs.declared.item.Item.TheVariants.{Gap, Piece}
 use Rattle.c_lex.specs.Items.{item_at}
 use Rattle.c_lex.specs.Tokens.{counted, lexed, behind, tokens_from}
-use Rattle.c_lex.proofs.Driver.{too_long, begins, goes_on_gap, goes_on_piece}
+use Rattle.c_lex.proofs.Driver.{too_long, begins, goes_on_gap, goes_on_piece, ends}
+use Rattle.c_lex.proofs.Again.{few_tokens}
 use Rattle.c_lex.proofs.lexer.lex.Goals as goal
 
-pub returns-then-source-gt-MAX_SOURCE : goal.returns-then-source-gt-MAX_SOURCE
-returns-then-source-gt-MAX_SOURCE c = too_long c.args.source.now c.if-source-gt-MAX_SOURCE.true
+pub returns-then-source-gt-MAX_SOURCE-clause-exact : goal.returns-then-source-gt-MAX_SOURCE-clause-exact
+returns-then-source-gt-MAX_SOURCE-clause-exact c = too_long c.args.source.now c.if-source-gt-MAX_SOURCE.true
 
 pub loop-at-init : goal.loop-at-init
 loop-at-init c = record {
@@ -44,3 +45,10 @@ loop-at-preserved c =
       within = omega (arith, fits.1);
       read = ap (λ n. behind c.push.new.self.items (tokens_from n (at + c.in-Piece.n) 0 (drop (at + c.in-Piece.n) text))) more ∙ goes_on_piece c.loop-at.tokens.items c.push.new.self.items (length c.loop-at.tokens.items) at c.in-Piece.n c.in-Piece.kind text rest (lexed text) made (take_rest text at) item fits.0 (omega arith) c.loop-at.invariant.read;
     }
+
+pub returns-clause-few : goal.returns-clause-few
+returns-clause-few c =
+    let text = c.args.source.now in
+    let ts = c.loop-at.tokens.items in
+    let whole : lexed text ≡ Ok ts = ends ts (length ts) c.loop-at.at text (lexed text) c.loop-at-test.false c.loop-at.invariant.read in
+    omega (arith, few_tokens text ts whole, c.loop-at.tokens.ok.0)

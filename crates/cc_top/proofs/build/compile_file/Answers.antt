@@ -1,16 +1,12 @@
-use Rattle.std.proofs.Common.{◌≡◌, ◌∙◌, ap, sym, subst, Some, IfOk}
+use Rattle.std.proofs.Common.{◌∙◌, ap, sym}
 use Rattle.cc_io.specs.Files.{content}
-use Rattle.cc_top.proofs.SourceLemmas.{returned-take, image_of_source-take}
-use Rattle.cc_top.specs.BuildEnds.{image_of_source}
+use Rattle.cc_top.proofs.SourceLemmas.{returned-take, compiles_of_read}
 use Rattle.cc_top.specs.Source.{returned}
 use Rattle.cc_top.proofs.build.compile_file.Goals as goal
 
 pub returns-clause-bytes : goal.returns-clause-bytes
 returns-clause-bytes g c = λ all told.
-    let read = c.deref.ensures.value ∙ c.in-Ok.ensures.bytes all told in
-    subst (λ image. IfOk c.compile.result (λ bytes. image ≡ Some bytes.items))
-    (ap image_of_source read ∙ image_of_source-take (content c.args.source.now all))
-    c.compile.ensures.bytes
+    compiles_of_read (content c.args.source.now all) c.deref.result.now c.compile.result (c.deref.ensures.value ∙ c.in-Ok.ensures.bytes all told) c.compile.ensures.bytes
 
 pub returns-clause-refused : goal.returns-clause-refused
 returns-clause-refused g c = λ refused all told.

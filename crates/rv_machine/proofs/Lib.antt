@@ -1,0 +1,9 @@
+pub mod Access
+pub mod Bytes
+mod Examples
+pub mod Found
+pub mod Loads
+pub mod Lookups
+pub mod Parts
+pub mod Ports
+pub mod Writes

@@ -1,0 +1,10 @@
+pub mod Block
+pub mod Blocks
+pub mod Endings
+pub mod Machine
+pub mod Memory
+pub mod Port
+pub mod Run
+pub mod Steps
+pub mod View
+pub mod Words

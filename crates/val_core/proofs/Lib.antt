@@ -1,0 +1,13 @@
+pub mod Words
+pub mod ValueLemmas
+pub mod Blocks
+pub mod Cells
+pub mod Stores
+pub mod Lifetimes
+pub mod Sound
+pub mod Events
+pub mod Answers
+pub mod Likeness
+pub mod Within
+pub mod WholeWord
+pub mod Examples

@@ -1,0 +1,5 @@
+use Rattle.val_core.proofs.Events.{called_deepens}
+use Rattle.val_core.proofs.laws.answers.called_deepens.Goals as goal
+
+pub returns : goal.returns
+returns c = called_deepens

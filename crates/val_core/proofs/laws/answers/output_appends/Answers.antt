@@ -1,0 +1,5 @@
+use Rattle.val_core.proofs.Events.{output_appends}
+use Rattle.val_core.proofs.laws.answers.output_appends.Goals as goal
+
+pub returns : goal.returns
+returns c = output_appends

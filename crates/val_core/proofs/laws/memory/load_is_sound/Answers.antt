@@ -1,0 +1,5 @@
+use Rattle.val_core.proofs.Sound.{load_is_sound}
+use Rattle.val_core.proofs.laws.memory.load_is_sound.Goals as goal
+
+pub returns : goal.returns
+returns c = load_is_sound

@@ -1,0 +1,5 @@
+use Rattle.val_core.proofs.Words.{gives_word1}
+use Rattle.val_core.proofs.laws.values.gives_word1.Goals as goal
+
+pub returns : goal.returns
+returns c = gives_word1

@@ -1,0 +1,34 @@
+-- What a run does that others can tell: the bytes that it writes, and the stacks of active calls that it meets.
+use Rattle.std.specs.Prelude.{◌≡◌, ℕ, max, List, [], ◌∷◌, ◌++◌}
+use Rattle.std.specs.List.{sum_by}
+
+-- a byte that is written, or the calls that are active as one begins: their functions' numbers, the outermost first
+pub data Event : Type 0 where
+  wrote : (byte : ℕ) → Event
+  met : (stack : List ℕ) → Event
+
+-- the bytes that are written, in order
+abbrev pub output : List Event → List ℕ
+output [] = []
+output (wrote b ∷ es) = b ∷ output es
+output (met s ∷ es) = output es
+
+-- the greatest sum of frame sizes over the stacks that are met
+abbrev pub deepest : (sizes : ℕ → ℕ) → List Event → ℕ
+deepest sizes [] = 0
+deepest sizes (wrote b ∷ es) = deepest sizes es
+deepest sizes (met s ∷ es) = max (sum_by sizes s) (deepest sizes es)
+
+-- the events within a call of function `f`, which is active at each of them
+abbrev pub beneath : (f : ℕ) → List Event → List Event
+beneath f [] = []
+beneath f (wrote b ∷ es) = wrote b ∷ beneath f es
+beneath f (met s ∷ es) = met (f ∷ s) ∷ beneath f es
+
+-- a call of function `f` begins, and then these events come
+abbrev pub called : (f : ℕ) → List Event → List Event
+called f es = met (f ∷ []) ∷ beneath f es
+
+-- one list goes on where the other ends
+abbrev pub Leads : {A : Type 0} → List A → List A → Type 0
+Leads {A} xs ys = (rest : List A) × (xs ++ rest ≡ ys)

@@ -1,0 +1,12 @@
+pub mod Words
+pub mod Values
+pub mod Kept
+pub mod Memory
+pub mod Events
+pub mod Answers
+pub mod Likeness
+pub mod Within
+pub mod ValueLaws
+pub mod MemoryLaws
+pub mod AnswerLaws
+pub mod RunLaws

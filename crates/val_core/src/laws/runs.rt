@@ -1,0 +1,65 @@
+//! Laws of the relation between the answers of two sides, and of one run within another.
+
+ghost use Rattle.val_core.specs.Likeness.{exactly, no_deeper};
+ghost use Rattle.val_core.specs.RunLaws.{LikeThen, LikeActive, ForthIsWithin, BackwardIsWithin, BackwardIsRight, BackwardIsNoDeeper, WithinItself, WithinComposes, FinishedIsEqual, FailedIsApart};
+
+/// How a result of a side nearer to the source relates to one of a side farther from it.
+pub trait Related<Far> {
+    ghost near: { Self → Far → Type 0 };
+}
+
+/// What follows on answers that are alike is alike.
+pub fn like_then<A: Related<B>, B, C: Related<D>, D>()
+    ensures exact { LikeThen exactly A B C D A.near C.near }
+    ensures deep { LikeThen no_deeper A B C D A.near C.near }
+{}
+
+/// Calls of one function whose bodies are alike are alike.
+pub fn like_active<A: Related<B>, B>()
+    ensures exact { LikeActive exactly A B A.near }
+    ensures deep { LikeActive no_deeper A B A.near }
+{}
+
+/// Where the nearer side is cut first and neither is wrong, it is within the farther one.
+pub fn forth_is_within<A: Related<B>, B>()
+    ensures exact { ForthIsWithin exactly A B A.near }
+    ensures deep { ForthIsWithin no_deeper A B A.near }
+{}
+
+/// Where the farther side is cut first and the nearer one is not wrong, the farther one is within it.
+pub fn backward_is_within<A: Related<B>, B>()
+    ensures exact { BackwardIsWithin exactly A B A.near }
+    ensures deep { BackwardIsWithin no_deeper A B A.near }
+{}
+
+/// Where the farther side is cut first and the nearer one is not wrong, neither is the farther one.
+pub fn backward_is_right<A: Related<B>, B>()
+    ensures exact { BackwardIsRight exactly A B A.near }
+    ensures deep { BackwardIsRight no_deeper A B A.near }
+{}
+
+/// Where the farther side is cut first and the nearer one is not wrong, it meets no deeper stacks.
+pub fn backward_is_no_deeper<A: Related<B>, B>()
+    ensures exact { BackwardIsNoDeeper exactly A B A.near }
+    ensures deep { BackwardIsNoDeeper no_deeper A B A.near }
+{}
+
+/// A run that has not failed is within itself.
+pub fn within_itself<A>()
+    ensures { WithinItself A }
+{}
+
+/// A run within a run within a run is within it, where the relations of their results compose.
+pub fn within_composes<A: Related<B> + Related<C>, B: Related<C>, C>()
+    ensures { WithinComposes A B C ⟦<A as Related<B>>⟧.near B.near ⟦<A as Related<C>>⟧.near }
+{}
+
+/// An ended run is within none but one with its output and status.
+pub fn finished_is_equal<A: Related<B>, B>()
+    ensures { FinishedIsEqual A B A.near }
+{}
+
+/// Nothing is within a run that failed, and it is within nothing.
+pub fn failed_is_apart<A: Related<B>, B>()
+    ensures { FailedIsApart A B A.near }
+{}

@@ -1,0 +1,33 @@
+//! Laws of the operations on words and values.
+
+ghost use Rattle.val_core.specs.ValueLaws.{GivesWord2, GivesWord1, KeepsNear2, KeepsNear1, KeepsSound2, KeepsSound1};
+
+/// An operation on two words gives a word.
+pub fn gives_word2()
+    ensures { GivesWord2 }
+{}
+
+/// An operation on one word gives a word.
+pub fn gives_word1()
+    ensures { GivesWord1 }
+{}
+
+/// An operation on values gives what is near to its value on near values.
+pub fn keeps_near2()
+    ensures { KeepsNear2 }
+{}
+
+/// An operation on a value gives what is near to its value on a near value.
+pub fn keeps_near1()
+    ensures { KeepsNear1 }
+{}
+
+/// An operation on two sound values gives a sound value.
+pub fn keeps_sound2()
+    ensures { KeepsSound2 }
+{}
+
+/// An operation on a sound value gives a sound value.
+pub fn keeps_sound1()
+    ensures { KeepsSound1 }
+{}
