@@ -9,4 +9,6 @@ pub mod Ports
 pub mod Reached
 pub mod RunLaws
 pub mod Stopped
+pub mod Stores
+pub mod Unwritable
 pub mod Writes

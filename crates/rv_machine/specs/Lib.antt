@@ -4,6 +4,7 @@ pub mod Endings
 pub mod Laws
 pub mod Machine
 pub mod Memory
+pub mod MemoryLaws
 pub mod Port
 pub mod Run
 pub mod Runs
