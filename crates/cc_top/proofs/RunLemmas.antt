@@ -1,16 +1,15 @@
 -- What the machine and the file's reader say, in the words of the command `run`.
-use Rattle.std.proofs.Common.{◌≡◌, ◌⊎◌, ℕ, ◌<◌, ◌≤◌, List, Option, Some, None, Result, Ok, Err, length, take, refl, ap, sym, ◌∙◌, subst, inl, inr, arith}
+use Rattle.std.proofs.Common.{◌≡◌, ◌⊎◌, ℕ, ◌<◌, List, Ok, Err, length, take, refl, ap, sym, ◌∙◌, subst, inl, inr, arith}
 use Rattle.std.specs.Option.{ForSome}
 use Rattle.std.proofs.lemmas.Bool.{cases_lt, lt-ltb}
 use Rattle.std.proofs.lemmas.List.{take_all, length-take-le}
-use Rattle.cc_io.specs.Faults.{Rose}
 use Rattle.cc_io.specs.Files.{Name, content}
-use Rattle.elf_file.specs.Loading.{Executable, loaded, fault_of, executable, unless_fault}
+use Rattle.elf_file.specs.Loading.{Executable, loaded, fault_of}
 use Rattle.elf_file.specs.declared.fault.ElfFault.{ElfFault}
 use Rattle.elf_file.specs.declared.fault.ElfFault.TheVariants.{LongFile}
 use Rattle.rv_machine.specs.Memory.{flags_of}
 use Rattle.rv_machine.specs.Run.{Hart, Outcome as RunOutcome, running, start, run, executed, executed_if_loaded, mach}
-use Rattle.rv_machine.specs.Runs.{IsLeft, IsSomeRun, IsRun, HasCome, IsWhole}
+use Rattle.rv_machine.specs.Runs.{IsLeft, IsSomeRun, HasCome, IsWhole}
 use Rattle.rv_machine.specs.Steps.{Streams, HasRisen, stop_of}
 use Rattle.rv_machine.specs.declared.stop.Stop.{Stop}
 use Rattle.rv_machine.specs.declared.stop.Stop.TheVariants as stop

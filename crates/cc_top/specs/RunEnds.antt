@@ -1,5 +1,5 @@
 -- How `run` ends: the cause of each outcome, and what the outside holds then.
-use Rattle.std.specs.Prelude.{◌≡◌, ◌⊎◌, ℕ, ◌<◌, List, Option, Some, None, Ok, Err}
+use Rattle.std.specs.Prelude.{◌≡◌, ◌⊎◌, ℕ, ◌<◌, List, Ok, Err}
 use Rattle.std.specs.Option.{ForSome}
 use Rattle.cc_io.specs.Faults.{Rose}
 use Rattle.cc_io.specs.Files.{Name, content}

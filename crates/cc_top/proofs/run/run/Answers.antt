@@ -1,4 +1,4 @@
-use Rattle.std.proofs.Common.{◌≡◌, ◌∙◌, refl}
+use Rattle.std.proofs.Common.{◌∙◌, refl}
 use Rattle.rv_machine.specs.View.{flags_in, hart_of}
 use Rattle.cc_top.proofs.RunLemmas.{run_ends, run_refused}
 use Rattle.cc_top.proofs.run.run.Goals as goal
