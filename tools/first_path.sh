@@ -25,6 +25,7 @@ for constant in 0 42 300 2047 2048 4095 4096 305419896 2147483647; do
     qemu-riscv32 "$folder/program.elf"
     status=$?
     [ "$status" -eq $((constant % 256)) ] || fail "qemu-riscv32 ended with $status for $constant"
+    [ "$(./rvcc run "$folder/program.elf" 2>&1)" = "exit $status" ] || fail "rvcc run ends otherwise for $constant"
 done
 
 ./rvcc build examples/answer.c "$folder/answer.elf" || fail "the build of examples/answer.c failed"
