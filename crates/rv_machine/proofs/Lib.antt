@@ -10,5 +10,6 @@ pub mod Reached
 pub mod RunLaws
 pub mod Stopped
 pub mod Stores
+pub mod Texts
 pub mod Unwritable
 pub mod Writes

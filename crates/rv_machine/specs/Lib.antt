@@ -8,6 +8,7 @@ pub mod MemoryLaws
 pub mod Port
 pub mod Run
 pub mod Runs
+pub mod SegmentLaws
 pub mod Steps
 pub mod View
 pub mod Words

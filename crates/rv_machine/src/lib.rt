@@ -10,6 +10,7 @@ mod machine;
 mod memory;
 pub mod memory_laws;
 mod run;
+pub mod segment_laws;
 mod step;
 mod stop;
 #[cfg(test)]

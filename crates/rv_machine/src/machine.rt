@@ -1,4 +1,4 @@
-ghost use Rattle.std.specs.Prelude.{◌≡◌, ◌<◌, ◌^◌, IfOk, IfErr, OnOk, OnErr, MatchResult, if◌then◌else◌};
+ghost use Rattle.std.specs.Prelude.{◌≡◌, ◌≢◌, ◌<◌, ◌%◌, ◌^◌, IfOk, IfErr, OnOk, OnErr, MatchResult, if◌then◌else◌};
 
 use crate::memory::{EXECUTE, Memory, READ};
 use crate::stop::Ending;
@@ -50,7 +50,7 @@ pub struct Machine {
 
 impl Machine {
     ghost use Rattle.elf_file.specs.ImageView.{executable_of};
-    ghost use Rattle.rv_machine.specs.Machine.{look, go_on, give, jump, store, offset, after, fetched, access, next, stop, stuck};
+    ghost use Rattle.rv_machine.specs.Machine.{look, go_on, give, jump, store, offset, after, fetched, access, next, stop, stuck, misaligned};
     ghost use Rattle.rv_machine.specs.Memory.{IsWidth, flags_of, load_bytes, to_read};
     ghost use Rattle.rv_machine.specs.Run.{running, start};
     ghost use Rattle.rv_machine.specs.Endings.{ending_of};
@@ -131,11 +131,19 @@ impl Machine {
         Ending::Stuck { pc: self.pc, why }
     }
 
-    /// The address of an access.
-    fn address(&self, rs1: Reg, distance: Imm12) -> u32
-        ensures { result ≡ offset (look (state_of self.now).regs rs1) distance }
+    /// The address of an access, which has to be a multiple of the width.
+    fn address(&self, rs1: Reg, distance: Imm12, width: u32) -> Result<u32, Ending>
+        requires { IsWidth width }
+        ensures ok { IfOk result (λ address. address ≡ offset (look (state_of self.now).regs rs1) distance) }
+        ensures aligned { IfOk result (λ address. address % width ≡ 0) }
+        ensures err { OnErr result (offset (look (state_of self.now).regs rs1) distance % width ≢ 0) }
+        ensures ending { IfErr result (λ e. ending_of e ≡ stuck (state_of self.now).pc misaligned) }
     {
-        self.look(rs1).wrapping_add(distance.word())
+        let address = self.look(rs1).wrapping_add(distance.word());
+        if address % width != 0 {
+            return Err(self.stuck(MISALIGNED));
+        }
+        Ok(address)
     }
 
     /// The number that `width` bytes make, the lowest first.
@@ -148,10 +156,7 @@ impl Machine {
             (λ _. Allows (access (flags_in self.now) to_read width (offset (look (state_of self.now).regs rs1) distance) (state_of self.now)))
             (Refuses (access (flags_in self.now) to_read width (offset (look (state_of self.now).regs rs1) distance) (state_of self.now))) }
     {
-        let address = self.address(rs1, distance);
-        if address % width != 0 {
-            return Err(self.stuck(MISALIGNED));
-        }
+        let address = self.address(rs1, distance, width)?;
         self.memory
             .load(READ, address, width)
             .ok_or(self.stuck(NO_ACCESS))
@@ -171,10 +176,7 @@ impl Machine {
         ensures unchanged { OnErr result (state_of self.new ≡ state_of self.old) }
         ensures keeps { Keeps self.old self.new }
     {
-        let address = self.address(rs1, distance);
-        if address % width != 0 {
-            return Err(self.stuck(MISALIGNED));
-        }
+        let address = self.address(rs1, distance, width)?;
         let word = self.look(rs2);
         if !self.memory.store(address, word, width) {
             return Err(self.stuck(NO_ACCESS));

@@ -1,0 +1,5 @@
+use Rattle.rv_machine.proofs.Texts.{bytes_are_loaded}
+use Rattle.rv_machine.proofs.segment_laws.bytes_are_loaded.Goals as goal
+
+pub returns : goal.returns
+returns c = bytes_are_loaded

@@ -1,0 +1,5 @@
+use Rattle.rv_machine.proofs.Texts.{flags_allow}
+use Rattle.rv_machine.proofs.segment_laws.flags_allow.Goals as goal
+
+pub returns : goal.returns
+returns c = flags_allow
