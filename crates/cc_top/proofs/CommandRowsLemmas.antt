@@ -3,7 +3,7 @@ use Rattle.std.proofs.Common.{refl}
 use Rattle.clap.proofs.OnLiterals.{clap_on_literals}
 use Rattle.cc_top.specs.Arguments.{rvcc}
 use Rattle.cc_top.specs.Command.{command_of, number_in}
-use Rattle.cc_top.specs.CommandRows.{BuildRows, OtherRows, GenRows}
+use Rattle.cc_top.specs.CommandRows.{BuildRows, RunRows, OtherRows, GenRows}
 
 pub build_rows : BuildRows
 unfolding clap_on_literals rvcc command_of number_in
@@ -16,3 +16,7 @@ other_rows = record { nothing = refl; name_alone = refl; hyphens_before = refl; 
 pub gen_rows : GenRows
 unfolding clap_on_literals rvcc command_of number_in
 gen_rows = record { least = refl; greatest = refl; twenty_digits = refl; more_digits = refl; great_number = refl; great_count = refl; no_functions = refl; plus = refl; minus = refl; blank = refl; empty = refl; two_words = refl; four_words = refl }
+
+pub run_rows : RunRows
+unfolding clap_on_literals rvcc command_of number_in
+run_rows = record { no_option = refl; next_word = refl; in_front = refl; equals_sign = refl; greatest = refl; greater = refl; no_steps = refl; no_value = refl; empty_value = refl; hyphens_for_value = refl; option_for_value = refl; twice = refl; cut_short = refl; two_images = refl; no_image = refl }

@@ -9,3 +9,4 @@ pub mod Text
 pub mod ProgramFits
 pub mod ConstantRun
 pub mod ConstantExits
+pub mod RunLemmas

@@ -12,8 +12,8 @@ use Rattle.clap.specs.Faults.{defaults_fault, level_fault, step_fault, turn_faul
 use Rattle.clap.specs.Words.{fault_of, subcommand_of}
 use Rattle.clap.proofs.OnLiterals.{clap_on_literals}
 use Rattle.cc_top.specs.Arguments.{rvcc}
-use Rattle.cc_top.specs.Command.{Command, build_in, generate_in, command_of}
-use Rattle.cc_top.specs.WordLaws.{is_ordinary, build_of, generate_of, WordLaws}
+use Rattle.cc_top.specs.Command.{Command, build_in, run_in, generate_in, command_of}
+use Rattle.cc_top.specs.WordLaws.{is_ordinary, build_of, run_of, steps_of, generate_of, WordLaws}
 
 -- a walk that stopped at a command goes over the other words without a fault
 fault-stopped : (s : Shape) (names : Names) (w : Walk) (p : Text × List Text) (ws : List Text) → w.stopped ≡ Some p → walk_fault s names w ws ≡ []
@@ -84,6 +84,25 @@ module _ (name : List ℕ) (ws : List (List ℕ)) where
   command-gen : command_of (name ∷ codes "gen" ∷ ws) ≡ leaf_command (codes "gen") generate_in ws
   unfolding command_of
   command-gen = rw (fault-gen, words-gen) refl
+
+module _ (name : List ℕ) (ws : List (List ℕ)) where
+  words-run : subcommand_of rvcc (name ∷ codes "run" ∷ ws) ≡ Some (codes "run", rows_after (leaf (codes "run")).rules [] ws)
+  unfolding clap_on_literals rvcc
+  words-run =
+      let top = built rvcc in
+      ap (λ (w : Walk). entered top w.stopped) (fold-stopped top.top.rules (names_of top) (stopped_at (codes "run")) (codes "run", []) ws refl)
+
+  fault-run : fault_of rvcc (name ∷ codes "run" ∷ ws) ≡ leaf_fault (codes "run") ws
+  unfolding clap_on_literals rvcc
+  fault-run =
+      let top = built rvcc in
+      let faults = fault-stopped top.top (names_of top) (stopped_at (codes "run")) (codes "run", []) ws refl in
+      let words = fold-stopped top.top.rules (names_of top) (stopped_at (codes "run")) (codes "run", []) ws refl in
+      simp (faults, words) (or_else-none (leaf_fault (codes "run") ws))
+
+  command-run : command_of (name ∷ codes "run" ∷ ws) ≡ leaf_command (codes "run") run_in ws
+  unfolding command_of
+  command-run = rw (fault-run, words-run) refl
 
 -- an ordinary word is neither `--` nor an option
 record IsOrdinary (w : List ℕ) : Type 0 where
@@ -222,11 +241,56 @@ gen-hyphens (a ∷ b ∷ []) = refl
 gen-hyphens (a ∷ b ∷ c ∷ []) = refl
 gen-hyphens (a ∷ b ∷ c ∷ d ∷ rest) = refl
 
+run-ordinary : (ws : List (List ℕ)) → list_all is_ordinary ws ≡ true → leaf_command (codes "run") run_in ws ≡ run_of ws
+unfolding clap_on_literals rvcc
+run-ordinary [] all = refl
+run-ordinary (a ∷ []) all =
+    let p = ordinary a (both (is_ordinary a) true all).0 in
+    simp (p.not_end, p.not_long, p.not_short)
+run-ordinary (a ∷ b ∷ rest) all =
+    let h = both (is_ordinary a) (is_ordinary b && list_all is_ordinary rest) all in
+    let p = ordinary a h.0 in
+    let q = ordinary b (both (is_ordinary b) (list_all is_ordinary rest) h.1).0 in
+    simp (p.not_end, p.not_long, p.not_short, q.not_end, q.not_long, q.not_short)
+
+run-hyphens : (ws : List (List ℕ)) → leaf_command (codes "run") run_in (codes "--" ∷ ws) ≡ run_of ws
+unfolding clap_on_literals rvcc
+run-hyphens [] = refl
+run-hyphens (a ∷ []) = refl
+run-hyphens (a ∷ b ∷ rest) = refl
+
+module _ (image steps : List ℕ) (p : IsOrdinary image) where
+  steps-in_front : IsOrdinary steps → leaf_command (codes "run") run_in (codes "--steps" ∷ steps ∷ image ∷ []) ≡ steps_of image steps
+  unfolding clap_on_literals rvcc
+  steps-in_front q = simp (p.not_end, p.not_long, p.not_short, q.not_end, q.not_long, q.not_short)
+
+  steps-behind : IsOrdinary steps → leaf_command (codes "run") run_in (image ∷ codes "--steps" ∷ steps ∷ []) ≡ steps_of image steps
+  unfolding clap_on_literals rvcc
+  steps-behind q = simp (p.not_end, p.not_long, p.not_short, q.not_end, q.not_long, q.not_short)
+
+  steps-equals_sign : leaf_command (codes "run") run_in (image ∷ (codes "--steps=" ++ steps) ∷ []) ≡ steps_of image steps
+  unfolding clap_on_literals rvcc
+  steps-equals_sign = simp (p.not_end, p.not_long, p.not_short)
+
+steps-twice : (image first second : List ℕ) (words : List (List ℕ)) → IsOrdinary image → leaf_command (codes "run") run_in (image ∷ (codes "--steps=" ++ first) ∷ (codes "--steps=" ++ second) ∷ words) ≡ None
+unfolding clap_on_literals rvcc
+steps-twice image first second words p = simp (p.not_end, p.not_long, p.not_short)
+
 pub word-laws : WordLaws
 word-laws = record {
   build = record {
     ordinary = λ name words all. command-build name words ∙ build-ordinary words all;
     after_hyphens = λ name words. command-build name (codes "--" ∷ words) ∙ build-hyphens words;
+  };
+  run = record {
+    ordinary = λ name words all. command-run name words ∙ run-ordinary words all;
+    after_hyphens = λ name words. command-run name (codes "--" ∷ words) ∙ run-hyphens words;
+  };
+  steps = record {
+    in_front = λ name image steps p q. command-run name (codes "--steps" ∷ steps ∷ image ∷ []) ∙ steps-in_front image steps (ordinary image p) (ordinary steps q);
+    behind = λ name image steps p q. command-run name (image ∷ codes "--steps" ∷ steps ∷ []) ∙ steps-behind image steps (ordinary image p) (ordinary steps q);
+    equals_sign = λ name image steps p. command-run name (image ∷ (codes "--steps=" ++ steps) ∷ []) ∙ steps-equals_sign image steps (ordinary image p);
+    twice = λ name image first second words p. command-run name (image ∷ (codes "--steps=" ++ first) ∷ (codes "--steps=" ++ second) ∷ words) ∙ steps-twice image first second words (ordinary image p);
   };
   gen = record {
     ordinary = λ name words all. command-gen name words ∙ gen-ordinary words all;

@@ -9,6 +9,8 @@ use Rattle.cc_top.specs.Arguments.{rvcc}
 pub data Command : Type 0 where
   -- compile the source of the first name to the image of the second
   build : List ℕ → List ℕ → Command
+  -- run the image of the name for at most this many instructions
+  run : List ℕ → (steps : ℕ) → Command
   -- write the generated program of this many functions, whose draws begin with a number, to the file of this name
   generate : (start functions : ℕ) → List ℕ → Command
 
@@ -39,6 +41,17 @@ build_in words = do
   image ← first_of (codes "OUT") words
   Some (build source image)
 
+-- how many instructions a run may have: 1 to 10^12, and 10^9 where it is not said
+abbrev pub steps_in : Option (List ℕ) → Option ℕ
+steps_in None = Some 1000000000
+steps_in (Some text) = number_in 1 1000000000000 text
+
+abbrev pub run_in : List Row → Option Command
+run_in words = do
+  image ← first_of (codes "IMG") words
+  steps ← steps_in (first_of (codes "steps") words)
+  Some (run image steps)
+
 abbrev pub generate_in : List Row → Option Command
 generate_in words = do
   number ← first_of (codes "NUMBER") words
@@ -52,6 +65,7 @@ generate_in words = do
 abbrev pub command_named : List ℕ → List Row → Option Command
 command_named name words =
     if bytes_eq name (codes "build") then build_in words
+    else if bytes_eq name (codes "run") then run_in words
     else if bytes_eq name (codes "gen") then generate_in words
     else None
 

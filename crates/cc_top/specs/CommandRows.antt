@@ -1,6 +1,6 @@
 -- Lists of words with their commands.
 use Rattle.std.specs.Prelude.{◌≡◌, ℕ, List, [], ◌∷◌, Option, Some, None, codes}
-use Rattle.cc_top.specs.Command.{Command, build, generate, command_of}
+use Rattle.cc_top.specs.Command.{Command, build, run, generate, command_of}
 
 -- the command of the words after the program's name
 abbrev pub command_after_name : List (List ℕ) → Option Command
@@ -32,6 +32,24 @@ pub record OtherRows : Type 0 where
   pub version_first : command_after_name (codes "-V" ∷ []) ≡ None
   pub version_last : command_after_name (codes "build" ∷ codes "a" ∷ codes "b" ∷ codes "--version" ∷ []) ≡ None
 
+-- the option of `run`
+pub record RunRows : Type 0 where
+  pub no_option : command_after_name (codes "run" ∷ codes "a" ∷ []) ≡ Some (run (codes "a") 1000000000)
+  pub next_word : command_after_name (codes "run" ∷ codes "a" ∷ codes "--steps" ∷ codes "23" ∷ []) ≡ Some (run (codes "a") 23)
+  pub in_front : command_after_name (codes "run" ∷ codes "--steps" ∷ codes "023" ∷ codes "a" ∷ []) ≡ Some (run (codes "a") 23)
+  pub equals_sign : command_after_name (codes "run" ∷ codes "a" ∷ codes "--steps=1" ∷ []) ≡ Some (run (codes "a") 1)
+  pub greatest : command_after_name (codes "run" ∷ codes "a" ∷ codes "--steps" ∷ codes "1000000000000" ∷ []) ≡ Some (run (codes "a") 1000000000000)
+  pub greater : command_after_name (codes "run" ∷ codes "a" ∷ codes "--steps" ∷ codes "1000000000001" ∷ []) ≡ None
+  pub no_steps : command_after_name (codes "run" ∷ codes "a" ∷ codes "--steps" ∷ codes "0" ∷ []) ≡ None
+  pub no_value : command_after_name (codes "run" ∷ codes "a" ∷ codes "--steps" ∷ []) ≡ None
+  pub empty_value : command_after_name (codes "run" ∷ codes "a" ∷ codes "--steps=" ∷ []) ≡ None
+  pub hyphens_for_value : command_after_name (codes "run" ∷ codes "a" ∷ codes "--steps" ∷ codes "--" ∷ []) ≡ None
+  pub option_for_value : command_after_name (codes "run" ∷ codes "a" ∷ codes "--steps" ∷ codes "-5" ∷ []) ≡ None
+  pub twice : command_after_name (codes "run" ∷ codes "a" ∷ codes "--steps" ∷ codes "5" ∷ codes "--steps" ∷ codes "5" ∷ []) ≡ None
+  pub cut_short : command_after_name (codes "run" ∷ codes "a" ∷ codes "--step" ∷ codes "5" ∷ []) ≡ None
+  pub two_images : command_after_name (codes "run" ∷ codes "a" ∷ codes "b" ∷ []) ≡ None
+  pub no_image : command_after_name (codes "run" ∷ []) ≡ None
+
 -- the numbers of `gen`
 pub record GenRows : Type 0 where
   pub least : command_after_name (codes "gen" ∷ codes "0" ∷ codes "1" ∷ codes "x" ∷ []) ≡ Some (generate 0 1 (codes "x"))
@@ -49,4 +67,4 @@ pub record GenRows : Type 0 where
   pub four_words : command_after_name (codes "gen" ∷ codes "1" ∷ codes "1" ∷ codes "x" ∷ codes "y" ∷ []) ≡ None
 
 abbrev pub CommandRows : Type 0
-CommandRows = BuildRows × OtherRows × GenRows
+CommandRows = BuildRows × RunRows × OtherRows × GenRows

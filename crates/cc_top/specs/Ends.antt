@@ -1,15 +1,12 @@
 -- How a command ends: the cause of each outcome, and what the outside holds then.
 use Rattle.std.specs.Prelude.{◌≡◌, ◌⊎◌, Option, Some, None}
 use Rattle.cc_top.specs.BuildEnds.{BuildEnds}
+use Rattle.cc_top.specs.RunEnds.{RunEnds}
 use Rattle.cc_top.specs.GenerateEnds.{GenerateEnds}
-use Rattle.cc_top.specs.Command.{Command, build, generate}
-use Rattle.cc_top.specs.Outside.{Outside}
+use Rattle.cc_top.specs.Command.{Command, build, run, generate}
+use Rattle.cc_top.specs.Outside.{Outside, KeepsStreams}
 use Rattle.cc_top.specs.declared.outcome.Outcome.{Outcome}
 use Rattle.cc_top.specs.declared.outcome.Outcome.TheVariants.{Usage, NoMemory}
-
--- the input and the output are as they were
-abbrev pub KeepsStreams : Outside → Outside → Type 0
-KeepsStreams before after = (after.input ≡ before.input) × (after.output ≡ before.output)
 
 -- The command of the words ends so. Words that are no command leave all as it was; memory may be wanting for them too.
 abbrev pub Ends : Option Command → Outcome → Outside → Outside → Type 0
@@ -18,3 +15,4 @@ Ends (Some (build source image)) ended before after =
     BuildEnds source image ended before.files after.files × KeepsStreams before after
 Ends (Some (generate start functions out)) ended before after =
     GenerateEnds start functions out ended before.files after.files × KeepsStreams before after
+Ends (Some (run image steps)) ended before after = RunEnds image steps ended before after

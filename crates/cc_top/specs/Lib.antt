@@ -14,3 +14,5 @@ pub mod BuildEnds
 pub mod GenerateEnds
 pub mod Ends
 pub mod Program
+pub mod RunEnds
+pub mod StopOutcomes

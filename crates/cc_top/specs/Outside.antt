@@ -1,5 +1,5 @@
 -- What is known of the outside at one moment: its files, its input and its output.
-use Rattle.std.specs.Prelude.{ℕ, List, Option}
+use Rattle.std.specs.Prelude.{◌≡◌, ℕ, List, Option}
 use Rattle.cc_io.specs.Files.{Name, FileSet}
 
 -- Of the files: what they hold, where it is told, and how often each call has failed.
@@ -19,6 +19,10 @@ pub record Outside : Type 0 where
   pub files : FilesSeen
   pub input : StreamSeen
   pub output : StreamSeen
+
+-- the input and the output are as they were
+abbrev pub KeepsStreams : Outside → Outside → Type 0
+KeepsStreams before after = (after.input ≡ before.input) × (after.output ≡ before.output)
 
 module _ {F : Type 0} (told : F → Option FileSet) (read_faults write_faults : F → ℕ) (open_faults create_faults : F → Name → ℕ) where
   abbrev pub files_seen : F → FilesSeen

@@ -11,6 +11,7 @@ mod line;
 mod load;
 mod outcome;
 mod report;
+mod run;
 mod source;
 mod templates;
 mod words;
@@ -29,7 +30,8 @@ use words::{Command, parse_command};
 
 /// Carries out the command of the words, the program's name first, and gives the status of the process.
 ///
-/// `build IN OUT` compiles the source file IN to the executable OUT. `gen NUMBER COUNT OUT` writes the
+/// `build IN OUT` compiles the source file IN to the executable OUT. `run IMG [--steps N]` runs the
+/// executable IMG for at most N instructions, from `input` to `output`. `gen NUMBER COUNT OUT` writes the
 /// generated program of COUNT functions, 1 to 511, whose draws begin with NUMBER, 0 to 4294967295, to the
 /// file OUT. The statuses are 0 where OUT was written, 1 where the words are no command, 2 where IN was not
 /// read, 3 where OUT or the report was not written, 4 where the source is refused and 6 where memory was
@@ -88,6 +90,7 @@ fn carry_out<F: Files, I: Source, O: Sink>(
     };
     match command {
         Command::Build { source, image } => build::build(alloc, files, source, image),
+        Command::Run { image, steps } => run::run(alloc, files, input, output, image, steps),
         Command::Generate {
             start,
             functions,

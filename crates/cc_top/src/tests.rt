@@ -213,3 +213,72 @@ fn a_program_is_generated(rt: HostRuntime) -> Result<(), Fail> {
     assert_eq!(rt; cut.files.get("out"), Some(b"int f0".as_slice()));
     Ok(())
 }
+
+/// The image of the first example.
+fn answer_image(alloc: Global) -> Result<Vec<u8>, AllocError> {
+    let left = called(alloc, &BUILD, ANSWER, &[])?;
+    left.files.get("out").unwrap_or(b"").to_vec(alloc)
+}
+
+#[test]
+fn images_run_as_the_machine_says(rt: HostRuntime) -> Result<(), Fail> {
+    let alloc = rt.alloc();
+    let image = answer_image(alloc)?;
+    assert_eq!(rt; image.len(), 8200);
+    // A change of the image: its place and the bytes that stand there then; the option, the status and the line.
+    let rows: [(usize, &[u8], &str, u8, &[u8]); 7] = [
+        (0, b"", "--steps=23", 0, b"exit 42\n"),
+        (0, b"", "--steps=22", 7, b"budget\n"),
+        (0, b"\x7e", "--steps=23", 5, b"image NotElf 2\n"),
+        (
+            4096,
+            b"\x00\x00\x00\x00",
+            "--steps=23",
+            7,
+            b"stuck 00010000 2\n",
+        ),
+        (
+            24,
+            b"\x02\x00\x01\x00",
+            "--steps=23",
+            7,
+            b"stuck 00010002 1\n",
+        ),
+        (
+            24,
+            b"\x00\x10\x01\x00",
+            "--steps=23",
+            7,
+            b"stuck 00011000 1\n",
+        ),
+        (4096, b"\x6f\x00\x00\x00", "--steps=1000", 7, b"budget\n"),
+    ];
+    for (at, bytes, steps, status, line) in rows {
+        let mut changed = image.clone()?;
+        for (k, byte) in bytes.iter().enumerate() {
+            if let Some(place) = changed.get_mut(at.saturating_add(k)) {
+                *place = *byte;
+            }
+        }
+        let left = called(alloc, &["rvcc", "run", "in", steps], &changed, &[])?;
+        assert_eq!(rt; left.status, status);
+        assert_eq!(rt; left.report.bytes(), line);
+    }
+    for (len, line) in [
+        (0, b"image Short 1\n".as_slice()),
+        (51, b"image Short 1\n"),
+        (115, b"image Short 1\n"),
+        (116, b"image BadSegment 4\n"),
+        (8199, b"image BadSegment 4\n"),
+    ] {
+        let left = called(
+            alloc,
+            &["rvcc", "run", "in"],
+            image.get(..len).unwrap_or(b""),
+            &[],
+        )?;
+        assert_eq!(rt; left.status, 5);
+        assert_eq!(rt; left.report.bytes(), line);
+    }
+    Ok(())
+}

@@ -1,11 +1,11 @@
 //! The words of the command line.
-ghost use Rattle.std.specs.Prelude.{◌≡◌, ◌<◌, ◌≤◌, ◌^◌, false, map, min, option_map, IfOk, IfSome};
+ghost use Rattle.std.specs.Prelude.{◌≡◌, ◌<◌, ◌≤◌, ◌^◌, codes, false, map, min, option_map, IfOk, IfSome};
 ghost use Rattle.std.specs.List.{list_all};
 ghost use Rattle.std.specs.String.{string_bytes};
 ghost use Rattle.clap.specs.Words.{app_of, first_of, found_of, rows_of, rule_of, shape_of, subcommand_rows_of, with_rule};
 ghost use Rattle.clap.specs.declared.builder.command.Command.TheViews.{out-Command as fields_of};
-ghost use Rattle.cc_top.specs.Arguments.{required_word, build_words, gen_words, rvcc};
-ghost use Rattle.cc_top.specs.Command.{build_in, generate_in, command_in, command_named, command_of, digits_value, is_digit, is_number, number_in};
+ghost use Rattle.cc_top.specs.Arguments.{option, required_word, build_words, run_words, gen_words, rvcc};
+ghost use Rattle.cc_top.specs.Command.{build_in, run_in, steps_in, generate_in, command_in, command_named, command_of, digits_value, is_digit, is_number, number_in};
 ghost use Rattle.cc_top.specs.Words.{plain_command};
 
 use clap::error::ErrorKind;
@@ -19,6 +19,12 @@ pub enum Command<'a> {
     Build {
         source: &'a str,
         image: &'a str,
+    },
+    /// `run IMG [--steps N]`: run the image named IMG for at most N instructions, 1 to 10^12; 10^9 where N
+    /// is not said.
+    Run {
+        image: &'a str,
+        steps: u64,
     },
     /// `gen NUMBER COUNT OUT`: write the generated program of COUNT functions whose draws begin with NUMBER to the
     /// file OUT.
@@ -37,12 +43,32 @@ fn with_word<'a>(alloc: Global, command: Words<'a>, name: &'a str) -> Result<Wor
     command.arg(Arg::new(alloc, name).required(true))
 }
 
+/// The command with one more option, whose value is a text.
+fn with_option<'a>(
+    alloc: Global,
+    command: Words<'a>,
+    name: &'a str,
+) -> Result<Words<'a>, AllocError>
+    ensures app { IfOk result (λ c. app_of c ≡ with_rule (app_of command.entry) (option name.entry.now)) }
+    ensures globals { IfOk result (λ c. (fields_of command.entry).has_globals ≡ false → (fields_of c).has_globals ≡ false) }
+{
+    command.arg(Arg::new(alloc, name).long(name))
+}
+
 fn build_words<'a>(alloc: Global) -> Result<Words<'a>, AllocError>
     ensures shape { IfOk result (λ c. shape_of c ≡ build_words) }
     ensures globals { IfOk result (λ c. (fields_of c).has_globals ≡ false) }
 {
     let command = with_word(alloc, Words::new(alloc, "build"), "IN")?;
     with_word(alloc, command, "OUT")
+}
+
+fn run_words<'a>(alloc: Global) -> Result<Words<'a>, AllocError>
+    ensures shape { IfOk result (λ c. shape_of c ≡ run_words) }
+    ensures globals { IfOk result (λ c. (fields_of c).has_globals ≡ false) }
+{
+    let command = with_word(alloc, Words::new(alloc, "run"), "IMG")?;
+    with_option(alloc, command, "steps")
 }
 
 fn gen_words<'a>(alloc: Global) -> Result<Words<'a>, AllocError>
@@ -60,6 +86,7 @@ fn rvcc<'a>(alloc: Global) -> Result<Words<'a>, AllocError>
 {
     Words::new(alloc, "rvcc")
         .subcommand(build_words(alloc)?)?
+        .subcommand(run_words(alloc)?)?
         .subcommand(gen_words(alloc)?)
 }
 
@@ -121,6 +148,25 @@ fn build_in<'a>(words: &ArgMatches<'a>) -> Option<Command<'a>>
     })
 }
 
+/// How many instructions a run may have.
+fn steps_in(words: &ArgMatches<'_>) -> Option<u64>
+    ensures { result ≡ steps_in (first_of (codes "steps") (rows_of (found_of words.now))) }
+{
+    match word(words, "steps") {
+        Some(text) => number_in(1, 1_000_000_000_000, text),
+        None => Some(1_000_000_000),
+    }
+}
+
+fn run_in<'a>(words: &ArgMatches<'a>) -> Option<Command<'a>>
+    ensures { option_map plain_command result ≡ run_in (rows_of (found_of words.now)) }
+{
+    Some(Command::Run {
+        image: word(words, "IMG")?,
+        steps: steps_in(words)?,
+    })
+}
+
 fn generate_in<'a>(words: &ArgMatches<'a>) -> Option<Command<'a>>
     ensures { option_map plain_command result ≡ generate_in (rows_of (found_of words.now)) }
 {
@@ -139,6 +185,7 @@ fn command_named<'a>(name: &str, words: &ArgMatches<'a>) -> Option<Command<'a>>
 {
     match name {
         "build" => build_in(words),
+        "run" => run_in(words),
         "gen" => generate_in(words),
         _ => None,
     }

@@ -6,4 +6,9 @@ pub mod Loads
 pub mod Lookups
 pub mod Parts
 pub mod Ports
+pub mod Reached
+pub mod RunLaws
+pub mod Stopped
+pub mod Stores
+pub mod Unwritable
 pub mod Writes

@@ -1,10 +1,13 @@
 pub mod Block
 pub mod Blocks
 pub mod Endings
+pub mod Laws
 pub mod Machine
 pub mod Memory
+pub mod MemoryLaws
 pub mod Port
 pub mod Run
+pub mod Runs
 pub mod Steps
 pub mod View
 pub mod Words

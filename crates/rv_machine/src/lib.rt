@@ -5,10 +5,15 @@
 
 mod block;
 mod execute;
+pub mod laws;
 mod machine;
 mod memory;
+pub mod memory_laws;
+mod run;
 mod step;
 mod stop;
+#[cfg(test)]
+mod tests;
 mod words;
 
 pub use machine::{Machine, NoMemory};

@@ -7,4 +7,6 @@ use Rattle.cc_top.proofs.words.rvcc.Goals as goal
 pub returns : goal.returns
 unfolding rvcc
 returns c =
-    IfOk-weaker c.subcommand-2.result _ _ (λ m added. added.shape c.in_ok-gen_words.ensures.globals ∙ ap₂ with_subcommand (c.in_ok-subcommand.ensures.shape c.in_ok-build_words.ensures.globals ∙ ap₂ with_subcommand c.new.ensures.app c.in_ok-build_words.ensures.shape) c.in_ok-gen_words.ensures.shape) c.subcommand-2.ensures
+    let build = c.in_ok-subcommand.ensures.shape c.in_ok-build_words.ensures.globals ∙ ap₂ with_subcommand c.new.ensures.app c.in_ok-build_words.ensures.shape in
+    let run = c.in_ok-subcommand-2.ensures.shape c.in_ok-run_words.ensures.globals ∙ ap₂ with_subcommand build c.in_ok-run_words.ensures.shape in
+    IfOk-weaker c.subcommand-3.result _ _ (λ m added. added.shape c.in_ok-gen_words.ensures.globals ∙ ap₂ with_subcommand run c.in_ok-gen_words.ensures.shape) c.subcommand-3.ensures

@@ -1,0 +1,25 @@
+-- The parts of a type that is laid out.
+use Rattle.std.proofs.Common.{◌≡◌, ℕ, zero, suc, ◌+◌, ◌*◌, ◌<◌, ◌≤◌, ◌==◌, ◌&&◌, not, Bool, true, false, IsTrue, refl, sym, ap, ◌∙◌, subst, arith, le_trans, le-mul_of_pos_right, mul_comm, suc-mul, le-add_right, eqb-true}
+use Rattle.c_type.specs.Trees.{TypeTree, array_of}
+use Rattle.c_type.specs.Layout.{Definitions, is_complete, size, most_bytes, IsLaidOut}
+
+-- an array's elements are laid out
+some-part : (n s : ℕ) → n * s ≤ most_bytes → (n ≡ 0 → ⊥) → s ≤ most_bytes
+some-part zero s h ne = absurd (ne refl)
+some-part (suc n) s h ne = let e = suc-mul n s in omega (arith, e)
+
+both : (a b : Bool) → (a && b) ≡ true → (a ≡ true) × (b ≡ true)
+both true true h = (refl, refl)
+both true false h = cc
+both false b h = cc
+
+not-zero : (n : ℕ) → not (n == 0) ≡ true → n ≡ 0 → ⊥
+not-zero n h e = absurd-of n e h where
+  absurd-of : (m : ℕ) → m ≡ 0 → not (m == 0) ≡ true → ⊥
+  absurd-of zero e h = cc
+  absurd-of (suc m) e h = cc
+
+pub element : (defs : Definitions) (t : TypeTree) (n : ℕ) → IsLaidOut defs (array_of t n) → IsLaidOut defs t
+element defs t n h =
+    let b = both (not (n == 0)) (is_complete defs t) h.complete in
+    record { complete = b.1; small = some-part n (size defs t) h.small (not-zero n b.0) }

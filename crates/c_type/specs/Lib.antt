@@ -1,0 +1,10 @@
+pub mod Trees
+pub mod TreeCodes
+pub mod TreeView
+pub mod TreeFalls
+pub mod Layout
+pub mod WellDefined
+pub mod Level
+pub mod DefinitionCodes
+pub mod Structs
+pub mod Kept

@@ -1,0 +1,29 @@
+-- The structs of the code, with what they occupy.
+use Rattle.std.specs.Prelude.{◌≡◌, ℕ, ◌^◌, ◌<◌, ◌≤◌, List, [], ◌∷◌, length, slice_index, slice_get, Option, None, Some}
+use Rattle.std.specs.Option.{IfSome}
+use Rattle.c_type.specs.Trees.{TypeTree}
+use Rattle.c_type.specs.Layout.{Definition, Definitions, most_bytes, struct_size, struct_align, offset, members}
+use Rattle.c_type.specs.WellDefined.{AreDefinitions}
+use Rattle.c_type.specs.declared.structs.Struct.{Struct}
+
+-- the definitions of structs, after earlier ones
+abbrev pub definitions_of : Definitions → List Struct → Definitions
+definitions_of defs [] = defs
+definitions_of defs (s ∷ ss) = definitions_of (record { tag = s.tag; members = s.members.items } ∷ defs) ss
+
+-- what is kept of a struct is what its definition says
+pub record IsKept (defs : Definitions) (s : Struct) : Type 0 where
+  pub members : members defs s.tag ≡ s.members.items
+  pub size : s.size ≡ struct_size defs s.tag
+  pub small : s.size ≤ most_bytes
+  pub align : s.align ≡ struct_align defs s.tag
+  pub count : length s.offsets.items ≡ length s.members.items
+  pub offsets : (i : ℕ) → i < length s.offsets.items → slice_index s.offsets.items i ≡ offset defs s.tag i
+
+-- each tag with a place is that of the struct there, and each struct has the place of its tag
+pub record AreIndexed (places : List ℕ) (structs : List Struct) : Type 0 where
+  pub kept : (p : ℕ) (s : Struct) → slice_get structs p ≡ Some s → IsKept (definitions_of [] structs) s
+  pub found : (tag p : ℕ) (s : Struct) → slice_get places tag ≡ Some p → slice_get structs p ≡ Some s → s.tag ≡ tag
+  pub placed : (p : ℕ) (s : Struct) → slice_get structs p ≡ Some s → slice_get places s.tag ≡ Some p
+  pub few : length structs < 2 ^ 32
+  pub ordered : AreDefinitions (definitions_of [] structs)

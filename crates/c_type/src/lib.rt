@@ -1,0 +1,19 @@
+//! The types of the language: what a C type occupies.
+//! The checker, the typed program and construction stand on it; it stands on `val_core`.
+//! Promise: sizes, alignments, offsets and leaves are those of the recursion on the type, and only `leaves` takes memory.
+#![tactic(auto)]
+
+mod layout;
+mod listing;
+mod no_memory;
+mod scalar;
+mod structs;
+mod trees;
+
+pub use layout::{MOST_BYTES, align_of, is_complete, offset_of, size_of};
+pub use listing::leaves;
+pub use no_memory::NoMemory;
+pub use scalar::Scalar;
+pub use structs::Types;
+pub use trees::{CType, TypeForm};
+pub use val_core::Leaf;

@@ -1,0 +1,3 @@
+pub mod Units
+pub mod Search
+pub mod Laws

@@ -1,0 +1,5 @@
+use Rattle.rv_machine.proofs.RunLaws.{runs_add}
+use Rattle.rv_machine.proofs.laws.runs_add.Goals as goal
+
+pub returns : goal.returns
+returns c = runs_add

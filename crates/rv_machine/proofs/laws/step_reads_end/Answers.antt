@@ -1,0 +1,5 @@
+use Rattle.rv_machine.proofs.RunLaws.{step_reads_end}
+use Rattle.rv_machine.proofs.laws.step_reads_end.Goals as goal
+
+pub returns : goal.returns
+returns c = step_reads_end

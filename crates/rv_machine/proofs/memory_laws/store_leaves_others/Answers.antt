@@ -1,0 +1,5 @@
+use Rattle.rv_machine.proofs.Stores.{store_leaves_others}
+use Rattle.rv_machine.proofs.memory_laws.store_leaves_others.Goals as goal
+
+pub returns : goal.returns
+returns c = store_leaves_others

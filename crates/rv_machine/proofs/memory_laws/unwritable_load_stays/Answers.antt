@@ -1,0 +1,5 @@
+use Rattle.rv_machine.proofs.Unwritable.{unwritable_load_stays}
+use Rattle.rv_machine.proofs.memory_laws.unwritable_load_stays.Goals as goal
+
+pub returns : goal.returns
+returns c = unwritable_load_stays
