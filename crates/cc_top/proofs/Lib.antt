@@ -1,11 +1,12 @@
 pub mod SourceLemmas
 pub mod Digits
+pub mod CommandRowsLemmas
+pub mod WordsLemmas
+pub mod WordLawsLemmas
+pub mod GenerateLemmas
 pub mod Standing
 pub mod Text
 pub mod ProgramFits
 pub mod ConstantRun
 pub mod ConstantExits
-pub mod CommandRowsLemmas
-pub mod WordsLemmas
-pub mod GenerateLemmas
 pub mod RunLemmas

@@ -2,6 +2,7 @@ pub mod Source
 pub mod Arguments
 pub mod Command
 pub mod CommandRows
+pub mod WordLaws
 pub mod Words
 pub mod Templates
 pub mod Layout
