@@ -9,7 +9,7 @@ use Rattle.c_type.specs.Level.{IsLevelOf, IsLevel}
 use Rattle.c_type.specs.WellDefined.{AreLaidOut, Follows, AreDefinitions, height, height_by, struct_height, highest}
 
 -- a tag that is defined is no new one
-other-tag : (defs : Definitions) (tag new : ℕ) → is_defined defs tag ≡ true → is_defined defs new ≡ false → (new == tag) ≡ false
+pub other-tag : (defs : Definitions) (tag new : ℕ) → is_defined defs tag ≡ true → is_defined defs new ≡ false → (new == tag) ≡ false
 other-tag defs tag new here absent = by_test (new == tag) refl where
   by_test : (test : Bool) → (new == tag) ≡ test → (new == tag) ≡ false
   by_test false is = is

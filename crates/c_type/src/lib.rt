@@ -3,6 +3,8 @@
 //! Promise: sizes, alignments, offsets and leaves are those of the recursion on the type, and only `leaves` takes memory.
 #![tactic(auto)]
 
+mod define_fault;
+mod defining;
 mod layout;
 mod listing;
 mod no_memory;
@@ -10,6 +12,7 @@ mod scalar;
 mod structs;
 mod trees;
 
+pub use define_fault::DefineFault;
 pub use layout::{MOST_BYTES, align_of, is_complete, offset_of, size_of};
 pub use listing::leaves;
 pub use no_memory::NoMemory;
