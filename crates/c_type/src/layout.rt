@@ -1,4 +1,4 @@
-ghost use Rattle.std.specs.Prelude.{◌≡◌, ℕ, ◌+◌, ◌<◌, ◌≤◌, ◌^◌, true, length, IsTrue, SomeIff};
+ghost use Rattle.std.specs.Prelude.{◌≡◌, ℕ, ◌+◌, ◌*◌, ◌<◌, ◌≤◌, ◌^◌, true, length, IsTrue, SomeIff};
 ghost use Rattle.c_type.specs.Layout.{is_complete, is_defined, rounded_up, scalar_size, align, size, offset, members, most_bytes, IsLaidOut};
 
 use crate::scalar::Scalar;
@@ -49,6 +49,23 @@ pub fn size_of(types: &Types, t: &CType) -> u32
     }
 }
 
+/// The size of a complete type, in bytes, where it is at most `MOST_BYTES`.
+pub fn bounded_size(types: &Types, t: &CType) -> Option<u32>
+    requires { IsTrue (is_complete types.now t.now) }
+    ensures { SomeIff result (size types.now t.now ≤ most_bytes) (size types.now t.now) }
+{
+    match &t.form {
+        TypeForm::Void => Some(0),
+        TypeForm::Scalar(s) => Some(width(*s)),
+        TypeForm::Pointer(_) => Some(4),
+        TypeForm::Array(of, length) => match bounded_size(types, of) {
+            Some(size) => bounded_product(*length, size),
+            None => None,
+        },
+        TypeForm::Struct(tag) => types.find(*tag).map(|s| s.size),
+    }
+}
+
 /// The offset of a member of a struct that is defined, in bytes; members are counted from 0 (6.7.2.1p15).
 pub fn offset_of(types: &Types, tag: u32, member: u32) -> u32
     requires defined { IsTrue (is_defined types.now tag) }
@@ -79,4 +96,16 @@ pub(crate) fn rounded_up(n: u32, align: u32) -> u32
     ensures { result ≡ rounded_up n align }
 {
     (n + (align - 1)) / align * align
+}
+
+fn bounded_product(n: u32, size: u32) -> Option<u32>
+    requires { size ≤ most_bytes }
+    ensures { SomeIff result (n * size ≤ most_bytes) (n * size) }
+{
+    let whole = u64::from(n) * u64::from(size);
+    if whole <= u64::from(MOST_BYTES) {
+        Some(whole as u32)
+    } else {
+        None
+    }
 }

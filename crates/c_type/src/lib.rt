@@ -8,12 +8,13 @@ mod defining;
 mod layout;
 mod listing;
 mod no_memory;
+mod same;
 mod scalar;
 mod structs;
 mod trees;
 
 pub use define_fault::DefineFault;
-pub use layout::{MOST_BYTES, align_of, is_complete, offset_of, size_of};
+pub use layout::{MOST_BYTES, align_of, bounded_size, is_complete, offset_of, size_of};
 pub use listing::leaves;
 pub use no_memory::NoMemory;
 pub use scalar::Scalar;
