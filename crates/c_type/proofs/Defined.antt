@@ -1,15 +1,14 @@
 -- One more definition.
-use Rattle.std.proofs.Common.{◌≡◌, ℕ, zero, suc, ◌+◌, ◌-◌, ◌^◌, ◌<◌, ◌≤◌, ◌==◌, ◌⊎◌, Bool, true, false, cond, List, [], ◌∷◌, ◌++◌, length, slice_get, slice_set, slice_index, Option, None, Some, refl, sym, ap, ◌∙◌, subst, inl, inr, arith, length-append, eq-eqb, eqb-true}
+use Rattle.std.proofs.Common.{◌≡◌, ℕ, ◌-◌, ◌^◌, ◌<◌, ◌≤◌, ◌==◌, ◌⊎◌, Bool, true, false, cond, List, [], ◌∷◌, ◌++◌, length, slice_get, slice_set, Some, refl, sym, ap, ◌∙◌, subst, inl, inr, arith, length-append, eq-eqb, eqb-true}
 use Rattle.std.proofs.lemmas.Option.{slice_get_within}
 use Rattle.std.proofs.lemmas.Bool.{eqb-false}
-use Rattle.c_type.specs.Trees.{TypeTree}
 use Rattle.c_type.specs.Layout.{Definition, Definitions, is_defined, most_bytes, members, align, largest, size, struct_size, struct_align, offset, offset_from}
 use Rattle.c_type.specs.WellDefined.{AreLaidOut, Follows, AreDefinitions}
 use Rattle.c_type.specs.LaidUpTo.{IsLaid, struct_bytes}
 use Rattle.c_type.specs.Structs.{definitions_of, IsKept, AreIndexed, absent}
 use Rattle.c_type.specs.declared.structs.Struct.{Struct}
 use Rattle.c_type.proofs.Levels.{other-tag}
-use Rattle.c_type.proofs.Places.{get-front, get-last, get-either, get-set-same, get-set-other}
+use Rattle.c_type.proofs.Places.{get-either, get-set-same, get-set-other}
 use Rattle.c_type.proofs.StructLemmas.{defined-is, has-there}
 
 abbrev pub definition_of : Struct → Definition

@@ -1,10 +1,7 @@
 -- The places of tags.
-use Rattle.std.proofs.Common.{◌≡◌, ℕ, zero, suc, ◌+◌, ◌-◌, ◌^◌, ◌<◌, ◌≤◌, ◌==◌, ◌⊎◌, Bool, true, false, List, [], ◌∷◌, ◌++◌, length, slice_get, slice_set, set, Option, None, Some, refl, sym, ap, ◌∙◌, subst, inl, inr, arith, eqb-true}
+use Rattle.std.proofs.Common.{◌≡◌, ℕ, zero, suc, ◌<◌, ◌⊎◌, List, [], ◌∷◌, ◌++◌, length, slice_get, slice_set, Some, refl, ap, inl, inr, arith}
 use Rattle.std.proofs.lemmas.Option.{slice_get_within}
-use Rattle.std.proofs.lemmas.Bool.{eqb-false}
-use Rattle.c_type.specs.Layout.{Definition, Definitions, is_defined, most_bytes, members, struct_size, struct_align, offset}
-use Rattle.c_type.specs.WellDefined.{AreDefinitions}
-use Rattle.c_type.specs.Structs.{definitions_of, IsKept, AreIndexed, Pads, absent}
+use Rattle.c_type.specs.Structs.{AreIndexed, Pads, absent}
 use Rattle.c_type.specs.declared.structs.Struct.{Struct}
 
 -- ---- the elements of lists

@@ -1,8 +1,6 @@
 -- The structs of the code, with what they occupy.
-use Rattle.std.specs.Prelude.{◌≡◌, ℕ, ◌^◌, ◌<◌, ◌≤◌, ◌⊎◌, List, [], ◌∷◌, length, slice_index, slice_get, Option, None, Some}
-use Rattle.std.specs.Option.{IfSome}
-use Rattle.c_type.specs.Trees.{TypeTree}
-use Rattle.c_type.specs.Layout.{Definition, Definitions, most_bytes, struct_size, struct_align, offset, members}
+use Rattle.std.specs.Prelude.{◌≡◌, ℕ, ◌^◌, ◌<◌, ◌≤◌, ◌⊎◌, List, [], ◌∷◌, length, slice_index, slice_get, Some}
+use Rattle.c_type.specs.Layout.{Definitions, most_bytes, struct_size, struct_align, offset, members}
 use Rattle.c_type.specs.WellDefined.{AreDefinitions}
 use Rattle.c_type.specs.declared.structs.Struct.{Struct}
 

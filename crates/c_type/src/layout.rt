@@ -1,4 +1,5 @@
-ghost use Rattle.std.specs.Prelude.{◌≡◌, ℕ, ◌+◌, ◌*◌, ◌<◌, ◌≤◌, ◌^◌, true, length, IsTrue, SomeIff};
+ghost use Rattle.std.specs.Prelude.{◌≡◌, ℕ, ◌+◌, ◌*◌, ◌<◌, ◌≤◌, ◌^◌, true, length, ◌↔◌, IsTrue, SomeIff};
+ghost use Rattle.c_type.specs.WellDefined.{AreLaidOut};
 ghost use Rattle.c_type.specs.Layout.{is_complete, is_defined, rounded_up, scalar_size, align, size, offset, members, most_bytes, IsLaidOut};
 
 use crate::scalar::Scalar;
@@ -19,6 +20,25 @@ pub fn is_complete(types: &Types, t: &CType) -> bool
         TypeForm::Array(of, length) => *length != 0 && is_complete(types, of),
         TypeForm::Struct(tag) => types.is_defined(*tag),
     }
+}
+
+/// Whether the type is complete and has at most `MOST_BYTES`.
+pub fn is_laid_out(types: &Types, t: &CType) -> bool
+    ensures { IsTrue result ↔ IsLaidOut types.now t.now }
+{
+    is_complete(types, t) && bounded_size(types, t).is_some()
+}
+
+/// Whether all these types are complete and have at most `MOST_BYTES` each.
+pub fn are_laid_out(types: &Types, ts: &[CType]) -> bool
+    ensures { IsTrue result ↔ AreLaidOut types.now ts.now }
+{
+    for t in ts {
+        if !is_laid_out(types, t) {
+            return false;
+        }
+    }
+    true
 }
 
 /// The alignment of a complete type, in bytes: 1, 2 or 4 (6.2.8).

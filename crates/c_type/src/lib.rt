@@ -11,10 +11,14 @@ mod no_memory;
 mod same;
 mod scalar;
 mod structs;
+#[cfg(test)]
+mod tests;
 mod trees;
 
 pub use define_fault::DefineFault;
-pub use layout::{MOST_BYTES, align_of, bounded_size, is_complete, offset_of, size_of};
+pub use layout::{
+    MOST_BYTES, align_of, are_laid_out, bounded_size, is_complete, is_laid_out, offset_of, size_of,
+};
 pub use listing::leaves;
 pub use no_memory::NoMemory;
 pub use scalar::Scalar;

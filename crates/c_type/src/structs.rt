@@ -1,5 +1,5 @@
-ghost use Rattle.std.specs.Prelude.{◌≡◌, ◌<◌, ◌≤◌, ◌^◌, ◌-◌, ◌∷◌, [], false, length, OnOk, OnErr, IfOk, IfErr, vec_len, IsTrue, MatchOption, option_copied, option_and_then, slice_get};
-ghost use Rattle.c_type.specs.Layout.{is_defined, most_bytes};
+ghost use Rattle.std.specs.Prelude.{◌≡◌, ◌<◌, ◌≤◌, ◌^◌, ◌-◌, ◌∷◌, ◌↔◌, [], false, length, OnOk, OnErr, IfOk, IfErr, vec_len, IsTrue, MatchOption, option_copied, option_and_then, slice_get};
+ghost use Rattle.c_type.specs.Layout.{is_defined, members, most_bytes};
 ghost use Rattle.c_type.specs.WellDefined.{AreDefinitions, AreLaidOut};
 ghost use Rattle.c_type.specs.LaidUpTo.{struct_bytes};
 ghost use Rattle.c_type.specs.declared.define_fault.DefineFault.TheVariants.{TooLarge, NoMemory};
@@ -63,6 +63,16 @@ impl Types {
     {
         let _structs = &self.structs;
         self.find(tag).is_some()
+    }
+
+    /// Whether the struct of this tag is defined and has a member of this number, counted from 0.
+    pub fn has_member(&self, tag: u32, member: u32) -> bool
+        ensures { IsTrue result ↔ (IsTrue (is_defined self.now tag) × (member < length (members self.now tag))) }
+    {
+        match self.find(tag) {
+            Some(s) => (member as usize) < s.offsets.len(),
+            None => false,
+        }
     }
 
     /// Defines the struct of this tag, which has members of these types.

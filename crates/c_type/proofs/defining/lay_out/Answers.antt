@@ -1,10 +1,8 @@
-use Rattle.std.proofs.Common.{rules, ◌≡◌, ℕ, ◌+◌, ◌*◌, ◌^◌, ◌<◌, ◌≤◌, sym, ap, ◌∙◌, subst, length, drop, List, [], ◌∷◌, ◌++◌, Fits, w32, arith}
-use Rattle.c_type.specs.Trees.{TypeTree}
-use Rattle.c_type.specs.Layout.{align, rounded_up, size, most_bytes, IsLaidOut}
-use Rattle.c_type.specs.LaidUpTo.{LaidUpTo, struct_bytes}
-use Rattle.c_type.specs.WellDefined.{AreLaidOut}
+use Rattle.std.proofs.Common.{◌≡◌, ◌+◌, ◌^◌, ◌<◌, ◌≤◌, ap, ◌∙◌, subst, arith}
+use Rattle.c_type.specs.Layout.{align, rounded_up, size, most_bytes}
+use Rattle.c_type.specs.LaidUpTo.{LaidUpTo}
 use Rattle.c_type.proofs.MemberLemmas.{at-member}
-use Rattle.c_type.proofs.LayLemmas.{nothing-laid, one-laid, all-laid, too-large-end, lay-room, lay-next}
+use Rattle.c_type.proofs.LayLemmas.{nothing-laid, one-laid, too-large-end, lay-room, lay-next}
 use Rattle.c_type.proofs.defining.lay_out.Goals as goal
 
 pub loop-t-init : goal.loop-t-init

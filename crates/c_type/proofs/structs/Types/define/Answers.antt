@@ -1,8 +1,8 @@
-use Rattle.std.proofs.Common.{◌≡◌, ℕ, ◌∷◌, [], ◌++◌, List, sym, ap, ◌∙◌, subst, false, slice_set, slice_get}
+use Rattle.std.proofs.Common.{◌≡◌, ◌∷◌, [], sym, ap, ◌∙◌, subst, false}
 use Rattle.c_type.specs.Layout.{is_defined}
 use Rattle.c_type.specs.LaidUpTo.{IsLaid}
 use Rattle.c_type.specs.WellDefined.{AreLaidOut}
-use Rattle.c_type.specs.Structs.{AreIndexed, definitions_of}
+use Rattle.c_type.specs.Structs.{definitions_of}
 use Rattle.c_type.specs.declared.structs.Struct.{Struct}
 use Rattle.c_type.proofs.Places.{indexed-pads}
 use Rattle.c_type.proofs.Defined.{definition_of, definitions-more, indexed-define}
