@@ -1,8 +1,7 @@
 -- Leaves of elements and members, one after the other.
-use Rattle.std.proofs.Common.{◌≡◌, ℕ, zero, suc, ◌+◌, ◌*◌, ◌<◌, ◌≤◌, max, List, [], ◌∷◌, ◌++◌, length, drop, refl, sym, ap, ap₂, ◌∙◌, arith, append_assoc, append-nil, suc-mul, add_assoc, mul-le-mul_right, add-one}
+use Rattle.std.proofs.Common.{◌≡◌, ℕ, zero, suc, ◌+◌, ◌*◌, ◌<◌, ◌≤◌, List, ◌++◌, sym, ap, ◌∙◌, arith, append_assoc, append-nil, suc-mul, mul-le-mul_right, add-one}
 use Rattle.val_core.specs.declared.leaf.Leaf.{Leaf}
-use Rattle.c_type.specs.Trees.{TypeTree}
-use Rattle.c_type.specs.Layout.{Definitions, repeated}
+use Rattle.c_type.specs.Layout.{repeated}
 
 -- one more element
 more : (n s at : ℕ) (f : ℕ → List Leaf) → repeated (suc n) s at f ≡ repeated n s at f ++ f (at + n * s)

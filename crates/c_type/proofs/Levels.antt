@@ -1,15 +1,14 @@
 -- What a later definition leaves as it was, and the layout of a struct by its members alone.
-use Rattle.std.proofs.Common.{◌≡◌, ℕ, zero, suc, ◌+◌, ◌*◌, ◌<◌, ◌≤◌, ◌==◌, ◌&&◌, ◌||◌, max, not, Bool, true, false, cond, List, [], ◌∷◌, ◌++◌, IsTrue, refl, sym, ap, ap₂, ◌∙◌, subst, arith, eq-eqb, eqb-true}
+use Rattle.std.proofs.Common.{◌≡◌, ℕ, zero, suc, ◌+◌, ◌*◌, ◌≤◌, ◌==◌, ◌&&◌, ◌||◌, max, not, Bool, true, false, cond, List, [], ◌∷◌, ◌++◌, refl, sym, ap, ap₂, ◌∙◌, subst, eq-eqb, eqb-true}
 use mathlib.Core.Path.{fun_ext}
-use Rattle.std.specs.List.{list_any}
 use Rattle.val_core.specs.declared.leaf.Leaf.{Leaf}
 use Rattle.c_type.specs.Trees.{TypeTree, void_type, scalar_type, pointer_to, array_of, struct_type}
-use Rattle.c_type.specs.Layout.{Definition, Definitions, is_defined, is_complete, rounded_up, align, align_by, struct_align, largest, size, size_by, struct_size, members_end, offset, offset_from, leaves_by, leaves_at, struct_leaves, members_leaves, repeated, members, most_bytes, IsLaidOut}
+use Rattle.c_type.specs.Layout.{Definition, Definitions, is_defined, is_complete, rounded_up, align, struct_align, largest, size, struct_size, members_end, offset, offset_from, leaves_at, struct_leaves, members_leaves, repeated, members, most_bytes}
 use Rattle.c_type.specs.Level.{IsLevelOf, IsLevel}
-use Rattle.c_type.specs.WellDefined.{AreLaidOut, Follows, AreDefinitions, height, height_by, struct_height, highest}
+use Rattle.c_type.specs.WellDefined.{AreLaidOut, AreDefinitions, height, struct_height, highest}
 
 -- a tag that is defined is no new one
-other-tag : (defs : Definitions) (tag new : ℕ) → is_defined defs tag ≡ true → is_defined defs new ≡ false → (new == tag) ≡ false
+pub other-tag : (defs : Definitions) (tag new : ℕ) → is_defined defs tag ≡ true → is_defined defs new ≡ false → (new == tag) ≡ false
 other-tag defs tag new here absent = by_test (new == tag) refl where
   by_test : (test : Bool) → (new == tag) ≡ test → (new == tag) ≡ false
   by_test false is = is

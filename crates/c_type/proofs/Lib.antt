@@ -4,3 +4,6 @@ pub mod Levels
 pub mod Bounds
 pub mod LeafLemmas
 pub mod MemberLemmas
+pub mod Places
+pub mod LayLemmas
+pub mod Defined

@@ -1,8 +1,8 @@
 -- One member of a struct after the other.
-use Rattle.std.proofs.Common.{◌≡◌, ℕ, zero, suc, ◌+◌, ◌*◌, ◌^◌, ◌<◌, ◌≤◌, max, List, [], ◌∷◌, ◌++◌, length, get_or, drop, refl, sym, ap, ap₂, ◌∙◌, subst, arith, add-one, drop-cons, append_assoc, add_assoc}
+use Rattle.std.proofs.Common.{◌≡◌, ℕ, suc, ◌+◌, ◌<◌, ◌≤◌, List, ◌∷◌, ◌++◌, length, get_or, drop, sym, ap, ◌∙◌, subst, arith, add-one, drop-cons, append_assoc}
 use Rattle.val_core.specs.declared.leaf.Leaf.{Leaf}
 use Rattle.c_type.specs.Trees.{TypeTree, struct_type}
-use Rattle.c_type.specs.Layout.{Definitions, rounded_up, align, size, members_end, members_leaves, leaves_at, most_bytes, largest, members, IsLaidOut}
+use Rattle.c_type.specs.Layout.{Definitions, rounded_up, align, size, members_end, members_leaves, leaves_at, most_bytes, largest, members}
 use Rattle.c_type.specs.WellDefined.{AreLaidOut, MemberFits, height, highest}
 use Rattle.c_type.specs.Kept.{IsFound}
 use Rattle.c_type.specs.Level.{IsLevel}

@@ -1,5 +1,5 @@
 -- The parts of a type that is laid out.
-use Rattle.std.proofs.Common.{◌≡◌, ℕ, zero, suc, ◌+◌, ◌*◌, ◌<◌, ◌≤◌, ◌==◌, ◌&&◌, not, Bool, true, false, IsTrue, refl, sym, ap, ◌∙◌, subst, arith, le_trans, le-mul_of_pos_right, mul_comm, suc-mul, le-add_right, eqb-true}
+use Rattle.std.proofs.Common.{◌≡◌, ℕ, zero, suc, ◌*◌, ◌≤◌, ◌==◌, ◌&&◌, not, Bool, true, false, refl, arith, suc-mul}
 use Rattle.c_type.specs.Trees.{TypeTree, array_of}
 use Rattle.c_type.specs.Layout.{Definitions, is_complete, size, most_bytes, IsLaidOut}
 

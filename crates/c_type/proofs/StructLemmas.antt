@@ -1,8 +1,8 @@
 -- Structs and their places.
-use Rattle.std.proofs.Common.{◌≡◌, ℕ, zero, suc, ◌<◌, ◌≤◌, ◌==◌, ◌||◌, Bool, true, false, cond, List, [], ◌∷◌, ◌++◌, length, slice_get, Option, None, Some, option_and_then, MatchOption, option_copied, Bor, refl, sym, ap, ◌∙◌, subst, arith, eqb-true, eq-eqb}
+use Rattle.std.proofs.Common.{◌≡◌, ℕ, zero, suc, ◌==◌, ◌||◌, Bool, true, false, List, [], ◌∷◌, slice_get, Option, None, Some, option_and_then, MatchOption, option_copied, Bor, refl, sym, ap, ◌∙◌, subst, eqb-true, eq-eqb}
 use Rattle.std.specs.List.{list_any}
-use Rattle.c_type.specs.Layout.{Definition, Definitions, is_defined}
-use Rattle.c_type.specs.Structs.{definitions_of, IsKept, AreIndexed}
+use Rattle.c_type.specs.Layout.{Definitions, is_defined}
+use Rattle.c_type.specs.Structs.{definitions_of, AreIndexed}
 use Rattle.c_type.specs.Kept.{IsFound}
 use Rattle.c_type.proofs.Levels.{level}
 use Rattle.c_type.specs.declared.structs.Struct.{Struct}

@@ -5,6 +5,7 @@ pub mod TreeFalls
 pub mod Layout
 pub mod WellDefined
 pub mod Level
+pub mod LaidUpTo
 pub mod DefinitionCodes
 pub mod Structs
 pub mod Kept

@@ -1,5 +1,5 @@
 -- A part of a type is less high.
-use Rattle.std.specs.Prelude.{ℕ, ◌≤◌, max}
+use Rattle.std.specs.Prelude.{◌≤◌, max}
 use Rattle.std.proofs.Common.{arith}
 use Rattle.c_type.specs.Trees.{tree_height}
 use Rattle.c_type.specs.TreeView.{tree_of}

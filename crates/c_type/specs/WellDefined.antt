@@ -1,6 +1,6 @@
 -- The struct definitions of a program, in the order in which it has them.
 use Rattle.std.specs.Prelude.{◌≡◌, ℕ, ◌+◌, ◌^◌, ◌<◌, ◌≤◌, ◌==◌, max, false, if◌then◌else◌, List, [], ◌∷◌, length}
-use Rattle.c_type.specs.Trees.{TypeTree, void_type, scalar_type, pointer_to, array_of, struct_type}
+use Rattle.c_type.specs.Trees.{TypeTree, array_of, struct_type}
 use Rattle.c_type.specs.Layout.{Definition, Definitions, is_defined, rounded_up, align, size, struct_size, most_bytes, IsLaidOut}
 
 abbrev pub AreLaidOut : Definitions → List TypeTree → Type 0

@@ -1,4 +1,5 @@
-ghost use Rattle.std.specs.Prelude.{◌≡◌, ℕ, ◌+◌, ◌<◌, ◌≤◌, ◌^◌, true, length, IsTrue, SomeIff};
+ghost use Rattle.std.specs.Prelude.{◌≡◌, ℕ, ◌+◌, ◌*◌, ◌<◌, ◌≤◌, ◌^◌, true, length, ◌↔◌, IsTrue, SomeIff};
+ghost use Rattle.c_type.specs.WellDefined.{AreLaidOut};
 ghost use Rattle.c_type.specs.Layout.{is_complete, is_defined, rounded_up, scalar_size, align, size, offset, members, most_bytes, IsLaidOut};
 
 use crate::scalar::Scalar;
@@ -19,6 +20,25 @@ pub fn is_complete(types: &Types, t: &CType) -> bool
         TypeForm::Array(of, length) => *length != 0 && is_complete(types, of),
         TypeForm::Struct(tag) => types.is_defined(*tag),
     }
+}
+
+/// Whether the type is complete and has at most `MOST_BYTES`.
+pub fn is_laid_out(types: &Types, t: &CType) -> bool
+    ensures { IsTrue result ↔ IsLaidOut types.now t.now }
+{
+    is_complete(types, t) && bounded_size(types, t).is_some()
+}
+
+/// Whether all these types are complete and have at most `MOST_BYTES` each.
+pub fn are_laid_out(types: &Types, ts: &[CType]) -> bool
+    ensures { IsTrue result ↔ AreLaidOut types.now ts.now }
+{
+    for t in ts {
+        if !is_laid_out(types, t) {
+            return false;
+        }
+    }
+    true
 }
 
 /// The alignment of a complete type, in bytes: 1, 2 or 4 (6.2.8).
@@ -46,6 +66,23 @@ pub fn size_of(types: &Types, t: &CType) -> u32
         TypeForm::Pointer(_) => 4,
         TypeForm::Array(of, length) => *length * size_of(types, of),
         TypeForm::Struct(tag) => types.find(*tag).map_or(0, |s| s.size),
+    }
+}
+
+/// The size of a complete type, in bytes, where it is at most `MOST_BYTES`.
+pub fn bounded_size(types: &Types, t: &CType) -> Option<u32>
+    requires { IsTrue (is_complete types.now t.now) }
+    ensures { SomeIff result (size types.now t.now ≤ most_bytes) (size types.now t.now) }
+{
+    match &t.form {
+        TypeForm::Void => Some(0),
+        TypeForm::Scalar(s) => Some(width(*s)),
+        TypeForm::Pointer(_) => Some(4),
+        TypeForm::Array(of, length) => match bounded_size(types, of) {
+            Some(size) => bounded_product(*length, size),
+            None => None,
+        },
+        TypeForm::Struct(tag) => types.find(*tag).map(|s| s.size),
     }
 }
 
@@ -79,4 +116,16 @@ pub(crate) fn rounded_up(n: u32, align: u32) -> u32
     ensures { result ≡ rounded_up n align }
 {
     (n + (align - 1)) / align * align
+}
+
+fn bounded_product(n: u32, size: u32) -> Option<u32>
+    requires { size ≤ most_bytes }
+    ensures { SomeIff result (n * size ≤ most_bytes) (n * size) }
+{
+    let whole = u64::from(n) * u64::from(size);
+    if whole <= u64::from(MOST_BYTES) {
+        Some(whole as u32)
+    } else {
+        None
+    }
 }

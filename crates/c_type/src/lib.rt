@@ -3,14 +3,22 @@
 //! Promise: sizes, alignments, offsets and leaves are those of the recursion on the type, and only `leaves` takes memory.
 #![tactic(auto)]
 
+mod define_fault;
+mod defining;
 mod layout;
 mod listing;
 mod no_memory;
+mod same;
 mod scalar;
 mod structs;
+#[cfg(test)]
+mod tests;
 mod trees;
 
-pub use layout::{MOST_BYTES, align_of, is_complete, offset_of, size_of};
+pub use define_fault::DefineFault;
+pub use layout::{
+    MOST_BYTES, align_of, are_laid_out, bounded_size, is_complete, is_laid_out, offset_of, size_of,
+};
 pub use listing::leaves;
 pub use no_memory::NoMemory;
 pub use scalar::Scalar;

@@ -1,8 +1,12 @@
-ghost use Rattle.std.specs.Prelude.{◌≡◌, [], false, IsTrue, MatchOption, option_copied, option_and_then, slice_get};
-ghost use Rattle.c_type.specs.Layout.{is_defined};
-ghost use Rattle.c_type.specs.WellDefined.{AreDefinitions};
+ghost use Rattle.std.specs.Prelude.{◌≡◌, ◌<◌, ◌≤◌, ◌^◌, ◌-◌, ◌∷◌, ◌↔◌, [], false, length, OnOk, OnErr, IfOk, IfErr, vec_len, IsTrue, MatchOption, option_copied, option_and_then, slice_get};
+ghost use Rattle.c_type.specs.Layout.{is_defined, members, most_bytes};
+ghost use Rattle.c_type.specs.WellDefined.{AreDefinitions, AreLaidOut};
+ghost use Rattle.c_type.specs.LaidUpTo.{struct_bytes};
+ghost use Rattle.c_type.specs.declared.define_fault.DefineFault.TheVariants.{TooLarge, NoMemory};
 ghost use Rattle.c_type.specs.Kept.{IsFound};
 
+use crate::define_fault::DefineFault;
+use crate::defining::{lay_out, make_place};
 use crate::trees::CType;
 use std::alloc::Global;
 use std::marker::Model;
@@ -61,6 +65,43 @@ impl Types {
         self.find(tag).is_some()
     }
 
+    /// Whether the struct of this tag is defined and has a member of this number, counted from 0.
+    pub fn has_member(&self, tag: u32, member: u32) -> bool
+        ensures { IsTrue result ↔ (IsTrue (is_defined self.now tag) × (member < length (members self.now tag))) }
+    {
+        match self.find(tag) {
+            Some(s) => (member as usize) < s.offsets.len(),
+            None => false,
+        }
+    }
+
+    /// Defines the struct of this tag, which has members of these types.
+    ///
+    /// After an error the definitions are as before. The answer is `TooLarge` exactly where the struct would have more
+    /// than `MOST_BYTES`, want of memory apart.
+    pub fn define(&mut self, tag: u32, members: Vec<CType>) -> Result<(), DefineFault>
+        requires new { is_defined self.old tag ≡ false }
+        requires some { 0 < length members.items }
+        requires laid_out { AreLaidOut self.old members.items }
+        ensures ok { OnOk result (self.new ≡ record { tag = tag; members = members.items } ∷ self.old) }
+        ensures small { OnOk result (struct_bytes self.old members.items ≤ most_bytes) }
+        ensures err { OnErr result (self.new ≡ self.old) }
+        ensures too_large { IfErr result (λ e. e ≡ TooLarge → most_bytes < struct_bytes self.old members.items) }
+    {
+        let layout = lay_out(*members.allocator(), self, &members)?;
+        let place = next_place(&self.structs)?;
+        make_place(&mut self.places, tag)?;
+        self.structs.push(Struct {
+            tag,
+            members,
+            offsets: layout.offsets,
+            size: layout.size,
+            align: layout.align,
+        })?;
+        self.places[tag as usize] = place;
+        Ok(())
+    }
+
     // The struct of this tag, where it is defined.
     pub(crate) fn find(&self, tag: u32) -> Option<&Struct>
         ensures { MatchOption result (is_defined self.now tag ≡ false) (λ s. IsFound self.now tag s.now) }
@@ -75,4 +116,16 @@ fn struct_at<'a>(places: &[u32], structs: &'a [Struct], tag: u32) -> Option<&'a 
 {
     let place = places.get(tag as usize)?;
     structs.get(*place as usize)
+}
+
+// The place of one more struct. There are fewer structs than tags, so only memory can be short.
+fn next_place(structs: &Vec<Struct>) -> Result<u32, DefineFault>
+    ensures ok { IfOk result (λ p. (p ≡ length structs.now.items) × (p < 2 ^ 32 - 1)) }
+    ensures err { IfErr result (λ e. e ≡ NoMemory) }
+{
+    if structs.len() < u32::MAX as usize {
+        Ok(structs.len() as u32)
+    } else {
+        Err(DefineFault::NoMemory)
+    }
 }

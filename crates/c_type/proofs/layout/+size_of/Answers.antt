@@ -1,5 +1,4 @@
-use Rattle.std.proofs.Common.{rules, ◌≡◌, sym, ap, ◌∙◌, subst, ◌<◌, ◌*◌, arith}
-use Rattle.c_type.specs.Trees.{TypeTree, array_of}
+use Rattle.std.proofs.Common.{rules, sym, ap, ◌∙◌, subst}
 use Rattle.c_type.specs.TreeView.{tree_of}
 use Rattle.c_type.specs.Layout.{IsLaidOut}
 use Rattle.c_type.proofs.SizeLemmas.{element}

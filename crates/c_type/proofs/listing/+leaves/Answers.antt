@@ -1,11 +1,11 @@
-use Rattle.std.proofs.Common.{rules, ◌≡◌, ℕ, ◌+◌, ◌-◌, ◌*◌, ◌<◌, ◌≤◌, sym, ap, ◌∙◌, subst, length, List, [], ◌∷◌, ◌++◌, Fits, w32, arith, append_assoc}
-use Rattle.c_type.specs.Trees.{TypeTree, array_of, struct_type}
+use Rattle.std.proofs.Common.{◌≡◌, ◌+◌, ◌*◌, ◌<◌, ◌≤◌, sym, ap, ◌∙◌, subst, ◌++◌, arith, append_assoc}
+use Rattle.c_type.specs.Trees.{array_of}
 use Rattle.c_type.specs.TreeView.{tree_of}
 use Rattle.c_type.specs.WellDefined.{AreLaidOut, height, highest}
-use Rattle.c_type.specs.Layout.{align, size, members_end, members_leaves, leaves_at, repeated, most_bytes, IsLaidOut}
+use Rattle.c_type.specs.Layout.{align, size, members_end, leaves_at, repeated, most_bytes, IsLaidOut}
 use Rattle.c_type.proofs.SizeLemmas.{element}
 use Rattle.c_type.proofs.LeafLemmas.{repeated-more}
-use Rattle.c_type.proofs.MemberLemmas.{at-member, member-fits, member-next, member-leaves, struct-parts}
+use Rattle.c_type.proofs.MemberLemmas.{at-member, member-fits, member-next, struct-parts}
 use Rattle.c_type.proofs.listing.+leaves.Goals as goal
 
 pub push_elements-loop-i-preserved : goal.push_elements-loop-i-preserved

@@ -1,4 +1,4 @@
-use Rattle.std.proofs.Common.{◌≡◌, ℕ, ◌+◌, ◌*◌, ◌<◌, ◌≤◌, ◌++◌, drop}
+use Rattle.std.proofs.Common.{◌≡◌, ◌+◌, ◌*◌, ◌≤◌, ◌++◌, drop}
 use Rattle.c_type.specs.Layout.{align, size, members_end, members_leaves, leaves_at, repeated, most_bytes}
 use Rattle.c_type.specs.WellDefined.{AreLaidOut, height, highest}
 use Rattle.c_type.proofs.listing.+leaves.Given as goal
