@@ -58,6 +58,7 @@ impl Block {
     }
 
     /// Writes the low `width` bytes of a word, the lowest first, from the place `at` on.
+    #[inline(always)]
     pub(crate) fn write(&mut self, at: usize, word: u32, width: usize)
         requires { at + width ≤ vec_len self.old.bytes }
         ensures bytes { self.new.bytes.items ≡ written self.old.bytes.items at word width }
@@ -72,6 +73,7 @@ impl Block {
 }
 
 /// The number that 1, 2 or 4 bytes make, the lowest first.
+#[inline(always)]
 pub(crate) fn number_of(bytes: &[u8]) -> u32
     requires { IsWidth (length bytes.now) }
     ensures value { result ≡ number bytes.now }

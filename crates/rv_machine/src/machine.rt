@@ -132,6 +132,7 @@ impl Machine {
     }
 
     /// The address of an access, which has to be a multiple of the width.
+    #[inline(always)]
     fn address(&self, rs1: Reg, distance: Imm12, width: u32) -> Result<u32, Ending>
         requires { IsWidth width }
         ensures ok { IfOk result (λ address. address ≡ offset (look (state_of self.now).regs rs1) distance) }
@@ -147,6 +148,7 @@ impl Machine {
     }
 
     /// The number that `width` bytes make, the lowest first.
+    #[inline(always)]
     pub(crate) fn loaded(&self, rs1: Reg, distance: Imm12, width: u32) -> Result<u32, Ending>
         requires { IsWidth width }
         ensures ok { IfOk result (λ n. n ≡ load_bytes (state_of self.now).mem (offset (look (state_of self.now).regs rs1) distance) width) }
@@ -163,6 +165,7 @@ impl Machine {
     }
 
     /// Stores the low `width` bytes of a word, the lowest first, and goes on.
+    #[inline(always)]
     pub(crate) fn store(
         &mut self,
         rs1: Reg,

@@ -91,6 +91,7 @@ impl Memory {
     }
 
     /// The number that `width` bytes from an address on make, the lowest first, where each has the flag.
+    #[inline(always)]
     pub(crate) fn load(&self, flag: u32, address: u32, width: u32) -> Option<u32>
         requires width { IsWidth width }
         requires end { address + width ≤ 2 ^ 32 }
@@ -128,6 +129,7 @@ impl Memory {
     }
 
     /// Writes within the segment `k`, which has the `width` bytes from the address on.
+    #[inline(always)]
     fn write_in(&mut self, k: usize, address: u32, word: u32, width: u32)
         requires found { HoldsAt self.old.blocks.items address k }
         requires end { EndsWithin self.old.blocks.items (address + width) k }
@@ -152,6 +154,7 @@ impl Memory {
     }
 
     /// Writes the low `width` bytes of a word from an address on, the lowest first, where each may be written.
+    #[inline(always)]
     pub(crate) fn store(&mut self, address: u32, word: u32, width: u32) -> bool
         requires width { IsWidth width }
         requires end { address + width ≤ 2 ^ 32 }
