@@ -1,8 +1,8 @@
 -- What holds of every struct that is defined.
-use Rattle.std.proofs.Common.{◌≡◌, ℕ, zero, suc, ◌+◌, ◌*◌, ◌<◌, ◌≤◌, ◌==◌, ◌||◌, Bool, true, false, cond, List, [], ◌∷◌, length, slice_get, Option, None, Some, refl, sym, ap, ◌∙◌, subst, arith}
+use Rattle.std.proofs.Common.{◌≡◌, ℕ, zero, suc, ◌+◌, ◌<◌, ◌≤◌, ◌==◌, ◌||◌, Bool, true, false, cond, List, [], ◌∷◌, length, slice_get, Some, sym, subst, arith}
 use Rattle.val_core.specs.declared.leaf.Leaf.{Leaf}
 use Rattle.c_type.specs.Trees.{TypeTree}
-use Rattle.c_type.specs.Layout.{Definition, Definitions, is_defined, rounded_up, align, struct_align, largest, size, struct_size, members_end, offset, offset_from, leaves_at, members_leaves, struct_leaves, members}
+use Rattle.c_type.specs.Layout.{Definitions, is_defined, rounded_up, align, struct_align, largest, size, struct_size, members_end, offset_from, leaves_at, members_leaves, struct_leaves, members}
 use Rattle.c_type.specs.WellDefined.{AreLaidOut, AreDefinitions}
 use Rattle.c_type.specs.LayoutLaws.{IsMultiple, AreInOrder, SizeIsMultiple, MemberIsWithin, LeavesAreInOrder}
 use Rattle.c_type.proofs.Bounds.{align-between, members-between, round-lower, end-grows}

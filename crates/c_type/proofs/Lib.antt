@@ -9,3 +9,4 @@ pub mod LayLemmas
 pub mod Defined
 pub mod Order
 pub mod Good
+pub mod MovedLemmas

@@ -1,13 +1,13 @@
 -- Sizes are multiples of alignments, and leaves stand in order.
-use Rattle.std.proofs.Common.{◌≡◌, ℕ, zero, suc, ◌+◌, ◌-◌, ◌*◌, ◌/◌, ◌<◌, ◌≤◌, ◌==◌, ◌&&◌, ◌||◌, ◌⊎◌, max, not, Bool, true, false, cond, List, [], ◌∷◌, ◌++◌, length, slice_get, Option, None, Some, refl, sym, ap, ap₂, ◌∙◌, subst, inl, inr, arith, add_assoc, add-mul, mul_assoc, mul-one, le_refl, suc-mul}
+use Rattle.std.proofs.Common.{◌≡◌, ℕ, zero, suc, ◌+◌, ◌-◌, ◌*◌, ◌/◌, ◌<◌, ◌≤◌, ◌==◌, ◌&&◌, max, not, Bool, true, false, cond, List, [], ◌∷◌, ◌++◌, refl, sym, ap, ap₂, ◌∙◌, subst, inl, inr, arith, add_assoc, add-mul, mul_assoc, mul-one, suc-mul}
 use Rattle.val_core.specs.declared.leaf.Leaf.{Leaf}
 use Rattle.c_type.specs.declared.scalar.Scalar.{Scalar}
 use Rattle.c_type.specs.declared.scalar.Scalar.TheVariants.{Char, SignedChar, UnsignedChar, Short, UnsignedShort, Int, UnsignedInt}
 use Rattle.c_type.specs.Trees.{TypeTree, void_type, scalar_type, pointer_to, array_of, struct_type}
-use Rattle.c_type.specs.Layout.{Definition, Definitions, is_defined, is_complete, rounded_up, scalar_size, align, align_by, struct_align, largest, size, struct_size, members_end, offset, offset_from, repeated, leaves_at, members_leaves, struct_leaves, members}
-use Rattle.c_type.specs.WellDefined.{AreLaidOut, AreDefinitions}
-use Rattle.c_type.specs.LayoutLaws.{IsMultiple, IsWidth, IsPlaced, AreInOrder, AlignmentIsWidth, SizeIsMultiple, LeavesAreInOrder}
-use Rattle.c_type.proofs.Bounds.{align-between, members-between, round-lower, end-grows}
+use Rattle.c_type.specs.Layout.{Definitions, is_defined, is_complete, rounded_up, scalar_size, align, align_by, struct_align, largest, size, struct_size, members_end, repeated, leaves_at, members_leaves, struct_leaves}
+use Rattle.c_type.specs.WellDefined.{AreLaidOut}
+use Rattle.c_type.specs.LayoutLaws.{IsMultiple, IsWidth, AreInOrder, AlignmentIsWidth}
+use Rattle.c_type.proofs.Bounds.{align-between, round-lower}
 
 -- ---- widths
 

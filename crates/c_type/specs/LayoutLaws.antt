@@ -1,5 +1,5 @@
 -- Laws of layouts.
-use Rattle.std.specs.Prelude.{◌≡◌, ℕ, zero, suc, ◌+◌, ◌*◌, ◌<◌, ◌≤◌, ◌⊎◌, true, List, [], ◌∷◌, slice_get, Some}
+use Rattle.std.specs.Prelude.{◌≡◌, ℕ, ◌+◌, ◌*◌, ◌<◌, ◌≤◌, ◌⊎◌, true, List, [], ◌∷◌, slice_get, Some}
 use Rattle.val_core.specs.declared.leaf.Leaf.{Leaf}
 use Rattle.c_type.specs.Trees.{TypeTree}
 use Rattle.c_type.specs.Layout.{Definitions, is_defined, is_complete, align, size, struct_size, offset, members, leaves_at}
