@@ -7,3 +7,6 @@ pub mod MemberLemmas
 pub mod Places
 pub mod LayLemmas
 pub mod Defined
+pub mod Order
+pub mod Good
+pub mod MovedLemmas

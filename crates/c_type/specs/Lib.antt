@@ -6,6 +6,8 @@ pub mod Layout
 pub mod WellDefined
 pub mod Level
 pub mod LaidUpTo
+pub mod Moved
+pub mod LayoutLaws
 pub mod DefinitionCodes
 pub mod Structs
 pub mod Kept

@@ -5,6 +5,7 @@
 
 mod define_fault;
 mod defining;
+pub mod laws;
 mod layout;
 mod listing;
 mod no_memory;

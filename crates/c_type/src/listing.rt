@@ -1,6 +1,7 @@
-ghost use Rattle.std.specs.Prelude.{◌≡◌, ℕ, ◌+◌, ◌*◌, ◌≤◌, ◌++◌, ◌∷◌, [], OnOk, IfOk};
+ghost use Rattle.std.specs.Prelude.{◌≡◌, ℕ, ◌+◌, ◌*◌, ◌≤◌, ◌++◌, ◌∷◌, ◌-◌, [], OnOk, IfOk, drop, length, map};
 ghost use Rattle.c_type.specs.Layout.{align, rounded_up, size, members_end, members_leaves, leaves, leaves_at, repeated, most_bytes, IsLaidOut};
 ghost use Rattle.c_type.specs.WellDefined.{AreLaidOut, MemberFits};
+ghost use Rattle.c_type.specs.Moved.{moved, CanMove};
 
 use crate::layout::{align_of, rounded_up, size_of, width};
 use crate::no_memory::NoMemory;
@@ -51,9 +52,32 @@ fn push_elements(
     requires room { at + length * size types.now of.now ≤ most_bytes }
     ensures { OnOk result (out.new.items ≡ out.old.items ++ repeated length (size types.now of.now) at (leaves_at types.now of.now)) }
 {
+    if length == 0 {
+        return Ok(());
+    }
     let stride = size_of(types, of);
-    for i in 0..length {
-        push_leaves(types, of, at + i * stride, out)?;
+    let first = out.len();
+    push_leaves(types, of, at, out)?;
+    let count = out.len() - first;
+    for _i in 1..length {
+        push_again(count, stride, out)?;
+    }
+    Ok(())
+}
+
+// Appends the last leaves again, moved by so many bytes.
+fn push_again(count: usize, by: u32, out: &mut Vec<Leaf>) -> Result<(), NoMemory>
+    requires count { count ≤ length out.old.items }
+    requires room { CanMove by (drop (length out.old.items - count) out.old.items) }
+    ensures { OnOk result (out.new.items ≡ out.old.items ++ map (moved by) (drop (length out.old.items - count) out.old.items)) }
+{
+    let first = out.len() - count;
+    for i in first..out.len() {
+        let leaf = out[i];
+        out.push(Leaf {
+            offset: leaf.offset + by,
+            width: leaf.width,
+        })?;
     }
     Ok(())
 }

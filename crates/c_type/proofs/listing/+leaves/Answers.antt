@@ -1,4 +1,4 @@
-use Rattle.std.proofs.Common.{◌≡◌, ◌+◌, ◌*◌, ◌<◌, ◌≤◌, sym, ap, ◌∙◌, subst, ◌++◌, arith, append_assoc}
+use Rattle.std.proofs.Common.{◌-◌, map, ◌≡◌, ◌+◌, ◌*◌, ◌<◌, ◌≤◌, sym, ap, ◌∙◌, subst, ◌++◌, arith, append_assoc}
 use Rattle.c_type.specs.Trees.{array_of}
 use Rattle.c_type.specs.TreeView.{tree_of}
 use Rattle.c_type.specs.WellDefined.{AreLaidOut, height, highest}
@@ -6,15 +6,44 @@ use Rattle.c_type.specs.Layout.{align, size, members_end, leaves_at, repeated, m
 use Rattle.c_type.proofs.SizeLemmas.{element}
 use Rattle.c_type.proofs.LeafLemmas.{repeated-more}
 use Rattle.c_type.proofs.MemberLemmas.{at-member, member-fits, member-next, struct-parts}
+use Rattle.c_type.proofs.MovedLemmas.{again-last, leaves-can-move, next-element, room-again}
+use Rattle.c_type.specs.Moved.{moved}
 use Rattle.c_type.proofs.listing.+leaves.Goals as goal
+
+pub push_elements-push_again-requires-clause-room : goal.push_elements-push_again-requires-clause-room
+push_elements-push_again-requires-clause-room t c =
+    let defs = c.args.types.now in
+    let i = c.loop-i._i in
+    let s = c.size_of-stride.result in
+    let pos : 0 < i = omega arith in
+    let room = room-again c.args.at c.args.length s (size defs c.args.of.now) i c.size_of-stride.ensures c.requires.room pos c.loop-i-test.true in
+    rw c.loop-i.invariant.last (leaves-can-move s defs c.args.of.now (c.args.at + (i - 1) * s) room)
 
 pub push_elements-loop-i-preserved : goal.push_elements-loop-i-preserved
 push_elements-loop-i-preserved t c =
-    let f = leaves_at c.args.types.now c.args.of.now in
-    c.in_ok-push_leaves.ensures
-    ∙ ap (λ r. r ++ f (c.args.at + c.loop-i.i * c.size_of-stride.result)) c.loop-i.invariant
-    ∙ append_assoc c.args.out.now.items (repeated c.loop-i.i c.size_of-stride.result c.args.at f) (f (c.args.at + c.loop-i.i * c.size_of-stride.result))
-    ∙ ap (λ r. c.args.out.now.items ++ r) (sym (repeated-more c.loop-i.i c.size_of-stride.result c.args.at f))
+    let defs = c.args.types.now in
+    let f = leaves_at defs c.args.of.now in
+    let i = c.loop-i._i in
+    let s = c.size_of-stride.result in
+    let out = c.loop-i.out.items in
+    let new = c.push_again.new.out.items in
+    let old = c.args.out.now.items in
+    let pos : 0 < i = omega arith in
+    let prev = f (c.args.at + (i - 1) * s) in
+    let next = next-element defs c.args.of.now c.args.at s i pos in
+    let inv = c.loop-i.invariant in
+    let is : new ≡ out ++ map (moved s) prev = c.in_ok-push_again.ensures ∙ ap (λ r. out ++ map (moved s) r) inv.last in
+    let a = again-last out new prev _ s inv.room inv.last is in
+    let back : i + 1 - 1 ≡ i = omega arith in
+    record {
+      whole = is
+          ∙ ap (λ r. out ++ r) (sym next)
+          ∙ ap (λ r. r ++ f (c.args.at + i * s)) inv.whole
+          ∙ append_assoc old (repeated i s c.args.at f) (f (c.args.at + i * s))
+          ∙ ap (λ r. old ++ r) (sym (repeated-more i s c.args.at f));
+      last = a.1 ∙ sym next ∙ ap (λ k. f (c.args.at + k * s)) (sym back);
+      room = a.0;
+    }
 
 pub push_leaves-push_elements-requires : goal.push_leaves-push_elements-requires
 push_leaves-push_elements-requires t c =

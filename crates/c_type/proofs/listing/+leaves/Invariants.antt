@@ -1,4 +1,4 @@
-use Rattle.std.proofs.Common.{◌≡◌, ◌+◌, ◌*◌, ◌≤◌, ◌++◌, drop}
+use Rattle.std.proofs.Common.{◌-◌, length, ◌≡◌, ◌+◌, ◌*◌, ◌≤◌, ◌++◌, drop}
 use Rattle.c_type.specs.Layout.{align, size, members_end, members_leaves, leaves_at, repeated, most_bytes}
 use Rattle.c_type.specs.WellDefined.{AreLaidOut, height, highest}
 use Rattle.c_type.proofs.listing.+leaves.Given as goal
@@ -17,7 +17,11 @@ decreases-push_member l = 3 * height l.types.now l.t.now + 2
 
 abbrev pub invariant-push_elements-loop-i : goal.invariant-push_elements-loop-i
 invariant-push_elements-loop-i l =
-    l.out.items ≡ l.initial.out.items ++ repeated l.i l.stride l.at (leaves_at l.types l.of)
+    record {
+      whole : l.out.items ≡ l.fn.out.items ++ repeated l._i l.stride l.at (leaves_at l.types l.of);
+      last : drop (length l.out.items - l.count) l.out.items ≡ leaves_at l.types l.of (l.at + (l._i - 1) * l.stride);
+      room : l.count ≤ length l.out.items;
+    }
 
 abbrev pub invariant-push_members-loop-t : goal.invariant-push_members-loop-t
 invariant-push_members-loop-t l =
