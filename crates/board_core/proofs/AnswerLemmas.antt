@@ -8,7 +8,7 @@ use Rattle.board_core.specs.declared.event.Event.{Event}
 use Rattle.board_core.specs.declared.event.Event.TheVariants.{Claim, Publish, Stop}
 use Rattle.board_core.specs.Board.{Job, Open, Held, Out, Program, State, job_at, result_of, deps_of, results, released, IsReady, MayHappen, after, start, replay, IsLegal}
 use Rattle.board_core.specs.Answers.{IsRanked, all_some, answer_below, answer}
-use Rattle.board_core.specs.Laws.{ResultsAreAnswers, JobsHaveAnswers, IdleBoardsAreDone}
+use Rattle.board_core.specs.Laws.{ResultsAreAnswers, DepsGiveAnswer, JobsHaveAnswers, IdleBoardsAreDone}
 use Rattle.board_core.proofs.MachineLemmas.{legal-keeps, inside-from_job, job-released, result-released, held-released, out-released, job-set}
 
 contains-head : (d : ℕ) (ds : List ℕ) → Contains (d ∷ ds) d
@@ -139,13 +139,13 @@ module _ {M : Type 0} where
             ];
       }
 
-  -- the result that is published is the answer
-  published-answer : (program : Program M) → IsRanked program → (state : State M) → IsSound program state → (worker j : ℕ) → job_at state j ≡ Held worker → answer program j ≡ Some (program.made j (results state (deps_of program j)))
-  published-answer program ranked state now worker j held =
+  -- what is made of deps that are all out is the answer
+  made-answer : (program : Program M) → IsRanked program → (state : State M) → IsSound program state → (j : ℕ) → ((d : ℕ) → Contains (deps_of program j) d → IsSome (result_of (job_at state d))) → answer program j ≡ Some (program.made j (results state (deps_of program j)))
+  made-answer program ranked state now j deps_out =
       ap (option_map (program.made j))
       (all-answers program state (slice_index program.ranks j) (deps_of program j)
       (λ d h.
-      let some = some-of (result_of (job_at state d)) (now.held j worker held d h) in (
+      let some = some-of (result_of (job_at state d)) (deps_out d h) in (
         some.0,
         some.1,
         answer_below-more program (suc (slice_index program.ranks d)) (slice_index program.ranks j) d some.0 (ranked.smaller j d h)
@@ -169,7 +169,7 @@ module _ {M : Type 0} where
             elim (job-set state.jobs j it inside k) [
               | inl here ↦
                   let same : program.made j (results state (deps_of program j)) ≡ made = let is = here.1 in cc in
-                  ap (answer program) here.0 ∙ (published-answer program ranked state now worker j held ∙ ap Some same)
+                  ap (answer program) here.0 ∙ (made-answer program ranked state now j (now.held j worker held) ∙ ap Some same)
               | inr there ↦ now.out k made (sym there.1 ∙ e)
             ];
         known = λ k holder e.
@@ -203,6 +203,13 @@ module _ {M : Type 0} where
 
   pub results-are-answers : ResultsAreAnswers M
   results-are-answers program events ranked legal j made e = (sound-replay program ranked events legal).out j made e
+
+  pub deps-give-answer : DepsGiveAnswer M
+  deps-give-answer program events ranked legal j (inl ready) =
+      made-answer program ranked (replay program events) (sound-replay program ranked events legal) j ready.deps_out
+  deps-give-answer program events ranked legal j (inr held) =
+      let now = sound-replay program ranked events legal in
+      made-answer program ranked (replay program events) now j (now.held j held.0 held.1)
 
   -- in a state where no job is ready and none is held, each job is out
   pub idle-done : (program : Program M) → IsRanked program → (state : State M) → length state.jobs ≡ length program.deps → ((j : ℕ) → ¬ IsReady program state j) → ((j worker : ℕ) → ¬ (job_at state j ≡ Held worker)) → (bound j : ℕ) → j < length program.deps → slice_index program.ranks j < bound → IsSome (result_of (job_at state j))

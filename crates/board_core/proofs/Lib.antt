@@ -4,3 +4,4 @@ pub mod CountLemmas
 pub mod StandLemmas
 pub mod KeptLemmas
 pub mod ResultLemmas
+pub mod OpenLemmas

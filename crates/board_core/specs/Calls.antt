@@ -51,14 +51,22 @@ module _ {M : Type 0} where
     pub some_deps : 0 < length (deps_of program chosen)
 
 -- a dep that is no job, or whose rank is not smaller
-abbrev pub IsBadDep : List ℕ → List (List ℕ) → ℕ → ℕ → Type 0
-IsBadDep ranks deps j d = (length deps ≤ d) ⊎ (slice_index ranks j ≤ slice_index ranks d)
+abbrev pub IsBadDep : List ℕ → ℕ → ℕ → Type 0
+IsBadDep ranks j d = (length ranks ≤ d) ⊎ (slice_index ranks j ≤ slice_index ranks d)
 
--- the dep at this place of this job is bad, and none is at an earlier place or of an earlier job
-pub record IsFirstBad (ranks : List ℕ) (deps : List (List ℕ)) (j d : ℕ) : Type 0 where
+-- the first of these deps of a job that is bad
+pub record IsFirstBadDep (ranks : List ℕ) (deps : List ℕ) (j d : ℕ) : Type 0 where
   pub place : ℕ
-  pub inside : place < length (slice_index_or deps j [])
-  pub value : slice_index (slice_index_or deps j []) place ≡ d
-  pub bad : IsBadDep ranks deps j d
-  pub earlier_places : (e : ℕ) → e < place → ¬ IsBadDep ranks deps j (slice_index (slice_index_or deps j []) e)
-  pub earlier_jobs : (k : ℕ) → k < j → (c : ℕ) → Contains (slice_index_or deps k []) c → ¬ IsBadDep ranks deps k c
+  pub inside : place < length deps
+  pub value : slice_index deps place ≡ d
+  pub bad : IsBadDep ranks j d
+  pub earlier : (e : ℕ) → e < place → ¬ IsBadDep ranks j (slice_index deps e)
+
+abbrev pub NoBadDep : List ℕ → List ℕ → ℕ → Type 0
+NoBadDep ranks deps j = (e : ℕ) → e < length deps → ¬ IsBadDep ranks j (slice_index deps e)
+
+-- the first bad dep of all, in order of job and then of list
+pub record IsFirstBad (ranks : List ℕ) (deps : List (List ℕ)) (j d : ℕ) : Type 0 where
+  pub inside : j < length deps
+  pub first : IsFirstBadDep ranks (slice_index_or deps j []) j d
+  pub earlier : (k : ℕ) → k < j → NoBadDep ranks (slice_index_or deps k []) k

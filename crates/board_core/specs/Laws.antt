@@ -1,7 +1,7 @@
 -- Laws of the board, over every legal history.
-use Rattle.std.specs.Prelude.{◌≡◌, ℕ, ◌+◌, ◌*◌, ◌<◌, ◌≤◌, Some, List, length, IsSome}
+use Rattle.std.specs.Prelude.{◌≡◌, ℕ, ◌+◌, ◌*◌, ◌<◌, ◌≤◌, ◌⊎◌, Some, List, length, IsSome}
 use Rattle.board_core.specs.declared.event.Event.{Event}
-use Rattle.board_core.specs.Board.{Job, Held, Out, Program, State, job_at, result_of, IsReady, IsLegal, replay}
+use Rattle.board_core.specs.Board.{Job, Held, Out, Program, State, job_at, result_of, results, deps_of, IsReady, IsLegal, replay}
 use Rattle.board_core.specs.Answers.{IsRanked, answer}
 
 -- whatever legal history comes about, the result of each job that is out is that of the recursion on ranks
@@ -9,6 +9,14 @@ abbrev pub ResultsAreAnswers : Type 0 → Type 0
 ResultsAreAnswers M =
     (program : Program M) (events : List Event) → IsRanked program → IsLegal program events
     → (j : ℕ) (made : M) → job_at (replay program events) j ≡ Out made → answer program j ≡ Some made
+
+-- a job that is ready or held has the results of all its deps, and what is made of them is that of the recursion on
+-- ranks, wherever the history goes meanwhile
+abbrev pub DepsGiveAnswer : Type 0 → Type 0
+DepsGiveAnswer M =
+    (program : Program M) (events : List Event) → IsRanked program → IsLegal program events
+    → (j : ℕ) → IsReady program (replay program events) j ⊎ ((worker : ℕ) × (job_at (replay program events) j ≡ Held worker))
+    → answer program j ≡ Some (program.made j (results (replay program events) (deps_of program j)))
 
 -- each job has a result
 abbrev pub JobsHaveAnswers : Type 0 → Type 0

@@ -1,16 +1,18 @@
 // The board.
-ghost use Rattle.std.specs.Prelude.{◌≡◌, ◌≢◌, ℕ, ◌+◌, ◌<◌, ◌≤◌, ◌↔◌, ◌++◌, None, length, map, option_map, option_to_list, slice_index, slice_index_or, OnOk, OnErr, IfOk, IfSome, IfNone, MatchBool, IsErr, [], ◌∷◌, vec_capacity, vec_len};
+ghost use Rattle.std.specs.Prelude.{◌≡◌, ◌≢◌, ℕ, ◌+◌, ◌<◌, ◌≤◌, ◌↔◌, ◌++◌, None, length, map, option_map, option_to_list, replicate, slice_index, slice_index_or, OnOk, OnErr, IfOk, IfSome, IfNone, MatchBool, IsErr, [], ◌∷◌, vec_capacity, vec_len};
 ghost use Rattle.std.specs.List.{filter_map};
 ghost use Rattle.std.specs.Arc.{arc_value};
 ghost use Rattle.board_core.specs.Board.{job_at, results, deps_of, HasStopped, Held, HoldsNone, IsLegal, IsNext, IsReady, MayClaim, NobodyStopped, result_of};
 ghost use Rattle.board_core.specs.Answers.{IsRanked};
-ghost use Rattle.board_core.specs.Calls.{with_event, AllOut, Claims, IsWaiting, IsDone, IsNextWithDeps, SomeHeld, SomebodyStopped};
+ghost use Rattle.board_core.specs.Calls.{with_event, AllOut, Claims, IsWaiting, IsDone, IsNextWithDeps, IsFirstBad, SomeHeld, SomebodyStopped};
 ghost use Rattle.board_core.specs.Choices.{IsChoice};
-ghost use Rattle.board_core.specs.History.{program_of, state_of};
+ghost use Rattle.board_core.specs.History.{dep_lists, program_of, state_of};
 
-use crate::event::{Claim, Event, NoMemory};
-use crate::stand::{Stand, is_some_held, next_ready, release};
+use crate::checks::first_bad;
+use crate::event::{Claim, Event, NoMemory, OpenFault};
+use crate::stand::{Stand, all_open, is_some_held, next_ready, none_checked, release};
 use crate::work::Work;
+use std::alloc::{AllocError, Global};
 use std::marker::Model;
 use std::snapshot::Snapshot;
 use std::sync::Arc;
@@ -81,6 +83,28 @@ fn add_results<M: Drop>(
     Ok(())
 }
 
+// Lists of the same deps.
+fn copied(alloc: Global, deps: &[Vec<u32>]) -> Result<Vec<Vec<u32>>, AllocError>
+    ensures { IfOk result (λ lists. dep_lists lists.items ≡ dep_lists deps.now) }
+{
+    let mut lists = Vec::with_capacity(alloc, deps.len())?;
+    for list in deps {
+        lists.push(Vec::from_slice(alloc, list.as_slice())?)?;
+    }
+    Ok(lists)
+}
+
+// So many jobs without a result.
+fn no_results<M: Drop>(alloc: Global, count: usize) -> Result<Vec<Option<Arc<M>>>, AllocError>
+    ensures { IfOk result (λ found. map (option_map arc_value) found.items ≡ replicate count None) }
+{
+    let mut found = Vec::with_capacity(alloc, count)?;
+    while found.len() < count {
+        found.push(None)?;
+    }
+    Ok(found)
+}
+
 // Adds an event to a history that has room for it.
 fn log(events: &mut Vec<Event>, event: Event)
     requires { vec_len events.old < vec_capacity events.old }
@@ -91,6 +115,44 @@ fn log(events: &mut Vec<Event>, event: Event)
 }
 
 impl<W: Work> Board<W> {
+    /// Opens a board of this work, where all jobs are open and nothing has happened. Takes all the room that the board
+    /// ever needs.
+    pub fn open(
+        alloc: Global,
+        work: &W,
+        ranks: &[u32],
+        deps: &[Vec<u32>],
+        workers: u32,
+    ) -> Result<Board<W>, OpenFault>
+        requires lengths { length ranks.now ≡ length deps.now }
+        requires few { length deps.now ≤ 512 }
+        requires few_workers { workers ≤ 64 }
+        ensures ok { IfOk result (λ board. board ≡ record {
+          ranks = ranks.now;
+          deps = dep_lists deps.now;
+          workers = workers;
+          work = work.now;
+          events = [];
+        }) }
+        ensures bad { (job dep : ℕ) → (result ≡ Err (OpenFault.BadDeps job dep))
+            ↔ IsFirstBad ranks.now (dep_lists deps.now) job dep }
+    {
+        if let Some((job, dep)) = first_bad(ranks, deps) {
+            return Err(OpenFault::BadDeps { job, dep });
+        }
+        Ok(Board {
+            work: Snapshot::of(work),
+            ranks: Vec::from_slice(alloc, ranks)?,
+            deps: copied(alloc, deps)?,
+            workers,
+            stands: all_open(alloc, deps.len())?,
+            results: no_results(alloc, deps.len())?,
+            checked: none_checked(alloc, deps.len())?,
+            is_stopped: false,
+            events: Vec::with_capacity(alloc, 2 * deps.len() + workers as usize)?,
+        })
+    }
+
     // Whether somebody has stopped.
     fn is_halted(&self) -> bool
         ensures { MatchBool result

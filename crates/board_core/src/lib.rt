@@ -4,6 +4,7 @@
 #![tactic(auto)]
 
 mod board;
+mod checks;
 mod event;
 pub mod laws;
 mod stand;

@@ -1,7 +1,9 @@
 // Where the jobs stand, their results apart.
-ghost use Rattle.std.specs.Prelude.{◌≡◌, ℕ, ◌<◌, ◌≤◌, ◌↔◌, length, map, slice_index, slice_index_or, Contains, [], IsTrue, IfSome, IfNone};
+ghost use Rattle.std.specs.Prelude.{◌≡◌, ℕ, ◌<◌, ◌≤◌, ◌↔◌, length, map, replicate, slice_index, slice_index_or, Contains, [], IsTrue, IfOk, IfSome, IfNone};
 ghost use Rattle.board_core.specs.Stands.{stand_at, AllCheckedOut, IsNextStand, IsReadyStand, IsSomeHeld, released_stand};
 ghost use Rattle.board_core.specs.History.{dep_lists};
+
+use std::alloc::{AllocError, Global};
 
 /// Where a job stands.
 #[derive(Clone, Copy, Debug, PartialEq, Eq)]
@@ -10,6 +12,20 @@ pub(crate) enum Stand {
     /// Held by this worker.
     Held(u32),
     Out,
+}
+
+/// So many jobs that are open.
+pub(crate) fn all_open(alloc: Global, count: usize) -> Result<Vec<Stand>, AllocError>
+    ensures { IfOk result (λ stands. stands.items ≡ replicate count Stand.Open) }
+{
+    vec![in alloc; Stand::Open; count]
+}
+
+/// So many jobs of which no dep is known to be out.
+pub(crate) fn none_checked(alloc: Global, count: usize) -> Result<Vec<usize>, AllocError>
+    ensures { IfOk result (λ checked. checked.items ≡ replicate count 0) }
+{
+    vec![in alloc; 0; count]
 }
 
 // How many of these jobs, from the first on, are out, where the first `from` are known to be.
