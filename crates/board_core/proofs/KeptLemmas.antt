@@ -1,19 +1,19 @@
 -- What a board keeps, through each of its events.
-use Rattle.std.proofs.Common.{◌≡◌, ◌≢◌, ℕ, suc, ◌+◌, ◌*◌, ◌<◌, ◌≤◌, ◌⊎◌, Bool, true, false, inl, inr, Option, Some, None, List, [], ◌∷◌, ◌++◌, length, map, take, drop, slice_index, slice_index_or, slice_set, Contains, IsSome, refl, sym, ap, subst, ◌∙◌, arith}
+use Rattle.std.proofs.Common.{◌≡◌, ◌≢◌, ℕ, suc, ◌<◌, ◌≤◌, Bool, true, false, inl, inr, Option, Some, None, List, [], ◌∷◌, ◌++◌, length, map, take, drop, slice_index, slice_index_or, slice_set, Contains, IsSome, refl, sym, ap, subst, ◌∙◌, arith}
 use Rattle.std.specs.List.{filter_map, cons_option}
 use Rattle.std.specs.Prelude.{is_some, option_map, MatchBool, IfSome, IfNone, ◌==◌, if◌then◌else◌}
-use Rattle.std.proofs.lemmas.List.{append-nil, take_all, drop_all, length-map, length-set, map-set, set-get_or, get_or-map, get_or_past, get_or_default, get_or-set_same, get_or-set_other}
-use Rattle.std.proofs.lemmas.List.Elements.{Contains-append_left, Contains-push, Contains-push_cases, Contains-get_or}
+use Rattle.std.proofs.lemmas.List.{append-nil, take_all, drop_all, length-map, map-set, set-get_or, get_or-map, get_or_past, get_or-set_same, get_or-set_other}
+use Rattle.std.proofs.lemmas.List.Elements.{Contains-append_left, Contains-push, Contains-push_cases}
 use Rattle.std.proofs.lemmas.Bool.{cases_lt, cases_eq, false≢true}
 use Rattle.board_core.specs.declared.event.Event.{Event}
 use Rattle.board_core.specs.declared.event.Event.TheVariants.{Claim, Publish, Stop}
 use Rattle.board_core.specs.declared.stand.Stand.{Stand}
 use Rattle.board_core.specs.declared.stand.Stand.TheVariants.{Open as OpenStand, Held as HeldStand, Out as OutStand}
-use Rattle.board_core.specs.Board.{Job, Open, Held, Out, Program, State, job_at, result_of, results, deps_of, released, IsReady, IsNext, HasStopped, NobodyStopped, MayClaim, MayHappen, after, replay, IsLegal}
+use Rattle.board_core.specs.Board.{Job, Open, Held, Out, Program, State, job_at, result_of, results, deps_of, released, IsReady, IsNext, HasStopped, NobodyStopped, MayClaim, MayHappen, after, replay}
 use Rattle.board_core.specs.Stands.{stand_at, released_stand, AllCheckedOut, IsReadyStand, IsNextStand, IsSomeHeld}
 use Rattle.board_core.specs.Calls.{SomebodyStopped, SomeHeld, AllOut}
 use Rattle.board_core.specs.Kept.{stand_of, IsKept}
-use Rattle.board_core.proofs.MachineLemmas.{replay-push, legal-push, inside-from_job, result-released, held-or-open}
+use Rattle.board_core.proofs.MachineLemmas.{replay-push, legal-push, inside-from_job, result-released}
 use Rattle.board_core.proofs.AnswerLemmas.{IsSound, sound-replay, idle-done}
 use Rattle.board_core.proofs.CountLemmas.{room-more}
 

@@ -1,11 +1,10 @@
 -- Histories, and what each event of the board keeps.
-use Rattle.std.proofs.Common.{◌≡◌, ◌≢◌, ℕ, zero, suc, ◌+◌, ◌<◌, ◌≤◌, ◌⊎◌, Bool, true, false, inl, inr, Option, Some, None, List, [], ◌∷◌, ◌++◌, length, map, slice_index_or, slice_set, Contains, IsSome, refl, sym, ap, subst, ◌∙◌, arith}
-use Rattle.std.specs.Prelude.{is_some, ◌==◌, if◌then◌else◌}
-use Rattle.std.proofs.lemmas.List.{length-map, length-set, get_or-map, get_or_past, get_or-set_same, get_or-set_other}
-use Rattle.std.proofs.lemmas.Bool.{cases_lt, cases_eq, cases_Bool}
+use Rattle.std.proofs.Common.{◌≡◌, ◌≢◌, ℕ, suc, ◌+◌, ◌<◌, ◌⊎◌, Bool, true, false, inl, inr, List, [], ◌∷◌, ◌++◌, length, map, slice_index_or, slice_set, refl, sym, ap, subst, ◌∙◌, arith}
+use Rattle.std.specs.Prelude.{◌==◌, if◌then◌else◌}
+use Rattle.std.proofs.lemmas.List.{length-map, get_or-map, get_or_past, get_or-set_same, get_or-set_other}
+use Rattle.std.proofs.lemmas.Bool.{cases_lt, cases_eq}
 use Rattle.board_core.specs.declared.event.Event.{Event}
-use Rattle.board_core.specs.declared.event.Event.TheVariants.{Claim, Publish, Stop}
-use Rattle.board_core.specs.Board.{Job, Open, Held, Out, Program, State, job_at, result_of, deps_of, results, released, IsReady, MayHappen, after, start, replay, replay_from, IsLegal, IsLegalFrom}
+use Rattle.board_core.specs.Board.{Job, Open, Held, Out, Program, State, job_at, result_of, released, MayHappen, after, start, replay, replay_from, IsLegal, IsLegalFrom}
 
 module _ {M : Type 0} where
   -- what holds at the start and is kept by each event holds after a legal history

@@ -1,11 +1,11 @@
 -- A board that is opened keeps what each board keeps.
-use Rattle.std.proofs.Common.{◌≡◌, ◌≢◌, ℕ, zero, suc, ◌+◌, ◌*◌, ◌<◌, ◌≤◌, ◌⊎◌, true, false, inl, inr, Option, None, List, [], ◌∷◌, length, map, slice_index, slice_index_or, refl, sym, ap, subst, ◌∙◌, arith}
+use Rattle.std.proofs.Common.{◌≡◌, ℕ, zero, suc, ◌+◌, ◌*◌, ◌<◌, ◌≤◌, false, inl, inr, Option, None, List, [], ◌∷◌, length, map, slice_index, slice_index_or, refl, sym, ap, subst, ◌∙◌, arith}
 use Rattle.std.specs.Prelude.{replicate}
 use Rattle.std.proofs.lemmas.List.{length-replicate, get_or-replicate, get_or_past, get_or_default}
 use Rattle.std.proofs.lemmas.Bool.{cases_lt, false≢true}
 use Rattle.board_core.specs.declared.stand.Stand.{Stand}
 use Rattle.board_core.specs.declared.stand.Stand.TheVariants.{Open as OpenStand}
-use Rattle.board_core.specs.Board.{Job, Open, Program, State, deps_of, result_of, start}
+use Rattle.board_core.specs.Board.{Job, Open, Program, deps_of, result_of}
 use Rattle.board_core.specs.Answers.{IsRanked}
 use Rattle.board_core.specs.Calls.{IsBadDep, NoBadDep, IsFirstBad}
 use Rattle.board_core.specs.Kept.{stand_of, IsKept}

@@ -1,11 +1,11 @@
 -- Where jobs stand, and which is ready.
-use Rattle.std.proofs.Common.{◌≡◌, ◌≢◌, ℕ, ◌+◌, ◌<◌, ◌≤◌, ◌⊎◌, inl, inr, List, [], ◌∷◌, length, slice_index, slice_index_or, slice_set, Contains, refl, sym, ap, subst, ◌∙◌, arith}
+use Rattle.std.proofs.Common.{◌≡◌, ℕ, ◌<◌, ◌≤◌, inl, inr, List, [], length, slice_index, slice_index_or, slice_set, sym, ap, ◌∙◌, arith}
 use Rattle.std.specs.declared.vec.Vec.{Vec}
-use Rattle.std.proofs.lemmas.List.{length-set, get_or-map, get_or_past, get_or_default, get_or-set_same, get_or-set_other}
+use Rattle.std.proofs.lemmas.List.{length-set, get_or-map, get_or_default, get_or-set_same, get_or-set_other}
 use Rattle.std.proofs.lemmas.List.Elements.{Contains-get_or}
-use Rattle.std.proofs.lemmas.Bool.{cases_lt, cases_eq}
+use Rattle.std.proofs.lemmas.Bool.{cases_eq}
 use Rattle.board_core.specs.declared.stand.Stand.{Stand}
-use Rattle.board_core.specs.declared.stand.Stand.TheVariants.{Open, Held, Out}
+use Rattle.board_core.specs.declared.stand.Stand.TheVariants.{Open, Out}
 use Rattle.board_core.specs.History.{dep_lists}
 use Rattle.board_core.specs.Stands.{stand_at, AllCheckedOut, IsReadyStand}
 

@@ -1,5 +1,5 @@
 -- The board as a machine over events.
-use Rattle.std.specs.Prelude.{◌≡◌, ℕ, ◌+◌, ◌<◌, Bool, true, false, ◌==◌, if◌then◌else◌, Option, Some, None, option_map, List, [], ◌∷◌, length, map, replicate, slice_index, slice_index_or, slice_set, Contains, IsSome, IsTrue}
+use Rattle.std.specs.Prelude.{◌≡◌, ℕ, ◌<◌, Bool, true, false, ◌==◌, if◌then◌else◌, Option, Some, None, List, [], ◌∷◌, length, map, replicate, slice_index_or, slice_set, Contains, IsSome}
 use Rattle.std.specs.List.{filter_map}
 use Rattle.board_core.specs.declared.event.Event.{Event}
 use Rattle.board_core.specs.declared.event.Event.TheVariants.{Claim, Publish, Stop}

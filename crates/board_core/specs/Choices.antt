@@ -1,5 +1,5 @@
 -- What a board may answer a claim.
-use Rattle.std.specs.Prelude.{ℕ, ◌<◌, List, length}
+use Rattle.std.specs.Prelude.{◌<◌, List, length}
 use Rattle.board_core.specs.declared.event.Event.{Event}
 use Rattle.board_core.specs.declared.board.Choice.{Choice}
 use Rattle.board_core.specs.declared.board.Choice.TheVariants.{Ready, Busy, Finished, Halted}

@@ -4,7 +4,7 @@ use Rattle.board_core.specs.declared.event.Event.{Event}
 use Rattle.board_core.specs.declared.event.Event.TheVariants.{Stop}
 use Rattle.board_core.specs.declared.stand.Stand.{Stand}
 use Rattle.board_core.specs.declared.stand.Stand.TheVariants.{Open as OpenStand, Held as HeldStand, Out as OutStand}
-use Rattle.board_core.specs.Board.{Job, Open, Held, Out, Program, State, result_of, HasStopped, NobodyStopped, IsLegal, replay}
+use Rattle.board_core.specs.Board.{Job, Open, Held, Out, Program, result_of, HasStopped, NobodyStopped, IsLegal, replay}
 use Rattle.board_core.specs.Answers.{IsRanked}
 use Rattle.board_core.specs.Stands.{AllCheckedOut}
 

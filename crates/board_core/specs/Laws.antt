@@ -1,7 +1,7 @@
 -- Laws of the board, over every legal history.
 use Rattle.std.specs.Prelude.{◌≡◌, ℕ, ◌+◌, ◌*◌, ◌<◌, ◌≤◌, ◌⊎◌, Some, List, length, IsSome}
 use Rattle.board_core.specs.declared.event.Event.{Event}
-use Rattle.board_core.specs.Board.{Job, Held, Out, Program, State, job_at, result_of, results, deps_of, IsReady, IsLegal, replay}
+use Rattle.board_core.specs.Board.{Held, Out, Program, job_at, result_of, results, deps_of, IsReady, IsLegal, replay}
 use Rattle.board_core.specs.Answers.{IsRanked, answer}
 
 -- whatever legal history comes about, the result of each job that is out is that of the recursion on ranks

@@ -313,3 +313,6 @@ impl<W: Work> Board<W> {
         results
     }
 }
+
+#[cfg(test)]
+mod tests;

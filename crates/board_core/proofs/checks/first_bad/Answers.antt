@@ -1,4 +1,4 @@
-use Rattle.std.proofs.Common.{ℕ, List, [], ◌≡◌, slice_index_or, sym, subst, ◌∙◌, below_more, arith}
+use Rattle.std.proofs.Common.{ℕ, List, [], ◌≡◌, slice_index_or, sym, subst, ◌∙◌, below_more}
 use Rattle.board_core.specs.Calls.{NoBadDep}
 use Rattle.board_core.specs.History.{dep_lists}
 use Rattle.board_core.proofs.StandLemmas.{row-is}

@@ -1,4 +1,4 @@
-use Rattle.std.proofs.Common.{◌≡◌, ℕ, ◌+◌, ◌<◌, ◌++◌, ◌∷◌, [], List, length, map, take, drop, slice_index_or, slice_set, ap, sym, ◌∙◌, subst, arith}
+use Rattle.std.proofs.Common.{◌≡◌, ℕ, ◌+◌, ◌<◌, ◌++◌, ◌∷◌, [], List, length, map, take, drop, slice_index_or, slice_set, ap, sym, ◌∙◌, arith}
 use Rattle.std.proofs.lemmas.List.{length-take-le, length-map, take_more, map_push, drop_more, set_at, append_assoc, get_or_at}
 use Rattle.board_core.specs.declared.stand.Stand.{Stand}
 use Rattle.board_core.specs.declared.stand.Stand.TheVariants.{Open}

@@ -1,6 +1,4 @@
-use Rattle.std.proofs.Common.{◌≡◌, List, ℕ, map, ap, sym, subst, arith}
-use Rattle.std.specs.Prelude.{option_map}
-use Rattle.std.specs.Arc.{arc_value}
+use Rattle.std.proofs.Common.{sym, subst, arith}
 use Rattle.board_core.specs.declared.event.Event.TheVariants.{Claim}
 use Rattle.board_core.specs.Board.{MayClaim}
 use Rattle.board_core.specs.History.{History, program_of, state_of}

@@ -1,10 +1,8 @@
-use Rattle.std.proofs.Common.{ℕ, List, [], ◌≡◌, ◌<◌, length, map, Vec, Global, slice_index_or, Contains, ap, sym, subst, ◌∙◌, arith}
+use Rattle.std.proofs.Common.{ℕ, List, [], ◌≡◌, ◌<◌, length, Vec, Global, slice_index_or, Contains, ap, subst, arith}
 use Rattle.std.specs.Prelude.{IfSome, IfNone}
 use Rattle.std.proofs.lemmas.List.{length-map}
 use Rattle.board_core.specs.declared.stand.Stand.{Stand}
 use Rattle.board_core.specs.Board.{IsNext, IsReady}
-use Rattle.board_core.specs.Stands.{AllCheckedOut}
-use Rattle.board_core.specs.Kept.{IsKept}
 use Rattle.board_core.specs.History.{History, dep_lists, program_of, state_of}
 use Rattle.board_core.proofs.KeptLemmas.{stands-length, kept-search, next-some, next-none, written-back}
 use Rattle.board_core.proofs.board.Board.next_job.Goals as goal

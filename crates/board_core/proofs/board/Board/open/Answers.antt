@@ -1,8 +1,8 @@
-use Rattle.std.proofs.Common.{◌≡◌, ◌<◌, ◌≤◌, ◌+◌, ◌*◌, ℕ, List, [], length, Vec, Global, slice_index, slice_index_or, ap, sym, subst, ◌∙◌, arith}
+use Rattle.std.proofs.Common.{◌≡◌, ◌<◌, ◌≤◌, ◌+◌, ◌*◌, ℕ, List, [], length, Vec, Global, slice_index_or, ap, sym, subst, ◌∙◌, arith}
 use Rattle.std.proofs.lemmas.List.{length-map}
 use Rattle.std.specs.Prelude.{None, replicate, vec_capacity}
 use Rattle.board_core.specs.declared.stand.Stand.TheVariants.{Open as OpenStand}
-use Rattle.board_core.specs.Calls.{IsBadDep, NoBadDep, IsFirstBad}
+use Rattle.board_core.specs.Calls.{NoBadDep}
 use Rattle.board_core.specs.History.{dep_lists}
 use Rattle.board_core.proofs.KeptLemmas.{kept-logged}
 use Rattle.board_core.proofs.OpenLemmas.{kept-open, not-first_bad, le-same}

@@ -1,11 +1,11 @@
-use Rattle.std.proofs.Common.{◌≡◌, List, ℕ, map, Some, ap, sym, subst, ◌∙◌, arith}
-use Rattle.std.specs.Prelude.{option_map, Option, None}
+use Rattle.std.proofs.Common.{◌≡◌, Some, sym, subst, arith}
+use Rattle.std.specs.Prelude.{option_map}
 use Rattle.std.specs.Arc.{arc_value}
-use Rattle.std.proofs.lemmas.List.{map-set, length-map}
+use Rattle.std.proofs.lemmas.List.{map-set}
 use Rattle.board_core.specs.declared.event.Event.TheVariants.{Publish}
 use Rattle.board_core.specs.Board.{job_at, Held, results, deps_of}
 use Rattle.board_core.specs.History.{History, program_of, state_of}
-use Rattle.board_core.proofs.KeptLemmas.{kept-publish, kept-logged, kept-made, room-for, holder-known, holder-inside}
+use Rattle.board_core.proofs.KeptLemmas.{kept-publish, kept-logged, kept-made, room-for, holder-known}
 use Rattle.board_core.proofs.board.Board.publish.Goals as goal
 
 pub log-requires : goal.log-requires
