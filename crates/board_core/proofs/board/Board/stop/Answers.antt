@@ -1,0 +1,25 @@
+use Rattle.std.proofs.Common.{◌<◌, List, map, length, ap, sym, subst, arith}
+use Rattle.board_core.specs.declared.event.Event.TheVariants.{Stop}
+use Rattle.board_core.specs.declared.stand.Stand.{Stand}
+use Rattle.board_core.specs.Board.{HasStopped}
+use Rattle.board_core.specs.Stands.{released_stand}
+use Rattle.board_core.specs.History.{History, state_of}
+use Rattle.board_core.proofs.KeptLemmas.{kept-stop, kept-logged, kept-stands, room-for, written-back}
+use Rattle.board_core.proofs.board.Board.stop.Goals as goal
+
+pub log-requires : goal.log-requires
+log-requires g c =
+    let family = λ (h : History g.row.W.Denot). (c.args.worker < h.workers) × (¬ HasStopped (state_of g.W.Work.made h) c.args.worker) in
+    let may = subst family (sym c.self.view_is) (c.requires.known, c.requires.going) in
+    omega (arith, room-for _ c.self.inside.events.items _ _ _ _ _ c.self.invariant (Stop c.args.worker) may, c.self.inside.events.ok.0)
+
+pub invariant_of-self : goal.invariant_of-self
+invariant_of-self g c =
+    let family = λ (h : History g.row.W.Denot). (c.args.worker < h.workers) × (¬ HasStopped (state_of g.W.Work.made h) c.args.worker) in
+    let may = subst family (sym c.self.view_is) (c.requires.known, c.requires.going) in
+    let kept = kept-stop _ c.self.inside.events.items _ _ _ _ _ c.self.invariant c.args.worker may.0 may.1 in
+    let stands = c.self.inside.stands in
+    let put = written-back stands.items c.release.new.stands _ stands.ok.0 (omega (arith, c.release.auto.stands, ap (λ (xs : List Stand). length xs) c.as_mut_slice.ensures.value)) in
+    let lent = kept-stands _ _ _ _ _ _ _ _ kept (ap (map (released_stand c.args.worker)) c.as_mut_slice.ensures.value) in
+    let freed = kept-stands _ _ _ _ _ _ _ _ lent c.release.ensures in
+    kept-logged _ _ _ _ _ _ _ _ _ (kept-stands _ _ _ _ _ _ _ _ freed put) c.log.ensures.items c.log.ensures.room

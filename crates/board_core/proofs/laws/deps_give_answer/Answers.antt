@@ -1,0 +1,5 @@
+use Rattle.board_core.proofs.AnswerLemmas.{deps-give-answer}
+use Rattle.board_core.proofs.laws.deps_give_answer.Goals as goal
+
+pub returns : goal.returns
+returns g c = deps-give-answer

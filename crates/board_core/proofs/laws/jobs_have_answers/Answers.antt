@@ -1,0 +1,5 @@
+use Rattle.board_core.proofs.AnswerLemmas.{jobs-have-answers}
+use Rattle.board_core.proofs.laws.jobs_have_answers.Goals as goal
+
+pub returns : goal.returns
+returns g c = jobs-have-answers

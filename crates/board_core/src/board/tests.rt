@@ -1,0 +1,181 @@
+ghost use Rattle.std.specs.Prelude.{◌≡◌, ℕ, IsTrue};
+ghost use Rattle.board_core.specs.Board.{job_at, Held, HoldsNone};
+ghost use Rattle.board_core.specs.History.{state_of};
+ghost use Rattle.board_core.specs.Stands.{stand_at};
+
+use super::*;
+use std::test::Fail;
+
+// Each job makes its own number.
+struct Numbers;
+
+impl Work for Numbers {
+    type Made = u32;
+
+    ghost made = { λ work job callees. job };
+
+    fn make(&self, _alloc: Global, job: u32, _callees: &[Arc<u32>]) -> Result<u32, NoMemory> {
+        Ok(job)
+    }
+}
+
+fn is_no_holder(stands: &[Stand], worker: u32) -> bool
+    ensures { IsTrue result → (j : ℕ) → ¬ (stand_at stands.now j ≡ Stand.Held worker) }
+{
+    for stand in stands {
+        if *stand == Stand::Held(worker) {
+            return false;
+        }
+    }
+    true
+}
+
+fn is_idle<W: Work>(board: &Board<W>, worker: u32) -> bool
+    ensures { IsTrue result → HoldsNone (state_of W.made board.now) worker }
+{
+    is_no_holder(board.stands.as_slice(), worker)
+}
+
+fn holds<W: Work>(board: &Board<W>, worker: u32, job: u32) -> bool
+    ensures { IsTrue result → job_at (state_of W.made board.now) job ≡ Held worker }
+{
+    (job as usize) < board.stands.len() && board.stands[job as usize] == Stand::Held(worker)
+}
+
+// Claims, where the worker may.
+fn claim_by(
+    board: &mut Board<Numbers>,
+    worker: u32,
+    out: &mut Vec<Arc<u32>>,
+) -> Result<Option<Claim>, NoMemory> {
+    if worker < board.workers && out.capacity() >= 512 && is_idle(board, worker) {
+        return Ok(Some(board.claim(worker, out)?));
+    }
+    Ok(None)
+}
+
+// Makes and publishes, where the worker holds the job.
+fn publish_by(
+    alloc: Global,
+    board: &mut Board<Numbers>,
+    worker: u32,
+    job: u32,
+) -> Result<bool, NoMemory> {
+    if !holds(board, worker, job) {
+        return Ok(false);
+    }
+    let made = Numbers.make(alloc, job, &[])?;
+    board.publish(worker, job, Arc::new(alloc, made)?);
+    Ok(true)
+}
+
+// Stops, where nobody has stopped.
+fn stop_by(board: &mut Board<Numbers>, worker: u32) -> bool {
+    if worker < board.workers && !board.is_halted() {
+        board.stop(worker);
+        return true;
+    }
+    false
+}
+
+fn open_three(alloc: Global) -> Result<Board<Numbers>, OpenFault> {
+    let mut deps = Vec::new(alloc);
+    deps.push(Vec::new(alloc))?;
+    deps.push(Vec::new(alloc))?;
+    deps.push(Vec::from_slice(alloc, &[0, 1])?)?;
+    let ranks = [0, 0, 1];
+    if deps.len() != ranks.len() {
+        return Err(OpenFault::NoMemory);
+    }
+    Board::open(alloc, &Numbers, &ranks, deps.as_slice(), 2)
+}
+
+#[test]
+fn two_workers_finish_three_jobs(rt: HostRuntime) -> Result<(), Fail> {
+    let alloc = rt.alloc();
+    let mut board = open_three(alloc)?;
+    let mut out = Vec::with_capacity(alloc, 512)?;
+    assert_eq!(rt; claim_by(&mut board, 0, &mut out)?, Some(Claim::Job(0)));
+    assert_eq!(rt; claim_by(&mut board, 1, &mut out)?, Some(Claim::Job(1)));
+    assert!(rt; publish_by(alloc, &mut board, 0, 0)?);
+    assert_eq!(rt; claim_by(&mut board, 0, &mut out)?, Some(Claim::Wait));
+    assert!(rt; publish_by(alloc, &mut board, 1, 1)?);
+    assert_eq!(rt; claim_by(&mut board, 0, &mut out)?, Some(Claim::Job(2)));
+    assert_eq!(rt; out.len(), 2);
+    assert_eq!(rt; claim_by(&mut board, 1, &mut out)?, Some(Claim::Wait));
+    assert!(rt; publish_by(alloc, &mut board, 0, 2)?);
+    assert_eq!(rt; claim_by(&mut board, 1, &mut out)?, Some(Claim::Done));
+    assert_eq!(rt; board.events().len(), 6);
+    let results = board.into_results();
+    assert_eq!(rt; results.len(), 3);
+    assert!(rt; results.iter().all(Option::is_some));
+    Ok(())
+}
+
+#[test]
+fn a_stop_opens_the_job_again(rt: HostRuntime) -> Result<(), Fail> {
+    let alloc = rt.alloc();
+    let mut board = open_three(alloc)?;
+    let mut out = Vec::with_capacity(alloc, 512)?;
+    assert_eq!(rt; claim_by(&mut board, 1, &mut out)?, Some(Claim::Job(0)));
+    assert!(rt; stop_by(&mut board, 1));
+    assert!(rt; !publish_by(alloc, &mut board, 1, 0)?);
+    for _ in 0..2 {
+        assert_eq!(rt; claim_by(&mut board, 0, &mut out)?, Some(Claim::Stopped));
+    }
+    assert_eq!(rt; board.events().len(), 2);
+    assert!(rt; board.into_results().iter().all(Option::is_none));
+    Ok(())
+}
+
+#[test]
+fn a_dep_of_no_smaller_rank_is_refused(rt: HostRuntime) -> Result<(), Fail> {
+    let alloc = rt.alloc();
+    for (dep, ranks, fault) in [
+        (0, [0, 0], Some((1, 0))),
+        (1, [0, 1], Some((1, 1))),
+        (2, [0, 1], Some((1, 2))),
+        (0, [1, 0], Some((1, 0))),
+        (0, [0, 1], None),
+    ] {
+        let mut deps = Vec::new(alloc);
+        deps.push(Vec::new(alloc))?;
+        deps.push(Vec::from_slice(alloc, &[dep])?)?;
+        assert_eq!(rt; deps.len(), 2);
+        let opened = Board::open(alloc, &Numbers, &ranks, deps.as_slice(), 1);
+        let fault = fault.map(|(job, dep)| OpenFault::BadDeps { job, dep });
+        assert!(rt; opened.err() == fault);
+    }
+    Ok(())
+}
+
+#[test]
+fn a_chain_of_512_jobs_is_finished_in_order(rt: HostRuntime) -> Result<(), Fail> {
+    let alloc = rt.alloc();
+    let (mut ranks, mut deps) = (Vec::new(alloc), Vec::new(alloc));
+    for job in 0..512u32 {
+        ranks.push(job)?;
+        let mut before = Vec::new(alloc);
+        if job > 0 {
+            before.push(job - 1)?;
+        }
+        deps.push(before)?;
+    }
+    assert!(rt; ranks.len() == 512 && deps.len() == 512);
+    let mut board = Board::open(alloc, &Numbers, ranks.as_slice(), deps.as_slice(), 64)?;
+    let mut out = Vec::with_capacity(alloc, 512)?;
+    for job in 0..512u32 {
+        let worker = job % 64;
+        assert_eq!(rt;
+            claim_by(&mut board, worker, &mut out)?,
+            Some(Claim::Job(job))
+        );
+        assert_eq!(rt;
+            claim_by(&mut board, 63 - worker, &mut out)?,
+            Some(Claim::Wait)
+        );
+        assert!(rt; publish_by(alloc, &mut board, worker, job)?);
+    }
+    assert_eq!(rt; claim_by(&mut board, 0, &mut out)?, Some(Claim::Done));
+    Ok(())
+}

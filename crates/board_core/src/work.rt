@@ -1,0 +1,25 @@
+// The work that a board hands out.
+ghost use Rattle.std.specs.Prelude.{◌≡◌, ℕ, List, map, IfOk};
+ghost use Rattle.std.specs.Arc.{arc_value};
+
+use crate::event::NoMemory;
+use std::alloc::Global;
+use std::sync::Arc;
+
+/// Work in numbered jobs, of which each has one result that follows from the results of others.
+pub trait Work: Send + Sync {
+    /// The result of a job.
+    type Made: Send + Sync + Drop;
+
+    /// The result of a job, given those of the jobs that it depends on.
+    ghost made: { Self → ℕ → List Self.Made → Self.Made };
+
+    /// Makes the result of a job, given those of the jobs that it depends on.
+    fn make(
+        &self,
+        alloc: Global,
+        job: u32,
+        callees: &[Arc<Self::Made>],
+    ) -> Result<Self::Made, NoMemory>
+        ensures { IfOk result (λ it. it ≡ made self.now job (map arc_value callees.now)) };
+}
