@@ -1,0 +1,89 @@
+-- The one table of ops: the inputs and the outputs of each, in number and kind. What a Gamma takes and gives is what
+-- its regions take and give, and so it is with a Theta, whose region also gives its predicate.
+use Rattle.std.specs.Prelude.{ℕ, ◌-◌, ◌==◌, List, [], ◌∷◌, ◌++◌, map, replicate, if◌then◌else◌}
+use Rattle.std.specs.declared.option.Option.{Option}
+use Rattle.std.specs.declared.option.Option.TheVariants.{Some, None}
+use Rattle.g_graph.specs.declared.op.Kind.{Kind}
+use Rattle.g_graph.specs.declared.op.Kind.TheVariants.{Value, Memory, Io}
+use Rattle.g_graph.specs.declared.op.Origin.{Origin}
+use Rattle.g_graph.specs.declared.op.Origin.TheVariants.{Arg, Out}
+use Rattle.g_graph.specs.declared.op.Op.{Op}
+use Rattle.g_graph.specs.declared.op.Op.TheVariants.{Const, Undef, Local, Delta, Bin, Un, Load, Store, Clear, PtrEq, Apply, Put, Exit, Get, Gamma, Theta}
+use Rattle.g_graph.specs.Plain.{RegionTree, region, NodeTree, node, NodeTrees, no_nodes, node_then, RegionTrees, no_regions, region_then, id_of, args_of}
+
+abbrev pub first_args : RegionTrees → List Kind
+first_args no_regions = []
+first_args (region_then r rs) = args_of r
+
+-- the inputs of an op that has so many, with these regions
+abbrev pub inputs_of : Op → (count : ℕ) → RegionTrees → List Kind
+inputs_of (Const w) n rs = []
+inputs_of Undef n rs = []
+inputs_of (Local k) n rs = []
+inputs_of (Delta k) n rs = []
+inputs_of (Bin op) n rs = Value ∷ Value ∷ []
+inputs_of (Un op) n rs = Value ∷ []
+inputs_of (Load width) n rs = Value ∷ Memory ∷ []
+inputs_of (Store width) n rs = Value ∷ Value ∷ Memory ∷ []
+inputs_of (Clear k) n rs = Memory ∷ []
+inputs_of PtrEq n rs = Value ∷ Value ∷ Memory ∷ []
+inputs_of (Apply f) n rs = replicate (n - 2) Value ++ Memory ∷ Io ∷ []
+inputs_of Put n rs = Value ∷ Io ∷ []
+inputs_of Exit n rs = Value ∷ Io ∷ []
+inputs_of Get n rs = Io ∷ []
+inputs_of Gamma n rs = Value ∷ first_args rs
+inputs_of Theta n rs = first_args rs
+
+-- what is at this place of a list, if anything
+abbrev pub at_place : {X : Type 0} → List X → ℕ → Option X
+at_place [] k = None
+at_place (x ∷ xs) k = if k == 0 then Some x else at_place xs (k - 1)
+
+abbrev pub joined : {X : Type 0} → Option (Option X) → Option X
+joined None = None
+joined (Some x) = x
+
+-- the kinds of the outputs of each node by its number: None where an output has no kind
+abbrev pub Outputs : Type 0
+Outputs = ℕ → List (Option Kind)
+
+abbrev pub no_outputs : Outputs
+no_outputs n = []
+
+-- The kind of an origin in a region with these arguments, after nodes with these outputs: None where there is no such
+-- origin.
+abbrev pub kind_of : List Kind → Outputs → Origin → Option Kind
+kind_of args outputs (Arg k) = at_place args k
+kind_of args outputs (Out n p) = joined (at_place (outputs n) p)
+
+-- The outputs of an op with these regions, of a node, and of nodes after others. Of nodes with one number the last
+-- counts.
+abbrev mutual
+  pub outputs_of : Op → RegionTrees → List (Option Kind)
+  outputs_of (Const w) rs = Some Value ∷ []
+  outputs_of Undef rs = Some Value ∷ []
+  outputs_of (Local k) rs = Some Value ∷ []
+  outputs_of (Delta k) rs = Some Value ∷ []
+  outputs_of (Bin op) rs = Some Value ∷ []
+  outputs_of (Un op) rs = Some Value ∷ []
+  outputs_of (Load width) rs = Some Value ∷ []
+  outputs_of (Store width) rs = Some Memory ∷ []
+  outputs_of (Clear k) rs = Some Memory ∷ []
+  outputs_of PtrEq rs = Some Value ∷ []
+  outputs_of (Apply f) rs = Some Value ∷ Some Memory ∷ Some Io ∷ []
+  outputs_of Put rs = Some Io ∷ []
+  outputs_of Exit rs = Some Io ∷ []
+  outputs_of Get rs = Some Value ∷ Some Io ∷ []
+  outputs_of Gamma no_regions = []
+  outputs_of Gamma (region_then r rs) = result_kinds r
+  outputs_of Theta rs = map Some (first_args rs)
+
+  pub result_kinds : RegionTree → List (Option Kind)
+  result_kinds (region args nodes results) = map (kind_of args (outputs_after nodes no_outputs)) results
+
+  pub output_kinds : NodeTree → List (Option Kind)
+  output_kinds (node id op inputs rs) = outputs_of op rs
+
+  pub outputs_after : NodeTrees → Outputs → Outputs
+  outputs_after no_nodes outputs = outputs
+  outputs_after (node_then x xs) outputs = outputs_after xs (λ n. if id_of x == n then output_kinds x else outputs n)
