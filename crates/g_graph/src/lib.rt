@@ -3,6 +3,7 @@
 //! It promises what its public calls say of that tree, and takes no memory where a call only reads.
 #![tactic(auto)]
 
+mod copy;
 mod count;
 mod lambda;
 mod no_memory;
@@ -11,7 +12,10 @@ mod op;
 mod optimised;
 mod region;
 mod steps;
+#[cfg(test)]
+mod tests;
 
+pub use copy::copy_of;
 pub use count::values;
 pub use lambda::{Delta, Lambda, Link, Object, Omega};
 pub use no_memory::NoMemory;
