@@ -43,21 +43,14 @@ abbrev pub joined : {X : Type 0} → Option (Option X) → Option X
 joined None = None
 joined (Some x) = x
 
--- the kinds of the outputs of each node by its number: None where an output has no kind
-abbrev pub Outputs : Type 0
-Outputs = ℕ → List (Option Kind)
-
-abbrev pub no_outputs : Outputs
-no_outputs n = []
-
--- The kind of an origin in a region with these arguments, after nodes with these outputs: None where there is no such
--- origin.
-abbrev pub kind_of : List Kind → Outputs → Origin → Option Kind
+-- The kind of an origin, where the region has these arguments and the outputs of its nodes, by node and port, have
+-- these kinds: None where there is no such origin.
+abbrev pub kind_of : List Kind → (ℕ → ℕ → Option Kind) → Origin → Option Kind
 kind_of args outputs (Arg k) = at_place args k
-kind_of args outputs (Out n p) = joined (at_place (outputs n) p)
+kind_of args outputs (Out n p) = outputs n p
 
--- The outputs of an op with these regions, of a node, and of nodes after others. Of nodes with one number the last
--- counts.
+-- The outputs of an op with these regions, the results of a region, the outputs of a node, and the kind of an output by
+-- node and port after these nodes, where it had the kind `before`. Of nodes with one number the last counts.
 abbrev mutual
   pub outputs_of : Op → RegionTrees → List (Option Kind)
   outputs_of (Const w) rs = Some Value ∷ []
@@ -79,11 +72,11 @@ abbrev mutual
   outputs_of Theta rs = map Some (first_args rs)
 
   pub result_kinds : RegionTree → List (Option Kind)
-  result_kinds (region args nodes results) = map (kind_of args (outputs_after nodes no_outputs)) results
+  result_kinds (region args nodes results) = map (kind_of args (λ n p. kind_after nodes n p None)) results
 
   pub output_kinds : NodeTree → List (Option Kind)
   output_kinds (node id op inputs rs) = outputs_of op rs
 
-  pub outputs_after : NodeTrees → Outputs → Outputs
-  outputs_after no_nodes outputs = outputs
-  outputs_after (node_then x xs) outputs = outputs_after xs (λ n. if id_of x == n then output_kinds x else outputs n)
+  pub kind_after : NodeTrees → (id : ℕ) → (port : ℕ) → (before : Option Kind) → Option Kind
+  kind_after no_nodes n p before = before
+  kind_after (node_then x xs) n p before = kind_after xs n p (if id_of x == n then joined (at_place (output_kinds x) p) else before)

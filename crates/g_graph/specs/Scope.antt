@@ -1,14 +1,13 @@
--- What stands before a node of a region: the region's arguments, the outputs of the earlier nodes, and where each kind
--- of state comes from now.
-use Rattle.std.specs.Prelude.{ℕ, suc, ◌==◌, Bool, true, false, ◌&&◌, List, [], ◌∷◌, map, if◌then◌else◌}
+-- What stands before a node of a region: the region's arguments and the earlier nodes.
+use Rattle.std.specs.Prelude.{ℕ, suc, ◌==◌, Bool, true, false, ◌&&◌, List, [], ◌∷◌, ◌++◌, map, if◌then◌else◌}
 use Rattle.std.specs.declared.option.Option.{Option}
 use Rattle.std.specs.declared.option.Option.TheVariants.{Some, None}
 use Rattle.g_graph.specs.declared.op.Kind.{Kind}
 use Rattle.g_graph.specs.declared.op.Kind.TheVariants.{Value, Memory, Io}
 use Rattle.g_graph.specs.declared.op.Origin.{Origin}
 use Rattle.g_graph.specs.declared.op.Origin.TheVariants.{Arg, Out}
-use Rattle.g_graph.specs.Plain.{NodeTree, NodeTrees, no_nodes, node_then, id_of}
-use Rattle.g_graph.specs.Rows.{Outputs, no_outputs, kind_of, output_kinds}
+use Rattle.g_graph.specs.Plain.{NodeTree, NodeTrees, no_nodes, node_then, nodes_of, id_of}
+use Rattle.g_graph.specs.Rows.{kind_of, kind_after, output_kinds}
 
 abbrev pub same_kind : Kind → Kind → Bool
 same_kind Value Value = true
@@ -34,31 +33,20 @@ abbrev pub origin_at : (ℕ → Origin) → Option ℕ → Option Origin → Opt
 origin_at make None before = before
 origin_at make (Some p) before = Some (make p)
 
-pub record Scope : Type 0 where
-  pub args : List Kind
-  pub outputs : Outputs
-  pub states : Kind → Option Origin
+-- the kind of an origin after these nodes
+abbrev pub known : List Kind → NodeTrees → Origin → Option Kind
+known args before o = kind_of args (λ n p. kind_after before n p None) o
 
--- at the start of a region: a state comes from the last argument of its kind
-abbrev pub entry : List Kind → Scope
-entry args = record { args = args; outputs = no_outputs; states = λ k. origin_at Arg (last_place k 0 (map Some args) None) None }
+-- where a state comes from after these nodes: from the last output of its kind, where it came from `found` before
+abbrev pub state_after : Kind → NodeTrees → Option Origin → Option Origin
+state_after k no_nodes found = found
+state_after k (node_then x xs) found = state_after k xs (origin_at (λ p. Out (id_of x) p) (last_place k 0 (output_kinds x) None) found)
 
--- after a node: a state comes from its last output of that kind, where it has one
-abbrev pub after : Scope → NodeTree → Scope
-after s x = record {
-  args = s.args;
-  outputs = λ n. if id_of x == n then output_kinds x else s.outputs n;
-  states = λ k. origin_at (λ p. Out (id_of x) p) (last_place k 0 (output_kinds x) None) (s.states k);
-}
+-- where a state comes from after these nodes: at the start of the region from the last argument of its kind
+abbrev pub last_state : Kind → List Kind → NodeTrees → Option Origin
+last_state k args before = state_after k before (origin_at Arg (last_place k 0 (map Some args) None) None)
 
-abbrev pub after_all : Scope → NodeTrees → Scope
-after_all s no_nodes = s
-after_all s (node_then x xs) = after_all (after s x) xs
-
--- the test holds of each node, with what stands before it
-abbrev pub each_node : (Scope → NodeTree → Bool) → Scope → NodeTrees → Bool
-each_node test s no_nodes = true
-each_node test s (node_then x xs) = test s x && each_node test (after s x) xs
-
-abbrev pub known : Scope → Origin → Option Kind
-known s o = kind_of s.args s.outputs o
+-- the test holds of each node, with the nodes before it
+abbrev pub each_node : (NodeTrees → NodeTree → Bool) → (before : List NodeTree) → NodeTrees → Bool
+each_node test before no_nodes = true
+each_node test before (node_then x xs) = test (nodes_of before) x && each_node test (before ++ x ∷ []) xs

@@ -10,7 +10,7 @@ use Rattle.g_graph.specs.declared.op.Origin.{Origin}
 use Rattle.g_graph.specs.declared.op.Op.TheVariants.{Local, Clear, Load, Store, Gamma, Theta}
 use Rattle.g_graph.specs.Plain.{RegionTree, region, NodeTree, node, NodeTrees, no_nodes, node_then, RegionTrees, no_regions, region_then, args_of, PlainLambda}
 use Rattle.g_graph.specs.Rows.{inputs_of, result_kinds, output_kinds, first_args}
-use Rattle.g_graph.specs.Scope.{same_kind, is_of, same_origin, Scope, entry, after_all, each_node, known}
+use Rattle.g_graph.specs.Scope.{same_kind, is_of, same_origin, last_state, each_node, known}
 use Rattle.g_graph.specs.Ids.{region_ids}
 
 abbrev pub all_of : {X : Type 0} → (X → Bool) → List X → Bool
@@ -59,8 +59,8 @@ one_state_each kinds = at_most_one Memory kinds && at_most_one Io kinds
 
 -- Each input is an argument of the same region or an output of an earlier node of it, and there are as many inputs, and
 -- of such kinds, as the op's row says.
-abbrev pub inputs_fit : Scope → NodeTree → Bool
-inputs_fit s (node id op inputs rs) = are (map (known s) inputs) (inputs_of op (length inputs) rs)
+abbrev pub inputs_fit : List Kind → NodeTrees → NodeTree → Bool
+inputs_fit args before (node id op inputs rs) = are (map (known args before) inputs) (inputs_of op (length inputs) rs)
 
 -- Only a Gamma and a Theta have regions; a Gamma has at least one, and a Theta has one.
 abbrev pub has_its_regions : NodeTree → Bool
@@ -93,37 +93,48 @@ abbrev pub is_origin : Option Origin → Origin → Bool
 is_origin None o = false
 is_origin (Some p) o = same_origin p o
 
-abbrev pub is_last_of : Option Kind → Scope → Origin → Bool
-is_last_of None s o = false
-is_last_of (Some Value) s o = true
-is_last_of (Some Memory) s o = is_origin (s.states Memory) o
-is_last_of (Some Io) s o = is_origin (s.states Io) o
+abbrev pub is_last_of : Option Kind → List Kind → NodeTrees → Origin → Bool
+is_last_of None args before o = false
+is_last_of (Some Value) args before o = true
+is_last_of (Some Memory) args before o = is_origin (last_state Memory args before) o
+is_last_of (Some Io) args before o = is_origin (last_state Io args before) o
 
--- A state comes from the last output or argument of its kind.
-abbrev pub is_last : Scope → Origin → Bool
-is_last s o = is_last_of (known s o) s o
+-- A state input is the last output or argument of that kind of state before the node. So is a state result.
+abbrev pub is_last : List Kind → NodeTrees → Origin → Bool
+is_last args before o = is_last_of (known args before o) args before o
 
-abbrev pub inputs_are_last : Scope → NodeTree → Bool
-inputs_are_last s (node id op inputs rs) = all_of (is_last s) inputs
+abbrev pub inputs_are_last : List Kind → NodeTrees → NodeTree → Bool
+inputs_are_last args before (node id op inputs rs) = all_of (is_last args before) inputs
 
-abbrev pub node_has_one_state_each : Scope → NodeTree → Bool
-node_has_one_state_each s (node id op inputs rs) = one_state_each (map (known s) inputs) && one_state_each (output_kinds (node id op inputs rs))
+abbrev pub results_are_last : RegionTree → Bool
+results_are_last (region args nodes results) = all_of (is_last args nodes) results
+
+-- The arguments of a region, its results, the inputs of a node and its outputs have at most one Memory and one Io each.
+abbrev pub node_has_one_state_each : List Kind → NodeTrees → NodeTree → Bool
+node_has_one_state_each args before (node id op inputs rs) = one_state_each (map (known args before) inputs) && one_state_each (output_kinds (node id op inputs rs))
+
+abbrev pub region_has_one_state_each : RegionTree → Bool
+region_has_one_state_each (region args nodes results) = one_state_each (map Some args) && one_state_each (result_kinds (region args nodes results))
 
 -- The width of a Load or Store is 1, 2 or 4.
 abbrev pub is_width : ℕ → Bool
 is_width w = (w == 1) || (w == 2) || (w == 4)
 
--- A Local or Clear names an object of its lambda.
-abbrev pub names_what_is_there : ℕ → NodeTree → Bool
-names_what_is_there objects (node id (Local k) inputs rs) = nat_lt k objects
-names_what_is_there objects (node id (Clear k) inputs rs) = nat_lt k objects
-names_what_is_there objects (node id (Load width) inputs rs) = is_width width
-names_what_is_there objects (node id (Store width) inputs rs) = is_width width
-names_what_is_there objects (node id op inputs rs) = true
+abbrev pub has_its_width : NodeTree → Bool
+has_its_width (node id (Load width) inputs rs) = is_width width
+has_its_width (node id (Store width) inputs rs) = is_width width
+has_its_width (node id op inputs rs) = true
 
-abbrev pub node_fits : ℕ → Scope → NodeTree → Bool
-node_fits objects s x =
-    inputs_fit s x && has_its_regions x && regions_fit x && theta_has_states x && inputs_are_last s x && node_has_one_state_each s x && names_what_is_there objects x
+-- A Local or Clear names an object of its lambda, which has so many.
+abbrev pub has_its_object : ℕ → NodeTree → Bool
+has_its_object objects (node id (Local k) inputs rs) = nat_lt k objects
+has_its_object objects (node id (Clear k) inputs rs) = nat_lt k objects
+has_its_object objects (node id op inputs rs) = true
+
+abbrev pub node_fits : ℕ → List Kind → NodeTrees → NodeTree → Bool
+node_fits objects args before x =
+    inputs_fit args before x && inputs_are_last args before x && node_has_one_state_each args before x
+    && has_its_regions x && regions_fit x && theta_has_states x && has_its_width x && has_its_object objects x
 
 abbrev pub gives : Kind → NodeTrees → Bool
 gives k no_nodes = false
@@ -133,16 +144,12 @@ gives k (node_then x xs) = some_of (is_of k) (output_kinds x) || gives k xs
 abbrev pub returns_state : Kind → RegionTree → Bool
 returns_state k (region args nodes results) = not (gives k nodes) || some_of (is_of k) (result_kinds (region args nodes results))
 
-abbrev pub results_are_last : RegionTree → Bool
-results_are_last (region args nodes results) = all_of (is_last (after_all (entry args) nodes)) results
-
 abbrev pub nodes_fit : ℕ → RegionTree → Bool
-nodes_fit objects (region args nodes results) = each_node (node_fits objects) (entry args) nodes
+nodes_fit objects (region args nodes results) = each_node (node_fits objects args) [] nodes
 
 abbrev pub region_fits : ℕ → RegionTree → Bool
 region_fits objects r =
-    nodes_fit objects r && results_are_last r && returns_state Memory r && returns_state Io r
-    && one_state_each (map Some (args_of r)) && one_state_each (result_kinds r)
+    nodes_fit objects r && results_are_last r && returns_state Memory r && returns_state Io r && region_has_one_state_each r
 
 -- The leaves stand in order of offset, do not overlap, lie within the size, and each has width 1, 2 or 4 and an offset
 -- that is a multiple of its width. The first of them begins at `from` or later.
