@@ -1,13 +1,14 @@
 -- Worked rows of the definitions: small lambdas, and each broken in one place.
-use Rattle.std.proofs.Common.{◌≡◌, ℕ, ◌+◌, true, false, List, [], ◌∷◌, refl}
+use Rattle.std.proofs.Common.{◌≡◌, ℕ, ◌+◌, true, false, List, [], ◌∷◌, map, replicate, length, refl}
 use Rattle.val_core.specs.declared.operation.Op2.TheVariants.{Add}
+use Rattle.val_core.specs.declared.operation.Op1.TheVariants.{Zext8}
 use Rattle.val_core.specs.declared.leaf.Leaf.{Leaf}
 use Rattle.g_graph.specs.declared.op.Kind.{Kind}
 use Rattle.g_graph.specs.declared.op.Kind.TheVariants.{Value, Memory, Io}
 use Rattle.g_graph.specs.declared.op.Origin.{Origin}
 use Rattle.g_graph.specs.declared.op.Origin.TheVariants.{Arg, Out}
 use Rattle.g_graph.specs.declared.op.Op.{Op}
-use Rattle.g_graph.specs.declared.op.Op.TheVariants.{Const, Bin, Put, Load, Local, Gamma, Theta}
+use Rattle.g_graph.specs.declared.op.Op.TheVariants.{Apply, Store, Get, Const, Undef, Delta, Un, Clear, PtrEq, Exit, Bin, Put, Load, Local, Gamma, Theta}
 use Rattle.g_graph.specs.Plain.{RegionTree, region, NodeTree, node, no_nodes, no_regions, nodes_of, regions_of, PlainLambda}
 use Rattle.g_graph.specs.Count.{region_values}
 use Rattle.g_graph.specs.Ids.{region_ids}
@@ -116,6 +117,83 @@ two_memories = refl
 
 abbrev leaf : ℕ → ℕ → Leaf
 leaf offset width = record { offset = offset; width = width }
+
+-- a region that a Theta repeats once, with a node of this number
+abbrev repeating : ℕ → RegionTree
+repeating n = inside (plain n (Const 0) [] ∷ []) (Out n 0 ∷ Arg 0 ∷ Arg 1 ∷ Arg 2 ∷ [])
+
+-- Each region breaks one sentence, and so does a lambda with that body and one with that region within a Gamma.
+abbrev broken : List RegionTree
+broken =
+    -- an input from a later node, and results that no argument or output gives
+    inside (plain 2 (Bin Add) (Arg 0 ∷ Out 1 0 ∷ []) ∷ plain 1 (Const 1) [] ∷ []) (Out 2 0 ∷ Arg 1 ∷ Arg 2 ∷ [])
+    ∷ inside [] (Arg 3 ∷ Arg 1 ∷ Arg 2 ∷ [])
+    ∷ inside (plain 1 (Const 1) [] ∷ []) (Out 1 1 ∷ Arg 1 ∷ Arg 2 ∷ [])
+    -- an input too few, one of another kind, and a call without io
+    ∷ inside (plain 1 (Bin Add) (Arg 0 ∷ []) ∷ []) (Out 1 0 ∷ Arg 1 ∷ Arg 2 ∷ [])
+    ∷ inside (plain 1 (Bin Add) (Arg 0 ∷ Arg 1 ∷ []) ∷ []) (Out 1 0 ∷ Arg 1 ∷ Arg 2 ∷ [])
+    ∷ inside (plain 1 (Apply 0) (Arg 0 ∷ Arg 1 ∷ []) ∷ []) (Out 1 0 ∷ Out 1 1 ∷ Arg 2 ∷ [])
+    -- a Const with a region, a Gamma without, a Theta without and one with two
+    ∷ inside (node 1 (Const 1) [] (regions_of (as_is ∷ [])) ∷ []) (Out 1 0 ∷ Arg 1 ∷ Arg 2 ∷ [])
+    ∷ inside (node 1 Gamma (Arg 0 ∷ []) no_regions ∷ []) (Arg 0 ∷ Arg 1 ∷ Arg 2 ∷ [])
+    ∷ inside (node 1 Theta [] no_regions ∷ []) (Arg 0 ∷ Arg 1 ∷ Arg 2 ∷ [])
+    ∷ inside (node 1 Theta (Arg 0 ∷ Arg 1 ∷ Arg 2 ∷ []) (regions_of (repeating 2 ∷ repeating 3 ∷ [])) ∷ []) (Out 1 0 ∷ Out 1 1 ∷ Out 1 2 ∷ [])
+    -- regions of a Gamma that take or give other kinds, and a Theta without predicate and with other results
+    ∷ inside (node 1 Gamma (Arg 0 ∷ Arg 0 ∷ Arg 1 ∷ Arg 2 ∷ []) (regions_of (as_is ∷ region (Value ∷ Io ∷ Memory ∷ []) no_nodes (Arg 0 ∷ Arg 2 ∷ Arg 1 ∷ []) ∷ [])) ∷ []) (Out 1 0 ∷ Out 1 1 ∷ Out 1 2 ∷ [])
+    ∷ inside (node 1 Gamma (Arg 0 ∷ Arg 0 ∷ Arg 1 ∷ Arg 2 ∷ []) (regions_of (as_is ∷ inside [] (Arg 0 ∷ Arg 2 ∷ Arg 1 ∷ []) ∷ [])) ∷ []) (Out 1 0 ∷ Out 1 1 ∷ Out 1 2 ∷ [])
+    ∷ inside (node 1 Theta (Arg 0 ∷ Arg 1 ∷ Arg 2 ∷ []) (regions_of (as_is ∷ [])) ∷ []) (Out 1 0 ∷ Out 1 1 ∷ Out 1 2 ∷ [])
+    ∷ inside (node 1 Theta (Arg 0 ∷ Arg 1 ∷ Arg 2 ∷ []) (regions_of (inside [] (Arg 0 ∷ Arg 0 ∷ Arg 2 ∷ Arg 1 ∷ []) ∷ [])) ∷ []) (Out 1 0 ∷ Out 1 1 ∷ Out 1 2 ∷ [])
+    -- results of other kinds
+    ∷ inside [] (Arg 0 ∷ Arg 2 ∷ Arg 1 ∷ [])
+    -- a number twice, and one that is not below the next
+    ∷ inside (plain 1 (Const 1) [] ∷ plain 1 (Const 1) [] ∷ []) (Out 1 0 ∷ Arg 1 ∷ Arg 2 ∷ [])
+    ∷ inside (plain 10 (Const 1) [] ∷ []) (Out 10 0 ∷ Arg 1 ∷ Arg 2 ∷ [])
+    -- a state that is not the last, as an input and as a result
+    ∷ inside (plain 1 Put (Arg 0 ∷ Arg 2 ∷ []) ∷ plain 2 Put (Arg 0 ∷ Arg 2 ∷ []) ∷ []) (Arg 0 ∷ Arg 1 ∷ Out 2 0 ∷ [])
+    ∷ inside (plain 1 Put (Arg 0 ∷ Arg 2 ∷ []) ∷ []) (Arg 0 ∷ Arg 1 ∷ Arg 2 ∷ [])
+    -- a Theta without io, and a region that does not give back a state that a node of it gives
+    ∷ inside (node 1 Theta (Arg 0 ∷ Arg 1 ∷ []) (regions_of (region (Value ∷ Memory ∷ []) (nodes_of (plain 2 (Const 0) [] ∷ [])) (Out 2 0 ∷ Arg 0 ∷ Arg 1 ∷ []) ∷ [])) ∷ []) (Out 1 0 ∷ Out 1 1 ∷ Arg 2 ∷ [])
+    ∷ inside (node 1 Gamma (Arg 0 ∷ Arg 0 ∷ Arg 1 ∷ Arg 2 ∷ []) (regions_of (inside (plain 2 Put (Arg 0 ∷ Arg 2 ∷ []) ∷ []) (Arg 0 ∷ []) ∷ [])) ∷ []) (Out 1 0 ∷ Arg 1 ∷ Arg 2 ∷ [])
+    -- objects that are not there, and widths that are none
+    ∷ inside (plain 1 (Local 1) [] ∷ []) (Out 1 0 ∷ Arg 1 ∷ Arg 2 ∷ [])
+    ∷ inside (plain 1 (Clear 1) (Arg 1 ∷ []) ∷ []) (Arg 0 ∷ Out 1 0 ∷ Arg 2 ∷ [])
+    ∷ inside (plain 1 (Load 3) (Arg 0 ∷ Arg 1 ∷ []) ∷ []) (Out 1 0 ∷ Arg 1 ∷ Arg 2 ∷ [])
+    ∷ inside (plain 1 (Store 8) (Arg 0 ∷ Arg 0 ∷ Arg 1 ∷ []) ∷ []) (Arg 0 ∷ Out 1 0 ∷ Arg 2 ∷ [])
+    -- two memories, and two io
+    ∷ inside (node 1 Gamma (Arg 0 ∷ Arg 1 ∷ Arg 1 ∷ Arg 2 ∷ []) (regions_of (region (Memory ∷ states) no_nodes (Arg 1 ∷ Arg 2 ∷ []) ∷ [])) ∷ []) (Arg 0 ∷ Out 1 0 ∷ Out 1 1 ∷ [])
+    ∷ inside (node 1 Gamma (Arg 0 ∷ Arg 1 ∷ Arg 2 ∷ Arg 2 ∷ []) (regions_of (region (Memory ∷ Io ∷ Io ∷ []) no_nodes (Arg 0 ∷ Arg 2 ∷ []) ∷ [])) ∷ []) (Arg 0 ∷ Out 1 0 ∷ Out 1 1 ∷ [])
+    ∷ []
+
+-- a lambda with one object, and this body
+abbrev alone : RegionTree → PlainLambda
+alone r = record { number = 0; params = 1; objects = record { size = 4; leaves = leaf 0 4 ∷ [] } ∷ []; body = r; next = 10 }
+
+broken-body : map (λ r. well_formed (alone r)) broken ≡ replicate (length broken) false
+broken-body = refl
+
+broken-nested : map (λ r. well_formed (alone (chosen (as_is ∷ r ∷ [])).body)) broken ≡ replicate (length broken) false
+broken-nested = refl
+
+-- each op as it should be
+abbrev whole : RegionTree
+whole = inside (
+    plain 1 (Const 5) [] ∷ plain 2 Undef [] ∷ plain 3 (Local 0) [] ∷ plain 4 (Delta 0) []
+    ∷ plain 5 (Bin Add) (Arg 0 ∷ Out 1 0 ∷ []) ∷ plain 6 (Un Zext8) (Out 5 0 ∷ [])
+    ∷ plain 7 (Clear 0) (Arg 1 ∷ []) ∷ plain 8 (Store 4) (Out 3 0 ∷ Out 6 0 ∷ Out 7 0 ∷ []) ∷ plain 9 (Load 1) (Out 3 0 ∷ Out 8 0 ∷ [])
+    ∷ plain 10 PtrEq (Out 3 0 ∷ Out 4 0 ∷ Out 8 0 ∷ []) ∷ plain 11 (Apply 3) (Out 2 0 ∷ Out 9 0 ∷ Out 8 0 ∷ Arg 2 ∷ [])
+    ∷ plain 12 Put (Out 11 0 ∷ Out 11 2 ∷ []) ∷ plain 13 Get (Out 12 0 ∷ [])
+    ∷ node 14 Gamma (Out 13 0 ∷ Out 10 0 ∷ Out 11 1 ∷ Out 13 1 ∷ []) (regions_of (as_is ∷ constant 15 ∷ []))
+    ∷ node 16 Theta (Out 14 0 ∷ Out 14 1 ∷ Out 14 2 ∷ []) (regions_of (repeating 17 ∷ []))
+    ∷ plain 18 Exit (Out 16 0 ∷ Out 16 2 ∷ []) ∷ []) (Out 16 0 ∷ Out 16 1 ∷ Out 18 0 ∷ [])
+
+abbrev below_twenty : PlainLambda → PlainLambda
+below_twenty l = record { number = l.number; params = l.params; objects = l.objects; body = l.body; next = 20 }
+
+whole-body : well_formed (below_twenty (alone whole)) ≡ true
+whole-body = refl
+
+whole-nested : well_formed (below_twenty (alone (chosen (as_is ∷ whole ∷ [])).body)) ≡ true
+whole-nested = refl
 
 leaves_apart : leaves_fit 8 0 (leaf 0 4 ∷ leaf 4 2 ∷ leaf 6 1 ∷ []) ≡ true
 leaves_apart = refl
