@@ -1,6 +1,6 @@
 -- The one table of ops: the inputs and the outputs of each, in number and kind. What a Gamma takes and gives is what
 -- its regions take and give, and so it is with a Theta, whose region also gives its predicate.
-use Rattle.std.specs.Prelude.{ℕ, ◌-◌, ◌==◌, List, [], ◌∷◌, ◌++◌, map, replicate, if◌then◌else◌}
+use Rattle.std.specs.Prelude.{ℕ, ◌-◌, ◌==◌, List, [], ◌∷◌, ◌++◌, map, replicate, if◌then◌else◌, slice_get}
 use Rattle.std.specs.declared.option.Option.{Option}
 use Rattle.std.specs.declared.option.Option.TheVariants.{Some, None}
 use Rattle.g_graph.specs.declared.op.Kind.{Kind}
@@ -34,11 +34,6 @@ inputs_of Get n rs = Io ∷ []
 inputs_of Gamma n rs = Value ∷ first_args rs
 inputs_of Theta n rs = first_args rs
 
--- what is at this place of a list, if anything
-abbrev pub at_place : {X : Type 0} → List X → ℕ → Option X
-at_place [] k = None
-at_place (x ∷ xs) k = if k == 0 then Some x else at_place xs (k - 1)
-
 abbrev pub joined : {X : Type 0} → Option (Option X) → Option X
 joined None = None
 joined (Some x) = x
@@ -46,30 +41,36 @@ joined (Some x) = x
 -- The kind of an origin, where the region has these arguments and the outputs of its nodes, by node and port, have
 -- these kinds: None where there is no such origin.
 abbrev pub kind_of : List Kind → (ℕ → ℕ → Option Kind) → Origin → Option Kind
-kind_of args outputs (Arg k) = at_place args k
+kind_of args outputs (Arg k) = slice_get args k
 kind_of args outputs (Out n p) = outputs n p
+
+-- the outputs of an op without regions
+abbrev pub row_outputs : Op → List Kind
+row_outputs (Const w) = Value ∷ []
+row_outputs Undef = Value ∷ []
+row_outputs (Local k) = Value ∷ []
+row_outputs (Delta k) = Value ∷ []
+row_outputs (Bin op) = Value ∷ []
+row_outputs (Un op) = Value ∷ []
+row_outputs (Load width) = Value ∷ []
+row_outputs (Store width) = Memory ∷ []
+row_outputs (Clear k) = Memory ∷ []
+row_outputs PtrEq = Value ∷ []
+row_outputs (Apply f) = Value ∷ Memory ∷ Io ∷ []
+row_outputs Put = Io ∷ []
+row_outputs Exit = Io ∷ []
+row_outputs Get = Value ∷ Io ∷ []
+row_outputs Gamma = []
+row_outputs Theta = []
 
 -- The outputs of an op with these regions, the results of a region, the outputs of a node, and the kind of an output by
 -- node and port after these nodes, where it had the kind `before`. Of nodes with one number the last counts.
 abbrev mutual
   pub outputs_of : Op → RegionTrees → List (Option Kind)
-  outputs_of (Const w) rs = Some Value ∷ []
-  outputs_of Undef rs = Some Value ∷ []
-  outputs_of (Local k) rs = Some Value ∷ []
-  outputs_of (Delta k) rs = Some Value ∷ []
-  outputs_of (Bin op) rs = Some Value ∷ []
-  outputs_of (Un op) rs = Some Value ∷ []
-  outputs_of (Load width) rs = Some Value ∷ []
-  outputs_of (Store width) rs = Some Memory ∷ []
-  outputs_of (Clear k) rs = Some Memory ∷ []
-  outputs_of PtrEq rs = Some Value ∷ []
-  outputs_of (Apply f) rs = Some Value ∷ Some Memory ∷ Some Io ∷ []
-  outputs_of Put rs = Some Io ∷ []
-  outputs_of Exit rs = Some Io ∷ []
-  outputs_of Get rs = Some Value ∷ Some Io ∷ []
   outputs_of Gamma no_regions = []
   outputs_of Gamma (region_then r rs) = result_kinds r
   outputs_of Theta rs = map Some (first_args rs)
+  outputs_of op rs = map Some (row_outputs op)
 
   pub result_kinds : RegionTree → List (Option Kind)
   result_kinds (region args nodes results) = map (kind_of args (λ n p. kind_after nodes n p None)) results
@@ -79,4 +80,4 @@ abbrev mutual
 
   pub kind_after : NodeTrees → (id : ℕ) → (port : ℕ) → (before : Option Kind) → Option Kind
   kind_after no_nodes n p before = before
-  kind_after (node_then x xs) n p before = kind_after xs n p (if id_of x == n then joined (at_place (output_kinds x) p) else before)
+  kind_after (node_then x xs) n p before = kind_after xs n p (if id_of x == n then joined (slice_get (output_kinds x) p) else before)
