@@ -1,0 +1,56 @@
+ghost use Rattle.std.specs.Prelude.{◌≡◌, length};
+ghost use Rattle.g_graph.specs.Rows.{outputs_of};
+ghost use Rattle.g_graph.specs.Plain.{regions_of};
+ghost use Rattle.g_graph.specs.Count.{saturated, region_values, node_values};
+
+use crate::{Lambda, Node, Op, Region};
+
+/// How many values the lambda has: one for each region, region argument, node, node output and region result, the body
+/// counted as a region; 2^64 - 1 where there are more. It takes no memory.
+pub fn values(lambda: &Lambda) -> u64
+    ensures { result ≡ saturated (region_values lambda.now.body) }
+{
+    values_of_region(&lambda.body)
+}
+
+#[cycle(values)]
+fn values_of_region(region: &Region) -> u64
+    ensures { result ≡ saturated (region_values region.now) }
+{
+    let mut total = (region.args.len() as u64)
+        .saturating_add(region.results.len() as u64)
+        .saturating_add(1);
+    for node in &region.nodes {
+        total = total.saturating_add(values_of_node(node));
+    }
+    total
+}
+
+#[cycle(values)]
+fn values_of_node(node: &Node) -> u64
+    ensures { result ≡ saturated (node_values node.now) }
+{
+    let mut total = (outputs(node.op, &node.regions) as u64).saturating_add(1);
+    for region in &node.regions {
+        total = total.saturating_add(values_of_region(region));
+    }
+    total
+}
+
+fn outputs(op: Op, regions: &[Region]) -> usize
+    ensures { result ≡ length (outputs_of op (regions_of regions.now)) }
+{
+    match op {
+        Op::Apply(_) => 3,
+        Op::Get => 2,
+        Op::Gamma => match regions.first() {
+            Some(region) => region.results.len(),
+            None => 0,
+        },
+        Op::Theta => match regions.first() {
+            Some(region) => region.args.len(),
+            None => 0,
+        },
+        _ => 1,
+    }
+}
