@@ -179,3 +179,49 @@ fn a_chain_of_512_jobs_is_finished_in_order(rt: HostRuntime) -> Result<(), Fail>
     assert_eq!(rt; claim_by(&mut board, 0, &mut out)?, Some(Claim::Done));
     Ok(())
 }
+
+// A board may go to another thread.
+fn send<T: Send>(_it: &T) {}
+
+fn send_board<W: Work>(board: &Board<W>) {
+    send(board);
+}
+
+#[test]
+fn a_board_without_jobs_is_done(rt: HostRuntime) -> Result<(), Fail> {
+    let alloc = rt.alloc();
+    let mut board = Board::open(alloc, &Numbers, &[], &[], 1)?;
+    send_board(&board);
+    let mut out = Vec::with_capacity(alloc, 512)?;
+    assert_eq!(rt; claim_by(&mut board, 0, &mut out)?, Some(Claim::Done));
+    assert!(rt; board.events().is_empty());
+    Ok(())
+}
+
+#[test]
+fn sixty_four_workers_finish_512_jobs_of_one_rank(rt: HostRuntime) -> Result<(), Fail> {
+    let alloc = rt.alloc();
+    let (mut ranks, mut deps) = (Vec::new(alloc), Vec::new(alloc));
+    for _ in 0..512u32 {
+        ranks.push(7)?;
+        deps.push(Vec::new(alloc))?;
+    }
+    assert!(rt; ranks.len() == 512 && deps.len() == 512);
+    let mut board = Board::open(alloc, &Numbers, ranks.as_slice(), deps.as_slice(), 64)?;
+    let mut out = Vec::with_capacity(alloc, 512)?;
+    for round in 0..8u32 {
+        for worker in 0..64u32 {
+            let job = round * 64 + worker;
+            assert_eq!(rt;
+                claim_by(&mut board, worker, &mut out)?,
+                Some(Claim::Job(job))
+            );
+        }
+        for worker in 0..64u32 {
+            assert!(rt; publish_by(alloc, &mut board, worker, round * 64 + worker)?);
+        }
+    }
+    assert_eq!(rt; claim_by(&mut board, 0, &mut out)?, Some(Claim::Done));
+    assert_eq!(rt; board.events().len(), 1024);
+    Ok(())
+}
