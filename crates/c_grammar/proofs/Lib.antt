@@ -1,0 +1,5 @@
+pub mod Bridges
+pub mod Checks
+pub mod Enumerations
+pub mod Follow
+pub mod Lists

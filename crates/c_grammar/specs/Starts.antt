@@ -61,8 +61,8 @@ begins_init k = begins_expr k || is (Mark mark.LBrace) k
 
 -- whether the token behind the next one begins a type name
 unfoldable pub typed : List Token → Bool
-typed (x ∷ y ∷ ts) = begins_type y.kind
-typed _ = false
+typed [] = false
+typed (x ∷ ts) = at begins_type (head ts)
 
 -- ---- what begins with the next token
 
