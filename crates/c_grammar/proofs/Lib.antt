@@ -3,3 +3,5 @@ pub mod Checks
 pub mod Enumerations
 pub mod Follow
 pub mod Lists
+pub mod Sound
+pub mod Trees

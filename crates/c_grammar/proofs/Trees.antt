@@ -1,0 +1,129 @@
+-- Trees that follow the grammar, by their parts.
+use Rattle.std.specs.Prelude.{◌≡◌, ◌⊎◌, ℕ, Bool, true, false, not, List, [], ◌∷◌, ◌++◌, Option, Some, None}
+use Rattle.std.proofs.Common.{refl, sym, ap, ◌∙◌, inl, inr, subst}
+use Rattle.std.proofs.lemmas.Bool.{not-true, not_from_false}
+use Rattle.c_lex.specs.declared.token.Token.{Token}
+use Rattle.c_lex.specs.declared.token.TokenKind.{TokenKind}
+use Rattle.c_ast.specs.Classes.{Class}
+use Rattle.c_ast.specs.Labels.{Label}
+use Rattle.c_ast.specs.Labels as label
+use Rattle.c_ast.specs.Terminals.{Terminal, is, Word}
+use Rattle.c_ast.specs.Tree.{Tree, Leaf, Node, Nil, Cons}
+use Rattle.c_ast.specs.Spelling.{spelled}
+use Rattle.c_ast.specs.Grammar.{Sym, T, N, Form, One, All, Fits, parts_of, production, allowed, waits, else_fits}
+use Rattle.c_grammar.specs.Starts.{at}
+use Rattle.c_grammar.proofs.Follow.{is_suffix, rest_of, ahead, is_else}
+
+-- ---- an `if` at the end
+
+pub waits_node : (l : Label) (f : Tree) → (l ≡ label.If → ⊥) → waits (Node l f) ≡ waits f
+unfolding waits
+waits_node label.If f n = absurd (n refl)
+waits_node l f n = refl
+
+pub waits_if : (f : Tree) → waits (Node label.If f) ≡ true
+unfolding waits
+waits_if f = refl
+
+pub waits_cons : (t f : Tree) → waits t ≡ false → waits f ≡ false → waits (Cons t f) ≡ false
+unfolding waits
+waits_cons t Nil h g = h
+waits_cons t f h g = g
+
+-- the last of several parts
+pub waits_last : (s : Sym) (syms : List Sym) (t f : Tree) → Fits (All (s ∷ syms)) f → waits (Cons t f) ≡ waits f
+unfolding waits Fits
+waits_last (T s) syms t Nil h = absurd h
+waits_last (N c) syms t Nil h = absurd h
+waits_last s syms t (Leaf x) h = refl
+waits_last s syms t (Node l f) h = refl
+waits_last s syms t (Cons u f) h = refl
+
+pub waits_alone : (t : Tree) → waits (Cons t Nil) ≡ waits t
+unfolding waits
+waits_alone t = refl
+
+pub waits_leaf : (x : Token) → waits (Leaf x) ≡ false
+unfolding waits
+waits_leaf x = refl
+
+pub waits_nil : waits Nil ≡ false
+unfolding waits
+waits_nil = refl
+
+pub else_fits_other : (l : Label) (f : Tree) → (l ≡ label.IfElse → ⊥) → else_fits l f ≡ true
+unfolding else_fits
+else_fits_other label.IfElse f n = absurd (n refl)
+else_fits_other l f n = refl
+
+pub else_fits_if : (l : Label) (f g : Tree) → waits f ≡ false → else_fits label.IfElse (Cons (Node l f) g) ≡ true
+unfolding else_fits
+else_fits_if l f g h = not_from_false (waits f) h
+
+pub else_fits_quiet : (l : Label) (f g : Tree) → else_fits label.IfElse (Cons (Node l f) g) ≡ true → waits f ≡ false
+unfolding else_fits
+else_fits_quiet l f g h = not-true (waits f) h
+
+-- the decision whether a label is that of an `if` with `else`
+pub is_if_else : (l : Label) → (l ≡ label.IfElse) ⊎ (l ≡ label.IfElse → ⊥)
+is_if_else label.IfElse = inl refl
+is_if_else l = inr (λ e. cc e)
+
+pub is_if : (l : Label) → (l ≡ label.If) ⊎ (l ≡ label.If → ⊥)
+is_if label.If = inl refl
+is_if l = inr (λ e. cc e)
+
+pub prefix_if_else : (l : Label) → is_suffix l ≡ false → l ≡ label.IfElse → ⊥
+unfolding is_suffix
+prefix_if_else label.IfElse s e = cc s
+prefix_if_else l s e = cc e
+
+-- ---- what fits
+
+pub fits_node : (c : Class) (l : Label) (f : Tree) → allowed c l ≡ true → else_fits l f ≡ true → Fits (All (parts_of l)) f → Fits (One c) (Node l f)
+unfolding Fits
+fits_node c l f a e h = (a, e, h)
+
+pub fits_allowed : (c : Class) (l : Label) (f : Tree) → Fits (One c) (Node l f) → allowed c l ≡ true
+unfolding Fits
+fits_allowed c l f h = h.0
+
+pub fits_else : (c : Class) (l : Label) (f : Tree) → Fits (One c) (Node l f) → else_fits l f ≡ true
+unfolding Fits
+fits_else c l f h = h.1
+
+pub fits_parts : (c : Class) (l : Label) (f : Tree) → Fits (One c) (Node l f) → Fits (All (parts_of l)) f
+unfolding Fits
+fits_parts c l f h = h.2
+
+pub fits_nil : Fits (All []) Nil
+unfolding Fits
+fits_nil = tt
+
+pub fits_leaf : (s : Terminal) (syms : List Sym) (x : Token) (f : Tree) → is s x.kind ≡ true → Fits (All syms) f → Fits (All (T s ∷ syms)) (Cons (Leaf x) f)
+unfolding Fits
+fits_leaf s syms x f i h = (i, h)
+
+pub fits_cons : (c : Class) (syms : List Sym) (t f : Tree) → Fits (One c) t → Fits (All syms) f → Fits (All (N c ∷ syms)) (Cons t f)
+unfolding Fits
+fits_cons c syms t f g h = (g, h)
+
+-- ---- what is spelled
+
+pub spelled_leaf : (x : Token) (k : List Token) → spelled (Leaf x) k ≡ x ∷ k
+unfolding spelled
+spelled_leaf x k = refl
+
+pub spelled_node : (l : Label) (f : Tree) (k : List Token) → spelled (Node l f) k ≡ spelled f k
+unfolding spelled
+spelled_node l f k = refl
+
+pub spelled_cons : (t f : Tree) (k : List Token) → spelled (Cons t f) k ≡ spelled t (spelled f k)
+unfolding spelled
+spelled_cons t f k = refl
+
+-- the token behind an `if` with which it goes on
+pub else_ahead : (h : Option TokenKind) → at (ahead (rest_of label.IfElse)) h ≡ is_else h
+unfolding rest_of is_suffix parts_of production ahead
+else_ahead None = refl
+else_ahead (Some k) = refl
