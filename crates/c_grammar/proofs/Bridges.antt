@@ -11,10 +11,10 @@ use Rattle.c_lex.specs.declared.token.TokenKind.TheVariants as kind
 use Rattle.c_ast.specs.Terminals.{Terminal, is}
 use Rattle.c_ast.specs.Grammar.{Sym, T, N, parts_of, allowed}
 use Rattle.c_grammar.specs.Starts.{at, start, next, begins_type}
-use Rattle.c_grammar.proofs.Lists.{In, all_in, all_kept, in_kept, or_cases, conj2, conj3, conj5, kept}
+use Rattle.c_grammar.proofs.Lists.{In, all_in, all_kept, in_kept, or_cases, both_true, left_or, right_or, refuted, conj2, conj3, conj5, kept}
 use Rattle.c_grammar.proofs.Enumerations.{Payload, same_if_else, kinds, heads, labels, classes, payload, head_payload, same_label, kind_in, head_in, flag_in, label_in, class_in, same_label-true}
 use Rattle.c_grammar.proofs.Follow.{first_class, without_front, is_suffix, front, rest_of, is_read, is_nullable, all_nullable, begins, ahead, follows_kind, follows, is_else, ends, rank}
-use Rattle.c_grammar.proofs.Checks.{good_start, good_next, sits, good_begin, begins_checked, good_look, takes_it, same_choice, looks_checked, good_ranks, ranks_checked, stops, is_choice, alternatives, suffixes, read_classes, flags, good_row, is_class, starts_checked, nexts_checked, stops_checked, chosen_checked, inner_checked, ends_checked, before_checked, rows_checked, firsts_checked, nonempty_checked, tails_checked, goes, ifs_checked}
+use Rattle.c_grammar.proofs.Checks.{good_start, good_next, sits, good_begin, begins_checked, good_look, takes_it, same_choice, looks_checked, good_ranks, ranks_checked, stops, is_choice, alternatives, suffixes, read_classes, flags, good_row, is_class, starts_checked, nexts_checked, stops_checked, chosen_checked, inner_checked, ends_checked, before_checked, rows_checked, firsts_checked, nonempty_checked, tails_checked, goes, ifs_checked, elses_checked}
 
 label_among : (c : Class) (l : Label) → allowed c l ≡ true → In l (alternatives c)
 label_among c l a = in_kept (allowed c) l labels a (label_in l)
@@ -149,6 +149,12 @@ if_is c h r a e =
     (all_kept (λ h. goes (next c label.If h)) is_else h (heads (head_payload h)) (head_in h) e
     (all_kept (λ c. list_all (λ h. goes (next c label.If h)) (kept is_else (heads (head_payload h)))) (λ c. allowed c label.If) c read_classes (class_among c r) a (ifs_checked (head_payload h))))
 
+pub else_is : (n : Label) (k : TokenKind) → is_suffix n ≡ true → ahead (rest_of n) k ≡ true → is_else (Some k) ≡ true → n ≡ label.IfElse
+else_is n k s f e =
+    same_label-true n label.IfElse (either (is_else (Some k)) (same_label n label.IfElse)
+    (all_kept (λ k. not (is_else (Some k)) || same_label n label.IfElse) (ahead (rest_of n)) k (kinds (payload k)) (kind_in k) f
+    (all_kept (λ n. list_all (λ k. not (is_else (Some k)) || same_label n label.IfElse) (kept (ahead (rest_of n)) (kinds (payload k)))) is_suffix n labels (label_in n) s (elses_checked (payload k)))) e)
+
 -- ---- ends
 
 pub ends_is : (c : Class) (l : Label) (h : Option TokenKind) → is_read c ≡ true → allowed c l ≡ true → follows c h ≡ true → ends (rest_of l) h ≡ true
@@ -265,3 +271,25 @@ rank_low c r = leb-true (rank c) 10 (ranks_of c r).0
 
 pub ranks_are : (c : Class) (l : Label) → is_read c ≡ true → allowed c l ≡ true → good_ranks (rank c) (rest_of l) ≡ true
 ranks_are c l r a = all_in (λ l. good_ranks (rank c) (rest_of l)) l (alternatives c) (label_among c l a) (ranks_of c r).1
+
+-- ---- what may stand behind a tree
+
+-- what may follow the class, or what goes on behind the label
+pub Sits : Class → Label → Option TokenKind → Type 0
+Sits c l h =
+    (follows c h ≡ true) ⊎ ((n : Label) × (allowed c n ≡ true) × (is_suffix n ≡ true) × (allowed (front n) l ≡ true) × (at (ahead (rest_of n)) h ≡ true))
+
+pub sits_from : (c : Class) (l : Label) (h : Option TokenKind) → Sits c l h → sits c l h ≡ true
+unfolding Sits
+sits_from c l h (inl f) = left_or (follows c h) (not (list_all (λ n. not (allowed (front n) l && at (ahead (rest_of n)) h)) (suffixes c))) f
+sits_from c l h (inr g) =
+    right_or (follows c h) (not (list_all (λ n. not (allowed (front n) l && at (ahead (rest_of n)) h)) (suffixes c)))
+    (refuted (list_all (λ n. not (allowed (front n) l && at (ahead (rest_of n)) h)) (suffixes c))
+    (λ a. let no_one = all_in (λ n. not (allowed (front n) l && at (ahead (rest_of n)) h)) g.0 (suffixes c) (suffix_among c g.0 g.1 g.2) a in
+    cc (not-true (allowed (front g.0) l && at (ahead (rest_of g.0)) h) no_one, both_true (allowed (front g.0) l) (at (ahead (rest_of g.0)) h) g.3 g.4)))
+
+pub sits_ends : (c : Class) (l : Label) (h : Option TokenKind) → is_read c ≡ true → allowed c l ≡ true → Sits c l h → ends (rest_of l) h ≡ true
+unfolding Sits
+sits_ends c l h r a (inl f) = ends_is c l h r a f
+sits_ends c l None r a (inr g) = absurd (cc g.4)
+sits_ends c l (Some k) r a (inr g) = before_is l g.0 k g.2 g.4 g.3

@@ -171,3 +171,8 @@ goes (Some n) = true
 pub ifs_checked : (y : Payload) → list_all (λ c. list_all (λ h. goes (next c label.If h)) (kept is_else (heads y))) (kept (λ c. allowed c label.If) read_classes) ≡ true
 unfolding production parts_of allowed includes class_number level_number repeated_number optional_number same_class repeated optional tighter is word_number mark_number is_of_level operator_level is_assign_mark is_unary_mark is_step_mark begins_base begins_type begins_external begins_expr begins_init word_stmt stmt item base plain_spec spec external behind_tag group_label parenthesis operand_mark operand initialiser begins_optional start begins_repeated mark_suffix suffix left operation operand_next init_next stmt_next next is_suffix front rest_of is_read is_nullable all_nullable begins ahead follows_kind follows ends rank label_number same_label
 ifs_checked y = refl
+
+-- Only an `if` goes on with an `else`.
+pub elses_checked : (y : Payload) → list_all (λ n. list_all (λ k. not (is_else (Some k)) || same_label n label.IfElse) (kept (ahead (rest_of n)) (kinds y))) (kept is_suffix labels) ≡ true
+unfolding production parts_of allowed includes class_number level_number repeated_number optional_number same_class repeated optional tighter is word_number mark_number is_of_level operator_level is_assign_mark is_unary_mark is_step_mark begins_base begins_type begins_external begins_expr begins_init word_stmt stmt item base plain_spec spec external behind_tag group_label parenthesis operand_mark operand initialiser begins_optional start begins_repeated mark_suffix suffix left operation operand_next init_next stmt_next next is_suffix front rest_of is_read is_nullable all_nullable begins ahead follows_kind follows ends rank label_number same_label
+elses_checked y = refl

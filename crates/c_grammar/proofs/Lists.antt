@@ -1,5 +1,5 @@
 -- Checks over lists.
-use Rattle.std.specs.Prelude.{◌≡◌, ◌⊎◌, ℕ, zero, suc, Bool, true, false, ◌&&◌, ◌||◌, List, [], ◌∷◌, map}
+use Rattle.std.specs.Prelude.{◌≡◌, ◌⊎◌, ℕ, zero, suc, Bool, true, false, not, ◌&&◌, ◌||◌, List, [], ◌∷◌, map}
 use Rattle.std.specs.List.{list_all}
 use Rattle.std.proofs.Common.{refl, ap, inl, inr, sym, ◌∙◌}
 
@@ -78,3 +78,17 @@ conj5 a b c d e h =
     let g = and_left (a && b && c) d f in
     let i = and_left (a && b) c g in
     (and_left a b i, and_right a b i, and_right (a && b) c g, and_right (a && b && c) d f, and_right (a && b && c && d) e h)
+
+pub both_true : (a b : Bool) → a ≡ true → b ≡ true → (a && b) ≡ true
+both_true a b h g = rw (h, g) refl
+
+pub left_or : (a b : Bool) → a ≡ true → (a || b) ≡ true
+left_or a b h = rw h refl
+
+pub right_or : (a b : Bool) → b ≡ true → (a || b) ≡ true
+right_or true b h = refl
+right_or false b h = h
+
+pub refuted : (a : Bool) → (a ≡ true → ⊥) → not a ≡ true
+refuted true h = absurd (h refl)
+refuted false h = refl
