@@ -171,7 +171,7 @@ before_is l n k s f b =
 
 -- ---- rows
 
-pub Row : List Sym → Type 0
+unfoldable pub Row : List Sym → Type 0
 Row syms = (y : Payload) → good_row y syms ≡ true
 
 pub row_is : (l : Label) → Row (rest_of l)
@@ -275,7 +275,7 @@ ranks_are c l r a = all_in (λ l. good_ranks (rank c) (rest_of l)) l (alternativ
 -- ---- what may stand behind a tree
 
 -- what may follow the class, or what goes on behind the label
-pub Sits : Class → Label → Option TokenKind → Type 0
+unfoldable pub Sits : Class → Label → Option TokenKind → Type 0
 Sits c l h =
     (follows c h ≡ true) ⊎ ((n : Label) × (allowed c n ≡ true) × (is_suffix n ≡ true) × (allowed (front n) l ≡ true) × (at (ahead (rest_of n)) h ≡ true))
 

@@ -30,7 +30,7 @@ empty_form (One c) = is_nullable c
 empty_form (All syms) = all_nullable syms
 
 -- It is empty, or begins with a token of these.
-pub Opens : (TokenKind → Bool) → Bool → Tree → Type 0
+unfoldable pub Opens : (TokenKind → Bool) → Bool → Tree → Type 0
 Opens p e t =
     ((e ≡ true) × ((j : List Token) → spelled t j ≡ j)) ⊎ ((x : Token) × (s : List Token) × (p x.kind ≡ true) × ((j : List Token) → spelled t j ≡ x ∷ (s ++ j)))
 

@@ -1,5 +1,6 @@
 pub mod Bridges
 pub mod Checks
+pub mod Complete
 pub mod Enumerations
 pub mod Firsts
 pub mod Follow

@@ -127,3 +127,77 @@ pub else_ahead : (h : Option TokenKind) → at (ahead (rest_of label.IfElse)) h 
 unfolding rest_of is_suffix parts_of production ahead
 else_ahead None = refl
 else_ahead (Some k) = refl
+
+-- ---- what the parts of a production are
+
+pub nil_is : (f : Tree) → Fits (All []) f → f ≡ Nil
+unfolding Fits
+nil_is Nil h = refl
+nil_is (Leaf x) h = absurd h
+nil_is (Node l f) h = absurd h
+nil_is (Cons t f) h = absurd h
+
+pub record LeafFirst (s : Terminal) (syms : List Sym) (f : Tree) : Type 0 where
+  pub token : Token
+  pub others : Tree
+  pub is_so : Cons (Leaf token) others ≡ f
+  pub stands_for : is s token.kind ≡ true
+  pub fits : Fits (All syms) others
+
+pub leaf_is : (s : Terminal) (syms : List Sym) (f : Tree) → Fits (All (T s ∷ syms)) f → LeafFirst s syms f
+unfolding Fits
+leaf_is s syms (Cons (Leaf x) f) h = record { token = x; others = f; is_so = refl; stands_for = h.0; fits = h.1 }
+leaf_is s syms (Cons Nil f) h = absurd h
+leaf_is s syms (Cons (Node l g) f) h = absurd h
+leaf_is s syms (Cons (Cons t g) f) h = absurd h
+leaf_is s syms (Leaf x) h = absurd h
+leaf_is s syms (Node l f) h = absurd h
+leaf_is s syms Nil h = absurd h
+
+pub record ClassFirst (c : Class) (syms : List Sym) (f : Tree) : Type 0 where
+  pub tree : Tree
+  pub others : Tree
+  pub is_so : Cons tree others ≡ f
+  pub fits : Fits (One c) tree
+  pub fits_others : Fits (All syms) others
+
+pub class_is : (c : Class) (syms : List Sym) (f : Tree) → Fits (All (N c ∷ syms)) f → ClassFirst c syms f
+unfolding Fits
+class_is c syms (Cons t f) h = record { tree = t; others = f; is_so = refl; fits = h.0; fits_others = h.1 }
+class_is c syms (Leaf x) h = absurd h
+class_is c syms (Node l f) h = absurd h
+class_is c syms Nil h = absurd h
+
+pub record NodeOf (c : Class) (t : Tree) : Type 0 where
+  pub label : Label
+  pub parts : Tree
+  pub is_so : Node label parts ≡ t
+  pub fits : Fits (One c) (Node label parts)
+
+pub node_is : (c : Class) (t : Tree) → Fits (One c) t → NodeOf c t
+unfolding Fits
+node_is c (Node l f) h = record { label = l; parts = f; is_so = refl; fits = h }
+node_is c (Leaf x) h = absurd h
+node_is c Nil h = absurd h
+node_is c (Cons t f) h = absurd h
+
+pub cons_not_nil : (s : Sym) (syms : List Sym) → Fits (All (s ∷ syms)) Nil → ⊥
+unfolding Fits
+cons_not_nil (T s) syms h = h
+cons_not_nil (N c) syms h = h
+
+pub cons_not_empty : (t f : Tree) → Fits (All []) (Cons t f) → ⊥
+unfolding Fits
+cons_not_empty t f h = h
+
+pub not_leaf : (syms : List Sym) (x : Token) → Fits (All syms) (Leaf x) → ⊥
+unfolding Fits
+not_leaf [] x h = h
+not_leaf (T s ∷ syms) x h = h
+not_leaf (N c ∷ syms) x h = h
+
+pub not_node : (syms : List Sym) (l : Label) (f : Tree) → Fits (All syms) (Node l f) → ⊥
+unfolding Fits
+not_node [] l f h = h
+not_node (T s ∷ syms) l f h = h
+not_node (N c ∷ syms) l f h = h
