@@ -5,5 +5,7 @@ pub mod Enumerations
 pub mod Firsts
 pub mod Follow
 pub mod Lists
+pub mod Local
+pub mod Small
 pub mod Sound
 pub mod Trees
