@@ -6,6 +6,8 @@ pub mod Firsts
 pub mod Follow
 pub mod Lists
 pub mod Local
+pub mod Samples
 pub mod Small
 pub mod Sound
 pub mod Trees
+pub mod Viable

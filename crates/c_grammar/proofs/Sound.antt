@@ -49,7 +49,7 @@ token_leaf : (s : Terminal) (x : Token) (ts : List Token) (t : Tree) (k : List T
 token_leaf s x ts t k true e h = (e, cc, cc)
 token_leaf s x ts t k false e h = absurd (cc h)
 
-token_sound : (s : Terminal) (syms : List Sym) (ts : List Token) (t : Tree) (k : List Token) (f : Tree) (j : List Token) → token s ts ≡ Done t k → GotParts syms k f j → GotParts (T s ∷ syms) ts (Cons t f) j
+pub token_sound : (s : Terminal) (syms : List Sym) (ts : List Token) (t : Tree) (k : List Token) (f : Tree) (j : List Token) → token s ts ≡ Done t k → GotParts syms k f j → GotParts (T s ∷ syms) ts (Cons t f) j
 unfolding token spelled
 token_sound s syms [] t k f j e g = absurd (cc e)
 token_sound s syms (x ∷ ts) t k f j e g =
@@ -133,15 +133,21 @@ unfolding all_nullable
 waits_filled [] t g n h = absurd (cc n)
 waits_filled (s ∷ syms) t g n h = waits_last s syms t g h
 
-later_stands : (c : Class) (l n : Label) (f g : Tree) (ts k : List Token) → Stands c l f ts → next c l (head ts) ≡ Some n → GotParts (drop 1 (parts_of n)) ts g k → Stands c n (Cons (Node l f) g) k
+pub later_fits : (c : Class) (l n : Label) (f g : Tree) (ts : List Token) → Stands c l f ts → next c l (head ts) ≡ Some n → Fits (All (drop 1 (parts_of n))) g → Fits (One c) (Node n (Cons (Node l f) g))
+later_fits c l n f g ts s e h =
+    let on = next_is c l (head ts) n s.read (fits_allowed c l f s.fits) e in
+    let rest : Fits (All (rest_of n)) g = subst (λ (syms : List Sym). Fits (All syms) g) (drop_front n on.suffix) h in
+    let before : Fits (One (front n)) (Node l f) = fits_node (front n) l f on.behind (fits_else c l f s.fits) (fits_parts c l f s.fits) in
+    fits_node c n (Cons (Node l f) g) on.inside (nearest l n f g ts c on s.quiet)
+    (subst (λ (syms : List Sym). Fits (All syms) (Cons (Node l f) g)) (sym (front_is n on.suffix)) (fits_cons (front n) (rest_of n) (Node l f) g before rest))
+
+pub later_stands : (c : Class) (l n : Label) (f g : Tree) (ts k : List Token) → Stands c l f ts → next c l (head ts) ≡ Some n → GotParts (drop 1 (parts_of n)) ts g k → Stands c n (Cons (Node l f) g) k
 later_stands c l n f g ts k s e h =
     let on = next_is c l (head ts) n s.read (fits_allowed c l f s.fits) e in
     let rest : Fits (All (rest_of n)) g = subst (λ (syms : List Sym). Fits (All syms) g) (drop_front n on.suffix) h.fits in
-    let before : Fits (One (front n)) (Node l f) = fits_node (front n) l f on.behind (fits_else c l f s.fits) (fits_parts c l f s.fits) in
     record {
       read = s.read;
-      fits = fits_node c n (Cons (Node l f) g) on.inside (nearest l n f g ts c on s.quiet)
-          (subst (λ (syms : List Sym). Fits (All syms) (Cons (Node l f) g)) (sym (front_is n on.suffix)) (fits_cons (front n) (rest_of n) (Node l f) g before rest));
+      fits = later_fits c l n f g ts s e h.fits;
       quiet = λ x. waits_filled (rest_of n) (Node l f) g (rest_filled n on.suffix) rest ∙ h.quiet x;
     }
 
@@ -184,7 +190,7 @@ pub record Begun (c : Class) (ts : List Token) (t : Tree) (k : List Token) : Typ
   pub stands : Stands c label parts k
   pub spells : ts ≡ spelled parts k
 
-begun_sound : (rd : Class → List Token → Out) → Sound rd → (c : Class) (ts : List Token) (t : Tree) (k : List Token) (o : Option Label) → start c (head ts) (typed ts) ≡ o → begun rd o ts ≡ Done t k → Begun c ts t k
+pub begun_sound : (rd : Class → List Token → Out) → Sound rd → (c : Class) (ts : List Token) (t : Tree) (k : List Token) (o : Option Label) → start c (head ts) (typed ts) ≡ o → begun rd o ts ≡ Done t k → Begun c ts t k
 unfolding begun
 begun_sound rd sound c ts t k None e h = absurd (cc h)
 begun_sound rd sound c ts t k (Some l) e h =
