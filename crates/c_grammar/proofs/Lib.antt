@@ -1,6 +1,7 @@
 pub mod Bridges
 pub mod Checks
 pub mod Complete
+pub mod Enough
 pub mod Enumerations
 pub mod Firsts
 pub mod Follow

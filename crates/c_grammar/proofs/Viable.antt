@@ -89,7 +89,7 @@ first_read s syms ts t j k e fits v =
       spells = spelled_cons t v.tree [] ∙ spelled_append t (spelled v.tree []) ∙ ap (λ z. spelled t [] ++ z) v.spells ∙ sym (append_assoc (spelled t []) v.before v.more);
     }
 
-token_done : (s : Terminal) (ts : List Token) (t : Tree) (k : List Token) → token s ts ≡ Done t k → (x : Token) × (is s x.kind ≡ true) × (t ≡ Leaf x) × (ts ≡ x ∷ k)
+pub token_done : (s : Terminal) (ts : List Token) (t : Tree) (k : List Token) → token s ts ≡ Done t k → (x : Token) × (is s x.kind ≡ true) × (t ≡ Leaf x) × (ts ≡ x ∷ k)
 unfolding token
 token_done s [] t k e = absurd (cc e)
 token_done s (x ∷ ts) t k e = go (is s x.kind) refl e
