@@ -1,5 +1,5 @@
 -- Every tree that follows the grammar is read again from what it spells.
-use Rattle.std.specs.Prelude.{◌≡◌, ◌⊎◌, ℕ, zero, suc, Bool, true, false, not, ◌&&◌, ◌||◌, List, [], ◌∷◌, ◌++◌, drop, Option, Some, None, if◌then◌else◌}
+use Rattle.std.specs.Prelude.{◌≡◌, ◌⊎◌, ℕ, zero, suc, Bool, true, false, not, ◌&&◌, ◌||◌, List, [], ◌∷◌, ◌++◌, Option, Some, None}
 use Rattle.std.proofs.Common.{refl, sym, ap, ◌∙◌, inl, inr, subst}
 use Rattle.std.proofs.lemmas.Bool.{not-true}
 use Rattle.c_lex.specs.declared.token.Token.{Token}
@@ -10,13 +10,13 @@ use Rattle.c_ast.specs.Labels as label
 use Rattle.c_ast.specs.Terminals.{Terminal, is}
 use Rattle.c_ast.specs.Tree.{Tree, Leaf, Node, Nil, Cons}
 use Rattle.c_ast.specs.Spelling.{spelled}
-use Rattle.c_ast.specs.Grammar.{Sym, T, N, Form, One, All, Fits, parts_of, allowed, waits, else_fits}
+use Rattle.c_ast.specs.Grammar.{Sym, T, N, One, All, Fits, parts_of, allowed, waits, else_fits}
 use Rattle.c_grammar.specs.Starts.{at, begins_type, head, typed, start, next}
-use Rattle.c_grammar.specs.Reader.{Out, Done, Fail, Deep, and_then, label_of, token, one, parts, begun, first, later, goes_on, turns, step, read}
+use Rattle.c_grammar.specs.Reader.{Out, Done, Deep, and_then, label_of, token, one, parts, begun, first, later, goes_on, turns, step, read}
 use Rattle.c_grammar.proofs.Lists.{and_left, and_right, or_cases, left_or, right_or}
 use Rattle.c_grammar.proofs.Follow.{is_suffix, front, rest_of, is_read, all_nullable, ahead, follows, is_else, is_last, ends}
 use Rattle.c_grammar.proofs.Bridges.{Row, Sits, row_is, row_token, row_read, row_rest, row_follows, sits_from, sits_ends, next_stops, next_chosen, inner_is, else_is, begins_empty, begins_token, begins_class, begins_filled, front_is, rest_is, drop_front, rest_filled}
-use Rattle.c_grammar.proofs.Trees.{waits_node, waits_if, waits_alone, waits_last, is_if, NodeOf, nil_is, leaf_is, node_is, cons_not_nil, cons_not_empty, not_leaf, not_node, else_fits_quiet, fits_node, fits_allowed, fits_else, fits_parts, spelled_leaf, spelled_node, spelled_cons}
+use Rattle.c_grammar.proofs.Trees.{waits_node, waits_if, waits_alone, is_if, NodeOf, nil_is, leaf_is, node_is, cons_not_nil, cons_not_empty, not_leaf, not_node, else_fits_quiet, fits_node, fits_allowed, fits_else, fits_parts}
 use Rattle.c_grammar.proofs.Firsts.{Opens, opens, begins_form, empty_form}
 use Rattle.c_grammar.proofs.Sound.{waits_filled}
 
@@ -104,8 +104,10 @@ read_whole (suc n) c t j h again r f q =
   where
     g : NodeOf c t
     g = node_is c t h
+
     stop : next c g.label (head j) ≡ None
     stop = finished c g.label g.parts j r (fits_allowed c g.label g.parts g.fits) f (λ x. ap waits g.is_so ∙ q x)
+
     go : Reaches n c t j → Reads (step n (read n) c (spelled t j)) t j
     go (inl e) = inr e
     go (inr e) = subst (λ (o : Out). Reads o t j) (sym e.1) (subst (λ (t : Tree). Reads (turns (read n) e.0 c t j) t j) g.is_so (turned n e.0 c g.label g.parts j stop))
@@ -119,8 +121,10 @@ prefix_reaches n c l f j rows h r s i q =
   where
     a : allowed c l ≡ true
     a = fits_allowed c l f h
+
     begins : step n (read n) c (spelled (Node l f) j) ≡ and_then (and_then (parts (read n) (parts_of l) (spelled f j)) (λ f k. Done (Node l f) k)) (turns (read n) (suc n) c)
     begins = ap (λ o. and_then (begun (read n) o (spelled f j)) (turns (read n) (suc n) c)) (start_chosen c l f j r a s i (parts_of l) refl (fits_parts c l f h))
+
     go : Reads (parts (read n) (parts_of l) (spelled f j)) f j → Reaches n c (Node l f) j
     go (inl e) = inr (suc n, begins ∙ ap (λ (o : Out). and_then (and_then o (λ f k. Done (Node l f) k)) (turns (read n) (suc n) c)) e)
     go (inr e) = inl (begins ∙ ap (λ (o : Out). and_then (and_then o (λ f k. Done (Node l f) k)) (turns (read n) (suc n) c)) e)
@@ -148,6 +152,7 @@ behind_front n c l k f g j x more whole h e r a s o q =
   where
     b : allowed (front l) k ≡ true
     b = fits_allowed (front l) k f h
+
     quiet : is_else (Some x.kind) ≡ true → waits f ≡ false
     quiet z = else_fits_quiet k f g (subst (λ (l : Label). else_fits l (Cons (Node k f) g) ≡ true) (else_is l x.kind s o z) e)
 
@@ -157,8 +162,10 @@ suffix_reaches n c l k f g j whole rows h hf hr r s i q = go (opens g (All (rest
   where
     a : allowed c l ≡ true
     a = fits_allowed c l (Cons (Node k f) g) h
+
     rest : Reads (parts (read n) (rest_of l) (spelled g j)) g j
     rest = rows (rest_of l) hr n j (row_is l) (sits_ends c l (head j) r a i) (λ x. sym (waits_filled (rest_of l) (Node k f) g (rest_filled l s) hr) ∙ q x)
+
     joins : Reaches n c (Node k f) (spelled g j) → ((m : ℕ) → (turns (read n) m c (Node k f) (spelled g j) ≡ Deep) ⊎ ((i : ℕ) × (turns (read n) m c (Node k f) (spelled g j) ≡ turns (read n) i c (Node l (Cons (Node k f) g)) j))) → Reaches n c (Node l (Cons (Node k f) g)) j
     joins (inl e) t = inl e
     joins (inr e) t = onward (t e.0)
@@ -166,6 +173,7 @@ suffix_reaches n c l k f g j whole rows h hf hr r s i q = go (opens g (All (rest
         onward : (turns (read n) e.0 c (Node k f) (spelled g j) ≡ Deep) ⊎ ((i : ℕ) × (turns (read n) e.0 c (Node k f) (spelled g j) ≡ turns (read n) i c (Node l (Cons (Node k f) g)) j)) → Reaches n c (Node l (Cons (Node k f) g)) j
         onward (inl d) = inl (e.1 ∙ d)
         onward (inr d) = inr (d.0, e.1 ∙ d.1)
+
     go : Opens (ahead (rest_of l)) (all_nullable (rest_of l)) g → Reaches n c (Node l (Cons (Node k f) g)) j
     go (inl o) = absurd (cc (o.0, rest_filled l s))
     go (inr o) =
@@ -198,6 +206,7 @@ ends_class c syms h e =
   where
     inside : all_nullable syms ≡ true → (follows c h && (is_last syms || not (is_else h))) ≡ true
     inside n = subst (λ b. (not b || (follows c h && (is_last syms || not (is_else h)))) ≡ true) n (and_right (ends syms h) (not (all_nullable syms) || (follows c h && (is_last syms || not (is_else h)))) e)
+
     sides : (is_last syms ≡ true) ⊎ (not (is_else h) ≡ true) → (is_last syms ≡ true) ⊎ (is_else h ≡ false)
     sides (inl l) = inl l
     sides (inr m) = inr (not-true (is_else h) m)
@@ -209,9 +218,11 @@ class_follows c syms t g j row e q h = go (opens g (All syms) h)
     last : (syms : List Sym) → Fits (All syms) g → is_last syms ≡ true → is_else (head j) ≡ true → waits t ≡ false
     last [] h l x = sym (waits_alone t) ∙ subst (λ (g : Tree). waits (Cons t g) ≡ false) (nil_is g h) (q x)
     last (s ∷ syms) h l x = absurd (cc l)
+
     either : is_else (head j) ≡ true → (is_last syms ≡ true) ⊎ (is_else (head j) ≡ false) → waits t ≡ false
     either x (inl l) = last syms h l x
     either x (inr o) = absurd (cc (x, o))
+
     go : Opens (ahead syms) (all_nullable syms) g → (follows c (head (spelled g j)) ≡ true) × (is_else (head (spelled g j)) ≡ true → waits t ≡ false)
     go (inl o) =
         subst (λ (ts : List Token). (follows c (head ts) ≡ true) × (is_else (head ts) ≡ true → waits t ≡ false)) (sym (o.1 j))
@@ -273,10 +284,13 @@ node_whole l f rows inner c k g same h n j r i q = go f (is_suffix l) refl rows 
   where
     label_same : k ≡ l
     label_same = cc same
+
     parts_same : g ≡ f
     parts_same = cc same
+
     fits_front : (f : Tree) → is_suffix l ≡ true → Fits (One c) (Node l f) → Fits (All (N (front l) ∷ rest_of l)) f
     fits_front f s h = subst (λ (syms : List Sym). Fits (All syms) f) (front_is l s) (fits_parts c l f h)
+
     go : (f : Tree) (b : Bool) → is_suffix l ≡ b → Rows f → Inner f → Fits (One c) (Node l f) → Sits c l (head j) → Settled f j → Reaches n c (Node l f) j
     go f false s rows inner h i q = prefix_reaches n c l f j rows h r s i q
     go (Cons (Node k f) g) true s rows inner h i q =

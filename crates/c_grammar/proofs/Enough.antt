@@ -1,12 +1,12 @@
 -- A bound that is a multiple of the number of tokens is never passed.
-use Rattle.std.specs.Prelude.{◌≡◌, ◌⊎◌, ℕ, zero, suc, ◌+◌, ◌*◌, ◌<◌, ◌≤◌, Bool, true, false, ◌&&◌, List, [], ◌∷◌, ◌++◌, length, drop, Option, Some, None, if◌then◌else◌, nat_lt}
+use Rattle.std.specs.Prelude.{◌≡◌, ◌⊎◌, ℕ, zero, suc, ◌+◌, ◌*◌, ◌<◌, ◌≤◌, Bool, true, false, List, [], ◌∷◌, length, drop, Option, Some, None, if◌then◌else◌, nat_lt}
 use Rattle.std.proofs.Common.{refl, sym, ap, ◌∙◌, inl, inr, subst, arith, length-append}
 use Rattle.std.proofs.lemmas.Bool.{ltb-true}
 use Rattle.c_lex.specs.declared.token.Token.{Token}
 use Rattle.c_ast.specs.Classes.{Class}
 use Rattle.c_ast.specs.Labels.{Label}
 use Rattle.c_ast.specs.Terminals.{Terminal, is}
-use Rattle.c_ast.specs.Tree.{Tree, Leaf, Node, Nil, Cons}
+use Rattle.c_ast.specs.Tree.{Tree, Leaf, Node, Cons}
 use Rattle.c_ast.specs.Spelling.{spelled}
 use Rattle.c_ast.specs.Grammar.{Sym, T, N, All, Fits, parts_of}
 use Rattle.c_grammar.specs.Starts.{head, typed, start, next}
@@ -18,7 +18,7 @@ use Rattle.c_grammar.proofs.Bridges.{Row, row_is, row_token, row_read, row_rest,
 use Rattle.c_grammar.proofs.Trees.{fits_allowed}
 use Rattle.c_grammar.proofs.Firsts.{Opens, opens, begins_form, empty_form}
 use Rattle.c_grammar.proofs.Small.{Small, begun_small, read_small}
-use Rattle.c_grammar.proofs.Sound.{GotParts, Stands, both, parts_sound, later_stands, begun_sound, read_sound}
+use Rattle.c_grammar.proofs.Sound.{Stands, both, parts_sound, later_stands, begun_sound, read_sound}
 use Rattle.c_grammar.proofs.Viable.{token_done}
 
 -- where a sequence is too deep, its first part is, or what comes then
@@ -74,6 +74,7 @@ parts_enough n enough (N c ∷ syms) row ts h e =
   where
     low : rank c ≤ 10
     low = rank_low c (row_read c syms row)
+
     go : (read n c ts ≡ Deep) ⊎ DeepThen (read n c ts) (λ t k. and_then (parts (read n) syms k) (λ f j. Done (Cons t f) j)) → ((ts : List Token) → 16 * length ts + 16 ≤ n → parts (read n) syms ts ≡ Deep → ⊥) → ⊥
     go (inl g) again = enough c ts (row_read c syms row) (omega (arith, low)) g
     go (inr g) again = inside (deep (parts (read n) syms g.left) (λ f j. Done (Cons g.tree f) j) g.then_is)
@@ -103,6 +104,7 @@ parts_fresh n r enough (N c ∷ syms) row ranks ts h e =
   where
     lower : rank c < r
     lower = ltb-true (rank c) r (and_left (nat_lt (rank c) r) (good_ranks r syms) ranks)
+
     go : (read n c ts ≡ Deep) ⊎ DeepThen (read n c ts) (λ t k. and_then (parts (read n) syms k) (λ f j. Done (Cons t f) j)) → ((ts : List Token) → 16 * length ts + r ≤ n → parts (read n) syms ts ≡ Deep → ⊥) → ⊥
     go (inl g) again = enough c ts (row_read c syms row) (omega (arith, lower)) g
     go (inr g) again = inside (deep (parts (read n) syms g.left) (λ f j. Done (Cons g.tree f) j) g.then_is)
@@ -133,6 +135,7 @@ goes_on_enough n m c enough again l f ts s b h (Some k) e i = go (deep (later (r
   where
     on : GoesOn c l (head ts) k
     on = next_is c l (head ts) k s.read (fits_allowed c l f s.fits) e
+
     go : (later (read n) k (Node l f) ts ≡ Deep) ⊎ DeepThen (later (read n) k (Node l f) ts) (turns (read n) m c) → ⊥
     go (inl g) = inside (deep (parts (read n) (drop 1 (parts_of k)) ts) (λ g j. Done (Node k (Cons (Node l f) g)) j) g)
       where

@@ -1,6 +1,6 @@
 -- How the spelling of a tree begins.
-use Rattle.std.specs.Prelude.{◌≡◌, ◌⊎◌, ℕ, Bool, true, false, ◌&&◌, ◌||◌, List, [], ◌∷◌, ◌++◌, Option, Some, None}
-use Rattle.std.proofs.Common.{refl, sym, ap, ◌∙◌, inl, inr, subst, append_assoc}
+use Rattle.std.specs.Prelude.{◌≡◌, ◌⊎◌, Bool, true, false, ◌&&◌, List, [], ◌∷◌, ◌++◌}
+use Rattle.std.proofs.Common.{refl, sym, ap, ◌∙◌, inl, inr, append_assoc}
 use Rattle.c_lex.specs.declared.token.Token.{Token}
 use Rattle.c_lex.specs.declared.token.TokenKind.{TokenKind}
 use Rattle.c_ast.specs.Classes.{Class}
@@ -8,7 +8,7 @@ use Rattle.c_ast.specs.Labels.{Label}
 use Rattle.c_ast.specs.Terminals.{Terminal, is}
 use Rattle.c_ast.specs.Tree.{Tree, Leaf, Node, Nil, Cons}
 use Rattle.c_ast.specs.Spelling.{spelled}
-use Rattle.c_ast.specs.Grammar.{Sym, T, N, Form, One, All, Fits, parts_of, allowed, else_fits}
+use Rattle.c_ast.specs.Grammar.{Sym, T, N, Form, One, All, Fits, parts_of, allowed}
 use Rattle.c_grammar.proofs.Lists.{both_true, left_or, right_or}
 use Rattle.c_grammar.proofs.Follow.{is_nullable, all_nullable, begins, ahead}
 use Rattle.c_grammar.proofs.Bridges.{first_is, nonempty_is}

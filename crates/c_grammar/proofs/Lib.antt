@@ -5,8 +5,10 @@ pub mod Enough
 pub mod Enumerations
 pub mod Firsts
 pub mod Follow
+pub mod Judgement
 pub mod Lists
 pub mod Local
+pub mod Places
 pub mod Samples
 pub mod Small
 pub mod Sound

@@ -1,13 +1,13 @@
 -- A reader does not look past a token that it has not passed, but at the one token that may choose between productions
 -- which take the token before.
 use Rattle.std.specs.Prelude.{◌≡◌, ◌⊎◌, ℕ, zero, suc, ◌≤◌, Bool, true, false, List, [], ◌∷◌, ◌++◌, length, drop, Option, Some, None, if◌then◌else◌}
-use Rattle.std.proofs.Common.{refl, sym, ap, ◌∙◌, inl, inr, subst, arith}
+use Rattle.std.proofs.Common.{refl, sym, ap, inl, inr, subst, arith}
 use Rattle.c_lex.specs.declared.token.Token.{Token}
 use Rattle.c_lex.specs.declared.token.TokenKind.{TokenKind}
 use Rattle.c_ast.specs.Classes.{Class}
 use Rattle.c_ast.specs.Labels.{Label}
 use Rattle.c_ast.specs.Terminals.{Terminal, is}
-use Rattle.c_ast.specs.Tree.{Tree, Leaf, Node, Nil, Cons}
+use Rattle.c_ast.specs.Tree.{Tree, Leaf, Node, Cons}
 use Rattle.c_ast.specs.Grammar.{Sym, T, N, parts_of}
 use Rattle.c_grammar.specs.Starts.{at, begins_type, head, typed, start, next}
 use Rattle.c_grammar.specs.Reader.{Out, Done, Fail, Deep, and_then, label_of, token, one, parts, begun, first, later, goes_on, turns, step, read}

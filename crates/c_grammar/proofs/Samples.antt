@@ -1,14 +1,13 @@
 -- A tree of each class.
-use Rattle.std.specs.Prelude.{◌≡◌, ℕ, Bool, true, false, ◌==◌, ◌&&◌, List, [], ◌∷◌, ◌++◌}
+use Rattle.std.specs.Prelude.{◌≡◌, ℕ, Bool, true, false, ◌==◌, ◌&&◌, List, [], ◌∷◌}
 use Rattle.std.specs.List.{list_all}
 use Rattle.std.proofs.Common.{refl, eq-eqb}
-
 use Rattle.c_lex.specs.declared.keyword.Keyword.TheVariants as word
 use Rattle.c_lex.specs.declared.punct.Punct.TheVariants as mark
 use Rattle.c_lex.specs.declared.token.Token.{Token}
 use Rattle.c_lex.specs.declared.token.TokenKind.{TokenKind}
 use Rattle.c_lex.specs.declared.token.TokenKind.TheVariants as kind
-use Rattle.c_ast.specs.Classes.{Class, Many, Opt, External, BehindTag, BehindType, BehindName, Body, Members, Member, Locals, Decl, Init, InitItems, InitEnded, InitOpen, Param, Spec, PlainSpec, Base, TypeName, Block, Item, Stmt, IfPart, ForFirst, Group, GroupLabel, Expr, includes, class_number, level_number, repeated_number, optional_number, same_class}
+use Rattle.c_ast.specs.Classes.{Class, Many, Opt, External, BehindTag, BehindType, BehindName, Body, Members, Member, Locals, Decl, InitItems, InitEnded, InitOpen, Param, Spec, PlainSpec, Base, TypeName, Block, Item, Stmt, IfPart, ForFirst, Group, GroupLabel, Expr, includes, class_number, level_number, repeated_number, optional_number, same_class}
 use Rattle.c_ast.specs.Labels.{Level, Label}
 use Rattle.c_ast.specs.Labels as label
 use Rattle.c_ast.specs.Terminals.{Terminal, AnyName, AnyNumber, AnyChar, AnyText, Word, Mark, SignWord, AssignMark, BinaryMark, UnaryMark, StepMark, is, word_number, mark_number, is_of_level, operator_level, is_assign_mark, is_unary_mark, is_step_mark}
@@ -16,7 +15,7 @@ use Rattle.c_ast.specs.Tree.{Tree, Leaf, Node, Nil, Cons}
 use Rattle.c_ast.specs.Grammar.{Sym, T, N, Form, One, All, Fits, production, parts_of, allowed, waits, else_fits, repeated, optional, tighter}
 use Rattle.c_grammar.proofs.Lists.{all_in, conj3, and_left, and_right}
 use Rattle.c_grammar.proofs.Enumerations.{classes, class_in}
-use Rattle.c_grammar.proofs.Trees.{fits_nil, fits_leaf, fits_cons, fits_node}
+use Rattle.c_grammar.proofs.Trees.{fits_nil, fits_leaf, fits_cons}
 
 -- ---- the same as a test
 

@@ -1,11 +1,11 @@
 -- What is left behind a tree, or from a wrong token on, is no longer than what there was.
-use Rattle.std.specs.Prelude.{◌≡◌, ℕ, zero, suc, ◌≤◌, Bool, true, false, List, [], ◌∷◌, length, drop, Option, Some, None, if◌then◌else◌}
-use Rattle.std.proofs.Common.{refl, subst, arith}
+use Rattle.std.specs.Prelude.{ℕ, zero, suc, ◌≤◌, Bool, true, false, List, [], ◌∷◌, length, drop, Option, Some, None, if◌then◌else◌}
+use Rattle.std.proofs.Common.{arith}
 use Rattle.c_lex.specs.declared.token.Token.{Token}
 use Rattle.c_ast.specs.Classes.{Class}
 use Rattle.c_ast.specs.Labels.{Label}
 use Rattle.c_ast.specs.Terminals.{Terminal, is}
-use Rattle.c_ast.specs.Tree.{Tree, Leaf, Node, Nil, Cons}
+use Rattle.c_ast.specs.Tree.{Tree, Leaf, Node, Cons}
 use Rattle.c_ast.specs.Grammar.{Sym, T, N, parts_of}
 use Rattle.c_grammar.specs.Starts.{head, typed, start, next}
 use Rattle.c_grammar.specs.Reader.{Out, Done, Fail, Deep, and_then, label_of, token, one, parts, begun, first, later, goes_on, turns, step, read}

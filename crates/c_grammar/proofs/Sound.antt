@@ -11,9 +11,9 @@ use Rattle.c_ast.specs.Spelling.{spelled}
 use Rattle.c_ast.specs.Grammar.{Sym, T, N, One, All, Fits, parts_of, allowed, waits, else_fits}
 use Rattle.c_grammar.specs.Starts.{at, head, typed, start, next}
 use Rattle.c_grammar.specs.Reader.{Out, Done, Fail, Deep, and_then, label_of, token, one, parts, begun, first, later, goes_on, turns, step, read}
-use Rattle.c_grammar.proofs.Follow.{is_suffix, front, rest_of, is_read, all_nullable, ahead, is_else}
+use Rattle.c_grammar.proofs.Follow.{front, rest_of, is_read, all_nullable, ahead, is_else}
 use Rattle.c_grammar.proofs.Bridges.{start_is, next_is, if_is, front_is, drop_front, rest_filled, GoesOn}
-use Rattle.c_grammar.proofs.Trees.{waits_node, waits_alone, waits_cons, waits_last, waits_leaf, waits_nil, else_fits_other, else_fits_if, is_if_else, is_if, prefix_if_else, fits_node, fits_allowed, fits_else, fits_parts, fits_nil, fits_leaf, fits_cons, spelled_leaf, spelled_node, spelled_cons, else_ahead}
+use Rattle.c_grammar.proofs.Trees.{waits_node, waits_alone, waits_cons, waits_last, waits_leaf, waits_nil, else_fits_other, else_fits_if, is_if_else, is_if, prefix_if_else, fits_node, fits_allowed, fits_else, fits_parts, fits_nil, fits_leaf, fits_cons, spelled_node, spelled_cons, else_ahead}
 
 -- where a sequence is done, its first part is
 pub record Both (o : Out) (go : Tree → List Token → Out) (t : Tree) (k : List Token) : Type 0 where

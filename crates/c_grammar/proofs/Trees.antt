@@ -1,16 +1,16 @@
 -- Trees that follow the grammar, by their parts.
-use Rattle.std.specs.Prelude.{◌≡◌, ◌⊎◌, ℕ, Bool, true, false, not, List, [], ◌∷◌, ◌++◌, Option, Some, None}
-use Rattle.std.proofs.Common.{refl, sym, ap, ◌∙◌, inl, inr, subst}
+use Rattle.std.specs.Prelude.{◌≡◌, ◌⊎◌, true, false, List, [], ◌∷◌, Option, Some, None}
+use Rattle.std.proofs.Common.{refl, inl, inr}
 use Rattle.std.proofs.lemmas.Bool.{not-true, not_from_false}
 use Rattle.c_lex.specs.declared.token.Token.{Token}
 use Rattle.c_lex.specs.declared.token.TokenKind.{TokenKind}
 use Rattle.c_ast.specs.Classes.{Class}
 use Rattle.c_ast.specs.Labels.{Label}
 use Rattle.c_ast.specs.Labels as label
-use Rattle.c_ast.specs.Terminals.{Terminal, is, Word}
+use Rattle.c_ast.specs.Terminals.{Terminal, is}
 use Rattle.c_ast.specs.Tree.{Tree, Leaf, Node, Nil, Cons}
 use Rattle.c_ast.specs.Spelling.{spelled}
-use Rattle.c_ast.specs.Grammar.{Sym, T, N, Form, One, All, Fits, parts_of, production, allowed, waits, else_fits}
+use Rattle.c_ast.specs.Grammar.{Sym, T, N, One, All, Fits, parts_of, production, allowed, waits, else_fits}
 use Rattle.c_grammar.specs.Starts.{at}
 use Rattle.c_grammar.proofs.Follow.{is_suffix, rest_of, ahead, is_else}
 

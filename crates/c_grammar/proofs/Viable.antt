@@ -5,7 +5,7 @@ use Rattle.c_lex.specs.declared.token.Token.{Token}
 use Rattle.c_ast.specs.Classes.{Class}
 use Rattle.c_ast.specs.Labels.{Label}
 use Rattle.c_ast.specs.Terminals.{Terminal, is}
-use Rattle.c_ast.specs.Tree.{Tree, Leaf, Node, Nil, Cons}
+use Rattle.c_ast.specs.Tree.{Tree, Leaf, Node, Cons}
 use Rattle.c_ast.specs.Spelling.{spelled}
 use Rattle.c_ast.specs.Grammar.{Sym, T, N, One, All, Fits, parts_of}
 use Rattle.c_grammar.specs.Starts.{head, typed, start, next}
@@ -13,8 +13,8 @@ use Rattle.c_grammar.specs.Reader.{Out, Done, Fail, Deep, and_then, label_of, to
 use Rattle.c_grammar.proofs.Bridges.{start_is}
 use Rattle.c_grammar.proofs.Trees.{fits_node, fits_leaf, fits_cons, else_fits_other, prefix_if_else, spelled_node, spelled_cons}
 use Rattle.c_grammar.proofs.Firsts.{spelled_append}
-use Rattle.c_grammar.proofs.Samples.{some_token, some_is, some_tree, some_fits, some_row, some_row_fits}
-use Rattle.c_grammar.proofs.Sound.{Sound, Got, GotParts, Stands, Begun, both, parts_sound, later_fits, later_stands, begun_sound, read_sound}
+use Rattle.c_grammar.proofs.Samples.{some_tree, some_fits, some_row, some_row_fits}
+use Rattle.c_grammar.proofs.Sound.{Sound, Got, Stands, both, parts_sound, later_fits, later_stands, begun_sound, read_sound}
 
 -- Up to k the tokens are the beginning of the spelling of a tree.
 pub record Viable (c : Class) (ts k : List Token) : Type 0 where

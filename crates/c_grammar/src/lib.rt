@@ -1,3 +1,5 @@
-//! The laws of the grammar: what is read is shaped, every shaped tree is read, and where a token is refused no tree goes
-//! on with it.
+//! The laws of the grammar: each list of tokens is spelled by one tree, or is wrong from one place on, and the reader
+//! over the table of productions finds which. The parser stands on them; nothing here runs.
 #![tactic(auto)]
+
+pub mod laws;
