@@ -1,1 +1,4 @@
 mod Examples
+mod KindLemmas
+mod StateLemmas
+mod UniqueLemmas

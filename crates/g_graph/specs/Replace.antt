@@ -1,6 +1,6 @@
 -- The uses of one origin become uses of another in one region: in the inputs of its nodes and in its results. Regions
 -- nested in it have origins of their own, and stay.
-use Rattle.std.specs.Prelude.{ℕ, List, map, if◌then◌else◌}
+use Rattle.std.specs.Prelude.{ℕ, map, if◌then◌else◌}
 use Rattle.std.specs.declared.option.Option.{Option}
 use Rattle.std.specs.declared.option.Option.TheVariants.{Some, None}
 use Rattle.g_graph.specs.declared.op.Origin.{Origin}
