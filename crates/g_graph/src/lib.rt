@@ -22,7 +22,7 @@ mod steps;
 mod tests;
 mod unique;
 
-pub use change::Change;
+pub use change::{Change, change_region};
 pub use checking::check;
 pub use copy::copy_of;
 pub use count::values;
