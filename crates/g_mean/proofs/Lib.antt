@@ -1,1 +1,7 @@
 mod Examples
+pub mod Kept
+pub mod Regions
+pub mod Equal
+pub mod Nearness
+pub mod Calls
+pub mod Bounds

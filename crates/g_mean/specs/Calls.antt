@@ -9,7 +9,7 @@ use Rattle.val_core.specs.Answers.{Answer, Back, Cut, Ended, Wrong, then_on, act
 use Rattle.g_graph.specs.declared.lambda.Link.{Link}
 use Rattle.g_graph.specs.Plain.{RegionTree, PlainObject, PlainLambda}
 use Rattle.g_mean.specs.Data.{Datum, memory, input, at_port, value_at, on_number, on_memory, with_memory, changed_at}
-use Rattle.g_mean.specs.Meaning.{Meaning, Frame, region_meaning}
+use Rattle.g_mean.specs.Meaning.{Meaning, Frame, Around, region_meaning}
 
 -- a size is a word
 abbrev pub word_of : ℕ → ℕ
@@ -31,15 +31,22 @@ sizes_of objects = map (λ o. o.size) objects
 abbrev pub opened : List PlainObject → Memory
 opened objects = map (λ o. new_block (word_of o.size) o.leaves) objects
 
+-- what stands around the body of a lambda with these objects, where the caller's memory is `m`
+abbrev pub inside : ℕ → (call : ℕ → Meaning) → (global : ℕ → Value) → List PlainObject → (m : Memory) → Around
+inside n call global objects m =
+    record {
+      bound = n;
+      call = call;
+      frame = record { local = address_in (length m) (sizes_of objects); global = global };
+    }
+
 -- A call of a lambda with the bound n inside it: its objects get new blocks behind those of the memory that it is
 -- given, and their lifetimes end with it.
-abbrev pub entered : ℕ → (ℕ → Meaning) → (global : ℕ → Value) → Option PlainLambda → Meaning
+abbrev pub entered : ℕ → (call : ℕ → Meaning) → (global : ℕ → Value) → Option PlainLambda → Meaning
 entered n call global None xs = Wrong
 entered n call global (Some l) xs =
     on_memory (at_port xs l.params) (λ m.
-    then_on (
-    region_meaning (record { bound = n; call = call; frame = record { local = address_in (length m) (sizes_of l.objects); global = global } }) l.body
-    (changed_at l.params (with_memory (λ k. k ++ opened l.objects)) xs))
+    then_on (region_meaning (inside n call global l.objects m) l.body (changed_at l.params (with_memory (λ k. k ++ opened l.objects)) xs))
     (λ ys. Back (changed_at 1 (with_memory (closed (length m) (length l.objects))) ys) []))
 
 -- What an Apply of function f does at a bound: at 0 it is cut, and else the lambda runs at the bound below.

@@ -1,1 +1,26 @@
-//! Laws of what regions do.
+//! Laws of what regions, lambdas and programs mean.
+
+ghost use Rattle.g_mean.specs.Laws.{RegionExtends, LambdaExtends, ProgramExtends, NodesInTurn, EventsGrow, RegionIsSound, LambdaIsSound};
+
+/// A greater bound only extends: what ended stays as it is, and what was cut may go on.
+pub fn bounds_extend()
+    ensures region { RegionExtends }
+    ensures lambda { LambdaExtends }
+    ensures program { ProgramExtends }
+{}
+
+/// The nodes of a region run one after the other.
+pub fn nodes_in_turn()
+    ensures { NodesInTurn }
+{}
+
+/// What a region wrote, and the calls that it met, stay: the events of a run begin with those of its first nodes.
+pub fn events_grow()
+    ensures { EventsGrow }
+{}
+
+/// Sound data stay sound.
+pub fn soundness_is_kept()
+    ensures region { RegionIsSound }
+    ensures lambda { LambdaIsSound }
+{}
