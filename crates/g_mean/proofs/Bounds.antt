@@ -108,7 +108,7 @@ events_grow c ns after xs o =
 
 -- ---- soundness
 
-sound-pairs : (xs : List Datum) → AreSound xs → Paired IsNearDatum xs xs
+pub sound-pairs : (xs : List Datum) → AreSound xs → Paired IsNearDatum xs xs
 sound-pairs [] s = tt
 sound-pairs (x ∷ xs) s = ((inl refl, s.0, s.0), sound-pairs xs s.1)
 

@@ -5,3 +5,5 @@ pub mod Equal
 pub mod Nearness
 pub mod Calls
 pub mod Bounds
+pub mod Replacement
+pub mod Programs

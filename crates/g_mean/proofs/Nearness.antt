@@ -164,7 +164,7 @@ changed-near f h x y near = (by near.0, changed-datum f h x near.1, changed-datu
     by (inl e) = inl (ap (with_memory f) e)
     by (inr e) = inr (ap (with_memory f) e)
 
-address-sound : (n : ℕ) (size : Option ℕ) → IsSound (block_address n size)
+pub address-sound : (n : ℕ) (size : Option ℕ) → IsSound (block_address n size)
 address-sound n None = tt
 address-sound n (Some size) = (omega arith, mod-lt size (lit< tt))
 

@@ -4,3 +4,4 @@ pub mod Calls
 pub mod Near
 pub mod Alike
 pub mod Laws
+pub mod Replacement

@@ -1,6 +1,7 @@
 //! Laws of what regions, lambdas and programs mean.
 
 ghost use Rattle.g_mean.specs.Laws.{RegionExtends, LambdaExtends, ProgramExtends, NodesInTurn, EventsGrow, RegionIsSound, LambdaIsSound};
+ghost use Rattle.g_mean.specs.Replacement.{LambdasKeepMeaning, RegionsKeepMeaning, ProgramsKeepMeaning};
 
 /// A greater bound only extends: what ended stays as it is, and what was cut may go on.
 pub fn bounds_extend()
@@ -23,4 +24,13 @@ pub fn events_grow()
 pub fn soundness_is_kept()
     ensures region { RegionIsSound }
     ensures lambda { LambdaIsSound }
+{}
+
+/// The replacement law: where the lambdas of two lists are equal but for replaced regions, inside any nest of gammas,
+/// thetas and calls, each run over one list is within a run over the other at twice its bound and two more, and the
+/// changed list meets no deeper stacks.
+pub fn replacement_keeps_meaning()
+    ensures lambda { LambdasKeepMeaning }
+    ensures region { RegionsKeepMeaning }
+    ensures program { ProgramsKeepMeaning }
 {}
