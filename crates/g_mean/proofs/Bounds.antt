@@ -21,14 +21,14 @@ use Rattle.g_mean.proofs.Equal.{exactly-compares, Equal, paired-equal, paired-it
 use Rattle.g_mean.proofs.Nearness.{near-kept}
 use Rattle.g_mean.proofs.Calls.{same-itself, found-itself, entered-like}
 
-abbrev Never : RegionTree → RegionTree → Type 0
+abbrev pub Never : RegionTree → RegionTree → Type 0
 Never r s = ⊥
 
-abbrev Always : Around → Around → Type 0
+abbrev pub Always : Around → Around → Type 0
 Always c d = Unit {0}
 
 module _ (cmp : Comparison) (g : Compares cmp) (way : Way) (N : Datum → Datum → Type 0) (k : IsKept N) where
-  never-like : (r s : RegionTree) → Never r s → RegionLike cmp way N Always r s
+  pub never-like : (r s : RegionTree) → Never r s → RegionLike cmp way N Always r s
   never-like r s h = absurd h
 
   module _ (ls : List PlainLambda) (global : ℕ → Value) (globals : (j : ℕ) → N (val (global j)) (val (global j))) where
@@ -112,12 +112,12 @@ pub sound-pairs : (xs : List Datum) → AreSound xs → Paired IsNearDatum xs xs
 sound-pairs [] s = tt
 sound-pairs (x ∷ xs) s = ((inl refl, s.0, s.0), sound-pairs xs s.1)
 
-pairs-sound : (xs ys : List Datum) → Paired IsNearDatum xs ys → AreSound xs
+pub pairs-sound : (xs ys : List Datum) → Paired IsNearDatum xs ys → AreSound xs
 pairs-sound [] ys h = tt
 pairs-sound (x ∷ xs) (y ∷ ys) h = (h.0.1, pairs-sound xs ys h.1)
 pairs-sound (x ∷ xs) [] h = absurd h
 
-like-sound : (a b : Answer (List Datum)) → Like exactly Forth (Paired IsNearDatum) a b → Gives AreSound a
+pub like-sound : (a b : Answer (List Datum)) → Like exactly Forth (Paired IsNearDatum) a b → Gives AreSound a
 like-sound (Back xs o) (Back ys p) h = pairs-sound xs ys h.0
 like-sound (Back xs o) (Cut p) h = absurd h
 like-sound (Back xs o) (Ended p t) h = absurd h

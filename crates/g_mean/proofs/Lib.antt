@@ -7,3 +7,5 @@ pub mod Calls
 pub mod Bounds
 pub mod Replacement
 pub mod Programs
+pub mod Silent
+pub mod Local

@@ -59,7 +59,7 @@ module _ (ls ks : List PlainLambda) (same : LambdasSameBut (Replaces ls ks) ls k
       let two = twice-below way n m twice in
       let less = lesser-below way n m b small in
       let linked : (os : List PlainObject) (k : List _) → Linked way ls ks global (inside n (applied ls global n) global os k) (inside m (applied ks global m) global os k)
-      = λ os k. record { twice = two; near_call = λ j xs. refl; far_call = λ j xs. refl; nested = λ i j small' twice' f'. calls-like b i j (le_trans small' less) twice' f' } in
+      = λ os k. record { twice = two; near_global = λ j. refl; far_global = λ j. refl; near_call = λ j xs. refl; far_call = λ j xs. refl; nested = λ i j small' twice' f'. calls-like b i j (le_trans small' less) twice' f' } in
       let body = entered-like no_deeper no_deeper-compares way IsNearDatum near-kept (Replaces ls ks) (Linked way ls ks global) base n m (twice-order way 2 n m two) (applied ls global n) (applied ks global m) (λ j. calls-like b n m less (twice-less way n m two) j) global near-global linked (slice_get ls f) (slice_get ks f) (found-same (Replaces ls ks) ls ks same f) in
       record {
         on = λ xs ys near. like-active no_deeper no_deeper-compares.goes (Paired IsNearDatum) way f (entered n (applied ls global n) global (slice_get ls f) xs) (entered m (applied ks global m) global (slice_get ks f) ys) (body.on xs ys near);
@@ -78,6 +78,8 @@ module _ (ls ks : List PlainLambda) (same : LambdasSameBut (Replaces ls ks) ls k
       })
       (record {
         twice = twice;
+        near_global = λ k. refl;
+        far_global = λ k. refl;
         near_call = λ f us. refl;
         far_call = λ f us. refl;
         nested = λ i j small twice' f. calls-like (lesser way n m) i j small twice' f;

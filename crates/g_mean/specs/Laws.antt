@@ -1,13 +1,15 @@
 -- Laws of what regions, lambdas and programs mean.
-use Rattle.std.specs.Prelude.{◌≡◌, ℕ, ◌≤◌, ◌⊎◌, List, ◌++◌}
+use Rattle.std.specs.Prelude.{◌≡◌, ℕ, suc, map, ◌≤◌, ◌⊎◌, List, ◌++◌}
 use Rattle.val_core.specs.declared.values.Value.{Value}
 use Rattle.val_core.specs.Values.{IsSound}
 use Rattle.val_core.specs.Events.{Leads}
 use Rattle.val_core.specs.Answers.{then_on, events, Gives, IsWrong}
 use Rattle.val_core.specs.Likeness.{Forth, exactly, Like}
-use Rattle.g_graph.specs.Plain.{RegionTree, NodeTree, nodes_of, PlainLambda}
+use Rattle.g_graph.specs.declared.op.Op.TheVariants.{Theta}
+use Rattle.g_graph.specs.declared.op.Origin.{Origin}
+use Rattle.g_graph.specs.Plain.{RegionTree, NodeTree, node, nodes_of, no_regions, region_then, PlainLambda}
 use Rattle.g_mean.specs.Data.{Datum}
-use Rattle.g_mean.specs.Meaning.{Frame, Around, Outputs, nodes_run}
+use Rattle.g_mean.specs.Meaning.{Frame, Around, again, turns, Outputs, read, region_meaning, node_run, nodes_run}
 use Rattle.g_mean.specs.Calls.{PlainOmega, ev, ev_lambda, evmain}
 use Rattle.g_mean.specs.Near.{AreSound}
 
@@ -52,3 +54,16 @@ abbrev pub LambdaIsSound : Type 0
 LambdaIsSound =
     (n : ℕ) (ls : List PlainLambda) (global : ℕ → Value) (f : ℕ) (xs : List Datum) →
     ((k : ℕ) → IsSound (global k)) → AreSound xs → Gives AreSound (ev_lambda n ls global f xs)
+
+-- A Theta takes as many turns of its region as the bound allows.
+abbrev pub ThetaTurns : Type 0
+ThetaTurns =
+    (c : Around) (id : ℕ) (inputs : List Origin) (r : RegionTree) (xs : List Datum) (o : Outputs) →
+    node_run c (node id Theta inputs (region_then r no_regions)) xs o ≡ turns c.bound (region_meaning c r) (map (read xs o) inputs)
+
+-- At most n + 1 turns of a region are the region once and then, where its predicate is not 0, at most n turns on its
+-- other results. What stands around the region, and so the bound inside it, is the same throughout.
+abbrev pub TurnsUnroll : Type 0
+TurnsUnroll =
+    (n : ℕ) (c : Around) (r : RegionTree) (xs : List Datum) →
+    turns (suc n) (region_meaning c r) xs ≡ then_on (region_meaning c r xs) (again (turns n (region_meaning c r)))

@@ -5,3 +5,5 @@ pub mod Near
 pub mod Alike
 pub mod Laws
 pub mod Replacement
+pub mod Silent
+pub mod Local

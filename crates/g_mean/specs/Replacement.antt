@@ -23,10 +23,12 @@ abbrev pub IsTwice : Way → (more near far : ℕ) → Type 0
 IsTwice Forth more n m = 2 * n + more ≤ m
 IsTwice Backward more n m = 2 * m + more ≤ n
 
--- What a replacement may take from what stands around the two regions: their bounds and calls, and that calls at lesser
--- bounds are alike already.
+-- What a replacement may take from what stands around the two regions: their bounds, globals and calls, and that calls
+-- at lesser bounds are alike already.
 pub record Linked (way : Way) (ls ks : List PlainLambda) (global : ℕ → Value) (c d : Around) : Type 0 where
   pub twice : IsTwice way 2 c.bound d.bound
+  pub near_global : (k : ℕ) → c.frame.global k ≡ global k
+  pub far_global : (k : ℕ) → d.frame.global k ≡ global k
   pub near_call : (f : ℕ) (xs : List Datum) → c.call f xs ≡ applied ls global c.bound f xs
   pub far_call : (f : ℕ) (xs : List Datum) → d.call f xs ≡ applied ks global d.bound f xs
   pub nested : (n m : ℕ) → lesser way n m ≤ lesser way c.bound d.bound → IsTwice way 1 n m → (f : ℕ) → MeaningLike no_deeper way IsNearDatum (applied ls global n f) (applied ks global m f)

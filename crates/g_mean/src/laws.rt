@@ -1,7 +1,9 @@
 //! Laws of what regions, lambdas and programs mean.
 
-ghost use Rattle.g_mean.specs.Laws.{RegionExtends, LambdaExtends, ProgramExtends, NodesInTurn, EventsGrow, RegionIsSound, LambdaIsSound};
+ghost use Rattle.g_mean.specs.Laws.{RegionExtends, LambdaExtends, ProgramExtends, NodesInTurn, EventsGrow, RegionIsSound, LambdaIsSound, ThetaTurns, TurnsUnroll};
+ghost use Rattle.g_mean.specs.Local.{RefinementsReplace, BodiesReplaceCalls};
 ghost use Rattle.g_mean.specs.Replacement.{LambdasKeepMeaning, RegionsKeepMeaning, ProgramsKeepMeaning};
+ghost use Rattle.g_mean.specs.Silent.{StatelessNodesAreSilent};
 
 /// A greater bound only extends: what ended stays as it is, and what was cut may go on.
 pub fn bounds_extend()
@@ -33,4 +35,25 @@ pub fn replacement_keeps_meaning()
     ensures lambda { LambdasKeepMeaning }
     ensures region { RegionsKeepMeaning }
     ensures program { ProgramsKeepMeaning }
+{}
+
+/// A well-formed node that gives no state is not cut, does not end the program, writes nothing and calls nothing.
+pub fn stateless_nodes_are_silent()
+    ensures { StatelessNodesAreSilent }
+{}
+
+/// A region that refines another one, wherever both stand, may replace it.
+pub fn refinements_replace()
+    ensures { RefinementsReplace }
+{}
+
+/// A call of a lambda without objects may be replaced by its body.
+pub fn bodies_replace_calls()
+    ensures { BodiesReplaceCalls }
+{}
+
+/// The turns of a theta.
+pub fn turns_unroll()
+    ensures theta { ThetaTurns }
+    ensures turns { TurnsUnroll }
 {}
