@@ -9,3 +9,4 @@ pub mod Replacement
 pub mod Programs
 pub mod Silent
 pub mod Local
+pub mod Copies

@@ -7,3 +7,4 @@ pub mod Laws
 pub mod Replacement
 pub mod Silent
 pub mod Local
+pub mod Copies

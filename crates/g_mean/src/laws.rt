@@ -1,5 +1,6 @@
 //! Laws of what regions, lambdas and programs mean.
 
+ghost use Rattle.g_mean.specs.Copies.{CopiedRegionsMeanTheSame, CopiedNodesMeanTheSame};
 ghost use Rattle.g_mean.specs.Laws.{RegionExtends, LambdaExtends, ProgramExtends, NodesInTurn, EventsGrow, RegionIsSound, LambdaIsSound, ThetaTurns, TurnsUnroll};
 ghost use Rattle.g_mean.specs.Local.{RefinementsReplace, BodiesReplaceCalls};
 ghost use Rattle.g_mean.specs.Replacement.{LambdasKeepMeaning, RegionsKeepMeaning, ProgramsKeepMeaning};
@@ -56,4 +57,10 @@ pub fn bodies_replace_calls()
 pub fn turns_unroll()
     ensures theta { ThetaTurns }
     ensures turns { TurnsUnroll }
+{}
+
+/// The copy law: nodes that are copied under new numbers, on origins that carry the same, give and do the same.
+pub fn copies_mean_the_same()
+    ensures region { CopiedRegionsMeanTheSame }
+    ensures nodes { CopiedNodesMeanTheSame }
 {}
