@@ -10,3 +10,5 @@ pub mod Programs
 pub mod Silent
 pub mod Local
 pub mod Copies
+pub mod Closed
+pub mod Edits

@@ -8,3 +8,4 @@ pub mod Replacement
 pub mod Silent
 pub mod Local
 pub mod Copies
+pub mod Edits

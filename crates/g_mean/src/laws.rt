@@ -1,6 +1,7 @@
 //! Laws of what regions, lambdas and programs mean.
 
 ghost use Rattle.g_mean.specs.Copies.{CopiedRegionsMeanTheSame, CopiedNodesMeanTheSame};
+ghost use Rattle.g_mean.specs.Edits.{EditsReplace};
 ghost use Rattle.g_mean.specs.Laws.{RegionExtends, LambdaExtends, ProgramExtends, NodesInTurn, EventsGrow, RegionIsSound, LambdaIsSound, ThetaTurns, TurnsUnroll};
 ghost use Rattle.g_mean.specs.Local.{RefinementsReplace, BodiesReplaceCalls};
 ghost use Rattle.g_mean.specs.Replacement.{LambdasKeepMeaning, RegionsKeepMeaning, ProgramsKeepMeaning};
@@ -63,4 +64,10 @@ pub fn turns_unroll()
 pub fn copies_mean_the_same()
     ensures region { CopiedRegionsMeanTheSame }
     ensures nodes { CopiedNodesMeanTheSame }
+{}
+
+/// A change of regions of one lambda, each of which may replace what it was as part of a well-formed lambda, leaves
+/// lists of lambdas that are equal but for replaced regions.
+pub fn edits_replace()
+    ensures { EditsReplace }
 {}

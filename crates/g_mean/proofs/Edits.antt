@@ -1,0 +1,103 @@
+-- Changes of regions of one lambda.
+use Rattle.std.proofs.Common.{◌≡◌, ℕ, zero, suc, nat_lt, ◌==◌, Bool, true, false, not, ◌&&◌, ◌||◌, List, [], ◌∷◌, ◌++◌, length, slice_get, Option, None, Some, refl, sym, subst, inl, inr}
+use Rattle.std.proofs.lemmas.Bool.{and_parts, and_from}
+use Rattle.g_graph.specs.Plain.{RegionTree, region, node, NodeTrees, no_nodes, node_then, RegionTrees, no_regions, region_then, PlainLambda}
+use Rattle.g_graph.specs.Ids.{region_ids, nodes_ids, regions_ids}
+use Rattle.g_graph.specs.WellFormed.{all_of, some_of, distinct, body_fits, numbers_fit, leaves_fit, well_formed, every_region, every_in_nodes, every_in_regions, region_fits}
+use Rattle.g_mean.specs.Alike.{SameBut, NodesSameBut, RegionsSameBut, LambdaSameBut, LambdasSameBut}
+use Rattle.g_mean.specs.Replacement.{Replaces}
+use Rattle.g_mean.specs.Edits.{edited_or, region_edited, nodes_edited, regions_edited, AreEditedAt, IsPartOf, EditsReplace}
+use Rattle.g_mean.proofs.Calls.{same-itself}
+use Rattle.g_mean.proofs.Closed.{region-closed}
+
+-- ---- tests of lists
+
+all-split : {X : Type 0} (test : X → Bool) (xs ys : List X) → all_of test (xs ++ ys) ≡ true → (all_of test xs ≡ true) × (all_of test ys ≡ true)
+all-split test [] ys t = (refl, t)
+all-split test (x ∷ xs) ys t =
+    let p = and_parts (test x) (all_of test (xs ++ ys)) t in
+    let q = all-split test xs ys p.1 in
+    (and_from (test x) (all_of test xs) p.0 q.0, q.1)
+
+none-by : (first rest all : Bool) → (not all ≡ true → not rest ≡ true) → not (first || all) ≡ true → not (first || rest) ≡ true
+none-by true rest all h e = e
+none-by false rest all h e = h e
+
+none-left : {X : Type 0} (test : X → Bool) (xs ys : List X) → not (some_of test (xs ++ ys)) ≡ true → not (some_of test xs) ≡ true
+none-left test [] ys t = refl
+none-left test (x ∷ xs) ys t = none-by (test x) (some_of test xs) (some_of test (xs ++ ys)) (none-left test xs ys) t
+
+distinct-split : (xs ys : List ℕ) → distinct (xs ++ ys) ≡ true → (distinct xs ≡ true) × (distinct ys ≡ true)
+distinct-split [] ys t = (refl, t)
+distinct-split (x ∷ xs) ys t =
+    let p = and_parts (not (some_of (λ m. x == m) (xs ++ ys))) (distinct (xs ++ ys)) t in
+    let q = distinct-split xs ys p.1 in
+    (and_from (not (some_of (λ m. x == m) xs)) (distinct xs) (none-left (λ m. x == m) xs ys p.0) q.0, q.1)
+
+-- ---- the parts of a well-formed lambda
+
+pub body-part : (l : PlainLambda) → well_formed l ≡ true → IsPartOf l l.body
+body-part l t =
+    let p = and_parts (body_fits l && numbers_fit l && every_region (region_fits (length l.objects)) l.body) (all_of (λ o. leaves_fit o.size 0 o.leaves) l.objects) t in
+    let q = and_parts (body_fits l && numbers_fit l) (every_region (region_fits (length l.objects)) l.body) p.0 in
+    let r = and_parts (body_fits l) (numbers_fit l) q.0 in
+    let s = and_parts (distinct (region_ids l.body)) (all_of (λ n. nat_lt n l.next) (region_ids l.body)) r.1 in
+    record { fits = q.1; closed = region-closed (length l.objects) l.body q.1; unique = s.0; below = s.1 }
+
+module _ (P : RegionTree → RegionTree → Type 0) (here : RegionTree → Option RegionTree) (l : PlainLambda) (local : (r s : RegionTree) → IsPartOf l r → here r ≡ Some s → P r s) where
+  here-same : (r : RegionTree) → IsPartOf l r → (inside : RegionTree) → SameBut P r inside → (found : Option RegionTree) → here r ≡ found → SameBut P r (edited_or found inside)
+  here-same r part inside same None e = same
+  here-same (region args nodes results) part inside same (Some (region args' nodes' results')) e = inl (local (region args nodes results) (region args' nodes' results') part e)
+
+  mutual
+    pub edited-same : (r : RegionTree) → IsPartOf l r → SameBut P r (region_edited here r)
+    edited-same (region args nodes results) part =
+        let p = and_parts (region_fits (length l.objects) (region args nodes results)) (every_in_nodes (region_fits (length l.objects)) nodes) part.fits in
+        here-same (region args nodes results) part (region args (nodes_edited here nodes) results) (inr (refl, nodes-same nodes p.1 part.unique part.below, refl)) (here (region args nodes results)) refl
+
+    nodes-same : (ns : NodeTrees) → every_in_nodes (region_fits (length l.objects)) ns ≡ true → distinct (nodes_ids ns) ≡ true → all_of (λ n. nat_lt n l.next) (nodes_ids ns) ≡ true → NodesSameBut P ns (nodes_edited here ns)
+    nodes-same no_nodes t unique below = tt
+    nodes-same (node_then (node id op inputs rs) ns) t unique below =
+        let p = and_parts (every_in_regions (region_fits (length l.objects)) rs) (every_in_nodes (region_fits (length l.objects)) ns) t in
+        let d = distinct-split (id ∷ regions_ids rs) (nodes_ids ns) unique in
+        let b = all-split (λ n. nat_lt n l.next) (id ∷ regions_ids rs) (nodes_ids ns) below in
+        let e = and_parts (not (some_of (λ m. id == m) (regions_ids rs))) (distinct (regions_ids rs)) d.0 in
+        let c = and_parts (nat_lt id l.next) (all_of (λ n. nat_lt n l.next) (regions_ids rs)) b.0 in
+        ((refl, refl, refl, regions-same rs p.0 e.1 c.1), nodes-same ns p.1 d.1 b.1)
+
+    regions-same : (rs : RegionTrees) → every_in_regions (region_fits (length l.objects)) rs ≡ true → distinct (regions_ids rs) ≡ true → all_of (λ n. nat_lt n l.next) (regions_ids rs) ≡ true → RegionsSameBut P rs (regions_edited here rs)
+    regions-same no_regions t unique below = tt
+    regions-same (region_then r rs) t unique below =
+        let p = and_parts (every_region (region_fits (length l.objects)) r) (every_in_regions (region_fits (length l.objects)) rs) t in
+        let d = distinct-split (region_ids r) (regions_ids rs) unique in
+        let b = all-split (λ n. nat_lt n l.next) (region_ids r) (regions_ids rs) below in
+        (edited-same r (record { fits = p.0; closed = region-closed (length l.objects) r p.0; unique = d.0; below = b.0 }), regions-same rs p.1 d.1 b.1)
+
+-- ---- lists of lambdas
+
+lambdas-itself : (P : RegionTree → RegionTree → Type 0) (ls : List PlainLambda) → LambdasSameBut P ls ls
+lambdas-itself P [] = tt
+lambdas-itself P (l ∷ ls) =
+    (record { number = refl; params = refl; objects = refl; body = same-itself P l.body }, lambdas-itself P ls)
+
+edited-lists : (P : RegionTree → RegionTree → Type 0) (here : RegionTree → Option RegionTree) (f : ℕ) (ls ks : List PlainLambda) → AreEditedAt here f ls ks → ((l : PlainLambda) → slice_get ls f ≡ Some l → well_formed l ≡ true) → ((l : PlainLambda) (r s : RegionTree) → slice_get ls f ≡ Some l → IsPartOf l r → here r ≡ Some s → P r s) → LambdasSameBut P ls ks
+edited-lists P here f [] [] h well local = tt
+edited-lists P here zero (l ∷ ls) (k ∷ ks) h well local = (
+  record {
+    number = h.0.number;
+    params = h.0.params;
+    objects = h.0.objects;
+    body = subst (λ b. SameBut P l.body b) (sym h.0.body) (edited-same P here l (λ r s part e. local l r s refl part e) l.body (body-part l (well l refl)));
+  },
+  subst (λ js. LambdasSameBut P ls js) h.1 (lambdas-itself P ls),
+)
+edited-lists P here (suc f) (l ∷ ls) (k ∷ ks) h well local = (
+  subst (λ j. LambdaSameBut P l j) h.0 (record { number = refl; params = refl; objects = refl; body = same-itself P l.body }),
+  edited-lists P here f ls ks h.1 well local,
+)
+edited-lists P here f [] (k ∷ ks) h well local = absurd h
+edited-lists P here zero (l ∷ ls) [] h well local = absurd h
+edited-lists P here (suc f) (l ∷ ls) [] h well local = absurd h
+
+pub edits_replace : EditsReplace
+edits_replace ls ks here f h well local = edited-lists (Replaces ls ks) here f ls ks h well local
