@@ -26,7 +26,7 @@ mutual
   nodes-itself P no_nodes = tt
   nodes-itself P (node_then x ns) = (node-itself P x, nodes-itself P ns)
 
-  regions-itself : (P : RegionTree → RegionTree → Type 0) (rs : RegionTrees) → RegionsSameBut P rs rs
+  pub regions-itself : (P : RegionTree → RegionTree → Type 0) (rs : RegionTrees) → RegionsSameBut P rs rs
   regions-itself P no_regions = tt
   regions-itself P (region_then r rs) = (same-itself P r, regions-itself P rs)
 

@@ -12,7 +12,7 @@ use Rattle.g_graph.specs.Plain.{RegionTree, region, NodeTree, node, NodeTrees, n
 use Rattle.g_graph.specs.Ids.{region_ids, node_ids, nodes_ids, regions_ids}
 use Rattle.g_mean.specs.Data.{Datum, at_port}
 use Rattle.g_mean.specs.Meaning.{Around, act, Outputs, no_outputs, extended, read, region_meaning, nodes_run, meanings}
-use Rattle.g_mean.specs.Copies.{copied_origin, region_copied, nodes_copied, regions_copied, IsAmong, IsOneToOne, ComesFrom, ComeFrom, known_after, IsClosed, AreClosed, AllClosed, Same, CopiedRegionsMeanTheSame, HoldCopies, IsReady, IsCopied, CopiedNodesMeanTheSame}
+use Rattle.g_mean.specs.Copies.{copied_origin, region_copied, node_copied, nodes_copied, regions_copied, IsAmong, IsOneToOne, ComesFrom, ComeFrom, known_after, IsClosed, AreClosed, AllClosed, Same, CopiedRegionsMeanTheSame, HoldCopies, IsReady, IsCopied, CopiedNodesMeanTheSame}
 
 -- ---- the same answers
 
@@ -98,10 +98,10 @@ test-same m n e = eq-eqb m n e
 test-other : (m n : ℕ) → m ≢ n → (m == n) ≡ false
 test-other m n ne = grind (arith, nat_tests)
 
-extended-same : (o : Outputs) (id : ℕ) (us : List Datum) (n p : ℕ) → id ≡ n → extended o id us n p ≡ at_port us p
+pub extended-same : (o : Outputs) (id : ℕ) (us : List Datum) (n p : ℕ) → id ≡ n → extended o id us n p ≡ at_port us p
 extended-same o id us n p e = rw (test-same id n e)
 
-extended-other : (o : Outputs) (id : ℕ) (us : List Datum) (n p : ℕ) → id ≢ n → extended o id us n p ≡ o n p
+pub extended-other : (o : Outputs) (id : ℕ) (us : List Datum) (n p : ℕ) → id ≢ n → extended o id us n p ≡ o n p
 extended-other o id us n p ne = rw (test-other id n ne)
 
 -- ---- reading
@@ -188,7 +188,7 @@ mutual
       (ready-more place to ((id ∷ regions_ids rs) ++ nodes_ids ns) (nodes_ids ns) id first more xs ys q us ready)
       (held-more to id known one-known o q held us))))
 
-  regions-same : (to : ℕ → ℕ) (rs : RegionTrees) → AllClosed rs → IsOneToOne to (regions_ids rs) → (c : Around) → meanings c rs ≡ meanings c (regions_copied to rs)
+  pub regions-same : (to : ℕ → ℕ) (rs : RegionTrees) → AllClosed rs → IsOneToOne to (regions_ids rs) → (c : Around) → meanings c rs ≡ meanings c (regions_copied to rs)
   regions-same to no_regions closed one c = refl
   regions-same to (region_then r rs) closed one c =
       let one-first = fewer to (region_ids r) (region_ids r ++ regions_ids rs) (λ n h. among-left n (region_ids r) (regions_ids rs) h) one in
@@ -201,3 +201,28 @@ copied_regions_mean_the_same to r closed one c = fun_ext (λ xs. sym (region-sam
 pub copied_nodes_mean_the_same : CopiedNodesMeanTheSame
 copied_nodes_mean_the_same place to ns known closed one c xs ys o q ready held =
     nodes-same place to ns known closed one c xs ys o q ready held
+
+-- ---- the same numbers
+
+origin-itself : (a : Origin) → copied_origin Arg (λ n. n) a ≡ a
+origin-itself (Arg k) = refl
+origin-itself (Out n p) = refl
+
+origins-itself : (origins : List Origin) → map (copied_origin Arg (λ n. n)) origins ≡ origins
+origins-itself [] = refl
+origins-itself (a ∷ origins) = ap₂ (λ b bs. b ∷ bs) (origin-itself a) (origins-itself origins)
+
+mutual
+  pub region-itself : (r : RegionTree) → region_copied (λ n. n) r ≡ r
+  region-itself (region args nodes results) = ap₂ (region args) (nodes-itself nodes) (origins-itself results)
+
+  node-itself : (x : NodeTree) → node_copied Arg (λ n. n) x ≡ x
+  node-itself (node id op inputs rs) = ap₂ (node id op) (origins-itself inputs) (regions-itself rs)
+
+  nodes-itself : (ns : NodeTrees) → nodes_copied Arg (λ n. n) ns ≡ ns
+  nodes-itself no_nodes = refl
+  nodes-itself (node_then x ns) = ap₂ node_then (node-itself x) (nodes-itself ns)
+
+  pub regions-itself : (rs : RegionTrees) → regions_copied (λ n. n) rs ≡ rs
+  regions-itself no_regions = refl
+  regions-itself (region_then r rs) = ap₂ region_then (region-itself r) (regions-itself rs)

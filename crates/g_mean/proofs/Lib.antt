@@ -12,3 +12,4 @@ pub mod Local
 pub mod Copies
 pub mod Closed
 pub mod Edits
+pub mod Moves

@@ -162,7 +162,7 @@ module _ (cmp : Comparison) (g : Compares cmp) (way : Way) (N : Datum → Datum 
           (subst (λ is. Like cmp way (Paired N) (act c op (meanings c rs) (map (read xs o) inputs)) (act d op (meanings d rs') (map (read ys p) is))) h.2
           (act-like c d a op (meanings c rs) (meanings d rs') (regions-like rs rs' h.3) (map (read xs o) inputs) (map (read ys p) inputs) (reads-like N k xs ys near o p like inputs)))
 
-      regions-like : (rs ss : RegionTrees) → RegionsSameBut P rs ss → MeaningsLike (meanings c rs) (meanings d ss)
+      pub regions-like : (rs ss : RegionTrees) → RegionsSameBut P rs ss → MeaningsLike (meanings c rs) (meanings d ss)
       regions-like no_regions no_regions h = tt
       regions-like (region_then r rs) (region_then s ss) h = (region-like r s h.0, regions-like rs ss h.1)
       regions-like no_regions (region_then s ss) h = absurd h

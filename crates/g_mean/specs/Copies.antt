@@ -83,6 +83,10 @@ CopiedRegionsMeanTheSame =
     (to : ℕ → ℕ) (r : RegionTree) → IsClosed r → IsOneToOne to (region_ids r) → (c : Around) →
     region_meaning c (region_copied to r) ≡ region_meaning c r
 
+-- a copy under the same numbers is the region itself
+abbrev pub CopiesToThemselves : Type 0
+CopiesToThemselves = (r : RegionTree) → region_copied (λ n. n) r ≡ r
+
 -- The outputs of known nodes are those of their copies.
 abbrev pub HoldCopies : (to : ℕ → ℕ) → (known : List ℕ) → Outputs → Outputs → Type 0
 HoldCopies to known o q = (n : ℕ) → IsAmong n known → (p : ℕ) → q (to n) p ≡ o n p

@@ -9,3 +9,4 @@ pub mod Silent
 pub mod Local
 pub mod Copies
 pub mod Edits
+pub mod Moves

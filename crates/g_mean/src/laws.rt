@@ -1,9 +1,12 @@
 //! Laws of what regions, lambdas and programs mean.
 
-ghost use Rattle.g_mean.specs.Copies.{CopiedRegionsMeanTheSame, CopiedNodesMeanTheSame};
+ghost use Rattle.std.specs.Prelude.{List};
+ghost use Rattle.g_mean.specs.Copies.{CopiedRegionsMeanTheSame, CopiedNodesMeanTheSame, CopiesToThemselves};
+ghost use Rattle.g_mean.specs.Data.{Datum};
 ghost use Rattle.g_mean.specs.Edits.{EditsReplace};
 ghost use Rattle.g_mean.specs.Laws.{RegionExtends, LambdaExtends, ProgramExtends, NodesInTurn, EventsGrow, RegionIsSound, LambdaIsSound, ThetaTurns, TurnsUnroll};
 ghost use Rattle.g_mean.specs.Local.{RefinementsReplace, BodiesReplaceCalls};
+ghost use Rattle.g_mean.specs.Moves.{PureNodesGiveTheSame, MovedNodesAreAlike, MovedRegionsAreAlike, LoopsAreAlike};
 ghost use Rattle.g_mean.specs.Replacement.{LambdasKeepMeaning, RegionsKeepMeaning, ProgramsKeepMeaning};
 ghost use Rattle.g_mean.specs.Silent.{StatelessNodesAreSilent};
 
@@ -64,10 +67,33 @@ pub fn turns_unroll()
 pub fn copies_mean_the_same()
     ensures region { CopiedRegionsMeanTheSame }
     ensures nodes { CopiedNodesMeanTheSame }
+    ensures itself { CopiesToThemselves }
 {}
 
 /// A change of regions of one lambda, each of which may replace what it was as part of a well-formed lambda, leaves
 /// lists of lambdas that are equal but for replaced regions.
 pub fn edits_replace()
     ensures { EditsReplace }
+{}
+
+/// A pure node gives one value, and that is the same wherever its inputs carry the same.
+pub fn pure_nodes_give_the_same()
+    ensures { PureNodesGiveTheSame }
+{}
+
+/// The move law: nodes whose inputs come from elsewhere, and which may have new numbers, are alike where what they read is
+/// near. What they do not read may be anything.
+pub fn moved_nodes_are_alike()
+    ensures nodes { MovedNodesAreAlike }
+    ensures region { MovedRegionsAreAlike }
+{}
+
+/// How the variables of a loop relate to those of another one.
+pub trait LoopVariables {
+    ghost relate: { List Datum → List Datum → Type 0 };
+}
+
+/// Two loops are alike where their bodies keep a relation of their variables.
+pub fn loops_are_alike<R: LoopVariables>()
+    ensures { LoopsAreAlike R.relate }
 {}
