@@ -1,1 +1,5 @@
 mod Examples
+pub mod ChangeLemmas
+mod KindLemmas
+mod StateLemmas
+mod UniqueLemmas

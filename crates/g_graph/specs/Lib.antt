@@ -5,3 +5,6 @@ pub mod Count
 pub mod Ids
 pub mod Scope
 pub mod WellFormed
+pub mod Change
+pub mod Replace
+pub mod Splice

@@ -15,24 +15,31 @@ abbrev pub first_args : RegionTrees → List Kind
 first_args no_regions = []
 first_args (region_then r rs) = args_of r
 
+-- the inputs of an op, where they depend on the op alone
+abbrev pub row_inputs : Op → List Kind
+row_inputs (Const w) = []
+row_inputs Undef = []
+row_inputs (Local k) = []
+row_inputs (Delta k) = []
+row_inputs (Bin op) = Value ∷ Value ∷ []
+row_inputs (Un op) = Value ∷ []
+row_inputs (Load width) = Value ∷ Memory ∷ []
+row_inputs (Store width) = Value ∷ Value ∷ Memory ∷ []
+row_inputs (Clear k) = Memory ∷ []
+row_inputs PtrEq = Value ∷ Value ∷ Memory ∷ []
+row_inputs (Apply f) = []
+row_inputs Put = Value ∷ Io ∷ []
+row_inputs Exit = Value ∷ Io ∷ []
+row_inputs Get = Io ∷ []
+row_inputs Gamma = []
+row_inputs Theta = []
+
 -- the inputs of an op that has so many, with these regions
 abbrev pub inputs_of : Op → (count : ℕ) → RegionTrees → List Kind
-inputs_of (Const w) n rs = []
-inputs_of Undef n rs = []
-inputs_of (Local k) n rs = []
-inputs_of (Delta k) n rs = []
-inputs_of (Bin op) n rs = Value ∷ Value ∷ []
-inputs_of (Un op) n rs = Value ∷ []
-inputs_of (Load width) n rs = Value ∷ Memory ∷ []
-inputs_of (Store width) n rs = Value ∷ Value ∷ Memory ∷ []
-inputs_of (Clear k) n rs = Memory ∷ []
-inputs_of PtrEq n rs = Value ∷ Value ∷ Memory ∷ []
 inputs_of (Apply f) n rs = replicate (n - 2) Value ++ Memory ∷ Io ∷ []
-inputs_of Put n rs = Value ∷ Io ∷ []
-inputs_of Exit n rs = Value ∷ Io ∷ []
-inputs_of Get n rs = Io ∷ []
 inputs_of Gamma n rs = Value ∷ first_args rs
 inputs_of Theta n rs = first_args rs
+inputs_of op n rs = row_inputs op
 
 abbrev pub joined : {X : Type 0} → Option (Option X) → Option X
 joined None = None

@@ -1,6 +1,5 @@
 ghost use Rattle.std.specs.Prelude.{◌≡◌, length};
-ghost use Rattle.g_graph.specs.Rows.{outputs_of};
-ghost use Rattle.g_graph.specs.Plain.{regions_of};
+ghost use Rattle.g_graph.specs.Rows.{output_kinds};
 ghost use Rattle.g_graph.specs.Count.{saturated, region_values, node_values};
 
 use crate::{Lambda, Node, Op, Region};
@@ -30,24 +29,25 @@ fn values_of_region(region: &Region) -> u64
 fn values_of_node(node: &Node) -> u64
     ensures { result ≡ saturated (node_values node.now) }
 {
-    let mut total = (outputs(node.op, &node.regions) as u64).saturating_add(1);
+    let mut total = (outputs(node) as u64).saturating_add(1);
     for region in &node.regions {
         total = total.saturating_add(values_of_region(region));
     }
     total
 }
 
-fn outputs(op: Op, regions: &[Region]) -> usize
-    ensures { result ≡ length (outputs_of op (regions_of regions.now)) }
+// How many outputs a node has.
+pub fn outputs(node: &Node) -> usize
+    ensures { result ≡ length (output_kinds node.now) }
 {
-    match op {
+    match node.op {
         Op::Apply(_) => 3,
         Op::Get => 2,
-        Op::Gamma => match regions.first() {
+        Op::Gamma => match node.regions.first() {
             Some(region) => region.results.len(),
             None => 0,
         },
-        Op::Theta => match regions.first() {
+        Op::Theta => match node.regions.first() {
             Some(region) => region.args.len(),
             None => 0,
         },

@@ -1,0 +1,89 @@
+-- The first of a list that can be changed, as a loop looks for it.
+use Rattle.std.proofs.Common.{◌≡◌, ℕ, ◌<◌, ◌+◌, zero, suc, List, [], ◌∷◌, length, take, get_or, refl, sym, ap, ◌∙◌, add-one, arith}
+use Rattle.std.specs.Prelude.{Bool, true, false, MatchBool, slice_set, option_map}
+use Rattle.std.proofs.lemmas.List.{set-get_or}
+use Rattle.std.specs.declared.option.Option.{Option}
+use Rattle.std.specs.declared.option.Option.TheVariants.{Some, None}
+use Rattle.g_graph.specs.Plain.{RegionTree, region, NodeTree, no_nodes, node_then, no_regions, region_then, nodes_of, regions_of}
+use Rattle.g_graph.specs.Change.{first_some, region_changed, node_changed, nodes_changed, regions_changed}
+
+pub region_changed_here : (f : RegionTree → Option RegionTree) (r s : RegionTree) → f r ≡ Some s → region_changed f r ≡ Some s
+region_changed_here f (region args nodes results) s e = ap (λ o. first_some o (option_map (λ ns. region args ns results) (nodes_changed f nodes))) e
+
+none_map : {X Y : Type 0} (g : X → Y) (o : Option X) → option_map g o ≡ None → o ≡ None
+none_map g None e = refl
+none_map g (Some x) e = absurd (cc)
+
+none_first : {X : Type 0} (a b : Option X) → first_some a b ≡ None → a ≡ None
+none_first None b e = refl
+none_first (Some x) b e = absurd (cc)
+
+none_second : {X : Type 0} (a b : Option X) → first_some a b ≡ None → b ≡ None
+none_second None b e = e
+none_second (Some x) b e = absurd (cc)
+
+pub nodes_changed_at : (f : RegionTree → Option RegionTree) (xs : List NodeTree) (i : ℕ) (x y : NodeTree) → i < length xs → x ≡ get_or xs i x →
+    nodes_changed f (nodes_of (take i xs)) ≡ None → node_changed f x ≡ Some y → nodes_changed f (nodes_of xs) ≡ Some (nodes_of (slice_set xs i y))
+nodes_changed_at f [] i x y b e n h = absurd (omega arith)
+nodes_changed_at f (z ∷ xs) zero x y b e n h =
+    ap (λ o. first_some (option_map (λ w. node_then w (nodes_of xs)) o) (option_map (λ ys. node_then z ys) (nodes_changed f (nodes_of xs)))) (ap (node_changed f) (sym e) ∙ h)
+nodes_changed_at f (z ∷ xs) (suc i) x y b e n h =
+    let first = none_map (λ w. node_then w (nodes_of (take i xs))) (node_changed f z) (none_first _ _ n) in
+    let rest = none_map (λ ys. node_then z ys) (nodes_changed f (nodes_of (take i xs))) (none_second _ _ n) in
+    let more = nodes_changed_at f xs i x y (omega arith) e rest h in
+    ap (λ o. first_some (option_map (λ w. node_then w (nodes_of xs)) o) (option_map (λ ys. node_then z ys) (nodes_changed f (nodes_of xs)))) first
+    ∙ ap (option_map (λ ys. node_then z ys)) more
+
+nodes_unchanged_suc : (f : RegionTree → Option RegionTree) (xs : List NodeTree) (i : ℕ) (x : NodeTree) → i < length xs → x ≡ get_or xs i x →
+    nodes_changed f (nodes_of (take i xs)) ≡ None → node_changed f x ≡ None → nodes_changed f (nodes_of (take (suc i) xs)) ≡ None
+nodes_unchanged_suc f [] i x b e n h = absurd (omega arith)
+nodes_unchanged_suc f (z ∷ xs) zero x b e n h = ap (λ o. first_some (option_map (λ w. node_then w no_nodes) o) None) (ap (node_changed f) (sym e) ∙ h)
+nodes_unchanged_suc f (z ∷ xs) (suc i) x b e n h =
+    let first = none_map (λ w. node_then w (nodes_of (take i xs))) (node_changed f z) (none_first _ _ n) in
+    let rest = none_map (λ ys. node_then z ys) (nodes_changed f (nodes_of (take i xs))) (none_second _ _ n) in
+    let more = nodes_unchanged_suc f xs i x (omega arith) e rest h in
+    ap (λ o. first_some (option_map (λ w. node_then w (nodes_of (take (suc i) xs))) o) (option_map (λ ys. node_then z ys) (nodes_changed f (nodes_of (take (suc i) xs))))) first
+    ∙ ap (option_map (λ ys. node_then z ys)) more
+
+pub nodes_unchanged_more : (f : RegionTree → Option RegionTree) (xs : List NodeTree) (i : ℕ) (x : NodeTree) → i < length xs → x ≡ get_or xs i x →
+    nodes_changed f (nodes_of (take i xs)) ≡ None → node_changed f x ≡ None → nodes_changed f (nodes_of (take (i + 1) xs)) ≡ None
+nodes_unchanged_more f xs i x b e n h = rw add-one (nodes_unchanged_suc f xs i x b e n h)
+
+pub regions_changed_at : (f : RegionTree → Option RegionTree) (xs : List RegionTree) (i : ℕ) (x y : RegionTree) → i < length xs → x ≡ get_or xs i x →
+    regions_changed f (regions_of (take i xs)) ≡ None → region_changed f x ≡ Some y → regions_changed f (regions_of xs) ≡ Some (regions_of (slice_set xs i y))
+regions_changed_at f [] i x y b e n h = absurd (omega arith)
+regions_changed_at f (z ∷ xs) zero x y b e n h =
+    ap (λ o. first_some (option_map (λ w. region_then w (regions_of xs)) o) (option_map (λ ys. region_then z ys) (regions_changed f (regions_of xs)))) (ap (region_changed f) (sym e) ∙ h)
+regions_changed_at f (z ∷ xs) (suc i) x y b e n h =
+    let first = none_map (λ w. region_then w (regions_of (take i xs))) (region_changed f z) (none_first _ _ n) in
+    let rest = none_map (λ ys. region_then z ys) (regions_changed f (regions_of (take i xs))) (none_second _ _ n) in
+    let more = regions_changed_at f xs i x y (omega arith) e rest h in
+    ap (λ o. first_some (option_map (λ w. region_then w (regions_of xs)) o) (option_map (λ ys. region_then z ys) (regions_changed f (regions_of xs)))) first
+    ∙ ap (option_map (λ ys. region_then z ys)) more
+
+regions_unchanged_suc : (f : RegionTree → Option RegionTree) (xs : List RegionTree) (i : ℕ) (x : RegionTree) → i < length xs → x ≡ get_or xs i x →
+    regions_changed f (regions_of (take i xs)) ≡ None → region_changed f x ≡ None → regions_changed f (regions_of (take (suc i) xs)) ≡ None
+regions_unchanged_suc f [] i x b e n h = absurd (omega arith)
+regions_unchanged_suc f (z ∷ xs) zero x b e n h = ap (λ o. first_some (option_map (λ w. region_then w no_regions) o) None) (ap (region_changed f) (sym e) ∙ h)
+regions_unchanged_suc f (z ∷ xs) (suc i) x b e n h =
+    let first = none_map (λ w. region_then w (regions_of (take i xs))) (region_changed f z) (none_first _ _ n) in
+    let rest = none_map (λ ys. region_then z ys) (regions_changed f (regions_of (take i xs))) (none_second _ _ n) in
+    let more = regions_unchanged_suc f xs i x (omega arith) e rest h in
+    ap (λ o. first_some (option_map (λ w. region_then w (regions_of (take (suc i) xs))) o) (option_map (λ ys. region_then z ys) (regions_changed f (regions_of (take (suc i) xs))))) first
+    ∙ ap (option_map (λ ys. region_then z ys)) more
+
+pub regions_unchanged_more : (f : RegionTree → Option RegionTree) (xs : List RegionTree) (i : ℕ) (x : RegionTree) → i < length xs → x ≡ get_or xs i x →
+    regions_changed f (regions_of (take i xs)) ≡ None → region_changed f x ≡ None → regions_changed f (regions_of (take (i + 1) xs)) ≡ None
+regions_unchanged_more f xs i x b e n h = rw add-one (regions_unchanged_suc f xs i x b e n h)
+
+-- an element that stays as it is
+pub set_same : {X : Type 0} (xs : List X) (i : ℕ) (x y : X) → x ≡ get_or xs i x → y ≡ x → slice_set xs i y ≡ xs
+set_same xs i x y e same = ap (slice_set xs i) (same ∙ e) ∙ set-get_or xs i x
+
+pub when_true : (P Q : Type 0) (b : Bool) → b ≡ true → MatchBool b P Q → P
+when_true P Q true e h = h
+when_true P Q false e h = absurd (cc)
+
+pub when_false : (P Q : Type 0) (b : Bool) → b ≡ false → MatchBool b P Q → Q
+when_false P Q false e h = h
+when_false P Q true e h = absurd (cc)

@@ -1,0 +1,37 @@
+-- A change of one region of a nest: of the first, in pre-order, that can be changed so. None where there is no such
+-- region.
+use Rattle.std.specs.Prelude.{ℕ, ◌==◌, Bool, false, ◌||◌, if◌then◌else◌, unwrap_or, option_map}
+use Rattle.std.specs.declared.option.Option.{Option}
+use Rattle.std.specs.declared.option.Option.TheVariants.{Some, None}
+use Rattle.g_graph.specs.Plain.{RegionTree, region, NodeTree, node, NodeTrees, no_nodes, node_then, RegionTrees, no_regions, region_then, id_of, PlainLambda}
+
+abbrev pub first_some : {X : Type 0} → Option X → Option X → Option X
+first_some None y = y
+first_some (Some x) y = Some x
+
+abbrev mutual
+  pub region_changed : (RegionTree → Option RegionTree) → RegionTree → Option RegionTree
+  region_changed f (region args nodes results) = first_some (f (region args nodes results)) (option_map (λ ns. region args ns results) (nodes_changed f nodes))
+
+  pub node_changed : (RegionTree → Option RegionTree) → NodeTree → Option NodeTree
+  node_changed f (node id op inputs rs) = option_map (λ ss. node id op inputs ss) (regions_changed f rs)
+
+  pub nodes_changed : (RegionTree → Option RegionTree) → NodeTrees → Option NodeTrees
+  nodes_changed f no_nodes = None
+  nodes_changed f (node_then x xs) = first_some (option_map (λ y. node_then y xs) (node_changed f x)) (option_map (λ ys. node_then x ys) (nodes_changed f xs))
+
+  pub regions_changed : (RegionTree → Option RegionTree) → RegionTrees → Option RegionTrees
+  regions_changed f no_regions = None
+  regions_changed f (region_then r rs) = first_some (option_map (λ s. region_then s rs) (region_changed f r)) (option_map (λ ss. region_then r ss) (regions_changed f rs))
+
+-- the lambda with its body changed so, or as it was
+abbrev pub lambda_changed : (RegionTree → Option RegionTree) → PlainLambda → PlainLambda
+lambda_changed f l = record l { body = unwrap_or (region_changed f l.body) l.body }
+
+abbrev pub has_node : ℕ → NodeTrees → Bool
+has_node n no_nodes = false
+has_node n (node_then x xs) = (id_of x == n) || has_node n xs
+
+-- the change of the region that itself holds the node of this number
+abbrev pub at_home : ℕ → (RegionTree → RegionTree) → RegionTree → Option RegionTree
+at_home n change (region args nodes results) = if has_node n nodes then Some (change (region args nodes results)) else None

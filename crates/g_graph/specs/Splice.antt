@@ -1,0 +1,38 @@
+-- The nodes of a region, the part, in the place of a node: the arguments of the part become the inputs that are given
+-- for them, and uses of the node's outputs become the part's results, in the same order. An argument or output without
+-- its input or result stays as it is.
+use Rattle.std.specs.Prelude.{ℕ, ◌==◌, List, map, if◌then◌else◌, unwrap_or, slice_get}
+use Rattle.g_graph.specs.declared.op.Origin.{Origin}
+use Rattle.g_graph.specs.declared.op.Origin.TheVariants.{Arg, Out}
+use Rattle.g_graph.specs.Plain.{RegionTree, region, NodeTrees, no_nodes, node_then, id_of, PlainLambda}
+use Rattle.g_graph.specs.Change.{lambda_changed, at_home}
+use Rattle.g_graph.specs.Replace.{nodes_redirected}
+
+-- an origin of the part, outside it
+abbrev pub placed : (inputs : List Origin) → Origin → Origin
+placed inputs (Arg k) = unwrap_or (slice_get inputs k) (Arg k)
+placed inputs (Out n p) = Out n p
+
+-- an origin, where the outputs of the node come from `outputs`
+abbrev pub without : (at : ℕ) → (outputs : List Origin) → Origin → Origin
+without at outputs (Arg k) = Arg k
+without at outputs (Out n p) = if n == at then unwrap_or (slice_get outputs p) (Out n p) else Out n p
+
+abbrev pub joined_nodes : NodeTrees → NodeTrees → NodeTrees
+joined_nodes no_nodes ys = ys
+joined_nodes (node_then x xs) ys = node_then x (joined_nodes xs ys)
+
+-- the first node of that number makes way for the part; the nodes before it use none of its outputs
+abbrev pub nodes_spliced : (at : ℕ) → (part : NodeTrees) → (outputs : List Origin) → NodeTrees → NodeTrees
+nodes_spliced at part outputs no_nodes = no_nodes
+nodes_spliced at part outputs (node_then x xs) =
+    if id_of x == at then joined_nodes part (nodes_redirected (without at outputs) xs) else node_then x (nodes_spliced at part outputs xs)
+
+abbrev pub region_spliced : (at : ℕ) → (part : RegionTree) → (inputs : List Origin) → RegionTree → RegionTree
+region_spliced at (region own part outputs) inputs (region args nodes results) =
+    region args (nodes_spliced at (nodes_redirected (placed inputs) part) (map (placed inputs) outputs) nodes)
+    (map (without at (map (placed inputs) outputs)) results)
+
+-- in the region that holds the node `at`
+abbrev pub spliced : (at : ℕ) → (part : RegionTree) → (inputs : List Origin) → PlainLambda → PlainLambda
+spliced at part inputs l = lambda_changed (at_home at (region_spliced at part inputs)) l
