@@ -1,13 +1,17 @@
 -- Changes of regions of one lambda.
-use Rattle.std.proofs.Common.{◌≡◌, ℕ, zero, suc, nat_lt, ◌==◌, Bool, true, false, not, ◌&&◌, ◌||◌, List, [], ◌∷◌, ◌++◌, length, slice_get, Option, None, Some, refl, sym, subst, inl, inr}
+use Rattle.std.proofs.Common.{◌≡◌, ℕ, zero, suc, nat_lt, ◌==◌, Bool, true, false, not, ◌&&◌, ◌||◌, List, [], ◌∷◌, ◌++◌, length, slice_get, Option, None, Some, option_map, unwrap_or, refl, sym, subst, ◌∙◌, inl, inr}
 use Rattle.std.proofs.lemmas.Bool.{and_parts, and_from}
 use Rattle.g_graph.specs.Plain.{RegionTree, region, node, NodeTrees, no_nodes, node_then, RegionTrees, no_regions, region_then, PlainLambda}
 use Rattle.g_graph.specs.Ids.{region_ids, nodes_ids, regions_ids}
 use Rattle.g_graph.specs.WellFormed.{all_of, some_of, distinct, body_fits, numbers_fit, leaves_fit, well_formed, every_region, every_in_nodes, every_in_regions, region_fits}
 use Rattle.g_mean.specs.Alike.{SameBut, NodesSameBut, RegionsSameBut, LambdaSameBut, LambdasSameBut}
 use Rattle.g_mean.specs.Replacement.{Replaces}
-use Rattle.g_mean.specs.Edits.{edited_or, region_edited, nodes_edited, regions_edited, AreEditedAt, IsPartOf, EditsReplace}
-use Rattle.g_mean.proofs.Calls.{same-itself}
+use Rattle.g_graph.specs.declared.op.Kind.{Kind}
+use Rattle.g_graph.specs.declared.op.Op.{Op}
+use Rattle.g_graph.specs.declared.op.Origin.{Origin}
+use Rattle.g_graph.specs.Change.{first_some, region_changed, nodes_changed, regions_changed, lambda_changed}
+use Rattle.g_mean.specs.Edits.{AreEditedAt, IsPartOf, EditsReplace}
+use Rattle.g_mean.proofs.Calls.{same-itself, nodes-itself, regions-itself}
 use Rattle.g_mean.proofs.Closed.{region-closed}
 
 -- ---- tests of lists
@@ -44,34 +48,76 @@ body-part l t =
     let s = and_parts (distinct (region_ids l.body)) (all_of (λ n. nat_lt n l.next) (region_ids l.body)) r.1 in
     record { fits = q.1; closed = region-closed (length l.objects) l.body q.1; unique = s.0; below = s.1 }
 
+-- ---- what follows where a change was made
+
+module _ (P : RegionTree → RegionTree → Type 0) where
+  inside : (args : List Kind) (results : List Origin) (ns : NodeTrees) (found : Option NodeTrees) → ((ms : NodeTrees) → found ≡ Some ms → NodesSameBut P ns ms) → (s : RegionTree) → option_map (λ ms. region args ms results) found ≡ Some s → SameBut P (region args ns results) s
+  inside args results ns None h s e = absurd cc
+  inside args results ns (Some ms) h (region args' ms' results') e =
+      let same : region args ms results ≡ region args' ms' results' = cc in
+      let kinds : args ≡ args' = cc in
+      let nodes : ms ≡ ms' = cc in
+      let origins : results ≡ results' = cc in
+      inr (kinds, subst (λ ks. NodesSameBut P ns ks) nodes (h ms refl), origins)
+
+  first-or-rest : (id : ℕ) (op : Op) (inputs : List Origin) (rs : RegionTrees) (ns : NodeTrees) (first : Option RegionTrees) → ((ss : RegionTrees) → first ≡ Some ss → RegionsSameBut P rs ss) → (rest : Option NodeTrees) → ((ks : NodeTrees) → rest ≡ Some ks → NodesSameBut P ns ks) → (ms : NodeTrees) →
+      first_some (option_map (λ y. node_then y ns) (option_map (λ ss. node id op inputs ss) first)) (option_map (λ ys. node_then (node id op inputs rs) ys) rest) ≡ Some ms →
+      NodesSameBut P (node_then (node id op inputs rs) ns) ms
+  first-or-rest id op inputs rs ns (Some ss) h rest k ms e =
+      let same : node_then (node id op inputs ss) ns ≡ ms = cc in
+      subst (λ z. NodesSameBut P (node_then (node id op inputs rs) ns) z) same ((refl, refl, refl, h ss refl), nodes-itself P ns)
+  first-or-rest id op inputs rs ns None h (Some ks) k ms e =
+      let same : node_then (node id op inputs rs) ks ≡ ms = cc in
+      subst (λ z. NodesSameBut P (node_then (node id op inputs rs) ns) z) same ((refl, refl, refl, regions-itself P rs), k ks refl)
+  first-or-rest id op inputs rs ns None h None k ms e = absurd cc
+
+  region-or-rest : (r : RegionTree) (rs : RegionTrees) (first : Option RegionTree) → ((s : RegionTree) → first ≡ Some s → SameBut P r s) → (rest : Option RegionTrees) → ((qs : RegionTrees) → rest ≡ Some qs → RegionsSameBut P rs qs) → (ss : RegionTrees) →
+      first_some (option_map (λ s. region_then s rs) first) (option_map (λ qs. region_then r qs) rest) ≡ Some ss → RegionsSameBut P (region_then r rs) ss
+  region-or-rest r rs (Some s) h rest k ss e =
+      let same : region_then s rs ≡ ss = cc in
+      subst (λ z. RegionsSameBut P (region_then r rs) z) same (h s refl, regions-itself P rs)
+  region-or-rest r rs None h (Some qs) k ss e =
+      let same : region_then r qs ≡ ss = cc in
+      subst (λ z. RegionsSameBut P (region_then r rs) z) same (same-itself P r, k qs refl)
+  region-or-rest r rs None h None k ss e = absurd cc
+
 module _ (P : RegionTree → RegionTree → Type 0) (here : RegionTree → Option RegionTree) (l : PlainLambda) (local : (r s : RegionTree) → IsPartOf l r → here r ≡ Some s → P r s) where
-  here-same : (r : RegionTree) → IsPartOf l r → (inside : RegionTree) → SameBut P r inside → (found : Option RegionTree) → here r ≡ found → SameBut P r (edited_or found inside)
-  here-same r part inside same None e = same
-  here-same (region args nodes results) part inside same (Some (region args' nodes' results')) e = inl (local (region args nodes results) (region args' nodes' results') part e)
+  changed-here : (r : RegionTree) → IsPartOf l r → (found : Option RegionTree) → here r ≡ found → (rest : Option RegionTree) → ((s : RegionTree) → rest ≡ Some s → SameBut P r s) → (s : RegionTree) → first_some found rest ≡ Some s → SameBut P r s
+  changed-here (region args nodes results) part (Some (region args' nodes' results')) e rest same (region args'' nodes'' results'') d =
+      inl (local (region args nodes results) (region args'' nodes'' results'') part (e ∙ d))
+  changed-here r part None e rest same s d = same s d
 
   mutual
-    pub edited-same : (r : RegionTree) → IsPartOf l r → SameBut P r (region_edited here r)
-    edited-same (region args nodes results) part =
+    pub changed-same : (r : RegionTree) → IsPartOf l r → (s : RegionTree) → region_changed here r ≡ Some s → SameBut P r s
+    changed-same (region args nodes results) part s e =
         let p = and_parts (region_fits (length l.objects) (region args nodes results)) (every_in_nodes (region_fits (length l.objects)) nodes) part.fits in
-        here-same (region args nodes results) part (region args (nodes_edited here nodes) results) (inr (refl, nodes-same nodes p.1 part.unique part.below, refl)) (here (region args nodes results)) refl
+        changed-here (region args nodes results) part (here (region args nodes results)) refl (option_map (λ ns. region args ns results) (nodes_changed here nodes))
+        (inside P args results nodes (nodes_changed here nodes) (λ ms d. nodes-same nodes p.1 part.unique part.below ms d)) s e
 
-    nodes-same : (ns : NodeTrees) → every_in_nodes (region_fits (length l.objects)) ns ≡ true → distinct (nodes_ids ns) ≡ true → all_of (λ n. nat_lt n l.next) (nodes_ids ns) ≡ true → NodesSameBut P ns (nodes_edited here ns)
-    nodes-same no_nodes t unique below = tt
-    nodes-same (node_then (node id op inputs rs) ns) t unique below =
+    nodes-same : (ns : NodeTrees) → every_in_nodes (region_fits (length l.objects)) ns ≡ true → distinct (nodes_ids ns) ≡ true → all_of (λ n. nat_lt n l.next) (nodes_ids ns) ≡ true → (ms : NodeTrees) → nodes_changed here ns ≡ Some ms → NodesSameBut P ns ms
+    nodes-same no_nodes t unique below ms e = absurd cc
+    nodes-same (node_then (node id op inputs rs) ns) t unique below ms e =
         let p = and_parts (every_in_regions (region_fits (length l.objects)) rs) (every_in_nodes (region_fits (length l.objects)) ns) t in
         let d = distinct-split (id ∷ regions_ids rs) (nodes_ids ns) unique in
         let b = all-split (λ n. nat_lt n l.next) (id ∷ regions_ids rs) (nodes_ids ns) below in
-        let e = and_parts (not (some_of (λ m. id == m) (regions_ids rs))) (distinct (regions_ids rs)) d.0 in
+        let f = and_parts (not (some_of (λ m. id == m) (regions_ids rs))) (distinct (regions_ids rs)) d.0 in
         let c = and_parts (nat_lt id l.next) (all_of (λ n. nat_lt n l.next) (regions_ids rs)) b.0 in
-        ((refl, refl, refl, regions-same rs p.0 e.1 c.1), nodes-same ns p.1 d.1 b.1)
+        first-or-rest P id op inputs rs ns (regions_changed here rs) (λ ss q. regions-same rs p.0 f.1 c.1 ss q) (nodes_changed here ns) (λ ks q. nodes-same ns p.1 d.1 b.1 ks q) ms e
 
-    regions-same : (rs : RegionTrees) → every_in_regions (region_fits (length l.objects)) rs ≡ true → distinct (regions_ids rs) ≡ true → all_of (λ n. nat_lt n l.next) (regions_ids rs) ≡ true → RegionsSameBut P rs (regions_edited here rs)
-    regions-same no_regions t unique below = tt
-    regions-same (region_then r rs) t unique below =
+    regions-same : (rs : RegionTrees) → every_in_regions (region_fits (length l.objects)) rs ≡ true → distinct (regions_ids rs) ≡ true → all_of (λ n. nat_lt n l.next) (regions_ids rs) ≡ true → (ss : RegionTrees) → regions_changed here rs ≡ Some ss → RegionsSameBut P rs ss
+    regions-same no_regions t unique below ss e = absurd cc
+    regions-same (region_then r rs) t unique below ss e =
         let p = and_parts (every_region (region_fits (length l.objects)) r) (every_in_regions (region_fits (length l.objects)) rs) t in
         let d = distinct-split (region_ids r) (regions_ids rs) unique in
         let b = all-split (λ n. nat_lt n l.next) (region_ids r) (regions_ids rs) below in
-        (edited-same r (record { fits = p.0; closed = region-closed (length l.objects) r p.0; unique = d.0; below = b.0 }), regions-same rs p.1 d.1 b.1)
+        region-or-rest P r rs (region_changed here r) (λ s q. changed-same r (record { fits = p.0; closed = region-closed (length l.objects) r p.0; unique = d.0; below = b.0 }) s q) (regions_changed here rs) (λ qs q. regions-same rs p.1 d.1 b.1 qs q) ss e
+
+pub body-same : (P : RegionTree → RegionTree → Type 0) (here : RegionTree → Option RegionTree) (l : PlainLambda) → ((r s : RegionTree) → IsPartOf l r → here r ≡ Some s → P r s) → IsPartOf l l.body → SameBut P l.body (lambda_changed here l).body
+body-same P here l local part = by (region_changed here l.body) refl
+  where
+    by : (found : Option RegionTree) → region_changed here l.body ≡ found → SameBut P l.body (unwrap_or found l.body)
+    by None e = same-itself P l.body
+    by (Some s) e = changed-same P here l local l.body part s e
 
 -- ---- lists of lambdas
 
@@ -87,7 +133,7 @@ edited-lists P here zero (l ∷ ls) (k ∷ ks) h well local = (
     number = h.0.number;
     params = h.0.params;
     objects = h.0.objects;
-    body = subst (λ b. SameBut P l.body b) (sym h.0.body) (edited-same P here l (λ r s part e. local l r s refl part e) l.body (body-part l (well l refl)));
+    body = subst (λ b. SameBut P l.body b) (sym h.0.body) (body-same P here l (λ r s part e. local l r s refl part e) (body-part l (well l refl)));
   },
   subst (λ js. LambdasSameBut P ls js) h.1 (lambdas-itself P ls),
 )

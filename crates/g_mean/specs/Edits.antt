@@ -1,39 +1,20 @@
 -- A change of regions of one lambda, and what is known of each region that it may change.
-use Rattle.std.specs.Prelude.{◌≡◌, ℕ, zero, suc, nat_lt, List, [], ◌∷◌, length, Option, None, Some, slice_get, IsTrue}
-use Rattle.g_graph.specs.Plain.{RegionTree, region, NodeTree, node, NodeTrees, no_nodes, node_then, RegionTrees, no_regions, region_then, PlainLambda}
+use Rattle.std.specs.Prelude.{◌≡◌, ℕ, zero, suc, nat_lt, List, [], ◌∷◌, length, Option, Some, slice_get, IsTrue}
+use Rattle.g_graph.specs.Plain.{RegionTree, PlainLambda}
+use Rattle.g_graph.specs.Change.{lambda_changed}
 use Rattle.g_graph.specs.Ids.{region_ids}
 use Rattle.g_graph.specs.WellFormed.{IsWellFormed, every_region, region_fits, distinct, all_of}
 use Rattle.g_mean.specs.Alike.{LambdasSameBut}
 use Rattle.g_mean.specs.Copies.{IsClosed}
 use Rattle.g_mean.specs.Replacement.{Replaces}
 
-abbrev pub edited_or : Option RegionTree → RegionTree → RegionTree
-edited_or None r = r
-edited_or (Some s) r = s
-
--- Where `here` gives a region in the place of this one, that; else the same inside it.
-abbrev mutual
-  pub region_edited : (here : RegionTree → Option RegionTree) → RegionTree → RegionTree
-  region_edited here (region args nodes results) =
-      edited_or (here (region args nodes results)) (region args (nodes_edited here nodes) results)
-
-  pub node_edited : (here : RegionTree → Option RegionTree) → NodeTree → NodeTree
-  node_edited here (node id op inputs rs) = node id op inputs (regions_edited here rs)
-
-  pub nodes_edited : (here : RegionTree → Option RegionTree) → NodeTrees → NodeTrees
-  nodes_edited here no_nodes = no_nodes
-  nodes_edited here (node_then x ns) = node_then (node_edited here x) (nodes_edited here ns)
-
-  pub regions_edited : (here : RegionTree → Option RegionTree) → RegionTrees → RegionTrees
-  regions_edited here no_regions = no_regions
-  regions_edited here (region_then r rs) = region_then (region_edited here r) (regions_edited here rs)
-
--- the lambda with its body so changed, and another number for its next node
+-- The lambda with its body changed as `here` says, where it gives a region in the place of one; the number of its next
+-- node may be another.
 pub record IsEdited (here : RegionTree → Option RegionTree) (l k : PlainLambda) : Type 0 where
   pub number : l.number ≡ k.number
   pub params : l.params ≡ k.params
   pub objects : l.objects ≡ k.objects
-  pub body : k.body ≡ region_edited here l.body
+  pub body : k.body ≡ (lambda_changed here l).body
 
 -- the lambda of function `f` so changed, and all others as they were
 abbrev pub AreEditedAt : (here : RegionTree → Option RegionTree) → (f : ℕ) → List PlainLambda → List PlainLambda → Type 0
