@@ -1,5 +1,5 @@
 -- Copies of nodes mean the same.
-use Rattle.std.proofs.Common.{◌≡◌, ◌≢◌, ℕ, ◌==◌, ◌⊎◌, true, false, List, [], ◌∷◌, ◌++◌, map, refl, sym, ap, ap₂, subst, ◌∙◌, inl, inr, arith, eq-eqb}
+use Rattle.std.proofs.Common.{◌≡◌, ◌≢◌, ℕ, ◌==◌, ◌⊎◌, Bool, true, false, List, [], ◌∷◌, ◌++◌, map, refl, sym, ap, ap₂, subst, subst₂, ◌∙◌, inl, inr, arith, eq-eqb}
 use Rattle.std.proofs.lemmas.Bool.{cases_Bool, eqb-false}
 use Rattle.std.proofs.lemmas.Bool.Decides.{nat_tests}
 use Rattle.std.proofs.Math.Path.{fun_ext}
@@ -8,11 +8,12 @@ use Rattle.val_core.specs.Answers.{Answer, Back, Cut, Ended, Wrong, before, then
 use Rattle.val_core.proofs.Answers.{added, before-is}
 use Rattle.g_graph.specs.declared.op.Origin.{Origin}
 use Rattle.g_graph.specs.declared.op.Origin.TheVariants.{Arg, Out}
-use Rattle.g_graph.specs.Plain.{RegionTree, region, NodeTree, node, NodeTrees, no_nodes, node_then, RegionTrees, no_regions, region_then, id_of}
-use Rattle.g_graph.specs.Ids.{region_ids, node_ids, nodes_ids, regions_ids}
+use Rattle.g_graph.specs.Plain.{RegionTree, region, NodeTree, node, NodeTrees, no_nodes, node_then, RegionTrees, no_regions, region_then}
+use Rattle.g_graph.specs.Ids.{region_ids, nodes_ids, regions_ids}
 use Rattle.g_mean.specs.Data.{Datum, at_port}
 use Rattle.g_mean.specs.Meaning.{Around, act, Outputs, no_outputs, extended, read, region_meaning, nodes_run, meanings}
-use Rattle.g_mean.specs.Copies.{copied_origin, region_copied, node_copied, nodes_copied, regions_copied, IsAmong, IsOneToOne, ComesFrom, ComeFrom, known_after, IsClosed, AreClosed, AllClosed, Same, CopiedRegionsMeanTheSame, HoldCopies, IsReady, IsCopied, CopiedNodesMeanTheSame}
+use Rattle.g_graph.specs.Replace.{nodes_redirected}
+use Rattle.g_mean.specs.Copies.{renumbered, region_copied, node_moved, nodes_moved, regions_copied, IsAmong, IsOneToOne, IsRead, AreRead, known_after, is_argument, IsClosed, NodesRead, AllClosed, CanMove, Same, ReadSame, CopiedRegionsMeanTheSame, CopiedNodesMeanTheSame}
 
 -- ---- the same answers
 
@@ -74,17 +75,6 @@ among-split n (m ∷ ms) ns (inr h) = by (among-split n ms ns h)
 pub fewer : (to : ℕ → ℕ) (ms ns : List ℕ) → ((n : ℕ) → IsAmong n ms → IsAmong n ns) → IsOneToOne to ns → IsOneToOne to ms
 fewer to ms ns h one m n a b e = one m n (h m a) (h n b) e
 
-later : (id : ℕ) (known rest ids : List ℕ) (n : ℕ) → IsAmong n ((id ∷ known) ++ ids) → IsAmong n (known ++ ((id ∷ rest) ++ ids))
-later id known rest ids n (inl e) = among-right n known ((id ∷ rest) ++ ids) (inl e)
-later id known rest ids n (inr h) = by (among-split n known ids h)
-  where
-    by : IsAmong n known ⊎ IsAmong n ids → IsAmong n (known ++ ((id ∷ rest) ++ ids))
-    by (inl k) = among-left n known ((id ∷ rest) ++ ids) k
-    by (inr k) = among-right n known ((id ∷ rest) ++ ids) (among-right n (id ∷ rest) ids k)
-
-id-among : (x : NodeTree) → IsAmong (id_of x) (node_ids x)
-id-among (node id op inputs rs) = inl refl
-
 same-change : {A B : Type 0} (R S : A → B → Type 0) (a : Answer A) (b : Answer B) → ((x : A) (y : B) → R x y → S x y) → Same R a b → Same S a b
 same-change R S (Back x o) (Back y p) more h = (more x y h.0, h.1)
 same-change R S (Cut o) (Cut p) more h = h
@@ -104,89 +94,99 @@ extended-same o id us n p e = rw (test-same id n e)
 pub extended-other : (o : Outputs) (id : ℕ) (us : List Datum) (n p : ℕ) → id ≢ n → extended o id us n p ≡ o n p
 extended-other o id us n p ne = rw (test-other id n ne)
 
--- ---- reading
-
-read-copied : (place : ℕ → Origin) (to : ℕ → ℕ) (known : List ℕ) (xs ys : List Datum) (o q : Outputs) → ((k : ℕ) → read ys q (place k) ≡ at_port xs k) → HoldCopies to known o q → (a : Origin) → ComesFrom known a → read ys q (copied_origin place to a) ≡ read xs o a
-read-copied place to known xs ys o q holds held (Arg k) h = holds k
-read-copied place to known xs ys o q holds held (Out n p) h = held n h p
-
-reads-copied : (place : ℕ → Origin) (to : ℕ → ℕ) (known : List ℕ) (xs ys : List Datum) (o q : Outputs) → ((k : ℕ) → read ys q (place k) ≡ at_port xs k) → HoldCopies to known o q → (origins : List Origin) → ComeFrom known origins → map (read ys q) (map (copied_origin place to) origins) ≡ map (read xs o) origins
-reads-copied place to known xs ys o q holds held [] h = refl
-reads-copied place to known xs ys o q holds held (a ∷ origins) h =
-    ap₂ (λ z zs. z ∷ zs) (read-copied place to known xs ys o q holds held a h.0) (reads-copied place to known xs ys o q holds held origins h.1)
-
 -- ---- one more node
 
-held-more : (to : ℕ → ℕ) (id : ℕ) (known : List ℕ) → IsOneToOne to (id ∷ known) → (o q : Outputs) → HoldCopies to known o q → (us : List Datum) → HoldCopies to (id ∷ known) (extended o id us) (extended q (to id) us)
-held-more to id known one o q held us n h p = by (cases_Bool (id == n))
-  where
-    known-then : n ≢ id → IsAmong n (id ∷ known) → IsAmong n known
-    known-then ne (inl e) = absurd (ne e)
-    known-then ne (inr k) = k
+pub among-more : (all : List ℕ) (id : ℕ) (known : List ℕ) → IsAmong id all → ((n : ℕ) → IsAmong n known → IsAmong n all) → (n : ℕ) → IsAmong n (id ∷ known) → IsAmong n all
+among-more all id known first within n (inl e) = subst (λ z. IsAmong z all) (sym e) first
+among-more all id known first within n (inr h) = within n h
 
-    other : id ≢ n → extended q (to id) us (to n) p ≡ extended o id us n p
-    other ne =
-        extended-other q (to id) us (to n) p (λ e. ne (one id n (inl refl) h e)) ∙ held n (known-then (λ e. ne (sym e)) h) p
-        ∙ sym (extended-other o id us n p ne)
+older-among : (id n : ℕ) (known : List ℕ) → id ≢ n → IsAmong n (id ∷ known) → IsAmong n known
+older-among id n known ne (inl e) = absurd (ne (sym e))
+older-among id n known ne (inr k) = k
 
-    by : ((id == n) ≡ true) ⊎ ((id == n) ≡ false) → extended q (to id) us (to n) p ≡ extended o id us n p
-    by (inl t) =
-        let e : id ≡ n = grind (arith, nat_tests) in
-        extended-same q (to id) us (to n) p (ap to e) ∙ sym (extended-same o id us n p e)
-    by (inr t) = other (eqb-false id n t)
+-- An output that another node has run for: what `N` says of the two sides stays.
+module _ (N : Datum → Datum → Type 0) (S : Origin → Bool) (move : Origin → Origin) (to : ℕ → ℕ) (all : List ℕ) (can : CanMove S move to all) (xs ys : List Datum) where
+  abbrev pub ReadAs : List ℕ → Outputs → Outputs → Type 0
+  ReadAs known o q = (a : Origin) → IsRead S known a → N (read xs o a) (read ys q (move a))
 
-ready-more : (place : ℕ → Origin) (to : ℕ → ℕ) (ids rest : List ℕ) (id : ℕ) → IsAmong id ids → ((n : ℕ) → IsAmong n rest → IsAmong n ids) → (xs ys : List Datum) (q : Outputs) (us : List Datum) → IsReady place to ids xs ys q → IsReady place to rest xs ys (extended q (to id) us)
-ready-more place to ids rest id first more xs ys q us ready =
-    record {
-      holds = λ k. by k (place k) refl;
-      fresh = λ k n p m e h. ready.fresh k n p m e (more m h);
-    }
-  where
-    by : (k : ℕ) (a : Origin) → place k ≡ a → read ys (extended q (to id) us) (place k) ≡ at_port xs k
-    by k (Arg j) e = ap (read ys (extended q (to id) us)) e ∙ sym (ap (read ys q) e) ∙ ready.holds k
-    by k (Out n p) e =
-        ap (read ys (extended q (to id) us)) e ∙ extended-other q (to id) us n p (λ d. ready.fresh k n p id e first (sym d)) ∙ sym (ap (read ys q) e)
-        ∙ ready.holds k
+  near-side : (o : Outputs) (id : ℕ) (us : List Datum) → IsAmong id all → (b : Origin) → S b ≡ true → (b' : Origin) → b ≡ b' → read xs (extended o id us) b ≡ read xs o b
+  near-side o id us first b s (Arg k) e = ap (read xs (extended o id us)) e ∙ sym (ap (read xs o) e)
+  near-side o id us first b s (Out n p) e =
+      ap (read xs (extended o id us)) e ∙ extended-other o id us n p (λ t. can.apart b n p s e (subst (λ z. IsAmong z all) t first)) ∙ sym (ap (read xs o) e)
 
-copied-more : (to : ℕ → ℕ) (ids rest known : List ℕ) (id : ℕ) → IsAmong id ids → ((n : ℕ) → IsAmong n rest → IsAmong n ids) → (q : Outputs) (us : List Datum) (o r : Outputs) → IsCopied to rest known (extended q (to id) us) o r → IsCopied to ids known q o r
-copied-more to ids rest known id first more q us o r h =
-    record {
-      copies = h.copies;
-      others = λ n apart p. h.others n (λ m k. apart m (more m k)) p ∙ extended-other q (to id) us n p (λ e. apart id first (sym e));
-    }
+  far-side : (q : Outputs) (id : ℕ) (vs : List Datum) → IsAmong id all → (b : Origin) → S b ≡ true → (b' : Origin) → move b ≡ b' → read ys (extended q (to id) vs) (move b) ≡ read ys q (move b)
+  far-side q id vs first b s (Arg k) e = ap (read ys (extended q (to id) vs)) e ∙ sym (ap (read ys q) e)
+  far-side q id vs first b s (Out n p) e =
+      ap (read ys (extended q (to id) vs)) e ∙ extended-other q (to id) vs n p (λ t. can.fresh b n p id s e first (sym t)) ∙ sym (ap (read ys q) e)
+
+  pub read-more : (known : List ℕ) → ((n : ℕ) → IsAmong n known → IsAmong n all) → (id : ℕ) → IsAmong id all → (o q : Outputs) → ReadAs known o q → (us vs : List Datum) → ((p : ℕ) → N (at_port us p) (at_port vs p)) → ReadAs (id ∷ known) (extended o id us) (extended q (to id) vs)
+  read-more known within id first o q near us vs ports b (inl s) =
+      subst₂ (λ x y. N x y) (sym (near-side o id us first b s b refl)) (sym (far-side q id vs first b s (move b) refl)) (near b (inl s))
+  read-more known within id first o q near us vs ports (Arg k) (inr h) = absurd h
+  read-more known within id first o q near us vs ports (Out n p) (inr h) =
+      subst (λ z. N (extended o id us n p) (read ys (extended q (to id) vs) z)) (sym (can.outputs n p (among-more all id known first within n h))) (by (cases_Bool (id == n)))
+    where
+      older : id ≢ n → N (extended o id us n p) (extended q (to id) vs (to n) p)
+      older ne =
+          let here = among-more all id known first within n h in
+          subst₂ (λ x y. N x y) (sym (extended-other o id us n p ne)) (sym (extended-other q (to id) vs (to n) p (λ e. ne (can.one id n first here e))))
+          (subst (λ z. N (o n p) (read ys q z)) (can.outputs n p here) (near (Out n p) (inr (older-among id n known ne h))))
+
+      newer : id ≡ n → N (extended o id us n p) (extended q (to id) vs (to n) p)
+      newer e = subst₂ (λ x y. N x y) (sym (extended-same o id us n p e)) (sym (extended-same q (to id) vs (to n) p (ap to e))) (ports p)
+
+      by : ((id == n) ≡ true) ⊎ ((id == n) ≡ false) → N (extended o id us n p) (extended q (to id) vs (to n) p)
+      by (inl t) = newer (grind (arith, nat_tests))
+      by (inr t) = older (eqb-false id n t)
 
 -- ---- nodes and regions
+
+abbrev pub Carries : Datum → Datum → Type 0
+Carries x y = y ≡ x
+
+reads-same : (S : Origin → Bool) (known : List ℕ) (move : Origin → Origin) (xs ys : List Datum) (o q : Outputs) → ReadSame S known move xs ys o q → (origins : List Origin) → AreRead S known origins → map (read ys q) (map move origins) ≡ map (read xs o) origins
+reads-same S known move xs ys o q same [] h = refl
+reads-same S known move xs ys o q same (a ∷ origins) h =
+    ap₂ (λ z zs. z ∷ zs) (same a h.0) (reads-same S known move xs ys o q same origins h.1)
+
+argument-kept : (to : ℕ → ℕ) (xs : List Datum) (o q : Outputs) (a : Origin) → IsRead is_argument [] a → read xs q (renumbered to a) ≡ read xs o a
+argument-kept to xs o q (Arg k) h = refl
+argument-kept to xs o q (Out n p) (inl e) = absurd cc
+argument-kept to xs o q (Out n p) (inr h) = absurd h
+
+renumbered-moves : (to : ℕ → ℕ) (ids : List ℕ) → IsOneToOne to ids → CanMove is_argument (renumbered to) to ids
+renumbered-moves to ids one = record { one = one; outputs = λ n p h. refl; apart = apart; fresh = fresh }
+  where
+    apart : (a : Origin) (n p : ℕ) → is_argument a ≡ true → a ≡ Out n p → IsAmong n ids → ⊥
+    apart (Arg k) n p s e h = absurd cc
+    apart (Out m q) n p s e h = absurd cc
+
+    fresh : (a : Origin) (n p m : ℕ) → is_argument a ≡ true → renumbered to a ≡ Out n p → IsAmong m ids → n ≢ to m
+    fresh (Arg k) n p m s e h d = absurd cc
+    fresh (Out i q) n p m s e h d = absurd cc
 
 mutual
   region-same : (to : ℕ → ℕ) (r : RegionTree) → IsClosed r → IsOneToOne to (region_ids r) → (c : Around) (xs : List Datum) → region_meaning c r xs ≡ region_meaning c (region_copied to r) xs
   region-same to (region args nodes results) closed one c xs =
       same-equal (region_meaning c (region args nodes results) xs) (region_meaning c (region_copied to (region args nodes results)) xs)
-      (same-then (IsCopied to (nodes_ids nodes) (known_after [] nodes) no_outputs) Equals (nodes_run c nodes xs no_outputs) (nodes_run c (nodes_copied Arg to nodes) xs no_outputs)
-      (λ o. Back (map (read xs o) results) []) (λ q. Back (map (read xs q) (map (copied_origin Arg to) results)) [])
-      (nodes-same Arg to nodes [] closed.0 one c xs xs no_outputs no_outputs (record { holds = λ k. refl; fresh = λ k n p m e h. absurd cc }) (λ n h p. absurd h))
-      (λ o q h. (sym (reads-copied Arg to (known_after [] nodes) xs xs o q (λ k. refl) h.copies results closed.1), refl)))
+      (same-then (ReadSame is_argument (known_after [] nodes) (renumbered to) xs xs) Equals (nodes_run c nodes xs no_outputs) (nodes_run c (nodes_moved (renumbered to) to nodes) xs no_outputs)
+      (λ o. Back (map (read xs o) results) []) (λ q. Back (map (read xs q) (map (renumbered to) results)) [])
+      (nodes-same is_argument (renumbered to) to (nodes_ids nodes) (renumbered-moves to (nodes_ids nodes) one) nodes [] (λ n h. absurd h) (λ n h. h) closed.0 c xs xs no_outputs no_outputs (argument-kept to xs no_outputs no_outputs))
+      (λ o q h. (sym (reads-same is_argument (known_after [] nodes) (renumbered to) xs xs o q h results closed.1), refl)))
 
-  nodes-same : (place : ℕ → Origin) (to : ℕ → ℕ) (ns : NodeTrees) (known : List ℕ) → AreClosed known ns → IsOneToOne to (known ++ nodes_ids ns) → (c : Around) (xs ys : List Datum) (o q : Outputs) → IsReady place to (nodes_ids ns) xs ys q → HoldCopies to known o q → Same (IsCopied to (nodes_ids ns) (known_after known ns) q) (nodes_run c ns xs o) (nodes_run c (nodes_copied place to ns) ys q)
-  nodes-same place to no_nodes known closed one c xs ys o q ready held =
-      (record { copies = held; others = λ n apart p. refl }, refl)
-  nodes-same place to (node_then (node id op inputs rs) ns) known closed one c xs ys o q ready held =
-      let more = λ (n : ℕ) (h : IsAmong n (nodes_ids ns)). among-right n (id ∷ regions_ids rs) (nodes_ids ns) h in
-      let first : IsAmong id ((id ∷ regions_ids rs) ++ nodes_ids ns) = inl refl in
-      let one-rest = fewer to ((id ∷ known) ++ nodes_ids ns) (known ++ ((id ∷ regions_ids rs) ++ nodes_ids ns)) (later id known (regions_ids rs) (nodes_ids ns)) one in
-      let one-known = fewer to (id ∷ known) ((id ∷ known) ++ nodes_ids ns) (λ n h. among-left n (id ∷ known) (nodes_ids ns) h) one-rest in
-      let one-regions = fewer to (regions_ids rs) (known ++ ((id ∷ regions_ids rs) ++ nodes_ids ns)) (λ n h. among-right n known ((id ∷ regions_ids rs) ++ nodes_ids ns) (among-left n (id ∷ regions_ids rs) (nodes_ids ns) (inr h))) one in
-      let run = ap₂ (act c op) (regions-same to rs closed.0.1 one-regions c) (sym (reads-copied place to known xs ys o q ready.holds held inputs closed.0.0)) in
-      same-then Equals (IsCopied to (nodes_ids (node_then (node id op inputs rs) ns)) (known_after (id ∷ known) ns) q)
-      (act c op (meanings c rs) (map (read xs o) inputs)) (act c op (meanings c (regions_copied to rs)) (map (read ys q) (map (copied_origin place to) inputs)))
-      (λ us. nodes_run c ns xs (extended o id us)) (λ us. nodes_run c (nodes_copied place to ns) ys (extended q (to id) us))
-      (equal-same _ _ run)
-      (λ us vs e. subst (λ ws. Same (IsCopied to (nodes_ids (node_then (node id op inputs rs) ns)) (known_after (id ∷ known) ns) q) (nodes_run c ns xs (extended o id us)) (nodes_run c (nodes_copied place to ns) ys (extended q (to id) ws))) e
-      (same-change (IsCopied to (nodes_ids ns) (known_after (id ∷ known) ns) (extended q (to id) us)) (IsCopied to (nodes_ids (node_then (node id op inputs rs) ns)) (known_after (id ∷ known) ns) q)
-      (nodes_run c ns xs (extended o id us)) (nodes_run c (nodes_copied place to ns) ys (extended q (to id) us))
-      (λ o' r h. copied-more to ((id ∷ regions_ids rs) ++ nodes_ids ns) (nodes_ids ns) (known_after (id ∷ known) ns) id first more q us o' r h)
-      (nodes-same place to ns (id ∷ known) closed.1 one-rest c xs ys (extended o id us) (extended q (to id) us)
-      (ready-more place to ((id ∷ regions_ids rs) ++ nodes_ids ns) (nodes_ids ns) id first more xs ys q us ready)
-      (held-more to id known one-known o q held us))))
+  nodes-same : (S : Origin → Bool) (move : Origin → Origin) (to : ℕ → ℕ) (all : List ℕ) → CanMove S move to all → (ns : NodeTrees) (known : List ℕ) → ((n : ℕ) → IsAmong n known → IsAmong n all) → ((n : ℕ) → IsAmong n (nodes_ids ns) → IsAmong n all) → NodesRead S known ns → (c : Around) (xs ys : List Datum) (o q : Outputs) → ReadSame S known move xs ys o q → Same (ReadSame S (known_after known ns) move xs ys) (nodes_run c ns xs o) (nodes_run c (nodes_moved move to ns) ys q)
+  nodes-same S move to all can no_nodes known within rest reads c xs ys o q same = (same, refl)
+  nodes-same S move to all can (node_then (node id op inputs rs) ns) known within rest reads c xs ys o q same =
+      let here : IsAmong id ((id ∷ regions_ids rs) ++ nodes_ids ns) = inl refl in
+      let first = rest id here in
+      let one = fewer to (regions_ids rs) all (λ n h. rest n (among-left n (id ∷ regions_ids rs) (nodes_ids ns) (inr h))) can.one in
+      let run = ap₂ (act c op) (regions-same to rs reads.0.1 one c) (sym (reads-same S known move xs ys o q same inputs reads.0.0)) in
+      same-then Equals (ReadSame S (known_after (id ∷ known) ns) move xs ys)
+      (act c op (meanings c rs) (map (read xs o) inputs)) (act c op (meanings c (regions_copied to rs)) (map (read ys q) (map move inputs)))
+      (λ us. nodes_run c ns xs (extended o id us)) (λ us. nodes_run c (nodes_moved move to ns) ys (extended q (to id) us))
+      (equal-same (act c op (meanings c rs) (map (read xs o) inputs)) (act c op (meanings c (regions_copied to rs)) (map (read ys q) (map move inputs))) run)
+      (λ us vs e. nodes-same S move to all can ns (id ∷ known) (among-more all id known first within) (λ n h. rest n (among-right n (id ∷ regions_ids rs) (nodes_ids ns) h)) reads.1 c xs ys (extended o id us) (extended q (to id) vs)
+      (read-more Carries S move to all can xs ys known within id first o q same us vs (λ p. ap (λ ws. at_port ws p) (sym e))))
 
   pub regions-same : (to : ℕ → ℕ) (rs : RegionTrees) → AllClosed rs → IsOneToOne to (regions_ids rs) → (c : Around) → meanings c rs ≡ meanings c (regions_copied to rs)
   regions-same to no_regions closed one c = refl
@@ -199,16 +199,16 @@ pub copied_regions_mean_the_same : CopiedRegionsMeanTheSame
 copied_regions_mean_the_same to r closed one c = fun_ext (λ xs. sym (region-same to r closed one c xs))
 
 pub copied_nodes_mean_the_same : CopiedNodesMeanTheSame
-copied_nodes_mean_the_same place to ns known closed one c xs ys o q ready held =
-    nodes-same place to ns known closed one c xs ys o q ready held
+copied_nodes_mean_the_same S move to ns can reads c xs ys o q same =
+    nodes-same S move to (nodes_ids ns) can ns [] (λ n h. absurd h) (λ n h. h) reads c xs ys o q same
 
 -- ---- the same numbers
 
-origin-itself : (a : Origin) → copied_origin Arg (λ n. n) a ≡ a
+origin-itself : (a : Origin) → renumbered (λ n. n) a ≡ a
 origin-itself (Arg k) = refl
 origin-itself (Out n p) = refl
 
-origins-itself : (origins : List Origin) → map (copied_origin Arg (λ n. n)) origins ≡ origins
+origins-itself : (origins : List Origin) → map (renumbered (λ n. n)) origins ≡ origins
 origins-itself [] = refl
 origins-itself (a ∷ origins) = ap₂ (λ b bs. b ∷ bs) (origin-itself a) (origins-itself origins)
 
@@ -216,13 +216,19 @@ mutual
   pub region-itself : (r : RegionTree) → region_copied (λ n. n) r ≡ r
   region-itself (region args nodes results) = ap₂ (region args) (nodes-itself nodes) (origins-itself results)
 
-  node-itself : (x : NodeTree) → node_copied Arg (λ n. n) x ≡ x
+  node-itself : (x : NodeTree) → node_moved (renumbered (λ n. n)) (λ n. n) x ≡ x
   node-itself (node id op inputs rs) = ap₂ (node id op) (origins-itself inputs) (regions-itself rs)
 
-  nodes-itself : (ns : NodeTrees) → nodes_copied Arg (λ n. n) ns ≡ ns
+  nodes-itself : (ns : NodeTrees) → nodes_moved (renumbered (λ n. n)) (λ n. n) ns ≡ ns
   nodes-itself no_nodes = refl
   nodes-itself (node_then x ns) = ap₂ node_then (node-itself x) (nodes-itself ns)
 
   pub regions-itself : (rs : RegionTrees) → regions_copied (λ n. n) rs ≡ rs
   regions-itself no_regions = refl
   regions-itself (region_then r rs) = ap₂ region_then (region-itself r) (regions-itself rs)
+
+-- nodes with other inputs alone
+pub redirected-moved : (f : Origin → Origin) (ns : NodeTrees) → nodes_moved f (λ n. n) ns ≡ nodes_redirected f ns
+redirected-moved f no_nodes = refl
+redirected-moved f (node_then (node id op inputs rs) ns) =
+    ap₂ node_then (ap (node id op (map f inputs)) (regions-itself rs)) (redirected-moved f ns)

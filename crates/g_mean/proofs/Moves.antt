@@ -1,7 +1,5 @@
 -- Moved nodes, and loops with other variables.
-use Rattle.std.proofs.Common.{◌≡◌, ◌≢◌, ℕ, zero, suc, ◌==◌, ◌⊎◌, Bool, true, false, cond, List, [], ◌∷◌, ◌++◌, map, refl, sym, ap, subst, subst₂, ◌∙◌, inl, inr, arith}
-use Rattle.std.proofs.lemmas.Bool.{cases_Bool, eqb-false}
-use Rattle.std.proofs.lemmas.Bool.Decides.{nat_tests}
+use Rattle.std.proofs.Common.{◌≡◌, ℕ, zero, suc, ◌==◌, Bool, true, false, cond, List, [], ◌∷◌, ◌++◌, map, refl, sym, subst, inl, inr}
 use Rattle.val_core.specs.declared.values.Value.{Value}
 use Rattle.val_core.specs.declared.values.Value.TheVariants.{Num, At, Bad}
 use Rattle.val_core.specs.Answers.{Answer, Back}
@@ -10,22 +8,21 @@ use Rattle.val_core.proofs.Likeness.{like-then}
 use Rattle.g_graph.specs.declared.op.Op.{Op}
 use Rattle.g_graph.specs.declared.op.Op.TheVariants.{Const, Undef, Local, Delta, Bin, Un, Load, Store, Clear, PtrEq, Apply, Put, Exit, Get, Gamma, Theta}
 use Rattle.g_graph.specs.declared.op.Origin.{Origin}
-use Rattle.g_graph.specs.declared.op.Origin.TheVariants.{Arg, Out}
 use Rattle.g_graph.specs.Plain.{node, NodeTrees, no_nodes, node_then}
 use Rattle.g_graph.specs.Ids.{nodes_ids, regions_ids}
 use Rattle.g_mean.specs.Data.{Datum, value_of, on_number}
 use Rattle.g_mean.specs.Meaning.{Meaning, Around, act, again, turns, Outputs, no_outputs, extended, read, nodes_run, meanings}
 use Rattle.g_mean.specs.Near.{Paired, IsNearDatum}
 use Rattle.g_mean.specs.Alike.{AroundLike}
-use Rattle.g_mean.specs.Copies.{IsAmong, known_after, regions_copied}
-use Rattle.g_mean.specs.Moves.{is_pure, GivesTheSame, PureNodesGiveTheSame, nodes_moved, AreRead, NodesRead, ReadNear, CanMove, MovedNodesAreAlike, MovedRegionsAreAlike, IsTurned, LoopsAreAlike}
+use Rattle.g_mean.specs.Copies.{IsAmong, AreRead, known_after, NodesRead, CanMove, nodes_moved, regions_copied}
+use Rattle.g_mean.specs.Moves.{is_pure, GivesTheSame, PureNodesGiveTheSame, ReadNear, MovedNodesAreAlike, MovedRegionsAreAlike, IsTurned, LoopsAreAlike}
 use Rattle.g_mean.proofs.Kept.{paired-at}
 use Rattle.g_mean.proofs.Regions.{both-cut, near-cut, far-cut, order-below, act-like, regions-like}
 use Rattle.g_mean.proofs.Equal.{no_deeper-compares}
 use Rattle.g_mean.proofs.Nearness.{near-kept}
 use Rattle.g_mean.proofs.Calls.{regions-itself}
 use Rattle.g_mean.proofs.Bounds.{Never, Always, never-like}
-use Rattle.g_mean.proofs.Copies.{among-left, among-right, fewer, extended-same, extended-other, regions-same}
+use Rattle.g_mean.proofs.Copies.{among-left, among-right, among-more, fewer, read-more, regions-same}
 
 -- ---- pure nodes
 
@@ -54,56 +51,10 @@ pure_nodes_give_the_same op pure c id id' inputs inputs' rs rs' xs ys o q e =
 
 -- ---- moved nodes
 
-more : (all : List ℕ) (id : ℕ) (known : List ℕ) → IsAmong id all → ((n : ℕ) → IsAmong n known → IsAmong n all) → (n : ℕ) → IsAmong n (id ∷ known) → IsAmong n all
-more all id known first within n (inl e) = subst (λ z. IsAmong z all) (sym e) first
-more all id known first within n (inr h) = within n h
-
 module _ (way : Way) (c d : Around) (a : AroundLike no_deeper way IsNearDatum c d) (S : Origin → Bool) (move : Origin → Origin) (to : ℕ → ℕ) (all : List ℕ) (can : CanMove S move to all) (xs ys : List Datum) where
   reads-near : (known : List ℕ) (o q : Outputs) → ReadNear S known move xs ys o q → (origins : List Origin) → AreRead S known origins → Paired IsNearDatum (map (read xs o) origins) (map (read ys q) (map move origins))
   reads-near known o q near [] h = tt
   reads-near known o q near (b ∷ origins) h = (near b h.0, reads-near known o q near origins h.1)
-
-  -- one more node has run
-  near-more : (known : List ℕ) → ((n : ℕ) → IsAmong n known → IsAmong n all) → (id : ℕ) → IsAmong id all → (o q : Outputs) → ReadNear S known move xs ys o q → (us vs : List Datum) → Paired IsNearDatum us vs → ReadNear S (id ∷ known) move xs ys (extended o id us) (extended q (to id) vs)
-  near-more known within id first o q near us vs pairs b (inl s) = outside b s b refl (move b) refl
-    where
-      near-side : (b : Origin) → S b ≡ true → (b' : Origin) → b ≡ b' → read xs (extended o id us) b ≡ read xs o b
-      near-side b s (Arg k) e = ap (read xs (extended o id us)) e ∙ sym (ap (read xs o) e)
-      near-side b s (Out n p) e =
-          ap (read xs (extended o id us)) e ∙ extended-other o id us n p (λ t. can.apart b n p s e (subst (λ z. IsAmong z all) t first)) ∙ sym (ap (read xs o) e)
-
-      far-side : (b : Origin) → S b ≡ true → (b' : Origin) → move b ≡ b' → read ys (extended q (to id) vs) (move b) ≡ read ys q (move b)
-      far-side b s (Arg k) e = ap (read ys (extended q (to id) vs)) e ∙ sym (ap (read ys q) e)
-      far-side b s (Out n p) e =
-          ap (read ys (extended q (to id) vs)) e ∙ extended-other q (to id) vs n p (λ t. can.fresh b n p id s e first (sym t)) ∙ sym (ap (read ys q) e)
-
-      outside : (b : Origin) → S b ≡ true → (b' : Origin) → b ≡ b' → (b'' : Origin) → move b ≡ b'' → IsNearDatum (read xs (extended o id us) b) (read ys (extended q (to id) vs) (move b))
-      outside b s b' e b'' t = subst₂ (λ x y. IsNearDatum x y) (sym (near-side b s b' e)) (sym (far-side b s b'' t)) (near b (inl s))
-  near-more known within id first o q near us vs pairs (Arg k) (inr h) = absurd h
-  near-more known within id first o q near us vs pairs (Out n p) (inr h) =
-      subst (λ z. IsNearDatum (extended o id us n p) (read ys (extended q (to id) vs) z)) (sym (can.outputs n p (inside h))) (by (cases_Bool (id == n)))
-    where
-      inside : IsAmong n (id ∷ known) → IsAmong n all
-      inside (inl e) = subst (λ z. IsAmong z all) (sym e) first
-      inside (inr k) = within n k
-
-      known-then : n ≢ id → IsAmong n (id ∷ known) → IsAmong n known
-      known-then ne (inl e) = absurd (ne e)
-      known-then ne (inr k) = k
-
-      older : id ≢ n → IsNearDatum (extended o id us n p) (extended q (to id) vs (to n) p)
-      older ne =
-          let k = known-then (λ e. ne (sym e)) h in
-          subst₂ (λ x y. IsNearDatum x y) (sym (extended-other o id us n p ne)) (sym (extended-other q (to id) vs (to n) p (λ e. ne (can.one id n first (inside h) e))))
-          (subst (λ z. IsNearDatum (o n p) (read ys q z)) (can.outputs n p (inside h)) (near (Out n p) (inr k)))
-
-      newer : id ≡ n → IsNearDatum (extended o id us n p) (extended q (to id) vs (to n) p)
-      newer e =
-          subst₂ (λ x y. IsNearDatum x y) (sym (extended-same o id us n p e)) (sym (extended-same q (to id) vs (to n) p (ap to e))) (paired-at IsNearDatum near-kept us vs pairs p)
-
-      by : ((id == n) ≡ true) ⊎ ((id == n) ≡ false) → IsNearDatum (extended o id us n p) (extended q (to id) vs (to n) p)
-      by (inl t) = newer (grind (arith, nat_tests))
-      by (inr t) = older (eqb-false id n t)
 
   moved-like : (ns : NodeTrees) (known : List ℕ) → ((n : ℕ) → IsAmong n known → IsAmong n all) → ((n : ℕ) → IsAmong n (nodes_ids ns) → IsAmong n all) → NodesRead S known ns → (o q : Outputs) → ReadNear S known move xs ys o q → Like no_deeper way (ReadNear S (known_after known ns) move xs ys) (nodes_run c ns xs o) (nodes_run d (nodes_moved move to ns) ys q)
   moved-like no_nodes known within rest read o q near = (near, no_deeper-compares.goes.nothing)
@@ -111,14 +62,14 @@ module _ (way : Way) (c d : Around) (a : AroundLike no_deeper way IsNearDatum c 
       let here : IsAmong id ((id ∷ regions_ids rs) ++ nodes_ids ns) = inl refl in
       let first = rest id here in
       let one = fewer to (regions_ids rs) all (λ n h. rest n (among-left n (id ∷ regions_ids rs) (nodes_ids ns) (inr h))) can.one in
-      let copies = regions-same to rs reads.1 one d in
+      let copies = regions-same to rs reads.0.1 one d in
       let alike = regions-like no_deeper no_deeper-compares way IsNearDatum near-kept Never Always (never-like no_deeper no_deeper-compares way IsNearDatum near-kept) c d a tt rs rs (regions-itself Never rs) in
       like-then no_deeper no_deeper-compares.goes (Paired IsNearDatum) (ReadNear S (known_after (id ∷ known) ns) move xs ys) way
       (act c op (meanings c rs) (map (read xs o) inputs)) (act d op (meanings d (regions_copied to rs)) (map (read ys q) (map move inputs)))
       (λ us. nodes_run c ns xs (extended o id us)) (λ us. nodes_run d (nodes_moved move to ns) ys (extended q (to id) us))
       (subst (λ ms. Like no_deeper way (Paired IsNearDatum) (act c op (meanings c rs) (map (read xs o) inputs)) (act d op ms (map (read ys q) (map move inputs)))) copies
-      (act-like no_deeper no_deeper-compares way IsNearDatum near-kept c d a op (meanings c rs) (meanings d rs) alike (map (read xs o) inputs) (map (read ys q) (map move inputs)) (reads-near known o q near inputs reads.0)))
-      (λ us vs pairs. moved-like ns (id ∷ known) (more all id known first within) (λ n h. rest n (among-right n (id ∷ regions_ids rs) (nodes_ids ns) h)) reads.2 (extended o id us) (extended q (to id) vs) (near-more known within id first o q near us vs pairs))
+      (act-like no_deeper no_deeper-compares way IsNearDatum near-kept c d a op (meanings c rs) (meanings d rs) alike (map (read xs o) inputs) (map (read ys q) (map move inputs)) (reads-near known o q near inputs reads.0.0)))
+      (λ us vs pairs. moved-like ns (id ∷ known) (among-more all id known first within) (λ n h. rest n (among-right n (id ∷ regions_ids rs) (nodes_ids ns) h)) reads.1 (extended o id us) (extended q (to id) vs) (read-more IsNearDatum S move to all can xs ys known within id first o q near us vs (λ p. paired-at IsNearDatum near-kept us vs pairs p)))
 
 pub moved_nodes_are_alike : MovedNodesAreAlike
 moved_nodes_are_alike way c d a S move to ns can reads xs ys o q near =

@@ -1,5 +1,5 @@
 -- Nodes whose inputs come from elsewhere.
-use Rattle.std.specs.Prelude.{◌≡◌, ◌≢◌, ℕ, ◌⊎◌, Bool, true, false, IsTrue, List, [], ◌∷◌, map}
+use Rattle.std.specs.Prelude.{◌≡◌, ℕ, Bool, true, false, List, [], ◌∷◌, map}
 use Rattle.val_core.specs.declared.values.Value.{Value}
 use Rattle.val_core.specs.declared.values.Value.TheVariants.{Num}
 use Rattle.val_core.specs.Answers.{Answer, Back}
@@ -8,14 +8,13 @@ use Rattle.g_graph.specs.declared.op.Kind.{Kind}
 use Rattle.g_graph.specs.declared.op.Op.{Op}
 use Rattle.g_graph.specs.declared.op.Op.TheVariants.{Const, Undef, Local, Delta, Bin, Un}
 use Rattle.g_graph.specs.declared.op.Origin.{Origin}
-use Rattle.g_graph.specs.declared.op.Origin.TheVariants.{Arg, Out}
-use Rattle.g_graph.specs.Plain.{region, NodeTree, node, NodeTrees, no_nodes, node_then, RegionTrees}
+use Rattle.g_graph.specs.Plain.{region, node, NodeTrees, RegionTrees}
 use Rattle.g_graph.specs.Ids.{nodes_ids}
 use Rattle.g_mean.specs.Data.{Datum, val, value_of}
 use Rattle.g_mean.specs.Meaning.{Meaning, Around, turns, Outputs, no_outputs, read, region_meaning, node_run, nodes_run}
 use Rattle.g_mean.specs.Near.{Paired, IsNearDatum}
 use Rattle.g_mean.specs.Alike.{InOrder, AroundLike}
-use Rattle.g_mean.specs.Copies.{IsAmong, IsOneToOne, known_after, AllClosed, regions_copied}
+use Rattle.g_mean.specs.Copies.{IsRead, AreRead, known_after, NodesRead, CanMove, nodes_moved}
 
 -- ---- pure nodes
 
@@ -42,43 +41,9 @@ PureNodesGiveTheSame =
 
 -- ---- nodes in another place
 
--- nodes with inputs that `move` gives, and with numbers that `to` gives, at any depth
-abbrev pub node_moved : (move : Origin → Origin) → (to : ℕ → ℕ) → NodeTree → NodeTree
-node_moved move to (node id op inputs rs) = node (to id) op (map move inputs) (regions_copied to rs)
-
-abbrev pub nodes_moved : (move : Origin → Origin) → (to : ℕ → ℕ) → NodeTrees → NodeTrees
-nodes_moved move to no_nodes = no_nodes
-nodes_moved move to (node_then x ns) = node_then (node_moved move to x) (nodes_moved move to ns)
-
-abbrev pub IsOutputOf : List ℕ → Origin → Type 0
-IsOutputOf known (Arg k) = ⊥
-IsOutputOf known (Out n p) = IsAmong n known
-
--- `S` says what else the nodes read.
-abbrev pub IsRead : (S : Origin → Bool) → List ℕ → Origin → Type 0
-IsRead S known a = IsTrue (S a) ⊎ IsOutputOf known a
-
-abbrev pub AreRead : (S : Origin → Bool) → List ℕ → List Origin → Type 0
-AreRead S known [] = Unit {0}
-AreRead S known (a ∷ origins) = IsRead S known a × AreRead S known origins
-
--- each node reads what `S` says and the outputs of earlier nodes
-abbrev pub NodesRead : (S : Origin → Bool) → List ℕ → NodeTrees → Type 0
-NodesRead S known no_nodes = Unit {0}
-NodesRead S known (node_then (node id op inputs rs) ns) =
-    AreRead S known inputs × AllClosed rs × NodesRead S (id ∷ known) ns
-
 -- what these nodes read is near to what their moved inputs carry
 abbrev pub ReadNear : (S : Origin → Bool) → List ℕ → (move : Origin → Origin) → (xs ys : List Datum) → Outputs → Outputs → Type 0
 ReadNear S known move xs ys o q = (a : Origin) → IsRead S known a → IsNearDatum (read xs o a) (read ys q (move a))
-
--- The numbers are one to one, each output of a moved node is moved with it, and no output of these nodes, before or
--- after, is among what `S` says.
-pub record CanMove (S : Origin → Bool) (move : Origin → Origin) (to : ℕ → ℕ) (ids : List ℕ) : Type 0 where
-  pub one : IsOneToOne to ids
-  pub outputs : (n p : ℕ) → IsAmong n ids → move (Out n p) ≡ Out (to n) p
-  pub apart : (a : Origin) (n p : ℕ) → IsTrue (S a) → a ≡ Out n p → IsAmong n ids → ⊥
-  pub fresh : (a : Origin) (n p m : ℕ) → IsTrue (S a) → move a ≡ Out n p → IsAmong m ids → n ≢ to m
 
 -- Nodes and moved nodes are alike where what they read is near, and then so is what follows them.
 abbrev pub MovedNodesAreAlike : Type 0
