@@ -1,5 +1,5 @@
 -- Well-formed regions are closed.
-use Rattle.std.proofs.Common.{◌≡◌, ℕ, ◌==◌, Bool, true, false, ◌&&◌, cond, List, [], ◌∷◌, ◌++◌, Option, None, Some, refl, subst, inl, inr, arith}
+use Rattle.std.proofs.Common.{◌≡◌, ℕ, zero, suc, ◌==◌, Bool, true, false, ◌&&◌, nat_lt, cond, List, [], ◌∷◌, ◌++◌, length, slice_get, Option, None, Some, refl, subst, inl, inr, arith}
 use Rattle.std.proofs.lemmas.Bool.{and_parts}
 use Rattle.std.proofs.lemmas.Bool.Decides.{nat_tests}
 use Rattle.g_graph.specs.declared.op.Kind.{Kind}
@@ -23,18 +23,23 @@ known-kind no_nodes n p found k ks e h = h e
 known-kind (node_then x ns) n p found k ks e h =
     known-kind ns n p (cond (id_of x == n) _ found) k (id_of x ∷ ks) e (λ d. choice (id_of x == n) n (id_of x) _ found k ks refl d h)
 
-known-origin : (args : List Kind) (ns : NodeTrees) (a : Origin) (k : Kind) → known args ns a ≡ Some k → IsRead is_argument (known_after [] ns) a
-known-origin args ns (Arg j) k e = inl refl
+there : (args : List Kind) (j : ℕ) (k : Kind) → slice_get args j ≡ Some k → nat_lt j (length args) ≡ true
+there [] j k e = absurd cc
+there (a ∷ args) zero k e = grind (arith, nat_tests)
+there (a ∷ args) (suc j) k e = let h = there args j k e in grind (arith, nat_tests)
+
+known-origin : (args : List Kind) (ns : NodeTrees) (a : Origin) (k : Kind) → known args ns a ≡ Some k → IsRead (is_argument (length args)) (known_after [] ns) a
+known-origin args ns (Arg j) k e = inl (there args j k e)
 known-origin args ns (Out n p) k e = inr (known-kind ns n p None k [] e (λ d. absurd cc))
 
-last-origin : (args : List Kind) (ns : NodeTrees) (a : Origin) → is_last args ns a ≡ true → IsRead is_argument (known_after [] ns) a
+last-origin : (args : List Kind) (ns : NodeTrees) (a : Origin) → is_last args ns a ≡ true → IsRead (is_argument (length args)) (known_after [] ns) a
 last-origin args ns a e = by (known args ns a) refl e
   where
-    by : (found : Option Kind) → known args ns a ≡ found → is_last_of found args ns a ≡ true → IsRead is_argument (known_after [] ns) a
+    by : (found : Option Kind) → known args ns a ≡ found → is_last_of found args ns a ≡ true → IsRead (is_argument (length args)) (known_after [] ns) a
     by None d t = absurd cc
     by (Some k) d t = known-origin args ns a k d
 
-last-origins : (args : List Kind) (ns : NodeTrees) (origins : List Origin) → all_of (is_last args ns) origins ≡ true → AreRead is_argument (known_after [] ns) origins
+last-origins : (args : List Kind) (ns : NodeTrees) (origins : List Origin) → all_of (is_last args ns) origins ≡ true → AreRead (is_argument (length args)) (known_after [] ns) origins
 last-origins args ns [] e = tt
 last-origins args ns (a ∷ origins) e =
     let p = and_parts (is_last args ns a) (all_of (is_last args ns) origins) e in
@@ -75,13 +80,13 @@ mutual
       let q = region-last objects (region args nodes results) p.0 in
       (nodes-closed objects args [] nodes q.0 p.1, last-origins args nodes results q.1)
 
-  nodes-closed : (objects : ℕ) (args : List Kind) (before : List NodeTree) (ns : NodeTrees) → each_node (node_fits objects args) before ns ≡ true → every_in_nodes (region_fits objects) ns ≡ true → NodesRead is_argument (known_after [] (nodes_of before)) ns
+  nodes-closed : (objects : ℕ) (args : List Kind) (before : List NodeTree) (ns : NodeTrees) → each_node (node_fits objects args) before ns ≡ true → every_in_nodes (region_fits objects) ns ≡ true → NodesRead (is_argument (length args)) (known_after [] (nodes_of before)) ns
   nodes-closed objects args before no_nodes t nested = tt
   nodes-closed objects args before (node_then (node id op inputs rs) ns) t nested =
       let p = and_parts (node_fits objects args (nodes_of before) (node id op inputs rs)) (each_node (node_fits objects args) (before ++ node id op inputs rs ∷ []) ns) t in
       let q = and_parts (every_in_regions (region_fits objects) rs) (every_in_nodes (region_fits objects) ns) nested in (
         (last-origins args (nodes_of before) inputs (inputs-last objects args (nodes_of before) (node id op inputs rs) p.0), all-closed objects rs q.0),
-        subst (λ ks. NodesRead is_argument ks ns) (known-more [] before (node id op inputs rs)) (nodes-closed objects args (before ++ node id op inputs rs ∷ []) ns p.1 q.1),
+        subst (λ ks. NodesRead (is_argument (length args)) ks ns) (known-more [] before (node id op inputs rs)) (nodes-closed objects args (before ++ node id op inputs rs ∷ []) ns p.1 q.1),
       )
 
   all-closed : (objects : ℕ) (rs : RegionTrees) → every_in_regions (region_fits objects) rs ≡ true → AllClosed rs

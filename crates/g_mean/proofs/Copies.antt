@@ -1,5 +1,5 @@
 -- Copies of nodes mean the same.
-use Rattle.std.proofs.Common.{◌≡◌, ◌≢◌, ℕ, ◌==◌, ◌⊎◌, Bool, true, false, List, [], ◌∷◌, ◌++◌, map, refl, sym, ap, ap₂, subst, subst₂, ◌∙◌, inl, inr, arith, eq-eqb}
+use Rattle.std.proofs.Common.{◌≡◌, ◌≢◌, ℕ, ◌==◌, ◌⊎◌, Bool, true, false, List, [], ◌∷◌, ◌++◌, map, length, refl, sym, ap, ap₂, subst, subst₂, ◌∙◌, inl, inr, arith, eq-eqb}
 use Rattle.std.proofs.lemmas.Bool.{cases_Bool, eqb-false}
 use Rattle.std.proofs.lemmas.Bool.Decides.{nat_tests}
 use Rattle.std.proofs.Math.Path.{fun_ext}
@@ -75,7 +75,7 @@ among-split n (m ∷ ms) ns (inr h) = by (among-split n ms ns h)
 pub fewer : (to : ℕ → ℕ) (ms ns : List ℕ) → ((n : ℕ) → IsAmong n ms → IsAmong n ns) → IsOneToOne to ns → IsOneToOne to ms
 fewer to ms ns h one m n a b e = one m n (h m a) (h n b) e
 
-same-change : {A B : Type 0} (R S : A → B → Type 0) (a : Answer A) (b : Answer B) → ((x : A) (y : B) → R x y → S x y) → Same R a b → Same S a b
+pub same-change : {A B : Type 0} (R S : A → B → Type 0) (a : Answer A) (b : Answer B) → ((x : A) (y : B) → R x y → S x y) → Same R a b → Same S a b
 same-change R S (Back x o) (Back y p) more h = (more x y h.0, h.1)
 same-change R S (Cut o) (Cut p) more h = h
 same-change R S (Ended o s) (Ended p t) more h = h
@@ -85,7 +85,7 @@ same-change R S _ _ more h = absurd h
 test-same : (m n : ℕ) → m ≡ n → (m == n) ≡ true
 test-same m n e = eq-eqb m n e
 
-test-other : (m n : ℕ) → m ≢ n → (m == n) ≡ false
+pub test-other : (m n : ℕ) → m ≢ n → (m == n) ≡ false
 test-other m n ne = grind (arith, nat_tests)
 
 pub extended-same : (o : Outputs) (id : ℕ) (us : List Datum) (n p : ℕ) → id ≡ n → extended o id us n p ≡ at_port us p
@@ -144,24 +144,24 @@ module _ (N : Datum → Datum → Type 0) (S : Origin → Bool) (move : Origin �
 abbrev pub Carries : Datum → Datum → Type 0
 Carries x y = y ≡ x
 
-reads-same : (S : Origin → Bool) (known : List ℕ) (move : Origin → Origin) (xs ys : List Datum) (o q : Outputs) → ReadSame S known move xs ys o q → (origins : List Origin) → AreRead S known origins → map (read ys q) (map move origins) ≡ map (read xs o) origins
+pub reads-same : (S : Origin → Bool) (known : List ℕ) (move : Origin → Origin) (xs ys : List Datum) (o q : Outputs) → ReadSame S known move xs ys o q → (origins : List Origin) → AreRead S known origins → map (read ys q) (map move origins) ≡ map (read xs o) origins
 reads-same S known move xs ys o q same [] h = refl
 reads-same S known move xs ys o q same (a ∷ origins) h =
     ap₂ (λ z zs. z ∷ zs) (same a h.0) (reads-same S known move xs ys o q same origins h.1)
 
-argument-kept : (to : ℕ → ℕ) (xs : List Datum) (o q : Outputs) (a : Origin) → IsRead is_argument [] a → read xs q (renumbered to a) ≡ read xs o a
-argument-kept to xs o q (Arg k) h = refl
-argument-kept to xs o q (Out n p) (inl e) = absurd cc
-argument-kept to xs o q (Out n p) (inr h) = absurd h
+argument-kept : (count : ℕ) (to : ℕ → ℕ) (xs : List Datum) (o q : Outputs) (a : Origin) → IsRead (is_argument count) [] a → read xs q (renumbered to a) ≡ read xs o a
+argument-kept count to xs o q (Arg k) h = refl
+argument-kept count to xs o q (Out n p) (inl e) = absurd cc
+argument-kept count to xs o q (Out n p) (inr h) = absurd h
 
-renumbered-moves : (to : ℕ → ℕ) (ids : List ℕ) → IsOneToOne to ids → CanMove is_argument (renumbered to) to ids
-renumbered-moves to ids one = record { one = one; outputs = λ n p h. refl; apart = apart; fresh = fresh }
+renumbered-moves : (count : ℕ) (to : ℕ → ℕ) (ids : List ℕ) → IsOneToOne to ids → CanMove (is_argument count) (renumbered to) to ids
+renumbered-moves count to ids one = record { one = one; outputs = λ n p h. refl; apart = apart; fresh = fresh }
   where
-    apart : (a : Origin) (n p : ℕ) → is_argument a ≡ true → a ≡ Out n p → IsAmong n ids → ⊥
+    apart : (a : Origin) (n p : ℕ) → is_argument count a ≡ true → a ≡ Out n p → IsAmong n ids → ⊥
     apart (Arg k) n p s e h = absurd cc
     apart (Out m q) n p s e h = absurd cc
 
-    fresh : (a : Origin) (n p m : ℕ) → is_argument a ≡ true → renumbered to a ≡ Out n p → IsAmong m ids → n ≢ to m
+    fresh : (a : Origin) (n p m : ℕ) → is_argument count a ≡ true → renumbered to a ≡ Out n p → IsAmong m ids → n ≢ to m
     fresh (Arg k) n p m s e h d = absurd cc
     fresh (Out i q) n p m s e h d = absurd cc
 
@@ -169,10 +169,10 @@ mutual
   region-same : (to : ℕ → ℕ) (r : RegionTree) → IsClosed r → IsOneToOne to (region_ids r) → (c : Around) (xs : List Datum) → region_meaning c r xs ≡ region_meaning c (region_copied to r) xs
   region-same to (region args nodes results) closed one c xs =
       same-equal (region_meaning c (region args nodes results) xs) (region_meaning c (region_copied to (region args nodes results)) xs)
-      (same-then (ReadSame is_argument (known_after [] nodes) (renumbered to) xs xs) Equals (nodes_run c nodes xs no_outputs) (nodes_run c (nodes_moved (renumbered to) to nodes) xs no_outputs)
+      (same-then (ReadSame (is_argument (length args)) (known_after [] nodes) (renumbered to) xs xs) Equals (nodes_run c nodes xs no_outputs) (nodes_run c (nodes_moved (renumbered to) to nodes) xs no_outputs)
       (λ o. Back (map (read xs o) results) []) (λ q. Back (map (read xs q) (map (renumbered to) results)) [])
-      (nodes-same is_argument (renumbered to) to (nodes_ids nodes) (renumbered-moves to (nodes_ids nodes) one) nodes [] (λ n h. absurd h) (λ n h. h) closed.0 c xs xs no_outputs no_outputs (argument-kept to xs no_outputs no_outputs))
-      (λ o q h. (sym (reads-same is_argument (known_after [] nodes) (renumbered to) xs xs o q h results closed.1), refl)))
+      (nodes-same (is_argument (length args)) (renumbered to) to (nodes_ids nodes) (renumbered-moves (length args) to (nodes_ids nodes) one) nodes [] (λ n h. absurd h) (λ n h. h) closed.0 c xs xs no_outputs no_outputs (argument-kept (length args) to xs no_outputs no_outputs))
+      (λ o q h. (sym (reads-same (is_argument (length args)) (known_after [] nodes) (renumbered to) xs xs o q h results closed.1), refl)))
 
   nodes-same : (S : Origin → Bool) (move : Origin → Origin) (to : ℕ → ℕ) (all : List ℕ) → CanMove S move to all → (ns : NodeTrees) (known : List ℕ) → ((n : ℕ) → IsAmong n known → IsAmong n all) → ((n : ℕ) → IsAmong n (nodes_ids ns) → IsAmong n all) → NodesRead S known ns → (c : Around) (xs ys : List Datum) (o q : Outputs) → ReadSame S known move xs ys o q → Same (ReadSame S (known_after known ns) move xs ys) (nodes_run c ns xs o) (nodes_run c (nodes_moved move to ns) ys q)
   nodes-same S move to all can no_nodes known within rest reads c xs ys o q same = (same, refl)

@@ -31,7 +31,7 @@ none-left : {X : Type 0} (test : X → Bool) (xs ys : List X) → not (some_of t
 none-left test [] ys t = refl
 none-left test (x ∷ xs) ys t = none-by (test x) (some_of test xs) (some_of test (xs ++ ys)) (none-left test xs ys) t
 
-distinct-split : (xs ys : List ℕ) → distinct (xs ++ ys) ≡ true → (distinct xs ≡ true) × (distinct ys ≡ true)
+pub distinct-split : (xs ys : List ℕ) → distinct (xs ++ ys) ≡ true → (distinct xs ≡ true) × (distinct ys ≡ true)
 distinct-split [] ys t = (refl, t)
 distinct-split (x ∷ xs) ys t =
     let p = and_parts (not (some_of (λ m. x == m) (xs ++ ys))) (distinct (xs ++ ys)) t in

@@ -13,3 +13,6 @@ pub mod Copies
 pub mod Closed
 pub mod Edits
 pub mod Moves
+pub mod Holds
+pub mod Splices
+pub mod Redirects

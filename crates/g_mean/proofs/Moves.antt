@@ -52,7 +52,7 @@ pure_nodes_give_the_same op pure c id id' inputs inputs' rs rs' xs ys o q e =
 -- ---- moved nodes
 
 module _ (way : Way) (c d : Around) (a : AroundLike no_deeper way IsNearDatum c d) (S : Origin → Bool) (move : Origin → Origin) (to : ℕ → ℕ) (all : List ℕ) (can : CanMove S move to all) (xs ys : List Datum) where
-  reads-near : (known : List ℕ) (o q : Outputs) → ReadNear S known move xs ys o q → (origins : List Origin) → AreRead S known origins → Paired IsNearDatum (map (read xs o) origins) (map (read ys q) (map move origins))
+  pub reads-near : (known : List ℕ) (o q : Outputs) → ReadNear S known move xs ys o q → (origins : List Origin) → AreRead S known origins → Paired IsNearDatum (map (read xs o) origins) (map (read ys q) (map move origins))
   reads-near known o q near [] h = tt
   reads-near known o q near (b ∷ origins) h = (near b h.0, reads-near known o q near origins h.1)
 

@@ -1,5 +1,5 @@
 -- Nodes whose inputs come from elsewhere and which have new numbers, and copies of regions under new numbers.
-use Rattle.std.specs.Prelude.{◌≡◌, ◌≢◌, ℕ, ◌⊎◌, Bool, true, false, IsTrue, List, [], ◌∷◌, map}
+use Rattle.std.specs.Prelude.{◌≡◌, ◌≢◌, ℕ, ◌⊎◌, Bool, false, IsTrue, nat_lt, List, [], ◌∷◌, map, length}
 use Rattle.val_core.specs.Answers.{Answer, Back, Cut, Ended, Wrong}
 use Rattle.g_graph.specs.declared.op.Origin.{Origin}
 use Rattle.g_graph.specs.declared.op.Origin.TheVariants.{Arg, Out}
@@ -54,16 +54,17 @@ abbrev pub known_after : List ℕ → NodeTrees → List ℕ
 known_after known no_nodes = known
 known_after known (node_then x ns) = known_after (id_of x ∷ known) ns
 
-abbrev pub is_argument : Origin → Bool
-is_argument (Arg k) = true
-is_argument (Out n p) = false
+-- one of so many arguments
+abbrev pub is_argument : (count : ℕ) → Origin → Bool
+is_argument count (Arg k) = nat_lt k count
+is_argument count (Out n p) = false
 
 -- Nodes read what `S` names and the outputs of earlier nodes; a closed region reads its arguments and the outputs of
 -- its earlier nodes, and so do the regions nested in it.
 abbrev mutual
   pub IsClosed : RegionTree → Type 0
   IsClosed (region args nodes results) =
-      NodesRead is_argument [] nodes × AreRead is_argument (known_after [] nodes) results
+      NodesRead (is_argument (length args)) [] nodes × AreRead (is_argument (length args)) (known_after [] nodes) results
 
   pub NodesRead : (S : Origin → Bool) → (known : List ℕ) → NodeTrees → Type 0
   NodesRead S known no_nodes = Unit {0}

@@ -10,3 +10,5 @@ pub mod Local
 pub mod Copies
 pub mod Edits
 pub mod Moves
+pub mod Holds
+pub mod Splices

@@ -4,11 +4,13 @@ ghost use Rattle.std.specs.Prelude.{List};
 ghost use Rattle.g_mean.specs.Copies.{CopiedRegionsMeanTheSame, CopiedNodesMeanTheSame, CopiesToThemselves};
 ghost use Rattle.g_mean.specs.Data.{Datum};
 ghost use Rattle.g_mean.specs.Edits.{EditsReplace};
+ghost use Rattle.g_mean.specs.Holds.{RunNodesHold};
 ghost use Rattle.g_mean.specs.Laws.{RegionExtends, LambdaExtends, ProgramExtends, NodesInTurn, EventsGrow, RegionIsSound, LambdaIsSound, ThetaTurns, TurnsUnroll};
 ghost use Rattle.g_mean.specs.Local.{RefinementsReplace, BodiesReplaceCalls};
 ghost use Rattle.g_mean.specs.Moves.{PureNodesGiveTheSame, MovedNodesAreAlike, MovedRegionsAreAlike, LoopsAreAlike};
 ghost use Rattle.g_mean.specs.Replacement.{LambdasKeepMeaning, RegionsKeepMeaning, ProgramsKeepMeaning};
 ghost use Rattle.g_mean.specs.Silent.{StatelessNodesAreSilent};
+ghost use Rattle.g_mean.specs.Splices.{SplicedRegionsAreAlike, RedirectedRegionsAreAlike};
 
 /// A greater bound only extends: what ended stays as it is, and what was cut may go on.
 pub fn bounds_extend()
@@ -96,4 +98,16 @@ pub trait LoopVariables {
 /// Two loops are alike where their bodies keep a relation of their variables.
 pub fn loops_are_alike<R: LoopVariables>()
     ensures { LoopsAreAlike R.relate }
+{}
+
+/// Once the nodes of a closed region with unique numbers have run, each gives its outputs on what its inputs carry then.
+pub fn run_nodes_hold()
+    ensures { RunNodesHold }
+{}
+
+/// A region with a part in the place of a node, or with uses of a node's outputs that come from elsewhere, is alike to what
+/// it was where these are.
+pub fn changed_regions_are_alike()
+    ensures spliced { SplicedRegionsAreAlike }
+    ensures redirected { RedirectedRegionsAreAlike }
 {}
