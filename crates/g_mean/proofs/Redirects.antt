@@ -14,15 +14,15 @@ use Rattle.g_graph.specs.WellFormed.{some_of, distinct}
 use Rattle.g_graph.specs.Replace.{node_redirected, nodes_redirected, region_redirected}
 use Rattle.g_graph.specs.Splice.{joined_nodes}
 use Rattle.g_mean.specs.Data.{Datum, at_port}
-use Rattle.g_mean.specs.Meaning.{Around, Outputs, no_outputs, read, region_meaning, nodes_run}
+use Rattle.g_mean.specs.Meaning.{Around, Outputs, no_outputs, extended, read, region_meaning, node_run, nodes_run}
 use Rattle.g_mean.specs.Near.{Paired, IsNearDatum}
 use Rattle.g_mean.specs.Alike.{MeaningLike, AroundLike}
 use Rattle.g_mean.specs.Copies.{IsAmong, IsRead, AreRead, NodeReads, NodesRead, known_after, is_argument, CanMove}
 use Rattle.g_mean.specs.Moves.{ReadNear}
 use Rattle.g_mean.specs.Holds.{HasRun, HaveRun}
-use Rattle.g_mean.specs.Splices.{CanRedirect, RedirectedRegionsAreAlike}
-use Rattle.g_mean.proofs.Kept.{OutputsLike, paired-at}
-use Rattle.g_mean.proofs.Regions.{nodes-like}
+use Rattle.g_mean.specs.Splices.{CanRedirect, RedirectedRegionsAreAlike, ReplacedNodesAreAlike}
+use Rattle.g_mean.proofs.Kept.{OutputsLike, paired-at, reads-like}
+use Rattle.g_mean.proofs.Regions.{extended-like, nodes-like}
 use Rattle.g_mean.proofs.Equal.{no_deeper-compares}
 use Rattle.g_mean.proofs.Nearness.{near-kept}
 use Rattle.g_mean.proofs.Calls.{nodes-itself}
@@ -227,3 +227,44 @@ module _ (way : Way) (c d : Around) (around : AroundLike no_deeper way IsNearDat
 pub redirected_regions_are_alike : RedirectedRegionsAreAlike
 redirected_regions_are_alike way c d around args before x after results move can own-near =
     redirected-like way c d around args before x after results move can own-near
+
+-- ---- another node of the same number
+
+module _ (way : Way) (c d : Around) (around : AroundLike no_deeper way IsNearDatum c d) (args : List Kind) (before : NodeTrees) (x y : NodeTree) (after : NodeTrees) (results : List Origin) (reads : NodesRead (is_argument (length args)) [] before) (unique : distinct (nodes_ids before) ≡ true) (same : id_of x ≡ id_of y) where
+  before-run : (xs : List Datum) (a : Answer Outputs) → nodes_run c before xs no_outputs ≡ a → Gives (λ o. HaveRun c xs o before) a
+  before-run xs (Back o did) e = holds-from (length args) c before [] xs no_outputs o did reads (λ n h k. h) unique e
+  before-run xs (Cut o) e = tt
+  before-run xs (Ended o s) e = tt
+  before-run xs Wrong e = tt
+
+  same-like : (ns : NodeTrees) (xs ys : List Datum) → Paired IsNearDatum xs ys → (o q : Outputs) → OutputsLike IsNearDatum o q → Like no_deeper way (OutputsLike IsNearDatum) (nodes_run c ns xs o) (nodes_run d ns ys q)
+  same-like ns xs ys near o q like =
+      nodes-like no_deeper no_deeper-compares way IsNearDatum near-kept Never Always (never-like no_deeper no_deeper-compares way IsNearDatum near-kept) c d around tt ns ns (nodes-itself Never ns) xs ys near o q like
+
+  module _ (node-like : (xs ys : List Datum) (o q : Outputs) → Paired IsNearDatum xs ys → OutputsLike IsNearDatum o q → HaveRun c xs o before → Like no_deeper way (Paired IsNearDatum) (node_run c x xs o) (node_run d y ys q)) where
+    replaced-nodes : (xs ys : List Datum) → Paired IsNearDatum xs ys → Like no_deeper way (OutputsLike IsNearDatum) (nodes_run c (joined_nodes before (node_then x after)) xs no_outputs) (nodes_run d (joined_nodes before (node_then y after)) ys no_outputs)
+    replaced-nodes xs ys near =
+        subst₂ (λ a b. Like no_deeper way (OutputsLike IsNearDatum) a b) (sym (joined-run c before (node_then x after) xs no_outputs)) (sym (joined-run d before (node_then y after) ys no_outputs))
+        (like-then no_deeper no_deeper-compares.goes (λ o q. HaveRun c xs o before × OutputsLike IsNearDatum o q) (OutputsLike IsNearDatum) way
+        (nodes_run c before xs no_outputs) (nodes_run d before ys no_outputs) (nodes_run c (node_then x after) xs) (nodes_run d (node_then y after) ys)
+        (like-gives no_deeper way (λ o. HaveRun c xs o before) (OutputsLike IsNearDatum) (nodes_run c before xs no_outputs) (nodes_run d before ys no_outputs) (before-run xs (nodes_run c before xs no_outputs) refl) (same-like before xs ys near no_outputs no_outputs (λ n p. near-kept.nothing)))
+        (λ o q h. like-then no_deeper no_deeper-compares.goes (Paired IsNearDatum) (OutputsLike IsNearDatum) way (node_run c x xs o) (node_run d y ys q) (λ us. nodes_run c after xs (extended o (id_of x) us)) (λ us. nodes_run d after ys (extended q (id_of y) us))
+        (node-like xs ys o q near h.1 h.0)
+        (λ us vs pairs. same-like after xs ys near (extended o (id_of x) us) (extended q (id_of y) vs) (subst (λ n. OutputsLike IsNearDatum (extended o (id_of x) us) (extended q n vs)) same (extended-like no_deeper no_deeper-compares way IsNearDatum near-kept o q h.1 (id_of x) us vs pairs)))))
+
+    pub replaced-like : MeaningLike no_deeper way IsNearDatum (region_meaning c (region args (joined_nodes before (node_then x after)) results)) (region_meaning d (region args (joined_nodes before (node_then y after)) results))
+    replaced-like =
+        record {
+          on = λ xs ys near.
+              like-then no_deeper no_deeper-compares.goes (OutputsLike IsNearDatum) (Paired IsNearDatum) way
+              (nodes_run c (joined_nodes before (node_then x after)) xs no_outputs) (nodes_run d (joined_nodes before (node_then y after)) ys no_outputs)
+              (λ o. Back (map (read xs o) results) []) (λ q. Back (map (read ys q) results) [])
+              (replaced-nodes xs ys near)
+              (λ o q h. (reads-like IsNearDatum near-kept xs ys near o q h results, no_deeper-compares.goes.nothing));
+        }
+
+pub replaced_nodes_are_alike : ReplacedNodesAreAlike
+replaced_nodes_are_alike way c d around args before x y after results closed unique same node-like =
+    replaced-like way c d around args before x y after results
+    (joined-read (is_argument (length args)) [] before (node_then x after) closed.0).0
+    (distinct-split (nodes_ids before) (node_ids x ++ nodes_ids after) (subst (λ zs. distinct zs ≡ true) (joined-ids before (node_then x after)) unique)).0 same node-like

@@ -56,3 +56,15 @@ RedirectedRegionsAreAlike =
     (p : ℕ) → IsNearDatum (o (id_of x) p) (read ys q (move (Out (id_of x) p)))) →
     MeaningLike no_deeper way IsNearDatum (region_meaning c (region args (joined_nodes before (node_then x after)) results))
     (region_meaning d (region_redirected move (region args (joined_nodes before (node_then x after)) results)))
+
+-- Where another node of the same number is alike, on what the earlier nodes give, so is the region with it.
+abbrev pub ReplacedNodesAreAlike : Type 0
+ReplacedNodesAreAlike =
+    (way : Way) (c d : Around) → AroundLike no_deeper way IsNearDatum c d →
+    (args : List Kind) (before : NodeTrees) (x y : NodeTree) (after : NodeTrees) (results : List Origin) →
+    IsClosed (region args (joined_nodes before (node_then x after)) results) → IsTrue (distinct (nodes_ids (joined_nodes before (node_then x after)))) →
+    id_of x ≡ id_of y →
+    ((xs ys : List Datum) (o q : Outputs) → Paired IsNearDatum xs ys → ((n p : ℕ) → IsNearDatum (o n p) (q n p)) → HaveRun c xs o before →
+    Like no_deeper way (Paired IsNearDatum) (node_run c x xs o) (node_run d y ys q)) →
+    MeaningLike no_deeper way IsNearDatum (region_meaning c (region args (joined_nodes before (node_then x after)) results))
+    (region_meaning d (region args (joined_nodes before (node_then y after)) results))

@@ -10,7 +10,7 @@ ghost use Rattle.g_mean.specs.Local.{RefinementsReplace, BodiesReplaceCalls};
 ghost use Rattle.g_mean.specs.Moves.{PureNodesGiveTheSame, MovedNodesAreAlike, MovedRegionsAreAlike, LoopsAreAlike};
 ghost use Rattle.g_mean.specs.Replacement.{LambdasKeepMeaning, RegionsKeepMeaning, ProgramsKeepMeaning};
 ghost use Rattle.g_mean.specs.Silent.{StatelessNodesAreSilent};
-ghost use Rattle.g_mean.specs.Splices.{SplicedRegionsAreAlike, RedirectedRegionsAreAlike};
+ghost use Rattle.g_mean.specs.Splices.{SplicedRegionsAreAlike, RedirectedRegionsAreAlike, ReplacedNodesAreAlike};
 
 /// A greater bound only extends: what ended stays as it is, and what was cut may go on.
 pub fn bounds_extend()
@@ -105,9 +105,10 @@ pub fn run_nodes_hold()
     ensures { RunNodesHold }
 {}
 
-/// A region with a part in the place of a node, or with uses of a node's outputs that come from elsewhere, is alike to what
-/// it was where these are.
+/// A region with a part or another node in the place of a node, or with uses of a node's outputs that come from elsewhere,
+/// is alike to what it was where these are.
 pub fn changed_regions_are_alike()
     ensures spliced { SplicedRegionsAreAlike }
     ensures redirected { RedirectedRegionsAreAlike }
+    ensures replaced { ReplacedNodesAreAlike }
 {}
