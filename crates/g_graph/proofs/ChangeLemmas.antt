@@ -1,11 +1,11 @@
 -- The first of a list that can be changed, as a loop looks for it.
 use Rattle.std.proofs.Common.{◌≡◌, ℕ, ◌<◌, ◌+◌, zero, suc, List, [], ◌∷◌, length, take, get_or, refl, sym, ap, ◌∙◌, add-one, arith}
-use Rattle.std.specs.Prelude.{Bool, true, false, MatchBool, slice_set, option_map}
+use Rattle.std.specs.Prelude.{Bool, true, false, ◌==◌, ◌||◌, if◌then◌else◌, is_some, MatchBool, slice_set, option_map}
 use Rattle.std.proofs.lemmas.List.{set-get_or}
 use Rattle.std.specs.declared.option.Option.{Option}
 use Rattle.std.specs.declared.option.Option.TheVariants.{Some, None}
-use Rattle.g_graph.specs.Plain.{RegionTree, region, NodeTree, no_nodes, node_then, no_regions, region_then, nodes_of, regions_of}
-use Rattle.g_graph.specs.Change.{first_some, region_changed, node_changed, nodes_changed, regions_changed}
+use Rattle.g_graph.specs.Plain.{RegionTree, region, NodeTree, NodeTrees, no_nodes, node_then, no_regions, region_then, nodes_of, regions_of, id_of}
+use Rattle.g_graph.specs.Change.{first_some, region_changed, node_changed, nodes_changed, regions_changed, has_node, place_of}
 
 pub region_changed_here : (f : RegionTree → Option RegionTree) (r s : RegionTree) → f r ≡ Some s → region_changed f r ≡ Some s
 region_changed_here f (region args nodes results) s e = ap (λ o. first_some o (option_map (λ ns. region args ns results) (nodes_changed f nodes))) e
@@ -87,3 +87,11 @@ when_true P Q false e h = absurd (cc)
 pub when_false : (P Q : Type 0) (b : Bool) → b ≡ false → MatchBool b P Q → Q
 when_false P Q false e h = h
 when_false P Q true e h = absurd (cc)
+
+pub has_node_place_of : (n first : ℕ) (xs : NodeTrees) → is_some (place_of n first xs) ≡ has_node n xs
+has_node_place_of n first no_nodes = refl
+has_node_place_of n first (node_then x xs) = by_test (id_of x == n) (has_node_place_of n (suc first) xs)
+  where
+    by_test : (t : Bool) → is_some (place_of n (suc first) xs) ≡ has_node n xs → is_some (if t then Some first else place_of n (suc first) xs) ≡ (t || has_node n xs)
+    by_test true h = refl
+    by_test false h = h

@@ -1,9 +1,9 @@
 -- A change of one region of a nest: of the first, in pre-order, that can be changed so. None where there is no such
 -- region.
-use Rattle.std.specs.Prelude.{ℕ, ◌==◌, Bool, false, ◌||◌, if◌then◌else◌, unwrap_or, option_map}
+use Rattle.std.specs.Prelude.{ℕ, suc, ◌==◌, Bool, false, ◌||◌, if◌then◌else◌, unwrap_or, option_map}
 use Rattle.std.specs.declared.option.Option.{Option}
 use Rattle.std.specs.declared.option.Option.TheVariants.{Some, None}
-use Rattle.g_graph.specs.Plain.{RegionTree, region, NodeTree, node, NodeTrees, no_nodes, node_then, RegionTrees, no_regions, region_then, id_of, PlainLambda}
+use Rattle.g_graph.specs.Plain.{RegionTree, region, NodeTree, node, NodeTrees, no_nodes, node_then, RegionTrees, no_regions, region_then, id_of, nodes_in, PlainLambda}
 
 abbrev pub first_some : {X : Type 0} → Option X → Option X → Option X
 first_some None y = y
@@ -32,6 +32,11 @@ abbrev pub has_node : ℕ → NodeTrees → Bool
 has_node n no_nodes = false
 has_node n (node_then x xs) = (id_of x == n) || has_node n xs
 
+-- the place of the first node of this number, counted from a first place
+abbrev pub place_of : ℕ → (first : ℕ) → NodeTrees → Option ℕ
+place_of n first no_nodes = None
+place_of n first (node_then x xs) = if id_of x == n then Some first else place_of n (suc first) xs
+
 -- the change of the region that itself holds the node of this number
 abbrev pub at_home : ℕ → (RegionTree → RegionTree) → RegionTree → Option RegionTree
-at_home n change (region args nodes results) = if has_node n nodes then Some (change (region args nodes results)) else None
+at_home n change r = if has_node n (nodes_in r) then Some (change r) else None

@@ -35,6 +35,9 @@ id_of (node id op inputs rs) = id
 abbrev pub args_of : RegionTree → List Kind
 args_of (region args nodes results) = args
 
+abbrev pub nodes_in : RegionTree → NodeTrees
+nodes_in (region args nodes results) = nodes
+
 -- how many regions and nodes there are
 abbrev mutual
   pub region_size : RegionTree → ℕ

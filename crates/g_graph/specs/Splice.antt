@@ -6,7 +6,7 @@ use Rattle.g_graph.specs.declared.op.Origin.{Origin}
 use Rattle.g_graph.specs.declared.op.Origin.TheVariants.{Arg, Out}
 use Rattle.g_graph.specs.Plain.{RegionTree, region, NodeTrees, no_nodes, node_then, id_of, PlainLambda}
 use Rattle.g_graph.specs.Change.{lambda_changed, at_home}
-use Rattle.g_graph.specs.Replace.{nodes_redirected}
+use Rattle.g_graph.specs.Replace.{nodes_redirected, region_redirected}
 
 -- an origin of the part, outside it
 abbrev pub placed : (inputs : List Origin) → Origin → Origin
@@ -28,11 +28,11 @@ nodes_spliced at part outputs no_nodes = no_nodes
 nodes_spliced at part outputs (node_then x xs) =
     if id_of x == at then joined_nodes part (nodes_redirected (without at outputs) xs) else node_then x (nodes_spliced at part outputs xs)
 
-abbrev pub region_spliced : (at : ℕ) → (part : RegionTree) → (inputs : List Origin) → RegionTree → RegionTree
-region_spliced at (region own part outputs) inputs (region args nodes results) =
-    region args (nodes_spliced at (nodes_redirected (placed inputs) part) (map (placed inputs) outputs) nodes)
-    (map (without at (map (placed inputs) outputs)) results)
+-- the part, whose arguments are placed already
+abbrev pub region_spliced : (at : ℕ) → (part : RegionTree) → RegionTree → RegionTree
+region_spliced at (region own part outputs) (region args nodes results) =
+    region args (nodes_spliced at part outputs nodes) (map (without at outputs) results)
 
 -- in the region that holds the node `at`
 abbrev pub spliced : (at : ℕ) → (part : RegionTree) → (inputs : List Origin) → PlainLambda → PlainLambda
-spliced at part inputs l = lambda_changed (at_home at (region_spliced at part inputs)) l
+spliced at part inputs l = lambda_changed (at_home at (region_spliced at (region_redirected (placed inputs) part))) l

@@ -1,9 +1,9 @@
-ghost use Rattle.std.specs.Prelude.{◌≡◌, MatchBool, IfOk, OnErr};
+ghost use Rattle.std.specs.Prelude.{◌≡◌, MatchBool, IfOk, OnOk, OnErr, is_some};
 ghost use Rattle.std.specs.declared.option.Option.TheVariants.{Some, None};
 ghost use Rattle.g_graph.specs.Plain.{RegionTree, nodes_of, regions_of};
-ghost use Rattle.g_graph.specs.Change.{region_changed, node_changed, nodes_changed, regions_changed};
+ghost use Rattle.g_graph.specs.Change.{lambda_changed, region_changed, node_changed, nodes_changed, regions_changed};
 
-use crate::{Node, Region};
+use crate::{Lambda, Node, Region};
 
 /// A change of a region, where it can be changed so.
 pub trait Change {
@@ -67,4 +67,14 @@ fn change_regions<C: Change>(regions: &mut Vec<Region>, change: &mut C) -> Resul
         }
     }
     Ok(false)
+}
+
+/// Changes the first region, in pre-order, of the lambda's body and those nested in it that can be changed so, and
+/// answers whether there was one.
+pub fn change_lambda<C: Change>(lambda: &mut Lambda, change: &mut C) -> Result<bool, C::Fault>
+    ensures ok { OnOk result (lambda.new ≡ lambda_changed (C.changed change.old) lambda.old) }
+    ensures done { IfOk result (λ done. done ≡ is_some (region_changed (C.changed change.old) lambda.old.body)) }
+    ensures err { OnErr result (lambda.new ≡ lambda.old) }
+{
+    change_region(&mut lambda.body, change)
 }

@@ -7,6 +7,8 @@ mod change;
 mod checking;
 mod copy;
 mod count;
+mod equality;
+mod find;
 mod kind_lists;
 mod kinds;
 mod lambda;
@@ -15,21 +17,31 @@ mod numbers;
 mod objects;
 mod op;
 mod optimised;
+mod redirect;
 mod region;
+mod replace;
+mod splicing;
 mod states;
 mod steps;
 #[cfg(test)]
 mod tests;
 mod unique;
 
-pub use change::{Change, change_region};
+pub use change::{Change, change_lambda, change_region};
 pub use checking::check;
 pub use copy::copy_of;
 pub use count::values;
+pub use equality::equal;
+pub use find::{is_home, place_of};
 pub use lambda::{Delta, Lambda, Link, Object, Omega};
 pub use no_memory::NoMemory;
 pub use numbers::ids;
 pub use op::{Kind, Op, Origin};
 pub use optimised::Optimised;
+pub use redirect::{
+    Move, Placed, Redirect, Without, redirect_nodes, redirect_origins, redirect_region,
+};
 pub use region::{Node, Region};
+pub use replace::replace_uses;
+pub use splicing::splice;
 pub use steps::{Rule, Step};

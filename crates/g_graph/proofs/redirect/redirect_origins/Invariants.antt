@@ -1,0 +1,6 @@
+use Rattle.std.proofs.Common.{◌≡◌}
+use Rattle.g_graph.proofs.Mapped.{mapped}
+use Rattle.g_graph.proofs.redirect.redirect_origins.Given as goal
+
+abbrev pub invariant-loop-origin : goal.invariant-loop-origin
+invariant-loop-origin g l = l.origins ≡ mapped (g.R.Redirect.redirected l.by) 0 l.origin-index l.initial.origins
