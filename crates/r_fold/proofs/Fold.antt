@@ -20,7 +20,7 @@ use Rattle.g_graph.specs.Plain.{RegionTree, region, NodeTree, node, NodeTrees, n
 use Rattle.g_graph.specs.Ids.{nodes_ids}
 use Rattle.g_graph.specs.WellFormed.{distinct}
 use Rattle.g_graph.specs.Replace.{region_redirected, moved}
-use Rattle.g_graph.specs.Splice.{joined_nodes, region_spliced}
+use Rattle.g_graph.specs.Splice.{placed, joined_nodes, region_spliced}
 use Rattle.g_mean.specs.Data.{Datum, on_number, val, memory, input as input_left, value_of}
 use Rattle.g_mean.specs.Meaning.{Around, chosen, again, turns, no_outputs, read, nodes_run, region_meaning, meanings}
 use Rattle.g_mean.specs.Near.{Paired, IsSoundDatum, IsNearDatum}
@@ -176,7 +176,7 @@ module _ (ls ks : List PlainLambda) (l : PlainLambda) (args : List Kind) (before
       })
 
   -- the region that a constant chooses
-  gamma-part : (p : Origin) (entries : List Origin) (rs : RegionTrees) → IsPartOf l (whole (node id Gamma (p ∷ entries) rs)) → (w : ℕ) → constant (around_node (node id Gamma (p ∷ entries) rs)) p ≡ Some w → (own : List Kind) (ns : NodeTrees) (gives : List Origin) → chosen_region w rs ≡ Some (region own ns gives) → Replaces ls ks (whole (node id Gamma (p ∷ entries) rs)) (region_spliced id (region own ns gives) entries (whole (node id Gamma (p ∷ entries) rs)))
+  gamma-part : (p : Origin) (entries : List Origin) (rs : RegionTrees) → IsPartOf l (whole (node id Gamma (p ∷ entries) rs)) → (w : ℕ) → constant (around_node (node id Gamma (p ∷ entries) rs)) p ≡ Some w → (own : List Kind) (ns : NodeTrees) (gives : List Origin) → chosen_region w rs ≡ Some (region own ns gives) → Replaces ls ks (whole (node id Gamma (p ∷ entries) rs)) (region_spliced id (region_redirected (placed entries) (region own ns gives)) (whole (node id Gamma (p ∷ entries) rs)))
   gamma-part p entries rs well w e own ns gives chosen_it =
       let x = node id Gamma (p ∷ entries) rs in
       let reads = inputs-read l args before id Gamma (p ∷ entries) rs after results well in
@@ -189,7 +189,7 @@ module _ (ls ks : List PlainLambda) (l : PlainLambda) (args : List Kind) (before
       ((itself-like way c d around (region own ns gives)).on us (map (read ys q) entries) (reads-like IsNearDatum near-kept xs ys near o q like entries)))
 
   -- a region that runs once
-  theta-part : (own : List Kind) (ns : NodeTrees) (p : Origin) (gives inputs : List Origin) → IsPartOf l (whole (node id Theta inputs (region_then (region own ns (p ∷ gives)) no_regions))) → constant ns p ≡ Some 0 → Replaces ls ks (whole (node id Theta inputs (region_then (region own ns (p ∷ gives)) no_regions))) (region_spliced id (region own ns gives) inputs (whole (node id Theta inputs (region_then (region own ns (p ∷ gives)) no_regions))))
+  theta-part : (own : List Kind) (ns : NodeTrees) (p : Origin) (gives inputs : List Origin) → IsPartOf l (whole (node id Theta inputs (region_then (region own ns (p ∷ gives)) no_regions))) → constant ns p ≡ Some 0 → Replaces ls ks (whole (node id Theta inputs (region_then (region own ns (p ∷ gives)) no_regions))) (region_spliced id (region_redirected (placed inputs) (region own ns gives)) (whole (node id Theta inputs (region_then (region own ns (p ∷ gives)) no_regions))))
   theta-part own ns p gives inputs well e =
       let rs = region_then (region own ns (p ∷ gives)) no_regions in
       let x = node id Theta inputs rs in
@@ -215,9 +215,9 @@ module _ (ls ks : List PlainLambda) (l : PlainLambda) (args : List Kind) (before
   input-change x a h f e s d =
       subst (λ z. Replaces ls ks (whole x) z) (some-of (is_used (Out id 0) (whole x)) (region_redirected (moved (Out id 0) a) (whole x)) s (ap (folded id (whole x)) e ∙ d)).1 h
 
-  part-change : (x : NodeTree) (r : RegionTree) (inputs : List Origin) → Replaces ls ks (whole x) (region_spliced id r inputs (whole x)) → (f : Folded) → part r inputs ≡ f → (s : RegionTree) → folded id (whole x) f ≡ Some s → Replaces ls ks (whole x) s
+  part-change : (x : NodeTree) (r : RegionTree) (inputs : List Origin) → Replaces ls ks (whole x) (region_spliced id (region_redirected (placed inputs) r) (whole x)) → (f : Folded) → part r inputs ≡ f → (s : RegionTree) → folded id (whole x) f ≡ Some s → Replaces ls ks (whole x) s
   part-change x r inputs h f e s d =
-      let same : Some (region_spliced id r inputs (whole x)) ≡ Some s = ap (folded id (whole x)) e ∙ d in
+      let same : Some (region_spliced id (region_redirected (placed inputs) r) (whole x)) ≡ Some s = ap (folded id (whole x)) e ∙ d in
       subst (λ z. Replaces ls ks (whole x) z) (some-equal _ _ same) h
 
   inputs-replace : (op : Op2) (a b : Origin) (rs : RegionTrees) → IsPartOf l (whole (node id (Bin op) (a ∷ b ∷ []) rs)) → (u v : Option ℕ) → constant (around_node (node id (Bin op) (a ∷ b ∷ []) rs)) a ≡ u → constant (around_node (node id (Bin op) (a ∷ b ∷ []) rs)) b ≡ v →

@@ -13,7 +13,7 @@ use Rattle.g_graph.specs.declared.op.Origin.{Origin}
 use Rattle.g_graph.specs.declared.op.Origin.TheVariants.{Arg, Out}
 use Rattle.g_graph.specs.Plain.{region, NodeTree, node, NodeTrees, node_then, no_regions, id_of, PlainLambda}
 use Rattle.g_graph.specs.Replace.{region_redirected, moved}
-use Rattle.g_graph.specs.Splice.{joined_nodes, region_spliced}
+use Rattle.g_graph.specs.Splice.{placed, joined_nodes, region_spliced}
 use Rattle.g_mean.specs.Data.{Datum, val, memory, input as input_left, at_port, value_of}
 use Rattle.g_mean.specs.Meaning.{Around, Outputs, read, node_run, region_meaning}
 use Rattle.g_mean.specs.Near.{Paired, IsSoundDatum, IsNearDatum}
@@ -131,7 +131,7 @@ module _ (ls ks : List PlainLambda) (l : PlainLambda) (args : List Kind) (before
 
   pub part-replaces : (own : List Kind) (nodes' : NodeTrees) (gives inputs : List Origin) → FitsInto args before x after results nodes' gives inputs →
       ((way : Way) (global : ℕ → Value) (c d : Around) → AroundLike no_deeper way IsNearDatum c d → Linked way ls ks global c d → (xs ys : List Datum) (o q : Outputs) → Paired IsNearDatum xs ys → OutputsLike IsNearDatum o q → HaveRun c xs o before → Like no_deeper way (Paired IsNearDatum) (node_run c x xs o) (region_meaning d (region own nodes' gives) (map (read ys q) inputs))) →
-      Replaces ls ks (region args nodes results) (region_spliced (id_of x) (region own nodes' gives) inputs (region args nodes results))
+      Replaces ls ks (region args nodes results) (region_spliced (id_of x) (region_redirected (placed inputs) (region own nodes' gives)) (region args nodes results))
   part-replaces own nodes' gives inputs fits like =
       record {
         at = λ way global. record {
