@@ -142,7 +142,7 @@ twice-below : (way : Way) (n m : ℕ) → IsTwice way 2 (suc n) m → IsTwice wa
 twice-below Forth n m h = omega arith
 twice-below Backward n m h = omega arith
 
-none-near : (way : Way) (m : ℕ) → IsTwice way 2 0 m → (b : Answer (List Datum)) → Like no_deeper way (Paired IsNearDatum) (Cut []) b
+pub none-near : (way : Way) (m : ℕ) → IsTwice way 2 0 m → (b : Answer (List Datum)) → Like no_deeper way (Paired IsNearDatum) (Cut []) b
 none-near Forth zero h b = absurd (omega arith)
 none-near Forth (suc m) h b = near-cut no_deeper no_deeper-compares Forth (Paired IsNearDatum) m (omega arith) b
 none-near Backward m h b = absurd (omega arith)

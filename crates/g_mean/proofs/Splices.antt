@@ -15,7 +15,7 @@ use Rattle.g_graph.specs.declared.op.Origin.TheVariants.{Arg, Out}
 use Rattle.g_graph.specs.Plain.{region, NodeTree, node, NodeTrees, no_nodes, node_then, id_of}
 use Rattle.g_graph.specs.Ids.{node_ids, nodes_ids}
 use Rattle.g_graph.specs.WellFormed.{some_of, distinct}
-use Rattle.g_graph.specs.Replace.{nodes_redirected}
+use Rattle.g_graph.specs.Replace.{nodes_redirected, region_redirected}
 use Rattle.g_graph.specs.Splice.{placed, without, joined_nodes, nodes_spliced, region_spliced}
 use Rattle.g_mean.specs.Data.{Datum, val, at_port}
 use Rattle.g_mean.specs.Meaning.{Around, Outputs, no_outputs, extended, read, region_meaning, node_run, nodes_run}
@@ -472,7 +472,7 @@ module _ (way : Way) (c d : Around) (around : AroundLike no_deeper way IsNearDat
               (λ o q h. (reads-near way c d around outside move (λ n. n) (nodes_ids after) after-moves xs ys (known_after [] after) o q h results after-gives, no_deeper-compares.goes.nothing));
         }
 
-    pub spliced-like : MeaningLike no_deeper way IsNearDatum (region_meaning c (region args (joined_nodes before (node_then x after)) results)) (region_meaning d (region_spliced (id_of x) (region own part gives) inputs (region args (joined_nodes before (node_then x after)) results)))
+    pub spliced-like : MeaningLike no_deeper way IsNearDatum (region_meaning c (region args (joined_nodes before (node_then x after)) results)) (region_meaning d (region_spliced (id_of x) (region_redirected (placed inputs) (region own part gives)) (region args (joined_nodes before (node_then x after)) results)))
     spliced-like =
         subst (λ ns. MeaningLike no_deeper way IsNearDatum (region_meaning c (region args (joined_nodes before (node_then x after)) results)) (region_meaning d (region args ns (map move results))))
         (sym (spliced-joined before x after part_in_place outs at-before)) region-like

@@ -8,7 +8,7 @@ use Rattle.g_graph.specs.Ids.{nodes_ids}
 use Rattle.g_graph.specs.WellFormed.{distinct}
 use Rattle.g_graph.specs.declared.op.Origin.TheVariants.{Arg, Out}
 use Rattle.g_graph.specs.Replace.{region_redirected}
-use Rattle.g_graph.specs.Splice.{joined_nodes, region_spliced}
+use Rattle.g_graph.specs.Splice.{placed, joined_nodes, region_spliced}
 use Rattle.g_mean.specs.Data.{Datum}
 use Rattle.g_mean.specs.Meaning.{Around, Outputs, read, region_meaning, node_run}
 use Rattle.g_mean.specs.Near.{Paired, IsNearDatum}
@@ -36,7 +36,7 @@ SplicedRegionsAreAlike =
     ((xs ys : List Datum) (o q : Outputs) → Paired IsNearDatum xs ys → ((n p : ℕ) → IsNearDatum (o n p) (q n p)) → HaveRun c xs o before →
     Like no_deeper way (Paired IsNearDatum) (node_run c x xs o) (region_meaning d (region own part gives) (map (read ys q) inputs))) →
     MeaningLike no_deeper way IsNearDatum (region_meaning c (region args (joined_nodes before (node_then x after)) results))
-    (region_meaning d (region_spliced (id_of x) (region own part gives) inputs (region args (joined_nodes before (node_then x after)) results)))
+    (region_meaning d (region_spliced (id_of x) (region_redirected (placed inputs) (region own part gives)) (region args (joined_nodes before (node_then x after)) results)))
 
 -- Uses of outputs of a node `x` may come from elsewhere, as `move` says: from an argument or an earlier node.
 pub record CanRedirect (args : List Kind) (before : NodeTrees) (x : NodeTree) (after : NodeTrees) (results : List Origin) (move : Origin → Origin) : Type 0 where
