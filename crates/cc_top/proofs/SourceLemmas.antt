@@ -1,79 +1,129 @@
--- A source that is longer than the limit is refused, so one byte more than the limit tells enough; and an
+-- A source that is longer than the limit is refused at the limit, so one byte more than the limit tells enough; and an
 -- accepted one returns an `int`.
-use Rattle.std.proofs.Common.{◌≡◌, ℕ, ◌%◌, ◌<◌, ◌^◌, ◌==◌, ◌||◌, ◌&&◌, true, false, List, [], ◌∷◌, Option, None, Some, length, take, drop, refl, ap, sym, ◌∙◌, subst, inl, inr, nat_lt, option_map, arith}
-use Rattle.std.proofs.Common.{Global, Result, Ok, Err, Vec, IfOk}
-use Rattle.std.specs.Prelude.{Bool, codes, if◌then◌else◌}
-use Rattle.std.specs.List.{prefix_len}
-use Rattle.std.specs.Option.{option_and_then}
+use Rattle.std.proofs.Common.{◌≡◌, ℕ, ◌%◌, ◌<◌, ◌^◌, ◌≤◌, true, false, List, [], ◌∷◌, Option, None, Some, length, take, refl, ap, sym, ◌∙◌, subst, inl, inr, nat_lt, option_map, arith}
+use Rattle.std.proofs.Common.{Global, Result, Ok, Err, Vec, IfOk, IfErr}
+use Rattle.std.specs.Prelude.{Bool, if◌then◌else◌}
+use Rattle.std.specs.Option.{ForSome, option_and_then}
+use Rattle.cc_io.specs.Files.{Name, FileSet, content}
 use Rattle.std.proofs.lemmas.Bool.{cases_lt, lt-ltb, ltb-false}
-use Rattle.std.proofs.lemmas.List.{take_all, length-take-le}
-use Rattle.std.proofs.lemmas.Option.{option_and_then_some}
+use Rattle.std.proofs.lemmas.List.{take_all, length-take-le, take-take}
+use Rattle.c_lex.specs.Tokens.{lexed}
+use Rattle.c_lex.specs.declared.fault.LexFault.{LexFault}
+use Rattle.c_lex.specs.declared.fault.LexFault.TheVariants.{LongSource as TooLong}
+use Rattle.c_lex.specs.declared.token.Token.{Token}
+use Rattle.c_lex.specs.declared.token.TokenKind.{TokenKind}
+use Rattle.c_lex.specs.declared.token.TokenKind.TheVariants as kind
 use Rattle.cc_top.specs.Layout.{image_of_constant}
 use Rattle.cc_top.specs.Program.{Compiles, ExitsWithin, instruction_count}
-use Rattle.cc_top.specs.Source.{returned, constant, decimal, last_constant, after_return, after_blanks, and_after, after, is_digit, is_end}
+use Rattle.cc_top.specs.Refusal.{refusal_of}
+use Rattle.cc_top.specs.Refused.{CompileFails, IsJudgedSo}
+use Rattle.cc_top.specs.Source.{after_return, built, constant_of, int_constant, is_end, and_behind, behind, judged, judged_as, last_constant, or_built, returned, returned_of}
+use Rattle.cc_top.specs.declared.refusal.Refusal.{Refusal}
+use Rattle.cc_top.specs.declared.outcome.Outcome.{Outcome}
+use Rattle.cc_top.specs.declared.outcome.Outcome.TheVariants.{Done, Usage, ReadFault, WriteFault, Refused, BadImage, NoMemory, Exit, Stack, Budget, Stuck}
+use Rattle.cc_top.specs.declared.source.Part.TheVariants.{Semicolon, RightBrace}
 use Rattle.cc_top.proofs.ConstantExits.{constant_exits}
 
-too_long : (s : List ℕ) → 1048576 < length s → returned s ≡ None
+too_long : (s : List ℕ) → 1048576 < length s → lexed s ≡ Err (TooLong 1048576)
+unfolding lexed
 too_long s long = rw (lt-ltb 1048576 (length s) long) refl
 
-pub returned-take : (s : List ℕ) → returned (take 1048577 s) ≡ returned s
-returned-take s =
+pub judged-take : (s : List ℕ) → judged (take 1048577 s) ≡ judged s
+judged-take s =
     elim (cases_lt 1048576 (length s)) [
       | inl long ↦
           let whole : length (take 1048577 s) ≡ 1048577 = length-take-le 1048577 s (omega arith) in
-          too_long (take 1048577 s) (omega arith) ∙ sym (too_long s long)
-      | inr short ↦ ap returned (take_all 1048577 s (omega arith))
+          rw (too_long (take 1048577 s) (omega arith), too_long s long, take-take 1048576 1048577 s (omega arith)) refl
+      | inr short ↦ ap judged (take_all 1048577 s (omega arith))
     ]
 
+pub returned-take : (s : List ℕ) → returned (take 1048577 s) ≡ returned s
+returned-take s = ap returned_of (judged-take s)
+
 -- what a source compiles to is seen by its first bytes
-pub Compiles-take : (s bytes : List ℕ) → Compiles (take 1048577 s) bytes → Compiles s bytes
+Compiles-take : (s bytes : List ℕ) → Compiles (take 1048577 s) bytes → Compiles s bytes
 Compiles-take s bytes c = record {
   image = ap (option_map image_of_constant) (sym (returned-take s)) ∙ c.image;
   exits = λ n is. c.exits n (returned-take s ∙ is);
 }
 
--- what a test that lets a value through tells
-kept_after : (x y : Bool) (d n : ℕ) → (if x || y then None else Some d) ≡ Some n → (y ≡ false) × (d ≡ n)
-kept_after true y d n is = cc
-kept_after false true d n is = cc
-kept_after false false d n is = (refl, cc)
+-- ---- a constant is an `int`
 
-passed : {A : Type 0} (x : Bool) (o : Option A) (n : A) → (if x then o else None) ≡ Some n → o ≡ Some n
+passed : (x : Bool) (o : Option ℕ) (n : ℕ) → (if x then o else None) ≡ Some n → o ≡ Some n
 passed true o n is = is
 passed false o n is = cc
 
-stayed : {A : Type 0} (x : Bool) (o : Option A) (n : A) → (if x then None else o) ≡ Some n → o ≡ Some n
-stayed true o n is = cc
-stayed false o n is = is
+small-if : (x : Bool) (v n : ℕ) → nat_lt 2147483647 v ≡ x → (if x then None else Some v) ≡ Some n → n < 2 ^ 31
+small-if true v n is e = cc
+small-if false v n is e = let same : v ≡ n = cc in omega (arith, ltb-false 2147483647 v is, same)
 
-constant_small : (digits : List ℕ) (n : ℕ) → constant digits ≡ Some n → n < 2 ^ 31
-constant_small [] n is = cc
-constant_small (b ∷ digits) n is =
-    let kept = kept_after (b == 48 && nat_lt 0 (length digits)) (nat_lt 2147483647 (decimal (b ∷ digits))) (decimal (b ∷ digits)) n is in
-    omega (arith, ltb-false 2147483647 (decimal (b ∷ digits)) kept.0, kept.1)
+constant_small : (k : TokenKind) (n : ℕ) → int_constant k ≡ Some n → n < 2 ^ 31
+constant_small (kind.Number v false) n is = small-if (nat_lt 2147483647 v) v n refl is
+constant_small (kind.Number v true) n is = cc
+constant_small (kind.Name x) n is = cc
+constant_small (kind.Char c) n is = cc
+constant_small (kind.Text t) n is = cc
+constant_small (kind.Keyword w) n is = cc
+constant_small (kind.Punct p) n is = cc
 
-last_small : (s : List ℕ) (n : ℕ) → last_constant s ≡ Some n → n < 2 ^ 31
-last_small s n is =
-    constant_small (take (prefix_len is_digit s) s) n
-    (passed (is_end (and_after (codes "}") (after (codes ";") (drop (prefix_len is_digit s) s)))) (constant (take (prefix_len is_digit s) s)) n is)
+last_small : (ts : List Token) (n : ℕ) → last_constant ts ≡ Some n → n < 2 ^ 31
+last_small [] n is = cc
+last_small (t ∷ ts) n is =
+    constant_small t.kind n (passed (is_end (and_behind RightBrace (behind Semicolon ts))) (int_constant t.kind) n is)
 
-pub returned_small : (s : List ℕ) (n : ℕ) → returned s ≡ Some n → n < 2 ^ 31
-returned_small s n is =
-    option_and_then_some last_constant (option_and_then (λ r. Some (after_blanks r)) (after_return s)) n
-    (stayed (nat_lt 1048576 (length s)) (option_and_then last_constant (option_and_then (λ r. Some (after_blanks r)) (after_return s))) n is)
-    (λ t _ e. last_small t n e)
+from_small : (o : Option (List Token)) (n : ℕ) → option_and_then last_constant o ≡ Some n → n < 2 ^ 31
+from_small None n is = cc
+from_small (Some ts) n is = last_small ts n is
+
+built_small : (o : Option ℕ) (n : ℕ) → ((m : ℕ) → o ≡ Some m → m < 2 ^ 31) → returned_of (built o) ≡ Some n → n < 2 ^ 31
+built_small None n h is = cc
+built_small (Some m) n h is = h n is
+
+never_built : (o : Option Refusal) (n : ℕ) → returned_of (or_built o) ≡ Some n → n < 2 ^ 31
+never_built None n is = cc
+never_built (Some r) n is = cc
+
+judged_small : (s : List ℕ) (r : Result (List Token) LexFault) (n : ℕ) → returned_of (judged_as s r) ≡ Some n → n < 2 ^ 31
+judged_small s (Ok ts) n is = built_small (constant_of ts) n (λ m e. from_small (after_return ts) m e) is
+judged_small s (Err fault) n is = never_built (refusal_of fault s) n is
+
+returned_small : (s : List ℕ) (n : ℕ) → returned s ≡ Some n → n < 2 ^ 31
+returned_small s n is = judged_small s (lexed s) n is
+
+-- ---- what a source compiles to
 
 -- the image of a constant is that of each source that returns it
-pub compiles : (s : List ℕ) (n : ℕ) (bytes : List ℕ) → returned s ≡ Some n → bytes ≡ image_of_constant n → Compiles s bytes
-compiles s n bytes is image = record {
-  image = ap (option_map image_of_constant) is ∙ ap Some (sym image);
-  exits = λ k is'.
-      let same : n ≡ k = cc in
-      subst (λ b. ExitsWithin (instruction_count k) b (k % 256)) (ap image_of_constant (sym same) ∙ sym image) (constant_exits k (returned_small s k is'));
-}
+pub compiles : (s : List ℕ) (n : ℕ) (bytes : List ℕ) → judged s ≡ Ok n → bytes ≡ image_of_constant n → Compiles s bytes
+compiles s n bytes judged_so image =
+    let is : returned s ≡ Some n = ap returned_of judged_so in
+    record {
+      image = ap (option_map image_of_constant) is ∙ ap Some (sym image);
+      exits = λ k is'.
+          let same : n ≡ k = cc in
+          subst (λ b. ExitsWithin (instruction_count k) b (k % 256)) (ap image_of_constant (sym same) ∙ sym image) (constant_exits k (returned_small s k is'));
+    }
 
 -- what the bytes that were read compile to is what the source compiles to
 pub compiles_of_read : {E : Type 0} (s read : List ℕ) (r : Result (Vec ℕ Global) E) → read ≡ take 1048577 s
     → IfOk r (λ bytes. Compiles read bytes.items) → IfOk r (λ bytes. Compiles s bytes.items)
 compiles_of_read s read (Ok bytes) same c = Compiles-take s bytes.items (subst (λ t. Compiles t bytes.items) same c)
 compiles_of_read s read (Err e) same c = tt
+
+-- what is wrong with the bytes that were read is wrong with the source
+fails-so : (name : Name) (e : Outcome) (told : Option FileSet) (unread : Type 0) (read : List ℕ) → ForSome told (λ files. read ≡ take 1048577 (content name files)) → IsJudgedSo read e → CompileFails name e told unread
+fails-so name (Refused refusal) told unread read same h = λ files is. sym (judged-take (content name files)) ∙ ap judged (sym (same files is)) ∙ h
+fails-so name NoMemory told unread read same h = tt
+fails-so name Done told unread read same h = absurd h
+fails-so name Usage told unread read same h = absurd h
+fails-so name ReadFault told unread read same h = absurd h
+fails-so name WriteFault told unread read same h = absurd h
+fails-so name (BadImage fault) told unread read same h = absurd h
+fails-so name (Exit status) told unread read same h = absurd h
+fails-so name Stack told unread read same h = absurd h
+fails-so name Budget told unread read same h = absurd h
+fails-so name (Stuck pc why) told unread read same h = absurd h
+
+pub fails_of_read : {T : Type 0} (name : Name) (told : Option FileSet) (unread : Type 0) (read : List ℕ) (r : Result T Outcome) → ForSome told (λ files. read ≡ take 1048577 (content name files))
+    → IfErr r (IsJudgedSo read) → IfErr r (λ e. CompileFails name e told unread)
+fails_of_read name told unread read (Ok x) same h = tt
+fails_of_read name told unread read (Err e) same h = fails-so name e told unread read same h

@@ -1,4 +1,6 @@
 pub mod Source
+pub mod Refusal
+pub mod Refused
 pub mod Templates
 pub mod Layout
 pub mod Report

@@ -1,6 +1,7 @@
 -- How a call ends: its status, and what it writes on the report. Each line ends with a line feed.
 use Rattle.std.specs.Prelude.{ℕ, List, [], ◌∷◌, ◌++◌, codes}
 use Rattle.elf_file.specs.ElfFault.{name_of, number_of}
+use Rattle.cc_top.specs.Refusal as Refusal
 use Rattle.cc_top.specs.Text.{decimal_text, hex_text}
 use Rattle.cc_top.specs.declared.outcome.Outcome.{Outcome}
 use Rattle.cc_top.specs.declared.outcome.Outcome.TheVariants.{Done, Usage, ReadFault, WriteFault, Refused, BadImage, NoMemory, Exit, Stack, Budget, Stuck}
@@ -10,7 +11,7 @@ status_of Done = 0
 status_of Usage = 1
 status_of ReadFault = 2
 status_of WriteFault = 3
-status_of Refused = 4
+status_of (Refused refusal) = 4
 status_of (BadImage fault) = 5
 status_of NoMemory = 6
 status_of (Exit status) = 0
@@ -32,7 +33,13 @@ text_of Done = []
 text_of Usage = usage_text
 text_of ReadFault = line (codes "read fault")
 text_of WriteFault = line (codes "write fault")
-text_of Refused = line (codes "refused NotBuilt 50 line 1")
+text_of (Refused refusal) =
+    line
+    (codes "refused "
+    ++ Refusal.name_of refusal.rule
+    ++ 32 ∷ decimal_text (Refusal.number_of refusal.rule)
+    ++ codes " line "
+    ++ decimal_text refusal.line)
 text_of (BadImage fault) = line (codes "image " ++ name_of fault ++ 32 ∷ decimal_text (number_of fault))
 text_of NoMemory = line (codes "memory")
 text_of (Exit status) = line (codes "exit " ++ decimal_text status)

@@ -7,12 +7,12 @@ ghost use Rattle.cc_top.specs.BuildEnds.{BuildEnds};
 ghost use Rattle.cc_top.specs.Program.{Compiles};
 ghost use Rattle.cc_top.specs.Outside.{files_seen};
 ghost use Rattle.cc_top.specs.Layout.{image_of_constant};
-ghost use Rattle.cc_top.specs.Source.{returned};
+ghost use Rattle.cc_top.specs.Refused.{CompileFails, IsJudgedSo};
 
 use crate::layout::image_of_code;
 use crate::load::{LoadError, load};
 use crate::outcome::Outcome;
-use crate::source::{SOURCE_LIMIT, returned_constant};
+use crate::source::{SOURCE_LIMIT, judge};
 use crate::templates::return_constant;
 use cc_io::{Files, save};
 use std::alloc::Global;
@@ -30,12 +30,9 @@ fn image_of_constant(alloc: Global, constant: u32) -> Result<Vec<u8>, Outcome>
 /// The image of a source text.
 fn compile(alloc: Global, source: &[u8]) -> Result<Vec<u8>, Outcome>
     ensures bytes { IfOk result (λ bytes. Compiles source.now bytes.items) }
-    ensures refused { IsErrOf result Outcome.Refused → returned source.now ≡ None }
-    ensures errors { IfErr result (λ e. (e ≡ Outcome.NoMemory) ⊎ (e ≡ Outcome.Refused)) }
+    ensures err { IfErr result (IsJudgedSo source.now) }
 {
-    let Some(constant) = returned_constant(source) else {
-        return Err(Outcome::Refused);
-    };
+    let constant = judge(alloc, source)?;
     let image = image_of_constant(alloc, constant)?;
     Ok(image)
 }
@@ -43,10 +40,8 @@ fn compile(alloc: Global, source: &[u8]) -> Result<Vec<u8>, Outcome>
 /// The bytes of the source file of this name and the image that they compile to.
 fn compile_file<F: Files>(alloc: Global, files: &mut F, source: &str) -> Result<Vec<u8>, Outcome>
     ensures bytes { ForSome (F.told files.old) (λ all. IfOk result (λ bytes. Compiles (content source.now all) bytes.items)) }
-    ensures refused { IsErrOf result Outcome.Refused → ForSome (F.told files.old) (λ all. returned (content source.now all) ≡ None) }
-    ensures read_fault { IsErrOf result Outcome.ReadFault → Rose (F.open_faults files.old source.now) (F.open_faults files.new source.now)
-        ⊎ Rose (F.read_faults files.old) (F.read_faults files.new) }
-    ensures errors { IfErr result (λ e. (e ≡ Outcome.NoMemory) ⊎ ((e ≡ Outcome.Refused) ⊎ (e ≡ Outcome.ReadFault))) }
+    ensures err { IfErr result (λ e. CompileFails source.now e (F.told files.old)
+        (Rose (F.open_faults files.old source.now) (F.open_faults files.new source.now) ⊎ Rose (F.read_faults files.old) (F.read_faults files.new))) }
     ensures told { F.told files.new ≡ F.told files.old }
     ensures create_faults { F.create_faults files.new ≡ F.create_faults files.old }
     ensures write_faults { F.write_faults files.new ≡ F.write_faults files.old }

@@ -10,6 +10,7 @@ mod layout;
 mod line;
 mod load;
 mod outcome;
+mod refusal;
 mod report;
 mod run;
 mod source;

@@ -2,6 +2,7 @@
 ghost use Rattle.std.specs.Prelude.{◌≡◌};
 ghost use Rattle.cc_top.specs.declared.outcome.Outcome.TheVariants.{NoMemory};
 
+use crate::refusal::Refusal;
 use elf_file::ElfFault;
 use std::alloc::AllocError;
 
@@ -15,7 +16,7 @@ pub enum Outcome {
     ReadFault,
     WriteFault,
     /// The source is refused.
-    Refused,
+    Refused(Refusal),
     /// The file is no executable that can be run.
     BadImage(ElfFault),
     NoMemory,

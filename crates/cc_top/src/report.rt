@@ -2,10 +2,11 @@
 ghost use Rattle.std.specs.Prelude.{◌≡◌, ◌≤◌, length};
 ghost use Rattle.cc_top.specs.Outcome.{status_of, text_of};
 ghost use Rattle.cc_top.specs.Report.{IsReported};
-ghost use Rattle.cc_top.specs.declared.outcome.Outcome.TheVariants.{BadImage, Exit, Stuck};
+ghost use Rattle.cc_top.specs.declared.outcome.Outcome.TheVariants.{BadImage, Exit, Refused, Stuck};
 
 use crate::line::{Line, push_decimal, push_hex, push_text};
 use crate::outcome::Outcome;
+use crate::refusal::Refusal;
 use cc_io::{Sink, write_all};
 use elf_file::ElfFault;
 
@@ -22,7 +23,7 @@ fn status_of(outcome: Outcome) -> u8
         Outcome::Usage => 1,
         Outcome::ReadFault => 2,
         Outcome::WriteFault => 3,
-        Outcome::Refused => 4,
+        Outcome::Refused(_) => 4,
         Outcome::BadImage(_) => 5,
         Outcome::NoMemory => 6,
         Outcome::Stack | Outcome::Budget | Outcome::Stuck { .. } => 7,
@@ -35,6 +36,20 @@ fn exit_line(status: u8) -> Line
     let mut line = Line::new();
     push_text(&mut line, b"exit ");
     push_decimal(&mut line, status.into());
+    line.push(b'\n');
+    line
+}
+
+fn refused_line(refusal: Refusal) -> Line
+    ensures { result ≡ text_of (Refused refusal) }
+{
+    let mut line = Line::new();
+    push_text(&mut line, b"refused ");
+    push_text(&mut line, refusal.rule.name().as_bytes());
+    line.push(b' ');
+    push_decimal(&mut line, refusal.rule.number().into());
+    push_text(&mut line, b" line ");
+    push_decimal(&mut line, refusal.line.into());
     line.push(b'\n');
     line
 }
@@ -81,7 +96,7 @@ fn text_of(outcome: Outcome) -> Line
         Outcome::Usage => line_of(USAGE),
         Outcome::ReadFault => line_of(b"read fault\n"),
         Outcome::WriteFault => line_of(b"write fault\n"),
-        Outcome::Refused => line_of(b"refused NotBuilt 50 line 1\n"),
+        Outcome::Refused(refusal) => refused_line(refusal),
         Outcome::BadImage(fault) => image_line(fault),
         Outcome::NoMemory => line_of(b"memory\n"),
         Outcome::Exit(status) => exit_line(status),

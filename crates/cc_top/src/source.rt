@@ -1,104 +1,121 @@
 //! The source texts that are compiled today.
-ghost use Rattle.std.specs.Prelude.{◌≡◌, ℕ, ◌<◌, ◌≤◌, List, length, take, drop, min, IsTrue, ◌↔◌, Option, option_copied};
-ghost use Rattle.std.specs.List.{prefix_len};
-ghost use Rattle.cc_top.specs.Source.{is_blank, is_digit, after, after_blanks, after_return, constant, decimal, last_constant, returned, spaced};
+ghost use Rattle.std.specs.Prelude.{◌≡◌, Ok, IfOk, IfErr, option_copied};
+ghost use Rattle.cc_top.specs.Source.{is_part, behind, after_return, int_constant, last_constant, constant_of, judged};
+ghost use Rattle.cc_top.specs.Refused.{IsJudgedSo, outcome_of};
+
+use crate::outcome::Outcome;
+use crate::refusal::{Refusal, Rule, refusal_of};
+use c_lex::{Keyword, LexFault, Punct, Token, TokenKind, lex};
+use std::alloc::Global;
 
 /// The most bytes that a source may have.
 pub const SOURCE_LIMIT: usize = 1_048_576;
 
-/// The value of the constant N, where the text is `int main(void) { return N; }`.
-///
-/// Blanks may stand between the tokens, and one has to stand after `int` and after `return`. N is `0`, or
-/// decimal digits that do not begin with 0, of a value up to 2147483647. `None` at every other text, and at
-/// one of more than 1,048,576 bytes.
-pub fn returned_constant(source: &[u8]) -> Option<u32>
-    ensures { result ≡ returned source.now }
+/// A part of the program that is compiled today, its constant apart.
+#[derive(Clone, Copy, Debug, PartialEq, Eq)]
+enum Part {
+    Int,
+    Main,
+    LeftParen,
+    Void,
+    RightParen,
+    LeftBrace,
+    Return,
+    Semicolon,
+    RightBrace,
+}
+
+fn is_part(part: Part, kind: &TokenKind) -> bool
+    ensures { result ≡ is_part part kind.now }
 {
-    if source.len() > SOURCE_LIMIT {
-        return None;
+    match (part, kind) {
+        (Part::Int, TokenKind::Keyword(Keyword::Int)) => true,
+        (Part::Main, TokenKind::Name(name)) => name.as_slice() == b"main".as_slice(),
+        (Part::LeftParen, TokenKind::Punct(Punct::LParen)) => true,
+        (Part::Void, TokenKind::Keyword(Keyword::Void)) => true,
+        (Part::RightParen, TokenKind::Punct(Punct::RParen)) => true,
+        (Part::LeftBrace, TokenKind::Punct(Punct::LBrace)) => true,
+        (Part::Return, TokenKind::Keyword(Keyword::Return)) => true,
+        (Part::Semicolon, TokenKind::Punct(Punct::Semicolon)) => true,
+        (Part::RightBrace, TokenKind::Punct(Punct::RBrace)) => true,
+        _ => false,
     }
-    let rest = skip_blanks(after_head(source)?);
-    let digits = digit_count(rest);
-    let rest_after = skip_text(skip_text(&rest[digits..], b";")?, b"}")?;
-    if !skip_blanks(rest_after).is_empty() {
-        return None;
-    }
-    value_of_constant(&rest[..digits])
 }
 
-fn is_blank_byte(byte: u8) -> bool
-    ensures { result ≡ is_blank byte }
+// The tokens behind this part, which has to come first.
+fn behind(part: Part, tokens: &[Token]) -> Option<&[Token]>
+    ensures { option_copied result ≡ behind part tokens.now }
 {
-    matches!(byte, 9..=13 | b' ')
-}
-
-fn skip_blanks(text: &[u8]) -> &[u8]
-    ensures { result.now ≡ after_blanks text.now }
-{
-    &text[blank_count(text)..]
-}
-
-fn blank_count(text: &[u8]) -> usize
-    ensures value { result ≡ prefix_len is_blank text.now }
-    ensures within { result ≤ length text.now }
-{
-    text.iter().take_while(|byte| is_blank_byte(**byte)).count()
-}
-
-fn skip_text<'a>(source: &'a [u8], text: &[u8]) -> Option<&'a [u8]>
-    ensures { option_copied result ≡ after text.now source.now }
-{
-    skip_blanks(source).strip_prefix(text)
-}
-
-// The text, where it begins with a blank.
-fn require_blank(text: &[u8]) -> Option<&[u8]>
-    ensures { option_copied result ≡ spaced text.now }
-{
-    match text {
-        [first, ..] if is_blank_byte(*first) => Some(text),
+    match tokens {
+        [first, rest @ ..] if is_part(part, &first.kind) => Some(rest),
         _ => None,
     }
 }
 
-// What follows the constant's `return` and begins with a blank.
-fn after_head(source: &[u8]) -> Option<&[u8]>
-    ensures { option_copied result ≡ after_return source.now }
+fn after_return(tokens: &[Token]) -> Option<&[Token]>
+    ensures { option_copied result ≡ after_return tokens.now }
 {
-    let rest = require_blank(skip_text(source, b"int")?)?;
-    let rest = skip_text(rest, b"main")?;
-    let rest = skip_text(rest, b"(")?;
-    let rest = skip_text(rest, b"void")?;
-    let rest = skip_text(rest, b")")?;
-    let rest = skip_text(rest, b"{")?;
-    require_blank(skip_text(rest, b"return")?)
+    let rest = behind(Part::Int, tokens)?;
+    let rest = behind(Part::Main, rest)?;
+    let rest = behind(Part::LeftParen, rest)?;
+    let rest = behind(Part::Void, rest)?;
+    let rest = behind(Part::RightParen, rest)?;
+    let rest = behind(Part::LeftBrace, rest)?;
+    behind(Part::Return, rest)
 }
 
-fn digit_count(text: &[u8]) -> usize
-    ensures value { result ≡ prefix_len is_digit text.now }
-    ensures within { result ≤ length text.now }
+fn int_constant(kind: &TokenKind) -> Option<u32>
+    ensures { result ≡ int_constant kind.now }
 {
-    text.iter().take_while(|byte| byte.is_ascii_digit()).count()
-}
-
-// The value of decimal digits, or 2^31 where it is greater.
-fn decimal_value(digits: &[u8]) -> u32
-    ensures { result ≡ min 2147483648 (decimal digits.now) }
-{
-    let mut value: u64 = 0;
-    for digit in digits {
-        value = (value * 10 + u64::from(digit.saturating_sub(b'0'))).min(1 << 31);
+    match kind {
+        TokenKind::Number {
+            value,
+            unsigned: false,
+        } if *value <= i32::MAX as u32 => Some(*value),
+        _ => None,
     }
-    value as u32
 }
 
-fn value_of_constant(digits: &[u8]) -> Option<u32>
-    ensures { result ≡ constant digits.now }
+fn last_constant(tokens: &[Token]) -> Option<u32>
+    ensures { result ≡ last_constant tokens.now }
 {
-    let value = decimal_value(digits);
-    match digits {
-        [] | [b'0', _, ..] => None,
-        _ if value > i32::MAX as u32 => None,
-        _ => Some(value),
+    let (constant, rest) = tokens.split_first()?;
+    let rest = behind(Part::RightBrace, behind(Part::Semicolon, rest)?)?;
+    if rest.is_empty() {
+        int_constant(&constant.kind)
+    } else {
+        None
+    }
+}
+
+/// The constant N, where the tokens are `int main(void) { return N; }`.
+fn constant_of(tokens: &[Token]) -> Option<u32>
+    ensures { result ≡ constant_of tokens.now }
+{
+    last_constant(after_return(tokens)?)
+}
+
+/// The constant N, where the source is `int main(void) { return N; }`, with N of type `int`. Blanks, comments and include
+/// lines may stand between its tokens. Every other source is refused: by its first lexical fault, or as `NotBuilt`.
+pub fn judge(alloc: Global, source: &[u8]) -> Result<u32, Outcome>
+    ensures ok { IfOk result (λ n. judged source.now ≡ Ok n) }
+    ensures err { IfErr result (IsJudgedSo source.now) }
+{
+    let tokens = match lex(alloc, source) {
+        Ok(tokens) => tokens,
+        Err(fault) => return Err(outcome_of(fault, source)),
+    };
+    constant_of(&tokens).ok_or(Outcome::Refused(Refusal {
+        rule: Rule::NotBuilt,
+        line: 1,
+    }))
+}
+
+fn outcome_of(fault: LexFault, source: &[u8]) -> Outcome
+    ensures { result ≡ outcome_of fault source.now }
+{
+    match refusal_of(fault, source) {
+        Some(refusal) => Outcome::Refused(refusal),
+        None => Outcome::NoMemory,
     }
 }

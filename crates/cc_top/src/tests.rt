@@ -52,15 +52,60 @@ const BUILD: [&str; 4] = ["rvcc", "build", "in", "out"];
 
 const ANSWER: &[u8] = b"int main(void) { return 42; }";
 
+const NOT_BUILT: &[u8] = b"refused NotBuilt 50 line 1\n";
+
+const REFUSED: [(&[u8], &[u8]); 19] = [
+    (b"", NOT_BUILT),
+    (b"int main(void) { return 1 + 1; }", NOT_BUILT),
+    (b"int main(void) { return 42; ", NOT_BUILT),
+    (b"int main(void) { return; }", NOT_BUILT),
+    (b"int main(void) { return42; }", NOT_BUILT),
+    (b"intmain(void) { return 42; }", NOT_BUILT),
+    (b"int main() { return 42; }", NOT_BUILT),
+    (b"int name(void) { return 42; }", NOT_BUILT),
+    (b"int main(void) { return 42; } x", NOT_BUILT),
+    (b"int main(void) { return 0xFFFFFFFF; }", NOT_BUILT),
+    (b"int main(void) { return 7u; }", NOT_BUILT),
+    (
+        b"int main(void) { return 2147483648; }",
+        b"refused TooWide 5 line 1\n",
+    ),
+    (
+        b"int main(void)\n{\n/* x",
+        b"refused OpenComment 2 line 3\n",
+    ),
+    (
+        b"int main(void) { return 42; }\x00",
+        b"refused BadByte 1 line 1\n",
+    ),
+    (
+        b"\n\nint main(void) { return '; }",
+        b"refused OpenText 3 line 3\n",
+    ),
+    (b"'\\q'\n", b"refused BadText 4 line 1\n"),
+    (
+        b"int main(void)\n{ return 08; }",
+        b"refused BadNumber 9 line 2\n",
+    ),
+    (b"#define N 42\n", b"refused Directive 7 line 1\n"),
+    (
+        b"\nint abcdefghijabcdefghijabcdefghijabcdefghijabcdefghijabcdefghij1234;",
+        b"refused LongName 6 line 2\n",
+    ),
+];
+
 #[test]
 fn sources_are_accepted_or_refused(rt: HostRuntime) -> Result<(), Fail> {
-    let accepted: [&[u8]; 6] = [
+    let accepted: [&[u8]; 9] = [
         ANSWER,
         b"int main(void) { return 300; }",
         b"int main(void) { return 2147483647; }",
         b"int main(void) { return 0; }",
         b" int\tmain\n(\x0bvoid\x0c)\r{return 7;}\n",
         b"int main(void){return 1 ; }",
+        b"#include <stdio.h>\nint main(void) { return /* 6 * 7 */ 42; } // x",
+        b"int main(void) { return 0x2A; }",
+        b"int main(void) { return 042; }",
     ];
     for source in accepted {
         let left = called(rt.alloc(), &BUILD, source, &[])?;
@@ -68,30 +113,10 @@ fn sources_are_accepted_or_refused(rt: HostRuntime) -> Result<(), Fail> {
         assert_eq!(rt; left.report.bytes().len(), 0);
         assert_eq!(rt; left.files.get("out").map_or(0, |image| image.len()), 8200);
     }
-    let refused: [&[u8]; 15] = [
-        b"",
-        b"int main(void) { return 1 + 1; }",
-        b"int main(void) { return 42; ",
-        b"int main(void) { retu",
-        b"int main(void) { return 042; }",
-        b"int main(void) { return 00; }",
-        b"int main(void) { return 2147483648; }",
-        b"int main(void) { return 99999999999999999999; }",
-        b"int main(void) { return; }",
-        b"int main(void) { return42; }",
-        b"intmain(void) { return 42; }",
-        b"int main() { return 42; }",
-        b"int main(void) { return 42; } x",
-        b"int main(void) { return 42; }\x00",
-        b"int main(void) { return \xff; }",
-    ];
-    for source in refused {
+    for (source, line) in &REFUSED {
         let left = called(rt.alloc(), &BUILD, source, &[])?;
         assert_eq!(rt; left.status, 4);
-        assert_eq!(rt;
-            left.report.bytes(),
-            b"refused NotBuilt 50 line 1\n".as_slice()
-        );
+        assert_eq!(rt; left.report.bytes(), *line);
         assert!(rt; left.files.get("out").is_none());
     }
     Ok(())
@@ -103,8 +128,14 @@ fn long_sources_are_refused(rt: HostRuntime) -> Result<(), Fail> {
     let mut source = ANSWER.to_vec(alloc)?;
     source.resize(1_048_576, b' ')?;
     assert_eq!(rt; called(alloc, &BUILD, &source, &[])?.status, 0);
-    source.push(b' ')?;
-    assert_eq!(rt; called(alloc, &BUILD, &source, &[])?.status, 4);
+    source[100] = b'\n';
+    source.push(b'\n')?;
+    let left = called(alloc, &BUILD, &source, &[])?;
+    assert_eq!(rt; left.status, 4);
+    assert_eq!(rt;
+        left.report.bytes(),
+        b"refused LongSource 10 line 2\n".as_slice()
+    );
     Ok(())
 }
 
