@@ -1,9 +1,11 @@
 mod Examples
 pub mod ChangeLemmas
 pub mod EqualLemmas
-mod KindLemmas
+pub mod KindLemmas
 pub mod Mapped
+pub mod NestLemmas
+pub mod NestNumbers
 pub mod ReplaceLemmas
 pub mod SpliceLemmas
 mod StateLemmas
-mod UniqueLemmas
+pub mod UniqueLemmas

@@ -1,10 +1,18 @@
 -- Nodes put in the place of one.
-use Rattle.std.proofs.Common.{◌≡◌, ◌<◌, ◌≤◌, ◌+◌, ℕ, zero, suc, Bool, true, false, List, [], ◌∷◌, ◌++◌, map, length, take, drop, refl, sym, ap, ◌∙◌, add-one, arith, length-append}
-use Rattle.std.specs.Prelude.{◌==◌, if◌then◌else◌}
+use Rattle.std.proofs.Common.{◌≡◌, ◌<◌, ◌≤◌, ◌+◌, ℕ, zero, suc, Bool, true, false, List, [], ◌∷◌, ◌++◌, map, length, take, drop, refl, sym, ap, ◌∙◌, add-one, arith, length-append, append_assoc}
+use Rattle.std.specs.Prelude.{◌==◌, ◌&&◌, ◌||◌, slice_get, if◌then◌else◌}
+use Rattle.std.specs.declared.option.Option.{Option}
 use Rattle.std.specs.declared.option.Option.TheVariants.{Some, None}
 use Rattle.g_graph.specs.declared.op.Origin.{Origin}
-use Rattle.g_graph.specs.Plain.{NodeTree, NodeTrees, no_nodes, node_then, nodes_of, id_of}
-use Rattle.g_graph.specs.Change.{place_of}
+use Rattle.g_graph.specs.declared.op.Origin.TheVariants.{Out}
+use Rattle.g_graph.specs.declared.op.Kind.{Kind}
+use Rattle.g_graph.specs.Plain.{RegionTree, NodeTree, NodeTrees, no_nodes, node_then, nodes_of, id_of}
+use Rattle.g_graph.specs.Rows.{joined, output_kinds, kind_after}
+use Rattle.g_graph.specs.Count.{nodes_values}
+use Rattle.g_graph.specs.Ids.{node_ids, nodes_ids}
+use Rattle.g_graph.specs.Scope.{is_of, last_place, origin_at, state_after}
+use Rattle.g_graph.specs.WellFormed.{some_of, gives, every_in_node, every_in_nodes}
+use Rattle.g_graph.specs.Change.{has_node, place_of}
 use Rattle.g_graph.specs.Replace.{node_redirected, nodes_redirected}
 use Rattle.g_graph.specs.Splice.{joined_nodes, nodes_spliced, without}
 use Rattle.g_graph.proofs.ReplaceLemmas.{nodes_of-redirected}
@@ -79,3 +87,80 @@ changed_after f (suc n) (x ∷ xs) ys e = ap (λ zs. x ∷ zs) (changed_after f 
 pub changed_behind : {X : Type 0} (f : X → X) (n : ℕ) (zs xs ys : List X) → zs ≡ xs ++ ys → n + length ys ≡ length zs → take n zs ++ map f (drop n zs) ≡ xs ++ map f ys
 changed_behind f n zs xs ys e b =
     ap (λ ws. take n ws ++ map f (drop n ws)) e ∙ changed_after f n xs ys (omega (arith, ap length e, length-append xs ys))
+
+-- what stands before a node and behind it
+pub record Split (at : ℕ) (ns : NodeTrees) : Type 0 where
+  pub before : NodeTrees
+  pub here : NodeTree
+  pub after : NodeTrees
+  pub numbered : (id_of here == at) ≡ true
+  pub none_before : has_node at before ≡ false
+  pub whole : ns ≡ joined_nodes before (node_then here after)
+  pub spliced : (part : NodeTrees) (outputs : List Origin) → nodes_spliced at part outputs ns ≡ joined_nodes before (joined_nodes part (nodes_redirected (without at outputs) after))
+
+-- the part stands in the place of the first node of its number
+pub split_at : (at : ℕ) (ns : NodeTrees) → has_node at ns ≡ true → Split at ns
+split_at at no_nodes e = absurd (cc)
+split_at at (node_then x xs) e = by_test (id_of x == at) refl e (split_at at xs)
+  where
+    by_test : (t : Bool) → (id_of x == at) ≡ t → (t || has_node at xs) ≡ true → (has_node at xs ≡ true → Split at xs) → Split at (node_then x xs)
+    by_test true q e h = record {
+      before = no_nodes;
+      here = x;
+      after = xs;
+      numbered = q;
+      none_before = refl;
+      whole = refl;
+      spliced = λ part outputs. ap (λ t. if t then joined_nodes part (nodes_redirected (without at outputs) xs) else node_then x (nodes_spliced at part outputs xs)) q;
+    }
+    by_test false q e h =
+        let s = h e in
+        record {
+          before = node_then x s.before;
+          here = s.here;
+          after = s.after;
+          numbered = s.numbered;
+          none_before = ap (λ t. t || has_node at s.before) q ∙ s.none_before;
+          whole = ap (λ ys. node_then x ys) s.whole;
+          spliced = λ part outputs.
+              ap (λ t. if t then joined_nodes part (nodes_redirected (without at outputs) xs) else node_then x (nodes_spliced at part outputs xs)) q
+              ∙ ap (λ ys. node_then x ys) (s.spliced part outputs);
+        }
+
+pub joined_assoc : (xs ys zs : NodeTrees) → joined_nodes (joined_nodes xs ys) zs ≡ joined_nodes xs (joined_nodes ys zs)
+joined_assoc no_nodes ys zs = refl
+joined_assoc (node_then x xs) ys zs = ap (λ ns. node_then x ns) (joined_assoc xs ys zs)
+
+pub nodes_ids-joined : (xs ys : NodeTrees) → nodes_ids (joined_nodes xs ys) ≡ nodes_ids xs ++ nodes_ids ys
+nodes_ids-joined no_nodes ys = refl
+nodes_ids-joined (node_then x xs) ys = ap (λ ids. node_ids x ++ ids) (nodes_ids-joined xs ys) ∙ sym (append_assoc (node_ids x) (nodes_ids xs) (nodes_ids ys))
+
+pub nodes_values-joined : (xs ys : NodeTrees) → nodes_values (joined_nodes xs ys) ≡ nodes_values xs + nodes_values ys
+nodes_values-joined no_nodes ys = omega arith
+nodes_values-joined (node_then x xs) ys = omega (arith, nodes_values-joined xs ys)
+
+pub kind_after-joined : (xs ys : NodeTrees) (n p : ℕ) (before : Option Kind) → kind_after (joined_nodes xs ys) n p before ≡ kind_after ys n p (kind_after xs n p before)
+kind_after-joined no_nodes ys n p before = refl
+kind_after-joined (node_then x xs) ys n p before = kind_after-joined xs ys n p (if id_of x == n then joined (slice_get (output_kinds x) p) else before)
+
+pub state_after-joined : (k : Kind) (xs ys : NodeTrees) (found : Option Origin) → state_after k (joined_nodes xs ys) found ≡ state_after k ys (state_after k xs found)
+state_after-joined k no_nodes ys found = refl
+state_after-joined k (node_then x xs) ys found = state_after-joined k xs ys (origin_at (λ p. Out (id_of x) p) (last_place k 0 (output_kinds x) None) found)
+
+or_assoc : (a b c : Bool) → (a || (b || c)) ≡ ((a || b) || c)
+or_assoc true b c = refl
+or_assoc false b c = refl
+
+and_assoc : (a b c : Bool) → (a && (b && c)) ≡ ((a && b) && c)
+and_assoc true b c = refl
+and_assoc false b c = refl
+
+pub gives-joined : (k : Kind) (xs ys : NodeTrees) → gives k (joined_nodes xs ys) ≡ (gives k xs || gives k ys)
+gives-joined k no_nodes ys = refl
+gives-joined k (node_then x xs) ys =
+    ap (λ b. some_of (is_of k) (output_kinds x) || b) (gives-joined k xs ys) ∙ or_assoc (some_of (is_of k) (output_kinds x)) (gives k xs) (gives k ys)
+
+pub every_in_nodes-joined : (test : RegionTree → Bool) (xs ys : NodeTrees) → every_in_nodes test (joined_nodes xs ys) ≡ (every_in_nodes test xs && every_in_nodes test ys)
+every_in_nodes-joined test no_nodes ys = refl
+every_in_nodes-joined test (node_then x xs) ys =
+    ap (λ b. every_in_node test x && b) (every_in_nodes-joined test xs ys) ∙ and_assoc (every_in_node test x) (every_in_nodes test xs) (every_in_nodes test ys)

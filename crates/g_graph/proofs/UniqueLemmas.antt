@@ -1,5 +1,5 @@
 -- Numbers that are unique: each stands once.
-use Rattle.std.proofs.Common.{◌≡◌, ◌+◌, ℕ, zero, suc, List, [], ◌∷◌, ◌++◌, refl, sym, ap, ◌∙◌, Bool, true, false, ◌&&◌, ◌||◌, arith}
+use Rattle.std.proofs.Common.{◌≡◌, ◌≤◌, ◌+◌, ℕ, zero, suc, List, [], ◌∷◌, ◌++◌, refl, sym, ap, ◌∙◌, Bool, true, false, ◌&&◌, ◌||◌, arith}
 use Rattle.std.proofs.Math.Dec.{eqb-suc-zero, eqb-suc-suc}
 use Rattle.std.specs.Prelude.{◌==◌, nat_lt, not, count_by, if◌then◌else◌}
 use Rattle.std.proofs.lemmas.List.Sums.{sum_by-cons, sum_by-append}
@@ -85,3 +85,46 @@ pub each_once : (next : ℕ) (ns : List ℕ) → (distinct ns && all_of (λ n. n
 each_once next ns =
     ap (λ b. b && all_of (λ n. nat_lt n next) ns) (once ns ∙ all_of_same (λ n. times n ns == 1) (λ n. saturated (times n ns) == 1) (λ n. saturated_once (times n ns)) ns)
     ∙ all_of_both (λ n. saturated (times n ns) == 1) (λ n. nat_lt n next) ns
+
+pub first_true : (a b : Bool) → (a && b) ≡ true → a ≡ true
+first_true true b e = refl
+first_true false b e = absurd (cc)
+
+pub second_true : (a b : Bool) → (a && b) ≡ true → b ≡ true
+second_true true b e = e
+second_true false b e = absurd (cc)
+
+none_of_not : (n : ℕ) → not (nat_lt 0 n) ≡ true → n ≡ 0
+none_of_not n e = grind (arith, nat_tests)
+
+not_of_none : (n : ℕ) → n ≡ 0 → not (nat_lt 0 n) ≡ true
+not_of_none n e = grind (arith, nat_tests)
+
+-- numbers are unique exactly where each stands at most once, which sums of counts can tell
+pub counts_of_distinct : (ns : List ℕ) → distinct ns ≡ true → (n : ℕ) → count_by (λ m. m == n) ns ≤ 1
+counts_of_distinct [] d n = omega arith
+counts_of_distinct (x ∷ ns) d n =
+    let none : times x ns ≡ 0 = none_of_not (times x ns) (ap not (sym (some_of_times x ns)) ∙ first_true (not (some_of (λ m. x == m) ns)) (distinct ns) d) in
+    by_test (x == n) refl (times_cons n x ns) none (counts_of_distinct ns (second_true (not (some_of (λ m. x == m) ns)) (distinct ns) d) n)
+  where
+    same : (x == n) ≡ true → x ≡ n
+    same q = grind (arith, nat_tests)
+
+    by_test : (t : Bool) → (x == n) ≡ t → times n (x ∷ ns) ≡ (if x == n then 1 else 0) + times n ns → times x ns ≡ 0 → times n ns ≤ 1 → times n (x ∷ ns) ≤ 1
+    by_test true q e z h = omega (arith, e ∙ ap (λ t. (if t then 1 else 0) + times n ns) q, z, ap (λ k. times k ns) (same q))
+    by_test false q e z h = omega (arith, e ∙ ap (λ t. (if t then 1 else 0) + times n ns) q, h)
+
+pub distinct_of_counts : (ns : List ℕ) → ((n : ℕ) → count_by (λ m. m == n) ns ≤ 1) → distinct ns ≡ true
+distinct_of_counts [] h = refl
+distinct_of_counts (x ∷ ns) h =
+    let own : times x (x ∷ ns) ≡ 1 + times x ns = times_cons x x ns ∙ ap (λ t. (if t then 1 else 0) + times x ns) (itself x) in
+    let none : times x ns ≡ 0 = omega (arith, own, h x) in
+    let rest = distinct_of_counts ns (λ n. omega (arith, times_cons n x ns, h n)) in
+    λ i. (ap not (some_of_times x ns) ∙ not_of_none (times x ns) none) i && rest i
+  where
+    itself : (n : ℕ) → (n == n) ≡ true
+    itself n = grind (arith, nat_tests)
+
+pub all_of_holds : {X : Type 0} (p q : X → Bool) → ((x : X) → p x ≡ true → q x ≡ true) → (xs : List X) → all_of p xs ≡ true → all_of q xs ≡ true
+all_of_holds p q e [] h = refl
+all_of_holds p q e (x ∷ xs) h = λ i. e x (first_true (p x) (all_of p xs) h) i && all_of_holds p q e xs (second_true (p x) (all_of p xs) h) i

@@ -4,6 +4,8 @@
 #![tactic(auto)]
 
 mod change;
+#[cfg(test)]
+mod check_tests;
 mod checking;
 mod copy;
 mod count;
