@@ -79,8 +79,8 @@ pub fn copies_mean_the_same()
     ensures itself { CopiesToThemselves }
 {}
 
-/// A change of regions of one lambda, each of which may replace what it was as part of a well-formed lambda, leaves
-/// lists of lambdas that are equal but for replaced regions.
+/// A change of one region of a well-formed lambda, where the new region may replace the old one, leaves lists of lambdas
+/// that are equal but for replaced regions.
 pub fn edits_replace()
     ensures { EditsReplace }
 {}
