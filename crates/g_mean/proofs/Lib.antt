@@ -16,3 +16,4 @@ pub mod Moves
 pub mod Holds
 pub mod Splices
 pub mod Redirects
+pub mod KindsKept

@@ -1,4 +1,4 @@
--- A change of regions of one lambda, and what is known of each region that it may change.
+-- A change of one region of a lambda, and what is known of each region that it may change.
 use Rattle.std.specs.Prelude.{◌≡◌, ℕ, zero, suc, nat_lt, List, [], ◌∷◌, length, Option, Some, slice_get, IsTrue}
 use Rattle.g_graph.specs.Plain.{RegionTree, PlainLambda}
 use Rattle.g_graph.specs.Change.{lambda_changed}
@@ -31,8 +31,8 @@ pub record IsPartOf (l : PlainLambda) (r : RegionTree) : Type 0 where
   pub unique : IsTrue (distinct (region_ids r))
   pub below : IsTrue (all_of (λ n. nat_lt n l.next) (region_ids r))
 
--- Where each region that a change makes of one of a well-formed lambda may replace it, the lists of lambdas are equal
--- but for replaced regions, and so keep their meaning.
+-- Where the region that a change makes of one of a well-formed lambda may replace it, the lists of lambdas are equal but
+-- for replaced regions, and so keep their meaning.
 abbrev pub EditsReplace : Type 0
 EditsReplace =
     (ls ks : List PlainLambda) (here : RegionTree → Option RegionTree) (f : ℕ) → AreEditedAt here f ls ks →

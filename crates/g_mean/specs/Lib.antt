@@ -12,3 +12,4 @@ pub mod Edits
 pub mod Moves
 pub mod Holds
 pub mod Splices
+pub mod Kinds

@@ -5,6 +5,7 @@ ghost use Rattle.g_mean.specs.Copies.{CopiedRegionsMeanTheSame, CopiedNodesMeanT
 ghost use Rattle.g_mean.specs.Data.{Datum};
 ghost use Rattle.g_mean.specs.Edits.{EditsReplace};
 ghost use Rattle.g_mean.specs.Holds.{RunNodesHold};
+ghost use Rattle.g_mean.specs.Kinds.{LambdasKeepKinds, WellFormedKeepMeaning};
 ghost use Rattle.g_mean.specs.Laws.{RegionExtends, LambdaExtends, ProgramExtends, NodesInTurn, EventsGrow, RegionIsSound, LambdaIsSound, ThetaTurns, TurnsUnroll};
 ghost use Rattle.g_mean.specs.Local.{RefinementsReplace, BodiesReplaceCalls};
 ghost use Rattle.g_mean.specs.Moves.{PureNodesGiveTheSame, MovedNodesAreAlike, MovedRegionsAreAlike, LoopsAreAlike};
@@ -42,6 +43,12 @@ pub fn replacement_keeps_meaning()
     ensures lambda { LambdasKeepMeaning }
     ensures region { RegionsKeepMeaning }
     ensures program { ProgramsKeepMeaning }
+    ensures well_formed { WellFormedKeepMeaning }
+{}
+
+/// A well-formed lambda gives a value and both states where it is given values and both states.
+pub fn lambdas_keep_kinds()
+    ensures { LambdasKeepKinds }
 {}
 
 /// A well-formed node that gives no state is not cut, does not end the program, writes nothing and calls nothing.
@@ -72,8 +79,8 @@ pub fn copies_mean_the_same()
     ensures itself { CopiesToThemselves }
 {}
 
-/// A change of regions of one lambda, each of which may replace what it was as part of a well-formed lambda, leaves
-/// lists of lambdas that are equal but for replaced regions.
+/// A change of one region of a well-formed lambda, where the new region may replace the old one, leaves lists of lambdas
+/// that are equal but for replaced regions.
 pub fn edits_replace()
     ensures { EditsReplace }
 {}

@@ -1,3 +1,4 @@
+use Rattle.g_mean.proofs.KindsKept.{well_formed_keep_meaning}
 use Rattle.g_mean.proofs.Programs.{programs_keep_meaning}
 use Rattle.g_mean.proofs.Replacement.{lambdas_keep_meaning, regions_keep_meaning}
 use Rattle.g_mean.proofs.laws.replacement_keeps_meaning.Goals as goal
@@ -10,3 +11,6 @@ returns-clause-region c = regions_keep_meaning
 
 pub returns-clause-program : goal.returns-clause-program
 returns-clause-program c = programs_keep_meaning
+
+pub returns-clause-well_formed : goal.returns-clause-well_formed
+returns-clause-well_formed c = well_formed_keep_meaning
