@@ -3,6 +3,7 @@ pub mod ChangeLemmas
 pub mod EqualLemmas
 pub mod KindLemmas
 pub mod Mapped
+pub mod MovedLemmas
 pub mod NestLemmas
 pub mod NestNumbers
 pub mod ReplaceLemmas
