@@ -1,8 +1,5 @@
 pub mod SourceLemmas
 pub mod Digits
-pub mod CommandRowsLemmas
-pub mod WordsLemmas
-pub mod WordLawsLemmas
 pub mod GenerateLemmas
 pub mod Standing
 pub mod Text

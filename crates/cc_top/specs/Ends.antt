@@ -3,7 +3,7 @@ use Rattle.std.specs.Prelude.{◌≡◌, ◌⊎◌, Option, Some, None}
 use Rattle.cc_top.specs.BuildEnds.{BuildEnds}
 use Rattle.cc_top.specs.RunEnds.{RunEnds}
 use Rattle.cc_top.specs.GenerateEnds.{GenerateEnds}
-use Rattle.cc_top.specs.Command.{Command, build, run, generate}
+use Rattle.cc_command.specs.Command.{Command, build, run, generate}
 use Rattle.cc_top.specs.Outside.{Outside, KeepsStreams}
 use Rattle.cc_top.specs.declared.outcome.Outcome.{Outcome}
 use Rattle.cc_top.specs.declared.outcome.Outcome.TheVariants.{Usage, NoMemory}

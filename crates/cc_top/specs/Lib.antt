@@ -1,9 +1,4 @@
 pub mod Source
-pub mod Arguments
-pub mod Command
-pub mod CommandRows
-pub mod WordLaws
-pub mod Words
 pub mod Templates
 pub mod Layout
 pub mod Report

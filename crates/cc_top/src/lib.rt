@@ -14,19 +14,18 @@ mod report;
 mod run;
 mod source;
 mod templates;
-mod words;
 
 ghost use Rattle.std.specs.Prelude.{map};
 ghost use Rattle.std.specs.String.{string_bytes};
-ghost use Rattle.cc_top.specs.Command.{command_of};
+ghost use Rattle.cc_command.specs.Command.{command_of};
 ghost use Rattle.cc_top.specs.Ends.{Ends};
 ghost use Rattle.cc_top.specs.Outside.{files_seen, stream_seen};
 ghost use Rattle.cc_top.specs.Report.{IsReported};
 
+use cc_command::{Command, parse_command};
 use cc_io::{Files, Sink, Source};
 use outcome::Outcome;
 use std::alloc::Global;
-use words::{Command, parse_command};
 
 /// Carries out the command of the words, the program's name first, and gives the status of the process.
 ///

@@ -136,7 +136,7 @@ fn failing_calls_have_their_status(rt: HostRuntime) -> Result<(), Fail> {
 #[test]
 fn other_words_are_usage(rt: HostRuntime) -> Result<(), Fail> {
     let alloc = rt.alloc();
-    let rows: [&[&str]; 14] = [
+    let rows: [&[&str]; 16] = [
         &[],
         &["rvcc"],
         &["rvcc", "build"],
@@ -147,6 +147,8 @@ fn other_words_are_usage(rt: HostRuntime) -> Result<(), Fail> {
         &["rvcc", "--", "build", "in", "out"],
         &["rvcc", "help", "build"],
         &["rvcc", "build", "in", "out", "--help"],
+        &["rvcc", "build", "help", "out"],
+        &["rvcc", "build", "in", "--", "-V"],
         &["rvcc", "gen", "+1", "1", "out"],
         &["rvcc", "gen", "4294967296", "1", "out"],
         &["rvcc", "gen", "1", "512", "out"],

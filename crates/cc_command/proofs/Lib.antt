@@ -1,0 +1,10 @@
+pub mod CommandRowsLemmas
+pub mod WordsLemmas
+pub mod ReadingLemmas
+pub mod Classes
+pub mod HelpLemmas
+pub mod Walks
+pub mod BuildWords
+pub mod GenWords
+pub mod RunOption
+pub mod RunWords

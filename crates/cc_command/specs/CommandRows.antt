@@ -1,0 +1,74 @@
+-- Lists of words with their commands.
+use Rattle.std.specs.Prelude.{◌≡◌, ℕ, List, [], ◌∷◌, Option, Some, None, codes}
+use Rattle.cc_command.specs.Command.{Command, build, run, generate, command_of}
+
+-- the command of the words after the program's name
+abbrev pub command_after_name : List (List ℕ) → Option Command
+command_after_name words = command_of (codes "rvcc" ∷ words)
+
+-- how many words there are, and what a word looks like
+pub record BuildRows : Type 0 where
+  pub two_names : command_after_name (codes "build" ∷ codes "a" ∷ codes "b" ∷ []) ≡ Some (build (codes "a") (codes "b"))
+  pub empty_name : command_after_name (codes "build" ∷ [] ∷ codes "b" ∷ []) ≡ Some (build [] (codes "b"))
+  pub lone_hyphen : command_after_name (codes "build" ∷ codes "-" ∷ codes "b" ∷ []) ≡ Some (build (codes "-") (codes "b"))
+  pub hyphens_first : command_after_name (codes "build" ∷ codes "--" ∷ codes "-a" ∷ codes "--" ∷ []) ≡ Some (build (codes "-a") (codes "--"))
+  pub hyphens_between : command_after_name (codes "build" ∷ codes "a" ∷ codes "--" ∷ codes "--b" ∷ []) ≡ Some (build (codes "a") (codes "--b"))
+  pub one_name : command_after_name (codes "build" ∷ codes "a" ∷ []) ≡ None
+  pub three_names : command_after_name (codes "build" ∷ codes "a" ∷ codes "b" ∷ codes "c" ∷ []) ≡ None
+  pub no_name : command_after_name (codes "build" ∷ []) ≡ None
+  pub unknown_option : command_after_name (codes "build" ∷ codes "a" ∷ codes "b" ∷ codes "--work" ∷ codes "2" ∷ []) ≡ None
+  pub unknown_letter : command_after_name (codes "build" ∷ codes "-o" ∷ codes "a" ∷ codes "b" ∷ []) ≡ None
+
+-- words that are no command, or ask for help or a version
+pub record OtherRows : Type 0 where
+  pub nothing : command_of [] ≡ None
+  pub name_alone : command_after_name [] ≡ None
+  pub hyphens_before : command_after_name (codes "--" ∷ codes "build" ∷ codes "a" ∷ codes "b" ∷ []) ≡ None
+  pub another_case : command_after_name (codes "Build" ∷ codes "a" ∷ codes "b" ∷ []) ≡ None
+  pub help_word : command_after_name (codes "help" ∷ []) ≡ None
+  pub help_on_build : command_after_name (codes "help" ∷ codes "build" ∷ []) ≡ None
+  pub help_first : command_after_name (codes "--help" ∷ []) ≡ None
+  pub help_last : command_after_name (codes "build" ∷ codes "a" ∷ codes "b" ∷ codes "-h" ∷ []) ≡ None
+  pub version_first : command_after_name (codes "-V" ∷ []) ≡ None
+  pub help_for_a_name : command_after_name (codes "build" ∷ codes "help" ∷ codes "b" ∷ []) ≡ None
+  pub help_after_hyphens : command_after_name (codes "build" ∷ codes "a" ∷ codes "--" ∷ codes "--help" ∷ []) ≡ None
+  pub help_for_a_value : command_after_name (codes "run" ∷ codes "a" ∷ codes "--steps" ∷ codes "-V" ∷ []) ≡ None
+  pub help_and_value : command_after_name (codes "run" ∷ codes "a" ∷ codes "--help=x" ∷ []) ≡ None
+  pub version_last : command_after_name (codes "build" ∷ codes "a" ∷ codes "b" ∷ codes "--version" ∷ []) ≡ None
+
+-- the option of `run`
+pub record RunRows : Type 0 where
+  pub no_option : command_after_name (codes "run" ∷ codes "a" ∷ []) ≡ Some (run (codes "a") 1000000000)
+  pub next_word : command_after_name (codes "run" ∷ codes "a" ∷ codes "--steps" ∷ codes "23" ∷ []) ≡ Some (run (codes "a") 23)
+  pub in_front : command_after_name (codes "run" ∷ codes "--steps" ∷ codes "023" ∷ codes "a" ∷ []) ≡ Some (run (codes "a") 23)
+  pub equals_sign : command_after_name (codes "run" ∷ codes "a" ∷ codes "--steps=1" ∷ []) ≡ Some (run (codes "a") 1)
+  pub greatest : command_after_name (codes "run" ∷ codes "a" ∷ codes "--steps" ∷ codes "1000000000000" ∷ []) ≡ Some (run (codes "a") 1000000000000)
+  pub greater : command_after_name (codes "run" ∷ codes "a" ∷ codes "--steps" ∷ codes "1000000000001" ∷ []) ≡ None
+  pub no_steps : command_after_name (codes "run" ∷ codes "a" ∷ codes "--steps" ∷ codes "0" ∷ []) ≡ None
+  pub no_value : command_after_name (codes "run" ∷ codes "a" ∷ codes "--steps" ∷ []) ≡ None
+  pub empty_value : command_after_name (codes "run" ∷ codes "a" ∷ codes "--steps=" ∷ []) ≡ None
+  pub hyphens_for_value : command_after_name (codes "run" ∷ codes "a" ∷ codes "--steps" ∷ codes "--" ∷ []) ≡ None
+  pub option_for_value : command_after_name (codes "run" ∷ codes "a" ∷ codes "--steps" ∷ codes "-5" ∷ []) ≡ None
+  pub twice : command_after_name (codes "run" ∷ codes "a" ∷ codes "--steps" ∷ codes "5" ∷ codes "--steps" ∷ codes "5" ∷ []) ≡ None
+  pub cut_short : command_after_name (codes "run" ∷ codes "a" ∷ codes "--step" ∷ codes "5" ∷ []) ≡ None
+  pub two_images : command_after_name (codes "run" ∷ codes "a" ∷ codes "b" ∷ []) ≡ None
+  pub no_image : command_after_name (codes "run" ∷ []) ≡ None
+
+-- the numbers of `gen`
+pub record GenRows : Type 0 where
+  pub least : command_after_name (codes "gen" ∷ codes "0" ∷ codes "1" ∷ codes "x" ∷ []) ≡ Some (generate 0 1 (codes "x"))
+  pub greatest : command_after_name (codes "gen" ∷ codes "4294967295" ∷ codes "511" ∷ codes "x" ∷ []) ≡ Some (generate 4294967295 511 (codes "x"))
+  pub twenty_digits : command_after_name (codes "gen" ∷ codes "00000000000000000012" ∷ codes "03" ∷ codes "x" ∷ []) ≡ Some (generate 12 3 (codes "x"))
+  pub more_digits : command_after_name (codes "gen" ∷ codes "000000000000000000012" ∷ codes "3" ∷ codes "x" ∷ []) ≡ None
+  pub great_number : command_after_name (codes "gen" ∷ codes "4294967296" ∷ codes "1" ∷ codes "x" ∷ []) ≡ None
+  pub great_count : command_after_name (codes "gen" ∷ codes "1" ∷ codes "512" ∷ codes "x" ∷ []) ≡ None
+  pub no_functions : command_after_name (codes "gen" ∷ codes "1" ∷ codes "0" ∷ codes "x" ∷ []) ≡ None
+  pub plus : command_after_name (codes "gen" ∷ codes "+1" ∷ codes "1" ∷ codes "x" ∷ []) ≡ None
+  pub minus : command_after_name (codes "gen" ∷ codes "--" ∷ codes "-1" ∷ codes "1" ∷ codes "x" ∷ []) ≡ None
+  pub blank : command_after_name (codes "gen" ∷ codes " 1" ∷ codes "1" ∷ codes "x" ∷ []) ≡ None
+  pub empty : command_after_name (codes "gen" ∷ [] ∷ codes "1" ∷ codes "x" ∷ []) ≡ None
+  pub two_words : command_after_name (codes "gen" ∷ codes "1" ∷ codes "1" ∷ []) ≡ None
+  pub four_words : command_after_name (codes "gen" ∷ codes "1" ∷ codes "1" ∷ codes "x" ∷ codes "y" ∷ []) ≡ None
+
+abbrev pub CommandRows : Type 0
+CommandRows = BuildRows × RunRows × OtherRows × GenRows

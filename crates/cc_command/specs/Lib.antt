@@ -1,0 +1,6 @@
+pub mod Parts
+pub mod Command
+pub mod Arguments
+pub mod Reading
+pub mod Words
+pub mod CommandRows

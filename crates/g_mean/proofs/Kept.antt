@@ -1,0 +1,47 @@
+-- What a relation of data has to keep, for regions to keep it.
+use Rattle.std.proofs.Common.{◌≡◌, ℕ, zero, suc, List, [], ◌∷◌, ◌++◌, map}
+use Rattle.val_core.specs.declared.values.Value.TheVariants.{Num, Bad}
+use Rattle.val_core.specs.Memory.{Memory, closed}
+use Rattle.val_core.specs.Likeness.{Way, Comparison, Like}
+use Rattle.g_graph.specs.declared.op.Op.{Op}
+use Rattle.g_graph.specs.declared.op.Origin.{Origin}
+use Rattle.g_graph.specs.declared.op.Origin.TheVariants.{Arg, Out}
+use Rattle.g_graph.specs.Plain.{PlainObject}
+use Rattle.g_mean.specs.Data.{Datum, val, memory, at_port, value_of, with_memory}
+use Rattle.g_mean.specs.Meaning.{Frame, done, Outputs, read}
+use Rattle.g_mean.specs.Calls.{opened, address_in}
+use Rattle.g_mean.specs.Near.{Paired}
+use Rattle.g_mean.specs.Alike.{Compares}
+
+pub record FrameLike (N : Datum → Datum → Type 0) (e f : Frame) : Type 0 where
+  pub locals : (k : ℕ) → N (val (e.local k)) (val (f.local k))
+  pub globals : (k : ℕ) → N (val (e.global k)) (val (f.global k))
+
+pub record IsKept (N : Datum → Datum → Type 0) : Type 1 where
+  pub nothing : N (val Bad) (val Bad)
+  pub number : (x y : Datum) → N x y → (w : ℕ) → value_of x ≡ Num w → value_of y ≡ Num w
+  pub state : (x y : Datum) → N x y → (m : Memory) → x ≡ memory m → y ≡ memory m
+  pub opens : (x y : Datum) → N x y → (os : List PlainObject) → N (with_memory (λ k. k ++ opened os) x) (with_memory (λ k. k ++ opened os) y)
+  pub closes : (x y : Datum) → N x y → (first count : ℕ) → N (with_memory (closed first count) x) (with_memory (closed first count) y)
+  pub address : (base : ℕ) (sizes : List ℕ) (k : ℕ) → N (val (address_in base sizes k)) (val (address_in base sizes k))
+  pub plain : (cmp : Comparison) → Compares cmp → (way : Way) (e f : Frame) → FrameLike N e f → (op : Op) (xs ys : List Datum) → Paired N xs ys → Like cmp way (Paired N) (done e op xs) (done f op ys)
+
+-- ---- ports and outputs
+
+pub paired-at : (N : Datum → Datum → Type 0) → IsKept N → (xs ys : List Datum) → Paired N xs ys → (k : ℕ) → N (at_port xs k) (at_port ys k)
+paired-at N p [] [] h k = p.nothing
+paired-at N p (x ∷ xs) (y ∷ ys) h zero = h.0
+paired-at N p (x ∷ xs) (y ∷ ys) h (suc k) = paired-at N p xs ys h.1 k
+paired-at N p [] (y ∷ ys) h k = absurd h
+paired-at N p (x ∷ xs) [] h k = absurd h
+
+abbrev pub OutputsLike : (N : Datum → Datum → Type 0) → Outputs → Outputs → Type 0
+OutputsLike N o p = (n q : ℕ) → N (o n q) (p n q)
+
+pub read-like : (N : Datum → Datum → Type 0) → IsKept N → (xs ys : List Datum) → Paired N xs ys → (o p : Outputs) → OutputsLike N o p → (a : Origin) → N (read xs o a) (read ys p a)
+read-like N k xs ys h o p g (Arg n) = paired-at N k xs ys h n
+read-like N k xs ys h o p g (Out n q) = g n q
+
+pub reads-like : (N : Datum → Datum → Type 0) → IsKept N → (xs ys : List Datum) → Paired N xs ys → (o p : Outputs) → OutputsLike N o p → (origins : List Origin) → Paired N (map (read xs o) origins) (map (read ys p) origins)
+reads-like N k xs ys h o p g [] = tt
+reads-like N k xs ys h o p g (a ∷ origins) = (read-like N k xs ys h o p g a, reads-like N k xs ys h o p g origins)

@@ -1,0 +1,5 @@
+use Rattle.g_mean.proofs.Bounds as bounds
+use Rattle.g_mean.proofs.laws.events_grow.Goals as goal
+
+pub returns : goal.returns
+returns c = bounds.events_grow

@@ -1,0 +1,52 @@
+-- What an edge of the graph carries while it runs.
+use Rattle.std.specs.Prelude.{ℕ, zero, suc, List, [], ◌∷◌, slice_index_or, Option, None, Some}
+use Rattle.val_core.specs.declared.values.Value.{Value}
+use Rattle.val_core.specs.declared.values.Value.TheVariants.{Num, Bad}
+use Rattle.val_core.specs.Memory.{Memory}
+use Rattle.val_core.specs.Answers.{Answer, Wrong}
+
+-- a value, the memory of all blocks, or the input bytes that are left
+pub data Datum : Type 0 where
+  val : (value : Value) → Datum
+  memory : (blocks : Memory) → Datum
+  input : (left : List ℕ) → Datum
+
+-- what stands at a port; where there is none, a value without meaning
+abbrev pub at_port : List Datum → ℕ → Datum
+at_port xs k = slice_index_or xs k (val Bad)
+
+-- a datum as a value: a state has no meaning as one
+abbrev pub value_of : Datum → Value
+value_of (val v) = v
+value_of _ = Bad
+
+abbrev pub value_at : List Datum → ℕ → Value
+value_at xs k = value_of (at_port xs k)
+
+-- What follows on a number, on a memory, on an input, or on what may be undefined, is wrong where there is none.
+abbrev pub on_number : {A : Type 0} → Value → (ℕ → Answer A) → Answer A
+on_number (Num w) next = next w
+on_number _ next = Wrong
+
+abbrev pub on_memory : {A : Type 0} → Datum → (Memory → Answer A) → Answer A
+on_memory (memory m) next = next m
+on_memory _ next = Wrong
+
+abbrev pub on_input : {A : Type 0} → Datum → (List ℕ → Answer A) → Answer A
+on_input (input i) next = next i
+on_input _ next = Wrong
+
+abbrev pub on_defined : {A X : Type 0} → Option X → (X → Answer A) → Answer A
+on_defined (Some x) next = next x
+on_defined None next = Wrong
+
+-- the memory changed, where the datum is one
+abbrev pub with_memory : (Memory → Memory) → Datum → Datum
+with_memory f (memory m) = memory (f m)
+with_memory f d = d
+
+-- the datum at a port changed
+abbrev pub changed_at : ℕ → (Datum → Datum) → List Datum → List Datum
+changed_at k f [] = []
+changed_at zero f (x ∷ xs) = f x ∷ xs
+changed_at (suc k) f (x ∷ xs) = x ∷ changed_at k f xs

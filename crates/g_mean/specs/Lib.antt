@@ -1,0 +1,14 @@
+pub mod Data
+pub mod Meaning
+pub mod Calls
+pub mod Near
+pub mod Alike
+pub mod Laws
+pub mod Replacement
+pub mod Silent
+pub mod Local
+pub mod Copies
+pub mod Edits
+pub mod Moves
+pub mod Holds
+pub mod Splices

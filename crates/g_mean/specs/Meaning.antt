@@ -1,0 +1,133 @@
+-- What a region does (Reissmann et al., RVSDG, 2020): its nodes run in the order of the list, each on what its inputs
+-- carry, and a map from outputs to data grows. A bound limits the turns of each Theta and the depth of calls.
+use Rattle.std.specs.Prelude.{ℕ, zero, suc, ◌-◌, ◌%◌, ◌^◌, ◌==◌, if◌then◌else◌, List, [], ◌∷◌, map, Option, None, Some}
+use Rattle.val_core.specs.declared.values.Value.{Value}
+use Rattle.val_core.specs.declared.values.Value.TheVariants.{Num, At, Bad}
+use Rattle.val_core.specs.Values.{value1, value2}
+use Rattle.val_core.specs.Memory.{Memory, load, store, cleared, pointers_equal}
+use Rattle.val_core.specs.Events.{wrote}
+use Rattle.val_core.specs.Answers.{Answer, Back, Cut, Ended, Wrong, then_on}
+use Rattle.g_graph.specs.declared.op.Op.{Op}
+use Rattle.g_graph.specs.declared.op.Op.TheVariants.{Const, Undef, Local, Delta, Bin, Un, Load, Store, Clear, PtrEq, Apply, Put, Exit, Get, Gamma, Theta}
+use Rattle.g_graph.specs.declared.op.Origin.{Origin}
+use Rattle.g_graph.specs.declared.op.Origin.TheVariants.{Arg, Out}
+use Rattle.g_graph.specs.Plain.{RegionTree, region, NodeTree, node, NodeTrees, no_nodes, node_then, RegionTrees, no_regions, region_then, id_of}
+use Rattle.g_mean.specs.Data.{Datum, val, memory, input, at_port, value_of, value_at, on_number, on_memory, on_input, on_defined}
+
+-- from the data that a part takes to the data that it gives
+abbrev pub Meaning : Type 0
+Meaning = List Datum → Answer (List Datum)
+
+-- the addresses of the objects of the call, and of the globals
+pub record Frame : Type 0 where
+  pub local : ℕ → Value
+  pub global : ℕ → Value
+
+-- what the meaning of a region takes from outside: the bound, what calls do, and the frame
+pub record Around : Type 0 where
+  pub bound : ℕ
+  pub call : ℕ → Meaning
+  pub frame : Frame
+
+abbrev pub given : Value → Answer (List Datum)
+given v = Back (val v ∷ []) []
+
+abbrev pub given_memory : Memory → Answer (List Datum)
+given_memory m = Back (memory m ∷ []) []
+
+-- the next byte, or at the end of the input the word -1
+abbrev pub got : List ℕ → Answer (List Datum)
+got [] = Back (val (Num (2 ^ 32 - 1)) ∷ input [] ∷ []) []
+got (b ∷ i) = Back (val (Num b) ∷ input i ∷ []) []
+
+-- the object at an address cleared
+abbrev pub cleared_at : Value → Memory → Option Memory
+cleared_at (At b o) m = Some (cleared b m)
+cleared_at _ m = None
+
+-- What an op without regions does but for a call. A pure one is total. What else is undefined is wrong: a load or store
+-- that memory does not take, a comparison of pointers outside its cases, and a byte or a status that is no number.
+abbrev pub done : Frame → Op → Meaning
+done frame (Const w) xs = given (Num (w % 2 ^ 32))
+done frame Undef xs = given Bad
+done frame (Local k) xs = given (frame.local k)
+done frame (Delta k) xs = given (frame.global k)
+done frame (Bin op) xs = given (value2 op (value_at xs 0) (value_at xs 1))
+done frame (Un op) xs = given (value1 op (value_at xs 0))
+done frame (Load width) xs = on_memory (at_port xs 1) (λ m. on_defined (load width (value_at xs 0) m) given)
+done frame (Store width) xs =
+    on_memory (at_port xs 2) (λ m. on_defined (store width (value_at xs 0) (value_at xs 1) m) given_memory)
+done frame (Clear k) xs = on_memory (at_port xs 0) (λ m. on_defined (cleared_at (frame.local k) m) given_memory)
+done frame PtrEq xs =
+    on_memory (at_port xs 2) (λ m. on_defined (pointers_equal (value_at xs 0) (value_at xs 1) m) (λ n. given (Num n)))
+done frame Put xs =
+    on_number (value_at xs 0) (λ w. on_input (at_port xs 1) (λ i. Back (input i ∷ []) (wrote (w % 256) ∷ [])))
+done frame Exit xs = on_number (value_at xs 0) (λ w. Ended [] (w % 256))
+done frame Get xs = on_input (at_port xs 0) got
+done frame _ xs = Wrong
+
+-- of n meanings the one numbered min(w, n - 1)
+abbrev pub chosen : ℕ → List Meaning → Meaning
+chosen w [] xs = Wrong
+chosen w (m ∷ []) xs = m xs
+chosen zero (m ∷ ms) xs = m xs
+chosen (suc w) (m ∷ ms) xs = chosen w ms xs
+
+-- a Gamma: its predicate chooses the region that the entry variables go to
+abbrev pub branched : List Meaning → Meaning
+branched ms [] = Wrong
+branched ms (p ∷ xs) = on_number (value_of p) (λ w. chosen w ms xs)
+
+-- after a turn: the loop variables are done with, or go to the next turn, as the predicate says
+abbrev pub again : Meaning → Meaning
+again next [] = Wrong
+again next (p ∷ ys) = on_number (value_of p) (λ w. if w == 0 then Back ys [] else next ys)
+
+-- at most so many turns of a body
+abbrev pub turns : ℕ → Meaning → Meaning
+turns zero body xs = Cut []
+turns (suc n) body xs = then_on (body xs) (again (turns n body))
+
+-- a Theta
+abbrev pub looped : ℕ → List Meaning → Meaning
+looped n [] xs = Wrong
+looped n (body ∷ ms) xs = turns n body xs
+
+-- what a node does whose regions mean this
+abbrev pub act : Around → Op → List Meaning → Meaning
+act c (Apply f) ms xs = c.call f xs
+act c Gamma ms xs = branched ms xs
+act c Theta ms xs = looped c.bound ms xs
+act c op ms xs = done c.frame op xs
+
+-- the data of the outputs that have run, by node and port
+abbrev pub Outputs : Type 0
+Outputs = ℕ → ℕ → Datum
+
+abbrev pub no_outputs : Outputs
+no_outputs n p = val Bad
+
+abbrev pub extended : Outputs → ℕ → List Datum → Outputs
+extended outputs id ys n p = if id == n then at_port ys p else outputs n p
+
+abbrev pub read : List Datum → Outputs → Origin → Datum
+read xs outputs (Arg k) = at_port xs k
+read xs outputs (Out n p) = outputs n p
+
+-- Of a region, a node, nodes in order, and the regions of a node. The arguments of the region are `xs`.
+abbrev mutual
+  pub region_meaning : Around → RegionTree → Meaning
+  region_meaning c (region args nodes results) xs =
+      then_on (nodes_run c nodes xs no_outputs) (λ o. Back (map (read xs o) results) [])
+
+  pub node_run : Around → NodeTree → (xs : List Datum) → Outputs → Answer (List Datum)
+  node_run c (node id op inputs rs) xs o = act c op (meanings c rs) (map (read xs o) inputs)
+
+  pub nodes_run : Around → NodeTrees → (xs : List Datum) → Outputs → Answer Outputs
+  nodes_run c no_nodes xs o = Back o []
+  nodes_run c (node_then x ns) xs o =
+      then_on (node_run c x xs o) (λ ys. nodes_run c ns xs (extended o (id_of x) ys))
+
+  pub meanings : Around → RegionTrees → List Meaning
+  meanings c no_regions = []
+  meanings c (region_then r rs) = region_meaning c r ∷ meanings c rs

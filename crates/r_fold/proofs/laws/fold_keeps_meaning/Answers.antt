@@ -1,0 +1,8 @@
+use Rattle.r_fold.proofs.Fold.{fold_keeps_lambdas, fold_keeps_programs}
+use Rattle.r_fold.proofs.laws.fold_keeps_meaning.Goals as goal
+
+pub returns-clause-lambda : goal.returns-clause-lambda
+returns-clause-lambda c = fold_keeps_lambdas
+
+pub returns-clause-program : goal.returns-clause-program
+returns-clause-program c = fold_keeps_programs

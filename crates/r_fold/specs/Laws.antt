@@ -1,0 +1,31 @@
+-- Folding keeps meaning.
+use Rattle.std.specs.Prelude.{◌≡◌, ℕ, List, Some, slice_get}
+use Rattle.val_core.specs.declared.values.Value.{Value}
+use Rattle.val_core.specs.Values.{IsSound}
+use Rattle.g_graph.specs.Plain.{RegionTree, PlainLambda}
+use Rattle.g_graph.specs.WellFormed.{IsWellFormed}
+use Rattle.g_mean.specs.Data.{Datum}
+use Rattle.g_mean.specs.Calls.{PlainOmega, ev_lambda, evmain}
+use Rattle.g_mean.specs.Near.{AreBytes, AreSound, AreSoundDeltas}
+use Rattle.g_mean.specs.Edits.{AreEditedAt, IsPartOf}
+use Rattle.g_mean.specs.Replacement.{Replaces, IsKeptWithinTwice}
+use Rattle.r_fold.specs.Rule.{fold_here}
+
+-- a folded region of a well-formed lambda may replace it, in any lambdas
+abbrev pub FoldReplaces : Type 0
+FoldReplaces =
+    (ls ks : List PlainLambda) (n : ℕ) (l : PlainLambda) (r s : RegionTree) → IsPartOf l r → fold_here n r ≡ Some s → Replaces ls ks r s
+
+-- Where the well-formed lambda of one function is folded at a node, every function keeps its meaning,
+abbrev pub FoldKeepsLambdas : Type 0
+FoldKeepsLambdas =
+    (ls ks : List PlainLambda) (n f : ℕ) → AreEditedAt (fold_here n) f ls ks → ((l : PlainLambda) → slice_get ls f ≡ Some l → IsWellFormed l) →
+    (global : ℕ → Value) (g : ℕ) (xs : List Datum) → ((k : ℕ) → IsSound (global k)) → AreSound xs →
+    IsKeptWithinTwice (λ m. ev_lambda m ls global g xs) (λ m. ev_lambda m ks global g xs)
+
+-- and so does the program.
+abbrev pub FoldKeepsPrograms : Type 0
+FoldKeepsPrograms =
+    (ls ks : List PlainLambda) (n f : ℕ) → AreEditedAt (fold_here n) f ls ks → ((l : PlainLambda) → slice_get ls f ≡ Some l → IsWellFormed l) →
+    (omega : PlainOmega) (i : List ℕ) → AreSoundDeltas omega.deltas → AreBytes i →
+    IsKeptWithinTwice (λ m. evmain m omega ls i) (λ m. evmain m omega ks i)

@@ -1,0 +1,14 @@
+//! Folding keeps meaning.
+
+ghost use Rattle.r_fold.specs.Laws.{FoldReplaces, FoldKeepsLambdas, FoldKeepsPrograms};
+
+/// A folded region of a well-formed lambda may replace it.
+pub fn fold_replaces()
+    ensures { FoldReplaces }
+{}
+
+/// Folding a well-formed lambda at a node keeps the meaning of every function, and of the program.
+pub fn fold_keeps_meaning()
+    ensures lambda { FoldKeepsLambdas }
+    ensures program { FoldKeepsPrograms }
+{}
