@@ -6,7 +6,10 @@ pub mod Mapped
 pub mod MovedLemmas
 pub mod NestLemmas
 pub mod NestNumbers
+pub mod PartLemmas
+pub mod PlaceLemmas
 pub mod ReplaceLemmas
+pub mod ScopeMaps
 pub mod SpliceLemmas
 mod StateLemmas
 pub mod UniqueLemmas
