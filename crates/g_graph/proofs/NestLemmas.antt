@@ -38,7 +38,7 @@ last_of_same args bs cs s (Some Io) o = ap (λ p. is_origin p o) (s.states Io (o
 pub last_same : (args : List Kind) (bs cs : NodeTrees) → SameScope bs cs → (o : Origin) → is_last args cs o ≡ is_last args bs o
 last_same args bs cs s o = ap (λ x. is_last_of x args cs o) (known_same args bs cs s o) ∙ last_of_same args bs cs s (known args bs o) o
 
-scope_more : (bs cs : List NodeTree) (x y : NodeTree) → SameScope (nodes_of bs) (nodes_of cs) → id_of y ≡ id_of x → output_kinds y ≡ output_kinds x →
+pub scope_more : (bs cs : List NodeTree) (x y : NodeTree) → SameScope (nodes_of bs) (nodes_of cs) → id_of y ≡ id_of x → output_kinds y ≡ output_kinds x →
     SameScope (nodes_of (bs ++ x ∷ [])) (nodes_of (cs ++ y ∷ []))
 scope_more bs cs x y s i o = record {
   kinds = λ n p found.

@@ -147,11 +147,11 @@ pub state_after-joined : (k : Kind) (xs ys : NodeTrees) (found : Option Origin) 
 state_after-joined k no_nodes ys found = refl
 state_after-joined k (node_then x xs) ys found = state_after-joined k xs ys (origin_at (λ p. Out (id_of x) p) (last_place k 0 (output_kinds x) None) found)
 
-or_assoc : (a b c : Bool) → (a || (b || c)) ≡ ((a || b) || c)
+pub or_assoc : (a b c : Bool) → (a || (b || c)) ≡ ((a || b) || c)
 or_assoc true b c = refl
 or_assoc false b c = refl
 
-and_assoc : (a b c : Bool) → (a && (b && c)) ≡ ((a && b) && c)
+pub and_assoc : (a b c : Bool) → (a && (b && c)) ≡ ((a && b) && c)
 and_assoc true b c = refl
 and_assoc false b c = refl
 
