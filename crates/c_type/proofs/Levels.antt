@@ -5,7 +5,7 @@ use Rattle.val_core.specs.declared.leaf.Leaf.{Leaf}
 use Rattle.c_type.specs.Trees.{TypeTree, void_type, scalar_type, pointer_to, array_of, struct_type}
 use Rattle.c_type.specs.Layout.{Definition, Definitions, is_defined, is_complete, rounded_up, align, struct_align, largest, size, struct_size, members_end, offset, offset_from, leaves_at, struct_leaves, members_leaves, repeated, members, most_bytes}
 use Rattle.c_type.specs.Level.{IsLevelOf, IsLevel}
-use Rattle.c_type.specs.WellDefined.{AreLaidOut, AreDefinitions, height, struct_height, highest}
+use Rattle.c_type.specs.WellDefined.{AreLaidOut, AreDefinitions, steps, struct_steps, members_steps}
 
 -- a tag that is defined is no new one
 pub other-tag : (defs : Definitions) (tag new : ℕ) → is_defined defs tag ≡ true → is_defined defs new ≡ false → (new == tag) ≡ false
@@ -36,12 +36,12 @@ module _ (d : Definition) (ds : Definitions) (new : is_defined ds d.tag ≡ fals
   align-later (array_of t n) h = align-later t (both (not (n == 0)) (is_complete ds t) h).1
   align-later (struct_type k) h = ap (λ b. cond b (largest (align ds) d.members) (struct_align ds k)) (other-tag ds k d.tag h new)
 
-  pub height-later : (t : TypeTree) → is_complete ds t ≡ true → height (d ∷ ds) t ≡ height ds t
-  height-later void_type h = refl
-  height-later (scalar_type s) h = refl
-  height-later (pointer_to t) h = refl
-  height-later (array_of t n) h = ap (λ s. s + 1) (height-later t (both (not (n == 0)) (is_complete ds t) h).1)
-  height-later (struct_type k) h = ap (λ b. cond b (highest (height ds) d.members + 1) (struct_height ds k)) (other-tag ds k d.tag h new)
+  pub steps-later : (t : TypeTree) → is_complete ds t ≡ true → steps (d ∷ ds) t ≡ steps ds t
+  steps-later void_type h = refl
+  steps-later (scalar_type s) h = refl
+  steps-later (pointer_to t) h = refl
+  steps-later (array_of t n) h = ap (λ s. s + 2) (steps-later t (both (not (n == 0)) (is_complete ds t) h).1)
+  steps-later (struct_type k) h = ap (λ b. cond b (members_steps (steps ds) d.members) (struct_steps ds k) + 1) (other-tag ds k d.tag h new)
 
   pub leaves-later : (t : TypeTree) → is_complete ds t ≡ true → leaves_at (d ∷ ds) t ≡ leaves_at ds t
   leaves-later void_type h = refl
@@ -77,9 +77,9 @@ pub largest-agree : (a a' : TypeTree → ℕ) (ts : List TypeTree) → Agree a a
 largest-agree a a' [] h = refl
 largest-agree a a' (t ∷ ts) h = ap₂ (λ x y. max x y) h.0 (largest-agree a a' ts h.1)
 
-pub highest-agree : (a a' : TypeTree → ℕ) (ts : List TypeTree) → Agree a a' ts → highest a ts ≡ highest a' ts
-highest-agree a a' [] h = refl
-highest-agree a a' (t ∷ ts) h = ap₂ (λ x y. max x y) h.0 (highest-agree a a' ts h.1)
+pub steps-agree : (a a' : TypeTree → ℕ) (ts : List TypeTree) → Agree a a' ts → members_steps a ts ≡ members_steps a' ts
+steps-agree a a' [] h = refl
+steps-agree a a' (t ∷ ts) h = ap₂ (λ x y. x + y + 1) h.0 (steps-agree a a' ts h.1)
 
 pub offset-agree : (s s' a a' : TypeTree → ℕ) (at : ℕ) (ts : List TypeTree) (i : ℕ) → Agree s s' ts → Agree a a' ts → offset_from s a at ts i ≡ offset_from s' a' at ts i
 offset-agree s s' a a' at [] i h k = refl
@@ -111,13 +111,13 @@ raised d ds new ms s a o l h lv =
     let sizes = agree-later (size ds) (size (d ∷ ds)) ds ms (λ t c. sym (size-later d ds new t c)) lv.laid_out in
     let aligns = agree-later (align ds) (align (d ∷ ds)) ds ms (λ t c. sym (align-later d ds new t c)) lv.laid_out in
     let parts = agree-later (leaves_at ds) (leaves_at (d ∷ ds)) ds ms (λ t c. sym (leaves-later d ds new t c)) lv.laid_out in
-    let heights = agree-later (height ds) (height (d ∷ ds)) ds ms (λ t c. sym (height-later d ds new t c)) lv.laid_out in
+    let counts = agree-later (steps ds) (steps (d ∷ ds)) ds ms (λ t c. sym (steps-later d ds new t c)) lv.laid_out in
     record {
       bytes_is = lv.bytes_is ∙ ap₂ (λ x y. rounded_up x y) (end-agree (size ds) (size (d ∷ ds)) (align ds) (align (d ∷ ds)) 0 ms sizes aligns) (largest-agree (align ds) (align (d ∷ ds)) ms aligns);
       alignment_is = lv.alignment_is ∙ largest-agree (align ds) (align (d ∷ ds)) ms aligns;
       offsets_are = λ i. lv.offsets_are i ∙ offset-agree (size ds) (size (d ∷ ds)) (align ds) (align (d ∷ ds)) 0 ms i sizes aligns;
       leaves_are = λ at. lv.leaves_are at ∙ leaves-agree (size ds) (size (d ∷ ds)) (align ds) (align (d ∷ ds)) (leaves_at ds) (leaves_at (d ∷ ds)) at 0 ms sizes aligns parts;
-      depth_is = lv.depth_is ∙ ap (λ x. x + 1) (highest-agree (height ds) (height (d ∷ ds)) ms heights);
+      steps_are = lv.steps_are ∙ steps-agree (steps ds) (steps (d ∷ ds)) ms counts;
       laid_out = laid-later d ds new ms lv.laid_out;
       some = lv.some;
       small = lv.small;
@@ -132,7 +132,7 @@ level (d ∷ ds) w tag h = by_test (d.tag == tag) refl h (level ds w.1 tag) wher
       (cond test (largest (align ds) d.members) (struct_align ds tag))
       (λ i. cond test (offset_from (size ds) (align ds) 0 d.members i) (offset ds tag i))
       (λ at. cond test (members_leaves (size ds) (align ds) (leaves_at ds) at 0 d.members) (struct_leaves ds tag at))
-      (cond test (highest (height ds) d.members + 1) (struct_height ds tag))
+      (cond test (members_steps (steps ds) d.members) (struct_steps ds tag))
   by_test true same k rest =
       raised d ds w.0.new d.members _ _ _ _ _
       (record {
@@ -140,7 +140,7 @@ level (d ∷ ds) w tag h = by_test (d.tag == tag) refl h (level ds w.1 tag) wher
         alignment_is = refl;
         offsets_are = λ i. refl;
         leaves_are = λ at. refl;
-        depth_is = refl;
+        steps_are = refl;
         laid_out = w.0.laid_out;
         some = w.0.some;
         small = subst (λ b. cond b (rounded_up (members_end (size ds) (align ds) 0 d.members) (largest (align ds) d.members)) (struct_size ds d.tag) ≤ most_bytes) (eq-eqb d.tag d.tag refl) w.0.small;

@@ -10,3 +10,4 @@ pub mod Defined
 pub mod Order
 pub mod Good
 pub mod MovedLemmas
+pub mod PendingLemmas

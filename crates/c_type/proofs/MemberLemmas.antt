@@ -1,9 +1,8 @@
 -- One member of a struct after the other.
-use Rattle.std.proofs.Common.{◌≡◌, ℕ, suc, ◌+◌, ◌<◌, ◌≤◌, List, ◌∷◌, ◌++◌, length, get_or, drop, sym, ap, ◌∙◌, subst, arith, add-one, drop-cons, append_assoc}
-use Rattle.val_core.specs.declared.leaf.Leaf.{Leaf}
+use Rattle.std.proofs.Common.{◌≡◌, ℕ, suc, ◌+◌, ◌<◌, ◌≤◌, List, ◌∷◌, length, get_or, drop, sym, ap, ◌∙◌, subst, arith, add-one, drop-cons}
 use Rattle.c_type.specs.Trees.{TypeTree, struct_type}
 use Rattle.c_type.specs.Layout.{Definitions, rounded_up, align, size, members_end, members_leaves, leaves_at, most_bytes, largest, members}
-use Rattle.c_type.specs.WellDefined.{AreLaidOut, MemberFits, height, highest}
+use Rattle.c_type.specs.WellDefined.{AreLaidOut, MemberFits, steps, members_steps}
 use Rattle.c_type.specs.Kept.{IsFound}
 use Rattle.c_type.specs.Level.{IsLevel}
 use Rattle.c_type.specs.declared.structs.Struct.{Struct}
@@ -12,40 +11,18 @@ use Rattle.c_type.proofs.Bounds.{align-between, members-between, round-lower, en
 pub at-member : (ms : List TypeTree) (i : ℕ) (t : TypeTree) → i < length ms → t ≡ get_or ms i t → drop i ms ≡ t ∷ drop (i + 1) ms
 at-member ms i t h is = rw (add-one i) (drop-cons ms i t h ∙ ap (λ x. x ∷ drop (suc i) ms) (sym is))
 
-fits-first : (defs : Definitions) (at end : ℕ) (t : TypeTree) (ts : List TypeTree) → AreLaidOut defs (t ∷ ts) → at + members_end (size defs) (align defs) end (t ∷ ts) ≤ most_bytes → MemberFits defs at end t
+pub fits-first : (defs : Definitions) (at end : ℕ) (t : TypeTree) (ts : List TypeTree) → AreLaidOut defs (t ∷ ts) → at + members_end (size defs) (align defs) end (t ∷ ts) ≤ most_bytes → MemberFits defs at end t
 fits-first defs at end t ts laid room =
     let a = align-between defs t in
     let g = end-grows (size defs) (align defs) (λ x. (align-between defs x).0) (rounded_up end (align defs t) + size defs t) ts in
     let l = round-lower end (align defs t) a.0 in
     record { laid_out = laid.0; positive = a.0; room = omega (arith, a.1, g, l); within = omega (arith, g); above = l }
 
-pub member-fits : (defs : Definitions) (at end : ℕ) (t : TypeTree) (ts rest : List TypeTree) → rest ≡ t ∷ ts → AreLaidOut defs rest → at + members_end (size defs) (align defs) end rest ≤ most_bytes → MemberFits defs at end t
-member-fits defs at end t ts rest is laid room =
-    fits-first defs at end t ts (subst (AreLaidOut defs) is laid) (subst (λ r. at + members_end (size defs) (align defs) end r ≤ most_bytes) is room)
-
--- what is kept from one member to the next
-pub member-next : (defs : Definitions) (at end high : ℕ) (t : TypeTree) (ts rest : List TypeTree) → rest ≡ t ∷ ts → AreLaidOut defs rest →
-    at + members_end (size defs) (align defs) end rest ≤ most_bytes → highest (height defs) rest ≤ high →
-    (AreLaidOut defs ts) × (at + members_end (size defs) (align defs) (rounded_up end (align defs t) + size defs t) ts ≤ most_bytes) × (highest (height defs) ts ≤ high) × (height defs t ≤ high)
-member-next defs at end high t ts rest is laid room low =
-    let l = subst (AreLaidOut defs) is laid in
-    let r = subst (λ x. at + members_end (size defs) (align defs) end x ≤ most_bytes) is room in
-    let h = subst (λ x. highest (height defs) x ≤ high) is low in
-    (l.1, r, omega (arith, h), omega (arith, h))
-
-pub member-leaves : (defs : Definitions) (at end : ℕ) (t : TypeTree) (ts rest : List TypeTree) (out whole : List Leaf) → rest ≡ t ∷ ts →
-    out ++ members_leaves (size defs) (align defs) (leaves_at defs) at end rest ≡ whole →
-    (out ++ leaves_at defs t (at + rounded_up end (align defs t))) ++ members_leaves (size defs) (align defs) (leaves_at defs) at (rounded_up end (align defs t) + size defs t) ts ≡ whole
-member-leaves defs at end t ts rest out whole is e =
-    append_assoc out (leaves_at defs t (at + rounded_up end (align defs t))) _
-    ∙ ap (λ r. out ++ members_leaves (size defs) (align defs) (leaves_at defs) at end r) (sym is)
-    ∙ e
-
 -- the members of a struct that was found
 pub record StructParts (defs : Definitions) (tag at : ℕ) (ms : List TypeTree) : Type 0 where
   pub laid_out : AreLaidOut defs ms
   pub room : at + members_end (size defs) (align defs) 0 ms ≤ most_bytes
-  pub depth : height defs (struct_type tag) ≡ highest (height defs) ms + 1
+  pub steps : steps defs (struct_type tag) ≡ members_steps (steps defs) ms + 1
   pub leaves : leaves_at defs (struct_type tag) at ≡ members_leaves (size defs) (align defs) (leaves_at defs) at 0 ms
 
 parts-of : (defs : Definitions) (tag at : ℕ) → IsLevel defs tag → at + size defs (struct_type tag) ≤ most_bytes → StructParts defs tag at (members defs tag)
@@ -53,7 +30,7 @@ parts-of defs tag at l room =
     let a = members-between defs (members defs tag) in
     let r = round-lower (members_end (size defs) (align defs) 0 (members defs tag)) (largest (align defs) (members defs tag)) a.0 in
     let b = l.bytes_is in
-    record { laid_out = l.laid_out; room = omega (arith, r, b); depth = l.depth_is; leaves = l.leaves_are at }
+    record { laid_out = l.laid_out; room = omega (arith, r, b); steps = ap (λ n. n + 1) l.steps_are; leaves = l.leaves_are at }
 
 pub struct-parts : (defs : Definitions) (tag at : ℕ) (s : Struct) → IsFound defs tag s → at + size defs (struct_type tag) ≤ most_bytes → StructParts defs tag at s.members.items
 struct-parts defs tag at s f room =

@@ -109,7 +109,7 @@ leaves-can-move by defs t at h =
 
 -- ---- the last leaves, again
 
-drop-front : (xs ys : List Leaf) → drop (length xs) (xs ++ ys) ≡ ys
+pub drop-front : (xs ys : List Leaf) → drop (length xs) (xs ++ ys) ≡ ys
 drop-front [] ys = refl
 drop-front (x ∷ xs) ys = drop-front xs ys
 

@@ -11,3 +11,4 @@ pub mod LayoutLaws
 pub mod DefinitionCodes
 pub mod Structs
 pub mod Kept
+pub mod Pending

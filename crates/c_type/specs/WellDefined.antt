@@ -1,5 +1,5 @@
 -- The struct definitions of a program, in the order in which it has them.
-use Rattle.std.specs.Prelude.{◌≡◌, ℕ, ◌+◌, ◌^◌, ◌<◌, ◌≤◌, ◌==◌, max, false, if◌then◌else◌, List, [], ◌∷◌, length}
+use Rattle.std.specs.Prelude.{◌≡◌, ℕ, ◌+◌, ◌^◌, ◌<◌, ◌≤◌, ◌==◌, false, if◌then◌else◌, List, [], ◌∷◌, length}
 use Rattle.c_type.specs.Trees.{TypeTree, array_of, struct_type}
 use Rattle.c_type.specs.Layout.{Definition, Definitions, is_defined, rounded_up, align, size, struct_size, most_bytes, IsLaidOut}
 
@@ -19,23 +19,22 @@ abbrev pub AreDefinitions : Definitions → Type 0
 AreDefinitions [] = Unit {0}
 AreDefinitions (d ∷ ds) = Follows ds d × AreDefinitions ds
 
--- how deep structs and arrays stand within each other
-abbrev pub height_by : (struct_height : ℕ → ℕ) → TypeTree → ℕ
-height_by struct_height (array_of t n) = height_by struct_height t + 1
-height_by struct_height (struct_type tag) = struct_height tag
-height_by struct_height _ = 0
+-- In how many steps the leaves of a type are listed, where one element of an array stands for all of them.
+abbrev pub steps_by : (struct_steps : ℕ → ℕ) → TypeTree → ℕ
+steps_by struct_steps (array_of t n) = steps_by struct_steps t + 2
+steps_by struct_steps (struct_type tag) = struct_steps tag + 1
+steps_by struct_steps _ = 1
 
-abbrev pub highest : (TypeTree → ℕ) → List TypeTree → ℕ
-highest height [] = 0
-highest height (t ∷ ts) = max (height t) (highest height ts)
+abbrev pub members_steps : (TypeTree → ℕ) → List TypeTree → ℕ
+members_steps steps [] = 1
+members_steps steps (t ∷ ts) = steps t + members_steps steps ts + 1
 
-abbrev pub struct_height : Definitions → (tag : ℕ) → ℕ
-struct_height [] tag = 0
-struct_height (d ∷ ds) tag =
-    if d.tag == tag then highest (height_by (struct_height ds)) d.members + 1 else struct_height ds tag
+abbrev pub struct_steps : Definitions → (tag : ℕ) → ℕ
+struct_steps [] tag = 0
+struct_steps (d ∷ ds) tag = if d.tag == tag then members_steps (steps_by (struct_steps ds)) d.members else struct_steps ds tag
 
-abbrev pub height : Definitions → TypeTree → ℕ
-height defs t = height_by (struct_height defs) t
+abbrev pub steps : Definitions → TypeTree → ℕ
+steps defs t = steps_by (struct_steps defs) t
 
 -- A member of a struct that begins at `at` is laid out, and fits behind the earlier members, which end at `end`.
 pub record MemberFits (defs : Definitions) (at end : ℕ) (t : TypeTree) : Type 0 where

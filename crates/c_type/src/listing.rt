@@ -1,7 +1,7 @@
-ghost use Rattle.std.specs.Prelude.{◌≡◌, ℕ, ◌+◌, ◌*◌, ◌≤◌, ◌++◌, ◌∷◌, ◌-◌, [], OnOk, IfOk, drop, length, map};
-ghost use Rattle.c_type.specs.Layout.{align, rounded_up, size, members_end, members_leaves, leaves, leaves_at, repeated, most_bytes, IsLaidOut};
-ghost use Rattle.c_type.specs.WellDefined.{AreLaidOut, MemberFits};
+ghost use Rattle.std.specs.Prelude.{◌≡◌, ◌+◌, ◌≤◌, ◌++◌, ◌∷◌, ◌-◌, [], OnOk, IfOk, drop, length, map};
+ghost use Rattle.c_type.specs.Layout.{size, leaves, leaves_at, repeated, IsLaidOut};
 ghost use Rattle.c_type.specs.Moved.{moved, CanMove};
+ghost use Rattle.c_type.specs.Pending.{CanGoOn, HasGoneOn, IsBegun};
 
 use crate::layout::{align_of, rounded_up, size_of, width};
 use crate::no_memory::NoMemory;
@@ -10,61 +10,114 @@ use crate::trees::{CType, TypeForm};
 use std::alloc::Global;
 use val_core::Leaf;
 
+// What is still to be listed. Structs nest thousands deep, so there is no recursion on them.
+#[derive(Drop)]
+pub(crate) enum Pending<'a> {
+    // A type that begins at this offset.
+    Whole(&'a CType, u32),
+    // Members of a struct that begins at an offset, behind the earlier ones, which end so many bytes behind it.
+    Members(&'a [CType], u32, u32),
+    // The later ones of so many elements of a type, the first of which begins at an offset; its leaves stand at a place.
+    Elements(&'a CType, u32, u32, usize),
+}
+
 /// The scalars and pointers of a complete type of at most `MOST_BYTES`, in order of offset.
 pub fn leaves(alloc: Global, types: &Types, t: &CType) -> Result<Vec<Leaf>, NoMemory>
     requires { IsLaidOut types.now t.now }
     ensures { IfOk result (λ v. v.items ≡ leaves types.now t.now) }
 {
     let mut out = Vec::new(alloc);
-    push_leaves(types, t, 0, &mut out)?;
+    let mut pending = Vec::new(alloc);
+    pending.push(Pending::Whole(t, 0))?;
+    while let Some(next) = pending.pop() {
+        list(types, next, &mut pending, &mut out)?;
+    }
     Ok(out)
 }
 
-// Appends the leaves of a type that begins at this offset.
-#[cycle(leaves)]
-fn push_leaves(types: &Types, t: &CType, at: u32, out: &mut Vec<Leaf>) -> Result<(), NoMemory>
-    requires laid_out { IsLaidOut types.now t.now }
-    requires room { at + size types.now t.now ≤ most_bytes }
-    ensures { OnOk result (out.new.items ≡ out.old.items ++ leaves_at types.now t.now at) }
+// Lists what is next, or leaves its parts to be listed.
+fn list<'a>(
+    types: &'a Types,
+    next: Pending<'a>,
+    pending: &mut Vec<Pending<'a>>,
+    out: &mut Vec<Leaf>,
+) -> Result<(), NoMemory>
+    requires { CanGoOn types.now next pending.old.items out.old.items }
+    ensures { OnOk result (HasGoneOn types.now next.entry pending.old.items pending.new.items out.old.items out.new.items) }
+{
+    match next {
+        Pending::Whole(t, at) => list_whole(types, t, at, pending, out),
+        Pending::Members(ts, at, end) => list_member(types, ts, at, end, pending, out),
+        Pending::Elements(of, count, at, first) => list_elements(types, of, count, at, first, out),
+    }
+}
+
+fn list_whole<'a>(
+    types: &'a Types,
+    t: &'a CType,
+    at: u32,
+    pending: &mut Vec<Pending<'a>>,
+    out: &mut Vec<Leaf>,
+) -> Result<(), NoMemory>
+    requires { CanGoOn types.now (Pending.Whole t at) pending.old.items out.old.items }
+    ensures { OnOk result (HasGoneOn types.now (Pending.Whole t.entry at) pending.old.items pending.new.items out.old.items out.new.items) }
 {
     match &t.form {
         TypeForm::Void => Ok(()),
         TypeForm::Scalar(s) => push_leaf(at, width(*s), out),
         TypeForm::Pointer(_) => push_leaf(at, 4, out),
-        TypeForm::Array(of, length) => push_elements(types, of, *length, at, out),
-        TypeForm::Struct(tag) => match types.find(*tag) {
-            Some(s) => push_members(types, &s.members, at, out),
-            None => Ok(()),
-        },
+        TypeForm::Array(of, length) => {
+            pending.push(Pending::Elements(of, *length, at, out.len()))?;
+            pending.push(Pending::Whole(of, at))?;
+            Ok(())
+        }
+        TypeForm::Struct(tag) => {
+            if let Some(s) = types.find(*tag) {
+                pending.push(Pending::Members(&s.members, at, 0))?;
+            }
+            Ok(())
+        }
     }
 }
 
-// Appends the leaves of so many elements of a type, the first of which begins at this offset.
-#[cycle(leaves)]
-fn push_elements(
+fn list_member<'a>(
     types: &Types,
-    of: &CType,
-    length: u32,
+    ts: &'a [CType],
     at: u32,
-    out: &mut Vec<Leaf>,
+    end: u32,
+    pending: &mut Vec<Pending<'a>>,
+    out: &Vec<Leaf>,
 ) -> Result<(), NoMemory>
-    requires laid_out { IsLaidOut types.now of.now }
-    requires room { at + length * size types.now of.now ≤ most_bytes }
-    ensures { OnOk result (out.new.items ≡ out.old.items ++ repeated length (size types.now of.now) at (leaves_at types.now of.now)) }
+    requires { CanGoOn types.now (Pending.Members ts at end) pending.old.items out.now.items }
+    ensures { OnOk result (HasGoneOn types.now (Pending.Members ts.entry at end) pending.old.items pending.new.items out.now.items out.now.items) }
 {
-    if length == 0 {
-        return Ok(());
-    }
-    let stride = size_of(types, of);
-    let first = out.len();
-    push_leaves(types, of, at, out)?;
-    let count = out.len() - first;
-    for _i in 1..length {
-        push_again(count, stride, out)?;
+    if let Some((t, rest)) = ts.split_first() {
+        let offset = rounded_up(end, align_of(types, t));
+        pending.push(Pending::Members(rest, at, offset + size_of(types, t)))?;
+        pending.push(Pending::Whole(t, at + offset))?;
     }
     Ok(())
 }
 
+// Appends the leaves of the later ones of so many elements, those of the first standing from the place `first` on.
+fn list_elements(
+    types: &Types,
+    of: &CType,
+    count: u32,
+    at: u32,
+    first: usize,
+    out: &mut Vec<Leaf>,
+) -> Result<(), NoMemory>
+    requires { IsBegun types.now of.now count at first out.old.items }
+    ensures { OnOk result (out.new.items ≡ out.old.items ++ repeated (count - 1) (size types.now of.now) (at + size types.now of.now) (leaves_at types.now of.now)) }
+{
+    let stride = size_of(types, of);
+    let leaves = out.len() - first;
+    for _i in 1..count {
+        push_again(leaves, stride, out)?;
+    }
+    Ok(())
+}
 // Appends the last leaves again, moved by so many bytes.
 fn push_again(count: usize, by: u32, out: &mut Vec<Leaf>) -> Result<(), NoMemory>
     requires count { count ≤ length out.old.items }
@@ -80,43 +133,6 @@ fn push_again(count: usize, by: u32, out: &mut Vec<Leaf>) -> Result<(), NoMemory
         })?;
     }
     Ok(())
-}
-
-// Appends the leaves of the members of a struct that begins at this offset.
-#[cycle(leaves)]
-fn push_members(
-    types: &Types,
-    members: &[CType],
-    at: u32,
-    out: &mut Vec<Leaf>,
-) -> Result<(), NoMemory>
-    requires laid_out { AreLaidOut types.now members.now }
-    requires room { at + members_end (size types.now) (align types.now) 0 members.now ≤ most_bytes }
-    ensures { OnOk result (out.new.items ≡ out.old.items ++ members_leaves (size types.now) (align types.now) (leaves_at types.now) at 0 members.now) }
-{
-    let mut end = 0;
-    for t in members {
-        end = push_member(types, t, at, end, out)?;
-    }
-    Ok(())
-}
-
-// Appends the leaves of a member behind the earlier ones, which end at `end`, and gives where it ends.
-#[cycle(leaves)]
-fn push_member(
-    types: &Types,
-    t: &CType,
-    at: u32,
-    end: u32,
-    out: &mut Vec<Leaf>,
-) -> Result<u32, NoMemory>
-    requires { MemberFits types.now at end t.now }
-    ensures leaves { OnOk result (out.new.items ≡ out.old.items ++ leaves_at types.now t.now (at + rounded_up end (align types.now t.now))) }
-    ensures end { IfOk result (λ e. e ≡ rounded_up end (align types.now t.now) + size types.now t.now) }
-{
-    let offset = rounded_up(end, align_of(types, t));
-    push_leaves(types, t, at + offset, out)?;
-    Ok(offset + size_of(types, t))
 }
 
 fn push_leaf(offset: u32, width: u32, out: &mut Vec<Leaf>) -> Result<(), NoMemory>

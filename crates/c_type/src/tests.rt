@@ -156,3 +156,23 @@ fn what_is_not_laid_out(rt: HostRuntime) -> Result<(), Fail> {
     assert!(&rt; !types.is_defined(9));
     Ok(())
 }
+
+// Each struct has the one before it and then a `char`: a text of 200,000 tokens holds fewer than 20,000 of them.
+#[test]
+fn structs_nest_deep(rt: HostRuntime) -> Result<(), Fail> {
+    let alloc = rt.alloc();
+    let mut types = Types::new(alloc);
+    define(&rt, &mut types, 0, vec![in alloc; char_type()]?)?;
+    for tag in 1..20_000u32 {
+        let members = vec![in alloc; CType::structure(tag - 1), char_type()]?;
+        define(&rt, &mut types, tag, members)?;
+    }
+    let t = CType::structure(19_999);
+    assert!(&rt; is_laid_out(&types, &t));
+    let found = leaves(alloc, &types, &t)?;
+    assert_eq!(rt; found.len(), 20_000);
+    for (leaf, offset) in found.iter().zip(0..20_000u32) {
+        assert_eq!(rt; *leaf, Leaf { offset, width: 1 });
+    }
+    Ok(())
+}

@@ -1,0 +1,16 @@
+pub mod Bridges
+pub mod Checks
+pub mod Complete
+pub mod Enough
+pub mod Enumerations
+pub mod Firsts
+pub mod Follow
+pub mod Judgement
+pub mod Lists
+pub mod Local
+pub mod Places
+pub mod Samples
+pub mod Small
+pub mod Sound
+pub mod Trees
+pub mod Viable

@@ -1,0 +1,4 @@
+pub mod Beginnings
+pub mod Laws
+pub mod Reader
+pub mod Starts
