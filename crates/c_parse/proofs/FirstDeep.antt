@@ -29,7 +29,7 @@ mark_head mark.Semicolon x r s c = ended_head x r s c
 mark_head mark.Comma x r s c = ended_head x r s c
 mark_head _ x r s c = refl
 
-token_head : (k x : TokenKind) (r s : List TokenKind) (c : List ℕ) → behind_token k (x ∷ r) c ≡ behind_token k (x ∷ s) c
+pub token_head : (k x : TokenKind) (r s : List TokenKind) (c : List ℕ) → behind_token k (x ∷ r) c ≡ behind_token k (x ∷ s) c
 token_head (kind.Punct p) x r s c = mark_head p x r s c
 token_head _ x r s c = refl
 
@@ -50,7 +50,7 @@ mark_lower mark.Semicolon rest c = ended_lower rest c
 mark_lower mark.Comma rest c = ended_lower rest c
 mark_lower _ rest c = omega arith
 
-token_lower : (k : TokenKind) (rest : List TokenKind) (c : List ℕ) → depth_of (behind_token k [] c) ≤ depth_of (behind_token k rest c)
+pub token_lower : (k : TokenKind) (rest : List TokenKind) (c : List ℕ) → depth_of (behind_token k [] c) ≤ depth_of (behind_token k rest c)
 token_lower (kind.Punct p) rest c = mark_lower p rest c
 token_lower _ rest c = omega arith
 

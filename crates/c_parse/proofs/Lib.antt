@@ -1,2 +1,4 @@
+pub mod AnswerLaws
 pub mod Counters
 pub mod FirstDeep
+pub mod LeftOutLaws
