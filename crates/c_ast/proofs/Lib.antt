@@ -1,0 +1,4 @@
+pub mod ListLemmas
+pub mod ExprViews
+pub mod InitViews
+pub mod StmtViews

@@ -1,8 +1,14 @@
 pub mod Classes
+pub mod Declarations
+pub mod Expressions
+pub mod Externals
 pub mod Grammar
 pub mod Labels
 pub mod Nesting
+pub mod Parts
 pub mod Shape
+pub mod Specifiers
 pub mod Spelling
+pub mod Statements
 pub mod Terminals
 pub mod Tree

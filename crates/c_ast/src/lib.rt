@@ -1,3 +1,24 @@
-//! The syntax tree of a translation unit: the grammar as a table of productions, the trees that follow it, and what they
-//! spell.
+//! The syntax tree of a program (ISO 9899:2011, 6.5 to 6.9): its types, the grammar that a shaped tree follows, and how
+//! a tree is spelled. The parser makes trees, and the checker reads them.
 #![tactic(auto)]
+
+mod declaration;
+mod expression;
+mod external;
+mod list;
+mod specifier;
+mod statement;
+mod token;
+
+pub use declaration::{Declarator, Init, Initializer, Locals, OpenDimension};
+pub use expression::{
+    AssignOp, BinaryOp, Dimension, Expr, ExprList, Literal, Selection, Step, TypeName, UnaryOp,
+};
+pub use external::{
+    Body, External, Function, Globals, Member, Members, Param, Params, Specifiers, StructBody,
+    Structure, Unit,
+};
+pub use list::Next;
+pub use specifier::{Base, Sign, Spec};
+pub use statement::{Block, BlockItem, Else, ForStart, Group, Label, Stmt};
+pub use token::{Identifier, Span};

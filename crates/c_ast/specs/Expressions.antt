@@ -1,0 +1,181 @@
+-- Expressions as plain trees.
+use Rattle.std.specs.Prelude.{List, [], ◌∷◌}
+use Rattle.c_lex.specs.declared.keyword.Keyword.TheVariants as w
+use Rattle.c_lex.specs.declared.punct.Punct.{Punct}
+use Rattle.c_lex.specs.declared.punct.Punct.TheVariants as m
+use Rattle.c_lex.specs.declared.token.TokenKind.TheVariants as kind
+use Rattle.c_ast.specs.declared.expression.Expr.{Expr}
+use Rattle.c_ast.specs.declared.expression.Expr.TheFolds.{fold-Expr}
+use Rattle.c_ast.specs.declared.expression.Expr.TheOpen.{Expr-F, ExprList-F, Dimension-F, TypeName-F}
+use Rattle.c_ast.specs.declared.expression.ExprList.{ExprList}
+use Rattle.c_ast.specs.declared.expression.Dimension.{Dimension}
+use Rattle.c_ast.specs.declared.expression.TypeName.{TypeName, out-TypeName}
+use Rattle.c_ast.specs.declared.expression.Literal.{Literal}
+use Rattle.c_ast.specs.declared.expression.Selection.{Selection}
+use Rattle.c_ast.specs.declared.expression.Selection.TheVariants as selection
+use Rattle.c_ast.specs.declared.expression.Step.{Step}
+use Rattle.c_ast.specs.declared.expression.Step.TheVariants as step
+use Rattle.c_ast.specs.declared.expression.UnaryOp.{UnaryOp}
+use Rattle.c_ast.specs.declared.expression.UnaryOp.TheVariants as unary
+use Rattle.c_ast.specs.declared.expression.BinaryOp.{BinaryOp}
+use Rattle.c_ast.specs.declared.expression.BinaryOp.TheVariants as binary
+use Rattle.c_ast.specs.declared.expression.AssignOp.{AssignOp}
+use Rattle.c_ast.specs.declared.expression.AssignOp.TheVariants as assign
+use Rattle.c_ast.specs.declared.list.Next.{Next}
+use Rattle.c_ast.specs.Labels.{Label, Level}
+use Rattle.c_ast.specs.Labels as l
+use Rattle.c_ast.specs.Tree.{Tree}
+use Rattle.c_ast.specs.Parts.{node, leaf, mark, word, name, many, opt}
+use Rattle.c_ast.specs.Specifiers.{spec_tree, constant, stars}
+
+-- ---- operators
+
+unfoldable pub selection_label : Selection → Label
+selection_label selection.Dot = l.Dot
+selection_label selection.Arrow = l.Arrow
+
+unfoldable pub selection_mark : Selection → Punct
+selection_mark selection.Dot = m.Dot
+selection_mark selection.Arrow = m.Arrow
+
+unfoldable pub step_mark : Step → Punct
+step_mark step.Up = m.PlusPlus
+step_mark step.Down = m.MinusMinus
+
+unfoldable pub unary_mark : UnaryOp → Punct
+unary_mark unary.AddressOf = m.Amp
+unary_mark unary.Deref = m.Star
+unary_mark unary.Plus = m.Plus
+unary_mark unary.Minus = m.Minus
+unary_mark unary.BitNot = m.Tilde
+unary_mark unary.Not = m.Bang
+
+unfoldable pub binary_mark : BinaryOp → Punct
+binary_mark binary.Multiply = m.Star
+binary_mark binary.Divide = m.Slash
+binary_mark binary.Remainder = m.Percent
+binary_mark binary.Add = m.Plus
+binary_mark binary.Subtract = m.Minus
+binary_mark binary.ShiftLeft = m.ShiftLeft
+binary_mark binary.ShiftRight = m.ShiftRight
+binary_mark binary.Less = m.Less
+binary_mark binary.Greater = m.Greater
+binary_mark binary.LessEqual = m.LessEqual
+binary_mark binary.GreaterEqual = m.GreaterEqual
+binary_mark binary.Equal = m.EqualEqual
+binary_mark binary.NotEqual = m.BangEqual
+binary_mark binary.BitAnd = m.Amp
+binary_mark binary.BitXor = m.Caret
+binary_mark binary.BitOr = m.Pipe
+binary_mark binary.And = m.AmpAmp
+binary_mark binary.Or = m.PipePipe
+
+-- the level of an operator
+unfoldable pub binary_level : BinaryOp → Level
+binary_level binary.Multiply = l.Multiplicative
+binary_level binary.Divide = l.Multiplicative
+binary_level binary.Remainder = l.Multiplicative
+binary_level binary.Add = l.Additive
+binary_level binary.Subtract = l.Additive
+binary_level binary.ShiftLeft = l.Shift
+binary_level binary.ShiftRight = l.Shift
+binary_level binary.Less = l.Relational
+binary_level binary.Greater = l.Relational
+binary_level binary.LessEqual = l.Relational
+binary_level binary.GreaterEqual = l.Relational
+binary_level binary.Equal = l.Equality
+binary_level binary.NotEqual = l.Equality
+binary_level binary.BitAnd = l.BitAnd
+binary_level binary.BitXor = l.BitXor
+binary_level binary.BitOr = l.BitOr
+binary_level binary.And = l.LogicalAnd
+binary_level binary.Or = l.LogicalOr
+
+unfoldable pub assign_mark : AssignOp → Punct
+assign_mark assign.Plain = m.Equal
+assign_mark assign.Multiply = m.StarEqual
+assign_mark assign.Divide = m.SlashEqual
+assign_mark assign.Remainder = m.PercentEqual
+assign_mark assign.Add = m.PlusEqual
+assign_mark assign.Subtract = m.MinusEqual
+assign_mark assign.ShiftLeft = m.ShiftLeftEqual
+assign_mark assign.ShiftRight = m.ShiftRightEqual
+assign_mark assign.BitAnd = m.AmpEqual
+assign_mark assign.BitXor = m.CaretEqual
+assign_mark assign.BitOr = m.PipeEqual
+
+-- ---- expressions
+
+abbrev pub literal : Literal → Tree
+literal x = leaf (kind.Text x.bytes) x.span
+
+-- string literals
+abbrev pub texts : List Literal → Tree
+texts xs = many l.MoreTexts (λ x. literal x ∷ []) xs
+
+-- an element behind a comma
+abbrev pub next : {X : Type 0} → (X → Tree) → Next X → List Tree
+next view x = mark m.Comma x.comma ∷ view x.element ∷ []
+
+-- A layer of an expression, whose operands are trees, whose lists have their parts, and whose type names are trees.
+abbrev pub expr_step : Expr-F Tree (List Tree) (List Tree) Tree → Tree
+expr_step (Expr-F.Name i) = node l.Name (name i ∷ [])
+expr_step (Expr-F.Number value unsigned span) = node l.Number (leaf (kind.Number value unsigned) span ∷ [])
+expr_step (Expr-F.Char value span) = node l.Character (leaf (kind.Char value) span ∷ [])
+expr_step (Expr-F.Text first more) =
+    node l.Text (literal first ∷ texts more ∷ [])
+expr_step (Expr-F.Paren opening inner closing) =
+    node l.Paren (mark m.LParen opening ∷ node l.Expr inner ∷ mark m.RParen closing ∷ [])
+expr_step (Expr-F.Index array opening index closing) =
+    node l.Index (array ∷ mark m.LBracket opening ∷ node l.Expr index ∷ mark m.RBracket closing ∷ [])
+expr_step (Expr-F.Call function opening arguments closing) =
+    node l.Call (function ∷ mark m.LParen opening ∷ opt l.Arguments (λ x. x) arguments ∷ mark m.RParen closing ∷ [])
+expr_step (Expr-F.Select object selected span member) =
+    node (selection_label selected) (object ∷ mark (selection_mark selected) span ∷ name member ∷ [])
+expr_step (Expr-F.PostIncrement operand by span) = node l.PostIncrement (operand ∷ mark (step_mark by) span ∷ [])
+expr_step (Expr-F.Increment by span operand) = node l.Increment (mark (step_mark by) span ∷ operand ∷ [])
+expr_step (Expr-F.Unary op span operand) = node l.Unary (mark (unary_mark op) span ∷ operand ∷ [])
+expr_step (Expr-F.Sizeof keyword operand) = node l.Sizeof (word w.Sizeof keyword ∷ operand ∷ [])
+expr_step (Expr-F.SizeofType keyword opening operand closing) =
+    node l.Sizeof (word w.Sizeof keyword ∷ node l.SizeofType (mark m.LParen opening ∷ operand ∷ mark m.RParen closing ∷ []) ∷ [])
+expr_step (Expr-F.Cast opening target closing operand) =
+    node l.Cast (mark m.LParen opening ∷ target ∷ mark m.RParen closing ∷ operand ∷ [])
+expr_step (Expr-F.Binary left op span right) =
+    node (l.Binary (binary_level op)) (left ∷ mark (binary_mark op) span ∷ right ∷ [])
+expr_step (Expr-F.Conditional condition question then colon otherwise) =
+    node l.Conditional (condition ∷ mark m.Question question ∷ node l.Expr then ∷ mark m.Colon colon ∷ otherwise ∷ [])
+expr_step (Expr-F.Assign target op span value) = node l.Assignment (target ∷ mark (assign_mark op) span ∷ value ∷ [])
+
+abbrev pub list_step : ExprList-F Tree (List Tree) (List Tree) Tree → List Tree
+list_step x = x.first ∷ many l.MoreAssigns (next (λ t. t)) x.more ∷ []
+
+abbrev pub dimension_step : Dimension-F Tree (List Tree) (List Tree) Tree → List Tree
+dimension_step x = mark m.LBracket x.open ∷ x.size ∷ mark m.RBracket x.close ∷ []
+
+abbrev pub type_step : TypeName-F Tree (List Tree) (List Tree) Tree → Tree
+type_step x =
+    node l.TypeName (constant x.qualifier ∷ spec_tree x.spec ∷ stars x.stars ∷ many l.Dimensions (λ d. d) x.dimensions ∷ [])
+
+-- an expression without commas
+unfoldable pub expr_tree : Expr → Tree
+expr_tree = fold-Expr Tree (List Tree) (List Tree) Tree expr_step dimension_step list_step type_step
+
+-- the expressions of a list, as parts
+unfoldable pub list_parts : ExprList → List Tree
+list_parts x = expr_tree x.first ∷ many l.MoreAssigns (next expr_tree) x.more ∷ []
+
+-- a comma expression
+abbrev pub list_tree : ExprList → Tree
+list_tree x = node l.Expr (list_parts x)
+
+unfoldable pub dimension_parts : Dimension → List Tree
+dimension_parts x = mark m.LBracket x.open ∷ expr_tree x.size ∷ mark m.RBracket x.close ∷ []
+
+-- dimensions
+abbrev pub dimensions : List Dimension → Tree
+dimensions xs = many l.Dimensions dimension_parts xs
+
+unfoldable pub type_tree : TypeName → Tree
+type_tree x =
+    let named = out-TypeName x in
+    node l.TypeName (constant named.qualifier ∷ spec_tree named.spec ∷ stars named.stars ∷ dimensions named.dimensions ∷ [])

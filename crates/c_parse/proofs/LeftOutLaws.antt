@@ -1,0 +1,104 @@
+-- The grammar has no keyword that is left out.
+use Rattle.std.specs.Prelude.{◌≡◌, Bool, true, false, not, nat_le, ◌&&◌, ◌==◌, List, [], ◌∷◌, Option, Some, None, find, option_map, if◌then◌else◌}
+use Rattle.std.proofs.Common.{refl, sym, ap, ◌∙◌}
+use Rattle.std.proofs.lemmas.Bool.{eqb-true}
+use Rattle.c_lex.specs.declared.keyword.Keyword.{Keyword}
+use Rattle.c_lex.specs.declared.keyword.Keyword.TheVariants as word
+use Rattle.c_lex.specs.declared.token.Token.{Token}
+use Rattle.c_lex.specs.declared.token.TokenKind.{TokenKind}
+use Rattle.c_lex.specs.declared.token.TokenKind.TheVariants as kind
+use Rattle.c_lex.specs.Keywords as keyword
+use Rattle.c_ast.specs.Grammar.{Sym, T, N, Form, One, All, Fits, production, parts_of, repeated, optional}
+use Rattle.c_ast.specs.Labels.{Label, Repeated, Optional}
+use Rattle.c_ast.specs.Labels as label
+use Rattle.c_ast.specs.Shape.{FollowsGrammar}
+use Rattle.c_ast.specs.Spelling.{spelled, tokens_of}
+use Rattle.c_ast.specs.Terminals.{Terminal, AnyName, AnyNumber, AnyChar, AnyText, Word, Mark, SignWord, AssignMark, BinaryMark, UnaryMark, StepMark, is, word_number}
+use Rattle.c_ast.specs.Tree.{Tree, Leaf, Node, Nil, Cons}
+use Rattle.c_parse.specs.LeftOut.{is_left_out, first_left_out}
+
+-- ---- terminals
+
+-- the keywords that are left out have the last numbers
+word_kept : (k : Keyword) → keyword.is_left_out k ≡ nat_le 21 (word_number k)
+unfolding word_number
+word_kept word.Break = refl
+word_kept k = refl
+
+sign_kept : (k : Keyword) → is SignWord (kind.Keyword k) ≡ true → keyword.is_left_out k ≡ false
+unfolding is word_number
+sign_kept word.Signed e = refl
+sign_kept word.Unsigned e = refl
+sign_kept k e = cc e
+
+keeps : Terminal → Bool
+keeps (Word w) = not (keyword.is_left_out w)
+keeps _ = true
+
+not_true : (b : Bool) → not b ≡ true → b ≡ false
+not_true true e = cc e
+not_true false e = refl
+
+terminal_kept : (s : Terminal) (k : TokenKind) → keeps s ≡ true → is s k ≡ true → is_left_out k ≡ false
+unfolding keeps is
+terminal_kept (Word w) (kind.Keyword k) h e =
+    word_kept k ∙ ap (nat_le 21) (sym (eqb-true (word_number w) (word_number k) e)) ∙ sym (word_kept w) ∙ not_true _ h
+terminal_kept SignWord (kind.Keyword k) h e = sign_kept k e
+terminal_kept s (kind.Keyword k) h e = cc e
+terminal_kept s k h e = refl
+
+-- ---- productions
+
+all_kept : List Sym → Bool
+all_kept [] = true
+all_kept (T s ∷ syms) = keeps s && all_kept syms
+all_kept (N c ∷ syms) = all_kept syms
+
+repeated_kept : (k : Repeated) → all_kept (repeated k) ≡ true
+unfolding repeated all_kept keeps
+repeated_kept label.Externals = refl
+repeated_kept k = refl
+
+optional_kept : (k : Optional) → all_kept (optional k) ≡ true
+unfolding optional all_kept keeps
+optional_kept label.Constant = refl
+optional_kept k = refl
+
+parts_kept : (l : Label) → all_kept (parts_of l) ≡ true
+unfolding parts_of production all_kept keeps
+parts_kept (label.More k) = repeated_kept k
+parts_kept (label.Present k) = optional_kept k
+parts_kept l = refl
+
+-- ---- trees
+
+form_kept : Form → Bool
+form_kept (One c) = true
+form_kept (All syms) = all_kept syms
+
+and_left : (a b : Bool) → (a && b) ≡ true → a ≡ true
+and_left true b e = refl
+and_left false b e = cc e
+
+and_right : (a b : Bool) → (a && b) ≡ true → b ≡ true
+and_right true b e = e
+and_right false b e = cc e
+
+none_more : (x : Token) (ts : List Token) → is_left_out x.kind ≡ false → find (λ t. is_left_out t.kind) ts ≡ None → find (λ t. is_left_out t.kind) (x ∷ ts) ≡ None
+none_more x ts e n = rw e n
+
+none_in : (f : Form) (t : Tree) (more : List Token) → Fits f t → form_kept f ≡ true → find (λ t. is_left_out t.kind) more ≡ None → find (λ t. is_left_out t.kind) (spelled t more) ≡ None
+unfolding Fits form_kept all_kept spelled
+none_in (One c) (Node l parts) more h k n = none_in (All (parts_of l)) parts more h.2 (parts_kept l) n
+none_in (All []) Nil more h k n = n
+none_in (All (T s ∷ syms)) (Cons (Leaf x) parts) more h k n =
+    none_more x (spelled parts more)
+    (terminal_kept s x.kind (and_left (keeps s) (all_kept syms) k) h.0)
+    (none_in (All syms) parts more h.1 (and_right (keeps s) (all_kept syms) k) n)
+none_in (All (N c ∷ syms)) (Cons part parts) more h k n =
+    none_in (One c) part (spelled parts more) h.0 refl (none_in (All syms) parts more h.1 k n)
+none_in f t more h k n = absurd h
+
+pub none_left_out : (t : Tree) → FollowsGrammar t → first_left_out (tokens_of t) ≡ None
+unfolding form_kept
+none_left_out t h = ap (option_map (λ x. x.at)) (none_in _ t [] h refl refl)

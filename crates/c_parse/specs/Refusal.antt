@@ -1,0 +1,76 @@
+-- What the parser answers on the tokens of a text, and that the answer is determined.
+use Rattle.std.specs.Prelude.{◌≡◌, ℕ, ◌<◌, ◌≤◌, ⊤, List, [], ◌∷◌, ◌++◌, Some, None, Result, Ok, Err}
+use Rattle.c_lex.specs.declared.token.Token.{Token}
+use Rattle.c_ast.specs.declared.external.Unit as ast
+use Rattle.c_ast.specs.Externals.{unit_tree}
+use Rattle.c_ast.specs.Nesting.{depth}
+use Rattle.c_ast.specs.Shape.{Shaped}
+use Rattle.c_ast.specs.Spelling.{kinds, tokens_of}
+use Rattle.c_ast.specs.Tree.{Tree}
+use Rattle.c_grammar.specs.Beginnings.{WrongFrom}
+use Rattle.c_parse.specs.LeftOut.{first_left_out}
+use Rattle.c_parse.specs.declared.fault.ParseFault.{ParseFault}
+use Rattle.c_parse.specs.declared.fault.ParseFault.TheVariants as fault
+
+-- Up to a token the nesting is at most 200 deep, and with it it is deeper. The token stands at this place.
+pub record FirstTooDeep (ts : List Token) (place : ℕ) : Type 0 where
+  pub before : List Token
+  pub token : Token
+  pub rest : List Token
+  pub split : ts ≡ before ++ token ∷ rest
+  pub at : place ≡ token.at
+  pub shallow : depth (kinds before) ≤ 200
+  pub deep : 200 < depth (kinds (before ++ token ∷ []))
+
+-- where the next token stands, or the end of the text
+abbrev pub place_of : List Token → ℕ → ℕ
+place_of [] length = length
+place_of (x ∷ rest) length = x.at
+
+-- The tokens begin a program up to one that no program goes on with, or end before a program does. The place is that of
+-- the token, or the end of the text.
+pub record WrongAt (ts : List Token) (length place : ℕ) : Type 0 where
+  pub rest : List Token
+  pub wrong : WrongFrom ts rest
+  pub at : place ≡ place_of rest length
+
+-- the one shaped tree that spells these tokens, with their places
+pub record IsTreeOf (ts : List Token) (t : Tree) : Type 0 where
+  pub shaped : Shaped t
+  pub spells : tokens_of t ≡ ts
+  pub only : (u : Tree) → Shaped u → tokens_of u ≡ ts → u ≡ t
+
+-- The answer on the tokens of a text of this length: the first of the three faults that there is, or the tree. Want of
+-- memory comes in place of any answer.
+abbrev pub Answers : List Token → ℕ → Result ast.Unit ParseFault → Type 0
+Answers ts length (Err (fault.LeftOut place)) = first_left_out ts ≡ Some place
+Answers ts length (Err (fault.TooDeep place)) = (first_left_out ts ≡ None) × FirstTooDeep ts place
+Answers ts length (Err (fault.Syntax place)) =
+    (first_left_out ts ≡ None) × (depth (kinds ts) ≤ 200) × WrongAt ts length place
+Answers ts length (Err fault.Memory) = ⊤
+Answers ts length (Ok unit) = (first_left_out ts ≡ None) × IsTreeOf ts (unit_tree unit)
+
+-- ---- laws
+
+-- unless memory ran out, the same fault or trees of one view
+abbrev pub Agree : Result ast.Unit ParseFault → Result ast.Unit ParseFault → Type 0
+Agree (Err fault.Memory) s = ⊤
+Agree r (Err fault.Memory) = ⊤
+Agree (Err e) (Err f) = e ≡ f
+Agree (Ok u) (Ok v) = unit_tree u ≡ unit_tree v
+Agree r s = ⊥
+
+-- There is one answer.
+abbrev pub OneAnswer : Type 0
+OneAnswer =
+    (ts : List Token) (length : ℕ) (r s : Result ast.Unit ParseFault) → Answers ts length r → Answers ts length s → Agree r s
+
+abbrev pub Accepts : Tree → Result ast.Unit ParseFault → Type 0
+Accepts t (Ok unit) = unit_tree unit ≡ t
+Accepts t (Err fault.Memory) = ⊤
+Accepts t (Err e) = ⊥
+
+-- On what a shaped tree spells the answer is that tree.
+abbrev pub ShapedIsAccepted : Type 0
+ShapedIsAccepted =
+    (t : Tree) (length : ℕ) (r : Result ast.Unit ParseFault) → Shaped t → Answers (tokens_of t) length r → Accepts t r
