@@ -3,8 +3,8 @@ use Rattle.std.proofs.Common.{◌≡◌, ℕ, Bool, List, [], ◌∷◌, Option,
 use Rattle.c_lex.specs.declared.keyword.Keyword.TheVariants as w
 use Rattle.c_lex.specs.declared.punct.Punct.TheVariants as m
 use Rattle.c_lex.specs.declared.token.TokenKind.TheVariants as kind
-use Rattle.c_ast.specs.declared.expression.AssignOp.{AssignOp}
-use Rattle.c_ast.specs.declared.expression.BinaryOp.{BinaryOp}
+use Rattle.c_ast.specs.declared.operator.AssignOp.{AssignOp}
+use Rattle.c_ast.specs.declared.operator.BinaryOp.{BinaryOp}
 use Rattle.c_ast.specs.declared.expression.Dimension.{Dimension}
 use Rattle.c_ast.specs.declared.expression.Expr.{Expr, roll-Expr}
 use Rattle.c_ast.specs.declared.expression.Expr.TheVariants as e
@@ -12,17 +12,18 @@ use Rattle.c_ast.specs.declared.expression.Expr.TheFolds.{fold-roll-Expr, map-Ex
 use Rattle.c_ast.specs.declared.expression.Expr.TheOpen.{Expr-F}
 use Rattle.c_ast.specs.declared.expression.ExprList.{ExprList}
 use Rattle.c_ast.specs.declared.expression.Literal.{Literal}
-use Rattle.c_ast.specs.declared.expression.Selection.{Selection}
-use Rattle.c_ast.specs.declared.expression.Step.{Step}
+use Rattle.c_ast.specs.declared.operator.Selection.{Selection}
+use Rattle.c_ast.specs.declared.operator.Step.{Step}
 use Rattle.c_ast.specs.declared.expression.TypeName.{TypeName, out-TypeName}
-use Rattle.c_ast.specs.declared.expression.UnaryOp.{UnaryOp}
+use Rattle.c_ast.specs.declared.operator.UnaryOp.{UnaryOp}
 use Rattle.c_ast.specs.declared.token.Identifier.{Identifier}
 use Rattle.c_ast.specs.declared.token.Span.{Span}
 use Rattle.c_ast.specs.Labels as l
 use Rattle.c_ast.specs.Tree.{Tree}
+use Rattle.c_ast.specs.Operators.{selection_label, selection_mark, step_mark, unary_mark, binary_mark, binary_level, assign_mark}
 use Rattle.c_ast.specs.Parts.{node, leaf, name, mark, word, opt}
 use Rattle.c_ast.specs.Specifiers.{constant, spec_tree, stars}
-use Rattle.c_ast.specs.Expressions.{expr_tree, type_tree, list_parts, list_tree, dimension_parts, next, literal, texts, selection_label, selection_mark, step_mark, unary_mark, binary_mark, binary_level, assign_mark, expr_step, dimension_step, list_step, type_step}
+use Rattle.c_ast.specs.Expressions.{expr_tree, type_tree, list_parts, list_tree, dimension_parts, next, literal, texts, expr_step, dimension_step, list_step, type_step}
 use Rattle.c_ast.proofs.ListLemmas.{many-map}
 
 abbrev Layer : Type 0

@@ -28,3 +28,5 @@ pub many-map : {X Y : Type 0} (k : Repeated) (element : Y → List Tree) (g : X 
     ((x : X) → element (g x) ≡ whole x) → (xs : List X) → many k element (map g xs) ≡ many k whole xs
 unfolding many
 many-map k element g whole same xs = many_from k element g whole same xs (none_of k)
+
+pub ruleset grows = (many-none, many-snoc)

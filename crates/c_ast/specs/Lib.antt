@@ -5,6 +5,7 @@ pub mod Externals
 pub mod Grammar
 pub mod Labels
 pub mod Nesting
+pub mod Operators
 pub mod Parts
 pub mod Shape
 pub mod Specifiers

@@ -1,4 +1,4 @@
-use crate::{Identifier, Next, Span, Spec};
+use crate::{AssignOp, BinaryOp, Identifier, Next, Selection, Span, Spec, Step, UnaryOp};
 use c_lex::Bytes;
 use sqlite_items::{Boxed, Items};
 
@@ -133,65 +133,4 @@ pub struct Dimension {
 pub struct Literal {
     pub bytes: Bytes,
     pub span: Span,
-}
-
-#[derive(Clone, Copy, Debug, PartialEq, Eq)]
-pub enum Selection {
-    Dot,
-    Arrow,
-}
-
-#[derive(Clone, Copy, Debug, PartialEq, Eq)]
-pub enum Step {
-    Up,
-    Down,
-}
-
-#[derive(Clone, Copy, Debug, PartialEq, Eq)]
-pub enum UnaryOp {
-    AddressOf,
-    Deref,
-    Plus,
-    Minus,
-    BitNot,
-    Not,
-}
-
-/// A binary operator, the tightest first.
-#[derive(Clone, Copy, Debug, PartialEq, Eq)]
-pub enum BinaryOp {
-    Multiply,
-    Divide,
-    Remainder,
-    Add,
-    Subtract,
-    ShiftLeft,
-    ShiftRight,
-    Less,
-    Greater,
-    LessEqual,
-    GreaterEqual,
-    Equal,
-    NotEqual,
-    BitAnd,
-    BitXor,
-    BitOr,
-    And,
-    Or,
-}
-
-/// `=`, or the operator of a compound assignment.
-#[derive(Clone, Copy, Debug, PartialEq, Eq)]
-pub enum AssignOp {
-    Plain,
-    Multiply,
-    Divide,
-    Remainder,
-    Add,
-    Subtract,
-    ShiftLeft,
-    ShiftRight,
-    BitAnd,
-    BitXor,
-    BitOr,
 }

@@ -6,19 +6,19 @@ mod declaration;
 mod expression;
 mod external;
 mod list;
+mod operator;
 mod specifier;
 mod statement;
 mod token;
 
 pub use declaration::{Declarator, Init, Initializer, Locals, OpenDimension};
-pub use expression::{
-    AssignOp, BinaryOp, Dimension, Expr, ExprList, Literal, Selection, Step, TypeName, UnaryOp,
-};
+pub use expression::{Dimension, Expr, ExprList, Literal, TypeName};
 pub use external::{
     Body, External, Function, Globals, Member, Members, Param, Params, Specifiers, StructBody,
     Structure, Unit,
 };
 pub use list::Next;
+pub use operator::{AssignOp, BinaryOp, Selection, Step, UnaryOp};
 pub use specifier::{Base, Sign, Spec};
 pub use statement::{Block, BlockItem, Else, ForStart, Group, Label, Stmt};
 pub use token::{Identifier, Span};

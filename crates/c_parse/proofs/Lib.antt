@@ -3,3 +3,8 @@ pub mod Counters
 pub mod FirstDeep
 pub mod Judging
 pub mod LeftOutLaws
+pub mod LiteralLemmas
+pub mod Marks
+pub mod OperandLemmas
+pub mod ReadLemmas
+pub mod Begins

@@ -1,3 +1,6 @@
 pub mod Counters
 pub mod LeftOut
 pub mod Refusal
+pub mod Ahead
+pub mod Operands
+pub mod Reading

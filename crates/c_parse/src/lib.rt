@@ -2,9 +2,14 @@
 //! could go on with.
 #![tactic(auto)]
 
+mod ahead;
 mod fault;
 pub mod laws;
 mod left_out;
+mod literals;
 mod nesting;
+mod operators;
+mod specifier;
+mod tokens;
 
 pub use fault::ParseFault;

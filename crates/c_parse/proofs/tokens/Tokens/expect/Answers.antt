@@ -1,0 +1,11 @@
+use Rattle.std.proofs.Common.{sym, ◌∙◌}
+use Rattle.c_ast.specs.Terminals.{Mark, is}
+use Rattle.c_grammar.specs.Starts.{head}
+use Rattle.c_parse.proofs.ReadLemmas.{at_some, token-mark, token-fails}
+use Rattle.c_parse.proofs.tokens.Tokens.expect.Goals as goal
+
+pub returns-then-sees : goal.returns-then-sees
+returns-then-sees c = token-mark _ _ _ _ (sym c.sees.ensures ∙ c.if-sees.true) c.take.ensures
+
+pub returns-else-sees : goal.returns-else-sees
+returns-else-sees c = token-fails (Mark c.args.punct) _ (sym c.sees.ensures ∙ c.if-sees.false)
