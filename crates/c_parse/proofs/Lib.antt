@@ -8,3 +8,6 @@ pub mod Marks
 pub mod OperandLemmas
 pub mod ReadLemmas
 pub mod Begins
+pub mod ExprLemmas
+pub mod SameClass
+pub mod TypeViews

@@ -3,6 +3,7 @@
 #![tactic(auto)]
 
 mod ahead;
+mod expression;
 mod fault;
 pub mod laws;
 mod left_out;

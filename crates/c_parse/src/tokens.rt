@@ -1,12 +1,13 @@
 #![tactic(auto, using(crate::proofs::ReadLemmas::heads), unfolding(c_ast::specs::Terminals::is, c_ast::specs::Terminals::mark_number, c_ast::specs::Terminals::word_number))]
 
-ghost use Rattle.std.specs.Prelude.{◌≡◌, [], ◌∷◌, IsSome, IfOk, drop};
+ghost use Rattle.std.specs.Prelude.{◌≡◌, ◌↔◌, [], ◌∷◌, IsTrue, IsSome, IfOk, drop};
 ghost use Rattle.std.specs.Option.{option_copied, option_and_then};
 ghost use Rattle.c_ast.specs.Parts.{mark, word, name};
 ghost use Rattle.c_ast.specs.Terminals.{Mark, Word, AnyName, is};
 ghost use Rattle.c_ast.specs.Terminals as spec;
 ghost use Rattle.c_grammar.specs.Reader.{token};
 ghost use Rattle.c_grammar.specs.Starts.{head, at, typed, begins_type, begins_base, begins_expr};
+ghost use Rattle.c_parse.specs.Refusal.{place_of};
 ghost use Rattle.c_parse.specs.Reading.{Gives, Takes, name_of};
 
 use crate::fault::Fault;
@@ -58,6 +59,22 @@ impl<'a> Tokens<'a> {
         match self.rest {
             [_, second, ..] => Some(&second.kind),
             _ => None,
+        }
+    }
+
+    pub fn is_empty(&self) -> bool
+        ensures { IsTrue result ↔ (self.now ≡ []) }
+    {
+        self.rest.is_empty()
+    }
+
+    /// Where the next token stands, or the end of the source where there is none.
+    pub fn place(&self, length: u32) -> u32
+        ensures { result ≡ place_of self.now length }
+    {
+        match self.rest {
+            [first, ..] => first.at,
+            [] => length,
         }
     }
 
