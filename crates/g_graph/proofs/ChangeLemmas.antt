@@ -4,8 +4,8 @@ use Rattle.std.specs.Prelude.{Bool, true, false, ◌==◌, ◌||◌, if◌then�
 use Rattle.std.proofs.lemmas.List.{set-get_or}
 use Rattle.std.specs.declared.option.Option.{Option}
 use Rattle.std.specs.declared.option.Option.TheVariants.{Some, None}
-use Rattle.g_graph.specs.Plain.{RegionTree, region, NodeTree, NodeTrees, no_nodes, node_then, no_regions, region_then, nodes_of, regions_of, id_of}
-use Rattle.g_graph.specs.Change.{first_some, region_changed, node_changed, nodes_changed, regions_changed, has_node, place_of}
+use Rattle.g_graph.specs.Plain.{RegionTree, region, NodeTree, node, NodeTrees, no_nodes, node_then, RegionTrees, no_regions, region_then, nodes_of, regions_of, id_of}
+use Rattle.g_graph.specs.Change.{first_some, region_changed, node_changed, nodes_changed, regions_changed, some_region, some_in_node, some_in_nodes, some_in_regions, has_node, place_of}
 
 pub region_changed_here : (f : RegionTree → Option RegionTree) (r s : RegionTree) → f r ≡ Some s → region_changed f r ≡ Some s
 region_changed_here f (region args nodes results) s e = ap (λ o. first_some o (option_map (λ ns. region args ns results) (nodes_changed f nodes))) e
@@ -95,3 +95,36 @@ has_node_place_of n first (node_then x xs) = by_test (id_of x == n) (has_node_pl
     by_test : (t : Bool) → is_some (place_of n (suc first) xs) ≡ has_node n xs → is_some (if t then Some first else place_of n (suc first) xs) ≡ (t || has_node n xs)
     by_test true h = refl
     by_test false h = h
+
+is_some_map : {X Y : Type 0} (g : X → Y) (o : Option X) → is_some (option_map g o) ≡ is_some o
+is_some_map g None = refl
+is_some_map g (Some x) = refl
+
+is_some_first : {X : Type 0} (a b : Option X) → is_some (first_some a b) ≡ (is_some a || is_some b)
+is_some_first None b = refl
+is_some_first (Some x) b = refl
+
+-- a region can be changed where the change can be made in it or in one nested in it
+mutual
+  pub region_can_change : (f : RegionTree → Option RegionTree) (r : RegionTree) → is_some (region_changed f r) ≡ some_region (λ s. is_some (f s)) r
+  region_can_change f (region args nodes results) =
+      is_some_first (f (region args nodes results)) (option_map (λ ns. region args ns results) (nodes_changed f nodes))
+      ∙ ap (λ b. is_some (f (region args nodes results)) || b) (is_some_map (λ ns. region args ns results) (nodes_changed f nodes) ∙ nodes_can_change f nodes)
+
+  node_can_change : (f : RegionTree → Option RegionTree) (x : NodeTree) → is_some (node_changed f x) ≡ some_in_node (λ s. is_some (f s)) x
+  node_can_change f (node id op inputs rs) = is_some_map (λ ss. node id op inputs ss) (regions_changed f rs) ∙ regions_can_change f rs
+
+  nodes_can_change : (f : RegionTree → Option RegionTree) (xs : NodeTrees) → is_some (nodes_changed f xs) ≡ some_in_nodes (λ s. is_some (f s)) xs
+  nodes_can_change f no_nodes = refl
+  nodes_can_change f (node_then x xs) =
+      is_some_first (option_map (λ y. node_then y xs) (node_changed f x)) (option_map (λ ys. node_then x ys) (nodes_changed f xs))
+      ∙ (λ i. (is_some_map (λ y. node_then y xs) (node_changed f x) ∙ node_can_change f x) i || (is_some_map (λ ys. node_then x ys) (nodes_changed f xs) ∙ nodes_can_change f xs) i)
+
+  regions_can_change : (f : RegionTree → Option RegionTree) (rs : RegionTrees) → is_some (regions_changed f rs) ≡ some_in_regions (λ s. is_some (f s)) rs
+  regions_can_change f no_regions = refl
+  regions_can_change f (region_then r rs) =
+      is_some_first (option_map (λ s. region_then s rs) (region_changed f r)) (option_map (λ ss. region_then r ss) (regions_changed f rs))
+      ∙ (λ i. (is_some_map (λ s. region_then s rs) (region_changed f r) ∙ region_can_change f r) i || (is_some_map (λ ss. region_then r ss) (regions_changed f rs) ∙ regions_can_change f rs) i)
+
+pub some_here : (test : RegionTree → Bool) (r : RegionTree) → test r ≡ true → true ≡ some_region test r
+some_here test (region args nodes results) e = sym (ap (λ b. b || some_in_nodes test nodes) e)

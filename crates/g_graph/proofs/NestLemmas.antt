@@ -12,10 +12,12 @@ use Rattle.g_graph.specs.declared.op.Origin.TheVariants.{Arg, Out}
 use Rattle.g_graph.specs.Plain.{RegionTree, region, NodeTree, node, NodeTrees, no_nodes, node_then, RegionTrees, no_regions, region_then, nodes_of, id_of, args_of}
 use Rattle.g_graph.specs.Rows.{joined, first_args, inputs_of, outputs_of, result_kinds, output_kinds, kind_after}
 use Rattle.g_graph.specs.Scope.{same_kind, is_of, known, last_place, origin_at, state_after, each_node}
+use Rattle.g_graph.specs.Ids.{region_ids, node_ids, nodes_ids, regions_ids}
 use Rattle.g_graph.specs.Change.{first_some, region_changed, node_changed, nodes_changed, regions_changed}
 use Rattle.g_graph.specs.WellFormed.{all_of, some_of, all_regions, are, same, kinds_of, one_state_each, has_its_regions, regions_fit, theta_has_states, has_its_width, has_its_object, is_origin, is_last_of, is_last, node_fits, gives, region_fits, every_region, every_in_node, every_in_nodes, every_in_regions}
 use Rattle.g_graph.proofs.SpliceLemmas.{nodes_of-append, kind_after-joined, state_after-joined}
 use Rattle.g_graph.proofs.UniqueLemmas.{first_true, second_true}
+use Rattle.g_graph.proofs.NumberedLemmas.{Numbered, numbered_left, numbered_right, numbered_rest}
 
 -- after the one nodes origins have the kinds that they have after the others, and states come from the same
 pub record SameScope (bs cs : NodeTrees) : Type 0 where
@@ -210,30 +212,31 @@ region_kept objects args ns ms results k own =
     && (one_state_each (map Some args) && one_state_each (kinds i)) in
     record { args = refl; results = kinds; inside = λ i. (fits ∙ own) i && k.inside i }
 
--- what a change does to the region that it changes
-pub record KeepsRegion (objects : ℕ) (f : RegionTree → Option RegionTree) : Type 0 where
-  pub kept : (r s : RegionTree) → f r ≡ Some s → every_region (region_fits objects) r ≡ true → RegionKept objects r s
+-- what a change does to the region that it changes, whose numbers are unique and below the next
+pub record KeepsRegion (objects next : ℕ) (f : RegionTree → Option RegionTree) : Type 0 where
+  pub kept : (r s : RegionTree) → f r ≡ Some s → every_region (region_fits objects) r ≡ true → Numbered next (region_ids r) → RegionKept objects r s
 
 mutual
-  pub region_changed_kept : (objects : ℕ) (f : RegionTree → Option RegionTree) → KeepsRegion objects f → (r s : RegionTree) → region_changed f r ≡ Some s →
-      every_region (region_fits objects) r ≡ true → RegionKept objects r s
-  region_changed_kept objects f k (region args nodes results) s e own =
+  pub region_changed_kept : (objects next : ℕ) (f : RegionTree → Option RegionTree) → KeepsRegion objects next f → (r s : RegionTree) → region_changed f r ≡ Some s →
+      every_region (region_fits objects) r ≡ true → Numbered next (region_ids r) → RegionKept objects r s
+  region_changed_kept objects next f k (region args nodes results) s e own numbers =
       by_cases (f (region args nodes results)) (nodes_changed f nodes) refl refl e
-      (λ ms q. nodes_changed_kept objects f k nodes ms q (second_true (region_fits objects (region args nodes results)) (every_in_nodes (region_fits objects) nodes) own))
+      (λ ms q. nodes_changed_kept objects next f k nodes ms q (second_true (region_fits objects (region args nodes results)) (every_in_nodes (region_fits objects) nodes) own) numbers)
     where
       by_cases : (o : Option RegionTree) (p : Option NodeTrees) → f (region args nodes results) ≡ o → nodes_changed f nodes ≡ p →
           first_some o (option_map (λ ns. region args ns results) p) ≡ Some s → ((ms : NodeTrees) → nodes_changed f nodes ≡ Some ms → NodesKept objects nodes ms) →
           RegionKept objects (region args nodes results) s
-      by_cases (Some t) p a b c h = k.kept (region args nodes results) s (a ∙ c) own
+      by_cases (Some t) p a b c h = k.kept (region args nodes results) s (a ∙ c) own numbers
       by_cases None (Some ms) a b c h =
           let same : region args ms results ≡ s = cc in
           subst (λ t. RegionKept objects (region args nodes results) t) same
           (region_kept objects args nodes ms results (h ms b) (first_true (region_fits objects (region args nodes results)) (every_in_nodes (region_fits objects) nodes) own))
       by_cases None None a b c h = absurd (cc)
 
-  node_changed_kept : (objects : ℕ) (f : RegionTree → Option RegionTree) → KeepsRegion objects f → (x y : NodeTree) → node_changed f x ≡ Some y →
-      every_in_node (region_fits objects) x ≡ true → NodeKept objects x y
-  node_changed_kept objects f k (node id op inputs rs) y e own = by_cases (regions_changed f rs) refl e (λ ss q. regions_changed_kept objects f k rs ss q own)
+  node_changed_kept : (objects next : ℕ) (f : RegionTree → Option RegionTree) → KeepsRegion objects next f → (x y : NodeTree) → node_changed f x ≡ Some y →
+      every_in_node (region_fits objects) x ≡ true → Numbered next (node_ids x) → NodeKept objects x y
+  node_changed_kept objects next f k (node id op inputs rs) y e own numbers =
+      by_cases (regions_changed f rs) refl e (λ ss q. regions_changed_kept objects next f k rs ss q own (numbered_rest next id (regions_ids rs) numbers))
     where
       by_cases : (o : Option RegionTrees) → regions_changed f rs ≡ o → option_map (λ ss. node id op inputs ss) o ≡ Some y →
           ((ss : RegionTrees) → regions_changed f rs ≡ Some ss → RegionsKept objects rs ss) → NodeKept objects (node id op inputs rs) y
@@ -242,13 +245,14 @@ mutual
           subst (λ t. NodeKept objects (node id op inputs rs) t) same (node_kept objects id op inputs rs ss (h ss a))
       by_cases None a c h = absurd (cc)
 
-  nodes_changed_kept : (objects : ℕ) (f : RegionTree → Option RegionTree) → KeepsRegion objects f → (ns ms : NodeTrees) → nodes_changed f ns ≡ Some ms →
-      every_in_nodes (region_fits objects) ns ≡ true → NodesKept objects ns ms
-  nodes_changed_kept objects f k no_nodes ms e own = absurd (cc)
-  nodes_changed_kept objects f k (node_then x xs) ms e own =
+  nodes_changed_kept : (objects next : ℕ) (f : RegionTree → Option RegionTree) → KeepsRegion objects next f → (ns ms : NodeTrees) → nodes_changed f ns ≡ Some ms →
+      every_in_nodes (region_fits objects) ns ≡ true → Numbered next (nodes_ids ns) → NodesKept objects ns ms
+  nodes_changed_kept objects next f k no_nodes ms e own numbers = absurd (cc)
+  nodes_changed_kept objects next f k (node_then x xs) ms e own numbers =
       let first = first_true (every_in_node (region_fits objects) x) (every_in_nodes (region_fits objects) xs) own in
       let rest = second_true (every_in_node (region_fits objects) x) (every_in_nodes (region_fits objects) xs) own in
-      by_cases (node_changed f x) (nodes_changed f xs) refl refl e first rest (λ y q. node_changed_kept objects f k x y q first) (λ ys q. nodes_changed_kept objects f k xs ys q rest)
+      by_cases (node_changed f x) (nodes_changed f xs) refl refl e first rest (λ y q. node_changed_kept objects next f k x y q first (numbered_left next (node_ids x) (nodes_ids xs) numbers))
+      (λ ys q. nodes_changed_kept objects next f k xs ys q rest (numbered_right next (node_ids x) (nodes_ids xs) numbers))
     where
       by_cases : (o : Option NodeTree) (p : Option NodeTrees) → node_changed f x ≡ o → nodes_changed f xs ≡ p →
           first_some (option_map (λ y. node_then y xs) o) (option_map (λ ys. node_then x ys) p) ≡ Some ms →
@@ -263,13 +267,14 @@ mutual
           subst (λ t. NodesKept objects (node_then x xs) t) same (nodes_kept_behind objects x xs ys first (g ys b))
       by_cases None None a b c first rest h g = absurd (cc)
 
-  regions_changed_kept : (objects : ℕ) (f : RegionTree → Option RegionTree) → KeepsRegion objects f → (rs ss : RegionTrees) → regions_changed f rs ≡ Some ss →
-      every_in_regions (region_fits objects) rs ≡ true → RegionsKept objects rs ss
-  regions_changed_kept objects f k no_regions ss e own = absurd (cc)
-  regions_changed_kept objects f k (region_then r rs) ss e own =
+  regions_changed_kept : (objects next : ℕ) (f : RegionTree → Option RegionTree) → KeepsRegion objects next f → (rs ss : RegionTrees) → regions_changed f rs ≡ Some ss →
+      every_in_regions (region_fits objects) rs ≡ true → Numbered next (regions_ids rs) → RegionsKept objects rs ss
+  regions_changed_kept objects next f k no_regions ss e own numbers = absurd (cc)
+  regions_changed_kept objects next f k (region_then r rs) ss e own numbers =
       let first = first_true (every_region (region_fits objects) r) (every_in_regions (region_fits objects) rs) own in
       let rest = second_true (every_region (region_fits objects) r) (every_in_regions (region_fits objects) rs) own in
-      by_cases (region_changed f r) (regions_changed f rs) refl refl e first rest (λ s q. region_changed_kept objects f k r s q first) (λ ts q. regions_changed_kept objects f k rs ts q rest)
+      by_cases (region_changed f r) (regions_changed f rs) refl refl e first rest (λ s q. region_changed_kept objects next f k r s q first (numbered_left next (region_ids r) (regions_ids rs) numbers))
+      (λ ts q. regions_changed_kept objects next f k rs ts q rest (numbered_right next (region_ids r) (regions_ids rs) numbers))
     where
       by_cases : (o : Option RegionTree) (p : Option RegionTrees) → region_changed f r ≡ o → regions_changed f rs ≡ p →
           first_some (option_map (λ s. region_then s rs) o) (option_map (λ ts. region_then r ts) p) ≡ Some ss →

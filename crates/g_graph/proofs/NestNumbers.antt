@@ -1,14 +1,15 @@
 -- The numbers of a nest where one region of it is changed: those of the region are exchanged, and all others stay.
-use Rattle.std.proofs.Common.{◌≡◌, ◌+◌, ℕ, ◌++◌, Bool, true, ◌&&◌, List, [], ◌∷◌, length, refl, sym, ap, ◌∙◌, subst, append_assoc, append-nil, replicate, arith}
-use Rattle.std.specs.Prelude.{◌==◌, count_by, option_map}
+use Rattle.std.proofs.Common.{◌≡◌, ◌≤◌, ◌+◌, ℕ, ◌++◌, Bool, true, ◌&&◌, List, [], ◌∷◌, length, refl, sym, ap, ◌∙◌, subst, append_assoc, append-nil, replicate, arith}
+use Rattle.std.specs.Prelude.{◌==◌, nat_lt, count_by, option_map}
 use Rattle.std.specs.declared.option.Option.{Option}
 use Rattle.std.specs.declared.option.Option.TheVariants.{Some, None}
 use Rattle.g_graph.specs.declared.op.Kind.TheVariants.{Value, Memory, Io}
 use Rattle.g_graph.specs.Plain.{RegionTree, region, NodeTree, node, NodeTrees, no_nodes, node_then, RegionTrees, no_regions, region_then, PlainLambda}
 use Rattle.g_graph.specs.Ids.{region_ids, node_ids, nodes_ids, regions_ids}
 use Rattle.g_graph.specs.Change.{first_some, region_changed, node_changed, nodes_changed, regions_changed}
-use Rattle.g_graph.specs.WellFormed.{all_of, leaves_fit, are, same, region_fits, every_region, body_fits, numbers_fit, well_formed}
+use Rattle.g_graph.specs.WellFormed.{all_of, distinct, leaves_fit, are, same, region_fits, every_region, body_fits, numbers_fit, well_formed}
 use Rattle.g_graph.proofs.UniqueLemmas.{times_append, all_of_append, first_true, second_true}
+use Rattle.g_graph.proofs.NumberedLemmas.{Numbered, numbered_fewer}
 use Rattle.g_graph.proofs.NestLemmas.{KeepsRegion, region_changed_kept}
 
 pub record Exchanged (f : RegionTree → Option RegionTree) (is js : List ℕ) : Type 0 where
@@ -133,15 +134,34 @@ exchanged_all f is js test e all new =
     ∙ (λ i. (all_of_append test e.before (region_ids e.new) ∙ (λ j. first_true (all_of test e.before) (all_of test (region_ids e.old)) front j && new j)) i
     && second_true (all_of test (e.before ++ region_ids e.old)) (all_of test e.after) whole i)
 
+pub numbers_numbered : (l : PlainLambda) → numbers_fit l ≡ true → Numbered l.next (region_ids l.body)
+numbers_numbered l e = record {
+  unique = first_true (distinct (region_ids l.body)) (all_of (λ n. nat_lt n l.next) (region_ids l.body)) e;
+  below = second_true (distinct (region_ids l.body)) (all_of (λ n. nat_lt n l.next) (region_ids l.body)) e;
+}
+
 -- the lambda stays well formed where the change of the region does, and numbers are unique and below the next
-pub changed_well_formed : (f : RegionTree → Option RegionTree) (l : PlainLambda) (s : RegionTree) (next : ℕ) → KeepsRegion (length l.objects) f → region_changed f l.body ≡ Some s →
+pub changed_well_formed : (f : RegionTree → Option RegionTree) (l : PlainLambda) (s : RegionTree) (next : ℕ) → KeepsRegion (length l.objects) l.next f → region_changed f l.body ≡ Some s →
     well_formed l ≡ true → numbers_fit (record l { body = s; next = next }) ≡ true → well_formed (record l { body = s; next = next }) ≡ true
 changed_well_formed f l s next k e w numbers =
     let body = body_fits l in
     let nest = every_region (region_fits (length l.objects)) l.body in
     let objects = all_of (λ o. leaves_fit o.size 0 o.leaves) l.objects in
     let front = first_true (body && numbers_fit l && nest) objects w in
-    let kept = region_changed_kept (length l.objects) f k l.body s e (second_true (body && numbers_fit l) nest front) in
+    let own = first_true (body && numbers_fit l) nest front in
+    let kept = region_changed_kept (length l.objects) l.next f k l.body s e (second_true (body && numbers_fit l) nest front) (numbers_numbered l (second_true body (numbers_fit l) own)) in
     let body_kept : body_fits (record l { body = s; next = next }) ≡ true =
-    (λ i. same (kept.args i) (replicate l.params Value ++ Memory ∷ Io ∷ []) && are (kept.results i) (Value ∷ Memory ∷ Io ∷ [])) ∙ first_true body (numbers_fit l) (first_true (body && numbers_fit l) nest front) in
+    (λ i. same (kept.args i) (replicate l.params Value ++ Memory ∷ Io ∷ []) && are (kept.results i) (Value ∷ Memory ∷ Io ∷ [])) ∙ first_true body (numbers_fit l) own in
     λ i. body_kept i && numbers i && kept.inside i && second_true (body && numbers_fit l && nest) objects w i
+
+-- It stays well formed, with the same next number, where the changed region has no numbers but those that it had.
+pub changed_well_formed_within : (f : RegionTree → Option RegionTree) (l : PlainLambda) (s : RegionTree) → KeepsRegion (length l.objects) l.next f →
+    ((r t : RegionTree) → f r ≡ Some t → (n : ℕ) → count_by (λ m. m == n) (region_ids t) ≤ count_by (λ m. m == n) (region_ids r)) → region_changed f l.body ≡ Some s →
+    well_formed l ≡ true → well_formed (record l { body = s }) ≡ true
+changed_well_formed_within f l s k fewer e w =
+    let nest = every_region (region_fits (length l.objects)) l.body in
+    let objects = all_of (λ o. leaves_fit o.size 0 o.leaves) l.objects in
+    let own = second_true (body_fits l) (numbers_fit l) (first_true (body_fits l && numbers_fit l) nest (first_true (body_fits l && numbers_fit l && nest) objects w)) in
+    let x = region_changed_ids f l.body s e in
+    let n = numbered_fewer l.next (region_ids l.body) (region_ids s) (λ n. omega (arith, exchanged_counts f (region_ids l.body) (region_ids s) x n, fewer x.old x.new x.here n)) (numbers_numbered l own) in
+    changed_well_formed f l s l.next k e w (λ i. n.unique i && n.below i)

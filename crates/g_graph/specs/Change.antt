@@ -24,6 +24,22 @@ abbrev mutual
   regions_changed f no_regions = None
   regions_changed f (region_then r rs) = first_some (option_map (λ s. region_then s rs) (region_changed f r)) (option_map (λ ss. region_then r ss) (regions_changed f rs))
 
+-- the test holds of a region or of one nested in it
+abbrev mutual
+  pub some_region : (RegionTree → Bool) → RegionTree → Bool
+  some_region test (region args nodes results) = test (region args nodes results) || some_in_nodes test nodes
+
+  pub some_in_node : (RegionTree → Bool) → NodeTree → Bool
+  some_in_node test (node id op inputs rs) = some_in_regions test rs
+
+  pub some_in_nodes : (RegionTree → Bool) → NodeTrees → Bool
+  some_in_nodes test no_nodes = false
+  some_in_nodes test (node_then x xs) = some_in_node test x || some_in_nodes test xs
+
+  pub some_in_regions : (RegionTree → Bool) → RegionTrees → Bool
+  some_in_regions test no_regions = false
+  some_in_regions test (region_then r rs) = some_region test r || some_in_regions test rs
+
 -- the lambda with its body changed so, or as it was
 abbrev pub lambda_changed : (RegionTree → Option RegionTree) → PlainLambda → PlainLambda
 lambda_changed f l = record l { body = unwrap_or (region_changed f l.body) l.body }

@@ -39,8 +39,9 @@ fn copy_object(alloc: Global, object: &Object) -> Result<Object, NoMemory>
     })
 }
 
+/// A region equal to this one. It takes time linear in the region.
 #[cycle(copies)]
-fn copy_region(alloc: Global, region: &Region) -> Result<Region, NoMemory>
+pub fn copy_region(alloc: Global, region: &Region) -> Result<Region, NoMemory>
     ensures { IfOk result (λ copy. copy ≡ region.now) }
 {
     let mut nodes = Vec::with_capacity(alloc, region.nodes.len())?;

@@ -3,6 +3,7 @@
 //! It promises what its public calls say of that tree, and takes no memory where a call only reads.
 #![tactic(auto)]
 
+mod can_change;
 mod change;
 #[cfg(test)]
 mod check_tests;
@@ -29,9 +30,10 @@ mod steps;
 mod tests;
 mod unique;
 
+pub use can_change::{CanChange, can_change_lambda};
 pub use change::{Change, change_lambda, change_region};
 pub use checking::check;
-pub use copy::copy_of;
+pub use copy::{copy_of, copy_region};
 pub use count::values;
 pub use equality::equal;
 pub use find::{is_home, place_of};
@@ -41,9 +43,9 @@ pub use numbers::ids;
 pub use op::{Kind, Op, Origin};
 pub use optimised::Optimised;
 pub use redirect::{
-    Move, Placed, Redirect, Without, redirect_nodes, redirect_origins, redirect_region,
+    Move, Placed, Redirect, Without, redirect_nodes, redirect_origins, redirect_region, same_origin,
 };
 pub use region::{Node, Region};
 pub use replace::replace_uses;
-pub use splicing::splice;
+pub use splicing::{splice, splice_region};
 pub use steps::{Rule, Step};

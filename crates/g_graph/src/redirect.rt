@@ -83,7 +83,8 @@ fn origin_at(origins: &[Origin], place: u32, otherwise: Origin) -> Origin
     }
 }
 
-fn same_origin(a: Origin, b: Origin) -> bool
+/// Whether two origins are the same.
+pub fn same_origin(a: Origin, b: Origin) -> bool
     ensures { result ≡ same_origin a b }
 {
     match (a, b) {

@@ -1,6 +1,6 @@
-ghost use Rattle.std.specs.Prelude.{◌≡◌, [], ◌+◌, ◌<◌, ◌++◌, OnOk, OnErr, take, drop, vec_len};
+ghost use Rattle.std.specs.Prelude.{◌≡◌, ◌+◌, ◌<◌, ◌++◌, OnOk, OnErr, take, drop, vec_len};
 ghost use Rattle.std.specs.declared.option.Option.TheVariants.{Some};
-ghost use Rattle.g_graph.specs.Plain.{region, nodes_of};
+ghost use Rattle.g_graph.specs.Plain.{nodes_of};
 ghost use Rattle.g_graph.specs.Change.{at_home, place_of};
 ghost use Rattle.g_graph.specs.Splice.{nodes_spliced, region_spliced, spliced};
 
@@ -26,56 +26,52 @@ pub fn splice(
 {
     let mut part = part;
     redirect_region(&mut part, &Placed { inputs });
-    let Region {
-        args: _,
-        nodes,
-        results,
-    } = part;
-    let mut part = Part {
-        alloc,
-        at,
-        nodes,
-        outputs: results,
-    };
-    change_lambda(lambda, &mut part)?;
+    change_lambda(lambda, &mut Part { alloc, at, part })?;
     Ok(())
 }
 
-// The exchange of a node for the nodes of a part, and of its outputs for these origins.
+// The exchange of a node for a part, whose arguments are placed already.
 #[derive(Drop)]
 struct Part {
     alloc: Global,
     at: u32,
-    nodes: Vec<Node>,
-    outputs: Vec<Origin>,
+    part: Region,
 }
 
 impl Change for Part {
     type Fault = NoMemory;
 
-    ghost changed = { λ p. at_home p.at (region_spliced p.at (region [] (nodes_of p.nodes.items) p.outputs.items)) };
+    ghost changed = { λ p. at_home p.at (region_spliced p.at p.part) };
 
     fn make(&mut self, region: &mut Region) -> Result<bool, NoMemory> {
         if !is_home(region, self.at) {
             return Ok(false);
         }
-        let nodes = mem::replace(&mut self.nodes, Vec::new(self.alloc));
-        put_part(region, self.at, nodes, &self.outputs)?;
+        let none = Region {
+            args: Vec::new(self.alloc),
+            nodes: Vec::new(self.alloc),
+            results: Vec::new(self.alloc),
+        };
+        splice_region(region, self.at, mem::replace(&mut self.part, none))?;
         Ok(true)
     }
 }
 
-fn put_part(
-    home: &mut Region,
-    at: u32,
-    nodes: Vec<Node>,
-    outputs: &[Origin],
-) -> Result<(), NoMemory>
-    ensures ok { OnOk result (home.new ≡ region_spliced at (region [] (nodes_of nodes.items) outputs.now) home.old) }
-    ensures err { OnErr result (home.new ≡ home.old) }
+/// Puts the nodes of the part, whose arguments are origins of the region already, in the place of the region's node
+/// `at`, uses of whose outputs become the part's results, in the same order. It takes time linear in the region and the
+/// part.
+pub fn splice_region(region: &mut Region, at: u32, part: Region) -> Result<(), NoMemory>
+    ensures ok { OnOk result (region.new ≡ region_spliced at part region.old) }
+    ensures err { OnErr result (region.new ≡ region.old) }
 {
-    put_nodes(&mut home.nodes, at, nodes, outputs)?;
-    redirect_origins(home.results.as_mut_slice(), &Without { at, outputs });
+    let Region {
+        args: _,
+        nodes,
+        results,
+    } = part;
+    let outputs = results.as_slice();
+    put_nodes(&mut region.nodes, at, nodes, outputs)?;
+    redirect_origins(region.results.as_mut_slice(), &Without { at, outputs });
     Ok(())
 }
 
