@@ -3,4 +3,6 @@ pub mod Neutral
 pub mod Fits
 pub mod Law
 pub mod Fold
+pub mod PlanLemmas
+pub mod Keeps
 mod Examples
