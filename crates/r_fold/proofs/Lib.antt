@@ -5,4 +5,5 @@ pub mod Law
 pub mod Fold
 pub mod PlanLemmas
 pub mod Keeps
+pub mod Meaning
 mod Examples
