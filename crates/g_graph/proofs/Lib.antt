@@ -6,6 +6,7 @@ pub mod Mapped
 pub mod MovedLemmas
 pub mod NestLemmas
 pub mod NestNumbers
+pub mod NodeLemmas
 pub mod NumberedLemmas
 pub mod PartLemmas
 pub mod PlaceLemmas

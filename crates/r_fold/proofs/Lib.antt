@@ -4,6 +4,7 @@ pub mod Fits
 pub mod Law
 pub mod Fold
 pub mod PlanLemmas
+pub mod Chosen
 pub mod Keeps
 pub mod Meaning
 mod Examples

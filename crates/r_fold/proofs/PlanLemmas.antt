@@ -6,6 +6,7 @@ use Rattle.g_graph.specs.declared.op.Op.TheVariants.{Const, Undef, Local, Delta,
 use Rattle.g_graph.specs.declared.op.Origin.{Origin}
 use Rattle.g_graph.specs.Plain.{RegionTree, region, NodeTree, node, NodeTrees, no_nodes, node_then, RegionTrees, no_regions, region_then, nodes_of, regions_of, id_of, nodes_in}
 use Rattle.g_graph.specs.Change.{first_some, place_of}
+use Rattle.g_graph.proofs.SpliceLemmas.{place_of_least}
 use Rattle.r_fold.specs.Rule.{node_at, node_set, const_word, constant, is_word, Folded, word, input, part, gamma_folded, theta_folded, chosen_region, folding, folded, fold_here}
 use Rattle.r_fold.specs.Plan.{planned, bin_row, un_row, theta_row, plain_row, part_row, has_one_turn, carried_out, op_of, op_word}
 
@@ -113,14 +114,6 @@ node_set_none n first y (node_then x xs) e = by_test (id_of x == n) e (node_set_
 
 some_same : (a b : ℕ) → Some a ≡ Some b → a ≡ b
 some_same a b e = cc
-
-place_of_least : (n first k : ℕ) (xs : NodeTrees) → place_of n first xs ≡ Some k → first ≤ k
-place_of_least n first k no_nodes e = absurd (cc)
-place_of_least n first k (node_then x xs) e = by_test (id_of x == n) e (place_of_least n (suc first) k xs)
-  where
-    by_test : (t : Bool) → (if t then Some first else place_of n (suc first) xs) ≡ Some k → (place_of n (suc first) xs ≡ Some k → suc first ≤ k) → first ≤ k
-    by_test true e h = omega (arith, some_same first k e)
-    by_test false e h = omega (arith, h e)
 
 node_set_from : (n first p : ℕ) (y : NodeTree) (xs : List NodeTree) → place_of n first (nodes_of xs) ≡ Some (first + p) → node_set n y (nodes_of xs) ≡ nodes_of (slice_set xs p y)
 node_set_from n first p y [] e = absurd (cc)
