@@ -3,4 +3,7 @@ pub mod Neutral
 pub mod Fits
 pub mod Law
 pub mod Fold
+pub mod PlanLemmas
+pub mod Keeps
+pub mod Meaning
 mod Examples

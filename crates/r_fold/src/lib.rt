@@ -1,5 +1,15 @@
 //! Folding: a node whose inputs are constants becomes what it gives.
-//! Promise: a folded lambda keeps its meaning in any program.
+//! Promise: `apply` gives the folded lambda, and a folded lambda keeps its meaning in any program.
 #![tactic(auto)]
 
+mod constants;
+mod edit;
 pub mod laws;
+mod part;
+mod plan;
+mod rule;
+#[cfg(test)]
+mod tests;
+mod uses;
+
+pub use rule::{applies, apply};

@@ -1,0 +1,611 @@
+-- A folded lambda is well formed.
+use Rattle.std.proofs.Common.{◌≡◌, ◌≤◌, ◌+◌, ◌⊎◌, inl, inr, ℕ, zero, suc, ◌==◌, Bool, true, false, not, ◌&&◌, ◌||◌, List, [], ◌∷◌, ◌++◌, map, length, Option, None, Some, option_map, option_and_then, refl, sym, ap, subst, ◌∙◌, arith}
+use Rattle.std.specs.Prelude.{if◌then◌else◌, slice_get, unwrap_or}
+use Rattle.std.proofs.lemmas.Bool.Decides.{nat_tests}
+use Rattle.val_core.specs.declared.operation.Op2.{Op2}
+use Rattle.val_core.specs.declared.operation.Op1.{Op1}
+use Rattle.val_core.specs.Words.{word1, word2}
+use Rattle.g_graph.specs.declared.op.Kind.{Kind}
+use Rattle.g_graph.specs.declared.op.Kind.TheVariants.{Value, Memory, Io}
+use Rattle.g_graph.specs.declared.op.Op.{Op}
+use Rattle.g_graph.specs.declared.op.Op.TheVariants.{Const, Undef, Local, Delta, Bin, Un, Load, Store, Clear, PtrEq, Apply, Put, Exit, Get, Gamma, Theta}
+use Rattle.g_graph.specs.declared.op.Origin.{Origin}
+use Rattle.g_graph.specs.declared.op.Origin.TheVariants.{Arg, Out}
+use Rattle.g_graph.specs.Plain.{RegionTree, region, NodeTree, node, NodeTrees, no_nodes, node_then, RegionTrees, no_regions, region_then, nodes_of, id_of, args_of, PlainLambda}
+use Rattle.g_graph.specs.Ids.{region_ids, node_ids, nodes_ids, regions_ids}
+use Rattle.g_graph.specs.Rows.{joined, first_args, result_kinds, output_kinds, kind_after}
+use Rattle.g_graph.specs.Scope.{same_kind, is_of, known, each_node}
+use Rattle.g_graph.specs.Change.{has_node, region_changed}
+use Rattle.g_graph.specs.WellFormed.{all_of, some_of, all_regions, are, same, kinds_of, one_state_each, gives, inputs_fit, inputs_are_last, is_last, node_has_one_state_each, has_its_regions, regions_fit, theta_has_states, has_its_width, has_its_object, node_fits, nodes_fit, results_are_last, returns_state, region_has_one_state_each, region_fits, every_region, every_in_node, every_in_nodes, every_in_regions, well_formed, IsWellFormed}
+use Rattle.g_graph.specs.Replace.{nodes_redirected, region_redirected, moved}
+use Rattle.g_graph.specs.Splice.{placed, without, joined_nodes, nodes_spliced, region_spliced}
+use Rattle.g_graph.proofs.ReplaceLemmas.{nodes_ids-redirected, region_ids-redirected}
+use Rattle.g_graph.proofs.SpliceLemmas.{Split, split_at, nodes_ids-joined, every_in_nodes-joined, kind_after-joined}
+use Rattle.g_graph.proofs.UniqueLemmas.{first_true, second_true, times, times_append, times_cons, counts_of_distinct}
+use Rattle.g_graph.proofs.NumberedLemmas.{Numbered}
+use Rattle.g_graph.proofs.PlaceLemmas.{either, same_number_true, same_kind_true, has_node-joined, kind_absent, kind_known}
+use Rattle.g_graph.proofs.ScopeMaps.{joined_none, joined_behind}
+use Rattle.g_graph.proofs.MovedLemmas.{ValueFor, moved_kept}
+use Rattle.g_graph.proofs.NestLemmas.{RegionKept}
+use Rattle.g_graph.proofs.NestNumbers.{changed_well_formed_within}
+use Rattle.g_graph.proofs.PartLemmas.{PartFits, region_spliced_kept}
+use Rattle.r_fold.specs.Rule.{node_at, node_set, constant, is_word, left_neutral, right_neutral, Folded, word, input, part, bin_folded, gamma_folded, theta_folded, chosen_region, folding, is_used, folded, fold_here, fold}
+
+-- ---- tests and numbers
+
+some_equal : {X : Type 0} (x y : X) → Some x ≡ Some y → x ≡ y
+some_equal x y e = cc
+
+absent : (b : Bool) → (b ≡ true → ⊥) → b ≡ false
+absent true h = absurd (h refl)
+absent false h = refl
+
+same_number : (m n : ℕ) → (m == n) ≡ true → m ≡ n
+same_number m n e = grind (arith, nat_tests)
+
+-- a number that a node has stands among the numbers
+has_times : (m : ℕ) (ns : NodeTrees) → has_node m ns ≡ true → 1 ≤ times m (nodes_ids ns)
+has_times m no_nodes e = absurd (cc)
+has_times m (node_then (node id op inputs rs) ns) e =
+    by_test (id == m) e (times_append m (id ∷ regions_ids rs) (nodes_ids ns)) (times_cons m id (regions_ids rs)) (has_times m ns)
+  where
+    by_test : (t : Bool) → (t || has_node m ns) ≡ true → times m ((id ∷ regions_ids rs) ++ nodes_ids ns) ≡ times m (id ∷ regions_ids rs) + times m (nodes_ids ns) →
+        times m (id ∷ regions_ids rs) ≡ (if t then 1 else 0) + times m (regions_ids rs) → (has_node m ns ≡ true → 1 ≤ times m (nodes_ids ns)) → 1 ≤ times m ((id ∷ regions_ids rs) ++ nodes_ids ns)
+    by_test true q a b h = omega (arith, a, b)
+    by_test false q a b h = omega (arith, a, b, h q)
+
+own_times : (x : NodeTree) → 1 ≤ times (id_of x) (node_ids x)
+own_times (node id op inputs rs) = omega (arith, times_cons id id (regions_ids rs) ∙ ap (λ t. (if t then 1 else 0) + times id (regions_ids rs)) (same_number_true id))
+
+-- of a node and what stands before and behind it each number stands once at most
+once_in : (next : ℕ) (before : NodeTrees) (x : NodeTree) (after : NodeTrees) → Numbered next (nodes_ids (joined_nodes before (node_then x after))) → (m : ℕ) →
+    times m (nodes_ids before) + times m (node_ids x) + times m (nodes_ids after) ≤ 1
+once_in next before x after numbers m =
+    omega (
+      arith,
+      counts_of_distinct (nodes_ids (joined_nodes before (node_then x after))) numbers.unique m,
+      ap (times m) (nodes_ids-joined before (node_then x after)),
+      times_append m (nodes_ids before) (node_ids x ++ nodes_ids after),
+      times_append m (node_ids x) (nodes_ids after),
+    )
+
+-- ---- kinds
+
+are_kinds : (xs : List (Option Kind)) (ks : List Kind) → are xs ks ≡ true → xs ≡ map Some ks
+are_kinds [] [] e = refl
+are_kinds [] (k ∷ ks) e = absurd (cc)
+are_kinds (None ∷ xs) ks e = absurd (cc)
+are_kinds (Some j ∷ xs) [] e = absurd (cc)
+are_kinds (Some j ∷ xs) (k ∷ ks) e = λ i. Some (same_kind_true j k (first_true (same_kind j k) (are xs ks) e) i) ∷ are_kinds xs ks (second_true (same_kind j k) (are xs ks) e) i
+
+same_kinds : (js ks : List Kind) → same js ks ≡ true → js ≡ ks
+same_kinds [] [] e = refl
+same_kinds [] (k ∷ ks) e = absurd (cc)
+same_kinds (j ∷ js) [] e = absurd (cc)
+same_kinds (j ∷ js) (k ∷ ks) e = λ i. same_kind_true j k (first_true (same_kind j k) (same js ks) e) i ∷ same_kinds js ks (second_true (same_kind j k) (same js ks) e) i
+
+first_kind : (x : Option Kind) (xs : List (Option Kind)) (k : Kind) (ks : List Kind) → are (x ∷ xs) (k ∷ ks) ≡ true → (x ≡ Some k) × (are xs ks ≡ true)
+first_kind None xs k ks e = absurd (cc)
+first_kind (Some j) xs k ks e = (ap Some (same_kind_true j k (first_true (same_kind j k) (are xs ks) e)), second_true (same_kind j k) (are xs ks) e)
+
+-- ---- the node in its region
+
+pub record Here (objects next : ℕ) (args : List Kind) (before : NodeTrees) (x : NodeTree) (after : NodeTrees) : Type 0 where
+  pub inputs : inputs_fit args before x ≡ true
+  pub last : inputs_are_last args before x ≡ true
+  pub regions : regions_fit x ≡ true
+  pub inside : every_in_node (region_fits objects) x ≡ true
+  pub once : (m : ℕ) → times m (nodes_ids before) + times m (node_ids x) + times m (nodes_ids after) ≤ 1
+
+each_here : (test : NodeTrees → NodeTree → Bool) (earlier : List NodeTree) (before : NodeTrees) (x : NodeTree) (after : NodeTrees) →
+    each_node test earlier (joined_nodes before (node_then x after)) ≡ true → test (joined_nodes (nodes_of earlier) before) x ≡ true
+each_here test earlier no_nodes x after e =
+    ap (λ ns. test ns x) (joined_none (nodes_of earlier)) ∙ first_true (test (nodes_of earlier) x) (each_node test (earlier ++ x ∷ []) after) e
+each_here test earlier (node_then y before) x after e =
+    ap (λ ns. test ns x) (sym (joined_behind earlier y before))
+    ∙ each_here test (earlier ++ y ∷ []) before x after (second_true (test (nodes_of earlier) y) (each_node test (earlier ++ y ∷ []) (joined_nodes before (node_then x after))) e)
+
+here_of : (objects next : ℕ) (args : List Kind) (before : NodeTrees) (x : NodeTree) (after : NodeTrees) (results : List Origin) →
+    every_region (region_fits objects) (region args (joined_nodes before (node_then x after)) results) ≡ true → Numbered next (nodes_ids (joined_nodes before (node_then x after))) →
+    Here objects next args before x after
+here_of objects next args before x after results e numbers =
+    let ns = joined_nodes before (node_then x after) in
+    let r = region args ns results in
+    let own = first_true (region_fits objects r) (every_in_nodes (region_fits objects) ns) e in
+    let nest = second_true (region_fits objects r) (every_in_nodes (region_fits objects) ns) e in
+    let to_io = first_true (nodes_fit objects r && results_are_last r && returns_state Memory r && returns_state Io r) (region_has_one_state_each r) own in
+    let to_memory = first_true (nodes_fit objects r && results_are_last r && returns_state Memory r) (returns_state Io r) to_io in
+    let to_last = first_true (nodes_fit objects r && results_are_last r) (returns_state Memory r) to_memory in
+    let fit = each_here (node_fits objects args) [] before x after (first_true (nodes_fit objects r) (results_are_last r) to_last) in
+    let to_width =
+    first_true
+    (inputs_fit args before x && inputs_are_last args before x && node_has_one_state_each args before x && has_its_regions x && regions_fit x && theta_has_states x && has_its_width x)
+    (has_its_object objects x) fit in
+    let to_theta =
+    first_true (inputs_fit args before x && inputs_are_last args before x && node_has_one_state_each args before x && has_its_regions x && regions_fit x && theta_has_states x) (has_its_width x) to_width in
+    let to_regions = first_true (inputs_fit args before x && inputs_are_last args before x && node_has_one_state_each args before x && has_its_regions x && regions_fit x) (theta_has_states x) to_theta in
+    let to_shape = first_true (inputs_fit args before x && inputs_are_last args before x && node_has_one_state_each args before x && has_its_regions x) (regions_fit x) to_regions in
+    let to_states = first_true (inputs_fit args before x && inputs_are_last args before x && node_has_one_state_each args before x) (has_its_regions x) to_shape in
+    let to_both = first_true (inputs_fit args before x && inputs_are_last args before x) (node_has_one_state_each args before x) to_states in
+    let inner =
+    second_true (every_in_nodes (region_fits objects) before) (every_in_nodes (region_fits objects) (node_then x after))
+    (sym (every_in_nodes-joined (region_fits objects) before (node_then x after)) ∙ nest) in
+    record {
+      inputs = first_true (inputs_fit args before x) (inputs_are_last args before x) to_both;
+      last = second_true (inputs_fit args before x) (inputs_are_last args before x) to_both;
+      regions = second_true (inputs_fit args before x && inputs_are_last args before x && node_has_one_state_each args before x && has_its_regions x) (regions_fit x) to_regions;
+      inside = first_true (every_in_node (region_fits objects) x) (every_in_nodes (region_fits objects) after) inner;
+      once = once_in next before x after numbers;
+    }
+
+-- ---- what a change of the region keeps
+
+pub record Kept (objects : ℕ) (r s : RegionTree) : Type 0 where
+  pub kept : RegionKept objects r s
+  pub fewer : (m : ℕ) → times m (region_ids s) ≤ times m (region_ids r)
+
+-- a part that gives what the node gives, and has no other numbers
+pub record PartGives (objects : ℕ) (args : List Kind) (before : NodeTrees) (x : NodeTree) (own : List Kind) (nodes : NodeTrees) (outs is : List Origin) : Type 0 where
+  pub inside : every_region (region_fits objects) (region own nodes outs) ≡ true
+  pub entries : are (map (known args before) is) own ≡ true
+  pub entries_last : all_of (is_last args before) is ≡ true
+  pub exits : map (known own nodes) outs ≡ output_kinds x
+  pub ids : (m : ℕ) → times m (nodes_ids nodes) ≤ times m (node_ids x)
+
+part_fits : (objects next : ℕ) (args : List Kind) (before : NodeTrees) (x : NodeTree) (after : NodeTrees) (own : List Kind) (nodes : NodeTrees) (outs is : List Origin) →
+    Here objects next args before x after → PartGives objects args before x own nodes outs is → PartFits objects args before x after own nodes outs is
+part_fits objects next args before x after own nodes outs is here g = record {
+  inside = g.inside;
+  entries = g.entries;
+  entries_last = g.entries_last;
+  exits = g.exits;
+  part_before = λ m a b. omega (arith, has_times m nodes a, has_times m before b, g.ids m, here.once m);
+  part_after = λ m a b. omega (arith, has_times m nodes a, has_times m after b, g.ids m, here.once m);
+  before_after = λ m a b. omega (arith, has_times m before a, has_times m after b, here.once m);
+  at_before = absent (has_node (id_of x) before) (λ h. omega (arith, has_times (id_of x) before h, own_times x, here.once (id_of x)));
+  at_after = absent (has_node (id_of x) after) (λ h. omega (arith, has_times (id_of x) after h, own_times x, here.once (id_of x)));
+}
+
+part_keeps : (objects next n : ℕ) (args : List Kind) (ns : NodeTrees) (results : List Origin) (split : Split n ns) (own : List Kind) (nodes : NodeTrees) (outs is : List Origin) →
+    every_region (region_fits objects) (region args ns results) ≡ true → Here objects next args split.before split.here split.after →
+    PartGives objects args split.before split.here own nodes outs is →
+    Kept objects (region args ns results) (region_spliced n (region_redirected (placed is) (region own nodes outs)) (region args ns results))
+part_keeps objects next n args ns results split own nodes outs is e here g =
+    let placed_nodes = nodes_redirected (placed is) nodes in
+    let outputs = map (placed is) outs in
+    let moved_after = nodes_redirected (without n outputs) split.after in
+    record {
+      kept = region_spliced_kept objects n args ns results own nodes outs is split (part_fits objects next args split.before split.here split.after own nodes outs is here g) e;
+      fewer = λ m.
+          omega (
+            arith,
+            ap (λ zs. times m (nodes_ids zs)) split.whole,
+            ap (λ zs. times m (nodes_ids zs)) (split.spliced placed_nodes outputs),
+            ap (times m) (nodes_ids-joined split.before (node_then split.here split.after)),
+            times_append m (nodes_ids split.before) (node_ids split.here ++ nodes_ids split.after),
+            times_append m (node_ids split.here) (nodes_ids split.after),
+            ap (times m) (nodes_ids-joined split.before (joined_nodes placed_nodes moved_after)),
+            times_append m (nodes_ids split.before) (nodes_ids (joined_nodes placed_nodes moved_after)),
+            ap (times m) (nodes_ids-joined placed_nodes moved_after),
+            times_append m (nodes_ids placed_nodes) (nodes_ids moved_after),
+            ap (times m) (nodes_ids-redirected (placed is) nodes),
+            ap (times m) (nodes_ids-redirected (without n outputs) split.after),
+            g.ids m,
+          );
+    }
+
+-- ---- a constant, as a part of one node
+
+abbrev const_nodes : ℕ → ℕ → NodeTrees
+const_nodes n w = node_then (node n (Const w) [] no_regions) no_nodes
+
+const_inside : (objects n w : ℕ) → every_region (region_fits objects) (region [] (const_nodes n w) (Out n 0 ∷ [])) ≡ true
+const_inside objects n w = let t : (n == n) ≡ true = same_number_true n in rw t
+
+const_given : (n w : ℕ) → map (known [] (const_nodes n w)) (Out n 0 ∷ []) ≡ Some Value ∷ []
+const_given n w = let t : (n == n) ≡ true = same_number_true n in rw t
+
+const_gives : (objects : ℕ) (args : List Kind) (before : NodeTrees) (id : ℕ) (op : Op) (ins : List Origin) (rs : RegionTrees) (w : ℕ) → output_kinds (node id op ins rs) ≡ Some Value ∷ [] →
+    PartGives objects args before (node id op ins rs) [] (const_nodes id w) (Out id 0 ∷ []) []
+const_gives objects args before id op ins rs w e = record {
+  inside = const_inside objects id w;
+  entries = refl;
+  entries_last = refl;
+  exits = const_given id w ∙ sym e;
+  ids = λ m. omega (arith, times_cons m id [], times_cons m id (regions_ids rs));
+}
+
+-- its output stays where it was
+const_output : (n : ℕ) (o : Origin) → without n (Out n 0 ∷ []) o ≡ o
+const_output n (Arg k) = refl
+const_output n (Out m p) = by_test (m == n) refl p
+  where
+    by_test : (t : Bool) → (m == n) ≡ t → (p : ℕ) → (if t then unwrap_or (slice_get (Out n 0 ∷ []) p) (Out m p) else Out m p) ≡ Out m p
+    by_test true q zero = ap (λ k. Out k 0) (sym (same_number m n q))
+    by_test true q (suc p) = refl
+    by_test false q p = refl
+
+redirected_same : (f : Origin → Origin) → ((o : Origin) → f o ≡ o) → (ns : NodeTrees) → nodes_redirected f ns ≡ ns
+redirected_same f e no_nodes = refl
+redirected_same f e (node_then (node id op inputs rs) ns) = λ i. node_then (node id op (origins_same inputs i) rs) (redirected_same f e ns i)
+  where
+    origins_same : (os : List Origin) → map f os ≡ os
+    origins_same [] = refl
+    origins_same (o ∷ os) = λ i. e o i ∷ origins_same os i
+
+origins_same : (f : Origin → Origin) → ((o : Origin) → f o ≡ o) → (os : List Origin) → map f os ≡ os
+origins_same f e [] = refl
+origins_same f e (o ∷ os) = λ i. e o i ∷ origins_same f e os i
+
+set_spliced : (n w : ℕ) (ns : NodeTrees) → nodes_spliced n (const_nodes n w) (Out n 0 ∷ []) ns ≡ node_set n (node n (Const w) [] no_regions) ns
+set_spliced n w no_nodes = refl
+set_spliced n w (node_then x ns) = by_test (id_of x == n) (set_spliced n w ns)
+  where
+    by_test : (t : Bool) → nodes_spliced n (const_nodes n w) (Out n 0 ∷ []) ns ≡ node_set n (node n (Const w) [] no_regions) ns →
+        (if t then joined_nodes (const_nodes n w) (nodes_redirected (without n (Out n 0 ∷ [])) ns) else node_then x (nodes_spliced n (const_nodes n w) (Out n 0 ∷ []) ns))
+        ≡ (if t then node_then (node n (Const w) [] no_regions) ns else node_then x (node_set n (node n (Const w) [] no_regions) ns))
+    by_test true h = ap (node_then (node n (Const w) [] no_regions)) (redirected_same (without n (Out n 0 ∷ [])) (const_output n) ns)
+    by_test false h = ap (node_then x) h
+
+word_spliced : (n w : ℕ) (args : List Kind) (ns : NodeTrees) (results : List Origin) →
+    region_spliced n (region_redirected (placed []) (region [] (const_nodes n w) (Out n 0 ∷ []))) (region args ns results)
+    ≡ region args (node_set n (node n (Const w) [] no_regions) ns) results
+word_spliced n w args ns results = λ i. region args (set_spliced n w ns i) (origins_same (without n (Out n 0 ∷ [])) (const_output n) results i)
+
+-- ---- the region of a Theta that runs once
+
+-- without a result that is a value
+tail_inside : (objects : ℕ) (own : List Kind) (ns : NodeTrees) (p : Origin) (outs : List Origin) → known own ns p ≡ Some Value → every_region (region_fits objects) (region own ns (p ∷ outs)) ≡ true →
+    every_region (region_fits objects) (region own ns outs) ≡ true
+tail_inside objects own ns p outs v e =
+    let r = region own ns (p ∷ outs) in
+    let kinds = map (known own ns) outs in
+    let fits = first_true (region_fits objects r) (every_in_nodes (region_fits objects) ns) e in
+    let nest = second_true (region_fits objects r) (every_in_nodes (region_fits objects) ns) e in
+    let to_io = first_true (nodes_fit objects r && results_are_last r && returns_state Memory r && returns_state Io r) (region_has_one_state_each r) fits in
+    let states = second_true (nodes_fit objects r && results_are_last r && returns_state Memory r && returns_state Io r) (region_has_one_state_each r) fits in
+    let to_memory = first_true (nodes_fit objects r && results_are_last r && returns_state Memory r) (returns_state Io r) to_io in
+    let io = second_true (nodes_fit objects r && results_are_last r && returns_state Memory r) (returns_state Io r) to_io in
+    let to_last = first_true (nodes_fit objects r && results_are_last r) (returns_state Memory r) to_memory in
+    let memory = second_true (nodes_fit objects r && results_are_last r) (returns_state Memory r) to_memory in
+    let fit = first_true (nodes_fit objects r) (results_are_last r) to_last in
+    let last = second_true (is_last own ns p) (all_of (is_last own ns) outs) (second_true (nodes_fit objects r) (results_are_last r) to_last) in
+    let memory_now : (not (gives Memory ns) || some_of (is_of Memory) kinds) ≡ true = ap (λ k. not (gives Memory ns) || (is_of Memory k || some_of (is_of Memory) kinds)) (sym v) ∙ memory in
+    let io_now : (not (gives Io ns) || some_of (is_of Io) kinds) ≡ true = ap (λ k. not (gives Io ns) || (is_of Io k || some_of (is_of Io) kinds)) (sym v) ∙ io in
+    let states_now : (one_state_each (map Some own) && one_state_each kinds) ≡ true = ap (λ k. one_state_each (map Some own) && one_state_each (k ∷ kinds)) (sym v) ∙ states in
+    λ i. fit i && last i && memory_now i && io_now i && states_now i && nest i
+
+theta_gives : (objects next : ℕ) (args : List Kind) (before : NodeTrees) (id : ℕ) (ins : List Origin) (own : List Kind) (ns : NodeTrees) (p : Origin) (outs : List Origin) (after : NodeTrees) →
+    Here objects next args before (node id Theta ins (region_then (region own ns (p ∷ outs)) no_regions)) after →
+    PartGives objects args before (node id Theta ins (region_then (region own ns (p ∷ outs)) no_regions)) own ns outs ins
+theta_gives objects next args before id ins own ns p outs after here =
+    let kinds = map (known own ns) outs in
+    let results = first_kind (known own ns p) kinds Value own (first_true (are (known own ns p ∷ kinds) (Value ∷ own)) true here.regions) in
+    record {
+      inside = tail_inside objects own ns p outs results.0 (first_true (every_region (region_fits objects) (region own ns (p ∷ outs))) true here.inside);
+      entries = here.inputs;
+      entries_last = here.last;
+      exits = are_kinds kinds own results.1;
+      ids = λ m. omega (arith, times_cons m id (nodes_ids ns ++ []), times_append m (nodes_ids ns) []);
+    }
+
+-- ---- the region of a Gamma that is chosen
+
+chosen_test : (test : RegionTree → Bool) (w : ℕ) (rs : RegionTrees) (r : RegionTree) → chosen_region w rs ≡ Some r → all_regions test rs ≡ true → test r ≡ true
+chosen_test test w no_regions r e a = absurd (cc)
+chosen_test test w (region_then s no_regions) r e a =
+    let equal : s ≡ r = cc in
+    ap test (sym equal) ∙ first_true (test s) true a
+chosen_test test zero (region_then s (region_then t rs)) r e a =
+    let equal : s ≡ r = cc in
+    ap test (sym equal) ∙ first_true (test s) (all_regions test (region_then t rs)) a
+chosen_test test (suc w) (region_then s (region_then t rs)) r e a = chosen_test test w (region_then t rs) r e (second_true (test s) (all_regions test (region_then t rs)) a)
+
+chosen_inside : (test : RegionTree → Bool) (w : ℕ) (rs : RegionTrees) (r : RegionTree) → chosen_region w rs ≡ Some r → every_in_regions test rs ≡ true → every_region test r ≡ true
+chosen_inside test w rs r e a = chosen_test (λ s. every_region test s) w rs r e (all rs a)
+  where
+    all : (ss : RegionTrees) → every_in_regions test ss ≡ true → all_regions (λ s. every_region test s) ss ≡ true
+    all no_regions b = refl
+    all (region_then s ss) b = λ i. first_true (every_region test s) (every_in_regions test ss) b i && all ss (second_true (every_region test s) (every_in_regions test ss) b) i
+
+chosen_times : (m w : ℕ) (rs : RegionTrees) (r : RegionTree) → chosen_region w rs ≡ Some r → times m (region_ids r) ≤ times m (regions_ids rs)
+chosen_times m w no_regions r e = absurd (cc)
+chosen_times m w (region_then s no_regions) r e =
+    let equal : s ≡ r = cc in
+    omega (arith, ap (λ t. times m (region_ids t)) equal, times_append m (region_ids s) [])
+chosen_times m zero (region_then s (region_then t rs)) r e =
+    let equal : s ≡ r = cc in
+    omega (arith, ap (λ u. times m (region_ids u)) equal, times_append m (region_ids s) (regions_ids (region_then t rs)))
+chosen_times m (suc w) (region_then s (region_then t rs)) r e =
+    omega (arith, chosen_times m w (region_then t rs) r e, times_append m (region_ids s) (regions_ids (region_then t rs)))
+
+chosen_kinds : (id w : ℕ) (ins : List Origin) (rs : RegionTrees) (r : RegionTree) → chosen_region w rs ≡ Some r → regions_fit (node id Gamma ins rs) ≡ true →
+    (args_of r ≡ first_args rs) × (result_kinds r ≡ output_kinds (node id Gamma ins rs))
+chosen_kinds id w ins no_regions r e a = absurd (cc)
+chosen_kinds id w ins (region_then s rs) r e a =
+    let wanted = kinds_of (result_kinds s) in
+    let test = λ (t : RegionTree). same (args_of t) (args_of s) && are (result_kinds t) wanted in
+    let own = first_true (test s) (all_regions test rs) a in
+    let here = chosen_test test w (region_then s rs) r e a in (
+      same_kinds (args_of r) (args_of s) (first_true (same (args_of r) (args_of s)) (are (result_kinds r) wanted) here),
+      are_kinds (result_kinds r) wanted (second_true (same (args_of r) (args_of s)) (are (result_kinds r) wanted) here)
+          ∙ sym (are_kinds (result_kinds s) wanted (second_true (same (args_of s) (args_of s)) (are (result_kinds s) wanted) own)),
+    )
+
+gamma_gives : (objects next : ℕ) (args : List Kind) (before : NodeTrees) (id : ℕ) (p : Origin) (entries : List Origin) (rs : RegionTrees) (after : NodeTrees) →
+    Here objects next args before (node id Gamma (p ∷ entries) rs) after → (w : ℕ) (own : List Kind) (ns : NodeTrees) (outs : List Origin) → chosen_region w rs ≡ Some (region own ns outs) →
+    PartGives objects args before (node id Gamma (p ∷ entries) rs) own ns outs entries
+gamma_gives objects next args before id p entries rs after here w own ns outs e =
+    let kinds = chosen_kinds id w (p ∷ entries) rs (region own ns outs) e here.regions in
+    let inputs = first_kind (known args before p) (map (known args before) entries) Value (first_args rs) here.inputs in
+    record {
+      inside = chosen_inside (region_fits objects) w rs (region own ns outs) e here.inside;
+      entries = ap (are (map (known args before) entries)) kinds.0 ∙ inputs.1;
+      entries_last = second_true (is_last args before p) (all_of (is_last args before) entries) here.last;
+      exits = kinds.1;
+      ids = λ m. omega (arith, chosen_times m w rs (region own ns outs) e, times_cons m id (regions_ids rs));
+    }
+
+-- ---- an operand for the uses of the node
+
+or_first : (a b : Bool) → (a || b) ≡ false → a ≡ false
+or_first true b e = absurd (cc)
+or_first false b e = refl
+
+or_second : (a b : Bool) → (a || b) ≡ false → b ≡ false
+or_second true b e = absurd (cc)
+or_second false b e = e
+
+or_rest : (a b : Bool) → a ≡ false → (a || b) ≡ true → b ≡ true
+or_rest true b e h = absurd (cc)
+or_rest false b e h = h
+
+-- nodes up to a number that does not stand in the first of them
+record Reached (before : NodeTrees) (x : NodeTree) (after front rest : NodeTrees) : Type 0 where
+  between : NodeTrees
+  front_is : front ≡ joined_nodes before (node_then x between)
+  after_is : after ≡ joined_nodes between rest
+
+reached : (n : ℕ) (before : NodeTrees) (x : NodeTree) (after front rest : NodeTrees) → joined_nodes before (node_then x after) ≡ joined_nodes front rest →
+    has_node n before ≡ false → has_node n front ≡ true → Reached before x after front rest
+reached n before x after no_nodes rest e b h = absurd (cc)
+reached n no_nodes x after (node_then y front) rest e b h =
+    let first : x ≡ y = cc in
+    let more : after ≡ joined_nodes front rest = cc in
+    record { between = front; front_is = ap (λ z. node_then z front) (sym first); after_is = more }
+reached n (node_then z before) x after (node_then y front) rest e b h =
+    let first : z ≡ y = cc in
+    let more : joined_nodes before (node_then x after) ≡ joined_nodes front rest = cc in
+    let r = reached n before x after front rest more (or_second (id_of z == n) (has_node n before) b) (or_rest (id_of y == n) (has_node n front) (ap (λ t. id_of t == n) (sym first) ∙ or_first (id_of z == n) (has_node n before) b) h) in
+    record { between = r.between; front_is = (λ i. node_then (sym first i) (r.front_is i)); after_is = r.after_is }
+
+more_node : (m : ℕ) (x : NodeTree) (between rest after : NodeTrees) → after ≡ joined_nodes between rest → has_node m (node_then x between) ≡ true → has_node m (node_then x after) ≡ true
+more_node m x between rest after e h =
+    ap (λ ns. has_node m (node_then x ns)) e ∙ has_node-joined m (node_then x between) rest ∙ left_or (has_node m (node_then x between)) (has_node m rest) h
+  where
+    left_or : (a b : Bool) → a ≡ true → (a || b) ≡ true
+    left_or true b e = refl
+    left_or false b e = absurd (cc)
+
+-- after nodes that know the one, the output of the node, both are values
+value_for : (objects next n : ℕ) (args : List Kind) (before : NodeTrees) (x : NodeTree) (after : NodeTrees) → Here objects next args before x after → id_of x ≡ n → output_kinds x ≡ Some Value ∷ [] →
+    (b : Origin) → known args before b ≡ Some Value → ValueFor args (joined_nodes before (node_then x after)) (Out n 0) b
+value_for objects next n args before x after here number gives_value b value = record { after = λ front rest w. by_front front rest w (either (has_node n front)) }
+  where
+    not_before : has_node n before ≡ false
+    not_before = absent (has_node n before) (λ h. omega (arith, has_times n before h, ap (λ k. times k (node_ids x)) number, own_times x, here.once n))
+
+    apart_own : (between rest : NodeTrees) → after ≡ joined_nodes between rest → has_node n between ≡ false
+    apart_own between rest q =
+        absent (has_node n between)
+        (λ h. omega (arith, has_times n between h, ap (λ ns. times n (nodes_ids ns)) q, ap (times n) (nodes_ids-joined between rest), times_append n (nodes_ids between) (nodes_ids rest), ap (λ k. times k (node_ids x)) number, own_times x, here.once n))
+
+    own_value : (between rest : NodeTrees) → after ≡ joined_nodes between rest → known args (joined_nodes before (node_then x between)) (Out n 0) ≡ Some Value
+    own_value between rest q =
+        kind_after-joined before (node_then x between) n 0 None
+        ∙ kind_absent between n 0 (if id_of x == n then joined (slice_get (output_kinds x) 0) else kind_after before n 0 None) (apart_own between rest q)
+        ∙ ap (λ t. if t then joined (slice_get (output_kinds x) 0) else kind_after before n 0 None) (ap (λ k. k == n) number ∙ same_number_true n)
+        ∙ ap (λ ks. joined (slice_get ks 0)) gives_value
+
+    other_value : (between rest : NodeTrees) → after ≡ joined_nodes between rest → (o : Origin) → known args before o ≡ Some Value → known args (joined_nodes before (node_then x between)) o ≡ Some Value
+    other_value between rest q (Arg k) v = v
+    other_value between rest q (Out m p) v =
+        kind_after-joined before (node_then x between) m p None
+        ∙ kind_absent (node_then x between) m p (kind_after before m p None)
+        (absent (has_node m (node_then x between))
+        (λ h.
+        omega (
+          arith,
+          has_times m before (kind_known before m p Value v),
+          has_times m (node_then x after) (more_node m x between rest after q h),
+          times_append m (node_ids x) (nodes_ids after),
+          here.once m,
+        )))
+        ∙ v
+
+    by_front : (front rest : NodeTrees) → joined_nodes before (node_then x after) ≡ joined_nodes front rest → (has_node n front ≡ true) ⊎ (has_node n front ≡ false) →
+        (known args front (Out n 0) ≡ None) ⊎ ((known args front (Out n 0) ≡ Some Value) × (known args front b ≡ Some Value))
+    by_front front rest w (inr h) = inl (kind_absent front n 0 None h)
+    by_front front rest w (inl h) =
+        let r = reached n before x after front rest w not_before h in
+        inr (ap (λ ns. known args ns (Out n 0)) r.front_is ∙ own_value r.between rest r.after_is, ap (λ ns. known args ns b) r.front_is ∙ other_value r.between rest r.after_is b value)
+
+-- ---- whatever folds
+
+module _ (objects next n : ℕ) (args : List Kind) (ns : NodeTrees) (results : List Origin) (split : Split n ns) (fits : every_region (region_fits objects) (region args ns results) ≡ true) (numbers : Numbered next (nodes_ids ns)) where
+  abbrev whole : RegionTree
+  whole = region args ns results
+
+  split_here : Here objects next args split.before split.here split.after
+  split_here =
+      here_of objects next args split.before split.here split.after results (ap (λ ms. every_region (region_fits objects) (region args ms results)) (sym split.whole) ∙ fits)
+      (subst (λ ms. Numbered next (nodes_ids ms)) split.whole numbers)
+
+  here_is : (x : NodeTree) → split.here ≡ x → Here objects next args split.before x split.after
+  here_is x e = subst (λ y. Here objects next args split.before y split.after) e split_here
+
+  part_kept_by : (x : NodeTree) → split.here ≡ x → (own : List Kind) (nodes : NodeTrees) (outs is : List Origin) → PartGives objects args split.before x own nodes outs is →
+      Kept objects whole (region_spliced n (region_redirected (placed is) (region own nodes outs)) whole)
+  part_kept_by x e own nodes outs is g =
+      part_keeps objects next n args ns results split own nodes outs is fits split_here (subst (λ y. PartGives objects args split.before y own nodes outs is) (sym e) g)
+
+  word_keeps : (op : Op) (ins : List Origin) (rs : RegionTrees) → split.here ≡ node n op ins rs → output_kinds (node n op ins rs) ≡ Some Value ∷ [] → (w : ℕ) →
+      Kept objects whole (region args (node_set n (node n (Const w) [] no_regions) ns) results)
+  word_keeps op ins rs e o w =
+      subst (λ s. Kept objects whole s) (word_spliced n w args ns results)
+      (part_kept_by (node n op ins rs) e [] (const_nodes n w) (Out n 0 ∷ []) [] (const_gives objects args split.before n op ins rs w o))
+
+  input_keeps : (op : Op) (ins : List Origin) (rs : RegionTrees) → split.here ≡ node n op ins rs → output_kinds (node n op ins rs) ≡ Some Value ∷ [] → (b : Origin) → known args split.before b ≡ Some Value →
+      Kept objects whole (region_redirected (moved (Out n 0) b) whole)
+  input_keeps op ins rs e o b v =
+      let value = value_for objects next n args split.before split.here split.after split_here (ap id_of e) (ap output_kinds e ∙ o) b v in
+      record {
+        kept = moved_kept objects (Out n 0) b args ns results (subst (λ ms. ValueFor args ms (Out n 0) b) (sym split.whole) value) fits;
+        fewer = λ m. omega (arith, ap (times m) (region_ids-redirected (moved (Out n 0) b) whole));
+      }
+
+  word_change : (op : Op) (ins : List Origin) (rs : RegionTrees) → split.here ≡ node n op ins rs → output_kinds (node n op ins rs) ≡ Some Value ∷ [] → (w : ℕ) (f : Folded) → word w ≡ f → (s : RegionTree) →
+      folded n whole f ≡ Some s → Kept objects whole s
+  word_change op ins rs e o w f q s d =
+      let same : folded n whole (word w) ≡ Some s = ap (folded n whole) q ∙ d in
+      let is : region args (node_set n (node n (Const w) [] no_regions) ns) results ≡ s = cc in
+      subst (λ t. Kept objects whole t) is (word_keeps op ins rs e o w)
+
+  input_change : (op : Op) (ins : List Origin) (rs : RegionTrees) → split.here ≡ node n op ins rs → output_kinds (node n op ins rs) ≡ Some Value ∷ [] → (b : Origin) → known args split.before b ≡ Some Value →
+      (f : Folded) → input b ≡ f → (s : RegionTree) → folded n whole f ≡ Some s → Kept objects whole s
+  input_change op ins rs e o b v f q s d =
+      by_use (is_used (Out n 0) whole) (ap (folded n whole) q ∙ d)
+    where
+      by_use : (t : Bool) → (if t then Some (region_redirected (moved (Out n 0) b) whole) else None) ≡ Some s → Kept objects whole s
+      by_use true h =
+          let is : region_redirected (moved (Out n 0) b) whole ≡ s = cc in
+          subst (λ t. Kept objects whole t) is (input_keeps op ins rs e o b v)
+      by_use false h = absurd (cc)
+
+  part_change : (x : NodeTree) → split.here ≡ x → (own : List Kind) (nodes : NodeTrees) (outs is : List Origin) → PartGives objects args split.before x own nodes outs is → (f : Folded) → part (region own nodes outs) is ≡ f →
+      (s : RegionTree) → folded n whole f ≡ Some s → Kept objects whole s
+  part_change x e own nodes outs is g f q s d =
+      let same : Some (region_spliced n (region_redirected (placed is) (region own nodes outs)) whole) ≡ Some s = ap (folded n whole) q ∙ d in
+      subst (λ t. Kept objects whole t) (some_equal _ _ same) (part_kept_by x e own nodes outs is g)
+
+  inputs_keep : (op : Op2) (a b : Origin) (rs : RegionTrees) → split.here ≡ node n (Bin op) (a ∷ b ∷ []) rs → (u v : Option ℕ) (f : Folded) →
+      (if is_word (left_neutral op) u then Some (input b) else if is_word (right_neutral op) v then Some (input a) else None) ≡ Some f → (s : RegionTree) → folded n whole f ≡ Some s → Kept objects whole s
+  inputs_keep op a b rs e u v f q s d =
+      let here = here_is (node n (Bin op) (a ∷ b ∷ []) rs) e in
+      let first = first_kind (known args split.before a) (known args split.before b ∷ []) Value (Value ∷ []) here.inputs in
+      let second = first_kind (known args split.before b) [] Value [] first.1 in
+      by_tests (is_word (left_neutral op) u) (is_word (right_neutral op) v) first.0 second.0 q
+    where
+      by_tests : (l r : Bool) → known args split.before a ≡ Some Value → known args split.before b ≡ Some Value → (if l then Some (input b) else if r then Some (input a) else None) ≡ Some f → Kept objects whole s
+      by_tests true r va vb h = input_change (Bin op) (a ∷ b ∷ []) rs e refl b vb f (some_equal _ _ h) s d
+      by_tests false true va vb h = input_change (Bin op) (a ∷ b ∷ []) rs e refl a va f (some_equal _ _ h) s d
+      by_tests false false va vb h = absurd (cc)
+
+  bin_keeps : (op : Op2) (a b : Origin) (rs : RegionTrees) → split.here ≡ node n (Bin op) (a ∷ b ∷ []) rs → (u v : Option ℕ) (f : Folded) → bin_folded op a b u v ≡ Some f → (s : RegionTree) →
+      folded n whole f ≡ Some s → Kept objects whole s
+  bin_keeps op a b rs e (Some u) (Some v) f q s d = word_change (Bin op) (a ∷ b ∷ []) rs e refl (word2 op u v) f (some_equal _ _ q) s d
+  bin_keeps op a b rs e None v f q s d = inputs_keep op a b rs e None v f q s d
+  bin_keeps op a b rs e (Some u) None f q s d = inputs_keep op a b rs e (Some u) None f q s d
+
+  un_keeps : (op : Op1) (a : Origin) (rs : RegionTrees) → split.here ≡ node n (Un op) (a ∷ []) rs → (u : Option ℕ) (f : Folded) → option_map (λ v. word (word1 op v)) u ≡ Some f → (s : RegionTree) →
+      folded n whole f ≡ Some s → Kept objects whole s
+  un_keeps op a rs e None f q s d = absurd (cc)
+  un_keeps op a rs e (Some u) f q s d = word_change (Un op) (a ∷ []) rs e refl (word1 op u) f (some_equal _ _ q) s d
+
+  gamma_keeps : (p : Origin) (entries : List Origin) (rs : RegionTrees) → split.here ≡ node n Gamma (p ∷ entries) rs → (u : Option ℕ) (f : Folded) → gamma_folded rs entries u ≡ Some f → (s : RegionTree) →
+      folded n whole f ≡ Some s → Kept objects whole s
+  gamma_keeps p entries rs e None f q s d = absurd (cc)
+  gamma_keeps p entries rs e (Some w) f q s d = by_choice (chosen_region w rs) refl q
+    where
+      by_choice : (c : Option RegionTree) → chosen_region w rs ≡ c → option_map (λ r. part r entries) c ≡ Some f → Kept objects whole s
+      by_choice None h g = absurd (cc)
+      by_choice (Some (region own nodes outs)) h g =
+          part_change (node n Gamma (p ∷ entries) rs) e own nodes outs entries
+          (gamma_gives objects next args split.before n p entries rs split.after (here_is (node n Gamma (p ∷ entries) rs) e) w own nodes outs h) f (some_equal _ _ g) s d
+
+  theta_keeps : (ins : List Origin) (r : RegionTree) → split.here ≡ node n Theta ins (region_then r no_regions) → (f : Folded) → theta_folded r ins ≡ Some f → (s : RegionTree) → folded n whole f ≡ Some s →
+      Kept objects whole s
+  theta_keeps ins (region own nodes []) e f q s d = absurd (cc)
+  theta_keeps ins (region own nodes (p ∷ outs)) e f q s d = by_word (is_word (Some 0) (constant nodes p)) q
+    where
+      by_word : (t : Bool) → (if t then Some (part (region own nodes outs) ins) else None) ≡ Some f → Kept objects whole s
+      by_word true h =
+          part_change (node n Theta ins (region_then (region own nodes (p ∷ outs)) no_regions)) e own nodes outs ins
+          (theta_gives objects next args split.before n ins own nodes p outs split.after (here_is (node n Theta ins (region_then (region own nodes (p ∷ outs)) no_regions)) e)) f (some_equal _ _ h) s d
+      by_word false h = absurd (cc)
+
+  node_keeps : (op : Op) (ins : List Origin) (rs : RegionTrees) → split.here ≡ node n op ins rs → (f : Folded) → folding ns (node n op ins rs) ≡ Some f → (s : RegionTree) → folded n whole f ≡ Some s →
+      Kept objects whole s
+  node_keeps (Bin op) (a ∷ b ∷ []) rs e f q s d = bin_keeps op a b rs e (constant ns a) (constant ns b) f q s d
+  node_keeps (Un op) (a ∷ []) rs e f q s d = un_keeps op a rs e (constant ns a) f q s d
+  node_keeps Gamma (p ∷ entries) rs e f q s d = gamma_keeps p entries rs e (constant ns p) f q s d
+  node_keeps Theta ins (region_then r no_regions) e f q s d = theta_keeps ins r e f q s d
+  node_keeps (Bin op) [] rs e f q s d = absurd (cc)
+  node_keeps (Bin op) (a ∷ []) rs e f q s d = absurd (cc)
+  node_keeps (Bin op) (a ∷ b ∷ c ∷ ins) rs e f q s d = absurd (cc)
+  node_keeps (Un op) [] rs e f q s d = absurd (cc)
+  node_keeps (Un op) (a ∷ b ∷ ins) rs e f q s d = absurd (cc)
+  node_keeps Gamma [] rs e f q s d = absurd (cc)
+  node_keeps Theta ins no_regions e f q s d = absurd (cc)
+  node_keeps Theta ins (region_then r (region_then t rs)) e f q s d = absurd (cc)
+  node_keeps (Const w) ins rs e f q s d = absurd (cc)
+  node_keeps Undef ins rs e f q s d = absurd (cc)
+  node_keeps (Local k) ins rs e f q s d = absurd (cc)
+  node_keeps (Delta k) ins rs e f q s d = absurd (cc)
+  node_keeps (Load w) ins rs e f q s d = absurd (cc)
+  node_keeps (Store w) ins rs e f q s d = absurd (cc)
+  node_keeps (Clear k) ins rs e f q s d = absurd (cc)
+  node_keeps PtrEq ins rs e f q s d = absurd (cc)
+  node_keeps (Apply g) ins rs e f q s d = absurd (cc)
+  node_keeps Put ins rs e f q s d = absurd (cc)
+  node_keeps Exit ins rs e f q s d = absurd (cc)
+  node_keeps Get ins rs e f q s d = absurd (cc)
+
+-- ---- a region, and the lambda
+
+found_node : (n : ℕ) (ns : NodeTrees) (x : NodeTree) → node_at n ns ≡ Some x → has_node n ns ≡ true
+found_node n no_nodes x e = absurd (cc)
+found_node n (node_then y ns) x e = by_test (id_of y == n) e (found_node n ns x)
+  where
+    by_test : (t : Bool) → (if t then Some y else node_at n ns) ≡ Some x → (node_at n ns ≡ Some x → has_node n ns ≡ true) → (t || has_node n ns) ≡ true
+    by_test true q h = refl
+    by_test false q h = h q
+
+node_at-joined : (n : ℕ) (before : NodeTrees) (x : NodeTree) (after : NodeTrees) → has_node n before ≡ false → (id_of x == n) ≡ true → node_at n (joined_nodes before (node_then x after)) ≡ Some x
+node_at-joined n no_nodes x after b h = ap (λ t. if t then Some x else node_at n after) h
+node_at-joined n (node_then y before) x after b h =
+    ap (λ t. if t then Some y else node_at n (joined_nodes before (node_then x after))) (or_first (id_of y == n) (has_node n before) b)
+    ∙ node_at-joined n before x after (or_second (id_of y == n) (has_node n before) b) h
+
+renumbered : (x : NodeTree) (n : ℕ) → id_of x ≡ n → (op : Op) × (ins : List Origin) × (rs : RegionTrees) × (x ≡ node n op ins rs)
+renumbered (node id op ins rs) n e = (op, ins, rs, λ i. node (e i) op ins rs)
+
+region_keeps : (objects next n : ℕ) (args : List Kind) (ns : NodeTrees) (results : List Origin) (x : NodeTree) → node_at n ns ≡ Some x → every_region (region_fits objects) (region args ns results) ≡ true →
+    Numbered next (nodes_ids ns) → (f : Folded) → folding ns x ≡ Some f → (s : RegionTree) → folded n (region args ns results) f ≡ Some s → Kept objects (region args ns results) s
+region_keeps objects next n args ns results x e fits numbers f q s d =
+    let split = split_at n ns (found_node n ns x e) in
+    let number = same_number (id_of split.here) n split.numbered in
+    let found : split.here ≡ x = some_equal _ _ (sym (node_at-joined n split.before split.here split.after split.none_before split.numbered) ∙ ap (node_at n) (sym split.whole) ∙ e) in
+    let named = renumbered split.here n number in
+    node_keeps objects next n args ns results split fits numbers named.0 named.1 named.2 named.3 f (ap (folding ns) (sym named.3 ∙ found) ∙ q) s d
+
+pub fold_here_keeps : (objects next n : ℕ) (r s : RegionTree) → fold_here n r ≡ Some s → every_region (region_fits objects) r ≡ true → Numbered next (region_ids r) → Kept objects r s
+fold_here_keeps objects next n (region args ns results) s e fits numbers = by_node (node_at n ns) refl e
+  where
+    by_folding : (x : NodeTree) → node_at n ns ≡ Some x → (f : Option Folded) → folding ns x ≡ f → option_and_then (λ g. folded n (region args ns results) g) f ≡ Some s → Kept objects (region args ns results) s
+    by_folding x a None b c = absurd (cc)
+    by_folding x a (Some f) b c = region_keeps objects next n args ns results x a fits numbers f b s c
+
+    by_node : (x : Option NodeTree) → node_at n ns ≡ x → option_and_then (λ g. folded n (region args ns results) g) (option_and_then (folding ns) x) ≡ Some s → Kept objects (region args ns results) s
+    by_node None a c = absurd (cc)
+    by_node (Some x) a c = by_folding x a (folding ns x) refl c
+
+-- A folded lambda is well formed.
+pub fold_well_formed : (n : ℕ) (l : PlainLambda) → IsWellFormed l → IsWellFormed (fold n l)
+fold_well_formed n l w = by_change (region_changed (fold_here n) l.body) refl
+  where
+    by_change : (o : Option RegionTree) → region_changed (fold_here n) l.body ≡ o → well_formed (record l { body = unwrap_or o l.body }) ≡ true
+    by_change None e = w
+    by_change (Some s) e =
+        changed_well_formed_within (fold_here n) l s (record { kept = λ r t q fits numbers. (fold_here_keeps (length l.objects) l.next n r t q fits numbers).kept })
+        (λ r t q fits numbers. (fold_here_keeps (length l.objects) l.next n r t q fits numbers).fewer) e w

@@ -1,0 +1,15 @@
+use Rattle.std.proofs.Common.{sym, subst}
+use Rattle.g_graph.specs.Plain.{PlainLambda}
+use Rattle.g_graph.specs.WellFormed.{IsWellFormed}
+use Rattle.r_fold.specs.Laws.{KeepsMeaning}
+use Rattle.r_fold.proofs.Keeps.{fold_well_formed}
+use Rattle.r_fold.proofs.Meaning.{fold_keeps}
+use Rattle.r_fold.proofs.rule.apply.Goals as goal
+
+pub returns-clause-kept : goal.returns-clause-kept
+returns-clause-kept c =
+    subst (λ (l : PlainLambda). IsWellFormed l) (sym c.in_ok-change_lambda.ensures.ok) (fold_well_formed c.args.node c.args.lambda.now c.requires.well_formed)
+
+pub returns-clause-meaning : goal.returns-clause-meaning
+returns-clause-meaning c =
+    subst (λ (l : PlainLambda). KeepsMeaning c.args.lambda.now l) (sym c.in_ok-change_lambda.ensures.ok) (fold_keeps c.args.node c.args.lambda.now c.requires.well_formed)

@@ -1,0 +1,81 @@
+-- Folding as it is done: a plan for a node is made first, and then carried out.
+use Rattle.std.specs.Prelude.{ℕ, ◌%◌, ◌^◌, Bool, false, if◌then◌else◌, List, [], ◌∷◌, option_map}
+use Rattle.std.specs.declared.option.Option.{Option}
+use Rattle.std.specs.declared.option.Option.TheVariants.{Some, None}
+use Rattle.val_core.specs.declared.operation.Op2.{Op2}
+use Rattle.val_core.specs.declared.operation.Op1.{Op1}
+use Rattle.val_core.specs.Words.{word1}
+use Rattle.g_graph.specs.declared.op.Op.{Op}
+use Rattle.g_graph.specs.declared.op.Op.TheVariants.{Const, Bin, Un, Gamma, Theta}
+use Rattle.g_graph.specs.declared.op.Origin.{Origin}
+use Rattle.g_graph.specs.declared.op.Origin.TheVariants.{Out}
+use Rattle.g_graph.specs.Plain.{RegionTree, region, NodeTree, node, NodeTrees, RegionTrees, no_regions, region_then}
+use Rattle.g_graph.specs.Replace.{region_redirected, moved}
+use Rattle.g_graph.specs.Splice.{placed, region_spliced}
+use Rattle.r_fold.specs.declared.plan.Plan.{Plan}
+use Rattle.r_fold.specs.declared.plan.Plan.TheVariants.{Word, Input, Part}
+use Rattle.r_fold.specs.Rule.{constant, is_word, Folded, word, input, part, bin_folded, gamma_folded, theta_folded, node_set, is_used}
+
+-- the inputs of a part are put in the place of its arguments
+abbrev pub planned : Folded → Plan
+planned (word w) = Word w
+planned (input a) = Input a
+planned (part r inputs) = Part (region_redirected (placed inputs) r)
+
+abbrev pub op_of : NodeTree → Op
+op_of (node id op inputs rs) = op
+
+abbrev pub op_word : Op → Option ℕ
+op_word (Const w) = Some (w % 2 ^ 32)
+op_word op = None
+
+-- ---- the rows of the rule, by op
+
+abbrev pub bin_row : NodeTrees → Op2 → List Origin → Option Folded
+bin_row nodes op (a ∷ b ∷ []) = bin_folded op a b (constant nodes a) (constant nodes b)
+bin_row nodes op inputs = None
+
+abbrev pub un_row : NodeTrees → Op1 → List Origin → Option Folded
+un_row nodes op (a ∷ []) = option_map (λ u. word (word1 op u)) (constant nodes a)
+un_row nodes op inputs = None
+
+abbrev pub gamma_row : NodeTrees → List Origin → RegionTrees → Option Folded
+gamma_row nodes [] rs = None
+gamma_row nodes (p ∷ entries) rs = gamma_folded rs entries (constant nodes p)
+
+abbrev pub theta_row : List Origin → RegionTrees → Option Folded
+theta_row inputs (region_then r no_regions) = theta_folded r inputs
+theta_row inputs rs = None
+
+-- the rows of nodes without regions, and of those with
+abbrev pub plain_row : NodeTrees → NodeTree → Option Folded
+plain_row nodes (node id (Bin op) inputs rs) = bin_row nodes op inputs
+plain_row nodes (node id (Un op) inputs rs) = un_row nodes op inputs
+plain_row nodes (node id op inputs rs) = None
+
+abbrev pub part_row : NodeTrees → NodeTree → Option Folded
+part_row nodes (node id Gamma inputs rs) = gamma_row nodes inputs rs
+part_row nodes (node id Theta inputs rs) = theta_row inputs rs
+part_row nodes (node id op inputs rs) = None
+
+-- whether the predicate is a constant 0 of the region
+abbrev pub runs_once : RegionTree → Bool
+runs_once (region args nodes []) = false
+runs_once (region args nodes (p ∷ results)) = is_word (Some 0) (constant nodes p)
+
+abbrev pub has_one_turn : RegionTrees → Bool
+has_one_turn (region_then r no_regions) = runs_once r
+has_one_turn rs = false
+
+-- ---- the change
+
+abbrev pub with_word : ℕ → ℕ → RegionTree → RegionTree
+with_word n w (region args nodes results) = region args (node_set n (node n (Const w) [] no_regions) nodes) results
+
+abbrev pub with_input : ℕ → Origin → RegionTree → Option RegionTree
+with_input n a r = if is_used (Out n 0) r then Some (region_redirected (moved (Out n 0) a) r) else None
+
+abbrev pub carried_out : ℕ → RegionTree → Plan → Option RegionTree
+carried_out n r (Word w) = Some (with_word n w r)
+carried_out n r (Input a) = with_input n a r
+carried_out n r (Part s) = Some (region_spliced n s r)

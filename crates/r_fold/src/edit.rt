@@ -1,0 +1,78 @@
+ghost use Rattle.std.specs.Prelude.{◌≡◌, [], MatchBool, IfOk, OnErr, is_some};
+ghost use Rattle.std.specs.declared.option.Option.TheVariants.{Some, None};
+ghost use Rattle.g_graph.specs.Plain.{node, no_regions, nodes_of};
+ghost use Rattle.r_fold.specs.Rule.{node_set};
+ghost use Rattle.r_fold.specs.Plan.{with_word, with_input, carried_out};
+
+use crate::plan::Plan;
+use crate::uses::is_used;
+use g_graph::{Move, NoMemory, Node, Op, Origin, Region, place_of, redirect_region, splice_region};
+use smallvec::SmallVec;
+use std::alloc::Global;
+
+// Whether the plan for the node changes the region.
+pub fn can_carry_out(region: &Region, id: u32, plan: &Plan) -> bool
+    ensures { result ≡ is_some (carried_out id region.now plan.now) }
+{
+    match plan {
+        Plan::Input(_) => is_used(region, Origin::Out { node: id, port: 0 }),
+        _ => true,
+    }
+}
+
+// Carries out the plan for the node, and answers whether it changes the region.
+pub fn carry_out(alloc: Global, region: &mut Region, id: u32, plan: Plan) -> Result<bool, NoMemory>
+    ensures ok { IfOk result (λ done. MatchBool done (carried_out id region.old plan ≡ Some region.new) ((carried_out id region.old plan ≡ None) × (region.new ≡ region.old))) }
+    ensures err { OnErr result (region.new ≡ region.old) }
+{
+    match plan {
+        Plan::Word(word) => {
+            put_word(alloc, region, id, word);
+            Ok(true)
+        }
+        Plan::Input(origin) => Ok(replace_uses(region, id, origin)),
+        Plan::Part(part) => {
+            splice_region(region, id, part)?;
+            Ok(true)
+        }
+    }
+}
+
+fn put_word(alloc: Global, region: &mut Region, id: u32, word: u32)
+    ensures { region.new ≡ with_word id word region.old }
+{
+    set_node(&mut region.nodes, id, const_node(alloc, id, word));
+}
+
+fn const_node(alloc: Global, id: u32, word: u32) -> Node
+    ensures { result ≡ node id (Op.Const word) [] no_regions }
+{
+    Node {
+        id,
+        op: Op::Const(word),
+        inputs: SmallVec::new(alloc),
+        regions: Vec::new(alloc),
+    }
+}
+
+// Replaces the first node of the number.
+fn set_node(nodes: &mut Vec<Node>, id: u32, node: Node)
+    ensures { nodes_of nodes.new.items ≡ node_set id node (nodes_of nodes.old.items) }
+{
+    match place_of(nodes, id) {
+        Some(place) => nodes[place] = node,
+        None => (),
+    }
+}
+
+// Replaces the uses of the node's first output, and answers whether there are any.
+fn replace_uses(region: &mut Region, id: u32, origin: Origin) -> bool
+    ensures { MatchBool result (with_input id origin region.old ≡ Some region.new) ((with_input id origin region.old ≡ None) × (region.new ≡ region.old)) }
+{
+    let from = Origin::Out { node: id, port: 0 };
+    if !is_used(region, from) {
+        return false;
+    }
+    redirect_region(region, &Move { from, to: origin });
+    true
+}
