@@ -5,8 +5,6 @@
 
 mod can_change;
 mod change;
-#[cfg(test)]
-mod check_tests;
 mod checking;
 mod copy;
 mod count;
@@ -26,8 +24,6 @@ mod replace;
 mod splicing;
 mod states;
 mod steps;
-#[cfg(test)]
-mod tests;
 mod unique;
 
 pub use can_change::{CanChange, can_change_lambda};

@@ -1,5 +1,8 @@
-use super::*;
-use crate::check_tests::{A, I, KINDS, M, alone, of, out, region, with_regions};
+use crate::checks::{A, I, KINDS, M, alone, of, out, region, with_regions};
+use g_graph::{
+    Lambda, NoMemory, Node, Object, Op, Origin, Region, check, copy_of, equal, ids, replace_uses,
+    splice, values,
+};
 use smallvec::SmallVec;
 use std::alloc::Global;
 use std::test::Fail;

@@ -1,0 +1,19 @@
+//! A slow interpreter of lambdas: it runs what the definitions of meaning say.
+//! Tests and comparisons of runs stand on it; it stands on the trees of g_graph and the meaning of g_mean.
+//! It promises that each of its answers is the definition's, at the given bound.
+#![tactic(auto)]
+
+mod answers;
+mod changes;
+mod data;
+mod frame;
+mod memory;
+mod ops;
+mod ports;
+mod run;
+mod steps;
+#[cfg(test)]
+mod tests;
+
+pub use data::{Answer, Block, Cell, Datum, Event, Output};
+pub use run::run_lambda;

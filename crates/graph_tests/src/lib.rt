@@ -1,0 +1,7 @@
+//! Tests of the graph's check, copies, counts and changes. No crate stands on it, and it has no function of its own.
+#![tactic(auto)]
+
+#[cfg(test)]
+mod changes;
+#[cfg(test)]
+mod checks;
