@@ -1,7 +1,9 @@
-//! Tests of the graph's check, copies, counts and changes. No crate stands on it, and it has no function of its own.
+//! Tests of the graph's check, copies, counts and changes, and of folding. No crate stands on it, and it has no function of its own.
 #![tactic(auto)]
 
 #[cfg(test)]
 mod changes;
 #[cfg(test)]
 mod checks;
+#[cfg(test)]
+mod folding;

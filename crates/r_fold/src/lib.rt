@@ -8,8 +8,6 @@ pub mod laws;
 mod part;
 mod plan;
 mod rule;
-#[cfg(test)]
-mod tests;
 mod uses;
 
 pub use rule::{applies, apply};

@@ -1,53 +1,17 @@
 // Lambdas of one region, folded at one of their nodes.
-use super::*;
+use crate::checks::{A, I, KINDS, M, of, out, region, with_regions};
 use g_graph::{Kind, Lambda, NoMemory, Node, Op, Origin, Region, check, equal, values};
-use smallvec::SmallVec;
+use r_fold::{applies, apply};
 use std::alloc::Global;
 use std::test::Fail;
 use val_core::Op2;
-
-const KINDS: [Kind; 3] = [Kind::Value, Kind::Memory, Kind::Io];
-
-const A: Origin = Origin::Arg(0);
-
-const M: Origin = Origin::Arg(1);
-
-const I: Origin = Origin::Arg(2);
-
-const fn out(node: u32, port: u32) -> Origin {
-    Origin::Out { node, port }
-}
-
-fn with_regions(
-    alloc: Global,
-    id: u32,
-    op: Op,
-    inputs: &[Origin],
-    regions: Vec<Region>,
-) -> Result<Node, NoMemory> {
-    let inputs = SmallVec::from_slice(alloc, inputs)?;
-    Ok(Node {
-        id,
-        op,
-        inputs,
-        regions,
-    })
-}
-
-fn of(alloc: Global, id: u32, op: Op, inputs: &[Origin]) -> Result<Node, NoMemory> {
-    with_regions(alloc, id, op, inputs, Vec::new(alloc))
-}
 
 fn constant(alloc: Global, id: u32, word: u32) -> Result<Node, NoMemory> {
     of(alloc, id, Op::Const(word), &[])
 }
 
-fn region(alloc: Global, nodes: Vec<Node>, results: &[Origin]) -> Result<Region, NoMemory> {
-    Ok(Region {
-        args: Vec::from_array(alloc, KINDS)?,
-        nodes,
-        results: Vec::from_slice(alloc, results)?,
-    })
+fn inside(alloc: Global, nodes: Vec<Node>, results: &[Origin]) -> Result<Region, NoMemory> {
+    region(alloc, &KINDS, nodes, results)
 }
 
 fn lambda(alloc: Global, body: Region) -> Lambda {
@@ -99,7 +63,7 @@ fn on_constants(alloc: Global, left: u32, right: u32, op: Op) -> Result<Region, 
             of(alloc, 2, op, inputs)?,
         ],
     )?;
-    region(alloc, nodes, &[out(2, 0), M, I])
+    inside(alloc, nodes, &[out(2, 0), M, I])
 }
 
 #[test]
@@ -145,7 +109,7 @@ fn on_one(
             of(alloc, 1, Op::Bin(op), &inputs)?,
         ],
     )?;
-    region(alloc, nodes, &[given, M, I])
+    inside(alloc, nodes, &[given, M, I])
 }
 
 #[test]
@@ -189,7 +153,7 @@ fn arm(alloc: Global, id: u32, next: u32, word: u32) -> Result<Region, NoMemory>
             of(alloc, next, Op::Bin(Op2::Xor), &[A, out(id, 0)])?,
         ],
     )?;
-    region(alloc, nodes, &[out(next, 0), M, I])
+    inside(alloc, nodes, &[out(next, 0), M, I])
 }
 
 // The node 1, a Gamma of two regions on this word.
@@ -202,7 +166,7 @@ fn choice(alloc: Global, word: u32) -> Result<Region, NoMemory> {
             with_regions(alloc, 1, Op::Gamma, &[out(0, 0), A, M, I], regions)?,
         ],
     )?;
-    region(alloc, nodes, &[out(1, 0), out(1, 1), out(1, 2)])
+    inside(alloc, nodes, &[out(1, 0), out(1, 1), out(1, 2)])
 }
 
 #[test]
@@ -219,20 +183,20 @@ fn the_chosen_region_stands_in_place(rt: HostRuntime) -> Result<(), Fail> {
 // The node 0, a Theta whose predicate is this word.
 fn repeated(alloc: Global, word: u32) -> Result<Region, NoMemory> {
     let nodes = Vec::from_array(alloc, [constant(alloc, 1, word)?])?;
-    let inside = region(alloc, nodes, &[out(1, 0), out(1, 0), M, I])?;
-    let regions = Vec::from_array(alloc, [inside])?;
+    let repeated = inside(alloc, nodes, &[out(1, 0), out(1, 0), M, I])?;
+    let regions = Vec::from_array(alloc, [repeated])?;
     let nodes = Vec::from_array(
         alloc,
         [with_regions(alloc, 0, Op::Theta, &[A, M, I], regions)?],
     )?;
-    region(alloc, nodes, &[out(0, 0), out(0, 1), out(0, 2)])
+    inside(alloc, nodes, &[out(0, 0), out(0, 1), out(0, 2)])
 }
 
 #[test]
 fn a_region_that_runs_once_stands_in_place(rt: HostRuntime) -> Result<(), Fail> {
     let alloc = rt.alloc();
     let nodes = Vec::from_array(alloc, [constant(alloc, 1, 0)?])?;
-    let once = region(alloc, nodes, &[out(1, 0), M, I])?;
+    let once = inside(alloc, nodes, &[out(1, 0), M, I])?;
     assert!(rt; folds_to(alloc, repeated(alloc, 0)?, 0, Some(once))?);
     assert!(rt; folds_to(alloc, repeated(alloc, 1)?, 0, None)?);
     Ok(())
