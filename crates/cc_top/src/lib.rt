@@ -98,6 +98,3 @@ fn carry_out<F: Files, I: Source, O: Sink>(
         } => generated::write_generated(files, start, functions, out),
     }
 }
-
-#[cfg(test)]
-mod tests;

@@ -1,6 +1,6 @@
 //! Builds through the top call, over files in memory.
-use crate::top;
 use cc_io::{MemFiles, MemSink, NoFailSource};
+use cc_top::top;
 use std::alloc::{AllocError, Global};
 use std::test::Fail;
 
