@@ -3,6 +3,7 @@
 #![tactic(auto)]
 
 use c_lex::lex;
+use c_parse::parse;
 use rv_isa::decode;
 use std::env;
 use std::io::{self, Read};
@@ -15,6 +16,20 @@ fn count_tokens(rt: &(impl Input + Print + AllocGlobal)) -> io::Result<()> {
     match lex(rt.alloc(), &source) {
         Ok(tokens) => println!(rt; "{} tokens", tokens.len()),
         Err(fault) => println!(rt; "{fault:?}"),
+    }
+}
+
+/// Reads a source from standard input and tells how many declarations it has at file scope, or its fault.
+fn count_declarations(rt: &(impl Input + Print + AllocGlobal)) -> io::Result<()> {
+    let mut source = Vec::new(rt.alloc());
+    rt.reader().read_to_end(&mut source)?;
+    let tokens = match lex(rt.alloc(), &source) {
+        Ok(tokens) => tokens,
+        Err(fault) => return println!(rt; "{fault:?}"),
+    };
+    match parse(rt.alloc(), &tokens, source.len() as u32) {
+        Ok(unit) => println!(rt; "{} declarations", unit.externals.len()),
+        Err(fault) => println!(rt; "{fault}"),
     }
 }
 
@@ -32,7 +47,8 @@ fn tell_instructions(rt: &(impl Input + Print + AllocGlobal)) -> io::Result<()> 
 fn main(rt: HostRuntime) -> io::Result<()> {
     match env::args(&rt)?.nth(1) {
         Some(word) if word.as_str() == "lex" => count_tokens(&rt),
+        Some(word) if word.as_str() == "parse" => count_declarations(&rt),
         Some(word) if word.as_str() == "decode" => tell_instructions(&rt),
-        _ => eprintln!(rt; "usage: bench lex | bench decode"),
+        _ => eprintln!(rt; "usage: bench lex | bench parse | bench decode"),
     }
 }

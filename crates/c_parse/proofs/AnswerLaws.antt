@@ -1,19 +1,17 @@
 -- The answer is determined, and where a shaped tree spells the tokens it is that tree.
-use Rattle.std.specs.Prelude.{◌≡◌, ◌⊎◌, ℕ, ◌+◌, ◌*◌, ◌<◌, ◌≤◌, max, List, [], ◌∷◌, ◌++◌, length, Option, Some, None, Result, Ok, Err}
+use Rattle.std.specs.Prelude.{◌≡◌, ◌⊎◌, ℕ, ◌<◌, ◌≤◌, List, [], ◌∷◌, ◌++◌, Ok, Err}
 use Rattle.std.proofs.Common.{refl, sym, ap, ◌∙◌, subst, inl, inr, arith}
 use Rattle.c_lex.specs.declared.token.Token.{Token}
 use Rattle.c_lex.specs.declared.token.TokenKind.{TokenKind}
 use Rattle.c_ast.specs.declared.external.Unit as ast
 use Rattle.c_ast.specs.Externals.{unit_tree}
-use Rattle.c_ast.specs.Nesting.{depth, deepest, depth_of, behind_token}
+use Rattle.c_ast.specs.Nesting.{depth, deepest, behind_token}
 use Rattle.c_ast.specs.Shape.{Shaped}
-use Rattle.c_ast.specs.Spelling.{kinds, tokens_of, spell}
+use Rattle.c_ast.specs.Spelling.{kinds, tokens_of}
 use Rattle.c_ast.specs.Tree.{Tree}
-use Rattle.c_grammar.specs.Beginnings.{WrongFrom}
 use Rattle.c_grammar.proofs.Judgement.{one_place}
 use Rattle.c_grammar.proofs.Places.{kinds_append}
-use Rattle.c_parse.specs.LeftOut.{first_left_out}
-use Rattle.c_parse.specs.Refusal.{FirstTooDeep, place_of, WrongAt, IsTreeOf, Answers, Agree, OneAnswer, Accepts, ShapedIsAccepted}
+use Rattle.c_parse.specs.Refusal.{FirstTooDeep, place_of, WrongAt, Answers, Agree, OneAnswer, ShapedIsAccepted}
 use Rattle.c_parse.specs.declared.fault.ParseFault.{ParseFault}
 use Rattle.c_parse.specs.declared.fault.ParseFault.TheVariants as fault
 use Rattle.c_parse.proofs.FirstDeep.{token_head, token_lower}

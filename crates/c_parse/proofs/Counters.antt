@@ -1,13 +1,7 @@
 -- The array of counters as a stack.
 use Rattle.std.proofs.Common.{◌≡◌, ℕ, ◌+◌, ◌-◌, ◌≤◌, ◌<◌, ◌≢◌, zero, suc, List, [], ◌∷◌, length, get_or, set, refl, ap, sym, ◌∙◌, arith, add-one, get_or-set_other, get_or-set_same}
-use Rattle.std.proofs.lemmas.List.Sums.{sum_by-cons}
 use Rattle.std.specs.List.{sum}
-use Rattle.c_lex.specs.declared.keyword.Keyword.TheVariants as word
-use Rattle.c_lex.specs.declared.token.Token.{Token}
-use Rattle.c_lex.specs.declared.token.TokenKind.{TokenKind}
-use Rattle.c_lex.specs.declared.token.TokenKind.TheVariants as kind
-use Rattle.c_ast.specs.Nesting.{raised, popped, ended, depth_of}
-use Rattle.c_ast.specs.Spelling.{kinds}
+use Rattle.c_ast.specs.Nesting.{raised, popped, depth_of}
 use Rattle.c_parse.specs.Counters.{below, stack, cleared}
 use Rattle.c_parse.proofs.FirstDeep.{sum-cons}
 

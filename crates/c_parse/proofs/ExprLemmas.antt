@@ -1,10 +1,7 @@
 -- Steps of the reader at expressions.
-use Rattle.std.proofs.Common.{◌≡◌, ℕ, zero, suc, ◌-◌, ◌+◌, ◌<◌, Bool, true, false, ◌==◌, ◌&&◌, List, [], ◌∷◌, Option, Some, None, refl, sym, ap, ◌∙◌, arith, eq-eqb}
-use Rattle.std.specs.Option.{option_and_then}
+use Rattle.std.proofs.Common.{◌≡◌, ℕ, zero, suc, ◌-◌, ◌+◌, ◌<◌, true, List, [], ◌∷◌, Some, None, refl, arith, eq-eqb}
 use Rattle.c_lex.specs.declared.punct.Punct.{Punct}
-use Rattle.c_lex.specs.declared.punct.Punct.TheVariants as m
 use Rattle.c_lex.specs.declared.token.Token.{Token}
-use Rattle.c_lex.specs.declared.token.TokenKind.{TokenKind}
 use Rattle.c_lex.specs.declared.token.TokenKind.TheVariants as kind
 use Rattle.c_ast.specs.declared.operator.AssignOp.{AssignOp}
 use Rattle.c_ast.specs.declared.operator.AssignOp.TheVariants as assign
@@ -16,18 +13,16 @@ use Rattle.c_ast.specs.declared.operator.Step.{Step}
 use Rattle.c_ast.specs.declared.operator.Step.TheVariants as step
 use Rattle.c_ast.specs.declared.operator.UnaryOp.{UnaryOp}
 use Rattle.c_ast.specs.declared.operator.UnaryOp.TheVariants as unary
-use Rattle.c_ast.specs.Classes.{Class, TypeName, SizeofOperand, Unary, includes, level_number}
-use Rattle.c_ast.specs.Grammar.{T, N, allowed, parts_of, production}
-use Rattle.c_ast.specs.Grammar as grammar
+use Rattle.c_ast.specs.Classes.{Class, level_number}
+use Rattle.c_ast.specs.Grammar.{T, parts_of, production}
 use Rattle.c_ast.specs.Labels.{Label}
-use Rattle.c_ast.specs.Labels as label
 use Rattle.c_ast.specs.Operators.{selection_label, selection_mark, step_mark, unary_mark, binary_mark, binary_level, assign_mark}
-use Rattle.c_ast.specs.Terminals.{Terminal, Mark, AnyName, BinaryMark, AssignMark, StepMark, UnaryMark, is, mark_number, is_step_mark, is_unary_mark, is_assign_mark, is_of_level, operator_level}
-use Rattle.c_ast.specs.Tree.{Tree, Node, Nil, Cons}
+use Rattle.c_ast.specs.Terminals.{Mark, AnyName, BinaryMark, AssignMark, StepMark, UnaryMark, is, mark_number, is_step_mark, is_unary_mark, is_assign_mark, is_of_level, operator_level}
+use Rattle.c_ast.specs.Tree.{Tree, Node, Cons}
 use Rattle.c_ast.proofs.ExprViews.{expr_views}
 use Rattle.c_ast.proofs.ListLemmas.{grows}
-use Rattle.c_grammar.specs.Reader.{Out, Done, Fail, Deep, and_then, read, step as reader_step, first, begun, parts, one, turns, goes_on, later, token, label_of}
-use Rattle.c_grammar.specs.Starts.{head, typed, at, start, next, operand, operand_next, operation, suffix, mark_suffix, parenthesis, operand_mark}
+use Rattle.c_grammar.specs.Reader.{Out, Done, and_then, read, step as reader_step, first, parts, turns, goes_on, later, token, label_of}
+use Rattle.c_grammar.specs.Starts.{head, next}
 use Rattle.c_parse.proofs.ReadLemmas.{loops, token-as, at_mark}
 use Rattle.c_parse.proofs.TypeViews.{type-tree}
 use Rattle.c_parse.proofs.SameClass.{sizeof-type, sizeof-other}

@@ -1,5 +1,5 @@
 -- The first token behind which the nesting is too deep, found from left to right.
-use Rattle.std.specs.Prelude.{◌≡◌, ℕ, ◌+◌, ◌-◌, ◌<◌, ◌≤◌, nat_le, max, if◌then◌else◌, Bool, true, false, List, [], ◌∷◌, ◌++◌, length, Option, Some, None, MatchOption}
+use Rattle.std.specs.Prelude.{◌≡◌, ℕ, ◌+◌, ◌-◌, ◌<◌, ◌≤◌, nat_le, if◌then◌else◌, Bool, true, false, List, [], ◌∷◌, ◌++◌, length, Option, Some, None, MatchOption}
 use Rattle.std.specs.List.{sum}
 use Rattle.std.proofs.Common.{refl, sym, ap, ◌∙◌, subst, arith, suc, drop, take, get_or, add-one, drop-cons}
 use Rattle.std.proofs.lemmas.Bool.Decides.{nat_tests}
@@ -12,7 +12,7 @@ use Rattle.c_lex.specs.declared.token.TokenKind.TheVariants as kind
 use Rattle.c_lex.specs.declared.keyword.Keyword.TheVariants as word
 use Rattle.c_lex.specs.declared.punct.Punct.{Punct}
 use Rattle.c_lex.specs.declared.punct.Punct.TheVariants as mark
-use Rattle.c_ast.specs.Nesting.{raised, popped, ended, behind_mark, behind_token, is_counted, depth_of, deepest, depth}
+use Rattle.c_ast.specs.Nesting.{popped, ended, behind_mark, behind_token, depth_of, deepest, depth}
 use Rattle.c_ast.specs.Spelling.{kinds}
 use Rattle.c_parse.specs.Refusal.{FirstTooDeep}
 

@@ -1,13 +1,13 @@
 -- From what the reader of the grammar says of the tokens to the parser's answer.
 use Rattle.std.specs.Prelude.{◌≡◌, ℕ, ◌+◌, ◌*◌, ◌≤◌, List, [], ◌∷◌, length, None, Ok, Err}
-use Rattle.std.proofs.Common.{refl, sym, subst}
+use Rattle.std.proofs.Common.{refl, sym, ap, ◌∙◌, subst}
 use Rattle.c_lex.specs.declared.token.Token.{Token}
 use Rattle.c_ast.specs.declared.external.Unit as ast
 use Rattle.c_ast.specs.Classes.{Many}
 use Rattle.c_ast.specs.Labels.{Externals}
 use Rattle.c_ast.specs.Externals.{unit_tree}
 use Rattle.c_ast.specs.Nesting.{depth}
-use Rattle.c_ast.specs.Shape.{FollowsGrammar, Shaped}
+use Rattle.c_ast.specs.Shape.{FollowsGrammar}
 use Rattle.c_ast.specs.Spelling.{kinds, tokens_of}
 use Rattle.c_ast.specs.Tree.{Tree}
 use Rattle.c_grammar.specs.Beginnings.{WrongFrom}
@@ -15,7 +15,7 @@ use Rattle.c_grammar.specs.Laws.{Says}
 use Rattle.c_grammar.specs.Reader.{Out, Done, Fail, Deep, read}
 use Rattle.c_grammar.proofs.Judgement.{reader_is_exact}
 use Rattle.c_parse.specs.LeftOut.{first_left_out}
-use Rattle.c_parse.specs.Refusal.{place_of, IsTreeOf, Answers}
+use Rattle.c_parse.specs.Refusal.{place_of, Answers}
 use Rattle.c_parse.specs.declared.fault.ParseFault.TheVariants as fault
 
 -- The tokens have passed both scans, and the reader's bound is high enough for them.
@@ -31,7 +31,7 @@ wrong : (n : ℕ) (ts rest : List Token) (end : ℕ) → Passed n ts → WrongFr
 wrong n ts rest end p w = (p.kept, p.shallow, record { rest = rest; wrong = w; at = refl })
 
 -- a tree and no tokens behind it
-pub read_whole : (n : ℕ) (ts : List Token) (u : ast.Unit) (end : ℕ) → Passed n ts → read n (Many Externals) ts ≡ Done (unit_tree u) [] → Answers ts end (Ok u)
+read_whole : (n : ℕ) (ts : List Token) (u : ast.Unit) (end : ℕ) → Passed n ts → read n (Many Externals) ts ≡ Done (unit_tree u) [] → Answers ts end (Ok u)
 read_whole n ts u end p e =
     let s : FollowsGrammar (unit_tree u) × (tokens_of (unit_tree u) ≡ ts) × ((v : Tree) → FollowsGrammar v → tokens_of v ≡ ts → v ≡ unit_tree u) =
     says n ts (Done (unit_tree u) []) p e in (
@@ -43,6 +43,10 @@ read_whole n ts u end p e =
       },
     )
 
+pub read_ended : (n : ℕ) (ts start rest : List Token) (u : ast.Unit) (end : ℕ) → Passed n ts → start ≡ ts → read n (Many Externals) start ≡ Done (unit_tree u) rest → rest ≡ [] → Answers ts end (Ok u)
+read_ended n ts start rest u end p same e none =
+    read_whole n ts u end p (ap (read n (Many Externals)) (sym same) ∙ e ∙ ap (Done (unit_tree u)) none)
+
 -- a tree and tokens behind it
 pub read_part : (n : ℕ) (ts : List Token) (t : Tree) (x : Token) (rest : List Token) (end : ℕ) → Passed n ts → read n (Many Externals) ts ≡ Done t (x ∷ rest) → Answers ts end (Err (fault.Syntax (place_of (x ∷ rest) end)))
 read_part n ts t x rest end p e = wrong n ts (x ∷ rest) end p (says n ts (Done t (x ∷ rest)) p e)
@@ -53,3 +57,5 @@ read_none n ts rest end p e = wrong n ts rest end p (says n ts (Fail rest) p e)
 
 pub never_deep : (n : ℕ) (ts : List Token) → Passed n ts → read n (Many Externals) ts ≡ Deep → ⊥
 never_deep n ts p e = says n ts Deep p e
+
+pub ruleset judging = (read_ended, read_part, read_none, never_deep)

@@ -1,5 +1,5 @@
 -- The grammar has no keyword that is left out.
-use Rattle.std.specs.Prelude.{◌≡◌, Bool, true, false, not, nat_le, ◌&&◌, ◌==◌, List, [], ◌∷◌, Option, Some, None, find, option_map, if◌then◌else◌}
+use Rattle.std.specs.Prelude.{◌≡◌, Bool, true, false, not, nat_le, ◌&&◌, List, [], ◌∷◌, None, find, option_map}
 use Rattle.std.proofs.Common.{refl, sym, ap, ◌∙◌}
 use Rattle.std.proofs.lemmas.Bool.{eqb-true}
 use Rattle.c_lex.specs.declared.keyword.Keyword.{Keyword}
@@ -13,7 +13,7 @@ use Rattle.c_ast.specs.Labels.{Label, Repeated, Optional}
 use Rattle.c_ast.specs.Labels as label
 use Rattle.c_ast.specs.Shape.{FollowsGrammar}
 use Rattle.c_ast.specs.Spelling.{spelled, tokens_of}
-use Rattle.c_ast.specs.Terminals.{Terminal, AnyName, AnyNumber, AnyChar, AnyText, Word, Mark, SignWord, AssignMark, BinaryMark, UnaryMark, StepMark, is, word_number}
+use Rattle.c_ast.specs.Terminals.{Terminal, Word, SignWord, is, word_number}
 use Rattle.c_ast.specs.Tree.{Tree, Leaf, Node, Nil, Cons}
 use Rattle.c_parse.specs.LeftOut.{is_left_out, first_left_out}
 

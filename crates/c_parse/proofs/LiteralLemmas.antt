@@ -1,12 +1,12 @@
 -- Constants and string literals as tokens.
-use Rattle.std.proofs.Common.{◌≡◌, ℕ, Bool, true, false, List, [], ◌∷◌, Option, Some, None, refl, ap, ◌∙◌, IsSome}
+use Rattle.std.proofs.Common.{◌≡◌, ℕ, Bool, false, List, Option, Some, None, refl, ap, IsSome}
 use Rattle.std.specs.Option.{option_and_then}
 use Rattle.c_lex.specs.declared.bytes.Bytes.{Bytes}
 use Rattle.c_lex.specs.declared.token.Token.{Token}
 use Rattle.c_lex.specs.declared.token.TokenKind.{TokenKind}
 use Rattle.c_lex.specs.declared.token.TokenKind.TheVariants as kind
 use Rattle.c_ast.specs.declared.token.Span.{Span}
-use Rattle.c_ast.specs.Expressions.{literal, expr_tree}
+use Rattle.c_ast.specs.Expressions.{expr_tree}
 use Rattle.c_ast.specs.declared.expression.Expr.TheVariants as expr
 use Rattle.c_ast.specs.Classes.{Class}
 use Rattle.c_ast.specs.Grammar.{parts_of, production}

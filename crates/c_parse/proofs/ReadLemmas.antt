@@ -1,5 +1,5 @@
 -- Steps of the reader, as the parser takes them.
-use Rattle.std.proofs.Common.{◌≡◌, ℕ, zero, suc, Bool, true, false, List, [], ◌∷◌, Option, Some, None, refl, sym, ap, ◌-◌, ◌<◌, ◌≤◌, ◌+◌, Result, Ok, Err, arith, ◌∙◌, IsSome, if◌then◌else◌, eq-eqb}
+use Rattle.std.proofs.Common.{◌≡◌, ℕ, zero, suc, Bool, true, false, List, [], ◌∷◌, Option, Some, None, refl, sym, ap, ◌-◌, ◌<◌, ◌≤◌, ◌+◌, Err, arith, ◌∙◌, IsSome, if◌then◌else◌, eq-eqb}
 use Rattle.c_lex.specs.declared.keyword.Keyword.{Keyword}
 use Rattle.c_lex.specs.declared.keyword.Keyword.TheVariants as w
 use Rattle.c_lex.specs.declared.name.Name.{Name}
@@ -11,12 +11,12 @@ use Rattle.c_lex.specs.declared.token.TokenKind.TheVariants as kind
 use Rattle.c_ast.specs.declared.token.Span.{Span}
 use Rattle.c_ast.specs.Parts.{mark, word, name, none_of}
 use Rattle.c_ast.specs.Terminals.{Terminal, Mark, Word, AnyName, SignWord, is, mark_number, word_number}
-use Rattle.c_ast.specs.Tree.{Tree, Leaf, Node, Nil, Cons}
+use Rattle.c_ast.specs.Tree.{Tree, Leaf, Node, Cons}
 use Rattle.c_grammar.specs.Reader.{Out, Done, Fail, Deep, token, and_then, read, step, first, begun, parts, turns, goes_on, later}
 use Rattle.c_grammar.specs.Starts.{head, at, start, next, begins_repeated}
-use Rattle.c_ast.specs.Classes.{Class, Many, Opt}
+use Rattle.c_ast.specs.Classes.{Class, Many}
 use Rattle.c_ast.specs.Grammar.{parts_of, production, repeated}
-use Rattle.c_ast.specs.Labels.{Repeated, Optional, Label, More}
+use Rattle.c_ast.specs.Labels.{Repeated, More}
 use Rattle.c_parse.specs.declared.fault.Fault.{Fault}
 use Rattle.c_parse.specs.declared.fault.Fault.TheVariants as fault
 use Rattle.c_parse.specs.Reading.{Gives, Takes, token_at, name_of}

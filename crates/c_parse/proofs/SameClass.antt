@@ -1,19 +1,18 @@
 -- Classes that read alike where one token cannot tell them apart.
-use Rattle.std.proofs.Common.{◌≡◌, ℕ, zero, suc, ◌-◌, ◌<◌, Bool, true, false, ◌&&◌, List, [], ◌∷◌, Option, Some, None, refl, sym, ap, ◌∙◌, arith}
+use Rattle.std.proofs.Common.{◌≡◌, ℕ, zero, suc, ◌-◌, ◌<◌, Bool, true, false, ◌&&◌, List, Option, Some, None, refl, ap, ◌∙◌, arith}
 use Rattle.c_lex.specs.declared.keyword.Keyword.TheVariants as w
 use Rattle.c_lex.specs.declared.punct.Punct.TheVariants as m
 use Rattle.c_lex.specs.declared.token.Token.{Token}
 use Rattle.c_lex.specs.declared.token.TokenKind.{TokenKind}
 use Rattle.c_lex.specs.declared.token.TokenKind.TheVariants as kind
-use Rattle.c_ast.specs.Classes.{Class, Many, Opt, BehindTag, BehindType, Body, Block, Init, Item, Stmt, ForFirst, Locals, Assign, Unary, SizeofOperand, Binary, Postfix, includes, class_number, same_class, level_number}
+use Rattle.c_ast.specs.Classes.{Class, Init, Assign, Unary, SizeofOperand, includes, class_number, same_class, level_number}
 use Rattle.c_ast.specs.Grammar.{allowed, parts_of, production}
 use Rattle.c_ast.specs.Labels.{Label}
 use Rattle.c_ast.specs.Labels as label
-use Rattle.c_ast.specs.Terminals.{Mark, Word, is, mark_number, is_step_mark, is_unary_mark, is_assign_mark, operator_level}
+use Rattle.c_ast.specs.Terminals.{Mark, is, mark_number, is_assign_mark, operator_level}
 use Rattle.c_ast.specs.Tree.{Tree, Node}
 use Rattle.c_grammar.specs.Reader.{Out, Done, Fail, Deep, and_then, read, step, first, begun, parts, turns, goes_on, label_of}
 use Rattle.c_grammar.specs.Starts.{head, typed, at, start, next, operand, operand_next, operation, suffix, mark_suffix, parenthesis, operand_mark, left, initialiser}
-use Rattle.c_parse.proofs.ReadLemmas.{at_mark}
 
 then_same : (o : Out) (f g : Tree → List Token → Out) → ((t : Tree) (k : List Token) → f t k ≡ g t k) → and_then o f ≡ and_then o g
 then_same (Done t k) f g same = same t k

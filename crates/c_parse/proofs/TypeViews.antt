@@ -3,12 +3,12 @@ use Rattle.std.proofs.Common.{◌≡◌, List, [], ◌∷◌, Option, ap}
 use Rattle.c_lex.specs.declared.punct.Punct.TheVariants as m
 use Rattle.c_ast.specs.declared.expression.Dimension.{Dimension}
 use Rattle.c_ast.specs.declared.expression.Expr.TheViews.{out-roll-TypeName}
-use Rattle.c_ast.specs.declared.expression.TypeName.{TypeName, roll-TypeName, out-TypeName}
+use Rattle.c_ast.specs.declared.expression.TypeName.{roll-TypeName}
 use Rattle.c_ast.specs.declared.specifier.Spec.{Spec}
-use Rattle.c_ast.specs.declared.statement.Block.{Block, roll-Block, out-Block}
+use Rattle.c_ast.specs.declared.statement.Block.{roll-Block}
 use Rattle.c_ast.specs.declared.statement.BlockItem.{BlockItem}
 use Rattle.c_ast.specs.declared.statement.BlockItem.TheViews.{out-roll-Block, out-roll-Group}
-use Rattle.c_ast.specs.declared.statement.Group.{Group, roll-Group, out-Group}
+use Rattle.c_ast.specs.declared.statement.Group.{roll-Group}
 use Rattle.c_ast.specs.declared.statement.Label.{Label}
 use Rattle.c_ast.specs.declared.statement.Stmt.{Stmt}
 use Rattle.c_ast.specs.declared.token.Span.{Span}

@@ -1,5 +1,5 @@
 -- What a function of the parser returned, against the reader of the grammar.
-use Rattle.std.specs.Prelude.{◌≡◌, ℕ, Bool, List, [], ◌∷◌, Option, Some, None, Result, Ok, Err}
+use Rattle.std.specs.Prelude.{◌≡◌, ℕ, Bool, List, ◌∷◌, Option, Some, None, Result, Ok, Err}
 use Rattle.c_lex.specs.declared.bytes.Bytes.{Bytes}
 use Rattle.c_lex.specs.declared.name.Name.{Name}
 use Rattle.c_lex.specs.declared.token.Token.{Token}

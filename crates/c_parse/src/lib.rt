@@ -3,14 +3,20 @@
 #![tactic(auto)]
 
 mod ahead;
+mod declaration;
 mod expression;
+mod external;
 mod fault;
 pub mod laws;
 mod left_out;
 mod literals;
 mod nesting;
 mod operators;
+mod parser;
 mod specifier;
+mod statement;
 mod tokens;
 
 pub use fault::ParseFault;
+pub use parser::parse;
+

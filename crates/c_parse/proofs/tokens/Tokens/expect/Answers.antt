@@ -1,7 +1,6 @@
 use Rattle.std.proofs.Common.{sym, ◌∙◌}
-use Rattle.c_ast.specs.Terminals.{Mark, is}
-use Rattle.c_grammar.specs.Starts.{head}
-use Rattle.c_parse.proofs.ReadLemmas.{at_some, token-mark, token-fails}
+use Rattle.c_ast.specs.Terminals.{Mark}
+use Rattle.c_parse.proofs.ReadLemmas.{token-mark, token-fails}
 use Rattle.c_parse.proofs.tokens.Tokens.expect.Goals as goal
 
 pub returns-then-sees : goal.returns-then-sees

@@ -1,6 +1,5 @@
 use Rattle.std.proofs.Common.{sym, ◌∙◌}
-use Rattle.c_ast.specs.Terminals.{Word, is}
-use Rattle.c_grammar.specs.Starts.{head}
+use Rattle.c_ast.specs.Terminals.{Word}
 use Rattle.c_parse.proofs.ReadLemmas.{token-word, token-fails}
 use Rattle.c_parse.proofs.tokens.Tokens.expect_word.Goals as goal
 

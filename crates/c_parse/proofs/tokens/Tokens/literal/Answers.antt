@@ -1,4 +1,4 @@
-use Rattle.std.proofs.Common.{◌≡◌, Some, sym, ap, ◌∙◌}
+use Rattle.std.proofs.Common.{Some, sym, ap, ◌∙◌}
 use Rattle.std.specs.Option.{option_copied}
 use Rattle.c_parse.proofs.LiteralLemmas.{token-text}
 use Rattle.c_parse.proofs.tokens.Tokens.literal.Goals as goal
