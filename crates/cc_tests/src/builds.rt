@@ -6,10 +6,10 @@ use std::test::Fail;
 
 /// What a call of `build IN OUT` left.
 #[derive(Drop)]
-struct Left {
-    status: u8,
-    files: MemFiles,
-    report: MemSink,
+pub struct Left {
+    pub status: u8,
+    pub files: MemFiles,
+    pub report: MemSink,
 }
 
 fn words_of(alloc: Global, texts: &[&str]) -> Result<Vec<String>, AllocError> {
@@ -21,7 +21,7 @@ fn words_of(alloc: Global, texts: &[&str]) -> Result<Vec<String>, AllocError> {
 }
 
 /// Calls `top` with these words on a file `in` of these bytes, the numbered calls on the files failing.
-fn called(
+pub fn called(
     alloc: Global,
     texts: &[&str],
     source: &[u8],
@@ -48,7 +48,7 @@ fn called(
     })
 }
 
-const BUILD: [&str; 4] = ["rvcc", "build", "in", "out"];
+pub const BUILD: [&str; 4] = ["rvcc", "build", "in", "out"];
 
 const ANSWER: &[u8] = b"int main(void) { return 42; }";
 
@@ -57,13 +57,22 @@ const NOT_BUILT: &[u8] = b"refused NotBuilt 50 line 1\n";
 const REFUSED: [(&[u8], &[u8]); 19] = [
     (b"", NOT_BUILT),
     (b"int main(void) { return 1 + 1; }", NOT_BUILT),
-    (b"int main(void) { return 42; ", NOT_BUILT),
+    (
+        b"int main(void)\n{ return 42; ",
+        b"refused Syntax 23 line 2\n",
+    ),
     (b"int main(void) { return; }", NOT_BUILT),
     (b"int main(void) { return42; }", NOT_BUILT),
-    (b"intmain(void) { return 42; }", NOT_BUILT),
+    (
+        b"intmain(void) { return 42; }",
+        b"refused Syntax 23 line 1\n",
+    ),
     (b"int main() { return 42; }", NOT_BUILT),
     (b"int name(void) { return 42; }", NOT_BUILT),
-    (b"int main(void) { return 42; } x", NOT_BUILT),
+    (
+        b"int main(void) { return 42; } x",
+        b"refused Syntax 23 line 1\n",
+    ),
     (b"int main(void) { return 0xFFFFFFFF; }", NOT_BUILT),
     (b"int main(void) { return 7u; }", NOT_BUILT),
     (

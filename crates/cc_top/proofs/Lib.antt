@@ -1,4 +1,6 @@
 pub mod SourceLemmas
+pub mod RefusalLaws
+pub mod FirstForm
 pub mod Digits
 pub mod GenerateLemmas
 pub mod Standing

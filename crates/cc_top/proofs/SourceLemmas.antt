@@ -1,6 +1,6 @@
 -- A source that is longer than the limit is refused at the limit, so one byte more than the limit tells enough; and an
 -- accepted one returns an `int`.
-use Rattle.std.proofs.Common.{◌≡◌, ℕ, ◌%◌, ◌<◌, ◌^◌, ◌≤◌, true, false, List, [], ◌∷◌, Option, None, Some, length, take, refl, ap, sym, ◌∙◌, subst, inl, inr, nat_lt, option_map, arith}
+use Rattle.std.proofs.Common.{◌≡◌, ℕ, ◌%◌, ◌<◌, ◌^◌, ◌+◌, ◌≤◌, true, false, List, [], ◌∷◌, Option, None, Some, length, take, refl, ap, sym, ◌∙◌, subst, inl, inr, nat_lt, option_map, count_by, arith}
 use Rattle.std.proofs.Common.{Global, Result, Ok, Err, Vec, IfOk, IfErr}
 use Rattle.std.specs.Prelude.{Bool, if◌then◌else◌}
 use Rattle.std.specs.Option.{ForSome, option_and_then}
@@ -9,36 +9,59 @@ use Rattle.std.proofs.lemmas.Bool.{cases_lt, lt-ltb, ltb-false}
 use Rattle.std.proofs.lemmas.List.{take_all, length-take-le, take-take}
 use Rattle.c_lex.specs.Tokens.{lexed}
 use Rattle.c_lex.specs.declared.fault.LexFault.{LexFault}
-use Rattle.c_lex.specs.declared.fault.LexFault.TheVariants.{LongSource as TooLong}
+use Rattle.c_lex.specs.declared.fault.LexFault.TheVariants as fault
 use Rattle.c_lex.specs.declared.token.Token.{Token}
 use Rattle.c_lex.specs.declared.token.TokenKind.{TokenKind}
 use Rattle.c_lex.specs.declared.token.TokenKind.TheVariants as kind
 use Rattle.cc_top.specs.Layout.{image_of_constant}
 use Rattle.cc_top.specs.Program.{Compiles, ExitsWithin, instruction_count}
-use Rattle.cc_top.specs.Refusal.{refusal_of}
-use Rattle.cc_top.specs.Refused.{CompileFails, IsJudgedSo}
-use Rattle.cc_top.specs.Source.{after_return, built, constant_of, int_constant, is_end, and_behind, behind, judged, judged_as, last_constant, or_built, returned, returned_of}
+use Rattle.c_lex.specs.Results.{Fails}
+use Rattle.cc_top.specs.Refusal.{is_line_end, refusal_of, refused_at}
+use Rattle.cc_top.specs.declared.refusal.Rule.TheVariants.{BadByte, OpenComment, OpenText, BadText, TooWide, LongName, Directive, ManyTokens, BadNumber, LongSource}
+use Rattle.cc_top.specs.Refused.{CompileFails, IsJudgedSo, outcome_of_refusal}
+use Rattle.cc_top.specs.Source.{after_return, int_constant, is_end, and_behind, behind, IsRefused, IsRefusedBy, last_constant, returned, returned_by}
 use Rattle.cc_top.specs.declared.refusal.Refusal.{Refusal}
 use Rattle.cc_top.specs.declared.outcome.Outcome.{Outcome}
 use Rattle.cc_top.specs.declared.outcome.Outcome.TheVariants.{Done, Usage, ReadFault, WriteFault, Refused, BadImage, NoMemory, Exit, Stack, Budget, Stuck}
 use Rattle.cc_top.specs.declared.source.Part.TheVariants.{Semicolon, RightBrace}
 use Rattle.cc_top.proofs.ConstantExits.{constant_exits}
 
-too_long : (s : List ℕ) → 1048576 < length s → lexed s ≡ Err (TooLong 1048576)
+too_long : (s : List ℕ) → 1048576 < length s → lexed s ≡ Err (fault.LongSource 1048576)
 unfolding lexed
 too_long s long = rw (lt-ltb 1048576 (length s) long) refl
 
-pub judged-take : (s : List ℕ) → judged (take 1048577 s) ≡ judged s
-judged-take s =
+pub lexed_short : (s : List ℕ) (tokens : List Token) → lexed s ≡ Ok tokens → length s ≤ 1048576
+lexed_short s tokens is =
+    elim (cases_lt 1048576 (length s)) [
+      | inl long ↦ absurd (clash (sym (too_long s long) ∙ is))
+      | inr short ↦ short
+    ] where
+      clash : Err (fault.LongSource 1048576) ≡ Ok tokens → ⊥
+      clash e = cc
+
+pub returned-take : (s : List ℕ) → returned (take 1048577 s) ≡ returned s
+returned-take s =
     elim (cases_lt 1048576 (length s)) [
       | inl long ↦
           let whole : length (take 1048577 s) ≡ 1048577 = length-take-le 1048577 s (omega arith) in
-          rw (too_long (take 1048577 s) (omega arith), too_long s long, take-take 1048576 1048577 s (omega arith)) refl
-      | inr short ↦ ap judged (take_all 1048577 s (omega arith))
+          ap returned_by (too_long (take 1048577 s) (omega arith)) ∙ sym (ap returned_by (too_long s long))
+      | inr short ↦ ap returned (take_all 1048577 s (omega arith))
     ]
 
-pub returned-take : (s : List ℕ) → returned (take 1048577 s) ≡ returned s
-returned-take s = ap returned_of (judged-take s)
+-- what is wrong with the first bytes of a source is wrong with the source
+refused-long : (s : List ℕ) (refusal : Refusal) → 1048576 < length s → IsRefused (take 1048577 s) refusal → IsRefused s refusal
+refused-long s refusal long h =
+    let whole : length (take 1048577 s) ≡ 1048577 = length-take-le 1048577 s (omega arith) in
+    let front = subst (λ r. IsRefusedBy (take 1048577 s) r refusal) (too_long (take 1048577 s) (omega arith)) h in
+    let same : refused_at LongSource 1048576 (take 1048577 s) ≡ refused_at LongSource 1048576 s = ap (λ t. record { rule = LongSource; line = count_by is_line_end t + 1 }) (take-take 1048576 1048577 s (omega arith)) in
+    subst (λ r. IsRefusedBy s r refusal) (sym (too_long s long)) (ap Some (sym same) ∙ front)
+
+refused-take : (s : List ℕ) (refusal : Refusal) → IsRefused (take 1048577 s) refusal → IsRefused s refusal
+refused-take s refusal h =
+    elim (cases_lt 1048576 (length s)) [
+      | inl long ↦ refused-long s refusal long h
+      | inr short ↦ subst (λ t. IsRefused t refusal) (take_all 1048577 s (omega arith)) h
+    ]
 
 -- what a source compiles to is seen by its first bytes
 Compiles-take : (s bytes : List ℕ) → Compiles (take 1048577 s) bytes → Compiles s bytes
@@ -75,33 +98,23 @@ from_small : (o : Option (List Token)) (n : ℕ) → option_and_then last_consta
 from_small None n is = cc
 from_small (Some ts) n is = last_small ts n is
 
-built_small : (o : Option ℕ) (n : ℕ) → ((m : ℕ) → o ≡ Some m → m < 2 ^ 31) → returned_of (built o) ≡ Some n → n < 2 ^ 31
-built_small None n h is = cc
-built_small (Some m) n h is = h n is
-
-never_built : (o : Option Refusal) (n : ℕ) → returned_of (or_built o) ≡ Some n → n < 2 ^ 31
-never_built None n is = cc
-never_built (Some r) n is = cc
-
-judged_small : (s : List ℕ) (r : Result (List Token) LexFault) (n : ℕ) → returned_of (judged_as s r) ≡ Some n → n < 2 ^ 31
-judged_small s (Ok ts) n is = built_small (constant_of ts) n (λ m e. from_small (after_return ts) m e) is
-judged_small s (Err fault) n is = never_built (refusal_of fault s) n is
+read_small : (r : Result (List Token) LexFault) (n : ℕ) → returned_by r ≡ Some n → n < 2 ^ 31
+read_small (Ok ts) n is = from_small (after_return ts) n is
+read_small (Err e) n is = cc
 
 returned_small : (s : List ℕ) (n : ℕ) → returned s ≡ Some n → n < 2 ^ 31
-returned_small s n is = judged_small s (lexed s) n is
+returned_small s n is = read_small (lexed s) n is
 
 -- ---- what a source compiles to
 
 -- the image of a constant is that of each source that returns it
-pub compiles : (s : List ℕ) (n : ℕ) (bytes : List ℕ) → judged s ≡ Ok n → bytes ≡ image_of_constant n → Compiles s bytes
-compiles s n bytes judged_so image =
-    let is : returned s ≡ Some n = ap returned_of judged_so in
-    record {
-      image = ap (option_map image_of_constant) is ∙ ap Some (sym image);
-      exits = λ k is'.
-          let same : n ≡ k = cc in
-          subst (λ b. ExitsWithin (instruction_count k) b (k % 256)) (ap image_of_constant (sym same) ∙ sym image) (constant_exits k (returned_small s k is'));
-    }
+pub compiles : (s : List ℕ) (n : ℕ) (bytes : List ℕ) → returned s ≡ Some n → bytes ≡ image_of_constant n → Compiles s bytes
+compiles s n bytes is image = record {
+  image = ap (option_map image_of_constant) is ∙ ap Some (sym image);
+  exits = λ k is'.
+      let same : n ≡ k = cc in
+      subst (λ b. ExitsWithin (instruction_count k) b (k % 256)) (ap image_of_constant (sym same) ∙ sym image) (constant_exits k (returned_small s k is'));
+}
 
 -- what the bytes that were read compile to is what the source compiles to
 pub compiles_of_read : {E : Type 0} (s read : List ℕ) (r : Result (Vec ℕ Global) E) → read ≡ take 1048577 s
@@ -111,13 +124,13 @@ compiles_of_read s read (Err e) same c = tt
 
 -- what is wrong with the bytes that were read is wrong with the source
 fails-so : (name : Name) (e : Outcome) (told : Option FileSet) (unread : Type 0) (read : List ℕ) → ForSome told (λ files. read ≡ take 1048577 (content name files)) → IsJudgedSo read e → CompileFails name e told unread
-fails-so name (Refused refusal) told unread read same h = λ files is. sym (judged-take (content name files)) ∙ ap judged (sym (same files is)) ∙ h
+fails-so name (Refused refusal) told unread read same h = λ files is. refused-take (content name files) refusal (subst (λ t. IsRefused t refusal) (same files is) h)
 fails-so name NoMemory told unread read same h = tt
 fails-so name Done told unread read same h = absurd h
 fails-so name Usage told unread read same h = absurd h
 fails-so name ReadFault told unread read same h = absurd h
 fails-so name WriteFault told unread read same h = absurd h
-fails-so name (BadImage fault) told unread read same h = absurd h
+fails-so name (BadImage e) told unread read same h = absurd h
 fails-so name (Exit status) told unread read same h = absurd h
 fails-so name Stack told unread read same h = absurd h
 fails-so name Budget told unread read same h = absurd h
@@ -127,3 +140,18 @@ pub fails_of_read : {T : Type 0} (name : Name) (told : Option FileSet) (unread :
     → IfErr r (IsJudgedSo read) → IfErr r (λ e. CompileFails name e told unread)
 fails_of_read name told unread read (Ok x) same h = tt
 fails_of_read name told unread read (Err e) same h = fails-so name e told unread read same h
+
+-- ---- the outcome of a source that is not compiled
+
+pub lexical : (s : List ℕ) (f : LexFault) → Fails f (lexed s) → IsJudgedSo s (outcome_of_refusal (refusal_of f s))
+lexical s (fault.BadByte at) h = subst (λ r. IsRefusedBy s r (refused_at BadByte at s)) (sym h) refl
+lexical s (fault.OpenComment at) h = subst (λ r. IsRefusedBy s r (refused_at OpenComment at s)) (sym h) refl
+lexical s (fault.OpenText at) h = subst (λ r. IsRefusedBy s r (refused_at OpenText at s)) (sym h) refl
+lexical s (fault.BadText at) h = subst (λ r. IsRefusedBy s r (refused_at BadText at s)) (sym h) refl
+lexical s (fault.TooWide at) h = subst (λ r. IsRefusedBy s r (refused_at TooWide at s)) (sym h) refl
+lexical s (fault.LongName at) h = subst (λ r. IsRefusedBy s r (refused_at LongName at s)) (sym h) refl
+lexical s (fault.Directive at) h = subst (λ r. IsRefusedBy s r (refused_at Directive at s)) (sym h) refl
+lexical s (fault.ManyTokens at) h = subst (λ r. IsRefusedBy s r (refused_at ManyTokens at s)) (sym h) refl
+lexical s (fault.BadNumber at) h = subst (λ r. IsRefusedBy s r (refused_at BadNumber at s)) (sym h) refl
+lexical s (fault.LongSource at) h = subst (λ r. IsRefusedBy s r (refused_at LongSource at s)) (sym h) refl
+lexical s fault.NoMemory h = tt

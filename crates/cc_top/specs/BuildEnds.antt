@@ -1,11 +1,11 @@
 -- How `build` ends: the cause of each outcome, and what the files hold then.
-use Rattle.std.specs.Prelude.{◌≡◌, ◌⊎◌, ℕ, List, take, Err, option_map}
+use Rattle.std.specs.Prelude.{◌≡◌, ◌⊎◌, ℕ, List, take, option_map}
 use Rattle.std.specs.Option.{ForSome}
 use Rattle.cc_io.specs.Faults.{Rose}
 use Rattle.cc_io.specs.Files.{Name, content, put_file}
 use Rattle.cc_top.specs.Outside.{FilesSeen}
 use Rattle.cc_top.specs.Program.{Compiles}
-use Rattle.cc_top.specs.Source.{judged}
+use Rattle.cc_top.specs.Source.{IsRefused}
 use Rattle.cc_top.specs.declared.outcome.Outcome.{Outcome}
 use Rattle.cc_top.specs.declared.outcome.Outcome.TheVariants.{Done, ReadFault, WriteFault, Refused, NoMemory}
 
@@ -42,6 +42,6 @@ BuildEnds source image ReadFault before after = ReadFails source before after ×
 BuildEnds source image WriteFault before after =
     WriteFails image before after
     × OfSource source before (λ text. (bytes : List ℕ) × Compiles text bytes × PutsPart image bytes before after)
-BuildEnds source image (Refused refusal) before after = OfSource source before (λ text. judged text ≡ Err refusal) × Keeps before after
+BuildEnds source image (Refused refusal) before after = OfSource source before (λ text. IsRefused text refusal) × Keeps before after
 BuildEnds source image NoMemory before after = Keeps before after
 BuildEnds source image _ before after = ⊥

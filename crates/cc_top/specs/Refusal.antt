@@ -2,8 +2,10 @@
 use Rattle.std.specs.Prelude.{ℕ, Bool, ◌+◌, ◌==◌, List, take, count_by, codes, Option, Some, None}
 use Rattle.c_lex.specs.declared.fault.LexFault.{LexFault}
 use Rattle.c_lex.specs.declared.fault.LexFault.TheVariants as fault
+use Rattle.c_parse.specs.declared.fault.ParseFault.{ParseFault}
+use Rattle.c_parse.specs.declared.fault.ParseFault.TheVariants as tokens
 use Rattle.cc_top.specs.declared.refusal.Rule.{Rule}
-use Rattle.cc_top.specs.declared.refusal.Rule.TheVariants.{BadByte, OpenComment, OpenText, BadText, TooWide, LongName, Directive, ManyTokens, BadNumber, LongSource, NotBuilt}
+use Rattle.cc_top.specs.declared.refusal.Rule.TheVariants.{BadByte, OpenComment, OpenText, BadText, TooWide, LongName, Directive, ManyTokens, BadNumber, LongSource, LeftOut, TooDeep, Syntax, NotBuilt}
 use Rattle.cc_top.specs.declared.refusal.Refusal.{Refusal}
 
 abbrev pub number_of : Rule → ℕ
@@ -17,6 +19,9 @@ number_of Directive = 7
 number_of ManyTokens = 8
 number_of BadNumber = 9
 number_of LongSource = 10
+number_of LeftOut = 21
+number_of TooDeep = 22
+number_of Syntax = 23
 number_of NotBuilt = 50
 
 abbrev pub name_of : Rule → List ℕ
@@ -30,6 +35,9 @@ name_of Directive = codes "Directive"
 name_of ManyTokens = codes "ManyTokens"
 name_of BadNumber = codes "BadNumber"
 name_of LongSource = codes "LongSource"
+name_of LeftOut = codes "LeftOut"
+name_of TooDeep = codes "TooDeep"
+name_of Syntax = codes "Syntax"
 name_of NotBuilt = codes "NotBuilt"
 
 abbrev pub is_line_end : ℕ → Bool
@@ -55,6 +63,13 @@ refusal_of (fault.ManyTokens at) source = Some (refused_at ManyTokens at source)
 refusal_of (fault.BadNumber at) source = Some (refused_at BadNumber at source)
 refusal_of (fault.LongSource at) source = Some (refused_at LongSource at source)
 refusal_of fault.NoMemory source = None
+
+-- the refusal of a source whose tokens have this fault
+abbrev pub refusal_of_tokens : ParseFault → List ℕ → Option Refusal
+refusal_of_tokens (tokens.LeftOut at) source = Some (refused_at LeftOut at source)
+refusal_of_tokens (tokens.TooDeep at) source = Some (refused_at TooDeep at source)
+refusal_of_tokens (tokens.Syntax at) source = Some (refused_at Syntax at source)
+refusal_of_tokens tokens.Memory source = None
 
 -- the refusal of a source that is none of those that are compiled today
 abbrev pub not_built : Refusal

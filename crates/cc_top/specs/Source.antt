@@ -1,5 +1,5 @@
 -- The source texts that the compiler takes today: a `main` that returns one constant.
-use Rattle.std.specs.Prelude.{ℕ, Bool, true, false, List, [], ◌∷◌, length, Option, Some, None, Result, Ok, Err, codes, nat_lt, ◌==◌, if◌then◌else◌}
+use Rattle.std.specs.Prelude.{◌≡◌, ℕ, Bool, true, false, List, [], ◌∷◌, length, Option, Some, None, Result, Ok, Err, codes, nat_lt, ◌==◌, if◌then◌else◌}
 use Rattle.std.specs.Option.{option_and_then}
 use Rattle.std.specs.Str.{bytes_eq}
 use Rattle.c_lex.specs.Tokens.{lexed}
@@ -9,7 +9,10 @@ use Rattle.c_lex.specs.declared.punct.Punct.TheVariants as mark
 use Rattle.c_lex.specs.declared.token.Token.{Token}
 use Rattle.c_lex.specs.declared.token.TokenKind.{TokenKind}
 use Rattle.c_lex.specs.declared.token.TokenKind.TheVariants as kind
-use Rattle.cc_top.specs.Refusal.{refusal_of, not_built}
+use Rattle.c_ast.specs.declared.external.Unit as ast
+use Rattle.c_parse.specs.Refusal.{Answers}
+use Rattle.c_parse.specs.declared.fault.ParseFault.{ParseFault}
+use Rattle.cc_top.specs.Refusal.{refusal_of, refusal_of_tokens, not_built}
 use Rattle.cc_top.specs.declared.refusal.Refusal.{Refusal}
 use Rattle.cc_top.specs.declared.source.Part.{Part}
 use Rattle.cc_top.specs.declared.source.Part.TheVariants.{Int, Main, LeftParen, Void, RightParen, LeftBrace, Return, Semicolon, RightBrace}
@@ -58,27 +61,43 @@ last_constant (t ∷ ts) = if is_end (and_behind RightBrace (behind Semicolon ts
 abbrev pub constant_of : List Token → Option ℕ
 constant_of ts = option_and_then last_constant (after_return ts)
 
--- what these tokens of a source come to: the constant that is returned, or a refusal
-abbrev pub built : Option ℕ → Result ℕ Refusal
-built None = Err not_built
-built (Some n) = Ok n
-
-abbrev pub or_built : Option Refusal → Result ℕ Refusal
-or_built None = Err not_built
-or_built (Some refusal) = Err refusal
-
-abbrev pub judged_as : List ℕ → Result (List Token) LexFault → Result ℕ Refusal
-judged_as source (Ok tokens) = built (constant_of tokens)
-judged_as source (Err fault) = or_built (refusal_of fault source)
-
--- what a source comes to: the first fault of its text, or what its tokens come to
-abbrev pub judged : List ℕ → Result ℕ Refusal
-judged source = judged_as source (lexed source)
-
 -- the constant that an accepted source returns
-abbrev pub returned_of : Result ℕ Refusal → Option ℕ
-returned_of (Ok n) = Some n
-returned_of (Err refusal) = None
+abbrev pub returned_by : Result (List Token) LexFault → Option ℕ
+returned_by (Ok tokens) = constant_of tokens
+returned_by (Err fault) = None
 
 abbrev pub returned : List ℕ → Option ℕ
-returned source = returned_of (judged source)
+returned source = returned_by (lexed source)
+
+-- the refusal of a program, by the constant that it returns, where it is built
+abbrev pub unless_built : Option ℕ → Option Refusal
+unless_built None = Some not_built
+unless_built (Some constant) = None
+
+-- the refusal of tokens on which the parser answers so
+abbrev pub refusal_of_answer : Result ast.Unit ParseFault → List Token → List ℕ → Option Refusal
+refusal_of_answer (Ok unit) tokens source = unless_built (constant_of tokens)
+refusal_of_answer (Err fault) tokens source = refusal_of_tokens fault source
+
+-- Tokens are refused so: for the parser's fault, or as they are not built today.
+abbrev pub AreRefused : List Token → List ℕ → Refusal → Type 0
+AreRefused tokens source refusal =
+    (answer : Result ast.Unit ParseFault) × Answers tokens (length source) answer × (refusal_of_answer answer tokens source ≡ Some refusal)
+
+-- A source is refused so: for the first fault of its text, or for its tokens.
+abbrev pub IsRefusedBy : List ℕ → Result (List Token) LexFault → Refusal → Type 0
+IsRefusedBy source (Ok tokens) refusal = AreRefused tokens source refusal
+IsRefusedBy source (Err fault) refusal = refusal_of fault source ≡ Some refusal
+
+abbrev pub IsRefused : List ℕ → Refusal → Type 0
+IsRefused source refusal = IsRefusedBy source (lexed source) refusal
+
+-- ---- laws
+
+-- A source has at most one refusal.
+abbrev pub OneRefusal : Type 0
+OneRefusal = (source : List ℕ) (r s : Refusal) → IsRefused source r → IsRefused source s → r ≡ s
+
+-- A source that is accepted has none.
+abbrev pub AcceptedIsNotRefused : Type 0
+AcceptedIsNotRefused = (source : List ℕ) (n : ℕ) (r : Refusal) → returned source ≡ Some n → IsRefused source r → ⊥

@@ -1,7 +1,18 @@
 //! Laws of the definitions, each the contract of a function that does nothing.
 ghost use Rattle.cc_top.specs.Program.{ConstantExits};
+ghost use Rattle.cc_top.specs.Source.{AcceptedIsNotRefused, OneRefusal};
 
 /// The image of a constant exits with its low byte.
 pub fn constant_exits()
     ensures { ConstantExits }
+{}
+
+/// A source has at most one refusal.
+pub fn a_source_has_one_refusal()
+    ensures { OneRefusal }
+{}
+
+/// A source that is accepted is not refused.
+pub fn accepted_sources_are_not_refused()
+    ensures { AcceptedIsNotRefused }
 {}

@@ -1,8 +1,9 @@
 //! Why a source is refused.
 ghost use Rattle.std.specs.Prelude.{◌≡◌, ◌≤◌, ◌<◌, ◌^◌, count_by, length};
-ghost use Rattle.cc_top.specs.Refusal.{name_of, number_of, line_at, refused_at, refusal_of, is_line_end};
+ghost use Rattle.cc_top.specs.Refusal.{name_of, number_of, line_at, refused_at, refusal_of, refusal_of_tokens, is_line_end};
 
 use c_lex::LexFault;
+use c_parse::ParseFault;
 
 /// A rule that a source can break, or `NotBuilt` for a source that is none of those that are compiled today.
 #[derive(Clone, Copy, Debug, PartialEq, Eq)]
@@ -17,6 +18,9 @@ pub enum Rule {
     ManyTokens = 8,
     BadNumber = 9,
     LongSource = 10,
+    LeftOut = 21,
+    TooDeep = 22,
+    Syntax = 23,
     NotBuilt = 50,
 }
 
@@ -44,6 +48,9 @@ impl Rule {
             Rule::ManyTokens => "ManyTokens",
             Rule::BadNumber => "BadNumber",
             Rule::LongSource => "LongSource",
+            Rule::LeftOut => "LeftOut",
+            Rule::TooDeep => "TooDeep",
+            Rule::Syntax => "Syntax",
             Rule::NotBuilt => "NotBuilt",
         }
     }
@@ -102,6 +109,19 @@ pub fn refusal_of(fault: LexFault, source: &[u8]) -> Option<Refusal>
         LexFault::BadNumber(at) => (Rule::BadNumber, at),
         LexFault::LongSource(at) => (Rule::LongSource, at),
         LexFault::NoMemory => return None,
+    };
+    Some(refused_at(rule, at, source))
+}
+
+/// The refusal of a source whose tokens have this fault; `None` where memory was wanting.
+pub fn refusal_of_tokens(fault: ParseFault, source: &[u8]) -> Option<Refusal>
+    ensures { result ≡ refusal_of_tokens fault source.now }
+{
+    let (rule, at) = match fault {
+        ParseFault::LeftOut(at) => (Rule::LeftOut, at),
+        ParseFault::TooDeep(at) => (Rule::TooDeep, at),
+        ParseFault::Syntax(at) => (Rule::Syntax, at),
+        ParseFault::Memory => return None,
     };
     Some(refused_at(rule, at, source))
 }

@@ -1,15 +1,22 @@
 //! The source texts that are compiled today.
-ghost use Rattle.std.specs.Prelude.{◌≡◌, Ok, IfOk, IfErr, option_copied};
-ghost use Rattle.cc_top.specs.Source.{is_part, behind, after_return, int_constant, last_constant, constant_of, judged};
-ghost use Rattle.cc_top.specs.Refused.{IsJudgedSo, outcome_of};
+ghost use Rattle.std.specs.Prelude.{◌≡◌, ◌≤◌, Some, IfOk, IfErr, length, option_copied};
+ghost use Rattle.cc_top.specs.Source.{is_part, behind, after_return, int_constant, last_constant, constant_of, returned};
+ghost use Rattle.cc_top.specs.Refused.{AreJudgedSo, IsJudgedSo, outcome_of_refusal};
 
 use crate::outcome::Outcome;
-use crate::refusal::{Refusal, Rule, refusal_of};
-use c_lex::{Keyword, LexFault, Punct, Token, TokenKind, lex};
+use crate::refusal::{Refusal, Rule, refusal_of, refusal_of_tokens};
+use c_lex::{Keyword, Punct, Token, TokenKind, lex};
+use c_parse::parse;
 use std::alloc::Global;
 
 /// The most bytes that a source may have.
 pub const SOURCE_LIMIT: usize = 1_048_576;
+
+// The line of a source that is none of those that are compiled today is always 1.
+const NOT_BUILT: Refusal = Refusal {
+    rule: Rule::NotBuilt,
+    line: 1,
+};
 
 /// A part of the program that is compiled today, its constant apart.
 #[derive(Clone, Copy, Debug, PartialEq, Eq)]
@@ -96,25 +103,35 @@ fn constant_of(tokens: &[Token]) -> Option<u32>
 }
 
 /// The constant N, where the source is `int main(void) { return N; }`, with N of type `int`. Blanks, comments and include
-/// lines may stand between its tokens. Every other source is refused: by its first lexical fault, or as `NotBuilt`.
+/// lines may stand between its tokens. Every other source is refused: by its first lexical fault, by the parser's fault,
+/// or as `NotBuilt`.
 pub fn judge(alloc: Global, source: &[u8]) -> Result<u32, Outcome>
-    ensures ok { IfOk result (λ n. judged source.now ≡ Ok n) }
+    ensures ok { IfOk result (λ n. returned source.now ≡ Some n) }
     ensures err { IfErr result (IsJudgedSo source.now) }
 {
     let tokens = match lex(alloc, source) {
         Ok(tokens) => tokens,
-        Err(fault) => return Err(outcome_of(fault, source)),
+        Err(fault) => return Err(outcome_of(refusal_of(fault, source))),
     };
-    constant_of(&tokens).ok_or(Outcome::Refused(Refusal {
-        rule: Rule::NotBuilt,
-        line: 1,
-    }))
+    judge_tokens(alloc, &tokens, source)
 }
 
-fn outcome_of(fault: LexFault, source: &[u8]) -> Outcome
-    ensures { result ≡ outcome_of fault source.now }
+/// The constant that the tokens of a source return, or why they are refused.
+fn judge_tokens(alloc: Global, tokens: &[Token], source: &[u8]) -> Result<u32, Outcome>
+    requires { length source.now ≤ 1048576 }
+    ensures ok { IfOk result (λ n. constant_of tokens.now ≡ Some n) }
+    ensures err { IfErr result (AreJudgedSo tokens.now source.now) }
 {
-    match refusal_of(fault, source) {
+    match parse(alloc, tokens, source.len() as u32) {
+        Ok(_) => constant_of(tokens).ok_or(Outcome::Refused(NOT_BUILT)),
+        Err(fault) => Err(outcome_of(refusal_of_tokens(fault, source))),
+    }
+}
+
+fn outcome_of(refusal: Option<Refusal>) -> Outcome
+    ensures { result ≡ outcome_of_refusal refusal }
+{
+    match refusal {
         Some(refusal) => Outcome::Refused(refusal),
         None => Outcome::NoMemory,
     }
