@@ -19,4 +19,3 @@ mod tokens;
 
 pub use fault::ParseFault;
 pub use parser::parse;
-
