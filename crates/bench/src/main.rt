@@ -27,7 +27,8 @@ fn count_declarations(rt: &(impl Input + Print + AllocGlobal)) -> io::Result<()>
         Ok(tokens) => tokens,
         Err(fault) => return println!(rt; "{fault:?}"),
     };
-    match parse(rt.alloc(), &tokens, source.len() as u32) {
+    let length = u32::try_from(source.len()).unwrap_or(u32::MAX);
+    match parse(rt.alloc(), &tokens, length) {
         Ok(unit) => println!(rt; "{} declarations", unit.externals.len()),
         Err(fault) => println!(rt; "{fault}"),
     }

@@ -24,9 +24,9 @@ fn source_of(alloc: Global, row: &str) -> io::Result<String> {
     Ok(source)
 }
 
-/// Tells what the parser says of tokens.
-fn tell(rt: &(impl Print + AllocGlobal), tokens: &[Token], length: usize) -> io::Result<()> {
-    match parse(rt.alloc(), tokens, length as u32) {
+/// Tells what the parser says of tokens of a source of this length.
+fn tell(rt: &(impl Print + AllocGlobal), tokens: &[Token], length: u32) -> io::Result<()> {
+    match parse(rt.alloc(), tokens, length) {
         Ok(_) => println!(rt; "a program"),
         Err(ParseFault::LeftOut(at)) => println!(rt; "LeftOut {at}"),
         Err(ParseFault::TooDeep(at)) => println!(rt; "TooDeep {at}"),
@@ -47,9 +47,10 @@ fn tell_row(rt: &(impl Print + AllocGlobal), row: &str) -> io::Result<()> {
         Ok(tokens) => tokens,
         Err(fault) => return println!(rt; "{fault:?}"),
     };
+    let length = u32::try_from(source.len()).unwrap_or(u32::MAX);
     let from = if cuts { 0 } else { tokens.len() };
     for n in from..=tokens.len() {
-        tell(rt, &tokens[..n], source.len())?;
+        tell(rt, &tokens[..n], length)?;
     }
     Ok(())
 }
