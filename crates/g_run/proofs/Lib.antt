@@ -1,3 +1,4 @@
 mod Lists
 mod Events
 mod Runs
+mod Programs

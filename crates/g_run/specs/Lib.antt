@@ -1,3 +1,4 @@
 pub mod Views
 pub mod Frames
 pub mod Runs
+pub mod Programs

@@ -1,4 +1,4 @@
-//! A slow interpreter of lambdas: it runs what the definitions of meaning say.
+//! A slow interpreter of lambdas and programs: it runs what the definitions of meaning say.
 //! Tests and comparisons of runs stand on it; it stands on the trees of g_graph and the meaning of g_mean.
 //! It promises that each of its answers is the definition's, at the given bound.
 #![tactic(auto)]
@@ -7,13 +7,14 @@ mod answers;
 mod changes;
 mod data;
 mod frame;
+mod globals;
 mod memory;
 mod ops;
 mod ports;
+mod program;
 mod run;
 mod steps;
-#[cfg(test)]
-mod tests;
 
 pub use data::{Answer, Block, Cell, Datum, Event, Output};
+pub use program::run_program;
 pub use run::run_lambda;

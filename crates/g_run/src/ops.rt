@@ -20,7 +20,7 @@ use std::alloc::Global;
 use val_core::{BlockName, Value, value1, value2};
 
 // The first byte of the block numbered k of some the first of which has the number `base`.
-fn address(base: u64, k: u32, size: Option<u64>) -> Result<Value, NoMemory>
+pub fn address(base: u64, k: u32, size: Option<u64>) -> Result<Value, NoMemory>
     ensures { IfOk result (λ value. value ≡ block_address (base + k) size) }
 {
     let Some(size) = size else {
@@ -47,7 +47,7 @@ fn object_size(objects: &[Object], k: u32) -> Option<u64>
     }
 }
 
-fn global_size(sizes: &[u64], k: u32) -> Option<u64>
+pub fn global_size(sizes: &[u64], k: u32) -> Option<u64>
     ensures { result ≡ slice_get sizes.now k }
 {
     sizes.get(k as usize).copied()

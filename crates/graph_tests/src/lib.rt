@@ -1,4 +1,4 @@
-//! Tests of the graph's check, copies, counts and changes, and of folding. No crate stands on it, and it has no function of its own.
+//! Tests of the graph's check, copies, counts and changes, of folding, and of runs of small programs. No crate stands on it, and it has no function of its own.
 #![tactic(auto)]
 
 #[cfg(test)]
@@ -7,3 +7,7 @@ mod changes;
 mod checks;
 #[cfg(test)]
 mod folding;
+#[cfg(test)]
+mod programs;
+#[cfg(test)]
+mod running;
