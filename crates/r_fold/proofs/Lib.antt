@@ -7,4 +7,5 @@ pub mod PlanLemmas
 pub mod Chosen
 pub mod Keeps
 pub mod Meaning
+pub mod Lists
 mod Examples

@@ -1,3 +1,4 @@
 pub mod Rule
 pub mod Laws
 pub mod Plan
+pub mod Lists

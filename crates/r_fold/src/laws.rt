@@ -1,6 +1,7 @@
 //! Folding keeps meaning.
 
 ghost use Rattle.r_fold.specs.Laws.{FoldReplaces, FoldKeepsLambdas, FoldKeepsPrograms};
+ghost use Rattle.r_fold.specs.Lists.{FoldKeepsLists};
 
 /// A folded region of a well-formed lambda may replace it.
 pub fn fold_replaces()
@@ -11,4 +12,9 @@ pub fn fold_replaces()
 pub fn fold_keeps_meaning()
     ensures lambda { FoldKeepsLambdas }
     ensures program { FoldKeepsPrograms }
+{}
+
+/// A list of lambdas in which every call has its callee stays one where a well-formed lambda of it is folded.
+pub fn fold_keeps_lists()
+    ensures { FoldKeepsLists }
 {}

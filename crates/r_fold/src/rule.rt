@@ -4,6 +4,7 @@ ghost use Rattle.g_graph.specs.Plain.{nodes_of, nodes_in};
 ghost use Rattle.g_graph.specs.WellFormed.{IsWellFormed};
 ghost use Rattle.r_fold.specs.Rule.{node_at, folding, folded, fold_here, applies, fold};
 ghost use Rattle.r_fold.specs.Laws.{KeepsMeaning};
+ghost use Rattle.r_fold.specs.Lists.{KeepsLists};
 ghost use Rattle.r_fold.specs.Plan.{planned};
 
 use crate::constants::node_at;
@@ -32,6 +33,7 @@ pub fn apply(alloc: Global, lambda: &mut Lambda, node: u32) -> Result<(), NoMemo
     ensures ok { OnOk result (lambda.new ≡ fold node lambda.old) }
     ensures kept { OnOk result (IsWellFormed lambda.new) }
     ensures meaning { OnOk result (KeepsMeaning lambda.old lambda.new) }
+    ensures list { OnOk result (KeepsLists lambda.old lambda.new) }
     ensures err { OnErr result (lambda.new ≡ lambda.old) }
 {
     change_lambda(lambda, &mut Fold { alloc, node })?;

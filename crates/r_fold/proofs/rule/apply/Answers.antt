@@ -2,7 +2,9 @@ use Rattle.std.proofs.Common.{sym, subst}
 use Rattle.g_graph.specs.Plain.{PlainLambda}
 use Rattle.g_graph.specs.WellFormed.{IsWellFormed}
 use Rattle.r_fold.specs.Laws.{KeepsMeaning}
+use Rattle.r_fold.specs.Lists.{KeepsLists}
 use Rattle.r_fold.proofs.Keeps.{fold_well_formed}
+use Rattle.r_fold.proofs.Lists.{fold_keeps_lists}
 use Rattle.r_fold.proofs.Meaning.{fold_keeps}
 use Rattle.r_fold.proofs.rule.apply.Goals as goal
 
@@ -13,3 +15,7 @@ returns-clause-kept c =
 pub returns-clause-meaning : goal.returns-clause-meaning
 returns-clause-meaning c =
     subst (λ (l : PlainLambda). KeepsMeaning c.args.lambda.now l) (sym c.in_ok-change_lambda.ensures.ok) (fold_keeps c.args.node c.args.lambda.now c.requires.well_formed)
+
+pub returns-clause-list : goal.returns-clause-list
+returns-clause-list c =
+    subst (λ (l : PlainLambda). KeepsLists c.args.lambda.now l) (sym c.in_ok-change_lambda.ensures.ok) (fold_keeps_lists c.args.node c.args.lambda.now c.requires.well_formed)
