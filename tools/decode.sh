@@ -11,9 +11,9 @@ for program in riscv64-unknown-elf-objdump python3; do
 done
 folder=$(mktemp -d) || exit 1
 trap 'rm -rf "$folder"' EXIT
-program=crates/bench/out/bench
+program=crates/cc_bench/out/cc_bench
 if [ ! -x "$program" ]; then
-    (cd crates/bench && rt run -- lex <stdin >"$folder/log" 2>&1) || { tail -n 20 "$folder/log"; exit 1; }
+    (cd crates/cc_bench && rt run -- lex <stdin >"$folder/log" 2>&1) || { tail -n 20 "$folder/log"; exit 1; }
 fi
 
 # 250 words for each opcode of RV32IM, with the fields of registers and functions drawn by a fixed generator.

@@ -10,8 +10,8 @@ fi
 folder=$(mktemp -d) || exit 1
 trap 'rm -rf "$folder"' EXIT
 count=0
-head -n 300 crates/parse_rows/stdin >"$folder/sources"
-head -n 300 crates/parse_rows/stdout >"$folder/answers"
+head -n 300 crates/c_parse_tests/stdin >"$folder/sources"
+head -n 300 crates/c_parse_tests/stdout >"$folder/answers"
 while IFS= read -r source && IFS= read -r answer <&3; do
     case $source in *@*) continue ;; esac
     [ "$answer" = "a program" ] || continue

@@ -12,7 +12,7 @@ use Rattle.g_graph.specs.Scope.{same_kind, known, each_node}
 use Rattle.g_graph.specs.Change.{has_node}
 use Rattle.g_graph.specs.WellFormed.{all_of, are, same, inputs_fit, inputs_are_last, is_last, node_has_one_state_each, has_its_regions, regions_fit, theta_has_states, has_its_width, has_its_object, node_fits, nodes_fit, results_are_last, returns_state, region_has_one_state_each, region_fits, every_region, every_in_node, every_in_nodes}
 use Rattle.g_graph.specs.Replace.{nodes_redirected, region_redirected}
-use Rattle.g_graph.specs.Splice.{placed, without, joined_nodes, region_spliced}
+use Rattle.g_graph.specs.Splice.{args_to_inputs, outputs_to_results, joined_nodes, region_spliced}
 use Rattle.g_graph.proofs.ReplaceLemmas.{nodes_ids-redirected}
 use Rattle.g_graph.proofs.SpliceLemmas.{Split, nodes_ids-joined, every_in_nodes-joined, kind_after-joined}
 use Rattle.g_graph.proofs.UniqueLemmas.{first_true, second_true, times, times_append, times_cons, counts_of_distinct}
@@ -43,7 +43,7 @@ has_times m (node_then (node id op inputs rs) ns) e =
 pub own_times : (x : NodeTree) → 1 ≤ times (id_of x) (node_ids x)
 own_times (node id op inputs rs) = omega (arith, times_cons id id (regions_ids rs) ∙ ap (λ t. (if t then 1 else 0) + times id (regions_ids rs)) (same_number_true id))
 
--- of a node and what stands before and behind it each number stands once at most
+-- of a node and what stands before and after it each number stands once at most
 pub once_in : (next : ℕ) (before : NodeTrees) (x : NodeTree) (after : NodeTrees) → Numbered next (nodes_ids (joined_nodes before (node_then x after))) → (m : ℕ) →
     times m (nodes_ids before) + times m (node_ids x) + times m (nodes_ids after) ≤ 1
 once_in next before x after numbers m =
@@ -155,11 +155,11 @@ part_fits objects args before x after own nodes outs is here g = record {
 pub part_keeps : (objects n : ℕ) (args : List Kind) (ns : NodeTrees) (results : List Origin) (split : Split n ns) (own : List Kind) (nodes : NodeTrees) (outs is : List Origin) →
     every_region (region_fits objects) (region args ns results) ≡ true → NodeFits objects args split.before split.here split.after →
     PartGives objects args split.before split.here own nodes outs is →
-    KeptWithin objects (region args ns results) (region_spliced n (region_redirected (placed is) (region own nodes outs)) (region args ns results))
+    KeptWithin objects (region args ns results) (region_spliced n (region_redirected (args_to_inputs is) (region own nodes outs)) (region args ns results))
 part_keeps objects n args ns results split own nodes outs is e here g =
-    let placed_nodes = nodes_redirected (placed is) nodes in
-    let outputs = map (placed is) outs in
-    let moved_after = nodes_redirected (without n outputs) split.after in
+    let placed_nodes = nodes_redirected (args_to_inputs is) nodes in
+    let outputs = map (args_to_inputs is) outs in
+    let moved_after = nodes_redirected (outputs_to_results n outputs) split.after in
     record {
       kept = region_spliced_kept objects n args ns results own nodes outs is split (part_fits objects args split.before split.here split.after own nodes outs is here g) e;
       fewer = λ m.
@@ -174,8 +174,8 @@ part_keeps objects n args ns results split own nodes outs is e here g =
             times_append m (nodes_ids split.before) (nodes_ids (joined_nodes placed_nodes moved_after)),
             ap (times m) (nodes_ids-joined placed_nodes moved_after),
             times_append m (nodes_ids placed_nodes) (nodes_ids moved_after),
-            ap (times m) (nodes_ids-redirected (placed is) nodes),
-            ap (times m) (nodes_ids-redirected (without n outputs) split.after),
+            ap (times m) (nodes_ids-redirected (args_to_inputs is) nodes),
+            ap (times m) (nodes_ids-redirected (outputs_to_results n outputs) split.after),
             g.ids m,
           );
     }

@@ -14,7 +14,7 @@ use Rattle.g_graph.specs.Scope.{same_kind, is_of, known, last_place, origin_at, 
 use Rattle.g_graph.specs.Change.{has_node}
 use Rattle.g_graph.specs.WellFormed.{all_of, some_of, are, one_state_each, gives, is_last, node_fits, nodes_fit, results_are_last, returns_state, region_has_one_state_each, region_fits, every_region, every_in_node, every_in_nodes}
 use Rattle.g_graph.specs.Replace.{node_redirected, nodes_redirected, region_redirected}
-use Rattle.g_graph.specs.Splice.{placed, without, joined_nodes, nodes_spliced, region_spliced}
+use Rattle.g_graph.specs.Splice.{args_to_inputs, outputs_to_results, joined_nodes, nodes_spliced, region_spliced}
 use Rattle.g_graph.proofs.ReplaceLemmas.{nodes_of-redirected, kind_after-redirected, state_after-redirected, gives-redirected, every_in_nodes-redirected}
 use Rattle.g_graph.proofs.SpliceLemmas.{Split, joined_assoc, nodes_of-append, kind_after-joined, state_after-joined, gives-joined, every_in_nodes-joined}
 use Rattle.g_graph.proofs.UniqueLemmas.{first_true, second_true}
@@ -24,7 +24,7 @@ use Rattle.g_graph.proofs.MovedLemmas.{last_is_known}
 use Rattle.g_graph.proofs.PlaceLemmas.{either, same_number_true, has_node-joined, kind_absent, kind_present, kind_known, place_kind, place_none, same_kind_true, GivesState, KeepsState, state_cases, last_gives, gives_last, each_node-joined}
 
 -- a part whose arguments take these inputs, and whose results are the node's outputs; its nodes, those before the node
--- and those behind it have numbers apart
+-- and those after it have numbers apart
 pub record PartFits (objects : ℕ) (args : List Kind) (before : NodeTrees) (x : NodeTree) (after : NodeTrees) (own : List Kind) (part : NodeTrees) (outs is : List Origin) : Type 0 where
   pub inside : every_region (region_fits objects) (region own part outs) ≡ true
   pub entries : are (map (known args before) is) own ≡ true
@@ -146,39 +146,39 @@ module _ (objects : ℕ) (args : List Kind) (before : NodeTrees) (x : NodeTree) 
   in_part front rest w n h = ap (has_node n) w ∙ has_node-joined n front rest ∙ true_or (has_node n front) (has_node n rest) h
 
   before_known : (front rest : NodeTrees) → part ≡ joined_nodes front rest → (o : Origin) (k : Kind) → known args before o ≡ Some k →
-      known args (joined_nodes before (nodes_redirected (placed is) front)) o ≡ Some k
+      known args (joined_nodes before (nodes_redirected (args_to_inputs is) front)) o ≡ Some k
   before_known front rest w (Arg j) k e = e
   before_known front rest w (Out n p) k e =
-      kind_after-joined before (nodes_redirected (placed is) front) n p None ∙ kind_after-redirected (placed is) front n p (kind_after before n p None)
+      kind_after-joined before (nodes_redirected (args_to_inputs is) front) n p None ∙ kind_after-redirected (args_to_inputs is) front n p (kind_after before n p None)
       ∙ kind_absent front n p (kind_after before n p None) (absent (has_node n front) (λ h. s.part_before n (in_part front rest w n h) (kind_known before n p k e))) ∙ e
 
   part_known : (front rest : NodeTrees) → part ≡ joined_nodes front rest → (o : Origin) (k : Kind) → known own front o ≡ Some k →
-      known args (joined_nodes before (nodes_redirected (placed is) front)) (placed is o) ≡ Some k
+      known args (joined_nodes before (nodes_redirected (args_to_inputs is) front)) (args_to_inputs is o) ≡ Some k
   part_known front rest w (Arg j) k e =
       let r = entry_at args before is own j k s.entries s.entries_last e in
-      ap (λ t. known args (joined_nodes before (nodes_redirected (placed is) front)) (unwrap_or t (Arg j))) r.taken ∙ before_known front rest w r.origin k r.kind
+      ap (λ t. known args (joined_nodes before (nodes_redirected (args_to_inputs is) front)) (unwrap_or t (Arg j))) r.taken ∙ before_known front rest w r.origin k r.kind
   part_known front rest w (Out n p) k e =
-      kind_after-joined before (nodes_redirected (placed is) front) n p None ∙ kind_after-redirected (placed is) front n p (kind_after before n p None)
+      kind_after-joined before (nodes_redirected (args_to_inputs is) front) n p None ∙ kind_after-redirected (args_to_inputs is) front n p (kind_after before n p None)
       ∙ kind_present front n p (kind_after before n p None) None (kind_known front n p k e) ∙ e
 
-  part_state : (front : NodeTrees) (k : Kind) → last_state k args (joined_nodes before (nodes_redirected (placed is) front)) ≡ state_after k front (last_state k args before)
+  part_state : (front : NodeTrees) (k : Kind) → last_state k args (joined_nodes before (nodes_redirected (args_to_inputs is) front)) ≡ state_after k front (last_state k args before)
   part_state front k =
-      state_after-joined k before (nodes_redirected (placed is) front) (origin_at Arg (last_place k 0 (map Some args) None) None)
-      ∙ state_after-redirected (placed is) k front (last_state k args before)
+      state_after-joined k before (nodes_redirected (args_to_inputs is) front) (origin_at Arg (last_place k 0 (map Some args) None) None)
+      ∙ state_after-redirected (args_to_inputs is) k front (last_state k args before)
 
   part_last : (front rest : NodeTrees) → part ≡ joined_nodes front rest → (o : Origin) (k : Kind) → (k ≡ Value) ⊎ (last_state k own front ≡ Some o) →
-      (k ≡ Value) ⊎ (last_state k args (joined_nodes before (nodes_redirected (placed is) front)) ≡ Some (placed is o))
+      (k ≡ Value) ⊎ (last_state k args (joined_nodes before (nodes_redirected (args_to_inputs is) front)) ≡ Some (args_to_inputs is o))
   part_last front rest w o k (inl v) = inl v
   part_last front rest w o k (inr e) = by_state (state_cases k front)
     where
-      by_entry : (j : ℕ) → Entry args before is j k → Arg j ≡ o → KeepsState k front → (k ≡ Value) ⊎ (last_state k args (joined_nodes before (nodes_redirected (placed is) front)) ≡ Some (placed is o))
+      by_entry : (j : ℕ) → Entry args before is j k → Arg j ≡ o → KeepsState k front → (k ≡ Value) ⊎ (last_state k args (joined_nodes before (nodes_redirected (args_to_inputs is) front)) ≡ Some (args_to_inputs is o))
       by_entry j r same kept = by_last (last_gives k args before r.origin r.kind r.last)
         where
-          by_last : (k ≡ Value) ⊎ (last_state k args before ≡ Some r.origin) → (k ≡ Value) ⊎ (last_state k args (joined_nodes before (nodes_redirected (placed is) front)) ≡ Some (placed is o))
+          by_last : (k ≡ Value) ⊎ (last_state k args before ≡ Some r.origin) → (k ≡ Value) ⊎ (last_state k args (joined_nodes before (nodes_redirected (args_to_inputs is) front)) ≡ Some (args_to_inputs is o))
           by_last (inl v) = inl v
-          by_last (inr q) = inr (part_state front k ∙ kept.from (last_state k args before) ∙ q ∙ sym (ap (λ c. Some (unwrap_or c (Arg j))) r.taken) ∙ ap (λ c. Some (placed is c)) same)
+          by_last (inr q) = inr (part_state front k ∙ kept.from (last_state k args before) ∙ q ∙ sym (ap (λ c. Some (unwrap_or c (Arg j))) r.taken) ∙ ap (λ c. Some (args_to_inputs is c)) same)
 
-      by_place : (l : Option ℕ) → last_place k 0 (map Some own) None ≡ l → KeepsState k front → (k ≡ Value) ⊎ (last_state k args (joined_nodes before (nodes_redirected (placed is) front)) ≡ Some (placed is o))
+      by_place : (l : Option ℕ) → last_place k 0 (map Some own) None ≡ l → KeepsState k front → (k ≡ Value) ⊎ (last_state k args (joined_nodes before (nodes_redirected (args_to_inputs is) front)) ≡ Some (args_to_inputs is o))
       by_place None q r =
           let none : None ≡ Some o = sym (ap (λ l. origin_at Arg l None) q) ∙ sym (r.from (origin_at Arg (last_place k 0 (map Some own) None) None)) ∙ e in
           absurd (cc)
@@ -187,27 +187,27 @@ module _ (objects : ℕ) (args : List Kind) (before : NodeTrees) (x : NodeTree) 
           let same : Arg j ≡ o = cc in
           by_entry j (entry_at args before is own j k s.entries s.entries_last (some_at own j k (place_kind k (map Some own) j q).0)) same r
 
-      by_state : GivesState k front ⊎ KeepsState k front → (k ≡ Value) ⊎ (last_state k args (joined_nodes before (nodes_redirected (placed is) front)) ≡ Some (placed is o))
+      by_state : GivesState k front ⊎ KeepsState k front → (k ≡ Value) ⊎ (last_state k args (joined_nodes before (nodes_redirected (args_to_inputs is) front)) ≡ Some (args_to_inputs is o))
       by_state (inl g) =
           let given : Some (Out g.number g.port) ≡ Some o = sym (g.from (origin_at Arg (last_place k 0 (map Some own) None) None)) ∙ e in
           let same : Out g.number g.port ≡ o = cc in
-          inr (part_state front k ∙ g.from (last_state k args before) ∙ ap (λ c. Some (placed is c)) same)
+          inr (part_state front k ∙ g.from (last_state k args before) ∙ ap (λ c. Some (args_to_inputs is c)) same)
       by_state (inr r) = by_place (last_place k 0 (map Some own) None) refl r
 
-  part_map : (front rest : NodeTrees) → part ≡ joined_nodes front rest → ScopeMap own front args (joined_nodes before (nodes_redirected (placed is) front)) (placed is)
+  part_map : (front rest : NodeTrees) → part ≡ joined_nodes front rest → ScopeMap own front args (joined_nodes before (nodes_redirected (args_to_inputs is) front)) (args_to_inputs is)
   part_map front rest w = record { one = λ o e. by_kind o e (is_none_or (known own front o)) }
     where
       by_kind : (o : Origin) → is_last own front o ≡ true → (known own front o ≡ None) ⊎ ((j : Kind) × (known own front o ≡ Some j)) →
-          (known args (joined_nodes before (nodes_redirected (placed is) front)) (placed is o) ≡ known own front o) × (is_last args (joined_nodes before (nodes_redirected (placed is) front)) (placed is o) ≡ true)
+          (known args (joined_nodes before (nodes_redirected (args_to_inputs is) front)) (args_to_inputs is o) ≡ known own front o) × (is_last args (joined_nodes before (nodes_redirected (args_to_inputs is) front)) (args_to_inputs is o) ≡ true)
       by_kind o e (inl n) = absurd (last_is_known own front o e n)
       by_kind o e (inr q) =
           let kind = part_known front rest w o q.0 q.1 in
-          (kind ∙ sym q.1, gives_last q.0 args (joined_nodes before (nodes_redirected (placed is) front)) (placed is o) kind (part_last front rest w o q.0 (last_gives q.0 own front o q.1 e)))
+          (kind ∙ sym q.1, gives_last q.0 args (joined_nodes before (nodes_redirected (args_to_inputs is) front)) (args_to_inputs is o) kind (part_last front rest w o q.0 (last_gives q.0 own front o q.1 e)))
 
-  -- ---- origins of the nodes behind the node, and of the results, where the part stands
+  -- ---- origins of the nodes after the node, and of the results, where the part stands
 
   abbrev given : Origin → Origin
-  given o = without (id_of x) (map (placed is) outs) o
+  given o = outputs_to_results (id_of x) (map (args_to_inputs is) outs) o
 
   in_after : (front rest : NodeTrees) → after ≡ joined_nodes front rest → (n : ℕ) → has_node n front ≡ true → has_node n after ≡ true
   in_after front rest w n h = ap (has_node n) w ∙ has_node-joined n front rest ∙ true_or (has_node n front) (has_node n rest) h
@@ -220,28 +220,28 @@ module _ (objects : ℕ) (args : List Kind) (before : NodeTrees) (x : NodeTree) 
       absurd (cc))
 
   kept_out : (n p : ℕ) → (n == id_of x) ≡ false → given (Out n p) ≡ Out n p
-  kept_out n p q = ap (λ t. if t then unwrap_or (slice_get (map (placed is) outs) p) (Out n p) else Out n p) q
+  kept_out n p q = ap (λ t. if t then unwrap_or (slice_get (map (args_to_inputs is) outs) p) (Out n p) else Out n p) q
 
   kind_before : (front : NodeTrees) (n p : ℕ) → kind_after (joined_nodes before (node_then x front)) n p None ≡ kind_after front n p (if id_of x == n then joined (slice_get (output_kinds x) p) else kind_after before n p None)
   kind_before front n p = kind_after-joined before (node_then x front) n p None
 
   kind_behind : (front : NodeTrees) (n p : ℕ) →
-      kind_after (joined_nodes before (joined_nodes (nodes_redirected (placed is) part) (nodes_redirected given front))) n p None ≡ kind_after front n p (kind_after part n p (kind_after before n p None))
+      kind_after (joined_nodes before (joined_nodes (nodes_redirected (args_to_inputs is) part) (nodes_redirected given front))) n p None ≡ kind_after front n p (kind_after part n p (kind_after before n p None))
   kind_behind front n p =
-      kind_after-joined before (joined_nodes (nodes_redirected (placed is) part) (nodes_redirected given front)) n p None
-      ∙ kind_after-joined (nodes_redirected (placed is) part) (nodes_redirected given front) n p (kind_after before n p None)
-      ∙ kind_after-redirected given front n p (kind_after (nodes_redirected (placed is) part) n p (kind_after before n p None))
-      ∙ ap (kind_after front n p) (kind_after-redirected (placed is) part n p (kind_after before n p None))
+      kind_after-joined before (joined_nodes (nodes_redirected (args_to_inputs is) part) (nodes_redirected given front)) n p None
+      ∙ kind_after-joined (nodes_redirected (args_to_inputs is) part) (nodes_redirected given front) n p (kind_after before n p None)
+      ∙ kind_after-redirected given front n p (kind_after (nodes_redirected (args_to_inputs is) part) n p (kind_after before n p None))
+      ∙ ap (kind_after front n p) (kind_after-redirected (args_to_inputs is) part n p (kind_after before n p None))
 
-  behind_known : (front rest : NodeTrees) → after ≡ joined_nodes front rest → (o : Origin) (k : Kind) → known args (joined_nodes before (nodes_redirected (placed is) part)) o ≡ Some k →
-      known args (joined_nodes before (joined_nodes (nodes_redirected (placed is) part) (nodes_redirected given front))) o ≡ Some k
+  behind_known : (front rest : NodeTrees) → after ≡ joined_nodes front rest → (o : Origin) (k : Kind) → known args (joined_nodes before (nodes_redirected (args_to_inputs is) part)) o ≡ Some k →
+      known args (joined_nodes before (joined_nodes (nodes_redirected (args_to_inputs is) part) (nodes_redirected given front))) o ≡ Some k
   behind_known front rest w (Arg j) k e = e
   behind_known front rest w (Out n p) k e =
       let stands : (has_node n before || has_node n part) ≡ true =
-      sym (has_node-joined n before (nodes_redirected (placed is) part) ∙ ap (λ b. has_node n before || b) (has_node-redirected (placed is) n part))
-      ∙ kind_known (joined_nodes before (nodes_redirected (placed is) part)) n p k e in
+      sym (has_node-joined n before (nodes_redirected (args_to_inputs is) part) ∙ ap (λ b. has_node n before || b) (has_node-redirected (args_to_inputs is) n part))
+      ∙ kind_known (joined_nodes before (nodes_redirected (args_to_inputs is) part)) n p k e in
       kind_behind front n p ∙ kind_absent front n p (kind_after part n p (kind_after before n p None)) (absent (has_node n front) (λ h. by_side (or_cases (has_node n before) (has_node n part) stands) (in_after front rest w n h)))
-      ∙ sym (kind_after-joined before (nodes_redirected (placed is) part) n p None ∙ kind_after-redirected (placed is) part n p (kind_after before n p None)) ∙ e
+      ∙ sym (kind_after-joined before (nodes_redirected (args_to_inputs is) part) n p None ∙ kind_after-redirected (args_to_inputs is) part n p (kind_after before n p None)) ∙ e
     where
       by_side : (has_node n before ≡ true) ⊎ (has_node n part ≡ true) → has_node n after ≡ true → ⊥
       by_side (inl h) a = s.before_after n h a
@@ -250,44 +250,44 @@ module _ (objects : ℕ) (args : List Kind) (before : NodeTrees) (x : NodeTree) 
   exit_kind : (p : ℕ) (k : Kind) → slice_get (output_kinds x) p ≡ Some (Some k) → Exit (known own part) outs p k
   exit_kind p k e = exit_at (known own part) outs p k (ap (λ ks. slice_get ks p) s.exits ∙ e)
 
-  given_exit : (n p : ℕ) (k : Kind) (r : Exit (known own part) outs p k) → (n == id_of x) ≡ true → given (Out n p) ≡ placed is r.origin
+  given_exit : (n p : ℕ) (k : Kind) (r : Exit (known own part) outs p k) → (n == id_of x) ≡ true → given (Out n p) ≡ args_to_inputs is r.origin
   given_exit n p k r q =
-      ap (λ t. if t then unwrap_or (slice_get (map (placed is) outs) p) (Out n p) else Out n p) q ∙ ap (λ t. unwrap_or t (Out n p)) (map_at (placed is) outs p r.origin r.given)
+      ap (λ t. if t then unwrap_or (slice_get (map (args_to_inputs is) outs) p) (Out n p) else Out n p) q ∙ ap (λ t. unwrap_or t (Out n p)) (map_at (args_to_inputs is) outs p r.origin r.given)
 
   after_known : (front rest : NodeTrees) → after ≡ joined_nodes front rest → (o : Origin) (k : Kind) → known args (joined_nodes before (node_then x front)) o ≡ Some k →
-      known args (joined_nodes before (joined_nodes (nodes_redirected (placed is) part) (nodes_redirected given front))) (given o) ≡ Some k
+      known args (joined_nodes before (joined_nodes (nodes_redirected (args_to_inputs is) part) (nodes_redirected given front))) (given o) ≡ Some k
   after_known front rest w (Arg j) k e = e
   after_known front rest w (Out n p) k e = by_front (either (has_node n front))
     where
       by_number : has_node n front ≡ false → (n == id_of x) ≡ true ⊎ (n == id_of x) ≡ false →
-          known args (joined_nodes before (joined_nodes (nodes_redirected (placed is) part) (nodes_redirected given front))) (given (Out n p)) ≡ Some k
+          known args (joined_nodes before (joined_nodes (nodes_redirected (args_to_inputs is) part) (nodes_redirected given front))) (given (Out n p)) ≡ Some k
       by_number h (inl q) =
           let here : joined (slice_get (output_kinds x) p) ≡ Some k =
           sym (kind_before front n p ∙ kind_absent front n p (if id_of x == n then joined (slice_get (output_kinds x) p) else kind_after before n p None) h
           ∙ ap (λ t. if t then joined (slice_get (output_kinds x) p) else kind_after before n p None) (equal_back (id_of x) n ∙ q)) ∙ e in
           let r = exit_kind p k (joined_some (slice_get (output_kinds x) p) k here) in
-          ap (known args (joined_nodes before (joined_nodes (nodes_redirected (placed is) part) (nodes_redirected given front)))) (given_exit n p k r q)
-          ∙ behind_known front rest w (placed is r.origin) k (part_known part no_nodes (sym (joined_none part)) r.origin k r.kind)
+          ap (known args (joined_nodes before (joined_nodes (nodes_redirected (args_to_inputs is) part) (nodes_redirected given front)))) (given_exit n p k r q)
+          ∙ behind_known front rest w (args_to_inputs is r.origin) k (part_known part no_nodes (sym (joined_none part)) r.origin k r.kind)
       by_number h (inr q) =
           let earlier : kind_after before n p None ≡ Some k =
           sym (kind_before front n p ∙ kind_absent front n p (if id_of x == n then joined (slice_get (output_kinds x) p) else kind_after before n p None) h
           ∙ ap (λ t. if t then joined (slice_get (output_kinds x) p) else kind_after before n p None) (equal_back (id_of x) n ∙ q)) ∙ e in
-          ap (known args (joined_nodes before (joined_nodes (nodes_redirected (placed is) part) (nodes_redirected given front)))) (kept_out n p q)
+          ap (known args (joined_nodes before (joined_nodes (nodes_redirected (args_to_inputs is) part) (nodes_redirected given front)))) (kept_out n p q)
           ∙ kind_behind front n p ∙ kind_absent front n p (kind_after part n p (kind_after before n p None)) h
           ∙ kind_absent part n p (kind_after before n p None) (absent (has_node n part) (λ b. s.part_before n b (kind_known before n p k earlier))) ∙ earlier
 
       by_front : (has_node n front ≡ true) ⊎ (has_node n front ≡ false) →
-          known args (joined_nodes before (joined_nodes (nodes_redirected (placed is) part) (nodes_redirected given front))) (given (Out n p)) ≡ Some k
+          known args (joined_nodes before (joined_nodes (nodes_redirected (args_to_inputs is) part) (nodes_redirected given front))) (given (Out n p)) ≡ Some k
       by_front (inl h) =
-          ap (known args (joined_nodes before (joined_nodes (nodes_redirected (placed is) part) (nodes_redirected given front)))) (kept_out n p (not_behind front rest w n h))
+          ap (known args (joined_nodes before (joined_nodes (nodes_redirected (args_to_inputs is) part) (nodes_redirected given front)))) (kept_out n p (not_behind front rest w n h))
           ∙ kind_behind front n p
           ∙ kind_present front n p (kind_after part n p (kind_after before n p None)) (if id_of x == n then joined (slice_get (output_kinds x) p) else kind_after before n p None) h
           ∙ sym (kind_before front n p) ∙ e
       by_front (inr h) = by_number h (either (n == id_of x))
 
-  -- the scope behind the node, with the part
+  -- the scope after the node, with the part
   abbrev behind : NodeTrees → NodeTrees
-  behind front = joined_nodes before (joined_nodes (nodes_redirected (placed is) part) (nodes_redirected given front))
+  behind front = joined_nodes before (joined_nodes (nodes_redirected (args_to_inputs is) part) (nodes_redirected given front))
 
   state_before : (front : NodeTrees) (k : Kind) →
       last_state k args (joined_nodes before (node_then x front)) ≡ state_after k front (origin_at (λ p. Out (id_of x) p) (last_place k 0 (output_kinds x) None) (last_state k args before))
@@ -295,10 +295,10 @@ module _ (objects : ℕ) (args : List Kind) (before : NodeTrees) (x : NodeTree) 
 
   state_behind : (front : NodeTrees) (k : Kind) → last_state k args (behind front) ≡ state_after k front (state_after k part (last_state k args before))
   state_behind front k =
-      state_after-joined k before (joined_nodes (nodes_redirected (placed is) part) (nodes_redirected given front)) (origin_at Arg (last_place k 0 (map Some args) None) None)
-      ∙ state_after-joined k (nodes_redirected (placed is) part) (nodes_redirected given front) (last_state k args before)
-      ∙ state_after-redirected given k front (state_after k (nodes_redirected (placed is) part) (last_state k args before))
-      ∙ ap (state_after k front) (state_after-redirected (placed is) k part (last_state k args before))
+      state_after-joined k before (joined_nodes (nodes_redirected (args_to_inputs is) part) (nodes_redirected given front)) (origin_at Arg (last_place k 0 (map Some args) None) None)
+      ∙ state_after-joined k (nodes_redirected (args_to_inputs is) part) (nodes_redirected given front) (last_state k args before)
+      ∙ state_after-redirected given k front (state_after k (nodes_redirected (args_to_inputs is) part) (last_state k args before))
+      ∙ ap (state_after k front) (state_after-redirected (args_to_inputs is) k part (last_state k args before))
 
   own_fits : region_fits objects (region own part outs) ≡ true
   own_fits = first_true (region_fits objects (region own part outs)) (every_in_nodes (region_fits objects) part) s.inside
@@ -367,7 +367,7 @@ module _ (objects : ℕ) (args : List Kind) (before : NodeTrees) (x : NodeTree) 
           (last_gives k own part r.origin r.kind
           (all_at (is_last own part) outs p r.origin (second_true (nodes_fit objects (region own part outs)) (results_are_last (region own part outs)) own_last) r.given)))
         where
-          by_last : (k ≡ Value) ⊎ (last_state k args (joined_nodes before (nodes_redirected (placed is) part)) ≡ Some (placed is r.origin)) → (k ≡ Value) ⊎ (last_state k args (behind front) ≡ Some (given o))
+          by_last : (k ≡ Value) ⊎ (last_state k args (joined_nodes before (nodes_redirected (args_to_inputs is) part)) ≡ Some (args_to_inputs is r.origin)) → (k ≡ Value) ⊎ (last_state k args (behind front) ≡ Some (given o))
           by_last (inl v) = inl v
           by_last (inr t) =
               inr (state_behind front k ∙ kept.from (state_after k part (last_state k args before)) ∙ sym (part_state part k) ∙ t
@@ -423,23 +423,23 @@ module _ (objects : ℕ) (args : List Kind) (before : NodeTrees) (x : NodeTree) 
   gives_more : (k : Kind) → (k ≡ Value → ⊥) → gives k (behind after) ≡ true → gives k (joined_nodes before (node_then x after)) ≡ true
   gives_more k v g =
       gives-joined k before (node_then x after)
-      ∙ by_side (or_cases (gives k before) (gives k (joined_nodes (nodes_redirected (placed is) part) (nodes_redirected given after)))
-      (sym (gives-joined k before (joined_nodes (nodes_redirected (placed is) part) (nodes_redirected given after))) ∙ g))
+      ∙ by_side (or_cases (gives k before) (gives k (joined_nodes (nodes_redirected (args_to_inputs is) part) (nodes_redirected given after)))
+      (sym (gives-joined k before (joined_nodes (nodes_redirected (args_to_inputs is) part) (nodes_redirected given after))) ∙ g))
     where
       by_given : (k ≡ Value) ⊎ (some_of (is_of k) (output_kinds x) ≡ true) → (gives k before || (some_of (is_of k) (output_kinds x) || gives k after)) ≡ true
       by_given (inl w) = absurd (v w)
       by_given (inr t) = or_true (gives k before) (some_of (is_of k) (output_kinds x) || gives k after) (true_or (some_of (is_of k) (output_kinds x)) (gives k after) t)
 
-      by_part : (gives k (nodes_redirected (placed is) part) ≡ true) ⊎ (gives k (nodes_redirected given after) ≡ true) → (gives k before || (some_of (is_of k) (output_kinds x) || gives k after)) ≡ true
-      by_part (inl h) = by_given (gives_given k (sym (gives-redirected (placed is) k part) ∙ h))
+      by_part : (gives k (nodes_redirected (args_to_inputs is) part) ≡ true) ⊎ (gives k (nodes_redirected given after) ≡ true) → (gives k before || (some_of (is_of k) (output_kinds x) || gives k after)) ≡ true
+      by_part (inl h) = by_given (gives_given k (sym (gives-redirected (args_to_inputs is) k part) ∙ h))
       by_part (inr h) =
           or_true (gives k before) (some_of (is_of k) (output_kinds x) || gives k after) (or_true (some_of (is_of k) (output_kinds x)) (gives k after) (sym (gives-redirected given k after) ∙ h))
 
-      by_side : (gives k before ≡ true) ⊎ (gives k (joined_nodes (nodes_redirected (placed is) part) (nodes_redirected given after)) ≡ true) →
+      by_side : (gives k before ≡ true) ⊎ (gives k (joined_nodes (nodes_redirected (args_to_inputs is) part) (nodes_redirected given after)) ≡ true) →
           (gives k before || (some_of (is_of k) (output_kinds x) || gives k after)) ≡ true
       by_side (inl h) = true_or (gives k before) (some_of (is_of k) (output_kinds x) || gives k after) h
       by_side (inr h) =
-          by_part (or_cases (gives k (nodes_redirected (placed is) part)) (gives k (nodes_redirected given after)) (sym (gives-joined k (nodes_redirected (placed is) part) (nodes_redirected given after)) ∙ h))
+          by_part (or_cases (gives k (nodes_redirected (args_to_inputs is) part)) (gives k (nodes_redirected given after)) (sym (gives-joined k (nodes_redirected (args_to_inputs is) part) (nodes_redirected given after)) ∙ h))
 
   returns_more : (k : Kind) (r : Bool) → (k ≡ Value → ⊥) → (not (gives k (joined_nodes before (node_then x after))) || r) ≡ true → (not (gives k (behind after)) || r) ≡ true
   returns_more k r v e = by_gives (either (gives k (behind after)))
@@ -454,25 +454,25 @@ module _ (objects : ℕ) (args : List Kind) (before : NodeTrees) (x : NodeTree) 
       let all : (every_in_nodes T before && (every_in_node T x && every_in_nodes T after)) ≡ true = sym (every_in_nodes-joined T before (node_then x after)) ∙ e in
       let first = first_true (every_in_nodes T before) (every_in_node T x && every_in_nodes T after) all in
       let rest = second_true (every_in_node T x) (every_in_nodes T after) (second_true (every_in_nodes T before) (every_in_node T x && every_in_nodes T after) all) in
-      let middle : every_in_nodes T (nodes_redirected (placed is) part) ≡ true =
-      every_in_nodes-redirected T (placed is) part ∙ second_true (region_fits objects (region own part outs)) (every_in_nodes T part) s.inside in
+      let middle : every_in_nodes T (nodes_redirected (args_to_inputs is) part) ≡ true =
+      every_in_nodes-redirected T (args_to_inputs is) part ∙ second_true (region_fits objects (region own part outs)) (every_in_nodes T part) s.inside in
       let last : every_in_nodes T (nodes_redirected given after) ≡ true = every_in_nodes-redirected T given after ∙ rest in
-      every_in_nodes-joined T before (joined_nodes (nodes_redirected (placed is) part) (nodes_redirected given after))
-      ∙ (λ i. first i && (every_in_nodes-joined T (nodes_redirected (placed is) part) (nodes_redirected given after) ∙ (λ j. middle j && last j)) i)
+      every_in_nodes-joined T before (joined_nodes (nodes_redirected (args_to_inputs is) part) (nodes_redirected given after))
+      ∙ (λ i. first i && (every_in_nodes-joined T (nodes_redirected (args_to_inputs is) part) (nodes_redirected given after) ∙ (λ j. middle j && last j)) i)
 
 pub part_kept : (objects : ℕ) (args : List Kind) (before : List NodeTree) (x : NodeTree) (after : NodeTrees) (own : List Kind) (part : List NodeTree) (outs is results : List Origin) →
     PartFits objects args (nodes_of before) x after own (nodes_of part) outs is →
     every_region (region_fits objects) (region args (joined_nodes (nodes_of before) (node_then x after)) results) ≡ true →
     RegionKept objects (region args (joined_nodes (nodes_of before) (node_then x after)) results)
     (region args
-    (joined_nodes (nodes_of before) (joined_nodes (nodes_redirected (placed is) (nodes_of part)) (nodes_redirected (without (id_of x) (map (placed is) outs)) after)))
-    (map (without (id_of x) (map (placed is) outs)) results))
+    (joined_nodes (nodes_of before) (joined_nodes (nodes_redirected (args_to_inputs is) (nodes_of part)) (nodes_redirected (outputs_to_results (id_of x) (map (args_to_inputs is) outs)) after)))
+    (map (outputs_to_results (id_of x) (map (args_to_inputs is) outs)) results))
 part_kept objects args before x after own part outs is results s e =
-    let f = without (id_of x) (map (placed is) outs) in
+    let f = outputs_to_results (id_of x) (map (args_to_inputs is) outs) in
     let ns = joined_nodes (nodes_of before) (node_then x after) in
     let r = region args ns results in
     let fits = node_fits objects args in
-    let placed_part = map (node_redirected (placed is)) part in
+    let placed_part = map (node_redirected (args_to_inputs is)) part in
     let whole = first_true (region_fits objects r) (every_in_nodes (region_fits objects) ns) e in
     let inside = second_true (region_fits objects r) (every_in_nodes (region_fits objects) ns) e in
     let to_io = first_true (nodes_fit objects r && results_are_last r && returns_state Memory r && returns_state Io r) (region_has_one_state_each r) whole in
@@ -489,29 +489,29 @@ part_kept objects args before x after own part outs is results s e =
     second_true (fits (nodes_of before) x) (each_node fits (before ++ x ∷ []) after) (second_true (each_node fits [] (nodes_of before)) (each_node fits before (node_then x after)) split) in
     let own_fit =
     first_true (nodes_fit objects (region own (nodes_of part) outs)) (results_are_last (region own (nodes_of part) outs)) (own_last objects args (nodes_of before) x after own (nodes_of part) outs is s) in
-    let part_fit : each_node fits before (nodes_redirected (placed is) (nodes_of part)) ≡ true =
-    mapped_nodes_fit objects own args (placed is) [] before (nodes_of part) (λ front rest w. part_map objects args (nodes_of before) x after own (nodes_of part) outs is s front rest w) own_fit in
-    let behind_is : (ms : NodeTrees) → joined_nodes (nodes_of before) (joined_nodes (nodes_redirected (placed is) (nodes_of part)) ms) ≡ joined_nodes (nodes_of (before ++ placed_part)) ms =
+    let part_fit : each_node fits before (nodes_redirected (args_to_inputs is) (nodes_of part)) ≡ true =
+    mapped_nodes_fit objects own args (args_to_inputs is) [] before (nodes_of part) (λ front rest w. part_map objects args (nodes_of before) x after own (nodes_of part) outs is s front rest w) own_fit in
+    let behind_is : (ms : NodeTrees) → joined_nodes (nodes_of before) (joined_nodes (nodes_redirected (args_to_inputs is) (nodes_of part)) ms) ≡ joined_nodes (nodes_of (before ++ placed_part)) ms =
     λ ms.
     sym (ap (λ ks. joined_nodes ks ms) (nodes_of-append before placed_part) ∙ joined_assoc (nodes_of before) (nodes_of placed_part) ms
-    ∙ ap (λ ks. joined_nodes (nodes_of before) (joined_nodes ks ms)) (nodes_of-redirected (placed is) part)) in
+    ∙ ap (λ ks. joined_nodes (nodes_of before) (joined_nodes ks ms)) (nodes_of-redirected (args_to_inputs is) part)) in
     let moved_fit : each_node fits (before ++ placed_part) (nodes_redirected f after) ≡ true =
     mapped_nodes_fit objects args args f (before ++ x ∷ []) (before ++ placed_part) after
     (λ front rest w.
     subst (λ ks. ScopeMap args (joined_nodes (nodes_of (before ++ x ∷ [])) front) args ks f) (behind_is (nodes_redirected f front))
-    (subst (λ ks. ScopeMap args ks args (joined_nodes (nodes_of before) (joined_nodes (nodes_redirected (placed is) (nodes_of part)) (nodes_redirected f front))) f) (sym (joined_behind before x front))
+    (subst (λ ks. ScopeMap args ks args (joined_nodes (nodes_of before) (joined_nodes (nodes_redirected (args_to_inputs is) (nodes_of part)) (nodes_redirected f front))) f) (sym (joined_behind before x front))
     (after_map objects args (nodes_of before) x after own (nodes_of part) outs is s front rest w)))
     after_fit in
-    let all = mapped_all args ns args (joined_nodes (nodes_of before) (joined_nodes (nodes_redirected (placed is) (nodes_of part)) (nodes_redirected f after))) f
+    let all = mapped_all args ns args (joined_nodes (nodes_of before) (joined_nodes (nodes_redirected (args_to_inputs is) (nodes_of part)) (nodes_redirected f after))) f
     (after_map objects args (nodes_of before) x after own (nodes_of part) outs is s after no_nodes (sym (joined_none after))) results last in
-    let nodes_now : each_node fits [] (joined_nodes (nodes_of before) (joined_nodes (nodes_redirected (placed is) (nodes_of part)) (nodes_redirected f after))) ≡ true =
-    each_node-joined fits [] before (joined_nodes (nodes_redirected (placed is) (nodes_of part)) (nodes_redirected f after))
+    let nodes_now : each_node fits [] (joined_nodes (nodes_of before) (joined_nodes (nodes_redirected (args_to_inputs is) (nodes_of part)) (nodes_redirected f after))) ≡ true =
+    each_node-joined fits [] before (joined_nodes (nodes_redirected (args_to_inputs is) (nodes_of part)) (nodes_redirected f after))
     ∙ (λ i. front_fit i
-    && (ap (λ ks. each_node fits before (joined_nodes ks (nodes_redirected f after))) (sym (nodes_of-redirected (placed is) part)) ∙ each_node-joined fits before placed_part (nodes_redirected f after)
-    ∙ (λ j. (ap (each_node fits before) (nodes_of-redirected (placed is) part) ∙ part_fit) j && moved_fit j)) i) in
+    && (ap (λ ks. each_node fits before (joined_nodes ks (nodes_redirected f after))) (sym (nodes_of-redirected (args_to_inputs is) part)) ∙ each_node-joined fits before placed_part (nodes_redirected f after)
+    ∙ (λ j. (ap (each_node fits before) (nodes_of-redirected (args_to_inputs is) part) ∙ part_fit) j && moved_fit j)) i) in
     let memory_now = returns_more objects args (nodes_of before) x after own (nodes_of part) outs is s Memory (some_of (is_of Memory) (map (known args ns) results)) (λ v. absurd (cc)) memory in
     let io_now = returns_more objects args (nodes_of before) x after own (nodes_of part) outs is s Io (some_of (is_of Io) (map (known args ns) results)) (λ v. absurd (cc)) io in
-    let now = joined_nodes (nodes_of before) (joined_nodes (nodes_redirected (placed is) (nodes_of part)) (nodes_redirected f after)) in
+    let now = joined_nodes (nodes_of before) (joined_nodes (nodes_redirected (args_to_inputs is) (nodes_of part)) (nodes_redirected f after)) in
     let fits_now : region_fits objects (region args now (map f results)) ≡ true =
     λ i.
     nodes_now i && all.1 i && (ap (λ ks. not (gives Memory now) || some_of (is_of Memory) ks) all.0 ∙ memory_now) i && (ap (λ ks. not (gives Io now) || some_of (is_of Io) ks) all.0 ∙ io_now) i
@@ -530,30 +530,30 @@ nodes_of-list_of (node_then y ys) = ap (λ ns. node_then y ns) (nodes_of-list_of
 -- the region in which the part is spliced in the place of a node
 pub region_spliced_kept : (objects at : ℕ) (args : List Kind) (nodes : NodeTrees) (results : List Origin) (own : List Kind) (part : NodeTrees) (outs is : List Origin) (split : Split at nodes) →
     PartFits objects args split.before split.here split.after own part outs is → every_region (region_fits objects) (region args nodes results) ≡ true →
-    RegionKept objects (region args nodes results) (region_spliced at (region_redirected (placed is) (region own part outs)) (region args nodes results))
+    RegionKept objects (region args nodes results) (region_spliced at (region_redirected (args_to_inputs is) (region own part outs)) (region args nodes results))
 region_spliced_kept objects at args nodes results own part outs is split s e =
-    let O = map (placed is) outs in
-    let P = nodes_redirected (placed is) part in
+    let O = map (args_to_inputs is) outs in
+    let P = nodes_redirected (args_to_inputs is) part in
     let kept =
     subst
     (λ b.
     PartFits objects args b split.here split.after own part outs is → every_region (region_fits objects) (region args (joined_nodes b (node_then split.here split.after)) results) ≡ true →
     RegionKept objects (region args (joined_nodes b (node_then split.here split.after)) results)
-    (region args (joined_nodes b (joined_nodes P (nodes_redirected (without (id_of split.here) O) split.after))) (map (without (id_of split.here) O) results)))
+    (region args (joined_nodes b (joined_nodes P (nodes_redirected (outputs_to_results (id_of split.here) O) split.after))) (map (outputs_to_results (id_of split.here) O) results)))
     (nodes_of-list_of split.before)
     (subst
     (λ p.
     PartFits objects args (nodes_of (list_of split.before)) split.here split.after own p outs is →
     every_region (region_fits objects) (region args (joined_nodes (nodes_of (list_of split.before)) (node_then split.here split.after)) results) ≡ true →
     RegionKept objects (region args (joined_nodes (nodes_of (list_of split.before)) (node_then split.here split.after)) results)
-    (region args (joined_nodes (nodes_of (list_of split.before)) (joined_nodes (nodes_redirected (placed is) p) (nodes_redirected (without (id_of split.here) O) split.after)))
-    (map (without (id_of split.here) O) results)))
+    (region args (joined_nodes (nodes_of (list_of split.before)) (joined_nodes (nodes_redirected (args_to_inputs is) p) (nodes_redirected (outputs_to_results (id_of split.here) O) split.after)))
+    (map (outputs_to_results (id_of split.here) O) results)))
     (nodes_of-list_of part)
     (part_kept objects args (list_of split.before) split.here split.after own (list_of part) outs is results)) in
-    let same : region args (joined_nodes split.before (joined_nodes P (nodes_redirected (without (id_of split.here) O) split.after))) (map (without (id_of split.here) O) results)
-    ≡ region args (nodes_spliced at P O nodes) (map (without at O) results) =
-    ap (λ n. region args (joined_nodes split.before (joined_nodes P (nodes_redirected (without n O) split.after))) (map (without n O) results)) (same_number (id_of split.here) at split.numbered)
-    ∙ ap (λ ns. region args ns (map (without at O) results)) (sym (split.spliced P O)) in
-    subst (λ t. RegionKept objects t (region args (nodes_spliced at P O nodes) (map (without at O) results))) (ap (λ ns. region args ns results) (sym split.whole))
+    let same : region args (joined_nodes split.before (joined_nodes P (nodes_redirected (outputs_to_results (id_of split.here) O) split.after))) (map (outputs_to_results (id_of split.here) O) results)
+    ≡ region args (nodes_spliced at P O nodes) (map (outputs_to_results at O) results) =
+    ap (λ n. region args (joined_nodes split.before (joined_nodes P (nodes_redirected (outputs_to_results n O) split.after))) (map (outputs_to_results n O) results)) (same_number (id_of split.here) at split.numbered)
+    ∙ ap (λ ns. region args ns (map (outputs_to_results at O) results)) (sym (split.spliced P O)) in
+    subst (λ t. RegionKept objects t (region args (nodes_spliced at P O nodes) (map (outputs_to_results at O) results))) (ap (λ ns. region args ns results) (sym split.whole))
     (subst (λ t. RegionKept objects (region args (joined_nodes split.before (node_then split.here split.after)) results) t) same
     (kept s (ap (λ ns. every_region (region_fits objects) (region args ns results)) (sym split.whole) ∙ e)))

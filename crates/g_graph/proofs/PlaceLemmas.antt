@@ -119,7 +119,7 @@ place_kind k xs p e = by_either (either (some_of (is_of k) xs))
     by_either (inl h) =
         let r = place_found k 0 xs None h in
         let inside : Some (0 + r.place) ≡ Some p = sym r.reached ∙ e in
-        let moved : 0 + r.place ≡ p = cc in
+        let origin_replaced : 0 + r.place ≡ p = cc in
         let same : r.place ≡ p = omega arith in
         (ap (slice_get xs) (sym same) ∙ r.kind, h)
     by_either (inr h) =

@@ -14,7 +14,7 @@ use Rattle.g_graph.specs.Scope.{is_of, last_place, origin_at, state_after}
 use Rattle.g_graph.specs.WellFormed.{some_of, gives, every_in_node, every_in_nodes}
 use Rattle.g_graph.specs.Change.{has_node, place_of}
 use Rattle.g_graph.specs.Replace.{node_redirected, nodes_redirected}
-use Rattle.g_graph.specs.Splice.{joined_nodes, nodes_spliced, without}
+use Rattle.g_graph.specs.Splice.{joined_nodes, nodes_spliced, outputs_to_results}
 use Rattle.g_graph.proofs.ReplaceLemmas.{nodes_of-redirected}
 
 pub nodes_of-append : (xs ys : List NodeTree) → nodes_of (xs ++ ys) ≡ joined_nodes (nodes_of xs) (nodes_of ys)
@@ -26,7 +26,7 @@ nodes_spliced_none at first part outputs no_nodes e = refl
 nodes_spliced_none at first part outputs (node_then x xs) e = by_test (id_of x == at) e (nodes_spliced_none at (suc first) part outputs xs)
   where
     by_test : (t : Bool) → (if t then Some first else place_of at (suc first) xs) ≡ None → (place_of at (suc first) xs ≡ None → nodes_spliced at part outputs xs ≡ xs) →
-        (if t then joined_nodes part (nodes_redirected (without at outputs) xs) else node_then x (nodes_spliced at part outputs xs)) ≡ node_then x xs
+        (if t then joined_nodes part (nodes_redirected (outputs_to_results at outputs) xs) else node_then x (nodes_spliced at part outputs xs)) ≡ node_then x xs
     by_test true e h = absurd (cc)
     by_test false e h = ap (λ ys. node_then x ys) (h e)
 
@@ -52,27 +52,27 @@ place_of_within at first (suc p) (x ∷ xs) e = by_test (id_of x == at) e (place
     by_test false e h = omega (arith, h (e ∙ ap Some (omega arith)))
 
 nodes_spliced_suc : (at first p : ℕ) (part : List NodeTree) (outputs : List Origin) (xs : List NodeTree) → place_of at first (nodes_of xs) ≡ Some (first + p) →
-    nodes_spliced at (nodes_of part) outputs (nodes_of xs) ≡ nodes_of ((take p xs ++ part) ++ map (node_redirected (without at outputs)) (drop (suc p) xs))
+    nodes_spliced at (nodes_of part) outputs (nodes_of xs) ≡ nodes_of ((take p xs ++ part) ++ map (node_redirected (outputs_to_results at outputs)) (drop (suc p) xs))
 nodes_spliced_suc at first p part outputs [] e = absurd (cc)
 nodes_spliced_suc at first zero part outputs (x ∷ xs) e = by_test (id_of x == at) e
   where
     by_test : (t : Bool) → (if t then Some first else place_of at (suc first) (nodes_of xs)) ≡ Some (first + 0) →
-        (if t then joined_nodes (nodes_of part) (nodes_redirected (without at outputs) (nodes_of xs)) else node_then x (nodes_spliced at (nodes_of part) outputs (nodes_of xs)))
-        ≡ nodes_of (part ++ map (node_redirected (without at outputs)) xs)
-    by_test true e = sym (nodes_of-append part (map (node_redirected (without at outputs)) xs) ∙ ap (joined_nodes (nodes_of part)) (nodes_of-redirected (without at outputs) xs))
+        (if t then joined_nodes (nodes_of part) (nodes_redirected (outputs_to_results at outputs) (nodes_of xs)) else node_then x (nodes_spliced at (nodes_of part) outputs (nodes_of xs)))
+        ≡ nodes_of (part ++ map (node_redirected (outputs_to_results at outputs)) xs)
+    by_test true e = sym (nodes_of-append part (map (node_redirected (outputs_to_results at outputs)) xs) ∙ ap (joined_nodes (nodes_of part)) (nodes_of-redirected (outputs_to_results at outputs) xs))
     by_test false e = absurd (omega (arith, place_of_least at (suc first) (first + 0) (nodes_of xs) e))
 nodes_spliced_suc at first (suc p) part outputs (x ∷ xs) e = by_test (id_of x == at) e (nodes_spliced_suc at (suc first) p part outputs xs)
   where
     by_test : (t : Bool) → (if t then Some first else place_of at (suc first) (nodes_of xs)) ≡ Some (first + suc p) →
         (place_of at (suc first) (nodes_of xs) ≡ Some (suc first + p) →
-        nodes_spliced at (nodes_of part) outputs (nodes_of xs) ≡ nodes_of ((take p xs ++ part) ++ map (node_redirected (without at outputs)) (drop (suc p) xs))) →
-        (if t then joined_nodes (nodes_of part) (nodes_redirected (without at outputs) (nodes_of xs)) else node_then x (nodes_spliced at (nodes_of part) outputs (nodes_of xs)))
-        ≡ node_then x (nodes_of ((take p xs ++ part) ++ map (node_redirected (without at outputs)) (drop (suc p) xs)))
+        nodes_spliced at (nodes_of part) outputs (nodes_of xs) ≡ nodes_of ((take p xs ++ part) ++ map (node_redirected (outputs_to_results at outputs)) (drop (suc p) xs))) →
+        (if t then joined_nodes (nodes_of part) (nodes_redirected (outputs_to_results at outputs) (nodes_of xs)) else node_then x (nodes_spliced at (nodes_of part) outputs (nodes_of xs)))
+        ≡ node_then x (nodes_of ((take p xs ++ part) ++ map (node_redirected (outputs_to_results at outputs)) (drop (suc p) xs)))
     by_test true e h = absurd (omega (arith, some_same first (first + suc p) e))
     by_test false e h = ap (λ ys. node_then x ys) (h (e ∙ ap Some (omega arith)))
 
 pub nodes_spliced_at : (at p : ℕ) (part : List NodeTree) (outputs : List Origin) (xs : List NodeTree) → place_of at 0 (nodes_of xs) ≡ Some p →
-    nodes_spliced at (nodes_of part) outputs (nodes_of xs) ≡ nodes_of ((take p xs ++ part) ++ map (node_redirected (without at outputs)) (drop (p + 1) xs))
+    nodes_spliced at (nodes_of part) outputs (nodes_of xs) ≡ nodes_of ((take p xs ++ part) ++ map (node_redirected (outputs_to_results at outputs)) (drop (p + 1) xs))
 nodes_spliced_at at p part outputs xs e = rw add-one (nodes_spliced_suc at 0 p part outputs xs (e ∙ ap Some (omega arith)))
 
 pub place_within : (at p : ℕ) (xs : List NodeTree) → place_of at 0 (nodes_of xs) ≡ Some p → p < length xs
@@ -88,7 +88,7 @@ pub changed_behind : {X : Type 0} (f : X → X) (n : ℕ) (zs xs ys : List X) �
 changed_behind f n zs xs ys e b =
     ap (λ ws. take n ws ++ map f (drop n ws)) e ∙ changed_after f n xs ys (omega (arith, ap length e, length-append xs ys))
 
--- what stands before a node and behind it
+-- what stands before a node and after it
 pub record Split (at : ℕ) (ns : NodeTrees) : Type 0 where
   pub before : NodeTrees
   pub here : NodeTree
@@ -96,7 +96,7 @@ pub record Split (at : ℕ) (ns : NodeTrees) : Type 0 where
   pub numbered : (id_of here == at) ≡ true
   pub none_before : has_node at before ≡ false
   pub whole : ns ≡ joined_nodes before (node_then here after)
-  pub spliced : (part : NodeTrees) (outputs : List Origin) → nodes_spliced at part outputs ns ≡ joined_nodes before (joined_nodes part (nodes_redirected (without at outputs) after))
+  pub spliced : (part : NodeTrees) (outputs : List Origin) → nodes_spliced at part outputs ns ≡ joined_nodes before (joined_nodes part (nodes_redirected (outputs_to_results at outputs) after))
 
 -- the part stands in the place of the first node of its number
 pub split_at : (at : ℕ) (ns : NodeTrees) → has_node at ns ≡ true → Split at ns
@@ -111,7 +111,7 @@ split_at at (node_then x xs) e = by_test (id_of x == at) refl e (split_at at xs)
       numbered = q;
       none_before = refl;
       whole = refl;
-      spliced = λ part outputs. ap (λ t. if t then joined_nodes part (nodes_redirected (without at outputs) xs) else node_then x (nodes_spliced at part outputs xs)) q;
+      spliced = λ part outputs. ap (λ t. if t then joined_nodes part (nodes_redirected (outputs_to_results at outputs) xs) else node_then x (nodes_spliced at part outputs xs)) q;
     }
     by_test false q e h =
         let s = h e in
@@ -123,7 +123,7 @@ split_at at (node_then x xs) e = by_test (id_of x == at) refl e (split_at at xs)
           none_before = ap (λ t. t || has_node at s.before) q ∙ s.none_before;
           whole = ap (λ ys. node_then x ys) s.whole;
           spliced = λ part outputs.
-              ap (λ t. if t then joined_nodes part (nodes_redirected (without at outputs) xs) else node_then x (nodes_spliced at part outputs xs)) q
+              ap (λ t. if t then joined_nodes part (nodes_redirected (outputs_to_results at outputs) xs) else node_then x (nodes_spliced at part outputs xs)) q
               ∙ ap (λ ys. node_then x ys) (s.spliced part outputs);
         }
 

@@ -54,5 +54,5 @@ place_of n first no_nodes = None
 place_of n first (node_then x xs) = if id_of x == n then Some first else place_of n (suc first) xs
 
 -- the change of the region that itself holds the node of this number
-abbrev pub at_home : ℕ → (RegionTree → RegionTree) → RegionTree → Option RegionTree
-at_home n change r = if has_node n (nodes_in r) then Some (change r) else None
+abbrev pub in_enclosing : ℕ → (RegionTree → RegionTree) → RegionTree → Option RegionTree
+in_enclosing n change r = if has_node n (nodes_in r) then Some (change r) else None

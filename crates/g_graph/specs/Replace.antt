@@ -6,7 +6,7 @@ use Rattle.std.specs.declared.option.Option.TheVariants.{Some, None}
 use Rattle.g_graph.specs.declared.op.Origin.{Origin}
 use Rattle.g_graph.specs.Plain.{RegionTree, region, NodeTree, node, NodeTrees, no_nodes, node_then, PlainLambda}
 use Rattle.g_graph.specs.Scope.{same_origin}
-use Rattle.g_graph.specs.Change.{lambda_changed, at_home}
+use Rattle.g_graph.specs.Change.{lambda_changed, in_enclosing}
 
 -- each input of the node, and so of the nodes, is what f makes of it
 abbrev pub node_redirected : (Origin → Origin) → NodeTree → NodeTree
@@ -19,10 +19,10 @@ nodes_redirected f (node_then x xs) = node_then (node_redirected f x) (nodes_red
 abbrev pub region_redirected : (Origin → Origin) → RegionTree → RegionTree
 region_redirected f (region args nodes results) = region args (nodes_redirected f nodes) (map f results)
 
-abbrev pub moved : (from to : Origin) → Origin → Origin
-moved from to o = if same_origin from o then to else o
+abbrev pub origin_replaced : (from to : Origin) → Origin → Origin
+origin_replaced from to o = if same_origin from o then to else o
 
--- the body, or the region that holds the node of the number `home`
-abbrev pub replaced : (from to : Origin) → (home : Option ℕ) → PlainLambda → PlainLambda
-replaced from to None l = record l { body = region_redirected (moved from to) l.body }
-replaced from to (Some n) l = lambda_changed (at_home n (region_redirected (moved from to))) l
+-- the body, or the region that holds the node of the number `enclosing`
+abbrev pub replaced : (from to : Origin) → (enclosing : Option ℕ) → PlainLambda → PlainLambda
+replaced from to None l = record l { body = region_redirected (origin_replaced from to) l.body }
+replaced from to (Some n) l = lambda_changed (in_enclosing n (region_redirected (origin_replaced from to))) l

@@ -5,18 +5,18 @@ use Rattle.std.specs.Prelude.{ℕ, ◌==◌, List, map, if◌then◌else◌, unw
 use Rattle.g_graph.specs.declared.op.Origin.{Origin}
 use Rattle.g_graph.specs.declared.op.Origin.TheVariants.{Arg, Out}
 use Rattle.g_graph.specs.Plain.{RegionTree, region, NodeTrees, no_nodes, node_then, id_of, PlainLambda}
-use Rattle.g_graph.specs.Change.{lambda_changed, at_home}
+use Rattle.g_graph.specs.Change.{lambda_changed, in_enclosing}
 use Rattle.g_graph.specs.Replace.{nodes_redirected, region_redirected}
 
 -- an origin of the part, outside it
-abbrev pub placed : (inputs : List Origin) → Origin → Origin
-placed inputs (Arg k) = unwrap_or (slice_get inputs k) (Arg k)
-placed inputs (Out n p) = Out n p
+abbrev pub args_to_inputs : (inputs : List Origin) → Origin → Origin
+args_to_inputs inputs (Arg k) = unwrap_or (slice_get inputs k) (Arg k)
+args_to_inputs inputs (Out n p) = Out n p
 
 -- an origin, where the outputs of the node come from `outputs`
-abbrev pub without : (at : ℕ) → (outputs : List Origin) → Origin → Origin
-without at outputs (Arg k) = Arg k
-without at outputs (Out n p) = if n == at then unwrap_or (slice_get outputs p) (Out n p) else Out n p
+abbrev pub outputs_to_results : (at : ℕ) → (outputs : List Origin) → Origin → Origin
+outputs_to_results at outputs (Arg k) = Arg k
+outputs_to_results at outputs (Out n p) = if n == at then unwrap_or (slice_get outputs p) (Out n p) else Out n p
 
 abbrev pub joined_nodes : NodeTrees → NodeTrees → NodeTrees
 joined_nodes no_nodes ys = ys
@@ -26,13 +26,13 @@ joined_nodes (node_then x xs) ys = node_then x (joined_nodes xs ys)
 abbrev pub nodes_spliced : (at : ℕ) → (part : NodeTrees) → (outputs : List Origin) → NodeTrees → NodeTrees
 nodes_spliced at part outputs no_nodes = no_nodes
 nodes_spliced at part outputs (node_then x xs) =
-    if id_of x == at then joined_nodes part (nodes_redirected (without at outputs) xs) else node_then x (nodes_spliced at part outputs xs)
+    if id_of x == at then joined_nodes part (nodes_redirected (outputs_to_results at outputs) xs) else node_then x (nodes_spliced at part outputs xs)
 
 -- the part, whose arguments are placed already
 abbrev pub region_spliced : (at : ℕ) → (part : RegionTree) → RegionTree → RegionTree
 region_spliced at (region own part outputs) (region args nodes results) =
-    region args (nodes_spliced at part outputs nodes) (map (without at outputs) results)
+    region args (nodes_spliced at part outputs nodes) (map (outputs_to_results at outputs) results)
 
 -- in the region that holds the node `at`
 abbrev pub spliced : (at : ℕ) → (part : RegionTree) → (inputs : List Origin) → PlainLambda → PlainLambda
-spliced at part inputs l = lambda_changed (at_home at (region_spliced at (region_redirected (placed inputs) part))) l
+spliced at part inputs l = lambda_changed (in_enclosing at (region_spliced at (region_redirected (args_to_inputs inputs) part))) l

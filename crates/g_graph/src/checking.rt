@@ -193,24 +193,24 @@ fn gamma_regions_fit(regions: &[Region]) -> bool
     ensures { result ≡ regions_fit (node 0 Gamma [] (regions_of regions.now)) }
 {
     match regions.first() {
-        Some(first) => regions_are_like(regions, first),
+        Some(first) => regions_have_kinds(regions, first),
         None => true,
     }
 }
 
 // Whether each region has the arguments of this one, and its results where their kinds are known.
-fn regions_are_like(regions: &[Region], first: &Region) -> bool
+fn regions_have_kinds(regions: &[Region], first: &Region) -> bool
     ensures { result ≡ all_regions (λ r. same (args_of r) (args_of first.now) && are (result_kinds r) (kinds_of (result_kinds first.now))) (regions_of regions.now) }
 {
     for region in regions {
-        if !is_like(region, first) {
+        if !has_kinds(region, first) {
             return false;
         }
     }
     true
 }
 
-fn is_like(region: &Region, first: &Region) -> bool
+fn has_kinds(region: &Region, first: &Region) -> bool
     ensures { result ≡ (same (args_of region.now) (args_of first.now) && are (result_kinds region.now) (kinds_of (result_kinds first.now))) }
 {
     same_kinds(&region.args, &first.args)

@@ -17,7 +17,7 @@ pub fn place_of(nodes: &[Node], id: u32) -> Option<usize>
 }
 
 /// Whether the region itself holds the node of this number.
-pub fn is_home(region: &Region, id: u32) -> bool
+pub fn is_enclosing(region: &Region, id: u32) -> bool
     ensures { result ≡ has_node id (nodes_in region.now) }
 {
     has_node(&region.nodes, id)

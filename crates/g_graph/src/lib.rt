@@ -32,14 +32,14 @@ pub use checking::check;
 pub use copy::{copy_of, copy_region};
 pub use count::values;
 pub use equality::equal;
-pub use find::{is_home, place_of};
+pub use find::{is_enclosing, place_of};
 pub use lambda::{Delta, Lambda, Link, Object, Omega};
 pub use no_memory::NoMemory;
 pub use numbers::ids;
 pub use op::{Kind, Op, Origin};
 pub use optimised::Optimised;
 pub use redirect::{
-    Move, Placed, Redirect, Without, redirect_nodes, redirect_origins, redirect_region, same_origin,
+    OriginReplaced, ArgsToInputs, Redirect, OutputsToResults, redirect_nodes, redirect_origins, redirect_region, same_origin,
 };
 pub use region::{Node, Region};
 pub use replace::replace_uses;

@@ -1,8 +1,8 @@
 ghost use Rattle.std.specs.Prelude.{◌≡◌, ◌++◌, map, take, drop, unwrap_or, slice_get};
 ghost use Rattle.g_graph.specs.declared.op.Origin.{Origin};
 ghost use Rattle.g_graph.specs.Scope.{same_origin};
-ghost use Rattle.g_graph.specs.Replace.{node_redirected, region_redirected, moved};
-ghost use Rattle.g_graph.specs.Splice.{placed, without};
+ghost use Rattle.g_graph.specs.Replace.{node_redirected, region_redirected, origin_replaced};
+ghost use Rattle.g_graph.specs.Splice.{args_to_inputs, outputs_to_results};
 
 use crate::{Node, Origin, Region};
 
@@ -16,13 +16,13 @@ pub trait Redirect {
 
 /// One origin for another.
 #[derive(Drop)]
-pub struct Move {
+pub struct OriginReplaced {
     pub from: Origin,
     pub to: Origin,
 }
 
-impl Redirect for Move {
-    ghost redirected = { λ m. moved m.from m.to };
+impl Redirect for OriginReplaced {
+    ghost redirected = { λ m. origin_replaced m.from m.to };
 
     fn redirect(&self, origin: Origin) -> Origin {
         if same_origin(self.from, origin) {
@@ -35,12 +35,12 @@ impl Redirect for Move {
 
 /// The inputs of a part for its arguments.
 #[derive(Drop)]
-pub struct Placed<'a> {
+pub struct ArgsToInputs<'a> {
     pub inputs: &'a [Origin],
 }
 
-impl Redirect for Placed<'_> {
-    ghost redirected = { λ p. placed p.inputs.now };
+impl Redirect for ArgsToInputs<'_> {
+    ghost redirected = { λ p. args_to_inputs p.inputs.now };
 
     fn redirect(&self, origin: Origin) -> Origin {
         match origin {
@@ -52,13 +52,13 @@ impl Redirect for Placed<'_> {
 
 /// The results of a part for the outputs of a node.
 #[derive(Drop)]
-pub struct Without<'a> {
+pub struct OutputsToResults<'a> {
     pub at: u32,
     pub outputs: &'a [Origin],
 }
 
-impl Redirect for Without<'_> {
-    ghost redirected = { λ w. without w.at w.outputs.now };
+impl Redirect for OutputsToResults<'_> {
+    ghost redirected = { λ w. outputs_to_results w.at w.outputs.now };
 
     fn redirect(&self, origin: Origin) -> Origin {
         match origin {

@@ -1,28 +1,28 @@
 ghost use Rattle.std.specs.Prelude.{◌≡◌};
-ghost use Rattle.g_graph.specs.Change.{at_home};
-ghost use Rattle.g_graph.specs.Replace.{region_redirected, moved, replaced};
+ghost use Rattle.g_graph.specs.Change.{in_enclosing};
+ghost use Rattle.g_graph.specs.Replace.{region_redirected, origin_replaced, replaced};
 
 use crate::change::{Change, change_lambda};
-use crate::find::is_home;
-use crate::redirect::{Move, redirect_region};
+use crate::find::is_enclosing;
+use crate::redirect::{OriginReplaced, redirect_region};
 use crate::{Lambda, Origin, Region};
 use std::convert::Infallible;
 
-/// Replaces the uses of one origin by another in one region: the body, or the region that holds the node `home`. Where
+/// Replaces the uses of one origin by another in one region: the body, or the region that holds the node `enclosing`. Where
 /// there is no such node nothing changes. It takes no memory, and time linear in the lambda.
-pub fn replace_uses(lambda: &mut Lambda, from: Origin, to: Origin, home: Option<u32>)
-    ensures { lambda.new ≡ replaced from to home lambda.old }
+pub fn replace_uses(lambda: &mut Lambda, from: Origin, to: Origin, enclosing: Option<u32>)
+    ensures { lambda.new ≡ replaced from to enclosing lambda.old }
 {
-    match home {
-        None => redirect_region(&mut lambda.body, &Move { from, to }),
-        Some(home) => replace_at(lambda, from, to, home),
+    match enclosing {
+        None => redirect_region(&mut lambda.body, &OriginReplaced { from, to }),
+        Some(enclosing) => replace_at(lambda, from, to, enclosing),
     }
 }
 
-fn replace_at(lambda: &mut Lambda, from: Origin, to: Origin, home: u32)
-    ensures { lambda.new ≡ replaced from to (Some home) lambda.old }
+fn replace_at(lambda: &mut Lambda, from: Origin, to: Origin, enclosing: u32)
+    ensures { lambda.new ≡ replaced from to (Some enclosing) lambda.old }
 {
-    match change_lambda(lambda, &mut Uses { from, to, home }) {
+    match change_lambda(lambda, &mut Uses { from, to, enclosing }) {
         Ok(_) => (),
         Err(never) => match never {},
     }
@@ -33,19 +33,19 @@ fn replace_at(lambda: &mut Lambda, from: Origin, to: Origin, home: u32)
 struct Uses {
     from: Origin,
     to: Origin,
-    home: u32,
+    enclosing: u32,
 }
 
 impl Change for Uses {
     type Fault = Infallible;
 
-    ghost changed = { λ u. at_home u.home (region_redirected (moved u.from u.to)) };
+    ghost changed = { λ u. in_enclosing u.enclosing (region_redirected (origin_replaced u.from u.to)) };
 
     fn make(&mut self, region: &mut Region) -> Result<bool, Infallible> {
-        if !is_home(region, self.home) {
+        if !is_enclosing(region, self.enclosing) {
             return Ok(false);
         }
-        let by = Move {
+        let by = OriginReplaced {
             from: self.from,
             to: self.to,
         };

@@ -1,12 +1,12 @@
 ghost use Rattle.std.specs.Prelude.{◌≡◌, ◌+◌, ◌<◌, ◌++◌, OnOk, OnErr, take, drop, vec_len};
 ghost use Rattle.std.specs.declared.option.Option.TheVariants.{Some};
 ghost use Rattle.g_graph.specs.Plain.{nodes_of};
-ghost use Rattle.g_graph.specs.Change.{at_home, place_of};
+ghost use Rattle.g_graph.specs.Change.{in_enclosing, place_of};
 ghost use Rattle.g_graph.specs.Splice.{nodes_spliced, region_spliced, spliced};
 
 use crate::change::{Change, change_lambda};
-use crate::find::{is_home, place_of};
-use crate::redirect::{Placed, Without, redirect_nodes, redirect_origins, redirect_region};
+use crate::find::{is_enclosing, place_of};
+use crate::redirect::{ArgsToInputs, OutputsToResults, redirect_nodes, redirect_origins, redirect_region};
 use crate::{Lambda, NoMemory, Node, Origin, Region};
 use std::alloc::Global;
 use std::mem;
@@ -25,7 +25,7 @@ pub fn splice(
     ensures err { OnErr result (lambda.new ≡ lambda.old) }
 {
     let mut part = part;
-    redirect_region(&mut part, &Placed { inputs });
+    redirect_region(&mut part, &ArgsToInputs { inputs });
     change_lambda(lambda, &mut Part { alloc, at, part })?;
     Ok(())
 }
@@ -41,10 +41,10 @@ struct Part {
 impl Change for Part {
     type Fault = NoMemory;
 
-    ghost changed = { λ p. at_home p.at (region_spliced p.at p.part) };
+    ghost changed = { λ p. in_enclosing p.at (region_spliced p.at p.part) };
 
     fn make(&mut self, region: &mut Region) -> Result<bool, NoMemory> {
-        if !is_home(region, self.at) {
+        if !is_enclosing(region, self.at) {
             return Ok(false);
         }
         let none = Region {
@@ -71,7 +71,7 @@ pub fn splice_region(region: &mut Region, at: u32, part: Region) -> Result<(), N
     } = part;
     let outputs = results.as_slice();
     put_nodes(&mut region.nodes, at, nodes, outputs)?;
-    redirect_origins(region.results.as_mut_slice(), &Without { at, outputs });
+    redirect_origins(region.results.as_mut_slice(), &OutputsToResults { at, outputs });
     Ok(())
 }
 
@@ -104,7 +104,7 @@ fn put_nodes_at(
     let rest = nodes.len() - place - 1;
     exchange(nodes, place, part)?;
     let behind = nodes.len() - rest;
-    redirect_nodes(nodes, behind, &Without { at, outputs });
+    redirect_nodes(nodes, behind, &OutputsToResults { at, outputs });
     Ok(())
 }
 

@@ -1,18 +1,18 @@
--- Calls of lambdas that are equal but for alike regions are alike.
+-- Calls of lambdas that are equal but for alike regions refine.
 use Rattle.std.proofs.Common.{ℕ, zero, suc, List, [], ◌∷◌, ◌++◌, length, slice_get, Option, None, Some, refl, subst, inr}
 use Rattle.val_core.specs.declared.values.Value.{Value}
 use Rattle.val_core.specs.Memory.{Memory, closed}
-use Rattle.val_core.specs.Likeness.{Way, Comparison, Like}
-use Rattle.val_core.specs.Answers.{Back, then_on}
-use Rattle.val_core.proofs.Likeness.{like-then}
+use Rattle.val_core.specs.Refinement.{Direction, Comparison, Refines}
+use Rattle.val_core.specs.Answers.{Returned, then_on}
+use Rattle.val_core.proofs.Refinement.{refines-then}
 use Rattle.g_graph.specs.Plain.{RegionTree, region, NodeTree, node, NodeTrees, no_nodes, node_then, RegionTrees, no_regions, region_then, PlainObject, PlainLambda}
 use Rattle.g_mean.specs.Data.{Datum, val, at_port, with_memory, changed_at}
-use Rattle.g_mean.specs.Meaning.{Meaning, Around, region_meaning}
+use Rattle.g_mean.specs.Meaning.{Meaning, Context, region_meaning}
 use Rattle.g_mean.specs.Calls.{opened, sizes_of, inside, entered}
-use Rattle.g_mean.specs.Near.{Paired}
-use Rattle.g_mean.specs.Alike.{Compares, InOrder, MeaningLike, AroundLike, RegionLike, SameBut, NodeSameBut, NodesSameBut, RegionsSameBut, LambdaSameBut, LambdasSameBut}
+use Rattle.g_mean.specs.LessDefined.{Paired}
+use Rattle.g_mean.specs.Refining.{Compares, InOrder, MeaningRefines, ContextRefines, RegionRefines, SameBut, NodeSameBut, NodesSameBut, RegionsSameBut, LambdaSameBut, LambdasSameBut}
 use Rattle.g_mean.proofs.Kept.{IsKept, paired-at}
-use Rattle.g_mean.proofs.Regions.{on_memory-like, region-like}
+use Rattle.g_mean.proofs.Regions.{on_memory-refines, region-refines}
 
 -- a tree is equal to itself
 mutual
@@ -46,35 +46,35 @@ pub found-itself : (P : RegionTree → RegionTree → Type 0) (l : Option PlainL
 found-itself P None = tt
 found-itself P (Some l) = record { number = refl; params = refl; objects = refl; body = same-itself P l.body }
 
-module _ (cmp : Comparison) (g : Compares cmp) (way : Way) (N : Datum → Datum → Type 0) (k : IsKept N) where
-  pub changed-like : (n : ℕ) (f : Datum → Datum) → ((x y : Datum) → N x y → N (f x) (f y)) → (xs ys : List Datum) → Paired N xs ys → Paired N (changed_at n f xs) (changed_at n f ys)
-  changed-like n f h [] [] near = tt
-  changed-like zero f h (x ∷ xs) (y ∷ ys) near = (h x y near.0, near.1)
-  changed-like (suc n) f h (x ∷ xs) (y ∷ ys) near = (near.0, changed-like n f h xs ys near.1)
-  changed-like n f h [] (y ∷ ys) near = absurd near
-  changed-like n f h (x ∷ xs) [] near = absurd near
+module _ (cmp : Comparison) (g : Compares cmp) (direction : Direction) (N : Datum → Datum → Type 0) (k : IsKept N) where
+  pub changed-refines : (n : ℕ) (f : Datum → Datum) → ((x y : Datum) → N x y → N (f x) (f y)) → (xs ys : List Datum) → Paired N xs ys → Paired N (changed_at n f xs) (changed_at n f ys)
+  changed-refines n f h [] [] near = tt
+  changed-refines zero f h (x ∷ xs) (y ∷ ys) near = (h x y near.0, near.1)
+  changed-refines (suc n) f h (x ∷ xs) (y ∷ ys) near = (near.0, changed-refines n f h xs ys near.1)
+  changed-refines n f h [] (y ∷ ys) near = absurd near
+  changed-refines n f h (x ∷ xs) [] near = absurd near
 
-  module _ (P : RegionTree → RegionTree → Type 0) (Q : Around → Around → Type 0) (base : (r s : RegionTree) → P r s → RegionLike cmp way N Q r s) (n m : ℕ) (order : InOrder way n m) (call call' : ℕ → Meaning) (calls : (f : ℕ) → MeaningLike cmp way N (call f) (call' f)) (global : ℕ → Value) (globals : (j : ℕ) → N (val (global j)) (val (global j))) where
-    body-like : (params : ℕ) (os : List PlainObject) → ((b : Memory) → Q (inside n call global os b) (inside m call' global os b)) → (r s : RegionTree) → SameBut P r s → (xs ys : List Datum) → Paired N xs ys → (b : Memory) →
-        Like cmp way (Paired N)
-        (then_on (region_meaning (inside n call global os b) r (changed_at params (with_memory (λ j. j ++ opened os)) xs)) (λ us. Back (changed_at 1 (with_memory (closed (length b) (length os))) us) []))
-        (then_on (region_meaning (inside m call' global os b) s (changed_at params (with_memory (λ j. j ++ opened os)) ys)) (λ us. Back (changed_at 1 (with_memory (closed (length b) (length os))) us) []))
-    body-like params os q r s same xs ys near b =
-        let around : AroundLike cmp way N (inside n call global os b) (inside m call' global os b) = record { bounds = order; calls = calls; locals = λ j. k.address (length b) (sizes_of os) j; globals = globals } in
-        let whole = region-like cmp g way N k P Q base (inside n call global os b) (inside m call' global os b) around (q b) r s same in
-        like-then cmp g.goes (Paired N) (Paired N) way _ _ _ _
-        (whole.on (changed_at params (with_memory (λ j. j ++ opened os)) xs) (changed_at params (with_memory (λ j. j ++ opened os)) ys) (changed-like params (with_memory (λ j. j ++ opened os)) (λ x y h. k.opens x y h os) xs ys near))
-        (λ us vs near'. (changed-like 1 (with_memory (closed (length b) (length os))) (λ x y h. k.closes x y h (length b) (length os)) us vs near', g.goes.nothing))
+  module _ (P : RegionTree → RegionTree → Type 0) (Q : Context → Context → Type 0) (base : (r s : RegionTree) → P r s → RegionRefines cmp direction N Q r s) (n m : ℕ) (order : InOrder direction n m) (call call' : ℕ → Meaning) (calls : (f : ℕ) → MeaningRefines cmp direction N (call f) (call' f)) (global : ℕ → Value) (globals : (j : ℕ) → N (val (global j)) (val (global j))) where
+    body-refines : (params : ℕ) (os : List PlainObject) → ((b : Memory) → Q (inside n call global os b) (inside m call' global os b)) → (r s : RegionTree) → SameBut P r s → (xs ys : List Datum) → Paired N xs ys → (b : Memory) →
+        Refines cmp direction (Paired N)
+        (then_on (region_meaning (inside n call global os b) r (changed_at params (with_memory (λ j. j ++ opened os)) xs)) (λ us. Returned (changed_at 1 (with_memory (closed (length b) (length os))) us) []))
+        (then_on (region_meaning (inside m call' global os b) s (changed_at params (with_memory (λ j. j ++ opened os)) ys)) (λ us. Returned (changed_at 1 (with_memory (closed (length b) (length os))) us) []))
+    body-refines params os q r s same xs ys near b =
+        let context : ContextRefines cmp direction N (inside n call global os b) (inside m call' global os b) = record { bounds = order; calls = calls; locals = λ j. k.address (length b) (sizes_of os) j; globals = globals } in
+        let whole = region-refines cmp g direction N k P Q base (inside n call global os b) (inside m call' global os b) context (q b) r s same in
+        refines-then cmp g.goes (Paired N) (Paired N) direction _ _ _ _
+        (whole.on (changed_at params (with_memory (λ j. j ++ opened os)) xs) (changed_at params (with_memory (λ j. j ++ opened os)) ys) (changed-refines params (with_memory (λ j. j ++ opened os)) (λ x y h. k.opens x y h os) xs ys near))
+        (λ us vs near'. (changed-refines 1 (with_memory (closed (length b) (length os))) (λ x y h. k.closes x y h (length b) (length os)) us vs near', g.goes.nothing))
 
-    pub entered-like : ((os : List PlainObject) (b : Memory) → Q (inside n call global os b) (inside m call' global os b)) → (l l' : Option PlainLambda) → FoundSameBut P l l' → MeaningLike cmp way N (entered n call global l) (entered m call' global l')
-    entered-like q None None h = record { on = λ xs ys near. tt }
-    entered-like q (Some l) (Some l') h =
+    pub entered-refines : ((os : List PlainObject) (b : Memory) → Q (inside n call global os b) (inside m call' global os b)) → (l l' : Option PlainLambda) → FoundSameBut P l l' → MeaningRefines cmp direction N (entered n call global l) (entered m call' global l')
+    entered-refines q None None h = record { on = λ xs ys near. tt }
+    entered-refines q (Some l) (Some l') h =
         record {
           on = λ xs ys near.
-              subst (λ os. Like cmp way (Paired N) (entered n call global (Some l) xs) (entered m call' global (Some (record { number = l'.number; params = l'.params; objects = os; body = l'.body; next = l'.next })) ys)) h.objects
-              (subst (λ ps. Like cmp way (Paired N) (entered n call global (Some l) xs) (entered m call' global (Some (record { number = l'.number; params = ps; objects = l.objects; body = l'.body; next = l'.next })) ys)) h.params
-              (on_memory-like cmp g way N k (Paired N) (at_port xs l.params) (at_port ys l.params) (paired-at N k xs ys near l.params) _ _
-              (λ b. body-like l.params l.objects (q l.objects) l.body l'.body h.body xs ys near b)));
+              subst (λ os. Refines cmp direction (Paired N) (entered n call global (Some l) xs) (entered m call' global (Some (record { number = l'.number; params = l'.params; objects = os; body = l'.body; next = l'.next })) ys)) h.objects
+              (subst (λ ps. Refines cmp direction (Paired N) (entered n call global (Some l) xs) (entered m call' global (Some (record { number = l'.number; params = ps; objects = l.objects; body = l'.body; next = l'.next })) ys)) h.params
+              (on_memory-refines cmp g direction N k (Paired N) (at_port xs l.params) (at_port ys l.params) (paired-at N k xs ys near l.params) _ _
+              (λ b. body-refines l.params l.objects (q l.objects) l.body l'.body h.body xs ys near b)));
         }
-    entered-like q None (Some l') h = absurd h
-    entered-like q (Some l) None h = absurd h
+    entered-refines q None (Some l') h = absurd h
+    entered-refines q (Some l) None h = absurd h

@@ -4,53 +4,53 @@ use Rattle.std.proofs.lemmas.Bool.{cases_Bool, eqb-false}
 use Rattle.std.proofs.lemmas.Bool.Decides.{nat_tests}
 use Rattle.std.proofs.Math.Path.{fun_ext}
 use Rattle.val_core.specs.Events.{Event}
-use Rattle.val_core.specs.Answers.{Answer, Back, Cut, Ended, Wrong, before, then_on}
+use Rattle.val_core.specs.Answers.{Answer, Returned, Cut, Exited, Undefined, before, then_on}
 use Rattle.val_core.proofs.Answers.{added, before-is}
 use Rattle.g_graph.specs.declared.op.Origin.{Origin}
 use Rattle.g_graph.specs.declared.op.Origin.TheVariants.{Arg, Out}
 use Rattle.g_graph.specs.Plain.{RegionTree, region, NodeTree, node, NodeTrees, no_nodes, node_then, RegionTrees, no_regions, region_then}
 use Rattle.g_graph.specs.Ids.{region_ids, nodes_ids, regions_ids}
 use Rattle.g_mean.specs.Data.{Datum, at_port}
-use Rattle.g_mean.specs.Meaning.{Around, act, Outputs, no_outputs, extended, read, region_meaning, nodes_run, meanings}
+use Rattle.g_mean.specs.Meaning.{Context, act, Outputs, no_outputs, extended, read, region_meaning, nodes_run, meanings}
 use Rattle.g_graph.specs.Replace.{nodes_redirected}
 use Rattle.g_mean.specs.Copies.{renumbered, region_copied, node_moved, nodes_moved, regions_copied, IsAmong, IsOneToOne, IsRead, AreRead, known_after, is_argument, IsClosed, NodesRead, AllClosed, CanMove, Same, ReadSame, CopiedRegionsMeanTheSame, CopiedNodesMeanTheSame}
 
 -- ---- the same answers
 
 same-added : {A B : Type 0} (R : A → B → Type 0) (o : List Event) (a : Answer A) (b : Answer B) → Same R a b → Same R (added o a) (added o b)
-same-added R o (Back x p) (Back y q) h = (h.0, ap (λ z. o ++ z) h.1)
+same-added R o (Returned x p) (Returned y q) h = (h.0, ap (λ z. o ++ z) h.1)
 same-added R o (Cut p) (Cut q) h = ap (λ z. o ++ z) h
-same-added R o (Ended p s) (Ended q t) h = (ap (λ z. o ++ z) h.0, h.1)
-same-added R o Wrong Wrong h = tt
+same-added R o (Exited p s) (Exited q t) h = (ap (λ z. o ++ z) h.0, h.1)
+same-added R o Undefined Undefined h = tt
 same-added R o _ _ h = absurd h
 
 pub same-then : {A B C D : Type 0} (R : A → B → Type 0) (S : C → D → Type 0) (a : Answer A) (b : Answer B) (next : A → Answer C) (next' : B → Answer D) → Same R a b → ((x : A) (y : B) → R x y → Same S (next x) (next' y)) → Same S (then_on a next) (then_on b next')
-same-then R S (Back x o) (Back y p) next next' h go =
+same-then R S (Returned x o) (Returned y p) next next' h go =
     subst (λ z. Same S (before o (next x)) (before z (next' y))) h.1
     (rw (before-is o (next x), before-is o (next' y)) (same-added S o (next x) (next' y) (go x y h.0)))
 same-then R S (Cut o) (Cut p) next next' h go = h
-same-then R S (Ended o s) (Ended p t) next next' h go = h
-same-then R S Wrong Wrong next next' h go = tt
+same-then R S (Exited o s) (Exited p t) next next' h go = h
+same-then R S Undefined Undefined next next' h go = tt
 same-then R S _ _ next next' h go = absurd h
 
 abbrev pub Equals : {A : Type 0} → A → A → Type 0
 Equals x y = x ≡ y
 
 pub same-equal : {A : Type 0} (a b : Answer A) → Same Equals a b → a ≡ b
-same-equal (Back x o) (Back y p) h = ap₂ Back h.0 h.1
+same-equal (Returned x o) (Returned y p) h = ap₂ Returned h.0 h.1
 same-equal (Cut o) (Cut p) h = ap Cut h
-same-equal (Ended o s) (Ended p t) h = ap₂ Ended h.0 h.1
-same-equal Wrong Wrong h = refl
+same-equal (Exited o s) (Exited p t) h = ap₂ Exited h.0 h.1
+same-equal Undefined Undefined h = refl
 same-equal _ _ h = absurd h
 
 pub equal-same : {A : Type 0} (a b : Answer A) → a ≡ b → Same Equals a b
 equal-same a b e = subst (λ z. Same Equals a z) e (itself a)
   where
     itself : {A : Type 0} (a : Answer A) → Same Equals a a
-    itself (Back x o) = (refl, refl)
+    itself (Returned x o) = (refl, refl)
     itself (Cut o) = refl
-    itself (Ended o s) = (refl, refl)
-    itself Wrong = tt
+    itself (Exited o s) = (refl, refl)
+    itself Undefined = tt
 
 -- ---- numbers
 
@@ -76,10 +76,10 @@ pub fewer : (to : ℕ → ℕ) (ms ns : List ℕ) → ((n : ℕ) → IsAmong n m
 fewer to ms ns h one m n a b e = one m n (h m a) (h n b) e
 
 pub same-change : {A B : Type 0} (R S : A → B → Type 0) (a : Answer A) (b : Answer B) → ((x : A) (y : B) → R x y → S x y) → Same R a b → Same S a b
-same-change R S (Back x o) (Back y p) more h = (more x y h.0, h.1)
+same-change R S (Returned x o) (Returned y p) more h = (more x y h.0, h.1)
 same-change R S (Cut o) (Cut p) more h = h
-same-change R S (Ended o s) (Ended p t) more h = h
-same-change R S Wrong Wrong more h = tt
+same-change R S (Exited o s) (Exited p t) more h = h
+same-change R S Undefined Undefined more h = tt
 same-change R S _ _ more h = absurd h
 
 test-same : (m n : ℕ) → m ≡ n → (m == n) ≡ true
@@ -109,9 +109,9 @@ module _ (N : Datum → Datum → Type 0) (S : Origin → Bool) (move : Origin �
   abbrev pub ReadAs : List ℕ → Outputs → Outputs → Type 0
   ReadAs known o q = (a : Origin) → IsRead S known a → N (read xs o a) (read ys q (move a))
 
-  near-side : (o : Outputs) (id : ℕ) (us : List Datum) → IsAmong id all → (b : Origin) → S b ≡ true → (b' : Origin) → b ≡ b' → read xs (extended o id us) b ≡ read xs o b
-  near-side o id us first b s (Arg k) e = ap (read xs (extended o id us)) e ∙ sym (ap (read xs o) e)
-  near-side o id us first b s (Out n p) e =
+  less-side : (o : Outputs) (id : ℕ) (us : List Datum) → IsAmong id all → (b : Origin) → S b ≡ true → (b' : Origin) → b ≡ b' → read xs (extended o id us) b ≡ read xs o b
+  less-side o id us first b s (Arg k) e = ap (read xs (extended o id us)) e ∙ sym (ap (read xs o) e)
+  less-side o id us first b s (Out n p) e =
       ap (read xs (extended o id us)) e ∙ extended-other o id us n p (λ t. can.apart b n p s e (subst (λ z. IsAmong z all) t first)) ∙ sym (ap (read xs o) e)
 
   far-side : (q : Outputs) (id : ℕ) (vs : List Datum) → IsAmong id all → (b : Origin) → S b ≡ true → (b' : Origin) → move b ≡ b' → read ys (extended q (to id) vs) (move b) ≡ read ys q (move b)
@@ -121,7 +121,7 @@ module _ (N : Datum → Datum → Type 0) (S : Origin → Bool) (move : Origin �
 
   pub read-more : (known : List ℕ) → ((n : ℕ) → IsAmong n known → IsAmong n all) → (id : ℕ) → IsAmong id all → (o q : Outputs) → ReadAs known o q → (us vs : List Datum) → ((p : ℕ) → N (at_port us p) (at_port vs p)) → ReadAs (id ∷ known) (extended o id us) (extended q (to id) vs)
   read-more known within id first o q near us vs ports b (inl s) =
-      subst₂ (λ x y. N x y) (sym (near-side o id us first b s b refl)) (sym (far-side q id vs first b s (move b) refl)) (near b (inl s))
+      subst₂ (λ x y. N x y) (sym (less-side o id us first b s b refl)) (sym (far-side q id vs first b s (move b) refl)) (near b (inl s))
   read-more known within id first o q near us vs ports (Arg k) (inr h) = absurd h
   read-more known within id first o q near us vs ports (Out n p) (inr h) =
       subst (λ z. N (extended o id us n p) (read ys (extended q (to id) vs) z)) (sym (can.outputs n p (among-more all id known first within n h))) (by (cases_Bool (id == n)))
@@ -166,15 +166,15 @@ renumbered-moves count to ids one = record { one = one; outputs = λ n p h. refl
     fresh (Out i q) n p m s e h d = absurd cc
 
 mutual
-  region-same : (to : ℕ → ℕ) (r : RegionTree) → IsClosed r → IsOneToOne to (region_ids r) → (c : Around) (xs : List Datum) → region_meaning c r xs ≡ region_meaning c (region_copied to r) xs
+  region-same : (to : ℕ → ℕ) (r : RegionTree) → IsClosed r → IsOneToOne to (region_ids r) → (c : Context) (xs : List Datum) → region_meaning c r xs ≡ region_meaning c (region_copied to r) xs
   region-same to (region args nodes results) closed one c xs =
       same-equal (region_meaning c (region args nodes results) xs) (region_meaning c (region_copied to (region args nodes results)) xs)
       (same-then (ReadSame (is_argument (length args)) (known_after [] nodes) (renumbered to) xs xs) Equals (nodes_run c nodes xs no_outputs) (nodes_run c (nodes_moved (renumbered to) to nodes) xs no_outputs)
-      (λ o. Back (map (read xs o) results) []) (λ q. Back (map (read xs q) (map (renumbered to) results)) [])
+      (λ o. Returned (map (read xs o) results) []) (λ q. Returned (map (read xs q) (map (renumbered to) results)) [])
       (nodes-same (is_argument (length args)) (renumbered to) to (nodes_ids nodes) (renumbered-moves (length args) to (nodes_ids nodes) one) nodes [] (λ n h. absurd h) (λ n h. h) closed.0 c xs xs no_outputs no_outputs (argument-kept (length args) to xs no_outputs no_outputs))
       (λ o q h. (sym (reads-same (is_argument (length args)) (known_after [] nodes) (renumbered to) xs xs o q h results closed.1), refl)))
 
-  nodes-same : (S : Origin → Bool) (move : Origin → Origin) (to : ℕ → ℕ) (all : List ℕ) → CanMove S move to all → (ns : NodeTrees) (known : List ℕ) → ((n : ℕ) → IsAmong n known → IsAmong n all) → ((n : ℕ) → IsAmong n (nodes_ids ns) → IsAmong n all) → NodesRead S known ns → (c : Around) (xs ys : List Datum) (o q : Outputs) → ReadSame S known move xs ys o q → Same (ReadSame S (known_after known ns) move xs ys) (nodes_run c ns xs o) (nodes_run c (nodes_moved move to ns) ys q)
+  nodes-same : (S : Origin → Bool) (move : Origin → Origin) (to : ℕ → ℕ) (all : List ℕ) → CanMove S move to all → (ns : NodeTrees) (known : List ℕ) → ((n : ℕ) → IsAmong n known → IsAmong n all) → ((n : ℕ) → IsAmong n (nodes_ids ns) → IsAmong n all) → NodesRead S known ns → (c : Context) (xs ys : List Datum) (o q : Outputs) → ReadSame S known move xs ys o q → Same (ReadSame S (known_after known ns) move xs ys) (nodes_run c ns xs o) (nodes_run c (nodes_moved move to ns) ys q)
   nodes-same S move to all can no_nodes known within rest reads c xs ys o q same = (same, refl)
   nodes-same S move to all can (node_then (node id op inputs rs) ns) known within rest reads c xs ys o q same =
       let here : IsAmong id ((id ∷ regions_ids rs) ++ nodes_ids ns) = inl refl in
@@ -188,7 +188,7 @@ mutual
       (λ us vs e. nodes-same S move to all can ns (id ∷ known) (among-more all id known first within) (λ n h. rest n (among-right n (id ∷ regions_ids rs) (nodes_ids ns) h)) reads.1 c xs ys (extended o id us) (extended q (to id) vs)
       (read-more Carries S move to all can xs ys known within id first o q same us vs (λ p. ap (λ ws. at_port ws p) (sym e))))
 
-  pub regions-same : (to : ℕ → ℕ) (rs : RegionTrees) → AllClosed rs → IsOneToOne to (regions_ids rs) → (c : Around) → meanings c rs ≡ meanings c (regions_copied to rs)
+  pub regions-same : (to : ℕ → ℕ) (rs : RegionTrees) → AllClosed rs → IsOneToOne to (regions_ids rs) → (c : Context) → meanings c rs ≡ meanings c (regions_copied to rs)
   regions-same to no_regions closed one c = refl
   regions-same to (region_then r rs) closed one c =
       let one-first = fewer to (region_ids r) (region_ids r ++ regions_ids rs) (λ n h. among-left n (region_ids r) (regions_ids rs) h) one in

@@ -4,7 +4,7 @@ use Rattle.std.proofs.lemmas.Bool.{and_parts, and_from}
 use Rattle.g_graph.specs.Plain.{RegionTree, region, node, NodeTrees, no_nodes, node_then, RegionTrees, no_regions, region_then, PlainLambda}
 use Rattle.g_graph.specs.Ids.{region_ids, nodes_ids, regions_ids}
 use Rattle.g_graph.specs.WellFormed.{all_of, some_of, distinct, body_fits, numbers_fit, leaves_fit, well_formed, every_region, every_in_nodes, every_in_regions, region_fits}
-use Rattle.g_mean.specs.Alike.{SameBut, NodesSameBut, RegionsSameBut, LambdaSameBut, LambdasSameBut}
+use Rattle.g_mean.specs.Refining.{SameBut, NodesSameBut, RegionsSameBut, LambdaSameBut, LambdasSameBut}
 use Rattle.g_mean.specs.Replacement.{Replaces}
 use Rattle.g_graph.specs.declared.op.Kind.{Kind}
 use Rattle.g_graph.specs.declared.op.Op.{Op}

@@ -3,18 +3,18 @@ use Rattle.std.proofs.Common.{◌≡◌, List, [], ◌∷◌, ◌++◌, refl, sy
 use Rattle.std.proofs.Math.Path.{fun_ext}
 use Rattle.val_core.specs.declared.values.Value.{Value}
 use Rattle.val_core.specs.Memory.{closed}
-use Rattle.val_core.specs.Events.{output, Leads}
-use Rattle.val_core.specs.Likeness.{Way, Forth, Backward, Comparison, Like, exactly, no_deeper}
-use Rattle.val_core.specs.Answers.{Answer, Back, Cut, Ended, Wrong}
-use Rattle.val_core.proofs.Events.{leads-self}
-use Rattle.val_core.proofs.Likeness.{exactly-goes, no_deeper-goes}
+use Rattle.val_core.specs.Events.{output, IsPrefixOf}
+use Rattle.val_core.specs.Refinement.{Direction, Forward, Backward, Comparison, Refines, exactly, no_deeper}
+use Rattle.val_core.specs.Answers.{Answer, Returned, Cut, Exited, Undefined}
+use Rattle.val_core.proofs.Events.{prefix-self}
+use Rattle.val_core.proofs.Refinement.{exactly-goes, no_deeper-goes}
 use Rattle.g_graph.specs.declared.op.Op.{Op}
 use Rattle.g_mean.specs.Data.{Datum, val, value_of, with_memory}
 use Rattle.g_mean.specs.Meaning.{Frame, done}
 use Rattle.g_mean.specs.Calls.{opened}
-use Rattle.g_mean.specs.Near.{Paired}
-use Rattle.g_mean.specs.Alike.{Compares}
-use Rattle.g_mean.proofs.Kept.{FrameLike, IsKept}
+use Rattle.g_mean.specs.LessDefined.{Paired}
+use Rattle.g_mean.specs.Refining.{Compares}
+use Rattle.g_mean.proofs.Kept.{FrameRefines, IsKept}
 
 -- ---- the comparisons
 
@@ -23,8 +23,8 @@ exactly-compares =
     record {
       goes = exactly-goes;
       itself = λ o. refl;
-      near = λ o p e. subst (λ q. Leads o q) e (leads-self o);
-      far = λ o p e. subst (λ q. Leads p q) (sym e) (leads-self p);
+      near = λ o p e. subst (λ q. IsPrefixOf o q) e (prefix-self o);
+      far = λ o p e. subst (λ q. IsPrefixOf p q) (sym e) (prefix-self p);
     }
 
 pub no_deeper-compares : Compares no_deeper
@@ -32,8 +32,8 @@ no_deeper-compares =
     record {
       goes = no_deeper-goes;
       itself = λ o. (refl, λ sizes. omega arith);
-      near = λ o p e. subst (λ q. Leads (output o) q) e.0 (leads-self (output o));
-      far = λ o p e. (subst (λ q. Leads (output p) q) (sym e.0) (leads-self (output p)), e.1);
+      near = λ o p e. subst (λ q. IsPrefixOf (output o) q) e.0 (prefix-self (output o));
+      far = λ o p e. (subst (λ q. IsPrefixOf (output p) q) (sym e.0) (prefix-self (output p)), e.1);
     }
 
 -- ---- equality
@@ -51,23 +51,23 @@ pub paired-itself : (xs : List Datum) → Paired Equal xs xs
 paired-itself [] = tt
 paired-itself (x ∷ xs) = (refl, paired-itself xs)
 
-pub like-itself : (cmp : Comparison) → Compares cmp → (way : Way) (a : Answer (List Datum)) → Like cmp way (Paired Equal) a a
-like-itself cmp g way (Back xs o) = (paired-itself xs, g.itself o)
-like-itself cmp g way (Ended o s) = (g.itself o, refl)
-like-itself cmp g Forth (Cut o) = g.near o o (g.itself o)
-like-itself cmp g Backward (Cut o) = g.far o o (g.itself o)
-like-itself cmp g way Wrong = tt
+pub refines-itself : (cmp : Comparison) → Compares cmp → (direction : Direction) (a : Answer (List Datum)) → Refines cmp direction (Paired Equal) a a
+refines-itself cmp g direction (Returned xs o) = (paired-itself xs, g.itself o)
+refines-itself cmp g direction (Exited o s) = (g.itself o, refl)
+refines-itself cmp g Forward (Cut o) = g.near o o (g.itself o)
+refines-itself cmp g Backward (Cut o) = g.far o o (g.itself o)
+refines-itself cmp g direction Undefined = tt
 
 val-inj : (u v : Value) → val u ≡ val v → u ≡ v
 val-inj u v e = cc
 
-frame-equal : (e f : Frame) → FrameLike Equal e f → e ≡ f
+frame-equal : (e f : Frame) → FrameRefines Equal e f → e ≡ f
 frame-equal e f h =
     ap₂ (λ l g. record { local = l; global = g }) (fun_ext (λ k. val-inj (e.local k) (f.local k) (h.locals k))) (fun_ext (λ k. val-inj (e.global k) (f.global k) (h.globals k)))
 
-equal-plain : (cmp : Comparison) → Compares cmp → (way : Way) (e f : Frame) → FrameLike Equal e f → (op : Op) (xs ys : List Datum) → Paired Equal xs ys → Like cmp way (Paired Equal) (done e op xs) (done f op ys)
-equal-plain cmp g way e f h op xs ys near =
-    subst (λ a. Like cmp way (Paired Equal) (done e op xs) a) (ap₂ (λ d zs. done d op zs) (frame-equal e f h) (paired-equal xs ys near)) (like-itself cmp g way (done e op xs))
+equal-plain : (cmp : Comparison) → Compares cmp → (direction : Direction) (e f : Frame) → FrameRefines Equal e f → (op : Op) (xs ys : List Datum) → Paired Equal xs ys → Refines cmp direction (Paired Equal) (done e op xs) (done f op ys)
+equal-plain cmp g direction e f h op xs ys near =
+    subst (λ a. Refines cmp direction (Paired Equal) (done e op xs) a) (ap₂ (λ d zs. done d op zs) (frame-equal e f h) (paired-equal xs ys near)) (refines-itself cmp g direction (done e op xs))
 
 pub equal-kept : IsKept Equal
 equal-kept =

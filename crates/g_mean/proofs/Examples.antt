@@ -4,7 +4,7 @@ use Rattle.val_core.specs.declared.operation.Op2.TheVariants.{Add, Sub}
 use Rattle.val_core.specs.declared.leaf.Leaf.{Leaf}
 use Rattle.val_core.specs.declared.values.Value.TheVariants.{Num, Bad}
 use Rattle.val_core.specs.Events.{wrote, met}
-use Rattle.val_core.specs.Answers.{Back, Cut, Ended, Wrong}
+use Rattle.val_core.specs.Answers.{Returned, Cut, Exited, Undefined}
 use Rattle.g_graph.specs.declared.op.Kind.{Kind}
 use Rattle.g_graph.specs.declared.op.Kind.TheVariants.{Memory, Io}
 use Rattle.g_graph.specs.declared.op.Origin.{Origin}
@@ -13,7 +13,7 @@ use Rattle.g_graph.specs.declared.op.Op.{Op}
 use Rattle.g_graph.specs.declared.op.Op.TheVariants.{Const, Undef, Local, Delta, Bin, Load, Store, Clear, PtrEq, Apply, Put, Exit, Get, Gamma, Theta}
 use Rattle.g_graph.specs.Plain.{region, NodeTree, node, no_regions, nodes_of, regions_of, PlainLambda}
 use Rattle.g_mean.specs.Data.{Datum, val, memory, input}
-use Rattle.g_mean.specs.Calls.{ev_lambda, PlainOmega, PlainDelta, evmain, deepest_main}
+use Rattle.g_mean.specs.Calls.{lambda_at, PlainOmega, PlainDelta, program_at, deepest_main}
 
 abbrev states : List Kind
 states = Memory ∷ Io ∷ []
@@ -34,14 +34,14 @@ three_hundred = of_body 0 (plain 0 (Const 300) [] ∷ []) (Out 0 0 ∷ Arg 0 ∷
 abbrev only_main : PlainOmega
 only_main = record { deltas = []; names = (109 ∷ 97 ∷ 105 ∷ 110 ∷ []) ∷ [] }
 
-status : evmain 0 only_main (three_hundred ∷ []) [] ≡ Ended (met (0 ∷ []) ∷ []) 44
+status : program_at 0 only_main (three_hundred ∷ []) [] ≡ Exited (met (0 ∷ []) ∷ []) 44
 status = refl
 
 -- Undef instead: no status
-undefined : evmain 5 only_main (of_body 0 (plain 0 Undef [] ∷ []) (Out 0 0 ∷ Arg 0 ∷ Arg 1 ∷ []) ∷ []) [] ≡ Wrong
+undefined : program_at 5 only_main (of_body 0 (plain 0 Undef [] ∷ []) (Out 0 0 ∷ Arg 0 ∷ Arg 1 ∷ []) ∷ []) [] ≡ Undefined
 undefined = refl
 
-no_main : evmain 5 (record { deltas = []; names = [] }) (three_hundred ∷ []) [] ≡ Wrong
+no_main : program_at 5 (record { deltas = []; names = [] }) (three_hundred ∷ []) [] ≡ Undefined
 no_main = refl
 
 -- counts its parameter down to 0 and writes each number
@@ -58,11 +58,11 @@ countdown =
 abbrev start : ℕ → List Datum
 start n = num n ∷ memory [] ∷ input [] ∷ []
 
-counted : ev_lambda 3 (countdown ∷ []) (λ k. Bad) 0 (start 3) ≡ Back (num 0 ∷ memory [] ∷ input [] ∷ []) (met (0 ∷ []) ∷ wrote 3 ∷ wrote 2 ∷ wrote 1 ∷ [])
+counted : lambda_at 3 (countdown ∷ []) (λ k. Bad) 0 (start 3) ≡ Returned (num 0 ∷ memory [] ∷ input [] ∷ []) (met (0 ∷ []) ∷ wrote 3 ∷ wrote 2 ∷ wrote 1 ∷ [])
 counted = refl
 
 -- a turn too many
-cut_short : ev_lambda 2 (countdown ∷ []) (λ k. Bad) 0 (start 3) ≡ Cut (met (0 ∷ []) ∷ wrote 3 ∷ wrote 2 ∷ [])
+cut_short : lambda_at 2 (countdown ∷ []) (λ k. Bad) 0 (start 3) ≡ Cut (met (0 ∷ []) ∷ wrote 3 ∷ wrote 2 ∷ [])
 cut_short = refl
 
 -- calls itself on its parameter less one until that is 0
@@ -77,14 +77,14 @@ recursive =
     ∷ []))
     ∷ []) (Out 0 0 ∷ Out 0 1 ∷ Out 0 2 ∷ [])
 
-called : ev_lambda 2 (recursive ∷ []) (λ k. Bad) 0 (start 2) ≡ Back (start 0) (met (0 ∷ []) ∷ met (0 ∷ 0 ∷ []) ∷ met (0 ∷ 0 ∷ 0 ∷ []) ∷ [])
+called : lambda_at 2 (recursive ∷ []) (λ k. Bad) 0 (start 2) ≡ Returned (start 0) (met (0 ∷ []) ∷ met (0 ∷ 0 ∷ []) ∷ met (0 ∷ 0 ∷ 0 ∷ []) ∷ [])
 called = refl
 
 -- a call too deep
-too_deep : ev_lambda 1 (recursive ∷ []) (λ k. Bad) 0 (start 2) ≡ Cut (met (0 ∷ []) ∷ met (0 ∷ 0 ∷ []) ∷ [])
+too_deep : lambda_at 1 (recursive ∷ []) (λ k. Bad) 0 (start 2) ≡ Cut (met (0 ∷ []) ∷ met (0 ∷ 0 ∷ []) ∷ [])
 too_deep = refl
 
-no_lambda : ev_lambda 1 [] (λ k. Bad) 0 (start 2) ≡ Wrong
+no_lambda : lambda_at 1 [] (λ k. Bad) 0 (start 2) ≡ Undefined
 no_lambda = refl
 
 abbrev leaf : ℕ → ℕ → Leaf
@@ -102,20 +102,20 @@ kept between =
     }
 
 -- the parameter is loaded again; the block is dead afterwards
-loaded : ev_lambda 0 (kept (plain 3 (Load 4) (Out 0 0 ∷ Out 1 0 ∷ []) ∷ []) ∷ []) (λ k. Bad) 0 (start 77)
-    ≡ Back (num 77 ∷ memory (record { size = 4; cells = record { leaf = leaf 0 4; value = Some (Num 0) } ∷ []; live = false; fixed = false } ∷ []) ∷ input [] ∷ []) (met (0 ∷ []) ∷ [])
+loaded : lambda_at 0 (kept (plain 3 (Load 4) (Out 0 0 ∷ Out 1 0 ∷ []) ∷ []) ∷ []) (λ k. Bad) 0 (start 77)
+    ≡ Returned (num 77 ∷ memory (record { size = 4; cells = record { leaf = leaf 0 4; value = Some (Num 0) } ∷ []; live = false; fixed = false } ∷ []) ∷ input [] ∷ []) (met (0 ∷ []) ∷ [])
 loaded = refl
 
-cleared : ev_lambda 0 (kept (plain 3 (Load 4) (Out 0 0 ∷ Out 2 0 ∷ []) ∷ []) ∷ []) (λ k. Bad) 0 (start 77)
-    ≡ Back (num 0 ∷ memory (record { size = 4; cells = record { leaf = leaf 0 4; value = Some (Num 0) } ∷ []; live = false; fixed = false } ∷ []) ∷ input [] ∷ []) (met (0 ∷ []) ∷ [])
+cleared : lambda_at 0 (kept (plain 3 (Load 4) (Out 0 0 ∷ Out 2 0 ∷ []) ∷ []) ∷ []) (λ k. Bad) 0 (start 77)
+    ≡ Returned (num 0 ∷ memory (record { size = 4; cells = record { leaf = leaf 0 4; value = Some (Num 0) } ∷ []; live = false; fixed = false } ∷ []) ∷ input [] ∷ []) (met (0 ∷ []) ∷ [])
 cleared = refl
 
-narrow : ev_lambda 0 (kept (plain 3 (Load 2) (Out 0 0 ∷ Out 1 0 ∷ []) ∷ []) ∷ []) (λ k. Bad) 0 (start 77) ≡ Wrong
+narrow : lambda_at 0 (kept (plain 3 (Load 2) (Out 0 0 ∷ Out 1 0 ∷ []) ∷ []) ∷ []) (λ k. Bad) 0 (start 77) ≡ Undefined
 narrow = refl
 
 -- the address of an object is not null
-not_null : ev_lambda 0 (kept (plain 4 (Const 0) [] ∷ plain 3 PtrEq (Out 0 0 ∷ Out 4 0 ∷ Out 1 0 ∷ []) ∷ []) ∷ []) (λ k. Bad) 0 (start 77)
-    ≡ Back (num 0 ∷ memory (record { size = 4; cells = record { leaf = leaf 0 4; value = Some (Num 0) } ∷ []; live = false; fixed = false } ∷ []) ∷ input [] ∷ []) (met (0 ∷ []) ∷ [])
+not_null : lambda_at 0 (kept (plain 4 (Const 0) [] ∷ plain 3 PtrEq (Out 0 0 ∷ Out 4 0 ∷ Out 1 0 ∷ []) ∷ []) ∷ []) (λ k. Bad) 0 (start 77)
+    ≡ Returned (num 0 ∷ memory (record { size = 4; cells = record { leaf = leaf 0 4; value = Some (Num 0) } ∷ []; live = false; fixed = false } ∷ []) ∷ input [] ∷ []) (met (0 ∷ []) ∷ [])
 not_null = refl
 
 -- main reads two bytes, the second at the end of the input, and exits with their sum
@@ -125,7 +125,7 @@ reader =
     plain 0 Get (Arg 1 ∷ []) ∷ plain 1 Get (Out 0 1 ∷ []) ∷ plain 2 (Bin Add) (Out 0 0 ∷ Out 1 0 ∷ []) ∷ plain 3 Exit (Out 2 0 ∷ Out 1 1 ∷ []) ∷ [])
     (Out 0 0 ∷ Arg 0 ∷ Out 3 0 ∷ [])
 
-read_bytes : evmain 0 only_main (reader ∷ []) (8 ∷ []) ≡ Ended (met (0 ∷ []) ∷ []) 7
+read_bytes : program_at 0 only_main (reader ∷ []) (8 ∷ []) ≡ Exited (met (0 ∷ []) ∷ []) 7
 read_bytes = refl
 
 -- two globals, the second of which holds the address of the first; main loads through it
@@ -139,11 +139,11 @@ abbrev pointed : Op → List Origin → PlainLambda
 pointed op inputs =
     of_body 0 (plain 0 (Delta 1) [] ∷ plain 1 (Load 4) (Out 0 0 ∷ Arg 0 ∷ []) ∷ plain 2 op inputs ∷ []) (Out 2 0 ∷ Arg 0 ∷ Arg 1 ∷ [])
 
-through : evmain 0 (record { deltas = globals; names = (109 ∷ 97 ∷ 105 ∷ 110 ∷ []) ∷ [] }) (pointed (Load 4) (Out 1 0 ∷ Arg 0 ∷ []) ∷ []) [] ≡ Ended (met (0 ∷ []) ∷ []) 44
+through : program_at 0 (record { deltas = globals; names = (109 ∷ 97 ∷ 105 ∷ 110 ∷ []) ∷ [] }) (pointed (Load 4) (Out 1 0 ∷ Arg 0 ∷ []) ∷ []) [] ≡ Exited (met (0 ∷ []) ∷ []) 44
 through = refl
 
 -- a store to a fixed global
-fixed : evmain 0 (record { deltas = globals; names = (109 ∷ 97 ∷ 105 ∷ 110 ∷ []) ∷ [] }) (pointed (Store 4) (Out 1 0 ∷ Out 1 0 ∷ Arg 0 ∷ []) ∷ []) [] ≡ Wrong
+fixed : program_at 0 (record { deltas = globals; names = (109 ∷ 97 ∷ 105 ∷ 110 ∷ []) ∷ [] }) (pointed (Store 4) (Out 1 0 ∷ Out 1 0 ∷ Arg 0 ∷ []) ∷ []) [] ≡ Undefined
 fixed = refl
 
 -- a frame of 16 bytes for each of the active calls

@@ -3,7 +3,7 @@ use Rattle.std.proofs.Common.{◌≡◌, ℕ, ◌==◌, Bool, true, false, not, 
 use Rattle.std.proofs.lemmas.Bool.{and_parts}
 use Rattle.std.proofs.lemmas.Bool.Decides.{nat_tests}
 use Rattle.val_core.specs.Events.{Event}
-use Rattle.val_core.specs.Answers.{Answer, Back, Cut, Ended, Wrong, then_on}
+use Rattle.val_core.specs.Answers.{Answer, Returned, Cut, Exited, Undefined, then_on}
 use Rattle.val_core.proofs.Answers.{added, before-is}
 use Rattle.g_graph.specs.declared.op.Origin.{Origin}
 use Rattle.g_graph.specs.declared.op.Origin.TheVariants.{Arg, Out}
@@ -11,7 +11,7 @@ use Rattle.g_graph.specs.Plain.{NodeTree, node, NodeTrees, no_nodes, node_then, 
 use Rattle.g_graph.specs.Ids.{node_ids, nodes_ids, regions_ids}
 use Rattle.g_graph.specs.WellFormed.{some_of, distinct}
 use Rattle.g_mean.specs.Data.{Datum, at_port}
-use Rattle.g_mean.specs.Meaning.{Around, act, Outputs, no_outputs, extended, read, node_run, nodes_run, meanings}
+use Rattle.g_mean.specs.Meaning.{Context, act, Outputs, no_outputs, extended, read, node_run, nodes_run, meanings}
 use Rattle.g_mean.specs.Copies.{IsAmong, IsRead, AreRead, is_argument, NodesRead}
 use Rattle.g_mean.specs.Holds.{HaveRun, RunNodesHold}
 use Rattle.g_mean.proofs.Copies.{among-left, among-right, extended-same, extended-other}
@@ -23,22 +23,22 @@ pub record WasGiven {A B : Type 0} (a : Answer A) (next : A → Answer B) (y : B
   pub first : A
   pub did : List Event
   pub rest : List Event
-  pub is : a ≡ Back first did
-  pub follows : next first ≡ Back y rest
+  pub is : a ≡ Returned first did
+  pub follows : next first ≡ Returned y rest
 
-given-added : {B : Type 0} (o : List Event) (b : Answer B) (y : B) (did : List Event) → added o b ≡ Back y did → (rest : List Event) × (b ≡ Back y rest)
-given-added o (Back z q) y did e = let same : z ≡ y = cc in (q, ap (λ w. Back w q) same)
+given-added : {B : Type 0} (o : List Event) (b : Answer B) (y : B) (did : List Event) → added o b ≡ Returned y did → (rest : List Event) × (b ≡ Returned y rest)
+given-added o (Returned z q) y did e = let same : z ≡ y = cc in (q, ap (λ w. Returned w q) same)
 given-added o (Cut q) y did e = absurd cc
-given-added o (Ended q s) y did e = absurd cc
-given-added o Wrong y did e = absurd cc
+given-added o (Exited q s) y did e = absurd cc
+given-added o Undefined y did e = absurd cc
 
-pub was-given : {A B : Type 0} (a : Answer A) (next : A → Answer B) (y : B) (did : List Event) → then_on a next ≡ Back y did → WasGiven a next y
-was-given (Back x o) next y did e =
+pub was-given : {A B : Type 0} (a : Answer A) (next : A → Answer B) (y : B) (did : List Event) → then_on a next ≡ Returned y did → WasGiven a next y
+was-given (Returned x o) next y did e =
     let h = given-added o (next x) y did (sym (before-is o (next x)) ∙ e) in
     record { first = x; did = o; rest = h.0; is = refl; follows = h.1 }
 was-given (Cut o) next y did e = absurd cc
-was-given (Ended o s) next y did e = absurd cc
-was-given Wrong next y did e = absurd cc
+was-given (Exited o s) next y did e = absurd cc
+was-given Undefined next y did e = absurd cc
 
 -- ---- numbers
 
@@ -79,7 +79,7 @@ distinct-apart (x ∷ xs) ys t n (inr h) k =
 -- ---- the map
 
 -- an output of no node that runs stays as it was
-pub unchanged : (c : Around) (ns : NodeTrees) (xs : List Datum) (o q : Outputs) (did : List Event) → nodes_run c ns xs o ≡ Back q did → (n : ℕ) → (IsAmong n (nodes_ids ns) → ⊥) → (p : ℕ) → q n p ≡ o n p
+pub unchanged : (c : Context) (ns : NodeTrees) (xs : List Datum) (o q : Outputs) (did : List Event) → nodes_run c ns xs o ≡ Returned q did → (n : ℕ) → (IsAmong n (nodes_ids ns) → ⊥) → (p : ℕ) → q n p ≡ o n p
 unchanged c no_nodes xs o q did e n apart p = let same : o ≡ q = cc in ap (λ f. f n p) (sym same)
 unchanged c (node_then x ns) xs o q did e n apart p =
     let h = was-given (node_run c x xs o) (λ us. nodes_run c ns xs (extended o (id_of x) us)) q did e in
@@ -97,7 +97,7 @@ read-unchanged count known xs o q same (Out n p ∷ origins) h =
     by (inl e) = absurd cc
     by (inr k) = sym (same n k p)
 
-pub holds-from : (count : ℕ) (c : Around) (ns : NodeTrees) (known : List ℕ) (xs : List Datum) (o q : Outputs) (did : List Event) → NodesRead (is_argument count) known ns → ((n : ℕ) → IsAmong n known → IsAmong n (nodes_ids ns) → ⊥) → distinct (nodes_ids ns) ≡ true → nodes_run c ns xs o ≡ Back q did → HaveRun c xs q ns
+pub holds-from : (count : ℕ) (c : Context) (ns : NodeTrees) (known : List ℕ) (xs : List Datum) (o q : Outputs) (did : List Event) → NodesRead (is_argument count) known ns → ((n : ℕ) → IsAmong n known → IsAmong n (nodes_ids ns) → ⊥) → distinct (nodes_ids ns) ≡ true → nodes_run c ns xs o ≡ Returned q did → HaveRun c xs q ns
 holds-from count c no_nodes known xs o q did reads apart unique e = tt
 holds-from count c (node_then (node id op inputs rs) ns) known xs o q did reads apart unique e =
     let ids = id ∷ regions_ids rs in

@@ -2,7 +2,7 @@
 use Rattle.std.proofs.Common.{◌≡◌, ℕ, zero, suc, List, [], ◌∷◌, ◌++◌, map}
 use Rattle.val_core.specs.declared.values.Value.TheVariants.{Num, Bad}
 use Rattle.val_core.specs.Memory.{Memory, closed}
-use Rattle.val_core.specs.Likeness.{Way, Comparison, Like}
+use Rattle.val_core.specs.Refinement.{Direction, Comparison, Refines}
 use Rattle.g_graph.specs.declared.op.Op.{Op}
 use Rattle.g_graph.specs.declared.op.Origin.{Origin}
 use Rattle.g_graph.specs.declared.op.Origin.TheVariants.{Arg, Out}
@@ -10,10 +10,10 @@ use Rattle.g_graph.specs.Plain.{PlainObject}
 use Rattle.g_mean.specs.Data.{Datum, val, memory, at_port, value_of, with_memory}
 use Rattle.g_mean.specs.Meaning.{Frame, done, Outputs, read}
 use Rattle.g_mean.specs.Calls.{opened, address_in}
-use Rattle.g_mean.specs.Near.{Paired}
-use Rattle.g_mean.specs.Alike.{Compares}
+use Rattle.g_mean.specs.LessDefined.{Paired}
+use Rattle.g_mean.specs.Refining.{Compares}
 
-pub record FrameLike (N : Datum → Datum → Type 0) (e f : Frame) : Type 0 where
+pub record FrameRefines (N : Datum → Datum → Type 0) (e f : Frame) : Type 0 where
   pub locals : (k : ℕ) → N (val (e.local k)) (val (f.local k))
   pub globals : (k : ℕ) → N (val (e.global k)) (val (f.global k))
 
@@ -24,7 +24,7 @@ pub record IsKept (N : Datum → Datum → Type 0) : Type 1 where
   pub opens : (x y : Datum) → N x y → (os : List PlainObject) → N (with_memory (λ k. k ++ opened os) x) (with_memory (λ k. k ++ opened os) y)
   pub closes : (x y : Datum) → N x y → (first count : ℕ) → N (with_memory (closed first count) x) (with_memory (closed first count) y)
   pub address : (base : ℕ) (sizes : List ℕ) (k : ℕ) → N (val (address_in base sizes k)) (val (address_in base sizes k))
-  pub plain : (cmp : Comparison) → Compares cmp → (way : Way) (e f : Frame) → FrameLike N e f → (op : Op) (xs ys : List Datum) → Paired N xs ys → Like cmp way (Paired N) (done e op xs) (done f op ys)
+  pub plain : (cmp : Comparison) → Compares cmp → (direction : Direction) (e f : Frame) → FrameRefines N e f → (op : Op) (xs ys : List Datum) → Paired N xs ys → Refines cmp direction (Paired N) (done e op xs) (done f op ys)
 
 -- ---- ports and outputs
 
@@ -35,13 +35,13 @@ paired-at N p (x ∷ xs) (y ∷ ys) h (suc k) = paired-at N p xs ys h.1 k
 paired-at N p [] (y ∷ ys) h k = absurd h
 paired-at N p (x ∷ xs) [] h k = absurd h
 
-abbrev pub OutputsLike : (N : Datum → Datum → Type 0) → Outputs → Outputs → Type 0
-OutputsLike N o p = (n q : ℕ) → N (o n q) (p n q)
+abbrev pub OutputsRefine : (N : Datum → Datum → Type 0) → Outputs → Outputs → Type 0
+OutputsRefine N o p = (n q : ℕ) → N (o n q) (p n q)
 
-pub read-like : (N : Datum → Datum → Type 0) → IsKept N → (xs ys : List Datum) → Paired N xs ys → (o p : Outputs) → OutputsLike N o p → (a : Origin) → N (read xs o a) (read ys p a)
-read-like N k xs ys h o p g (Arg n) = paired-at N k xs ys h n
-read-like N k xs ys h o p g (Out n q) = g n q
+pub read-refines : (N : Datum → Datum → Type 0) → IsKept N → (xs ys : List Datum) → Paired N xs ys → (o p : Outputs) → OutputsRefine N o p → (a : Origin) → N (read xs o a) (read ys p a)
+read-refines N k xs ys h o p g (Arg n) = paired-at N k xs ys h n
+read-refines N k xs ys h o p g (Out n q) = g n q
 
-pub reads-like : (N : Datum → Datum → Type 0) → IsKept N → (xs ys : List Datum) → Paired N xs ys → (o p : Outputs) → OutputsLike N o p → (origins : List Origin) → Paired N (map (read xs o) origins) (map (read ys p) origins)
-reads-like N k xs ys h o p g [] = tt
-reads-like N k xs ys h o p g (a ∷ origins) = (read-like N k xs ys h o p g a, reads-like N k xs ys h o p g origins)
+pub reads-refines : (N : Datum → Datum → Type 0) → IsKept N → (xs ys : List Datum) → Paired N xs ys → (o p : Outputs) → OutputsRefine N o p → (origins : List Origin) → Paired N (map (read xs o) origins) (map (read ys p) origins)
+reads-refines N k xs ys h o p g [] = tt
+reads-refines N k xs ys h o p g (a ∷ origins) = (read-refines N k xs ys h o p g a, reads-refines N k xs ys h o p g origins)

@@ -3,10 +3,10 @@ use Rattle.std.proofs.Common.{◌≡◌, ℕ, zero, suc, ◌-◌, ◌%◌, ◌==
 use Rattle.std.proofs.lemmas.Bool.{and_parts}
 use Rattle.val_core.specs.declared.values.Value.{Value}
 use Rattle.val_core.specs.declared.values.Value.TheVariants.{Num, At, Bad}
-use Rattle.val_core.specs.Values.{IsNear}
+use Rattle.val_core.specs.Values.{IsLessDefined}
 use Rattle.val_core.specs.Memory.{Memory as Blocks, load, store, pointers_equal, closed}
 use Rattle.val_core.specs.Events.{wrote}
-use Rattle.val_core.specs.Answers.{Answer, Back, Cut, Ended, Wrong, Gives}
+use Rattle.val_core.specs.Answers.{Answer, Returned, Cut, Exited, Undefined, Gives}
 use Rattle.val_core.proofs.Answers.{gives-then, gives-active}
 use Rattle.g_graph.specs.declared.op.Kind.{Kind}
 use Rattle.g_graph.specs.declared.op.Kind.TheVariants.{Value as ValueKind, Memory, Io}
@@ -20,14 +20,14 @@ use Rattle.g_graph.specs.Splice.{joined_nodes}
 use Rattle.g_graph.specs.Scope.{same_kind, each_node, known}
 use Rattle.g_graph.specs.WellFormed.{are, same, kinds_of, all_regions, inputs_fit, inputs_are_last, node_has_one_state_each, has_its_regions, regions_fit, theta_has_states, has_its_width, has_its_object, node_fits, nodes_fit, results_are_last, returns_state, region_has_one_state_each, region_fits, every_region, every_in_node, every_in_nodes, every_in_regions, body_fits, numbers_fit, leaves_fit, all_of, well_formed}
 use Rattle.g_mean.specs.Data.{Datum, val, memory, input, at_port, value_of, value_at, on_number, on_memory, on_input, on_defined, with_memory, changed_at}
-use Rattle.g_mean.specs.Meaning.{Meaning, Around, given, given_memory, got, cleared_at, done, chosen, branched, again, turns, Outputs, no_outputs, extended, read, node_run, nodes_run, region_meaning, meanings}
-use Rattle.g_mean.specs.Calls.{opened, inside, entered, applied, ev_lambda}
-use Rattle.val_core.specs.Likeness.{Way, Forth, Backward, Like, no_deeper}
-use Rattle.val_core.proofs.Likeness.{forth-within, backward-within, backward-right, backward-no-deeper, no_deeper-output, no_deeper-depth}
+use Rattle.g_mean.specs.Meaning.{Meaning, Context, given, given_memory, got, cleared_at, done, chosen, branched, again, turns, Outputs, no_outputs, extended, read, node_run, nodes_run, region_meaning, meanings}
+use Rattle.g_mean.specs.Calls.{opened, inside, entered, applied, lambda_at}
+use Rattle.val_core.specs.Refinement.{Direction, Forward, Backward, Refines, no_deeper}
+use Rattle.val_core.proofs.Refinement.{forward-within, backward-within, backward-right, backward-no-deeper, no_deeper-output, no_deeper-depth}
 use Rattle.g_mean.specs.Replacement.{IsTwice}
-use Rattle.g_mean.proofs.Replacement.{lambda-like}
-use Rattle.g_mean.specs.Near.{Paired, IsNearDatum}
-use Rattle.g_mean.specs.Kinds.{IsOfKind, AreOfKinds, AreWellFormed, call_takes, call_gives, LambdasKeepKinds, ReturnAlike, WellFormedKeepMeaning}
+use Rattle.g_mean.proofs.Replacement.{lambda-refines}
+use Rattle.g_mean.specs.LessDefined.{Paired, IsLessDefinedDatum}
+use Rattle.g_mean.specs.Kinds.{IsOfKind, AreOfKinds, AreWellFormed, call_takes, call_gives, LambdasKeepKinds, ReturnsRefine, WellFormedKeepMeaning}
 
 -- ---- lists of kinds
 
@@ -139,9 +139,9 @@ branched-keeps takes gives ms h (p ∷ xs) k =
 again-keeps : (ks : List Kind) (next : Meaning) → KeepsKinds ks ks next → (ys : List Datum) → AreOfKinds (ValueKind ∷ ks) ys → Gives (AreOfKinds ks) (again next ys)
 again-keeps ks next h [] k = absurd k
 again-keeps ks next h (p ∷ ys) k =
-    number-gives (AreOfKinds ks) (value_of p) (λ w. cond (w == 0) (Back ys []) (next ys)) (λ w. by (w == 0))
+    number-gives (AreOfKinds ks) (value_of p) (λ w. cond (w == 0) (Returned ys []) (next ys)) (λ w. by (w == 0))
   where
-    by : (test : Bool) → Gives (AreOfKinds ks) (cond test (Back ys []) (next ys))
+    by : (test : Bool) → Gives (AreOfKinds ks) (cond test (Returned ys []) (next ys))
     by true = k.1
     by false = h ys k.1
 
@@ -156,10 +156,10 @@ abbrev CallsKeep : (ℕ → Meaning) → Type 0
 CallsKeep call = (f count : ℕ) → KeepsKinds (call_takes count) call_gives (call f)
 
 gives-out : (ks : List Kind) (a : Answer (List Datum)) → Gives (AreOfKinds ks) a → Gives (OutKinds (map Some ks)) a
-gives-out ks (Back ys o) h = kinds-out ks ys h
+gives-out ks (Returned ys o) h = kinds-out ks ys h
 gives-out ks (Cut o) h = tt
-gives-out ks (Ended o s) h = tt
-gives-out ks Wrong h = tt
+gives-out ks (Exited o s) h = tt
+gives-out ks Undefined h = tt
 
 -- ---- the map
 
@@ -220,7 +220,7 @@ joined-nothing (node_then x ns) = ap (node_then x) (joined-nothing ns)
 
 -- ---- regions
 
-module _ (objects : ℕ) (c : Around) (calls : CallsKeep c.call) where
+module _ (objects : ℕ) (c : Context) (calls : CallsKeep c.call) where
   done-gives : (ks : List Kind) (op : Op) (us : List Datum) → Gives (AreOfKinds ks) (done c.frame op us) → Gives (OutKinds (map Some ks)) (done c.frame op us)
   done-gives ks op us h = gives-out ks (done c.frame op us) h
 
@@ -228,7 +228,7 @@ module _ (objects : ℕ) (c : Around) (calls : CallsKeep c.call) where
     region-keeps : (r : RegionTree) → every_region (region_fits objects) r ≡ true → (gives : List Kind) → result_kinds r ≡ map Some gives → KeepsKinds (args_of r) gives (region_meaning c r)
     region-keeps (region args nodes results) t gives e xs kinds =
         let p = and_parts (region_fits objects (region args nodes results)) (every_in_nodes (region_fits objects) nodes) t in
-        gives-then (MapKinds nodes) (AreOfKinds gives) (nodes_run c nodes xs no_outputs) (λ o. Back (map (read xs o) results) [])
+        gives-then (MapKinds nodes) (AreOfKinds gives) (nodes_run c nodes xs no_outputs) (λ o. Returned (map (read xs o) results) [])
         (nodes-keep args [] nodes (region-nodes objects (region args nodes results) p.0) p.1 xs kinds no_outputs (λ n q k d. absurd cc))
         (λ o m. origins-kinds (known args nodes) (read xs o) (λ a k d. read-kind args xs kinds nodes o m a k d) results gives e)
 
@@ -268,10 +268,10 @@ module _ (objects : ℕ) (c : Around) (calls : CallsKeep c.call) where
     node-keeps args b (node id Put inputs rs) t nested xs kinds o m =
         let us = map (read xs o) inputs in
         done-gives (Io ∷ []) Put us
-        (number-gives (AreOfKinds (Io ∷ [])) (value_at us 0) (λ w. on_input (at_port us 1) (λ i. Back (input i ∷ []) (wrote (w % 256) ∷ []))) (λ w. input-gives (AreOfKinds (Io ∷ [])) (at_port us 1) (λ i. Back (input i ∷ []) (wrote (w % 256) ∷ [])) (λ i. (tt, tt))))
+        (number-gives (AreOfKinds (Io ∷ [])) (value_at us 0) (λ w. on_input (at_port us 1) (λ i. Returned (input i ∷ []) (wrote (w % 256) ∷ []))) (λ w. input-gives (AreOfKinds (Io ∷ [])) (at_port us 1) (λ i. Returned (input i ∷ []) (wrote (w % 256) ∷ [])) (λ i. (tt, tt))))
     node-keeps args b (node id Exit inputs rs) t nested xs kinds o m =
         let us = map (read xs o) inputs in
-        done-gives (Io ∷ []) Exit us (number-gives (AreOfKinds (Io ∷ [])) (value_at us 0) (λ w. Ended [] (w % 256)) (λ w. tt))
+        done-gives (Io ∷ []) Exit us (number-gives (AreOfKinds (Io ∷ [])) (value_at us 0) (λ w. Exited [] (w % 256)) (λ w. tt))
     node-keeps args b (node id Get inputs rs) t nested xs kinds o m =
         let us = map (read xs o) inputs in
         done-gives (ValueKind ∷ Io ∷ []) Get us (input-gives (AreOfKinds (ValueKind ∷ Io ∷ [])) (at_port us 0) got got-gives)
@@ -324,7 +324,7 @@ changed-kinds (k ∷ ks) zero f (x ∷ xs) h = (by k x h.0, h.1)
     by Io (memory m) h = absurd h
 changed-kinds (k ∷ ks) (suc n) f (x ∷ xs) h = (h.0, changed-kinds ks n f xs h.1)
 
--- the memory stands behind the values
+-- the memory stands after the values
 memory-place : (count : ℕ) (xs : List Datum) → AreOfKinds (call_takes count) xs → (n : ℕ) (m : Blocks) → at_port xs n ≡ memory m → n ≡ count
 memory-place zero [] h n m e = absurd h
 memory-place zero (x ∷ []) h n m e = absurd h.1
@@ -355,7 +355,7 @@ entered-keeps n call global calls l well count xs kinds =
     let place = memory-place count xs kinds l.params m e in
     let args : call_takes count ≡ args_of l.body = ap call_takes (sym place) ∙ sym (same-equal (args_of l.body) (call_takes l.params) b.0) in
     let body = region-keeps (length l.objects) (inside n call global l.objects m) calls l.body q.1 call_gives (are-equal (result_kinds l.body) call_gives b.1) in
-    gives-then (AreOfKinds call_gives) (AreOfKinds call_gives) (region_meaning (inside n call global l.objects m) l.body (changed_at l.params (with_memory (λ k. k ++ opened l.objects)) xs)) (λ ys. Back (changed_at 1 (with_memory (closed (length m) (length l.objects))) ys) [])
+    gives-then (AreOfKinds call_gives) (AreOfKinds call_gives) (region_meaning (inside n call global l.objects m) l.body (changed_at l.params (with_memory (λ k. k ++ opened l.objects)) xs)) (λ ys. Returned (changed_at 1 (with_memory (closed (length m) (length l.objects))) ys) [])
     (body (changed_at l.params (with_memory (λ k. k ++ opened l.objects)) xs) (subst (λ ks. AreOfKinds ks (changed_at l.params (with_memory (λ k. k ++ opened l.objects)) xs)) args (changed-kinds (call_takes count) l.params (λ k. k ++ opened l.objects) xs kinds)))
     (λ ys h. changed-kinds call_gives 1 (closed (length m) (length l.objects)) ys h))
 
@@ -419,15 +419,15 @@ same-left : (i j : List ℕ) → (input i ≡ input j) ⊎ (input i ≡ val Bad)
 same-left i j (inl e) = cc
 same-left i j (inr e) = absurd cc
 
-near-values : (v w : Value) → (val v ≡ val w) ⊎ (val v ≡ val Bad) → IsNear v w
-near-values v w (inl e) = inl cc
-near-values v w (inr e) = inr cc
+less-values : (v w : Value) → (val v ≡ val w) ⊎ (val v ≡ val Bad) → IsLessDefined v w
+less-values v w (inl e) = inl cc
+less-values v w (inr e) = inr cc
 
-return-alike : (xs ys : List Datum) → AreOfKinds call_gives xs → AreOfKinds call_gives ys → Paired IsNearDatum xs ys → ReturnAlike xs ys
-return-alike xs ys h g p =
+return-refine : (xs ys : List Datum) → AreOfKinds call_gives xs → AreOfKinds call_gives ys → Paired IsLessDefinedDatum xs ys → ReturnsRefine xs ys
+return-refine xs ys h g p =
     let a = three xs h in
     let b = three ys g in
-    let near = subst₂ (λ us ws. Paired IsNearDatum us ws) a.is b.is p in
+    let near = subst₂ (λ us ws. Paired IsLessDefinedDatum us ws) a.is b.is p in
     record {
       near = a.value;
       far = b.value;
@@ -435,38 +435,38 @@ return-alike xs ys h g p =
       left = a.left;
       near_is = a.is;
       far_is = b.is ∙ ap₂ (λ m l. val b.value ∷ memory m ∷ input l ∷ []) (sym (same-blocks a.blocks b.blocks near.1.0.0)) (sym (same-left a.left b.left near.1.1.0.0));
-      alike = near-values a.value b.value near.0.0;
+      alike = less-values a.value b.value near.0.0;
     }
 
 -- what is known of the results on both sides, and a relation that follows
-like-both : (way : Way) (P : List Datum → Type 0) (R S : List Datum → List Datum → Type 0) (a b : Answer (List Datum)) → Gives P a → Gives P b → ((xs ys : List Datum) → P xs → P ys → R xs ys → S xs ys) → Like no_deeper way R a b → Like no_deeper way S a b
-like-both way P R S Wrong b g h more l = tt
-like-both way P R S (Back x o) (Back y p) g h more l = (more x y g h l.0, l.1)
-like-both way P R S (Ended o s) (Ended p t) g h more l = l
-like-both Forth P R S (Cut o) (Back y p) g h more l = l
-like-both Forth P R S (Cut o) (Ended p t) g h more l = l
-like-both Forth P R S (Cut o) (Cut p) g h more l = l
-like-both Forth P R S (Cut o) Wrong g h more l = tt
-like-both Backward P R S (Back x o) (Cut p) g h more l = l
-like-both Backward P R S (Ended o s) (Cut p) g h more l = l
-like-both Backward P R S (Cut o) (Cut p) g h more l = l
-like-both way P R S _ _ g h more l = absurd l
+refines-both : (direction : Direction) (P : List Datum → Type 0) (R S : List Datum → List Datum → Type 0) (a b : Answer (List Datum)) → Gives P a → Gives P b → ((xs ys : List Datum) → P xs → P ys → R xs ys → S xs ys) → Refines no_deeper direction R a b → Refines no_deeper direction S a b
+refines-both direction P R S Undefined b g h more l = tt
+refines-both direction P R S (Returned x o) (Returned y p) g h more l = (more x y g h l.0, l.1)
+refines-both direction P R S (Exited o s) (Exited p t) g h more l = l
+refines-both Forward P R S (Cut o) (Returned y p) g h more l = l
+refines-both Forward P R S (Cut o) (Exited p t) g h more l = l
+refines-both Forward P R S (Cut o) (Cut p) g h more l = l
+refines-both Forward P R S (Cut o) Undefined g h more l = tt
+refines-both Backward P R S (Returned x o) (Cut p) g h more l = l
+refines-both Backward P R S (Exited o s) (Cut p) g h more l = l
+refines-both Backward P R S (Cut o) (Cut p) g h more l = l
+refines-both direction P R S _ _ g h more l = absurd l
 
 pub well_formed_keep_meaning : WellFormedKeepMeaning
 well_formed_keep_meaning ls ks well well' same global f count xs globals sound kinds right n =
     let more = 2 * n + 2 in
     let most = 2 * more + 2 in
-    let forth = calls-like Forth n more (le_refl _) in
-    let back = calls-like Backward more n (le_refl _) in
+    let forward = calls-refines Forward n more (le_refl _) in
+    let back = calls-refines Backward more n (le_refl _) in
     record {
-      forth = forth-within no_deeper no_deeper-output ReturnAlike (ev_lambda n ls global f xs) (ev_lambda more ks global f xs) forth (right n)
-          (λ wrong. backward-right no_deeper ReturnAlike (ev_lambda most ls global f xs) (ev_lambda more ks global f xs) (calls-like Backward most more (le_refl _)) (right most) wrong);
-      back = backward-within no_deeper no_deeper-output ReturnAlike (ev_lambda more ls global f xs) (ev_lambda n ks global f xs) back (right more);
-      no_deeper = λ sizes. backward-no-deeper no_deeper no_deeper-depth ReturnAlike (ev_lambda more ls global f xs) (ev_lambda n ks global f xs) back (right more) sizes;
+      forward = forward-within no_deeper no_deeper-output ReturnsRefine (lambda_at n ls global f xs) (lambda_at more ks global f xs) forward (right n)
+          (λ wrong. backward-right no_deeper ReturnsRefine (lambda_at most ls global f xs) (lambda_at more ks global f xs) (calls-refines Backward most more (le_refl _)) (right most) wrong);
+      back = backward-within no_deeper no_deeper-output ReturnsRefine (lambda_at more ls global f xs) (lambda_at n ks global f xs) back (right more);
+      no_deeper = λ sizes. backward-no-deeper no_deeper no_deeper-depth ReturnsRefine (lambda_at more ls global f xs) (lambda_at n ks global f xs) back (right more) sizes;
     }
   where
-    calls-like : (way : Way) (n m : ℕ) → IsTwice way 2 n m → Like no_deeper way ReturnAlike (ev_lambda n ls global f xs) (ev_lambda m ks global f xs)
-    calls-like way n m twice =
-        like-both way (AreOfKinds call_gives) (Paired IsNearDatum) ReturnAlike (ev_lambda n ls global f xs) (ev_lambda m ks global f xs)
-        (lambdas_keep_kinds n ls global f count xs well kinds) (lambdas_keep_kinds m ks global f count xs well' kinds) return-alike
-        (lambda-like ls ks same way global globals f n m twice xs sound)
+    calls-refines : (direction : Direction) (n m : ℕ) → IsTwice direction 2 n m → Refines no_deeper direction ReturnsRefine (lambda_at n ls global f xs) (lambda_at m ks global f xs)
+    calls-refines direction n m twice =
+        refines-both direction (AreOfKinds call_gives) (Paired IsLessDefinedDatum) ReturnsRefine (lambda_at n ls global f xs) (lambda_at m ks global f xs)
+        (lambdas_keep_kinds n ls global f count xs well kinds) (lambdas_keep_kinds m ks global f count xs well' kinds) return-refine
+        (lambda-refines ls ks same direction global globals f n m twice xs sound)

@@ -2,13 +2,13 @@ mod Examples
 pub mod Kept
 pub mod Regions
 pub mod Equal
-pub mod Nearness
+pub mod LessDefinedLemmas
 pub mod Calls
 pub mod Bounds
 pub mod Replacement
 pub mod Programs
 pub mod Silent
-pub mod Local
+pub mod LocalRefinement
 pub mod Copies
 pub mod Closed
 pub mod Edits

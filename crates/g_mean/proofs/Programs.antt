@@ -3,19 +3,19 @@ use Rattle.std.proofs.Common.{ℕ, zero, suc, ◌+◌, ◌*◌, ◌^◌, ◌<◌
 use Rattle.val_core.specs.declared.leaf.Leaf.{Leaf}
 use Rattle.val_core.specs.Values.{IsSound}
 use Rattle.val_core.specs.Memory.{AreSoundCells, IsSoundMemory}
-use Rattle.val_core.specs.Likeness.{Way, Like, no_deeper}
-use Rattle.val_core.proofs.Likeness.{like-then}
+use Rattle.val_core.specs.Refinement.{Direction, Refines, no_deeper}
+use Rattle.val_core.proofs.Refinement.{refines-then}
 use Rattle.g_graph.specs.Plain.{PlainLambda}
 use Rattle.g_mean.specs.Data.{Datum, memory, input, at_port}
-use Rattle.g_mean.specs.Calls.{PlainDelta, PlainOmega, delta_sizes, global_of, little_endian, link_at, leaf_value, first_cell, first_block, first_memory, ev_lambda, finished, started, evmain, place_of, main_name}
-use Rattle.g_mean.specs.Near.{Paired, AreBytes, AreNarrow, IsNearDatum, AreSoundDeltas}
-use Rattle.g_mean.specs.Alike.{LambdasSameBut}
+use Rattle.g_mean.specs.Calls.{PlainDelta, PlainOmega, delta_sizes, global_of, little_endian, link_at, leaf_value, first_cell, first_block, first_memory, lambda_at, finished, started, program_at, place_of, main_name}
+use Rattle.g_mean.specs.LessDefined.{Paired, AreBytes, AreNarrow, IsLessDefinedDatum, AreSoundDeltas}
+use Rattle.g_mean.specs.Refining.{LambdasSameBut}
 use Rattle.g_mean.specs.Replacement.{IsTwice, Replaces, ProgramsKeepMeaning}
 use Rattle.g_mean.proofs.Kept.{paired-at}
-use Rattle.g_mean.proofs.Regions.{on_number-like}
+use Rattle.g_mean.proofs.Regions.{on_number-refines}
 use Rattle.g_mean.proofs.Equal.{no_deeper-compares}
-use Rattle.g_mean.proofs.Nearness.{near-kept, address-sound}
-use Rattle.g_mean.proofs.Replacement.{kept-within, lambda-like}
+use Rattle.g_mean.proofs.LessDefinedLemmas.{less-kept, address-sound}
+use Rattle.g_mean.proofs.Replacement.{kept-within, lambda-refines}
 
 -- ---- the memory of the globals is sound
 
@@ -66,19 +66,19 @@ memory-sound ds s = blocks-sound ds ds s
 
 -- ---- programs
 
-finished-like : (way : Way) (us vs : List Datum) → Paired IsNearDatum us vs → Like no_deeper way (Paired IsNearDatum) (finished us) (finished vs)
-finished-like way us vs near =
-    on_number-like no_deeper no_deeper-compares way IsNearDatum near-kept (Paired IsNearDatum) (at_port us 0) (at_port vs 0) (paired-at IsNearDatum near-kept us vs near 0) _ _ (λ w. (no_deeper-compares.itself [], refl))
+finished-refines : (direction : Direction) (us vs : List Datum) → Paired IsLessDefinedDatum us vs → Refines no_deeper direction (Paired IsLessDefinedDatum) (finished us) (finished vs)
+finished-refines direction us vs near =
+    on_number-refines no_deeper no_deeper-compares direction IsLessDefinedDatum less-kept (Paired IsLessDefinedDatum) (at_port us 0) (at_port vs 0) (paired-at IsLessDefinedDatum less-kept us vs near 0) _ _ (λ w. (no_deeper-compares.itself [], refl))
 
-started-like : (ls ks : List PlainLambda) → LambdasSameBut (Replaces ls ks) ls ks → (o : PlainOmega) → AreSoundDeltas o.deltas → (i : List ℕ) → AreBytes i → (way : Way) (n m : ℕ) → IsTwice way 2 n m → (f : Option ℕ) → Like no_deeper way (Paired IsNearDatum) (started n o ls f i) (started m o ks f i)
-started-like ls ks same o deltas i bytes way n m twice None = tt
-started-like ls ks same o deltas i bytes way n m twice (Some f) =
+started-refines : (ls ks : List PlainLambda) → LambdasSameBut (Replaces ls ks) ls ks → (o : PlainOmega) → AreSoundDeltas o.deltas → (i : List ℕ) → AreBytes i → (direction : Direction) (n m : ℕ) → IsTwice direction 2 n m → (f : Option ℕ) → Refines no_deeper direction (Paired IsLessDefinedDatum) (started n o ls f i) (started m o ks f i)
+started-refines ls ks same o deltas i bytes direction n m twice None = tt
+started-refines ls ks same o deltas i bytes direction n m twice (Some f) =
     let start = memory (first_memory o.deltas) ∷ input i ∷ [] in
-    like-then no_deeper no_deeper-compares.goes (Paired IsNearDatum) (Paired IsNearDatum) way (ev_lambda n ls (global_of o.deltas) f start) (ev_lambda m ks (global_of o.deltas) f start) finished finished
-    (lambda-like ls ks same way (global_of o.deltas) (λ k. address-sound (0 + k) (slice_get (delta_sizes o.deltas) k)) f n m twice start (memory-sound o.deltas deltas, (bytes, tt)))
-    (finished-like way)
+    refines-then no_deeper no_deeper-compares.goes (Paired IsLessDefinedDatum) (Paired IsLessDefinedDatum) direction (lambda_at n ls (global_of o.deltas) f start) (lambda_at m ks (global_of o.deltas) f start) finished finished
+    (lambda-refines ls ks same direction (global_of o.deltas) (λ k. address-sound (0 + k) (slice_get (delta_sizes o.deltas) k)) f n m twice start (memory-sound o.deltas deltas, (bytes, tt)))
+    (finished-refines direction)
 
 pub programs_keep_meaning : ProgramsKeepMeaning
 programs_keep_meaning ls ks same o i deltas bytes =
-    kept-within (λ n. evmain n o ls i) (λ n. evmain n o ks i)
-    (λ way n m twice. started-like ls ks same o deltas i bytes way n m twice (place_of main_name o.names))
+    kept-within (λ n. program_at n o ls i) (λ n. program_at n o ks i)
+    (λ direction n m twice. started-refines ls ks same o deltas i bytes direction n m twice (place_of main_name o.names))

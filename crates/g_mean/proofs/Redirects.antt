@@ -2,9 +2,9 @@
 use Rattle.std.proofs.Common.{◌≡◌, ◌≢◌, ℕ, ◌==◌, ◌⊎◌, Bool, true, false, not, List, [], ◌∷◌, ◌++◌, map, length, refl, sym, ap, ap₂, subst, subst₂, ◌∙◌, inl, inr, arith, append_assoc}
 use Rattle.std.proofs.lemmas.Bool.{cases_Bool, eqb-false}
 use Rattle.std.proofs.lemmas.Bool.Decides.{nat_tests}
-use Rattle.val_core.specs.Answers.{Answer, Back, Cut, Ended, Wrong, Gives}
-use Rattle.val_core.specs.Likeness.{Way, Like, no_deeper}
-use Rattle.val_core.proofs.Likeness.{like-then, like-gives}
+use Rattle.val_core.specs.Answers.{Answer, Returned, Cut, Exited, Undefined, Gives}
+use Rattle.val_core.specs.Refinement.{Direction, Refines, no_deeper}
+use Rattle.val_core.proofs.Refinement.{refines-then, refines-gives}
 use Rattle.g_graph.specs.declared.op.Kind.{Kind}
 use Rattle.g_graph.specs.declared.op.Origin.{Origin}
 use Rattle.g_graph.specs.declared.op.Origin.TheVariants.{Arg, Out}
@@ -14,21 +14,21 @@ use Rattle.g_graph.specs.WellFormed.{some_of, distinct}
 use Rattle.g_graph.specs.Replace.{node_redirected, nodes_redirected, region_redirected}
 use Rattle.g_graph.specs.Splice.{joined_nodes}
 use Rattle.g_mean.specs.Data.{Datum, at_port}
-use Rattle.g_mean.specs.Meaning.{Around, Outputs, no_outputs, extended, read, region_meaning, node_run, nodes_run}
-use Rattle.g_mean.specs.Near.{Paired, IsNearDatum}
-use Rattle.g_mean.specs.Alike.{MeaningLike, AroundLike}
+use Rattle.g_mean.specs.Meaning.{Context, Outputs, no_outputs, extended, read, region_meaning, node_run, nodes_run}
+use Rattle.g_mean.specs.LessDefined.{Paired, IsLessDefinedDatum}
+use Rattle.g_mean.specs.Refining.{MeaningRefines, ContextRefines}
 use Rattle.g_mean.specs.Copies.{IsAmong, IsRead, AreRead, NodeReads, NodesRead, known_after, is_argument, CanMove}
-use Rattle.g_mean.specs.Moves.{ReadNear}
+use Rattle.g_mean.specs.Moves.{ReadLessDefined}
 use Rattle.g_mean.specs.Holds.{HasRun, HaveRun}
-use Rattle.g_mean.specs.Splices.{CanRedirect, RedirectedRegionsAreAlike, ReplacedNodesAreAlike}
-use Rattle.g_mean.proofs.Kept.{OutputsLike, paired-at, reads-like}
-use Rattle.g_mean.proofs.Regions.{extended-like, nodes-like}
+use Rattle.g_mean.specs.Splices.{CanRedirect, RedirectedRegionsRefine, ReplacedNodesRefine}
+use Rattle.g_mean.proofs.Kept.{OutputsRefine, paired-at, reads-refines}
+use Rattle.g_mean.proofs.Regions.{extended-refines, nodes-refines}
 use Rattle.g_mean.proofs.Equal.{no_deeper-compares}
-use Rattle.g_mean.proofs.Nearness.{near-kept}
+use Rattle.g_mean.proofs.LessDefinedLemmas.{less-kept}
 use Rattle.g_mean.proofs.Calls.{nodes-itself}
-use Rattle.g_mean.proofs.Bounds.{Never, Always, never-like}
+use Rattle.g_mean.proofs.Bounds.{Never, Always, never-refines}
 use Rattle.g_mean.proofs.Copies.{among-left, among-right, redirected-moved}
-use Rattle.g_mean.proofs.Moves.{reads-near, moved_nodes_are_alike}
+use Rattle.g_mean.proofs.Moves.{reads-less, moved_nodes_refine}
 use Rattle.g_mean.proofs.Edits.{distinct-split}
 use Rattle.g_mean.proofs.Holds.{none-among, among-none, id-among, distinct-apart, holds-from}
 use Rattle.g_mean.proofs.Splices.{joined-run, joined-ids, joined-known, joined-read, joined-reads, known-among, all-wider, nodes-wider, known-split, all-among}
@@ -65,7 +65,7 @@ joined-assoc : (ns : NodeTrees) (x : NodeTree) (ms : NodeTrees) → joined_nodes
 joined-assoc no_nodes x ms = refl
 joined-assoc (node_then y ns) x ms = ap (node_then y) (joined-assoc ns x ms)
 
-have-split : (c : Around) (xs : List Datum) (o : Outputs) (ns : NodeTrees) (x : NodeTree) → HaveRun c xs o (joined_nodes ns (node_then x no_nodes)) → HaveRun c xs o ns × HasRun c xs o x
+have-split : (c : Context) (xs : List Datum) (o : Outputs) (ns : NodeTrees) (x : NodeTree) → HaveRun c xs o (joined_nodes ns (node_then x no_nodes)) → HaveRun c xs o ns × HasRun c xs o x
 have-split c xs o no_nodes x h = (tt, h.0)
 have-split c xs o (node_then y ns) x h = let rest = have-split c xs o ns x h.1 in ((h.0, rest.0), rest.1)
 
@@ -73,7 +73,7 @@ append-nothing : (ns : List ℕ) → ns ++ [] ≡ ns
 append-nothing [] = refl
 append-nothing (n ∷ ns) = ap (λ ms. n ∷ ms) (append-nothing ns)
 
-module _ (way : Way) (c d : Around) (around : AroundLike no_deeper way IsNearDatum c d) (args : List Kind) (before : NodeTrees) (x : NodeTree) (after : NodeTrees) (results : List Origin) (move : Origin → Origin) (can : CanRedirect args before x after results move) where
+module _ (direction : Direction) (c d : Context) (context : ContextRefines no_deeper direction IsLessDefinedDatum c d) (args : List Kind) (before : NodeTrees) (x : NodeTree) (after : NodeTrees) (results : List Origin) (move : Origin → Origin) (can : CanRedirect args before x after results move) where
   all-distinct : distinct (nodes_ids before ++ (node_ids x ++ nodes_ids after)) ≡ true
   all-distinct = subst (λ zs. distinct zs ≡ true) (joined-ids before (node_then x after)) can.unique
 
@@ -158,7 +158,7 @@ module _ (way : Way) (c d : Around) (around : AroundLike no_deeper way IsNearDat
   -- ---- the whole region
 
   first-run : (xs : List Datum) (a : Answer Outputs) → nodes_run c (joined_nodes before (node_then x no_nodes)) xs no_outputs ≡ a → Gives (λ o. HaveRun c xs o (joined_nodes before (node_then x no_nodes))) a
-  first-run xs (Back o did) e =
+  first-run xs (Returned o did) e =
       holds-from (length args) c (joined_nodes before (node_then x no_nodes)) [] xs no_outputs o did
       (joined-reads (is_argument (length args)) [] before (node_then x no_nodes) whole-read.0 (whole-read.1.0, tt)) (λ n h k. h) first-distinct e
     where
@@ -167,8 +167,8 @@ module _ (way : Way) (c d : Around) (around : AroundLike no_deeper way IsNearDat
           subst (λ zs. distinct zs ≡ true) (sym (joined-ids before (node_then x no_nodes) ∙ ap (λ zs. nodes_ids before ++ zs) (append-nothing (node_ids x))))
           (distinct-split (nodes_ids before ++ node_ids x) (nodes_ids after) (subst (λ zs. distinct zs ≡ true) (sym (append_assoc (nodes_ids before) (node_ids x) (nodes_ids after))) all-distinct)).0
   first-run xs (Cut o) e = tt
-  first-run xs (Ended o s) e = tt
-  first-run xs Wrong e = tt
+  first-run xs (Exited o s) e = tt
+  first-run xs Undefined e = tt
 
   abbrev first : NodeTrees
   first = joined_nodes before (node_then x no_nodes)
@@ -189,82 +189,82 @@ module _ (way : Way) (c d : Around) (around : AroundLike no_deeper way IsNearDat
       ∙ ap₂ (λ ns y. joined_nodes ns (node_then y (nodes_redirected move after))) (nodes-stay (is_argument (length args)) [] move argument-stays (id_of x) (λ n p e. can.others n p e) before (λ h. h) at-before whole-read.0) (node-stays (is_argument (length args)) (known_after [] before) move known-stays x whole-read.1.0)
       ∙ joined-assoc before x (nodes_redirected move after)
 
-  module _ (own-near : (xs ys : List Datum) (o q : Outputs) → Paired IsNearDatum xs ys → OutputsLike IsNearDatum o q → HaveRun c xs o before → HasRun c xs o x → (p : ℕ) → IsNearDatum (o (id_of x) p) (read ys q (move (Out (id_of x) p)))) where
-    after-near : (xs ys : List Datum) (o q : Outputs) → Paired IsNearDatum xs ys → OutputsLike IsNearDatum o q → HaveRun c xs o first → ReadNear outside [] move xs ys o q
-    after-near xs ys o q near like have (Arg k) h = subst (λ z. IsNearDatum (at_port xs k) (read ys q z)) (sym (can.arguments k)) (paired-at IsNearDatum near-kept xs ys near k)
-    after-near xs ys o q near like have (Out i j) (inr h) = absurd h
-    after-near xs ys o q near like have (Out i j) (inl t) = by (cases_Bool (i == id_of x))
+  module _ (own-less : (xs ys : List Datum) (o q : Outputs) → Paired IsLessDefinedDatum xs ys → OutputsRefine IsLessDefinedDatum o q → HaveRun c xs o before → HasRun c xs o x → (p : ℕ) → IsLessDefinedDatum (o (id_of x) p) (read ys q (move (Out (id_of x) p)))) where
+    after-less : (xs ys : List Datum) (o q : Outputs) → Paired IsLessDefinedDatum xs ys → OutputsRefine IsLessDefinedDatum o q → HaveRun c xs o first → ReadLessDefined outside [] move xs ys o q
+    after-less xs ys o q near like have (Arg k) h = subst (λ z. IsLessDefinedDatum (at_port xs k) (read ys q z)) (sym (can.arguments k)) (paired-at IsLessDefinedDatum less-kept xs ys near k)
+    after-less xs ys o q near like have (Out i j) (inr h) = absurd h
+    after-less xs ys o q near like have (Out i j) (inl t) = by (cases_Bool (i == id_of x))
       where
-        by : ((i == id_of x) ≡ true) ⊎ ((i == id_of x) ≡ false) → IsNearDatum (o i j) (read ys q (move (Out i j)))
+        by : ((i == id_of x) ≡ true) ⊎ ((i == id_of x) ≡ false) → IsLessDefinedDatum (o i j) (read ys q (move (Out i j)))
         by (inl f) =
             let same : id_of x ≡ i = grind (arith, nat_tests) in
             let parts = have-split c xs o before x have in
-            subst (λ n. IsNearDatum (o n j) (read ys q (move (Out n j)))) same (own-near xs ys o q near like parts.0 parts.1 j)
-        by (inr f) = subst (λ z. IsNearDatum (o i j) (read ys q z)) (sym (can.others i j (eqb-false i (id_of x) f))) (like i j)
+            subst (λ n. IsLessDefinedDatum (o n j) (read ys q (move (Out n j)))) same (own-less xs ys o q near like parts.0 parts.1 j)
+        by (inr f) = subst (λ z. IsLessDefinedDatum (o i j) (read ys q z)) (sym (can.others i j (eqb-false i (id_of x) f))) (like i j)
 
-    nodes-near : (xs ys : List Datum) → Paired IsNearDatum xs ys → Like no_deeper way (ReadNear outside (known_after [] after) move xs ys) (nodes_run c (joined_nodes first after) xs no_outputs) (nodes_run d (joined_nodes first (nodes_redirected move after)) ys no_outputs)
-    nodes-near xs ys near =
-        subst₂ (λ a b. Like no_deeper way (ReadNear outside (known_after [] after) move xs ys) a b) (sym (joined-run c first after xs no_outputs)) (sym (joined-run d first (nodes_redirected move after) ys no_outputs))
-        (like-then no_deeper no_deeper-compares.goes (λ o q. HaveRun c xs o first × OutputsLike IsNearDatum o q) (ReadNear outside (known_after [] after) move xs ys) way
+    nodes-less : (xs ys : List Datum) → Paired IsLessDefinedDatum xs ys → Refines no_deeper direction (ReadLessDefined outside (known_after [] after) move xs ys) (nodes_run c (joined_nodes first after) xs no_outputs) (nodes_run d (joined_nodes first (nodes_redirected move after)) ys no_outputs)
+    nodes-less xs ys near =
+        subst₂ (λ a b. Refines no_deeper direction (ReadLessDefined outside (known_after [] after) move xs ys) a b) (sym (joined-run c first after xs no_outputs)) (sym (joined-run d first (nodes_redirected move after) ys no_outputs))
+        (refines-then no_deeper no_deeper-compares.goes (λ o q. HaveRun c xs o first × OutputsRefine IsLessDefinedDatum o q) (ReadLessDefined outside (known_after [] after) move xs ys) direction
         (nodes_run c first xs no_outputs) (nodes_run d first ys no_outputs) (nodes_run c after xs) (nodes_run d (nodes_redirected move after) ys)
-        (like-gives no_deeper way (λ o. HaveRun c xs o first) (OutputsLike IsNearDatum) (nodes_run c first xs no_outputs) (nodes_run d first ys no_outputs) (first-run xs (nodes_run c first xs no_outputs) refl)
-        (nodes-like no_deeper no_deeper-compares way IsNearDatum near-kept Never Always (never-like no_deeper no_deeper-compares way IsNearDatum near-kept) c d around tt first first (nodes-itself Never first) xs ys near no_outputs no_outputs (λ n p. near-kept.nothing)))
-        (λ o q h. subst (λ ns. Like no_deeper way (ReadNear outside (known_after [] after) move xs ys) (nodes_run c after xs o) (nodes_run d ns ys q)) (redirected-moved move after)
-        (moved_nodes_are_alike way c d around outside move (λ n. n) after after-moves after-reads xs ys o q (after-near xs ys o q near h.1 h.0))))
+        (refines-gives no_deeper direction (λ o. HaveRun c xs o first) (OutputsRefine IsLessDefinedDatum) (nodes_run c first xs no_outputs) (nodes_run d first ys no_outputs) (first-run xs (nodes_run c first xs no_outputs) refl)
+        (nodes-refines no_deeper no_deeper-compares direction IsLessDefinedDatum less-kept Never Always (never-refines no_deeper no_deeper-compares direction IsLessDefinedDatum less-kept) c d context tt first first (nodes-itself Never first) xs ys near no_outputs no_outputs (λ n p. less-kept.nothing)))
+        (λ o q h. subst (λ ns. Refines no_deeper direction (ReadLessDefined outside (known_after [] after) move xs ys) (nodes_run c after xs o) (nodes_run d ns ys q)) (redirected-moved move after)
+        (moved_nodes_refine direction c d context outside move (λ n. n) after after-moves after-reads xs ys o q (after-less xs ys o q near h.1 h.0))))
 
-    pub redirected-like : MeaningLike no_deeper way IsNearDatum (region_meaning c (region args (joined_nodes before (node_then x after)) results)) (region_meaning d (region_redirected move (region args (joined_nodes before (node_then x after)) results)))
-    redirected-like =
-        subst₂ (λ ns ms. MeaningLike no_deeper way IsNearDatum (region_meaning c (region args ns results)) (region_meaning d (region args ms (map move results)))) (sym (joined-assoc before x after)) (sym redirected-first)
+    pub redirected-refines : MeaningRefines no_deeper direction IsLessDefinedDatum (region_meaning c (region args (joined_nodes before (node_then x after)) results)) (region_meaning d (region_redirected move (region args (joined_nodes before (node_then x after)) results)))
+    redirected-refines =
+        subst₂ (λ ns ms. MeaningRefines no_deeper direction IsLessDefinedDatum (region_meaning c (region args ns results)) (region_meaning d (region args ms (map move results)))) (sym (joined-assoc before x after)) (sym redirected-first)
         (record {
           on = λ xs ys near.
-              like-then no_deeper no_deeper-compares.goes (ReadNear outside (known_after [] after) move xs ys) (Paired IsNearDatum) way
+              refines-then no_deeper no_deeper-compares.goes (ReadLessDefined outside (known_after [] after) move xs ys) (Paired IsLessDefinedDatum) direction
               (nodes_run c (joined_nodes first after) xs no_outputs) (nodes_run d (joined_nodes first (nodes_redirected move after)) ys no_outputs)
-              (λ o. Back (map (read xs o) results) []) (λ q. Back (map (read ys q) (map move results)) [])
-              (nodes-near xs ys near)
-              (λ o q h. (reads-near way c d around outside move (λ n. n) (nodes_ids after) after-moves xs ys (known_after [] after) o q h results after-gives, no_deeper-compares.goes.nothing));
+              (λ o. Returned (map (read xs o) results) []) (λ q. Returned (map (read ys q) (map move results)) [])
+              (nodes-less xs ys near)
+              (λ o q h. (reads-less direction c d context outside move (λ n. n) (nodes_ids after) after-moves xs ys (known_after [] after) o q h results after-gives, no_deeper-compares.goes.nothing));
         })
 
-pub redirected_regions_are_alike : RedirectedRegionsAreAlike
-redirected_regions_are_alike way c d around args before x after results move can own-near =
-    redirected-like way c d around args before x after results move can own-near
+pub redirected_regions_refine : RedirectedRegionsRefine
+redirected_regions_refine direction c d context args before x after results move can own-less =
+    redirected-refines direction c d context args before x after results move can own-less
 
 -- ---- another node of the same number
 
-module _ (way : Way) (c d : Around) (around : AroundLike no_deeper way IsNearDatum c d) (args : List Kind) (before : NodeTrees) (x y : NodeTree) (after : NodeTrees) (results : List Origin) (reads : NodesRead (is_argument (length args)) [] before) (unique : distinct (nodes_ids before) ≡ true) (same : id_of x ≡ id_of y) where
+module _ (direction : Direction) (c d : Context) (context : ContextRefines no_deeper direction IsLessDefinedDatum c d) (args : List Kind) (before : NodeTrees) (x y : NodeTree) (after : NodeTrees) (results : List Origin) (reads : NodesRead (is_argument (length args)) [] before) (unique : distinct (nodes_ids before) ≡ true) (same : id_of x ≡ id_of y) where
   before-run : (xs : List Datum) (a : Answer Outputs) → nodes_run c before xs no_outputs ≡ a → Gives (λ o. HaveRun c xs o before) a
-  before-run xs (Back o did) e = holds-from (length args) c before [] xs no_outputs o did reads (λ n h k. h) unique e
+  before-run xs (Returned o did) e = holds-from (length args) c before [] xs no_outputs o did reads (λ n h k. h) unique e
   before-run xs (Cut o) e = tt
-  before-run xs (Ended o s) e = tt
-  before-run xs Wrong e = tt
+  before-run xs (Exited o s) e = tt
+  before-run xs Undefined e = tt
 
-  same-like : (ns : NodeTrees) (xs ys : List Datum) → Paired IsNearDatum xs ys → (o q : Outputs) → OutputsLike IsNearDatum o q → Like no_deeper way (OutputsLike IsNearDatum) (nodes_run c ns xs o) (nodes_run d ns ys q)
-  same-like ns xs ys near o q like =
-      nodes-like no_deeper no_deeper-compares way IsNearDatum near-kept Never Always (never-like no_deeper no_deeper-compares way IsNearDatum near-kept) c d around tt ns ns (nodes-itself Never ns) xs ys near o q like
+  same-refines : (ns : NodeTrees) (xs ys : List Datum) → Paired IsLessDefinedDatum xs ys → (o q : Outputs) → OutputsRefine IsLessDefinedDatum o q → Refines no_deeper direction (OutputsRefine IsLessDefinedDatum) (nodes_run c ns xs o) (nodes_run d ns ys q)
+  same-refines ns xs ys near o q like =
+      nodes-refines no_deeper no_deeper-compares direction IsLessDefinedDatum less-kept Never Always (never-refines no_deeper no_deeper-compares direction IsLessDefinedDatum less-kept) c d context tt ns ns (nodes-itself Never ns) xs ys near o q like
 
-  module _ (node-like : (xs ys : List Datum) (o q : Outputs) → Paired IsNearDatum xs ys → OutputsLike IsNearDatum o q → HaveRun c xs o before → Like no_deeper way (Paired IsNearDatum) (node_run c x xs o) (node_run d y ys q)) where
-    replaced-nodes : (xs ys : List Datum) → Paired IsNearDatum xs ys → Like no_deeper way (OutputsLike IsNearDatum) (nodes_run c (joined_nodes before (node_then x after)) xs no_outputs) (nodes_run d (joined_nodes before (node_then y after)) ys no_outputs)
+  module _ (node-refines : (xs ys : List Datum) (o q : Outputs) → Paired IsLessDefinedDatum xs ys → OutputsRefine IsLessDefinedDatum o q → HaveRun c xs o before → Refines no_deeper direction (Paired IsLessDefinedDatum) (node_run c x xs o) (node_run d y ys q)) where
+    replaced-nodes : (xs ys : List Datum) → Paired IsLessDefinedDatum xs ys → Refines no_deeper direction (OutputsRefine IsLessDefinedDatum) (nodes_run c (joined_nodes before (node_then x after)) xs no_outputs) (nodes_run d (joined_nodes before (node_then y after)) ys no_outputs)
     replaced-nodes xs ys near =
-        subst₂ (λ a b. Like no_deeper way (OutputsLike IsNearDatum) a b) (sym (joined-run c before (node_then x after) xs no_outputs)) (sym (joined-run d before (node_then y after) ys no_outputs))
-        (like-then no_deeper no_deeper-compares.goes (λ o q. HaveRun c xs o before × OutputsLike IsNearDatum o q) (OutputsLike IsNearDatum) way
+        subst₂ (λ a b. Refines no_deeper direction (OutputsRefine IsLessDefinedDatum) a b) (sym (joined-run c before (node_then x after) xs no_outputs)) (sym (joined-run d before (node_then y after) ys no_outputs))
+        (refines-then no_deeper no_deeper-compares.goes (λ o q. HaveRun c xs o before × OutputsRefine IsLessDefinedDatum o q) (OutputsRefine IsLessDefinedDatum) direction
         (nodes_run c before xs no_outputs) (nodes_run d before ys no_outputs) (nodes_run c (node_then x after) xs) (nodes_run d (node_then y after) ys)
-        (like-gives no_deeper way (λ o. HaveRun c xs o before) (OutputsLike IsNearDatum) (nodes_run c before xs no_outputs) (nodes_run d before ys no_outputs) (before-run xs (nodes_run c before xs no_outputs) refl) (same-like before xs ys near no_outputs no_outputs (λ n p. near-kept.nothing)))
-        (λ o q h. like-then no_deeper no_deeper-compares.goes (Paired IsNearDatum) (OutputsLike IsNearDatum) way (node_run c x xs o) (node_run d y ys q) (λ us. nodes_run c after xs (extended o (id_of x) us)) (λ us. nodes_run d after ys (extended q (id_of y) us))
-        (node-like xs ys o q near h.1 h.0)
-        (λ us vs pairs. same-like after xs ys near (extended o (id_of x) us) (extended q (id_of y) vs) (subst (λ n. OutputsLike IsNearDatum (extended o (id_of x) us) (extended q n vs)) same (extended-like no_deeper no_deeper-compares way IsNearDatum near-kept o q h.1 (id_of x) us vs pairs)))))
+        (refines-gives no_deeper direction (λ o. HaveRun c xs o before) (OutputsRefine IsLessDefinedDatum) (nodes_run c before xs no_outputs) (nodes_run d before ys no_outputs) (before-run xs (nodes_run c before xs no_outputs) refl) (same-refines before xs ys near no_outputs no_outputs (λ n p. less-kept.nothing)))
+        (λ o q h. refines-then no_deeper no_deeper-compares.goes (Paired IsLessDefinedDatum) (OutputsRefine IsLessDefinedDatum) direction (node_run c x xs o) (node_run d y ys q) (λ us. nodes_run c after xs (extended o (id_of x) us)) (λ us. nodes_run d after ys (extended q (id_of y) us))
+        (node-refines xs ys o q near h.1 h.0)
+        (λ us vs pairs. same-refines after xs ys near (extended o (id_of x) us) (extended q (id_of y) vs) (subst (λ n. OutputsRefine IsLessDefinedDatum (extended o (id_of x) us) (extended q n vs)) same (extended-refines no_deeper no_deeper-compares direction IsLessDefinedDatum less-kept o q h.1 (id_of x) us vs pairs)))))
 
-    pub replaced-like : MeaningLike no_deeper way IsNearDatum (region_meaning c (region args (joined_nodes before (node_then x after)) results)) (region_meaning d (region args (joined_nodes before (node_then y after)) results))
-    replaced-like =
+    pub replaced-refines : MeaningRefines no_deeper direction IsLessDefinedDatum (region_meaning c (region args (joined_nodes before (node_then x after)) results)) (region_meaning d (region args (joined_nodes before (node_then y after)) results))
+    replaced-refines =
         record {
           on = λ xs ys near.
-              like-then no_deeper no_deeper-compares.goes (OutputsLike IsNearDatum) (Paired IsNearDatum) way
+              refines-then no_deeper no_deeper-compares.goes (OutputsRefine IsLessDefinedDatum) (Paired IsLessDefinedDatum) direction
               (nodes_run c (joined_nodes before (node_then x after)) xs no_outputs) (nodes_run d (joined_nodes before (node_then y after)) ys no_outputs)
-              (λ o. Back (map (read xs o) results) []) (λ q. Back (map (read ys q) results) [])
+              (λ o. Returned (map (read xs o) results) []) (λ q. Returned (map (read ys q) results) [])
               (replaced-nodes xs ys near)
-              (λ o q h. (reads-like IsNearDatum near-kept xs ys near o q h results, no_deeper-compares.goes.nothing));
+              (λ o q h. (reads-refines IsLessDefinedDatum less-kept xs ys near o q h results, no_deeper-compares.goes.nothing));
         }
 
-pub replaced_nodes_are_alike : ReplacedNodesAreAlike
-replaced_nodes_are_alike way c d around args before x y after results closed unique same node-like =
-    replaced-like way c d around args before x y after results
+pub replaced_nodes_refine : ReplacedNodesRefine
+replaced_nodes_refine direction c d context args before x y after results closed unique same node-refines =
+    replaced-refines direction c d context args before x y after results
     (joined-read (is_argument (length args)) [] before (node_then x after) closed.0).0
-    (distinct-split (nodes_ids before) (node_ids x ++ nodes_ids after) (subst (λ zs. distinct zs ≡ true) (joined-ids before (node_then x after)) unique)).0 same node-like
+    (distinct-split (nodes_ids before) (node_ids x ++ nodes_ids after) (subst (λ zs. distinct zs ≡ true) (joined-ids before (node_then x after)) unique)).0 same node-refines

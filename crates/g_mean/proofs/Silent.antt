@@ -4,7 +4,7 @@ use Rattle.std.proofs.lemmas.Bool.{and_parts}
 use Rattle.val_core.specs.declared.values.Value.{Value}
 use Rattle.val_core.specs.declared.values.Value.TheVariants.{Num, At, Bad}
 use Rattle.val_core.specs.Memory.{Memory as Blocks, load, pointers_equal}
-use Rattle.val_core.specs.Answers.{Answer, Back, Cut, Ended, Wrong, before, then_on}
+use Rattle.val_core.specs.Answers.{Answer, Returned, Cut, Exited, Undefined, before, then_on}
 use Rattle.g_graph.specs.declared.op.Kind.{Kind}
 use Rattle.g_graph.specs.declared.op.Kind.TheVariants.{Value as ValueKind, Memory, Io}
 use Rattle.g_graph.specs.declared.op.Origin.{Origin}
@@ -14,16 +14,16 @@ use Rattle.g_graph.specs.Rows.{output_kinds, result_kinds}
 use Rattle.g_graph.specs.Scope.{is_of, same_kind, each_node}
 use Rattle.g_graph.specs.WellFormed.{same, inputs_fit, inputs_are_last, node_has_one_state_each, has_its_width, has_its_object, results_are_last, region_has_one_state_each, every_region, some_of, are, kinds_of, all_regions, gives, returns_state, every_in_node, every_in_nodes, every_in_regions, has_its_regions, regions_fit, theta_has_states, node_fits, nodes_fit, region_fits}
 use Rattle.g_mean.specs.Data.{Datum, val, memory, input, on_number, on_memory, on_defined, at_port, value_of, value_at}
-use Rattle.g_mean.specs.Meaning.{Meaning, Around, chosen, branched, given, Outputs, no_outputs, extended, read, node_run, nodes_run, region_meaning, meanings}
+use Rattle.g_mean.specs.Meaning.{Meaning, Context, chosen, branched, given, Outputs, no_outputs, extended, read, node_run, nodes_run, region_meaning, meanings}
 use Rattle.g_mean.specs.Silent.{IsSilent, GivesNoState, StatelessNodesAreSilent}
 
 -- ---- answers
 
 pub then-silent : {A B : Type 0} (a : Answer A) (next : A → Answer B) → IsSilent a → ((x : A) → IsSilent (next x)) → IsSilent (then_on a next)
-then-silent (Back x o) next h go = subst (λ p. IsSilent (before p (next x))) (sym h) (go x)
-then-silent Wrong next h go = tt
+then-silent (Returned x o) next h go = subst (λ p. IsSilent (before p (next x))) (sym h) (go x)
+then-silent Undefined next h go = tt
 then-silent (Cut o) next h go = absurd h
-then-silent (Ended o s) next h go = absurd h
+then-silent (Exited o s) next h go = absurd h
 
 number-silent : {A : Type 0} (v : Value) (next : ℕ → Answer A) → ((w : ℕ) → IsSilent (next w)) → IsSilent (on_number v next)
 number-silent (Num w) next h = h w
@@ -158,7 +158,7 @@ region-parts objects args nodes results t none_memory none_io =
 -- ---- nodes
 
 mutual
-  node-silent : (objects : ℕ) (x : NodeTree) → NodeParts x → every_in_node (region_fits objects) x ≡ true → GivesNoState x → (c : Around) (xs : List Datum) (o : Outputs) → IsSilent (node_run c x xs o)
+  node-silent : (objects : ℕ) (x : NodeTree) → NodeParts x → every_in_node (region_fits objects) x ≡ true → GivesNoState x → (c : Context) (xs : List Datum) (o : Outputs) → IsSilent (node_run c x xs o)
   node-silent objects (node id (Const w) inputs rs) p nested none c xs o = refl
   node-silent objects (node id Undef inputs rs) p nested none c xs o = refl
   node-silent objects (node id (Local k) inputs rs) p nested none c xs o = refl
@@ -186,7 +186,7 @@ mutual
   node-silent objects (node id Gamma inputs (region_then r rs)) p nested none c xs o =
       branched-silent (meanings c (region_then r rs)) (regions-silent objects (result_kinds r) (args_of r) (region_then r rs) p.regions nested none.memory none.io c) (map (read xs o) inputs)
 
-  regions-silent : (objects : ℕ) (ks : List (Option Kind)) (first : List Kind) (rs : RegionTrees) → all_regions (λ r. same (args_of r) first && are (result_kinds r) (kinds_of ks)) rs ≡ true → every_in_regions (region_fits objects) rs ≡ true → some_of (is_of Memory) ks ≡ false → some_of (is_of Io) ks ≡ false → (c : Around) → AllSilent (meanings c rs)
+  regions-silent : (objects : ℕ) (ks : List (Option Kind)) (first : List Kind) (rs : RegionTrees) → all_regions (λ r. same (args_of r) first && are (result_kinds r) (kinds_of ks)) rs ≡ true → every_in_regions (region_fits objects) rs ≡ true → some_of (is_of Memory) ks ≡ false → some_of (is_of Io) ks ≡ false → (c : Context) → AllSilent (meanings c rs)
   regions-silent objects ks first no_regions t nested none_memory none_io c = tt
   regions-silent objects ks first (region_then r rs) t nested none_memory none_io c =
       let p = and_parts (same (args_of r) first && are (result_kinds r) (kinds_of ks)) (all_regions (λ s. same (args_of s) first && are (result_kinds s) (kinds_of ks)) rs) t in
@@ -194,13 +194,13 @@ mutual
       let u = and_parts (every_region (region_fits objects) r) (every_in_regions (region_fits objects) rs) nested in
       (region-silent objects r u.0 (same-none Memory ks (result_kinds r) q.1 none_memory) (same-none Io ks (result_kinds r) q.1 none_io) c, regions-silent objects ks first rs p.1 u.1 none_memory none_io c)
 
-  region-silent : (objects : ℕ) (r : RegionTree) → every_region (region_fits objects) r ≡ true → some_of (is_of Memory) (result_kinds r) ≡ false → some_of (is_of Io) (result_kinds r) ≡ false → (c : Around) (xs : List Datum) → IsSilent (region_meaning c r xs)
+  region-silent : (objects : ℕ) (r : RegionTree) → every_region (region_fits objects) r ≡ true → some_of (is_of Memory) (result_kinds r) ≡ false → some_of (is_of Io) (result_kinds r) ≡ false → (c : Context) (xs : List Datum) → IsSilent (region_meaning c r xs)
   region-silent objects (region args nodes results) t none_memory none_io c xs =
       let p = and_parts (region_fits objects (region args nodes results)) (every_in_nodes (region_fits objects) nodes) t in
       let q = region-parts objects args nodes results p.0 none_memory none_io in
-      then-silent (nodes_run c nodes xs no_outputs) (λ o. Back (map (read xs o) results) []) (nodes-silent objects args [] nodes q.fits p.1 q.memory q.io c xs no_outputs) (λ o. refl)
+      then-silent (nodes_run c nodes xs no_outputs) (λ o. Returned (map (read xs o) results) []) (nodes-silent objects args [] nodes q.fits p.1 q.memory q.io c xs no_outputs) (λ o. refl)
 
-  nodes-silent : (objects : ℕ) (args : List Kind) (earlier : List NodeTree) (ns : NodeTrees) → each_node (node_fits objects args) earlier ns ≡ true → every_in_nodes (region_fits objects) ns ≡ true → gives Memory ns ≡ false → gives Io ns ≡ false → (c : Around) (xs : List Datum) (o : Outputs) → IsSilent (nodes_run c ns xs o)
+  nodes-silent : (objects : ℕ) (args : List Kind) (earlier : List NodeTree) (ns : NodeTrees) → each_node (node_fits objects args) earlier ns ≡ true → every_in_nodes (region_fits objects) ns ≡ true → gives Memory ns ≡ false → gives Io ns ≡ false → (c : Context) (xs : List Datum) (o : Outputs) → IsSilent (nodes_run c ns xs o)
   nodes-silent objects args earlier no_nodes t nested none_memory none_io c xs o = refl
   nodes-silent objects args earlier (node_then x ns) t nested none_memory none_io c xs o =
       let p = and_parts (node_fits objects args (nodes_of earlier) x) (each_node (node_fits objects args) (earlier ++ x ∷ []) ns) t in

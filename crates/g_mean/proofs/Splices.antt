@@ -1,14 +1,14 @@
--- A part in the place of a node that is alike.
+-- A part in the place of a node that refines.
 use Rattle.std.proofs.Common.{◌≡◌, ◌≢◌, ℕ, zero, suc, ◌==◌, ◌⊎◌, Bool, true, false, not, nat_lt, List, [], ◌∷◌, ◌++◌, map, length, slice_get, unwrap_or, Option, None, Some, refl, sym, ap, subst, subst₂, ◌∙◌, inl, inr, arith, append_assoc, eq-eqb}
 use Rattle.std.proofs.Math.Path.{fun_ext}
 use Rattle.std.proofs.lemmas.Bool.{cases_Bool, eqb-false}
 use Rattle.std.proofs.lemmas.Bool.Decides.{nat_tests}
 use Rattle.val_core.specs.declared.values.Value.TheVariants.{Bad}
 use Rattle.val_core.specs.Events.{Event}
-use Rattle.val_core.specs.Answers.{Answer, Back, Cut, Ended, Wrong, then_on, Gives}
-use Rattle.val_core.specs.Likeness.{Way, Forth, Backward, Like, no_deeper}
+use Rattle.val_core.specs.Answers.{Answer, Returned, Cut, Exited, Undefined, then_on, Gives}
+use Rattle.val_core.specs.Refinement.{Direction, Forward, Backward, Refines, no_deeper}
 use Rattle.val_core.proofs.Answers.{then_associates, then_nothing}
-use Rattle.val_core.proofs.Likeness.{like-then, like-gives}
+use Rattle.val_core.proofs.Refinement.{refines-then, refines-gives}
 use Rattle.g_graph.specs.declared.op.Kind.{Kind}
 use Rattle.g_graph.specs.declared.op.Origin.{Origin}
 use Rattle.g_graph.specs.declared.op.Origin.TheVariants.{Arg, Out}
@@ -16,29 +16,29 @@ use Rattle.g_graph.specs.Plain.{region, NodeTree, node, NodeTrees, no_nodes, nod
 use Rattle.g_graph.specs.Ids.{node_ids, nodes_ids}
 use Rattle.g_graph.specs.WellFormed.{some_of, distinct}
 use Rattle.g_graph.specs.Replace.{nodes_redirected, region_redirected}
-use Rattle.g_graph.specs.Splice.{placed, without, joined_nodes, nodes_spliced, region_spliced}
+use Rattle.g_graph.specs.Splice.{args_to_inputs, outputs_to_results, joined_nodes, nodes_spliced, region_spliced}
 use Rattle.g_mean.specs.Data.{Datum, val, at_port}
-use Rattle.g_mean.specs.Meaning.{Around, Outputs, no_outputs, extended, read, region_meaning, node_run, nodes_run}
-use Rattle.g_mean.specs.Near.{Paired, IsSoundDatum, IsNearDatum}
-use Rattle.g_mean.specs.Alike.{MeaningLike, AroundLike}
+use Rattle.g_mean.specs.Meaning.{Context, Outputs, no_outputs, extended, read, region_meaning, node_run, nodes_run}
+use Rattle.g_mean.specs.LessDefined.{Paired, IsSoundDatum, IsLessDefinedDatum}
+use Rattle.g_mean.specs.Refining.{MeaningRefines, ContextRefines}
 use Rattle.g_mean.specs.Copies.{IsAmong, IsRead, AreRead, NodesRead, known_after, is_argument, CanMove, Same, ReadSame}
-use Rattle.g_mean.specs.Moves.{ReadNear}
+use Rattle.g_mean.specs.Moves.{ReadLessDefined}
 use Rattle.g_mean.specs.Holds.{HaveRun}
-use Rattle.g_mean.specs.Splices.{FitsInto, SplicedRegionsAreAlike}
-use Rattle.g_mean.proofs.Kept.{OutputsLike, paired-at}
-use Rattle.g_mean.proofs.Regions.{nodes-like}
+use Rattle.g_mean.specs.Splices.{FitsInto, SplicedRegionsRefine}
+use Rattle.g_mean.proofs.Kept.{OutputsRefine, paired-at}
+use Rattle.g_mean.proofs.Regions.{nodes-refines}
 use Rattle.g_mean.proofs.Equal.{no_deeper-compares}
-use Rattle.g_mean.proofs.Nearness.{near-kept}
+use Rattle.g_mean.proofs.LessDefinedLemmas.{less-kept}
 use Rattle.g_mean.proofs.Calls.{nodes-itself}
-use Rattle.g_mean.proofs.Bounds.{Never, Always, never-like}
+use Rattle.g_mean.proofs.Bounds.{Never, Always, never-refines}
 use Rattle.g_mean.proofs.Copies.{test-other, same-then, among-left, among-right, among-split, extended-same, extended-other, copied_nodes_mean_the_same, reads-same, redirected-moved}
-use Rattle.g_mean.proofs.Moves.{reads-near, moved_nodes_are_alike}
+use Rattle.g_mean.proofs.Moves.{reads-less, moved_nodes_refine}
 use Rattle.g_mean.proofs.Edits.{distinct-split}
 use Rattle.g_mean.proofs.Holds.{none-among, among-none, id-among, distinct-apart, unchanged, holds-from}
 
 -- ---- joined nodes
 
-pub joined-run : (c : Around) (ns ms : NodeTrees) (xs : List Datum) (o : Outputs) → nodes_run c (joined_nodes ns ms) xs o ≡ then_on (nodes_run c ns xs o) (nodes_run c ms xs)
+pub joined-run : (c : Context) (ns ms : NodeTrees) (xs : List Datum) (o : Outputs) → nodes_run c (joined_nodes ns ms) xs o ≡ then_on (nodes_run c ns xs o) (nodes_run c ms xs)
 joined-run c no_nodes ms xs o = refl
 joined-run c (node_then x ns) ms xs o =
     ap (then_on (node_run c x xs o)) (fun_ext (λ us. joined-run c ns ms xs (extended o (id_of x) us)))
@@ -63,7 +63,7 @@ pub joined-reads : (S : Origin → Bool) (known : List ℕ) (ns ms : NodeTrees) 
 joined-reads S known no_nodes ms h k = k
 joined-reads S known (node_then x ns) ms h k = (h.0, joined-reads S (id_of x ∷ known) ns ms h.1 k)
 
-spliced-joined : (before : NodeTrees) (x : NodeTree) (after part : NodeTrees) (outs : List Origin) → (IsAmong (id_of x) (nodes_ids before) → ⊥) → nodes_spliced (id_of x) part outs (joined_nodes before (node_then x after)) ≡ joined_nodes before (joined_nodes part (nodes_redirected (without (id_of x) outs) after))
+spliced-joined : (before : NodeTrees) (x : NodeTree) (after part : NodeTrees) (outs : List Origin) → (IsAmong (id_of x) (nodes_ids before) → ⊥) → nodes_spliced (id_of x) part outs (joined_nodes before (node_then x after)) ≡ joined_nodes before (joined_nodes part (nodes_redirected (outputs_to_results (id_of x) outs) after))
 spliced-joined no_nodes x after part outs h = rw (eq-eqb (id_of x) (id_of x) refl)
 spliced-joined (node_then y before) x after part outs h =
     let other : (id_of y == id_of x) ≡ false = test-other (id_of y) (id_of x) (λ e. h (among-left (id_of x) (node_ids y) (nodes_ids before) (subst (λ z. IsAmong z (node_ids y)) e (id-among y)))) in
@@ -86,28 +86,28 @@ known-among known (node_then x ns) n h = by (known-among (id_of x ∷ known) ns 
 
 -- ---- the part in its place
 
--- what is known of the map behind the part
-record Placed (ys : List Datum) (q : Outputs) (ids : List ℕ) (outs : List Origin) (us : List Datum) (r : Outputs) : Type 0 where
+-- what is known of the map after the part
+record ArgsToInputs (ys : List Datum) (q : Outputs) (ids : List ℕ) (outs : List Origin) (us : List Datum) (r : Outputs) : Type 0 where
   gives : us ≡ map (read ys r) outs
   others : (n : ℕ) → (IsAmong n ids → ⊥) → (p : ℕ) → r n p ≡ q n p
 
-same-adds : {A B : Type 0} (R : A → B → Type 0) (P : B → Type 0) (a : Answer A) (b : Answer B) → ((y : B) (o : List Event) → b ≡ Back y o → P y) → Same R a b → Same (λ x y. R x y × P y) a b
-same-adds R P (Back x o) (Back y p) more h = ((h.0, more y p refl), h.1)
+same-adds : {A B : Type 0} (R : A → B → Type 0) (P : B → Type 0) (a : Answer A) (b : Answer B) → ((y : B) (o : List Event) → b ≡ Returned y o → P y) → Same R a b → Same (λ x y. R x y × P y) a b
+same-adds R P (Returned x o) (Returned y p) more h = ((h.0, more y p refl), h.1)
 same-adds R P (Cut o) (Cut p) more h = h
-same-adds R P (Ended o s) (Ended p t) more h = h
-same-adds R P Wrong Wrong more h = tt
-same-adds R P (Back x o) (Cut p) more h = absurd h
-same-adds R P (Back x o) (Ended p t) more h = absurd h
-same-adds R P (Back x o) Wrong more h = absurd h
-same-adds R P (Cut o) (Back y p) more h = absurd h
-same-adds R P (Cut o) (Ended p t) more h = absurd h
-same-adds R P (Cut o) Wrong more h = absurd h
-same-adds R P (Ended o s) (Back y p) more h = absurd h
-same-adds R P (Ended o s) (Cut p) more h = absurd h
-same-adds R P (Ended o s) Wrong more h = absurd h
-same-adds R P Wrong (Back y p) more h = absurd h
-same-adds R P Wrong (Cut p) more h = absurd h
-same-adds R P Wrong (Ended p t) more h = absurd h
+same-adds R P (Exited o s) (Exited p t) more h = h
+same-adds R P Undefined Undefined more h = tt
+same-adds R P (Returned x o) (Cut p) more h = absurd h
+same-adds R P (Returned x o) (Exited p t) more h = absurd h
+same-adds R P (Returned x o) Undefined more h = absurd h
+same-adds R P (Cut o) (Returned y p) more h = absurd h
+same-adds R P (Cut o) (Exited p t) more h = absurd h
+same-adds R P (Cut o) Undefined more h = absurd h
+same-adds R P (Exited o s) (Returned y p) more h = absurd h
+same-adds R P (Exited o s) (Cut p) more h = absurd h
+same-adds R P (Exited o s) Undefined more h = absurd h
+same-adds R P Undefined (Returned y p) more h = absurd h
+same-adds R P Undefined (Cut p) more h = absurd h
+same-adds R P Undefined (Exited p t) more h = absurd h
 
 -- ---- places in lists
 
@@ -137,57 +137,57 @@ get-mapped f (a ∷ origins) zero b e = (a, refl, cc)
 get-mapped f (a ∷ origins) (suc k) b e = get-mapped f origins k b e
 
 -- an argument of the part comes from the input in its place
-placed-is : (inputs : List Origin) (k : ℕ) → nat_lt k (length inputs) ≡ true → (b : Origin) × (slice_get inputs k ≡ Some b) × (placed inputs (Arg k) ≡ b)
+placed-is : (inputs : List Origin) (k : ℕ) → nat_lt k (length inputs) ≡ true → (b : Origin) × (slice_get inputs k ≡ Some b) × (args_to_inputs inputs (Arg k) ≡ b)
 placed-is inputs k h =
     let found = get-some inputs k h in
     (found.0, found.1, ap (λ z. unwrap_or z (Arg k)) found.1)
 
--- ---- answers that are alike and then the same
+-- ---- answers that refine and then the same
 
 abbrev Through : {A B C : Type 0} → (A → B → Type 0) → (B → C → Type 0) → A → C → Type 0
 Through {A} {B} R T x z = (y : B) × R x y × T y z
 
-back-same : {A B C : Type 0} (way : Way) (R : A → B → Type 0) (T : B → C → Type 0) (a : Answer A) (y : B) (z : C) (p : List Event) → T y z → Like no_deeper way R a (Back y p) → Like no_deeper way (Through R T) a (Back z p)
-back-same way R T Wrong y z p k h = tt
-back-same way R T (Back x o) y z p k h = ((y, h.0, k), h.1)
-back-same Forth R T (Cut o) y z p k h = h
+back-same : {A B C : Type 0} (direction : Direction) (R : A → B → Type 0) (T : B → C → Type 0) (a : Answer A) (y : B) (z : C) (p : List Event) → T y z → Refines no_deeper direction R a (Returned y p) → Refines no_deeper direction (Through R T) a (Returned z p)
+back-same direction R T Undefined y z p k h = tt
+back-same direction R T (Returned x o) y z p k h = ((y, h.0, k), h.1)
+back-same Forward R T (Cut o) y z p k h = h
 back-same Backward R T (Cut o) y z p k h = absurd h
-back-same way R T (Ended o s) y z p k h = absurd h
+back-same direction R T (Exited o s) y z p k h = absurd h
 
-cut-same : {A B C : Type 0} (way : Way) (R : A → B → Type 0) (S : A → C → Type 0) (a : Answer A) (p : List Event) → Like no_deeper way R a (Cut p) → Like no_deeper way S a (Cut p)
-cut-same way R S Wrong p h = tt
-cut-same Forth R S (Back x o) p h = absurd h
-cut-same Backward R S (Back x o) p h = h
-cut-same Forth R S (Cut o) p h = h
+cut-same : {A B C : Type 0} (direction : Direction) (R : A → B → Type 0) (S : A → C → Type 0) (a : Answer A) (p : List Event) → Refines no_deeper direction R a (Cut p) → Refines no_deeper direction S a (Cut p)
+cut-same direction R S Undefined p h = tt
+cut-same Forward R S (Returned x o) p h = absurd h
+cut-same Backward R S (Returned x o) p h = h
+cut-same Forward R S (Cut o) p h = h
 cut-same Backward R S (Cut o) p h = h
-cut-same Forth R S (Ended o s) p h = absurd h
-cut-same Backward R S (Ended o s) p h = h
+cut-same Forward R S (Exited o s) p h = absurd h
+cut-same Backward R S (Exited o s) p h = h
 
-ended-same : {A B C : Type 0} (way : Way) (R : A → B → Type 0) (S : A → C → Type 0) (a : Answer A) (p : List Event) (t : ℕ) → Like no_deeper way R a (Ended p t) → Like no_deeper way S a (Ended p t)
-ended-same way R S Wrong p t h = tt
-ended-same way R S (Back x o) p t h = absurd h
-ended-same Forth R S (Cut o) p t h = h
-ended-same Backward R S (Cut o) p t h = absurd h
-ended-same way R S (Ended o s) p t h = h
+exited-same : {A B C : Type 0} (direction : Direction) (R : A → B → Type 0) (S : A → C → Type 0) (a : Answer A) (p : List Event) (t : ℕ) → Refines no_deeper direction R a (Exited p t) → Refines no_deeper direction S a (Exited p t)
+exited-same direction R S Undefined p t h = tt
+exited-same direction R S (Returned x o) p t h = absurd h
+exited-same Forward R S (Cut o) p t h = h
+exited-same Backward R S (Cut o) p t h = absurd h
+exited-same direction R S (Exited o s) p t h = h
 
-wrong-same : {A B C : Type 0} (way : Way) (R : A → B → Type 0) (S : A → C → Type 0) (a : Answer A) → Like no_deeper way R a Wrong → Like no_deeper way S a Wrong
-wrong-same way R S Wrong h = tt
-wrong-same way R S (Back x o) h = absurd h
-wrong-same Forth R S (Cut o) h = tt
-wrong-same Backward R S (Cut o) h = absurd h
-wrong-same way R S (Ended o s) h = absurd h
+undefined-same : {A B C : Type 0} (direction : Direction) (R : A → B → Type 0) (S : A → C → Type 0) (a : Answer A) → Refines no_deeper direction R a Undefined → Refines no_deeper direction S a Undefined
+undefined-same direction R S Undefined h = tt
+undefined-same direction R S (Returned x o) h = absurd h
+undefined-same Forward R S (Cut o) h = tt
+undefined-same Backward R S (Cut o) h = absurd h
+undefined-same direction R S (Exited o s) h = absurd h
 
-like-same : {A B C : Type 0} (way : Way) (R : A → B → Type 0) (T : B → C → Type 0) (a : Answer A) (b : Answer B) (e : Answer C) → Like no_deeper way R a b → Same T b e → Like no_deeper way (Through R T) a e
-like-same way R T a (Back y p) (Back z q) h k = subst (λ w. Like no_deeper way (Through R T) a (Back z w)) k.1 (back-same way R T a y z p k.0 h)
-like-same way R T a (Cut p) (Cut q) h k = subst (λ w. Like no_deeper way (Through R T) a (Cut w)) k (cut-same way R (Through R T) a p h)
-like-same way R T a (Ended p t) (Ended q u) h k =
-    subst (λ w. Like no_deeper way (Through R T) a (Ended w u)) k.0 (subst (λ v. Like no_deeper way (Through R T) a (Ended p v)) k.1 (ended-same way R (Through R T) a p t h))
-like-same way R T a Wrong Wrong h k = wrong-same way R (Through R T) a h
-like-same way R T a _ _ h k = absurd k
+refines-same : {A B C : Type 0} (direction : Direction) (R : A → B → Type 0) (T : B → C → Type 0) (a : Answer A) (b : Answer B) (e : Answer C) → Refines no_deeper direction R a b → Same T b e → Refines no_deeper direction (Through R T) a e
+refines-same direction R T a (Returned y p) (Returned z q) h k = subst (λ w. Refines no_deeper direction (Through R T) a (Returned z w)) k.1 (back-same direction R T a y z p k.0 h)
+refines-same direction R T a (Cut p) (Cut q) h k = subst (λ w. Refines no_deeper direction (Through R T) a (Cut w)) k (cut-same direction R (Through R T) a p h)
+refines-same direction R T a (Exited p t) (Exited q u) h k =
+    subst (λ w. Refines no_deeper direction (Through R T) a (Exited w u)) k.0 (subst (λ v. Refines no_deeper direction (Through R T) a (Exited p v)) k.1 (exited-same direction R (Through R T) a p t h))
+refines-same direction R T a Undefined Undefined h k = undefined-same direction R (Through R T) a h
+refines-same direction R T a _ _ h k = absurd k
 
 -- what is near to a value without meaning has none, and everything sound is near to it
-near-nothing : (x y : Datum) → IsNearDatum x y → y ≡ val Bad → (z : Datum) → IsSoundDatum z → IsNearDatum x z
-near-nothing x y h e z s = (inr (by h.0), h.1, s)
+less-nothing : (x y : Datum) → IsLessDefinedDatum x y → y ≡ val Bad → (z : Datum) → IsSoundDatum z → IsLessDefinedDatum x z
+less-nothing x y h e z s = (inr (by h.0), h.1, s)
   where
     by : (x ≡ y) ⊎ (x ≡ val Bad) → x ≡ val Bad
     by (inl f) = f ∙ e
@@ -227,7 +227,7 @@ all-among S known other h (a ∷ origins) r = (by a r.0, all-among S known other
     by (Arg k) (inr m) = absurd m
     by (Out n p) (inr m) = inr (h n m)
 
-module _ (way : Way) (c d : Around) (around : AroundLike no_deeper way IsNearDatum c d) (args : List Kind) (before : NodeTrees) (x : NodeTree) (after : NodeTrees) (results : List Origin) (own : List Kind) (part : NodeTrees) (gives inputs : List Origin) (fits : FitsInto args before x after results part gives inputs) where
+module _ (direction : Direction) (c d : Context) (context : ContextRefines no_deeper direction IsLessDefinedDatum c d) (args : List Kind) (before : NodeTrees) (x : NodeTree) (after : NodeTrees) (results : List Origin) (own : List Kind) (part : NodeTrees) (gives inputs : List Origin) (fits : FitsInto args before x after results part gives inputs) where
   all-distinct : distinct (nodes_ids before ++ (node_ids x ++ nodes_ids after)) ≡ true
   all-distinct = subst (λ zs. distinct zs ≡ true) (joined-ids before (node_then x after)) fits.unique
 
@@ -272,25 +272,25 @@ module _ (way : Way) (c d : Around) (around : AroundLike no_deeper way IsNearDat
   -- ---- the part
 
   abbrev outs : List Origin
-  outs = map (placed inputs) gives
+  outs = map (args_to_inputs inputs) gives
 
   abbrev small : Origin → Bool
   small a = is_argument (length inputs) a
 
-  part-moves : CanMove small (placed inputs) (λ n. n) (nodes_ids part)
+  part-moves : CanMove small (args_to_inputs inputs) (λ n. n) (nodes_ids part)
   part-moves = record { one = λ m n h k e. e; outputs = λ n p h. refl; apart = apart; fresh = fresh }
     where
       apart : (a : Origin) (n p : ℕ) → small a ≡ true → a ≡ Out n p → IsAmong n (nodes_ids part) → ⊥
       apart (Arg k) n p t e h = absurd cc
       apart (Out m q) n p t e h = absurd cc
 
-      fresh : (a : Origin) (n p m : ℕ) → small a ≡ true → placed inputs a ≡ Out n p → IsAmong m (nodes_ids part) → n ≢ m
+      fresh : (a : Origin) (n p m : ℕ) → small a ≡ true → args_to_inputs inputs a ≡ Out n p → IsAmong m (nodes_ids part) → n ≢ m
       fresh (Out i q) n p m t e h f = absurd cc
       fresh (Arg k) n p m t e h f =
           let found = placed-is inputs k t in
           part-before m h (subst (λ z. IsAmong z (nodes_ids before)) f (input-before k found.0 n p found.1 (sym found.2 ∙ e)))
 
-  part-read : (ys : List Datum) (q : Outputs) → ReadSame small [] (placed inputs) (map (read ys q) inputs) ys no_outputs q
+  part-read : (ys : List Datum) (q : Outputs) → ReadSame small [] (args_to_inputs inputs) (map (read ys q) inputs) ys no_outputs q
   part-read ys q (Arg k) (inl t) =
       let found = placed-is inputs k t in
       ap (read ys q) found.2 ∙ sym (get-port (read ys q) inputs k found.0 found.1)
@@ -298,28 +298,28 @@ module _ (way : Way) (c d : Around) (around : AroundLike no_deeper way IsNearDat
   part-read ys q (Out n p) (inl t) = absurd cc
   part-read ys q (Out n p) (inr h) = absurd h
 
-  part-placed : (ys : List Datum) (q : Outputs) → Same (Placed ys q (nodes_ids part) outs) (region_meaning d (region own part gives) (map (read ys q) inputs)) (nodes_run d (nodes_redirected (placed inputs) part) ys q)
+  part-placed : (ys : List Datum) (q : Outputs) → Same (ArgsToInputs ys q (nodes_ids part) outs) (region_meaning d (region own part gives) (map (read ys q) inputs)) (nodes_run d (nodes_redirected (args_to_inputs inputs) part) ys q)
   part-placed ys q =
       let vs = map (read ys q) inputs in
-      let moved = redirected-moved (placed inputs) part in
-      let nodes = subst (λ ns. Same (ReadSame small (known_after [] part) (placed inputs) vs ys) (nodes_run d part vs no_outputs) (nodes_run d ns ys q)) moved
-      (copied_nodes_mean_the_same small (placed inputs) (λ n. n) part part-moves fits.part_reads d vs ys no_outputs q (part-read ys q)) in
-      let others = same-adds (ReadSame small (known_after [] part) (placed inputs) vs ys) (λ r. (n : ℕ) → (IsAmong n (nodes_ids part) → ⊥) → (p : ℕ) → r n p ≡ q n p) (nodes_run d part vs no_outputs) (nodes_run d (nodes_redirected (placed inputs) part) ys q)
-      (λ r o e n h p. unchanged d (nodes_redirected (placed inputs) part) ys q r o e n (λ k. h (subst (λ zs. IsAmong n zs) (redirected-ids (placed inputs) part) k)) p) nodes in
-      subst (λ b. Same (Placed ys q (nodes_ids part) outs) (region_meaning d (region own part gives) vs) b) (then_nothing (nodes_run d (nodes_redirected (placed inputs) part) ys q))
-      (same-then (λ o r. ReadSame small (known_after [] part) (placed inputs) vs ys o r × ((n : ℕ) → (IsAmong n (nodes_ids part) → ⊥) → (p : ℕ) → r n p ≡ q n p)) (Placed ys q (nodes_ids part) outs)
-      (nodes_run d part vs no_outputs) (nodes_run d (nodes_redirected (placed inputs) part) ys q) (λ o. Back (map (read vs o) gives) []) (λ r. Back r []) others
-      (λ o r h. (record { gives = sym (reads-same small (known_after [] part) (placed inputs) vs ys o r h.0 gives fits.part_gives); others = h.1 }, refl)))
+      let origin_replaced = redirected-moved (args_to_inputs inputs) part in
+      let nodes = subst (λ ns. Same (ReadSame small (known_after [] part) (args_to_inputs inputs) vs ys) (nodes_run d part vs no_outputs) (nodes_run d ns ys q)) origin_replaced
+      (copied_nodes_mean_the_same small (args_to_inputs inputs) (λ n. n) part part-moves fits.part_reads d vs ys no_outputs q (part-read ys q)) in
+      let others = same-adds (ReadSame small (known_after [] part) (args_to_inputs inputs) vs ys) (λ r. (n : ℕ) → (IsAmong n (nodes_ids part) → ⊥) → (p : ℕ) → r n p ≡ q n p) (nodes_run d part vs no_outputs) (nodes_run d (nodes_redirected (args_to_inputs inputs) part) ys q)
+      (λ r o e n h p. unchanged d (nodes_redirected (args_to_inputs inputs) part) ys q r o e n (λ k. h (subst (λ zs. IsAmong n zs) (redirected-ids (args_to_inputs inputs) part) k)) p) nodes in
+      subst (λ b. Same (ArgsToInputs ys q (nodes_ids part) outs) (region_meaning d (region own part gives) vs) b) (then_nothing (nodes_run d (nodes_redirected (args_to_inputs inputs) part) ys q))
+      (same-then (λ o r. ReadSame small (known_after [] part) (args_to_inputs inputs) vs ys o r × ((n : ℕ) → (IsAmong n (nodes_ids part) → ⊥) → (p : ℕ) → r n p ≡ q n p)) (ArgsToInputs ys q (nodes_ids part) outs)
+      (nodes_run d part vs no_outputs) (nodes_run d (nodes_redirected (args_to_inputs inputs) part) ys q) (λ o. Returned (map (read vs o) gives) []) (λ r. Returned r []) others
+      (λ o r h. (record { gives = sym (reads-same small (known_after [] part) (args_to_inputs inputs) vs ys o r h.0 gives fits.part_gives); others = h.1 }, refl)))
 
-  -- ---- the nodes behind it
+  -- ---- the nodes after it
 
   -- an origin that a result of the part comes from
   out-from : (j : ℕ) (b : Origin) (n p : ℕ) → slice_get outs j ≡ Some b → b ≡ Out n p → IsAmong n (nodes_ids before) ⊎ IsAmong n (nodes_ids part)
   out-from j b n p e f =
-      let found = get-mapped (placed inputs) gives j b e in
+      let found = get-mapped (args_to_inputs inputs) gives j b e in
       by found.0 (get-read small (known_after [] part) gives fits.part_gives j found.0 found.1) (found.2 ∙ f)
     where
-      by : (g : Origin) → IsRead small (known_after [] part) g → placed inputs g ≡ Out n p → IsAmong n (nodes_ids before) ⊎ IsAmong n (nodes_ids part)
+      by : (g : Origin) → IsRead small (known_after [] part) g → args_to_inputs inputs g ≡ Out n p → IsAmong n (nodes_ids before) ⊎ IsAmong n (nodes_ids part)
       by (Arg k) (inl t) e = let found = placed-is inputs k t in inl (input-before k found.0 n p found.1 (sym found.2 ∙ e))
       by (Arg k) (inr h) e = absurd h
       by (Out m q) (inl t) e = absurd cc
@@ -337,7 +337,7 @@ module _ (way : Way) (c d : Around) (around : AroundLike no_deeper way IsNearDat
   outside (Out n p) = not (some_of (λ m. n == m) avoided)
 
   abbrev move : Origin → Origin
-  move a = without (id_of x) outs a
+  move a = outputs_to_results (id_of x) outs a
 
   -- where an output of the node, or another origin, comes from
   without-other : (n p : ℕ) → n ≢ id_of x → move (Out n p) ≡ Out n p
@@ -405,78 +405,78 @@ module _ (way : Way) (c d : Around) (around : AroundLike no_deeper way IsNearDat
       (all-among (is_argument (length args)) (known_after [] (joined_nodes before (node_then x after))) (known_after [] after ++ (id_of x ∷ known_after [] before))
       (λ n h. known-split [] (id_of x ∷ known_after [] before) after n (subst (λ zs. IsAmong n zs) (joined-known [] before (node_then x after)) h)) results fits.closed.1)
 
-  module _ (xs ys : List Datum) (near : Paired IsNearDatum xs ys) (o q : Outputs) (like : OutputsLike IsNearDatum o q) (us vs : List Datum) (pairs : Paired IsNearDatum us vs) (r : Outputs) (place : Placed ys q (nodes_ids part) outs vs r) where
-    own-near : (j : ℕ) (found : Option Origin) → slice_get outs j ≡ found → IsNearDatum (at_port us j) (read ys r (unwrap_or found (Out (id_of x) j)))
-    own-near j (Some b) e =
-        subst (λ z. IsNearDatum (at_port us j) z) (ap (λ ws. at_port ws j) place.gives ∙ get-port (read ys r) outs j b e) (paired-at IsNearDatum near-kept us vs pairs j)
-    own-near j None e =
-        let port = paired-at IsNearDatum near-kept us vs pairs j in
+  module _ (xs ys : List Datum) (near : Paired IsLessDefinedDatum xs ys) (o q : Outputs) (like : OutputsRefine IsLessDefinedDatum o q) (us vs : List Datum) (pairs : Paired IsLessDefinedDatum us vs) (r : Outputs) (place : ArgsToInputs ys q (nodes_ids part) outs vs r) where
+    own-less : (j : ℕ) (found : Option Origin) → slice_get outs j ≡ found → IsLessDefinedDatum (at_port us j) (read ys r (unwrap_or found (Out (id_of x) j)))
+    own-less j (Some b) e =
+        subst (λ z. IsLessDefinedDatum (at_port us j) z) (ap (λ ws. at_port ws j) place.gives ∙ get-port (read ys r) outs j b e) (paired-at IsLessDefinedDatum less-kept us vs pairs j)
+    own-less j None e =
+        let port = paired-at IsLessDefinedDatum less-kept us vs pairs j in
         let far : at_port vs j ≡ val Bad = ap (λ ws. at_port ws j) place.gives ∙ no-port (read ys r) outs j e in
-        near-nothing (at_port us j) (at_port vs j) port far (r (id_of x) j) (subst (λ z. IsSoundDatum z) (sym (place.others (id_of x) part-at j)) (like (id_of x) j).2)
+        less-nothing (at_port us j) (at_port vs j) port far (r (id_of x) j) (subst (λ z. IsSoundDatum z) (sym (place.others (id_of x) part-at j)) (like (id_of x) j).2)
 
-    after-near : ReadNear outside [] move xs ys (extended o (id_of x) us) r
-    after-near (Arg k) h = paired-at IsNearDatum near-kept xs ys near k
-    after-near (Out i j) (inr h) = absurd h
-    after-near (Out i j) (inl t) = by (cases_Bool (i == id_of x))
+    after-less : ReadLessDefined outside [] move xs ys (extended o (id_of x) us) r
+    after-less (Arg k) h = paired-at IsLessDefinedDatum less-kept xs ys near k
+    after-less (Out i j) (inr h) = absurd h
+    after-less (Out i j) (inl t) = by (cases_Bool (i == id_of x))
       where
-        by : ((i == id_of x) ≡ true) ⊎ ((i == id_of x) ≡ false) → IsNearDatum (extended o (id_of x) us i j) (read ys r (move (Out i j)))
+        by : ((i == id_of x) ≡ true) ⊎ ((i == id_of x) ≡ false) → IsLessDefinedDatum (extended o (id_of x) us i j) (read ys r (move (Out i j)))
         by (inl f) =
             let same : i ≡ id_of x = grind (arith, nat_tests) in
-            subst₂ (λ z w. IsNearDatum z w) (sym (extended-same o (id_of x) us i j (sym same))) (ap (read ys r) (ap (λ n. unwrap_or (slice_get outs j) (Out n j)) (sym same) ∙ sym (without-own i j same))) (own-near j (slice_get outs j) refl)
+            subst₂ (λ z w. IsLessDefinedDatum z w) (sym (extended-same o (id_of x) us i j (sym same))) (ap (read ys r) (ap (λ n. unwrap_or (slice_get outs j) (Out n j)) (sym same) ∙ sym (without-own i j same))) (own-less j (slice_get outs j) refl)
         by (inr f) =
             let ne = eqb-false i (id_of x) f in
-            subst₂ (λ z w. IsNearDatum z w) (sym (extended-other o (id_of x) us i j (λ e. ne (sym e)))) (sym (place.others i (λ k. none-among i avoided t (among-right i (nodes_ids after) (nodes_ids part) k)) j) ∙ ap (read ys r) (sym (without-other i j ne))) (like i j)
+            subst₂ (λ z w. IsLessDefinedDatum z w) (sym (extended-other o (id_of x) us i j (λ e. ne (sym e)))) (sym (place.others i (λ k. none-among i avoided t (among-right i (nodes_ids after) (nodes_ids part) k)) j) ∙ ap (read ys r) (sym (without-other i j ne))) (like i j)
 
   -- ---- the whole region
 
   have-run : (xs : List Datum) (a : Answer Outputs) → nodes_run c before xs no_outputs ≡ a → Gives (λ o. HaveRun c xs o before) a
-  have-run xs (Back o did) e =
+  have-run xs (Returned o did) e =
       holds-from (length args) c before [] xs no_outputs o did whole-read.0 (λ n h k. h) (distinct-split (nodes_ids before) (node_ids x ++ nodes_ids after) all-distinct).0 e
   have-run xs (Cut o) e = tt
-  have-run xs (Ended o s) e = tt
-  have-run xs Wrong e = tt
+  have-run xs (Exited o s) e = tt
+  have-run xs Undefined e = tt
 
-  module _ (node-like : (xs ys : List Datum) (o q : Outputs) → Paired IsNearDatum xs ys → OutputsLike IsNearDatum o q → HaveRun c xs o before → Like no_deeper way (Paired IsNearDatum) (node_run c x xs o) (region_meaning d (region own part gives) (map (read ys q) inputs))) where
+  module _ (node-refines : (xs ys : List Datum) (o q : Outputs) → Paired IsLessDefinedDatum xs ys → OutputsRefine IsLessDefinedDatum o q → HaveRun c xs o before → Refines no_deeper direction (Paired IsLessDefinedDatum) (node_run c x xs o) (region_meaning d (region own part gives) (map (read ys q) inputs))) where
     abbrev part_in_place : NodeTrees
-    part_in_place = nodes_redirected (placed inputs) part
+    part_in_place = nodes_redirected (args_to_inputs inputs) part
 
     abbrev after_it : NodeTrees
     after_it = nodes_redirected move after
 
-    rest-like : (xs ys : List Datum) → Paired IsNearDatum xs ys → (o q : Outputs) → OutputsLike IsNearDatum o q → HaveRun c xs o before → Like no_deeper way (ReadNear outside (known_after [] after) move xs ys) (nodes_run c (node_then x after) xs o) (nodes_run d (joined_nodes part_in_place after_it) ys q)
-    rest-like xs ys near o q like have =
-        subst (λ b. Like no_deeper way (ReadNear outside (known_after [] after) move xs ys) (nodes_run c (node_then x after) xs o) b) (sym (joined-run d part_in_place after_it ys q))
-        (like-then no_deeper no_deeper-compares.goes (Through (Paired IsNearDatum) (Placed ys q (nodes_ids part) outs)) (ReadNear outside (known_after [] after) move xs ys) way
+    rest-refines : (xs ys : List Datum) → Paired IsLessDefinedDatum xs ys → (o q : Outputs) → OutputsRefine IsLessDefinedDatum o q → HaveRun c xs o before → Refines no_deeper direction (ReadLessDefined outside (known_after [] after) move xs ys) (nodes_run c (node_then x after) xs o) (nodes_run d (joined_nodes part_in_place after_it) ys q)
+    rest-refines xs ys near o q like have =
+        subst (λ b. Refines no_deeper direction (ReadLessDefined outside (known_after [] after) move xs ys) (nodes_run c (node_then x after) xs o) b) (sym (joined-run d part_in_place after_it ys q))
+        (refines-then no_deeper no_deeper-compares.goes (Through (Paired IsLessDefinedDatum) (ArgsToInputs ys q (nodes_ids part) outs)) (ReadLessDefined outside (known_after [] after) move xs ys) direction
         (node_run c x xs o) (nodes_run d part_in_place ys q) (λ us. nodes_run c after xs (extended o (id_of x) us)) (nodes_run d after_it ys)
-        (like-same way (Paired IsNearDatum) (Placed ys q (nodes_ids part) outs) (node_run c x xs o) (region_meaning d (region own part gives) (map (read ys q) inputs)) (nodes_run d part_in_place ys q) (node-like xs ys o q near like have) (part-placed ys q))
-        (λ us r h. subst (λ ns. Like no_deeper way (ReadNear outside (known_after [] after) move xs ys) (nodes_run c after xs (extended o (id_of x) us)) (nodes_run d ns ys r)) (redirected-moved move after)
-        (moved_nodes_are_alike way c d around outside move (λ n. n) after after-moves after-reads xs ys (extended o (id_of x) us) r (after-near xs ys near o q like us h.0 h.1 r h.2))))
+        (refines-same direction (Paired IsLessDefinedDatum) (ArgsToInputs ys q (nodes_ids part) outs) (node_run c x xs o) (region_meaning d (region own part gives) (map (read ys q) inputs)) (nodes_run d part_in_place ys q) (node-refines xs ys o q near like have) (part-placed ys q))
+        (λ us r h. subst (λ ns. Refines no_deeper direction (ReadLessDefined outside (known_after [] after) move xs ys) (nodes_run c after xs (extended o (id_of x) us)) (nodes_run d ns ys r)) (redirected-moved move after)
+        (moved_nodes_refine direction c d context outside move (λ n. n) after after-moves after-reads xs ys (extended o (id_of x) us) r (after-less xs ys near o q like us h.0 h.1 r h.2))))
 
-    whole-like : (xs ys : List Datum) → Paired IsNearDatum xs ys → Like no_deeper way (ReadNear outside (known_after [] after) move xs ys) (nodes_run c (joined_nodes before (node_then x after)) xs no_outputs) (nodes_run d (joined_nodes before (joined_nodes part_in_place after_it)) ys no_outputs)
-    whole-like xs ys near =
-        subst₂ (λ a b. Like no_deeper way (ReadNear outside (known_after [] after) move xs ys) a b) (sym (joined-run c before (node_then x after) xs no_outputs)) (sym (joined-run d before (joined_nodes part_in_place after_it) ys no_outputs))
-        (like-then no_deeper no_deeper-compares.goes (λ o q. HaveRun c xs o before × OutputsLike IsNearDatum o q) (ReadNear outside (known_after [] after) move xs ys) way
+    whole-refines : (xs ys : List Datum) → Paired IsLessDefinedDatum xs ys → Refines no_deeper direction (ReadLessDefined outside (known_after [] after) move xs ys) (nodes_run c (joined_nodes before (node_then x after)) xs no_outputs) (nodes_run d (joined_nodes before (joined_nodes part_in_place after_it)) ys no_outputs)
+    whole-refines xs ys near =
+        subst₂ (λ a b. Refines no_deeper direction (ReadLessDefined outside (known_after [] after) move xs ys) a b) (sym (joined-run c before (node_then x after) xs no_outputs)) (sym (joined-run d before (joined_nodes part_in_place after_it) ys no_outputs))
+        (refines-then no_deeper no_deeper-compares.goes (λ o q. HaveRun c xs o before × OutputsRefine IsLessDefinedDatum o q) (ReadLessDefined outside (known_after [] after) move xs ys) direction
         (nodes_run c before xs no_outputs) (nodes_run d before ys no_outputs) (nodes_run c (node_then x after) xs) (nodes_run d (joined_nodes part_in_place after_it) ys)
-        (like-gives no_deeper way (λ o. HaveRun c xs o before) (OutputsLike IsNearDatum) (nodes_run c before xs no_outputs) (nodes_run d before ys no_outputs) (have-run xs (nodes_run c before xs no_outputs) refl)
-        (nodes-like no_deeper no_deeper-compares way IsNearDatum near-kept Never Always (never-like no_deeper no_deeper-compares way IsNearDatum near-kept) c d around tt before before (nodes-itself Never before) xs ys near no_outputs no_outputs (λ n p. near-kept.nothing)))
-        (λ o q h. rest-like xs ys near o q h.1 h.0))
+        (refines-gives no_deeper direction (λ o. HaveRun c xs o before) (OutputsRefine IsLessDefinedDatum) (nodes_run c before xs no_outputs) (nodes_run d before ys no_outputs) (have-run xs (nodes_run c before xs no_outputs) refl)
+        (nodes-refines no_deeper no_deeper-compares direction IsLessDefinedDatum less-kept Never Always (never-refines no_deeper no_deeper-compares direction IsLessDefinedDatum less-kept) c d context tt before before (nodes-itself Never before) xs ys near no_outputs no_outputs (λ n p. less-kept.nothing)))
+        (λ o q h. rest-refines xs ys near o q h.1 h.0))
 
-    region-like : MeaningLike no_deeper way IsNearDatum (region_meaning c (region args (joined_nodes before (node_then x after)) results)) (region_meaning d (region args (joined_nodes before (joined_nodes part_in_place after_it)) (map move results)))
-    region-like =
+    region-refines : MeaningRefines no_deeper direction IsLessDefinedDatum (region_meaning c (region args (joined_nodes before (node_then x after)) results)) (region_meaning d (region args (joined_nodes before (joined_nodes part_in_place after_it)) (map move results)))
+    region-refines =
         record {
           on = λ xs ys near.
-              like-then no_deeper no_deeper-compares.goes (ReadNear outside (known_after [] after) move xs ys) (Paired IsNearDatum) way
+              refines-then no_deeper no_deeper-compares.goes (ReadLessDefined outside (known_after [] after) move xs ys) (Paired IsLessDefinedDatum) direction
               (nodes_run c (joined_nodes before (node_then x after)) xs no_outputs) (nodes_run d (joined_nodes before (joined_nodes part_in_place after_it)) ys no_outputs)
-              (λ o. Back (map (read xs o) results) []) (λ q. Back (map (read ys q) (map move results)) [])
-              (whole-like xs ys near)
-              (λ o q h. (reads-near way c d around outside move (λ n. n) (nodes_ids after) after-moves xs ys (known_after [] after) o q h results after-gives, no_deeper-compares.goes.nothing));
+              (λ o. Returned (map (read xs o) results) []) (λ q. Returned (map (read ys q) (map move results)) [])
+              (whole-refines xs ys near)
+              (λ o q h. (reads-less direction c d context outside move (λ n. n) (nodes_ids after) after-moves xs ys (known_after [] after) o q h results after-gives, no_deeper-compares.goes.nothing));
         }
 
-    pub spliced-like : MeaningLike no_deeper way IsNearDatum (region_meaning c (region args (joined_nodes before (node_then x after)) results)) (region_meaning d (region_spliced (id_of x) (region_redirected (placed inputs) (region own part gives)) (region args (joined_nodes before (node_then x after)) results)))
-    spliced-like =
-        subst (λ ns. MeaningLike no_deeper way IsNearDatum (region_meaning c (region args (joined_nodes before (node_then x after)) results)) (region_meaning d (region args ns (map move results))))
-        (sym (spliced-joined before x after part_in_place outs at-before)) region-like
+    pub spliced-refines : MeaningRefines no_deeper direction IsLessDefinedDatum (region_meaning c (region args (joined_nodes before (node_then x after)) results)) (region_meaning d (region_spliced (id_of x) (region_redirected (args_to_inputs inputs) (region own part gives)) (region args (joined_nodes before (node_then x after)) results)))
+    spliced-refines =
+        subst (λ ns. MeaningRefines no_deeper direction IsLessDefinedDatum (region_meaning c (region args (joined_nodes before (node_then x after)) results)) (region_meaning d (region args ns (map move results))))
+        (sym (spliced-joined before x after part_in_place outs at-before)) region-refines
 
-pub spliced_regions_are_alike : SplicedRegionsAreAlike
-spliced_regions_are_alike way c d around args before x after results own part gives inputs fits node-like =
-    spliced-like way c d around args before x after results own part gives inputs fits node-like
+pub spliced_regions_refine : SplicedRegionsRefine
+spliced_regions_refine direction c d context args before x after results own part gives inputs fits node-refines =
+    spliced-refines direction c d context args before x after results own part gives inputs fits node-refines

@@ -5,11 +5,11 @@ use Rattle.val_core.specs.declared.values.Value.{Value}
 use Rattle.val_core.specs.declared.values.Value.TheVariants.{Num, At, Bad}
 use Rattle.val_core.specs.Memory.{Cell, Block, Memory, new_block, closed}
 use Rattle.val_core.specs.Events.{deepest}
-use Rattle.val_core.specs.Answers.{Answer, Back, Cut, Ended, Wrong, then_on, active, events}
+use Rattle.val_core.specs.Answers.{Answer, Returned, Cut, Exited, Undefined, then_on, active, events}
 use Rattle.g_graph.specs.declared.lambda.Link.{Link}
 use Rattle.g_graph.specs.Plain.{RegionTree, PlainObject, PlainLambda}
 use Rattle.g_mean.specs.Data.{Datum, memory, input, at_port, value_at, on_number, on_memory, with_memory, changed_at}
-use Rattle.g_mean.specs.Meaning.{Meaning, Frame, Around, region_meaning}
+use Rattle.g_mean.specs.Meaning.{Meaning, Frame, Context, region_meaning}
 
 -- a size is a word
 abbrev pub word_of : ℕ → ℕ
@@ -32,7 +32,7 @@ abbrev pub opened : List PlainObject → Memory
 opened objects = map (λ o. new_block (word_of o.size) o.leaves) objects
 
 -- what stands around the body of a lambda with these objects, where the caller's memory is `m`
-abbrev pub inside : ℕ → (call : ℕ → Meaning) → (global : ℕ → Value) → List PlainObject → (m : Memory) → Around
+abbrev pub inside : ℕ → (call : ℕ → Meaning) → (global : ℕ → Value) → List PlainObject → (m : Memory) → Context
 inside n call global objects m =
     record {
       bound = n;
@@ -40,14 +40,14 @@ inside n call global objects m =
       frame = record { local = address_in (length m) (sizes_of objects); global = global };
     }
 
--- A call of a lambda with the bound n inside it: its objects get new blocks behind those of the memory that it is
+-- A call of a lambda with the bound n inside it: its objects get new blocks after those of the memory that it is
 -- given, and their lifetimes end with it.
 abbrev pub entered : ℕ → (call : ℕ → Meaning) → (global : ℕ → Value) → Option PlainLambda → Meaning
-entered n call global None xs = Wrong
+entered n call global None xs = Undefined
 entered n call global (Some l) xs =
     on_memory (at_port xs l.params) (λ m.
     then_on (region_meaning (inside n call global l.objects m) l.body (changed_at l.params (with_memory (λ k. k ++ opened l.objects)) xs))
-    (λ ys. Back (changed_at 1 (with_memory (closed (length m) (length l.objects))) ys) []))
+    (λ ys. Returned (changed_at 1 (with_memory (closed (length m) (length l.objects))) ys) []))
 
 -- What an Apply of function f does at a bound: at 0 it is cut, and else the lambda runs at the bound below.
 abbrev pub applied : List PlainLambda → (global : ℕ → Value) → (bound : ℕ) → ℕ → Meaning
@@ -55,12 +55,12 @@ applied ls global zero f xs = Cut []
 applied ls global (suc n) f xs = active f (entered n (applied ls global n) global (slice_get ls f) xs)
 
 -- a region at a bound, in a frame
-abbrev pub ev : ℕ → List PlainLambda → RegionTree → List Datum → Frame → Answer (List Datum)
-ev n ls r xs frame = region_meaning (record { bound = n; call = applied ls frame.global n; frame = frame }) r xs
+abbrev pub region_at : ℕ → List PlainLambda → RegionTree → List Datum → Frame → Answer (List Datum)
+region_at n ls r xs frame = region_meaning (record { bound = n; call = applied ls frame.global n; frame = frame }) r xs
 
 -- the lambda of a function at a bound
-abbrev pub ev_lambda : ℕ → List PlainLambda → (global : ℕ → Value) → ℕ → Meaning
-ev_lambda n ls global f xs = applied ls global (suc n) f xs
+abbrev pub lambda_at : ℕ → List PlainLambda → (global : ℕ → Value) → ℕ → Meaning
+lambda_at n ls global f xs = applied ls global (suc n) f xs
 
 -- ---- programs
 
@@ -125,17 +125,17 @@ main_name = 109 ∷ 97 ∷ 105 ∷ 110 ∷ []
 
 -- the program ends with what `main` gives back, modulo 256
 abbrev pub finished : Meaning
-finished ys = on_number (value_at ys 0) (λ w. Ended [] (w % 256))
+finished ys = on_number (value_at ys 0) (λ w. Exited [] (w % 256))
 
 abbrev pub started : ℕ → PlainOmega → List PlainLambda → Option ℕ → List ℕ → Answer (List Datum)
-started n omega ls None i = Wrong
+started n omega ls None i = Undefined
 started n omega ls (Some f) i =
-    then_on (ev_lambda n ls (global_of omega.deltas) f (memory (first_memory omega.deltas) ∷ input i ∷ [])) finished
+    then_on (lambda_at n ls (global_of omega.deltas) f (memory (first_memory omega.deltas) ∷ input i ∷ [])) finished
 
 -- the program at a bound, on this input
-abbrev pub evmain : ℕ → PlainOmega → List PlainLambda → List ℕ → Answer (List Datum)
-evmain n omega ls i = started n omega ls (place_of main_name omega.names) i
+abbrev pub program_at : ℕ → PlainOmega → List PlainLambda → List ℕ → Answer (List Datum)
+program_at n omega ls i = started n omega ls (place_of main_name omega.names) i
 
 -- the greatest sum of frame sizes, by function, over the stacks of calls that it meets
 abbrev pub deepest_main : ℕ → PlainOmega → List PlainLambda → (sizes : List ℕ) → List ℕ → ℕ
-deepest_main n omega ls sizes i = deepest (λ f. slice_index_or sizes f 0) (events (evmain n omega ls i))
+deepest_main n omega ls sizes i = deepest (λ f. slice_index_or sizes f 0) (events (program_at n omega ls i))

@@ -1,12 +1,12 @@
 -- Nodes whose inputs come from elsewhere and which have new numbers, and copies of regions under new numbers.
 use Rattle.std.specs.Prelude.{◌≡◌, ◌≢◌, ℕ, ◌⊎◌, Bool, false, IsTrue, nat_lt, List, [], ◌∷◌, map, length}
-use Rattle.val_core.specs.Answers.{Answer, Back, Cut, Ended, Wrong}
+use Rattle.val_core.specs.Answers.{Answer, Returned, Cut, Exited, Undefined}
 use Rattle.g_graph.specs.declared.op.Origin.{Origin}
 use Rattle.g_graph.specs.declared.op.Origin.TheVariants.{Arg, Out}
 use Rattle.g_graph.specs.Plain.{RegionTree, region, NodeTree, node, NodeTrees, no_nodes, node_then, RegionTrees, no_regions, region_then, id_of}
 use Rattle.g_graph.specs.Ids.{region_ids, nodes_ids}
 use Rattle.g_mean.specs.Data.{Datum}
-use Rattle.g_mean.specs.Meaning.{Around, Outputs, read, region_meaning, nodes_run}
+use Rattle.g_mean.specs.Meaning.{Context, Outputs, read, region_meaning, nodes_run}
 
 -- an origin where the nodes have the numbers that `to` gives
 abbrev pub renumbered : (to : ℕ → ℕ) → Origin → Origin
@@ -49,7 +49,7 @@ abbrev pub AreRead : (S : Origin → Bool) → (known : List ℕ) → List Origi
 AreRead S known [] = Unit {0}
 AreRead S known (a ∷ origins) = IsRead S known a × AreRead S known origins
 
--- the nodes that are known behind these
+-- the nodes that are known after these
 abbrev pub known_after : List ℕ → NodeTrees → List ℕ
 known_after known no_nodes = known
 known_after known (node_then x ns) = known_after (id_of x ∷ known) ns
@@ -93,10 +93,10 @@ pub record CanMove (S : Origin → Bool) (move : Origin → Origin) (to : ℕ �
 
 -- the answers are equal, but that their results relate by `R`
 abbrev pub Same : {A B : Type 0} → (A → B → Type 0) → Answer A → Answer B → Type 0
-Same R (Back x o) (Back y p) = R x y × (o ≡ p)
+Same R (Returned x o) (Returned y p) = R x y × (o ≡ p)
 Same R (Cut o) (Cut p) = o ≡ p
-Same R (Ended o s) (Ended p t) = (o ≡ p) × (s ≡ t)
-Same R Wrong Wrong = Unit {0}
+Same R (Exited o s) (Exited p t) = (o ≡ p) × (s ≡ t)
+Same R Undefined Undefined = Unit {0}
 Same R _ _ = ⊥
 
 -- what is read there carries what is read here
@@ -106,14 +106,14 @@ ReadSame S known move xs ys o q = (a : Origin) → IsRead S known a → read ys 
 -- A region whose nodes have other numbers means the same.
 abbrev pub CopiedRegionsMeanTheSame : Type 0
 CopiedRegionsMeanTheSame =
-    (to : ℕ → ℕ) (r : RegionTree) → IsClosed r → IsOneToOne to (region_ids r) → (c : Around) →
+    (to : ℕ → ℕ) (r : RegionTree) → IsClosed r → IsOneToOne to (region_ids r) → (c : Context) →
     region_meaning c (region_copied to r) ≡ region_meaning c r
 
 -- Nodes, and the same with other numbers and inputs that carry the same, give the same and do the same.
 abbrev pub CopiedNodesMeanTheSame : Type 0
 CopiedNodesMeanTheSame =
     (S : Origin → Bool) (move : Origin → Origin) (to : ℕ → ℕ) (ns : NodeTrees) → CanMove S move to (nodes_ids ns) → NodesRead S [] ns →
-    (c : Around) (xs ys : List Datum) (o q : Outputs) → ReadSame S [] move xs ys o q →
+    (c : Context) (xs ys : List Datum) (o q : Outputs) → ReadSame S [] move xs ys o q →
     Same (ReadSame S (known_after [] ns) move xs ys) (nodes_run c ns xs o) (nodes_run c (nodes_moved move to ns) ys q)
 
 -- a copy under the same numbers is the region itself

@@ -3,7 +3,7 @@ use Rattle.std.specs.Prelude.{ℕ, zero, suc, List, [], ◌∷◌, slice_index_o
 use Rattle.val_core.specs.declared.values.Value.{Value}
 use Rattle.val_core.specs.declared.values.Value.TheVariants.{Num, Bad}
 use Rattle.val_core.specs.Memory.{Memory}
-use Rattle.val_core.specs.Answers.{Answer, Wrong}
+use Rattle.val_core.specs.Answers.{Answer, Undefined}
 
 -- a value, the memory of all blocks, or the input bytes that are left
 pub data Datum : Type 0 where
@@ -23,22 +23,22 @@ value_of _ = Bad
 abbrev pub value_at : List Datum → ℕ → Value
 value_at xs k = value_of (at_port xs k)
 
--- What follows on a number, on a memory, on an input, or on what may be undefined, is wrong where there is none.
+-- What follows on a number, on a memory, on an input, or on what may be undefined, is undefined where there is none.
 abbrev pub on_number : {A : Type 0} → Value → (ℕ → Answer A) → Answer A
 on_number (Num w) next = next w
-on_number _ next = Wrong
+on_number _ next = Undefined
 
 abbrev pub on_memory : {A : Type 0} → Datum → (Memory → Answer A) → Answer A
 on_memory (memory m) next = next m
-on_memory _ next = Wrong
+on_memory _ next = Undefined
 
 abbrev pub on_input : {A : Type 0} → Datum → (List ℕ → Answer A) → Answer A
 on_input (input i) next = next i
-on_input _ next = Wrong
+on_input _ next = Undefined
 
 abbrev pub on_defined : {A X : Type 0} → Option X → (X → Answer A) → Answer A
 on_defined (Some x) next = next x
-on_defined None next = Wrong
+on_defined None next = Undefined
 
 -- the memory changed, where the datum is one
 abbrev pub with_memory : (Memory → Memory) → Datum → Datum

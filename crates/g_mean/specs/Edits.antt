@@ -4,7 +4,7 @@ use Rattle.g_graph.specs.Plain.{RegionTree, PlainLambda}
 use Rattle.g_graph.specs.Change.{lambda_changed}
 use Rattle.g_graph.specs.Ids.{region_ids}
 use Rattle.g_graph.specs.WellFormed.{IsWellFormed, every_region, region_fits, distinct, all_of}
-use Rattle.g_mean.specs.Alike.{LambdasSameBut}
+use Rattle.g_mean.specs.Refining.{LambdasSameBut}
 use Rattle.g_mean.specs.Copies.{IsClosed}
 use Rattle.g_mean.specs.Replacement.{Replaces}
 

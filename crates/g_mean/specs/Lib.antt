@@ -1,12 +1,12 @@
 pub mod Data
 pub mod Meaning
 pub mod Calls
-pub mod Near
-pub mod Alike
+pub mod LessDefined
+pub mod Refining
 pub mod Laws
 pub mod Replacement
 pub mod Silent
-pub mod Local
+pub mod LocalRefinement
 pub mod Copies
 pub mod Edits
 pub mod Moves

@@ -6,7 +6,7 @@ use Rattle.val_core.specs.declared.values.Value.TheVariants.{Num, At, Bad}
 use Rattle.val_core.specs.Values.{value1, value2}
 use Rattle.val_core.specs.Memory.{Memory, load, store, cleared, pointers_equal}
 use Rattle.val_core.specs.Events.{wrote}
-use Rattle.val_core.specs.Answers.{Answer, Back, Cut, Ended, Wrong, then_on}
+use Rattle.val_core.specs.Answers.{Answer, Returned, Cut, Exited, Undefined, then_on}
 use Rattle.g_graph.specs.declared.op.Op.{Op}
 use Rattle.g_graph.specs.declared.op.Op.TheVariants.{Const, Undef, Local, Delta, Bin, Un, Load, Store, Clear, PtrEq, Apply, Put, Exit, Get, Gamma, Theta}
 use Rattle.g_graph.specs.declared.op.Origin.{Origin}
@@ -24,28 +24,28 @@ pub record Frame : Type 0 where
   pub global : ℕ → Value
 
 -- what the meaning of a region takes from outside: the bound, what calls do, and the frame
-pub record Around : Type 0 where
+pub record Context : Type 0 where
   pub bound : ℕ
   pub call : ℕ → Meaning
   pub frame : Frame
 
 abbrev pub given : Value → Answer (List Datum)
-given v = Back (val v ∷ []) []
+given v = Returned (val v ∷ []) []
 
 abbrev pub given_memory : Memory → Answer (List Datum)
-given_memory m = Back (memory m ∷ []) []
+given_memory m = Returned (memory m ∷ []) []
 
 -- the next byte, or at the end of the input the word -1
 abbrev pub got : List ℕ → Answer (List Datum)
-got [] = Back (val (Num (2 ^ 32 - 1)) ∷ input [] ∷ []) []
-got (b ∷ i) = Back (val (Num b) ∷ input i ∷ []) []
+got [] = Returned (val (Num (2 ^ 32 - 1)) ∷ input [] ∷ []) []
+got (b ∷ i) = Returned (val (Num b) ∷ input i ∷ []) []
 
 -- the object at an address cleared
 abbrev pub cleared_at : Value → Memory → Option Memory
 cleared_at (At b o) m = Some (cleared b m)
 cleared_at _ m = None
 
--- What an op without regions does but for a call. A pure one is total. What else is undefined is wrong: a load or store
+-- What an op without regions does but for a call. A pure one is total. What else is undefined is undefined: a load or store
 -- that memory does not take, a comparison of pointers outside its cases, and a byte or a status that is no number.
 abbrev pub done : Frame → Op → Meaning
 done frame (Const w) xs = given (Num (w % 2 ^ 32))
@@ -61,27 +61,27 @@ done frame (Clear k) xs = on_memory (at_port xs 0) (λ m. on_defined (cleared_at
 done frame PtrEq xs =
     on_memory (at_port xs 2) (λ m. on_defined (pointers_equal (value_at xs 0) (value_at xs 1) m) (λ n. given (Num n)))
 done frame Put xs =
-    on_number (value_at xs 0) (λ w. on_input (at_port xs 1) (λ i. Back (input i ∷ []) (wrote (w % 256) ∷ [])))
-done frame Exit xs = on_number (value_at xs 0) (λ w. Ended [] (w % 256))
+    on_number (value_at xs 0) (λ w. on_input (at_port xs 1) (λ i. Returned (input i ∷ []) (wrote (w % 256) ∷ [])))
+done frame Exit xs = on_number (value_at xs 0) (λ w. Exited [] (w % 256))
 done frame Get xs = on_input (at_port xs 0) got
-done frame _ xs = Wrong
+done frame _ xs = Undefined
 
 -- of n meanings the one numbered min(w, n - 1)
 abbrev pub chosen : ℕ → List Meaning → Meaning
-chosen w [] xs = Wrong
+chosen w [] xs = Undefined
 chosen w (m ∷ []) xs = m xs
 chosen zero (m ∷ ms) xs = m xs
 chosen (suc w) (m ∷ ms) xs = chosen w ms xs
 
 -- a Gamma: its predicate chooses the region that the entry variables go to
 abbrev pub branched : List Meaning → Meaning
-branched ms [] = Wrong
+branched ms [] = Undefined
 branched ms (p ∷ xs) = on_number (value_of p) (λ w. chosen w ms xs)
 
 -- after a turn: the loop variables are done with, or go to the next turn, as the predicate says
 abbrev pub again : Meaning → Meaning
-again next [] = Wrong
-again next (p ∷ ys) = on_number (value_of p) (λ w. if w == 0 then Back ys [] else next ys)
+again next [] = Undefined
+again next (p ∷ ys) = on_number (value_of p) (λ w. if w == 0 then Returned ys [] else next ys)
 
 -- at most so many turns of a body
 abbrev pub turns : ℕ → Meaning → Meaning
@@ -90,11 +90,11 @@ turns (suc n) body xs = then_on (body xs) (again (turns n body))
 
 -- a Theta
 abbrev pub looped : ℕ → List Meaning → Meaning
-looped n [] xs = Wrong
+looped n [] xs = Undefined
 looped n (body ∷ ms) xs = turns n body xs
 
 -- what a node does whose regions mean this
-abbrev pub act : Around → Op → List Meaning → Meaning
+abbrev pub act : Context → Op → List Meaning → Meaning
 act c (Apply f) ms xs = c.call f xs
 act c Gamma ms xs = branched ms xs
 act c Theta ms xs = looped c.bound ms xs
@@ -116,18 +116,18 @@ read xs outputs (Out n p) = outputs n p
 
 -- Of a region, a node, nodes in order, and the regions of a node. The arguments of the region are `xs`.
 abbrev mutual
-  pub region_meaning : Around → RegionTree → Meaning
+  pub region_meaning : Context → RegionTree → Meaning
   region_meaning c (region args nodes results) xs =
-      then_on (nodes_run c nodes xs no_outputs) (λ o. Back (map (read xs o) results) [])
+      then_on (nodes_run c nodes xs no_outputs) (λ o. Returned (map (read xs o) results) [])
 
-  pub node_run : Around → NodeTree → (xs : List Datum) → Outputs → Answer (List Datum)
+  pub node_run : Context → NodeTree → (xs : List Datum) → Outputs → Answer (List Datum)
   node_run c (node id op inputs rs) xs o = act c op (meanings c rs) (map (read xs o) inputs)
 
-  pub nodes_run : Around → NodeTrees → (xs : List Datum) → Outputs → Answer Outputs
-  nodes_run c no_nodes xs o = Back o []
+  pub nodes_run : Context → NodeTrees → (xs : List Datum) → Outputs → Answer Outputs
+  nodes_run c no_nodes xs o = Returned o []
   nodes_run c (node_then x ns) xs o =
       then_on (node_run c x xs o) (λ ys. nodes_run c ns xs (extended o (id_of x) ys))
 
-  pub meanings : Around → RegionTrees → List Meaning
+  pub meanings : Context → RegionTrees → List Meaning
   meanings c no_regions = []
   meanings c (region_then r rs) = region_meaning c r ∷ meanings c rs

@@ -7,11 +7,11 @@ ghost use Rattle.g_mean.specs.Edits.{EditsReplace};
 ghost use Rattle.g_mean.specs.Holds.{RunNodesHold};
 ghost use Rattle.g_mean.specs.Kinds.{LambdasKeepKinds, WellFormedKeepMeaning};
 ghost use Rattle.g_mean.specs.Laws.{RegionExtends, LambdaExtends, ProgramExtends, NodesInTurn, EventsGrow, RegionIsSound, LambdaIsSound, ThetaTurns, TurnsUnroll};
-ghost use Rattle.g_mean.specs.Local.{RefinementsReplace, BodiesReplaceCalls};
-ghost use Rattle.g_mean.specs.Moves.{PureNodesGiveTheSame, MovedNodesAreAlike, MovedRegionsAreAlike, LoopsAreAlike};
+ghost use Rattle.g_mean.specs.LocalRefinement.{LocalRefinementsReplace, BodiesReplaceCalls};
+ghost use Rattle.g_mean.specs.Moves.{PureNodesGiveTheSame, MovedNodesRefine, MovedRegionsRefine, LoopsRefine};
 ghost use Rattle.g_mean.specs.Replacement.{LambdasKeepMeaning, RegionsKeepMeaning, ProgramsKeepMeaning};
 ghost use Rattle.g_mean.specs.Silent.{StatelessNodesAreSilent};
-ghost use Rattle.g_mean.specs.Splices.{SplicedRegionsAreAlike, RedirectedRegionsAreAlike, ReplacedNodesAreAlike};
+ghost use Rattle.g_mean.specs.Splices.{SplicedRegionsRefine, RedirectedRegionsRefine, ReplacedNodesRefine};
 
 /// A greater bound only extends: what ended stays as it is, and what was cut may go on.
 pub fn bounds_extend()
@@ -57,8 +57,8 @@ pub fn stateless_nodes_are_silent()
 {}
 
 /// A region that refines another one, wherever both stand, may replace it.
-pub fn refinements_replace()
-    ensures { RefinementsReplace }
+pub fn local_refinements_replace()
+    ensures { LocalRefinementsReplace }
 {}
 
 /// A call of a lambda without objects may be replaced by its body.
@@ -90,11 +90,11 @@ pub fn pure_nodes_give_the_same()
     ensures { PureNodesGiveTheSame }
 {}
 
-/// The move law: nodes whose inputs come from elsewhere, and which may have new numbers, are alike where what they read is
+/// The move law: nodes whose inputs come from elsewhere, and which may have new numbers, refine where what they read is
 /// near. What they do not read may be anything.
-pub fn moved_nodes_are_alike()
-    ensures nodes { MovedNodesAreAlike }
-    ensures region { MovedRegionsAreAlike }
+pub fn moved_nodes_refine()
+    ensures nodes { MovedNodesRefine }
+    ensures region { MovedRegionsRefine }
 {}
 
 /// How the variables of a loop relate to those of another one.
@@ -102,9 +102,9 @@ pub trait LoopVariables {
     ghost relate: { List Datum → List Datum → Type 0 };
 }
 
-/// Two loops are alike where their bodies keep a relation of their variables.
-pub fn loops_are_alike<R: LoopVariables>()
-    ensures { LoopsAreAlike R.relate }
+/// Two loops refine where their bodies keep a relation of their variables.
+pub fn loops_refine<R: LoopVariables>()
+    ensures { LoopsRefine R.relate }
 {}
 
 /// Once the nodes of a closed region with unique numbers have run, each gives its outputs on what its inputs carry then.
@@ -113,9 +113,9 @@ pub fn run_nodes_hold()
 {}
 
 /// A region with a part or another node in the place of a node, or with uses of a node's outputs that come from elsewhere,
-/// is alike to what it was where these are.
-pub fn changed_regions_are_alike()
-    ensures spliced { SplicedRegionsAreAlike }
-    ensures redirected { RedirectedRegionsAreAlike }
-    ensures replaced { ReplacedNodesAreAlike }
+/// refines to what it was where these are.
+pub fn changed_regions_refine()
+    ensures spliced { SplicedRegionsRefine }
+    ensures redirected { RedirectedRegionsRefine }
+    ensures replaced { ReplacedNodesRefine }
 {}

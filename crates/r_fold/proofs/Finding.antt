@@ -4,19 +4,19 @@ use Rattle.std.proofs.Math.Dec.{eqb-suc-zero}
 use Rattle.std.proofs.lemmas.Bool.{cases_Bool}
 use Rattle.std.proofs.lemmas.Bool.Decides.{nat_tests}
 use Rattle.val_core.specs.declared.values.Value.TheVariants.{Num}
-use Rattle.val_core.specs.Answers.{Back}
+use Rattle.val_core.specs.Answers.{Returned}
 use Rattle.g_graph.specs.declared.op.Op.TheVariants.{Const, Undef, Local, Delta, Bin, Un, Load, Store, Clear, PtrEq, Apply, Put, Exit, Get, Gamma, Theta}
 use Rattle.g_graph.specs.declared.op.Origin.{Origin}
 use Rattle.g_graph.specs.declared.op.Origin.TheVariants.{Arg, Out}
 use Rattle.g_graph.specs.Plain.{NodeTree, node, NodeTrees, no_nodes, node_then, id_of}
 use Rattle.g_graph.specs.Splice.{joined_nodes}
 use Rattle.g_mean.specs.Data.{Datum, val, at_port}
-use Rattle.g_mean.specs.Meaning.{Around, Outputs, read}
+use Rattle.g_mean.specs.Meaning.{Context, Outputs, read}
 use Rattle.g_mean.specs.Copies.{IsAmong, IsRead, is_argument, known_after}
 use Rattle.g_mean.specs.Holds.{HasRun, HaveRun}
 use Rattle.r_fold.specs.Rule.{node_at, node_set, const_word, constant}
 
--- the nodes before and behind the first of a number
+-- the nodes before and after the first of a number
 pub record Found (n : ℕ) (ns : NodeTrees) (x : NodeTree) : Type 0 where
   pub before : NodeTrees
   pub after : NodeTrees
@@ -50,13 +50,13 @@ found-at n no_nodes x e = absurd cc
 found-at n (node_then z ns) x e = found-by n z ns x (λ y d. found-at n ns y d) (id_of z == n) refl e
 
 -- a known node is found, and has run
-pub record Ran (c : Around) (xs : List Datum) (o : Outputs) (n : ℕ) (ns : NodeTrees) : Type 0 where
+pub record Ran (c : Context) (xs : List Datum) (o : Outputs) (n : ℕ) (ns : NodeTrees) : Type 0 where
   pub found : NodeTree
   pub is : (ms : NodeTrees) → node_at n (joined_nodes ns ms) ≡ Some found
   pub number : id_of found ≡ n
   pub run : HasRun c xs o found
 
-pub known-ran : (c : Around) (xs : List Datum) (o : Outputs) (known : List ℕ) (ns : NodeTrees) (n : ℕ) → HaveRun c xs o ns → IsAmong n (known_after known ns) → IsAmong n known ⊎ Ran c xs o n ns
+pub known-ran : (c : Context) (xs : List Datum) (o : Outputs) (known : List ℕ) (ns : NodeTrees) (n : ℕ) → HaveRun c xs o ns → IsAmong n (known_after known ns) → IsAmong n known ⊎ Ran c xs o n ns
 known-ran c xs o known no_nodes n have h = inl h
 known-ran c xs o known (node_then x ns) n have h = by (known-ran c xs o (id_of x ∷ known) ns n have.1 h)
   where
@@ -76,13 +76,13 @@ known-ran c xs o known (node_then x ns) n have h = by (known-ran c xs o (id_of x
     by (inr r) = inr (later r)
 
 -- a Const that has run gives its word
-const-gives : (c : Around) (xs : List Datum) (o : Outputs) (x : NodeTree) (u : ℕ) → const_word x ≡ Some u → HasRun c xs o x → (o (id_of x) 0 ≡ val (Num u)) × (u < 2 ^ 32)
+const-gives : (c : Context) (xs : List Datum) (o : Outputs) (x : NodeTree) (u : ℕ) → const_word x ≡ Some u → HasRun c xs o x → (o (id_of x) 0 ≡ val (Num u)) × (u < 2 ^ 32)
 const-gives c xs o (node id (Const w) inputs rs) u e h =
     let results : val (Num (w % 2 ^ 32)) ∷ [] ≡ h.results = same _ _ _ _ h.run in
     let word : w % 2 ^ 32 ≡ u = cc in
     (h.outputs 0 ∙ ap (λ ys. at_port ys 0) (sym results) ∙ ap (λ z. val (Num z)) word, subst (λ z. z < 2 ^ 32) word (mod-lt w (lit< tt)))
   where
-    same : (ys zs : List Datum) (p q : List _) → Back ys p ≡ Back zs q → ys ≡ zs
+    same : (ys zs : List Datum) (p q : List _) → Returned ys p ≡ Returned zs q → ys ≡ zs
     same ys zs p q e = cc
 const-gives c xs o (node id Undef inputs rs) u e h = absurd cc
 const-gives c xs o (node id (Local k) inputs rs) u e h = absurd cc
@@ -101,7 +101,7 @@ const-gives c xs o (node id Gamma inputs rs) u e h = absurd cc
 const-gives c xs o (node id Theta inputs rs) u e h = absurd cc
 
 -- Where the nodes so far have run, an origin that is a constant, and which they know, carries its word.
-pub constant-holds : (c : Around) (count : ℕ) (xs : List Datum) (o : Outputs) (ns ms : NodeTrees) (a : Origin) (u : ℕ) → HaveRun c xs o ns → IsRead (is_argument count) (known_after [] ns) a → constant (joined_nodes ns ms) a ≡ Some u → (read xs o a ≡ val (Num u)) × (u < 2 ^ 32)
+pub constant-holds : (c : Context) (count : ℕ) (xs : List Datum) (o : Outputs) (ns ms : NodeTrees) (a : Origin) (u : ℕ) → HaveRun c xs o ns → IsRead (is_argument count) (known_after [] ns) a → constant (joined_nodes ns ms) a ≡ Some u → (read xs o a ≡ val (Num u)) × (u < 2 ^ 32)
 constant-holds c count xs o ns ms (Arg k) u have r e = absurd cc
 constant-holds c count xs o ns ms (Out n p) u have (inl t) e = absurd cc
 constant-holds c count xs o ns ms (Out n (suc p)) u have (inr h) e =

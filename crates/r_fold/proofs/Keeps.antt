@@ -17,8 +17,8 @@ use Rattle.g_graph.specs.Rows.{first_args, output_kinds}
 use Rattle.g_graph.specs.Scope.{is_of, known}
 use Rattle.g_graph.specs.Change.{has_node, region_changed}
 use Rattle.g_graph.specs.WellFormed.{all_of, some_of, are, one_state_each, gives, is_last, nodes_fit, results_are_last, returns_state, region_has_one_state_each, region_fits, every_region, every_in_nodes, well_formed, IsWellFormed}
-use Rattle.g_graph.specs.Replace.{nodes_redirected, region_redirected, moved}
-use Rattle.g_graph.specs.Splice.{placed, without, joined_nodes, nodes_spliced, region_spliced}
+use Rattle.g_graph.specs.Replace.{nodes_redirected, region_redirected, origin_replaced}
+use Rattle.g_graph.specs.Splice.{args_to_inputs, outputs_to_results, joined_nodes, nodes_spliced, region_spliced}
 use Rattle.g_graph.proofs.ReplaceLemmas.{region_ids-redirected}
 use Rattle.g_graph.proofs.SpliceLemmas.{Split, split_at}
 use Rattle.g_graph.proofs.UniqueLemmas.{first_true, second_true, times, times_append, times_cons}
@@ -58,7 +58,7 @@ const_gives objects args before id op ins rs w e = record {
 }
 
 -- its output stays where it was
-const_output : (n : ℕ) (o : Origin) → without n (Out n 0 ∷ []) o ≡ o
+const_output : (n : ℕ) (o : Origin) → outputs_to_results n (Out n 0 ∷ []) o ≡ o
 const_output n (Arg k) = refl
 const_output n (Out m p) = by_test (m == n) refl p
   where
@@ -84,15 +84,15 @@ set_spliced n w no_nodes = refl
 set_spliced n w (node_then x ns) = by_test (id_of x == n) (set_spliced n w ns)
   where
     by_test : (t : Bool) → nodes_spliced n (const_nodes n w) (Out n 0 ∷ []) ns ≡ node_set n (node n (Const w) [] no_regions) ns →
-        (if t then joined_nodes (const_nodes n w) (nodes_redirected (without n (Out n 0 ∷ [])) ns) else node_then x (nodes_spliced n (const_nodes n w) (Out n 0 ∷ []) ns))
+        (if t then joined_nodes (const_nodes n w) (nodes_redirected (outputs_to_results n (Out n 0 ∷ [])) ns) else node_then x (nodes_spliced n (const_nodes n w) (Out n 0 ∷ []) ns))
         ≡ (if t then node_then (node n (Const w) [] no_regions) ns else node_then x (node_set n (node n (Const w) [] no_regions) ns))
-    by_test true h = ap (node_then (node n (Const w) [] no_regions)) (redirected_same (without n (Out n 0 ∷ [])) (const_output n) ns)
+    by_test true h = ap (node_then (node n (Const w) [] no_regions)) (redirected_same (outputs_to_results n (Out n 0 ∷ [])) (const_output n) ns)
     by_test false h = ap (node_then x) h
 
 word_spliced : (n w : ℕ) (args : List Kind) (ns : NodeTrees) (results : List Origin) →
-    region_spliced n (region_redirected (placed []) (region [] (const_nodes n w) (Out n 0 ∷ []))) (region args ns results)
+    region_spliced n (region_redirected (args_to_inputs []) (region [] (const_nodes n w) (Out n 0 ∷ []))) (region args ns results)
     ≡ region args (node_set n (node n (Const w) [] no_regions) ns) results
-word_spliced n w args ns results = λ i. region args (set_spliced n w ns i) (origins_same (without n (Out n 0 ∷ [])) (const_output n) results i)
+word_spliced n w args ns results = λ i. region args (set_spliced n w ns i) (origins_same (outputs_to_results n (Out n 0 ∷ [])) (const_output n) results i)
 
 -- ---- the region of a Theta that runs once
 
@@ -162,7 +162,7 @@ module _ (objects next n : ℕ) (args : List Kind) (ns : NodeTrees) (results : L
   here_is x e = subst (λ y. NodeFits objects args split.before y split.after) e split_here
 
   part_kept_by : (x : NodeTree) → split.here ≡ x → (own : List Kind) (nodes : NodeTrees) (outs is : List Origin) → PartGives objects args split.before x own nodes outs is →
-      KeptWithin objects whole (region_spliced n (region_redirected (placed is) (region own nodes outs)) whole)
+      KeptWithin objects whole (region_spliced n (region_redirected (args_to_inputs is) (region own nodes outs)) whole)
   part_kept_by x e own nodes outs is g =
       part_keeps objects n args ns results split own nodes outs is fits split_here (subst (λ y. PartGives objects args split.before y own nodes outs is) (sym e) g)
 
@@ -173,12 +173,12 @@ module _ (objects next n : ℕ) (args : List Kind) (ns : NodeTrees) (results : L
       (part_kept_by (node n op ins rs) e [] (const_nodes n w) (Out n 0 ∷ []) [] (const_gives objects args split.before n op ins rs w o))
 
   input_keeps : (op : Op) (ins : List Origin) (rs : RegionTrees) → split.here ≡ node n op ins rs → output_kinds (node n op ins rs) ≡ Some Value ∷ [] → (b : Origin) → known args split.before b ≡ Some Value →
-      KeptWithin objects whole (region_redirected (moved (Out n 0) b) whole)
+      KeptWithin objects whole (region_redirected (origin_replaced (Out n 0) b) whole)
   input_keeps op ins rs e o b v =
       let value = value_for objects n args split.before split.here split.after split_here (ap id_of e) (ap output_kinds e ∙ o) b v in
       record {
         kept = moved_kept objects (Out n 0) b args ns results (subst (λ ms. ValueFor args ms (Out n 0) b) (sym split.whole) value) fits;
-        fewer = λ m. omega (arith, ap (times m) (region_ids-redirected (moved (Out n 0) b) whole));
+        fewer = λ m. omega (arith, ap (times m) (region_ids-redirected (origin_replaced (Out n 0) b) whole));
       }
 
   word_change : (op : Op) (ins : List Origin) (rs : RegionTrees) → split.here ≡ node n op ins rs → output_kinds (node n op ins rs) ≡ Some Value ∷ [] → (w : ℕ) (f : Folded) → word w ≡ f → (s : RegionTree) →
@@ -193,16 +193,16 @@ module _ (objects next n : ℕ) (args : List Kind) (ns : NodeTrees) (results : L
   input_change op ins rs e o b v f q s d =
       by_use (is_used (Out n 0) whole) (ap (folded n whole) q ∙ d)
     where
-      by_use : (t : Bool) → (if t then Some (region_redirected (moved (Out n 0) b) whole) else None) ≡ Some s → KeptWithin objects whole s
+      by_use : (t : Bool) → (if t then Some (region_redirected (origin_replaced (Out n 0) b) whole) else None) ≡ Some s → KeptWithin objects whole s
       by_use true h =
-          let is : region_redirected (moved (Out n 0) b) whole ≡ s = cc in
+          let is : region_redirected (origin_replaced (Out n 0) b) whole ≡ s = cc in
           subst (λ t. KeptWithin objects whole t) is (input_keeps op ins rs e o b v)
       by_use false h = absurd (cc)
 
   part_change : (x : NodeTree) → split.here ≡ x → (own : List Kind) (nodes : NodeTrees) (outs is : List Origin) → PartGives objects args split.before x own nodes outs is → (f : Folded) → part (region own nodes outs) is ≡ f →
       (s : RegionTree) → folded n whole f ≡ Some s → KeptWithin objects whole s
   part_change x e own nodes outs is g f q s d =
-      let same : Some (region_spliced n (region_redirected (placed is) (region own nodes outs)) whole) ≡ Some s = ap (folded n whole) q ∙ d in
+      let same : Some (region_spliced n (region_redirected (args_to_inputs is) (region own nodes outs)) whole) ≡ Some s = ap (folded n whole) q ∙ d in
       subst (λ t. KeptWithin objects whole t) (some_equal _ _ same) (part_kept_by x e own nodes outs is g)
 
   inputs_keep : (op : Op2) (a b : Origin) (rs : RegionTrees) → split.here ≡ node n (Bin op) (a ∷ b ∷ []) rs → (u v : Option ℕ) (f : Folded) →

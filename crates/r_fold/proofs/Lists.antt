@@ -13,8 +13,8 @@ use Rattle.g_graph.specs.declared.op.Origin.TheVariants.{Out}
 use Rattle.g_graph.specs.Plain.{RegionTree, region, NodeTree, node, NodeTrees, no_nodes, node_then, RegionTrees, no_regions, region_then, id_of, PlainLambda}
 use Rattle.g_graph.specs.WellFormed.{IsWellFormed}
 use Rattle.g_graph.specs.Change.{first_some, region_changed, node_changed, nodes_changed, regions_changed}
-use Rattle.g_graph.specs.Replace.{nodes_redirected, region_redirected, moved}
-use Rattle.g_graph.specs.Splice.{placed, without, joined_nodes, nodes_spliced, region_spliced}
+use Rattle.g_graph.specs.Replace.{nodes_redirected, region_redirected, origin_replaced}
+use Rattle.g_graph.specs.Splice.{args_to_inputs, outputs_to_results, joined_nodes, nodes_spliced, region_spliced}
 use Rattle.r_fold.specs.Rule.{node_at, node_set, constant, is_word, left_neutral, right_neutral, Folded, word, input, part, bin_folded, gamma_folded, theta_folded, chosen_region, folding, is_used, folded, fold_here, fold}
 use Rattle.r_fold.specs.Lists.{OpCalls, RegionCalls, NodeCalls, NodesCalls, RegionsCalls, HasCallee, IsComplete, FoldKeepsLists}
 use Rattle.r_fold.proofs.Keeps.{fold_well_formed}
@@ -38,8 +38,8 @@ module _ (p : ℕ → ℕ → Type 0) where
   spliced_calls n own outputs no_nodes k h = h
   spliced_calls n own outputs (node_then x xs) k h = by_test (id_of x == n) (spliced_calls n own outputs xs k h.1)
     where
-      by_test : (t : Bool) → NodesCalls p (nodes_spliced n own outputs xs) → NodesCalls p (if t then joined_nodes own (nodes_redirected (without n outputs) xs) else node_then x (nodes_spliced n own outputs xs))
-      by_test true rest = joined_calls own (nodes_redirected (without n outputs) xs) k (redirected_calls (without n outputs) xs h.1)
+      by_test : (t : Bool) → NodesCalls p (nodes_spliced n own outputs xs) → NodesCalls p (if t then joined_nodes own (nodes_redirected (outputs_to_results n outputs) xs) else node_then x (nodes_spliced n own outputs xs))
+      by_test true rest = joined_calls own (nodes_redirected (outputs_to_results n outputs) xs) k (redirected_calls (outputs_to_results n outputs) xs h.1)
       by_test false rest = (h.0, rest)
 
   found_calls : (n : ℕ) (ns : NodeTrees) (x : NodeTree) → node_at n ns ≡ Some x → NodesCalls p ns → NodeCalls p x
@@ -134,12 +134,12 @@ module _ (p : ℕ → ℕ → Type 0) where
       subst (λ z. RegionCalls p z) (some_is (region args (node_set n (node n (Const w) [] no_regions) ns) results) s e) (set_calls n (node n (Const w) [] no_regions) ns (tt, tt) h)
   folded_calls n args ns results (input a) s e k h = by_use (is_used (Out n 0) (region args ns results)) e
     where
-      by_use : (t : Bool) → (if t then Some (region_redirected (moved (Out n 0) a) (region args ns results)) else None) ≡ Some s → RegionCalls p s
-      by_use true d = subst (λ z. RegionCalls p z) (some_is (region_redirected (moved (Out n 0) a) (region args ns results)) s d) (redirected_calls (moved (Out n 0) a) ns h)
+      by_use : (t : Bool) → (if t then Some (region_redirected (origin_replaced (Out n 0) a) (region args ns results)) else None) ≡ Some s → RegionCalls p s
+      by_use true d = subst (λ z. RegionCalls p z) (some_is (region_redirected (origin_replaced (Out n 0) a) (region args ns results)) s d) (redirected_calls (origin_replaced (Out n 0) a) ns h)
       by_use false d = absurd (cc)
   folded_calls n args ns results (part (region own nodes outs) inputs) s e k h =
-      subst (λ z. RegionCalls p z) (some_is (region_spliced n (region_redirected (placed inputs) (region own nodes outs)) (region args ns results)) s e)
-      (spliced_calls n (nodes_redirected (placed inputs) nodes) (map (placed inputs) outs) ns (redirected_calls (placed inputs) nodes k) h)
+      subst (λ z. RegionCalls p z) (some_is (region_spliced n (region_redirected (args_to_inputs inputs) (region own nodes outs)) (region args ns results)) s e)
+      (spliced_calls n (nodes_redirected (args_to_inputs inputs) nodes) (map (args_to_inputs inputs) outs) ns (redirected_calls (args_to_inputs inputs) nodes k) h)
 
   here_calls : (n : ℕ) (r s : RegionTree) → fold_here n r ≡ Some s → RegionCalls p r → RegionCalls p s
   here_calls n (region args ns results) s e h = by_node (node_at n ns) refl e

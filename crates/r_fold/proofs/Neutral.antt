@@ -11,7 +11,7 @@ use Rattle.val_core.specs.declared.values.BlockName.{BlockName}
 use Rattle.val_core.specs.declared.values.Value.{Value}
 use Rattle.val_core.specs.declared.values.Value.TheVariants.{Num, At, Bad}
 use Rattle.val_core.specs.Words.{word2, signed, word}
-use Rattle.val_core.specs.Values.{address, value2, IsNear, IsSound}
+use Rattle.val_core.specs.Values.{address, value2, IsLessDefined, IsSound}
 use Rattle.val_core.proofs.ValueLemmas.{bad-left, bad-right}
 use Rattle.r_fold.specs.Rule.{left_neutral, right_neutral}
 
@@ -46,7 +46,7 @@ right-word Sra k w e h =
 right-word _ k w e h = absurd cc
 
 -- an address that it leaves as it is, or makes meaningless
-left-address : (op : Op2) (k : ℕ) (b : BlockName) (o : ℕ) → left_neutral op ≡ Some k → IsSound (At b o) → IsNear (value2 op (Num k) (At b o)) (At b o)
+left-address : (op : Op2) (k : ℕ) (b : BlockName) (o : ℕ) → left_neutral op ≡ Some k → IsSound (At b o) → IsLessDefined (value2 op (Num k) (At b o)) (At b o)
 left-address Add k b o e s =
     let zero : 0 ≡ k = cc in
     let same : (o + 0) % 2 ^ 32 ≡ o = omega arith in
@@ -56,7 +56,7 @@ left-address Xor k b o e s = inr refl
 left-address Mul k b o e s = inr refl
 left-address _ k b o e s = absurd cc
 
-right-address : (op : Op2) (k : ℕ) (b : BlockName) (o : ℕ) → right_neutral op ≡ Some k → IsSound (At b o) → IsNear (value2 op (At b o) (Num k)) (At b o)
+right-address : (op : Op2) (k : ℕ) (b : BlockName) (o : ℕ) → right_neutral op ≡ Some k → IsSound (At b o) → IsLessDefined (value2 op (At b o) (Num k)) (At b o)
 right-address Add k b o e s =
     let zero : 0 ≡ k = cc in
     let same : (o + 0) % 2 ^ 32 ≡ o = omega arith in
@@ -73,12 +73,12 @@ right-address Srl k b o e s = inr refl
 right-address Sra k b o e s = inr refl
 right-address _ k b o e s = absurd cc
 
-pub left-near : (op : Op2) (k : ℕ) (v : Value) → left_neutral op ≡ Some k → IsSound v → IsNear (value2 op (Num k) v) v
-left-near op k (Num w) e s = inl (ap Num (left-word op k w e s))
-left-near op k (At b o) e s = left-address op k b o e s
-left-near op k Bad e s = inr (bad-right op (Num k))
+pub left-less : (op : Op2) (k : ℕ) (v : Value) → left_neutral op ≡ Some k → IsSound v → IsLessDefined (value2 op (Num k) v) v
+left-less op k (Num w) e s = inl (ap Num (left-word op k w e s))
+left-less op k (At b o) e s = left-address op k b o e s
+left-less op k Bad e s = inr (bad-right op (Num k))
 
-pub right-near : (op : Op2) (k : ℕ) (v : Value) → right_neutral op ≡ Some k → IsSound v → IsNear (value2 op v (Num k)) v
-right-near op k (Num w) e s = inl (ap Num (right-word op k w e s))
-right-near op k (At b o) e s = right-address op k b o e s
-right-near op k Bad e s = inr (bad-left op (Num k))
+pub right-less : (op : Op2) (k : ℕ) (v : Value) → right_neutral op ≡ Some k → IsSound v → IsLessDefined (value2 op v (Num k)) v
+right-less op k (Num w) e s = inl (ap Num (right-word op k w e s))
+right-less op k (At b o) e s = right-address op k b o e s
+right-less op k Bad e s = inr (bad-left op (Num k))

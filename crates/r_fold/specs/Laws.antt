@@ -5,8 +5,8 @@ use Rattle.val_core.specs.Values.{IsSound}
 use Rattle.g_graph.specs.Plain.{RegionTree, PlainLambda}
 use Rattle.g_graph.specs.WellFormed.{IsWellFormed}
 use Rattle.g_mean.specs.Data.{Datum}
-use Rattle.g_mean.specs.Calls.{PlainOmega, ev_lambda, evmain}
-use Rattle.g_mean.specs.Near.{AreBytes, AreSound, AreSoundDeltas}
+use Rattle.g_mean.specs.Calls.{PlainOmega, lambda_at, program_at}
+use Rattle.g_mean.specs.LessDefined.{AreBytes, AreSound, AreSoundDeltas}
 use Rattle.g_mean.specs.Edits.{AreEditedAt, IsPartOf}
 use Rattle.g_mean.specs.Replacement.{Replaces, IsKeptWithinTwice}
 use Rattle.r_fold.specs.Rule.{fold_here}
@@ -15,11 +15,11 @@ use Rattle.r_fold.specs.Rule.{fold_here}
 abbrev pub LambdasKeepMeaning : List PlainLambda → List PlainLambda → Type 0
 LambdasKeepMeaning ls ks =
     (global : ℕ → Value) (g : ℕ) (xs : List Datum) → ((k : ℕ) → IsSound (global k)) → AreSound xs →
-    IsKeptWithinTwice (λ m. ev_lambda m ls global g xs) (λ m. ev_lambda m ks global g xs)
+    IsKeptWithinTwice (λ m. lambda_at m ls global g xs) (λ m. lambda_at m ks global g xs)
 
 abbrev pub ProgramKeepsMeaning : List PlainLambda → List PlainLambda → Type 0
 ProgramKeepsMeaning ls ks =
-    (omega : PlainOmega) (i : List ℕ) → AreSoundDeltas omega.deltas → AreBytes i → IsKeptWithinTwice (λ m. evmain m omega ls i) (λ m. evmain m omega ks i)
+    (omega : PlainOmega) (i : List ℕ) → AreSoundDeltas omega.deltas → AreBytes i → IsKeptWithinTwice (λ m. program_at m omega ls i) (λ m. program_at m omega ks i)
 
 -- the one lambda may stand in the place of the other, in any list
 abbrev pub KeepsMeaning : PlainLambda → PlainLambda → Type 0

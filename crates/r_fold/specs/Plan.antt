@@ -10,8 +10,8 @@ use Rattle.g_graph.specs.declared.op.Op.TheVariants.{Const, Bin, Un, Gamma, Thet
 use Rattle.g_graph.specs.declared.op.Origin.{Origin}
 use Rattle.g_graph.specs.declared.op.Origin.TheVariants.{Out}
 use Rattle.g_graph.specs.Plain.{RegionTree, region, NodeTree, node, NodeTrees, RegionTrees, no_regions, region_then}
-use Rattle.g_graph.specs.Replace.{region_redirected, moved}
-use Rattle.g_graph.specs.Splice.{placed, region_spliced}
+use Rattle.g_graph.specs.Replace.{region_redirected, origin_replaced}
+use Rattle.g_graph.specs.Splice.{args_to_inputs, region_spliced}
 use Rattle.r_fold.specs.declared.plan.Plan.{Plan}
 use Rattle.r_fold.specs.declared.plan.Plan.TheVariants.{Word, Input, Part}
 use Rattle.r_fold.specs.Rule.{constant, is_word, Folded, word, input, part, bin_folded, gamma_folded, theta_folded, node_set, is_used}
@@ -20,7 +20,7 @@ use Rattle.r_fold.specs.Rule.{constant, is_word, Folded, word, input, part, bin_
 abbrev pub planned : Folded → Plan
 planned (word w) = Word w
 planned (input a) = Input a
-planned (part r inputs) = Part (region_redirected (placed inputs) r)
+planned (part r inputs) = Part (region_redirected (args_to_inputs inputs) r)
 
 abbrev pub op_of : NodeTree → Op
 op_of (node id op inputs rs) = op
@@ -73,7 +73,7 @@ abbrev pub with_word : ℕ → ℕ → RegionTree → RegionTree
 with_word n w (region args nodes results) = region args (node_set n (node n (Const w) [] no_regions) nodes) results
 
 abbrev pub with_input : ℕ → Origin → RegionTree → Option RegionTree
-with_input n a r = if is_used (Out n 0) r then Some (region_redirected (moved (Out n 0) a) r) else None
+with_input n a r = if is_used (Out n 0) r then Some (region_redirected (origin_replaced (Out n 0) a) r) else None
 
 abbrev pub carried_out : ℕ → RegionTree → Plan → Option RegionTree
 carried_out n r (Word w) = Some (with_word n w r)

@@ -11,8 +11,8 @@ use Rattle.g_graph.specs.Plain.{RegionTree, region, NodeTree, node, NodeTrees, n
 use Rattle.g_graph.specs.Scope.{same_origin}
 use Rattle.g_graph.specs.WellFormed.{some_of}
 use Rattle.g_graph.specs.Change.{region_changed, lambda_changed}
-use Rattle.g_graph.specs.Replace.{region_redirected, moved}
-use Rattle.g_graph.specs.Splice.{placed, region_spliced}
+use Rattle.g_graph.specs.Replace.{region_redirected, origin_replaced}
+use Rattle.g_graph.specs.Splice.{args_to_inputs, region_spliced}
 
 -- the first node of this number
 abbrev pub node_at : ℕ → NodeTrees → Option NodeTree
@@ -105,8 +105,8 @@ is_used o (region args nodes results) = nodes_use o nodes || some_of (same_origi
 -- Uses are replaced only where there is one.
 abbrev pub folded : ℕ → RegionTree → Folded → Option RegionTree
 folded n (region args nodes results) (word w) = Some (region args (node_set n (node n (Const w) [] no_regions) nodes) results)
-folded n r (input a) = if is_used (Out n 0) r then Some (region_redirected (moved (Out n 0) a) r) else None
-folded n r (part s inputs) = Some (region_spliced n (region_redirected (placed inputs) s) r)
+folded n r (input a) = if is_used (Out n 0) r then Some (region_redirected (origin_replaced (Out n 0) a) r) else None
+folded n r (part s inputs) = Some (region_spliced n (region_redirected (args_to_inputs inputs) s) r)
 
 -- the region that holds node n, with that node folded, where it can be
 abbrev pub fold_here : ℕ → RegionTree → Option RegionTree

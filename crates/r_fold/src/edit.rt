@@ -6,7 +6,7 @@ ghost use Rattle.r_fold.specs.Plan.{with_word, with_input, carried_out};
 
 use crate::plan::Plan;
 use crate::uses::is_used;
-use g_graph::{Move, NoMemory, Node, Op, Origin, Region, place_of, redirect_region, splice_region};
+use g_graph::{OriginReplaced, NoMemory, Node, Op, Origin, Region, place_of, redirect_region, splice_region};
 use smallvec::SmallVec;
 use std::alloc::Global;
 
@@ -73,6 +73,6 @@ fn replace_uses(region: &mut Region, id: u32, origin: Origin) -> bool
     if !is_used(region, from) {
         return false;
     }
-    redirect_region(region, &Move { from, to: origin });
+    redirect_region(region, &OriginReplaced { from, to: origin });
     true
 }

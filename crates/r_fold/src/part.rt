@@ -1,13 +1,13 @@
 ghost use Rattle.std.specs.Prelude.{◌≡◌, IfOk, is_some, option_map, option_copied};
 ghost use Rattle.g_graph.specs.Plain.{nodes_of, regions_of};
 ghost use Rattle.g_graph.specs.Replace.{region_redirected};
-ghost use Rattle.g_graph.specs.Splice.{placed};
+ghost use Rattle.g_graph.specs.Splice.{args_to_inputs};
 ghost use Rattle.r_fold.specs.Rule.{chosen_region, theta_folded};
 ghost use Rattle.r_fold.specs.Plan.{planned, gamma_row, theta_row, part_row, runs_once, has_one_turn};
 
 use crate::constants::{constant, is_word};
 use crate::plan::Plan;
-use g_graph::{NoMemory, Node, Op, Origin, Placed, Region, copy_region, redirect_region};
+use g_graph::{NoMemory, Node, Op, Origin, ArgsToInputs, Region, copy_region, redirect_region};
 use std::alloc::Global;
 
 // Whether one of its regions comes in the place of a node.
@@ -68,7 +68,7 @@ fn choice_on(
     word: u32,
     entries: &[Origin],
 ) -> Result<Option<Plan>, NoMemory>
-    ensures { IfOk result (λ plan. plan ≡ option_map (λ r. Plan.Part (region_redirected (placed entries.now) r)) (chosen_region word (regions_of regions.now))) }
+    ensures { IfOk result (λ plan. plan ≡ option_map (λ r. Plan.Part (region_redirected (args_to_inputs entries.now) r)) (chosen_region word (regions_of regions.now))) }
 {
     match chosen_region(regions, word) {
         Some(region) => Ok(Some(Plan::Part(placed_region(alloc, region, entries)?))),
@@ -133,9 +133,9 @@ fn runs_once(region: &Region) -> bool
 
 // A copy of the region with these inputs in the place of its arguments.
 fn placed_region(alloc: Global, region: &Region, inputs: &[Origin]) -> Result<Region, NoMemory>
-    ensures { IfOk result (λ part. part ≡ region_redirected (placed inputs.now) region.now) }
+    ensures { IfOk result (λ part. part ≡ region_redirected (args_to_inputs inputs.now) region.now) }
 {
     let mut part = copy_region(alloc, region)?;
-    redirect_region(&mut part, &Placed { inputs });
+    redirect_region(&mut part, &ArgsToInputs { inputs });
     Ok(part)
 }

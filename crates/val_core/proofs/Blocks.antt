@@ -21,10 +21,10 @@ changed-twice n f g [] = refl
 changed-twice zero f g (k ∷ m) = refl
 changed-twice (suc n) f g (k ∷ m) = ap (λ r. k ∷ r) (changed-twice n f g m)
 
-pub changed-alike : (n : ℕ) (f g : Block → Block) (m : Memory) → ((k : Block) → f k ≡ g k) → block_changed n f m ≡ block_changed n g m
-changed-alike n f g [] e = refl
-changed-alike zero f g (k ∷ m) e = ap (λ j. j ∷ m) (e k)
-changed-alike (suc n) f g (k ∷ m) e = ap (λ r. k ∷ r) (changed-alike n f g m e)
+pub changed-refine : (n : ℕ) (f g : Block → Block) (m : Memory) → ((k : Block) → f k ≡ g k) → block_changed n f m ≡ block_changed n g m
+changed-refine n f g [] e = refl
+changed-refine zero f g (k ∷ m) e = ap (λ j. j ∷ m) (e k)
+changed-refine (suc n) f g (k ∷ m) e = ap (λ r. k ∷ r) (changed-refine n f g m e)
 
 pub changed-apart : (n i : ℕ) (f g : Block → Block) (m : Memory) → n ≢ i → block_changed n f (block_changed i g m) ≡ block_changed i g (block_changed n f m)
 changed-apart n i f g [] ne = refl

@@ -1,8 +1,8 @@
 -- The laws of events.
 use Rattle.std.proofs.Common.{◌≡◌, ℕ, ◌+◌, ◌≤◌, max, List, [], ◌∷◌, ◌++◌, refl, sym, ap, ◌∙◌, arith, append_assoc}
 use Rattle.std.proofs.lemmas.List.Sums.{sum_by-cons}
-use Rattle.val_core.specs.Events.{Event, wrote, met, output, deepest, beneath, called, Leads}
-use Rattle.val_core.specs.AnswerLaws.{OutputAppends, DeepestAppends, BeneathAppends, CalledKeepsOutput, CalledDeepens, LeadsOn}
+use Rattle.val_core.specs.Events.{Event, wrote, met, output, deepest, beneath, called, IsPrefixOf}
+use Rattle.val_core.specs.AnswerLaws.{OutputAppends, DeepestAppends, BeneathAppends, CalledKeepsOutput, CalledDeepens, PrefixesCompose}
 
 pub output_appends : OutputAppends
 output_appends [] p = refl
@@ -37,29 +37,29 @@ called_deepens sizes f o = let h = beneath-deepest sizes f o in let e = sum_by-c
 
 -- ---- leads
 
-pub leads-self : {A : Type 0} (xs : List A) → Leads xs xs
-leads-self xs = ([], append-nothing xs) where
+pub prefix-self : {A : Type 0} (xs : List A) → IsPrefixOf xs xs
+prefix-self xs = ([], append-nothing xs) where
   append-nothing : {A : Type 0} (ys : List A) → ys ++ [] ≡ ys
   append-nothing [] = refl
   append-nothing (y ∷ ys) = ap (λ r. y ∷ r) (append-nothing ys)
 
-pub leads_on : {A : Type 0} → LeadsOn A
-leads_on xs ys zs (p, e) (q, d) = (p ++ q, sym (append_assoc xs p q) ∙ ap (λ l. l ++ q) e ∙ d)
+pub prefixes_compose : {A : Type 0} → PrefixesCompose A
+prefixes_compose xs ys zs (p, e) (q, d) = (p ++ q, sym (append_assoc xs p q) ∙ ap (λ l. l ++ q) e ∙ d)
 
-pub leads-more : {A : Type 0} (xs ys rest : List A) → Leads xs ys → Leads xs (ys ++ rest)
-leads-more xs ys rest (p, e) = (p ++ rest, sym (append_assoc xs p rest) ∙ ap (λ l. l ++ rest) e)
+pub prefix-more : {A : Type 0} (xs ys rest : List A) → IsPrefixOf xs ys → IsPrefixOf xs (ys ++ rest)
+prefix-more xs ys rest (p, e) = (p ++ rest, sym (append_assoc xs p rest) ∙ ap (λ l. l ++ rest) e)
 
-pub leads-after : {A : Type 0} (os xs ys : List A) → Leads xs ys → Leads (os ++ xs) (os ++ ys)
-leads-after os xs ys (p, e) = (p, append_assoc os xs p ∙ ap (λ l. os ++ l) e)
+pub prefix-after : {A : Type 0} (os xs ys : List A) → IsPrefixOf xs ys → IsPrefixOf (os ++ xs) (os ++ ys)
+prefix-after os xs ys (p, e) = (p, append_assoc os xs p ∙ ap (λ l. os ++ l) e)
 
-pub leads-output : (o p : List Event) → Leads o p → Leads (output o) (output p)
-leads-output o p (r, e) = (output r, sym (output_appends o r) ∙ ap output e)
+pub prefix-output : (o p : List Event) → IsPrefixOf o p → IsPrefixOf (output o) (output p)
+prefix-output o p (r, e) = (output r, sym (output_appends o r) ∙ ap output e)
 
-pub leads-deepest : (sizes : ℕ → ℕ) (o p : List Event) → Leads o p → deepest sizes o ≤ deepest sizes p
-leads-deepest sizes o p (r, e) = let h = deepest_appends sizes o r in let d : deepest sizes (o ++ r) ≡ deepest sizes p = ap (deepest sizes) e in omega (arith, h, d)
+pub prefix-deepest : (sizes : ℕ → ℕ) (o p : List Event) → IsPrefixOf o p → deepest sizes o ≤ deepest sizes p
+prefix-deepest sizes o p (r, e) = let h = deepest_appends sizes o r in let d : deepest sizes (o ++ r) ≡ deepest sizes p = ap (deepest sizes) e in omega (arith, h, d)
 
-pub leads-beneath : (f : ℕ) (o p : List Event) → Leads o p → Leads (beneath f o) (beneath f p)
-leads-beneath f o p (r, e) = (beneath f r, sym (beneath_appends f o r) ∙ ap (beneath f) e)
+pub prefix-beneath : (f : ℕ) (o p : List Event) → IsPrefixOf o p → IsPrefixOf (beneath f o) (beneath f p)
+prefix-beneath f o p (r, e) = (beneath f r, sym (beneath_appends f o r) ∙ ap (beneath f) e)
 
-pub leads-called : (f : ℕ) (o p : List Event) → Leads o p → Leads (called f o) (called f p)
-leads-called f o p (r, e) = (beneath f r, ap (λ l. met (f ∷ []) ∷ l) (sym (beneath_appends f o r) ∙ ap (beneath f) e))
+pub prefix-called : (f : ℕ) (o p : List Event) → IsPrefixOf o p → IsPrefixOf (called f o) (called f p)
+prefix-called f o p (r, e) = (beneath f r, ap (λ l. met (f ∷ []) ∷ l) (sym (beneath_appends f o r) ∙ ap (beneath f) e))

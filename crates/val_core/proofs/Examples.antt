@@ -3,7 +3,7 @@ use Rattle.std.proofs.Common.{◌≡◌, ℕ, [], ◌∷◌, None, Some, option_
 use Rattle.val_core.specs.Values.{BlockName, Num, At, Bad, value2}
 use Rattle.val_core.specs.Memory.{Memory, new_block, load, store, cleared, closed, pointers_equal}
 use Rattle.val_core.specs.Events.{wrote, met, output, deepest}
-use Rattle.val_core.specs.Answers.{Answer, Back, then_on, active, events}
+use Rattle.val_core.specs.Answers.{Answer, Returned, then_on, active, events}
 use Rattle.val_core.specs.declared.operation.Op2.TheVariants.{Add, Sub, Mul, Sltu, Eq}
 
 -- two objects of twelve bytes, and one of an int and a char
@@ -94,7 +94,7 @@ of_a_dead_object = refl
 -- ---- answers: function 7 writes 65 and calls function 3, which writes 66
 
 abbrev run : Answer ℕ
-run = active 7 (then_on (Back 1 (wrote 65 ∷ [])) (λ x. active 3 (Back x (wrote 66 ∷ []))))
+run = active 7 (then_on (Returned 1 (wrote 65 ∷ [])) (λ x. active 3 (Returned x (wrote 66 ∷ []))))
 
 writes_in_order : output (events run) ≡ 65 ∷ 66 ∷ []
 writes_in_order = refl

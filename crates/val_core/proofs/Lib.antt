@@ -7,7 +7,7 @@ pub mod Lifetimes
 pub mod Sound
 pub mod Events
 pub mod Answers
-pub mod Likeness
+pub mod Refinement
 pub mod Within
 pub mod WholeWord
 pub mod Examples

@@ -5,7 +5,7 @@ use Rattle.std.specs.List.{list_any}
 use Rattle.val_core.specs.Values.{BlockName, Value, Num, At, Bad}
 use Rattle.val_core.specs.Memory.{Block, Memory, block_named, block_changed, is_at, value_at, read_block, takes_store, load, kept, store, written, shape_of}
 use Rattle.val_core.specs.MemoryLaws.{Apart, LoadAfterStore, LoadElsewhere, StoreTwice, StoresCommute, StoreKeepsBlocks, DeadIsUndefined, FixedIsUndefined}
-use Rattle.val_core.proofs.Blocks.{changed-twice, changed-alike, changed-apart, map-changed, named-changed, named-other, sizes-agree}
+use Rattle.val_core.proofs.Blocks.{changed-twice, changed-refine, changed-apart, map-changed, named-changed, named-other, sizes-agree}
 use Rattle.val_core.proofs.Cells.{Elsewhere, value-same, value-other, written-twice, written-apart, shape-written, takes-written}
 
 -- what the memory is once a store is made of the part that is kept
@@ -115,7 +115,7 @@ load_elsewhere w w' (At b o) (At c p) v m m' apart is =
 stored-twice : (w o : ℕ) (b : BlockName) (u v : Value) (m : Memory) → stored w o b (stored w o b m u) v ≡ stored w o b m v
 stored-twice w o b u v m =
     changed-twice b.number (written w o v) (written w o u) m
-    ∙ changed-alike b.number (λ k. written w o v (written w o u k)) (written w o v) m (written-twice w o u v)
+    ∙ changed-refine b.number (λ k. written w o v (written w o u k)) (written w o v) m (written-twice w o u v)
 
 pub store_twice : StoreTwice
 store_twice w (Num a) v x m m' is = refl
@@ -140,7 +140,7 @@ stored-apart w o w' p b c u v m apart takes takes' = by_number (b.number == c.nu
       let here = elsewhere-of w w' o p b c apart (same-name b c n (sizes-agree b c k.0 j.0 m n k.1 j.1)) in
       ap (λ i. block_changed i (written w' p v) (block_changed b.number (written w o u) m)) (sym n)
       ∙ changed-twice b.number (written w' p v) (written w o u) m
-      ∙ changed-alike b.number _ (λ x. written w o u (written w' p v x)) m (λ x. written-apart w o w' p u v x here)
+      ∙ changed-refine b.number _ (λ x. written w o u (written w' p v x)) m (λ x. written-apart w o w' p u v x here)
       ∙ sym (changed-twice b.number (written w o u) (written w' p v) m)
       ∙ ap (λ i. block_changed b.number (written w o u) (block_changed i (written w' p v) m)) n
   by_number false differ = changed-apart c.number b.number (written w' p v) (written w o u) m (λ e. eqb-false b.number c.number differ (sym e))

@@ -2,7 +2,7 @@
 use Rattle.std.proofs.Common.{◌≡◌, ℕ, ◌^◌, ◌<◌, nat_le, Bool, true, false, cond, refl, ap, ap₂, ◌∙◌, inl, inr, arith, leb-true}
 use Rattle.val_core.specs.Words.{word2}
 use Rattle.val_core.specs.Values.{BlockName, Value, Num, At, Bad, same_block, value2, value1, IsSound}
-use Rattle.val_core.specs.ValueLaws.{KeepsNear2, KeepsNear1, KeepsSound2, KeepsSound1}
+use Rattle.val_core.specs.ValueLaws.{KeepsLessDefined2, KeepsLessDefined1, KeepsSound2, KeepsSound1}
 use Rattle.val_core.specs.declared.operation.Op2.{Op2}
 use Rattle.val_core.specs.declared.operation.Op2.TheVariants.{Add, Sub, Sltu}
 use Rattle.val_core.proofs.Words.{gives_word2, gives_word1}
@@ -18,14 +18,14 @@ bad-right Sub (At b o) = refl
 bad-right Sltu (At b o) = refl
 bad-right _ (At b o) = refl
 
-pub keeps_near2 : KeepsNear2
-keeps_near2 op x x' y y' (inr e) k = inr (ap (λ v. value2 op v y) e ∙ bad-left op y)
-keeps_near2 op x x' y y' (inl d) (inr e) = inr (ap (value2 op x) e ∙ bad-right op x)
-keeps_near2 op x x' y y' (inl d) (inl e) = inl (ap₂ (value2 op) d e)
+pub keeps_less_defined2 : KeepsLessDefined2
+keeps_less_defined2 op x x' y y' (inr e) k = inr (ap (λ v. value2 op v y) e ∙ bad-left op y)
+keeps_less_defined2 op x x' y y' (inl d) (inr e) = inr (ap (value2 op x) e ∙ bad-right op x)
+keeps_less_defined2 op x x' y y' (inl d) (inl e) = inl (ap₂ (value2 op) d e)
 
-pub keeps_near1 : KeepsNear1
-keeps_near1 op x x' (inl e) = inl (ap (value1 op) e)
-keeps_near1 op x x' (inr e) = inr (ap (value1 op) e)
+pub keeps_less_defined1 : KeepsLessDefined1
+keeps_less_defined1 op x x' (inl e) = inl (ap (value1 op) e)
+keeps_less_defined1 op x x' (inr e) = inr (ap (value1 op) e)
 
 address-sound : (b : BlockName) (offset : ℕ) (test : Bool) → nat_le offset b.size ≡ test → b.size < 2 ^ 32 → IsSound (cond test (At b offset) Bad)
 address-sound b offset true within size = (leb-true offset b.size within, size)

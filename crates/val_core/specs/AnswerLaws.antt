@@ -1,7 +1,7 @@
 -- Laws of events and answers. `A`, `B` and `C` are types of results.
 use Rattle.std.specs.Prelude.{◌≡◌, ℕ, ◌+◌, max, List, [], ◌++◌}
-use Rattle.val_core.specs.Events.{Event, output, deepest, beneath, called, Leads}
-use Rattle.val_core.specs.Answers.{Answer, Back, before, then_on}
+use Rattle.val_core.specs.Events.{Event, output, deepest, beneath, called, IsPrefixOf}
+use Rattle.val_core.specs.Answers.{Answer, Returned, before, then_on}
 
 -- ---- events
 
@@ -23,8 +23,8 @@ abbrev pub CalledDeepens : Type 0
 CalledDeepens = (sizes : ℕ → ℕ) (f : ℕ) (o : List Event) → deepest sizes (called f o) ≡ sizes f + deepest sizes o
 
 -- what leads to a list leads to what that list leads to
-abbrev pub LeadsOn : (A : Type 0) → Type 0
-LeadsOn A = (xs ys zs : List A) → Leads xs ys → Leads ys zs → Leads xs zs
+abbrev pub PrefixesCompose : (A : Type 0) → Type 0
+PrefixesCompose A = (xs ys zs : List A) → IsPrefixOf xs ys → IsPrefixOf ys zs → IsPrefixOf xs zs
 
 -- ---- answers
 
@@ -40,10 +40,10 @@ ThenAssociates A B C =
     (a : Answer A) (next : A → Answer B) (last : B → Answer C) → then_on (then_on a next) last ≡ then_on a (λ x. then_on (next x) last)
 
 abbrev pub ThenNothing : (A : Type 0) → Type 0
-ThenNothing A = (a : Answer A) → then_on a (λ x. Back x []) ≡ a
+ThenNothing A = (a : Answer A) → then_on a (λ x. Returned x []) ≡ a
 
 -- what follows counts only on the result that is given
 abbrev pub ThenOnGiven : (A B : Type 0) → Type 0
 ThenOnGiven A B =
-    (a : Answer A) (next other : A → Answer B) → ((x : A) (o : List Event) → a ≡ Back x o → next x ≡ other x) →
+    (a : Answer A) (next other : A → Answer B) → ((x : A) (o : List Event) → a ≡ Returned x o → next x ≡ other x) →
     then_on a next ≡ then_on a other

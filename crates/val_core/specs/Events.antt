@@ -30,5 +30,5 @@ abbrev pub called : (f : ℕ) → List Event → List Event
 called f es = met (f ∷ []) ∷ beneath f es
 
 -- one list goes on where the other ends
-abbrev pub Leads : {A : Type 0} → List A → List A → Type 0
-Leads {A} xs ys = (rest : List A) × (xs ++ rest ≡ ys)
+abbrev pub IsPrefixOf : {A : Type 0} → List A → List A → Type 0
+IsPrefixOf {A} xs ys = (rest : List A) × (xs ++ rest ≡ ys)

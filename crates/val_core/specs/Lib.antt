@@ -4,7 +4,7 @@ pub mod Kept
 pub mod Memory
 pub mod Events
 pub mod Answers
-pub mod Likeness
+pub mod Refinement
 pub mod Within
 pub mod ValueLaws
 pub mod MemoryLaws

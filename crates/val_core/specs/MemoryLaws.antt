@@ -66,7 +66,7 @@ ClearKeepsBlocks =
     (b : BlockName) (m : Memory) →
     (map shape_of (cleared b m) ≡ map shape_of m) × (map (λ k. k.live) (cleared b m) ≡ map (λ k. k.live) m) × (map (λ k. k.fixed) (cleared b m) ≡ map (λ k. k.fixed) m)
 
--- new blocks behind the others change nothing that is held
+-- new blocks after the others change nothing that is held
 abbrev pub LoadBesideNew : Type 0
 LoadBesideNew =
     (width offset : ℕ) (b : BlockName) (m new : Memory) → b.number < length m →

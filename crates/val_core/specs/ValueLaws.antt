@@ -1,7 +1,7 @@
 -- Laws of the operations on words and values.
 use Rattle.std.specs.Prelude.{ℕ, ◌^◌, ◌<◌}
 use Rattle.val_core.specs.Words.{word1, word2}
-use Rattle.val_core.specs.Values.{Value, value1, value2, IsNear, IsSound}
+use Rattle.val_core.specs.Values.{Value, value1, value2, IsLessDefined, IsSound}
 use Rattle.val_core.specs.declared.operation.Op1.{Op1}
 use Rattle.val_core.specs.declared.operation.Op2.{Op2}
 
@@ -14,12 +14,12 @@ abbrev pub GivesWord1 : Type 0
 GivesWord1 = (op : Op1) (a : ℕ) → a < 2 ^ 32 → word1 op a < 2 ^ 32
 
 -- an operation on near values gives near values
-abbrev pub KeepsNear2 : Type 0
-KeepsNear2 =
-    (op : Op2) (x x' y y' : Value) → IsNear x x' → IsNear y y' → IsNear (value2 op x y) (value2 op x' y')
+abbrev pub KeepsLessDefined2 : Type 0
+KeepsLessDefined2 =
+    (op : Op2) (x x' y y' : Value) → IsLessDefined x x' → IsLessDefined y y' → IsLessDefined (value2 op x y) (value2 op x' y')
 
-abbrev pub KeepsNear1 : Type 0
-KeepsNear1 = (op : Op1) (x x' : Value) → IsNear x x' → IsNear (value1 op x) (value1 op x')
+abbrev pub KeepsLessDefined1 : Type 0
+KeepsLessDefined1 = (op : Op1) (x x' : Value) → IsLessDefined x x' → IsLessDefined (value1 op x) (value1 op x')
 
 -- an operation on sound values gives a sound value
 abbrev pub KeepsSound2 : Type 0

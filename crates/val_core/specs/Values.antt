@@ -31,8 +31,8 @@ value1 op (Num a) = Num (word1 op a)
 value1 op _ = Bad
 
 -- The second value may stand for the first: nothing is asked of what has no meaning.
-abbrev pub IsNear : Value → Value → Type 0
-IsNear x y = (x ≡ y) ⊎ (x ≡ Bad)
+abbrev pub IsLessDefined : Value → Value → Type 0
+IsLessDefined x y = (x ≡ y) ⊎ (x ≡ Bad)
 
 -- a word has 32 bits, and an address is within its block, whose size has 32 bits
 abbrev pub IsSound : Value → Type 0

@@ -1,6 +1,6 @@
 //! Laws of events and answers.
 
-ghost use Rattle.val_core.specs.AnswerLaws.{OutputAppends, DeepestAppends, BeneathAppends, CalledKeepsOutput, CalledDeepens, LeadsOn, BeforeTwice, ThenAfterBefore, ThenAssociates, ThenNothing, ThenOnGiven};
+ghost use Rattle.val_core.specs.AnswerLaws.{OutputAppends, DeepestAppends, BeneathAppends, CalledKeepsOutput, CalledDeepens, PrefixesCompose, BeforeTwice, ThenAfterBefore, ThenAssociates, ThenNothing, ThenOnGiven};
 
 /// What two lists of events write is written one after the other.
 pub fn output_appends()
@@ -28,8 +28,8 @@ pub fn called_deepens()
 {}
 
 /// What leads to a list leads to what that list leads to.
-pub fn leads_on<A>()
-    ensures { LeadsOn A }
+pub fn prefixes_compose<A>()
+    ensures { PrefixesCompose A }
 {}
 
 /// Two lists of events before an answer are one.

@@ -52,7 +52,7 @@ pub fn clear_keeps_blocks()
     ensures { ClearKeepsBlocks }
 {}
 
-/// New blocks behind the others change nothing that is held.
+/// New blocks after the others change nothing that is held.
 pub fn load_beside_new()
     ensures { LoadBesideNew }
 {}

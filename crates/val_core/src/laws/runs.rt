@@ -1,29 +1,29 @@
 //! Laws of the relation between the answers of two sides, and of one run within another.
 
-ghost use Rattle.val_core.specs.Likeness.{exactly, no_deeper};
-ghost use Rattle.val_core.specs.RunLaws.{LikeThen, LikeActive, ForthIsWithin, BackwardIsWithin, BackwardIsRight, BackwardIsNoDeeper, WithinItself, WithinComposes, FinishedIsEqual, FailedIsApart};
+ghost use Rattle.val_core.specs.Refinement.{exactly, no_deeper};
+ghost use Rattle.val_core.specs.RunLaws.{RefinesThen, RefinesActive, ForwardIsWithin, BackwardIsWithin, BackwardIsRight, BackwardIsNoDeeper, WithinItself, WithinComposes, TerminatedIsEqual, FailedIsApart};
 
 /// How a result of a side nearer to the source relates to one of a side farther from it.
 pub trait Related<Far> {
     ghost near: { Self → Far → Type 0 };
 }
 
-/// What follows on answers that are alike is alike.
-pub fn like_then<A: Related<B>, B, C: Related<D>, D>()
-    ensures exact { LikeThen exactly A B C D A.near C.near }
-    ensures deep { LikeThen no_deeper A B C D A.near C.near }
+/// What follows on answers that refine refines.
+pub fn refines_then<A: Related<B>, B, C: Related<D>, D>()
+    ensures exact { RefinesThen exactly A B C D A.near C.near }
+    ensures deep { RefinesThen no_deeper A B C D A.near C.near }
 {}
 
-/// Calls of one function whose bodies are alike are alike.
-pub fn like_active<A: Related<B>, B>()
-    ensures exact { LikeActive exactly A B A.near }
-    ensures deep { LikeActive no_deeper A B A.near }
+/// Calls of one function whose bodies refine refine.
+pub fn refines_active<A: Related<B>, B>()
+    ensures exact { RefinesActive exactly A B A.near }
+    ensures deep { RefinesActive no_deeper A B A.near }
 {}
 
-/// Where the nearer side is cut first and neither is wrong, it is within the farther one.
-pub fn forth_is_within<A: Related<B>, B>()
-    ensures exact { ForthIsWithin exactly A B A.near }
-    ensures deep { ForthIsWithin no_deeper A B A.near }
+/// Where the nearer side is cut first and neither is undefined, it is within the farther one.
+pub fn forward_is_within<A: Related<B>, B>()
+    ensures exact { ForwardIsWithin exactly A B A.near }
+    ensures deep { ForwardIsWithin no_deeper A B A.near }
 {}
 
 /// Where the farther side is cut first and the nearer one is not wrong, the farther one is within it.
@@ -55,8 +55,8 @@ pub fn within_composes<A: Related<B> + Related<C>, B: Related<C>, C>()
 {}
 
 /// An ended run is within none but one with its output and status.
-pub fn finished_is_equal<A: Related<B>, B>()
-    ensures { FinishedIsEqual A B A.near }
+pub fn terminated_is_equal<A: Related<B>, B>()
+    ensures { TerminatedIsEqual A B A.near }
 {}
 
 /// Nothing is within a run that failed, and it is within nothing.

@@ -1,6 +1,6 @@
 //! Laws of the operations on words and values.
 
-ghost use Rattle.val_core.specs.ValueLaws.{GivesWord2, GivesWord1, KeepsNear2, KeepsNear1, KeepsSound2, KeepsSound1};
+ghost use Rattle.val_core.specs.ValueLaws.{GivesWord2, GivesWord1, KeepsLessDefined2, KeepsLessDefined1, KeepsSound2, KeepsSound1};
 
 /// An operation on two words gives a word.
 pub fn gives_word2()
@@ -13,13 +13,13 @@ pub fn gives_word1()
 {}
 
 /// An operation on values gives what is near to its value on near values.
-pub fn keeps_near2()
-    ensures { KeepsNear2 }
+pub fn keeps_less_defined2()
+    ensures { KeepsLessDefined2 }
 {}
 
 /// An operation on a value gives what is near to its value on a near value.
-pub fn keeps_near1()
-    ensures { KeepsNear1 }
+pub fn keeps_less_defined1()
+    ensures { KeepsLessDefined1 }
 {}
 
 /// An operation on two sound values gives a sound value.

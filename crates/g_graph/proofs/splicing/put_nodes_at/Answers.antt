@@ -1,7 +1,7 @@
 use Rattle.std.proofs.Common.{◌≡◌, ◌+◌, ◌-◌, ◌++◌, length, take, drop, ap, sym, ◌∙◌, arith, length-append, length-drop}
 use Rattle.g_graph.specs.Plain.{nodes_of}
 use Rattle.g_graph.specs.Replace.{node_redirected}
-use Rattle.g_graph.specs.Splice.{without}
+use Rattle.g_graph.specs.Splice.{outputs_to_results}
 use Rattle.g_graph.proofs.SpliceLemmas.{place_within, nodes_spliced_at, changed_behind}
 use Rattle.g_graph.proofs.splicing.put_nodes_at.Goals as goal
 
@@ -17,7 +17,7 @@ exchange-requires c = omega (arith, place_within c.args.at c.args.place c.args.n
 pub returns-clause-ok : goal.returns-clause-ok
 returns-clause-ok c =
     let xs = c.args.nodes.now.items in
-    let f = node_redirected (without c.args.at c.args.outputs.now) in
+    let f = node_redirected (outputs_to_results c.args.at c.args.outputs.now) in
     let front = take c.args.place xs ++ c.args.part.items in
     let back = drop (c.args.place + 1) xs in
     let within = place_within c.args.at c.args.place xs c.requires in

@@ -1,5 +1,5 @@
-use Rattle.val_core.specs.Likeness.{exactly, no_deeper}
-use Rattle.val_core.proofs.Likeness.{backward-no-deeper, exactly-depth, no_deeper-depth}
+use Rattle.val_core.specs.Refinement.{exactly, no_deeper}
+use Rattle.val_core.proofs.Refinement.{backward-no-deeper, exactly-depth, no_deeper-depth}
 use Rattle.val_core.proofs.laws.runs.backward_is_no_deeper.Goals as goal
 
 pub returns-clause-exact : goal.returns-clause-exact

@@ -1,5 +1,5 @@
-use Rattle.val_core.specs.Likeness.{exactly, no_deeper}
-use Rattle.val_core.proofs.Likeness.{backward-within, exactly-output, no_deeper-output}
+use Rattle.val_core.specs.Refinement.{exactly, no_deeper}
+use Rattle.val_core.proofs.Refinement.{backward-within, exactly-output, no_deeper-output}
 use Rattle.val_core.proofs.laws.runs.backward_is_within.Goals as goal
 
 pub returns-clause-exact : goal.returns-clause-exact

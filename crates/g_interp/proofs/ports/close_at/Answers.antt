@@ -1,0 +1,11 @@
+use Rattle.std.proofs.Common.{◌∙◌, ap}
+use Rattle.val_core.specs.Memory.{closed}
+use Rattle.g_mean.specs.Data.{with_memory}
+use Rattle.g_interp.specs.Views.{data_of}
+use Rattle.g_interp.proofs.Lists.{data_grown, changed_datum}
+use Rattle.g_interp.proofs.ports.close_at.Goals as goal
+
+pub loop-i-preserved : goal.loop-i-preserved
+loop-i-preserved c =
+    let next = changed_datum c.args.port (with_memory (closed c.args.first c.args.count)) c.args.xs.now c.loop-i.i c.index-xs-i.result c.loop-i-test.true c.index-xs-i.is in
+    ap data_of c.in_ok-push.ensures.items ∙ data_grown c.loop-i.new.items c.in_ok-close_datum.field-0 _ _ _ c.loop-i.invariant c.in_ok-close_datum.ensures next

@@ -1,0 +1,223 @@
+ghost use Rattle.std.specs.Prelude.{◌≡◌, Some, IfOk};
+ghost use Rattle.g_graph.specs.Plain.{regions_of};
+ghost use Rattle.g_mean.specs.Meaning.{branched, looped, turns, node_run, region_meaning, meanings};
+ghost use Rattle.g_mean.specs.Calls.{lambda_at, entered, applied, address_in};
+ghost use Rattle.g_interp.specs.Views.{data_of, answer_of, outputs_of};
+ghost use Rattle.g_interp.specs.Frames.{context_of};
+
+use crate::answers::active;
+use crate::data::{Answer, Datum, Output};
+use crate::frame::Context;
+use crate::ops::done;
+use crate::ports::{block_count, copy_data, open_at, read_all};
+use crate::steps::{Progress, Turn, after_node, after_turn, chosen, leave, take_number};
+use g_graph::{Lambda, NoMemory, Node, Op, Region};
+use std::alloc::Global;
+
+// How many calls and nested regions may be active: a run that wants more is refused, and does not run out of stack.
+const DEEPEST: u32 = 1000;
+
+/// What a call of a function does whose lambda runs at this bound: `globals` are the sizes in bytes of the globals, whose
+/// blocks are the first of the memory, and `inputs` the values of the parameters, the memory and the input. The error
+/// says that memory ran out, or that more than 1,000 calls and nested regions would be active at once.
+pub fn run_lambda(
+    alloc: Global,
+    bound: u32,
+    lambdas: &[Lambda],
+    globals: &[u64],
+    function: u32,
+    inputs: &[Datum],
+) -> Result<Answer, NoMemory>
+    ensures { IfOk result (λ answer. answer_of answer ≡ lambda_at bound lambdas.now (address_in 0 globals.now) function (data_of inputs.now)) }
+{
+    call(
+        alloc,
+        bound as u64 + 1,
+        lambdas,
+        globals,
+        DEEPEST,
+        function,
+        inputs,
+    )
+}
+
+// A region, its nodes in order.
+#[cycle(run)]
+fn run_region(
+    alloc: Global,
+    context: Context,
+    depth: u32,
+    region: &Region,
+    args: &[Datum],
+) -> Result<Answer, NoMemory>
+    ensures { IfOk result (λ answer. answer_of answer ≡ region_meaning (context_of context.entry) region.now (data_of args.now)) }
+{
+    let mut outputs = Vec::new(alloc);
+    let mut events = Vec::new(alloc);
+    for node in &region.nodes {
+        let answer = run_node(alloc, context, depth, node, args, &outputs)?;
+        match after_node(node.id, outputs, events, answer)? {
+            Progress::Next {
+                outputs: more,
+                events: later,
+            } => {
+                outputs = more;
+                events = later;
+            }
+            Progress::Last(answer) => return Ok(answer),
+        }
+    }
+    let results = read_all(alloc, args, &outputs, &region.results)?;
+    Ok(Answer::Returned { results, events })
+}
+
+// A node, one level of the depth below its region.
+#[cycle(run)]
+fn run_node(
+    alloc: Global,
+    context: Context,
+    depth: u32,
+    node: &Node,
+    args: &[Datum],
+    outputs: &[Output],
+) -> Result<Answer, NoMemory>
+    ensures { IfOk result (λ answer. answer_of answer ≡ node_run (context_of context.entry) node.now (data_of args.now) (outputs_of outputs.now)) }
+{
+    let inputs = read_all(alloc, args, outputs, node.inputs.as_slice())?;
+    if depth == 0 {
+        return Err(NoMemory);
+    }
+    match node.op {
+        Op::Apply(f) => call(
+            alloc,
+            context.bound,
+            context.lambdas,
+            context.globals,
+            depth - 1,
+            f,
+            &inputs,
+        ),
+        Op::Gamma => run_gamma(alloc, context, depth - 1, &node.regions, &inputs),
+        Op::Theta => run_theta(alloc, context, depth - 1, &node.regions, &inputs),
+        op => done(alloc, context, op, &inputs),
+    }
+}
+
+#[cycle(run)]
+fn run_gamma(
+    alloc: Global,
+    context: Context,
+    depth: u32,
+    regions: &[Region],
+    inputs: &[Datum],
+) -> Result<Answer, NoMemory>
+    ensures { IfOk result (λ answer. answer_of answer ≡ branched (meanings (context_of context.entry) (regions_of regions.now)) (data_of inputs.now)) }
+{
+    let Some(found) = take_number(alloc, inputs)? else {
+        return Ok(Answer::Undefined);
+    };
+    match chosen(found.number, regions) {
+        Some(region) => run_region(alloc, context, depth, region, &found.rest),
+        None => Ok(Answer::Undefined),
+    }
+}
+
+#[cycle(run)]
+fn run_theta(
+    alloc: Global,
+    context: Context,
+    depth: u32,
+    regions: &[Region],
+    inputs: &[Datum],
+) -> Result<Answer, NoMemory>
+    ensures { IfOk result (λ answer. answer_of answer ≡ looped context.entry.bound (meanings (context_of context.entry) (regions_of regions.now)) (data_of inputs.now)) }
+{
+    match regions.first() {
+        Some(body) => run_turns(alloc, context, depth, body, inputs),
+        None => Ok(Answer::Undefined),
+    }
+}
+
+#[cycle(run)]
+fn run_turns(
+    alloc: Global,
+    context: Context,
+    depth: u32,
+    body: &Region,
+    inputs: &[Datum],
+) -> Result<Answer, NoMemory>
+    ensures { IfOk result (λ answer. answer_of answer ≡ turns context.entry.bound (region_meaning (context_of context.entry) body.now) (data_of inputs.now)) }
+{
+    let mut events = Vec::new(alloc);
+    let mut inputs = copy_data(alloc, inputs)?;
+    for _turn in 0..context.bound {
+        let answer = run_region(alloc, context, depth, body, &inputs)?;
+        match after_turn(alloc, events, answer)? {
+            Turn::Next {
+                inputs: more,
+                events: later,
+            } => {
+                inputs = more;
+                events = later;
+            }
+            Turn::Last(answer) => return Ok(answer),
+        }
+    }
+    Ok(Answer::Cut { events })
+}
+
+// What a call of a function does, at a bound.
+#[cycle(run)]
+fn call(
+    alloc: Global,
+    bound: u64,
+    lambdas: &[Lambda],
+    globals: &[u64],
+    depth: u32,
+    function: u32,
+    inputs: &[Datum],
+) -> Result<Answer, NoMemory>
+    ensures { IfOk result (λ answer. answer_of answer ≡ applied lambdas.now (address_in 0 globals.now) bound function (data_of inputs.now)) }
+{
+    if bound == 0 {
+        return Ok(Answer::Cut {
+            events: Vec::new(alloc),
+        });
+    }
+    match lambdas.get(function as usize) {
+        Some(lambda) => {
+            let answer = enter(alloc, bound - 1, lambdas, globals, depth, lambda, inputs)?;
+            active(alloc, function, answer)
+        }
+        None => Ok(Answer::Undefined),
+    }
+}
+
+// The body of a lambda, with new blocks for its objects.
+#[cycle(run)]
+fn enter(
+    alloc: Global,
+    bound: u64,
+    lambdas: &[Lambda],
+    globals: &[u64],
+    depth: u32,
+    lambda: &Lambda,
+    inputs: &[Datum],
+) -> Result<Answer, NoMemory>
+    ensures { IfOk result (λ answer. answer_of answer ≡ entered bound (applied lambdas.now (address_in 0 globals.now) bound) (address_in 0 globals.now) (Some lambda.now) (data_of inputs.now)) }
+{
+    let place = lambda.params as usize;
+    let Some(first) = block_count(inputs, place) else {
+        return Ok(Answer::Undefined);
+    };
+    let args = open_at(alloc, place, &lambda.objects, inputs)?;
+    let context = Context {
+        bound,
+        lambdas,
+        globals,
+        base: first as u64,
+        objects: &lambda.objects,
+    };
+    let answer = run_region(alloc, context, depth, &lambda.body, &args)?;
+    leave(alloc, first, lambda.objects.len(), answer)
+}

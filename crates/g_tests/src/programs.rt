@@ -1,0 +1,342 @@
+//! Small programs as graphs.
+
+use c_lex::Name;
+use g_graph::{Delta, Lambda, Link, NoMemory, Node, Object, Omega, Op, Origin, Region};
+use smallvec::SmallVec;
+use std::alloc::Global;
+use val_core::{Leaf, Op2};
+
+#[derive(Clone, Copy)]
+pub enum Program {
+    /// `int main(void) { int i; for (i = 0; i < 3; i++) ; putchar(72); return 0; }`
+    Counted,
+    /// `int main(void) { int c; while ((c = getchar()) != -1) putchar(c); return 0; }`
+    Echo,
+    /// `even` and `odd` call each other down to 0; `int main(void) { return even(10); }`
+    Parity,
+    /// `int x = 258; int *p = &x; int main(void) { *p = *p + 1; return *p; }`
+    Globals,
+    /// `int *f(void) { int x = 7; return &x; } int main(void) { return *f(); }`
+    Dangling,
+}
+
+pub const fn out(node: u32, port: u32) -> Origin {
+    Origin::Out { node, port }
+}
+
+pub const fn arg(k: u32) -> Origin {
+    Origin::Arg(k)
+}
+
+fn node(alloc: Global, id: u32, op: Op, inputs: &[Origin]) -> Result<Node, NoMemory> {
+    Ok(Node {
+        id,
+        op,
+        inputs: SmallVec::from_slice(alloc, inputs)?,
+        regions: Vec::new(alloc),
+    })
+}
+
+fn flat(alloc: Global, rows: &[(u32, Op, &[Origin])]) -> Result<Vec<Node>, NoMemory> {
+    let mut nodes = Vec::new(alloc);
+    for (id, op, inputs) in rows {
+        nodes.push(node(alloc, *id, *op, inputs)?)?;
+    }
+    Ok(nodes)
+}
+
+fn region(alloc: Global, nodes: Vec<Node>, results: &[Origin]) -> Result<Region, NoMemory> {
+    Ok(Region {
+        args: Vec::new(alloc),
+        nodes,
+        results: Vec::from_slice(alloc, results)?,
+    })
+}
+
+fn body(
+    alloc: Global,
+    rows: &[(u32, Op, &[Origin])],
+    results: &[Origin],
+) -> Result<Region, NoMemory> {
+    region(alloc, flat(alloc, rows)?, results)
+}
+
+// The nodes of `rows`, then a node with regions, then those of `after`.
+fn context(
+    alloc: Global,
+    rows: &[(u32, Op, &[Origin])],
+    nested: Node,
+    after: &[(u32, Op, &[Origin])],
+    results: &[Origin],
+) -> Result<Region, NoMemory> {
+    let mut nodes = flat(alloc, rows)?;
+    nodes.push(nested)?;
+    nodes.append(&mut flat(alloc, after)?)?;
+    region(alloc, nodes, results)
+}
+
+fn gamma(
+    alloc: Global,
+    id: u32,
+    inputs: &[Origin],
+    first: Region,
+    last: Region,
+) -> Result<Node, NoMemory> {
+    let mut made = node(alloc, id, Op::Gamma, inputs)?;
+    made.regions.push(first)?;
+    made.regions.push(last)?;
+    Ok(made)
+}
+
+fn theta(alloc: Global, id: u32, inputs: &[Origin], turn: Region) -> Result<Node, NoMemory> {
+    let mut made = node(alloc, id, Op::Theta, inputs)?;
+    made.regions.push(turn)?;
+    Ok(made)
+}
+
+fn words(alloc: Global, count: u32) -> Result<Vec<Object>, NoMemory> {
+    let mut objects = Vec::new(alloc);
+    for _ in 0..count {
+        let leaf = Leaf {
+            offset: 0,
+            width: 4,
+        };
+        objects.push(Object {
+            size: 4,
+            leaves: Vec::from_slice(alloc, &[leaf])?,
+        })?;
+    }
+    Ok(objects)
+}
+
+fn lambda(
+    alloc: Global,
+    number: u32,
+    params: u32,
+    objects: u32,
+    body: Region,
+) -> Result<Lambda, NoMemory> {
+    Ok(Lambda {
+        number,
+        params,
+        objects: words(alloc, objects)?,
+        body,
+        next: 100,
+    })
+}
+
+fn omega(
+    alloc: Global,
+    lambdas: Vec<Lambda>,
+    deltas: Vec<Delta>,
+    names: &[&[u8]],
+) -> Result<Omega, NoMemory> {
+    let mut all = Vec::new(alloc);
+    for name in names {
+        all.push(Name::from_slice(alloc, name)?)?;
+    }
+    Ok(Omega {
+        lambdas,
+        deltas,
+        names: all,
+    })
+}
+
+fn alone(alloc: Global, body: Region) -> Result<Omega, NoMemory> {
+    let mut lambdas = Vec::new(alloc);
+    lambdas.push(lambda(alloc, 0, 0, 0, body)?)?;
+    omega(alloc, lambdas, Vec::new(alloc), &[b"main"])
+}
+
+// A function called by `main`, which stands after it.
+fn called(alloc: Global, function: Lambda, main: Region) -> Result<Omega, NoMemory> {
+    let mut lambdas = Vec::new(alloc);
+    lambdas.push(function)?;
+    lambdas.push(lambda(alloc, 1, 0, 0, main)?)?;
+    omega(alloc, lambdas, Vec::new(alloc), &[b"f", b"main"])
+}
+
+fn counted(alloc: Global) -> Result<Omega, NoMemory> {
+    let ends = body(
+        alloc,
+        &[(5, Op::Const(0), &[])],
+        &[out(5, 0), arg(0), arg(1), arg(2)],
+    )?;
+    let goes = body(
+        alloc,
+        &[
+            (6, Op::Const(1), &[]),
+            (7, Op::Bin(Op2::Add), &[arg(0), out(6, 0)]),
+            (8, Op::Const(1), &[]),
+        ],
+        &[out(8, 0), out(7, 0), arg(1), arg(2)],
+    )?;
+    let choice = gamma(alloc, 4, &[out(3, 0), arg(0), arg(1), arg(2)], ends, goes)?;
+    let turn = context(
+        alloc,
+        &[
+            (2, Op::Const(3), &[]),
+            (3, Op::Bin(Op2::Slt), &[arg(0), out(2, 0)]),
+        ],
+        choice,
+        &[],
+        &[out(4, 0), out(4, 1), out(4, 2), out(4, 3)],
+    )?;
+    let main = context(
+        alloc,
+        &[(0, Op::Const(0), &[])],
+        theta(alloc, 1, &[out(0, 0), arg(0), arg(1)], turn)?,
+        &[
+            (9, Op::Const(72), &[]),
+            (10, Op::Put, &[out(9, 0), out(1, 2)]),
+            (11, Op::Const(0), &[]),
+        ],
+        &[out(11, 0), out(1, 1), out(10, 0)],
+    )?;
+    alone(alloc, main)
+}
+
+fn echo(alloc: Global) -> Result<Omega, NoMemory> {
+    let ends = body(alloc, &[], &[arg(1), arg(2)])?;
+    let goes = body(
+        alloc,
+        &[(5, Op::Put, &[arg(0), arg(2)])],
+        &[arg(1), out(5, 0)],
+    )?;
+    let choice = gamma(
+        alloc,
+        4,
+        &[out(3, 0), out(1, 0), arg(0), out(1, 1)],
+        ends,
+        goes,
+    )?;
+    let turn = context(
+        alloc,
+        &[
+            (1, Op::Get, &[arg(1)]),
+            (2, Op::Const(u32::MAX), &[]),
+            (3, Op::Bin(Op2::Ne), &[out(1, 0), out(2, 0)]),
+        ],
+        choice,
+        &[],
+        &[out(3, 0), out(4, 0), out(4, 1)],
+    )?;
+    let main = context(
+        alloc,
+        &[],
+        theta(alloc, 0, &[arg(0), arg(1)], turn)?,
+        &[(6, Op::Const(0), &[])],
+        &[out(6, 0), out(0, 0), out(0, 1)],
+    )?;
+    alone(alloc, main)
+}
+
+// n == 0 ? zero : other(n - 1)
+fn parity_of(alloc: Global, number: u32, zero: u32, other: u32) -> Result<Lambda, NoMemory> {
+    let ends = body(
+        alloc,
+        &[(1, Op::Const(zero), &[])],
+        &[out(1, 0), arg(1), arg(2)],
+    )?;
+    let goes = body(
+        alloc,
+        &[
+            (2, Op::Const(1), &[]),
+            (3, Op::Bin(Op2::Sub), &[arg(0), out(2, 0)]),
+            (4, Op::Apply(other), &[out(3, 0), arg(1), arg(2)]),
+        ],
+        &[out(4, 0), out(4, 1), out(4, 2)],
+    )?;
+    let choice = gamma(alloc, 0, &[arg(0), arg(0), arg(1), arg(2)], ends, goes)?;
+    let whole = context(alloc, &[], choice, &[], &[out(0, 0), out(0, 1), out(0, 2)])?;
+    lambda(alloc, number, 1, 0, whole)
+}
+
+fn parity(alloc: Global) -> Result<Omega, NoMemory> {
+    let main = body(
+        alloc,
+        &[
+            (0, Op::Const(10), &[]),
+            (1, Op::Apply(0), &[out(0, 0), arg(0), arg(1)]),
+        ],
+        &[out(1, 0), out(1, 1), out(1, 2)],
+    )?;
+    let mut lambdas = Vec::new(alloc);
+    lambdas.push(parity_of(alloc, 0, 1, 1)?)?;
+    lambdas.push(parity_of(alloc, 1, 0, 0)?)?;
+    lambdas.push(lambda(alloc, 2, 0, 0, main)?)?;
+    omega(alloc, lambdas, Vec::new(alloc), &[b"even", b"odd", b"main"])
+}
+
+fn delta(
+    alloc: Global,
+    bytes: &[u8],
+    links: &[Link],
+    leaves: &[Leaf],
+    fixed: bool,
+) -> Result<Delta, NoMemory> {
+    Ok(Delta {
+        bytes: Vec::from_slice(alloc, bytes)?,
+        links: Vec::from_slice(alloc, links)?,
+        leaves: Vec::from_slice(alloc, leaves)?,
+        fixed,
+    })
+}
+
+fn globals(alloc: Global) -> Result<Omega, NoMemory> {
+    let word = Leaf {
+        offset: 0,
+        width: 4,
+    };
+    let link = Link { at: 0, delta: 0 };
+    let mut deltas = Vec::new(alloc);
+    deltas.push(delta(alloc, &[2, 1, 0, 0], &[], &[word], false)?)?;
+    deltas.push(delta(alloc, &[0, 0, 0, 0], &[link], &[word], false)?)?;
+    let main = body(
+        alloc,
+        &[
+            (0, Op::Delta(1), &[]),
+            (1, Op::Load(4), &[out(0, 0), arg(0)]),
+            (2, Op::Load(4), &[out(1, 0), arg(0)]),
+            (3, Op::Const(1), &[]),
+            (4, Op::Bin(Op2::Add), &[out(2, 0), out(3, 0)]),
+            (5, Op::Store(4), &[out(1, 0), out(4, 0), arg(0)]),
+            (6, Op::Load(4), &[out(1, 0), out(5, 0)]),
+        ],
+        &[out(6, 0), out(5, 0), arg(1)],
+    )?;
+    let mut lambdas = Vec::new(alloc);
+    lambdas.push(lambda(alloc, 0, 0, 0, main)?)?;
+    omega(alloc, lambdas, deltas, &[b"main"])
+}
+
+fn dangling(alloc: Global) -> Result<Omega, NoMemory> {
+    let function = body(
+        alloc,
+        &[
+            (0, Op::Local(0), &[]),
+            (1, Op::Const(7), &[]),
+            (2, Op::Store(4), &[out(0, 0), out(1, 0), arg(0)]),
+        ],
+        &[out(0, 0), out(2, 0), arg(1)],
+    )?;
+    let main = body(
+        alloc,
+        &[
+            (0, Op::Apply(0), &[arg(0), arg(1)]),
+            (1, Op::Load(4), &[out(0, 0), out(0, 1)]),
+        ],
+        &[out(1, 0), out(0, 1), out(0, 2)],
+    )?;
+    called(alloc, lambda(alloc, 0, 0, 1, function)?, main)
+}
+
+pub fn graph(alloc: Global, program: Program) -> Result<Omega, NoMemory> {
+    match program {
+        Program::Counted => counted(alloc),
+        Program::Echo => echo(alloc),
+        Program::Parity => parity(alloc),
+        Program::Globals => globals(alloc),
+        Program::Dangling => dangling(alloc),
+    }
+}

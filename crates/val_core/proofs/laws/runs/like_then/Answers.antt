@@ -1,9 +1,0 @@
-use Rattle.val_core.specs.Likeness.{exactly, no_deeper}
-use Rattle.val_core.proofs.Likeness.{exactly-goes, like-then, no_deeper-goes}
-use Rattle.val_core.proofs.laws.runs.like_then.Goals as goal
-
-pub returns-clause-exact : goal.returns-clause-exact
-returns-clause-exact g c = like-then exactly exactly-goes g.A.Related.near g.C.Related.near
-
-pub returns-clause-deep : goal.returns-clause-deep
-returns-clause-deep g c = like-then no_deeper no_deeper-goes g.A.Related.near g.C.Related.near

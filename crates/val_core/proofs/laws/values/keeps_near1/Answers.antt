@@ -1,5 +1,0 @@
-use Rattle.val_core.proofs.ValueLemmas.{keeps_near1}
-use Rattle.val_core.proofs.laws.values.keeps_near1.Goals as goal
-
-pub returns : goal.returns
-returns c = keeps_near1
