@@ -1,4 +1,4 @@
--- What a word is, in the terms of the reader of command lines.
+-- What an argument is, in the terms of the reader of command lines.
 use Rattle.std.proofs.Common.{◌≡◌, ◌==◌, Bool, true, false, ℕ, List, [], ◌∷◌, Option, Some, None, refl, sym, subst, arith, eqb-true}
 use Rattle.std.specs.Prelude.{slice_get}
 use Rattle.std.specs.Str.{bytes_eq, chars, IsUtf8}

@@ -1,4 +1,4 @@
--- Each list of words is read as its row says.
+-- Each list of arguments is read as its row says.
 use Rattle.std.proofs.Common.{refl}
 use Rattle.cc_command.specs.Command.{number_in}
 use Rattle.cc_command.specs.CommandRows.{BuildRows, RunRows, OtherRows, GenRows}
@@ -25,7 +25,7 @@ other_rows = record {
   name_alone = refl;
   hyphens_before = refl;
   another_case = refl;
-  help_word = refl;
+  help_alone = refl;
   help_on_build = refl;
   help_first = refl;
   help_last = refl;
@@ -51,16 +51,16 @@ gen_rows = record {
   minus = refl;
   blank = refl;
   empty = refl;
-  two_words = refl;
-  four_words = refl;
+  two_arguments = refl;
+  four_arguments = refl;
 }
 
 pub run_rows : RunRows
 unfolding number_in
 run_rows = record {
   no_option = refl;
-  next_word = refl;
-  in_front = refl;
+  next_argument = refl;
+  before_the_image = refl;
   equals_sign = refl;
   greatest = refl;
   greater = refl;

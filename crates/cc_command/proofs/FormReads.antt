@@ -7,7 +7,7 @@ use Rattle.std.proofs.Math.Bool.{and-false}
 use Rattle.clap.specs.Lexer.{usize_max}
 use Rattle.clap.specs.Kinds.{Kinds, or_else}
 use Rattle.clap.specs.Walk.{Held, Row, Rule, Walk, arg_by_index, arg_by_long, Waiting, arg_by_short, finished, idle, is_pending, option_word, pushed, settled, used, to_positional, value, walked}
-use Rattle.clap.specs.Faults.{check_fault, defaults_fault, long_fault, positional_fault, react_fault, repeat_fault, settle_fault, short_fault, step_fault, turn_fault, use_fault, walk_fault}
+use Rattle.clap.specs.Faults.{check_fault, defaults_fault, long_fault, react_fault, repeat_fault, settle_fault, short_fault, step_fault, turn_fault, use_fault, walk_fault}
 use Rattle.cc_command.specs.ParsedArguments.{Text, parsed, values_of}
 use Rattle.cc_command.specs.Forms.{Form, Positional, option_names}
 use Rattle.cc_command.specs.Reading.{read_by}
@@ -56,16 +56,13 @@ module _ {A : Type 0} (form : Form A) (distinct : has_distinct_names form.positi
   pub at-index : (xs : List Text) → arg_by_index rules (1 + length xs) ≡ option_map (positional_rule (1 + length xs)) (next_of form.positionals xs)
   at-index xs = index-found 1 form.positionals form.options xs (1 + length xs) refl few
 
-  pub no-place : (xs : List Text) (h : Held) → next_of form.positionals xs ≡ None → IsFaulty (step_fault (leaf form) (1 + length xs) h value)
-  no-place xs h full =
+  pub no-index : (xs : List Text) (h : Held) → next_of form.positionals xs ≡ None → IsFaulty (step_fault (leaf form) (1 + length xs) h value)
+  no-index xs h full =
       let none = at-index xs ∙ ap (option_map (positional_rule (1 + length xs))) full in
       rw none refl
 
-  abbrev pub to_place : Held → Rule → Kinds
-  to_place h a = positional_fault rules false a h
-
-  pub place-fault : (xs : List Text) (r : Text) (h : Held) → next_of form.positionals xs ≡ Some r → step_fault (leaf form) (1 + length xs) h value ≡ settle_fault rules false h
-  place-fault xs r h is =
+  pub index-fault : (xs : List Text) (r : Text) (h : Held) → next_of form.positionals xs ≡ Some r → step_fault (leaf form) (1 + length xs) h value ≡ settle_fault rules false h
+  index-fault xs r h is =
       let found = at-index xs ∙ ap (option_map (positional_rule (1 + length xs))) is in
       let alone = and-false (is_pending (positional_rule (1 + length xs) r) h.pending) in
       rw (found, alone) refl
@@ -83,19 +80,19 @@ module _ {A : Type 0} (form : Form A) (distinct : has_distinct_names form.positi
     unfolding walk_fault
     dead-end w is = ap (command_at (leaf form) (read_by form) []) is ∙ dead-held
 
-    pub dead-place : (xs : List Text) → IsFaulty (step_fault (leaf form) (1 + length xs) h value)
-    dead-place xs = by_next (next_of form.positionals xs) refl where
+    pub dead-index : (xs : List Text) → IsFaulty (step_fault (leaf form) (1 + length xs) h value)
+    dead-index xs = by_next (next_of form.positionals xs) refl where
       by_next : (next : Option Text) → next_of form.positionals xs ≡ next → IsFaulty (step_fault (leaf form) (1 + length xs) h value)
-      by_next None is = no-place xs h is
-      by_next (Some r) is = let fault = place-fault xs r h is in rw fault dead
+      by_next None is = no-index xs h is
+      by_next (Some r) is = let fault = index-fault xs r h is in rw fault dead
 
     pub dead-trailing : (xs : List Text) (ws : List Text) → reads (trailing h (1 + length xs)) ws ≡ None
     dead-trailing xs [] = dead-end (trailing h (1 + length xs)) refl
-    dead-trailing xs (w ∷ ws) = stop (leaf form) (read_by form) (trailing h (1 + length xs)) w ws (dead-place xs)
+    dead-trailing xs (w ∷ ws) = stop (leaf form) (read_by form) (trailing h (1 + length xs)) w ws (dead-index xs)
 
     pub dead-stuck : (id : Text) (xs : List Text) (ws : List Text) → reads (stuck id h (1 + length xs)) ws ≡ None
     dead-stuck id xs [] = dead-end (stuck id h (1 + length xs)) refl
-    dead-stuck id xs (w ∷ ws) = stop (leaf form) (read_by form) (stuck id h (1 + length xs)) w ws (dead-place xs)
+    dead-stuck id xs (w ∷ ws) = stop (leaf form) (read_by form) (stuck id h (1 + length xs)) w ws (dead-index xs)
 
     pub dead-long : (name : Text) (v : Option Text) → IsFaulty (long_fault rules false (arg_by_long rules name) v h)
     dead-long name v = by_test (is_known form.options name) v (long-found 1 form.positionals form.options name) where
@@ -112,7 +109,7 @@ module _ {A : Type 0} (form : Form A) (distinct : has_distinct_names form.positi
     dead-before xs [] u = dead-end h dead (before h (1 + length xs)) refl
     dead-before xs (w ∷ ws) u = by_class w (class w u.0) where
       by_class : (w : Text) → Class w → reads (before h (1 + length xs)) (w ∷ ws) ≡ None
-      by_class w (a_positional _ p) = stop (leaf form) (read_by form) (before h (1 + length xs)) w ws (let t = turn-positional (leaf form) h (1 + length xs) w p in rw t (dead-place h dead xs))
+      by_class w (a_positional _ p) = stop (leaf form) (read_by form) (before h (1 + length xs)) w ws (let t = turn-positional (leaf form) h (1 + length xs) w p in rw t (dead-index h dead xs))
       by_class _ an_end = step-end (leaf form) (read_by form) h (1 + length xs) ws ∙ dead-trailing h dead xs ws
       by_class w (an_option _ name v p) = stop (leaf form) (read_by form) (before h (1 + length xs)) w ws (option-before (leaf form) h (1 + length xs) w name v p (dead-long h dead name v))
       by_class w (are_letters _ c x cs p) = stop (leaf form) (read_by form) (before h (1 + length xs)) w ws (letters-before (leaf form) h (1 + length xs) w c x cs p unbundled (no-letters c))
@@ -123,21 +120,21 @@ module _ {A : Type 0} (form : Form A) (distinct : has_distinct_names form.positi
   name_of = is_name form.positionals form.options
 
   -- the walk after it, where it stood after `--` or not
-  abbrev pub placed : Bool → Held → ℕ → Walk
-  placed t h position = record { held = h; waiting = idle; position = position; is_trailing = t; stopped = None }
+  abbrev pub walk_at : Bool → Held → ℕ → Walk
+  walk_at t h position = record { held = h; waiting = idle; position = position; is_trailing = t; stopped = None }
 
   pub to-next : (t : Bool) (seen : Given) (last : Option (Text × Text)) (xs : List Text) (w r : Text) → IsReady seen last → next_of form.positionals xs ≡ Some r →
-      to_positional rules (arg_by_index rules (1 + length xs)) w (placed t (held seen last) (1 + length xs)) (held seen last)
-      ≡ placed (t || false) (held (whole seen last) (Some (r, w))) (1 + length (xs ++ w ∷ []))
+      to_positional rules (arg_by_index rules (1 + length xs)) w (walk_at t (held seen last) (1 + length xs)) (held seen last)
+      ≡ walk_at (t || false) (held (whole seen last) (Some (r, w))) (1 + length (xs ++ w ∷ []))
   to-next t seen last xs w r ready is =
       let found = at-index xs ∙ ap (option_map (positional_rule (1 + length xs))) is in
       let alone = and-false (is_pending (positional_rule (1 + length xs) r) (held seen last).pending) in
       let settles = settled-held form.positionals form.options seen last ready in
       let below = next-below form xs r is in
       let position : min (1 + length xs + 1) usize_max ≡ 1 + length (xs ++ w ∷ []) = omega (arith, length-append xs (w ∷ [])) in
-      ap (λ a. to_positional rules a w (placed t (held seen last) (1 + length xs)) (held seen last)) found
-      ∙ ap (λ b. placed (t || false) (pushed r w (if b then held seen last else settled rules (held seen last))) (min (1 + length xs + 1) usize_max)) alone
-      ∙ ap₂ (λ (h : Held) (k : ℕ). placed (t || false) (pushed r w h) k) settles position
+      ap (λ a. to_positional rules a w (walk_at t (held seen last) (1 + length xs)) (held seen last)) found
+      ∙ ap (λ b. walk_at (t || false) (pushed r w (if b then held seen last else settled rules (held seen last))) (min (1 + length xs + 1) usize_max)) alone
+      ∙ ap₂ (λ (h : Held) (k : ℕ). walk_at (t || false) (pushed r w h) k) settles position
 
   module _ (seen : Given) (last : Option (Text × Text)) (xs : List Text) (given : Given) (ready : IsReady seen last) (read : ReadAs (whole seen last) xs given)
       (r w : Text) (is : next_of form.positionals xs ≡ Some r) where
@@ -148,7 +145,7 @@ module _ {A : Type 0} (form : Form A) (distinct : has_distinct_names form.positi
     next-read = read-positional form.positionals form.options distinct (whole seen last) xs given read r w is
 
     pub next-fault : step_fault (leaf form) (1 + length xs) (held seen last) value ≡ []
-    next-fault = place-fault xs r (held seen last) is ∙ settle-fault form.positionals form.options seen last ready
+    next-fault = index-fault xs r (held seen last) is ∙ settle-fault form.positionals form.options seen last ready
 
   -- ---- after `--`
 
@@ -163,7 +160,7 @@ module _ {A : Type 0} (form : Form A) (distinct : has_distinct_names form.positi
     by_next : (next : Option Text) → next_of form.positionals xs ≡ next → TrailingReads ws →
         reads (trailing (held seen last) (1 + length xs)) (w ∷ ws) ≡ after form xs given (Some (record { positionals = w ∷ ws; options = [] }))
     by_next None is rest =
-        stop (leaf form) (read_by form) (trailing (held seen last) (1 + length xs)) w ws (no-place xs (held seen last) is)
+        stop (leaf form) (read_by form) (trailing (held seen last) (1 + length xs)) w ws (no-index xs (held seen last) is)
         ∙ sym (after-full form xs given w (Some (record { positionals = ws; options = [] })) is)
     by_next (Some r) is rest =
         step (leaf form) (read_by form) (trailing (held seen last) (1 + length xs)) (trailing (held (whole seen last) (Some (r, w))) (1 + length (xs ++ w ∷ []))) w ws
@@ -268,7 +265,7 @@ module _ {A : Type 0} (form : Form A) (distinct : has_distinct_names form.positi
       by_next : (next : Option Text) → next_of form.positionals xs ≡ next → reads (before (held seen last) (1 + length xs)) (w ∷ ws) ≡ after form xs given (parsed names None (w ∷ ws))
       by_next None is =
           let turn = turn-positional (leaf form) (held seen last) (1 + length xs) w p in
-          stop (leaf form) (read_by form) (before (held seen last) (1 + length xs)) w ws (rw turn (no-place xs (held seen last) is))
+          stop (leaf form) (read_by form) (before (held seen last) (1 + length xs)) w ws (rw turn (no-index xs (held seen last) is))
           ∙ sym (rw p.is (after-full form xs given w (parsed names None ws) is))
       by_next (Some r) is =
           step (leaf form) (read_by form) (before (held seen last) (1 + length xs)) (before (held (whole seen last) (Some (r, w))) (1 + length (xs ++ w ∷ []))) w ws

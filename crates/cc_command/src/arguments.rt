@@ -29,8 +29,8 @@ pub enum Command<'a> {
         image: &'a str,
         steps: u64,
     },
-    /// `gen NUMBER COUNT OUT`: write the generated program of COUNT functions whose draws begin with
-    /// NUMBER to the file OUT.
+    /// `gen NUMBER COUNT OUT`: write the generated program of COUNT functions whose draws begin
+    /// with NUMBER to the file OUT.
     Generate {
         start: u32,
         functions: u32,
@@ -140,8 +140,8 @@ fn command_in<'a>(arguments: &ArgMatches<'a>) -> Option<Command<'a>>
     command_named(name, arguments)
 }
 
-/// The command of the arguments as they are read, the program's name first; `None` where they are no
-/// command.
+/// The command of the arguments as they are read, the program's name first; `None` where they are
+/// no command.
 fn read_arguments<'a>(
     alloc: Global,
     arguments: &'a [String],
