@@ -8,8 +8,8 @@ pub mod NestLemmas
 pub mod NestNumbers
 pub mod NodeLemmas
 pub mod NumberedLemmas
-pub mod PartLemmas
-pub mod PlaceLemmas
+pub mod SpliceKept
+pub mod IndexLemmas
 pub mod ReplaceLemmas
 pub mod ScopeMaps
 pub mod SpliceLemmas

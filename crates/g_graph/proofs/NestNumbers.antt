@@ -22,8 +22,8 @@ pub record Exchanged (objects : ℕ) (f : RegionTree → Option RegionTree) (is 
   pub old_ids : is ≡ (before ++ region_ids old) ++ after
   pub new_ids : js ≡ (before ++ region_ids new) ++ after
 
-behind : (objects : ℕ) (f : RegionTree → Option RegionTree) (ks is js : List ℕ) → Exchanged objects f is js → Exchanged objects f (ks ++ is) (ks ++ js)
-behind objects f ks is js e = record {
+following : (objects : ℕ) (f : RegionTree → Option RegionTree) (ks is js : List ℕ) → Exchanged objects f is js → Exchanged objects f (ks ++ is) (ks ++ js)
+following objects f ks is js e = record {
   old = e.old;
   new = e.new;
   here = e.here;
@@ -78,7 +78,7 @@ mutual
           ((ss : RegionTrees) → regions_changed f rs ≡ Some ss → Exchanged objects f (regions_ids rs) (regions_ids ss)) → Exchanged objects f (id ∷ regions_ids rs) (node_ids y)
       by_cases (Some ss) a c h =
           let same : node id op inputs ss ≡ y = cc in
-          subst (λ t. Exchanged objects f (id ∷ regions_ids rs) (node_ids t)) same (behind objects f (id ∷ []) (regions_ids rs) (regions_ids ss) (h ss a))
+          subst (λ t. Exchanged objects f (id ∷ regions_ids rs) (node_ids t)) same (following objects f (id ∷ []) (regions_ids rs) (regions_ids ss) (h ss a))
       by_cases None a c h = absurd (cc)
 
   nodes_changed_ids : (objects : ℕ) (f : RegionTree → Option RegionTree) (ns ms : NodeTrees) → nodes_changed f ns ≡ Some ms → every_in_nodes (region_fits objects) ns ≡ true → Exchanged objects f (nodes_ids ns) (nodes_ids ms)
@@ -97,7 +97,7 @@ mutual
           subst (λ t. Exchanged objects f (node_ids x ++ nodes_ids xs) (nodes_ids t)) same (followed objects f (nodes_ids xs) (node_ids x) (node_ids y) (h y a))
       by_cases None (Some ys) a b c h g =
           let same : node_then x ys ≡ ms = cc in
-          subst (λ t. Exchanged objects f (node_ids x ++ nodes_ids xs) (nodes_ids t)) same (behind objects f (node_ids x) (nodes_ids xs) (nodes_ids ys) (g ys b))
+          subst (λ t. Exchanged objects f (node_ids x ++ nodes_ids xs) (nodes_ids t)) same (following objects f (node_ids x) (nodes_ids xs) (nodes_ids ys) (g ys b))
       by_cases None None a b c h g = absurd (cc)
 
   regions_changed_ids : (objects : ℕ) (f : RegionTree → Option RegionTree) (rs ss : RegionTrees) → regions_changed f rs ≡ Some ss → every_in_regions (region_fits objects) rs ≡ true → Exchanged objects f (regions_ids rs) (regions_ids ss)
@@ -117,7 +117,7 @@ mutual
           subst (λ t. Exchanged objects f (region_ids r ++ regions_ids rs) (regions_ids t)) same (followed objects f (regions_ids rs) (region_ids r) (region_ids s) (h s a))
       by_cases None (Some ts) a b c h g =
           let same : region_then r ts ≡ ss = cc in
-          subst (λ t. Exchanged objects f (region_ids r ++ regions_ids rs) (regions_ids t)) same (behind objects f (region_ids r) (regions_ids rs) (regions_ids ts) (g ts b))
+          subst (λ t. Exchanged objects f (region_ids r ++ regions_ids rs) (regions_ids t)) same (following objects f (region_ids r) (regions_ids rs) (regions_ids ts) (g ts b))
       by_cases None None a b c h g = absurd (cc)
 
 -- how often a number stands in the whole changes as it does in the region

@@ -7,7 +7,7 @@ use Rattle.g_graph.specs.declared.op.Origin.{Origin}
 use Rattle.g_graph.specs.declared.op.Origin.TheVariants.{Arg, Out}
 use Rattle.g_graph.specs.Plain.{RegionTree, region, NodeTree, node, NodeTrees, no_nodes, node_then, nodes_of, id_of}
 use Rattle.g_graph.specs.Ids.{region_ids, node_ids, nodes_ids, regions_ids}
-use Rattle.g_graph.specs.Rows.{joined, output_kinds, kind_after}
+use Rattle.g_graph.specs.Signatures.{joined, output_kinds, kind_after}
 use Rattle.g_graph.specs.Scope.{same_kind, known, each_node}
 use Rattle.g_graph.specs.Change.{has_node}
 use Rattle.g_graph.specs.WellFormed.{all_of, are, same, inputs_fit, inputs_are_last, is_last, node_has_one_state_each, has_its_regions, regions_fit, theta_has_states, has_its_width, has_its_object, node_fits, nodes_fit, results_are_last, returns_state, region_has_one_state_each, region_fits, every_region, every_in_node, every_in_nodes}
@@ -17,11 +17,11 @@ use Rattle.g_graph.proofs.ReplaceLemmas.{nodes_ids-redirected}
 use Rattle.g_graph.proofs.SpliceLemmas.{Split, nodes_ids-joined, every_in_nodes-joined, kind_after-joined}
 use Rattle.g_graph.proofs.UniqueLemmas.{first_true, second_true, times, times_append, times_cons, counts_of_distinct}
 use Rattle.g_graph.proofs.NumberedLemmas.{Numbered}
-use Rattle.g_graph.proofs.PlaceLemmas.{either, same_number_true, same_kind_true, has_node-joined, kind_absent, kind_known}
-use Rattle.g_graph.proofs.ScopeMaps.{joined_none, joined_behind}
+use Rattle.g_graph.proofs.IndexLemmas.{either, same_number_true, same_kind_true, has_node-joined, kind_absent, kind_known}
+use Rattle.g_graph.proofs.ScopeMaps.{joined_none, joined_following}
 use Rattle.g_graph.proofs.MovedLemmas.{ValueFor}
 use Rattle.g_graph.proofs.NestLemmas.{RegionKept}
-use Rattle.g_graph.proofs.PartLemmas.{PartFits, region_spliced_kept}
+use Rattle.g_graph.proofs.SpliceKept.{ReplacementFits, region_spliced_kept}
 
 -- ---- numbers
 
@@ -88,7 +88,7 @@ pub each_here : (test : NodeTrees → NodeTree → Bool) (earlier : List NodeTre
 each_here test earlier no_nodes x after e =
     ap (λ ns. test ns x) (joined_none (nodes_of earlier)) ∙ first_true (test (nodes_of earlier) x) (each_node test (earlier ++ x ∷ []) after) e
 each_here test earlier (node_then y before) x after e =
-    ap (λ ns. test ns x) (sym (joined_behind earlier y before))
+    ap (λ ns. test ns x) (sym (joined_following earlier y before))
     ∙ each_here test (earlier ++ y ∷ []) before x after (second_true (test (nodes_of earlier) y) (each_node test (earlier ++ y ∷ []) (joined_nodes before (node_then x after))) e)
 
 pub node_fits_here : (objects next : ℕ) (args : List Kind) (before : NodeTrees) (x : NodeTree) (after : NodeTrees) (results : List Origin) →
@@ -130,38 +130,38 @@ pub record KeptWithin (objects : ℕ) (r s : RegionTree) : Type 0 where
   pub kept : RegionKept objects r s
   pub fewer : (m : ℕ) → times m (region_ids s) ≤ times m (region_ids r)
 
--- a part that gives what the node gives, and has no other numbers
-pub record PartGives (objects : ℕ) (args : List Kind) (before : NodeTrees) (x : NodeTree) (own : List Kind) (nodes : NodeTrees) (outs is : List Origin) : Type 0 where
+-- a replacement that gives what the node gives, and has no other numbers
+pub record ReplacementGives (objects : ℕ) (args : List Kind) (before : NodeTrees) (x : NodeTree) (own : List Kind) (nodes : NodeTrees) (outs is : List Origin) : Type 0 where
   pub inside : every_region (region_fits objects) (region own nodes outs) ≡ true
   pub entries : are (map (known args before) is) own ≡ true
   pub entries_last : all_of (is_last args before) is ≡ true
   pub exits : map (known own nodes) outs ≡ output_kinds x
   pub ids : (m : ℕ) → times m (nodes_ids nodes) ≤ times m (node_ids x)
 
-part_fits : (objects : ℕ) (args : List Kind) (before : NodeTrees) (x : NodeTree) (after : NodeTrees) (own : List Kind) (nodes : NodeTrees) (outs is : List Origin) →
-    NodeFits objects args before x after → PartGives objects args before x own nodes outs is → PartFits objects args before x after own nodes outs is
-part_fits objects args before x after own nodes outs is here g = record {
+replacement_fits : (objects : ℕ) (args : List Kind) (before : NodeTrees) (x : NodeTree) (after : NodeTrees) (own : List Kind) (nodes : NodeTrees) (outs is : List Origin) →
+    NodeFits objects args before x after → ReplacementGives objects args before x own nodes outs is → ReplacementFits objects args before x after own nodes outs is
+replacement_fits objects args before x after own nodes outs is here g = record {
   inside = g.inside;
   entries = g.entries;
   entries_last = g.entries_last;
   exits = g.exits;
-  part_before = λ m a b. omega (arith, has_times m nodes a, has_times m before b, g.ids m, here.once m);
-  part_after = λ m a b. omega (arith, has_times m nodes a, has_times m after b, g.ids m, here.once m);
+  replacement_before = λ m a b. omega (arith, has_times m nodes a, has_times m before b, g.ids m, here.once m);
+  replacement_after = λ m a b. omega (arith, has_times m nodes a, has_times m after b, g.ids m, here.once m);
   before_after = λ m a b. omega (arith, has_times m before a, has_times m after b, here.once m);
   at_before = absent (has_node (id_of x) before) (λ h. omega (arith, has_times (id_of x) before h, own_times x, here.once (id_of x)));
   at_after = absent (has_node (id_of x) after) (λ h. omega (arith, has_times (id_of x) after h, own_times x, here.once (id_of x)));
 }
 
-pub part_keeps : (objects n : ℕ) (args : List Kind) (ns : NodeTrees) (results : List Origin) (split : Split n ns) (own : List Kind) (nodes : NodeTrees) (outs is : List Origin) →
+pub replacement_keeps : (objects n : ℕ) (args : List Kind) (ns : NodeTrees) (results : List Origin) (split : Split n ns) (own : List Kind) (nodes : NodeTrees) (outs is : List Origin) →
     every_region (region_fits objects) (region args ns results) ≡ true → NodeFits objects args split.before split.here split.after →
-    PartGives objects args split.before split.here own nodes outs is →
+    ReplacementGives objects args split.before split.here own nodes outs is →
     KeptWithin objects (region args ns results) (region_spliced n (region_redirected (args_to_inputs is) (region own nodes outs)) (region args ns results))
-part_keeps objects n args ns results split own nodes outs is e here g =
+replacement_keeps objects n args ns results split own nodes outs is e here g =
     let placed_nodes = nodes_redirected (args_to_inputs is) nodes in
     let outputs = map (args_to_inputs is) outs in
     let moved_after = nodes_redirected (outputs_to_results n outputs) split.after in
     record {
-      kept = region_spliced_kept objects n args ns results own nodes outs is split (part_fits objects args split.before split.here split.after own nodes outs is here g) e;
+      kept = region_spliced_kept objects n args ns results own nodes outs is split (replacement_fits objects args split.before split.here split.after own nodes outs is here g) e;
       fewer = λ m.
           omega (
             arith,

@@ -8,10 +8,10 @@ use Rattle.g_graph.specs.declared.op.Kind.{Kind}
 use Rattle.g_graph.specs.declared.op.Origin.{Origin}
 use Rattle.g_graph.specs.declared.op.Origin.TheVariants.{Arg, Out}
 use Rattle.g_graph.specs.Plain.{RegionTree, region, NodeTree, node, NodeTrees, no_nodes, node_then, nodes_of}
-use Rattle.g_graph.specs.Rows.{joined, outputs_of, kind_after}
+use Rattle.g_graph.specs.Signatures.{joined, outputs_of, kind_after}
 use Rattle.g_graph.specs.Count.{region_values, nodes_values, regions_values}
 use Rattle.g_graph.specs.Ids.{region_ids, nodes_ids, regions_ids}
-use Rattle.g_graph.specs.Scope.{is_of, known, last_place, origin_at, state_after}
+use Rattle.g_graph.specs.Scope.{is_of, known, last_index, origin_at, state_after}
 use Rattle.g_graph.specs.WellFormed.{some_of, gives, every_in_nodes, every_in_regions}
 use Rattle.g_graph.specs.Replace.{node_redirected, nodes_redirected, region_redirected}
 
@@ -45,7 +45,7 @@ known-redirected f args ns (Out n p) = kind_after-redirected f ns n p None
 pub state_after-redirected : (f : Origin → Origin) (k : Kind) (ns : NodeTrees) (found : Option Origin) → state_after k (nodes_redirected f ns) found ≡ state_after k ns found
 state_after-redirected f k no_nodes found = refl
 state_after-redirected f k (node_then (node id op inputs rs) ns) found =
-    state_after-redirected f k ns (origin_at (λ p. Out id p) (last_place k 0 (outputs_of op rs) None) found)
+    state_after-redirected f k ns (origin_at (λ p. Out id p) (last_index k 0 (outputs_of op rs) None) found)
 
 pub gives-redirected : (f : Origin → Origin) (k : Kind) (ns : NodeTrees) → gives k (nodes_redirected f ns) ≡ gives k ns
 gives-redirected f k no_nodes = refl

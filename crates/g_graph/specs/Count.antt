@@ -2,7 +2,7 @@
 -- counted as a region.
 use Rattle.std.specs.Prelude.{ℕ, ◌+◌, ◌-◌, ◌^◌, min, length}
 use Rattle.g_graph.specs.Plain.{RegionTree, region, NodeTree, node, NodeTrees, no_nodes, node_then, RegionTrees, no_regions, region_then}
-use Rattle.g_graph.specs.Rows.{outputs_of}
+use Rattle.g_graph.specs.Signatures.{outputs_of}
 
 abbrev mutual
   pub region_values : RegionTree → ℕ

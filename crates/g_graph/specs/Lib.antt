@@ -1,6 +1,6 @@
 pub mod Plain
 pub mod Codes
-pub mod Rows
+pub mod Signatures
 pub mod Count
 pub mod Ids
 pub mod Scope

@@ -2,7 +2,7 @@ ghost use Rattle.std.specs.Prelude.{◌≡◌, ◌&&◌, [], ◌∷◌, ◌++◌
 ghost use Rattle.g_graph.specs.declared.op.Kind.TheVariants.{Value, Memory, Io};
 ghost use Rattle.g_graph.specs.declared.op.Op.TheVariants.{Gamma};
 ghost use Rattle.g_graph.specs.Plain.{node, nodes_of, regions_of, args_of};
-ghost use Rattle.g_graph.specs.Rows.{output_kinds, result_kinds};
+ghost use Rattle.g_graph.specs.Signatures.{output_kinds, result_kinds};
 ghost use Rattle.g_graph.specs.Scope.{known, is_of, same_kind, each_node};
 ghost use Rattle.g_graph.specs.WellFormed.{are, same, some_of, kinds_of, all_regions, one_state_each, has_its_regions, regions_fit, theta_has_states, has_its_width, has_its_object, inputs_fit, node_has_one_state_each, region_has_one_state_each, node_fits, gives, returns_state, region_fits, every_region, every_in_node, well_formed};
 
@@ -10,7 +10,7 @@ use crate::kind_lists::{
     are_values_and_states, count_of_args, count_of_origins, count_of_outputs, have_kinds,
     have_value_and, have_values_and_states, match_known, same_kinds,
 };
-use crate::kinds::{first_args, row_inputs};
+use crate::kinds::{first_args, op_inputs};
 use crate::objects::{is_width, objects_fit};
 use crate::states::all_last;
 use crate::unique::numbers_fit;
@@ -155,7 +155,7 @@ fn inputs_fit(node: &Node, args: &[Kind], before: &[Node]) -> bool
         Op::Apply(_) => have_values_and_states(args, before, inputs),
         Op::Gamma => have_value_and(args, before, inputs, first_args(&node.regions)),
         Op::Theta => have_kinds(args, before, inputs, first_args(&node.regions)),
-        op => have_kinds(args, before, inputs, row_inputs(op)),
+        op => have_kinds(args, before, inputs, op_inputs(op)),
     }
 }
 
@@ -281,7 +281,7 @@ fn has_its_object(node: &Node, objects: usize) -> bool
     ensures { result ≡ has_its_object objects node.now }
 {
     match node.op {
-        Op::Local(place) | Op::Clear(place) => (place as usize) < objects,
+        Op::Local(index) | Op::Clear(index) => (index as usize) < objects,
         _ => true,
     }
 }

@@ -1,5 +1,5 @@
 ghost use Rattle.std.specs.Prelude.{◌≡◌, length};
-ghost use Rattle.g_graph.specs.Rows.{output_kinds};
+ghost use Rattle.g_graph.specs.Signatures.{output_kinds};
 ghost use Rattle.g_graph.specs.Count.{saturated, region_values, node_values};
 
 use crate::{Lambda, Node, Op, Region};

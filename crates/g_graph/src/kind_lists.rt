@@ -2,7 +2,7 @@ ghost use Rattle.std.specs.Prelude.{◌≡◌, ◌+◌, ◌-◌, ◌++◌, map, 
 ghost use Rattle.std.specs.declared.option.Option.TheVariants.{Some};
 ghost use Rattle.g_graph.specs.declared.op.Kind.TheVariants.{Value, Memory, Io};
 ghost use Rattle.g_graph.specs.Plain.{nodes_of};
-ghost use Rattle.g_graph.specs.Rows.{output_kinds};
+ghost use Rattle.g_graph.specs.Signatures.{output_kinds};
 ghost use Rattle.g_graph.specs.Scope.{known, is_of};
 ghost use Rattle.g_graph.specs.WellFormed.{are, same, all_of, kinds_of};
 
@@ -116,19 +116,19 @@ pub fn match_known(
 ) -> bool
     ensures { result ≡ are (map (known args.now (nodes_of before.now)) origins.now) (kinds_of (map (known other_args.now (nodes_of other.now)) wanted.now)) }
 {
-    let mut place = 0;
+    let mut index = 0;
     for origin in wanted {
         if let Some(kind) = known(other_args, other, *origin) {
-            if place >= origins.len() {
+            if index >= origins.len() {
                 return false;
             }
-            if !is_of(kind, known(args, before, origins[place])) {
+            if !is_of(kind, known(args, before, origins[index])) {
                 return false;
             }
-            place += 1;
+            index += 1;
         }
     }
-    place == origins.len()
+    index == origins.len()
 }
 
 // How many of these origins have this kind.

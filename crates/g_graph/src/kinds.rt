@@ -1,7 +1,7 @@
 ghost use Rattle.std.specs.Prelude.{◌≡◌, ◌==◌, slice_get, if◌then◌else◌};
 ghost use Rattle.std.specs.declared.option.Option.TheVariants.{Some, None};
 ghost use Rattle.g_graph.specs.Plain.{nodes_of, regions_of, id_of};
-ghost use Rattle.g_graph.specs.Rows.{joined, result_kinds, output_kinds, kind_after, row_inputs, row_outputs, first_args};
+ghost use Rattle.g_graph.specs.Signatures.{joined, result_kinds, output_kinds, kind_after, op_inputs, op_outputs, first_args};
 ghost use Rattle.g_graph.specs.Scope.{known, same_kind, is_of};
 
 use crate::{Kind, Node, Op, Origin, Region};
@@ -11,7 +11,7 @@ pub fn known(args: &[Kind], before: &[Node], origin: Origin) -> Option<Kind>
     ensures { result ≡ known args.now (nodes_of before.now) origin }
 {
     match origin {
-        Origin::Arg(place) => kind_at(args, place as usize),
+        Origin::Arg(index) => kind_at(args, index as usize),
         Origin::Out { node, port } => kind_after(before, node, port as usize),
     }
 }
@@ -50,7 +50,7 @@ pub fn output_kind(node: &Node, port: usize) -> Option<Kind>
             None => None,
         },
         Op::Theta => kind_at(first_args(&node.regions), port),
-        op => kind_at(row_outputs(op), port),
+        op => kind_at(op_outputs(op), port),
     }
 }
 
@@ -60,16 +60,16 @@ fn result_kind(region: &Region, port: usize) -> Option<Kind>
     ensures { result ≡ joined (slice_get (result_kinds region.now) port) }
 {
     match region.results.get(port) {
-        Some(Origin::Arg(place)) => kind_at(&region.args, *place as usize),
+        Some(Origin::Arg(index)) => kind_at(&region.args, *index as usize),
         Some(Origin::Out { node, port }) => kind_after(&region.nodes, *node, *port as usize),
         None => None,
     }
 }
 
-fn kind_at(kinds: &[Kind], place: usize) -> Option<Kind>
-    ensures { result ≡ slice_get kinds.now place }
+fn kind_at(kinds: &[Kind], index: usize) -> Option<Kind>
+    ensures { result ≡ slice_get kinds.now index }
 {
-    kinds.get(place).copied()
+    kinds.get(index).copied()
 }
 
 pub fn first_args(regions: &[Region]) -> &[Kind]
@@ -82,8 +82,8 @@ pub fn first_args(regions: &[Region]) -> &[Kind]
 }
 
 // The inputs of an op, where they depend on the op alone.
-pub fn row_inputs(op: Op) -> &'static [Kind]
-    ensures { result.now ≡ row_inputs op }
+pub fn op_inputs(op: Op) -> &'static [Kind]
+    ensures { result.now ≡ op_inputs op }
 {
     match op {
         Op::Bin(_) => &[Kind::Value, Kind::Value],
@@ -98,8 +98,8 @@ pub fn row_inputs(op: Op) -> &'static [Kind]
 }
 
 // The outputs of an op without regions.
-fn row_outputs(op: Op) -> &'static [Kind]
-    ensures { result.now ≡ row_outputs op }
+fn op_outputs(op: Op) -> &'static [Kind]
+    ensures { result.now ≡ op_outputs op }
 {
     match op {
         Op::Store(_) | Op::Clear(_) => &[Kind::Memory],

@@ -1,5 +1,4 @@
 use crate::Region;
-use c_lex::Name;
 use std::marker::Model;
 use val_core::Leaf;
 
@@ -42,29 +41,4 @@ impl Model for Lambda {
     ghost coded = { coded_lambda };
 
     ghost view = { λ l. record { number = l.number; params = l.params; objects = l.objects.items; body = l.body; next = l.next } };
-}
-
-/// The address of a global, by its place in the list, that stands in the four bytes at an offset.
-#[derive(Clone, Copy, PartialEq, Eq, Debug)]
-pub struct Link {
-    pub at: u32,
-    pub delta: u32,
-}
-
-/// A global: its first bytes, with zeros where a link stands, its links in order of offset, its leaves, and whether it
-/// never changes.
-#[derive(Debug, Drop)]
-pub struct Delta {
-    pub bytes: Vec<u8>,
-    pub links: Vec<Link>,
-    pub leaves: Vec<Leaf>,
-    pub fixed: bool,
-}
-
-/// A program: its functions, its globals, and the functions' names in the order of the source.
-#[derive(Debug, Drop)]
-pub struct Omega {
-    pub lambdas: Vec<Lambda>,
-    pub deltas: Vec<Delta>,
-    pub names: Vec<Name>,
 }

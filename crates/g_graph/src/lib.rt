@@ -13,9 +13,10 @@ mod find;
 mod kind_lists;
 mod kinds;
 mod lambda;
-mod no_memory;
+mod link;
 mod numbers;
 mod objects;
+mod omega;
 mod op;
 mod optimised;
 mod redirect;
@@ -32,14 +33,16 @@ pub use checking::check;
 pub use copy::{copy_of, copy_region};
 pub use count::values;
 pub use equality::equal;
-pub use find::{is_enclosing, place_of};
-pub use lambda::{Delta, Lambda, Link, Object, Omega};
-pub use no_memory::NoMemory;
+pub use find::{holds_node, node_index};
+pub use lambda::{Lambda, Object};
+pub use link::Link;
 pub use numbers::ids;
+pub use omega::{Delta, Omega};
 pub use op::{Kind, Op, Origin};
-pub use optimised::Optimised;
+pub use optimised::{Optimised, StepList};
 pub use redirect::{
-    OriginReplaced, ArgsToInputs, Redirect, OutputsToResults, redirect_nodes, redirect_origins, redirect_region, same_origin,
+    ArgsToInputs, OriginReplaced, OutputsToResults, Redirect, redirect_nodes, redirect_origins,
+    redirect_region, same_origin,
 };
 pub use region::{Node, Region};
 pub use replace::replace_uses;

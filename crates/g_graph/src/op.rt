@@ -10,16 +10,16 @@ pub enum Kind {
     Io,
 }
 
-/// What a node does. The table of inputs and outputs in specs/Rows.antt has each op's row.
+/// What a node does. The table of inputs and outputs in specs/Signatures.antt has each op's signature.
 #[derive(Clone, Copy, PartialEq, Eq, Debug)]
 pub enum Op {
     /// The word.
     Const(u32),
     /// A value without meaning.
     Undef,
-    /// The address of an object of the lambda, by its place in the list.
+    /// The address of an object of the lambda, by its index in the list.
     Local(u32),
-    /// The address of a global, by its place in the list.
+    /// The address of a global, by its index in the list.
     Delta(u32),
     Bin(Op2),
     Un(Op1),
@@ -46,7 +46,7 @@ pub enum Op {
 }
 
 /// Where an input or a result comes from, in the region where it stands.
-#[derive(Clone, Copy, PartialEq, Eq, Debug)]
+#[derive(Clone, Copy, PartialEq, Eq, Hash, Debug)]
 pub enum Origin {
     /// The region's argument of this index.
     Arg(u32),

@@ -16,30 +16,30 @@ first_args no_regions = []
 first_args (region_then r rs) = args_of r
 
 -- the inputs of an op, where they depend on the op alone
-abbrev pub row_inputs : Op → List Kind
-row_inputs (Const w) = []
-row_inputs Undef = []
-row_inputs (Local k) = []
-row_inputs (Delta k) = []
-row_inputs (Bin op) = Value ∷ Value ∷ []
-row_inputs (Un op) = Value ∷ []
-row_inputs (Load width) = Value ∷ Memory ∷ []
-row_inputs (Store width) = Value ∷ Value ∷ Memory ∷ []
-row_inputs (Clear k) = Memory ∷ []
-row_inputs PtrEq = Value ∷ Value ∷ Memory ∷ []
-row_inputs (Apply f) = []
-row_inputs Put = Value ∷ Io ∷ []
-row_inputs Exit = Value ∷ Io ∷ []
-row_inputs Get = Io ∷ []
-row_inputs Gamma = []
-row_inputs Theta = []
+abbrev pub op_inputs : Op → List Kind
+op_inputs (Const w) = []
+op_inputs Undef = []
+op_inputs (Local k) = []
+op_inputs (Delta k) = []
+op_inputs (Bin op) = Value ∷ Value ∷ []
+op_inputs (Un op) = Value ∷ []
+op_inputs (Load width) = Value ∷ Memory ∷ []
+op_inputs (Store width) = Value ∷ Value ∷ Memory ∷ []
+op_inputs (Clear k) = Memory ∷ []
+op_inputs PtrEq = Value ∷ Value ∷ Memory ∷ []
+op_inputs (Apply f) = []
+op_inputs Put = Value ∷ Io ∷ []
+op_inputs Exit = Value ∷ Io ∷ []
+op_inputs Get = Io ∷ []
+op_inputs Gamma = []
+op_inputs Theta = []
 
 -- the inputs of an op that has so many, with these regions
 abbrev pub inputs_of : Op → (count : ℕ) → RegionTrees → List Kind
 inputs_of (Apply f) n rs = replicate (n - 2) Value ++ Memory ∷ Io ∷ []
 inputs_of Gamma n rs = Value ∷ first_args rs
 inputs_of Theta n rs = first_args rs
-inputs_of op n rs = row_inputs op
+inputs_of op n rs = op_inputs op
 
 abbrev pub joined : {X : Type 0} → Option (Option X) → Option X
 joined None = None
@@ -52,23 +52,23 @@ kind_of args outputs (Arg k) = slice_get args k
 kind_of args outputs (Out n p) = outputs n p
 
 -- the outputs of an op without regions
-abbrev pub row_outputs : Op → List Kind
-row_outputs (Const w) = Value ∷ []
-row_outputs Undef = Value ∷ []
-row_outputs (Local k) = Value ∷ []
-row_outputs (Delta k) = Value ∷ []
-row_outputs (Bin op) = Value ∷ []
-row_outputs (Un op) = Value ∷ []
-row_outputs (Load width) = Value ∷ []
-row_outputs (Store width) = Memory ∷ []
-row_outputs (Clear k) = Memory ∷ []
-row_outputs PtrEq = Value ∷ []
-row_outputs (Apply f) = Value ∷ Memory ∷ Io ∷ []
-row_outputs Put = Io ∷ []
-row_outputs Exit = Io ∷ []
-row_outputs Get = Value ∷ Io ∷ []
-row_outputs Gamma = []
-row_outputs Theta = []
+abbrev pub op_outputs : Op → List Kind
+op_outputs (Const w) = Value ∷ []
+op_outputs Undef = Value ∷ []
+op_outputs (Local k) = Value ∷ []
+op_outputs (Delta k) = Value ∷ []
+op_outputs (Bin op) = Value ∷ []
+op_outputs (Un op) = Value ∷ []
+op_outputs (Load width) = Value ∷ []
+op_outputs (Store width) = Memory ∷ []
+op_outputs (Clear k) = Memory ∷ []
+op_outputs PtrEq = Value ∷ []
+op_outputs (Apply f) = Value ∷ Memory ∷ Io ∷ []
+op_outputs Put = Io ∷ []
+op_outputs Exit = Io ∷ []
+op_outputs Get = Value ∷ Io ∷ []
+op_outputs Gamma = []
+op_outputs Theta = []
 
 -- The outputs of an op with these regions, the results of a region, the outputs of a node, and the kind of an output by
 -- node and port after these nodes, where it had the kind `before`. Of nodes with one number the last counts.
@@ -77,7 +77,7 @@ abbrev mutual
   outputs_of Gamma no_regions = []
   outputs_of Gamma (region_then r rs) = result_kinds r
   outputs_of Theta rs = map Some (first_args rs)
-  outputs_of op rs = map Some (row_outputs op)
+  outputs_of op rs = map Some (op_outputs op)
 
   pub result_kinds : RegionTree → List (Option Kind)
   result_kinds (region args nodes results) = map (kind_of args (λ n p. kind_after nodes n p None)) results

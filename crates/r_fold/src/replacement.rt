@@ -3,17 +3,17 @@ ghost use Rattle.g_graph.specs.Plain.{nodes_of, regions_of};
 ghost use Rattle.g_graph.specs.Replace.{region_redirected};
 ghost use Rattle.g_graph.specs.Splice.{args_to_inputs};
 ghost use Rattle.r_fold.specs.Rule.{chosen_region, theta_folded};
-ghost use Rattle.r_fold.specs.Plan.{planned, gamma_row, theta_row, part_row, runs_once, has_one_turn};
+ghost use Rattle.r_fold.specs.Plan.{planned, gamma_case, theta_case, replacement_case, runs_once, has_one_turn};
 
 use crate::constants::{constant, is_word};
 use crate::plan::Plan;
 use g_graph::{NoMemory, Node, Op, Origin, ArgsToInputs, Region, copy_region, redirect_region};
 use std::alloc::Global;
 
-// Whether one of its regions comes in the place of a node.
+// Whether one of its regions comes instead of a node.
 #[tactic(auto, using(crate::proofs::PlanLemmas::theta_turn))]
-pub fn has_part(nodes: &[Node], node: &Node) -> bool
-    ensures { result ≡ is_some (part_row (nodes_of nodes.now) node.now) }
+pub fn has_replacement(nodes: &[Node], node: &Node) -> bool
+    ensures { result ≡ is_some (replacement_case (nodes_of nodes.now) node.now) }
 {
     match node.op {
         Op::Gamma => has_choice(nodes, node.inputs.as_slice(), &node.regions),
@@ -23,8 +23,8 @@ pub fn has_part(nodes: &[Node], node: &Node) -> bool
 }
 
 // The plan for a node with regions.
-pub fn part_plan(alloc: Global, nodes: &[Node], node: &Node) -> Result<Option<Plan>, NoMemory>
-    ensures { IfOk result (λ plan. plan ≡ option_map planned (part_row (nodes_of nodes.now) node.now)) }
+pub fn replacement_plan(alloc: Global, nodes: &[Node], node: &Node) -> Result<Option<Plan>, NoMemory>
+    ensures { IfOk result (λ plan. plan ≡ option_map planned (replacement_case (nodes_of nodes.now) node.now)) }
 {
     match node.op {
         Op::Gamma => choice_plan(alloc, nodes, node.inputs.as_slice(), &node.regions),
@@ -34,7 +34,7 @@ pub fn part_plan(alloc: Global, nodes: &[Node], node: &Node) -> Result<Option<Pl
 }
 
 fn has_choice(nodes: &[Node], inputs: &[Origin], regions: &[Region]) -> bool
-    ensures { result ≡ is_some (gamma_row (nodes_of nodes.now) inputs.now (regions_of regions.now)) }
+    ensures { result ≡ is_some (gamma_case (nodes_of nodes.now) inputs.now (regions_of regions.now)) }
 {
     match inputs.first() {
         Some(predicate) => match constant(nodes, *predicate) {
@@ -51,7 +51,7 @@ fn choice_plan(
     inputs: &[Origin],
     regions: &[Region],
 ) -> Result<Option<Plan>, NoMemory>
-    ensures { IfOk result (λ plan. plan ≡ option_map planned (gamma_row (nodes_of nodes.now) inputs.now (regions_of regions.now))) }
+    ensures { IfOk result (λ plan. plan ≡ option_map planned (gamma_case (nodes_of nodes.now) inputs.now (regions_of regions.now))) }
 {
     match inputs.split_first() {
         Some((predicate, entries)) => match constant(nodes, *predicate) {
@@ -68,10 +68,10 @@ fn choice_on(
     word: u32,
     entries: &[Origin],
 ) -> Result<Option<Plan>, NoMemory>
-    ensures { IfOk result (λ plan. plan ≡ option_map (λ r. Plan.Part (region_redirected (args_to_inputs entries.now) r)) (chosen_region word (regions_of regions.now))) }
+    ensures { IfOk result (λ plan. plan ≡ option_map (λ r. Plan.Replacement (region_redirected (args_to_inputs entries.now) r)) (chosen_region word (regions_of regions.now))) }
 {
     match chosen_region(regions, word) {
-        Some(region) => Ok(Some(Plan::Part(placed_region(alloc, region, entries)?))),
+        Some(region) => Ok(Some(Plan::Replacement(placed_region(alloc, region, entries)?))),
         None => Ok(None),
     }
 }
@@ -97,7 +97,7 @@ fn one_turn_plan(
     inputs: &[Origin],
     regions: &[Region],
 ) -> Result<Option<Plan>, NoMemory>
-    ensures { IfOk result (λ plan. plan ≡ option_map planned (theta_row inputs.now (regions_of regions.now))) }
+    ensures { IfOk result (λ plan. plan ≡ option_map planned (theta_case inputs.now (regions_of regions.now))) }
 {
     if regions.len() != 1 {
         return Ok(None);
@@ -113,9 +113,9 @@ fn one_turn(alloc: Global, region: &Region, inputs: &[Origin]) -> Result<Option<
     }
     match region.results.split_first() {
         Some((_, results)) => {
-            let mut part = placed_region(alloc, region, inputs)?;
-            part.results.remove(0);
-            Ok(Some(Plan::Part(part)))
+            let mut replacement = placed_region(alloc, region, inputs)?;
+            replacement.results.remove(0);
+            Ok(Some(Plan::Replacement(replacement)))
         }
         None => Ok(None),
     }
@@ -131,11 +131,11 @@ fn runs_once(region: &Region) -> bool
     }
 }
 
-// A copy of the region with these inputs in the place of its arguments.
+// A copy of the region with these inputs instead of its arguments.
 fn placed_region(alloc: Global, region: &Region, inputs: &[Origin]) -> Result<Region, NoMemory>
-    ensures { IfOk result (λ part. part ≡ region_redirected (args_to_inputs inputs.now) region.now) }
+    ensures { IfOk result (λ replacement. replacement ≡ region_redirected (args_to_inputs inputs.now) region.now) }
 {
-    let mut part = copy_region(alloc, region)?;
-    redirect_region(&mut part, &ArgsToInputs { inputs });
-    Ok(part)
+    let mut replacement = copy_region(alloc, region)?;
+    redirect_region(&mut replacement, &ArgsToInputs { inputs });
+    Ok(replacement)
 }

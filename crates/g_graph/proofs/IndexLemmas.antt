@@ -9,8 +9,8 @@ use Rattle.g_graph.specs.declared.op.Kind.TheVariants.{Value, Memory, Io}
 use Rattle.g_graph.specs.declared.op.Origin.{Origin}
 use Rattle.g_graph.specs.declared.op.Origin.TheVariants.{Arg, Out}
 use Rattle.g_graph.specs.Plain.{NodeTree, NodeTrees, no_nodes, node_then, nodes_of, id_of}
-use Rattle.g_graph.specs.Rows.{joined, output_kinds, kind_after}
-use Rattle.g_graph.specs.Scope.{same_kind, is_of, same_origin, known, last_place, origin_at, state_after, last_state, each_node}
+use Rattle.g_graph.specs.Signatures.{joined, output_kinds, kind_after}
+use Rattle.g_graph.specs.Scope.{same_kind, is_of, same_origin, known, last_index, origin_at, state_after, last_state, each_node}
 use Rattle.g_graph.specs.Change.{has_node}
 use Rattle.g_graph.specs.WellFormed.{some_of, gives, is_origin, is_last_of, is_last}
 use Rattle.g_graph.specs.Splice.{joined_nodes}
@@ -78,23 +78,23 @@ kind_known xs n p k e = by_either (either (has_node n xs))
 
 -- ---- places of kinds
 
-place_kept : (k : Kind) (i : ℕ) (xs : List (Option Kind)) (found : Option ℕ) → some_of (is_of k) xs ≡ false → last_place k i xs found ≡ found
-place_kept k i [] found e = refl
-place_kept k i (x ∷ xs) found e = by_test (is_of k x) e (λ c q. place_kept k (suc i) xs c q)
+index_kept : (k : Kind) (i : ℕ) (xs : List (Option Kind)) (found : Option ℕ) → some_of (is_of k) xs ≡ false → last_index k i xs found ≡ found
+index_kept k i [] found e = refl
+index_kept k i (x ∷ xs) found e = by_test (is_of k x) e (λ c q. index_kept k (suc i) xs c q)
   where
-    by_test : (t : Bool) → (t || some_of (is_of k) xs) ≡ false → ((c : Option ℕ) → some_of (is_of k) xs ≡ false → last_place k (suc i) xs c ≡ c) →
-        last_place k (suc i) xs (if t then Some i else found) ≡ found
+    by_test : (t : Bool) → (t || some_of (is_of k) xs) ≡ false → ((c : Option ℕ) → some_of (is_of k) xs ≡ false → last_index k (suc i) xs c ≡ c) →
+        last_index k (suc i) xs (if t then Some i else found) ≡ found
     by_test true q h = absurd (cc)
     by_test false q h = h found q
 
 pub record FoundAt (k : Kind) (i : ℕ) (xs : List (Option Kind)) (found : Option ℕ) : Type 0 where
-  pub place : ℕ
-  pub reached : last_place k i xs found ≡ Some (i + place)
-  pub kind : slice_get xs place ≡ Some (Some k)
+  pub index : ℕ
+  pub reached : last_index k i xs found ≡ Some (i + index)
+  pub kind : slice_get xs index ≡ Some (Some k)
 
-place_found : (k : Kind) (i : ℕ) (xs : List (Option Kind)) (found : Option ℕ) → some_of (is_of k) xs ≡ true → FoundAt k i xs found
-place_found k i [] found e = absurd (cc)
-place_found k i (x ∷ xs) found e = by_either (either (some_of (is_of k) xs)) (λ c q. place_found k (suc i) xs c q)
+index_found : (k : Kind) (i : ℕ) (xs : List (Option Kind)) (found : Option ℕ) → some_of (is_of k) xs ≡ true → FoundAt k i xs found
+index_found k i [] found e = absurd (cc)
+index_found k i (x ∷ xs) found e = by_either (either (some_of (is_of k) xs)) (λ c q. index_found k (suc i) xs c q)
   where
     own : (t : Bool) → (t || some_of (is_of k) xs) ≡ true → some_of (is_of k) xs ≡ false → t ≡ true
     own true a b = refl
@@ -103,35 +103,35 @@ place_found k i (x ∷ xs) found e = by_either (either (some_of (is_of k) xs)) (
     by_either : (some_of (is_of k) xs ≡ true) ⊎ (some_of (is_of k) xs ≡ false) → ((c : Option ℕ) → some_of (is_of k) xs ≡ true → FoundAt k (suc i) xs c) → FoundAt k i (x ∷ xs) found
     by_either (inl h) g =
         let r = g (if is_of k x then Some i else found) h in
-        record { place = suc r.place; reached = r.reached ∙ ap Some (omega arith); kind = r.kind }
+        record { index = suc r.index; reached = r.reached ∙ ap Some (omega arith); kind = r.kind }
     by_either (inr h) g =
         let t = own (is_of k x) e h in
         record {
-          place = 0;
-          reached = place_kept k (suc i) xs (if is_of k x then Some i else found) h ∙ ap (λ b. if b then Some i else found) t ∙ ap Some (omega arith);
+          index = 0;
+          reached = index_kept k (suc i) xs (if is_of k x then Some i else found) h ∙ ap (λ b. if b then Some i else found) t ∙ ap Some (omega arith);
           kind = ap Some (is_of_true k x t);
         }
 
-pub place_kind : (k : Kind) (xs : List (Option Kind)) (p : ℕ) → last_place k 0 xs None ≡ Some p → (slice_get xs p ≡ Some (Some k)) × (some_of (is_of k) xs ≡ true)
-place_kind k xs p e = by_either (either (some_of (is_of k) xs))
+pub index_kind : (k : Kind) (xs : List (Option Kind)) (p : ℕ) → last_index k 0 xs None ≡ Some p → (slice_get xs p ≡ Some (Some k)) × (some_of (is_of k) xs ≡ true)
+index_kind k xs p e = by_either (either (some_of (is_of k) xs))
   where
     by_either : (some_of (is_of k) xs ≡ true) ⊎ (some_of (is_of k) xs ≡ false) → (slice_get xs p ≡ Some (Some k)) × (some_of (is_of k) xs ≡ true)
     by_either (inl h) =
-        let r = place_found k 0 xs None h in
-        let inside : Some (0 + r.place) ≡ Some p = sym r.reached ∙ e in
-        let origin_replaced : 0 + r.place ≡ p = cc in
-        let same : r.place ≡ p = omega arith in
+        let r = index_found k 0 xs None h in
+        let inside : Some (0 + r.index) ≡ Some p = sym r.reached ∙ e in
+        let origin_replaced : 0 + r.index ≡ p = cc in
+        let same : r.index ≡ p = omega arith in
         (ap (slice_get xs) (sym same) ∙ r.kind, h)
     by_either (inr h) =
-        let none : None ≡ Some p = sym (place_kept k 0 xs None h) ∙ e in
+        let none : None ≡ Some p = sym (index_kept k 0 xs None h) ∙ e in
         absurd (cc)
 
-pub place_none : (k : Kind) (xs : List (Option Kind)) → last_place k 0 xs None ≡ None → some_of (is_of k) xs ≡ false
-place_none k xs e = by_either (either (some_of (is_of k) xs))
+pub index_none : (k : Kind) (xs : List (Option Kind)) → last_index k 0 xs None ≡ None → some_of (is_of k) xs ≡ false
+index_none k xs e = by_either (either (some_of (is_of k) xs))
   where
     by_either : (some_of (is_of k) xs ≡ true) ⊎ (some_of (is_of k) xs ≡ false) → some_of (is_of k) xs ≡ false
     by_either (inl h) =
-        let none : None ≡ Some (0 + (place_found k 0 xs None h).place) = sym e ∙ (place_found k 0 xs None h).reached in
+        let none : None ≡ Some (0 + (index_found k 0 xs None h).index) = sym e ∙ (index_found k 0 xs None h).reached in
         absurd (cc)
     by_either (inr h) = h
 
@@ -159,19 +159,19 @@ state_cases k no_nodes = inr (record { from = λ found. refl; given = refl })
 state_cases k (node_then x xs) = by_rest (state_cases k xs)
   where
     step : Option Origin → Option Origin
-    step found = origin_at (λ p. Out (id_of x) p) (last_place k 0 (output_kinds x) None) found
+    step found = origin_at (λ p. Out (id_of x) p) (last_index k 0 (output_kinds x) None) found
 
-    by_place : (l : Option ℕ) → last_place k 0 (output_kinds x) None ≡ l → KeepsState k xs → GivesState k (node_then x xs) ⊎ KeepsState k (node_then x xs)
-    by_place (Some p) q r = inl (record {
+    by_index : (l : Option ℕ) → last_index k 0 (output_kinds x) None ≡ l → KeepsState k xs → GivesState k (node_then x xs) ⊎ KeepsState k (node_then x xs)
+    by_index (Some p) q r = inl (record {
       number = id_of x;
       port = p;
       has = ap (λ b. b || has_node (id_of x) xs) (same_number_true (id_of x));
-      from = λ found. r.from (origin_at (λ p. Out (id_of x) p) (last_place k 0 (output_kinds x) None) found) ∙ ap (λ l. origin_at (λ p. Out (id_of x) p) l found) q;
-      given = ap (λ b. b || gives k xs) (place_kind k (output_kinds x) p q).1;
+      from = λ found. r.from (origin_at (λ p. Out (id_of x) p) (last_index k 0 (output_kinds x) None) found) ∙ ap (λ l. origin_at (λ p. Out (id_of x) p) l found) q;
+      given = ap (λ b. b || gives k xs) (index_kind k (output_kinds x) p q).1;
     })
-    by_place None q r = inr (record {
-      from = λ found. r.from (origin_at (λ p. Out (id_of x) p) (last_place k 0 (output_kinds x) None) found) ∙ ap (λ l. origin_at (λ p. Out (id_of x) p) l found) q;
-      given = ap (λ b. b || gives k xs) (place_none k (output_kinds x) q) ∙ r.given;
+    by_index None q r = inr (record {
+      from = λ found. r.from (origin_at (λ p. Out (id_of x) p) (last_index k 0 (output_kinds x) None) found) ∙ ap (λ l. origin_at (λ p. Out (id_of x) p) l found) q;
+      given = ap (λ b. b || gives k xs) (index_none k (output_kinds x) q) ∙ r.given;
     })
 
     by_rest : GivesState k xs ⊎ KeepsState k xs → GivesState k (node_then x xs) ⊎ KeepsState k (node_then x xs)
@@ -179,10 +179,10 @@ state_cases k (node_then x xs) = by_rest (state_cases k xs)
       number = g.number;
       port = g.port;
       has = or_true (id_of x == g.number) (has_node g.number xs) g.has;
-      from = λ found. g.from (origin_at (λ p. Out (id_of x) p) (last_place k 0 (output_kinds x) None) found);
+      from = λ found. g.from (origin_at (λ p. Out (id_of x) p) (last_index k 0 (output_kinds x) None) found);
       given = or_true (some_of (is_of k) (output_kinds x)) (gives k xs) g.given;
     })
-    by_rest (inr r) = by_place (last_place k 0 (output_kinds x) None) refl r
+    by_rest (inr r) = by_index (last_index k 0 (output_kinds x) None) refl r
 
 -- ---- what is last
 
