@@ -5,9 +5,9 @@ use Rattle.val_core.specs.declared.values.Value.{Value}
 use Rattle.val_core.specs.Events.{Event, IsPrefixOf}
 use Rattle.val_core.specs.Refinement.{Direction, Forward, Comparison, Refines, exactly}
 use Rattle.val_core.specs.Answers.{Answer, Returned, Cut, Exited, Undefined, then_on, events, Gives, IsUndefined}
-use Rattle.val_core.proofs.Events.{prefix-self}
-use Rattle.val_core.proofs.Answers.{added, before-is, then_associates}
-use Rattle.val_core.proofs.Refinement.{refines-then, refines-active, refines-change}
+use Rattle.val_core.proofs.lemmas.Events.{prefix-self}
+use Rattle.val_core.proofs.lemmas.Answers.{added, before-is, then_associates}
+use Rattle.val_core.proofs.lemmas.Refinement.{refines-then, refines-active, refines-change}
 use Rattle.g_graph.specs.Plain.{RegionTree, nodes_of, id_of, PlainLambda}
 use Rattle.g_mean.specs.Data.{Datum, val, memory, input}
 use Rattle.g_mean.specs.Meaning.{Frame, Context, extended, node_run, nodes_run}

@@ -4,7 +4,7 @@ use Rattle.val_core.specs.declared.values.Value.{Value}
 use Rattle.val_core.specs.Memory.{Memory, closed}
 use Rattle.val_core.specs.Refinement.{Direction, Comparison, Refines}
 use Rattle.val_core.specs.Answers.{Returned, then_on}
-use Rattle.val_core.proofs.Refinement.{refines-then}
+use Rattle.val_core.proofs.lemmas.Refinement.{refines-then}
 use Rattle.g_graph.specs.Plain.{RegionTree, region, NodeTree, node, NodeTrees, no_nodes, node_then, RegionTrees, no_regions, region_then, PlainObject, PlainLambda}
 use Rattle.g_mean.specs.Data.{Datum, val, at_port, with_memory, changed_at}
 use Rattle.g_mean.specs.Meaning.{Meaning, Context, region_meaning}

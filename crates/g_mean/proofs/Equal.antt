@@ -6,8 +6,8 @@ use Rattle.val_core.specs.Memory.{closed}
 use Rattle.val_core.specs.Events.{output, IsPrefixOf}
 use Rattle.val_core.specs.Refinement.{Direction, Forward, Backward, Comparison, Refines, exactly, no_deeper}
 use Rattle.val_core.specs.Answers.{Answer, Returned, Cut, Exited, Undefined}
-use Rattle.val_core.proofs.Events.{prefix-self}
-use Rattle.val_core.proofs.Refinement.{exactly-goes, no_deeper-goes}
+use Rattle.val_core.proofs.lemmas.Events.{prefix-self}
+use Rattle.val_core.proofs.lemmas.Refinement.{exactly-goes, no_deeper-goes}
 use Rattle.g_graph.specs.declared.op.Op.{Op}
 use Rattle.g_mean.specs.Data.{Datum, val, value_of, with_memory}
 use Rattle.g_mean.specs.Meaning.{Frame, done}

@@ -7,7 +7,7 @@ use Rattle.val_core.specs.Values.{IsLessDefined}
 use Rattle.val_core.specs.Memory.{Memory as Blocks, load, store, pointers_equal, closed}
 use Rattle.val_core.specs.Events.{wrote}
 use Rattle.val_core.specs.Answers.{Answer, Returned, Cut, Exited, Undefined, Gives}
-use Rattle.val_core.proofs.Answers.{gives-then, gives-active}
+use Rattle.val_core.proofs.lemmas.Answers.{gives-then, gives-active}
 use Rattle.g_graph.specs.declared.op.Kind.{Kind}
 use Rattle.g_graph.specs.declared.op.Kind.TheVariants.{Value as ValueKind, Memory, Io}
 use Rattle.g_graph.specs.declared.op.Op.{Op}
@@ -23,7 +23,7 @@ use Rattle.g_mean.specs.Data.{Datum, val, memory, input, at_port, value_of, valu
 use Rattle.g_mean.specs.Meaning.{Meaning, Context, given, given_memory, got, cleared_at, done, chosen, branched, again, turns, Outputs, no_outputs, extended, read, node_run, nodes_run, region_meaning, meanings}
 use Rattle.g_mean.specs.Calls.{opened, inside, entered, applied, lambda_at}
 use Rattle.val_core.specs.Refinement.{Direction, Forward, Backward, Refines, no_deeper}
-use Rattle.val_core.proofs.Refinement.{forward-within, backward-within, backward-right, backward-no-deeper, no_deeper-output, no_deeper-depth}
+use Rattle.val_core.proofs.lemmas.Refinement.{forward-within, backward-within, backward-defined, backward-no-deeper, no_deeper-output, no_deeper-depth}
 use Rattle.g_mean.specs.Replacement.{IsTwice}
 use Rattle.g_mean.proofs.Replacement.{lambda-refines}
 use Rattle.g_mean.specs.LessDefined.{Paired, IsLessDefinedDatum}
@@ -460,7 +460,7 @@ well_formed_keep_meaning ls ks well well' same global f count xs globals sound k
     let back = calls-refines Backward more n (le_refl _) in
     record {
       forward = forward-within no_deeper no_deeper-output ReturnsRefine (lambda_at n ls global f xs) (lambda_at more ks global f xs) forward (right n)
-          (λ wrong. backward-right no_deeper ReturnsRefine (lambda_at most ls global f xs) (lambda_at more ks global f xs) (calls-refines Backward most more (le_refl _)) (right most) wrong);
+          (λ wrong. backward-defined no_deeper ReturnsRefine (lambda_at most ls global f xs) (lambda_at more ks global f xs) (calls-refines Backward most more (le_refl _)) (right most) wrong);
       back = backward-within no_deeper no_deeper-output ReturnsRefine (lambda_at more ls global f xs) (lambda_at n ks global f xs) back (right more);
       no_deeper = λ sizes. backward-no-deeper no_deeper no_deeper-depth ReturnsRefine (lambda_at more ls global f xs) (lambda_at n ks global f xs) back (right more) sizes;
     }

@@ -11,8 +11,8 @@ use Rattle.val_core.specs.Memory.{Cell, Block, Memory, load, store, takes_store,
 use Rattle.val_core.specs.Events.{wrote}
 use Rattle.val_core.specs.Refinement.{Direction, Comparison, Refines}
 use Rattle.val_core.specs.Answers.{Answer, Returned, Exited}
-use Rattle.val_core.proofs.ValueLemmas.{keeps_less_defined1, keeps_less_defined2, keeps_sound1, keeps_sound2}
-use Rattle.val_core.proofs.Sound.{load_is_sound, clear_is_sound, closed_is_sound}
+use Rattle.val_core.proofs.lemmas.Values.{keeps_less_defined1, keeps_less_defined2, keeps_sound1, keeps_sound2}
+use Rattle.val_core.proofs.lemmas.Sound.{load_is_sound, clear_is_sound, closed_is_sound}
 use Rattle.g_graph.specs.declared.op.Op.{Op}
 use Rattle.g_graph.specs.declared.op.Op.TheVariants.{Const, Undef, Local, Delta, Bin, Un, Load, Store, Clear, PtrEq, Put, Exit, Get}
 use Rattle.g_graph.specs.Plain.{PlainObject}

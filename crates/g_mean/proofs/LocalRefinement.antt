@@ -7,8 +7,8 @@ use Rattle.val_core.specs.Memory.{Memory, closed}
 use Rattle.val_core.specs.Events.{Event, output, called, IsPrefixOf}
 use Rattle.val_core.specs.Answers.{Answer, Returned, Cut, Exited, Undefined, then_on, active, Gives}
 use Rattle.val_core.specs.Refinement.{Direction, Forward, Backward, Refines, exactly, no_deeper}
-use Rattle.val_core.proofs.Events.{called_keeps_output, called_deepens}
-use Rattle.val_core.proofs.Refinement.{refines-less-goes, no_deeper-uncalled}
+use Rattle.val_core.proofs.lemmas.Events.{called_keeps_output, called_deepens}
+use Rattle.val_core.proofs.lemmas.Refinement.{refines-less-goes, no_deeper-uncalled}
 use Rattle.g_graph.specs.Plain.{RegionTree, PlainLambda}
 use Rattle.g_mean.specs.Data.{Datum, val, memory, input, at_port, with_memory, changed_at, on_memory}
 use Rattle.g_mean.specs.Meaning.{Context, region_meaning}

@@ -4,7 +4,7 @@ use Rattle.val_core.specs.declared.leaf.Leaf.{Leaf}
 use Rattle.val_core.specs.Values.{IsSound}
 use Rattle.val_core.specs.Memory.{AreSoundCells, IsSoundMemory}
 use Rattle.val_core.specs.Refinement.{Direction, Refines, no_deeper}
-use Rattle.val_core.proofs.Refinement.{refines-then}
+use Rattle.val_core.proofs.lemmas.Refinement.{refines-then}
 use Rattle.g_graph.specs.Plain.{PlainLambda}
 use Rattle.g_mean.specs.Data.{Datum, memory, input, at_port}
 use Rattle.g_mean.specs.Calls.{PlainDelta, PlainOmega, delta_sizes, global_of, little_endian, link_at, leaf_value, first_cell, first_block, first_memory, lambda_at, finished, started, program_at, place_of, main_name}

@@ -4,7 +4,7 @@ use Rattle.std.proofs.lemmas.Bool.{cases_Bool, eqb-false}
 use Rattle.std.proofs.lemmas.Bool.Decides.{nat_tests}
 use Rattle.val_core.specs.Answers.{Answer, Returned, Cut, Exited, Undefined, Gives}
 use Rattle.val_core.specs.Refinement.{Direction, Refines, no_deeper}
-use Rattle.val_core.proofs.Refinement.{refines-then, refines-gives}
+use Rattle.val_core.proofs.lemmas.Refinement.{refines-then, refines-gives}
 use Rattle.g_graph.specs.declared.op.Kind.{Kind}
 use Rattle.g_graph.specs.declared.op.Origin.{Origin}
 use Rattle.g_graph.specs.declared.op.Origin.TheVariants.{Arg, Out}

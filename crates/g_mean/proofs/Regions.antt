@@ -5,7 +5,7 @@ use Rattle.val_core.specs.declared.values.Value.TheVariants.{Num, At, Bad}
 use Rattle.val_core.specs.Memory.{Memory}
 use Rattle.val_core.specs.Refinement.{Direction, Forward, Backward, Comparison, Refines}
 use Rattle.val_core.specs.Answers.{Answer, Returned, Cut, Exited, Undefined}
-use Rattle.val_core.proofs.Refinement.{refines-then}
+use Rattle.val_core.proofs.lemmas.Refinement.{refines-then}
 use Rattle.g_graph.specs.declared.op.Op.{Op}
 use Rattle.g_graph.specs.declared.op.Op.TheVariants.{Apply, Gamma, Theta}
 use Rattle.g_graph.specs.Plain.{RegionTree, region, NodeTree, node, NodeTrees, no_nodes, node_then, RegionTrees, no_regions, region_then, id_of}

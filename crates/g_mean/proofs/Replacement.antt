@@ -4,7 +4,7 @@ use Rattle.val_core.specs.declared.values.Value.{Value}
 use Rattle.val_core.specs.Values.{IsSound}
 use Rattle.val_core.specs.Refinement.{Direction, Forward, Backward, Refines, no_deeper}
 use Rattle.val_core.specs.Answers.{Answer}
-use Rattle.val_core.proofs.Refinement.{refines-active, forward-within, backward-within, backward-right, backward-no-deeper, no_deeper-output, no_deeper-depth}
+use Rattle.val_core.proofs.lemmas.Refinement.{refines-active, forward-within, backward-within, backward-defined, backward-no-deeper, no_deeper-output, no_deeper-depth}
 use Rattle.g_graph.specs.Plain.{RegionTree, PlainObject, PlainLambda}
 use Rattle.g_mean.specs.Data.{Datum, val}
 use Rattle.g_mean.specs.Calls.{inside, entered, applied, region_at, lambda_at}
@@ -94,7 +94,7 @@ kept-within near far like right n =
     let back = like Backward more n (le_refl _) in
     record {
       forward = forward-within no_deeper no_deeper-output (Paired IsLessDefinedDatum) (near n) (far more) (like Forward n more (le_refl _)) (right n)
-          (λ wrong. backward-right no_deeper (Paired IsLessDefinedDatum) (near most) (far more) (like Backward most more (le_refl _)) (right most) wrong);
+          (λ wrong. backward-defined no_deeper (Paired IsLessDefinedDatum) (near most) (far more) (like Backward most more (le_refl _)) (right most) wrong);
       back = backward-within no_deeper no_deeper-output (Paired IsLessDefinedDatum) (near more) (far n) back (right more);
       no_deeper = λ sizes. backward-no-deeper no_deeper no_deeper-depth (Paired IsLessDefinedDatum) (near more) (far n) back (right more) sizes;
     }

@@ -7,8 +7,8 @@ use Rattle.val_core.specs.declared.values.Value.TheVariants.{Bad}
 use Rattle.val_core.specs.Events.{Event}
 use Rattle.val_core.specs.Answers.{Answer, Returned, Cut, Exited, Undefined, then_on, Gives}
 use Rattle.val_core.specs.Refinement.{Direction, Forward, Backward, Refines, no_deeper}
-use Rattle.val_core.proofs.Answers.{then_associates, then_nothing}
-use Rattle.val_core.proofs.Refinement.{refines-then, refines-gives}
+use Rattle.val_core.proofs.lemmas.Answers.{then_associates, then_nothing}
+use Rattle.val_core.proofs.lemmas.Refinement.{refines-then, refines-gives}
 use Rattle.g_graph.specs.declared.op.Kind.{Kind}
 use Rattle.g_graph.specs.declared.op.Origin.{Origin}
 use Rattle.g_graph.specs.declared.op.Origin.TheVariants.{Arg, Out}

@@ -9,8 +9,8 @@ use Rattle.val_core.specs.Words.{word1, word2}
 use Rattle.val_core.specs.Values.{value1, value2, IsSound}
 use Rattle.val_core.specs.Answers.{Returned}
 use Rattle.val_core.specs.Refinement.{Direction, Forward, Backward, Refines, no_deeper}
-use Rattle.val_core.proofs.Words.{gives_word1, gives_word2}
-use Rattle.val_core.proofs.ValueLemmas.{keeps_sound2}
+use Rattle.val_core.proofs.lemmas.Words.{gives_word1, gives_word2}
+use Rattle.val_core.proofs.lemmas.Values.{keeps_sound2}
 use Rattle.g_graph.specs.declared.op.Kind.{Kind}
 use Rattle.g_graph.specs.declared.op.Op.{Op}
 use Rattle.g_graph.specs.declared.op.Op.TheVariants.{Const, Undef, Local, Delta, Bin, Un, Load, Store, Clear, PtrEq, Apply, Put, Exit, Get, Gamma, Theta}
@@ -37,7 +37,7 @@ use Rattle.r_fold.proofs.Finding.{Found, found-at, constant-holds, constant-smal
 use Rattle.r_fold.proofs.Neutral.{left-less, right-less}
 use Rattle.r_fold.proofs.Fits.{gamma-fits, theta-fits, inputs-read, regions-closed, inner-unique}
 use Rattle.r_fold.proofs.Law.{input-holds, word-replaces, input-replaces, replacement-replaces}
-use Rattle.val_core.proofs.Answers.{then_associates, then_on_given}
+use Rattle.val_core.proofs.lemmas.Answers.{then_associates, then_on_given}
 use Rattle.g_mean.proofs.Regions.{region-refines}
 use Rattle.g_mean.proofs.Replacement.{lambdas_keep_meaning}
 use Rattle.g_mean.proofs.Programs.{programs_keep_meaning}

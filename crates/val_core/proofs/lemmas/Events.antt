@@ -1,27 +1,31 @@
 -- The laws of events.
 use Rattle.std.proofs.Common.{◌≡◌, ℕ, ◌+◌, ◌≤◌, max, List, [], ◌∷◌, ◌++◌, refl, sym, ap, ◌∙◌, arith, append_assoc}
 use Rattle.std.proofs.lemmas.List.Sums.{sum_by-cons}
-use Rattle.val_core.specs.Events.{Event, wrote, met, output, deepest, beneath, called, IsPrefixOf}
+use Rattle.val_core.specs.Events.{Event, wrote, took, met, output, deepest, beneath, called, IsPrefixOf}
 use Rattle.val_core.specs.AnswerLaws.{OutputAppends, DeepestAppends, BeneathAppends, CalledKeepsOutput, CalledDeepens, PrefixesCompose}
 
 pub output_appends : OutputAppends
 output_appends [] p = refl
 output_appends (wrote b ∷ o) p = ap (λ r. b ∷ r) (output_appends o p)
+output_appends (took b ∷ o) p = output_appends o p
 output_appends (met s ∷ o) p = output_appends o p
 
 pub deepest_appends : DeepestAppends
 deepest_appends sizes [] p = omega arith
 deepest_appends sizes (wrote b ∷ o) p = deepest_appends sizes o p
+deepest_appends sizes (took b ∷ o) p = deepest_appends sizes o p
 deepest_appends sizes (met s ∷ o) p = let h = deepest_appends sizes o p in omega (arith, h)
 
 pub beneath_appends : BeneathAppends
 beneath_appends f [] p = refl
 beneath_appends f (wrote b ∷ o) p = ap (λ r. wrote b ∷ r) (beneath_appends f o p)
+beneath_appends f (took b ∷ o) p = ap (λ r. took b ∷ r) (beneath_appends f o p)
 beneath_appends f (met s ∷ o) p = ap (λ r. met (f ∷ s) ∷ r) (beneath_appends f o p)
 
 pub beneath-output : (f : ℕ) (o : List Event) → output (beneath f o) ≡ output o
 beneath-output f [] = refl
 beneath-output f (wrote b ∷ o) = ap (λ r. b ∷ r) (beneath-output f o)
+beneath-output f (took b ∷ o) = beneath-output f o
 beneath-output f (met s ∷ o) = beneath-output f o
 
 pub called_keeps_output : CalledKeepsOutput
@@ -30,12 +34,13 @@ called_keeps_output f o = beneath-output f o
 pub beneath-deepest : (sizes : ℕ → ℕ) (f : ℕ) (o : List Event) → max (sizes f) (deepest sizes (beneath f o)) ≡ sizes f + deepest sizes o
 beneath-deepest sizes f [] = omega arith
 beneath-deepest sizes f (wrote b ∷ o) = beneath-deepest sizes f o
+beneath-deepest sizes f (took b ∷ o) = beneath-deepest sizes f o
 beneath-deepest sizes f (met s ∷ o) = let h = beneath-deepest sizes f o in let e = sum_by-cons sizes f s in omega (arith, h, e)
 
 pub called_deepens : CalledDeepens
 called_deepens sizes f o = let h = beneath-deepest sizes f o in let e = sum_by-cons sizes f [] in omega (arith, h, e)
 
--- ---- leads
+-- ---- prefixes
 
 pub prefix-self : {A : Type 0} (xs : List A) → IsPrefixOf xs xs
 prefix-self xs = ([], append-nothing xs) where

@@ -1,8 +1,8 @@
-//! Operations on words as gcc 12 computes them for C expressions (`-std=c11 -fwrapv`), and the cases of division that
-//! C leaves undefined as the RISC-V manual's table 7.1 has them.
+//! Operations on words as gcc 12 computes them for C expressions (`-std=c11 -fwrapv`), and the
+//! cases of division that C leaves undefined as the RISC-V manual's table 7.1 has them.
 
-use super::*;
 use std::process::Abort;
+use val_core::{BlockName, Op1, Op2, Value, kept, op1, op2, value1, value2};
 
 fn compare(rt: &impl Abort, rows: &[(Op2, u32, u32, u32)]) {
     for (op, a, b, expected) in rows {

@@ -5,7 +5,7 @@ use Rattle.val_core.specs.Values.{BlockName, Value, Num, At, Bad, same_block, va
 use Rattle.val_core.specs.ValueLaws.{KeepsLessDefined2, KeepsLessDefined1, KeepsSound2, KeepsSound1}
 use Rattle.val_core.specs.declared.operation.Op2.{Op2}
 use Rattle.val_core.specs.declared.operation.Op2.TheVariants.{Add, Sub, Sltu}
-use Rattle.val_core.proofs.Words.{gives_word2, gives_word1}
+use Rattle.val_core.proofs.lemmas.Words.{gives_word2, gives_word1}
 
 pub bad-left : (op : Op2) (y : Value) → value2 op Bad y ≡ Bad
 bad-left op y = refl

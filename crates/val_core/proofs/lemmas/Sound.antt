@@ -1,5 +1,6 @@
 -- Memory stays sound.
-use Rattle.std.proofs.Common.{ℕ, zero, suc, ◌*◌, ◌%◌, ◌^◌, ◌<◌, ◌≤◌, ◌==◌, Bool, true, false, cond, List, [], ◌∷◌, map, slice_get, Option, None, Some, option_map, option_and_then, arith, lit<, pow_mono, mod-lt, lt_of_lt_of_le, pow_pos}
+use Rattle.std.proofs.Common.{ℕ, zero, suc, ◌*◌, ◌^◌, ◌==◌, Bool, true, false, cond, List, [], ◌∷◌, map, slice_get, Option, None, Some, option_map, option_and_then, arith, lit<}
+use Rattle.std.proofs.Math.Nat.{mod-le}
 use Rattle.std.specs.Option.{IfSome}
 use Rattle.val_core.specs.Values.{BlockName, Value, Num, At, Bad, IsSound}
 use Rattle.val_core.specs.Memory.{Cell, Block, Memory, block_named, block_changed, is_at, value_at, read_block, takes_store, kept, cell_written, written, zeroed, cell_zeroed, AreSoundCells, IsSoundMemory}
@@ -19,7 +20,8 @@ block-sound n [] s = tt
 block-sound zero (k ∷ m) s = s.0
 block-sound (suc n) (k ∷ m) s = block-sound n m s.1
 
-named-sound : (b : BlockName) (found : Option Block) → IfSome found (λ k. AreSoundCells k.cells) → IfSome (option_and_then (λ k. cond (k.size == b.size) (Some k) None) found) (λ k. AreSoundCells k.cells)
+named-sound : (b : BlockName) (found : Option Block) → IfSome found (λ k. AreSoundCells k.cells) →
+    IfSome (option_and_then (λ k. cond (k.size == b.size) (Some k) None) found) (λ k. AreSoundCells k.cells)
 named-sound b None s = tt
 named-sound b (Some k) s = pick (k.size == b.size) (λ x. IfSome x (λ j. AreSoundCells j.cells)) (Some k) None s tt
 
@@ -46,24 +48,21 @@ written-sound : (w o : ℕ) (v : Value) (cs : List Cell) → IsSound v → AreSo
 written-sound w o v [] h s = tt
 written-sound w o v (c ∷ cs) h s = (cell-sound (is_at w o c) v c h s.0, written-sound w o v cs h s.1)
 
-low-bits : (w n : ℕ) → w ≤ 4 → n % 2 ^ (8 * w) < 2 ^ 32
-low-bits w n h = lt_of_lt_of_le (mod-lt n (pow_pos (8 * w))) (pow_mono {i = 8 * w} {j = 32} (omega arith))
-
-kept-sound : (w : ℕ) (v : Value) → w ≤ 4 → IsSound v → IfSome (kept w v) IsSound
-kept-sound w (Num n) h s = low-bits w n h
-kept-sound w (At b o) h s = pick (w == 4) (λ x. IfSome x IsSound) (Some (At b o)) None s tt
-kept-sound w Bad h s = tt
+kept-sound : (w : ℕ) (v : Value) → IsSound v → IfSome (kept w v) IsSound
+kept-sound w (Num n) s = let h = mod-le n (2 ^ (8 * w)) in omega (arith, h, s)
+kept-sound w (At b o) s = pick (w == 4) (λ x. IfSome x IsSound) (Some (At b o)) None s tt
+kept-sound w Bad s = tt
 
 stored-sound : (w o : ℕ) (b : BlockName) (m : Memory) (part : Option Value) → IfSome part IsSound → IsSoundMemory m → IfSome (option_map (stored w o b m) part) IsSoundMemory
 stored-sound w o b m None h s = tt
 stored-sound w o b m (Some u) h s = changed-sound b.number (written w o u) m (λ k t. written-sound w o u k.cells h t) s
 
 pub store_is_sound : StoreIsSound
-store_is_sound w (Num a) v m h s t = tt
-store_is_sound w Bad v m h s t = tt
-store_is_sound w (At b o) v m h s t =
+store_is_sound w (Num a) v m s t = tt
+store_is_sound w Bad v m s t = tt
+store_is_sound w (At b o) v m s t =
     stored-sound w o b m (cond (takes_store w o (block_named b m)) (kept w v) None)
-    (pick (takes_store w o (block_named b m)) (λ x. IfSome x IsSound) (kept w v) None (kept-sound w v h t) tt) s
+    (pick (takes_store w o (block_named b m)) (λ x. IfSome x IsSound) (kept w v) None (kept-sound w v t) tt) s
 
 zeroed-sound : (cs : List Cell) → AreSoundCells (map cell_zeroed cs)
 zeroed-sound [] = tt
