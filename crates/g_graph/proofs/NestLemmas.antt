@@ -15,9 +15,9 @@ use Rattle.g_graph.specs.Scope.{same_kind, is_of, known, last_index, origin_at, 
 use Rattle.g_graph.specs.Ids.{region_ids, node_ids, nodes_ids, regions_ids}
 use Rattle.g_graph.specs.Change.{first_some, region_changed, node_changed, nodes_changed, regions_changed}
 use Rattle.g_graph.specs.WellFormed.{all_of, some_of, all_regions, are, same, kinds_of, one_state_each, has_its_regions, regions_fit, theta_has_states, has_its_width, has_its_object, is_origin, is_last_of, is_last, node_fits, gives, region_fits, every_region, every_in_node, every_in_nodes, every_in_regions}
-use Rattle.g_graph.proofs.SpliceLemmas.{nodes_of-append, kind_after-joined, state_after-joined}
-use Rattle.g_graph.proofs.UniqueLemmas.{first_true, second_true}
-use Rattle.g_graph.proofs.NumberedLemmas.{Numbered, numbered_left, numbered_right, numbered_rest}
+use Rattle.g_graph.proofs.lemmas.Splices.{nodes_of-append, kind_after-joined, state_after-joined}
+use Rattle.g_graph.proofs.lemmas.Unique.{first_true, second_true}
+use Rattle.g_graph.proofs.lemmas.Numbers.{Numbered, numbered_left, numbered_right, numbered_rest}
 
 -- after the one nodes origins have the kinds that they have after the others, and states come from the same
 pub record SameScope (bs cs : NodeTrees) : Type 0 where

@@ -11,8 +11,8 @@ use Rattle.g_graph.specs.Scope.{known, each_node}
 use Rattle.g_graph.specs.WellFormed.{all_of, are, one_state_each, has_its_regions, regions_fit, theta_has_states, has_its_width, has_its_object, inputs_fit, is_last, inputs_are_last, node_has_one_state_each, node_fits}
 use Rattle.g_graph.specs.Replace.{node_redirected, nodes_redirected}
 use Rattle.g_graph.specs.Splice.{joined_nodes}
-use Rattle.g_graph.proofs.SpliceLemmas.{nodes_of-append, joined_assoc}
-use Rattle.g_graph.proofs.UniqueLemmas.{first_true, second_true}
+use Rattle.g_graph.proofs.lemmas.Splices.{nodes_of-append, joined_assoc}
+use Rattle.g_graph.proofs.lemmas.Unique.{first_true, second_true}
 
 -- an origin that is known and the last of its kind of state stays so
 pub record ScopeMap (args : List Kind) (bs : NodeTrees) (others : List Kind) (cs : NodeTrees) (f : Origin → Origin) : Type 0 where

@@ -8,3 +8,6 @@ pub mod WellFormed
 pub mod Change
 pub mod Replace
 pub mod Splice
+pub mod Nodes
+pub mod Lists
+pub mod Program

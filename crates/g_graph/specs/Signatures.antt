@@ -1,6 +1,6 @@
 -- The one table of ops: the inputs and the outputs of each, in number and kind. What a Gamma takes and gives is what
 -- its regions take and give, and so it is with a Theta, whose region also gives its predicate.
-use Rattle.std.specs.Prelude.{ℕ, ◌-◌, ◌==◌, List, [], ◌∷◌, ◌++◌, map, replicate, if◌then◌else◌, slice_get}
+use Rattle.std.specs.Prelude.{ℕ, ◌-◌, ◌==◌, Bool, true, false, List, [], ◌∷◌, ◌++◌, map, replicate, if◌then◌else◌, slice_get}
 use Rattle.std.specs.declared.option.Option.{Option}
 use Rattle.std.specs.declared.option.Option.TheVariants.{Some, None}
 use Rattle.g_graph.specs.declared.op.Kind.{Kind}
@@ -88,3 +88,13 @@ abbrev mutual
   pub kind_after : NodeTrees → (id : ℕ) → (port : ℕ) → (before : Option Kind) → Option Kind
   kind_after no_nodes n p before = before
   kind_after (node_then x xs) n p before = kind_after xs n p (if id_of x == n then joined (slice_get (output_kinds x) p) else before)
+
+-- A pure op reads and gives no state: its output is a function of its inputs.
+abbrev pub is_pure : Op → Bool
+is_pure (Const w) = true
+is_pure Undef = true
+is_pure (Local k) = true
+is_pure (Delta k) = true
+is_pure (Bin op) = true
+is_pure (Un op) = true
+is_pure op = false

@@ -1,7 +1,7 @@
 ghost use Rattle.std.specs.Prelude.{◌≡◌, ◌==◌, slice_get, if◌then◌else◌};
 ghost use Rattle.std.specs.declared.option.Option.TheVariants.{Some, None};
 ghost use Rattle.g_graph.specs.Plain.{nodes_of, regions_of, id_of};
-ghost use Rattle.g_graph.specs.Signatures.{joined, result_kinds, output_kinds, kind_after, op_inputs, op_outputs, first_args};
+ghost use Rattle.g_graph.specs.Signatures.{joined, result_kinds, output_kinds, kind_after, op_inputs, op_outputs, first_args, is_pure};
 ghost use Rattle.g_graph.specs.Scope.{known, same_kind, is_of};
 
 use crate::{Kind, Node, Op, Origin, Region};
@@ -126,5 +126,15 @@ pub fn is_of(kind: Kind, found: Option<Kind>) -> bool
     match found {
         Some(other) => same_kind(kind, other),
         None => false,
+    }
+}
+
+/// Whether the op reads and gives no state.
+pub fn is_pure(op: Op) -> bool
+    ensures { result ≡ is_pure op }
+{
+    match op {
+        Op::Const(_) | Op::Undef | Op::Local(_) | Op::Delta(_) | Op::Bin(_) | Op::Un(_) => true,
+        _ => false,
     }
 }

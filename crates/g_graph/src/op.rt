@@ -11,7 +11,7 @@ pub enum Kind {
 }
 
 /// What a node does. The table of inputs and outputs in specs/Signatures.antt has each op's signature.
-#[derive(Clone, Copy, PartialEq, Eq, Debug)]
+#[derive(Clone, Copy, PartialEq, Eq, Hash, Debug)]
 pub enum Op {
     /// The word.
     Const(u32),

@@ -2,7 +2,7 @@ use Rattle.std.proofs.Common.{◌≡◌, sym, ap, ◌∙◌}
 use Rattle.std.specs.declared.option.Option.TheVariants.{None}
 use Rattle.g_graph.specs.Plain.{nodes_of}
 use Rattle.g_graph.specs.Change.{node_index}
-use Rattle.g_graph.proofs.SpliceLemmas.{nodes_spliced_none}
+use Rattle.g_graph.proofs.lemmas.Splices.{nodes_spliced_none}
 use Rattle.g_graph.proofs.splicing.put_nodes.Goals as goal
 
 pub returns-in-None-clause-ok : goal.returns-in-None-clause-ok

@@ -2,7 +2,7 @@ use Rattle.std.proofs.Common.{◌≡◌, ◌+◌, ◌-◌, ◌++◌, length, tak
 use Rattle.g_graph.specs.Plain.{nodes_of}
 use Rattle.g_graph.specs.Replace.{node_redirected}
 use Rattle.g_graph.specs.Splice.{outputs_to_results}
-use Rattle.g_graph.proofs.SpliceLemmas.{index_within, nodes_spliced_at, changed_following}
+use Rattle.g_graph.proofs.lemmas.Splices.{index_within, nodes_spliced_at, changed_following}
 use Rattle.g_graph.proofs.splicing.put_nodes_at.Goals as goal
 
 pub overflow_sub-rest : goal.overflow_sub-rest

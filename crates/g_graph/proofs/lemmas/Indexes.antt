@@ -14,8 +14,8 @@ use Rattle.g_graph.specs.Scope.{same_kind, is_of, same_origin, known, last_index
 use Rattle.g_graph.specs.Change.{has_node}
 use Rattle.g_graph.specs.WellFormed.{some_of, gives, is_origin, is_last_of, is_last}
 use Rattle.g_graph.specs.Splice.{joined_nodes}
-use Rattle.g_graph.proofs.SpliceLemmas.{and_assoc, or_assoc}
-use Rattle.g_graph.proofs.MovedLemmas.{same_origin_true}
+use Rattle.g_graph.proofs.lemmas.Splices.{and_assoc, or_assoc}
+use Rattle.g_graph.proofs.lemmas.Moved.{same_origin_true}
 
 pub either : (b : Bool) → (b ≡ true) ⊎ (b ≡ false)
 either true = inl refl

@@ -12,8 +12,8 @@ use Rattle.g_graph.specs.Scope.{is_of, same_origin, known}
 use Rattle.g_graph.specs.WellFormed.{all_of, some_of, one_state_each, is_last_of, is_last, nodes_fit, results_are_last, returns_state, region_has_one_state_each, region_fits, every_region, every_in_nodes}
 use Rattle.g_graph.specs.Replace.{nodes_redirected, region_redirected, origin_replaced}
 use Rattle.g_graph.specs.Splice.{joined_nodes}
-use Rattle.g_graph.proofs.ReplaceLemmas.{kind_after-redirected, state_after-redirected, gives-redirected, every_in_nodes-redirected}
-use Rattle.g_graph.proofs.UniqueLemmas.{first_true, second_true}
+use Rattle.g_graph.proofs.lemmas.Redirects.{kind_after-redirected, state_after-redirected, gives-redirected, every_in_nodes-redirected}
+use Rattle.g_graph.proofs.lemmas.Unique.{first_true, second_true}
 use Rattle.g_graph.proofs.NestLemmas.{SameScope, known_same, last_same, RegionKept}
 use Rattle.g_graph.proofs.ScopeMaps.{ScopeMap, mapped_all, mapped_nodes_fit, joined_none}
 

@@ -3,7 +3,7 @@ use Rattle.std.proofs.Common.{◌≡◌, ◌≤◌, ◌+◌, ℕ, List, [], ◌�
 use Rattle.std.specs.Prelude.{◌==◌, nat_lt, not, count_by, if◌then◌else◌}
 use Rattle.std.proofs.lemmas.Bool.Decides.{nat_tests}
 use Rattle.g_graph.specs.WellFormed.{all_of, some_of, distinct}
-use Rattle.g_graph.proofs.UniqueLemmas.{all_of_append, times, times_append, times_cons, first_true, second_true, counts_of_distinct, distinct_of_counts}
+use Rattle.g_graph.proofs.lemmas.Unique.{all_of_append, times, times_append, times_cons, first_true, second_true, counts_of_distinct, distinct_of_counts}
 
 -- unique numbers below the next
 pub record Numbered (next : ℕ) (ns : List ℕ) : Type 0 where

@@ -2,9 +2,9 @@ use Rattle.std.proofs.Common.{◌≡◌, sym, ap, ◌∙◌, arith}
 use Rattle.std.specs.declared.option.Option.TheVariants.{Some, None}
 use Rattle.g_graph.specs.Plain.{nodes_of}
 use Rattle.g_graph.specs.Change.{node_index}
-use Rattle.g_graph.proofs.SpliceLemmas.{index_within}
-use Rattle.r_fold.proofs.PlanLemmas.{node_set_none, node_set_at}
-use Rattle.r_fold.proofs.edit.set_node.Goals as goal
+use Rattle.g_graph.proofs.lemmas.Splices.{index_within}
+use Rattle.g_graph.proofs.lemmas.Found.{node_set_none, node_set_at}
+use Rattle.g_graph.proofs.find.set_node.Goals as goal
 
 pub index_mut-requires : goal.index_mut-requires
 index_mut-requires c =

@@ -13,13 +13,13 @@ use Rattle.g_graph.specs.Change.{has_node}
 use Rattle.g_graph.specs.WellFormed.{all_of, are, same, inputs_fit, inputs_are_last, is_last, node_has_one_state_each, has_its_regions, regions_fit, theta_has_states, has_its_width, has_its_object, node_fits, nodes_fit, results_are_last, returns_state, region_has_one_state_each, region_fits, every_region, every_in_node, every_in_nodes}
 use Rattle.g_graph.specs.Replace.{nodes_redirected, region_redirected}
 use Rattle.g_graph.specs.Splice.{args_to_inputs, outputs_to_results, joined_nodes, region_spliced}
-use Rattle.g_graph.proofs.ReplaceLemmas.{nodes_ids-redirected}
-use Rattle.g_graph.proofs.SpliceLemmas.{Split, nodes_ids-joined, every_in_nodes-joined, kind_after-joined}
-use Rattle.g_graph.proofs.UniqueLemmas.{first_true, second_true, times, times_append, times_cons, counts_of_distinct}
-use Rattle.g_graph.proofs.NumberedLemmas.{Numbered}
-use Rattle.g_graph.proofs.IndexLemmas.{either, same_number_true, same_kind_true, has_node-joined, kind_absent, kind_known}
+use Rattle.g_graph.proofs.lemmas.Redirects.{nodes_ids-redirected}
+use Rattle.g_graph.proofs.lemmas.Splices.{Split, nodes_ids-joined, every_in_nodes-joined, kind_after-joined}
+use Rattle.g_graph.proofs.lemmas.Unique.{first_true, second_true, times, times_append, times_cons, counts_of_distinct}
+use Rattle.g_graph.proofs.lemmas.Numbers.{Numbered}
+use Rattle.g_graph.proofs.lemmas.Indexes.{either, same_number_true, same_kind_true, has_node-joined, kind_absent, kind_known}
 use Rattle.g_graph.proofs.ScopeMaps.{joined_none, joined_following}
-use Rattle.g_graph.proofs.MovedLemmas.{ValueFor}
+use Rattle.g_graph.proofs.lemmas.Moved.{ValueFor}
 use Rattle.g_graph.proofs.NestLemmas.{RegionKept}
 use Rattle.g_graph.proofs.SpliceKept.{ReplacementFits, region_spliced_kept}
 

@@ -15,7 +15,7 @@ use Rattle.g_graph.specs.WellFormed.{some_of, gives, every_in_node, every_in_nod
 use Rattle.g_graph.specs.Change.{has_node, node_index}
 use Rattle.g_graph.specs.Replace.{node_redirected, nodes_redirected}
 use Rattle.g_graph.specs.Splice.{joined_nodes, nodes_spliced, outputs_to_results}
-use Rattle.g_graph.proofs.ReplaceLemmas.{nodes_of-redirected}
+use Rattle.g_graph.proofs.lemmas.Redirects.{nodes_of-redirected}
 
 pub nodes_of-append : (xs ys : List NodeTree) → nodes_of (xs ++ ys) ≡ joined_nodes (nodes_of xs) (nodes_of ys)
 nodes_of-append [] ys = refl

@@ -8,8 +8,8 @@ use Rattle.g_graph.specs.Plain.{RegionTree, region, NodeTree, node, NodeTrees, n
 use Rattle.g_graph.specs.Ids.{region_ids, node_ids, nodes_ids, regions_ids}
 use Rattle.g_graph.specs.Change.{first_some, region_changed, node_changed, nodes_changed, regions_changed}
 use Rattle.g_graph.specs.WellFormed.{all_of, distinct, leaves_fit, are, same, region_fits, every_region, every_in_node, every_in_nodes, every_in_regions, body_fits, numbers_fit, well_formed}
-use Rattle.g_graph.proofs.UniqueLemmas.{times_append, all_of_append, first_true, second_true}
-use Rattle.g_graph.proofs.NumberedLemmas.{Numbered, numbered_left, numbered_right, numbered_fewer}
+use Rattle.g_graph.proofs.lemmas.Unique.{times_append, all_of_append, first_true, second_true}
+use Rattle.g_graph.proofs.lemmas.Numbers.{Numbered, numbered_left, numbered_right, numbered_fewer}
 use Rattle.g_graph.proofs.NestLemmas.{KeepsRegion, region_changed_kept}
 
 pub record Exchanged (objects : ℕ) (f : RegionTree → Option RegionTree) (is js : List ℕ) : Type 0 where
