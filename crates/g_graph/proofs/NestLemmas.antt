@@ -167,7 +167,8 @@ nodes_kept_following objects x xs ys own k = record {
   inside = λ i. own i && k.inside i;
 }
 
-head_shape : (r s : RegionTree) (rs : RegionTrees) (id : ℕ) (op : Op) (inputs : List Origin) → has_its_regions (node id op inputs (region_then s rs)) ≡ has_its_regions (node id op inputs (region_then r rs))
+head_shape : (r s : RegionTree) (rs : RegionTrees) (id : ℕ) (op : Op) (inputs : List Origin) → has_its_regions (node id op inputs (region_then s rs)) ≡
+    has_its_regions (node id op inputs (region_then r rs))
 head_shape r s rs id Gamma inputs = refl
 head_shape r s no_regions id Theta inputs = refl
 head_shape r s (region_then a more) id Theta inputs = refl
@@ -179,7 +180,8 @@ long_shape r a b cs bs id Gamma inputs = refl
 long_shape r a b cs bs id Theta inputs = refl
 long_shape r a b cs bs id _ inputs = refl
 
-regions_kept_here : (objects : ℕ) (r s : RegionTree) (rs : RegionTrees) → RegionKept objects r s → every_in_regions (region_fits objects) rs ≡ true → RegionsKept objects (region_then r rs) (region_then s rs)
+regions_kept_here : (objects : ℕ) (r s : RegionTree) (rs : RegionTrees) → RegionKept objects r s → every_in_regions (region_fits objects) rs ≡ true →
+    RegionsKept objects (region_then r rs) (region_then s rs)
 regions_kept_here objects r s rs k rest = record {
   first = k.args;
   given = k.results;
@@ -189,7 +191,8 @@ regions_kept_here objects r s rs k rest = record {
   inside = λ i. k.inside i && rest i;
 }
 
-regions_kept_following : (objects : ℕ) (r : RegionTree) (rs ss : RegionTrees) → every_region (region_fits objects) r ≡ true → RegionsKept objects rs ss → RegionsKept objects (region_then r rs) (region_then r ss)
+regions_kept_following : (objects : ℕ) (r : RegionTree) (rs ss : RegionTrees) → every_region (region_fits objects) r ≡ true → RegionsKept objects rs ss →
+    RegionsKept objects (region_then r rs) (region_then r ss)
 regions_kept_following objects r rs ss own k = record {
   first = refl;
   given = refl;

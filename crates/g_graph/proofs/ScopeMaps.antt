@@ -18,7 +18,8 @@ use Rattle.g_graph.proofs.lemmas.Unique.{first_true, second_true}
 pub record ScopeMap (args : List Kind) (bs : NodeTrees) (others : List Kind) (cs : NodeTrees) (f : Origin → Origin) : Type 0 where
   pub one : (o : Origin) → is_last args bs o ≡ true → (known others cs (f o) ≡ known args bs o) × (is_last others cs (f o) ≡ true)
 
-pub mapped_all : (args : List Kind) (bs : NodeTrees) (others : List Kind) (cs : NodeTrees) (f : Origin → Origin) → ScopeMap args bs others cs f → (os : List Origin) → all_of (is_last args bs) os ≡ true →
+pub mapped_all : (args : List Kind) (bs : NodeTrees) (others : List Kind) (cs : NodeTrees) (f : Origin → Origin) → ScopeMap args bs others cs f → (os : List Origin) →
+    all_of (is_last args bs) os ≡ true →
     (map (known others cs) (map f os) ≡ map (known args bs) os) × (all_of (is_last others cs) (map f os) ≡ true)
 mapped_all args bs others cs f m [] e = (refl, refl)
 mapped_all args bs others cs f m (o ∷ os) e =

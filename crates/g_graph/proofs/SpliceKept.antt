@@ -1,9 +1,9 @@
 -- A region stays well formed where a replacement that fits stands instead of one of its nodes.
-use Rattle.std.proofs.Common.{◌≡◌, ◌⊎◌, inl, inr, ℕ, zero, suc, Bool, true, false, List, [], ◌∷◌, ◌++◌, map, refl, sym, ap, ◌∙◌, subst, arith}
+use Rattle.std.proofs.Common.{◌≡◌, ◌⊎◌, inl, inr, ℕ, zero, suc, Bool, true, false, List, [], ◌∷◌, ◌++◌, map, refl, sym, ap, ◌∙◌, subst}
 use Rattle.std.specs.Prelude.{◌==◌, ◌&&◌, ◌||◌, not, slice_get, unwrap_or, if◌then◌else◌}
-use Rattle.std.proofs.lemmas.Bool.Decides.{nat_tests}
 use Rattle.std.specs.declared.option.Option.{Option}
 use Rattle.std.specs.declared.option.Option.TheVariants.{Some, None}
+use Rattle.std.proofs.lemmas.Bool.{false_from_ne_true, or_left, or_right, or_cases}
 use Rattle.g_graph.specs.declared.op.Kind.{Kind}
 use Rattle.g_graph.specs.declared.op.Kind.TheVariants.{Value, Memory, Io}
 use Rattle.g_graph.specs.declared.op.Origin.{Origin}
@@ -17,7 +17,7 @@ use Rattle.g_graph.specs.Replace.{node_redirected, nodes_redirected, region_redi
 use Rattle.g_graph.specs.Splice.{args_to_inputs, outputs_to_results, joined_nodes, nodes_spliced, region_spliced}
 use Rattle.g_graph.proofs.lemmas.Redirects.{nodes_of-redirected, kind_after-redirected, state_after-redirected, gives-redirected, every_in_nodes-redirected}
 use Rattle.g_graph.proofs.lemmas.Splices.{Split, joined_assoc, nodes_of-append, kind_after-joined, state_after-joined, gives-joined, every_in_nodes-joined}
-use Rattle.g_graph.proofs.lemmas.Unique.{first_true, second_true}
+use Rattle.g_graph.proofs.lemmas.Unique.{same_number, equal_back, first_true, second_true}
 use Rattle.g_graph.proofs.NestLemmas.{RegionKept}
 use Rattle.g_graph.proofs.ScopeMaps.{ScopeMap, mapped_all, mapped_nodes_fit, joined_none, joined_following}
 use Rattle.g_graph.proofs.lemmas.Moved.{last_is_known}
@@ -39,22 +39,6 @@ pub record ReplacementFits (objects : ℕ) (args : List Kind) (before : NodeTree
 is_none_or : (k : Option Kind) → (k ≡ None) ⊎ ((j : Kind) × (k ≡ Some j))
 is_none_or None = inl refl
 is_none_or (Some j) = inr (j, refl)
-
-absent : (b : Bool) → (b ≡ true → ⊥) → b ≡ false
-absent true h = absurd (h refl)
-absent false h = refl
-
-true_or : (a b : Bool) → a ≡ true → (a || b) ≡ true
-true_or true b e = refl
-true_or false b e = absurd (cc)
-
-or_true : (a b : Bool) → b ≡ true → (a || b) ≡ true
-or_true true b e = refl
-or_true false b e = e
-
-or_cases : (a b : Bool) → (a || b) ≡ true → (a ≡ true) ⊎ (b ≡ true)
-or_cases true b e = inl refl
-or_cases false b e = inr e
 
 -- what an argument of the replacement takes
 record Entry (args : List Kind) (before : NodeTrees) (is : List Origin) (j : ℕ) (k : Kind) : Type 0 where
@@ -128,12 +112,6 @@ all_at test (c ∷ os) zero o a e =
     ap test (sym same) ∙ first_true (test c) (all_of test os) a
 all_at test (c ∷ os) (suc p) o a e = all_at test os p o (second_true (test c) (all_of test os) a) e
 
-same_number : (j k : ℕ) → (j == k) ≡ true → j ≡ k
-same_number j k e = grind (arith, nat_tests)
-
-equal_back : (n m : ℕ) → (n == m) ≡ (m == n)
-equal_back n m = grind (arith, nat_tests)
-
 has_node-redirected : (f : Origin → Origin) (n : ℕ) (ns : NodeTrees) → has_node n (nodes_redirected f ns) ≡ has_node n ns
 has_node-redirected f n no_nodes = refl
 has_node-redirected f n (node_then (node id op inputs rs) ns) = ap (λ b. (id == n) || b) (has_node-redirected f n ns)
@@ -143,14 +121,14 @@ module _ (objects : ℕ) (args : List Kind) (before : NodeTrees) (x : NodeTree) 
   -- ---- origins of the replacement, outside it
 
   in_replacement : (front rest : NodeTrees) → replacement ≡ joined_nodes front rest → (n : ℕ) → has_node n front ≡ true → has_node n replacement ≡ true
-  in_replacement front rest w n h = ap (has_node n) w ∙ has_node-joined n front rest ∙ true_or (has_node n front) (has_node n rest) h
+  in_replacement front rest w n h = ap (has_node n) w ∙ has_node-joined n front rest ∙ or_left (has_node n front) (has_node n rest) h
 
   before_known : (front rest : NodeTrees) → replacement ≡ joined_nodes front rest → (o : Origin) (k : Kind) → known args before o ≡ Some k →
       known args (joined_nodes before (nodes_redirected (args_to_inputs is) front)) o ≡ Some k
   before_known front rest w (Arg j) k e = e
   before_known front rest w (Out n p) k e =
       kind_after-joined before (nodes_redirected (args_to_inputs is) front) n p None ∙ kind_after-redirected (args_to_inputs is) front n p (kind_after before n p None)
-      ∙ kind_absent front n p (kind_after before n p None) (absent (has_node n front) (λ h. s.replacement_before n (in_replacement front rest w n h) (kind_known before n p k e))) ∙ e
+      ∙ kind_absent front n p (kind_after before n p None) (false_from_ne_true (has_node n front) (λ h. s.replacement_before n (in_replacement front rest w n h) (kind_known before n p k e))) ∙ e
 
   replacement_known : (front rest : NodeTrees) → replacement ≡ joined_nodes front rest → (o : Origin) (k : Kind) → known own front o ≡ Some k →
       known args (joined_nodes before (nodes_redirected (args_to_inputs is) front)) (args_to_inputs is o) ≡ Some k
@@ -171,14 +149,17 @@ module _ (objects : ℕ) (args : List Kind) (before : NodeTrees) (x : NodeTree) 
   replacement_last front rest w o k (inl v) = inl v
   replacement_last front rest w o k (inr e) = by_state (state_cases k front)
     where
-      by_entry : (j : ℕ) → Entry args before is j k → Arg j ≡ o → KeepsState k front → (k ≡ Value) ⊎ (last_state k args (joined_nodes before (nodes_redirected (args_to_inputs is) front)) ≡ Some (args_to_inputs is o))
+      by_entry : (j : ℕ) → Entry args before is j k → Arg j ≡ o → KeepsState k front → (k ≡ Value) ⊎ (last_state k args (joined_nodes before (nodes_redirected (args_to_inputs is) front)) ≡
+          Some (args_to_inputs is o))
       by_entry j r same kept = by_last (last_gives k args before r.origin r.kind r.last)
         where
-          by_last : (k ≡ Value) ⊎ (last_state k args before ≡ Some r.origin) → (k ≡ Value) ⊎ (last_state k args (joined_nodes before (nodes_redirected (args_to_inputs is) front)) ≡ Some (args_to_inputs is o))
+          by_last : (k ≡ Value) ⊎ (last_state k args before ≡ Some r.origin) → (k ≡ Value) ⊎ (last_state k args (joined_nodes before (nodes_redirected (args_to_inputs is) front)) ≡
+              Some (args_to_inputs is o))
           by_last (inl v) = inl v
           by_last (inr q) = inr (replacement_state front k ∙ kept.from (last_state k args before) ∙ q ∙ sym (ap (λ c. Some (unwrap_or c (Arg j))) r.taken) ∙ ap (λ c. Some (args_to_inputs is c)) same)
 
-      by_index : (l : Option ℕ) → last_index k 0 (map Some own) None ≡ l → KeepsState k front → (k ≡ Value) ⊎ (last_state k args (joined_nodes before (nodes_redirected (args_to_inputs is) front)) ≡ Some (args_to_inputs is o))
+      by_index : (l : Option ℕ) → last_index k 0 (map Some own) None ≡ l → KeepsState k front → (k ≡ Value) ⊎ (last_state k args (joined_nodes before (nodes_redirected (args_to_inputs is) front)) ≡
+          Some (args_to_inputs is o))
       by_index None q r =
           let none : None ≡ Some o = sym (ap (λ l. origin_at Arg l None) q) ∙ sym (r.from (origin_at Arg (last_index k 0 (map Some own) None) None)) ∙ e in
           absurd (cc)
@@ -198,11 +179,13 @@ module _ (objects : ℕ) (args : List Kind) (before : NodeTrees) (x : NodeTree) 
   replacement_map front rest w = record { one = λ o e. by_kind o e (is_none_or (known own front o)) }
     where
       by_kind : (o : Origin) → is_last own front o ≡ true → (known own front o ≡ None) ⊎ ((j : Kind) × (known own front o ≡ Some j)) →
-          (known args (joined_nodes before (nodes_redirected (args_to_inputs is) front)) (args_to_inputs is o) ≡ known own front o) × (is_last args (joined_nodes before (nodes_redirected (args_to_inputs is) front)) (args_to_inputs is o) ≡ true)
+          (known args (joined_nodes before (nodes_redirected (args_to_inputs is) front)) (args_to_inputs is o) ≡ known own front o) ×
+              (is_last args (joined_nodes before (nodes_redirected (args_to_inputs is) front)) (args_to_inputs is o) ≡ true)
       by_kind o e (inl n) = absurd (last_is_known own front o e n)
       by_kind o e (inr q) =
           let kind = replacement_known front rest w o q.0 q.1 in
-          (kind ∙ sym q.1, gives_last q.0 args (joined_nodes before (nodes_redirected (args_to_inputs is) front)) (args_to_inputs is o) kind (replacement_last front rest w o q.0 (last_gives q.0 own front o q.1 e)))
+          (kind ∙ sym q.1, gives_last q.0 args (joined_nodes before (nodes_redirected (args_to_inputs is) front)) (args_to_inputs is o) kind
+              (replacement_last front rest w o q.0 (last_gives q.0 own front o q.1 e)))
 
   -- ---- origins of the nodes after the node, and of the results, where the replacement stands
 
@@ -210,11 +193,11 @@ module _ (objects : ℕ) (args : List Kind) (before : NodeTrees) (x : NodeTree) 
   given o = outputs_to_results (id_of x) (map (args_to_inputs is) outs) o
 
   in_after : (front rest : NodeTrees) → after ≡ joined_nodes front rest → (n : ℕ) → has_node n front ≡ true → has_node n after ≡ true
-  in_after front rest w n h = ap (has_node n) w ∙ has_node-joined n front rest ∙ true_or (has_node n front) (has_node n rest) h
+  in_after front rest w n h = ap (has_node n) w ∙ has_node-joined n front rest ∙ or_left (has_node n front) (has_node n rest) h
 
   not_following : (front rest : NodeTrees) → after ≡ joined_nodes front rest → (n : ℕ) → has_node n front ≡ true → (n == id_of x) ≡ false
   not_following front rest w n h =
-      absent (n == id_of x)
+      false_from_ne_true (n == id_of x)
       (λ q.
       let wrong : true ≡ false = sym (in_after front rest w n h) ∙ ap (λ m. has_node m after) (same_number n (id_of x) q) ∙ s.at_after in
       absurd (cc))
@@ -222,25 +205,29 @@ module _ (objects : ℕ) (args : List Kind) (before : NodeTrees) (x : NodeTree) 
   kept_out : (n p : ℕ) → (n == id_of x) ≡ false → given (Out n p) ≡ Out n p
   kept_out n p q = ap (λ t. if t then unwrap_or (slice_get (map (args_to_inputs is) outs) p) (Out n p) else Out n p) q
 
-  kind_before : (front : NodeTrees) (n p : ℕ) → kind_after (joined_nodes before (node_then x front)) n p None ≡ kind_after front n p (if id_of x == n then joined (slice_get (output_kinds x) p) else kind_after before n p None)
+  kind_before : (front : NodeTrees) (n p : ℕ) → kind_after (joined_nodes before (node_then x front)) n p None ≡
+      kind_after front n p (if id_of x == n then joined (slice_get (output_kinds x) p) else kind_after before n p None)
   kind_before front n p = kind_after-joined before (node_then x front) n p None
 
   kind_following : (front : NodeTrees) (n p : ℕ) →
-      kind_after (joined_nodes before (joined_nodes (nodes_redirected (args_to_inputs is) replacement) (nodes_redirected given front))) n p None ≡ kind_after front n p (kind_after replacement n p (kind_after before n p None))
+      kind_after (joined_nodes before (joined_nodes (nodes_redirected (args_to_inputs is) replacement) (nodes_redirected given front))) n p None ≡
+          kind_after front n p (kind_after replacement n p (kind_after before n p None))
   kind_following front n p =
       kind_after-joined before (joined_nodes (nodes_redirected (args_to_inputs is) replacement) (nodes_redirected given front)) n p None
       ∙ kind_after-joined (nodes_redirected (args_to_inputs is) replacement) (nodes_redirected given front) n p (kind_after before n p None)
       ∙ kind_after-redirected given front n p (kind_after (nodes_redirected (args_to_inputs is) replacement) n p (kind_after before n p None))
       ∙ ap (kind_after front n p) (kind_after-redirected (args_to_inputs is) replacement n p (kind_after before n p None))
 
-  following_known : (front rest : NodeTrees) → after ≡ joined_nodes front rest → (o : Origin) (k : Kind) → known args (joined_nodes before (nodes_redirected (args_to_inputs is) replacement)) o ≡ Some k →
+  following_known : (front rest : NodeTrees) → after ≡ joined_nodes front rest → (o : Origin) (k : Kind) →
+      known args (joined_nodes before (nodes_redirected (args_to_inputs is) replacement)) o ≡ Some k →
       known args (joined_nodes before (joined_nodes (nodes_redirected (args_to_inputs is) replacement) (nodes_redirected given front))) o ≡ Some k
   following_known front rest w (Arg j) k e = e
   following_known front rest w (Out n p) k e =
       let stands : (has_node n before || has_node n replacement) ≡ true =
       sym (has_node-joined n before (nodes_redirected (args_to_inputs is) replacement) ∙ ap (λ b. has_node n before || b) (has_node-redirected (args_to_inputs is) n replacement))
       ∙ kind_known (joined_nodes before (nodes_redirected (args_to_inputs is) replacement)) n p k e in
-      kind_following front n p ∙ kind_absent front n p (kind_after replacement n p (kind_after before n p None)) (absent (has_node n front) (λ h. by_side (or_cases (has_node n before) (has_node n replacement) stands) (in_after front rest w n h)))
+      kind_following front n p ∙ kind_absent front n p (kind_after replacement n p (kind_after before n p None))
+          (false_from_ne_true (has_node n front) (λ h. by_side (or_cases (has_node n before) (has_node n replacement) stands) (in_after front rest w n h)))
       ∙ sym (kind_after-joined before (nodes_redirected (args_to_inputs is) replacement) n p None ∙ kind_after-redirected (args_to_inputs is) replacement n p (kind_after before n p None)) ∙ e
     where
       by_side : (has_node n before ≡ true) ⊎ (has_node n replacement ≡ true) → has_node n after ≡ true → ⊥
@@ -274,7 +261,7 @@ module _ (objects : ℕ) (args : List Kind) (before : NodeTrees) (x : NodeTree) 
           ∙ ap (λ t. if t then joined (slice_get (output_kinds x) p) else kind_after before n p None) (equal_back (id_of x) n ∙ q)) ∙ e in
           ap (known args (joined_nodes before (joined_nodes (nodes_redirected (args_to_inputs is) replacement) (nodes_redirected given front)))) (kept_out n p q)
           ∙ kind_following front n p ∙ kind_absent front n p (kind_after replacement n p (kind_after before n p None)) h
-          ∙ kind_absent replacement n p (kind_after before n p None) (absent (has_node n replacement) (λ b. s.replacement_before n b (kind_known before n p k earlier))) ∙ earlier
+          ∙ kind_absent replacement n p (kind_after before n p None) (false_from_ne_true (has_node n replacement) (λ b. s.replacement_before n b (kind_known before n p k earlier))) ∙ earlier
 
       by_front : (has_node n front ≡ true) ⊎ (has_node n front ≡ false) →
           known args (joined_nodes before (joined_nodes (nodes_redirected (args_to_inputs is) replacement) (nodes_redirected given front))) (given (Out n p)) ≡ Some k
@@ -303,15 +290,18 @@ module _ (objects : ℕ) (args : List Kind) (before : NodeTrees) (x : NodeTree) 
   own_fits : region_fits objects (region own replacement outs) ≡ true
   own_fits = first_true (region_fits objects (region own replacement outs)) (every_in_nodes (region_fits objects) replacement) s.inside
 
-  own_returns : (nodes_fit objects (region own replacement outs) && results_are_last (region own replacement outs) && returns_state Memory (region own replacement outs) && returns_state Io (region own replacement outs)) ≡ true
+  own_returns : (nodes_fit objects (region own replacement outs) && results_are_last (region own replacement outs) && returns_state Memory (region own replacement outs) && returns_state Io
+      (region own replacement outs)) ≡ true
   own_returns =
       first_true
-      (nodes_fit objects (region own replacement outs) && results_are_last (region own replacement outs) && returns_state Memory (region own replacement outs) && returns_state Io (region own replacement outs))
+      (nodes_fit objects (region own replacement outs) && results_are_last (region own replacement outs) && returns_state Memory (region own replacement outs) && returns_state Io
+          (region own replacement outs))
       (region_has_one_state_each (region own replacement outs)) own_fits
 
   own_memory : (nodes_fit objects (region own replacement outs) && results_are_last (region own replacement outs) && returns_state Memory (region own replacement outs)) ≡ true
   own_memory =
-      first_true (nodes_fit objects (region own replacement outs) && results_are_last (region own replacement outs) && returns_state Memory (region own replacement outs)) (returns_state Io (region own replacement outs)) own_returns
+      first_true (nodes_fit objects (region own replacement outs) && results_are_last (region own replacement outs) && returns_state Memory (region own replacement outs))
+          (returns_state Io (region own replacement outs)) own_returns
 
   own_last : (nodes_fit objects (region own replacement outs) && results_are_last (region own replacement outs)) ≡ true
   own_last = first_true (nodes_fit objects (region own replacement outs) && results_are_last (region own replacement outs)) (returns_state Memory (region own replacement outs)) own_memory
@@ -350,7 +340,7 @@ module _ (objects : ℕ) (args : List Kind) (before : NodeTrees) (x : NodeTree) 
           let same : Some (Out g.number g.port) ≡ Some (Out n p) = sym (g.from (origin_at Arg (last_index k 0 (map Some args) None) None)) ∙ e in
           let number : g.number ≡ n = cc in
           kept_out n p
-          (absent (n == id_of x)
+          (false_from_ne_true (n == id_of x)
           (λ q.
           let wrong : true ≡ false = sym g.has ∙ ap (λ m. has_node m before) (number ∙ same_number n (id_of x) q) ∙ s.at_before in
           absurd (cc)))
@@ -367,7 +357,8 @@ module _ (objects : ℕ) (args : List Kind) (before : NodeTrees) (x : NodeTree) 
           (last_gives k own replacement r.origin r.kind
           (all_at (is_last own replacement) outs p r.origin (second_true (nodes_fit objects (region own replacement outs)) (results_are_last (region own replacement outs)) own_last) r.given)))
         where
-          by_last : (k ≡ Value) ⊎ (last_state k args (joined_nodes before (nodes_redirected (args_to_inputs is) replacement)) ≡ Some (args_to_inputs is r.origin)) → (k ≡ Value) ⊎ (last_state k args (following front) ≡ Some (given o))
+          by_last : (k ≡ Value) ⊎ (last_state k args (joined_nodes before (nodes_redirected (args_to_inputs is) replacement)) ≡ Some (args_to_inputs is r.origin)) →
+              (k ≡ Value) ⊎ (last_state k args (following front) ≡ Some (given o))
           by_last (inl v) = inl v
           by_last (inr t) =
               inr (state_following front k ∙ kept.from (state_after k replacement (last_state k args before)) ∙ sym (replacement_state replacement k) ∙ t
@@ -428,24 +419,26 @@ module _ (objects : ℕ) (args : List Kind) (before : NodeTrees) (x : NodeTree) 
     where
       by_given : (k ≡ Value) ⊎ (some_of (is_of k) (output_kinds x) ≡ true) → (gives k before || (some_of (is_of k) (output_kinds x) || gives k after)) ≡ true
       by_given (inl w) = absurd (v w)
-      by_given (inr t) = or_true (gives k before) (some_of (is_of k) (output_kinds x) || gives k after) (true_or (some_of (is_of k) (output_kinds x)) (gives k after) t)
+      by_given (inr t) = or_right (gives k before) (some_of (is_of k) (output_kinds x) || gives k after) (or_left (some_of (is_of k) (output_kinds x)) (gives k after) t)
 
-      by_replacement : (gives k (nodes_redirected (args_to_inputs is) replacement) ≡ true) ⊎ (gives k (nodes_redirected given after) ≡ true) → (gives k before || (some_of (is_of k) (output_kinds x) || gives k after)) ≡ true
+      by_replacement : (gives k (nodes_redirected (args_to_inputs is) replacement) ≡ true) ⊎ (gives k (nodes_redirected given after) ≡ true) →
+          (gives k before || (some_of (is_of k) (output_kinds x) || gives k after)) ≡ true
       by_replacement (inl h) = by_given (gives_given k (sym (gives-redirected (args_to_inputs is) k replacement) ∙ h))
       by_replacement (inr h) =
-          or_true (gives k before) (some_of (is_of k) (output_kinds x) || gives k after) (or_true (some_of (is_of k) (output_kinds x)) (gives k after) (sym (gives-redirected given k after) ∙ h))
+          or_right (gives k before) (some_of (is_of k) (output_kinds x) || gives k after) (or_right (some_of (is_of k) (output_kinds x)) (gives k after) (sym (gives-redirected given k after) ∙ h))
 
       by_side : (gives k before ≡ true) ⊎ (gives k (joined_nodes (nodes_redirected (args_to_inputs is) replacement) (nodes_redirected given after)) ≡ true) →
           (gives k before || (some_of (is_of k) (output_kinds x) || gives k after)) ≡ true
-      by_side (inl h) = true_or (gives k before) (some_of (is_of k) (output_kinds x) || gives k after) h
+      by_side (inl h) = or_left (gives k before) (some_of (is_of k) (output_kinds x) || gives k after) h
       by_side (inr h) =
-          by_replacement (or_cases (gives k (nodes_redirected (args_to_inputs is) replacement)) (gives k (nodes_redirected given after)) (sym (gives-joined k (nodes_redirected (args_to_inputs is) replacement) (nodes_redirected given after)) ∙ h))
+          by_replacement (or_cases (gives k (nodes_redirected (args_to_inputs is) replacement)) (gives k (nodes_redirected given after))
+              (sym (gives-joined k (nodes_redirected (args_to_inputs is) replacement) (nodes_redirected given after)) ∙ h))
 
   returns_more : (k : Kind) (r : Bool) → (k ≡ Value → ⊥) → (not (gives k (joined_nodes before (node_then x after))) || r) ≡ true → (not (gives k (following after)) || r) ≡ true
   returns_more k r v e = by_gives (either (gives k (following after)))
     where
       by_gives : (gives k (following after) ≡ true) ⊎ (gives k (following after) ≡ false) → (not (gives k (following after)) || r) ≡ true
-      by_gives (inl g) = or_true (not (gives k (following after))) r (needed (gives k (joined_nodes before (node_then x after))) r e (gives_more k v g))
+      by_gives (inl g) = or_right (not (gives k (following after))) r (needed (gives k (joined_nodes before (node_then x after))) r e (gives_more k v g))
       by_gives (inr g) = ap (λ b. not b || r) g
 
   nest_more : every_in_nodes (region_fits objects) (joined_nodes before (node_then x after)) ≡ true → every_in_nodes (region_fits objects) (following after) ≡ true
@@ -488,10 +481,13 @@ replacement_kept objects args before x after own replacement outs is results s e
     let after_fit =
     second_true (fits (nodes_of before) x) (each_node fits (before ++ x ∷ []) after) (second_true (each_node fits [] (nodes_of before)) (each_node fits before (node_then x after)) split) in
     let own_fit =
-    first_true (nodes_fit objects (region own (nodes_of replacement) outs)) (results_are_last (region own (nodes_of replacement) outs)) (own_last objects args (nodes_of before) x after own (nodes_of replacement) outs is s) in
+    first_true (nodes_fit objects (region own (nodes_of replacement) outs)) (results_are_last (region own (nodes_of replacement) outs))
+        (own_last objects args (nodes_of before) x after own (nodes_of replacement) outs is s) in
     let replacement_fit : each_node fits before (nodes_redirected (args_to_inputs is) (nodes_of replacement)) ≡ true =
-    mapped_nodes_fit objects own args (args_to_inputs is) [] before (nodes_of replacement) (λ front rest w. replacement_map objects args (nodes_of before) x after own (nodes_of replacement) outs is s front rest w) own_fit in
-    let following_is : (ms : NodeTrees) → joined_nodes (nodes_of before) (joined_nodes (nodes_redirected (args_to_inputs is) (nodes_of replacement)) ms) ≡ joined_nodes (nodes_of (before ++ replacement_with_inputs)) ms =
+    mapped_nodes_fit objects own args (args_to_inputs is) [] before (nodes_of replacement) (λ front rest w. replacement_map objects args (nodes_of before) x after own (nodes_of replacement) outs
+        is s front rest w) own_fit in
+    let following_is : (ms : NodeTrees) → joined_nodes (nodes_of before) (joined_nodes (nodes_redirected (args_to_inputs is) (nodes_of replacement)) ms) ≡
+        joined_nodes (nodes_of (before ++ replacement_with_inputs)) ms =
     λ ms.
     sym (ap (λ ks. joined_nodes ks ms) (nodes_of-append before replacement_with_inputs) ∙ joined_assoc (nodes_of before) (nodes_of replacement_with_inputs) ms
     ∙ ap (λ ks. joined_nodes (nodes_of before) (joined_nodes ks ms)) (nodes_of-redirected (args_to_inputs is) replacement)) in
@@ -499,7 +495,8 @@ replacement_kept objects args before x after own replacement outs is results s e
     mapped_nodes_fit objects args args f (before ++ x ∷ []) (before ++ replacement_with_inputs) after
     (λ front rest w.
     subst (λ ks. ScopeMap args (joined_nodes (nodes_of (before ++ x ∷ [])) front) args ks f) (following_is (nodes_redirected f front))
-    (subst (λ ks. ScopeMap args ks args (joined_nodes (nodes_of before) (joined_nodes (nodes_redirected (args_to_inputs is) (nodes_of replacement)) (nodes_redirected f front))) f) (sym (joined_following before x front))
+    (subst (λ ks. ScopeMap args ks args (joined_nodes (nodes_of before) (joined_nodes (nodes_redirected (args_to_inputs is) (nodes_of replacement)) (nodes_redirected f front))) f)
+        (sym (joined_following before x front))
     (after_map objects args (nodes_of before) x after own (nodes_of replacement) outs is s front rest w)))
     after_fit in
     let all = mapped_all args ns args (joined_nodes (nodes_of before) (joined_nodes (nodes_redirected (args_to_inputs is) (nodes_of replacement)) (nodes_redirected f after))) f
@@ -507,7 +504,8 @@ replacement_kept objects args before x after own replacement outs is results s e
     let nodes_now : each_node fits [] (joined_nodes (nodes_of before) (joined_nodes (nodes_redirected (args_to_inputs is) (nodes_of replacement)) (nodes_redirected f after))) ≡ true =
     each_node-joined fits [] before (joined_nodes (nodes_redirected (args_to_inputs is) (nodes_of replacement)) (nodes_redirected f after))
     ∙ (λ i. front_fit i
-    && (ap (λ ks. each_node fits before (joined_nodes ks (nodes_redirected f after))) (sym (nodes_of-redirected (args_to_inputs is) replacement)) ∙ each_node-joined fits before replacement_with_inputs (nodes_redirected f after)
+    && (ap (λ ks. each_node fits before (joined_nodes ks (nodes_redirected f after))) (sym (nodes_of-redirected (args_to_inputs is) replacement))
+        ∙ each_node-joined fits before replacement_with_inputs (nodes_redirected f after)
     ∙ (λ j. (ap (each_node fits before) (nodes_of-redirected (args_to_inputs is) replacement) ∙ replacement_fit) j && moved_fit j)) i) in
     let memory_now = returns_more objects args (nodes_of before) x after own (nodes_of replacement) outs is s Memory (some_of (is_of Memory) (map (known args ns) results)) (λ v. absurd (cc)) memory in
     let io_now = returns_more objects args (nodes_of before) x after own (nodes_of replacement) outs is s Io (some_of (is_of Io) (map (known args ns) results)) (λ v. absurd (cc)) io in
@@ -537,7 +535,8 @@ region_spliced_kept objects at args nodes results own replacement outs is split 
     let kept =
     subst
     (λ b.
-    ReplacementFits objects args b split.here split.after own replacement outs is → every_region (region_fits objects) (region args (joined_nodes b (node_then split.here split.after)) results) ≡ true →
+    ReplacementFits objects args b split.here split.after own replacement outs is → every_region (region_fits objects) (region args (joined_nodes b (node_then split.here split.after)) results) ≡
+        true →
     RegionKept objects (region args (joined_nodes b (node_then split.here split.after)) results)
     (region args (joined_nodes b (joined_nodes P (nodes_redirected (outputs_to_results (id_of split.here) O) split.after))) (map (outputs_to_results (id_of split.here) O) results)))
     (nodes_of-list_of split.before)
@@ -552,7 +551,8 @@ region_spliced_kept objects at args nodes results own replacement outs is split 
     (replacement_kept objects args (list_of split.before) split.here split.after own (list_of replacement) outs is results)) in
     let same : region args (joined_nodes split.before (joined_nodes P (nodes_redirected (outputs_to_results (id_of split.here) O) split.after))) (map (outputs_to_results (id_of split.here) O) results)
     ≡ region args (nodes_spliced at P O nodes) (map (outputs_to_results at O) results) =
-    ap (λ n. region args (joined_nodes split.before (joined_nodes P (nodes_redirected (outputs_to_results n O) split.after))) (map (outputs_to_results n O) results)) (same_number (id_of split.here) at split.numbered)
+    ap (λ n. region args (joined_nodes split.before (joined_nodes P (nodes_redirected (outputs_to_results n O) split.after))) (map (outputs_to_results n O) results))
+        (same_number (id_of split.here) at split.numbered)
     ∙ ap (λ ns. region args ns (map (outputs_to_results at O) results)) (sym (split.spliced P O)) in
     subst (λ t. RegionKept objects t (region args (nodes_spliced at P O nodes) (map (outputs_to_results at O) results))) (ap (λ ns. region args ns results) (sym split.whole))
     (subst (λ t. RegionKept objects (region args (joined_nodes split.before (node_then split.here split.after)) results) t) same

@@ -55,10 +55,12 @@ apart_back p = cc
 
 mutual
   pub region_inj : (x y : RegionTree) → region_code x ≡ region_code y → x ≡ y
-  region_inj (region a n r) (region b m s) p = λ i. region (coded_kinds.inj a b (ap (λ g. head g) p) i) (nodes_inj n m (ap (λ g. head (tail g)) p) i) (coded_origins.inj r s (ap (λ g. tail (tail g)) p) i)
+  region_inj (region a n r) (region b m s) p = λ i. region (coded_kinds.inj a b (ap (λ g. head g) p) i) (nodes_inj n m (ap (λ g. head (tail g)) p) i)
+      (coded_origins.inj r s (ap (λ g. tail (tail g)) p) i)
 
   pub node_inj : (x y : NodeTree) → node_code x ≡ node_code y → x ≡ y
-  node_inj (node i o a r) (node j q b s) p = λ k. node (coded_ℕ.inj i j (ap (λ g. head g) p) k) (op.the_row.coded.inj o q (ap (λ g. head (tail g)) p) k) (coded_origins.inj a b (ap (λ g. head (tail (tail g))) p) k) (regions_inj r s (ap (λ g. tail (tail (tail g))) p) k)
+  node_inj (node i o a r) (node j q b s) p = λ k. node (coded_ℕ.inj i j (ap (λ g. head g) p) k) (op.the_row.coded.inj o q (ap (λ g. head (tail g)) p) k)
+      (coded_origins.inj a b (ap (λ g. head (tail (tail g))) p) k) (regions_inj r s (ap (λ g. tail (tail (tail g))) p) k)
 
   pub nodes_inj : (x y : NodeTrees) → nodes_code x ≡ nodes_code y → x ≡ y
   nodes_inj no_nodes no_nodes p = refl

@@ -4,6 +4,8 @@ use Rattle.std.specs.Prelude.{◌==◌, ◌&&◌, ◌||◌, slice_get, if◌then
 use Rattle.std.proofs.lemmas.Bool.Decides.{nat_tests}
 use Rattle.std.specs.declared.option.Option.{Option}
 use Rattle.std.specs.declared.option.Option.TheVariants.{Some, None}
+use Rattle.std.proofs.Math.Bool.{and_assoc, or_assoc}
+use Rattle.std.proofs.lemmas.Bool.{or_right}
 use Rattle.g_graph.specs.declared.op.Kind.{Kind}
 use Rattle.g_graph.specs.declared.op.Kind.TheVariants.{Value, Memory, Io}
 use Rattle.g_graph.specs.declared.op.Origin.{Origin}
@@ -14,7 +16,6 @@ use Rattle.g_graph.specs.Scope.{same_kind, is_of, same_origin, known, last_index
 use Rattle.g_graph.specs.Change.{has_node}
 use Rattle.g_graph.specs.WellFormed.{some_of, gives, is_origin, is_last_of, is_last}
 use Rattle.g_graph.specs.Splice.{joined_nodes}
-use Rattle.g_graph.proofs.lemmas.Splices.{and_assoc, or_assoc}
 use Rattle.g_graph.proofs.lemmas.Moved.{same_origin_true}
 
 pub either : (b : Bool) → (b ≡ true) ⊎ (b ≡ false)
@@ -47,7 +48,7 @@ is_of_true k (Some j) e = ap Some (sym (same_kind_true k j e))
 
 pub has_node-joined : (n : ℕ) (xs ys : NodeTrees) → has_node n (joined_nodes xs ys) ≡ (has_node n xs || has_node n ys)
 has_node-joined n no_nodes ys = refl
-has_node-joined n (node_then x xs) ys = ap (λ b. (id_of x == n) || b) (has_node-joined n xs ys) ∙ or_assoc (id_of x == n) (has_node n xs) (has_node n ys)
+has_node-joined n (node_then x xs) ys = ap (λ b. (id_of x == n) || b) (has_node-joined n xs ys) ∙ sym (or_assoc (id_of x == n) (has_node n xs) (has_node n ys))
 
 pub kind_absent : (xs : NodeTrees) (n p : ℕ) (found : Option Kind) → has_node n xs ≡ false → kind_after xs n p found ≡ found
 kind_absent no_nodes n p found e = refl
@@ -150,10 +151,6 @@ pub record KeepsState (k : Kind) (xs : NodeTrees) : Type 0 where
   pub from : (found : Option Origin) → state_after k xs found ≡ found
   pub given : gives k xs ≡ false
 
-or_true : (a b : Bool) → b ≡ true → (a || b) ≡ true
-or_true true b e = refl
-or_true false b e = e
-
 pub state_cases : (k : Kind) (xs : NodeTrees) → GivesState k xs ⊎ KeepsState k xs
 state_cases k no_nodes = inr (record { from = λ found. refl; given = refl })
 state_cases k (node_then x xs) = by_rest (state_cases k xs)
@@ -178,9 +175,9 @@ state_cases k (node_then x xs) = by_rest (state_cases k xs)
     by_rest (inl g) = inl (record {
       number = g.number;
       port = g.port;
-      has = or_true (id_of x == g.number) (has_node g.number xs) g.has;
+      has = or_right (id_of x == g.number) (has_node g.number xs) g.has;
       from = λ found. g.from (origin_at (λ p. Out (id_of x) p) (last_index k 0 (output_kinds x) None) found);
-      given = or_true (some_of (is_of k) (output_kinds x)) (gives k xs) g.given;
+      given = or_right (some_of (is_of k) (output_kinds x)) (gives k xs) g.given;
     })
     by_rest (inr r) = by_index (last_index k 0 (output_kinds x) None) refl r
 
@@ -210,4 +207,4 @@ pub each_node-joined : (test : NodeTrees → NodeTree → Bool) (bs fs : List No
 each_node-joined test bs [] rest = ap (λ xs. each_node test xs rest) (sym (append-nil bs))
 each_node-joined test bs (x ∷ fs) rest =
     ap (λ b. test (nodes_of bs) x && b) (each_node-joined test (bs ++ x ∷ []) fs rest ∙ ap (λ xs. each_node test (bs ++ x ∷ []) (nodes_of fs) && each_node test xs rest) (append_assoc bs (x ∷ []) fs))
-    ∙ and_assoc (test (nodes_of bs) x) (each_node test (bs ++ x ∷ []) (nodes_of fs)) (each_node test (bs ++ (x ∷ fs)) rest)
+    ∙ sym (and_assoc (test (nodes_of bs) x) (each_node test (bs ++ x ∷ []) (nodes_of fs)) (each_node test (bs ++ (x ∷ fs)) rest))

@@ -1,7 +1,6 @@
 -- A region stays well formed where the uses of one value become uses of another that is known wherever the first is.
-use Rattle.std.proofs.Common.{◌≡◌, ℕ, ◌⊎◌, inl, inr, Bool, true, false, ◌&&◌, List, [], map, refl, sym, ap, ◌∙◌, arith}
+use Rattle.std.proofs.Common.{◌≡◌, ℕ, ◌⊎◌, inl, inr, Bool, true, false, ◌&&◌, List, [], map, refl, sym, ap, ◌∙◌}
 use Rattle.std.specs.Prelude.{◌==◌, ◌||◌, not, if◌then◌else◌}
-use Rattle.std.proofs.lemmas.Bool.Decides.{nat_tests}
 use Rattle.std.specs.declared.option.Option.TheVariants.{Some, None}
 use Rattle.g_graph.specs.declared.op.Kind.{Kind}
 use Rattle.g_graph.specs.declared.op.Kind.TheVariants.{Value, Memory, Io}
@@ -13,12 +12,9 @@ use Rattle.g_graph.specs.WellFormed.{all_of, some_of, one_state_each, is_last_of
 use Rattle.g_graph.specs.Replace.{nodes_redirected, region_redirected, origin_replaced}
 use Rattle.g_graph.specs.Splice.{joined_nodes}
 use Rattle.g_graph.proofs.lemmas.Redirects.{kind_after-redirected, state_after-redirected, gives-redirected, every_in_nodes-redirected}
-use Rattle.g_graph.proofs.lemmas.Unique.{first_true, second_true}
+use Rattle.g_graph.proofs.lemmas.Unique.{same_number, first_true, second_true}
 use Rattle.g_graph.proofs.NestLemmas.{SameScope, known_same, last_same, RegionKept}
 use Rattle.g_graph.proofs.ScopeMaps.{ScopeMap, mapped_all, mapped_nodes_fit, joined_none}
-
-same_number : (j k : ℕ) → (j == k) ≡ true → j ≡ k
-same_number j k e = grind (arith, nat_tests)
 
 pub same_origin_true : (a b : Origin) → same_origin a b ≡ true → a ≡ b
 same_origin_true (Arg j) (Arg k) e = ap Arg (same_number j k e)
@@ -67,7 +63,8 @@ moved_kept objects from to args nodes results v e =
     let to_last = first_true (nodes_fit objects r && results_are_last r) (returns_state Memory r) to_memory in
     let fit = first_true (nodes_fit objects r) (results_are_last r) to_last in
     let last : all_of (is_last args nodes) results ≡ true = second_true (nodes_fit objects r) (results_are_last r) to_last in
-    let all = mapped_all args nodes args (nodes_redirected (origin_replaced from to) nodes) (origin_replaced from to) (moved_scope args nodes nodes no_nodes from to v (sym (joined_none nodes))) results last in
+    let all = mapped_all args nodes args (nodes_redirected (origin_replaced from to) nodes) (origin_replaced from to) (moved_scope args nodes nodes no_nodes from to v (sym (joined_none nodes)))
+        results last in
     let moved_fit = mapped_nodes_fit objects args args (origin_replaced from to) [] [] nodes (λ front rest w. moved_scope args nodes front rest from to v w) fit in
     let same : region_fits objects (region_redirected (origin_replaced from to) r) ≡ region_fits objects r =
     λ i.

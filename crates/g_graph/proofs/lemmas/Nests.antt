@@ -71,7 +71,8 @@ mutual
           subst (λ t. Exchanged objects f (nodes_ids nodes) (region_ids t)) same (h ms b)
       by_cases None None a b c h = absurd (cc)
 
-  node_changed_ids : (objects : ℕ) (f : RegionTree → Option RegionTree) (x y : NodeTree) → node_changed f x ≡ Some y → every_in_node (region_fits objects) x ≡ true → Exchanged objects f (node_ids x) (node_ids y)
+  node_changed_ids : (objects : ℕ) (f : RegionTree → Option RegionTree) (x y : NodeTree) → node_changed f x ≡ Some y → every_in_node (region_fits objects) x ≡ true →
+      Exchanged objects f (node_ids x) (node_ids y)
   node_changed_ids objects f (node id op inputs rs) y e own = by_cases (regions_changed f rs) refl e (λ ss q. regions_changed_ids objects f rs ss q own)
     where
       by_cases : (o : Option RegionTrees) → regions_changed f rs ≡ o → option_map (λ ss. node id op inputs ss) o ≡ Some y →
@@ -81,7 +82,8 @@ mutual
           subst (λ t. Exchanged objects f (id ∷ regions_ids rs) (node_ids t)) same (following objects f (id ∷ []) (regions_ids rs) (regions_ids ss) (h ss a))
       by_cases None a c h = absurd (cc)
 
-  nodes_changed_ids : (objects : ℕ) (f : RegionTree → Option RegionTree) (ns ms : NodeTrees) → nodes_changed f ns ≡ Some ms → every_in_nodes (region_fits objects) ns ≡ true → Exchanged objects f (nodes_ids ns) (nodes_ids ms)
+  nodes_changed_ids : (objects : ℕ) (f : RegionTree → Option RegionTree) (ns ms : NodeTrees) → nodes_changed f ns ≡ Some ms → every_in_nodes (region_fits objects) ns ≡ true →
+      Exchanged objects f (nodes_ids ns) (nodes_ids ms)
   nodes_changed_ids objects f no_nodes ms e own = absurd (cc)
   nodes_changed_ids objects f (node_then x xs) ms e own =
       by_cases (node_changed f x) (nodes_changed f xs) refl refl e
@@ -90,7 +92,8 @@ mutual
     where
       by_cases : (o : Option NodeTree) (p : Option NodeTrees) → node_changed f x ≡ o → nodes_changed f xs ≡ p →
           first_some (option_map (λ y. node_then y xs) o) (option_map (λ ys. node_then x ys) p) ≡ Some ms →
-          ((y : NodeTree) → node_changed f x ≡ Some y → Exchanged objects f (node_ids x) (node_ids y)) → ((ys : NodeTrees) → nodes_changed f xs ≡ Some ys → Exchanged objects f (nodes_ids xs) (nodes_ids ys)) →
+          ((y : NodeTree) → node_changed f x ≡ Some y → Exchanged objects f (node_ids x) (node_ids y)) →
+              ((ys : NodeTrees) → nodes_changed f xs ≡ Some ys → Exchanged objects f (nodes_ids xs) (nodes_ids ys)) →
           Exchanged objects f (node_ids x ++ nodes_ids xs) (nodes_ids ms)
       by_cases (Some y) p a b c h g =
           let same : node_then y xs ≡ ms = cc in
@@ -100,7 +103,8 @@ mutual
           subst (λ t. Exchanged objects f (node_ids x ++ nodes_ids xs) (nodes_ids t)) same (following objects f (node_ids x) (nodes_ids xs) (nodes_ids ys) (g ys b))
       by_cases None None a b c h g = absurd (cc)
 
-  regions_changed_ids : (objects : ℕ) (f : RegionTree → Option RegionTree) (rs ss : RegionTrees) → regions_changed f rs ≡ Some ss → every_in_regions (region_fits objects) rs ≡ true → Exchanged objects f (regions_ids rs) (regions_ids ss)
+  regions_changed_ids : (objects : ℕ) (f : RegionTree → Option RegionTree) (rs ss : RegionTrees) → regions_changed f rs ≡ Some ss → every_in_regions (region_fits objects) rs ≡ true →
+      Exchanged objects f (regions_ids rs) (regions_ids ss)
   regions_changed_ids objects f no_regions ss e own = absurd (cc)
   regions_changed_ids objects f (region_then r rs) ss e own =
       by_cases (region_changed f r) (regions_changed f rs) refl refl e
@@ -135,7 +139,8 @@ exchanged_counts objects f is js e n =
     )
 
 -- a test of all numbers holds where it held, and of the region's new ones
-pub exchanged_all : (objects : ℕ) (f : RegionTree → Option RegionTree) (is js : List ℕ) (test : ℕ → Bool) (e : Exchanged objects f is js) → all_of test is ≡ true → all_of test (region_ids e.new) ≡ true →
+pub exchanged_all : (objects : ℕ) (f : RegionTree → Option RegionTree) (is js : List ℕ) (test : ℕ → Bool) (e : Exchanged objects f is js) → all_of test is ≡ true →
+    all_of test (region_ids e.new) ≡ true →
     all_of test js ≡ true
 exchanged_all objects f is js test e all new =
     let whole : (all_of test (e.before ++ region_ids e.old) && all_of test e.after) ≡ true = sym (all_of_append test (e.before ++ region_ids e.old) e.after) ∙ ap (all_of test) (sym e.old_ids) ∙ all in
@@ -167,7 +172,8 @@ changed_well_formed f l s next k e w numbers =
 
 -- It stays well formed, with the same next number, where the changed region has no numbers but those that it had.
 pub changed_well_formed_within : (f : RegionTree → Option RegionTree) (l : PlainLambda) (s : RegionTree) → KeepsRegion (length l.objects) l.next f →
-    ((r t : RegionTree) → f r ≡ Some t → every_region (region_fits (length l.objects)) r ≡ true → Numbered l.next (region_ids r) → (n : ℕ) → count_by (λ m. m == n) (region_ids t) ≤ count_by (λ m. m == n) (region_ids r)) →
+    ((r t : RegionTree) → f r ≡ Some t → every_region (region_fits (length l.objects)) r ≡ true → Numbered l.next (region_ids r) → (n : ℕ) →
+        count_by (λ m. m == n) (region_ids t) ≤ count_by (λ m. m == n) (region_ids r)) →
     region_changed f l.body ≡ Some s → well_formed l ≡ true → well_formed (record l { body = s }) ≡ true
 changed_well_formed_within f l s k fewer e w =
     let nest = every_region (region_fits (length l.objects)) l.body in

@@ -1,6 +1,7 @@
 -- A node of a region that fits, and changes there that keep the region well formed and add no numbers.
 use Rattle.std.proofs.Common.{◌≡◌, ◌≤◌, ◌+◌, ◌⊎◌, inl, inr, ℕ, ◌==◌, Bool, true, false, ◌&&◌, ◌||◌, List, [], ◌∷◌, ◌++◌, map, Option, None, Some, refl, sym, ap, ◌∙◌, arith}
 use Rattle.std.specs.Prelude.{if◌then◌else◌, slice_get}
+use Rattle.std.proofs.lemmas.Bool.{false_from_ne_true, or_parts, or_left}
 use Rattle.g_graph.specs.declared.op.Kind.{Kind}
 use Rattle.g_graph.specs.declared.op.Kind.TheVariants.{Value, Memory, Io}
 use Rattle.g_graph.specs.declared.op.Origin.{Origin}
@@ -24,10 +25,6 @@ use Rattle.g_graph.proofs.NestLemmas.{RegionKept}
 use Rattle.g_graph.proofs.SpliceKept.{ReplacementFits, region_spliced_kept}
 
 -- ---- numbers
-
-absent : (b : Bool) → (b ≡ true → ⊥) → b ≡ false
-absent true h = absurd (h refl)
-absent false h = refl
 
 -- a number that a node has stands among the numbers
 pub has_times : (m : ℕ) (ns : NodeTrees) → has_node m ns ≡ true → 1 ≤ times m (nodes_ids ns)
@@ -108,8 +105,10 @@ node_fits_here objects next args before x after results e numbers =
     (inputs_fit args before x && inputs_are_last args before x && node_has_one_state_each args before x && has_its_regions x && regions_fit x && theta_has_states x && has_its_width x)
     (has_its_object objects x) fit in
     let to_theta =
-    first_true (inputs_fit args before x && inputs_are_last args before x && node_has_one_state_each args before x && has_its_regions x && regions_fit x && theta_has_states x) (has_its_width x) to_width in
-    let to_regions = first_true (inputs_fit args before x && inputs_are_last args before x && node_has_one_state_each args before x && has_its_regions x && regions_fit x) (theta_has_states x) to_theta in
+    first_true (inputs_fit args before x && inputs_are_last args before x && node_has_one_state_each args before x && has_its_regions x && regions_fit x && theta_has_states x) (has_its_width x)
+        to_width in
+    let to_regions = first_true (inputs_fit args before x && inputs_are_last args before x && node_has_one_state_each args before x && has_its_regions x && regions_fit x) (theta_has_states x)
+        to_theta in
     let to_shape = first_true (inputs_fit args before x && inputs_are_last args before x && node_has_one_state_each args before x && has_its_regions x) (regions_fit x) to_regions in
     let to_states = first_true (inputs_fit args before x && inputs_are_last args before x && node_has_one_state_each args before x) (has_its_regions x) to_shape in
     let to_both = first_true (inputs_fit args before x && inputs_are_last args before x) (node_has_one_state_each args before x) to_states in
@@ -148,8 +147,8 @@ replacement_fits objects args before x after own nodes outs is here g = record {
   replacement_before = λ m a b. omega (arith, has_times m nodes a, has_times m before b, g.ids m, here.once m);
   replacement_after = λ m a b. omega (arith, has_times m nodes a, has_times m after b, g.ids m, here.once m);
   before_after = λ m a b. omega (arith, has_times m before a, has_times m after b, here.once m);
-  at_before = absent (has_node (id_of x) before) (λ h. omega (arith, has_times (id_of x) before h, own_times x, here.once (id_of x)));
-  at_after = absent (has_node (id_of x) after) (λ h. omega (arith, has_times (id_of x) after h, own_times x, here.once (id_of x)));
+  at_before = false_from_ne_true (has_node (id_of x) before) (λ h. omega (arith, has_times (id_of x) before h, own_times x, here.once (id_of x)));
+  at_after = false_from_ne_true (has_node (id_of x) after) (λ h. omega (arith, has_times (id_of x) after h, own_times x, here.once (id_of x)));
 }
 
 pub replacement_keeps : (objects n : ℕ) (args : List Kind) (ns : NodeTrees) (results : List Origin) (split : Split n ns) (own : List Kind) (nodes : NodeTrees) (outs is : List Origin) →
@@ -182,14 +181,6 @@ replacement_keeps objects n args ns results split own nodes outs is e here g =
 
 -- ---- another value for the uses of the node
 
-or_first : (a b : Bool) → (a || b) ≡ false → a ≡ false
-or_first true b e = absurd (cc)
-or_first false b e = refl
-
-or_second : (a b : Bool) → (a || b) ≡ false → b ≡ false
-or_second true b e = absurd (cc)
-or_second false b e = e
-
 or_rest : (a b : Bool) → a ≡ false → (a || b) ≡ true → b ≡ true
 or_rest true b e h = absurd (cc)
 or_rest false b e h = h
@@ -210,16 +201,13 @@ reached n no_nodes x after (node_then y front) rest e b h =
 reached n (node_then z before) x after (node_then y front) rest e b h =
     let first : z ≡ y = cc in
     let more : joined_nodes before (node_then x after) ≡ joined_nodes front rest = cc in
-    let r = reached n before x after front rest more (or_second (id_of z == n) (has_node n before) b) (or_rest (id_of y == n) (has_node n front) (ap (λ t. id_of t == n) (sym first) ∙ or_first (id_of z == n) (has_node n before) b) h) in
+    let r = reached n before x after front rest more (or_parts (id_of z == n) (has_node n before) b).1 (or_rest (id_of y == n) (has_node n front) (ap (λ t. id_of t == n) (sym first)
+        ∙ (or_parts (id_of z == n) (has_node n before) b).0) h) in
     record { between = r.between; front_is = (λ i. node_then (sym first i) (r.front_is i)); after_is = r.after_is }
 
 more_node : (m : ℕ) (x : NodeTree) (between rest after : NodeTrees) → after ≡ joined_nodes between rest → has_node m (node_then x between) ≡ true → has_node m (node_then x after) ≡ true
 more_node m x between rest after e h =
-    ap (λ ns. has_node m (node_then x ns)) e ∙ has_node-joined m (node_then x between) rest ∙ left_or (has_node m (node_then x between)) (has_node m rest) h
-  where
-    left_or : (a b : Bool) → a ≡ true → (a || b) ≡ true
-    left_or true b e = refl
-    left_or false b e = absurd (cc)
+    ap (λ ns. has_node m (node_then x ns)) e ∙ has_node-joined m (node_then x between) rest ∙ or_left (has_node m (node_then x between)) (has_node m rest) h
 
 -- after nodes that know the one, the first output of the node, both are values
 pub value_for : (objects n : ℕ) (args : List Kind) (before : NodeTrees) (x : NodeTree) (after : NodeTrees) → NodeFits objects args before x after → id_of x ≡ n → output_kinds x ≡ Some Value ∷ [] →
@@ -227,12 +215,13 @@ pub value_for : (objects n : ℕ) (args : List Kind) (before : NodeTrees) (x : N
 value_for objects n args before x after here number gives_value b value = record { after = λ front rest w. by_front front rest w (either (has_node n front)) }
   where
     not_before : has_node n before ≡ false
-    not_before = absent (has_node n before) (λ h. omega (arith, has_times n before h, ap (λ k. times k (node_ids x)) number, own_times x, here.once n))
+    not_before = false_from_ne_true (has_node n before) (λ h. omega (arith, has_times n before h, ap (λ k. times k (node_ids x)) number, own_times x, here.once n))
 
     apart_own : (between rest : NodeTrees) → after ≡ joined_nodes between rest → has_node n between ≡ false
     apart_own between rest q =
-        absent (has_node n between)
-        (λ h. omega (arith, has_times n between h, ap (λ ns. times n (nodes_ids ns)) q, ap (times n) (nodes_ids-joined between rest), times_append n (nodes_ids between) (nodes_ids rest), ap (λ k. times k (node_ids x)) number, own_times x, here.once n))
+        false_from_ne_true (has_node n between)
+        (λ h. omega (arith, has_times n between h, ap (λ ns. times n (nodes_ids ns)) q, ap (times n) (nodes_ids-joined between rest), times_append n (nodes_ids between) (nodes_ids rest), ap
+            (λ k. times k (node_ids x)) number, own_times x, here.once n))
 
     own_value : (between rest : NodeTrees) → after ≡ joined_nodes between rest → known args (joined_nodes before (node_then x between)) (Out n 0) ≡ Some Value
     own_value between rest q =
@@ -241,12 +230,13 @@ value_for objects n args before x after here number gives_value b value = record
         ∙ ap (λ t. if t then joined (slice_get (output_kinds x) 0) else kind_after before n 0 None) (ap (λ k. k == n) number ∙ same_number_true n)
         ∙ ap (λ ks. joined (slice_get ks 0)) gives_value
 
-    other_value : (between rest : NodeTrees) → after ≡ joined_nodes between rest → (o : Origin) → known args before o ≡ Some Value → known args (joined_nodes before (node_then x between)) o ≡ Some Value
+    other_value : (between rest : NodeTrees) → after ≡ joined_nodes between rest → (o : Origin) → known args before o ≡ Some Value →
+        known args (joined_nodes before (node_then x between)) o ≡ Some Value
     other_value between rest q (Arg k) v = v
     other_value between rest q (Out m p) v =
         kind_after-joined before (node_then x between) m p None
         ∙ kind_absent (node_then x between) m p (kind_after before m p None)
-        (absent (has_node m (node_then x between))
+        (false_from_ne_true (has_node m (node_then x between))
         (λ h.
         omega (
           arith,

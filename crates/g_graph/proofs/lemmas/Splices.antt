@@ -3,6 +3,8 @@ use Rattle.std.proofs.Common.{◌≡◌, ◌<◌, ◌≤◌, ◌+◌, ℕ, zero,
 use Rattle.std.specs.Prelude.{◌==◌, ◌&&◌, ◌||◌, slice_get, if◌then◌else◌}
 use Rattle.std.specs.declared.option.Option.{Option}
 use Rattle.std.specs.declared.option.Option.TheVariants.{Some, None}
+use Rattle.std.proofs.Math.Bool.{and_assoc, or_assoc}
+use Rattle.std.proofs.lemmas.Option.{same_Some}
 use Rattle.g_graph.specs.declared.op.Origin.{Origin}
 use Rattle.g_graph.specs.declared.op.Origin.TheVariants.{Out}
 use Rattle.g_graph.specs.declared.op.Kind.{Kind}
@@ -30,15 +32,12 @@ nodes_spliced_none at first replacement outputs (node_then x xs) e = by_test (id
     by_test true e h = absurd (cc)
     by_test false e h = ap (λ ys. node_then x ys) (h e)
 
-some_same : (a b : ℕ) → Some a ≡ Some b → a ≡ b
-some_same a b e = cc
-
 pub node_index_least : (at first k : ℕ) (xs : NodeTrees) → node_index at first xs ≡ Some k → first ≤ k
 node_index_least at first k no_nodes e = absurd (cc)
 node_index_least at first k (node_then x xs) e = by_test (id_of x == at) e (node_index_least at (suc first) k xs)
   where
     by_test : (t : Bool) → (if t then Some first else node_index at (suc first) xs) ≡ Some k → (node_index at (suc first) xs ≡ Some k → suc first ≤ k) → first ≤ k
-    by_test true e h = omega (arith, some_same first k e)
+    by_test true e h = omega (arith, same_Some first k e)
     by_test false e h = omega (arith, h e)
 
 node_index_within : (at first p : ℕ) (xs : List NodeTree) → node_index at first (nodes_of xs) ≡ Some (first + p) → p < length xs
@@ -48,7 +47,7 @@ node_index_within at first (suc p) (x ∷ xs) e = by_test (id_of x == at) e (nod
   where
     by_test : (t : Bool) → (if t then Some first else node_index at (suc first) (nodes_of xs)) ≡ Some (first + suc p) →
         (node_index at (suc first) (nodes_of xs) ≡ Some (suc first + p) → p < length xs) → suc p < suc (length xs)
-    by_test true e h = absurd (omega (arith, some_same first (first + suc p) e))
+    by_test true e h = absurd (omega (arith, same_Some first (first + suc p) e))
     by_test false e h = omega (arith, h (e ∙ ap Some (omega arith)))
 
 nodes_spliced_suc : (at first p : ℕ) (replacement : List NodeTree) (outputs : List Origin) (xs : List NodeTree) → node_index at first (nodes_of xs) ≡ Some (first + p) →
@@ -57,18 +56,21 @@ nodes_spliced_suc at first p replacement outputs [] e = absurd (cc)
 nodes_spliced_suc at first zero replacement outputs (x ∷ xs) e = by_test (id_of x == at) e
   where
     by_test : (t : Bool) → (if t then Some first else node_index at (suc first) (nodes_of xs)) ≡ Some (first + 0) →
-        (if t then joined_nodes (nodes_of replacement) (nodes_redirected (outputs_to_results at outputs) (nodes_of xs)) else node_then x (nodes_spliced at (nodes_of replacement) outputs (nodes_of xs)))
+        (if t then joined_nodes (nodes_of replacement) (nodes_redirected (outputs_to_results at outputs) (nodes_of xs)) else node_then x
+            (nodes_spliced at (nodes_of replacement) outputs (nodes_of xs)))
         ≡ nodes_of (replacement ++ map (node_redirected (outputs_to_results at outputs)) xs)
-    by_test true e = sym (nodes_of-append replacement (map (node_redirected (outputs_to_results at outputs)) xs) ∙ ap (joined_nodes (nodes_of replacement)) (nodes_of-redirected (outputs_to_results at outputs) xs))
+    by_test true e = sym (nodes_of-append replacement (map (node_redirected (outputs_to_results at outputs)) xs)
+        ∙ ap (joined_nodes (nodes_of replacement)) (nodes_of-redirected (outputs_to_results at outputs) xs))
     by_test false e = absurd (omega (arith, node_index_least at (suc first) (first + 0) (nodes_of xs) e))
 nodes_spliced_suc at first (suc p) replacement outputs (x ∷ xs) e = by_test (id_of x == at) e (nodes_spliced_suc at (suc first) p replacement outputs xs)
   where
     by_test : (t : Bool) → (if t then Some first else node_index at (suc first) (nodes_of xs)) ≡ Some (first + suc p) →
         (node_index at (suc first) (nodes_of xs) ≡ Some (suc first + p) →
         nodes_spliced at (nodes_of replacement) outputs (nodes_of xs) ≡ nodes_of ((take p xs ++ replacement) ++ map (node_redirected (outputs_to_results at outputs)) (drop (suc p) xs))) →
-        (if t then joined_nodes (nodes_of replacement) (nodes_redirected (outputs_to_results at outputs) (nodes_of xs)) else node_then x (nodes_spliced at (nodes_of replacement) outputs (nodes_of xs)))
+        (if t then joined_nodes (nodes_of replacement) (nodes_redirected (outputs_to_results at outputs) (nodes_of xs)) else node_then x
+            (nodes_spliced at (nodes_of replacement) outputs (nodes_of xs)))
         ≡ node_then x (nodes_of ((take p xs ++ replacement) ++ map (node_redirected (outputs_to_results at outputs)) (drop (suc p) xs)))
-    by_test true e h = absurd (omega (arith, some_same first (first + suc p) e))
+    by_test true e h = absurd (omega (arith, same_Some first (first + suc p) e))
     by_test false e h = ap (λ ys. node_then x ys) (h (e ∙ ap Some (omega arith)))
 
 pub nodes_spliced_at : (at p : ℕ) (replacement : List NodeTree) (outputs : List Origin) (xs : List NodeTree) → node_index at 0 (nodes_of xs) ≡ Some p →
@@ -96,7 +98,8 @@ pub record Split (at : ℕ) (ns : NodeTrees) : Type 0 where
   pub numbered : (id_of here == at) ≡ true
   pub none_before : has_node at before ≡ false
   pub whole : ns ≡ joined_nodes before (node_then here after)
-  pub spliced : (replacement : NodeTrees) (outputs : List Origin) → nodes_spliced at replacement outputs ns ≡ joined_nodes before (joined_nodes replacement (nodes_redirected (outputs_to_results at outputs) after))
+  pub spliced : (replacement : NodeTrees) (outputs : List Origin) → nodes_spliced at replacement outputs ns ≡
+      joined_nodes before (joined_nodes replacement (nodes_redirected (outputs_to_results at outputs) after))
 
 -- the replacement stands instead of the first node of its number
 pub split_at : (at : ℕ) (ns : NodeTrees) → has_node at ns ≡ true → Split at ns
@@ -147,20 +150,12 @@ pub state_after-joined : (k : Kind) (xs ys : NodeTrees) (found : Option Origin) 
 state_after-joined k no_nodes ys found = refl
 state_after-joined k (node_then x xs) ys found = state_after-joined k xs ys (origin_at (λ p. Out (id_of x) p) (last_index k 0 (output_kinds x) None) found)
 
-pub or_assoc : (a b c : Bool) → (a || (b || c)) ≡ ((a || b) || c)
-or_assoc true b c = refl
-or_assoc false b c = refl
-
-pub and_assoc : (a b c : Bool) → (a && (b && c)) ≡ ((a && b) && c)
-and_assoc true b c = refl
-and_assoc false b c = refl
-
 pub gives-joined : (k : Kind) (xs ys : NodeTrees) → gives k (joined_nodes xs ys) ≡ (gives k xs || gives k ys)
 gives-joined k no_nodes ys = refl
 gives-joined k (node_then x xs) ys =
-    ap (λ b. some_of (is_of k) (output_kinds x) || b) (gives-joined k xs ys) ∙ or_assoc (some_of (is_of k) (output_kinds x)) (gives k xs) (gives k ys)
+    ap (λ b. some_of (is_of k) (output_kinds x) || b) (gives-joined k xs ys) ∙ sym (or_assoc (some_of (is_of k) (output_kinds x)) (gives k xs) (gives k ys))
 
 pub every_in_nodes-joined : (test : RegionTree → Bool) (xs ys : NodeTrees) → every_in_nodes test (joined_nodes xs ys) ≡ (every_in_nodes test xs && every_in_nodes test ys)
 every_in_nodes-joined test no_nodes ys = refl
 every_in_nodes-joined test (node_then x xs) ys =
-    ap (λ b. every_in_node test x && b) (every_in_nodes-joined test xs ys) ∙ and_assoc (every_in_node test x) (every_in_nodes test xs) (every_in_nodes test ys)
+    ap (λ b. every_in_node test x && b) (every_in_nodes-joined test xs ys) ∙ sym (and_assoc (every_in_node test x) (every_in_nodes test xs) (every_in_nodes test ys))

@@ -4,16 +4,13 @@ use Rattle.std.proofs.Math.Dec.{eqb-suc-zero, eqb-suc-suc}
 use Rattle.std.specs.Prelude.{◌==◌, nat_lt, not, count_by, if◌then◌else◌}
 use Rattle.std.proofs.lemmas.List.Sums.{sum_by-cons, sum_by-append}
 use Rattle.std.proofs.lemmas.Bool.Decides.{nat_tests}
+use Rattle.std.proofs.Math.Bool.{and_assoc}
 use Rattle.g_graph.specs.Count.{saturated}
 use Rattle.g_graph.specs.WellFormed.{all_of, some_of, distinct}
 
-and_assoc : (a b c : Bool) → (a && (b && c)) ≡ ((a && b) && c)
-and_assoc true b c = refl
-and_assoc false b c = refl
-
 pub all_of_append : {X : Type 0} (test : X → Bool) (xs ys : List X) → all_of test (xs ++ ys) ≡ (all_of test xs && all_of test ys)
 all_of_append test [] ys = refl
-all_of_append test (x ∷ xs) ys = ap (λ b. test x && b) (all_of_append test xs ys) ∙ and_assoc (test x) (all_of test xs) (all_of test ys)
+all_of_append test (x ∷ xs) ys = ap (λ b. test x && b) (all_of_append test xs ys) ∙ sym (and_assoc (test x) (all_of test xs) (all_of test ys))
 
 abbrev pub times : ℕ → List ℕ → ℕ
 times n ns = count_by (λ m. m == n) ns
@@ -24,7 +21,10 @@ times_append n xs ys = sum_by-append (λ m. if m == n then 1 else 0) xs ys
 pub times_cons : (n x : ℕ) (xs : List ℕ) → count_by (λ m. m == n) (x ∷ xs) ≡ (if x == n then 1 else 0) + count_by (λ m. m == n) xs
 times_cons n x xs = sum_by-cons (λ m. if m == n then 1 else 0) x xs
 
-equal_back : (n m : ℕ) → (n == m) ≡ (m == n)
+pub same_number : (j k : ℕ) → (j == k) ≡ true → j ≡ k
+same_number j k e = grind (arith, nat_tests)
+
+pub equal_back : (n m : ℕ) → (n == m) ≡ (m == n)
 equal_back n m = grind (arith, nat_tests)
 
 some_of_times : (n : ℕ) (xs : List ℕ) → some_of (λ m. n == m) xs ≡ nat_lt 0 (times n xs)
