@@ -147,7 +147,7 @@ broken =
     ∷ inside (node 1 Theta (Arg 0 ∷ Arg 1 ∷ Arg 2 ∷ []) (regions_of (repeating 2 ∷ repeating 3 ∷ [])) ∷ []) (Out 1 0 ∷ Out 1 1 ∷ Out 1 2 ∷ [])
     -- regions of a Gamma that take or give other kinds, and a Theta without predicate and with other results
     ∷ inside (node 1 Gamma (Arg 0 ∷ Arg 0 ∷ Arg 1 ∷ Arg 2 ∷ []) (regions_of (as_is ∷ region (Value ∷ Io ∷ Memory ∷ []) no_nodes (Arg 0 ∷ Arg 2 ∷ Arg 1 ∷ []) ∷ [])) ∷ []) (Out 1 0 ∷ Out 1 1 ∷
-        Out 1 2 ∷ [])
+    Out 1 2 ∷ [])
     ∷ inside (node 1 Gamma (Arg 0 ∷ Arg 0 ∷ Arg 1 ∷ Arg 2 ∷ []) (regions_of (as_is ∷ inside [] (Arg 0 ∷ Arg 2 ∷ Arg 1 ∷ []) ∷ [])) ∷ []) (Out 1 0 ∷ Out 1 1 ∷ Out 1 2 ∷ [])
     ∷ inside (node 1 Theta (Arg 0 ∷ Arg 1 ∷ Arg 2 ∷ []) (regions_of (as_is ∷ [])) ∷ []) (Out 1 0 ∷ Out 1 1 ∷ Out 1 2 ∷ [])
     ∷ inside (node 1 Theta (Arg 0 ∷ Arg 1 ∷ Arg 2 ∷ []) (regions_of (inside [] (Arg 0 ∷ Arg 0 ∷ Arg 2 ∷ Arg 1 ∷ []) ∷ [])) ∷ []) (Out 1 0 ∷ Out 1 1 ∷ Out 1 2 ∷ [])
@@ -161,7 +161,7 @@ broken =
     ∷ inside (plain 1 Put (Arg 0 ∷ Arg 2 ∷ []) ∷ []) (Arg 0 ∷ Arg 1 ∷ Arg 2 ∷ [])
     -- a Theta without io, and a region that does not give back a state that a node of it gives
     ∷ inside (node 1 Theta (Arg 0 ∷ Arg 1 ∷ []) (regions_of (region (Value ∷ Memory ∷ []) (nodes_of (plain 2 (Const 0) [] ∷ [])) (Out 2 0 ∷ Arg 0 ∷ Arg 1 ∷ []) ∷ [])) ∷ []) (Out 1 0 ∷ Out 1 1 ∷
-        Arg 2 ∷ [])
+    Arg 2 ∷ [])
     ∷ inside (node 1 Gamma (Arg 0 ∷ Arg 0 ∷ Arg 1 ∷ Arg 2 ∷ []) (regions_of (inside (plain 2 Put (Arg 0 ∷ Arg 2 ∷ []) ∷ []) (Arg 0 ∷ []) ∷ [])) ∷ []) (Out 1 0 ∷ Arg 1 ∷ Arg 2 ∷ [])
     -- objects that are not there, and widths that are none
     ∷ inside (plain 1 (Local 1) [] ∷ []) (Out 1 0 ∷ Arg 1 ∷ Arg 2 ∷ [])

@@ -180,12 +180,14 @@ module _ (objects : ℕ) (args : List Kind) (before : NodeTrees) (x : NodeTree) 
     where
       by_kind : (o : Origin) → is_last own front o ≡ true → (known own front o ≡ None) ⊎ ((j : Kind) × (known own front o ≡ Some j)) →
           (known args (joined_nodes before (nodes_redirected (args_to_inputs is) front)) (args_to_inputs is o) ≡ known own front o) ×
-              (is_last args (joined_nodes before (nodes_redirected (args_to_inputs is) front)) (args_to_inputs is o) ≡ true)
+          (is_last args (joined_nodes before (nodes_redirected (args_to_inputs is) front)) (args_to_inputs is o) ≡ true)
       by_kind o e (inl n) = absurd (last_is_known own front o e n)
       by_kind o e (inr q) =
-          let kind = replacement_known front rest w o q.0 q.1 in
-          (kind ∙ sym q.1, gives_last q.0 args (joined_nodes before (nodes_redirected (args_to_inputs is) front)) (args_to_inputs is o) kind
-              (replacement_last front rest w o q.0 (last_gives q.0 own front o q.1 e)))
+          let kind = replacement_known front rest w o q.0 q.1 in (
+            kind ∙ sym q.1,
+            gives_last q.0 args (joined_nodes before (nodes_redirected (args_to_inputs is) front)) (args_to_inputs is o) kind
+                (replacement_last front rest w o q.0 (last_gives q.0 own front o q.1 e)),
+          )
 
   -- ---- origins of the nodes after the node, and of the results, where the replacement stands
 
@@ -211,7 +213,7 @@ module _ (objects : ℕ) (args : List Kind) (before : NodeTrees) (x : NodeTree) 
 
   kind_following : (front : NodeTrees) (n p : ℕ) →
       kind_after (joined_nodes before (joined_nodes (nodes_redirected (args_to_inputs is) replacement) (nodes_redirected given front))) n p None ≡
-          kind_after front n p (kind_after replacement n p (kind_after before n p None))
+      kind_after front n p (kind_after replacement n p (kind_after before n p None))
   kind_following front n p =
       kind_after-joined before (joined_nodes (nodes_redirected (args_to_inputs is) replacement) (nodes_redirected given front)) n p None
       ∙ kind_after-joined (nodes_redirected (args_to_inputs is) replacement) (nodes_redirected given front) n p (kind_after before n p None)
@@ -227,7 +229,7 @@ module _ (objects : ℕ) (args : List Kind) (before : NodeTrees) (x : NodeTree) 
       sym (has_node-joined n before (nodes_redirected (args_to_inputs is) replacement) ∙ ap (λ b. has_node n before || b) (has_node-redirected (args_to_inputs is) n replacement))
       ∙ kind_known (joined_nodes before (nodes_redirected (args_to_inputs is) replacement)) n p k e in
       kind_following front n p ∙ kind_absent front n p (kind_after replacement n p (kind_after before n p None))
-          (false_from_ne_true (has_node n front) (λ h. by_side (or_cases (has_node n before) (has_node n replacement) stands) (in_after front rest w n h)))
+      (false_from_ne_true (has_node n front) (λ h. by_side (or_cases (has_node n before) (has_node n replacement) stands) (in_after front rest w n h)))
       ∙ sym (kind_after-joined before (nodes_redirected (args_to_inputs is) replacement) n p None ∙ kind_after-redirected (args_to_inputs is) replacement n p (kind_after before n p None)) ∙ e
     where
       by_side : (has_node n before ≡ true) ⊎ (has_node n replacement ≡ true) → has_node n after ≡ true → ⊥
@@ -295,13 +297,13 @@ module _ (objects : ℕ) (args : List Kind) (before : NodeTrees) (x : NodeTree) 
   own_returns =
       first_true
       (nodes_fit objects (region own replacement outs) && results_are_last (region own replacement outs) && returns_state Memory (region own replacement outs) && returns_state Io
-          (region own replacement outs))
+      (region own replacement outs))
       (region_has_one_state_each (region own replacement outs)) own_fits
 
   own_memory : (nodes_fit objects (region own replacement outs) && results_are_last (region own replacement outs) && returns_state Memory (region own replacement outs)) ≡ true
   own_memory =
       first_true (nodes_fit objects (region own replacement outs) && results_are_last (region own replacement outs) && returns_state Memory (region own replacement outs))
-          (returns_state Io (region own replacement outs)) own_returns
+      (returns_state Io (region own replacement outs)) own_returns
 
   own_last : (nodes_fit objects (region own replacement outs) && results_are_last (region own replacement outs)) ≡ true
   own_last = first_true (nodes_fit objects (region own replacement outs) && results_are_last (region own replacement outs)) (returns_state Memory (region own replacement outs)) own_memory
@@ -432,7 +434,7 @@ module _ (objects : ℕ) (args : List Kind) (before : NodeTrees) (x : NodeTree) 
       by_side (inl h) = or_left (gives k before) (some_of (is_of k) (output_kinds x) || gives k after) h
       by_side (inr h) =
           by_replacement (or_cases (gives k (nodes_redirected (args_to_inputs is) replacement)) (gives k (nodes_redirected given after))
-              (sym (gives-joined k (nodes_redirected (args_to_inputs is) replacement) (nodes_redirected given after)) ∙ h))
+          (sym (gives-joined k (nodes_redirected (args_to_inputs is) replacement) (nodes_redirected given after)) ∙ h))
 
   returns_more : (k : Kind) (r : Bool) → (k ≡ Value → ⊥) → (not (gives k (joined_nodes before (node_then x after))) || r) ≡ true → (not (gives k (following after)) || r) ≡ true
   returns_more k r v e = by_gives (either (gives k (following after)))
@@ -482,12 +484,12 @@ replacement_kept objects args before x after own replacement outs is results s e
     second_true (fits (nodes_of before) x) (each_node fits (before ++ x ∷ []) after) (second_true (each_node fits [] (nodes_of before)) (each_node fits before (node_then x after)) split) in
     let own_fit =
     first_true (nodes_fit objects (region own (nodes_of replacement) outs)) (results_are_last (region own (nodes_of replacement) outs))
-        (own_last objects args (nodes_of before) x after own (nodes_of replacement) outs is s) in
+    (own_last objects args (nodes_of before) x after own (nodes_of replacement) outs is s) in
     let replacement_fit : each_node fits before (nodes_redirected (args_to_inputs is) (nodes_of replacement)) ≡ true =
     mapped_nodes_fit objects own args (args_to_inputs is) [] before (nodes_of replacement) (λ front rest w. replacement_map objects args (nodes_of before) x after own (nodes_of replacement) outs
-        is s front rest w) own_fit in
+    is s front rest w) own_fit in
     let following_is : (ms : NodeTrees) → joined_nodes (nodes_of before) (joined_nodes (nodes_redirected (args_to_inputs is) (nodes_of replacement)) ms) ≡
-        joined_nodes (nodes_of (before ++ replacement_with_inputs)) ms =
+    joined_nodes (nodes_of (before ++ replacement_with_inputs)) ms =
     λ ms.
     sym (ap (λ ks. joined_nodes ks ms) (nodes_of-append before replacement_with_inputs) ∙ joined_assoc (nodes_of before) (nodes_of replacement_with_inputs) ms
     ∙ ap (λ ks. joined_nodes (nodes_of before) (joined_nodes ks ms)) (nodes_of-redirected (args_to_inputs is) replacement)) in
@@ -496,7 +498,7 @@ replacement_kept objects args before x after own replacement outs is results s e
     (λ front rest w.
     subst (λ ks. ScopeMap args (joined_nodes (nodes_of (before ++ x ∷ [])) front) args ks f) (following_is (nodes_redirected f front))
     (subst (λ ks. ScopeMap args ks args (joined_nodes (nodes_of before) (joined_nodes (nodes_redirected (args_to_inputs is) (nodes_of replacement)) (nodes_redirected f front))) f)
-        (sym (joined_following before x front))
+    (sym (joined_following before x front))
     (after_map objects args (nodes_of before) x after own (nodes_of replacement) outs is s front rest w)))
     after_fit in
     let all = mapped_all args ns args (joined_nodes (nodes_of before) (joined_nodes (nodes_redirected (args_to_inputs is) (nodes_of replacement)) (nodes_redirected f after))) f
@@ -505,7 +507,7 @@ replacement_kept objects args before x after own replacement outs is results s e
     each_node-joined fits [] before (joined_nodes (nodes_redirected (args_to_inputs is) (nodes_of replacement)) (nodes_redirected f after))
     ∙ (λ i. front_fit i
     && (ap (λ ks. each_node fits before (joined_nodes ks (nodes_redirected f after))) (sym (nodes_of-redirected (args_to_inputs is) replacement))
-        ∙ each_node-joined fits before replacement_with_inputs (nodes_redirected f after)
+    ∙ each_node-joined fits before replacement_with_inputs (nodes_redirected f after)
     ∙ (λ j. (ap (each_node fits before) (nodes_of-redirected (args_to_inputs is) replacement) ∙ replacement_fit) j && moved_fit j)) i) in
     let memory_now = returns_more objects args (nodes_of before) x after own (nodes_of replacement) outs is s Memory (some_of (is_of Memory) (map (known args ns) results)) (λ v. absurd (cc)) memory in
     let io_now = returns_more objects args (nodes_of before) x after own (nodes_of replacement) outs is s Io (some_of (is_of Io) (map (known args ns) results)) (λ v. absurd (cc)) io in
@@ -536,7 +538,7 @@ region_spliced_kept objects at args nodes results own replacement outs is split 
     subst
     (λ b.
     ReplacementFits objects args b split.here split.after own replacement outs is → every_region (region_fits objects) (region args (joined_nodes b (node_then split.here split.after)) results) ≡
-        true →
+    true →
     RegionKept objects (region args (joined_nodes b (node_then split.here split.after)) results)
     (region args (joined_nodes b (joined_nodes P (nodes_redirected (outputs_to_results (id_of split.here) O) split.after))) (map (outputs_to_results (id_of split.here) O) results)))
     (nodes_of-list_of split.before)
@@ -552,7 +554,7 @@ region_spliced_kept objects at args nodes results own replacement outs is split 
     let same : region args (joined_nodes split.before (joined_nodes P (nodes_redirected (outputs_to_results (id_of split.here) O) split.after))) (map (outputs_to_results (id_of split.here) O) results)
     ≡ region args (nodes_spliced at P O nodes) (map (outputs_to_results at O) results) =
     ap (λ n. region args (joined_nodes split.before (joined_nodes P (nodes_redirected (outputs_to_results n O) split.after))) (map (outputs_to_results n O) results))
-        (same_number (id_of split.here) at split.numbered)
+    (same_number (id_of split.here) at split.numbered)
     ∙ ap (λ ns. region args ns (map (outputs_to_results at O) results)) (sym (split.spliced P O)) in
     subst (λ t. RegionKept objects t (region args (nodes_spliced at P O nodes) (map (outputs_to_results at O) results))) (ap (λ ns. region args ns results) (sym split.whole))
     (subst (λ t. RegionKept objects (region args (joined_nodes split.before (node_then split.here split.after)) results) t) same

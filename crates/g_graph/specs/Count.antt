@@ -19,6 +19,6 @@ abbrev mutual
   regions_values no_regions = 0
   regions_values (region_then r rs) = region_values r + regions_values rs
 
--- the greatest number that is told is 2 ^ 64 - 1
+-- the greatest answer is 2 ^ 64 - 1
 abbrev pub saturated : ℕ → ℕ
 saturated n = min n (2 ^ 64 - 1)

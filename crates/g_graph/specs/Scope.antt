@@ -1,4 +1,4 @@
--- What stands before a node of a region: the region's arguments and the earlier nodes.
+-- The origins that a node of a region can use: the region's arguments and the outputs of earlier nodes.
 use Rattle.std.specs.Prelude.{ℕ, suc, ◌==◌, Bool, true, false, ◌&&◌, List, [], ◌∷◌, ◌++◌, map, if◌then◌else◌}
 use Rattle.std.specs.declared.option.Option.{Option}
 use Rattle.std.specs.declared.option.Option.TheVariants.{Some, None}

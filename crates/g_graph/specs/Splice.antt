@@ -22,13 +22,13 @@ abbrev pub joined_nodes : NodeTrees → NodeTrees → NodeTrees
 joined_nodes no_nodes ys = ys
 joined_nodes (node_then x xs) ys = node_then x (joined_nodes xs ys)
 
--- the first node of that number makes way for the replacement; the nodes before it use none of its outputs
+-- the first node of that number is exchanged for the replacement; the nodes before it use none of its outputs
 abbrev pub nodes_spliced : (at : ℕ) → (replacement : NodeTrees) → (outputs : List Origin) → NodeTrees → NodeTrees
 nodes_spliced at replacement outputs no_nodes = no_nodes
 nodes_spliced at replacement outputs (node_then x xs) =
     if id_of x == at then joined_nodes replacement (nodes_redirected (outputs_to_results at outputs) xs) else node_then x (nodes_spliced at replacement outputs xs)
 
--- the replacement, whose arguments are placed already
+-- the replacement, whose arguments are origins of the region
 abbrev pub region_spliced : (at : ℕ) → (replacement : RegionTree) → RegionTree → RegionTree
 region_spliced at (region own replacement outputs) (region args nodes results) =
     region args (nodes_spliced at replacement outputs nodes) (map (outputs_to_results at outputs) results)

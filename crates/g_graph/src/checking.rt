@@ -27,7 +27,8 @@ pub fn check(lambda: &Lambda) -> bool
 }
 
 fn body_fits(body: &Region, params: u32) -> bool
-    ensures { result ≡ (same (args_of body.now) (replicate params Value ++ Memory ∷ Io ∷ []) && are (result_kinds body.now) (Value ∷ Memory ∷ Io ∷ [])) }
+    ensures { result ≡ (same (args_of body.now) (replicate params Value ++ Memory ∷ Io ∷ [])
+        && are (result_kinds body.now) (Value ∷ Memory ∷ Io ∷ [])) }
 {
     are_values_and_states(&body.args, params)
         && have_kinds(
@@ -112,7 +113,8 @@ fn has_output(node: &Node, kind: Kind) -> bool
 
 #[tactic(auto, using(crate::proofs::KindLemmas::some_of_count))]
 fn have_state(args: &[Kind], before: &[Node], origins: &[Origin], kind: Kind) -> bool
-    ensures { result ≡ some_of (is_of kind) (map (known args.now (nodes_of before.now)) origins.now) }
+    ensures { result ≡ some_of (is_of kind)
+        (map (known args.now (nodes_of before.now)) origins.now) }
 {
     count_of_origins(args, before, origins, kind) > 0
 }
@@ -200,7 +202,8 @@ fn gamma_regions_fit(regions: &[Region]) -> bool
 
 // Whether each region has the arguments of this one, and its results where their kinds are known.
 fn regions_have_kinds(regions: &[Region], first: &Region) -> bool
-    ensures { result ≡ all_regions (λ r. same (args_of r) (args_of first.now) && are (result_kinds r) (kinds_of (result_kinds first.now))) (regions_of regions.now) }
+    ensures { result ≡ all_regions (λ r. same (args_of r) (args_of first.now)
+        && are (result_kinds r) (kinds_of (result_kinds first.now))) (regions_of regions.now) }
 {
     for region in regions {
         if !has_kinds(region, first) {
@@ -211,7 +214,8 @@ fn regions_have_kinds(regions: &[Region], first: &Region) -> bool
 }
 
 fn has_kinds(region: &Region, first: &Region) -> bool
-    ensures { result ≡ (same (args_of region.now) (args_of first.now) && are (result_kinds region.now) (kinds_of (result_kinds first.now))) }
+    ensures { result ≡ (same (args_of region.now) (args_of first.now)
+        && are (result_kinds region.now) (kinds_of (result_kinds first.now))) }
 {
     same_kinds(&region.args, &first.args)
         && match_known(
@@ -225,7 +229,8 @@ fn has_kinds(region: &Region, first: &Region) -> bool
 }
 
 fn theta_regions_fit(regions: &[Region]) -> bool
-    ensures { result ≡ all_regions (λ r. are (result_kinds r) (Value ∷ args_of r)) (regions_of regions.now) }
+    ensures { result ≡ all_regions (λ r.
+        are (result_kinds r) (Value ∷ args_of r)) (regions_of regions.now) }
 {
     for region in regions {
         if !theta_region_fits(region) {
@@ -251,7 +256,8 @@ fn theta_has_states(node: &Node) -> bool
 }
 
 fn regions_take_states(regions: &[Region]) -> bool
-    ensures { result ≡ all_regions (λ r. some_of (same_kind Memory) (args_of r) && some_of (same_kind Io) (args_of r)) (regions_of regions.now) }
+    ensures { result ≡ all_regions (λ r. some_of (same_kind Memory) (args_of r)
+        && some_of (same_kind Io) (args_of r)) (regions_of regions.now) }
 {
     for region in regions {
         if !takes_states(region) {
@@ -263,7 +269,8 @@ fn regions_take_states(regions: &[Region]) -> bool
 
 #[tactic(auto, using(crate::proofs::KindLemmas::some_of_args))]
 fn takes_states(region: &Region) -> bool
-    ensures { result ≡ (some_of (same_kind Memory) (args_of region.now) && some_of (same_kind Io) (args_of region.now)) }
+    ensures { result ≡ (some_of (same_kind Memory) (args_of region.now)
+        && some_of (same_kind Io) (args_of region.now)) }
 {
     count_of_args(&region.args, Kind::Memory) > 0 && count_of_args(&region.args, Kind::Io) > 0
 }

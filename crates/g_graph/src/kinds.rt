@@ -30,7 +30,8 @@ fn kind_after(nodes: &[Node], id: u32, port: usize) -> Option<Kind>
 // The kind of an output after this node, where it had this one before.
 #[cycle(kinds)]
 fn later(node: &Node, id: u32, port: usize, before: Option<Kind>) -> Option<Kind>
-    ensures { result ≡ (if id_of node.now == id then joined (slice_get (output_kinds node.now) port) else before) }
+    ensures { result ≡ (if id_of node.now == id then joined
+        (slice_get (output_kinds node.now) port) else before) }
 {
     if node.id == id {
         output_kind(node, port)

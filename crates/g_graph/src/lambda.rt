@@ -2,8 +2,8 @@ use crate::Region;
 use std::marker::Model;
 use val_core::Leaf;
 
-/// A memory object of a lambda: its size in bytes, and its leaves in order of offset. Contracts see both as a plain
-/// record.
+/// A memory object of a lambda: its size in bytes, and its leaves in order of offset. Contracts see
+/// both as a plain record.
 #[derive(Debug, Drop)]
 pub struct Object {
     pub size: u32,
@@ -21,8 +21,9 @@ impl Model for Object {
     ghost view = { λ o. record { size = o.size; leaves = o.leaves.items } };
 }
 
-/// A function: its number in the source, how many parameters it has, its memory objects, its body, and a number above
-/// those of all its nodes, from which new nodes are numbered. Contracts see it as a plain record.
+/// A function: its number in the source, how many parameters it has, its memory objects, its body,
+/// and a number above those of all its nodes, from which new nodes are numbered. Contracts see it
+/// as a plain record.
 #[derive(Debug, Drop)]
 pub struct Lambda {
     pub number: u32,
@@ -40,5 +41,11 @@ impl Model for Lambda {
 
     ghost coded = { coded_lambda };
 
-    ghost view = { λ l. record { number = l.number; params = l.params; objects = l.objects.items; body = l.body; next = l.next } };
+    ghost view = { λ l. record {
+      number = l.number;
+      params = l.params;
+      objects = l.objects.items;
+      body = l.body;
+      next = l.next;
+    } };
 }

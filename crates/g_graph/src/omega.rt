@@ -3,8 +3,8 @@ use c_lex::Name;
 use std::marker::Model;
 use val_core::Leaf;
 
-/// A global: its first bytes, with zeros where a link stands, its links in order of offset, its leaves, and whether it
-/// never changes. Contracts see it as a plain record.
+/// A global: its first bytes, with zeros where a link stands, its links in order of offset, its
+/// leaves, and whether it never changes. Contracts see it as a plain record.
 #[derive(Debug, Drop)]
 pub struct Delta {
     pub bytes: Vec<u8>,
@@ -21,11 +21,16 @@ impl Model for Delta {
 
     ghost coded = { coded_delta };
 
-    ghost view = { λ d. record { bytes = d.bytes.items; links = d.links.items; leaves = d.leaves.items; fixed = d.fixed } };
+    ghost view = { λ d. record {
+      bytes = d.bytes.items;
+      links = d.links.items;
+      leaves = d.leaves.items;
+      fixed = d.fixed;
+    } };
 }
 
-/// A program: its functions, its globals, and the functions' names in the order of the source. Contracts see it as a
-/// plain record.
+/// A program: its functions, its globals, and the functions' names in the order of the source.
+/// Contracts see it as a plain record.
 #[derive(Debug, Drop)]
 pub struct Omega {
     pub lambdas: Vec<Lambda>,
@@ -41,5 +46,9 @@ impl Model for Omega {
 
     ghost coded = { coded_omega };
 
-    ghost view = { λ o. record { lambdas = o.lambdas.items; deltas = o.deltas.items; names = o.names.items } };
+    ghost view = { λ o. record {
+      lambdas = o.lambdas.items;
+      deltas = o.deltas.items;
+      names = o.names.items;
+    } };
 }

@@ -10,7 +10,8 @@ pub enum Kind {
     Io,
 }
 
-/// What a node does. The table of inputs and outputs in specs/Signatures.antt has each op's signature.
+/// What a node does. The table of inputs and outputs in specs/Signatures.antt has each op's
+/// signature.
 #[derive(Clone, Copy, PartialEq, Eq, Hash, Debug)]
 pub enum Op {
     /// The word.
@@ -54,7 +55,7 @@ pub enum Origin {
     Out { node: u32, port: u32 },
 }
 
-/// What stands in the unused places of a short list of origins.
+/// The value of the unused slots of a short list of origins.
 impl Default for Origin {
     fn default() -> Origin {
         Origin::Arg(0)

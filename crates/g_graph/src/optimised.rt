@@ -3,8 +3,8 @@ ghost use Rattle.std.specs.Prelude.{◌≡◌};
 use crate::{Lambda, Step};
 use std::marker::Model;
 
-/// The steps that a recipe took, in order. Contracts see the list. It is made of a vector and gives it back, and neither
-/// takes memory.
+/// The steps that a recipe took, in order. Contracts see the list. It is made of a vector and gives
+/// it back, and neither takes memory.
 #[derive(Debug, Drop)]
 pub struct StepList {
     steps: Vec<Step>,
@@ -44,8 +44,8 @@ impl From<Vec<Step>> for StepList {
     }
 }
 
-/// What a recipe made of a lambda: the lambda as it is now, which is well formed, the steps that led there, and how
-/// many values the lambda had before them. Contracts see it as a plain record.
+/// What a recipe made of a lambda: the lambda as it is now, which is well formed, the steps that
+/// led there, and how many values the lambda had before them. Contracts see it as a plain record.
 #[derive(Debug, Drop)]
 pub struct Optimised {
     pub lambda: Lambda,

@@ -110,7 +110,8 @@ pub fn redirect_region<R: Redirect>(region: &mut Region, by: &R)
 
 /// Redirects each input of the nodes from an index on.
 pub fn redirect_nodes<R: Redirect>(nodes: &mut Vec<Node>, from: usize, by: &R)
-    ensures { nodes.new.items ≡ take from nodes.old.items ++ map (node_redirected (R.redirected by.now)) (drop from nodes.old.items) }
+    ensures { nodes.new.items ≡ take from nodes.old.items ++ map
+        (node_redirected (R.redirected by.now)) (drop from nodes.old.items) }
 {
     for i in from..nodes.len() {
         redirect_node(&mut nodes[i], by);

@@ -8,8 +8,9 @@ use crate::redirect::{OriginReplaced, redirect_region};
 use crate::{Lambda, Origin, Region};
 use std::convert::Infallible;
 
-/// Replaces the uses of one origin by another in one region: the body, or the region that holds the node `region_of`. Where
-/// there is no such node nothing changes. It takes no memory, and time linear in the lambda.
+/// Replaces the uses of one origin by another in one region: the body, or the region that holds the
+/// node `region_of`. Where there is no such node nothing changes. It takes no memory, and time
+/// linear in the lambda.
 pub fn replace_uses(lambda: &mut Lambda, from: Origin, to: Origin, region_of: Option<u32>)
     ensures { lambda.new ≡ replaced from to region_of lambda.old }
 {
@@ -46,7 +47,8 @@ struct Uses {
 impl Change for Uses {
     type Fault = Infallible;
 
-    ghost changed = { λ u. in_region_of u.region_of (region_redirected (origin_replaced u.from u.to)) };
+    ghost changed = { λ u.
+        in_region_of u.region_of (region_redirected (origin_replaced u.from u.to)) };
 
     fn make(&mut self, region: &mut Region) -> Result<bool, Infallible> {
         if !holds_node(region, self.region_of) {

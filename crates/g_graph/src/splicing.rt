@@ -14,9 +14,10 @@ use no_memory::NoMemory;
 use std::alloc::Global;
 use std::mem;
 
-/// Puts the nodes of the replacement instead of the node `at`, in the region that holds it. The replacement's arguments become
-/// these inputs, and uses of the node's outputs become the replacement's results, in the same order. Where there is no such
-/// node nothing changes. It takes time linear in the lambda and the replacement.
+/// Puts the nodes of the replacement instead of the node `at`, in the region that holds it. The
+/// replacement's arguments become these inputs, and uses of the node's outputs become the
+/// replacement's results, in the same order. Where there is no such node nothing changes. It takes
+/// time linear in the lambda and the replacement.
 pub fn splice(
     alloc: Global,
     lambda: &mut Lambda,
@@ -40,7 +41,7 @@ pub fn splice(
     Ok(())
 }
 
-// The exchange of a node for a replacement, whose arguments are placed already.
+// The exchange of a node for a replacement whose arguments are origins of the node's region.
 #[derive(Drop)]
 struct Replacement {
     alloc: Global,
@@ -67,9 +68,9 @@ impl Change for Replacement {
     }
 }
 
-/// Puts the nodes of the replacement, whose arguments are origins of the region already, instead of the region's node
-/// `at`, uses of whose outputs become the replacement's results, in the same order. It takes time linear in the region and the
-/// part.
+/// Puts the nodes of the replacement, whose arguments are origins of the region already, instead of
+/// the region's node `at`, uses of whose outputs become the replacement's results, in the same
+/// order. It takes time linear in the region and the part.
 pub fn splice_region(region: &mut Region, at: u32, replacement: Region) -> Result<(), NoMemory>
     ensures ok { OnOk result (region.new ≡ region_spliced at replacement region.old) }
     ensures err { OnErr result (region.new ≡ region.old) }
@@ -94,7 +95,8 @@ fn put_nodes(
     replacement: Vec<Node>,
     outputs: &[Origin],
 ) -> Result<(), NoMemory>
-    ensures ok { OnOk result (nodes_of nodes.new.items ≡ nodes_spliced at (nodes_of replacement.items) outputs.now (nodes_of nodes.old.items)) }
+    ensures ok { OnOk result (nodes_of nodes.new.items ≡
+        nodes_spliced at (nodes_of replacement.items) outputs.now (nodes_of nodes.old.items)) }
     ensures err { OnErr result (nodes.new.items ≡ nodes.old.items) }
 {
     match node_index(nodes, at) {
@@ -111,7 +113,8 @@ fn put_nodes_at(
     outputs: &[Origin],
 ) -> Result<(), NoMemory>
     requires { node_index at 0 (nodes_of nodes.old.items) ≡ Some index }
-    ensures ok { OnOk result (nodes_of nodes.new.items ≡ nodes_spliced at (nodes_of replacement.items) outputs.now (nodes_of nodes.old.items)) }
+    ensures ok { OnOk result (nodes_of nodes.new.items ≡
+        nodes_spliced at (nodes_of replacement.items) outputs.now (nodes_of nodes.old.items)) }
     ensures err { OnErr result (nodes.new.items ≡ nodes.old.items) }
 {
     let rest = nodes.len() - index - 1;
@@ -123,7 +126,8 @@ fn put_nodes_at(
 
 fn exchange(nodes: &mut Vec<Node>, index: usize, replacement: Vec<Node>) -> Result<(), NoMemory>
     requires { index < vec_len nodes.old }
-    ensures ok { OnOk result (nodes.new.items ≡ (take index nodes.old.items ++ replacement.items) ++ drop (index + 1) nodes.old.items) }
+    ensures ok { OnOk result (nodes.new.items ≡
+        (take index nodes.old.items ++ replacement.items) ++ drop (index + 1) nodes.old.items) }
     ensures err { OnErr result (nodes.new.items ≡ nodes.old.items) }
 {
     drop(nodes.splice(index..index + 1, replacement)?);

@@ -47,7 +47,8 @@ fn is_state(kind: Kind, args: &[Kind], before: &[Node], origin: Origin) -> bool
 }
 
 fn is_last_arg(kind: Kind, args: &[Kind], origin: Origin) -> bool
-    ensures { result ≡ is_origin (origin_at Arg (last_index kind 0 (map Some args.now) None) None) origin }
+    ensures { result ≡ is_origin (origin_at Arg (last_index kind 0 (map Some args.now) None) None)
+        origin }
 {
     match last_arg(kind, args) {
         Some(index) => is_arg(index, origin),

@@ -8,7 +8,8 @@ use crate::{Node, Region};
 // Whether the numbers of the nodes are unique and below the next.
 #[tactic(auto, using(crate::proofs::lemmas::Unique::each_once))]
 pub fn numbers_fit(body: &Region, next: u32) -> bool
-    ensures { result ≡ (distinct (region_ids body.now) && all_of (λ n. nat_lt n next) (region_ids body.now)) }
+    ensures { result ≡ (distinct (region_ids body.now)
+        && all_of (λ n. nat_lt n next) (region_ids body.now)) }
 {
     region_fits(body, body, next)
 }
@@ -17,7 +18,9 @@ pub fn numbers_fit(body: &Region, next: u32) -> bool
 #[tactic(auto, using(crate::proofs::lemmas::Unique::all_of_append))]
 #[cycle(unique)]
 fn region_fits(region: &Region, body: &Region, next: u32) -> bool
-    ensures { result ≡ all_of (λ n. (saturated (count_by (λ m. m == n) (region_ids body.now)) == 1) && nat_lt n next) (region_ids region.now) }
+    ensures { result ≡ all_of (λ n.
+        (saturated (count_by (λ m. m == n) (region_ids body.now)) == 1)
+        && nat_lt n next) (region_ids region.now) }
 {
     for node in &region.nodes {
         if !node_fits(node, body, next) {
@@ -30,7 +33,9 @@ fn region_fits(region: &Region, body: &Region, next: u32) -> bool
 #[tactic(auto, using(crate::proofs::lemmas::Unique::all_of_append))]
 #[cycle(unique)]
 fn node_fits(node: &Node, body: &Region, next: u32) -> bool
-    ensures { result ≡ all_of (λ n. (saturated (count_by (λ m. m == n) (region_ids body.now)) == 1) && nat_lt n next) (node_ids node.now) }
+    ensures { result ≡ all_of (λ n.
+        (saturated (count_by (λ m. m == n) (region_ids body.now)) == 1)
+        && nat_lt n next) (node_ids node.now) }
 {
     if times_in_region(body, node.id) != 1 || node.id >= next {
         return false;

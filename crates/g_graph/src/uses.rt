@@ -7,7 +7,8 @@ ghost use Rattle.g_graph.specs.Nodes.{nodes_use, is_used};
 use crate::redirect::same_origin;
 use crate::{Node, Origin, Region};
 
-/// Whether the origin is an input of a node of the region, or a result of it. It looks at no nested region.
+/// Whether the origin is an input of a node of the region, or a result of it. It looks at no nested
+/// region.
 pub fn is_used(region: &Region, origin: Origin) -> bool
     ensures { result ≡ is_used origin region.now }
 {

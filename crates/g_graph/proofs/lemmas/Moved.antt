@@ -64,7 +64,7 @@ moved_kept objects from to args nodes results v e =
     let fit = first_true (nodes_fit objects r) (results_are_last r) to_last in
     let last : all_of (is_last args nodes) results ≡ true = second_true (nodes_fit objects r) (results_are_last r) to_last in
     let all = mapped_all args nodes args (nodes_redirected (origin_replaced from to) nodes) (origin_replaced from to) (moved_scope args nodes nodes no_nodes from to v (sym (joined_none nodes)))
-        results last in
+    results last in
     let moved_fit = mapped_nodes_fit objects args args (origin_replaced from to) [] [] nodes (λ front rest w. moved_scope args nodes front rest from to v w) fit in
     let same : region_fits objects (region_redirected (origin_replaced from to) r) ≡ region_fits objects r =
     λ i.

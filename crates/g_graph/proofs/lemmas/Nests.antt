@@ -93,7 +93,7 @@ mutual
       by_cases : (o : Option NodeTree) (p : Option NodeTrees) → node_changed f x ≡ o → nodes_changed f xs ≡ p →
           first_some (option_map (λ y. node_then y xs) o) (option_map (λ ys. node_then x ys) p) ≡ Some ms →
           ((y : NodeTree) → node_changed f x ≡ Some y → Exchanged objects f (node_ids x) (node_ids y)) →
-              ((ys : NodeTrees) → nodes_changed f xs ≡ Some ys → Exchanged objects f (nodes_ids xs) (nodes_ids ys)) →
+          ((ys : NodeTrees) → nodes_changed f xs ≡ Some ys → Exchanged objects f (nodes_ids xs) (nodes_ids ys)) →
           Exchanged objects f (node_ids x ++ nodes_ids xs) (nodes_ids ms)
       by_cases (Some y) p a b c h g =
           let same : node_then y xs ≡ ms = cc in
@@ -173,7 +173,7 @@ changed_well_formed f l s next k e w numbers =
 -- It stays well formed, with the same next number, where the changed region has no numbers but those that it had.
 pub changed_well_formed_within : (f : RegionTree → Option RegionTree) (l : PlainLambda) (s : RegionTree) → KeepsRegion (length l.objects) l.next f →
     ((r t : RegionTree) → f r ≡ Some t → every_region (region_fits (length l.objects)) r ≡ true → Numbered l.next (region_ids r) → (n : ℕ) →
-        count_by (λ m. m == n) (region_ids t) ≤ count_by (λ m. m == n) (region_ids r)) →
+    count_by (λ m. m == n) (region_ids t) ≤ count_by (λ m. m == n) (region_ids r)) →
     region_changed f l.body ≡ Some s → well_formed l ≡ true → well_formed (record l { body = s }) ≡ true
 changed_well_formed_within f l s k fewer e w =
     let nest = every_region (region_fits (length l.objects)) l.body in

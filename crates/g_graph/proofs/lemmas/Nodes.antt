@@ -106,9 +106,9 @@ node_fits_here objects next args before x after results e numbers =
     (has_its_object objects x) fit in
     let to_theta =
     first_true (inputs_fit args before x && inputs_are_last args before x && node_has_one_state_each args before x && has_its_regions x && regions_fit x && theta_has_states x) (has_its_width x)
-        to_width in
+    to_width in
     let to_regions = first_true (inputs_fit args before x && inputs_are_last args before x && node_has_one_state_each args before x && has_its_regions x && regions_fit x) (theta_has_states x)
-        to_theta in
+    to_theta in
     let to_shape = first_true (inputs_fit args before x && inputs_are_last args before x && node_has_one_state_each args before x && has_its_regions x) (regions_fit x) to_regions in
     let to_states = first_true (inputs_fit args before x && inputs_are_last args before x && node_has_one_state_each args before x) (has_its_regions x) to_shape in
     let to_both = first_true (inputs_fit args before x && inputs_are_last args before x) (node_has_one_state_each args before x) to_states in
@@ -202,7 +202,7 @@ reached n (node_then z before) x after (node_then y front) rest e b h =
     let first : z ≡ y = cc in
     let more : joined_nodes before (node_then x after) ≡ joined_nodes front rest = cc in
     let r = reached n before x after front rest more (or_parts (id_of z == n) (has_node n before) b).1 (or_rest (id_of y == n) (has_node n front) (ap (λ t. id_of t == n) (sym first)
-        ∙ (or_parts (id_of z == n) (has_node n before) b).0) h) in
+    ∙ (or_parts (id_of z == n) (has_node n before) b).0) h) in
     record { between = r.between; front_is = (λ i. node_then (sym first i) (r.front_is i)); after_is = r.after_is }
 
 more_node : (m : ℕ) (x : NodeTree) (between rest after : NodeTrees) → after ≡ joined_nodes between rest → has_node m (node_then x between) ≡ true → has_node m (node_then x after) ≡ true
@@ -220,8 +220,17 @@ value_for objects n args before x after here number gives_value b value = record
     apart_own : (between rest : NodeTrees) → after ≡ joined_nodes between rest → has_node n between ≡ false
     apart_own between rest q =
         false_from_ne_true (has_node n between)
-        (λ h. omega (arith, has_times n between h, ap (λ ns. times n (nodes_ids ns)) q, ap (times n) (nodes_ids-joined between rest), times_append n (nodes_ids between) (nodes_ids rest), ap
-            (λ k. times k (node_ids x)) number, own_times x, here.once n))
+        (λ h. omega (
+          arith,
+          has_times n between h,
+          ap (λ ns. times n (nodes_ids ns)) q,
+          ap (times n) (nodes_ids-joined between rest),
+          times_append n (nodes_ids between) (nodes_ids rest),
+          ap
+              (λ k. times k (node_ids x)) number,
+          own_times x,
+          here.once n,
+        ))
 
     own_value : (between rest : NodeTrees) → after ≡ joined_nodes between rest → known args (joined_nodes before (node_then x between)) (Out n 0) ≡ Some Value
     own_value between rest q =

@@ -57,7 +57,7 @@ nodes_spliced_suc at first zero replacement outputs (x ∷ xs) e = by_test (id_o
   where
     by_test : (t : Bool) → (if t then Some first else node_index at (suc first) (nodes_of xs)) ≡ Some (first + 0) →
         (if t then joined_nodes (nodes_of replacement) (nodes_redirected (outputs_to_results at outputs) (nodes_of xs)) else node_then x
-            (nodes_spliced at (nodes_of replacement) outputs (nodes_of xs)))
+        (nodes_spliced at (nodes_of replacement) outputs (nodes_of xs)))
         ≡ nodes_of (replacement ++ map (node_redirected (outputs_to_results at outputs)) xs)
     by_test true e = sym (nodes_of-append replacement (map (node_redirected (outputs_to_results at outputs)) xs)
         ∙ ap (joined_nodes (nodes_of replacement)) (nodes_of-redirected (outputs_to_results at outputs) xs))
@@ -68,7 +68,7 @@ nodes_spliced_suc at first (suc p) replacement outputs (x ∷ xs) e = by_test (i
         (node_index at (suc first) (nodes_of xs) ≡ Some (suc first + p) →
         nodes_spliced at (nodes_of replacement) outputs (nodes_of xs) ≡ nodes_of ((take p xs ++ replacement) ++ map (node_redirected (outputs_to_results at outputs)) (drop (suc p) xs))) →
         (if t then joined_nodes (nodes_of replacement) (nodes_redirected (outputs_to_results at outputs) (nodes_of xs)) else node_then x
-            (nodes_spliced at (nodes_of replacement) outputs (nodes_of xs)))
+        (nodes_spliced at (nodes_of replacement) outputs (nodes_of xs)))
         ≡ node_then x (nodes_of ((take p xs ++ replacement) ++ map (node_redirected (outputs_to_results at outputs)) (drop (suc p) xs)))
     by_test true e h = absurd (omega (arith, same_Some first (first + suc p) e))
     by_test false e h = ap (λ ys. node_then x ys) (h (e ∙ ap Some (omega arith)))

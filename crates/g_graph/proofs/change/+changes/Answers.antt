@@ -49,7 +49,7 @@ change_regions-returns-then-branch-clause-ok g t c =
     let none : regions_changed f (regions_of (take c.loop-i.i c.loop-i.regions.items)) ≡ None = ap (λ zs. regions_changed f (regions_of (take c.loop-i.i zs))) same ∙ c.loop-i.invariant.none in
     let within : c.loop-i.i < length c.loop-i.regions.items = omega (arith, ap length same, c.args.regions.now.ok.0) in
     ap (λ zs. regions_changed f (regions_of zs)) (sym same) ∙ regions_changed_at f c.loop-i.regions.items c.loop-i.i c.index_mut.result.now c.change_region.new.region within
-        c.index_mut.ensures.value none here
+    c.index_mut.ensures.value none here
 
 pub change_regions-loop-i-preserved : goal.change_regions-loop-i-preserved
 change_regions-loop-i-preserved g t c =
