@@ -7,7 +7,7 @@ use Rattle.g_graph.specs.declared.op.Kind.TheVariants.{Memory, Io}
 use Rattle.g_graph.specs.declared.op.Origin.{Origin}
 use Rattle.g_graph.specs.declared.op.Origin.TheVariants.{Arg, Out}
 use Rattle.g_graph.specs.Plain.{RegionTree, region, NodeTree, node, NodeTrees, no_nodes, node_then, RegionTrees, no_regions, region_then, nodes_of, id_of}
-use Rattle.g_graph.specs.Rows.{kind_after}
+use Rattle.g_graph.specs.Signatures.{kind_after}
 use Rattle.g_graph.specs.Scope.{known, each_node}
 use Rattle.g_graph.specs.WellFormed.{all_of, is_last_of, is_last, inputs_fit, inputs_are_last, node_has_one_state_each, has_its_regions, regions_fit, theta_has_states, has_its_width, has_its_object, node_fits, nodes_fit, results_are_last, returns_state, region_has_one_state_each, region_fits, every_region, every_in_nodes, every_in_regions}
 use Rattle.g_mean.specs.Copies.{IsAmong, IsRead, AreRead, known_after, is_argument, IsClosed, NodesRead, AllClosed}

@@ -10,7 +10,7 @@ use Rattle.g_graph.specs.declared.op.Kind.TheVariants.{Value as ValueKind, Memor
 use Rattle.g_graph.specs.declared.op.Origin.{Origin}
 use Rattle.g_graph.specs.declared.op.Op.TheVariants.{Const, Undef, Local, Delta, Bin, Un, Load, Store, Clear, PtrEq, Apply, Put, Exit, Get, Gamma, Theta}
 use Rattle.g_graph.specs.Plain.{RegionTree, region, NodeTree, node, NodeTrees, no_nodes, node_then, RegionTrees, no_regions, region_then, nodes_of, id_of, args_of}
-use Rattle.g_graph.specs.Rows.{output_kinds, result_kinds}
+use Rattle.g_graph.specs.Signatures.{output_kinds, result_kinds}
 use Rattle.g_graph.specs.Scope.{is_of, same_kind, each_node}
 use Rattle.g_graph.specs.WellFormed.{same, inputs_fit, inputs_are_last, node_has_one_state_each, has_its_width, has_its_object, results_are_last, region_has_one_state_each, every_region, some_of, are, kinds_of, all_regions, gives, returns_state, every_in_node, every_in_nodes, every_in_regions, has_its_regions, regions_fit, theta_has_states, node_fits, nodes_fit, region_fits}
 use Rattle.g_mean.specs.Data.{Datum, val, memory, input, on_memory, at_port, value_of, value_at}

@@ -4,7 +4,7 @@ use Rattle.val_core.specs.Answers.{Answer, Returned, Undefined}
 use Rattle.g_graph.specs.declared.op.Kind.{Kind}
 use Rattle.g_graph.specs.declared.op.Kind.TheVariants.{Memory, Io}
 use Rattle.g_graph.specs.Plain.{NodeTree, NodeTrees}
-use Rattle.g_graph.specs.Rows.{output_kinds}
+use Rattle.g_graph.specs.Signatures.{output_kinds}
 use Rattle.g_graph.specs.Scope.{is_of}
 use Rattle.g_graph.specs.WellFormed.{some_of, every_in_node, node_fits, region_fits}
 use Rattle.g_mean.specs.Data.{Datum}

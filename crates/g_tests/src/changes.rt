@@ -135,11 +135,11 @@ fn each_use_in_a_region_is_replaced(rt: HostRuntime) -> Result<(), Fail> {
     let mut in_body = sum(alloc, 0, &[out(0, 0), M, I])?;
     replace_uses(&mut in_body, out(0, 0), out(1, 0), None);
     assert!(rt; equal(&in_body, &expected));
-    let mut in_enclosing = sum(alloc, 0, &[out(0, 0), M, I])?;
-    replace_uses(&mut in_enclosing, out(0, 0), out(1, 0), Some(2));
-    assert!(rt; equal(&in_enclosing, &expected));
-    replace_uses(&mut in_enclosing, out(1, 0), out(0, 0), Some(3));
-    assert!(rt; equal(&in_enclosing, &expected));
+    let mut in_region_of = sum(alloc, 0, &[out(0, 0), M, I])?;
+    replace_uses(&mut in_region_of, out(0, 0), out(1, 0), Some(2));
+    assert!(rt; equal(&in_region_of, &expected));
+    replace_uses(&mut in_region_of, out(1, 0), out(0, 0), Some(3));
+    assert!(rt; equal(&in_region_of, &expected));
     Ok(())
 }
 

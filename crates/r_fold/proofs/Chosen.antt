@@ -4,7 +4,7 @@ use Rattle.g_graph.specs.declared.op.Op.TheVariants.{Gamma}
 use Rattle.g_graph.specs.declared.op.Origin.{Origin}
 use Rattle.g_graph.specs.Plain.{RegionTree, node, RegionTrees, no_regions, region_then, args_of}
 use Rattle.g_graph.specs.Ids.{region_ids, regions_ids}
-use Rattle.g_graph.specs.Rows.{first_args, result_kinds, output_kinds}
+use Rattle.g_graph.specs.Signatures.{first_args, result_kinds, output_kinds}
 use Rattle.g_graph.specs.WellFormed.{all_regions, are, same, kinds_of, regions_fit, every_region, every_in_regions}
 use Rattle.g_graph.proofs.UniqueLemmas.{first_true, second_true, times, times_append}
 use Rattle.g_graph.proofs.NodeLemmas.{are_kinds, same_kinds}

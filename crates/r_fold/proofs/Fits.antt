@@ -9,7 +9,7 @@ use Rattle.g_graph.specs.declared.op.Op.TheVariants.{Gamma, Theta}
 use Rattle.g_graph.specs.declared.op.Origin.{Origin}
 use Rattle.g_graph.specs.Plain.{RegionTree, region, NodeTree, node, NodeTrees, node_then, RegionTrees, no_regions, region_then, PlainLambda}
 use Rattle.g_graph.specs.Ids.{region_ids, nodes_ids, regions_ids}
-use Rattle.g_graph.specs.Rows.{first_args}
+use Rattle.g_graph.specs.Signatures.{first_args}
 use Rattle.g_graph.specs.Scope.{known}
 use Rattle.g_graph.specs.WellFormed.{some_of, distinct, are}
 use Rattle.g_graph.specs.Splice.{joined_nodes}

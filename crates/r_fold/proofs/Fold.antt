@@ -32,11 +32,11 @@ use Rattle.g_mean.proofs.LocalRefinement.{none-less}
 use Rattle.g_mean.proofs.Kept.{reads-refines}
 use Rattle.g_mean.proofs.LessDefinedLemmas.{less-kept}
 use Rattle.g_mean.proofs.Equal.{no_deeper-compares}
-use Rattle.r_fold.specs.Rule.{node_at, node_set, constant, is_word, left_neutral, right_neutral, Folded, word, input, part, bin_folded, gamma_folded, theta_folded, chosen_region, folding, is_used, folded, fold_here}
+use Rattle.r_fold.specs.Rule.{node_at, node_set, constant, is_word, left_neutral, right_neutral, Folded, word, input, replacement, bin_folded, gamma_folded, theta_folded, chosen_region, folding, is_used, folded, fold_here}
 use Rattle.r_fold.proofs.Finding.{Found, found-at, constant-holds, constant-small}
 use Rattle.r_fold.proofs.Neutral.{left-less, right-less}
 use Rattle.r_fold.proofs.Fits.{gamma-fits, theta-fits, inputs-read, regions-closed, inner-unique}
-use Rattle.r_fold.proofs.Law.{input-holds, word-replaces, input-replaces, part-replaces}
+use Rattle.r_fold.proofs.Law.{input-holds, word-replaces, input-replaces, replacement-replaces}
 use Rattle.val_core.proofs.lemmas.Answers.{then_associates, then_on_given}
 use Rattle.g_mean.proofs.Regions.{region-refines}
 use Rattle.g_mean.proofs.Replacement.{lambdas_keep_meaning}
@@ -176,11 +176,11 @@ module _ (ls ks : List PlainLambda) (l : PlainLambda) (args : List Kind) (before
       })
 
   -- the region that a constant chooses
-  gamma-part : (p : Origin) (entries : List Origin) (rs : RegionTrees) → IsPartOf l (whole (node id Gamma (p ∷ entries) rs)) → (w : ℕ) → constant (context_node (node id Gamma (p ∷ entries) rs)) p ≡ Some w → (own : List Kind) (ns : NodeTrees) (gives : List Origin) → chosen_region w rs ≡ Some (region own ns gives) → Replaces ls ks (whole (node id Gamma (p ∷ entries) rs)) (region_spliced id (region_redirected (args_to_inputs entries) (region own ns gives)) (whole (node id Gamma (p ∷ entries) rs)))
-  gamma-part p entries rs well w e own ns gives chosen_it =
+  gamma-replacement : (p : Origin) (entries : List Origin) (rs : RegionTrees) → IsPartOf l (whole (node id Gamma (p ∷ entries) rs)) → (w : ℕ) → constant (context_node (node id Gamma (p ∷ entries) rs)) p ≡ Some w → (own : List Kind) (ns : NodeTrees) (gives : List Origin) → chosen_region w rs ≡ Some (region own ns gives) → Replaces ls ks (whole (node id Gamma (p ∷ entries) rs)) (region_spliced id (region_redirected (args_to_inputs entries) (region own ns gives)) (whole (node id Gamma (p ∷ entries) rs)))
+  gamma-replacement p entries rs well w e own ns gives chosen_it =
       let x = node id Gamma (p ∷ entries) rs in
       let reads = inputs-read l args before id Gamma (p ∷ entries) rs after results well in
-      part-replaces ls ks l args before x after results well own ns gives entries (gamma-fits l args before id p entries rs after results well w own ns gives chosen_it)
+      replacement-replaces ls ks l args before x after results well own ns gives entries (gamma-fits l args before id p entries rs after results well w own ns gives chosen_it)
       (λ direction global c d context linked xs ys o q near like have.
       let held = input-holds ls ks l args before x after results well c xs o p w have reads.0 e in
       let us = map (read xs o) entries in
@@ -189,13 +189,13 @@ module _ (ls ks : List PlainLambda) (l : PlainLambda) (args : List Kind) (before
       ((itself-refines direction c d context (region own ns gives)).on us (map (read ys q) entries) (reads-refines IsLessDefinedDatum less-kept xs ys near o q like entries)))
 
   -- a region that runs once
-  theta-part : (own : List Kind) (ns : NodeTrees) (p : Origin) (gives inputs : List Origin) → IsPartOf l (whole (node id Theta inputs (region_then (region own ns (p ∷ gives)) no_regions))) → constant ns p ≡ Some 0 → Replaces ls ks (whole (node id Theta inputs (region_then (region own ns (p ∷ gives)) no_regions))) (region_spliced id (region_redirected (args_to_inputs inputs) (region own ns gives)) (whole (node id Theta inputs (region_then (region own ns (p ∷ gives)) no_regions))))
-  theta-part own ns p gives inputs well e =
+  theta-replacement : (own : List Kind) (ns : NodeTrees) (p : Origin) (gives inputs : List Origin) → IsPartOf l (whole (node id Theta inputs (region_then (region own ns (p ∷ gives)) no_regions))) → constant ns p ≡ Some 0 → Replaces ls ks (whole (node id Theta inputs (region_then (region own ns (p ∷ gives)) no_regions))) (region_spliced id (region_redirected (args_to_inputs inputs) (region own ns gives)) (whole (node id Theta inputs (region_then (region own ns (p ∷ gives)) no_regions))))
+  theta-replacement own ns p gives inputs well e =
       let rs = region_then (region own ns (p ∷ gives)) no_regions in
       let x = node id Theta inputs rs in
       let closed = (regions-closed l args before id Theta inputs rs after results well).0 in
       let unique = inner-unique l args before id Theta inputs own ns (p ∷ gives) after results well in
-      part-replaces ls ks l args before x after results well own ns gives inputs (theta-fits l args before id inputs own ns p gives after results well)
+      replacement-replaces ls ks l args before x after results well own ns gives inputs (theta-fits l args before id inputs own ns p gives after results well)
       (λ direction global c d context linked xs ys o q near like have.
       let us = map (read xs o) inputs in
       let vs = map (read ys q) inputs in
@@ -215,8 +215,8 @@ module _ (ls ks : List PlainLambda) (l : PlainLambda) (args : List Kind) (before
   input-change x a h f e s d =
       subst (λ z. Replaces ls ks (whole x) z) (some-of (is_used (Out id 0) (whole x)) (region_redirected (origin_replaced (Out id 0) a) (whole x)) s (ap (folded id (whole x)) e ∙ d)).1 h
 
-  part-change : (x : NodeTree) (r : RegionTree) (inputs : List Origin) → Replaces ls ks (whole x) (region_spliced id (region_redirected (args_to_inputs inputs) r) (whole x)) → (f : Folded) → part r inputs ≡ f → (s : RegionTree) → folded id (whole x) f ≡ Some s → Replaces ls ks (whole x) s
-  part-change x r inputs h f e s d =
+  replacement-change : (x : NodeTree) (r : RegionTree) (inputs : List Origin) → Replaces ls ks (whole x) (region_spliced id (region_redirected (args_to_inputs inputs) r) (whole x)) → (f : Folded) → replacement r inputs ≡ f → (s : RegionTree) → folded id (whole x) f ≡ Some s → Replaces ls ks (whole x) s
+  replacement-change x r inputs h f e s d =
       let same : Some (region_spliced id (region_redirected (args_to_inputs inputs) r) (whole x)) ≡ Some s = ap (folded id (whole x)) e ∙ d in
       subst (λ z. Replaces ls ks (whole x) z) (some-equal _ _ same) h
 
@@ -242,19 +242,19 @@ module _ (ls ks : List PlainLambda) (l : PlainLambda) (args : List Kind) (before
   theta-replaces : (r : RegionTree) (ins : List Origin) → IsPartOf l (whole (node id Theta ins (region_then r no_regions))) → (f : Folded) → theta_folded r ins ≡ Some f → (s : RegionTree) → folded id (whole (node id Theta ins (region_then r no_regions))) f ≡ Some s → Replaces ls ks (whole (node id Theta ins (region_then r no_regions))) s
   theta-replaces (region own ns []) ins well f e s d = absurd cc
   theta-replaces (region own ns (p ∷ gives)) ins well f e s d =
-      let found = some-of (is_word (Some 0) (constant ns p)) (part (region own ns gives) ins) f e in
+      let found = some-of (is_word (Some 0) (constant ns p)) (replacement (region own ns gives) ins) f e in
       let k = word-test (Some 0) (constant ns p) found.0 in
-      part-change (node id Theta ins (region_then (region own ns (p ∷ gives)) no_regions)) (region own ns gives) ins (theta-part own ns p gives ins well (k.2 ∙ sym k.1)) f found.1 s d
+      replacement-change (node id Theta ins (region_then (region own ns (p ∷ gives)) no_regions)) (region own ns gives) ins (theta-replacement own ns p gives ins well (k.2 ∙ sym k.1)) f found.1 s d
 
   gamma-replaces : (p : Origin) (entries : List Origin) (rs : RegionTrees) → IsPartOf l (whole (node id Gamma (p ∷ entries) rs)) → (u : Option ℕ) → constant (context_node (node id Gamma (p ∷ entries) rs)) p ≡ u → (f : Folded) → gamma_folded rs entries u ≡ Some f → (s : RegionTree) → folded id (whole (node id Gamma (p ∷ entries) rs)) f ≡ Some s → Replaces ls ks (whole (node id Gamma (p ∷ entries) rs)) s
   gamma-replaces p entries rs well None eu f e s d = absurd cc
   gamma-replaces p entries rs well (Some w) eu f e s d =
-      let found = some-mapped (λ r. part r entries) (chosen_region w rs) f e in
+      let found = some-mapped (λ r. replacement r entries) (chosen_region w rs) f e in
       by found.0 found.1 found.2
     where
-      by : (r : RegionTree) → chosen_region w rs ≡ Some r → part r entries ≡ f → Replaces ls ks (whole (node id Gamma (p ∷ entries) rs)) s
+      by : (r : RegionTree) → chosen_region w rs ≡ Some r → replacement r entries ≡ f → Replaces ls ks (whole (node id Gamma (p ∷ entries) rs)) s
       by (region own ns gives) chosen_it is =
-          part-change (node id Gamma (p ∷ entries) rs) (region own ns gives) entries (gamma-part p entries rs well w eu own ns gives chosen_it) f is s d
+          replacement-change (node id Gamma (p ∷ entries) rs) (region own ns gives) entries (gamma-replacement p entries rs well w eu own ns gives chosen_it) f is s d
 
   node-replaces : (op : Op) (ins : List Origin) (rs : RegionTrees) → IsPartOf l (whole (node id op ins rs)) → ((y : NodeTree) → node_set id y (context_node (node id op ins rs)) ≡ context_node y) → (f : Folded) → folding (context_node (node id op ins rs)) (node id op ins rs) ≡ Some f → (s : RegionTree) → folded id (whole (node id op ins rs)) f ≡ Some s → Replaces ls ks (whole (node id op ins rs)) s
   node-replaces (Bin op) (a ∷ b ∷ []) rs well first f e s d =

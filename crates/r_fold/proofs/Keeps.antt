@@ -13,7 +13,7 @@ use Rattle.g_graph.specs.declared.op.Origin.{Origin}
 use Rattle.g_graph.specs.declared.op.Origin.TheVariants.{Arg, Out}
 use Rattle.g_graph.specs.Plain.{RegionTree, region, NodeTree, node, NodeTrees, no_nodes, node_then, RegionTrees, no_regions, region_then, id_of, PlainLambda}
 use Rattle.g_graph.specs.Ids.{region_ids, nodes_ids, regions_ids}
-use Rattle.g_graph.specs.Rows.{first_args, output_kinds}
+use Rattle.g_graph.specs.Signatures.{first_args, output_kinds}
 use Rattle.g_graph.specs.Scope.{is_of, known}
 use Rattle.g_graph.specs.Change.{has_node, region_changed}
 use Rattle.g_graph.specs.WellFormed.{all_of, some_of, are, one_state_each, gives, is_last, nodes_fit, results_are_last, returns_state, region_has_one_state_each, region_fits, every_region, every_in_nodes, well_formed, IsWellFormed}
@@ -23,12 +23,12 @@ use Rattle.g_graph.proofs.ReplaceLemmas.{region_ids-redirected}
 use Rattle.g_graph.proofs.SpliceLemmas.{Split, split_at}
 use Rattle.g_graph.proofs.UniqueLemmas.{first_true, second_true, times, times_append, times_cons}
 use Rattle.g_graph.proofs.NumberedLemmas.{Numbered}
-use Rattle.g_graph.proofs.PlaceLemmas.{same_number_true}
+use Rattle.g_graph.proofs.IndexLemmas.{same_number_true}
 use Rattle.g_graph.proofs.MovedLemmas.{ValueFor, moved_kept}
 use Rattle.g_graph.proofs.NestNumbers.{changed_well_formed_within}
-use Rattle.g_graph.proofs.NodeLemmas.{NodeFits, node_fits_here, KeptWithin, PartGives, part_keeps, are_kinds, first_kind, value_for}
+use Rattle.g_graph.proofs.NodeLemmas.{NodeFits, node_fits_here, KeptWithin, ReplacementGives, replacement_keeps, are_kinds, first_kind, value_for}
 use Rattle.r_fold.proofs.Chosen.{chosen_inside, chosen_times, chosen_kinds}
-use Rattle.r_fold.specs.Rule.{node_at, node_set, constant, is_word, left_neutral, right_neutral, Folded, word, input, part, bin_folded, gamma_folded, theta_folded, chosen_region, folding, is_used, folded, fold_here, fold}
+use Rattle.r_fold.specs.Rule.{node_at, node_set, constant, is_word, left_neutral, right_neutral, Folded, word, input, replacement, bin_folded, gamma_folded, theta_folded, chosen_region, folding, is_used, folded, fold_here, fold}
 
 some_equal : {X : Type 0} (x y : X) → Some x ≡ Some y → x ≡ y
 some_equal x y e = cc
@@ -48,7 +48,7 @@ const_given : (n w : ℕ) → map (known [] (const_nodes n w)) (Out n 0 ∷ []) 
 const_given n w = let t : (n == n) ≡ true = same_number_true n in rw t
 
 const_gives : (objects : ℕ) (args : List Kind) (before : NodeTrees) (id : ℕ) (op : Op) (ins : List Origin) (rs : RegionTrees) (w : ℕ) → output_kinds (node id op ins rs) ≡ Some Value ∷ [] →
-    PartGives objects args before (node id op ins rs) [] (const_nodes id w) (Out id 0 ∷ []) []
+    ReplacementGives objects args before (node id op ins rs) [] (const_nodes id w) (Out id 0 ∷ []) []
 const_gives objects args before id op ins rs w e = record {
   inside = const_inside objects id w;
   entries = refl;
@@ -119,7 +119,7 @@ tail_inside objects own ns p outs v e =
 
 theta_gives : (objects : ℕ) (args : List Kind) (before : NodeTrees) (id : ℕ) (ins : List Origin) (own : List Kind) (ns : NodeTrees) (p : Origin) (outs : List Origin) (after : NodeTrees) →
     NodeFits objects args before (node id Theta ins (region_then (region own ns (p ∷ outs)) no_regions)) after →
-    PartGives objects args before (node id Theta ins (region_then (region own ns (p ∷ outs)) no_regions)) own ns outs ins
+    ReplacementGives objects args before (node id Theta ins (region_then (region own ns (p ∷ outs)) no_regions)) own ns outs ins
 theta_gives objects args before id ins own ns p outs after here =
     let kinds = map (known own ns) outs in
     let results = first_kind (known own ns p) kinds Value own (first_true (are (known own ns p ∷ kinds) (Value ∷ own)) true here.regions) in
@@ -135,7 +135,7 @@ theta_gives objects args before id ins own ns p outs after here =
 
 gamma_gives : (objects : ℕ) (args : List Kind) (before : NodeTrees) (id : ℕ) (p : Origin) (entries : List Origin) (rs : RegionTrees) (after : NodeTrees) →
     NodeFits objects args before (node id Gamma (p ∷ entries) rs) after → (w : ℕ) (own : List Kind) (ns : NodeTrees) (outs : List Origin) → chosen_region w rs ≡ Some (region own ns outs) →
-    PartGives objects args before (node id Gamma (p ∷ entries) rs) own ns outs entries
+    ReplacementGives objects args before (node id Gamma (p ∷ entries) rs) own ns outs entries
 gamma_gives objects args before id p entries rs after here w own ns outs e =
     let kinds = chosen_kinds id w (p ∷ entries) rs (region own ns outs) e here.regions in
     let inputs = first_kind (known args before p) (map (known args before) entries) Value (first_args rs) here.inputs in
@@ -161,16 +161,16 @@ module _ (objects next n : ℕ) (args : List Kind) (ns : NodeTrees) (results : L
   here_is : (x : NodeTree) → split.here ≡ x → NodeFits objects args split.before x split.after
   here_is x e = subst (λ y. NodeFits objects args split.before y split.after) e split_here
 
-  part_kept_by : (x : NodeTree) → split.here ≡ x → (own : List Kind) (nodes : NodeTrees) (outs is : List Origin) → PartGives objects args split.before x own nodes outs is →
+  replacement_kept_by : (x : NodeTree) → split.here ≡ x → (own : List Kind) (nodes : NodeTrees) (outs is : List Origin) → ReplacementGives objects args split.before x own nodes outs is →
       KeptWithin objects whole (region_spliced n (region_redirected (args_to_inputs is) (region own nodes outs)) whole)
-  part_kept_by x e own nodes outs is g =
-      part_keeps objects n args ns results split own nodes outs is fits split_here (subst (λ y. PartGives objects args split.before y own nodes outs is) (sym e) g)
+  replacement_kept_by x e own nodes outs is g =
+      replacement_keeps objects n args ns results split own nodes outs is fits split_here (subst (λ y. ReplacementGives objects args split.before y own nodes outs is) (sym e) g)
 
   word_keeps : (op : Op) (ins : List Origin) (rs : RegionTrees) → split.here ≡ node n op ins rs → output_kinds (node n op ins rs) ≡ Some Value ∷ [] → (w : ℕ) →
       KeptWithin objects whole (region args (node_set n (node n (Const w) [] no_regions) ns) results)
   word_keeps op ins rs e o w =
       subst (λ s. KeptWithin objects whole s) (word_spliced n w args ns results)
-      (part_kept_by (node n op ins rs) e [] (const_nodes n w) (Out n 0 ∷ []) [] (const_gives objects args split.before n op ins rs w o))
+      (replacement_kept_by (node n op ins rs) e [] (const_nodes n w) (Out n 0 ∷ []) [] (const_gives objects args split.before n op ins rs w o))
 
   input_keeps : (op : Op) (ins : List Origin) (rs : RegionTrees) → split.here ≡ node n op ins rs → output_kinds (node n op ins rs) ≡ Some Value ∷ [] → (b : Origin) → known args split.before b ≡ Some Value →
       KeptWithin objects whole (region_redirected (origin_replaced (Out n 0) b) whole)
@@ -199,11 +199,11 @@ module _ (objects next n : ℕ) (args : List Kind) (ns : NodeTrees) (results : L
           subst (λ t. KeptWithin objects whole t) is (input_keeps op ins rs e o b v)
       by_use false h = absurd (cc)
 
-  part_change : (x : NodeTree) → split.here ≡ x → (own : List Kind) (nodes : NodeTrees) (outs is : List Origin) → PartGives objects args split.before x own nodes outs is → (f : Folded) → part (region own nodes outs) is ≡ f →
+  replacement_change : (x : NodeTree) → split.here ≡ x → (own : List Kind) (nodes : NodeTrees) (outs is : List Origin) → ReplacementGives objects args split.before x own nodes outs is → (f : Folded) → replacement (region own nodes outs) is ≡ f →
       (s : RegionTree) → folded n whole f ≡ Some s → KeptWithin objects whole s
-  part_change x e own nodes outs is g f q s d =
+  replacement_change x e own nodes outs is g f q s d =
       let same : Some (region_spliced n (region_redirected (args_to_inputs is) (region own nodes outs)) whole) ≡ Some s = ap (folded n whole) q ∙ d in
-      subst (λ t. KeptWithin objects whole t) (some_equal _ _ same) (part_kept_by x e own nodes outs is g)
+      subst (λ t. KeptWithin objects whole t) (some_equal _ _ same) (replacement_kept_by x e own nodes outs is g)
 
   inputs_keep : (op : Op2) (a b : Origin) (rs : RegionTrees) → split.here ≡ node n (Bin op) (a ∷ b ∷ []) rs → (u v : Option ℕ) (f : Folded) →
       (if is_word (left_neutral op) u then Some (input b) else if is_word (right_neutral op) v then Some (input a) else None) ≡ Some f → (s : RegionTree) → folded n whole f ≡ Some s → KeptWithin objects whole s
@@ -234,10 +234,10 @@ module _ (objects next n : ℕ) (args : List Kind) (ns : NodeTrees) (results : L
   gamma_keeps p entries rs e None f q s d = absurd (cc)
   gamma_keeps p entries rs e (Some w) f q s d = by_choice (chosen_region w rs) refl q
     where
-      by_choice : (c : Option RegionTree) → chosen_region w rs ≡ c → option_map (λ r. part r entries) c ≡ Some f → KeptWithin objects whole s
+      by_choice : (c : Option RegionTree) → chosen_region w rs ≡ c → option_map (λ r. replacement r entries) c ≡ Some f → KeptWithin objects whole s
       by_choice None h g = absurd (cc)
       by_choice (Some (region own nodes outs)) h g =
-          part_change (node n Gamma (p ∷ entries) rs) e own nodes outs entries
+          replacement_change (node n Gamma (p ∷ entries) rs) e own nodes outs entries
           (gamma_gives objects args split.before n p entries rs split.after (here_is (node n Gamma (p ∷ entries) rs) e) w own nodes outs h) f (some_equal _ _ g) s d
 
   theta_keeps : (ins : List Origin) (r : RegionTree) → split.here ≡ node n Theta ins (region_then r no_regions) → (f : Folded) → theta_folded r ins ≡ Some f → (s : RegionTree) → folded n whole f ≡ Some s →
@@ -245,9 +245,9 @@ module _ (objects next n : ℕ) (args : List Kind) (ns : NodeTrees) (results : L
   theta_keeps ins (region own nodes []) e f q s d = absurd (cc)
   theta_keeps ins (region own nodes (p ∷ outs)) e f q s d = by_word (is_word (Some 0) (constant nodes p)) q
     where
-      by_word : (t : Bool) → (if t then Some (part (region own nodes outs) ins) else None) ≡ Some f → KeptWithin objects whole s
+      by_word : (t : Bool) → (if t then Some (replacement (region own nodes outs) ins) else None) ≡ Some f → KeptWithin objects whole s
       by_word true h =
-          part_change (node n Theta ins (region_then (region own nodes (p ∷ outs)) no_regions)) e own nodes outs ins
+          replacement_change (node n Theta ins (region_then (region own nodes (p ∷ outs)) no_regions)) e own nodes outs ins
           (theta_gives objects args split.before n ins own nodes p outs split.after (here_is (node n Theta ins (region_then (region own nodes (p ∷ outs)) no_regions)) e)) f (some_equal _ _ h) s d
       by_word false h = absurd (cc)
 

@@ -57,7 +57,7 @@ module _ (ls ks : List PlainLambda) (l : PlainLambda) (args : List Kind) (before
   pub input-holds : (c : Context) (xs : List Datum) (o : Outputs) (a : Origin) (u : ℕ) → HaveRun c xs o before → IsRead (is_argument count) (known_after [] before) a → constant nodes a ≡ Some u → (read xs o a ≡ val (Num u)) × (u < 2 ^ 32)
   input-holds c xs o a u have r e = constant-holds c count xs o before (node_then x after) a u have r e
 
-  -- ---- a constant in the place of the node
+  -- ---- a constant instead of the node
 
   pub word-replaces : (w : ℕ) → w < 2 ^ 32 → ((c : Context) (xs : List Datum) (o : Outputs) → HaveRun c xs o before → node_run c x xs o ≡ Returned (val (Num w) ∷ []) []) → Replaces ls ks (region args nodes results) (region args (joined_nodes before (node_then (node (id_of x) (Const w) [] no_regions) after)) results)
   word-replaces w small gives =
@@ -72,7 +72,7 @@ module _ (ls ks : List PlainLambda) (l : PlainLambda) (args : List Kind) (before
         };
       }
 
-  -- ---- an input in the place of its uses
+  -- ---- an input instead of its uses
 
   abbrev instead : Origin → Origin → Origin
   instead b a = origin_replaced (Out (id_of x) 0) b a
@@ -129,10 +129,10 @@ module _ (ls ks : List PlainLambda) (l : PlainLambda) (args : List Kind) (before
 
   -- ---- a region in its place
 
-  pub part-replaces : (own : List Kind) (nodes' : NodeTrees) (gives inputs : List Origin) → FitsInto args before x after results nodes' gives inputs →
+  pub replacement-replaces : (own : List Kind) (nodes' : NodeTrees) (gives inputs : List Origin) → FitsInto args before x after results nodes' gives inputs →
       ((direction : Direction) (global : ℕ → Value) (c d : Context) → ContextRefines no_deeper direction IsLessDefinedDatum c d → Linked direction ls ks global c d → (xs ys : List Datum) (o q : Outputs) → Paired IsLessDefinedDatum xs ys → OutputsRefine IsLessDefinedDatum o q → HaveRun c xs o before → Refines no_deeper direction (Paired IsLessDefinedDatum) (node_run c x xs o) (region_meaning d (region own nodes' gives) (map (read ys q) inputs))) →
       Replaces ls ks (region args nodes results) (region_spliced (id_of x) (region_redirected (args_to_inputs inputs) (region own nodes' gives)) (region args nodes results))
-  part-replaces own nodes' gives inputs fits like =
+  replacement-replaces own nodes' gives inputs fits like =
       record {
         at = λ direction global. record {
           at = λ c d context linked.

@@ -15,7 +15,7 @@ use Rattle.g_graph.specs.WellFormed.{IsWellFormed}
 use Rattle.g_graph.specs.Change.{first_some, region_changed, node_changed, nodes_changed, regions_changed}
 use Rattle.g_graph.specs.Replace.{nodes_redirected, region_redirected, origin_replaced}
 use Rattle.g_graph.specs.Splice.{args_to_inputs, outputs_to_results, joined_nodes, nodes_spliced, region_spliced}
-use Rattle.r_fold.specs.Rule.{node_at, node_set, constant, is_word, left_neutral, right_neutral, Folded, word, input, part, bin_folded, gamma_folded, theta_folded, chosen_region, folding, is_used, folded, fold_here, fold}
+use Rattle.r_fold.specs.Rule.{node_at, node_set, constant, is_word, left_neutral, right_neutral, Folded, word, input, replacement, bin_folded, gamma_folded, theta_folded, chosen_region, folding, is_used, folded, fold_here, fold}
 use Rattle.r_fold.specs.Lists.{OpCalls, RegionCalls, NodeCalls, NodesCalls, RegionsCalls, HasCallee, IsComplete, FoldKeepsLists}
 use Rattle.r_fold.proofs.Keeps.{fold_well_formed}
 
@@ -64,10 +64,10 @@ module _ (p : ℕ → ℕ → Type 0) where
   chosen_calls zero (region_then s (region_then t rs)) r e h = subst (λ z. RegionCalls p z) (some_is s r e) h.0
   chosen_calls (suc w) (region_then s (region_then t rs)) r e h = chosen_calls w (region_then t rs) r e h.1
 
-  -- ---- what comes in the place of a node has no other calls than the node
+  -- ---- what comes instead of a node has no other calls than the node
 
   abbrev FoldedCalls : Folded → Type 0
-  FoldedCalls (part r inputs) = RegionCalls p r
+  FoldedCalls (replacement r inputs) = RegionCalls p r
   FoldedCalls f = Unit {0}
 
   inputs_calls : (l r : Bool) (a b : Origin) (f : Folded) → (if l then Some (input b) else if r then Some (input a) else None) ≡ Some f → FoldedCalls f
@@ -88,16 +88,16 @@ module _ (p : ℕ → ℕ → Type 0) where
   gamma_calls entries rs None f e h = absurd (cc)
   gamma_calls entries rs (Some w) f e h = by_choice (chosen_region w rs) refl e
     where
-      by_choice : (c : Option RegionTree) → chosen_region w rs ≡ c → option_map (λ r. part r entries) c ≡ Some f → FoldedCalls f
+      by_choice : (c : Option RegionTree) → chosen_region w rs ≡ c → option_map (λ r. replacement r entries) c ≡ Some f → FoldedCalls f
       by_choice None a d = absurd (cc)
-      by_choice (Some r) a d = subst FoldedCalls (some_is (part r entries) f d) (chosen_calls w rs r a h)
+      by_choice (Some r) a d = subst FoldedCalls (some_is (replacement r entries) f d) (chosen_calls w rs r a h)
 
   theta_calls : (inputs : List Origin) (r : RegionTree) (f : Folded) → theta_folded r inputs ≡ Some f → RegionCalls p r → FoldedCalls f
   theta_calls inputs (region args nodes []) f e h = absurd (cc)
   theta_calls inputs (region args nodes (o ∷ results)) f e h = by_word (is_word (Some 0) (constant nodes o)) e
     where
-      by_word : (t : Bool) → (if t then Some (part (region args nodes results) inputs) else None) ≡ Some f → FoldedCalls f
-      by_word true d = subst FoldedCalls (some_is (part (region args nodes results) inputs) f d) h
+      by_word : (t : Bool) → (if t then Some (replacement (region args nodes results) inputs) else None) ≡ Some f → FoldedCalls f
+      by_word true d = subst FoldedCalls (some_is (replacement (region args nodes results) inputs) f d) h
       by_word false d = absurd (cc)
 
   folding_calls : (ns : NodeTrees) (n : ℕ) (op : Op) (inputs : List Origin) (rs : RegionTrees) (f : Folded) → folding ns (node n op inputs rs) ≡ Some f → RegionsCalls p rs → FoldedCalls f
@@ -137,7 +137,7 @@ module _ (p : ℕ → ℕ → Type 0) where
       by_use : (t : Bool) → (if t then Some (region_redirected (origin_replaced (Out n 0) a) (region args ns results)) else None) ≡ Some s → RegionCalls p s
       by_use true d = subst (λ z. RegionCalls p z) (some_is (region_redirected (origin_replaced (Out n 0) a) (region args ns results)) s d) (redirected_calls (origin_replaced (Out n 0) a) ns h)
       by_use false d = absurd (cc)
-  folded_calls n args ns results (part (region own nodes outs) inputs) s e k h =
+  folded_calls n args ns results (replacement (region own nodes outs) inputs) s e k h =
       subst (λ z. RegionCalls p z) (some_is (region_spliced n (region_redirected (args_to_inputs inputs) (region own nodes outs)) (region args ns results)) s e)
       (spliced_calls n (nodes_redirected (args_to_inputs inputs) nodes) (map (args_to_inputs inputs) outs) ns (redirected_calls (args_to_inputs inputs) nodes k) h)
 
@@ -241,7 +241,7 @@ module _ (p q : ℕ → ℕ → Type 0) (follows : (f n : ℕ) → p f n → q f
     regions_follow no_regions h = h
     regions_follow (region_then r rs) h = (region_follows r h.0, regions_follow rs h.1)
 
--- ---- a list with one lambda in the place of another
+-- ---- a list with one lambda instead of another
 
 set_get : (ls : List PlainLambda) (f g : ℕ) (k m : PlainLambda) → slice_get (slice_set ls f k) g ≡ Some m → ((g ≡ f) × (m ≡ k)) ⊎ (slice_get ls g ≡ Some m)
 set_get [] f g k m e = inr e

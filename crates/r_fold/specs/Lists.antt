@@ -39,7 +39,7 @@ pub record IsComplete (ls : List PlainLambda) : Type 0 where
   pub numbered : (f : ℕ) (l : PlainLambda) → slice_get ls f ≡ Some l → l.number ≡ f
   pub calls : (f : ℕ) (l : PlainLambda) → slice_get ls f ≡ Some l → RegionCalls (HasCallee ls) l.body
 
--- with the one lambda in the place of the other a complete list stays complete
+-- with the one lambda instead of the other a complete list stays complete
 abbrev pub KeepsLists : PlainLambda → PlainLambda → Type 0
 KeepsLists l k = (ls : List PlainLambda) (f : ℕ) → slice_get ls f ≡ Some l → IsComplete ls → IsComplete (slice_set ls f k)
 

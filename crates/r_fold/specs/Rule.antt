@@ -55,13 +55,13 @@ right_neutral Srl = Some 0
 right_neutral Sra = Some 0
 right_neutral op = left_neutral op
 
--- ---- what comes in the place of a node
+-- ---- what comes instead of a node
 
 -- a constant; another origin for its uses; or a region, whose arguments are these
 pub data Folded : Type 0 where
   word : ℕ → Folded
   input : Origin → Folded
-  part : RegionTree → (inputs : List Origin) → Folded
+  replacement : RegionTree → (inputs : List Origin) → Folded
 
 abbrev pub bin_folded : Op2 → (a b : Origin) → Option ℕ → Option ℕ → Option Folded
 bin_folded op a b (Some u) (Some v) = Some (word (word2 op u v))
@@ -77,13 +77,13 @@ chosen_region (suc w) (region_then r rs) = chosen_region w rs
 
 abbrev pub gamma_folded : RegionTrees → List Origin → Option ℕ → Option Folded
 gamma_folded rs entries None = None
-gamma_folded rs entries (Some w) = option_map (λ r. part r entries) (chosen_region w rs)
+gamma_folded rs entries (Some w) = option_map (λ r. replacement r entries) (chosen_region w rs)
 
 -- a region that is repeated while a constant 0 is not 0
 abbrev pub theta_folded : RegionTree → List Origin → Option Folded
 theta_folded (region args nodes []) inputs = None
 theta_folded (region args nodes (p ∷ results)) inputs =
-    if is_word (Some 0) (constant nodes p) then Some (part (region args nodes results) inputs) else None
+    if is_word (Some 0) (constant nodes p) then Some (replacement (region args nodes results) inputs) else None
 
 abbrev pub folding : NodeTrees → NodeTree → Option Folded
 folding nodes (node id (Bin op) (a ∷ b ∷ []) rs) = bin_folded op a b (constant nodes a) (constant nodes b)
@@ -106,7 +106,7 @@ is_used o (region args nodes results) = nodes_use o nodes || some_of (same_origi
 abbrev pub folded : ℕ → RegionTree → Folded → Option RegionTree
 folded n (region args nodes results) (word w) = Some (region args (node_set n (node n (Const w) [] no_regions) nodes) results)
 folded n r (input a) = if is_used (Out n 0) r then Some (region_redirected (origin_replaced (Out n 0) a) r) else None
-folded n r (part s inputs) = Some (region_spliced n (region_redirected (args_to_inputs inputs) s) r)
+folded n r (replacement s inputs) = Some (region_spliced n (region_redirected (args_to_inputs inputs) s) r)
 
 -- the region that holds node n, with that node folded, where it can be
 abbrev pub fold_here : ℕ → RegionTree → Option RegionTree

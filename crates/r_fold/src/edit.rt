@@ -6,7 +6,7 @@ ghost use Rattle.r_fold.specs.Plan.{with_word, with_input, carried_out};
 
 use crate::plan::Plan;
 use crate::uses::is_used;
-use g_graph::{OriginReplaced, NoMemory, Node, Op, Origin, Region, place_of, redirect_region, splice_region};
+use g_graph::{OriginReplaced, NoMemory, Node, Op, Origin, Region, node_index, redirect_region, splice_region};
 use smallvec::SmallVec;
 use std::alloc::Global;
 
@@ -31,8 +31,8 @@ pub fn carry_out(alloc: Global, region: &mut Region, id: u32, plan: Plan) -> Res
             Ok(true)
         }
         Plan::Input(origin) => Ok(replace_uses(region, id, origin)),
-        Plan::Part(part) => {
-            splice_region(region, id, part)?;
+        Plan::Replacement(replacement) => {
+            splice_region(region, id, replacement)?;
             Ok(true)
         }
     }
@@ -59,8 +59,8 @@ fn const_node(alloc: Global, id: u32, word: u32) -> Node
 fn set_node(nodes: &mut Vec<Node>, id: u32, node: Node)
     ensures { nodes_of nodes.new.items ≡ node_set id node (nodes_of nodes.old.items) }
 {
-    match place_of(nodes, id) {
-        Some(place) => nodes[place] = node,
+    match node_index(nodes, id) {
+        Some(index) => nodes[index] = node,
         None => (),
     }
 }

@@ -5,7 +5,7 @@
 mod constants;
 mod edit;
 pub mod laws;
-mod part;
+mod replacement;
 mod plan;
 mod rule;
 mod uses;

@@ -9,7 +9,7 @@ ghost use Rattle.r_fold.specs.Plan.{planned};
 
 use crate::constants::node_at;
 use crate::edit::{can_carry_out, carry_out};
-use crate::part::{has_part, part_plan};
+use crate::replacement::{has_replacement, replacement_plan};
 use crate::plan::{Plan, plain_plan};
 use g_graph::{
     CanChange, Change, Lambda, NoMemory, Node, Region, can_change_lambda, change_lambda,
@@ -26,7 +26,7 @@ pub fn applies(lambda: &Lambda, node: u32) -> bool
 }
 
 /// Folds the node: it becomes the constant that it gives, its uses become uses of the other operand, or the chosen or
-/// repeated region stands in its place. It takes time linear in the lambda. Where memory runs out nothing changes.
+/// repeated region stands instead of it. It takes time linear in the lambda. Where memory runs out nothing changes.
 pub fn apply(alloc: Global, lambda: &mut Lambda, node: u32) -> Result<(), NoMemory>
     requires well_formed { IsWellFormed lambda.old }
     requires applies { IsTrue (applies lambda.old node) }
@@ -57,13 +57,13 @@ impl CanChange for Folding {
     }
 }
 
-#[tactic(auto, using(crate::proofs::PlanLemmas::folding_rows, crate::proofs::PlanLemmas::carried_out_planned, crate::proofs::PlanLemmas::part_folds))]
+#[tactic(auto, using(crate::proofs::PlanLemmas::folding_cases, crate::proofs::PlanLemmas::carried_out_planned, crate::proofs::PlanLemmas::replacement_folds))]
 fn node_folds(region: &Region, id: u32, node: &Node) -> bool
     ensures { result ≡ is_some (option_and_then (λ f. folded id region.now f) (folding (nodes_in region.now) node.now)) }
 {
     match plain_plan(&region.nodes, node) {
         Some(plan) => can_carry_out(region, id, &plan),
-        None => has_part(&region.nodes, node),
+        None => has_replacement(&region.nodes, node),
     }
 }
 
@@ -110,6 +110,6 @@ fn node_plan(alloc: Global, nodes: &[Node], node: &Node) -> Result<Option<Plan>,
 {
     match plain_plan(nodes, node) {
         Some(plan) => Ok(Some(plan)),
-        None => part_plan(alloc, nodes, node),
+        None => replacement_plan(alloc, nodes, node),
     }
 }
