@@ -11,9 +11,9 @@ use Rattle.g_graph.specs.declared.op.Origin.{Origin}
 use Rattle.g_graph.specs.declared.op.Origin.TheVariants.{Arg, Out}
 use Rattle.g_graph.specs.declared.op.Op.{Op}
 use Rattle.g_graph.specs.declared.op.Op.TheVariants.{Const, Undef, Local, Delta, Bin, Load, Store, Clear, PtrEq, Apply, Put, Exit, Get, Gamma, Theta}
-use Rattle.g_graph.specs.Plain.{region, NodeTree, node, no_regions, nodes_of, regions_of, PlainLambda}
+use Rattle.g_graph.specs.Plain.{region, NodeTree, node, no_regions, nodes_of, regions_of, PlainLambda, PlainOmega, PlainDelta}
 use Rattle.g_mean.specs.Data.{Datum, val, memory, input}
-use Rattle.g_mean.specs.Calls.{lambda_at, PlainOmega, PlainDelta, program_at, deepest_main}
+use Rattle.g_mean.specs.Calls.{lambda_at, program_at, deepest_main}
 
 abbrev states : List Kind
 states = Memory ∷ Io ∷ []

@@ -21,17 +21,18 @@ use Rattle.g_mean.specs.Copies.{IsAmong, IsRead, AreRead, NodeReads, NodesRead, 
 use Rattle.g_mean.specs.Moves.{ReadLessDefined}
 use Rattle.g_mean.specs.Holds.{HasRun, HaveRun}
 use Rattle.g_mean.specs.Splices.{CanRedirect, RedirectedRegionsRefine, ReplacedNodesRefine}
-use Rattle.g_mean.proofs.Kept.{OutputsRefine, paired-at, reads-refines}
-use Rattle.g_mean.proofs.Regions.{extended-refines, nodes-refines}
-use Rattle.g_mean.proofs.Equal.{no_deeper-compares}
-use Rattle.g_mean.proofs.LessDefinedLemmas.{less-kept}
-use Rattle.g_mean.proofs.Calls.{nodes-itself}
-use Rattle.g_mean.proofs.Bounds.{Never, Always, never-refines}
-use Rattle.g_mean.proofs.Copies.{among-left, among-right, redirected-moved}
-use Rattle.g_mean.proofs.Moves.{reads-less, moved_nodes_refine}
-use Rattle.g_mean.proofs.Edits.{distinct-split}
-use Rattle.g_mean.proofs.Holds.{none-among, among-none, id-among, distinct-apart, holds-from}
-use Rattle.g_mean.proofs.Splices.{joined-run, joined-ids, joined-known, joined-read, joined-reads, known-among, all-wider, nodes-wider, known-split, all-among}
+use Rattle.g_mean.proofs.lemmas.Kept.{OutputsRefine, paired-at, reads-refines}
+use Rattle.g_mean.proofs.lemmas.Regions.{extended-refines, nodes-refines}
+use Rattle.g_mean.proofs.lemmas.Equal.{no_deeper-compares}
+use Rattle.g_mean.proofs.lemmas.LessDefined.{less-kept}
+use Rattle.g_mean.proofs.lemmas.Calls.{nodes-itself}
+use Rattle.g_mean.proofs.lemmas.Bounds.{Never, Always, never-refines}
+use Rattle.g_mean.proofs.lemmas.Copies.{among-left, among-right, redirected-moved}
+use Rattle.g_mean.proofs.lemmas.Moves.{reads-less, moved_nodes_refine}
+use Rattle.g_mean.proofs.lemmas.Edits.{distinct-split}
+use Rattle.g_mean.proofs.lemmas.Holds.{none-among, among-none, id-among, distinct-apart, holds-from}
+use Rattle.g_graph.proofs.lemmas.Splices.{nodes_ids-joined}
+use Rattle.g_mean.proofs.lemmas.Splices.{joined-run, joined-known, joined-read, joined-reads, known-among, all-wider, nodes-wider, known-split, all-among}
 
 -- ---- inputs that stay
 
@@ -75,7 +76,7 @@ append-nothing (n ∷ ns) = ap (λ ms. n ∷ ms) (append-nothing ns)
 
 module _ (direction : Direction) (c d : Context) (context : ContextRefines no_deeper direction IsLessDefinedDatum c d) (args : List Kind) (before : NodeTrees) (x : NodeTree) (after : NodeTrees) (results : List Origin) (move : Origin → Origin) (can : CanRedirect args before x after results move) where
   all-distinct : distinct (nodes_ids before ++ (node_ids x ++ nodes_ids after)) ≡ true
-  all-distinct = subst (λ zs. distinct zs ≡ true) (joined-ids before (node_then x after)) can.unique
+  all-distinct = subst (λ zs. distinct zs ≡ true) (nodes_ids-joined before (node_then x after)) can.unique
 
   later-distinct : distinct (node_ids x ++ nodes_ids after) ≡ true
   later-distinct = (distinct-split (nodes_ids before) (node_ids x ++ nodes_ids after) all-distinct).1
@@ -164,7 +165,7 @@ module _ (direction : Direction) (c d : Context) (context : ContextRefines no_de
     where
       first-distinct : distinct (nodes_ids (joined_nodes before (node_then x no_nodes))) ≡ true
       first-distinct =
-          subst (λ zs. distinct zs ≡ true) (sym (joined-ids before (node_then x no_nodes) ∙ ap (λ zs. nodes_ids before ++ zs) (append-nothing (node_ids x))))
+          subst (λ zs. distinct zs ≡ true) (sym (nodes_ids-joined before (node_then x no_nodes) ∙ ap (λ zs. nodes_ids before ++ zs) (append-nothing (node_ids x))))
           (distinct-split (nodes_ids before ++ node_ids x) (nodes_ids after) (subst (λ zs. distinct zs ≡ true) (sym (append_assoc (nodes_ids before) (node_ids x) (nodes_ids after))) all-distinct)).0
   first-run xs (Cut o) e = tt
   first-run xs (Exited o s) e = tt
@@ -267,4 +268,4 @@ pub replaced_nodes_refine : ReplacedNodesRefine
 replaced_nodes_refine direction c d context args before x y after results closed unique same node-refines =
     replaced-refines direction c d context args before x y after results
     (joined-read (is_argument (length args)) [] before (node_then x after) closed.0).0
-    (distinct-split (nodes_ids before) (node_ids x ++ nodes_ids after) (subst (λ zs. distinct zs ≡ true) (joined-ids before (node_then x after)) unique)).0 same node-refines
+    (distinct-split (nodes_ids before) (node_ids x ++ nodes_ids after) (subst (λ zs. distinct zs ≡ true) (nodes_ids-joined before (node_then x after)) unique)).0 same node-refines

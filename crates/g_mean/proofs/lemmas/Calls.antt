@@ -12,8 +12,8 @@ use Rattle.g_mean.specs.Meaning.{Meaning, Context, region_meaning}
 use Rattle.g_mean.specs.Calls.{shapes_of, sizes_of, inside, entered}
 use Rattle.g_mean.specs.LessDefined.{Paired}
 use Rattle.g_mean.specs.Refining.{Compares, InOrder, MeaningRefines, ContextRefines, RegionRefines, SameBut, NodeSameBut, NodesSameBut, RegionsSameBut, LambdaSameBut, LambdasSameBut}
-use Rattle.g_mean.proofs.Kept.{IsKept, paired-at}
-use Rattle.g_mean.proofs.Regions.{on_memory-refines, region-refines}
+use Rattle.g_mean.proofs.lemmas.Kept.{IsKept, paired-at}
+use Rattle.g_mean.proofs.lemmas.Regions.{on_memory-refines, region-refines}
 
 -- a tree is equal to itself
 mutual

@@ -14,7 +14,7 @@ use Rattle.g_mean.specs.Data.{Datum, val, value_of, with_memory}
 use Rattle.g_mean.specs.Meaning.{done}
 use Rattle.g_mean.specs.LessDefined.{Paired}
 use Rattle.g_mean.specs.Refining.{Compares}
-use Rattle.g_mean.proofs.Kept.{AddressesRefine, IsKept}
+use Rattle.g_mean.proofs.lemmas.Kept.{AddressesRefine, IsKept}
 
 -- ---- the comparisons
 

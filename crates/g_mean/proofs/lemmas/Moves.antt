@@ -10,19 +10,20 @@ use Rattle.g_graph.specs.declared.op.Op.TheVariants.{Const, Undef, Local, Delta,
 use Rattle.g_graph.specs.declared.op.Origin.{Origin}
 use Rattle.g_graph.specs.Plain.{node, NodeTrees, no_nodes, node_then}
 use Rattle.g_graph.specs.Ids.{nodes_ids, regions_ids}
+use Rattle.g_graph.specs.Signatures.{is_pure}
 use Rattle.g_mean.specs.Data.{Datum, value_of}
 use Rattle.g_mean.specs.Meaning.{Meaning, Context, act, again, turns, Outputs, no_outputs, extended, read, nodes_run, meanings}
 use Rattle.g_mean.specs.LessDefined.{Paired, IsLessDefinedDatum}
 use Rattle.g_mean.specs.Refining.{ContextRefines}
 use Rattle.g_mean.specs.Copies.{IsAmong, AreRead, known_after, NodesRead, CanMove, nodes_moved, regions_copied}
-use Rattle.g_mean.specs.Moves.{is_pure, GivesTheSame, PureNodesGiveTheSame, ReadLessDefined, MovedNodesRefine, MovedRegionsRefine, IsTurned, LoopsRefine}
-use Rattle.g_mean.proofs.Kept.{paired-at}
-use Rattle.g_mean.proofs.Regions.{both-cut, less-cut, far-cut, order-below, act-refines, regions-refines}
-use Rattle.g_mean.proofs.Equal.{no_deeper-compares}
-use Rattle.g_mean.proofs.LessDefinedLemmas.{less-kept}
-use Rattle.g_mean.proofs.Calls.{regions-itself}
-use Rattle.g_mean.proofs.Bounds.{Never, Always, never-refines}
-use Rattle.g_mean.proofs.Copies.{among-left, among-right, among-more, fewer, read-more, regions-same}
+use Rattle.g_mean.specs.Moves.{GivesTheSame, PureNodesGiveTheSame, ReadLessDefined, MovedNodesRefine, MovedRegionsRefine, IsTurned, LoopsRefine}
+use Rattle.g_mean.proofs.lemmas.Kept.{paired-at}
+use Rattle.g_mean.proofs.lemmas.Regions.{pick, both-cut, less-cut, far-cut, order-below, act-refines, regions-refines}
+use Rattle.g_mean.proofs.lemmas.Equal.{no_deeper-compares}
+use Rattle.g_mean.proofs.lemmas.LessDefined.{less-kept}
+use Rattle.g_mean.proofs.lemmas.Calls.{regions-itself}
+use Rattle.g_mean.proofs.lemmas.Bounds.{Never, Always, never-refines}
+use Rattle.g_mean.proofs.lemmas.Copies.{among-left, among-right, among-more, fewer, read-more, regions-same}
 
 -- ---- pure nodes
 
@@ -84,10 +85,6 @@ moved_regions_refine direction c d a S move to args args' ns results can reads g
     (λ o q h. (reads-less direction c d a S move to (nodes_ids ns) can xs ys (known_after [] ns) o q h results gives, no_deeper-compares.goes.nothing))
 
 -- ---- loops
-
-pick : {X : Type 0} (R : X → X → Type 0) (test : Bool) (a b x y : X) → R a b → R x y → R (cond test a x) (cond test b y)
-pick R true a b x y h k = h
-pick R false a b x y h k = k
 
 number-refines : (direction : Direction) (R : List Datum → List Datum → Type 0) (u v : Value) → ((w : ℕ) → u ≡ Num w → v ≡ Num w) → (f h : ℕ → Answer (List Datum)) → ((w : ℕ) → Refines no_deeper direction R (f w) (h w)) → Refines no_deeper direction R (on_number u f) (on_number v h)
 number-refines direction R (Num w) v e f h like = subst (λ u. Refines no_deeper direction R (f w) (on_number u h)) (sym (e w refl)) (like w)

@@ -1,6 +1,6 @@
 -- Nodes that give no state are silent.
 use Rattle.std.proofs.Common.{◌≡◌, ℕ, zero, suc, Bool, true, false, ◌&&◌, ◌||◌, not, List, [], ◌∷◌, ◌++◌, map, Option, None, Some, refl, sym, ap, subst, ◌∙◌}
-use Rattle.std.proofs.lemmas.Bool.{and_parts}
+use Rattle.std.proofs.lemmas.Bool.{and_parts, or_parts, or_from}
 use Rattle.val_core.specs.declared.values.Value.{Value}
 use Rattle.val_core.specs.declared.values.Value.TheVariants.{Num, At, Bad}
 use Rattle.val_core.specs.Memory.{Memory as Blocks, load, pointers_equal}
@@ -13,6 +13,7 @@ use Rattle.g_graph.specs.Plain.{RegionTree, region, NodeTree, node, NodeTrees, n
 use Rattle.g_graph.specs.Signatures.{output_kinds, result_kinds}
 use Rattle.g_graph.specs.Scope.{is_of, same_kind, each_node}
 use Rattle.g_graph.specs.WellFormed.{same, inputs_fit, inputs_are_last, node_has_one_state_each, has_its_width, has_its_object, results_are_last, region_has_one_state_each, every_region, some_of, are, kinds_of, all_regions, gives, returns_state, every_in_node, every_in_nodes, every_in_regions, has_its_regions, regions_fit, theta_has_states, node_fits, nodes_fit, region_fits}
+use Rattle.g_graph.proofs.lemmas.Indexes.{same_kind_true}
 use Rattle.g_mean.specs.Data.{Datum, val, memory, input, on_memory, at_port, value_of, value_at}
 use Rattle.g_mean.specs.Meaning.{Meaning, Context, chosen, branched, given, Outputs, no_outputs, extended, read, node_run, nodes_run, region_meaning, meanings}
 use Rattle.g_mean.specs.Silent.{IsSilent, GivesNoState, StatelessNodesAreSilent}
@@ -64,29 +65,6 @@ branched-silent ms h (p ∷ xs) = number-silent (value_of p) (λ w. chosen w ms 
 
 -- ---- kinds
 
-or-left : (a b : Bool) → (a || b) ≡ false → a ≡ false
-or-left false b e = refl
-or-left true b e = absurd cc
-
-or-right : (a b : Bool) → (a || b) ≡ false → b ≡ false
-or-right false b e = e
-or-right true b e = absurd cc
-
-or-none : (a b : Bool) → a ≡ false → b ≡ false → (a || b) ≡ false
-or-none false b e d = d
-or-none true b e d = absurd cc
-
-kind-equal : (i j : Kind) → same_kind i j ≡ true → i ≡ j
-kind-equal ValueKind ValueKind e = refl
-kind-equal Memory Memory e = refl
-kind-equal Io Io e = refl
-kind-equal ValueKind Memory e = absurd cc
-kind-equal ValueKind Io e = absurd cc
-kind-equal Memory ValueKind e = absurd cc
-kind-equal Memory Io e = absurd cc
-kind-equal Io ValueKind e = absurd cc
-kind-equal Io Memory e = absurd cc
-
 -- where none of the first kinds is this one, and others are the same kinds, none of them is either
 same-none : (k : Kind) (wanted : List (Option Kind)) (found : List (Option Kind)) → are found (kinds_of wanted) ≡ true → some_of (is_of k) wanted ≡ false → some_of (is_of k) found ≡ false
 same-none k [] [] e none = refl
@@ -97,9 +75,9 @@ same-none k (Some j ∷ ws) [] e none = absurd cc
 same-none k (Some j ∷ ws) (None ∷ xs) e none = absurd cc
 same-none k (Some j ∷ ws) (Some i ∷ xs) e none =
     let both = and_parts (same_kind i j) (are xs (kinds_of ws)) e in
-    or-none (same_kind k i) (some_of (is_of k) xs)
-    (ap (same_kind k) (kind-equal i j both.0) ∙ or-left (same_kind k j) (some_of (is_of k) ws) none)
-    (same-none k ws xs both.1 (or-right (same_kind k j) (some_of (is_of k) ws) none))
+    or_from (same_kind k i) (some_of (is_of k) xs)
+    (ap (same_kind k) (same_kind_true i j both.0) ∙ (or_parts (same_kind k j) (some_of (is_of k) ws) none).0)
+    (same-none k ws xs both.1 ((or_parts (same_kind k j) (some_of (is_of k) ws) none).1))
 
 -- a region with a node that gives this state does not give it back: there is no such node
 no-giver : (a b : Bool) → (not a || b) ≡ true → b ≡ false → a ≡ false
@@ -206,8 +184,8 @@ mutual
       let p = and_parts (node_fits objects args (nodes_of earlier) x) (each_node (node_fits objects args) (earlier ++ x ∷ []) ns) t in
       let q = and_parts (every_in_node (region_fits objects) x) (every_in_nodes (region_fits objects) ns) nested in
       then-silent (node_run c x xs o) (λ ys. nodes_run c ns xs (extended o (id_of x) ys))
-      (node-silent objects x (node-parts objects args (nodes_of earlier) x p.0) q.0 (record { memory = or-left (some_of (is_of Memory) (output_kinds x)) (gives Memory ns) none_memory; io = or-left (some_of (is_of Io) (output_kinds x)) (gives Io ns) none_io }) c xs o)
-      (λ ys. nodes-silent objects args (earlier ++ x ∷ []) ns p.1 q.1 (or-right (some_of (is_of Memory) (output_kinds x)) (gives Memory ns) none_memory) (or-right (some_of (is_of Io) (output_kinds x)) (gives Io ns) none_io) c xs (extended o (id_of x) ys))
+      (node-silent objects x (node-parts objects args (nodes_of earlier) x p.0) q.0 (record { memory = (or_parts (some_of (is_of Memory) (output_kinds x)) (gives Memory ns) none_memory).0; io = (or_parts (some_of (is_of Io) (output_kinds x)) (gives Io ns) none_io).0 }) c xs o)
+      (λ ys. nodes-silent objects args (earlier ++ x ∷ []) ns p.1 q.1 ((or_parts (some_of (is_of Memory) (output_kinds x)) (gives Memory ns) none_memory).1) ((or_parts (some_of (is_of Io) (output_kinds x)) (gives Io ns) none_io).1) c xs (extended o (id_of x) ys))
 
 pub stateless_nodes_are_silent : StatelessNodesAreSilent
 stateless_nodes_are_silent objects args before x fits none c xs o =

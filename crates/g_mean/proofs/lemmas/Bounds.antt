@@ -9,18 +9,19 @@ use Rattle.val_core.specs.Objects.{Addresses}
 use Rattle.val_core.proofs.lemmas.Events.{prefix-self}
 use Rattle.val_core.proofs.lemmas.Answers.{added, before-is, then_associates}
 use Rattle.val_core.proofs.lemmas.Refinement.{refines-itself, refines-then, refines-active, refines-change}
-use Rattle.g_graph.specs.Plain.{RegionTree, nodes_of, id_of, PlainLambda}
+use Rattle.g_graph.specs.Plain.{RegionTree, nodes_of, id_of, PlainLambda, PlainOmega}
+use Rattle.g_graph.specs.Program.{main_name, name_index}
 use Rattle.g_mean.specs.Data.{Datum, val, memory, input}
 use Rattle.g_mean.specs.Meaning.{Context, extended, node_run, nodes_run}
-use Rattle.g_mean.specs.Calls.{PlainOmega, entered, applied, region_at, lambda_at, global_of, first_memory, main_name, place_of, finished, started}
+use Rattle.g_mean.specs.Calls.{entered, applied, region_at, lambda_at, global_of, first_memory, finished, started}
 use Rattle.g_mean.specs.LessDefined.{Paired, AreSound, IsLessDefinedDatum}
 use Rattle.g_mean.specs.Refining.{Compares, InOrder, MeaningRefines, RegionRefines}
 use Rattle.g_mean.specs.Laws.{RegionExtends, LambdaExtends, ProgramExtends, NodesInTurn, EventsGrow, RegionIsSound, LambdaIsSound}
-use Rattle.g_mean.proofs.Kept.{IsKept}
-use Rattle.g_mean.proofs.Regions.{both-cut, less-cut, far-cut, order-below, region-refines}
-use Rattle.g_mean.proofs.Equal.{exactly-compares, Equal, paired-equal, paired-itself, equal-kept}
-use Rattle.g_mean.proofs.LessDefinedLemmas.{less-kept}
-use Rattle.g_mean.proofs.Calls.{same-itself, found-itself, entered-refines}
+use Rattle.g_mean.proofs.lemmas.Kept.{IsKept}
+use Rattle.g_mean.proofs.lemmas.Regions.{both-cut, less-cut, far-cut, order-below, region-refines}
+use Rattle.g_mean.proofs.lemmas.Equal.{exactly-compares, Equal, paired-equal, paired-itself, equal-kept}
+use Rattle.g_mean.proofs.lemmas.LessDefined.{less-kept}
+use Rattle.g_mean.proofs.lemmas.Calls.{same-itself, found-itself, entered-refines}
 
 abbrev pub Never : RegionTree → RegionTree → Type 0
 Never r s = ⊥
@@ -74,7 +75,7 @@ started-extends n m omega ls (Some f) i order =
     (lambda_extends n m ls (global_of omega.deltas) f start order) (λ us vs e. equal-answers (finished us) (finished vs) (ap finished e))
 
 pub program_extends : ProgramExtends
-program_extends n m omega ls i order = started-extends n m omega ls (place_of main_name omega.names) i order
+program_extends n m omega ls i order = started-extends n m omega ls (name_index main_name omega.names) i order
 
 -- ---- nodes in turn
 

@@ -18,11 +18,11 @@ use Rattle.g_mean.specs.LessDefined.{Paired, AreSound, IsLessDefinedDatum}
 use Rattle.g_mean.specs.Refining.{InOrder, MeaningRefines, ContextRefines}
 use Rattle.g_mean.specs.Replacement.{lesser, IsTwice, Linked}
 use Rattle.g_mean.specs.LocalRefinement.{RefinesLocally, IsSoundContext, LocalRefinementsReplace, BodiesReplaceCalls}
-use Rattle.g_mean.proofs.Regions.{less-cut, region-refines}
-use Rattle.g_mean.proofs.Equal.{exactly-compares, no_deeper-compares}
-use Rattle.g_mean.proofs.LessDefinedLemmas.{less-kept}
-use Rattle.g_mean.proofs.Calls.{same-itself}
-use Rattle.g_mean.proofs.Bounds.{Never, Always, never-refines, sound-pairs, pairs-sound, applied-more, refines-sound}
+use Rattle.g_mean.proofs.lemmas.Regions.{less-cut, region-refines}
+use Rattle.g_mean.proofs.lemmas.Equal.{exactly-compares, no_deeper-compares}
+use Rattle.g_mean.proofs.lemmas.LessDefined.{less-kept}
+use Rattle.g_mean.proofs.lemmas.Calls.{same-itself}
+use Rattle.g_mean.proofs.lemmas.Bounds.{Never, Always, never-refines, sound-pairs, pairs-sound, applied-more, refines-sound}
 
 -- ---- nearness composes
 

@@ -11,11 +11,11 @@ use Rattle.g_mean.specs.Calls.{inside, entered, applied, region_at, lambda_at}
 use Rattle.g_mean.specs.LessDefined.{Paired, AreSound, IsLessDefinedDatum}
 use Rattle.g_mean.specs.Refining.{InOrder, MeaningRefines, RegionRefines, SameBut, LambdasSameBut}
 use Rattle.g_mean.specs.Replacement.{lesser, IsTwice, Linked, Replaces, IsKeptWithinTwice, LambdasKeepMeaning, RegionsKeepMeaning}
-use Rattle.g_mean.proofs.Regions.{both-cut, less-cut, far-cut, region-refines}
-use Rattle.g_mean.proofs.Equal.{no_deeper-compares}
-use Rattle.g_mean.proofs.LessDefinedLemmas.{less-kept}
-use Rattle.g_mean.proofs.Calls.{found-same, entered-refines}
-use Rattle.g_mean.proofs.Bounds.{sound-pairs}
+use Rattle.g_mean.proofs.lemmas.Regions.{both-cut, less-cut, far-cut, region-refines}
+use Rattle.g_mean.proofs.lemmas.Equal.{no_deeper-compares}
+use Rattle.g_mean.proofs.lemmas.LessDefined.{less-kept}
+use Rattle.g_mean.proofs.lemmas.Calls.{found-same, entered-refines}
+use Rattle.g_mean.proofs.lemmas.Bounds.{sound-pairs}
 
 twice-order : (direction : Direction) (more n m : ℕ) → IsTwice direction more n m → InOrder direction n m
 twice-order Forward more n m h = omega arith

@@ -25,16 +25,18 @@ use Rattle.g_mean.specs.Copies.{IsAmong, IsRead, AreRead, NodesRead, known_after
 use Rattle.g_mean.specs.Moves.{ReadLessDefined}
 use Rattle.g_mean.specs.Holds.{HaveRun}
 use Rattle.g_mean.specs.Splices.{FitsInto, SplicedRegionsRefine}
-use Rattle.g_mean.proofs.Kept.{OutputsRefine, paired-at}
-use Rattle.g_mean.proofs.Regions.{nodes-refines}
-use Rattle.g_mean.proofs.Equal.{no_deeper-compares}
-use Rattle.g_mean.proofs.LessDefinedLemmas.{less-kept}
-use Rattle.g_mean.proofs.Calls.{nodes-itself}
-use Rattle.g_mean.proofs.Bounds.{Never, Always, never-refines}
-use Rattle.g_mean.proofs.Copies.{test-other, same-then, among-left, among-right, among-split, extended-same, extended-other, copied_nodes_mean_the_same, reads-same, redirected-moved}
-use Rattle.g_mean.proofs.Moves.{reads-less, moved_nodes_refine}
-use Rattle.g_mean.proofs.Edits.{distinct-split}
-use Rattle.g_mean.proofs.Holds.{none-among, among-none, id-among, distinct-apart, unchanged, holds-from}
+use Rattle.g_mean.proofs.lemmas.Kept.{OutputsRefine, paired-at}
+use Rattle.g_mean.proofs.lemmas.Regions.{nodes-refines}
+use Rattle.g_graph.proofs.lemmas.Redirects.{nodes_ids-redirected}
+use Rattle.g_graph.proofs.lemmas.Splices.{nodes_ids-joined}
+use Rattle.g_mean.proofs.lemmas.Equal.{no_deeper-compares}
+use Rattle.g_mean.proofs.lemmas.LessDefined.{less-kept}
+use Rattle.g_mean.proofs.lemmas.Calls.{nodes-itself}
+use Rattle.g_mean.proofs.lemmas.Bounds.{Never, Always, never-refines}
+use Rattle.g_mean.proofs.lemmas.Copies.{test-other, same-then, among-left, among-right, among-split, extended-same, extended-other, copied_nodes_mean_the_same, reads-same, redirected-moved}
+use Rattle.g_mean.proofs.lemmas.Moves.{reads-less, moved_nodes_refine}
+use Rattle.g_mean.proofs.lemmas.Edits.{distinct-split}
+use Rattle.g_mean.proofs.lemmas.Holds.{none-among, among-none, id-among, distinct-apart, unchanged, holds-from}
 
 -- ---- joined nodes
 
@@ -43,11 +45,6 @@ joined-run c no_nodes ms xs o = refl
 joined-run c (node_then x ns) ms xs o =
     ap (then_on (node_run c x xs o)) (fun_ext (λ us. joined-run c ns ms xs (extended o (id_of x) us)))
     ∙ sym (then_associates (node_run c x xs o) (λ us. nodes_run c ns xs (extended o (id_of x) us)) (nodes_run c ms xs))
-
-pub joined-ids : (ns ms : NodeTrees) → nodes_ids (joined_nodes ns ms) ≡ nodes_ids ns ++ nodes_ids ms
-joined-ids no_nodes ms = refl
-joined-ids (node_then x ns) ms =
-    ap (λ zs. node_ids x ++ zs) (joined-ids ns ms) ∙ sym (append_assoc (node_ids x) (nodes_ids ns) (nodes_ids ms))
 
 pub joined-known : (known : List ℕ) (ns ms : NodeTrees) → known_after known (joined_nodes ns ms) ≡ known_after (known_after known ns) ms
 joined-known known no_nodes ms = refl
@@ -68,11 +65,6 @@ spliced-joined no_nodes x after part outs h = rw (eq-eqb (id_of x) (id_of x) ref
 spliced-joined (node_then y before) x after part outs h =
     let other : (id_of y == id_of x) ≡ false = test-other (id_of y) (id_of x) (λ e. h (among-left (id_of x) (node_ids y) (nodes_ids before) (subst (λ z. IsAmong z (node_ids y)) e (id-among y)))) in
     rw other (ap (node_then y) (spliced-joined before x after part outs (λ k. h (among-right (id_of x) (node_ids y) (nodes_ids before) k))))
-
-redirected-ids : (f : Origin → Origin) (ns : NodeTrees) → nodes_ids (nodes_redirected f ns) ≡ nodes_ids ns
-redirected-ids f no_nodes = refl
-redirected-ids f (node_then (node id op inputs rs) ns) =
-    ap (λ zs. node_ids (node id op inputs rs) ++ zs) (redirected-ids f ns)
 
 -- known nodes are some of the nodes
 pub known-among : (known : List ℕ) (ns : NodeTrees) (n : ℕ) → IsAmong n (known_after known ns) → IsAmong n known ⊎ IsAmong n (nodes_ids ns)
@@ -229,7 +221,7 @@ all-among S known other h (a ∷ origins) r = (by a r.0, all-among S known other
 
 module _ (direction : Direction) (c d : Context) (context : ContextRefines no_deeper direction IsLessDefinedDatum c d) (args : List Kind) (before : NodeTrees) (x : NodeTree) (after : NodeTrees) (results : List Origin) (own : List Kind) (part : NodeTrees) (gives inputs : List Origin) (fits : FitsInto args before x after results part gives inputs) where
   all-distinct : distinct (nodes_ids before ++ (node_ids x ++ nodes_ids after)) ≡ true
-  all-distinct = subst (λ zs. distinct zs ≡ true) (joined-ids before (node_then x after)) fits.unique
+  all-distinct = subst (λ zs. distinct zs ≡ true) (nodes_ids-joined before (node_then x after)) fits.unique
 
   later-distinct : distinct (node_ids x ++ nodes_ids after) ≡ true
   later-distinct = (distinct-split (nodes_ids before) (node_ids x ++ nodes_ids after) all-distinct).1
@@ -305,7 +297,7 @@ module _ (direction : Direction) (c d : Context) (context : ContextRefines no_de
       let nodes = subst (λ ns. Same (ReadSame small (known_after [] part) (args_to_inputs inputs) vs ys) (nodes_run d part vs no_outputs) (nodes_run d ns ys q)) origin_replaced
       (copied_nodes_mean_the_same small (args_to_inputs inputs) (λ n. n) part part-moves fits.part_reads d vs ys no_outputs q (part-read ys q)) in
       let others = same-adds (ReadSame small (known_after [] part) (args_to_inputs inputs) vs ys) (λ r. (n : ℕ) → (IsAmong n (nodes_ids part) → ⊥) → (p : ℕ) → r n p ≡ q n p) (nodes_run d part vs no_outputs) (nodes_run d (nodes_redirected (args_to_inputs inputs) part) ys q)
-      (λ r o e n h p. unchanged d (nodes_redirected (args_to_inputs inputs) part) ys q r o e n (λ k. h (subst (λ zs. IsAmong n zs) (redirected-ids (args_to_inputs inputs) part) k)) p) nodes in
+      (λ r o e n h p. unchanged d (nodes_redirected (args_to_inputs inputs) part) ys q r o e n (λ k. h (subst (λ zs. IsAmong n zs) (nodes_ids-redirected (args_to_inputs inputs) part) k)) p) nodes in
       subst (λ b. Same (ArgsToInputs ys q (nodes_ids part) outs) (region_meaning d (region own part gives) vs) b) (then_nothing (nodes_run d (nodes_redirected (args_to_inputs inputs) part) ys q))
       (same-then (λ o r. ReadSame small (known_after [] part) (args_to_inputs inputs) vs ys o r × ((n : ℕ) → (IsAmong n (nodes_ids part) → ⊥) → (p : ℕ) → r n p ≡ q n p)) (ArgsToInputs ys q (nodes_ids part) outs)
       (nodes_run d part vs no_outputs) (nodes_run d (nodes_redirected (args_to_inputs inputs) part) ys q) (λ o. Returned (map (read vs o) gives) []) (λ r. Returned r []) others

@@ -11,8 +11,8 @@ use Rattle.g_graph.specs.declared.op.Op.{Op}
 use Rattle.g_graph.specs.declared.op.Origin.{Origin}
 use Rattle.g_graph.specs.Change.{first_some, region_changed, nodes_changed, regions_changed, lambda_changed}
 use Rattle.g_mean.specs.Edits.{AreEditedAt, IsPartOf, EditsReplace}
-use Rattle.g_mean.proofs.Calls.{same-itself, nodes-itself, regions-itself}
-use Rattle.g_mean.proofs.Closed.{region-closed}
+use Rattle.g_mean.proofs.lemmas.Calls.{same-itself, nodes-itself, regions-itself}
+use Rattle.g_mean.proofs.lemmas.Closed.{region-closed}
 
 -- ---- tests of lists
 

@@ -13,9 +13,9 @@ use Rattle.g_mean.specs.Data.{Datum, val, memory, input, at_port, value_of, on_m
 use Rattle.g_mean.specs.Meaning.{Meaning, Context, chosen, branched, again, turns, looped, act, Outputs, no_outputs, extended, read, region_meaning, node_run, nodes_run, meanings}
 use Rattle.g_mean.specs.LessDefined.{Paired}
 use Rattle.g_mean.specs.Refining.{Compares, InOrder, MeaningRefines, ContextRefines, RegionRefines, SameBut, NodeSameBut, NodesSameBut, RegionsSameBut}
-use Rattle.g_mean.proofs.Kept.{IsKept, paired-at, OutputsRefine, reads-refines}
+use Rattle.g_mean.proofs.lemmas.Kept.{IsKept, paired-at, OutputsRefine, reads-refines}
 
-pick : {X : Type 0} (R : X → X → Type 0) (test : Bool) (a b x y : X) → R a b → R x y → R (cond test a x) (cond test b y)
+pub pick : {X : Type 0} (R : X → X → Type 0) (test : Bool) (a b x y : X) → R a b → R x y → R (cond test a x) (cond test b y)
 pick R true a b x y h k = h
 pick R false a b x y h k = k
 

@@ -22,12 +22,12 @@ use Rattle.g_mean.specs.Data.{Datum, val, memory, input, at_port, value_of, valu
 use Rattle.g_mean.specs.Meaning.{done, given, given_memory, got, cleared_at}
 use Rattle.g_mean.specs.LessDefined.{Paired, AreBytes, IsSoundDatum, IsLessDefinedDatum}
 use Rattle.g_mean.specs.Refining.{Compares}
-use Rattle.g_mean.proofs.Kept.{AddressesRefine, IsKept}
+use Rattle.g_mean.proofs.lemmas.Kept.{AddressesRefine, IsKept}
 
 abbrev LessDefinedValue : Value → Value → Type 0
 LessDefinedValue u v = IsLessDefined u v × IsSound u × IsSound v
 
-value-sound : (x : Datum) → IsSoundDatum x → IsSound (value_of x)
+pub value-sound : (x : Datum) → IsSoundDatum x → IsSound (value_of x)
 value-sound (val v) s = s
 value-sound (memory m) s = tt
 value-sound (input i) s = tt

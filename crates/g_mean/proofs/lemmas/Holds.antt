@@ -14,8 +14,8 @@ use Rattle.g_mean.specs.Data.{Datum, at_port}
 use Rattle.g_mean.specs.Meaning.{Context, act, Outputs, no_outputs, extended, read, node_run, nodes_run, meanings}
 use Rattle.g_mean.specs.Copies.{IsAmong, IsRead, AreRead, is_argument, NodesRead}
 use Rattle.g_mean.specs.Holds.{HaveRun, RunNodesHold}
-use Rattle.g_mean.proofs.Copies.{among-left, among-right, extended-same, extended-other}
-use Rattle.g_mean.proofs.Edits.{distinct-split}
+use Rattle.g_mean.proofs.lemmas.Copies.{among-left, among-right, extended-same, extended-other}
+use Rattle.g_mean.proofs.lemmas.Edits.{distinct-split}
 
 -- ---- what was given
 
