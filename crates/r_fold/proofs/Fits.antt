@@ -20,7 +20,7 @@ use Rattle.g_mean.proofs.Copies.{among-left, among-right, among-split}
 use Rattle.g_mean.proofs.Edits.{distinct-split}
 use Rattle.g_mean.proofs.Holds.{none-among, distinct-apart}
 use Rattle.g_mean.proofs.Splices.{joined-ids, joined-read}
-use Rattle.g_graph.proofs.NodeLemmas.{NodeFits, node_fits_here, are_kinds, first_kind}
+use Rattle.g_graph.proofs.lemmas.Nodes.{NodeFits, node_fits_here, are_kinds, first_kind}
 use Rattle.r_fold.specs.Rule.{chosen_region}
 use Rattle.r_fold.proofs.Chosen.{chosen_kinds}
 

@@ -1,6 +1,7 @@
 -- Folding keeps meaning.
 use Rattle.std.proofs.Common.{◌≡◌, ℕ, zero, suc, ◌==◌, ◌⊎◌, Bool, true, false, cond, List, [], ◌∷◌, map, length, Option, None, Some, option_map, option_and_then, refl, sym, ap, ap₂, subst, subst₂, ◌∙◌, inl, inr, arith}
 use Rattle.std.proofs.lemmas.Bool.Decides.{nat_tests}
+use Rattle.std.proofs.lemmas.Option.{same_Some}
 use Rattle.val_core.specs.declared.operation.Op2.{Op2}
 use Rattle.val_core.specs.declared.operation.Op1.{Op1}
 use Rattle.val_core.specs.declared.values.Value.{Value}
@@ -32,8 +33,11 @@ use Rattle.g_mean.proofs.LocalRefinement.{none-less}
 use Rattle.g_mean.proofs.Kept.{reads-refines}
 use Rattle.g_mean.proofs.LessDefinedLemmas.{less-kept}
 use Rattle.g_mean.proofs.Equal.{no_deeper-compares}
-use Rattle.r_fold.specs.Rule.{node_at, node_set, constant, is_word, left_neutral, right_neutral, Folded, word, input, replacement, bin_folded, gamma_folded, theta_folded, chosen_region, folding, is_used, folded, fold_here}
-use Rattle.r_fold.proofs.Finding.{Found, found-at, constant-holds, constant-small}
+use Rattle.g_graph.specs.Nodes.{node_at, node_set, constant, is_used}
+use Rattle.r_fold.specs.Rule.{is_word, left_neutral, right_neutral, Folded, word, input, replacement, bin_folded, gamma_folded, theta_folded, chosen_region, folding, folded, fold_here}
+use Rattle.g_graph.proofs.lemmas.Splices.{joined_none}
+use Rattle.g_graph.proofs.lemmas.Found.{Found, found_at, constant_small}
+use Rattle.r_fold.proofs.Finding.{constant-holds}
 use Rattle.r_fold.proofs.Neutral.{left-less, right-less}
 use Rattle.r_fold.proofs.Fits.{gamma-fits, theta-fits, inputs-read, regions-closed, inner-unique}
 use Rattle.r_fold.proofs.Law.{input-holds, word-replaces, input-replaces, replacement-replaces}
@@ -62,18 +66,11 @@ word-test None u t = absurd cc
 word-test (Some k) None t = absurd cc
 word-test (Some k) (Some u) t = let same : u ≡ k = grind (arith, nat_tests) in (k, refl, ap Some same)
 
-some-equal : {X : Type 0} (x y : X) → Some x ≡ Some y → x ≡ y
-some-equal x y e = cc
-
 -- of two tests one holds
 either-input : (s t : Bool) (a b : Origin) (f : Folded) → cond s (Some (input b)) (cond t (Some (input a)) None) ≡ Some f → ((s ≡ true) × (input b ≡ f)) ⊎ ((t ≡ true) × (input a ≡ f))
 either-input true t a b f e = inl (refl, cc)
 either-input false true a b f e = inr (refl, cc)
 either-input false false a b f e = absurd cc
-
-joined-nothing : (ns : NodeTrees) → joined_nodes ns no_nodes ≡ ns
-joined-nothing no_nodes = refl
-joined-nothing (node_then x ns) = ap (node_then x) (joined-nothing ns)
 
 -- ---- regions that mean the same
 
@@ -94,7 +91,7 @@ once-is c n own ns p gives closed unique zero-word us =
     ∙ then_on_given (nodes_run c ns us no_outputs) (λ o. again (turns n (region_meaning c (region own ns (p ∷ gives)))) (read us o p ∷ map (read us o) gives)) (λ o. Returned (map (read us o) gives) [])
     (λ o did e.
     let have = holds-from (length own) c ns [] us no_outputs o did closed.0 (λ m h k. h) unique e in
-    let held = constant-holds c (length own) us o ns no_nodes p 0 have closed.1.0 (subst (λ ms. constant ms p ≡ Some 0) (sym (joined-nothing ns)) zero-word) in
+    let held = constant-holds c (length own) us o ns no_nodes p 0 have closed.1.0 (subst (λ ms. constant ms p ≡ Some 0) (sym (joined_none ns)) zero-word) in
     ap (λ d. on_number (value_of d) (λ w. cond (w == 0) (Returned (map (read us o) gives) []) (turns n (region_meaning c (region own ns (p ∷ gives))) (map (read us o) gives)))) held.0)
 
 -- at a bound of 0 the nearer side is cut, and the farther side has none
@@ -131,7 +128,7 @@ module _ (ls ks : List PlainLambda) (l : PlainLambda) (args : List Kind) (before
   bin-words op a b rs well u v eu region_at =
       let x = node id (Bin op) (a ∷ b ∷ []) rs in
       let reads = inputs-read l args before id (Bin op) (a ∷ b ∷ []) rs after results well in
-      word-replaces ls ks l args before x after results well (word2 op u v) (gives_word2 op u v (constant-small (context_node x) a u eu) (constant-small (context_node x) b v region_at))
+      word-replaces ls ks l args before x after results well (word2 op u v) (gives_word2 op u v (constant_small (context_node x) a u eu) (constant_small (context_node x) b v region_at))
       (λ c xs o have.
       let hu = input-holds ls ks l args before x after results well c xs o a u have reads.0 eu in
       let hv = input-holds ls ks l args before x after results well c xs o b v have reads.1.0 region_at in
@@ -141,7 +138,7 @@ module _ (ls ks : List PlainLambda) (l : PlainLambda) (args : List Kind) (before
   un-word op a rs well u e =
       let x = node id (Un op) (a ∷ []) rs in
       let reads = inputs-read l args before id (Un op) (a ∷ []) rs after results well in
-      word-replaces ls ks l args before x after results well (word1 op u) (gives_word1 op u (constant-small (context_node x) a u e))
+      word-replaces ls ks l args before x after results well (word1 op u) (gives_word1 op u (constant_small (context_node x) a u e))
       (λ c xs o have.
       let hu = input-holds ls ks l args before x after results well c xs o a u have reads.0 e in
       ap (λ d. Returned (val (value1 op (value_of d)) ∷ []) []) hu.0)
@@ -218,7 +215,7 @@ module _ (ls ks : List PlainLambda) (l : PlainLambda) (args : List Kind) (before
   replacement-change : (x : NodeTree) (r : RegionTree) (inputs : List Origin) → Replaces ls ks (whole x) (region_spliced id (region_redirected (args_to_inputs inputs) r) (whole x)) → (f : Folded) → replacement r inputs ≡ f → (s : RegionTree) → folded id (whole x) f ≡ Some s → Replaces ls ks (whole x) s
   replacement-change x r inputs h f e s d =
       let same : Some (region_spliced id (region_redirected (args_to_inputs inputs) r) (whole x)) ≡ Some s = ap (folded id (whole x)) e ∙ d in
-      subst (λ z. Replaces ls ks (whole x) z) (some-equal _ _ same) h
+      subst (λ z. Replaces ls ks (whole x) z) (same_Some _ _ same) h
 
   inputs-replace : (op : Op2) (a b : Origin) (rs : RegionTrees) → IsPartOf l (whole (node id (Bin op) (a ∷ b ∷ []) rs)) → (u v : Option ℕ) → constant (context_node (node id (Bin op) (a ∷ b ∷ []) rs)) a ≡ u → constant (context_node (node id (Bin op) (a ∷ b ∷ []) rs)) b ≡ v →
       (f : Folded) → ((is_word (left_neutral op) u ≡ true) × (input b ≡ f)) ⊎ ((is_word (right_neutral op) v ≡ true) × (input a ≡ f)) → (s : RegionTree) → folded id (whole (node id (Bin op) (a ∷ b ∷ []) rs)) f ≡ Some s → Replaces ls ks (whole (node id (Bin op) (a ∷ b ∷ []) rs)) s
@@ -233,7 +230,7 @@ module _ (ls ks : List PlainLambda) (l : PlainLambda) (args : List Kind) (before
       (u v : Option ℕ) → constant (context_node (node id (Bin op) (a ∷ b ∷ []) rs)) a ≡ u → constant (context_node (node id (Bin op) (a ∷ b ∷ []) rs)) b ≡ v →
       (f : Folded) → bin_folded op a b u v ≡ Some f → (s : RegionTree) → folded id (whole (node id (Bin op) (a ∷ b ∷ []) rs)) f ≡ Some s → Replaces ls ks (whole (node id (Bin op) (a ∷ b ∷ []) rs)) s
   bin-replaces op a b rs well first (Some u) (Some v) eu region_at f e s d =
-      word-change (node id (Bin op) (a ∷ b ∷ []) rs) first (word2 op u v) (bin-words op a b rs well u v eu region_at) f (some-equal _ _ e) s d
+      word-change (node id (Bin op) (a ∷ b ∷ []) rs) first (word2 op u v) (bin-words op a b rs well u v eu region_at) f (same_Some _ _ e) s d
   bin-replaces op a b rs well first None v eu region_at f e s d =
       inputs-replace op a b rs well None v eu region_at f (either-input (is_word (left_neutral op) None) (is_word (right_neutral op) v) a b f e) s d
   bin-replaces op a b rs well first (Some u) None eu region_at f e s d =
@@ -302,7 +299,7 @@ fold_replaces ls ks n l (region args ns results) s well e = by (node_at n ns) re
   where
     by-node : (x : NodeTree) → node_at n ns ≡ Some x → (found : Option Folded) → folding ns x ≡ found → option_and_then (λ f. folded n (region args ns results) f) found ≡ Some s → Replaces ls ks (region args ns results) s
     by-node x at None h d = absurd cc
-    by-node x at (Some f) h d = region-replaces ls ks l n args ns results well x (found-at n ns x at) f h s d
+    by-node x at (Some f) h d = region-replaces ls ks l n args ns results well x (found_at n ns x at) f h s d
 
     by : (found : Option NodeTree) → node_at n ns ≡ found → option_and_then (λ f. folded n (region args ns results) f) (option_and_then (folding ns) found) ≡ Some s → Replaces ls ks (region args ns results) s
     by None h d = absurd cc

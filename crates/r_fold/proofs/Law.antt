@@ -29,7 +29,7 @@ use Rattle.g_mean.proofs.Copies.{test-other}
 use Rattle.g_mean.proofs.Splices.{joined-read, spliced_regions_refine}
 use Rattle.g_mean.proofs.Redirects.{replaced_nodes_refine, redirected_regions_refine}
 use Rattle.g_mean.proofs.Equal.{no_deeper-compares}
-use Rattle.r_fold.specs.Rule.{constant}
+use Rattle.g_graph.specs.Nodes.{constant}
 use Rattle.r_fold.proofs.Finding.{constant-holds}
 
 -- ---- a value near to what an operation gives

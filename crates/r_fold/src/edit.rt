@@ -1,12 +1,14 @@
 ghost use Rattle.std.specs.Prelude.{◌≡◌, [], MatchBool, IfOk, OnErr, is_some};
 ghost use Rattle.std.specs.declared.option.Option.TheVariants.{Some, None};
 ghost use Rattle.g_graph.specs.Plain.{node, no_regions, nodes_of};
-ghost use Rattle.r_fold.specs.Rule.{node_set};
+ghost use Rattle.g_graph.specs.Nodes.{node_set};
 ghost use Rattle.r_fold.specs.Plan.{with_word, with_input, carried_out};
 
 use crate::plan::Plan;
-use crate::uses::is_used;
-use g_graph::{OriginReplaced, NoMemory, Node, Op, Origin, Region, node_index, redirect_region, splice_region};
+use g_graph::{
+    Node, Op, Origin, OriginReplaced, Region, is_used, redirect_region, set_node, splice_region,
+};
+use no_memory::NoMemory;
 use smallvec::SmallVec;
 use std::alloc::Global;
 
@@ -52,16 +54,6 @@ fn const_node(alloc: Global, id: u32, word: u32) -> Node
         op: Op::Const(word),
         inputs: SmallVec::new(alloc),
         regions: Vec::new(alloc),
-    }
-}
-
-// Replaces the first node of the number.
-fn set_node(nodes: &mut Vec<Node>, id: u32, node: Node)
-    ensures { nodes_of nodes.new.items ≡ node_set id node (nodes_of nodes.old.items) }
-{
-    match node_index(nodes, id) {
-        Some(index) => nodes[index] = node,
-        None => (),
     }
 }
 

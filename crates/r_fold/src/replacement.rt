@@ -5,9 +5,9 @@ ghost use Rattle.g_graph.specs.Splice.{args_to_inputs};
 ghost use Rattle.r_fold.specs.Rule.{chosen_region, theta_folded};
 ghost use Rattle.r_fold.specs.Plan.{planned, gamma_case, theta_case, replacement_case, runs_once, has_one_turn};
 
-use crate::constants::{constant, is_word};
-use crate::plan::Plan;
-use g_graph::{NoMemory, Node, Op, Origin, ArgsToInputs, Region, copy_region, redirect_region};
+use crate::plan::{Plan, is_word};
+use g_graph::{ArgsToInputs, Node, Op, Origin, Region, constant, copy_region, redirect_region};
+use no_memory::NoMemory;
 use std::alloc::Global;
 
 // Whether one of its regions comes instead of a node.
@@ -23,7 +23,11 @@ pub fn has_replacement(nodes: &[Node], node: &Node) -> bool
 }
 
 // The plan for a node with regions.
-pub fn replacement_plan(alloc: Global, nodes: &[Node], node: &Node) -> Result<Option<Plan>, NoMemory>
+pub fn replacement_plan(
+    alloc: Global,
+    nodes: &[Node],
+    node: &Node,
+) -> Result<Option<Plan>, NoMemory>
     ensures { IfOk result (λ plan. plan ≡ option_map planned (replacement_case (nodes_of nodes.now) node.now)) }
 {
     match node.op {

@@ -2,18 +2,17 @@ ghost use Rattle.std.specs.Prelude.{◌≡◌, MatchBool, IfOk, OnOk, OnErr, IsT
 ghost use Rattle.std.specs.declared.option.Option.TheVariants.{Some, None};
 ghost use Rattle.g_graph.specs.Plain.{nodes_of, nodes_in};
 ghost use Rattle.g_graph.specs.WellFormed.{IsWellFormed};
-ghost use Rattle.r_fold.specs.Rule.{node_at, folding, folded, fold_here, applies, fold};
+ghost use Rattle.g_graph.specs.Nodes.{node_at};
+ghost use Rattle.r_fold.specs.Rule.{folding, folded, fold_here, applies, fold};
 ghost use Rattle.r_fold.specs.Laws.{KeepsMeaning};
 ghost use Rattle.r_fold.specs.Lists.{KeepsLists};
 ghost use Rattle.r_fold.specs.Plan.{planned};
 
-use crate::constants::node_at;
 use crate::edit::{can_carry_out, carry_out};
-use crate::replacement::{has_replacement, replacement_plan};
 use crate::plan::{Plan, plain_plan};
-use g_graph::{
-    CanChange, Change, Lambda, NoMemory, Node, Region, can_change_lambda, change_lambda,
-};
+use crate::replacement::{has_replacement, replacement_plan};
+use g_graph::{CanChange, Change, Lambda, Node, Region, can_change_lambda, change_lambda, node_at};
+use no_memory::NoMemory;
 use std::alloc::Global;
 
 /// Whether the rule applies at the node of this number: a Bin or Un node whose inputs are constants, or of which one
