@@ -5,12 +5,13 @@ use Rattle.val_core.specs.declared.values.Value.{Value}
 use Rattle.val_core.specs.Events.{Event, IsPrefixOf}
 use Rattle.val_core.specs.Refinement.{Direction, Forward, Comparison, Refines, exactly}
 use Rattle.val_core.specs.Answers.{Answer, Returned, Cut, Exited, Undefined, then_on, events, Gives, IsUndefined}
+use Rattle.val_core.specs.Objects.{Addresses}
 use Rattle.val_core.proofs.lemmas.Events.{prefix-self}
 use Rattle.val_core.proofs.lemmas.Answers.{added, before-is, then_associates}
-use Rattle.val_core.proofs.lemmas.Refinement.{refines-then, refines-active, refines-change}
+use Rattle.val_core.proofs.lemmas.Refinement.{refines-itself, refines-then, refines-active, refines-change}
 use Rattle.g_graph.specs.Plain.{RegionTree, nodes_of, id_of, PlainLambda}
 use Rattle.g_mean.specs.Data.{Datum, val, memory, input}
-use Rattle.g_mean.specs.Meaning.{Frame, Context, extended, node_run, nodes_run}
+use Rattle.g_mean.specs.Meaning.{Context, extended, node_run, nodes_run}
 use Rattle.g_mean.specs.Calls.{PlainOmega, entered, applied, region_at, lambda_at, global_of, first_memory, main_name, place_of, finished, started}
 use Rattle.g_mean.specs.LessDefined.{Paired, AreSound, IsLessDefinedDatum}
 use Rattle.g_mean.specs.Refining.{Compares, InOrder, MeaningRefines, RegionRefines}
@@ -43,19 +44,19 @@ module _ (cmp : Comparison) (g : Compares cmp) (direction : Direction) (N : Datu
           on = λ xs ys near. refines-active cmp g.goes (Paired N) direction f (entered n (applied ls global n) global (slice_get ls f) xs) (entered m (applied ls global m) global (slice_get ls f) ys) (body.on xs ys near);
         }
 
-  pub region_at-more : (ls : List PlainLambda) (frame : Frame) → ((j : ℕ) → N (val (frame.local j)) (val (frame.local j))) → ((j : ℕ) → N (val (frame.global j)) (val (frame.global j))) → (r : RegionTree) (n m : ℕ) → InOrder direction n m → (xs ys : List Datum) → Paired N xs ys → Refines cmp direction (Paired N) (region_at n ls r xs frame) (region_at m ls r ys frame)
-  region_at-more ls frame locals globals r n m order xs ys near =
+  pub region_at-more : (ls : List PlainLambda) (addresses : Addresses) → ((j : ℕ) → N (val (addresses.local j)) (val (addresses.local j))) → ((j : ℕ) → N (val (addresses.global j)) (val (addresses.global j))) → (r : RegionTree) (n m : ℕ) → InOrder direction n m → (xs ys : List Datum) → Paired N xs ys → Refines cmp direction (Paired N) (region_at n ls r xs addresses) (region_at m ls r ys addresses)
+  region_at-more ls addresses locals globals r n m order xs ys near =
       (region-refines cmp g direction N k Never Always never-refines
-      (record { bound = n; call = applied ls frame.global n; frame = frame }) (record { bound = m; call = applied ls frame.global m; frame = frame })
-      (record { bounds = order; calls = λ f. applied-more ls frame.global globals n m order f; locals = locals; globals = globals }) tt r r (same-itself Never r)).on xs ys near
+      (record { bound = n; call = applied ls addresses.global n; addresses = addresses }) (record { bound = m; call = applied ls addresses.global m; addresses = addresses })
+      (record { bounds = order; calls = λ f. applied-more ls addresses.global globals n m order f; locals = locals; globals = globals }) tt r r (same-itself Never r)).on xs ys near
 
 to-equal : (direction : Direction) (a b : Answer (List Datum)) → Refines exactly direction (Paired Equal) a b → Refines exactly direction (λ us vs. us ≡ vs) a b
 to-equal direction a b h = refines-change exactly direction (Paired Equal) (λ us vs. us ≡ vs) a b paired-equal h
 
 pub region_extends : RegionExtends
-region_extends n m ls r xs frame order =
-    to-equal Forward (region_at n ls r xs frame) (region_at m ls r xs frame)
-    (region_at-more exactly exactly-compares Forward Equal equal-kept ls frame (λ j. refl) (λ j. refl) r n m order xs xs (paired-itself xs))
+region_extends n m ls r xs addresses order =
+    to-equal Forward (region_at n ls r xs addresses) (region_at m ls r xs addresses)
+    (region_at-more exactly exactly-compares Forward Equal equal-kept ls addresses (λ j. refl) (λ j. refl) r n m order xs xs (paired-itself xs))
 
 pub lambda_extends : LambdaExtends
 lambda_extends n m ls global f xs order =
@@ -63,13 +64,7 @@ lambda_extends n m ls global f xs order =
     ((applied-more exactly exactly-compares Forward Equal equal-kept ls global (λ j. refl) (suc n) (suc m) (omega arith) f).on xs xs (paired-itself xs))
 
 equal-answers : (a b : Answer (List Datum)) → a ≡ b → Refines exactly Forward (λ us vs. us ≡ vs) a b
-equal-answers a b e = subst (λ c. Refines exactly Forward (λ us vs. us ≡ vs) a c) e (itself a)
-  where
-    itself : (a : Answer (List Datum)) → Refines exactly Forward (λ us vs. us ≡ vs) a a
-    itself (Returned xs o) = (refl, refl)
-    itself (Cut o) = prefix-self o
-    itself (Exited o s) = (refl, refl)
-    itself Undefined = tt
+equal-answers a b e = subst (λ c. Refines exactly Forward (λ us vs. us ≡ vs) a c) e (refines-itself Forward a)
 
 started-extends : (n m : ℕ) (omega : PlainOmega) (ls : List PlainLambda) (f : Option ℕ) (i : List ℕ) → n ≤ m → Refines exactly Forward (λ us vs. us ≡ vs) (started n omega ls f i) (started m omega ls f i)
 started-extends n m omega ls None i order = tt
@@ -89,21 +84,21 @@ nodes_in_turn c (x ∷ ns) after xs o =
     ap (then_on (node_run c x xs o)) (fun_ext (λ ys. nodes_in_turn c ns after xs (extended o (id_of x) ys)))
     ∙ sym (then_associates (node_run c x xs o) (λ ys. nodes_run c (nodes_of ns) xs (extended o (id_of x) ys)) (nodes_run c (nodes_of after) xs))
 
-grows-added : {A : Type 0} (o : List Event) (a : Answer A) → IsUndefined (added o a) ⊎ IsPrefixOf o (events (added o a))
-grows-added o (Returned x p) = inr (p, refl)
-grows-added o (Cut p) = inr (p, refl)
-grows-added o (Exited p s) = inr (p, refl)
-grows-added o Undefined = inl tt
+grows-added : {A : Type 0} (o : List Event) (a : Answer A) → IsPrefixOf o (events (added o a))
+grows-added o (Returned x p) = (p, refl)
+grows-added o (Cut p) = (p, refl)
+grows-added o (Exited p s) = (p, refl)
+grows-added o (Undefined p) = (p, refl)
 
-grows : {A B : Type 0} (a : Answer A) (next : A → Answer B) → IsUndefined (then_on a next) ⊎ IsPrefixOf (events a) (events (then_on a next))
+grows : {A B : Type 0} (a : Answer A) (next : A → Answer B) → IsPrefixOf (events a) (events (then_on a next))
 grows (Returned x o) next = rw (before-is o (next x)) (grows-added o (next x))
-grows (Cut o) next = inr (prefix-self o)
-grows (Exited o s) next = inr (prefix-self o)
-grows Undefined next = inl tt
+grows (Cut o) next = prefix-self o
+grows (Exited o s) next = prefix-self o
+grows (Undefined o) next = prefix-self o
 
 pub events_grow : EventsGrow
 events_grow c ns after xs o =
-    subst (λ a. IsUndefined a ⊎ IsPrefixOf (events (nodes_run c (nodes_of ns) xs o)) (events a)) (sym (nodes_in_turn c ns after xs o))
+    subst (λ a. IsPrefixOf (events (nodes_run c (nodes_of ns) xs o)) (events a)) (sym (nodes_in_turn c ns after xs o))
     (grows (nodes_run c (nodes_of ns) xs o) (nodes_run c (nodes_of after) xs))
 
 -- ---- soundness
@@ -121,15 +116,15 @@ pub refines-sound : (a b : Answer (List Datum)) → Refines exactly Forward (Pai
 refines-sound (Returned xs o) (Returned ys p) h = pairs-sound xs ys h.0
 refines-sound (Returned xs o) (Cut p) h = absurd h
 refines-sound (Returned xs o) (Exited p t) h = absurd h
-refines-sound (Returned xs o) Undefined h = absurd h
+refines-sound (Returned xs o) (Undefined p) h = absurd h
 refines-sound (Cut o) b h = tt
 refines-sound (Exited o s) b h = tt
-refines-sound Undefined b h = tt
+refines-sound (Undefined o) b h = tt
 
 pub region_is_sound : RegionIsSound
-region_is_sound n ls r xs frame locals globals s =
-    refines-sound (region_at n ls r xs frame) (region_at n ls r xs frame)
-    (region_at-more exactly exactly-compares Forward IsLessDefinedDatum less-kept ls frame (λ j. (inl refl, locals j, locals j)) (λ j. (inl refl, globals j, globals j)) r n n (omega arith) xs xs (sound-pairs xs s))
+region_is_sound n ls r xs addresses locals globals s =
+    refines-sound (region_at n ls r xs addresses) (region_at n ls r xs addresses)
+    (region_at-more exactly exactly-compares Forward IsLessDefinedDatum less-kept ls addresses (λ j. (inl refl, locals j, locals j)) (λ j. (inl refl, globals j, globals j)) r n n (omega arith) xs xs (sound-pairs xs s))
 
 pub lambda_is_sound : LambdaIsSound
 lambda_is_sound n ls global f xs globals s =

@@ -4,11 +4,12 @@ use Rattle.val_core.specs.declared.values.Value.{Value}
 use Rattle.val_core.specs.Memory.{Memory, closed}
 use Rattle.val_core.specs.Refinement.{Direction, Comparison, Refines}
 use Rattle.val_core.specs.Answers.{Returned, then_on}
+use Rattle.val_core.specs.Objects.{opened}
 use Rattle.val_core.proofs.lemmas.Refinement.{refines-then}
 use Rattle.g_graph.specs.Plain.{RegionTree, region, NodeTree, node, NodeTrees, no_nodes, node_then, RegionTrees, no_regions, region_then, PlainObject, PlainLambda}
 use Rattle.g_mean.specs.Data.{Datum, val, at_port, with_memory, changed_at}
 use Rattle.g_mean.specs.Meaning.{Meaning, Context, region_meaning}
-use Rattle.g_mean.specs.Calls.{opened, sizes_of, inside, entered}
+use Rattle.g_mean.specs.Calls.{shapes_of, sizes_of, inside, entered}
 use Rattle.g_mean.specs.LessDefined.{Paired}
 use Rattle.g_mean.specs.Refining.{Compares, InOrder, MeaningRefines, ContextRefines, RegionRefines, SameBut, NodeSameBut, NodesSameBut, RegionsSameBut, LambdaSameBut, LambdasSameBut}
 use Rattle.g_mean.proofs.Kept.{IsKept, paired-at}
@@ -57,13 +58,13 @@ module _ (cmp : Comparison) (g : Compares cmp) (direction : Direction) (N : Datu
   module _ (P : RegionTree → RegionTree → Type 0) (Q : Context → Context → Type 0) (base : (r s : RegionTree) → P r s → RegionRefines cmp direction N Q r s) (n m : ℕ) (order : InOrder direction n m) (call call' : ℕ → Meaning) (calls : (f : ℕ) → MeaningRefines cmp direction N (call f) (call' f)) (global : ℕ → Value) (globals : (j : ℕ) → N (val (global j)) (val (global j))) where
     body-refines : (params : ℕ) (os : List PlainObject) → ((b : Memory) → Q (inside n call global os b) (inside m call' global os b)) → (r s : RegionTree) → SameBut P r s → (xs ys : List Datum) → Paired N xs ys → (b : Memory) →
         Refines cmp direction (Paired N)
-        (then_on (region_meaning (inside n call global os b) r (changed_at params (with_memory (λ j. j ++ opened os)) xs)) (λ us. Returned (changed_at 1 (with_memory (closed (length b) (length os))) us) []))
-        (then_on (region_meaning (inside m call' global os b) s (changed_at params (with_memory (λ j. j ++ opened os)) ys)) (λ us. Returned (changed_at 1 (with_memory (closed (length b) (length os))) us) []))
+        (then_on (region_meaning (inside n call global os b) r (changed_at params (with_memory (λ j. j ++ opened (shapes_of os))) xs)) (λ us. Returned (changed_at 1 (with_memory (closed (length b) (length os))) us) []))
+        (then_on (region_meaning (inside m call' global os b) s (changed_at params (with_memory (λ j. j ++ opened (shapes_of os))) ys)) (λ us. Returned (changed_at 1 (with_memory (closed (length b) (length os))) us) []))
     body-refines params os q r s same xs ys near b =
         let context : ContextRefines cmp direction N (inside n call global os b) (inside m call' global os b) = record { bounds = order; calls = calls; locals = λ j. k.address (length b) (sizes_of os) j; globals = globals } in
         let whole = region-refines cmp g direction N k P Q base (inside n call global os b) (inside m call' global os b) context (q b) r s same in
         refines-then cmp g.goes (Paired N) (Paired N) direction _ _ _ _
-        (whole.on (changed_at params (with_memory (λ j. j ++ opened os)) xs) (changed_at params (with_memory (λ j. j ++ opened os)) ys) (changed-refines params (with_memory (λ j. j ++ opened os)) (λ x y h. k.opens x y h os) xs ys near))
+        (whole.on (changed_at params (with_memory (λ j. j ++ opened (shapes_of os))) xs) (changed_at params (with_memory (λ j. j ++ opened (shapes_of os))) ys) (changed-refines params (with_memory (λ j. j ++ opened (shapes_of os))) (λ x y h. k.opens x y h (shapes_of os)) xs ys near))
         (λ us vs near'. (changed-refines 1 (with_memory (closed (length b) (length os))) (λ x y h. k.closes x y h (length b) (length os)) us vs near', g.goes.nothing))
 
     pub entered-refines : ((os : List PlainObject) (b : Memory) → Q (inside n call global os b) (inside m call' global os b)) → (l l' : Option PlainLambda) → FoundSameBut P l l' → MeaningRefines cmp direction N (entered n call global l) (entered m call' global l')

@@ -21,7 +21,7 @@ same-added : {A B : Type 0} (R : A → B → Type 0) (o : List Event) (a : Answe
 same-added R o (Returned x p) (Returned y q) h = (h.0, ap (λ z. o ++ z) h.1)
 same-added R o (Cut p) (Cut q) h = ap (λ z. o ++ z) h
 same-added R o (Exited p s) (Exited q t) h = (ap (λ z. o ++ z) h.0, h.1)
-same-added R o Undefined Undefined h = tt
+same-added R o (Undefined p) (Undefined q) h = ap (λ z. o ++ z) h
 same-added R o _ _ h = absurd h
 
 pub same-then : {A B C D : Type 0} (R : A → B → Type 0) (S : C → D → Type 0) (a : Answer A) (b : Answer B) (next : A → Answer C) (next' : B → Answer D) → Same R a b → ((x : A) (y : B) → R x y → Same S (next x) (next' y)) → Same S (then_on a next) (then_on b next')
@@ -30,7 +30,7 @@ same-then R S (Returned x o) (Returned y p) next next' h go =
     (rw (before-is o (next x), before-is o (next' y)) (same-added S o (next x) (next' y) (go x y h.0)))
 same-then R S (Cut o) (Cut p) next next' h go = h
 same-then R S (Exited o s) (Exited p t) next next' h go = h
-same-then R S Undefined Undefined next next' h go = tt
+same-then R S (Undefined o) (Undefined p) next next' h go = h
 same-then R S _ _ next next' h go = absurd h
 
 abbrev pub Equals : {A : Type 0} → A → A → Type 0
@@ -40,7 +40,7 @@ pub same-equal : {A : Type 0} (a b : Answer A) → Same Equals a b → a ≡ b
 same-equal (Returned x o) (Returned y p) h = ap₂ Returned h.0 h.1
 same-equal (Cut o) (Cut p) h = ap Cut h
 same-equal (Exited o s) (Exited p t) h = ap₂ Exited h.0 h.1
-same-equal Undefined Undefined h = refl
+same-equal (Undefined o) (Undefined p) h = ap Undefined h
 same-equal _ _ h = absurd h
 
 pub equal-same : {A : Type 0} (a b : Answer A) → a ≡ b → Same Equals a b
@@ -50,7 +50,7 @@ equal-same a b e = subst (λ z. Same Equals a z) e (itself a)
     itself (Returned x o) = (refl, refl)
     itself (Cut o) = refl
     itself (Exited o s) = (refl, refl)
-    itself Undefined = tt
+    itself (Undefined o) = refl
 
 -- ---- numbers
 
@@ -79,7 +79,7 @@ pub same-change : {A B : Type 0} (R S : A → B → Type 0) (a : Answer A) (b : 
 same-change R S (Returned x o) (Returned y p) more h = (more x y h.0, h.1)
 same-change R S (Cut o) (Cut p) more h = h
 same-change R S (Exited o s) (Exited p t) more h = h
-same-change R S Undefined Undefined more h = tt
+same-change R S (Undefined o) (Undefined p) more h = h
 same-change R S _ _ more h = absurd h
 
 test-same : (m n : ℕ) → m ≡ n → (m == n) ≡ true

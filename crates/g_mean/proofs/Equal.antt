@@ -6,15 +6,15 @@ use Rattle.val_core.specs.Memory.{closed}
 use Rattle.val_core.specs.Events.{output, IsPrefixOf}
 use Rattle.val_core.specs.Refinement.{Direction, Forward, Backward, Comparison, Refines, exactly, no_deeper}
 use Rattle.val_core.specs.Answers.{Answer, Returned, Cut, Exited, Undefined}
+use Rattle.val_core.specs.Objects.{Addresses, opened}
 use Rattle.val_core.proofs.lemmas.Events.{prefix-self}
 use Rattle.val_core.proofs.lemmas.Refinement.{exactly-goes, no_deeper-goes}
 use Rattle.g_graph.specs.declared.op.Op.{Op}
 use Rattle.g_mean.specs.Data.{Datum, val, value_of, with_memory}
-use Rattle.g_mean.specs.Meaning.{Frame, done}
-use Rattle.g_mean.specs.Calls.{opened}
+use Rattle.g_mean.specs.Meaning.{done}
 use Rattle.g_mean.specs.LessDefined.{Paired}
 use Rattle.g_mean.specs.Refining.{Compares}
-use Rattle.g_mean.proofs.Kept.{FrameRefines, IsKept}
+use Rattle.g_mean.proofs.Kept.{AddressesRefine, IsKept}
 
 -- ---- the comparisons
 
@@ -56,18 +56,18 @@ refines-itself cmp g direction (Returned xs o) = (paired-itself xs, g.itself o)
 refines-itself cmp g direction (Exited o s) = (g.itself o, refl)
 refines-itself cmp g Forward (Cut o) = g.near o o (g.itself o)
 refines-itself cmp g Backward (Cut o) = g.far o o (g.itself o)
-refines-itself cmp g direction Undefined = tt
+refines-itself cmp g direction (Undefined o) = tt
 
 val-inj : (u v : Value) → val u ≡ val v → u ≡ v
 val-inj u v e = cc
 
-frame-equal : (e f : Frame) → FrameRefines Equal e f → e ≡ f
-frame-equal e f h =
+addresses-equal : (e f : Addresses) → AddressesRefine Equal e f → e ≡ f
+addresses-equal e f h =
     ap₂ (λ l g. record { local = l; global = g }) (fun_ext (λ k. val-inj (e.local k) (f.local k) (h.locals k))) (fun_ext (λ k. val-inj (e.global k) (f.global k) (h.globals k)))
 
-equal-plain : (cmp : Comparison) → Compares cmp → (direction : Direction) (e f : Frame) → FrameRefines Equal e f → (op : Op) (xs ys : List Datum) → Paired Equal xs ys → Refines cmp direction (Paired Equal) (done e op xs) (done f op ys)
+equal-plain : (cmp : Comparison) → Compares cmp → (direction : Direction) (e f : Addresses) → AddressesRefine Equal e f → (op : Op) (xs ys : List Datum) → Paired Equal xs ys → Refines cmp direction (Paired Equal) (done e op xs) (done f op ys)
 equal-plain cmp g direction e f h op xs ys near =
-    subst (λ a. Refines cmp direction (Paired Equal) (done e op xs) a) (ap₂ (λ d zs. done d op zs) (frame-equal e f h) (paired-equal xs ys near)) (refines-itself cmp g direction (done e op xs))
+    subst (λ a. Refines cmp direction (Paired Equal) (done e op xs) a) (ap₂ (λ d zs. done d op zs) (addresses-equal e f h) (paired-equal xs ys near)) (refines-itself cmp g direction (done e op xs))
 
 pub equal-kept : IsKept Equal
 equal-kept =

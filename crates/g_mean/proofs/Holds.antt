@@ -30,7 +30,7 @@ given-added : {B : Type 0} (o : List Event) (b : Answer B) (y : B) (did : List E
 given-added o (Returned z q) y did e = let same : z ≡ y = cc in (q, ap (λ w. Returned w q) same)
 given-added o (Cut q) y did e = absurd cc
 given-added o (Exited q s) y did e = absurd cc
-given-added o Undefined y did e = absurd cc
+given-added o (Undefined q) y did e = absurd cc
 
 pub was-given : {A B : Type 0} (a : Answer A) (next : A → Answer B) (y : B) (did : List Event) → then_on a next ≡ Returned y did → WasGiven a next y
 was-given (Returned x o) next y did e =
@@ -38,7 +38,7 @@ was-given (Returned x o) next y did e =
     record { first = x; did = o; rest = h.0; is = refl; follows = h.1 }
 was-given (Cut o) next y did e = absurd cc
 was-given (Exited o s) next y did e = absurd cc
-was-given Undefined next y did e = absurd cc
+was-given (Undefined o) next y did e = absurd cc
 
 -- ---- numbers
 

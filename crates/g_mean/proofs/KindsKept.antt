@@ -6,7 +6,7 @@ use Rattle.val_core.specs.declared.values.Value.TheVariants.{Num, At, Bad}
 use Rattle.val_core.specs.Values.{IsLessDefined}
 use Rattle.val_core.specs.Memory.{Memory as Blocks, load, store, pointers_equal, closed}
 use Rattle.val_core.specs.Events.{wrote}
-use Rattle.val_core.specs.Answers.{Answer, Returned, Cut, Exited, Undefined, Gives}
+use Rattle.val_core.specs.Answers.{Answer, Returned, Cut, Exited, Undefined, Gives, on_number, on_defined}
 use Rattle.val_core.proofs.lemmas.Answers.{gives-then, gives-active}
 use Rattle.g_graph.specs.declared.op.Kind.{Kind}
 use Rattle.g_graph.specs.declared.op.Kind.TheVariants.{Value as ValueKind, Memory, Io}
@@ -19,10 +19,11 @@ use Rattle.g_graph.specs.Signatures.{result_kinds, output_kinds, kind_after, joi
 use Rattle.g_graph.specs.Splice.{joined_nodes}
 use Rattle.g_graph.specs.Scope.{same_kind, each_node, known}
 use Rattle.g_graph.specs.WellFormed.{are, same, kinds_of, all_regions, inputs_fit, inputs_are_last, node_has_one_state_each, has_its_regions, regions_fit, theta_has_states, has_its_width, has_its_object, node_fits, nodes_fit, results_are_last, returns_state, region_has_one_state_each, region_fits, every_region, every_in_node, every_in_nodes, every_in_regions, body_fits, numbers_fit, leaves_fit, all_of, well_formed}
-use Rattle.g_mean.specs.Data.{Datum, val, memory, input, at_port, value_of, value_at, on_number, on_memory, on_input, on_defined, with_memory, changed_at}
+use Rattle.g_mean.specs.Data.{Datum, val, memory, input, at_port, value_of, value_at, on_memory, on_input, with_memory, changed_at}
 use Rattle.g_mean.specs.Meaning.{Meaning, Context, given, given_memory, got, cleared_at, done, chosen, branched, again, turns, Outputs, no_outputs, extended, read, node_run, nodes_run, region_meaning, meanings}
-use Rattle.g_mean.specs.Calls.{opened, inside, entered, applied, lambda_at}
+use Rattle.g_mean.specs.Calls.{shapes_of, inside, entered, applied, lambda_at}
 use Rattle.val_core.specs.Refinement.{Direction, Forward, Backward, Refines, no_deeper}
+use Rattle.val_core.specs.Objects.{opened}
 use Rattle.val_core.proofs.lemmas.Refinement.{forward-within, backward-within, backward-defined, backward-no-deeper, no_deeper-output, no_deeper-depth}
 use Rattle.g_mean.specs.Replacement.{IsTwice}
 use Rattle.g_mean.proofs.Replacement.{lambda-refines}
@@ -159,7 +160,7 @@ gives-out : (ks : List Kind) (a : Answer (List Datum)) → Gives (AreOfKinds ks)
 gives-out ks (Returned ys o) h = kinds-out ks ys h
 gives-out ks (Cut o) h = tt
 gives-out ks (Exited o s) h = tt
-gives-out ks Undefined h = tt
+gives-out ks (Undefined o) h = tt
 
 -- ---- the map
 
@@ -221,8 +222,8 @@ joined-nothing (node_then x ns) = ap (node_then x) (joined-nothing ns)
 -- ---- regions
 
 module _ (objects : ℕ) (c : Context) (calls : CallsKeep c.call) where
-  done-gives : (ks : List Kind) (op : Op) (us : List Datum) → Gives (AreOfKinds ks) (done c.frame op us) → Gives (OutKinds (map Some ks)) (done c.frame op us)
-  done-gives ks op us h = gives-out ks (done c.frame op us) h
+  done-gives : (ks : List Kind) (op : Op) (us : List Datum) → Gives (AreOfKinds ks) (done c.addresses op us) → Gives (OutKinds (map Some ks)) (done c.addresses op us)
+  done-gives ks op us h = gives-out ks (done c.addresses op us) h
 
   mutual
     region-keeps : (r : RegionTree) → every_region (region_fits objects) r ≡ true → (gives : List Kind) → result_kinds r ≡ map Some gives → KeepsKinds (args_of r) gives (region_meaning c r)
@@ -260,7 +261,7 @@ module _ (objects : ℕ) (c : Context) (calls : CallsKeep c.call) where
     node-keeps args b (node id (Clear k) inputs rs) t nested xs kinds o m =
         let us = map (read xs o) inputs in
         done-gives (Memory ∷ []) (Clear k) us
-        (memory-gives (AreOfKinds (Memory ∷ [])) (at_port us 0) (λ j. on_defined (cleared_at (c.frame.local k) j) given_memory) (λ j e. defined-gives (AreOfKinds (Memory ∷ [])) (cleared_at (c.frame.local k) j) given_memory (λ v. (tt, tt))))
+        (memory-gives (AreOfKinds (Memory ∷ [])) (at_port us 0) (λ j. on_defined (cleared_at (c.addresses.local k) j) given_memory) (λ j e. defined-gives (AreOfKinds (Memory ∷ [])) (cleared_at (c.addresses.local k) j) given_memory (λ v. (tt, tt))))
     node-keeps args b (node id PtrEq inputs rs) t nested xs kinds o m =
         let us = map (read xs o) inputs in
         done-gives (ValueKind ∷ []) PtrEq us
@@ -355,8 +356,8 @@ entered-keeps n call global calls l well count xs kinds =
     let place = memory-place count xs kinds l.params m e in
     let args : call_takes count ≡ args_of l.body = ap call_takes (sym place) ∙ sym (same-equal (args_of l.body) (call_takes l.params) b.0) in
     let body = region-keeps (length l.objects) (inside n call global l.objects m) calls l.body q.1 call_gives (are-equal (result_kinds l.body) call_gives b.1) in
-    gives-then (AreOfKinds call_gives) (AreOfKinds call_gives) (region_meaning (inside n call global l.objects m) l.body (changed_at l.params (with_memory (λ k. k ++ opened l.objects)) xs)) (λ ys. Returned (changed_at 1 (with_memory (closed (length m) (length l.objects))) ys) [])
-    (body (changed_at l.params (with_memory (λ k. k ++ opened l.objects)) xs) (subst (λ ks. AreOfKinds ks (changed_at l.params (with_memory (λ k. k ++ opened l.objects)) xs)) args (changed-kinds (call_takes count) l.params (λ k. k ++ opened l.objects) xs kinds)))
+    gives-then (AreOfKinds call_gives) (AreOfKinds call_gives) (region_meaning (inside n call global l.objects m) l.body (changed_at l.params (with_memory (λ k. k ++ opened (shapes_of l.objects))) xs)) (λ ys. Returned (changed_at 1 (with_memory (closed (length m) (length l.objects))) ys) [])
+    (body (changed_at l.params (with_memory (λ k. k ++ opened (shapes_of l.objects))) xs) (subst (λ ks. AreOfKinds ks (changed_at l.params (with_memory (λ k. k ++ opened (shapes_of l.objects))) xs)) args (changed-kinds (call_takes count) l.params (λ k. k ++ opened (shapes_of l.objects)) xs kinds)))
     (λ ys h. changed-kinds call_gives 1 (closed (length m) (length l.objects)) ys h))
 
 found-keeps : (n : ℕ) (call : ℕ → Meaning) (global : ℕ → Value) → CallsKeep call → (found : Option PlainLambda) → ((l : PlainLambda) → found ≡ Some l → well_formed l ≡ true) → (count : ℕ) → KeepsKinds (call_takes count) call_gives (entered n call global found)
@@ -440,13 +441,13 @@ return-refine xs ys h g p =
 
 -- what is known of the results on both sides, and a relation that follows
 refines-both : (direction : Direction) (P : List Datum → Type 0) (R S : List Datum → List Datum → Type 0) (a b : Answer (List Datum)) → Gives P a → Gives P b → ((xs ys : List Datum) → P xs → P ys → R xs ys → S xs ys) → Refines no_deeper direction R a b → Refines no_deeper direction S a b
-refines-both direction P R S Undefined b g h more l = tt
+refines-both direction P R S (Undefined o) b g h more l = tt
 refines-both direction P R S (Returned x o) (Returned y p) g h more l = (more x y g h l.0, l.1)
 refines-both direction P R S (Exited o s) (Exited p t) g h more l = l
 refines-both Forward P R S (Cut o) (Returned y p) g h more l = l
 refines-both Forward P R S (Cut o) (Exited p t) g h more l = l
 refines-both Forward P R S (Cut o) (Cut p) g h more l = l
-refines-both Forward P R S (Cut o) Undefined g h more l = tt
+refines-both Forward P R S (Cut o) (Undefined p) g h more l = tt
 refines-both Backward P R S (Returned x o) (Cut p) g h more l = l
 refines-both Backward P R S (Exited o s) (Cut p) g h more l = l
 refines-both Backward P R S (Cut o) (Cut p) g h more l = l

@@ -8,20 +8,21 @@ use Rattle.val_core.specs.declared.values.Value.TheVariants.{Num, At, Bad}
 use Rattle.val_core.specs.Words.{one_if}
 use Rattle.val_core.specs.Values.{IsLessDefined, IsSound, same_block, value1, value2}
 use Rattle.val_core.specs.Memory.{Cell, Block, Memory, load, store, takes_store, kept, block_named, block_changed, is_at, is_live, cell_written, written, closed, pointers_equal, new_cell, AreSoundCells, IsSoundMemory}
-use Rattle.val_core.specs.Events.{wrote}
+use Rattle.val_core.specs.Events.{wrote, took}
 use Rattle.val_core.specs.Refinement.{Direction, Comparison, Refines}
-use Rattle.val_core.specs.Answers.{Answer, Returned, Exited}
+use Rattle.val_core.specs.Answers.{Answer, Returned, Exited, on_number, on_defined}
+use Rattle.val_core.specs.Objects.{Addresses, opened, block_address, address_in}
 use Rattle.val_core.proofs.lemmas.Values.{keeps_less_defined1, keeps_less_defined2, keeps_sound1, keeps_sound2}
-use Rattle.val_core.proofs.lemmas.Sound.{load_is_sound, clear_is_sound, closed_is_sound}
+use Rattle.val_core.proofs.lemmas.Objects.{opened_is_sound, addresses_are_sound}
+use Rattle.val_core.proofs.lemmas.Sound.{load_is_sound, store_is_sound, clear_is_sound, closed_is_sound}
 use Rattle.g_graph.specs.declared.op.Op.{Op}
 use Rattle.g_graph.specs.declared.op.Op.TheVariants.{Const, Undef, Local, Delta, Bin, Un, Load, Store, Clear, PtrEq, Put, Exit, Get}
 use Rattle.g_graph.specs.Plain.{PlainObject}
-use Rattle.g_mean.specs.Data.{Datum, val, memory, input, at_port, value_of, value_at, on_number, on_memory, on_input, on_defined, with_memory}
-use Rattle.g_mean.specs.Meaning.{Frame, done, given, given_memory, got, cleared_at}
-use Rattle.g_mean.specs.Calls.{opened, block_address, address_in}
+use Rattle.g_mean.specs.Data.{Datum, val, memory, input, at_port, value_of, value_at, on_memory, on_input, with_memory}
+use Rattle.g_mean.specs.Meaning.{done, given, given_memory, got, cleared_at}
 use Rattle.g_mean.specs.LessDefined.{Paired, AreBytes, IsSoundDatum, IsLessDefinedDatum}
 use Rattle.g_mean.specs.Refining.{Compares}
-use Rattle.g_mean.proofs.Kept.{FrameRefines, IsKept}
+use Rattle.g_mean.proofs.Kept.{AddressesRefine, IsKept}
 
 abbrev LessDefinedValue : Value → Value → Type 0
 LessDefinedValue u v = IsLessDefined u v × IsSound u × IsSound v
@@ -49,40 +50,9 @@ less-datum u v h = (by h.0, h.1, h.2)
 abbrev Less : {X : Type 0} → Option X → Option X → Type 0
 Less a b = (a ≡ b) ⊎ (a ≡ None)
 
--- ---- stores of any width keep memory sound
-
-changed-sound : (n : ℕ) (f : Block → Block) (m : Memory) → ((k : Block) → AreSoundCells k.cells → AreSoundCells (f k).cells) → IsSoundMemory m → IsSoundMemory (block_changed n f m)
-changed-sound n f [] h s = tt
-changed-sound zero f (k ∷ m) h s = (h k s.0, s.1)
-changed-sound (suc n) f (k ∷ m) h s = (s.0, changed-sound n f m h s.1)
-
-cell-sound : (test : Bool) (v : Value) (c : Cell) → IsSound v → IfSome c.value IsSound → IfSome (cond test (record c { value = Some v }) c).value IsSound
-cell-sound true v c h s = h
-cell-sound false v c h s = s
-
-written-sound : (w o : ℕ) (v : Value) (cs : List Cell) → IsSound v → AreSoundCells cs → AreSoundCells (map (cell_written w o v) cs)
-written-sound w o v [] h s = tt
-written-sound w o v (c ∷ cs) h s = (cell-sound (is_at w o c) v c h s.0, written-sound w o v cs h s.1)
-
 pick : {X : Type 0} (test : Bool) (P : X → Type 0) (x y : X) → P x → P y → P (cond test x y)
 pick true P x y p q = p
 pick false P x y p q = q
-
-kept-sound : (w : ℕ) (v : Value) → IsSound v → IfSome (kept w v) IsSound
-kept-sound w (Num n) s = let h = mod-le n (2 ^ (8 * w)) in omega (arith, h, s)
-kept-sound w (At b o) s = pick (w == 4) (λ x. IfSome x IsSound) (Some (At b o)) None s tt
-kept-sound w Bad s = tt
-
-stored-sound : (w o n : ℕ) (m : Memory) (part : Option Value) → IfSome part IsSound → IsSoundMemory m → IfSome (option_map (λ v. block_changed n (written w o v) m) part) IsSoundMemory
-stored-sound w o n m None h s = tt
-stored-sound w o n m (Some u) h s = changed-sound n (written w o u) m (λ k t. written-sound w o u k.cells h t) s
-
-store-sound : (w : ℕ) (a v : Value) (m : Memory) → IsSoundMemory m → IsSound v → IfSome (store w a v m) IsSoundMemory
-store-sound w (Num a) v m s t = tt
-store-sound w Bad v m s t = tt
-store-sound w (At b o) v m s t =
-    stored-sound w o b.number m (cond (takes_store w o (block_named b m)) (kept w v) None)
-    (pick (takes_store w o (block_named b m)) (λ x. IfSome x IsSound) (kept w v) None (kept-sound w v t) tt) s
 
 -- ---- what is undefined without a value
 
@@ -140,18 +110,6 @@ clear-sound Bad m s = tt
 
 -- ---- blocks
 
-new-sound : (ls : List Leaf) → AreSoundCells (map new_cell ls)
-new-sound [] = tt
-new-sound (l ∷ ls) = (tt, new-sound ls)
-
-opened-sound : (os : List PlainObject) → IsSoundMemory (opened os)
-opened-sound [] = tt
-opened-sound (o ∷ os) = (new-sound o.leaves, opened-sound os)
-
-append-sound : (m k : Memory) → IsSoundMemory m → IsSoundMemory k → IsSoundMemory (m ++ k)
-append-sound [] k s t = t
-append-sound (b ∷ m) k s t = (s.0, append-sound m k s.1 t)
-
 changed-datum : (f : Memory → Memory) → ((m : Memory) → IsSoundMemory m → IsSoundMemory (f m)) → (x : Datum) → IsSoundDatum x → IsSoundDatum (with_memory f x)
 changed-datum f h (memory m) s = h m s
 changed-datum f h (val v) s = s
@@ -163,10 +121,6 @@ changed-less f h x y near = (by near.0, changed-datum f h x near.1, changed-datu
     by : (x ≡ y) ⊎ (x ≡ val Bad) → (with_memory f x ≡ with_memory f y) ⊎ (with_memory f x ≡ val Bad)
     by (inl e) = inl (ap (with_memory f) e)
     by (inr e) = inr (ap (with_memory f) e)
-
-pub address-sound : (n : ℕ) (size : Option ℕ) → IsSound (block_address n size)
-address-sound n None = tt
-address-sound n (Some size) = (omega arith, mod-lt size (lit< tt))
 
 less-itself : (v : Value) → IsSound v → IsLessDefinedDatum (val v) (val v)
 less-itself v s = (inl refl, s, s)
@@ -219,9 +173,9 @@ module _ (cmp : Comparison) (g : Compares cmp) (direction : Direction) where
   got-refines [] s = (((inl refl, lit< tt, lit< tt), ((inl refl, tt, tt), tt)), g.goes.nothing)
   got-refines (b ∷ i) s =
       let small : b < 2 ^ 32 = lt_of_lt_of_le s.0 (lit≤ tt) in
-      (((inl refl, small, small), ((inl refl, s.1, s.1), tt)), g.goes.nothing)
+      (((inl refl, small, small), ((inl refl, s.1, s.1), tt)), g.itself (took b ∷ []))
 
-  plain-refines : (e f : Frame) → FrameRefines IsLessDefinedDatum e f → (op : Op) (xs ys : List Datum) → Paired IsLessDefinedDatum xs ys → ((k : ℕ) → IsLessDefinedDatum (at_port xs k) (at_port ys k)) → Refines cmp direction (Paired IsLessDefinedDatum) (done e op xs) (done f op ys)
+  plain-refines : (e f : Addresses) → AddressesRefine IsLessDefinedDatum e f → (op : Op) (xs ys : List Datum) → Paired IsLessDefinedDatum xs ys → ((k : ℕ) → IsLessDefinedDatum (at_port xs k) (at_port ys k)) → Refines cmp direction (Paired IsLessDefinedDatum) (done e op xs) (done f op ys)
   plain-refines e f h (Const w) xs ys near at =
       given-refines (Num (w % 2 ^ 32)) (Num (w % 2 ^ 32)) (inl refl, mod-lt w (lit< tt), mod-lt w (lit< tt))
   plain-refines e f h Undef xs ys near at = given-refines Bad Bad (inl refl, tt, tt)
@@ -243,7 +197,7 @@ module _ (cmp : Comparison) (g : Compares cmp) (direction : Direction) where
       let a = less-value (at_port xs 0) (at_port ys 0) (at 0) in
       let b = less-value (at_port xs 1) (at_port ys 1) (at 1) in
       on_memory-refines (at_port xs 2) (at_port ys 2) (at 2) (λ m. on_defined (store w (value_at xs 0) (value_at xs 1) m) given_memory) (λ m. on_defined (store w (value_at ys 0) (value_at ys 1) m) given_memory)
-      (λ m s. on_defined-refines IsSoundMemory (store w (value_at xs 0) (value_at xs 1) m) (store w (value_at ys 0) (value_at ys 1) m) (store-less w (value_at xs 0) (value_at ys 0) (value_at xs 1) (value_at ys 1) m a.0 b.0) (store-sound w (value_at xs 0) (value_at xs 1) m s b.1) given_memory given_memory (λ k t. memory-refines k t))
+      (λ m s. on_defined-refines IsSoundMemory (store w (value_at xs 0) (value_at xs 1) m) (store w (value_at ys 0) (value_at ys 1) m) (store-less w (value_at xs 0) (value_at ys 0) (value_at xs 1) (value_at ys 1) m a.0 b.0) (store_is_sound w (value_at xs 0) (value_at xs 1) m s b.1) given_memory given_memory (λ k t. memory-refines k t))
   plain-refines e f h (Clear k) xs ys near at =
       let a = less-value (val (e.local k)) (val (f.local k)) (h.locals k) in
       on_memory-refines (at_port xs 0) (at_port ys 0) (at 0) (λ m. on_defined (cleared_at (e.local k) m) given_memory) (λ m. on_defined (cleared_at (f.local k) m) given_memory)
@@ -290,8 +244,8 @@ less-kept =
       nothing = less-itself Bad tt;
       number = less-number;
       state = less-state;
-      opens = λ x y near os. changed-less (λ k. k ++ opened os) (λ m s. append-sound m (opened os) s (opened-sound os)) x y near;
+      opens = λ x y near os. changed-less (λ k. k ++ opened os) (λ m s. opened_is_sound os m s) x y near;
       closes = λ x y near first count. changed-less (closed first count) (λ m s. closed_is_sound first count m s) x y near;
-      address = λ base sizes k. less-itself (address_in base sizes k) (address-sound (base + k) (slice_get sizes k));
+      address = λ base sizes k. less-itself (address_in base sizes k) (addresses_are_sound base sizes k);
       plain = λ cmp g direction e f h op xs ys near. plain-refines cmp g direction e f h op xs ys near (less-at xs ys near);
     }

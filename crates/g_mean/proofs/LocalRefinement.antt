@@ -7,12 +7,13 @@ use Rattle.val_core.specs.Memory.{Memory, closed}
 use Rattle.val_core.specs.Events.{Event, output, called, IsPrefixOf}
 use Rattle.val_core.specs.Answers.{Answer, Returned, Cut, Exited, Undefined, then_on, active, Gives}
 use Rattle.val_core.specs.Refinement.{Direction, Forward, Backward, Refines, exactly, no_deeper}
+use Rattle.val_core.specs.Objects.{opened}
 use Rattle.val_core.proofs.lemmas.Events.{called_keeps_output, called_deepens}
 use Rattle.val_core.proofs.lemmas.Refinement.{refines-less-goes, no_deeper-uncalled}
 use Rattle.g_graph.specs.Plain.{RegionTree, PlainLambda}
 use Rattle.g_mean.specs.Data.{Datum, val, memory, input, at_port, with_memory, changed_at, on_memory}
 use Rattle.g_mean.specs.Meaning.{Context, region_meaning}
-use Rattle.g_mean.specs.Calls.{opened, inside, entered, applied}
+use Rattle.g_mean.specs.Calls.{shapes_of, inside, entered, applied}
 use Rattle.g_mean.specs.LessDefined.{Paired, AreSound, IsLessDefinedDatum}
 use Rattle.g_mean.specs.Refining.{InOrder, MeaningRefines, ContextRefines}
 use Rattle.g_mean.specs.Replacement.{lesser, IsTwice, Linked}
@@ -43,25 +44,25 @@ pairs-compose (x ∷ xs) (y ∷ ys) [] h k = absurd k
 
 -- what refines to the refinement refines to what it refines
 pub refined-refines : (direction : Direction) (a b c : Answer (List Datum)) → RefinesLocally (Paired IsLessDefinedDatum) a b → Refines no_deeper direction (Paired IsLessDefinedDatum) b c → Refines no_deeper direction (Paired IsLessDefinedDatum) a c
-refined-refines direction Undefined b c h k = tt
+refined-refines direction (Undefined o) b c h k = tt
 refined-refines direction (Returned x o) (Returned y p) (Returned z q) h k =
     (pairs-compose x y z h.0 k.0, subst (λ e. no_deeper.Same e q) (sym h.1) k.1)
 refined-refines Backward (Returned x o) (Returned y p) (Cut q) h k = subst (λ e. no_deeper.FarIsPrefix e q) (sym h.1) k
 refined-refines Forward (Returned x o) (Returned y p) (Cut q) h k = absurd k
 refined-refines direction (Returned x o) (Returned y p) (Exited q t) h k = absurd k
-refined-refines direction (Returned x o) (Returned y p) Undefined h k = absurd k
+refined-refines direction (Returned x o) (Returned y p) (Undefined q) h k = absurd k
 refined-refines direction (Cut o) (Cut p) c h k = subst (λ e. Refines no_deeper direction (Paired IsLessDefinedDatum) (Cut e) c) (sym h) k
 refined-refines direction (Exited o s) (Exited p t) c h k =
     subst (λ e. Refines no_deeper direction (Paired IsLessDefinedDatum) (Exited e s) c) (sym h.0) (subst (λ u. Refines no_deeper direction (Paired IsLessDefinedDatum) (Exited p u) c) (sym h.1) k)
 refined-refines direction (Returned x o) (Cut p) c h k = absurd h
 refined-refines direction (Returned x o) (Exited p t) c h k = absurd h
-refined-refines direction (Returned x o) Undefined c h k = absurd h
+refined-refines direction (Returned x o) (Undefined p) c h k = absurd h
 refined-refines direction (Cut o) (Returned y p) c h k = absurd h
 refined-refines direction (Cut o) (Exited p t) c h k = absurd h
-refined-refines direction (Cut o) Undefined c h k = absurd h
+refined-refines direction (Cut o) (Undefined p) c h k = absurd h
 refined-refines direction (Exited o s) (Returned y p) c h k = absurd h
 refined-refines direction (Exited o s) (Cut p) c h k = absurd h
-refined-refines direction (Exited o s) Undefined c h k = absurd h
+refined-refines direction (Exited o s) (Undefined p) c h k = absurd h
 
 -- ---- refinements replace
 
@@ -99,13 +100,13 @@ uncalled-far f o p h =
     (subst (λ z. IsPrefixOf (output p) z) (sym (called_keeps_output f o)) h.0, λ sizes. let a = h.1 sizes in let b = called_deepens sizes f o in omega (arith, a, b))
 
 uncalled-refines : (direction : Direction) (f : ℕ) (a b : Answer (List Datum)) → Refines no_deeper direction (Paired IsLessDefinedDatum) a b → Refines no_deeper direction (Paired IsLessDefinedDatum) (active f a) b
-uncalled-refines direction f Undefined b h = tt
+uncalled-refines direction f (Undefined o) b h = tt
 uncalled-refines direction f (Returned x o) (Returned y p) h = (h.0, no_deeper-uncalled f o p h.1)
 uncalled-refines direction f (Exited o s) (Exited p t) h = (no_deeper-uncalled f o p h.0, h.1)
 uncalled-refines Forward f (Cut o) (Returned y p) h = subst (λ z. IsPrefixOf z (output p)) (sym (called_keeps_output f o)) h
 uncalled-refines Forward f (Cut o) (Cut p) h = subst (λ z. IsPrefixOf z (output p)) (sym (called_keeps_output f o)) h
 uncalled-refines Forward f (Cut o) (Exited p t) h = subst (λ z. IsPrefixOf z (output p)) (sym (called_keeps_output f o)) h
-uncalled-refines Forward f (Cut o) Undefined h = tt
+uncalled-refines Forward f (Cut o) (Undefined p) h = tt
 uncalled-refines Backward f (Returned x o) (Cut p) h = uncalled-far f o p h
 uncalled-refines Backward f (Exited o s) (Cut p) h = uncalled-far f o p h
 uncalled-refines Backward f (Cut o) (Cut p) h = uncalled-far f o p h
@@ -155,7 +156,7 @@ module _ (ls ks : List PlainLambda) (direction : Direction) (global : ℕ → Va
   body-refines n order calls params r m xs ys near =
       let inner = inside n (applied ls global n) global [] m in
       let context : ContextRefines no_deeper direction IsLessDefinedDatum inner d
-      = record { bounds = order; calls = calls; locals = λ k. (inr refl, tt, (a.locals k).2); globals = λ k. subst (λ v. IsLessDefinedDatum (val v) (val (d.frame.global k))) (l.near_global k) (a.globals k) } in
+      = record { bounds = order; calls = calls; locals = λ k. (inr refl, tt, (a.locals k).2); globals = λ k. subst (λ v. IsLessDefinedDatum (val v) (val (d.addresses.global k))) (l.near_global k) (a.globals k) } in
       let opens = changed-nothing params (with_memory (λ k. k ++ opened [])) (same-memory (λ k. k ++ opened []) append-nothing) xs in
       let whole = region-refines no_deeper no_deeper-compares direction IsLessDefinedDatum less-kept Never Always (never-refines no_deeper no_deeper-compares direction IsLessDefinedDatum less-kept) inner d context tt r r (same-itself Never r) in
       refines-less-goes no_deeper no_deeper-compares.goes direction (Paired IsLessDefinedDatum) (Paired IsLessDefinedDatum) (region_meaning inner r (changed_at params (with_memory (λ k. k ++ opened [])) xs)) (region_meaning d r ys) (changed_at 1 (with_memory (closed (length m) 0)))

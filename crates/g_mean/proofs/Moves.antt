@@ -2,7 +2,7 @@
 use Rattle.std.proofs.Common.{◌≡◌, ℕ, zero, suc, ◌==◌, Bool, true, false, cond, List, [], ◌∷◌, ◌++◌, map, refl, sym, subst, inl, inr}
 use Rattle.val_core.specs.declared.values.Value.{Value}
 use Rattle.val_core.specs.declared.values.Value.TheVariants.{Num, At, Bad}
-use Rattle.val_core.specs.Answers.{Answer, Returned}
+use Rattle.val_core.specs.Answers.{Answer, Returned, on_number}
 use Rattle.val_core.specs.Refinement.{Direction, Refines, no_deeper}
 use Rattle.val_core.proofs.lemmas.Refinement.{refines-then}
 use Rattle.g_graph.specs.declared.op.Op.{Op}
@@ -10,7 +10,7 @@ use Rattle.g_graph.specs.declared.op.Op.TheVariants.{Const, Undef, Local, Delta,
 use Rattle.g_graph.specs.declared.op.Origin.{Origin}
 use Rattle.g_graph.specs.Plain.{node, NodeTrees, no_nodes, node_then}
 use Rattle.g_graph.specs.Ids.{nodes_ids, regions_ids}
-use Rattle.g_mean.specs.Data.{Datum, value_of, on_number}
+use Rattle.g_mean.specs.Data.{Datum, value_of}
 use Rattle.g_mean.specs.Meaning.{Meaning, Context, act, again, turns, Outputs, no_outputs, extended, read, nodes_run, meanings}
 use Rattle.g_mean.specs.LessDefined.{Paired, IsLessDefinedDatum}
 use Rattle.g_mean.specs.Refining.{ContextRefines}

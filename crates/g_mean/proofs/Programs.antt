@@ -14,7 +14,8 @@ use Rattle.g_mean.specs.Replacement.{IsTwice, Replaces, ProgramsKeepMeaning}
 use Rattle.g_mean.proofs.Kept.{paired-at}
 use Rattle.g_mean.proofs.Regions.{on_number-refines}
 use Rattle.g_mean.proofs.Equal.{no_deeper-compares}
-use Rattle.g_mean.proofs.LessDefinedLemmas.{less-kept, address-sound}
+use Rattle.val_core.proofs.lemmas.Objects.{address-sound}
+use Rattle.g_mean.proofs.LessDefinedLemmas.{less-kept}
 use Rattle.g_mean.proofs.Replacement.{kept-within, lambda-refines}
 
 -- ---- the memory of the globals is sound

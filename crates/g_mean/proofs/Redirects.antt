@@ -168,7 +168,7 @@ module _ (direction : Direction) (c d : Context) (context : ContextRefines no_de
           (distinct-split (nodes_ids before ++ node_ids x) (nodes_ids after) (subst (λ zs. distinct zs ≡ true) (sym (append_assoc (nodes_ids before) (node_ids x) (nodes_ids after))) all-distinct)).0
   first-run xs (Cut o) e = tt
   first-run xs (Exited o s) e = tt
-  first-run xs Undefined e = tt
+  first-run xs (Undefined o) e = tt
 
   abbrev first : NodeTrees
   first = joined_nodes before (node_then x no_nodes)
@@ -235,7 +235,7 @@ module _ (direction : Direction) (c d : Context) (context : ContextRefines no_de
   before-run xs (Returned o did) e = holds-from (length args) c before [] xs no_outputs o did reads (λ n h k. h) unique e
   before-run xs (Cut o) e = tt
   before-run xs (Exited o s) e = tt
-  before-run xs Undefined e = tt
+  before-run xs (Undefined o) e = tt
 
   same-refines : (ns : NodeTrees) (xs ys : List Datum) → Paired IsLessDefinedDatum xs ys → (o q : Outputs) → OutputsRefine IsLessDefinedDatum o q → Refines no_deeper direction (OutputsRefine IsLessDefinedDatum) (nodes_run c ns xs o) (nodes_run d ns ys q)
   same-refines ns xs ys near o q like =

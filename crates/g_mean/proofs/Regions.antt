@@ -4,12 +4,12 @@ use Rattle.val_core.specs.declared.values.Value.{Value}
 use Rattle.val_core.specs.declared.values.Value.TheVariants.{Num, At, Bad}
 use Rattle.val_core.specs.Memory.{Memory}
 use Rattle.val_core.specs.Refinement.{Direction, Forward, Backward, Comparison, Refines}
-use Rattle.val_core.specs.Answers.{Answer, Returned, Cut, Exited, Undefined}
+use Rattle.val_core.specs.Answers.{Answer, Returned, Cut, Exited, Undefined, on_number}
 use Rattle.val_core.proofs.lemmas.Refinement.{refines-then}
 use Rattle.g_graph.specs.declared.op.Op.{Op}
 use Rattle.g_graph.specs.declared.op.Op.TheVariants.{Apply, Gamma, Theta}
 use Rattle.g_graph.specs.Plain.{RegionTree, region, NodeTree, node, NodeTrees, no_nodes, node_then, RegionTrees, no_regions, region_then, id_of}
-use Rattle.g_mean.specs.Data.{Datum, val, memory, input, at_port, value_of, on_number, on_memory}
+use Rattle.g_mean.specs.Data.{Datum, val, memory, input, at_port, value_of, on_memory}
 use Rattle.g_mean.specs.Meaning.{Meaning, Context, chosen, branched, again, turns, looped, act, Outputs, no_outputs, extended, read, region_meaning, node_run, nodes_run, meanings}
 use Rattle.g_mean.specs.LessDefined.{Paired}
 use Rattle.g_mean.specs.Refining.{Compares, InOrder, MeaningRefines, ContextRefines, RegionRefines, SameBut, NodeSameBut, NodesSameBut, RegionsSameBut}
@@ -25,13 +25,13 @@ cut-less : {A B : Type 0} (cmp : Comparison) → Compares cmp → (R : A → B �
 cut-less cmp g R (Returned y r) = g.goes.near_more [] [] r (g.near [] [] g.goes.nothing)
 cut-less cmp g R (Cut r) = g.goes.near_more [] [] r (g.near [] [] g.goes.nothing)
 cut-less cmp g R (Exited r t) = g.goes.near_more [] [] r (g.near [] [] g.goes.nothing)
-cut-less cmp g R Undefined = tt
+cut-less cmp g R (Undefined r) = tt
 
 cut-far : {A B : Type 0} (cmp : Comparison) → Compares cmp → (R : A → B → Type 0) (a : Answer A) → Refines cmp Backward R a (Cut [])
 cut-far cmp g R (Returned x q) = g.goes.far_more [] q [] (g.far [] [] g.goes.nothing)
 cut-far cmp g R (Cut q) = g.goes.far_more [] q [] (g.far [] [] g.goes.nothing)
 cut-far cmp g R (Exited q s) = g.goes.far_more [] q [] (g.far [] [] g.goes.nothing)
-cut-far cmp g R Undefined = tt
+cut-far cmp g R (Undefined q) = tt
 
 pub both-cut : {A B : Type 0} (cmp : Comparison) → Compares cmp → (direction : Direction) (R : A → B → Type 0) → Refines cmp direction R (Cut []) (Cut [])
 both-cut cmp g Forward R = cut-less cmp g R (Cut [])
@@ -124,7 +124,7 @@ module _ (cmp : Comparison) (g : Compares cmp) (direction : Direction) (N : Datu
   act-refines c d a Gamma ms ns h xs ys near = (branched-refines ms ns h).on xs ys near
   act-refines c d a Theta ms ns h xs ys near = (looped-refines c.bound d.bound a.bounds ms ns h).on xs ys near
   act-refines c d a op ms ns h xs ys near =
-      k.plain cmp g direction c.frame d.frame (record { locals = a.locals; globals = a.globals }) op xs ys near
+      k.plain cmp g direction c.addresses d.addresses (record { locals = a.locals; globals = a.globals }) op xs ys near
 
   -- ---- regions
 

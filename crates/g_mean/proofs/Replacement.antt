@@ -68,8 +68,8 @@ module _ (ls ks : List PlainLambda) (same : LambdasSameBut (Replaces ls ks) ls k
   pub regions-refines : (r s : RegionTree) → SameBut (Replaces ls ks) r s → (local : ℕ → Value) → ((k : ℕ) → IsSound (local k)) → (n m : ℕ) → IsTwice direction 2 n m → (xs : List Datum) → AreSound xs → Refines no_deeper direction (Paired IsLessDefinedDatum) (region_at n ls r xs (record { local = local; global = global })) (region_at m ks s xs (record { local = local; global = global }))
   regions-refines r s alike local locals n m twice xs sound =
       (region-refines no_deeper no_deeper-compares direction IsLessDefinedDatum less-kept (Replaces ls ks) (Linked direction ls ks global) base
-      (record { bound = n; call = applied ls global n; frame = record { local = local; global = global } })
-      (record { bound = m; call = applied ks global m; frame = record { local = local; global = global } })
+      (record { bound = n; call = applied ls global n; addresses = record { local = local; global = global } })
+      (record { bound = m; call = applied ks global m; addresses = record { local = local; global = global } })
       (record {
         bounds = twice-order direction 2 n m twice;
         calls = λ f. calls-refines (lesser direction n m) n m (le_refl _) (twice-less direction n m twice) f;
@@ -112,6 +112,6 @@ lambdas_keep_meaning ls ks same global f xs globals sound =
     kept-within (λ n. lambda_at n ls global f xs) (λ n. lambda_at n ks global f xs) (λ direction n m twice. lambda-refines ls ks same direction global globals f n m twice xs sound)
 
 pub regions_keep_meaning : RegionsKeepMeaning
-regions_keep_meaning ls ks same r s alike frame xs locals globals sound =
-    kept-within (λ n. region_at n ls r xs frame) (λ n. region_at n ks s xs frame)
-    (λ direction n m twice. regions-refines ls ks same direction frame.global globals r s alike frame.local locals n m twice xs sound)
+regions_keep_meaning ls ks same r s alike addresses xs locals globals sound =
+    kept-within (λ n. region_at n ls r xs addresses) (λ n. region_at n ks s xs addresses)
+    (λ direction n m twice. regions-refines ls ks same direction addresses.global globals r s alike addresses.local locals n m twice xs sound)

@@ -4,7 +4,7 @@ use Rattle.std.proofs.lemmas.Bool.{and_parts}
 use Rattle.val_core.specs.declared.values.Value.{Value}
 use Rattle.val_core.specs.declared.values.Value.TheVariants.{Num, At, Bad}
 use Rattle.val_core.specs.Memory.{Memory as Blocks, load, pointers_equal}
-use Rattle.val_core.specs.Answers.{Answer, Returned, Cut, Exited, Undefined, before, then_on}
+use Rattle.val_core.specs.Answers.{Answer, Returned, Cut, Exited, Undefined, before, then_on, on_number, on_defined}
 use Rattle.g_graph.specs.declared.op.Kind.{Kind}
 use Rattle.g_graph.specs.declared.op.Kind.TheVariants.{Value as ValueKind, Memory, Io}
 use Rattle.g_graph.specs.declared.op.Origin.{Origin}
@@ -13,7 +13,7 @@ use Rattle.g_graph.specs.Plain.{RegionTree, region, NodeTree, node, NodeTrees, n
 use Rattle.g_graph.specs.Signatures.{output_kinds, result_kinds}
 use Rattle.g_graph.specs.Scope.{is_of, same_kind, each_node}
 use Rattle.g_graph.specs.WellFormed.{same, inputs_fit, inputs_are_last, node_has_one_state_each, has_its_width, has_its_object, results_are_last, region_has_one_state_each, every_region, some_of, are, kinds_of, all_regions, gives, returns_state, every_in_node, every_in_nodes, every_in_regions, has_its_regions, regions_fit, theta_has_states, node_fits, nodes_fit, region_fits}
-use Rattle.g_mean.specs.Data.{Datum, val, memory, input, on_number, on_memory, on_defined, at_port, value_of, value_at}
+use Rattle.g_mean.specs.Data.{Datum, val, memory, input, on_memory, at_port, value_of, value_at}
 use Rattle.g_mean.specs.Meaning.{Meaning, Context, chosen, branched, given, Outputs, no_outputs, extended, read, node_run, nodes_run, region_meaning, meanings}
 use Rattle.g_mean.specs.Silent.{IsSilent, GivesNoState, StatelessNodesAreSilent}
 
@@ -21,23 +21,23 @@ use Rattle.g_mean.specs.Silent.{IsSilent, GivesNoState, StatelessNodesAreSilent}
 
 pub then-silent : {A B : Type 0} (a : Answer A) (next : A → Answer B) → IsSilent a → ((x : A) → IsSilent (next x)) → IsSilent (then_on a next)
 then-silent (Returned x o) next h go = subst (λ p. IsSilent (before p (next x))) (sym h) (go x)
-then-silent Undefined next h go = tt
+then-silent (Undefined o) next h go = h
 then-silent (Cut o) next h go = absurd h
 then-silent (Exited o s) next h go = absurd h
 
 number-silent : {A : Type 0} (v : Value) (next : ℕ → Answer A) → ((w : ℕ) → IsSilent (next w)) → IsSilent (on_number v next)
 number-silent (Num w) next h = h w
-number-silent (At b o) next h = tt
-number-silent Bad next h = tt
+number-silent (At b o) next h = refl
+number-silent Bad next h = refl
 
 memory-silent : {A : Type 0} (x : Datum) (next : Blocks → Answer A) → ((m : Blocks) → IsSilent (next m)) → IsSilent (on_memory x next)
 memory-silent (memory m) next h = h m
-memory-silent (val v) next h = tt
-memory-silent (input i) next h = tt
+memory-silent (val v) next h = refl
+memory-silent (input i) next h = refl
 
 defined-silent : {A X : Type 0} (a : Option X) (next : X → Answer A) → ((x : X) → IsSilent (next x)) → IsSilent (on_defined a next)
 defined-silent (Some x) next h = h x
-defined-silent None next h = tt
+defined-silent None next h = refl
 
 load-silent : (w : ℕ) (xs : List Datum) → IsSilent (on_memory (at_port xs 1) (λ m. on_defined (load w (value_at xs 0) m) given))
 load-silent w xs =
@@ -53,13 +53,13 @@ AllSilent [] = Unit {0}
 AllSilent (m ∷ ms) = ((xs : List Datum) → IsSilent (m xs)) × AllSilent ms
 
 chosen-silent : (w : ℕ) (ms : List Meaning) → AllSilent ms → (xs : List Datum) → IsSilent (chosen w ms xs)
-chosen-silent w [] h xs = tt
+chosen-silent w [] h xs = refl
 chosen-silent w (m ∷ []) h xs = h.0 xs
 chosen-silent zero (m ∷ l ∷ ms) h xs = h.0 xs
 chosen-silent (suc w) (m ∷ l ∷ ms) h xs = chosen-silent w (l ∷ ms) h.1 xs
 
 branched-silent : (ms : List Meaning) → AllSilent ms → (xs : List Datum) → IsSilent (branched ms xs)
-branched-silent ms h [] = tt
+branched-silent ms h [] = refl
 branched-silent ms h (p ∷ xs) = number-silent (value_of p) (λ w. chosen w ms xs) (λ w. chosen-silent w ms h xs)
 
 -- ---- kinds

@@ -95,19 +95,19 @@ same-adds : {A B : Type 0} (R : A → B → Type 0) (P : B → Type 0) (a : Answ
 same-adds R P (Returned x o) (Returned y p) more h = ((h.0, more y p refl), h.1)
 same-adds R P (Cut o) (Cut p) more h = h
 same-adds R P (Exited o s) (Exited p t) more h = h
-same-adds R P Undefined Undefined more h = tt
+same-adds R P (Undefined o) (Undefined p) more h = h
 same-adds R P (Returned x o) (Cut p) more h = absurd h
 same-adds R P (Returned x o) (Exited p t) more h = absurd h
-same-adds R P (Returned x o) Undefined more h = absurd h
+same-adds R P (Returned x o) (Undefined p) more h = absurd h
 same-adds R P (Cut o) (Returned y p) more h = absurd h
 same-adds R P (Cut o) (Exited p t) more h = absurd h
-same-adds R P (Cut o) Undefined more h = absurd h
+same-adds R P (Cut o) (Undefined p) more h = absurd h
 same-adds R P (Exited o s) (Returned y p) more h = absurd h
 same-adds R P (Exited o s) (Cut p) more h = absurd h
-same-adds R P (Exited o s) Undefined more h = absurd h
-same-adds R P Undefined (Returned y p) more h = absurd h
-same-adds R P Undefined (Cut p) more h = absurd h
-same-adds R P Undefined (Exited p t) more h = absurd h
+same-adds R P (Exited o s) (Undefined p) more h = absurd h
+same-adds R P (Undefined o) (Returned y p) more h = absurd h
+same-adds R P (Undefined o) (Cut p) more h = absurd h
+same-adds R P (Undefined o) (Exited p t) more h = absurd h
 
 -- ---- places in lists
 
@@ -148,14 +148,14 @@ abbrev Through : {A B C : Type 0} → (A → B → Type 0) → (B → C → Type
 Through {A} {B} R T x z = (y : B) × R x y × T y z
 
 back-same : {A B C : Type 0} (direction : Direction) (R : A → B → Type 0) (T : B → C → Type 0) (a : Answer A) (y : B) (z : C) (p : List Event) → T y z → Refines no_deeper direction R a (Returned y p) → Refines no_deeper direction (Through R T) a (Returned z p)
-back-same direction R T Undefined y z p k h = tt
+back-same direction R T (Undefined o) y z p k h = tt
 back-same direction R T (Returned x o) y z p k h = ((y, h.0, k), h.1)
 back-same Forward R T (Cut o) y z p k h = h
 back-same Backward R T (Cut o) y z p k h = absurd h
 back-same direction R T (Exited o s) y z p k h = absurd h
 
 cut-same : {A B C : Type 0} (direction : Direction) (R : A → B → Type 0) (S : A → C → Type 0) (a : Answer A) (p : List Event) → Refines no_deeper direction R a (Cut p) → Refines no_deeper direction S a (Cut p)
-cut-same direction R S Undefined p h = tt
+cut-same direction R S (Undefined o) p h = tt
 cut-same Forward R S (Returned x o) p h = absurd h
 cut-same Backward R S (Returned x o) p h = h
 cut-same Forward R S (Cut o) p h = h
@@ -164,25 +164,25 @@ cut-same Forward R S (Exited o s) p h = absurd h
 cut-same Backward R S (Exited o s) p h = h
 
 exited-same : {A B C : Type 0} (direction : Direction) (R : A → B → Type 0) (S : A → C → Type 0) (a : Answer A) (p : List Event) (t : ℕ) → Refines no_deeper direction R a (Exited p t) → Refines no_deeper direction S a (Exited p t)
-exited-same direction R S Undefined p t h = tt
+exited-same direction R S (Undefined o) p t h = tt
 exited-same direction R S (Returned x o) p t h = absurd h
 exited-same Forward R S (Cut o) p t h = h
 exited-same Backward R S (Cut o) p t h = absurd h
 exited-same direction R S (Exited o s) p t h = h
 
-undefined-same : {A B C : Type 0} (direction : Direction) (R : A → B → Type 0) (S : A → C → Type 0) (a : Answer A) → Refines no_deeper direction R a Undefined → Refines no_deeper direction S a Undefined
-undefined-same direction R S Undefined h = tt
-undefined-same direction R S (Returned x o) h = absurd h
-undefined-same Forward R S (Cut o) h = tt
-undefined-same Backward R S (Cut o) h = absurd h
-undefined-same direction R S (Exited o s) h = absurd h
+undefined-same : {A B C : Type 0} (direction : Direction) (R : A → B → Type 0) (S : A → C → Type 0) (a : Answer A) (p q : List Event) → Refines no_deeper direction R a (Undefined p) → Refines no_deeper direction S a (Undefined q)
+undefined-same direction R S (Undefined o) p q h = tt
+undefined-same direction R S (Returned x o) p q h = absurd h
+undefined-same Forward R S (Cut o) p q h = tt
+undefined-same Backward R S (Cut o) p q h = absurd h
+undefined-same direction R S (Exited o s) p q h = absurd h
 
 refines-same : {A B C : Type 0} (direction : Direction) (R : A → B → Type 0) (T : B → C → Type 0) (a : Answer A) (b : Answer B) (e : Answer C) → Refines no_deeper direction R a b → Same T b e → Refines no_deeper direction (Through R T) a e
 refines-same direction R T a (Returned y p) (Returned z q) h k = subst (λ w. Refines no_deeper direction (Through R T) a (Returned z w)) k.1 (back-same direction R T a y z p k.0 h)
 refines-same direction R T a (Cut p) (Cut q) h k = subst (λ w. Refines no_deeper direction (Through R T) a (Cut w)) k (cut-same direction R (Through R T) a p h)
 refines-same direction R T a (Exited p t) (Exited q u) h k =
     subst (λ w. Refines no_deeper direction (Through R T) a (Exited w u)) k.0 (subst (λ v. Refines no_deeper direction (Through R T) a (Exited p v)) k.1 (exited-same direction R (Through R T) a p t h))
-refines-same direction R T a Undefined Undefined h k = undefined-same direction R (Through R T) a h
+refines-same direction R T a (Undefined p) (Undefined q) h k = undefined-same direction R (Through R T) a p q h
 refines-same direction R T a _ _ h k = absurd k
 
 -- what is near to a value without meaning has none, and everything sound is near to it
@@ -434,7 +434,7 @@ module _ (direction : Direction) (c d : Context) (context : ContextRefines no_de
       holds-from (length args) c before [] xs no_outputs o did whole-read.0 (λ n h k. h) (distinct-split (nodes_ids before) (node_ids x ++ nodes_ids after) all-distinct).0 e
   have-run xs (Cut o) e = tt
   have-run xs (Exited o s) e = tt
-  have-run xs Undefined e = tt
+  have-run xs (Undefined o) e = tt
 
   module _ (node-refines : (xs ys : List Datum) (o q : Outputs) → Paired IsLessDefinedDatum xs ys → OutputsRefine IsLessDefinedDatum o q → HaveRun c xs o before → Refines no_deeper direction (Paired IsLessDefinedDatum) (node_run c x xs o) (region_meaning d (region own part gives) (map (read ys q) inputs))) where
     abbrev part_in_place : NodeTrees

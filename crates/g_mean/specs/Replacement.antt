@@ -6,9 +6,10 @@ use Rattle.val_core.specs.Events.{deepest}
 use Rattle.val_core.specs.Answers.{Answer, events, IsUndefined}
 use Rattle.val_core.specs.Refinement.{Direction, Forward, Backward, no_deeper}
 use Rattle.val_core.specs.Within.{behaviour, Within}
+use Rattle.val_core.specs.Objects.{Addresses}
 use Rattle.g_graph.specs.Plain.{RegionTree, PlainLambda}
 use Rattle.g_mean.specs.Data.{Datum}
-use Rattle.g_mean.specs.Meaning.{Frame, Context}
+use Rattle.g_mean.specs.Meaning.{Context}
 use Rattle.g_mean.specs.Calls.{PlainOmega, applied, region_at, lambda_at, program_at}
 use Rattle.g_mean.specs.LessDefined.{Paired, AreBytes, AreSound, IsLessDefinedDatum, AreSoundDeltas}
 use Rattle.g_mean.specs.Refining.{MeaningRefines, RegionRefines, SameBut, LambdasSameBut}
@@ -27,8 +28,8 @@ IsTwice Backward more n m = 2 * m + more ≤ n
 -- at lesser bounds refine already.
 pub record Linked (direction : Direction) (ls ks : List PlainLambda) (global : ℕ → Value) (c d : Context) : Type 0 where
   pub twice : IsTwice direction 2 c.bound d.bound
-  pub near_global : (k : ℕ) → c.frame.global k ≡ global k
-  pub far_global : (k : ℕ) → d.frame.global k ≡ global k
+  pub near_global : (k : ℕ) → c.addresses.global k ≡ global k
+  pub far_global : (k : ℕ) → d.addresses.global k ≡ global k
   pub near_call : (f : ℕ) (xs : List Datum) → c.call f xs ≡ applied ls global c.bound f xs
   pub far_call : (f : ℕ) (xs : List Datum) → d.call f xs ≡ applied ks global d.bound f xs
   pub nested : (n m : ℕ) → lesser direction n m ≤ lesser direction c.bound d.bound → IsTwice direction 1 n m → (f : ℕ) → MeaningRefines no_deeper direction IsLessDefinedDatum (applied ls global n f) (applied ks global m f)
@@ -59,8 +60,8 @@ LambdasKeepMeaning =
 abbrev pub RegionsKeepMeaning : Type 0
 RegionsKeepMeaning =
     (ls ks : List PlainLambda) → LambdasSameBut (Replaces ls ks) ls ks → (r s : RegionTree) → SameBut (Replaces ls ks) r s →
-    (frame : Frame) (xs : List Datum) → ((k : ℕ) → IsSound (frame.local k)) → ((k : ℕ) → IsSound (frame.global k)) → AreSound xs →
-    IsKeptWithinTwice (λ n. region_at n ls r xs frame) (λ n. region_at n ks s xs frame)
+    (addresses : Addresses) (xs : List Datum) → ((k : ℕ) → IsSound (addresses.local k)) → ((k : ℕ) → IsSound (addresses.global k)) → AreSound xs →
+    IsKeptWithinTwice (λ n. region_at n ls r xs addresses) (λ n. region_at n ks s xs addresses)
 
 -- and the whole program.
 abbrev pub ProgramsKeepMeaning : Type 0

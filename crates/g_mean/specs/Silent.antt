@@ -10,10 +10,10 @@ use Rattle.g_graph.specs.WellFormed.{some_of, every_in_node, node_fits, region_f
 use Rattle.g_mean.specs.Data.{Datum}
 use Rattle.g_mean.specs.Meaning.{Context, Outputs, node_run}
 
--- a part gives its results, or what it does has no meaning: it is not cut, it does not end the program, and nothing happens
+-- a part gives its results or is undefined: it is not cut, it does not end the program, and it has no events
 abbrev pub IsSilent : {A : Type 0} → Answer A → Type 0
 IsSilent (Returned x o) = o ≡ []
-IsSilent Undefined = Unit {0}
+IsSilent (Undefined o) = o ≡ []
 IsSilent _ = ⊥
 
 -- none of the outputs is a state
