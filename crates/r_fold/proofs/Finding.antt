@@ -68,7 +68,8 @@ const-gives c xs o (node id Gamma inputs rs) u e h = absurd cc
 const-gives c xs o (node id Theta inputs rs) u e h = absurd cc
 
 -- Where the nodes so far have run, an origin that is a constant, and which they know, carries its word.
-pub constant-holds : (c : Context) (count : ℕ) (xs : List Datum) (o : Outputs) (ns ms : NodeTrees) (a : Origin) (u : ℕ) → HaveRun c xs o ns → IsRead (is_argument count) (known_after [] ns) a → constant (joined_nodes ns ms) a ≡ Some u → (read xs o a ≡ val (Num u)) × (u < 2 ^ 32)
+pub constant-holds : (c : Context) (count : ℕ) (xs : List Datum) (o : Outputs) (ns ms : NodeTrees) (a : Origin) (u : ℕ) → HaveRun c xs o ns → IsRead (is_argument count) (known_after [] ns) a →
+    constant (joined_nodes ns ms) a ≡ Some u → (read xs o a ≡ val (Num u)) × (u < 2 ^ 32)
 constant-holds c count xs o ns ms (Arg k) u have r e = absurd cc
 constant-holds c count xs o ns ms (Out n p) u have (inl t) e = absurd cc
 constant-holds c count xs o ns ms (Out n (suc p)) u have (inr h) e =

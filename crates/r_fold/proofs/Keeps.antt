@@ -146,7 +146,8 @@ gamma_gives objects args before id p entries rs after here w own ns outs e =
 
 -- ---- whatever folds
 
-module _ (objects next n : ℕ) (args : List Kind) (ns : NodeTrees) (results : List Origin) (split : Split n ns) (fits : every_region (region_fits objects) (region args ns results) ≡ true) (numbers : Numbered next (nodes_ids ns)) where
+module _ (objects next n : ℕ) (args : List Kind) (ns : NodeTrees) (results : List Origin) (split : Split n ns) (fits : every_region (region_fits objects) (region args ns results) ≡
+    true) (numbers : Numbered next (nodes_ids ns)) where
   abbrev whole : RegionTree
   whole = region args ns results
 
@@ -169,7 +170,8 @@ module _ (objects next n : ℕ) (args : List Kind) (ns : NodeTrees) (results : L
       subst (λ s. KeptWithin objects whole s) (word_spliced n w args ns results)
       (replacement_kept_by (node n op ins rs) e [] (const_nodes n w) (Out n 0 ∷ []) [] (const_gives objects args split.before n op ins rs w o))
 
-  input_keeps : (op : Op) (ins : List Origin) (rs : RegionTrees) → split.here ≡ node n op ins rs → output_kinds (node n op ins rs) ≡ Some Value ∷ [] → (b : Origin) → known args split.before b ≡ Some Value →
+  input_keeps : (op : Op) (ins : List Origin) (rs : RegionTrees) → split.here ≡ node n op ins rs → output_kinds (node n op ins rs) ≡ Some Value ∷ [] → (b : Origin) →
+      known args split.before b ≡ Some Value →
       KeptWithin objects whole (region_redirected (origin_replaced (Out n 0) b) whole)
   input_keeps op ins rs e o b v =
       let value = value_for objects n args split.before split.here split.after split_here (ap id_of e) (ap output_kinds e ∙ o) b v in
@@ -178,14 +180,16 @@ module _ (objects next n : ℕ) (args : List Kind) (ns : NodeTrees) (results : L
         fewer = λ m. omega (arith, ap (times m) (region_ids-redirected (origin_replaced (Out n 0) b) whole));
       }
 
-  word_change : (op : Op) (ins : List Origin) (rs : RegionTrees) → split.here ≡ node n op ins rs → output_kinds (node n op ins rs) ≡ Some Value ∷ [] → (w : ℕ) (f : Folded) → word w ≡ f → (s : RegionTree) →
+  word_change : (op : Op) (ins : List Origin) (rs : RegionTrees) → split.here ≡ node n op ins rs → output_kinds (node n op ins rs) ≡ Some Value ∷ [] → (w : ℕ) (f : Folded) → word w ≡ f →
+      (s : RegionTree) →
       folded n whole f ≡ Some s → KeptWithin objects whole s
   word_change op ins rs e o w f q s d =
       let same : folded n whole (word w) ≡ Some s = ap (folded n whole) q ∙ d in
       let is : region args (node_set n (node n (Const w) [] no_regions) ns) results ≡ s = cc in
       subst (λ t. KeptWithin objects whole t) is (word_keeps op ins rs e o w)
 
-  input_change : (op : Op) (ins : List Origin) (rs : RegionTrees) → split.here ≡ node n op ins rs → output_kinds (node n op ins rs) ≡ Some Value ∷ [] → (b : Origin) → known args split.before b ≡ Some Value →
+  input_change : (op : Op) (ins : List Origin) (rs : RegionTrees) → split.here ≡ node n op ins rs → output_kinds (node n op ins rs) ≡ Some Value ∷ [] → (b : Origin) →
+      known args split.before b ≡ Some Value →
       (f : Folded) → input b ≡ f → (s : RegionTree) → folded n whole f ≡ Some s → KeptWithin objects whole s
   input_change op ins rs e o b v f q s d =
       by_use (is_used (Out n 0) whole) (ap (folded n whole) q ∙ d)
@@ -196,21 +200,24 @@ module _ (objects next n : ℕ) (args : List Kind) (ns : NodeTrees) (results : L
           subst (λ t. KeptWithin objects whole t) is (input_keeps op ins rs e o b v)
       by_use false h = absurd (cc)
 
-  replacement_change : (x : NodeTree) → split.here ≡ x → (own : List Kind) (nodes : NodeTrees) (outs is : List Origin) → ReplacementGives objects args split.before x own nodes outs is → (f : Folded) → replacement (region own nodes outs) is ≡ f →
+  replacement_change : (x : NodeTree) → split.here ≡ x → (own : List Kind) (nodes : NodeTrees) (outs is : List Origin) → ReplacementGives objects args split.before x own nodes outs is →
+      (f : Folded) → replacement (region own nodes outs) is ≡ f →
       (s : RegionTree) → folded n whole f ≡ Some s → KeptWithin objects whole s
   replacement_change x e own nodes outs is g f q s d =
       let same : Some (region_spliced n (region_redirected (args_to_inputs is) (region own nodes outs)) whole) ≡ Some s = ap (folded n whole) q ∙ d in
       subst (λ t. KeptWithin objects whole t) (same_Some _ _ same) (replacement_kept_by x e own nodes outs is g)
 
   inputs_keep : (op : Op2) (a b : Origin) (rs : RegionTrees) → split.here ≡ node n (Bin op) (a ∷ b ∷ []) rs → (u v : Option ℕ) (f : Folded) →
-      (if is_word (left_neutral op) u then Some (input b) else if is_word (right_neutral op) v then Some (input a) else None) ≡ Some f → (s : RegionTree) → folded n whole f ≡ Some s → KeptWithin objects whole s
+      (if is_word (left_neutral op) u then Some (input b) else if is_word (right_neutral op) v then Some (input a) else None) ≡ Some f → (s : RegionTree) → folded n whole f ≡ Some s →
+      KeptWithin objects whole s
   inputs_keep op a b rs e u v f q s d =
       let here = here_is (node n (Bin op) (a ∷ b ∷ []) rs) e in
       let first = first_kind (known args split.before a) (known args split.before b ∷ []) Value (Value ∷ []) here.inputs in
       let second = first_kind (known args split.before b) [] Value [] first.1 in
       by_tests (is_word (left_neutral op) u) (is_word (right_neutral op) v) first.0 second.0 q
     where
-      by_tests : (l r : Bool) → known args split.before a ≡ Some Value → known args split.before b ≡ Some Value → (if l then Some (input b) else if r then Some (input a) else None) ≡ Some f → KeptWithin objects whole s
+      by_tests : (l r : Bool) → known args split.before a ≡ Some Value → known args split.before b ≡ Some Value → (if l then Some (input b) else if r then Some (input a) else None) ≡ Some f →
+          KeptWithin objects whole s
       by_tests true r va vb h = input_change (Bin op) (a ∷ b ∷ []) rs e refl b vb f (same_Some _ _ h) s d
       by_tests false true va vb h = input_change (Bin op) (a ∷ b ∷ []) rs e refl a va f (same_Some _ _ h) s d
       by_tests false false va vb h = absurd (cc)
@@ -226,7 +233,8 @@ module _ (objects next n : ℕ) (args : List Kind) (ns : NodeTrees) (results : L
   un_keeps op a rs e None f q s d = absurd (cc)
   un_keeps op a rs e (Some u) f q s d = word_change (Un op) (a ∷ []) rs e refl (word1 op u) f (same_Some _ _ q) s d
 
-  gamma_keeps : (p : Origin) (entries : List Origin) (rs : RegionTrees) → split.here ≡ node n Gamma (p ∷ entries) rs → (u : Option ℕ) (f : Folded) → gamma_folded rs entries u ≡ Some f → (s : RegionTree) →
+  gamma_keeps : (p : Origin) (entries : List Origin) (rs : RegionTrees) → split.here ≡ node n Gamma (p ∷ entries) rs → (u : Option ℕ) (f : Folded) → gamma_folded rs entries u ≡ Some f →
+      (s : RegionTree) →
       folded n whole f ≡ Some s → KeptWithin objects whole s
   gamma_keeps p entries rs e None f q s d = absurd (cc)
   gamma_keeps p entries rs e (Some w) f q s d = by_choice (chosen_region w rs) refl q
@@ -237,7 +245,8 @@ module _ (objects next n : ℕ) (args : List Kind) (ns : NodeTrees) (results : L
           replacement_change (node n Gamma (p ∷ entries) rs) e own nodes outs entries
           (gamma_gives objects args split.before n p entries rs split.after (here_is (node n Gamma (p ∷ entries) rs) e) w own nodes outs h) f (same_Some _ _ g) s d
 
-  theta_keeps : (ins : List Origin) (r : RegionTree) → split.here ≡ node n Theta ins (region_then r no_regions) → (f : Folded) → theta_folded r ins ≡ Some f → (s : RegionTree) → folded n whole f ≡ Some s →
+  theta_keeps : (ins : List Origin) (r : RegionTree) → split.here ≡ node n Theta ins (region_then r no_regions) → (f : Folded) → theta_folded r ins ≡ Some f → (s : RegionTree) →
+      folded n whole f ≡ Some s →
       KeptWithin objects whole s
   theta_keeps ins (region own nodes []) e f q s d = absurd (cc)
   theta_keeps ins (region own nodes (p ∷ outs)) e f q s d = by_word (is_word (Some 0) (constant nodes p)) q
@@ -280,7 +289,8 @@ module _ (objects next n : ℕ) (args : List Kind) (ns : NodeTrees) (results : L
 renumbered : (x : NodeTree) (n : ℕ) → id_of x ≡ n → (op : Op) × (ins : List Origin) × (rs : RegionTrees) × (x ≡ node n op ins rs)
 renumbered (node id op ins rs) n e = (op, ins, rs, λ i. node (e i) op ins rs)
 
-region_keeps : (objects next n : ℕ) (args : List Kind) (ns : NodeTrees) (results : List Origin) (x : NodeTree) → node_at n ns ≡ Some x → every_region (region_fits objects) (region args ns results) ≡ true →
+region_keeps : (objects next n : ℕ) (args : List Kind) (ns : NodeTrees) (results : List Origin) (x : NodeTree) → node_at n ns ≡ Some x →
+    every_region (region_fits objects) (region args ns results) ≡ true →
     Numbered next (nodes_ids ns) → (f : Folded) → folding ns x ≡ Some f → (s : RegionTree) → folded n (region args ns results) f ≡ Some s → KeptWithin objects (region args ns results) s
 region_keeps objects next n args ns results x e fits numbers f q s d =
     let split = split_at n ns (found_node n ns x e) in
@@ -292,11 +302,13 @@ region_keeps objects next n args ns results x e fits numbers f q s d =
 pub fold_here_keeps : (objects next n : ℕ) (r s : RegionTree) → fold_here n r ≡ Some s → every_region (region_fits objects) r ≡ true → Numbered next (region_ids r) → KeptWithin objects r s
 fold_here_keeps objects next n (region args ns results) s e fits numbers = by_node (node_at n ns) refl e
   where
-    by_folding : (x : NodeTree) → node_at n ns ≡ Some x → (f : Option Folded) → folding ns x ≡ f → option_and_then (λ g. folded n (region args ns results) g) f ≡ Some s → KeptWithin objects (region args ns results) s
+    by_folding : (x : NodeTree) → node_at n ns ≡ Some x → (f : Option Folded) → folding ns x ≡ f → option_and_then (λ g. folded n (region args ns results) g) f ≡ Some s →
+        KeptWithin objects (region args ns results) s
     by_folding x a None b c = absurd (cc)
     by_folding x a (Some f) b c = region_keeps objects next n args ns results x a fits numbers f b s c
 
-    by_node : (x : Option NodeTree) → node_at n ns ≡ x → option_and_then (λ g. folded n (region args ns results) g) (option_and_then (folding ns) x) ≡ Some s → KeptWithin objects (region args ns results) s
+    by_node : (x : Option NodeTree) → node_at n ns ≡ x → option_and_then (λ g. folded n (region args ns results) g) (option_and_then (folding ns) x) ≡ Some s →
+        KeptWithin objects (region args ns results) s
     by_node None a c = absurd (cc)
     by_node (Some x) a c = by_folding x a (folding ns x) refl c
 

@@ -14,9 +14,11 @@ use Rattle.g_graph.specs.Plain.{RegionTree, region, NodeTree, node, NodeTrees, R
 use Rattle.g_graph.specs.Replace.{region_redirected, origin_replaced}
 use Rattle.g_graph.specs.Splice.{args_to_inputs, region_spliced}
 use Rattle.g_graph.specs.Nodes.{node_at, node_set, constant, is_used}
-use Rattle.g_graph.specs.Lists.{RegionOps, NodeOps, NodesOps, RegionsOps, Calls}
+use Rattle.g_graph.specs.Lists.{RegionOps, NodeOps, NodesOps, RegionsOps, Calls, NamesGlobal}
+use Rattle.g_graph.specs.WellFormed.{IsWellFormed}
+use Rattle.g_graph.specs.Program.{KeepsPrograms}
 use Rattle.g_graph.proofs.lemmas.Ops.{redirected_ops, region_spliced_ops, found_ops, set_ops, changed_ops}
-use Rattle.g_graph.proofs.lemmas.Complete.{complete_set}
+use Rattle.g_graph.proofs.lemmas.Complete.{complete_set, program_set}
 use Rattle.r_fold.specs.Rule.{is_word, left_neutral, right_neutral, Folded, word, input, replacement, bin_folded, gamma_folded, theta_folded, chosen_region, folding, folded, fold_here, fold}
 use Rattle.r_fold.specs.Lists.{FoldKeepsLists}
 use Rattle.r_fold.proofs.Keeps.{fold_well_formed}
@@ -93,7 +95,8 @@ module _ (p : Op → ℕ → Type 0) (consts : (w : ℕ) → p (Const w) 0) wher
   node_ops : (ns : NodeTrees) (x : NodeTree) (f : Folded) → folding ns x ≡ Some f → NodeOps p x → FoldedOps f
   node_ops ns (node n op inputs rs) f e h = folding_ops ns n op inputs rs f e h.1
 
-  folded_ops : (n : ℕ) (args : List Kind) (ns : NodeTrees) (results : List Origin) (f : Folded) (s : RegionTree) → folded n (region args ns results) f ≡ Some s → FoldedOps f → NodesOps p ns → RegionOps p s
+  folded_ops : (n : ℕ) (args : List Kind) (ns : NodeTrees) (results : List Origin) (f : Folded) (s : RegionTree) → folded n (region args ns results) f ≡ Some s → FoldedOps f → NodesOps p ns →
+      RegionOps p s
   folded_ops n args ns results (word w) s e k h =
       subst (λ z. RegionOps p z) (same_Some (region args (node_set n (node n (Const w) [] no_regions) ns) results) s e) (set_ops p n (node n (Const w) [] no_regions) ns (consts w, tt) h)
   folded_ops n args ns results (input a) s e k h = by_use (is_used (Out n 0) (region args ns results)) e
@@ -122,3 +125,7 @@ module _ (p : Op → ℕ → Type 0) (consts : (w : ℕ) → p (Const w) 0) wher
 pub fold_keeps_lists : FoldKeepsLists
 fold_keeps_lists n l well ls f at complete =
     complete_set l (fold n l) (fold_well_formed n l well) refl refl (λ ks h. fold_ops (Calls ks) (λ w. tt) n l h) ls f at complete
+
+pub fold_keeps_program : (n : ℕ) (l : PlainLambda) → IsWellFormed l → KeepsPrograms l (fold n l)
+fold_keeps_program n l well =
+    program_set l (fold n l) (fold_well_formed n l well) refl refl (λ ks h. fold_ops (Calls ks) (λ w. tt) n l h) (λ count h. fold_ops (NamesGlobal count) (λ w. tt) n l h)

@@ -77,7 +77,8 @@ fold_here_planned n (region args nodes results) = mapped_then n (region args nod
 pub fold_here_node : (n : ℕ) (r : RegionTree) → fold_here n r ≡ option_and_then (λ f. folded n r f) (option_and_then (folding (nodes_in r)) (node_at n (nodes_in r)))
 fold_here_node n (region args nodes results) = refl
 
-gamma_stays : (n : ℕ) (r : RegionTree) (os : List Origin) (s : Option RegionTree) → is_some (option_and_then (λ f. folded n r f) (option_map (λ t. replacement t os) s)) ≡ is_some (option_map (λ t. replacement t os) s)
+gamma_stays : (n : ℕ) (r : RegionTree) (os : List Origin) (s : Option RegionTree) → is_some (option_and_then (λ f. folded n r f) (option_map (λ t. replacement t os) s)) ≡
+    is_some (option_map (λ t. replacement t os) s)
 gamma_stays n r os None = refl
 gamma_stays n r os (Some s) = refl
 
@@ -89,7 +90,8 @@ theta_folds : (n : ℕ) (r s : RegionTree) (os : List Origin) → is_some (optio
 theta_folds n r (region args nodes []) os = refl
 theta_folds n r (region args nodes (p ∷ results)) os = by_test (is_word (Some 0) (constant nodes p))
   where
-    by_test : (t : Bool) → is_some (option_and_then (λ f. folded n r f) (if t then Some (replacement (region args nodes results) os) else None)) ≡ is_some (if t then Some (replacement (region args nodes results) os) else None)
+    by_test : (t : Bool) → is_some (option_and_then (λ f. folded n r f) (if t then Some (replacement (region args nodes results) os) else None)) ≡
+        is_some (if t then Some (replacement (region args nodes results) os) else None)
     by_test true = refl
     by_test false = refl
 

@@ -24,7 +24,10 @@ pub fn can_carry_out(region: &Region, id: u32, plan: &Plan) -> bool
 
 // Carries out the plan for the node, and answers whether it changes the region.
 pub fn carry_out(alloc: Global, region: &mut Region, id: u32, plan: Plan) -> Result<bool, NoMemory>
-    ensures ok { IfOk result (λ done. MatchBool done (carried_out id region.old plan ≡ Some region.new) ((carried_out id region.old plan ≡ None) × (region.new ≡ region.old))) }
+    ensures ok { IfOk result (λ done.
+        MatchBool done (carried_out id region.old plan ≡
+        Some region.new) ((carried_out id region.old plan ≡ None) ×
+        (region.new ≡ region.old))) }
     ensures err { OnErr result (region.new ≡ region.old) }
 {
     match plan {
@@ -59,7 +62,9 @@ fn const_node(alloc: Global, id: u32, word: u32) -> Node
 
 // Replaces the uses of the node's first output, and answers whether there are any.
 fn replace_uses(region: &mut Region, id: u32, origin: Origin) -> bool
-    ensures { MatchBool result (with_input id origin region.old ≡ Some region.new) ((with_input id origin region.old ≡ None) × (region.new ≡ region.old)) }
+    ensures { MatchBool result (with_input id origin region.old ≡
+        Some region.new) ((with_input id origin region.old ≡ None) ×
+        (region.new ≡ region.old)) }
 {
     let from = Origin::Out { node: id, port: 0 };
     if !is_used(region, from) {
