@@ -11,7 +11,7 @@ use Rattle.g_graph.specs.Scope.{known, each_node}
 use Rattle.g_graph.specs.WellFormed.{all_of, are, one_state_each, has_its_regions, regions_fit, theta_has_states, has_its_width, has_its_object, inputs_fit, is_last, inputs_are_last, node_has_one_state_each, node_fits}
 use Rattle.g_graph.specs.Replace.{node_redirected, nodes_redirected}
 use Rattle.g_graph.specs.Splice.{joined_nodes}
-use Rattle.g_graph.proofs.lemmas.Splices.{nodes_of-append, joined_assoc}
+use Rattle.g_graph.proofs.lemmas.Splices.{joined_none, joined_following}
 use Rattle.g_graph.proofs.lemmas.Unique.{first_true, second_true}
 
 -- an origin that is known and the last of its kind of state stays so
@@ -79,13 +79,6 @@ mapped_node_fits objects args bs others cs f m (node id op inputs rs) e =
     && shape_free id op inputs (map f inputs) rs i && regions_free id op inputs (map f inputs) rs i && theta_free id op inputs (map f inputs) rs i
     && width_free id op inputs (map f inputs) rs i && object_free objects id op inputs (map f inputs) rs i in
     same ∙ e
-
-pub joined_none : (ns : NodeTrees) → joined_nodes ns no_nodes ≡ ns
-joined_none no_nodes = refl
-joined_none (node_then x xs) = ap (λ ys. node_then x ys) (joined_none xs)
-
-pub joined_following : (bs : List NodeTree) (x : NodeTree) (ns : NodeTrees) → joined_nodes (nodes_of (bs ++ x ∷ [])) ns ≡ joined_nodes (nodes_of bs) (node_then x ns)
-joined_following bs x ns = ap (λ ms. joined_nodes ms ns) (nodes_of-append bs (x ∷ [])) ∙ joined_assoc (nodes_of bs) (node_then x no_nodes) ns
 
 -- nodes fit in the other scope, where origins keep their kinds after each of them
 pub mapped_nodes_fit : (objects : ℕ) (args others : List Kind) (f : Origin → Origin) (bs cs : List NodeTree) (ns : NodeTrees) →

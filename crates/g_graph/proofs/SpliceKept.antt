@@ -16,10 +16,10 @@ use Rattle.g_graph.specs.WellFormed.{all_of, some_of, are, one_state_each, gives
 use Rattle.g_graph.specs.Replace.{node_redirected, nodes_redirected, region_redirected}
 use Rattle.g_graph.specs.Splice.{args_to_inputs, outputs_to_results, joined_nodes, nodes_spliced, region_spliced}
 use Rattle.g_graph.proofs.lemmas.Redirects.{nodes_of-redirected, kind_after-redirected, state_after-redirected, gives-redirected, every_in_nodes-redirected}
-use Rattle.g_graph.proofs.lemmas.Splices.{Split, joined_assoc, nodes_of-append, kind_after-joined, state_after-joined, gives-joined, every_in_nodes-joined}
+use Rattle.g_graph.proofs.lemmas.Splices.{joined_none, joined_following, Split, joined_assoc, nodes_of-append, kind_after-joined, state_after-joined, gives-joined, every_in_nodes-joined}
 use Rattle.g_graph.proofs.lemmas.Unique.{same_number, equal_back, first_true, second_true}
 use Rattle.g_graph.proofs.NestLemmas.{RegionKept}
-use Rattle.g_graph.proofs.ScopeMaps.{ScopeMap, mapped_all, mapped_nodes_fit, joined_none, joined_following}
+use Rattle.g_graph.proofs.ScopeMaps.{ScopeMap, mapped_all, mapped_nodes_fit}
 use Rattle.g_graph.proofs.lemmas.Moved.{last_is_known}
 use Rattle.g_graph.proofs.lemmas.Indexes.{either, same_number_true, has_node-joined, kind_absent, kind_present, kind_known, index_kind, index_none, same_kind_true, GivesState, KeepsState, state_cases, last_gives, gives_last, each_node-joined}
 

@@ -1,5 +1,5 @@
 -- What an image asks of the globals and names of a program, and of the lambdas that are put in it.
-use Rattle.std.specs.Prelude.{◌≡◌, ℕ, suc, ◌==◌, nat_lt, if◌then◌else◌, Bool, true, false, ◌&&◌, IsTrue, List, [], ◌∷◌, map, length, Option, None, Some, option_map, slice_get}
+use Rattle.std.specs.Prelude.{◌≡◌, ℕ, suc, ◌==◌, nat_lt, if◌then◌else◌, Bool, true, false, ◌&&◌, IsTrue, List, [], ◌∷◌, map, length, Option, None, Some, option_map, slice_get, slice_set}
 use Rattle.val_core.specs.declared.leaf.Leaf.{Leaf}
 use Rattle.g_graph.specs.declared.link.Link.{Link}
 use Rattle.g_graph.specs.Plain.{PlainLambda, PlainDelta, PlainOmega}
@@ -53,3 +53,7 @@ pub record IsProgram (omega : PlainOmega) (ls : List PlainLambda) : Type 0 where
   pub main : HasMain omega.names ls
   pub named : (f : ℕ) (l : PlainLambda) → slice_get ls f ≡ Some l → RegionOps (NamesGlobal (length omega.deltas)) l.body
   pub globals : (k : ℕ) (d : PlainDelta) → slice_get omega.deltas k ≡ Some d → IsGlobal (length omega.deltas) d
+
+-- with the one lambda instead of the other they can still be put in an image
+abbrev pub KeepsPrograms : PlainLambda → PlainLambda → Type 0
+KeepsPrograms l k = (omega : PlainOmega) (ls : List PlainLambda) (f : ℕ) → slice_get ls f ≡ Some l → IsProgram omega ls → IsProgram omega (slice_set ls f k)

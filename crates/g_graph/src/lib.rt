@@ -1,5 +1,5 @@
 //! The graph of a function: types, the tree that contracts see, and what a well-formed one is.
-//! Construction, rules and sequencing stand on it; it stands on val_core and c_lex.
+//! Construction, rules and sequencing stand on it; it stands on no_memory, val_core and c_lex.
 //! It promises what its public calls say of that tree, and takes no memory where a call only reads.
 #![tactic(auto)]
 

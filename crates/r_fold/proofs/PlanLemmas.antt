@@ -1,4 +1,4 @@
--- A plan for a node says what folding gives, and its parts are found by place.
+-- A plan for a node says what folding gives, and regions are found by index.
 use Rattle.std.proofs.Common.{◌≡◌, ◌≤◌, ◌<◌, ◌+◌, get_or, ℕ, zero, suc, ◌==◌, Bool, true, false, List, [], ◌∷◌, Option, None, Some, option_map, option_and_then, length, refl, sym, ap, ◌∙◌, arith}
 use Rattle.std.proofs.Math.Dec.{eqb-suc-zero, eqb-suc-suc}
 use Rattle.std.specs.Prelude.{is_some, if◌then◌else◌, slice_get, slice_set, ◌-◌}
@@ -6,8 +6,9 @@ use Rattle.g_graph.specs.declared.op.Op.TheVariants.{Const, Undef, Local, Delta,
 use Rattle.g_graph.specs.declared.op.Origin.{Origin}
 use Rattle.g_graph.specs.Plain.{RegionTree, region, NodeTree, node, NodeTrees, no_nodes, node_then, RegionTrees, no_regions, region_then, nodes_of, regions_of, id_of, nodes_in}
 use Rattle.g_graph.specs.Change.{first_some, node_index}
-use Rattle.g_graph.proofs.SpliceLemmas.{node_index_least}
-use Rattle.r_fold.specs.Rule.{node_at, node_set, const_word, constant, is_word, Folded, word, input, replacement, gamma_folded, theta_folded, chosen_region, folding, folded, fold_here}
+use Rattle.g_graph.proofs.lemmas.Splices.{node_index_least}
+use Rattle.g_graph.specs.Nodes.{node_at, node_set, const_word, constant}
+use Rattle.r_fold.specs.Rule.{is_word, Folded, word, input, replacement, gamma_folded, theta_folded, chosen_region, folding, folded, fold_here}
 use Rattle.r_fold.specs.Plan.{planned, bin_case, un_case, theta_case, plain_case, replacement_case, has_one_turn, carried_out, op_of, op_word}
 
 -- ---- the rows of the rule
@@ -76,7 +77,8 @@ fold_here_planned n (region args nodes results) = mapped_then n (region args nod
 pub fold_here_node : (n : ℕ) (r : RegionTree) → fold_here n r ≡ option_and_then (λ f. folded n r f) (option_and_then (folding (nodes_in r)) (node_at n (nodes_in r)))
 fold_here_node n (region args nodes results) = refl
 
-gamma_stays : (n : ℕ) (r : RegionTree) (os : List Origin) (s : Option RegionTree) → is_some (option_and_then (λ f. folded n r f) (option_map (λ t. replacement t os) s)) ≡ is_some (option_map (λ t. replacement t os) s)
+gamma_stays : (n : ℕ) (r : RegionTree) (os : List Origin) (s : Option RegionTree) → is_some (option_and_then (λ f. folded n r f) (option_map (λ t. replacement t os) s)) ≡
+    is_some (option_map (λ t. replacement t os) s)
 gamma_stays n r os None = refl
 gamma_stays n r os (Some s) = refl
 
@@ -88,7 +90,8 @@ theta_folds : (n : ℕ) (r s : RegionTree) (os : List Origin) → is_some (optio
 theta_folds n r (region args nodes []) os = refl
 theta_folds n r (region args nodes (p ∷ results)) os = by_test (is_word (Some 0) (constant nodes p))
   where
-    by_test : (t : Bool) → is_some (option_and_then (λ f. folded n r f) (if t then Some (replacement (region args nodes results) os) else None)) ≡ is_some (if t then Some (replacement (region args nodes results) os) else None)
+    by_test : (t : Bool) → is_some (option_and_then (λ f. folded n r f) (if t then Some (replacement (region args nodes results) os) else None)) ≡
+        is_some (if t then Some (replacement (region args nodes results) os) else None)
     by_test true = refl
     by_test false = refl
 
@@ -101,40 +104,7 @@ replacement_folds n r nodes (node id Theta os (region_then s no_regions)) = thet
 replacement_folds n r nodes (node id Theta os (region_then s (region_then t rs))) = refl
 replacement_folds n r nodes (node id _ os rs) = refl
 
--- ---- nodes by place
-
-pub node_set_none : (n first : ℕ) (y : NodeTree) (xs : NodeTrees) → node_index n first xs ≡ None → node_set n y xs ≡ xs
-node_set_none n first y no_nodes e = refl
-node_set_none n first y (node_then x xs) e = by_test (id_of x == n) e (node_set_none n (suc first) y xs)
-  where
-    by_test : (t : Bool) → (if t then Some first else node_index n (suc first) xs) ≡ None → (node_index n (suc first) xs ≡ None → node_set n y xs ≡ xs) →
-        (if t then node_then y xs else node_then x (node_set n y xs)) ≡ node_then x xs
-    by_test true e h = absurd (cc)
-    by_test false e h = ap (node_then x) (h e)
-
-some_same : (a b : ℕ) → Some a ≡ Some b → a ≡ b
-some_same a b e = cc
-
-node_set_from : (n first p : ℕ) (y : NodeTree) (xs : List NodeTree) → node_index n first (nodes_of xs) ≡ Some (first + p) → node_set n y (nodes_of xs) ≡ nodes_of (slice_set xs p y)
-node_set_from n first p y [] e = absurd (cc)
-node_set_from n first zero y (x ∷ xs) e = by_test (id_of x == n) e
-  where
-    by_test : (t : Bool) → (if t then Some first else node_index n (suc first) (nodes_of xs)) ≡ Some (first + 0) →
-        (if t then node_then y (nodes_of xs) else node_then x (node_set n y (nodes_of xs))) ≡ node_then y (nodes_of xs)
-    by_test true e = refl
-    by_test false e = absurd (omega (arith, node_index_least n (suc first) (first + 0) (nodes_of xs) e))
-node_set_from n first (suc p) y (x ∷ xs) e = by_test (id_of x == n) e (node_set_from n (suc first) p y xs)
-  where
-    by_test : (t : Bool) → (if t then Some first else node_index n (suc first) (nodes_of xs)) ≡ Some (first + suc p) →
-        (node_index n (suc first) (nodes_of xs) ≡ Some (suc first + p) → node_set n y (nodes_of xs) ≡ nodes_of (slice_set xs p y)) →
-        (if t then node_then y (nodes_of xs) else node_then x (node_set n y (nodes_of xs))) ≡ node_then x (nodes_of (slice_set xs p y))
-    by_test true e h = absurd (omega (arith, some_same first (first + suc p) e))
-    by_test false e h = ap (node_then x) (h (e ∙ ap Some (omega arith)))
-
-pub node_set_at : (n p : ℕ) (y : NodeTree) (xs : List NodeTree) → node_index n 0 (nodes_of xs) ≡ Some p → node_set n y (nodes_of xs) ≡ nodes_of (slice_set xs p y)
-node_set_at n p y xs e = node_set_from n 0 p y xs (e ∙ ap Some (omega arith))
-
--- ---- regions by place
+-- ---- regions by index
 
 pub chosen_within : (w : ℕ) (rs : List RegionTree) (r : RegionTree) → w < length rs → r ≡ get_or rs w r → chosen_region w (regions_of rs) ≡ Some r
 chosen_within w [] r h e = absurd (omega arith)
@@ -160,9 +130,3 @@ pub no_turn : (rs : List RegionTree) → (length rs ≡ 1 → ⊥) → (length r
 no_turn [] h = refl
 no_turn (r ∷ []) h = absurd (h refl)
 no_turn (r ∷ s ∷ rs) h = eqb-suc-suc (suc (length rs)) 0 ∙ eqb-suc-zero (length rs)
-
--- ---- constants
-
-pub const_word_op : (x : NodeTree) → const_word x ≡ op_word (op_of x)
-const_word_op (node id (Const w) os rs) = refl
-const_word_op (node id _ os rs) = refl

@@ -1,11 +1,10 @@
 -- Folding as it is done: a plan for a node is made first, and then carried out.
-use Rattle.std.specs.Prelude.{ℕ, ◌%◌, ◌^◌, Bool, false, if◌then◌else◌, List, [], ◌∷◌, option_map}
+use Rattle.std.specs.Prelude.{ℕ, Bool, false, if◌then◌else◌, List, [], ◌∷◌, option_map}
 use Rattle.std.specs.declared.option.Option.{Option}
 use Rattle.std.specs.declared.option.Option.TheVariants.{Some, None}
 use Rattle.val_core.specs.declared.operation.Op2.{Op2}
 use Rattle.val_core.specs.declared.operation.Op1.{Op1}
 use Rattle.val_core.specs.Words.{word1}
-use Rattle.g_graph.specs.declared.op.Op.{Op}
 use Rattle.g_graph.specs.declared.op.Op.TheVariants.{Const, Bin, Un, Gamma, Theta}
 use Rattle.g_graph.specs.declared.op.Origin.{Origin}
 use Rattle.g_graph.specs.declared.op.Origin.TheVariants.{Out}
@@ -14,7 +13,8 @@ use Rattle.g_graph.specs.Replace.{region_redirected, origin_replaced}
 use Rattle.g_graph.specs.Splice.{args_to_inputs, region_spliced}
 use Rattle.r_fold.specs.declared.plan.Plan.{Plan}
 use Rattle.r_fold.specs.declared.plan.Plan.TheVariants.{Word, Input, Replacement}
-use Rattle.r_fold.specs.Rule.{constant, is_word, Folded, word, input, replacement, bin_folded, gamma_folded, theta_folded, node_set, is_used}
+use Rattle.g_graph.specs.Nodes.{constant, node_set, is_used}
+use Rattle.r_fold.specs.Rule.{is_word, Folded, word, input, replacement, bin_folded, gamma_folded, theta_folded}
 
 -- the inputs of a replacement are put instead of its arguments
 abbrev pub planned : Folded → Plan
@@ -22,14 +22,7 @@ planned (word w) = Word w
 planned (input a) = Input a
 planned (replacement r inputs) = Replacement (region_redirected (args_to_inputs inputs) r)
 
-abbrev pub op_of : NodeTree → Op
-op_of (node id op inputs rs) = op
-
-abbrev pub op_word : Op → Option ℕ
-op_word (Const w) = Some (w % 2 ^ 32)
-op_word op = None
-
--- ---- the rows of the rule, by op
+-- ---- the cases of the rule, by op
 
 abbrev pub bin_case : NodeTrees → Op2 → List Origin → Option Folded
 bin_case nodes op (a ∷ b ∷ []) = bin_folded op a b (constant nodes a) (constant nodes b)
@@ -47,7 +40,7 @@ abbrev pub theta_case : List Origin → RegionTrees → Option Folded
 theta_case inputs (region_then r no_regions) = theta_folded r inputs
 theta_case inputs rs = None
 
--- the rows of nodes without regions, and of those with
+-- the cases of nodes without regions, and of those with
 abbrev pub plain_case : NodeTrees → NodeTree → Option Folded
 plain_case nodes (node id (Bin op) inputs rs) = bin_case nodes op inputs
 plain_case nodes (node id (Un op) inputs rs) = un_case nodes op inputs

@@ -1,39 +1,19 @@
 -- Folding: a node whose inputs are constants becomes what it gives (ISO/IEC 9899:2011, 6.6p10, leaves such evaluation
 -- to the translator).
-use Rattle.std.specs.Prelude.{ℕ, zero, suc, ◌%◌, ◌^◌, ◌==◌, ◌||◌, if◌then◌else◌, Bool, false, List, [], ◌∷◌, Option, None, Some, option_map, option_and_then, is_some}
+use Rattle.std.specs.Prelude.{ℕ, zero, suc, ◌==◌, if◌then◌else◌, Bool, false, List, [], ◌∷◌, Option, None, Some, option_map, option_and_then, is_some}
 use Rattle.val_core.specs.declared.operation.Op2.{Op2}
 use Rattle.val_core.specs.declared.operation.Op2.TheVariants.{Add, Sub, Mul, Or, Xor, Sll, Srl, Sra}
 use Rattle.val_core.specs.Words.{word1, word2}
 use Rattle.g_graph.specs.declared.op.Op.TheVariants.{Const, Bin, Un, Gamma, Theta}
 use Rattle.g_graph.specs.declared.op.Origin.{Origin}
-use Rattle.g_graph.specs.declared.op.Origin.TheVariants.{Arg, Out}
-use Rattle.g_graph.specs.Plain.{RegionTree, region, NodeTree, node, NodeTrees, no_nodes, node_then, RegionTrees, no_regions, region_then, id_of, PlainLambda}
-use Rattle.g_graph.specs.Scope.{same_origin}
-use Rattle.g_graph.specs.WellFormed.{some_of}
+use Rattle.g_graph.specs.declared.op.Origin.TheVariants.{Out}
+use Rattle.g_graph.specs.Plain.{RegionTree, region, NodeTree, node, NodeTrees, RegionTrees, no_regions, region_then, PlainLambda}
 use Rattle.g_graph.specs.Change.{region_changed, lambda_changed}
 use Rattle.g_graph.specs.Replace.{region_redirected, origin_replaced}
 use Rattle.g_graph.specs.Splice.{args_to_inputs, region_spliced}
-
--- the first node of this number
-abbrev pub node_at : ℕ → NodeTrees → Option NodeTree
-node_at n no_nodes = None
-node_at n (node_then x ns) = if id_of x == n then Some x else node_at n ns
-
--- the first node of this number replaced
-abbrev pub node_set : ℕ → NodeTree → NodeTrees → NodeTrees
-node_set n y no_nodes = no_nodes
-node_set n y (node_then x ns) = if id_of x == n then node_then y ns else node_then x (node_set n y ns)
+use Rattle.g_graph.specs.Nodes.{node_at, node_set, constant, is_used}
 
 -- ---- constants
-
-abbrev pub const_word : NodeTree → Option ℕ
-const_word (node id (Const w) inputs rs) = Some (w % 2 ^ 32)
-const_word _ = None
-
--- the word that an origin is, where a Const node of the region gives it
-abbrev pub constant : NodeTrees → Origin → Option ℕ
-constant nodes (Arg k) = None
-constant nodes (Out n p) = if p == 0 then option_and_then const_word (node_at n nodes) else None
 
 abbrev pub is_word : Option ℕ → Option ℕ → Bool
 is_word (Some k) (Some u) = k == u
@@ -93,14 +73,6 @@ folding nodes (node id Theta inputs (region_then r no_regions)) = theta_folded r
 folding nodes _ = None
 
 -- ---- the change
-
--- an input of a node of the region or a result of it
-abbrev pub nodes_use : Origin → NodeTrees → Bool
-nodes_use o no_nodes = false
-nodes_use o (node_then (node id op inputs rs) ns) = some_of (same_origin o) inputs || nodes_use o ns
-
-abbrev pub is_used : Origin → RegionTree → Bool
-is_used o (region args nodes results) = nodes_use o nodes || some_of (same_origin o) results
 
 -- Uses are replaced only where there is one.
 abbrev pub folded : ℕ → RegionTree → Folded → Option RegionTree

@@ -1,10 +1,9 @@
 ghost use Rattle.std.specs.Prelude.{◌≡◌, option_map};
 ghost use Rattle.g_graph.specs.Plain.{nodes_of};
-ghost use Rattle.r_fold.specs.Rule.{left_neutral, right_neutral, bin_folded};
+ghost use Rattle.r_fold.specs.Rule.{is_word, left_neutral, right_neutral, bin_folded};
 ghost use Rattle.r_fold.specs.Plan.{planned, bin_case, un_case, plain_case};
 
-use crate::constants::{constant, is_word};
-use g_graph::{Node, Op, Origin, Region};
+use g_graph::{Node, Op, Origin, Region, constant};
 use val_core::{Op1, Op2, op1, op2};
 
 // What comes instead of a node.
@@ -92,5 +91,15 @@ fn right_neutral(op: Op2) -> Option<u32>
     match op {
         Op2::Sub | Op2::Sll | Op2::Srl | Op2::Sra => Some(0),
         _ => left_neutral(op),
+    }
+}
+
+// Whether both are the same word.
+pub fn is_word(wanted: Option<u32>, found: Option<u32>) -> bool
+    ensures { result ≡ is_word wanted found }
+{
+    match (wanted, found) {
+        (Some(wanted), Some(found)) => wanted == found,
+        _ => false,
     }
 }

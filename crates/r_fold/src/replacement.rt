@@ -5,9 +5,9 @@ ghost use Rattle.g_graph.specs.Splice.{args_to_inputs};
 ghost use Rattle.r_fold.specs.Rule.{chosen_region, theta_folded};
 ghost use Rattle.r_fold.specs.Plan.{planned, gamma_case, theta_case, replacement_case, runs_once, has_one_turn};
 
-use crate::constants::{constant, is_word};
-use crate::plan::Plan;
-use g_graph::{NoMemory, Node, Op, Origin, ArgsToInputs, Region, copy_region, redirect_region};
+use crate::plan::{Plan, is_word};
+use g_graph::{ArgsToInputs, Node, Op, Origin, Region, constant, copy_region, redirect_region};
+use no_memory::NoMemory;
 use std::alloc::Global;
 
 // Whether one of its regions comes instead of a node.
@@ -23,8 +23,13 @@ pub fn has_replacement(nodes: &[Node], node: &Node) -> bool
 }
 
 // The plan for a node with regions.
-pub fn replacement_plan(alloc: Global, nodes: &[Node], node: &Node) -> Result<Option<Plan>, NoMemory>
-    ensures { IfOk result (λ plan. plan ≡ option_map planned (replacement_case (nodes_of nodes.now) node.now)) }
+pub fn replacement_plan(
+    alloc: Global,
+    nodes: &[Node],
+    node: &Node,
+) -> Result<Option<Plan>, NoMemory>
+    ensures { IfOk result (λ plan. plan ≡
+        option_map planned (replacement_case (nodes_of nodes.now) node.now)) }
 {
     match node.op {
         Op::Gamma => choice_plan(alloc, nodes, node.inputs.as_slice(), &node.regions),
@@ -34,7 +39,8 @@ pub fn replacement_plan(alloc: Global, nodes: &[Node], node: &Node) -> Result<Op
 }
 
 fn has_choice(nodes: &[Node], inputs: &[Origin], regions: &[Region]) -> bool
-    ensures { result ≡ is_some (gamma_case (nodes_of nodes.now) inputs.now (regions_of regions.now)) }
+    ensures { result ≡ is_some (gamma_case (nodes_of nodes.now) inputs.now
+        (regions_of regions.now)) }
 {
     match inputs.first() {
         Some(predicate) => match constant(nodes, *predicate) {
@@ -51,7 +57,9 @@ fn choice_plan(
     inputs: &[Origin],
     regions: &[Region],
 ) -> Result<Option<Plan>, NoMemory>
-    ensures { IfOk result (λ plan. plan ≡ option_map planned (gamma_case (nodes_of nodes.now) inputs.now (regions_of regions.now))) }
+    ensures { IfOk result (λ plan. plan ≡
+        option_map planned (gamma_case (nodes_of nodes.now) inputs.now
+        (regions_of regions.now))) }
 {
     match inputs.split_first() {
         Some((predicate, entries)) => match constant(nodes, *predicate) {
@@ -68,7 +76,9 @@ fn choice_on(
     word: u32,
     entries: &[Origin],
 ) -> Result<Option<Plan>, NoMemory>
-    ensures { IfOk result (λ plan. plan ≡ option_map (λ r. Plan.Replacement (region_redirected (args_to_inputs entries.now) r)) (chosen_region word (regions_of regions.now))) }
+    ensures { IfOk result (λ plan. plan ≡
+        option_map (λ r. Plan.Replacement (region_redirected (args_to_inputs entries.now) r))
+        (chosen_region word (regions_of regions.now))) }
 {
     match chosen_region(regions, word) {
         Some(region) => Ok(Some(Plan::Replacement(placed_region(alloc, region, entries)?))),
@@ -97,7 +107,8 @@ fn one_turn_plan(
     inputs: &[Origin],
     regions: &[Region],
 ) -> Result<Option<Plan>, NoMemory>
-    ensures { IfOk result (λ plan. plan ≡ option_map planned (theta_case inputs.now (regions_of regions.now))) }
+    ensures { IfOk result (λ plan. plan ≡
+        option_map planned (theta_case inputs.now (regions_of regions.now))) }
 {
     if regions.len() != 1 {
         return Ok(None);
@@ -106,7 +117,8 @@ fn one_turn_plan(
 }
 
 fn one_turn(alloc: Global, region: &Region, inputs: &[Origin]) -> Result<Option<Plan>, NoMemory>
-    ensures { IfOk result (λ plan. plan ≡ option_map planned (theta_folded region.now inputs.now)) }
+    ensures { IfOk result (λ plan.
+        plan ≡ option_map planned (theta_folded region.now inputs.now)) }
 {
     if !runs_once(region) {
         return Ok(None);
@@ -133,7 +145,8 @@ fn runs_once(region: &Region) -> bool
 
 // A copy of the region with these inputs instead of its arguments.
 fn placed_region(alloc: Global, region: &Region, inputs: &[Origin]) -> Result<Region, NoMemory>
-    ensures { IfOk result (λ replacement. replacement ≡ region_redirected (args_to_inputs inputs.now) region.now) }
+    ensures { IfOk result (λ replacement. replacement ≡
+        region_redirected (args_to_inputs inputs.now) region.now) }
 {
     let mut replacement = copy_region(alloc, region)?;
     redirect_region(&mut replacement, &ArgsToInputs { inputs });

@@ -1,12 +1,13 @@
--- A complete list stays complete where one of its lambdas is exchanged for another.
-use Rattle.std.proofs.Common.{◌≡◌, ◌⊎◌, ℕ, zero, suc, ◌+◌, List, [], ◌∷◌, Some, slice_get, refl, sym, ap, subst, ◌∙◌, inl, inr}
+-- A complete list, and one of which an image can be made, stays so where one of its lambdas is exchanged for another.
+use Rattle.std.proofs.Common.{◌≡◌, ◌⊎◌, ℕ, zero, suc, ◌+◌, List, [], ◌∷◌, map, length, Some, slice_get, refl, sym, ap, subst, ◌∙◌, inl, inr}
 use Rattle.std.specs.Prelude.{slice_set}
 use Rattle.std.proofs.lemmas.Option.{same_Some}
 use Rattle.g_graph.specs.declared.op.Op.{Op}
 use Rattle.g_graph.specs.declared.op.Op.TheVariants.{Const, Undef, Local, Delta, Bin, Un, Load, Store, Clear, PtrEq, Apply, Put, Exit, Get, Gamma, Theta}
 use Rattle.g_graph.specs.Plain.{PlainLambda}
 use Rattle.g_graph.specs.WellFormed.{IsWellFormed}
-use Rattle.g_graph.specs.Lists.{RegionOps, HasCallee, Calls, IsComplete}
+use Rattle.g_graph.specs.Lists.{RegionOps, HasCallee, Calls, NamesGlobal, IsComplete}
+use Rattle.g_graph.specs.Program.{HasMain, KeepsPrograms}
 use Rattle.g_graph.proofs.lemmas.Ops.{region_follows}
 
 set_get : (ls : List PlainLambda) (f g : ℕ) (k m : PlainLambda) → slice_get (slice_set ls f k) g ≡ Some m → ((g ≡ f) × (m ≡ k)) ⊎ (slice_get ls g ≡ Some m)
@@ -84,3 +85,39 @@ module _ (l k : PlainLambda) (well : IsWellFormed k) (number : k.number ≡ l.nu
 
   pub complete_set : IsComplete (slice_set ls f k)
   complete_set = record { well_formed = well_kept; numbered = number_kept; calls = calls_kept }
+
+-- ---- the lambdas of an image
+
+params_kept : (ls : List PlainLambda) (f : ℕ) (l k : PlainLambda) → slice_get ls f ≡ Some l → k.params ≡ l.params →
+    map (λ (m : PlainLambda). m.params) (slice_set ls f k) ≡ map (λ (m : PlainLambda). m.params) ls
+params_kept [] f l k e d = absurd (cc)
+params_kept (j ∷ ls) zero l k e d = ap (λ n. n ∷ map (λ (m : PlainLambda). m.params) ls) (d ∙ ap (λ (m : PlainLambda). m.params) (sym (same_Some j l e)))
+params_kept (j ∷ ls) (suc f) l k e d = ap (λ ns. j.params ∷ ns) (params_kept ls f l k e d)
+
+-- and names no more globals
+module _ (l k : PlainLambda) (well : IsWellFormed k) (number : k.number ≡ l.number) (params : k.params ≡ l.params)
+    (calls : (ls : List PlainLambda) → RegionOps (Calls ls) l.body → RegionOps (Calls ls) k.body)
+    (globals : (n : ℕ) → RegionOps (NamesGlobal n) l.body → RegionOps (NamesGlobal n) k.body) where
+  main_kept : (names : List (List ℕ)) (ls : List PlainLambda) (f : ℕ) → slice_get ls f ≡ Some l → HasMain names ls → HasMain names (slice_set ls f k)
+  main_kept names ls f at h =
+      let s = callee_kept ls f l k at params h.index h.lambda h.there in
+      record { index = h.index; lambda = s.0; named = h.named; there = s.1; params = s.2 ∙ h.params }
+
+  named_kept : (count : ℕ) (ls : List PlainLambda) (f : ℕ) → slice_get ls f ≡ Some l →
+      ((g : ℕ) (m : PlainLambda) → slice_get ls g ≡ Some m → RegionOps (NamesGlobal count) m.body) → (g : ℕ) (m : PlainLambda) → slice_get (slice_set ls f k) g ≡ Some m →
+      RegionOps (NamesGlobal count) m.body
+  named_kept count ls f at h g m e =
+      elim (set_get ls f g k m e) [
+        | inl s ↦ subst (λ (x : PlainLambda). RegionOps (NamesGlobal count) x.body) (sym s.1) (globals count (h f l at))
+        | inr s ↦ h g m s
+      ]
+
+  pub program_set : KeepsPrograms l k
+  program_set omega ls f at program =
+      record {
+        complete = complete_set l k well number params calls ls f at program.complete;
+        params = params_kept ls f l k at params ∙ program.params;
+        main = main_kept omega.names ls f at program.main;
+        named = named_kept (length omega.deltas) ls f at program.named;
+        globals = program.globals;
+      }

@@ -12,9 +12,10 @@ use Rattle.g_graph.specs.WellFormed.{all_of, some_of, one_state_each, is_last_of
 use Rattle.g_graph.specs.Replace.{nodes_redirected, region_redirected, origin_replaced}
 use Rattle.g_graph.specs.Splice.{joined_nodes}
 use Rattle.g_graph.proofs.lemmas.Redirects.{kind_after-redirected, state_after-redirected, gives-redirected, every_in_nodes-redirected}
+use Rattle.g_graph.proofs.lemmas.Splices.{joined_none}
 use Rattle.g_graph.proofs.lemmas.Unique.{same_number, first_true, second_true}
 use Rattle.g_graph.proofs.NestLemmas.{SameScope, known_same, last_same, RegionKept}
-use Rattle.g_graph.proofs.ScopeMaps.{ScopeMap, mapped_all, mapped_nodes_fit, joined_none}
+use Rattle.g_graph.proofs.ScopeMaps.{ScopeMap, mapped_all, mapped_nodes_fit}
 
 pub same_origin_true : (a b : Origin) → same_origin a b ≡ true → a ≡ b
 same_origin_true (Arg j) (Arg k) e = ap Arg (same_number j k e)

@@ -15,11 +15,10 @@ use Rattle.g_graph.specs.WellFormed.{all_of, are, same, inputs_fit, inputs_are_l
 use Rattle.g_graph.specs.Replace.{nodes_redirected, region_redirected}
 use Rattle.g_graph.specs.Splice.{args_to_inputs, outputs_to_results, joined_nodes, region_spliced}
 use Rattle.g_graph.proofs.lemmas.Redirects.{nodes_ids-redirected}
-use Rattle.g_graph.proofs.lemmas.Splices.{Split, nodes_ids-joined, every_in_nodes-joined, kind_after-joined}
+use Rattle.g_graph.proofs.lemmas.Splices.{joined_none, joined_following, Split, nodes_ids-joined, every_in_nodes-joined, kind_after-joined}
 use Rattle.g_graph.proofs.lemmas.Unique.{first_true, second_true, times, times_append, times_cons, counts_of_distinct}
 use Rattle.g_graph.proofs.lemmas.Numbers.{Numbered}
 use Rattle.g_graph.proofs.lemmas.Indexes.{either, same_number_true, same_kind_true, has_node-joined, kind_absent, kind_known}
-use Rattle.g_graph.proofs.ScopeMaps.{joined_none, joined_following}
 use Rattle.g_graph.proofs.lemmas.Moved.{ValueFor}
 use Rattle.g_graph.proofs.NestLemmas.{RegionKept}
 use Rattle.g_graph.proofs.SpliceKept.{ReplacementFits, region_spliced_kept}

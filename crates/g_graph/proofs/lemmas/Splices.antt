@@ -134,6 +134,13 @@ pub joined_assoc : (xs ys zs : NodeTrees) → joined_nodes (joined_nodes xs ys) 
 joined_assoc no_nodes ys zs = refl
 joined_assoc (node_then x xs) ys zs = ap (λ ns. node_then x ns) (joined_assoc xs ys zs)
 
+pub joined_none : (ns : NodeTrees) → joined_nodes ns no_nodes ≡ ns
+joined_none no_nodes = refl
+joined_none (node_then x xs) = ap (λ ys. node_then x ys) (joined_none xs)
+
+pub joined_following : (bs : List NodeTree) (x : NodeTree) (ns : NodeTrees) → joined_nodes (nodes_of (bs ++ x ∷ [])) ns ≡ joined_nodes (nodes_of bs) (node_then x ns)
+joined_following bs x ns = ap (λ ms. joined_nodes ms ns) (nodes_of-append bs (x ∷ [])) ∙ joined_assoc (nodes_of bs) (node_then x no_nodes) ns
+
 pub nodes_ids-joined : (xs ys : NodeTrees) → nodes_ids (joined_nodes xs ys) ≡ nodes_ids xs ++ nodes_ids ys
 nodes_ids-joined no_nodes ys = refl
 nodes_ids-joined (node_then x xs) ys = ap (λ ids. node_ids x ++ ids) (nodes_ids-joined xs ys) ∙ sym (append_assoc (node_ids x) (nodes_ids xs) (nodes_ids ys))
