@@ -7,7 +7,7 @@ use Rattle.val_core.specs.Memory.{Cell, Block, Memory, BlockShape, closed}
 use Rattle.val_core.specs.Objects.{Addresses, word_of, address_in, opened}
 use Rattle.val_core.specs.Events.{deepest}
 use Rattle.val_core.specs.Answers.{Answer, Returned, Cut, Exited, Undefined, then_on, on_number, active, events}
-use Rattle.g_graph.specs.declared.lambda.Link.{Link}
+use Rattle.g_graph.specs.declared.link.Link.{Link}
 use Rattle.g_graph.specs.Plain.{RegionTree, PlainObject, PlainLambda, PlainDelta, PlainOmega}
 use Rattle.g_graph.specs.Program.{name_index, main_name}
 use Rattle.g_mean.specs.Data.{Datum, memory, input, at_port, value_at, on_memory, with_memory, changed_at}

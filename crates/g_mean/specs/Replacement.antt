@@ -32,7 +32,8 @@ pub record Linked (direction : Direction) (ls ks : List PlainLambda) (global : �
   pub far_global : (k : ℕ) → d.addresses.global k ≡ global k
   pub near_call : (f : ℕ) (xs : List Datum) → c.call f xs ≡ applied ls global c.bound f xs
   pub far_call : (f : ℕ) (xs : List Datum) → d.call f xs ≡ applied ks global d.bound f xs
-  pub nested : (n m : ℕ) → lesser direction n m ≤ lesser direction c.bound d.bound → IsTwice direction 1 n m → (f : ℕ) → MeaningRefines no_deeper direction IsLessDefinedDatum (applied ls global n f) (applied ks global m f)
+  pub nested : (n m : ℕ) → lesser direction n m ≤ lesser direction c.bound d.bound → IsTwice direction 1 n m → (f : ℕ) →
+      MeaningRefines no_deeper direction IsLessDefinedDatum (applied ls global n f) (applied ks global m f)
 
 -- Region `s` in a lambda of `ks` may stand for region `r` in that lambda of `ls`, whichever side is cut first.
 pub record Replaces (ls ks : List PlainLambda) (r s : RegionTree) : Type 0 where

@@ -45,7 +45,9 @@ module _ (cmp : Comparison) (g : Compares cmp) (direction : Direction) (N : Datu
           on = λ xs ys near. refines-active cmp g.goes (Paired N) direction f (entered n (applied ls global n) global (slice_get ls f) xs) (entered m (applied ls global m) global (slice_get ls f) ys) (body.on xs ys near);
         }
 
-  pub region_at-more : (ls : List PlainLambda) (addresses : Addresses) → ((j : ℕ) → N (val (addresses.local j)) (val (addresses.local j))) → ((j : ℕ) → N (val (addresses.global j)) (val (addresses.global j))) → (r : RegionTree) (n m : ℕ) → InOrder direction n m → (xs ys : List Datum) → Paired N xs ys → Refines cmp direction (Paired N) (region_at n ls r xs addresses) (region_at m ls r ys addresses)
+  pub region_at-more : (ls : List PlainLambda) (addresses : Addresses) → ((j : ℕ) → N (val (addresses.local j)) (val (addresses.local j))) →
+      ((j : ℕ) → N (val (addresses.global j)) (val (addresses.global j))) → (r : RegionTree) (n m : ℕ) → InOrder direction n m → (xs ys : List Datum) → Paired N xs ys →
+      Refines cmp direction (Paired N) (region_at n ls r xs addresses) (region_at m ls r ys addresses)
   region_at-more ls addresses locals globals r n m order xs ys near =
       (region-refines cmp g direction N k Never Always never-refines
       (record { bound = n; call = applied ls addresses.global n; addresses = addresses }) (record { bound = m; call = applied ls addresses.global m; addresses = addresses })
@@ -67,7 +69,8 @@ lambda_extends n m ls global f xs order =
 equal-answers : (a b : Answer (List Datum)) → a ≡ b → Refines exactly Forward (λ us vs. us ≡ vs) a b
 equal-answers a b e = subst (λ c. Refines exactly Forward (λ us vs. us ≡ vs) a c) e (refines-itself Forward a)
 
-started-extends : (n m : ℕ) (omega : PlainOmega) (ls : List PlainLambda) (f : Option ℕ) (i : List ℕ) → n ≤ m → Refines exactly Forward (λ us vs. us ≡ vs) (started n omega ls f i) (started m omega ls f i)
+started-extends : (n m : ℕ) (omega : PlainOmega) (ls : List PlainLambda) (f : Option ℕ) (i : List ℕ) → n ≤ m →
+    Refines exactly Forward (λ us vs. us ≡ vs) (started n omega ls f i) (started m omega ls f i)
 started-extends n m omega ls None i order = tt
 started-extends n m omega ls (Some f) i order =
     let start = memory (first_memory omega.deltas) ∷ input i ∷ [] in

@@ -35,7 +35,8 @@ use Rattle.g_mean.specs.Kinds.{IsOfKind, AreOfKinds, AreWellFormed, call_takes, 
 -- ---- lists of kinds
 
 -- the kinds of some origins, where each has one, are those of what they carry
-origins-kinds : (find : Origin → Option Kind) (carry : Origin → Datum) → ((a : Origin) (k : Kind) → find a ≡ Some k → IsOfKind k (carry a)) → (origins : List Origin) (ks : List Kind) → map find origins ≡ map Some ks → AreOfKinds ks (map carry origins)
+origins-kinds : (find : Origin → Option Kind) (carry : Origin → Datum) → ((a : Origin) (k : Kind) → find a ≡ Some k → IsOfKind k (carry a)) → (origins : List Origin) (ks : List Kind) →
+    map find origins ≡ map Some ks → AreOfKinds ks (map carry origins)
 origins-kinds find carry h [] [] e = tt
 origins-kinds find carry h [] (k ∷ ks) e = absurd cc
 origins-kinds find carry h (a ∷ origins) [] e = absurd cc
@@ -124,18 +125,21 @@ gives-out ks (Undefined o) h = tt
 
 -- ---- the map
 
-after-more : (before : List NodeTree) (x : NodeTree) (n p : ℕ) (found : Option Kind) → kind_after (nodes_of (before ++ x ∷ [])) n p found ≡ cond (id_of x == n) (joined (slice_get (output_kinds x) p)) (kind_after (nodes_of before) n p found)
+after-more : (before : List NodeTree) (x : NodeTree) (n p : ℕ) (found : Option Kind) →
+    kind_after (nodes_of (before ++ x ∷ [])) n p found ≡ cond (id_of x == n) (joined (slice_get (output_kinds x) p)) (kind_after (nodes_of before) n p found)
 after-more [] x n p found = refl
 after-more (y ∷ before) x n p found = after-more before x n p (cond (id_of y == n) (joined (slice_get (output_kinds y) p)) found)
 
-map-more : (before : List NodeTree) (x : NodeTree) (o : Outputs) → MapHasKinds (nodes_of before) o → (ys : List Datum) → OutputsHaveKinds (output_kinds x) ys → MapHasKinds (nodes_of (before ++ x ∷ [])) (extended o (id_of x) ys)
+map-more : (before : List NodeTree) (x : NodeTree) (o : Outputs) → MapHasKinds (nodes_of before) o → (ys : List Datum) → OutputsHaveKinds (output_kinds x) ys →
+    MapHasKinds (nodes_of (before ++ x ∷ [])) (extended o (id_of x) ys)
 map-more before x o h ys k n p j e = by (id_of x == n) (sym (after-more before x n p None) ∙ e)
   where
     by : (test : Bool) → cond test (joined (slice_get (output_kinds x) p)) (kind_after (nodes_of before) n p None) ≡ Some j → IsOfKind j (cond test (at_port ys p) (o n p))
     by true d = k p j d
     by false d = h n p j d
 
-read-kind : (args : List Kind) (xs : List Datum) → AreOfKinds args xs → (ns : NodeTrees) (o : Outputs) → MapHasKinds ns o → (a : Origin) (k : Kind) → known args ns a ≡ Some k → IsOfKind k (read xs o a)
+read-kind : (args : List Kind) (xs : List Datum) → AreOfKinds args xs → (ns : NodeTrees) (o : Outputs) → MapHasKinds ns o → (a : Origin) (k : Kind) → known args ns a ≡ Some k →
+    IsOfKind k (read xs o a)
 read-kind args xs h ns o m (Arg n) k e = at-kind args xs h n k e
 read-kind args xs h ns o m (Out n p) k e = m n p k e
 
@@ -182,7 +186,8 @@ module _ (objects : ℕ) (c : Context) (calls : CallsKeepKinds c.call) where
         (nodes-keep args [] nodes (region-nodes objects (region args nodes results) p.0) p.1 xs kinds no_outputs (λ n q k d. absurd cc))
         (λ o m. origins-kinds (known args nodes) (read xs o) (λ a k d. read-kind args xs kinds nodes o m a k d) results gives e)
 
-    nodes-keep : (args : List Kind) (before : List NodeTree) (ns : NodeTrees) → each_node (node_fits objects args) before ns ≡ true → every_in_nodes (region_fits objects) ns ≡ true → (xs : List Datum) → AreOfKinds args xs → (o : Outputs) → MapHasKinds (nodes_of before) o → Gives (MapHasKinds (joined_nodes (nodes_of before) ns)) (nodes_run c ns xs o)
+    nodes-keep : (args : List Kind) (before : List NodeTree) (ns : NodeTrees) → each_node (node_fits objects args) before ns ≡ true → every_in_nodes (region_fits objects) ns ≡ true →
+        (xs : List Datum) → AreOfKinds args xs → (o : Outputs) → MapHasKinds (nodes_of before) o → Gives (MapHasKinds (joined_nodes (nodes_of before) ns)) (nodes_run c ns xs o)
     nodes-keep args before no_nodes t nested xs kinds o m = subst (λ ns. MapHasKinds ns o) (sym (joined_none (nodes_of before))) m
     nodes-keep args before (node_then x ns) t nested xs kinds o m =
         let p = and_parts (node_fits objects args (nodes_of before) x) (each_node (node_fits objects args) (before ++ x ∷ []) ns) t in
@@ -192,7 +197,8 @@ module _ (objects : ℕ) (c : Context) (calls : CallsKeepKinds c.call) where
         (λ us h. subst (λ ms. Gives (MapHasKinds ms) (nodes_run c ns xs (extended o (id_of x) us))) (joined_following before x ns)
         (nodes-keep args (before ++ x ∷ []) ns p.1 q.1 xs kinds (extended o (id_of x) us) (map-more before x o m us h)))
 
-    node-keeps : (args : List Kind) (b : NodeTrees) (x : NodeTree) → NodeTests args b x → every_in_node (region_fits objects) x ≡ true → (xs : List Datum) → AreOfKinds args xs → (o : Outputs) → MapHasKinds b o → Gives (OutputsHaveKinds (output_kinds x)) (node_run c x xs o)
+    node-keeps : (args : List Kind) (b : NodeTrees) (x : NodeTree) → NodeTests args b x → every_in_node (region_fits objects) x ≡ true → (xs : List Datum) → AreOfKinds args xs → (o : Outputs) →
+        MapHasKinds b o → Gives (OutputsHaveKinds (output_kinds x)) (node_run c x xs o)
     node-keeps args b (node id (Const w) inputs rs) t nested xs kinds o m = done-gives (ValueKind ∷ []) (Const w) (map (read xs o) inputs) (tt, tt)
     node-keeps args b (node id Undef inputs rs) t nested xs kinds o m = done-gives (ValueKind ∷ []) Undef (map (read xs o) inputs) (tt, tt)
     node-keeps args b (node id (Local k) inputs rs) t nested xs kinds o m = done-gives (ValueKind ∷ []) (Local k) (map (read xs o) inputs) (tt, tt)
@@ -246,7 +252,8 @@ module _ (objects : ℕ) (c : Context) (calls : CallsKeepKinds c.call) where
         gives-out (args_of r) (turns c.bound (region_meaning c r) (map (read xs o) inputs))
         (turns-keep (args_of r) c.bound (region_meaning c r) (region-keeps r fits.0 (ValueKind ∷ args_of r) (are_kinds (result_kinds r) (ValueKind ∷ args_of r) first.0)) (map (read xs o) inputs) us)
 
-    regions-keep : (takes gives : List Kind) (rs : RegionTrees) → all_regions (λ s. same (args_of s) takes && are (result_kinds s) gives) rs ≡ true → every_in_regions (region_fits objects) rs ≡ true → AllKeep takes gives (meanings c rs)
+    regions-keep : (takes gives : List Kind) (rs : RegionTrees) → all_regions (λ s. same (args_of s) takes && are (result_kinds s) gives) rs ≡ true →
+        every_in_regions (region_fits objects) rs ≡ true → AllKeep takes gives (meanings c rs)
     regions-keep takes gives no_regions t nested = tt
     regions-keep takes gives (region_then r rs) t nested =
         let p = and_parts (same (args_of r) takes && are (result_kinds r) gives) (all_regions (λ s. same (args_of s) takes && are (result_kinds s) gives) rs) t in
@@ -295,7 +302,8 @@ found-well [] h f l e = absurd cc
 found-well (k ∷ ls) h zero l e = let same : k ≡ l = cc in subst (λ z. well_formed z ≡ true) same h.0
 found-well (k ∷ ls) h (suc f) l e = found-well ls h.1 f l e
 
-entered-keeps : (n : ℕ) (call : ℕ → Meaning) (global : ℕ → Value) → CallsKeepKinds call → (l : PlainLambda) → well_formed l ≡ true → (count : ℕ) → KeepsKinds (call_takes count) call_gives (entered n call global (Some l))
+entered-keeps : (n : ℕ) (call : ℕ → Meaning) (global : ℕ → Value) → CallsKeepKinds call → (l : PlainLambda) → well_formed l ≡ true → (count : ℕ) →
+    KeepsKinds (call_takes count) call_gives (entered n call global (Some l))
 entered-keeps n call global calls l well count xs kinds =
     memory-gives (AreOfKinds call_gives) (at_port xs l.params) _ (λ m e.
     let p = and_parts (body_fits l && numbers_fit l && every_region (region_fits (length l.objects)) l.body) (all_of (λ o. leaves_fit o.size 0 o.leaves) l.objects) well in
@@ -309,7 +317,8 @@ entered-keeps n call global calls l well count xs kinds =
     (body (changed_at l.params (with_memory (λ k. k ++ opened (shapes_of l.objects))) xs) (subst (λ ks. AreOfKinds ks (changed_at l.params (with_memory (λ k. k ++ opened (shapes_of l.objects))) xs)) args (changed-kinds (call_takes count) l.params (λ k. k ++ opened (shapes_of l.objects)) xs kinds)))
     (λ ys h. changed-kinds call_gives 1 (closed (length m) (length l.objects)) ys h))
 
-found-keeps : (n : ℕ) (call : ℕ → Meaning) (global : ℕ → Value) → CallsKeepKinds call → (found : Option PlainLambda) → ((l : PlainLambda) → found ≡ Some l → well_formed l ≡ true) → (count : ℕ) → KeepsKinds (call_takes count) call_gives (entered n call global found)
+found-keeps : (n : ℕ) (call : ℕ → Meaning) (global : ℕ → Value) → CallsKeepKinds call → (found : Option PlainLambda) → ((l : PlainLambda) → found ≡ Some l → well_formed l ≡ true) → (count : ℕ) →
+    KeepsKinds (call_takes count) call_gives (entered n call global found)
 found-keeps n call global calls None well count xs kinds = tt
 found-keeps n call global calls (Some l) well count xs kinds = entered-keeps n call global calls l (well l refl) count xs kinds
 
@@ -409,7 +418,8 @@ return-refine xs ys h g p =
     }
 
 -- what is known of the results on both sides, and a relation that follows
-refines-both : (direction : Direction) (P : List Datum → Type 0) (R S : List Datum → List Datum → Type 0) (a b : Answer (List Datum)) → Gives P a → Gives P b → ((xs ys : List Datum) → P xs → P ys → R xs ys → S xs ys) → Refines no_deeper direction R a b → Refines no_deeper direction S a b
+refines-both : (direction : Direction) (P : List Datum → Type 0) (R S : List Datum → List Datum → Type 0) (a b : Answer (List Datum)) → Gives P a → Gives P b →
+    ((xs ys : List Datum) → P xs → P ys → R xs ys → S xs ys) → Refines no_deeper direction R a b → Refines no_deeper direction S a b
 refines-both direction P R S (Undefined o) b g h more l = tt
 refines-both direction P R S (Returned x o) (Returned y p) g h more l = (more x y g h l.0, l.1)
 refines-both direction P R S (Exited o s) (Exited p t) g h more l = l

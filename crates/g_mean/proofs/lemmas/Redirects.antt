@@ -36,14 +36,16 @@ use Rattle.g_mean.proofs.lemmas.Splices.{joined-run, joined-known, joined-read, 
 
 -- ---- inputs that stay
 
-inputs-stay : (S : Origin → Bool) (known : List ℕ) (move : Origin → Origin) → ((a : Origin) → IsRead S known a → move a ≡ a) → (origins : List Origin) → AreRead S known origins → map move origins ≡ origins
+inputs-stay : (S : Origin → Bool) (known : List ℕ) (move : Origin → Origin) → ((a : Origin) → IsRead S known a → move a ≡ a) → (origins : List Origin) → AreRead S known origins →
+    map move origins ≡ origins
 inputs-stay S known move h [] r = refl
 inputs-stay S known move h (a ∷ origins) r = ap₂ (λ b bs. b ∷ bs) (h a r.0) (inputs-stay S known move h origins r.1)
 
 node-stays : (S : Origin → Bool) (known : List ℕ) (move : Origin → Origin) → ((a : Origin) → IsRead S known a → move a ≡ a) → (x : NodeTree) → NodeReads S known x → node_redirected move x ≡ x
 node-stays S known move h (node id op inputs rs) r = ap (λ is. node id op is rs) (inputs-stay S known move h inputs r.0)
 
-nodes-stay : (S : Origin → Bool) (known : List ℕ) (move : Origin → Origin) → ((a : Origin) → S a ≡ true → move a ≡ a) → (at : ℕ) → ((n p : ℕ) → n ≢ at → move (Out n p) ≡ Out n p) → (ns : NodeTrees) → (IsAmong at known → ⊥) → (IsAmong at (nodes_ids ns) → ⊥) → NodesRead S known ns → nodes_redirected move ns ≡ ns
+nodes-stay : (S : Origin → Bool) (known : List ℕ) (move : Origin → Origin) → ((a : Origin) → S a ≡ true → move a ≡ a) → (at : ℕ) → ((n p : ℕ) → n ≢ at → move (Out n p) ≡ Out n p) →
+    (ns : NodeTrees) → (IsAmong at known → ⊥) → (IsAmong at (nodes_ids ns) → ⊥) → NodesRead S known ns → nodes_redirected move ns ≡ ns
 nodes-stay S known move h at others no_nodes out apart r = refl
 nodes-stay S known move h at others (node_then x ns) out apart r =
     ap₂ node_then (node-stays S known move stays x r.0)
@@ -158,7 +160,8 @@ module _ (direction : Direction) (c d : Context) (context : ContextRefines no_de
 
   -- ---- the whole region
 
-  first-run : (xs : List Datum) (a : Answer Outputs) → nodes_run c (joined_nodes before (node_then x no_nodes)) xs no_outputs ≡ a → Gives (λ o. HaveRun c xs o (joined_nodes before (node_then x no_nodes))) a
+  first-run : (xs : List Datum) (a : Answer Outputs) → nodes_run c (joined_nodes before (node_then x no_nodes)) xs no_outputs ≡ a →
+      Gives (λ o. HaveRun c xs o (joined_nodes before (node_then x no_nodes))) a
   first-run xs (Returned o did) e =
       holds-from (length args) c (joined_nodes before (node_then x no_nodes)) [] xs no_outputs o did
       (joined-reads (is_argument (length args)) [] before (node_then x no_nodes) whole-read.0 (whole-read.1.0, tt)) (λ n h k. h) first-distinct e
@@ -238,7 +241,8 @@ module _ (direction : Direction) (c d : Context) (context : ContextRefines no_de
   before-run xs (Exited o s) e = tt
   before-run xs (Undefined o) e = tt
 
-  same-refines : (ns : NodeTrees) (xs ys : List Datum) → Paired IsLessDefinedDatum xs ys → (o q : Outputs) → OutputsRefine IsLessDefinedDatum o q → Refines no_deeper direction (OutputsRefine IsLessDefinedDatum) (nodes_run c ns xs o) (nodes_run d ns ys q)
+  same-refines : (ns : NodeTrees) (xs ys : List Datum) → Paired IsLessDefinedDatum xs ys → (o q : Outputs) → OutputsRefine IsLessDefinedDatum o q →
+      Refines no_deeper direction (OutputsRefine IsLessDefinedDatum) (nodes_run c ns xs o) (nodes_run d ns ys q)
   same-refines ns xs ys near o q like =
       nodes-refines no_deeper no_deeper-compares direction IsLessDefinedDatum less-kept Never Always (never-refines no_deeper no_deeper-compares direction IsLessDefinedDatum less-kept) c d context tt ns ns (nodes-itself Never ns) xs ys near o q like
 

@@ -120,7 +120,8 @@ pub record RegionParts (objects : ℕ) (args : List Kind) (nodes : NodeTrees) : 
   pub memory : gives Memory nodes ≡ false
   pub io : gives Io nodes ≡ false
 
-region-parts : (objects : ℕ) (args : List Kind) (nodes : NodeTrees) (results : List Origin) → region_fits objects (region args nodes results) ≡ true → some_of (is_of Memory) (result_kinds (region args nodes results)) ≡ false → some_of (is_of Io) (result_kinds (region args nodes results)) ≡ false → RegionParts objects args nodes
+region-parts : (objects : ℕ) (args : List Kind) (nodes : NodeTrees) (results : List Origin) → region_fits objects (region args nodes results) ≡ true →
+    some_of (is_of Memory) (result_kinds (region args nodes results)) ≡ false → some_of (is_of Io) (result_kinds (region args nodes results)) ≡ false → RegionParts objects args nodes
 region-parts objects args nodes results t none_memory none_io =
     let r = region args nodes results in
     let p = and_parts (nodes_fit objects r && results_are_last r && returns_state Memory r && returns_state Io r) (region_has_one_state_each r) t in
@@ -136,7 +137,8 @@ region-parts objects args nodes results t none_memory none_io =
 -- ---- nodes
 
 mutual
-  node-silent : (objects : ℕ) (x : NodeTree) → NodeParts x → every_in_node (region_fits objects) x ≡ true → GivesNoState x → (c : Context) (xs : List Datum) (o : Outputs) → IsSilent (node_run c x xs o)
+  node-silent : (objects : ℕ) (x : NodeTree) → NodeParts x → every_in_node (region_fits objects) x ≡ true → GivesNoState x → (c : Context) (xs : List Datum) (o : Outputs) →
+      IsSilent (node_run c x xs o)
   node-silent objects (node id (Const w) inputs rs) p nested none c xs o = refl
   node-silent objects (node id Undef inputs rs) p nested none c xs o = refl
   node-silent objects (node id (Local k) inputs rs) p nested none c xs o = refl
@@ -164,7 +166,8 @@ mutual
   node-silent objects (node id Gamma inputs (region_then r rs)) p nested none c xs o =
       branched-silent (meanings c (region_then r rs)) (regions-silent objects (result_kinds r) (args_of r) (region_then r rs) p.regions nested none.memory none.io c) (map (read xs o) inputs)
 
-  regions-silent : (objects : ℕ) (ks : List (Option Kind)) (first : List Kind) (rs : RegionTrees) → all_regions (λ r. same (args_of r) first && are (result_kinds r) (kinds_of ks)) rs ≡ true → every_in_regions (region_fits objects) rs ≡ true → some_of (is_of Memory) ks ≡ false → some_of (is_of Io) ks ≡ false → (c : Context) → AllSilent (meanings c rs)
+  regions-silent : (objects : ℕ) (ks : List (Option Kind)) (first : List Kind) (rs : RegionTrees) → all_regions (λ r. same (args_of r) first && are (result_kinds r) (kinds_of ks)) rs ≡ true →
+      every_in_regions (region_fits objects) rs ≡ true → some_of (is_of Memory) ks ≡ false → some_of (is_of Io) ks ≡ false → (c : Context) → AllSilent (meanings c rs)
   regions-silent objects ks first no_regions t nested none_memory none_io c = tt
   regions-silent objects ks first (region_then r rs) t nested none_memory none_io c =
       let p = and_parts (same (args_of r) first && are (result_kinds r) (kinds_of ks)) (all_regions (λ s. same (args_of s) first && are (result_kinds s) (kinds_of ks)) rs) t in
@@ -172,13 +175,15 @@ mutual
       let u = and_parts (every_region (region_fits objects) r) (every_in_regions (region_fits objects) rs) nested in
       (region-silent objects r u.0 (same-none Memory ks (result_kinds r) q.1 none_memory) (same-none Io ks (result_kinds r) q.1 none_io) c, regions-silent objects ks first rs p.1 u.1 none_memory none_io c)
 
-  region-silent : (objects : ℕ) (r : RegionTree) → every_region (region_fits objects) r ≡ true → some_of (is_of Memory) (result_kinds r) ≡ false → some_of (is_of Io) (result_kinds r) ≡ false → (c : Context) (xs : List Datum) → IsSilent (region_meaning c r xs)
+  region-silent : (objects : ℕ) (r : RegionTree) → every_region (region_fits objects) r ≡ true → some_of (is_of Memory) (result_kinds r) ≡ false → some_of (is_of Io) (result_kinds r) ≡ false →
+      (c : Context) (xs : List Datum) → IsSilent (region_meaning c r xs)
   region-silent objects (region args nodes results) t none_memory none_io c xs =
       let p = and_parts (region_fits objects (region args nodes results)) (every_in_nodes (region_fits objects) nodes) t in
       let q = region-parts objects args nodes results p.0 none_memory none_io in
       then-silent (nodes_run c nodes xs no_outputs) (λ o. Returned (map (read xs o) results) []) (nodes-silent objects args [] nodes q.fits p.1 q.memory q.io c xs no_outputs) (λ o. refl)
 
-  nodes-silent : (objects : ℕ) (args : List Kind) (earlier : List NodeTree) (ns : NodeTrees) → each_node (node_fits objects args) earlier ns ≡ true → every_in_nodes (region_fits objects) ns ≡ true → gives Memory ns ≡ false → gives Io ns ≡ false → (c : Context) (xs : List Datum) (o : Outputs) → IsSilent (nodes_run c ns xs o)
+  nodes-silent : (objects : ℕ) (args : List Kind) (earlier : List NodeTree) (ns : NodeTrees) → each_node (node_fits objects args) earlier ns ≡ true →
+      every_in_nodes (region_fits objects) ns ≡ true → gives Memory ns ≡ false → gives Io ns ≡ false → (c : Context) (xs : List Datum) (o : Outputs) → IsSilent (nodes_run c ns xs o)
   nodes-silent objects args earlier no_nodes t nested none_memory none_io c xs o = refl
   nodes-silent objects args earlier (node_then x ns) t nested none_memory none_io c xs o =
       let p = and_parts (node_fits objects args (nodes_of earlier) x) (each_node (node_fits objects args) (earlier ++ x ∷ []) ns) t in

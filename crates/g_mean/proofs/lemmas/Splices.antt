@@ -60,7 +60,8 @@ pub joined-reads : (S : Origin → Bool) (known : List ℕ) (ns ms : NodeTrees) 
 joined-reads S known no_nodes ms h k = k
 joined-reads S known (node_then x ns) ms h k = (h.0, joined-reads S (id_of x ∷ known) ns ms h.1 k)
 
-spliced-joined : (before : NodeTrees) (x : NodeTree) (after part : NodeTrees) (outs : List Origin) → (IsAmong (id_of x) (nodes_ids before) → ⊥) → nodes_spliced (id_of x) part outs (joined_nodes before (node_then x after)) ≡ joined_nodes before (joined_nodes part (nodes_redirected (outputs_to_results (id_of x) outs) after))
+spliced-joined : (before : NodeTrees) (x : NodeTree) (after part : NodeTrees) (outs : List Origin) → (IsAmong (id_of x) (nodes_ids before) → ⊥) →
+    nodes_spliced (id_of x) part outs (joined_nodes before (node_then x after)) ≡ joined_nodes before (joined_nodes part (nodes_redirected (outputs_to_results (id_of x) outs) after))
 spliced-joined no_nodes x after part outs h = rw (eq-eqb (id_of x) (id_of x) refl)
 spliced-joined (node_then y before) x after part outs h =
     let other : (id_of y == id_of x) ≡ false = test-other (id_of y) (id_of x) (λ e. h (among-left (id_of x) (node_ids y) (nodes_ids before) (subst (λ z. IsAmong z (node_ids y)) e (id-among y)))) in
@@ -139,14 +140,16 @@ placed-is inputs k h =
 abbrev Through : {A B C : Type 0} → (A → B → Type 0) → (B → C → Type 0) → A → C → Type 0
 Through {A} {B} R T x z = (y : B) × R x y × T y z
 
-back-same : {A B C : Type 0} (direction : Direction) (R : A → B → Type 0) (T : B → C → Type 0) (a : Answer A) (y : B) (z : C) (p : List Event) → T y z → Refines no_deeper direction R a (Returned y p) → Refines no_deeper direction (Through R T) a (Returned z p)
+back-same : {A B C : Type 0} (direction : Direction) (R : A → B → Type 0) (T : B → C → Type 0) (a : Answer A) (y : B) (z : C) (p : List Event) → T y z →
+    Refines no_deeper direction R a (Returned y p) → Refines no_deeper direction (Through R T) a (Returned z p)
 back-same direction R T (Undefined o) y z p k h = tt
 back-same direction R T (Returned x o) y z p k h = ((y, h.0, k), h.1)
 back-same Forward R T (Cut o) y z p k h = h
 back-same Backward R T (Cut o) y z p k h = absurd h
 back-same direction R T (Exited o s) y z p k h = absurd h
 
-cut-same : {A B C : Type 0} (direction : Direction) (R : A → B → Type 0) (S : A → C → Type 0) (a : Answer A) (p : List Event) → Refines no_deeper direction R a (Cut p) → Refines no_deeper direction S a (Cut p)
+cut-same : {A B C : Type 0} (direction : Direction) (R : A → B → Type 0) (S : A → C → Type 0) (a : Answer A) (p : List Event) → Refines no_deeper direction R a (Cut p) →
+    Refines no_deeper direction S a (Cut p)
 cut-same direction R S (Undefined o) p h = tt
 cut-same Forward R S (Returned x o) p h = absurd h
 cut-same Backward R S (Returned x o) p h = h
@@ -155,21 +158,24 @@ cut-same Backward R S (Cut o) p h = h
 cut-same Forward R S (Exited o s) p h = absurd h
 cut-same Backward R S (Exited o s) p h = h
 
-exited-same : {A B C : Type 0} (direction : Direction) (R : A → B → Type 0) (S : A → C → Type 0) (a : Answer A) (p : List Event) (t : ℕ) → Refines no_deeper direction R a (Exited p t) → Refines no_deeper direction S a (Exited p t)
+exited-same : {A B C : Type 0} (direction : Direction) (R : A → B → Type 0) (S : A → C → Type 0) (a : Answer A) (p : List Event) (t : ℕ) → Refines no_deeper direction R a (Exited p t) →
+    Refines no_deeper direction S a (Exited p t)
 exited-same direction R S (Undefined o) p t h = tt
 exited-same direction R S (Returned x o) p t h = absurd h
 exited-same Forward R S (Cut o) p t h = h
 exited-same Backward R S (Cut o) p t h = absurd h
 exited-same direction R S (Exited o s) p t h = h
 
-undefined-same : {A B C : Type 0} (direction : Direction) (R : A → B → Type 0) (S : A → C → Type 0) (a : Answer A) (p q : List Event) → Refines no_deeper direction R a (Undefined p) → Refines no_deeper direction S a (Undefined q)
+undefined-same : {A B C : Type 0} (direction : Direction) (R : A → B → Type 0) (S : A → C → Type 0) (a : Answer A) (p q : List Event) → Refines no_deeper direction R a (Undefined p) →
+    Refines no_deeper direction S a (Undefined q)
 undefined-same direction R S (Undefined o) p q h = tt
 undefined-same direction R S (Returned x o) p q h = absurd h
 undefined-same Forward R S (Cut o) p q h = tt
 undefined-same Backward R S (Cut o) p q h = absurd h
 undefined-same direction R S (Exited o s) p q h = absurd h
 
-refines-same : {A B C : Type 0} (direction : Direction) (R : A → B → Type 0) (T : B → C → Type 0) (a : Answer A) (b : Answer B) (e : Answer C) → Refines no_deeper direction R a b → Same T b e → Refines no_deeper direction (Through R T) a e
+refines-same : {A B C : Type 0} (direction : Direction) (R : A → B → Type 0) (T : B → C → Type 0) (a : Answer A) (b : Answer B) (e : Answer C) → Refines no_deeper direction R a b → Same T b e →
+    Refines no_deeper direction (Through R T) a e
 refines-same direction R T a (Returned y p) (Returned z q) h k = subst (λ w. Refines no_deeper direction (Through R T) a (Returned z w)) k.1 (back-same direction R T a y z p k.0 h)
 refines-same direction R T a (Cut p) (Cut q) h k = subst (λ w. Refines no_deeper direction (Through R T) a (Cut w)) k (cut-same direction R (Through R T) a p h)
 refines-same direction R T a (Exited p t) (Exited q u) h k =
@@ -187,7 +193,8 @@ less-nothing x y h e z s = (inr (by h.0), h.1, s)
 
 -- ---- what other nodes read
 
-read-wider : (S S' : Origin → Bool) (known extra : List ℕ) → ((a : Origin) → S a ≡ true → S' a ≡ true) → ((n p : ℕ) → IsAmong n extra → S' (Out n p) ≡ true) → (a : Origin) → IsRead S (known ++ extra) a → IsRead S' known a
+read-wider : (S S' : Origin → Bool) (known extra : List ℕ) → ((a : Origin) → S a ≡ true → S' a ≡ true) → ((n p : ℕ) → IsAmong n extra → S' (Out n p) ≡ true) → (a : Origin) →
+    IsRead S (known ++ extra) a → IsRead S' known a
 read-wider S S' known extra h k a (inl t) = inl (h a t)
 read-wider S S' known extra h k (Arg j) (inr m) = absurd m
 read-wider S S' known extra h k (Out n p) (inr m) = by (among-split n known extra m)
@@ -196,12 +203,14 @@ read-wider S S' known extra h k (Out n p) (inr m) = by (among-split n known extr
     by (inl j) = inr j
     by (inr j) = inl (k n p j)
 
-pub all-wider : (S S' : Origin → Bool) (known extra : List ℕ) → ((a : Origin) → S a ≡ true → S' a ≡ true) → ((n p : ℕ) → IsAmong n extra → S' (Out n p) ≡ true) → (origins : List Origin) → AreRead S (known ++ extra) origins → AreRead S' known origins
+pub all-wider : (S S' : Origin → Bool) (known extra : List ℕ) → ((a : Origin) → S a ≡ true → S' a ≡ true) → ((n p : ℕ) → IsAmong n extra → S' (Out n p) ≡ true) → (origins : List Origin) →
+    AreRead S (known ++ extra) origins → AreRead S' known origins
 all-wider S S' known extra h k [] r = tt
 all-wider S S' known extra h k (a ∷ origins) r =
     (read-wider S S' known extra h k a r.0, all-wider S S' known extra h k origins r.1)
 
-pub nodes-wider : (S S' : Origin → Bool) (known extra : List ℕ) → ((a : Origin) → S a ≡ true → S' a ≡ true) → ((n p : ℕ) → IsAmong n extra → S' (Out n p) ≡ true) → (ns : NodeTrees) → NodesRead S (known ++ extra) ns → NodesRead S' known ns
+pub nodes-wider : (S S' : Origin → Bool) (known extra : List ℕ) → ((a : Origin) → S a ≡ true → S' a ≡ true) → ((n p : ℕ) → IsAmong n extra → S' (Out n p) ≡ true) → (ns : NodeTrees) →
+    NodesRead S (known ++ extra) ns → NodesRead S' known ns
 nodes-wider S S' known extra h k no_nodes r = tt
 nodes-wider S S' known extra h k (node_then (node id op inputs rs) ns) r =
     ((all-wider S S' known extra h k inputs r.0.0, r.0.1), nodes-wider S S' (id ∷ known) extra h k ns r.1)
@@ -290,7 +299,8 @@ module _ (direction : Direction) (c d : Context) (context : ContextRefines no_de
   part-read ys q (Out n p) (inl t) = absurd cc
   part-read ys q (Out n p) (inr h) = absurd h
 
-  part-placed : (ys : List Datum) (q : Outputs) → Same (ArgsToInputs ys q (nodes_ids part) outs) (region_meaning d (region own part gives) (map (read ys q) inputs)) (nodes_run d (nodes_redirected (args_to_inputs inputs) part) ys q)
+  part-placed : (ys : List Datum) (q : Outputs) →
+      Same (ArgsToInputs ys q (nodes_ids part) outs) (region_meaning d (region own part gives) (map (read ys q) inputs)) (nodes_run d (nodes_redirected (args_to_inputs inputs) part) ys q)
   part-placed ys q =
       let vs = map (read ys q) inputs in
       let origin_replaced = redirected-moved (args_to_inputs inputs) part in
@@ -435,7 +445,8 @@ module _ (direction : Direction) (c d : Context) (context : ContextRefines no_de
     abbrev after_it : NodeTrees
     after_it = nodes_redirected move after
 
-    rest-refines : (xs ys : List Datum) → Paired IsLessDefinedDatum xs ys → (o q : Outputs) → OutputsRefine IsLessDefinedDatum o q → HaveRun c xs o before → Refines no_deeper direction (ReadLessDefined outside (known_after [] after) move xs ys) (nodes_run c (node_then x after) xs o) (nodes_run d (joined_nodes part_in_place after_it) ys q)
+    rest-refines : (xs ys : List Datum) → Paired IsLessDefinedDatum xs ys → (o q : Outputs) → OutputsRefine IsLessDefinedDatum o q → HaveRun c xs o before →
+        Refines no_deeper direction (ReadLessDefined outside (known_after [] after) move xs ys) (nodes_run c (node_then x after) xs o) (nodes_run d (joined_nodes part_in_place after_it) ys q)
     rest-refines xs ys near o q like have =
         subst (λ b. Refines no_deeper direction (ReadLessDefined outside (known_after [] after) move xs ys) (nodes_run c (node_then x after) xs o) b) (sym (joined-run d part_in_place after_it ys q))
         (refines-then no_deeper no_deeper-compares.goes (Through (Paired IsLessDefinedDatum) (ArgsToInputs ys q (nodes_ids part) outs)) (ReadLessDefined outside (known_after [] after) move xs ys) direction
