@@ -1,4 +1,3 @@
 pub mod Views
-pub mod Frames
+pub mod Contexts
 pub mod Runs
-pub mod Programs

@@ -1,12 +1,14 @@
 ghost use Rattle.std.specs.Prelude.{◌≡◌, ◌+◌, ◌<◌, ◌++◌, map, length, None, Some, IfOk, option_map, if◌then◌else◌};
 ghost use Rattle.val_core.specs.Memory.{block_changed, store, written, zeroed, cell_written, closed, new_block};
-ghost use Rattle.g_mean.specs.Calls.{word_of, opened};
+ghost use Rattle.val_core.specs.Objects.{word_of, opened};
+ghost use Rattle.g_mean.specs.Calls.{shapes_of};
 ghost use Rattle.g_mean.specs.Meaning.{cleared_at};
 ghost use Rattle.g_interp.specs.Views.{cell_of, cells_of, block_of, blocks_of, exited_if, among};
 
 use crate::data::{Block, Cell};
 use crate::memory::{copy_block, copy_memory, takes_store};
-use g_graph::{NoMemory, Object};
+use g_graph::Object;
+use no_memory::NoMemory;
 use std::alloc::Global;
 use val_core::{BlockName, Value, kept};
 
@@ -89,7 +91,7 @@ fn new_block(alloc: Global, object: &Object) -> Result<Block, NoMemory>
 
 /// The memory with the blocks of the objects of a call after its own.
 pub fn open(alloc: Global, objects: &[Object], memory: &[Block]) -> Result<Vec<Block>, NoMemory>
-    ensures { IfOk result (λ new. blocks_of new.items ≡ blocks_of memory.now ++ opened objects.now) }
+    ensures { IfOk result (λ new. blocks_of new.items ≡ blocks_of memory.now ++ opened (shapes_of objects.now)) }
 {
     let mut new = copy_memory(alloc, memory)?;
     for object in objects {

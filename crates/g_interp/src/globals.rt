@@ -1,18 +1,19 @@
 ghost use Rattle.std.specs.Prelude.{◌≡◌, ◌≤◌, ◌^◌, map, take, drop, IfOk, MatchOption};
-ghost use Rattle.g_mean.specs.Calls.{address_in, delta_sizes, little_endian, link_at, leaf_value, first_block};
-ghost use Rattle.g_interp.specs.Programs.{delta_of, deltas_of};
+ghost use Rattle.val_core.specs.Objects.{address_in};
+ghost use Rattle.g_mean.specs.Calls.{delta_sizes, little_endian, link_at, leaf_value, first_block};
 ghost use Rattle.g_interp.specs.Views.{block_of, blocks_of};
 
 use crate::changes::word_of;
 use crate::data::{Block, Cell};
 use crate::ops::{address, global_size};
-use g_graph::{Delta, Link, NoMemory};
+use g_graph::{Delta, Link};
+use no_memory::NoMemory;
 use std::alloc::Global;
 use val_core::{Leaf, Value};
 
 /// The sizes of the globals in bytes.
 pub fn global_sizes(alloc: Global, deltas: &[Delta]) -> Result<Vec<u64>, NoMemory>
-    ensures { IfOk result (λ sizes. sizes.items ≡ delta_sizes (deltas_of deltas.now)) }
+    ensures { IfOk result (λ sizes. sizes.items ≡ delta_sizes deltas.now) }
 {
     let mut sizes = Vec::new(alloc);
     for delta in deltas {
@@ -55,7 +56,7 @@ fn link_at(offset: u32, links: &[Link]) -> Option<u32>
 }
 
 fn leaf_value(globals: &[u64], delta: &Delta, leaf: Leaf) -> Result<Value, NoMemory>
-    ensures { IfOk result (λ value. value ≡ leaf_value (address_in 0 globals.now) delta.now.bytes.items leaf (link_at leaf.offset delta.now.links.items)) }
+    ensures { IfOk result (λ value. value ≡ leaf_value (address_in 0 globals.now) delta.now.bytes leaf (link_at leaf.offset delta.now.links)) }
 {
     if let Some(k) = link_at(leaf.offset, &delta.links) {
         return address(0, k, global_size(globals, k));
@@ -67,7 +68,7 @@ fn leaf_value(globals: &[u64], delta: &Delta, leaf: Leaf) -> Result<Value, NoMem
 }
 
 fn first_block(alloc: Global, globals: &[u64], delta: &Delta) -> Result<Block, NoMemory>
-    ensures { IfOk result (λ block. block_of block ≡ first_block (address_in 0 globals.now) (delta_of delta.now)) }
+    ensures { IfOk result (λ block. block_of block ≡ first_block (address_in 0 globals.now) delta.now) }
 {
     let mut cells = Vec::new(alloc);
     for leaf in &delta.leaves {
@@ -92,7 +93,7 @@ pub fn first_memory(
     globals: &[u64],
     deltas: &[Delta],
 ) -> Result<Vec<Block>, NoMemory>
-    ensures { IfOk result (λ memory. blocks_of memory.items ≡ map (first_block (address_in 0 globals.now)) (deltas_of deltas.now)) }
+    ensures { IfOk result (λ memory. blocks_of memory.items ≡ map (first_block (address_in 0 globals.now)) deltas.now) }
 {
     let mut memory = Vec::new(alloc);
     for delta in deltas {

@@ -5,8 +5,8 @@
 
 mod answers;
 mod changes;
+mod context;
 mod data;
-mod frame;
 mod globals;
 mod memory;
 mod ops;

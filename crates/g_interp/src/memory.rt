@@ -4,7 +4,8 @@ ghost use Rattle.val_core.specs.Memory.{is_at, value_at, block_named, block_chan
 ghost use Rattle.g_interp.specs.Views.{cell_of, cells_of, block_of, blocks_of};
 
 use crate::data::{Block, Cell};
-use g_graph::{NoMemory, Object};
+use g_graph::Object;
+use no_memory::NoMemory;
 use std::alloc::Global;
 use val_core::{BlockName, Value, kept};
 

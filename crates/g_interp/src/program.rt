@@ -1,16 +1,17 @@
 ghost use Rattle.std.specs.Prelude.{◌≡◌, IfOk};
 ghost use Rattle.val_core.specs.Answers.{then_on};
-ghost use Rattle.g_mean.specs.Calls.{main_name, same_bytes, place_of, finished, program_at};
-ghost use Rattle.g_interp.specs.Programs.{omega_of};
+ghost use Rattle.g_graph.specs.Program.{main_name, same_bytes, name_index};
+ghost use Rattle.g_mean.specs.Calls.{finished, program_at};
 ghost use Rattle.g_interp.specs.Views.{answer_of};
 
-use crate::answers::two;
+use crate::answers::{two, undefined};
 use crate::data::{Answer, Datum};
 use crate::globals::{first_memory, global_sizes};
 use crate::ports::value_at;
 use crate::run::run_lambda;
 use c_lex::Name;
-use g_graph::{NoMemory, Omega};
+use g_graph::Omega;
+use no_memory::NoMemory;
 use std::alloc::Global;
 use val_core::Value;
 
@@ -24,9 +25,9 @@ fn same_bytes(xs: &[u8], ys: &[u8]) -> bool
     }
 }
 
-// The place of the name `main`, if it is there.
-fn main_place(names: &[Name]) -> Option<usize>
-    ensures { result ≡ place_of main_name names.now }
+// The index of the name `main`, if it is there.
+fn main_index(names: &[Name]) -> Option<usize>
+    ensures { result ≡ name_index main_name names.now }
 {
     for (i, name) in names.iter().enumerate() {
         if same_bytes(name.as_slice(), b"main") {
@@ -37,7 +38,7 @@ fn main_place(names: &[Name]) -> Option<usize>
 }
 
 // The program ends with what `main` gives back.
-#[tactic(auto, using(crate::proofs::Events::before_exited))]
+#[tactic(auto, using(crate::proofs::Events::before_exited, crate::proofs::Events::before_undefined))]
 fn finish(answer: Answer) -> Answer
     ensures { answer_of result ≡ then_on (answer_of answer) finished }
 {
@@ -49,7 +50,7 @@ fn finish(answer: Answer) -> Answer
             events,
             status: (w % 256) as u8,
         },
-        _ => Answer::Undefined,
+        _ => Answer::Undefined { events },
     }
 }
 
@@ -62,12 +63,12 @@ pub fn run_program(
     omega: &Omega,
     input: &[u8],
 ) -> Result<Answer, NoMemory>
-    ensures { IfOk result (λ answer. answer_of answer ≡ program_at bound (omega_of omega.now) omega.now.lambdas.items input.now) }
+    ensures { IfOk result (λ answer. answer_of answer ≡ program_at bound omega.now omega.now.lambdas input.now) }
 {
-    let Some(place) = main_place(&omega.names) else {
-        return Ok(Answer::Undefined);
+    let Some(index) = main_index(&omega.names) else {
+        return Ok(undefined(alloc));
     };
-    let Ok(function) = u32::try_from(place) else {
+    let Ok(function) = u32::try_from(index) else {
         return Err(NoMemory);
     };
     let globals = global_sizes(alloc, &omega.deltas)?;

@@ -1,17 +1,19 @@
 ghost use Rattle.std.specs.Prelude.{◌≡◌, Some, IfOk};
 ghost use Rattle.g_graph.specs.Plain.{regions_of};
 ghost use Rattle.g_mean.specs.Meaning.{branched, looped, turns, node_run, region_meaning, meanings};
-ghost use Rattle.g_mean.specs.Calls.{lambda_at, entered, applied, address_in};
+ghost use Rattle.val_core.specs.Objects.{address_in};
+ghost use Rattle.g_mean.specs.Calls.{lambda_at, entered, applied};
 ghost use Rattle.g_interp.specs.Views.{data_of, answer_of, outputs_of};
-ghost use Rattle.g_interp.specs.Frames.{context_of};
+ghost use Rattle.g_interp.specs.Contexts.{context_of};
 
-use crate::answers::active;
+use crate::answers::{active, undefined};
+use crate::context::Context;
 use crate::data::{Answer, Datum, Output};
-use crate::frame::Context;
 use crate::ops::done;
 use crate::ports::{block_count, copy_data, open_at, read_all};
 use crate::steps::{Progress, Turn, after_node, after_turn, chosen, leave, take_number};
-use g_graph::{Lambda, NoMemory, Node, Op, Region};
+use g_graph::{Lambda, Node, Op, Region};
+use no_memory::NoMemory;
 use std::alloc::Global;
 
 // How many calls and nested regions may be active: a run that wants more is refused, and does not run out of stack.
@@ -114,11 +116,11 @@ fn run_gamma(
     ensures { IfOk result (λ answer. answer_of answer ≡ branched (meanings (context_of context.entry) (regions_of regions.now)) (data_of inputs.now)) }
 {
     let Some(found) = take_number(alloc, inputs)? else {
-        return Ok(Answer::Undefined);
+        return Ok(undefined(alloc));
     };
     match chosen(found.number, regions) {
         Some(region) => run_region(alloc, context, depth, region, &found.rest),
-        None => Ok(Answer::Undefined),
+        None => Ok(undefined(alloc)),
     }
 }
 
@@ -134,7 +136,7 @@ fn run_theta(
 {
     match regions.first() {
         Some(body) => run_turns(alloc, context, depth, body, inputs),
-        None => Ok(Answer::Undefined),
+        None => Ok(undefined(alloc)),
     }
 }
 
@@ -189,7 +191,7 @@ fn call(
             let answer = enter(alloc, bound - 1, lambdas, globals, depth, lambda, inputs)?;
             active(alloc, function, answer)
         }
-        None => Ok(Answer::Undefined),
+        None => active(alloc, function, undefined(alloc)),
     }
 }
 
@@ -206,11 +208,11 @@ fn enter(
 ) -> Result<Answer, NoMemory>
     ensures { IfOk result (λ answer. answer_of answer ≡ entered bound (applied lambdas.now (address_in 0 globals.now) bound) (address_in 0 globals.now) (Some lambda.now) (data_of inputs.now)) }
 {
-    let place = lambda.params as usize;
-    let Some(first) = block_count(inputs, place) else {
-        return Ok(Answer::Undefined);
+    let port = lambda.params as usize;
+    let Some(first) = block_count(inputs, port) else {
+        return Ok(undefined(alloc));
     };
-    let args = open_at(alloc, place, &lambda.objects, inputs)?;
+    let args = open_at(alloc, port, &lambda.objects, inputs)?;
     let context = Context {
         bound,
         lambdas,

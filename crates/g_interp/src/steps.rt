@@ -9,7 +9,8 @@ ghost use Rattle.g_interp.specs.Runs.{chosen_tree, numbered, turned, stepped, le
 use crate::answers::{before, joined};
 use crate::data::{Answer, Datum, Event, Output};
 use crate::ports::{close_at, copy_data};
-use g_graph::{NoMemory, Region};
+use g_graph::Region;
+use no_memory::NoMemory;
 use std::alloc::Global;
 use val_core::Value;
 
@@ -70,10 +71,10 @@ pub fn after_turn(alloc: Global, events: Vec<Event>, answer: Answer) -> Result<T
     else {
         return Ok(Turn::Last(before(events, answer)?));
     };
-    let Some(found) = take_number(alloc, &results)? else {
-        return Ok(Turn::Last(Answer::Undefined));
-    };
     let events = joined(events, did)?;
+    let Some(found) = take_number(alloc, &results)? else {
+        return Ok(Turn::Last(Answer::Undefined { events }));
+    };
     if found.number == 0 {
         Ok(Turn::Last(Answer::Returned {
             results: found.rest,

@@ -1,7 +1,8 @@
 use Rattle.std.proofs.Common.{◌≡◌, [], ◌∷◌, map, Some, ap, ap₂, ◌∙◌}
-use Rattle.g_mean.specs.Calls.{address_in, delta_sizes, lambda_at, first_block, main_name, place_of}
+use Rattle.val_core.specs.Objects.{address_in}
+use Rattle.g_graph.specs.Program.{main_name, name_index}
+use Rattle.g_mean.specs.Calls.{delta_sizes, lambda_at, first_block}
 use Rattle.g_mean.specs.Data.{memory, input}
-use Rattle.g_interp.specs.Programs.{deltas_of, omega_of}
 use Rattle.g_interp.specs.Views.{blocks_of, data_of}
 use Rattle.g_interp.proofs.Programs.{started_is}
 use Rattle.g_interp.proofs.program.run_program.Goals as goal
@@ -9,8 +10,8 @@ use Rattle.g_interp.proofs.program.run_program.Goals as goal
 pub returns : goal.returns
 returns c =
     let o = c.args.omega.now in
-    let named : Some c.in-Ok.function ≡ place_of main_name o.names.items =
-    ap Some c.in-Ok.ensures.1 ∙ c.in-Some.ensures ∙ ap (place_of main_name) c.deref.ensures.value in
+    let named : Some c.in-Ok.function ≡ name_index main_name o.names.items =
+    ap Some c.in-Ok.ensures.1 ∙ c.in-Some.ensures ∙ ap (name_index main_name) c.deref.ensures.value in
     let sized = c.in_ok-globals.ensures ∙ ap (λ ds. delta_sizes (deltas_of ds)) c.deref-2.ensures.value in
     let first = c.in_ok-memory.ensures ∙ ap₂ (λ g ds. map (first_block (address_in 0 g)) (deltas_of ds)) c.deref-3.ensures.value c.deref-4.ensures.value in
     let given =

@@ -3,7 +3,7 @@ use Rattle.val_core.specs.Answers.{Returned, before, then_on}
 use Rattle.g_graph.specs.Plain.{nodes_of}
 use Rattle.g_mean.specs.Meaning.{read, turns, region_meaning, nodes_run}
 use Rattle.g_interp.specs.Views.{data_of, events_of, outputs_of}
-use Rattle.g_interp.specs.Frames.{context_of}
+use Rattle.g_interp.specs.Contexts.{context_of}
 use Rattle.g_interp.proofs.run.+run.Given as goal
 
 abbrev pub decreases-call : goal.decreases-call
