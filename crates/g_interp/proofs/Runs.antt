@@ -10,13 +10,13 @@ use Rattle.val_core.specs.Objects.{address_in, opened}
 use Rattle.val_core.specs.Events.{Event}
 use Rattle.val_core.specs.Answers.{Answer, Returned, Undefined, before, then_on, active}
 use Rattle.val_core.proofs.lemmas.Answers.{then_associates}
-use Rattle.no_memory.specs.declared.NoMemory.{NoMemory}
 use Rattle.g_graph.specs.declared.op.Origin.{Origin}
 use Rattle.g_graph.specs.Plain.{RegionTree, NodeTree, NodeTrees, node_then, nodes_of, regions_of, id_of, PlainObject, PlainLambda}
 use Rattle.g_mean.specs.Calls.{shapes_of, entered, applied, sizes_of}
 use Rattle.g_mean.specs.Data.{Datum, val, memory, input, at_port, on_memory, with_memory, changed_at}
 use Rattle.g_mean.specs.Meaning.{Context, Meaning, Outputs, extended, read, chosen, branched, looped, again, turns, region_meaning, node_run, nodes_run, meanings}
 use Rattle.g_interp.specs.declared.data.Answer as run
+use Rattle.g_interp.specs.declared.error.RunError.{RunError}
 use Rattle.g_interp.specs.declared.data.Datum as datum
 use Rattle.g_interp.specs.declared.data.Output.{Output}
 use Rattle.g_interp.specs.declared.steps.Numbered.{Numbered}
@@ -26,7 +26,7 @@ use Rattle.g_interp.specs.Runs.{chosen_tree, numbered, turned, stepped, left}
 use Rattle.g_interp.specs.Views.{answer_of, data_of, outputs_of, block_count}
 
 -- a result that gives one answer gives an equal one
-pub gives : (r : Result run.Answer NoMemory) (a b : Answer (List Datum)) → a ≡ b → IfOk r (λ x. answer_of x ≡ a) → IfOk r (λ x. answer_of x ≡ b)
+pub gives : (r : Result run.Answer RunError) (a b : Answer (List Datum)) → a ≡ b → IfOk r (λ x. answer_of x ≡ a) → IfOk r (λ x. answer_of x ≡ b)
 gives r a b e h = let P : Answer (List Datum) → Type 0 = λ v. IfOk r (λ x. answer_of x ≡ v) in subst P e h
 
 abbrev pub tree_meaning : Context → Option RegionTree → Meaning

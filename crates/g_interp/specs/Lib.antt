@@ -1,3 +1,4 @@
 pub mod Views
 pub mod Contexts
 pub mod Runs
+pub mod Errors

@@ -1,7 +1,7 @@
 use g_graph::{Lambda, Object};
 
-/// What the run of a region takes from outside: the bound, the lambdas, the sizes of the globals, and the number of the
-/// first block of the call's objects, with these objects.
+/// What the run of a region takes from outside: the bound, the lambdas, the sizes of the globals,
+/// and the number of the first block of the call's objects, with these objects.
 #[derive(Clone, Copy)]
 pub struct Context<'a> {
     pub bound: u64,

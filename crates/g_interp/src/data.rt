@@ -7,7 +7,8 @@ pub struct Cell {
     pub value: Option<Value>,
 }
 
-/// A block of memory; the object in it is `live` while its lifetime lasts, and no store changes a `fixed` one.
+/// A block of memory; the object in it is `live` while its lifetime lasts, and no store changes a
+/// `fixed` one.
 #[derive(Clone, PartialEq, Eq, Debug, Drop)]
 pub struct Block {
     pub size: u32,
@@ -16,7 +17,8 @@ pub struct Block {
     pub fixed: bool,
 }
 
-/// What an edge of the graph carries: a value, the memory of all blocks, or the input bytes that are left.
+/// What an edge of the graph carries: a value, the memory of all blocks, or the input bytes that
+/// are left.
 #[derive(Clone, PartialEq, Eq, Debug, Drop)]
 pub enum Datum {
     Value(Value),
@@ -40,8 +42,8 @@ pub enum Event {
     Met(Vec<u32>),
 }
 
-/// What a bounded run gives, with its events: its results, a cut by the bound, the end of the program
-/// with a status, or that what follows has no meaning.
+/// What a bounded run gives, with its events: its results, a cut by the bound, the end of the
+/// program with a status, or that what follows has no meaning.
 #[derive(Clone, PartialEq, Eq, Debug, Drop)]
 pub enum Answer {
     Returned {

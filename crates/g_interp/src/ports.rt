@@ -90,7 +90,8 @@ fn read(
     }
 }
 
-/// What stands at each of these origins, in a region with these arguments where these outputs have run.
+/// What stands at each of these origins, in a region with these arguments where these outputs have
+/// run.
 pub fn read_all(
     alloc: Global,
     args: &[Datum],
@@ -151,7 +152,8 @@ fn close_datum(
     }
 }
 
-/// The data once the lifetimes of `count` blocks of the memory at a port, from number `first` on, have ended.
+/// The data once the lifetimes of `count` blocks of the memory at a port, from number `first` on,
+/// have ended.
 pub fn close_at(
     alloc: Global,
     port: usize,
