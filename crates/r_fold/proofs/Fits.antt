@@ -16,10 +16,10 @@ use Rattle.g_graph.specs.Splice.{joined_nodes}
 use Rattle.g_mean.specs.Copies.{IsAmong, AreRead, NodesRead, known_after, is_argument, IsClosed, AllClosed}
 use Rattle.g_mean.specs.Splices.{FitsInto}
 use Rattle.g_mean.specs.Edits.{IsPartOf}
-use Rattle.g_mean.proofs.Copies.{among-left, among-right, among-split}
-use Rattle.g_mean.proofs.Edits.{distinct-split}
-use Rattle.g_mean.proofs.Holds.{none-among, distinct-apart}
-use Rattle.g_mean.proofs.Splices.{joined-ids, joined-read}
+use Rattle.g_mean.proofs.lemmas.Copies.{among-left, among-right, among-split}
+use Rattle.g_mean.proofs.lemmas.Edits.{distinct-split}
+use Rattle.g_mean.proofs.lemmas.Holds.{none-among, distinct-apart}
+use Rattle.g_mean.proofs.lemmas.Splices.{joined-ids, joined-read}
 use Rattle.g_graph.proofs.lemmas.Nodes.{NodeFits, node_fits_here, are_kinds, first_kind}
 use Rattle.r_fold.specs.Rule.{chosen_region}
 use Rattle.r_fold.proofs.Chosen.{chosen_kinds}

@@ -29,10 +29,10 @@ use Rattle.g_mean.specs.Refining.{MeaningRefines, ContextRefines}
 use Rattle.g_mean.specs.Copies.{IsClosed}
 use Rattle.g_mean.specs.Edits.{IsPartOf}
 use Rattle.g_mean.specs.Replacement.{IsTwice, Linked, Replaces}
-use Rattle.g_mean.proofs.LocalRefinement.{none-less}
-use Rattle.g_mean.proofs.Kept.{reads-refines}
-use Rattle.g_mean.proofs.LessDefinedLemmas.{less-kept}
-use Rattle.g_mean.proofs.Equal.{no_deeper-compares}
+use Rattle.g_mean.proofs.lemmas.LocalRefinement.{none-less}
+use Rattle.g_mean.proofs.lemmas.Kept.{reads-refines}
+use Rattle.g_mean.proofs.lemmas.LessDefined.{less-kept}
+use Rattle.g_mean.proofs.lemmas.Equal.{no_deeper-compares}
 use Rattle.g_graph.specs.Nodes.{node_at, node_set, constant, is_used}
 use Rattle.r_fold.specs.Rule.{is_word, left_neutral, right_neutral, Folded, word, input, replacement, bin_folded, gamma_folded, theta_folded, chosen_region, folding, folded, fold_here}
 use Rattle.g_graph.proofs.lemmas.Splices.{joined_none}
@@ -42,14 +42,14 @@ use Rattle.r_fold.proofs.Neutral.{left-less, right-less}
 use Rattle.r_fold.proofs.Fits.{gamma-fits, theta-fits, inputs-read, regions-closed, inner-unique}
 use Rattle.r_fold.proofs.Law.{input-holds, word-replaces, input-replaces, replacement-replaces}
 use Rattle.val_core.proofs.lemmas.Answers.{then_associates, then_on_given}
-use Rattle.g_mean.proofs.Regions.{region-refines}
-use Rattle.g_mean.proofs.Replacement.{lambdas_keep_meaning}
-use Rattle.g_mean.proofs.Programs.{programs_keep_meaning}
+use Rattle.g_mean.proofs.lemmas.Regions.{region-refines}
+use Rattle.g_mean.proofs.lemmas.Replacement.{lambdas_keep_meaning}
+use Rattle.g_mean.proofs.lemmas.Programs.{programs_keep_meaning}
 use Rattle.r_fold.specs.Laws.{FoldReplaces, FoldKeepsLambdas, FoldKeepsPrograms}
-use Rattle.g_mean.proofs.Calls.{same-itself}
-use Rattle.g_mean.proofs.Bounds.{Never, Always, never-refines}
-use Rattle.g_mean.proofs.Holds.{holds-from}
-use Rattle.g_mean.proofs.Edits.{edits_replace}
+use Rattle.g_mean.proofs.lemmas.Calls.{same-itself}
+use Rattle.g_mean.proofs.lemmas.Bounds.{Never, Always, never-refines}
+use Rattle.g_mean.proofs.lemmas.Holds.{holds-from}
+use Rattle.g_mean.proofs.lemmas.Edits.{edits_replace}
 
 -- ---- what was found
 

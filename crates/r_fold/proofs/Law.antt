@@ -23,12 +23,12 @@ use Rattle.g_mean.specs.Holds.{HasRun, HaveRun}
 use Rattle.g_mean.specs.Edits.{IsPartOf}
 use Rattle.g_mean.specs.Replacement.{Linked, Replaces}
 use Rattle.g_mean.specs.Splices.{FitsInto, CanRedirect}
-use Rattle.g_mean.proofs.Kept.{OutputsRefine, read-refines}
-use Rattle.g_mean.proofs.LessDefinedLemmas.{less-kept}
-use Rattle.g_mean.proofs.Copies.{test-other}
-use Rattle.g_mean.proofs.Splices.{joined-read, spliced_regions_refine}
-use Rattle.g_mean.proofs.Redirects.{replaced_nodes_refine, redirected_regions_refine}
-use Rattle.g_mean.proofs.Equal.{no_deeper-compares}
+use Rattle.g_mean.proofs.lemmas.Kept.{OutputsRefine, read-refines}
+use Rattle.g_mean.proofs.lemmas.LessDefined.{less-kept}
+use Rattle.g_mean.proofs.lemmas.Copies.{test-other}
+use Rattle.g_mean.proofs.lemmas.Splices.{joined-read, spliced_regions_refine}
+use Rattle.g_mean.proofs.lemmas.Redirects.{replaced_nodes_refine, redirected_regions_refine}
+use Rattle.g_mean.proofs.lemmas.Equal.{no_deeper-compares}
 use Rattle.g_graph.specs.Nodes.{constant}
 use Rattle.r_fold.proofs.Finding.{constant-holds}
 

@@ -5,18 +5,19 @@ use Rattle.val_core.specs.Values.{IsSound}
 use Rattle.val_core.specs.Memory.{AreSoundCells, IsSoundMemory}
 use Rattle.val_core.specs.Refinement.{Direction, Refines, no_deeper}
 use Rattle.val_core.proofs.lemmas.Refinement.{refines-then}
-use Rattle.g_graph.specs.Plain.{PlainLambda}
+use Rattle.g_graph.specs.Plain.{PlainLambda, PlainDelta, PlainOmega}
+use Rattle.g_graph.specs.Program.{name_index, main_name}
 use Rattle.g_mean.specs.Data.{Datum, memory, input, at_port}
-use Rattle.g_mean.specs.Calls.{PlainDelta, PlainOmega, delta_sizes, global_of, little_endian, link_at, leaf_value, first_cell, first_block, first_memory, lambda_at, finished, started, program_at, place_of, main_name}
+use Rattle.g_mean.specs.Calls.{delta_sizes, global_of, little_endian, link_at, leaf_value, first_cell, first_block, first_memory, lambda_at, finished, started, program_at}
 use Rattle.g_mean.specs.LessDefined.{Paired, AreBytes, AreNarrow, IsLessDefinedDatum, AreSoundDeltas}
 use Rattle.g_mean.specs.Refining.{LambdasSameBut}
 use Rattle.g_mean.specs.Replacement.{IsTwice, Replaces, ProgramsKeepMeaning}
-use Rattle.g_mean.proofs.Kept.{paired-at}
-use Rattle.g_mean.proofs.Regions.{on_number-refines}
-use Rattle.g_mean.proofs.Equal.{no_deeper-compares}
+use Rattle.g_mean.proofs.lemmas.Kept.{paired-at}
+use Rattle.g_mean.proofs.lemmas.Regions.{on_number-refines}
+use Rattle.g_mean.proofs.lemmas.Equal.{no_deeper-compares}
 use Rattle.val_core.proofs.lemmas.Objects.{address-sound}
-use Rattle.g_mean.proofs.LessDefinedLemmas.{less-kept}
-use Rattle.g_mean.proofs.Replacement.{kept-within, lambda-refines}
+use Rattle.g_mean.proofs.lemmas.LessDefined.{less-kept}
+use Rattle.g_mean.proofs.lemmas.Replacement.{kept-within, lambda-refines}
 
 -- ---- the memory of the globals is sound
 
@@ -71,7 +72,8 @@ finished-refines : (direction : Direction) (us vs : List Datum) → Paired IsLes
 finished-refines direction us vs near =
     on_number-refines no_deeper no_deeper-compares direction IsLessDefinedDatum less-kept (Paired IsLessDefinedDatum) (at_port us 0) (at_port vs 0) (paired-at IsLessDefinedDatum less-kept us vs near 0) _ _ (λ w. (no_deeper-compares.itself [], refl))
 
-started-refines : (ls ks : List PlainLambda) → LambdasSameBut (Replaces ls ks) ls ks → (o : PlainOmega) → AreSoundDeltas o.deltas → (i : List ℕ) → AreBytes i → (direction : Direction) (n m : ℕ) → IsTwice direction 2 n m → (f : Option ℕ) → Refines no_deeper direction (Paired IsLessDefinedDatum) (started n o ls f i) (started m o ks f i)
+started-refines : (ls ks : List PlainLambda) → LambdasSameBut (Replaces ls ks) ls ks → (o : PlainOmega) → AreSoundDeltas o.deltas → (i : List ℕ) → AreBytes i → (direction : Direction) (n m : ℕ) →
+    IsTwice direction 2 n m → (f : Option ℕ) → Refines no_deeper direction (Paired IsLessDefinedDatum) (started n o ls f i) (started m o ks f i)
 started-refines ls ks same o deltas i bytes direction n m twice None = tt
 started-refines ls ks same o deltas i bytes direction n m twice (Some f) =
     let start = memory (first_memory o.deltas) ∷ input i ∷ [] in
@@ -82,4 +84,4 @@ started-refines ls ks same o deltas i bytes direction n m twice (Some f) =
 pub programs_keep_meaning : ProgramsKeepMeaning
 programs_keep_meaning ls ks same o i deltas bytes =
     kept-within (λ n. program_at n o ls i) (λ n. program_at n o ks i)
-    (λ direction n m twice. started-refines ls ks same o deltas i bytes direction n m twice (place_of main_name o.names))
+    (λ direction n m twice. started-refines ls ks same o deltas i bytes direction n m twice (name_index main_name o.names))

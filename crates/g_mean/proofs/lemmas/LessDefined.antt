@@ -22,12 +22,12 @@ use Rattle.g_mean.specs.Data.{Datum, val, memory, input, at_port, value_of, valu
 use Rattle.g_mean.specs.Meaning.{done, given, given_memory, got, cleared_at}
 use Rattle.g_mean.specs.LessDefined.{Paired, AreBytes, IsSoundDatum, IsLessDefinedDatum}
 use Rattle.g_mean.specs.Refining.{Compares}
-use Rattle.g_mean.proofs.Kept.{AddressesRefine, IsKept}
+use Rattle.g_mean.proofs.lemmas.Kept.{AddressesRefine, IsKept}
 
 abbrev LessDefinedValue : Value → Value → Type 0
 LessDefinedValue u v = IsLessDefined u v × IsSound u × IsSound v
 
-value-sound : (x : Datum) → IsSoundDatum x → IsSound (value_of x)
+pub value-sound : (x : Datum) → IsSoundDatum x → IsSound (value_of x)
 value-sound (val v) s = s
 value-sound (memory m) s = tt
 value-sound (input i) s = tt
@@ -134,7 +134,8 @@ module _ (cmp : Comparison) (g : Compares cmp) (direction : Direction) where
   memory-refines : (m : Memory) → IsSoundMemory m → Refines cmp direction (Paired IsLessDefinedDatum) (given_memory m) (given_memory m)
   memory-refines m s = (((inl refl, s, s), tt), g.goes.nothing)
 
-  on_memory-refines : (x y : Datum) → IsLessDefinedDatum x y → (f h : Memory → Answer (List Datum)) → ((m : Memory) → IsSoundMemory m → Refines cmp direction (Paired IsLessDefinedDatum) (f m) (h m)) → Refines cmp direction (Paired IsLessDefinedDatum) (on_memory x f) (on_memory y h)
+  on_memory-refines : (x y : Datum) → IsLessDefinedDatum x y → (f h : Memory → Answer (List Datum)) →
+      ((m : Memory) → IsSoundMemory m → Refines cmp direction (Paired IsLessDefinedDatum) (f m) (h m)) → Refines cmp direction (Paired IsLessDefinedDatum) (on_memory x f) (on_memory y h)
   on_memory-refines (val v) y near f h like = tt
   on_memory-refines (input i) y near f h like = tt
   on_memory-refines (memory m) y near f h like = by near.0
@@ -143,7 +144,8 @@ module _ (cmp : Comparison) (g : Compares cmp) (direction : Direction) where
       by (inl e) = subst (λ z. Refines cmp direction (Paired IsLessDefinedDatum) (f m) (on_memory z h)) e (like m near.1)
       by (inr e) = absurd cc
 
-  on_input-refines : (x y : Datum) → IsLessDefinedDatum x y → (f h : List ℕ → Answer (List Datum)) → ((i : List ℕ) → AreBytes i → Refines cmp direction (Paired IsLessDefinedDatum) (f i) (h i)) → Refines cmp direction (Paired IsLessDefinedDatum) (on_input x f) (on_input y h)
+  on_input-refines : (x y : Datum) → IsLessDefinedDatum x y → (f h : List ℕ → Answer (List Datum)) → ((i : List ℕ) → AreBytes i → Refines cmp direction (Paired IsLessDefinedDatum) (f i) (h i)) →
+      Refines cmp direction (Paired IsLessDefinedDatum) (on_input x f) (on_input y h)
   on_input-refines (val v) y near f h like = tt
   on_input-refines (memory m) y near f h like = tt
   on_input-refines (input i) y near f h like = by near.0
@@ -152,7 +154,8 @@ module _ (cmp : Comparison) (g : Compares cmp) (direction : Direction) where
       by (inl e) = subst (λ z. Refines cmp direction (Paired IsLessDefinedDatum) (f i) (on_input z h)) e (like i near.1)
       by (inr e) = absurd cc
 
-  on_word-refines : (u v : Value) → IsLessDefined u v → (f h : ℕ → Answer (List Datum)) → ((w : ℕ) → Refines cmp direction (Paired IsLessDefinedDatum) (f w) (h w)) → Refines cmp direction (Paired IsLessDefinedDatum) (on_number u f) (on_number v h)
+  on_word-refines : (u v : Value) → IsLessDefined u v → (f h : ℕ → Answer (List Datum)) → ((w : ℕ) → Refines cmp direction (Paired IsLessDefinedDatum) (f w) (h w)) →
+      Refines cmp direction (Paired IsLessDefinedDatum) (on_number u f) (on_number v h)
   on_word-refines (At b o) v near f h like = tt
   on_word-refines Bad v near f h like = tt
   on_word-refines (Num w) v near f h like = by near
@@ -161,7 +164,8 @@ module _ (cmp : Comparison) (g : Compares cmp) (direction : Direction) where
       by (inl e) = subst (λ z. Refines cmp direction (Paired IsLessDefinedDatum) (f w) (on_number z h)) e (like w)
       by (inr e) = absurd cc
 
-  on_defined-refines : {X : Type 0} (P : X → Type 0) (a b : Option X) → Less a b → IfSome a P → (f h : X → Answer (List Datum)) → ((x : X) → P x → Refines cmp direction (Paired IsLessDefinedDatum) (f x) (h x)) → Refines cmp direction (Paired IsLessDefinedDatum) (on_defined a f) (on_defined b h)
+  on_defined-refines : {X : Type 0} (P : X → Type 0) (a b : Option X) → Less a b → IfSome a P → (f h : X → Answer (List Datum)) →
+      ((x : X) → P x → Refines cmp direction (Paired IsLessDefinedDatum) (f x) (h x)) → Refines cmp direction (Paired IsLessDefinedDatum) (on_defined a f) (on_defined b h)
   on_defined-refines P None b less s f h like = tt
   on_defined-refines P (Some x) b less s f h like = by less
     where
@@ -175,7 +179,8 @@ module _ (cmp : Comparison) (g : Compares cmp) (direction : Direction) where
       let small : b < 2 ^ 32 = lt_of_lt_of_le s.0 (lit≤ tt) in
       (((inl refl, small, small), ((inl refl, s.1, s.1), tt)), g.itself (took b ∷ []))
 
-  plain-refines : (e f : Addresses) → AddressesRefine IsLessDefinedDatum e f → (op : Op) (xs ys : List Datum) → Paired IsLessDefinedDatum xs ys → ((k : ℕ) → IsLessDefinedDatum (at_port xs k) (at_port ys k)) → Refines cmp direction (Paired IsLessDefinedDatum) (done e op xs) (done f op ys)
+  plain-refines : (e f : Addresses) → AddressesRefine IsLessDefinedDatum e f → (op : Op) (xs ys : List Datum) → Paired IsLessDefinedDatum xs ys →
+      ((k : ℕ) → IsLessDefinedDatum (at_port xs k) (at_port ys k)) → Refines cmp direction (Paired IsLessDefinedDatum) (done e op xs) (done f op ys)
   plain-refines e f h (Const w) xs ys near at =
       given-refines (Num (w % 2 ^ 32)) (Num (w % 2 ^ 32)) (inl refl, mod-lt w (lit< tt), mod-lt w (lit< tt))
   plain-refines e f h Undef xs ys near at = given-refines Bad Bad (inl refl, tt, tt)

@@ -12,8 +12,8 @@ use Rattle.g_mean.specs.Meaning.{Meaning, Context, region_meaning}
 use Rattle.g_mean.specs.Calls.{shapes_of, sizes_of, inside, entered}
 use Rattle.g_mean.specs.LessDefined.{Paired}
 use Rattle.g_mean.specs.Refining.{Compares, InOrder, MeaningRefines, ContextRefines, RegionRefines, SameBut, NodeSameBut, NodesSameBut, RegionsSameBut, LambdaSameBut, LambdasSameBut}
-use Rattle.g_mean.proofs.Kept.{IsKept, paired-at}
-use Rattle.g_mean.proofs.Regions.{on_memory-refines, region-refines}
+use Rattle.g_mean.proofs.lemmas.Kept.{IsKept, paired-at}
+use Rattle.g_mean.proofs.lemmas.Regions.{on_memory-refines, region-refines}
 
 -- a tree is equal to itself
 mutual
@@ -56,7 +56,8 @@ module _ (cmp : Comparison) (g : Compares cmp) (direction : Direction) (N : Datu
   changed-refines n f h (x ∷ xs) [] near = absurd near
 
   module _ (P : RegionTree → RegionTree → Type 0) (Q : Context → Context → Type 0) (base : (r s : RegionTree) → P r s → RegionRefines cmp direction N Q r s) (n m : ℕ) (order : InOrder direction n m) (call call' : ℕ → Meaning) (calls : (f : ℕ) → MeaningRefines cmp direction N (call f) (call' f)) (global : ℕ → Value) (globals : (j : ℕ) → N (val (global j)) (val (global j))) where
-    body-refines : (params : ℕ) (os : List PlainObject) → ((b : Memory) → Q (inside n call global os b) (inside m call' global os b)) → (r s : RegionTree) → SameBut P r s → (xs ys : List Datum) → Paired N xs ys → (b : Memory) →
+    body-refines : (params : ℕ) (os : List PlainObject) → ((b : Memory) → Q (inside n call global os b) (inside m call' global os b)) → (r s : RegionTree) → SameBut P r s → (xs ys : List Datum) →
+        Paired N xs ys → (b : Memory) →
         Refines cmp direction (Paired N)
         (then_on (region_meaning (inside n call global os b) r (changed_at params (with_memory (λ j. j ++ opened (shapes_of os))) xs)) (λ us. Returned (changed_at 1 (with_memory (closed (length b) (length os))) us) []))
         (then_on (region_meaning (inside m call' global os b) s (changed_at params (with_memory (λ j. j ++ opened (shapes_of os))) ys)) (λ us. Returned (changed_at 1 (with_memory (closed (length b) (length os))) us) []))
@@ -67,7 +68,8 @@ module _ (cmp : Comparison) (g : Compares cmp) (direction : Direction) (N : Datu
         (whole.on (changed_at params (with_memory (λ j. j ++ opened (shapes_of os))) xs) (changed_at params (with_memory (λ j. j ++ opened (shapes_of os))) ys) (changed-refines params (with_memory (λ j. j ++ opened (shapes_of os))) (λ x y h. k.opens x y h (shapes_of os)) xs ys near))
         (λ us vs near'. (changed-refines 1 (with_memory (closed (length b) (length os))) (λ x y h. k.closes x y h (length b) (length os)) us vs near', g.goes.nothing))
 
-    pub entered-refines : ((os : List PlainObject) (b : Memory) → Q (inside n call global os b) (inside m call' global os b)) → (l l' : Option PlainLambda) → FoundSameBut P l l' → MeaningRefines cmp direction N (entered n call global l) (entered m call' global l')
+    pub entered-refines : ((os : List PlainObject) (b : Memory) → Q (inside n call global os b) (inside m call' global os b)) → (l l' : Option PlainLambda) → FoundSameBut P l l' →
+        MeaningRefines cmp direction N (entered n call global l) (entered m call' global l')
     entered-refines q None None h = record { on = λ xs ys near. tt }
     entered-refines q (Some l) (Some l') h =
         record {

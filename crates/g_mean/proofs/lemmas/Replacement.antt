@@ -11,11 +11,11 @@ use Rattle.g_mean.specs.Calls.{inside, entered, applied, region_at, lambda_at}
 use Rattle.g_mean.specs.LessDefined.{Paired, AreSound, IsLessDefinedDatum}
 use Rattle.g_mean.specs.Refining.{InOrder, MeaningRefines, RegionRefines, SameBut, LambdasSameBut}
 use Rattle.g_mean.specs.Replacement.{lesser, IsTwice, Linked, Replaces, IsKeptWithinTwice, LambdasKeepMeaning, RegionsKeepMeaning}
-use Rattle.g_mean.proofs.Regions.{both-cut, less-cut, far-cut, region-refines}
-use Rattle.g_mean.proofs.Equal.{no_deeper-compares}
-use Rattle.g_mean.proofs.LessDefinedLemmas.{less-kept}
-use Rattle.g_mean.proofs.Calls.{found-same, entered-refines}
-use Rattle.g_mean.proofs.Bounds.{sound-pairs}
+use Rattle.g_mean.proofs.lemmas.Regions.{both-cut, less-cut, far-cut, region-refines}
+use Rattle.g_mean.proofs.lemmas.Equal.{no_deeper-compares}
+use Rattle.g_mean.proofs.lemmas.LessDefined.{less-kept}
+use Rattle.g_mean.proofs.lemmas.Calls.{found-same, entered-refines}
+use Rattle.g_mean.proofs.lemmas.Bounds.{sound-pairs}
 
 twice-order : (direction : Direction) (more n m : ℕ) → IsTwice direction more n m → InOrder direction n m
 twice-order Forward more n m h = omega arith
@@ -87,7 +87,8 @@ module _ (ls ks : List PlainLambda) (same : LambdasSameBut (Replaces ls ks) ls k
 
 -- ---- families of runs
 
-pub kept-within : (near far : ℕ → Answer (List Datum)) → ((direction : Direction) (n m : ℕ) → IsTwice direction 2 n m → Refines no_deeper direction (Paired IsLessDefinedDatum) (near n) (far m)) → IsKeptWithinTwice near far
+pub kept-within : (near far : ℕ → Answer (List Datum)) → ((direction : Direction) (n m : ℕ) → IsTwice direction 2 n m → Refines no_deeper direction (Paired IsLessDefinedDatum) (near n) (far m)) →
+    IsKeptWithinTwice near far
 kept-within near far like right n =
     let more = 2 * n + 2 in
     let most = 2 * more + 2 in
@@ -103,7 +104,8 @@ twice-above : (direction : Direction) (n m : ℕ) → IsTwice direction 2 n m �
 twice-above Forward n m h = omega arith
 twice-above Backward n m h = omega arith
 
-pub lambda-refines : (ls ks : List PlainLambda) → LambdasSameBut (Replaces ls ks) ls ks → (direction : Direction) (global : ℕ → Value) → ((k : ℕ) → IsSound (global k)) → (f n m : ℕ) → IsTwice direction 2 n m → (xs : List Datum) → AreSound xs → Refines no_deeper direction (Paired IsLessDefinedDatum) (lambda_at n ls global f xs) (lambda_at m ks global f xs)
+pub lambda-refines : (ls ks : List PlainLambda) → LambdasSameBut (Replaces ls ks) ls ks → (direction : Direction) (global : ℕ → Value) → ((k : ℕ) → IsSound (global k)) → (f n m : ℕ) →
+    IsTwice direction 2 n m → (xs : List Datum) → AreSound xs → Refines no_deeper direction (Paired IsLessDefinedDatum) (lambda_at n ls global f xs) (lambda_at m ks global f xs)
 lambda-refines ls ks same direction global globals f n m twice xs sound =
     (calls-refines ls ks same direction global globals (lesser direction (suc n) (suc m)) (suc n) (suc m) (le_refl _) (twice-above direction n m twice) f).on xs xs (sound-pairs xs sound)
 

@@ -11,8 +11,8 @@ use Rattle.g_graph.specs.declared.op.Op.{Op}
 use Rattle.g_graph.specs.declared.op.Origin.{Origin}
 use Rattle.g_graph.specs.Change.{first_some, region_changed, nodes_changed, regions_changed, lambda_changed}
 use Rattle.g_mean.specs.Edits.{AreEditedAt, IsPartOf, EditsReplace}
-use Rattle.g_mean.proofs.Calls.{same-itself, nodes-itself, regions-itself}
-use Rattle.g_mean.proofs.Closed.{region-closed}
+use Rattle.g_mean.proofs.lemmas.Calls.{same-itself, nodes-itself, regions-itself}
+use Rattle.g_mean.proofs.lemmas.Closed.{region-closed}
 
 -- ---- tests of lists
 
@@ -51,7 +51,8 @@ body-part l t =
 -- ---- what follows where a change was made
 
 module _ (P : RegionTree → RegionTree → Type 0) where
-  inside : (args : List Kind) (results : List Origin) (ns : NodeTrees) (found : Option NodeTrees) → ((ms : NodeTrees) → found ≡ Some ms → NodesSameBut P ns ms) → (s : RegionTree) → option_map (λ ms. region args ms results) found ≡ Some s → SameBut P (region args ns results) s
+  inside : (args : List Kind) (results : List Origin) (ns : NodeTrees) (found : Option NodeTrees) → ((ms : NodeTrees) → found ≡ Some ms → NodesSameBut P ns ms) → (s : RegionTree) →
+      option_map (λ ms. region args ms results) found ≡ Some s → SameBut P (region args ns results) s
   inside args results ns None h s e = absurd cc
   inside args results ns (Some ms) h (region args' ms' results') e =
       let same : region args ms results ≡ region args' ms' results' = cc in
@@ -60,7 +61,8 @@ module _ (P : RegionTree → RegionTree → Type 0) where
       let origins : results ≡ results' = cc in
       inr (kinds, subst (λ ks. NodesSameBut P ns ks) nodes (h ms refl), origins)
 
-  first-or-rest : (id : ℕ) (op : Op) (inputs : List Origin) (rs : RegionTrees) (ns : NodeTrees) (first : Option RegionTrees) → ((ss : RegionTrees) → first ≡ Some ss → RegionsSameBut P rs ss) → (rest : Option NodeTrees) → ((ks : NodeTrees) → rest ≡ Some ks → NodesSameBut P ns ks) → (ms : NodeTrees) →
+  first-or-rest : (id : ℕ) (op : Op) (inputs : List Origin) (rs : RegionTrees) (ns : NodeTrees) (first : Option RegionTrees) → ((ss : RegionTrees) → first ≡ Some ss → RegionsSameBut P rs ss) →
+      (rest : Option NodeTrees) → ((ks : NodeTrees) → rest ≡ Some ks → NodesSameBut P ns ks) → (ms : NodeTrees) →
       first_some (option_map (λ y. node_then y ns) (option_map (λ ss. node id op inputs ss) first)) (option_map (λ ys. node_then (node id op inputs rs) ys) rest) ≡ Some ms →
       NodesSameBut P (node_then (node id op inputs rs) ns) ms
   first-or-rest id op inputs rs ns (Some ss) h rest k ms e =
@@ -71,7 +73,8 @@ module _ (P : RegionTree → RegionTree → Type 0) where
       subst (λ z. NodesSameBut P (node_then (node id op inputs rs) ns) z) same ((refl, refl, refl, regions-itself P rs), k ks refl)
   first-or-rest id op inputs rs ns None h None k ms e = absurd cc
 
-  region-or-rest : (r : RegionTree) (rs : RegionTrees) (first : Option RegionTree) → ((s : RegionTree) → first ≡ Some s → SameBut P r s) → (rest : Option RegionTrees) → ((qs : RegionTrees) → rest ≡ Some qs → RegionsSameBut P rs qs) → (ss : RegionTrees) →
+  region-or-rest : (r : RegionTree) (rs : RegionTrees) (first : Option RegionTree) → ((s : RegionTree) → first ≡ Some s → SameBut P r s) → (rest : Option RegionTrees) →
+      ((qs : RegionTrees) → rest ≡ Some qs → RegionsSameBut P rs qs) → (ss : RegionTrees) →
       first_some (option_map (λ s. region_then s rs) first) (option_map (λ qs. region_then r qs) rest) ≡ Some ss → RegionsSameBut P (region_then r rs) ss
   region-or-rest r rs (Some s) h rest k ss e =
       let same : region_then s rs ≡ ss = cc in
@@ -82,7 +85,8 @@ module _ (P : RegionTree → RegionTree → Type 0) where
   region-or-rest r rs None h None k ss e = absurd cc
 
 module _ (P : RegionTree → RegionTree → Type 0) (here : RegionTree → Option RegionTree) (l : PlainLambda) (local : (r s : RegionTree) → IsPartOf l r → here r ≡ Some s → P r s) where
-  changed-here : (r : RegionTree) → IsPartOf l r → (found : Option RegionTree) → here r ≡ found → (rest : Option RegionTree) → ((s : RegionTree) → rest ≡ Some s → SameBut P r s) → (s : RegionTree) → first_some found rest ≡ Some s → SameBut P r s
+  changed-here : (r : RegionTree) → IsPartOf l r → (found : Option RegionTree) → here r ≡ found → (rest : Option RegionTree) → ((s : RegionTree) → rest ≡ Some s → SameBut P r s) →
+      (s : RegionTree) → first_some found rest ≡ Some s → SameBut P r s
   changed-here (region args nodes results) part (Some (region args' nodes' results')) e rest same (region args'' nodes'' results'') d =
       inl (local (region args nodes results) (region args'' nodes'' results'') part (e ∙ d))
   changed-here r part None e rest same s d = same s d
@@ -94,7 +98,8 @@ module _ (P : RegionTree → RegionTree → Type 0) (here : RegionTree → Optio
         changed-here (region args nodes results) part (here (region args nodes results)) refl (option_map (λ ns. region args ns results) (nodes_changed here nodes))
         (inside P args results nodes (nodes_changed here nodes) (λ ms d. nodes-same nodes p.1 part.unique part.below ms d)) s e
 
-    nodes-same : (ns : NodeTrees) → every_in_nodes (region_fits (length l.objects)) ns ≡ true → distinct (nodes_ids ns) ≡ true → all_of (λ n. nat_lt n l.next) (nodes_ids ns) ≡ true → (ms : NodeTrees) → nodes_changed here ns ≡ Some ms → NodesSameBut P ns ms
+    nodes-same : (ns : NodeTrees) → every_in_nodes (region_fits (length l.objects)) ns ≡ true → distinct (nodes_ids ns) ≡ true → all_of (λ n. nat_lt n l.next) (nodes_ids ns) ≡ true →
+        (ms : NodeTrees) → nodes_changed here ns ≡ Some ms → NodesSameBut P ns ms
     nodes-same no_nodes t unique below ms e = absurd cc
     nodes-same (node_then (node id op inputs rs) ns) t unique below ms e =
         let p = and_parts (every_in_regions (region_fits (length l.objects)) rs) (every_in_nodes (region_fits (length l.objects)) ns) t in
@@ -104,7 +109,8 @@ module _ (P : RegionTree → RegionTree → Type 0) (here : RegionTree → Optio
         let c = and_parts (nat_lt id l.next) (all_of (λ n. nat_lt n l.next) (regions_ids rs)) b.0 in
         first-or-rest P id op inputs rs ns (regions_changed here rs) (λ ss q. regions-same rs p.0 f.1 c.1 ss q) (nodes_changed here ns) (λ ks q. nodes-same ns p.1 d.1 b.1 ks q) ms e
 
-    regions-same : (rs : RegionTrees) → every_in_regions (region_fits (length l.objects)) rs ≡ true → distinct (regions_ids rs) ≡ true → all_of (λ n. nat_lt n l.next) (regions_ids rs) ≡ true → (ss : RegionTrees) → regions_changed here rs ≡ Some ss → RegionsSameBut P rs ss
+    regions-same : (rs : RegionTrees) → every_in_regions (region_fits (length l.objects)) rs ≡ true → distinct (regions_ids rs) ≡ true → all_of (λ n. nat_lt n l.next) (regions_ids rs) ≡ true →
+        (ss : RegionTrees) → regions_changed here rs ≡ Some ss → RegionsSameBut P rs ss
     regions-same no_regions t unique below ss e = absurd cc
     regions-same (region_then r rs) t unique below ss e =
         let p = and_parts (every_region (region_fits (length l.objects)) r) (every_in_regions (region_fits (length l.objects)) rs) t in
@@ -112,7 +118,8 @@ module _ (P : RegionTree → RegionTree → Type 0) (here : RegionTree → Optio
         let b = all-split (λ n. nat_lt n l.next) (region_ids r) (regions_ids rs) below in
         region-or-rest P r rs (region_changed here r) (λ s q. changed-same r (record { fits = p.0; closed = region-closed (length l.objects) r p.0; unique = d.0; below = b.0 }) s q) (regions_changed here rs) (λ qs q. regions-same rs p.1 d.1 b.1 qs q) ss e
 
-pub body-same : (P : RegionTree → RegionTree → Type 0) (here : RegionTree → Option RegionTree) (l : PlainLambda) → ((r s : RegionTree) → IsPartOf l r → here r ≡ Some s → P r s) → IsPartOf l l.body → SameBut P l.body (lambda_changed here l).body
+pub body-same : (P : RegionTree → RegionTree → Type 0) (here : RegionTree → Option RegionTree) (l : PlainLambda) → ((r s : RegionTree) → IsPartOf l r → here r ≡ Some s → P r s) →
+    IsPartOf l l.body → SameBut P l.body (lambda_changed here l).body
 body-same P here l local part = by (region_changed here l.body) refl
   where
     by : (found : Option RegionTree) → region_changed here l.body ≡ found → SameBut P l.body (unwrap_or found l.body)
@@ -126,7 +133,9 @@ lambdas-itself P [] = tt
 lambdas-itself P (l ∷ ls) =
     (record { number = refl; params = refl; objects = refl; body = same-itself P l.body }, lambdas-itself P ls)
 
-edited-lists : (P : RegionTree → RegionTree → Type 0) (here : RegionTree → Option RegionTree) (f : ℕ) (ls ks : List PlainLambda) → AreEditedAt here f ls ks → ((l : PlainLambda) → slice_get ls f ≡ Some l → well_formed l ≡ true) → ((l : PlainLambda) (r s : RegionTree) → slice_get ls f ≡ Some l → IsPartOf l r → here r ≡ Some s → P r s) → LambdasSameBut P ls ks
+edited-lists : (P : RegionTree → RegionTree → Type 0) (here : RegionTree → Option RegionTree) (f : ℕ) (ls ks : List PlainLambda) → AreEditedAt here f ls ks →
+    ((l : PlainLambda) → slice_get ls f ≡ Some l → well_formed l ≡ true) → ((l : PlainLambda) (r s : RegionTree) → slice_get ls f ≡ Some l → IsPartOf l r → here r ≡ Some s → P r s) →
+    LambdasSameBut P ls ks
 edited-lists P here f [] [] h well local = tt
 edited-lists P here zero (l ∷ ls) (k ∷ ks) h well local = (
   record {

@@ -13,9 +13,9 @@ use Rattle.g_mean.specs.Data.{Datum, val, memory, input, at_port, value_of, on_m
 use Rattle.g_mean.specs.Meaning.{Meaning, Context, chosen, branched, again, turns, looped, act, Outputs, no_outputs, extended, read, region_meaning, node_run, nodes_run, meanings}
 use Rattle.g_mean.specs.LessDefined.{Paired}
 use Rattle.g_mean.specs.Refining.{Compares, InOrder, MeaningRefines, ContextRefines, RegionRefines, SameBut, NodeSameBut, NodesSameBut, RegionsSameBut}
-use Rattle.g_mean.proofs.Kept.{IsKept, paired-at, OutputsRefine, reads-refines}
+use Rattle.g_mean.proofs.lemmas.Kept.{IsKept, paired-at, OutputsRefine, reads-refines}
 
-pick : {X : Type 0} (R : X → X → Type 0) (test : Bool) (a b x y : X) → R a b → R x y → R (cond test a x) (cond test b y)
+pub pick : {X : Type 0} (R : X → X → Type 0) (test : Bool) (a b x y : X) → R a b → R x y → R (cond test a x) (cond test b y)
 pick R true a b x y h k = h
 pick R false a b x y h k = k
 
@@ -37,11 +37,13 @@ pub both-cut : {A B : Type 0} (cmp : Comparison) → Compares cmp → (direction
 both-cut cmp g Forward R = cut-less cmp g R (Cut [])
 both-cut cmp g Backward R = cut-far cmp g R (Cut [])
 
-pub less-cut : {A B : Type 0} (cmp : Comparison) → Compares cmp → (direction : Direction) (R : A → B → Type 0) (m : ℕ) → InOrder direction 0 (suc m) → (b : Answer B) → Refines cmp direction R (Cut []) b
+pub less-cut : {A B : Type 0} (cmp : Comparison) → Compares cmp → (direction : Direction) (R : A → B → Type 0) (m : ℕ) → InOrder direction 0 (suc m) → (b : Answer B) →
+    Refines cmp direction R (Cut []) b
 less-cut cmp g Forward R m h b = cut-less cmp g R b
 less-cut cmp g Backward R m h b = absurd (omega arith)
 
-pub far-cut : {A B : Type 0} (cmp : Comparison) → Compares cmp → (direction : Direction) (R : A → B → Type 0) (n : ℕ) → InOrder direction (suc n) 0 → (a : Answer A) → Refines cmp direction R a (Cut [])
+pub far-cut : {A B : Type 0} (cmp : Comparison) → Compares cmp → (direction : Direction) (R : A → B → Type 0) (n : ℕ) → InOrder direction (suc n) 0 → (a : Answer A) →
+    Refines cmp direction R a (Cut [])
 far-cut cmp g Forward R n h a = absurd (omega arith)
 far-cut cmp g Backward R n h a = cut-far cmp g R a
 
@@ -56,20 +58,24 @@ module _ (cmp : Comparison) (g : Compares cmp) (direction : Direction) (N : Datu
 
   -- ---- what follows on a number or a memory
 
-  on_number-by : {A B : Type 0} (R : A → B → Type 0) (u v : Value) → ((w : ℕ) → u ≡ Num w → v ≡ Num w) → (f : ℕ → Answer A) (h : ℕ → Answer B) → ((w : ℕ) → Refines cmp direction R (f w) (h w)) → Refines cmp direction R (on_number u f) (on_number v h)
+  on_number-by : {A B : Type 0} (R : A → B → Type 0) (u v : Value) → ((w : ℕ) → u ≡ Num w → v ≡ Num w) → (f : ℕ → Answer A) (h : ℕ → Answer B) → ((w : ℕ) → Refines cmp direction R (f w) (h w)) →
+      Refines cmp direction R (on_number u f) (on_number v h)
   on_number-by R (Num w) v e f h like = subst (λ u. Refines cmp direction R (f w) (on_number u h)) (sym (e w refl)) (like w)
   on_number-by R (At b o) v e f h like = tt
   on_number-by R Bad v e f h like = tt
 
-  pub on_number-refines : {A B : Type 0} (R : A → B → Type 0) (x y : Datum) → N x y → (f : ℕ → Answer A) (h : ℕ → Answer B) → ((w : ℕ) → Refines cmp direction R (f w) (h w)) → Refines cmp direction R (on_number (value_of x) f) (on_number (value_of y) h)
+  pub on_number-refines : {A B : Type 0} (R : A → B → Type 0) (x y : Datum) → N x y → (f : ℕ → Answer A) (h : ℕ → Answer B) → ((w : ℕ) → Refines cmp direction R (f w) (h w)) →
+      Refines cmp direction R (on_number (value_of x) f) (on_number (value_of y) h)
   on_number-refines R x y near f h like = on_number-by R (value_of x) (value_of y) (k.number x y near) f h like
 
-  on_memory-by : {A B : Type 0} (R : A → B → Type 0) (x y : Datum) → ((m : Memory) → x ≡ memory m → y ≡ memory m) → (f : Memory → Answer A) (h : Memory → Answer B) → ((m : Memory) → Refines cmp direction R (f m) (h m)) → Refines cmp direction R (on_memory x f) (on_memory y h)
+  on_memory-by : {A B : Type 0} (R : A → B → Type 0) (x y : Datum) → ((m : Memory) → x ≡ memory m → y ≡ memory m) → (f : Memory → Answer A) (h : Memory → Answer B) →
+      ((m : Memory) → Refines cmp direction R (f m) (h m)) → Refines cmp direction R (on_memory x f) (on_memory y h)
   on_memory-by R (memory m) y e f h like = subst (λ u. Refines cmp direction R (f m) (on_memory u h)) (sym (e m refl)) (like m)
   on_memory-by R (val v) y e f h like = tt
   on_memory-by R (input i) y e f h like = tt
 
-  pub on_memory-refines : {A B : Type 0} (R : A → B → Type 0) (x y : Datum) → N x y → (f : Memory → Answer A) (h : Memory → Answer B) → ((m : Memory) → Refines cmp direction R (f m) (h m)) → Refines cmp direction R (on_memory x f) (on_memory y h)
+  pub on_memory-refines : {A B : Type 0} (R : A → B → Type 0) (x y : Datum) → N x y → (f : Memory → Answer A) (h : Memory → Answer B) → ((m : Memory) → Refines cmp direction R (f m) (h m)) →
+      Refines cmp direction R (on_memory x f) (on_memory y h)
   on_memory-refines R x y near f h like = on_memory-by R x y (k.state x y near) f h like
 
   -- ---- one node
@@ -119,7 +125,8 @@ module _ (cmp : Comparison) (g : Compares cmp) (direction : Direction) (N : Datu
   looped-refines n m order (b ∷ ms) (c ∷ ns) h = record { on = λ xs ys near. (turns-by b c h.0 n m order).on xs ys near }
   looped-refines n m order (b ∷ ms) [] h = absurd h
 
-  pub act-refines : (c d : Context) → ContextRefines cmp direction N c d → (op : Op) (ms ns : List Meaning) → MeaningsRefine ms ns → (xs ys : List Datum) → Paired N xs ys → Refines cmp direction (Paired N) (act c op ms xs) (act d op ns ys)
+  pub act-refines : (c d : Context) → ContextRefines cmp direction N c d → (op : Op) (ms ns : List Meaning) → MeaningsRefine ms ns → (xs ys : List Datum) → Paired N xs ys →
+      Refines cmp direction (Paired N) (act c op ms xs) (act d op ns ys)
   act-refines c d a (Apply f) ms ns h xs ys near = (a.calls f).on xs ys near
   act-refines c d a Gamma ms ns h xs ys near = (branched-refines ms ns h).on xs ys near
   act-refines c d a Theta ms ns h xs ys near = (looped-refines c.bound d.bound a.bounds ms ns h).on xs ys near
@@ -129,7 +136,8 @@ module _ (cmp : Comparison) (g : Compares cmp) (direction : Direction) (N : Datu
   -- ---- regions
 
   module _ (P : RegionTree → RegionTree → Type 0) (Q : Context → Context → Type 0) (base : (r s : RegionTree) → P r s → RegionRefines cmp direction N Q r s) (c d : Context) (a : ContextRefines cmp direction N c d) (q : Q c d) where
-    extended-at : (x y : NodeTree) → NodeSameBut P x y → (o p : Outputs) → OutputsRefine N o p → (us vs : List Datum) → Paired N us vs → OutputsRefine N (extended o (id_of x) us) (extended p (id_of y) vs)
+    extended-at : (x y : NodeTree) → NodeSameBut P x y → (o p : Outputs) → OutputsRefine N o p → (us vs : List Datum) → Paired N us vs →
+        OutputsRefine N (extended o (id_of x) us) (extended p (id_of y) vs)
     extended-at (node id op inputs rs) (node id' op' inputs' rs') h o p like us vs near =
         subst (λ i. OutputsRefine N (extended o id us) (extended p i vs)) h.0 (extended-refines o p like id us vs near)
 
@@ -146,7 +154,8 @@ module _ (cmp : Comparison) (g : Compares cmp) (direction : Direction) (N : Datu
                 (λ o p like. (subst (λ rs. Paired N (map (read xs o) results) (map (read ys p) rs)) h.2 (reads-refines N k xs ys near o p like results), g.goes.nothing));
           }
 
-      pub nodes-refines : (ns ms : NodeTrees) → NodesSameBut P ns ms → (xs ys : List Datum) → Paired N xs ys → (o p : Outputs) → OutputsRefine N o p → Refines cmp direction (OutputsRefine N) (nodes_run c ns xs o) (nodes_run d ms ys p)
+      pub nodes-refines : (ns ms : NodeTrees) → NodesSameBut P ns ms → (xs ys : List Datum) → Paired N xs ys → (o p : Outputs) → OutputsRefine N o p →
+          Refines cmp direction (OutputsRefine N) (nodes_run c ns xs o) (nodes_run d ms ys p)
       nodes-refines no_nodes no_nodes h xs ys near o p like = (like, g.goes.nothing)
       nodes-refines (node_then x ns) (node_then y ms) h xs ys near o p like =
           refines-then cmp g.goes (Paired N) (OutputsRefine N) direction (node_run c x xs o) (node_run d y ys p)
@@ -156,7 +165,8 @@ module _ (cmp : Comparison) (g : Compares cmp) (direction : Direction) (N : Datu
       nodes-refines no_nodes (node_then y ms) h xs ys near o p like = absurd h
       nodes-refines (node_then x ns) no_nodes h xs ys near o p like = absurd h
 
-      pub node-refines : (x y : NodeTree) → NodeSameBut P x y → (xs ys : List Datum) → Paired N xs ys → (o p : Outputs) → OutputsRefine N o p → Refines cmp direction (Paired N) (node_run c x xs o) (node_run d y ys p)
+      pub node-refines : (x y : NodeTree) → NodeSameBut P x y → (xs ys : List Datum) → Paired N xs ys → (o p : Outputs) → OutputsRefine N o p →
+          Refines cmp direction (Paired N) (node_run c x xs o) (node_run d y ys p)
       node-refines (node id op inputs rs) (node id' op' inputs' rs') h xs ys near o p like =
           subst (λ z. Refines cmp direction (Paired N) (act c op (meanings c rs) (map (read xs o) inputs)) (act d z (meanings d rs') (map (read ys p) inputs'))) h.1
           (subst (λ is. Refines cmp direction (Paired N) (act c op (meanings c rs) (map (read xs o) inputs)) (act d op (meanings d rs') (map (read ys p) is))) h.2

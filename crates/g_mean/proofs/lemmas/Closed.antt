@@ -80,7 +80,8 @@ mutual
       let q = region-last objects (region args nodes results) p.0 in
       (nodes-closed objects args [] nodes q.0 p.1, last-origins args nodes results q.1)
 
-  nodes-closed : (objects : ℕ) (args : List Kind) (before : List NodeTree) (ns : NodeTrees) → each_node (node_fits objects args) before ns ≡ true → every_in_nodes (region_fits objects) ns ≡ true → NodesRead (is_argument (length args)) (known_after [] (nodes_of before)) ns
+  nodes-closed : (objects : ℕ) (args : List Kind) (before : List NodeTree) (ns : NodeTrees) → each_node (node_fits objects args) before ns ≡ true → every_in_nodes (region_fits objects) ns ≡ true →
+      NodesRead (is_argument (length args)) (known_after [] (nodes_of before)) ns
   nodes-closed objects args before no_nodes t nested = tt
   nodes-closed objects args before (node_then (node id op inputs rs) ns) t nested =
       let p = and_parts (node_fits objects args (nodes_of before) (node id op inputs rs)) (each_node (node_fits objects args) (before ++ node id op inputs rs ∷ []) ns) t in

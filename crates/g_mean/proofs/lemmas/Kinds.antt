@@ -18,7 +18,9 @@ use Rattle.g_graph.specs.Plain.{RegionTree, region, NodeTree, node, NodeTrees, n
 use Rattle.g_graph.specs.Signatures.{result_kinds, output_kinds, kind_after, joined}
 use Rattle.g_graph.specs.Splice.{joined_nodes}
 use Rattle.g_graph.specs.Scope.{same_kind, each_node, known}
-use Rattle.g_graph.specs.WellFormed.{are, same, kinds_of, all_regions, inputs_fit, inputs_are_last, node_has_one_state_each, has_its_regions, regions_fit, theta_has_states, has_its_width, has_its_object, node_fits, nodes_fit, results_are_last, returns_state, region_has_one_state_each, region_fits, every_region, every_in_node, every_in_nodes, every_in_regions, body_fits, numbers_fit, leaves_fit, all_of, well_formed}
+use Rattle.g_graph.specs.WellFormed.{IsWellFormed, are, same, kinds_of, all_regions, inputs_fit, inputs_are_last, node_has_one_state_each, has_its_regions, regions_fit, theta_has_states, has_its_width, has_its_object, node_fits, nodes_fit, results_are_last, returns_state, region_has_one_state_each, region_fits, every_region, every_in_node, every_in_nodes, every_in_regions, body_fits, numbers_fit, leaves_fit, all_of, well_formed}
+use Rattle.g_graph.proofs.lemmas.Nodes.{are_kinds, same_kinds}
+use Rattle.g_graph.proofs.lemmas.Splices.{joined_none, joined_following}
 use Rattle.g_mean.specs.Data.{Datum, val, memory, input, at_port, value_of, value_at, on_memory, on_input, with_memory, changed_at}
 use Rattle.g_mean.specs.Meaning.{Meaning, Context, given, given_memory, got, cleared_at, done, chosen, branched, again, turns, Outputs, no_outputs, extended, read, node_run, nodes_run, region_meaning, meanings}
 use Rattle.g_mean.specs.Calls.{shapes_of, inside, entered, applied, lambda_at}
@@ -26,46 +28,15 @@ use Rattle.val_core.specs.Refinement.{Direction, Forward, Backward, Refines, no_
 use Rattle.val_core.specs.Objects.{opened}
 use Rattle.val_core.proofs.lemmas.Refinement.{forward-within, backward-within, backward-defined, backward-no-deeper, no_deeper-output, no_deeper-depth}
 use Rattle.g_mean.specs.Replacement.{IsTwice}
-use Rattle.g_mean.proofs.Replacement.{lambda-refines}
+use Rattle.g_mean.proofs.lemmas.Replacement.{lambda-refines}
 use Rattle.g_mean.specs.LessDefined.{Paired, IsLessDefinedDatum}
-use Rattle.g_mean.specs.Kinds.{IsOfKind, AreOfKinds, AreWellFormed, call_takes, call_gives, LambdasKeepKinds, ReturnsRefine, WellFormedKeepMeaning}
+use Rattle.g_mean.specs.Kinds.{IsOfKind, AreOfKinds, AreWellFormed, call_takes, call_gives, KeepsKinds, CallsKeepKinds, OutputsHaveKinds, MapHasKinds, RegionsKeepKinds, NodesKeepKinds, MapsKeepKinds, AppliedKeepsKinds, LambdasKeepKinds, ReturnsRefine, WellFormedKeepMeaning}
 
 -- ---- lists of kinds
 
-kind-equal : (i j : Kind) → same_kind i j ≡ true → i ≡ j
-kind-equal ValueKind ValueKind e = refl
-kind-equal Memory Memory e = refl
-kind-equal Io Io e = refl
-kind-equal ValueKind Memory e = absurd cc
-kind-equal ValueKind Io e = absurd cc
-kind-equal Memory ValueKind e = absurd cc
-kind-equal Memory Io e = absurd cc
-kind-equal Io ValueKind e = absurd cc
-kind-equal Io Memory e = absurd cc
-
-are-equal : (xs : List (Option Kind)) (ks : List Kind) → are xs ks ≡ true → xs ≡ map Some ks
-are-equal [] [] t = refl
-are-equal [] (k ∷ ks) t = absurd cc
-are-equal (None ∷ xs) ks t = absurd cc
-are-equal (Some j ∷ xs) [] t = absurd cc
-are-equal (Some j ∷ xs) (k ∷ ks) t =
-    let p = and_parts (same_kind j k) (are xs ks) t in
-    ap₂ (λ z zs. z ∷ zs) (ap Some (kind-equal j k p.0)) (are-equal xs ks p.1)
-
-some-lists : (js ks : List Kind) → map Some js ≡ map Some ks → js ≡ ks
-some-lists [] [] e = refl
-some-lists [] (k ∷ ks) e = absurd cc
-some-lists (j ∷ js) [] e = absurd cc
-some-lists (j ∷ js) (k ∷ ks) e =
-    let first : j ≡ k = cc in
-    let rest : map Some js ≡ map Some ks = cc in
-    ap₂ (λ z zs. z ∷ zs) first (some-lists js ks rest)
-
-same-equal : (js ks : List Kind) → same js ks ≡ true → js ≡ ks
-same-equal js ks t = some-lists js ks (are-equal (map Some js) ks t)
-
 -- the kinds of some origins, where each has one, are those of what they carry
-origins-kinds : (find : Origin → Option Kind) (carry : Origin → Datum) → ((a : Origin) (k : Kind) → find a ≡ Some k → IsOfKind k (carry a)) → (origins : List Origin) (ks : List Kind) → map find origins ≡ map Some ks → AreOfKinds ks (map carry origins)
+origins-kinds : (find : Origin → Option Kind) (carry : Origin → Datum) → ((a : Origin) (k : Kind) → find a ≡ Some k → IsOfKind k (carry a)) → (origins : List Origin) (ks : List Kind) →
+    map find origins ≡ map Some ks → AreOfKinds ks (map carry origins)
 origins-kinds find carry h [] [] e = tt
 origins-kinds find carry h [] (k ∷ ks) e = absurd cc
 origins-kinds find carry h (a ∷ origins) [] e = absurd cc
@@ -113,14 +84,8 @@ got-gives (b ∷ i) = (tt, (tt, tt))
 
 -- ---- one node
 
-abbrev OutKinds : List (Option Kind) → List Datum → Type 0
-OutKinds ks ys = (p : ℕ) (k : Kind) → joined (slice_get ks p) ≡ Some k → IsOfKind k (at_port ys p)
-
-kinds-out : (ks : List Kind) (ys : List Datum) → AreOfKinds ks ys → OutKinds (map Some ks) ys
+kinds-out : (ks : List Kind) (ys : List Datum) → AreOfKinds ks ys → OutputsHaveKinds (map Some ks) ys
 kinds-out ks ys h p k e = at-kind ks ys h p k (joined-some ks p k e)
-
-abbrev KeepsKinds : List Kind → List Kind → Meaning → Type 0
-KeepsKinds takes gives m = (xs : List Datum) → AreOfKinds takes xs → Gives (AreOfKinds gives) (m xs)
 
 abbrev AllKeep : List Kind → List Kind → List Meaning → Type 0
 AllKeep takes gives [] = Unit {0}
@@ -152,11 +117,7 @@ turns-keep ks (suc n) body h xs k =
     gives-then (AreOfKinds (ValueKind ∷ ks)) (AreOfKinds ks) (body xs) (again (turns n body)) (h xs k)
     (λ ys j. again-keeps ks (turns n body) (λ us i. turns-keep ks n body h us i) ys j)
 
--- a call of any function, on any number of values
-abbrev CallsKeep : (ℕ → Meaning) → Type 0
-CallsKeep call = (f count : ℕ) → KeepsKinds (call_takes count) call_gives (call f)
-
-gives-out : (ks : List Kind) (a : Answer (List Datum)) → Gives (AreOfKinds ks) a → Gives (OutKinds (map Some ks)) a
+gives-out : (ks : List Kind) (a : Answer (List Datum)) → Gives (AreOfKinds ks) a → Gives (OutputsHaveKinds (map Some ks)) a
 gives-out ks (Returned ys o) h = kinds-out ks ys h
 gives-out ks (Cut o) h = tt
 gives-out ks (Exited o s) h = tt
@@ -164,21 +125,21 @@ gives-out ks (Undefined o) h = tt
 
 -- ---- the map
 
-abbrev MapKinds : NodeTrees → Outputs → Type 0
-MapKinds ns o = (n p : ℕ) (k : Kind) → kind_after ns n p None ≡ Some k → IsOfKind k (o n p)
-
-after-more : (before : List NodeTree) (x : NodeTree) (n p : ℕ) (found : Option Kind) → kind_after (nodes_of (before ++ x ∷ [])) n p found ≡ cond (id_of x == n) (joined (slice_get (output_kinds x) p)) (kind_after (nodes_of before) n p found)
+after-more : (before : List NodeTree) (x : NodeTree) (n p : ℕ) (found : Option Kind) →
+    kind_after (nodes_of (before ++ x ∷ [])) n p found ≡ cond (id_of x == n) (joined (slice_get (output_kinds x) p)) (kind_after (nodes_of before) n p found)
 after-more [] x n p found = refl
 after-more (y ∷ before) x n p found = after-more before x n p (cond (id_of y == n) (joined (slice_get (output_kinds y) p)) found)
 
-map-more : (before : List NodeTree) (x : NodeTree) (o : Outputs) → MapKinds (nodes_of before) o → (ys : List Datum) → OutKinds (output_kinds x) ys → MapKinds (nodes_of (before ++ x ∷ [])) (extended o (id_of x) ys)
+map-more : (before : List NodeTree) (x : NodeTree) (o : Outputs) → MapHasKinds (nodes_of before) o → (ys : List Datum) → OutputsHaveKinds (output_kinds x) ys →
+    MapHasKinds (nodes_of (before ++ x ∷ [])) (extended o (id_of x) ys)
 map-more before x o h ys k n p j e = by (id_of x == n) (sym (after-more before x n p None) ∙ e)
   where
     by : (test : Bool) → cond test (joined (slice_get (output_kinds x) p)) (kind_after (nodes_of before) n p None) ≡ Some j → IsOfKind j (cond test (at_port ys p) (o n p))
     by true d = k p j d
     by false d = h n p j d
 
-read-kind : (args : List Kind) (xs : List Datum) → AreOfKinds args xs → (ns : NodeTrees) (o : Outputs) → MapKinds ns o → (a : Origin) (k : Kind) → known args ns a ≡ Some k → IsOfKind k (read xs o a)
+read-kind : (args : List Kind) (xs : List Datum) → AreOfKinds args xs → (ns : NodeTrees) (o : Outputs) → MapHasKinds ns o → (a : Origin) (k : Kind) → known args ns a ≡ Some k →
+    IsOfKind k (read xs o a)
 read-kind args xs h ns o m (Arg n) k e = at-kind args xs h n k e
 read-kind args xs h ns o m (Out n p) k e = m n p k e
 
@@ -211,39 +172,33 @@ region-nodes k r t =
     let u = and_parts (nodes_fit k r && results_are_last r) (returns_state Memory r) q.0 in
     (and_parts (nodes_fit k r) (results_are_last r) u.0).0
 
-joined-more : (before : List NodeTree) (x : NodeTree) (ns : NodeTrees) → joined_nodes (nodes_of (before ++ x ∷ [])) ns ≡ joined_nodes (nodes_of before) (node_then x ns)
-joined-more [] x ns = refl
-joined-more (y ∷ before) x ns = ap (node_then y) (joined-more before x ns)
-
-joined-nothing : (ns : NodeTrees) → joined_nodes ns no_nodes ≡ ns
-joined-nothing no_nodes = refl
-joined-nothing (node_then x ns) = ap (node_then x) (joined-nothing ns)
-
 -- ---- regions
 
-module _ (objects : ℕ) (c : Context) (calls : CallsKeep c.call) where
-  done-gives : (ks : List Kind) (op : Op) (us : List Datum) → Gives (AreOfKinds ks) (done c.addresses op us) → Gives (OutKinds (map Some ks)) (done c.addresses op us)
+module _ (objects : ℕ) (c : Context) (calls : CallsKeepKinds c.call) where
+  done-gives : (ks : List Kind) (op : Op) (us : List Datum) → Gives (AreOfKinds ks) (done c.addresses op us) → Gives (OutputsHaveKinds (map Some ks)) (done c.addresses op us)
   done-gives ks op us h = gives-out ks (done c.addresses op us) h
 
   mutual
     region-keeps : (r : RegionTree) → every_region (region_fits objects) r ≡ true → (gives : List Kind) → result_kinds r ≡ map Some gives → KeepsKinds (args_of r) gives (region_meaning c r)
     region-keeps (region args nodes results) t gives e xs kinds =
         let p = and_parts (region_fits objects (region args nodes results)) (every_in_nodes (region_fits objects) nodes) t in
-        gives-then (MapKinds nodes) (AreOfKinds gives) (nodes_run c nodes xs no_outputs) (λ o. Returned (map (read xs o) results) [])
+        gives-then (MapHasKinds nodes) (AreOfKinds gives) (nodes_run c nodes xs no_outputs) (λ o. Returned (map (read xs o) results) [])
         (nodes-keep args [] nodes (region-nodes objects (region args nodes results) p.0) p.1 xs kinds no_outputs (λ n q k d. absurd cc))
         (λ o m. origins-kinds (known args nodes) (read xs o) (λ a k d. read-kind args xs kinds nodes o m a k d) results gives e)
 
-    nodes-keep : (args : List Kind) (before : List NodeTree) (ns : NodeTrees) → each_node (node_fits objects args) before ns ≡ true → every_in_nodes (region_fits objects) ns ≡ true → (xs : List Datum) → AreOfKinds args xs → (o : Outputs) → MapKinds (nodes_of before) o → Gives (MapKinds (joined_nodes (nodes_of before) ns)) (nodes_run c ns xs o)
-    nodes-keep args before no_nodes t nested xs kinds o m = subst (λ ns. MapKinds ns o) (sym (joined-nothing (nodes_of before))) m
+    nodes-keep : (args : List Kind) (before : List NodeTree) (ns : NodeTrees) → each_node (node_fits objects args) before ns ≡ true → every_in_nodes (region_fits objects) ns ≡ true →
+        (xs : List Datum) → AreOfKinds args xs → (o : Outputs) → MapHasKinds (nodes_of before) o → Gives (MapHasKinds (joined_nodes (nodes_of before) ns)) (nodes_run c ns xs o)
+    nodes-keep args before no_nodes t nested xs kinds o m = subst (λ ns. MapHasKinds ns o) (sym (joined_none (nodes_of before))) m
     nodes-keep args before (node_then x ns) t nested xs kinds o m =
         let p = and_parts (node_fits objects args (nodes_of before) x) (each_node (node_fits objects args) (before ++ x ∷ []) ns) t in
         let q = and_parts (every_in_node (region_fits objects) x) (every_in_nodes (region_fits objects) ns) nested in
-        gives-then (OutKinds (output_kinds x)) (MapKinds (joined_nodes (nodes_of before) (node_then x ns))) (node_run c x xs o) (λ us. nodes_run c ns xs (extended o (id_of x) us))
+        gives-then (OutputsHaveKinds (output_kinds x)) (MapHasKinds (joined_nodes (nodes_of before) (node_then x ns))) (node_run c x xs o) (λ us. nodes_run c ns xs (extended o (id_of x) us))
         (node-keeps args (nodes_of before) x (node-tests objects args (nodes_of before) x p.0) q.0 xs kinds o m)
-        (λ us h. subst (λ ms. Gives (MapKinds ms) (nodes_run c ns xs (extended o (id_of x) us))) (joined-more before x ns)
+        (λ us h. subst (λ ms. Gives (MapHasKinds ms) (nodes_run c ns xs (extended o (id_of x) us))) (joined_following before x ns)
         (nodes-keep args (before ++ x ∷ []) ns p.1 q.1 xs kinds (extended o (id_of x) us) (map-more before x o m us h)))
 
-    node-keeps : (args : List Kind) (b : NodeTrees) (x : NodeTree) → NodeTests args b x → every_in_node (region_fits objects) x ≡ true → (xs : List Datum) → AreOfKinds args xs → (o : Outputs) → MapKinds b o → Gives (OutKinds (output_kinds x)) (node_run c x xs o)
+    node-keeps : (args : List Kind) (b : NodeTrees) (x : NodeTree) → NodeTests args b x → every_in_node (region_fits objects) x ≡ true → (xs : List Datum) → AreOfKinds args xs → (o : Outputs) →
+        MapHasKinds b o → Gives (OutputsHaveKinds (output_kinds x)) (node_run c x xs o)
     node-keeps args b (node id (Const w) inputs rs) t nested xs kinds o m = done-gives (ValueKind ∷ []) (Const w) (map (read xs o) inputs) (tt, tt)
     node-keeps args b (node id Undef inputs rs) t nested xs kinds o m = done-gives (ValueKind ∷ []) Undef (map (read xs o) inputs) (tt, tt)
     node-keeps args b (node id (Local k) inputs rs) t nested xs kinds o m = done-gives (ValueKind ∷ []) (Local k) (map (read xs o) inputs) (tt, tt)
@@ -277,33 +232,34 @@ module _ (objects : ℕ) (c : Context) (calls : CallsKeep c.call) where
         let us = map (read xs o) inputs in
         done-gives (ValueKind ∷ Io ∷ []) Get us (input-gives (AreOfKinds (ValueKind ∷ Io ∷ [])) (at_port us 0) got got-gives)
     node-keeps args b (node id (Apply f) inputs rs) t nested xs kinds o m =
-        let us = origins-kinds (known args b) (read xs o) (λ a k d. read-kind args xs kinds b o m a k d) inputs (call_takes (length inputs - 2)) (are-equal (map (known args b) inputs) (call_takes (length inputs - 2)) t.inputs) in
+        let us = origins-kinds (known args b) (read xs o) (λ a k d. read-kind args xs kinds b o m a k d) inputs (call_takes (length inputs - 2)) (are_kinds (map (known args b) inputs) (call_takes (length inputs - 2)) t.inputs) in
         gives-out call_gives (c.call f (map (read xs o) inputs)) (calls f (length inputs - 2) (map (read xs o) inputs) us)
     node-keeps args b (node id Gamma inputs no_regions) t nested xs kinds o m = let h = t.has in absurd cc
     node-keeps args b (node id Gamma inputs (region_then r rs)) t nested xs kinds o m =
         let ks = result_kinds r in
         let takes = ValueKind ∷ args_of r in
-        let us = origins-kinds (known args b) (read xs o) (λ a k d. read-kind args xs kinds b o m a k d) inputs takes (are-equal (map (known args b) inputs) takes t.inputs) in
+        let us = origins-kinds (known args b) (read xs o) (λ a k d. read-kind args xs kinds b o m a k d) inputs takes (are_kinds (map (known args b) inputs) takes t.inputs) in
         let first = and_parts (same (args_of r) (args_of r) && are (result_kinds r) (kinds_of ks)) (all_regions (λ s. same (args_of s) (args_of r) && are (result_kinds s) (kinds_of ks)) rs) t.regions in
-        let own = are-equal ks (kinds_of ks) (and_parts (same (args_of r) (args_of r)) (are (result_kinds r) (kinds_of ks)) first.0).1 in
-        subst (λ js. Gives (OutKinds js) (branched (meanings c (region_then r rs)) (map (read xs o) inputs))) (sym own)
+        let own = are_kinds ks (kinds_of ks) (and_parts (same (args_of r) (args_of r)) (are (result_kinds r) (kinds_of ks)) first.0).1 in
+        subst (λ js. Gives (OutputsHaveKinds js) (branched (meanings c (region_then r rs)) (map (read xs o) inputs))) (sym own)
         (gives-out (kinds_of ks) (branched (meanings c (region_then r rs)) (map (read xs o) inputs))
         (branched-keeps (args_of r) (kinds_of ks) (meanings c (region_then r rs)) (regions-keep (args_of r) (kinds_of ks) (region_then r rs) t.regions nested) (map (read xs o) inputs) us))
     node-keeps args b (node id Theta inputs no_regions) t nested xs kinds o m = let h = t.has in absurd cc
     node-keeps args b (node id Theta inputs (region_then r rs)) t nested xs kinds o m =
-        let us = origins-kinds (known args b) (read xs o) (λ a k d. read-kind args xs kinds b o m a k d) inputs (args_of r) (are-equal (map (known args b) inputs) (args_of r) t.inputs) in
+        let us = origins-kinds (known args b) (read xs o) (λ a k d. read-kind args xs kinds b o m a k d) inputs (args_of r) (are_kinds (map (known args b) inputs) (args_of r) t.inputs) in
         let first = and_parts (are (result_kinds r) (ValueKind ∷ args_of r)) (all_regions (λ s. are (result_kinds s) (ValueKind ∷ args_of s)) rs) t.regions in
         let fits = and_parts (every_region (region_fits objects) r) (every_in_regions (region_fits objects) rs) nested in
         gives-out (args_of r) (turns c.bound (region_meaning c r) (map (read xs o) inputs))
-        (turns-keep (args_of r) c.bound (region_meaning c r) (region-keeps r fits.0 (ValueKind ∷ args_of r) (are-equal (result_kinds r) (ValueKind ∷ args_of r) first.0)) (map (read xs o) inputs) us)
+        (turns-keep (args_of r) c.bound (region_meaning c r) (region-keeps r fits.0 (ValueKind ∷ args_of r) (are_kinds (result_kinds r) (ValueKind ∷ args_of r) first.0)) (map (read xs o) inputs) us)
 
-    regions-keep : (takes gives : List Kind) (rs : RegionTrees) → all_regions (λ s. same (args_of s) takes && are (result_kinds s) gives) rs ≡ true → every_in_regions (region_fits objects) rs ≡ true → AllKeep takes gives (meanings c rs)
+    regions-keep : (takes gives : List Kind) (rs : RegionTrees) → all_regions (λ s. same (args_of s) takes && are (result_kinds s) gives) rs ≡ true →
+        every_in_regions (region_fits objects) rs ≡ true → AllKeep takes gives (meanings c rs)
     regions-keep takes gives no_regions t nested = tt
     regions-keep takes gives (region_then r rs) t nested =
         let p = and_parts (same (args_of r) takes && are (result_kinds r) gives) (all_regions (λ s. same (args_of s) takes && are (result_kinds s) gives) rs) t in
         let q = and_parts (same (args_of r) takes) (are (result_kinds r) gives) p.0 in
         let fits = and_parts (every_region (region_fits objects) r) (every_in_regions (region_fits objects) rs) nested in
-        (subst (λ ks. KeepsKinds ks gives (region_meaning c r)) (same-equal (args_of r) takes q.0) (region-keeps r fits.0 gives (are-equal (result_kinds r) gives q.1)), regions-keep takes gives rs p.1 fits.1)
+        (subst (λ ks. KeepsKinds ks gives (region_meaning c r)) (same_kinds (args_of r) takes q.0) (region-keeps r fits.0 gives (are_kinds (result_kinds r) gives q.1)), regions-keep takes gives rs p.1 fits.1)
 
 -- ---- calls
 
@@ -346,7 +302,8 @@ found-well [] h f l e = absurd cc
 found-well (k ∷ ls) h zero l e = let same : k ≡ l = cc in subst (λ z. well_formed z ≡ true) same h.0
 found-well (k ∷ ls) h (suc f) l e = found-well ls h.1 f l e
 
-entered-keeps : (n : ℕ) (call : ℕ → Meaning) (global : ℕ → Value) → CallsKeep call → (l : PlainLambda) → well_formed l ≡ true → (count : ℕ) → KeepsKinds (call_takes count) call_gives (entered n call global (Some l))
+entered-keeps : (n : ℕ) (call : ℕ → Meaning) (global : ℕ → Value) → CallsKeepKinds call → (l : PlainLambda) → well_formed l ≡ true → (count : ℕ) →
+    KeepsKinds (call_takes count) call_gives (entered n call global (Some l))
 entered-keeps n call global calls l well count xs kinds =
     memory-gives (AreOfKinds call_gives) (at_port xs l.params) _ (λ m e.
     let p = and_parts (body_fits l && numbers_fit l && every_region (region_fits (length l.objects)) l.body) (all_of (λ o. leaves_fit o.size 0 o.leaves) l.objects) well in
@@ -354,21 +311,42 @@ entered-keeps n call global calls l well count xs kinds =
     let r = and_parts (body_fits l) (numbers_fit l) q.0 in
     let b = and_parts (same (args_of l.body) (call_takes l.params)) (are (result_kinds l.body) call_gives) r.0 in
     let place = memory-place count xs kinds l.params m e in
-    let args : call_takes count ≡ args_of l.body = ap call_takes (sym place) ∙ sym (same-equal (args_of l.body) (call_takes l.params) b.0) in
-    let body = region-keeps (length l.objects) (inside n call global l.objects m) calls l.body q.1 call_gives (are-equal (result_kinds l.body) call_gives b.1) in
+    let args : call_takes count ≡ args_of l.body = ap call_takes (sym place) ∙ sym (same_kinds (args_of l.body) (call_takes l.params) b.0) in
+    let body = region-keeps (length l.objects) (inside n call global l.objects m) calls l.body q.1 call_gives (are_kinds (result_kinds l.body) call_gives b.1) in
     gives-then (AreOfKinds call_gives) (AreOfKinds call_gives) (region_meaning (inside n call global l.objects m) l.body (changed_at l.params (with_memory (λ k. k ++ opened (shapes_of l.objects))) xs)) (λ ys. Returned (changed_at 1 (with_memory (closed (length m) (length l.objects))) ys) [])
     (body (changed_at l.params (with_memory (λ k. k ++ opened (shapes_of l.objects))) xs) (subst (λ ks. AreOfKinds ks (changed_at l.params (with_memory (λ k. k ++ opened (shapes_of l.objects))) xs)) args (changed-kinds (call_takes count) l.params (λ k. k ++ opened (shapes_of l.objects)) xs kinds)))
     (λ ys h. changed-kinds call_gives 1 (closed (length m) (length l.objects)) ys h))
 
-found-keeps : (n : ℕ) (call : ℕ → Meaning) (global : ℕ → Value) → CallsKeep call → (found : Option PlainLambda) → ((l : PlainLambda) → found ≡ Some l → well_formed l ≡ true) → (count : ℕ) → KeepsKinds (call_takes count) call_gives (entered n call global found)
+found-keeps : (n : ℕ) (call : ℕ → Meaning) (global : ℕ → Value) → CallsKeepKinds call → (found : Option PlainLambda) → ((l : PlainLambda) → found ≡ Some l → well_formed l ≡ true) → (count : ℕ) →
+    KeepsKinds (call_takes count) call_gives (entered n call global found)
 found-keeps n call global calls None well count xs kinds = tt
 found-keeps n call global calls (Some l) well count xs kinds = entered-keeps n call global calls l (well l refl) count xs kinds
 
-applied-keeps : (ls : List PlainLambda) (global : ℕ → Value) → AreWellFormed ls → (n : ℕ) → CallsKeep (applied ls global n)
+applied-keeps : (ls : List PlainLambda) (global : ℕ → Value) → AreWellFormed ls → (n : ℕ) → CallsKeepKinds (applied ls global n)
 applied-keeps ls global well zero f count xs kinds = tt
 applied-keeps ls global well (suc n) f count xs kinds =
     gives-active (AreOfKinds call_gives) f (entered n (applied ls global n) global (slice_get ls f) xs)
     (found-keeps n (applied ls global n) global (applied-keeps ls global well n) (slice_get ls f) (λ l e. found-well ls well f l e) count xs kinds)
+
+pub regions_keep_kinds : RegionsKeepKinds
+regions_keep_kinds objects c calls r fits gives e = region-keeps objects c calls r fits gives e
+
+pub nodes_keep_kinds : NodesKeepKinds
+nodes_keep_kinds objects c calls args before x well xs kinds o m =
+    node-keeps objects c calls args before x (node-tests objects args before x well.fits) well.nested xs kinds o m
+
+pub maps_keep_kinds : MapsKeepKinds
+maps_keep_kinds objects c calls args nodes results fits xs kinds =
+    let p = and_parts (region_fits objects (region args nodes results)) (every_in_nodes (region_fits objects) nodes) fits in
+    nodes-keep objects c calls args [] nodes (region-nodes objects (region args nodes results) p.0) p.1 xs kinds no_outputs (λ n q k d. absurd cc)
+
+pub applied_keeps_kinds : AppliedKeepsKinds
+applied_keeps_kinds n ls global well = applied-keeps ls global well n
+
+-- a list whose lambdas are well formed by number
+pub all-well-formed : (ls : List PlainLambda) → ((f : ℕ) (l : PlainLambda) → slice_get ls f ≡ Some l → IsWellFormed l) → AreWellFormed ls
+all-well-formed [] h = tt
+all-well-formed (l ∷ ls) h = (h 0 l refl, all-well-formed ls (λ f k e. h (suc f) k e))
 
 pub lambdas_keep_kinds : LambdasKeepKinds
 lambdas_keep_kinds n ls global f count xs well kinds = applied-keeps ls global well (suc n) f count xs kinds
@@ -436,11 +414,12 @@ return-refine xs ys h g p =
       left = a.left;
       near_is = a.is;
       far_is = b.is ∙ ap₂ (λ m l. val b.value ∷ memory m ∷ input l ∷ []) (sym (same-blocks a.blocks b.blocks near.1.0.0)) (sym (same-left a.left b.left near.1.1.0.0));
-      alike = less-values a.value b.value near.0.0;
+      less = less-values a.value b.value near.0.0;
     }
 
 -- what is known of the results on both sides, and a relation that follows
-refines-both : (direction : Direction) (P : List Datum → Type 0) (R S : List Datum → List Datum → Type 0) (a b : Answer (List Datum)) → Gives P a → Gives P b → ((xs ys : List Datum) → P xs → P ys → R xs ys → S xs ys) → Refines no_deeper direction R a b → Refines no_deeper direction S a b
+refines-both : (direction : Direction) (P : List Datum → Type 0) (R S : List Datum → List Datum → Type 0) (a b : Answer (List Datum)) → Gives P a → Gives P b →
+    ((xs ys : List Datum) → P xs → P ys → R xs ys → S xs ys) → Refines no_deeper direction R a b → Refines no_deeper direction S a b
 refines-both direction P R S (Undefined o) b g h more l = tt
 refines-both direction P R S (Returned x o) (Returned y p) g h more l = (more x y g h l.0, l.1)
 refines-both direction P R S (Exited o s) (Exited p t) g h more l = l

@@ -23,7 +23,8 @@ pub record IsKept (N : Datum → Datum → Type 0) : Type 1 where
   pub opens : (x y : Datum) → N x y → (ss : List BlockShape) → N (with_memory (λ k. k ++ opened ss) x) (with_memory (λ k. k ++ opened ss) y)
   pub closes : (x y : Datum) → N x y → (first count : ℕ) → N (with_memory (closed first count) x) (with_memory (closed first count) y)
   pub address : (base : ℕ) (sizes : List ℕ) (k : ℕ) → N (val (address_in base sizes k)) (val (address_in base sizes k))
-  pub plain : (cmp : Comparison) → Compares cmp → (direction : Direction) (e f : Addresses) → AddressesRefine N e f → (op : Op) (xs ys : List Datum) → Paired N xs ys → Refines cmp direction (Paired N) (done e op xs) (done f op ys)
+  pub plain : (cmp : Comparison) → Compares cmp → (direction : Direction) (e f : Addresses) → AddressesRefine N e f → (op : Op) (xs ys : List Datum) → Paired N xs ys →
+      Refines cmp direction (Paired N) (done e op xs) (done f op ys)
 
 -- ---- ports and outputs
 
@@ -41,6 +42,7 @@ pub read-refines : (N : Datum → Datum → Type 0) → IsKept N → (xs ys : Li
 read-refines N k xs ys h o p g (Arg n) = paired-at N k xs ys h n
 read-refines N k xs ys h o p g (Out n q) = g n q
 
-pub reads-refines : (N : Datum → Datum → Type 0) → IsKept N → (xs ys : List Datum) → Paired N xs ys → (o p : Outputs) → OutputsRefine N o p → (origins : List Origin) → Paired N (map (read xs o) origins) (map (read ys p) origins)
+pub reads-refines : (N : Datum → Datum → Type 0) → IsKept N → (xs ys : List Datum) → Paired N xs ys → (o p : Outputs) → OutputsRefine N o p → (origins : List Origin) →
+    Paired N (map (read xs o) origins) (map (read ys p) origins)
 reads-refines N k xs ys h o p g [] = tt
 reads-refines N k xs ys h o p g (a ∷ origins) = (read-refines N k xs ys h o p g a, reads-refines N k xs ys h o p g origins)

@@ -24,7 +24,8 @@ same-added R o (Exited p s) (Exited q t) h = (ap (λ z. o ++ z) h.0, h.1)
 same-added R o (Undefined p) (Undefined q) h = ap (λ z. o ++ z) h
 same-added R o _ _ h = absurd h
 
-pub same-then : {A B C D : Type 0} (R : A → B → Type 0) (S : C → D → Type 0) (a : Answer A) (b : Answer B) (next : A → Answer C) (next' : B → Answer D) → Same R a b → ((x : A) (y : B) → R x y → Same S (next x) (next' y)) → Same S (then_on a next) (then_on b next')
+pub same-then : {A B C D : Type 0} (R : A → B → Type 0) (S : C → D → Type 0) (a : Answer A) (b : Answer B) (next : A → Answer C) (next' : B → Answer D) → Same R a b →
+    ((x : A) (y : B) → R x y → Same S (next x) (next' y)) → Same S (then_on a next) (then_on b next')
 same-then R S (Returned x o) (Returned y p) next next' h go =
     subst (λ z. Same S (before o (next x)) (before z (next' y))) h.1
     (rw (before-is o (next x), before-is o (next' y)) (same-added S o (next x) (next' y) (go x y h.0)))
@@ -119,7 +120,8 @@ module _ (N : Datum → Datum → Type 0) (S : Origin → Bool) (move : Origin �
   far-side q id vs first b s (Out n p) e =
       ap (read ys (extended q (to id) vs)) e ∙ extended-other q (to id) vs n p (λ t. can.fresh b n p id s e first (sym t)) ∙ sym (ap (read ys q) e)
 
-  pub read-more : (known : List ℕ) → ((n : ℕ) → IsAmong n known → IsAmong n all) → (id : ℕ) → IsAmong id all → (o q : Outputs) → ReadAs known o q → (us vs : List Datum) → ((p : ℕ) → N (at_port us p) (at_port vs p)) → ReadAs (id ∷ known) (extended o id us) (extended q (to id) vs)
+  pub read-more : (known : List ℕ) → ((n : ℕ) → IsAmong n known → IsAmong n all) → (id : ℕ) → IsAmong id all → (o q : Outputs) → ReadAs known o q → (us vs : List Datum) →
+      ((p : ℕ) → N (at_port us p) (at_port vs p)) → ReadAs (id ∷ known) (extended o id us) (extended q (to id) vs)
   read-more known within id first o q near us vs ports b (inl s) =
       subst₂ (λ x y. N x y) (sym (less-side o id us first b s b refl)) (sym (far-side q id vs first b s (move b) refl)) (near b (inl s))
   read-more known within id first o q near us vs ports (Arg k) (inr h) = absurd h
@@ -144,7 +146,8 @@ module _ (N : Datum → Datum → Type 0) (S : Origin → Bool) (move : Origin �
 abbrev pub Carries : Datum → Datum → Type 0
 Carries x y = y ≡ x
 
-pub reads-same : (S : Origin → Bool) (known : List ℕ) (move : Origin → Origin) (xs ys : List Datum) (o q : Outputs) → ReadSame S known move xs ys o q → (origins : List Origin) → AreRead S known origins → map (read ys q) (map move origins) ≡ map (read xs o) origins
+pub reads-same : (S : Origin → Bool) (known : List ℕ) (move : Origin → Origin) (xs ys : List Datum) (o q : Outputs) → ReadSame S known move xs ys o q → (origins : List Origin) →
+    AreRead S known origins → map (read ys q) (map move origins) ≡ map (read xs o) origins
 reads-same S known move xs ys o q same [] h = refl
 reads-same S known move xs ys o q same (a ∷ origins) h =
     ap₂ (λ z zs. z ∷ zs) (same a h.0) (reads-same S known move xs ys o q same origins h.1)
@@ -174,7 +177,9 @@ mutual
       (nodes-same (is_argument (length args)) (renumbered to) to (nodes_ids nodes) (renumbered-moves (length args) to (nodes_ids nodes) one) nodes [] (λ n h. absurd h) (λ n h. h) closed.0 c xs xs no_outputs no_outputs (argument-kept (length args) to xs no_outputs no_outputs))
       (λ o q h. (sym (reads-same (is_argument (length args)) (known_after [] nodes) (renumbered to) xs xs o q h results closed.1), refl)))
 
-  nodes-same : (S : Origin → Bool) (move : Origin → Origin) (to : ℕ → ℕ) (all : List ℕ) → CanMove S move to all → (ns : NodeTrees) (known : List ℕ) → ((n : ℕ) → IsAmong n known → IsAmong n all) → ((n : ℕ) → IsAmong n (nodes_ids ns) → IsAmong n all) → NodesRead S known ns → (c : Context) (xs ys : List Datum) (o q : Outputs) → ReadSame S known move xs ys o q → Same (ReadSame S (known_after known ns) move xs ys) (nodes_run c ns xs o) (nodes_run c (nodes_moved move to ns) ys q)
+  nodes-same : (S : Origin → Bool) (move : Origin → Origin) (to : ℕ → ℕ) (all : List ℕ) → CanMove S move to all → (ns : NodeTrees) (known : List ℕ) → ((n : ℕ) → IsAmong n known → IsAmong n all) →
+      ((n : ℕ) → IsAmong n (nodes_ids ns) → IsAmong n all) → NodesRead S known ns → (c : Context) (xs ys : List Datum) (o q : Outputs) → ReadSame S known move xs ys o q →
+      Same (ReadSame S (known_after known ns) move xs ys) (nodes_run c ns xs o) (nodes_run c (nodes_moved move to ns) ys q)
   nodes-same S move to all can no_nodes known within rest reads c xs ys o q same = (same, refl)
   nodes-same S move to all can (node_then (node id op inputs rs) ns) known within rest reads c xs ys o q same =
       let here : IsAmong id ((id ∷ regions_ids rs) ++ nodes_ids ns) = inl refl in

@@ -14,7 +14,7 @@ use Rattle.g_mean.specs.Data.{Datum, val, value_of, with_memory}
 use Rattle.g_mean.specs.Meaning.{done}
 use Rattle.g_mean.specs.LessDefined.{Paired}
 use Rattle.g_mean.specs.Refining.{Compares}
-use Rattle.g_mean.proofs.Kept.{AddressesRefine, IsKept}
+use Rattle.g_mean.proofs.lemmas.Kept.{AddressesRefine, IsKept}
 
 -- ---- the comparisons
 
@@ -65,7 +65,8 @@ addresses-equal : (e f : Addresses) → AddressesRefine Equal e f → e ≡ f
 addresses-equal e f h =
     ap₂ (λ l g. record { local = l; global = g }) (fun_ext (λ k. val-inj (e.local k) (f.local k) (h.locals k))) (fun_ext (λ k. val-inj (e.global k) (f.global k) (h.globals k)))
 
-equal-plain : (cmp : Comparison) → Compares cmp → (direction : Direction) (e f : Addresses) → AddressesRefine Equal e f → (op : Op) (xs ys : List Datum) → Paired Equal xs ys → Refines cmp direction (Paired Equal) (done e op xs) (done f op ys)
+equal-plain : (cmp : Comparison) → Compares cmp → (direction : Direction) (e f : Addresses) → AddressesRefine Equal e f → (op : Op) (xs ys : List Datum) → Paired Equal xs ys →
+    Refines cmp direction (Paired Equal) (done e op xs) (done f op ys)
 equal-plain cmp g direction e f h op xs ys near =
     subst (λ a. Refines cmp direction (Paired Equal) (done e op xs) a) (ap₂ (λ d zs. done d op zs) (addresses-equal e f h) (paired-equal xs ys near)) (refines-itself cmp g direction (done e op xs))
 

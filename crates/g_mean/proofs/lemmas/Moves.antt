@@ -10,19 +10,20 @@ use Rattle.g_graph.specs.declared.op.Op.TheVariants.{Const, Undef, Local, Delta,
 use Rattle.g_graph.specs.declared.op.Origin.{Origin}
 use Rattle.g_graph.specs.Plain.{node, NodeTrees, no_nodes, node_then}
 use Rattle.g_graph.specs.Ids.{nodes_ids, regions_ids}
+use Rattle.g_graph.specs.Signatures.{is_pure}
 use Rattle.g_mean.specs.Data.{Datum, value_of}
 use Rattle.g_mean.specs.Meaning.{Meaning, Context, act, again, turns, Outputs, no_outputs, extended, read, nodes_run, meanings}
 use Rattle.g_mean.specs.LessDefined.{Paired, IsLessDefinedDatum}
 use Rattle.g_mean.specs.Refining.{ContextRefines}
 use Rattle.g_mean.specs.Copies.{IsAmong, AreRead, known_after, NodesRead, CanMove, nodes_moved, regions_copied}
-use Rattle.g_mean.specs.Moves.{is_pure, GivesTheSame, PureNodesGiveTheSame, ReadLessDefined, MovedNodesRefine, MovedRegionsRefine, IsTurned, LoopsRefine}
-use Rattle.g_mean.proofs.Kept.{paired-at}
-use Rattle.g_mean.proofs.Regions.{both-cut, less-cut, far-cut, order-below, act-refines, regions-refines}
-use Rattle.g_mean.proofs.Equal.{no_deeper-compares}
-use Rattle.g_mean.proofs.LessDefinedLemmas.{less-kept}
-use Rattle.g_mean.proofs.Calls.{regions-itself}
-use Rattle.g_mean.proofs.Bounds.{Never, Always, never-refines}
-use Rattle.g_mean.proofs.Copies.{among-left, among-right, among-more, fewer, read-more, regions-same}
+use Rattle.g_mean.specs.Moves.{GivesTheSame, PureNodesGiveTheSame, ReadLessDefined, MovedNodesRefine, MovedRegionsRefine, IsTurned, LoopsRefine}
+use Rattle.g_mean.proofs.lemmas.Kept.{paired-at}
+use Rattle.g_mean.proofs.lemmas.Regions.{pick, both-cut, less-cut, far-cut, order-below, act-refines, regions-refines}
+use Rattle.g_mean.proofs.lemmas.Equal.{no_deeper-compares}
+use Rattle.g_mean.proofs.lemmas.LessDefined.{less-kept}
+use Rattle.g_mean.proofs.lemmas.Calls.{regions-itself}
+use Rattle.g_mean.proofs.lemmas.Bounds.{Never, Always, never-refines}
+use Rattle.g_mean.proofs.lemmas.Copies.{among-left, among-right, among-more, fewer, read-more, regions-same}
 
 -- ---- pure nodes
 
@@ -52,11 +53,13 @@ pure_nodes_give_the_same op pure c id id' inputs inputs' rs rs' xs ys o q e =
 -- ---- moved nodes
 
 module _ (direction : Direction) (c d : Context) (a : ContextRefines no_deeper direction IsLessDefinedDatum c d) (S : Origin → Bool) (move : Origin → Origin) (to : ℕ → ℕ) (all : List ℕ) (can : CanMove S move to all) (xs ys : List Datum) where
-  pub reads-less : (known : List ℕ) (o q : Outputs) → ReadLessDefined S known move xs ys o q → (origins : List Origin) → AreRead S known origins → Paired IsLessDefinedDatum (map (read xs o) origins) (map (read ys q) (map move origins))
+  pub reads-less : (known : List ℕ) (o q : Outputs) → ReadLessDefined S known move xs ys o q → (origins : List Origin) → AreRead S known origins →
+      Paired IsLessDefinedDatum (map (read xs o) origins) (map (read ys q) (map move origins))
   reads-less known o q near [] h = tt
   reads-less known o q near (b ∷ origins) h = (near b h.0, reads-less known o q near origins h.1)
 
-  moved-refines : (ns : NodeTrees) (known : List ℕ) → ((n : ℕ) → IsAmong n known → IsAmong n all) → ((n : ℕ) → IsAmong n (nodes_ids ns) → IsAmong n all) → NodesRead S known ns → (o q : Outputs) → ReadLessDefined S known move xs ys o q → Refines no_deeper direction (ReadLessDefined S (known_after known ns) move xs ys) (nodes_run c ns xs o) (nodes_run d (nodes_moved move to ns) ys q)
+  moved-refines : (ns : NodeTrees) (known : List ℕ) → ((n : ℕ) → IsAmong n known → IsAmong n all) → ((n : ℕ) → IsAmong n (nodes_ids ns) → IsAmong n all) → NodesRead S known ns → (o q : Outputs) →
+      ReadLessDefined S known move xs ys o q → Refines no_deeper direction (ReadLessDefined S (known_after known ns) move xs ys) (nodes_run c ns xs o) (nodes_run d (nodes_moved move to ns) ys q)
   moved-refines no_nodes known within rest read o q near = (near, no_deeper-compares.goes.nothing)
   moved-refines (node_then (node id op inputs rs) ns) known within rest reads o q near =
       let here : IsAmong id ((id ∷ regions_ids rs) ++ nodes_ids ns) = inl refl in
@@ -85,16 +88,14 @@ moved_regions_refine direction c d a S move to args args' ns results can reads g
 
 -- ---- loops
 
-pick : {X : Type 0} (R : X → X → Type 0) (test : Bool) (a b x y : X) → R a b → R x y → R (cond test a x) (cond test b y)
-pick R true a b x y h k = h
-pick R false a b x y h k = k
-
-number-refines : (direction : Direction) (R : List Datum → List Datum → Type 0) (u v : Value) → ((w : ℕ) → u ≡ Num w → v ≡ Num w) → (f h : ℕ → Answer (List Datum)) → ((w : ℕ) → Refines no_deeper direction R (f w) (h w)) → Refines no_deeper direction R (on_number u f) (on_number v h)
+number-refines : (direction : Direction) (R : List Datum → List Datum → Type 0) (u v : Value) → ((w : ℕ) → u ≡ Num w → v ≡ Num w) → (f h : ℕ → Answer (List Datum)) →
+    ((w : ℕ) → Refines no_deeper direction R (f w) (h w)) → Refines no_deeper direction R (on_number u f) (on_number v h)
 number-refines direction R (Num w) v e f h like = subst (λ u. Refines no_deeper direction R (f w) (on_number u h)) (sym (e w refl)) (like w)
 number-refines direction R (At b o) v e f h like = tt
 number-refines direction R Bad v e f h like = tt
 
-again-turned : (direction : Direction) (R : List Datum → List Datum → Type 0) (next next' : Meaning) → ((xs ys : List Datum) → R xs ys → Refines no_deeper direction R (next xs) (next' ys)) → (xs ys : List Datum) → IsTurned R xs ys → Refines no_deeper direction R (again next xs) (again next' ys)
+again-turned : (direction : Direction) (R : List Datum → List Datum → Type 0) (next next' : Meaning) → ((xs ys : List Datum) → R xs ys → Refines no_deeper direction R (next xs) (next' ys)) →
+    (xs ys : List Datum) → IsTurned R xs ys → Refines no_deeper direction R (again next xs) (again next' ys)
 again-turned direction R next next' h [] ys near = tt
 again-turned direction R next next' h (p ∷ xs) (q ∷ ys) near =
     number-refines direction R (value_of p) (value_of q) near.0 (λ w. cond (w == 0) (Returned xs []) (next xs)) (λ w. cond (w == 0) (Returned ys []) (next' ys))

@@ -21,28 +21,31 @@ use Rattle.g_mean.specs.Copies.{IsAmong, IsRead, AreRead, NodeReads, NodesRead, 
 use Rattle.g_mean.specs.Moves.{ReadLessDefined}
 use Rattle.g_mean.specs.Holds.{HasRun, HaveRun}
 use Rattle.g_mean.specs.Splices.{CanRedirect, RedirectedRegionsRefine, ReplacedNodesRefine}
-use Rattle.g_mean.proofs.Kept.{OutputsRefine, paired-at, reads-refines}
-use Rattle.g_mean.proofs.Regions.{extended-refines, nodes-refines}
-use Rattle.g_mean.proofs.Equal.{no_deeper-compares}
-use Rattle.g_mean.proofs.LessDefinedLemmas.{less-kept}
-use Rattle.g_mean.proofs.Calls.{nodes-itself}
-use Rattle.g_mean.proofs.Bounds.{Never, Always, never-refines}
-use Rattle.g_mean.proofs.Copies.{among-left, among-right, redirected-moved}
-use Rattle.g_mean.proofs.Moves.{reads-less, moved_nodes_refine}
-use Rattle.g_mean.proofs.Edits.{distinct-split}
-use Rattle.g_mean.proofs.Holds.{none-among, among-none, id-among, distinct-apart, holds-from}
-use Rattle.g_mean.proofs.Splices.{joined-run, joined-ids, joined-known, joined-read, joined-reads, known-among, all-wider, nodes-wider, known-split, all-among}
+use Rattle.g_mean.proofs.lemmas.Kept.{OutputsRefine, paired-at, reads-refines}
+use Rattle.g_mean.proofs.lemmas.Regions.{extended-refines, nodes-refines}
+use Rattle.g_mean.proofs.lemmas.Equal.{no_deeper-compares}
+use Rattle.g_mean.proofs.lemmas.LessDefined.{less-kept}
+use Rattle.g_mean.proofs.lemmas.Calls.{nodes-itself}
+use Rattle.g_mean.proofs.lemmas.Bounds.{Never, Always, never-refines}
+use Rattle.g_mean.proofs.lemmas.Copies.{among-left, among-right, redirected-moved}
+use Rattle.g_mean.proofs.lemmas.Moves.{reads-less, moved_nodes_refine}
+use Rattle.g_mean.proofs.lemmas.Edits.{distinct-split}
+use Rattle.g_mean.proofs.lemmas.Holds.{none-among, among-none, id-among, distinct-apart, holds-from}
+use Rattle.g_graph.proofs.lemmas.Splices.{nodes_ids-joined}
+use Rattle.g_mean.proofs.lemmas.Splices.{joined-run, joined-known, joined-read, joined-reads, known-among, all-wider, nodes-wider, known-split, all-among}
 
 -- ---- inputs that stay
 
-inputs-stay : (S : Origin → Bool) (known : List ℕ) (move : Origin → Origin) → ((a : Origin) → IsRead S known a → move a ≡ a) → (origins : List Origin) → AreRead S known origins → map move origins ≡ origins
+inputs-stay : (S : Origin → Bool) (known : List ℕ) (move : Origin → Origin) → ((a : Origin) → IsRead S known a → move a ≡ a) → (origins : List Origin) → AreRead S known origins →
+    map move origins ≡ origins
 inputs-stay S known move h [] r = refl
 inputs-stay S known move h (a ∷ origins) r = ap₂ (λ b bs. b ∷ bs) (h a r.0) (inputs-stay S known move h origins r.1)
 
 node-stays : (S : Origin → Bool) (known : List ℕ) (move : Origin → Origin) → ((a : Origin) → IsRead S known a → move a ≡ a) → (x : NodeTree) → NodeReads S known x → node_redirected move x ≡ x
 node-stays S known move h (node id op inputs rs) r = ap (λ is. node id op is rs) (inputs-stay S known move h inputs r.0)
 
-nodes-stay : (S : Origin → Bool) (known : List ℕ) (move : Origin → Origin) → ((a : Origin) → S a ≡ true → move a ≡ a) → (at : ℕ) → ((n p : ℕ) → n ≢ at → move (Out n p) ≡ Out n p) → (ns : NodeTrees) → (IsAmong at known → ⊥) → (IsAmong at (nodes_ids ns) → ⊥) → NodesRead S known ns → nodes_redirected move ns ≡ ns
+nodes-stay : (S : Origin → Bool) (known : List ℕ) (move : Origin → Origin) → ((a : Origin) → S a ≡ true → move a ≡ a) → (at : ℕ) → ((n p : ℕ) → n ≢ at → move (Out n p) ≡ Out n p) →
+    (ns : NodeTrees) → (IsAmong at known → ⊥) → (IsAmong at (nodes_ids ns) → ⊥) → NodesRead S known ns → nodes_redirected move ns ≡ ns
 nodes-stay S known move h at others no_nodes out apart r = refl
 nodes-stay S known move h at others (node_then x ns) out apart r =
     ap₂ node_then (node-stays S known move stays x r.0)
@@ -75,7 +78,7 @@ append-nothing (n ∷ ns) = ap (λ ms. n ∷ ms) (append-nothing ns)
 
 module _ (direction : Direction) (c d : Context) (context : ContextRefines no_deeper direction IsLessDefinedDatum c d) (args : List Kind) (before : NodeTrees) (x : NodeTree) (after : NodeTrees) (results : List Origin) (move : Origin → Origin) (can : CanRedirect args before x after results move) where
   all-distinct : distinct (nodes_ids before ++ (node_ids x ++ nodes_ids after)) ≡ true
-  all-distinct = subst (λ zs. distinct zs ≡ true) (joined-ids before (node_then x after)) can.unique
+  all-distinct = subst (λ zs. distinct zs ≡ true) (nodes_ids-joined before (node_then x after)) can.unique
 
   later-distinct : distinct (node_ids x ++ nodes_ids after) ≡ true
   later-distinct = (distinct-split (nodes_ids before) (node_ids x ++ nodes_ids after) all-distinct).1
@@ -157,14 +160,15 @@ module _ (direction : Direction) (c d : Context) (context : ContextRefines no_de
 
   -- ---- the whole region
 
-  first-run : (xs : List Datum) (a : Answer Outputs) → nodes_run c (joined_nodes before (node_then x no_nodes)) xs no_outputs ≡ a → Gives (λ o. HaveRun c xs o (joined_nodes before (node_then x no_nodes))) a
+  first-run : (xs : List Datum) (a : Answer Outputs) → nodes_run c (joined_nodes before (node_then x no_nodes)) xs no_outputs ≡ a →
+      Gives (λ o. HaveRun c xs o (joined_nodes before (node_then x no_nodes))) a
   first-run xs (Returned o did) e =
       holds-from (length args) c (joined_nodes before (node_then x no_nodes)) [] xs no_outputs o did
       (joined-reads (is_argument (length args)) [] before (node_then x no_nodes) whole-read.0 (whole-read.1.0, tt)) (λ n h k. h) first-distinct e
     where
       first-distinct : distinct (nodes_ids (joined_nodes before (node_then x no_nodes))) ≡ true
       first-distinct =
-          subst (λ zs. distinct zs ≡ true) (sym (joined-ids before (node_then x no_nodes) ∙ ap (λ zs. nodes_ids before ++ zs) (append-nothing (node_ids x))))
+          subst (λ zs. distinct zs ≡ true) (sym (nodes_ids-joined before (node_then x no_nodes) ∙ ap (λ zs. nodes_ids before ++ zs) (append-nothing (node_ids x))))
           (distinct-split (nodes_ids before ++ node_ids x) (nodes_ids after) (subst (λ zs. distinct zs ≡ true) (sym (append_assoc (nodes_ids before) (node_ids x) (nodes_ids after))) all-distinct)).0
   first-run xs (Cut o) e = tt
   first-run xs (Exited o s) e = tt
@@ -237,7 +241,8 @@ module _ (direction : Direction) (c d : Context) (context : ContextRefines no_de
   before-run xs (Exited o s) e = tt
   before-run xs (Undefined o) e = tt
 
-  same-refines : (ns : NodeTrees) (xs ys : List Datum) → Paired IsLessDefinedDatum xs ys → (o q : Outputs) → OutputsRefine IsLessDefinedDatum o q → Refines no_deeper direction (OutputsRefine IsLessDefinedDatum) (nodes_run c ns xs o) (nodes_run d ns ys q)
+  same-refines : (ns : NodeTrees) (xs ys : List Datum) → Paired IsLessDefinedDatum xs ys → (o q : Outputs) → OutputsRefine IsLessDefinedDatum o q →
+      Refines no_deeper direction (OutputsRefine IsLessDefinedDatum) (nodes_run c ns xs o) (nodes_run d ns ys q)
   same-refines ns xs ys near o q like =
       nodes-refines no_deeper no_deeper-compares direction IsLessDefinedDatum less-kept Never Always (never-refines no_deeper no_deeper-compares direction IsLessDefinedDatum less-kept) c d context tt ns ns (nodes-itself Never ns) xs ys near o q like
 
@@ -267,4 +272,4 @@ pub replaced_nodes_refine : ReplacedNodesRefine
 replaced_nodes_refine direction c d context args before x y after results closed unique same node-refines =
     replaced-refines direction c d context args before x y after results
     (joined-read (is_argument (length args)) [] before (node_then x after) closed.0).0
-    (distinct-split (nodes_ids before) (node_ids x ++ nodes_ids after) (subst (λ zs. distinct zs ≡ true) (joined-ids before (node_then x after)) unique)).0 same node-refines
+    (distinct-split (nodes_ids before) (node_ids x ++ nodes_ids after) (subst (λ zs. distinct zs ≡ true) (nodes_ids-joined before (node_then x after)) unique)).0 same node-refines

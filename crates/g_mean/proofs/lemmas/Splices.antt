@@ -25,16 +25,18 @@ use Rattle.g_mean.specs.Copies.{IsAmong, IsRead, AreRead, NodesRead, known_after
 use Rattle.g_mean.specs.Moves.{ReadLessDefined}
 use Rattle.g_mean.specs.Holds.{HaveRun}
 use Rattle.g_mean.specs.Splices.{FitsInto, SplicedRegionsRefine}
-use Rattle.g_mean.proofs.Kept.{OutputsRefine, paired-at}
-use Rattle.g_mean.proofs.Regions.{nodes-refines}
-use Rattle.g_mean.proofs.Equal.{no_deeper-compares}
-use Rattle.g_mean.proofs.LessDefinedLemmas.{less-kept}
-use Rattle.g_mean.proofs.Calls.{nodes-itself}
-use Rattle.g_mean.proofs.Bounds.{Never, Always, never-refines}
-use Rattle.g_mean.proofs.Copies.{test-other, same-then, among-left, among-right, among-split, extended-same, extended-other, copied_nodes_mean_the_same, reads-same, redirected-moved}
-use Rattle.g_mean.proofs.Moves.{reads-less, moved_nodes_refine}
-use Rattle.g_mean.proofs.Edits.{distinct-split}
-use Rattle.g_mean.proofs.Holds.{none-among, among-none, id-among, distinct-apart, unchanged, holds-from}
+use Rattle.g_mean.proofs.lemmas.Kept.{OutputsRefine, paired-at}
+use Rattle.g_mean.proofs.lemmas.Regions.{nodes-refines}
+use Rattle.g_graph.proofs.lemmas.Redirects.{nodes_ids-redirected}
+use Rattle.g_graph.proofs.lemmas.Splices.{nodes_ids-joined}
+use Rattle.g_mean.proofs.lemmas.Equal.{no_deeper-compares}
+use Rattle.g_mean.proofs.lemmas.LessDefined.{less-kept}
+use Rattle.g_mean.proofs.lemmas.Calls.{nodes-itself}
+use Rattle.g_mean.proofs.lemmas.Bounds.{Never, Always, never-refines}
+use Rattle.g_mean.proofs.lemmas.Copies.{test-other, same-then, among-left, among-right, among-split, extended-same, extended-other, copied_nodes_mean_the_same, reads-same, redirected-moved}
+use Rattle.g_mean.proofs.lemmas.Moves.{reads-less, moved_nodes_refine}
+use Rattle.g_mean.proofs.lemmas.Edits.{distinct-split}
+use Rattle.g_mean.proofs.lemmas.Holds.{none-among, among-none, id-among, distinct-apart, unchanged, holds-from}
 
 -- ---- joined nodes
 
@@ -43,11 +45,6 @@ joined-run c no_nodes ms xs o = refl
 joined-run c (node_then x ns) ms xs o =
     ap (then_on (node_run c x xs o)) (fun_ext (λ us. joined-run c ns ms xs (extended o (id_of x) us)))
     ∙ sym (then_associates (node_run c x xs o) (λ us. nodes_run c ns xs (extended o (id_of x) us)) (nodes_run c ms xs))
-
-pub joined-ids : (ns ms : NodeTrees) → nodes_ids (joined_nodes ns ms) ≡ nodes_ids ns ++ nodes_ids ms
-joined-ids no_nodes ms = refl
-joined-ids (node_then x ns) ms =
-    ap (λ zs. node_ids x ++ zs) (joined-ids ns ms) ∙ sym (append_assoc (node_ids x) (nodes_ids ns) (nodes_ids ms))
 
 pub joined-known : (known : List ℕ) (ns ms : NodeTrees) → known_after known (joined_nodes ns ms) ≡ known_after (known_after known ns) ms
 joined-known known no_nodes ms = refl
@@ -63,16 +60,12 @@ pub joined-reads : (S : Origin → Bool) (known : List ℕ) (ns ms : NodeTrees) 
 joined-reads S known no_nodes ms h k = k
 joined-reads S known (node_then x ns) ms h k = (h.0, joined-reads S (id_of x ∷ known) ns ms h.1 k)
 
-spliced-joined : (before : NodeTrees) (x : NodeTree) (after part : NodeTrees) (outs : List Origin) → (IsAmong (id_of x) (nodes_ids before) → ⊥) → nodes_spliced (id_of x) part outs (joined_nodes before (node_then x after)) ≡ joined_nodes before (joined_nodes part (nodes_redirected (outputs_to_results (id_of x) outs) after))
+spliced-joined : (before : NodeTrees) (x : NodeTree) (after part : NodeTrees) (outs : List Origin) → (IsAmong (id_of x) (nodes_ids before) → ⊥) →
+    nodes_spliced (id_of x) part outs (joined_nodes before (node_then x after)) ≡ joined_nodes before (joined_nodes part (nodes_redirected (outputs_to_results (id_of x) outs) after))
 spliced-joined no_nodes x after part outs h = rw (eq-eqb (id_of x) (id_of x) refl)
 spliced-joined (node_then y before) x after part outs h =
     let other : (id_of y == id_of x) ≡ false = test-other (id_of y) (id_of x) (λ e. h (among-left (id_of x) (node_ids y) (nodes_ids before) (subst (λ z. IsAmong z (node_ids y)) e (id-among y)))) in
     rw other (ap (node_then y) (spliced-joined before x after part outs (λ k. h (among-right (id_of x) (node_ids y) (nodes_ids before) k))))
-
-redirected-ids : (f : Origin → Origin) (ns : NodeTrees) → nodes_ids (nodes_redirected f ns) ≡ nodes_ids ns
-redirected-ids f no_nodes = refl
-redirected-ids f (node_then (node id op inputs rs) ns) =
-    ap (λ zs. node_ids (node id op inputs rs) ++ zs) (redirected-ids f ns)
 
 -- known nodes are some of the nodes
 pub known-among : (known : List ℕ) (ns : NodeTrees) (n : ℕ) → IsAmong n (known_after known ns) → IsAmong n known ⊎ IsAmong n (nodes_ids ns)
@@ -147,14 +140,16 @@ placed-is inputs k h =
 abbrev Through : {A B C : Type 0} → (A → B → Type 0) → (B → C → Type 0) → A → C → Type 0
 Through {A} {B} R T x z = (y : B) × R x y × T y z
 
-back-same : {A B C : Type 0} (direction : Direction) (R : A → B → Type 0) (T : B → C → Type 0) (a : Answer A) (y : B) (z : C) (p : List Event) → T y z → Refines no_deeper direction R a (Returned y p) → Refines no_deeper direction (Through R T) a (Returned z p)
+back-same : {A B C : Type 0} (direction : Direction) (R : A → B → Type 0) (T : B → C → Type 0) (a : Answer A) (y : B) (z : C) (p : List Event) → T y z →
+    Refines no_deeper direction R a (Returned y p) → Refines no_deeper direction (Through R T) a (Returned z p)
 back-same direction R T (Undefined o) y z p k h = tt
 back-same direction R T (Returned x o) y z p k h = ((y, h.0, k), h.1)
 back-same Forward R T (Cut o) y z p k h = h
 back-same Backward R T (Cut o) y z p k h = absurd h
 back-same direction R T (Exited o s) y z p k h = absurd h
 
-cut-same : {A B C : Type 0} (direction : Direction) (R : A → B → Type 0) (S : A → C → Type 0) (a : Answer A) (p : List Event) → Refines no_deeper direction R a (Cut p) → Refines no_deeper direction S a (Cut p)
+cut-same : {A B C : Type 0} (direction : Direction) (R : A → B → Type 0) (S : A → C → Type 0) (a : Answer A) (p : List Event) → Refines no_deeper direction R a (Cut p) →
+    Refines no_deeper direction S a (Cut p)
 cut-same direction R S (Undefined o) p h = tt
 cut-same Forward R S (Returned x o) p h = absurd h
 cut-same Backward R S (Returned x o) p h = h
@@ -163,21 +158,24 @@ cut-same Backward R S (Cut o) p h = h
 cut-same Forward R S (Exited o s) p h = absurd h
 cut-same Backward R S (Exited o s) p h = h
 
-exited-same : {A B C : Type 0} (direction : Direction) (R : A → B → Type 0) (S : A → C → Type 0) (a : Answer A) (p : List Event) (t : ℕ) → Refines no_deeper direction R a (Exited p t) → Refines no_deeper direction S a (Exited p t)
+exited-same : {A B C : Type 0} (direction : Direction) (R : A → B → Type 0) (S : A → C → Type 0) (a : Answer A) (p : List Event) (t : ℕ) → Refines no_deeper direction R a (Exited p t) →
+    Refines no_deeper direction S a (Exited p t)
 exited-same direction R S (Undefined o) p t h = tt
 exited-same direction R S (Returned x o) p t h = absurd h
 exited-same Forward R S (Cut o) p t h = h
 exited-same Backward R S (Cut o) p t h = absurd h
 exited-same direction R S (Exited o s) p t h = h
 
-undefined-same : {A B C : Type 0} (direction : Direction) (R : A → B → Type 0) (S : A → C → Type 0) (a : Answer A) (p q : List Event) → Refines no_deeper direction R a (Undefined p) → Refines no_deeper direction S a (Undefined q)
+undefined-same : {A B C : Type 0} (direction : Direction) (R : A → B → Type 0) (S : A → C → Type 0) (a : Answer A) (p q : List Event) → Refines no_deeper direction R a (Undefined p) →
+    Refines no_deeper direction S a (Undefined q)
 undefined-same direction R S (Undefined o) p q h = tt
 undefined-same direction R S (Returned x o) p q h = absurd h
 undefined-same Forward R S (Cut o) p q h = tt
 undefined-same Backward R S (Cut o) p q h = absurd h
 undefined-same direction R S (Exited o s) p q h = absurd h
 
-refines-same : {A B C : Type 0} (direction : Direction) (R : A → B → Type 0) (T : B → C → Type 0) (a : Answer A) (b : Answer B) (e : Answer C) → Refines no_deeper direction R a b → Same T b e → Refines no_deeper direction (Through R T) a e
+refines-same : {A B C : Type 0} (direction : Direction) (R : A → B → Type 0) (T : B → C → Type 0) (a : Answer A) (b : Answer B) (e : Answer C) → Refines no_deeper direction R a b → Same T b e →
+    Refines no_deeper direction (Through R T) a e
 refines-same direction R T a (Returned y p) (Returned z q) h k = subst (λ w. Refines no_deeper direction (Through R T) a (Returned z w)) k.1 (back-same direction R T a y z p k.0 h)
 refines-same direction R T a (Cut p) (Cut q) h k = subst (λ w. Refines no_deeper direction (Through R T) a (Cut w)) k (cut-same direction R (Through R T) a p h)
 refines-same direction R T a (Exited p t) (Exited q u) h k =
@@ -195,7 +193,8 @@ less-nothing x y h e z s = (inr (by h.0), h.1, s)
 
 -- ---- what other nodes read
 
-read-wider : (S S' : Origin → Bool) (known extra : List ℕ) → ((a : Origin) → S a ≡ true → S' a ≡ true) → ((n p : ℕ) → IsAmong n extra → S' (Out n p) ≡ true) → (a : Origin) → IsRead S (known ++ extra) a → IsRead S' known a
+read-wider : (S S' : Origin → Bool) (known extra : List ℕ) → ((a : Origin) → S a ≡ true → S' a ≡ true) → ((n p : ℕ) → IsAmong n extra → S' (Out n p) ≡ true) → (a : Origin) →
+    IsRead S (known ++ extra) a → IsRead S' known a
 read-wider S S' known extra h k a (inl t) = inl (h a t)
 read-wider S S' known extra h k (Arg j) (inr m) = absurd m
 read-wider S S' known extra h k (Out n p) (inr m) = by (among-split n known extra m)
@@ -204,12 +203,14 @@ read-wider S S' known extra h k (Out n p) (inr m) = by (among-split n known extr
     by (inl j) = inr j
     by (inr j) = inl (k n p j)
 
-pub all-wider : (S S' : Origin → Bool) (known extra : List ℕ) → ((a : Origin) → S a ≡ true → S' a ≡ true) → ((n p : ℕ) → IsAmong n extra → S' (Out n p) ≡ true) → (origins : List Origin) → AreRead S (known ++ extra) origins → AreRead S' known origins
+pub all-wider : (S S' : Origin → Bool) (known extra : List ℕ) → ((a : Origin) → S a ≡ true → S' a ≡ true) → ((n p : ℕ) → IsAmong n extra → S' (Out n p) ≡ true) → (origins : List Origin) →
+    AreRead S (known ++ extra) origins → AreRead S' known origins
 all-wider S S' known extra h k [] r = tt
 all-wider S S' known extra h k (a ∷ origins) r =
     (read-wider S S' known extra h k a r.0, all-wider S S' known extra h k origins r.1)
 
-pub nodes-wider : (S S' : Origin → Bool) (known extra : List ℕ) → ((a : Origin) → S a ≡ true → S' a ≡ true) → ((n p : ℕ) → IsAmong n extra → S' (Out n p) ≡ true) → (ns : NodeTrees) → NodesRead S (known ++ extra) ns → NodesRead S' known ns
+pub nodes-wider : (S S' : Origin → Bool) (known extra : List ℕ) → ((a : Origin) → S a ≡ true → S' a ≡ true) → ((n p : ℕ) → IsAmong n extra → S' (Out n p) ≡ true) → (ns : NodeTrees) →
+    NodesRead S (known ++ extra) ns → NodesRead S' known ns
 nodes-wider S S' known extra h k no_nodes r = tt
 nodes-wider S S' known extra h k (node_then (node id op inputs rs) ns) r =
     ((all-wider S S' known extra h k inputs r.0.0, r.0.1), nodes-wider S S' (id ∷ known) extra h k ns r.1)
@@ -229,7 +230,7 @@ all-among S known other h (a ∷ origins) r = (by a r.0, all-among S known other
 
 module _ (direction : Direction) (c d : Context) (context : ContextRefines no_deeper direction IsLessDefinedDatum c d) (args : List Kind) (before : NodeTrees) (x : NodeTree) (after : NodeTrees) (results : List Origin) (own : List Kind) (part : NodeTrees) (gives inputs : List Origin) (fits : FitsInto args before x after results part gives inputs) where
   all-distinct : distinct (nodes_ids before ++ (node_ids x ++ nodes_ids after)) ≡ true
-  all-distinct = subst (λ zs. distinct zs ≡ true) (joined-ids before (node_then x after)) fits.unique
+  all-distinct = subst (λ zs. distinct zs ≡ true) (nodes_ids-joined before (node_then x after)) fits.unique
 
   later-distinct : distinct (node_ids x ++ nodes_ids after) ≡ true
   later-distinct = (distinct-split (nodes_ids before) (node_ids x ++ nodes_ids after) all-distinct).1
@@ -298,14 +299,15 @@ module _ (direction : Direction) (c d : Context) (context : ContextRefines no_de
   part-read ys q (Out n p) (inl t) = absurd cc
   part-read ys q (Out n p) (inr h) = absurd h
 
-  part-placed : (ys : List Datum) (q : Outputs) → Same (ArgsToInputs ys q (nodes_ids part) outs) (region_meaning d (region own part gives) (map (read ys q) inputs)) (nodes_run d (nodes_redirected (args_to_inputs inputs) part) ys q)
+  part-placed : (ys : List Datum) (q : Outputs) →
+      Same (ArgsToInputs ys q (nodes_ids part) outs) (region_meaning d (region own part gives) (map (read ys q) inputs)) (nodes_run d (nodes_redirected (args_to_inputs inputs) part) ys q)
   part-placed ys q =
       let vs = map (read ys q) inputs in
       let origin_replaced = redirected-moved (args_to_inputs inputs) part in
       let nodes = subst (λ ns. Same (ReadSame small (known_after [] part) (args_to_inputs inputs) vs ys) (nodes_run d part vs no_outputs) (nodes_run d ns ys q)) origin_replaced
       (copied_nodes_mean_the_same small (args_to_inputs inputs) (λ n. n) part part-moves fits.part_reads d vs ys no_outputs q (part-read ys q)) in
       let others = same-adds (ReadSame small (known_after [] part) (args_to_inputs inputs) vs ys) (λ r. (n : ℕ) → (IsAmong n (nodes_ids part) → ⊥) → (p : ℕ) → r n p ≡ q n p) (nodes_run d part vs no_outputs) (nodes_run d (nodes_redirected (args_to_inputs inputs) part) ys q)
-      (λ r o e n h p. unchanged d (nodes_redirected (args_to_inputs inputs) part) ys q r o e n (λ k. h (subst (λ zs. IsAmong n zs) (redirected-ids (args_to_inputs inputs) part) k)) p) nodes in
+      (λ r o e n h p. unchanged d (nodes_redirected (args_to_inputs inputs) part) ys q r o e n (λ k. h (subst (λ zs. IsAmong n zs) (nodes_ids-redirected (args_to_inputs inputs) part) k)) p) nodes in
       subst (λ b. Same (ArgsToInputs ys q (nodes_ids part) outs) (region_meaning d (region own part gives) vs) b) (then_nothing (nodes_run d (nodes_redirected (args_to_inputs inputs) part) ys q))
       (same-then (λ o r. ReadSame small (known_after [] part) (args_to_inputs inputs) vs ys o r × ((n : ℕ) → (IsAmong n (nodes_ids part) → ⊥) → (p : ℕ) → r n p ≡ q n p)) (ArgsToInputs ys q (nodes_ids part) outs)
       (nodes_run d part vs no_outputs) (nodes_run d (nodes_redirected (args_to_inputs inputs) part) ys q) (λ o. Returned (map (read vs o) gives) []) (λ r. Returned r []) others
@@ -443,7 +445,8 @@ module _ (direction : Direction) (c d : Context) (context : ContextRefines no_de
     abbrev after_it : NodeTrees
     after_it = nodes_redirected move after
 
-    rest-refines : (xs ys : List Datum) → Paired IsLessDefinedDatum xs ys → (o q : Outputs) → OutputsRefine IsLessDefinedDatum o q → HaveRun c xs o before → Refines no_deeper direction (ReadLessDefined outside (known_after [] after) move xs ys) (nodes_run c (node_then x after) xs o) (nodes_run d (joined_nodes part_in_place after_it) ys q)
+    rest-refines : (xs ys : List Datum) → Paired IsLessDefinedDatum xs ys → (o q : Outputs) → OutputsRefine IsLessDefinedDatum o q → HaveRun c xs o before →
+        Refines no_deeper direction (ReadLessDefined outside (known_after [] after) move xs ys) (nodes_run c (node_then x after) xs o) (nodes_run d (joined_nodes part_in_place after_it) ys q)
     rest-refines xs ys near o q like have =
         subst (λ b. Refines no_deeper direction (ReadLessDefined outside (known_after [] after) move xs ys) (nodes_run c (node_then x after) xs o) b) (sym (joined-run d part_in_place after_it ys q))
         (refines-then no_deeper no_deeper-compares.goes (Through (Paired IsLessDefinedDatum) (ArgsToInputs ys q (nodes_ids part) outs)) (ReadLessDefined outside (known_after [] after) move xs ys) direction

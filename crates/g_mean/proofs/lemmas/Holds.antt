@@ -14,8 +14,8 @@ use Rattle.g_mean.specs.Data.{Datum, at_port}
 use Rattle.g_mean.specs.Meaning.{Context, act, Outputs, no_outputs, extended, read, node_run, nodes_run, meanings}
 use Rattle.g_mean.specs.Copies.{IsAmong, IsRead, AreRead, is_argument, NodesRead}
 use Rattle.g_mean.specs.Holds.{HaveRun, RunNodesHold}
-use Rattle.g_mean.proofs.Copies.{among-left, among-right, extended-same, extended-other}
-use Rattle.g_mean.proofs.Edits.{distinct-split}
+use Rattle.g_mean.proofs.lemmas.Copies.{among-left, among-right, extended-same, extended-other}
+use Rattle.g_mean.proofs.lemmas.Edits.{distinct-split}
 
 -- ---- what was given
 
@@ -79,14 +79,16 @@ distinct-apart (x ∷ xs) ys t n (inr h) k =
 -- ---- the map
 
 -- an output of no node that runs stays as it was
-pub unchanged : (c : Context) (ns : NodeTrees) (xs : List Datum) (o q : Outputs) (did : List Event) → nodes_run c ns xs o ≡ Returned q did → (n : ℕ) → (IsAmong n (nodes_ids ns) → ⊥) → (p : ℕ) → q n p ≡ o n p
+pub unchanged : (c : Context) (ns : NodeTrees) (xs : List Datum) (o q : Outputs) (did : List Event) → nodes_run c ns xs o ≡ Returned q did → (n : ℕ) → (IsAmong n (nodes_ids ns) → ⊥) → (p : ℕ) →
+    q n p ≡ o n p
 unchanged c no_nodes xs o q did e n apart p = let same : o ≡ q = cc in ap (λ f. f n p) (sym same)
 unchanged c (node_then x ns) xs o q did e n apart p =
     let h = was-given (node_run c x xs o) (λ us. nodes_run c ns xs (extended o (id_of x) us)) q did e in
     unchanged c ns xs (extended o (id_of x) h.first) q h.rest h.follows n (λ k. apart (among-right n (node_ids x) (nodes_ids ns) k)) p
     ∙ extended-other o (id_of x) h.first n p (λ d. apart (among-left n (node_ids x) (nodes_ids ns) (subst (λ z. IsAmong z (node_ids x)) d (id-among x))))
 
-read-unchanged : (count : ℕ) (known : List ℕ) (xs : List Datum) (o q : Outputs) → ((n : ℕ) → IsAmong n known → (p : ℕ) → q n p ≡ o n p) → (origins : List Origin) → AreRead (is_argument count) known origins → map (read xs o) origins ≡ map (read xs q) origins
+read-unchanged : (count : ℕ) (known : List ℕ) (xs : List Datum) (o q : Outputs) → ((n : ℕ) → IsAmong n known → (p : ℕ) → q n p ≡ o n p) → (origins : List Origin) →
+    AreRead (is_argument count) known origins → map (read xs o) origins ≡ map (read xs q) origins
 read-unchanged count known xs o q same [] h = refl
 read-unchanged count known xs o q same (Arg k ∷ origins) h =
     ap (λ zs. at_port xs k ∷ zs) (read-unchanged count known xs o q same origins h.1)
@@ -97,7 +99,8 @@ read-unchanged count known xs o q same (Out n p ∷ origins) h =
     by (inl e) = absurd cc
     by (inr k) = sym (same n k p)
 
-pub holds-from : (count : ℕ) (c : Context) (ns : NodeTrees) (known : List ℕ) (xs : List Datum) (o q : Outputs) (did : List Event) → NodesRead (is_argument count) known ns → ((n : ℕ) → IsAmong n known → IsAmong n (nodes_ids ns) → ⊥) → distinct (nodes_ids ns) ≡ true → nodes_run c ns xs o ≡ Returned q did → HaveRun c xs q ns
+pub holds-from : (count : ℕ) (c : Context) (ns : NodeTrees) (known : List ℕ) (xs : List Datum) (o q : Outputs) (did : List Event) → NodesRead (is_argument count) known ns →
+    ((n : ℕ) → IsAmong n known → IsAmong n (nodes_ids ns) → ⊥) → distinct (nodes_ids ns) ≡ true → nodes_run c ns xs o ≡ Returned q did → HaveRun c xs q ns
 holds-from count c no_nodes known xs o q did reads apart unique e = tt
 holds-from count c (node_then (node id op inputs rs) ns) known xs o q did reads apart unique e =
     let ids = id ∷ regions_ids rs in
@@ -115,7 +118,8 @@ holds-from count c (node_then (node id op inputs rs) ns) known xs o q did reads 
       holds-from count c ns (id ∷ known) xs (extended o id h.first) q h.rest reads.1 (newer ids known ns (λ n k j. apart n k (among-right n ids (nodes_ids ns) j)) (λ n k. distinct-apart ids (nodes_ids ns) unique n k) id (inl refl)) d.1 h.follows,
     )
   where
-    newer : (ids known : List ℕ) (ns : NodeTrees) → ((n : ℕ) → IsAmong n known → IsAmong n (nodes_ids ns) → ⊥) → ((n : ℕ) → IsAmong n ids → IsAmong n (nodes_ids ns) → ⊥) → (id : ℕ) → IsAmong id ids → (n : ℕ) → IsAmong n (id ∷ known) → IsAmong n (nodes_ids ns) → ⊥
+    newer : (ids known : List ℕ) (ns : NodeTrees) → ((n : ℕ) → IsAmong n known → IsAmong n (nodes_ids ns) → ⊥) → ((n : ℕ) → IsAmong n ids → IsAmong n (nodes_ids ns) → ⊥) → (id : ℕ) →
+        IsAmong id ids → (n : ℕ) → IsAmong n (id ∷ known) → IsAmong n (nodes_ids ns) → ⊥
     newer ids known ns apart first id here n (inl e) j = first id here (subst (λ z. IsAmong z (nodes_ids ns)) e j)
     newer ids known ns apart first id here n (inr k) j = apart n k j
 

@@ -1,6 +1,6 @@
 -- Nodes that give no state are silent.
 use Rattle.std.proofs.Common.{◌≡◌, ℕ, zero, suc, Bool, true, false, ◌&&◌, ◌||◌, not, List, [], ◌∷◌, ◌++◌, map, Option, None, Some, refl, sym, ap, subst, ◌∙◌}
-use Rattle.std.proofs.lemmas.Bool.{and_parts}
+use Rattle.std.proofs.lemmas.Bool.{and_parts, or_parts, or_from}
 use Rattle.val_core.specs.declared.values.Value.{Value}
 use Rattle.val_core.specs.declared.values.Value.TheVariants.{Num, At, Bad}
 use Rattle.val_core.specs.Memory.{Memory as Blocks, load, pointers_equal}
@@ -13,6 +13,7 @@ use Rattle.g_graph.specs.Plain.{RegionTree, region, NodeTree, node, NodeTrees, n
 use Rattle.g_graph.specs.Signatures.{output_kinds, result_kinds}
 use Rattle.g_graph.specs.Scope.{is_of, same_kind, each_node}
 use Rattle.g_graph.specs.WellFormed.{same, inputs_fit, inputs_are_last, node_has_one_state_each, has_its_width, has_its_object, results_are_last, region_has_one_state_each, every_region, some_of, are, kinds_of, all_regions, gives, returns_state, every_in_node, every_in_nodes, every_in_regions, has_its_regions, regions_fit, theta_has_states, node_fits, nodes_fit, region_fits}
+use Rattle.g_graph.proofs.lemmas.Indexes.{same_kind_true}
 use Rattle.g_mean.specs.Data.{Datum, val, memory, input, on_memory, at_port, value_of, value_at}
 use Rattle.g_mean.specs.Meaning.{Meaning, Context, chosen, branched, given, Outputs, no_outputs, extended, read, node_run, nodes_run, region_meaning, meanings}
 use Rattle.g_mean.specs.Silent.{IsSilent, GivesNoState, StatelessNodesAreSilent}
@@ -64,29 +65,6 @@ branched-silent ms h (p ∷ xs) = number-silent (value_of p) (λ w. chosen w ms 
 
 -- ---- kinds
 
-or-left : (a b : Bool) → (a || b) ≡ false → a ≡ false
-or-left false b e = refl
-or-left true b e = absurd cc
-
-or-right : (a b : Bool) → (a || b) ≡ false → b ≡ false
-or-right false b e = e
-or-right true b e = absurd cc
-
-or-none : (a b : Bool) → a ≡ false → b ≡ false → (a || b) ≡ false
-or-none false b e d = d
-or-none true b e d = absurd cc
-
-kind-equal : (i j : Kind) → same_kind i j ≡ true → i ≡ j
-kind-equal ValueKind ValueKind e = refl
-kind-equal Memory Memory e = refl
-kind-equal Io Io e = refl
-kind-equal ValueKind Memory e = absurd cc
-kind-equal ValueKind Io e = absurd cc
-kind-equal Memory ValueKind e = absurd cc
-kind-equal Memory Io e = absurd cc
-kind-equal Io ValueKind e = absurd cc
-kind-equal Io Memory e = absurd cc
-
 -- where none of the first kinds is this one, and others are the same kinds, none of them is either
 same-none : (k : Kind) (wanted : List (Option Kind)) (found : List (Option Kind)) → are found (kinds_of wanted) ≡ true → some_of (is_of k) wanted ≡ false → some_of (is_of k) found ≡ false
 same-none k [] [] e none = refl
@@ -97,9 +75,9 @@ same-none k (Some j ∷ ws) [] e none = absurd cc
 same-none k (Some j ∷ ws) (None ∷ xs) e none = absurd cc
 same-none k (Some j ∷ ws) (Some i ∷ xs) e none =
     let both = and_parts (same_kind i j) (are xs (kinds_of ws)) e in
-    or-none (same_kind k i) (some_of (is_of k) xs)
-    (ap (same_kind k) (kind-equal i j both.0) ∙ or-left (same_kind k j) (some_of (is_of k) ws) none)
-    (same-none k ws xs both.1 (or-right (same_kind k j) (some_of (is_of k) ws) none))
+    or_from (same_kind k i) (some_of (is_of k) xs)
+    (ap (same_kind k) (same_kind_true i j both.0) ∙ (or_parts (same_kind k j) (some_of (is_of k) ws) none).0)
+    (same-none k ws xs both.1 ((or_parts (same_kind k j) (some_of (is_of k) ws) none).1))
 
 -- a region with a node that gives this state does not give it back: there is no such node
 no-giver : (a b : Bool) → (not a || b) ≡ true → b ≡ false → a ≡ false
@@ -142,7 +120,8 @@ pub record RegionParts (objects : ℕ) (args : List Kind) (nodes : NodeTrees) : 
   pub memory : gives Memory nodes ≡ false
   pub io : gives Io nodes ≡ false
 
-region-parts : (objects : ℕ) (args : List Kind) (nodes : NodeTrees) (results : List Origin) → region_fits objects (region args nodes results) ≡ true → some_of (is_of Memory) (result_kinds (region args nodes results)) ≡ false → some_of (is_of Io) (result_kinds (region args nodes results)) ≡ false → RegionParts objects args nodes
+region-parts : (objects : ℕ) (args : List Kind) (nodes : NodeTrees) (results : List Origin) → region_fits objects (region args nodes results) ≡ true →
+    some_of (is_of Memory) (result_kinds (region args nodes results)) ≡ false → some_of (is_of Io) (result_kinds (region args nodes results)) ≡ false → RegionParts objects args nodes
 region-parts objects args nodes results t none_memory none_io =
     let r = region args nodes results in
     let p = and_parts (nodes_fit objects r && results_are_last r && returns_state Memory r && returns_state Io r) (region_has_one_state_each r) t in
@@ -158,7 +137,8 @@ region-parts objects args nodes results t none_memory none_io =
 -- ---- nodes
 
 mutual
-  node-silent : (objects : ℕ) (x : NodeTree) → NodeParts x → every_in_node (region_fits objects) x ≡ true → GivesNoState x → (c : Context) (xs : List Datum) (o : Outputs) → IsSilent (node_run c x xs o)
+  node-silent : (objects : ℕ) (x : NodeTree) → NodeParts x → every_in_node (region_fits objects) x ≡ true → GivesNoState x → (c : Context) (xs : List Datum) (o : Outputs) →
+      IsSilent (node_run c x xs o)
   node-silent objects (node id (Const w) inputs rs) p nested none c xs o = refl
   node-silent objects (node id Undef inputs rs) p nested none c xs o = refl
   node-silent objects (node id (Local k) inputs rs) p nested none c xs o = refl
@@ -186,7 +166,8 @@ mutual
   node-silent objects (node id Gamma inputs (region_then r rs)) p nested none c xs o =
       branched-silent (meanings c (region_then r rs)) (regions-silent objects (result_kinds r) (args_of r) (region_then r rs) p.regions nested none.memory none.io c) (map (read xs o) inputs)
 
-  regions-silent : (objects : ℕ) (ks : List (Option Kind)) (first : List Kind) (rs : RegionTrees) → all_regions (λ r. same (args_of r) first && are (result_kinds r) (kinds_of ks)) rs ≡ true → every_in_regions (region_fits objects) rs ≡ true → some_of (is_of Memory) ks ≡ false → some_of (is_of Io) ks ≡ false → (c : Context) → AllSilent (meanings c rs)
+  regions-silent : (objects : ℕ) (ks : List (Option Kind)) (first : List Kind) (rs : RegionTrees) → all_regions (λ r. same (args_of r) first && are (result_kinds r) (kinds_of ks)) rs ≡ true →
+      every_in_regions (region_fits objects) rs ≡ true → some_of (is_of Memory) ks ≡ false → some_of (is_of Io) ks ≡ false → (c : Context) → AllSilent (meanings c rs)
   regions-silent objects ks first no_regions t nested none_memory none_io c = tt
   regions-silent objects ks first (region_then r rs) t nested none_memory none_io c =
       let p = and_parts (same (args_of r) first && are (result_kinds r) (kinds_of ks)) (all_regions (λ s. same (args_of s) first && are (result_kinds s) (kinds_of ks)) rs) t in
@@ -194,20 +175,22 @@ mutual
       let u = and_parts (every_region (region_fits objects) r) (every_in_regions (region_fits objects) rs) nested in
       (region-silent objects r u.0 (same-none Memory ks (result_kinds r) q.1 none_memory) (same-none Io ks (result_kinds r) q.1 none_io) c, regions-silent objects ks first rs p.1 u.1 none_memory none_io c)
 
-  region-silent : (objects : ℕ) (r : RegionTree) → every_region (region_fits objects) r ≡ true → some_of (is_of Memory) (result_kinds r) ≡ false → some_of (is_of Io) (result_kinds r) ≡ false → (c : Context) (xs : List Datum) → IsSilent (region_meaning c r xs)
+  region-silent : (objects : ℕ) (r : RegionTree) → every_region (region_fits objects) r ≡ true → some_of (is_of Memory) (result_kinds r) ≡ false → some_of (is_of Io) (result_kinds r) ≡ false →
+      (c : Context) (xs : List Datum) → IsSilent (region_meaning c r xs)
   region-silent objects (region args nodes results) t none_memory none_io c xs =
       let p = and_parts (region_fits objects (region args nodes results)) (every_in_nodes (region_fits objects) nodes) t in
       let q = region-parts objects args nodes results p.0 none_memory none_io in
       then-silent (nodes_run c nodes xs no_outputs) (λ o. Returned (map (read xs o) results) []) (nodes-silent objects args [] nodes q.fits p.1 q.memory q.io c xs no_outputs) (λ o. refl)
 
-  nodes-silent : (objects : ℕ) (args : List Kind) (earlier : List NodeTree) (ns : NodeTrees) → each_node (node_fits objects args) earlier ns ≡ true → every_in_nodes (region_fits objects) ns ≡ true → gives Memory ns ≡ false → gives Io ns ≡ false → (c : Context) (xs : List Datum) (o : Outputs) → IsSilent (nodes_run c ns xs o)
+  nodes-silent : (objects : ℕ) (args : List Kind) (earlier : List NodeTree) (ns : NodeTrees) → each_node (node_fits objects args) earlier ns ≡ true →
+      every_in_nodes (region_fits objects) ns ≡ true → gives Memory ns ≡ false → gives Io ns ≡ false → (c : Context) (xs : List Datum) (o : Outputs) → IsSilent (nodes_run c ns xs o)
   nodes-silent objects args earlier no_nodes t nested none_memory none_io c xs o = refl
   nodes-silent objects args earlier (node_then x ns) t nested none_memory none_io c xs o =
       let p = and_parts (node_fits objects args (nodes_of earlier) x) (each_node (node_fits objects args) (earlier ++ x ∷ []) ns) t in
       let q = and_parts (every_in_node (region_fits objects) x) (every_in_nodes (region_fits objects) ns) nested in
       then-silent (node_run c x xs o) (λ ys. nodes_run c ns xs (extended o (id_of x) ys))
-      (node-silent objects x (node-parts objects args (nodes_of earlier) x p.0) q.0 (record { memory = or-left (some_of (is_of Memory) (output_kinds x)) (gives Memory ns) none_memory; io = or-left (some_of (is_of Io) (output_kinds x)) (gives Io ns) none_io }) c xs o)
-      (λ ys. nodes-silent objects args (earlier ++ x ∷ []) ns p.1 q.1 (or-right (some_of (is_of Memory) (output_kinds x)) (gives Memory ns) none_memory) (or-right (some_of (is_of Io) (output_kinds x)) (gives Io ns) none_io) c xs (extended o (id_of x) ys))
+      (node-silent objects x (node-parts objects args (nodes_of earlier) x p.0) q.0 (record { memory = (or_parts (some_of (is_of Memory) (output_kinds x)) (gives Memory ns) none_memory).0; io = (or_parts (some_of (is_of Io) (output_kinds x)) (gives Io ns) none_io).0 }) c xs o)
+      (λ ys. nodes-silent objects args (earlier ++ x ∷ []) ns p.1 q.1 ((or_parts (some_of (is_of Memory) (output_kinds x)) (gives Memory ns) none_memory).1) ((or_parts (some_of (is_of Io) (output_kinds x)) (gives Io ns) none_io).1) c xs (extended o (id_of x) ys))
 
 pub stateless_nodes_are_silent : StatelessNodesAreSilent
 stateless_nodes_are_silent objects args before x fits none c xs o =

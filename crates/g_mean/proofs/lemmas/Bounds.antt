@@ -9,18 +9,19 @@ use Rattle.val_core.specs.Objects.{Addresses}
 use Rattle.val_core.proofs.lemmas.Events.{prefix-self}
 use Rattle.val_core.proofs.lemmas.Answers.{added, before-is, then_associates}
 use Rattle.val_core.proofs.lemmas.Refinement.{refines-itself, refines-then, refines-active, refines-change}
-use Rattle.g_graph.specs.Plain.{RegionTree, nodes_of, id_of, PlainLambda}
+use Rattle.g_graph.specs.Plain.{RegionTree, nodes_of, id_of, PlainLambda, PlainOmega}
+use Rattle.g_graph.specs.Program.{main_name, name_index}
 use Rattle.g_mean.specs.Data.{Datum, val, memory, input}
 use Rattle.g_mean.specs.Meaning.{Context, extended, node_run, nodes_run}
-use Rattle.g_mean.specs.Calls.{PlainOmega, entered, applied, region_at, lambda_at, global_of, first_memory, main_name, place_of, finished, started}
+use Rattle.g_mean.specs.Calls.{entered, applied, region_at, lambda_at, global_of, first_memory, finished, started}
 use Rattle.g_mean.specs.LessDefined.{Paired, AreSound, IsLessDefinedDatum}
 use Rattle.g_mean.specs.Refining.{Compares, InOrder, MeaningRefines, RegionRefines}
 use Rattle.g_mean.specs.Laws.{RegionExtends, LambdaExtends, ProgramExtends, NodesInTurn, EventsGrow, RegionIsSound, LambdaIsSound}
-use Rattle.g_mean.proofs.Kept.{IsKept}
-use Rattle.g_mean.proofs.Regions.{both-cut, less-cut, far-cut, order-below, region-refines}
-use Rattle.g_mean.proofs.Equal.{exactly-compares, Equal, paired-equal, paired-itself, equal-kept}
-use Rattle.g_mean.proofs.LessDefinedLemmas.{less-kept}
-use Rattle.g_mean.proofs.Calls.{same-itself, found-itself, entered-refines}
+use Rattle.g_mean.proofs.lemmas.Kept.{IsKept}
+use Rattle.g_mean.proofs.lemmas.Regions.{both-cut, less-cut, far-cut, order-below, region-refines}
+use Rattle.g_mean.proofs.lemmas.Equal.{exactly-compares, Equal, paired-equal, paired-itself, equal-kept}
+use Rattle.g_mean.proofs.lemmas.LessDefined.{less-kept}
+use Rattle.g_mean.proofs.lemmas.Calls.{same-itself, found-itself, entered-refines}
 
 abbrev pub Never : RegionTree → RegionTree → Type 0
 Never r s = ⊥
@@ -44,7 +45,9 @@ module _ (cmp : Comparison) (g : Compares cmp) (direction : Direction) (N : Datu
           on = λ xs ys near. refines-active cmp g.goes (Paired N) direction f (entered n (applied ls global n) global (slice_get ls f) xs) (entered m (applied ls global m) global (slice_get ls f) ys) (body.on xs ys near);
         }
 
-  pub region_at-more : (ls : List PlainLambda) (addresses : Addresses) → ((j : ℕ) → N (val (addresses.local j)) (val (addresses.local j))) → ((j : ℕ) → N (val (addresses.global j)) (val (addresses.global j))) → (r : RegionTree) (n m : ℕ) → InOrder direction n m → (xs ys : List Datum) → Paired N xs ys → Refines cmp direction (Paired N) (region_at n ls r xs addresses) (region_at m ls r ys addresses)
+  pub region_at-more : (ls : List PlainLambda) (addresses : Addresses) → ((j : ℕ) → N (val (addresses.local j)) (val (addresses.local j))) →
+      ((j : ℕ) → N (val (addresses.global j)) (val (addresses.global j))) → (r : RegionTree) (n m : ℕ) → InOrder direction n m → (xs ys : List Datum) → Paired N xs ys →
+      Refines cmp direction (Paired N) (region_at n ls r xs addresses) (region_at m ls r ys addresses)
   region_at-more ls addresses locals globals r n m order xs ys near =
       (region-refines cmp g direction N k Never Always never-refines
       (record { bound = n; call = applied ls addresses.global n; addresses = addresses }) (record { bound = m; call = applied ls addresses.global m; addresses = addresses })
@@ -66,7 +69,8 @@ lambda_extends n m ls global f xs order =
 equal-answers : (a b : Answer (List Datum)) → a ≡ b → Refines exactly Forward (λ us vs. us ≡ vs) a b
 equal-answers a b e = subst (λ c. Refines exactly Forward (λ us vs. us ≡ vs) a c) e (refines-itself Forward a)
 
-started-extends : (n m : ℕ) (omega : PlainOmega) (ls : List PlainLambda) (f : Option ℕ) (i : List ℕ) → n ≤ m → Refines exactly Forward (λ us vs. us ≡ vs) (started n omega ls f i) (started m omega ls f i)
+started-extends : (n m : ℕ) (omega : PlainOmega) (ls : List PlainLambda) (f : Option ℕ) (i : List ℕ) → n ≤ m →
+    Refines exactly Forward (λ us vs. us ≡ vs) (started n omega ls f i) (started m omega ls f i)
 started-extends n m omega ls None i order = tt
 started-extends n m omega ls (Some f) i order =
     let start = memory (first_memory omega.deltas) ∷ input i ∷ [] in
@@ -74,7 +78,7 @@ started-extends n m omega ls (Some f) i order =
     (lambda_extends n m ls (global_of omega.deltas) f start order) (λ us vs e. equal-answers (finished us) (finished vs) (ap finished e))
 
 pub program_extends : ProgramExtends
-program_extends n m omega ls i order = started-extends n m omega ls (place_of main_name omega.names) i order
+program_extends n m omega ls i order = started-extends n m omega ls (name_index main_name omega.names) i order
 
 -- ---- nodes in turn
 

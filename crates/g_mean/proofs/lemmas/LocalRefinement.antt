@@ -18,11 +18,11 @@ use Rattle.g_mean.specs.LessDefined.{Paired, AreSound, IsLessDefinedDatum}
 use Rattle.g_mean.specs.Refining.{InOrder, MeaningRefines, ContextRefines}
 use Rattle.g_mean.specs.Replacement.{lesser, IsTwice, Linked}
 use Rattle.g_mean.specs.LocalRefinement.{RefinesLocally, IsSoundContext, LocalRefinementsReplace, BodiesReplaceCalls}
-use Rattle.g_mean.proofs.Regions.{less-cut, region-refines}
-use Rattle.g_mean.proofs.Equal.{exactly-compares, no_deeper-compares}
-use Rattle.g_mean.proofs.LessDefinedLemmas.{less-kept}
-use Rattle.g_mean.proofs.Calls.{same-itself}
-use Rattle.g_mean.proofs.Bounds.{Never, Always, never-refines, sound-pairs, pairs-sound, applied-more, refines-sound}
+use Rattle.g_mean.proofs.lemmas.Regions.{less-cut, region-refines}
+use Rattle.g_mean.proofs.lemmas.Equal.{exactly-compares, no_deeper-compares}
+use Rattle.g_mean.proofs.lemmas.LessDefined.{less-kept}
+use Rattle.g_mean.proofs.lemmas.Calls.{same-itself}
+use Rattle.g_mean.proofs.lemmas.Bounds.{Never, Always, never-refines, sound-pairs, pairs-sound, applied-more, refines-sound}
 
 -- ---- nearness composes
 
@@ -43,7 +43,8 @@ pairs-compose (x ∷ xs) [] zs h k = absurd h
 pairs-compose (x ∷ xs) (y ∷ ys) [] h k = absurd k
 
 -- what refines to the refinement refines to what it refines
-pub refined-refines : (direction : Direction) (a b c : Answer (List Datum)) → RefinesLocally (Paired IsLessDefinedDatum) a b → Refines no_deeper direction (Paired IsLessDefinedDatum) b c → Refines no_deeper direction (Paired IsLessDefinedDatum) a c
+pub refined-refines : (direction : Direction) (a b c : Answer (List Datum)) → RefinesLocally (Paired IsLessDefinedDatum) a b → Refines no_deeper direction (Paired IsLessDefinedDatum) b c →
+    Refines no_deeper direction (Paired IsLessDefinedDatum) a c
 refined-refines direction (Undefined o) b c h k = tt
 refined-refines direction (Returned x o) (Returned y p) (Returned z q) h k =
     (pairs-compose x y z h.0 k.0, subst (λ e. no_deeper.Same e q) (sym h.1) k.1)
@@ -71,7 +72,8 @@ calls-sound ls global globals n f xs s =
     refines-sound (applied ls global n f xs) (applied ls global n f xs)
     ((applied-more exactly exactly-compares Forward IsLessDefinedDatum less-kept ls global (λ j. (inl refl, globals j, globals j)) n n (le_refl n) f).on xs xs (sound-pairs xs s))
 
-context-sound : (direction : Direction) (ls ks : List PlainLambda) (global : ℕ → Value) (c d : Context) → ContextRefines no_deeper direction IsLessDefinedDatum c d → Linked direction ls ks global c d → IsSoundContext c
+context-sound : (direction : Direction) (ls ks : List PlainLambda) (global : ℕ → Value) (c d : Context) → ContextRefines no_deeper direction IsLessDefinedDatum c d →
+    Linked direction ls ks global c d → IsSoundContext c
 context-sound direction ls ks global c d a l =
     record {
       locals = λ k. (a.locals k).1;
@@ -99,7 +101,8 @@ uncalled-far : (f : ℕ) (o p : List Event) → no_deeper.FarIsPrefix o p → no
 uncalled-far f o p h =
     (subst (λ z. IsPrefixOf (output p) z) (sym (called_keeps_output f o)) h.0, λ sizes. let a = h.1 sizes in let b = called_deepens sizes f o in omega (arith, a, b))
 
-uncalled-refines : (direction : Direction) (f : ℕ) (a b : Answer (List Datum)) → Refines no_deeper direction (Paired IsLessDefinedDatum) a b → Refines no_deeper direction (Paired IsLessDefinedDatum) (active f a) b
+uncalled-refines : (direction : Direction) (f : ℕ) (a b : Answer (List Datum)) → Refines no_deeper direction (Paired IsLessDefinedDatum) a b →
+    Refines no_deeper direction (Paired IsLessDefinedDatum) (active f a) b
 uncalled-refines direction f (Undefined o) b h = tt
 uncalled-refines direction f (Returned x o) (Returned y p) h = (h.0, no_deeper-uncalled f o p h.1)
 uncalled-refines direction f (Exited o s) (Exited p t) h = (no_deeper-uncalled f o p h.0, h.1)
@@ -149,7 +152,8 @@ none-less Forward (suc m) h b = less-cut no_deeper no_deeper-compares Forward (P
 none-less Backward m h b = absurd (omega arith)
 
 module _ (ls ks : List PlainLambda) (direction : Direction) (global : ℕ → Value) (c d : Context) (a : ContextRefines no_deeper direction IsLessDefinedDatum c d) (l : Linked direction ls ks global c d) where
-  body-refines : (n : ℕ) → InOrder direction n d.bound → ((f : ℕ) → MeaningRefines no_deeper direction IsLessDefinedDatum (applied ls global n f) (d.call f)) → (params : ℕ) (r : RegionTree) (m : Memory) (xs ys : List Datum) → Paired IsLessDefinedDatum xs ys →
+  body-refines : (n : ℕ) → InOrder direction n d.bound → ((f : ℕ) → MeaningRefines no_deeper direction IsLessDefinedDatum (applied ls global n f) (d.call f)) →
+      (params : ℕ) (r : RegionTree) (m : Memory) (xs ys : List Datum) → Paired IsLessDefinedDatum xs ys →
       Refines no_deeper direction (Paired IsLessDefinedDatum)
       (then_on (region_meaning (inside n (applied ls global n) global [] m) r (changed_at params (with_memory (λ k. k ++ opened [])) xs)) (λ us. Returned (changed_at 1 (with_memory (closed (length m) 0)) us) []))
       (region_meaning d r ys)
@@ -163,17 +167,21 @@ module _ (ls ks : List PlainLambda) (direction : Direction) (global : ℕ → Va
       (whole.on (changed_at params (with_memory (λ k. k ++ opened [])) xs) ys (subst (λ zs. Paired IsLessDefinedDatum zs ys) (sym opens) near))
       (λ us vs h. subst (λ zs. Paired IsLessDefinedDatum zs vs) (sym (changed-nothing 1 (with_memory (closed (length m) 0)) (same-memory (closed (length m) 0) (closed-nothing (length m))) us)) h)
 
-  memory-refines : (x : Datum) (next : Memory → Answer (List Datum)) (b : Answer (List Datum)) → ((m : Memory) → Refines no_deeper direction (Paired IsLessDefinedDatum) (next m) b) → Refines no_deeper direction (Paired IsLessDefinedDatum) (on_memory x next) b
+  memory-refines : (x : Datum) (next : Memory → Answer (List Datum)) (b : Answer (List Datum)) → ((m : Memory) → Refines no_deeper direction (Paired IsLessDefinedDatum) (next m) b) →
+      Refines no_deeper direction (Paired IsLessDefinedDatum) (on_memory x next) b
   memory-refines (memory m) next b h = h m
   memory-refines (val v) next b h = tt
   memory-refines (input i) next b h = tt
 
-  entered-refines : (n : ℕ) → InOrder direction n d.bound → ((f : ℕ) → MeaningRefines no_deeper direction IsLessDefinedDatum (applied ls global n f) (d.call f)) → (k : PlainLambda) → k.objects ≡ [] → (xs ys : List Datum) → Paired IsLessDefinedDatum xs ys → Refines no_deeper direction (Paired IsLessDefinedDatum) (entered n (applied ls global n) global (Some k) xs) (region_meaning d k.body ys)
+  entered-refines : (n : ℕ) → InOrder direction n d.bound → ((f : ℕ) → MeaningRefines no_deeper direction IsLessDefinedDatum (applied ls global n f) (d.call f)) → (k : PlainLambda) →
+      k.objects ≡ [] → (xs ys : List Datum) → Paired IsLessDefinedDatum xs ys →
+      Refines no_deeper direction (Paired IsLessDefinedDatum) (entered n (applied ls global n) global (Some k) xs) (region_meaning d k.body ys)
   entered-refines n order calls k none xs ys near =
       subst (λ os. Refines no_deeper direction (Paired IsLessDefinedDatum) (entered n (applied ls global n) global (Some (record { number = k.number; params = k.params; objects = os; body = k.body; next = k.next })) xs) (region_meaning d k.body ys)) (sym none)
       (memory-refines (at_port xs k.params) _ (region_meaning d k.body ys) (λ m. body-refines n order calls k.params k.body m xs ys near))
 
-  call-refines : (n : ℕ) → n ≡ c.bound → (f : ℕ) (k : PlainLambda) → slice_get ls f ≡ Some k → k.objects ≡ [] → (xs ys : List Datum) → Paired IsLessDefinedDatum xs ys → Refines no_deeper direction (Paired IsLessDefinedDatum) (applied ls global n f xs) (region_meaning d k.body ys)
+  call-refines : (n : ℕ) → n ≡ c.bound → (f : ℕ) (k : PlainLambda) → slice_get ls f ≡ Some k → k.objects ≡ [] → (xs ys : List Datum) → Paired IsLessDefinedDatum xs ys →
+      Refines no_deeper direction (Paired IsLessDefinedDatum) (applied ls global n f xs) (region_meaning d k.body ys)
   call-refines zero e f k found none xs ys near =
       none-less direction d.bound (subst (λ n. IsTwice direction 2 n d.bound) (sym e) l.twice) (region_meaning d k.body ys)
   call-refines (suc n) e f k found none xs ys near =
