@@ -1,5 +1,5 @@
 -- Constants that hold.
-use Rattle.std.proofs.Common.{◌≡◌, ℕ, zero, suc, ◌%◌, ◌^◌, ◌<◌, ◌==◌, ◌⊎◌, Bool, true, false, cond, List, [], ◌∷◌, Option, None, Some, option_and_then, refl, sym, ap, subst, ◌∙◌, inl, inr, arith, eq-eqb, lit<, mod-lt}
+use Rattle.std.proofs.Common.{◌≡◌, ℕ, zero, suc, ◌%◌, ◌^◌, ◌<◌, ◌==◌, ◌⊎◌, true, false, cond, List, [], ◌∷◌, None, Some, option_and_then, sym, ap, subst, ◌∙◌, inl, inr, arith, eq-eqb, lit<, mod-lt}
 use Rattle.std.proofs.Math.Dec.{eqb-suc-zero}
 use Rattle.std.proofs.lemmas.Bool.{cases_Bool}
 use Rattle.std.proofs.lemmas.Bool.Decides.{nat_tests}
@@ -14,7 +14,7 @@ use Rattle.g_mean.specs.Data.{Datum, val, at_port}
 use Rattle.g_mean.specs.Meaning.{Context, Outputs, read}
 use Rattle.g_mean.specs.Copies.{IsAmong, IsRead, is_argument, known_after}
 use Rattle.g_mean.specs.Holds.{HasRun, HaveRun}
-use Rattle.g_graph.specs.Nodes.{node_at, node_set, const_word, constant}
+use Rattle.g_graph.specs.Nodes.{node_at, const_word, constant}
 
 -- a known node is found, and has run
 pub record Ran (c : Context) (xs : List Datum) (o : Outputs) (n : ℕ) (ns : NodeTrees) : Type 0 where

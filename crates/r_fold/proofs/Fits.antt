@@ -19,7 +19,8 @@ use Rattle.g_mean.specs.Edits.{IsPartOf}
 use Rattle.g_mean.proofs.lemmas.Copies.{among-left, among-right, among-split}
 use Rattle.g_mean.proofs.lemmas.Edits.{distinct-split}
 use Rattle.g_mean.proofs.lemmas.Holds.{none-among, distinct-apart}
-use Rattle.g_mean.proofs.lemmas.Splices.{joined-ids, joined-read}
+use Rattle.g_graph.proofs.lemmas.Splices.{nodes_ids-joined}
+use Rattle.g_mean.proofs.lemmas.Splices.{joined-read}
 use Rattle.g_graph.proofs.lemmas.Nodes.{NodeFits, node_fits_here, are_kinds, first_kind}
 use Rattle.r_fold.specs.Rule.{chosen_region}
 use Rattle.r_fold.proofs.Chosen.{chosen_kinds}
@@ -67,7 +68,7 @@ module _ (l : PlainLambda) (args : List Kind) (before : NodeTrees) (id : ℕ) (o
   pub inner-distinct : distinct (regions_ids rs) ≡ true
   inner-distinct =
       let all : distinct (nodes_ids before ++ ((id ∷ regions_ids rs) ++ nodes_ids after)) ≡ true = subst (λ zs. distinct zs ≡
-      true) (joined-ids before (node_then (node id op ins rs) after)) part.unique in
+      true) (nodes_ids-joined before (node_then (node id op ins rs) after)) part.unique in
       let rest = (distinct-split (nodes_ids before) ((id ∷ regions_ids rs) ++ nodes_ids after) all).1 in
       let own = (distinct-split (id ∷ regions_ids rs) (nodes_ids after) rest).0 in
       (and_parts (not (some_of (λ m. id == m) (regions_ids rs))) (distinct (regions_ids rs)) own).1
@@ -77,7 +78,7 @@ module _ (l : PlainLambda) (args : List Kind) (before : NodeTrees) (id : ℕ) (o
   inner-apart n h k = by (among-split n (nodes_ids before) (id ∷ nodes_ids after) k)
     where
       all : distinct (nodes_ids before ++ ((id ∷ regions_ids rs) ++ nodes_ids after)) ≡ true
-      all = subst (λ zs. distinct zs ≡ true) (joined-ids before (node_then (node id op ins rs) after)) part.unique
+      all = subst (λ zs. distinct zs ≡ true) (nodes_ids-joined before (node_then (node id op ins rs) after)) part.unique
 
       rest : distinct ((id ∷ regions_ids rs) ++ nodes_ids after) ≡ true
       rest = (distinct-split (nodes_ids before) ((id ∷ regions_ids rs) ++ nodes_ids after) all).1

@@ -1,7 +1,6 @@
 -- A folded lambda is well formed.
 use Rattle.std.proofs.Common.{◌≡◌, ℕ, zero, suc, ◌==◌, Bool, true, false, not, ◌&&◌, ◌||◌, List, [], ◌∷◌, ◌++◌, map, length, Option, None, Some, option_map, option_and_then, refl, sym, ap, subst, ◌∙◌, arith}
 use Rattle.std.specs.Prelude.{if◌then◌else◌, slice_get, unwrap_or}
-use Rattle.std.proofs.lemmas.Bool.Decides.{nat_tests}
 use Rattle.std.proofs.lemmas.Option.{same_Some}
 use Rattle.val_core.specs.declared.operation.Op2.{Op2}
 use Rattle.val_core.specs.declared.operation.Op1.{Op1}
@@ -16,7 +15,7 @@ use Rattle.g_graph.specs.Plain.{RegionTree, region, NodeTree, node, NodeTrees, n
 use Rattle.g_graph.specs.Ids.{region_ids, nodes_ids, regions_ids}
 use Rattle.g_graph.specs.Signatures.{first_args, output_kinds}
 use Rattle.g_graph.specs.Scope.{is_of, known}
-use Rattle.g_graph.specs.Change.{has_node, region_changed}
+use Rattle.g_graph.specs.Change.{region_changed}
 use Rattle.g_graph.specs.WellFormed.{all_of, some_of, are, one_state_each, gives, is_last, nodes_fit, results_are_last, returns_state, region_has_one_state_each, region_fits, every_region, every_in_nodes, well_formed, IsWellFormed}
 use Rattle.g_graph.specs.Replace.{nodes_redirected, region_redirected, origin_replaced}
 use Rattle.g_graph.specs.Splice.{args_to_inputs, outputs_to_results, joined_nodes, nodes_spliced, region_spliced}
