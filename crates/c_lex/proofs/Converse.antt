@@ -3,46 +3,42 @@ use Rattle.std.proofs.Common.{◌≡◌, ◌⊎◌, ℕ, zero, suc, ◌+◌, ◌
 use Rattle.std.specs.Prelude.{nat_eq, slice_index, slice_range}
 use Rattle.std.specs.Option.{ok_or, option_and_then, option_map_or}
 use Rattle.std.specs.List.{list_all, prefix_len, starts_with}
-use Rattle.std.proofs.lemmas.Bool.{ltb-false, lt-ltb, le-ltb}
+use Rattle.std.proofs.lemmas.Bool.{ltb-false, lt-ltb, le-ltb, and_parts, not-true, eqb-true}
 use Rattle.std.proofs.lemmas.Bool.Decides.{nat_tests}
 use Rattle.std.proofs.lemmas.List.{length-take-le, length-drop, length-append, take-append-drop, drop_at, drop_all, drop-drop, get_or-drop, get_or-take, append-nil}
+use Rattle.limits.specs.Limits.{most_source_bytes, most_tokens}
 use Rattle.c_lex.specs.Results.{◌>>=◌}
-use Rattle.c_lex.specs.Classes.{is_word, is_number_byte, is_line_end, is_inner_blank}
-use Rattle.c_lex.specs.Gaps.{comment_at, comment_end, line_comment, include_len, past_include, past, past_blanks, past_header, ends_line}
-use Rattle.c_lex.specs.Items.{item_at, item_of, start_of, slash_at}
-use Rattle.c_lex.specs.Tokens.{tokens_from, counted, behind, lexed}
-use Rattle.c_lex.specs.Grammar.{IsClosed, IsQuoted, IsToken, IsGap, IsLineStart, IsBlockComment, IsLineComment, IsIncludeLine, AreBlanks, Reads, done, gap, token, Stands, Spells, begins_comment, TokensAreLongest}
+use Rattle.c_lex.specs.Classes.{is_name_byte, is_number_byte, is_line_end, is_inner_blank}
+use Rattle.c_lex.specs.Trivia.{comment_at, comment_end, line_comment, include_len, past_include, past, past_blanks, past_header, ends_line}
+use Rattle.c_lex.specs.Lexemes.{lexeme_at, lexeme_of, start_of, slash_at}
+use Rattle.c_lex.specs.Tokens.{tokens_from, counted, tokens_then, lexed}
+use Rattle.c_lex.specs.Grammar.{IsClosed, IsQuoted, IsToken, IsTrivia, IsLineStart, IsBlockComment, IsLineComment, IsIncludeLine, AreBlanks, Reads, done, trivia, token, Stands, Spells, begins_comment, TokensAreLongest}
 use Rattle.c_lex.specs.Faults.{IsLongest}
 use Rattle.c_lex.specs.declared.fault.LexFault.TheVariants as fault
-use Rattle.c_lex.specs.declared.item.Item.TheVariants.{Gap, Piece}
-use Rattle.c_lex.specs.declared.item.Start.{Start}
-use Rattle.c_lex.specs.declared.item.Start.TheVariants as start
+use Rattle.c_lex.specs.declared.lexeme.Lexeme.TheVariants as lexeme
+use Rattle.c_lex.specs.declared.lexeme.Start.{Start}
+use Rattle.c_lex.specs.declared.lexeme.Start.TheVariants as start
 use Rattle.c_lex.specs.declared.token.Token.{Token}
 use Rattle.c_lex.proofs.Lengths.{chosen}
-use Rattle.c_lex.proofs.Munch.{same_byte}
 use Rattle.c_lex.proofs.Driver.{step, skipped}
 use Rattle.c_lex.proofs.Whole.{lexed_reads, first_is}
-use Rattle.c_lex.proofs.GapLaws.{closes, closes_front}
-use Rattle.c_lex.proofs.Reading.{run_before, run_whole, letter_starts, word_all, all_append}
+use Rattle.c_lex.proofs.TriviaLaws.{closes, closes_front}
+use Rattle.c_lex.proofs.Reading.{run_before, run_whole, letter_starts, identifier_all, all_append}
 use Rattle.c_lex.proofs.Again.{few_tokens}
-use Rattle.c_lex.proofs.Complete.{on_line, punct_on_line, token_piece, is_punct_start, punct_starts, digit_starts, number_all}
+use Rattle.c_lex.proofs.Complete.{on_line, punct_on_line, token_lexeme, is_punct_start, punct_starts, digit_starts, number_all}
 
 -- ---- lists
-
-and_both : (x y : Bool) → (x && y) ≡ true → (x ≡ true) × (y ≡ true)
-and_both true y e = (refl, e)
-and_both false y e = absurd cc
 
 all_implies : (p q : ℕ → Bool) (xs : List ℕ) → ((b : ℕ) → p b ≡ true → q b ≡ true) → list_all p xs ≡ true → list_all q xs ≡ true
 all_implies p q [] h e = refl
 all_implies p q (x ∷ xs) h e =
-    let both = and_both (p x) (list_all p xs) e in
+    let both = and_parts (p x) (list_all p xs) e in
     ap (λ t. t && list_all q xs) (h x both.0) ∙ all_implies p q xs h both.1
 
 all_at : (p : ℕ → Bool) (xs : List ℕ) (i : ℕ) → i < length xs → list_all p xs ≡ true → p (slice_index xs i) ≡ true
 all_at p [] i h e = absurd (omega arith)
-all_at p (x ∷ xs) zero h e = (and_both (p x) (list_all p xs) e).0
-all_at p (x ∷ xs) (suc i) h e = all_at p xs i (omega arith) (and_both (p x) (list_all p xs) e).1
+all_at p (x ∷ xs) zero h e = (and_parts (p x) (list_all p xs) e).0
+all_at p (x ∷ xs) (suc i) h e = all_at p xs i (omega arith) (and_parts (p x) (list_all p xs) e).1
 
 line_free : (p : ℕ → Bool) (b : ℕ) → p 10 ≡ false → p b ≡ true → not (is_line_end b) ≡ true
 line_free p b none e = by_test (is_line_end b) refl
@@ -50,13 +46,6 @@ line_free p b none e = by_test (is_line_end b) refl
     by_test : (t : Bool) → is_line_end b ≡ t → not (is_line_end b) ≡ true
     by_test true is = let same : b ≡ 10 = grind (arith, nat_tests) in let f = sym none ∙ ap p (sym same) ∙ e in absurd cc
     by_test false is = ap not is
-
-not_line : (b : ℕ) → not (is_line_end b) ≡ true → is_line_end b ≡ false
-not_line b e = by_test (is_line_end b) refl
-  where
-    by_test : (t : Bool) → is_line_end b ≡ t → is_line_end b ≡ false
-    by_test true is = let f = ap not (sym is) ∙ e in absurd cc
-    by_test false is = is
 
 -- ---- no token passes a line end
 
@@ -81,28 +70,28 @@ quoted_on_line quote (b ∷ bs) q10 h =
 
 token_on_line : (bytes : List ℕ) → IsToken bytes → on_line bytes ≡ true
 token_on_line [] h = refl
-token_on_line (b ∷ bs) (inl w) = all_implies is_word (λ c. not (is_line_end c)) (b ∷ bs) (λ c. line_free is_word c refl) (word_all b bs w)
+token_on_line (b ∷ bs) (inl w) = all_implies is_name_byte (λ c. not (is_line_end c)) (b ∷ bs) (λ c. line_free is_name_byte c refl) (identifier_all b bs w)
 token_on_line (b ∷ bs) (inr (inl n)) = all_implies is_number_byte (λ c. not (is_line_end c)) (b ∷ bs) (λ c. line_free is_number_byte c refl) (number_all b bs n)
 token_on_line (b ∷ bs) (inr (inr (inl q))) = quoted_on_line 39 (b ∷ bs) (λ e. omega arith) q
 token_on_line (b ∷ bs) (inr (inr (inr (inl q)))) = quoted_on_line 34 (b ∷ bs) (λ e. omega arith) q
 token_on_line (b ∷ bs) (inr (inr (inr (inr p)))) = ap on_line (sym p.1) ∙ punct_on_line p.0
 
--- no line begins behind bytes that end no line
+-- no line begins after bytes that end no line
 no_start : (source : List ℕ) (end : ℕ) → 0 < end → is_line_end (slice_index source (end - 1)) ≡ false → IsLineStart source end → ⊥
 no_start source end some free (inl zero_is) = omega arith
 no_start source end some free (inr yes_is) = let e = sym free ∙ yes_is.1 in cc
 
 last_is : (source : List ℕ) (at n : ℕ) → 0 < n → at + n ≤ length source → slice_index source (at + n - 1) ≡ slice_index (take n (drop at source)) (n - 1)
 last_is source at n some within =
-    let place : at + n - 1 ≡ at + (n - 1) = omega arith in
+    let offset : at + n - 1 ≡ at + (n - 1) = omega arith in
     let less : n - 1 < n = omega arith in
-    ap (slice_index source) place ∙ sym (get_or-drop at source (n - 1) 0) ∙ sym (get_or-take n (drop at source) (n - 1) 0 less)
+    ap (slice_index source) offset ∙ sym (get_or-drop at source (n - 1) 0) ∙ sym (get_or-take n (drop at source) (n - 1) 0 less)
 
-behind_line : (source : List ℕ) (at n : ℕ) → 0 < n → at + n ≤ length source → on_line (take n (drop at source)) ≡ true → IsLineStart source (at + n) → ⊥
-behind_line source at n some within free =
+no_line_after : (source : List ℕ) (at n : ℕ) → 0 < n → at + n ≤ length source → on_line (take n (drop at source)) ≡ true → IsLineStart source (at + n) → ⊥
+no_line_after source at n some within free =
     let size : length (take n (drop at source)) ≡ n = length-take-le n (drop at source) (omega (arith, length-drop at source)) in
     let last = all_at (λ b. not (is_line_end b)) (take n (drop at source)) (n - 1) (omega arith) free in
-    no_start source (at + n) (omega arith) (ap is_line_end (last_is source at n some within) ∙ not_line (slice_index (take n (drop at source)) (n - 1)) last)
+    no_start source (at + n) (omega arith) (ap is_line_end (last_is source at n some within) ∙ not-true (is_line_end (slice_index (take n (drop at source)) (n - 1))) last)
 
 -- ---- the first byte of a token begins no include line
 
@@ -135,7 +124,7 @@ token_starts b bs (inr (inr (inr (inr p)))) =
 
 blank_starts : (b : ℕ) → is_inner_blank b ≡ true → start_of b ≡ start.Blank
 unfolding start_of
-blank_starts b e = let line : is_line_end b ≡ false = not_line b (line_free is_inner_blank b refl e) in rw (line, e) refl
+blank_starts b e = let line : is_line_end b ≡ false = not-true (is_line_end b) (line_free is_inner_blank b refl e) in rw (line, e) refl
 
 line_starts : (b : ℕ) → is_line_end b ≡ true → start_of b ≡ start.LineEnd
 unfolding start_of
@@ -154,7 +143,7 @@ unfolding is_token_start start_of
 token_no_hash b h = by_test (eqb 35 b) refl
   where
     by_test : (t : Bool) → eqb 35 b ≡ t → eqb 35 b ≡ false
-    by_test true is = let f = ap (λ c. is_token_start (start_of c)) (same_byte 35 b is) ∙ h in absurd cc
+    by_test true is = let f = ap (λ c. is_token_start (start_of c)) (eqb-true 35 b is) ∙ h in absurd cc
     by_test false is = is
 
 -- ---- include lines
@@ -164,7 +153,7 @@ blanks_past xs more y blanks stop =
     let n = run_before is_inner_blank xs y more blanks stop in
     ap (λ k. drop k (xs ++ y ∷ more)) n ∙ drop_at xs (y ∷ more) (length xs) refl
 
-blanks_to_end : (xs behind : List ℕ) → AreBlanks xs → ends_line behind ≡ true → past_blanks (xs ++ behind) ≡ behind
+blanks_to_end : (xs following : List ℕ) → AreBlanks xs → ends_line following ≡ true → past_blanks (xs ++ following) ≡ following
 blanks_to_end xs [] blanks ends =
     let all : length (xs ++ []) ≡ prefix_len is_inner_blank (xs ++ []) = ap length (append-nil xs) ∙ sym (run_whole is_inner_blank xs blanks) ∙ sym (ap (prefix_len is_inner_blank) (append-nil xs)) in
     drop_all (prefix_len is_inner_blank (xs ++ [])) (xs ++ []) (omega arith)
@@ -172,37 +161,37 @@ blanks_to_end xs (y ∷ ys) blanks ends =
     let stop : is_inner_blank y ≡ false = grind (arith, nat_tests) in
     blanks_past xs ys y blanks stop
 
-abbrev after_word : List ℕ → Option (List ℕ)
-after_word b = option_and_then (λ c. cond (ends_line (past_blanks c)) (Some (past_blanks c)) None) (past_header (past_blanks b))
+abbrev after_include : List ℕ → Option (List ℕ)
+after_include b = option_and_then (λ c. cond (ends_line (past_blanks c)) (Some (past_blanks c)) None) (past_header (past_blanks b))
 
 abbrev after_hash : List ℕ → Option (List ℕ)
-after_hash a = option_and_then after_word (past (codes "include") (past_blanks a))
+after_hash a = option_and_then after_include (past (codes "include") (past_blanks a))
 
-header_past : (blanks header after behind : List ℕ) → (header ≡ codes "<stdio.h>") ⊎ (header ≡ codes "<stdlib.h>") → AreBlanks blanks → AreBlanks after → ends_line behind ≡ true → after_word (blanks ++ (header ++ (after ++ behind))) ≡ Some behind
-header_past blanks header after behind (inl is) h k ends =
-    let rest = after ++ behind in
+header_past : (blanks header after following : List ℕ) → (header ≡ codes "<stdio.h>") ⊎ (header ≡ codes "<stdlib.h>") → AreBlanks blanks → AreBlanks after → ends_line following ≡ true → after_include (blanks ++ (header ++ (after ++ following))) ≡ Some following
+header_past blanks header after following (inl is) h k ends =
+    let rest = after ++ following in
     let past_it : past_blanks (blanks ++ (header ++ rest)) ≡ codes "<stdio.h>" ++ rest = ap (λ (t : List ℕ). past_blanks (blanks ++ (t ++ rest))) is ∙ blanks_past blanks (drop 1 (codes "<stdio.h>") ++ rest) 60 h refl in
-    let tail = blanks_to_end after behind k ends in
+    let tail = blanks_to_end after following k ends in
     ap (λ (t : List ℕ). option_and_then (λ c. cond (ends_line (past_blanks c)) (Some (past_blanks c)) None) (past_header t)) past_it
-    ∙ ap (λ (t : List ℕ). cond (ends_line t) (Some t) None) tail ∙ ap (λ t. cond t (Some behind) None) ends
-header_past blanks header after behind (inr is) h k ends =
-    let rest = after ++ behind in
+    ∙ ap (λ (t : List ℕ). cond (ends_line t) (Some t) None) tail ∙ ap (λ t. cond t (Some following) None) ends
+header_past blanks header after following (inr is) h k ends =
+    let rest = after ++ following in
     let past_it : past_blanks (blanks ++ (header ++ rest)) ≡ codes "<stdlib.h>" ++ rest = ap (λ (t : List ℕ). past_blanks (blanks ++ (t ++ rest))) is ∙ blanks_past blanks (drop 1 (codes "<stdlib.h>") ++ rest) 60 h refl in
-    let tail = blanks_to_end after behind k ends in
+    let tail = blanks_to_end after following k ends in
     ap (λ (t : List ℕ). option_and_then (λ c. cond (ends_line (past_blanks c)) (Some (past_blanks c)) None) (past_header t)) past_it
-    ∙ ap (λ (t : List ℕ). cond (ends_line t) (Some t) None) tail ∙ ap (λ t. cond t (Some behind) None) ends
+    ∙ ap (λ (t : List ℕ). cond (ends_line t) (Some t) None) tail ∙ ap (λ t. cond t (Some following) None) ends
 
-include_found : (bytes behind : List ℕ) → IsIncludeLine bytes behind → past_include (bytes ++ behind) ≡ Some behind
+include_found : (bytes following : List ℕ) → IsIncludeLine bytes following → past_include (bytes ++ following) ≡ Some following
 unfolding past_include
-include_found bytes behind h =
-    let rest = h.header ++ (h.after ++ behind) in
-    let words : List ℕ = codes "include" ++ (h.word_blanks ++ rest) in
-    let whole : bytes ++ behind ≡ h.before ++ (codes "#" ++ (h.hash_blanks ++ words)) = ap (λ (t : List ℕ). t ++ behind) h.spelled ∙ regroup h.before (codes "#") h.hash_blanks (codes "include") h.word_blanks h.header h.after behind in
-    let first : past_blanks (bytes ++ behind) ≡ codes "#" ++ (h.hash_blanks ++ words) = ap past_blanks whole ∙ blanks_past h.before (h.hash_blanks ++ words) 35 h.blanks.0 refl in
-    let second : past_blanks (h.hash_blanks ++ words) ≡ words = blanks_past h.hash_blanks (drop 1 (codes "include") ++ (h.word_blanks ++ rest)) 105 h.blanks.1 refl in
+include_found bytes following h =
+    let rest = h.header ++ (h.after ++ following) in
+    let directive : List ℕ = codes "include" ++ (h.include_blanks ++ rest) in
+    let whole : bytes ++ following ≡ h.before ++ (codes "#" ++ (h.hash_blanks ++ directive)) = ap (λ (t : List ℕ). t ++ following) h.spelled ∙ regroup h.before (codes "#") h.hash_blanks (codes "include") h.include_blanks h.header h.after following in
+    let first : past_blanks (bytes ++ following) ≡ codes "#" ++ (h.hash_blanks ++ directive) = ap past_blanks whole ∙ blanks_past h.before (h.hash_blanks ++ directive) 35 h.blanks.0 refl in
+    let second : past_blanks (h.hash_blanks ++ directive) ≡ directive = blanks_past h.hash_blanks (drop 1 (codes "include") ++ (h.include_blanks ++ rest)) 105 h.blanks.1 refl in
     ap (λ (t : List ℕ). option_and_then after_hash (past (codes "#") t)) first
-    ∙ ap (λ (t : List ℕ). option_and_then after_word (past (codes "include") t)) second
-    ∙ header_past h.word_blanks h.header h.after behind h.header_is h.blanks.2 h.blanks.3 h.ends
+    ∙ ap (λ (t : List ℕ). option_and_then after_include (past (codes "include") t)) second
+    ∙ header_past h.include_blanks h.header h.after following h.header_is h.blanks.2 h.blanks.3 h.ends
   where
     regroup : (a b c d e f g r : List ℕ) → (a ++ (b ++ (c ++ (d ++ (e ++ (f ++ g)))))) ++ r ≡ a ++ (b ++ (c ++ (d ++ (e ++ (f ++ (g ++ r))))))
     regroup a b c d e f g r = simp append_assoc
@@ -237,14 +226,14 @@ no_include_len line e = ap (λ o. option_map_or (λ rest. length line - length r
 
 -- ---- the parts
 
--- the text at a place, in its first byte and the others
+-- the text at an offset, in its first byte and the others
 record IsAt (source : List ℕ) (at : ℕ) : Type 0 where
   b : ℕ
   bs : List ℕ
   split : drop at source ≡ b ∷ bs
 
-at_place : (source : List ℕ) (at : ℕ) → at < length source → IsAt source at
-at_place source at less = by_rest (drop at source) refl
+at_offset : (source : List ℕ) (at : ℕ) → at < length source → IsAt source at
+at_offset source at less = by_rest (drop at source) refl
   where
     by_rest : (t : List ℕ) → drop at source ≡ t → IsAt source at
     by_rest [] e = absurd (omega (arith, ap length e, length-drop at source))
@@ -253,9 +242,9 @@ at_place source at less = by_rest (drop at source) refl
 -- a comment or an include line begins so
 front_is : (source : List ℕ) (at end b : ℕ) (bs : List ℕ) → at < end → slice_range source at end ≡ b ∷ bs → slice_index source at ≡ b
 front_is source at end b bs less e =
-    let place : at ≡ at + 0 = omega arith in
+    let offset : at ≡ at + 0 = omega arith in
     let some : 0 < end - at = omega arith in
-    ap (slice_index source) place ∙ sym (get_or-drop at source 0 0) ∙ sym (get_or-take (end - at) (drop at source) 0 0 some) ∙ ap (λ (t : List ℕ). slice_index t 0) e
+    ap (slice_index source) offset ∙ sym (get_or-drop at source 0 0) ∙ sym (get_or-take (end - at) (drop at source) 0 0 some) ∙ ap (λ (t : List ℕ). slice_index t 0) e
 
 begins_none : (source : List ℕ) (at b : ℕ) (bs : List ℕ) → drop at source ≡ b ∷ bs → is_inner_blank b ≡ false → eqb 35 b ≡ false → past_include (drop at source) ≡ None
 begins_none source at b bs split blank hash = ap past_include split ∙ include_needs b bs blank hash
@@ -267,7 +256,7 @@ slash_none source at b bs split slash =
 
 line_none : (source : List ℕ) (at b : ℕ) (bs : List ℕ) → drop at source ≡ b ∷ bs → is_line_end b ≡ true → past_include (drop at source) ≡ None
 line_none source at b bs split line =
-    let same : b ≡ 10 = same_byte b 10 line in
+    let same : b ≡ 10 = eqb-true b 10 line in
     begins_none source at b bs split (ap is_inner_blank same) (ap (λ c. eqb 35 c) same)
 
 -- ---- tokens
@@ -283,26 +272,26 @@ record IsSplit (source : List ℕ) (t : Token) : Type 0 where
 
 split_token : (source : List ℕ) (t : Token) → Stands source t → IsSplit source t
 split_token source t h =
-    let place = at_place source t.at (omega (arith, h.some, h.within)) in
+    let offset = at_offset source t.at (omega (arith, h.some, h.within)) in
     let m : ℕ = t.end - t.at - 1 in
     let size : t.at + suc m ≡ t.end = omega (arith, h.some) in
     let n_is : t.end - t.at ≡ suc m = omega (arith, h.some) in
-    let len : length (place.b ∷ place.bs) ≡ length source - t.at = ap length (sym place.split) ∙ length-drop t.at source in
-    let bytes : slice_range source t.at t.end ≡ take (suc m) (place.b ∷ place.bs) = ap (λ k. take k (drop t.at source)) n_is ∙ ap (take (suc m)) place.split in
+    let len : length (offset.b ∷ offset.bs) ≡ length source - t.at = ap length (sym offset.split) ∙ length-drop t.at source in
+    let bytes : slice_range source t.at t.end ≡ take (suc m) (offset.b ∷ offset.bs) = ap (λ k. take k (drop t.at source)) n_is ∙ ap (take (suc m)) offset.split in
     record {
-      b = place.b;
-      bs = place.bs;
+      b = offset.b;
+      bs = offset.bs;
       m = m;
-      split = place.split;
+      split = offset.split;
       size = size;
       within = omega (arith, h.within, h.some);
       longest = record {
-        no_comment = ap begins_comment (sym place.split) ∙ h.no_comment;
+        no_comment = ap begins_comment (sym offset.split) ∙ h.no_comment;
         token = subst (λ (u : List ℕ). IsToken u) bytes h.token;
         spells = subst (λ (u : List ℕ). Spells u t.kind) bytes h.spells;
         longest = λ i more fits is.
             let end_is : t.at + i - t.at ≡ i = omega arith in
-            let there : take i (place.b ∷ place.bs) ≡ slice_range source t.at (t.at + i) = ap (take i) (sym place.split) ∙ ap (λ k. take k (drop t.at source)) (sym end_is) in
+            let there : take i (offset.b ∷ offset.bs) ≡ slice_range source t.at (t.at + i) = ap (take i) (sym offset.split) ∙ ap (λ k. take k (drop t.at source)) (sym end_is) in
             h.longest (t.at + i) (omega arith) (omega (arith, h.some, h.within)) (subst (λ (u : List ℕ). IsToken u) there is);
       };
     }
@@ -326,7 +315,7 @@ next_text source at b bs split = sym (drop-drop 1 at source) ∙ ap (drop 1) spl
 blank_inside : (source : List ℕ) (at b : ℕ) (bs : List ℕ) → drop at source ≡ b ∷ bs → is_inner_blank b ≡ true → IsInside source (at + 1)
 blank_inside source at b bs split blank =
     let back : at + 1 - 1 ≡ at = omega arith in
-    let free : is_line_end b ≡ false = not_line b (line_free is_inner_blank b refl blank) in
+    let free : is_line_end b ≡ false = not-true (is_line_end b) (line_free is_inner_blank b refl blank) in
     no_start source (at + 1) (omega arith) (ap (λ i. is_line_end (slice_index source i)) back ∙ ap is_line_end (first_is source at b bs split) ∙ free)
 
 never_blank : (source : List ℕ) (at b : ℕ) (bs : List ℕ) (t : Bool) → drop at source ≡ b ∷ bs → is_inner_blank b ≡ t → (is_line_end b || is_inner_blank b) ≡ true → Never source (at + 1) → Never source at
@@ -344,25 +333,25 @@ never_blank source at b bs false split blank is ih inside rest e =
 comment_front : (bytes inner : List ℕ) → bytes ≡ codes "/*" ++ (inner ++ codes "*/") → bytes ≡ 47 ∷ 42 ∷ (inner ++ codes "*/")
 comment_front bytes inner e = e
 
-never_gap : (source : List ℕ) (at end : ℕ) → at < end → end ≤ length source → IsGap source at end → Never source end → Never source at
-never_gap source at end less within (inl h) ih inside rest e =
-    let place = at_place source at (omega arith) in
-    let first = first_is source at place.b place.bs place.split in
-    let is : (is_line_end place.b || is_inner_blank place.b) ≡ true = ap (λ c. is_line_end c || is_inner_blank c) (sym first) ∙ h.1 in
-    never_blank source at place.b place.bs (is_inner_blank place.b) place.split refl is (subst (λ (i : ℕ). Never source i) h.0 ih) inside rest e
-never_gap source at end less within (inr (inl h)) ih inside rest e =
-    let place = at_place source at (omega arith) in
-    none_some rest (past_include (drop at source)) (slash_none source at place.b place.bs place.split (front_is source at end 47 (42 ∷ (h.inner ++ codes "*/")) less h.spelled)) e
-never_gap source at end less within (inr (inr (inl h))) ih inside rest e =
-    let place = at_place source at (omega arith) in
-    none_some rest (past_include (drop at source)) (slash_none source at place.b place.bs place.split (front_is source at end 47 (47 ∷ h.inner) less h.spelled)) e
-never_gap source at end less within (inr (inr (inr h))) ih inside rest e = inside h.0
+never_trivia : (source : List ℕ) (at end : ℕ) → at < end → end ≤ length source → IsTrivia source at end → Never source end → Never source at
+never_trivia source at end less within (inl h) ih inside rest e =
+    let offset = at_offset source at (omega arith) in
+    let first = first_is source at offset.b offset.bs offset.split in
+    let is : (is_line_end offset.b || is_inner_blank offset.b) ≡ true = ap (λ c. is_line_end c || is_inner_blank c) (sym first) ∙ h.1 in
+    never_blank source at offset.b offset.bs (is_inner_blank offset.b) offset.split refl is (subst (λ (i : ℕ). Never source i) h.0 ih) inside rest e
+never_trivia source at end less within (inr (inl h)) ih inside rest e =
+    let offset = at_offset source at (omega arith) in
+    none_some rest (past_include (drop at source)) (slash_none source at offset.b offset.bs offset.split (front_is source at end 47 (42 ∷ (h.inner ++ codes "*/")) less h.spelled)) e
+never_trivia source at end less within (inr (inr (inl h))) ih inside rest e =
+    let offset = at_offset source at (omega arith) in
+    none_some rest (past_include (drop at source)) (slash_none source at offset.b offset.bs offset.split (front_is source at end 47 (47 ∷ h.inner) less h.spelled)) e
+never_trivia source at end less within (inr (inr (inr h))) ih inside rest e = inside h.0
 
 never : (source : List ℕ) (to at : ℕ) (ts : List Token) → to ≡ length source → Reads source to at ts → Never source at
 never source to at _ whole (done _ e) inside rest is =
     let none : drop at source ≡ [] = drop_all at source (omega arith) in
     none_some rest (past_include (drop at source)) (ap past_include none ∙ include_empty) is
-never source to at ts whole (gap _ end _ less within g r) inside rest is = never_gap source at end less within g (never source to end ts whole r) inside rest is
+never source to at ts whole (trivia _ end _ less within g r) inside rest is = never_trivia source at end less within g (never source to end ts whole r) inside rest is
 never source to _ _ whole (token t ts stands r) inside rest is = none_some rest (past_include (drop t.at source)) (token_none source t (split_token source t stands)) is
 
 -- ---- comments
@@ -376,70 +365,70 @@ comment_found at (x ∷ xs) more none =
     let size : at + 1 + length xs + 2 ≡ at + length (x ∷ xs) + 2 = omega arith in
     ap (λ t. cond t (Some (at + 2)) (comment_end (at + 1) text)) here ∙ comment_found (at + 1) xs more (λ m h. none (suc m) (omega arith)) ∙ ap Some size
 
-block_item : (at : ℕ) (inner more : List ℕ) → ((m : ℕ) → m < length inner → closes (drop m (inner ++ codes "*/")) ≡ false) → item_at at (codes "/*" ++ ((inner ++ codes "*/") ++ more)) ≡ Ok (Gap (length inner + 4))
-unfolding item_of start_of slash_at comment_at
-block_item at inner more none =
+block_lexeme : (at : ℕ) (inner more : List ℕ) → ((m : ℕ) → m < length inner → closes (drop m (inner ++ codes "*/")) ≡ false) → lexeme_at at (codes "/*" ++ ((inner ++ codes "*/") ++ more)) ≡ Ok (lexeme.Trivia (length inner + 4))
+unfolding lexeme_of start_of slash_at comment_at
+block_lexeme at inner more none =
     let size : 0 + length inner + 2 + 2 ≡ length inner + 4 = omega arith in
-    ap (λ o. ok_or o (fault.OpenComment at) >>= λ m. Ok (Gap (m + 2))) (comment_found 0 inner more none) ∙ ap (λ n. Ok (Gap n)) size
+    ap (λ o. ok_or o (fault.OpenComment at) >>= λ m. Ok (lexeme.Trivia (m + 2))) (comment_found 0 inner more none) ∙ ap (λ n. Ok (lexeme.Trivia n)) size
 
-block_gap : (at n : ℕ) (rest : List ℕ) → n ≤ length rest → IsBlockComment (take n rest) → item_at at rest ≡ Ok (Gap n)
-block_gap at n rest within h =
+block_trivia : (at n : ℕ) (rest : List ℕ) → n ≤ length rest → IsBlockComment (take n rest) → lexeme_at at rest ≡ Ok (lexeme.Trivia n)
+block_trivia at n rest within h =
     let more = drop n rest in
     let whole : rest ≡ codes "/*" ++ ((h.inner ++ codes "*/") ++ more) = sym (take-append-drop n rest) ∙ ap (λ (t : List ℕ). t ++ more) h.spelled in
     let len : length (h.inner ++ codes "*/") ≡ length h.inner + 2 = length-append h.inner (codes "*/") in
     let size : length h.inner + 4 ≡ n = omega (arith, ap length h.spelled, length-take-le n rest within) in
-    ap (item_at at) whole ∙ block_item at h.inner more h.first ∙ ap (λ m. Ok (Gap m)) size
+    ap (lexeme_at at) whole ∙ block_lexeme at h.inner more h.first ∙ ap (λ m. Ok (lexeme.Trivia m)) size
 
 run_until : (p : ℕ → Bool) (xs more : List ℕ) → list_all p xs ≡ true → ((y : ℕ) (ys : List ℕ) → more ≡ y ∷ ys → p y ≡ false) → prefix_len p (xs ++ more) ≡ length xs
 run_until p xs [] all stop = ap (prefix_len p) (append-nil xs) ∙ run_whole p xs all
 run_until p xs (y ∷ ys) all stop = run_before p xs y ys all (stop y ys refl)
 
-line_item : (at : ℕ) (inner more : List ℕ) → on_line inner ≡ true → ends_line more ≡ true → item_at at (codes "//" ++ (inner ++ more)) ≡ Ok (Gap (length inner + 2))
-unfolding item_of start_of slash_at line_comment
-line_item at inner more all ends =
-    ap (λ n. Ok (Gap (n + 2))) (run_until (λ b. not (is_line_end b)) inner more all (λ y ys e. ap not (sym (ap ends_line e) ∙ ends)))
+line_lexeme : (at : ℕ) (inner more : List ℕ) → on_line inner ≡ true → ends_line more ≡ true → lexeme_at at (codes "//" ++ (inner ++ more)) ≡ Ok (lexeme.Trivia (length inner + 2))
+unfolding lexeme_of start_of slash_at line_comment
+line_lexeme at inner more all ends =
+    ap (λ n. Ok (lexeme.Trivia (n + 2))) (run_until (λ b. not (is_line_end b)) inner more all (λ y ys e. ap not (sym (ap ends_line e) ∙ ends)))
 
-line_gap : (at n : ℕ) (rest : List ℕ) → n ≤ length rest → IsLineComment (take n rest) (drop n rest) → item_at at rest ≡ Ok (Gap n)
-line_gap at n rest within h =
+line_trivia : (at n : ℕ) (rest : List ℕ) → n ≤ length rest → IsLineComment (take n rest) (drop n rest) → lexeme_at at rest ≡ Ok (lexeme.Trivia n)
+line_trivia at n rest within h =
     let more = drop n rest in
     let whole : rest ≡ codes "//" ++ (h.inner ++ more) = sym (take-append-drop n rest) ∙ ap (λ (t : List ℕ). t ++ more) h.spelled in
     let size : length h.inner + 2 ≡ n = omega (arith, ap length h.spelled, length-take-le n rest within) in
-    ap (item_at at) whole ∙ line_item at h.inner more h.on_line h.ends ∙ ap (λ m. Ok (Gap m)) size
+    ap (lexeme_at at) whole ∙ line_lexeme at h.inner more h.on_line h.ends ∙ ap (λ m. Ok (lexeme.Trivia m)) size
 
-blank_gap : (at b : ℕ) (bs : List ℕ) → is_inner_blank b ≡ true → item_at at (b ∷ bs) ≡ Ok (Gap 1)
-unfolding item_of
-blank_gap at b bs blank = ap (λ s. item_of s at (b ∷ bs)) (blank_starts b blank)
+blank_trivia : (at b : ℕ) (bs : List ℕ) → is_inner_blank b ≡ true → lexeme_at at (b ∷ bs) ≡ Ok (lexeme.Trivia 1)
+unfolding lexeme_of
+blank_trivia at b bs blank = ap (λ s. lexeme_of s at (b ∷ bs)) (blank_starts b blank)
 
-end_gap : (at b : ℕ) (bs : List ℕ) → is_line_end b ≡ true → item_at at (b ∷ bs) ≡ Ok (Gap (include_len bs + 1))
-unfolding item_of
-end_gap at b bs line = ap (λ s. item_of s at (b ∷ bs)) (line_starts b line)
+end_trivia : (at b : ℕ) (bs : List ℕ) → is_line_end b ≡ true → lexeme_at at (b ∷ bs) ≡ Ok (lexeme.Trivia (include_len bs + 1))
+unfolding lexeme_of
+end_trivia at b bs line = ap (λ s. lexeme_of s at (b ∷ bs)) (line_starts b line)
 
 -- ---- one step
 
--- from this place on, the tokens of the definition are these
+-- from this offset on, the tokens of the definition are these
 abbrev Gets : List ℕ → List Token → ℕ → Type 0
-Gets source ts at = (count : ℕ) → count + length ts ≤ 200000 → tokens_from count at 0 (drop at source) ≡ Ok ts
+Gets source ts at = (count : ℕ) → count + length ts ≤ most_tokens → tokens_from count at 0 (drop at source) ≡ Ok ts
 
-gap_gets : (source : List ℕ) (ts : List Token) (at n : ℕ) → at < length source → 0 < n → item_at at (drop at source) ≡ Ok (Gap n) → Gets source ts (at + n) → Gets source ts at
-gap_gets source ts at n less some item next count few =
+trivia_gets : (source : List ℕ) (ts : List Token) (at n : ℕ) → at < length source → 0 < n → lexeme_at at (drop at source) ≡ Ok (lexeme.Trivia n) → Gets source ts (at + n) → Gets source ts at
+trivia_gets source ts at n less some scanned next count few =
     let text = drop at source in
     let more : drop n text ≡ drop (at + n) source = drop-drop n at source in
-    let passes : counted count at (item_at at text) ≡ Ok (Gap n) = ap (counted count at) item in
-    step count at text (Gap n) passes some (omega (arith, length-drop at source)) ∙ ap (tokens_from count (at + n) 0) more ∙ next count few
+    let passes : counted count at (lexeme_at at text) ≡ Ok (lexeme.Trivia n) = ap (counted count at) scanned in
+    step count at text (lexeme.Trivia n) passes some (omega (arith, length-drop at source)) ∙ ap (tokens_from count (at + n) 0) more ∙ next count few
 
 token_gets : (source : List ℕ) (t : Token) (ts : List Token) → IsSplit source t → Gets source ts t.end → Gets source (t ∷ ts) t.at
 token_gets source t ts h next count few =
     let text = drop t.at source in
     let n : ℕ = suc h.m in
-    let item : item_at t.at text ≡ Ok (Piece t.kind n) = ap (item_at t.at) h.split ∙ token_piece t.at h.b h.bs h.m t.kind h.within h.longest in
-    let below : ltb count 200000 ≡ true = lt-ltb count 200000 (omega arith) in
-    let passes : counted count t.at (item_at t.at text) ≡ Ok (Piece t.kind n) = ap (counted count t.at) item ∙ ap (λ b. cond b (Ok (Piece t.kind n)) (Err (fault.ManyTokens t.at))) below in
+    let scanned : lexeme_at t.at text ≡ Ok (lexeme.Token t.kind n) = ap (lexeme_at t.at) h.split ∙ token_lexeme t.at h.b h.bs h.m t.kind h.within h.longest in
+    let below : ltb count most_tokens ≡ true = lt-ltb count most_tokens (omega arith) in
+    let passes : counted count t.at (lexeme_at t.at text) ≡ Ok (lexeme.Token t.kind n) = ap (counted count t.at) scanned ∙ ap (λ b. cond b (Ok (lexeme.Token t.kind n)) (Err (fault.ManyTokens t.at))) below in
     let some : 0 < length text = omega (arith, ap length h.split) in
     let more : drop n text ≡ drop (t.at + n) source = drop-drop n t.at source in
-    step count t.at text (Piece t.kind n) passes (omega arith) some
-    ∙ ap (λ (u : List ℕ). behind (record { kind = t.kind; at = t.at; end = t.at + n } ∷ []) (tokens_from (count + 1) (t.at + n) 0 u)) more
-    ∙ ap (λ e. behind (record { kind = t.kind; at = t.at; end = e } ∷ []) (tokens_from (count + 1) e 0 (drop e source))) h.size
-    ∙ ap (behind (t ∷ [])) (next (count + 1) (omega arith))
+    step count t.at text (lexeme.Token t.kind n) passes (omega arith) some
+    ∙ ap (λ (u : List ℕ). tokens_then (record { kind = t.kind; at = t.at; end = t.at + n } ∷ []) (tokens_from (count + 1) (t.at + n) 0 u)) more
+    ∙ ap (λ e. tokens_then (record { kind = t.kind; at = t.at; end = e } ∷ []) (tokens_from (count + 1) e 0 (drop e source))) h.size
+    ∙ ap (tokens_then (t ∷ [])) (next (count + 1) (omega arith))
 
 -- ---- all of a source
 
@@ -449,8 +438,8 @@ record IsReached (source : List ℕ) (ts : List Token) (at : ℕ) : Type 0 where
 
 plain_reached : (source : List ℕ) (ts : List Token) (at : ℕ) → include_len (drop at source) ≡ 0 → Gets source ts at → IsReached source ts at
 plain_reached source ts at none gets =
-    let place : at ≡ at + include_len (drop at source) = omega arith in
-    record { inside = λ _. gets; at_start = λ _. subst (λ (i : ℕ). Gets source ts i) place gets }
+    let offset : at ≡ at + include_len (drop at source) = omega arith in
+    record { inside = λ _. gets; at_start = λ _. subst (λ (i : ℕ). Gets source ts i) offset gets }
 
 first_reached : (source : List ℕ) (ts : List Token) (at : ℕ) → past_include (drop at source) ≡ None → Gets source ts at → IsReached source ts at
 first_reached source ts at none gets = plain_reached source ts at (no_include_len (drop at source) none) gets
@@ -458,7 +447,7 @@ first_reached source ts at none gets = plain_reached source ts at (no_include_le
 blank_reached : (source : List ℕ) (ts : List Token) (at b : ℕ) (bs : List ℕ) (t : Bool) → at < length source → drop at source ≡ b ∷ bs → is_inner_blank b ≡ t → (is_line_end b || is_inner_blank b) ≡ true → Never source (at + 1) → IsReached source ts (at + 1) → IsReached source ts at
 blank_reached source ts at b bs true less split blank is none rest =
     let inside = blank_inside source at b bs split blank in
-    let gets = gap_gets source ts at 1 less (omega arith) (ap (item_at at) split ∙ blank_gap at b bs blank) (rest.inside inside) in
+    let gets = trivia_gets source ts at 1 less (omega arith) (ap (lexeme_at at) split ∙ blank_trivia at b bs blank) (rest.inside inside) in
     plain_reached source ts at (by_include (past_include (drop at source)) refl inside) gets
   where
     by_include : (o : Option (List ℕ)) → past_include (drop at source) ≡ o → IsInside source (at + 1) → include_len (drop at source) ≡ 0
@@ -472,9 +461,9 @@ blank_reached source ts at b bs false less split blank is none rest =
     let starts : IsLineStart source (at + 1) = inr (omega arith, ap (λ i. is_line_end (slice_index source i)) back ∙ ap is_line_end (first_is source at b bs split) ∙ line) in
     let i = include_len bs in
     let len : include_len (drop (at + 1) source) ≡ i = ap include_len (next_text source at b bs split) in
-    let place : at + 1 + include_len (drop (at + 1) source) ≡ at + (i + 1) = omega arith in
-    let next : Gets source ts (at + (i + 1)) = subst (λ (j : ℕ). Gets source ts j) place (rest.at_start starts) in
-    first_reached source ts at (line_none source at b bs split line) (gap_gets source ts at (i + 1) less (omega arith) (ap (item_at at) split ∙ end_gap at b bs line) next)
+    let offset : at + 1 + include_len (drop (at + 1) source) ≡ at + (i + 1) = omega arith in
+    let next : Gets source ts (at + (i + 1)) = subst (λ (j : ℕ). Gets source ts j) offset (rest.at_start starts) in
+    first_reached source ts at (line_none source at b bs split line) (trivia_gets source ts at (i + 1) less (omega arith) (ap (lexeme_at at) split ∙ end_trivia at b bs line) next)
   where
     left_of : (x : Bool) → (x || false) ≡ true → x ≡ true
     left_of true f = refl
@@ -494,15 +483,15 @@ header_on_line : (header : List ℕ) → (header ≡ codes "<stdio.h>") ⊎ (hea
 header_on_line header (inl e) = ap on_line e
 header_on_line header (inr e) = ap on_line e
 
-include_on_line : (bytes behind : List ℕ) → IsIncludeLine bytes behind → on_line bytes ≡ true
-include_on_line bytes behind h =
+include_on_line : (bytes following : List ℕ) → IsIncludeLine bytes following → on_line bytes ≡ true
+include_on_line bytes following h =
     let p : ℕ → Bool = λ c. not (is_line_end c) in
     let f = all_append p h.header h.after (header_on_line h.header h.header_is) (blanks_on_line h.after h.blanks.3) in
-    let e = all_append p h.word_blanks (h.header ++ h.after) (blanks_on_line h.word_blanks h.blanks.2) f in
-    let d = all_append p (codes "include") (h.word_blanks ++ (h.header ++ h.after)) refl e in
-    let c = all_append p h.hash_blanks (codes "include" ++ (h.word_blanks ++ (h.header ++ h.after))) (blanks_on_line h.hash_blanks h.blanks.1) d in
-    let b = all_append p (codes "#") (h.hash_blanks ++ (codes "include" ++ (h.word_blanks ++ (h.header ++ h.after)))) refl c in
-    ap on_line h.spelled ∙ all_append p h.before (codes "#" ++ (h.hash_blanks ++ (codes "include" ++ (h.word_blanks ++ (h.header ++ h.after))))) (blanks_on_line h.before h.blanks.0) b
+    let e = all_append p h.include_blanks (h.header ++ h.after) (blanks_on_line h.include_blanks h.blanks.2) f in
+    let d = all_append p (codes "include") (h.include_blanks ++ (h.header ++ h.after)) refl e in
+    let c = all_append p h.hash_blanks (codes "include" ++ (h.include_blanks ++ (h.header ++ h.after))) (blanks_on_line h.hash_blanks h.blanks.1) d in
+    let b = all_append p (codes "#") (h.hash_blanks ++ (codes "include" ++ (h.include_blanks ++ (h.header ++ h.after)))) refl c in
+    ap on_line h.spelled ∙ all_append p h.before (codes "#" ++ (h.hash_blanks ++ (codes "include" ++ (h.include_blanks ++ (h.header ++ h.after))))) (blanks_on_line h.before h.blanks.0) b
 
 -- the last byte of a block comment is its `/`
 block_inside : (source : List ℕ) (at n : ℕ) → 0 < n → at + n ≤ length source → IsBlockComment (take n (drop at source)) → IsInside source (at + n)
@@ -519,76 +508,76 @@ block_inside source at n some within h =
     last_of [] = refl
     last_of (x ∷ xs) = last_of xs
 
-gap_reached : (source : List ℕ) (ts : List Token) (at end : ℕ) → at < end → end ≤ length source → IsGap source at end → Never source end → IsReached source ts end → IsReached source ts at
-gap_reached source ts at end less within (inl h) none rest =
-    let place = at_place source at (omega arith) in
-    let first = first_is source at place.b place.bs place.split in
-    let is : (is_line_end place.b || is_inner_blank place.b) ≡ true = ap (λ c. is_line_end c || is_inner_blank c) (sym first) ∙ h.1 in
-    blank_reached source ts at place.b place.bs (is_inner_blank place.b) (omega arith) place.split refl is (subst (λ (i : ℕ). Never source i) h.0 none) (subst (λ (i : ℕ). IsReached source ts i) h.0 rest)
-gap_reached source ts at end less within (inr (inl h)) none rest =
-    let place = at_place source at (omega arith) in
+trivia_reached : (source : List ℕ) (ts : List Token) (at end : ℕ) → at < end → end ≤ length source → IsTrivia source at end → Never source end → IsReached source ts end → IsReached source ts at
+trivia_reached source ts at end less within (inl h) none rest =
+    let offset = at_offset source at (omega arith) in
+    let first = first_is source at offset.b offset.bs offset.split in
+    let is : (is_line_end offset.b || is_inner_blank offset.b) ≡ true = ap (λ c. is_line_end c || is_inner_blank c) (sym first) ∙ h.1 in
+    blank_reached source ts at offset.b offset.bs (is_inner_blank offset.b) (omega arith) offset.split refl is (subst (λ (i : ℕ). Never source i) h.0 none) (subst (λ (i : ℕ). IsReached source ts i) h.0 rest)
+trivia_reached source ts at end less within (inr (inl h)) none rest =
+    let offset = at_offset source at (omega arith) in
     let r = range_parts source at end less within in
     let n = r.0 in
     let comment : IsBlockComment (take n (drop at source)) = subst (λ (u : List ℕ). IsBlockComment u) r.4 h in
     let inside : IsInside source (at + n) = block_inside source at n r.2 (omega (arith, r.1)) comment in
     let next : Gets source ts (at + n) = subst (λ (i : ℕ). Gets source ts i) (sym r.1) (rest.inside (subst (λ (i : ℕ). IsInside source i) r.1 inside)) in
-    let gets = gap_gets source ts at n (omega arith) r.2 (block_gap at n (drop at source) r.3 comment) next in
-    first_reached source ts at (slash_none source at place.b place.bs place.split (front_is source at end 47 (42 ∷ (h.inner ++ codes "*/")) less h.spelled)) gets
-gap_reached source ts at end less within (inr (inr (inl h))) none rest =
-    let place = at_place source at (omega arith) in
+    let gets = trivia_gets source ts at n (omega arith) r.2 (block_trivia at n (drop at source) r.3 comment) next in
+    first_reached source ts at (slash_none source at offset.b offset.bs offset.split (front_is source at end 47 (42 ∷ (h.inner ++ codes "*/")) less h.spelled)) gets
+trivia_reached source ts at end less within (inr (inr (inl h))) none rest =
+    let offset = at_offset source at (omega arith) in
     let r = range_parts source at end less within in
     let n = r.0 in
     let comment : IsLineComment (take n (drop at source)) (drop n (drop at source)) = subst (λ (u : List ℕ). IsLineComment u (drop n (drop at source))) r.4 (subst (λ (u : List ℕ). IsLineComment (slice_range source at end) u) (sym r.5) h) in
     let free : on_line (take n (drop at source)) ≡ true = ap on_line comment.spelled ∙ all_append (λ c. not (is_line_end c)) (codes "//") comment.inner refl comment.on_line in
-    let inside : IsInside source (at + n) = behind_line source at n r.2 (omega (arith, r.1)) free in
+    let inside : IsInside source (at + n) = no_line_after source at n r.2 (omega (arith, r.1)) free in
     let next : Gets source ts (at + n) = subst (λ (i : ℕ). Gets source ts i) (sym r.1) (rest.inside (subst (λ (i : ℕ). IsInside source i) r.1 inside)) in
-    let gets = gap_gets source ts at n (omega arith) r.2 (line_gap at n (drop at source) r.3 comment) next in
-    first_reached source ts at (slash_none source at place.b place.bs place.split (front_is source at end 47 (47 ∷ h.inner) less h.spelled)) gets
-gap_reached source ts at end less within (inr (inr (inr h))) none rest =
+    let gets = trivia_gets source ts at n (omega arith) r.2 (line_trivia at n (drop at source) r.3 comment) next in
+    first_reached source ts at (slash_none source at offset.b offset.bs offset.split (front_is source at end 47 (47 ∷ h.inner) less h.spelled)) gets
+trivia_reached source ts at end less within (inr (inr (inr h))) none rest =
     let r = range_parts source at end less within in
     let n = r.0 in
     let line : IsIncludeLine (take n (drop at source)) (drop n (drop at source)) = subst (λ (u : List ℕ). IsIncludeLine u (drop n (drop at source))) r.4 (subst (λ (u : List ℕ). IsIncludeLine (slice_range source at end) u) (sym r.5) h.1) in
     let found : past_include (drop at source) ≡ Some (drop n (drop at source)) = ap past_include (sym (take-append-drop n (drop at source))) ∙ include_found (take n (drop at source)) (drop n (drop at source)) line in
     let size : length (drop at source) - length (drop n (drop at source)) ≡ n = omega (arith, length-drop n (drop at source), r.3) in
     let len : include_len (drop at source) ≡ n = ap (λ o. option_map_or (λ rest. length (drop at source) - length rest) o 0) found ∙ size in
-    let inside : IsInside source (at + n) = behind_line source at n r.2 (omega (arith, r.1)) (include_on_line (take n (drop at source)) (drop n (drop at source)) line) in
+    let inside : IsInside source (at + n) = no_line_after source at n r.2 (omega (arith, r.1)) (include_on_line (take n (drop at source)) (drop n (drop at source)) line) in
     let gets : Gets source ts end = rest.inside (subst (λ (i : ℕ). IsInside source i) r.1 inside) in
-    let place : end ≡ at + include_len (drop at source) = omega (arith, r.1) in
+    let offset : end ≡ at + include_len (drop at source) = omega (arith, r.1) in
     record {
       inside = λ no_line. absurd (no_line h.0);
-      at_start = λ _. subst (λ (i : ℕ). Gets source ts i) place gets;
+      at_start = λ _. subst (λ (i : ℕ). Gets source ts i) offset gets;
     }
 
 reached : (source : List ℕ) (to at : ℕ) (ts : List Token) → to ≡ length source → Reads source to at ts → IsReached source ts at
 reached source to at _ whole (done _ e) =
     let none : drop at source ≡ [] = drop_all at source (omega arith) in
     first_reached source [] at (ap past_include none ∙ include_empty) (λ count few. ap (tokens_from count at 0) none)
-reached source to at ts whole (gap _ end _ less within g r) = gap_reached source ts at end less within g (never source to end ts whole r) (reached source to end ts whole r)
+reached source to at ts whole (trivia _ end _ less within g r) = trivia_reached source ts at end less within g (never source to end ts whole r) (reached source to end ts whole r)
 reached source to _ _ whole (token t ts stands r) =
     let h = split_token source t stands in
     let n : ℕ = suc h.m in
     let fits : t.at + n ≤ length source = omega (arith, h.size, stands.within) in
     let bytes : take n (drop t.at source) ≡ take n (h.b ∷ h.bs) = ap (take n) h.split in
     let free : on_line (take n (drop t.at source)) ≡ true = ap on_line bytes ∙ token_on_line (take n (h.b ∷ h.bs)) h.longest.token in
-    let inside : IsInside source (t.at + n) = behind_line source t.at n (omega arith) fits free in
+    let inside : IsInside source (t.at + n) = no_line_after source t.at n (omega arith) fits free in
     let next : Gets source ts t.end = (reached source to t.end ts whole r).inside (subst (λ (i : ℕ). IsInside source i) h.size inside) in
     first_reached source (t ∷ ts) t.at (token_none source t h) (token_gets source t ts h next)
 
-short_source : (source : List ℕ) (ts : List Token) → lexed source ≡ Ok ts → length source ≤ 1048576
+short_source : (source : List ℕ) (ts : List Token) → lexed source ≡ Ok ts → length source ≤ most_source_bytes
 unfolding lexed
 short_source source ts e =
-    elim (chosen (ltb 1048576 (length source)) (Err (fault.LongSource 1048576)) (tokens_from 0 0 (include_len source) source) (Ok ts) e) [
+    elim (chosen (ltb most_source_bytes (length source)) (Err (fault.LongSource most_source_bytes)) (tokens_from 0 0 (include_len source) source) (Ok ts) e) [
       | inl (_, f) ↦ absurd cc
-      | inr (short, _) ↦ ltb-false 1048576 (length source) short
+      | inr (short, _) ↦ ltb-false most_source_bytes (length source) short
     ]
 
-reads_lexed : (source : List ℕ) (ts : List Token) → length source ≤ 1048576 → length ts ≤ 200000 → Reads source (length source) 0 ts → lexed source ≡ Ok ts
+reads_lexed : (source : List ℕ) (ts : List Token) → length source ≤ most_source_bytes → length ts ≤ most_tokens → Reads source (length source) 0 ts → lexed source ≡ Ok ts
 unfolding lexed
 reads_lexed source ts short few reads =
     let i = include_len source in
     let gets : Gets source ts (0 + i) = (reached source (length source) 0 ts refl reads).at_start (inl refl) in
-    let fits : ltb 1048576 (length source) ≡ false = le-ltb 1048576 (length source) short in
-    ap (λ t. cond t (Err (fault.LongSource 1048576)) (tokens_from 0 0 i source)) fits
+    let fits : ltb most_source_bytes (length source) ≡ false = le-ltb most_source_bytes (length source) short in
+    ap (λ t. cond t (Err (fault.LongSource most_source_bytes)) (tokens_from 0 0 i source)) fits
     ∙ skipped 0 0 i source ∙ ap (λ j. tokens_from 0 (0 + i) 0 (drop j source)) (sym (zero-add i)) ∙ gets 0 (omega arith)
 
 pub tokens_are_longest : TokensAreLongest

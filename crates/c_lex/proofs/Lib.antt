@@ -6,7 +6,7 @@ pub mod Driver
 pub mod Tables
 pub mod Sorts
 pub mod Munch
-pub mod GapLaws
+pub mod TriviaLaws
 pub mod Whole
 pub mod Reading
 pub mod Again

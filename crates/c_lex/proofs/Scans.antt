@@ -1,11 +1,11 @@
--- The steps of the loops that look for a place.
+-- The steps of the loops that look for an offset.
 use Rattle.std.proofs.Common.{◌≡◌, ℕ, ◌+◌, ◌-◌, ◌*◌, ◌^◌, ◌<◌, ◌≤◌, Bool, false, cond, eqb, List, [], ◌∷◌, length, drop, take, get_or, Some, None, codes, sym, ap, ◌∙◌, arith}
 use Rattle.std.specs.Prelude.{nat_eq, fold}
 use Rattle.std.specs.List.{starts_with}
 use Rattle.std.proofs.lemmas.List.{at_drop_more, at_drop_all, take_rest}
 use Rattle.c_lex.specs.Digits.{digit_value}
-use Rattle.c_lex.specs.Texts.{closing_from}
-use Rattle.c_lex.specs.Gaps.{comment_end}
+use Rattle.c_lex.specs.Quoted.{closing_from}
+use Rattle.c_lex.specs.Trivia.{comment_end}
 
 -- ---- the closing quote
 

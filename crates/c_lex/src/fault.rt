@@ -4,7 +4,7 @@ ghost use Rattle.c_lex.specs.declared.fault.LexFault.TheVariants.{NoMemory};
 use std::alloc::{AllocError, AllocFailed};
 use thiserror::Error;
 
-/// Why a source has no tokens, with the place of the fault, in bytes from the start.
+/// Why a source has no tokens, with the offset of the fault, in bytes from the start.
 #[derive(Clone, Copy, Debug, PartialEq, Eq, Error)]
 pub enum LexFault {
     /// A byte that begins no token, blank or comment.
@@ -34,7 +34,7 @@ pub enum LexFault {
     /// A number that is no integer constant, at its start.
     #[error("at byte {0}: a number that is not allowed")]
     BadNumber(u32),
-    /// A source of more than 1,048,576 bytes; the place is 1,048,576.
+    /// A source of more than 1,048,576 bytes; the offset is 1,048,576.
     #[error("at byte {0}: a source of more than 1048576 bytes")]
     LongSource(u32),
     /// Memory ran out.

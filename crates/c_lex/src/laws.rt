@@ -9,13 +9,13 @@ pub fn tokens_are_longest()
     ensures { TokensAreLongest }
 {}
 
-/// A fault comes where the source is too long, or else up to its place the source is tokens with such gaps, and there
-/// stands what its name says. So it is the one at the least place.
+/// A fault comes where the source is too long, or else up to its offset the source is tokens with such trivia, and there
+/// stands what its name says. So it is the one at the least offset.
 pub fn faults_are_first()
     ensures { FaultsAreFirst }
 {}
 
-/// The tokens of a source say all of it but what stands between them: written again, with a space behind each, they
+/// The tokens of a source say all of it but what stands between them: written again, with a space after each, they
 /// give the same tokens, where that text is not too long.
 pub fn tokens_are_read_again()
     ensures { TokensAreReadAgain }

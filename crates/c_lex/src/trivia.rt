@@ -2,17 +2,18 @@
 ghost use Rattle.std.specs.Prelude.{◌≡◌, ◌≤◌, ◌<◌, ◌+◌, length, codes, IfSome};
 ghost use Rattle.std.specs.Option.{option_copied};
 ghost use Rattle.std.specs.List.{position_or_len};
+ghost use Rattle.limits.specs.Limits.{most_source_bytes};
 ghost use Rattle.c_lex.specs.Classes as class;
-ghost use Rattle.c_lex.specs.Gaps as spec;
+ghost use Rattle.c_lex.specs.Trivia as spec;
 
 use crate::LexFault;
-use crate::item::Item;
+use crate::lexeme::Lexeme;
 use crate::runs::{blanks_len, line_len};
 
 /// Where the first `*/` ends.
 #[tactic(auto, using(crate::proofs::Scans::comment_step, crate::proofs::Scans::comment_all, std::proofs::lemmas::Bool::Decides::nat_tests))]
 fn comment_end(text: &[u8]) -> Option<usize>
-    ensures place { result ≡ spec.comment_end 0 text.now }
+    ensures offset { result ≡ spec.comment_end 0 text.now }
     ensures within { IfSome result (λ n. n ≤ length text.now) }
 {
     for i in 0..text.len() {
@@ -23,23 +24,23 @@ fn comment_end(text: &[u8]) -> Option<usize>
     None
 }
 
-/// A comment behind its `/*`, which begins at `at`.
-#[tactic(auto, unfolding(crate::specs::Gaps::comment_at))]
-pub(crate) fn comment_at(at: u32, text: &[u8]) -> Result<Item, LexFault>
-    requires { length text.now ≤ 1048576 }
+/// A comment after its `/*`, which begins at `at`.
+#[tactic(auto, unfolding(crate::specs::Trivia::comment_at))]
+pub(crate) fn comment_at(at: u32, text: &[u8]) -> Result<Lexeme, LexFault>
+    requires { length text.now ≤ most_source_bytes }
     ensures { result ≡ spec.comment_at at text.now }
 {
     let n = comment_end(text).ok_or(LexFault::OpenComment(at))?;
-    Ok(Item::Gap(n + 2))
+    Ok(Lexeme::Trivia(n + 2))
 }
 
-/// A comment behind its `//`.
-#[tactic(auto, unfolding(crate::specs::Gaps::line_comment))]
-pub(crate) fn line_comment(text: &[u8]) -> Item
-    requires { length text.now ≤ 1048576 }
+/// A comment after its `//`.
+#[tactic(auto, unfolding(crate::specs::Trivia::line_comment))]
+pub(crate) fn line_comment(text: &[u8]) -> Lexeme
+    requires { length text.now ≤ most_source_bytes }
     ensures { result ≡ spec.line_comment text.now }
 {
-    Item::Gap(line_len(text) + 2)
+    Lexeme::Trivia(line_len(text) + 2)
 }
 
 fn past_blanks(text: &[u8]) -> &[u8]
@@ -70,12 +71,12 @@ fn ends_line(text: &[u8]) -> bool
 }
 
 /// What follows an include line.
-#[tactic(auto, unfolding(crate::specs::Gaps::past_include))]
+#[tactic(auto, unfolding(crate::specs::Trivia::past_include))]
 fn past_include(line: &[u8]) -> Option<&[u8]>
     ensures { option_copied result ≡ spec.past_include line.now }
 {
-    let word = past_blanks(line).strip_prefix(b"#")?;
-    let header = past_blanks(word).strip_prefix(b"include")?;
+    let directive = past_blanks(line).strip_prefix(b"#")?;
+    let header = past_blanks(directive).strip_prefix(b"include")?;
     let rest = past_blanks(past_header(past_blanks(header))?);
     if ends_line(rest) { Some(rest) } else { None }
 }

@@ -8,7 +8,7 @@ use Rattle.std.proofs.lemmas.Slice.Eq.{bytes_eq-Decides}
 use Rattle.std.proofs.lemmas.List.{length-take-le, length-drop, length-append, take-append-drop, take_at, drop_at, take-append-le, drop-append-le}
 use Rattle.std.proofs.lemmas.List.Sums.{prefix_len-le-length}
 use Rattle.c_lex.specs.Classes.{is_line_end, is_inner_blank}
-use Rattle.c_lex.specs.Gaps.{comment_end, include_len, past_include, past, past_blanks, past_header, ends_line}
+use Rattle.c_lex.specs.Trivia.{comment_end, include_len, past_include, past, past_blanks, past_header, ends_line}
 use Rattle.c_lex.specs.Grammar.{IsBlockComment, IsLineComment, IsIncludeLine}
 use Rattle.c_lex.proofs.Lengths.{chosen}
 use Rattle.c_lex.proofs.Sorts.{run_all}
@@ -16,15 +16,15 @@ use Rattle.c_lex.proofs.Sorts.{run_all}
 -- ---- words at the front
 
 -- a text that begins with a word is the word and what follows
-pub begins : (text word : List ℕ) → starts_with nat_eq text word ≡ true → text ≡ word ++ drop (length word) text
-begins text word e =
-    let front : word ≡ take (length word) text = (bytes_eq-Decides word (take (length word) text)).0 e in
-    sym (take-append-drop (length word) text) ∙ ap (λ (t : List ℕ). t ++ drop (length word) text) (sym front)
+pub begins : (text prefix : List ℕ) → starts_with nat_eq text prefix ≡ true → text ≡ prefix ++ drop (length prefix) text
+begins text prefix e =
+    let front : prefix ≡ take (length prefix) text = (bytes_eq-Decides prefix (take (length prefix) text)).0 e in
+    sym (take-append-drop (length prefix) text) ∙ ap (λ (t : List ℕ). t ++ drop (length prefix) text) (sym front)
 
-past_is : (word text rest : List ℕ) → past word text ≡ Some rest → text ≡ word ++ rest
-past_is word text rest e =
-    elim (chosen (starts_with nat_eq text word) (Some (drop (length word) text)) None (Some rest) e) [
-      | inl (is, f) ↦ let same : drop (length word) text ≡ rest = cc in begins text word is ∙ ap (λ (t : List ℕ). word ++ t) same
+past_is : (prefix text rest : List ℕ) → past prefix text ≡ Some rest → text ≡ prefix ++ rest
+past_is prefix text rest e =
+    elim (chosen (starts_with nat_eq text prefix) (Some (drop (length prefix) text)) None (Some rest) e) [
+      | inl (is, f) ↦ let same : drop (length prefix) text ≡ rest = cc in begins text prefix is ∙ ap (λ (t : List ℕ). prefix ++ t) same
       | inr (_, f) ↦ absurd cc
     ]
 
@@ -75,7 +75,7 @@ include_line_is line rest e =
             record {
               before = blanks_of line;
               hash_blanks = blanks_of a.0;
-              word_blanks = blanks_of b.0;
+              include_blanks = blanks_of b.0;
               header = header.0;
               after = after;
               spelled = refl;
@@ -105,9 +105,9 @@ include_is line n is some = by_rest (past_include line) refl is
 
 -- ---- line comments
 
-ends_behind : (text : List ℕ) → ends_line (drop (position_or_len is_line_end text) text) ≡ true
-ends_behind [] = refl
-ends_behind (b ∷ bs) = by_test (is_line_end b) refl (ends_behind bs)
+ends_after : (text : List ℕ) → ends_line (drop (position_or_len is_line_end text) text) ≡ true
+ends_after [] = refl
+ends_after (b ∷ bs) = by_test (is_line_end b) refl (ends_after bs)
   where
     by_test : (t : Bool) → is_line_end b ≡ t → ends_line (drop (position_or_len is_line_end bs) bs) ≡ true → ends_line (drop (position_or_len is_line_end (b ∷ bs)) (b ∷ bs)) ≡ true
     by_test true e ih =
@@ -131,7 +131,7 @@ line_comment_is text n starts size =
       inner = inner;
       spelled = front;
       on_line = run_all (λ b. not (is_line_end b)) rest;
-      ends = ap ends_line back ∙ ends_behind rest;
+      ends = ap ends_line back ∙ ends_after rest;
     }
 
 -- ---- block comments
@@ -159,8 +159,8 @@ first_here at (suc k) b bs is e = let same : at + 2 ≡ at + suc k + 2 = cc in a
 first_later : (at k b : ℕ) (bs : List ℕ) → closes (b ∷ bs) ≡ false → ((j : ℕ) → comment_end (at + 1) bs ≡ Some (at + 1 + j + 2) → IsFirstEnd j bs) → comment_end (at + 1) bs ≡ Some (at + k + 2) → IsFirstEnd k (b ∷ bs)
 first_later at zero b bs fails ih e = absurd (omega (arith, comment_low (at + 1) bs (at + 0 + 2) e))
 first_later at (suc k) b bs fails ih e =
-    let place : at + suc k + 2 ≡ at + 1 + k + 2 = omega arith in
-    let rest = ih k (e ∙ ap Some place) in
+    let offset : at + suc k + 2 ≡ at + 1 + k + 2 = omega arith in
+    let rest = ih k (e ∙ ap Some offset) in
     record { here = rest.here; before = before_by rest.before }
   where
     before_by : ((m : ℕ) → m < k → closes (drop m bs) ≡ false) → (m : ℕ) → m < suc k → closes (drop m (b ∷ bs)) ≡ false
@@ -183,11 +183,11 @@ block_by text n k starts size end =
     let rest = drop 2 text in
     let inner = take k rest in
     let tail = drop 2 (drop k rest) in
-    let behind : drop k rest ≡ codes "*/" ++ tail = begins (drop k rest) (codes "*/") end.here in
+    let following : drop k rest ≡ codes "*/" ++ tail = begins (drop k rest) (codes "*/") end.here in
     let two : length (codes "*/" ++ tail) ≡ 2 + length tail = length-append (codes "*/") tail in
-    let within : k ≤ length rest = omega (arith, ap length behind, length-drop k rest) in
+    let within : k ≤ length rest = omega (arith, ap length following, length-drop k rest) in
     let len : length inner ≡ k = length-take-le k rest within in
-    let split : rest ≡ (inner ++ codes "*/") ++ tail = sym (take-append-drop k rest) ∙ ap (λ (t : List ℕ). inner ++ t) behind ∙ sym (append_assoc inner (codes "*/") tail) in
+    let split : rest ≡ (inner ++ codes "*/") ++ tail = sym (take-append-drop k rest) ∙ ap (λ (t : List ℕ). inner ++ t) following ∙ sym (append_assoc inner (codes "*/") tail) in
     let whole : text ≡ (codes "/*" ++ (inner ++ codes "*/")) ++ tail = begins text (codes "/*") starts ∙ ap (λ (t : List ℕ). codes "/*" ++ t) split in
     let inner_len : length (inner ++ codes "*/") ≡ k + 2 = omega (arith, length-append inner (codes "*/")) in
     let all : length (codes "/*" ++ (inner ++ codes "*/")) ≡ n = omega arith in
@@ -206,5 +206,5 @@ pub block_comment_is : (text : List ℕ) (m : ℕ) → starts_with nat_eq text (
 block_comment_is text m starts e =
     let low = comment_low 0 (drop 2 text) m e in
     let k : ℕ = m - 2 in
-    let place : m ≡ 0 + k + 2 = omega arith in
-    block_by text (m + 2) k starts (omega arith) (comment_first 0 k (drop 2 text) (e ∙ ap Some place))
+    let offset : m ≡ 0 + k + 2 = omega arith in
+    block_by text (m + 2) k starts (omega arith) (comment_first 0 k (drop 2 text) (e ∙ ap Some offset))

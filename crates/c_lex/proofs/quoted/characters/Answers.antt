@@ -1,8 +1,8 @@
 use Rattle.std.proofs.Common.{◌≡◌, ◌-◌, length, drop, Some, sym, ap, ◌∙◌, arith}
 use Rattle.std.proofs.lemmas.List.{take_rest, length-take, length-drop}
-use Rattle.c_lex.specs.Texts as spec
+use Rattle.c_lex.specs.Quoted as spec
 use Rattle.c_lex.proofs.Characters.{characters_push}
-use Rattle.c_lex.proofs.text.characters.Goals as goal
+use Rattle.c_lex.proofs.quoted.characters.Goals as goal
 
 pub loop-at-preserved : goal.loop-at-preserved
 loop-at-preserved c =

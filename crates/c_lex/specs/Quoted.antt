@@ -6,11 +6,11 @@ use Rattle.c_lex.specs.Digits.{is_digit_in, digits_value}
 use Rattle.c_lex.specs.Results.{◌>>=◌}
 use Rattle.c_lex.specs.declared.fault.LexFault.{LexFault}
 use Rattle.c_lex.specs.declared.fault.LexFault.TheVariants.{OpenText, BadText}
-use Rattle.c_lex.specs.declared.item.Item.{Item}
-use Rattle.c_lex.specs.declared.item.Item.TheVariants.{Piece}
+use Rattle.c_lex.specs.declared.lexeme.Lexeme.{Lexeme}
+use Rattle.c_lex.specs.declared.lexeme.Lexeme.TheVariants as lexeme
 use Rattle.c_lex.specs.declared.token.TokenKind.TheVariants as kind
 
--- Where the closing quote stands in a text that begins at the place `at`: the first that no backslash takes with
+-- Where the closing quote stands in a text that begins at the offset `at`: the first that no backslash takes with
 -- it. There is none where the line or the source ends before.
 abbrev pub closing_from : ℕ → Bool → ℕ → List ℕ → Option ℕ
 closing_from quote taken at [] = None
@@ -19,7 +19,7 @@ closing_from quote taken at (b ∷ bs) =
     else (if taken then closing_from quote false (at + 1) bs
     else (if b == quote then Some at else closing_from quote (b == 92) (at + 1) bs))
 
--- what one byte behind a backslash stands for
+-- what one byte after a backslash stands for
 unfoldable pub simple_escape : ℕ → Option ℕ
 simple_escape b =
     if b == 110 then Some 10
@@ -39,7 +39,7 @@ simple_escape b =
 abbrev pub digits_escape : ℕ → ℕ → List ℕ → Option (ℕ × ℕ)
 digits_escape base bytes digits = if nat_lt 255 (digits_value base digits) then None else Some (digits_value base digits, bytes)
 
--- the value and the length of an escape behind its backslash: one to three octal digits, `x` and the longest run
+-- the value and the length of an escape after its backslash: one to three octal digits, `x` and the longest run
 -- of hexadecimal ones, or one byte
 unfoldable pub escape_at : List ℕ → Option (ℕ × ℕ)
 escape_at [] = None
@@ -56,7 +56,7 @@ character_at (b ∷ bs) = if b == 92 then option_map (λ e. (e.0, e.1 + 1)) (esc
 abbrev pub with_first : ℕ → Option (List ℕ) → Option (List ℕ)
 with_first c cs = option_map (λ rest. c ∷ rest) cs
 
--- The characters that a text between quotes stands for, of which the first `skip` bytes belong to a character that
+-- The characters that the characters between quotes stands for, of which the first `skip` bytes belong to a character that
 -- is counted already. There are none where an escape is not known.
 abbrev pub characters : ℕ → List ℕ → Option (List ℕ)
 characters skip [] = Some []
@@ -68,16 +68,16 @@ abbrev pub only : List ℕ → Option ℕ
 only (c ∷ []) = Some c
 only _ = None
 
--- a character constant behind its opening quote
-unfoldable pub char_at : ℕ → List ℕ → Result Item LexFault
+-- a character constant after its opening quote
+unfoldable pub char_at : ℕ → List ℕ → Result Lexeme LexFault
 char_at at text =
     ok_or (closing_from 39 false 0 text) (OpenText at) >>= λ n.
     ok_or (option_and_then only (characters 0 (take n text))) (BadText at) >>= λ c.
-    Ok (Piece (kind.Char c) (n + 2))
+    Ok (lexeme.Token (kind.Char c) (n + 2))
 
--- a string literal behind its opening quote
-unfoldable pub text_at : ℕ → List ℕ → Result Item LexFault
-text_at at text =
+-- a string literal after its opening quote
+unfoldable pub string_at : ℕ → List ℕ → Result Lexeme LexFault
+string_at at text =
     ok_or (closing_from 34 false 0 text) (OpenText at) >>= λ n.
     ok_or (characters 0 (take n text)) (BadText at) >>= λ bytes.
-    Ok (Piece (kind.Text bytes) (n + 2))
+    Ok (lexeme.Token (kind.Text bytes) (n + 2))

@@ -6,25 +6,25 @@ use Rattle.c_lex.specs.Classes.{is_inner_blank, is_line_end}
 use Rattle.c_lex.specs.Results.{◌>>=◌}
 use Rattle.c_lex.specs.declared.fault.LexFault.{LexFault}
 use Rattle.c_lex.specs.declared.fault.LexFault.TheVariants.{OpenComment}
-use Rattle.c_lex.specs.declared.item.Item.{Item}
-use Rattle.c_lex.specs.declared.item.Item.TheVariants.{Gap}
+use Rattle.c_lex.specs.declared.lexeme.Lexeme.{Lexeme}
+use Rattle.c_lex.specs.declared.lexeme.Lexeme.TheVariants as lexeme
 
--- where the first `*/` ends, in a text that begins at the place `at`
+-- where the first `*/` ends, in a text that begins at the offset `at`
 abbrev pub comment_end : ℕ → List ℕ → Option ℕ
 comment_end at [] = None
 comment_end at (b ∷ bs) = if starts_with nat_eq (b ∷ bs) (codes "*/") then Some (at + 2) else comment_end (at + 1) bs
 
--- a comment behind its `/*`
-unfoldable pub comment_at : ℕ → List ℕ → Result Item LexFault
-comment_at at text = ok_or (comment_end 0 text) (OpenComment at) >>= λ n. Ok (Gap (n + 2))
+-- a comment after its `/*`
+unfoldable pub comment_at : ℕ → List ℕ → Result Lexeme LexFault
+comment_at at text = ok_or (comment_end 0 text) (OpenComment at) >>= λ n. Ok (lexeme.Trivia (n + 2))
 
--- a comment behind its `//`: the rest of the line
-unfoldable pub line_comment : List ℕ → Item
-line_comment text = Gap (position_or_len is_line_end text + 2)
+-- a comment after its `//`: the rest of the line
+unfoldable pub line_comment : List ℕ → Lexeme
+line_comment text = lexeme.Trivia (position_or_len is_line_end text + 2)
 
 -- what follows a word at the front
 abbrev pub past : List ℕ → List ℕ → Option (List ℕ)
-past word text = if starts_with nat_eq text word then Some (drop (length word) text) else None
+past prefix text = if starts_with nat_eq text prefix then Some (drop (length prefix) text) else None
 
 -- what follows the blanks at the front
 abbrev pub past_blanks : List ℕ → List ℕ
@@ -42,7 +42,7 @@ ends_line [] = true
 ends_line (b ∷ bs) = is_line_end b
 
 -- What follows a line that holds only `#include <stdio.h>` or `#include <stdlib.h>`, blanks apart: the end of that
--- line. Blanks may stand before and behind `#`, before `<` and at the end.
+-- line. Blanks may stand before and after `#`, before `<` and at the end.
 unfoldable pub past_include : List ℕ → Option (List ℕ)
 past_include line =
     option_and_then (λ a. option_and_then (λ b. option_and_then

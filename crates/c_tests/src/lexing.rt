@@ -1,4 +1,4 @@
-use crate::{Bytes, Keyword, LexFault, Name, Token, TokenKind, lex};
+use c_lex::{Bytes, Keyword, LexFault, Name, Token, TokenKind, lex};
 use std::alloc::{AllocError, Global};
 use std::test::Fail;
 
@@ -30,8 +30,8 @@ fn show(alloc: Global, out: &mut Vec<u8>, token: &Token) -> Result<(), AllocErro
         TokenKind::Punct(punct) => out.extend_from_slice(punct.spelling())?,
     }
     let (at, end) = (token.at, token.end);
-    let place = format!(in alloc; "@{at}-{end} ")?;
-    out.extend_from_slice(place.as_bytes())
+    let offset = format!(in alloc; "@{at}-{end} ")?;
+    out.extend_from_slice(offset.as_bytes())
 }
 
 /// The tokens of a source as text, or its fault.
@@ -223,7 +223,7 @@ fn tokens_are_read(rt: HostRuntime) -> Result<(), Fail> {
 }
 
 #[test]
-fn faults_are_told(rt: HostRuntime) -> Result<(), Fail> {
+fn faults_are_reported(rt: HostRuntime) -> Result<(), Fail> {
     for (source, want) in &FAULTS {
         let got = shown(rt.alloc(), source)?;
         assert_eq!(rt; got.as_slice(), *want);
@@ -231,11 +231,11 @@ fn faults_are_told(rt: HostRuntime) -> Result<(), Fail> {
     Ok(())
 }
 
-/// Many copies of a piece, and then an end.
-fn repeated(alloc: Global, piece: &[u8], count: usize, end: &[u8]) -> Result<Vec<u8>, AllocError> {
+/// Many copies of a chunk, and then an end.
+fn repeated(alloc: Global, chunk: &[u8], count: usize, end: &[u8]) -> Result<Vec<u8>, AllocError> {
     let mut out = Vec::new(alloc);
     for _ in 0..count {
-        out.extend_from_slice(piece)?;
+        out.extend_from_slice(chunk)?;
     }
     out.extend_from_slice(end)?;
     Ok(out)
@@ -276,15 +276,15 @@ fn limits_are_kept(rt: HostRuntime) -> Result<(), Fail> {
             Err(LexFault::ManyTokens(600_000 + 50_000)),
         ),
     ];
-    for (piece, count, end, want) in &rows {
-        let source = repeated(rt.alloc(), piece, *count, end)?;
+    for (chunk, count, end, want) in &rows {
+        let source = repeated(rt.alloc(), chunk, *count, end)?;
         assert_eq!(rt; outcome(rt.alloc(), source.as_slice()), *want);
     }
     Ok(())
 }
 
 #[test]
-fn names_and_texts_are_copied(rt: HostRuntime) -> Result<(), Fail> {
+fn names_and_strings_are_copied(rt: HostRuntime) -> Result<(), Fail> {
     for len in [1, 20, 21, 63] {
         let bytes = repeated(rt.alloc(), b"x", len, b"")?;
         let name = Name::from_slice(rt.alloc(), bytes.as_slice())?;

@@ -1,7 +1,7 @@
 use Rattle.std.proofs.Common.{◌≡◌, ◌≤◌, ◌-◌, length, drop}
-use Rattle.c_lex.specs.Texts as spec
+use Rattle.c_lex.specs.Quoted as spec
 use Rattle.c_lex.proofs.Characters.{then_characters}
-use Rattle.c_lex.proofs.text.characters.Given as goal
+use Rattle.c_lex.proofs.quoted.characters.Given as goal
 
 abbrev pub invariant-loop-at : goal.invariant-loop-at
 invariant-loop-at l = record {

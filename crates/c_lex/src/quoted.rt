@@ -1,11 +1,12 @@
 //! Character constants and string literals.
 ghost use Rattle.std.specs.Prelude.{◌≡◌, ◌≤◌, ◌<◌, ◌+◌, false, length, IfSome, IfOk};
 ghost use Rattle.std.specs.Option.{option_and_then, option_map};
+ghost use Rattle.limits.specs.Limits.{most_source_bytes};
 ghost use Rattle.c_lex.specs.Results.{Gives};
-ghost use Rattle.c_lex.specs.Texts as spec;
+ghost use Rattle.c_lex.specs.Quoted as spec;
 
 use crate::digits::{digits_value, is_digit_in};
-use crate::item::Item;
+use crate::lexeme::Lexeme;
 use crate::runs::digits_len;
 use crate::{Bytes, LexFault, TokenKind};
 use std::alloc::{AllocError, Global};
@@ -13,7 +14,7 @@ use std::alloc::{AllocError, Global};
 /// Where the closing quote stands.
 #[tactic(auto, using(crate::proofs::Scans::closing_step, crate::proofs::Scans::closing_all, std::proofs::lemmas::Bool::Decides::nat_tests))]
 fn closing(quote: u8, text: &[u8]) -> Option<usize>
-    ensures place { result ≡ spec.closing_from quote false 0 text.now }
+    ensures offset { result ≡ spec.closing_from quote false 0 text.now }
     ensures within { IfSome result (λ n. n < length text.now) }
 {
     let mut taken = false;
@@ -32,7 +33,7 @@ fn closing(quote: u8, text: &[u8]) -> Option<usize>
     None
 }
 
-#[tactic(auto, unfolding(crate::specs::Texts::simple_escape))]
+#[tactic(auto, unfolding(crate::specs::Quoted::simple_escape))]
 fn simple_escape(b: u8) -> Option<u8>
     ensures { result ≡ spec.simple_escape b }
 {
@@ -60,10 +61,10 @@ fn digits_escape(base: u32, bytes: usize, digits: &[u8]) -> Option<(u8, usize)>
     Some((value as u8, bytes))
 }
 
-/// The value and the length of an escape behind its backslash.
-#[tactic(auto, unfolding(crate::specs::Texts::escape_at))]
+/// The value and the length of an escape after its backslash.
+#[tactic(auto, unfolding(crate::specs::Quoted::escape_at))]
 fn escape_at(text: &[u8]) -> Option<(u8, usize)>
-    requires { length text.now ≤ 1048576 }
+    requires { length text.now ≤ most_source_bytes }
     ensures escape { result ≡ spec.escape_at text.now }
     ensures within { IfSome result (λ e. e.1 ≤ length text.now) }
 {
@@ -85,9 +86,9 @@ fn escape_at(text: &[u8]) -> Option<(u8, usize)>
 }
 
 /// The value and the length of the character at the front.
-#[tactic(auto, unfolding(crate::specs::Texts::character_at))]
+#[tactic(auto, unfolding(crate::specs::Quoted::character_at))]
 fn character_at(text: &[u8]) -> Option<(u8, usize)>
-    requires { length text.now ≤ 1048576 }
+    requires { length text.now ≤ most_source_bytes }
     ensures character { result ≡ spec.character_at text.now }
     ensures within { IfSome result (λ c. (0 < c.1) × (c.1 ≤ length text.now)) }
 {
@@ -99,19 +100,19 @@ fn character_at(text: &[u8]) -> Option<(u8, usize)>
     Some((value, n + 1))
 }
 
-/// The one character that a text between quotes stands for.
+/// The one character that the characters between quotes stands for.
 #[tactic(auto, using(crate::proofs::Characters::only_none, crate::proofs::Characters::only_whole, crate::proofs::Characters::only_part))]
 fn only_character(text: &[u8]) -> Option<u8>
-    requires { length text.now ≤ 1048576 }
+    requires { length text.now ≤ most_source_bytes }
     ensures { result ≡ option_and_then spec.only (spec.characters 0 text.now) }
 {
     let (value, n) = character_at(text)?;
     if n == text.len() { Some(value) } else { None }
 }
 
-/// The characters that a text between quotes stands for.
+/// The characters that the characters between quotes stands for.
 fn characters(alloc: Global, text: &[u8]) -> Result<Option<Vec<u8>>, AllocError>
-    requires { length text.now ≤ 1048576 }
+    requires { length text.now ≤ most_source_bytes }
     ensures { IfOk result (λ found. option_map (λ v. v.items) found ≡ spec.characters 0 text.now) }
 {
     let mut values = Vec::new(alloc);
@@ -128,25 +129,25 @@ fn characters(alloc: Global, text: &[u8]) -> Result<Option<Vec<u8>>, AllocError>
     Ok(Some(values))
 }
 
-/// A character constant behind its opening quote, which stands at `at`.
-#[tactic(auto, unfolding(crate::specs::Texts::char_at))]
-pub(crate) fn char_at(at: u32, text: &[u8]) -> Result<Item, LexFault>
-    requires { length text.now ≤ 1048576 }
+/// A character constant after its opening quote, which stands at `at`.
+#[tactic(auto, unfolding(crate::specs::Quoted::char_at))]
+pub(crate) fn char_at(at: u32, text: &[u8]) -> Result<Lexeme, LexFault>
+    requires { length text.now ≤ most_source_bytes }
     ensures { result ≡ spec.char_at at text.now }
 {
     let n = closing(b'\'', text).ok_or(LexFault::OpenText(at))?;
     let value = only_character(&text[..n]).ok_or(LexFault::BadText(at))?;
-    Ok(Item::Piece(TokenKind::Char(value), n + 2))
+    Ok(Lexeme::Token(TokenKind::Char(value), n + 2))
 }
 
-/// A string literal behind its opening quote, which stands at `at`.
-#[tactic(auto, unfolding(crate::specs::Texts::text_at))]
-pub(crate) fn text_at(alloc: Global, at: u32, text: &[u8]) -> Result<Item, LexFault>
-    requires { length text.now ≤ 1048576 }
-    ensures { Gives (λ i. i) result (spec.text_at at text.now) }
+/// A string literal after its opening quote, which stands at `at`.
+#[tactic(auto, unfolding(crate::specs::Quoted::string_at))]
+pub(crate) fn string_at(alloc: Global, at: u32, text: &[u8]) -> Result<Lexeme, LexFault>
+    requires { length text.now ≤ most_source_bytes }
+    ensures { Gives (λ i. i) result (spec.string_at at text.now) }
 {
     let n = closing(b'"', text).ok_or(LexFault::OpenText(at))?;
     let values = characters(alloc, &text[..n])?.ok_or(LexFault::BadText(at))?;
     let kind = TokenKind::Text(Bytes::from_vec(values));
-    Ok(Item::Piece(kind, n + 2))
+    Ok(Lexeme::Token(kind, n + 2))
 }

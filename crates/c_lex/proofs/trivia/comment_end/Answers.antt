@@ -1,6 +1,6 @@
 use Rattle.std.proofs.Common.{sym, ◌∙◌}
 use Rattle.c_lex.proofs.Scans.{comment_goes}
-use Rattle.c_lex.proofs.gap.comment_end.Goals as goal
+use Rattle.c_lex.proofs.trivia.comment_end.Goals as goal
 
 pub loop-i-preserved : goal.loop-i-preserved
 loop-i-preserved c =

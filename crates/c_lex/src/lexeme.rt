@@ -1,24 +1,26 @@
 //! What stands at the front of a text.
 ghost use Rattle.std.specs.Prelude.{◌≡◌, ◌≤◌, ◌<◌, ◌+◌, length, IfOk};
+ghost use Rattle.limits.specs.Limits.{most_source_bytes};
 ghost use Rattle.c_lex.specs.Keywords.{keyword_of};
 ghost use Rattle.c_lex.specs.Results.{Gives};
-ghost use Rattle.c_lex.specs.Items as spec;
+ghost use Rattle.c_lex.specs.Lexemes as spec;
 ghost use Rattle.c_lex.specs.Punctuators.{punct_at};
 
 use crate::classes::{is_digit, is_inner_blank, is_letter};
-use crate::gap::{comment_at, include_len, line_comment};
 use crate::number::number_at;
-use crate::runs::word_len;
-use crate::text::{char_at, text_at};
+use crate::quoted::{char_at, string_at};
+use crate::runs::identifier_len;
+use crate::trivia::{comment_at, include_len, line_comment};
 use crate::{Keyword, LexFault, Name, Punct, TokenKind};
+use limits::MOST_NAME_BYTES;
 use std::alloc::{AllocError, Global};
 
 /// What stands at the front of a text, with the number of its bytes.
 #[derive(Debug, Drop)]
-pub(crate) enum Item {
-    /// A blank, a comment, or the end of a line with the include line behind it.
-    Gap(usize),
-    Piece(TokenKind, usize),
+pub(crate) enum Lexeme {
+    /// A blank, a comment, or the end of a line with the include line after it.
+    Trivia(usize),
+    Token(TokenKind, usize),
 }
 
 /// What the first byte of a text begins.
@@ -35,7 +37,7 @@ pub(crate) enum Start {
     Other,
 }
 
-#[tactic(auto, unfolding(crate::specs::Items::start_of))]
+#[tactic(auto, unfolding(crate::specs::Lexemes::start_of))]
 fn start_of(b: u8) -> Start
     ensures { result ≡ spec.start_of b }
 {
@@ -53,8 +55,8 @@ fn start_of(b: u8) -> Start
 }
 
 /// A keyword where the bytes spell one, else a name.
-fn word_kind(alloc: Global, bytes: &[u8]) -> Result<TokenKind, AllocError>
-    ensures { IfOk result (λ kind. kind ≡ spec.word_kind_of bytes.now (keyword_of bytes.now)) }
+fn identifier_kind(alloc: Global, bytes: &[u8]) -> Result<TokenKind, AllocError>
+    ensures { IfOk result (λ kind. kind ≡ spec.identifier_kind_of bytes.now (keyword_of bytes.now)) }
 {
     match Keyword::from_bytes(bytes) {
         Some(keyword) => Ok(TokenKind::Keyword(keyword)),
@@ -62,30 +64,30 @@ fn word_kind(alloc: Global, bytes: &[u8]) -> Result<TokenKind, AllocError>
     }
 }
 
-#[tactic(auto, unfolding(crate::specs::Items::word_at))]
-fn word_at(alloc: Global, at: u32, text: &[u8]) -> Result<Item, LexFault>
-    ensures { Gives (λ i. i) result (spec.word_at at text.now) }
+#[tactic(auto, unfolding(crate::specs::Lexemes::identifier_at))]
+fn identifier_at(alloc: Global, at: u32, text: &[u8]) -> Result<Lexeme, LexFault>
+    ensures { Gives (λ i. i) result (spec.identifier_at at text.now) }
 {
-    let n = word_len(text);
-    if n > 63 {
+    let n = identifier_len(text);
+    if n > MOST_NAME_BYTES {
         return Err(LexFault::LongName(at));
     }
-    let kind = word_kind(alloc, &text[..n])?;
-    Ok(Item::Piece(kind, n))
+    let kind = identifier_kind(alloc, &text[..n])?;
+    Ok(Lexeme::Token(kind, n))
 }
 
-fn punct_item(at: u32, text: &[u8]) -> Result<Item, LexFault>
-    ensures { result ≡ spec.punct_item at (punct_at text.now) }
+fn punct_lexeme(at: u32, text: &[u8]) -> Result<Lexeme, LexFault>
+    ensures { result ≡ spec.punct_lexeme at (punct_at text.now) }
 {
     match Punct::at_front(text) {
-        Some(punct) => Ok(Item::Piece(TokenKind::Punct(punct), punct.spelling().len())),
+        Some(punct) => Ok(Lexeme::Token(TokenKind::Punct(punct), punct.spelling().len())),
         None => Err(LexFault::BadByte(at)),
     }
 }
 
-#[tactic(auto, unfolding(crate::specs::Items::slash_at))]
-fn slash_at(at: u32, text: &[u8]) -> Result<Item, LexFault>
-    requires { length text.now ≤ 1048576 }
+#[tactic(auto, unfolding(crate::specs::Lexemes::slash_at))]
+fn slash_at(at: u32, text: &[u8]) -> Result<Lexeme, LexFault>
+    requires { length text.now ≤ most_source_bytes }
     ensures { result ≡ spec.slash_at at text.now }
 {
     if text.starts_with(b"/*") {
@@ -93,26 +95,26 @@ fn slash_at(at: u32, text: &[u8]) -> Result<Item, LexFault>
     } else if text.starts_with(b"//") {
         Ok(line_comment(&text[2..]))
     } else {
-        punct_item(at, text)
+        punct_lexeme(at, text)
     }
 }
 
 /// What stands at the front of a text that begins at `at`.
-#[tactic(auto, unfolding(crate::specs::Items::item_of))]
-pub(crate) fn item_at(alloc: Global, at: u32, text: &[u8]) -> Result<Item, LexFault>
+#[tactic(auto, unfolding(crate::specs::Lexemes::lexeme_of))]
+pub(crate) fn lexeme_at(alloc: Global, at: u32, text: &[u8]) -> Result<Lexeme, LexFault>
     requires some { 0 < length text.now }
-    requires short { length text.now ≤ 1048576 }
-    ensures { Gives (λ i. i) result (spec.item_at at text.now) }
+    requires short { length text.now ≤ most_source_bytes }
+    ensures { Gives (λ i. i) result (spec.lexeme_at at text.now) }
 {
     match start_of(text[0]) {
-        Start::LineEnd => Ok(Item::Gap(include_len(&text[1..]) + 1)),
-        Start::Blank => Ok(Item::Gap(1)),
-        Start::Letter => word_at(alloc, at, text),
+        Start::LineEnd => Ok(Lexeme::Trivia(include_len(&text[1..]) + 1)),
+        Start::Blank => Ok(Lexeme::Trivia(1)),
+        Start::Letter => identifier_at(alloc, at, text),
         Start::Digit => number_at(at, text),
         Start::Quote => char_at(at, &text[1..]),
-        Start::DoubleQuote => text_at(alloc, at, &text[1..]),
+        Start::DoubleQuote => string_at(alloc, at, &text[1..]),
         Start::Hash => Err(LexFault::Directive(at)),
         Start::Slash => slash_at(at, text),
-        Start::Other => punct_item(at, text),
+        Start::Other => punct_lexeme(at, text),
     }
 }
