@@ -98,79 +98,6 @@ all_proper source to at _ (done _ e) = tt
 all_proper source to at ts (trivia _ end _ less within g rest) = all_proper source to end ts rest
 all_proper source to _ _ (token t ts stands rest) = (proper_of _ t.kind stands.spells, all_proper source to t.end ts rest)
 
--- ---- how many there are
-
-tokens_then_ok : (t : Token) (o : Result (List Token) LexFault) (ts : List Token) → tokens_then (t ∷ []) o ≡ Ok ts → (us : List Token) × (o ≡ Ok us) × (t ∷ us ≡ ts)
-tokens_then_ok t (Ok us) ts e = (us, refl, cc)
-tokens_then_ok t (Err f) ts e = absurd cc
-
-token_counts : (count at : ℕ) (r : Result Lexeme LexFault) (k : TokenKind) (n : ℕ) → counted count at r ≡ Ok (lexeme.Token k n) → r ≡ Ok (lexeme.Token k n) → count < most_tokens
-token_counts count at r k n e is =
-    elim (chosen (ltb count most_tokens) (Ok (lexeme.Token k n)) (Err (fault.ManyTokens at)) (Ok (lexeme.Token k n)) (ap (counted count at) (sym is) ∙ e)) [
-      | inl (less, _) ↦ ltb-true count most_tokens less
-      | inr (_, f) ↦ absurd cc
-    ]
-
-abbrev Counts : List ℕ → ℕ → Type 0
-Counts source at = (count offset : ℕ) (ts : List Token) → at < offset → offset ≤ length source → count ≤ most_tokens → tokens_from count offset 0 (drop offset source) ≡ Ok ts → count + length ts ≤ most_tokens
-
-counts_by : (source : List ℕ) (count at : ℕ) (ts : List Token) (r : Result Lexeme LexFault) → at < length source → count ≤ most_tokens → Counts source at → counted count at (lexeme_at at (drop at source)) ≡ r → tokens_from count at 0 (drop at source) ≡ Ok ts → count + length ts ≤ most_tokens
-counts_by source count at ts (Err f) less low next is e =
-    let some : 0 < length (drop at source) = omega (arith, length-drop at source) in
-    let stop = stops count at (drop at source) f is some in
-    absurd cc
-counts_by source count at ts (Ok (lexeme.Trivia n)) less low next is e =
-    let text = drop at source in
-    let some : 0 < length text = omega (arith, length-drop at source) in
-    let fits = lexeme_fits at text (lexeme.Trivia n) some (counted_ok count at (lexeme_at at text) (lexeme.Trivia n) is) in
-    let within : at + n ≤ length source = omega (arith, length-drop at source, fits.1) in
-    let more : drop n text ≡ drop (at + n) source = drop-drop n at source in
-    let there : tokens_from count (at + n) 0 (drop (at + n) source) ≡ Ok ts = ap (tokens_from count (at + n) 0) (sym more) ∙ sym (step count at text (lexeme.Trivia n) is fits.0 some) ∙ e in
-    next count (at + n) ts (omega (arith, fits.0)) within low there
-counts_by source count at ts (Ok (lexeme.Token k n)) less low next is e =
-    let text = drop at source in
-    let some : 0 < length text = omega (arith, length-drop at source) in
-    let scanned = counted_ok count at (lexeme_at at text) (lexeme.Token k n) is in
-    let fits = lexeme_fits at text (lexeme.Token k n) some scanned in
-    let within : at + n ≤ length source = omega (arith, length-drop at source, fits.1) in
-    let more : drop n text ≡ drop (at + n) source = drop-drop n at source in
-    let t : Token = record { kind = k; at = at; end = at + n } in
-    let split = tokens_then_ok t (tokens_from (count + 1) (at + n) 0 (drop n text)) ts (sym (step count at text (lexeme.Token k n) is fits.0 some) ∙ e) in
-    let there : tokens_from (count + 1) (at + n) 0 (drop (at + n) source) ≡ Ok split.0 = ap (tokens_from (count + 1) (at + n) 0) (sym more) ∙ split.1 in
-    let below = token_counts count at (lexeme_at at text) k n is scanned in
-    let rest = next (count + 1) (at + n) split.0 (omega (arith, fits.0)) within (omega arith) there in
-    omega (arith, ap length split.2)
-
-abbrev made : List Token → Result (List Token) LexFault
-made ts = Ok ts
-
-empty_counts : (count : ℕ) (ts : List Token) → count ≤ most_tokens → made [] ≡ made ts → count + length ts ≤ most_tokens
-empty_counts count ts low e = let empty : [] ≡ ts = cc in omega (arith, ap length empty)
-
-counts_from : (fuel : ℕ) (source : List ℕ) (count at : ℕ) (ts : List Token) → length source ≤ at + fuel → at ≤ length source → count ≤ most_tokens → tokens_from count at 0 (drop at source) ≡ Ok ts → count + length ts ≤ most_tokens
-counts_from zero source count at ts enough within low e =
-    let none : drop at source ≡ [] = drop_all at source (omega arith) in
-    empty_counts count ts low (ap (tokens_from count at 0) (sym none) ∙ e)
-counts_from (suc fuel) source count at ts enough within low e =
-    elim (cases_lt at (length source)) [
-      | inl less ↦ counts_by source count at ts (counted count at (lexeme_at at (drop at source))) less low (λ c offset us later fits few f. counts_from fuel source c offset us (omega arith) fits few f) refl e
-      | inr over ↦
-          let none : drop at source ≡ [] = drop_all at source over in
-          empty_counts count ts low (ap (tokens_from count at 0) (sym none) ∙ e)
-    ]
-
-pub few_tokens : (source : List ℕ) (ts : List Token) → lexed source ≡ Ok ts → length ts ≤ most_tokens
-unfolding lexed
-few_tokens source ts e =
-    let i = include_len source in
-    elim (chosen (ltb most_source_bytes (length source)) (Err (fault.LongSource most_source_bytes)) (tokens_from 0 0 i source) (Ok ts) e) [
-      | inl (_, f) ↦ absurd cc
-      | inr (_, f) ↦
-          let within : i ≤ length source = include_within source in
-          let there : tokens_from 0 (0 + i) 0 (drop (0 + i) source) ≡ Ok ts = ap (λ j. tokens_from 0 (0 + i) 0 (drop j source)) (zero-add i) ∙ sym (skipped 0 0 i source) ∙ f in
-          omega (arith, counts_from (length source) source 0 (0 + i) ts (omega arith) (omega arith) (omega arith) there)
-    ]
-
 -- ---- reading what is written
 
 -- the tokens of what is written, from an offset on
@@ -254,8 +181,8 @@ pub tokens_are_read_again : TokensAreReadAgain
 unfolding lexed
 tokens_are_read_again source ts e short =
     let ks = kinds ts in
-    let proper = all_proper source (length source) 0 ts (lexed_reads source ts e) in
-    let few : 0 + length ks ≤ most_tokens = omega (arith, few_tokens source ts e, length-map ts (λ (t : Token). t.kind)) in
+    let proper = all_proper source (length source) 0 ts (lexed_reads source ts e).1 in
+    let few : 0 + length ks ≤ most_tokens = omega (arith, (lexed_reads source ts e).0, length-map ts (λ (t : Token). t.kind)) in
     let text = written_all ks in
     let fits : ltb most_source_bytes (length text) ≡ false = le-ltb most_source_bytes (length text) short in (
       placed 0 ks,

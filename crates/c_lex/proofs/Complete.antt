@@ -68,7 +68,7 @@ punct_on_line = each_punct (λ q. on_line (punct_spelling q)) refl
 
 -- ---- names and keywords
 
-run_is : (p : ℕ → Bool) (rest : List ℕ) (n : ℕ) → n ≤ length rest → list_all p (take n rest) ≡ true → (n < prefix_len p rest → ⊥) → prefix_len p rest ≡ n
+pub run_is : (p : ℕ → Bool) (rest : List ℕ) (n : ℕ) → n ≤ length rest → list_all p (take n rest) ≡ true → (n < prefix_len p rest → ⊥) → prefix_len p rest ≡ n
 run_is p rest n within all longer =
     let most = run_most p rest n within all in
     elim (cases_lt n (prefix_len p rest)) [
@@ -114,10 +114,10 @@ number_token at b bs n v u within number longest is =
 
 -- ---- quoted texts
 
-tail_is : (b c : ℕ) (bs cs : List ℕ) → b ∷ bs ≡ c ∷ cs → bs ≡ cs
+pub tail_is : (b c : ℕ) (bs cs : List ℕ) → b ∷ bs ≡ c ∷ cs → bs ≡ cs
 tail_is b c bs cs e = cc
 
-head_is : (b c : ℕ) (bs cs : List ℕ) → b ∷ bs ≡ c ∷ cs → b ≡ c
+pub head_is : (b c : ℕ) (bs cs : List ℕ) → b ∷ bs ≡ c ∷ cs → b ≡ c
 head_is b c bs cs e = cc
 
 -- where the closing quote is found, and what stands before it

@@ -1,10 +1,10 @@
 -- From one lexeme to the next.
-use Rattle.std.proofs.Common.{◌≡◌, ℕ, zero, suc, ◌+◌, ◌-◌, ◌<◌, ◌≤◌, Bool, true, false, cond, ltb, List, [], ◌∷◌, ◌++◌, length, drop, Result, Ok, Err, refl, sym, ap, ◌∙◌, append_assoc, add-zero, zero-add, arith}
+use Rattle.std.proofs.Common.{◌≡◌, ℕ, zero, suc, ◌+◌, ◌-◌, ◌<◌, ◌≤◌, Bool, true, false, cond, ltb, List, [], ◌∷◌, ◌++◌, length, drop, Result, Ok, Err, refl, sym, ap, ◌∙◌, append_assoc, add-zero, zero-add, arith, inl, inr}
 use Rattle.std.specs.Prelude.{IfOk}
 use Rattle.std.proofs.lemmas.List.{drop_all, drop-drop, append-nil}
 use Rattle.limits.specs.Limits.{most_source_bytes, most_tokens}
 use Rattle.c_lex.specs.Results.{◌>>=◌, Gives, Fails}
-use Rattle.std.proofs.lemmas.Bool.{lt-ltb, le-ltb}
+use Rattle.std.proofs.lemmas.Bool.{lt-ltb, le-ltb, ltb-true}
 use Rattle.c_lex.specs.Trivia.{include_len}
 use Rattle.c_lex.specs.Lexemes.{lexeme_at, lexeme_len}
 use Rattle.c_lex.specs.Tokens.{tokens_from, counted, tokens_then, lexeme_then, lexed}
@@ -14,7 +14,7 @@ use Rattle.c_lex.specs.declared.lexeme.Lexeme.{Lexeme}
 use Rattle.c_lex.specs.declared.lexeme.Lexeme.TheVariants as lexeme
 use Rattle.c_lex.specs.declared.token.Token.{Token}
 use Rattle.c_lex.specs.declared.token.TokenKind.{TokenKind}
-use Rattle.c_lex.proofs.Lengths.{lexeme_fits, IsFitting, found}
+use Rattle.c_lex.proofs.Lengths.{chosen, lexeme_fits, IsFitting, found}
 
 pub skipped : (count at k : ℕ) (text : List ℕ) → tokens_from count at k text ≡ tokens_from count (at + k) 0 (drop k text)
 skipped count at zero [] = refl
@@ -102,6 +102,14 @@ counted_ok count at (Err (fault.Directive p)) i e = absurd cc
 counted_ok count at (Err (fault.ManyTokens p)) i e = absurd cc
 counted_ok count at (Err (fault.LongSource p)) i e = absurd cc
 
+-- what the count lets pass is one more token at most
+pub token_counts : (count at : ℕ) (r : Result Lexeme LexFault) (k : TokenKind) (n : ℕ) → counted count at r ≡ Ok (lexeme.Token k n) → r ≡ Ok (lexeme.Token k n) → count < most_tokens
+token_counts count at r k n e is =
+    elim (chosen (ltb count most_tokens) (Ok (lexeme.Token k n)) (Err (fault.ManyTokens at)) (Ok (lexeme.Token k n)) (ap (counted count at) (sym is) ∙ e)) [
+      | inl (less, _) ↦ ltb-true count most_tokens less
+      | inr (_, f) ↦ absurd cc
+    ]
+
 gives_within : (text : List ℕ) (r d : Result Lexeme LexFault) (at : ℕ) → 0 < length text → Gives (λ i. i) r d → ((i : Lexeme) → d ≡ Ok i → IsFitting i text) → IfOk r (λ i. IsFitting i text)
 gives_within text (Ok i) d at some h fits = fits i h
 gives_within text (Err e) d at some h fits = tt
@@ -146,7 +154,7 @@ pub fails : (ts : List Token) (count at : ℕ) (text rest : List ℕ) (all : Res
 fails ts count at text rest all e is g some inv =
     refuses ts (counted count at (lexeme_at at rest)) (tokens_from count at 0 rest) all e g (λ f h. stops count at rest f h some) (ap (λ r. tokens_then ts (tokens_from count at 0 r)) is ∙ inv)
 
-tokens_then_none : (o : Result (List Token) LexFault) → tokens_then [] o ≡ o
+pub tokens_then_none : (o : Result (List Token) LexFault) → tokens_then [] o ≡ o
 tokens_then_none (Ok more) = refl
 tokens_then_none (Err f) = refl
 

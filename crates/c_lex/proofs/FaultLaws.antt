@@ -1,10 +1,11 @@
 -- Each fault of the definition is what its name says.
-use Rattle.std.proofs.Common.{◌≡◌, ◌⊎◌, ℕ, zero, suc, ◌+◌, ◌<◌, ◌≤◌, Bool, true, false, cond, not, eqb, ltb, ◌&&◌, ◌||◌, List, [], ◌∷◌, length, take, drop, Option, Some, None, Result, Ok, Err, codes, refl, sym, ap, ◌∙◌, subst, arith, inl, inr}
+use Rattle.std.proofs.Common.{◌≡◌, ◌⊎◌, ℕ, zero, suc, ◌+◌, ◌<◌, ◌≤◌, Bool, true, false, cond, not, eqb, ltb, ◌&&◌, ◌||◌, List, [], ◌∷◌, ◌++◌, length, take, drop, Option, Some, None, Result, Ok, Err, codes, refl, sym, ap, ◌∙◌, subst, arith, inl, inr}
 use Rattle.std.specs.Prelude.{nat_eq}
 use Rattle.std.specs.Option.{ok_or, option_and_then}
 use Rattle.std.specs.List.{starts_with, prefix_len}
 use Rattle.std.proofs.lemmas.Bool.{ltb-true, ltb-false, eqb-false, eqb-true}
 use Rattle.std.proofs.lemmas.List.{length-take-le, take-append-drop, drop_all}
+use Rattle.std.proofs.lemmas.List.Sums.{prefix_len-le-length}
 use Rattle.limits.specs.Limits.{most_name_bytes, most_tokens}
 use Rattle.c_lex.specs.Results.{◌>>=◌}
 use Rattle.c_lex.specs.Classes.{is_letter, is_digit, is_name_byte, is_number_byte, is_line_end, is_inner_blank}
@@ -17,7 +18,7 @@ use Rattle.c_lex.specs.Trivia.{comment_at, comment_end, line_comment}
 use Rattle.c_lex.specs.Lexemes.{lexeme_at, lexeme_of, start_of, identifier_at, identifier_kind_of, slash_at, punct_lexeme}
 use Rattle.c_lex.specs.Tokens.{counted}
 use Rattle.c_lex.specs.Grammar.{IsQuoted, IsToken}
-use Rattle.c_lex.specs.Faults.{IsLongest, IsLongestNumber, IsLongestIdentifier, IsFault}
+use Rattle.c_lex.specs.Faults.{IsLongest, IsLongestNumber, IsLongestIdentifier, IsEnclosed, IsFault}
 use Rattle.c_lex.specs.declared.fault.LexFault.{LexFault}
 use Rattle.c_lex.specs.declared.fault.LexFault.TheVariants as fault
 use Rattle.c_lex.specs.declared.lexeme.Lexeme.{Lexeme}
@@ -27,7 +28,7 @@ use Rattle.c_lex.specs.declared.lexeme.Start.TheVariants as start
 use Rattle.c_lex.specs.declared.punct.Punct.{Punct}
 use Rattle.c_lex.specs.declared.token.TokenKind.{TokenKind}
 use Rattle.c_lex.specs.declared.token.TokenKind.TheVariants as kind
-use Rattle.c_lex.proofs.Lengths.{ok_or_ok, chosen, punct_some, start_by, start_letter, start_digit}
+use Rattle.c_lex.proofs.Lengths.{closing_within, ok_or_ok, chosen, lexeme_fits, punct_some, start_by, start_letter, start_digit}
 use Rattle.c_lex.proofs.Tables.{is_mark, punct_none}
 use Rattle.c_lex.proofs.Sorts.{token_mark, closed_found}
 use Rattle.c_lex.proofs.Munch.{identifier_longest_by, identifier_is, number_longest_by, number_is, quoted_is, quoted_bytes, start_quote, start_double, lexeme_longest}
@@ -103,7 +104,7 @@ unfolding number_at
 number_fault at b bs f digit e =
     let text = b ∷ bs in
     let n = prefix_len is_number_byte text in
-    let is : IsLongestNumber text n = record { number = number_is b bs digit; longest = λ m. number_longest_by b bs m digit } in
+    let is : IsLongestNumber text n = record { within = prefix_len-le-length is_number_byte text; number = number_is b bs digit; longest = λ m. number_longest_by b bs m digit } in
     elim (bind_err (constant_at at (take n text)) (λ k. Ok (lexeme.Token k n)) f e) [
       | inl h ↦ number_fault_by at n text f is h (constant_err at (take n text) f h)
       | inr h ↦ absurd (no_fault h.0 n h.2)
@@ -121,7 +122,7 @@ identifier_fault at b bs f letter e =
     let n = prefix_len is_name_byte text in
     elim (chosen (ltb most_name_bytes n) (Err (fault.LongName at)) (Ok (lexeme.Token (identifier_kind_of (take n text) (keyword_of (take n text))) n)) (Err f) e) [
       | inl (long, g) ↦
-          let is : IsLongestIdentifier text n = record { identifier = identifier_is b bs letter; longest = λ m. identifier_longest_by b bs m letter } in
+          let is : IsLongestIdentifier text n = record { within = prefix_len-le-length is_name_byte text; identifier = identifier_is b bs letter; longest = λ m. identifier_longest_by b bs m letter } in
           subst (λ (h : LexFault). IsFault text 0 at h) (err_same Lexeme (fault.LongName at) f g) (refl, (n, ltb-true most_name_bytes n long, is))
       | inr (_, g) ↦ absurd cc
     ]
@@ -140,6 +141,13 @@ open_by quote b bs (suc (suc j)) q10 q92 is within h =
   where
     some_none : (i : ℕ) → None ≡ Some i → ⊥
     some_none i e = cc
+
+enclosed_is : (quote b m : ℕ) (bs : List ℕ) → b ≡ quote → closing_from quote false 0 bs ≡ Some m → IsEnclosed quote (b ∷ bs) (take m bs)
+enclosed_is quote b m bs same is =
+    let before = closing_within quote false 0 bs m is in
+    let size : m + 2 ≡ length (take m bs) + 2 = omega (arith, length-take-le m bs (omega (arith, before.1))) in
+    let P : ℕ → Type 0 = λ n. (n ≤ length (b ∷ bs)) × IsQuoted quote (take n (b ∷ bs)) × (take n (b ∷ bs) ≡ quote ∷ (take m bs ++ quote ∷ [])) in
+    subst P size (omega (arith, before.1), quoted_is quote b m bs same is, quoted_bytes quote b m bs same is)
 
 char_fault : (at b : ℕ) (bs : List ℕ) (f : LexFault) → b ≡ 39 → char_at at bs ≡ Err f → IsFault (b ∷ bs) 0 at f
 unfolding char_at
@@ -161,7 +169,7 @@ char_fault at b bs f quote e =
     bad_char : (m : ℕ) → closing_from 39 false 0 bs ≡ Some m → (ok_or (option_and_then only (characters 0 (take m bs))) (fault.BadText at) ≡ Err f) ⊎ ((c : ℕ) × (ok_or (option_and_then only (characters 0 (take m bs))) (fault.BadText at) ≡ Ok c) × (Ok (lexeme.Token (kind.Char c) (m + 2)) ≡ refused f)) → IsFault (b ∷ bs) 0 at f
     bad_char m is (inl h) =
         let bad = ok_or_err (option_and_then only (characters 0 (take m bs))) (fault.BadText at) f h in
-        subst (λ (g : LexFault). IsFault (b ∷ bs) 0 at g) bad.1 (refl, (m + 2, take m bs, inl ((quoted_is 39 b m bs quote is, quoted_bytes 39 b m bs quote is), λ c. not_one (characters 0 (take m bs)) c bad.0)))
+        subst (λ (g : LexFault). IsFault (b ∷ bs) 0 at g) bad.1 (refl, (take m bs, inl (enclosed_is 39 b m bs quote is, λ c. not_one (characters 0 (take m bs)) c bad.0)))
     bad_char m is (inr h) = absurd (no_fault h.0 (m + 2) h.2)
 
 string_fault : (at b : ℕ) (bs : List ℕ) (f : LexFault) → b ≡ 34 → string_at at bs ≡ Err f → IsFault (b ∷ bs) 0 at f
@@ -181,7 +189,7 @@ string_fault at b bs f quote e =
     bad_string : (m : ℕ) → closing_from 34 false 0 bs ≡ Some m → (ok_or (characters 0 (take m bs)) (fault.BadText at) ≡ Err f) ⊎ ((c : List ℕ) × (ok_or (characters 0 (take m bs)) (fault.BadText at) ≡ Ok c) × (Ok (lexeme.Token (kind.Text c) (m + 2)) ≡ refused f)) → IsFault (b ∷ bs) 0 at f
     bad_string m is (inl h) =
         let bad = ok_or_err (characters 0 (take m bs)) (fault.BadText at) f h in
-        subst (λ (g : LexFault). IsFault (b ∷ bs) 0 at g) bad.1 (refl, (m + 2, take m bs, inr ((quoted_is 34 b m bs quote is, quoted_bytes 34 b m bs quote is), bad.0)))
+        subst (λ (g : LexFault). IsFault (b ∷ bs) 0 at g) bad.1 (refl, (take m bs, inr (enclosed_is 34 b m bs quote is, bad.0)))
     bad_string m is (inr h) = absurd (no_fault h.0 (m + 2) h.2)
 
 -- ---- comments
@@ -201,7 +209,7 @@ comment_never at (b ∷ bs) (suc n) e =
 
 -- ---- bytes that begin nothing
 
-no_empty : IsToken [] → ⊥
+pub no_empty : IsToken [] → ⊥
 no_empty (inl w) = w
 no_empty (inr (inl n)) = n
 no_empty (inr (inr (inl q))) = q
@@ -229,6 +237,7 @@ byte_fault at b bs f None plain none e =
     subst (λ (g : LexFault). IsFault (b ∷ bs) 0 at g) (err_same Lexeme (fault.BadByte at) f e) (
       refl,
       record {
+        some = omega arith;
         no_token = λ n. mark_no_token b bs n plain.mark none;
         no_line_end = plain.line;
         no_blank = plain.blank;
@@ -355,12 +364,12 @@ lexeme_fault at (b ∷ bs) f some e = lexeme_fault_of (start_of b) at b bs f ref
 
 -- ---- with the count
 
-counted_by : (count at : ℕ) (text : List ℕ) (r : Result Lexeme LexFault) (f : LexFault) → ((g : LexFault) → r ≡ Err g → IsFault text 0 at g) → ((k : TokenKind) (n : ℕ) → r ≡ Ok (lexeme.Token k n) → IsLongest text n k) → counted count at r ≡ Err f → IsFault text count at f
+counted_by : (count at : ℕ) (text : List ℕ) (r : Result Lexeme LexFault) (f : LexFault) → ((g : LexFault) → r ≡ Err g → IsFault text 0 at g) → ((k : TokenKind) (n : ℕ) → r ≡ Ok (lexeme.Token k n) → (n ≤ length text) × IsLongest text n k) → counted count at r ≡ Err f → IsFault text count at f
 counted_by count at text (Ok (lexeme.Trivia n)) f faulty longest e = absurd cc
 counted_by count at text (Ok (lexeme.Token k n)) f faulty longest e =
     elim (chosen (ltb count most_tokens) (Ok (lexeme.Token k n)) (Err (fault.ManyTokens at)) (Err f) e) [
       | inl (_, g) ↦ absurd cc
-      | inr (many, g) ↦ subst (λ (h : LexFault). IsFault text count at h) (err_same Lexeme (fault.ManyTokens at) f g) (refl, ltb-false count most_tokens many, inl (n, k, longest k n refl))
+      | inr (many, g) ↦ subst (λ (h : LexFault). IsFault text count at h) (err_same Lexeme (fault.ManyTokens at) f g) (refl, ltb-false count most_tokens many, inl (n, k, (longest k n refl).0, (longest k n refl).1))
     ]
 counted_by count at text (Err (fault.BadNumber p)) f faulty longest e =
     let is = faulty (fault.BadNumber p) refl in
@@ -380,4 +389,4 @@ counted_by count at text (Err (fault.LongName p)) f faulty longest e = subst (λ
 counted_by count at text (Err (fault.Directive p)) f faulty longest e = subst (λ (h : LexFault). IsFault text count at h) (err_same Lexeme (fault.Directive p) f e) (faulty (fault.Directive p) refl)
 
 pub counted_fault : (count at : ℕ) (text : List ℕ) (f : LexFault) → 0 < length text → counted count at (lexeme_at at text) ≡ Err f → IsFault text count at f
-counted_fault count at text f some e = counted_by count at text (lexeme_at at text) f (λ g h. lexeme_fault at text g some h) (λ k n h. lexeme_longest at text n k some h) e
+counted_fault count at text f some e = counted_by count at text (lexeme_at at text) f (λ g h. lexeme_fault at text g some h) (λ k n h. ((lexeme_fits at text (lexeme.Token k n) some h).1, lexeme_longest at text n k some h)) e

@@ -7,9 +7,12 @@ pub mod Tables
 pub mod Sorts
 pub mod Munch
 pub mod TriviaLaws
-pub mod Whole
 pub mod Reading
-pub mod Again
-pub mod FaultLaws
 pub mod Complete
+pub mod Lines
+pub mod Covered
+pub mod FaultLaws
+pub mod Whole
+pub mod Again
+pub mod FaultFound
 pub mod Converse

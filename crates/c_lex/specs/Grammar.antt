@@ -106,6 +106,16 @@ pub record IsIncludeLine (bytes following : List ℕ) : Type 0 where
 abbrev pub IsLineStart : List ℕ → ℕ → Type 0
 IsLineStart source at = (at ≡ 0) ⊎ ((0 < at) × (is_line_end (slice_index source (at - 1)) ≡ true))
 
+-- an include line that begins at the start of a line covers the offset
+pub record IsInIncludeLine (source : List ℕ) (at : ℕ) : Type 0 where
+  pub start : ℕ
+  pub end : ℕ
+  pub line : IsLineStart source start
+  pub from : start ≤ at
+  pub to : at < end
+  pub within : end ≤ length source
+  pub include : IsIncludeLine (slice_range source start end) (drop end source)
+
 -- one blank, one comment or one include line
 abbrev pub IsTrivia : List ℕ → ℕ → ℕ → Type 0
 IsTrivia source at end =

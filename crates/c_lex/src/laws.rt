@@ -9,8 +9,9 @@ pub fn tokens_are_longest()
     ensures { TokensAreLongest }
 {}
 
-/// A fault comes where the source is too long, or else up to its offset the source is tokens with such trivia, and there
-/// stands what its name says. So it is the one at the least offset.
+/// A source has a fault exactly where it is too long, or where up to an offset it is tokens with such trivia, no include
+/// line covers the offset, and there the source is wrong in the way that the fault names. So it has one fault at most,
+/// at one offset.
 pub fn faults_are_first()
     ensures { FaultsAreFirst }
 {}

@@ -4,7 +4,7 @@ use Rattle.c_lex.specs.declared.lexeme.Lexeme.TheVariants as lexeme
 use Rattle.c_lex.specs.Lexemes.{lexeme_at}
 use Rattle.c_lex.specs.Tokens.{counted, lexed, tokens_then, tokens_from}
 use Rattle.c_lex.proofs.Driver.{too_long, begins, goes_on_trivia, goes_on_token, ends}
-use Rattle.c_lex.proofs.Again.{few_tokens}
+use Rattle.c_lex.proofs.Whole.{lexed_reads}
 use Rattle.c_lex.proofs.lexer.lex.Goals as goal
 
 pub returns-then-source-gt-MOST_SOURCE_BYTES-clause-exact : goal.returns-then-source-gt-MOST_SOURCE_BYTES-clause-exact
@@ -51,4 +51,4 @@ returns-clause-few c =
     let text = c.args.source.now in
     let ts = c.loop-at.tokens.items in
     let whole : lexed text ≡ Ok ts = ends ts (length ts) c.loop-at.at text (lexed text) c.loop-at-test.false c.loop-at.invariant.read in
-    omega (arith, few_tokens text ts whole, c.loop-at.tokens.ok.0)
+    omega (arith, (lexed_reads text ts whole).0, c.loop-at.tokens.ok.0)
