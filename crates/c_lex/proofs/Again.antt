@@ -1,11 +1,11 @@
 -- The tokens of a source, written again, are read again.
-use Rattle.std.proofs.Common.{◌≡◌, ℕ, zero, suc, ◌+◌, ◌-◌, ◌<◌, ◌≤◌, Bool, true, false, cond, not, eqb, ltb, ◌&&◌, ◌||◌, List, [], ◌∷◌, ◌++◌, length, take, drop, Some, None, Result, Ok, Err, codes, refl, sym, ap, ◌∙◌, subst, arith, inl, inr, zero-add}
+use Rattle.std.proofs.Common.{◌≡◌, ℕ, ◌+◌, ◌-◌, ◌<◌, ◌≤◌, Bool, true, false, cond, not, eqb, ltb, ◌&&◌, ◌||◌, List, [], ◌∷◌, ◌++◌, length, take, drop, Some, None, Result, Ok, Err, codes, refl, sym, ap, ◌∙◌, subst, arith, inl, inr}
 use Rattle.std.specs.Prelude.{nat_eq}
 use Rattle.std.specs.Option.{ok_or, option_and_then, option_map_or}
 use Rattle.std.specs.List.{starts_with, prefix_len}
-use Rattle.std.proofs.lemmas.Bool.{cases_lt, ltb-false, ltb-true, lt-ltb, le-ltb, or_parts}
+use Rattle.std.proofs.lemmas.Bool.{ltb-false, lt-ltb, le-ltb, or_parts}
 use Rattle.std.proofs.lemmas.Bool.Decides.{nat_tests}
-use Rattle.std.proofs.lemmas.List.{drop_all, drop-drop, drop_at, length-drop, length-append, length-map}
+use Rattle.std.proofs.lemmas.List.{drop_at, length-append, length-map}
 use Rattle.limits.specs.Limits.{most_source_bytes, most_tokens}
 use Rattle.c_lex.specs.Results.{◌>>=◌}
 use Rattle.c_lex.specs.Classes.{is_line_end, is_inner_blank}
@@ -19,14 +19,13 @@ use Rattle.c_lex.specs.Grammar.{Spells, Reads, done, trivia, token}
 use Rattle.c_lex.specs.Written.{written, written_all, kinds, TokensAreReadAgain}
 use Rattle.c_lex.specs.declared.fault.LexFault.{LexFault}
 use Rattle.c_lex.specs.declared.fault.LexFault.TheVariants as fault
-use Rattle.c_lex.specs.declared.lexeme.Lexeme.{Lexeme}
 use Rattle.c_lex.specs.declared.lexeme.Lexeme.TheVariants as lexeme
 use Rattle.c_lex.specs.declared.lexeme.Start.TheVariants as start
 use Rattle.c_lex.specs.declared.token.Token.{Token}
 use Rattle.c_lex.specs.declared.token.TokenKind.{TokenKind}
 use Rattle.c_lex.specs.declared.token.TokenKind.TheVariants as kind
-use Rattle.c_lex.proofs.Lengths.{bind_ok, chosen, lexeme_fits, include_within}
-use Rattle.c_lex.proofs.Driver.{step, stops, skipped, counted_ok}
+use Rattle.c_lex.proofs.Lengths.{bind_ok, chosen, lexeme_fits}
+use Rattle.c_lex.proofs.Driver.{step}
 use Rattle.c_lex.proofs.Tables.{no_keyword}
 use Rattle.c_lex.proofs.Whole.{lexed_reads}
 use Rattle.c_lex.proofs.Reading.{IsProper, kind_read}
@@ -125,7 +124,8 @@ written_read count at (k ∷ ks) h few =
     let some : 0 < length text = omega (arith, length-append (written k) (32 ∷ more)) in
     let fits = lexeme_fits at text (lexeme.Token k n) some scanned in
     let rest : drop n text ≡ 32 ∷ more = drop_at (written k) (32 ∷ more) n refl in
-    let space : tokens_from (count + 1) (at + n) 0 (32 ∷ more) ≡ tokens_from (count + 1) (at + n + 1) 0 more = step (count + 1) (at + n) (32 ∷ more) (lexeme.Trivia 1) (ap (counted (count + 1) (at + n)) (space_read (at + n) more)) (omega arith) (omega arith) in
+    let space : tokens_from (count + 1) (at + n) 0 (32 ∷ more) ≡ tokens_from (count + 1) (at + n + 1) 0 more =
+    step (count + 1) (at + n) (32 ∷ more) (lexeme.Trivia 1) (ap (counted (count + 1) (at + n)) (space_read (at + n) more)) (omega arith) (omega arith) in
     step count at text (lexeme.Token k n) passes fits.0 some
     ∙ ap (λ (t : List ℕ). tokens_then (record { kind = k; at = at; end = at + n } ∷ []) (tokens_from (count + 1) (at + n) 0 t)) rest
     ∙ ap (tokens_then (record { kind = k; at = at; end = at + n } ∷ [])) (space ∙ written_read (count + 1) (at + n + 1) ks h.1 (omega arith))
@@ -155,7 +155,9 @@ include_none b bs blank hash =
     let here : past_blanks line ≡ line = ap (λ n. drop n line) blanks in
     let fails : starts_with nat_eq line (codes "#") ≡ false = ap (λ t. t && true) hash in
     let no_hash : past (codes "#") (past_blanks line) ≡ None = ap (past (codes "#")) here ∙ ap (λ t. cond t (Some (drop 1 line)) None) fails in
-    let none : past_include line ≡ None = ap (option_and_then (λ a. option_and_then (λ b. option_and_then (λ c. cond (ends_line (past_blanks c)) (Some (past_blanks c)) None) (past_header (past_blanks b))) (past (codes "include") (past_blanks a)))) no_hash in
+    let none : past_include line ≡ None =
+    ap (option_and_then (λ a. option_and_then (λ b. option_and_then (λ c. cond (ends_line (past_blanks c)) (Some (past_blanks c)) None) (past_header (past_blanks b))) (past (codes "include")
+    (past_blanks a)))) no_hash in
     ap (λ o. option_map_or (λ rest. length line - length rest) o 0) none
 
 first_token : (text : List ℕ) (k : TokenKind) (n : ℕ) → lexeme_at 0 text ≡ Ok (lexeme.Token k n) → 0 < length text → include_len text ≡ 0
@@ -186,6 +188,7 @@ tokens_are_read_again source ts e short =
     let text = written_all ks in
     let fits : ltb most_source_bytes (length text) ≡ false = le-ltb most_source_bytes (length text) short in (
       placed 0 ks,
-      ap (λ b. cond b (Err (fault.LongSource most_source_bytes)) (tokens_from 0 0 (include_len text) text)) fits ∙ ap (λ i. tokens_from 0 0 i text) (written_no_include ks proper) ∙ written_read 0 0 ks proper few,
+      ap (λ b. cond b (Err (fault.LongSource most_source_bytes)) (tokens_from 0 0 (include_len text) text)) fits ∙ ap (λ i. tokens_from 0 0 i text) (written_no_include ks proper)
+          ∙ written_read 0 0 ks proper few,
       kinds_placed 0 ks,
     )

@@ -58,13 +58,16 @@ regroup : (cs : List ℕ) (v : ℕ) (o : Option (List ℕ)) → then_characters 
 regroup cs v None = refl
 regroup cs v (Some rest) = ap Some (sym (append_assoc cs (v ∷ []) rest))
 
-pub characters_push : (cs ds : List ℕ) (v n at : ℕ) (text : List ℕ) (all : Option (List ℕ)) → ds ≡ cs ++ v ∷ [] → 0 < n → character_at (drop at text) ≡ Some (v, n) → at < length text → then_characters cs (characters 0 (drop at text)) ≡ all → then_characters ds (characters 0 (drop (at + n) text)) ≡ all
+pub characters_push : (cs ds : List ℕ) (v n at : ℕ) (text : List ℕ) (all : Option (List ℕ)) → ds ≡ cs ++ v ∷ [] → 0 < n → character_at (drop at text) ≡ Some (v, n) → at < length text →
+    then_characters cs (characters 0 (drop at text)) ≡ all → then_characters ds (characters 0 (drop (at + n) text)) ≡ all
 characters_push cs ds v n at text all is pos e h inv =
     let more : drop n (drop at text) ≡ drop (at + n) text = drop-drop n at text in
     let step = characters_step (drop at text) v n pos e (omega (arith, length-drop at text)) in
-    ap (λ xs. then_characters xs (characters 0 (drop (at + n) text))) is ∙ sym (regroup cs v (characters 0 (drop (at + n) text))) ∙ ap (λ r. then_characters cs (with_first v (characters 0 r))) (sym more) ∙ ap (then_characters cs) (sym step) ∙ inv
+    ap (λ xs. then_characters xs (characters 0 (drop (at + n) text))) is ∙ sym (regroup cs v (characters 0 (drop (at + n) text)))
+    ∙ ap (λ r. then_characters cs (with_first v (characters 0 r))) (sym more) ∙ ap (then_characters cs) (sym step) ∙ inv
 
-pub characters_stop : (cs : List ℕ) (at : ℕ) (text : List ℕ) (all : Option (List ℕ)) → character_at (drop at text) ≡ None → at < length text → then_characters cs (characters 0 (drop at text)) ≡ all → all ≡ None
+pub characters_stop : (cs : List ℕ) (at : ℕ) (text : List ℕ) (all : Option (List ℕ)) → character_at (drop at text) ≡ None → at < length text →
+    then_characters cs (characters 0 (drop at text)) ≡ all → all ≡ None
 characters_stop cs at text all e h inv =
     sym inv ∙ ap (then_characters cs) (characters_none (drop at text) e (omega (arith, length-drop at text)))
 

@@ -76,12 +76,14 @@ run_is p rest n within all longer =
       | inr le ↦ omega arith
     ]
 
-identifier_token : (at b : ℕ) (bs : List ℕ) (n : ℕ) (k : TokenKind) → suc n ≤ length (b ∷ bs) → IsIdentifier (take (suc n) (b ∷ bs)) → ((m : ℕ) → suc n < m → m ≤ length (b ∷ bs) → IsToken (take m (b ∷ bs)) → ⊥) → suc n ≤ most_name_bytes → identifier_kind_of (take (suc n) (b ∷ bs)) (keyword_of (take (suc n) (b ∷ bs))) ≡ k → lexeme_at at (b ∷ bs) ≡ Ok (lexeme.Token k (suc n))
+identifier_token : (at b : ℕ) (bs : List ℕ) (n : ℕ) (k : TokenKind) → suc n ≤ length (b ∷ bs) → IsIdentifier (take (suc n) (b ∷ bs)) → ((m : ℕ) → suc n < m → m ≤ length (b ∷ bs) →
+    IsToken (take m (b ∷ bs)) → ⊥) → suc n ≤ most_name_bytes → identifier_kind_of (take (suc n) (b ∷ bs)) (keyword_of (take (suc n) (b ∷ bs))) ≡ k → lexeme_at at (b ∷ bs) ≡ Ok (lexeme.Token k (suc n))
 unfolding lexeme_of identifier_at
 identifier_token at b bs n k within identifier longest short is =
     let rest = b ∷ bs in
     let all = identifier_all b (take n bs) identifier in
-    let run : prefix_len is_name_byte rest ≡ suc n = run_is is_name_byte rest (suc n) within all (λ less. longest (prefix_len is_name_byte rest) less (prefix_len-le-length is_name_byte rest) (inl (identifier_is b bs identifier.0))) in
+    let run : prefix_len is_name_byte rest ≡ suc n =
+    run_is is_name_byte rest (suc n) within all (λ less. longest (prefix_len is_name_byte rest) less (prefix_len-le-length is_name_byte rest) (inl (identifier_is b bs identifier.0))) in
     let fits : ltb most_name_bytes (suc n) ≡ false = le-ltb most_name_bytes (suc n) short in
     ap (λ s. lexeme_of s at rest) (letter_starts b identifier.0)
     ∙ ap (λ m. cond (ltb most_name_bytes m) (Err (fault.LongName at)) (Ok (lexeme.Token (identifier_kind_of (take m rest) (keyword_of (take m rest))) m))) run
@@ -101,18 +103,21 @@ digit_starts b e =
 pub number_all : (b : ℕ) (bs : List ℕ) → IsNumber (b ∷ bs) → list_all is_number_byte (b ∷ bs) ≡ true
 number_all b bs h = ap (λ t. t && list_all is_number_byte bs) (digit_goes_on b h.0) ∙ h.1
 
-number_token : (at b : ℕ) (bs : List ℕ) (n v : ℕ) (u : Bool) → suc n ≤ length (b ∷ bs) → IsNumber (take (suc n) (b ∷ bs)) → ((m : ℕ) → suc n < m → m ≤ length (b ∷ bs) → IsToken (take m (b ∷ bs)) → ⊥) → constant_at 0 (take (suc n) (b ∷ bs)) ≡ Ok (kind.Number v u) → lexeme_at at (b ∷ bs) ≡ Ok (lexeme.Token (kind.Number v u) (suc n))
+number_token : (at b : ℕ) (bs : List ℕ) (n v : ℕ) (u : Bool) → suc n ≤ length (b ∷ bs) → IsNumber (take (suc n) (b ∷ bs)) → ((m : ℕ) → suc n < m → m ≤ length (b ∷ bs) →
+    IsToken (take m (b ∷ bs)) → ⊥) → constant_at 0 (take (suc n) (b ∷ bs)) ≡ Ok (kind.Number v u) → lexeme_at at (b ∷ bs) ≡ Ok (lexeme.Token (kind.Number v u) (suc n))
 unfolding lexeme_of number_at
 number_token at b bs n v u within number longest is =
     let rest = b ∷ bs in
-    let run : prefix_len is_number_byte rest ≡ suc n = run_is is_number_byte rest (suc n) within (number_all b (take n bs) number) (λ less. longest (prefix_len is_number_byte rest) less (prefix_len-le-length is_number_byte rest) (inr (inl (number_is b bs number.0)))) in
+    let run : prefix_len is_number_byte rest ≡ suc n =
+    run_is is_number_byte rest (suc n) within (number_all b (take n bs) number) (λ less. longest (prefix_len is_number_byte rest) less (prefix_len-le-length is_number_byte rest) (inr (inl
+    (number_is b bs number.0)))) in
     let made = constant_number 0 at (take (suc n) rest) (kind.Number v u) is in
     let here : constant_at at (take (suc n) rest) ≡ Ok (kind.Number v u) = made.3 ∙ ap (λ k. Ok k) (sym made.2) in
     ap (λ s. lexeme_of s at rest) (digit_starts b number.0)
     ∙ ap (λ m. constant_at at (take m rest) >>= λ k. Ok (lexeme.Token k m)) run
     ∙ ap (λ r. r >>= λ k. Ok (lexeme.Token k (suc n))) here
 
--- ---- quoted texts
+-- ---- between quotes
 
 pub tail_is : (b c : ℕ) (bs cs : List ℕ) → b ∷ bs ≡ c ∷ cs → bs ≡ cs
 tail_is b c bs cs e = cc
@@ -139,7 +144,8 @@ inner_is quote n bs inner q10 q92 within closed is =
       front = ap (take k) whole ∙ take_at inner (quote ∷ [] ++ drop n bs) k refl;
     }
 
-char_token : (at b : ℕ) (bs : List ℕ) (n c : ℕ) (inner : List ℕ) → suc n ≤ length (b ∷ bs) → IsToken (take (suc n) (b ∷ bs)) → take (suc n) (b ∷ bs) ≡ 39 ∷ (inner ++ 39 ∷ []) → characters 0 inner ≡ Some (c ∷ []) → lexeme_at at (b ∷ bs) ≡ Ok (lexeme.Token (kind.Char c) (suc n))
+char_token : (at b : ℕ) (bs : List ℕ) (n c : ℕ) (inner : List ℕ) → suc n ≤ length (b ∷ bs) → IsToken (take (suc n) (b ∷ bs)) → take (suc n) (b ∷ bs) ≡ 39 ∷ (inner ++ 39 ∷ []) →
+    characters 0 inner ≡ Some (c ∷ []) → lexeme_at at (b ∷ bs) ≡ Ok (lexeme.Token (kind.Char c) (suc n))
 unfolding lexeme_of start_of char_at
 char_token at b bs n c inner within token is one =
     let quote : b ≡ 39 = head_is b 39 (take n bs) (inner ++ 39 ∷ []) is in
@@ -151,7 +157,8 @@ char_token at b bs n c inner within token is one =
     ∙ ap (λ o. ok_or (option_and_then only o) (fault.BadText at) >>= λ d. Ok (lexeme.Token (kind.Char d) (length inner + 2))) one
     ∙ ap (λ m. Ok (lexeme.Token (kind.Char c) m)) found.size
 
-string_token : (at b : ℕ) (bs : List ℕ) (n : ℕ) (cs inner : List ℕ) → suc n ≤ length (b ∷ bs) → IsToken (take (suc n) (b ∷ bs)) → take (suc n) (b ∷ bs) ≡ 34 ∷ (inner ++ 34 ∷ []) → characters 0 inner ≡ Some cs → lexeme_at at (b ∷ bs) ≡ Ok (lexeme.Token (kind.Text cs) (suc n))
+string_token : (at b : ℕ) (bs : List ℕ) (n : ℕ) (cs inner : List ℕ) → suc n ≤ length (b ∷ bs) → IsToken (take (suc n) (b ∷ bs)) → take (suc n) (b ∷ bs) ≡ 34 ∷ (inner ++ 34 ∷ []) →
+    characters 0 inner ≡ Some cs → lexeme_at at (b ∷ bs) ≡ Ok (lexeme.Token (kind.Text cs) (suc n))
 unfolding lexeme_of start_of string_at
 string_token at b bs n cs inner within token is all =
     let quote : b ≡ 34 = head_is b 34 (take n bs) (inner ++ 34 ∷ []) is in
@@ -194,7 +201,8 @@ punct_here rest n p within is longest = by_found (punct_at rest) refl
               ap Some (same_punct q p (sym q_begins ∙ ap (λ i. take i rest) same ∙ sym is))
         ]
 
-punct_token_by : (at n : ℕ) (rest : List ℕ) (p : Punct) (s : Start) → is_punct_start s ≡ true → begins_comment rest ≡ false → punct_at rest ≡ Some p → length (punct_spelling p) ≡ n → lexeme_of s at rest ≡ Ok (lexeme.Token (kind.Punct p) n)
+punct_token_by : (at n : ℕ) (rest : List ℕ) (p : Punct) (s : Start) → is_punct_start s ≡ true → begins_comment rest ≡ false → punct_at rest ≡ Some p → length (punct_spelling p) ≡ n →
+    lexeme_of s at rest ≡ Ok (lexeme.Token (kind.Punct p) n)
 unfolding lexeme_of slash_at
 punct_token_by at n rest p start.Slash h no_comment is size =
     let parts = or_parts (starts_with nat_eq rest (codes "/*")) (starts_with nat_eq rest (codes "//")) no_comment in

@@ -89,7 +89,8 @@ blank_too source start at b bs split blank blanks k low high =
           ap (λ i. is_inner_blank (slice_index source i)) same ∙ ap is_inner_blank (first_is source at b bs split) ∙ blank
     ]
 
-never_blank : (source : List ℕ) (at b : ℕ) (bs : List ℕ) (t : Bool) → drop at source ≡ b ∷ bs → is_inner_blank b ≡ t → (is_line_end b || is_inner_blank b) ≡ true → Never source (at + 1) → Never source at
+never_blank : (source : List ℕ) (at b : ℕ) (bs : List ℕ) (t : Bool) → drop at source ≡ b ∷ bs → is_inner_blank b ≡ t → (is_line_end b || is_inner_blank b) ≡ true → Never source (at + 1) →
+    Never source at
 never_blank source at b bs true split blank is ih start before line blanks rest e =
     let next : past_include (drop (at + 1) source) ≡ Some rest = ap past_include (next_text source at b bs split) ∙ sym (include_blank b bs blank) ∙ sym (ap past_include split) ∙ e in
     ih start (omega arith) line (blank_too source start at b bs split blank blanks) rest next
@@ -123,7 +124,8 @@ never source to _ _ uncovered (token t ts stands r) start before line blanks res
 
 -- ---- comments and blanks
 
-comment_found : (at : ℕ) (inner more : List ℕ) → ((m : ℕ) → m < length inner → closes (drop m (inner ++ codes "*/")) ≡ false) → comment_end at ((inner ++ codes "*/") ++ more) ≡ Some (at + length inner + 2)
+comment_found : (at : ℕ) (inner more : List ℕ) → ((m : ℕ) → m < length inner → closes (drop m (inner ++ codes "*/")) ≡ false) →
+    comment_end at ((inner ++ codes "*/") ++ more) ≡ Some (at + length inner + 2)
 comment_found at [] more none = let size : at + 2 ≡ at + 0 + 2 = omega arith in ap Some size
 comment_found at (x ∷ xs) more none =
     let text : List ℕ = (xs ++ codes "*/") ++ more in
@@ -132,7 +134,8 @@ comment_found at (x ∷ xs) more none =
     let size : at + 1 + length xs + 2 ≡ at + length (x ∷ xs) + 2 = omega arith in
     ap (λ t. cond t (Some (at + 2)) (comment_end (at + 1) text)) here ∙ comment_found (at + 1) xs more (λ m h. none (suc m) (omega arith)) ∙ ap Some size
 
-block_lexeme : (at : ℕ) (inner more : List ℕ) → ((m : ℕ) → m < length inner → closes (drop m (inner ++ codes "*/")) ≡ false) → lexeme_at at (codes "/*" ++ ((inner ++ codes "*/") ++ more)) ≡ Ok (lexeme.Trivia (length inner + 4))
+block_lexeme : (at : ℕ) (inner more : List ℕ) → ((m : ℕ) → m < length inner → closes (drop m (inner ++ codes "*/")) ≡ false) →
+    lexeme_at at (codes "/*" ++ ((inner ++ codes "*/") ++ more)) ≡ Ok (lexeme.Trivia (length inner + 4))
 unfolding lexeme_of start_of slash_at comment_at
 block_lexeme at inner more none =
     let size : 0 + length inner + 2 + 2 ≡ length inner + 4 = omega arith in
@@ -177,7 +180,8 @@ abbrev Gets : List ℕ → ℕ → List Token → ℕ → Type 0
 Gets source to ts at =
     (count : ℕ) → count + length ts ≤ most_tokens → tokens_from count at 0 (drop at source) ≡ tokens_then ts (tokens_from (count + length ts) to 0 (drop to source))
 
-trivia_gets : (source : List ℕ) (to : ℕ) (ts : List Token) (at n : ℕ) → at < length source → 0 < n → lexeme_at at (drop at source) ≡ Ok (lexeme.Trivia n) → Gets source to ts (at + n) → Gets source to ts at
+trivia_gets : (source : List ℕ) (to : ℕ) (ts : List Token) (at n : ℕ) → at < length source → 0 < n → lexeme_at at (drop at source) ≡ Ok (lexeme.Trivia n) → Gets source to ts (at + n) →
+    Gets source to ts at
 trivia_gets source to ts at n less some scanned next count few =
     let text = drop at source in
     let more : drop n text ≡ drop (at + n) source = drop-drop n at source in
@@ -194,7 +198,8 @@ token_gets source to t ts h next count few =
     let n : ℕ = suc h.m in
     let scanned : lexeme_at t.at text ≡ Ok (lexeme.Token t.kind n) = ap (lexeme_at t.at) h.split ∙ token_lexeme t.at h.b h.bs h.m t.kind h.within h.longest in
     let below : ltb count most_tokens ≡ true = lt-ltb count most_tokens (omega arith) in
-    let passes : counted count t.at (lexeme_at t.at text) ≡ Ok (lexeme.Token t.kind n) = ap (counted count t.at) scanned ∙ ap (λ b. cond b (Ok (lexeme.Token t.kind n)) (Err (fault.ManyTokens t.at))) below in
+    let passes : counted count t.at (lexeme_at t.at text) ≡ Ok (lexeme.Token t.kind n) = ap (counted count t.at) scanned
+    ∙ ap (λ b. cond b (Ok (lexeme.Token t.kind n)) (Err (fault.ManyTokens t.at))) below in
     let some : 0 < length text = omega (arith, ap length h.split) in
     let more : drop n text ≡ drop (t.at + n) source = drop-drop n t.at source in
     let size : count + 1 + length ts ≡ count + suc (length ts) = omega arith in
@@ -231,12 +236,13 @@ no_include line none = by_rest (past_include line) refl
     by_rest None e = no_include_len line e
     by_rest (Some rest) e = absurd (none rest e)
 
-blank_reached : (source : List ℕ) (to : ℕ) (ts : List Token) (at b : ℕ) (bs : List ℕ) (t : Bool) → at < length source → drop at source ≡ b ∷ bs → is_inner_blank b ≡ t → (is_line_end b || is_inner_blank b) ≡ true → Never source (at + 1) → IsReached source to ts (at + 1) → IsReached source to ts at
+blank_reached : (source : List ℕ) (to : ℕ) (ts : List Token) (at b : ℕ) (bs : List ℕ) (t : Bool) → at < length source → drop at source ≡ b ∷ bs → is_inner_blank b ≡ t →
+    (is_line_end b || is_inner_blank b) ≡ true → Never source (at + 1) → IsReached source to ts (at + 1) → IsReached source to ts at
 blank_reached source to ts at b bs true less split blank is none rest =
     let inside = blank_inside source at b bs split blank in
     let gets = trivia_gets source to ts at 1 less (omega arith) (ap (lexeme_at at) split ∙ blank_trivia at b bs blank) (rest.inside inside) in
     let next : (r : List ℕ) → past_include (drop at source) ≡ Some r → past_include (drop (at + 1) source) ≡ Some r = λ r e.
-        ap past_include (next_text source at b bs split) ∙ sym (include_blank b bs blank) ∙ sym (ap past_include split) ∙ e in
+    ap past_include (next_text source at b bs split) ∙ sym (include_blank b bs blank) ∙ sym (ap past_include split) ∙ e in
     let here : AreBlankBetween source at (at + 1) = blank_too source at at b bs split blank (λ k low high. absurd (omega arith)) in
     reached_by source to ts at (λ starts. no_include (drop at source) (λ r e. none at (omega arith) starts here r (next r e))) gets
 blank_reached source to ts at b bs false less split blank is none rest =
@@ -249,12 +255,14 @@ blank_reached source to ts at b bs false less split blank is none rest =
     let next : Gets source to ts (at + (i + 1)) = subst (λ (j : ℕ). Gets source to ts j) there (rest.at_start starts) in
     first_reached source to ts at (line_none source at b bs split line) (trivia_gets source to ts at (i + 1) less (omega arith) (ap (lexeme_at at) split ∙ end_trivia at b bs line) next)
 
-trivia_reached : (source : List ℕ) (to : ℕ) (ts : List Token) (at end : ℕ) → at < end → end ≤ length source → IsTrivia source at end → Never source end → IsReached source to ts end → IsReached source to ts at
+trivia_reached : (source : List ℕ) (to : ℕ) (ts : List Token) (at end : ℕ) → at < end → end ≤ length source → IsTrivia source at end → Never source end → IsReached source to ts end →
+    IsReached source to ts at
 trivia_reached source to ts at end less within (inl h) none rest =
     let offset = at_offset source at (omega arith) in
     let first = first_is source at offset.b offset.bs offset.split in
     let is : (is_line_end offset.b || is_inner_blank offset.b) ≡ true = ap (λ c. is_line_end c || is_inner_blank c) (sym first) ∙ h.1 in
-    blank_reached source to ts at offset.b offset.bs (is_inner_blank offset.b) (omega arith) offset.split refl is (subst (λ (i : ℕ). Never source i) h.0 none) (subst (λ (i : ℕ). IsReached source to ts i) h.0 rest)
+    blank_reached source to ts at offset.b offset.bs (is_inner_blank offset.b) (omega arith) offset.split refl is (subst (λ (i : ℕ). Never source i) h.0 none) (subst (λ
+    (i : ℕ). IsReached source to ts i) h.0 rest)
 trivia_reached source to ts at end less within (inr (inl h)) none rest =
     let offset = at_offset source at (omega arith) in
     let r = range_parts source at end less within in
@@ -270,7 +278,8 @@ trivia_reached source to ts at end less within (inr (inr (inl h))) none rest =
     let r = range_parts source at end less within in
     let n = r.0 in
     let fits : at + n ≤ length source = omega (arith, r.1) in
-    let comment : IsLineComment (take n (drop at source)) (drop n (drop at source)) = subst (λ (u : List ℕ). IsLineComment u (drop n (drop at source))) r.4 (subst (λ (u : List ℕ). IsLineComment (slice_range source at end) u) (sym r.5) h) in
+    let comment : IsLineComment (take n (drop at source)) (drop n (drop at source)) =
+    subst (λ (u : List ℕ). IsLineComment u (drop n (drop at source))) r.4 (subst (λ (u : List ℕ). IsLineComment (slice_range source at end) u) (sym r.5) h) in
     let inside : IsInside source (at + n) = no_line_after source at n r.2 fits (comment_on_line (take n (drop at source)) (drop n (drop at source)) comment) in
     let next : Gets source to ts (at + n) = subst (λ (i : ℕ). Gets source to ts i) (sym r.1) (rest.inside (subst (λ (i : ℕ). IsInside source i) r.1 inside)) in
     let gets = trivia_gets source to ts at n (omega arith) r.2 (line_trivia at n (drop at source) r.3 comment) next in
@@ -278,8 +287,10 @@ trivia_reached source to ts at end less within (inr (inr (inl h))) none rest =
 trivia_reached source to ts at end less within (inr (inr (inr h))) none rest =
     let r = range_parts source at end less within in
     let n = r.0 in
-    let line : IsIncludeLine (take n (drop at source)) (drop n (drop at source)) = subst (λ (u : List ℕ). IsIncludeLine u (drop n (drop at source))) r.4 (subst (λ (u : List ℕ). IsIncludeLine (slice_range source at end) u) (sym r.5) h.1) in
-    let found : past_include (drop at source) ≡ Some (drop n (drop at source)) = ap past_include (sym (take-append-drop n (drop at source))) ∙ include_found (take n (drop at source)) (drop n (drop at source)) line in
+    let line : IsIncludeLine (take n (drop at source)) (drop n (drop at source)) =
+    subst (λ (u : List ℕ). IsIncludeLine u (drop n (drop at source))) r.4 (subst (λ (u : List ℕ). IsIncludeLine (slice_range source at end) u) (sym r.5) h.1) in
+    let found : past_include (drop at source) ≡ Some (drop n (drop at source)) = ap past_include (sym (take-append-drop n (drop at source)))
+    ∙ include_found (take n (drop at source)) (drop n (drop at source)) line in
     let size : length (drop at source) - length (drop n (drop at source)) ≡ n = omega (arith, length-drop n (drop at source), r.3) in
     let len : include_len (drop at source) ≡ n = ap (λ o. option_map_or (λ rest. length (drop at source) - length rest) o 0) found ∙ size in
     let inside : IsInside source (at + n) = no_line_after source at n r.2 (omega (arith, r.1)) (include_on_line (take n (drop at source)) (drop n (drop at source)) line) in
@@ -296,7 +307,8 @@ end_reached source to uncovered = reached_by source to [] to (λ starts. no_incl
 
 reached : (source : List ℕ) (to at : ℕ) (ts : List Token) → to ≤ length source → IsUncovered source to → Reads source to at ts → IsReached source to ts at
 reached source to at _ within uncovered (done _ e) = subst (λ (i : ℕ). IsReached source to [] i) (sym e) (end_reached source to uncovered)
-reached source to at ts within uncovered (trivia _ end _ less fits g r) = trivia_reached source to ts at end less fits g (never source to end ts uncovered r) (reached source to end ts within uncovered r)
+reached source to at ts within uncovered (trivia _ end _ less fits g r) =
+    trivia_reached source to ts at end less fits g (never source to end ts uncovered r) (reached source to end ts within uncovered r)
 reached source to _ _ within uncovered (token t ts stands r) =
     let h = split_token source t stands in
     let n : ℕ = suc h.m in
@@ -308,7 +320,8 @@ reached source to _ _ within uncovered (token t ts stands r) =
     first_reached source to (t ∷ ts) t.at (token_none source t h) (token_gets source to t ts h next)
 
 -- what the definition gives of a source that is read up to an offset
-lexed_up_to : (source : List ℕ) (to : ℕ) (ts : List Token) → length source ≤ most_source_bytes → length ts ≤ most_tokens → to ≤ length source → IsUncovered source to → Reads source to 0 ts → lexed source ≡ tokens_then ts (tokens_from (length ts) to 0 (drop to source))
+lexed_up_to : (source : List ℕ) (to : ℕ) (ts : List Token) → length source ≤ most_source_bytes → length ts ≤ most_tokens → to ≤ length source → IsUncovered source to → Reads source to 0 ts →
+    lexed source ≡ tokens_then ts (tokens_from (length ts) to 0 (drop to source))
 unfolding lexed
 lexed_up_to source to ts short few within uncovered reads =
     let i = include_len source in

@@ -59,7 +59,8 @@ included_outside source base at at_is h le =
           let end_is : h.start + m ≡ h.end = omega (arith, h.from, h.to) in
           let following = drop h.end source in
           let whole : slice_range source h.start h.end ++ following ≡ text =
-              ap (λ (t : List ℕ). take m (drop h.start source) ++ t) (sym (drop-drop m h.start source ∙ ap (λ j. drop j source) end_is)) ∙ take-append-drop m (drop h.start source) ∙ ap (λ j. drop j source) at_base in
+          ap (λ (t : List ℕ). take m (drop h.start source) ++ t) (sym (drop-drop m h.start source ∙ ap (λ j. drop j source) end_is)) ∙ take-append-drop m (drop h.start source)
+          ∙ ap (λ j. drop j source) at_base in
           let found : past_include text ≡ Some following = ap past_include (sym whole) ∙ include_found (slice_range source h.start h.end) following h.include in
           let size : n ≡ length text - length following = ap (λ o. option_map_or (λ (r : List ℕ). length text - length r) o 0) found in
           omega (arith, h.to, h.within, length-drop base source, length-drop h.end source)
@@ -72,7 +73,8 @@ no_star bytes following h =
     let blank : (c : ℕ) → is_inner_blank c ≡ true → p c ≡ true = λ c. other_than is_inner_blank 42 c refl in
     let tail = include_all p bytes following h (blank, refl, refl, refl) in
     ap (list_all p) h.spelled
-    ∙ all_append p h.before (codes "#" ++ after_its_hash bytes following h) (all_implies is_inner_blank p h.before blank h.blanks.0) (all_append p (codes "#") (after_its_hash bytes following h) refl tail)
+    ∙ all_append p h.before (codes "#" ++ after_its_hash bytes following h) (all_implies is_inner_blank p h.before blank h.blanks.0) (all_append p (codes "#")
+    (after_its_hash bytes following h) refl tail)
 
 -- a byte of an include line is no star
 star_outside : (source : List ℕ) (at : ℕ) → slice_index source at ≡ 42 → IsOutside source at
@@ -84,7 +86,7 @@ star_outside source at star h =
     let less : i < n = omega (arith, h.from, h.to) in
     let size : length bytes ≡ n = length-take-le n (drop h.start source) (omega (arith, h.within, h.from, h.to, length-drop h.start source)) in
     let byte : slice_index bytes i ≡ 42 =
-        get_or-take n (drop h.start source) i 0 less ∙ get_or-drop h.start source i 0 ∙ ap (slice_index source) here ∙ star in
+    get_or-take n (drop h.start source) i 0 less ∙ get_or-drop h.start source i 0 ∙ ap (slice_index source) here ∙ star in
     let other = all_at (λ c. not (c == 42)) bytes i (omega arith) (no_star bytes (drop h.end source) h.include) in
     let f = ap (λ c. not (c == 42)) (sym byte) ∙ other in
     absurd cc
@@ -126,7 +128,8 @@ pub none_uncovered : (source : List ℕ) (at : ℕ) → past_include (drop at so
 none_uncovered source at none start before line blanks rest is = none_some rest (past_include (drop at source)) none is
 
 -- blanks in front of an include line are part of it
-blanks_included : (n : ℕ) (source : List ℕ) (start : ℕ) → start + n ≤ length source → AreBlankBetween source start (start + n) → past_include (drop start source) ≡ past_include (drop (start + n) source)
+blanks_included : (n : ℕ) (source : List ℕ) (start : ℕ) → start + n ≤ length source → AreBlankBetween source start (start + n) →
+    past_include (drop start source) ≡ past_include (drop (start + n) source)
 blanks_included zero source start within blanks = let same : start ≡ start + 0 = omega arith in ap (λ i. past_include (drop i source)) same
 blanks_included (suc n) source start within blanks =
     let here = at_offset source start (omega arith) in
@@ -147,7 +150,7 @@ uncovered_from source at less none start before line blanks rest is =
     let n : ℕ = at - start in
     let there : start + n ≡ at = omega arith in
     let from : past_include (drop start source) ≡ Some rest =
-        blanks_included n source start (omega arith) (λ k low high. blanks k low (omega arith)) ∙ ap (λ i. past_include (drop i source)) there ∙ is in
+    blanks_included n source start (omega arith) (λ k low high. blanks k low (omega arith)) ∙ ap (λ i. past_include (drop i source)) there ∙ is in
     let h = include_line_is (drop start source) rest from in
     let m = length h.0 in
     let shorter = include_shorter (drop at source) rest is in

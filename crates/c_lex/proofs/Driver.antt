@@ -35,7 +35,8 @@ step_trivia count at (suc m) b bs h =
     let same : at + 1 + m ≡ at + suc m = omega arith in
     ap (λ k. tokens_from count (at + 1) k bs) less ∙ skipped count (at + 1) m bs ∙ ap (λ a. tokens_from count a 0 (drop m bs)) same
 
-pub step : (count at : ℕ) (text : List ℕ) (i : Lexeme) → counted count at (lexeme_at at text) ≡ Ok i → 0 < lexeme_len i → 0 < length text → tokens_from count at 0 text ≡ lexeme_then count at (λ c n. tokens_from c (at + n) 0 (drop n text)) i
+pub step : (count at : ℕ) (text : List ℕ) (i : Lexeme) → counted count at (lexeme_at at text) ≡ Ok i → 0 < lexeme_len i → 0 < length text →
+    tokens_from count at 0 text ≡ lexeme_then count at (λ c n. tokens_from c (at + n) 0 (drop n text)) i
 step count at [] i e pos some = absurd (omega arith)
 step count at (b ∷ bs) (lexeme.Trivia n) e pos some =
     ap (λ r. r >>= lexeme_then count at (λ c m. tokens_from c (at + 1) (m - 1) bs)) e ∙ step_trivia count at n b bs pos
@@ -119,25 +120,32 @@ next_within count at text r some h = gives_within text r (counted count at (lexe
 
 -- ---- the loop
 
-pub goes_on_trivia : (ts : List Token) (count at n : ℕ) (text rest : List ℕ) (all : Result (List Token) LexFault) → rest ≡ drop at text → counted count at (lexeme_at at rest) ≡ Ok (lexeme.Trivia n) → 0 < n → 0 < length rest → tokens_then ts (tokens_from count at 0 (drop at text)) ≡ all → tokens_then ts (tokens_from count (at + n) 0 (drop (at + n) text)) ≡ all
+pub goes_on_trivia : (ts : List Token) (count at n : ℕ) (text rest : List ℕ) (all : Result (List Token) LexFault) → rest ≡ drop at text →
+    counted count at (lexeme_at at rest) ≡ Ok (lexeme.Trivia n) → 0 < n → 0 < length rest → tokens_then ts (tokens_from count at 0 (drop at text)) ≡ all →
+    tokens_then ts (tokens_from count (at + n) 0 (drop (at + n) text)) ≡ all
 goes_on_trivia ts count at n text rest all is e pos some inv =
     let more : drop n rest ≡ drop (at + n) text = ap (drop n) is ∙ drop-drop n at text in
     let here = step count at rest (lexeme.Trivia n) e pos some in
     ap (λ r. tokens_then ts (tokens_from count (at + n) 0 r)) (sym more) ∙ ap (tokens_then ts) (sym here) ∙ ap (λ r. tokens_then ts (tokens_from count at 0 r)) is ∙ inv
 
-pub goes_on_token : (ts us : List Token) (count at n : ℕ) (k : TokenKind) (text rest : List ℕ) (all : Result (List Token) LexFault) → us ≡ ts ++ record { kind = k; at = at; end = at + n } ∷ [] → rest ≡ drop at text → counted count at (lexeme_at at rest) ≡ Ok (lexeme.Token k n) → 0 < n → 0 < length rest → tokens_then ts (tokens_from count at 0 (drop at text)) ≡ all → tokens_then us (tokens_from (count + 1) (at + n) 0 (drop (at + n) text)) ≡ all
+pub goes_on_token : (ts us : List Token) (count at n : ℕ) (k : TokenKind) (text rest : List ℕ) (all : Result (List Token) LexFault) → us ≡ ts ++ record { kind = k; at = at; end = at + n } ∷ [] →
+    rest ≡ drop at text → counted count at (lexeme_at at rest) ≡ Ok (lexeme.Token k n) → 0 < n → 0 < length rest → tokens_then ts (tokens_from count at 0 (drop at text)) ≡ all →
+    tokens_then us (tokens_from (count + 1) (at + n) 0 (drop (at + n) text)) ≡ all
 goes_on_token ts us count at n k text rest all made is e pos some inv =
     let t : Token = record { kind = k; at = at; end = at + n } in
     let more : drop n rest ≡ drop (at + n) text = ap (drop n) is ∙ drop-drop n at text in
     let here = step count at rest (lexeme.Token k n) e pos some in
-    ap (λ xs. tokens_then xs (tokens_from (count + 1) (at + n) 0 (drop (at + n) text))) made ∙ sym (regroup ts t (tokens_from (count + 1) (at + n) 0 (drop (at + n) text))) ∙ ap (λ r. tokens_then ts (tokens_then (t ∷ []) (tokens_from (count + 1) (at + n) 0 r))) (sym more) ∙ ap (tokens_then ts) (sym here) ∙ ap (λ r. tokens_then ts (tokens_from count at 0 r)) is ∙ inv
+    ap (λ xs. tokens_then xs (tokens_from (count + 1) (at + n) 0 (drop (at + n) text))) made ∙ sym (regroup ts t (tokens_from (count + 1) (at + n) 0 (drop (at + n) text)))
+    ∙ ap (λ r. tokens_then ts (tokens_then (t ∷ []) (tokens_from (count + 1) (at + n) 0 r))) (sym more) ∙ ap (tokens_then ts) (sym here)
+    ∙ ap (λ r. tokens_then ts (tokens_from count at 0 r)) is ∙ inv
 
 pub ends : (ts : List Token) (count at : ℕ) (text : List ℕ) (all : Result (List Token) LexFault) → length text ≤ at → tokens_then ts (tokens_from count at 0 (drop at text)) ≡ all → all ≡ Ok ts
 ends ts count at text all h inv =
     let rest : drop at text ≡ [] = drop_all at text h in
     sym inv ∙ ap (λ r. tokens_then ts (tokens_from count at 0 r)) rest ∙ ap Ok (append-nil ts)
 
-refuses : (ts : List Token) (d : Result Lexeme LexFault) (from all : Result (List Token) LexFault) (e : LexFault) → Gives {X = Lexeme} (λ i. i) (Err e) d → ((f : LexFault) → d ≡ Err f → from ≡ Err f) → tokens_then ts from ≡ all → Fails e all
+refuses : (ts : List Token) (d : Result Lexeme LexFault) (from all : Result (List Token) LexFault) (e : LexFault) → Gives {X = Lexeme} (λ i. i) (Err e) d → ((f : LexFault) → d ≡ Err f →
+    from ≡ Err f) → tokens_then ts from ≡ all → Fails e all
 refuses ts d from all fault.NoMemory g stop inv = tt
 refuses ts d from all (fault.BadByte p) g stop inv = sym inv ∙ ap (tokens_then ts) (stop (fault.BadByte p) g)
 refuses ts d from all (fault.OpenComment p) g stop inv = sym inv ∙ ap (tokens_then ts) (stop (fault.OpenComment p) g)
@@ -150,7 +158,8 @@ refuses ts d from all (fault.ManyTokens p) g stop inv = sym inv ∙ ap (tokens_t
 refuses ts d from all (fault.BadNumber p) g stop inv = sym inv ∙ ap (tokens_then ts) (stop (fault.BadNumber p) g)
 refuses ts d from all (fault.LongSource p) g stop inv = sym inv ∙ ap (tokens_then ts) (stop (fault.LongSource p) g)
 
-pub fails : (ts : List Token) (count at : ℕ) (text rest : List ℕ) (all : Result (List Token) LexFault) (e : LexFault) → rest ≡ drop at text → Gives {X = Lexeme} (λ i. i) (Err e) (counted count at (lexeme_at at rest)) → 0 < length rest → tokens_then ts (tokens_from count at 0 (drop at text)) ≡ all → Fails e all
+pub fails : (ts : List Token) (count at : ℕ) (text rest : List ℕ) (all : Result (List Token) LexFault) (e : LexFault) → rest ≡ drop at text →
+    Gives {X = Lexeme} (λ i. i) (Err e) (counted count at (lexeme_at at rest)) → 0 < length rest → tokens_then ts (tokens_from count at 0 (drop at text)) ≡ all → Fails e all
 fails ts count at text rest all e is g some inv =
     refuses ts (counted count at (lexeme_at at rest)) (tokens_from count at 0 rest) all e g (λ f h. stops count at rest f h some) (ap (λ r. tokens_then ts (tokens_from count at 0 r)) is ∙ inv)
 
@@ -158,12 +167,14 @@ pub tokens_then_none : (o : Result (List Token) LexFault) → tokens_then [] o �
 tokens_then_none (Ok more) = refl
 tokens_then_none (Err f) = refl
 
-pub begins : (source : List ℕ) (ts : List Token) (n : ℕ) → length source ≤ most_source_bytes → ts ≡ [] → n ≡ include_len source → tokens_then ts (tokens_from (length ts) n 0 (drop n source)) ≡ lexed source
+pub begins : (source : List ℕ) (ts : List Token) (n : ℕ) → length source ≤ most_source_bytes → ts ≡ [] → n ≡ include_len source →
+    tokens_then ts (tokens_from (length ts) n 0 (drop n source)) ≡ lexed source
 unfolding lexed
 begins source ts n short none is =
     let fits : ltb most_source_bytes (length source) ≡ false = le-ltb most_source_bytes (length source) short in
     let at = zero-add (include_len source) in
-    rw (none, is, fits) (tokens_then_none (tokens_from 0 (include_len source) 0 (drop (include_len source) source)) ∙ ap (λ a. tokens_from 0 a 0 (drop (include_len source) source)) (sym at) ∙ sym (skipped 0 0 (include_len source) source))
+    rw (none, is, fits) (tokens_then_none (tokens_from 0 (include_len source) 0 (drop (include_len source) source)) ∙ ap (λ a. tokens_from 0 a 0 (drop (include_len source) source)) (sym at)
+    ∙ sym (skipped 0 0 (include_len source) source))
 
 pub too_long : (source : List ℕ) → most_source_bytes < length source → lexed source ≡ Err (fault.LongSource most_source_bytes)
 unfolding lexed

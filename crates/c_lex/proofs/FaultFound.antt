@@ -79,7 +79,8 @@ open_comment : (at : ℕ) (rest : List ℕ) → comment_end 0 rest ≡ None → 
 unfolding lexeme_of start_of slash_at comment_at
 open_comment at rest none = ap (λ o. ok_or o (fault.OpenComment at) >>= λ m. Ok (lexeme.Trivia (m + 2))) none
 
-comment_finds : (at : ℕ) (text : List ℕ) → starts_with nat_eq text (codes "/*") ≡ true → ((n : ℕ) → starts_with nat_eq (drop n (drop 2 text)) (codes "*/") ≡ false) → Finds text at (fault.OpenComment at)
+comment_finds : (at : ℕ) (text : List ℕ) → starts_with nat_eq text (codes "/*") ≡ true → ((n : ℕ) → starts_with nat_eq (drop n (drop 2 text)) (codes "*/") ≡ false) →
+    Finds text at (fault.OpenComment at)
 comment_finds at text starts never =
     let long = starts_long text (codes "/*") starts in
     (omega arith, ap (lexeme_at at) (begins text (codes "/*") starts) ∙ open_comment at (drop 2 text) (comment_none 0 (drop 2 text) never))
@@ -129,7 +130,7 @@ enclosed_found quote b bs inner q10 q92 h =
     let there = closed_found quote 0 k (take (suc k) bs) (drop (suc k) bs) q10 q92 size closed.1 in
     let zero_k : 0 + k ≡ k = omega arith in
     let whole : bs ≡ inner ++ (quote ∷ [] ++ drop (suc k) bs) =
-        sym (take-append-drop (suc k) bs) ∙ ap (λ (t : List ℕ). t ++ drop (suc k) bs) tail ∙ append_assoc inner (quote ∷ []) (drop (suc k) bs) in
+    sym (take-append-drop (suc k) bs) ∙ ap (λ (t : List ℕ). t ++ drop (suc k) bs) tail ∙ append_assoc inner (quote ∷ []) (drop (suc k) bs) in
     record {
       first = head_is b quote (take (suc k) bs) (inner ++ quote ∷ []) spelled;
       closes_at = ap (closing_from quote false 0) (sym (take-append-drop (suc k) bs)) ∙ there ∙ ap Some zero_k;
@@ -158,7 +159,8 @@ string_bad at b bs inner h bad =
     ∙ ap (λ (t : List ℕ). ok_or (characters 0 t) (fault.BadText at) >>= λ d. Ok (lexeme.Token (kind.Text d) (length inner + 2))) h.front
     ∙ ap (λ o. ok_or o (fault.BadText at) >>= λ d. Ok (lexeme.Token (kind.Text d) (length inner + 2))) bad
 
-bad_finds : (at : ℕ) (text inner : List ℕ) → (IsEnclosed 39 text inner × ((c : ℕ) → characters 0 inner ≡ Some (c ∷ []) → ⊥)) ⊎ (IsEnclosed 34 text inner × (characters 0 inner ≡ None)) → Finds text at (fault.BadText at)
+bad_finds : (at : ℕ) (text inner : List ℕ) → (IsEnclosed 39 text inner × ((c : ℕ) → characters 0 inner ≡ Some (c ∷ []) → ⊥)) ⊎ (IsEnclosed 34 text inner × (characters 0 inner ≡ None)) →
+    Finds text at (fault.BadText at)
 bad_finds at [] inner (inl h) = absurd (omega (arith, h.0.0))
 bad_finds at [] inner (inr h) = absurd (omega (arith, h.0.0))
 bad_finds at (b ∷ bs) inner (inl h) = (omega arith, char_bad at b bs inner (enclosed_found 39 b bs inner (λ q. omega arith) (λ q. omega arith) h.0) h.1)
@@ -171,7 +173,8 @@ unfolding lexeme_of number_at
 number_found at b n bs f h is =
     let text : List ℕ = b ∷ bs in
     let run : prefix_len is_number_byte text ≡ suc n =
-        run_is is_number_byte text (suc n) h.within (number_all b (take n bs) h.number) (λ less. h.longest (prefix_len is_number_byte text) less (prefix_len-le-length is_number_byte text) (inr (inl (number_is b bs h.number.0)))) in
+    run_is is_number_byte text (suc n) h.within (number_all b (take n bs) h.number) (λ less. h.longest (prefix_len is_number_byte text) less (prefix_len-le-length is_number_byte text) (inr (inl
+    (number_is b bs h.number.0)))) in
     ap (λ s. lexeme_of s at text) (digit_starts b h.number.0)
     ∙ ap (λ m. constant_at at (take m text) >>= λ k. Ok (lexeme.Token k m)) run
     ∙ ap (λ r. r >>= λ k. Ok (lexeme.Token k (suc n))) is
@@ -187,7 +190,8 @@ unfolding lexeme_of identifier_at
 name_found at b n bs long h =
     let text : List ℕ = b ∷ bs in
     let run : prefix_len is_name_byte text ≡ suc n =
-        run_is is_name_byte text (suc n) h.within (identifier_all b (take n bs) h.identifier) (λ less. h.longest (prefix_len is_name_byte text) less (prefix_len-le-length is_name_byte text) (inl (identifier_is b bs h.identifier.0))) in
+    run_is is_name_byte text (suc n) h.within (identifier_all b (take n bs) h.identifier) (λ less. h.longest (prefix_len is_name_byte text) less (prefix_len-le-length is_name_byte text) (inl
+    (identifier_is b bs h.identifier.0))) in
     ap (λ s. lexeme_of s at text) (letter_starts b h.identifier.0)
     ∙ ap (λ m. cond (ltb most_name_bytes m) (Err (fault.LongName at)) (Ok (lexeme.Token (identifier_kind_of (take m text) (keyword_of (take m text))) m))) run
     ∙ ap (λ t. cond t (Err (fault.LongName at)) (Ok (lexeme.Token (identifier_kind_of (take (suc n) text) (keyword_of (take (suc n) text))) (suc n)))) (lt-ltb most_name_bytes (suc n) long)
@@ -226,7 +230,8 @@ many_numbers count at text many h =
     (found.0, ap (counted count at) found.1 ∙ ap (λ t. cond t (refused (fault.BadNumber at)) (Err (fault.ManyTokens at))) (le-ltb count most_tokens many))
 
 -- a fault that comes whatever the count is
-always : (text : List ℕ) (count at offset : ℕ) (make : ℕ → LexFault) → offset ≡ at → counted count at (refused (make at)) ≡ Err (make at) → Finds text at (make at) → FindsAfter text count at (make offset)
+always : (text : List ℕ) (count at offset : ℕ) (make : ℕ → LexFault) → offset ≡ at → counted count at (refused (make at)) ≡ Err (make at) → Finds text at (make at) →
+    FindsAfter text count at (make offset)
 always text count at offset make same passes found =
     (found.0, ap (counted count at) found.1 ∙ passes ∙ ap (λ i. refused (make i)) (sym same))
 
@@ -239,7 +244,8 @@ fault_found text count at (fault.TooWide offset) h = always text count at offset
 fault_found text count at (fault.LongName offset) h = always text count at offset fault.LongName h.0 refl (name_finds at h.1.0 text h.1.1 h.1.2)
 fault_found text count at (fault.Directive offset) h = always text count at offset fault.Directive h.0 refl (hash_finds at text h.1)
 fault_found text count at (fault.BadNumber offset) h =
-    always text count at offset fault.BadNumber h.0 (ap (λ t. cond t (refused (fault.BadNumber at)) (Err (fault.ManyTokens at))) (lt-ltb count most_tokens h.1)) (number_finds at text (fault.BadNumber at) h.2)
+    always text count at offset fault.BadNumber h.0 (ap (λ t. cond t (refused (fault.BadNumber at)) (Err (fault.ManyTokens at))) (lt-ltb count most_tokens h.1)) (number_finds at text
+    (fault.BadNumber at) h.2)
 fault_found text count at (fault.ManyTokens offset) h =
     subst (λ (i : ℕ). FindsAfter text count at (fault.ManyTokens i)) (sym h.0) (by_cause h.2)
   where

@@ -122,12 +122,17 @@ identifier_fault at b bs f letter e =
     let n = prefix_len is_name_byte text in
     elim (chosen (ltb most_name_bytes n) (Err (fault.LongName at)) (Ok (lexeme.Token (identifier_kind_of (take n text) (keyword_of (take n text))) n)) (Err f) e) [
       | inl (long, g) ↦
-          let is : IsLongestIdentifier text n = record { within = prefix_len-le-length is_name_byte text; identifier = identifier_is b bs letter; longest = λ m. identifier_longest_by b bs m letter } in
+          let is : IsLongestIdentifier text n = record {
+            within = prefix_len-le-length is_name_byte text;
+            identifier = identifier_is b bs letter;
+            longest =
+                λ m. identifier_longest_by b bs m letter;
+          } in
           subst (λ (h : LexFault). IsFault text 0 at h) (err_same Lexeme (fault.LongName at) f g) (refl, (n, ltb-true most_name_bytes n long, is))
       | inr (_, g) ↦ absurd cc
     ]
 
--- ---- quoted texts
+-- ---- between quotes
 
 open_by : (quote b : ℕ) (bs : List ℕ) (n : ℕ) → (quote ≡ 10 → ⊥) → (quote ≡ 92 → ⊥) → closing_from quote false 0 bs ≡ None → n ≤ length (b ∷ bs) → IsQuoted quote (take n (b ∷ bs)) → ⊥
 open_by quote b bs zero q10 q92 is within h = h
@@ -153,11 +158,13 @@ char_fault : (at b : ℕ) (bs : List ℕ) (f : LexFault) → b ≡ 39 → char_a
 unfolding char_at
 char_fault at b bs f quote e =
     let text = b ∷ bs in
-    elim (bind_err (ok_or (closing_from 39 false 0 bs) (fault.OpenText at)) (λ m. ok_or (option_and_then only (characters 0 (take m bs))) (fault.BadText at) >>= λ c. Ok (lexeme.Token (kind.Char c) (m + 2))) f e) [
+    elim (bind_err (ok_or (closing_from 39 false 0 bs) (fault.OpenText at)) (λ m. ok_or (option_and_then only (characters 0 (take m bs))) (fault.BadText at) >>= λ c. Ok (lexeme.Token
+    (kind.Char c) (m + 2))) f e) [
       | inl h ↦
           let opened = ok_or_err (closing_from 39 false 0 bs) (fault.OpenText at) f h in
           subst (λ (g : LexFault). IsFault text 0 at g) opened.1 (refl, inl (quote, λ n. open_by 39 b bs n (λ q. omega arith) (λ q. omega arith) opened.0))
-      | inr h ↦ bad_char h.0 (ok_or_ok (closing_from 39 false 0 bs) (fault.OpenText at) h.0 h.1) (bind_err (ok_or (option_and_then only (characters 0 (take h.0 bs))) (fault.BadText at)) (λ c. Ok (lexeme.Token (kind.Char c) (h.0 + 2))) f h.2)
+      | inr h ↦ bad_char h.0 (ok_or_ok (closing_from 39 false 0 bs) (fault.OpenText at) h.0 h.1) (bind_err (ok_or (option_and_then only (characters 0 (take h.0 bs))) (fault.BadText at)) (λ c. Ok
+          (lexeme.Token (kind.Char c) (h.0 + 2))) f h.2)
     ]
   where
     not_one : (o : Option (List ℕ)) (c : ℕ) → option_and_then only o ≡ None → o ≡ Some (c ∷ []) → ⊥
@@ -166,7 +173,9 @@ char_fault at b bs f quote e =
     no_fault : (c n : ℕ) → Ok (lexeme.Token (kind.Char c) n) ≡ refused f → ⊥
     no_fault c n h = cc
 
-    bad_char : (m : ℕ) → closing_from 39 false 0 bs ≡ Some m → (ok_or (option_and_then only (characters 0 (take m bs))) (fault.BadText at) ≡ Err f) ⊎ ((c : ℕ) × (ok_or (option_and_then only (characters 0 (take m bs))) (fault.BadText at) ≡ Ok c) × (Ok (lexeme.Token (kind.Char c) (m + 2)) ≡ refused f)) → IsFault (b ∷ bs) 0 at f
+    bad_char : (m : ℕ) → closing_from 39 false 0 bs ≡ Some m →
+        (ok_or (option_and_then only (characters 0 (take m bs))) (fault.BadText at) ≡ Err f) ⊎ ((c : ℕ) × (ok_or (option_and_then only (characters 0 (take m bs))) (fault.BadText at) ≡ Ok c)
+        × (Ok (lexeme.Token (kind.Char c) (m + 2)) ≡ refused f)) → IsFault (b ∷ bs) 0 at f
     bad_char m is (inl h) =
         let bad = ok_or_err (option_and_then only (characters 0 (take m bs))) (fault.BadText at) f h in
         subst (λ (g : LexFault). IsFault (b ∷ bs) 0 at g) bad.1 (refl, (take m bs, inl (enclosed_is 39 b m bs quote is, λ c. not_one (characters 0 (take m bs)) c bad.0)))
@@ -180,13 +189,16 @@ string_fault at b bs f quote e =
       | inl h ↦
           let opened = ok_or_err (closing_from 34 false 0 bs) (fault.OpenText at) f h in
           subst (λ (g : LexFault). IsFault text 0 at g) opened.1 (refl, inr (quote, λ n. open_by 34 b bs n (λ q. omega arith) (λ q. omega arith) opened.0))
-      | inr h ↦ bad_string h.0 (ok_or_ok (closing_from 34 false 0 bs) (fault.OpenText at) h.0 h.1) (bind_err (ok_or (characters 0 (take h.0 bs)) (fault.BadText at)) (λ c. Ok (lexeme.Token (kind.Text c) (h.0 + 2))) f h.2)
+      | inr h ↦ bad_string h.0 (ok_or_ok (closing_from 34 false 0 bs) (fault.OpenText at) h.0 h.1) (bind_err (ok_or (characters 0 (take h.0 bs)) (fault.BadText at)) (λ c. Ok (lexeme.Token
+          (kind.Text c) (h.0 + 2))) f h.2)
     ]
   where
     no_fault : (c : List ℕ) (n : ℕ) → Ok (lexeme.Token (kind.Text c) n) ≡ refused f → ⊥
     no_fault c n h = cc
 
-    bad_string : (m : ℕ) → closing_from 34 false 0 bs ≡ Some m → (ok_or (characters 0 (take m bs)) (fault.BadText at) ≡ Err f) ⊎ ((c : List ℕ) × (ok_or (characters 0 (take m bs)) (fault.BadText at) ≡ Ok c) × (Ok (lexeme.Token (kind.Text c) (m + 2)) ≡ refused f)) → IsFault (b ∷ bs) 0 at f
+    bad_string : (m : ℕ) → closing_from 34 false 0 bs ≡ Some m →
+        (ok_or (characters 0 (take m bs)) (fault.BadText at) ≡ Err f) ⊎ ((c : List ℕ) × (ok_or (characters 0 (take m bs)) (fault.BadText at) ≡ Ok c)
+        × (Ok (lexeme.Token (kind.Text c) (m + 2)) ≡ refused f)) → IsFault (b ∷ bs) 0 at f
     bad_string m is (inl h) =
         let bad = ok_or_err (characters 0 (take m bs)) (fault.BadText at) f h in
         subst (λ (g : LexFault). IsFault (b ∷ bs) 0 at g) bad.1 (refl, (take m bs, inr (enclosed_is 34 b m bs quote is, bad.0)))
@@ -274,7 +286,8 @@ slash_by false false false false false false true _ e = absurd cc
 slash_by false false false false false false false true e = refl
 slash_by false false false false false false false false e = absurd cc
 
-other_by : (line blank letter digit quote double hash slash : Bool) → start_by line blank letter digit quote double hash slash ≡ start.Other → (line ≡ false) × (blank ≡ false) × (letter ≡ false) × (digit ≡ false) × (quote ≡ false) × (double ≡ false) × (hash ≡ false)
+other_by : (line blank letter digit quote double hash slash : Bool) → start_by line blank letter digit quote double hash slash ≡ start.Other →
+    (line ≡ false) × (blank ≡ false) × (letter ≡ false) × (digit ≡ false) × (quote ≡ false) × (double ≡ false) × (hash ≡ false)
 unfolding start_by
 other_by true _ _ _ _ _ _ _ e = absurd cc
 other_by false true _ _ _ _ _ _ e = absurd cc
@@ -330,7 +343,8 @@ slash_fault : (at b : ℕ) (bs : List ℕ) (f : LexFault) → b ≡ 47 → slash
 unfolding slash_at comment_at
 slash_fault at b bs f slash e =
     let text = b ∷ bs in
-    elim (chosen (starts_with nat_eq text (codes "/*")) (comment_at at (drop 2 text)) (cond (starts_with nat_eq text (codes "//")) (Ok (line_comment (drop 2 text))) (punct_lexeme at (punct_at text))) (Err f) e) [
+    elim (chosen (starts_with nat_eq text (codes "/*")) (comment_at at (drop 2 text)) (cond (starts_with nat_eq text (codes "//")) (Ok (line_comment (drop 2 text))) (punct_lexeme at
+    (punct_at text))) (Err f) e) [
       | inl (starts, g) ↦ elim (bind_err (ok_or (comment_end 0 (drop 2 text)) (fault.OpenComment at)) (λ m. Ok (lexeme.Trivia (m + 2))) f g) [
         | inl h ↦
             let opened = ok_or_err (comment_end 0 (drop 2 text)) (fault.OpenComment at) f h in
@@ -364,12 +378,22 @@ lexeme_fault at (b ∷ bs) f some e = lexeme_fault_of (start_of b) at b bs f ref
 
 -- ---- with the count
 
-counted_by : (count at : ℕ) (text : List ℕ) (r : Result Lexeme LexFault) (f : LexFault) → ((g : LexFault) → r ≡ Err g → IsFault text 0 at g) → ((k : TokenKind) (n : ℕ) → r ≡ Ok (lexeme.Token k n) → (n ≤ length text) × IsLongest text n k) → counted count at r ≡ Err f → IsFault text count at f
+counted_by : (count at : ℕ) (text : List ℕ) (r : Result Lexeme LexFault) (f : LexFault) → ((g : LexFault) → r ≡ Err g → IsFault text 0 at g) → ((k : TokenKind) (n : ℕ) →
+    r ≡ Ok (lexeme.Token k n) → (n ≤ length text) × IsLongest text n k) → counted count at r ≡ Err f → IsFault text count at f
 counted_by count at text (Ok (lexeme.Trivia n)) f faulty longest e = absurd cc
 counted_by count at text (Ok (lexeme.Token k n)) f faulty longest e =
     elim (chosen (ltb count most_tokens) (Ok (lexeme.Token k n)) (Err (fault.ManyTokens at)) (Err f) e) [
       | inl (_, g) ↦ absurd cc
-      | inr (many, g) ↦ subst (λ (h : LexFault). IsFault text count at h) (err_same Lexeme (fault.ManyTokens at) f g) (refl, ltb-false count most_tokens many, inl (n, k, (longest k n refl).0, (longest k n refl).1))
+      | inr (many, g) ↦ subst (λ (h : LexFault). IsFault text count at h) (err_same Lexeme (fault.ManyTokens at) f g) (
+        refl,
+        ltb-false count most_tokens many,
+        inl (
+          n,
+          k,
+          (longest k n refl).0,
+          (longest k n refl).1,
+        ),
+      )
     ]
 counted_by count at text (Err (fault.BadNumber p)) f faulty longest e =
     let is = faulty (fault.BadNumber p) refl in
@@ -381,7 +405,8 @@ counted_by count at text (Err fault.NoMemory) f faulty longest e = absurd (fault
 counted_by count at text (Err (fault.LongSource p)) f faulty longest e = absurd (faulty (fault.LongSource p) refl)
 counted_by count at text (Err (fault.ManyTokens p)) f faulty longest e = let is = faulty (fault.ManyTokens p) refl in absurd (omega (arith, is.1))
 counted_by count at text (Err (fault.BadByte p)) f faulty longest e = subst (λ (h : LexFault). IsFault text count at h) (err_same Lexeme (fault.BadByte p) f e) (faulty (fault.BadByte p) refl)
-counted_by count at text (Err (fault.OpenComment p)) f faulty longest e = subst (λ (h : LexFault). IsFault text count at h) (err_same Lexeme (fault.OpenComment p) f e) (faulty (fault.OpenComment p) refl)
+counted_by count at text (Err (fault.OpenComment p)) f faulty longest e =
+    subst (λ (h : LexFault). IsFault text count at h) (err_same Lexeme (fault.OpenComment p) f e) (faulty (fault.OpenComment p) refl)
 counted_by count at text (Err (fault.OpenText p)) f faulty longest e = subst (λ (h : LexFault). IsFault text count at h) (err_same Lexeme (fault.OpenText p) f e) (faulty (fault.OpenText p) refl)
 counted_by count at text (Err (fault.BadText p)) f faulty longest e = subst (λ (h : LexFault). IsFault text count at h) (err_same Lexeme (fault.BadText p) f e) (faulty (fault.BadText p) refl)
 counted_by count at text (Err (fault.TooWide p)) f faulty longest e = subst (λ (h : LexFault). IsFault text count at h) (err_same Lexeme (fault.TooWide p) f e) (faulty (fault.TooWide p) refl)
@@ -389,4 +414,5 @@ counted_by count at text (Err (fault.LongName p)) f faulty longest e = subst (λ
 counted_by count at text (Err (fault.Directive p)) f faulty longest e = subst (λ (h : LexFault). IsFault text count at h) (err_same Lexeme (fault.Directive p) f e) (faulty (fault.Directive p) refl)
 
 pub counted_fault : (count at : ℕ) (text : List ℕ) (f : LexFault) → 0 < length text → counted count at (lexeme_at at text) ≡ Err f → IsFault text count at f
-counted_fault count at text f some e = counted_by count at text (lexeme_at at text) f (λ g h. lexeme_fault at text g some h) (λ k n h. ((lexeme_fits at text (lexeme.Token k n) some h).1, lexeme_longest at text n k some h)) e
+counted_fault count at text f some e =
+    counted_by count at text (lexeme_at at text) f (λ g h. lexeme_fault at text g some h) (λ k n h. ((lexeme_fits at text (lexeme.Token k n) some h).1, lexeme_longest at text n k some h)) e

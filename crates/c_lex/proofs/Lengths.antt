@@ -89,7 +89,8 @@ digit_goes_on b e = or_left (is_name_byte b) (eqb b 46) (or_right (is_letter b) 
 
 unfoldable pub start_by : (line blank letter digit quote double hash slash : Bool) → Start
 start_by line blank letter digit quote double hash slash =
-    cond line start.LineEnd (cond blank start.Blank (cond letter start.Letter (cond digit start.Digit (cond quote start.Quote (cond double start.DoubleQuote (cond hash start.Hash (cond slash start.Slash start.Other)))))))
+    cond line start.LineEnd (cond blank start.Blank (cond letter start.Letter (cond digit start.Digit (cond quote start.Quote (cond double start.DoubleQuote (cond hash start.Hash
+    (cond slash start.Slash start.Other)))))))
 
 letter_by : (line blank letter digit quote double hash slash : Bool) → start_by line blank letter digit quote double hash slash ≡ start.Letter → letter ≡ true
 unfolding start_by
@@ -123,7 +124,7 @@ pub start_digit : (b : ℕ) → start_of b ≡ start.Digit → is_digit b ≡ tr
 unfolding start_of start_by
 start_digit b e = digit_by (is_line_end b) (is_inner_blank b) (is_letter b) (is_digit b) (eqb b 39) (eqb b 34) (eqb b 35) (eqb b 47) e
 
--- ---- items
+-- ---- lexemes
 
 -- a lexeme takes at least one byte, and no more than there are
 abbrev pub IsFitting : Lexeme → List ℕ → Type 0
@@ -159,7 +160,9 @@ number_fits at b bs i digit e =
 char_fits : (at b : ℕ) (bs : List ℕ) (i : Lexeme) → char_at at bs ≡ Ok i → IsFitting i (b ∷ bs)
 unfolding char_at
 char_fits at b bs i e =
-    let closed = bind_ok (ok_or (closing_from 39 false 0 bs) (fault.OpenText at)) (λ n. ok_or (option_and_then only (characters 0 (take n bs))) (fault.BadText at) >>= λ c. Ok (lexeme.Token (kind.Char c) (n + 2))) i e in
+    let closed =
+    bind_ok (ok_or (closing_from 39 false 0 bs) (fault.OpenText at)) (λ n. ok_or (option_and_then only (characters 0 (take n bs))) (fault.BadText at) >>= λ c. Ok (lexeme.Token (kind.Char c)
+    (n + 2))) i e in
     let n = closed.0 in
     let within = closing_within 39 false 0 bs n (ok_or_ok (closing_from 39 false 0 bs) (fault.OpenText at) n closed.1) in
     let made = bind_ok (ok_or (option_and_then only (characters 0 (take n bs))) (fault.BadText at)) (λ c. Ok (lexeme.Token (kind.Char c) (n + 2))) i closed.2 in
@@ -250,7 +253,8 @@ punct_fits at text i e = by_found (punct_at text) refl e
 slash_fits : (at : ℕ) (text : List ℕ) (i : Lexeme) → slash_at at text ≡ Ok i → IsFitting i text
 unfolding slash_at line_comment
 slash_fits at text i e =
-    elim (chosen (starts_with nat_eq text (codes "/*")) (comment_at at (drop 2 text)) (cond (starts_with nat_eq text (codes "//")) (Ok (line_comment (drop 2 text))) (punct_lexeme at (punct_at text))) (Ok i) e) [
+    elim (chosen (starts_with nat_eq text (codes "/*")) (comment_at at (drop 2 text)) (cond (starts_with nat_eq text (codes "//")) (Ok (line_comment (drop 2 text))) (punct_lexeme at
+    (punct_at text))) (Ok i) e) [
       | inl (passes, f) ↦ comment_fits at text i (starts_long text (codes "/*") passes) f
       | inr (_, f) ↦ elim (chosen (starts_with nat_eq text (codes "//")) (Ok (line_comment (drop 2 text))) (punct_lexeme at (punct_at text)) (Ok i) f) [
         | inl (passes, g) ↦

@@ -156,16 +156,19 @@ after_include b = option_and_then (λ c. cond (ends_line (past_blanks c)) (Some 
 abbrev pub after_hash : List ℕ → Option (List ℕ)
 after_hash a = option_and_then after_include (past (codes "include") (past_blanks a))
 
-pub header_past : (blanks header after following : List ℕ) → (header ≡ codes "<stdio.h>") ⊎ (header ≡ codes "<stdlib.h>") → AreBlanks blanks → AreBlanks after → ends_line following ≡ true → after_include (blanks ++ (header ++ (after ++ following))) ≡ Some following
+pub header_past : (blanks header after following : List ℕ) → (header ≡ codes "<stdio.h>") ⊎ (header ≡ codes "<stdlib.h>") → AreBlanks blanks → AreBlanks after → ends_line following ≡ true →
+    after_include (blanks ++ (header ++ (after ++ following))) ≡ Some following
 header_past blanks header after following (inl is) h k ends =
     let rest = after ++ following in
-    let past_it : past_blanks (blanks ++ (header ++ rest)) ≡ codes "<stdio.h>" ++ rest = ap (λ (t : List ℕ). past_blanks (blanks ++ (t ++ rest))) is ∙ blanks_past blanks (drop 1 (codes "<stdio.h>") ++ rest) 60 h refl in
+    let past_it : past_blanks (blanks ++ (header ++ rest)) ≡ codes "<stdio.h>" ++ rest = ap (λ (t : List ℕ). past_blanks (blanks ++ (t ++ rest))) is
+    ∙ blanks_past blanks (drop 1 (codes "<stdio.h>") ++ rest) 60 h refl in
     let tail = blanks_to_end after following k ends in
     ap (λ (t : List ℕ). option_and_then (λ c. cond (ends_line (past_blanks c)) (Some (past_blanks c)) None) (past_header t)) past_it
     ∙ ap (λ (t : List ℕ). cond (ends_line t) (Some t) None) tail ∙ ap (λ t. cond t (Some following) None) ends
 header_past blanks header after following (inr is) h k ends =
     let rest = after ++ following in
-    let past_it : past_blanks (blanks ++ (header ++ rest)) ≡ codes "<stdlib.h>" ++ rest = ap (λ (t : List ℕ). past_blanks (blanks ++ (t ++ rest))) is ∙ blanks_past blanks (drop 1 (codes "<stdlib.h>") ++ rest) 60 h refl in
+    let past_it : past_blanks (blanks ++ (header ++ rest)) ≡ codes "<stdlib.h>" ++ rest = ap (λ (t : List ℕ). past_blanks (blanks ++ (t ++ rest))) is
+    ∙ blanks_past blanks (drop 1 (codes "<stdlib.h>") ++ rest) 60 h refl in
     let tail = blanks_to_end after following k ends in
     ap (λ (t : List ℕ). option_and_then (λ c. cond (ends_line (past_blanks c)) (Some (past_blanks c)) None) (past_header t)) past_it
     ∙ ap (λ (t : List ℕ). cond (ends_line t) (Some t) None) tail ∙ ap (λ t. cond t (Some following) None) ends
@@ -175,7 +178,8 @@ unfolding past_include
 include_found bytes following h =
     let rest = h.header ++ (h.after ++ following) in
     let directive : List ℕ = codes "include" ++ (h.include_blanks ++ rest) in
-    let whole : bytes ++ following ≡ h.before ++ (codes "#" ++ (h.hash_blanks ++ directive)) = ap (λ (t : List ℕ). t ++ following) h.spelled ∙ regroup h.before (codes "#") h.hash_blanks (codes "include") h.include_blanks h.header h.after following in
+    let whole : bytes ++ following ≡ h.before ++ (codes "#" ++ (h.hash_blanks ++ directive)) = ap (λ (t : List ℕ). t ++ following) h.spelled
+    ∙ regroup h.before (codes "#") h.hash_blanks (codes "include") h.include_blanks h.header h.after following in
     let first : past_blanks (bytes ++ following) ≡ codes "#" ++ (h.hash_blanks ++ directive) = ap past_blanks whole ∙ blanks_past h.before (h.hash_blanks ++ directive) 35 h.blanks.0 refl in
     let second : past_blanks (h.hash_blanks ++ directive) ≡ directive = blanks_past h.hash_blanks (drop 1 (codes "include") ++ (h.include_blanks ++ rest)) 105 h.blanks.1 refl in
     ap (λ (t : List ℕ). option_and_then after_hash (past (codes "#") t)) first
@@ -248,7 +252,8 @@ pub next_text : (source : List ℕ) (at b : ℕ) (bs : List ℕ) → drop at sou
 next_text source at b bs split = sym (drop-drop 1 at source) ∙ ap (drop 1) split
 
 -- the bytes of a range, and their number
-pub range_parts : (source : List ℕ) (at end : ℕ) → at < end → end ≤ length source → (n : ℕ) × (at + n ≡ end) × (0 < n) × (n ≤ length (drop at source)) × (slice_range source at end ≡ take n (drop at source)) × (drop n (drop at source) ≡ drop end source)
+pub range_parts : (source : List ℕ) (at end : ℕ) → at < end → end ≤ length source →
+    (n : ℕ) × (at + n ≡ end) × (0 < n) × (n ≤ length (drop at source)) × (slice_range source at end ≡ take n (drop at source)) × (drop n (drop at source) ≡ drop end source)
 range_parts source at end less within =
     let n : ℕ = end - at in
     let size : at + n ≡ end = omega arith in
@@ -280,7 +285,7 @@ blank_inside source at b bs split blank =
     let free : is_line_end b ≡ false = not-true (is_line_end b) (line_free is_inner_blank b refl blank) in
     no_start source (at + 1) (omega arith) (ap (λ i. is_line_end (slice_index source i)) back ∙ ap is_line_end (first_is source at b bs split) ∙ free)
 
--- a test that blanks and the words of an include line pass holds of all of it after its `#`
+-- a test that blanks and the names of an include line pass holds of all of it after its `#`
 abbrev pub PassesInclude : (ℕ → Bool) → Type 0
 PassesInclude p =
     ((c : ℕ) → is_inner_blank c ≡ true → p c ≡ true) × (list_all p (codes "include") ≡ true) × (list_all p (codes "<stdio.h>") ≡ true) × (list_all p (codes "<stdlib.h>") ≡ true)
@@ -306,7 +311,8 @@ include_on_line bytes following h =
     let blank : (c : ℕ) → is_inner_blank c ≡ true → p c ≡ true = λ c. line_free is_inner_blank c refl in
     let tail = include_all p bytes following h (blank, refl, refl, refl) in
     ap on_line h.spelled
-    ∙ all_append p h.before (codes "#" ++ after_its_hash bytes following h) (all_implies is_inner_blank p h.before blank h.blanks.0) (all_append p (codes "#") (after_its_hash bytes following h) refl tail)
+    ∙ all_append p h.before (codes "#" ++ after_its_hash bytes following h) (all_implies is_inner_blank p h.before blank h.blanks.0) (all_append p (codes "#")
+    (after_its_hash bytes following h) refl tail)
 
 -- the last bytes of a block comment are its `*` and `/`
 pub block_last : (source : List ℕ) (at n : ℕ) → 0 < n → at + n ≤ length source → IsBlockComment (take n (drop at source)) →

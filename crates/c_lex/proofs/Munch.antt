@@ -90,7 +90,8 @@ identifier_longest at b bs n k letter e =
 
 -- ---- numbers
 
-typed_number : (base at to value : ℕ) (unsigned : Bool) (k : TokenKind) → typed base at value unsigned ≡ Ok k → (v : ℕ) × (u : Bool) × (k ≡ kind.Number v u) × (typed base to value unsigned ≡ Ok (kind.Number v u))
+typed_number : (base at to value : ℕ) (unsigned : Bool) (k : TokenKind) → typed base at value unsigned ≡ Ok k →
+    (v : ℕ) × (u : Bool) × (k ≡ kind.Number v u) × (typed base to value unsigned ≡ Ok (kind.Number v u))
 typed_number base at to value unsigned k e =
     let wide = ltb 4294967295 value || (eqb base 10 && not unsigned && ltb 2147483647 value) in
     let made : TokenKind = kind.Number value (unsigned || ltb 2147483647 value) in
@@ -129,11 +130,21 @@ constant_number at to run k e =
           (made.0, made.1, made.2, ap (λ b. cond b (digits_at 16 to (drop 2 run)) (cond octal (digits_at 8 to run) (digits_at 10 to run))) is ∙ made.3)
       | inr (is, f) ↦ elim (chosen octal (digits_at 8 at run) (digits_at 10 at run) (Ok k) f) [
         | inl (zero_first, g) ↦
-            let made = digits_number 8 at to run k g in
-            (made.0, made.1, made.2, ap (λ b. cond b (digits_at 16 to (drop 2 run)) (cond octal (digits_at 8 to run) (digits_at 10 to run))) is ∙ ap (λ b. cond b (digits_at 8 to run) (digits_at 10 to run)) zero_first ∙ made.3)
+            let made = digits_number 8 at to run k g in (
+              made.0,
+              made.1,
+              made.2,
+              ap (λ b. cond b (digits_at 16 to (drop 2 run)) (cond octal (digits_at 8 to run) (digits_at 10 to run))) is
+                  ∙ ap (λ b. cond b (digits_at 8 to run) (digits_at 10 to run)) zero_first ∙ made.3,
+            )
         | inr (zero_first, g) ↦
-            let made = digits_number 10 at to run k g in
-            (made.0, made.1, made.2, ap (λ b. cond b (digits_at 16 to (drop 2 run)) (cond octal (digits_at 8 to run) (digits_at 10 to run))) is ∙ ap (λ b. cond b (digits_at 8 to run) (digits_at 10 to run)) zero_first ∙ made.3)
+            let made = digits_number 10 at to run k g in (
+              made.0,
+              made.1,
+              made.2,
+              ap (λ b. cond b (digits_at 16 to (drop 2 run)) (cond octal (digits_at 8 to run) (digits_at 10 to run))) is
+                  ∙ ap (λ b. cond b (digits_at 8 to run) (digits_at 10 to run)) zero_first ∙ made.3,
+            )
       ]
     ]
 
@@ -165,7 +176,7 @@ number_longest at b bs n k digit e =
       longest = λ i. number_longest_by b bs i digit;
     }) made.2
 
--- ---- quoted texts
+-- ---- between quotes
 
 quoted_longest_by : (quote n : ℕ) (bs : List ℕ) (m : ℕ) → (quote ≡ 10 → ⊥) → (quote ≡ 92 → ⊥) → closing_from quote false 0 bs ≡ Some n → n + 2 < suc m → m ≤ length bs → IsClosed quote (take m bs) → ⊥
 quoted_longest_by quote n bs zero q10 q92 is less within closed = closed
@@ -222,7 +233,9 @@ string_spells b m cs bs same is all = record {
 pub char_longest : (at b : ℕ) (bs : List ℕ) (n : ℕ) (k : TokenKind) → b ≡ 39 → char_at at bs ≡ Ok (lexeme.Token k n) → IsLongest (b ∷ bs) n k
 unfolding char_at
 char_longest at b bs n k quote e =
-    let closed = bind_ok (ok_or (closing_from 39 false 0 bs) (fault.OpenText at)) (λ m. ok_or (option_and_then only (characters 0 (take m bs))) (fault.BadText at) >>= λ c. Ok (lexeme.Token (kind.Char c) (m + 2))) (lexeme.Token k n) e in
+    let closed =
+    bind_ok (ok_or (closing_from 39 false 0 bs) (fault.OpenText at)) (λ m. ok_or (option_and_then only (characters 0 (take m bs))) (fault.BadText at) >>= λ c. Ok (lexeme.Token (kind.Char c)
+    (m + 2))) (lexeme.Token k n) e in
     let m = closed.0 in
     let is = ok_or_ok (closing_from 39 false 0 bs) (fault.OpenText at) m closed.1 in
     let made = bind_ok (ok_or (option_and_then only (characters 0 (take m bs))) (fault.BadText at)) (λ c. Ok (lexeme.Token (kind.Char c) (m + 2))) (lexeme.Token k n) closed.2 in
@@ -232,7 +245,9 @@ char_longest at b bs n k quote e =
 pub string_longest : (at b : ℕ) (bs : List ℕ) (n : ℕ) (k : TokenKind) → b ≡ 34 → string_at at bs ≡ Ok (lexeme.Token k n) → IsLongest (b ∷ bs) n k
 unfolding string_at
 string_longest at b bs n k quote e =
-    let closed = bind_ok (ok_or (closing_from 34 false 0 bs) (fault.OpenText at)) (λ m. ok_or (characters 0 (take m bs)) (fault.BadText at) >>= λ c. Ok (lexeme.Token (kind.Text c) (m + 2))) (lexeme.Token k n) e in
+    let closed =
+    bind_ok (ok_or (closing_from 34 false 0 bs) (fault.OpenText at)) (λ m. ok_or (characters 0 (take m bs)) (fault.BadText at) >>= λ c. Ok (lexeme.Token (kind.Text c) (m + 2)))
+    (lexeme.Token k n) e in
     let m = closed.0 in
     let is = ok_or_ok (closing_from 34 false 0 bs) (fault.OpenText at) m closed.1 in
     let made = bind_ok (ok_or (characters 0 (take m bs)) (fault.BadText at)) (λ c. Ok (lexeme.Token (kind.Text c) (m + 2))) (lexeme.Token k n) closed.2 in
@@ -260,7 +275,8 @@ punct_longest_by b bs p (suc i) is less within token =
     let begins : take (length (punct_spelling q.0)) (b ∷ bs) ≡ punct_spelling q.0 = ap (λ j. take j (b ∷ bs)) size ∙ sym q.1 in
     omega (arith, punct_longest (b ∷ bs) p q.0 is begins)
 
-punct_found : (at b : ℕ) (bs : List ℕ) (n : ℕ) (k : TokenKind) (o : Option Punct) → begins_comment (b ∷ bs) ≡ false → punct_at (b ∷ bs) ≡ o → punct_lexeme at o ≡ Ok (lexeme.Token k n) → IsLongest (b ∷ bs) n k
+punct_found : (at b : ℕ) (bs : List ℕ) (n : ℕ) (k : TokenKind) (o : Option Punct) → begins_comment (b ∷ bs) ≡ false → punct_at (b ∷ bs) ≡ o → punct_lexeme at o ≡ Ok (lexeme.Token k n) →
+    IsLongest (b ∷ bs) n k
 punct_found at b bs n k None no_comment is e = absurd cc
 punct_found at b bs n k (Some p) no_comment is e =
     let begins = punct_begins (b ∷ bs) p is in
@@ -330,8 +346,10 @@ slash_longest : (at b : ℕ) (bs : List ℕ) (n : ℕ) (k : TokenKind) → slash
 unfolding slash_at comment_at line_comment
 slash_longest at b bs n k e =
     let text = b ∷ bs in
-    elim (chosen (starts_with nat_eq text (codes "/*")) (comment_at at (drop 2 text)) (cond (starts_with nat_eq text (codes "//")) (Ok (line_comment (drop 2 text))) (punct_lexeme at (punct_at text))) (Ok (lexeme.Token k n)) e) [
-      | inl (_, f) ↦ let trivia = bind_ok (ok_or (comment_end 0 (drop 2 text)) (fault.OpenComment at)) (λ m. Ok (lexeme.Trivia (m + 2))) (lexeme.Token k n) f in absurd (no_trivia (trivia.0 + 2) k n trivia.2)
+    elim (chosen (starts_with nat_eq text (codes "/*")) (comment_at at (drop 2 text)) (cond (starts_with nat_eq text (codes "//")) (Ok (line_comment (drop 2 text))) (punct_lexeme at
+    (punct_at text))) (Ok (lexeme.Token k n)) e) [
+      | inl (_, f) ↦ let trivia =
+          bind_ok (ok_or (comment_end 0 (drop 2 text)) (fault.OpenComment at)) (λ m. Ok (lexeme.Trivia (m + 2))) (lexeme.Token k n) f in absurd (no_trivia (trivia.0 + 2) k n trivia.2)
       | inr (no_block, f) ↦ elim (chosen (starts_with nat_eq text (codes "//")) (Ok (line_comment (drop 2 text))) (punct_lexeme at (punct_at text)) (Ok (lexeme.Token k n)) f) [
         | inl (_, g) ↦ absurd (no_trivia (position_or_len is_line_end (drop 2 text) + 2) k n g)
         | inr (no_line, g) ↦ punct_is_longest at b bs n k (ap (λ t. t || starts_with nat_eq text (codes "//")) no_block ∙ no_line) g

@@ -261,7 +261,8 @@ digits_len : (ds : List ℕ) (unsigned : Bool) → list_all (is_digit_in 8) ds �
 digits_len ds true all = run_before (is_digit_in 8) ds 117 [] all refl
 digits_len ds false all = ap (prefix_len (is_digit_in 8)) (append-nil ds) ∙ run_whole (is_digit_in 8) ds all
 
-digits_read : (at value : ℕ) (unsigned : Bool) (ds : List ℕ) → list_all (is_digit_in 8) ds ≡ true → eqb (length ds) 0 ≡ false → digits_value 8 ds ≡ value → IsProper (kind.Number value unsigned) → digits_at 8 at (ds ++ suffix_of unsigned) ≡ Ok (kind.Number value unsigned)
+digits_read : (at value : ℕ) (unsigned : Bool) (ds : List ℕ) → list_all (is_digit_in 8) ds ≡ true → eqb (length ds) 0 ≡ false → digits_value 8 ds ≡ value → IsProper (kind.Number value unsigned) →
+    digits_at 8 at (ds ++ suffix_of unsigned) ≡ Ok (kind.Number value unsigned)
 unfolding digits_at
 digits_read at value unsigned ds all some is h =
     let run = ds ++ suffix_of unsigned in
@@ -302,7 +303,7 @@ number_read value unsigned h at more =
     by_bound : value ≤ 4294967295 → value < limit 11
     by_bound le = omega arith
 
--- ---- texts
+-- ---- characters and string literals
 
 is_escaped_quote : (c quote : ℕ) → is_escaped quote ≡ true → is_escaped c ≡ false → eqb c quote ≡ false
 is_escaped_quote c quote q e = grind (arith, nat_tests)
@@ -314,23 +315,30 @@ plain_slash c e = grind (arith, nat_tests)
 abbrev first_escape : Bool → Bool → ℕ → List ℕ → List ℕ
 first_escape line special c rest = cond line (92 ∷ 110 ∷ rest) (cond special (92 ∷ c ∷ rest) (c ∷ rest))
 
-closing_first : (quote at c : ℕ) (rest more : List ℕ) (line special : Bool) → eqb 92 quote ≡ false → is_escaped quote ≡ true → eqb c 10 ≡ line → is_escaped c ≡ special → ((i : ℕ) → closing_from quote false i (rest ++ quote ∷ more) ≡ Some (i + length rest)) → closing_from quote false at (first_escape line special c rest ++ quote ∷ more) ≡ Some (at + length (first_escape line special c rest))
+closing_first : (quote at c : ℕ) (rest more : List ℕ) (line special : Bool) → eqb 92 quote ≡ false → is_escaped quote ≡ true → eqb c 10 ≡ line → is_escaped c ≡ special → ((i : ℕ) →
+    closing_from quote false i (rest ++ quote ∷ more) ≡ Some (i + length rest)) →
+    closing_from quote false at (first_escape line special c rest ++ quote ∷ more) ≡ Some (at + length (first_escape line special c rest))
 closing_first quote at c rest more true special slash known is sp ih =
     let size : at + 1 + 1 + length rest ≡ at + length (92 ∷ 110 ∷ rest) = omega arith in
     ap (λ t. cond t (Some at) (closing_from quote true (at + 1) (110 ∷ (rest ++ quote ∷ more)))) slash ∙ ih (at + 1 + 1) ∙ ap Some size
 closing_first quote at c rest more false true slash known is sp ih =
     let size : at + 1 + 1 + length rest ≡ at + length (92 ∷ c ∷ rest) = omega arith in
-    ap (λ t. cond t (Some at) (closing_from quote true (at + 1) (c ∷ (rest ++ quote ∷ more)))) slash ∙ ap (λ t. cond t None (closing_from quote false (at + 1 + 1) (rest ++ quote ∷ more))) is ∙ ih (at + 1 + 1) ∙ ap Some size
+    ap (λ t. cond t (Some at) (closing_from quote true (at + 1) (c ∷ (rest ++ quote ∷ more)))) slash ∙ ap (λ t. cond t None (closing_from quote false (at + 1 + 1) (rest ++ quote ∷ more))) is
+    ∙ ih (at + 1 + 1) ∙ ap Some size
 closing_first quote at c rest more false false slash known is sp ih =
     let size : at + 1 + length rest ≡ at + length (c ∷ rest) = omega arith in
     let tail : List ℕ = rest ++ quote ∷ more in
-    ap (λ t. cond t None (cond (eqb c quote) (Some at) (closing_from quote (eqb c 92) (at + 1) tail))) is ∙ ap (λ t. cond t (Some at) (closing_from quote (eqb c 92) (at + 1) tail)) (is_escaped_quote c quote known sp) ∙ ap (λ t. closing_from quote t (at + 1) tail) (plain_slash c sp) ∙ ih (at + 1) ∙ ap Some size
+    ap (λ t. cond t None (cond (eqb c quote) (Some at) (closing_from quote (eqb c 92) (at + 1) tail))) is
+    ∙ ap (λ t. cond t (Some at) (closing_from quote (eqb c 92) (at + 1) tail)) (is_escaped_quote c quote known sp) ∙ ap (λ t. closing_from quote t (at + 1) tail) (plain_slash c sp)
+    ∙ ih (at + 1) ∙ ap Some size
 
-closing_escapes : (quote at : ℕ) (cs more : List ℕ) → eqb 92 quote ≡ false → is_escaped quote ≡ true → eqb quote 10 ≡ false → closing_from quote false at (escapes cs ++ quote ∷ more) ≡ Some (at + length (escapes cs))
+closing_escapes : (quote at : ℕ) (cs more : List ℕ) → eqb 92 quote ≡ false → is_escaped quote ≡ true → eqb quote 10 ≡ false →
+    closing_from quote false at (escapes cs ++ quote ∷ more) ≡ Some (at + length (escapes cs))
 closing_escapes quote at [] more slash known no_end =
     let same : eqb quote quote ≡ true = grind (arith, nat_tests) in
     let size : at ≡ at + 0 = omega arith in
-    ap (λ t. cond t None (cond (eqb quote quote) (Some at) (closing_from quote (eqb quote 92) (at + 1) more))) no_end ∙ ap (λ t. cond t (Some at) (closing_from quote (eqb quote 92) (at + 1) more)) same ∙ ap Some size
+    ap (λ t. cond t None (cond (eqb quote quote) (Some at) (closing_from quote (eqb quote 92) (at + 1) more))) no_end
+    ∙ ap (λ t. cond t (Some at) (closing_from quote (eqb quote 92) (at + 1) more)) same ∙ ap Some size
 closing_escapes quote at (c ∷ cs) more slash known no_end =
     closing_first quote at c (escapes cs) more (eqb c 10) (is_escaped c) slash known refl refl (λ i. closing_escapes quote i cs more slash known no_end)
 
@@ -359,7 +367,8 @@ plain_read : (c : ℕ) (rest : List ℕ) → is_escaped c ≡ false → characte
 unfolding character_at
 plain_read c rest e = rw (plain_slash c e) refl
 
-characters_first : (c : ℕ) (cs rest : List ℕ) (line special : Bool) → eqb c 10 ≡ line → is_escaped c ≡ special → characters 0 rest ≡ Some cs → characters 0 (first_escape line special c rest) ≡ Some (c ∷ cs)
+characters_first : (c : ℕ) (cs rest : List ℕ) (line special : Bool) → eqb c 10 ≡ line → is_escaped c ≡ special → characters 0 rest ≡ Some cs →
+    characters 0 (first_escape line special c rest) ≡ Some (c ∷ cs)
 characters_first c cs rest true special is sp ih =
     let same : 10 ≡ c = grind (arith, nat_tests) in
     ap (λ o. option_and_then (λ d. with_first d.0 (characters (d.1 - 1) (110 ∷ rest))) o) (line_read rest) ∙ ap (with_first 10) ih ∙ ap (λ x. Some (x ∷ cs)) same

@@ -111,26 +111,30 @@ run_most p (x ∷ xs) (suc m) h e =
 pub run_first : (p : ℕ → Bool) (b : ℕ) (bs : List ℕ) → p b ≡ true → prefix_len p (b ∷ bs) ≡ suc (prefix_len p bs)
 run_first p b bs e = ap (λ t. cond t (1 + prefix_len p bs) 0) e ∙ omega arith
 
--- ---- quoted texts
+-- ---- between quotes
 
 some_is : (a b : ℕ) → Some a ≡ Some b → a ≡ b
 some_is a b e = cc
 
-plain_closed : (quote at b c m : ℕ) (cs : List ℕ) → (b ≡ 10 → ⊥) → (b ≡ quote → ⊥) → (b ≡ 92 → ⊥) → ((k : ℕ) → closing_from quote false (at + 1) (c ∷ cs) ≡ Some (at + 1 + k) → IsClosed quote (take (suc k) (c ∷ cs))) → closing_from quote false (at + 1) (c ∷ cs) ≡ Some (at + m) → IsClosed quote (take (suc m) (b ∷ c ∷ cs))
+plain_closed : (quote at b c m : ℕ) (cs : List ℕ) → (b ≡ 10 → ⊥) → (b ≡ quote → ⊥) → (b ≡ 92 → ⊥) → ((k : ℕ) → closing_from quote false (at + 1) (c ∷ cs) ≡ Some (at + 1 + k) →
+    IsClosed quote (take (suc k) (c ∷ cs))) → closing_from quote false (at + 1) (c ∷ cs) ≡ Some (at + m) → IsClosed quote (take (suc m) (b ∷ c ∷ cs))
 plain_closed quote at b c zero cs no_end no_quote no_slash ih e =
     absurd (omega (arith, (closing_within quote false (at + 1) (c ∷ cs) (at + 0) e).0))
 plain_closed quote at b c (suc k) cs no_end no_quote no_slash ih e =
     let offset : at + suc k ≡ at + 1 + k = omega arith in
     inl (no_end, no_quote, no_slash, ih k (e ∙ ap Some offset))
 
-escape_closed : (quote at b c m : ℕ) (cs : List ℕ) → b ≡ 92 → (c ≡ 10 → ⊥) → ((k : ℕ) → closing_from quote false (at + 1 + 1) cs ≡ Some (at + 1 + 1 + k) → IsClosed quote (take (suc k) cs)) → closing_from quote false (at + 1 + 1) cs ≡ Some (at + m) → IsClosed quote (take (suc m) (b ∷ c ∷ cs))
+escape_closed : (quote at b c m : ℕ) (cs : List ℕ) → b ≡ 92 → (c ≡ 10 → ⊥) → ((k : ℕ) → closing_from quote false (at + 1 + 1) cs ≡ Some (at + 1 + 1 + k) → IsClosed quote (take (suc k) cs)) →
+    closing_from quote false (at + 1 + 1) cs ≡ Some (at + m) → IsClosed quote (take (suc m) (b ∷ c ∷ cs))
 escape_closed quote at b c zero cs slash no_end ih e = absurd (omega (arith, (closing_within quote false (at + 1 + 1) cs (at + 0) e).0))
 escape_closed quote at b c (suc zero) cs slash no_end ih e = absurd (omega (arith, (closing_within quote false (at + 1 + 1) cs (at + 1) e).0))
 escape_closed quote at b c (suc (suc k)) cs slash no_end ih e =
     let offset : at + suc (suc k) ≡ at + 1 + 1 + k = omega arith in
     inr (slash, no_end, ih k (e ∙ ap Some offset))
 
-after_closed : (quote at b c m : ℕ) (cs : List ℕ) (t : Bool) → eqb b 92 ≡ t → (b ≡ 10 → ⊥) → (b ≡ quote → ⊥) → ((k : ℕ) → closing_from quote false (at + 1) (c ∷ cs) ≡ Some (at + 1 + k) → IsClosed quote (take (suc k) (c ∷ cs))) → ((k : ℕ) → closing_from quote false (at + 1 + 1) cs ≡ Some (at + 1 + 1 + k) → IsClosed quote (take (suc k) cs)) → closing_from quote t (at + 1) (c ∷ cs) ≡ Some (at + m) → IsClosed quote (take (suc m) (b ∷ c ∷ cs))
+after_closed : (quote at b c m : ℕ) (cs : List ℕ) (t : Bool) → eqb b 92 ≡ t → (b ≡ 10 → ⊥) → (b ≡ quote → ⊥) → ((k : ℕ) → closing_from quote false (at + 1) (c ∷ cs) ≡ Some (at + 1 + k) →
+    IsClosed quote (take (suc k) (c ∷ cs))) → ((k : ℕ) → closing_from quote false (at + 1 + 1) cs ≡ Some (at + 1 + 1 + k) → IsClosed quote (take (suc k) cs)) →
+    closing_from quote t (at + 1) (c ∷ cs) ≡ Some (at + m) → IsClosed quote (take (suc m) (b ∷ c ∷ cs))
 after_closed quote at b c m cs false is no_end no_quote plain escaped e = plain_closed quote at b c m cs no_end no_quote (eqb-false b 92 is) plain e
 after_closed quote at b c m cs true is no_end no_quote plain escaped e =
     elim (chosen (eqb c 10) None (closing_from quote false (at + 1 + 1) cs) (Some (at + m)) e) [
@@ -159,7 +163,8 @@ closed_is quote at m (b ∷ c ∷ cs) e =
       | inr (no_end, f) ↦ elim (chosen (eqb b quote) (Some at) (closing_from quote (eqb b 92) (at + 1) (c ∷ cs)) (Some (at + m)) f) [
         | inl (same, g) ↦ one_closed quote at b m (c ∷ cs) same g
         | inr (no_quote, g) ↦
-            after_closed quote at b c m cs (eqb b 92) refl (eqb-false b 10 no_end) (eqb-false b quote no_quote) (λ k f. closed_is quote (at + 1) k (c ∷ cs) f) (λ k f. closed_is quote (at + 1 + 1) k cs f) g
+            after_closed quote at b c m cs (eqb b 92) refl (eqb-false b 10 no_end) (eqb-false b quote no_quote) (λ k f. closed_is quote (at + 1) k (c ∷ cs) f) (λ k f. closed_is quote
+            (at + 1 + 1) k cs f) g
       ]
     ]
 
@@ -171,7 +176,8 @@ closed_found quote at k (b ∷ []) more q10 q92 len h =
     let no_end : eqb b 10 ≡ false = grind (arith, nat_tests) in
     let same : eqb b quote ≡ true = grind (arith, nat_tests) in
     let offset : at ≡ at + k = omega arith in
-    ap (λ t. cond t None (cond (eqb b quote) (Some at) (closing_from quote (eqb b 92) (at + 1) more))) no_end ∙ ap (λ t. cond t (Some at) (closing_from quote (eqb b 92) (at + 1) more)) same ∙ ap Some offset
+    ap (λ t. cond t None (cond (eqb b quote) (Some at) (closing_from quote (eqb b 92) (at + 1) more))) no_end ∙ ap (λ t. cond t (Some at) (closing_from quote (eqb b 92) (at + 1) more)) same
+    ∙ ap Some offset
 closed_found quote at k (b ∷ c ∷ cs) more q10 q92 len (inl h) =
     let no_end : eqb b 10 ≡ false = grind (arith, nat_tests, h.0) in
     let no_quote : eqb b quote ≡ false = grind (arith, nat_tests, h.1) in
@@ -179,7 +185,8 @@ closed_found quote at k (b ∷ c ∷ cs) more q10 q92 len (inl h) =
     let j : ℕ = k - 1 in
     let offset : at + 1 + j ≡ at + k = omega arith in
     let rest = closed_found quote (at + 1) j (c ∷ cs) more q10 q92 (omega arith) h.3 in
-    ap (λ t. cond t None (cond (eqb b quote) (Some at) (closing_from quote (eqb b 92) (at + 1) (c ∷ (cs ++ more))))) no_end ∙ ap (λ t. cond t (Some at) (closing_from quote (eqb b 92) (at + 1) (c ∷ (cs ++ more)))) no_quote ∙ ap (λ t. closing_from quote t (at + 1) (c ∷ (cs ++ more))) no_slash ∙ rest ∙ ap Some offset
+    ap (λ t. cond t None (cond (eqb b quote) (Some at) (closing_from quote (eqb b 92) (at + 1) (c ∷ (cs ++ more))))) no_end
+    ∙ ap (λ t. cond t (Some at) (closing_from quote (eqb b 92) (at + 1) (c ∷ (cs ++ more)))) no_quote ∙ ap (λ t. closing_from quote t (at + 1) (c ∷ (cs ++ more))) no_slash ∙ rest ∙ ap Some offset
 closed_found quote at k (b ∷ c ∷ []) more q10 q92 len (inr h) = absurd h.2
 closed_found quote at k (b ∷ c ∷ d ∷ ds) more q10 q92 len (inr h) =
     let no_end : eqb b 10 ≡ false = grind (arith, nat_tests, h.0) in
@@ -190,7 +197,9 @@ closed_found quote at k (b ∷ c ∷ d ∷ ds) more q10 q92 len (inr h) =
     let offset : at + 1 + 1 + j ≡ at + k = omega arith in
     let rest = closed_found quote (at + 1 + 1) j (d ∷ ds) more q10 q92 (omega arith) h.2 in
     let tail : List ℕ = d ∷ (ds ++ more) in
-    ap (λ t. cond t None (cond (eqb b quote) (Some at) (closing_from quote (eqb b 92) (at + 1) (c ∷ tail)))) no_end ∙ ap (λ t. cond t (Some at) (closing_from quote (eqb b 92) (at + 1) (c ∷ tail))) no_quote ∙ ap (λ t. closing_from quote t (at + 1) (c ∷ tail)) slash ∙ ap (λ t. cond t None (closing_from quote false (at + 1 + 1) tail)) goes_on ∙ rest ∙ ap Some offset
+    ap (λ t. cond t None (cond (eqb b quote) (Some at) (closing_from quote (eqb b 92) (at + 1) (c ∷ tail)))) no_end
+    ∙ ap (λ t. cond t (Some at) (closing_from quote (eqb b 92) (at + 1) (c ∷ tail))) no_quote ∙ ap (λ t. closing_from quote t (at + 1) (c ∷ tail)) slash
+    ∙ ap (λ t. cond t None (closing_from quote false (at + 1 + 1) tail)) goes_on ∙ rest ∙ ap Some offset
 
 -- the closing quote stands where it was found
 pub closing_at : (quote at m : ℕ) (taken : Bool) (text : List ℕ) → closing_from quote taken at text ≡ Some (at + m) → take (suc m) text ≡ take m text ++ quote ∷ []

@@ -315,7 +315,8 @@ punct_begins text p e =
 
 pub punct_longest : (text : List ℕ) (p q : Punct) → punct_at text ≡ Some p → take (length (punct_spelling q)) text ≡ punct_spelling q → length (punct_spelling q) ≤ length (punct_spelling p)
 punct_longest text p q e begins =
-    longest_of (λ r. starts_with nat_eq text (punct_spelling r)) all_puncts (punct_index q) p q puncts_fall e (punct_stands q) ((bytes_eq-Decides (punct_spelling q) (take (length (punct_spelling q)) text)).1 (sym begins))
+    longest_of (λ r. starts_with nat_eq text (punct_spelling r)) all_puncts (punct_index q) p q puncts_fall e (punct_stands q) ((bytes_eq-Decides (punct_spelling q) (take (length
+    (punct_spelling q)) text)).1 (sym begins))
 
 pub punct_none : (text : List ℕ) (q : Punct) → punct_at text ≡ None → take (length (punct_spelling q)) text ≡ punct_spelling q → ⊥
 punct_none text q e begins =

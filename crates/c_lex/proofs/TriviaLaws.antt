@@ -13,9 +13,9 @@ use Rattle.c_lex.specs.Grammar.{IsBlockComment, IsLineComment, IsIncludeLine}
 use Rattle.c_lex.proofs.Lengths.{chosen}
 use Rattle.c_lex.proofs.Sorts.{run_all}
 
--- ---- words at the front
+-- ---- prefixes
 
--- a text that begins with a word is the word and what follows
+-- a text that begins with a prefix is the prefix and what follows
 pub begins : (text prefix : List ℕ) → starts_with nat_eq text prefix ≡ true → text ≡ prefix ++ drop (length prefix) text
 begins text prefix e =
     let front : prefix ≡ take (length prefix) text = (bytes_eq-Decides prefix (take (length prefix) text)).0 e in
@@ -54,7 +54,8 @@ then_some f (Some x) y e = (x, refl, e)
 pub include_line_is : (line rest : List ℕ) → past_include line ≡ Some rest → (bytes : List ℕ) × (line ≡ bytes ++ rest) × IsIncludeLine bytes rest
 unfolding past_include
 include_line_is line rest e =
-    let a = then_some (λ a. option_and_then (λ b. option_and_then (λ c. cond (ends_line (past_blanks c)) (Some (past_blanks c)) None) (past_header (past_blanks b))) (past (codes "include") (past_blanks a))) (past (codes "#") (past_blanks line)) rest e in
+    let a = then_some (λ a. option_and_then (λ b. option_and_then (λ c. cond (ends_line (past_blanks c)) (Some (past_blanks c)) None) (past_header (past_blanks b))) (past (codes "include")
+    (past_blanks a))) (past (codes "#") (past_blanks line)) rest e in
     let b = then_some (λ b. option_and_then (λ c. cond (ends_line (past_blanks c)) (Some (past_blanks c)) None) (past_header (past_blanks b))) (past (codes "include") (past_blanks a.0)) rest a.2 in
     let c = then_some (λ c. cond (ends_line (past_blanks c)) (Some (past_blanks c)) None) (past_header (past_blanks b.0)) rest b.2 in
     let header = header_is (past_blanks b.0) c.0 c.1 in
@@ -65,10 +66,13 @@ include_line_is line rest e =
           let d : c.0 ≡ after ++ rest = blanks_split c.0 ∙ ap (λ (t : List ℕ). after ++ t) same in
           let h : past_blanks b.0 ≡ header.0 ++ (after ++ rest) = header.1 ∙ ap (λ (t : List ℕ). header.0 ++ t) d in
           let w : b.0 ≡ blanks_of b.0 ++ (header.0 ++ (after ++ rest)) = blanks_split b.0 ∙ ap (λ (t : List ℕ). blanks_of b.0 ++ t) h in
-          let i : past_blanks a.0 ≡ codes "include" ++ (blanks_of b.0 ++ (header.0 ++ (after ++ rest))) = past_is (codes "include") (past_blanks a.0) b.0 b.1 ∙ ap (λ (t : List ℕ). codes "include" ++ t) w in
+          let i : past_blanks a.0 ≡ codes "include" ++ (blanks_of b.0 ++ (header.0 ++ (after ++ rest))) = past_is (codes "include") (past_blanks a.0) b.0 b.1
+          ∙ ap (λ (t : List ℕ). codes "include" ++ t) w in
           let g : a.0 ≡ blanks_of a.0 ++ (codes "include" ++ (blanks_of b.0 ++ (header.0 ++ (after ++ rest)))) = blanks_split a.0 ∙ ap (λ (t : List ℕ). blanks_of a.0 ++ t) i in
-          let s : past_blanks line ≡ codes "#" ++ (blanks_of a.0 ++ (codes "include" ++ (blanks_of b.0 ++ (header.0 ++ (after ++ rest))))) = past_is (codes "#") (past_blanks line) a.0 a.1 ∙ ap (λ (t : List ℕ). codes "#" ++ t) g in
-          let whole : line ≡ blanks_of line ++ (codes "#" ++ (blanks_of a.0 ++ (codes "include" ++ (blanks_of b.0 ++ (header.0 ++ (after ++ rest)))))) = blanks_split line ∙ ap (λ (t : List ℕ). blanks_of line ++ t) s in
+          let s : past_blanks line ≡ codes "#" ++ (blanks_of a.0 ++ (codes "include" ++ (blanks_of b.0 ++ (header.0 ++ (after ++ rest))))) = past_is (codes "#") (past_blanks line) a.0 a.1
+          ∙ ap (λ (t : List ℕ). codes "#" ++ t) g in
+          let whole : line ≡ blanks_of line ++ (codes "#" ++ (blanks_of a.0 ++ (codes "include" ++ (blanks_of b.0 ++ (header.0 ++ (after ++ rest)))))) = blanks_split line
+          ∙ ap (λ (t : List ℕ). blanks_of line ++ t) s in
           let bytes : List ℕ = blanks_of line ++ (codes "#" ++ (blanks_of a.0 ++ (codes "include" ++ (blanks_of b.0 ++ (header.0 ++ after))))) in (
             bytes,
             whole ∙ regroup (blanks_of line) (codes "#") (blanks_of a.0) (codes "include") (blanks_of b.0) header.0 after rest,
@@ -156,7 +160,8 @@ first_here : (at k b : ℕ) (bs : List ℕ) → closes (b ∷ bs) ≡ true → S
 first_here at zero b bs is e = record { here = is; before = λ m h. absurd (omega arith) }
 first_here at (suc k) b bs is e = let same : at + 2 ≡ at + suc k + 2 = cc in absurd (omega arith)
 
-first_later : (at k b : ℕ) (bs : List ℕ) → closes (b ∷ bs) ≡ false → ((j : ℕ) → comment_end (at + 1) bs ≡ Some (at + 1 + j + 2) → IsFirstEnd j bs) → comment_end (at + 1) bs ≡ Some (at + k + 2) → IsFirstEnd k (b ∷ bs)
+first_later : (at k b : ℕ) (bs : List ℕ) → closes (b ∷ bs) ≡ false → ((j : ℕ) → comment_end (at + 1) bs ≡ Some (at + 1 + j + 2) → IsFirstEnd j bs) → comment_end (at + 1) bs ≡ Some (at + k + 2) →
+    IsFirstEnd k (b ∷ bs)
 first_later at zero b bs fails ih e = absurd (omega (arith, comment_low (at + 1) bs (at + 0 + 2) e))
 first_later at (suc k) b bs fails ih e =
     let offset : at + suc k + 2 ≡ at + 1 + k + 2 = omega arith in

@@ -67,14 +67,18 @@ number_no_trivia at text n e =
 char_no_trivia : (at : ℕ) (text : List ℕ) (n : ℕ) → char_at at text ≡ Ok (lexeme.Trivia n) → ⊥
 unfolding char_at
 char_no_trivia at bs n e =
-    let closed = bind_ok (ok_or (closing_from 39 false 0 bs) (fault.OpenText at)) (λ m. ok_or (option_and_then only (characters 0 (take m bs))) (fault.BadText at) >>= λ c. Ok (lexeme.Token (kind.Char c) (m + 2))) (lexeme.Trivia n) e in
+    let closed =
+    bind_ok (ok_or (closing_from 39 false 0 bs) (fault.OpenText at)) (λ m. ok_or (option_and_then only (characters 0 (take m bs))) (fault.BadText at) >>= λ c. Ok (lexeme.Token (kind.Char c)
+    (m + 2))) (lexeme.Trivia n) e in
     let made = bind_ok (ok_or (option_and_then only (characters 0 (take closed.0 bs))) (fault.BadText at)) (λ c. Ok (lexeme.Token (kind.Char c) (closed.0 + 2))) (lexeme.Trivia n) closed.2 in
     no_token (kind.Char made.0) (closed.0 + 2) n made.2
 
 string_no_trivia : (at : ℕ) (text : List ℕ) (n : ℕ) → string_at at text ≡ Ok (lexeme.Trivia n) → ⊥
 unfolding string_at
 string_no_trivia at bs n e =
-    let closed = bind_ok (ok_or (closing_from 34 false 0 bs) (fault.OpenText at)) (λ m. ok_or (characters 0 (take m bs)) (fault.BadText at) >>= λ c. Ok (lexeme.Token (kind.Text c) (m + 2))) (lexeme.Trivia n) e in
+    let closed =
+    bind_ok (ok_or (closing_from 34 false 0 bs) (fault.OpenText at)) (λ m. ok_or (characters 0 (take m bs)) (fault.BadText at) >>= λ c. Ok (lexeme.Token (kind.Text c) (m + 2)))
+    (lexeme.Trivia n) e in
     let made = bind_ok (ok_or (characters 0 (take closed.0 bs)) (fault.BadText at)) (λ c. Ok (lexeme.Token (kind.Text c) (closed.0 + 2))) (lexeme.Trivia n) closed.2 in
     no_token (kind.Text made.0) (closed.0 + 2) n made.2
 
@@ -89,7 +93,8 @@ slash_skipped : (source : List ℕ) (at n : ℕ) → at + n ≤ length source �
 unfolding slash_at comment_at line_comment
 slash_skipped source at n within some e =
     let text = drop at source in
-    elim (chosen (starts_with nat_eq text (codes "/*")) (comment_at at (drop 2 text)) (cond (starts_with nat_eq text (codes "//")) (Ok (line_comment (drop 2 text))) (punct_lexeme at (punct_at text))) (Ok (lexeme.Trivia n)) e) [
+    elim (chosen (starts_with nat_eq text (codes "/*")) (comment_at at (drop 2 text)) (cond (starts_with nat_eq text (codes "//")) (Ok (line_comment (drop 2 text))) (punct_lexeme at
+    (punct_at text))) (Ok (lexeme.Trivia n)) e) [
       | inl (starts, f) ↦
           let made = bind_ok (ok_or (comment_end 0 (drop 2 text)) (fault.OpenComment at)) (λ m. Ok (lexeme.Trivia (m + 2))) (lexeme.Trivia n) f in
           let is = ok_or_ok (comment_end 0 (drop 2 text)) (fault.OpenComment at) made.0 made.1 in
@@ -103,7 +108,7 @@ slash_skipped source at n within some e =
             let comment = line_comment_is text n starts size in
             let following : drop n text ≡ drop (at + n) source = drop-drop n at source in
             let here : IsLineComment (slice_range source at (at + n)) (drop (at + n) source) =
-                subst (λ (t : List ℕ). IsLineComment t (drop (at + n) source)) (sym (range_is source at n)) (subst (λ (t : List ℕ). IsLineComment (take n text) t) following comment) in
+            subst (λ (t : List ℕ). IsLineComment t (drop (at + n) source)) (sym (range_is source at n)) (subst (λ (t : List ℕ). IsLineComment (take n text) t) following comment) in
             (λ to ts rest. trivia at (at + n) ts (omega arith) within (inr (inr (inl here))) rest, line_outside source at n within (comment_on_line (take n text) (drop n text) comment))
         | inr (_, g) ↦ absurd (punct_no_trivia at (punct_at text) n g)
       ]
@@ -149,7 +154,11 @@ include_passed source at zero start within is to ts rest = let offset : at + 0 �
 include_passed source at (suc n) start within is to ts rest =
     let line = include_is (drop at source) (suc n) is (omega arith) in
     let following : drop (suc n) (drop at source) ≡ drop (at + suc n) source = drop-drop (suc n) at source in
-    trivia at (at + suc n) ts (omega arith) within (inr (inr (inr (start, subst (λ (t : List ℕ). IsIncludeLine t (drop (at + suc n) source)) (sym (range_is source at (suc n))) (subst (λ (t : List ℕ). IsIncludeLine (take (suc n) (drop at source)) t) following line))))) rest
+    trivia at (at + suc n) ts (omega arith) within (inr (inr (inr (
+      start,
+      subst (λ (t : List ℕ). IsIncludeLine t (drop (at + suc n) source)) (sym (range_is source at (suc n))) (subst (λ
+          (t : List ℕ). IsIncludeLine (take (suc n) (drop at source)) t) following line),
+    )))) rest
 
 blank_passed : (source : List ℕ) (at : ℕ) → at + 1 ≤ length source → (is_line_end (slice_index source at) || is_inner_blank (slice_index source at)) ≡ true → IsPassed source at 1
 blank_passed source at within is to ts rest = trivia at (at + 1) ts (omega arith) within (inl (refl, is)) rest
@@ -172,7 +181,8 @@ line_end_outside source at n b bs split size outside =
     let there : at + n ≡ at + 1 + include_len (drop (at + 1) source) = omega arith in
     begun_within source at n outside (λ h less. included_outside source (at + 1) (at + n) there h (omega arith))
 
-trivia_skipped_of : (s : Start) (source : List ℕ) (at n b : ℕ) (bs : List ℕ) → drop at source ≡ b ∷ bs → start_of b ≡ s → at + n ≤ length source → 0 < n → lexeme_of s at (b ∷ bs) ≡ Ok (lexeme.Trivia n) → IsSkipped source at n
+trivia_skipped_of : (s : Start) (source : List ℕ) (at n b : ℕ) (bs : List ℕ) → drop at source ≡ b ∷ bs → start_of b ≡ s → at + n ≤ length source → 0 < n →
+    lexeme_of s at (b ∷ bs) ≡ Ok (lexeme.Trivia n) → IsSkipped source at n
 unfolding lexeme_of
 trivia_skipped_of start.LineEnd source at n b bs split is within some e =
     let size = trivia_is (include_len bs + 1) n e in
@@ -194,7 +204,8 @@ trivia_skipped_of start.Hash source at n b bs split is within some e = absurd cc
 trivia_skipped_of start.Slash source at n b bs split is within some e = slash_skipped source at n within some (ap (slash_at at) split ∙ e)
 trivia_skipped_of start.Other source at n b bs split is within some e = absurd (punct_no_trivia at (punct_at (b ∷ bs)) n e)
 
-trivia_skipped : (source : List ℕ) (at n : ℕ) (text : List ℕ) → drop at source ≡ text → 0 < length text → at + n ≤ length source → 0 < n → lexeme_at at text ≡ Ok (lexeme.Trivia n) → IsSkipped source at n
+trivia_skipped : (source : List ℕ) (at n : ℕ) (text : List ℕ) → drop at source ≡ text → 0 < length text → at + n ≤ length source → 0 < n → lexeme_at at text ≡ Ok (lexeme.Trivia n) →
+    IsSkipped source at n
 trivia_skipped source at n [] split some within pos e = absurd (omega arith)
 trivia_skipped source at n (b ∷ bs) split some within pos e = trivia_skipped_of (start_of b) source at n b bs split refl within pos e
 
@@ -233,9 +244,11 @@ token_outcome source count t (Err f) stands rest =
 
 -- what is after the next lexeme
 abbrev Next : List ℕ → ℕ → Type 0
-Next source at = (count offset : ℕ) → at < offset → offset ≤ length source → count ≤ most_tokens → IsOutside source offset → Outcome source count offset (tokens_from count offset 0 (drop offset source))
+Next source at =
+    (count offset : ℕ) → at < offset → offset ≤ length source → count ≤ most_tokens → IsOutside source offset → Outcome source count offset (tokens_from count offset 0 (drop offset source))
 
-by_lexeme : (source : List ℕ) (count at : ℕ) (r : Result Lexeme LexFault) → at < length source → count ≤ most_tokens → IsOutside source at → Next source at → counted count at (lexeme_at at (drop at source)) ≡ r → Outcome source count at (tokens_from count at 0 (drop at source))
+by_lexeme : (source : List ℕ) (count at : ℕ) (r : Result Lexeme LexFault) → at < length source → count ≤ most_tokens → IsOutside source at → Next source at →
+    counted count at (lexeme_at at (drop at source)) ≡ r → Outcome source count at (tokens_from count at 0 (drop at source))
 by_lexeme source count at (Err f) less low outside next is =
     let some : 0 < length (drop at source) = omega (arith, length-drop at source) in
     let stop = stops count at (drop at source) f is some in
@@ -249,9 +262,11 @@ by_lexeme source count at (Ok (lexeme.Trivia n)) less low outside next is =
     let fits = lexeme_fits at text (lexeme.Trivia n) some scanned in
     let within : at + n ≤ length source = omega (arith, length-drop at source, fits.1) in
     let more : drop n text ≡ drop (at + n) source = drop-drop n at source in
-    let there : tokens_from count (at + n) 0 (drop (at + n) source) ≡ tokens_from count at 0 text = ap (tokens_from count (at + n) 0) (sym more) ∙ sym (step count at text (lexeme.Trivia n) is fits.0 some) in
+    let there : tokens_from count (at + n) 0 (drop (at + n) source) ≡ tokens_from count at 0 text = ap (tokens_from count (at + n) 0) (sym more)
+    ∙ sym (step count at text (lexeme.Trivia n) is fits.0 some) in
     let skipped_it = trivia_skipped source at n text refl some within fits.0 scanned in
-    subst (λ (r : Result (List Token) LexFault). Outcome source count at r) there (passed_outcome source count at n (tokens_from count (at + n) 0 (drop (at + n) source)) (skipped_it.0) (next count (at + n) (omega (arith, fits.0)) within low (skipped_it.1 outside)))
+    subst (λ (r : Result (List Token) LexFault). Outcome source count at r) there (passed_outcome source count at n (tokens_from count (at + n) 0 (drop (at + n) source)) (skipped_it.0)
+    (next count (at + n) (omega (arith, fits.0)) within low (skipped_it.1 outside)))
 by_lexeme source count at (Ok (lexeme.Token k n)) less low outside next is =
     let text = drop at source in
     let some : 0 < length text = omega (arith, length-drop at source) in
@@ -260,21 +275,25 @@ by_lexeme source count at (Ok (lexeme.Token k n)) less low outside next is =
     let within : at + n ≤ length source = omega (arith, length-drop at source, fits.1) in
     let more : drop n text ≡ drop (at + n) source = drop-drop n at source in
     let t : Token = record { kind = k; at = at; end = at + n } in
-    let there : tokens_then (t ∷ []) (tokens_from (count + 1) (at + n) 0 (drop (at + n) source)) ≡ tokens_from count at 0 text = ap (λ (u : List ℕ). tokens_then (t ∷ []) (tokens_from (count + 1) (at + n) 0 u)) (sym more) ∙ sym (step count at text (lexeme.Token k n) is fits.0 some) in
+    let there : tokens_then (t ∷ []) (tokens_from (count + 1) (at + n) 0 (drop (at + n) source)) ≡ tokens_from count at 0 text =
+    ap (λ (u : List ℕ). tokens_then (t ∷ []) (tokens_from (count + 1) (at + n) 0 u)) (sym more) ∙ sym (step count at text (lexeme.Token k n) is fits.0 some) in
     let longest = lexeme_longest at text n k some scanned in
     let stands = token_stands source at n k fits.0 within longest in
     let below = token_counts count at (lexeme_at at text) k n is scanned in
     let after = line_outside source at n within (token_on_line (take n text) longest.token) outside in
-    subst (λ (r : Result (List Token) LexFault). Outcome source count at r) there (token_outcome source count t (tokens_from (count + 1) (at + n) 0 (drop (at + n) source)) stands (next (count + 1) (at + n) (omega (arith, fits.0)) within (omega arith) after))
+    subst (λ (r : Result (List Token) LexFault). Outcome source count at r) there (token_outcome source count t (tokens_from (count + 1) (at + n) 0 (drop (at + n) source)) stands (next
+    (count + 1) (at + n) (omega (arith, fits.0)) within (omega arith) after))
 
-outcome_from : (fuel : ℕ) (source : List ℕ) (count at : ℕ) → length source ≤ at + fuel → at ≤ length source → count ≤ most_tokens → IsOutside source at → Outcome source count at (tokens_from count at 0 (drop at source))
+outcome_from : (fuel : ℕ) (source : List ℕ) (count at : ℕ) → length source ≤ at + fuel → at ≤ length source → count ≤ most_tokens → IsOutside source at →
+    Outcome source count at (tokens_from count at 0 (drop at source))
 outcome_from zero source count at enough within low outside =
     let none : drop at source ≡ [] = drop_all at source (omega arith) in
     let made : Ok [] ≡ tokens_from count at 0 (drop at source) = ap (tokens_from count at 0) (sym none) in
     subst (λ (r : Result (List Token) LexFault). Outcome source count at r) made (omega arith, done at (omega arith))
 outcome_from (suc fuel) source count at enough within low outside =
     elim (cases_lt at (length source)) [
-      | inl less ↦ by_lexeme source count at (counted count at (lexeme_at at (drop at source))) less low outside (λ c offset later fits few out. outcome_from fuel source c offset (omega arith) fits few out) refl
+      | inl less ↦ by_lexeme source count at (counted count at (lexeme_at at (drop at source))) less low outside (λ c offset later fits few out. outcome_from fuel source c offset
+          (omega arith) fits few out) refl
       | inr over ↦
           let none : drop at source ≡ [] = drop_all at source over in
           let made : Ok [] ≡ tokens_from count at 0 (drop at source) = ap (tokens_from count at 0) (sym none) in
@@ -289,7 +308,8 @@ whole source =
     let there : tokens_from 0 (0 + i) 0 (drop (0 + i) source) ≡ tokens_from 0 0 i source = ap (λ j. tokens_from 0 (0 + i) 0 (drop j source)) (zero-add i) ∙ sym (skipped 0 0 i source) in
     let out : IsOutside source (0 + i) = λ h. included_outside source 0 (0 + i) refl h (omega arith) in
     let outcome = outcome_from (length source) source 0 (0 + i) (omega arith) (omega arith) (omega arith) out in
-    subst (λ (r : Result (List Token) LexFault). Outcome source 0 0 r) there (passed_outcome source 0 0 i (tokens_from 0 (0 + i) 0 (drop (0 + i) source)) (include_passed source 0 i (inl refl) (omega arith) refl) outcome)
+    subst (λ (r : Result (List Token) LexFault). Outcome source 0 0 r) there (passed_outcome source 0 0 i (tokens_from 0 (0 + i) 0 (drop (0 + i) source)) (include_passed source 0 i (inl refl)
+    (omega arith) refl) outcome)
 
 pub lexed_reads : (source : List ℕ) (ts : List Token) → lexed source ≡ Ok ts → (length ts ≤ most_tokens) × Reads source (length source) 0 ts
 unfolding lexed

@@ -22,7 +22,7 @@ comment_at at text = ok_or (comment_end 0 text) (OpenComment at) >>= λ n. Ok (l
 unfoldable pub line_comment : List ℕ → Lexeme
 line_comment text = lexeme.Trivia (position_or_len is_line_end text + 2)
 
--- what follows a word at the front
+-- what follows a prefix
 abbrev pub past : List ℕ → List ℕ → Option (List ℕ)
 past prefix text = if starts_with nat_eq text prefix then Some (drop (length prefix) text) else None
 

@@ -56,7 +56,7 @@ fn start_of(b: u8) -> Start
 
 /// A keyword where the bytes spell one, else a name.
 fn identifier_kind(alloc: Global, bytes: &[u8]) -> Result<TokenKind, AllocError>
-    ensures { IfOk result (λ kind. kind ≡ spec.identifier_kind_of bytes.now (keyword_of bytes.now)) }
+    ensures { IfOk result (λ k. k ≡ spec.identifier_kind_of bytes.now (keyword_of bytes.now)) }
 {
     match Keyword::from_bytes(bytes) {
         Some(keyword) => Ok(TokenKind::Keyword(keyword)),

@@ -35,7 +35,8 @@ fn next_lexeme(alloc: Global, count: usize, at: u32, text: &[u8]) -> Result<Lexe
 
 /// The tokens of a source, in the order in which they stand (ISO 9899:2011, 6.4).
 ///
-/// A fault is the one at the least offset, but `LongSource` before all others.
+/// A fault is the one at the least offset, but `LongSource` comes before all others, and `NoMemory`
+/// may come in place of any answer.
 pub fn lex(alloc: Global, source: &[u8]) -> Result<Vec<Token>, LexFault>
     ensures exact { Gives (λ v. v.items) result (lexed source.now) }
     ensures few { IfOk result (λ v. vec_len v ≤ most_tokens) }

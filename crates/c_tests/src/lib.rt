@@ -1,4 +1,5 @@
-//! Tests of the lexer and of types, which are proved without them. No crate stands on it, and it has no function of its own.
+//! Tests of the lexer and of types, which are proved without them. No crate stands on it, and it
+//! has no function of its own.
 #![tactic(auto)]
 
 #[cfg(test)]

@@ -23,7 +23,8 @@ loop-at-preserved-in-Trivia c =
     let rest = take (length text - at) (drop at text) in
     let len : length rest ≡ length text - at = omega (arith, length-take (length text - at) (drop at text), length-drop at text) in
     let count : c.len.result ≡ length c.loop-at.tokens.items = omega (arith, c.loop-at.tokens.ok.0) in
-    let scanned : counted (length c.loop-at.tokens.items) at (lexeme_at at rest) ≡ Ok (lexeme.Trivia c.in-Trivia.n) = ap (λ n. counted n at (lexeme_at at rest)) (sym count) ∙ c.in_ok-n.ensures.scanned ∙ ap Ok c.in-Trivia.is in
+    let scanned : counted (length c.loop-at.tokens.items) at (lexeme_at at rest) ≡ Ok (lexeme.Trivia c.in-Trivia.n) = ap (λ n. counted n at (lexeme_at at rest)) (sym count)
+    ∙ c.in_ok-n.ensures.scanned ∙ ap Ok c.in-Trivia.is in
     let fits = rw c.in-Trivia.is at c.in_ok-n.ensures.within in
     record {
       within = omega (arith, fits.1);
@@ -37,13 +38,17 @@ loop-at-preserved c =
     let rest = take (length text - at) (drop at text) in
     let len : length rest ≡ length text - at = omega (arith, length-take (length text - at) (drop at text), length-drop at text) in
     let count : c.len.result ≡ length c.loop-at.tokens.items = omega (arith, c.loop-at.tokens.ok.0) in
-    let scanned : counted (length c.loop-at.tokens.items) at (lexeme_at at rest) ≡ Ok (lexeme.Token c.in-Token.kind c.in-Token.n) = ap (λ n. counted n at (lexeme_at at rest)) (sym count) ∙ c.in_ok-n.ensures.scanned ∙ ap Ok c.in-Token.is in
+    let scanned : counted (length c.loop-at.tokens.items) at (lexeme_at at rest) ≡ Ok (lexeme.Token c.in-Token.kind c.in-Token.n) = ap (λ n. counted n at (lexeme_at at rest)) (sym count)
+    ∙ c.in_ok-n.ensures.scanned ∙ ap Ok c.in-Token.is in
     let fits = rw c.in-Token.is at c.in_ok-n.ensures.within in
     let made = c.in_ok-push-in-Token.ensures.items in
-    let more : length c.push.new.self.items ≡ length c.loop-at.tokens.items + 1 = ap length made ∙ omega (arith, length-append c.loop-at.tokens.items (record { kind = c.in-Token.kind; at = at; end = at + c.in-Token.n } ∷ [])) in
+    let more : length c.push.new.self.items ≡ length c.loop-at.tokens.items + 1 = ap length made
+    ∙ omega (arith, length-append c.loop-at.tokens.items (record { kind = c.in-Token.kind; at = at; end = at + c.in-Token.n } ∷ [])) in
     record {
       within = omega (arith, fits.1);
-      read = ap (λ n. tokens_then c.push.new.self.items (tokens_from n (at + c.in-Token.n) 0 (drop (at + c.in-Token.n) text))) more ∙ goes_on_token c.loop-at.tokens.items c.push.new.self.items (length c.loop-at.tokens.items) at c.in-Token.n c.in-Token.kind text rest (lexed text) made (take_rest text at) scanned fits.0 (omega arith) c.loop-at.invariant.read;
+      read = ap (λ n. tokens_then c.push.new.self.items (tokens_from n (at + c.in-Token.n) 0 (drop (at + c.in-Token.n) text))) more
+          ∙ goes_on_token c.loop-at.tokens.items c.push.new.self.items (length c.loop-at.tokens.items) at c.in-Token.n c.in-Token.kind text rest (lexed text) made
+          (take_rest text at) scanned fits.0 (omega arith) c.loop-at.invariant.read;
     }
 
 pub returns-clause-few : goal.returns-clause-few

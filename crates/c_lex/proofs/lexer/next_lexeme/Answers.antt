@@ -11,4 +11,5 @@ pub returns-clause-within : goal.returns-clause-within
 returns-clause-within c =
     let text = c.args.text.now in
     let gives = counted_gives c.args.count c.args.at c.lexeme_at.result (lexeme_at c.args.at text) c.lexeme_at.ensures in
-    next_within c.args.count c.args.at text c.counted.result c.requires.some (subst (λ (r : Result Lexeme LexFault). Gives (λ i. i) r (counted c.args.count c.args.at (lexeme_at c.args.at text))) (sym c.counted.ensures) gives)
+    next_within c.args.count c.args.at text c.counted.result c.requires.some (subst (λ (r : Result Lexeme LexFault). Gives (λ i. i) r (counted c.args.count c.args.at (lexeme_at c.args.at text)))
+    (sym c.counted.ensures) gives)
