@@ -1,4 +1,4 @@
--- The places of tags.
+-- The indices of tags.
 use Rattle.std.proofs.Common.{◌≡◌, ℕ, zero, suc, ◌<◌, ◌⊎◌, List, [], ◌∷◌, ◌++◌, length, slice_get, slice_set, Some, refl, ap, inl, inr, arith}
 use Rattle.std.proofs.lemmas.Option.{slice_get_within}
 use Rattle.c_type.specs.Structs.{AreIndexed, Pads, absent}
@@ -51,20 +51,20 @@ pads-one xs ys h =
       by_end tag p (inl is) = h.added tag p is
       by_end tag p (inr is) = inr is.1
 
-pub indexed-pads : (places more : List ℕ) (structs : List Struct) → Pads places more → AreIndexed places structs → AreIndexed more structs
-indexed-pads places more structs h i =
+pub indexed-pads : (indices more : List ℕ) (structs : List Struct) → Pads indices more → AreIndexed indices structs → AreIndexed more structs
+indexed-pads indices more structs h i =
     record {
       kept = i.kept;
       found = λ tag p s is at. found_in tag p s (h.added tag p is) at;
-      placed = λ p s is. h.kept s.tag p (i.placed p s is);
+      indexed = λ p s is. h.kept s.tag p (i.indexed p s is);
       bounded = λ tag p is. bounded_in tag p (h.added tag p is);
       few = i.few;
       ordered = i.ordered;
     } where
-      found_in : (tag p : ℕ) (s : Struct) → (slice_get places tag ≡ Some p) ⊎ (p ≡ absent) → slice_get structs p ≡ Some s → s.tag ≡ tag
+      found_in : (tag p : ℕ) (s : Struct) → (slice_get indices tag ≡ Some p) ⊎ (p ≡ absent) → slice_get structs p ≡ Some s → s.tag ≡ tag
       found_in tag p s (inl is) at = i.found tag p s is at
       found_in tag p s (inr e) at = let b = slice_get_within structs p s at in let f = i.few in absurd (omega (arith, b, f, e))
 
-      bounded_in : (tag p : ℕ) → (slice_get places tag ≡ Some p) ⊎ (p ≡ absent) → (p < length structs) ⊎ (p ≡ absent)
+      bounded_in : (tag p : ℕ) → (slice_get indices tag ≡ Some p) ⊎ (p ≡ absent) → (p < length structs) ⊎ (p ≡ absent)
       bounded_in tag p (inl is) = i.bounded tag p is
       bounded_in tag p (inr e) = inr e

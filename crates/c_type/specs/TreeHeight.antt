@@ -7,9 +7,9 @@ use Rattle.c_type.specs.declared.trees.TypeForm.{TypeForm}
 use Rattle.c_type.specs.declared.trees.CType.TheDeep.{deep-TypeForm}
 use Rattle.c_type.specs.declared.trees.TypeForm.TheVariants.{Void, Scalar, Pointer, Array, Struct}
 
-pub form_falls : (f : TypeForm) → max (deep-TypeForm f) 0 ≤ tree_height (tree_of f)
-form_falls Void = omega arith
-form_falls (Scalar s) = omega arith
-form_falls (Pointer t) = omega arith
-form_falls (Array t n) = omega arith
-form_falls (Struct tag) = omega arith
+pub form_height : (f : TypeForm) → max (deep-TypeForm f) 0 ≤ tree_height (tree_of f)
+form_height Void = omega arith
+form_height (Scalar s) = omega arith
+form_height (Pointer t) = omega arith
+form_height (Array t n) = omega arith
+form_height (Struct tag) = omega arith

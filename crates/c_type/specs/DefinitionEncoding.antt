@@ -2,7 +2,7 @@
 use Rattle.std.specs.Prelude.{ℕ, List, refl}
 use Rattle.std.specs.Coded.{Coded, code_by, coded×, coded_ℕ, coded_list}
 use Rattle.c_type.specs.Trees.{TypeTree}
-use Rattle.c_type.specs.TreeCodes.{coded_tree}
+use Rattle.c_type.specs.TreeEncoding.{coded_tree}
 use Rattle.c_type.specs.Layout.{Definitions}
 
 abbrev pub coded_definitions : Coded Definitions
