@@ -37,10 +37,11 @@ use Rattle.g_graph.specs.Nodes.{node_at, node_set, constant, is_used}
 use Rattle.r_fold.specs.Rule.{is_word, left_neutral, right_neutral, Folded, word, input, replacement, bin_folded, gamma_folded, theta_folded, chosen_region, folding, folded, fold_here}
 use Rattle.g_graph.proofs.lemmas.Splices.{joined_none}
 use Rattle.g_graph.proofs.lemmas.Found.{Found, found_at, constant_small}
-use Rattle.r_fold.proofs.Finding.{constant-holds}
+use Rattle.g_mean.proofs.lemmas.Constants.{constant-holds}
 use Rattle.r_fold.proofs.Neutral.{left-less, right-less}
-use Rattle.r_fold.proofs.Fits.{gamma-fits, theta-fits, inputs-read, regions-closed, inner-unique}
-use Rattle.r_fold.proofs.Law.{input-holds, word-replaces, input-replaces, replacement-replaces}
+use Rattle.g_mean.proofs.lemmas.Inside.{inputs-read, regions-closed, inner-unique}
+use Rattle.r_fold.proofs.Fits.{gamma-fits, theta-fits}
+use Rattle.g_mean.proofs.lemmas.Instead.{input-holds, word-replaces, input-replaces, replacement-replaces}
 use Rattle.val_core.proofs.lemmas.Answers.{then_associates, then_on_given}
 use Rattle.g_mean.proofs.lemmas.Regions.{region-refines}
 use Rattle.g_mean.proofs.lemmas.Replacement.{lambdas_keep_meaning}

@@ -1,4 +1,4 @@
--- Constants that hold.
+-- An origin that is a constant carries its word, where the nodes so far have run.
 use Rattle.std.proofs.Common.{◌≡◌, ℕ, zero, suc, ◌%◌, ◌^◌, ◌<◌, ◌==◌, ◌⊎◌, true, false, cond, List, [], ◌∷◌, None, Some, option_and_then, sym, ap, subst, ◌∙◌, inl, inr, arith, eq-eqb, lit<, mod-lt}
 use Rattle.std.proofs.Math.Dec.{eqb-suc-zero}
 use Rattle.std.proofs.lemmas.Bool.{cases_Bool}

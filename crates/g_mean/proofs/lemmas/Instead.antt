@@ -1,4 +1,4 @@
--- A folded region may replace what it was.
+-- What may stand instead of a node of a region: a constant, another origin for its uses, a region.
 use Rattle.std.proofs.Common.{◌≡◌, ◌≢◌, ℕ, zero, suc, ◌%◌, ◌^◌, ◌<◌, ◌==◌, true, false, List, [], ◌∷◌, map, length, Some, refl, sym, ap, subst, subst₂, ◌∙◌, inl, inr, eq-eqb}
 use Rattle.std.proofs.Math.Dec.{eqb-zero-suc}
 use Rattle.std.proofs.Math.Nat.{mod-eq_of_lt}
@@ -30,7 +30,7 @@ use Rattle.g_mean.proofs.lemmas.Splices.{joined-read, spliced_regions_refine}
 use Rattle.g_mean.proofs.lemmas.Redirects.{replaced_nodes_refine, redirected_regions_refine}
 use Rattle.g_mean.proofs.lemmas.Equal.{no_deeper-compares}
 use Rattle.g_graph.specs.Nodes.{constant}
-use Rattle.r_fold.proofs.Finding.{constant-holds}
+use Rattle.g_mean.proofs.lemmas.Constants.{constant-holds}
 
 -- ---- a value less defined than what an operation gives
 
