@@ -17,3 +17,6 @@ pub mod Holds
 pub mod Splices
 pub mod Redirects
 pub mod Kinds
+pub mod Constants
+pub mod Instead
+pub mod Inside

@@ -1,10 +1,10 @@
 -- Greater bounds extend, and sound data stay sound.
-use Rattle.std.proofs.Common.{◌≡◌, ℕ, zero, suc, ◌≤◌, ◌⊎◌, List, [], ◌∷◌, slice_get, Option, None, Some, refl, sym, ap, subst, ◌∙◌, inl, inr, arith}
+use Rattle.std.proofs.Common.{◌≡◌, ℕ, zero, suc, ◌≤◌, List, [], ◌∷◌, slice_get, Option, None, Some, refl, sym, ap, subst, ◌∙◌, inl, arith}
 use Rattle.std.proofs.Math.Path.{fun_ext}
 use Rattle.val_core.specs.declared.values.Value.{Value}
 use Rattle.val_core.specs.Events.{Event, IsPrefixOf}
 use Rattle.val_core.specs.Refinement.{Direction, Forward, Comparison, Refines, exactly}
-use Rattle.val_core.specs.Answers.{Answer, Returned, Cut, Exited, Undefined, then_on, events, Gives, IsUndefined}
+use Rattle.val_core.specs.Answers.{Answer, Returned, Cut, Exited, Undefined, then_on, events, Gives}
 use Rattle.val_core.specs.Objects.{Addresses}
 use Rattle.val_core.proofs.lemmas.Events.{prefix-self}
 use Rattle.val_core.proofs.lemmas.Answers.{added, before-is, then_associates}

@@ -17,7 +17,7 @@ use Rattle.g_graph.specs.declared.op.Origin.TheVariants.{Arg, Out}
 use Rattle.g_graph.specs.Plain.{RegionTree, region, NodeTree, node, NodeTrees, no_nodes, node_then, RegionTrees, no_regions, region_then, nodes_of, id_of, args_of, PlainLambda}
 use Rattle.g_graph.specs.Signatures.{result_kinds, output_kinds, kind_after, joined}
 use Rattle.g_graph.specs.Splice.{joined_nodes}
-use Rattle.g_graph.specs.Scope.{same_kind, each_node, known}
+use Rattle.g_graph.specs.Scope.{each_node, known}
 use Rattle.g_graph.specs.WellFormed.{IsWellFormed, are, same, kinds_of, all_regions, inputs_fit, inputs_are_last, node_has_one_state_each, has_its_regions, regions_fit, theta_has_states, has_its_width, has_its_object, node_fits, nodes_fit, results_are_last, returns_state, region_has_one_state_each, region_fits, every_region, every_in_node, every_in_nodes, every_in_regions, body_fits, numbers_fit, leaves_fit, all_of, well_formed}
 use Rattle.g_graph.proofs.lemmas.Nodes.{are_kinds, same_kinds}
 use Rattle.g_graph.proofs.lemmas.Splices.{joined_none, joined_following}

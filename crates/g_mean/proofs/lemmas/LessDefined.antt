@@ -1,23 +1,20 @@
 -- Nearness of sound data is kept.
-use Rattle.std.proofs.Common.{◌≡◌, ℕ, zero, suc, ◌+◌, ◌*◌, ◌%◌, ◌^◌, ◌<◌, ◌==◌, ◌&&◌, ◌⊎◌, Bool, true, false, cond, List, [], ◌∷◌, ◌++◌, map, slice_get, Option, None, Some, option_map, refl, sym, ap, ap₂, subst, ◌∙◌, inl, inr, arith, lit<, lit≤, mod-lt, lt_of_lt_of_le}
-use Rattle.std.proofs.Math.Nat.{mod-le}
+use Rattle.std.proofs.Common.{◌≡◌, ℕ, zero, suc, ◌%◌, ◌^◌, ◌<◌, ◌==◌, ◌&&◌, ◌⊎◌, Bool, true, false, cond, List, [], ◌∷◌, ◌++◌, Option, None, Some, option_map, refl, sym, ap, ap₂, subst, ◌∙◌, inl, inr, lit<, lit≤, mod-lt, lt_of_lt_of_le}
 use Rattle.std.specs.Option.{IfSome}
-use Rattle.val_core.specs.declared.leaf.Leaf.{Leaf}
 use Rattle.val_core.specs.declared.values.Value.{Value}
 use Rattle.val_core.specs.declared.values.Value.TheVariants.{Num, At, Bad}
 use Rattle.val_core.specs.Words.{one_if}
 use Rattle.val_core.specs.Values.{IsLessDefined, IsSound, same_block, value1, value2}
-use Rattle.val_core.specs.Memory.{Cell, Block, Memory, load, store, takes_store, kept, block_named, block_changed, is_at, is_live, cell_written, written, closed, pointers_equal, new_cell, AreSoundCells, IsSoundMemory}
+use Rattle.val_core.specs.Memory.{Memory, load, store, takes_store, block_named, block_changed, is_live, written, closed, pointers_equal, IsSoundMemory}
 use Rattle.val_core.specs.Events.{wrote, took}
 use Rattle.val_core.specs.Refinement.{Direction, Comparison, Refines}
 use Rattle.val_core.specs.Answers.{Answer, Returned, Exited, on_number, on_defined}
-use Rattle.val_core.specs.Objects.{Addresses, opened, block_address, address_in}
+use Rattle.val_core.specs.Objects.{Addresses, opened, address_in}
 use Rattle.val_core.proofs.lemmas.Values.{keeps_less_defined1, keeps_less_defined2, keeps_sound1, keeps_sound2}
 use Rattle.val_core.proofs.lemmas.Objects.{opened_is_sound, addresses_are_sound}
 use Rattle.val_core.proofs.lemmas.Sound.{load_is_sound, store_is_sound, clear_is_sound, closed_is_sound}
 use Rattle.g_graph.specs.declared.op.Op.{Op}
 use Rattle.g_graph.specs.declared.op.Op.TheVariants.{Const, Undef, Local, Delta, Bin, Un, Load, Store, Clear, PtrEq, Put, Exit, Get}
-use Rattle.g_graph.specs.Plain.{PlainObject}
 use Rattle.g_mean.specs.Data.{Datum, val, memory, input, at_port, value_of, value_at, on_memory, on_input, with_memory}
 use Rattle.g_mean.specs.Meaning.{done, given, given_memory, got, cleared_at}
 use Rattle.g_mean.specs.LessDefined.{Paired, AreBytes, IsSoundDatum, IsLessDefinedDatum}

@@ -13,7 +13,7 @@ use Rattle.val_core.proofs.lemmas.Refinement.{refines-less-goes, no_deeper-uncal
 use Rattle.g_graph.specs.Plain.{RegionTree, PlainLambda}
 use Rattle.g_mean.specs.Data.{Datum, val, memory, input, at_port, with_memory, changed_at, on_memory}
 use Rattle.g_mean.specs.Meaning.{Context, region_meaning}
-use Rattle.g_mean.specs.Calls.{shapes_of, inside, entered, applied}
+use Rattle.g_mean.specs.Calls.{inside, entered, applied}
 use Rattle.g_mean.specs.LessDefined.{Paired, AreSound, IsLessDefinedDatum}
 use Rattle.g_mean.specs.Refining.{InOrder, MeaningRefines, ContextRefines}
 use Rattle.g_mean.specs.Replacement.{lesser, IsTwice, Linked}
