@@ -60,7 +60,8 @@ pub fn undefined(alloc: Global) -> Answer
 
 /// The later events after the earlier ones.
 pub fn joined(earlier: Vec<Event>, later: Vec<Event>) -> Result<Vec<Event>, NoMemory>
-    ensures { IfOk result (λ events. events_of events.items ≡ events_of earlier.items ++ events_of later.items) }
+    ensures { IfOk result (λ events. events_of events.items ≡ events_of earlier.items ++
+        events_of later.items) }
 {
     let mut events = earlier;
     let mut later = later;
@@ -71,7 +72,8 @@ pub fn joined(earlier: Vec<Event>, later: Vec<Event>) -> Result<Vec<Event>, NoMe
 /// The answer with these events before its own.
 #[tactic(auto, using(crate::proofs::Events::before_returned, crate::proofs::Events::before_cut, crate::proofs::Events::before_exited, crate::proofs::Events::before_undefined))]
 pub fn before(events: Vec<Event>, answer: Answer) -> Result<Answer, NoMemory>
-    ensures { IfOk result (λ later. answer_of later ≡ before (events_of events.items) (answer_of answer)) }
+    ensures { IfOk result (λ later. answer_of later ≡
+        before (events_of events.items) (answer_of answer)) }
 {
     match answer {
         Answer::Returned {

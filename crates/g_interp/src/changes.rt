@@ -72,7 +72,8 @@ pub fn word_of(size: u64) -> u32
 }
 
 fn new_block(alloc: Global, object: &Object) -> Result<Block, NoMemory>
-    ensures { IfOk result (λ block. block_of block ≡ new_block (word_of object.now.size) object.now.leaves) }
+    ensures { IfOk result (λ block. block_of block ≡
+        new_block (word_of object.now.size) object.now.leaves) }
 {
     let mut cells = Vec::new(alloc);
     for leaf in &object.leaves {
@@ -91,7 +92,8 @@ fn new_block(alloc: Global, object: &Object) -> Result<Block, NoMemory>
 
 /// The memory with the blocks of the objects of a call after its own.
 pub fn open(alloc: Global, objects: &[Object], memory: &[Block]) -> Result<Vec<Block>, NoMemory>
-    ensures { IfOk result (λ new. blocks_of new.items ≡ blocks_of memory.now ++ opened (shapes_of objects.now)) }
+    ensures { IfOk result (λ new. blocks_of new.items ≡ blocks_of memory.now ++
+        opened (shapes_of objects.now)) }
 {
     let mut new = copy_memory(alloc, memory)?;
     for object in objects {
@@ -108,7 +110,8 @@ fn write_block_if(
     value: Value,
     block: &Block,
 ) -> Result<Block, NoMemory>
-    ensures { IfOk result (λ new. block_of new ≡ (if here then written width offset value (block_of block.now) else block_of block.now)) }
+    ensures { IfOk result (λ new. block_of new ≡
+        (if here then written width offset value (block_of block.now) else block_of block.now)) }
 {
     if here {
         write_block(alloc, width, offset, value, block)
@@ -126,7 +129,8 @@ fn write(
     value: Value,
     memory: &[Block],
 ) -> Result<Vec<Block>, NoMemory>
-    ensures { IfOk result (λ new. blocks_of new.items ≡ block_changed name.number (written width offset value) (blocks_of memory.now)) }
+    ensures { IfOk result (λ new. blocks_of new.items ≡
+        block_changed name.number (written width offset value) (blocks_of memory.now)) }
 {
     let mut new = Vec::new(alloc);
     for (i, block) in memory.iter().enumerate() {
@@ -144,7 +148,8 @@ pub fn store(
     value: Value,
     memory: &[Block],
 ) -> Result<Option<Vec<Block>>, NoMemory>
-    ensures { IfOk result (λ new. option_map (λ v. blocks_of v.items) new ≡ store width at value (blocks_of memory.now)) }
+    ensures { IfOk result (λ new. option_map (λ v. blocks_of v.items) new ≡
+        store width at value (blocks_of memory.now)) }
 {
     let Value::At { block, offset } = at else {
         return Ok(None);
@@ -159,7 +164,8 @@ pub fn store(
 }
 
 fn clear_block_if(alloc: Global, here: bool, block: &Block) -> Result<Block, NoMemory>
-    ensures { IfOk result (λ new. block_of new ≡ (if here then zeroed (block_of block.now) else block_of block.now)) }
+    ensures { IfOk result (λ new. block_of new ≡
+        (if here then zeroed (block_of block.now) else block_of block.now)) }
 {
     if here {
         clear_block(alloc, block)
@@ -170,7 +176,8 @@ fn clear_block_if(alloc: Global, here: bool, block: &Block) -> Result<Block, NoM
 
 // The memory with every leaf of the block of this number 0.
 fn zero(alloc: Global, name: BlockName, memory: &[Block]) -> Result<Vec<Block>, NoMemory>
-    ensures { IfOk result (λ new. blocks_of new.items ≡ block_changed name.number zeroed (blocks_of memory.now)) }
+    ensures { IfOk result (λ new. blocks_of new.items ≡
+        block_changed name.number zeroed (blocks_of memory.now)) }
 {
     let mut new = Vec::new(alloc);
     for (i, block) in memory.iter().enumerate() {
@@ -182,7 +189,8 @@ fn zero(alloc: Global, name: BlockName, memory: &[Block]) -> Result<Vec<Block>, 
 
 /// The memory with every leaf of the object at an address 0.
 pub fn clear(alloc: Global, at: Value, memory: &[Block]) -> Result<Option<Vec<Block>>, NoMemory>
-    ensures { IfOk result (λ new. option_map (λ v. blocks_of v.items) new ≡ cleared_at at (blocks_of memory.now)) }
+    ensures { IfOk result (λ new. option_map (λ v. blocks_of v.items) new ≡
+        cleared_at at (blocks_of memory.now)) }
 {
     match at {
         Value::At { block, .. } => Ok(Some(zero(alloc, block, memory)?)),

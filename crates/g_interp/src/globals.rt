@@ -27,7 +27,8 @@ pub fn global_sizes(alloc: Global, deltas: &[Delta]) -> Result<Vec<u64>, NoMemor
 
 // Bytes as a word, the lowest first, where a word holds them.
 fn little_endian(bytes: &[u8]) -> Option<u32>
-    ensures { MatchOption result (2 ^ 32 ≤ little_endian bytes.now) (λ w. w ≡ little_endian bytes.now) }
+    ensures { MatchOption result (2 ^ 32 ≤ little_endian bytes.now) (λ w. w ≡
+        little_endian bytes.now) }
 {
     match bytes.split_first() {
         Some((lowest, rest)) => little_endian(rest)?
@@ -59,7 +60,9 @@ fn link_at(offset: u32, links: &[Link]) -> Option<u32>
 }
 
 fn leaf_value(globals: &[u64], delta: &Delta, leaf: Leaf) -> Result<Value, RunError>
-    ensures value { IfOk result (λ value. value ≡ leaf_value (address_in 0 globals.now) delta.now.bytes leaf (link_at leaf.offset delta.now.links)) }
+    ensures value { IfOk result (λ value. value ≡
+        leaf_value (address_in 0 globals.now) delta.now.bytes leaf
+        (link_at leaf.offset delta.now.links)) }
     ensures error { IfErr result (λ e. e ≢ RunError.TooDeep) }
     ensures none { result ≡ Err RunError.NoFirstValue → IsTrue (is_too_wide delta.now leaf) }
 {
@@ -73,7 +76,8 @@ fn leaf_value(globals: &[u64], delta: &Delta, leaf: Leaf) -> Result<Value, RunEr
 }
 
 fn first_block(alloc: Global, globals: &[u64], delta: &Delta) -> Result<Block, RunError>
-    ensures block { IfOk result (λ block. block_of block ≡ first_block (address_in 0 globals.now) delta.now) }
+    ensures block { IfOk result (λ block. block_of block ≡
+        first_block (address_in 0 globals.now) delta.now) }
     ensures error { IfErr result (λ e. e ≢ RunError.TooDeep) }
     ensures none { result ≡ Err RunError.NoFirstValue → IsTrue (lacks_value delta.now) }
 {
@@ -100,7 +104,8 @@ pub fn first_memory(
     globals: &[u64],
     deltas: &[Delta],
 ) -> Result<Vec<Block>, RunError>
-    ensures memory { IfOk result (λ memory. blocks_of memory.items ≡ map (first_block (address_in 0 globals.now)) deltas.now) }
+    ensures memory { IfOk result (λ memory. blocks_of memory.items ≡
+        map (first_block (address_in 0 globals.now)) deltas.now) }
     ensures error { IfErr result (λ e. e ≢ RunError.TooDeep) }
     ensures none { result ≡ Err RunError.NoFirstValue → IsTrue (list_any lacks_value deltas.now) }
 {

@@ -33,7 +33,8 @@ fn has_leaf(width: u8, offset: u32, cells: &[Cell]) -> bool
 
 // The block of this name, if the memory has one.
 fn find(name: BlockName, memory: &[Block]) -> Option<&Block>
-    ensures { MatchOption result (block_named name (blocks_of memory.now) ≡ None) (λ k. block_named name (blocks_of memory.now) ≡ Some (block_of k.now)) }
+    ensures { MatchOption result (block_named name (blocks_of memory.now) ≡
+        None) (λ k. block_named name (blocks_of memory.now) ≡ Some (block_of k.now)) }
 {
     let number = name.number as usize;
     if number < memory.len() && memory[number].size == name.size {

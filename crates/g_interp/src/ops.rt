@@ -56,7 +56,8 @@ pub fn global_size(sizes: &[u64], k: u32) -> Option<u64>
 }
 
 fn load_op(alloc: Global, width: u8, at: Value, memory: &Datum) -> Result<Answer, NoMemory>
-    ensures { IfOk result (λ answer. answer_of answer ≡ on_memory (datum_of memory.now) (λ m. on_defined (load width at m) given)) }
+    ensures { IfOk result (λ answer. answer_of answer ≡
+        on_memory (datum_of memory.now) (λ m. on_defined (load width at m) given)) }
 {
     let Datum::Memory(blocks) = memory else {
         return Ok(undefined(alloc));
@@ -74,7 +75,8 @@ fn store_op(
     value: Value,
     memory: &Datum,
 ) -> Result<Answer, NoMemory>
-    ensures { IfOk result (λ answer. answer_of answer ≡ on_memory (datum_of memory.now) (λ m. on_defined (store width at value m) given_memory)) }
+    ensures { IfOk result (λ answer. answer_of answer ≡
+        on_memory (datum_of memory.now) (λ m. on_defined (store width at value m) given_memory)) }
 {
     let Datum::Memory(blocks) = memory else {
         return Ok(undefined(alloc));
@@ -86,7 +88,8 @@ fn store_op(
 }
 
 fn clear_op(alloc: Global, at: Value, memory: &Datum) -> Result<Answer, NoMemory>
-    ensures { IfOk result (λ answer. answer_of answer ≡ on_memory (datum_of memory.now) (λ m. on_defined (cleared_at at m) given_memory)) }
+    ensures { IfOk result (λ answer. answer_of answer ≡
+        on_memory (datum_of memory.now) (λ m. on_defined (cleared_at at m) given_memory)) }
 {
     let Datum::Memory(blocks) = memory else {
         return Ok(undefined(alloc));
@@ -98,7 +101,9 @@ fn clear_op(alloc: Global, at: Value, memory: &Datum) -> Result<Answer, NoMemory
 }
 
 fn compare_op(alloc: Global, x: Value, y: Value, memory: &Datum) -> Result<Answer, NoMemory>
-    ensures { IfOk result (λ answer. answer_of answer ≡ on_memory (datum_of memory.now) (λ m. on_defined (pointers_equal x y m) (λ n. given (Num n)))) }
+    ensures { IfOk result (λ answer. answer_of answer ≡
+        on_memory (datum_of memory.now) (λ m. on_defined (pointers_equal x y m) (λ n. given
+        (Num n)))) }
 {
     let Datum::Memory(blocks) = memory else {
         return Ok(undefined(alloc));
@@ -110,7 +115,9 @@ fn compare_op(alloc: Global, x: Value, y: Value, memory: &Datum) -> Result<Answe
 }
 
 fn put_op(alloc: Global, value: Value, io: &Datum) -> Result<Answer, NoMemory>
-    ensures { IfOk result (λ answer. answer_of answer ≡ on_number value (λ w. on_input (datum_of io.now) (λ i. Returned (input i ∷ []) (wrote (w % 256) ∷ [])))) }
+    ensures { IfOk result (λ answer. answer_of answer ≡
+        on_number value (λ w. on_input (datum_of io.now) (λ i. Returned (input i ∷ []) (wrote
+        (w % 256) ∷ [])))) }
 {
     let Value::Num(w) = value else {
         return Ok(undefined(alloc));
@@ -165,7 +172,8 @@ fn get_op(alloc: Global, io: &Datum) -> Result<Answer, NoMemory>
 
 /// What an op without regions does but for a call.
 pub fn done(alloc: Global, context: Context, op: Op, inputs: &[Datum]) -> Result<Answer, NoMemory>
-    ensures { IfOk result (λ answer. answer_of answer ≡ done (addresses_of context.entry) op (data_of inputs.now)) }
+    ensures { IfOk result (λ answer. answer_of answer ≡
+        done (addresses_of context.entry) op (data_of inputs.now)) }
 {
     let first = value_at(inputs, 0);
     let second = value_at(inputs, 1);

@@ -82,7 +82,8 @@ fn read(
     outputs: &[Output],
     origin: Origin,
 ) -> Result<Datum, NoMemory>
-    ensures { IfOk result (λ datum. datum_of datum ≡ read (data_of args.now) (outputs_of outputs.now) origin) }
+    ensures { IfOk result (λ datum. datum_of datum ≡
+        read (data_of args.now) (outputs_of outputs.now) origin) }
 {
     match origin {
         Origin::Arg(k) => port(alloc, args, k),
@@ -98,7 +99,8 @@ pub fn read_all(
     outputs: &[Output],
     origins: &[Origin],
 ) -> Result<Vec<Datum>, NoMemory>
-    ensures { IfOk result (λ all. data_of all.items ≡ map (read (data_of args.now) (outputs_of outputs.now)) origins.now) }
+    ensures { IfOk result (λ all. data_of all.items ≡
+        map (read (data_of args.now) (outputs_of outputs.now)) origins.now) }
 {
     let mut all = Vec::new(alloc);
     for origin in origins {
@@ -113,7 +115,8 @@ fn open_datum(
     objects: &[Object],
     datum: &Datum,
 ) -> Result<Datum, NoMemory>
-    ensures { IfOk result (λ new. datum_of new ≡ (if here then with_memory (λ m. m ++ opened (shapes_of objects.now)) (datum_of datum.now) else datum_of datum.now)) }
+    ensures { IfOk result (λ new. datum_of new ≡ (if here then with_memory (λ m. m ++
+        opened (shapes_of objects.now)) (datum_of datum.now) else datum_of datum.now)) }
 {
     match datum {
         Datum::Memory(memory) if here => Ok(Datum::Memory(open(alloc, objects, memory)?)),
@@ -128,7 +131,8 @@ pub fn open_at(
     objects: &[Object],
     xs: &[Datum],
 ) -> Result<Vec<Datum>, NoMemory>
-    ensures { IfOk result (λ new. data_of new.items ≡ changed_at port (with_memory (λ m. m ++ opened (shapes_of objects.now))) (data_of xs.now)) }
+    ensures { IfOk result (λ new. data_of new.items ≡ changed_at port (with_memory (λ m. m ++
+        opened (shapes_of objects.now))) (data_of xs.now)) }
 {
     let mut new = Vec::new(alloc);
     for (i, datum) in xs.iter().enumerate() {
@@ -144,7 +148,9 @@ fn close_datum(
     count: usize,
     datum: &Datum,
 ) -> Result<Datum, NoMemory>
-    ensures { IfOk result (λ new. datum_of new ≡ (if here then with_memory (closed first count) (datum_of datum.now) else datum_of datum.now)) }
+    ensures { IfOk result (λ new. datum_of new ≡
+        (if here then with_memory (closed first count)
+        (datum_of datum.now) else datum_of datum.now)) }
 {
     match datum {
         Datum::Memory(memory) if here => Ok(Datum::Memory(close(alloc, first, count, memory)?)),
@@ -161,7 +167,8 @@ pub fn close_at(
     count: usize,
     xs: &[Datum],
 ) -> Result<Vec<Datum>, NoMemory>
-    ensures { IfOk result (λ new. data_of new.items ≡ changed_at port (with_memory (closed first count)) (data_of xs.now)) }
+    ensures { IfOk result (λ new. data_of new.items ≡
+        changed_at port (with_memory (closed first count)) (data_of xs.now)) }
 {
     let mut new = Vec::new(alloc);
     for (i, datum) in xs.iter().enumerate() {

@@ -66,9 +66,12 @@ pub fn run_program(
     omega: &Omega,
     input: &[u8],
 ) -> Result<Answer, RunError>
-    ensures answer { IfOk result (λ answer. answer_of answer ≡ program_at bound omega.now omega.now.lambdas input.now) }
-    ensures too_deep { result ≡ Err RunError.TooDeep → IsTooDeep 1000 0 (bound + 1) omega.now.lambdas }
-    ensures no_first_value { result ≡ Err RunError.NoFirstValue → IsTrue (list_any lacks_value omega.now.deltas) }
+    ensures answer { IfOk result (λ answer. answer_of answer ≡
+        program_at bound omega.now omega.now.lambdas input.now) }
+    ensures too_deep { result ≡ Err RunError.TooDeep →
+        IsTooDeep 1000 0 (bound + 1) omega.now.lambdas }
+    ensures no_first_value { result ≡ Err RunError.NoFirstValue →
+        IsTrue (list_any lacks_value omega.now.deltas) }
 {
     let Some(index) = main_index(&omega.names) else {
         return Ok(undefined(alloc));

@@ -33,7 +33,8 @@ pub fn run_lambda(
     function: u32,
     inputs: &[Datum],
 ) -> Result<Answer, RunError>
-    ensures answer { IfOk result (λ answer. answer_of answer ≡ lambda_at bound lambdas.now (address_in 0 globals.now) function (data_of inputs.now)) }
+    ensures answer { IfOk result (λ answer. answer_of answer ≡
+        lambda_at bound lambdas.now (address_in 0 globals.now) function (data_of inputs.now)) }
     ensures error { IfErr result (λ e. e ≢ RunError.NoFirstValue) }
     ensures too_deep { result ≡ Err RunError.TooDeep → IsTooDeep 1000 0 (bound + 1) lambdas.now }
 {
@@ -57,9 +58,11 @@ fn run_region(
     region: &Region,
     args: &[Datum],
 ) -> Result<Answer, RunError>
-    ensures answer { IfOk result (λ answer. answer_of answer ≡ region_meaning (context_of context.entry) region.now (data_of args.now)) }
+    ensures answer { IfOk result (λ answer. answer_of answer ≡
+        region_meaning (context_of context.entry) region.now (data_of args.now)) }
     ensures error { IfErr result (λ e. e ≢ RunError.NoFirstValue) }
-    ensures too_deep { result ≡ Err RunError.TooDeep → IsTooDeep depth (region_levels region.now) context.entry.bound context.entry.lambdas.now }
+    ensures too_deep { result ≡ Err RunError.TooDeep →
+        IsTooDeep depth (region_levels region.now) context.entry.bound context.entry.lambdas.now }
 {
     let mut outputs = Vec::new(alloc);
     let mut events = Vec::new(alloc);
@@ -90,9 +93,11 @@ fn run_node(
     args: &[Datum],
     outputs: &[Output],
 ) -> Result<Answer, RunError>
-    ensures answer { IfOk result (λ answer. answer_of answer ≡ node_run (context_of context.entry) node.now (data_of args.now) (outputs_of outputs.now)) }
+    ensures answer { IfOk result (λ answer. answer_of answer ≡
+        node_run (context_of context.entry) node.now (data_of args.now) (outputs_of outputs.now)) }
     ensures error { IfErr result (λ e. e ≢ RunError.NoFirstValue) }
-    ensures too_deep { result ≡ Err RunError.TooDeep → IsTooDeep depth (node_levels node.now) context.entry.bound context.entry.lambdas.now }
+    ensures too_deep { result ≡ Err RunError.TooDeep →
+        IsTooDeep depth (node_levels node.now) context.entry.bound context.entry.lambdas.now }
 {
     let inputs = read_all(alloc, args, outputs, node.inputs.as_slice())?;
     if depth == 0 {
@@ -122,9 +127,13 @@ fn run_gamma(
     regions: &[Region],
     inputs: &[Datum],
 ) -> Result<Answer, RunError>
-    ensures answer { IfOk result (λ answer. answer_of answer ≡ branched (meanings (context_of context.entry) (regions_of regions.now)) (data_of inputs.now)) }
+    ensures answer { IfOk result (λ answer. answer_of answer ≡
+        branched (meanings (context_of context.entry) (regions_of regions.now))
+        (data_of inputs.now)) }
     ensures error { IfErr result (λ e. e ≢ RunError.NoFirstValue) }
-    ensures too_deep { result ≡ Err RunError.TooDeep → IsTooDeep depth (regions_levels (regions_of regions.now)) context.entry.bound context.entry.lambdas.now }
+    ensures too_deep { result ≡ Err RunError.TooDeep →
+        IsTooDeep depth (regions_levels
+        (regions_of regions.now)) context.entry.bound context.entry.lambdas.now }
 {
     let Some(found) = take_number(alloc, inputs)? else {
         return Ok(undefined(alloc));
@@ -143,9 +152,13 @@ fn run_theta(
     regions: &[Region],
     inputs: &[Datum],
 ) -> Result<Answer, RunError>
-    ensures answer { IfOk result (λ answer. answer_of answer ≡ looped context.entry.bound (meanings (context_of context.entry) (regions_of regions.now)) (data_of inputs.now)) }
+    ensures answer { IfOk result (λ answer. answer_of answer ≡
+        looped context.entry.bound (meanings (context_of context.entry) (regions_of regions.now))
+        (data_of inputs.now)) }
     ensures error { IfErr result (λ e. e ≢ RunError.NoFirstValue) }
-    ensures too_deep { result ≡ Err RunError.TooDeep → IsTooDeep depth (regions_levels (regions_of regions.now)) context.entry.bound context.entry.lambdas.now }
+    ensures too_deep { result ≡ Err RunError.TooDeep →
+        IsTooDeep depth (regions_levels
+        (regions_of regions.now)) context.entry.bound context.entry.lambdas.now }
 {
     match regions.first() {
         Some(body) => run_turns(alloc, context, depth, body, inputs),
@@ -161,9 +174,12 @@ fn run_turns(
     body: &Region,
     inputs: &[Datum],
 ) -> Result<Answer, RunError>
-    ensures answer { IfOk result (λ answer. answer_of answer ≡ turns context.entry.bound (region_meaning (context_of context.entry) body.now) (data_of inputs.now)) }
+    ensures answer { IfOk result (λ answer. answer_of answer ≡
+        turns context.entry.bound (region_meaning (context_of context.entry) body.now)
+        (data_of inputs.now)) }
     ensures error { IfErr result (λ e. e ≢ RunError.NoFirstValue) }
-    ensures too_deep { result ≡ Err RunError.TooDeep → IsTooDeep depth (region_levels body.now) context.entry.bound context.entry.lambdas.now }
+    ensures too_deep { result ≡ Err RunError.TooDeep →
+        IsTooDeep depth (region_levels body.now) context.entry.bound context.entry.lambdas.now }
 {
     let mut events = Vec::new(alloc);
     let mut inputs = copy_data(alloc, inputs)?;
@@ -194,7 +210,8 @@ fn call(
     function: u32,
     inputs: &[Datum],
 ) -> Result<Answer, RunError>
-    ensures answer { IfOk result (λ answer. answer_of answer ≡ applied lambdas.now (address_in 0 globals.now) bound function (data_of inputs.now)) }
+    ensures answer { IfOk result (λ answer. answer_of answer ≡
+        applied lambdas.now (address_in 0 globals.now) bound function (data_of inputs.now)) }
     ensures error { IfErr result (λ e. e ≢ RunError.NoFirstValue) }
     ensures too_deep { result ≡ Err RunError.TooDeep → IsTooDeep depth 0 bound lambdas.now }
 {
@@ -223,9 +240,12 @@ fn enter(
     lambda: &Lambda,
     inputs: &[Datum],
 ) -> Result<Answer, RunError>
-    ensures answer { IfOk result (λ answer. answer_of answer ≡ entered bound (applied lambdas.now (address_in 0 globals.now) bound) (address_in 0 globals.now) (Some lambda.now) (data_of inputs.now)) }
+    ensures answer { IfOk result (λ answer. answer_of answer ≡
+        entered bound (applied lambdas.now (address_in 0 globals.now) bound)
+        (address_in 0 globals.now) (Some lambda.now) (data_of inputs.now)) }
     ensures error { IfErr result (λ e. e ≢ RunError.NoFirstValue) }
-    ensures too_deep { result ≡ Err RunError.TooDeep → IsTooDeep depth (region_levels lambda.now.body) bound lambdas.now }
+    ensures too_deep { result ≡ Err RunError.TooDeep →
+        IsTooDeep depth (region_levels lambda.now.body) bound lambdas.now }
 {
     let port = lambda.params as usize;
     let Some(first) = block_count(inputs, port) else {
