@@ -20,7 +20,8 @@ before_exited {A} o p status = laws.before-is {A = A} o (Exited p status)
 pub before_undefined : {A : Type 0} (o p : List Event) → before {A = A} o (Undefined p) ≡ Undefined (o ++ p)
 before_undefined {A} o p = laws.before-is {A = A} o (Undefined p)
 
-pub beneath_next : (f : ℕ) (es : List event.Event) (i : ℕ) (k : event.Event) → i < length es → called f (events_of (take (suc i) es)) ≡ called f (events_of (take i es)) ++ under f (event_of (slice_index_or es i k)) ∷ []
+pub beneath_next : (f : ℕ) (es : List event.Event) (i : ℕ) (k : event.Event) → i < length es →
+    called f (events_of (take (suc i) es)) ≡ called f (events_of (take i es)) ++ under f (event_of (slice_index_or es i k)) ∷ []
 beneath_next f es i k h = ap (λ r. met (f ∷ []) ∷ r) (go es i h)
   where
     go : (es : List event.Event) (i : ℕ) → i < length es → beneath f (events_of (take (suc i) es)) ≡ beneath f (events_of (take i es)) ++ under f (event_of (slice_index_or es i k)) ∷ []
@@ -33,7 +34,8 @@ beneath_next f es i k h = ap (λ r. met (f ∷ []) ∷ r) (go es i h)
     go (Met s ∷ es) (suc i) h = ap (λ r. met (f ∷ s.items) ∷ r) (go es i (omega arith))
 
 -- the same, of the event that a loop is at
-pub beneath_item : (f : ℕ) (es : List event.Event) (i : ℕ) (k : event.Event) → i < length es → k ≡ slice_index_or es i k → called f (events_of (take (i + 1) es)) ≡ called f (events_of (take i es)) ++ under f (event_of k) ∷ []
+pub beneath_item : (f : ℕ) (es : List event.Event) (i : ℕ) (k : event.Event) → i < length es → k ≡ slice_index_or es i k →
+    called f (events_of (take (i + 1) es)) ≡ called f (events_of (take i es)) ++ under f (event_of k) ∷ []
 beneath_item f es i k h e =
     ap (λ j. called f (events_of (take j es))) (add-one i) ∙ beneath_next f es i k h ∙ ap (λ x. called f (events_of (take i es)) ++ under f (event_of x) ∷ []) (sym e)
 

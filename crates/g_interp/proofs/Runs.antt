@@ -55,7 +55,8 @@ branched_is ms (memory m ∷ xs) = refl
 branched_is ms (input i ∷ xs) = refl
 
 -- the nodes from one on: it, and then those after it
-pub nodes_next : {A : Type 0} (c : Context) (x : NodeTree) (ns : NodeTrees) (xs : List Datum) (o : Outputs) (k : Outputs → Answer A) → then_on (nodes_run c (node_then x ns) xs o) k ≡ then_on (node_run c x xs o) (λ ys. then_on (nodes_run c ns xs (extended o (id_of x) ys)) k)
+pub nodes_next : {A : Type 0} (c : Context) (x : NodeTree) (ns : NodeTrees) (xs : List Datum) (o : Outputs) (k : Outputs → Answer A) →
+    then_on (nodes_run c (node_then x ns) xs o) k ≡ then_on (node_run c x xs o) (λ ys. then_on (nodes_run c ns xs (extended o (id_of x) ys)) k)
 nodes_next c x ns xs o k = then_associates (node_run c x xs o) (λ ys. nodes_run c ns xs (extended o (id_of x) ys)) k
 
 -- ---- regions

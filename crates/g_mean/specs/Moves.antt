@@ -32,11 +32,11 @@ PureNodesGiveTheSame =
 
 -- ---- nodes in another place
 
--- what these nodes read is near to what their moved inputs carry
+-- what these nodes read is less defined than what their moved inputs carry
 abbrev pub ReadLessDefined : (S : Origin → Bool) → List ℕ → (move : Origin → Origin) → (xs ys : List Datum) → Outputs → Outputs → Type 0
 ReadLessDefined S known move xs ys o q = (a : Origin) → IsRead S known a → IsLessDefinedDatum (read xs o a) (read ys q (move a))
 
--- Nodes and moved nodes refine where what they read is near, and then so is what follows them.
+-- Nodes and moved nodes refine where what they read is less defined, and then so is what follows them.
 abbrev pub MovedNodesRefine : Type 0
 MovedNodesRefine =
     (direction : Direction) (c d : Context) → ContextRefines no_deeper direction IsLessDefinedDatum c d →
@@ -44,7 +44,7 @@ MovedNodesRefine =
     (xs ys : List Datum) (o q : Outputs) → ReadLessDefined S [] move xs ys o q →
     Refines no_deeper direction (ReadLessDefined S (known_after [] ns) move xs ys) (nodes_run c ns xs o) (nodes_run d (nodes_moved move to ns) ys q)
 
--- A region and its moved nodes with moved results refine where the arguments that are read are near. An argument that
+-- A region and its moved nodes with moved results refine where the arguments that are read are less defined. An argument that
 -- is not read may be anything, or not be there.
 abbrev pub MovedRegionsRefine : Type 0
 MovedRegionsRefine =

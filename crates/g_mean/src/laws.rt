@@ -103,7 +103,7 @@ pub fn pure_nodes_give_the_same()
 {}
 
 /// The move law: nodes whose inputs come from elsewhere, and which may have new numbers, refine
-/// where what they read is near. What they do not read may be anything.
+/// where what they read is less defined. What they do not read may be anything.
 pub fn moved_nodes_refine()
     ensures nodes { MovedNodesRefine }
     ensures region { MovedRegionsRefine }

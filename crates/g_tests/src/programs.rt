@@ -23,8 +23,8 @@ pub enum Program {
     Cleared,
     /// `int main(void) { int x, y; return (&x == &x) - (&x == &y); }`
     Compared,
-    /// `char c = 200; int main(void) { switch (c) { case 0: putchar(97); .. } .. }`, where all but 0
-    /// and 1 lead to the third case
+    /// `char c = 200; int main(void) { switch (c) { case 0: putchar(97); .. } .. }`, where all but
+    /// 0 and 1 lead to the third case
     Narrow,
     /// `int main(void) { int x; putchar(65); putchar(getchar()); return x; }`
     Unset,

@@ -40,9 +40,11 @@ module _ (cmp : Comparison) (g : Compares cmp) (direction : Direction) (N : Datu
     applied-more (suc n) zero order f = record { on = λ xs ys near. far-cut cmp g direction (Paired N) n order (applied ls global (suc n) f xs) }
     applied-more (suc n) (suc m) order f =
         let below = order-below direction n m order in
-        let body = entered-refines cmp g direction N k Never Always never-refines n m below (applied ls global n) (applied ls global m) (λ j. applied-more n m below j) global globals (λ os b. tt) (slice_get ls f) (slice_get ls f) (found-itself Never (slice_get ls f)) in
+        let body = entered-refines cmp g direction N k Never Always never-refines n m below (applied ls global n) (applied ls global m) (λ j. applied-more n m below j) global globals (λ os b. tt)
+        (slice_get ls f) (slice_get ls f) (found-itself Never (slice_get ls f)) in
         record {
-          on = λ xs ys near. refines-active cmp g.goes (Paired N) direction f (entered n (applied ls global n) global (slice_get ls f) xs) (entered m (applied ls global m) global (slice_get ls f) ys) (body.on xs ys near);
+          on = λ xs ys near. refines-active cmp g.goes (Paired N) direction f (entered n (applied ls global n) global (slice_get ls f) xs)
+              (entered m (applied ls global m) global (slice_get ls f) ys) (body.on xs ys near);
         }
 
   pub region_at-more : (ls : List PlainLambda) (addresses : Addresses) → ((j : ℕ) → N (val (addresses.local j)) (val (addresses.local j))) →
@@ -74,7 +76,8 @@ started-extends : (n m : ℕ) (omega : PlainOmega) (ls : List PlainLambda) (f : 
 started-extends n m omega ls None i order = tt
 started-extends n m omega ls (Some f) i order =
     let start = memory (first_memory omega.deltas) ∷ input i ∷ [] in
-    refines-then exactly exactly-compares.goes (λ us vs. us ≡ vs) (λ us vs. us ≡ vs) Forward (lambda_at n ls (global_of omega.deltas) f start) (lambda_at m ls (global_of omega.deltas) f start) finished finished
+    refines-then exactly exactly-compares.goes (λ us vs. us ≡ vs) (λ us vs. us ≡ vs) Forward (lambda_at n ls (global_of omega.deltas) f start)
+    (lambda_at m ls (global_of omega.deltas) f start) finished finished
     (lambda_extends n m ls (global_of omega.deltas) f start order) (λ us vs e. equal-answers (finished us) (finished vs) (ap finished e))
 
 pub program_extends : ProgramExtends
@@ -128,7 +131,8 @@ refines-sound (Undefined o) b h = tt
 pub region_is_sound : RegionIsSound
 region_is_sound n ls r xs addresses locals globals s =
     refines-sound (region_at n ls r xs addresses) (region_at n ls r xs addresses)
-    (region_at-more exactly exactly-compares Forward IsLessDefinedDatum less-kept ls addresses (λ j. (inl refl, locals j, locals j)) (λ j. (inl refl, globals j, globals j)) r n n (omega arith) xs xs (sound-pairs xs s))
+    (region_at-more exactly exactly-compares Forward IsLessDefinedDatum less-kept ls addresses (λ j. (inl refl, locals j, locals j)) (λ j. (inl refl, globals j, globals j)) r n n
+    (omega arith) xs xs (sound-pairs xs s))
 
 pub lambda_is_sound : LambdaIsSound
 lambda_is_sound n ls global f xs globals s =

@@ -1,4 +1,4 @@
--- Calls of lambdas that are equal but for alike regions refine.
+-- Calls of lambdas that are equal but for regions that refine, refine.
 use Rattle.std.proofs.Common.{ℕ, zero, suc, List, [], ◌∷◌, ◌++◌, length, slice_get, Option, None, Some, refl, subst, inr}
 use Rattle.val_core.specs.declared.values.Value.{Value}
 use Rattle.val_core.specs.Memory.{Memory, closed}
@@ -55,17 +55,23 @@ module _ (cmp : Comparison) (g : Compares cmp) (direction : Direction) (N : Datu
   changed-refines n f h [] (y ∷ ys) near = absurd near
   changed-refines n f h (x ∷ xs) [] near = absurd near
 
-  module _ (P : RegionTree → RegionTree → Type 0) (Q : Context → Context → Type 0) (base : (r s : RegionTree) → P r s → RegionRefines cmp direction N Q r s) (n m : ℕ) (order : InOrder direction n m) (call call' : ℕ → Meaning) (calls : (f : ℕ) → MeaningRefines cmp direction N (call f) (call' f)) (global : ℕ → Value) (globals : (j : ℕ) → N (val (global j)) (val (global j))) where
+  module _ (P : RegionTree → RegionTree → Type 0) (Q : Context → Context → Type 0) (base : (r s : RegionTree) → P r s → RegionRefines cmp direction N Q r s) (n m : ℕ)
+      (order : InOrder direction n m) (call call' : ℕ → Meaning) (calls : (f : ℕ) → MeaningRefines cmp direction N (call f) (call' f)) (global : ℕ → Value)
+      (globals : (j : ℕ) → N (val (global j)) (val (global j))) where
     body-refines : (params : ℕ) (os : List PlainObject) → ((b : Memory) → Q (inside n call global os b) (inside m call' global os b)) → (r s : RegionTree) → SameBut P r s → (xs ys : List Datum) →
         Paired N xs ys → (b : Memory) →
         Refines cmp direction (Paired N)
-        (then_on (region_meaning (inside n call global os b) r (changed_at params (with_memory (λ j. j ++ opened (shapes_of os))) xs)) (λ us. Returned (changed_at 1 (with_memory (closed (length b) (length os))) us) []))
-        (then_on (region_meaning (inside m call' global os b) s (changed_at params (with_memory (λ j. j ++ opened (shapes_of os))) ys)) (λ us. Returned (changed_at 1 (with_memory (closed (length b) (length os))) us) []))
+        (then_on (region_meaning (inside n call global os b) r (changed_at params (with_memory (λ j. j ++ opened (shapes_of os))) xs))
+        (λ us. Returned (changed_at 1 (with_memory (closed (length b) (length os))) us) []))
+        (then_on (region_meaning (inside m call' global os b) s (changed_at params (with_memory (λ j. j ++ opened (shapes_of os))) ys))
+        (λ us. Returned (changed_at 1 (with_memory (closed (length b) (length os))) us) []))
     body-refines params os q r s same xs ys near b =
-        let context : ContextRefines cmp direction N (inside n call global os b) (inside m call' global os b) = record { bounds = order; calls = calls; locals = λ j. k.address (length b) (sizes_of os) j; globals = globals } in
+        let context : ContextRefines cmp direction N (inside n call global os b)
+        (inside m call' global os b) = record { bounds = order; calls = calls; locals = λ j. k.address (length b) (sizes_of os) j; globals = globals } in
         let whole = region-refines cmp g direction N k P Q base (inside n call global os b) (inside m call' global os b) context (q b) r s same in
         refines-then cmp g.goes (Paired N) (Paired N) direction _ _ _ _
-        (whole.on (changed_at params (with_memory (λ j. j ++ opened (shapes_of os))) xs) (changed_at params (with_memory (λ j. j ++ opened (shapes_of os))) ys) (changed-refines params (with_memory (λ j. j ++ opened (shapes_of os))) (λ x y h. k.opens x y h (shapes_of os)) xs ys near))
+        (whole.on (changed_at params (with_memory (λ j. j ++ opened (shapes_of os))) xs) (changed_at params (with_memory (λ j. j ++ opened (shapes_of os))) ys)
+        (changed-refines params (with_memory (λ j. j ++ opened (shapes_of os))) (λ x y h. k.opens x y h (shapes_of os)) xs ys near))
         (λ us vs near'. (changed-refines 1 (with_memory (closed (length b) (length os))) (λ x y h. k.closes x y h (length b) (length os)) us vs near', g.goes.nothing))
 
     pub entered-refines : ((os : List PlainObject) (b : Memory) → Q (inside n call global os b) (inside m call' global os b)) → (l l' : Option PlainLambda) → FoundSameBut P l l' →
@@ -74,8 +80,10 @@ module _ (cmp : Comparison) (g : Compares cmp) (direction : Direction) (N : Datu
     entered-refines q (Some l) (Some l') h =
         record {
           on = λ xs ys near.
-              subst (λ os. Refines cmp direction (Paired N) (entered n call global (Some l) xs) (entered m call' global (Some (record { number = l'.number; params = l'.params; objects = os; body = l'.body; next = l'.next })) ys)) h.objects
-              (subst (λ ps. Refines cmp direction (Paired N) (entered n call global (Some l) xs) (entered m call' global (Some (record { number = l'.number; params = ps; objects = l.objects; body = l'.body; next = l'.next })) ys)) h.params
+              subst (λ os. Refines cmp direction (Paired N) (entered n call global (Some l) xs)
+              (entered m call' global (Some (record { number = l'.number; params = l'.params; objects = os; body = l'.body; next = l'.next })) ys)) h.objects
+              (subst (λ ps. Refines cmp direction (Paired N) (entered n call global (Some l) xs)
+              (entered m call' global (Some (record { number = l'.number; params = ps; objects = l.objects; body = l'.body; next = l'.next })) ys)) h.params
               (on_memory-refines cmp g direction N k (Paired N) (at_port xs l.params) (at_port ys l.params) (paired-at N k xs ys near l.params) _ _
               (λ b. body-refines l.params l.objects (q l.objects) l.body l'.body h.body xs ys near b)));
         }

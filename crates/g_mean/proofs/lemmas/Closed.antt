@@ -60,7 +60,8 @@ two a b c d e f g h t =
 
 inputs-last : (objects : ℕ) (args : List Kind) (before : NodeTrees) (x : NodeTree) → node_fits objects args before x ≡ true → inputs_are_last args before x ≡ true
 inputs-last objects args before x t =
-    two (inputs_fit args before x) (inputs_are_last args before x) (node_has_one_state_each args before x) (has_its_regions x) (regions_fit x) (theta_has_states x) (has_its_width x) (has_its_object objects x) t
+    two (inputs_fit args before x) (inputs_are_last args before x) (node_has_one_state_each args before x) (has_its_regions x) (regions_fit x) (theta_has_states x) (has_its_width x)
+    (has_its_object objects x) t
 
 region-last : (objects : ℕ) (r : RegionTree) → region_fits objects r ≡ true → (nodes_fit objects r ≡ true) × (results_are_last r ≡ true)
 region-last objects r t =

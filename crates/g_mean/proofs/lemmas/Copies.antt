@@ -172,9 +172,11 @@ mutual
   region-same : (to : ℕ → ℕ) (r : RegionTree) → IsClosed r → IsOneToOne to (region_ids r) → (c : Context) (xs : List Datum) → region_meaning c r xs ≡ region_meaning c (region_copied to r) xs
   region-same to (region args nodes results) closed one c xs =
       same-equal (region_meaning c (region args nodes results) xs) (region_meaning c (region_copied to (region args nodes results)) xs)
-      (same-then (ReadSame (is_argument (length args)) (known_after [] nodes) (renumbered to) xs xs) Equals (nodes_run c nodes xs no_outputs) (nodes_run c (nodes_moved (renumbered to) to nodes) xs no_outputs)
+      (same-then (ReadSame (is_argument (length args)) (known_after [] nodes) (renumbered to) xs xs) Equals (nodes_run c nodes xs no_outputs)
+      (nodes_run c (nodes_moved (renumbered to) to nodes) xs no_outputs)
       (λ o. Returned (map (read xs o) results) []) (λ q. Returned (map (read xs q) (map (renumbered to) results)) [])
-      (nodes-same (is_argument (length args)) (renumbered to) to (nodes_ids nodes) (renumbered-moves (length args) to (nodes_ids nodes) one) nodes [] (λ n h. absurd h) (λ n h. h) closed.0 c xs xs no_outputs no_outputs (argument-kept (length args) to xs no_outputs no_outputs))
+      (nodes-same (is_argument (length args)) (renumbered to) to (nodes_ids nodes) (renumbered-moves (length args) to (nodes_ids nodes) one) nodes [] (λ n h. absurd h)
+      (λ n h. h) closed.0 c xs xs no_outputs no_outputs (argument-kept (length args) to xs no_outputs no_outputs))
       (λ o q h. (sym (reads-same (is_argument (length args)) (known_after [] nodes) (renumbered to) xs xs o q h results closed.1), refl)))
 
   nodes-same : (S : Origin → Bool) (move : Origin → Origin) (to : ℕ → ℕ) (all : List ℕ) → CanMove S move to all → (ns : NodeTrees) (known : List ℕ) → ((n : ℕ) → IsAmong n known → IsAmong n all) →
@@ -190,7 +192,8 @@ mutual
       (act c op (meanings c rs) (map (read xs o) inputs)) (act c op (meanings c (regions_copied to rs)) (map (read ys q) (map move inputs)))
       (λ us. nodes_run c ns xs (extended o id us)) (λ us. nodes_run c (nodes_moved move to ns) ys (extended q (to id) us))
       (equal-same (act c op (meanings c rs) (map (read xs o) inputs)) (act c op (meanings c (regions_copied to rs)) (map (read ys q) (map move inputs))) run)
-      (λ us vs e. nodes-same S move to all can ns (id ∷ known) (among-more all id known first within) (λ n h. rest n (among-right n (id ∷ regions_ids rs) (nodes_ids ns) h)) reads.1 c xs ys (extended o id us) (extended q (to id) vs)
+      (λ us vs e. nodes-same S move to all can ns (id ∷ known) (among-more all id known first within) (λ n h. rest n (among-right n (id ∷ regions_ids rs) (nodes_ids ns) h)) reads.1 c xs ys
+      (extended o id us) (extended q (to id) vs)
       (read-more Carries S move to all can xs ys known within id first o q same us vs (λ p. ap (λ ws. at_port ws p) (sym e))))
 
   pub regions-same : (to : ℕ → ℕ) (rs : RegionTrees) → AllClosed rs → IsOneToOne to (regions_ids rs) → (c : Context) → meanings c rs ≡ meanings c (regions_copied to rs)

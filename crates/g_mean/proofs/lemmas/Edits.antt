@@ -116,7 +116,8 @@ module _ (P : RegionTree → RegionTree → Type 0) (here : RegionTree → Optio
         let p = and_parts (every_region (region_fits (length l.objects)) r) (every_in_regions (region_fits (length l.objects)) rs) t in
         let d = distinct-split (region_ids r) (regions_ids rs) unique in
         let b = all-split (λ n. nat_lt n l.next) (region_ids r) (regions_ids rs) below in
-        region-or-rest P r rs (region_changed here r) (λ s q. changed-same r (record { fits = p.0; closed = region-closed (length l.objects) r p.0; unique = d.0; below = b.0 }) s q) (regions_changed here rs) (λ qs q. regions-same rs p.1 d.1 b.1 qs q) ss e
+        region-or-rest P r rs (region_changed here r) (λ s q. changed-same r (record { fits = p.0; closed = region-closed (length l.objects) r p.0; unique = d.0; below = b.0 }) s q)
+        (regions_changed here rs) (λ qs q. regions-same rs p.1 d.1 b.1 qs q) ss e
 
 pub body-same : (P : RegionTree → RegionTree → Type 0) (here : RegionTree → Option RegionTree) (l : PlainLambda) → ((r s : RegionTree) → IsPartOf l r → here r ≡ Some s → P r s) →
     IsPartOf l l.body → SameBut P l.body (lambda_changed here l).body

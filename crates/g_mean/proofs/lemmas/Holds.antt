@@ -115,7 +115,8 @@ holds-from count c (node_then (node id op inputs rs) ns) known xs o q did reads 
         run = again ∙ h.is;
         outputs = λ p. later p ∙ extended-same o id h.first id p refl;
       },
-      holds-from count c ns (id ∷ known) xs (extended o id h.first) q h.rest reads.1 (newer ids known ns (λ n k j. apart n k (among-right n ids (nodes_ids ns) j)) (λ n k. distinct-apart ids (nodes_ids ns) unique n k) id (inl refl)) d.1 h.follows,
+      holds-from count c ns (id ∷ known) xs (extended o id h.first) q h.rest reads.1
+          (newer ids known ns (λ n k j. apart n k (among-right n ids (nodes_ids ns) j)) (λ n k. distinct-apart ids (nodes_ids ns) unique n k) id (inl refl)) d.1 h.follows,
     )
   where
     newer : (ids known : List ℕ) (ns : NodeTrees) → ((n : ℕ) → IsAmong n known → IsAmong n (nodes_ids ns) → ⊥) → ((n : ℕ) → IsAmong n ids → IsAmong n (nodes_ids ns) → ⊥) → (id : ℕ) →

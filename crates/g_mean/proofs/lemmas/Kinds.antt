@@ -162,7 +162,8 @@ eight a b c d e f g h t =
 
 node-tests : (k : ℕ) (args : List Kind) (b : NodeTrees) (x : NodeTree) → node_fits k args b x ≡ true → NodeTests args b x
 node-tests k args b x t =
-    let w = eight (inputs_fit args b x) (inputs_are_last args b x) (node_has_one_state_each args b x) (has_its_regions x) (regions_fit x) (theta_has_states x) (has_its_width x) (has_its_object k x) t in
+    let w = eight (inputs_fit args b x) (inputs_are_last args b x) (node_has_one_state_each args b x) (has_its_regions x) (regions_fit x) (theta_has_states x) (has_its_width x)
+    (has_its_object k x) t in
     record { inputs = w.0; has = w.1; regions = w.2 }
 
 region-nodes : (k : ℕ) (r : RegionTree) → region_fits k r ≡ true → nodes_fit k r ≡ true
@@ -208,23 +209,28 @@ module _ (objects : ℕ) (c : Context) (calls : CallsKeepKinds c.call) where
     node-keeps args b (node id (Load w) inputs rs) t nested xs kinds o m =
         let us = map (read xs o) inputs in
         done-gives (ValueKind ∷ []) (Load w) us
-        (memory-gives (AreOfKinds (ValueKind ∷ [])) (at_port us 1) (λ j. on_defined (load w (value_at us 0) j) given) (λ j e. defined-gives (AreOfKinds (ValueKind ∷ [])) (load w (value_at us 0) j) given (λ v. (tt, tt))))
+        (memory-gives (AreOfKinds (ValueKind ∷ [])) (at_port us 1) (λ j. on_defined (load w (value_at us 0) j) given)
+        (λ j e. defined-gives (AreOfKinds (ValueKind ∷ [])) (load w (value_at us 0) j) given (λ v. (tt, tt))))
     node-keeps args b (node id (Store w) inputs rs) t nested xs kinds o m =
         let us = map (read xs o) inputs in
         done-gives (Memory ∷ []) (Store w) us
-        (memory-gives (AreOfKinds (Memory ∷ [])) (at_port us 2) (λ j. on_defined (store w (value_at us 0) (value_at us 1) j) given_memory) (λ j e. defined-gives (AreOfKinds (Memory ∷ [])) (store w (value_at us 0) (value_at us 1) j) given_memory (λ v. (tt, tt))))
+        (memory-gives (AreOfKinds (Memory ∷ [])) (at_port us 2) (λ j. on_defined (store w (value_at us 0) (value_at us 1) j) given_memory)
+        (λ j e. defined-gives (AreOfKinds (Memory ∷ [])) (store w (value_at us 0) (value_at us 1) j) given_memory (λ v. (tt, tt))))
     node-keeps args b (node id (Clear k) inputs rs) t nested xs kinds o m =
         let us = map (read xs o) inputs in
         done-gives (Memory ∷ []) (Clear k) us
-        (memory-gives (AreOfKinds (Memory ∷ [])) (at_port us 0) (λ j. on_defined (cleared_at (c.addresses.local k) j) given_memory) (λ j e. defined-gives (AreOfKinds (Memory ∷ [])) (cleared_at (c.addresses.local k) j) given_memory (λ v. (tt, tt))))
+        (memory-gives (AreOfKinds (Memory ∷ [])) (at_port us 0) (λ j. on_defined (cleared_at (c.addresses.local k) j) given_memory)
+        (λ j e. defined-gives (AreOfKinds (Memory ∷ [])) (cleared_at (c.addresses.local k) j) given_memory (λ v. (tt, tt))))
     node-keeps args b (node id PtrEq inputs rs) t nested xs kinds o m =
         let us = map (read xs o) inputs in
         done-gives (ValueKind ∷ []) PtrEq us
-        (memory-gives (AreOfKinds (ValueKind ∷ [])) (at_port us 2) (λ j. on_defined (pointers_equal (value_at us 0) (value_at us 1) j) (λ n. given (Num n))) (λ j e. defined-gives (AreOfKinds (ValueKind ∷ [])) (pointers_equal (value_at us 0) (value_at us 1) j) (λ n. given (Num n)) (λ v. (tt, tt))))
+        (memory-gives (AreOfKinds (ValueKind ∷ [])) (at_port us 2) (λ j. on_defined (pointers_equal (value_at us 0) (value_at us 1) j) (λ n. given (Num n)))
+        (λ j e. defined-gives (AreOfKinds (ValueKind ∷ [])) (pointers_equal (value_at us 0) (value_at us 1) j) (λ n. given (Num n)) (λ v. (tt, tt))))
     node-keeps args b (node id Put inputs rs) t nested xs kinds o m =
         let us = map (read xs o) inputs in
         done-gives (Io ∷ []) Put us
-        (number-gives (AreOfKinds (Io ∷ [])) (value_at us 0) (λ w. on_input (at_port us 1) (λ i. Returned (input i ∷ []) (wrote (w % 256) ∷ []))) (λ w. input-gives (AreOfKinds (Io ∷ [])) (at_port us 1) (λ i. Returned (input i ∷ []) (wrote (w % 256) ∷ [])) (λ i. (tt, tt))))
+        (number-gives (AreOfKinds (Io ∷ [])) (value_at us 0) (λ w. on_input (at_port us 1) (λ i. Returned (input i ∷ []) (wrote (w % 256) ∷ [])))
+        (λ w. input-gives (AreOfKinds (Io ∷ [])) (at_port us 1) (λ i. Returned (input i ∷ []) (wrote (w % 256) ∷ [])) (λ i. (tt, tt))))
     node-keeps args b (node id Exit inputs rs) t nested xs kinds o m =
         let us = map (read xs o) inputs in
         done-gives (Io ∷ []) Exit us (number-gives (AreOfKinds (Io ∷ [])) (value_at us 0) (λ w. Exited [] (w % 256)) (λ w. tt))
@@ -232,14 +238,16 @@ module _ (objects : ℕ) (c : Context) (calls : CallsKeepKinds c.call) where
         let us = map (read xs o) inputs in
         done-gives (ValueKind ∷ Io ∷ []) Get us (input-gives (AreOfKinds (ValueKind ∷ Io ∷ [])) (at_port us 0) got got-gives)
     node-keeps args b (node id (Apply f) inputs rs) t nested xs kinds o m =
-        let us = origins-kinds (known args b) (read xs o) (λ a k d. read-kind args xs kinds b o m a k d) inputs (call_takes (length inputs - 2)) (are_kinds (map (known args b) inputs) (call_takes (length inputs - 2)) t.inputs) in
+        let us = origins-kinds (known args b) (read xs o) (λ a k d. read-kind args xs kinds b o m a k d) inputs (call_takes (length inputs - 2))
+        (are_kinds (map (known args b) inputs) (call_takes (length inputs - 2)) t.inputs) in
         gives-out call_gives (c.call f (map (read xs o) inputs)) (calls f (length inputs - 2) (map (read xs o) inputs) us)
     node-keeps args b (node id Gamma inputs no_regions) t nested xs kinds o m = let h = t.has in absurd cc
     node-keeps args b (node id Gamma inputs (region_then r rs)) t nested xs kinds o m =
         let ks = result_kinds r in
         let takes = ValueKind ∷ args_of r in
         let us = origins-kinds (known args b) (read xs o) (λ a k d. read-kind args xs kinds b o m a k d) inputs takes (are_kinds (map (known args b) inputs) takes t.inputs) in
-        let first = and_parts (same (args_of r) (args_of r) && are (result_kinds r) (kinds_of ks)) (all_regions (λ s. same (args_of s) (args_of r) && are (result_kinds s) (kinds_of ks)) rs) t.regions in
+        let first = and_parts (same (args_of r) (args_of r) && are (result_kinds r) (kinds_of ks))
+        (all_regions (λ s. same (args_of s) (args_of r) && are (result_kinds s) (kinds_of ks)) rs) t.regions in
         let own = are_kinds ks (kinds_of ks) (and_parts (same (args_of r) (args_of r)) (are (result_kinds r) (kinds_of ks)) first.0).1 in
         subst (λ js. Gives (OutputsHaveKinds js) (branched (meanings c (region_then r rs)) (map (read xs o) inputs))) (sym own)
         (gives-out (kinds_of ks) (branched (meanings c (region_then r rs)) (map (read xs o) inputs))
@@ -258,8 +266,11 @@ module _ (objects : ℕ) (c : Context) (calls : CallsKeepKinds c.call) where
     regions-keep takes gives (region_then r rs) t nested =
         let p = and_parts (same (args_of r) takes && are (result_kinds r) gives) (all_regions (λ s. same (args_of s) takes && are (result_kinds s) gives) rs) t in
         let q = and_parts (same (args_of r) takes) (are (result_kinds r) gives) p.0 in
-        let fits = and_parts (every_region (region_fits objects) r) (every_in_regions (region_fits objects) rs) nested in
-        (subst (λ ks. KeepsKinds ks gives (region_meaning c r)) (same_kinds (args_of r) takes q.0) (region-keeps r fits.0 gives (are_kinds (result_kinds r) gives q.1)), regions-keep takes gives rs p.1 fits.1)
+        let fits = and_parts (every_region (region_fits objects) r) (every_in_regions (region_fits objects) rs) nested in (
+          subst (λ ks. KeepsKinds ks gives (region_meaning c r)) (same_kinds (args_of r) takes q.0)
+              (region-keeps r fits.0 gives (are_kinds (result_kinds r) gives q.1)),
+          regions-keep takes gives rs p.1 fits.1,
+        )
 
 -- ---- calls
 
@@ -313,8 +324,12 @@ entered-keeps n call global calls l well count xs kinds =
     let place = memory-place count xs kinds l.params m e in
     let args : call_takes count ≡ args_of l.body = ap call_takes (sym place) ∙ sym (same_kinds (args_of l.body) (call_takes l.params) b.0) in
     let body = region-keeps (length l.objects) (inside n call global l.objects m) calls l.body q.1 call_gives (are_kinds (result_kinds l.body) call_gives b.1) in
-    gives-then (AreOfKinds call_gives) (AreOfKinds call_gives) (region_meaning (inside n call global l.objects m) l.body (changed_at l.params (with_memory (λ k. k ++ opened (shapes_of l.objects))) xs)) (λ ys. Returned (changed_at 1 (with_memory (closed (length m) (length l.objects))) ys) [])
-    (body (changed_at l.params (with_memory (λ k. k ++ opened (shapes_of l.objects))) xs) (subst (λ ks. AreOfKinds ks (changed_at l.params (with_memory (λ k. k ++ opened (shapes_of l.objects))) xs)) args (changed-kinds (call_takes count) l.params (λ k. k ++ opened (shapes_of l.objects)) xs kinds)))
+    gives-then (AreOfKinds call_gives) (AreOfKinds call_gives)
+    (region_meaning (inside n call global l.objects m) l.body (changed_at l.params (with_memory (λ k. k ++ opened (shapes_of l.objects))) xs))
+    (λ ys. Returned (changed_at 1 (with_memory (closed (length m) (length l.objects))) ys) [])
+    (body (changed_at l.params (with_memory (λ k. k ++ opened (shapes_of l.objects))) xs)
+    (subst (λ ks. AreOfKinds ks (changed_at l.params (with_memory (λ k. k ++ opened (shapes_of l.objects))) xs)) args
+    (changed-kinds (call_takes count) l.params (λ k. k ++ opened (shapes_of l.objects)) xs kinds)))
     (λ ys h. changed-kinds call_gives 1 (closed (length m) (length l.objects)) ys h))
 
 found-keeps : (n : ℕ) (call : ℕ → Meaning) (global : ℕ → Value) → CallsKeepKinds call → (found : Option PlainLambda) → ((l : PlainLambda) → found ≡ Some l → well_formed l ≡ true) → (count : ℕ) →

@@ -1,4 +1,4 @@
--- Nearness of sound data is kept.
+-- Less defined sound data give less defined data.
 use Rattle.std.proofs.Common.{◌≡◌, ℕ, zero, suc, ◌%◌, ◌^◌, ◌<◌, ◌==◌, ◌&&◌, ◌⊎◌, Bool, true, false, cond, List, [], ◌∷◌, ◌++◌, Option, None, Some, option_map, refl, sym, ap, ap₂, subst, ◌∙◌, inl, inr, lit<, lit≤, mod-lt, lt_of_lt_of_le}
 use Rattle.std.specs.Option.{IfSome}
 use Rattle.val_core.specs.declared.values.Value.{Value}
@@ -194,25 +194,35 @@ module _ (cmp : Comparison) (g : Compares cmp) (direction : Direction) where
   plain-refines e f h (Load w) xs ys near at =
       let a = less-value (at_port xs 0) (at_port ys 0) (at 0) in
       on_memory-refines (at_port xs 1) (at_port ys 1) (at 1) (λ m. on_defined (load w (value_at xs 0) m) given) (λ m. on_defined (load w (value_at ys 0) m) given)
-      (λ m s. on_defined-refines IsSound (load w (value_at xs 0) m) (load w (value_at ys 0) m) (load-less w (value_at xs 0) (value_at ys 0) m a.0) (load_is_sound w (value_at xs 0) m s) given given (λ v t. given-refines v v (inl refl, t, t)))
+      (λ m s. on_defined-refines IsSound (load w (value_at xs 0) m) (load w (value_at ys 0) m) (load-less w (value_at xs 0) (value_at ys 0) m a.0) (load_is_sound w (value_at xs 0) m s) given given
+      (λ v t. given-refines v v (inl refl, t, t)))
   plain-refines e f h (Store w) xs ys near at =
       let a = less-value (at_port xs 0) (at_port ys 0) (at 0) in
       let b = less-value (at_port xs 1) (at_port ys 1) (at 1) in
-      on_memory-refines (at_port xs 2) (at_port ys 2) (at 2) (λ m. on_defined (store w (value_at xs 0) (value_at xs 1) m) given_memory) (λ m. on_defined (store w (value_at ys 0) (value_at ys 1) m) given_memory)
-      (λ m s. on_defined-refines IsSoundMemory (store w (value_at xs 0) (value_at xs 1) m) (store w (value_at ys 0) (value_at ys 1) m) (store-less w (value_at xs 0) (value_at ys 0) (value_at xs 1) (value_at ys 1) m a.0 b.0) (store_is_sound w (value_at xs 0) (value_at xs 1) m s b.1) given_memory given_memory (λ k t. memory-refines k t))
+      on_memory-refines (at_port xs 2) (at_port ys 2) (at 2) (λ m. on_defined (store w (value_at xs 0) (value_at xs 1) m) given_memory)
+      (λ m. on_defined (store w (value_at ys 0) (value_at ys 1) m) given_memory)
+      (λ m s. on_defined-refines IsSoundMemory (store w (value_at xs 0) (value_at xs 1) m) (store w (value_at ys 0) (value_at ys 1) m)
+      (store-less w (value_at xs 0) (value_at ys 0) (value_at xs 1) (value_at ys 1) m a.0 b.0) (store_is_sound w (value_at xs 0) (value_at xs 1) m s b.1) given_memory given_memory
+      (λ k t. memory-refines k t))
   plain-refines e f h (Clear k) xs ys near at =
       let a = less-value (val (e.local k)) (val (f.local k)) (h.locals k) in
       on_memory-refines (at_port xs 0) (at_port ys 0) (at 0) (λ m. on_defined (cleared_at (e.local k) m) given_memory) (λ m. on_defined (cleared_at (f.local k) m) given_memory)
-      (λ m s. on_defined-refines IsSoundMemory (cleared_at (e.local k) m) (cleared_at (f.local k) m) (clear-less (e.local k) (f.local k) m a.0) (clear-sound (e.local k) m s) given_memory given_memory (λ l t. memory-refines l t))
+      (λ m s. on_defined-refines IsSoundMemory (cleared_at (e.local k) m) (cleared_at (f.local k) m) (clear-less (e.local k) (f.local k) m a.0)
+      (clear-sound (e.local k) m s) given_memory given_memory (λ l t. memory-refines l t))
   plain-refines e f h PtrEq xs ys near at =
       let a = less-value (at_port xs 0) (at_port ys 0) (at 0) in
       let b = less-value (at_port xs 1) (at_port ys 1) (at 1) in
-      on_memory-refines (at_port xs 2) (at_port ys 2) (at 2) (λ m. on_defined (pointers_equal (value_at xs 0) (value_at xs 1) m) (λ n. given (Num n))) (λ m. on_defined (pointers_equal (value_at ys 0) (value_at ys 1) m) (λ n. given (Num n)))
-      (λ m s. on_defined-refines (λ n. n < 2 ^ 32) (pointers_equal (value_at xs 0) (value_at xs 1) m) (pointers_equal (value_at ys 0) (value_at ys 1) m) (pointers-less (value_at xs 0) (value_at ys 0) (value_at xs 1) (value_at ys 1) m a.0 b.0) (pointers-small (value_at xs 0) (value_at xs 1) m) (λ n. given (Num n)) (λ n. given (Num n)) (λ n t. given-refines (Num n) (Num n) (inl refl, t, t)))
+      on_memory-refines (at_port xs 2) (at_port ys 2) (at 2) (λ m. on_defined (pointers_equal (value_at xs 0) (value_at xs 1) m) (λ n. given (Num n)))
+      (λ m. on_defined (pointers_equal (value_at ys 0) (value_at ys 1) m) (λ n. given (Num n)))
+      (λ m s. on_defined-refines (λ n. n < 2 ^ 32) (pointers_equal (value_at xs 0) (value_at xs 1) m) (pointers_equal (value_at ys 0) (value_at ys 1) m)
+      (pointers-less (value_at xs 0) (value_at ys 0) (value_at xs 1) (value_at ys 1) m a.0 b.0) (pointers-small (value_at xs 0) (value_at xs 1) m) (λ n. given (Num n)) (λ n. given (Num n))
+      (λ n t. given-refines (Num n) (Num n) (inl refl, t, t)))
   plain-refines e f h Put xs ys near at =
       let a = less-value (at_port xs 0) (at_port ys 0) (at 0) in
-      on_word-refines (value_at xs 0) (value_at ys 0) a.0 (λ w. on_input (at_port xs 1) (λ i. Returned (input i ∷ []) (wrote (w % 256) ∷ []))) (λ w. on_input (at_port ys 1) (λ i. Returned (input i ∷ []) (wrote (w % 256) ∷ [])))
-      (λ w. on_input-refines (at_port xs 1) (at_port ys 1) (at 1) (λ i. Returned (input i ∷ []) (wrote (w % 256) ∷ [])) (λ i. Returned (input i ∷ []) (wrote (w % 256) ∷ [])) (λ i s. (((inl refl, s, s), tt), g.itself (wrote (w % 256) ∷ []))))
+      on_word-refines (value_at xs 0) (value_at ys 0) a.0 (λ w. on_input (at_port xs 1) (λ i. Returned (input i ∷ []) (wrote (w % 256) ∷ [])))
+      (λ w. on_input (at_port ys 1) (λ i. Returned (input i ∷ []) (wrote (w % 256) ∷ [])))
+      (λ w. on_input-refines (at_port xs 1) (at_port ys 1) (at 1) (λ i. Returned (input i ∷ []) (wrote (w % 256) ∷ [])) (λ i. Returned (input i ∷ []) (wrote (w % 256) ∷ []))
+      (λ i s. (((inl refl, s, s), tt), g.itself (wrote (w % 256) ∷ []))))
   plain-refines e f h Exit xs ys near at =
       let a = less-value (at_port xs 0) (at_port ys 0) (at 0) in
       on_word-refines (value_at xs 0) (value_at ys 0) a.0 (λ w. Exited [] (w % 256)) (λ w. Exited [] (w % 256)) (λ w. (g.goes.nothing, refl))

@@ -24,7 +24,7 @@ use Rattle.g_mean.proofs.lemmas.LessDefined.{less-kept}
 use Rattle.g_mean.proofs.lemmas.Calls.{same-itself}
 use Rattle.g_mean.proofs.lemmas.Bounds.{Never, Always, never-refines, sound-pairs, pairs-sound, applied-more, refines-sound}
 
--- ---- nearness composes
+-- ---- less defined data compose
 
 less-composes : (x y z : Datum) → IsLessDefinedDatum x y → IsLessDefinedDatum y z → IsLessDefinedDatum x z
 less-composes x y z h k = (by h.0 k.0, h.1, k.2)
@@ -89,7 +89,8 @@ local_refinements_replace ls ks r s h =
           on = λ xs ys near.
               refined-refines direction (region_meaning c r xs) (region_meaning c s xs) (region_meaning d s ys)
               (h c xs (context-sound direction ls ks global c d a l) (pairs-sound xs ys near))
-              ((region-refines no_deeper no_deeper-compares direction IsLessDefinedDatum less-kept Never Always (never-refines no_deeper no_deeper-compares direction IsLessDefinedDatum less-kept) c d a tt s s (same-itself Never s)).on xs ys near);
+              ((region-refines no_deeper no_deeper-compares direction IsLessDefinedDatum less-kept Never Always
+              (never-refines no_deeper no_deeper-compares direction IsLessDefinedDatum less-kept) c d a tt s s (same-itself Never s)).on xs ys near);
         };
       };
     }
@@ -151,19 +152,29 @@ none-less Forward zero h b = absurd (omega arith)
 none-less Forward (suc m) h b = less-cut no_deeper no_deeper-compares Forward (Paired IsLessDefinedDatum) m (omega arith) b
 none-less Backward m h b = absurd (omega arith)
 
-module _ (ls ks : List PlainLambda) (direction : Direction) (global : ℕ → Value) (c d : Context) (a : ContextRefines no_deeper direction IsLessDefinedDatum c d) (l : Linked direction ls ks global c d) where
+module _ (ls ks : List PlainLambda) (direction : Direction) (global : ℕ → Value) (c d : Context) (a : ContextRefines no_deeper direction IsLessDefinedDatum c d)
+    (l : Linked direction ls ks global c d) where
   body-refines : (n : ℕ) → InOrder direction n d.bound → ((f : ℕ) → MeaningRefines no_deeper direction IsLessDefinedDatum (applied ls global n f) (d.call f)) →
       (params : ℕ) (r : RegionTree) (m : Memory) (xs ys : List Datum) → Paired IsLessDefinedDatum xs ys →
       Refines no_deeper direction (Paired IsLessDefinedDatum)
-      (then_on (region_meaning (inside n (applied ls global n) global [] m) r (changed_at params (with_memory (λ k. k ++ opened [])) xs)) (λ us. Returned (changed_at 1 (with_memory (closed (length m) 0)) us) []))
+      (then_on (region_meaning (inside n (applied ls global n) global [] m) r (changed_at params (with_memory (λ k. k ++ opened [])) xs))
+      (λ us. Returned (changed_at 1 (with_memory (closed (length m) 0)) us) []))
       (region_meaning d r ys)
   body-refines n order calls params r m xs ys near =
       let inner = inside n (applied ls global n) global [] m in
       let context : ContextRefines no_deeper direction IsLessDefinedDatum inner d
-      = record { bounds = order; calls = calls; locals = λ k. (inr refl, tt, (a.locals k).2); globals = λ k. subst (λ v. IsLessDefinedDatum (val v) (val (d.addresses.global k))) (l.near_global k) (a.globals k) } in
+      = record {
+        bounds = order;
+        calls = calls;
+        locals = λ k. (inr refl, tt, (a.locals k).2);
+        globals = λ k. subst (λ v. IsLessDefinedDatum (val v) (val (d.addresses.global k))) (l.near_global k)
+            (a.globals k);
+      } in
       let opens = changed-nothing params (with_memory (λ k. k ++ opened [])) (same-memory (λ k. k ++ opened []) append-nothing) xs in
-      let whole = region-refines no_deeper no_deeper-compares direction IsLessDefinedDatum less-kept Never Always (never-refines no_deeper no_deeper-compares direction IsLessDefinedDatum less-kept) inner d context tt r r (same-itself Never r) in
-      refines-less-goes no_deeper no_deeper-compares.goes direction (Paired IsLessDefinedDatum) (Paired IsLessDefinedDatum) (region_meaning inner r (changed_at params (with_memory (λ k. k ++ opened [])) xs)) (region_meaning d r ys) (changed_at 1 (with_memory (closed (length m) 0)))
+      let whole = region-refines no_deeper no_deeper-compares direction IsLessDefinedDatum less-kept Never Always
+      (never-refines no_deeper no_deeper-compares direction IsLessDefinedDatum less-kept) inner d context tt r r (same-itself Never r) in
+      refines-less-goes no_deeper no_deeper-compares.goes direction (Paired IsLessDefinedDatum) (Paired IsLessDefinedDatum)
+      (region_meaning inner r (changed_at params (with_memory (λ k. k ++ opened [])) xs)) (region_meaning d r ys) (changed_at 1 (with_memory (closed (length m) 0)))
       (whole.on (changed_at params (with_memory (λ k. k ++ opened [])) xs) ys (subst (λ zs. Paired IsLessDefinedDatum zs ys) (sym opens) near))
       (λ us vs h. subst (λ zs. Paired IsLessDefinedDatum zs vs) (sym (changed-nothing 1 (with_memory (closed (length m) 0)) (same-memory (closed (length m) 0) (closed-nothing (length m))) us)) h)
 
@@ -177,7 +188,8 @@ module _ (ls ks : List PlainLambda) (direction : Direction) (global : ℕ → Va
       k.objects ≡ [] → (xs ys : List Datum) → Paired IsLessDefinedDatum xs ys →
       Refines no_deeper direction (Paired IsLessDefinedDatum) (entered n (applied ls global n) global (Some k) xs) (region_meaning d k.body ys)
   entered-refines n order calls k none xs ys near =
-      subst (λ os. Refines no_deeper direction (Paired IsLessDefinedDatum) (entered n (applied ls global n) global (Some (record { number = k.number; params = k.params; objects = os; body = k.body; next = k.next })) xs) (region_meaning d k.body ys)) (sym none)
+      subst (λ os. Refines no_deeper direction (Paired IsLessDefinedDatum)
+      (entered n (applied ls global n) global (Some (record { number = k.number; params = k.params; objects = os; body = k.body; next = k.next })) xs) (region_meaning d k.body ys)) (sym none)
       (memory-refines (at_port xs k.params) _ (region_meaning d k.body ys) (λ m. body-refines n order calls k.params k.body m xs ys near))
 
   call-refines : (n : ℕ) → n ≡ c.bound → (f : ℕ) (k : PlainLambda) → slice_get ls f ≡ Some k → k.objects ≡ [] → (xs ys : List Datum) → Paired IsLessDefinedDatum xs ys →
@@ -187,7 +199,10 @@ module _ (ls ks : List PlainLambda) (direction : Direction) (global : ℕ → Va
   call-refines (suc n) e f k found none xs ys near =
       let twice = subst (λ n. IsTwice direction 2 n d.bound) (sym e) l.twice in
       let calls : (j : ℕ) → MeaningRefines no_deeper direction IsLessDefinedDatum (applied ls global n j) (d.call j)
-      = λ j. record { on = λ us vs h. subst (λ b. Refines no_deeper direction (Paired IsLessDefinedDatum) (applied ls global n j us) b) (sym (l.far_call j vs)) ((l.nested n d.bound (subst (λ i. lesser direction n d.bound ≤ lesser direction i d.bound) e (small-below direction n d.bound)) (twice-below direction n d.bound twice) j).on us vs h) } in
+      = λ j. record {
+        on = λ us vs h. subst (λ b. Refines no_deeper direction (Paired IsLessDefinedDatum) (applied ls global n j us) b) (sym (l.far_call j vs))
+            ((l.nested n d.bound (subst (λ i. lesser direction n d.bound ≤ lesser direction i d.bound) e (small-below direction n d.bound)) (twice-below direction n d.bound twice) j).on us vs h);
+      } in
       uncalled-refines direction f (entered n (applied ls global n) global (slice_get ls f) xs) (region_meaning d k.body ys)
       (subst (λ z. Refines no_deeper direction (Paired IsLessDefinedDatum) (entered n (applied ls global n) global z xs) (region_meaning d k.body ys)) (sym found)
       (entered-refines n (bound-below direction n d.bound twice) calls k none xs ys near))

@@ -52,7 +52,8 @@ pure_nodes_give_the_same op pure c id id' inputs inputs' rs rs' xs ys o q e =
 
 -- ---- moved nodes
 
-module _ (direction : Direction) (c d : Context) (a : ContextRefines no_deeper direction IsLessDefinedDatum c d) (S : Origin → Bool) (move : Origin → Origin) (to : ℕ → ℕ) (all : List ℕ) (can : CanMove S move to all) (xs ys : List Datum) where
+module _ (direction : Direction) (c d : Context) (a : ContextRefines no_deeper direction IsLessDefinedDatum c d) (S : Origin → Bool) (move : Origin → Origin) (to : ℕ → ℕ) (all : List ℕ)
+    (can : CanMove S move to all) (xs ys : List Datum) where
   pub reads-less : (known : List ℕ) (o q : Outputs) → ReadLessDefined S known move xs ys o q → (origins : List Origin) → AreRead S known origins →
       Paired IsLessDefinedDatum (map (read xs o) origins) (map (read ys q) (map move origins))
   reads-less known o q near [] h = tt
@@ -66,13 +67,16 @@ module _ (direction : Direction) (c d : Context) (a : ContextRefines no_deeper d
       let first = rest id here in
       let one = fewer to (regions_ids rs) all (λ n h. rest n (among-left n (id ∷ regions_ids rs) (nodes_ids ns) (inr h))) can.one in
       let copies = regions-same to rs reads.0.1 one d in
-      let alike = regions-refines no_deeper no_deeper-compares direction IsLessDefinedDatum less-kept Never Always (never-refines no_deeper no_deeper-compares direction IsLessDefinedDatum less-kept) c d a tt rs rs (regions-itself Never rs) in
+      let alike = regions-refines no_deeper no_deeper-compares direction IsLessDefinedDatum less-kept Never Always
+      (never-refines no_deeper no_deeper-compares direction IsLessDefinedDatum less-kept) c d a tt rs rs (regions-itself Never rs) in
       refines-then no_deeper no_deeper-compares.goes (Paired IsLessDefinedDatum) (ReadLessDefined S (known_after (id ∷ known) ns) move xs ys) direction
       (act c op (meanings c rs) (map (read xs o) inputs)) (act d op (meanings d (regions_copied to rs)) (map (read ys q) (map move inputs)))
       (λ us. nodes_run c ns xs (extended o id us)) (λ us. nodes_run d (nodes_moved move to ns) ys (extended q (to id) us))
       (subst (λ ms. Refines no_deeper direction (Paired IsLessDefinedDatum) (act c op (meanings c rs) (map (read xs o) inputs)) (act d op ms (map (read ys q) (map move inputs)))) copies
-      (act-refines no_deeper no_deeper-compares direction IsLessDefinedDatum less-kept c d a op (meanings c rs) (meanings d rs) alike (map (read xs o) inputs) (map (read ys q) (map move inputs)) (reads-less known o q near inputs reads.0.0)))
-      (λ us vs pairs. moved-refines ns (id ∷ known) (among-more all id known first within) (λ n h. rest n (among-right n (id ∷ regions_ids rs) (nodes_ids ns) h)) reads.1 (extended o id us) (extended q (to id) vs) (read-more IsLessDefinedDatum S move to all can xs ys known within id first o q near us vs (λ p. paired-at IsLessDefinedDatum less-kept us vs pairs p)))
+      (act-refines no_deeper no_deeper-compares direction IsLessDefinedDatum less-kept c d a op (meanings c rs) (meanings d rs) alike (map (read xs o) inputs) (map (read ys q) (map move inputs))
+      (reads-less known o q near inputs reads.0.0)))
+      (λ us vs pairs. moved-refines ns (id ∷ known) (among-more all id known first within) (λ n h. rest n (among-right n (id ∷ regions_ids rs) (nodes_ids ns) h)) reads.1 (extended o id us)
+      (extended q (to id) vs) (read-more IsLessDefinedDatum S move to all can xs ys known within id first o q near us vs (λ p. paired-at IsLessDefinedDatum less-kept us vs pairs p)))
 
 pub moved_nodes_refine : MovedNodesRefine
 moved_nodes_refine direction c d a S move to ns can reads xs ys o q near =

@@ -70,14 +70,16 @@ memory-sound ds s = blocks-sound ds ds s
 
 finished-refines : (direction : Direction) (us vs : List Datum) → Paired IsLessDefinedDatum us vs → Refines no_deeper direction (Paired IsLessDefinedDatum) (finished us) (finished vs)
 finished-refines direction us vs near =
-    on_number-refines no_deeper no_deeper-compares direction IsLessDefinedDatum less-kept (Paired IsLessDefinedDatum) (at_port us 0) (at_port vs 0) (paired-at IsLessDefinedDatum less-kept us vs near 0) _ _ (λ w. (no_deeper-compares.itself [], refl))
+    on_number-refines no_deeper no_deeper-compares direction IsLessDefinedDatum less-kept (Paired IsLessDefinedDatum) (at_port us 0) (at_port vs 0)
+    (paired-at IsLessDefinedDatum less-kept us vs near 0) _ _ (λ w. (no_deeper-compares.itself [], refl))
 
 started-refines : (ls ks : List PlainLambda) → LambdasSameBut (Replaces ls ks) ls ks → (o : PlainOmega) → AreSoundDeltas o.deltas → (i : List ℕ) → AreBytes i → (direction : Direction) (n m : ℕ) →
     IsTwice direction 2 n m → (f : Option ℕ) → Refines no_deeper direction (Paired IsLessDefinedDatum) (started n o ls f i) (started m o ks f i)
 started-refines ls ks same o deltas i bytes direction n m twice None = tt
 started-refines ls ks same o deltas i bytes direction n m twice (Some f) =
     let start = memory (first_memory o.deltas) ∷ input i ∷ [] in
-    refines-then no_deeper no_deeper-compares.goes (Paired IsLessDefinedDatum) (Paired IsLessDefinedDatum) direction (lambda_at n ls (global_of o.deltas) f start) (lambda_at m ks (global_of o.deltas) f start) finished finished
+    refines-then no_deeper no_deeper-compares.goes (Paired IsLessDefinedDatum) (Paired IsLessDefinedDatum) direction (lambda_at n ls (global_of o.deltas) f start)
+    (lambda_at m ks (global_of o.deltas) f start) finished finished
     (lambda-refines ls ks same direction (global_of o.deltas) (λ k. address-sound (0 + k) (slice_get (delta_sizes o.deltas) k)) f n m twice start (memory-sound o.deltas deltas, (bytes, tt)))
     (finished-refines direction)
 

@@ -76,7 +76,8 @@ append-nothing : (ns : List ℕ) → ns ++ [] ≡ ns
 append-nothing [] = refl
 append-nothing (n ∷ ns) = ap (λ ms. n ∷ ms) (append-nothing ns)
 
-module _ (direction : Direction) (c d : Context) (context : ContextRefines no_deeper direction IsLessDefinedDatum c d) (args : List Kind) (before : NodeTrees) (x : NodeTree) (after : NodeTrees) (results : List Origin) (move : Origin → Origin) (can : CanRedirect args before x after results move) where
+module _ (direction : Direction) (c d : Context) (context : ContextRefines no_deeper direction IsLessDefinedDatum c d) (args : List Kind) (before : NodeTrees) (x : NodeTree) (after : NodeTrees)
+    (results : List Origin) (move : Origin → Origin) (can : CanRedirect args before x after results move) where
   all-distinct : distinct (nodes_ids before ++ (node_ids x ++ nodes_ids after)) ≡ true
   all-distinct = subst (λ zs. distinct zs ≡ true) (nodes_ids-joined before (node_then x after)) can.unique
 
@@ -190,10 +191,13 @@ module _ (direction : Direction) (c d : Context) (context : ContextRefines no_de
   redirected-first : nodes_redirected move (joined_nodes before (node_then x after)) ≡ joined_nodes first (nodes_redirected move after)
   redirected-first =
       redirected-joined move before (node_then x after)
-      ∙ ap₂ (λ ns y. joined_nodes ns (node_then y (nodes_redirected move after))) (nodes-stay (is_argument (length args)) [] move argument-stays (id_of x) (λ n p e. can.others n p e) before (λ h. h) at-before whole-read.0) (node-stays (is_argument (length args)) (known_after [] before) move known-stays x whole-read.1.0)
+      ∙ ap₂ (λ ns y. joined_nodes ns (node_then y (nodes_redirected move after)))
+      (nodes-stay (is_argument (length args)) [] move argument-stays (id_of x) (λ n p e. can.others n p e) before (λ h. h) at-before whole-read.0)
+      (node-stays (is_argument (length args)) (known_after [] before) move known-stays x whole-read.1.0)
       ∙ joined-assoc before x (nodes_redirected move after)
 
-  module _ (own-less : (xs ys : List Datum) (o q : Outputs) → Paired IsLessDefinedDatum xs ys → OutputsRefine IsLessDefinedDatum o q → HaveRun c xs o before → HasRun c xs o x → (p : ℕ) → IsLessDefinedDatum (o (id_of x) p) (read ys q (move (Out (id_of x) p)))) where
+  module _ (own-less : (xs ys : List Datum) (o q : Outputs) → Paired IsLessDefinedDatum xs ys → OutputsRefine IsLessDefinedDatum o q → HaveRun c xs o before → HasRun c xs o x →
+      (p : ℕ) → IsLessDefinedDatum (o (id_of x) p) (read ys q (move (Out (id_of x) p)))) where
     after-less : (xs ys : List Datum) (o q : Outputs) → Paired IsLessDefinedDatum xs ys → OutputsRefine IsLessDefinedDatum o q → HaveRun c xs o first → ReadLessDefined outside [] move xs ys o q
     after-less xs ys o q near like have (Arg k) h = subst (λ z. IsLessDefinedDatum (at_port xs k) (read ys q z)) (sym (can.arguments k)) (paired-at IsLessDefinedDatum less-kept xs ys near k)
     after-less xs ys o q near like have (Out i j) (inr h) = absurd h
@@ -206,19 +210,26 @@ module _ (direction : Direction) (c d : Context) (context : ContextRefines no_de
             subst (λ n. IsLessDefinedDatum (o n j) (read ys q (move (Out n j)))) same (own-less xs ys o q near like parts.0 parts.1 j)
         by (inr f) = subst (λ z. IsLessDefinedDatum (o i j) (read ys q z)) (sym (can.others i j (eqb-false i (id_of x) f))) (like i j)
 
-    nodes-less : (xs ys : List Datum) → Paired IsLessDefinedDatum xs ys → Refines no_deeper direction (ReadLessDefined outside (known_after [] after) move xs ys) (nodes_run c (joined_nodes first after) xs no_outputs) (nodes_run d (joined_nodes first (nodes_redirected move after)) ys no_outputs)
+    nodes-less : (xs ys : List Datum) → Paired IsLessDefinedDatum xs ys → Refines no_deeper direction (ReadLessDefined outside (known_after [] after) move xs ys)
+        (nodes_run c (joined_nodes first after) xs no_outputs) (nodes_run d (joined_nodes first (nodes_redirected move after)) ys no_outputs)
     nodes-less xs ys near =
-        subst₂ (λ a b. Refines no_deeper direction (ReadLessDefined outside (known_after [] after) move xs ys) a b) (sym (joined-run c first after xs no_outputs)) (sym (joined-run d first (nodes_redirected move after) ys no_outputs))
+        subst₂ (λ a b. Refines no_deeper direction (ReadLessDefined outside (known_after [] after) move xs ys) a b) (sym (joined-run c first after xs no_outputs))
+        (sym (joined-run d first (nodes_redirected move after) ys no_outputs))
         (refines-then no_deeper no_deeper-compares.goes (λ o q. HaveRun c xs o first × OutputsRefine IsLessDefinedDatum o q) (ReadLessDefined outside (known_after [] after) move xs ys) direction
         (nodes_run c first xs no_outputs) (nodes_run d first ys no_outputs) (nodes_run c after xs) (nodes_run d (nodes_redirected move after) ys)
-        (refines-gives no_deeper direction (λ o. HaveRun c xs o first) (OutputsRefine IsLessDefinedDatum) (nodes_run c first xs no_outputs) (nodes_run d first ys no_outputs) (first-run xs (nodes_run c first xs no_outputs) refl)
-        (nodes-refines no_deeper no_deeper-compares direction IsLessDefinedDatum less-kept Never Always (never-refines no_deeper no_deeper-compares direction IsLessDefinedDatum less-kept) c d context tt first first (nodes-itself Never first) xs ys near no_outputs no_outputs (λ n p. less-kept.nothing)))
+        (refines-gives no_deeper direction (λ o. HaveRun c xs o first) (OutputsRefine IsLessDefinedDatum) (nodes_run c first xs no_outputs) (nodes_run d first ys no_outputs)
+        (first-run xs (nodes_run c first xs no_outputs) refl)
+        (nodes-refines no_deeper no_deeper-compares direction IsLessDefinedDatum less-kept Never Always
+        (never-refines no_deeper no_deeper-compares direction IsLessDefinedDatum less-kept) c d context tt first first (nodes-itself Never first) xs ys near no_outputs no_outputs
+        (λ n p. less-kept.nothing)))
         (λ o q h. subst (λ ns. Refines no_deeper direction (ReadLessDefined outside (known_after [] after) move xs ys) (nodes_run c after xs o) (nodes_run d ns ys q)) (redirected-moved move after)
         (moved_nodes_refine direction c d context outside move (λ n. n) after after-moves after-reads xs ys o q (after-less xs ys o q near h.1 h.0))))
 
-    pub redirected-refines : MeaningRefines no_deeper direction IsLessDefinedDatum (region_meaning c (region args (joined_nodes before (node_then x after)) results)) (region_meaning d (region_redirected move (region args (joined_nodes before (node_then x after)) results)))
+    pub redirected-refines : MeaningRefines no_deeper direction IsLessDefinedDatum (region_meaning c (region args (joined_nodes before (node_then x after)) results))
+        (region_meaning d (region_redirected move (region args (joined_nodes before (node_then x after)) results)))
     redirected-refines =
-        subst₂ (λ ns ms. MeaningRefines no_deeper direction IsLessDefinedDatum (region_meaning c (region args ns results)) (region_meaning d (region args ms (map move results)))) (sym (joined-assoc before x after)) (sym redirected-first)
+        subst₂ (λ ns ms. MeaningRefines no_deeper direction IsLessDefinedDatum (region_meaning c (region args ns results)) (region_meaning d (region args ms (map move results))))
+        (sym (joined-assoc before x after)) (sym redirected-first)
         (record {
           on = λ xs ys near.
               refines-then no_deeper no_deeper-compares.goes (ReadLessDefined outside (known_after [] after) move xs ys) (Paired IsLessDefinedDatum) direction
@@ -234,7 +245,8 @@ redirected_regions_refine direction c d context args before x after results move
 
 -- ---- another node of the same number
 
-module _ (direction : Direction) (c d : Context) (context : ContextRefines no_deeper direction IsLessDefinedDatum c d) (args : List Kind) (before : NodeTrees) (x y : NodeTree) (after : NodeTrees) (results : List Origin) (reads : NodesRead (is_argument (length args)) [] before) (unique : distinct (nodes_ids before) ≡ true) (same : id_of x ≡ id_of y) where
+module _ (direction : Direction) (c d : Context) (context : ContextRefines no_deeper direction IsLessDefinedDatum c d) (args : List Kind) (before : NodeTrees) (x y : NodeTree) (after : NodeTrees)
+    (results : List Origin) (reads : NodesRead (is_argument (length args)) [] before) (unique : distinct (nodes_ids before) ≡ true) (same : id_of x ≡ id_of y) where
   before-run : (xs : List Datum) (a : Answer Outputs) → nodes_run c before xs no_outputs ≡ a → Gives (λ o. HaveRun c xs o before) a
   before-run xs (Returned o did) e = holds-from (length args) c before [] xs no_outputs o did reads (λ n h k. h) unique e
   before-run xs (Cut o) e = tt
@@ -244,20 +256,29 @@ module _ (direction : Direction) (c d : Context) (context : ContextRefines no_de
   same-refines : (ns : NodeTrees) (xs ys : List Datum) → Paired IsLessDefinedDatum xs ys → (o q : Outputs) → OutputsRefine IsLessDefinedDatum o q →
       Refines no_deeper direction (OutputsRefine IsLessDefinedDatum) (nodes_run c ns xs o) (nodes_run d ns ys q)
   same-refines ns xs ys near o q like =
-      nodes-refines no_deeper no_deeper-compares direction IsLessDefinedDatum less-kept Never Always (never-refines no_deeper no_deeper-compares direction IsLessDefinedDatum less-kept) c d context tt ns ns (nodes-itself Never ns) xs ys near o q like
+      nodes-refines no_deeper no_deeper-compares direction IsLessDefinedDatum less-kept Never Always
+      (never-refines no_deeper no_deeper-compares direction IsLessDefinedDatum less-kept) c d context tt ns ns (nodes-itself Never ns) xs ys near o q like
 
-  module _ (node-refines : (xs ys : List Datum) (o q : Outputs) → Paired IsLessDefinedDatum xs ys → OutputsRefine IsLessDefinedDatum o q → HaveRun c xs o before → Refines no_deeper direction (Paired IsLessDefinedDatum) (node_run c x xs o) (node_run d y ys q)) where
-    replaced-nodes : (xs ys : List Datum) → Paired IsLessDefinedDatum xs ys → Refines no_deeper direction (OutputsRefine IsLessDefinedDatum) (nodes_run c (joined_nodes before (node_then x after)) xs no_outputs) (nodes_run d (joined_nodes before (node_then y after)) ys no_outputs)
+  module _ (node-refines : (xs ys : List Datum) (o q : Outputs) → Paired IsLessDefinedDatum xs ys → OutputsRefine IsLessDefinedDatum o q → HaveRun c xs o before → Refines no_deeper direction
+      (Paired IsLessDefinedDatum) (node_run c x xs o) (node_run d y ys q)) where
+    replaced-nodes : (xs ys : List Datum) → Paired IsLessDefinedDatum xs ys → Refines no_deeper direction (OutputsRefine IsLessDefinedDatum)
+        (nodes_run c (joined_nodes before (node_then x after)) xs no_outputs) (nodes_run d (joined_nodes before (node_then y after)) ys no_outputs)
     replaced-nodes xs ys near =
-        subst₂ (λ a b. Refines no_deeper direction (OutputsRefine IsLessDefinedDatum) a b) (sym (joined-run c before (node_then x after) xs no_outputs)) (sym (joined-run d before (node_then y after) ys no_outputs))
+        subst₂ (λ a b. Refines no_deeper direction (OutputsRefine IsLessDefinedDatum) a b) (sym (joined-run c before (node_then x after) xs no_outputs))
+        (sym (joined-run d before (node_then y after) ys no_outputs))
         (refines-then no_deeper no_deeper-compares.goes (λ o q. HaveRun c xs o before × OutputsRefine IsLessDefinedDatum o q) (OutputsRefine IsLessDefinedDatum) direction
         (nodes_run c before xs no_outputs) (nodes_run d before ys no_outputs) (nodes_run c (node_then x after) xs) (nodes_run d (node_then y after) ys)
-        (refines-gives no_deeper direction (λ o. HaveRun c xs o before) (OutputsRefine IsLessDefinedDatum) (nodes_run c before xs no_outputs) (nodes_run d before ys no_outputs) (before-run xs (nodes_run c before xs no_outputs) refl) (same-refines before xs ys near no_outputs no_outputs (λ n p. less-kept.nothing)))
-        (λ o q h. refines-then no_deeper no_deeper-compares.goes (Paired IsLessDefinedDatum) (OutputsRefine IsLessDefinedDatum) direction (node_run c x xs o) (node_run d y ys q) (λ us. nodes_run c after xs (extended o (id_of x) us)) (λ us. nodes_run d after ys (extended q (id_of y) us))
+        (refines-gives no_deeper direction (λ o. HaveRun c xs o before) (OutputsRefine IsLessDefinedDatum) (nodes_run c before xs no_outputs) (nodes_run d before ys no_outputs)
+        (before-run xs (nodes_run c before xs no_outputs) refl) (same-refines before xs ys near no_outputs no_outputs (λ n p. less-kept.nothing)))
+        (λ o q h. refines-then no_deeper no_deeper-compares.goes (Paired IsLessDefinedDatum) (OutputsRefine IsLessDefinedDatum) direction (node_run c x xs o) (node_run d y ys q)
+        (λ us. nodes_run c after xs (extended o (id_of x) us)) (λ us. nodes_run d after ys (extended q (id_of y) us))
         (node-refines xs ys o q near h.1 h.0)
-        (λ us vs pairs. same-refines after xs ys near (extended o (id_of x) us) (extended q (id_of y) vs) (subst (λ n. OutputsRefine IsLessDefinedDatum (extended o (id_of x) us) (extended q n vs)) same (extended-refines no_deeper no_deeper-compares direction IsLessDefinedDatum less-kept o q h.1 (id_of x) us vs pairs)))))
+        (λ us vs pairs. same-refines after xs ys near (extended o (id_of x) us) (extended q (id_of y) vs)
+        (subst (λ n. OutputsRefine IsLessDefinedDatum (extended o (id_of x) us) (extended q n vs)) same
+        (extended-refines no_deeper no_deeper-compares direction IsLessDefinedDatum less-kept o q h.1 (id_of x) us vs pairs)))))
 
-    pub replaced-refines : MeaningRefines no_deeper direction IsLessDefinedDatum (region_meaning c (region args (joined_nodes before (node_then x after)) results)) (region_meaning d (region args (joined_nodes before (node_then y after)) results))
+    pub replaced-refines : MeaningRefines no_deeper direction IsLessDefinedDatum (region_meaning c (region args (joined_nodes before (node_then x after)) results))
+        (region_meaning d (region args (joined_nodes before (node_then y after)) results))
     replaced-refines =
         record {
           on = λ xs ys near.

@@ -1,4 +1,4 @@
--- Regions that are equal but for alike ones refine.
+-- Regions that are equal but for regions that refine, refine.
 use Rattle.std.proofs.Common.{◌≡◌, ℕ, zero, suc, ◌==◌, Bool, true, false, cond, List, [], ◌∷◌, map, refl, sym, subst, inl, inr, arith}
 use Rattle.val_core.specs.declared.values.Value.{Value}
 use Rattle.val_core.specs.declared.values.Value.TheVariants.{Num, At, Bad}
@@ -117,7 +117,8 @@ module _ (cmp : Comparison) (g : Compares cmp) (direction : Direction) (N : Datu
   turns-by body body' h (suc n) (suc m) order =
       let rest = turns-by body body' h n m (order-below direction n m order) in
       record {
-        on = λ xs ys near. refines-then cmp g.goes (Paired N) (Paired N) direction (body xs) (body' ys) (again (turns n body)) (again (turns m body')) (h.on xs ys near) (λ us vs near'. again-refines (turns n body) (turns m body') rest us vs near');
+        on = λ xs ys near. refines-then cmp g.goes (Paired N) (Paired N) direction (body xs) (body' ys) (again (turns n body)) (again (turns m body')) (h.on xs ys near)
+            (λ us vs near'. again-refines (turns n body) (turns m body') rest us vs near');
       }
 
   pub looped-refines : (n m : ℕ) → InOrder direction n m → (ms ns : List Meaning) → MeaningsRefine ms ns → MeaningRefines cmp direction N (looped n ms) (looped m ns)
@@ -135,7 +136,8 @@ module _ (cmp : Comparison) (g : Compares cmp) (direction : Direction) (N : Datu
 
   -- ---- regions
 
-  module _ (P : RegionTree → RegionTree → Type 0) (Q : Context → Context → Type 0) (base : (r s : RegionTree) → P r s → RegionRefines cmp direction N Q r s) (c d : Context) (a : ContextRefines cmp direction N c d) (q : Q c d) where
+  module _ (P : RegionTree → RegionTree → Type 0) (Q : Context → Context → Type 0) (base : (r s : RegionTree) → P r s → RegionRefines cmp direction N Q r s) (c d : Context)
+      (a : ContextRefines cmp direction N c d) (q : Q c d) where
     extended-at : (x y : NodeTree) → NodeSameBut P x y → (o p : Outputs) → OutputsRefine N o p → (us vs : List Datum) → Paired N us vs →
         OutputsRefine N (extended o (id_of x) us) (extended p (id_of y) vs)
     extended-at (node id op inputs rs) (node id' op' inputs' rs') h o p like us vs near =

@@ -59,13 +59,26 @@ module _ (ls ks : List PlainLambda) (same : LambdasSameBut (Replaces ls ks) ls k
       let two = twice-below direction n m twice in
       let less = lesser-below direction n m b small in
       let linked : (os : List PlainObject) (k : List _) → Linked direction ls ks global (inside n (applied ls global n) global os k) (inside m (applied ks global m) global os k)
-      = λ os k. record { twice = two; near_global = λ j. refl; far_global = λ j. refl; near_call = λ j xs. refl; far_call = λ j xs. refl; nested = λ i j small' twice' f'. calls-refines b i j (le_trans small' less) twice' f' } in
-      let body = entered-refines no_deeper no_deeper-compares direction IsLessDefinedDatum less-kept (Replaces ls ks) (Linked direction ls ks global) base n m (twice-order direction 2 n m two) (applied ls global n) (applied ks global m) (λ j. calls-refines b n m less (twice-less direction n m two) j) global less-global linked (slice_get ls f) (slice_get ks f) (found-same (Replaces ls ks) ls ks same f) in
+      = λ os k. record {
+        twice = two;
+        near_global = λ j. refl;
+        far_global = λ j. refl;
+        near_call = λ j xs. refl;
+        far_call = λ j xs. refl;
+        nested = λ i j small' twice' f'. calls-refines b i j
+            (le_trans small' less) twice' f';
+      } in
+      let body = entered-refines no_deeper no_deeper-compares direction IsLessDefinedDatum less-kept (Replaces ls ks) (Linked direction ls ks global) base n m (twice-order direction 2 n m two)
+      (applied ls global n) (applied ks global m) (λ j. calls-refines b n m less (twice-less direction n m two) j) global less-global linked (slice_get ls f) (slice_get ks f)
+      (found-same (Replaces ls ks) ls ks same f) in
       record {
-        on = λ xs ys near. refines-active no_deeper no_deeper-compares.goes (Paired IsLessDefinedDatum) direction f (entered n (applied ls global n) global (slice_get ls f) xs) (entered m (applied ks global m) global (slice_get ks f) ys) (body.on xs ys near);
+        on = λ xs ys near. refines-active no_deeper no_deeper-compares.goes (Paired IsLessDefinedDatum) direction f (entered n (applied ls global n) global (slice_get ls f) xs)
+            (entered m (applied ks global m) global (slice_get ks f) ys) (body.on xs ys near);
       }
 
-  pub regions-refines : (r s : RegionTree) → SameBut (Replaces ls ks) r s → (local : ℕ → Value) → ((k : ℕ) → IsSound (local k)) → (n m : ℕ) → IsTwice direction 2 n m → (xs : List Datum) → AreSound xs → Refines no_deeper direction (Paired IsLessDefinedDatum) (region_at n ls r xs (record { local = local; global = global })) (region_at m ks s xs (record { local = local; global = global }))
+  pub regions-refines : (r s : RegionTree) → SameBut (Replaces ls ks) r s → (local : ℕ → Value) → ((k : ℕ) → IsSound (local k)) → (n m : ℕ) → IsTwice direction 2 n m →
+      (xs : List Datum) → AreSound xs → Refines no_deeper direction (Paired IsLessDefinedDatum) (region_at n ls r xs (record { local = local; global = global }))
+      (region_at m ks s xs (record { local = local; global = global }))
   regions-refines r s alike local locals n m twice xs sound =
       (region-refines no_deeper no_deeper-compares direction IsLessDefinedDatum less-kept (Replaces ls ks) (Linked direction ls ks global) base
       (record { bound = n; call = applied ls global n; addresses = record { local = local; global = global } })

@@ -111,7 +111,8 @@ eight a b c d e f g h t =
 
 pub node-parts : (objects : ℕ) (args : List Kind) (before : NodeTrees) (x : NodeTree) → node_fits objects args before x ≡ true → NodeParts x
 node-parts objects args before x t =
-    let p = eight (inputs_fit args before x) (inputs_are_last args before x) (node_has_one_state_each args before x) (has_its_regions x) (regions_fit x) (theta_has_states x) (has_its_width x) (has_its_object objects x) t in
+    let p = eight (inputs_fit args before x) (inputs_are_last args before x) (node_has_one_state_each args before x) (has_its_regions x) (regions_fit x) (theta_has_states x) (has_its_width x)
+    (has_its_object objects x) t in
     record { has = p.0; regions = p.1; states = p.2 }
 
 -- a region that fits and gives neither state, but for its nodes
@@ -157,7 +158,8 @@ mutual
   node-silent objects (node id Get inputs rs) p nested none c xs o = let h = none.io in absurd cc
   node-silent objects (node id Theta inputs no_regions) p nested none c xs o = let h = p.has in absurd cc
   node-silent objects (node id Theta inputs (region_then r rs)) p nested none c xs o =
-      let all = and_parts (some_of (same_kind Memory) (args_of r) && some_of (same_kind Io) (args_of r)) (all_regions (λ s. some_of (same_kind Memory) (args_of s) && some_of (same_kind Io) (args_of s)) rs) p.states in
+      let all = and_parts (some_of (same_kind Memory) (args_of r) && some_of (same_kind Io) (args_of r))
+      (all_regions (λ s. some_of (same_kind Memory) (args_of s) && some_of (same_kind Io) (args_of s)) rs) p.states in
       let both = and_parts (some_of (same_kind Memory) (args_of r)) (some_of (same_kind Io) (args_of r)) all.0 in
       let gives_it = theta-gives Memory (args_of r) both.0 in
       let gives_none = none.memory in
@@ -172,8 +174,11 @@ mutual
   regions-silent objects ks first (region_then r rs) t nested none_memory none_io c =
       let p = and_parts (same (args_of r) first && are (result_kinds r) (kinds_of ks)) (all_regions (λ s. same (args_of s) first && are (result_kinds s) (kinds_of ks)) rs) t in
       let q = and_parts (same (args_of r) first) (are (result_kinds r) (kinds_of ks)) p.0 in
-      let u = and_parts (every_region (region_fits objects) r) (every_in_regions (region_fits objects) rs) nested in
-      (region-silent objects r u.0 (same-none Memory ks (result_kinds r) q.1 none_memory) (same-none Io ks (result_kinds r) q.1 none_io) c, regions-silent objects ks first rs p.1 u.1 none_memory none_io c)
+      let u = and_parts (every_region (region_fits objects) r) (every_in_regions (region_fits objects) rs) nested in (
+        region-silent objects r u.0 (same-none Memory ks (result_kinds r) q.1 none_memory)
+            (same-none Io ks (result_kinds r) q.1 none_io) c,
+        regions-silent objects ks first rs p.1 u.1 none_memory none_io c,
+      )
 
   region-silent : (objects : ℕ) (r : RegionTree) → every_region (region_fits objects) r ≡ true → some_of (is_of Memory) (result_kinds r) ≡ false → some_of (is_of Io) (result_kinds r) ≡ false →
       (c : Context) (xs : List Datum) → IsSilent (region_meaning c r xs)
@@ -189,8 +194,14 @@ mutual
       let p = and_parts (node_fits objects args (nodes_of earlier) x) (each_node (node_fits objects args) (earlier ++ x ∷ []) ns) t in
       let q = and_parts (every_in_node (region_fits objects) x) (every_in_nodes (region_fits objects) ns) nested in
       then-silent (node_run c x xs o) (λ ys. nodes_run c ns xs (extended o (id_of x) ys))
-      (node-silent objects x (node-parts objects args (nodes_of earlier) x p.0) q.0 (record { memory = (or_parts (some_of (is_of Memory) (output_kinds x)) (gives Memory ns) none_memory).0; io = (or_parts (some_of (is_of Io) (output_kinds x)) (gives Io ns) none_io).0 }) c xs o)
-      (λ ys. nodes-silent objects args (earlier ++ x ∷ []) ns p.1 q.1 ((or_parts (some_of (is_of Memory) (output_kinds x)) (gives Memory ns) none_memory).1) ((or_parts (some_of (is_of Io) (output_kinds x)) (gives Io ns) none_io).1) c xs (extended o (id_of x) ys))
+      (node-silent objects x (node-parts objects args (nodes_of earlier) x p.0) q.0
+      (record {
+        memory = (or_parts (some_of (is_of Memory) (output_kinds x)) (gives Memory ns) none_memory).0;
+        io =
+            (or_parts (some_of (is_of Io) (output_kinds x)) (gives Io ns) none_io).0;
+      }) c xs o)
+      (λ ys. nodes-silent objects args (earlier ++ x ∷ []) ns p.1 q.1 ((or_parts (some_of (is_of Memory) (output_kinds x)) (gives Memory ns) none_memory).1)
+      ((or_parts (some_of (is_of Io) (output_kinds x)) (gives Io ns) none_io).1) c xs (extended o (id_of x) ys))
 
 pub stateless_nodes_are_silent : StatelessNodesAreSilent
 stateless_nodes_are_silent objects args before x fits none c xs o =

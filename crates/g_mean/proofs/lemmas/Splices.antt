@@ -179,11 +179,12 @@ refines-same : {A B C : Type 0} (direction : Direction) (R : A → B → Type 0)
 refines-same direction R T a (Returned y p) (Returned z q) h k = subst (λ w. Refines no_deeper direction (Through R T) a (Returned z w)) k.1 (back-same direction R T a y z p k.0 h)
 refines-same direction R T a (Cut p) (Cut q) h k = subst (λ w. Refines no_deeper direction (Through R T) a (Cut w)) k (cut-same direction R (Through R T) a p h)
 refines-same direction R T a (Exited p t) (Exited q u) h k =
-    subst (λ w. Refines no_deeper direction (Through R T) a (Exited w u)) k.0 (subst (λ v. Refines no_deeper direction (Through R T) a (Exited p v)) k.1 (exited-same direction R (Through R T) a p t h))
+    subst (λ w. Refines no_deeper direction (Through R T) a (Exited w u)) k.0
+    (subst (λ v. Refines no_deeper direction (Through R T) a (Exited p v)) k.1 (exited-same direction R (Through R T) a p t h))
 refines-same direction R T a (Undefined p) (Undefined q) h k = undefined-same direction R (Through R T) a p q h
 refines-same direction R T a _ _ h k = absurd k
 
--- what is near to a value without meaning has none, and everything sound is near to it
+-- what is less defined than a value without meaning has none, and is less defined than everything sound
 less-nothing : (x y : Datum) → IsLessDefinedDatum x y → y ≡ val Bad → (z : Datum) → IsSoundDatum z → IsLessDefinedDatum x z
 less-nothing x y h e z s = (inr (by h.0), h.1, s)
   where
@@ -228,7 +229,8 @@ all-among S known other h (a ∷ origins) r = (by a r.0, all-among S known other
     by (Arg k) (inr m) = absurd m
     by (Out n p) (inr m) = inr (h n m)
 
-module _ (direction : Direction) (c d : Context) (context : ContextRefines no_deeper direction IsLessDefinedDatum c d) (args : List Kind) (before : NodeTrees) (x : NodeTree) (after : NodeTrees) (results : List Origin) (own : List Kind) (part : NodeTrees) (gives inputs : List Origin) (fits : FitsInto args before x after results part gives inputs) where
+module _ (direction : Direction) (c d : Context) (context : ContextRefines no_deeper direction IsLessDefinedDatum c d) (args : List Kind) (before : NodeTrees) (x : NodeTree) (after : NodeTrees)
+    (results : List Origin) (own : List Kind) (part : NodeTrees) (gives inputs : List Origin) (fits : FitsInto args before x after results part gives inputs) where
   all-distinct : distinct (nodes_ids before ++ (node_ids x ++ nodes_ids after)) ≡ true
   all-distinct = subst (λ zs. distinct zs ≡ true) (nodes_ids-joined before (node_then x after)) fits.unique
 
@@ -264,7 +266,8 @@ module _ (direction : Direction) (c d : Context) (context : ContextRefines no_de
 
   -- an input is an output of an earlier node, if it is one
   input-before : (k : ℕ) (b : Origin) (n p : ℕ) → slice_get inputs k ≡ Some b → b ≡ Out n p → IsAmong n (nodes_ids before)
-  input-before k b n p e f = by (subst (λ z. IsRead (is_argument (length args)) (known_after [] before) z) f (get-read (is_argument (length args)) (known_after [] before) inputs fits.inputs_known k b e))
+  input-before k b n p e f = by (subst (λ z. IsRead (is_argument (length args)) (known_after [] before) z) f
+      (get-read (is_argument (length args)) (known_after [] before) inputs fits.inputs_known k b e))
     where
       by : IsRead (is_argument (length args)) (known_after [] before) (Out n p) → IsAmong n (nodes_ids before)
       by (inl t) = absurd cc
@@ -306,10 +309,12 @@ module _ (direction : Direction) (c d : Context) (context : ContextRefines no_de
       let origin_replaced = redirected-moved (args_to_inputs inputs) part in
       let nodes = subst (λ ns. Same (ReadSame small (known_after [] part) (args_to_inputs inputs) vs ys) (nodes_run d part vs no_outputs) (nodes_run d ns ys q)) origin_replaced
       (copied_nodes_mean_the_same small (args_to_inputs inputs) (λ n. n) part part-moves fits.part_reads d vs ys no_outputs q (part-read ys q)) in
-      let others = same-adds (ReadSame small (known_after [] part) (args_to_inputs inputs) vs ys) (λ r. (n : ℕ) → (IsAmong n (nodes_ids part) → ⊥) → (p : ℕ) → r n p ≡ q n p) (nodes_run d part vs no_outputs) (nodes_run d (nodes_redirected (args_to_inputs inputs) part) ys q)
+      let others = same-adds (ReadSame small (known_after [] part) (args_to_inputs inputs) vs ys) (λ r. (n : ℕ) → (IsAmong n (nodes_ids part) → ⊥) → (p : ℕ) → r n p ≡ q n p)
+      (nodes_run d part vs no_outputs) (nodes_run d (nodes_redirected (args_to_inputs inputs) part) ys q)
       (λ r o e n h p. unchanged d (nodes_redirected (args_to_inputs inputs) part) ys q r o e n (λ k. h (subst (λ zs. IsAmong n zs) (nodes_ids-redirected (args_to_inputs inputs) part) k)) p) nodes in
       subst (λ b. Same (ArgsToInputs ys q (nodes_ids part) outs) (region_meaning d (region own part gives) vs) b) (then_nothing (nodes_run d (nodes_redirected (args_to_inputs inputs) part) ys q))
-      (same-then (λ o r. ReadSame small (known_after [] part) (args_to_inputs inputs) vs ys o r × ((n : ℕ) → (IsAmong n (nodes_ids part) → ⊥) → (p : ℕ) → r n p ≡ q n p)) (ArgsToInputs ys q (nodes_ids part) outs)
+      (same-then (λ o r. ReadSame small (known_after [] part) (args_to_inputs inputs) vs ys o r × ((n : ℕ) → (IsAmong n (nodes_ids part) → ⊥) → (p : ℕ) → r n p ≡ q n p))
+      (ArgsToInputs ys q (nodes_ids part) outs)
       (nodes_run d part vs no_outputs) (nodes_run d (nodes_redirected (args_to_inputs inputs) part) ys q) (λ o. Returned (map (read vs o) gives) []) (λ r. Returned r []) others
       (λ o r h. (record { gives = sym (reads-same small (known_after [] part) (args_to_inputs inputs) vs ys o r h.0 gives fits.part_gives); others = h.1 }, refl)))
 
@@ -407,7 +412,8 @@ module _ (direction : Direction) (c d : Context) (context : ContextRefines no_de
       (all-among (is_argument (length args)) (known_after [] (joined_nodes before (node_then x after))) (known_after [] after ++ (id_of x ∷ known_after [] before))
       (λ n h. known-split [] (id_of x ∷ known_after [] before) after n (subst (λ zs. IsAmong n zs) (joined-known [] before (node_then x after)) h)) results fits.closed.1)
 
-  module _ (xs ys : List Datum) (near : Paired IsLessDefinedDatum xs ys) (o q : Outputs) (like : OutputsRefine IsLessDefinedDatum o q) (us vs : List Datum) (pairs : Paired IsLessDefinedDatum us vs) (r : Outputs) (place : ArgsToInputs ys q (nodes_ids part) outs vs r) where
+  module _ (xs ys : List Datum) (near : Paired IsLessDefinedDatum xs ys) (o q : Outputs) (like : OutputsRefine IsLessDefinedDatum o q) (us vs : List Datum)
+      (pairs : Paired IsLessDefinedDatum us vs) (r : Outputs) (place : ArgsToInputs ys q (nodes_ids part) outs vs r) where
     own-less : (j : ℕ) (found : Option Origin) → slice_get outs j ≡ found → IsLessDefinedDatum (at_port us j) (read ys r (unwrap_or found (Out (id_of x) j)))
     own-less j (Some b) e =
         subst (λ z. IsLessDefinedDatum (at_port us j) z) (ap (λ ws. at_port ws j) place.gives ∙ get-port (read ys r) outs j b e) (paired-at IsLessDefinedDatum less-kept us vs pairs j)
@@ -424,10 +430,12 @@ module _ (direction : Direction) (c d : Context) (context : ContextRefines no_de
         by : ((i == id_of x) ≡ true) ⊎ ((i == id_of x) ≡ false) → IsLessDefinedDatum (extended o (id_of x) us i j) (read ys r (move (Out i j)))
         by (inl f) =
             let same : i ≡ id_of x = grind (arith, nat_tests) in
-            subst₂ (λ z w. IsLessDefinedDatum z w) (sym (extended-same o (id_of x) us i j (sym same))) (ap (read ys r) (ap (λ n. unwrap_or (slice_get outs j) (Out n j)) (sym same) ∙ sym (without-own i j same))) (own-less j (slice_get outs j) refl)
+            subst₂ (λ z w. IsLessDefinedDatum z w) (sym (extended-same o (id_of x) us i j (sym same)))
+            (ap (read ys r) (ap (λ n. unwrap_or (slice_get outs j) (Out n j)) (sym same) ∙ sym (without-own i j same))) (own-less j (slice_get outs j) refl)
         by (inr f) =
             let ne = eqb-false i (id_of x) f in
-            subst₂ (λ z w. IsLessDefinedDatum z w) (sym (extended-other o (id_of x) us i j (λ e. ne (sym e)))) (sym (place.others i (λ k. none-among i avoided t (among-right i (nodes_ids after) (nodes_ids part) k)) j) ∙ ap (read ys r) (sym (without-other i j ne))) (like i j)
+            subst₂ (λ z w. IsLessDefinedDatum z w) (sym (extended-other o (id_of x) us i j (λ e. ne (sym e))))
+            (sym (place.others i (λ k. none-among i avoided t (among-right i (nodes_ids after) (nodes_ids part) k)) j) ∙ ap (read ys r) (sym (without-other i j ne))) (like i j)
 
   -- ---- the whole region
 
@@ -438,7 +446,8 @@ module _ (direction : Direction) (c d : Context) (context : ContextRefines no_de
   have-run xs (Exited o s) e = tt
   have-run xs (Undefined o) e = tt
 
-  module _ (node-refines : (xs ys : List Datum) (o q : Outputs) → Paired IsLessDefinedDatum xs ys → OutputsRefine IsLessDefinedDatum o q → HaveRun c xs o before → Refines no_deeper direction (Paired IsLessDefinedDatum) (node_run c x xs o) (region_meaning d (region own part gives) (map (read ys q) inputs))) where
+  module _ (node-refines : (xs ys : List Datum) (o q : Outputs) → Paired IsLessDefinedDatum xs ys → OutputsRefine IsLessDefinedDatum o q → HaveRun c xs o before → Refines no_deeper direction
+      (Paired IsLessDefinedDatum) (node_run c x xs o) (region_meaning d (region own part gives) (map (read ys q) inputs))) where
     abbrev part_in_place : NodeTrees
     part_in_place = nodes_redirected (args_to_inputs inputs) part
 
@@ -449,22 +458,31 @@ module _ (direction : Direction) (c d : Context) (context : ContextRefines no_de
         Refines no_deeper direction (ReadLessDefined outside (known_after [] after) move xs ys) (nodes_run c (node_then x after) xs o) (nodes_run d (joined_nodes part_in_place after_it) ys q)
     rest-refines xs ys near o q like have =
         subst (λ b. Refines no_deeper direction (ReadLessDefined outside (known_after [] after) move xs ys) (nodes_run c (node_then x after) xs o) b) (sym (joined-run d part_in_place after_it ys q))
-        (refines-then no_deeper no_deeper-compares.goes (Through (Paired IsLessDefinedDatum) (ArgsToInputs ys q (nodes_ids part) outs)) (ReadLessDefined outside (known_after [] after) move xs ys) direction
+        (refines-then no_deeper no_deeper-compares.goes (Through (Paired IsLessDefinedDatum) (ArgsToInputs ys q (nodes_ids part) outs))
+        (ReadLessDefined outside (known_after [] after) move xs ys) direction
         (node_run c x xs o) (nodes_run d part_in_place ys q) (λ us. nodes_run c after xs (extended o (id_of x) us)) (nodes_run d after_it ys)
-        (refines-same direction (Paired IsLessDefinedDatum) (ArgsToInputs ys q (nodes_ids part) outs) (node_run c x xs o) (region_meaning d (region own part gives) (map (read ys q) inputs)) (nodes_run d part_in_place ys q) (node-refines xs ys o q near like have) (part-placed ys q))
-        (λ us r h. subst (λ ns. Refines no_deeper direction (ReadLessDefined outside (known_after [] after) move xs ys) (nodes_run c after xs (extended o (id_of x) us)) (nodes_run d ns ys r)) (redirected-moved move after)
+        (refines-same direction (Paired IsLessDefinedDatum) (ArgsToInputs ys q (nodes_ids part) outs) (node_run c x xs o) (region_meaning d (region own part gives) (map (read ys q) inputs))
+        (nodes_run d part_in_place ys q) (node-refines xs ys o q near like have) (part-placed ys q))
+        (λ us r h. subst (λ ns. Refines no_deeper direction (ReadLessDefined outside (known_after [] after) move xs ys) (nodes_run c after xs (extended o (id_of x) us)) (nodes_run d ns ys r))
+        (redirected-moved move after)
         (moved_nodes_refine direction c d context outside move (λ n. n) after after-moves after-reads xs ys (extended o (id_of x) us) r (after-less xs ys near o q like us h.0 h.1 r h.2))))
 
-    whole-refines : (xs ys : List Datum) → Paired IsLessDefinedDatum xs ys → Refines no_deeper direction (ReadLessDefined outside (known_after [] after) move xs ys) (nodes_run c (joined_nodes before (node_then x after)) xs no_outputs) (nodes_run d (joined_nodes before (joined_nodes part_in_place after_it)) ys no_outputs)
+    whole-refines : (xs ys : List Datum) → Paired IsLessDefinedDatum xs ys → Refines no_deeper direction (ReadLessDefined outside (known_after [] after) move xs ys)
+        (nodes_run c (joined_nodes before (node_then x after)) xs no_outputs) (nodes_run d (joined_nodes before (joined_nodes part_in_place after_it)) ys no_outputs)
     whole-refines xs ys near =
-        subst₂ (λ a b. Refines no_deeper direction (ReadLessDefined outside (known_after [] after) move xs ys) a b) (sym (joined-run c before (node_then x after) xs no_outputs)) (sym (joined-run d before (joined_nodes part_in_place after_it) ys no_outputs))
+        subst₂ (λ a b. Refines no_deeper direction (ReadLessDefined outside (known_after [] after) move xs ys) a b) (sym (joined-run c before (node_then x after) xs no_outputs))
+        (sym (joined-run d before (joined_nodes part_in_place after_it) ys no_outputs))
         (refines-then no_deeper no_deeper-compares.goes (λ o q. HaveRun c xs o before × OutputsRefine IsLessDefinedDatum o q) (ReadLessDefined outside (known_after [] after) move xs ys) direction
         (nodes_run c before xs no_outputs) (nodes_run d before ys no_outputs) (nodes_run c (node_then x after) xs) (nodes_run d (joined_nodes part_in_place after_it) ys)
-        (refines-gives no_deeper direction (λ o. HaveRun c xs o before) (OutputsRefine IsLessDefinedDatum) (nodes_run c before xs no_outputs) (nodes_run d before ys no_outputs) (have-run xs (nodes_run c before xs no_outputs) refl)
-        (nodes-refines no_deeper no_deeper-compares direction IsLessDefinedDatum less-kept Never Always (never-refines no_deeper no_deeper-compares direction IsLessDefinedDatum less-kept) c d context tt before before (nodes-itself Never before) xs ys near no_outputs no_outputs (λ n p. less-kept.nothing)))
+        (refines-gives no_deeper direction (λ o. HaveRun c xs o before) (OutputsRefine IsLessDefinedDatum) (nodes_run c before xs no_outputs) (nodes_run d before ys no_outputs)
+        (have-run xs (nodes_run c before xs no_outputs) refl)
+        (nodes-refines no_deeper no_deeper-compares direction IsLessDefinedDatum less-kept Never Always
+        (never-refines no_deeper no_deeper-compares direction IsLessDefinedDatum less-kept) c d context tt before before (nodes-itself Never before) xs ys near no_outputs no_outputs
+        (λ n p. less-kept.nothing)))
         (λ o q h. rest-refines xs ys near o q h.1 h.0))
 
-    region-refines : MeaningRefines no_deeper direction IsLessDefinedDatum (region_meaning c (region args (joined_nodes before (node_then x after)) results)) (region_meaning d (region args (joined_nodes before (joined_nodes part_in_place after_it)) (map move results)))
+    region-refines : MeaningRefines no_deeper direction IsLessDefinedDatum (region_meaning c (region args (joined_nodes before (node_then x after)) results))
+        (region_meaning d (region args (joined_nodes before (joined_nodes part_in_place after_it)) (map move results)))
     region-refines =
         record {
           on = λ xs ys near.
@@ -475,9 +493,11 @@ module _ (direction : Direction) (c d : Context) (context : ContextRefines no_de
               (λ o q h. (reads-less direction c d context outside move (λ n. n) (nodes_ids after) after-moves xs ys (known_after [] after) o q h results after-gives, no_deeper-compares.goes.nothing));
         }
 
-    pub spliced-refines : MeaningRefines no_deeper direction IsLessDefinedDatum (region_meaning c (region args (joined_nodes before (node_then x after)) results)) (region_meaning d (region_spliced (id_of x) (region_redirected (args_to_inputs inputs) (region own part gives)) (region args (joined_nodes before (node_then x after)) results)))
+    pub spliced-refines : MeaningRefines no_deeper direction IsLessDefinedDatum (region_meaning c (region args (joined_nodes before (node_then x after)) results))
+        (region_meaning d (region_spliced (id_of x) (region_redirected (args_to_inputs inputs) (region own part gives)) (region args (joined_nodes before (node_then x after)) results)))
     spliced-refines =
-        subst (λ ns. MeaningRefines no_deeper direction IsLessDefinedDatum (region_meaning c (region args (joined_nodes before (node_then x after)) results)) (region_meaning d (region args ns (map move results))))
+        subst (λ ns. MeaningRefines no_deeper direction IsLessDefinedDatum (region_meaning c (region args (joined_nodes before (node_then x after)) results))
+        (region_meaning d (region args ns (map move results))))
         (sym (spliced-joined before x after part_in_place outs at-before)) region-refines
 
 pub spliced_regions_refine : SplicedRegionsRefine

@@ -20,7 +20,8 @@ call-returns-in_ok-active-in-None-clause-answer t c =
 
 pub run_gamma-returns-in-Some-chosen-clause-answer : goal.run_gamma-returns-in-Some-chosen-clause-answer
 run_gamma-returns-in-Some-chosen-clause-answer t c =
-    gives _ _ _ (gamma_runs _ c.args.regions.now _ c.in_ok-found.field-0 c.in-Some.found _ c.in-Some-chosen.region.now c.in_ok-found.ensures c.in-Some.is c.deref.ensures.value c.in-Some-chosen.ensures) c.run_region.ensures.answer
+    gives _ _ _ (gamma_runs _ c.args.regions.now _ c.in_ok-found.field-0 c.in-Some.found _ c.in-Some-chosen.region.now c.in_ok-found.ensures c.in-Some.is c.deref.ensures.value
+    c.in-Some-chosen.ensures) c.run_region.ensures.answer
 
 pub run_gamma-returns-clause-answer : goal.run_gamma-returns-clause-answer
 run_gamma-returns-clause-answer t c =
@@ -31,25 +32,33 @@ run_theta-returns-in-Some-clause-answer t c = gives _ _ _ (looped_is _ _ c.args.
 
 pub run_region-returns-in-Last-clause-answer : goal.run_region-returns-in-Last-clause-answer
 run_region-returns-in-Last-clause-answer t c =
-    region_next _ c.deref-node-items.result.now c.loop-node.node-index c.node-item.result _ c.loop-node.outputs.items c.deref.result.now _ c.region.inside.results.items _ _ c.node.inside.id c.in_ok-more.field-0 _ c.loop-node-test.true c.node-item.is c.loop-node.invariant (ap id_of c.node.view_is) c.deref.ensures.value c.in_ok-answer.ensures.answer c.in_ok-more.ensures c.in-Last.is
+    region_next _ c.deref-node-items.result.now c.loop-node.node-index c.node-item.result _ c.loop-node.outputs.items c.deref.result.now _ c.region.inside.results.items _ _
+    c.node.inside.id c.in_ok-more.field-0 _ c.loop-node-test.true c.node-item.is c.loop-node.invariant (ap id_of c.node.view_is) c.deref.ensures.value c.in_ok-answer.ensures.answer
+    c.in_ok-more.ensures c.in-Last.is
 
 pub run_region-loop-node-preserved : goal.run_region-loop-node-preserved
 run_region-loop-node-preserved t c =
-    region_next _ c.deref-node-items.result.now c.loop-node.node-index c.node-item.result _ c.loop-node.outputs.items c.deref.result.now _ c.region.inside.results.items _ _ c.node.inside.id c.in_ok-more.field-0 _ c.loop-node-test.true c.node-item.is c.loop-node.invariant (ap id_of c.node.view_is) c.deref.ensures.value c.in_ok-answer.ensures.answer c.in_ok-more.ensures c.in-Next.is
+    region_next _ c.deref-node-items.result.now c.loop-node.node-index c.node-item.result _ c.loop-node.outputs.items c.deref.result.now _ c.region.inside.results.items _ _
+    c.node.inside.id c.in_ok-more.field-0 _ c.loop-node-test.true c.node-item.is c.loop-node.invariant (ap id_of c.node.view_is) c.deref.ensures.value c.in_ok-answer.ensures.answer
+    c.in_ok-more.ensures c.in-Next.is
 
 pub run_turns-returns-in-Last-clause-answer : goal.run_turns-returns-in-Last-clause-answer
 run_turns-returns-in-Last-clause-answer t c =
-    turn_next _ c.args.context.bound c.loop-turn._turn c.loop-turn.inputs.items c.deref.result.now _ _ _ c.in_ok-more.field-0 _ c.loop-turn-test.true c.loop-turn.invariant c.deref.ensures.value c.in_ok-answer.ensures.answer c.in_ok-more.ensures c.in-Last.is
+    turn_next _ c.args.context.bound c.loop-turn._turn c.loop-turn.inputs.items c.deref.result.now _ _ _ c.in_ok-more.field-0 _ c.loop-turn-test.true c.loop-turn.invariant
+    c.deref.ensures.value c.in_ok-answer.ensures.answer c.in_ok-more.ensures c.in-Last.is
 
 pub run_turns-loop-turn-preserved : goal.run_turns-loop-turn-preserved
 run_turns-loop-turn-preserved t c =
-    turn_next _ c.args.context.bound c.loop-turn._turn c.loop-turn.inputs.items c.deref.result.now _ _ _ c.in_ok-more.field-0 _ c.loop-turn-test.true c.loop-turn.invariant c.deref.ensures.value c.in_ok-answer.ensures.answer c.in_ok-more.ensures c.in-Next.is
+    turn_next _ c.args.context.bound c.loop-turn._turn c.loop-turn.inputs.items c.deref.result.now _ _ _ c.in_ok-more.field-0 _ c.loop-turn-test.true c.loop-turn.invariant
+    c.deref.ensures.value c.in_ok-answer.ensures.answer c.in_ok-more.ensures c.in-Next.is
 
 pub enter-returns-clause-answer : goal.enter-returns-clause-answer
 enter-returns-clause-answer t c =
     let l = Lambda.the_view c.lambda.inside in
     c.in_ok-leave.ensures
-    ∙ enter_runs c.args.bound _ _ l c.args.lambda.now _ c.in-Some.first c.len.result c.deref.result.now c.deref-2.result.now c.in_ok-args.args.items c.deref-3.result.now _ c.lambda.view_is c.in-Some.ensures c.deref.ensures.value c.in_ok-args.ensures c.deref-2.ensures.value c.deref-3.ensures.value c.in_ok-answer.ensures.answer (c.len.ensures ∙ sym c.deref.ensures.len ∙ ap length c.deref.ensures.value)
+    ∙ enter_runs c.args.bound _ _ l c.args.lambda.now _ c.in-Some.first c.len.result c.deref.result.now c.deref-2.result.now c.in_ok-args.args.items c.deref-3.result.now _
+    c.lambda.view_is c.in-Some.ensures c.deref.ensures.value c.in_ok-args.ensures c.deref-2.ensures.value c.deref-3.ensures.value c.in_ok-answer.ensures.answer (c.len.ensures ∙ sym
+    c.deref.ensures.len ∙ ap length c.deref.ensures.value)
 
 -- ---- too deep
 
@@ -68,4 +77,5 @@ run_region-returns-in_err-answer-clause-too_deep t c =
     let levels : nodes_levels (nodes_of ns) ≡ region_levels c.args.region.now =
     ap (λ xs. nodes_levels (nodes_of xs)) c.deref-node-items.ensures.value ∙ ap region_levels c.region.view_is in
     λ e. subst (λ n. IsTooDeep c.args.depth n c.args.context.bound c.args.context.lambdas.now) levels
-    (deep-node ns c.loop-node.node-index c.node-item.result c.args.depth c.args.context.bound c.args.context.lambdas.now c.loop-node-test.true c.node-item.is (c.in_err-answer.ensures.too_deep (search rules)))
+    (deep-node ns c.loop-node.node-index c.node-item.result c.args.depth c.args.context.bound c.args.context.lambdas.now c.loop-node-test.true c.node-item.is
+    (c.in_err-answer.ensures.too_deep (search rules)))
