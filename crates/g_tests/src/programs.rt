@@ -1,9 +1,9 @@
 //! Small programs as graphs.
 
+use crate::checks::{of, out, region};
 use c_lex::Name;
 use g_graph::{Delta, Kind, Lambda, Link, Node, Object, Omega, Op, Origin, Region};
 use no_memory::NoMemory;
-use smallvec::SmallVec;
 use std::alloc::Global;
 use val_core::{Leaf, Op2};
 
@@ -38,11 +38,7 @@ const M: Kind = Kind::Memory;
 
 const I: Kind = Kind::Io;
 
-pub const fn out(node: u32, port: u32) -> Origin {
-    Origin::Out { node, port }
-}
-
-pub const fn arg(k: u32) -> Origin {
+const fn arg(k: u32) -> Origin {
     Origin::Arg(k)
 }
 
@@ -50,34 +46,12 @@ const fn leaf(offset: u32, width: u8) -> Leaf {
     Leaf { offset, width }
 }
 
-fn node(alloc: Global, id: u32, op: Op, inputs: &[Origin]) -> Result<Node, NoMemory> {
-    Ok(Node {
-        id,
-        op,
-        inputs: SmallVec::from_slice(alloc, inputs)?,
-        regions: Vec::new(alloc),
-    })
-}
-
 fn flat(alloc: Global, rows: &[(u32, Op, &[Origin])]) -> Result<Vec<Node>, NoMemory> {
     let mut nodes = Vec::new(alloc);
     for (id, op, inputs) in rows {
-        nodes.push(node(alloc, *id, *op, inputs)?)?;
+        nodes.push(of(alloc, *id, *op, inputs)?)?;
     }
     Ok(nodes)
-}
-
-fn region(
-    alloc: Global,
-    args: &[Kind],
-    nodes: Vec<Node>,
-    results: &[Origin],
-) -> Result<Region, NoMemory> {
-    Ok(Region {
-        args: Vec::from_slice(alloc, args)?,
-        nodes,
-        results: Vec::from_slice(alloc, results)?,
-    })
 }
 
 fn body(
@@ -111,14 +85,14 @@ fn gamma(
     first: Region,
     last: Region,
 ) -> Result<Node, NoMemory> {
-    let mut made = node(alloc, id, Op::Gamma, inputs)?;
+    let mut made = of(alloc, id, Op::Gamma, inputs)?;
     made.regions.push(first)?;
     made.regions.push(last)?;
     Ok(made)
 }
 
 fn theta(alloc: Global, id: u32, inputs: &[Origin], turn: Region) -> Result<Node, NoMemory> {
-    let mut made = node(alloc, id, Op::Theta, inputs)?;
+    let mut made = of(alloc, id, Op::Theta, inputs)?;
     made.regions.push(turn)?;
     Ok(made)
 }
