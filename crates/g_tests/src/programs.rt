@@ -386,9 +386,8 @@ fn compared(alloc: Global) -> Result<Omega, NoMemory> {
     single(alloc, &[4, 4], main, Vec::new(alloc))
 }
 
-// A region that writes a byte, whose node for it has the number `id`.
-fn writes(alloc: Global, id: u32, byte: u32) -> Result<Region, NoMemory> {
-    let word = id + 1;
+// A region that writes a byte: its nodes have the numbers `word` and `id`.
+fn writes(alloc: Global, word: u32, id: u32, byte: u32) -> Result<Region, NoMemory> {
     body(
         alloc,
         &[I],
@@ -405,10 +404,10 @@ fn narrow(alloc: Global) -> Result<Omega, NoMemory> {
         alloc,
         2,
         &[out(1, 0), arg(1)],
-        writes(alloc, 10, 97)?,
-        writes(alloc, 20, 98)?,
+        writes(alloc, 11, 10, 97)?,
+        writes(alloc, 21, 20, 98)?,
     )?;
-    choice.regions.push(writes(alloc, 30, 99)?)?;
+    choice.regions.push(writes(alloc, 31, 30, 99)?)?;
     let main = context(
         alloc,
         &[M, I],
