@@ -114,7 +114,7 @@ pub drop-front : (xs ys : List Leaf) → drop (length xs) (xs ++ ys) ≡ ys
 drop-front [] ys = refl
 drop-front (x ∷ xs) ys = drop-front xs ys
 
-length-moved : (by : ℕ) (xs : List Leaf) → length (map (moved by) xs) ≡ length xs
+pub length-moved : (by : ℕ) (xs : List Leaf) → length (map (moved by) xs) ≡ length xs
 length-moved by [] = refl
 length-moved by (x ∷ xs) = ap suc (length-moved by xs)
 

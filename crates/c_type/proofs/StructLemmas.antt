@@ -67,7 +67,7 @@ some-found indices structs tag s None i at is = cc
 some-found indices structs tag s (Some p) i at is =
     let e = i.found tag p s at is in
     let h = defined-is structs tag ∙ has-there structs p s tag is e in
-    record { defined = h; tagged = e; kept = i.kept p s is; level = level (definitions_of [] structs) i.ordered tag h }
+    record { defined = h; tagged = e; kept = i.kept p s is; level = level (definitions_of [] structs) i.ordered tag h; ordered = i.ordered }
 
 pub found : (indices : List ℕ) (structs : List Struct) (tag : ℕ) (result : Option (Bor Struct)) → AreIndexed indices structs → option_copied result ≡ option_and_then (slice_get structs) (slice_get indices tag) →
     MatchOption result (is_defined (definitions_of [] structs) tag ≡ false) (λ s. IsFound (definitions_of [] structs) tag s.now)

@@ -3,6 +3,7 @@ use Rattle.std.specs.Prelude.{◌≡◌, ℕ, ◌^◌, ◌<◌, ◌≤◌, ◌�
 use Rattle.limits.specs.Limits.{most_type_bytes}
 use Rattle.c_type.specs.Layout.{Definitions, struct_size, struct_align, offset, members}
 use Rattle.c_type.specs.WellDefined.{AreDefinitions}
+use Rattle.c_type.specs.Normal.{AreNormalOf}
 use Rattle.c_type.specs.declared.structs.Struct.{Struct}
 
 -- the definitions of structs, after earlier ones
@@ -17,6 +18,7 @@ pub record IsKept (defs : Definitions) (s : Struct) : Type 0 where
   pub small : s.size ≤ most_type_bytes
   pub align : s.align ≡ struct_align defs s.tag
   pub count : length s.offsets.items ≡ length s.members.items
+  pub normal : AreNormalOf defs s.members.items s.parts.items
   pub offsets : (i : ℕ) → i < length s.offsets.items → slice_index s.offsets.items i ≡ offset defs s.tag i
 
 -- what stands for the place of a tag that has none

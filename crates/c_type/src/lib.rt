@@ -8,8 +8,10 @@ mod defining;
 pub mod laws;
 mod layout;
 mod listing;
+mod normal;
 mod same;
 mod scalar;
+mod steps;
 mod structs;
 mod trees;
 
@@ -17,8 +19,9 @@ pub use define_fault::DefineFault;
 pub use layout::{
     align_of, are_laid_out, bounded_size, is_complete, is_laid_out, offset_of, size_of,
 };
-pub use listing::leaves;
+pub use listing::{counted_leaves, leaves};
 pub use scalar::Scalar;
+pub use steps::Steps;
 pub use structs::Types;
 pub use trees::{CType, TypeForm};
 pub use val_core::Leaf;

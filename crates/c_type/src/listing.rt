@@ -1,13 +1,17 @@
-ghost use Rattle.std.specs.Prelude.{◌≡◌, ◌+◌, ◌≤◌, ◌++◌, ◌∷◌, ◌-◌, [], OnOk, IfOk, drop, length, map};
+ghost use Rattle.std.specs.Prelude.{◌≡◌, ◌+◌, ◌*◌, ◌<◌, ◌≤◌, ◌++◌, ◌∷◌, ◌-◌, [], OnOk, IfOk, drop, length, map};
 ghost use Rattle.c_type.specs.Layout.{size, leaves, leaves_at, repeated, IsLaidOut};
+ghost use Rattle.c_type.specs.Trees.{tree_height};
 ghost use Rattle.c_type.specs.Moved.{moved, CanMove};
 ghost use Rattle.c_type.specs.Pending.{CanGoOn, HasGoneOn, IsBegun};
 
 use crate::layout::{align_of, rounded_up, size_of, width};
+use crate::steps::Steps;
 use crate::structs::Types;
 use crate::trees::{CType, TypeForm};
 use no_memory::NoMemory;
 use std::alloc::Global;
+use std::marker::Brand;
+use std::sync::ledger::{Blank, Ledger};
 use val_core::Leaf;
 
 // What is still to be listed. Structs nest thousands deep, so there is no recursion on them.
@@ -26,11 +30,45 @@ pub fn leaves(alloc: Global, types: &Types, t: &CType) -> Result<Vec<Leaf>, NoMe
     requires { IsLaidOut types.now t.now }
     ensures { IfOk result (λ v. v.items ≡ leaves types.now t.now) }
 {
+    leaves_in::<Brand>(alloc, Blank::new(1), types, t)
+}
+
+// The leaves, with their steps counted in a ledger of its own.
+fn leaves_in<L: Ledger>(
+    alloc: Global,
+    blank: Blank,
+    types: &Types,
+    t: &CType,
+) -> Result<Vec<Leaf>, NoMemory>
+    requires name { blank.name ≡ L.name }
+    requires parts { blank.parts ≡ L.parts }
+    requires some { 0 < blank.parts }
+    requires laid_out { IsLaidOut types.now t.now }
+    ensures { IfOk result (λ v. v.items ≡ leaves types.now t.now) }
+{
+    let mut steps = Steps::<L>::new(blank);
+    counted_leaves(alloc, types, t, &mut steps)
+}
+
+/// `leaves`, with its steps counted: one for each type, struct or array that is visited, and one for each leaf.
+pub fn counted_leaves<L: Ledger>(
+    alloc: Global,
+    types: &Types,
+    t: &CType,
+    steps: &mut Steps<L>,
+) -> Result<Vec<Leaf>, NoMemory>
+    requires { IsLaidOut types.now t.now }
+    ensures leaves { IfOk result (λ v. v.items ≡ leaves types.now t.now) }
+    ensures cost { let count = length (leaves types.now t.now) in
+        steps.new ≤ steps.old + (6 * count + 3 * tree_height t.now) }
+{
     let mut out = Vec::new(alloc);
     let mut pending = Vec::new(alloc);
-    pending.push(Pending::Whole(t, 0))?;
+    pending.push(types.first(t))?;
     while let Some(next) = pending.pop() {
+        let had = out.len();
         list(types, next, &mut pending, &mut out)?;
+        steps.add(1 + (out.len() - had));
     }
     Ok(out)
 }
@@ -73,7 +111,7 @@ fn list_whole<'a>(
         }
         TypeForm::Struct(tag) => {
             if let Some(s) = types.find(*tag) {
-                pending.push(Pending::Members(&s.members, at, 0))?;
+                pending.push(Pending::Members(&s.parts, at, 0))?;
             }
             Ok(())
         }
@@ -111,6 +149,9 @@ fn list_elements(
     requires { IsBegun types.now of.now count at first out.old.items }
     ensures { OnOk result (out.new.items ≡ out.old.items ++ repeated (count - 1) (size types.now of.now) (at + size types.now of.now) (leaves_at types.now of.now)) }
 {
+    if count == 1 {
+        return Ok(());
+    }
     let stride = size_of(types, of);
     let leaves = out.len() - first;
     for _i in 1..count {
@@ -118,6 +159,7 @@ fn list_elements(
     }
     Ok(())
 }
+
 // Appends the last leaves again, moved by so many bytes.
 fn push_again(count: usize, by: u32, out: &mut Vec<Leaf>) -> Result<(), NoMemory>
     requires count { count ≤ length out.old.items }

@@ -1,13 +1,14 @@
 ghost use Rattle.std.specs.Prelude.{◌≡◌, ◌<◌, ◌≤◌, ◌^◌, ◌-◌, ◌∷◌, ◌↔◌, [], false, length, OnOk, OnErr, IfOk, IfErr, vec_len, IsTrue, MatchOption, option_copied, option_and_then, slice_get};
 ghost use Rattle.limits.specs.Limits.{most_type_bytes};
-ghost use Rattle.c_type.specs.Layout.{is_defined, members};
+ghost use Rattle.c_type.specs.Layout.{is_defined, members, struct_size};
 ghost use Rattle.c_type.specs.WellDefined.{AreDefinitions, AreLaidOut};
-ghost use Rattle.c_type.specs.LaidUpTo.{struct_bytes};
 ghost use Rattle.c_type.specs.declared.define_fault.DefineFault.TheVariants.{TooLarge, NoMemory};
 ghost use Rattle.c_type.specs.Kept.{IsFound};
 
 use crate::define_fault::DefineFault;
 use crate::defining::{lay_out, make_index};
+use crate::listing::Pending;
+use crate::normal::normal_types;
 use crate::trees::CType;
 use std::alloc::Global;
 use std::marker::Model;
@@ -25,6 +26,8 @@ pub struct Types {
 pub(crate) struct Struct {
     pub(crate) tag: u32,
     pub(crate) members: Vec<CType>,
+    // By member, a normal type that occupies what it does: its leaves are listed in few steps.
+    pub(crate) parts: Vec<CType>,
     pub(crate) offsets: Vec<u32>,
     pub(crate) size: u32,
     pub(crate) align: u32,
@@ -76,6 +79,26 @@ impl Types {
         }
     }
 
+    /// The types of the members of the struct of this tag, in order.
+    pub fn members(&self, tag: u32) -> &[CType]
+        requires { IsTrue (is_defined self.now tag) }
+        ensures { result.now ≡ members self.now tag }
+    {
+        match self.find(tag) {
+            Some(s) => s.members.as_slice(),
+            None => &[],
+        }
+    }
+
+    // What is listed first of the leaves of a type.
+    pub(crate) fn first<'a>(&'a self, t: &'a CType) -> Pending<'a>
+        ensures first { result ≡ Pending.Whole t.entry 0 }
+        ensures ordered { AreDefinitions self.now }
+    {
+        let _structs = &self.structs;
+        Pending::Whole(t, 0)
+    }
+
     /// Defines the struct of this tag, which has members of these types.
     ///
     /// After an error the definitions are as before. The answer is `TooLarge` exactly where the struct would have more
@@ -85,16 +108,19 @@ impl Types {
         requires some { 0 < length members.items }
         requires laid_out { AreLaidOut self.old members.items }
         ensures ok { OnOk result (self.new ≡ record { tag = tag; members = members.items } ∷ self.old) }
-        ensures small { OnOk result (struct_bytes self.old members.items ≤ most_type_bytes) }
+        ensures small { OnOk result (struct_size self.new tag ≤ most_type_bytes) }
         ensures err { OnErr result (self.new ≡ self.old) }
-        ensures too_large { IfErr result (λ e. e ≡ TooLarge → most_type_bytes < struct_bytes self.old members.items) }
+        ensures too_large { let defined = record { tag = tag; members = members.items } ∷ self.old in
+            IfErr result (λ e. e ≡ TooLarge → most_type_bytes < struct_size defined tag) }
     {
         let layout = lay_out(*members.allocator(), self, &members)?;
+        let parts = normal_types(*members.allocator(), self, &members)?;
         let index = next_index(&self.structs)?;
         make_index(&mut self.indices, tag)?;
         self.structs.push(Struct {
             tag,
             members,
+            parts,
             offsets: layout.offsets,
             size: layout.size,
             align: layout.align,
