@@ -197,7 +197,8 @@ fn leaves_of_the_largest_type(rt: HostRuntime) -> Result<(), Fail> {
     check_chars(&rt, alloc, &types, &t, 1_048_576)
 }
 
-// Each struct has the one before it and then a `char`: a source of 200,000 tokens holds fewer than 20,000 of them.
+// Each struct has the one before it and then a `char`: a source of 200,000 tokens holds fewer than
+// 20,000 of them.
 #[test]
 fn structs_nest_deep(rt: HostRuntime) -> Result<(), Fail> {
     let alloc = rt.alloc();
@@ -226,7 +227,8 @@ fn chain(rt: &impl Abort, alloc: Global, as_array: bool) -> Result<Types, Fail> 
     Ok(types)
 }
 
-// A member of the last struct of a chain stands 1,000 times in a struct, and that as often in an array.
+// A member of the last struct of a chain stands 1,000 times in a struct, and that as often in an
+// array.
 fn check_chain(rt: &impl Abort, alloc: Global, mut types: Types, last: CType) -> Result<(), Fail> {
     let mut members = Vec::new(alloc);
     for _ in 0..1_000u32 {

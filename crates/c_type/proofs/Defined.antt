@@ -37,7 +37,8 @@ kept-later defs d x here new k =
       offsets = λ i h. k.offsets i h ∙ sym (ap (λ b. cond b (offset_from (size defs) (align defs) 0 d.members i) (offset defs x.tag i)) e);
     }
 
-kept-new : (defs : Definitions) (s : Struct) → is_defined defs s.tag ≡ false → AreNormalOf defs s.members.items s.parts.items → IsLaid defs s.members.items s.offsets.items s.size s.align → IsKept (definition_of s ∷ defs) s
+kept-new : (defs : Definitions) (s : Struct) → is_defined defs s.tag ≡ false → AreNormalOf defs s.members.items s.parts.items → IsLaid defs s.members.items s.offsets.items s.size s.align →
+    IsKept (definition_of s ∷ defs) s
 kept-new defs s new normal l =
     let e = eq-eqb s.tag s.tag refl in
     record {
@@ -50,7 +51,8 @@ kept-new defs s new normal l =
       offsets = λ i h. l.offsets_are i h ∙ sym (ap (λ b. cond b (offset_from (size defs) (align defs) 0 s.members.items i) (offset defs s.tag i)) e);
     }
 
-follows : (defs : Definitions) (s : Struct) → is_defined defs s.tag ≡ false → 0 < length s.members.items → AreLaidOut defs s.members.items → IsLaid defs s.members.items s.offsets.items s.size s.align → Follows defs (definition_of s)
+follows : (defs : Definitions) (s : Struct) → is_defined defs s.tag ≡ false → 0 < length s.members.items → AreLaidOut defs s.members.items →
+    IsLaid defs s.members.items s.offsets.items s.size s.align → Follows defs (definition_of s)
 follows defs s new some laid l =
     let e = eq-eqb s.tag s.tag refl in
     record {
@@ -60,7 +62,10 @@ follows defs s new some laid l =
       small = subst (λ n. n ≤ most_type_bytes) (l.bytes_is ∙ sym (ap (λ b. cond b (struct_bytes defs s.members.items) (struct_size defs s.tag)) e)) l.small;
     }
 
-module _ (indices : List ℕ) (structs : List Struct) (s : Struct) (index : ℕ) (i : AreIndexed indices structs) (is_index : index ≡ length structs) (few : index < 2 ^ 32 - 1) (room : s.tag < length indices) (new : is_defined (definitions_of [] structs) s.tag ≡ false) (some : 0 < length s.members.items) (laid : AreLaidOut (definitions_of [] structs) s.members.items) (normal : AreNormalOf (definitions_of [] structs) s.members.items s.parts.items) (l : IsLaid (definitions_of [] structs) s.members.items s.offsets.items s.size s.align) where
+module _ (indices : List ℕ) (structs : List Struct) (s : Struct) (index : ℕ) (i : AreIndexed indices structs) (is_index : index ≡ length structs) (few : index < 2 ^ 32 - 1)
+    (room : s.tag < length indices) (new : is_defined (definitions_of [] structs) s.tag ≡ false) (some : 0 < length s.members.items) (laid : AreLaidOut
+    (definitions_of [] structs) s.members.items) (normal : AreNormalOf (definitions_of [] structs) s.members.items s.parts.items) (l : IsLaid
+    (definitions_of [] structs) s.members.items s.offsets.items s.size s.align) where
   defined-at : (p : ℕ) (x : Struct) → slice_get structs p ≡ Some x → is_defined (definitions_of [] structs) x.tag ≡ true
   defined-at p x is = defined-is structs x.tag ∙ has-there structs p x x.tag is refl
 

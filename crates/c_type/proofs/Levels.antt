@@ -84,7 +84,8 @@ offset-agree s s' a a' at (t ∷ ts) zero h k = ap (λ y. rounded_up at y) k.0
 offset-agree s s' a a' at (t ∷ ts) (suc i) h k =
     ap₂ (λ x y. offset_from s a (rounded_up at y + x) ts i) h.0 k.0 ∙ offset-agree s s' a a' (rounded_up at (a' t) + s' t) ts i h.1 k.1
 
-pub leaves-agree : (s s' a a' : TypeTree → ℕ) (l l' : TypeTree → ℕ → List Leaf) (start at : ℕ) (ts : List TypeTree) → Agree s s' ts → Agree a a' ts → Agree l l' ts → members_leaves s a l start at ts ≡ members_leaves s' a' l' start at ts
+pub leaves-agree : (s s' a a' : TypeTree → ℕ) (l l' : TypeTree → ℕ → List Leaf) (start at : ℕ) (ts : List TypeTree) → Agree s s' ts → Agree a a' ts → Agree l l' ts →
+    members_leaves s a l start at ts ≡ members_leaves s' a' l' start at ts
 leaves-agree s s' a a' l l' start at [] h k j = refl
 leaves-agree s s' a a' l l' start at (t ∷ ts) h k j =
     ap₂ (λ x y. l t (start + rounded_up at y) ++ members_leaves s a l start (rounded_up at y + x) ts) h.0 k.0
@@ -153,6 +154,7 @@ level (d ∷ ds) w tag h = by_test (d.tag == tag) refl h (level ds w.1 tag) wher
         leaves_are = λ at. refl;
         laid_out = w.0.laid_out;
         some = w.0.some;
-        small = subst (λ b. cond b (rounded_up (members_end (size ds) (align ds) 0 d.members) (largest (align ds) d.members)) (struct_size ds d.tag) ≤ most_type_bytes) (eq-eqb d.tag d.tag refl) w.0.small;
+        small = subst (λ b. cond b (rounded_up (members_end (size ds) (align ds) 0 d.members) (largest (align ds) d.members)) (struct_size ds d.tag) ≤ most_type_bytes)
+            (eq-eqb d.tag d.tag refl) w.0.small;
       })
   by_test false differ k rest = raised d ds w.0.new (members ds tag) _ _ _ _ (rest k)

@@ -12,7 +12,8 @@ use Rattle.c_type.proofs.Bounds.{align-between, members-between, round-lower, en
 pub at-member : (ms : List TypeTree) (i : ℕ) (t : TypeTree) → i < length ms → t ≡ get_or ms i t → drop i ms ≡ t ∷ drop (i + 1) ms
 at-member ms i t h is = rw (add-one i) (drop-cons ms i t h ∙ ap (λ x. x ∷ drop (suc i) ms) (sym is))
 
-pub fits-first : (defs : Definitions) (at end : ℕ) (t : TypeTree) (ts : List TypeTree) → AreLaidOut defs (t ∷ ts) → at + members_end (size defs) (align defs) end (t ∷ ts) ≤ most_type_bytes → MemberFits defs at end t
+pub fits-first : (defs : Definitions) (at end : ℕ) (t : TypeTree) (ts : List TypeTree) → AreLaidOut defs (t ∷ ts) → at + members_end (size defs) (align defs) end (t ∷ ts) ≤ most_type_bytes →
+    MemberFits defs at end t
 fits-first defs at end t ts laid room =
     let a = align-between defs t in
     let g = end-grows (size defs) (align defs) (λ x. (align-between defs x).0) (rounded_up end (align defs t) + size defs t) ts in

@@ -86,7 +86,8 @@ normal-array defs t of u n is more complete h =
     })
 
 -- a struct of one member occupies what the member does
-one-member : (defs : Definitions) (tag : ℕ) (m u : TypeTree) → AreDefinitions defs → IsLevel defs tag → is_complete defs (struct_type tag) ≡ true → members defs tag ≡ m ∷ [] → IsNormalOf defs m u → IsNormalOf defs (struct_type tag) u
+one-member : (defs : Definitions) (tag : ℕ) (m u : TypeTree) → AreDefinitions defs → IsLevel defs tag → is_complete defs (struct_type tag) ≡ true → members defs tag ≡ m ∷ [] →
+    IsNormalOf defs m u → IsNormalOf defs (struct_type tag) u
 one-member defs tag m u ordered level complete is h =
     let a = align defs m in
     let between = align-between defs m in
@@ -101,7 +102,8 @@ one-member defs tag m u ordered level complete is h =
       align_is = h.align_is ∙ sym (level.alignment_is ∙ ap (largest (align defs)) is ∙ al);
       leaves_are = λ at.
           let there : at + rounded_up 0 a ≡ at = omega (arith, first) in
-          h.leaves_are at ∙ sym (level.leaves_are at ∙ ap (members_leaves (size defs) (align defs) (leaves_at defs) at 0) is ∙ append-nil (leaves_at defs m (at + rounded_up 0 a)) ∙ ap (leaves_at defs m) there);
+          h.leaves_are at ∙ sym (level.leaves_are at ∙ ap (members_leaves (size defs) (align defs) (leaves_at defs) at 0) is ∙ append-nil (leaves_at defs m (at + rounded_up 0 a))
+          ∙ ap (leaves_at defs m) there);
       normal = h.normal;
     }
 
@@ -184,7 +186,8 @@ normal-parts defs tag at s found room =
 parts-work : (defs : Definitions) (ts us : List TypeTree) → AreDefinitions defs → AreNormalOf defs ts us → members_work defs us + 3 * length us ≡ 6 * members_count defs us + 1
 parts-work defs [] [] w h = refl
 parts-work defs (t ∷ ts) (u ∷ us) w h =
-    sums (type_work defs u) (leaf_count defs u) (members_work defs us) (members_count defs us) (length us) (work-normal defs u h.0.normal) (some-leaf defs w u h.0.also_complete) (parts-work defs ts us w h.1)
+    sums (type_work defs u) (leaf_count defs u) (members_work defs us) (members_count defs us) (length us) (work-normal defs u h.0.normal) (some-leaf defs w u h.0.also_complete)
+    (parts-work defs ts us w h.1)
   where
     sums : (t c m k len : ℕ) → t ≡ 6 * c - 4 → 0 < c → m + 3 * len ≡ 6 * k + 1 → t + 1 + m + 3 * suc len ≡ 6 * (c + k) + 1
     sums t c m k len e some ih = omega arith

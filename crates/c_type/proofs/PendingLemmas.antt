@@ -38,9 +38,10 @@ can-last defs (q ∷ ps) p out ordered h =
     let r = can-last defs ps p out ordered h.1 in
     record { ordered = ordered; next_can = r.next_can; others_can = (subst (CanList defs q) (listed-snoc defs ps p out) h.0, r.others_can) }
 
--- ---- nothing, one part or two parts are left of what was next
+-- ---- nothing, one thing or two are left of what was next
 
-pub gone : (defs : Definitions) (p : Pending) (others : List Pending) (out new : List Leaf) (n : ℕ) → new ≡ listed defs p out → length new ≡ length out + n → 1 + n ≤ work defs p → CanGoOn defs p others out →
+pub gone : (defs : Definitions) (p : Pending) (others : List Pending) (out new : List Leaf) (n : ℕ) → new ≡ listed defs p out → length new ≡ length out + n → 1 + n ≤ work defs p →
+    CanGoOn defs p others out →
     HasGoneOn defs p others others out new
 gone defs p others out new n is more some h = record {
   same = ap (all_listed defs others) is;
@@ -52,7 +53,8 @@ gone defs p others out new n is more some h = record {
     goes-on : (o w len after n : ℕ) → after ≡ len + n → 1 + n ≤ w → o + 1 + after ≤ o + w + len
     goes-on o w len after n e h = omega arith
 
-one-left : (defs : Definitions) (p a : Pending) (others : List Pending) (out : List Leaf) → listed defs a out ≡ listed defs p out → CanList defs a out → 1 + work defs a ≤ work defs p → CanGoOn defs p others out →
+one-left : (defs : Definitions) (p a : Pending) (others : List Pending) (out : List Leaf) → listed defs a out ≡ listed defs p out → CanList defs a out → 1 + work defs a ≤ work defs p →
+    CanGoOn defs p others out →
     HasGoneOn defs p others (others ++ a ∷ []) out out
 one-left defs p a others out is can less h = record {
   same = listed-snoc defs others a out ∙ ap (all_listed defs others) is;
@@ -64,13 +66,15 @@ one-left defs p a others out is can less h = record {
     goes-on : (all o a p len : ℕ) → all ≡ o + a → 1 + a ≤ p → all + 1 + len ≤ o + p + len
     goes-on all o a p len e h = omega arith
 
-two-left : (defs : Definitions) (p a b : Pending) (others : List Pending) (out : List Leaf) → listed defs a (listed defs b out) ≡ listed defs p out → CanList defs b out → CanList defs a (listed defs b out) →
+two-left : (defs : Definitions) (p a b : Pending) (others : List Pending) (out : List Leaf) → listed defs a (listed defs b out) ≡ listed defs p out → CanList defs b out →
+    CanList defs a (listed defs b out) →
     1 + work defs a + work defs b ≤ work defs p → CanGoOn defs p others out → HasGoneOn defs p others ((others ++ a ∷ []) ++ b ∷ []) out out
 two-left defs p a b others out is can_b can_a less h = record {
   same = listed-snoc defs (others ++ a ∷ []) b out ∙ listed-snoc defs others a (listed defs b out) ∙ ap (all_listed defs others) is;
   can = can-snoc defs (others ++ a ∷ []) b out can_b (can-snoc defs others a (listed defs b out) can_a (subst (CanListAll defs others) (sym is) h.others_can));
   grows = omega arith;
-  cost = goes-on (all_work defs ((others ++ a ∷ []) ++ b ∷ [])) (all_work defs (others ++ a ∷ [])) (all_work defs others) (work defs a) (work defs b) (work defs p) (length out) (work-snoc defs (others ++ a ∷ []) b) (work-snoc defs others a) less;
+  cost = goes-on (all_work defs ((others ++ a ∷ []) ++ b ∷ [])) (all_work defs (others ++ a ∷ [])) (all_work defs others) (work defs a) (work defs b) (work defs p) (length out) (work-snoc defs
+      (others ++ a ∷ []) b) (work-snoc defs others a) less;
 }
   where
     goes-on : (all most o a b p len : ℕ) → all ≡ most + b → most ≡ o + a → 1 + a + b ≤ p → all + 1 + len ≤ o + p + len
@@ -78,7 +82,8 @@ two-left defs p a b others out is can_b can_a less h = record {
 
 -- ---- a type by its form
 
-pub gone_void : (defs : Definitions) (t : Bor TypeTree) (at : ℕ) (others : List Pending) (out : List Leaf) → t.now ≡ void_type → CanGoOn defs (Whole t at) others out → HasGoneOn defs (Whole t at) others others out out
+pub gone_void : (defs : Definitions) (t : Bor TypeTree) (at : ℕ) (others : List Pending) (out : List Leaf) → t.now ≡ void_type → CanGoOn defs (Whole t at) others out →
+    HasGoneOn defs (Whole t at) others others out out
 gone_void defs t at others out is h =
     let laid = subst (IsLaidOut defs) is h.next_can.0 in
     absurd (none laid.complete) where
@@ -88,13 +93,15 @@ gone_void defs t at others out is h =
 one-more : (out new : List Leaf) (l : Leaf) → new ≡ out ++ l ∷ [] → length new ≡ length out + 1
 one-more out new l e = ap length e ∙ length-append out (l ∷ [])
 
-pub gone_scalar : (defs : Definitions) (t : Bor TypeTree) (at : ℕ) (s : Scalar) (others : List Pending) (out new : List Leaf) → t.now ≡ scalar_type s → new ≡ out ++ (record { offset = at; width = scalar_size s }) ∷ [] →
+pub gone_scalar : (defs : Definitions) (t : Bor TypeTree) (at : ℕ) (s : Scalar) (others : List Pending) (out new : List Leaf) → t.now ≡ scalar_type s →
+    new ≡ out ++ (record { offset = at; width = scalar_size s }) ∷ [] →
     CanGoOn defs (Whole t at) others out → HasGoneOn defs (Whole t at) others others out new
 gone_scalar defs t at s others out new is e h =
     let w : type_work defs t.now ≡ 2 = ap (type_work defs) is in
     gone defs (Whole t at) others out new 1 (e ∙ sym (ap (λ u. out ++ leaves_at defs u at) is)) (one-more out new _ e) (rw w (omega arith)) h
 
-pub gone_pointer : (defs : Definitions) (t : Bor TypeTree) (at : ℕ) (u : TypeTree) (others : List Pending) (out new : List Leaf) → t.now ≡ pointer_to u → new ≡ out ++ (record { offset = at; width = 4 }) ∷ [] →
+pub gone_pointer : (defs : Definitions) (t : Bor TypeTree) (at : ℕ) (u : TypeTree) (others : List Pending) (out new : List Leaf) → t.now ≡ pointer_to u →
+    new ≡ out ++ (record { offset = at; width = 4 }) ∷ [] →
     CanGoOn defs (Whole t at) others out → HasGoneOn defs (Whole t at) others others out new
 gone_pointer defs t at u others out new is e h =
     let w : type_work defs t.now ≡ 2 = ap (type_work defs) is in
@@ -110,7 +117,8 @@ complete-some defs t zero h = absurd (none h.complete) where
   none e = cc
 complete-some defs t (suc n) h = omega arith
 
-pub gone_array : (defs : Definitions) (t u v : Bor TypeTree) (n at first : ℕ) (others : List Pending) (out : List Leaf) → t.now ≡ array_of u.now n → v.now ≡ u.now → first ≡ length out → CanGoOn defs (Whole t at) others out →
+pub gone_array : (defs : Definitions) (t u v : Bor TypeTree) (n at first : ℕ) (others : List Pending) (out : List Leaf) → t.now ≡ array_of u.now n → v.now ≡ u.now → first ≡ length out →
+    CanGoOn defs (Whole t at) others out →
     HasGoneOn defs (Whole t at) others ((others ++ Elements u n at first ∷ []) ++ Whole v at ∷ []) out out
 gone_array defs t u v n at first others out is same_of front h =
     let s = size defs u.now in
@@ -143,7 +151,8 @@ gone_array defs t u v n at first others out is same_of front h =
       at-least zero s h = absurd (omega arith)
       at-least (suc n) s h = let e = suc-mul n s in omega (arith, e)
 
-pub gone_struct : (defs : Definitions) (t : Bor TypeTree) (tag at : ℕ) (s : Struct) (ms : Bor (List TypeTree)) (others : List Pending) (out : List Leaf) → t.now ≡ struct_type tag → IsFound defs tag s → ms.now ≡ s.parts.items → CanGoOn defs (Whole t at) others out →
+pub gone_struct : (defs : Definitions) (t : Bor TypeTree) (tag at : ℕ) (s : Struct) (ms : Bor (List TypeTree)) (others : List Pending) (out : List Leaf) → t.now ≡ struct_type tag →
+    IsFound defs tag s → ms.now ≡ s.parts.items → CanGoOn defs (Whole t at) others out →
     HasGoneOn defs (Whole t at) others (others ++ Members ms at 0 ∷ []) out out
 gone_struct defs t tag at s ms others out is found members h =
     let p = normal-parts defs tag at s found (subst (λ x. at + size defs x ≤ most_type_bytes) is h.next_can.1) in
@@ -155,7 +164,8 @@ gone_struct defs t tag at s ms others out is found members h =
     (subst (AreLaidOut defs) e p.laid_out, subst (λ x. at + members_end (size defs) (align defs) 0 x ≤ most_type_bytes) e p.room)
     (rw (st, m) (struct-work defs tag s found)) h
 
-pub gone_undefined : (defs : Definitions) (t : Bor TypeTree) (tag at : ℕ) (others : List Pending) (out : List Leaf) → t.now ≡ struct_type tag → is_defined defs tag ≡ false → CanGoOn defs (Whole t at) others out →
+pub gone_undefined : (defs : Definitions) (t : Bor TypeTree) (tag at : ℕ) (others : List Pending) (out : List Leaf) → t.now ≡ struct_type tag → is_defined defs tag ≡ false →
+    CanGoOn defs (Whole t at) others out →
     HasGoneOn defs (Whole t at) others others out out
 gone_undefined defs t tag at others out is none h =
     let laid = subst (IsLaidOut defs) is h.next_can.0 in
@@ -165,18 +175,21 @@ gone_undefined defs t tag at others out is none h =
 
 -- ---- members
 
-pub member_fits : (defs : Definitions) (ts rest : Bor (List TypeTree)) (t : Bor TypeTree) (at end : ℕ) (others : List Pending) (out : List Leaf) → ts.now ≡ t.now ∷ rest.now → CanGoOn defs (Members ts at end) others out → MemberFits defs at end t.now
+pub member_fits : (defs : Definitions) (ts rest : Bor (List TypeTree)) (t : Bor TypeTree) (at end : ℕ) (others : List Pending) (out : List Leaf) → ts.now ≡ t.now ∷ rest.now →
+    CanGoOn defs (Members ts at end) others out → MemberFits defs at end t.now
 member_fits defs ts rest t at end others out is h =
     fits-first defs at end t.now rest.now (subst (AreLaidOut defs) is h.next_can.0) (subst (λ x. at + members_end (size defs) (align defs) end x ≤ most_type_bytes) is h.next_can.1)
 
-pub gone_none : (defs : Definitions) (ts : Bor (List TypeTree)) (at end : ℕ) (others : List Pending) (out : List Leaf) → ts.now ≡ [] → CanGoOn defs (Members ts at end) others out → HasGoneOn defs (Members ts at end) others others out out
+pub gone_none : (defs : Definitions) (ts : Bor (List TypeTree)) (at end : ℕ) (others : List Pending) (out : List Leaf) → ts.now ≡ [] → CanGoOn defs (Members ts at end) others out →
+    HasGoneOn defs (Members ts at end) others others out out
 gone_none defs ts at end others out is h =
     let w : members_work defs ts.now ≡ 1 = ap (members_work defs) is in
     gone defs (Members ts at end) others out out 0
     (sym (ap (λ x. out ++ members_leaves (size defs) (align defs) (leaves_at defs) at end x) is ∙ append-nil out))
     (omega arith) (rw w (omega arith)) h
 
-pub gone_member : (defs : Definitions) (ts rest : Bor (List TypeTree)) (t : Bor TypeTree) (at end : ℕ) (others : List Pending) (out : List Leaf) → ts.now ≡ t.now ∷ rest.now → CanGoOn defs (Members ts at end) others out →
+pub gone_member : (defs : Definitions) (ts rest : Bor (List TypeTree)) (t : Bor TypeTree) (at end : ℕ) (others : List Pending) (out : List Leaf) → ts.now ≡ t.now ∷ rest.now →
+    CanGoOn defs (Members ts at end) others out →
     HasGoneOn defs (Members ts at end) others ((others ++ Members rest at (rounded_up end (align defs t.now) + size defs t.now) ∷ []) ++ Whole t (at + rounded_up end (align defs t.now)) ∷ []) out out
 gone_member defs ts rest t at end others out is h =
     let laid = subst (AreLaidOut defs) is h.next_can.0 in
@@ -199,7 +212,8 @@ pub gone_elements : (defs : Definitions) (t : Bor TypeTree) (n at first : ℕ) (
     new ≡ out ++ repeated (n - 1) (size defs t.now) (at + size defs t.now) (leaves_at defs t.now) → HasGoneOn defs (Elements t n at first) others others out new
 gone_elements defs t n at first others out new h is =
     let r = repeated (n - 1) (size defs t.now) (at + size defs t.now) (leaves_at defs t.now) in
-    let len : length new ≡ length out + (n - 1) * leaf_count defs t.now = ap length is ∙ length-append out r ∙ ap (λ k. length out + k) (count-repeated defs t.now (n - 1) (size defs t.now) (at + size defs t.now)) in
+    let len : length new ≡ length out + (n - 1) * leaf_count defs t.now = ap length is ∙ length-append out r
+    ∙ ap (λ k. length out + k) (count-repeated defs t.now (n - 1) (size defs t.now) (at + size defs t.now)) in
     gone defs (Elements t n at first) others out new ((n - 1) * leaf_count defs t.now) is len (le-refl-of (1 + (n - 1) * leaf_count defs t.now)) h where
       le-refl-of : (k : ℕ) → k ≤ k
       le-refl-of k = omega arith

@@ -43,7 +43,8 @@ some-repeated : (n s at : ℕ) (f : ℕ → List Leaf) → not (n == 0) ≡ true
 some-repeated zero s at f some h = absurd cc
 some-repeated (suc n) s at f some h = let e = length-append (f at) (repeated n s (at + s) f) in omega (arith, e, h)
 
-some-members : (defs : Definitions) → ((t : TypeTree) → is_complete defs t ≡ true → (at : ℕ) → 0 < length (leaves_at defs t at)) → (start at : ℕ) (ts : List TypeTree) → 0 < length ts → AreLaidOut defs ts →
+some-members : (defs : Definitions) → ((t : TypeTree) → is_complete defs t ≡ true → (at : ℕ) → 0 < length (leaves_at defs t at)) → (start at : ℕ) (ts : List TypeTree) → 0 < length ts →
+    AreLaidOut defs ts →
     0 < length (members_leaves (size defs) (align defs) (leaves_at defs) start at ts)
 some-members defs each start at [] some laid = absurd (omega arith)
 some-members defs each start at (t ∷ ts) some laid =
@@ -52,7 +53,8 @@ some-members defs each start at (t ∷ ts) some laid =
     let h = each t laid.0.complete (start + o) in
     omega (arith, e, h)
 
-by-type : (defs : Definitions) → ((tag : ℕ) → is_defined defs tag ≡ true → (at : ℕ) → 0 < length (struct_leaves defs tag at)) → (t : TypeTree) → is_complete defs t ≡ true → (at : ℕ) → 0 < length (leaves_at defs t at)
+by-type : (defs : Definitions) → ((tag : ℕ) → is_defined defs tag ≡ true → (at : ℕ) → 0 < length (struct_leaves defs tag at)) → (t : TypeTree) → is_complete defs t ≡ true → (at : ℕ) →
+    0 < length (leaves_at defs t at)
 by-type defs each void_type h at = absurd cc
 by-type defs each (scalar_type s) h at = omega arith
 by-type defs each (pointer_to t) h at = omega arith
@@ -91,7 +93,8 @@ work-most defs t = by_test (is_normal defs t) (leaf_count defs t) (tree_height t
     by_test false c h = omega arith
 
 -- a type, its elements after the first, and the type of an array
-array-sum : (b : Bool) (n c h w many : ℕ) → w ≡ cond b (6 * c - 4) (6 * c + 3 * h) → 0 < n → 0 < c → (n ≡ 1 → ⊥) → many ≡ n * c → 1 + (1 + (n - 1) * c) + w ≤ cond b (6 * many - 4) (6 * many + 3 * (h + 1))
+array-sum : (b : Bool) (n c h w many : ℕ) → w ≡ cond b (6 * c - 4) (6 * c + 3 * h) → 0 < n → 0 < c → (n ≡ 1 → ⊥) → many ≡ n * c →
+    1 + (1 + (n - 1) * c) + w ≤ cond b (6 * many - 4) (6 * many + 3 * (h + 1))
 array-sum b zero c h w many is some leaf more all = absurd (omega arith)
 array-sum b (suc zero) c h w many is some leaf more all = absurd (more refl)
 array-sum true (suc (suc n)) c h w many is some leaf more all =
@@ -107,7 +110,8 @@ array-sum false (suc (suc n)) c h w many is some leaf more all =
     let k : (suc (suc n) - 1) * c ≡ suc n * c = ap (λ x. x * c) g in
     omega (arith, e, f, k, is, all)
 
-pub array-work : (defs : Definitions) (t : TypeTree) (n : ℕ) → AreDefinitions defs → is_complete defs (array_of t n) ≡ true → 1 + (1 + (n - 1) * leaf_count defs t) + type_work defs t ≤ type_work defs (array_of t n)
+pub array-work : (defs : Definitions) (t : TypeTree) (n : ℕ) → AreDefinitions defs → is_complete defs (array_of t n) ≡ true →
+    1 + (1 + (n - 1) * leaf_count defs t) + type_work defs t ≤ type_work defs (array_of t n)
 array-work defs t n ordered complete =
     let parts = and_parts (not (n == 0)) (is_complete defs t) complete in
     let leaf = some-leaf defs ordered t parts.1 in
@@ -115,10 +119,12 @@ array-work defs t n ordered complete =
     elim (cases_eq n 1) [
       | inl one ↦
           let single : is_normal defs (array_of t n) ≡ false = ap (λ b. not b && is_normal defs t) (eq-eqb n 1 one) in
-          one_sum n (leaf_count defs t) (tree_height t) (type_work defs t) (leaf_count defs (array_of t n)) (type_work defs (array_of t n)) one (work-most defs t) many (work-other defs (array_of t n) single)
+          one_sum n (leaf_count defs t) (tree_height t) (type_work defs t) (leaf_count defs (array_of t n)) (type_work defs (array_of t n)) one (work-most defs t) many (work-other defs
+          (array_of t n) single)
       | inr more ↦
           let same : is_normal defs (array_of t n) ≡ is_normal defs t = ap (λ b. not b && is_normal defs t) (ne_eqb n 1 more) in
-          subst (λ b. 1 + (1 + (n - 1) * leaf_count defs t) + type_work defs t ≤ cond b (6 * leaf_count defs (array_of t n) - 4) (6 * leaf_count defs (array_of t n) + 3 * (tree_height t + 1))) (sym same)
+          subst (λ b. 1 + (1 + (n - 1) * leaf_count defs t) + type_work defs t ≤ cond b (6 * leaf_count defs (array_of t n) - 4) (6 * leaf_count defs (array_of t n) + 3 * (tree_height t + 1)))
+          (sym same)
           (array-sum (is_normal defs t) n (leaf_count defs t) (tree_height t) (type_work defs t) (leaf_count defs (array_of t n)) refl (not_zero n parts.0) leaf more many)
     ]
   where

@@ -21,7 +21,7 @@ abbrev pub all_listed : Definitions → List Pending → List Leaf → List Leaf
 all_listed defs [] out = out
 all_listed defs (p ∷ ps) out = listed defs p (all_listed defs ps out)
 
--- the array's first element is listed, from the place `first` on
+-- the array's first element is listed, from the index `first` on
 pub record IsBegun (defs : Definitions) (t : TypeTree) (n at first : ℕ) (out : List Leaf) : Type 0 where
   pub laid_out : IsLaidOut defs t
   pub room : at + n * size defs t ≤ most_type_bytes

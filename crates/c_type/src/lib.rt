@@ -1,6 +1,7 @@
-//! The types of the language: what a C type occupies.
-//! The checker, the typed program and construction stand on it; it stands on `val_core`.
-//! Promise: sizes, alignments, offsets and leaves are those of the recursion on the type, and only `leaves` takes memory.
+//! The types of the language: what a C type occupies. The checker, the typed program and
+//! construction stand on it. Promise: sizes, alignments, offsets and leaves are those of the
+//! recursion on the type. Only `leaves` takes memory, and its steps are linear in its result and
+//! the height of the type.
 #![tactic(auto)]
 
 mod define_fault;

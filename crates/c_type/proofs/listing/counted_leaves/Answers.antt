@@ -15,7 +15,8 @@ loop-next-smaller g c =
     rw c.in-Some.ensures.items (omega (arith, n, r.cost, r.grows))
 
 -- the steps so far, and the work that is left
-counted : (steps new all others next left after before had has most : ℕ) → steps + all ≤ most → all ≡ others + next → left + 1 + after ≤ others + next + before → before ≤ after → had ≡ before → has ≡ after →
+counted : (steps new all others next left after before had has most : ℕ) → steps + all ≤ most → all ≡ others + next → left + 1 + after ≤ others + next + before → before ≤ after → had ≡ before →
+    has ≡ after →
     new ≡ steps + (1 + (has - had)) → new + left ≤ most
 counted steps new all others next left after before had has most a b c d e f g = omega arith
 
@@ -30,7 +31,8 @@ loop-next-preserved g c =
     let has : c.len.result ≡ length after.items = omega (arith, c.len.ensures, after.ok.0) in
     record {
       ordered = inv.ordered;
-      same = r.same ∙ sym (listed-snoc c.args.types.now c.pop.new.self.items c.in-Some.next _) ∙ ap (λ ps. all_listed c.args.types.now ps c.loop-next.out.items) (sym c.in-Some.ensures.items) ∙ inv.same;
+      same = r.same ∙ sym (listed-snoc c.args.types.now c.pop.new.self.items c.in-Some.next _) ∙ ap (λ ps. all_listed c.args.types.now ps c.loop-next.out.items) (sym c.in-Some.ensures.items)
+          ∙ inv.same;
       can = r.can;
       cost = counted _ _ _ _ _ _ _ _ _ _ _ inv.cost popped r.cost r.grows had has c.add.ensures;
     }

@@ -12,5 +12,6 @@ returns-in-Elements c =
     let new = c.list_elements.new.out.items in
     let can = subst (λ p. CanGoOn defs p others out) c.in-Elements.is c.requires in
     on_ok_weaker c.list_elements.result
-    (λ h. subst (λ p. HasGoneOn defs p others others out new) (sym c.in-Elements.is) (gone_elements defs c.in-Elements.of c.in-Elements.count c.in-Elements.at c.in-Elements.first others out new can h))
+    (λ h. subst (λ p. HasGoneOn defs p others others out new) (sym c.in-Elements.is)
+    (gone_elements defs c.in-Elements.of c.in-Elements.count c.in-Elements.at c.in-Elements.first others out new can h))
     c.list_elements.ensures

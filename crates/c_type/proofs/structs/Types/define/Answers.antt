@@ -22,7 +22,15 @@ pub invariant_of-self-2 : goal.invariant_of-self-2
 invariant_of-self-2 c =
     let defs = definitions_of [] c.self.inside.structs.items in
     let v = sym c.self.view_is in
-    let s : Struct = record { tag = c.args.tag; members = c.args.members; parts = c.in_ok-parts.parts; offsets = c.in_ok-layout.layout.offsets; size = c.in_ok-layout.layout.size; align = c.in_ok-layout.layout.align } in
+    let s : Struct = record {
+      tag = c.args.tag;
+      members = c.args.members;
+      parts = c.in_ok-parts.parts;
+      offsets = c.in_ok-layout.layout.offsets;
+      size = c.in_ok-layout.layout.size;
+      align =
+          c.in_ok-layout.layout.align;
+    } in
     let indexed = indexed-pads _ _ _ c.make_index.ensures.pads c.self.invariant in
     let new = subst (λ d. is_defined d c.args.tag ≡ false) v c.requires.new in
     let laid = subst (λ d. AreLaidOut d c.args.members.items) v c.requires.laid_out in
@@ -35,7 +43,15 @@ invariant_of-self-2 c =
 
 pub returns-clause-ok : goal.returns-clause-ok
 returns-clause-ok c =
-    let s : Struct = record { tag = c.args.tag; members = c.args.members; parts = c.in_ok-parts.parts; offsets = c.in_ok-layout.layout.offsets; size = c.in_ok-layout.layout.size; align = c.in_ok-layout.layout.align } in
+    let s : Struct = record {
+      tag = c.args.tag;
+      members = c.args.members;
+      parts = c.in_ok-parts.parts;
+      offsets = c.in_ok-layout.layout.offsets;
+      size = c.in_ok-layout.layout.size;
+      align =
+          c.in_ok-layout.layout.align;
+    } in
     ap (definitions_of []) c.in_ok-push.ensures.items ∙ definitions-more [] c.self.inside.structs.items s ∙ ap (λ d. definition_of s ∷ d) c.self.view_is
 
 pub returns-clause-small : goal.returns-clause-small
