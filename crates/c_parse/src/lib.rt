@@ -7,6 +7,7 @@ mod declaration;
 mod expression;
 mod external;
 mod fault;
+mod held;
 pub mod laws;
 mod left_out;
 mod literals;

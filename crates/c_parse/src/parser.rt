@@ -26,8 +26,8 @@ pub fn parse(alloc: Global, tokens: &[Token], length: u32) -> Result<Unit, Parse
     let mut rest = Tokens::new(alloc, tokens);
     match rest.unit(16 * (tokens.len() + 1)) {
         Ok(unit) if rest.is_empty() => Ok(unit),
-        Ok(_) | Err(Fault::Syntax) => Err(ParseFault::Syntax(rest.place(length))),
-        Err(Fault::Deep) => unreachable!(),
-        Err(Fault::Memory) => Err(ParseFault::Memory),
+        Ok(_) | Err(Fault::Syntax) => Err(ParseFault::Syntax(rest.offset(length))),
+        Err(Fault::OutOfFuel) => unreachable!(),
+        Err(Fault::NoMemory) => Err(ParseFault::NoMemory),
     }
 }

@@ -1,11 +1,11 @@
 use Rattle.std.proofs.Common.{◌≡◌, ◌-◌}
 use Rattle.c_ast.specs.Expressions.{texts}
-use Rattle.c_ast.specs.Classes.{Many}
-use Rattle.c_ast.specs.Labels as label
+use Rattle.c_ast.specs.Nonterminals.{Many}
+use Rattle.c_ast.specs.Productions as production
 use Rattle.c_grammar.specs.Reader.{read, turns}
-use Rattle.c_parse.proofs.tokens.Tokens.texts.Given as goal
+use Rattle.c_parse.proofs.tokens.Tokens.more_literals.Given as goal
 
 abbrev pub invariant-loop-turn : goal.invariant-loop-turn
 invariant-loop-turn l =
-    read l.fn.depth (Many label.MoreTexts) l.fn.self
-    ≡ turns (read (l.fn.depth - 1)) (l.fn.depth - l._turn) (Many label.MoreTexts) (texts l.texts) l.self
+    read l.fn.fuel (Many production.MoreLiterals) l.fn.self
+    ≡ turns (read (l.fn.fuel - 1)) (l.fn.fuel - l._turn) (Many production.MoreLiterals) (texts l.literals) l.self
