@@ -61,7 +61,7 @@ body_tree (body.Prototype semicolon) = node l.Prototype (mark m.Semicolon semico
 body_tree (body.Block x) = block_tree x
 
 -- A declaration by what it begins with, where `rest` stands after the type. A structure without `static` and `const`
--- has a production of its own, since its definition begins alike.
+-- has a production of its own, since its definition begins with the same tokens.
 abbrev pub plain_with : Spec → Tree → Tree
 plain_with (spec.Struct keyword tag) rest = node l.Struct (word w.Struct keyword ∷ name tag ∷ rest ∷ [])
 plain_with x rest = node l.Plain (spec_tree x ∷ rest ∷ [])

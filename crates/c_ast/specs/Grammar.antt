@@ -76,7 +76,7 @@ abbrev pub ◌⟶◌ : Nonterminal → List Symbol → Rule
 c ⟶ symbols = record { of = c; symbols = symbols }
 
 -- Each production has one rule. Where the grammar has `{ .. }` or `[ .. ]`, a nonterminal `Many` or `Opt` stands. What
--- begins alike is one production up to where it differs: a unit is external declarations, and one of them begins with
+-- begins with the same symbols is one production up to where it differs: a unit is external declarations, and one of them begins with
 -- `static`, `const`, `struct name` or another type, after which a function and variables differ only after the name,
 -- and the definition of a struct differs from them after `struct name`.
 --
@@ -195,7 +195,7 @@ rule production.Paren = Postfix ⟶ m mark.LParen ∷ N Expr ∷ m mark.RParen �
 unfoldable pub symbols_of : Production → List Symbol
 symbols_of l = (rule l).symbols
 
--- whether a node of this label is a tree of the nonterminal
+-- whether a node of this production is a tree of the nonterminal
 unfoldable pub allowed : Nonterminal → Production → Bool
 allowed c l = includes c (rule l).of
 

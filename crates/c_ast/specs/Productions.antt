@@ -1,4 +1,4 @@
--- The labels of the nodes of a tree: one for each production of the grammar.
+-- The productions of the grammar, which label the nodes of a tree.
 
 -- the levels of binary operators, tightest first (ISO 9899:2011, 6.5.5 to 6.5.14)
 pub data Level : Type 0 where

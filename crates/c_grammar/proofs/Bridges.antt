@@ -1,4 +1,4 @@
--- The conditions on the tables, for every nonterminal, label and token.
+-- The conditions on the tables, for every nonterminal, production and token.
 use Rattle.std.specs.Prelude.{◌≡◌, ◌⊎◌, drop, ◌≤◌, Bool, true, false, not, ◌&&◌, ◌||◌, List, [], ◌∷◌, Option, Some, None, nat_le}
 use Rattle.std.specs.List.{list_all}
 use Rattle.std.proofs.Common.{refl, sym, ap, inl, inr, subst}
@@ -184,7 +184,7 @@ before_is l n k s f b =
     (all_kept (λ n. list_all (λ k. list_all (λ l. ends (rest_of l) (Some k)) (alternatives (front n))) (kept (ahead (rest_of n)) (kinds (payload k)))) is_suffix n labels (production_in n) s
         (before_checked (payload k))))
 
--- ---- rows
+-- ---- sequences
 
 unfoldable pub Row : List Symbol → Type 0
 Row symbols = (y : Payload) → good_row y symbols ≡ true
@@ -294,7 +294,7 @@ ranks_are c l r a = all_in (λ l. good_ranks (precedence c) (rest_of l)) l (alte
 
 -- ---- what may stand after a tree
 
--- what may follow the nonterminal, or what goes on after the label
+-- what may follow the nonterminal, or what goes on after the production
 unfoldable pub Sits : Nonterminal → Production → Option TokenKind → Type 0
 Sits c l h =
     (follows c h ≡ true) ⊎ ((n : Production) × (allowed c n ≡ true) × (is_suffix n ≡ true) × (allowed (front n) l ≡ true) × (at (ahead (rest_of n)) h ≡ true))

@@ -1,4 +1,4 @@
--- The conditions on the tables, computed over all nonterminals, labels and token kinds.
+-- The conditions on the tables, computed over all nonterminals, productions and token kinds.
 use Rattle.std.specs.Prelude.{◌≡◌, ℕ, Bool, true, false, not, ◌&&◌, ◌||◌, List, [], ◌∷◌, Option, Some, None, nat_lt, nat_le}
 use Rattle.std.specs.List.{list_all}
 use Rattle.std.proofs.Common.{refl}
@@ -64,7 +64,7 @@ pub chosen_checked : (y : Payload) → list_all (λ c. list_all (λ n. list_all 
 unfolding rule symbols_of allowed includes nonterminal_number level_number repeated_number optional_number same_nonterminal repeated optional tighter is keyword_number mark_number is_of_level operator_level is_assign_mark is_unary_mark is_inc_dec_mark begins_base begins_type begins_external begins_expr begins_init keyword_stmt stmt item base plain_spec spec external after_tag group_label parenthesis operand_mark operand initialiser begins_optional start begins_repeated mark_suffix suffix left operation operand_next init_next stmt_next next is_suffix front rest_of is_read is_nullable all_nullable begins ahead follows_kind follows ends precedence production_number same_production
 chosen_checked y = refl
 
--- The first part of a production that goes on is a tree of the nonterminal too.
+-- The first symbol of a production that goes on is a tree of the nonterminal too.
 
 pub inner_checked : (y : Payload) → list_all (λ c. list_all (λ n. list_all (λ l. allowed c l) (alternatives (front n))) (suffixes c)) read_nonterminals ≡ true
 unfolding rule symbols_of allowed includes nonterminal_number level_number repeated_number optional_number same_nonterminal repeated optional tighter is keyword_number mark_number is_of_level operator_level is_assign_mark is_unary_mark is_inc_dec_mark begins_base begins_type begins_external begins_expr begins_init keyword_stmt stmt item base plain_spec spec external after_tag group_label parenthesis operand_mark operand initialiser begins_optional start begins_repeated mark_suffix suffix left operation operand_next init_next stmt_next next is_suffix front rest_of is_read is_nullable all_nullable begins ahead follows_kind follows ends precedence production_number same_production
@@ -116,7 +116,7 @@ pub tails_checked : (y : Payload) → list_all (λ n. is_nonterminal (symbols_of
 unfolding rule symbols_of allowed includes nonterminal_number level_number repeated_number optional_number same_nonterminal repeated optional tighter is keyword_number mark_number is_of_level operator_level is_assign_mark is_unary_mark is_inc_dec_mark begins_base begins_type begins_external begins_expr begins_init keyword_stmt stmt item base plain_spec spec external after_tag group_label parenthesis operand_mark operand initialiser begins_optional start begins_repeated mark_suffix suffix left operation operand_next init_next stmt_next next is_suffix front rest_of is_read is_nullable all_nullable begins ahead follows_kind follows ends precedence production_number same_production
 tails_checked y = refl
 
--- what may stand after a tree of the label l in a nonterminal
+-- what may stand after a tree of the production l in a nonterminal
 abbrev pub sits : Nonterminal → Production → Option TokenKind → Bool
 sits c l h = follows c h || not (list_all (λ n. not (allowed (front n) l && at (ahead (rest_of n)) h)) (suffixes c))
 

@@ -52,7 +52,7 @@ typed_cons : (x : Token) (ts : List Token) → typed (x ∷ ts) ≡ at begins_ty
 unfolding typed
 typed_cons x ts = refl
 
--- how what follows a row begins
+-- how what follows a sequence begins
 after_row : (symbols : List Symbol) (f : Tree) (j : List Token) → Fits (All symbols) f → (at (ahead symbols) (head (spelled f j)) || all_nullable symbols) ≡ true
 unfolding Opens begins_form empty_form
 after_row symbols f j h = go (opens f (All symbols) h)
@@ -196,7 +196,7 @@ suffix_reaches n c l k f g j whole rows h hf hr r s i q = go (opens g (All (rest
         joins (after_front n c l k f g j o.0 (o.1 ++ j) whole hf (fits_else c l (Cons (Node k f) g) h) r a s o.2 (o.3 j))
         (λ m. turn_on n m c k l f g j s (ap (λ z. next c k (head z)) (o.3 j) ∙ next_chosen c k l o.0.kind r a s (fits_allowed (front l) k f hf) o.2) rest)
 
--- ---- rows
+-- ---- sequences
 
 waits_after : (t g : Tree) → waits (Cons t g) ≡ false → waits g ≡ false
 unfolding waits
@@ -205,7 +205,7 @@ waits_after t (Leaf x) h = refl
 waits_after t (Node l f) h = h
 waits_after t (Cons u f) h = h
 
--- what may follow the first nonterminal of a row
+-- what may follow the first nonterminal of a sequence
 pub record EndsNonterminal (c : Nonterminal) (symbols : List Symbol) (h : Option TokenKind) : Type 0 where
   pub others : ends symbols h ≡ true
   pub follow : all_nullable symbols ≡ true → follows c h ≡ true
@@ -250,7 +250,7 @@ nonterminal_follows c symbols t g j row e q h = go (opens g (All symbols) h)
         subst (λ (ts : List Token). (follows c (head ts) ≡ true) × (is_else (head ts) ≡ true → waits t ≡ false)) (sym (o.3 j))
         (f.0, λ x. absurd (cc (x, f.1)))
 
--- one part, and then the others
+-- one child, and then the others
 joined : (rd : Nonterminal → List Token → ReadResult) (s : Symbol) (symbols : List Symbol) (t g : Tree) (ts k j : List Token) → Reads (one rd s ts) t k → Reads (children rd symbols k) g j →
     Reads (children rd (s ∷ symbols) ts) (Cons t g) j
 unfolding children

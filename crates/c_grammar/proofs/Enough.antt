@@ -21,7 +21,7 @@ use Rattle.c_grammar.proofs.Small.{Small, begun_small, read_small}
 use Rattle.c_grammar.proofs.Sound.{Stands, both, parts_sound, later_stands, begun_sound, read_sound}
 use Rattle.c_grammar.proofs.Viable.{token_done}
 
--- where a sequence is too deep, its first part is, or what comes then
+-- where a sequence is too deep, its first child is, or what comes then
 pub record DeepThen (o : ReadResult) (go : Tree → List Token → ReadResult) : Type 0 where
   pub tree : Tree
   pub left : List Token

@@ -1,4 +1,4 @@
--- All token kinds, labels and nonterminals, so that what is to hold of each of them can be computed.
+-- All token kinds, productions and nonterminals, so that what is to hold of each of them can be computed.
 use Rattle.std.specs.Prelude.{◌≡◌, ℕ, ◌+◌, Bool, true, false, List, [], ◌∷◌, map, Option, Some, None}
 use Rattle.std.proofs.Common.{refl, inl, inr, sym, ap, ◌∙◌, subst, ◌==◌}
 use Rattle.std.proofs.lemmas.Bool.{eqb-true}
@@ -85,7 +85,7 @@ pub flag_in : (b : Bool) → In b (false ∷ true ∷ [])
 flag_in false = inl refl
 flag_in true = inr (inl refl)
 
--- ---- labels
+-- ---- productions
 
 abbrev pub other_productions : List Production
 other_productions = production.Empty production.MoreMembers ∷ production.Empty production.MoreMember ∷ production.Empty production.Stars ∷ production.Empty production.Dimensions ∷

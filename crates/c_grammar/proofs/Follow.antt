@@ -14,7 +14,7 @@ use Rattle.c_grammar.specs.PredictSets.{at, begins_base, begins_type, begins_ext
 
 -- ---- productions
 
--- whether the first part of a production is a tree that is there before the production is chosen
+-- whether the first symbol of a production is a tree that is there before the production is chosen
 unfoldable pub is_suffix : Production → Bool
 is_suffix (production.More k) = true
 is_suffix production.IfElse = true
@@ -34,7 +34,7 @@ abbrev pub nonterminal_of : Symbol → Nonterminal
 nonterminal_of (N c) = c
 nonterminal_of (T s) = Expr
 
--- the nonterminal of the first part
+-- the nonterminal of the first symbol
 abbrev pub first_nonterminal : List Symbol → Nonterminal
 first_nonterminal [] = Expr
 first_nonterminal (s ∷ symbols) = nonterminal_of s
@@ -114,7 +114,7 @@ begins Group k = begins_some (group_label k)
 begins GroupLabel k = begins_some (group_label k)
 begins _ k = begins_expr k
 
--- the tokens that a row of symbols may begin with
+-- the tokens that a sequence of symbols may begin with
 unfoldable pub ahead : List Symbol → TokenKind → Bool
 ahead [] k = false
 ahead (T s ∷ symbols) k = is s k
@@ -225,7 +225,7 @@ abbrev pub is_last : List Symbol → Bool
 is_last [] = true
 is_last (s ∷ symbols) = false
 
--- whether a row of symbols may end before this token
+-- whether a sequence of symbols may end before this token
 unfoldable pub ends : List Symbol → Option TokenKind → Bool
 ends [] h = true
 ends (T s ∷ symbols) h = ends symbols h

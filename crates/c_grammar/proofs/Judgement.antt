@@ -164,7 +164,7 @@ judged ts = go (read (16 * length ts + 16) unit ts) (reader_is_exact (16 * lengt
     go (SyntaxError rest) s = inr (rest, s)
     go OutOfFuel s = absurd s
 
--- ---- one place
+-- ---- one offset
 
 -- one of two beginnings of a list is the shorter
 pub record Shorter (p q a b : List Token) : Type 0 where

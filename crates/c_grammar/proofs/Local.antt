@@ -25,7 +25,7 @@ module _ (x : Token) (r s : List Token) where
   Alike (SyntaxError k) (SyntaxError j) = Same k j
   Alike _ _ = ⊥
 
-  -- The first has passed the token, or both are alike.
+  -- The first has passed the token, or both are equal.
   abbrev pub Twin : ReadResult → ReadResult → Type 0
   Twin o p = Alike o p ⊎ Small (length r) o
 

@@ -178,7 +178,7 @@ trees_checked = refl
 pub some_fits : (c : Nonterminal) → Fits (One c) (some_tree c)
 some_fits c = fitting-true (some_tree c) (One c) (all_in (λ c. fitting (One c) (some_tree c)) c nonterminals (nonterminal_in c) trees_checked)
 
--- ---- rows
+-- ---- sequences
 
 unfoldable pub some_row : List Symbol → Tree
 some_row [] = Nil

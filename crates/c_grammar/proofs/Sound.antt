@@ -15,7 +15,7 @@ use Rattle.c_grammar.proofs.Follow.{front, rest_of, is_read, all_nullable, ahead
 use Rattle.c_grammar.proofs.Bridges.{start_is, next_is, if_is, front_is, drop_front, rest_filled, GoesOn}
 use Rattle.c_grammar.proofs.Trees.{waits_node, waits_alone, waits_cons, waits_last, waits_leaf, waits_nil, else_fits_other, else_fits_if, is_if_else, is_if, prefix_if_else, fits_node, fits_allowed, fits_else, fits_parts, fits_nil, fits_leaf, fits_cons, spelled_node, spelled_cons, else_ahead}
 
--- where a sequence is done, its first part is
+-- where a sequence is done, its first child is
 pub record Both (o : ReadResult) (go : Tree → List Token → ReadResult) (t : Tree) (k : List Token) : Type 0 where
   pub tree : Tree
   pub left : List Token

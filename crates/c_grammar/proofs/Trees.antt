@@ -64,7 +64,7 @@ pub else_fits_quiet : (l : Production) (f g : Tree) → else_fits production.IfE
 unfolding else_fits
 else_fits_quiet l f g h = not-true (waits f) h
 
--- the decision whether a label is that of an `if` with `else`
+-- the decision whether a production is that of an `if` with `else`
 pub is_if_else : (l : Production) → (l ≡ production.IfElse) ⊎ (l ≡ production.IfElse → ⊥)
 is_if_else production.IfElse = inl refl
 is_if_else l = inr (λ e. cc e)

@@ -36,7 +36,7 @@ pub record ViableParts (symbols : List Symbol) (ts k : List Token) : Type 0 wher
 abbrev pub ViableReader : (Nonterminal → List Token → ReadResult) → Type 0
 ViableReader rd = (c : Nonterminal) (ts k : List Token) → rd c ts ≡ SyntaxError k → Viable c ts k
 
--- where a sequence fails, its first part fails, or what comes then
+-- where a sequence fails, its first child fails, or what comes then
 pub record FailsThen (o : ReadResult) (go : Tree → List Token → ReadResult) (k : List Token) : Type 0 where
   pub tree : Tree
   pub left : List Token
@@ -60,12 +60,12 @@ token_fails s (x ∷ ts) k e = go (is s x.kind) e
     go true h = absurd (cc h)
     go false h = cc h
 
--- nothing of a row was read
+-- nothing of a sequence was read
 nothing_read : (symbols : List Symbol) (ts k : List Token) → ts ≡ k → ViableParts symbols ts k
 nothing_read symbols ts k e =
     record { tree = some_row symbols; before = []; more = spelled (some_row symbols) []; fits = some_row_fits symbols; split = e; spells = refl }
 
--- the first part of a row was begun
+-- the first child of a sequence was begun
 first_begun : (c : Nonterminal) (symbols : List Symbol) (ts k : List Token) → Viable c ts k → ViableParts (N c ∷ symbols) ts k
 first_begun c symbols ts k v =
     record {
@@ -78,7 +78,7 @@ first_begun c symbols ts k v =
           ∙ append_assoc v.before v.more (spelled (some_row symbols) []);
     }
 
--- the first part of a row was read, and the others begun
+-- the first child of a sequence was read, and the others begun
 first_read : (s : Symbol) (symbols : List Symbol) (ts : List Token) (t : Tree) (j k : List Token) → ts ≡ spelled t j → ((f : Tree) → Fits (All symbols) f → Fits (All (s ∷ symbols)) (Cons t f)) →
     ViableParts symbols j k → ViableParts (s ∷ symbols) ts k
 first_read s symbols ts t j k e fits v =

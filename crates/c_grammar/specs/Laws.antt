@@ -9,7 +9,7 @@ use Rattle.c_ast.specs.Tree.{Tree, Leaf, Node, Nil, Cons}
 use Rattle.c_grammar.specs.Beginnings.{WrongFrom}
 use Rattle.c_grammar.specs.Reader.{ReadResult, Read, SyntaxError, OutOfFuel, read}
 
--- the same tree with each token at the place 0
+-- the same tree with each token at the offset 0
 unfoldable pub without_spans : Tree → Tree
 without_spans (Leaf x) = Leaf (record { kind = x.kind; at = 0; end = 0 })
 without_spans (Node l children) = Node l (without_spans children)
@@ -43,6 +43,6 @@ Says ts (Read t (x ∷ rest)) = WrongFrom ts (x ∷ rest)
 Says ts (SyntaxError rest) = WrongFrom ts rest
 Says ts OutOfFuel = ⊥
 
--- The reader finds the tree of the tokens, or the place from which on they are wrong, where its bound is high enough.
+-- The reader finds the tree of the tokens, or the token from which on they are wrong, where its bound is high enough.
 abbrev pub ReaderIsExact : Type 0
 ReaderIsExact = (n : ℕ) (ts : List Token) → 16 * length ts + 16 ≤ n → Says ts (read n (Many Externals) ts)

@@ -145,7 +145,7 @@ operand c b (kind.Punct p) = operand_mark c b p
 unfoldable pub initialiser : Bool → TokenKind → Option Production
 initialiser b k = if is (Mark mark.LBrace) k then Some production.InitList else operand Assign b k
 
--- what the tokens are with which an optional part begins
+-- what the tokens are with which an optional symbol begins
 unfoldable pub begins_optional : Optional → TokenKind → Bool
 begins_optional production.Constant k = is (Word word.Const) k
 begins_optional production.ShortInt k = is (Word word.Int) k
@@ -193,7 +193,7 @@ start c h b = option_and_then (operand c b) h
 
 -- ---- what goes on with the next token
 
--- what the tokens are with which a repeated part begins
+-- what the tokens are with which a repeated symbol begins
 unfoldable pub begins_repeated : Repeated → TokenKind → Bool
 begins_repeated production.Externals k = begins_external k
 begins_repeated production.MoreMembers k = begins_type k
@@ -210,7 +210,7 @@ begins_repeated production.MoreStmts k = option_map_or (λ l. true) (stmt k) fal
 begins_repeated production.MoreAssigns k = is (Mark mark.Comma) k
 begins_repeated production.MoreLiterals k = is AnyLiteral k
 
--- the production that takes an operand before this token as its first part, and the nonterminal of that operand
+-- the production that takes an operand before this token as its first child, and the nonterminal of that operand
 unfoldable pub mark_suffix : Punct → Option Production
 mark_suffix mark.LBracket = Some production.Index
 mark_suffix mark.LParen = Some production.Call
@@ -232,7 +232,7 @@ left production.Conditional = Binary production.LogicalOr
 left (production.Binary level) = Binary level
 left _ = Postfix
 
--- a production that goes on after an operand of the label l, where it makes a tree of the nonterminal
+-- a production that goes on after an operand of the production l, where it makes a tree of the nonterminal
 unfoldable pub operation : Nonterminal → Production → Production → Option Production
 operation c l m = if allowed c m && allowed (left m) l then Some m else None
 
@@ -249,7 +249,7 @@ unfoldable pub stmt_next : Production → TokenKind → Option Production
 stmt_next production.If k = if is (Word word.Else) k then Some production.IfElse else None
 stmt_next _ k = None
 
--- The production that takes a tree of the label l as its first part, in a nonterminal, by the kind of the next token.
+-- The production that takes a tree of the production l as its first child, in a nonterminal, by the kind of the next token.
 unfoldable pub next : Nonterminal → Production → Option TokenKind → Option Production
 next (Many k) l h = if at (begins_repeated k) h then Some (production.More k) else None
 next InitItems l h = option_and_then (init_next l) h

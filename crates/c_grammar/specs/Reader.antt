@@ -34,7 +34,7 @@ unfoldable pub one : (Nonterminal → List Token → ReadResult) → Symbol → 
 one rd (T s) ts = token s ts
 one rd (N c) ts = rd c ts
 
--- a row of symbols
+-- a sequence of symbols
 unfoldable pub children : (Nonterminal → List Token → ReadResult) → List Symbol → List Token → ReadResult
 children rd [] ts = Read Nil ts
 children rd (s ∷ symbols) ts = and_then (one rd s ts) (λ t k. and_then (children rd symbols k) (λ f j. Read (Cons t f) j))
@@ -47,7 +47,7 @@ begun rd (Some l) ts = and_then (children rd (symbols_of l) ts) (λ f k. Read (N
 unfoldable pub first : (Nonterminal → List Token → ReadResult) → Nonterminal → List Token → ReadResult
 first rd c ts = begun rd (start c (head ts) (typed ts)) ts
 
--- a production whose first part is the tree t
+-- a production whose first child is the tree t
 unfoldable pub later : (Nonterminal → List Token → ReadResult) → Production → Tree → List Token → ReadResult
 later rd l t ts = and_then (children rd (drop 1 (symbols_of l)) ts) (λ f k. Read (Node l (Cons t f)) k)
 

@@ -113,7 +113,8 @@ abbrev pub Found : List ℕ → List Token → Option ℕ → Type 0
 Found c ts o = MatchOption o (deepest c (kinds ts) ≤ 200) (DeepAt c ts)
 
 -- the counters after a token, and the depth, do not hang on where the tokens after it end
-shallow_more : (t : Token) (before rest : List Token) (c d : List ℕ) → d ≡ after_token t.kind (kinds (before ++ rest)) c → depth_of d ≤ 200 → deepest d (kinds before) ≤ 200 → deepest c (kinds (t ∷ before)) ≤ 200
+shallow_more : (t : Token) (before rest : List Token) (c d : List ℕ) → d ≡ after_token t.kind (kinds (before ++ rest)) c → depth_of d ≤ 200 → deepest d (kinds before) ≤ 200 →
+    deepest c (kinds (t ∷ before)) ≤ 200
 shallow_more t [] rest c d e h s =
     let low = token_lower t.kind (kinds rest) c in
     let same : depth_of d ≡ depth_of (after_token t.kind (kinds rest) c) = ap depth_of e in
@@ -122,7 +123,8 @@ shallow_more t (x ∷ before) rest c d e h s =
     let same : after_token t.kind (kinds (x ∷ before)) c ≡ d = token_head t.kind x.kind (kinds before) (kinds (before ++ rest)) c ∙ sym e in
     rw same (omega arith)
 
-deep_more : (t : Token) (x : Token) (before rest : List Token) (c d : List ℕ) → d ≡ after_token t.kind (kinds (x ∷ rest)) c → 200 < deepest d (kinds (x ∷ before)) → 200 < deepest c (kinds (t ∷ x ∷ before))
+deep_more : (t : Token) (x : Token) (before rest : List Token) (c d : List ℕ) → d ≡ after_token t.kind (kinds (x ∷ rest)) c → 200 < deepest d (kinds (x ∷ before)) →
+    200 < deepest c (kinds (t ∷ x ∷ before))
 deep_more t x before rest c d e h =
     let same : after_token t.kind (kinds (x ∷ before)) c ≡ d = token_head t.kind x.kind (kinds before) (kinds rest) c ∙ sym e in
     rw same (omega arith)
@@ -132,7 +134,8 @@ found_here t ts c h d =
     let alone = token_deep t.kind (kinds ts) c 200 h d in
     record { before = []; token = t; rest = ts; split = refl; at = refl; shallow = omega arith; deep = omega arith }
 
-found_after : (t : Token) (ts : List Token) (c d : List ℕ) (offset : ℕ) → d ≡ after_token t.kind (kinds ts) c → depth_of d ≤ 200 → (before : List Token) (token : Token) (rest : List Token) → ts ≡ before ++ token ∷ rest → offset ≡ token.at → deepest d (kinds before) ≤ 200 → 200 < deepest d (kinds (before ++ token ∷ [])) → DeepAt c (t ∷ ts) offset
+found_after : (t : Token) (ts : List Token) (c d : List ℕ) (offset : ℕ) → d ≡ after_token t.kind (kinds ts) c → depth_of d ≤ 200 → (before : List Token) (token : Token) (rest : List Token) →
+    ts ≡ before ++ token ∷ rest → offset ≡ token.at → deepest d (kinds before) ≤ 200 → 200 < deepest d (kinds (before ++ token ∷ [])) → DeepAt c (t ∷ ts) offset
 found_after t ts c d offset e h [] token rest split at shallow deep = record {
   before = t ∷ [];
   token = token;
@@ -160,7 +163,9 @@ found_more t ts c d e h None f = none_after t ts c d e h f
 found_more t ts c d e h (Some offset) f =
     found_after t ts c d offset e h f.before f.token f.rest f.split f.at f.shallow f.deep
 
-found_by : (t : Token) (ts : List Token) (c : List ℕ) → depth_of c ≤ 200 → (b : Bool) → nat_le (depth_of (after_token t.kind (kinds ts) c)) 200 ≡ b → (depth_of (after_token t.kind (kinds ts) c) ≤ 200 → Found (after_token t.kind (kinds ts) c) ts (first_deep (after_token t.kind (kinds ts) c) ts)) → Found c (t ∷ ts) (if b then first_deep (after_token t.kind (kinds ts) c) ts else Some t.at)
+found_by : (t : Token) (ts : List Token) (c : List ℕ) → depth_of c ≤ 200 → (b : Bool) → nat_le (depth_of (after_token t.kind (kinds ts) c)) 200 ≡ b →
+    (depth_of (after_token t.kind (kinds ts) c) ≤ 200 → Found (after_token t.kind (kinds ts) c) ts (first_deep (after_token t.kind (kinds ts) c) ts)) →
+    Found c (t ∷ ts) (if b then first_deep (after_token t.kind (kinds ts) c) ts else Some t.at)
 found_by t ts c h true e again =
     let low : depth_of (after_token t.kind (kinds ts) c) ≤ 200 = small _ e in
     found_more t ts c (after_token t.kind (kinds ts) c) refl low (first_deep (after_token t.kind (kinds ts) c) ts) (again low)
@@ -203,14 +208,16 @@ next_at all i t e h = rw (add-one) (drop-cons all i t h ∙ ap (λ x. x ∷ drop
 passed : (all : List Token) (n : ℕ) (k : TokenKind) (c d : List ℕ) → d ≡ after_token k (kinds (take (length all - n) (drop n all))) c → d ≡ after_token k (kinds (drop n all)) c
 passed all n k c d e = e ∙ ap (λ x. after_token k (kinds x) c) (between_to_end all n (length all) (omega arith))
 
-pub scan_more : (all : List Token) (i : ℕ) (t : Token) (c d : List ℕ) → t ≡ get_or all i t → i < length all → first_deep c (drop i all) ≡ first_deep (0 ∷ []) all → d ≡ after_token t.kind (kinds (take (length all - (i + 1)) (drop (i + 1) all))) c → depth_of d ≤ 200 → first_deep d (drop (i + 1) all) ≡ first_deep (0 ∷ []) all
+pub scan_more : (all : List Token) (i : ℕ) (t : Token) (c d : List ℕ) → t ≡ get_or all i t → i < length all → first_deep c (drop i all) ≡ first_deep (0 ∷ []) all →
+    d ≡ after_token t.kind (kinds (take (length all - (i + 1)) (drop (i + 1) all))) c → depth_of d ≤ 200 → first_deep d (drop (i + 1) all) ≡ first_deep (0 ∷ []) all
 scan_more all i t c d e h s f low =
     let g = passed all (i + 1) t.kind c d f in
     ap (λ x. first_deep x (drop (i + 1) all)) g
     ∙ sym (first_deep-more c t (drop (i + 1) all) (subst (λ (x : List ℕ). depth_of x ≤ 200) g low))
     ∙ ap (first_deep c) (sym (next_at all i t e h)) ∙ s
 
-pub scan_here : (all : List Token) (i : ℕ) (t : Token) (c d : List ℕ) → t ≡ get_or all i t → i < length all → first_deep c (drop i all) ≡ first_deep (0 ∷ []) all → d ≡ after_token t.kind (kinds (take (length all - (i + 1)) (drop (i + 1) all))) c → 200 < depth_of d → FirstTooDeep all t.at
+pub scan_here : (all : List Token) (i : ℕ) (t : Token) (c d : List ℕ) → t ≡ get_or all i t → i < length all → first_deep c (drop i all) ≡ first_deep (0 ∷ []) all →
+    d ≡ after_token t.kind (kinds (take (length all - (i + 1)) (drop (i + 1) all))) c → 200 < depth_of d → FirstTooDeep all t.at
 scan_here all i t c d e h s f large =
     let g = passed all (i + 1) t.kind c d f in
     from_start all (Some t.at)

@@ -8,7 +8,7 @@ use Rattle.c_ast.specs.Tree.{Tree, Node, Nil, Cons}
 use Rattle.c_grammar.specs.Reader.{ReadResult, Read, SyntaxError, OutOfFuel, and_then, one, children, begun, later}
 use Rattle.c_parse.proofs.ReadLemmas.{then-then}
 
--- a row of symbols, and what is made of their trees
+-- a sequence of symbols, and what is made of their trees
 abbrev pub row : (Nonterminal → List Token → ReadResult) → List Symbol → List Token → (Tree → List Token → ReadResult) → ReadResult
 row rd [] ts go = go Nil ts
 row rd (s ∷ symbols) ts go = and_then (one rd s ts) (λ t k. row rd symbols k (λ f j. go (Cons t f) j))

@@ -48,7 +48,8 @@ read_ended n ts start rest u end p same e none =
     read_whole n ts u end p (ap (read n (Many Externals)) (sym same) ∙ e ∙ ap (Read (unit_tree u)) none)
 
 -- a tree and tokens after it
-pub read_part : (n : ℕ) (ts : List Token) (t : Tree) (x : Token) (rest : List Token) (end : ℕ) → Passed n ts → read n (Many Externals) ts ≡ Read t (x ∷ rest) → Answers ts end (Err (fault.Syntax (offset_of (x ∷ rest) end)))
+pub read_part : (n : ℕ) (ts : List Token) (t : Tree) (x : Token) (rest : List Token) (end : ℕ) → Passed n ts → read n (Many Externals) ts ≡ Read t (x ∷ rest) →
+    Answers ts end (Err (fault.Syntax (offset_of (x ∷ rest) end)))
 read_part n ts t x rest end p e = wrong n ts (x ∷ rest) end p (says n ts (Read t (x ∷ rest)) p e)
 
 -- no tree

@@ -113,7 +113,7 @@ token-signed (x ∷ ts) e = ap (λ (b : Bool). if b then Read (Leaf x) ts else S
     by_kind (kind.Keyword w.Signed) e = refl
     by_kind k e = refl
 
--- ---- rows of symbols
+-- ---- sequences of symbols
 
 pub err-then : {X Y : Type 0} (view : X → Tree) (view' : Y → Tree) (o : ReadResult) (f : Tree → List Token → ReadResult) (e : Fault) (left : List Token) →
     Gives view o (Err e) left → Gives view' (and_then o f) (Err e) left

@@ -1,4 +1,4 @@
--- Nonterminals that read alike where one token cannot tell them apart.
+-- Nonterminals that read the same where one token cannot tell them apart.
 use Rattle.std.proofs.Common.{◌≡◌, ℕ, zero, suc, ◌-◌, ◌<◌, Bool, true, false, ◌&&◌, List, Option, Some, None, refl, ap, ◌∙◌, arith}
 use Rattle.c_lex.specs.declared.keyword.Keyword.TheVariants as w
 use Rattle.c_lex.specs.declared.punct.Punct.TheVariants as m

@@ -109,14 +109,16 @@ after_else : (n : ℕ) (t : Tree) (ts : List Token) →
 unfolding later children one symbols_of rule read turns goes_on next stmt_next production_of
 after_else zero t ts = by_token (token (Word w.Else) ts)
   where
-    by_token : (o : ReadResult) → and_then (and_then (and_then o (λ a k. and_then OutOfFuel (λ f j. Read (Cons a f) j))) (λ f k. Read (Node production.IfElse (Cons t f)) k)) (turns (λ c ts. OutOfFuel) zero Stmt)
+    by_token : (o : ReadResult) →
+        and_then (and_then (and_then o (λ a k. and_then OutOfFuel (λ f j. Read (Cons a f) j))) (λ f k. Read (Node production.IfElse (Cons t f)) k)) (turns (λ c ts. OutOfFuel) zero Stmt)
         ≡ and_then (and_then o (λ a k. and_then OutOfFuel (λ f j. Read (Cons a f) j))) (λ f k. Read (Node production.IfElse (Cons t f)) k)
     by_token (Read a k) = refl
     by_token (SyntaxError k) = refl
     by_token OutOfFuel = refl
 after_else (suc n) t ts = by_out (children (read (suc n)) (drop 1 (symbols_of production.IfElse)) ts)
   where
-    by_head : (f : Tree) (h : Option TokenKind) (k : List Token) → goes_on (read (suc n)) (option_and_then (stmt_next production.IfElse) h) (Node production.IfElse f) k (turns (read (suc n)) n Stmt) ≡ Read (Node production.IfElse f) k
+    by_head : (f : Tree) (h : Option TokenKind) (k : List Token) →
+        goes_on (read (suc n)) (option_and_then (stmt_next production.IfElse) h) (Node production.IfElse f) k (turns (read (suc n)) n Stmt) ≡ Read (Node production.IfElse f) k
     by_head f None k = refl
     by_head f (Some x) k = refl
 

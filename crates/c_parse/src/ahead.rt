@@ -60,7 +60,8 @@ impl Tokens<'_> {
 
     /// As `spec_start`, but no structure.
     pub fn plain_spec_start(&self) -> Option<SpecStart>
-        ensures production { option_map spec_production result ≡ option_and_then predict.plain_spec (head self.now) }
+        ensures production { option_map spec_production result ≡ option_and_then predict.plain_spec
+            (head self.now) }
         ensures plain { IfSome result (λ s. starts_struct s ≡ false) }
     {
         match self.peek() {
@@ -231,7 +232,8 @@ impl Tokens<'_> {
     }
 
     pub fn label_start(&self) -> Option<LabelStart>
-        ensures { option_map case_production result ≡ option_and_then predict.group_label (head self.now) }
+        ensures { option_map case_production result ≡ option_and_then predict.group_label (head
+            self.now) }
     {
         match self.peek() {
             Some(TokenKind::Keyword(Keyword::Case)) => Some(LabelStart::Case),
@@ -251,13 +253,15 @@ impl Tokens<'_> {
     #[tactic(auto, using(crate::proofs::Begins::beginnings), unfolding(c_grammar::specs::PredictSets::begins_repeated))]
     pub fn sees_label(&self) -> bool
         ensures groups { result ≡ at (predict.begins_repeated production.Groups) (head self.now) }
-        ensures labels { result ≡ at (predict.begins_repeated production.MoreLabels) (head self.now) }
+        ensures labels { result ≡ at (predict.begins_repeated production.MoreLabels) (head
+            self.now) }
     {
         self.label_start().is_some()
     }
 
     pub fn external_start(&self) -> Option<ExternalStart>
-        ensures { option_map external_production result ≡ option_and_then predict.external (head self.now) }
+        ensures { option_map external_production result ≡ option_and_then predict.external (head
+            self.now) }
     {
         match self.peek() {
             Some(TokenKind::Keyword(Keyword::Static)) => Some(ExternalStart::Static),

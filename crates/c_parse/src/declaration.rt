@@ -35,7 +35,8 @@ struct Inits {
 impl Tokens<'_> {
     /// The size of a dimension, where it is written.
     fn size(&mut self, fuel: usize) -> Result<Option<Expr>, Fault>
-        ensures { Gives (opt production.Size (λ e. expr_tree e ∷ [])) (read fuel (Opt production.Size) self.old) result self.new }
+        ensures { Gives (opt production.Size (λ e. expr_tree e ∷ [])) (read fuel (Opt
+            production.Size) self.old) result self.new }
     {
         if fuel == 0 {
             return Err(Fault::OutOfFuel);
@@ -49,7 +50,8 @@ impl Tokens<'_> {
 
     /// Dimensions whose sizes may be left out.
     pub fn open_dimensions(&mut self, fuel: usize) -> Result<Items<OpenDimension>, Fault>
-        ensures { Gives open_dimensions (read fuel (Many production.OpenDimensions) self.old) result self.new }
+        ensures { Gives open_dimensions (read fuel (Many production.OpenDimensions) self.old)
+            result self.new }
     {
         if fuel == 0 {
             return Err(Fault::OutOfFuel);
@@ -92,7 +94,8 @@ impl Tokens<'_> {
     /// Initialisers in braces.
     #[cycle(init)]
     fn init_list(&mut self, fuel: usize) -> Result<Init, Fault>
-        ensures { Gives init_tree (begun (read fuel) (Some production.InitList) self.old) result self.new }
+        ensures { Gives init_tree (begun (read fuel) (Some production.InitList) self.old) result
+            self.new }
     {
         let open = self.expect(Punct::LBrace)?;
         let Inits { first, more, comma } = self.inits(fuel)?;
@@ -132,9 +135,11 @@ impl Tokens<'_> {
         Err(Fault::OutOfFuel)
     }
 
-    /// Whether initialisers go on: with a comma after the last one, or with an initialiser after a comma.
+    /// Whether initialisers go on: with a comma after the last one, or with an initialiser after a
+    /// comma.
     fn sees_more(&self, inits: &Inits) -> bool
-        ensures { next nonterminal.InitItems (production_of (inits_tree inits.now)) (head self.now) ≡ (if result then Some (more_production inits.now) else None) }
+        ensures { next nonterminal.InitItems (production_of (inits_tree inits.now)) (head self.now)
+            ≡ (if result then Some (more_production inits.now) else None) }
     {
         match inits.comma {
             None => self.sees(Punct::Comma),
@@ -145,7 +150,8 @@ impl Tokens<'_> {
     /// A comma, or an initialiser after one.
     #[cycle(init)]
     fn more_inits(&mut self, fuel: usize, inits: Inits) -> Result<Inits, Fault>
-        ensures { Gives inits_tree (later (read fuel) (more_production inits) (inits_tree inits) self.old) result self.new }
+        ensures { Gives inits_tree (later (read fuel) (more_production inits) (inits_tree inits)
+            self.old) result self.new }
     {
         let Inits {
             first,
@@ -175,7 +181,8 @@ impl Tokens<'_> {
 
     /// `=` and an initialiser, where they are written.
     pub fn initializer(&mut self, fuel: usize) -> Result<Option<Initializer>, Fault>
-        ensures { Gives initializer (read fuel (Opt production.Initialiser) self.old) result self.new }
+        ensures { Gives initializer (read fuel (Opt production.Initialiser) self.old) result
+            self.new }
     {
         if fuel == 0 {
             return Err(Fault::OutOfFuel);
@@ -209,7 +216,8 @@ impl Tokens<'_> {
 
     /// Declarators after commas.
     pub fn more_declarators(&mut self, fuel: usize) -> Result<Items<Next<Declarator>>, Fault>
-        ensures { Gives more_declarators (read fuel (Many production.MoreDecls) self.old) result self.new }
+        ensures { Gives more_declarators (read fuel (Many production.MoreDecls) self.old) result
+            self.new }
     {
         if fuel == 0 {
             return Err(Fault::OutOfFuel);
@@ -248,7 +256,10 @@ impl Tokens<'_> {
         qualifier: Option<Span>,
         spec: Boxed<Spec>,
     ) -> Result<Locals, Fault>
-        ensures { Gives locals_tree (and_then (read fuel nonterminal.Decl self.old) (λ t k. and_then (read fuel (Many production.MoreDecls) k) (λ u j. and_then (token (Mark m.Semicolon) j) (λ v i. Read (node production.Locals (constant qualifier ∷ spec_tree spec ∷ t ∷ u ∷ v ∷ [])) i)))) result self.new }
+        ensures { Gives locals_tree (and_then (read fuel nonterminal.Decl self.old) (λ t k.
+            and_then (read fuel (Many production.MoreDecls) k) (λ u j. and_then (token (Mark
+            m.Semicolon) j) (λ v i. Read (node production.Locals (constant qualifier ∷ spec_tree
+            spec ∷ t ∷ u ∷ v ∷ [])) i)))) result self.new }
     {
         let first = self.declarator(fuel)?;
         let first = Boxed::new(self.alloc, first)?;

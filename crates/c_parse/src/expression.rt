@@ -50,7 +50,8 @@ impl Tokens<'_> {
     /// An operand without the operators that may follow it.
     #[cycle(expression)]
     fn prefix(&mut self, fuel: usize, precedence: Precedence) -> Result<Expr, Fault>
-        ensures { Gives expr_tree (first (read fuel) (nonterminal_of precedence) self.old) result self.new }
+        ensures { Gives expr_tree (first (read fuel) (nonterminal_of precedence) self.old) result
+            self.new }
     {
         match self.operand_start(precedence) {
             None => Err(Fault::Syntax),
@@ -67,7 +68,8 @@ impl Tokens<'_> {
     }
 
     fn name(&mut self, fuel: usize) -> Result<Expr, Fault>
-        ensures { Gives expr_tree (begun (read fuel) (Some production.Name) self.old) result self.new }
+        ensures { Gives expr_tree (begun (read fuel) (Some production.Name) self.old) result
+            self.new }
     {
         let name = self.identifier()?;
         Ok(Expr::Name(name))
@@ -76,7 +78,8 @@ impl Tokens<'_> {
     /// An expression in parentheses.
     #[cycle(expression)]
     fn parenthesised(&mut self, fuel: usize) -> Result<Expr, Fault>
-        ensures { Gives expr_tree (begun (read fuel) (Some production.Paren) self.old) result self.new }
+        ensures { Gives expr_tree (begun (read fuel) (Some production.Paren) self.old) result
+            self.new }
     {
         let open = self.expect(Punct::LParen)?;
         let inner = self.expression(fuel)?;
@@ -86,7 +89,8 @@ impl Tokens<'_> {
 
     #[cycle(expression)]
     fn cast(&mut self, fuel: usize) -> Result<Expr, Fault>
-        ensures { Gives expr_tree (begun (read fuel) (Some production.Cast) self.old) result self.new }
+        ensures { Gives expr_tree (begun (read fuel) (Some production.Cast) self.old) result
+            self.new }
     {
         let open = self.expect(Punct::LParen)?;
         let target = self.type_name(fuel)?;
@@ -105,7 +109,8 @@ impl Tokens<'_> {
     #[cycle(expression)]
     fn increment(&mut self, fuel: usize, op: IncDec) -> Result<Expr, Fault>
         requires { head self.old ≡ Some (kind.Punct (inc_dec_mark op)) }
-        ensures { Gives expr_tree (begun (read fuel) (Some production.Increment) self.old) result self.new }
+        ensures { Gives expr_tree (begun (read fuel) (Some production.Increment) self.old) result
+            self.new }
     {
         let span = self.expect(op.punct())?;
         let operand = self.boxed_operand(fuel, Precedence::Unary)?;
@@ -116,7 +121,8 @@ impl Tokens<'_> {
     #[cycle(expression)]
     fn unary(&mut self, fuel: usize, op: UnaryOp) -> Result<Expr, Fault>
         requires { head self.old ≡ Some (kind.Punct (unary_mark op)) }
-        ensures { Gives expr_tree (begun (read fuel) (Some production.Unary) self.old) result self.new }
+        ensures { Gives expr_tree (begun (read fuel) (Some production.Unary) self.old) result
+            self.new }
     {
         let span = self.expect(op.punct())?;
         let operand = self.boxed_operand(fuel, Precedence::Cast)?;
@@ -126,7 +132,8 @@ impl Tokens<'_> {
     /// `sizeof` and its operand.
     #[cycle(expression)]
     fn size_of(&mut self, fuel: usize) -> Result<Expr, Fault>
-        ensures { Gives expr_tree (begun (read fuel) (Some production.Sizeof) self.old) result self.new }
+        ensures { Gives expr_tree (begun (read fuel) (Some production.Sizeof) self.old) result
+            self.new }
     {
         let keyword = self.expect_keyword(Keyword::Sizeof)?;
         if fuel == 0 {
@@ -151,7 +158,8 @@ impl Tokens<'_> {
     /// What follows `left`, where an operand of this precedence is to stand.
     #[cycle(expression)]
     fn operations(&mut self, fuel: usize, precedence: Precedence, left: Expr) -> Result<Expr, Fault>
-        ensures { Gives expr_tree (turns (read (fuel - 1)) fuel (nonterminal_of precedence) (expr_tree left) self.old) result self.new }
+        ensures { Gives expr_tree (turns (read (fuel - 1)) fuel (nonterminal_of precedence)
+            (expr_tree left) self.old) result self.new }
     {
         let mut left = left;
         for _turn in 0..fuel {
@@ -168,7 +176,8 @@ impl Tokens<'_> {
     #[cycle(expression)]
     fn longer(&mut self, fuel: usize, suffix: Suffix, left: Expr) -> Result<Expr, Fault>
         requires { head self.old ≡ Some (kind.Punct (suffix_mark suffix)) }
-        ensures { Gives expr_tree (later (read fuel) (suffix_production suffix) (expr_tree left) self.old) result self.new }
+        ensures { Gives expr_tree (later (read fuel) (suffix_production suffix) (expr_tree left)
+            self.old) result self.new }
     {
         let left = Boxed::new(self.alloc, left)?;
         match suffix {
@@ -185,7 +194,8 @@ impl Tokens<'_> {
     /// `[`, an index and `]` after an array.
     #[cycle(expression)]
     fn index(&mut self, fuel: usize, array: Boxed<Expr>) -> Result<Expr, Fault>
-        ensures { Gives expr_tree (later (read fuel) production.Index (expr_tree array) self.old) result self.new }
+        ensures { Gives expr_tree (later (read fuel) production.Index (expr_tree array) self.old)
+            result self.new }
     {
         let open = self.expect(Punct::LBracket)?;
         let index = self.expression(fuel)?;
@@ -201,7 +211,8 @@ impl Tokens<'_> {
     /// Arguments in parentheses after a function.
     #[cycle(expression)]
     fn call(&mut self, fuel: usize, function: Boxed<Expr>) -> Result<Expr, Fault>
-        ensures { Gives expr_tree (later (read fuel) production.Call (expr_tree function) self.old) result self.new }
+        ensures { Gives expr_tree (later (read fuel) production.Call (expr_tree function) self.old)
+            result self.new }
     {
         let open = self.expect(Punct::LParen)?;
         let arguments = self.arguments(fuel)?;
@@ -221,7 +232,8 @@ impl Tokens<'_> {
         selection: Selection,
         object: Boxed<Expr>,
     ) -> Result<Expr, Fault>
-        ensures { Gives expr_tree (later (read fuel) (selection_production selection) (expr_tree object) self.old) result self.new }
+        ensures { Gives expr_tree (later (read fuel) (selection_production selection) (expr_tree
+            object) self.old) result self.new }
     {
         let span = self.expect(selection.punct())?;
         let member = self.identifier()?;
@@ -241,7 +253,8 @@ impl Tokens<'_> {
         operand: Boxed<Expr>,
     ) -> Result<Expr, Fault>
         requires { head self.old ≡ Some (kind.Punct (inc_dec_mark op)) }
-        ensures { Gives expr_tree (later (read fuel) production.PostIncrement (expr_tree operand) self.old) result self.new }
+        ensures { Gives expr_tree (later (read fuel) production.PostIncrement (expr_tree operand)
+            self.old) result self.new }
     {
         let span = self.expect(op.punct())?;
         Ok(Expr::PostIncrement { operand, op, span })
@@ -251,7 +264,8 @@ impl Tokens<'_> {
     #[cycle(expression)]
     fn assign(&mut self, fuel: usize, op: AssignOp, target: Boxed<Expr>) -> Result<Expr, Fault>
         requires { head self.old ≡ Some (kind.Punct (assign_mark op)) }
-        ensures { Gives expr_tree (later (read fuel) production.Assignment (expr_tree target) self.old) result self.new }
+        ensures { Gives expr_tree (later (read fuel) production.Assignment (expr_tree target)
+            self.old) result self.new }
     {
         let span = self.expect(op.punct())?;
         let value = self.boxed_operand(fuel, Precedence::Assignment)?;
@@ -267,7 +281,8 @@ impl Tokens<'_> {
     #[cycle(expression)]
     fn binary(&mut self, fuel: usize, op: BinaryOp, left: Boxed<Expr>) -> Result<Expr, Fault>
         requires { head self.old ≡ Some (kind.Punct (binary_mark op)) }
-        ensures { Gives expr_tree (later (read fuel) (production.Binary (binary_level op)) (expr_tree left) self.old) result self.new }
+        ensures { Gives expr_tree (later (read fuel) (production.Binary (binary_level op))
+            (expr_tree left) self.old) result self.new }
     {
         let span = self.expect(op.punct())?;
         let right = self.boxed_operand(fuel, right_of(op))?;
@@ -282,7 +297,8 @@ impl Tokens<'_> {
     /// `?` and `:` after a condition.
     #[cycle(expression)]
     fn conditional(&mut self, fuel: usize, condition: Boxed<Expr>) -> Result<Expr, Fault>
-        ensures { Gives expr_tree (later (read fuel) production.Conditional (expr_tree condition) self.old) result self.new }
+        ensures { Gives expr_tree (later (read fuel) production.Conditional (expr_tree condition)
+            self.old) result self.new }
     {
         let question = self.expect(Punct::Question)?;
         let then = self.expression(fuel)?;
@@ -313,7 +329,8 @@ impl Tokens<'_> {
     /// The arguments of a call, if there are any.
     #[cycle(expression)]
     fn arguments(&mut self, fuel: usize) -> Result<Option<ExprList>, Fault>
-        ensures { Gives (opt production.Arguments list_children) (read fuel (Opt production.Arguments) self.old) result self.new }
+        ensures { Gives (opt production.Arguments list_children) (read fuel (Opt
+            production.Arguments) self.old) result self.new }
     {
         if fuel == 0 {
             return Err(Fault::OutOfFuel);
@@ -329,7 +346,8 @@ impl Tokens<'_> {
     /// Expressions after commas.
     #[cycle(expression)]
     fn more_expressions(&mut self, fuel: usize) -> Result<Items<Next<Expr>>, Fault>
-        ensures { Gives (many production.MoreAssigns (next expr_tree)) (read fuel (Many production.MoreAssigns) self.old) result self.new }
+        ensures { Gives (many production.MoreAssigns (next expr_tree)) (read fuel (Many
+            production.MoreAssigns) self.old) result self.new }
     {
         if fuel == 0 {
             return Err(Fault::OutOfFuel);
@@ -369,7 +387,8 @@ impl Tokens<'_> {
     /// Dimensions.
     #[cycle(expression)]
     pub fn dimensions(&mut self, fuel: usize) -> Result<Items<Dimension>, Fault>
-        ensures { Gives dimensions (read fuel (Many production.Dimensions) self.old) result self.new }
+        ensures { Gives dimensions (read fuel (Many production.Dimensions) self.old) result
+            self.new }
     {
         if fuel == 0 {
             return Err(Fault::OutOfFuel);

@@ -49,7 +49,8 @@ struct Declared {
     rest: Rest,
 }
 
-/// What stands after `struct` and a name: the definition of the structure, or what is declared with it.
+/// What stands after `struct` and a name: the definition of the structure, or what is declared with
+/// it.
 #[derive(Drop)]
 enum AfterTag {
     Struct {
@@ -79,7 +80,8 @@ impl Tokens<'_> {
 
     /// Declarators of members after commas.
     fn more_members(&mut self, fuel: usize) -> Result<Items<Next<Member>>, Fault>
-        ensures { Gives view.more_members (read fuel (Many production.MoreMember) self.old) result self.new }
+        ensures { Gives view.more_members (read fuel (Many production.MoreMember) self.old) result
+            self.new }
     {
         if fuel == 0 {
             return Err(Fault::OutOfFuel);
@@ -119,7 +121,8 @@ impl Tokens<'_> {
 
     /// Members after those of the first type.
     fn further_members(&mut self, fuel: usize) -> Result<Items<Members>, Fault>
-        ensures { Gives (many production.MoreMembers (λ x. view.members x ∷ [])) (read fuel (Many production.MoreMembers) self.old) result self.new }
+        ensures { Gives (many production.MoreMembers (λ x. view.members x ∷ [])) (read fuel (Many
+            production.MoreMembers) self.old) result self.new }
     {
         if fuel == 0 {
             return Err(Fault::OutOfFuel);
@@ -137,7 +140,8 @@ impl Tokens<'_> {
 
     /// The name of a parameter, where it is written.
     fn param_name(&mut self, fuel: usize) -> Result<Option<Identifier>, Fault>
-        ensures { Gives (opt production.ParamName (λ i. name i ∷ [])) (read fuel (Opt production.ParamName) self.old) result self.new }
+        ensures { Gives (opt production.ParamName (λ i. name i ∷ [])) (read fuel (Opt
+            production.ParamName) self.old) result self.new }
     {
         if fuel == 0 {
             return Err(Fault::OutOfFuel);
@@ -172,7 +176,8 @@ impl Tokens<'_> {
 
     /// Parameters after commas.
     fn more_params(&mut self, fuel: usize) -> Result<Items<Next<Param>>, Fault>
-        ensures { Gives (many production.MoreParams (next view.param)) (read fuel (Many production.MoreParams) self.old) result self.new }
+        ensures { Gives (many production.MoreParams (next view.param)) (read fuel (Many
+            production.MoreParams) self.old) result self.new }
     {
         if fuel == 0 {
             return Err(Fault::OutOfFuel);
@@ -235,7 +240,8 @@ impl Tokens<'_> {
 
     /// What follows the name of a function.
     fn function_rest(&mut self, fuel: usize) -> Result<Rest, Fault>
-        ensures { Gives rest_tree (begun (read fuel) (Some production.Function) self.old) result self.new }
+        ensures { Gives rest_tree (begun (read fuel) (Some production.Function) self.old) result
+            self.new }
     {
         let open = self.expect(Punct::LParen)?;
         let params = self.params(fuel)?;
@@ -251,7 +257,8 @@ impl Tokens<'_> {
 
     /// What follows the name of the first variable.
     fn globals_rest(&mut self, fuel: usize) -> Result<Rest, Fault>
-        ensures { Gives rest_tree (begun (read fuel) (Some production.Globals) self.old) result self.new }
+        ensures { Gives rest_tree (begun (read fuel) (Some production.Globals) self.old) result
+            self.new }
     {
         let dimensions = self.open_dimensions(fuel)?;
         let initializer = self.initializer(fuel)?;
@@ -301,7 +308,8 @@ impl Tokens<'_> {
 
     /// The members of a structure in braces, and the semicolon.
     fn struct_members(&mut self, fuel: usize) -> Result<AfterTag, Fault>
-        ensures { Gives after_tag_tree (begun (read fuel) (Some production.StructMembers) self.old) result self.new }
+        ensures { Gives after_tag_tree (begun (read fuel) (Some production.StructMembers) self.old)
+            result self.new }
     {
         let open = self.expect(Punct::LBrace)?;
         let first = self.members(fuel)?;
@@ -337,7 +345,8 @@ impl Tokens<'_> {
 
     /// A declaration at file scope that begins with `static`.
     fn static_external(&mut self, fuel: usize) -> Result<External, Fault>
-        ensures { Gives external_tree (begun (read fuel) (Some production.Static) self.old) result self.new }
+        ensures { Gives external_tree (begun (read fuel) (Some production.Static) self.old) result
+            self.new }
     {
         let storage = self.expect_keyword(Keyword::Static)?;
         let qualifier = self.qualifier(fuel)?;
@@ -348,7 +357,8 @@ impl Tokens<'_> {
 
     /// A declaration at file scope that begins with `const`.
     fn const_external(&mut self, fuel: usize) -> Result<External, Fault>
-        ensures { Gives external_tree (begun (read fuel) (Some production.Const) self.old) result self.new }
+        ensures { Gives external_tree (begun (read fuel) (Some production.Const) self.old) result
+            self.new }
     {
         let qualifier = self.expect_keyword(Keyword::Const)?;
         let spec = self.specifier(fuel)?;
@@ -358,7 +368,8 @@ impl Tokens<'_> {
 
     /// A declaration at file scope that begins with a type that is no structure.
     fn plain_external(&mut self, fuel: usize) -> Result<External, Fault>
-        ensures { Gives external_tree (begun (read fuel) (Some production.Plain) self.old) result self.new }
+        ensures { Gives external_tree (begun (read fuel) (Some production.Plain) self.old) result
+            self.new }
     {
         let spec = self.plain_specifier(fuel)?;
         let declared = try_with!(self.declared(fuel); spec);
@@ -367,7 +378,8 @@ impl Tokens<'_> {
 
     /// A declaration at file scope that begins with `struct`.
     fn structure(&mut self, fuel: usize) -> Result<External, Fault>
-        ensures { Gives external_tree (begun (read fuel) (Some production.Struct) self.old) result self.new }
+        ensures { Gives external_tree (begun (read fuel) (Some production.Struct) self.old) result
+            self.new }
     {
         let keyword = self.expect_keyword(Keyword::Struct)?;
         let tag = self.identifier()?;
@@ -388,7 +400,8 @@ impl Tokens<'_> {
 
     /// Declarations at file scope.
     pub fn unit(&mut self, fuel: usize) -> Result<Unit, Fault>
-        ensures { Gives view.unit_tree (read fuel (Many production.Externals) self.old) result self.new }
+        ensures { Gives view.unit_tree (read fuel (Many production.Externals) self.old) result
+            self.new }
     {
         if fuel == 0 {
             return Err(Fault::OutOfFuel);
@@ -407,7 +420,8 @@ impl Tokens<'_> {
 
 /// What is declared, with its type in front of it.
 fn whole(storage: Option<Span>, qualifier: Option<Span>, spec: Spec, declared: Declared) -> External
-    ensures { external_tree result ≡ specified (record { storage = storage; qualifier = qualifier; spec = spec }) (declared_tree declared) }
+    ensures { external_tree result ≡ specified (record { storage = storage; qualifier = qualifier;
+        spec = spec }) (declared_tree declared) }
 {
     let specifiers = Specifiers {
         storage,

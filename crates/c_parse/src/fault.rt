@@ -21,7 +21,7 @@ pub enum ParseFault {
     NoMemory,
 }
 
-/// Why a part of the grammar could not be read. The tokens then stand at the first wrong one.
+/// Why a nonterminal could not be read. After `Syntax` the next token is the first wrong one.
 #[derive(Clone, Copy)]
 pub enum Fault {
     Syntax,

@@ -1,5 +1,6 @@
-/// What a step gave. Where it failed, what was read before is dropped, each value by one call, and the
-/// function fails. Proofs of functions that read step after step are much shorter so than with `?`.
+/// What a step gave. Where it failed, what was read before is dropped, each value by one call, and
+/// the function fails. Proofs of functions that read step after step are much shorter so than with
+/// `?`.
 macro_rules! try_with {
     ($step:expr; $($held:ident),+) => {
         match $step {

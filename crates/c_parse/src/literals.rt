@@ -58,7 +58,8 @@ impl<'a> Tokens<'a> {
 
     /// An integer constant.
     pub fn number(&mut self, fuel: usize) -> Result<Expr, Fault>
-        ensures { Gives expr_tree (begun (read fuel) (Some production.Number) self.old) result self.new }
+        ensures { Gives expr_tree (begun (read fuel) (Some production.Number) self.old) result
+            self.new }
     {
         match self.peek_number() {
             Some((value, unsigned)) => {
@@ -75,7 +76,8 @@ impl<'a> Tokens<'a> {
 
     /// A character constant.
     pub fn character(&mut self, fuel: usize) -> Result<Expr, Fault>
-        ensures { Gives expr_tree (begun (read fuel) (Some production.Character) self.old) result self.new }
+        ensures { Gives expr_tree (begun (read fuel) (Some production.Character) self.old) result
+            self.new }
     {
         match self.peek_char() {
             Some(value) => {
@@ -102,7 +104,8 @@ impl<'a> Tokens<'a> {
 
     /// String literals, as many as follow one another.
     pub fn string_literals(&mut self, fuel: usize) -> Result<Expr, Fault>
-        ensures { Gives expr_tree (begun (read fuel) (Some production.Text) self.old) result self.new }
+        ensures { Gives expr_tree (begun (read fuel) (Some production.Text) self.old) result
+            self.new }
     {
         let first = self.literal()?;
         let more = try_with!(self.more_literals(fuel); first);

@@ -160,7 +160,8 @@ fn is_counted(kind: &TokenKind) -> bool
 
 /// The offset of the first token after which the nesting is deeper than 200, if there is one.
 pub fn first_too_deep(tokens: &[Token]) -> Option<u32>
-    ensures { MatchOption result (depth (kinds tokens.now) ≤ most_nesting) (λ at. FirstTooDeep tokens.now at) }
+    ensures { MatchOption result (depth (kinds tokens.now) ≤ most_nesting) (λ at. FirstTooDeep
+        tokens.now at) }
 {
     let mut counters = Counters::new();
     for (i, token) in tokens.iter().enumerate() {

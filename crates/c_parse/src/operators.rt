@@ -19,7 +19,8 @@ use crate::tokens::Tokens;
 use c_ast::{AssignOp, BinaryOp, Expr, Selection, IncDec, UnaryOp};
 use c_lex::{Keyword, Punct, TokenKind};
 
-/// The operands that may stand somewhere, the tightest first: each precedence has those of the ranks before it too.
+/// The operands that may stand somewhere, the tightest first: each precedence has those of the
+/// ranks before it too.
 #[derive(Clone, Copy)]
 pub enum Precedence {
     Unary,
@@ -67,7 +68,8 @@ pub enum Suffix {
 impl Tokens<'_> {
     /// How an operand of this precedence begins here.
     pub fn operand_start(&self, precedence: Precedence) -> Option<OperandStart>
-        ensures production { option_map operand_production result ≡ start (nonterminal_of precedence) (head self.now) (typed self.now) }
+        ensures production { option_map operand_production result ≡ start (nonterminal_of
+            precedence) (head self.now) (typed self.now) }
         ensures operator { IfSome result (λ s. StartsAt s (head self.now)) }
     {
         match self.peek() {
@@ -87,7 +89,8 @@ impl Tokens<'_> {
 
     /// How an operand goes on here after `left`, where one of this precedence is to stand.
     pub fn suffix_after(&self, precedence: Precedence, left: &Expr) -> Option<Suffix>
-        ensures production { option_map suffix_production result ≡ next (nonterminal_of precedence) (production_of (expr_tree left.now)) (head self.now) }
+        ensures production { option_map suffix_production result ≡ next (nonterminal_of precedence)
+            (production_of (expr_tree left.now)) (head self.now) }
         ensures operator { IfSome result (λ s. head self.now ≡ Some (kind.Punct (suffix_mark s))) }
     {
         match self.suffix() {
@@ -98,7 +101,8 @@ impl Tokens<'_> {
 
     /// The operator that comes next, if one does.
     fn suffix(&self) -> Option<Suffix>
-        ensures production { option_map suffix_production result ≡ option_and_then predict.suffix (head self.now) }
+        ensures production { option_map suffix_production result ≡ option_and_then predict.suffix
+            (head self.now) }
         ensures operator { IfSome result (λ s. head self.now ≡ Some (kind.Punct (suffix_mark s))) }
     {
         match self.peek() {
@@ -194,7 +198,8 @@ fn binary_operator(punct: Punct) -> Option<BinaryOp>
     }
 }
 
-/// Whether an operation with this operator may stand where an operand of the precedence is to stand.
+/// Whether an operation with this operator may stand where an operand of the precedence is to
+/// stand.
 fn fits(precedence: Precedence, suffix: Suffix) -> bool
     ensures { result ≡ allowed (nonterminal_of precedence) (suffix_production suffix) }
 {
@@ -203,20 +208,22 @@ fn fits(precedence: Precedence, suffix: Suffix) -> bool
 
 /// Whether an expression may stand in front of this operator.
 fn takes(suffix: Suffix, left: &Expr) -> bool
-    ensures { result ≡ allowed (predict.left (suffix_production suffix)) (production_of (expr_tree left.now)) }
+    ensures { result ≡ allowed (predict.left (suffix_production suffix)) (production_of (expr_tree
+        left.now)) }
 {
     is_within(precedence_of(left), left_precedence(suffix))
 }
 
-/// Whether operands of the inner precedence may stand where one of the outer is to stand. None is that of postfix
-/// expressions, which bind tightest.
+/// Whether operands of the inner precedence may stand where one of the outer is to stand. None is
+/// that of postfix expressions, which bind tightest.
 fn is_within(inner: Option<Precedence>, outer: Option<Precedence>) -> bool
-    ensures { result ≡ nat_le (nonterminal_number (operand_of inner)) (nonterminal_number (operand_of outer)) }
+    ensures { result ≡ nat_le (nonterminal_number (operand_of inner)) (nonterminal_number
+        (operand_of outer)) }
 {
     looseness(inner) <= looseness(outer)
 }
 
-/// The place of a precedence in their order, the tightest first.
+/// The index of a precedence in their order, the tightest first.
 fn looseness(precedence: Option<Precedence>) -> u8
     ensures { result ≡ nonterminal_number (operand_of precedence) }
 {

@@ -12,8 +12,9 @@ use std::alloc::Global;
 
 /// The tree of the tokens of a source of `length` bytes.
 ///
-/// A keyword that is left out is told before nesting that is too deep, and that before a token with which no program
-/// goes on, or the end of the source where the tokens are only the beginning of programs.
+/// A keyword that is left out is reported before nesting that is too deep, and that before a token
+/// with which no program goes on, or the end of the source where the tokens are only the beginning
+/// of programs.
 pub fn parse(alloc: Global, tokens: &[Token], length: u32) -> Result<Unit, ParseFault>
     ensures { Answers tokens.now length result }
 {

@@ -53,9 +53,10 @@ impl Tokens<'_> {
         Err(Fault::OutOfFuel)
     }
 
-    /// `char`, `int` or `short`, of which `word` is to come next.
+    /// `char`, `int` or `short`, of which this one is to come next.
     fn base_by(&mut self, fuel: usize, word: BaseKeyword) -> Result<Base, Fault>
-        ensures { Gives base_tree (begun (read fuel) (Some (base_production word)) self.old) result self.new }
+        ensures { Gives base_tree (begun (read fuel) (Some (base_production word)) self.old) result
+            self.new }
     {
         match word {
             BaseKeyword::Char => {
@@ -76,7 +77,8 @@ impl Tokens<'_> {
 
     /// `int` after `short`, where it is written.
     fn short_int(&mut self, fuel: usize) -> Result<Option<Span>, Fault>
-        ensures { Gives (opt production.ShortInt (λ span. word w.Int span ∷ [])) (read fuel (Opt production.ShortInt) self.old) result self.new }
+        ensures { Gives (opt production.ShortInt (λ span. word w.Int span ∷ [])) (read fuel (Opt
+            production.ShortInt) self.old) result self.new }
     {
         if fuel == 0 {
             return Err(Fault::OutOfFuel);
@@ -103,7 +105,8 @@ impl Tokens<'_> {
 
     /// What follows `signed` or `unsigned`, where anything does.
     fn signed_base(&mut self, fuel: usize) -> Result<Option<Base>, Fault>
-        ensures { Gives (opt production.SignedBase (λ b. base_tree b ∷ [])) (read fuel (Opt production.SignedBase) self.old) result self.new }
+        ensures { Gives (opt production.SignedBase (λ b. base_tree b ∷ [])) (read fuel (Opt
+            production.SignedBase) self.old) result self.new }
     {
         if fuel == 0 {
             return Err(Fault::OutOfFuel);
@@ -131,7 +134,8 @@ impl Tokens<'_> {
 
     /// Type specifiers, which are to begin as `start` says.
     fn spec_by(&mut self, fuel: usize, start: SpecStart) -> Result<Spec, Fault>
-        ensures tree { Gives spec_tree (begun (read fuel) (Some (spec_production start)) self.old) result self.new }
+        ensures tree { Gives spec_tree (begun (read fuel) (Some (spec_production start)) self.old)
+            result self.new }
         ensures structure { IfOk result (λ s. is_struct s ≡ starts_struct start) }
     {
         match start {

@@ -51,7 +51,8 @@ impl IfThen {
     }
 
     fn with_else(self, otherwise: Boxed<Else>) -> Stmt
-        ensures { stmt_tree result ≡ node production.IfElse (if_tree self ∷ else_children otherwise) }
+        ensures { stmt_tree result ≡ node production.IfElse (if_tree self ∷ else_children
+            otherwise) }
     {
         Stmt::If {
             keyword: self.keyword,
@@ -114,7 +115,8 @@ impl Tokens<'_> {
     }
 
     fn case_label(&mut self, fuel: usize) -> Result<Label, Fault>
-        ensures { Gives label_tree (begun (read fuel) (Some production.Case) self.old) result self.new }
+        ensures { Gives label_tree (begun (read fuel) (Some production.Case) self.old) result
+            self.new }
     {
         let keyword = self.expect_keyword(Keyword::Case)?;
         let value = self.operand(fuel, Precedence::Conditional)?;
@@ -128,7 +130,8 @@ impl Tokens<'_> {
 
     /// Labels after the first one.
     fn labels(&mut self, fuel: usize) -> Result<Items<Label>, Fault>
-        ensures { Gives labels_tree (read fuel (Many production.MoreLabels) self.old) result self.new }
+        ensures { Gives labels_tree (read fuel (Many production.MoreLabels) self.old) result
+            self.new }
     {
         if fuel == 0 {
             return Err(Fault::OutOfFuel);
@@ -146,7 +149,8 @@ impl Tokens<'_> {
 
     /// A statement that begins so and holds no other.
     fn simple_statement(&mut self, fuel: usize, start: SimpleStart) -> Result<Stmt, Fault>
-        ensures { Gives stmt_tree (begun (read fuel) (Some (simple_production start)) self.old) result self.new }
+        ensures { Gives stmt_tree (begun (read fuel) (Some (simple_production start)) self.old)
+            result self.new }
     {
         match start {
             SimpleStart::Null => {
@@ -169,7 +173,8 @@ impl Tokens<'_> {
     }
 
     fn expression_statement(&mut self, fuel: usize) -> Result<Stmt, Fault>
-        ensures { Gives stmt_tree (begun (read fuel) (Some production.Expression) self.old) result self.new }
+        ensures { Gives stmt_tree (begun (read fuel) (Some production.Expression) self.old) result
+            self.new }
     {
         let value = self.expression(fuel)?;
         let semicolon = try_with!(self.expect(Punct::Semicolon); value);
@@ -177,7 +182,8 @@ impl Tokens<'_> {
     }
 
     fn return_statement(&mut self, fuel: usize) -> Result<Stmt, Fault>
-        ensures { Gives stmt_tree (begun (read fuel) (Some production.Return) self.old) result self.new }
+        ensures { Gives stmt_tree (begun (read fuel) (Some production.Return) self.old) result
+            self.new }
     {
         let keyword = self.expect_keyword(Keyword::Return)?;
         let value = self.clause(fuel)?;
@@ -225,7 +231,8 @@ impl Tokens<'_> {
     #[cycle(statement)]
     fn if_statement(&mut self, fuel: usize) -> Result<Stmt, Fault>
         requires { 0 < fuel }
-        ensures { Gives stmt_tree (and_then (begun (read (fuel - 1)) (Some production.If) self.old) (turns (read (fuel - 1)) fuel nonterminal.Stmt)) result self.new }
+        ensures { Gives stmt_tree (and_then (begun (read (fuel - 1)) (Some production.If) self.old)
+            (turns (read (fuel - 1)) fuel nonterminal.Stmt)) result self.new }
     {
         let keyword = self.expect_keyword(Keyword::If)?;
         let opening = self.expect(Punct::LParen)?;
@@ -248,7 +255,8 @@ impl Tokens<'_> {
     #[cycle(statement)]
     fn if_rest(&mut self, fuel: usize, head: IfThen) -> Result<Stmt, Fault>
         requires { 0 < fuel }
-        ensures { Gives stmt_tree (turns (read (fuel - 1)) fuel nonterminal.Stmt (if_tree head) self.old) result self.new }
+        ensures { Gives stmt_tree (turns (read (fuel - 1)) fuel nonterminal.Stmt (if_tree head)
+            self.old) result self.new }
     {
         if !self.sees_keyword(Keyword::Else) {
             return Ok(head.alone());
@@ -261,7 +269,8 @@ impl Tokens<'_> {
 
     /// `else` and its statement on the heap.
     fn boxed_else(&self, keyword: Span, body: Boxed<Stmt>) -> Result<Boxed<Else>, Fault>
-        ensures children { IfOk result (λ e. else_children e ≡ word w.Else keyword ∷ stmt_tree body ∷ []) }
+        ensures children { IfOk result (λ e. else_children e ≡ word w.Else keyword ∷ stmt_tree body
+            ∷ []) }
         ensures error { IfErr result (λ e. e ≡ fault.NoMemory) }
     {
         Ok(Boxed::new(self.alloc, Else { keyword, body })?)
@@ -269,7 +278,8 @@ impl Tokens<'_> {
 
     #[cycle(statement)]
     fn while_statement(&mut self, fuel: usize) -> Result<Stmt, Fault>
-        ensures { Gives stmt_tree (begun (read fuel) (Some production.While) self.old) result self.new }
+        ensures { Gives stmt_tree (begun (read fuel) (Some production.While) self.old) result
+            self.new }
     {
         let keyword = self.expect_keyword(Keyword::While)?;
         let open = self.expect(Punct::LParen)?;
@@ -287,7 +297,8 @@ impl Tokens<'_> {
 
     #[cycle(statement)]
     fn do_statement(&mut self, fuel: usize) -> Result<Stmt, Fault>
-        ensures { Gives stmt_tree (begun (read fuel) (Some production.DoWhile) self.old) result self.new }
+        ensures { Gives stmt_tree (begun (read fuel) (Some production.DoWhile) self.old) result
+            self.new }
     {
         let keyword = self.expect_keyword(Keyword::Do)?;
         let body = self.boxed_statement(fuel)?;
@@ -309,7 +320,8 @@ impl Tokens<'_> {
 
     #[cycle(statement)]
     fn for_statement(&mut self, fuel: usize) -> Result<Stmt, Fault>
-        ensures { Gives stmt_tree (begun (read fuel) (Some production.For) self.old) result self.new }
+        ensures { Gives stmt_tree (begun (read fuel) (Some production.For) self.old) result
+            self.new }
     {
         let keyword = self.expect_keyword(Keyword::For)?;
         let open = self.expect(Punct::LParen)?;
@@ -337,7 +349,8 @@ impl Tokens<'_> {
 
     #[cycle(statement)]
     fn switch_statement(&mut self, fuel: usize) -> Result<Stmt, Fault>
-        ensures { Gives stmt_tree (begun (read fuel) (Some production.Switch) self.old) result self.new }
+        ensures { Gives stmt_tree (begun (read fuel) (Some production.Switch) self.old) result
+            self.new }
     {
         let keyword = self.expect_keyword(Keyword::Switch)?;
         let open = self.expect(Punct::LParen)?;
@@ -391,7 +404,9 @@ impl Tokens<'_> {
     /// The statements after these labels.
     #[cycle(statement)]
     fn labelled(&mut self, fuel: usize, front: Label, labels: Items<Label>) -> Result<Group, Fault>
-        ensures { Gives group_tree (and_then (read fuel nonterminal.Stmt self.old) (λ t k. and_then (read fuel (Many production.MoreStmts) k) (λ u j. Read (node production.Group (label_tree front ∷ labels_tree labels ∷ t ∷ u ∷ [])) j))) result self.new }
+        ensures { Gives group_tree (and_then (read fuel nonterminal.Stmt self.old) (λ t k. and_then
+            (read fuel (Many production.MoreStmts) k) (λ u j. Read (node production.Group
+            (label_tree front ∷ labels_tree labels ∷ t ∷ u ∷ [])) j))) result self.new }
     {
         let first = try_with!(self.boxed_statement(fuel); front);
         let more = try_with!(self.more_statements(fuel); front);
@@ -406,7 +421,8 @@ impl Tokens<'_> {
     /// Statements after the first one of a group.
     #[cycle(statement)]
     fn more_statements(&mut self, fuel: usize) -> Result<Items<Stmt>, Fault>
-        ensures { Gives stmts_tree (read fuel (Many production.MoreStmts) self.old) result self.new }
+        ensures { Gives stmts_tree (read fuel (Many production.MoreStmts) self.old) result self.new
+            }
     {
         if fuel == 0 {
             return Err(Fault::OutOfFuel);
