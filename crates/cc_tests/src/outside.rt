@@ -1,9 +1,15 @@
-use super::*;
+//! Sources, sinks and files that fail at the listed calls, in memory and of the system.
+
+use cc_io::{
+    DirFiles, Failed, Files, MemFiles, MemSink, MemSource, NoFailSource, Sink, Source, StdSink,
+    StdSource, save,
+};
 use std::io::{ErrorKind, Read, Write};
 use std::test::Fail;
 use std::{env, fs, io, process};
 
-// A reader and writer of the system that moves a byte a call, fails at the third and takes nothing at the fourth.
+// A reader and writer of the system that moves a byte a call, fails at the third and takes nothing
+// at the fourth.
 #[derive(Drop)]
 struct Flaky {
     calls: u8,

@@ -19,6 +19,8 @@ take-shorter : (n k : ℕ) (xs : List ℕ) → n ≤ length (take k xs) → take
 take-shorter n k xs fits = sym (take-append-le n (take k xs) (drop k xs) fits) ∙ ap (take n) (take-append-drop k xs)
 
 -- the next n bytes after the first `at`
-pub append-next : (before now after : Option (List ℕ)) (piece : List ℕ) (at n room : ℕ) → n ≤ length (take room (drop at piece)) → now ≡ append before (take at piece) → after ≡ append now (take n (take room (drop at piece))) → after ≡ append before (take (at + n) piece)
+pub append-next : (before now after : Option (List ℕ)) (piece : List ℕ) (at n room : ℕ) → n ≤ length (take room (drop at piece)) → now ≡ append before (take at piece)
+    → after ≡ append now (take n (take room (drop at piece))) → after ≡ append before (take (at + n) piece)
 append-next before now after piece at n room fits so_far next =
-    next ∙ ap (λ bytes. append now bytes) (take-shorter n room (drop at piece) fits) ∙ ap (λ held. append held (take n (drop at piece))) so_far ∙ append-append before (take at piece) (take n (drop at piece)) ∙ ap (append before) (sym (take-add at n piece))
+    next ∙ ap (λ bytes. append now bytes) (take-shorter n room (drop at piece) fits) ∙ ap (λ held. append held (take n (drop at piece))) so_far
+    ∙ append-append before (take at piece) (take n (drop at piece)) ∙ ap (append before) (sym (take-add at n piece))

@@ -1,4 +1,4 @@
--- Of a content that is not told every call says what it has to.
+-- What a call has to say of a content holds where that content is unknown.
 use Rattle.std.proofs.Common.{ℕ, Result, Ok, Err, IfOk, OnErr}
 
 pub if_ok-always : {E : Type 0} (r : Result ℕ E) (P : ℕ → Type 0) → ((n : ℕ) → P n) → IfOk r P
