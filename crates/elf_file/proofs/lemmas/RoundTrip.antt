@@ -3,16 +3,16 @@ use Rattle.std.proofs.Common.{◌≡◌, ℕ, ◌+◌, ◌-◌, ◌≤◌, ◌<�
 use Rattle.std.proofs.lemmas.List.{drop_at, take_at, take_all}
 use Rattle.std.proofs.lemmas.Bool.{le-leb, le-ltb}
 use Rattle.std.specs.List.{slice_range}
-use Rattle.elf_file.specs.Image.{Parts, IsPlaced, text_at, next_page, data_size, memory_limit}
+use Rattle.elf_file.specs.Image.{Sections, IsPlaced, text_at, next_page, data_size, memory_limit}
 use Rattle.elf_file.specs.Header.{ProgramHeader}
 use Rattle.elf_file.specs.Written.{fixed_offset, data_offset, text_header, fixed_header, data_header, program_headers, headers, padded, file_of}
 use Rattle.elf_file.specs.Loading.{LoadedSegment, headers_end, is_contained, is_apart, are_separate, are_loadable, total_memory, file_limit, fault_of, segment_at, executable}
 use Rattle.elf_file.specs.Laws.{text_segment, fixed_segment, data_segment, executable_for, WrittenLoads}
-use Rattle.elf_file.proofs.WrittenLemmas.{le-next_page, headers-parts, lengths}
+use Rattle.elf_file.proofs.WrittenLemmas.{le-next_page, headers-sections, lengths}
 use Rattle.elf_file.proofs.ReadBack.{Read, read-headers}
 
--- the numbers of a placed image, with at most a page between its parts
-pub record Places (i : Parts) : Type 0 where
+-- the numbers of a placed image, with at most a page between its sections
+pub record Places (i : Sections) : Type 0 where
   pub text_end : 65536 + length i.text ≤ i.fixed_at
   pub fixed_end : i.fixed_at + length i.fixed ≤ i.data_at
   pub text_file : 4096 + length i.text ≤ fixed_offset i
@@ -26,7 +26,7 @@ pub record Places (i : Parts) : Type 0 where
 next_page-le : (n : ℕ) → next_page n ≤ n + 4095
 next_page-le n = omega arith
 
-pub places : (i : Parts) → IsPlaced i → Places i
+pub places : (i : Sections) → IsPlaced i → Places i
 places i p =
     let a = p.fixed_place in
     let a1 = le-next_page (65536 + length i.text) in
@@ -78,7 +78,7 @@ unfolding is_contained
 contained size h a b c =
     rw (le-leb h.file_size h.memory_size a) rw (le-leb (h.offset + h.file_size) size b) rw (le-leb (h.at + h.memory_size) (2 ^ 32) c) refl
 
--- a part of a list between two others
+-- the middle of a list
 part-of : (a x c : List ℕ) (n m : ℕ) → length a ≡ n → m ≡ n + length x → slice_range (a ++ (x ++ c)) n m ≡ x
 part-of a x c n m len end =
     rw (drop_at a (x ++ c) n len) (take_at x c (m - n) (omega arith))
@@ -96,36 +96,36 @@ text-between h t z f g = append_assoc (h ++ (t ++ z)) f g ∙ append_assoc h (t 
 fixed-between : (a f z g : List ℕ) → a ++ (f ++ z) ++ g ≡ a ++ (f ++ (z ++ g))
 fixed-between a f z g = append_assoc a (f ++ z) g ∙ ap (λ l. a ++ l) (append_assoc f z g)
 
--- the bytes after a part, up to its page
+-- the bytes after a section, up to its page
 gap : List ℕ → List ℕ
 gap xs = replicate (next_page (length xs) - length xs) 0
 
-text-back : (i : Parts) → slice_range (file_of i) 4096 (4096 + length i.text) ≡ i.text
+text-back : (i : Sections) → slice_range (file_of i) 4096 (4096 + length i.text) ≡ i.text
 unfolding file_of gap
 text-back i =
     rw (text-between (padded (headers i)) i.text (gap i.text) (padded i.fixed) i.globals)
     (part-of (padded (headers i)) i.text (gap i.text ++ (padded i.fixed ++ i.globals)) 4096 (4096 + length i.text) (lengths i).head refl)
 
-fixed-back : (i : Parts) → slice_range (file_of i) (fixed_offset i) (fixed_offset i + length i.fixed) ≡ i.fixed
+fixed-back : (i : Sections) → slice_range (file_of i) (fixed_offset i) (fixed_offset i + length i.fixed) ≡ i.fixed
 unfolding file_of gap
 fixed-back i =
     let before : List ℕ = padded (headers i) ++ padded i.text in
     rw (fixed-between before i.fixed (gap i.fixed) i.globals)
     (part-of before i.fixed (gap i.fixed ++ i.globals) (fixed_offset i) (fixed_offset i + length i.fixed) (lengths i).with_text refl)
 
-globals-back : (i : Parts) → slice_range (file_of i) (data_offset i) (data_offset i + length i.globals) ≡ i.globals
+globals-back : (i : Sections) → slice_range (file_of i) (data_offset i) (data_offset i + length i.globals) ≡ i.globals
 unfolding file_of
 globals-back i =
     let before : List ℕ = padded (headers i) ++ padded i.text ++ padded i.fixed in
     last-of before i.globals (data_offset i) (data_offset i + length i.globals) (lengths i).with_fixed refl
 
-length-file : (i : Parts) → length (file_of i) ≡ data_offset i + length i.globals
+length-file : (i : Sections) → length (file_of i) ≡ data_offset i + length i.globals
 unfolding file_of
 length-file i =
     let before : List ℕ = padded (headers i) ++ padded i.text ++ padded i.fixed in
     length-append before i.globals ∙ ap (λ n. n + length i.globals) (lengths i).with_fixed
 
-headers-back : (i : Parts) → Places i → Read (file_of i) (program_headers i)
+headers-back : (i : Sections) → Places i → Read (file_of i) (program_headers i)
 unfolding file_of gap
 headers-back i q =
     let rest : List ℕ = gap (headers i) ++ (padded i.text ++ (padded i.fixed ++ i.globals)) in
@@ -143,7 +143,7 @@ headers-back i q =
     (record { kind = lit< tt; offset = omega arith; at = omega arith; file_size = omega arith; memory_size = omega arith; flags = lit< tt })
     (record { kind = lit< tt; offset = omega arith; at = omega arith; file_size = omega arith; memory_size = omega arith; flags = lit< tt })
     refl refl refl
-    (head-first (headers i) (gap (headers i)) (padded i.text) (padded i.fixed) i.globals ∙ ap (λ l. l ++ rest) (headers-parts i))
+    (head-first (headers i) (gap (headers i)) (padded i.text) (padded i.fixed) i.globals ∙ ap (λ l. l ++ rest) (headers-sections i))
 
 are_loadable-if : (size : ℕ) (b : Bool) (t f d : ProgramHeader) → is_contained size t ≡ true → is_contained size f ≡ true → is_contained size d ≡ true
     → is_apart t f ≡ true → is_apart t d ≡ true → is_apart f d ≡ true → t.memory_size + f.memory_size + d.memory_size ≤ memory_limit
@@ -154,7 +154,7 @@ are_loadable-if size true t f d c1 c2 c3 a1 a2 a3 sum =
 are_loadable-if size false t f d c1 c2 c3 a1 a2 a3 sum =
     rw (are_separate-three size t f d c1 c2 c3 a1 a2 a3) rw (le-leb (total_memory (t ∷ f ∷ d ∷ [])) memory_limit (omega arith)) refl
 
-sound-file : (i : Parts) → Places i → fault_of (file_of i) ≡ None
+sound-file : (i : Sections) → Places i → fault_of (file_of i) ≡ None
 unfolding fault_of
 sound-file i q =
     let read = headers-back i q in
@@ -193,7 +193,7 @@ same-segment : (at size flags : ℕ) (bytes part : List ℕ) → bytes ≡ part
     → Path LoadedSegment (record { at = at; size = size; flags = flags; bytes = bytes }) (record { at = at; size = size; flags = flags; bytes = part })
 same-segment at size flags bytes part e = rw e refl
 
-executable-back : (i : Parts) → Places i → executable (file_of i) ≡ executable_for i
+executable-back : (i : Sections) → Places i → executable (file_of i) ≡ executable_for i
 unfolding executable executable_for
 executable-back i q =
     let read = headers-back i q in
