@@ -3,8 +3,8 @@
 use super::*;
 use std::process::Abort;
 
-fn both_ways(rt: &impl Abort, rows: &[(u32, Instr)]) {
-    for (word, i) in rows {
+fn both_ways(rt: &impl Abort, encodings: &[(u32, Instr)]) {
+    for (word, i) in encodings {
         assert_eq!(rt; encode(*i), *word);
         assert_eq!(rt; decode(*word), Some(*i));
     }
@@ -12,7 +12,7 @@ fn both_ways(rt: &impl Abort, rows: &[(u32, Instr)]) {
 
 #[test]
 fn start_code_both_ways(rt: HostRuntime) {
-    let rows = [
+    let encodings = [
         (
             0x0001_2437,
             Instr::Lui {
@@ -68,12 +68,12 @@ fn start_code_both_ways(rt: HostRuntime) {
         ),
         (0x0000_0073, Instr::Ecall),
     ];
-    both_ways(&rt, &rows);
+    both_ways(&rt, &encodings);
 }
 
 #[test]
 fn upper_and_jumps_both_ways(rt: HostRuntime) {
-    let rows = [
+    let encodings = [
         (
             0xffff_ffb7,
             Instr::Lui {
@@ -119,12 +119,12 @@ fn upper_and_jumps_both_ways(rt: HostRuntime) {
             },
         ),
     ];
-    both_ways(&rt, &rows);
+    both_ways(&rt, &encodings);
 }
 
 #[test]
 fn branches_both_ways(rt: HostRuntime) {
-    let rows = [
+    let encodings = [
         (
             0x0005_0663,
             Instr::Beq {
@@ -158,12 +158,12 @@ fn branches_both_ways(rt: HostRuntime) {
             },
         ),
     ];
-    both_ways(&rt, &rows);
+    both_ways(&rt, &encodings);
 }
 
 #[test]
 fn memory_both_ways(rt: HostRuntime) {
-    let rows = [
+    let encodings = [
         (
             0xfff5_8503,
             Instr::Lb {
@@ -237,12 +237,12 @@ fn memory_both_ways(rt: HostRuntime) {
             },
         ),
     ];
-    both_ways(&rt, &rows);
+    both_ways(&rt, &encodings);
 }
 
 #[test]
 fn immediates_both_ways(rt: HostRuntime) {
-    let rows = [
+    let encodings = [
         (
             0xfff0_0513,
             Instr::Addi {
@@ -301,12 +301,12 @@ fn immediates_both_ways(rt: HostRuntime) {
         ),
         (0x0010_0073, Instr::Ebreak),
     ];
-    both_ways(&rt, &rows);
+    both_ways(&rt, &encodings);
 }
 
 #[test]
 fn registers_both_ways(rt: HostRuntime) {
-    let rows = [
+    let encodings = [
         (
             0x4051_0133,
             Instr::Sub {
@@ -364,7 +364,7 @@ fn registers_both_ways(rt: HostRuntime) {
             },
         ),
     ];
-    both_ways(&rt, &rows);
+    both_ways(&rt, &encodings);
 }
 
 #[test]

@@ -1,4 +1,4 @@
--- The instruction of a word: the first of the rows of RV32I and RV32M that the word's fields match
+-- The instruction of a word: that of the first encoding of RV32I and RV32M that the word's fields match
 -- (RISC-V Unprivileged ISA 20191213, chapter 24).
 use Rattle.std.specs.Prelude.{ℕ, Bool, ◌==◌, ◌&&◌, if◌then◌else◌, Option, Some, None, List, [], ◌∷◌}
 use Rattle.std.specs.List.{list_any}
@@ -6,7 +6,7 @@ use Rattle.rv_isa.specs.Formats.{opcode_of, rd_of, funct3_of, rs1_of, rs2_of, fu
 use Rattle.rv_isa.specs.declared.instruction.Instr.{Instr}
 use Rattle.rv_isa.specs.declared.instruction.Instr.TheVariants.{Lui, Auipc, Jal, Jalr, Beq, Bne, Blt, Bge, Bltu, Bgeu, Lb, Lh, Lw, Lbu, Lhu, Sb, Sh, Sw, Addi, Slti, Sltiu, Xori, Ori, Andi, Slli, Srli, Srai, Add, Sub, Sll, Slt, Sltu, Xor, Srl, Sra, Or, And, Mul, Mulh, Mulhsu, Mulhu, Div, Divu, Rem, Remu, Fence, Ecall, Ebreak}
 
--- which fields tell a row from the others, and what they are
+-- which fields distinguish an encoding from the others, and their values
 pub data Pattern : Type 0 where
   by_opcode : (opcode : ℕ) → Pattern
   by_funct3 : (opcode funct3 : ℕ) → Pattern
@@ -40,8 +40,8 @@ u_fields made w = made (rd_of w) (u_imm w)
 abbrev pub j_fields : (ℕ → ℕ → Instr) → ℕ → Instr
 j_fields made w = made (rd_of w) (j_imm w)
 
-abbrev pub rows : List (Pattern × (ℕ → Instr))
-rows =
+abbrev pub encodings : List (Pattern × (ℕ → Instr))
+encodings =
     (by_opcode 0x37, u_fields Lui) ∷
     (by_opcode 0x17, u_fields Auipc) ∷
     (by_opcode 0x6f, j_fields Jal) ∷
@@ -91,14 +91,14 @@ rows =
     (by_word 0x00000073, λ _. Ecall) ∷
     (by_word 0x00100073, λ _. Ebreak) ∷ []
 
--- whether any row matches
-abbrev pub some_row_matches : ℕ → Bool
-some_row_matches w = list_any (λ row. matches row.0 w) rows
+-- whether any encoding matches
+abbrev pub some_encoding_matches : ℕ → Bool
+some_encoding_matches w = list_any (λ encoding. matches encoding.0 w) encodings
 
 abbrev pub first_match : List (Pattern × (ℕ → Instr)) → ℕ → Option Instr
 first_match [] w = None
-first_match (row ∷ others) w = if matches row.0 w then Some (row.1 w) else first_match others w
+first_match (encoding ∷ others) w = if matches encoding.0 w then Some (encoding.1 w) else first_match others w
 
--- the instruction of the first row that matches
+-- the instruction of the first encoding that matches
 unfoldable pub decoded : ℕ → Option Instr
-decoded w = first_match rows w
+decoded w = first_match encodings w

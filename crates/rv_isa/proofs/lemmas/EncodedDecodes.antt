@@ -1,13 +1,13 @@
 -- Decoding the word of an instruction gives the instruction.
 use Rattle.std.proofs.Common.{◌≡◌, ℕ, ◌<◌, Bool, ◌==◌, ◌&&◌, if◌then◌else◌, Option, Some, None, List, [], ◌∷◌, refl, arith, lit<}
 use Rattle.rv_isa.specs.Formats.{r_type, i_type, s_type, b_type, u_type, j_type, packed, IsInRange, opcode_of, rd_of, funct3_of, rs1_of, rs2_of, funct7_of, i_imm, s_imm, b_imm, u_imm, j_imm}
-use Rattle.rv_isa.specs.Rows.{Pattern, by_opcode, by_funct3, by_funct7, by_word, rows, r_fields, i_fields, s_fields, b_fields, u_fields, j_fields, decoded}
+use Rattle.rv_isa.specs.Encodings.{Pattern, by_opcode, by_funct3, by_funct7, by_word, encodings, r_fields, i_fields, s_fields, b_fields, u_fields, j_fields, decoded}
 use Rattle.rv_isa.specs.Words.{word_of, FitsFormat}
 use Rattle.rv_isa.specs.RoundTrip.{EncodedDecodes}
 use Rattle.rv_isa.specs.declared.instruction.Instr.{Instr}
 use Rattle.rv_isa.specs.declared.instruction.Instr.TheVariants.{Lui, Auipc, Jal, Jalr, Beq, Bne, Blt, Bge, Bltu, Bgeu, Lb, Lh, Lw, Lbu, Lhu, Sb, Sh, Sw, Addi, Slti, Sltiu, Xori, Ori, Andi, Slli, Srli, Srai, Add, Sub, Sll, Slt, Sltu, Xor, Srl, Sra, Or, And, Mul, Mulh, Mulhsu, Mulhu, Div, Divu, Rem, Remu, Fence, Ecall, Ebreak}
 
--- `matches` and `decoded`, of the fields that tell rows apart as numbers of their own
+-- `matches` and `decoded`, of the fields that distinguish encodings as numbers of their own
 abbrev matches_at : (opcode funct3 funct7 w : ℕ) → Pattern → Bool
 matches_at opcode funct3 funct7 w (by_opcode o) = opcode == o
 matches_at opcode funct3 funct7 w (by_funct3 o f) = opcode == o && funct3 == f
@@ -16,13 +16,13 @@ matches_at opcode funct3 funct7 w (by_word v) = w == v
 
 abbrev first_match_at : (opcode funct3 funct7 w : ℕ) → List (Pattern × (ℕ → Instr)) → Option Instr
 first_match_at opcode funct3 funct7 w [] = None
-first_match_at opcode funct3 funct7 w (row ∷ others) =
-    if matches_at opcode funct3 funct7 w row.0
-    then Some (row.1 w)
+first_match_at opcode funct3 funct7 w (encoding ∷ others) =
+    if matches_at opcode funct3 funct7 w encoding.0
+    then Some (encoding.1 w)
     else first_match_at opcode funct3 funct7 w others
 
 unfoldable decoded_at : (opcode funct3 funct7 w : ℕ) → Option Instr
-decoded_at opcode funct3 funct7 w = first_match_at opcode funct3 funct7 w rows
+decoded_at opcode funct3 funct7 w = first_match_at opcode funct3 funct7 w encodings
 
 decoded-fields : (w : ℕ) → decoded w ≡ decoded_at (opcode_of w) (funct3_of w) (funct7_of w) w
 unfolding decoded decoded_at
@@ -33,7 +33,7 @@ r_decodes :
     → ((w : ℕ) → decoded_at op f3 f7 w ≡ Some (r_fields made w))
     → (rd rs1 rs2 : ℕ) → IsInRange (r_type f7 rs2 rs1 f3 rd op)
     → decoded (packed (r_type f7 rs2 rs1 f3 rd op)) ≡ Some (made rd rs1 rs2)
-r_decodes made op f3 f7 op_fits f3_fits f7_fits row rd rs1 rs2 fits =
+r_decodes made op f3 f7 op_fits f3_fits f7_fits encoding rd rs1 rs2 fits =
     let w : ℕ = packed (r_type f7 rs2 rs1 f3 rd op) in
     let at_op : opcode_of w ≡ op = omega arith in
     let at_f3 : funct3_of w ≡ f3 = omega arith in
@@ -41,7 +41,7 @@ r_decodes made op f3 f7 op_fits f3_fits f7_fits row rd rs1 rs2 fits =
     let at_rd : rd_of w ≡ rd = omega arith in
     let at_rs1 : rs1_of w ≡ rs1 = omega arith in
     let at_rs2 : rs2_of w ≡ rs2 = omega arith in
-    let matched : decoded_at op f3 f7 w ≡ Some (r_fields made w) = row w in
+    let matched : decoded_at op f3 f7 w ≡ Some (r_fields made w) = encoding w in
     cc (decoded-fields w)
 
 i_decodes :
@@ -49,14 +49,14 @@ i_decodes :
     → ((f7 w : ℕ) → decoded_at op f3 f7 w ≡ Some (i_fields made w))
     → (rd rs1 imm : ℕ) → IsInRange (i_type imm rs1 f3 rd op)
     → decoded (packed (i_type imm rs1 f3 rd op)) ≡ Some (made rd rs1 imm)
-i_decodes made op f3 op_fits f3_fits row rd rs1 imm fits =
+i_decodes made op f3 op_fits f3_fits encoding rd rs1 imm fits =
     let w : ℕ = packed (i_type imm rs1 f3 rd op) in
     let at_op : opcode_of w ≡ op = omega arith in
     let at_f3 : funct3_of w ≡ f3 = omega arith in
     let at_rd : rd_of w ≡ rd = omega arith in
     let at_rs1 : rs1_of w ≡ rs1 = omega arith in
     let at_imm : i_imm w ≡ imm = omega arith in
-    let matched : decoded_at op f3 (funct7_of w) w ≡ Some (i_fields made w) = row (funct7_of w) w in
+    let matched : decoded_at op f3 (funct7_of w) w ≡ Some (i_fields made w) = encoding (funct7_of w) w in
     cc (decoded-fields w)
 
 s_decodes :
@@ -64,14 +64,14 @@ s_decodes :
     → ((f7 w : ℕ) → decoded_at op f3 f7 w ≡ Some (s_fields made w))
     → (rs1 rs2 imm : ℕ) → IsInRange (s_type imm rs2 rs1 f3 op)
     → decoded (packed (s_type imm rs2 rs1 f3 op)) ≡ Some (made rs1 rs2 imm)
-s_decodes made op f3 op_fits f3_fits row rs1 rs2 imm fits =
+s_decodes made op f3 op_fits f3_fits encoding rs1 rs2 imm fits =
     let w : ℕ = packed (s_type imm rs2 rs1 f3 op) in
     let at_op : opcode_of w ≡ op = omega arith in
     let at_f3 : funct3_of w ≡ f3 = omega arith in
     let at_rs1 : rs1_of w ≡ rs1 = omega arith in
     let at_rs2 : rs2_of w ≡ rs2 = omega arith in
     let at_imm : s_imm w ≡ imm = omega arith in
-    let matched : decoded_at op f3 (funct7_of w) w ≡ Some (s_fields made w) = row (funct7_of w) w in
+    let matched : decoded_at op f3 (funct7_of w) w ≡ Some (s_fields made w) = encoding (funct7_of w) w in
     cc (decoded-fields w)
 
 b_decodes :
@@ -79,14 +79,14 @@ b_decodes :
     → ((f7 w : ℕ) → decoded_at op f3 f7 w ≡ Some (b_fields made w))
     → (rs1 rs2 offset : ℕ) → IsInRange (b_type offset rs2 rs1 f3 op)
     → decoded (packed (b_type offset rs2 rs1 f3 op)) ≡ Some (made rs1 rs2 offset)
-b_decodes made op f3 op_fits f3_fits row rs1 rs2 offset fits =
+b_decodes made op f3 op_fits f3_fits encoding rs1 rs2 offset fits =
     let w : ℕ = packed (b_type offset rs2 rs1 f3 op) in
     let at_op : opcode_of w ≡ op = omega arith in
     let at_f3 : funct3_of w ≡ f3 = omega arith in
     let at_rs1 : rs1_of w ≡ rs1 = omega arith in
     let at_rs2 : rs2_of w ≡ rs2 = omega arith in
     let at_imm : b_imm w ≡ offset = omega arith in
-    let matched : decoded_at op f3 (funct7_of w) w ≡ Some (b_fields made w) = row (funct7_of w) w in
+    let matched : decoded_at op f3 (funct7_of w) w ≡ Some (b_fields made w) = encoding (funct7_of w) w in
     cc (decoded-fields w)
 
 u_decodes :
@@ -94,13 +94,13 @@ u_decodes :
     → ((f3 f7 w : ℕ) → decoded_at op f3 f7 w ≡ Some (u_fields made w))
     → (rd imm : ℕ) → IsInRange (u_type imm rd op)
     → decoded (packed (u_type imm rd op)) ≡ Some (made rd imm)
-u_decodes made op op_fits row rd imm fits =
+u_decodes made op op_fits encoding rd imm fits =
     let w : ℕ = packed (u_type imm rd op) in
     let at_op : opcode_of w ≡ op = omega arith in
     let at_rd : rd_of w ≡ rd = omega arith in
     let at_imm : u_imm w ≡ imm = omega arith in
     let matched : decoded_at op (funct3_of w) (funct7_of w) w ≡ Some (u_fields made w) =
-    row (funct3_of w) (funct7_of w) w in
+    encoding (funct3_of w) (funct7_of w) w in
     cc (decoded-fields w)
 
 j_decodes :
@@ -108,13 +108,13 @@ j_decodes :
     → ((f3 f7 w : ℕ) → decoded_at op f3 f7 w ≡ Some (j_fields made w))
     → (rd offset : ℕ) → IsInRange (j_type offset rd op)
     → decoded (packed (j_type offset rd op)) ≡ Some (made rd offset)
-j_decodes made op op_fits row rd offset fits =
+j_decodes made op op_fits encoding rd offset fits =
     let w : ℕ = packed (j_type offset rd op) in
     let at_op : opcode_of w ≡ op = omega arith in
     let at_rd : rd_of w ≡ rd = omega arith in
     let at_imm : j_imm w ≡ offset = omega arith in
     let matched : decoded_at op (funct3_of w) (funct7_of w) w ≡ Some (j_fields made w) =
-    row (funct3_of w) (funct7_of w) w in
+    encoding (funct3_of w) (funct7_of w) w in
     cc (decoded-fields w)
 
 pub encoded_decodes : EncodedDecodes
