@@ -1,27 +1,27 @@
-// Where the jobs stand, their results apart.
+// The states of jobs, without their results.
 ghost use Rattle.std.specs.Prelude.{◌≡◌, ℕ, ◌<◌, ◌≤◌, ◌↔◌, length, map, replicate, slice_index, slice_index_or, Contains, [], IsTrue, IfOk, IfSome, IfNone};
-ghost use Rattle.board_core.specs.Stands.{stand_at, AllCheckedOut, IsNextStand, IsReadyStand, IsSomeHeld, released_stand};
+ghost use Rattle.board_core.specs.JobStates.{job_state_at, AllCheckedOut, IsNextState, IsReadyState, IsSomeHeld, released_state};
 ghost use Rattle.board_core.specs.History.{dep_lists};
 
 use std::alloc::{AllocError, Global};
 
-/// Where a job stands.
+/// The state of a job, without its result.
 #[derive(Clone, Copy, Debug, PartialEq, Eq)]
-pub(crate) enum Stand {
+pub(crate) enum JobState {
     Open,
     /// Held by this worker.
     Held(u32),
     Out,
 }
 
-/// So many jobs that are open.
-pub(crate) fn all_open(alloc: Global, count: usize) -> Result<Vec<Stand>, AllocError>
-    ensures { IfOk result (λ stands. stands.items ≡ replicate count Stand.Open) }
+/// This many jobs, all open.
+pub(crate) fn all_open(alloc: Global, count: usize) -> Result<Vec<JobState>, AllocError>
+    ensures { IfOk result (λ job_states. job_states.items ≡ replicate count JobState.Open) }
 {
-    vec![in alloc; Stand::Open; count]
+    vec![in alloc; JobState::Open; count]
 }
 
-/// So many jobs of which no dep is known to be out.
+/// For this many jobs, that no dep is known to be out.
 pub(crate) fn none_checked(alloc: Global, count: usize) -> Result<Vec<usize>, AllocError>
     ensures { IfOk result (λ checked. checked.items ≡ replicate count 0) }
 {
@@ -29,17 +29,21 @@ pub(crate) fn none_checked(alloc: Global, count: usize) -> Result<Vec<usize>, Al
 }
 
 // How many of these jobs, from the first on, are out, where the first `from` are known to be.
-fn checked_out(deps: &[u32], stands: &[Stand], from: usize) -> usize
-    requires known { (e : ℕ) → e < length deps.now → slice_index deps.now e < length stands.now }
+fn checked_out(deps: &[u32], job_states: &[JobState], from: usize) -> usize
+    requires known { (e : ℕ) → e < length deps.now
+        → slice_index deps.now e < length job_states.now }
     requires inside { from ≤ length deps.now }
-    requires front { (e : ℕ) → e < from → stand_at stands.now (slice_index deps.now e) ≡ Stand.Out }
+    requires front { (e : ℕ) → e < from
+        → job_state_at job_states.now (slice_index deps.now e) ≡ JobState.Out }
     ensures inside { result ≤ length deps.now }
-    ensures front { (e : ℕ) → e < result → stand_at stands.now (slice_index deps.now e) ≡ Stand.Out }
-    ensures end { result < length deps.now → ¬ (stand_at stands.now (slice_index deps.now result) ≡ Stand.Out) }
+    ensures front { (e : ℕ) → e < result
+        → job_state_at job_states.now (slice_index deps.now e) ≡ JobState.Out }
+    ensures end { result < length deps.now
+        → ¬ (job_state_at job_states.now (slice_index deps.now result) ≡ JobState.Out) }
 {
     let mut count = from;
     while count < deps.len() {
-        if stands[deps[count] as usize] != Stand::Out {
+        if job_states[deps[count] as usize] != JobState::Out {
             break;
         }
         count += 1;
@@ -47,75 +51,103 @@ fn checked_out(deps: &[u32], stands: &[Stand], from: usize) -> usize
     count
 }
 
-// Whether the job is open and all its deps are out. `checked` has for each job how many of its deps, from the first
-// on, are known to be out.
-fn is_ready(deps: &[Vec<u32>], stands: &[Stand], checked: &mut [usize], job: usize) -> bool
-    requires deps_length { length deps.now ≡ length stands.now }
-    requires checked_length { length checked.old ≡ length stands.now }
-    requires known { (j d : ℕ) → Contains (slice_index_or (dep_lists deps.now) j []) d → d < length stands.now }
-    requires checked { AllCheckedOut (dep_lists deps.now) stands.now checked.old }
-    requires inside { job < length stands.now }
+// Whether the job is open and all its deps are out. `checked` has for each job how many of its
+// deps, from the first on, are known to be out.
+fn is_ready(deps: &[Vec<u32>], job_states: &[JobState], checked: &mut [usize], job: usize) -> bool
+    requires deps_length { length deps.now ≡ length job_states.now }
+    requires checked_length { length checked.old ≡ length job_states.now }
+    requires known { (j d : ℕ) → Contains (slice_index_or (dep_lists deps.now) j []) d
+        → d < length job_states.now }
+    requires checked { AllCheckedOut (dep_lists deps.now) job_states.now checked.old }
+    requires inside { job < length job_states.now }
     ensures length { length checked.new ≡ length checked.old }
-    ensures checked { AllCheckedOut (dep_lists deps.now) stands.now checked.new }
-    ensures ready { IsTrue result ↔ IsReadyStand (dep_lists deps.now) stands.now job }
+    ensures checked { AllCheckedOut (dep_lists deps.now) job_states.now checked.new }
+    ensures ready { IsTrue result ↔ IsReadyState (dep_lists deps.now) job_states.now job }
 {
-    if stands[job] != Stand::Open {
+    if job_states[job] != JobState::Open {
         return false;
     }
-    let row = deps[job].as_slice();
-    let count = checked_out(row, stands, checked[job]);
+    let own = deps[job].as_slice();
+    let count = checked_out(own, job_states, checked[job]);
     checked[job] = count;
-    count == row.len()
+    count == own.len()
 }
 
-/// The least job that is open and whose deps are all out. `checked` has for each job how many of its deps, from the
-/// first on, are known to be out.
-pub(crate) fn next_ready(deps: &[Vec<u32>], stands: &[Stand], checked: &mut [usize]) -> Option<u32>
-    requires few { length stands.now ≤ 512 }
-    requires deps_length { length deps.now ≡ length stands.now }
-    requires checked_length { length checked.old ≡ length stands.now }
-    requires known { (j d : ℕ) → Contains (slice_index_or (dep_lists deps.now) j []) d → d < length stands.now }
-    requires checked { AllCheckedOut (dep_lists deps.now) stands.now checked.old }
+/// The least job that is open and whose deps are all out. `checked` has for each job how many of
+/// its deps, from the first on, are known to be out.
+pub(crate) fn next_ready(
+    deps: &[Vec<u32>],
+    job_states: &[JobState],
+    checked: &mut [usize],
+) -> Option<u32>
+    requires few { length job_states.now ≤ 512 }
+    requires deps_length { length deps.now ≡ length job_states.now }
+    requires checked_length { length checked.old ≡ length job_states.now }
+    requires known { (j d : ℕ) → Contains (slice_index_or (dep_lists deps.now) j []) d
+        → d < length job_states.now }
+    requires checked { AllCheckedOut (dep_lists deps.now) job_states.now checked.old }
     ensures length { length checked.new ≡ length checked.old }
-    ensures checked { AllCheckedOut (dep_lists deps.now) stands.now checked.new }
-    ensures some { IfSome result (IsNextStand (dep_lists deps.now) stands.now) }
-    ensures none { IfNone result ((j : ℕ) → ¬ IsReadyStand (dep_lists deps.now) stands.now j) }
+    ensures checked { AllCheckedOut (dep_lists deps.now) job_states.now checked.new }
+    ensures some { IfSome result (IsNextState (dep_lists deps.now) job_states.now) }
+    ensures none { IfNone result ((j : ℕ) → ¬ IsReadyState (dep_lists deps.now) job_states.now j) }
 {
-    for job in 0..stands.len() {
-        if is_ready(deps, stands, checked, job) {
+    for job in 0..job_states.len() {
+        if is_ready(deps, job_states, checked, job) {
             return Some(job as u32);
         }
     }
     None
 }
 
-/// Whether some job is held.
-pub(crate) fn is_some_held(stands: &[Stand]) -> bool
-    ensures { IsTrue result ↔ IsSomeHeld stands.now }
+/// Whether this worker holds no job.
+pub(crate) fn is_no_holder(job_states: &[JobState], worker: u32) -> bool
+    ensures { IsTrue result ↔ ((j : ℕ) → ¬ (job_state_at job_states.now j ≡ JobState.Held worker)) }
 {
-    for stand in stands {
-        if let Stand::Held(_) = *stand {
+    for job_state in job_states {
+        if *job_state == JobState::Held(worker) {
+            return false;
+        }
+    }
+    true
+}
+
+/// Whether this worker holds this job.
+pub(crate) fn is_held_by(job_states: &[JobState], worker: u32, job: u32) -> bool
+    ensures { IsTrue result ↔ (job_state_at job_states.now job ≡ JobState.Held worker) }
+{
+    match job_states.get(job as usize) {
+        Some(job_state) => *job_state == JobState::Held(worker),
+        None => false,
+    }
+}
+
+/// Whether some job is held.
+pub(crate) fn is_some_held(job_states: &[JobState]) -> bool
+    ensures { IsTrue result ↔ IsSomeHeld job_states.now }
+{
+    for job_state in job_states {
+        if let JobState::Held(_) = *job_state {
             return true;
         }
     }
     false
 }
 
-// Where a job stands after this worker stops.
-fn released(stand: Stand, worker: u32) -> Stand
-    ensures { result ≡ released_stand worker stand }
+// The state of a job after this worker stops.
+fn released(job_state: JobState, worker: u32) -> JobState
+    ensures { result ≡ released_state worker job_state }
 {
-    match stand {
-        Stand::Held(holder) if holder == worker => Stand::Open,
+    match job_state {
+        JobState::Held(holder) if holder == worker => JobState::Open,
         other => other,
     }
 }
 
 /// Opens the jobs that this worker holds.
-pub(crate) fn release(stands: &mut [Stand], worker: u32)
-    ensures { stands.new ≡ map (released_stand worker) stands.old }
+pub(crate) fn release(job_states: &mut [JobState], worker: u32)
+    ensures { job_states.new ≡ map (released_state worker) job_states.old }
 {
-    for stand in stands.iter_mut() {
-        *stand = released(*stand, worker);
+    for job_state in job_states.iter_mut() {
+        *job_state = released(*job_state, worker);
     }
 }

@@ -1,7 +1,7 @@
 ghost use Rattle.std.specs.Prelude.{◌≡◌, ℕ, IsTrue};
 ghost use Rattle.board_core.specs.Board.{job_at, Held, HoldsNone};
 ghost use Rattle.board_core.specs.History.{state_of};
-ghost use Rattle.board_core.specs.Stands.{stand_at};
+ghost use Rattle.board_core.specs.JobStates.{job_state_at};
 
 use super::*;
 use std::test::Fail;
@@ -19,11 +19,11 @@ impl Work for Numbers {
     }
 }
 
-fn is_no_holder(stands: &[Stand], worker: u32) -> bool
-    ensures { IsTrue result → (j : ℕ) → ¬ (stand_at stands.now j ≡ Stand.Held worker) }
+fn is_no_holder(job_states: &[JobState], worker: u32) -> bool
+    ensures { IsTrue result → (j : ℕ) → ¬ (job_state_at job_states.now j ≡ JobState.Held worker) }
 {
-    for stand in stands {
-        if *stand == Stand::Held(worker) {
+    for job_state in job_states {
+        if *job_state == JobState::Held(worker) {
             return false;
         }
     }
@@ -33,13 +33,13 @@ fn is_no_holder(stands: &[Stand], worker: u32) -> bool
 fn is_idle<W: Work>(board: &Board<W>, worker: u32) -> bool
     ensures { IsTrue result → HoldsNone (state_of W.made board.now) worker }
 {
-    is_no_holder(board.stands.as_slice(), worker)
+    is_no_holder(board.job_states.as_slice(), worker)
 }
 
 fn holds<W: Work>(board: &Board<W>, worker: u32, job: u32) -> bool
     ensures { IsTrue result → job_at (state_of W.made board.now) job ≡ Held worker }
 {
-    (job as usize) < board.stands.len() && board.stands[job as usize] == Stand::Held(worker)
+    (job as usize) < board.job_states.len() && board.job_states[job as usize] == JobState::Held(worker)
 }
 
 // Claims, where the worker may.

@@ -1,7 +1,7 @@
 use Rattle.std.proofs.Common.{◌≡◌, ℕ, ◌<◌}
-use Rattle.board_core.specs.declared.stand.Stand.TheVariants.{Held}
-use Rattle.board_core.specs.Stands.{stand_at}
-use Rattle.board_core.proofs.stand.is_some_held.Given as goal
+use Rattle.board_core.specs.declared.job_state.JobState.TheVariants.{Held}
+use Rattle.board_core.specs.JobStates.{job_state_at}
+use Rattle.board_core.proofs.job_state.is_some_held.Given as goal
 
-abbrev pub invariant-loop-stand : goal.invariant-loop-stand
-invariant-loop-stand l = (j worker : ℕ) → j < l.stand-index → ¬ (stand_at l.stands j ≡ Held worker)
+abbrev pub invariant-loop-job_state : goal.invariant-loop-job_state
+invariant-loop-job_state l = (j worker : ℕ) → j < l.job_state-index → ¬ (job_state_at l.job_states j ≡ Held worker)

@@ -1,7 +1,7 @@
 use Rattle.std.proofs.Common.{◌≡◌, ◌++◌, map, take, drop}
-use Rattle.board_core.specs.Stands.{released_stand}
-use Rattle.board_core.proofs.stand.release.Given as goal
+use Rattle.board_core.specs.JobStates.{released_state}
+use Rattle.board_core.proofs.job_state.release.Given as goal
 
-abbrev pub invariant-loop-stand : goal.invariant-loop-stand
-invariant-loop-stand l =
-    l.stands ≡ map (released_stand l.worker) (take l.stand-index l.initial.stands) ++ drop l.stand-index l.initial.stands
+abbrev pub invariant-loop-job_state : goal.invariant-loop-job_state
+invariant-loop-job_state l =
+    l.job_states ≡ map (released_state l.worker) (take l.job_state-index l.initial.job_states) ++ drop l.job_state-index l.initial.job_states
