@@ -1,43 +1,19 @@
-ghost use Rattle.std.specs.Prelude.{ℕ, ◌<◌, length, IsTrue, Contains};
-ghost use Rattle.call_order.specs.Units.{call_lists, AllKnown};
+//! Units and ranks of small programs.
 
-use super::*;
+use call_order::{Units, all_known, units};
+use no_memory::NoMemory;
 use std::alloc::{AllocError, Global};
 use std::test::Fail;
 
-// Whether each of these functions is below the count.
-fn is_below(callees: &[u32], count: usize) -> bool
-    ensures { IsTrue result → (k : ℕ) → Contains callees.now k → k < count }
-{
-    for callee in callees {
-        if *callee as usize >= count {
-            return false;
-        }
-    }
-    true
-}
-
-// Whether each function that is called is one of the list.
-fn is_known(calls: &[Vec<u32>]) -> bool
-    ensures { IsTrue result → AllKnown (call_lists calls.now) }
-{
-    for callees in calls {
-        if !is_below(callees.as_slice(), calls.len()) {
-            return false;
-        }
-    }
-    true
-}
-
-// The units and ranks of so few functions, where all that are called are known.
+// The units and ranks of these functions, where all that are called are known.
 fn units_of(alloc: Global, calls: &[Vec<u32>]) -> Result<Option<Units>, NoMemory> {
-    if calls.len() < 5 && is_known(calls) {
+    if calls.len() < 5 && all_known(calls) {
         return Ok(Some(units(alloc, calls)?));
     }
     Ok(None)
 }
 
-// The lists of calls that a table of up to two calls a function stands for, where 9 is no call.
+// The lists of calls of a table of up to two calls a function, where 9 is no call.
 fn lists(alloc: Global, table: &[[u32; 2]]) -> Result<Vec<Vec<u32>>, AllocError> {
     let mut calls = Vec::new(alloc);
     for row in table {
