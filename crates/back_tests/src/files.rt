@@ -1,7 +1,10 @@
-use crate::{ElfFault, Image, read, write};
+//! Executable files, byte by byte.
+
+use elf_file::{ElfFault, Image, read, write};
 use std::test::Fail;
 
-/// The first 116 bytes of a file with a text of 4 bytes and globals of 8: Elf32_Ehdr and two Elf32_Phdr.
+/// The first 116 bytes of a file with a text of 4 bytes and globals of 8: Elf32_Ehdr and two
+/// Elf32_Phdr.
 static HEADERS: [u8; 116] = [
     0x7f, 0x45, 0x4c, 0x46, 1, 1, 1, 0, 0, 0, 0, 0, 0, 0, 0, 0, // e_ident
     2, 0, 0xf3, 0, 1, 0, 0, 0, // an executable for RISC-V, version 1
@@ -47,8 +50,8 @@ static FILE: [u8; 120] = [
 fn fault_with(changes: &[(usize, u8)]) -> Option<ElfFault> {
     let mut file = FILE;
     for (at, byte) in changes {
-        if let Some(place) = file.get_mut(*at) {
-            *place = *byte;
+        if let Some(old) = file.get_mut(*at) {
+            *old = *byte;
         }
     }
     read(&file).err()
@@ -96,7 +99,8 @@ fn a_bad_segment_is_refused(rt: HostRuntime) {
     assert_eq!(rt; fault_with(&[(68, 5)]), bad);
     assert_eq!(rt; fault_with(&[(56, 117)]), bad);
     assert_eq!(rt; fault_with(&[(56, 121), (68, 0)]), bad);
-    // Past the end of the address space, on the last byte of the text, and too much memory together.
+    // Past the end of the address space, on the last byte of the text, and too much memory
+    // together.
     assert_eq!(rt;
         fault_with(&[(92, 0xf9), (93, 0xff), (94, 0xff), (95, 0xff)]),
         bad

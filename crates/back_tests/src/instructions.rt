@@ -1,6 +1,6 @@
 //! Words as GNU binutils 2.40 assembles and disassembles them.
 
-use super::*;
+use rv_isa::{BranchOffset, Imm12, Instr, JumpOffset, Reg, Shamt, Upper, decode, encode};
 use std::process::Abort;
 
 fn both_ways(rt: &impl Abort, encodings: &[(u32, Instr)]) {
@@ -368,7 +368,7 @@ fn registers_both_ways(rt: HostRuntime) {
 }
 
 #[test]
-fn words_of_no_row(rt: HostRuntime) {
+fn words_of_no_encoding(rt: HostRuntime) {
     let words = [
         0x0000_0000,
         0xffff_ffff,

@@ -1,11 +1,13 @@
-use crate::{Machine, Stop};
+//! Runs of small programs, whose words are those of GNU binutils.
+
 use cc_io::{MemSink, MemSource, NoFailSource};
 use elf_file::read;
+use rv_machine::{Machine, Stop};
 use std::alloc::{AllocError, Global};
 use std::test::Fail;
 
-/// Elf32_Ehdr and two Elf32_Phdr: the text at 0x10000, to read and execute, and 4096 bytes of zeros at
-/// 0x20000, to read and write. The size of the text is left out.
+/// Elf32_Ehdr and two Elf32_Phdr: the text at 0x10000, to read and execute, and 4096 bytes of zeros
+/// at 0x20000, to read and write. The size of the text is left out.
 const HEADERS: [u32; 29] = [
     0x464c_457f,
     0x0001_0101,
@@ -52,7 +54,8 @@ fn file(alloc: Global, code: &[u32]) -> Result<Vec<u8>, AllocError> {
     Ok(bytes)
 }
 
-/// What so many steps of a program come to, with the input "hi": why it stopped, and what it wrote.
+/// What this many steps of a program come to, with the input "hi": why it stopped, and what it
+/// wrote.
 fn run(alloc: Global, code: &[u32], steps: u64) -> Result<(Stop, Vec<u8>), Fail> {
     let bytes = file(alloc, code)?;
     let view = read(&bytes).ok().ok_or("a fault of the file")?;
@@ -81,7 +84,8 @@ static ECHO: [u32; 14] = [
     0x0000_0073,
 ];
 
-/// Exits with 3 where division, products, loads, shifts, branches and jumps give what qemu-riscv32 gives.
+/// Exits with 3 where division, products, loads, shifts, branches and jumps give what qemu-riscv32
+/// gives.
 static ARITHMETIC: [u32; 25] = [
     0x8000_02b7,
     0xfff0_0313,

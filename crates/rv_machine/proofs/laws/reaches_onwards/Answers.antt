@@ -1,5 +1,5 @@
-use Rattle.rv_machine.proofs.RunLaws.{leads_onwards}
-use Rattle.rv_machine.proofs.laws.leads_onwards.Goals as goal
+use Rattle.rv_machine.proofs.lemmas.RunLaws.{reaches_onwards}
+use Rattle.rv_machine.proofs.laws.reaches_onwards.Goals as goal
 
 pub returns : goal.returns
-returns c = leads_onwards
+returns c = reaches_onwards

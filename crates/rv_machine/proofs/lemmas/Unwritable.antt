@@ -2,31 +2,33 @@
 use Rattle.std.proofs.Common.{◌≡◌, ℕ, zero, suc, ◌+◌, ◌-◌, ◌%◌, ◌≤◌, ◌⊎◌, ◌==◌, Bool, true, false, cond, not, ◌&&◌, List, [], ◌∷◌, Option, Some, None, refl, ap, ◌∙◌, subst, arith, inl, inr}
 use Rattle.std.proofs.lemmas.Bool.{both_ways, cases_lt, ne_eqb, not-false}
 use Rattle.rv_isa.specs.Formats.{sign_extended}
-use Rattle.rv_isa.specs.Rows.{decoded}
+use Rattle.rv_isa.specs.Encodings.{decoded}
 use Rattle.rv_isa.specs.declared.instruction.Instr.{Instr}
 use Rattle.rv_isa.specs.declared.instruction.Instr.TheVariants.{Lui, Auipc, Jal, Jalr, Beq, Bne, Blt, Bge, Bltu, Bgeu, Lb, Lh, Lw, Lbu, Lhu, Sb, Sh, Sw, Addi, Slti, Sltiu, Xori, Ori, Andi, Slli, Srli, Srai, Add, Sub, Sll, Slt, Sltu, Xor, Srl, Sra, Or, And, Mul, Mulh, Mulhsu, Mulhu, Div, Divu, Rem, Remu, Fence, Ecall, Ebreak}
-use Rattle.rv_machine.specs.Machine.{State, Move, next, stop, put, get, act, give, jump, call, access, load, store, offset, after, look, answer, received, exit, stuck, no_call, a0, a1, a2, a7, fetched, act_fetched, act_decoded, next_move}
+use Rattle.rv_isa.specs.Calls.{exit_call, read_call, write_call}
+use Rattle.rv_isa.specs.Registers.{a0, a1, a2, a7}
+use Rattle.rv_machine.specs.Machine.{State, Effect, next, stop, put, get, act, give, jump, call, access, load, store, offset, after, look, answer, received, exit, stuck, no_call, fetched, act_fetched, act_decoded, next_effect}
 use Rattle.rv_machine.specs.Memory.{load_bytes, store_bytes, allowed, has_flag, to_read, to_write}
 use Rattle.rv_machine.specs.Run.{Hart, running, ended, Onward, follow, run_state, run}
-use Rattle.rv_machine.specs.Laws.{Leads}
+use Rattle.rv_machine.specs.Laws.{Reaches}
 use Rattle.rv_machine.specs.MemoryLaws.{UnwritableStays, UnwritableLoadStays, FetchStays}
 use Rattle.rv_machine.proofs.Access.{allowed_at}
-use Rattle.rv_machine.proofs.Stores.{store_leaves_others, load-agrees}
+use Rattle.rv_machine.proofs.lemmas.Stores.{store_leaves_others, load-agrees}
 
 module _ (flags : ℕ → ℕ) (x : ℕ) (unwritable : has_flag (flags x) to_write ≡ false) where
   -- an instruction leaves the byte
-  abbrev Keeps : ℕ → Move → Type 0
-  Keeps byte (next t) = t.mem x ≡ byte
-  Keeps byte (stop e) = Unit {0}
-  Keeps byte (put b t) = t.mem x ≡ byte
-  Keeps byte (get f) = (o : Option ℕ) → (f o).mem x ≡ byte
+  abbrev OnlyStateChanges : ℕ → Effect → Type 0
+  OnlyStateChanges byte (next t) = t.mem x ≡ byte
+  OnlyStateChanges byte (stop e) = Unit {0}
+  OnlyStateChanges byte (put b t) = t.mem x ≡ byte
+  OnlyStateChanges byte (get f) = (o : Option ℕ) → (f o).mem x ≡ byte
 
-  keeps-cond : (byte : ℕ) (b : Bool) (m m' : Move) → Keeps byte m → (b ≡ false → Keeps byte m') → Keeps byte (cond b m m')
+  keeps-cond : (byte : ℕ) (b : Bool) (m m' : Effect) → OnlyStateChanges byte m → (b ≡ false → OnlyStateChanges byte m') → OnlyStateChanges byte (cond b m m')
   keeps-cond byte true m m' h h' = h
   keeps-cond byte false m m' h h' = h' refl
 
-  keeps-access : (byte flag width address : ℕ) (s : State) (m : Move) → (allowed flags flag address width ≡ true → Keeps byte m)
-      → Keeps byte (access flags flag width address s m)
+  keeps-access : (byte flag width address : ℕ) (s : State) (m : Effect) → (allowed flags flag address width ≡ true → OnlyStateChanges byte m)
+      → OnlyStateChanges byte (access flags flag width address s m)
   keeps-access byte flag width address s m h =
       keeps-cond byte (not (address % width == 0)) _ _ tt (λ _.
       keeps-cond byte (not (allowed flags flag address width)) _ _ tt (λ e. h (not-false (allowed flags flag address width) e)))
@@ -45,13 +47,13 @@ module _ (flags : ℕ → ℕ) (x : ℕ) (unwritable : has_flag (flags x) to_wri
   keeps-store : (s : State) (width address n : ℕ) → allowed flags to_write address width ≡ true → store_bytes s.mem address n width x ≡ s.mem x
   keeps-store s width address n good = store_leaves_others s.mem address n width x (outside address width good)
 
-  keeps-load : (width : ℕ) (extended : ℕ → ℕ) (rd rs1 d : ℕ) (s : State) → Keeps (s.mem x) (load flags width extended rd rs1 d s)
+  keeps-load : (width : ℕ) (extended : ℕ → ℕ) (rd rs1 d : ℕ) (s : State) → OnlyStateChanges (s.mem x) (load flags width extended rd rs1 d s)
   unfolding give
   keeps-load width extended rd rs1 d s =
       let address : ℕ = offset (look s.regs rs1) d in
       keeps-access (s.mem x) to_read width address s (next (give s rd (extended (load_bytes s.mem address width)))) (λ _. refl)
 
-  keeps-stored : (width rs1 rs2 d : ℕ) (s : State) → Keeps (s.mem x) (store flags width rs1 rs2 d s)
+  keeps-stored : (width rs1 rs2 d : ℕ) (s : State) → OnlyStateChanges (s.mem x) (store flags width rs1 rs2 d s)
   keeps-stored width rs1 rs2 d s =
       let address : ℕ = offset (look s.regs rs1) d in
       let n : ℕ = look s.regs rs2 in
@@ -66,22 +68,22 @@ module _ (flags : ℕ → ℕ) (x : ℕ) (unwritable : has_flag (flags x) to_wri
       rw (ne_eqb x (s.regs a1) (λ e. both_ways (has_flag (flags x) to_write) unwritable
       (ap (λ y. has_flag (flags y) to_write) (e ∙ omega arith) ∙ here))) refl
 
-  keeps-call : (s : State) → Keeps (s.mem x) (call flags s)
+  keeps-call : (s : State) → OnlyStateChanges (s.mem x) (call flags s)
   unfolding call give
   keeps-call s =
       let byte : ℕ = s.mem x in
-      let writes : Move = access flags to_read 1 (s.regs a1) s (put (s.mem (s.regs a1)) (answer s 1)) in
-      let reads : Move = access flags to_write 1 (s.regs a1) s (get (received s)) in
-      let none : Move = stop (stuck s.pc no_call) in
-      let is_write : Bool = s.regs a7 == 64 && s.regs a0 == 1 && s.regs a2 == 1 in
-      let is_read : Bool = s.regs a7 == 63 && s.regs a0 == 0 && s.regs a2 == 1 in
-      let written : Keeps byte writes = keeps-access byte to_read 1 (s.regs a1) s (put (s.mem (s.regs a1)) (answer s 1)) (λ _. refl) in
-      let read : Keeps byte reads = keeps-access byte to_write 1 (s.regs a1) s (get (received s)) (λ good. keeps-received s good) in
-      keeps-cond byte (s.regs a7 == 93) (stop (exit (s.regs a0 % 256))) (cond is_write writes (cond is_read reads none)) tt (λ _.
+      let writes : Effect = access flags to_read 1 (s.regs a1) s (put (s.mem (s.regs a1)) (answer s 1)) in
+      let reads : Effect = access flags to_write 1 (s.regs a1) s (get (received s)) in
+      let none : Effect = stop (stuck s.pc no_call) in
+      let is_write : Bool = s.regs a7 == write_call && s.regs a0 == 1 && s.regs a2 == 1 in
+      let is_read : Bool = s.regs a7 == read_call && s.regs a0 == 0 && s.regs a2 == 1 in
+      let written : OnlyStateChanges byte writes = keeps-access byte to_read 1 (s.regs a1) s (put (s.mem (s.regs a1)) (answer s 1)) (λ _. refl) in
+      let read : OnlyStateChanges byte reads = keeps-access byte to_write 1 (s.regs a1) s (get (received s)) (λ good. keeps-received s good) in
+      keeps-cond byte (s.regs a7 == exit_call) (stop (exit (s.regs a0 % 256))) (cond is_write writes (cond is_read reads none)) tt (λ _.
       keeps-cond byte is_write writes (cond is_read reads none) written (λ _.
       keeps-cond byte is_read reads none read (λ _. tt)))
 
-  keeps-act : (i : Instr) (s : State) → Keeps (s.mem x) (act flags i s)
+  keeps-act : (i : Instr) (s : State) → OnlyStateChanges (s.mem x) (act flags i s)
   unfolding act give jump
   keeps-act (Lui rd imm) s = refl
   keeps-act (Auipc rd imm) s = refl
@@ -132,25 +134,25 @@ module _ (flags : ℕ → ℕ) (x : ℕ) (unwritable : has_flag (flags x) to_wri
   keeps-act Ecall s = keeps-call s
   keeps-act Ebreak s = tt
 
-  keeps-decoded : (i : Option Instr) (s : State) → Keeps (s.mem x) (act_decoded flags i s)
+  keeps-decoded : (i : Option Instr) (s : State) → OnlyStateChanges (s.mem x) (act_decoded flags i s)
   keeps-decoded None s = tt
   keeps-decoded (Some i) s = keeps-act i s
 
-  keeps-fetched : (w : Option ℕ) (s : State) → Keeps (s.mem x) (act_fetched flags w s)
+  keeps-fetched : (w : Option ℕ) (s : State) → OnlyStateChanges (s.mem x) (act_fetched flags w s)
   keeps-fetched None s = tt
   keeps-fetched (Some w) s = keeps-decoded (decoded w) s
 
-  keeps-move : (s : State) → Keeps (s.mem x) (next_move flags s)
-  unfolding next_move
-  keeps-move s = keeps-fetched (fetched flags s) s
+  keeps-effect : (s : State) → OnlyStateChanges (s.mem x) (next_effect flags s)
+  unfolding next_effect
+  keeps-effect s = keeps-fetched (fetched flags s) s
 
   -- so does a run that goes on
   abbrev HartKeeps : ℕ → Hart → Type 0
   HartKeeps byte (running t) = t.mem x ≡ byte
   HartKeeps byte (ended e) = Unit {0}
 
-  keeps-follow : (move : Move) (onward : Onward) (input : List ℕ) (byte : ℕ) → Keeps byte move
-      → ((t : State) (i : List ℕ) → HartKeeps (t.mem x) (onward t i).hart) → HartKeeps byte (follow move onward input).hart
+  keeps-follow : (effect : Effect) (onward : Onward) (input : List ℕ) (byte : ℕ) → OnlyStateChanges byte effect
+      → ((t : State) (i : List ℕ) → HartKeeps (t.mem x) (onward t i).hart) → HartKeeps byte (follow effect onward input).hart
   keeps-follow (next t) onward input byte k h = let P : ℕ → Type 0 = λ b. HartKeeps b (onward t input).hart in subst P k (h t input)
   keeps-follow (stop e) onward input byte k h = tt
   keeps-follow (put b t) onward input byte k h = let P : ℕ → Type 0 = λ b. HartKeeps b (onward t input).hart in subst P k (h t input)
@@ -162,21 +164,21 @@ module _ (flags : ℕ → ℕ) (x : ℕ) (unwritable : has_flag (flags x) to_wri
   keeps-run : (n : ℕ) (s : State) (input : List ℕ) → HartKeeps (s.mem x) (run_state flags n s input).hart
   unfolding run_state
   keeps-run zero s input = refl
-  keeps-run (suc n) s input = keeps-follow (next_move flags s) (run_state flags n) input (s.mem x) (keeps-move s) (λ t i. keeps-run n t i)
+  keeps-run (suc n) s input = keeps-follow (next_effect flags s) (run_state flags n) input (s.mem x) (keeps-effect s) (λ t i. keeps-run n t i)
 
-  keeps-led : (n : ℕ) (s t : State) (input written rest : List ℕ) → Leads flags n s input written t rest → t.mem x ≡ s.mem x
+  keeps-reached : (n : ℕ) (s t : State) (input written rest : List ℕ) → Reaches flags n s input written t rest → t.mem x ≡ s.mem x
   unfolding run
-  keeps-led n s t input written rest leads =
-      let P : Hart → Type 0 = λ h. HartKeeps (s.mem x) h in subst P (ap (λ o. o.hart) leads.to) (keeps-run n s input)
+  keeps-reached n s t input written rest reaches =
+      let P : Hart → Type 0 = λ h. HartKeeps (s.mem x) h in subst P (ap (λ o. o.hart) reaches.to) (keeps-run n s input)
 
 pub unwritable_stays : UnwritableStays
-unwritable_stays flags n s t input written rest leads x unwritable = keeps-led flags x unwritable n s t input written rest leads
+unwritable_stays flags n s t input written rest reaches x unwritable = keeps-reached flags x unwritable n s t input written rest reaches
 
 pub unwritable_load_stays : UnwritableLoadStays
-unwritable_load_stays flags n s t input written rest leads a k unwritable =
-    load-agrees s.mem t.mem a k (λ j below. unwritable_stays flags n s t input written rest leads (a + j) (unwritable j below))
+unwritable_load_stays flags n s t input written rest reaches a k unwritable =
+    load-agrees s.mem t.mem a k (λ j below. unwritable_stays flags n s t input written rest reaches (a + j) (unwritable j below))
 
 pub fetch_stays : FetchStays
 unfolding fetched
-fetch_stays flags n s t input written rest leads unwritable =
-    ap (λ w. cond (t.pc % 4 == 0 && allowed flags 1 t.pc 4) (Some w) None) (unwritable_load_stays flags n s t input written rest leads t.pc 4 unwritable)
+fetch_stays flags n s t input written rest reaches unwritable =
+    ap (λ w. cond (t.pc % 4 == 0 && allowed flags 1 t.pc 4) (Some w) None) (unwritable_load_stays flags n s t input written rest reaches t.pc 4 unwritable)

@@ -12,7 +12,7 @@ use Rattle.rv_machine.specs.Run.{start}
 use Rattle.rv_machine.specs.SegmentLaws.{SegmentIsInMemory, BytesAreLoaded, WordBytesMakeWord, FlagsAllow, FlagIsMissing, TextIsFetched}
 use Rattle.rv_machine.proofs.Access.{allowed_all, allowed_bad, load_same}
 use Rattle.rv_machine.proofs.Lookups.{IsAt, holds-above, holds-below, holds-true, memory_at, flags_at}
-use Rattle.rv_machine.proofs.Unwritable.{unwritable_stays}
+use Rattle.rv_machine.proofs.lemmas.Unwritable.{unwritable_stays}
 
 listed : (ss : List LoadedSegment) (k : ℕ) (s : LoadedSegment) → slice_get ss k ≡ Some s → k < length ss
 listed [] k s e = absurd (let f : None ≡ Some s = e in cc)
@@ -60,7 +60,7 @@ unfolding fetched
 fetch-some flags t n aligned good word = rw (eq-eqb (t.pc % 4) 0 aligned) rw good rw word refl
 
 pub text_is_fetched : TextIsFetched
-text_is_fetched e k s n t input written rest sound at unwritable leads text =
+text_is_fetched e k s n t input written rest sound at unwritable reaches text =
     let contained : IsContained s = contained-at e.segments k s sound at in
     let flags : ℕ → ℕ = flags_of e.segments in
     let has : (j : ℕ) → j < 4 → HasAddress s (t.pc + j) = λ j below. (omega (arith, text.from), omega (arith, text.end, contained.part)) in
@@ -69,7 +69,7 @@ text_is_fetched e k s n t input written rest sound at unwritable leads text =
     fetch-some flags t (number (take 4 (drop (t.pc - s.at) s.bytes))) text.aligned
     (allowed_all flags to_execute t.pc 4 (λ j below. ap (λ f. has_flag f to_execute) (flag j below) ∙ text.executable))
     (load_same t.mem t.pc 4 (drop (t.pc - s.at) s.bytes) (omega (arith, length-drop (t.pc - s.at) s.bytes, text.from, text.end)) (λ j below.
-    unwritable_stays flags n (start e) t input written rest leads (t.pc + j) (ap (λ f. has_flag f to_write) (flag j below) ∙ unwritable)
+    unwritable_stays flags n (start e) t input written rest reaches (t.pc + j) (ap (λ f. has_flag f to_write) (flag j below) ∙ unwritable)
     ∙ (segment_is_in_memory e.segments k s (t.pc + j) sound at (has j below)).0
     ∙ ap (λ i. get_or s.bytes i 0) (omega (arith, text.from))
     ∙ sym (get_or-drop (t.pc - s.at) s.bytes j 0)))

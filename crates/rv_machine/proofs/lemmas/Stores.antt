@@ -1,9 +1,9 @@
 -- Bytes that are stored and loaded.
 use Rattle.std.proofs.Common.{◌≡◌, ◌≢◌, ℕ, zero, suc, ◌+◌, ◌*◌, ◌/◌, ◌%◌, ◌^◌, ◌<◌, refl, sym, ap, ◌∙◌, arith, inl, inr, eq-eqb}
-use Rattle.std.proofs.lemmas.Bool.{ne_eqb, cases_lt, lt-ltb, le-ltb}
+use Rattle.std.proofs.lemmas.Bool.{ne_eqb}
 use Rattle.std.proofs.lemmas.Nat.{mod-pow-add}
 use Rattle.rv_machine.specs.Memory.{Bytes, put_at, load_bytes, store_bytes}
-use Rattle.rv_machine.specs.MemoryLaws.{StoredIsLoaded, StoreLeavesOthers, LoadElsewhere, PartsMakeWord, PartsMakeOffset}
+use Rattle.rv_machine.specs.MemoryLaws.{StoredIsLoaded, StoreLeavesOthers, LoadElsewhere}
 
 put-other : (mem : Bytes) (a n x : ℕ) → x ≢ a → put_at mem a n x ≡ mem x
 put-other mem a n x other = rw (ne_eqb x a other) refl
@@ -51,15 +51,3 @@ stored_is_loaded mem a n (suc k) =
     let here : store_bytes rest (suc a) (n / 256) k a ≡ n % 256 =
     store_leaves_others rest (suc a) (n / 256) k a (inl (omega arith)) ∙ put-same mem a (n % 256) in
     rw here rw (stored_is_loaded rest (suc a) (n / 256) k) (split n k)
-
-pub parts_make_offset : PartsMakeOffset
-parts_make_offset address v fits = elim (cases_lt (v % 2 ^ 12) 0x800) [
-  | inl low ↦ rw (lt-ltb (v % 2 ^ 12) 0x800 low) (omega arith)
-  | inr high ↦ rw (le-ltb (v % 2 ^ 12) 0x800 high) (omega arith)
-]
-
-pub parts_make_word : PartsMakeWord
-parts_make_word v fits = elim (cases_lt (v % 2 ^ 12) 0x800) [
-  | inl low ↦ rw (lt-ltb (v % 2 ^ 12) 0x800 low) (omega arith)
-  | inr high ↦ rw (le-ltb (v % 2 ^ 12) 0x800 high) (omega arith)
-]
