@@ -1,9 +1,9 @@
 //! Generated texts against the text of the tables, and a sink that fails.
-use crate::generate;
+use cc_gen::generate;
 use cc_io::MemSink;
 use std::test::Fail;
 
-const ONE_FUNCTION: &[u8] = b"int f0(int a, int b)
+pub const ONE_FUNCTION: &[u8] = b"int f0(int a, int b)
 {
     int s = a;
     int k = 0;
@@ -88,11 +88,18 @@ fn later_functions_call_earlier_ones(rt: HostRuntime) -> Result<(), Fail> {
     Ok(())
 }
 
+// Each write of a chunk is one call: the first one is of 4,096 bytes where the text is longer, and
+// else of the text.
 #[test]
-fn a_failing_write_leaves_a_part(rt: HostRuntime) -> Result<(), Fail> {
-    let failing = vec![in rt.alloc(); 2]?;
-    let mut out = MemSink::new(rt.alloc(), failing);
-    assert!(rt; generate(1, 1, &mut out).is_err());
-    assert_eq!(rt; out.bytes(), b"int f0".as_slice());
+fn a_text_is_written_in_chunks(rt: HostRuntime) -> Result<(), Fail> {
+    let mut whole = MemSink::new(rt.alloc(), Vec::new(rt.alloc()));
+    assert!(rt; generate(1, 100, &mut whole).is_ok());
+    assert!(rt; whole.bytes().len() > 3 * 4096);
+    for (failing, functions, left) in [(0, 1, 0), (0, 100, 0), (1, 100, 4096), (2, 100, 8192)] {
+        let mut out = MemSink::new(rt.alloc(), vec![in rt.alloc(); failing]?);
+        assert!(rt; generate(1, functions, &mut out).is_err());
+        assert_eq!(rt; out.bytes().len(), left);
+        assert!(rt; whole.bytes().starts_with(out.bytes()));
+    }
     Ok(())
 }

@@ -1,6 +1,6 @@
 use Rattle.cc_gen.specs.Generated.{functions_text, main_text}
-use Rattle.cc_gen.proofs.PartLemmas.{then-err}
-use Rattle.cc_gen.proofs.program.generate.Goals as goal
+use Rattle.cc_gen.proofs.PrefixLemmas.{then-err}
+use Rattle.cc_gen.proofs.program.write_program.Goals as goal
 
 pub returns-clause-err : goal.returns-clause-err
 returns-clause-err g c =
