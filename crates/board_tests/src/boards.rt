@@ -1,9 +1,9 @@
-ghost use Rattle.std.specs.Prelude.{◌≡◌, ℕ, IsTrue};
-ghost use Rattle.board_core.specs.Board.{job_at, Held, HoldsNone};
-ghost use Rattle.board_core.specs.History.{state_of};
-ghost use Rattle.board_core.specs.JobStates.{job_state_at};
+//! Boards of a few jobs and of the most, through their calls.
 
-use super::*;
+use board_core::{Board, Claim, OpenFault, Work};
+use no_memory::NoMemory;
+use std::alloc::Global;
+use std::sync::Arc;
 use std::test::Fail;
 
 // Each job makes its own number.
@@ -19,36 +19,13 @@ impl Work for Numbers {
     }
 }
 
-fn is_no_holder(job_states: &[JobState], worker: u32) -> bool
-    ensures { IsTrue result → (j : ℕ) → ¬ (job_state_at job_states.now j ≡ JobState.Held worker) }
-{
-    for job_state in job_states {
-        if *job_state == JobState::Held(worker) {
-            return false;
-        }
-    }
-    true
-}
-
-fn is_idle<W: Work>(board: &Board<W>, worker: u32) -> bool
-    ensures { IsTrue result → HoldsNone (state_of W.made board.now) worker }
-{
-    is_no_holder(board.job_states.as_slice(), worker)
-}
-
-fn holds<W: Work>(board: &Board<W>, worker: u32, job: u32) -> bool
-    ensures { IsTrue result → job_at (state_of W.made board.now) job ≡ Held worker }
-{
-    (job as usize) < board.job_states.len() && board.job_states[job as usize] == JobState::Held(worker)
-}
-
 // Claims, where the worker may.
 fn claim_by(
     board: &mut Board<Numbers>,
     worker: u32,
     out: &mut Vec<Arc<u32>>,
 ) -> Result<Option<Claim>, NoMemory> {
-    if worker < board.workers && out.capacity() >= 512 && is_idle(board, worker) {
+    if worker < board.workers() && out.capacity() >= 512 && board.is_idle(worker) {
         return Ok(Some(board.claim(worker, out)?));
     }
     Ok(None)
@@ -61,7 +38,7 @@ fn publish_by(
     worker: u32,
     job: u32,
 ) -> Result<bool, NoMemory> {
-    if !holds(board, worker, job) {
+    if !board.holds(worker, job) {
         return Ok(false);
     }
     let made = Numbers.make(alloc, job, &[])?;
@@ -71,7 +48,7 @@ fn publish_by(
 
 // Stops, where nobody has stopped.
 fn stop_by(board: &mut Board<Numbers>, worker: u32) -> bool {
-    if worker < board.workers && !board.is_halted() {
+    if worker < board.workers() && !board.is_halted() {
         board.stop(worker);
         return true;
     }

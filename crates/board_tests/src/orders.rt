@@ -32,7 +32,8 @@ fn lists(alloc: Global, table: &[[u32; 2]]) -> Result<Vec<Vec<u32>>, AllocError>
 fn units_and_ranks_of_small_programs(rt: HostRuntime) -> Result<(), Fail> {
     let alloc = rt.alloc();
     for (table, unit, rank) in [
-        // one calls the other and is called by it; a third calls itself and a fourth; the fourth calls none
+        // one calls the other and is called by it; a third calls itself and a fourth; the fourth
+        // calls none
         ([[1, 9], [0, 9], [0, 2], [9, 9]], [0, 0, 2, 3], [0, 0, 1, 0]),
         // a chain
         ([[1, 9], [2, 9], [3, 9], [9, 9]], [0, 1, 2, 3], [3, 2, 1, 0]),
