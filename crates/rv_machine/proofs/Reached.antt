@@ -122,7 +122,7 @@ pub reached_more : (flags : ℕ → ℕ) (n : ℕ) (old : Hart) (before : Port) 
 reached_more flags n old before (running s) h' now after r d = reached_by flags n old before s h' now after (next_effect flags s) refl r d
 reached_more flags n old before (ended e) h' now after r d = absurd d
 
--- the told rest of the input
+-- the known rest of the input
 abbrev pub known : Option (List ℕ) → List ℕ
 known None = []
 known (Some bytes) = bytes
