@@ -64,7 +64,7 @@ begins_token c l r a s t symbols e k h i g =
     is_choice-true l (start c (Some k) (at begins_type h))
     (all_kept (λ h. is_choice l (start c (Some k) (at begins_type h))) (λ h. at (ahead symbols) h || all_nullable symbols) h (heads (head_payload h)) (head_in h) g
     (all_kept (λ k. list_all (λ h. is_choice l (start c (Some k) (at begins_type h))) (kept (λ h. at (ahead symbols) h
-        || all_nullable symbols) (heads (head_payload h)))) (is t) k (kinds (payload k)) (kind_in k) i
+    || all_nullable symbols) (heads (head_payload h)))) (is t) k (kinds (payload k)) (kind_in k) i
     (subst (λ (symbols : List Symbol). good_begin (payload k) (head_payload h) c l symbols ≡ true) e (good_begin_of c l r a s (payload k) (head_payload h)))))
 
 good_begin_nonterminal : (c : Nonterminal) (l : Production) → is_read c ≡ true → allowed c l ≡ true → is_suffix l ≡ false → (d : Nonterminal) (symbols : List Symbol) → symbols_of l ≡ N d ∷ symbols →
@@ -107,13 +107,13 @@ either false b h e = absurd (cc e)
 if_else : (l n : Production) → (not (same_production n production.IfElse) || same_production l production.If) ≡ true → n ≡ production.IfElse → l ≡ production.If
 if_else l n h e =
     same_production-true l production.If (either (same_production n production.IfElse) (same_production l production.If) h (subst (λ (x : Production). same_production x production.IfElse ≡ true)
-        (sym e) same_if_else))
+    (sym e) same_if_else))
 
 -- what a production that goes on after a tree is
 pub next_is : (c : Nonterminal) (l : Production) (h : Option TokenKind) (n : Production) → is_read c ≡ true → allowed c l ≡ true → next c l h ≡ Some n → GoesOn c l h n
 next_is c l h n r a e =
     let g = conj5 (allowed c n) (is_suffix n) (allowed (front n) l) (at (ahead (rest_of n)) h) (not (same_production n production.IfElse)
-        || same_production l production.If) (subst (λ (o : Option Production). good_next c l h o ≡ true) e (good_next_of c l h r a)) in
+    || same_production l production.If) (subst (λ (o : Option Production). good_next c l h o ≡ true) e (good_next_of c l h r a)) in
     record { inside = g.0; suffix = g.1; after = g.2; ahead = g.3; nearest = if_else l n g.4 }
 
 stops_of : (c : Nonterminal) (l : Production) (h : Option TokenKind) → is_read c ≡ true → allowed c l ≡ true → follows c h ≡ true → stops l h (next c l h) ≡ true
@@ -121,7 +121,7 @@ stops_of c l h r a f =
     all_kept (λ h. stops l h (next c l h)) (follows c) h (heads (head_payload h)) (head_in h) f
     (all_in (λ l. list_all (λ h. stops l h (next c l h)) (kept (follows c) (heads (head_payload h)))) l (alternatives c) (production_among c l a)
     (all_in (λ c. list_all (λ l. list_all (λ h. stops l h (next c l h)) (kept (follows c) (heads (head_payload h)))) (alternatives c)) c read_nonterminals (nonterminal_among c r) (stops_checked
-        (head_payload h))))
+    (head_payload h))))
 
 -- what may follow ends a tree
 pub next_stops : (c : Nonterminal) (l : Production) (h : Option TokenKind) → is_read c ≡ true → allowed c l ≡ true → follows c h ≡ true → (is_else h ≡ true → l ≡ production.If → ⊥) → next c l h ≡ None
@@ -140,7 +140,7 @@ next_chosen c l n k r a s b f =
     (all_kept (λ k. list_all (λ l. is_choice n (next c l (Some k))) (alternatives (front n))) (ahead (rest_of n)) k (kinds (payload k)) (kind_in k) f
     (all_in (λ n. list_all (λ k. list_all (λ l. is_choice n (next c l (Some k))) (alternatives (front n))) (kept (ahead (rest_of n)) (kinds (payload k)))) n (suffixes c) (suffix_among c n a s)
     (all_in (λ c. list_all (λ n. list_all (λ k. list_all (λ l. is_choice n (next c l (Some k))) (alternatives (front n))) (kept (ahead (rest_of n)) (kinds (payload k)))) (suffixes c)) c
-        read_nonterminals (nonterminal_among c r) (chosen_checked (payload k))))))
+    read_nonterminals (nonterminal_among c r) (chosen_checked (payload k))))))
 
 -- the tree before is one of the nonterminal
 pub inner_is : (c : Nonterminal) (l n : Production) → is_read c ≡ true → allowed c n ≡ true → is_suffix n ≡ true → allowed (front n) l ≡ true → allowed c l ≡ true
@@ -159,14 +159,14 @@ if_is c h r a e =
     goes-some (next c production.If h)
     (all_kept (λ h. goes (next c production.If h)) is_else h (heads (head_payload h)) (head_in h) e
     (all_kept (λ c. list_all (λ h. goes (next c production.If h)) (kept is_else (heads (head_payload h)))) (λ c. allowed c production.If) c read_nonterminals (nonterminal_among c r) a (ifs_checked
-        (head_payload h))))
+    (head_payload h))))
 
 pub else_is : (n : Production) (k : TokenKind) → is_suffix n ≡ true → ahead (rest_of n) k ≡ true → is_else (Some k) ≡ true → n ≡ production.IfElse
 else_is n k s f e =
     same_production-true n production.IfElse (either (is_else (Some k)) (same_production n production.IfElse)
     (all_kept (λ k. not (is_else (Some k)) || same_production n production.IfElse) (ahead (rest_of n)) k (kinds (payload k)) (kind_in k) f
     (all_kept (λ n. list_all (λ k. not (is_else (Some k)) || same_production n production.IfElse) (kept (ahead (rest_of n)) (kinds (payload k)))) is_suffix n labels (production_in n) s
-        (elses_checked (payload k)))) e)
+    (elses_checked (payload k)))) e)
 
 -- ---- ends
 
@@ -175,14 +175,14 @@ ends_is c l h r a f =
     all_kept (ends (rest_of l)) (follows c) h (heads (head_payload h)) (head_in h) f
     (all_in (λ l. list_all (ends (rest_of l)) (kept (follows c) (heads (head_payload h)))) l (alternatives c) (production_among c l a)
     (all_in (λ c. list_all (λ l. list_all (ends (rest_of l)) (kept (follows c) (heads (head_payload h)))) (alternatives c)) c read_nonterminals (nonterminal_among c r) (ends_checked (head_payload
-        h))))
+    h))))
 
 pub before_is : (l n : Production) (k : TokenKind) → is_suffix n ≡ true → ahead (rest_of n) k ≡ true → allowed (front n) l ≡ true → ends (rest_of l) (Some k) ≡ true
 before_is l n k s f b =
     all_in (λ l. ends (rest_of l) (Some k)) l (alternatives (front n)) (production_among (front n) l b)
     (all_kept (λ k. list_all (λ l. ends (rest_of l) (Some k)) (alternatives (front n))) (ahead (rest_of n)) k (kinds (payload k)) (kind_in k) f
     (all_kept (λ n. list_all (λ k. list_all (λ l. ends (rest_of l) (Some k)) (alternatives (front n))) (kept (ahead (rest_of n)) (kinds (payload k)))) is_suffix n labels (production_in n) s
-        (before_checked (payload k))))
+    (before_checked (payload k))))
 
 -- ---- sequences
 
@@ -214,7 +214,7 @@ pub row_follows : (c : Nonterminal) (symbols : List Symbol) → Row (N c ∷ sym
 unfolding follows
 row_follows c symbols g k f =
     let h = conj2 (follows_kind c k) (not (is_else (Some k))) (all_kept (λ k. follows_kind c k && not (is_else (Some k))) (ahead symbols) k (kinds (payload k)) (kind_in k) f (good_row_nonterminal c
-        symbols g (payload k)).1) in
+    symbols g (payload k)).1) in
     (h.0, not-true (is_else (Some k)) h.1)
 
 -- ---- first tokens
@@ -230,7 +230,7 @@ nonempty_is c l n a =
     not-true (all_nullable (symbols_of l))
     (all_in (λ l. not (all_nullable (symbols_of l))) l (alternatives c) (production_among c l a)
     (all_kept (λ c. list_all (λ l. not (all_nullable (symbols_of l))) (alternatives c)) (λ c. not (is_nullable c)) c nonterminals (nonterminal_in c) (not_from_false (is_nullable c) n)
-        (nonempty_checked (payload (kind.Char 0)))))
+    (nonempty_checked (payload (kind.Char 0)))))
 
 tail_of : (n : Production) → is_suffix n ≡ true → (is_nonterminal (symbols_of n) ≡ true) × (not (all_nullable (rest_of n)) ≡ true)
 tail_of n s =
@@ -284,7 +284,7 @@ ranks_of : (c : Nonterminal) → is_read c ≡ true → (nat_le (precedence c) 1
 ranks_of c r =
     conj2 (nat_le (precedence c) 10) (list_all (λ l. good_ranks (precedence c) (rest_of l)) (alternatives c))
     (all_in (λ c. nat_le (precedence c) 10 && list_all (λ l. good_ranks (precedence c) (rest_of l)) (alternatives c)) c read_nonterminals (nonterminal_among c r) (ranks_checked (payload (kind.Char
-        0))))
+    0))))
 
 pub rank_low : (c : Nonterminal) → is_read c ≡ true → precedence c ≤ 10
 rank_low c r = leb-true (precedence c) 10 (ranks_of c r).0

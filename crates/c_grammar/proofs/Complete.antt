@@ -71,7 +71,7 @@ start_chosen c l f j r a s i (T t ∷ symbols) e h =
     let g = leaf_is t symbols f h in
     subst (λ (f : Tree). start c (head (spelled f j)) (typed (spelled f j)) ≡ Some l) g.is_so
     (ap (λ b. start c (Some g.token.kind) b) (typed_cons g.token (spelled g.others j)) ∙ begins_token c l r a s t symbols e g.token.kind (head (spelled g.others j)) g.stands_for (after_row symbols
-        g.others j g.fits))
+    g.others j g.fits))
 start_chosen c l f j r a s i (N d ∷ symbols) e h = go (opens f (All (N d ∷ symbols)) h)
   where
     go : Opens (ahead (N d ∷ symbols)) (all_nullable (N d ∷ symbols)) f → start c (head (spelled f j)) (typed (spelled f j)) ≡ Some l
@@ -123,7 +123,7 @@ prefix_reaches : (n : ℕ) (c : Nonterminal) (l : Production) (f : Tree) (j : Li
 unfolding step first begun spelled
 prefix_reaches n c l f j rows h r s i q =
     go (rows (symbols_of l) (fits_parts c l f h) n j (subst (λ (symbols : List Symbol). Row symbols) (rest_is l s) (row_is l)) (subst (λ (symbols : List Symbol). ends symbols (head j) ≡ true)
-        (rest_is l s) (sits_ends c l (head j) r a i)) q)
+    (rest_is l s) (sits_ends c l (head j) r a i)) q)
   where
     a : allowed c l ≡ true
     a = fits_allowed c l f h
@@ -142,7 +142,7 @@ one_turn : (n m : ℕ) (c : Nonterminal) (k l : Production) (f : Tree) (ts : Lis
 unfolding turns production_of goes_on later
 one_turn n m c k l f ts s e =
     ap (λ o. goes_on (read n) o (Node k f) ts (turns (read n) m c)) e ∙ ap (λ (symbols : List Symbol). and_then (and_then (children (read n) symbols ts) (λ g j. Read (Node l (Cons (Node k f) g)) j))
-        (turns (read n) m c)) (drop_front l s)
+    (turns (read n) m c)) (drop_front l s)
 
 turn_on : (n m : ℕ) (c : Nonterminal) (k l : Production) (f g : Tree) (j : List Token) → is_suffix l ≡ true → next c k (head (spelled g j)) ≡ Some l →
     Reads (children (read n) (rest_of l) (spelled g j)) g j → (turns (read n) m c (Node k f) (spelled g j) ≡ OutOfFuel) ⊎ ((i : ℕ) × (turns (read n) m c (Node k f) (spelled g j) ≡ turns (read n) i c
@@ -160,8 +160,13 @@ after_front : (n : ℕ) (c : Nonterminal) (l k : Production) (f g : Tree) (j : L
     Reaches n c (Node k f) (spelled g j)
 unfolding Sits
 after_front n c l k f g j x more whole h e r a s o q =
-    whole c k f refl (fits_node c k f (inner_is c k l r a s b) (fits_else (front l) k f h) (fits_parts (front l) k f h)) n (spelled g j) r (inr (l, a, s, b,
-        ap (λ z. at (ahead (rest_of l)) (head z)) q ∙ o)) (λ z. quiet (ap (λ z. is_else (head z)) (sym q) ∙ z))
+    whole c k f refl (fits_node c k f (inner_is c k l r a s b) (fits_else (front l) k f h) (fits_parts (front l) k f h)) n (spelled g j) r (inr (
+      l,
+      a,
+      s,
+      b,
+      ap (λ z. at (ahead (rest_of l)) (head z)) q ∙ o,
+    )) (λ z. quiet (ap (λ z. is_else (head z)) (sym q) ∙ z))
   where
     b : allowed (front l) k ≡ true
     b = fits_allowed (front l) k f h
@@ -275,7 +280,7 @@ token_rows : (s : Terminal) (symbols : List Symbol) (t g : Tree) (n : ℕ) (j : 
 unfolding Fits spelled ends one
 token_rows s symbols (Leaf x) g n j rows h row e q =
     joined (read n) (T s) symbols (Leaf x) g (x ∷ spelled g j) (spelled g j) j (inl (token_read s x (spelled g j) h.0)) (rows symbols h.1 n j (row_token s symbols row) e (λ z. waits_after (Leaf x) g
-        (q z)))
+    (q z)))
 token_rows s symbols (Node l f) g n j rows h row e q = absurd h
 token_rows s symbols Nil g n j rows h row e q = absurd h
 token_rows s symbols (Cons u f) g n j rows h row e q = absurd h
@@ -287,7 +292,7 @@ nonterminal_rows c symbols t g n j whole rows h row e q =
     let d = ends_nonterminal c symbols (head j) e in
     let f = nonterminal_follows c symbols t g j row d q h.1 in
     joined (read n) (N c) symbols t g (spelled t (spelled g j)) (spelled g j) j (read_whole n c t (spelled g j) h.0 whole (row_read c symbols row) f.0 f.1) (rows symbols h.1 n j (row_rest c symbols
-        row) d.others (λ z. waits_after t g (q z)))
+    row) d.others (λ z. waits_after t g (q z)))
 
 cons_rows : (t g : Tree) → Whole t → Rows g → Rows (Cons t g)
 cons_rows t g whole rows [] h n j row e q = absurd (cons_not_empty t g h)

@@ -103,7 +103,7 @@ parts_fresh n r enough (T s ∷ symbols) row ranks ts h e =
         inside (inr i) = not_deep (Cons g.tree i.tree) i.left i.then_is
 parts_fresh n r enough (N c ∷ symbols) row ranks ts h e =
     go (deep (read n c ts) (λ t k. and_then (children (read n) symbols k) (λ f j. Read (Cons t f) j)) e) (parts_fresh n r enough symbols (row_rest c symbols row) (and_right (nat_lt (precedence c) r)
-        (good_ranks r symbols) ranks))
+    (good_ranks r symbols) ranks))
   where
     lower : precedence c < r
     lower = ltb-true (precedence c) r (and_left (nat_lt (precedence c) r) (good_ranks r symbols) ranks)
@@ -153,7 +153,7 @@ goes_on_enough n m c enough again l f ts s b h (Some k) e i = go (deep (later (r
         let d = both (children (read n) (drop 1 (symbols_of k)) ts) (λ g j. Read (Node k (Cons (Node l f) g)) j) g.tree g.left g.first_is in
         let p = parts_sound (read n) (read_sound n) (drop 1 (symbols_of k)) ts d.tree d.left d.first_is in
         let less : length d.left < length ts = later_shorter k d.tree ts d.left (rest_filled k on.suffix) (subst (λ (symbols : List Symbol). Fits (All symbols) d.tree) (drop_front k on.suffix)
-            p.fits) p.spells in
+        p.fits) p.spells in
         again k (Cons (Node l f) d.tree) d.left (later_stands c l k f d.tree ts d.left s e p) (omega arith) (omega arith)
         (ap (λ (o : ReadResult). and_then o (turns (read n) m c)) d.then_is ∙ g.then_is)
 

@@ -32,19 +32,19 @@ payload _ = record { name = []; value = 0; unsigned = false; char = 0; text = []
 abbrev pub other_kinds : Payload → List TokenKind
 other_kinds y =
     kind.Number y.value y.unsigned ∷ kind.Char y.char ∷ kind.Text y.text ∷ kind.Keyword word.Break ∷ kind.Keyword word.Case ∷ kind.Keyword word.Char ∷ kind.Keyword word.Const ∷
-        kind.Keyword word.Continue ∷ kind.Keyword word.Default ∷ kind.Keyword word.Do ∷ kind.Keyword word.Else ∷ kind.Keyword word.For ∷ kind.Keyword word.If ∷ kind.Keyword word.Int ∷
-        kind.Keyword word.Return ∷ kind.Keyword word.Short ∷ kind.Keyword word.Signed ∷ kind.Keyword word.Sizeof ∷ kind.Keyword word.Static ∷ kind.Keyword word.Struct ∷ kind.Keyword word.Switch ∷
-        kind.Keyword word.Unsigned ∷ kind.Keyword word.Void ∷ kind.Keyword word.While ∷ kind.Keyword word.Auto ∷ kind.Keyword word.Double ∷ kind.Keyword word.Enum ∷ kind.Keyword word.Extern ∷
-        kind.Keyword word.Float ∷ kind.Keyword word.Goto ∷ kind.Keyword word.Inline ∷ kind.Keyword word.Long ∷ kind.Keyword word.Register ∷ kind.Keyword word.Restrict ∷ kind.Keyword word.Typedef ∷
-        kind.Keyword word.Union ∷ kind.Keyword word.Volatile ∷ kind.Keyword word.Alignas ∷ kind.Keyword word.Alignof ∷ kind.Keyword word.Atomic ∷ kind.Keyword word.Bool ∷ kind.Keyword word.Complex ∷
-        kind.Keyword word.Generic ∷ kind.Keyword word.Imaginary ∷ kind.Keyword word.Noreturn ∷ kind.Keyword word.StaticAssert ∷ kind.Keyword word.ThreadLocal ∷ kind.Punct mark.LParen ∷
-        kind.Punct mark.RParen ∷ kind.Punct mark.LBracket ∷ kind.Punct mark.RBracket ∷ kind.Punct mark.LBrace ∷ kind.Punct mark.RBrace ∷ kind.Punct mark.Semicolon ∷ kind.Punct mark.Comma ∷
-        kind.Punct mark.Dot ∷ kind.Punct mark.Arrow ∷ kind.Punct mark.PlusPlus ∷ kind.Punct mark.MinusMinus ∷ kind.Punct mark.Amp ∷ kind.Punct mark.Star ∷ kind.Punct mark.Plus ∷
-        kind.Punct mark.Minus ∷ kind.Punct mark.Tilde ∷ kind.Punct mark.Bang ∷ kind.Punct mark.Slash ∷ kind.Punct mark.Percent ∷ kind.Punct mark.ShiftLeft ∷ kind.Punct mark.ShiftRight ∷
-        kind.Punct mark.Less ∷ kind.Punct mark.Greater ∷ kind.Punct mark.LessEqual ∷ kind.Punct mark.GreaterEqual ∷ kind.Punct mark.EqualEqual ∷ kind.Punct mark.BangEqual ∷ kind.Punct mark.Caret ∷
-        kind.Punct mark.Pipe ∷ kind.Punct mark.AmpAmp ∷ kind.Punct mark.PipePipe ∷ kind.Punct mark.Question ∷ kind.Punct mark.Colon ∷ kind.Punct mark.Equal ∷ kind.Punct mark.StarEqual ∷
-        kind.Punct mark.SlashEqual ∷ kind.Punct mark.PercentEqual ∷ kind.Punct mark.PlusEqual ∷ kind.Punct mark.MinusEqual ∷ kind.Punct mark.ShiftLeftEqual ∷ kind.Punct mark.ShiftRightEqual ∷
-        kind.Punct mark.AmpEqual ∷ kind.Punct mark.CaretEqual ∷ kind.Punct mark.PipeEqual ∷ []
+    kind.Keyword word.Continue ∷ kind.Keyword word.Default ∷ kind.Keyword word.Do ∷ kind.Keyword word.Else ∷ kind.Keyword word.For ∷ kind.Keyword word.If ∷ kind.Keyword word.Int ∷
+    kind.Keyword word.Return ∷ kind.Keyword word.Short ∷ kind.Keyword word.Signed ∷ kind.Keyword word.Sizeof ∷ kind.Keyword word.Static ∷ kind.Keyword word.Struct ∷ kind.Keyword word.Switch ∷
+    kind.Keyword word.Unsigned ∷ kind.Keyword word.Void ∷ kind.Keyword word.While ∷ kind.Keyword word.Auto ∷ kind.Keyword word.Double ∷ kind.Keyword word.Enum ∷ kind.Keyword word.Extern ∷
+    kind.Keyword word.Float ∷ kind.Keyword word.Goto ∷ kind.Keyword word.Inline ∷ kind.Keyword word.Long ∷ kind.Keyword word.Register ∷ kind.Keyword word.Restrict ∷ kind.Keyword word.Typedef ∷
+    kind.Keyword word.Union ∷ kind.Keyword word.Volatile ∷ kind.Keyword word.Alignas ∷ kind.Keyword word.Alignof ∷ kind.Keyword word.Atomic ∷ kind.Keyword word.Bool ∷ kind.Keyword word.Complex ∷
+    kind.Keyword word.Generic ∷ kind.Keyword word.Imaginary ∷ kind.Keyword word.Noreturn ∷ kind.Keyword word.StaticAssert ∷ kind.Keyword word.ThreadLocal ∷ kind.Punct mark.LParen ∷
+    kind.Punct mark.RParen ∷ kind.Punct mark.LBracket ∷ kind.Punct mark.RBracket ∷ kind.Punct mark.LBrace ∷ kind.Punct mark.RBrace ∷ kind.Punct mark.Semicolon ∷ kind.Punct mark.Comma ∷
+    kind.Punct mark.Dot ∷ kind.Punct mark.Arrow ∷ kind.Punct mark.PlusPlus ∷ kind.Punct mark.MinusMinus ∷ kind.Punct mark.Amp ∷ kind.Punct mark.Star ∷ kind.Punct mark.Plus ∷
+    kind.Punct mark.Minus ∷ kind.Punct mark.Tilde ∷ kind.Punct mark.Bang ∷ kind.Punct mark.Slash ∷ kind.Punct mark.Percent ∷ kind.Punct mark.ShiftLeft ∷ kind.Punct mark.ShiftRight ∷
+    kind.Punct mark.Less ∷ kind.Punct mark.Greater ∷ kind.Punct mark.LessEqual ∷ kind.Punct mark.GreaterEqual ∷ kind.Punct mark.EqualEqual ∷ kind.Punct mark.BangEqual ∷ kind.Punct mark.Caret ∷
+    kind.Punct mark.Pipe ∷ kind.Punct mark.AmpAmp ∷ kind.Punct mark.PipePipe ∷ kind.Punct mark.Question ∷ kind.Punct mark.Colon ∷ kind.Punct mark.Equal ∷ kind.Punct mark.StarEqual ∷
+    kind.Punct mark.SlashEqual ∷ kind.Punct mark.PercentEqual ∷ kind.Punct mark.PlusEqual ∷ kind.Punct mark.MinusEqual ∷ kind.Punct mark.ShiftLeftEqual ∷ kind.Punct mark.ShiftRightEqual ∷
+    kind.Punct mark.AmpEqual ∷ kind.Punct mark.CaretEqual ∷ kind.Punct mark.PipeEqual ∷ []
 
 abbrev pub kinds : Payload → List TokenKind
 kinds y = kind.Name y.name ∷ other_kinds y

@@ -46,11 +46,19 @@ node_opens c l f a (inr h) = inr (h.0, h.1, first_is c l h.0.kind a h.2, h.3)
 cons_opens : (c : Nonterminal) (symbols : List Symbol) (t f : Tree) → Opens (begins c) (is_nullable c) t → Opens (ahead symbols) (all_nullable symbols) f →
     Opens (ahead (N c ∷ symbols)) (all_nullable (N c ∷ symbols)) (Cons t f)
 unfolding Opens spelled ahead all_nullable
-cons_opens c symbols t f (inr h) g = inr (h.0, h.1 ++ spelled f [], left_or (begins c h.0.kind) (is_nullable c && ahead symbols h.0.kind) h.2,
-    λ j. ap (spelled t) (spelled_append f j) ∙ h.3 (spelled f [] ++ j) ∙ ap (λ z. h.0 ∷ z) (sym (append_assoc h.1 (spelled f []) j)))
+cons_opens c symbols t f (inr h) g = inr (
+  h.0,
+  h.1 ++ spelled f [],
+  left_or (begins c h.0.kind) (is_nullable c && ahead symbols h.0.kind) h.2,
+  λ j. ap (spelled t) (spelled_append f j) ∙ h.3 (spelled f [] ++ j) ∙ ap (λ z. h.0 ∷ z) (sym (append_assoc h.1 (spelled f []) j)),
+)
 cons_opens c symbols t f (inl h) (inl g) = inl (both_true (is_nullable c) (all_nullable symbols) h.0 g.0, λ j. h.1 (spelled f j) ∙ g.1 j)
-cons_opens c symbols t f (inl h) (inr g) = inr (g.0, g.1, right_or (begins c g.0.kind) (is_nullable c && ahead symbols g.0.kind) (both_true (is_nullable c) (ahead symbols g.0.kind) h.0 g.2),
-    λ j. h.1 (spelled f j) ∙ g.3 j)
+cons_opens c symbols t f (inl h) (inr g) = inr (
+  g.0,
+  g.1,
+  right_or (begins c g.0.kind) (is_nullable c && ahead symbols g.0.kind) (both_true (is_nullable c) (ahead symbols g.0.kind) h.0 g.2),
+  λ j. h.1 (spelled f j) ∙ g.3 j,
+)
 
 nil_opens : Opens (ahead []) (all_nullable []) Nil
 unfolding Opens spelled ahead all_nullable

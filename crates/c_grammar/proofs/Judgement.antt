@@ -191,9 +191,13 @@ compare (x ∷ p) (y ∷ q) a b e = compare_cons x y p q a b (cc e) (compare p q
 
 begins_shorter : (p more : List Token) (x : Token) → Begins (kinds (p ++ x ∷ more)) → Begins (kinds (p ++ x ∷ []))
 unfolding Begins
-begins_shorter p more x b =
-    (b.0, kinds more ++ b.1, b.2, b.3 ∙ ap (λ z. kinds z ++ b.1) (sym (append_assoc p (x ∷ []) more)) ∙ ap (λ z. z ++ b.1) (kinds_append (p ++ x ∷ []) more) ∙ append_assoc (kinds (p ++ x ∷
-        [])) (kinds more) b.1)
+begins_shorter p more x b = (
+  b.0,
+  kinds more ++ b.1,
+  b.2,
+  b.3 ∙ ap (λ z. kinds z ++ b.1) (sym (append_assoc p (x ∷ []) more)) ∙ ap (λ z. z ++ b.1) (kinds_append (p ++ x ∷ []) more) ∙ append_assoc (kinds (p ++ x ∷
+      [])) (kinds more) b.1,
+)
 
 pub one_token : OneToken
 one_token ts a b u v = go (compare u.before v.before a b (sym u.split ∙ v.split))

@@ -66,13 +66,25 @@ module _ (x : Token) (r s : List Token) where
   parts_twin rd small twin [] p = inl (refl, (p, refl, refl))
   parts_twin rd small twin (T t ∷ symbols) p =
       then_twin (token t (p ++ x ∷ r)) (token t (p ++ x ∷ s)) (λ t k. and_then (children rd symbols k) (λ f j. Read (Cons t f) j)) (token_twin t p)
-      (λ t q. then_twin (children rd symbols (q ++ x ∷ r)) (children rd symbols (q ++ x ∷ s)) (λ f j. Read (Cons t f) j) (parts_twin rd small twin symbols q) (λ f i. inl (refl, (i, refl,
-          refl))) (λ f k h. h))
+      (λ t q. then_twin (children rd symbols (q ++ x ∷ r)) (children rd symbols (q ++ x ∷ s)) (λ f j. Read (Cons t f) j) (parts_twin rd small twin symbols q) (λ f i. inl (
+        refl,
+        (
+          i,
+          refl,
+          refl,
+        ),
+      )) (λ f k h. h))
       (λ t k h. then_small (length r) (children rd symbols k) (λ f j. Read (Cons t f) j) (parts_small rd small symbols (length r) k h) (λ f j i. i))
   parts_twin rd small twin (N c ∷ symbols) p =
       then_twin (rd c (p ++ x ∷ r)) (rd c (p ++ x ∷ s)) (λ t k. and_then (children rd symbols k) (λ f j. Read (Cons t f) j)) (twin c p)
-      (λ t q. then_twin (children rd symbols (q ++ x ∷ r)) (children rd symbols (q ++ x ∷ s)) (λ f j. Read (Cons t f) j) (parts_twin rd small twin symbols q) (λ f i. inl (refl, (i, refl,
-          refl))) (λ f k h. h))
+      (λ t q. then_twin (children rd symbols (q ++ x ∷ r)) (children rd symbols (q ++ x ∷ s)) (λ f j. Read (Cons t f) j) (parts_twin rd small twin symbols q) (λ f i. inl (
+        refl,
+        (
+          i,
+          refl,
+          refl,
+        ),
+      )) (λ f k h. h))
       (λ t k h. then_small (length r) (children rd symbols k) (λ f j. Read (Cons t f) j) (parts_small rd small symbols (length r) k h) (λ f j i. i))
 
   -- ---- beginning
@@ -81,8 +93,14 @@ module _ (x : Token) (r s : List Token) where
   unfolding begun
   begun_twin rd small twin None p = inl (p, refl, refl)
   begun_twin rd small twin (Some l) p =
-      then_twin (children rd (symbols_of l) (p ++ x ∷ r)) (children rd (symbols_of l) (p ++ x ∷ s)) (λ f k. Read (Node l f) k) (parts_twin rd small twin (symbols_of l) p) (λ f q. inl (refl, (q,
-          refl, refl))) (λ f k h. h)
+      then_twin (children rd (symbols_of l) (p ++ x ∷ r)) (children rd (symbols_of l) (p ++ x ∷ s)) (λ f k. Read (Node l f) k) (parts_twin rd small twin (symbols_of l) p) (λ f q. inl (
+        refl,
+        (
+          q,
+          refl,
+          refl,
+        ),
+      )) (λ f k h. h)
 
   took : (rd : Nonterminal → List Token → ReadResult) → SmallReader rd → (symbols : List Symbol) → takes x.kind symbols ≡ true → Small (length r) (children rd symbols (x ∷ r))
   unfolding children one token
@@ -143,7 +161,7 @@ module _ (x : Token) (r s : List Token) where
   goes_on_twin rd small twin (Some l) t p go g m =
       then_twin (later rd l t (p ++ x ∷ r)) (later rd l t (p ++ x ∷ s)) go
       (then_twin (children rd (drop 1 (symbols_of l)) (p ++ x ∷ r)) (children rd (drop 1 (symbols_of l)) (p ++ x ∷
-          s)) (λ f k. Read (Node l (Cons t f)) k) (parts_twin rd small twin (drop 1 (symbols_of l)) p) (λ f q. inl (refl, (q, refl, refl))) (λ f k h. h))
+      s)) (λ f k. Read (Node l (Cons t f)) k) (parts_twin rd small twin (drop 1 (symbols_of l)) p) (λ f q. inl (refl, (q, refl, refl))) (λ f k h. h))
       g m
 
   turns_twin : (rd : Nonterminal → List Token → ReadResult) → SmallReader rd → TwinReader rd → (n : ℕ) (c : Nonterminal) → TwinTurns (turns rd n c)
@@ -151,14 +169,14 @@ module _ (x : Token) (r s : List Token) where
   turns_twin rd small twin zero c t p = inr tt
   turns_twin rd small twin (suc n) c t p =
       subst (λ (h : Option TokenKind). Twin (goes_on rd (next c (production_of t) (head (p ++ x ∷ r))) t (p ++ x ∷ r) (turns rd n c)) (goes_on rd (next c (production_of t) h) t (p ++ x ∷
-          s) (turns rd n c))) (head_same p)
+      s) (turns rd n c))) (head_same p)
       (goes_on_twin rd small twin (next c (production_of t) (head (p ++ x ∷ r))) t p (turns rd n c) (turns_twin rd small twin n c) (λ u k h. turns_small rd small n c (length r) u k h))
 
   step_twin : (rd : Nonterminal → List Token → ReadResult) → SmallReader rd → TwinReader rd → (n : ℕ) (c : Nonterminal) (p : List Token) → Twin (step n rd c (p ++ x ∷ r)) (step n rd c (p ++ x ∷ s))
   unfolding step
   step_twin rd small twin n c p =
       then_twin (first rd c (p ++ x ∷ r)) (first rd c (p ++ x ∷ s)) (turns rd (suc n) c) (first_twin rd small twin c p) (turns_twin rd small twin (suc n) c) (λ t k h. turns_small rd small (suc n) c
-          (length r) t k h)
+      (length r) t k h)
 
   pub read_twin : (n : ℕ) → TwinReader (read n)
   unfolding read

@@ -107,7 +107,7 @@ semicolon = leaf (Mark mark.Semicolon)
 abbrev pub some_names : Tree
 some_names =
     Node production.Globals (row (Node (production.Empty production.OpenDimensions) Nil ∷ Node (production.Absent production.Initialiser) Nil ∷ Node (production.Empty production.MoreDecls) Nil ∷
-        semicolon ∷ []))
+    semicolon ∷ []))
 
 abbrev pub some_list : Tree
 some_list = Node production.InitFirst (row (some_expr ∷ []))
@@ -128,7 +128,7 @@ some_member =
 abbrev pub some_decl : Tree
 some_decl =
     Node production.Decl (row (Node (production.Empty production.Stars) Nil ∷ leaf AnyName ∷ Node (production.Empty production.OpenDimensions) Nil ∷
-        Node (production.Absent production.Initialiser) Nil ∷ []))
+    Node (production.Absent production.Initialiser) Nil ∷ []))
 
 unfoldable pub some_tree : Nonterminal → Tree
 some_tree (Many k) = Node (production.Empty k) Nil
@@ -150,13 +150,13 @@ some_tree InitEnded = some_list
 some_tree InitOpen = Node production.InitComma (row (some_list ∷ leaf (Mark mark.Comma) ∷ []))
 some_tree Param =
     Node production.Param (row (Node (production.Absent production.Constant) Nil ∷ some_spec ∷ Node (production.Empty production.Stars) Nil ∷ Node (production.Absent production.ParamName) Nil ∷
-        Node (production.Empty production.OpenDimensions) Nil ∷ []))
+    Node (production.Empty production.OpenDimensions) Nil ∷ []))
 some_tree Spec = some_spec
 some_tree PlainSpec = some_spec
 some_tree Base = some_spec
 some_tree TypeName =
     Node production.TypeName (row (Node (production.Absent production.Constant) Nil ∷ some_spec ∷ Node (production.Empty production.Stars) Nil ∷ Node (production.Empty production.Dimensions) Nil ∷
-        []))
+    []))
 some_tree Block =
     Node production.Block (row (leaf (Mark mark.LBrace) ∷ Node (production.Empty production.Items) Nil ∷ leaf (Mark mark.RBrace) ∷ []))
 some_tree Item = some_stmt

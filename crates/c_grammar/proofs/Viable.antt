@@ -105,7 +105,7 @@ unfolding spelled
 token_read s symbols ts t j k e v =
     let d = token_done s ts t j e in
     first_read (T s) symbols ts t j k (subst (λ (u : Tree). ts ≡ spelled u j) (sym d.2) d.3) (λ f h. subst (λ (u : Tree). Fits (All (T s ∷
-        symbols)) (Cons u f)) (sym d.2) (fits_leaf s symbols d.0 f d.1 h)) v
+    symbols)) (Cons u f)) (sym d.2) (fits_leaf s symbols d.0 f d.1 h)) v
 
 pub parts_viable : (rd : Nonterminal → List Token → ReadResult) → Sound rd → ViableReader rd → (symbols : List Symbol) (ts k : List Token) → children rd symbols ts ≡ SyntaxError k →
     ViableParts symbols ts k

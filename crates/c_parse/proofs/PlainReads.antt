@@ -114,5 +114,21 @@ pub read-locals : (n : ℕ) (ts : List Token) → 0 < n → read n Locals ts ≡
 unfolding start next
 read-locals n ts h = read_made Locals n ts h (λ l j. refl)
 
-pub ruleset plain_reads = (read-members, read-member, read-locals, read-opt, read-absent, read-external, read-after_tag, read-after_type, read-function, read-globals, read-prototype, read-for,
-    read-param, read-block, read-group, read-production)
+pub ruleset plain_reads = (
+  read-members,
+  read-member,
+  read-locals,
+  read-opt,
+  read-absent,
+  read-external,
+  read-after_tag,
+  read-after_type,
+  read-function,
+  read-globals,
+  read-prototype,
+  read-for,
+  read-param,
+  read-block,
+  read-group,
+  read-production,
+)

@@ -34,12 +34,12 @@ block-tree a xs b =
     ap (λ block. node l.Block (mark m.LBrace block.open ∷ items_tree block.items ∷ mark m.RBrace block.close ∷ []))
     (out-roll-Block (record { «open» = a; items = xs; close = b }))
 
-pub group-tree : (x : Production) (xs : List Production) (s : Stmt) (ss : List Stmt) →
-    group_tree (roll-Group (record { production = x; labels = xs; first = s; more = ss }))
+pub group-tree : (x : Label) (xs : List Label) (s : Stmt) (ss : List Stmt) →
+    group_tree (roll-Group (record { label = x; labels = xs; first = s; more = ss }))
     ≡ node l.Group (label_tree x ∷ labels_tree xs ∷ stmt_tree s ∷ stmts_tree ss ∷ [])
 unfolding group_tree
 group-tree x xs s ss =
-    ap (λ group. node l.Group (label_tree group.production ∷ labels_tree group.labels ∷ stmt_tree group.first ∷ stmts_tree group.more ∷ []))
-    (out-roll-Group (record { production = x; labels = xs; first = s; more = ss }))
+    ap (λ group. node l.Group (label_tree group.label ∷ labels_tree group.labels ∷ stmt_tree group.first ∷ stmts_tree group.more ∷ []))
+    (out-roll-Group (record { label = x; labels = xs; first = s; more = ss }))
 
 pub ruleset type_views = (type-tree, block-tree, group-tree)

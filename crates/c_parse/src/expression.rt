@@ -75,6 +75,16 @@ impl Tokens<'_> {
         Ok(Expr::Name(name))
     }
 
+    /// String literals, as many as follow one another.
+    fn string_literals(&mut self, fuel: usize) -> Result<Expr, Fault>
+        ensures { Gives expr_tree (begun (read fuel) (Some production.Text) self.old) result
+            self.new }
+    {
+        let first = self.literal()?;
+        let more = try_with!(self.more_literals(fuel); first);
+        Ok(Expr::Text { first, more })
+    }
+
     /// An expression in parentheses.
     #[cycle(expression)]
     fn parenthesised(&mut self, fuel: usize) -> Result<Expr, Fault>

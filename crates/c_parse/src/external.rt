@@ -420,8 +420,11 @@ impl Tokens<'_> {
 
 /// What is declared, with its type in front of it.
 fn whole(storage: Option<Span>, qualifier: Option<Span>, spec: Spec, declared: Declared) -> External
-    ensures { external_tree result ≡ specified (record { storage = storage; qualifier = qualifier;
-        spec = spec }) (declared_tree declared) }
+    ensures { external_tree result ≡ specified (record {
+      storage = storage;
+      qualifier = qualifier;
+      spec = spec;
+    }) (declared_tree declared) }
 {
     let specifiers = Specifiers {
         storage,

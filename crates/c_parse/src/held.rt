@@ -12,4 +12,5 @@ macro_rules! try_with {
         }
     };
 }
+
 pub(crate) use try_with;

@@ -12,7 +12,6 @@ ghost use Rattle.c_grammar.specs.PredictSets.{head, at};
 ghost use Rattle.c_parse.specs.Reading.{Gives, number_of, char_of, literal_of};
 
 use crate::fault::Fault;
-use crate::held::try_with;
 use crate::tokens::Tokens;
 use c_ast::{Expr, Literal};
 use c_lex::{Bytes, TokenKind};
@@ -100,16 +99,6 @@ impl<'a> Tokens<'a> {
             }
             None => Err(Fault::Syntax),
         }
-    }
-
-    /// String literals, as many as follow one another.
-    pub fn string_literals(&mut self, fuel: usize) -> Result<Expr, Fault>
-        ensures { Gives expr_tree (begun (read fuel) (Some production.Text) self.old) result
-            self.new }
-    {
-        let first = self.literal()?;
-        let more = try_with!(self.more_literals(fuel); first);
-        Ok(Expr::Text { first, more })
     }
 
     /// String literals after the first one.

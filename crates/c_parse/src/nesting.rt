@@ -15,6 +15,8 @@ use c_lex::{Keyword, Punct, Token, TokenKind};
 use limits::MOST_NESTING;
 use std::marker::Model;
 
+const MAX_DEPTH: u8 = MOST_NESTING as u8;
+
 /// A stack of counters. The depth is their sum, and their number less one.
 #[derive(Drop)]
 struct Counters {
@@ -166,7 +168,7 @@ pub fn first_too_deep(tokens: &[Token]) -> Option<u32>
     let mut counters = Counters::new();
     for (i, token) in tokens.iter().enumerate() {
         counters.pass(&token.kind, &tokens[i + 1..]);
-        if u32::from(counters.depth()) > MOST_NESTING {
+        if counters.depth() > MAX_DEPTH {
             return Some(token.at);
         }
     }

@@ -16,7 +16,7 @@ ghost use Rattle.c_parse.specs.Operands.{nonterminal_of, operand_of, operand_pro
 ghost use Rattle.c_ast.specs.Terminals.{operator_level};
 
 use crate::tokens::Tokens;
-use c_ast::{AssignOp, BinaryOp, Expr, Selection, IncDec, UnaryOp};
+use c_ast::{AssignOp, BinaryOp, Expr, IncDec, Selection, UnaryOp};
 use c_lex::{Keyword, Punct, TokenKind};
 
 /// The operands that may stand somewhere, the tightest first: each precedence has those of the

@@ -421,8 +421,7 @@ impl Tokens<'_> {
     /// Statements after the first one of a group.
     #[cycle(statement)]
     fn more_statements(&mut self, fuel: usize) -> Result<Items<Stmt>, Fault>
-        ensures { Gives stmts_tree (read fuel (Many production.MoreStmts) self.old) result self.new
-            }
+        ensures { Gives stmts_tree (read fuel (Many production.MoreStmts) self.old) result self.new }
     {
         if fuel == 0 {
             return Err(Fault::OutOfFuel);
