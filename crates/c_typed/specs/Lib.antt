@@ -1,0 +1,10 @@
+pub mod Typed
+pub mod Codes
+pub mod StmtCodes
+pub mod ProgramCodes
+pub mod ExprViews
+pub mod ExprFalls
+pub mod StmtViews
+pub mod StmtFalls
+pub mod ProgramViews
+pub mod WellTyped
