@@ -10,14 +10,14 @@ use Rattle.g_graph.specs.declared.op.Op.TheVariants.{Local, Load, Store, Clear, 
 use Rattle.g_graph.specs.declared.op.Origin.{Origin}
 use Rattle.g_graph.specs.declared.op.Origin.TheVariants.{Arg, Out}
 use Rattle.g_graph.specs.Plain.{RegionTree, region, NodeTree, node, NodeTrees, no_nodes, node_then, RegionTrees, no_regions, region_then, nodes_of, id_of, args_of}
-use Rattle.g_graph.specs.Rows.{joined, first_args, inputs_of, outputs_of, result_kinds, output_kinds, kind_after}
-use Rattle.g_graph.specs.Scope.{same_kind, is_of, known, last_place, origin_at, state_after, each_node}
+use Rattle.g_graph.specs.Signatures.{joined, first_args, inputs_of, outputs_of, result_kinds, output_kinds, kind_after}
+use Rattle.g_graph.specs.Scope.{same_kind, is_of, known, last_index, origin_at, state_after, each_node}
 use Rattle.g_graph.specs.Ids.{region_ids, node_ids, nodes_ids, regions_ids}
 use Rattle.g_graph.specs.Change.{first_some, region_changed, node_changed, nodes_changed, regions_changed}
 use Rattle.g_graph.specs.WellFormed.{all_of, some_of, all_regions, are, same, kinds_of, one_state_each, has_its_regions, regions_fit, theta_has_states, has_its_width, has_its_object, is_origin, is_last_of, is_last, node_fits, gives, region_fits, every_region, every_in_node, every_in_nodes, every_in_regions}
-use Rattle.g_graph.proofs.SpliceLemmas.{nodes_of-append, kind_after-joined, state_after-joined}
-use Rattle.g_graph.proofs.UniqueLemmas.{first_true, second_true}
-use Rattle.g_graph.proofs.NumberedLemmas.{Numbered, numbered_left, numbered_right, numbered_rest}
+use Rattle.g_graph.proofs.lemmas.Splices.{nodes_of-append, kind_after-joined, state_after-joined}
+use Rattle.g_graph.proofs.lemmas.Unique.{first_true, second_true}
+use Rattle.g_graph.proofs.lemmas.Numbers.{Numbered, numbered_left, numbered_right, numbered_rest}
 
 -- after the one nodes origins have the kinds that they have after the others, and states come from the same
 pub record SameScope (bs cs : NodeTrees) : Type 0 where
@@ -34,8 +34,8 @@ known_same args bs cs s (Out n p) = s.kinds n p None
 last_of_same : (args : List Kind) (bs cs : NodeTrees) → SameScope bs cs → (x : Option Kind) (o : Origin) → is_last_of x args cs o ≡ is_last_of x args bs o
 last_of_same args bs cs s None o = refl
 last_of_same args bs cs s (Some Value) o = refl
-last_of_same args bs cs s (Some Memory) o = ap (λ p. is_origin p o) (s.states Memory (origin_at Arg (last_place Memory 0 (map Some args) None) None))
-last_of_same args bs cs s (Some Io) o = ap (λ p. is_origin p o) (s.states Io (origin_at Arg (last_place Io 0 (map Some args) None) None))
+last_of_same args bs cs s (Some Memory) o = ap (λ p. is_origin p o) (s.states Memory (origin_at Arg (last_index Memory 0 (map Some args) None) None))
+last_of_same args bs cs s (Some Io) o = ap (λ p. is_origin p o) (s.states Io (origin_at Arg (last_index Io 0 (map Some args) None) None))
 
 pub last_same : (args : List Kind) (bs cs : NodeTrees) → SameScope bs cs → (o : Origin) → is_last args cs o ≡ is_last args bs o
 last_same args bs cs s o = ap (λ x. is_last_of x args cs o) (known_same args bs cs s o) ∙ last_of_same args bs cs s (known args bs o) o
@@ -49,7 +49,7 @@ scope_more bs cs x y s i o = record {
       ∙ sym (ap (λ ns. kind_after ns n p found) (nodes_of-append bs (x ∷ [])) ∙ kind_after-joined (nodes_of bs) (node_then x no_nodes) n p found);
   states = λ k found.
       ap (λ ns. state_after k ns found) (nodes_of-append cs (y ∷ [])) ∙ state_after-joined k (nodes_of cs) (node_then y no_nodes) found
-      ∙ (λ j. origin_at (λ p. Out (i j) p) (last_place k 0 (o j) None) (s.states k found j))
+      ∙ (λ j. origin_at (λ p. Out (i j) p) (last_index k 0 (o j) None) (s.states k found j))
       ∙ sym (ap (λ ns. state_after k ns found) (nodes_of-append bs (x ∷ [])) ∙ state_after-joined k (nodes_of bs) (node_then x no_nodes) found);
 }
 
@@ -147,7 +147,7 @@ nodes_kept_here : (objects : ℕ) (x y : NodeTree) (xs : NodeTrees) → NodeKept
 nodes_kept_here objects x y xs k rest = record {
   scope = record {
     kinds = λ n p found. λ i. kind_after xs n p (if k.id i == n then joined (slice_get (k.outputs i) p) else found);
-    states = λ s found. λ i. state_after s xs (origin_at (λ p. Out (k.id i) p) (last_place s 0 (k.outputs i) None) found);
+    states = λ s found. λ i. state_after s xs (origin_at (λ p. Out (k.id i) p) (last_index s 0 (k.outputs i) None) found);
   };
   gives_same = λ s. λ i. some_of (is_of s) (k.outputs i) || gives s xs;
   fits = λ args bs cs s. λ i.
@@ -155,11 +155,11 @@ nodes_kept_here objects x y xs k rest = record {
   inside = λ i. k.inside i && rest i;
 }
 
-nodes_kept_behind : (objects : ℕ) (x : NodeTree) (xs ys : NodeTrees) → every_in_node (region_fits objects) x ≡ true → NodesKept objects xs ys → NodesKept objects (node_then x xs) (node_then x ys)
-nodes_kept_behind objects x xs ys own k = record {
+nodes_kept_following : (objects : ℕ) (x : NodeTree) (xs ys : NodeTrees) → every_in_node (region_fits objects) x ≡ true → NodesKept objects xs ys → NodesKept objects (node_then x xs) (node_then x ys)
+nodes_kept_following objects x xs ys own k = record {
   scope = record {
     kinds = λ n p found. k.scope.kinds n p (if id_of x == n then joined (slice_get (output_kinds x) p) else found);
-    states = λ s found. k.scope.states s (origin_at (λ p. Out (id_of x) p) (last_place s 0 (output_kinds x) None) found);
+    states = λ s found. k.scope.states s (origin_at (λ p. Out (id_of x) p) (last_index s 0 (output_kinds x) None) found);
   };
   gives_same = λ s. ap (λ b. some_of (is_of s) (output_kinds x) || b) (k.gives_same s);
   fits = λ args bs cs s. λ i.
@@ -167,7 +167,8 @@ nodes_kept_behind objects x xs ys own k = record {
   inside = λ i. own i && k.inside i;
 }
 
-head_shape : (r s : RegionTree) (rs : RegionTrees) (id : ℕ) (op : Op) (inputs : List Origin) → has_its_regions (node id op inputs (region_then s rs)) ≡ has_its_regions (node id op inputs (region_then r rs))
+head_shape : (r s : RegionTree) (rs : RegionTrees) (id : ℕ) (op : Op) (inputs : List Origin) → has_its_regions (node id op inputs (region_then s rs)) ≡
+    has_its_regions (node id op inputs (region_then r rs))
 head_shape r s rs id Gamma inputs = refl
 head_shape r s no_regions id Theta inputs = refl
 head_shape r s (region_then a more) id Theta inputs = refl
@@ -179,7 +180,8 @@ long_shape r a b cs bs id Gamma inputs = refl
 long_shape r a b cs bs id Theta inputs = refl
 long_shape r a b cs bs id _ inputs = refl
 
-regions_kept_here : (objects : ℕ) (r s : RegionTree) (rs : RegionTrees) → RegionKept objects r s → every_in_regions (region_fits objects) rs ≡ true → RegionsKept objects (region_then r rs) (region_then s rs)
+regions_kept_here : (objects : ℕ) (r s : RegionTree) (rs : RegionTrees) → RegionKept objects r s → every_in_regions (region_fits objects) rs ≡ true →
+    RegionsKept objects (region_then r rs) (region_then s rs)
 regions_kept_here objects r s rs k rest = record {
   first = k.args;
   given = k.results;
@@ -189,8 +191,9 @@ regions_kept_here objects r s rs k rest = record {
   inside = λ i. k.inside i && rest i;
 }
 
-regions_kept_behind : (objects : ℕ) (r : RegionTree) (rs ss : RegionTrees) → every_region (region_fits objects) r ≡ true → RegionsKept objects rs ss → RegionsKept objects (region_then r rs) (region_then r ss)
-regions_kept_behind objects r rs ss own k = record {
+regions_kept_following : (objects : ℕ) (r : RegionTree) (rs ss : RegionTrees) → every_region (region_fits objects) r ≡ true → RegionsKept objects rs ss →
+    RegionsKept objects (region_then r rs) (region_then r ss)
+regions_kept_following objects r rs ss own k = record {
   first = refl;
   given = refl;
   each = λ g. ap (λ b. g (args_of r) (result_kinds r) && b) (k.each g);
@@ -264,7 +267,7 @@ mutual
           subst (λ t. NodesKept objects (node_then x xs) t) same (nodes_kept_here objects x y xs (h y a) rest)
       by_cases None (Some ys) a b c first rest h g =
           let same : node_then x ys ≡ ms = cc in
-          subst (λ t. NodesKept objects (node_then x xs) t) same (nodes_kept_behind objects x xs ys first (g ys b))
+          subst (λ t. NodesKept objects (node_then x xs) t) same (nodes_kept_following objects x xs ys first (g ys b))
       by_cases None None a b c first rest h g = absurd (cc)
 
   regions_changed_kept : (objects next : ℕ) (f : RegionTree → Option RegionTree) → KeepsRegion objects next f → (rs ss : RegionTrees) → regions_changed f rs ≡ Some ss →
@@ -286,5 +289,5 @@ mutual
           subst (λ t. RegionsKept objects (region_then r rs) t) same (regions_kept_here objects r s rs (h s a) rest)
       by_cases None (Some ts) a b c first rest h g =
           let same : region_then r ts ≡ ss = cc in
-          subst (λ t. RegionsKept objects (region_then r rs) t) same (regions_kept_behind objects r rs ts first (g ts b))
+          subst (λ t. RegionsKept objects (region_then r rs) t) same (regions_kept_following objects r rs ts first (g ts b))
       by_cases None None a b c first rest h g = absurd (cc)

@@ -6,19 +6,20 @@ use Rattle.g_graph.specs.declared.op.Op.{Op}
 use Rattle.g_graph.specs.declared.op.Op.TheVariants.{Local, Load, Store, Clear, Gamma, Theta}
 use Rattle.g_graph.specs.declared.op.Origin.{Origin}
 use Rattle.g_graph.specs.Plain.{NodeTree, node, NodeTrees, no_nodes, node_then, RegionTrees, no_regions, region_then, nodes_of}
-use Rattle.g_graph.specs.Rows.{inputs_of, outputs_of}
+use Rattle.g_graph.specs.Signatures.{inputs_of, outputs_of}
 use Rattle.g_graph.specs.Scope.{known, each_node}
 use Rattle.g_graph.specs.WellFormed.{all_of, are, one_state_each, has_its_regions, regions_fit, theta_has_states, has_its_width, has_its_object, inputs_fit, is_last, inputs_are_last, node_has_one_state_each, node_fits}
 use Rattle.g_graph.specs.Replace.{node_redirected, nodes_redirected}
 use Rattle.g_graph.specs.Splice.{joined_nodes}
-use Rattle.g_graph.proofs.SpliceLemmas.{nodes_of-append, joined_assoc}
-use Rattle.g_graph.proofs.UniqueLemmas.{first_true, second_true}
+use Rattle.g_graph.proofs.lemmas.Splices.{joined_none, joined_following}
+use Rattle.g_graph.proofs.lemmas.Unique.{first_true, second_true}
 
 -- an origin that is known and the last of its kind of state stays so
 pub record ScopeMap (args : List Kind) (bs : NodeTrees) (others : List Kind) (cs : NodeTrees) (f : Origin → Origin) : Type 0 where
   pub one : (o : Origin) → is_last args bs o ≡ true → (known others cs (f o) ≡ known args bs o) × (is_last others cs (f o) ≡ true)
 
-pub mapped_all : (args : List Kind) (bs : NodeTrees) (others : List Kind) (cs : NodeTrees) (f : Origin → Origin) → ScopeMap args bs others cs f → (os : List Origin) → all_of (is_last args bs) os ≡ true →
+pub mapped_all : (args : List Kind) (bs : NodeTrees) (others : List Kind) (cs : NodeTrees) (f : Origin → Origin) → ScopeMap args bs others cs f → (os : List Origin) →
+    all_of (is_last args bs) os ≡ true →
     (map (known others cs) (map f os) ≡ map (known args bs) os) × (all_of (is_last others cs) (map f os) ≡ true)
 mapped_all args bs others cs f m [] e = (refl, refl)
 mapped_all args bs others cs f m (o ∷ os) e =
@@ -79,13 +80,6 @@ mapped_node_fits objects args bs others cs f m (node id op inputs rs) e =
     && width_free id op inputs (map f inputs) rs i && object_free objects id op inputs (map f inputs) rs i in
     same ∙ e
 
-pub joined_none : (ns : NodeTrees) → joined_nodes ns no_nodes ≡ ns
-joined_none no_nodes = refl
-joined_none (node_then x xs) = ap (λ ys. node_then x ys) (joined_none xs)
-
-pub joined_behind : (bs : List NodeTree) (x : NodeTree) (ns : NodeTrees) → joined_nodes (nodes_of (bs ++ x ∷ [])) ns ≡ joined_nodes (nodes_of bs) (node_then x ns)
-joined_behind bs x ns = ap (λ ms. joined_nodes ms ns) (nodes_of-append bs (x ∷ [])) ∙ joined_assoc (nodes_of bs) (node_then x no_nodes) ns
-
 -- nodes fit in the other scope, where origins keep their kinds after each of them
 pub mapped_nodes_fit : (objects : ℕ) (args others : List Kind) (f : Origin → Origin) (bs cs : List NodeTree) (ns : NodeTrees) →
     ((front rest : NodeTrees) → ns ≡ joined_nodes front rest → ScopeMap args (joined_nodes (nodes_of bs) front) others (joined_nodes (nodes_of cs) (nodes_redirected f front)) f) →
@@ -99,9 +93,9 @@ mapped_nodes_fit objects args others f bs cs (node_then x xs) m e =
     (subst (λ ns. ScopeMap args ns others (joined_nodes (nodes_of cs) no_nodes) f) (joined_none (nodes_of bs)) (m no_nodes (node_then x xs) refl)) in
     let one = mapped_node_fits objects args (nodes_of bs) others (nodes_of cs) f scope x here in
     let more = mapped_nodes_fit objects args others f (bs ++ x ∷ []) (cs ++ node_redirected f x ∷ []) xs
-    (λ front behind w.
-    subst (λ ns. ScopeMap args (joined_nodes (nodes_of (bs ++ x ∷ [])) front) others ns f) (sym (joined_behind cs (node_redirected f x) (nodes_redirected f front)))
-    (subst (λ ns. ScopeMap args ns others (joined_nodes (nodes_of cs) (node_then (node_redirected f x) (nodes_redirected f front))) f) (sym (joined_behind bs x front))
-    (m (node_then x front) behind (ap (λ ns. node_then x ns) w))))
+    (λ front following w.
+    subst (λ ns. ScopeMap args (joined_nodes (nodes_of (bs ++ x ∷ [])) front) others ns f) (sym (joined_following cs (node_redirected f x) (nodes_redirected f front)))
+    (subst (λ ns. ScopeMap args ns others (joined_nodes (nodes_of cs) (node_then (node_redirected f x) (nodes_redirected f front))) f) (sym (joined_following bs x front))
+    (m (node_then x front) following (ap (λ ns. node_then x ns) w))))
     rest in
     λ i. one i && more i

@@ -6,7 +6,7 @@ use Rattle.g_interp.specs.declared.data.Event as region_at
 use Rattle.g_interp.specs.declared.data.Event.TheVariants.{Wrote, Met}
 use Rattle.g_interp.specs.Views.{event_of, events_of, under}
 use Rattle.val_core.specs.Answers.{Returned, Cut, Exited, Undefined, before}
-use Rattle.val_core.proofs.Answers as laws
+use Rattle.val_core.proofs.lemmas.Answers as laws
 
 pub before_returned : {A : Type 0} (o : List Event) (x : A) (p : List Event) → before o (Returned x p) ≡ Returned x (o ++ p)
 before_returned o x p = laws.before-is o (Returned x p)

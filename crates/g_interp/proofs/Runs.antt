@@ -8,7 +8,7 @@ use Rattle.val_core.specs.declared.values.Value.{Value}
 use Rattle.val_core.specs.declared.values.Value.TheVariants.{Num, At, Bad}
 use Rattle.val_core.specs.Events.{Event}
 use Rattle.val_core.specs.Answers.{Answer, Returned, Undefined, before, then_on, active}
-use Rattle.val_core.proofs.Answers.{then_associates}
+use Rattle.val_core.proofs.lemmas.Answers.{then_associates}
 use Rattle.g_graph.specs.declared.no_memory.NoMemory.{NoMemory}
 use Rattle.g_graph.specs.declared.op.Origin.{Origin}
 use Rattle.g_graph.specs.Plain.{RegionTree, NodeTree, NodeTrees, node_then, nodes_of, regions_of, id_of, PlainObject, PlainLambda}

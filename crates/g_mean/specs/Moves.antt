@@ -1,14 +1,14 @@
 -- Nodes whose inputs come from elsewhere.
-use Rattle.std.specs.Prelude.{◌≡◌, ℕ, Bool, true, false, List, [], ◌∷◌, map}
+use Rattle.std.specs.Prelude.{◌≡◌, ℕ, Bool, true, List, [], ◌∷◌, map}
 use Rattle.val_core.specs.declared.values.Value.{Value}
 use Rattle.val_core.specs.declared.values.Value.TheVariants.{Num}
 use Rattle.val_core.specs.Answers.{Answer, Returned}
 use Rattle.val_core.specs.Refinement.{Direction, Refines, no_deeper}
 use Rattle.g_graph.specs.declared.op.Kind.{Kind}
 use Rattle.g_graph.specs.declared.op.Op.{Op}
-use Rattle.g_graph.specs.declared.op.Op.TheVariants.{Const, Undef, Local, Delta, Bin, Un}
 use Rattle.g_graph.specs.declared.op.Origin.{Origin}
 use Rattle.g_graph.specs.Plain.{region, node, NodeTrees, RegionTrees}
+use Rattle.g_graph.specs.Signatures.{is_pure}
 use Rattle.g_graph.specs.Ids.{nodes_ids}
 use Rattle.g_mean.specs.Data.{Datum, val, value_of}
 use Rattle.g_mean.specs.Meaning.{Meaning, Context, turns, Outputs, no_outputs, read, region_meaning, node_run, nodes_run}
@@ -17,15 +17,6 @@ use Rattle.g_mean.specs.Refining.{InOrder, ContextRefines}
 use Rattle.g_mean.specs.Copies.{IsRead, AreRead, known_after, NodesRead, CanMove, nodes_moved}
 
 -- ---- pure nodes
-
-abbrev pub is_pure : Op → Bool
-is_pure (Const w) = true
-is_pure Undef = true
-is_pure (Local k) = true
-is_pure (Delta k) = true
-is_pure (Bin op) = true
-is_pure (Un op) = true
-is_pure op = false
 
 -- A pure node gives one value, and that is the same for every node of its op whose inputs carry the same.
 pub record GivesTheSame (a b : Answer (List Datum)) : Type 0 where

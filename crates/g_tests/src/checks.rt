@@ -1,4 +1,5 @@
-// Lambdas with one parameter and one object, whose regions break one sentence of what is well formed, or none.
+// Lambdas with one parameter and one object, whose regions break one sentence of what is well
+// formed, or none.
 use g_graph::{Kind, Lambda, NoMemory, Node, Object, Op, Origin, Region, check};
 use smallvec::SmallVec;
 use std::alloc::Global;

@@ -4,10 +4,10 @@ use Rattle.g_graph.specs.declared.op.Op.TheVariants.{Gamma}
 use Rattle.g_graph.specs.declared.op.Origin.{Origin}
 use Rattle.g_graph.specs.Plain.{RegionTree, node, RegionTrees, no_regions, region_then, args_of}
 use Rattle.g_graph.specs.Ids.{region_ids, regions_ids}
-use Rattle.g_graph.specs.Rows.{first_args, result_kinds, output_kinds}
+use Rattle.g_graph.specs.Signatures.{first_args, result_kinds, output_kinds}
 use Rattle.g_graph.specs.WellFormed.{all_regions, are, same, kinds_of, regions_fit, every_region, every_in_regions}
-use Rattle.g_graph.proofs.UniqueLemmas.{first_true, second_true, times, times_append}
-use Rattle.g_graph.proofs.NodeLemmas.{are_kinds, same_kinds}
+use Rattle.g_graph.proofs.lemmas.Unique.{first_true, second_true, times, times_append}
+use Rattle.g_graph.proofs.lemmas.Nodes.{are_kinds, same_kinds}
 use Rattle.r_fold.specs.Rule.{chosen_region}
 
 chosen_test : (test : RegionTree → Bool) (w : ℕ) (rs : RegionTrees) (r : RegionTree) → chosen_region w rs ≡ Some r → all_regions test rs ≡ true → test r ≡ true

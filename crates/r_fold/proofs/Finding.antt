@@ -1,4 +1,4 @@
--- Nodes that are found, and constants that hold.
+-- Constants that hold.
 use Rattle.std.proofs.Common.{◌≡◌, ℕ, zero, suc, ◌%◌, ◌^◌, ◌<◌, ◌==◌, ◌⊎◌, Bool, true, false, cond, List, [], ◌∷◌, Option, None, Some, option_and_then, refl, sym, ap, subst, ◌∙◌, inl, inr, arith, eq-eqb, lit<, mod-lt}
 use Rattle.std.proofs.Math.Dec.{eqb-suc-zero}
 use Rattle.std.proofs.lemmas.Bool.{cases_Bool}
@@ -14,40 +14,7 @@ use Rattle.g_mean.specs.Data.{Datum, val, at_port}
 use Rattle.g_mean.specs.Meaning.{Context, Outputs, read}
 use Rattle.g_mean.specs.Copies.{IsAmong, IsRead, is_argument, known_after}
 use Rattle.g_mean.specs.Holds.{HasRun, HaveRun}
-use Rattle.r_fold.specs.Rule.{node_at, node_set, const_word, constant}
-
--- the nodes before and after the first of a number
-pub record Found (n : ℕ) (ns : NodeTrees) (x : NodeTree) : Type 0 where
-  pub before : NodeTrees
-  pub after : NodeTrees
-  pub is : ns ≡ joined_nodes before (node_then x after)
-  pub number : id_of x ≡ n
-  pub first : (y : NodeTree) → node_set n y ns ≡ joined_nodes before (node_then y after)
-
-found-by : (n : ℕ) (z : NodeTree) (ns : NodeTrees) (x : NodeTree) → ((y : NodeTree) → node_at n ns ≡ Some y → Found n ns y) → (test : Bool) → (id_of z == n) ≡ test → cond test (Some z) (node_at n ns) ≡ Some x → Found n (node_then z ns) x
-found-by n z ns x h true t d =
-    let same : z ≡ x = cc in
-    let number : id_of z ≡ n = grind (arith, nat_tests) in
-    record {
-      before = no_nodes;
-      after = ns;
-      is = ap (λ w. node_then w ns) same;
-      number = ap id_of (sym same) ∙ number;
-      first = λ y. rw t;
-    }
-found-by n z ns x h false t d =
-    let rest = h x d in
-    record {
-      before = node_then z rest.before;
-      after = rest.after;
-      is = ap (node_then z) rest.is;
-      number = rest.number;
-      first = λ y. rw t (ap (node_then z) (rest.first y));
-    }
-
-pub found-at : (n : ℕ) (ns : NodeTrees) (x : NodeTree) → node_at n ns ≡ Some x → Found n ns x
-found-at n no_nodes x e = absurd cc
-found-at n (node_then z ns) x e = found-by n z ns x (λ y d. found-at n ns y d) (id_of z == n) refl e
+use Rattle.g_graph.specs.Nodes.{node_at, node_set, const_word, constant}
 
 -- a known node is found, and has run
 pub record Ran (c : Context) (xs : List Datum) (o : Outputs) (n : ℕ) (ns : NodeTrees) : Type 0 where
@@ -101,7 +68,8 @@ const-gives c xs o (node id Gamma inputs rs) u e h = absurd cc
 const-gives c xs o (node id Theta inputs rs) u e h = absurd cc
 
 -- Where the nodes so far have run, an origin that is a constant, and which they know, carries its word.
-pub constant-holds : (c : Context) (count : ℕ) (xs : List Datum) (o : Outputs) (ns ms : NodeTrees) (a : Origin) (u : ℕ) → HaveRun c xs o ns → IsRead (is_argument count) (known_after [] ns) a → constant (joined_nodes ns ms) a ≡ Some u → (read xs o a ≡ val (Num u)) × (u < 2 ^ 32)
+pub constant-holds : (c : Context) (count : ℕ) (xs : List Datum) (o : Outputs) (ns ms : NodeTrees) (a : Origin) (u : ℕ) → HaveRun c xs o ns → IsRead (is_argument count) (known_after [] ns) a →
+    constant (joined_nodes ns ms) a ≡ Some u → (read xs o a ≡ val (Num u)) × (u < 2 ^ 32)
 constant-holds c count xs o ns ms (Arg k) u have r e = absurd cc
 constant-holds c count xs o ns ms (Out n p) u have (inl t) e = absurd cc
 constant-holds c count xs o ns ms (Out n (suc p)) u have (inr h) e =
@@ -114,32 +82,3 @@ constant-holds c count xs o ns ms (Out n zero) u have (inr h) e = by (known-ran 
         let word : const_word r.found ≡ Some u = sym (ap (option_and_then const_word) (r.is ms)) ∙ e in
         let gives = const-gives c xs o r.found u word r.run in
         (ap (λ z. o z 0) (sym r.number) ∙ gives.0, gives.1)
-
--- a constant is a word
-word-small : (found : Option NodeTree) (u : ℕ) → option_and_then const_word found ≡ Some u → u < 2 ^ 32
-word-small None u e = absurd cc
-word-small (Some (node id (Const w) inputs rs)) u e =
-    let same : w % 2 ^ 32 ≡ u = cc in subst (λ z. z < 2 ^ 32) same (mod-lt w (lit< tt))
-word-small (Some (node id Undef inputs rs)) u e = absurd cc
-word-small (Some (node id (Local k) inputs rs)) u e = absurd cc
-word-small (Some (node id (Delta k) inputs rs)) u e = absurd cc
-word-small (Some (node id (Bin op) inputs rs)) u e = absurd cc
-word-small (Some (node id (Un op) inputs rs)) u e = absurd cc
-word-small (Some (node id (Load k) inputs rs)) u e = absurd cc
-word-small (Some (node id (Store k) inputs rs)) u e = absurd cc
-word-small (Some (node id (Clear k) inputs rs)) u e = absurd cc
-word-small (Some (node id PtrEq inputs rs)) u e = absurd cc
-word-small (Some (node id (Apply f) inputs rs)) u e = absurd cc
-word-small (Some (node id Put inputs rs)) u e = absurd cc
-word-small (Some (node id Exit inputs rs)) u e = absurd cc
-word-small (Some (node id Get inputs rs)) u e = absurd cc
-word-small (Some (node id Gamma inputs rs)) u e = absurd cc
-word-small (Some (node id Theta inputs rs)) u e = absurd cc
-
-pub constant-small : (ns : NodeTrees) (a : Origin) (u : ℕ) → constant ns a ≡ Some u → u < 2 ^ 32
-constant-small ns (Arg k) u e = absurd cc
-constant-small ns (Out n p) u e = by (p == 0) e
-  where
-    by : (test : Bool) → cond test (option_and_then const_word (node_at n ns)) None ≡ Some u → u < 2 ^ 32
-    by true d = word-small (node_at n ns) u d
-    by false d = absurd cc

@@ -1,4 +1,4 @@
--- A folded lambda in the place of the lambda keeps the meaning of all.
+-- A folded lambda instead of the lambda keeps the meaning of all.
 use Rattle.std.proofs.Common.{◌≡◌, ℕ, zero, suc, List, [], ◌∷◌, Some, slice_get, refl, sym, subst, ◌∙◌}
 use Rattle.std.specs.Prelude.{slice_set}
 use Rattle.g_graph.specs.Plain.{RegionTree, PlainLambda}

@@ -21,7 +21,7 @@ abbrev pub ProgramKeepsMeaning : List PlainLambda → List PlainLambda → Type 
 ProgramKeepsMeaning ls ks =
     (omega : PlainOmega) (i : List ℕ) → AreSoundDeltas omega.deltas → AreBytes i → IsKeptWithinTwice (λ m. program_at m omega ls i) (λ m. program_at m omega ks i)
 
--- the one lambda may stand in the place of the other, in any list
+-- the one lambda may stand instead of the other, in any list
 abbrev pub KeepsMeaning : PlainLambda → PlainLambda → Type 0
 KeepsMeaning l k = (ls : List PlainLambda) (f : ℕ) → slice_get ls f ≡ Some l → LambdasKeepMeaning ls (slice_set ls f k) × ProgramKeepsMeaning ls (slice_set ls f k)
 

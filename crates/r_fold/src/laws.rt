@@ -14,7 +14,8 @@ pub fn fold_keeps_meaning()
     ensures program { FoldKeepsPrograms }
 {}
 
-/// A list of lambdas in which every call has its callee stays one where a well-formed lambda of it is folded.
+/// A list of lambdas in which every call has its callee stays one where a well-formed lambda of it
+/// is folded.
 pub fn fold_keeps_lists()
     ensures { FoldKeepsLists }
 {}
