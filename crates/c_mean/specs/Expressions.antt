@@ -1,9 +1,9 @@
 -- What an expression does (ISO/IEC 9899:2011, 6.5): operands are evaluated from left to right, and what is undefined is said
 -- where it is used.
-use Rattle.std.specs.Prelude.{ℕ, ◌-◌, ◌%◌, ◌^◌, ◌==◌, Bool, true, false, not, if◌then◌else◌, List, [], ◌∷◌, ◌++◌, slice_get, slice_set, Option, None, Some}
+use Rattle.std.specs.Prelude.{ℕ, ◌-◌, ◌%◌, ◌^◌, Bool, true, false, not, if◌then◌else◌, List, [], ◌∷◌, slice_get, slice_set, Option, None, Some}
 use Rattle.val_core.specs.Words.{one_if}
 use Rattle.val_core.specs.declared.values.Value.{Value}
-use Rattle.val_core.specs.declared.values.Value.TheVariants.{Num, At, Bad}
+use Rattle.val_core.specs.declared.values.Value.TheVariants.{Num, Bad}
 use Rattle.val_core.specs.Memory.{Memory, load, store}
 use Rattle.val_core.specs.Objects.{Addresses}
 use Rattle.val_core.specs.Events.{wrote, took}

@@ -3,7 +3,7 @@ use Rattle.std.specs.Prelude.{ℕ, zero, suc, ◌+◌, ◌-◌, ◌%◌, ◌==�
 use Rattle.std.specs.List.{filter}
 use Rattle.val_core.specs.declared.leaf.Leaf.{Leaf}
 use Rattle.val_core.specs.declared.values.Value.{Value}
-use Rattle.val_core.specs.declared.values.Value.TheVariants.{Num, At, Bad}
+use Rattle.val_core.specs.declared.values.Value.TheVariants.{Num, Bad}
 use Rattle.val_core.specs.Memory.{Cell, Block, Memory, BlockShape, store, closed}
 use Rattle.val_core.specs.Objects.{Addresses, word_of, address_in, opened}
 use Rattle.val_core.specs.Events.{Event, wrote, took, met, output, deepest}
@@ -12,9 +12,9 @@ use Rattle.val_core.specs.Within.{Given}
 use Rattle.c_type.specs.Layout.{Definitions, size, leaves}
 use Rattle.c_typed.specs.Typed.{VariableTree, FunctionTree, WrittenTree, word_at, link_at, characters_at, GlobalTree, ProgramTree}
 use Rattle.c_typed.specs.WellTyped.{params_of}
-use Rattle.c_mean.specs.State.{Slot, holds, object, State, with_memory, width_of}
-use Rattle.c_mean.specs.Expressions.{Call, Context}
-use Rattle.c_mean.specs.Statements.{Flow, normal, broke, continued, returned, Flowed, object_number, items_run}
+use Rattle.c_mean.specs.State.{Slot, holds, object, width_of}
+use Rattle.c_mean.specs.Expressions.{Call}
+use Rattle.c_mean.specs.Statements.{Flow, returned, Flowed, items_run}
 
 -- ---- functions
 
@@ -58,7 +58,7 @@ body_run p n calls global is_main f vs m i =
     on_defined (params_stored addresses.local 0 (params_of f) vs (m ++ opened objects)) (λ k.
     then_on
     (items_run (record { bound = n; calls = calls; addresses = addresses }) f.variables f.body
-      (record { slots = params_in_scope 0 (params_of f) vs; memory = k; input = i }))
+    (record { slots = params_in_scope 0 (params_of f) vs; memory = k; input = i }))
     (ended is_main (length m) (length objects)))
 
 abbrev pub function_run : ProgramTree → (turns : ℕ) → (calls : ℕ → Call) → (global : ℕ → Value) → (is_main : Bool) → Option FunctionTree → Call

@@ -1,19 +1,17 @@
 -- What a source run goes over: variables, memory and input, and what each value is used for (ISO/IEC 9899:2011, 6.2.4, 6.3).
-use Rattle.std.specs.Prelude.{ℕ, zero, suc, ◌+◌, ◌-◌, ◌*◌, ◌/◌, ◌^◌, ◌==◌, ◌&&◌, not, nat_le, nat_lt, Bool, true, false, if◌then◌else◌, ℤ, int_div, List, [], ◌∷◌, ◌++◌, take, length, slice_get, slice_set, Option, None, Some}
-use Rattle.std.specs.Int.{w32, cast_signed}
-use Rattle.val_core.specs.Words.{word1, word2, one_if}
+use Rattle.std.specs.Prelude.{ℕ, ◌+◌, ◌-◌, ◌*◌, ◌^◌, ◌==◌, ◌&&◌, not, nat_le, nat_lt, Bool, true, false, if◌then◌else◌, List, [], Option, None, Some}
+use Rattle.val_core.specs.Words.{word2, one_if}
 use Rattle.val_core.specs.declared.values.BlockName.{BlockName}
 use Rattle.val_core.specs.declared.values.Value.{Value}
 use Rattle.val_core.specs.declared.values.Value.TheVariants.{Num, At, Bad}
 use Rattle.val_core.specs.Values.{same_block, value1}
-use Rattle.val_core.specs.Memory.{Memory, load, store, block_named, is_live, pointers_equal}
-use Rattle.val_core.specs.Objects.{Addresses}
-use Rattle.val_core.specs.Answers.{Answer, Returned, Undefined, on_number, on_defined}
+use Rattle.val_core.specs.Memory.{Memory, block_named, is_live, pointers_equal}
+use Rattle.val_core.specs.Answers.{Answer, Returned, Undefined}
 use Rattle.val_core.specs.declared.operation.Op1.TheVariants.{Sext8, Zext8, Sext16, Zext16}
 use Rattle.val_core.specs.declared.operation.Op2.{Op2}
 use Rattle.val_core.specs.declared.operation.Op2.TheVariants as op
-use Rattle.c_type.specs.declared.scalar.Scalar.TheVariants.{Char, SignedChar, UnsignedChar, Short, UnsignedShort, Int, UnsignedInt}
-use Rattle.c_type.specs.Trees.{TypeTree, void_type, scalar_type, pointer_to, array_of, struct_type}
+use Rattle.c_type.specs.declared.scalar.Scalar.TheVariants.{Char, SignedChar, UnsignedChar, Short, UnsignedShort, UnsignedInt}
+use Rattle.c_type.specs.Trees.{TypeTree, scalar_type, pointer_to}
 use Rattle.c_type.specs.Layout.{scalar_size}
 use Rattle.c_typed.specs.declared.operator.Relation.{Relation}
 use Rattle.c_typed.specs.declared.operator.Relation.TheVariants.{Less, Greater, LessEqual, GreaterEqual, Equal, NotEqual}

@@ -1,11 +1,11 @@
 -- What a statement does (ISO/IEC 9899:2011, 6.8) within a bound: it goes on normally, or a jump leaves it.
-use Rattle.std.specs.Prelude.{ℕ, zero, suc, ◌+◌, ◌-◌, ◌==◌, Bool, true, false, if◌then◌else◌, List, [], ◌∷◌, ◌++◌, take, length, slice_get, slice_set, Option, None, Some, option_and_then, unwrap_or}
+use Rattle.std.specs.Prelude.{ℕ, zero, suc, ◌-◌, ◌==◌, Bool, true, false, if◌then◌else◌, List, [], ◌∷◌, ◌++◌, take, length, slice_get, Option, None, Some, option_and_then, unwrap_or}
 use Rattle.std.specs.List.{count_by, list_any}
 use Rattle.val_core.specs.declared.values.Value.{Value}
 use Rattle.val_core.specs.declared.values.Value.TheVariants.{Num, At, Bad}
 use Rattle.val_core.specs.Memory.{Memory, store, cleared}
 use Rattle.val_core.specs.Answers.{Answer, Returned, Cut, Undefined, then_on, on_number, on_defined}
-use Rattle.c_typed.specs.Typed.{ExprTree, OptionalExpr, no_expr, some_expr, ElementTrees, no_elements, value_then, characters_then, InitialTree, no_initial, initial_value, initial_elements, DeclarationTree, StmtTree, null, value, block, if_else, loop, do_while, break, continue, return_value, return_none, switch, ItemTrees, no_items, stmt_then, declare_then, GroupTrees, no_groups, group_then, VariableTree}
+use Rattle.c_typed.specs.Typed.{ExprTree, OptionalExpr, no_expr, some_expr, ElementTrees, no_elements, value_then, characters_then, InitialTree, no_initial, initial_value, initial_elements, StmtTree, null, value, block, if_else, loop, do_while, break, continue, return_value, return_none, switch, ItemTrees, no_items, stmt_then, declare_then, GroupTrees, no_groups, group_then, VariableTree}
 use Rattle.c_typed.specs.WellTyped.{type_of}
 use Rattle.c_mean.specs.State.{Slot, holds, object, State, with_memory, with_slots, used, width_of, bytes_into}
 use Rattle.c_mean.specs.Expressions.{Context, expr_run, branched}
