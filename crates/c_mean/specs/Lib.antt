@@ -2,3 +2,4 @@ pub mod State
 pub mod Expressions
 pub mod Statements
 pub mod Run
+pub mod RunLaws

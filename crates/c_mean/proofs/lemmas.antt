@@ -1,0 +1,4 @@
+pub mod Extends
+pub mod ExtendExpressions
+pub mod ExtendStatements
+pub mod ExtendRuns
