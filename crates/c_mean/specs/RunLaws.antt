@@ -1,14 +1,15 @@
 -- Laws of what a source program does.
-use Rattle.std.specs.Prelude.{◌≡◌, ℕ, ◌≤◌, List}
+use Rattle.std.specs.Prelude.{◌≡◌, ℕ, ◌≤◌, List, [], ◌∷◌, ◌++◌, take, drop}
 use Rattle.val_core.specs.declared.values.Value.{Value}
 use Rattle.val_core.specs.Memory.{Memory}
-use Rattle.val_core.specs.Events.{IsPrefixOf}
-use Rattle.val_core.specs.Answers.{Answer, Cut, events}
+use Rattle.val_core.specs.Events.{Event, wrote, took, met, output, IsPrefixOf}
+use Rattle.val_core.specs.Answers.{Answer, Returned, Cut, Exited, Undefined, IsUndefined, events}
+use Rattle.val_core.specs.Refinement.{Forward, exactly, Refines}
 use Rattle.c_typed.specs.Typed.{ExprTree, StmtTree, VariableTree, ProgramTree}
 use Rattle.c_mean.specs.State.{State}
-use Rattle.c_mean.specs.Expressions.{Context, expr_run}
+use Rattle.c_mean.specs.Expressions.{Call, Context, expr_run}
 use Rattle.c_mean.specs.Statements.{stmt_run}
-use Rattle.c_mean.specs.Run.{call_run, run, deepest_run}
+use Rattle.c_mean.specs.Run.{call_run, run, deepest_run, Ending, exit, cut, undefined, Heard, taken, heard}
 
 -- ---- bounds
 
@@ -22,6 +23,10 @@ pub record ContextExtends (c d : Context) : Type 0 where
   pub bound : c.bound ≤ d.bound
   pub calls : (f : ℕ) (vs : List Value) (m : Memory) (i : List ℕ) → Extends (c.calls f vs m i) (d.calls f vs m i)
   pub addresses : c.addresses ≡ d.addresses
+
+-- What ended is equal, and what was cut has events that begin the other's: so the greater run refines the lesser one.
+abbrev pub ExtendedRefines : (A : Type 0) → Type 0
+ExtendedRefines A = (a b : Answer A) → Extends a b → Refines exactly Forward (λ x y. x ≡ y) a b
 
 -- A greater bound only extends. So it is with an expression,
 abbrev pub ExpressionsExtend : Type 0
@@ -45,3 +50,59 @@ RunsExtend = (n m : ℕ) (p : ProgramTree) (i : List ℕ) → n ≤ m → Extend
 -- A run of a greater bound meets stacks no less deep.
 abbrev pub DeepestGrows : Type 0
 DeepestGrows = (n m : ℕ) (p : ProgramTree) (sizes : List ℕ) (i : List ℕ) → n ≤ m → deepest_run n p sizes i ≤ deepest_run m p sizes i
+
+-- ---- input
+
+-- the bytes that are taken, in order
+abbrev pub taken_bytes : List Event → List ℕ
+taken_bytes [] = []
+taken_bytes (took b ∷ es) = b ∷ taken_bytes es
+taken_bytes (wrote b ∷ es) = taken_bytes es
+taken_bytes (met s ∷ es) = taken_bytes es
+
+-- The bytes taken are the first of the input, at every ending, and a result has the rest of it.
+abbrev pub TakesInput : {A : Type 0} → (rest : A → List ℕ) → (input : List ℕ) → Answer A → Type 0
+TakesInput rest i (Returned x o) = (taken_bytes o ≡ take (taken o) i) × (rest x ≡ drop (taken o) i)
+TakesInput rest i a = taken_bytes (events a) ≡ take (taken (events a)) i
+
+abbrev pub CallsTakeInput : (ℕ → Call) → Type 0
+CallsTakeInput calls = (f : ℕ) (vs : List Value) (m : Memory) (i : List ℕ) → TakesInput (λ g. g.input) i (calls f vs m i)
+
+-- An expression takes its input from the state, where calls do so,
+abbrev pub ExpressionsTakeInput : Type 0
+ExpressionsTakeInput = (c : Context) → CallsTakeInput c.calls → (e : ExprTree) (s : State) → TakesInput (λ x. x.state.input) s.input (expr_run c e s)
+
+-- and so does a statement,
+abbrev pub StatementsTakeInput : Type 0
+StatementsTakeInput =
+    (c : Context) → CallsTakeInput c.calls → (vs : List VariableTree) (a : StmtTree) (s : State) →
+    TakesInput (λ x. x.state.input) s.input (stmt_run c vs a s)
+
+-- a call,
+abbrev pub CallsOfProgramsTakeInput : Type 0
+CallsOfProgramsTakeInput = (n : ℕ) (p : ProgramTree) (global : ℕ → Value) → CallsTakeInput (call_run p global n)
+
+-- and a program.
+abbrev pub RunsTakeInput : Type 0
+RunsTakeInput = (n : ℕ) (p : ProgramTree) (i : List ℕ) → TakesInput (λ g. g.input) i (run n p i)
+
+-- ---- what was heard
+
+-- a run gives no result, and what was heard ends as the run does
+abbrev pub EndsAs : {A : Type 0} → Answer A → Ending → Type 0
+EndsAs (Returned x o) e = ⊥
+EndsAs (Cut o) e = e ≡ cut
+EndsAs (Exited o status) e = e ≡ exit status
+EndsAs (Undefined o) e = e ≡ undefined
+
+-- What was heard is what the run wrote, the input without the bytes that it took, and its ending.
+abbrev pub HearsAnswer : {A : Type 0} → (input : List ℕ) → Answer A → Heard → Type 0
+HearsAnswer i a h = (h.output ≡ output (events a)) × (taken_bytes (events a) ++ h.rest ≡ i) × EndsAs a h.ending
+
+abbrev pub HeardIsRun : Type 0
+HeardIsRun = (n : ℕ) (p : ProgramTree) (i : List ℕ) → HearsAnswer i (run n p i) (heard n p i)
+
+-- What was heard is undefined where the run is, and there alone.
+abbrev pub HeardIsUndefined : Type 0
+HeardIsUndefined =
+    (n : ℕ) (p : ProgramTree) (i : List ℕ) → (IsUndefined (run n p i) → (heard n p i).ending ≡ undefined) × ((heard n p i).ending ≡ undefined → IsUndefined (run n p i))

@@ -1,7 +1,7 @@
 //! Laws of what a source program does, for the proofs of the crates above: each is the contract of
 //! a function that does nothing.
 
-ghost use Rattle.c_mean.specs.RunLaws.{ExpressionsExtend, StatementsExtend, CallsExtend, RunsExtend, DeepestGrows};
+ghost use Rattle.c_mean.specs.RunLaws.{ExtendedRefines, ExpressionsExtend, StatementsExtend, CallsExtend, RunsExtend, DeepestGrows, ExpressionsTakeInput, StatementsTakeInput, CallsOfProgramsTakeInput, RunsTakeInput, HeardIsRun, HeardIsUndefined};
 
 /// A greater bound only extends: what was cut may go on, and every other ending stays as it is.
 pub fn bounds_extend()
@@ -11,7 +11,27 @@ pub fn bounds_extend()
     ensures runs { RunsExtend }
 {}
 
+/// An answer that extends another one refines it.
+pub fn extended_refines<A>()
+    ensures { ExtendedRefines A }
+{}
+
 /// A run of a greater bound meets stacks no less deep.
 pub fn deepest_grows()
     ensures { DeepestGrows }
+{}
+
+/// The bytes that are taken are the first of the input, and the input that is left is the rest.
+pub fn input_is_taken()
+    ensures expressions { ExpressionsTakeInput }
+    ensures statements { StatementsTakeInput }
+    ensures calls { CallsOfProgramsTakeInput }
+    ensures runs { RunsTakeInput }
+{}
+
+/// What was heard of a run is its output, the input that it did not take, and its ending, and is
+/// undefined exactly where the run is. No run returns.
+pub fn heard_is_run()
+    ensures agrees { HeardIsRun }
+    ensures undefined { HeardIsUndefined }
 {}

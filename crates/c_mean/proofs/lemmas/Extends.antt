@@ -5,11 +5,13 @@ use Rattle.val_core.specs.declared.values.Value.TheVariants.{Num, At, Bad}
 use Rattle.val_core.specs.Events.{Event, deepest, called, IsPrefixOf}
 use Rattle.val_core.specs.Answers.{Answer, Returned, Cut, Exited, Undefined, before, then_on, on_number, on_defined, active, events}
 use Rattle.val_core.proofs.lemmas.Events.{prefix-self, prefix-more, prefix-after, prefix-called, prefix-deepest}
+use Rattle.val_core.specs.Refinement.{Forward, exactly, Refines}
 use Rattle.val_core.proofs.lemmas.Answers.{added, before-is}
+use Rattle.val_core.proofs.lemmas.Refinement.{refines-itself}
 use Rattle.c_type.specs.Trees.{TypeTree}
 use Rattle.c_mean.specs.State.{used, truth}
 use Rattle.c_mean.specs.Expressions.{branched}
-use Rattle.c_mean.specs.RunLaws.{Extends}
+use Rattle.c_mean.specs.RunLaws.{Extends, ExtendedRefines}
 
 pub extends-itself : {A : Type 0} (a : Answer A) → Extends a a
 extends-itself (Returned x o) = refl
@@ -89,3 +91,18 @@ extends-deepest sizes (Returned x o) b h = rw (← h) (prefix-deepest sizes o o 
 extends-deepest sizes (Cut o) b h = prefix-deepest sizes o (events b) h
 extends-deepest sizes (Exited o s) b h = rw (← h) (prefix-deepest sizes o o (prefix-self o))
 extends-deepest sizes (Undefined o) b h = rw (← h) (prefix-deepest sizes o o (prefix-self o))
+
+equal-refines : {A : Type 0} (a b : Answer A) → a ≡ b → Refines exactly Forward (λ x y. x ≡ y) a b
+equal-refines a b e = subst (λ c. Refines exactly Forward (λ x y. x ≡ y) a c) e (refines-itself Forward a)
+
+cut-refines : {A : Type 0} (o : List Event) (b : Answer A) → IsPrefixOf o (events b) → Refines exactly Forward (λ (x y : A). x ≡ y) (Cut o) b
+cut-refines o (Returned x p) h = h
+cut-refines o (Cut p) h = h
+cut-refines o (Exited p s) h = h
+cut-refines o (Undefined p) h = tt
+
+pub extended_refines : {A : Type 0} → ExtendedRefines A
+extended_refines (Returned x o) b h = equal-refines (Returned x o) b h
+extended_refines (Cut o) b h = cut-refines o b h
+extended_refines (Exited o s) b h = equal-refines (Exited o s) b h
+extended_refines (Undefined o) b h = tt
