@@ -1,2 +1,2 @@
-mod Examples
+mod examples
 pub mod lemmas
