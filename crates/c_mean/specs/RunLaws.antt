@@ -9,7 +9,7 @@ use Rattle.c_typed.specs.Typed.{ExprTree, StmtTree, VariableTree, ProgramTree}
 use Rattle.c_mean.specs.State.{State}
 use Rattle.c_mean.specs.Expressions.{Call, Context, expr_run}
 use Rattle.c_mean.specs.Statements.{stmt_run}
-use Rattle.c_mean.specs.Run.{call_run, run, deepest_run, Ending, exit, cut, undefined, Heard, taken, heard}
+use Rattle.c_mean.specs.Run.{nested, call_run, run, deepest_run, Ending, exit, cut, undefined, Heard, taken, heard}
 
 -- ---- bounds
 
@@ -36,6 +36,12 @@ ExpressionsExtend = (c d : Context) → ContextExtends c d → (e : ExprTree) (s
 abbrev pub StatementsExtend : Type 0
 StatementsExtend =
     (c d : Context) → ContextExtends c d → (vs : List VariableTree) (a : StmtTree) (s : State) → Extends (stmt_run c vs a s) (stmt_run d vs a s)
+
+-- with the calls within a call, whose bounds of turns and of depth are apart,
+abbrev pub NestedCallsExtend : Type 0
+NestedCallsExtend =
+    (p : ProgramTree) (global : ℕ → Value) (n m : ℕ) → n ≤ m → (depth deeper : ℕ) → depth ≤ deeper →
+    (f : ℕ) (vs : List Value) (k : Memory) (i : List ℕ) → Extends (nested p global n depth f vs k i) (nested p global m deeper f vs k i)
 
 -- with a call,
 abbrev pub CallsExtend : Type 0
@@ -65,22 +71,26 @@ abbrev pub TakesInput : {A : Type 0} → (rest : A → List ℕ) → (input : Li
 TakesInput rest i (Returned x o) = (taken_bytes o ≡ take (taken o) i) × (rest x ≡ drop (taken o) i)
 TakesInput rest i a = taken_bytes (events a) ≡ take (taken (events a)) i
 
-abbrev pub CallsTakeInput : (ℕ → Call) → Type 0
-CallsTakeInput calls = (f : ℕ) (vs : List Value) (m : Memory) (i : List ℕ) → TakesInput (λ g. g.input) i (calls f vs m i)
+abbrev pub EachTakesInput : (ℕ → Call) → Type 0
+EachTakesInput calls = (f : ℕ) (vs : List Value) (m : Memory) (i : List ℕ) → TakesInput (λ g. g.input) i (calls f vs m i)
 
 -- An expression takes its input from the state, where calls do so,
 abbrev pub ExpressionsTakeInput : Type 0
-ExpressionsTakeInput = (c : Context) → CallsTakeInput c.calls → (e : ExprTree) (s : State) → TakesInput (λ x. x.state.input) s.input (expr_run c e s)
+ExpressionsTakeInput = (c : Context) → EachTakesInput c.calls → (e : ExprTree) (s : State) → TakesInput (λ x. x.state.input) s.input (expr_run c e s)
 
 -- and so does a statement,
 abbrev pub StatementsTakeInput : Type 0
 StatementsTakeInput =
-    (c : Context) → CallsTakeInput c.calls → (vs : List VariableTree) (a : StmtTree) (s : State) →
+    (c : Context) → EachTakesInput c.calls → (vs : List VariableTree) (a : StmtTree) (s : State) →
     TakesInput (λ x. x.state.input) s.input (stmt_run c vs a s)
 
+-- the calls within a call,
+abbrev pub NestedCallsTakeInput : Type 0
+NestedCallsTakeInput = (p : ProgramTree) (global : ℕ → Value) (turns depth : ℕ) → EachTakesInput (nested p global turns depth)
+
 -- a call,
-abbrev pub CallsOfProgramsTakeInput : Type 0
-CallsOfProgramsTakeInput = (n : ℕ) (p : ProgramTree) (global : ℕ → Value) → CallsTakeInput (call_run p global n)
+abbrev pub CallsTakeInput : Type 0
+CallsTakeInput = (n : ℕ) (p : ProgramTree) (global : ℕ → Value) → EachTakesInput (call_run p global n)
 
 -- and a program.
 abbrev pub RunsTakeInput : Type 0

@@ -1,12 +1,13 @@
 //! Laws of what a source program does, for the proofs of the crates above: each is the contract of
 //! a function that does nothing.
 
-ghost use Rattle.c_mean.specs.RunLaws.{ExtendedRefines, ExpressionsExtend, StatementsExtend, CallsExtend, RunsExtend, DeepestGrows, ExpressionsTakeInput, StatementsTakeInput, CallsOfProgramsTakeInput, RunsTakeInput, HeardIsRun, HeardIsUndefined};
+ghost use Rattle.c_mean.specs.RunLaws.{ExtendedRefines, ExpressionsExtend, StatementsExtend, NestedCallsExtend, CallsExtend, RunsExtend, DeepestGrows, ExpressionsTakeInput, StatementsTakeInput, NestedCallsTakeInput, CallsTakeInput, RunsTakeInput, HeardIsRun, HeardIsUndefined};
 
 /// A greater bound only extends: what was cut may go on, and every other ending stays as it is.
 pub fn bounds_extend()
     ensures expressions { ExpressionsExtend }
     ensures statements { StatementsExtend }
+    ensures nested { NestedCallsExtend }
     ensures calls { CallsExtend }
     ensures runs { RunsExtend }
 {}
@@ -25,7 +26,8 @@ pub fn deepest_grows()
 pub fn input_is_taken()
     ensures expressions { ExpressionsTakeInput }
     ensures statements { StatementsTakeInput }
-    ensures calls { CallsOfProgramsTakeInput }
+    ensures nested { NestedCallsTakeInput }
+    ensures calls { CallsTakeInput }
     ensures runs { RunsTakeInput }
 {}
 

@@ -7,7 +7,7 @@ use Rattle.c_typed.specs.Typed.{FunctionTree, ProgramTree}
 use Rattle.c_mean.specs.Expressions.{Call, expr_run}
 use Rattle.c_mean.specs.Statements.{stmt_run}
 use Rattle.c_mean.specs.Run.{objects_of, function_run, nested, global_address, first_memory, finished, run}
-use Rattle.c_mean.specs.RunLaws.{Extends, ExpressionsExtend, StatementsExtend, CallsExtend, RunsExtend, DeepestGrows}
+use Rattle.c_mean.specs.RunLaws.{Extends, ExpressionsExtend, StatementsExtend, NestedCallsExtend, CallsExtend, RunsExtend, DeepestGrows}
 use Rattle.c_mean.proofs.lemmas.Extends.{extends-itself, extends-then, extends-defined, extends-active, extends-deepest}
 use Rattle.c_mean.proofs.lemmas.ExtendExpressions.{expr-extends}
 use Rattle.c_mean.proofs.lemmas.ExtendStatements.{stmt-extends, items-extend}
@@ -38,6 +38,9 @@ module _ (p : ProgramTree) (global : ℕ → Value) (n m : ℕ) (order : n ≤ m
   nested-extends (suc j) zero h f vs l i = absurd (omega (arith, h))
   nested-extends (suc j) (suc k) h f vs l i =
       extends-active f _ _ (function-extends (nested p global n j) (nested p global m k) (nested-extends j k (omega (arith, h))) (f == p.main) (slice_get p.functions f) vs l i)
+
+pub nested_calls_extend : NestedCallsExtend
+nested_calls_extend p global n m order depth deeper h f vs k i = nested-extends p global n m order depth deeper h f vs k i
 
 pub calls_extend : CallsExtend
 calls_extend n m p global f vs k i order = nested-extends p global n m order (suc n) (suc m) (omega (arith, order)) f vs k i

@@ -14,7 +14,7 @@ use Rattle.c_mean.specs.State.{State}
 use Rattle.c_mean.specs.Expressions.{Call, Context, expr_run}
 use Rattle.c_mean.specs.Statements.{stmt_run, items_run}
 use Rattle.c_mean.specs.Run.{objects_of, params_in_scope, params_stored, ended, function_run, nested, call_run, global_address, first_memory, finished, run, undefined, taken, heard_as}
-use Rattle.c_mean.specs.RunLaws.{taken_bytes, TakesInput, ExpressionsTakeInput, StatementsTakeInput, CallsOfProgramsTakeInput, RunsTakeInput, HearsAnswer, HeardIsRun, HeardIsUndefined}
+use Rattle.c_mean.specs.RunLaws.{taken_bytes, TakesInput, ExpressionsTakeInput, StatementsTakeInput, NestedCallsTakeInput, CallsTakeInput, RunsTakeInput, HearsAnswer, HeardIsRun, HeardIsUndefined}
 use Rattle.c_mean.proofs.lemmas.Taken.{Takes, takes-law, law-takes, takes-then, takes-defined, takes-number, takes-active}
 use Rattle.c_mean.proofs.lemmas.TakenExpressions.{of_value, of_given, expr-takes}
 use Rattle.c_mean.proofs.lemmas.TakenStatements.{of_flow, stmt-takes, items-take}
@@ -45,7 +45,10 @@ module _ (p : ProgramTree) (global : ℕ → Value) (n : ℕ) where
   nested-takes (suc k) f vs m i =
       takes-active of_given i f _ (function-takes (nested p global n k) (nested-takes k) (f == p.main) (slice_get p.functions f) vs m i)
 
-pub calls_take_input : CallsOfProgramsTakeInput
+pub nested_calls_take_input : NestedCallsTakeInput
+nested_calls_take_input p global n depth f vs m i = takes-law of_given i (nested p global n depth f vs m i) (nested-takes p global n depth f vs m i)
+
+pub calls_take_input : CallsTakeInput
 calls_take_input n p global f vs m i = takes-law of_given i (call_run p global n f vs m i) (nested-takes p global n (suc n) f vs m i)
 
 finished-takes : (g : Given (Option Value)) → Takes of_given g.input (finished g)
