@@ -6,3 +6,4 @@ pub mod Taken
 pub mod TakenExpressions
 pub mod TakenStatements
 pub mod TakenRuns
+pub mod Heard

@@ -1,5 +1,5 @@
 -- Laws of what a source program does.
-use Rattle.std.specs.Prelude.{◌≡◌, ℕ, ◌≤◌, List, [], ◌∷◌, ◌++◌, take, drop}
+use Rattle.std.specs.Prelude.{◌≡◌, ◌≢◌, ℕ, ◌≤◌, List, [], ◌∷◌, ◌++◌, take, drop}
 use Rattle.val_core.specs.declared.values.Value.{Value}
 use Rattle.val_core.specs.Memory.{Memory}
 use Rattle.val_core.specs.Events.{Event, wrote, took, met, output, IsPrefixOf}
@@ -116,3 +116,9 @@ HeardIsRun = (n : ℕ) (p : ProgramTree) (i : List ℕ) → HearsAnswer i (run n
 abbrev pub HeardIsUndefined : Type 0
 HeardIsUndefined =
     (n : ℕ) (p : ProgramTree) (i : List ℕ) → (IsUndefined (run n p i) → (heard n p i).ending ≡ undefined) × ((heard n p i).ending ≡ undefined → IsUndefined (run n p i))
+
+-- What was heard at a bound that suffices is heard at every greater one, and where the bound cuts, the output begins the other.
+abbrev pub HeardExtends : Type 0
+HeardExtends =
+    (n m : ℕ) (p : ProgramTree) (i : List ℕ) → n ≤ m →
+    ((heard n p i).ending ≢ cut → heard n p i ≡ heard m p i) × IsPrefixOf (heard n p i).output (heard m p i).output

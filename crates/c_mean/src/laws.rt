@@ -1,7 +1,7 @@
 //! Laws of what a source program does, for the proofs of the crates above: each is the contract of
 //! a function that does nothing.
 
-ghost use Rattle.c_mean.specs.RunLaws.{ExtendedRefines, ExpressionsExtend, StatementsExtend, NestedCallsExtend, CallsExtend, RunsExtend, DeepestGrows, ExpressionsTakeInput, StatementsTakeInput, NestedCallsTakeInput, CallsTakeInput, RunsTakeInput, HeardIsRun, HeardIsUndefined};
+ghost use Rattle.c_mean.specs.RunLaws.{ExtendedRefines, ExpressionsExtend, StatementsExtend, NestedCallsExtend, CallsExtend, RunsExtend, DeepestGrows, ExpressionsTakeInput, StatementsTakeInput, NestedCallsTakeInput, CallsTakeInput, RunsTakeInput, HeardIsRun, HeardIsUndefined, HeardExtends};
 
 /// A greater bound only extends: what was cut may go on, and every other ending stays as it is.
 pub fn bounds_extend()
@@ -32,8 +32,9 @@ pub fn input_is_taken()
 {}
 
 /// What was heard of a run is its output, the input that it did not take, and its ending, and is
-/// undefined exactly where the run is. No run returns.
+/// undefined exactly where the run is. No run returns. A greater bound only extends what is heard.
 pub fn heard_is_run()
     ensures agrees { HeardIsRun }
     ensures undefined { HeardIsUndefined }
+    ensures extends { HeardExtends }
 {}

@@ -1,20 +1,17 @@
--- Calls and runs take their input from its beginning, and what is heard of a run is what it did.
-use Rattle.std.proofs.Common.{◌≡◌, ℕ, zero, suc, ◌%◌, ◌==◌, Bool, List, [], ◌++◌, map, length, drop, slice_get, Option, None, Some, refl, ap, ◌∙◌}
-use Rattle.std.proofs.lemmas.List.{take-append-drop}
+-- Calls and runs take their input from its beginning.
+use Rattle.std.proofs.Common.{ℕ, zero, suc, ◌%◌, ◌==◌, Bool, List, [], ◌++◌, map, length, slice_get, Option, None, Some, refl}
 use Rattle.val_core.specs.declared.values.Value.{Value}
-use Rattle.val_core.specs.declared.values.Value.TheVariants.{Num, At, Bad}
 use Rattle.val_core.specs.Memory.{Memory}
 use Rattle.val_core.specs.Objects.{Addresses, address_in, opened}
-use Rattle.val_core.specs.Answers.{Answer, Returned, Cut, Exited, Undefined, then_on, on_number, on_defined, events, IsUndefined, Gives}
+use Rattle.val_core.specs.Answers.{Exited, then_on, on_number}
 use Rattle.val_core.specs.Within.{Given}
-use Rattle.val_core.proofs.lemmas.Answers.{gives-then}
 use Rattle.c_typed.specs.Typed.{FunctionTree, ProgramTree}
 use Rattle.c_typed.specs.WellTyped.{params_of}
 use Rattle.c_mean.specs.State.{State}
 use Rattle.c_mean.specs.Expressions.{Call, Context, expr_run}
 use Rattle.c_mean.specs.Statements.{stmt_run, items_run}
-use Rattle.c_mean.specs.Run.{objects_of, params_in_scope, params_stored, ended, function_run, nested, call_run, global_address, first_memory, finished, run, undefined, taken, heard_as}
-use Rattle.c_mean.specs.RunLaws.{taken_bytes, TakesInput, ExpressionsTakeInput, StatementsTakeInput, NestedCallsTakeInput, CallsTakeInput, RunsTakeInput, HearsAnswer, HeardIsRun, HeardIsUndefined}
+use Rattle.c_mean.specs.Run.{objects_of, params_in_scope, params_stored, ended, function_run, nested, call_run, global_address, first_memory, finished, run}
+use Rattle.c_mean.specs.RunLaws.{ExpressionsTakeInput, StatementsTakeInput, NestedCallsTakeInput, CallsTakeInput, RunsTakeInput}
 use Rattle.c_mean.proofs.lemmas.Taken.{Takes, takes-law, law-takes, takes-then, takes-defined, takes-number, takes-active}
 use Rattle.c_mean.proofs.lemmas.TakenExpressions.{of_value, of_given, expr-takes}
 use Rattle.c_mean.proofs.lemmas.TakenStatements.{of_flow, stmt-takes, items-take}
@@ -62,52 +59,3 @@ run-takes n p i =
 
 pub runs_take_input : RunsTakeInput
 runs_take_input n p i = takes-law of_given i (run n p i) (run-takes n p i)
-
--- ---- what was heard
-
-abbrev Never : Given (Option Value) → Type 0
-Never x = ⊥
-
-number-ends : (v : Value) → Gives Never (on_number {A = Given (Option Value)} v (λ w. Exited [] (w % 256)))
-number-ends (Num w) = tt
-number-ends (At b o) = tt
-number-ends Bad = tt
-
-value-ends : (v : Option Value) → Gives Never (on_defined {A = Given (Option Value)} v (λ x. on_number x (λ w. Exited [] (w % 256))))
-value-ends None = tt
-value-ends (Some v) = number-ends v
-
-given-any : {A : Type 0} (a : Answer A) → Gives (λ x. Unit {0}) a
-given-any (Returned x o) = tt
-given-any (Cut o) = tt
-given-any (Exited o s) = tt
-given-any (Undefined o) = tt
-
-run-ends : (n : ℕ) (p : ProgramTree) (i : List ℕ) → Gives Never (run n p i)
-run-ends n p i =
-    let main = call_run p (global_address p) n p.main [] (first_memory p) i in
-    gives-then (λ x. Unit {0}) Never main finished (given-any main) (λ g u. value-ends g.value)
-
-left-over : {A : Type 0} (rest : A → List ℕ) (i : List ℕ) (a : Answer A) → TakesInput rest i a → taken_bytes (events a) ++ drop (taken (events a)) i ≡ i
-left-over rest i (Returned x o) h = ap (λ l. l ++ drop (taken o) i) h.0 ∙ take-append-drop (taken o) i
-left-over rest i (Cut o) h = ap (λ l. l ++ drop (taken o) i) h ∙ take-append-drop (taken o) i
-left-over rest i (Exited o s) h = ap (λ l. l ++ drop (taken o) i) h ∙ take-append-drop (taken o) i
-left-over rest i (Undefined o) h = ap (λ l. l ++ drop (taken o) i) h ∙ take-append-drop (taken o) i
-
-hears : (rest : Given (Option Value) → List ℕ) (i : List ℕ) (a : Answer (Given (Option Value))) → TakesInput rest i a → Gives Never a → HearsAnswer i a (heard_as i a)
-hears rest i (Returned x o) h k = absurd k
-hears rest i (Cut o) h k = (refl, left-over rest i (Cut o) h, refl)
-hears rest i (Exited o s) h k = (refl, left-over rest i (Exited o s) h, refl)
-hears rest i (Undefined o) h k = (refl, left-over rest i (Undefined o) h, refl)
-
-pub heard_is_run : HeardIsRun
-heard_is_run n p i = hears of_given i (run n p i) (runs_take_input n p i) (run-ends n p i)
-
-same-undefined : (i : List ℕ) (a : Answer (Given (Option Value))) → Gives Never a → (IsUndefined a → (heard_as i a).ending ≡ undefined) × ((heard_as i a).ending ≡ undefined → IsUndefined a)
-same-undefined i (Returned x o) k = absurd k
-same-undefined i (Cut o) k = (λ h. absurd h, λ e. cc)
-same-undefined i (Exited o s) k = (λ h. absurd h, λ e. cc)
-same-undefined i (Undefined o) k = (λ h. refl, λ e. tt)
-
-pub heard_is_undefined : HeardIsUndefined
-heard_is_undefined n p i = same-undefined i (run n p i) (run-ends n p i)
