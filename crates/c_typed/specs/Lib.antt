@@ -1,10 +1,10 @@
 pub mod Typed
-pub mod Codes
-pub mod StmtCodes
-pub mod ProgramCodes
+pub mod ExprEncoding
+pub mod StmtEncoding
+pub mod ProgramEncoding
 pub mod ExprViews
-pub mod ExprFalls
+pub mod ExprHeight
 pub mod StmtViews
-pub mod StmtFalls
+pub mod StmtHeight
 pub mod ProgramViews
 pub mod WellTyped

@@ -63,7 +63,7 @@ pub enum PlaceForm {
 
 impl Model for TExpr {
     ghost use Rattle.c_typed.specs.Typed.{ExprTree, expr_size};
-    ghost use Rattle.c_typed.specs.Codes.{coded_expr};
+    ghost use Rattle.c_typed.specs.ExprEncoding.{coded_expr};
 
     ghost Value = { ExprTree };
 
@@ -76,14 +76,14 @@ impl Model for TExpr {
 
     ghost size = { expr_size };
 
-    ghost use Rattle.c_typed.specs.ExprFalls.{expr_falls};
+    ghost use Rattle.c_typed.specs.ExprHeight.{expr_height};
 
-    ghost size_decreases = { λ a h. expr_falls a.form };
+    ghost size_decreases = { λ a h. expr_height a.form };
 }
 
 impl Model for TPlace {
     ghost use Rattle.c_typed.specs.Typed.{PlaceTree, place_size};
-    ghost use Rattle.c_typed.specs.Codes.{coded_place};
+    ghost use Rattle.c_typed.specs.ExprEncoding.{coded_place};
 
     ghost Value = { PlaceTree };
 
@@ -96,7 +96,7 @@ impl Model for TPlace {
 
     ghost size = { place_size };
 
-    ghost use Rattle.c_typed.specs.ExprFalls.{place_falls};
+    ghost use Rattle.c_typed.specs.ExprHeight.{place_height};
 
-    ghost size_decreases = { λ a h. place_falls a.form };
+    ghost size_decreases = { λ a h. place_height a.form };
 }

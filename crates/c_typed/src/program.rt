@@ -55,7 +55,7 @@ pub enum Written {
 
 impl Model for Typed {
     ghost use Rattle.c_typed.specs.Typed.{ProgramTree};
-    ghost use Rattle.c_typed.specs.ProgramCodes.{coded_program};
+    ghost use Rattle.c_typed.specs.ProgramEncoding.{coded_program};
 
     ghost Value = { ProgramTree };
 
@@ -66,7 +66,7 @@ impl Model for Typed {
 
 impl Model for TFunction {
     ghost use Rattle.c_typed.specs.Typed.{FunctionTree};
-    ghost use Rattle.c_typed.specs.ProgramCodes.{coded_function};
+    ghost use Rattle.c_typed.specs.ProgramEncoding.{coded_function};
 
     ghost Value = { FunctionTree };
 
@@ -79,7 +79,7 @@ impl Model for TFunction {
 
 impl Model for Variable {
     ghost use Rattle.c_typed.specs.Typed.{VariableTree};
-    ghost use Rattle.c_typed.specs.ProgramCodes.{coded_variable};
+    ghost use Rattle.c_typed.specs.ProgramEncoding.{coded_variable};
 
     ghost Value = { VariableTree };
 
@@ -91,7 +91,7 @@ impl Model for Variable {
 impl Model for TGlobal {
     ghost use Rattle.std.specs.Prelude.{map};
     ghost use Rattle.c_typed.specs.Typed.{GlobalTree};
-    ghost use Rattle.c_typed.specs.ProgramCodes.{coded_global};
+    ghost use Rattle.c_typed.specs.ProgramEncoding.{coded_global};
 
     ghost Value = { GlobalTree };
 

@@ -82,7 +82,7 @@ pub enum Element {
 
 impl Model for TStmt {
     ghost use Rattle.c_typed.specs.Typed.{StmtTree, stmt_size};
-    ghost use Rattle.c_typed.specs.StmtCodes.{coded_stmt};
+    ghost use Rattle.c_typed.specs.StmtEncoding.{coded_stmt};
 
     ghost Value = { StmtTree };
 
@@ -94,7 +94,7 @@ impl Model for TStmt {
 
     ghost size = { stmt_size };
 
-    ghost use Rattle.c_typed.specs.StmtFalls.{stmt_falls};
+    ghost use Rattle.c_typed.specs.StmtHeight.{stmt_height};
 
-    ghost size_decreases = { λ a h. stmt_falls a.form };
+    ghost size_decreases = { λ a h. stmt_height a.form };
 }
