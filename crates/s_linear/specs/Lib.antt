@@ -2,3 +2,4 @@ pub mod Linear
 pub mod Lines
 pub mod Meaning
 pub mod Frame
+pub mod Views
