@@ -3,3 +3,4 @@ pub mod Lines
 pub mod Meaning
 pub mod Frame
 pub mod Views
+pub mod Laws

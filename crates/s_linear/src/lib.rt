@@ -4,6 +4,7 @@
 #![tactic(auto)]
 
 mod frame;
+pub mod laws;
 mod line;
 
 pub use frame::{Frame, Places};
