@@ -92,7 +92,8 @@ marks_more k p first c cs =
     stop_next : (n m : ℕ) → suc (n + m) ≡ n + suc m
     stop_next n m = omega arith
 
-marks_choice : (k p first : ℕ) (c : LinesOf) (cs : List LinesOf) → marks k (choice_lines p first (c ∷ cs)) + under k first ≡ all_marks k (c ∷ cs) + under k (first + suc (before_last (c ∷ cs)))
+marks_choice : (k p first : ℕ) (c : LinesOf) (cs : List LinesOf) → marks k (choice_lines p first (c ∷ cs)) + under k first ≡
+    all_marks k (c ∷ cs) + under k (first + suc (before_last (c ∷ cs)))
 marks_choice k p first c [] = marks_more k p first c []
 marks_choice k p first c (d ∷ []) =
     omega (

@@ -1,6 +1,7 @@
 -- Linear code as a list of lines, each of which is one position. Labels are numbers, each of which is marked once.
-use Rattle.std.specs.Prelude.{ℕ, zero, suc, ◌+◌, ◌==◌, Bool, true, if◌then◌else◌, List, [], ◌∷◌, ◌++◌, map}
-use Rattle.s_linear.specs.Linear.{Instr, Step, plain, choice, loop, Code, no_steps, step_then, Codes, no_codes, code_then, LinearFunction}
+use Rattle.std.specs.Prelude.{ℕ, zero, suc, ◌+◌, ◌==◌, nat_lt, Bool, true, if◌then◌else◌, List, [], ◌∷◌, ◌++◌, map}
+use Rattle.g_graph.specs.WellFormed.{all_of}
+use Rattle.s_linear.specs.Linear.{Instr, const, undef, object_address, global_address, binary, unary, load, store, clear, equal_pointers, move, call, put, get, exit, Step, plain, choice, loop, Code, no_steps, step_then, Codes, no_codes, code_then, LinearFunction}
 
 pub data Line : Type 0 where
   enter : (params : List ℕ) → Line
@@ -129,3 +130,35 @@ goes_to test _ = true
 abbrev pub does : (Instr → Bool) → Line → Bool
 does test (done i) = test i
 does test _ = true
+
+-- the names that an instruction writes or reads, and those of a line
+abbrev pub instr_names : Instr → List ℕ
+instr_names (const t w) = t ∷ []
+instr_names (undef t) = t ∷ []
+instr_names (object_address t k) = t ∷ []
+instr_names (global_address t k) = t ∷ []
+instr_names (binary o t a b) = t ∷ a ∷ b ∷ []
+instr_names (unary o t a) = t ∷ a ∷ []
+instr_names (load width t a) = t ∷ a ∷ []
+instr_names (store width a v) = a ∷ v ∷ []
+instr_names (clear k) = []
+instr_names (equal_pointers t a b) = t ∷ a ∷ b ∷ []
+instr_names (move t a) = t ∷ a ∷ []
+instr_names (call f t xs) = t ∷ xs
+instr_names (put a) = a ∷ []
+instr_names (get t) = t ∷ []
+instr_names (exit a) = a ∷ []
+
+abbrev pub line_names : Line → List ℕ
+line_names (enter xs) = xs
+line_names (leave v) = v ∷ []
+line_names (done i) = instr_names i
+line_names (branch_not_zero p l) = p ∷ []
+line_names (branch_zero p l) = p ∷ []
+line_names (branch_equal p r l) = p ∷ []
+line_names (jump l) = []
+line_names (label l) = []
+
+-- each name of a line is below a number
+abbrev pub names_below : ℕ → Line → Bool
+names_below n line = all_of (λ x. nat_lt x n) (line_names line)

@@ -1,6 +1,7 @@
 use std::marker::Model;
 
-/// Which place each name has, in the order of the names, and how many places there are. Contracts see a plain record.
+/// Which place each name has, in the order of the names, and how many places there are. Contracts
+/// see a plain record.
 #[derive(Debug, Drop)]
 pub struct Places {
     pub of: Vec<u32>,
@@ -15,7 +16,8 @@ impl Model for Places {
     ghost view = { λ p. record { of = p.of.items; count = p.count } };
 }
 
-/// The frame of a function: its size in bytes, and where its objects begin, in bytes from the stack pointer.
+/// The frame of a function: its size in bytes, and where its objects begin, in bytes from the stack
+/// pointer.
 #[derive(Clone, Copy, PartialEq, Eq, Debug)]
 pub struct Frame {
     pub size: u32,

@@ -1,4 +1,5 @@
-//! Laws of linear code, for the proofs of the crates above: each is the contract of a function that does nothing.
+//! Laws of linear code, for the proofs of the crates above: each is the contract of a function that
+//! does nothing.
 
 ghost use Rattle.s_linear.specs.Laws.{LabelsAreMarkedOnce, LinesGoToLabels};
 

@@ -82,7 +82,8 @@ module _ (test : Instr → Bool) (p : Op → ℕ → Type 0) (moved : (t s : ℕ
 -- ---- what well-formed lambdas have
 
 module _ (objects : ℕ) (p : Op → ℕ → Type 0)
-    (fits : (args : List Kind) (before : NodeTrees) (id : ℕ) (op : Op) (inputs : List Origin) (rs : RegionTrees) → node_fits objects args before (node id op inputs rs) ≡ true → p op (length inputs)) where
+    (fits : (args : List Kind) (before : NodeTrees) (id : ℕ) (op : Op) (inputs : List Origin) (rs : RegionTrees) →
+    node_fits objects args before (node id op inputs rs) ≡ true → p op (length inputs)) where
   mutual
     region_has : (r : RegionTree) → every_region (region_fits objects) r ≡ true → RegionOps p r
     region_has (region args nodes results) e =
@@ -96,7 +97,8 @@ module _ (objects : ℕ) (p : Op → ℕ → Type 0)
     node_has : (args : List Kind) (before : NodeTrees) (x : NodeTree) → node_fits objects args before x ≡ true → every_in_node (region_fits objects) x ≡ true → NodeOps p x
     node_has args before (node id op inputs rs) e inside = (fits args before id op inputs rs e, regions_have rs inside)
 
-    nodes_have : (args : List Kind) (before : List NodeTree) (ns : NodeTrees) → each_node (node_fits objects args) before ns ≡ true → every_in_nodes (region_fits objects) ns ≡ true → NodesOps p ns
+    nodes_have : (args : List Kind) (before : List NodeTree) (ns : NodeTrees) → each_node (node_fits objects args) before ns ≡ true →
+        every_in_nodes (region_fits objects) ns ≡ true → NodesOps p ns
     nodes_have args before no_nodes e inside = tt
     nodes_have args before (node_then x xs) e inside = (
       node_has args (nodes_of before) x (first_true (node_fits objects args (nodes_of before) x) _ e) (first_true (every_in_node (region_fits objects) x) _ inside),

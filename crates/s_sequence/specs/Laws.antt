@@ -3,10 +3,11 @@ use Rattle.std.specs.Prelude.{◌≡◌, ℕ, ◌-◌, nat_lt, Bool, true, IsTru
 use Rattle.g_graph.specs.declared.op.Op.{Op}
 use Rattle.g_graph.specs.declared.op.Op.TheVariants.{Apply}
 use Rattle.g_graph.specs.Plain.{PlainLambda}
+use Rattle.g_graph.specs.Count.{region_values}
 use Rattle.g_graph.specs.Lists.{RegionOps}
 use Rattle.g_graph.specs.WellFormed.{all_of, is_width, IsWellFormed}
 use Rattle.s_linear.specs.Linear.{Instr, object_address, load, store, clear, call}
-use Rattle.s_linear.specs.Lines.{enter, leave, does, numbers_from, code_lines, lines}
+use Rattle.s_linear.specs.Lines.{enter, leave, does, names_below, numbers_from, code_lines, lines}
 use Rattle.s_sequence.specs.Sequence.{sequenced}
 
 -- an instruction's width is 1, 2 or 4
@@ -30,6 +31,10 @@ calls_with test _ = true
 abbrev pub Applies : (ℕ → ℕ → Bool) → Op → (count : ℕ) → Type 0
 Applies test (Apply f) count = test f (count - 2) ≡ true
 Applies test op count = Unit {0}
+
+-- Each name is below the number of the lambda's values.
+abbrev pub NamesAreBelow : Type 0
+NamesAreBelow = (l : PlainLambda) → IsWellFormed l → IsTrue (all_of (names_below (region_values l.body)) (lines (sequenced l)))
 
 -- Each width is 1, 2 or 4.
 abbrev pub WidthsFit : Type 0

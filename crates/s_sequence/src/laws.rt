@@ -1,7 +1,12 @@
-//! Laws of the linear code of a lambda, for the proofs of the crates above: each is the contract of a function that does
-//! nothing.
+//! Laws of the linear code of a lambda, for the proofs of the crates above: each is the contract of
+//! a function that does nothing.
 
-ghost use Rattle.s_sequence.specs.Laws.{WidthsFit, ObjectsAreThere, CallsKeepArguments, ParamsAreFirst};
+ghost use Rattle.s_sequence.specs.Laws.{NamesAreBelow, WidthsFit, ObjectsAreThere, CallsKeepArguments, ParamsAreFirst};
+
+/// Each name is below the number of the lambda's values.
+pub fn names_are_below()
+    ensures { NamesAreBelow }
+{}
 
 /// Each width is 1, 2 or 4.
 pub fn widths_fit()
@@ -18,7 +23,8 @@ pub fn calls_keep_arguments()
     ensures { CallsKeepArguments }
 {}
 
-/// The parameters are the first names in order, on the first line, and the last line leaves with the value.
+/// The parameters are the first names in order, on the first line, and the last line leaves with
+/// the value.
 pub fn params_are_first()
     ensures { ParamsAreFirst }
 {}
