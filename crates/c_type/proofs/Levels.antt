@@ -2,8 +2,10 @@
 use Rattle.std.proofs.Common.{◌≡◌, ℕ, zero, suc, ◌+◌, ◌*◌, ◌≤◌, ◌==◌, ◌&&◌, ◌||◌, max, not, Bool, true, false, cond, List, [], ◌∷◌, ◌++◌, refl, sym, ap, ap₂, ◌∙◌, subst, eq-eqb, eqb-true}
 use mathlib.Core.Path.{fun_ext}
 use Rattle.val_core.specs.declared.leaf.Leaf.{Leaf}
+use Rattle.limits.specs.Limits.{most_type_bytes}
+use Rattle.std.proofs.lemmas.Bool.{and_parts}
 use Rattle.c_type.specs.Trees.{TypeTree, void_type, scalar_type, pointer_to, array_of, struct_type}
-use Rattle.c_type.specs.Layout.{Definition, Definitions, is_defined, is_complete, rounded_up, align, struct_align, largest, size, struct_size, members_end, offset, offset_from, leaves_at, struct_leaves, members_leaves, repeated, members, most_bytes}
+use Rattle.c_type.specs.Layout.{Definition, Definitions, is_defined, is_complete, rounded_up, align, struct_align, largest, size, struct_size, members_end, offset, offset_from, leaves_at, struct_leaves, members_leaves, repeated, members}
 use Rattle.c_type.specs.Level.{IsLevelOf, IsLevel}
 use Rattle.c_type.specs.WellDefined.{AreLaidOut, AreDefinitions, steps, struct_steps, members_steps}
 
@@ -16,31 +18,26 @@ other-tag defs tag new here absent = by_test (new == tag) refl where
     clash : is_defined defs new ≡ true → ⊥
     clash h = cc
 
-both : (a b : Bool) → (a && b) ≡ true → (a ≡ true) × (b ≡ true)
-both true true h = (refl, refl)
-both true false h = cc
-both false b h = cc
-
 module _ (d : Definition) (ds : Definitions) (new : is_defined ds d.tag ≡ false) where
   pub size-later : (t : TypeTree) → is_complete ds t ≡ true → size (d ∷ ds) t ≡ size ds t
   size-later void_type h = refl
   size-later (scalar_type s) h = refl
   size-later (pointer_to t) h = refl
-  size-later (array_of t n) h = ap (λ s. n * s) (size-later t (both (not (n == 0)) (is_complete ds t) h).1)
+  size-later (array_of t n) h = ap (λ s. n * s) (size-later t (and_parts (not (n == 0)) (is_complete ds t) h).1)
   size-later (struct_type k) h = ap (λ b. cond b (rounded_up (members_end (size ds) (align ds) 0 d.members) (largest (align ds) d.members)) (struct_size ds k)) (other-tag ds k d.tag h new)
 
   pub align-later : (t : TypeTree) → is_complete ds t ≡ true → align (d ∷ ds) t ≡ align ds t
   align-later void_type h = refl
   align-later (scalar_type s) h = refl
   align-later (pointer_to t) h = refl
-  align-later (array_of t n) h = align-later t (both (not (n == 0)) (is_complete ds t) h).1
+  align-later (array_of t n) h = align-later t (and_parts (not (n == 0)) (is_complete ds t) h).1
   align-later (struct_type k) h = ap (λ b. cond b (largest (align ds) d.members) (struct_align ds k)) (other-tag ds k d.tag h new)
 
   pub steps-later : (t : TypeTree) → is_complete ds t ≡ true → steps (d ∷ ds) t ≡ steps ds t
   steps-later void_type h = refl
   steps-later (scalar_type s) h = refl
   steps-later (pointer_to t) h = refl
-  steps-later (array_of t n) h = ap (λ s. s + 2) (steps-later t (both (not (n == 0)) (is_complete ds t) h).1)
+  steps-later (array_of t n) h = ap (λ s. s + 2) (steps-later t (and_parts (not (n == 0)) (is_complete ds t) h).1)
   steps-later (struct_type k) h = ap (λ b. cond b (members_steps (steps ds) d.members) (struct_steps ds k) + 1) (other-tag ds k d.tag h new)
 
   pub leaves-later : (t : TypeTree) → is_complete ds t ≡ true → leaves_at (d ∷ ds) t ≡ leaves_at ds t
@@ -48,7 +45,7 @@ module _ (d : Definition) (ds : Definitions) (new : is_defined ds d.tag ≡ fals
   leaves-later (scalar_type s) h = refl
   leaves-later (pointer_to t) h = refl
   leaves-later (array_of t n) h =
-      let c = (both (not (n == 0)) (is_complete ds t) h).1 in
+      let c = (and_parts (not (n == 0)) (is_complete ds t) h).1 in
       fun_ext (λ at. ap₂ (λ s f. repeated n s at f) (size-later t c) (leaves-later t c))
   leaves-later (struct_type k) h =
       fun_ext (λ at. ap (λ b. cond b (members_leaves (size ds) (align ds) (leaves_at ds) at 0 d.members) (struct_leaves ds k at)) (other-tag ds k d.tag h new))
@@ -58,7 +55,7 @@ module _ (d : Definition) (ds : Definitions) (new : is_defined ds d.tag ≡ fals
   complete-later (scalar_type s) h = h
   complete-later (pointer_to t) h = h
   complete-later (array_of t n) h =
-      let b = both (not (n == 0)) (is_complete ds t) h in
+      let b = and_parts (not (n == 0)) (is_complete ds t) h in
       ap₂ (λ x y. x && y) b.0 (complete-later t b.1)
   complete-later (struct_type k) h = ap (λ b. b || is_defined ds k) (other-tag ds k d.tag h new) ∙ h
 
@@ -143,6 +140,6 @@ level (d ∷ ds) w tag h = by_test (d.tag == tag) refl h (level ds w.1 tag) wher
         steps_are = refl;
         laid_out = w.0.laid_out;
         some = w.0.some;
-        small = subst (λ b. cond b (rounded_up (members_end (size ds) (align ds) 0 d.members) (largest (align ds) d.members)) (struct_size ds d.tag) ≤ most_bytes) (eq-eqb d.tag d.tag refl) w.0.small;
+        small = subst (λ b. cond b (rounded_up (members_end (size ds) (align ds) 0 d.members) (largest (align ds) d.members)) (struct_size ds d.tag) ≤ most_type_bytes) (eq-eqb d.tag d.tag refl) w.0.small;
       })
   by_test false differ k rest = raised d ds w.0.new (members ds tag) _ _ _ _ _ (rest k)

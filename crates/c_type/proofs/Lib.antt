@@ -4,7 +4,7 @@ pub mod Levels
 pub mod Bounds
 pub mod LeafLemmas
 pub mod MemberLemmas
-pub mod Places
+pub mod Indices
 pub mod LayLemmas
 pub mod Defined
 pub mod Order

@@ -1,8 +1,9 @@
 -- Leaves move with their type.
 use Rattle.std.proofs.Common.{◌≡◌, ℕ, zero, suc, ◌+◌, ◌-◌, ◌*◌, ◌^◌, ◌<◌, ◌≤◌, ◌==◌, Bool, true, false, cond, List, [], ◌∷◌, ◌++◌, map, length, drop, refl, sym, ap, ap₂, ◌∙◌, arith, length-append, suc-mul, length-drop}
 use Rattle.val_core.specs.declared.leaf.Leaf.{Leaf}
+use Rattle.limits.specs.Limits.{most_type_bytes}
 use Rattle.c_type.specs.Trees.{TypeTree, void_type, scalar_type, pointer_to, array_of, struct_type}
-use Rattle.c_type.specs.Layout.{Definitions, rounded_up, align, largest, size, size_by, struct_size, members_end, repeated, leaves_at, leaves_by, members_leaves, struct_leaves, most_bytes}
+use Rattle.c_type.specs.Layout.{Definitions, rounded_up, align, largest, size, size_by, struct_size, members_end, repeated, leaves_at, leaves_by, members_leaves, struct_leaves}
 use Rattle.c_type.specs.Moved.{moved, CanMove}
 use Rattle.c_type.proofs.LeafLemmas.{within-elements}
 use Rattle.c_type.proofs.Bounds.{align-between, members-between, round-lower, end-grows}
@@ -140,7 +141,7 @@ index-step at s (suc j) h =
 pub next-element : (defs : Definitions) (t : TypeTree) (at s i : ℕ) → 0 < i → leaves_at defs t (at + i * s) ≡ map (moved s) (leaves_at defs t (at + (i - 1) * s))
 next-element defs t at s i h = ap (leaves_at defs t) (sym (index-step at s i h)) ∙ leaves-moved s defs t (at + (i - 1) * s)
 
-pub room-again : (at n s z i : ℕ) → s ≡ z → at + n * z ≤ most_bytes → 0 < i → i < n → (at + (i - 1) * s) + z + s < 2 ^ 32
+pub room-again : (at n s z i : ℕ) → s ≡ z → at + n * z ≤ most_type_bytes → 0 < i → i < n → (at + (i - 1) * s) + z + s < 2 ^ 32
 room-again at n s z i e room h k =
     let w = within-elements i n z k in
     let x = index-step at s i h in

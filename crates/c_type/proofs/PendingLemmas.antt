@@ -1,8 +1,9 @@
 -- Steps of a listing.
 use Rattle.std.proofs.Common.{◌≡◌, ℕ, zero, suc, ◌+◌, ◌-◌, ◌*◌, ◌<◌, ◌≤◌, false, true, List, [], ◌∷◌, ◌++◌, length, drop, refl, sym, ap, ◌∙◌, subst, arith, length-append, append_assoc, append-nil, suc-mul, Bor}
 use Rattle.val_core.specs.declared.leaf.Leaf.{Leaf}
+use Rattle.limits.specs.Limits.{most_type_bytes}
 use Rattle.c_type.specs.Trees.{TypeTree, void_type, scalar_type, pointer_to, array_of, struct_type}
-use Rattle.c_type.specs.Layout.{Definitions, is_defined, scalar_size, rounded_up, align, size, members_end, members_leaves, leaves_at, repeated, most_bytes, IsLaidOut}
+use Rattle.c_type.specs.Layout.{Definitions, is_defined, scalar_size, rounded_up, align, size, members_end, members_leaves, leaves_at, repeated, IsLaidOut}
 use Rattle.c_type.specs.WellDefined.{AreLaidOut, MemberFits, steps, members_steps}
 use Rattle.c_type.specs.Pending.{listed, all_listed, CanList, CanListAll, turns, all_turns, CanGoOn, HasGoneOn}
 use Rattle.c_type.specs.Kept.{IsFound}
@@ -95,7 +96,7 @@ gone_array defs t u v n at first others out is same_of front h =
     let s = size defs u.now in
     let f = leaves_at defs u.now in
     let laid = subst (IsLaidOut defs) is h.next_can.0 in
-    let room : at + n * s ≤ most_bytes = subst (λ x. at + size defs x ≤ most_bytes) is h.next_can.1 in
+    let room : at + n * s ≤ most_type_bytes = subst (λ x. at + size defs x ≤ most_type_bytes) is h.next_can.1 in
     let some = complete-some defs u.now n laid in
     let el = element defs u.now n laid in
     let vl = ap (λ x. leaves_at defs x at) same_of in
@@ -108,7 +109,7 @@ gone_array defs t u v n at first others out is same_of front h =
     ∙ ap (λ x. out ++ (x ++ repeated (n - 1) s (at + s) f)) vl
     ∙ ap (λ x. out ++ x) (repeated-first n s at f some)
     ∙ sym (ap (λ x. out ++ leaves_at defs x at) is))
-    (subst (IsLaidOut defs) (sym same_of) el, subst (λ x. at + size defs x ≤ most_bytes) (sym same_of) (omega (arith, room, one)))
+    (subst (IsLaidOut defs) (sym same_of) el, subst (λ x. at + size defs x ≤ most_type_bytes) (sym same_of) (omega (arith, room, one)))
     (record {
       laid_out = el;
       room = room;
@@ -124,14 +125,14 @@ gone_array defs t u v n at first others out is same_of front h =
 pub gone_struct : (defs : Definitions) (t : Bor TypeTree) (tag at : ℕ) (s : Struct) (ms : Bor (List TypeTree)) (others : List Pending) (out : List Leaf) → t.now ≡ struct_type tag → IsFound defs tag s → ms.now ≡ s.members.items → CanGoOn defs (Whole t at) others out →
     HasGoneOn defs (Whole t at) others (others ++ Members ms at 0 ∷ []) out out
 gone_struct defs t tag at s ms others out is found members h =
-    let p = struct-parts defs tag at s found (subst (λ x. at + size defs x ≤ most_bytes) is h.next_can.1) in
+    let p = struct-parts defs tag at s found (subst (λ x. at + size defs x ≤ most_type_bytes) is h.next_can.1) in
     let st = ap (steps defs) is in
     let n = p.steps in
     let e = sym members in
     let m = ap (members_steps (steps defs)) members in
     one-left defs (Whole t at) (Members ms at 0) others out
     (ap (λ x. out ++ members_leaves (size defs) (align defs) (leaves_at defs) at 0 x) members ∙ sym (ap (λ x. out ++ x) (ap (λ x. leaves_at defs x at) is ∙ p.leaves)))
-    (subst (AreLaidOut defs) e p.laid_out, subst (λ x. at + members_end (size defs) (align defs) 0 x ≤ most_bytes) e p.room)
+    (subst (AreLaidOut defs) e p.laid_out, subst (λ x. at + members_end (size defs) (align defs) 0 x ≤ most_type_bytes) e p.room)
     (omega (arith, st, n, m)) h
 
 pub gone_undefined : (defs : Definitions) (t : Bor TypeTree) (tag at : ℕ) (others : List Pending) (out : List Leaf) → t.now ≡ struct_type tag → is_defined defs tag ≡ false → CanGoOn defs (Whole t at) others out →
@@ -146,7 +147,7 @@ gone_undefined defs t tag at others out is none h =
 
 pub member_fits : (defs : Definitions) (ts rest : Bor (List TypeTree)) (t : Bor TypeTree) (at end : ℕ) (others : List Pending) (out : List Leaf) → ts.now ≡ t.now ∷ rest.now → CanGoOn defs (Members ts at end) others out → MemberFits defs at end t.now
 member_fits defs ts rest t at end others out is h =
-    fits-first defs at end t.now rest.now (subst (AreLaidOut defs) is h.next_can.0) (subst (λ x. at + members_end (size defs) (align defs) end x ≤ most_bytes) is h.next_can.1)
+    fits-first defs at end t.now rest.now (subst (AreLaidOut defs) is h.next_can.0) (subst (λ x. at + members_end (size defs) (align defs) end x ≤ most_type_bytes) is h.next_can.1)
 
 pub gone_none : (defs : Definitions) (ts : Bor (List TypeTree)) (at end : ℕ) (others : List Pending) (out : List Leaf) → ts.now ≡ [] → CanGoOn defs (Members ts at end) others out → HasGoneOn defs (Members ts at end) others others out out
 gone_none defs ts at end others out is h =
@@ -158,7 +159,7 @@ pub gone_member : (defs : Definitions) (ts rest : Bor (List TypeTree)) (t : Bor 
     HasGoneOn defs (Members ts at end) others ((others ++ Members rest at (rounded_up end (align defs t.now) + size defs t.now) ∷ []) ++ Whole t (at + rounded_up end (align defs t.now)) ∷ []) out out
 gone_member defs ts rest t at end others out is h =
     let laid = subst (AreLaidOut defs) is h.next_can.0 in
-    let room = subst (λ x. at + members_end (size defs) (align defs) end x ≤ most_bytes) is h.next_can.1 in
+    let room = subst (λ x. at + members_end (size defs) (align defs) end x ≤ most_type_bytes) is h.next_can.1 in
     let fits = fits-first defs at end t.now rest.now laid room in
     let within = fits.within in
     let off = rounded_up end (align defs t.now) in

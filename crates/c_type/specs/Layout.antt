@@ -2,6 +2,7 @@
 use Rattle.std.specs.Prelude.{ℕ, zero, suc, ◌+◌, ◌-◌, ◌*◌, ◌/◌, ◌≤◌, ◌==◌, ◌&&◌, not, max, Bool, true, false, if◌then◌else◌, List, [], ◌∷◌, ◌++◌, IsTrue}
 use Rattle.std.specs.List.{list_any}
 use Rattle.val_core.specs.declared.leaf.Leaf.{Leaf}
+use Rattle.limits.specs.Limits.{most_type_bytes}
 use Rattle.c_type.specs.declared.scalar.Scalar.{Scalar}
 use Rattle.c_type.specs.declared.scalar.Scalar.TheVariants.{Char, SignedChar, UnsignedChar, Short, UnsignedShort, Int, UnsignedInt}
 use Rattle.c_type.specs.Trees.{TypeTree, void_type, scalar_type, pointer_to, array_of, struct_type}
@@ -128,13 +129,10 @@ leaves defs t = leaves_at defs t 0
 
 -- ---- what the calls ask for
 
-abbrev pub most_bytes : ℕ
-most_bytes = 1048576
-
 -- a complete type of at most so many bytes
 pub record IsLaidOut (defs : Definitions) (t : TypeTree) : Type 0 where
   pub complete : IsTrue (is_complete defs t)
-  pub small : size defs t ≤ most_bytes
+  pub small : size defs t ≤ most_type_bytes
 
 -- the members' types of the struct of this tag
 abbrev pub members : Definitions → (tag : ℕ) → List TypeTree

@@ -1,8 +1,9 @@
 -- The layout of a struct by its members alone (ISO/IEC 9899:2011, 6.7.2.1p15).
 use Rattle.std.specs.Prelude.{◌≡◌, ℕ, ◌<◌, ◌≤◌, List, length}
 use Rattle.val_core.specs.declared.leaf.Leaf.{Leaf}
+use Rattle.limits.specs.Limits.{most_type_bytes}
 use Rattle.c_type.specs.Trees.{TypeTree}
-use Rattle.c_type.specs.Layout.{Definitions, rounded_up, align, struct_align, largest, size, struct_size, members_end, offset, offset_from, leaves_at, struct_leaves, members_leaves, members, most_bytes}
+use Rattle.c_type.specs.Layout.{Definitions, rounded_up, align, struct_align, largest, size, struct_size, members_end, offset, offset_from, leaves_at, struct_leaves, members_leaves, members}
 use Rattle.c_type.specs.WellDefined.{AreLaidOut, steps, struct_steps, members_steps}
 
 -- what a struct of these members occupies, at the definitions so far
@@ -14,7 +15,7 @@ pub record IsLevelOf (defs : Definitions) (ms : List TypeTree) (bytes alignment 
   pub steps_are : count ≡ members_steps (steps defs) ms
   pub laid_out : AreLaidOut defs ms
   pub some : 0 < length ms
-  pub small : bytes ≤ most_bytes
+  pub small : bytes ≤ most_type_bytes
 
 abbrev pub IsLevel : Definitions → (tag : ℕ) → Type 0
 IsLevel defs tag =

@@ -1,14 +1,14 @@
 pub mod Trees
-pub mod TreeCodes
+pub mod TreeEncoding
 pub mod TreeView
-pub mod TreeFalls
+pub mod TreeHeight
 pub mod Layout
 pub mod WellDefined
 pub mod Level
 pub mod LaidUpTo
 pub mod Moved
 pub mod LayoutLaws
-pub mod DefinitionCodes
+pub mod DefinitionEncoding
 pub mod Structs
 pub mod Kept
 pub mod Pending

@@ -1,13 +1,14 @@
 -- What is still to be listed while leaves are listed.
 use Rattle.std.specs.Prelude.{◌≡◌, ℕ, ◌+◌, ◌-◌, ◌*◌, ◌<◌, ◌≤◌, List, [], ◌∷◌, ◌++◌, length, drop}
 use Rattle.val_core.specs.declared.leaf.Leaf.{Leaf}
+use Rattle.limits.specs.Limits.{most_type_bytes}
 use Rattle.c_type.specs.Trees.{TypeTree}
-use Rattle.c_type.specs.Layout.{Definitions, align, size, members_end, members_leaves, leaves_at, repeated, most_bytes, IsLaidOut}
+use Rattle.c_type.specs.Layout.{Definitions, align, size, members_end, members_leaves, leaves_at, repeated, IsLaidOut}
 use Rattle.c_type.specs.WellDefined.{AreLaidOut, steps, members_steps}
 use Rattle.c_type.specs.declared.listing.Pending.{Pending}
 use Rattle.c_type.specs.declared.listing.Pending.TheVariants.{Whole, Members, Elements}
 
--- the leaves once this is listed behind the ones so far
+-- the leaves once this is listed after the ones so far
 abbrev pub listed : Definitions → Pending → List Leaf → List Leaf
 listed defs (Whole t at) out = out ++ leaves_at defs t.now at
 listed defs (Members ts at end) out = out ++ members_leaves (size defs) (align defs) (leaves_at defs) at end ts.now
@@ -22,16 +23,16 @@ all_listed defs (p ∷ ps) out = listed defs p (all_listed defs ps out)
 -- the array's first element is listed, from the place `first` on
 pub record IsBegun (defs : Definitions) (t : TypeTree) (n at first : ℕ) (out : List Leaf) : Type 0 where
   pub laid_out : IsLaidOut defs t
-  pub room : at + n * size defs t ≤ most_bytes
+  pub room : at + n * size defs t ≤ most_type_bytes
   pub some : 0 < n
   pub inside : first ≤ length out
   pub element : drop first out ≡ leaves_at defs t at
 
 -- all of it lies within the most bytes of a type
 abbrev pub CanList : Definitions → Pending → List Leaf → Type 0
-CanList defs (Whole t at) out = IsLaidOut defs t.now × (at + size defs t.now ≤ most_bytes)
+CanList defs (Whole t at) out = IsLaidOut defs t.now × (at + size defs t.now ≤ most_type_bytes)
 CanList defs (Members ts at end) out =
-    AreLaidOut defs ts.now × (at + members_end (size defs) (align defs) end ts.now ≤ most_bytes)
+    AreLaidOut defs ts.now × (at + members_end (size defs) (align defs) end ts.now ≤ most_type_bytes)
 CanList defs (Elements t n at first) out = IsBegun defs t.now n at first out
 
 abbrev pub CanListAll : Definitions → List Pending → List Leaf → Type 0
@@ -48,7 +49,7 @@ abbrev pub all_turns : Definitions → List Pending → ℕ
 all_turns defs [] = 0
 all_turns defs (p ∷ ps) = turns defs p + all_turns defs ps
 
--- this can be listed behind the leaves so far, and then the others can
+-- this can be listed after the leaves so far, and then the others can
 pub record CanGoOn (defs : Definitions) (next : Pending) (others : List Pending) (out : List Leaf) : Type 0 where
   pub next_can : CanList defs next out
   pub others_can : CanListAll defs others (listed defs next out)

@@ -1,6 +1,7 @@
 -- The structs of the code, with what they occupy.
 use Rattle.std.specs.Prelude.{◌≡◌, ℕ, ◌^◌, ◌<◌, ◌≤◌, ◌⊎◌, List, [], ◌∷◌, length, slice_index, slice_get, Some}
-use Rattle.c_type.specs.Layout.{Definitions, most_bytes, struct_size, struct_align, offset, members}
+use Rattle.limits.specs.Limits.{most_type_bytes}
+use Rattle.c_type.specs.Layout.{Definitions, struct_size, struct_align, offset, members}
 use Rattle.c_type.specs.WellDefined.{AreDefinitions}
 use Rattle.c_type.specs.declared.structs.Struct.{Struct}
 
@@ -13,7 +14,7 @@ definitions_of defs (s ∷ ss) = definitions_of (record { tag = s.tag; members =
 pub record IsKept (defs : Definitions) (s : Struct) : Type 0 where
   pub members : members defs s.tag ≡ s.members.items
   pub size : s.size ≡ struct_size defs s.tag
-  pub small : s.size ≤ most_bytes
+  pub small : s.size ≤ most_type_bytes
   pub align : s.align ≡ struct_align defs s.tag
   pub count : length s.offsets.items ≡ length s.members.items
   pub offsets : (i : ℕ) → i < length s.offsets.items → slice_index s.offsets.items i ≡ offset defs s.tag i
@@ -23,11 +24,11 @@ abbrev pub absent : ℕ
 absent = 0xffff_ffff
 
 -- each tag with a place is that of the struct there, and each struct has the place of its tag
-pub record AreIndexed (places : List ℕ) (structs : List Struct) : Type 0 where
+pub record AreIndexed (indices : List ℕ) (structs : List Struct) : Type 0 where
   pub kept : (p : ℕ) (s : Struct) → slice_get structs p ≡ Some s → IsKept (definitions_of [] structs) s
-  pub found : (tag p : ℕ) (s : Struct) → slice_get places tag ≡ Some p → slice_get structs p ≡ Some s → s.tag ≡ tag
-  pub placed : (p : ℕ) (s : Struct) → slice_get structs p ≡ Some s → slice_get places s.tag ≡ Some p
-  pub bounded : (tag p : ℕ) → slice_get places tag ≡ Some p → (p < length structs) ⊎ (p ≡ absent)
+  pub found : (tag p : ℕ) (s : Struct) → slice_get indices tag ≡ Some p → slice_get structs p ≡ Some s → s.tag ≡ tag
+  pub indexed : (p : ℕ) (s : Struct) → slice_get structs p ≡ Some s → slice_get indices s.tag ≡ Some p
+  pub bounded : (tag p : ℕ) → slice_get indices tag ≡ Some p → (p < length structs) ⊎ (p ≡ absent)
   pub few : length structs < 2 ^ 32
   pub ordered : AreDefinitions (definitions_of [] structs)
 

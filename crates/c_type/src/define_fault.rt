@@ -7,7 +7,7 @@ use thiserror::Error;
 /// Why a struct is not defined.
 #[derive(Clone, Copy, PartialEq, Eq, Debug, Error)]
 pub enum DefineFault {
-    /// It would have more than `MOST_BYTES`.
+    /// It would have more than `MOST_TYPE_BYTES`.
     #[error("a struct of more than 1048576 bytes")]
     TooLarge,
     /// Memory ran out.

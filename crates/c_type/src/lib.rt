@@ -8,20 +8,16 @@ mod defining;
 pub mod laws;
 mod layout;
 mod listing;
-mod no_memory;
 mod same;
 mod scalar;
 mod structs;
-#[cfg(test)]
-mod tests;
 mod trees;
 
 pub use define_fault::DefineFault;
 pub use layout::{
-    MOST_BYTES, align_of, are_laid_out, bounded_size, is_complete, is_laid_out, offset_of, size_of,
+    align_of, are_laid_out, bounded_size, is_complete, is_laid_out, offset_of, size_of,
 };
 pub use listing::leaves;
-pub use no_memory::NoMemory;
 pub use scalar::Scalar;
 pub use structs::Types;
 pub use trees::{CType, TypeForm};

@@ -4,9 +4,9 @@ ghost use Rattle.c_type.specs.Moved.{moved, CanMove};
 ghost use Rattle.c_type.specs.Pending.{CanGoOn, HasGoneOn, IsBegun};
 
 use crate::layout::{align_of, rounded_up, size_of, width};
-use crate::no_memory::NoMemory;
 use crate::structs::Types;
 use crate::trees::{CType, TypeForm};
+use no_memory::NoMemory;
 use std::alloc::Global;
 use val_core::Leaf;
 
@@ -15,13 +15,13 @@ use val_core::Leaf;
 pub(crate) enum Pending<'a> {
     // A type that begins at this offset.
     Whole(&'a CType, u32),
-    // Members of a struct that begins at an offset, behind the earlier ones, which end so many bytes behind it.
+    // Members of a struct that begins at an offset, after the earlier ones, which end so many bytes after it.
     Members(&'a [CType], u32, u32),
     // The later ones of so many elements of a type, the first of which begins at an offset; its leaves stand at a place.
     Elements(&'a CType, u32, u32, usize),
 }
 
-/// The scalars and pointers of a complete type of at most `MOST_BYTES`, in order of offset.
+/// The scalars and pointers of a complete type of at most `MOST_TYPE_BYTES`, in order of offset.
 pub fn leaves(alloc: Global, types: &Types, t: &CType) -> Result<Vec<Leaf>, NoMemory>
     requires { IsLaidOut types.now t.now }
     ensures { IfOk result (λ v. v.items ≡ leaves types.now t.now) }

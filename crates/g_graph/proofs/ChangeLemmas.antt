@@ -5,7 +5,7 @@ use Rattle.std.proofs.lemmas.List.{set-get_or}
 use Rattle.std.specs.declared.option.Option.{Option}
 use Rattle.std.specs.declared.option.Option.TheVariants.{Some, None}
 use Rattle.g_graph.specs.Plain.{RegionTree, region, NodeTree, node, NodeTrees, no_nodes, node_then, RegionTrees, no_regions, region_then, nodes_of, regions_of, id_of}
-use Rattle.g_graph.specs.Change.{first_some, region_changed, node_changed, nodes_changed, regions_changed, some_region, some_in_node, some_in_nodes, some_in_regions, has_node, place_of}
+use Rattle.g_graph.specs.Change.{first_some, region_changed, node_changed, nodes_changed, regions_changed, some_region, some_in_node, some_in_nodes, some_in_regions, has_node, node_index}
 
 pub region_changed_here : (f : RegionTree → Option RegionTree) (r s : RegionTree) → f r ≡ Some s → region_changed f r ≡ Some s
 region_changed_here f (region args nodes results) s e = ap (λ o. first_some o (option_map (λ ns. region args ns results) (nodes_changed f nodes))) e
@@ -88,11 +88,11 @@ pub when_false : (P Q : Type 0) (b : Bool) → b ≡ false → MatchBool b P Q �
 when_false P Q false e h = h
 when_false P Q true e h = absurd (cc)
 
-pub has_node_place_of : (n first : ℕ) (xs : NodeTrees) → is_some (place_of n first xs) ≡ has_node n xs
-has_node_place_of n first no_nodes = refl
-has_node_place_of n first (node_then x xs) = by_test (id_of x == n) (has_node_place_of n (suc first) xs)
+pub has_node_index : (n first : ℕ) (xs : NodeTrees) → is_some (node_index n first xs) ≡ has_node n xs
+has_node_index n first no_nodes = refl
+has_node_index n first (node_then x xs) = by_test (id_of x == n) (has_node_index n (suc first) xs)
   where
-    by_test : (t : Bool) → is_some (place_of n (suc first) xs) ≡ has_node n xs → is_some (if t then Some first else place_of n (suc first) xs) ≡ (t || has_node n xs)
+    by_test : (t : Bool) → is_some (node_index n (suc first) xs) ≡ has_node n xs → is_some (if t then Some first else node_index n (suc first) xs) ≡ (t || has_node n xs)
     by_test true h = refl
     by_test false h = h
 

@@ -1,5 +1,6 @@
 -- Worked rows of the definitions: small lambdas, and each broken in one place.
-use Rattle.std.proofs.Common.{◌≡◌, ℕ, ◌+◌, true, false, List, [], ◌∷◌, map, replicate, length, refl}
+use Rattle.std.proofs.Common.{◌≡◌, ℕ, zero, suc, ◌+◌, ◌^◌, true, false, List, [], ◌∷◌, map, replicate, length, slice_get, Some, None, refl, sym, ap, subst, ◌∙◌}
+use Rattle.std.proofs.lemmas.Option.{same_Some}
 use Rattle.val_core.specs.declared.operation.Op2.TheVariants.{Add}
 use Rattle.val_core.specs.declared.operation.Op1.TheVariants.{Zext8}
 use Rattle.val_core.specs.declared.leaf.Leaf.{Leaf}
@@ -9,10 +10,14 @@ use Rattle.g_graph.specs.declared.op.Origin.{Origin}
 use Rattle.g_graph.specs.declared.op.Origin.TheVariants.{Arg, Out}
 use Rattle.g_graph.specs.declared.op.Op.{Op}
 use Rattle.g_graph.specs.declared.op.Op.TheVariants.{Apply, Store, Get, Const, Undef, Delta, Un, Clear, PtrEq, Exit, Bin, Put, Load, Local, Gamma, Theta}
-use Rattle.g_graph.specs.Plain.{RegionTree, region, NodeTree, node, no_nodes, no_regions, nodes_of, regions_of, PlainLambda}
+use Rattle.g_graph.specs.declared.link.Link.{Link}
+use Rattle.g_graph.specs.Plain.{RegionTree, region, NodeTree, node, no_nodes, no_regions, nodes_of, regions_of, PlainLambda, PlainDelta, PlainOmega}
 use Rattle.g_graph.specs.Count.{region_values}
 use Rattle.g_graph.specs.Ids.{region_ids}
-use Rattle.g_graph.specs.WellFormed.{well_formed, leaves_fit}
+use Rattle.g_graph.specs.WellFormed.{well_formed, IsWellFormed, leaves_fit, all_of, distinct}
+use Rattle.g_graph.specs.Nodes.{constant as origin_word}
+use Rattle.g_graph.specs.Lists.{RegionOps, Calls, NamesGlobal, IsComplete}
+use Rattle.g_graph.specs.Program.{main_name, link_fits, IsGlobal, HasMain, IsProgram}
 
 abbrev states : List Kind
 states = Memory ∷ Io ∷ []
@@ -97,7 +102,8 @@ unlike : well_formed (chosen (as_is ∷ inside [] (Arg 0 ∷ Arg 2 ∷ Arg 1 ∷
 unlike = refl
 
 -- a state that is given in a region and does not come back from it
-lost : well_formed (of_body (node 0 Gamma (Arg 0 ∷ Arg 0 ∷ Arg 1 ∷ Arg 2 ∷ []) (regions_of (inside (plain 1 Put (Arg 0 ∷ Arg 2 ∷ []) ∷ []) (Arg 0 ∷ []) ∷ [])) ∷ []) (Out 0 0 ∷ Arg 1 ∷ Arg 2 ∷ [])) ≡ false
+lost : well_formed (of_body (node 0 Gamma (Arg 0 ∷ Arg 0 ∷ Arg 1 ∷ Arg 2 ∷ []) (regions_of (inside (plain 1 Put (Arg 0 ∷ Arg 2 ∷ []) ∷ []) (Arg 0 ∷ []) ∷ [])) ∷ []) (Out 0 0 ∷ Arg 1 ∷ Arg 2 ∷ [])) ≡
+    false
 lost = refl
 
 -- a Theta that does its region once
@@ -112,7 +118,8 @@ no_predicate : well_formed (once (Arg 0 ∷ Arg 1 ∷ Arg 2 ∷ [])) ≡ false
 no_predicate = refl
 
 -- a memory that is taken twice
-two_memories : well_formed (of_body (node 0 Gamma (Arg 0 ∷ Arg 1 ∷ Arg 1 ∷ Arg 2 ∷ []) (regions_of (region (Memory ∷ states) no_nodes (Arg 0 ∷ Arg 1 ∷ Arg 2 ∷ []) ∷ [])) ∷ []) (Arg 0 ∷ Out 0 1 ∷ Out 0 2 ∷ [])) ≡ false
+two_memories : well_formed (of_body (node 0 Gamma (Arg 0 ∷ Arg 1 ∷ Arg 1 ∷ Arg 2 ∷ []) (regions_of (region (Memory ∷ states) no_nodes (Arg 0 ∷ Arg 1 ∷ Arg 2 ∷ []) ∷ [])) ∷ []) (Arg 0 ∷ Out 0 1 ∷
+    Out 0 2 ∷ [])) ≡ false
 two_memories = refl
 
 abbrev leaf : ℕ → ℕ → Leaf
@@ -139,7 +146,8 @@ broken =
     ∷ inside (node 1 Theta [] no_regions ∷ []) (Arg 0 ∷ Arg 1 ∷ Arg 2 ∷ [])
     ∷ inside (node 1 Theta (Arg 0 ∷ Arg 1 ∷ Arg 2 ∷ []) (regions_of (repeating 2 ∷ repeating 3 ∷ [])) ∷ []) (Out 1 0 ∷ Out 1 1 ∷ Out 1 2 ∷ [])
     -- regions of a Gamma that take or give other kinds, and a Theta without predicate and with other results
-    ∷ inside (node 1 Gamma (Arg 0 ∷ Arg 0 ∷ Arg 1 ∷ Arg 2 ∷ []) (regions_of (as_is ∷ region (Value ∷ Io ∷ Memory ∷ []) no_nodes (Arg 0 ∷ Arg 2 ∷ Arg 1 ∷ []) ∷ [])) ∷ []) (Out 1 0 ∷ Out 1 1 ∷ Out 1 2 ∷ [])
+    ∷ inside (node 1 Gamma (Arg 0 ∷ Arg 0 ∷ Arg 1 ∷ Arg 2 ∷ []) (regions_of (as_is ∷ region (Value ∷ Io ∷ Memory ∷ []) no_nodes (Arg 0 ∷ Arg 2 ∷ Arg 1 ∷ []) ∷ [])) ∷ []) (Out 1 0 ∷ Out 1 1 ∷
+    Out 1 2 ∷ [])
     ∷ inside (node 1 Gamma (Arg 0 ∷ Arg 0 ∷ Arg 1 ∷ Arg 2 ∷ []) (regions_of (as_is ∷ inside [] (Arg 0 ∷ Arg 2 ∷ Arg 1 ∷ []) ∷ [])) ∷ []) (Out 1 0 ∷ Out 1 1 ∷ Out 1 2 ∷ [])
     ∷ inside (node 1 Theta (Arg 0 ∷ Arg 1 ∷ Arg 2 ∷ []) (regions_of (as_is ∷ [])) ∷ []) (Out 1 0 ∷ Out 1 1 ∷ Out 1 2 ∷ [])
     ∷ inside (node 1 Theta (Arg 0 ∷ Arg 1 ∷ Arg 2 ∷ []) (regions_of (inside [] (Arg 0 ∷ Arg 0 ∷ Arg 2 ∷ Arg 1 ∷ []) ∷ [])) ∷ []) (Out 1 0 ∷ Out 1 1 ∷ Out 1 2 ∷ [])
@@ -152,7 +160,8 @@ broken =
     ∷ inside (plain 1 Put (Arg 0 ∷ Arg 2 ∷ []) ∷ plain 2 Put (Arg 0 ∷ Arg 2 ∷ []) ∷ []) (Arg 0 ∷ Arg 1 ∷ Out 2 0 ∷ [])
     ∷ inside (plain 1 Put (Arg 0 ∷ Arg 2 ∷ []) ∷ []) (Arg 0 ∷ Arg 1 ∷ Arg 2 ∷ [])
     -- a Theta without io, and a region that does not give back a state that a node of it gives
-    ∷ inside (node 1 Theta (Arg 0 ∷ Arg 1 ∷ []) (regions_of (region (Value ∷ Memory ∷ []) (nodes_of (plain 2 (Const 0) [] ∷ [])) (Out 2 0 ∷ Arg 0 ∷ Arg 1 ∷ []) ∷ [])) ∷ []) (Out 1 0 ∷ Out 1 1 ∷ Arg 2 ∷ [])
+    ∷ inside (node 1 Theta (Arg 0 ∷ Arg 1 ∷ []) (regions_of (region (Value ∷ Memory ∷ []) (nodes_of (plain 2 (Const 0) [] ∷ [])) (Out 2 0 ∷ Arg 0 ∷ Arg 1 ∷ []) ∷ [])) ∷ []) (Out 1 0 ∷ Out 1 1 ∷
+    Arg 2 ∷ [])
     ∷ inside (node 1 Gamma (Arg 0 ∷ Arg 0 ∷ Arg 1 ∷ Arg 2 ∷ []) (regions_of (inside (plain 2 Put (Arg 0 ∷ Arg 2 ∷ []) ∷ []) (Arg 0 ∷ []) ∷ [])) ∷ []) (Out 1 0 ∷ Arg 1 ∷ Arg 2 ∷ [])
     -- objects that are not there, and widths that are none
     ∷ inside (plain 1 (Local 1) [] ∷ []) (Out 1 0 ∷ Arg 1 ∷ Arg 2 ∷ [])
@@ -206,3 +215,64 @@ leaf_outside = refl
 
 leaf_askew : leaves_fit 8 0 (leaf 2 4 ∷ []) ≡ false
 leaf_askew = refl
+
+-- ---- what an image asks of a program
+
+-- int main(void) { return 0; }
+abbrev returns_zero : PlainLambda
+returns_zero =
+    record { number = 0; params = 0; objects = []; body = region states (nodes_of (plain 0 (Const 0) [] ∷ [])) (Out 0 0 ∷ Arg 0 ∷ Arg 1 ∷ []); next = 1 }
+
+-- a pointer that points to itself, with links at these offsets
+abbrev pointer : List ℕ → PlainDelta
+pointer offsets = record { bytes = replicate 4 0; links = map (λ at. record { at = at; delta = 0 }) offsets; leaves = record { offset = 0; width = 4 } ∷ []; fixed = false }
+
+-- with a global, and functions of these names
+abbrev program_of : PlainDelta → List (List ℕ) → PlainOmega
+program_of global names = record { lambdas = returns_zero ∷ []; deltas = global ∷ []; names = names }
+
+at_zero : {X : Type 0} (x y : X) (k : ℕ) → slice_get (x ∷ []) k ≡ Some y → (k ≡ 0) × (x ≡ y)
+at_zero x y zero e = (refl, same_Some x y e)
+at_zero x y (suc k) e = absurd (cc)
+
+returns_zero-complete : IsComplete (returns_zero ∷ [])
+returns_zero-complete = record {
+  well_formed = λ f l e. subst (λ (k : PlainLambda). IsWellFormed k) (at_zero returns_zero l f e).1 refl;
+  numbered = λ f l e. ap (λ (k : PlainLambda). k.number) (sym (at_zero returns_zero l f e).1) ∙ sym (at_zero returns_zero l f e).0;
+  calls = λ f l e. subst (λ (k : PlainLambda). RegionOps (Calls (returns_zero ∷ [])) k.body) (at_zero returns_zero l f e).1 ((tt, tt), tt);
+}
+
+returns_zero-program : IsProgram (program_of (pointer (0 ∷ [])) (main_name ∷ [])) (returns_zero ∷ [])
+returns_zero-program = record {
+  complete = returns_zero-complete;
+  params = refl;
+  main = record { index = 0; lambda = returns_zero; named = refl; there = refl; params = refl };
+  named = λ f l e. subst (λ (k : PlainLambda). RegionOps (NamesGlobal 1) k.body) (at_zero returns_zero l f e).1 ((tt, tt), tt);
+  globals = λ k d e. subst (λ (g : PlainDelta). IsGlobal 1 g) (at_zero (pointer (0 ∷ [])) d k e).1 (record { bytes = refl; leaves = refl; links = refl; apart = refl });
+}
+
+-- two links at one offset
+two_links : distinct (map (λ (link : Link). link.at) (pointer (0 ∷ 0 ∷ [])).links) ≡ false
+two_links = refl
+
+-- a link where no leaf begins, and one at a leaf of width 1
+link_between : all_of (link_fits 1 (pointer (1 ∷ [])).leaves) (pointer (1 ∷ [])).links ≡ false
+link_between = refl
+
+narrow_link : link_fits 1 (record { offset = 0; width = 1 } ∷ []) (record { at = 0; delta = 0 }) ≡ false
+narrow_link = refl
+
+-- a program without `main`
+no_main : HasMain ([] ∷ []) (returns_zero ∷ []) → ⊥
+no_main h =
+    let named = h.named in
+    absurd (cc)
+
+-- ---- nodes, constants and uses
+
+-- the word is taken modulo 2 ^ 32, and from the first output alone
+constant-word : origin_word (nodes_of (plain 3 (Const (2 ^ 32 + 5)) [] ∷ [])) (Out 3 0) ≡ Some 5
+constant-word = refl
+
+constant-second : origin_word (nodes_of (plain 3 (Const 5) [] ∷ [])) (Out 3 1) ≡ None
+constant-second = refl

@@ -12,7 +12,7 @@ use Rattle.g_graph.specs.declared.op.Op.{Op}
 use Rattle.g_graph.specs.declared.op.Op.TheVariants.{Gamma, Theta}
 use Rattle.g_graph.specs.declared.op.Origin.{Origin}
 use Rattle.g_graph.specs.Plain.{RegionTree, node, regions_of}
-use Rattle.g_graph.specs.Rows.{joined}
+use Rattle.g_graph.specs.Signatures.{joined}
 use Rattle.g_graph.specs.Scope.{same_kind, is_of}
 use Rattle.g_graph.specs.WellFormed.{are, all_of, some_of, at_most_one, same, has_its_regions}
 

@@ -1,17 +1,10 @@
+pub mod lemmas
 mod Examples
-pub mod ChangeLemmas
-pub mod EqualLemmas
-pub mod KindLemmas
-pub mod Mapped
-pub mod MovedLemmas
-pub mod NestLemmas
-pub mod NestNumbers
-pub mod NodeLemmas
-pub mod NumberedLemmas
-pub mod PartLemmas
-pub mod PlaceLemmas
-pub mod ReplaceLemmas
-pub mod ScopeMaps
-pub mod SpliceLemmas
+mod ChangeLemmas
+mod EqualLemmas
+mod KindLemmas
+mod Mapped
+mod NestLemmas
+mod SpliceKept
+mod ScopeMaps
 mod StateLemmas
-pub mod UniqueLemmas

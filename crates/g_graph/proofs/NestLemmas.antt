@@ -3,6 +3,7 @@ use Rattle.std.proofs.Common.{◌≡◌, ℕ, ◌++◌, Bool, true, ◌&&◌, Li
 use Rattle.std.specs.Prelude.{◌==◌, ◌||◌, not, slice_get, if◌then◌else◌, option_map}
 use Rattle.std.specs.declared.option.Option.{Option}
 use Rattle.std.specs.declared.option.Option.TheVariants.{Some, None}
+use Rattle.std.proofs.lemmas.Bool.{and_parts}
 use Rattle.g_graph.specs.declared.op.Kind.{Kind}
 use Rattle.g_graph.specs.declared.op.Kind.TheVariants.{Value, Memory, Io}
 use Rattle.g_graph.specs.declared.op.Op.{Op}
@@ -10,14 +11,13 @@ use Rattle.g_graph.specs.declared.op.Op.TheVariants.{Local, Load, Store, Clear, 
 use Rattle.g_graph.specs.declared.op.Origin.{Origin}
 use Rattle.g_graph.specs.declared.op.Origin.TheVariants.{Arg, Out}
 use Rattle.g_graph.specs.Plain.{RegionTree, region, NodeTree, node, NodeTrees, no_nodes, node_then, RegionTrees, no_regions, region_then, nodes_of, id_of, args_of}
-use Rattle.g_graph.specs.Rows.{joined, first_args, inputs_of, outputs_of, result_kinds, output_kinds, kind_after}
-use Rattle.g_graph.specs.Scope.{same_kind, is_of, known, last_place, origin_at, state_after, each_node}
+use Rattle.g_graph.specs.Signatures.{joined, first_args, inputs_of, outputs_of, result_kinds, output_kinds, kind_after}
+use Rattle.g_graph.specs.Scope.{same_kind, is_of, known, last_index, origin_at, state_after, each_node}
 use Rattle.g_graph.specs.Ids.{region_ids, node_ids, nodes_ids, regions_ids}
 use Rattle.g_graph.specs.Change.{first_some, region_changed, node_changed, nodes_changed, regions_changed}
 use Rattle.g_graph.specs.WellFormed.{all_of, some_of, all_regions, are, same, kinds_of, one_state_each, has_its_regions, regions_fit, theta_has_states, has_its_width, has_its_object, is_origin, is_last_of, is_last, node_fits, gives, region_fits, every_region, every_in_node, every_in_nodes, every_in_regions}
-use Rattle.g_graph.proofs.SpliceLemmas.{nodes_of-append, kind_after-joined, state_after-joined}
-use Rattle.g_graph.proofs.UniqueLemmas.{first_true, second_true}
-use Rattle.g_graph.proofs.NumberedLemmas.{Numbered, numbered_left, numbered_right, numbered_rest}
+use Rattle.g_graph.proofs.lemmas.Splices.{nodes_of-append, kind_after-joined, state_after-joined}
+use Rattle.g_graph.proofs.lemmas.Numbers.{Numbered, numbered_left, numbered_right, numbered_rest}
 
 -- after the one nodes origins have the kinds that they have after the others, and states come from the same
 pub record SameScope (bs cs : NodeTrees) : Type 0 where
@@ -34,8 +34,8 @@ known_same args bs cs s (Out n p) = s.kinds n p None
 last_of_same : (args : List Kind) (bs cs : NodeTrees) → SameScope bs cs → (x : Option Kind) (o : Origin) → is_last_of x args cs o ≡ is_last_of x args bs o
 last_of_same args bs cs s None o = refl
 last_of_same args bs cs s (Some Value) o = refl
-last_of_same args bs cs s (Some Memory) o = ap (λ p. is_origin p o) (s.states Memory (origin_at Arg (last_place Memory 0 (map Some args) None) None))
-last_of_same args bs cs s (Some Io) o = ap (λ p. is_origin p o) (s.states Io (origin_at Arg (last_place Io 0 (map Some args) None) None))
+last_of_same args bs cs s (Some Memory) o = ap (λ p. is_origin p o) (s.states Memory (origin_at Arg (last_index Memory 0 (map Some args) None) None))
+last_of_same args bs cs s (Some Io) o = ap (λ p. is_origin p o) (s.states Io (origin_at Arg (last_index Io 0 (map Some args) None) None))
 
 pub last_same : (args : List Kind) (bs cs : NodeTrees) → SameScope bs cs → (o : Origin) → is_last args cs o ≡ is_last args bs o
 last_same args bs cs s o = ap (λ x. is_last_of x args cs o) (known_same args bs cs s o) ∙ last_of_same args bs cs s (known args bs o) o
@@ -49,7 +49,7 @@ scope_more bs cs x y s i o = record {
       ∙ sym (ap (λ ns. kind_after ns n p found) (nodes_of-append bs (x ∷ [])) ∙ kind_after-joined (nodes_of bs) (node_then x no_nodes) n p found);
   states = λ k found.
       ap (λ ns. state_after k ns found) (nodes_of-append cs (y ∷ [])) ∙ state_after-joined k (nodes_of cs) (node_then y no_nodes) found
-      ∙ (λ j. origin_at (λ p. Out (i j) p) (last_place k 0 (o j) None) (s.states k found j))
+      ∙ (λ j. origin_at (λ p. Out (i j) p) (last_index k 0 (o j) None) (s.states k found j))
       ∙ sym (ap (λ ns. state_after k ns found) (nodes_of-append bs (x ∷ [])) ∙ state_after-joined k (nodes_of bs) (node_then x no_nodes) found);
 }
 
@@ -147,7 +147,7 @@ nodes_kept_here : (objects : ℕ) (x y : NodeTree) (xs : NodeTrees) → NodeKept
 nodes_kept_here objects x y xs k rest = record {
   scope = record {
     kinds = λ n p found. λ i. kind_after xs n p (if k.id i == n then joined (slice_get (k.outputs i) p) else found);
-    states = λ s found. λ i. state_after s xs (origin_at (λ p. Out (k.id i) p) (last_place s 0 (k.outputs i) None) found);
+    states = λ s found. λ i. state_after s xs (origin_at (λ p. Out (k.id i) p) (last_index s 0 (k.outputs i) None) found);
   };
   gives_same = λ s. λ i. some_of (is_of s) (k.outputs i) || gives s xs;
   fits = λ args bs cs s. λ i.
@@ -155,11 +155,11 @@ nodes_kept_here objects x y xs k rest = record {
   inside = λ i. k.inside i && rest i;
 }
 
-nodes_kept_behind : (objects : ℕ) (x : NodeTree) (xs ys : NodeTrees) → every_in_node (region_fits objects) x ≡ true → NodesKept objects xs ys → NodesKept objects (node_then x xs) (node_then x ys)
-nodes_kept_behind objects x xs ys own k = record {
+nodes_kept_following : (objects : ℕ) (x : NodeTree) (xs ys : NodeTrees) → every_in_node (region_fits objects) x ≡ true → NodesKept objects xs ys → NodesKept objects (node_then x xs) (node_then x ys)
+nodes_kept_following objects x xs ys own k = record {
   scope = record {
     kinds = λ n p found. k.scope.kinds n p (if id_of x == n then joined (slice_get (output_kinds x) p) else found);
-    states = λ s found. k.scope.states s (origin_at (λ p. Out (id_of x) p) (last_place s 0 (output_kinds x) None) found);
+    states = λ s found. k.scope.states s (origin_at (λ p. Out (id_of x) p) (last_index s 0 (output_kinds x) None) found);
   };
   gives_same = λ s. ap (λ b. some_of (is_of s) (output_kinds x) || b) (k.gives_same s);
   fits = λ args bs cs s. λ i.
@@ -167,7 +167,8 @@ nodes_kept_behind objects x xs ys own k = record {
   inside = λ i. own i && k.inside i;
 }
 
-head_shape : (r s : RegionTree) (rs : RegionTrees) (id : ℕ) (op : Op) (inputs : List Origin) → has_its_regions (node id op inputs (region_then s rs)) ≡ has_its_regions (node id op inputs (region_then r rs))
+head_shape : (r s : RegionTree) (rs : RegionTrees) (id : ℕ) (op : Op) (inputs : List Origin) → has_its_regions (node id op inputs (region_then s rs)) ≡
+    has_its_regions (node id op inputs (region_then r rs))
 head_shape r s rs id Gamma inputs = refl
 head_shape r s no_regions id Theta inputs = refl
 head_shape r s (region_then a more) id Theta inputs = refl
@@ -179,7 +180,8 @@ long_shape r a b cs bs id Gamma inputs = refl
 long_shape r a b cs bs id Theta inputs = refl
 long_shape r a b cs bs id _ inputs = refl
 
-regions_kept_here : (objects : ℕ) (r s : RegionTree) (rs : RegionTrees) → RegionKept objects r s → every_in_regions (region_fits objects) rs ≡ true → RegionsKept objects (region_then r rs) (region_then s rs)
+regions_kept_here : (objects : ℕ) (r s : RegionTree) (rs : RegionTrees) → RegionKept objects r s → every_in_regions (region_fits objects) rs ≡ true →
+    RegionsKept objects (region_then r rs) (region_then s rs)
 regions_kept_here objects r s rs k rest = record {
   first = k.args;
   given = k.results;
@@ -189,8 +191,9 @@ regions_kept_here objects r s rs k rest = record {
   inside = λ i. k.inside i && rest i;
 }
 
-regions_kept_behind : (objects : ℕ) (r : RegionTree) (rs ss : RegionTrees) → every_region (region_fits objects) r ≡ true → RegionsKept objects rs ss → RegionsKept objects (region_then r rs) (region_then r ss)
-regions_kept_behind objects r rs ss own k = record {
+regions_kept_following : (objects : ℕ) (r : RegionTree) (rs ss : RegionTrees) → every_region (region_fits objects) r ≡ true → RegionsKept objects rs ss →
+    RegionsKept objects (region_then r rs) (region_then r ss)
+regions_kept_following objects r rs ss own k = record {
   first = refl;
   given = refl;
   each = λ g. ap (λ b. g (args_of r) (result_kinds r) && b) (k.each g);
@@ -221,7 +224,7 @@ mutual
       every_region (region_fits objects) r ≡ true → Numbered next (region_ids r) → RegionKept objects r s
   region_changed_kept objects next f k (region args nodes results) s e own numbers =
       by_cases (f (region args nodes results)) (nodes_changed f nodes) refl refl e
-      (λ ms q. nodes_changed_kept objects next f k nodes ms q (second_true (region_fits objects (region args nodes results)) (every_in_nodes (region_fits objects) nodes) own) numbers)
+      (λ ms q. nodes_changed_kept objects next f k nodes ms q (and_parts (region_fits objects (region args nodes results)) (every_in_nodes (region_fits objects) nodes) own).1 numbers)
     where
       by_cases : (o : Option RegionTree) (p : Option NodeTrees) → f (region args nodes results) ≡ o → nodes_changed f nodes ≡ p →
           first_some o (option_map (λ ns. region args ns results) p) ≡ Some s → ((ms : NodeTrees) → nodes_changed f nodes ≡ Some ms → NodesKept objects nodes ms) →
@@ -230,7 +233,7 @@ mutual
       by_cases None (Some ms) a b c h =
           let same : region args ms results ≡ s = cc in
           subst (λ t. RegionKept objects (region args nodes results) t) same
-          (region_kept objects args nodes ms results (h ms b) (first_true (region_fits objects (region args nodes results)) (every_in_nodes (region_fits objects) nodes) own))
+          (region_kept objects args nodes ms results (h ms b) (and_parts (region_fits objects (region args nodes results)) (every_in_nodes (region_fits objects) nodes) own).0)
       by_cases None None a b c h = absurd (cc)
 
   node_changed_kept : (objects next : ℕ) (f : RegionTree → Option RegionTree) → KeepsRegion objects next f → (x y : NodeTree) → node_changed f x ≡ Some y →
@@ -249,8 +252,8 @@ mutual
       every_in_nodes (region_fits objects) ns ≡ true → Numbered next (nodes_ids ns) → NodesKept objects ns ms
   nodes_changed_kept objects next f k no_nodes ms e own numbers = absurd (cc)
   nodes_changed_kept objects next f k (node_then x xs) ms e own numbers =
-      let first = first_true (every_in_node (region_fits objects) x) (every_in_nodes (region_fits objects) xs) own in
-      let rest = second_true (every_in_node (region_fits objects) x) (every_in_nodes (region_fits objects) xs) own in
+      let first = (and_parts (every_in_node (region_fits objects) x) (every_in_nodes (region_fits objects) xs) own).0 in
+      let rest = (and_parts (every_in_node (region_fits objects) x) (every_in_nodes (region_fits objects) xs) own).1 in
       by_cases (node_changed f x) (nodes_changed f xs) refl refl e first rest (λ y q. node_changed_kept objects next f k x y q first (numbered_left next (node_ids x) (nodes_ids xs) numbers))
       (λ ys q. nodes_changed_kept objects next f k xs ys q rest (numbered_right next (node_ids x) (nodes_ids xs) numbers))
     where
@@ -264,15 +267,15 @@ mutual
           subst (λ t. NodesKept objects (node_then x xs) t) same (nodes_kept_here objects x y xs (h y a) rest)
       by_cases None (Some ys) a b c first rest h g =
           let same : node_then x ys ≡ ms = cc in
-          subst (λ t. NodesKept objects (node_then x xs) t) same (nodes_kept_behind objects x xs ys first (g ys b))
+          subst (λ t. NodesKept objects (node_then x xs) t) same (nodes_kept_following objects x xs ys first (g ys b))
       by_cases None None a b c first rest h g = absurd (cc)
 
   regions_changed_kept : (objects next : ℕ) (f : RegionTree → Option RegionTree) → KeepsRegion objects next f → (rs ss : RegionTrees) → regions_changed f rs ≡ Some ss →
       every_in_regions (region_fits objects) rs ≡ true → Numbered next (regions_ids rs) → RegionsKept objects rs ss
   regions_changed_kept objects next f k no_regions ss e own numbers = absurd (cc)
   regions_changed_kept objects next f k (region_then r rs) ss e own numbers =
-      let first = first_true (every_region (region_fits objects) r) (every_in_regions (region_fits objects) rs) own in
-      let rest = second_true (every_region (region_fits objects) r) (every_in_regions (region_fits objects) rs) own in
+      let first = (and_parts (every_region (region_fits objects) r) (every_in_regions (region_fits objects) rs) own).0 in
+      let rest = (and_parts (every_region (region_fits objects) r) (every_in_regions (region_fits objects) rs) own).1 in
       by_cases (region_changed f r) (regions_changed f rs) refl refl e first rest (λ s q. region_changed_kept objects next f k r s q first (numbered_left next (region_ids r) (regions_ids rs) numbers))
       (λ ts q. regions_changed_kept objects next f k rs ts q rest (numbered_right next (region_ids r) (regions_ids rs) numbers))
     where
@@ -286,5 +289,5 @@ mutual
           subst (λ t. RegionsKept objects (region_then r rs) t) same (regions_kept_here objects r s rs (h s a) rest)
       by_cases None (Some ts) a b c first rest h g =
           let same : region_then r ts ≡ ss = cc in
-          subst (λ t. RegionsKept objects (region_then r rs) t) same (regions_kept_behind objects r rs ts first (g ts b))
+          subst (λ t. RegionsKept objects (region_then r rs) t) same (regions_kept_following objects r rs ts first (g ts b))
       by_cases None None a b c first rest h g = absurd (cc)

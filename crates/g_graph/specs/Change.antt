@@ -48,11 +48,11 @@ abbrev pub has_node : ℕ → NodeTrees → Bool
 has_node n no_nodes = false
 has_node n (node_then x xs) = (id_of x == n) || has_node n xs
 
--- the place of the first node of this number, counted from a first place
-abbrev pub place_of : ℕ → (first : ℕ) → NodeTrees → Option ℕ
-place_of n first no_nodes = None
-place_of n first (node_then x xs) = if id_of x == n then Some first else place_of n (suc first) xs
+-- the index of the first node of this number, counted from a first index
+abbrev pub node_index : ℕ → (first : ℕ) → NodeTrees → Option ℕ
+node_index n first no_nodes = None
+node_index n first (node_then x xs) = if id_of x == n then Some first else node_index n (suc first) xs
 
 -- the change of the region that itself holds the node of this number
-abbrev pub in_enclosing : ℕ → (RegionTree → RegionTree) → RegionTree → Option RegionTree
-in_enclosing n change r = if has_node n (nodes_in r) then Some (change r) else None
+abbrev pub in_region_of : ℕ → (RegionTree → RegionTree) → RegionTree → Option RegionTree
+in_region_of n change r = if has_node n (nodes_in r) then Some (change r) else None

@@ -2,7 +2,7 @@
 -- counted as a region.
 use Rattle.std.specs.Prelude.{ℕ, ◌+◌, ◌-◌, ◌^◌, min, length}
 use Rattle.g_graph.specs.Plain.{RegionTree, region, NodeTree, node, NodeTrees, no_nodes, node_then, RegionTrees, no_regions, region_then}
-use Rattle.g_graph.specs.Rows.{outputs_of}
+use Rattle.g_graph.specs.Signatures.{outputs_of}
 
 abbrev mutual
   pub region_values : RegionTree → ℕ
@@ -19,6 +19,6 @@ abbrev mutual
   regions_values no_regions = 0
   regions_values (region_then r rs) = region_values r + regions_values rs
 
--- the greatest number that is told is 2 ^ 64 - 1
+-- the greatest answer is 2 ^ 64 - 1
 abbrev pub saturated : ℕ → ℕ
 saturated n = min n (2 ^ 64 - 1)

@@ -1,6 +1,6 @@
 pub mod Plain
 pub mod Codes
-pub mod Rows
+pub mod Signatures
 pub mod Count
 pub mod Ids
 pub mod Scope
@@ -8,3 +8,6 @@ pub mod WellFormed
 pub mod Change
 pub mod Replace
 pub mod Splice
+pub mod Nodes
+pub mod Lists
+pub mod Program

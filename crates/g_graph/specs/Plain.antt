@@ -1,10 +1,12 @@
 -- Lambdas as trees: the regionalised value state dependence graph (Reissmann et al., RVSDG: An Intermediate
 -- Representation for Optimizing Compilers, 2020), where a region is a list of nodes and a node holds its regions.
-use Rattle.std.specs.Prelude.{ℕ, suc, ◌+◌, List, [], ◌∷◌}
+use Rattle.std.specs.Prelude.{ℕ, suc, ◌+◌, Bool, List, [], ◌∷◌}
 use Rattle.val_core.specs.declared.leaf.Leaf.{Leaf}
 use Rattle.g_graph.specs.declared.op.Kind.{Kind}
 use Rattle.g_graph.specs.declared.op.Op.{Op}
 use Rattle.g_graph.specs.declared.op.Origin.{Origin}
+use Rattle.g_graph.specs.declared.link.Link.{Link}
+use Rattle.g_graph.specs.declared.steps.Step.{Step}
 
 mutual
   pub data RegionTree : Type 0 where
@@ -65,3 +67,22 @@ pub record PlainLambda : Type 0 where
   pub objects : List PlainObject
   pub body : RegionTree
   pub next : ℕ
+
+-- a global: its first bytes, the links in it, its leaves, and whether it never changes
+pub record PlainDelta : Type 0 where
+  pub bytes : List ℕ
+  pub links : List Link
+  pub leaves : List Leaf
+  pub fixed : Bool
+
+-- a program: its functions, its globals, and the functions' names
+pub record PlainOmega : Type 0 where
+  pub lambdas : List PlainLambda
+  pub deltas : List PlainDelta
+  pub names : List (List ℕ)
+
+-- what a recipe made of a lambda, the steps that led there, and the number of values before them
+pub record PlainOptimised : Type 0 where
+  pub lambda : PlainLambda
+  pub steps : List Step
+  pub before : ℕ

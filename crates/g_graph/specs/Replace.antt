@@ -6,7 +6,7 @@ use Rattle.std.specs.declared.option.Option.TheVariants.{Some, None}
 use Rattle.g_graph.specs.declared.op.Origin.{Origin}
 use Rattle.g_graph.specs.Plain.{RegionTree, region, NodeTree, node, NodeTrees, no_nodes, node_then, PlainLambda}
 use Rattle.g_graph.specs.Scope.{same_origin}
-use Rattle.g_graph.specs.Change.{lambda_changed, in_enclosing}
+use Rattle.g_graph.specs.Change.{lambda_changed, in_region_of}
 
 -- each input of the node, and so of the nodes, is what f makes of it
 abbrev pub node_redirected : (Origin → Origin) → NodeTree → NodeTree
@@ -22,7 +22,7 @@ region_redirected f (region args nodes results) = region args (nodes_redirected 
 abbrev pub origin_replaced : (from to : Origin) → Origin → Origin
 origin_replaced from to o = if same_origin from o then to else o
 
--- the body, or the region that holds the node of the number `enclosing`
-abbrev pub replaced : (from to : Origin) → (enclosing : Option ℕ) → PlainLambda → PlainLambda
+-- the body, or the region that holds the node of the number `region_of`
+abbrev pub replaced : (from to : Origin) → (region_of : Option ℕ) → PlainLambda → PlainLambda
 replaced from to None l = record l { body = region_redirected (origin_replaced from to) l.body }
-replaced from to (Some n) l = lambda_changed (in_enclosing n (region_redirected (origin_replaced from to))) l
+replaced from to (Some n) l = lambda_changed (in_region_of n (region_redirected (origin_replaced from to))) l

@@ -9,7 +9,7 @@ use Rattle.g_graph.specs.declared.op.Kind.TheVariants.{Value, Memory, Io}
 use Rattle.g_graph.specs.declared.op.Origin.{Origin}
 use Rattle.g_graph.specs.declared.op.Op.TheVariants.{Local, Clear, Load, Store, Gamma, Theta}
 use Rattle.g_graph.specs.Plain.{RegionTree, region, NodeTree, node, NodeTrees, no_nodes, node_then, RegionTrees, no_regions, region_then, args_of, PlainLambda}
-use Rattle.g_graph.specs.Rows.{inputs_of, result_kinds, output_kinds, first_args}
+use Rattle.g_graph.specs.Signatures.{inputs_of, result_kinds, output_kinds, first_args}
 use Rattle.g_graph.specs.Scope.{same_kind, is_of, same_origin, last_state, each_node, known}
 use Rattle.g_graph.specs.Ids.{region_ids}
 
@@ -58,7 +58,7 @@ abbrev pub one_state_each : List (Option Kind) → Bool
 one_state_each kinds = at_most_one Memory kinds && at_most_one Io kinds
 
 -- Each input is an argument of the same region or an output of an earlier node of it, and there are as many inputs, and
--- of such kinds, as the op's row says.
+-- of such kinds, as the op's signature says.
 abbrev pub inputs_fit : List Kind → NodeTrees → NodeTree → Bool
 inputs_fit args before (node id op inputs rs) = are (map (known args before) inputs) (inputs_of op (length inputs) rs)
 
@@ -84,7 +84,7 @@ regions_fit (node id Gamma inputs rs) = all_regions (λ r. same (args_of r) (fir
 regions_fit (node id Theta inputs rs) = all_regions (λ r. are (result_kinds r) (Value ∷ args_of r)) rs
 regions_fit (node id op inputs rs) = true
 
--- Every Theta takes and gives both states; an Apply does so by its row.
+-- Every Theta takes and gives both states; an Apply does so by its signature.
 abbrev pub theta_has_states : NodeTree → Bool
 theta_has_states (node id Theta inputs rs) = all_regions (λ r. some_of (same_kind Memory) (args_of r) && some_of (same_kind Io) (args_of r)) rs
 theta_has_states (node id op inputs rs) = true

@@ -2,7 +2,7 @@ ghost use Rattle.std.specs.Prelude.{◌≡◌, ◌&&◌, [], ◌∷◌, ◌++◌
 ghost use Rattle.g_graph.specs.declared.op.Kind.TheVariants.{Value, Memory, Io};
 ghost use Rattle.g_graph.specs.declared.op.Op.TheVariants.{Gamma};
 ghost use Rattle.g_graph.specs.Plain.{node, nodes_of, regions_of, args_of};
-ghost use Rattle.g_graph.specs.Rows.{output_kinds, result_kinds};
+ghost use Rattle.g_graph.specs.Signatures.{output_kinds, result_kinds};
 ghost use Rattle.g_graph.specs.Scope.{known, is_of, same_kind, each_node};
 ghost use Rattle.g_graph.specs.WellFormed.{are, same, some_of, kinds_of, all_regions, one_state_each, has_its_regions, regions_fit, theta_has_states, has_its_width, has_its_object, inputs_fit, node_has_one_state_each, region_has_one_state_each, node_fits, gives, returns_state, region_fits, every_region, every_in_node, well_formed};
 
@@ -10,7 +10,7 @@ use crate::kind_lists::{
     are_values_and_states, count_of_args, count_of_origins, count_of_outputs, have_kinds,
     have_value_and, have_values_and_states, match_known, same_kinds,
 };
-use crate::kinds::{first_args, row_inputs};
+use crate::kinds::{first_args, op_inputs};
 use crate::objects::{is_width, objects_fit};
 use crate::states::all_last;
 use crate::unique::numbers_fit;
@@ -27,7 +27,8 @@ pub fn check(lambda: &Lambda) -> bool
 }
 
 fn body_fits(body: &Region, params: u32) -> bool
-    ensures { result ≡ (same (args_of body.now) (replicate params Value ++ Memory ∷ Io ∷ []) && are (result_kinds body.now) (Value ∷ Memory ∷ Io ∷ [])) }
+    ensures { result ≡ (same (args_of body.now) (replicate params Value ++ Memory ∷ Io ∷ [])
+        && are (result_kinds body.now) (Value ∷ Memory ∷ Io ∷ [])) }
 {
     are_values_and_states(&body.args, params)
         && have_kinds(
@@ -112,7 +113,8 @@ fn has_output(node: &Node, kind: Kind) -> bool
 
 #[tactic(auto, using(crate::proofs::KindLemmas::some_of_count))]
 fn have_state(args: &[Kind], before: &[Node], origins: &[Origin], kind: Kind) -> bool
-    ensures { result ≡ some_of (is_of kind) (map (known args.now (nodes_of before.now)) origins.now) }
+    ensures { result ≡ some_of (is_of kind)
+        (map (known args.now (nodes_of before.now)) origins.now) }
 {
     count_of_origins(args, before, origins, kind) > 0
 }
@@ -155,7 +157,7 @@ fn inputs_fit(node: &Node, args: &[Kind], before: &[Node]) -> bool
         Op::Apply(_) => have_values_and_states(args, before, inputs),
         Op::Gamma => have_value_and(args, before, inputs, first_args(&node.regions)),
         Op::Theta => have_kinds(args, before, inputs, first_args(&node.regions)),
-        op => have_kinds(args, before, inputs, row_inputs(op)),
+        op => have_kinds(args, before, inputs, op_inputs(op)),
     }
 }
 
@@ -200,7 +202,8 @@ fn gamma_regions_fit(regions: &[Region]) -> bool
 
 // Whether each region has the arguments of this one, and its results where their kinds are known.
 fn regions_have_kinds(regions: &[Region], first: &Region) -> bool
-    ensures { result ≡ all_regions (λ r. same (args_of r) (args_of first.now) && are (result_kinds r) (kinds_of (result_kinds first.now))) (regions_of regions.now) }
+    ensures { result ≡ all_regions (λ r. same (args_of r) (args_of first.now)
+        && are (result_kinds r) (kinds_of (result_kinds first.now))) (regions_of regions.now) }
 {
     for region in regions {
         if !has_kinds(region, first) {
@@ -211,7 +214,8 @@ fn regions_have_kinds(regions: &[Region], first: &Region) -> bool
 }
 
 fn has_kinds(region: &Region, first: &Region) -> bool
-    ensures { result ≡ (same (args_of region.now) (args_of first.now) && are (result_kinds region.now) (kinds_of (result_kinds first.now))) }
+    ensures { result ≡ (same (args_of region.now) (args_of first.now)
+        && are (result_kinds region.now) (kinds_of (result_kinds first.now))) }
 {
     same_kinds(&region.args, &first.args)
         && match_known(
@@ -225,7 +229,8 @@ fn has_kinds(region: &Region, first: &Region) -> bool
 }
 
 fn theta_regions_fit(regions: &[Region]) -> bool
-    ensures { result ≡ all_regions (λ r. are (result_kinds r) (Value ∷ args_of r)) (regions_of regions.now) }
+    ensures { result ≡ all_regions (λ r.
+        are (result_kinds r) (Value ∷ args_of r)) (regions_of regions.now) }
 {
     for region in regions {
         if !theta_region_fits(region) {
@@ -251,7 +256,8 @@ fn theta_has_states(node: &Node) -> bool
 }
 
 fn regions_take_states(regions: &[Region]) -> bool
-    ensures { result ≡ all_regions (λ r. some_of (same_kind Memory) (args_of r) && some_of (same_kind Io) (args_of r)) (regions_of regions.now) }
+    ensures { result ≡ all_regions (λ r. some_of (same_kind Memory) (args_of r)
+        && some_of (same_kind Io) (args_of r)) (regions_of regions.now) }
 {
     for region in regions {
         if !takes_states(region) {
@@ -263,7 +269,8 @@ fn regions_take_states(regions: &[Region]) -> bool
 
 #[tactic(auto, using(crate::proofs::KindLemmas::some_of_args))]
 fn takes_states(region: &Region) -> bool
-    ensures { result ≡ (some_of (same_kind Memory) (args_of region.now) && some_of (same_kind Io) (args_of region.now)) }
+    ensures { result ≡ (some_of (same_kind Memory) (args_of region.now)
+        && some_of (same_kind Io) (args_of region.now)) }
 {
     count_of_args(&region.args, Kind::Memory) > 0 && count_of_args(&region.args, Kind::Io) > 0
 }
@@ -281,7 +288,7 @@ fn has_its_object(node: &Node, objects: usize) -> bool
     ensures { result ≡ has_its_object objects node.now }
 {
     match node.op {
-        Op::Local(place) | Op::Clear(place) => (place as usize) < objects,
+        Op::Local(index) | Op::Clear(index) => (index as usize) < objects,
         _ => true,
     }
 }

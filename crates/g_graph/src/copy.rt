@@ -1,6 +1,7 @@
 ghost use Rattle.std.specs.Prelude.{◌≡◌, IfOk};
 
-use crate::{Lambda, NoMemory, Node, Object, Region};
+use crate::{Lambda, Node, Object, Region};
+use no_memory::NoMemory;
 use smallvec::SmallVec;
 use std::alloc::Global;
 

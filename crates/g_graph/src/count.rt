@@ -1,11 +1,11 @@
 ghost use Rattle.std.specs.Prelude.{◌≡◌, length};
-ghost use Rattle.g_graph.specs.Rows.{output_kinds};
+ghost use Rattle.g_graph.specs.Signatures.{output_kinds};
 ghost use Rattle.g_graph.specs.Count.{saturated, region_values, node_values};
 
 use crate::{Lambda, Node, Op, Region};
 
-/// How many values the lambda has: one for each region, region argument, node, node output and region result, the body
-/// counted as a region; 2^64 - 1 where there are more. It takes no memory.
+/// How many values the lambda has: one for each region, region argument, node, node output and
+/// region result, the body counted as a region; 2^64 - 1 where there are more. It takes no memory.
 pub fn values(lambda: &Lambda) -> u64
     ensures { result ≡ saturated (region_values lambda.now.body) }
 {

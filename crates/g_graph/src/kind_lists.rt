@@ -2,7 +2,7 @@ ghost use Rattle.std.specs.Prelude.{◌≡◌, ◌+◌, ◌-◌, ◌++◌, map, 
 ghost use Rattle.std.specs.declared.option.Option.TheVariants.{Some};
 ghost use Rattle.g_graph.specs.declared.op.Kind.TheVariants.{Value, Memory, Io};
 ghost use Rattle.g_graph.specs.Plain.{nodes_of};
-ghost use Rattle.g_graph.specs.Rows.{output_kinds};
+ghost use Rattle.g_graph.specs.Signatures.{output_kinds};
 ghost use Rattle.g_graph.specs.Scope.{known, is_of};
 ghost use Rattle.g_graph.specs.WellFormed.{are, same, all_of, kinds_of};
 
@@ -46,7 +46,8 @@ pub fn have_kinds(args: &[Kind], before: &[Node], origins: &[Origin], wanted: &[
 
 // Whether these origins are a value and then these kinds.
 pub fn have_value_and(args: &[Kind], before: &[Node], origins: &[Origin], wanted: &[Kind]) -> bool
-    ensures { result ≡ are (map (known args.now (nodes_of before.now)) origins.now) (Value ∷ wanted.now) }
+    ensures { result ≡ are (map (known args.now (nodes_of before.now)) origins.now)
+        (Value ∷ wanted.now) }
 {
     match origins.split_first() {
         Some((first, rest)) => match known(args, before, *first) {
@@ -58,7 +59,8 @@ pub fn have_value_and(args: &[Kind], before: &[Node], origins: &[Origin], wanted
 }
 
 fn all_values(args: &[Kind], before: &[Node], origins: &[Origin]) -> bool
-    ensures { result ≡ all_of (λ o. is_of Value (known args.now (nodes_of before.now) o)) origins.now }
+    ensures { result ≡ all_of (λ o.
+        is_of Value (known args.now (nodes_of before.now) o)) origins.now }
 {
     for origin in origins {
         if !is_of(Kind::Value, known(args, before, *origin)) {
@@ -71,7 +73,8 @@ fn all_values(args: &[Kind], before: &[Node], origins: &[Origin]) -> bool
 // Whether these origins are values and then both states, as a call takes them.
 #[tactic(auto, using(crate::proofs::KindLemmas::are_values_then, crate::proofs::KindLemmas::are_unequal))]
 pub fn have_values_and_states(args: &[Kind], before: &[Node], origins: &[Origin]) -> bool
-    ensures { result ≡ are (map (known args.now (nodes_of before.now)) origins.now) (replicate (length origins.now - 2) Value ++ Memory ∷ Io ∷ []) }
+    ensures { result ≡ are (map (known args.now (nodes_of before.now)) origins.now)
+        (replicate (length origins.now - 2) Value ++ Memory ∷ Io ∷ []) }
 {
     if origins.len() < 2 {
         return false;
@@ -104,7 +107,8 @@ pub fn are_values_and_states(kinds: &[Kind], values: u32) -> bool
     are_values(values) && same_kinds(states, &[Kind::Memory, Kind::Io])
 }
 
-// Whether these origins have the kinds that those of another region have, where they are known there.
+// Whether these origins have the kinds that those of another region have, where they are known
+// there.
 #[tactic(auto, using(crate::proofs::KindLemmas::are_none))]
 pub fn match_known(
     args: &[Kind],
@@ -114,26 +118,28 @@ pub fn match_known(
     other: &[Node],
     wanted: &[Origin],
 ) -> bool
-    ensures { result ≡ are (map (known args.now (nodes_of before.now)) origins.now) (kinds_of (map (known other_args.now (nodes_of other.now)) wanted.now)) }
+    ensures { result ≡ are (map (known args.now (nodes_of before.now)) origins.now)
+        (kinds_of (map (known other_args.now (nodes_of other.now)) wanted.now)) }
 {
-    let mut place = 0;
+    let mut index = 0;
     for origin in wanted {
         if let Some(kind) = known(other_args, other, *origin) {
-            if place >= origins.len() {
+            if index >= origins.len() {
                 return false;
             }
-            if !is_of(kind, known(args, before, origins[place])) {
+            if !is_of(kind, known(args, before, origins[index])) {
                 return false;
             }
-            place += 1;
+            index += 1;
         }
     }
-    place == origins.len()
+    index == origins.len()
 }
 
 // How many of these origins have this kind.
 pub fn count_of_origins(args: &[Kind], before: &[Node], origins: &[Origin], kind: Kind) -> usize
-    ensures { result ≡ count_by (is_of kind) (map (known args.now (nodes_of before.now)) origins.now) }
+    ensures { result ≡ count_by (is_of kind)
+        (map (known args.now (nodes_of before.now)) origins.now) }
 {
     let mut count = 0;
     for origin in origins {

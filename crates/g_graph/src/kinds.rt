@@ -1,7 +1,7 @@
 ghost use Rattle.std.specs.Prelude.{◌≡◌, ◌==◌, slice_get, if◌then◌else◌};
 ghost use Rattle.std.specs.declared.option.Option.TheVariants.{Some, None};
 ghost use Rattle.g_graph.specs.Plain.{nodes_of, regions_of, id_of};
-ghost use Rattle.g_graph.specs.Rows.{joined, result_kinds, output_kinds, kind_after, row_inputs, row_outputs, first_args};
+ghost use Rattle.g_graph.specs.Signatures.{joined, result_kinds, output_kinds, kind_after, op_inputs, op_outputs, first_args, is_pure};
 ghost use Rattle.g_graph.specs.Scope.{known, same_kind, is_of};
 
 use crate::{Kind, Node, Op, Origin, Region};
@@ -11,7 +11,7 @@ pub fn known(args: &[Kind], before: &[Node], origin: Origin) -> Option<Kind>
     ensures { result ≡ known args.now (nodes_of before.now) origin }
 {
     match origin {
-        Origin::Arg(place) => kind_at(args, place as usize),
+        Origin::Arg(index) => kind_at(args, index as usize),
         Origin::Out { node, port } => kind_after(before, node, port as usize),
     }
 }
@@ -30,7 +30,8 @@ fn kind_after(nodes: &[Node], id: u32, port: usize) -> Option<Kind>
 // The kind of an output after this node, where it had this one before.
 #[cycle(kinds)]
 fn later(node: &Node, id: u32, port: usize, before: Option<Kind>) -> Option<Kind>
-    ensures { result ≡ (if id_of node.now == id then joined (slice_get (output_kinds node.now) port) else before) }
+    ensures { result ≡ (if id_of node.now == id then joined
+        (slice_get (output_kinds node.now) port) else before) }
 {
     if node.id == id {
         output_kind(node, port)
@@ -50,7 +51,7 @@ pub fn output_kind(node: &Node, port: usize) -> Option<Kind>
             None => None,
         },
         Op::Theta => kind_at(first_args(&node.regions), port),
-        op => kind_at(row_outputs(op), port),
+        op => kind_at(op_outputs(op), port),
     }
 }
 
@@ -60,16 +61,16 @@ fn result_kind(region: &Region, port: usize) -> Option<Kind>
     ensures { result ≡ joined (slice_get (result_kinds region.now) port) }
 {
     match region.results.get(port) {
-        Some(Origin::Arg(place)) => kind_at(&region.args, *place as usize),
+        Some(Origin::Arg(index)) => kind_at(&region.args, *index as usize),
         Some(Origin::Out { node, port }) => kind_after(&region.nodes, *node, *port as usize),
         None => None,
     }
 }
 
-fn kind_at(kinds: &[Kind], place: usize) -> Option<Kind>
-    ensures { result ≡ slice_get kinds.now place }
+fn kind_at(kinds: &[Kind], index: usize) -> Option<Kind>
+    ensures { result ≡ slice_get kinds.now index }
 {
-    kinds.get(place).copied()
+    kinds.get(index).copied()
 }
 
 pub fn first_args(regions: &[Region]) -> &[Kind]
@@ -82,8 +83,8 @@ pub fn first_args(regions: &[Region]) -> &[Kind]
 }
 
 // The inputs of an op, where they depend on the op alone.
-pub fn row_inputs(op: Op) -> &'static [Kind]
-    ensures { result.now ≡ row_inputs op }
+pub fn op_inputs(op: Op) -> &'static [Kind]
+    ensures { result.now ≡ op_inputs op }
 {
     match op {
         Op::Bin(_) => &[Kind::Value, Kind::Value],
@@ -98,8 +99,8 @@ pub fn row_inputs(op: Op) -> &'static [Kind]
 }
 
 // The outputs of an op without regions.
-fn row_outputs(op: Op) -> &'static [Kind]
-    ensures { result.now ≡ row_outputs op }
+fn op_outputs(op: Op) -> &'static [Kind]
+    ensures { result.now ≡ op_outputs op }
 {
     match op {
         Op::Store(_) | Op::Clear(_) => &[Kind::Memory],
@@ -126,5 +127,15 @@ pub fn is_of(kind: Kind, found: Option<Kind>) -> bool
     match found {
         Some(other) => same_kind(kind, other),
         None => false,
+    }
+}
+
+/// Whether the op reads and gives no state.
+pub fn is_pure(op: Op) -> bool
+    ensures { result ≡ is_pure op }
+{
+    match op {
+        Op::Const(_) | Op::Undef | Op::Local(_) | Op::Delta(_) | Op::Bin(_) | Op::Un(_) => true,
+        _ => false,
     }
 }

@@ -1,10 +1,9 @@
 use crate::Region;
-use c_lex::Name;
 use std::marker::Model;
 use val_core::Leaf;
 
-/// A memory object of a lambda: its size in bytes, and its leaves in order of offset. Contracts see both as a plain
-/// record.
+/// A memory object of a lambda: its size in bytes, and its leaves in order of offset. Contracts see
+/// both as a plain record.
 #[derive(Debug, Drop)]
 pub struct Object {
     pub size: u32,
@@ -22,8 +21,9 @@ impl Model for Object {
     ghost view = { λ o. record { size = o.size; leaves = o.leaves.items } };
 }
 
-/// A function: its number in the source, how many parameters it has, its memory objects, its body, and a number above
-/// those of all its nodes, from which new nodes are numbered. Contracts see it as a plain record.
+/// A function: its number in the source, how many parameters it has, its memory objects, its body,
+/// and a number above those of all its nodes, from which new nodes are numbered. Contracts see it
+/// as a plain record.
 #[derive(Debug, Drop)]
 pub struct Lambda {
     pub number: u32,
@@ -41,30 +41,11 @@ impl Model for Lambda {
 
     ghost coded = { coded_lambda };
 
-    ghost view = { λ l. record { number = l.number; params = l.params; objects = l.objects.items; body = l.body; next = l.next } };
-}
-
-/// The address of a global, by its place in the list, that stands in the four bytes at an offset.
-#[derive(Clone, Copy, PartialEq, Eq, Debug)]
-pub struct Link {
-    pub at: u32,
-    pub delta: u32,
-}
-
-/// A global: its first bytes, with zeros where a link stands, its links in order of offset, its leaves, and whether it
-/// never changes.
-#[derive(Debug, Drop)]
-pub struct Delta {
-    pub bytes: Vec<u8>,
-    pub links: Vec<Link>,
-    pub leaves: Vec<Leaf>,
-    pub fixed: bool,
-}
-
-/// A program: its functions, its globals, and the functions' names in the order of the source.
-#[derive(Debug, Drop)]
-pub struct Omega {
-    pub lambdas: Vec<Lambda>,
-    pub deltas: Vec<Delta>,
-    pub names: Vec<Name>,
+    ghost view = { λ l. record {
+      number = l.number;
+      params = l.params;
+      objects = l.objects.items;
+      body = l.body;
+      next = l.next;
+    } };
 }

@@ -1,11 +1,12 @@
 //! The graph of a function: types, the tree that contracts see, and what a well-formed one is.
-//! Construction, rules and sequencing stand on it; it stands on val_core and c_lex.
+//! Construction, rules and sequencing stand on it; it stands on no_memory, val_core and c_lex.
 //! It promises what its public calls say of that tree, and takes no memory where a call only reads.
 #![tactic(auto)]
 
 mod can_change;
 mod change;
 mod checking;
+mod constants;
 mod copy;
 mod count;
 mod equality;
@@ -13,9 +14,10 @@ mod find;
 mod kind_lists;
 mod kinds;
 mod lambda;
-mod no_memory;
+mod link;
 mod numbers;
 mod objects;
+mod omega;
 mod op;
 mod optimised;
 mod redirect;
@@ -25,23 +27,29 @@ mod splicing;
 mod states;
 mod steps;
 mod unique;
+mod uses;
 
 pub use can_change::{CanChange, can_change_lambda};
 pub use change::{Change, change_lambda, change_region};
 pub use checking::check;
+pub use constants::{const_word, constant};
 pub use copy::{copy_of, copy_region};
 pub use count::values;
 pub use equality::equal;
-pub use find::{is_enclosing, place_of};
-pub use lambda::{Delta, Lambda, Link, Object, Omega};
-pub use no_memory::NoMemory;
+pub use find::{holds_node, node_at, node_index, set_node};
+pub use kinds::is_pure;
+pub use lambda::{Lambda, Object};
+pub use link::Link;
 pub use numbers::ids;
+pub use omega::{Delta, Omega};
 pub use op::{Kind, Op, Origin};
-pub use optimised::Optimised;
+pub use optimised::{Optimised, StepList};
 pub use redirect::{
-    OriginReplaced, ArgsToInputs, Redirect, OutputsToResults, redirect_nodes, redirect_origins, redirect_region, same_origin,
+    ArgsToInputs, OriginReplaced, OutputsToResults, Redirect, redirect_nodes, redirect_origins,
+    redirect_region, same_origin,
 };
 pub use region::{Node, Region};
 pub use replace::replace_uses;
 pub use splicing::{splice, splice_region};
 pub use steps::{Rule, Step};
+pub use uses::{is_used, nodes_use};

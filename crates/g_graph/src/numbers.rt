@@ -1,11 +1,12 @@
 ghost use Rattle.std.specs.Prelude.{◌≡◌, ◌++◌, IfOk, OnOk};
 ghost use Rattle.g_graph.specs.Ids.{region_ids, node_ids};
 
-use crate::{Lambda, NoMemory, Node, Region};
+use crate::{Lambda, Node, Region};
+use no_memory::NoMemory;
 use std::alloc::Global;
 
-/// The numbers of the lambda's nodes in pre-order: a node before the nodes of its regions. It takes time linear in the
-/// lambda.
+/// The numbers of the lambda's nodes in pre-order: a node before the nodes of its regions. It takes
+/// time linear in the lambda.
 pub fn ids(alloc: Global, lambda: &Lambda) -> Result<Vec<u32>, NoMemory>
     ensures { IfOk result (λ all. all.items ≡ region_ids lambda.now.body) }
 {

@@ -30,7 +30,8 @@ fn leaves_fit(size: u32, leaves: &[Leaf]) -> bool
 }
 
 fn leaf_fits(size: u32, from: u64, leaf: Leaf) -> bool
-    ensures { result ≡ (nat_le from leaf.offset && nat_le (leaf.offset + leaf.width) size && is_width leaf.width && (leaf.offset % leaf.width == 0)) }
+    ensures { result ≡ (nat_le from leaf.offset && nat_le (leaf.offset + leaf.width) size
+        && is_width leaf.width && (leaf.offset % leaf.width == 0)) }
 {
     let end = leaf.offset as u64 + leaf.width as u64;
     from <= leaf.offset as u64

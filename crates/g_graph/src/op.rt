@@ -10,16 +10,17 @@ pub enum Kind {
     Io,
 }
 
-/// What a node does. The table of inputs and outputs in specs/Rows.antt has each op's row.
-#[derive(Clone, Copy, PartialEq, Eq, Debug)]
+/// What a node does. The table of inputs and outputs in specs/Signatures.antt has each op's
+/// signature.
+#[derive(Clone, Copy, PartialEq, Eq, Hash, Debug)]
 pub enum Op {
     /// The word.
     Const(u32),
     /// A value without meaning.
     Undef,
-    /// The address of an object of the lambda, by its place in the list.
+    /// The address of an object of the lambda, by its index in the list.
     Local(u32),
-    /// The address of a global, by its place in the list.
+    /// The address of a global, by its index in the list.
     Delta(u32),
     Bin(Op2),
     Un(Op1),
@@ -46,7 +47,7 @@ pub enum Op {
 }
 
 /// Where an input or a result comes from, in the region where it stands.
-#[derive(Clone, Copy, PartialEq, Eq, Debug)]
+#[derive(Clone, Copy, PartialEq, Eq, Hash, Debug)]
 pub enum Origin {
     /// The region's argument of this index.
     Arg(u32),
@@ -54,7 +55,7 @@ pub enum Origin {
     Out { node: u32, port: u32 },
 }
 
-/// What stands in the unused places of a short list of origins.
+/// The value of the unused slots of a short list of origins.
 impl Default for Origin {
     fn default() -> Origin {
         Origin::Arg(0)

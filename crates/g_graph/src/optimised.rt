@@ -1,13 +1,68 @@
-ghost use Rattle.g_graph.specs.WellFormed.{IsWellFormed};
+ghost use Rattle.std.specs.Prelude.{◌≡◌};
 
 use crate::{Lambda, Step};
+use std::marker::Model;
 
-/// What a recipe made of a lambda: the lambda as it is now, which is well formed, the steps that led there, and how
-/// many values the lambda had before them.
+/// The steps that a recipe took, in order. Contracts see the list. It is made of a vector and gives
+/// it back, and neither takes memory.
+#[derive(Debug, Drop)]
+pub struct StepList {
+    steps: Vec<Step>,
+}
+
+impl Model for StepList {
+    ghost use Rattle.std.specs.Prelude.{List};
+    ghost use Rattle.g_graph.specs.declared.steps.Step.{Step};
+    ghost use Rattle.g_graph.specs.Codes.{coded_steps};
+
+    ghost Value = { List Step };
+
+    ghost coded = { coded_steps };
+
+    ghost view = { λ s. s.steps.items };
+}
+
+impl StepList {
+    pub fn as_slice(&self) -> &[Step]
+        ensures { result.now ≡ self.now }
+    {
+        &self.steps
+    }
+
+    pub fn into_vec(self) -> Vec<Step>
+        ensures { result.items ≡ self }
+    {
+        self.steps
+    }
+}
+
+impl From<Vec<Step>> for StepList {
+    ghost from_gives = { λ steps list. list ≡ steps.items };
+
+    fn from(steps: Vec<Step>) -> StepList {
+        StepList { steps }
+    }
+}
+
+/// What a recipe made of a lambda: the lambda as it is now, which is well formed, the steps that
+/// led there, and how many values the lambda had before them. Contracts see it as a plain record.
 #[derive(Debug, Drop)]
 pub struct Optimised {
     pub lambda: Lambda,
-    pub steps: Vec<Step>,
+    pub steps: StepList,
     pub before: u32,
-    pub ghost well_formed: { IsWellFormed lambda },
+}
+
+impl Model for Optimised {
+    ghost use Rattle.g_graph.specs.Plain.{PlainOptimised};
+    ghost use Rattle.g_graph.specs.Codes.{coded_optimised};
+    ghost use Rattle.g_graph.specs.WellFormed.{IsWellFormed};
+
+    ghost Value = { PlainOptimised };
+
+    ghost coded = { coded_optimised };
+
+    ghost view = { λ o. record { lambda = o.lambda; steps = o.steps; before = o.before } };
+
+    ghost invariant = { λ o. IsWellFormed o.lambda };
 }

@@ -33,7 +33,7 @@ impl Redirect for OriginReplaced {
     }
 }
 
-/// The inputs of a part for its arguments.
+/// The inputs of a replacement for its arguments.
 #[derive(Drop)]
 pub struct ArgsToInputs<'a> {
     pub inputs: &'a [Origin],
@@ -44,13 +44,13 @@ impl Redirect for ArgsToInputs<'_> {
 
     fn redirect(&self, origin: Origin) -> Origin {
         match origin {
-            Origin::Arg(place) => origin_at(self.inputs, place, origin),
+            Origin::Arg(index) => origin_at(self.inputs, index, origin),
             Origin::Out { .. } => origin,
         }
     }
 }
 
-/// The results of a part for the outputs of a node.
+/// The results of a replacement for the outputs of a node.
 #[derive(Drop)]
 pub struct OutputsToResults<'a> {
     pub at: u32,
@@ -74,10 +74,10 @@ impl Redirect for OutputsToResults<'_> {
     }
 }
 
-fn origin_at(origins: &[Origin], place: u32, otherwise: Origin) -> Origin
-    ensures { result ≡ unwrap_or (slice_get origins.now place) otherwise }
+fn origin_at(origins: &[Origin], index: u32, otherwise: Origin) -> Origin
+    ensures { result ≡ unwrap_or (slice_get origins.now index) otherwise }
 {
-    match origins.get(place as usize) {
+    match origins.get(index as usize) {
         Some(origin) => *origin,
         None => otherwise,
     }
@@ -88,7 +88,7 @@ pub fn same_origin(a: Origin, b: Origin) -> bool
     ensures { result ≡ same_origin a b }
 {
     match (a, b) {
-        (Origin::Arg(place), Origin::Arg(other)) => place == other,
+        (Origin::Arg(index), Origin::Arg(other)) => index == other,
         (
             Origin::Out { node, port },
             Origin::Out {
@@ -108,9 +108,10 @@ pub fn redirect_region<R: Redirect>(region: &mut Region, by: &R)
     redirect_origins(region.results.as_mut_slice(), by);
 }
 
-/// Redirects each input of the nodes from a place on.
+/// Redirects each input of the nodes from an index on.
 pub fn redirect_nodes<R: Redirect>(nodes: &mut Vec<Node>, from: usize, by: &R)
-    ensures { nodes.new.items ≡ take from nodes.old.items ++ map (node_redirected (R.redirected by.now)) (drop from nodes.old.items) }
+    ensures { nodes.new.items ≡ take from nodes.old.items ++ map
+        (node_redirected (R.redirected by.now)) (drop from nodes.old.items) }
 {
     for i in from..nodes.len() {
         redirect_node(&mut nodes[i], by);

@@ -2,8 +2,8 @@ use crate::{Kind, Op, Origin};
 use smallvec::SmallVec;
 use std::marker::Model;
 
-/// A region of a regionalised value state dependence graph: its arguments by kind, its nodes, each after those that it
-/// uses, and where its results come from. Contracts see its tree.
+/// A region of a regionalised value state dependence graph: its arguments by kind, its nodes, each
+/// after those that it uses, and where its results come from. Contracts see its tree.
 #[cycle(graph)]
 #[derive(Debug, Drop)]
 pub struct Region {
@@ -12,7 +12,8 @@ pub struct Region {
     pub results: Vec<Origin>,
 }
 
-/// A node; its number is unique in its lambda, and only a Gamma and a Theta have regions. Contracts see its tree.
+/// A node; its number is unique in its lambda, and only a Gamma and a Theta have regions. Contracts
+/// see its tree.
 #[cycle(graph)]
 #[derive(Debug, Drop)]
 pub struct Node {

@@ -1,28 +1,36 @@
 ghost use Rattle.std.specs.Prelude.{◌≡◌};
-ghost use Rattle.g_graph.specs.Change.{in_enclosing};
+ghost use Rattle.g_graph.specs.Change.{in_region_of};
 ghost use Rattle.g_graph.specs.Replace.{region_redirected, origin_replaced, replaced};
 
 use crate::change::{Change, change_lambda};
-use crate::find::is_enclosing;
+use crate::find::holds_node;
 use crate::redirect::{OriginReplaced, redirect_region};
 use crate::{Lambda, Origin, Region};
 use std::convert::Infallible;
 
-/// Replaces the uses of one origin by another in one region: the body, or the region that holds the node `enclosing`. Where
-/// there is no such node nothing changes. It takes no memory, and time linear in the lambda.
-pub fn replace_uses(lambda: &mut Lambda, from: Origin, to: Origin, enclosing: Option<u32>)
-    ensures { lambda.new ≡ replaced from to enclosing lambda.old }
+/// Replaces the uses of one origin by another in one region: the body, or the region that holds the
+/// node `region_of`. Where there is no such node nothing changes. It takes no memory, and time
+/// linear in the lambda.
+pub fn replace_uses(lambda: &mut Lambda, from: Origin, to: Origin, region_of: Option<u32>)
+    ensures { lambda.new ≡ replaced from to region_of lambda.old }
 {
-    match enclosing {
+    match region_of {
         None => redirect_region(&mut lambda.body, &OriginReplaced { from, to }),
-        Some(enclosing) => replace_at(lambda, from, to, enclosing),
+        Some(region_of) => replace_at(lambda, from, to, region_of),
     }
 }
 
-fn replace_at(lambda: &mut Lambda, from: Origin, to: Origin, enclosing: u32)
-    ensures { lambda.new ≡ replaced from to (Some enclosing) lambda.old }
+fn replace_at(lambda: &mut Lambda, from: Origin, to: Origin, region_of: u32)
+    ensures { lambda.new ≡ replaced from to (Some region_of) lambda.old }
 {
-    match change_lambda(lambda, &mut Uses { from, to, enclosing }) {
+    match change_lambda(
+        lambda,
+        &mut Uses {
+            from,
+            to,
+            region_of,
+        },
+    ) {
         Ok(_) => (),
         Err(never) => match never {},
     }
@@ -33,16 +41,17 @@ fn replace_at(lambda: &mut Lambda, from: Origin, to: Origin, enclosing: u32)
 struct Uses {
     from: Origin,
     to: Origin,
-    enclosing: u32,
+    region_of: u32,
 }
 
 impl Change for Uses {
     type Fault = Infallible;
 
-    ghost changed = { λ u. in_enclosing u.enclosing (region_redirected (origin_replaced u.from u.to)) };
+    ghost changed = { λ u.
+        in_region_of u.region_of (region_redirected (origin_replaced u.from u.to)) };
 
     fn make(&mut self, region: &mut Region) -> Result<bool, Infallible> {
-        if !is_enclosing(region, self.enclosing) {
+        if !holds_node(region, self.region_of) {
             return Ok(false);
         }
         let by = OriginReplaced {

@@ -1,50 +1,61 @@
 ghost use Rattle.std.specs.Prelude.{◌≡◌, ◌+◌, ◌<◌, ◌++◌, OnOk, OnErr, take, drop, vec_len};
 ghost use Rattle.std.specs.declared.option.Option.TheVariants.{Some};
 ghost use Rattle.g_graph.specs.Plain.{nodes_of};
-ghost use Rattle.g_graph.specs.Change.{in_enclosing, place_of};
+ghost use Rattle.g_graph.specs.Change.{in_region_of, node_index};
 ghost use Rattle.g_graph.specs.Splice.{nodes_spliced, region_spliced, spliced};
 
 use crate::change::{Change, change_lambda};
-use crate::find::{is_enclosing, place_of};
-use crate::redirect::{ArgsToInputs, OutputsToResults, redirect_nodes, redirect_origins, redirect_region};
-use crate::{Lambda, NoMemory, Node, Origin, Region};
+use crate::find::{holds_node, node_index};
+use crate::redirect::{
+    ArgsToInputs, OutputsToResults, redirect_nodes, redirect_origins, redirect_region,
+};
+use crate::{Lambda, Node, Origin, Region};
+use no_memory::NoMemory;
 use std::alloc::Global;
 use std::mem;
 
-/// Puts the nodes of the part in the place of the node `at`, in the region that holds it. The part's arguments become
-/// these inputs, and uses of the node's outputs become the part's results, in the same order. Where there is no such
-/// node nothing changes. It takes time linear in the lambda and the part.
+/// Puts the nodes of the replacement instead of the node `at`, in the region that holds it. The
+/// replacement's arguments become these inputs, and uses of the node's outputs become the
+/// replacement's results, in the same order. Where there is no such node nothing changes. It takes
+/// time linear in the lambda and the replacement.
 pub fn splice(
     alloc: Global,
     lambda: &mut Lambda,
     at: u32,
-    part: Region,
+    replacement: Region,
     inputs: &[Origin],
 ) -> Result<(), NoMemory>
-    ensures ok { OnOk result (lambda.new ≡ spliced at part inputs.now lambda.old) }
+    ensures ok { OnOk result (lambda.new ≡ spliced at replacement inputs.now lambda.old) }
     ensures err { OnErr result (lambda.new ≡ lambda.old) }
 {
-    let mut part = part;
-    redirect_region(&mut part, &ArgsToInputs { inputs });
-    change_lambda(lambda, &mut Part { alloc, at, part })?;
+    let mut replacement = replacement;
+    redirect_region(&mut replacement, &ArgsToInputs { inputs });
+    change_lambda(
+        lambda,
+        &mut Replacement {
+            alloc,
+            at,
+            replacement,
+        },
+    )?;
     Ok(())
 }
 
-// The exchange of a node for a part, whose arguments are placed already.
+// The exchange of a node for a replacement whose arguments are origins of the node's region.
 #[derive(Drop)]
-struct Part {
+struct Replacement {
     alloc: Global,
     at: u32,
-    part: Region,
+    replacement: Region,
 }
 
-impl Change for Part {
+impl Change for Replacement {
     type Fault = NoMemory;
 
-    ghost changed = { λ p. in_enclosing p.at (region_spliced p.at p.part) };
+    ghost changed = { λ p. in_region_of p.at (region_spliced p.at p.replacement) };
 
     fn make(&mut self, region: &mut Region) -> Result<bool, NoMemory> {
-        if !is_enclosing(region, self.at) {
+        if !holds_node(region, self.at) {
             return Ok(false);
         }
         let none = Region {
@@ -52,67 +63,73 @@ impl Change for Part {
             nodes: Vec::new(self.alloc),
             results: Vec::new(self.alloc),
         };
-        splice_region(region, self.at, mem::replace(&mut self.part, none))?;
+        splice_region(region, self.at, mem::replace(&mut self.replacement, none))?;
         Ok(true)
     }
 }
 
-/// Puts the nodes of the part, whose arguments are origins of the region already, in the place of the region's node
-/// `at`, uses of whose outputs become the part's results, in the same order. It takes time linear in the region and the
-/// part.
-pub fn splice_region(region: &mut Region, at: u32, part: Region) -> Result<(), NoMemory>
-    ensures ok { OnOk result (region.new ≡ region_spliced at part region.old) }
+/// Puts the nodes of the replacement, whose arguments are origins of the region already, instead of
+/// the region's node `at`, uses of whose outputs become the replacement's results, in the same
+/// order. It takes time linear in the region and the part.
+pub fn splice_region(region: &mut Region, at: u32, replacement: Region) -> Result<(), NoMemory>
+    ensures ok { OnOk result (region.new ≡ region_spliced at replacement region.old) }
     ensures err { OnErr result (region.new ≡ region.old) }
 {
     let Region {
         args: _,
         nodes,
         results,
-    } = part;
+    } = replacement;
     let outputs = results.as_slice();
     put_nodes(&mut region.nodes, at, nodes, outputs)?;
-    redirect_origins(region.results.as_mut_slice(), &OutputsToResults { at, outputs });
+    redirect_origins(
+        region.results.as_mut_slice(),
+        &OutputsToResults { at, outputs },
+    );
     Ok(())
 }
 
 fn put_nodes(
     nodes: &mut Vec<Node>,
     at: u32,
-    part: Vec<Node>,
+    replacement: Vec<Node>,
     outputs: &[Origin],
 ) -> Result<(), NoMemory>
-    ensures ok { OnOk result (nodes_of nodes.new.items ≡ nodes_spliced at (nodes_of part.items) outputs.now (nodes_of nodes.old.items)) }
+    ensures ok { OnOk result (nodes_of nodes.new.items ≡
+        nodes_spliced at (nodes_of replacement.items) outputs.now (nodes_of nodes.old.items)) }
     ensures err { OnErr result (nodes.new.items ≡ nodes.old.items) }
 {
-    match place_of(nodes, at) {
-        Some(place) => put_nodes_at(nodes, place, at, part, outputs),
+    match node_index(nodes, at) {
+        Some(index) => put_nodes_at(nodes, index, at, replacement, outputs),
         None => Ok(()),
     }
 }
 
 fn put_nodes_at(
     nodes: &mut Vec<Node>,
-    place: usize,
+    index: usize,
     at: u32,
-    part: Vec<Node>,
+    replacement: Vec<Node>,
     outputs: &[Origin],
 ) -> Result<(), NoMemory>
-    requires { place_of at 0 (nodes_of nodes.old.items) ≡ Some place }
-    ensures ok { OnOk result (nodes_of nodes.new.items ≡ nodes_spliced at (nodes_of part.items) outputs.now (nodes_of nodes.old.items)) }
+    requires { node_index at 0 (nodes_of nodes.old.items) ≡ Some index }
+    ensures ok { OnOk result (nodes_of nodes.new.items ≡
+        nodes_spliced at (nodes_of replacement.items) outputs.now (nodes_of nodes.old.items)) }
     ensures err { OnErr result (nodes.new.items ≡ nodes.old.items) }
 {
-    let rest = nodes.len() - place - 1;
-    exchange(nodes, place, part)?;
-    let behind = nodes.len() - rest;
-    redirect_nodes(nodes, behind, &OutputsToResults { at, outputs });
+    let rest = nodes.len() - index - 1;
+    exchange(nodes, index, replacement)?;
+    let following = nodes.len() - rest;
+    redirect_nodes(nodes, following, &OutputsToResults { at, outputs });
     Ok(())
 }
 
-fn exchange(nodes: &mut Vec<Node>, place: usize, part: Vec<Node>) -> Result<(), NoMemory>
-    requires { place < vec_len nodes.old }
-    ensures ok { OnOk result (nodes.new.items ≡ (take place nodes.old.items ++ part.items) ++ drop (place + 1) nodes.old.items) }
+fn exchange(nodes: &mut Vec<Node>, index: usize, replacement: Vec<Node>) -> Result<(), NoMemory>
+    requires { index < vec_len nodes.old }
+    ensures ok { OnOk result (nodes.new.items ≡
+        (take index nodes.old.items ++ replacement.items) ++ drop (index + 1) nodes.old.items) }
     ensures err { OnErr result (nodes.new.items ≡ nodes.old.items) }
 {
-    drop(nodes.splice(place..place + 1, part)?);
+    drop(nodes.splice(index..index + 1, replacement)?);
     Ok(())
 }

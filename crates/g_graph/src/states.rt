@@ -2,8 +2,8 @@ ghost use Rattle.std.specs.Prelude.{◌≡◌, map, if◌then◌else◌};
 ghost use Rattle.std.specs.declared.option.Option.TheVariants.{Some, None};
 ghost use Rattle.g_graph.specs.declared.op.Origin.TheVariants.{Arg, Out};
 ghost use Rattle.g_graph.specs.Plain.{nodes_of, id_of};
-ghost use Rattle.g_graph.specs.Rows.{output_kinds};
-ghost use Rattle.g_graph.specs.Scope.{same_origin, last_place, origin_at, last_state};
+ghost use Rattle.g_graph.specs.Signatures.{output_kinds};
+ghost use Rattle.g_graph.specs.Scope.{same_origin, last_index, origin_at, last_state};
 ghost use Rattle.g_graph.specs.WellFormed.{is_origin, is_last, all_of};
 
 use crate::count::outputs;
@@ -47,27 +47,28 @@ fn is_state(kind: Kind, args: &[Kind], before: &[Node], origin: Origin) -> bool
 }
 
 fn is_last_arg(kind: Kind, args: &[Kind], origin: Origin) -> bool
-    ensures { result ≡ is_origin (origin_at Arg (last_place kind 0 (map Some args.now) None) None) origin }
+    ensures { result ≡ is_origin (origin_at Arg (last_index kind 0 (map Some args.now) None) None)
+        origin }
 {
     match last_arg(kind, args) {
-        Some(place) => is_arg(place, origin),
+        Some(index) => is_arg(index, origin),
         None => false,
     }
 }
 
 fn last_arg(kind: Kind, args: &[Kind]) -> Option<usize>
-    ensures { result ≡ last_place kind 0 (map Some args.now) None }
+    ensures { result ≡ last_index kind 0 (map Some args.now) None }
 {
     let mut found = None;
-    for (place, arg) in args.iter().enumerate() {
-        found = later(same_kind(kind, *arg), place, found);
+    for (index, arg) in args.iter().enumerate() {
+        found = later(same_kind(kind, *arg), index, found);
     }
     found
 }
 
 #[tactic(auto, using(crate::proofs::KindLemmas::drop_at))]
 fn last_output(kind: Kind, node: &Node) -> Option<usize>
-    ensures { result ≡ last_place kind 0 (output_kinds node.now) None }
+    ensures { result ≡ last_index kind 0 (output_kinds node.now) None }
 {
     let mut found = None;
     for port in 0..outputs(node) {
@@ -76,17 +77,17 @@ fn last_output(kind: Kind, node: &Node) -> Option<usize>
     found
 }
 
-fn later(here: bool, place: usize, before: Option<usize>) -> Option<usize>
-    ensures { result ≡ (if here then Some place else before) }
+fn later(here: bool, index: usize, before: Option<usize>) -> Option<usize>
+    ensures { result ≡ (if here then Some index else before) }
 {
-    if here { Some(place) } else { before }
+    if here { Some(index) } else { before }
 }
 
-fn is_arg(place: usize, origin: Origin) -> bool
-    ensures { result ≡ same_origin (Arg place) origin }
+fn is_arg(index: usize, origin: Origin) -> bool
+    ensures { result ≡ same_origin (Arg index) origin }
 {
     match origin {
-        Origin::Arg(other) => place == other as usize,
+        Origin::Arg(other) => index == other as usize,
         _ => false,
     }
 }

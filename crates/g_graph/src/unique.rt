@@ -6,18 +6,21 @@ ghost use Rattle.g_graph.specs.WellFormed.{all_of, distinct};
 use crate::{Node, Region};
 
 // Whether the numbers of the nodes are unique and below the next.
-#[tactic(auto, using(crate::proofs::UniqueLemmas::each_once))]
+#[tactic(auto, using(crate::proofs::lemmas::Unique::each_once))]
 pub fn numbers_fit(body: &Region, next: u32) -> bool
-    ensures { result ≡ (distinct (region_ids body.now) && all_of (λ n. nat_lt n next) (region_ids body.now)) }
+    ensures { result ≡ (distinct (region_ids body.now)
+        && all_of (λ n. nat_lt n next) (region_ids body.now)) }
 {
     region_fits(body, body, next)
 }
 
 // Whether each number in the region stands once in the body, and is below the next.
-#[tactic(auto, using(crate::proofs::UniqueLemmas::all_of_append))]
+#[tactic(auto, using(crate::proofs::lemmas::Unique::all_of_append))]
 #[cycle(unique)]
 fn region_fits(region: &Region, body: &Region, next: u32) -> bool
-    ensures { result ≡ all_of (λ n. (saturated (count_by (λ m. m == n) (region_ids body.now)) == 1) && nat_lt n next) (region_ids region.now) }
+    ensures { result ≡ all_of (λ n.
+        (saturated (count_by (λ m. m == n) (region_ids body.now)) == 1)
+        && nat_lt n next) (region_ids region.now) }
 {
     for node in &region.nodes {
         if !node_fits(node, body, next) {
@@ -27,10 +30,12 @@ fn region_fits(region: &Region, body: &Region, next: u32) -> bool
     true
 }
 
-#[tactic(auto, using(crate::proofs::UniqueLemmas::all_of_append))]
+#[tactic(auto, using(crate::proofs::lemmas::Unique::all_of_append))]
 #[cycle(unique)]
 fn node_fits(node: &Node, body: &Region, next: u32) -> bool
-    ensures { result ≡ all_of (λ n. (saturated (count_by (λ m. m == n) (region_ids body.now)) == 1) && nat_lt n next) (node_ids node.now) }
+    ensures { result ≡ all_of (λ n.
+        (saturated (count_by (λ m. m == n) (region_ids body.now)) == 1)
+        && nat_lt n next) (node_ids node.now) }
 {
     if times_in_region(body, node.id) != 1 || node.id >= next {
         return false;
@@ -44,7 +49,7 @@ fn node_fits(node: &Node, body: &Region, next: u32) -> bool
 }
 
 // How often the number stands in the region.
-#[tactic(auto, using(crate::proofs::UniqueLemmas::times_append))]
+#[tactic(auto, using(crate::proofs::lemmas::Unique::times_append))]
 #[cycle(times)]
 fn times_in_region(region: &Region, id: u32) -> u64
     ensures { result ≡ saturated (count_by (λ m. m == id) (region_ids region.now)) }
@@ -56,7 +61,7 @@ fn times_in_region(region: &Region, id: u32) -> u64
     total
 }
 
-#[tactic(auto, using(crate::proofs::UniqueLemmas::times_append, crate::proofs::UniqueLemmas::times_cons))]
+#[tactic(auto, using(crate::proofs::lemmas::Unique::times_append, crate::proofs::lemmas::Unique::times_cons))]
 #[cycle(times)]
 fn times_in_node(node: &Node, id: u32) -> u64
     ensures { result ≡ saturated (count_by (λ m. m == id) (node_ids node.now)) }

@@ -3,7 +3,7 @@ use Rattle.std.proofs.Common.{◌≡◌, ℕ, List, [], ◌∷◌, refl, Some, t
 use Rattle.val_core.specs.declared.operation.Op2.TheVariants.{Add, Sub}
 use Rattle.val_core.specs.declared.leaf.Leaf.{Leaf}
 use Rattle.val_core.specs.declared.values.Value.TheVariants.{Num, Bad}
-use Rattle.val_core.specs.Events.{wrote, met}
+use Rattle.val_core.specs.Events.{wrote, took, met}
 use Rattle.val_core.specs.Answers.{Returned, Cut, Exited, Undefined}
 use Rattle.g_graph.specs.declared.op.Kind.{Kind}
 use Rattle.g_graph.specs.declared.op.Kind.TheVariants.{Memory, Io}
@@ -11,9 +11,9 @@ use Rattle.g_graph.specs.declared.op.Origin.{Origin}
 use Rattle.g_graph.specs.declared.op.Origin.TheVariants.{Arg, Out}
 use Rattle.g_graph.specs.declared.op.Op.{Op}
 use Rattle.g_graph.specs.declared.op.Op.TheVariants.{Const, Undef, Local, Delta, Bin, Load, Store, Clear, PtrEq, Apply, Put, Exit, Get, Gamma, Theta}
-use Rattle.g_graph.specs.Plain.{region, NodeTree, node, no_regions, nodes_of, regions_of, PlainLambda}
+use Rattle.g_graph.specs.Plain.{region, NodeTree, node, no_regions, nodes_of, regions_of, PlainLambda, PlainOmega, PlainDelta}
 use Rattle.g_mean.specs.Data.{Datum, val, memory, input}
-use Rattle.g_mean.specs.Calls.{lambda_at, PlainOmega, PlainDelta, program_at, deepest_main}
+use Rattle.g_mean.specs.Calls.{lambda_at, program_at, deepest_main}
 
 abbrev states : List Kind
 states = Memory ∷ Io ∷ []
@@ -32,16 +32,16 @@ abbrev three_hundred : PlainLambda
 three_hundred = of_body 0 (plain 0 (Const 300) [] ∷ []) (Out 0 0 ∷ Arg 0 ∷ Arg 1 ∷ [])
 
 abbrev only_main : PlainOmega
-only_main = record { deltas = []; names = (109 ∷ 97 ∷ 105 ∷ 110 ∷ []) ∷ [] }
+only_main = record { lambdas = []; deltas = []; names = (109 ∷ 97 ∷ 105 ∷ 110 ∷ []) ∷ [] }
 
 status : program_at 0 only_main (three_hundred ∷ []) [] ≡ Exited (met (0 ∷ []) ∷ []) 44
 status = refl
 
 -- Undef instead: no status
-undefined : program_at 5 only_main (of_body 0 (plain 0 Undef [] ∷ []) (Out 0 0 ∷ Arg 0 ∷ Arg 1 ∷ []) ∷ []) [] ≡ Undefined
+undefined : program_at 5 only_main (of_body 0 (plain 0 Undef [] ∷ []) (Out 0 0 ∷ Arg 0 ∷ Arg 1 ∷ []) ∷ []) [] ≡ Undefined (met (0 ∷ []) ∷ [])
 undefined = refl
 
-no_main : program_at 5 (record { deltas = []; names = [] }) (three_hundred ∷ []) [] ≡ Undefined
+no_main : program_at 5 (record { lambdas = []; deltas = []; names = [] }) (three_hundred ∷ []) [] ≡ Undefined []
 no_main = refl
 
 -- counts its parameter down to 0 and writes each number
@@ -84,7 +84,7 @@ called = refl
 too_deep : lambda_at 1 (recursive ∷ []) (λ k. Bad) 0 (start 2) ≡ Cut (met (0 ∷ []) ∷ met (0 ∷ 0 ∷ []) ∷ [])
 too_deep = refl
 
-no_lambda : lambda_at 1 [] (λ k. Bad) 0 (start 2) ≡ Undefined
+no_lambda : lambda_at 1 [] (λ k. Bad) 0 (start 2) ≡ Undefined (met (0 ∷ []) ∷ [])
 no_lambda = refl
 
 abbrev leaf : ℕ → ℕ → Leaf
@@ -110,7 +110,7 @@ cleared : lambda_at 0 (kept (plain 3 (Load 4) (Out 0 0 ∷ Out 2 0 ∷ []) ∷ [
     ≡ Returned (num 0 ∷ memory (record { size = 4; cells = record { leaf = leaf 0 4; value = Some (Num 0) } ∷ []; live = false; fixed = false } ∷ []) ∷ input [] ∷ []) (met (0 ∷ []) ∷ [])
 cleared = refl
 
-narrow : lambda_at 0 (kept (plain 3 (Load 2) (Out 0 0 ∷ Out 1 0 ∷ []) ∷ []) ∷ []) (λ k. Bad) 0 (start 77) ≡ Undefined
+narrow : lambda_at 0 (kept (plain 3 (Load 2) (Out 0 0 ∷ Out 1 0 ∷ []) ∷ []) ∷ []) (λ k. Bad) 0 (start 77) ≡ Undefined (met (0 ∷ []) ∷ [])
 narrow = refl
 
 -- the address of an object is not null
@@ -125,7 +125,7 @@ reader =
     plain 0 Get (Arg 1 ∷ []) ∷ plain 1 Get (Out 0 1 ∷ []) ∷ plain 2 (Bin Add) (Out 0 0 ∷ Out 1 0 ∷ []) ∷ plain 3 Exit (Out 2 0 ∷ Out 1 1 ∷ []) ∷ [])
     (Out 0 0 ∷ Arg 0 ∷ Out 3 0 ∷ [])
 
-read_bytes : program_at 0 only_main (reader ∷ []) (8 ∷ []) ≡ Exited (met (0 ∷ []) ∷ []) 7
+read_bytes : program_at 0 only_main (reader ∷ []) (8 ∷ []) ≡ Exited (met (0 ∷ []) ∷ took 8 ∷ []) 7
 read_bytes = refl
 
 -- two globals, the second of which holds the address of the first; main loads through it
@@ -139,11 +139,11 @@ abbrev pointed : Op → List Origin → PlainLambda
 pointed op inputs =
     of_body 0 (plain 0 (Delta 1) [] ∷ plain 1 (Load 4) (Out 0 0 ∷ Arg 0 ∷ []) ∷ plain 2 op inputs ∷ []) (Out 2 0 ∷ Arg 0 ∷ Arg 1 ∷ [])
 
-through : program_at 0 (record { deltas = globals; names = (109 ∷ 97 ∷ 105 ∷ 110 ∷ []) ∷ [] }) (pointed (Load 4) (Out 1 0 ∷ Arg 0 ∷ []) ∷ []) [] ≡ Exited (met (0 ∷ []) ∷ []) 44
+through : program_at 0 (record { lambdas = []; deltas = globals; names = (109 ∷ 97 ∷ 105 ∷ 110 ∷ []) ∷ [] }) (pointed (Load 4) (Out 1 0 ∷ Arg 0 ∷ []) ∷ []) [] ≡ Exited (met (0 ∷ []) ∷ []) 44
 through = refl
 
 -- a store to a fixed global
-fixed : program_at 0 (record { deltas = globals; names = (109 ∷ 97 ∷ 105 ∷ 110 ∷ []) ∷ [] }) (pointed (Store 4) (Out 1 0 ∷ Out 1 0 ∷ Arg 0 ∷ []) ∷ []) [] ≡ Undefined
+fixed : program_at 0 (record { lambdas = []; deltas = globals; names = (109 ∷ 97 ∷ 105 ∷ 110 ∷ []) ∷ [] }) (pointed (Store 4) (Out 1 0 ∷ Out 1 0 ∷ Arg 0 ∷ []) ∷ []) [] ≡ Undefined (met (0 ∷ []) ∷ [])
 fixed = refl
 
 -- a frame of 16 bytes for each of the active calls

@@ -1,35 +1,23 @@
 -- What calls of lambdas do, and whole programs.
-use Rattle.std.specs.Prelude.{ℕ, zero, suc, ◌+◌, ◌*◌, ◌%◌, ◌^◌, ◌==◌, if◌then◌else◌, Bool, true, false, List, [], ◌∷◌, ◌++◌, map, length, slice_get, slice_index_or, take, drop, Option, None, Some, option_map}
+use Rattle.std.specs.Prelude.{ℕ, zero, suc, ◌+◌, ◌*◌, ◌%◌, ◌==◌, if◌then◌else◌, true, List, [], ◌∷◌, ◌++◌, map, length, slice_get, slice_index_or, take, drop, Option, None, Some}
 use Rattle.val_core.specs.declared.leaf.Leaf.{Leaf}
 use Rattle.val_core.specs.declared.values.Value.{Value}
-use Rattle.val_core.specs.declared.values.Value.TheVariants.{Num, At, Bad}
-use Rattle.val_core.specs.Memory.{Cell, Block, Memory, new_block, closed}
+use Rattle.val_core.specs.declared.values.Value.TheVariants.{Num}
+use Rattle.val_core.specs.Memory.{Cell, Block, Memory, BlockShape, closed}
+use Rattle.val_core.specs.Objects.{Addresses, word_of, address_in, opened}
 use Rattle.val_core.specs.Events.{deepest}
-use Rattle.val_core.specs.Answers.{Answer, Returned, Cut, Exited, Undefined, then_on, active, events}
-use Rattle.g_graph.specs.declared.lambda.Link.{Link}
-use Rattle.g_graph.specs.Plain.{RegionTree, PlainObject, PlainLambda}
-use Rattle.g_mean.specs.Data.{Datum, memory, input, at_port, value_at, on_number, on_memory, with_memory, changed_at}
-use Rattle.g_mean.specs.Meaning.{Meaning, Frame, Context, region_meaning}
-
--- a size is a word
-abbrev pub word_of : ℕ → ℕ
-word_of size = size % 2 ^ 32
-
--- the first byte of the block of this number and size, where there is one
-abbrev pub block_address : ℕ → Option ℕ → Value
-block_address n None = Bad
-block_address n (Some size) = At (record { number = n; size = word_of size }) 0
-
--- the address of the block numbered k of some whose sizes these are and the first of which has the number `base`
-abbrev pub address_in : (base : ℕ) → (sizes : List ℕ) → (k : ℕ) → Value
-address_in base sizes k = block_address (base + k) (slice_get sizes k)
+use Rattle.val_core.specs.Answers.{Answer, Returned, Cut, Exited, Undefined, then_on, on_number, active, events}
+use Rattle.g_graph.specs.declared.link.Link.{Link}
+use Rattle.g_graph.specs.Plain.{RegionTree, PlainObject, PlainLambda, PlainDelta, PlainOmega}
+use Rattle.g_graph.specs.Program.{name_index, main_name}
+use Rattle.g_mean.specs.Data.{Datum, memory, input, at_port, value_at, on_memory, with_memory, changed_at}
+use Rattle.g_mean.specs.Meaning.{Meaning, Context, region_meaning}
 
 abbrev pub sizes_of : List PlainObject → List ℕ
 sizes_of objects = map (λ o. o.size) objects
 
--- the blocks of the objects of a call, at its start
-abbrev pub opened : List PlainObject → Memory
-opened objects = map (λ o. new_block (word_of o.size) o.leaves) objects
+abbrev pub shapes_of : List PlainObject → List BlockShape
+shapes_of objects = map (λ o. record { size = o.size; leaves = o.leaves }) objects
 
 -- what stands around the body of a lambda with these objects, where the caller's memory is `m`
 abbrev pub inside : ℕ → (call : ℕ → Meaning) → (global : ℕ → Value) → List PlainObject → (m : Memory) → Context
@@ -37,16 +25,16 @@ inside n call global objects m =
     record {
       bound = n;
       call = call;
-      frame = record { local = address_in (length m) (sizes_of objects); global = global };
+      addresses = record { local = address_in (length m) (sizes_of objects); global = global };
     }
 
 -- A call of a lambda with the bound n inside it: its objects get new blocks after those of the memory that it is
 -- given, and their lifetimes end with it.
 abbrev pub entered : ℕ → (call : ℕ → Meaning) → (global : ℕ → Value) → Option PlainLambda → Meaning
-entered n call global None xs = Undefined
+entered n call global None xs = Undefined []
 entered n call global (Some l) xs =
     on_memory (at_port xs l.params) (λ m.
-    then_on (region_meaning (inside n call global l.objects m) l.body (changed_at l.params (with_memory (λ k. k ++ opened l.objects)) xs))
+    then_on (region_meaning (inside n call global l.objects m) l.body (changed_at l.params (with_memory (λ k. k ++ opened (shapes_of l.objects))) xs))
     (λ ys. Returned (changed_at 1 (with_memory (closed (length m) (length l.objects))) ys) []))
 
 -- What an Apply of function f does at a bound: at 0 it is cut, and else the lambda runs at the bound below.
@@ -54,27 +42,15 @@ abbrev pub applied : List PlainLambda → (global : ℕ → Value) → (bound : 
 applied ls global zero f xs = Cut []
 applied ls global (suc n) f xs = active f (entered n (applied ls global n) global (slice_get ls f) xs)
 
--- a region at a bound, in a frame
-abbrev pub region_at : ℕ → List PlainLambda → RegionTree → List Datum → Frame → Answer (List Datum)
-region_at n ls r xs frame = region_meaning (record { bound = n; call = applied ls frame.global n; frame = frame }) r xs
+-- a region at a bound, where objects and globals have these addresses
+abbrev pub region_at : ℕ → List PlainLambda → RegionTree → List Datum → Addresses → Answer (List Datum)
+region_at n ls r xs addresses = region_meaning (record { bound = n; call = applied ls addresses.global n; addresses = addresses }) r xs
 
 -- the lambda of a function at a bound
 abbrev pub lambda_at : ℕ → List PlainLambda → (global : ℕ → Value) → ℕ → Meaning
 lambda_at n ls global f xs = applied ls global (suc n) f xs
 
 -- ---- programs
-
--- a global: its first bytes, the places in it that hold the address of a global, its leaves, and whether it is fixed
-pub record PlainDelta : Type 0 where
-  pub bytes : List ℕ
-  pub links : List Link
-  pub leaves : List Leaf
-  pub fixed : Bool
-
--- a program but for its lambdas: the globals, and the functions' names
-pub record PlainOmega : Type 0 where
-  pub deltas : List PlainDelta
-  pub names : List (List ℕ)
 
 abbrev pub delta_sizes : List PlainDelta → List ℕ
 delta_sizes ds = map (λ d. length d.bytes) ds
@@ -109,32 +85,18 @@ first_block global d =
 abbrev pub first_memory : List PlainDelta → Memory
 first_memory ds = map (first_block (global_of ds)) ds
 
-abbrev pub same_bytes : List ℕ → List ℕ → Bool
-same_bytes [] [] = true
-same_bytes (x ∷ xs) (y ∷ ys) = if x == y then same_bytes xs ys else false
-same_bytes _ _ = false
-
--- the place of a name among others
-abbrev pub place_of : List ℕ → List (List ℕ) → Option ℕ
-place_of name [] = None
-place_of name (x ∷ xs) = if same_bytes x name then Some 0 else option_map suc (place_of name xs)
-
--- "main"
-abbrev pub main_name : List ℕ
-main_name = 109 ∷ 97 ∷ 105 ∷ 110 ∷ []
-
 -- the program ends with what `main` gives back, modulo 256
 abbrev pub finished : Meaning
 finished ys = on_number (value_at ys 0) (λ w. Exited [] (w % 256))
 
 abbrev pub started : ℕ → PlainOmega → List PlainLambda → Option ℕ → List ℕ → Answer (List Datum)
-started n omega ls None i = Undefined
+started n omega ls None i = Undefined []
 started n omega ls (Some f) i =
     then_on (lambda_at n ls (global_of omega.deltas) f (memory (first_memory omega.deltas) ∷ input i ∷ [])) finished
 
 -- the program at a bound, on this input
 abbrev pub program_at : ℕ → PlainOmega → List PlainLambda → List ℕ → Answer (List Datum)
-program_at n omega ls i = started n omega ls (place_of main_name omega.names) i
+program_at n omega ls i = started n omega ls (name_index main_name omega.names) i
 
 -- the greatest sum of frame sizes, by function, over the stacks of calls that it meets
 abbrev pub deepest_main : ℕ → PlainOmega → List PlainLambda → (sizes : List ℕ) → List ℕ → ℕ

@@ -96,7 +96,7 @@ abbrev pub Same : {A B : Type 0} → (A → B → Type 0) → Answer A → Answe
 Same R (Returned x o) (Returned y p) = R x y × (o ≡ p)
 Same R (Cut o) (Cut p) = o ≡ p
 Same R (Exited o s) (Exited p t) = (o ≡ p) × (s ≡ t)
-Same R Undefined Undefined = Unit {0}
+Same R (Undefined o) (Undefined p) = o ≡ p
 Same R _ _ = ⊥
 
 -- what is read there carries what is read here

@@ -1,7 +1,7 @@
 -- What an edge of the graph carries while it runs.
-use Rattle.std.specs.Prelude.{ℕ, zero, suc, List, [], ◌∷◌, slice_index_or, Option, None, Some}
+use Rattle.std.specs.Prelude.{ℕ, zero, suc, List, [], ◌∷◌, slice_index_or}
 use Rattle.val_core.specs.declared.values.Value.{Value}
-use Rattle.val_core.specs.declared.values.Value.TheVariants.{Num, Bad}
+use Rattle.val_core.specs.declared.values.Value.TheVariants.{Bad}
 use Rattle.val_core.specs.Memory.{Memory}
 use Rattle.val_core.specs.Answers.{Answer, Undefined}
 
@@ -23,22 +23,14 @@ value_of _ = Bad
 abbrev pub value_at : List Datum → ℕ → Value
 value_at xs k = value_of (at_port xs k)
 
--- What follows on a number, on a memory, on an input, or on what may be undefined, is undefined where there is none.
-abbrev pub on_number : {A : Type 0} → Value → (ℕ → Answer A) → Answer A
-on_number (Num w) next = next w
-on_number _ next = Undefined
-
+-- What follows on a memory or on an input is undefined where there is none.
 abbrev pub on_memory : {A : Type 0} → Datum → (Memory → Answer A) → Answer A
 on_memory (memory m) next = next m
-on_memory _ next = Undefined
+on_memory _ next = Undefined []
 
 abbrev pub on_input : {A : Type 0} → Datum → (List ℕ → Answer A) → Answer A
 on_input (input i) next = next i
-on_input _ next = Undefined
-
-abbrev pub on_defined : {A X : Type 0} → Option X → (X → Answer A) → Answer A
-on_defined (Some x) next = next x
-on_defined None next = Undefined
+on_input _ next = Undefined []
 
 -- the memory changed, where the datum is one
 abbrev pub with_memory : (Memory → Memory) → Datum → Datum

@@ -1,23 +1,24 @@
 -- Laws of what regions, lambdas and programs mean.
-use Rattle.std.specs.Prelude.{◌≡◌, ℕ, suc, map, ◌≤◌, ◌⊎◌, List, ◌++◌}
+use Rattle.std.specs.Prelude.{◌≡◌, ℕ, suc, map, ◌≤◌, List, ◌++◌}
 use Rattle.val_core.specs.declared.values.Value.{Value}
 use Rattle.val_core.specs.Values.{IsSound}
 use Rattle.val_core.specs.Events.{IsPrefixOf}
-use Rattle.val_core.specs.Answers.{then_on, events, Gives, IsUndefined}
+use Rattle.val_core.specs.Answers.{then_on, events, Gives}
 use Rattle.val_core.specs.Refinement.{Forward, exactly, Refines}
+use Rattle.val_core.specs.Objects.{Addresses}
 use Rattle.g_graph.specs.declared.op.Op.TheVariants.{Theta}
 use Rattle.g_graph.specs.declared.op.Origin.{Origin}
-use Rattle.g_graph.specs.Plain.{RegionTree, NodeTree, node, nodes_of, no_regions, region_then, PlainLambda}
+use Rattle.g_graph.specs.Plain.{RegionTree, NodeTree, node, nodes_of, no_regions, region_then, PlainLambda, PlainOmega}
 use Rattle.g_mean.specs.Data.{Datum}
-use Rattle.g_mean.specs.Meaning.{Frame, Context, again, turns, Outputs, read, region_meaning, node_run, nodes_run}
-use Rattle.g_mean.specs.Calls.{PlainOmega, region_at, lambda_at, program_at}
+use Rattle.g_mean.specs.Meaning.{Context, again, turns, Outputs, read, region_meaning, node_run, nodes_run}
+use Rattle.g_mean.specs.Calls.{region_at, lambda_at, program_at}
 use Rattle.g_mean.specs.LessDefined.{AreSound}
 
 -- A greater bound only extends: what ended stays as it is, and what was cut may go on. So it is with a region,
 abbrev pub RegionExtends : Type 0
 RegionExtends =
-    (n m : ℕ) (ls : List PlainLambda) (r : RegionTree) (xs : List Datum) (frame : Frame) → n ≤ m →
-    Refines exactly Forward (λ us vs. us ≡ vs) (region_at n ls r xs frame) (region_at m ls r xs frame)
+    (n m : ℕ) (ls : List PlainLambda) (r : RegionTree) (xs : List Datum) (addresses : Addresses) → n ≤ m →
+    Refines exactly Forward (λ us vs. us ≡ vs) (region_at n ls r xs addresses) (region_at m ls r xs addresses)
 
 -- with a lambda,
 abbrev pub LambdaExtends : Type 0
@@ -37,18 +38,17 @@ NodesInTurn =
     (c : Context) (before after : List NodeTree) (xs : List Datum) (o : Outputs) →
     nodes_run c (nodes_of (before ++ after)) xs o ≡ then_on (nodes_run c (nodes_of before) xs o) (nodes_run c (nodes_of after) xs)
 
--- What happened stays: the events of a run begin with those of its first nodes.
+-- What happened stays: the events of a run, at every ending, begin with those of its first nodes.
 abbrev pub EventsGrow : Type 0
 EventsGrow =
     (c : Context) (before after : List NodeTree) (xs : List Datum) (o : Outputs) →
-    IsUndefined (nodes_run c (nodes_of (before ++ after)) xs o)
-    ⊎ IsPrefixOf (events (nodes_run c (nodes_of before) xs o)) (events (nodes_run c (nodes_of (before ++ after)) xs o))
+    IsPrefixOf (events (nodes_run c (nodes_of before) xs o)) (events (nodes_run c (nodes_of (before ++ after)) xs o))
 
 -- sound data stay sound
 abbrev pub RegionIsSound : Type 0
 RegionIsSound =
-    (n : ℕ) (ls : List PlainLambda) (r : RegionTree) (xs : List Datum) (frame : Frame) →
-    ((k : ℕ) → IsSound (frame.local k)) → ((k : ℕ) → IsSound (frame.global k)) → AreSound xs → Gives AreSound (region_at n ls r xs frame)
+    (n : ℕ) (ls : List PlainLambda) (r : RegionTree) (xs : List Datum) (addresses : Addresses) →
+    ((k : ℕ) → IsSound (addresses.local k)) → ((k : ℕ) → IsSound (addresses.global k)) → AreSound xs → Gives AreSound (region_at n ls r xs addresses)
 
 abbrev pub LambdaIsSound : Type 0
 LambdaIsSound =

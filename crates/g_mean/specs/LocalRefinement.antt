@@ -11,9 +11,10 @@ use Rattle.g_mean.specs.LessDefined.{Paired, AreSound, IsLessDefinedDatum}
 use Rattle.g_mean.specs.Refining.{ContextRefines}
 use Rattle.g_mean.specs.Replacement.{Linked, Replaces}
 
--- The second answer may stand for the first: the first is undefined, or they are equal but for nearness of the results, which `R` says.
+-- The second answer may stand for the first: the first is undefined, or they are equal but for the results, which `R`
+-- relates.
 abbrev pub RefinesLocally : {A : Type 0} → (A → A → Type 0) → Answer A → Answer A → Type 0
-RefinesLocally R Undefined b = Unit {0}
+RefinesLocally R (Undefined o) b = Unit {0}
 RefinesLocally R (Returned x o) (Returned y p) = R x y × (o ≡ p)
 RefinesLocally R (Cut o) (Cut p) = o ≡ p
 RefinesLocally R (Exited o s) (Exited p t) = (o ≡ p) × (s ≡ t)
@@ -21,8 +22,8 @@ RefinesLocally R _ _ = ⊥
 
 -- what stands around a region gives sound data
 pub record IsSoundContext (c : Context) : Type 0 where
-  pub locals : (k : ℕ) → IsSound (c.frame.local k)
-  pub globals : (k : ℕ) → IsSound (c.frame.global k)
+  pub locals : (k : ℕ) → IsSound (c.addresses.local k)
+  pub globals : (k : ℕ) → IsSound (c.addresses.global k)
   pub calls : (f : ℕ) (xs : List Datum) → AreSound xs → Gives AreSound (c.call f xs)
 
 -- Wherever both stand, on sound data, the answer of `s` may stand for that of `r`.

@@ -5,29 +5,25 @@ use Rattle.val_core.specs.declared.values.Value.{Value}
 use Rattle.val_core.specs.declared.values.Value.TheVariants.{Num, At, Bad}
 use Rattle.val_core.specs.Values.{value1, value2}
 use Rattle.val_core.specs.Memory.{Memory, load, store, cleared, pointers_equal}
-use Rattle.val_core.specs.Events.{wrote}
-use Rattle.val_core.specs.Answers.{Answer, Returned, Cut, Exited, Undefined, then_on}
+use Rattle.val_core.specs.Objects.{Addresses}
+use Rattle.val_core.specs.Events.{wrote, took}
+use Rattle.val_core.specs.Answers.{Answer, Returned, Cut, Exited, Undefined, then_on, on_number, on_defined}
 use Rattle.g_graph.specs.declared.op.Op.{Op}
 use Rattle.g_graph.specs.declared.op.Op.TheVariants.{Const, Undef, Local, Delta, Bin, Un, Load, Store, Clear, PtrEq, Apply, Put, Exit, Get, Gamma, Theta}
 use Rattle.g_graph.specs.declared.op.Origin.{Origin}
 use Rattle.g_graph.specs.declared.op.Origin.TheVariants.{Arg, Out}
 use Rattle.g_graph.specs.Plain.{RegionTree, region, NodeTree, node, NodeTrees, no_nodes, node_then, RegionTrees, no_regions, region_then, id_of}
-use Rattle.g_mean.specs.Data.{Datum, val, memory, input, at_port, value_of, value_at, on_number, on_memory, on_input, on_defined}
+use Rattle.g_mean.specs.Data.{Datum, val, memory, input, at_port, value_of, value_at, on_memory, on_input}
 
 -- from the data that a part takes to the data that it gives
 abbrev pub Meaning : Type 0
 Meaning = List Datum → Answer (List Datum)
 
--- the addresses of the objects of the call, and of the globals
-pub record Frame : Type 0 where
-  pub local : ℕ → Value
-  pub global : ℕ → Value
-
--- what the meaning of a region takes from outside: the bound, what calls do, and the frame
+-- what the meaning of a region takes from outside: the bound, what calls do, and the addresses of objects and globals
 pub record Context : Type 0 where
   pub bound : ℕ
   pub call : ℕ → Meaning
-  pub frame : Frame
+  pub addresses : Addresses
 
 abbrev pub given : Value → Answer (List Datum)
 given v = Returned (val v ∷ []) []
@@ -35,10 +31,10 @@ given v = Returned (val v ∷ []) []
 abbrev pub given_memory : Memory → Answer (List Datum)
 given_memory m = Returned (memory m ∷ []) []
 
--- the next byte, or at the end of the input the word -1
+-- the next byte, which is taken, or at the end of the input the word -1
 abbrev pub got : List ℕ → Answer (List Datum)
 got [] = Returned (val (Num (2 ^ 32 - 1)) ∷ input [] ∷ []) []
-got (b ∷ i) = Returned (val (Num b) ∷ input i ∷ []) []
+got (b ∷ i) = Returned (val (Num b) ∷ input i ∷ []) (took b ∷ [])
 
 -- the object at an address cleared
 abbrev pub cleared_at : Value → Memory → Option Memory
@@ -47,40 +43,40 @@ cleared_at _ m = None
 
 -- What an op without regions does but for a call. A pure one is total. What else is undefined is undefined: a load or store
 -- that memory does not take, a comparison of pointers outside its cases, and a byte or a status that is no number.
-abbrev pub done : Frame → Op → Meaning
-done frame (Const w) xs = given (Num (w % 2 ^ 32))
-done frame Undef xs = given Bad
-done frame (Local k) xs = given (frame.local k)
-done frame (Delta k) xs = given (frame.global k)
-done frame (Bin op) xs = given (value2 op (value_at xs 0) (value_at xs 1))
-done frame (Un op) xs = given (value1 op (value_at xs 0))
-done frame (Load width) xs = on_memory (at_port xs 1) (λ m. on_defined (load width (value_at xs 0) m) given)
-done frame (Store width) xs =
+abbrev pub done : Addresses → Op → Meaning
+done addresses (Const w) xs = given (Num (w % 2 ^ 32))
+done addresses Undef xs = given Bad
+done addresses (Local k) xs = given (addresses.local k)
+done addresses (Delta k) xs = given (addresses.global k)
+done addresses (Bin op) xs = given (value2 op (value_at xs 0) (value_at xs 1))
+done addresses (Un op) xs = given (value1 op (value_at xs 0))
+done addresses (Load width) xs = on_memory (at_port xs 1) (λ m. on_defined (load width (value_at xs 0) m) given)
+done addresses (Store width) xs =
     on_memory (at_port xs 2) (λ m. on_defined (store width (value_at xs 0) (value_at xs 1) m) given_memory)
-done frame (Clear k) xs = on_memory (at_port xs 0) (λ m. on_defined (cleared_at (frame.local k) m) given_memory)
-done frame PtrEq xs =
+done addresses (Clear k) xs = on_memory (at_port xs 0) (λ m. on_defined (cleared_at (addresses.local k) m) given_memory)
+done addresses PtrEq xs =
     on_memory (at_port xs 2) (λ m. on_defined (pointers_equal (value_at xs 0) (value_at xs 1) m) (λ n. given (Num n)))
-done frame Put xs =
+done addresses Put xs =
     on_number (value_at xs 0) (λ w. on_input (at_port xs 1) (λ i. Returned (input i ∷ []) (wrote (w % 256) ∷ [])))
-done frame Exit xs = on_number (value_at xs 0) (λ w. Exited [] (w % 256))
-done frame Get xs = on_input (at_port xs 0) got
-done frame _ xs = Undefined
+done addresses Exit xs = on_number (value_at xs 0) (λ w. Exited [] (w % 256))
+done addresses Get xs = on_input (at_port xs 0) got
+done addresses _ xs = Undefined []
 
 -- of n meanings the one numbered min(w, n - 1)
 abbrev pub chosen : ℕ → List Meaning → Meaning
-chosen w [] xs = Undefined
+chosen w [] xs = Undefined []
 chosen w (m ∷ []) xs = m xs
 chosen zero (m ∷ ms) xs = m xs
 chosen (suc w) (m ∷ ms) xs = chosen w ms xs
 
 -- a Gamma: its predicate chooses the region that the entry variables go to
 abbrev pub branched : List Meaning → Meaning
-branched ms [] = Undefined
+branched ms [] = Undefined []
 branched ms (p ∷ xs) = on_number (value_of p) (λ w. chosen w ms xs)
 
 -- after a turn: the loop variables are done with, or go to the next turn, as the predicate says
 abbrev pub again : Meaning → Meaning
-again next [] = Undefined
+again next [] = Undefined []
 again next (p ∷ ys) = on_number (value_of p) (λ w. if w == 0 then Returned ys [] else next ys)
 
 -- at most so many turns of a body
@@ -90,7 +86,7 @@ turns (suc n) body xs = then_on (body xs) (again (turns n body))
 
 -- a Theta
 abbrev pub looped : ℕ → List Meaning → Meaning
-looped n [] xs = Undefined
+looped n [] xs = Undefined []
 looped n (body ∷ ms) xs = turns n body xs
 
 -- what a node does whose regions mean this
@@ -98,7 +94,7 @@ abbrev pub act : Context → Op → List Meaning → Meaning
 act c (Apply f) ms xs = c.call f xs
 act c Gamma ms xs = branched ms xs
 act c Theta ms xs = looped c.bound ms xs
-act c op ms xs = done c.frame op xs
+act c op ms xs = done c.addresses op xs
 
 -- the data of the outputs that have run, by node and port
 abbrev pub Outputs : Type 0

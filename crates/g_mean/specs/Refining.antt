@@ -29,8 +29,8 @@ pub record MeaningRefines (cmp : Comparison) (direction : Direction) (N : Datum 
 pub record ContextRefines (cmp : Comparison) (direction : Direction) (N : Datum → Datum → Type 0) (c d : Context) : Type 0 where
   pub bounds : InOrder direction c.bound d.bound
   pub calls : (f : ℕ) → MeaningRefines cmp direction N (c.call f) (d.call f)
-  pub locals : (k : ℕ) → N (val (c.frame.local k)) (val (d.frame.local k))
-  pub globals : (k : ℕ) → N (val (c.frame.global k)) (val (d.frame.global k))
+  pub locals : (k : ℕ) → N (val (c.addresses.local k)) (val (d.addresses.local k))
+  pub globals : (k : ℕ) → N (val (c.addresses.global k)) (val (d.addresses.global k))
 
 -- two regions refine wherever what stands around them is, and is as `Q` says
 pub record RegionRefines (cmp : Comparison) (direction : Direction) (N : Datum → Datum → Type 0) (Q : Context → Context → Type 0) (r s : RegionTree) : Type 0 where

@@ -4,16 +4,16 @@ use Rattle.val_core.specs.Answers.{Answer, Returned, Undefined}
 use Rattle.g_graph.specs.declared.op.Kind.{Kind}
 use Rattle.g_graph.specs.declared.op.Kind.TheVariants.{Memory, Io}
 use Rattle.g_graph.specs.Plain.{NodeTree, NodeTrees}
-use Rattle.g_graph.specs.Rows.{output_kinds}
+use Rattle.g_graph.specs.Signatures.{output_kinds}
 use Rattle.g_graph.specs.Scope.{is_of}
 use Rattle.g_graph.specs.WellFormed.{some_of, every_in_node, node_fits, region_fits}
 use Rattle.g_mean.specs.Data.{Datum}
 use Rattle.g_mean.specs.Meaning.{Context, Outputs, node_run}
 
--- a part gives its results, or what it does has no meaning: it is not cut, it does not end the program, and nothing happens
+-- a part gives its results or is undefined: it is not cut, it does not end the program, and it has no events
 abbrev pub IsSilent : {A : Type 0} → Answer A → Type 0
 IsSilent (Returned x o) = o ≡ []
-IsSilent Undefined = Unit {0}
+IsSilent (Undefined o) = o ≡ []
 IsSilent _ = ⊥
 
 -- none of the outputs is a state

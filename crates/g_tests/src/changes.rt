@@ -1,15 +1,16 @@
 use crate::checks::{A, I, KINDS, M, alone, of, out, region, with_regions};
 use g_graph::{
-    Lambda, NoMemory, Node, Object, Op, Origin, Region, check, copy_of, equal, ids, replace_uses,
-    splice, values,
+    Lambda, Node, Object, Op, Origin, Region, check, copy_of, equal, ids, replace_uses, splice,
+    values,
 };
+use no_memory::NoMemory;
 use smallvec::SmallVec;
 use std::alloc::Global;
 use std::test::Fail;
 use val_core::Op2;
 
-// A region that takes and gives a value and both states, with this node or none; it gives the node's outputs, or its
-// arguments.
+// A region that takes and gives a value and both states, with this node or none; it gives the
+// node's outputs, or its arguments.
 fn context(alloc: Global, inner: Option<Node>) -> Result<Region, NoMemory> {
     let mut nodes = Vec::new(alloc);
     let mut results = Vec::from_array(alloc, [Origin::Arg(0), Origin::Arg(1), Origin::Arg(2)])?;
@@ -85,7 +86,8 @@ fn a_small_lambda_is_counted_and_copied(rt: HostRuntime) -> Result<(), Fail> {
     )?;
     let small = lambda(alloc, context(alloc, Some(gamma(alloc, 0, regions)?))?, 3)?;
     assert_eq!(rt; ids(alloc, &small)?.as_slice(), [0, 2, 1].as_slice());
-    // three regions, each with three arguments, a node and three results, and three outputs of the outer node
+    // three regions, each with three arguments, a node and three results, and three outputs of the
+    // outer node
     assert_eq!(rt; values(&small), 27);
     assert!(rt; equal(&copy_of(alloc, &small)?, &small));
     Ok(())
@@ -134,11 +136,11 @@ fn each_use_in_a_region_is_replaced(rt: HostRuntime) -> Result<(), Fail> {
     let mut in_body = sum(alloc, 0, &[out(0, 0), M, I])?;
     replace_uses(&mut in_body, out(0, 0), out(1, 0), None);
     assert!(rt; equal(&in_body, &expected));
-    let mut in_enclosing = sum(alloc, 0, &[out(0, 0), M, I])?;
-    replace_uses(&mut in_enclosing, out(0, 0), out(1, 0), Some(2));
-    assert!(rt; equal(&in_enclosing, &expected));
-    replace_uses(&mut in_enclosing, out(1, 0), out(0, 0), Some(3));
-    assert!(rt; equal(&in_enclosing, &expected));
+    let mut in_region_of = sum(alloc, 0, &[out(0, 0), M, I])?;
+    replace_uses(&mut in_region_of, out(0, 0), out(1, 0), Some(2));
+    assert!(rt; equal(&in_region_of, &expected));
+    replace_uses(&mut in_region_of, out(1, 0), out(0, 0), Some(3));
+    assert!(rt; equal(&in_region_of, &expected));
     Ok(())
 }
 

@@ -1,6 +1,7 @@
 // Lambdas of one region, folded at one of their nodes.
 use crate::checks::{A, I, KINDS, M, of, out, region, with_regions};
-use g_graph::{Kind, Lambda, NoMemory, Node, Op, Origin, Region, check, equal, values};
+use g_graph::{Kind, Lambda, Node, Op, Origin, Region, check, equal, values};
+use no_memory::NoMemory;
 use r_fold::{applies, apply};
 use std::alloc::Global;
 use std::test::Fail;
@@ -24,8 +25,8 @@ fn lambda(alloc: Global, body: Region) -> Lambda {
     }
 }
 
-// Whether the lambda of this body is well formed and folds at the node to the one of the other, which is well formed
-// too; without another, whether the rule does not apply.
+// Whether the lambda of this body is well formed and folds at the node to the one of the other,
+// which is well formed too; without another, whether the rule does not apply.
 fn folds_to(
     alloc: Global,
     body: Region,
@@ -69,7 +70,8 @@ fn on_constants(alloc: Global, left: u32, right: u32, op: Op) -> Result<Region, 
 #[test]
 fn operations_on_constants_become_constants(rt: HostRuntime) -> Result<(), Fail> {
     let alloc = rt.alloc();
-    // of 6 * 7, the two steps of 2147483647 + 1 < 0, and a difference, a quotient and a shift at their edges
+    // of 6 * 7, the two steps of 2147483647 + 1 < 0, and a difference, a quotient and a shift at
+    // their edges
     for (left, op, right, word) in [
         (6, Op2::Mul, 7, 42),
         (2_147_483_647, Op2::Add, 1, 2_147_483_648),
@@ -89,7 +91,8 @@ fn operations_on_constants_become_constants(rt: HostRuntime) -> Result<(), Fail>
     Ok(())
 }
 
-// The node 1 of this op on the parameter and a constant, in this order or the other, and what the region gives.
+// The node 1 of this op on the parameter and a constant, in this order or the other, and what the
+// region gives.
 fn on_one(
     alloc: Global,
     op: Op2,

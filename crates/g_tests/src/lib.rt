@@ -1,4 +1,6 @@
-//! Tests of the graph's check, copies, counts and changes, of folding, and of runs of small programs. No crate stands on it, and it has no function of its own.
+//! Tests of operations on words and values, of the graph's check, copies, counts and changes, of
+//! folding, and of runs of small programs. No crate stands on it, and it has no function of its
+//! own.
 #![tactic(auto)]
 
 #[cfg(test)]
@@ -11,3 +13,5 @@ mod folding;
 mod programs;
 #[cfg(test)]
 mod running;
+#[cfg(test)]
+mod words;

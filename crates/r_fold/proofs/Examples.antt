@@ -81,7 +81,8 @@ last_arm = refl
 -- a Theta whose predicate is this constant
 abbrev repeated : ℕ → RegionTree
 repeated w =
-    region kinds (nodes_of (node 0 Theta (Arg 0 ∷ Arg 1 ∷ Arg 2 ∷ []) (regions_of (region kinds (nodes_of (plain 1 (Const w) [] ∷ [])) (Out 1 0 ∷ Out 1 0 ∷ Arg 1 ∷ Arg 2 ∷ []) ∷ [])) ∷ [])) (Out 0 0 ∷ Out 0 1 ∷ Out 0 2 ∷ [])
+    region kinds (nodes_of (node 0 Theta (Arg 0 ∷ Arg 1 ∷ Arg 2 ∷ []) (regions_of (region kinds (nodes_of (plain 1 (Const w) [] ∷ [])) (Out 1 0 ∷ Out 1 0 ∷ Arg 1 ∷ Arg 2 ∷ []) ∷ [])) ∷
+    [])) (Out 0 0 ∷ Out 0 1 ∷ Out 0 2 ∷ [])
 
 once : fold_here 0 (repeated 0) ≡ Some (of_nodes (plain 1 (Const 0) [] ∷ []) (Out 1 0))
 once = refl

@@ -1,7 +1,8 @@
 -- A folded lambda is well formed.
 use Rattle.std.proofs.Common.{◌≡◌, ℕ, zero, suc, ◌==◌, Bool, true, false, not, ◌&&◌, ◌||◌, List, [], ◌∷◌, ◌++◌, map, length, Option, None, Some, option_map, option_and_then, refl, sym, ap, subst, ◌∙◌, arith}
 use Rattle.std.specs.Prelude.{if◌then◌else◌, slice_get, unwrap_or}
-use Rattle.std.proofs.lemmas.Bool.Decides.{nat_tests}
+use Rattle.std.proofs.lemmas.Option.{same_Some}
+use Rattle.std.proofs.lemmas.Bool.{and_parts}
 use Rattle.val_core.specs.declared.operation.Op2.{Op2}
 use Rattle.val_core.specs.declared.operation.Op1.{Op1}
 use Rattle.val_core.specs.Words.{word1, word2}
@@ -13,28 +14,24 @@ use Rattle.g_graph.specs.declared.op.Origin.{Origin}
 use Rattle.g_graph.specs.declared.op.Origin.TheVariants.{Arg, Out}
 use Rattle.g_graph.specs.Plain.{RegionTree, region, NodeTree, node, NodeTrees, no_nodes, node_then, RegionTrees, no_regions, region_then, id_of, PlainLambda}
 use Rattle.g_graph.specs.Ids.{region_ids, nodes_ids, regions_ids}
-use Rattle.g_graph.specs.Rows.{first_args, output_kinds}
+use Rattle.g_graph.specs.Signatures.{first_args, output_kinds}
 use Rattle.g_graph.specs.Scope.{is_of, known}
-use Rattle.g_graph.specs.Change.{has_node, region_changed}
+use Rattle.g_graph.specs.Change.{region_changed}
 use Rattle.g_graph.specs.WellFormed.{all_of, some_of, are, one_state_each, gives, is_last, nodes_fit, results_are_last, returns_state, region_has_one_state_each, region_fits, every_region, every_in_nodes, well_formed, IsWellFormed}
 use Rattle.g_graph.specs.Replace.{nodes_redirected, region_redirected, origin_replaced}
 use Rattle.g_graph.specs.Splice.{args_to_inputs, outputs_to_results, joined_nodes, nodes_spliced, region_spliced}
-use Rattle.g_graph.proofs.ReplaceLemmas.{region_ids-redirected}
-use Rattle.g_graph.proofs.SpliceLemmas.{Split, split_at}
-use Rattle.g_graph.proofs.UniqueLemmas.{first_true, second_true, times, times_append, times_cons}
-use Rattle.g_graph.proofs.NumberedLemmas.{Numbered}
-use Rattle.g_graph.proofs.PlaceLemmas.{same_number_true}
-use Rattle.g_graph.proofs.MovedLemmas.{ValueFor, moved_kept}
-use Rattle.g_graph.proofs.NestNumbers.{changed_well_formed_within}
-use Rattle.g_graph.proofs.NodeLemmas.{NodeFits, node_fits_here, KeptWithin, PartGives, part_keeps, are_kinds, first_kind, value_for}
+use Rattle.g_graph.proofs.lemmas.Redirects.{region_ids-redirected}
+use Rattle.g_graph.proofs.lemmas.Splices.{Split, split_at}
+use Rattle.g_graph.proofs.lemmas.Unique.{same_number, times, times_append, times_cons}
+use Rattle.g_graph.proofs.lemmas.Numbers.{Numbered}
+use Rattle.g_graph.proofs.lemmas.Indexes.{same_number_true}
+use Rattle.g_graph.proofs.lemmas.Found.{found_node, node_at-joined}
+use Rattle.g_graph.proofs.lemmas.Moved.{ValueFor, moved_kept}
+use Rattle.g_graph.proofs.lemmas.Nests.{changed_well_formed_within}
+use Rattle.g_graph.proofs.lemmas.Nodes.{NodeFits, node_fits_here, KeptWithin, ReplacementGives, replacement_keeps, are_kinds, first_kind, value_for}
 use Rattle.r_fold.proofs.Chosen.{chosen_inside, chosen_times, chosen_kinds}
-use Rattle.r_fold.specs.Rule.{node_at, node_set, constant, is_word, left_neutral, right_neutral, Folded, word, input, part, bin_folded, gamma_folded, theta_folded, chosen_region, folding, is_used, folded, fold_here, fold}
-
-some_equal : {X : Type 0} (x y : X) → Some x ≡ Some y → x ≡ y
-some_equal x y e = cc
-
-same_number : (m n : ℕ) → (m == n) ≡ true → m ≡ n
-same_number m n e = grind (arith, nat_tests)
+use Rattle.g_graph.specs.Nodes.{node_at, node_set, constant, is_used}
+use Rattle.r_fold.specs.Rule.{is_word, left_neutral, right_neutral, Folded, word, input, replacement, bin_folded, gamma_folded, theta_folded, chosen_region, folding, folded, fold_here, fold}
 
 -- ---- a constant, as a part of one node
 
@@ -48,7 +45,7 @@ const_given : (n w : ℕ) → map (known [] (const_nodes n w)) (Out n 0 ∷ []) 
 const_given n w = let t : (n == n) ≡ true = same_number_true n in rw t
 
 const_gives : (objects : ℕ) (args : List Kind) (before : NodeTrees) (id : ℕ) (op : Op) (ins : List Origin) (rs : RegionTrees) (w : ℕ) → output_kinds (node id op ins rs) ≡ Some Value ∷ [] →
-    PartGives objects args before (node id op ins rs) [] (const_nodes id w) (Out id 0 ∷ []) []
+    ReplacementGives objects args before (node id op ins rs) [] (const_nodes id w) (Out id 0 ∷ []) []
 const_gives objects args before id op ins rs w e = record {
   inside = const_inside objects id w;
   entries = refl;
@@ -102,16 +99,16 @@ tail_inside : (objects : ℕ) (own : List Kind) (ns : NodeTrees) (p : Origin) (o
 tail_inside objects own ns p outs v e =
     let r = region own ns (p ∷ outs) in
     let kinds = map (known own ns) outs in
-    let fits = first_true (region_fits objects r) (every_in_nodes (region_fits objects) ns) e in
-    let nest = second_true (region_fits objects r) (every_in_nodes (region_fits objects) ns) e in
-    let to_io = first_true (nodes_fit objects r && results_are_last r && returns_state Memory r && returns_state Io r) (region_has_one_state_each r) fits in
-    let states = second_true (nodes_fit objects r && results_are_last r && returns_state Memory r && returns_state Io r) (region_has_one_state_each r) fits in
-    let to_memory = first_true (nodes_fit objects r && results_are_last r && returns_state Memory r) (returns_state Io r) to_io in
-    let io = second_true (nodes_fit objects r && results_are_last r && returns_state Memory r) (returns_state Io r) to_io in
-    let to_last = first_true (nodes_fit objects r && results_are_last r) (returns_state Memory r) to_memory in
-    let memory = second_true (nodes_fit objects r && results_are_last r) (returns_state Memory r) to_memory in
-    let fit = first_true (nodes_fit objects r) (results_are_last r) to_last in
-    let last = second_true (is_last own ns p) (all_of (is_last own ns) outs) (second_true (nodes_fit objects r) (results_are_last r) to_last) in
+    let fits = (and_parts (region_fits objects r) (every_in_nodes (region_fits objects) ns) e).0 in
+    let nest = (and_parts (region_fits objects r) (every_in_nodes (region_fits objects) ns) e).1 in
+    let to_io = (and_parts (nodes_fit objects r && results_are_last r && returns_state Memory r && returns_state Io r) (region_has_one_state_each r) fits).0 in
+    let states = (and_parts (nodes_fit objects r && results_are_last r && returns_state Memory r && returns_state Io r) (region_has_one_state_each r) fits).1 in
+    let to_memory = (and_parts (nodes_fit objects r && results_are_last r && returns_state Memory r) (returns_state Io r) to_io).0 in
+    let io = (and_parts (nodes_fit objects r && results_are_last r && returns_state Memory r) (returns_state Io r) to_io).1 in
+    let to_last = (and_parts (nodes_fit objects r && results_are_last r) (returns_state Memory r) to_memory).0 in
+    let memory = (and_parts (nodes_fit objects r && results_are_last r) (returns_state Memory r) to_memory).1 in
+    let fit = (and_parts (nodes_fit objects r) (results_are_last r) to_last).0 in
+    let last = (and_parts (is_last own ns p) (all_of (is_last own ns) outs) (and_parts (nodes_fit objects r) (results_are_last r) to_last).1).1 in
     let memory_now : (not (gives Memory ns) || some_of (is_of Memory) kinds) ≡ true = ap (λ k. not (gives Memory ns) || (is_of Memory k || some_of (is_of Memory) kinds)) (sym v) ∙ memory in
     let io_now : (not (gives Io ns) || some_of (is_of Io) kinds) ≡ true = ap (λ k. not (gives Io ns) || (is_of Io k || some_of (is_of Io) kinds)) (sym v) ∙ io in
     let states_now : (one_state_each (map Some own) && one_state_each kinds) ≡ true = ap (λ k. one_state_each (map Some own) && one_state_each (k ∷ kinds)) (sym v) ∙ states in
@@ -119,12 +116,12 @@ tail_inside objects own ns p outs v e =
 
 theta_gives : (objects : ℕ) (args : List Kind) (before : NodeTrees) (id : ℕ) (ins : List Origin) (own : List Kind) (ns : NodeTrees) (p : Origin) (outs : List Origin) (after : NodeTrees) →
     NodeFits objects args before (node id Theta ins (region_then (region own ns (p ∷ outs)) no_regions)) after →
-    PartGives objects args before (node id Theta ins (region_then (region own ns (p ∷ outs)) no_regions)) own ns outs ins
+    ReplacementGives objects args before (node id Theta ins (region_then (region own ns (p ∷ outs)) no_regions)) own ns outs ins
 theta_gives objects args before id ins own ns p outs after here =
     let kinds = map (known own ns) outs in
-    let results = first_kind (known own ns p) kinds Value own (first_true (are (known own ns p ∷ kinds) (Value ∷ own)) true here.regions) in
+    let results = first_kind (known own ns p) kinds Value own (and_parts (are (known own ns p ∷ kinds) (Value ∷ own)) true here.regions).0 in
     record {
-      inside = tail_inside objects own ns p outs results.0 (first_true (every_region (region_fits objects) (region own ns (p ∷ outs))) true here.inside);
+      inside = tail_inside objects own ns p outs results.0 (and_parts (every_region (region_fits objects) (region own ns (p ∷ outs))) true here.inside).0;
       entries = here.inputs;
       entries_last = here.last;
       exits = are_kinds kinds own results.1;
@@ -135,21 +132,22 @@ theta_gives objects args before id ins own ns p outs after here =
 
 gamma_gives : (objects : ℕ) (args : List Kind) (before : NodeTrees) (id : ℕ) (p : Origin) (entries : List Origin) (rs : RegionTrees) (after : NodeTrees) →
     NodeFits objects args before (node id Gamma (p ∷ entries) rs) after → (w : ℕ) (own : List Kind) (ns : NodeTrees) (outs : List Origin) → chosen_region w rs ≡ Some (region own ns outs) →
-    PartGives objects args before (node id Gamma (p ∷ entries) rs) own ns outs entries
+    ReplacementGives objects args before (node id Gamma (p ∷ entries) rs) own ns outs entries
 gamma_gives objects args before id p entries rs after here w own ns outs e =
     let kinds = chosen_kinds id w (p ∷ entries) rs (region own ns outs) e here.regions in
     let inputs = first_kind (known args before p) (map (known args before) entries) Value (first_args rs) here.inputs in
     record {
       inside = chosen_inside (region_fits objects) w rs (region own ns outs) e here.inside;
       entries = ap (are (map (known args before) entries)) kinds.0 ∙ inputs.1;
-      entries_last = second_true (is_last args before p) (all_of (is_last args before) entries) here.last;
+      entries_last = (and_parts (is_last args before p) (all_of (is_last args before) entries) here.last).1;
       exits = kinds.1;
       ids = λ m. omega (arith, chosen_times m w rs (region own ns outs) e, times_cons m id (regions_ids rs));
     }
 
 -- ---- whatever folds
 
-module _ (objects next n : ℕ) (args : List Kind) (ns : NodeTrees) (results : List Origin) (split : Split n ns) (fits : every_region (region_fits objects) (region args ns results) ≡ true) (numbers : Numbered next (nodes_ids ns)) where
+module _ (objects next n : ℕ) (args : List Kind) (ns : NodeTrees) (results : List Origin) (split : Split n ns) (fits : every_region (region_fits objects) (region args ns results) ≡
+    true) (numbers : Numbered next (nodes_ids ns)) where
   abbrev whole : RegionTree
   whole = region args ns results
 
@@ -161,18 +159,19 @@ module _ (objects next n : ℕ) (args : List Kind) (ns : NodeTrees) (results : L
   here_is : (x : NodeTree) → split.here ≡ x → NodeFits objects args split.before x split.after
   here_is x e = subst (λ y. NodeFits objects args split.before y split.after) e split_here
 
-  part_kept_by : (x : NodeTree) → split.here ≡ x → (own : List Kind) (nodes : NodeTrees) (outs is : List Origin) → PartGives objects args split.before x own nodes outs is →
+  replacement_kept_by : (x : NodeTree) → split.here ≡ x → (own : List Kind) (nodes : NodeTrees) (outs is : List Origin) → ReplacementGives objects args split.before x own nodes outs is →
       KeptWithin objects whole (region_spliced n (region_redirected (args_to_inputs is) (region own nodes outs)) whole)
-  part_kept_by x e own nodes outs is g =
-      part_keeps objects n args ns results split own nodes outs is fits split_here (subst (λ y. PartGives objects args split.before y own nodes outs is) (sym e) g)
+  replacement_kept_by x e own nodes outs is g =
+      replacement_keeps objects n args ns results split own nodes outs is fits split_here (subst (λ y. ReplacementGives objects args split.before y own nodes outs is) (sym e) g)
 
   word_keeps : (op : Op) (ins : List Origin) (rs : RegionTrees) → split.here ≡ node n op ins rs → output_kinds (node n op ins rs) ≡ Some Value ∷ [] → (w : ℕ) →
       KeptWithin objects whole (region args (node_set n (node n (Const w) [] no_regions) ns) results)
   word_keeps op ins rs e o w =
       subst (λ s. KeptWithin objects whole s) (word_spliced n w args ns results)
-      (part_kept_by (node n op ins rs) e [] (const_nodes n w) (Out n 0 ∷ []) [] (const_gives objects args split.before n op ins rs w o))
+      (replacement_kept_by (node n op ins rs) e [] (const_nodes n w) (Out n 0 ∷ []) [] (const_gives objects args split.before n op ins rs w o))
 
-  input_keeps : (op : Op) (ins : List Origin) (rs : RegionTrees) → split.here ≡ node n op ins rs → output_kinds (node n op ins rs) ≡ Some Value ∷ [] → (b : Origin) → known args split.before b ≡ Some Value →
+  input_keeps : (op : Op) (ins : List Origin) (rs : RegionTrees) → split.here ≡ node n op ins rs → output_kinds (node n op ins rs) ≡ Some Value ∷ [] → (b : Origin) →
+      known args split.before b ≡ Some Value →
       KeptWithin objects whole (region_redirected (origin_replaced (Out n 0) b) whole)
   input_keeps op ins rs e o b v =
       let value = value_for objects n args split.before split.here split.after split_here (ap id_of e) (ap output_kinds e ∙ o) b v in
@@ -181,14 +180,16 @@ module _ (objects next n : ℕ) (args : List Kind) (ns : NodeTrees) (results : L
         fewer = λ m. omega (arith, ap (times m) (region_ids-redirected (origin_replaced (Out n 0) b) whole));
       }
 
-  word_change : (op : Op) (ins : List Origin) (rs : RegionTrees) → split.here ≡ node n op ins rs → output_kinds (node n op ins rs) ≡ Some Value ∷ [] → (w : ℕ) (f : Folded) → word w ≡ f → (s : RegionTree) →
+  word_change : (op : Op) (ins : List Origin) (rs : RegionTrees) → split.here ≡ node n op ins rs → output_kinds (node n op ins rs) ≡ Some Value ∷ [] → (w : ℕ) (f : Folded) → word w ≡ f →
+      (s : RegionTree) →
       folded n whole f ≡ Some s → KeptWithin objects whole s
   word_change op ins rs e o w f q s d =
       let same : folded n whole (word w) ≡ Some s = ap (folded n whole) q ∙ d in
       let is : region args (node_set n (node n (Const w) [] no_regions) ns) results ≡ s = cc in
       subst (λ t. KeptWithin objects whole t) is (word_keeps op ins rs e o w)
 
-  input_change : (op : Op) (ins : List Origin) (rs : RegionTrees) → split.here ≡ node n op ins rs → output_kinds (node n op ins rs) ≡ Some Value ∷ [] → (b : Origin) → known args split.before b ≡ Some Value →
+  input_change : (op : Op) (ins : List Origin) (rs : RegionTrees) → split.here ≡ node n op ins rs → output_kinds (node n op ins rs) ≡ Some Value ∷ [] → (b : Origin) →
+      known args split.before b ≡ Some Value →
       (f : Folded) → input b ≡ f → (s : RegionTree) → folded n whole f ≡ Some s → KeptWithin objects whole s
   input_change op ins rs e o b v f q s d =
       by_use (is_used (Out n 0) whole) (ap (folded n whole) q ∙ d)
@@ -199,56 +200,61 @@ module _ (objects next n : ℕ) (args : List Kind) (ns : NodeTrees) (results : L
           subst (λ t. KeptWithin objects whole t) is (input_keeps op ins rs e o b v)
       by_use false h = absurd (cc)
 
-  part_change : (x : NodeTree) → split.here ≡ x → (own : List Kind) (nodes : NodeTrees) (outs is : List Origin) → PartGives objects args split.before x own nodes outs is → (f : Folded) → part (region own nodes outs) is ≡ f →
+  replacement_change : (x : NodeTree) → split.here ≡ x → (own : List Kind) (nodes : NodeTrees) (outs is : List Origin) → ReplacementGives objects args split.before x own nodes outs is →
+      (f : Folded) → replacement (region own nodes outs) is ≡ f →
       (s : RegionTree) → folded n whole f ≡ Some s → KeptWithin objects whole s
-  part_change x e own nodes outs is g f q s d =
+  replacement_change x e own nodes outs is g f q s d =
       let same : Some (region_spliced n (region_redirected (args_to_inputs is) (region own nodes outs)) whole) ≡ Some s = ap (folded n whole) q ∙ d in
-      subst (λ t. KeptWithin objects whole t) (some_equal _ _ same) (part_kept_by x e own nodes outs is g)
+      subst (λ t. KeptWithin objects whole t) (same_Some _ _ same) (replacement_kept_by x e own nodes outs is g)
 
   inputs_keep : (op : Op2) (a b : Origin) (rs : RegionTrees) → split.here ≡ node n (Bin op) (a ∷ b ∷ []) rs → (u v : Option ℕ) (f : Folded) →
-      (if is_word (left_neutral op) u then Some (input b) else if is_word (right_neutral op) v then Some (input a) else None) ≡ Some f → (s : RegionTree) → folded n whole f ≡ Some s → KeptWithin objects whole s
+      (if is_word (left_neutral op) u then Some (input b) else if is_word (right_neutral op) v then Some (input a) else None) ≡ Some f → (s : RegionTree) → folded n whole f ≡ Some s →
+      KeptWithin objects whole s
   inputs_keep op a b rs e u v f q s d =
       let here = here_is (node n (Bin op) (a ∷ b ∷ []) rs) e in
       let first = first_kind (known args split.before a) (known args split.before b ∷ []) Value (Value ∷ []) here.inputs in
       let second = first_kind (known args split.before b) [] Value [] first.1 in
       by_tests (is_word (left_neutral op) u) (is_word (right_neutral op) v) first.0 second.0 q
     where
-      by_tests : (l r : Bool) → known args split.before a ≡ Some Value → known args split.before b ≡ Some Value → (if l then Some (input b) else if r then Some (input a) else None) ≡ Some f → KeptWithin objects whole s
-      by_tests true r va vb h = input_change (Bin op) (a ∷ b ∷ []) rs e refl b vb f (some_equal _ _ h) s d
-      by_tests false true va vb h = input_change (Bin op) (a ∷ b ∷ []) rs e refl a va f (some_equal _ _ h) s d
+      by_tests : (l r : Bool) → known args split.before a ≡ Some Value → known args split.before b ≡ Some Value → (if l then Some (input b) else if r then Some (input a) else None) ≡ Some f →
+          KeptWithin objects whole s
+      by_tests true r va vb h = input_change (Bin op) (a ∷ b ∷ []) rs e refl b vb f (same_Some _ _ h) s d
+      by_tests false true va vb h = input_change (Bin op) (a ∷ b ∷ []) rs e refl a va f (same_Some _ _ h) s d
       by_tests false false va vb h = absurd (cc)
 
   bin_keeps : (op : Op2) (a b : Origin) (rs : RegionTrees) → split.here ≡ node n (Bin op) (a ∷ b ∷ []) rs → (u v : Option ℕ) (f : Folded) → bin_folded op a b u v ≡ Some f → (s : RegionTree) →
       folded n whole f ≡ Some s → KeptWithin objects whole s
-  bin_keeps op a b rs e (Some u) (Some v) f q s d = word_change (Bin op) (a ∷ b ∷ []) rs e refl (word2 op u v) f (some_equal _ _ q) s d
+  bin_keeps op a b rs e (Some u) (Some v) f q s d = word_change (Bin op) (a ∷ b ∷ []) rs e refl (word2 op u v) f (same_Some _ _ q) s d
   bin_keeps op a b rs e None v f q s d = inputs_keep op a b rs e None v f q s d
   bin_keeps op a b rs e (Some u) None f q s d = inputs_keep op a b rs e (Some u) None f q s d
 
   un_keeps : (op : Op1) (a : Origin) (rs : RegionTrees) → split.here ≡ node n (Un op) (a ∷ []) rs → (u : Option ℕ) (f : Folded) → option_map (λ v. word (word1 op v)) u ≡ Some f → (s : RegionTree) →
       folded n whole f ≡ Some s → KeptWithin objects whole s
   un_keeps op a rs e None f q s d = absurd (cc)
-  un_keeps op a rs e (Some u) f q s d = word_change (Un op) (a ∷ []) rs e refl (word1 op u) f (some_equal _ _ q) s d
+  un_keeps op a rs e (Some u) f q s d = word_change (Un op) (a ∷ []) rs e refl (word1 op u) f (same_Some _ _ q) s d
 
-  gamma_keeps : (p : Origin) (entries : List Origin) (rs : RegionTrees) → split.here ≡ node n Gamma (p ∷ entries) rs → (u : Option ℕ) (f : Folded) → gamma_folded rs entries u ≡ Some f → (s : RegionTree) →
+  gamma_keeps : (p : Origin) (entries : List Origin) (rs : RegionTrees) → split.here ≡ node n Gamma (p ∷ entries) rs → (u : Option ℕ) (f : Folded) → gamma_folded rs entries u ≡ Some f →
+      (s : RegionTree) →
       folded n whole f ≡ Some s → KeptWithin objects whole s
   gamma_keeps p entries rs e None f q s d = absurd (cc)
   gamma_keeps p entries rs e (Some w) f q s d = by_choice (chosen_region w rs) refl q
     where
-      by_choice : (c : Option RegionTree) → chosen_region w rs ≡ c → option_map (λ r. part r entries) c ≡ Some f → KeptWithin objects whole s
+      by_choice : (c : Option RegionTree) → chosen_region w rs ≡ c → option_map (λ r. replacement r entries) c ≡ Some f → KeptWithin objects whole s
       by_choice None h g = absurd (cc)
       by_choice (Some (region own nodes outs)) h g =
-          part_change (node n Gamma (p ∷ entries) rs) e own nodes outs entries
-          (gamma_gives objects args split.before n p entries rs split.after (here_is (node n Gamma (p ∷ entries) rs) e) w own nodes outs h) f (some_equal _ _ g) s d
+          replacement_change (node n Gamma (p ∷ entries) rs) e own nodes outs entries
+          (gamma_gives objects args split.before n p entries rs split.after (here_is (node n Gamma (p ∷ entries) rs) e) w own nodes outs h) f (same_Some _ _ g) s d
 
-  theta_keeps : (ins : List Origin) (r : RegionTree) → split.here ≡ node n Theta ins (region_then r no_regions) → (f : Folded) → theta_folded r ins ≡ Some f → (s : RegionTree) → folded n whole f ≡ Some s →
+  theta_keeps : (ins : List Origin) (r : RegionTree) → split.here ≡ node n Theta ins (region_then r no_regions) → (f : Folded) → theta_folded r ins ≡ Some f → (s : RegionTree) →
+      folded n whole f ≡ Some s →
       KeptWithin objects whole s
   theta_keeps ins (region own nodes []) e f q s d = absurd (cc)
   theta_keeps ins (region own nodes (p ∷ outs)) e f q s d = by_word (is_word (Some 0) (constant nodes p)) q
     where
-      by_word : (t : Bool) → (if t then Some (part (region own nodes outs) ins) else None) ≡ Some f → KeptWithin objects whole s
+      by_word : (t : Bool) → (if t then Some (replacement (region own nodes outs) ins) else None) ≡ Some f → KeptWithin objects whole s
       by_word true h =
-          part_change (node n Theta ins (region_then (region own nodes (p ∷ outs)) no_regions)) e own nodes outs ins
-          (theta_gives objects args split.before n ins own nodes p outs split.after (here_is (node n Theta ins (region_then (region own nodes (p ∷ outs)) no_regions)) e)) f (some_equal _ _ h) s d
+          replacement_change (node n Theta ins (region_then (region own nodes (p ∷ outs)) no_regions)) e own nodes outs ins
+          (theta_gives objects args split.before n ins own nodes p outs split.after (here_is (node n Theta ins (region_then (region own nodes (p ∷ outs)) no_regions)) e)) f (same_Some _ _ h) s d
       by_word false h = absurd (cc)
 
   node_keeps : (op : Op) (ins : List Origin) (rs : RegionTrees) → split.here ≡ node n op ins rs → (f : Folded) → folding ns (node n op ins rs) ≡ Some f → (s : RegionTree) → folded n whole f ≡ Some s →
@@ -280,48 +286,29 @@ module _ (objects next n : ℕ) (args : List Kind) (ns : NodeTrees) (results : L
 
 -- ---- a region, and the lambda
 
-found_node : (n : ℕ) (ns : NodeTrees) (x : NodeTree) → node_at n ns ≡ Some x → has_node n ns ≡ true
-found_node n no_nodes x e = absurd (cc)
-found_node n (node_then y ns) x e = by_test (id_of y == n) e (found_node n ns x)
-  where
-    by_test : (t : Bool) → (if t then Some y else node_at n ns) ≡ Some x → (node_at n ns ≡ Some x → has_node n ns ≡ true) → (t || has_node n ns) ≡ true
-    by_test true q h = refl
-    by_test false q h = h q
-
-or_first : (a b : Bool) → (a || b) ≡ false → a ≡ false
-or_first true b e = absurd (cc)
-or_first false b e = refl
-
-or_second : (a b : Bool) → (a || b) ≡ false → b ≡ false
-or_second true b e = absurd (cc)
-or_second false b e = e
-
-node_at-joined : (n : ℕ) (before : NodeTrees) (x : NodeTree) (after : NodeTrees) → has_node n before ≡ false → (id_of x == n) ≡ true → node_at n (joined_nodes before (node_then x after)) ≡ Some x
-node_at-joined n no_nodes x after b h = ap (λ t. if t then Some x else node_at n after) h
-node_at-joined n (node_then y before) x after b h =
-    ap (λ t. if t then Some y else node_at n (joined_nodes before (node_then x after))) (or_first (id_of y == n) (has_node n before) b)
-    ∙ node_at-joined n before x after (or_second (id_of y == n) (has_node n before) b) h
-
 renumbered : (x : NodeTree) (n : ℕ) → id_of x ≡ n → (op : Op) × (ins : List Origin) × (rs : RegionTrees) × (x ≡ node n op ins rs)
 renumbered (node id op ins rs) n e = (op, ins, rs, λ i. node (e i) op ins rs)
 
-region_keeps : (objects next n : ℕ) (args : List Kind) (ns : NodeTrees) (results : List Origin) (x : NodeTree) → node_at n ns ≡ Some x → every_region (region_fits objects) (region args ns results) ≡ true →
+region_keeps : (objects next n : ℕ) (args : List Kind) (ns : NodeTrees) (results : List Origin) (x : NodeTree) → node_at n ns ≡ Some x →
+    every_region (region_fits objects) (region args ns results) ≡ true →
     Numbered next (nodes_ids ns) → (f : Folded) → folding ns x ≡ Some f → (s : RegionTree) → folded n (region args ns results) f ≡ Some s → KeptWithin objects (region args ns results) s
 region_keeps objects next n args ns results x e fits numbers f q s d =
     let split = split_at n ns (found_node n ns x e) in
     let number = same_number (id_of split.here) n split.numbered in
-    let found : split.here ≡ x = some_equal _ _ (sym (node_at-joined n split.before split.here split.after split.none_before split.numbered) ∙ ap (node_at n) (sym split.whole) ∙ e) in
+    let found : split.here ≡ x = same_Some _ _ (sym (node_at-joined n split.before split.here split.after split.none_before split.numbered) ∙ ap (node_at n) (sym split.whole) ∙ e) in
     let named = renumbered split.here n number in
     node_keeps objects next n args ns results split fits numbers named.0 named.1 named.2 named.3 f (ap (folding ns) (sym named.3 ∙ found) ∙ q) s d
 
 pub fold_here_keeps : (objects next n : ℕ) (r s : RegionTree) → fold_here n r ≡ Some s → every_region (region_fits objects) r ≡ true → Numbered next (region_ids r) → KeptWithin objects r s
 fold_here_keeps objects next n (region args ns results) s e fits numbers = by_node (node_at n ns) refl e
   where
-    by_folding : (x : NodeTree) → node_at n ns ≡ Some x → (f : Option Folded) → folding ns x ≡ f → option_and_then (λ g. folded n (region args ns results) g) f ≡ Some s → KeptWithin objects (region args ns results) s
+    by_folding : (x : NodeTree) → node_at n ns ≡ Some x → (f : Option Folded) → folding ns x ≡ f → option_and_then (λ g. folded n (region args ns results) g) f ≡ Some s →
+        KeptWithin objects (region args ns results) s
     by_folding x a None b c = absurd (cc)
     by_folding x a (Some f) b c = region_keeps objects next n args ns results x a fits numbers f b s c
 
-    by_node : (x : Option NodeTree) → node_at n ns ≡ x → option_and_then (λ g. folded n (region args ns results) g) (option_and_then (folding ns) x) ≡ Some s → KeptWithin objects (region args ns results) s
+    by_node : (x : Option NodeTree) → node_at n ns ≡ x → option_and_then (λ g. folded n (region args ns results) g) (option_and_then (folding ns) x) ≡ Some s →
+        KeptWithin objects (region args ns results) s
     by_node None a c = absurd (cc)
     by_node (Some x) a c = by_folding x a (folding ns x) refl c
 

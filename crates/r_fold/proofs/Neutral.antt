@@ -12,7 +12,7 @@ use Rattle.val_core.specs.declared.values.Value.{Value}
 use Rattle.val_core.specs.declared.values.Value.TheVariants.{Num, At, Bad}
 use Rattle.val_core.specs.Words.{word2, signed, word}
 use Rattle.val_core.specs.Values.{address, value2, IsLessDefined, IsSound}
-use Rattle.val_core.proofs.ValueLemmas.{bad-left, bad-right}
+use Rattle.val_core.proofs.lemmas.Values.{bad-left, bad-right}
 use Rattle.r_fold.specs.Rule.{left_neutral, right_neutral}
 
 small : (a : ℕ) → a < 2 ^ 32 → a % 2 ^ 32 ≡ a

@@ -1,60 +1,60 @@
--- A plan for a node says what folding gives, and its parts are found by place.
-use Rattle.std.proofs.Common.{◌≡◌, ◌≤◌, ◌<◌, ◌+◌, get_or, ℕ, zero, suc, ◌==◌, Bool, true, false, List, [], ◌∷◌, Option, None, Some, option_map, option_and_then, length, refl, sym, ap, ◌∙◌, arith}
+-- A plan for a node says what folding gives, and regions are found by index.
+use Rattle.std.proofs.Common.{◌≡◌, ◌≤◌, ◌<◌, get_or, ℕ, zero, suc, ◌==◌, Bool, true, false, List, [], ◌∷◌, Option, None, Some, option_map, option_and_then, length, refl, sym, ap, ◌∙◌, arith}
 use Rattle.std.proofs.Math.Dec.{eqb-suc-zero, eqb-suc-suc}
-use Rattle.std.specs.Prelude.{is_some, if◌then◌else◌, slice_get, slice_set, ◌-◌}
+use Rattle.std.specs.Prelude.{is_some, if◌then◌else◌, slice_get, ◌-◌}
 use Rattle.g_graph.specs.declared.op.Op.TheVariants.{Const, Undef, Local, Delta, Bin, Un, Load, Store, Clear, PtrEq, Apply, Put, Exit, Get, Gamma, Theta}
 use Rattle.g_graph.specs.declared.op.Origin.{Origin}
-use Rattle.g_graph.specs.Plain.{RegionTree, region, NodeTree, node, NodeTrees, no_nodes, node_then, RegionTrees, no_regions, region_then, nodes_of, regions_of, id_of, nodes_in}
-use Rattle.g_graph.specs.Change.{first_some, place_of}
-use Rattle.g_graph.proofs.SpliceLemmas.{place_of_least}
-use Rattle.r_fold.specs.Rule.{node_at, node_set, const_word, constant, is_word, Folded, word, input, part, gamma_folded, theta_folded, chosen_region, folding, folded, fold_here}
-use Rattle.r_fold.specs.Plan.{planned, bin_row, un_row, theta_row, plain_row, part_row, has_one_turn, carried_out, op_of, op_word}
+use Rattle.g_graph.specs.Plain.{RegionTree, region, NodeTree, node, NodeTrees, RegionTrees, no_regions, region_then, regions_of, nodes_in}
+use Rattle.g_graph.specs.Change.{first_some}
+use Rattle.g_graph.specs.Nodes.{node_at, constant}
+use Rattle.r_fold.specs.Rule.{is_word, Folded, word, input, replacement, gamma_folded, theta_folded, chosen_region, folding, folded, fold_here}
+use Rattle.r_fold.specs.Plan.{planned, bin_case, un_case, theta_case, plain_case, replacement_case, has_one_turn, carried_out}
 
--- ---- the rows of the rule
+-- ---- the cases of the rule
 
 first_none : {X : Type 0} (a : Option X) → a ≡ first_some a None
 first_none None = refl
 first_none (Some x) = refl
 
-pub folding_rows : (nodes : NodeTrees) (x : NodeTree) → folding nodes x ≡ first_some (plain_row nodes x) (part_row nodes x)
-folding_rows nodes (node id (Bin op) [] rs) = refl
-folding_rows nodes (node id (Bin op) (a ∷ []) rs) = refl
-folding_rows nodes (node id (Bin op) (a ∷ b ∷ []) rs) = first_none (bin_row nodes op (a ∷ b ∷ []))
-folding_rows nodes (node id (Bin op) (a ∷ b ∷ c ∷ os) rs) = refl
-folding_rows nodes (node id (Un op) [] rs) = refl
-folding_rows nodes (node id (Un op) (a ∷ []) rs) = first_none (un_row nodes op (a ∷ []))
-folding_rows nodes (node id (Un op) (a ∷ b ∷ os) rs) = refl
-folding_rows nodes (node id Gamma [] rs) = refl
-folding_rows nodes (node id Gamma (p ∷ os) rs) = refl
-folding_rows nodes (node id Theta os no_regions) = refl
-folding_rows nodes (node id Theta os (region_then r no_regions)) = refl
-folding_rows nodes (node id Theta os (region_then r (region_then s rs))) = refl
-folding_rows nodes (node id (Const w) os rs) = refl
-folding_rows nodes (node id Undef os rs) = refl
-folding_rows nodes (node id (Local k) os rs) = refl
-folding_rows nodes (node id (Delta k) os rs) = refl
-folding_rows nodes (node id (Load w) os rs) = refl
-folding_rows nodes (node id (Store w) os rs) = refl
-folding_rows nodes (node id (Clear k) os rs) = refl
-folding_rows nodes (node id PtrEq os rs) = refl
-folding_rows nodes (node id (Apply f) os rs) = refl
-folding_rows nodes (node id Put os rs) = refl
-folding_rows nodes (node id Exit os rs) = refl
-folding_rows nodes (node id Get os rs) = refl
+pub folding_cases : (nodes : NodeTrees) (x : NodeTree) → folding nodes x ≡ first_some (plain_case nodes x) (replacement_case nodes x)
+folding_cases nodes (node id (Bin op) [] rs) = refl
+folding_cases nodes (node id (Bin op) (a ∷ []) rs) = refl
+folding_cases nodes (node id (Bin op) (a ∷ b ∷ []) rs) = first_none (bin_case nodes op (a ∷ b ∷ []))
+folding_cases nodes (node id (Bin op) (a ∷ b ∷ c ∷ os) rs) = refl
+folding_cases nodes (node id (Un op) [] rs) = refl
+folding_cases nodes (node id (Un op) (a ∷ []) rs) = first_none (un_case nodes op (a ∷ []))
+folding_cases nodes (node id (Un op) (a ∷ b ∷ os) rs) = refl
+folding_cases nodes (node id Gamma [] rs) = refl
+folding_cases nodes (node id Gamma (p ∷ os) rs) = refl
+folding_cases nodes (node id Theta os no_regions) = refl
+folding_cases nodes (node id Theta os (region_then r no_regions)) = refl
+folding_cases nodes (node id Theta os (region_then r (region_then s rs))) = refl
+folding_cases nodes (node id (Const w) os rs) = refl
+folding_cases nodes (node id Undef os rs) = refl
+folding_cases nodes (node id (Local k) os rs) = refl
+folding_cases nodes (node id (Delta k) os rs) = refl
+folding_cases nodes (node id (Load w) os rs) = refl
+folding_cases nodes (node id (Store w) os rs) = refl
+folding_cases nodes (node id (Clear k) os rs) = refl
+folding_cases nodes (node id PtrEq os rs) = refl
+folding_cases nodes (node id (Apply f) os rs) = refl
+folding_cases nodes (node id Put os rs) = refl
+folding_cases nodes (node id Exit os rs) = refl
+folding_cases nodes (node id Get os rs) = refl
 
 pub planned_first : (a b : Option Folded) → option_map planned (first_some a b) ≡ first_some (option_map planned a) (option_map planned b)
 planned_first None b = refl
 planned_first (Some f) b = refl
 
-pub folding_planned : (nodes : NodeTrees) (x : NodeTree) → option_map planned (folding nodes x) ≡ first_some (option_map planned (plain_row nodes x)) (option_map planned (part_row nodes x))
-folding_planned nodes x = ap (option_map planned) (folding_rows nodes x) ∙ planned_first (plain_row nodes x) (part_row nodes x)
+pub folding_planned : (nodes : NodeTrees) (x : NodeTree) → option_map planned (folding nodes x) ≡ first_some (option_map planned (plain_case nodes x)) (option_map planned (replacement_case nodes x))
+folding_planned nodes x = ap (option_map planned) (folding_cases nodes x) ∙ planned_first (plain_case nodes x) (replacement_case nodes x)
 
-pub theta_turn : (inputs : List Origin) (rs : RegionTrees) → is_some (theta_row inputs rs) ≡ has_one_turn rs
+pub theta_turn : (inputs : List Origin) (rs : RegionTrees) → is_some (theta_case inputs rs) ≡ has_one_turn rs
 theta_turn inputs no_regions = refl
 theta_turn inputs (region_then (region args nodes []) no_regions) = refl
 theta_turn inputs (region_then (region args nodes (p ∷ results)) no_regions) = by_test (is_word (Some 0) (constant nodes p))
   where
-    by_test : (t : Bool) → is_some (if t then Some (part (region args nodes results) inputs) else None) ≡ t
+    by_test : (t : Bool) → is_some (if t then Some (replacement (region args nodes results) inputs) else None) ≡ t
     by_test true = refl
     by_test false = refl
 theta_turn inputs (region_then r (region_then s rs)) = refl
@@ -64,7 +64,7 @@ theta_turn inputs (region_then r (region_then s rs)) = refl
 pub carried_out_planned : (n : ℕ) (r : RegionTree) (f : Folded) → carried_out n r (planned f) ≡ folded n r f
 carried_out_planned n (region args nodes results) (word w) = refl
 carried_out_planned n r (input a) = refl
-carried_out_planned n r (part s inputs) = refl
+carried_out_planned n r (replacement s inputs) = refl
 
 mapped_then : (n : ℕ) (r : RegionTree) (f : Option Folded) → option_and_then (λ g. folded n r g) f ≡ option_and_then (λ p. carried_out n r p) (option_map planned f)
 mapped_then n r None = refl
@@ -76,7 +76,8 @@ fold_here_planned n (region args nodes results) = mapped_then n (region args nod
 pub fold_here_node : (n : ℕ) (r : RegionTree) → fold_here n r ≡ option_and_then (λ f. folded n r f) (option_and_then (folding (nodes_in r)) (node_at n (nodes_in r)))
 fold_here_node n (region args nodes results) = refl
 
-gamma_stays : (n : ℕ) (r : RegionTree) (os : List Origin) (s : Option RegionTree) → is_some (option_and_then (λ f. folded n r f) (option_map (λ t. part t os) s)) ≡ is_some (option_map (λ t. part t os) s)
+gamma_stays : (n : ℕ) (r : RegionTree) (os : List Origin) (s : Option RegionTree) → is_some (option_and_then (λ f. folded n r f) (option_map (λ t. replacement t os) s)) ≡
+    is_some (option_map (λ t. replacement t os) s)
 gamma_stays n r os None = refl
 gamma_stays n r os (Some s) = refl
 
@@ -88,53 +89,21 @@ theta_folds : (n : ℕ) (r s : RegionTree) (os : List Origin) → is_some (optio
 theta_folds n r (region args nodes []) os = refl
 theta_folds n r (region args nodes (p ∷ results)) os = by_test (is_word (Some 0) (constant nodes p))
   where
-    by_test : (t : Bool) → is_some (option_and_then (λ f. folded n r f) (if t then Some (part (region args nodes results) os) else None)) ≡ is_some (if t then Some (part (region args nodes results) os) else None)
+    by_test : (t : Bool) → is_some (option_and_then (λ f. folded n r f) (if t then Some (replacement (region args nodes results) os) else None)) ≡
+        is_some (if t then Some (replacement (region args nodes results) os) else None)
     by_test true = refl
     by_test false = refl
 
--- what comes in the place of a node with regions can always be put there
-pub part_folds : (n : ℕ) (r : RegionTree) (nodes : NodeTrees) (x : NodeTree) → is_some (option_and_then (λ f. folded n r f) (part_row nodes x)) ≡ is_some (part_row nodes x)
-part_folds n r nodes (node id Gamma [] rs) = refl
-part_folds n r nodes (node id Gamma (p ∷ os) rs) = gamma_folds n r rs os (constant nodes p)
-part_folds n r nodes (node id Theta os no_regions) = refl
-part_folds n r nodes (node id Theta os (region_then s no_regions)) = theta_folds n r s os
-part_folds n r nodes (node id Theta os (region_then s (region_then t rs))) = refl
-part_folds n r nodes (node id _ os rs) = refl
+-- what comes instead of a node with regions can always be put there
+pub replacement_folds : (n : ℕ) (r : RegionTree) (nodes : NodeTrees) (x : NodeTree) → is_some (option_and_then (λ f. folded n r f) (replacement_case nodes x)) ≡ is_some (replacement_case nodes x)
+replacement_folds n r nodes (node id Gamma [] rs) = refl
+replacement_folds n r nodes (node id Gamma (p ∷ os) rs) = gamma_folds n r rs os (constant nodes p)
+replacement_folds n r nodes (node id Theta os no_regions) = refl
+replacement_folds n r nodes (node id Theta os (region_then s no_regions)) = theta_folds n r s os
+replacement_folds n r nodes (node id Theta os (region_then s (region_then t rs))) = refl
+replacement_folds n r nodes (node id _ os rs) = refl
 
--- ---- nodes by place
-
-pub node_set_none : (n first : ℕ) (y : NodeTree) (xs : NodeTrees) → place_of n first xs ≡ None → node_set n y xs ≡ xs
-node_set_none n first y no_nodes e = refl
-node_set_none n first y (node_then x xs) e = by_test (id_of x == n) e (node_set_none n (suc first) y xs)
-  where
-    by_test : (t : Bool) → (if t then Some first else place_of n (suc first) xs) ≡ None → (place_of n (suc first) xs ≡ None → node_set n y xs ≡ xs) →
-        (if t then node_then y xs else node_then x (node_set n y xs)) ≡ node_then x xs
-    by_test true e h = absurd (cc)
-    by_test false e h = ap (node_then x) (h e)
-
-some_same : (a b : ℕ) → Some a ≡ Some b → a ≡ b
-some_same a b e = cc
-
-node_set_from : (n first p : ℕ) (y : NodeTree) (xs : List NodeTree) → place_of n first (nodes_of xs) ≡ Some (first + p) → node_set n y (nodes_of xs) ≡ nodes_of (slice_set xs p y)
-node_set_from n first p y [] e = absurd (cc)
-node_set_from n first zero y (x ∷ xs) e = by_test (id_of x == n) e
-  where
-    by_test : (t : Bool) → (if t then Some first else place_of n (suc first) (nodes_of xs)) ≡ Some (first + 0) →
-        (if t then node_then y (nodes_of xs) else node_then x (node_set n y (nodes_of xs))) ≡ node_then y (nodes_of xs)
-    by_test true e = refl
-    by_test false e = absurd (omega (arith, place_of_least n (suc first) (first + 0) (nodes_of xs) e))
-node_set_from n first (suc p) y (x ∷ xs) e = by_test (id_of x == n) e (node_set_from n (suc first) p y xs)
-  where
-    by_test : (t : Bool) → (if t then Some first else place_of n (suc first) (nodes_of xs)) ≡ Some (first + suc p) →
-        (place_of n (suc first) (nodes_of xs) ≡ Some (suc first + p) → node_set n y (nodes_of xs) ≡ nodes_of (slice_set xs p y)) →
-        (if t then node_then y (nodes_of xs) else node_then x (node_set n y (nodes_of xs))) ≡ node_then x (nodes_of (slice_set xs p y))
-    by_test true e h = absurd (omega (arith, some_same first (first + suc p) e))
-    by_test false e h = ap (node_then x) (h (e ∙ ap Some (omega arith)))
-
-pub node_set_at : (n p : ℕ) (y : NodeTree) (xs : List NodeTree) → place_of n 0 (nodes_of xs) ≡ Some p → node_set n y (nodes_of xs) ≡ nodes_of (slice_set xs p y)
-node_set_at n p y xs e = node_set_from n 0 p y xs (e ∙ ap Some (omega arith))
-
--- ---- regions by place
+-- ---- regions by index
 
 pub chosen_within : (w : ℕ) (rs : List RegionTree) (r : RegionTree) → w < length rs → r ≡ get_or rs w r → chosen_region w (regions_of rs) ≡ Some r
 chosen_within w [] r h e = absurd (omega arith)
@@ -148,10 +117,10 @@ chosen_last w [] h = refl
 chosen_last zero (s ∷ rs) h = absurd (omega arith)
 chosen_last (suc w) (s ∷ []) h = refl
 chosen_last (suc w) (s ∷ t ∷ rs) h =
-    let place : suc (length (t ∷ rs) - 1) ≡ length (s ∷ t ∷ rs) - 1 = omega arith in
-    chosen_last w (t ∷ rs) (omega arith) ∙ ap (slice_get (s ∷ t ∷ rs)) place
+    let index : suc (length (t ∷ rs) - 1) ≡ length (s ∷ t ∷ rs) - 1 = omega arith in
+    chosen_last w (t ∷ rs) (omega arith) ∙ ap (slice_get (s ∷ t ∷ rs)) index
 
-pub theta_none : (inputs : List Origin) (rs : List RegionTree) → (length rs ≡ 1 → ⊥) → theta_row inputs (regions_of rs) ≡ None
+pub theta_none : (inputs : List Origin) (rs : List RegionTree) → (length rs ≡ 1 → ⊥) → theta_case inputs (regions_of rs) ≡ None
 theta_none inputs [] h = refl
 theta_none inputs (r ∷ []) h = absurd (h refl)
 theta_none inputs (r ∷ s ∷ rs) h = refl
@@ -160,9 +129,3 @@ pub no_turn : (rs : List RegionTree) → (length rs ≡ 1 → ⊥) → (length r
 no_turn [] h = refl
 no_turn (r ∷ []) h = absurd (h refl)
 no_turn (r ∷ s ∷ rs) h = eqb-suc-suc (suc (length rs)) 0 ∙ eqb-suc-zero (length rs)
-
--- ---- constants
-
-pub const_word_op : (x : NodeTree) → const_word x ≡ op_word (op_of x)
-const_word_op (node id (Const w) os rs) = refl
-const_word_op (node id _ os rs) = refl

@@ -1,11 +1,10 @@
 -- Folding as it is done: a plan for a node is made first, and then carried out.
-use Rattle.std.specs.Prelude.{ℕ, ◌%◌, ◌^◌, Bool, false, if◌then◌else◌, List, [], ◌∷◌, option_map}
+use Rattle.std.specs.Prelude.{ℕ, Bool, false, if◌then◌else◌, List, [], ◌∷◌, option_map}
 use Rattle.std.specs.declared.option.Option.{Option}
 use Rattle.std.specs.declared.option.Option.TheVariants.{Some, None}
 use Rattle.val_core.specs.declared.operation.Op2.{Op2}
 use Rattle.val_core.specs.declared.operation.Op1.{Op1}
 use Rattle.val_core.specs.Words.{word1}
-use Rattle.g_graph.specs.declared.op.Op.{Op}
 use Rattle.g_graph.specs.declared.op.Op.TheVariants.{Const, Bin, Un, Gamma, Theta}
 use Rattle.g_graph.specs.declared.op.Origin.{Origin}
 use Rattle.g_graph.specs.declared.op.Origin.TheVariants.{Out}
@@ -13,50 +12,44 @@ use Rattle.g_graph.specs.Plain.{RegionTree, region, NodeTree, node, NodeTrees, R
 use Rattle.g_graph.specs.Replace.{region_redirected, origin_replaced}
 use Rattle.g_graph.specs.Splice.{args_to_inputs, region_spliced}
 use Rattle.r_fold.specs.declared.plan.Plan.{Plan}
-use Rattle.r_fold.specs.declared.plan.Plan.TheVariants.{Word, Input, Part}
-use Rattle.r_fold.specs.Rule.{constant, is_word, Folded, word, input, part, bin_folded, gamma_folded, theta_folded, node_set, is_used}
+use Rattle.r_fold.specs.declared.plan.Plan.TheVariants.{Word, Input, Replacement}
+use Rattle.g_graph.specs.Nodes.{constant, node_set, is_used}
+use Rattle.r_fold.specs.Rule.{is_word, Folded, word, input, replacement, bin_folded, gamma_folded, theta_folded}
 
--- the inputs of a part are put in the place of its arguments
+-- the inputs of a replacement are put instead of its arguments
 abbrev pub planned : Folded → Plan
 planned (word w) = Word w
 planned (input a) = Input a
-planned (part r inputs) = Part (region_redirected (args_to_inputs inputs) r)
+planned (replacement r inputs) = Replacement (region_redirected (args_to_inputs inputs) r)
 
-abbrev pub op_of : NodeTree → Op
-op_of (node id op inputs rs) = op
+-- ---- the cases of the rule, by op
 
-abbrev pub op_word : Op → Option ℕ
-op_word (Const w) = Some (w % 2 ^ 32)
-op_word op = None
+abbrev pub bin_case : NodeTrees → Op2 → List Origin → Option Folded
+bin_case nodes op (a ∷ b ∷ []) = bin_folded op a b (constant nodes a) (constant nodes b)
+bin_case nodes op inputs = None
 
--- ---- the rows of the rule, by op
+abbrev pub un_case : NodeTrees → Op1 → List Origin → Option Folded
+un_case nodes op (a ∷ []) = option_map (λ u. word (word1 op u)) (constant nodes a)
+un_case nodes op inputs = None
 
-abbrev pub bin_row : NodeTrees → Op2 → List Origin → Option Folded
-bin_row nodes op (a ∷ b ∷ []) = bin_folded op a b (constant nodes a) (constant nodes b)
-bin_row nodes op inputs = None
+abbrev pub gamma_case : NodeTrees → List Origin → RegionTrees → Option Folded
+gamma_case nodes [] rs = None
+gamma_case nodes (p ∷ entries) rs = gamma_folded rs entries (constant nodes p)
 
-abbrev pub un_row : NodeTrees → Op1 → List Origin → Option Folded
-un_row nodes op (a ∷ []) = option_map (λ u. word (word1 op u)) (constant nodes a)
-un_row nodes op inputs = None
+abbrev pub theta_case : List Origin → RegionTrees → Option Folded
+theta_case inputs (region_then r no_regions) = theta_folded r inputs
+theta_case inputs rs = None
 
-abbrev pub gamma_row : NodeTrees → List Origin → RegionTrees → Option Folded
-gamma_row nodes [] rs = None
-gamma_row nodes (p ∷ entries) rs = gamma_folded rs entries (constant nodes p)
+-- the cases of nodes without regions, and of those with
+abbrev pub plain_case : NodeTrees → NodeTree → Option Folded
+plain_case nodes (node id (Bin op) inputs rs) = bin_case nodes op inputs
+plain_case nodes (node id (Un op) inputs rs) = un_case nodes op inputs
+plain_case nodes (node id op inputs rs) = None
 
-abbrev pub theta_row : List Origin → RegionTrees → Option Folded
-theta_row inputs (region_then r no_regions) = theta_folded r inputs
-theta_row inputs rs = None
-
--- the rows of nodes without regions, and of those with
-abbrev pub plain_row : NodeTrees → NodeTree → Option Folded
-plain_row nodes (node id (Bin op) inputs rs) = bin_row nodes op inputs
-plain_row nodes (node id (Un op) inputs rs) = un_row nodes op inputs
-plain_row nodes (node id op inputs rs) = None
-
-abbrev pub part_row : NodeTrees → NodeTree → Option Folded
-part_row nodes (node id Gamma inputs rs) = gamma_row nodes inputs rs
-part_row nodes (node id Theta inputs rs) = theta_row inputs rs
-part_row nodes (node id op inputs rs) = None
+abbrev pub replacement_case : NodeTrees → NodeTree → Option Folded
+replacement_case nodes (node id Gamma inputs rs) = gamma_case nodes inputs rs
+replacement_case nodes (node id Theta inputs rs) = theta_case inputs rs
+replacement_case nodes (node id op inputs rs) = None
 
 -- whether the predicate is a constant 0 of the region
 abbrev pub runs_once : RegionTree → Bool
@@ -78,4 +71,4 @@ with_input n a r = if is_used (Out n 0) r then Some (region_redirected (origin_r
 abbrev pub carried_out : ℕ → RegionTree → Plan → Option RegionTree
 carried_out n r (Word w) = Some (with_word n w r)
 carried_out n r (Input a) = with_input n a r
-carried_out n r (Part s) = Some (region_spliced n s r)
+carried_out n r (Replacement s) = Some (region_spliced n s r)

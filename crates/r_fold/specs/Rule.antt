@@ -1,39 +1,19 @@
 -- Folding: a node whose inputs are constants becomes what it gives (ISO/IEC 9899:2011, 6.6p10, leaves such evaluation
 -- to the translator).
-use Rattle.std.specs.Prelude.{ℕ, zero, suc, ◌%◌, ◌^◌, ◌==◌, ◌||◌, if◌then◌else◌, Bool, false, List, [], ◌∷◌, Option, None, Some, option_map, option_and_then, is_some}
+use Rattle.std.specs.Prelude.{ℕ, zero, suc, ◌==◌, if◌then◌else◌, Bool, false, List, [], ◌∷◌, Option, None, Some, option_map, option_and_then, is_some}
 use Rattle.val_core.specs.declared.operation.Op2.{Op2}
 use Rattle.val_core.specs.declared.operation.Op2.TheVariants.{Add, Sub, Mul, Or, Xor, Sll, Srl, Sra}
 use Rattle.val_core.specs.Words.{word1, word2}
 use Rattle.g_graph.specs.declared.op.Op.TheVariants.{Const, Bin, Un, Gamma, Theta}
 use Rattle.g_graph.specs.declared.op.Origin.{Origin}
-use Rattle.g_graph.specs.declared.op.Origin.TheVariants.{Arg, Out}
-use Rattle.g_graph.specs.Plain.{RegionTree, region, NodeTree, node, NodeTrees, no_nodes, node_then, RegionTrees, no_regions, region_then, id_of, PlainLambda}
-use Rattle.g_graph.specs.Scope.{same_origin}
-use Rattle.g_graph.specs.WellFormed.{some_of}
+use Rattle.g_graph.specs.declared.op.Origin.TheVariants.{Out}
+use Rattle.g_graph.specs.Plain.{RegionTree, region, NodeTree, node, NodeTrees, RegionTrees, no_regions, region_then, PlainLambda}
 use Rattle.g_graph.specs.Change.{region_changed, lambda_changed}
 use Rattle.g_graph.specs.Replace.{region_redirected, origin_replaced}
 use Rattle.g_graph.specs.Splice.{args_to_inputs, region_spliced}
-
--- the first node of this number
-abbrev pub node_at : ℕ → NodeTrees → Option NodeTree
-node_at n no_nodes = None
-node_at n (node_then x ns) = if id_of x == n then Some x else node_at n ns
-
--- the first node of this number replaced
-abbrev pub node_set : ℕ → NodeTree → NodeTrees → NodeTrees
-node_set n y no_nodes = no_nodes
-node_set n y (node_then x ns) = if id_of x == n then node_then y ns else node_then x (node_set n y ns)
+use Rattle.g_graph.specs.Nodes.{node_at, node_set, constant, is_used}
 
 -- ---- constants
-
-abbrev pub const_word : NodeTree → Option ℕ
-const_word (node id (Const w) inputs rs) = Some (w % 2 ^ 32)
-const_word _ = None
-
--- the word that an origin is, where a Const node of the region gives it
-abbrev pub constant : NodeTrees → Origin → Option ℕ
-constant nodes (Arg k) = None
-constant nodes (Out n p) = if p == 0 then option_and_then const_word (node_at n nodes) else None
 
 abbrev pub is_word : Option ℕ → Option ℕ → Bool
 is_word (Some k) (Some u) = k == u
@@ -55,13 +35,13 @@ right_neutral Srl = Some 0
 right_neutral Sra = Some 0
 right_neutral op = left_neutral op
 
--- ---- what comes in the place of a node
+-- ---- what comes instead of a node
 
 -- a constant; another origin for its uses; or a region, whose arguments are these
 pub data Folded : Type 0 where
   word : ℕ → Folded
   input : Origin → Folded
-  part : RegionTree → (inputs : List Origin) → Folded
+  replacement : RegionTree → (inputs : List Origin) → Folded
 
 abbrev pub bin_folded : Op2 → (a b : Origin) → Option ℕ → Option ℕ → Option Folded
 bin_folded op a b (Some u) (Some v) = Some (word (word2 op u v))
@@ -77,13 +57,13 @@ chosen_region (suc w) (region_then r rs) = chosen_region w rs
 
 abbrev pub gamma_folded : RegionTrees → List Origin → Option ℕ → Option Folded
 gamma_folded rs entries None = None
-gamma_folded rs entries (Some w) = option_map (λ r. part r entries) (chosen_region w rs)
+gamma_folded rs entries (Some w) = option_map (λ r. replacement r entries) (chosen_region w rs)
 
 -- a region that is repeated while a constant 0 is not 0
 abbrev pub theta_folded : RegionTree → List Origin → Option Folded
 theta_folded (region args nodes []) inputs = None
 theta_folded (region args nodes (p ∷ results)) inputs =
-    if is_word (Some 0) (constant nodes p) then Some (part (region args nodes results) inputs) else None
+    if is_word (Some 0) (constant nodes p) then Some (replacement (region args nodes results) inputs) else None
 
 abbrev pub folding : NodeTrees → NodeTree → Option Folded
 folding nodes (node id (Bin op) (a ∷ b ∷ []) rs) = bin_folded op a b (constant nodes a) (constant nodes b)
@@ -94,19 +74,11 @@ folding nodes _ = None
 
 -- ---- the change
 
--- an input of a node of the region or a result of it
-abbrev pub nodes_use : Origin → NodeTrees → Bool
-nodes_use o no_nodes = false
-nodes_use o (node_then (node id op inputs rs) ns) = some_of (same_origin o) inputs || nodes_use o ns
-
-abbrev pub is_used : Origin → RegionTree → Bool
-is_used o (region args nodes results) = nodes_use o nodes || some_of (same_origin o) results
-
 -- Uses are replaced only where there is one.
 abbrev pub folded : ℕ → RegionTree → Folded → Option RegionTree
 folded n (region args nodes results) (word w) = Some (region args (node_set n (node n (Const w) [] no_regions) nodes) results)
 folded n r (input a) = if is_used (Out n 0) r then Some (region_redirected (origin_replaced (Out n 0) a) r) else None
-folded n r (part s inputs) = Some (region_spliced n (region_redirected (args_to_inputs inputs) s) r)
+folded n r (replacement s inputs) = Some (region_spliced n (region_redirected (args_to_inputs inputs) s) r)
 
 -- the region that holds node n, with that node folded, where it can be
 abbrev pub fold_here : ℕ → RegionTree → Option RegionTree

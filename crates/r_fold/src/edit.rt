@@ -1,12 +1,14 @@
 ghost use Rattle.std.specs.Prelude.{◌≡◌, [], MatchBool, IfOk, OnErr, is_some};
 ghost use Rattle.std.specs.declared.option.Option.TheVariants.{Some, None};
 ghost use Rattle.g_graph.specs.Plain.{node, no_regions, nodes_of};
-ghost use Rattle.r_fold.specs.Rule.{node_set};
+ghost use Rattle.g_graph.specs.Nodes.{node_set};
 ghost use Rattle.r_fold.specs.Plan.{with_word, with_input, carried_out};
 
 use crate::plan::Plan;
-use crate::uses::is_used;
-use g_graph::{OriginReplaced, NoMemory, Node, Op, Origin, Region, place_of, redirect_region, splice_region};
+use g_graph::{
+    Node, Op, Origin, OriginReplaced, Region, is_used, redirect_region, set_node, splice_region,
+};
+use no_memory::NoMemory;
 use smallvec::SmallVec;
 use std::alloc::Global;
 
@@ -22,7 +24,10 @@ pub fn can_carry_out(region: &Region, id: u32, plan: &Plan) -> bool
 
 // Carries out the plan for the node, and answers whether it changes the region.
 pub fn carry_out(alloc: Global, region: &mut Region, id: u32, plan: Plan) -> Result<bool, NoMemory>
-    ensures ok { IfOk result (λ done. MatchBool done (carried_out id region.old plan ≡ Some region.new) ((carried_out id region.old plan ≡ None) × (region.new ≡ region.old))) }
+    ensures ok { IfOk result (λ done.
+        MatchBool done (carried_out id region.old plan ≡
+        Some region.new) ((carried_out id region.old plan ≡ None) ×
+        (region.new ≡ region.old))) }
     ensures err { OnErr result (region.new ≡ region.old) }
 {
     match plan {
@@ -31,8 +36,8 @@ pub fn carry_out(alloc: Global, region: &mut Region, id: u32, plan: Plan) -> Res
             Ok(true)
         }
         Plan::Input(origin) => Ok(replace_uses(region, id, origin)),
-        Plan::Part(part) => {
-            splice_region(region, id, part)?;
+        Plan::Replacement(replacement) => {
+            splice_region(region, id, replacement)?;
             Ok(true)
         }
     }
@@ -55,19 +60,11 @@ fn const_node(alloc: Global, id: u32, word: u32) -> Node
     }
 }
 
-// Replaces the first node of the number.
-fn set_node(nodes: &mut Vec<Node>, id: u32, node: Node)
-    ensures { nodes_of nodes.new.items ≡ node_set id node (nodes_of nodes.old.items) }
-{
-    match place_of(nodes, id) {
-        Some(place) => nodes[place] = node,
-        None => (),
-    }
-}
-
 // Replaces the uses of the node's first output, and answers whether there are any.
 fn replace_uses(region: &mut Region, id: u32, origin: Origin) -> bool
-    ensures { MatchBool result (with_input id origin region.old ≡ Some region.new) ((with_input id origin region.old ≡ None) × (region.new ≡ region.old)) }
+    ensures { MatchBool result (with_input id origin region.old ≡
+        Some region.new) ((with_input id origin region.old ≡ None) ×
+        (region.new ≡ region.old)) }
 {
     let from = Origin::Out { node: id, port: 0 };
     if !is_used(region, from) {

@@ -1,7 +1,6 @@
 //! Folding keeps meaning.
 
-ghost use Rattle.r_fold.specs.Laws.{FoldReplaces, FoldKeepsLambdas, FoldKeepsPrograms};
-ghost use Rattle.r_fold.specs.Lists.{FoldKeepsLists};
+ghost use Rattle.r_fold.specs.Laws.{FoldReplaces, FoldKeepsLambdas, FoldKeepsPrograms, FoldKeepsLists};
 
 /// A folded region of a well-formed lambda may replace it.
 pub fn fold_replaces()
@@ -14,7 +13,8 @@ pub fn fold_keeps_meaning()
     ensures program { FoldKeepsPrograms }
 {}
 
-/// A list of lambdas in which every call has its callee stays one where a well-formed lambda of it is folded.
+/// A list of lambdas in which every call has its callee stays one where a well-formed lambda of it
+/// is folded.
 pub fn fold_keeps_lists()
     ensures { FoldKeepsLists }
 {}

@@ -2,12 +2,10 @@
 //! Promise: `apply` gives the folded lambda, and a folded lambda keeps its meaning in any program.
 #![tactic(auto)]
 
-mod constants;
 mod edit;
 pub mod laws;
-mod part;
 mod plan;
+mod replacement;
 mod rule;
-mod uses;
 
 pub use rule::{applies, apply};

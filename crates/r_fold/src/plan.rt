@@ -1,13 +1,12 @@
 ghost use Rattle.std.specs.Prelude.{◌≡◌, option_map};
 ghost use Rattle.g_graph.specs.Plain.{nodes_of};
-ghost use Rattle.r_fold.specs.Rule.{left_neutral, right_neutral, bin_folded};
-ghost use Rattle.r_fold.specs.Plan.{planned, bin_row, un_row, plain_row};
+ghost use Rattle.r_fold.specs.Rule.{is_word, left_neutral, right_neutral, bin_folded};
+ghost use Rattle.r_fold.specs.Plan.{planned, bin_case, un_case, plain_case};
 
-use crate::constants::{constant, is_word};
-use g_graph::{Node, Op, Origin, Region};
+use g_graph::{Node, Op, Origin, Region, constant};
 use val_core::{Op1, Op2, op1, op2};
 
-// What comes in the place of a node.
+// What comes instead of a node.
 #[derive(Drop)]
 pub enum Plan {
     // A constant.
@@ -15,12 +14,12 @@ pub enum Plan {
     // Another origin, for its uses.
     Input(Origin),
     // The nodes and results of a region, whose arguments are origins of the node's region already.
-    Part(Region),
+    Replacement(Region),
 }
 
 // The plan for a node without regions.
 pub fn plain_plan(nodes: &[Node], node: &Node) -> Option<Plan>
-    ensures { result ≡ option_map planned (plain_row (nodes_of nodes.now) node.now) }
+    ensures { result ≡ option_map planned (plain_case (nodes_of nodes.now) node.now) }
 {
     match node.op {
         Op::Bin(op) => bin_plan(nodes, op, node.inputs.as_slice()),
@@ -30,7 +29,7 @@ pub fn plain_plan(nodes: &[Node], node: &Node) -> Option<Plan>
 }
 
 fn bin_plan(nodes: &[Node], op: Op2, inputs: &[Origin]) -> Option<Plan>
-    ensures { result ≡ option_map planned (bin_row (nodes_of nodes.now) op inputs.now) }
+    ensures { result ≡ option_map planned (bin_case (nodes_of nodes.now) op inputs.now) }
 {
     match inputs {
         [a, b] => operands_plan(op, *a, *b, constant(nodes, *a), constant(nodes, *b)),
@@ -39,7 +38,7 @@ fn bin_plan(nodes: &[Node], op: Op2, inputs: &[Origin]) -> Option<Plan>
 }
 
 fn un_plan(nodes: &[Node], op: Op1, inputs: &[Origin]) -> Option<Plan>
-    ensures { result ≡ option_map planned (un_row (nodes_of nodes.now) op inputs.now) }
+    ensures { result ≡ option_map planned (un_case (nodes_of nodes.now) op inputs.now) }
 {
     match inputs {
         [a] => match constant(nodes, *a) {
@@ -92,5 +91,15 @@ fn right_neutral(op: Op2) -> Option<u32>
     match op {
         Op2::Sub | Op2::Sll | Op2::Srl | Op2::Sra => Some(0),
         _ => left_neutral(op),
+    }
+}
+
+// Whether both are the same word.
+pub fn is_word(wanted: Option<u32>, found: Option<u32>) -> bool
+    ensures { result ≡ is_word wanted found }
+{
+    match (wanted, found) {
+        (Some(wanted), Some(found)) => wanted == found,
+        _ => false,
     }
 }

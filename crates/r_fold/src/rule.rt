@@ -2,38 +2,40 @@ ghost use Rattle.std.specs.Prelude.{◌≡◌, MatchBool, IfOk, OnOk, OnErr, IsT
 ghost use Rattle.std.specs.declared.option.Option.TheVariants.{Some, None};
 ghost use Rattle.g_graph.specs.Plain.{nodes_of, nodes_in};
 ghost use Rattle.g_graph.specs.WellFormed.{IsWellFormed};
-ghost use Rattle.r_fold.specs.Rule.{node_at, folding, folded, fold_here, applies, fold};
-ghost use Rattle.r_fold.specs.Laws.{KeepsMeaning};
-ghost use Rattle.r_fold.specs.Lists.{KeepsLists};
+ghost use Rattle.g_graph.specs.Nodes.{node_at};
+ghost use Rattle.g_graph.specs.Program.{KeepsPrograms};
+ghost use Rattle.r_fold.specs.Rule.{folding, folded, fold_here, applies, fold};
+ghost use Rattle.g_mean.specs.Edits.{KeepsMeaning, KeepsComplete};
 ghost use Rattle.r_fold.specs.Plan.{planned};
 
-use crate::constants::node_at;
 use crate::edit::{can_carry_out, carry_out};
-use crate::part::{has_part, part_plan};
 use crate::plan::{Plan, plain_plan};
-use g_graph::{
-    CanChange, Change, Lambda, NoMemory, Node, Region, can_change_lambda, change_lambda,
-};
+use crate::replacement::{has_replacement, replacement_plan};
+use g_graph::{CanChange, Change, Lambda, Node, Region, can_change_lambda, change_lambda, node_at};
+use no_memory::NoMemory;
 use std::alloc::Global;
 
-/// Whether the rule applies at the node of this number: a Bin or Un node whose inputs are constants, or of which one
-/// is neutral where its output is used, a Gamma whose predicate is a constant, or a Theta whose predicate is a constant
-/// 0 of its region. It is false for a number that is not there. It takes no memory, and time linear in the lambda.
+/// Whether the rule applies at the node of this number: a Bin or Un node whose inputs are
+/// constants, or of which one is neutral where its output is used, a Gamma whose predicate is a
+/// constant, or a Theta whose predicate is a constant 0 of its region. It is false for a number
+/// that is not there. It takes no memory, and time linear in the lambda.
 pub fn applies(lambda: &Lambda, node: u32) -> bool
     ensures { result ≡ applies lambda.now node }
 {
     can_change_lambda(lambda, &Folding { node })
 }
 
-/// Folds the node: it becomes the constant that it gives, its uses become uses of the other operand, or the chosen or
-/// repeated region stands in its place. It takes time linear in the lambda. Where memory runs out nothing changes.
+/// Folds the node: it becomes the constant that it gives, its uses become uses of the other
+/// operand, or the chosen or repeated region stands instead of it. It takes time linear in the
+/// lambda. Where memory runs out nothing changes.
 pub fn apply(alloc: Global, lambda: &mut Lambda, node: u32) -> Result<(), NoMemory>
     requires well_formed { IsWellFormed lambda.old }
     requires applies { IsTrue (applies lambda.old node) }
     ensures ok { OnOk result (lambda.new ≡ fold node lambda.old) }
     ensures kept { OnOk result (IsWellFormed lambda.new) }
     ensures meaning { OnOk result (KeepsMeaning lambda.old lambda.new) }
-    ensures list { OnOk result (KeepsLists lambda.old lambda.new) }
+    ensures list { OnOk result (KeepsComplete lambda.old lambda.new) }
+    ensures program { OnOk result (KeepsPrograms lambda.old lambda.new) }
     ensures err { OnErr result (lambda.new ≡ lambda.old) }
 {
     change_lambda(lambda, &mut Fold { alloc, node })?;
@@ -57,13 +59,14 @@ impl CanChange for Folding {
     }
 }
 
-#[tactic(auto, using(crate::proofs::PlanLemmas::folding_rows, crate::proofs::PlanLemmas::carried_out_planned, crate::proofs::PlanLemmas::part_folds))]
+#[tactic(auto, using(crate::proofs::PlanLemmas::folding_cases, crate::proofs::PlanLemmas::carried_out_planned, crate::proofs::PlanLemmas::replacement_folds))]
 fn node_folds(region: &Region, id: u32, node: &Node) -> bool
-    ensures { result ≡ is_some (option_and_then (λ f. folded id region.now f) (folding (nodes_in region.now) node.now)) }
+    ensures { result ≡ is_some (option_and_then (λ f.
+        folded id region.now f) (folding (nodes_in region.now) node.now)) }
 {
     match plain_plan(&region.nodes, node) {
         Some(plan) => can_carry_out(region, id, &plan),
-        None => has_part(&region.nodes, node),
+        None => has_replacement(&region.nodes, node),
     }
 }
 
@@ -86,7 +89,9 @@ impl Change for Fold {
 
 // Folds the node in the region that holds it, where it can be, and answers whether it was.
 fn fold_region(alloc: Global, region: &mut Region, id: u32) -> Result<bool, NoMemory>
-    ensures ok { IfOk result (λ done. MatchBool done (fold_here id region.old ≡ Some region.new) ((fold_here id region.old ≡ None) × (region.new ≡ region.old))) }
+    ensures ok { IfOk result (λ done.
+        MatchBool done (fold_here id region.old ≡
+        Some region.new) ((fold_here id region.old ≡ None) × (region.new ≡ region.old))) }
     ensures err { OnErr result (region.new ≡ region.old) }
 {
     match plan_at(alloc, region, id)? {
@@ -96,7 +101,9 @@ fn fold_region(alloc: Global, region: &mut Region, id: u32) -> Result<bool, NoMe
 }
 
 fn plan_at(alloc: Global, region: &Region, id: u32) -> Result<Option<Plan>, NoMemory>
-    ensures { IfOk result (λ plan. plan ≡ option_map planned (option_and_then (folding (nodes_in region.now)) (node_at id (nodes_in region.now)))) }
+    ensures { IfOk result (λ plan. plan ≡
+        option_map planned (option_and_then (folding (nodes_in region.now))
+        (node_at id (nodes_in region.now)))) }
 {
     match node_at(&region.nodes, id) {
         Some(node) => node_plan(alloc, &region.nodes, node),
@@ -106,10 +113,11 @@ fn plan_at(alloc: Global, region: &Region, id: u32) -> Result<Option<Plan>, NoMe
 
 #[tactic(auto, using(crate::proofs::PlanLemmas::folding_planned))]
 fn node_plan(alloc: Global, nodes: &[Node], node: &Node) -> Result<Option<Plan>, NoMemory>
-    ensures { IfOk result (λ plan. plan ≡ option_map planned (folding (nodes_of nodes.now) node.now)) }
+    ensures { IfOk result (λ plan. plan ≡
+        option_map planned (folding (nodes_of nodes.now) node.now)) }
 {
     match plain_plan(nodes, node) {
         Some(plan) => Ok(Some(plan)),
-        None => part_plan(alloc, nodes, node),
+        None => replacement_plan(alloc, nodes, node),
     }
 }

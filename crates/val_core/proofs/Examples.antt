@@ -2,8 +2,8 @@
 use Rattle.std.proofs.Common.{◌≡◌, ℕ, [], ◌∷◌, None, Some, option_and_then, refl}
 use Rattle.val_core.specs.Values.{BlockName, Num, At, Bad, value2}
 use Rattle.val_core.specs.Memory.{Memory, new_block, load, store, cleared, closed, pointers_equal}
-use Rattle.val_core.specs.Events.{wrote, met, output, deepest}
-use Rattle.val_core.specs.Answers.{Answer, Returned, then_on, active, events}
+use Rattle.val_core.specs.Events.{wrote, took, met, output, deepest}
+use Rattle.val_core.specs.Answers.{Answer, Returned, Undefined, then_on, on_number, active, events}
 use Rattle.val_core.specs.declared.operation.Op2.TheVariants.{Add, Sub, Mul, Sltu, Eq}
 
 -- two objects of twelve bytes, and one of an int and a char
@@ -104,3 +104,13 @@ stacks_are_met = refl
 
 deepest_sum : deepest (λ f. f) (events run) ≡ 10
 deepest_sum = refl
+
+-- what is undefined comes after 65 was written and 10 was taken, within a call
+abbrev stopped : Answer ℕ
+stopped = active 7 (then_on (Returned Bad (wrote 65 ∷ took 10 ∷ [])) (λ x. on_number x (λ w. Returned w (wrote 66 ∷ []))))
+
+undefined_keeps_events : stopped ≡ Undefined (met (7 ∷ []) ∷ wrote 65 ∷ took 10 ∷ [])
+undefined_keeps_events = refl
+
+taken_bytes_are_no_output : output (events stopped) ≡ 65 ∷ []
+taken_bytes_are_no_output = refl

@@ -1,13 +1,8 @@
-pub mod Words
-pub mod ValueLemmas
-pub mod Blocks
-pub mod Cells
-pub mod Stores
-pub mod Lifetimes
-pub mod Sound
-pub mod Events
-pub mod Answers
-pub mod Refinement
-pub mod Within
+mod Blocks
+mod Cells
+mod Stores
+mod Lifetimes
+pub mod lemmas
+mod Within
 pub mod WholeWord
-pub mod Examples
+mod Examples

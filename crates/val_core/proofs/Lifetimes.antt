@@ -3,7 +3,7 @@ use Rattle.std.proofs.Common.{◌≡◌, ℕ, zero, suc, ◌+◌, ◌<◌, ◌�
 use Rattle.std.specs.List.{list_any}
 use Rattle.val_core.specs.Values.{Num}
 use Rattle.val_core.specs.Memory.{Cell, Block, Memory, is_at, value_at, read_block, cell_zeroed, zeroed, dead, closed, shape_of}
-use Rattle.val_core.specs.MemoryLaws.{LoadAfterClear, ClearElsewhere, LoadBesideNew, LoadBesideClosed, ClosedIsDead, ClearKeepsBlocks, ClosedKeepsBlocks}
+use Rattle.val_core.specs.MemoryLaws.{LoadAfterClear, ClearElsewhere, NewBlocksKeepLoads, ClosedBlocksKeepLoads, ClosedIsDead, ClearKeepsBlocks, ClosedKeepsBlocks}
 use Rattle.val_core.proofs.Blocks.{map-changed, named-changed, named-other, named-in}
 
 -- ---- clearing
@@ -42,8 +42,8 @@ get-front [] new n h = absurd (omega arith)
 get-front (k ∷ m) new zero h = refl
 get-front (k ∷ m) new (suc n) h = get-front m new n (omega arith)
 
-pub load_beside_new : LoadBesideNew
-load_beside_new w o b m new h =
+pub new_blocks_keep_loads : NewBlocksKeepLoads
+new_blocks_keep_loads w o b m new h =
     ap (λ found. read_block w o (option_and_then (λ k. cond (k.size == b.size) (Some k) None) found)) (get-front m new b.number h)
 
 -- ---- ends of lifetimes
@@ -70,10 +70,10 @@ get-within zero (suc count) (suc n) (j ∷ m) h k = get-within zero count n m (o
 get-within (suc first) count zero (j ∷ m) h k = absurd (omega arith)
 get-within (suc first) count (suc n) (j ∷ m) h k = get-within first count n m (omega arith) (omega arith)
 
-pub load_beside_closed : LoadBesideClosed
-load_beside_closed w o first count b m (inl h) =
+pub closed_blocks_keep_loads : ClosedBlocksKeepLoads
+closed_blocks_keep_loads w o first count b m (inl h) =
     ap (λ found. read_block w o (option_and_then (λ k. cond (k.size == b.size) (Some k) None) found)) (get-before first count b.number m h)
-load_beside_closed w o first count b m (inr h) =
+closed_blocks_keep_loads w o first count b m (inr h) =
     ap (λ found. read_block w o (option_and_then (λ k. cond (k.size == b.size) (Some k) None) found)) (get-after first count b.number m h)
 
 pub closed_is_dead : ClosedIsDead

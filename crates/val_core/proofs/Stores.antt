@@ -83,7 +83,8 @@ elsewhere-of w w' o p b c (inl ne) same = inl (λ e. ne (ap₂ At same e))
 elsewhere-of w w' o p b c (inr ne) same = inr ne
 
 -- where the block's number is the same, the block that is stored in has the other name, or nothing has it
-read-beside : (w o w' p : ℕ) (b c : BlockName) (u : Value) (m : Memory) (k : Block) (found : Option Block) → Apart w (At b o) w' (At c p) → b.number ≡ c.number → block_named b m ≡ Some k → block_named c m ≡ found →
+read-beside : (w o w' p : ℕ) (b c : BlockName) (u : Value) (m : Memory) (k : Block) (found : Option Block) → Apart w (At b o) w' (At c p) → b.number ≡ c.number → block_named b m ≡ Some k →
+    block_named c m ≡ found →
     read_block w' p (option_map (written w o u) found) ≡ read_block w' p found
 read-beside w o w' p b c u m k None apart n is is' = refl
 read-beside w o w' p b c u m k (Some j) apart n is is' =

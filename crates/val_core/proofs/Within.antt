@@ -3,7 +3,7 @@ use Rattle.std.proofs.Common.{◌≡◌, List, Option, None, Some, refl, sym, ap
 use Rattle.val_core.specs.Values.{Value, IsLessDefined}
 use Rattle.val_core.specs.Within.{Behaviour, Returns, Running, Terminates, Fails, Within, Given, GivenRefines, IsLessDefinedOption}
 use Rattle.val_core.specs.RunLaws.{WithinItself, WithinComposes, TerminatedIsEqual, FailedIsApart}
-use Rattle.val_core.proofs.Events.{prefix-self, prefixes_compose}
+use Rattle.val_core.proofs.lemmas.Events.{prefix-self, prefixes_compose}
 use Rattle.val_core.specs.Events.{IsPrefixOf}
 
 pub within_itself : {A : Type 0} → WithinItself A
@@ -61,5 +61,6 @@ pub less-option-composes : (x : Option Value) (y z : Value) → IsLessDefinedOpt
 less-option-composes None y z h k = tt
 less-option-composes (Some x) y z h k = less-composes x y z h k
 
-pub gives-refine-composes : {V W X : Type 0} (M : V → W → Type 0) (N : W → X → Type 0) (L : V → X → Type 0) → ((x : V) (y : W) (z : X) → M x y → N y z → L x z) → (x : Given V) (y : Given W) (z : Given X) → GivenRefines M x y → GivenRefines N y z → GivenRefines L x z
+pub gives-refine-composes : {V W X : Type 0} (M : V → W → Type 0) (N : W → X → Type 0) (L : V → X → Type 0) → ((x : V) (y : W) (z : X) → M x y → N y z → L x z) →
+    (x : Given V) (y : Given W) (z : Given X) → GivenRefines M x y → GivenRefines N y z → GivenRefines L x z
 gives-refine-composes M N L join x y z h k = (join x.value y.value z.value h.0 k.0, h.1 ∙ k.1, h.2 ∙ k.2)

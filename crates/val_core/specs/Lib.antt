@@ -2,6 +2,7 @@ pub mod Words
 pub mod Values
 pub mod Kept
 pub mod Memory
+pub mod Objects
 pub mod Events
 pub mod Answers
 pub mod Refinement

@@ -1,11 +1,12 @@
 -- Laws of memory.
-use Rattle.std.specs.Prelude.{◌≡◌, ◌≢◌, ℕ, ◌+◌, ◌<◌, ◌≤◌, ◌⊎◌, true, false, ◌++◌, map, length, None, Some, option_map, option_and_then}
+use Rattle.std.specs.Prelude.{◌≡◌, ◌≢◌, ℕ, ◌+◌, ◌<◌, ◌≤◌, ◌⊎◌, true, false, List, ◌++◌, map, length, None, Some, option_map, option_and_then}
 use Rattle.std.specs.List.{list_any}
 use Rattle.std.specs.Option.{IfSome}
 use Rattle.val_core.specs.Values.{BlockName, Value, Num, At, IsSound}
-use Rattle.val_core.specs.Memory.{Block, Memory, is_at, block_named, load, kept, store, dead, cleared, closed, shape_of, IsSoundMemory}
+use Rattle.val_core.specs.Memory.{Block, Memory, BlockShape, is_at, block_named, load, kept, store, dead, cleared, closed, shape_of, IsSoundMemory}
+use Rattle.val_core.specs.Objects.{opened, address_in}
 
--- two places to store at: another address or another width
+-- two leaves to store at: another address or another width
 abbrev pub Apart : (width : ℕ) → Value → (width' : ℕ) → Value → Type 0
 Apart width a width' a' = (a ≢ a') ⊎ (width ≢ width')
 
@@ -67,14 +68,14 @@ ClearKeepsBlocks =
     (map shape_of (cleared b m) ≡ map shape_of m) × (map (λ k. k.live) (cleared b m) ≡ map (λ k. k.live) m) × (map (λ k. k.fixed) (cleared b m) ≡ map (λ k. k.fixed) m)
 
 -- new blocks after the others change nothing that is held
-abbrev pub LoadBesideNew : Type 0
-LoadBesideNew =
+abbrev pub NewBlocksKeepLoads : Type 0
+NewBlocksKeepLoads =
     (width offset : ℕ) (b : BlockName) (m new : Memory) → b.number < length m →
     load width (At b offset) (m ++ new) ≡ load width (At b offset) m
 
 -- the end of some blocks' lifetimes changes nothing that the others hold
-abbrev pub LoadBesideClosed : Type 0
-LoadBesideClosed =
+abbrev pub ClosedBlocksKeepLoads : Type 0
+ClosedBlocksKeepLoads =
     (width offset first count : ℕ) (b : BlockName) (m : Memory) → (b.number < first) ⊎ (first + count ≤ b.number) →
     load width (At b offset) (closed first count m) ≡ load width (At b offset) m
 
@@ -94,13 +95,21 @@ ClosedKeepsBlocks =
 abbrev pub LoadIsSound : Type 0
 LoadIsSound = (width : ℕ) (a : Value) (m : Memory) → IsSoundMemory m → IfSome (load width a m) IsSound
 
--- a memory stays sound where a sound value is stored, at a width of up to 4
+-- a memory stays sound where a sound value is stored
 abbrev pub StoreIsSound : Type 0
 StoreIsSound =
-    (width : ℕ) (a v : Value) (m : Memory) → width ≤ 4 → IsSoundMemory m → IsSound v → IfSome (store width a v m) IsSoundMemory
+    (width : ℕ) (a v : Value) (m : Memory) → IsSoundMemory m → IsSound v → IfSome (store width a v m) IsSoundMemory
 
 abbrev pub ClearIsSound : Type 0
 ClearIsSound = (b : BlockName) (m : Memory) → IsSoundMemory m → IsSoundMemory (cleared b m)
 
 abbrev pub ClosedIsSound : Type 0
 ClosedIsSound = (first count : ℕ) (m : Memory) → IsSoundMemory m → IsSoundMemory (closed first count m)
+
+-- a memory stays sound where a call's objects are opened after its blocks
+abbrev pub OpenedIsSound : Type 0
+OpenedIsSound = (shapes : List BlockShape) (m : Memory) → IsSoundMemory m → IsSoundMemory (m ++ opened shapes)
+
+-- and the addresses of blocks of given sizes are sound
+abbrev pub AddressesAreSound : Type 0
+AddressesAreSound = (base : ℕ) (sizes : List ℕ) (k : ℕ) → IsSound (address_in base sizes k)

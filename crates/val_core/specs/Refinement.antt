@@ -30,13 +30,13 @@ no_deeper =
 
 -- What is undefined on the nearer side excuses everything on the farther one. `R` relates the results.
 abbrev pub Refines : Comparison → Direction → {A B : Type 0} → (A → B → Type 0) → Answer A → Answer B → Type 0
-Refines c direction R Undefined b = Unit {0}
+Refines c direction R (Undefined o) b = Unit {0}
 Refines c direction R (Returned x o) (Returned y p) = R x y × c.Same o p
 Refines c direction R (Exited o s) (Exited p t) = c.Same o p × (s ≡ t)
 Refines c Forward R (Cut o) (Returned y p) = c.NearIsPrefix o p
 Refines c Forward R (Cut o) (Exited p t) = c.NearIsPrefix o p
 Refines c Forward R (Cut o) (Cut p) = c.NearIsPrefix o p
-Refines c Forward R (Cut o) Undefined = Unit {0}
+Refines c Forward R (Cut o) (Undefined p) = Unit {0}
 Refines c Backward R (Returned x o) (Cut p) = c.FarIsPrefix o p
 Refines c Backward R (Exited o s) (Cut p) = c.FarIsPrefix o p
 Refines c Backward R (Cut o) (Cut p) = c.FarIsPrefix o p

@@ -44,14 +44,14 @@ abbrev pub ForwardIsWithin : (c : Comparison) (A B : Type 0) → (A → B → Ty
 ForwardIsWithin c A B R =
     (a : Answer A) (b : Answer B) → Refines c Forward R a b → (IsUndefined a → ⊥) → (IsUndefined b → ⊥) → Within R (behaviour a) (behaviour b)
 
--- Where the farther side is cut first and the nearer one is not wrong, the farther one is within it.
+-- Where the farther side is cut first and the nearer one is defined, the farther one is within it.
 abbrev pub BackwardIsWithin : (c : Comparison) (A B : Type 0) → (A → B → Type 0) → Type 0
 BackwardIsWithin c A B R =
     (a : Answer A) (b : Answer B) → Refines c Backward R a b → (IsUndefined a → ⊥) → Within (λ y x. R x y) (behaviour b) (behaviour a)
 
--- The farther side is then not wrong either,
-abbrev pub BackwardIsRight : (c : Comparison) (A B : Type 0) → (A → B → Type 0) → Type 0
-BackwardIsRight c A B R =
+-- The farther side is then defined too,
+abbrev pub BackwardIsDefined : (c : Comparison) (A B : Type 0) → (A → B → Type 0) → Type 0
+BackwardIsDefined c A B R =
     (a : Answer A) (b : Answer B) → Refines c Backward R a b → (IsUndefined a → ⊥) → IsUndefined b → ⊥
 
 -- and meets no deeper stacks.

@@ -13,7 +13,7 @@ GivesWord2 = (op : Op2) (a b : ℕ) → a < 2 ^ 32 → b < 2 ^ 32 → word2 op a
 abbrev pub GivesWord1 : Type 0
 GivesWord1 = (op : Op1) (a : ℕ) → a < 2 ^ 32 → word1 op a < 2 ^ 32
 
--- an operation on near values gives near values
+-- an operation on less defined values gives a less defined value
 abbrev pub KeepsLessDefined2 : Type 0
 KeepsLessDefined2 =
     (op : Op2) (x x' y y' : Value) → IsLessDefined x x' → IsLessDefined y y' → IsLessDefined (value2 op x y) (value2 op x' y')

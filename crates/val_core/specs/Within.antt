@@ -5,8 +5,8 @@ use Rattle.val_core.specs.Memory.{Memory}
 use Rattle.val_core.specs.Events.{output, IsPrefixOf}
 use Rattle.val_core.specs.Answers.{Answer, Returned, Cut, Exited, Undefined}
 
--- What a bounded run shows. Returned: the function gave a result back. Going: the bound did not suffice. Finished: the
--- program ended, with a status. Failed: the run has no meaning, or stopped in another way.
+-- What a bounded run shows. Returns: the function gave a result back. Running: the bound did not suffice. Terminates:
+-- the program ended, with a status. Fails: the run has no meaning, or stopped in another way.
 pub data Behaviour (A : Type 0) : Type 0 where
   Returns : (result : A) → (output : List ℕ) → Behaviour A
   Running : (output : List ℕ) → Behaviour A
@@ -17,10 +17,10 @@ abbrev pub behaviour : {A : Type 0} → Answer A → Behaviour A
 behaviour (Returned x o) = Returns x (output o)
 behaviour (Cut o) = Running (output o)
 behaviour (Exited o status) = Terminates (output o) status
-behaviour Undefined = Fails
+behaviour (Undefined o) = Fails
 
--- The first run is within the second: both ended alike, or the first is going and has written what the second begins
--- with. `R` relates the results.
+-- The first run is within the second: both ended in the same way, or the first is running and its output is a prefix of
+-- the second's. `R` relates the results.
 abbrev pub Within : {A B : Type 0} → (A → B → Type 0) → Behaviour A → Behaviour B → Type 0
 Within R (Returns x o) (Returns y p) = R x y × (o ≡ p)
 Within R (Terminates o s) (Terminates p t) = (o ≡ p) × (s ≡ t)

@@ -1,5 +1,5 @@
-//! Laws of words, values, memory, answers and runs, for the proofs of the crates above: each is the contract of a
-//! function that does nothing.
+//! Laws of words, values, memory, answers and runs, for the proofs of the crates above: each is the
+//! contract of a function that does nothing.
 
 pub mod answers;
 pub mod memory;

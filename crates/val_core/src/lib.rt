@@ -1,14 +1,12 @@
 //! What a 32-bit operation gives on words and on values, and what runs of programs are compared by.
-//! Nearly every crate of the compiler stands on it; it stands on no other crate and takes no memory.
-//! Promise: `op1` and `op2` give the word that the arithmetic of whole numbers says, and the laws of values, memory,
-//! answers and runs hold as stated.
+//! Nearly every crate of the compiler stands on it; it stands on no other crate and takes no
+//! memory. Promise: `op1` and `op2` give the word that the arithmetic of whole numbers says, and
+//! the laws of values, memory, answers and runs hold as stated.
 #![tactic(auto)]
 
 pub mod laws;
 mod leaf;
 mod operation;
-#[cfg(test)]
-mod tests;
 mod values;
 mod word;
 

@@ -1,5 +1,5 @@
 /// An operation on two words.
-#[derive(Clone, Copy, PartialEq, Eq, Debug)]
+#[derive(Clone, Copy, PartialEq, Eq, Hash, Debug)]
 pub enum Op2 {
     Add,
     Sub,
@@ -25,7 +25,7 @@ pub enum Op2 {
 }
 
 /// An operation on one word.
-#[derive(Clone, Copy, PartialEq, Eq, Debug)]
+#[derive(Clone, Copy, PartialEq, Eq, Hash, Debug)]
 pub enum Op1 {
     Sext8,
     Zext8,

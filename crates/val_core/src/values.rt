@@ -5,15 +5,16 @@ ghost use Rattle.val_core.specs.Kept.{kept};
 use crate::operation::{Op1, Op2};
 use crate::word::{op1, op2};
 
-/// The name of a block of memory, which holds one object: its number and the object's size in bytes.
+/// The name of a block of memory, which holds one object: its number and the object's size in
+/// bytes.
 #[derive(Clone, Copy, PartialEq, Eq, Debug)]
 pub struct BlockName {
     pub number: u64,
     pub size: u32,
 }
 
-/// A value: a word, the address of a byte of a block or of its end, or what has no meaning. The null pointer is the
-/// word 0 (ISO/IEC 9899:2011, 6.2.4, 6.3.2.3).
+/// A value: a word, the address of a byte of a block or of its end, or what has no meaning. The
+/// null pointer is the word 0 (ISO/IEC 9899:2011, 6.2.4, 6.3.2.3).
 #[derive(Clone, Copy, PartialEq, Eq, Debug)]
 pub enum Value {
     Num(u32),
@@ -23,8 +24,8 @@ pub enum Value {
 
 /// What the operation gives on two values (6.5.6, 6.5.8).
 ///
-/// Words are added to addresses and subtracted from them, up to one past the block's last byte; two addresses in one
-/// block are subtracted and compared. All else that is no word gives `Bad`.
+/// Words are added to addresses and subtracted from them, up to one past the block's last byte; two
+/// addresses in one block are subtracted and compared. All else that is no word gives `Bad`.
 pub fn value2(op: Op2, x: Value, y: Value) -> Value
     ensures { result ≡ value2 op x y }
 {
@@ -60,8 +61,8 @@ pub fn value1(op: Op1, x: Value) -> Value
     }
 }
 
-/// What a leaf of this width, in bytes, keeps of a value: the low bits of a word, an address where it has four bytes,
-/// and nothing of what has no meaning.
+/// What a leaf of this width, in bytes, keeps of a value: the low bits of a word, an address where
+/// it has four bytes, and nothing of what has no meaning.
 #[tactic(auto, using(crate::proofs::WholeWord::whole_word))]
 pub fn kept(width: u8, x: Value) -> Option<Value>
     ensures { result ≡ kept width x }

@@ -3,12 +3,12 @@ ghost use Rattle.val_core.specs.Words.{word1, word2, quotient, remainder, shifte
 
 use crate::operation::{Op1, Op2};
 
-/// The word that the operation gives on two words (ISO/IEC 9899:2011, 6.5; RISC-V Unprivileged ISA 20191213, section
-/// 2.4 and chapter 7).
+/// The word that the operation gives on two words (ISO/IEC 9899:2011, 6.5; RISC-V Unprivileged ISA
+/// 20191213, section 2.4 and chapter 7).
 ///
-/// Sums, differences and products are modulo 2^32. Division by 0 gives 2^32 - 1 and the dividend as remainder. The
-/// quotient of -2^31 by -1 is 2^31 as a word, and the remainder 0. A shift is by the low five bits of `b`. Comparisons
-/// give 1 or 0.
+/// Sums, differences and products are modulo 2^32. Division by 0 gives 2^32 - 1 and the dividend as
+/// remainder. The quotient of -2^31 by -1 is 2^31 as a word, and the remainder 0. A shift is by the
+/// low five bits of `b`. Comparisons give 1 or 0.
 pub fn op2(op: Op2, a: u32, b: u32) -> u32
     ensures { result ≡ word2 op a b }
 {
@@ -33,7 +33,8 @@ pub fn op2(op: Op2, a: u32, b: u32) -> u32
     }
 }
 
-/// The word that the operation gives on one word: its low 8 or 16 bits, sign-extended or zero-extended.
+/// The word that the operation gives on one word: its low 8 or 16 bits, sign-extended or
+/// zero-extended.
 pub fn op1(op: Op1, a: u32) -> u32
     ensures { result ≡ word1 op a }
 {

@@ -1,6 +1,6 @@
 //! Laws of memory.
 
-ghost use Rattle.val_core.specs.MemoryLaws.{LoadAfterStore, LoadElsewhere, StoreTwice, StoresCommute, StoreKeepsBlocks, DeadIsUndefined, FixedIsUndefined, LoadAfterClear, ClearElsewhere, ClearKeepsBlocks, LoadBesideNew, LoadBesideClosed, ClosedIsDead, ClosedKeepsBlocks, LoadIsSound, StoreIsSound, ClearIsSound, ClosedIsSound};
+ghost use Rattle.val_core.specs.MemoryLaws.{LoadAfterStore, LoadElsewhere, StoreTwice, StoresCommute, StoreKeepsBlocks, DeadIsUndefined, FixedIsUndefined, LoadAfterClear, ClearElsewhere, ClearKeepsBlocks, NewBlocksKeepLoads, ClosedBlocksKeepLoads, ClosedIsDead, ClosedKeepsBlocks, LoadIsSound, StoreIsSound, ClearIsSound, ClosedIsSound, OpenedIsSound, AddressesAreSound};
 
 /// A leaf holds what was stored there, as far as it keeps it.
 pub fn load_after_store()
@@ -52,14 +52,14 @@ pub fn clear_keeps_blocks()
     ensures { ClearKeepsBlocks }
 {}
 
-/// New blocks after the others change nothing that is held.
-pub fn load_beside_new()
-    ensures { LoadBesideNew }
+/// New blocks after the others change no load from these.
+pub fn new_blocks_keep_loads()
+    ensures { NewBlocksKeepLoads }
 {}
 
-/// The end of some blocks' lifetimes changes nothing that the others hold.
-pub fn load_beside_closed()
-    ensures { LoadBesideClosed }
+/// The end of some blocks' lifetimes changes no load from the others.
+pub fn closed_blocks_keep_loads()
+    ensures { ClosedBlocksKeepLoads }
 {}
 
 /// The blocks whose lifetimes were ended are dead.
@@ -90,4 +90,11 @@ pub fn clear_is_sound()
 /// A memory stays sound where lifetimes end.
 pub fn closed_is_sound()
     ensures { ClosedIsSound }
+{}
+
+/// A memory stays sound where the objects of a call get their blocks, and the addresses of these
+/// are sound.
+pub fn opened_is_sound()
+    ensures memory { OpenedIsSound }
+    ensures addresses { AddressesAreSound }
 {}

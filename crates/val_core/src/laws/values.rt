@@ -12,12 +12,12 @@ pub fn gives_word1()
     ensures { GivesWord1 }
 {}
 
-/// An operation on values gives what is near to its value on near values.
+/// An operation on less defined values gives a less defined value.
 pub fn keeps_less_defined2()
     ensures { KeepsLessDefined2 }
 {}
 
-/// An operation on a value gives what is near to its value on a near value.
+/// An operation on a less defined value gives a less defined value.
 pub fn keeps_less_defined1()
     ensures { KeepsLessDefined1 }
 {}

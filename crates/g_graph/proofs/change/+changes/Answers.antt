@@ -35,7 +35,8 @@ change_nodes-loop-i-preserved g t c =
       unvisited = (ap length all, λ k d b. ap (λ zs. get_or zs k d) all);
       same = all;
       same_change = kept.2 ∙ c.loop-i.invariant.same_change;
-      none = ap (λ zs. nodes_changed f (nodes_of (take (c.loop-i.i + 1) zs))) (sym same) ∙ nodes_unchanged_more f c.loop-i.nodes.items c.loop-i.i c.index_mut.result.now within c.index_mut.ensures.value none here;
+      none = ap (λ zs. nodes_changed f (nodes_of (take (c.loop-i.i + 1) zs))) (sym same) ∙ nodes_unchanged_more f c.loop-i.nodes.items c.loop-i.i c.index_mut.result.now within
+          c.index_mut.ensures.value none here;
     }
 
 pub change_regions-returns-then-branch-clause-ok : goal.change_regions-returns-then-branch-clause-ok
@@ -47,7 +48,8 @@ change_regions-returns-then-branch-clause-ok g t c =
     ∙ when_true _ _ c.in_ok-change_region.field-0 c.if-branch.true c.in_ok-change_region.ensures.ok in
     let none : regions_changed f (regions_of (take c.loop-i.i c.loop-i.regions.items)) ≡ None = ap (λ zs. regions_changed f (regions_of (take c.loop-i.i zs))) same ∙ c.loop-i.invariant.none in
     let within : c.loop-i.i < length c.loop-i.regions.items = omega (arith, ap length same, c.args.regions.now.ok.0) in
-    ap (λ zs. regions_changed f (regions_of zs)) (sym same) ∙ regions_changed_at f c.loop-i.regions.items c.loop-i.i c.index_mut.result.now c.change_region.new.region within c.index_mut.ensures.value none here
+    ap (λ zs. regions_changed f (regions_of zs)) (sym same) ∙ regions_changed_at f c.loop-i.regions.items c.loop-i.i c.index_mut.result.now c.change_region.new.region within
+    c.index_mut.ensures.value none here
 
 pub change_regions-loop-i-preserved : goal.change_regions-loop-i-preserved
 change_regions-loop-i-preserved g t c =
@@ -63,5 +65,6 @@ change_regions-loop-i-preserved g t c =
       unvisited = (ap length all, λ k d b. ap (λ zs. get_or zs k d) all);
       same = all;
       same_change = kept.2 ∙ c.loop-i.invariant.same_change;
-      none = ap (λ zs. regions_changed f (regions_of (take (c.loop-i.i + 1) zs))) (sym same) ∙ regions_unchanged_more f c.loop-i.regions.items c.loop-i.i c.index_mut.result.now within c.index_mut.ensures.value none here;
+      none = ap (λ zs. regions_changed f (regions_of (take (c.loop-i.i + 1) zs))) (sym same) ∙ regions_unchanged_more f c.loop-i.regions.items c.loop-i.i c.index_mut.result.now within
+          c.index_mut.ensures.value none here;
     }

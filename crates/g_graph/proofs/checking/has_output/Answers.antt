@@ -1,6 +1,6 @@
 use Rattle.std.proofs.Common.{sym, ap, ◌∙◌}
 use Rattle.std.specs.Prelude.{nat_lt}
-use Rattle.g_graph.specs.Rows.{output_kinds}
+use Rattle.g_graph.specs.Signatures.{output_kinds}
 use Rattle.g_graph.proofs.KindLemmas.{some_of_count}
 use Rattle.g_graph.proofs.checking.has_output.Goals as goal
 

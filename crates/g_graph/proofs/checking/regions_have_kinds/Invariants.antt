@@ -1,6 +1,6 @@
 use Rattle.std.proofs.Common.{◌≡◌, ◌&&◌, drop}
 use Rattle.g_graph.specs.Plain.{RegionTree, regions_of, args_of}
-use Rattle.g_graph.specs.Rows.{result_kinds}
+use Rattle.g_graph.specs.Signatures.{result_kinds}
 use Rattle.g_graph.specs.WellFormed.{all_regions, same, are, kinds_of}
 use Rattle.g_graph.proofs.checking.regions_have_kinds.Given as goal
 

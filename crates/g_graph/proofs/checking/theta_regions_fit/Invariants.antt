@@ -1,7 +1,7 @@
 use Rattle.std.proofs.Common.{◌≡◌, ◌∷◌, drop}
 use Rattle.g_graph.specs.declared.op.Kind.TheVariants.{Value}
 use Rattle.g_graph.specs.Plain.{regions_of, args_of}
-use Rattle.g_graph.specs.Rows.{result_kinds}
+use Rattle.g_graph.specs.Signatures.{result_kinds}
 use Rattle.g_graph.specs.WellFormed.{all_regions, are}
 use Rattle.g_graph.proofs.checking.theta_regions_fit.Given as goal
 

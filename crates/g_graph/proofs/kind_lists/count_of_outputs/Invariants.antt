@@ -1,6 +1,6 @@
 use Rattle.std.proofs.Common.{◌≡◌, ◌+◌, ◌≤◌, drop}
 use Rattle.std.specs.Prelude.{count_by}
-use Rattle.g_graph.specs.Rows.{output_kinds}
+use Rattle.g_graph.specs.Signatures.{output_kinds}
 use Rattle.g_graph.specs.Scope.{is_of}
 use Rattle.g_graph.proofs.kind_lists.count_of_outputs.Given as goal
 

@@ -10,6 +10,6 @@ returns c =
     let f = known c.args.args.now (nodes_of c.args.before.now) in
     let g = known c.args.other_args.now (nodes_of c.args.other.now) in
     let none : drop c.loop-origin.origin-index c.args.wanted.now ≡ [] = drop_of_length-le c.args.wanted.now c.loop-origin-test.false in
-    sym (are_none f c.args.origins.now c.loop-origin.place (omega arith))
-    ∙ ap (λ ws. are (map f (drop c.loop-origin.place c.args.origins.now)) (kinds_of (map g ws))) (sym none)
+    sym (are_none f c.args.origins.now c.loop-origin.index (omega arith))
+    ∙ ap (λ ws. are (map f (drop c.loop-origin.index c.args.origins.now)) (kinds_of (map g ws))) (sym none)
     ∙ c.loop-origin.invariant.0

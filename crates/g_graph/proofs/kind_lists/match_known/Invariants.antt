@@ -6,6 +6,6 @@ use Rattle.g_graph.proofs.kind_lists.match_known.Given as goal
 
 abbrev pub invariant-loop-origin : goal.invariant-loop-origin
 invariant-loop-origin l =
-    (are (map (known l.args (nodes_of l.before)) (drop l.place l.origins)) (kinds_of (map (known l.other_args (nodes_of l.other)) (drop l.origin-index l.wanted)))
+    (are (map (known l.args (nodes_of l.before)) (drop l.index l.origins)) (kinds_of (map (known l.other_args (nodes_of l.other)) (drop l.origin-index l.wanted)))
     ≡ are (map (known l.args (nodes_of l.before)) l.origins) (kinds_of (map (known l.other_args (nodes_of l.other)) l.wanted)))
-    × (l.place ≤ length l.origins)
+    × (l.index ≤ length l.origins)

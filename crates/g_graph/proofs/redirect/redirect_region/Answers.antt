@@ -3,7 +3,7 @@ use Rattle.std.specs.Vec.{with_items}
 use Rattle.std.proofs.lemmas.List.{with_items_is}
 use Rattle.g_graph.specs.Plain.{region, nodes_of}
 use Rattle.g_graph.specs.Replace.{nodes_redirected, region_redirected}
-use Rattle.g_graph.proofs.ReplaceLemmas.{nodes_of-redirected}
+use Rattle.g_graph.proofs.lemmas.Redirects.{nodes_of-redirected}
 use Rattle.g_graph.proofs.redirect.redirect_region.Goals as goal
 
 pub returns : goal.returns

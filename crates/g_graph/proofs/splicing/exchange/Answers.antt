@@ -8,9 +8,9 @@ pub returns-clause-ok : goal.returns-clause-ok
 returns-clause-ok c =
     let given = c.in_ok-splice.ensures.items in
     let drained = given.3 in
-    let from_part = YieldsList-from_vec {s = given.0} c.args.part.items given.2.0 (given.2.1 ∙ c.args.part.ok.0) in
-    let same : given.1 ≡ c.args.part.items =
-    sym (map-id given.1) ∙ items_from_drains given.1 (drained.1.0, drained.1.1, λ _. (drained.0, drained.1.2)) from_part in
-    let front = take c.args.place c.args.nodes.now.items in
-    let back = drop (c.args.place + 1) c.args.nodes.now.items in
-    given.4 ∙ ap (λ ys. front ++ (ys ++ back)) same ∙ sym (append_assoc front c.args.part.items back)
+    let from_replacement = YieldsList-from_vec {s = given.0} c.args.replacement.items given.2.0 (given.2.1 ∙ c.args.replacement.ok.0) in
+    let same : given.1 ≡ c.args.replacement.items =
+    sym (map-id given.1) ∙ items_from_drains given.1 (drained.1.0, drained.1.1, λ _. (drained.0, drained.1.2)) from_replacement in
+    let front = take c.args.index c.args.nodes.now.items in
+    let back = drop (c.args.index + 1) c.args.nodes.now.items in
+    given.4 ∙ ap (λ ys. front ++ (ys ++ back)) same ∙ sym (append_assoc front c.args.replacement.items back)

@@ -4,28 +4,28 @@ use Rattle.c_type.specs.LaidUpTo.{IsLaid}
 use Rattle.c_type.specs.WellDefined.{AreLaidOut}
 use Rattle.c_type.specs.Structs.{definitions_of}
 use Rattle.c_type.specs.declared.structs.Struct.{Struct}
-use Rattle.c_type.proofs.Places.{indexed-pads}
+use Rattle.c_type.proofs.Indices.{indexed-pads}
 use Rattle.c_type.proofs.Defined.{definition_of, definitions-more, indexed-define}
 use Rattle.c_type.proofs.structs.Types.define.Goals as goal
 
 pub invariant_of-self : goal.invariant_of-self
-invariant_of-self c = indexed-pads _ _ _ c.make_place.ensures.pads c.self.invariant
+invariant_of-self c = indexed-pads _ _ _ c.make_index.ensures.pads c.self.invariant
 
 pub invariant_of-self-in_err-push : goal.invariant_of-self-in_err-push
-invariant_of-self-in_err-push c = rw c.in_err-push.ensures.items (indexed-pads _ _ _ c.make_place.ensures.pads c.self.invariant)
+invariant_of-self-in_err-push c = rw c.in_err-push.ensures.items (indexed-pads _ _ _ c.make_index.ensures.pads c.self.invariant)
 
 pub invariant_of-self-2 : goal.invariant_of-self-2
 invariant_of-self-2 c =
     let defs = definitions_of [] c.self.inside.structs.items in
     let v = sym c.self.view_is in
     let s : Struct = record { tag = c.args.tag; members = c.args.members; offsets = c.in_ok-layout.layout.offsets; size = c.in_ok-layout.layout.size; align = c.in_ok-layout.layout.align } in
-    let indexed = indexed-pads _ _ _ c.make_place.ensures.pads c.self.invariant in
+    let indexed = indexed-pads _ _ _ c.make_index.ensures.pads c.self.invariant in
     let new = subst (λ d. is_defined d c.args.tag ≡ false) v c.requires.new in
     let laid = subst (λ d. AreLaidOut d c.args.members.items) v c.requires.laid_out in
     let own = rw c.deref.ensures.value at c.in_ok-layout.ensures.ok in
     let layout = subst (λ d. IsLaid d c.args.members.items s.offsets.items s.size s.align) v own in
     rw c.in_ok-push.ensures.items
-    (indexed-define c.make_place.new.places.items c.self.inside.structs.items s c.in_ok-place.place indexed c.in_ok-place.ensures.ok.0 c.in_ok-place.ensures.ok.1 c.in_ok-make_place.ensures.room new c.requires.some laid layout)
+    (indexed-define c.make_index.new.indices.items c.self.inside.structs.items s c.in_ok-index.index indexed c.in_ok-index.ensures.ok.0 c.in_ok-index.ensures.ok.1 c.in_ok-make_index.ensures.room new c.requires.some laid layout)
 
 pub returns-clause-ok : goal.returns-clause-ok
 returns-clause-ok c =

@@ -1,4 +1,4 @@
-use Rattle.val_core.proofs.Answers.{before_twice}
+use Rattle.val_core.proofs.lemmas.Answers.{before_twice}
 use Rattle.val_core.proofs.laws.answers.before_twice.Goals as goal
 
 pub returns : goal.returns

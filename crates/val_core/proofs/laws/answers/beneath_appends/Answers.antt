@@ -1,4 +1,4 @@
-use Rattle.val_core.proofs.Events.{beneath_appends}
+use Rattle.val_core.proofs.lemmas.Events.{beneath_appends}
 use Rattle.val_core.proofs.laws.answers.beneath_appends.Goals as goal
 
 pub returns : goal.returns

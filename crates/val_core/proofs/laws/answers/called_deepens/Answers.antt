@@ -1,4 +1,4 @@
-use Rattle.val_core.proofs.Events.{called_deepens}
+use Rattle.val_core.proofs.lemmas.Events.{called_deepens}
 use Rattle.val_core.proofs.laws.answers.called_deepens.Goals as goal
 
 pub returns : goal.returns

@@ -1,4 +1,4 @@
-use Rattle.val_core.proofs.Events.{called_keeps_output}
+use Rattle.val_core.proofs.lemmas.Events.{called_keeps_output}
 use Rattle.val_core.proofs.laws.answers.called_keeps_output.Goals as goal
 
 pub returns : goal.returns

@@ -1,4 +1,4 @@
-use Rattle.val_core.proofs.Events.{deepest_appends}
+use Rattle.val_core.proofs.lemmas.Events.{deepest_appends}
 use Rattle.val_core.proofs.laws.answers.deepest_appends.Goals as goal
 
 pub returns : goal.returns

@@ -1,4 +1,4 @@
-use Rattle.val_core.proofs.Events.{prefixes_compose}
+use Rattle.val_core.proofs.lemmas.Events.{prefixes_compose}
 use Rattle.val_core.proofs.laws.answers.prefixes_compose.Goals as goal
 
 pub returns : goal.returns

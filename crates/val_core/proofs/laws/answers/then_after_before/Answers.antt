@@ -1,4 +1,4 @@
-use Rattle.val_core.proofs.Answers.{then_after_before}
+use Rattle.val_core.proofs.lemmas.Answers.{then_after_before}
 use Rattle.val_core.proofs.laws.answers.then_after_before.Goals as goal
 
 pub returns : goal.returns

@@ -1,4 +1,4 @@
-use Rattle.val_core.proofs.Answers.{then_associates}
+use Rattle.val_core.proofs.lemmas.Answers.{then_associates}
 use Rattle.val_core.proofs.laws.answers.then_associates.Goals as goal
 
 pub returns : goal.returns

@@ -1,4 +1,4 @@
-use Rattle.val_core.proofs.Answers.{then_nothing}
+use Rattle.val_core.proofs.lemmas.Answers.{then_nothing}
 use Rattle.val_core.proofs.laws.answers.then_nothing.Goals as goal
 
 pub returns : goal.returns

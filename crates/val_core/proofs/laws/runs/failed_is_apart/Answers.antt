@@ -2,4 +2,4 @@ use Rattle.val_core.proofs.Within.{failed_is_apart}
 use Rattle.val_core.proofs.laws.runs.failed_is_apart.Goals as goal
 
 pub returns : goal.returns
-returns g c = failed_is_apart g.A.Related.near
+returns g c = failed_is_apart g.A.Related.relate

@@ -2,4 +2,4 @@ use Rattle.val_core.proofs.Within.{terminated_is_equal}
 use Rattle.val_core.proofs.laws.runs.terminated_is_equal.Goals as goal
 
 pub returns : goal.returns
-returns g c = terminated_is_equal g.A.Related.near
+returns g c = terminated_is_equal g.A.Related.relate

@@ -1,4 +1,4 @@
-use Rattle.val_core.proofs.Words.{gives_word2}
+use Rattle.val_core.proofs.lemmas.Words.{gives_word2}
 use Rattle.val_core.proofs.laws.values.gives_word2.Goals as goal
 
 pub returns : goal.returns

@@ -1,4 +1,4 @@
-use Rattle.val_core.proofs.ValueLemmas.{keeps_less_defined1}
+use Rattle.val_core.proofs.lemmas.Values.{keeps_less_defined1}
 use Rattle.val_core.proofs.laws.values.keeps_less_defined1.Goals as goal
 
 pub returns : goal.returns

@@ -1,4 +1,4 @@
-use Rattle.val_core.proofs.ValueLemmas.{keeps_sound1}
+use Rattle.val_core.proofs.lemmas.Values.{keeps_sound1}
 use Rattle.val_core.proofs.laws.values.keeps_sound1.Goals as goal
 
 pub returns : goal.returns

@@ -1,4 +1,4 @@
-use Rattle.val_core.proofs.ValueLemmas.{keeps_sound2}
+use Rattle.val_core.proofs.lemmas.Values.{keeps_sound2}
 use Rattle.val_core.proofs.laws.values.keeps_sound2.Goals as goal
 
 pub returns : goal.returns

@@ -1,0 +1,11 @@
+pub mod Unique
+pub mod Indexes
+pub mod Redirects
+pub mod Splices
+pub mod Numbers
+pub mod Moved
+pub mod Nodes
+pub mod Nests
+pub mod Found
+pub mod Ops
+pub mod Complete

@@ -1,0 +1,6 @@
+/// The address of a global, by its index in the list, that stands in the four bytes at an offset.
+#[derive(Clone, Copy, PartialEq, Eq, Debug)]
+pub struct Link {
+    pub at: u32,
+    pub delta: u32,
+}

@@ -1,7 +1,0 @@
-use Rattle.std.proofs.Common.{◌≡◌, drop}
-use Rattle.g_graph.specs.Plain.{nodes_of}
-use Rattle.r_fold.specs.Rule.{node_at}
-use Rattle.r_fold.proofs.constants.node_at.Given as goal
-
-abbrev pub invariant-loop-node : goal.invariant-loop-node
-invariant-loop-node l = node_at l.id (nodes_of (drop l.node-index l.nodes)) ≡ node_at l.id (nodes_of l.nodes)

@@ -1,5 +1,0 @@
-use Rattle.val_core.proofs.Lifetimes.{load_beside_new}
-use Rattle.val_core.proofs.laws.memory.load_beside_new.Goals as goal
-
-pub returns : goal.returns
-returns c = load_beside_new
