@@ -248,12 +248,23 @@ fn outcome(alloc: Global, source: &[u8]) -> Result<usize, LexFault> {
 }
 
 #[test]
-fn limits_are_kept(rt: HostRuntime) -> Result<(), Fail> {
-    let rows: [(&[u8], usize, &[u8], Result<usize, LexFault>); 15] = [
+fn tokens_are_limited(rt: HostRuntime) -> Result<(), Fail> {
+    let rows: [(&[u8], usize, &[u8], Result<usize, LexFault>); 4] = [
         (b"1 ", 200_000, b"", Ok(200_000)),
         (b"1 ", 200_000, b"2", Err(LexFault::ManyTokens(400_000))),
         (b"1 ", 200_000, b" // x", Ok(200_000)),
         (b"1 ", 200_000, b"08", Err(LexFault::ManyTokens(400_000))),
+    ];
+    for (chunk, count, end, want) in &rows {
+        let source = repeated(rt.alloc(), chunk, *count, end)?;
+        assert_eq!(rt; outcome(rt.alloc(), source.as_slice()), *want);
+    }
+    Ok(())
+}
+
+#[test]
+fn other_faults_come_before_that_limit(rt: HostRuntime) -> Result<(), Fail> {
+    let rows: [(&[u8], usize, &[u8], Result<usize, LexFault>); 4] = [
         (b"1 ", 200_000, b"''", Err(LexFault::BadText(400_000))),
         (b"1 ", 200_000, b"'", Err(LexFault::OpenText(400_000))),
         (
@@ -263,19 +274,39 @@ fn limits_are_kept(rt: HostRuntime) -> Result<(), Fail> {
             Err(LexFault::TooWide(400_000)),
         ),
         (b"1 ", 200_000, b"@", Err(LexFault::BadByte(400_000))),
+    ];
+    for (chunk, count, end, want) in &rows {
+        let source = repeated(rt.alloc(), chunk, *count, end)?;
+        assert_eq!(rt; outcome(rt.alloc(), source.as_slice()), *want);
+    }
+    Ok(())
+}
+
+#[test]
+fn names_and_sources_are_limited(rt: HostRuntime) -> Result<(), Fail> {
+    let rows: [(&[u8], usize, &[u8], Result<usize, LexFault>); 6] = [
         (b"a", 63, b"", Ok(1)),
         (b"a", 64, b"", Err(LexFault::LongName(0))),
         (b" ", 1_048_576, b"", Ok(0)),
         (b" ", 1_048_575, b"x", Ok(1)),
         (b" ", 1_048_576, b"x", Err(LexFault::LongSource(1_048_576))),
         (b"@", 1_048_577, b"", Err(LexFault::LongSource(1_048_576))),
-        (
-            b"ab+1;\n/* x */",
-            80_659,
-            b"",
-            Err(LexFault::ManyTokens(600_000 + 50_000)),
-        ),
     ];
+    for (chunk, count, end, want) in &rows {
+        let source = repeated(rt.alloc(), chunk, *count, end)?;
+        assert_eq!(rt; outcome(rt.alloc(), source.as_slice()), *want);
+    }
+    Ok(())
+}
+
+#[test]
+fn comments_are_no_tokens(rt: HostRuntime) -> Result<(), Fail> {
+    let rows: [(&[u8], usize, &[u8], Result<usize, LexFault>); 1] = [(
+        b"ab+1;\n/* x */",
+        80_659,
+        b"",
+        Err(LexFault::ManyTokens(650_000)),
+    )];
     for (chunk, count, end, want) in &rows {
         let source = repeated(rt.alloc(), chunk, *count, end)?;
         assert_eq!(rt; outcome(rt.alloc(), source.as_slice()), *want);

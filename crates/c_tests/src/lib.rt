@@ -4,3 +4,5 @@
 
 #[cfg(test)]
 mod lexing;
+#[cfg(test)]
+mod types;

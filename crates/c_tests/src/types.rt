@@ -5,10 +5,14 @@
 //!     struct C { struct B b[3]; char x; struct A *p; };
 //!     struct D { unsigned char c[5]; struct A a[2]; struct C d; signed char e; };
 
-use super::*;
+use c_type::{
+    CType, DefineFault, Scalar, Types, align_of, are_laid_out, is_complete, is_laid_out, leaves,
+    offset_of, size_of,
+};
 use std::alloc::Global;
 use std::process::Abort;
 use std::test::Fail;
+use val_core::Leaf;
 
 const A: u32 = 4;
 
@@ -157,7 +161,44 @@ fn what_is_not_laid_out(rt: HostRuntime) -> Result<(), Fail> {
     Ok(())
 }
 
-// Each struct has the one before it and then a `char`: a text of 200,000 tokens holds fewer than 20,000 of them.
+#[test]
+fn members_in_order(rt: HostRuntime) -> Result<(), Fail> {
+    let types = four_structs(&rt, rt.alloc())?;
+    assert!(&rt; types.is_defined(B));
+    let members = types.members(B);
+    assert_eq!(rt; members.len(), 3);
+    assert!(&rt; members[0].is_same(&char_type()));
+    assert!(&rt; members[1].is_same(&short_type()));
+    assert!(&rt; members[2].is_same(&char_type()));
+    Ok(())
+}
+
+fn check_chars(
+    rt: &impl Abort,
+    alloc: Global,
+    types: &Types,
+    t: &CType,
+    count: u32,
+) -> Result<(), Fail> {
+    assert!(rt; is_laid_out(types, t));
+    let found = leaves(alloc, types, t)?;
+    assert_eq!(rt; found.len(), count as usize);
+    for (leaf, offset) in found.iter().zip(0..count) {
+        assert_eq!(rt; *leaf, Leaf { offset, width: 1 });
+    }
+    Ok(())
+}
+
+#[test]
+fn leaves_of_the_largest_type(rt: HostRuntime) -> Result<(), Fail> {
+    let alloc = rt.alloc();
+    let types = Types::new(alloc);
+    let t = array(alloc, array(alloc, char_type(), 1024)?, 1024)?;
+    check_chars(&rt, alloc, &types, &t, 1_048_576)
+}
+
+// Each struct has the one before it and then a `char`: a source of 200,000 tokens holds fewer than
+// 20,000 of them.
 #[test]
 fn structs_nest_deep(rt: HostRuntime) -> Result<(), Fail> {
     let alloc = rt.alloc();
@@ -167,12 +208,61 @@ fn structs_nest_deep(rt: HostRuntime) -> Result<(), Fail> {
         let members = vec![in alloc; CType::structure(tag - 1), char_type()]?;
         define(&rt, &mut types, tag, members)?;
     }
-    let t = CType::structure(19_999);
-    assert!(&rt; is_laid_out(&types, &t));
-    let found = leaves(alloc, &types, &t)?;
-    assert_eq!(rt; found.len(), 20_000);
-    for (leaf, offset) in found.iter().zip(0..20_000u32) {
-        assert_eq!(rt; *leaf, Leaf { offset, width: 1 });
+    check_chars(&rt, alloc, &types, &CType::structure(19_999), 20_000)
+}
+
+// Each struct has the one before it, as it is or as an array of one.
+fn chain(rt: &impl Abort, alloc: Global, as_array: bool) -> Result<Types, Fail> {
+    let mut types = Types::new(alloc);
+    define(rt, &mut types, 0, vec![in alloc; char_type()]?)?;
+    for tag in 1..5_000u32 {
+        let before = CType::structure(tag - 1);
+        let member = if as_array {
+            array(alloc, before, 1)?
+        } else {
+            before
+        };
+        define(rt, &mut types, tag, vec![in alloc; member]?)?;
     }
-    Ok(())
+    Ok(types)
+}
+
+// A member of the last struct of a chain stands 1,000 times in a struct, and that as often in an
+// array.
+fn check_chain(rt: &impl Abort, alloc: Global, mut types: Types, last: CType) -> Result<(), Fail> {
+    let mut members = Vec::new(alloc);
+    for _ in 0..1_000u32 {
+        members.push(last.copy(alloc)?)?;
+    }
+    define(rt, &mut types, 9_999, members)?;
+    let t = array(alloc, CType::structure(9_999), 1_000)?;
+    check_chars(rt, alloc, &types, &t, 1_000_000)?;
+    let rows = array(alloc, array(alloc, last, 1_000)?, 1_000)?;
+    check_chars(rt, alloc, &types, &rows, 1_000_000)
+}
+
+#[test]
+fn leaves_of_chains(rt: HostRuntime) -> Result<(), Fail> {
+    let alloc = rt.alloc();
+    let types = chain(&rt, alloc, false)?;
+    check_chain(&rt, alloc, types, CType::structure(4_999))
+}
+
+#[test]
+fn leaves_of_chains_of_arrays(rt: HostRuntime) -> Result<(), Fail> {
+    let alloc = rt.alloc();
+    let types = chain(&rt, alloc, true)?;
+    check_chain(&rt, alloc, types, CType::structure(4_999))
+}
+
+#[test]
+fn leaves_of_arrays_of_one(rt: HostRuntime) -> Result<(), Fail> {
+    let alloc = rt.alloc();
+    let mut types = Types::new(alloc);
+    let mut t = char_type();
+    for _ in 0..5_000u32 {
+        t = array(alloc, t, 1)?;
+    }
+    define(&rt, &mut types, 0, vec![in alloc; t]?)?;
+    check_chain(&rt, alloc, types, CType::structure(0))
 }

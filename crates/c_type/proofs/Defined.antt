@@ -3,12 +3,14 @@ use Rattle.std.proofs.Common.{◌≡◌, ℕ, ◌-◌, ◌^◌, ◌<◌, ◌≤�
 use Rattle.std.proofs.lemmas.Option.{slice_get_within}
 use Rattle.std.proofs.lemmas.Bool.{eqb-false}
 use Rattle.limits.specs.Limits.{most_type_bytes}
+use Rattle.c_type.specs.Trees.{TypeTree}
 use Rattle.c_type.specs.Layout.{Definition, Definitions, is_defined, members, align, largest, size, struct_size, struct_align, offset, offset_from}
 use Rattle.c_type.specs.WellDefined.{AreLaidOut, Follows, AreDefinitions}
+use Rattle.c_type.specs.Normal.{AreNormalOf}
 use Rattle.c_type.specs.LaidUpTo.{IsLaid, struct_bytes}
 use Rattle.c_type.specs.Structs.{definitions_of, IsKept, AreIndexed, absent}
 use Rattle.c_type.specs.declared.structs.Struct.{Struct}
-use Rattle.c_type.proofs.Levels.{other-tag}
+use Rattle.c_type.proofs.Levels.{other-tag, normals-later}
 use Rattle.c_type.proofs.Indices.{get-either, get-set-same, get-set-other}
 use Rattle.c_type.proofs.StructLemmas.{defined-is, has-there}
 
@@ -19,6 +21,9 @@ pub definitions-more : (acc : Definitions) (ss : List Struct) (s : Struct) → d
 definitions-more acc [] s = refl
 definitions-more acc (x ∷ ss) s = definitions-more (definition_of x ∷ acc) ss s
 
+pub defined-size : (defs : Definitions) (tag : ℕ) (ms : List TypeTree) → struct_size (record { tag = tag; members = ms } ∷ defs) tag ≡ struct_bytes defs ms
+defined-size defs tag ms = ap (λ b. cond b (struct_bytes defs ms) (struct_size defs tag)) (eq-eqb tag tag refl)
+
 kept-later : (defs : Definitions) (d : Definition) (x : Struct) → is_defined defs x.tag ≡ true → is_defined defs d.tag ≡ false → IsKept defs x → IsKept (d ∷ defs) x
 kept-later defs d x here new k =
     let e = other-tag defs x.tag d.tag here new in
@@ -28,11 +33,13 @@ kept-later defs d x here new k =
       small = k.small;
       align = k.align ∙ sym (ap (λ b. cond b (largest (align defs) d.members) (struct_align defs x.tag)) e);
       count = k.count;
+      normal = normals-later d defs new x.members.items x.parts.items k.normal;
       offsets = λ i h. k.offsets i h ∙ sym (ap (λ b. cond b (offset_from (size defs) (align defs) 0 d.members i) (offset defs x.tag i)) e);
     }
 
-kept-new : (defs : Definitions) (s : Struct) → IsLaid defs s.members.items s.offsets.items s.size s.align → IsKept (definition_of s ∷ defs) s
-kept-new defs s l =
+kept-new : (defs : Definitions) (s : Struct) → is_defined defs s.tag ≡ false → AreNormalOf defs s.members.items s.parts.items → IsLaid defs s.members.items s.offsets.items s.size s.align →
+    IsKept (definition_of s ∷ defs) s
+kept-new defs s new normal l =
     let e = eq-eqb s.tag s.tag refl in
     record {
       members = ap (λ b. cond b s.members.items (members defs s.tag)) e;
@@ -40,10 +47,12 @@ kept-new defs s l =
       small = l.small;
       align = l.alignment_is ∙ sym (ap (λ b. cond b (largest (align defs) s.members.items) (struct_align defs s.tag)) e);
       count = l.count;
+      normal = normals-later (definition_of s) defs new s.members.items s.parts.items normal;
       offsets = λ i h. l.offsets_are i h ∙ sym (ap (λ b. cond b (offset_from (size defs) (align defs) 0 s.members.items i) (offset defs s.tag i)) e);
     }
 
-follows : (defs : Definitions) (s : Struct) → is_defined defs s.tag ≡ false → 0 < length s.members.items → AreLaidOut defs s.members.items → IsLaid defs s.members.items s.offsets.items s.size s.align → Follows defs (definition_of s)
+follows : (defs : Definitions) (s : Struct) → is_defined defs s.tag ≡ false → 0 < length s.members.items → AreLaidOut defs s.members.items →
+    IsLaid defs s.members.items s.offsets.items s.size s.align → Follows defs (definition_of s)
 follows defs s new some laid l =
     let e = eq-eqb s.tag s.tag refl in
     record {
@@ -53,7 +62,10 @@ follows defs s new some laid l =
       small = subst (λ n. n ≤ most_type_bytes) (l.bytes_is ∙ sym (ap (λ b. cond b (struct_bytes defs s.members.items) (struct_size defs s.tag)) e)) l.small;
     }
 
-module _ (indices : List ℕ) (structs : List Struct) (s : Struct) (index : ℕ) (i : AreIndexed indices structs) (is_index : index ≡ length structs) (few : index < 2 ^ 32 - 1) (room : s.tag < length indices) (new : is_defined (definitions_of [] structs) s.tag ≡ false) (some : 0 < length s.members.items) (laid : AreLaidOut (definitions_of [] structs) s.members.items) (l : IsLaid (definitions_of [] structs) s.members.items s.offsets.items s.size s.align) where
+module _ (indices : List ℕ) (structs : List Struct) (s : Struct) (index : ℕ) (i : AreIndexed indices structs) (is_index : index ≡ length structs) (few : index < 2 ^ 32 - 1)
+    (room : s.tag < length indices) (new : is_defined (definitions_of [] structs) s.tag ≡ false) (some : 0 < length s.members.items) (laid : AreLaidOut
+    (definitions_of [] structs) s.members.items) (normal : AreNormalOf (definitions_of [] structs) s.members.items s.parts.items) (l : IsLaid
+    (definitions_of [] structs) s.members.items s.offsets.items s.size s.align) where
   defined-at : (p : ℕ) (x : Struct) → slice_get structs p ≡ Some x → is_defined (definitions_of [] structs) x.tag ≡ true
   defined-at p x is = defined-is structs x.tag ∙ has-there structs p x x.tag is refl
 
@@ -63,7 +75,7 @@ module _ (indices : List ℕ) (structs : List Struct) (s : Struct) (index : ℕ)
 
   kept-all : (p : ℕ) (x : Struct) → (slice_get structs p ≡ Some x) ⊎ ((p ≡ length structs) × (x ≡ s)) → IsKept (definition_of s ∷ definitions_of [] structs) x
   kept-all p x (inl is) = kept-later (definitions_of [] structs) (definition_of s) x (defined-at p x is) new (i.kept p x is)
-  kept-all p x (inr e) = subst (IsKept (definition_of s ∷ definitions_of [] structs)) (sym e.1) (kept-new (definitions_of [] structs) s l)
+  kept-all p x (inr e) = subst (IsKept (definition_of s ∷ definitions_of [] structs)) (sym e.1) (kept-new (definitions_of [] structs) s new normal l)
 
   found-other : (tag p : ℕ) (x : Struct) → slice_get indices tag ≡ Some p → (slice_get structs p ≡ Some x) ⊎ ((p ≡ length structs) × (x ≡ s)) → x.tag ≡ tag
   found-other tag p x is (inl at) = i.found tag p x is at

@@ -36,7 +36,7 @@ get-set-other (x ∷ xs) zero (suc j) v ne = refl
 get-set-other (x ∷ xs) (suc i) zero v ne = refl
 get-set-other (x ∷ xs) (suc i) (suc j) v ne = get-set-other xs i j v (λ e. ne (ap suc e))
 
--- ---- places of more tags
+-- ---- indices of more tags
 
 pub pads-none : (xs : List ℕ) → Pads xs xs
 pads-none xs = record { kept = λ tag p is. is; added = λ tag p is. inl is }

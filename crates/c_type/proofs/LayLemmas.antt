@@ -61,12 +61,14 @@ one-laid defs ms t ts offsets end a l small =
           ∙ sym (l.later 0)
           ∙ ap (offset_from (size defs) (align defs) 0 ms) (z ∙ sym e)
 
-      by_place : (k : ℕ) → k < length (offsets ++ rounded_up end (align defs t) ∷ []) → length (offsets ++ rounded_up end (align defs t) ∷ []) ≡ length offsets + 1 → slice_index (offsets ++ rounded_up end (align defs t) ∷ []) k ≡ offset_from (size defs) (align defs) 0 ms k
+      by_place : (k : ℕ) → k < length (offsets ++ rounded_up end (align defs t) ∷ []) → length (offsets ++ rounded_up end (align defs t) ∷ []) ≡ length offsets + 1 →
+          slice_index (offsets ++ rounded_up end (align defs t) ∷ []) k ≡ offset_from (size defs) (align defs) 0 ms k
       by_place k h one = at_place k (either k (length offsets) (omega (arith, h, one))) where
         either : (i n : ℕ) → i < n + 1 → (i < n) ⊎ (i ≡ n)
         either i n h = grind arith
 
-pub all-laid : (defs : Definitions) (ms : List TypeTree) (offsets : List ℕ) (end a : ℕ) → LaidUpTo defs ms [] offsets end a → rounded_up end a ≤ most_type_bytes → IsLaid defs ms offsets (rounded_up end a) a
+pub all-laid : (defs : Definitions) (ms : List TypeTree) (offsets : List ℕ) (end a : ℕ) → LaidUpTo defs ms [] offsets end a → rounded_up end a ≤ most_type_bytes →
+    IsLaid defs ms offsets (rounded_up end a) a
 all-laid defs ms offsets end a l small =
     let al : a ≡ largest (align defs) ms = let h = l.aligned in let p = l.positive in omega (arith, h, p) in
     record {

@@ -114,7 +114,8 @@ positive-product : (n s : ℕ) → not (n == 0) ≡ true → 0 < s → 0 < n * s
 positive-product zero s h k = cc
 positive-product (suc n) s h k = let e = suc-mul n s in omega (arith, e, k)
 
-elements-order : (f : ℕ → List Leaf) (s a : ℕ) → IsMultiple a s → ((at : ℕ) → IsMultiple a at → AreInOrder at (at + s) (f at)) → (n at : ℕ) → IsMultiple a at → AreInOrder at (at + n * s) (repeated n s at f)
+elements-order : (f : ℕ → List Leaf) (s a : ℕ) → IsMultiple a s → ((at : ℕ) → IsMultiple a at → AreInOrder at (at + s) (f at)) → (n at : ℕ) → IsMultiple a at →
+    AreInOrder at (at + n * s) (repeated n s at f)
 elements-order f s a m h zero at k = omega arith
 elements-order f s a m h (suc n) at k =
     let e : (at + s) + n * s ≡ at + suc n * s = let d = suc-mul n s in omega (arith, d) in
@@ -167,5 +168,7 @@ module _ (defs : Definitions) (good : AreGood defs) where
       let begin = multiple-plus (align defs t) start o (multiple-of (align defs t) a start own m) (multiple-round at (align defs t)) in
       let first = lower (start + at) (start + o) (start + o + size defs t) (leaves_at defs t (start + o)) (omega (arith, up)) (type-order t laid.0.complete (start + o) begin) in
       let rest = members-order a start w m (o + size defs t) ts (omega (arith, h)) laid.1 in
-      joined (start + at) (start + o + size defs t) (start + members_end (size defs) (align defs) (o + size defs t) ts) (leaves_at defs t (start + o)) (members_leaves (size defs) (align defs) (leaves_at defs) start (o + size defs t) ts) first
-      (subst (λ x. AreInOrder x (start + members_end (size defs) (align defs) (o + size defs t) ts) (members_leaves (size defs) (align defs) (leaves_at defs) start (o + size defs t) ts)) (sym (add_assoc start o (size defs t))) rest)
+      joined (start + at) (start + o + size defs t) (start + members_end (size defs) (align defs) (o + size defs t) ts) (leaves_at defs t (start + o)) (members_leaves (size defs) (align defs)
+      (leaves_at defs) start (o + size defs t) ts) first
+      (subst (λ x. AreInOrder x (start + members_end (size defs) (align defs) (o + size defs t) ts) (members_leaves (size defs) (align defs) (leaves_at defs) start (o + size defs t) ts)) (sym
+      (add_assoc start o (size defs t))) rest)

@@ -1,4 +1,4 @@
--- The parts of a type that is laid out.
+-- The elements of an array that is laid out.
 use Rattle.std.proofs.Common.{◌≡◌, ℕ, zero, suc, ◌*◌, ◌≤◌, ◌==◌, not, true, refl, arith, suc-mul}
 use Rattle.limits.specs.Limits.{most_type_bytes}
 use Rattle.std.proofs.lemmas.Bool.{and_parts}

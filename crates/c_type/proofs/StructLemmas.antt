@@ -52,7 +52,8 @@ there-of (x ∷ ss) tag h = by_test (x.tag == tag) refl h (there-of ss tag) wher
   by_test false differ k rest = let r = rest k in (suc r.0, (r.1.0, (r.1.1.0, r.1.1.1)))
 
 -- what is found by a tag
-none-found : (indices : List ℕ) (structs : List Struct) (tag : ℕ) → AreIndexed indices structs → option_and_then (slice_get structs) (slice_get indices tag) ≡ None → is_defined (definitions_of [] structs) tag ≡ false
+none-found : (indices : List ℕ) (structs : List Struct) (tag : ℕ) → AreIndexed indices structs → option_and_then (slice_get structs) (slice_get indices tag) ≡ None →
+    is_defined (definitions_of [] structs) tag ≡ false
 none-found indices structs tag i none =
     defined-is structs tag
     ∙ false_from_ne_true (has_tag tag structs)
@@ -62,14 +63,16 @@ none-found indices structs tag i none =
     let e = ap (option_and_then (slice_get structs)) at ∙ r.1.1.0 in
     cc)
 
-some-found : (indices : List ℕ) (structs : List Struct) (tag : ℕ) (s : Struct) (index : Option ℕ) → AreIndexed indices structs → slice_get indices tag ≡ index → option_and_then (slice_get structs) index ≡ Some s → IsFound (definitions_of [] structs) tag s
+some-found : (indices : List ℕ) (structs : List Struct) (tag : ℕ) (s : Struct) (index : Option ℕ) → AreIndexed indices structs → slice_get indices tag ≡ index →
+    option_and_then (slice_get structs) index ≡ Some s → IsFound (definitions_of [] structs) tag s
 some-found indices structs tag s None i at is = cc
 some-found indices structs tag s (Some p) i at is =
     let e = i.found tag p s at is in
     let h = defined-is structs tag ∙ has-there structs p s tag is e in
-    record { defined = h; tagged = e; kept = i.kept p s is; level = level (definitions_of [] structs) i.ordered tag h }
+    record { defined = h; tagged = e; kept = i.kept p s is; level = level (definitions_of [] structs) i.ordered tag h; ordered = i.ordered }
 
-pub found : (indices : List ℕ) (structs : List Struct) (tag : ℕ) (result : Option (Bor Struct)) → AreIndexed indices structs → option_copied result ≡ option_and_then (slice_get structs) (slice_get indices tag) →
+pub found : (indices : List ℕ) (structs : List Struct) (tag : ℕ) (result : Option (Bor Struct)) → AreIndexed indices structs →
+    option_copied result ≡ option_and_then (slice_get structs) (slice_get indices tag) →
     MatchOption result (is_defined (definitions_of [] structs) tag ≡ false) (λ s. IsFound (definitions_of [] structs) tag s.now)
 found indices structs tag None i e = none-found indices structs tag i (sym e)
 found indices structs tag (Some s) i e = some-found indices structs tag s.now (slice_get indices tag) i refl (sym e)

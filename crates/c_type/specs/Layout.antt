@@ -69,7 +69,7 @@ size_by struct_size (pointer_to t) = 4
 size_by struct_size (array_of t n) = n * size_by struct_size t
 size_by struct_size (struct_type tag) = struct_size tag
 
--- where the last of these members ends, if they begin at this place
+-- where the last of these members ends, if they begin at this offset
 abbrev pub members_end : (size align : TypeTree → ℕ) → (at : ℕ) → List TypeTree → ℕ
 members_end size align at [] = at
 members_end size align at (t ∷ ts) = members_end size align (rounded_up at (align t) + size t) ts
@@ -96,7 +96,7 @@ offset [] tag member = 0
 offset (d ∷ ds) tag member =
     if d.tag == tag then offset_from (size ds) (align ds) 0 d.members member else offset ds tag member
 
--- ---- leaves: the scalars and pointers of a type, in order of offset, if it begins at this place
+-- ---- leaves: the scalars and pointers of a type that begins at this offset, in order of offset
 
 abbrev pub repeated : (count stride at : ℕ) → (ℕ → List Leaf) → List Leaf
 repeated zero stride at leaves_at = []

@@ -4,6 +4,7 @@ pub mod TreeView
 pub mod TreeHeight
 pub mod Layout
 pub mod WellDefined
+pub mod Normal
 pub mod Level
 pub mod LaidUpTo
 pub mod Moved

@@ -3,6 +3,7 @@ use Rattle.std.specs.Prelude.{◌≡◌, ℕ, ◌^◌, ◌<◌, ◌≤◌, ◌�
 use Rattle.limits.specs.Limits.{most_type_bytes}
 use Rattle.c_type.specs.Layout.{Definitions, struct_size, struct_align, offset, members}
 use Rattle.c_type.specs.WellDefined.{AreDefinitions}
+use Rattle.c_type.specs.Normal.{AreNormalOf}
 use Rattle.c_type.specs.declared.structs.Struct.{Struct}
 
 -- the definitions of structs, after earlier ones
@@ -17,13 +18,14 @@ pub record IsKept (defs : Definitions) (s : Struct) : Type 0 where
   pub small : s.size ≤ most_type_bytes
   pub align : s.align ≡ struct_align defs s.tag
   pub count : length s.offsets.items ≡ length s.members.items
+  pub normal : AreNormalOf defs s.members.items s.parts.items
   pub offsets : (i : ℕ) → i < length s.offsets.items → slice_index s.offsets.items i ≡ offset defs s.tag i
 
--- what stands for the place of a tag that has none
+-- what stands for the index of a tag that has none
 abbrev pub absent : ℕ
 absent = 0xffff_ffff
 
--- each tag with a place is that of the struct there, and each struct has the place of its tag
+-- each tag with an index is that of the struct there, and each struct has the index of its tag
 pub record AreIndexed (indices : List ℕ) (structs : List Struct) : Type 0 where
   pub kept : (p : ℕ) (s : Struct) → slice_get structs p ≡ Some s → IsKept (definitions_of [] structs) s
   pub found : (tag p : ℕ) (s : Struct) → slice_get indices tag ≡ Some p → slice_get structs p ≡ Some s → s.tag ≡ tag
@@ -32,7 +34,7 @@ pub record AreIndexed (indices : List ℕ) (structs : List Struct) : Type 0 wher
   pub few : length structs < 2 ^ 32
   pub ordered : AreDefinitions (definitions_of [] structs)
 
--- the places of more tags, which have none yet
+-- the indices of more tags, which have none yet
 pub record Pads (old new : List ℕ) : Type 0 where
   pub kept : (tag p : ℕ) → slice_get old tag ≡ Some p → slice_get new tag ≡ Some p
   pub added : (tag p : ℕ) → slice_get new tag ≡ Some p → (slice_get old tag ≡ Some p) ⊎ (p ≡ absent)

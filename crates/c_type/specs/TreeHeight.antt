@@ -1,4 +1,4 @@
--- A part of a type is less high.
+-- A type within a type has a smaller height.
 use Rattle.std.specs.Prelude.{◌≤◌, max}
 use Rattle.std.proofs.Common.{arith}
 use Rattle.c_type.specs.Trees.{tree_height}

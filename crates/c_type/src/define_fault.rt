@@ -30,3 +30,11 @@ impl<T: Drop> From<AllocFailed<T>> for DefineFault {
         DefineFault::NoMemory
     }
 }
+
+impl From<no_memory::NoMemory> for DefineFault {
+    ghost from_gives = { λ _ e. e ≡ NoMemory };
+
+    fn from(_e: no_memory::NoMemory) -> DefineFault {
+        DefineFault::NoMemory
+    }
+}

@@ -12,7 +12,7 @@ use crate::trees::CType;
 use limits::MOST_TYPE_BYTES;
 use std::alloc::{AllocError, Global};
 
-// What stands for the place of a tag that has none.
+// What stands for the index of a tag that has none.
 const ABSENT: u32 = u32::MAX;
 
 // What a struct of some members occupies.
@@ -31,7 +31,8 @@ pub(crate) fn lay_out(
 ) -> Result<Layout, DefineFault>
     requires { AreLaidOut types.now members.now }
     ensures ok { IfOk result (λ l. IsLaid types.now members.now l.offsets.items l.size l.align) }
-    ensures too_large { IfErr result (λ e. e ≡ TooLarge → most_type_bytes < struct_bytes types.now members.now) }
+    ensures too_large { IfErr result (λ e.
+        e ≡ TooLarge → most_type_bytes < struct_bytes types.now members.now) }
 {
     let mut offsets = Vec::new(alloc);
     let mut end = 0;
@@ -57,7 +58,7 @@ pub(crate) fn lay_out(
     })
 }
 
-// Makes room for the place of a tag.
+// Makes room for the index of a tag.
 pub(crate) fn make_index(indices: &mut Vec<u32>, tag: u32) -> Result<(), AllocError>
     ensures pads { Pads indices.old.items indices.new.items }
     ensures room { OnOk result (tag < length indices.new.items) }

@@ -8,8 +8,8 @@ use crate::structs::Types;
 use crate::trees::{CType, TypeForm};
 use limits::MOST_TYPE_BYTES;
 
-/// Whether the type is complete (ISO/IEC 9899:2011, 6.2.5p1): no `void`, and no struct without a definition, or an
-/// array of these or of no elements.
+/// Whether the type is complete (ISO/IEC 9899:2011, 6.2.5p1): no `void`, and no struct without a
+/// definition, or an array of these or of no elements.
 pub fn is_complete(types: &Types, t: &CType) -> bool
     ensures { result ≡ is_complete types.now t.now }
 {
@@ -85,7 +85,8 @@ pub fn bounded_size(types: &Types, t: &CType) -> Option<u32>
     }
 }
 
-/// The offset of a member of a struct that is defined, in bytes; members are counted from 0 (6.7.2.1p15).
+/// The offset of a member of a struct that is defined, in bytes; members are counted from 0
+/// (6.7.2.1p15).
 pub fn offset_of(types: &Types, tag: u32, member: u32) -> u32
     requires defined { IsTrue (is_defined types.now tag) }
     requires member { member < length (members types.now tag) }
