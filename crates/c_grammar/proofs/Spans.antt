@@ -3,55 +3,55 @@ use Rattle.std.specs.Prelude.{◌≡◌, ℕ, not, List, [], ◌∷◌, ◌++◌
 use Rattle.std.proofs.Common.{refl, sym, ap, ◌∙◌, subst}
 use Rattle.c_lex.specs.declared.token.Token.{Token}
 use Rattle.c_lex.specs.declared.token.TokenKind.{TokenKind}
-use Rattle.c_ast.specs.Labels.{Label}
-use Rattle.c_ast.specs.Labels as label
+use Rattle.c_ast.specs.Productions.{Production}
+use Rattle.c_ast.specs.Productions as production
 use Rattle.c_ast.specs.Tree.{Tree, Leaf, Node, Nil, Cons}
 use Rattle.c_ast.specs.Spelling.{spelled, kinds}
-use Rattle.c_ast.specs.Grammar.{T, N, Form, One, All, Fits, parts_of, waits, else_fits}
-use Rattle.c_grammar.specs.Laws.{without_places}
+use Rattle.c_ast.specs.Grammar.{T, N, Form, One, All, Fits, symbols_of, waits, else_fits}
+use Rattle.c_grammar.specs.Laws.{without_spans}
 use Rattle.c_grammar.proofs.Firsts.{spelled_append}
 
-waits_bare : (t : Tree) → waits (without_places t) ≡ waits t
-unfolding waits without_places
+waits_bare : (t : Tree) → waits (without_spans t) ≡ waits t
+unfolding waits without_spans
 waits_bare (Leaf x) = refl
 waits_bare Nil = refl
-waits_bare (Node label.If f) = refl
+waits_bare (Node production.If f) = refl
 waits_bare (Node l f) = waits_bare f
 waits_bare (Cons t Nil) = waits_bare t
 waits_bare (Cons t f) = waits_bare f
 
-else_fits_bare : (l : Label) (f : Tree) → else_fits l (without_places f) ≡ else_fits l f
-unfolding else_fits without_places
-else_fits_bare label.IfElse (Cons (Node k f) g) = ap not (waits_bare f)
-else_fits_bare label.IfElse (Cons (Leaf x) g) = refl
-else_fits_bare label.IfElse (Cons Nil g) = refl
-else_fits_bare label.IfElse (Cons (Cons t f) g) = refl
-else_fits_bare label.IfElse (Leaf x) = refl
-else_fits_bare label.IfElse (Node k f) = refl
-else_fits_bare label.IfElse Nil = refl
+else_fits_bare : (l : Production) (f : Tree) → else_fits l (without_spans f) ≡ else_fits l f
+unfolding else_fits without_spans
+else_fits_bare production.IfElse (Cons (Node k f) g) = ap not (waits_bare f)
+else_fits_bare production.IfElse (Cons (Leaf x) g) = refl
+else_fits_bare production.IfElse (Cons Nil g) = refl
+else_fits_bare production.IfElse (Cons (Cons t f) g) = refl
+else_fits_bare production.IfElse (Leaf x) = refl
+else_fits_bare production.IfElse (Node k f) = refl
+else_fits_bare production.IfElse Nil = refl
 else_fits_bare l f = refl
 
-pub fits_bare : (t : Tree) (form : Form) → Fits form t → Fits form (without_places t)
-unfolding Fits without_places
-fits_bare (Node l f) (One c) h = (h.0, else_fits_bare l f ∙ h.1, fits_bare f (All (parts_of l)) h.2)
+pub fits_bare : (t : Tree) (form : Form) → Fits form t → Fits form (without_spans t)
+unfolding Fits without_spans
+fits_bare (Node l f) (One c) h = (h.0, else_fits_bare l f ∙ h.1, fits_bare f (All (symbols_of l)) h.2)
 fits_bare Nil (All []) h = tt
-fits_bare (Cons (Leaf x) f) (All (T s ∷ syms)) h = (h.0, fits_bare f (All syms) h.1)
-fits_bare (Cons t f) (All (N c ∷ syms)) h = (fits_bare t (One c) h.0, fits_bare f (All syms) h.1)
+fits_bare (Cons (Leaf x) f) (All (T s ∷ symbols)) h = (h.0, fits_bare f (All symbols) h.1)
+fits_bare (Cons t f) (All (N c ∷ symbols)) h = (fits_bare t (One c) h.0, fits_bare f (All symbols) h.1)
 fits_bare t (One c) h = absurd h
 fits_bare t (All []) h = absurd h
-fits_bare t (All (T s ∷ syms)) h = absurd h
-fits_bare t (All (N c ∷ syms)) h = absurd h
+fits_bare t (All (T s ∷ symbols)) h = absurd h
+fits_bare t (All (N c ∷ symbols)) h = absurd h
 
-pub bare_fits : (t : Tree) (form : Form) → Fits form (without_places t) → Fits form t
-unfolding Fits without_places
-bare_fits (Node l f) (One c) h = (h.0, sym (else_fits_bare l f) ∙ h.1, bare_fits f (All (parts_of l)) h.2)
+pub bare_fits : (t : Tree) (form : Form) → Fits form (without_spans t) → Fits form t
+unfolding Fits without_spans
+bare_fits (Node l f) (One c) h = (h.0, sym (else_fits_bare l f) ∙ h.1, bare_fits f (All (symbols_of l)) h.2)
 bare_fits Nil (All []) h = tt
-bare_fits (Cons (Leaf x) f) (All (T s ∷ syms)) h = (h.0, bare_fits f (All syms) h.1)
-bare_fits (Cons t f) (All (N c ∷ syms)) h = (bare_fits t (One c) h.0, bare_fits f (All syms) h.1)
+bare_fits (Cons (Leaf x) f) (All (T s ∷ symbols)) h = (h.0, bare_fits f (All symbols) h.1)
+bare_fits (Cons t f) (All (N c ∷ symbols)) h = (bare_fits t (One c) h.0, bare_fits f (All symbols) h.1)
 bare_fits t (One c) h = absurd h
 bare_fits t (All []) h = absurd h
-bare_fits t (All (T s ∷ syms)) h = absurd h
-bare_fits t (All (N c ∷ syms)) h = absurd h
+bare_fits t (All (T s ∷ symbols)) h = absurd h
+bare_fits t (All (N c ∷ symbols)) h = absurd h
 
 -- ---- the same tree of other tokens of the same kinds
 
@@ -77,14 +77,14 @@ split_kinds (x ∷ us) (k ∷ a) b e =
 pub record Dressed (t : Tree) (us : List Token) : Type 0 where
   pub tree : Tree
   pub spells : spelled tree [] ≡ us
-  pub same : without_places tree ≡ without_places t
+  pub same : without_spans tree ≡ without_spans t
 
 no_kinds : (us : List Token) → kinds us ≡ [] → [] ≡ us
 no_kinds [] e = refl
 no_kinds (x ∷ us) e = absurd (cc e)
 
 leaf_dressed : (x : Token) (us : List Token) → kinds us ≡ x.kind ∷ [] → Dressed (Leaf x) us
-unfolding spelled without_places
+unfolding spelled without_spans
 leaf_dressed x [] e = absurd (cc e)
 leaf_dressed x (u ∷ []) e =
     let same : u.kind ≡ x.kind = cc e in
@@ -92,7 +92,7 @@ leaf_dressed x (u ∷ []) e =
 leaf_dressed x (u ∷ v ∷ us) e = absurd (cc e)
 
 pub dress : (t : Tree) (us : List Token) → kinds us ≡ kinds (spelled t []) → Dressed t us
-unfolding spelled without_places
+unfolding spelled without_spans
 dress (Leaf x) us e = leaf_dressed x us e
 dress Nil us e = record { tree = Nil; spells = no_kinds us e; same = refl }
 dress (Node l f) us e = let d = dress f us e in record { tree = Node l d.tree; spells = d.spells; same = ap (Node l) d.same }
@@ -103,7 +103,7 @@ dress (Cons t f) us e =
     record {
       tree = Cons d.tree g.tree;
       spells = spelled_append d.tree (spelled g.tree []) ∙ ap (λ z. z ++ spelled g.tree []) d.spells ∙ ap (λ z. s.left ++ z) g.spells ∙ sym s.is_so;
-      same = ap (λ z. Cons z (without_places g.tree)) d.same ∙ ap (λ z. Cons (without_places t) z) g.same;
+      same = ap (λ z. Cons z (without_spans g.tree)) d.same ∙ ap (λ z. Cons (without_spans t) z) g.same;
     }
 
 pub dressed_fits : (form : Form) (t : Tree) (us : List Token) (d : Dressed t us) → Fits form t → Fits form d.tree
@@ -112,7 +112,7 @@ dressed_fits form t us d h = bare_fits d.tree form (subst (Fits form) (sym d.sam
 token : TokenKind → ℕ → ℕ → Token
 token k a b = record { kind = k; at = a; end = b }
 
--- tokens are their kinds and places
+-- tokens are their kinds and spans
 token_same : (x y : Token) → x.kind ≡ y.kind → x.at ≡ y.at → x.end ≡ y.end → x ≡ y
 unfolding token
 token_same x y e f g =

@@ -1,4 +1,4 @@
--- The labels of the nodes of a tree: one for each production of the grammar.
+-- The productions of the grammar, which label the nodes of a tree.
 
 -- the levels of binary operators, tightest first (ISO 9899:2011, 6.5.5 to 6.5.14)
 pub data Level : Type 0 where
@@ -17,7 +17,7 @@ pub data Level : Type 0 where
 pub data Repeated : Type 0 where
   -- external declarations of a unit
   Externals : Repeated
-  -- member declarations behind the first one of a struct
+  -- member declarations after the first one of a struct
   MoreMembers : Repeated
   -- `, member`
   MoreMember : Repeated
@@ -35,22 +35,22 @@ pub data Repeated : Type 0 where
   Items : Repeated
   -- groups of a `switch`
   Groups : Repeated
-  -- labels behind the first one of a group
+  -- labels after the first one of a group
   MoreLabels : Repeated
-  -- statements behind the first one of a group
+  -- statements after the first one of a group
   MoreStmts : Repeated
   -- `, assign`
   MoreAssigns : Repeated
-  -- string literals behind the first one
-  MoreTexts : Repeated
+  -- string literals after the first one
+  MoreLiterals : Repeated
 
 -- what the grammar leaves free, `[ .. ]`
 pub data Optional : Type 0 where
   -- `const`
   Constant : Optional
-  -- `int` behind `short`
+  -- `int` after `short`
   ShortInt : Optional
-  -- `char`, `int`, `short` behind `signed` or `unsigned`
+  -- `char`, `int`, `short` after `signed` or `unsigned`
   SignedBase : Optional
   -- the size in `[ ]`
   Size : Optional
@@ -65,85 +65,85 @@ pub data Optional : Type 0 where
   -- the arguments of a call
   Arguments : Optional
 
-pub data Label : Type 0 where
+pub data Production : Type 0 where
   -- repetitions and options: none, the ones before with one more; absent, present
-  Empty : Repeated → Label
-  More : Repeated → Label
-  Absent : Optional → Label
-  Present : Optional → Label
+  Empty : Repeated → Production
+  More : Repeated → Production
+  Absent : Optional → Production
+  Present : Optional → Production
   -- external declarations: those that begin with `static`, with `const`, with a type that is no struct, with `struct`
-  Static : Label
-  Const : Label
-  Plain : Label
-  Struct : Label
+  Static : Production
+  Const : Production
+  Plain : Production
+  Struct : Production
   -- what follows `struct name`: `;`, members and `;`
-  StructName : Label
-  StructMembers : Label
+  StructName : Production
+  StructMembers : Production
   -- what follows the type: `*`s, a name and the rest
-  Declared : Label
+  Declared : Production
   -- what follows the name: that of a function, that of variables
-  Function : Label
-  Globals : Label
+  Function : Production
+  Globals : Production
   -- the body of a function that is only declared
-  Prototype : Label
+  Prototype : Production
   -- member declarations and declarators
-  Members : Label
-  Member : Label
+  Members : Production
+  Member : Production
   -- declarations of variables and their declarators
-  Locals : Label
-  Decl : Label
-  -- initialisers: a list in braces; its first element, a comma behind elements, an element behind a comma
-  InitList : Label
-  InitFirst : Label
-  InitComma : Label
-  InitNext : Label
+  Locals : Production
+  Decl : Production
+  -- initialisers: a list in braces; its first element, a comma after elements, an element after a comma
+  InitList : Production
+  InitFirst : Production
+  InitComma : Production
+  InitNext : Production
   -- a parameter
-  Param : Label
+  Param : Production
   -- type specifiers
-  Void : Label
-  Char : Label
-  Int : Label
-  Short : Label
-  Signed : Label
-  StructTag : Label
+  Void : Production
+  Char : Production
+  Int : Production
+  Short : Production
+  Signed : Production
+  StructTag : Production
   -- a type name
-  TypeName : Label
+  TypeName : Production
   -- statements
-  Block : Label
-  Null : Label
-  Expression : Label
-  If : Label
-  IfElse : Label
-  While : Label
-  DoWhile : Label
-  For : Label
-  Break : Label
-  Continue : Label
-  Return : Label
-  Switch : Label
+  Block : Production
+  Null : Production
+  Expression : Production
+  If : Production
+  IfElse : Production
+  While : Production
+  DoWhile : Production
+  For : Production
+  Break : Production
+  Continue : Production
+  Return : Production
+  Switch : Production
   -- the first clause of a `for` that declares nothing
-  ForClause : Label
+  ForClause : Production
   -- a group of a `switch` and its labels
-  Group : Label
-  Case : Label
-  Default : Label
+  Group : Production
+  Case : Production
+  Default : Production
   -- expressions
-  Expr : Label
-  Assignment : Label
-  Conditional : Label
-  Binary : Level → Label
-  Cast : Label
-  Increment : Label
-  Unary : Label
-  Sizeof : Label
-  SizeofType : Label
-  Index : Label
-  Call : Label
-  Dot : Label
-  Arrow : Label
-  PostIncrement : Label
-  Name : Label
-  Number : Label
-  Character : Label
-  Text : Label
-  Paren : Label
+  Expr : Production
+  Assignment : Production
+  Conditional : Production
+  Binary : Level → Production
+  Cast : Production
+  Increment : Production
+  Unary : Production
+  Sizeof : Production
+  SizeofType : Production
+  Index : Production
+  Call : Production
+  Dot : Production
+  Arrow : Production
+  PostIncrement : Production
+  Name : Production
+  Number : Production
+  Character : Production
+  Text : Production
+  Paren : Production
