@@ -1,0 +1,4 @@
+pub mod Linear
+pub mod Lines
+pub mod Meaning
+pub mod Frame

@@ -1,0 +1,2 @@
+//! The linear code of a lambda.
+#![tactic(auto)]
