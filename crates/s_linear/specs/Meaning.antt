@@ -125,9 +125,9 @@ entered n callees global None vs m i = Undefined []
 entered n callees global (Some f) vs m i =
     then_on
     (code_run
-      (record { bound = n; call = callees; addresses = record { local = address_in (length m) (map (λ o. o.size) f.objects); global = global } })
-      f.code
-      (record { names = first_names vs; memory = m ++ opened (shapes f.objects); input = i }))
+    (record { bound = n; call = callees; addresses = record { local = address_in (length m) (map (λ o. o.size) f.objects); global = global } })
+    f.code
+    (record { names = first_names vs; memory = m ++ opened (shapes f.objects); input = i }))
     (λ s. Returned (record { value = s.names f.value; memory = closed (length m) (length f.objects) s.memory; input = s.input }) [])
 
 -- a call at a bound: at 0 it is cut, and else it runs at the bound below

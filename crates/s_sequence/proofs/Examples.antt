@@ -29,13 +29,13 @@ two = record {
   params = 1;
   objects = [];
   body =
-    region (Value ∷ Memory ∷ Io ∷ [])
-    (node_then
+      region (Value ∷ Memory ∷ Io ∷ [])
+      (node_then
       (node 0 Gamma (Arg 0 ∷ Arg 0 ∷ [])
-        (region_then (region (Value ∷ []) (node_then (node 1 (Const 2) [] no_regions) no_nodes) (Out 1 0 ∷ Arg 0 ∷ []))
-        (region_then (region (Value ∷ []) (node_then (node 2 (Const 1) [] no_regions) no_nodes) (Out 2 0 ∷ Arg 0 ∷ [])) no_regions)))
+      (region_then (region (Value ∷ []) (node_then (node 1 (Const 2) [] no_regions) no_nodes) (Out 1 0 ∷ Arg 0 ∷ []))
+      (region_then (region (Value ∷ []) (node_then (node 2 (Const 1) [] no_regions) no_nodes) (Out 2 0 ∷ Arg 0 ∷ [])) no_regions)))
       no_nodes)
-    (Out 0 0 ∷ Arg 1 ∷ Arg 2 ∷ []);
+      (Out 0 0 ∷ Arg 1 ∷ Arg 2 ∷ []);
   next = 3;
 }
 
@@ -52,14 +52,14 @@ three = record {
   params = 1;
   objects = [];
   body =
-    region (Value ∷ Memory ∷ Io ∷ [])
-    (node_then
+      region (Value ∷ Memory ∷ Io ∷ [])
+      (node_then
       (node 0 Gamma (Arg 0 ∷ [])
-        (region_then (region [] (node_then (node 1 (Const 10) [] no_regions) no_nodes) (Out 1 0 ∷ []))
-        (region_then (region [] (node_then (node 2 (Const 11) [] no_regions) no_nodes) (Out 2 0 ∷ []))
-        (region_then (region [] (node_then (node 3 (Const 12) [] no_regions) no_nodes) (Out 3 0 ∷ [])) no_regions))))
+      (region_then (region [] (node_then (node 1 (Const 10) [] no_regions) no_nodes) (Out 1 0 ∷ []))
+      (region_then (region [] (node_then (node 2 (Const 11) [] no_regions) no_nodes) (Out 2 0 ∷ []))
+      (region_then (region [] (node_then (node 3 (Const 12) [] no_regions) no_nodes) (Out 3 0 ∷ [])) no_regions))))
       no_nodes)
-    (Out 0 0 ∷ Arg 1 ∷ Arg 2 ∷ []);
+      (Out 0 0 ∷ Arg 1 ∷ Arg 2 ∷ []);
   next = 4;
 }
 
@@ -76,16 +76,16 @@ countdown = record {
   params = 1;
   objects = [];
   body =
-    region (Value ∷ Memory ∷ Io ∷ [])
-    (node_then
+      region (Value ∷ Memory ∷ Io ∷ [])
+      (node_then
       (node 0 Theta (Arg 0 ∷ Arg 1 ∷ Arg 2 ∷ [])
-        (region_then
-          (region (Value ∷ Memory ∷ Io ∷ [])
-            (node_then (node 1 (Const 1) [] no_regions) (node_then (node 2 (Bin Sub) (Arg 0 ∷ Out 1 0 ∷ []) no_regions) no_nodes))
-            (Out 2 0 ∷ Out 2 0 ∷ Arg 1 ∷ Arg 2 ∷ []))
-          no_regions))
+      (region_then
+      (region (Value ∷ Memory ∷ Io ∷ [])
+      (node_then (node 1 (Const 1) [] no_regions) (node_then (node 2 (Bin Sub) (Arg 0 ∷ Out 1 0 ∷ []) no_regions) no_nodes))
+      (Out 2 0 ∷ Out 2 0 ∷ Arg 1 ∷ Arg 2 ∷ []))
+      no_regions))
       no_nodes)
-    (Out 0 0 ∷ Out 0 1 ∷ Out 0 2 ∷ []);
+      (Out 0 0 ∷ Out 0 1 ∷ Out 0 2 ∷ []);
   next = 3;
 }
 
@@ -102,12 +102,12 @@ swap = record {
   params = 2;
   objects = [];
   body =
-    region (Value ∷ Value ∷ Memory ∷ Io ∷ [])
-    (node_then
+      region (Value ∷ Value ∷ Memory ∷ Io ∷ [])
+      (node_then
       (node 0 Theta (Arg 0 ∷ Arg 1 ∷ Arg 2 ∷ Arg 3 ∷ [])
-        (region_then (region (Value ∷ Value ∷ Memory ∷ Io ∷ []) no_nodes (Arg 0 ∷ Arg 1 ∷ Arg 0 ∷ Arg 2 ∷ Arg 3 ∷ [])) no_regions))
+      (region_then (region (Value ∷ Value ∷ Memory ∷ Io ∷ []) no_nodes (Arg 0 ∷ Arg 1 ∷ Arg 0 ∷ Arg 2 ∷ Arg 3 ∷ [])) no_regions))
       no_nodes)
-    (Out 0 0 ∷ Out 0 2 ∷ Out 0 3 ∷ []);
+      (Out 0 0 ∷ Out 0 2 ∷ Out 0 3 ∷ []);
   next = 1;
 }
 
