@@ -3,18 +3,10 @@
 # It needs Debian's package binutils-riscv64-unknown-elf and python3.
 set -u
 cd "$(dirname "$0")/.." || exit 1
-for program in riscv64-unknown-elf-objdump python3; do
-    if ! command -v "$program" >/dev/null 2>&1; then
-        echo "tools/decode.sh: skipped, $program is not installed"
-        exit 0
-    fi
-done
-folder=$(mktemp -d) || exit 1
-trap 'rm -rf "$folder"' EXIT
-program=crates/cc_bench/out/cc_bench
-if [ ! -x "$program" ]; then
-    (cd crates/cc_bench && rt run -- lex <stdin >"$folder/log" 2>&1) || { tail -n 20 "$folder/log"; exit 1; }
-fi
+script=tools/decode.sh
+. tools/lib.sh
+need riscv64-unknown-elf-objdump python3
+built cc_bench
 
 # 250 words for each opcode of RV32IM, with the fields of registers and functions drawn by a fixed generator.
 python3 - "$folder" <<'PYTHON'

@@ -3,19 +3,9 @@
 # qemu-riscv32 runs it. Debian's packages binutils-riscv64-unknown-elf and qemu-user have them.
 set -u
 cd "$(dirname "$0")/.." || exit 1
-for program in qemu-riscv32 riscv64-unknown-elf-readelf riscv64-unknown-elf-objdump; do
-    if ! command -v "$program" >/dev/null 2>&1; then
-        echo "tools/first_path.sh: skipped, $program is not installed"
-        exit 0
-    fi
-done
-folder=$(mktemp -d) || exit 1
-trap 'rm -rf "$folder"' EXIT
-
-fail() {
-    echo "tools/first_path.sh: $1"
-    exit 1
-}
+script=tools/first_path.sh
+. tools/lib.sh
+need qemu-riscv32 riscv64-unknown-elf-readelf riscv64-unknown-elf-objdump
 
 # For each constant: the image is made, runs, and exits with the constant modulo 256.
 for constant in 0 42 300 2047 2048 4095 4096 305419896 2147483647; do

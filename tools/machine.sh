@@ -3,19 +3,9 @@
 # packages binutils-riscv64-unknown-elf and qemu-user.
 set -u
 cd "$(dirname "$0")/.." || exit 1
-for program in qemu-riscv32 riscv64-unknown-elf-as riscv64-unknown-elf-ld; do
-    if ! command -v "$program" >/dev/null 2>&1; then
-        echo "tools/machine.sh: skipped, $program is not installed"
-        exit 0
-    fi
-done
-folder=$(mktemp -d) || exit 1
-trap 'rm -rf "$folder"' EXIT
-
-fail() {
-    echo "tools/machine.sh: $1"
-    exit 1
-}
+script=tools/machine.sh
+. tools/lib.sh
+need qemu-riscv32 riscv64-unknown-elf-as riscv64-unknown-elf-ld
 
 # compare NAME INPUT: assembles NAME.s and runs it both ways on the input.
 compare() {

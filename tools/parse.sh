@@ -3,23 +3,18 @@
 # the language, so of the others it says nothing.)
 set -u
 cd "$(dirname "$0")/.." || exit 1
-if ! command -v gcc >/dev/null 2>&1; then
-    echo "tools/parse.sh: skipped, gcc is not installed"
-    exit 0
-fi
-folder=$(mktemp -d) || exit 1
-trap 'rm -rf "$folder"' EXIT
+script=tools/parse.sh
+. tools/lib.sh
+need gcc
 count=0
-head -n 300 crates/c_parse_tests/stdin >"$folder/sources"
-head -n 300 crates/c_parse_tests/stdout >"$folder/answers"
+# A row that begins with `#` is read in all its beginnings, with a line of answer each; rows with `@` are written in short form.
 while IFS= read -r source && IFS= read -r answer <&3; do
-    case $source in *@*) continue ;; esac
+    case $source in \#*) break ;; *@*) continue ;; esac
     [ "$answer" = "a program" ] || continue
     printf '%s\n' "$source" | gcc -std=c11 -fsyntax-only -x c - 2>"$folder/errors"
     if grep -q 'error: expected' "$folder/errors"; then
-        echo "tools/parse.sh: gcc finds a syntax error in: $source"
-        exit 1
+        fail "gcc finds a syntax error in: $source"
     fi
     count=$((count + 1))
-done <"$folder/sources" 3<"$folder/answers"
+done <crates/c_parse_tests/stdin 3<crates/c_parse_tests/stdout
 echo "tools/parse.sh: gcc finds no syntax error in $count programs"

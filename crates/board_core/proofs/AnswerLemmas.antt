@@ -31,10 +31,12 @@ module _ {M : Type 0} where
   out-of (Held worker) made e = cc
   out-of (Out other) made e = let same : other ≡ made = cc in ap Out same
 
-  all_some-cons : (x : Option M) (xs : List (Option M)) (made : List M) → all_some (x ∷ xs) ≡ Some made → (first : M) × (others : List M) × (x ≡ Some first) × (all_some xs ≡ Some others) × (made ≡ first ∷ others)
+  all_some-cons : (x : Option M) (xs : List (Option M)) (made : List M) → all_some (x ∷ xs) ≡ Some made
+      → (first : M) × (others : List M) × (x ≡ Some first) × (all_some xs ≡ Some others) × (made ≡ first ∷ others)
   all_some-cons None xs made e = cc
   all_some-cons (Some first) xs made e = all_some-cons-by first (all_some xs) made e where
-    all_some-cons-by : (x : M) (rest : Option (List M)) (all : List M) → option_map (λ others. x ∷ others) rest ≡ Some all → (one : M) × (others : List M) × (Some x ≡ Some one) × (rest ≡ Some others) × (all ≡ one ∷ others)
+    all_some-cons-by : (x : M) (rest : Option (List M)) (all : List M) → option_map (λ others. x ∷ others) rest ≡ Some all
+        → (one : M) × (others : List M) × (Some x ≡ Some one) × (rest ≡ Some others) × (all ≡ one ∷ others)
     all_some-cons-by x None all e' = cc
     all_some-cons-by x (Some others) all e' = let same : all ≡ x ∷ others = cc in (x, others, refl, refl, same)
 
@@ -47,7 +49,8 @@ module _ {M : Type 0} where
       let family : Option M → Type 0 = λ x. all_some (x ∷ map g ds) ≡ Some made in
       subst family (sym (more d parts.0 parts.2)) (ap (option_map (λ others. parts.0 ∷ others)) next ∙ ap Some (sym parts.4))
 
-  answer-by : (make : List M → M) (more fewer : Option (List M)) (made : M) → ((all : List M) → fewer ≡ Some all → more ≡ Some all) → option_map make fewer ≡ Some made → option_map make more ≡ Some made
+  answer-by : (make : List M → M) (more fewer : Option (List M)) (made : M) → ((all : List M) → fewer ≡ Some all → more ≡ Some all) → option_map make fewer ≡ Some made
+      → option_map make more ≡ Some made
   answer-by make more None made grows e = cc
   answer-by make more (Some all) made grows e = ap (option_map make) (grows all refl) ∙ e
 
@@ -61,7 +64,9 @@ module _ {M : Type 0} where
       e
 
   -- where each of the jobs is out with its answer, the answers of all are their results
-  all-answers : (program : Program M) (state : State M) (bound : ℕ) (ds : List ℕ) → ((d : ℕ) → Contains ds d → (made : M) × (result_of (job_at state d) ≡ Some made) × (answer_below program bound d ≡ Some made)) → all_some (map (answer_below program bound) ds) ≡ Some (results state ds)
+  all-answers : (program : Program M) (state : State M) (bound : ℕ) (ds : List ℕ)
+      → ((d : ℕ) → Contains ds d → (made : M) × (result_of (job_at state d) ≡ Some made) × (answer_below program bound d ≡ Some made))
+      → all_some (map (answer_below program bound) ds) ≡ Some (results state ds)
   all-answers program state bound [] each = refl
   all-answers program state bound (d ∷ ds) each =
       let here = each d (contains-head d ds) in
@@ -99,7 +104,8 @@ module _ {M : Type 0} where
       }
 
   -- results stay
-  set-keeps : (jobs : List (Job M)) (j : ℕ) (it : Job M) → j < length jobs → (IsSome (result_of (slice_index_or jobs j Open)) → IsSome (result_of it)) → (d : ℕ) → IsSome (result_of (slice_index_or jobs d Open)) → IsSome (result_of (slice_index_or (slice_set jobs j it) d Open))
+  set-keeps : (jobs : List (Job M)) (j : ℕ) (it : Job M) → j < length jobs → (IsSome (result_of (slice_index_or jobs j Open)) → IsSome (result_of it)) → (d : ℕ)
+      → IsSome (result_of (slice_index_or jobs d Open)) → IsSome (result_of (slice_index_or (slice_set jobs j it) d Open))
   set-keeps jobs j it inside kept d h =
       elim (job-set jobs j it inside d) [
         | inl here ↦
@@ -111,7 +117,8 @@ module _ {M : Type 0} where
             subst family (sym there.1) h
       ]
 
-  sound-claim : (program : Program M) (state : State M) (worker j : ℕ) → worker < program.workers → IsSound program state → IsReady program state j → IsSound program (record { jobs = slice_set state.jobs j (Held worker); stopped = state.stopped })
+  sound-claim : (program : Program M) (state : State M) (worker j : ℕ) → worker < program.workers → IsSound program state → IsReady program state j
+      → IsSound program (record { jobs = slice_set state.jobs j (Held worker); stopped = state.stopped })
   sound-claim program state worker j low now ready =
       let it : Job M = Held worker in
       let stay = set-keeps state.jobs j it ready.inside (λ h. absurd (false≢true (ap (λ x. is_some (result_of x)) (sym ready.still_open) ∙ h))) in
@@ -140,7 +147,8 @@ module _ {M : Type 0} where
       }
 
   -- what is made of deps that are all out is the answer
-  made-answer : (program : Program M) → IsRanked program → (state : State M) → IsSound program state → (j : ℕ) → ((d : ℕ) → Contains (deps_of program j) d → IsSome (result_of (job_at state d))) → answer program j ≡ Some (program.made j (results state (deps_of program j)))
+  made-answer : (program : Program M) → IsRanked program → (state : State M) → IsSound program state → (j : ℕ) → ((d : ℕ) → Contains (deps_of program j) d → IsSome (result_of (job_at state d)))
+      → answer program j ≡ Some (program.made j (results state (deps_of program j)))
   made-answer program ranked state now j deps_out =
       ap (option_map (program.made j))
       (all-answers program state (slice_index program.ranks j) (deps_of program j)
@@ -152,7 +160,8 @@ module _ {M : Type 0} where
             (now.out d some.0 (out-of (job_at state d) some.0 some.1)),
       )))
 
-  sound-publish : (program : Program M) → IsRanked program → (state : State M) (worker j : ℕ) → IsSound program state → job_at state j ≡ Held worker → IsSound program (record { jobs = slice_set state.jobs j (Out (program.made j (results state (deps_of program j)))); stopped = state.stopped })
+  sound-publish : (program : Program M) → IsRanked program → (state : State M) (worker j : ℕ) → IsSound program state → job_at state j ≡ Held worker
+      → IsSound program (record { jobs = slice_set state.jobs j (Out (program.made j (results state (deps_of program j)))); stopped = state.stopped })
   sound-publish program ranked state worker j now held =
       let it : Job M = Out (program.made j (results state (deps_of program j))) in
       let inside = inside-from_job state j (λ e. cc) in
@@ -179,7 +188,8 @@ module _ {M : Type 0} where
             ];
       }
 
-  sound-stop : (program : Program M) (state : State M) (worker : ℕ) → IsSound program state → IsSound program (record { jobs = map (released worker) state.jobs; stopped = slice_set state.stopped worker true })
+  sound-stop : (program : Program M) (state : State M) (worker : ℕ) → IsSound program state
+      → IsSound program (record { jobs = map (released worker) state.jobs; stopped = slice_set state.stopped worker true })
   sound-stop program state worker now =
       let at = job-released state.jobs worker in
       record {
@@ -212,7 +222,8 @@ module _ {M : Type 0} where
       made-answer program ranked (replay program events) now j (now.held j held.0 held.1)
 
   -- in a state where no job is ready and none is held, each job is out
-  pub idle-done : (program : Program M) → IsRanked program → (state : State M) → length state.jobs ≡ length program.deps → ((j : ℕ) → ¬ IsReady program state j) → ((j worker : ℕ) → ¬ (job_at state j ≡ Held worker)) → (bound j : ℕ) → j < length program.deps → slice_index program.ranks j < bound → IsSome (result_of (job_at state j))
+  pub idle-done : (program : Program M) → IsRanked program → (state : State M) → length state.jobs ≡ length program.deps → ((j : ℕ) → ¬ IsReady program state j)
+      → ((j worker : ℕ) → ¬ (job_at state j ≡ Held worker)) → (bound j : ℕ) → j < length program.deps → slice_index program.ranks j < bound → IsSome (result_of (job_at state j))
   idle-done program ranked state counted unready unheld zero j inside below = absurd (omega arith)
   idle-done program ranked state counted unready unheld (suc bound) j inside below =
       idle-done-by (job_at state j) refl (λ d h. idle-done program ranked state counted unready unheld bound d (ranked.known j d h) (omega (arith, ranked.smaller j d h))) where

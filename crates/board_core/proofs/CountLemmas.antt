@@ -66,7 +66,8 @@ module _ {M : Type 0} where
       let here = left-released worker stopped it in
       omega (arith, here, rest, sum_by-cons (left true) (released worker it) (map (released worker) jobs), sum_by-cons (left stopped) it jobs)
 
-  room-claim : (program : Program M) (count : ℕ) (state : State M) (worker j : ℕ) → HasRoom program count state → NobodyStopped state → j < length state.jobs → job_at state j ≡ Open → HasRoom program (suc count) (record { jobs = slice_set state.jobs j (Held worker); stopped = state.stopped })
+  room-claim : (program : Program M) (count : ℕ) (state : State M) (worker j : ℕ) → HasRoom program count state → NobodyStopped state → j < length state.jobs → job_at state j ≡ Open
+      → HasRoom program (suc count) (record { jobs = slice_set state.jobs j (Held worker); stopped = state.stopped })
   room-claim program count state worker j now nobody inside open' =
       let it : Job M = Held worker in
       let none = now.nobody nobody in
@@ -79,7 +80,8 @@ module _ {M : Type 0} where
         room = omega (arith, sums, was, left-held now.somebody worker it refl, now.room);
       }
 
-  room-publish : (program : Program M) (count : ℕ) (state : State M) (worker j : ℕ) (made : M) → HasRoom program count state → job_at state j ≡ Held worker → HasRoom program (suc count) (record { jobs = slice_set state.jobs j (Out made); stopped = state.stopped })
+  room-publish : (program : Program M) (count : ℕ) (state : State M) (worker j : ℕ) (made : M) → HasRoom program count state → job_at state j ≡ Held worker
+      → HasRoom program (suc count) (record { jobs = slice_set state.jobs j (Out made); stopped = state.stopped })
   room-publish program count state worker j made now held =
       let it : Job M = Out made in
       let inside = inside-from_job state j (λ e. cc) in
@@ -92,7 +94,8 @@ module _ {M : Type 0} where
         room = omega (arith, sums, was, left-out now.somebody made, now.room);
       }
 
-  room-stop : (program : Program M) (count : ℕ) (state : State M) (worker : ℕ) → HasRoom program count state → worker < program.workers → slice_index_or state.stopped worker false ≡ false → HasRoom program (suc count) (record { jobs = map (released worker) state.jobs; stopped = slice_set state.stopped worker true })
+  room-stop : (program : Program M) (count : ℕ) (state : State M) (worker : ℕ) → HasRoom program count state → worker < program.workers → slice_index_or state.stopped worker false ≡ false
+      → HasRoom program (suc count) (record { jobs = map (released worker) state.jobs; stopped = slice_set state.stopped worker true })
   room-stop program count state worker now known going' =
       let inside : worker < length state.stopped = omega (arith, now.workers) in
       let sums = sum_by-set going state.stopped worker true false inside in
@@ -104,7 +107,8 @@ module _ {M : Type 0} where
         room = omega (arith, sums, was, now.room, sum-released worker now.somebody state.jobs);
       }
 
-  room-step : (program : Program M) (count : ℕ) (state : State M) (event : Event) → HasRoom program count state → MayHappen program state event → HasRoom program (suc count) (after program state event)
+  room-step : (program : Program M) (count : ℕ) (state : State M) (event : Event) → HasRoom program count state → MayHappen program state event
+      → HasRoom program (suc count) (after program state event)
   room-step program count state (Claim worker j) now may = room-claim program count state worker j now may.going may.next.ready.inside may.next.ready.still_open
   room-step program count state (Publish worker j) now may = room-publish program count state worker j _ now may.1
   room-step program count state (Stop worker) now may =
@@ -117,7 +121,8 @@ module _ {M : Type 0} where
       omega (arith, it.room)
 
   -- where an event may still happen, there is room for it
-  pub room-more : (program : Program M) (events : List Event) (event : Event) → IsLegal program events → MayHappen program (replay program events) event → length events < 2 * length program.deps + program.workers
+  pub room-more : (program : Program M) (events : List Event) (event : Event) → IsLegal program events → MayHappen program (replay program events) event
+      → length events < 2 * length program.deps + program.workers
   room-more program events event legal may =
       let it = legal-keeps program (HasRoom program) (room-step program) events 0 (start program) legal (room-start program) in
       let next = room-step program (length events + 0) (replay program events) event it may in

@@ -1,7 +1,7 @@
 pub mod MachineLemmas
 pub mod AnswerLemmas
 pub mod CountLemmas
-pub mod StandLemmas
+pub mod JobStateLemmas
 pub mod KeptLemmas
 pub mod ResultLemmas
 pub mod OpenLemmas

@@ -8,7 +8,9 @@ use Rattle.board_core.specs.Board.{Job, Open, Held, Out, Program, State, job_at,
 
 module _ {M : Type 0} where
   -- what holds at the start and is kept by each event holds after a legal history
-  pub legal-keeps : (program : Program M) (Kept : ℕ → State M → Type 0) → ((k : ℕ) (state : State M) (event : Event) → Kept k state → MayHappen program state event → Kept (suc k) (after program state event)) → (events : List Event) (k : ℕ) (state : State M) → IsLegalFrom program state events → Kept k state → Kept (length events + k) (replay_from program state events)
+  pub legal-keeps : (program : Program M) (Kept : ℕ → State M → Type 0)
+      → ((k : ℕ) (state : State M) (event : Event) → Kept k state → MayHappen program state event → Kept (suc k) (after program state event)) → (events : List Event) (k : ℕ) (state : State M)
+      → IsLegalFrom program state events → Kept k state → Kept (length events + k) (replay_from program state events)
   legal-keeps program Kept step [] k state legal now =
       let family : ℕ → Type 0 = λ n. Kept n state in
       subst family (omega arith) now
@@ -17,15 +19,17 @@ module _ {M : Type 0} where
       subst family (omega arith)
       (legal-keeps program Kept step events (suc k) (after program state event) legal.1 (step k state event now legal.0))
 
-  replay_from-push : (program : Program M) (state : State M) (events : List Event) (event : Event) → replay_from program state (events ++ event ∷ []) ≡ after program (replay_from program state events) event
+  replay_from-push : (program : Program M) (state : State M) (events : List Event) (event : Event)
+      → replay_from program state (events ++ event ∷ []) ≡ after program (replay_from program state events) event
   replay_from-push program state [] event = refl
   replay_from-push program state (first ∷ events) event = replay_from-push program (after program state first) events event
 
-  -- where a history leads that goes on by one event
+  -- the state after a history and one more event
   pub replay-push : (program : Program M) (events : List Event) (event : Event) → replay program (events ++ event ∷ []) ≡ after program (replay program events) event
   replay-push program events event = replay_from-push program (start program) events event
 
-  legal_from-push : (program : Program M) (state : State M) (events : List Event) (event : Event) → IsLegalFrom program state events → MayHappen program (replay_from program state events) event → IsLegalFrom program state (events ++ event ∷ [])
+  legal_from-push : (program : Program M) (state : State M) (events : List Event) (event : Event) → IsLegalFrom program state events → MayHappen program (replay_from program state events) event
+      → IsLegalFrom program state (events ++ event ∷ [])
   legal_from-push program state [] event legal may = (may, tt)
   legal_from-push program state (first ∷ events) event legal may =
       (legal.0, legal_from-push program (after program state first) events event legal.1 may)
@@ -72,7 +76,8 @@ module _ {M : Type 0} where
       elim (held-or-open (other == worker) other) [ inl open' ↦ cc | inr same ↦ cc ]
 
   -- what holds of a job after one job was set
-  pub job-set : (jobs : List (Job M)) (j : ℕ) (it : Job M) → j < length jobs → (k : ℕ) → ((k ≡ j) × (slice_index_or (slice_set jobs j it) k Open ≡ it)) ⊎ ((k ≢ j) × (slice_index_or (slice_set jobs j it) k Open ≡ slice_index_or jobs k Open))
+  pub job-set : (jobs : List (Job M)) (j : ℕ) (it : Job M) → j < length jobs → (k : ℕ)
+      → ((k ≡ j) × (slice_index_or (slice_set jobs j it) k Open ≡ it)) ⊎ ((k ≢ j) × (slice_index_or (slice_set jobs j it) k Open ≡ slice_index_or jobs k Open))
   job-set jobs j it inside k =
       elim (cases_eq k j) [
         | inl same ↦ inl (same, ap (λ n. slice_index_or (slice_set jobs j it) n Open) same ∙ get_or-set_same jobs j it Open inside)

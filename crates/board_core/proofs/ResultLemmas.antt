@@ -10,7 +10,9 @@ cons_option-nil None = refl
 cons_option-nil (Some x) = refl
 
 -- one result more
-pub results-more : {A M : Type 0} (value : A → M) (results : List (Option A)) (deps : List ℕ) (i : ℕ) (found : Option A) (old out new : List A) → i < length deps → slice_index deps i < length results → found ≡ slice_index_or results (slice_index deps i) found → map value out ≡ map value old ++ filter_map (λ d. option_map value (slice_index_or results d None)) (take i deps) → map value new ≡ map value out ++ option_to_list (option_map value found) → map value new ≡ map value old ++ filter_map (λ d. option_map value (slice_index_or results d None)) (take (i + 1) deps)
+pub results-more : {A M : Type 0} (value : A → M) (results : List (Option A)) (deps : List ℕ) (i : ℕ) (found : Option A) (old out new : List A) → i < length deps → slice_index deps i < length results
+    → found ≡ slice_index_or results (slice_index deps i) found → map value out ≡ map value old ++ filter_map (λ d. option_map value (slice_index_or results d None)) (take i deps)
+    → map value new ≡ map value out ++ option_to_list (option_map value found) → map value new ≡ map value old ++ filter_map (λ d. option_map value (slice_index_or results d None)) (take (i + 1) deps)
 results-more {A} {M} value results deps i found old out new inside known is before now =
     let at : ℕ → Option M = λ d. option_map value (slice_index_or results d None) in
     let d = slice_index deps i in

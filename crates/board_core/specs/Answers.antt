@@ -16,7 +16,7 @@ module _ {M : Type 0} where
   all_some (None ∷ others) = None
   all_some (Some made ∷ others) = option_map (λ rest. made ∷ rest) (all_some others)
 
-  -- the result of a job, where all ranks that it leads to are below the bound
+  -- the result of a job whose rank is below the bound
   abbrev pub answer_below : Program M → ℕ → ℕ → Option M
   answer_below program zero j = None
   answer_below program (suc bound) j =

@@ -4,13 +4,13 @@ use Rattle.std.specs.List.{filter_map}
 use Rattle.board_core.specs.declared.event.Event.{Event}
 use Rattle.board_core.specs.declared.event.Event.TheVariants.{Claim, Publish, Stop}
 
--- where a job stands
+-- the state of a job
 pub data Job (M : Type 0) : Type 0 where
   Open : Job M
   Held : (worker : ℕ) → Job M
   Out : (made : M) → Job M
 
--- What a board works off: the rank of each job, the jobs that it depends on, how many workers there are, and what the
+-- The program of a board: the rank of each job, the jobs that it depends on, how many workers there are, and what the
 -- result of a job is, given those of the jobs that it depends on.
 pub record Program (M : Type 0) : Type 0 where
   pub ranks : List ℕ
@@ -18,7 +18,7 @@ pub record Program (M : Type 0) : Type 0 where
   pub workers : ℕ
   pub made : ℕ → List M → M
 
--- where each job stands, and which workers have stopped
+-- the state of each job, and which workers have stopped
 pub record State (M : Type 0) : Type 0 where
   pub jobs : List (Job M)
   pub stopped : List Bool
@@ -78,7 +78,7 @@ module _ {M : Type 0} where
   released worker (Held holder) = if holder == worker then Open else Held holder
   released worker (Out made) = Out made
 
-  -- where an event leads
+  -- the state after an event
   abbrev pub after : Program M → State M → Event → State M
   after program state (Claim worker j) = record { jobs = slice_set state.jobs j (Held worker); stopped = state.stopped }
   after program state (Publish worker j) =
@@ -94,7 +94,7 @@ module _ {M : Type 0} where
   replay_from program state [] = state
   replay_from program state (event ∷ events) = replay_from program (after program state event) events
 
-  -- where a history leads
+  -- the state after a history
   abbrev pub replay : Program M → List Event → State M
   replay program events = replay_from program (start program) events
 
@@ -102,6 +102,6 @@ module _ {M : Type 0} where
   IsLegalFrom program state [] = Unit {0}
   IsLegalFrom program state (event ∷ events) = MayHappen program state event × IsLegalFrom program (after program state event) events
 
-  -- each event may happen where those before it lead
+  -- each event may happen in the state after those before it
   abbrev pub IsLegal : Program M → List Event → Type 0
   IsLegal program events = IsLegalFrom program (start program) events

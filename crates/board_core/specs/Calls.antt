@@ -56,11 +56,11 @@ IsBadDep ranks j d = (length ranks ≤ d) ⊎ (slice_index ranks j ≤ slice_ind
 
 -- the first of these deps of a job that is bad
 pub record IsFirstBadDep (ranks : List ℕ) (deps : List ℕ) (j d : ℕ) : Type 0 where
-  pub place : ℕ
-  pub inside : place < length deps
-  pub value : slice_index deps place ≡ d
+  pub index : ℕ
+  pub inside : index < length deps
+  pub value : slice_index deps index ≡ d
   pub bad : IsBadDep ranks j d
-  pub earlier : (e : ℕ) → e < place → ¬ IsBadDep ranks j (slice_index deps e)
+  pub earlier : (e : ℕ) → e < index → ¬ IsBadDep ranks j (slice_index deps e)
 
 abbrev pub NoBadDep : List ℕ → List ℕ → ℕ → Type 0
 NoBadDep ranks deps j = (e : ℕ) → e < length deps → ¬ IsBadDep ranks j (slice_index deps e)

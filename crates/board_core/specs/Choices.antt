@@ -1,4 +1,4 @@
--- What a board may answer a claim.
+-- The answers to a claim.
 use Rattle.std.specs.Prelude.{◌<◌, List, length}
 use Rattle.board_core.specs.declared.event.Event.{Event}
 use Rattle.board_core.specs.declared.board.Choice.{Choice}
@@ -7,7 +7,7 @@ use Rattle.board_core.specs.Board.{Program, State, IsNext, NobodyStopped}
 use Rattle.board_core.specs.Calls.{AllOut, IsWaiting, IsDone, SomeHeld, SomebodyStopped}
 
 module _ {M : Type 0} where
-  -- when each answer is chosen, where the history leads to the state
+  -- when each answer is chosen, in the state after the history
   abbrev pub IsChoice : Program M → State M → List Event → Choice → Type 0
   IsChoice program state events (Ready j) =
       NobodyStopped state × (¬ SomebodyStopped events) × (j < length program.deps) × IsNext program state j

@@ -21,6 +21,6 @@ abbrev pub program_of : {W M : Type 0} → (W → ℕ → List M → M) → Hist
 program_of made history =
     record { ranks = history.ranks; deps = history.deps; workers = history.workers; made = made history.work }
 
--- where the history leads
+-- the state after the history
 abbrev pub state_of : {W M : Type 0} → (W → ℕ → List M → M) → History W → State M
 state_of made history = replay (program_of made history) history.events

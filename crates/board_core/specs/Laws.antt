@@ -4,7 +4,7 @@ use Rattle.board_core.specs.declared.event.Event.{Event}
 use Rattle.board_core.specs.Board.{Held, Out, Program, job_at, result_of, results, deps_of, IsReady, IsLegal, replay}
 use Rattle.board_core.specs.Answers.{IsRanked, answer}
 
--- whatever legal history comes about, the result of each job that is out is that of the recursion on ranks
+-- after every legal history the result of each job that is out is that of the recursion on ranks
 abbrev pub ResultsAreAnswers : Type 0 → Type 0
 ResultsAreAnswers M =
     (program : Program M) (events : List Event) → IsRanked program → IsLegal program events

@@ -3,6 +3,6 @@ pub mod Answers
 pub mod History
 pub mod Calls
 pub mod Choices
-pub mod Stands
+pub mod JobStates
 pub mod Kept
 pub mod Laws

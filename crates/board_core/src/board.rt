@@ -1,5 +1,5 @@
 // The board.
-ghost use Rattle.std.specs.Prelude.{◌≡◌, ◌≢◌, ℕ, ◌+◌, ◌<◌, ◌≤◌, ◌↔◌, ◌++◌, None, length, map, option_map, option_to_list, replicate, slice_index, slice_index_or, OnOk, OnErr, IfOk, IfSome, IfNone, MatchBool, IsErr, [], ◌∷◌, vec_capacity, vec_len};
+ghost use Rattle.std.specs.Prelude.{◌≡◌, ◌≢◌, ℕ, ◌+◌, ◌<◌, ◌≤◌, ◌↔◌, ◌++◌, None, length, map, option_map, option_to_list, replicate, slice_index, slice_index_or, OnOk, OnErr, IfOk, IfSome, IfNone, MatchBool, IsErr, IsTrue, [], ◌∷◌, vec_capacity, vec_len};
 ghost use Rattle.std.specs.List.{filter_map};
 ghost use Rattle.std.specs.Arc.{arc_value};
 ghost use Rattle.board_core.specs.Board.{job_at, results, deps_of, HasStopped, Held, HoldsNone, IsLegal, IsNext, IsReady, MayClaim, NobodyStopped, result_of};
@@ -9,22 +9,25 @@ ghost use Rattle.board_core.specs.Choices.{IsChoice};
 ghost use Rattle.board_core.specs.History.{dep_lists, program_of, state_of};
 
 use crate::checks::first_bad;
-use crate::event::{Claim, Event, NoMemory, OpenFault};
-use crate::stand::{Stand, all_open, is_some_held, next_ready, none_checked, release};
+use crate::event::{Claim, Event, OpenFault};
+use crate::job_state::{
+    JobState, all_open, is_held_by, is_no_holder, is_some_held, next_ready, none_checked, release,
+};
 use crate::work::Work;
+use no_memory::NoMemory;
 use std::alloc::{AllocError, Global};
 use std::marker::Model;
 use std::snapshot::Snapshot;
 use std::sync::Arc;
 
-/// A board. Contracts see its program and its history.
+/// A board of jobs for workers. Contracts see its program and its history.
 #[derive(Drop)]
 pub struct Board<W: Work> {
     work: Snapshot<W>,
     ranks: Vec<u32>,
     deps: Vec<Vec<u32>>,
     workers: u32,
-    stands: Vec<Stand>,
+    job_states: Vec<JobState>,
     results: Vec<Option<Arc<W::Made>>>,
     // How many deps of each job, from the first on, are known to be out.
     checked: Vec<usize>,
@@ -40,12 +43,31 @@ impl<W: Work> Model for Board<W> {
 
     ghost Value = { History W };
 
-    ghost view = { λ b. record { ranks = b.ranks.items; deps = dep_lists b.deps.items; workers = b.workers; work = b.work.value; events = b.events.items } };
+    ghost view = { λ b.
+        record {
+          ranks = b.ranks.items;
+          deps = dep_lists b.deps.items;
+          workers = b.workers;
+          work =
+              b.work.value;
+          events = b.events.items;
+        } };
 
-    ghost invariant = { λ b. IsKept (program_of W.made (record { ranks = b.ranks.items; deps = dep_lists b.deps.items; workers = b.workers; work = b.work.value; events = b.events.items })) b.events.items b.stands.items (map (option_map arc_value) b.results.items) b.checked.items b.is_stopped (vec_capacity b.events) };
+    ghost invariant = { λ b.
+        IsKept (program_of W.made
+        (record {
+          ranks = b.ranks.items;
+          deps = dep_lists b.deps.items;
+          workers = b.workers;
+          work =
+              b.work.value;
+          events = b.events.items;
+        })) b.events.items b.job_states.items
+        (map (option_map arc_value) b.results.items) b.checked.items b.is_stopped
+        (vec_capacity b.events) };
 }
 
-// What a claim finds.
+// The answer to a claim, before the results are given.
 enum Choice {
     Ready(u32),
     Busy,
@@ -115,8 +137,10 @@ fn log(events: &mut Vec<Event>, event: Event)
 }
 
 impl<W: Work> Board<W> {
-    /// Opens a board of this work, where all jobs are open and nothing has happened. Takes all the room that the board
-    /// ever needs.
+    /// A board of this work, where all jobs are open and nothing has happened. The job j has the
+    /// rank `ranks[j]` and depends on the jobs `deps[j]`; there are at most 512 jobs and 64
+    /// workers. All memory that the board ever needs is taken here. `BadDeps` exactly where a dep
+    /// is bad.
     pub fn open(
         alloc: Global,
         work: &W,
@@ -145,7 +169,7 @@ impl<W: Work> Board<W> {
             ranks: Vec::from_slice(alloc, ranks)?,
             deps: copied(alloc, deps)?,
             workers,
-            stands: all_open(alloc, deps.len())?,
+            job_states: all_open(alloc, deps.len())?,
             results: no_results(alloc, deps.len())?,
             checked: none_checked(alloc, deps.len())?,
             is_stopped: false,
@@ -153,8 +177,15 @@ impl<W: Work> Board<W> {
         })
     }
 
-    // Whether somebody has stopped.
-    fn is_halted(&self) -> bool
+    /// The number of workers.
+    pub fn workers(&self) -> u32
+        ensures { result ≡ self.now.workers }
+    {
+        self.workers
+    }
+
+    /// Whether a worker has stopped; then every claim is `Stopped`.
+    pub fn is_halted(&self) -> bool
         ensures { MatchBool result
             (SomebodyStopped self.now.events × (¬ NobodyStopped (state_of W.made self.now)))
             (NobodyStopped (state_of W.made self.now) × (¬ SomebodyStopped self.now.events)) }
@@ -162,16 +193,31 @@ impl<W: Work> Board<W> {
         self.is_stopped
     }
 
+    /// Whether the worker holds no job, as `claim` requires.
+    pub fn is_idle(&self, worker: u32) -> bool
+        ensures { IsTrue result ↔ HoldsNone (state_of W.made self.now) worker }
+    {
+        is_no_holder(self.job_states.as_slice(), worker)
+    }
+
+    /// Whether the worker holds the job, as `publish` requires.
+    pub fn holds(&self, worker: u32, job: u32) -> bool
+        ensures { IsTrue result ↔ (job_at (state_of W.made self.now) job ≡ Held worker) }
+    {
+        is_held_by(self.job_states.as_slice(), worker, job)
+    }
+
     // The least job that is ready.
     fn next_job(&mut self) -> Option<u32>
         ensures same { self.new ≡ self.old }
         ensures some { IfSome result (λ j. (j < length self.old.deps)
             × IsNext (program_of W.made self.old) (state_of W.made self.old) j) }
-        ensures none { IfNone result ((j : ℕ) → ¬ IsReady (program_of W.made self.old) (state_of W.made self.old) j) }
+        ensures none { IfNone result
+            ((j : ℕ) → ¬ IsReady (program_of W.made self.old) (state_of W.made self.old) j) }
     {
         next_ready(
             self.deps.as_slice(),
-            self.stands.as_slice(),
+            self.job_states.as_slice(),
             self.checked.as_mut_slice(),
         )
     }
@@ -179,18 +225,20 @@ impl<W: Work> Board<W> {
     // Whether some job is held. Where none is, and none is ready, all jobs are out.
     fn is_busy(&self) -> bool
         ensures { MatchBool result
-            (SomeHeld (state_of W.made self.now) × (¬ AllOut (program_of W.made self.now) (state_of W.made self.now)))
+            (SomeHeld (state_of W.made self.now)
+            × (¬ AllOut (program_of W.made self.now) (state_of W.made self.now)))
             ((¬ SomeHeld (state_of W.made self.now))
             × (((j : ℕ) → ¬ IsReady (program_of W.made self.now) (state_of W.made self.now) j)
             → AllOut (program_of W.made self.now) (state_of W.made self.now))) }
     {
-        is_some_held(self.stands.as_slice())
+        is_some_held(self.job_states.as_slice())
     }
 
     // What a claim is to be answered.
     fn choose(&mut self) -> Choice
         ensures same { self.new ≡ self.old }
-        ensures choice { IsChoice (program_of W.made self.old) (state_of W.made self.old) self.old.events result }
+        ensures choice { IsChoice (program_of W.made self.old)
+            (state_of W.made self.old) self.old.events result }
     {
         if self.is_halted() {
             return Choice::Halted;
@@ -207,12 +255,14 @@ impl<W: Work> Board<W> {
         requires { MayClaim (program_of W.made self.old) (state_of W.made self.old) worker job }
         ensures { self.new ≡ with_event self.old (Event.Claim worker job) }
     {
-        self.stands[job as usize] = Stand::Held(worker);
+        self.job_states[job as usize] = JobState::Held(worker);
         log(&mut self.events, Event::Claim { worker, job });
     }
 
-    /// Gives the worker, which holds no job, the least job that is open and whose deps are all out, with their results in
-    /// the order of its deps. `deps_out` has room for 512 results.
+    /// Gives the worker, which holds no job, the least job that is open and whose deps are all out;
+    /// `deps_out`, which has room for 512 results, then holds those of its deps, in their order.
+    /// Only this adds an event. `NoMemory` only in place of a job that has deps. After every other
+    /// answer the board is as it was and `deps_out` empty.
     pub fn claim(
         &mut self,
         worker: u32,
@@ -223,13 +273,17 @@ impl<W: Work> Board<W> {
         requires room { 512 ≤ vec_capacity deps_out.old }
         ensures job { (j : ℕ) → result ≡ Ok (Claim.Job j)
             → Claims W.made self.old self.new worker j (map arc_value deps_out.new.items) }
-        ensures wait { (result ≡ Ok Claim.Wait) ↔ IsWaiting (program_of W.made self.old) (state_of W.made self.old) }
-        ensures done { (result ≡ Ok Claim.Done) ↔ IsDone (program_of W.made self.old) (state_of W.made self.old) }
+        ensures wait { (result ≡ Ok Claim.Wait)
+            ↔ IsWaiting (program_of W.made self.old) (state_of W.made self.old) }
+        ensures done { (result ≡ Ok Claim.Done)
+            ↔ IsDone (program_of W.made self.old) (state_of W.made self.old) }
         ensures stopped { (result ≡ Ok Claim.Stopped) ↔ SomebodyStopped self.old.events }
-        ensures memory { IsErr result → IsNextWithDeps (program_of W.made self.old) (state_of W.made self.old) }
+        ensures memory { IsErr result
+            → IsNextWithDeps (program_of W.made self.old) (state_of W.made self.old) }
 
         // Only a job that is claimed changes anything.
-        ensures same { ((j : ℕ) → result ≢ Ok (Claim.Job j)) → (self.new ≡ self.old) × (deps_out.new.items ≡ []) }
+        ensures same { ((j : ℕ) → result ≢ Ok (Claim.Job j))
+            → (self.new ≡ self.old) × (deps_out.new.items ≡ []) }
         ensures room { 512 ≤ vec_capacity deps_out.new }
     {
         deps_out.clear();
@@ -262,31 +316,32 @@ impl<W: Work> Board<W> {
         )
     }
 
-    /// Takes the result of a job from the worker that holds it. Takes no memory.
+    /// Takes the result of a job from the worker that holds it: the job is out from then on. Takes
+    /// no memory.
     pub fn publish(&mut self, worker: u32, job: u32, made: Arc<W::Made>)
         requires holds { job_at (state_of W.made self.old) job ≡ Held worker }
         requires defined { arc_value made ≡ W.made self.old.work job
             (results (state_of W.made self.old) (deps_of (program_of W.made self.old) job)) }
         ensures { self.new ≡ with_event self.old (Event.Publish worker job) }
     {
-        self.stands[job as usize] = Stand::Out;
+        self.job_states[job as usize] = JobState::Out;
         self.results[job as usize] = Some(made);
         log(&mut self.events, Event::Publish { worker, job });
     }
 
-    /// Stops a worker: a job that it holds is open again, and from now on every claim is answered `Stopped`. Takes no
-    /// memory.
+    /// Stops a worker, which has not stopped before: a job that it holds is open again, and from
+    /// then on every claim is `Stopped`. Takes no memory.
     pub fn stop(&mut self, worker: u32)
         requires known { worker < self.old.workers }
         requires going { ¬ HasStopped (state_of W.made self.old) worker }
         ensures { self.new ≡ with_event self.old (Event.Stop worker) }
     {
-        release(self.stands.as_mut_slice(), worker);
+        release(self.job_states.as_mut_slice(), worker);
         self.is_stopped = true;
         log(&mut self.events, Event::Stop { worker });
     }
 
-    /// What happened on the board.
+    /// The events of the board, the first one first.
     pub fn events(&self) -> &[Event]
         ensures events { result.now ≡ self.now.events }
         ensures legal { IsLegal (program_of W.made self.now) self.now.events }
@@ -295,16 +350,17 @@ impl<W: Work> Board<W> {
         self.events.as_slice()
     }
 
-    /// The result of each job that is out.
+    /// For each job its result where it is out, else `None`.
     pub fn into_results(self) -> Vec<Option<Arc<W::Made>>>
-        ensures { map (option_map arc_value) result.items ≡ map result_of (state_of W.made self).jobs }
+        ensures { map (option_map arc_value) result.items
+            ≡ map result_of (state_of W.made self).jobs }
     {
         let Board {
             work: _,
             ranks: _,
             deps: _,
             workers: _,
-            stands: _,
+            job_states: _,
             results,
             checked: _,
             is_stopped: _,
@@ -313,6 +369,3 @@ impl<W: Work> Board<W> {
         results
     }
 }
-
-#[cfg(test)]
-mod tests;

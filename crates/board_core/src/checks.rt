@@ -1,4 +1,4 @@
-// What a board checks before it is opened.
+// The test of the deps of a board.
 ghost use Rattle.std.specs.Prelude.{◌≡◌, ℕ, ◌<◌, ◌≤◌, [], length, slice_index_or, IfSome, IfNone};
 ghost use Rattle.board_core.specs.Calls.{IsFirstBadDep, IsFirstBad, NoBadDep};
 ghost use Rattle.board_core.specs.History.{dep_lists};

@@ -5,25 +5,25 @@ ghost use Rattle.board_core.specs.declared.event.OpenFault.TheVariants.{NoMemory
 use std::alloc::{AllocError, AllocFailed};
 use thiserror::Error;
 
-/// What happened on a board.
+/// An event of a board. Workers and jobs are named by their numbers, from 0.
 #[derive(Clone, Copy, Debug, PartialEq, Eq)]
 pub enum Event {
-    /// The worker took the job.
+    /// The worker was given the job, and holds it.
     Claim { worker: u32, job: u32 },
-    /// The worker handed in the result of the job that it held.
+    /// The worker handed in the result of the job that it held, which is out from then on.
     Publish { worker: u32, job: u32 },
-    /// The worker gave up, and the job that it held is open again.
+    /// The worker stopped; a job that it held is open again.
     Stop { worker: u32 },
 }
 
-/// What a claim is answered.
+/// The answer to a claim.
 #[derive(Clone, Copy, Debug, PartialEq, Eq)]
 pub enum Claim {
-    /// This job is the worker's now.
+    /// The worker holds this job from now on.
     Job(u32),
-    /// No open job is ready, and some job is held.
+    /// Nobody has stopped, no open job has all its deps out, and some job is held.
     Wait,
-    /// All jobs are done.
+    /// Nobody has stopped, and all jobs are out.
     Done,
     /// Some worker has stopped.
     Stopped,
@@ -32,10 +32,12 @@ pub enum Claim {
 /// Why a board is not opened.
 #[derive(Clone, Copy, Debug, PartialEq, Eq, Error)]
 pub enum OpenFault {
-    /// `dep` is no job, or its rank is not smaller than that of `job`.
+    /// `dep`, one of the deps of `job`, is no job, or its rank is not smaller than that of `job`.
+    /// It is the first such in order of job and then of list.
     #[error("job {job} cannot depend on {dep}")]
     BadDeps { job: u32, dep: u32 },
-    #[error("no memory")]
+    /// There was no memory for the board.
+    #[error("out of memory")]
     NoMemory,
 }
 
@@ -52,22 +54,5 @@ impl<T: Drop> From<AllocFailed<T>> for OpenFault {
 
     fn from(_: AllocFailed<T>) -> Self {
         OpenFault::NoMemory
-    }
-}
-
-/// There was not enough memory.
-#[derive(Clone, Copy, Debug, PartialEq, Eq, Error)]
-#[error("no memory")]
-pub struct NoMemory;
-
-impl From<AllocError> for NoMemory {
-    fn from(_: AllocError) -> Self {
-        NoMemory
-    }
-}
-
-impl<T: Drop> From<AllocFailed<T>> for NoMemory {
-    fn from(_: AllocFailed<T>) -> Self {
-        NoMemory
     }
 }

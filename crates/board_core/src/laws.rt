@@ -1,12 +1,14 @@
-//! Laws of the board, for the proofs of callers: each is the contract of a function that does nothing.
+//! Laws of the board, for the proofs of callers: each is the contract of a function that does
+//! nothing.
 ghost use Rattle.board_core.specs.Laws.{ResultsAreAnswers, DepsGiveAnswer, JobsHaveAnswers, IdleBoardsAreDone, HistoriesAreShort};
 
-/// Whatever legal history comes about, the result of each job that is out is that of the recursion on ranks.
+/// After every legal history the result of each job that is out is that of the recursion on ranks.
 pub fn results_are_answers<M>()
     ensures { ResultsAreAnswers M }
 {}
 
-/// What is made of the results of a job's deps, once it is ready or held, is that of the recursion on ranks.
+/// What is made of the results of a job's deps, once it is ready or held, is that of the recursion
+/// on ranks.
 pub fn deps_give_answer<M>()
     ensures { DepsGiveAnswer M }
 {}

@@ -1,15 +1,17 @@
-//! The board: which jobs are open, held or done, as a machine over events. It stands on std alone. Each call is one
-//! event of the machine that specs/Board.antt defines, and whatever legal history comes about, the result of each job
-//! that is done is the one value that recursion on the ranks gives.
+//! The board: which jobs are open, held or out, as a machine over events. Of the repository it
+//! stands on `no_memory` alone. Promise: a claim that is given a job, a publication and a stop are
+//! one event each of the machine that specs/Board.antt defines, and no other call changes the
+//! board. A law says that after every legal history the result of each job that is out is the one
+//! value that recursion on the ranks gives.
 #![tactic(auto)]
 
 mod board;
 mod checks;
 mod event;
+mod job_state;
 pub mod laws;
-mod stand;
 mod work;
 
 pub use board::Board;
-pub use event::{Claim, Event, NoMemory, OpenFault};
+pub use event::{Claim, Event, OpenFault};
 pub use work::Work;

@@ -2,19 +2,21 @@
 ghost use Rattle.std.specs.Prelude.{◌≡◌, ℕ, List, map, IfOk};
 ghost use Rattle.std.specs.Arc.{arc_value};
 
-use crate::event::NoMemory;
+use no_memory::NoMemory;
 use std::alloc::Global;
 use std::sync::Arc;
 
-/// Work in numbered jobs, of which each has one result that follows from the results of others.
+/// Work in numbered jobs. The result of a job is determined by the results of the jobs that it
+/// depends on.
 pub trait Work: Send + Sync {
-    /// The result of a job.
+    /// The type of a result.
     type Made: Send + Sync + Drop;
 
     /// The result of a job, given those of the jobs that it depends on.
     ghost made: { Self → ℕ → List Self.Made → Self.Made };
 
-    /// Makes the result of a job, given those of the jobs that it depends on.
+    /// Makes the result of a job, given those of the jobs that it depends on. `NoMemory` only where
+    /// the allocator has none.
     fn make(
         &self,
         alloc: Global,

@@ -9,21 +9,21 @@ use Rattle.c_ast.specs.declared.declaration.Init.TheOpen.{Init-F}
 use Rattle.c_ast.specs.declared.expression.Expr.{Expr}
 use Rattle.c_ast.specs.declared.list.Next.{Next}
 use Rattle.c_ast.specs.declared.token.Span.{Span}
-use Rattle.c_ast.specs.Labels as l
+use Rattle.c_ast.specs.Productions as l
 use Rattle.c_ast.specs.Tree.{Tree}
-use Rattle.c_ast.specs.Parts.{node, mark}
+use Rattle.c_ast.specs.Nodes.{node, mark}
 use Rattle.c_ast.specs.Expressions.{expr_tree}
-use Rattle.c_ast.specs.Declarations.{init_tree, init_step, inits, init_behind, ended_by}
+use Rattle.c_ast.specs.Declarations.{init_tree, init_step, inits, init_after, ended_by}
 
 pub tree-Value : (x : Expr) → init_tree (e.Value x) ≡ expr_tree x
 unfolding init_tree
 tree-Value x = ap init_tree (sym (e.rolls-Value x)) ∙ fold-roll-Init Tree init_step (Init-F.Value x)
 
 inits_from : (xs : List (Next Init)) (before : Tree) →
-    fold (init_behind (λ (t : Tree). t)) before (map (λ (x : Next Init). record { comma = x.comma; element = init_tree x.element }) xs)
-    ≡ fold (init_behind init_tree) before xs
+    fold (init_after (λ (t : Tree). t)) before (map (λ (x : Next Init). record { comma = x.comma; element = init_tree x.element }) xs)
+    ≡ fold (init_after init_tree) before xs
 inits_from [] before = refl
-inits_from (x ∷ xs) before = inits_from xs (init_behind init_tree before x)
+inits_from (x ∷ xs) before = inits_from xs (init_after init_tree before x)
 
 pub tree-List : (a : Span) (x : Init) (xs : List (Next Init)) (comma : Option Span) (b : Span) →
     init_tree (e.List a x xs comma b)
@@ -39,7 +39,7 @@ unfolding inits
 inits-none view x = refl
 
 pub inits-snoc : {X : Type 0} (view : X → Tree) (x : X) (xs : List (Next X)) (y : Next X) →
-    inits view x (xs ++ y ∷ []) ≡ init_behind view (inits view x xs) y
+    inits view x (xs ++ y ∷ []) ≡ init_after view (inits view x xs) y
 unfolding inits
 inits-snoc view x xs y = fold-append _ _ xs (y ∷ [])
 

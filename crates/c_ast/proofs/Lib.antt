@@ -2,3 +2,4 @@ pub mod ListLemmas
 pub mod ExprViews
 pub mod InitViews
 pub mod StmtViews
+pub mod StartLemmas

@@ -10,25 +10,25 @@ use Rattle.c_ast.specs.declared.declaration.Locals.{Locals}
 use Rattle.c_ast.specs.declared.declaration.OpenDimension.{OpenDimension}
 use Rattle.c_ast.specs.declared.list.Next.{Next}
 use Rattle.c_ast.specs.declared.token.Span.{Span}
-use Rattle.c_ast.specs.Labels as l
+use Rattle.c_ast.specs.Productions as l
 use Rattle.c_ast.specs.Tree.{Tree}
-use Rattle.c_ast.specs.Parts.{node, mark, name, many, opt}
+use Rattle.c_ast.specs.Nodes.{node, mark, name, many, opt}
 use Rattle.c_ast.specs.Specifiers.{spec_tree, constant, stars}
 use Rattle.c_ast.specs.Expressions.{expr_tree, next}
 
--- initialisers and a comma; an initialiser more; a comma behind the last, where one is written
-abbrev pub comma_behind : Tree → Span → Tree
-comma_behind before comma = node l.InitComma (before ∷ mark m.Comma comma ∷ [])
+-- initialisers and a comma; an initialiser more; a comma after the last, where one is written
+abbrev pub comma_after : Tree → Span → Tree
+comma_after before comma = node l.InitComma (before ∷ mark m.Comma comma ∷ [])
 
-abbrev pub init_behind : {X : Type 0} → (X → Tree) → Tree → Next X → Tree
-init_behind view before x = node l.InitNext (comma_behind before x.comma ∷ view x.element ∷ [])
+abbrev pub init_after : {X : Type 0} → (X → Tree) → Tree → Next X → Tree
+init_after view before x = node l.InitNext (comma_after before x.comma ∷ view x.element ∷ [])
 
 abbrev pub ended_by : Tree → Option Span → Tree
 ended_by before None = before
-ended_by before (Some comma) = comma_behind before comma
+ended_by before (Some comma) = comma_after before comma
 
 unfoldable pub inits : {X : Type 0} → (X → Tree) → X → List (Next X) → Tree
-inits view first more = fold (init_behind view) (node l.InitFirst (view first ∷ [])) more
+inits view first more = fold (init_after view) (node l.InitFirst (view first ∷ [])) more
 
 abbrev pub init_step : Init-F Tree → Tree
 init_step (Init-F.Value x) = expr_tree x

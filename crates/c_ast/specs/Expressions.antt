@@ -11,10 +11,10 @@ use Rattle.c_ast.specs.declared.expression.Dimension.{Dimension}
 use Rattle.c_ast.specs.declared.expression.TypeName.{TypeName, out-TypeName}
 use Rattle.c_ast.specs.declared.expression.Literal.{Literal}
 use Rattle.c_ast.specs.declared.list.Next.{Next}
-use Rattle.c_ast.specs.Labels as l
+use Rattle.c_ast.specs.Productions as l
 use Rattle.c_ast.specs.Tree.{Tree}
-use Rattle.c_ast.specs.Operators.{selection_label, selection_mark, step_mark, unary_mark, binary_mark, binary_level, assign_mark}
-use Rattle.c_ast.specs.Parts.{node, leaf, mark, word, name, many, opt}
+use Rattle.c_ast.specs.Operators.{selection_production, selection_mark, inc_dec_mark, unary_mark, binary_mark, binary_level, assign_mark}
+use Rattle.c_ast.specs.Nodes.{node, leaf, mark, word, name, many, opt}
 use Rattle.c_ast.specs.Specifiers.{spec_tree, constant, stars}
 
 abbrev pub literal : Literal → Tree
@@ -22,13 +22,13 @@ literal x = leaf (kind.Text x.bytes) x.span
 
 -- string literals
 abbrev pub texts : List Literal → Tree
-texts xs = many l.MoreTexts (λ x. literal x ∷ []) xs
+texts xs = many l.MoreLiterals (λ x. literal x ∷ []) xs
 
--- an element behind a comma
+-- an element after a comma
 abbrev pub next : {X : Type 0} → (X → Tree) → Next X → List Tree
 next view x = mark m.Comma x.comma ∷ view x.element ∷ []
 
--- A layer of an expression, whose operands are trees, whose lists have their parts, and whose type names are trees.
+-- A layer of an expression, whose operands are trees, whose lists have their children, and whose type names are trees.
 abbrev pub expr_step : Expr-F Tree (List Tree) (List Tree) Tree → Tree
 expr_step (Expr-F.Name i) = node l.Name (name i ∷ [])
 expr_step (Expr-F.Number value unsigned span) = node l.Number (leaf (kind.Number value unsigned) span ∷ [])
@@ -42,9 +42,9 @@ expr_step (Expr-F.Index array opening index closing) =
 expr_step (Expr-F.Call function opening arguments closing) =
     node l.Call (function ∷ mark m.LParen opening ∷ opt l.Arguments (λ x. x) arguments ∷ mark m.RParen closing ∷ [])
 expr_step (Expr-F.Select object selected span member) =
-    node (selection_label selected) (object ∷ mark (selection_mark selected) span ∷ name member ∷ [])
-expr_step (Expr-F.PostIncrement operand by span) = node l.PostIncrement (operand ∷ mark (step_mark by) span ∷ [])
-expr_step (Expr-F.Increment by span operand) = node l.Increment (mark (step_mark by) span ∷ operand ∷ [])
+    node (selection_production selected) (object ∷ mark (selection_mark selected) span ∷ name member ∷ [])
+expr_step (Expr-F.PostIncrement operand by span) = node l.PostIncrement (operand ∷ mark (inc_dec_mark by) span ∷ [])
+expr_step (Expr-F.Increment by span operand) = node l.Increment (mark (inc_dec_mark by) span ∷ operand ∷ [])
 expr_step (Expr-F.Unary op span operand) = node l.Unary (mark (unary_mark op) span ∷ operand ∷ [])
 expr_step (Expr-F.Sizeof keyword operand) = node l.Sizeof (word w.Sizeof keyword ∷ operand ∷ [])
 expr_step (Expr-F.SizeofType keyword opening operand closing) =
@@ -71,20 +71,20 @@ type_step x =
 unfoldable pub expr_tree : Expr → Tree
 expr_tree = fold-Expr Tree (List Tree) (List Tree) Tree expr_step dimension_step list_step type_step
 
--- the expressions of a list, as parts
-unfoldable pub list_parts : ExprList → List Tree
-list_parts x = expr_tree x.first ∷ many l.MoreAssigns (next expr_tree) x.more ∷ []
+-- the expressions of a list, as children
+unfoldable pub list_children : ExprList → List Tree
+list_children x = expr_tree x.first ∷ many l.MoreAssigns (next expr_tree) x.more ∷ []
 
 -- a comma expression
 abbrev pub list_tree : ExprList → Tree
-list_tree x = node l.Expr (list_parts x)
+list_tree x = node l.Expr (list_children x)
 
-unfoldable pub dimension_parts : Dimension → List Tree
-dimension_parts x = mark m.LBracket x.open ∷ expr_tree x.size ∷ mark m.RBracket x.close ∷ []
+unfoldable pub dimension_children : Dimension → List Tree
+dimension_children x = mark m.LBracket x.open ∷ expr_tree x.size ∷ mark m.RBracket x.close ∷ []
 
 -- dimensions
 abbrev pub dimensions : List Dimension → Tree
-dimensions xs = many l.Dimensions dimension_parts xs
+dimensions xs = many l.Dimensions dimension_children xs
 
 unfoldable pub type_tree : TypeName → Tree
 type_tree x =

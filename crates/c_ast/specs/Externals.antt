@@ -1,5 +1,5 @@
 -- Declarations at file scope as plain trees.
-use Rattle.std.specs.Prelude.{List, [], ◌∷◌, Option, Some, None}
+use Rattle.std.specs.Prelude.{◌≡◌, List, [], ◌∷◌, Option, Some, None}
 use Rattle.c_lex.specs.declared.keyword.Keyword.TheVariants as w
 use Rattle.c_lex.specs.declared.punct.Punct.TheVariants as m
 use Rattle.c_ast.specs.declared.external.Body.{Body}
@@ -19,9 +19,9 @@ use Rattle.c_ast.specs.declared.list.Next.{Next}
 use Rattle.c_ast.specs.declared.specifier.Spec.{Spec}
 use Rattle.c_ast.specs.declared.specifier.Spec.TheVariants as spec
 use Rattle.c_ast.specs.declared.token.Span.{Span}
-use Rattle.c_ast.specs.Labels as l
+use Rattle.c_ast.specs.Productions as l
 use Rattle.c_ast.specs.Tree.{Tree}
-use Rattle.c_ast.specs.Parts.{node, mark, word, name, many, opt}
+use Rattle.c_ast.specs.Nodes.{node, mark, word, name, many, opt}
 use Rattle.c_ast.specs.Specifiers.{spec_tree, constant, stars}
 use Rattle.c_ast.specs.Expressions.{next, dimensions}
 use Rattle.c_ast.specs.Declarations.{more_declarators, open_dimensions, initializer}
@@ -37,7 +37,7 @@ unfoldable pub members : Members → Tree
 members x =
     node l.Members (constant x.qualifier ∷ spec_tree x.spec ∷ member x.first ∷ more_members x.more ∷ mark m.Semicolon x.semicolon ∷ [])
 
--- what stands behind `struct name`
+-- what stands after `struct name`
 abbrev pub struct_rest : Option StructBody → Span → Tree
 struct_rest None semicolon = node l.StructName (mark m.Semicolon semicolon ∷ [])
 struct_rest (Some x) semicolon =
@@ -47,6 +47,12 @@ unfoldable pub param : Param → Tree
 param x =
     node l.Param (constant x.qualifier ∷ spec_tree x.spec ∷ stars x.stars ∷ opt l.ParamName (λ i. name i ∷ []) x.name ∷ open_dimensions x.dimensions ∷ [])
 
+-- The parameters `(void)`: a lone `void` without a name, which means that there are none (ISO 9899:2011, 6.7.6.3,
+-- paragraph 10).
+abbrev pub AreNone : Params → Type 0
+AreNone p =
+    (span : Span) × (p ≡ record { first = record { qualifier = None; spec = spec.Void span; stars = []; name = None; dimensions = [] }; more = [] })
+
 abbrev pub params : Option Params → Tree
 params x = opt l.Params (λ p. param p.first ∷ many l.MoreParams (next param) p.more ∷ []) x
 
@@ -54,8 +60,8 @@ unfoldable pub body_tree : Body → Tree
 body_tree (body.Prototype semicolon) = node l.Prototype (mark m.Semicolon semicolon ∷ [])
 body_tree (body.Block x) = block_tree x
 
--- A declaration by what it begins with, where `rest` stands behind the type. A structure without `static` and `const`
--- has a production of its own, since its definition begins alike.
+-- A declaration by what it begins with, where `rest` stands after the type. A structure without `static` and `const`
+-- has a production of its own, since its definition begins with the same tokens.
 abbrev pub plain_with : Spec → Tree → Tree
 plain_with (spec.Struct keyword tag) rest = node l.Struct (word w.Struct keyword ∷ name tag ∷ rest ∷ [])
 plain_with x rest = node l.Plain (spec_tree x ∷ rest ∷ [])
@@ -72,7 +78,7 @@ declared_with (Some storage) qualifier x rest =
 unfoldable pub specified : Specifiers → Tree → Tree
 specified x rest = declared_with x.storage x.qualifier x.spec rest
 
--- what stands behind the name of a function, and of variables
+-- what stands after the name of a function, and of variables
 abbrev pub function_rest : Function → Tree
 function_rest x = node l.Function (mark m.LParen x.open ∷ params x.params ∷ mark m.RParen x.close ∷ body_tree x.body ∷ [])
 

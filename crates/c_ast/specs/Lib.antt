@@ -1,12 +1,13 @@
-pub mod Classes
+pub mod Nonterminals
+pub mod Bare
 pub mod Declarations
 pub mod Expressions
 pub mod Externals
 pub mod Grammar
-pub mod Labels
+pub mod Productions
 pub mod Nesting
 pub mod Operators
-pub mod Parts
+pub mod Nodes
 pub mod Shape
 pub mod Specifiers
 pub mod Spelling

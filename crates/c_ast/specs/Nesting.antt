@@ -24,37 +24,37 @@ ended (kind.Keyword word.Else ∷ rest) counters = counters
 ended rest (top ∷ below) = 0 ∷ below
 ended rest [] = []
 
--- the counters behind a punctuator, before the tokens `rest`
-abbrev pub behind_mark : Punct → List TokenKind → List ℕ → List ℕ
-behind_mark mark.LParen rest counters = 0 ∷ raised counters
-behind_mark mark.LBracket rest counters = 0 ∷ raised counters
-behind_mark mark.LBrace rest counters = 0 ∷ counters
-behind_mark mark.RParen rest counters = popped counters
-behind_mark mark.RBracket rest counters = popped counters
-behind_mark mark.RBrace rest counters = ended rest (popped counters)
-behind_mark mark.Semicolon rest counters = ended rest counters
-behind_mark mark.Comma rest counters = ended rest counters
-behind_mark _ rest counters = raised counters
+-- the counters after a punctuator, before the tokens `rest`
+abbrev pub after_mark : Punct → List TokenKind → List ℕ → List ℕ
+after_mark mark.LParen rest counters = 0 ∷ raised counters
+after_mark mark.LBracket rest counters = 0 ∷ raised counters
+after_mark mark.LBrace rest counters = 0 ∷ counters
+after_mark mark.RParen rest counters = popped counters
+after_mark mark.RBracket rest counters = popped counters
+after_mark mark.RBrace rest counters = ended rest (popped counters)
+after_mark mark.Semicolon rest counters = ended rest counters
+after_mark mark.Comma rest counters = ended rest counters
+after_mark _ rest counters = raised counters
 
 -- the keywords that count
 abbrev pub is_counted : TokenKind → Bool
 is_counted k =
     is (Word word.If) k || is (Word word.Else) k || is (Word word.While) k || is (Word word.Do) k || is (Word word.For) k || is (Word word.Sizeof) k || is (Word word.Switch) k
 
--- the counters behind a token, before the tokens `rest`
-abbrev pub behind_token : TokenKind → List TokenKind → List ℕ → List ℕ
-behind_token (kind.Punct p) rest counters = behind_mark p rest counters
-behind_token k rest counters = if is_counted k then raised counters else counters
+-- the counters after a token, before the tokens `rest`
+abbrev pub after_token : TokenKind → List TokenKind → List ℕ → List ℕ
+after_token (kind.Punct p) rest counters = after_mark p rest counters
+after_token k rest counters = if is_counted k then raised counters else counters
 
 -- the depth that counters stand for: their sum, and their number less one
 abbrev pub depth_of : List ℕ → ℕ
 depth_of counters = sum counters + length counters - 1
 
--- the greatest depth behind one of the tokens, from these counters on
+-- the greatest depth after one of the tokens, from these counters on
 abbrev pub deepest : List ℕ → List TokenKind → ℕ
 deepest counters [] = 0
 deepest counters (k ∷ rest) =
-    max (depth_of (behind_token k rest counters)) (deepest (behind_token k rest counters) rest)
+    max (depth_of (after_token k rest counters)) (deepest (after_token k rest counters) rest)
 
 -- the depth of a list of tokens
 abbrev pub depth : List TokenKind → ℕ

@@ -3,28 +3,28 @@ use Rattle.c_lex.specs.declared.punct.Punct.{Punct}
 use Rattle.c_lex.specs.declared.punct.Punct.TheVariants as m
 use Rattle.c_ast.specs.declared.operator.Selection.{Selection}
 use Rattle.c_ast.specs.declared.operator.Selection.TheVariants as selection
-use Rattle.c_ast.specs.declared.operator.Step.{Step}
-use Rattle.c_ast.specs.declared.operator.Step.TheVariants as step
+use Rattle.c_ast.specs.declared.operator.IncDec.{IncDec}
+use Rattle.c_ast.specs.declared.operator.IncDec.TheVariants as step
 use Rattle.c_ast.specs.declared.operator.UnaryOp.{UnaryOp}
 use Rattle.c_ast.specs.declared.operator.UnaryOp.TheVariants as unary
 use Rattle.c_ast.specs.declared.operator.BinaryOp.{BinaryOp}
 use Rattle.c_ast.specs.declared.operator.BinaryOp.TheVariants as binary
 use Rattle.c_ast.specs.declared.operator.AssignOp.{AssignOp}
 use Rattle.c_ast.specs.declared.operator.AssignOp.TheVariants as assign
-use Rattle.c_ast.specs.Labels.{Label, Level}
-use Rattle.c_ast.specs.Labels as l
+use Rattle.c_ast.specs.Productions.{Production, Level}
+use Rattle.c_ast.specs.Productions as l
 
-unfoldable pub selection_label : Selection → Label
-selection_label selection.Dot = l.Dot
-selection_label selection.Arrow = l.Arrow
+unfoldable pub selection_production : Selection → Production
+selection_production selection.Dot = l.Dot
+selection_production selection.Arrow = l.Arrow
 
 unfoldable pub selection_mark : Selection → Punct
 selection_mark selection.Dot = m.Dot
 selection_mark selection.Arrow = m.Arrow
 
-unfoldable pub step_mark : Step → Punct
-step_mark step.Up = m.PlusPlus
-step_mark step.Down = m.MinusMinus
+unfoldable pub inc_dec_mark : IncDec → Punct
+inc_dec_mark step.Increment = m.PlusPlus
+inc_dec_mark step.Decrement = m.MinusMinus
 
 unfoldable pub unary_mark : UnaryOp → Punct
 unary_mark unary.AddressOf = m.Amp

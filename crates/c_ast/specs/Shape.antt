@@ -1,8 +1,9 @@
 -- Shaped trees: those of the programs of the language.
 use Rattle.std.specs.Prelude.{◌≤◌}
-use Rattle.c_ast.specs.Classes.{Many}
+use Rattle.limits.specs.Limits.{most_nesting}
+use Rattle.c_ast.specs.Nonterminals.{Many}
 use Rattle.c_ast.specs.Grammar.{Fits, One}
-use Rattle.c_ast.specs.Labels.{Externals}
+use Rattle.c_ast.specs.Productions.{Externals}
 use Rattle.c_ast.specs.Nesting.{depth}
 use Rattle.c_ast.specs.Spelling.{spell}
 use Rattle.c_ast.specs.Tree.{Tree}
@@ -11,6 +12,6 @@ use Rattle.c_ast.specs.Tree.{Tree}
 abbrev pub FollowsGrammar : Tree → Type 0
 FollowsGrammar t = Fits (One (Many Externals)) t
 
--- It follows the grammar, and its spelling has at most the depth 200.
+-- It follows the grammar, and its spelling is nested at most as deep as the language allows.
 abbrev pub Shaped : Tree → Type 0
-Shaped t = FollowsGrammar t × (depth (spell t) ≤ 200)
+Shaped t = FollowsGrammar t × (depth (spell t) ≤ most_nesting)

@@ -14,9 +14,9 @@ use Rattle.c_ast.specs.declared.statement.Label.{Label}
 use Rattle.c_ast.specs.declared.statement.Label.TheVariants as case
 use Rattle.c_ast.specs.declared.statement.BlockItem.TheFolds.{fold-Stmt, fold-BlockItem}
 use Rattle.c_ast.specs.declared.statement.BlockItem.TheOpen.{Stmt-F, Block-F, BlockItem-F, Else-F, Group-F}
-use Rattle.c_ast.specs.Labels as l
+use Rattle.c_ast.specs.Productions as l
 use Rattle.c_ast.specs.Tree.{Tree}
-use Rattle.c_ast.specs.Parts.{node, mark, word, many, opt}
+use Rattle.c_ast.specs.Nodes.{node, mark, word, many, opt}
 use Rattle.c_ast.specs.Expressions.{expr_tree, list_tree}
 use Rattle.c_ast.specs.Declarations.{locals_tree}
 
@@ -54,15 +54,17 @@ stmt_step (Stmt-F.While keyword opening condition closing body) =
     node l.While (word w.While keyword ∷ mark m.LParen opening ∷ list_tree condition ∷ mark m.RParen closing ∷ body ∷ [])
 stmt_step (Stmt-F.Do keyword body until opening condition closing semicolon) =
     node l.DoWhile (word w.Do keyword ∷ body ∷ word w.While until ∷ mark m.LParen opening ∷ list_tree condition ∷ mark m.RParen closing ∷ mark m.Semicolon semicolon ∷ [])
-stmt_step (Stmt-F.For keyword opening begin condition semicolon by closing body) =
-    node l.For (word w.For keyword ∷ mark m.LParen opening ∷ start_tree begin ∷ clause condition ∷ mark m.Semicolon semicolon ∷ clause by ∷ mark m.RParen closing ∷ body ∷ [])
+stmt_step (Stmt-F.For keyword opening header closing body) =
+    node l.For (word w.For keyword ∷ mark m.LParen opening ∷ start_tree header.clauses.start ∷ clause header.clauses.condition ∷ mark m.Semicolon header.clauses.semicolon ∷
+    clause header.clauses.step ∷ mark m.RParen closing ∷ body ∷ [])
 stmt_step (Stmt-F.Break keyword semicolon) = node l.Break (word w.Break keyword ∷ mark m.Semicolon semicolon ∷ [])
 stmt_step (Stmt-F.Continue keyword semicolon) =
     node l.Continue (word w.Continue keyword ∷ mark m.Semicolon semicolon ∷ [])
 stmt_step (Stmt-F.Return keyword value semicolon) =
     node l.Return (word w.Return keyword ∷ clause value ∷ mark m.Semicolon semicolon ∷ [])
-stmt_step (Stmt-F.Switch keyword opening value closing begin groups end) =
-    node l.Switch (word w.Switch keyword ∷ mark m.LParen opening ∷ list_tree value ∷ mark m.RParen closing ∷ mark m.LBrace begin ∷ many l.Groups (λ t. t ∷ []) groups ∷ mark m.RBrace end ∷ [])
+stmt_step (Stmt-F.Switch keyword subject begin groups end) =
+    node l.Switch (word w.Switch keyword ∷ mark m.LParen subject.open ∷ list_tree subject.value ∷ mark m.RParen subject.close ∷ mark m.LBrace begin ∷ many l.Groups (λ t. t ∷ []) groups ∷
+    mark m.RBrace end ∷ [])
 
 abbrev pub block_step : Block-F Tree Tree Tree (List Tree) Tree → Tree
 block_step x = node l.Block (mark m.LBrace x.open ∷ many l.Items (λ t. t ∷ []) x.items ∷ mark m.RBrace x.close ∷ [])
@@ -93,8 +95,8 @@ block_tree x =
     node l.Block (mark m.LBrace block.open ∷ items_tree block.items ∷ mark m.RBrace block.close ∷ [])
 
 -- what follows an `if`
-unfoldable pub else_parts : Else → List Tree
-else_parts x = word w.Else x.keyword ∷ stmt_tree x.body ∷ []
+unfoldable pub else_children : Else → List Tree
+else_children x = word w.Else x.keyword ∷ stmt_tree x.body ∷ []
 
 -- statements
 abbrev pub stmts_tree : List Stmt → Tree

@@ -6,16 +6,16 @@ use Rattle.c_lex.specs.declared.punct.Punct.{Punct}
 use Rattle.c_lex.specs.declared.punct.Punct.TheVariants as mark
 use Rattle.c_lex.specs.declared.token.TokenKind.{TokenKind}
 use Rattle.c_lex.specs.declared.token.TokenKind.TheVariants as kind
-use Rattle.c_ast.specs.Labels.{Level}
-use Rattle.c_ast.specs.Labels as label
-use Rattle.c_ast.specs.Classes.{level_number}
+use Rattle.c_ast.specs.Productions.{Level}
+use Rattle.c_ast.specs.Productions as production
+use Rattle.c_ast.specs.Nonterminals.{level_number}
 
 pub data Terminal : Type 0 where
   -- a name, a number, a character constant, a string literal
   AnyName : Terminal
   AnyNumber : Terminal
   AnyChar : Terminal
-  AnyText : Terminal
+  AnyLiteral : Terminal
   -- this keyword; this punctuator
   Word : Keyword → Terminal
   Mark : Punct → Terminal
@@ -28,55 +28,55 @@ pub data Terminal : Type 0 where
   -- `&`, `*`, `+`, `-`, `~`, `!` (6.5.3)
   UnaryMark : Terminal
   -- `++` or `--`
-  StepMark : Terminal
+  IncDecMark : Terminal
 
 -- ---- numbers for keywords and punctuators
 
-unfoldable pub word_number : Keyword → ℕ
-word_number word.Break = 0
-word_number word.Case = 1
-word_number word.Char = 2
-word_number word.Const = 3
-word_number word.Continue = 4
-word_number word.Default = 5
-word_number word.Do = 6
-word_number word.Else = 7
-word_number word.For = 8
-word_number word.If = 9
-word_number word.Int = 10
-word_number word.Return = 11
-word_number word.Short = 12
-word_number word.Signed = 13
-word_number word.Sizeof = 14
-word_number word.Static = 15
-word_number word.Struct = 16
-word_number word.Switch = 17
-word_number word.Unsigned = 18
-word_number word.Void = 19
-word_number word.While = 20
-word_number word.Auto = 21
-word_number word.Double = 22
-word_number word.Enum = 23
-word_number word.Extern = 24
-word_number word.Float = 25
-word_number word.Goto = 26
-word_number word.Inline = 27
-word_number word.Long = 28
-word_number word.Register = 29
-word_number word.Restrict = 30
-word_number word.Typedef = 31
-word_number word.Union = 32
-word_number word.Volatile = 33
-word_number word.Alignas = 34
-word_number word.Alignof = 35
-word_number word.Atomic = 36
-word_number word.Bool = 37
-word_number word.Complex = 38
-word_number word.Generic = 39
-word_number word.Imaginary = 40
-word_number word.Noreturn = 41
-word_number word.StaticAssert = 42
-word_number word.ThreadLocal = 43
+unfoldable pub keyword_number : Keyword → ℕ
+keyword_number word.Break = 0
+keyword_number word.Case = 1
+keyword_number word.Char = 2
+keyword_number word.Const = 3
+keyword_number word.Continue = 4
+keyword_number word.Default = 5
+keyword_number word.Do = 6
+keyword_number word.Else = 7
+keyword_number word.For = 8
+keyword_number word.If = 9
+keyword_number word.Int = 10
+keyword_number word.Return = 11
+keyword_number word.Short = 12
+keyword_number word.Signed = 13
+keyword_number word.Sizeof = 14
+keyword_number word.Static = 15
+keyword_number word.Struct = 16
+keyword_number word.Switch = 17
+keyword_number word.Unsigned = 18
+keyword_number word.Void = 19
+keyword_number word.While = 20
+keyword_number word.Auto = 21
+keyword_number word.Double = 22
+keyword_number word.Enum = 23
+keyword_number word.Extern = 24
+keyword_number word.Float = 25
+keyword_number word.Goto = 26
+keyword_number word.Inline = 27
+keyword_number word.Long = 28
+keyword_number word.Register = 29
+keyword_number word.Restrict = 30
+keyword_number word.Typedef = 31
+keyword_number word.Union = 32
+keyword_number word.Volatile = 33
+keyword_number word.Alignas = 34
+keyword_number word.Alignof = 35
+keyword_number word.Atomic = 36
+keyword_number word.Bool = 37
+keyword_number word.Complex = 38
+keyword_number word.Generic = 39
+keyword_number word.Imaginary = 40
+keyword_number word.Noreturn = 41
+keyword_number word.StaticAssert = 42
+keyword_number word.ThreadLocal = 43
 
 unfoldable pub mark_number : Punct → ℕ
 mark_number mark.LParen = 0
@@ -129,24 +129,24 @@ mark_number mark.PipeEqual = 44
 
 -- the level of a binary operator
 unfoldable pub operator_level : Punct → Option Level
-operator_level mark.Star = Some label.Multiplicative
-operator_level mark.Slash = Some label.Multiplicative
-operator_level mark.Percent = Some label.Multiplicative
-operator_level mark.Plus = Some label.Additive
-operator_level mark.Minus = Some label.Additive
-operator_level mark.ShiftLeft = Some label.Shift
-operator_level mark.ShiftRight = Some label.Shift
-operator_level mark.Less = Some label.Relational
-operator_level mark.Greater = Some label.Relational
-operator_level mark.LessEqual = Some label.Relational
-operator_level mark.GreaterEqual = Some label.Relational
-operator_level mark.EqualEqual = Some label.Equality
-operator_level mark.BangEqual = Some label.Equality
-operator_level mark.Amp = Some label.BitAnd
-operator_level mark.Caret = Some label.BitXor
-operator_level mark.Pipe = Some label.BitOr
-operator_level mark.AmpAmp = Some label.LogicalAnd
-operator_level mark.PipePipe = Some label.LogicalOr
+operator_level mark.Star = Some production.Multiplicative
+operator_level mark.Slash = Some production.Multiplicative
+operator_level mark.Percent = Some production.Multiplicative
+operator_level mark.Plus = Some production.Additive
+operator_level mark.Minus = Some production.Additive
+operator_level mark.ShiftLeft = Some production.Shift
+operator_level mark.ShiftRight = Some production.Shift
+operator_level mark.Less = Some production.Relational
+operator_level mark.Greater = Some production.Relational
+operator_level mark.LessEqual = Some production.Relational
+operator_level mark.GreaterEqual = Some production.Relational
+operator_level mark.EqualEqual = Some production.Equality
+operator_level mark.BangEqual = Some production.Equality
+operator_level mark.Amp = Some production.BitAnd
+operator_level mark.Caret = Some production.BitXor
+operator_level mark.Pipe = Some production.BitOr
+operator_level mark.AmpAmp = Some production.LogicalAnd
+operator_level mark.PipePipe = Some production.LogicalOr
 operator_level _ = None
 
 unfoldable pub is_assign_mark : Punct → Bool
@@ -172,10 +172,10 @@ is_unary_mark mark.Tilde = true
 is_unary_mark mark.Bang = true
 is_unary_mark _ = false
 
-unfoldable pub is_step_mark : Punct → Bool
-is_step_mark mark.PlusPlus = true
-is_step_mark mark.MinusMinus = true
-is_step_mark _ = false
+unfoldable pub is_inc_dec_mark : Punct → Bool
+is_inc_dec_mark mark.PlusPlus = true
+is_inc_dec_mark mark.MinusMinus = true
+is_inc_dec_mark _ = false
 
 -- an operator of this level
 unfoldable pub is_of_level : Level → Option Level → Bool
@@ -187,12 +187,12 @@ unfoldable pub is : Terminal → TokenKind → Bool
 is AnyName (kind.Name name) = true
 is AnyNumber (kind.Number value unsigned) = true
 is AnyChar (kind.Char c) = true
-is AnyText (kind.Text cs) = true
-is (Word w) (kind.Keyword k) = word_number w == word_number k
+is AnyLiteral (kind.Text cs) = true
+is (Word w) (kind.Keyword k) = keyword_number w == keyword_number k
 is (Mark m) (kind.Punct p) = mark_number m == mark_number p
-is SignWord (kind.Keyword k) = word_number k == 13 || word_number k == 18
+is SignWord (kind.Keyword k) = keyword_number k == 13 || keyword_number k == 18
 is AssignMark (kind.Punct p) = is_assign_mark p
 is (BinaryMark level) (kind.Punct p) = is_of_level level (operator_level p)
 is UnaryMark (kind.Punct p) = is_unary_mark p
-is StepMark (kind.Punct p) = is_step_mark p
+is IncDecMark (kind.Punct p) = is_inc_dec_mark p
 is _ _ = false

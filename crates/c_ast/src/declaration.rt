@@ -1,17 +1,23 @@
+#![tactic(auto, using(crate::proofs::StartLemmas::starts))]
+
+ghost use Rattle.std.specs.Prelude.{◌≡◌, Some};
+ghost use Rattle.c_ast.specs.Declarations.{init_tree};
+ghost use Rattle.c_ast.specs.Spelling.{start_of};
+
 use crate::{Expr, Identifier, Next, Span, Spec};
 use sqlite_items::{Boxed, Items};
 
 /// A declaration of variables in a block (ISO 9899:2011, 6.7).
-#[derive(Debug, Drop)]
+#[derive(Drop)]
 pub struct Locals {
     pub qualifier: Option<Span>,
-    pub spec: Spec,
-    pub first: Declarator,
+    pub spec: Boxed<Spec>,
+    pub first: Boxed<Declarator>,
     pub more: Items<Next<Declarator>>,
     pub semicolon: Span,
 }
 
-#[derive(Debug, Drop)]
+#[derive(Drop)]
 pub struct Declarator {
     pub stars: Items<Span>,
     pub name: Identifier,
@@ -20,14 +26,14 @@ pub struct Declarator {
 }
 
 /// A dimension of an array, whose size may be left out.
-#[derive(Debug, Drop)]
+#[derive(Drop)]
 pub struct OpenDimension {
     pub open: Span,
     pub size: Option<Expr>,
     pub close: Span,
 }
 
-#[derive(Debug, Drop)]
+#[derive(Drop)]
 pub struct Initializer {
     pub equal: Span,
     pub init: Init,
@@ -35,10 +41,10 @@ pub struct Initializer {
 
 /// What a variable or an element begins with (ISO 9899:2011, 6.7.9).
 #[cycle(init)]
-#[derive(Debug, Drop)]
+#[derive(Drop)]
 pub enum Init {
     Value(Expr),
-    /// Initialisers in braces. A comma may stand behind the last one.
+    /// Initialisers in braces. A comma may stand after the last one.
     List {
         open: Span,
         first: Boxed<Init>,
@@ -46,4 +52,16 @@ pub enum Init {
         comma: Option<Span>,
         close: Span,
     },
+}
+
+impl Init {
+    /// The offset of its first token.
+    pub fn start(&self) -> u32
+        ensures { start_of (init_tree self.now) ≡ Some result }
+    {
+        match self {
+            Init::Value(value) => value.start(),
+            Init::List { open, .. } => open.at,
+        }
+    }
 }

@@ -1,10 +1,17 @@
-use crate::{AssignOp, BinaryOp, Identifier, Next, Selection, Span, Spec, Step, UnaryOp};
+#![tactic(auto, using(crate::proofs::StartLemmas::starts))]
+
+ghost use Rattle.std.specs.Prelude.{◌≡◌, Some};
+ghost use Rattle.c_ast.specs.Expressions.{expr_tree, list_tree};
+ghost use Rattle.c_ast.specs.Spelling.{start_of};
+
+use crate::{AssignOp, BinaryOp, Identifier, IncDec, Next, Selection, Span, Spec, UnaryOp};
 use c_lex::Bytes;
 use sqlite_items::{Boxed, Items};
 
-/// An expression that no comma divides (ISO 9899:2011, 6.5), with the parentheses that are written.
+/// An expression without a comma operator outside parentheses (ISO 9899:2011, 6.5), with the
+/// parentheses that are written.
 #[cycle(ast)]
-#[derive(Debug, Drop)]
+#[derive(Drop)]
 pub enum Expr {
     Name(Identifier),
     Number {
@@ -45,15 +52,15 @@ pub enum Expr {
         span: Span,
         member: Identifier,
     },
-    /// `++` or `--` behind its operand.
+    /// `++` or `--` after its operand.
     PostIncrement {
         operand: Boxed<Expr>,
-        step: Step,
+        op: IncDec,
         span: Span,
     },
     /// `++` or `--` in front of its operand.
     Increment {
-        step: Step,
+        op: IncDec,
         span: Span,
         operand: Boxed<Expr>,
     },
@@ -70,12 +77,12 @@ pub enum Expr {
     SizeofType {
         keyword: Span,
         open: Span,
-        operand: TypeName,
+        operand: Boxed<TypeName>,
         close: Span,
     },
     Cast {
         open: Span,
-        target: TypeName,
+        target: Boxed<TypeName>,
         close: Span,
         operand: Boxed<Expr>,
     },
@@ -100,10 +107,10 @@ pub enum Expr {
     },
 }
 
-/// Expressions with commas between them: a comma expression, which may be one expression alone, or the arguments of a
-/// call.
+/// Expressions with commas between them: a comma expression, which may be one expression alone, or
+/// the arguments of a call.
 #[cycle(ast)]
-#[derive(Debug, Drop)]
+#[derive(Drop)]
 pub struct ExprList {
     pub first: Boxed<Expr>,
     pub more: Items<Next<Expr>>,
@@ -111,7 +118,7 @@ pub struct ExprList {
 
 /// A type's name (ISO 9899:2011, 6.7.7).
 #[cycle(ast)]
-#[derive(Debug, Drop)]
+#[derive(Drop)]
 pub struct TypeName {
     pub qualifier: Option<Span>,
     pub spec: Spec,
@@ -121,7 +128,7 @@ pub struct TypeName {
 
 /// A dimension of an array.
 #[cycle(ast)]
-#[derive(Debug, Drop)]
+#[derive(Drop)]
 pub struct Dimension {
     pub open: Span,
     pub size: Expr,
@@ -129,8 +136,40 @@ pub struct Dimension {
 }
 
 /// A string literal.
-#[derive(Debug, Drop)]
+#[derive(Drop)]
 pub struct Literal {
     pub bytes: Bytes,
     pub span: Span,
+}
+
+impl Expr {
+    /// The offset of its first token.
+    pub fn start(&self) -> u32
+        ensures { start_of (expr_tree self.now) ≡ Some result }
+    {
+        match self {
+            Expr::Name(name) => name.span.at,
+            Expr::Number { span, .. } | Expr::Char { span, .. } => span.at,
+            Expr::Text { first, .. } => first.span.at,
+            Expr::Paren { open, .. } | Expr::Cast { open, .. } => open.at,
+            Expr::Increment { span, .. } | Expr::Unary { span, .. } => span.at,
+            Expr::Sizeof { keyword, .. } | Expr::SizeofType { keyword, .. } => keyword.at,
+            Expr::Index { array, .. } => array.get().start(),
+            Expr::Call { function, .. } => function.get().start(),
+            Expr::Select { object, .. } => object.get().start(),
+            Expr::PostIncrement { operand, .. } => operand.get().start(),
+            Expr::Binary { left, .. } => left.get().start(),
+            Expr::Conditional { condition, .. } => condition.get().start(),
+            Expr::Assign { target, .. } => target.get().start(),
+        }
+    }
+}
+
+impl ExprList {
+    /// The offset of its first token.
+    pub fn start(&self) -> u32
+        ensures { start_of (list_tree self.now) ≡ Some result }
+    {
+        self.first.get().start()
+    }
 }

@@ -1,13 +1,20 @@
+#![tactic(auto, using(crate::proofs::StartLemmas::starts))]
+
+ghost use Rattle.std.specs.Prelude.{◌≡◌, ◌↔◌, IsTrue, Some};
+ghost use Rattle.c_ast.specs.Externals.{AreNone, param, specified};
+ghost use Rattle.c_ast.specs.Spelling.{start_of};
+ghost use Rattle.c_ast.specs.Tree.{Tree};
+
 use crate::{Block, Declarator, Dimension, Identifier, Next, OpenDimension, Span, Spec};
 use sqlite_items::Items;
 
 /// A translation unit (ISO 9899:2011, 6.9).
-#[derive(Debug, Drop)]
+#[derive(Drop)]
 pub struct Unit {
     pub externals: Items<External>,
 }
 
-#[derive(Debug, Drop)]
+#[derive(Drop)]
 pub enum External {
     Struct(Structure),
     Function(Function),
@@ -15,7 +22,7 @@ pub enum External {
 }
 
 /// What a declaration at file scope begins with (ISO 9899:2011, 6.7).
-#[derive(Debug, Drop)]
+#[derive(Drop)]
 pub struct Specifiers {
     /// `static`
     pub storage: Option<Span>,
@@ -25,7 +32,7 @@ pub struct Specifiers {
 }
 
 /// A declaration of a structure, with or without its members (ISO 9899:2011, 6.7.2.1).
-#[derive(Debug, Drop)]
+#[derive(Drop)]
 pub struct Structure {
     pub keyword: Span,
     pub tag: Identifier,
@@ -33,7 +40,7 @@ pub struct Structure {
     pub semicolon: Span,
 }
 
-#[derive(Debug, Drop)]
+#[derive(Drop)]
 pub struct StructBody {
     pub open: Span,
     pub first: Members,
@@ -42,7 +49,7 @@ pub struct StructBody {
 }
 
 /// Members of one type.
-#[derive(Debug, Drop)]
+#[derive(Drop)]
 pub struct Members {
     pub qualifier: Option<Span>,
     pub spec: Spec,
@@ -51,7 +58,7 @@ pub struct Members {
     pub semicolon: Span,
 }
 
-#[derive(Debug, Drop)]
+#[derive(Drop)]
 pub struct Member {
     pub stars: Items<Span>,
     pub name: Identifier,
@@ -59,7 +66,7 @@ pub struct Member {
 }
 
 /// A declaration or a definition of a function.
-#[derive(Debug, Drop)]
+#[derive(Drop)]
 pub struct Function {
     pub specifiers: Specifiers,
     pub stars: Items<Span>,
@@ -70,21 +77,22 @@ pub struct Function {
     pub body: Body,
 }
 
-#[derive(Debug, Drop)]
+#[derive(Drop)]
 pub enum Body {
     /// None: the function is only declared.
     Prototype(Span),
     Block(Block),
 }
 
-/// The parameters of a function. Those of `(void)` are the lone parameter `void`, which means that there are none.
-#[derive(Debug, Drop)]
+/// The parameters of a function. Those of `(void)` are the lone parameter `void`, which means that
+/// there are none.
+#[derive(Drop)]
 pub struct Params {
     pub first: Param,
     pub more: Items<Next<Param>>,
 }
 
-#[derive(Debug, Drop)]
+#[derive(Drop)]
 pub struct Param {
     pub qualifier: Option<Span>,
     pub spec: Spec,
@@ -94,10 +102,51 @@ pub struct Param {
 }
 
 /// Variables at file scope.
-#[derive(Debug, Drop)]
+#[derive(Drop)]
 pub struct Globals {
     pub specifiers: Specifiers,
     pub first: Declarator,
     pub more: Items<Next<Declarator>>,
     pub semicolon: Span,
+}
+
+impl Specifiers {
+    /// The offset of their first token.
+    pub fn start(&self) -> u32
+        ensures { (rest : Tree) → start_of (specified self.now rest) ≡ Some result }
+    {
+        match (self.storage, self.qualifier) {
+            (Some(storage), _) => storage.at,
+            (None, Some(qualifier)) => qualifier.at,
+            (None, None) => self.spec.start(),
+        }
+    }
+}
+
+impl Params {
+    /// Whether they are the lone `void`, which means that there are none (ISO 9899:2011, 6.7.6.3,
+    /// paragraph 10).
+    pub fn are_none(&self) -> bool
+        ensures { IsTrue result ↔ AreNone self.now }
+    {
+        let first = &self.first;
+        matches!(first.spec, Spec::Void(_))
+            && first.qualifier.is_none()
+            && first.name.is_none()
+            && first.stars.is_empty()
+            && first.dimensions.is_empty()
+            && self.more.is_empty()
+    }
+}
+
+impl Param {
+    /// The offset of its first token.
+    pub fn start(&self) -> u32
+        ensures { start_of (param self.now) ≡ Some result }
+    {
+        match self.qualifier {
+            Some(qualifier) => qualifier.at,
+            None => self.spec.start(),
+        }
+    }
 }

@@ -1,5 +1,5 @@
-//! The syntax tree of a program (ISO 9899:2011, 6.5 to 6.9): its types, the grammar that a shaped tree follows, and how
-//! a tree is spelled. The parser makes trees, and the checker reads them.
+//! The syntax tree of a program (ISO 9899:2011, 6.5 to 6.9): its types, the grammar that a shaped
+//! tree follows, and how a tree is spelled. The parser makes trees, and the checker reads them.
 #![tactic(auto)]
 
 mod declaration;
@@ -18,7 +18,9 @@ pub use external::{
     Structure, Unit,
 };
 pub use list::Next;
-pub use operator::{AssignOp, BinaryOp, Selection, Step, UnaryOp};
+pub use operator::{AssignOp, BinaryOp, IncDec, Selection, UnaryOp};
 pub use specifier::{Base, Sign, Spec};
-pub use statement::{Block, BlockItem, Else, ForStart, Group, Label, Stmt};
+pub use statement::{
+    Block, BlockItem, Else, ForClauses, ForHeader, ForStart, Group, Label, Stmt, Subject,
+};
 pub use token::{Identifier, Span};

@@ -1,7 +1,7 @@
 use crate::Span;
 
-/// An element of a list that stands behind a comma.
-#[derive(Debug, Drop)]
+/// An element of a list that stands after a comma.
+#[derive(Drop)]
 pub struct Next<T> {
     pub comma: Span,
     pub element: T,

@@ -1,12 +1,12 @@
-#![tactic(auto, unfolding(crate::specs::Operators::selection_mark, crate::specs::Operators::step_mark, crate::specs::Operators::unary_mark, crate::specs::Operators::binary_mark, crate::specs::Operators::assign_mark))]
+#![tactic(auto, unfolding(crate::specs::Operators::selection_mark, crate::specs::Operators::inc_dec_mark, crate::specs::Operators::unary_mark, crate::specs::Operators::binary_mark, crate::specs::Operators::assign_mark))]
 
 ghost use Rattle.std.specs.Prelude.{◌≡◌};
 ghost use Rattle.c_ast.specs.Operators as spec;
 
 use c_lex::Punct;
 
-/// How a member is named: of a structure, or of one behind a pointer.
-#[derive(Clone, Copy, Debug, PartialEq, Eq)]
+/// How a member is named: of a structure, or of one after a pointer.
+#[derive(Clone, Copy)]
 pub enum Selection {
     Dot,
     Arrow,
@@ -25,26 +25,26 @@ impl Selection {
 }
 
 /// `++` or `--`.
-#[derive(Clone, Copy, Debug, PartialEq, Eq)]
-pub enum Step {
-    Up,
-    Down,
+#[derive(Clone, Copy)]
+pub enum IncDec {
+    Increment,
+    Decrement,
 }
 
-impl Step {
+impl IncDec {
     /// How it is written.
     pub fn punct(self) -> Punct
-        ensures { result ≡ spec.step_mark self }
+        ensures { result ≡ spec.inc_dec_mark self }
     {
         match self {
-            Step::Up => Punct::PlusPlus,
-            Step::Down => Punct::MinusMinus,
+            IncDec::Increment => Punct::PlusPlus,
+            IncDec::Decrement => Punct::MinusMinus,
         }
     }
 }
 
 /// An operator in front of its operand (ISO 9899:2011, 6.5.3).
-#[derive(Clone, Copy, Debug, PartialEq, Eq)]
+#[derive(Clone, Copy)]
 pub enum UnaryOp {
     AddressOf,
     Deref,
@@ -71,7 +71,7 @@ impl UnaryOp {
 }
 
 /// A binary operator (ISO 9899:2011, 6.5.5 to 6.5.14), the tightest first.
-#[derive(Clone, Copy, Debug, PartialEq, Eq)]
+#[derive(Clone, Copy)]
 pub enum BinaryOp {
     Multiply,
     Divide,
@@ -122,7 +122,7 @@ impl BinaryOp {
 }
 
 /// `=`, or the operator of a compound assignment (ISO 9899:2011, 6.5.16).
-#[derive(Clone, Copy, Debug, PartialEq, Eq)]
+#[derive(Clone, Copy)]
 pub enum AssignOp {
     Plain,
     Multiply,

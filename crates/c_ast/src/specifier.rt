@@ -1,7 +1,13 @@
+#![tactic(auto, unfolding(crate::specs::Spelling::spelled))]
+
+ghost use Rattle.std.specs.Prelude.{◌≡◌, Some};
+ghost use Rattle.c_ast.specs.Specifiers.{spec_tree, base_tree};
+ghost use Rattle.c_ast.specs.Spelling.{start_of};
+
 use crate::{Identifier, Span};
 
 /// The type specifiers of a declaration (ISO 9899:2011, 6.7.2).
-#[derive(Debug, Drop)]
+#[derive(Drop)]
 pub enum Spec {
     Void(Span),
     /// `char`, `int` or `short` alone.
@@ -18,16 +24,41 @@ pub enum Spec {
     },
 }
 
-#[derive(Clone, Copy, Debug, PartialEq, Eq)]
+#[derive(Clone, Copy)]
 pub enum Sign {
     Signed,
     Unsigned,
 }
 
 /// An integer type without its sign. `int` may follow `short`.
-#[derive(Clone, Copy, Debug, PartialEq, Eq)]
+#[derive(Clone, Copy)]
 pub enum Base {
     Char(Span),
     Int(Span),
     Short { short: Span, int: Option<Span> },
+}
+
+impl Spec {
+    /// The offset of its first token.
+    pub fn start(&self) -> u32
+        ensures { start_of (spec_tree self.now) ≡ Some result }
+    {
+        match self {
+            Spec::Plain(base) => base.start(),
+            Spec::Void(span) | Spec::Signed { span, .. } => span.at,
+            Spec::Struct { keyword, .. } => keyword.at,
+        }
+    }
+}
+
+impl Base {
+    /// The offset of its first token.
+    pub fn start(&self) -> u32
+        ensures { start_of (base_tree self.now) ≡ Some result }
+    {
+        match self {
+            Base::Char(span) | Base::Int(span) => span.at,
+            Base::Short { short, .. } => short.at,
+        }
+    }
 }

@@ -3,7 +3,7 @@ use sqlite_items::{Boxed, Items};
 
 /// A statement (ISO 9899:2011, 6.8).
 #[cycle(statement)]
-#[derive(Debug, Drop)]
+#[derive(Drop)]
 pub enum Stmt {
     Null(Span),
     Expr {
@@ -17,7 +17,7 @@ pub enum Stmt {
         condition: ExprList,
         close: Span,
         then: Boxed<Stmt>,
-        otherwise: Option<Else>,
+        otherwise: Option<Boxed<Else>>,
     },
     While {
         keyword: Span,
@@ -38,10 +38,7 @@ pub enum Stmt {
     For {
         keyword: Span,
         open: Span,
-        start: ForStart,
-        condition: Option<ExprList>,
-        semicolon: Span,
-        step: Option<ExprList>,
+        header: ForHeader,
         close: Span,
         body: Boxed<Stmt>,
     },
@@ -60,9 +57,7 @@ pub enum Stmt {
     },
     Switch {
         keyword: Span,
-        open: Span,
-        value: ExprList,
-        close: Span,
+        subject: Subject,
         begin: Span,
         groups: Items<Group>,
         end: Span,
@@ -70,7 +65,7 @@ pub enum Stmt {
 }
 
 #[cycle(statement)]
-#[derive(Debug, Drop)]
+#[derive(Drop)]
 pub struct Block {
     pub open: Span,
     pub items: Items<BlockItem>,
@@ -78,21 +73,43 @@ pub struct Block {
 }
 
 #[cycle(statement)]
-#[derive(Debug, Drop)]
+#[derive(Drop)]
 pub enum BlockItem {
     Stmt(Stmt),
     Locals(Locals),
 }
 
 #[cycle(statement)]
-#[derive(Debug, Drop)]
+#[derive(Drop)]
 pub struct Else {
     pub keyword: Span,
     pub body: Boxed<Stmt>,
 }
 
+/// What stands in the parentheses of a `for`, on the heap, since other statements are much smaller.
+#[derive(Drop)]
+pub struct ForHeader {
+    pub clauses: Boxed<ForClauses>,
+}
+
+#[derive(Drop)]
+pub struct ForClauses {
+    pub start: ForStart,
+    pub condition: Option<ExprList>,
+    pub semicolon: Span,
+    pub step: Option<ExprList>,
+}
+
+/// The expression of a `switch` in its parentheses.
+#[derive(Drop)]
+pub struct Subject {
+    pub open: Span,
+    pub value: Boxed<ExprList>,
+    pub close: Span,
+}
+
 /// The first clause of a `for`.
-#[derive(Debug, Drop)]
+#[derive(Drop)]
 pub enum ForStart {
     Locals(Locals),
     Clause {
@@ -101,9 +118,9 @@ pub enum ForStart {
     },
 }
 
-/// Labels of a `switch` and the statements behind them.
+/// Productions of a `switch` and the statements after them.
 #[cycle(statement)]
-#[derive(Debug, Drop)]
+#[derive(Drop)]
 pub struct Group {
     pub label: Label,
     pub labels: Items<Label>,
@@ -111,7 +128,7 @@ pub struct Group {
     pub more: Items<Stmt>,
 }
 
-#[derive(Debug, Drop)]
+#[derive(Drop)]
 pub enum Label {
     Case {
         keyword: Span,

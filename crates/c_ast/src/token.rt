@@ -1,14 +1,14 @@
 use c_lex::Name;
 
-/// Where a token stands: the places of its first byte and of the byte behind its last.
-#[derive(Clone, Copy, Debug, PartialEq, Eq)]
+/// Where a token stands: the spans of its first byte and of the byte after its last.
+#[derive(Clone, Copy)]
 pub struct Span {
     pub at: u32,
     pub end: u32,
 }
 
 /// An identifier and where it stands.
-#[derive(Debug, Drop)]
+#[derive(Drop)]
 pub struct Identifier {
     pub name: Name,
     pub span: Span,

@@ -4,43 +4,43 @@ use Rattle.std.proofs.Common.{refl, sym, ap, ◌∙◌, inl, inr, subst}
 use Rattle.std.proofs.lemmas.Bool.{not-true}
 use Rattle.c_lex.specs.declared.token.Token.{Token}
 use Rattle.c_lex.specs.declared.token.TokenKind.{TokenKind}
-use Rattle.c_ast.specs.Classes.{Class}
-use Rattle.c_ast.specs.Labels.{Label}
-use Rattle.c_ast.specs.Labels as label
+use Rattle.c_ast.specs.Nonterminals.{Nonterminal}
+use Rattle.c_ast.specs.Productions.{Production}
+use Rattle.c_ast.specs.Productions as production
 use Rattle.c_ast.specs.Terminals.{Terminal, is}
 use Rattle.c_ast.specs.Tree.{Tree, Leaf, Node, Nil, Cons}
 use Rattle.c_ast.specs.Spelling.{spelled}
-use Rattle.c_ast.specs.Grammar.{Sym, T, N, One, All, Fits, parts_of, allowed, waits, else_fits}
-use Rattle.c_grammar.specs.Starts.{at, begins_type, head, typed, start, next}
-use Rattle.c_grammar.specs.Reader.{Out, Done, Deep, and_then, label_of, token, one, parts, begun, first, later, goes_on, turns, step, read}
+use Rattle.c_ast.specs.Grammar.{Symbol, T, N, One, All, Fits, symbols_of, allowed, waits, else_fits}
+use Rattle.c_grammar.specs.PredictSets.{at, begins_type, head, typed, start, next}
+use Rattle.c_grammar.specs.Reader.{ReadResult, Read, OutOfFuel, and_then, production_of, token, one, children, begun, first, later, goes_on, turns, step, read}
 use Rattle.c_grammar.proofs.Lists.{and_left, and_right, or_cases, left_or, right_or}
 use Rattle.c_grammar.proofs.Follow.{is_suffix, front, rest_of, is_read, all_nullable, ahead, follows, is_else, is_last, ends}
-use Rattle.c_grammar.proofs.Bridges.{Row, Sits, row_is, row_token, row_read, row_rest, row_follows, sits_from, sits_ends, next_stops, next_chosen, inner_is, else_is, begins_empty, begins_token, begins_class, begins_filled, front_is, rest_is, drop_front, rest_filled}
+use Rattle.c_grammar.proofs.Bridges.{Row, Sits, row_is, row_token, row_read, row_rest, row_follows, sits_from, sits_ends, next_stops, next_chosen, inner_is, else_is, begins_empty, begins_token, begins_nonterminal, begins_filled, front_is, rest_is, drop_front, rest_filled}
 use Rattle.c_grammar.proofs.Trees.{waits_node, waits_if, waits_alone, is_if, NodeOf, nil_is, leaf_is, node_is, cons_not_nil, cons_not_empty, not_leaf, not_node, else_fits_quiet, fits_node, fits_allowed, fits_else, fits_parts}
 use Rattle.c_grammar.proofs.Firsts.{Opens, opens, begins_form, empty_form}
 use Rattle.c_grammar.proofs.Sound.{waits_filled}
 
 -- read, unless the bound of the nesting is passed
-abbrev pub Reads : Out → Tree → List Token → Type 0
-Reads o t j = (o ≡ Done t j) ⊎ (o ≡ Deep)
+abbrev pub Reads : ReadResult → Tree → List Token → Type 0
+Reads o t j = (o ≡ Read t j) ⊎ (o ≡ OutOfFuel)
 
--- read up to the tree t, behind which it goes on
-abbrev pub Reaches : ℕ → Class → Tree → List Token → Type 0
+-- read up to the tree t, after which it goes on
+abbrev pub Reaches : ℕ → Nonterminal → Tree → List Token → Type 0
 Reaches n c t j =
-    (step n (read n) c (spelled t j) ≡ Deep) ⊎ ((m : ℕ) × (step n (read n) c (spelled t j) ≡ turns (read n) m c t j))
+    (step n (read n) c (spelled t j) ≡ OutOfFuel) ⊎ ((m : ℕ) × (step n (read n) c (spelled t j) ≡ turns (read n) m c t j))
 
--- no `if` at the end of the tree's parts waits for an `else` that follows
+-- no `if` at the end of the tree's children waits for an `else` that follows
 abbrev pub Settled : Tree → List Token → Type 0
 Settled f j = is_else (head j) ≡ true → waits f ≡ false
 
--- a tree is read again, and so are parts
+-- a tree is read again, and so are children
 abbrev pub Whole : Tree → Type 0
 Whole t =
-    (c : Class) (l : Label) (f : Tree) → Node l f ≡ t → Fits (One c) t → (n : ℕ) (j : List Token) → is_read c ≡ true → Sits c l (head j) → Settled f j → Reaches n c t j
+    (c : Nonterminal) (l : Production) (f : Tree) → Node l f ≡ t → Fits (One c) t → (n : ℕ) (j : List Token) → is_read c ≡ true → Sits c l (head j) → Settled f j → Reaches n c t j
 
 abbrev pub Rows : Tree → Type 0
 Rows f =
-    (syms : List Sym) → Fits (All syms) f → (n : ℕ) (j : List Token) → Row syms → ends syms (head j) ≡ true → Settled f j → Reads (parts (read n) syms (spelled f j)) f j
+    (symbols : List Symbol) → Fits (All symbols) f → (n : ℕ) (j : List Token) → Row symbols → ends symbols (head j) ≡ true → Settled f j → Reads (children (read n) symbols (spelled f j)) f j
 
 abbrev pub Inner : Tree → Type 0
 Inner (Cons t f) = Whole t × Rows f
@@ -52,224 +52,252 @@ typed_cons : (x : Token) (ts : List Token) → typed (x ∷ ts) ≡ at begins_ty
 unfolding typed
 typed_cons x ts = refl
 
--- how what follows a row begins
-behind_row : (syms : List Sym) (f : Tree) (j : List Token) → Fits (All syms) f → (at (ahead syms) (head (spelled f j)) || all_nullable syms) ≡ true
+-- how what follows a sequence begins
+after_row : (symbols : List Symbol) (f : Tree) (j : List Token) → Fits (All symbols) f → (at (ahead symbols) (head (spelled f j)) || all_nullable symbols) ≡ true
 unfolding Opens begins_form empty_form
-behind_row syms f j h = go (opens f (All syms) h)
+after_row symbols f j h = go (opens f (All symbols) h)
   where
-    go : Opens (ahead syms) (all_nullable syms) f → (at (ahead syms) (head (spelled f j)) || all_nullable syms) ≡ true
-    go (inl e) = right_or (at (ahead syms) (head (spelled f j))) (all_nullable syms) e.0
-    go (inr e) = left_or (at (ahead syms) (head (spelled f j))) (all_nullable syms) (ap (λ z. at (ahead syms) (head z)) (e.3 j) ∙ e.2)
+    go : Opens (ahead symbols) (all_nullable symbols) f → (at (ahead symbols) (head (spelled f j)) || all_nullable symbols) ≡ true
+    go (inl e) = right_or (at (ahead symbols) (head (spelled f j))) (all_nullable symbols) e.0
+    go (inr e) = left_or (at (ahead symbols) (head (spelled f j))) (all_nullable symbols) (ap (λ z. at (ahead symbols) (head z)) (e.3 j) ∙ e.2)
 
-start_chosen : (c : Class) (l : Label) (f : Tree) (j : List Token) → is_read c ≡ true → allowed c l ≡ true → is_suffix l ≡ false → Sits c l (head j) → (syms : List Sym) → parts_of l ≡ syms → Fits (All syms) f → start c (head (spelled f j)) (typed (spelled f j)) ≡ Some l
+start_chosen : (c : Nonterminal) (l : Production) (f : Tree) (j : List Token) → is_read c ≡ true → allowed c l ≡ true → is_suffix l ≡ false → Sits c l (head j) → (symbols : List Symbol) →
+    symbols_of l ≡ symbols → Fits (All symbols) f → start c (head (spelled f j)) (typed (spelled f j)) ≡ Some l
 unfolding Opens begins_form empty_form spelled
 start_chosen c l f j r a s i [] e h =
     subst (λ (f : Tree). start c (head (spelled f j)) (typed (spelled f j)) ≡ Some l) (sym (nil_is f h))
     (begins_empty c l r a s e (head j) (typed j) (sits_from c l (head j) i))
-start_chosen c l f j r a s i (T t ∷ syms) e h =
-    let g = leaf_is t syms f h in
+start_chosen c l f j r a s i (T t ∷ symbols) e h =
+    let g = leaf_is t symbols f h in
     subst (λ (f : Tree). start c (head (spelled f j)) (typed (spelled f j)) ≡ Some l) g.is_so
-    (ap (λ b. start c (Some g.token.kind) b) (typed_cons g.token (spelled g.others j)) ∙ begins_token c l r a s t syms e g.token.kind (head (spelled g.others j)) g.stands_for (behind_row syms g.others j g.fits))
-start_chosen c l f j r a s i (N d ∷ syms) e h = go (opens f (All (N d ∷ syms)) h)
+    (ap (λ b. start c (Some g.token.kind) b) (typed_cons g.token (spelled g.others j)) ∙ begins_token c l r a s t symbols e g.token.kind (head (spelled g.others j)) g.stands_for (after_row symbols
+    g.others j g.fits))
+start_chosen c l f j r a s i (N d ∷ symbols) e h = go (opens f (All (N d ∷ symbols)) h)
   where
-    go : Opens (ahead (N d ∷ syms)) (all_nullable (N d ∷ syms)) f → start c (head (spelled f j)) (typed (spelled f j)) ≡ Some l
-    go (inl o) = absurd (cc (begins_filled c l r a s d syms e, o.0))
+    go : Opens (ahead (N d ∷ symbols)) (all_nullable (N d ∷ symbols)) f → start c (head (spelled f j)) (typed (spelled f j)) ≡ Some l
+    go (inl o) = absurd (cc (begins_filled c l r a s d symbols e, o.0))
     go (inr o) =
         subst (λ (ts : List Token). start c (head ts) (typed ts) ≡ Some l) (sym (o.3 j))
-        (begins_class c l r a s d syms e o.0.kind (typed (o.0 ∷ (o.1 ++ j))) o.2)
+        (begins_nonterminal c l r a s d symbols e o.0.kind (typed (o.0 ∷ (o.1 ++ j))) o.2)
 
 -- ---- the end
 
-finished : (c : Class) (l : Label) (f : Tree) (j : List Token) → is_read c ≡ true → allowed c l ≡ true → follows c (head j) ≡ true → (is_else (head j) ≡ true → waits (Node l f) ≡ false) → next c l (head j) ≡ None
+finished : (c : Nonterminal) (l : Production) (f : Tree) (j : List Token) → is_read c ≡ true → allowed c l ≡ true → follows c (head j) ≡ true → (is_else (head j) ≡ true → waits (Node l f) ≡ false) →
+    next c l (head j) ≡ None
 finished c l f j r a h q = next_stops c l (head j) r a h (λ x e. cc (q x, waits_if f, ap (λ l. waits (Node l f)) e))
 
-waits_inside : (l : Label) (f : Tree) → waits (Node l f) ≡ false → waits f ≡ false
+waits_inside : (l : Production) (f : Tree) → waits (Node l f) ≡ false → waits f ≡ false
 waits_inside l f e = go (is_if l)
   where
-    go : (l ≡ label.If) ⊎ (l ≡ label.If → ⊥) → waits f ≡ false
+    go : (l ≡ production.If) ⊎ (l ≡ production.If → ⊥) → waits f ≡ false
     go (inr other) = sym (waits_node l f other) ∙ e
     go (inl i) = absurd (cc (e, waits_if f, ap (λ l. waits (Node l f)) i))
 
-turned : (n m : ℕ) (c : Class) (l : Label) (f : Tree) (j : List Token) → next c l (head j) ≡ None → Reads (turns (read n) m c (Node l f) j) (Node l f) j
-unfolding turns label_of goes_on
+turned : (n m : ℕ) (c : Nonterminal) (l : Production) (f : Tree) (j : List Token) → next c l (head j) ≡ None → Reads (turns (read n) m c (Node l f) j) (Node l f) j
+unfolding turns production_of goes_on
 turned n zero c l f j e = inr refl
 turned n (suc m) c l f j e = inl (ap (λ o. goes_on (read n) o (Node l f) j (turns (read n) m c)) e)
 
--- a tree of a class is read where what follows may follow
-read_whole : (n : ℕ) (c : Class) (t : Tree) (j : List Token) → Fits (One c) t → Whole t → is_read c ≡ true → follows c (head j) ≡ true → (is_else (head j) ≡ true → waits t ≡ false) → Reads (read n c (spelled t j)) t j
+-- a tree of a nonterminal is read where what follows may follow
+read_whole : (n : ℕ) (c : Nonterminal) (t : Tree) (j : List Token) → Fits (One c) t → Whole t → is_read c ≡ true → follows c (head j) ≡ true → (is_else (head j) ≡ true → waits t ≡ false) →
+    Reads (read n c (spelled t j)) t j
 unfolding read Sits
 read_whole zero c t j h again r f q = inr refl
 read_whole (suc n) c t j h again r f q =
-    go (again c g.label g.parts g.is_so h n j r (inl f) (λ x. waits_inside g.label g.parts (ap waits g.is_so ∙ q x)))
+    go (again c g.production g.children g.is_so h n j r (inl f) (λ x. waits_inside g.production g.children (ap waits g.is_so ∙ q x)))
   where
     g : NodeOf c t
     g = node_is c t h
 
-    stop : next c g.label (head j) ≡ None
-    stop = finished c g.label g.parts j r (fits_allowed c g.label g.parts g.fits) f (λ x. ap waits g.is_so ∙ q x)
+    stop : next c g.production (head j) ≡ None
+    stop = finished c g.production g.children j r (fits_allowed c g.production g.children g.fits) f (λ x. ap waits g.is_so ∙ q x)
 
     go : Reaches n c t j → Reads (step n (read n) c (spelled t j)) t j
     go (inl e) = inr e
-    go (inr e) = subst (λ (o : Out). Reads o t j) (sym e.1) (subst (λ (t : Tree). Reads (turns (read n) e.0 c t j) t j) g.is_so (turned n e.0 c g.label g.parts j stop))
+    go (inr e) = subst (λ (o : ReadResult). Reads o t j) (sym e.1) (subst (λ (t : Tree). Reads (turns (read n) e.0 c t j) t j) g.is_so (turned n e.0 c g.production g.children j stop))
 
 -- ---- a production that begins
 
-prefix_reaches : (n : ℕ) (c : Class) (l : Label) (f : Tree) (j : List Token) → Rows f → Fits (One c) (Node l f) → is_read c ≡ true → is_suffix l ≡ false → Sits c l (head j) → Settled f j → Reaches n c (Node l f) j
+prefix_reaches : (n : ℕ) (c : Nonterminal) (l : Production) (f : Tree) (j : List Token) → Rows f → Fits (One c) (Node l f) → is_read c ≡ true → is_suffix l ≡ false → Sits c l (head j) →
+    Settled f j → Reaches n c (Node l f) j
 unfolding step first begun spelled
 prefix_reaches n c l f j rows h r s i q =
-    go (rows (parts_of l) (fits_parts c l f h) n j (subst (λ (syms : List Sym). Row syms) (rest_is l s) (row_is l)) (subst (λ (syms : List Sym). ends syms (head j) ≡ true) (rest_is l s) (sits_ends c l (head j) r a i)) q)
+    go (rows (symbols_of l) (fits_parts c l f h) n j (subst (λ (symbols : List Symbol). Row symbols) (rest_is l s) (row_is l)) (subst (λ (symbols : List Symbol). ends symbols (head j) ≡ true)
+    (rest_is l s) (sits_ends c l (head j) r a i)) q)
   where
     a : allowed c l ≡ true
     a = fits_allowed c l f h
 
-    begins : step n (read n) c (spelled (Node l f) j) ≡ and_then (and_then (parts (read n) (parts_of l) (spelled f j)) (λ f k. Done (Node l f) k)) (turns (read n) (suc n) c)
-    begins = ap (λ o. and_then (begun (read n) o (spelled f j)) (turns (read n) (suc n) c)) (start_chosen c l f j r a s i (parts_of l) refl (fits_parts c l f h))
+    begins : step n (read n) c (spelled (Node l f) j) ≡ and_then (and_then (children (read n) (symbols_of l) (spelled f j)) (λ f k. Read (Node l f) k)) (turns (read n) (suc n) c)
+    begins = ap (λ o. and_then (begun (read n) o (spelled f j)) (turns (read n) (suc n) c)) (start_chosen c l f j r a s i (symbols_of l) refl (fits_parts c l f h))
 
-    go : Reads (parts (read n) (parts_of l) (spelled f j)) f j → Reaches n c (Node l f) j
-    go (inl e) = inr (suc n, begins ∙ ap (λ (o : Out). and_then (and_then o (λ f k. Done (Node l f) k)) (turns (read n) (suc n) c)) e)
-    go (inr e) = inl (begins ∙ ap (λ (o : Out). and_then (and_then o (λ f k. Done (Node l f) k)) (turns (read n) (suc n) c)) e)
+    go : Reads (children (read n) (symbols_of l) (spelled f j)) f j → Reaches n c (Node l f) j
+    go (inl e) = inr (suc n, begins ∙ ap (λ (o : ReadResult). and_then (and_then o (λ f k. Read (Node l f) k)) (turns (read n) (suc n) c)) e)
+    go (inr e) = inl (begins ∙ ap (λ (o : ReadResult). and_then (and_then o (λ f k. Read (Node l f) k)) (turns (read n) (suc n) c)) e)
 
 -- ---- a production that goes on
 
-one_turn : (n m : ℕ) (c : Class) (k l : Label) (f : Tree) (ts : List Token) → is_suffix l ≡ true → next c k (head ts) ≡ Some l → turns (read n) (suc m) c (Node k f) ts ≡ and_then (and_then (parts (read n) (rest_of l) ts) (λ g j. Done (Node l (Cons (Node k f) g)) j)) (turns (read n) m c)
-unfolding turns label_of goes_on later
+one_turn : (n m : ℕ) (c : Nonterminal) (k l : Production) (f : Tree) (ts : List Token) → is_suffix l ≡ true → next c k (head ts) ≡ Some l →
+    turns (read n) (suc m) c (Node k f) ts ≡ and_then (and_then (children (read n) (rest_of l) ts) (λ g j. Read (Node l (Cons (Node k f) g)) j)) (turns (read n) m c)
+unfolding turns production_of goes_on later
 one_turn n m c k l f ts s e =
-    ap (λ o. goes_on (read n) o (Node k f) ts (turns (read n) m c)) e ∙ ap (λ (syms : List Sym). and_then (and_then (parts (read n) syms ts) (λ g j. Done (Node l (Cons (Node k f) g)) j)) (turns (read n) m c)) (drop_front l s)
+    ap (λ o. goes_on (read n) o (Node k f) ts (turns (read n) m c)) e ∙ ap (λ (symbols : List Symbol). and_then (and_then (children (read n) symbols ts) (λ g j. Read (Node l (Cons (Node k f) g)) j))
+    (turns (read n) m c)) (drop_front l s)
 
-turn_on : (n m : ℕ) (c : Class) (k l : Label) (f g : Tree) (j : List Token) → is_suffix l ≡ true → next c k (head (spelled g j)) ≡ Some l → Reads (parts (read n) (rest_of l) (spelled g j)) g j → (turns (read n) m c (Node k f) (spelled g j) ≡ Deep) ⊎ ((i : ℕ) × (turns (read n) m c (Node k f) (spelled g j) ≡ turns (read n) i c (Node l (Cons (Node k f) g)) j))
+turn_on : (n m : ℕ) (c : Nonterminal) (k l : Production) (f g : Tree) (j : List Token) → is_suffix l ≡ true → next c k (head (spelled g j)) ≡ Some l →
+    Reads (children (read n) (rest_of l) (spelled g j)) g j → (turns (read n) m c (Node k f) (spelled g j) ≡ OutOfFuel) ⊎ ((i : ℕ) × (turns (read n) m c (Node k f) (spelled g j) ≡ turns (read n) i c
+    (Node l (Cons (Node k f) g)) j))
 unfolding turns
 turn_on n zero c k l f g j s e p = inl refl
 turn_on n (suc m) c k l f g j s e (inl p) =
-    inr (m, one_turn n m c k l f (spelled g j) s e ∙ ap (λ (o : Out). and_then (and_then o (λ g j. Done (Node l (Cons (Node k f) g)) j)) (turns (read n) m c)) p)
+    inr (m, one_turn n m c k l f (spelled g j) s e ∙ ap (λ (o : ReadResult). and_then (and_then o (λ g j. Read (Node l (Cons (Node k f) g)) j)) (turns (read n) m c)) p)
 turn_on n (suc m) c k l f g j s e (inr p) =
-    inl (one_turn n m c k l f (spelled g j) s e ∙ ap (λ (o : Out). and_then (and_then o (λ g j. Done (Node l (Cons (Node k f) g)) j)) (turns (read n) m c)) p)
+    inl (one_turn n m c k l f (spelled g j) s e ∙ ap (λ (o : ReadResult). and_then (and_then o (λ g j. Read (Node l (Cons (Node k f) g)) j)) (turns (read n) m c)) p)
 
 -- what stands before a production that goes on
-behind_front : (n : ℕ) (c : Class) (l k : Label) (f g : Tree) (j : List Token) (x : Token) (more : List Token) → Whole (Node k f) → Fits (One (front l)) (Node k f) → else_fits l (Cons (Node k f) g) ≡ true → is_read c ≡ true → allowed c l ≡ true → is_suffix l ≡ true → ahead (rest_of l) x.kind ≡ true → spelled g j ≡ x ∷ more → Reaches n c (Node k f) (spelled g j)
+after_front : (n : ℕ) (c : Nonterminal) (l k : Production) (f g : Tree) (j : List Token) (x : Token) (more : List Token) → Whole (Node k f) → Fits (One (front l)) (Node k f) →
+    else_fits l (Cons (Node k f) g) ≡ true → is_read c ≡ true → allowed c l ≡ true → is_suffix l ≡ true → ahead (rest_of l) x.kind ≡ true → spelled g j ≡ x ∷ more →
+    Reaches n c (Node k f) (spelled g j)
 unfolding Sits
-behind_front n c l k f g j x more whole h e r a s o q =
-    whole c k f refl (fits_node c k f (inner_is c k l r a s b) (fits_else (front l) k f h) (fits_parts (front l) k f h)) n (spelled g j) r (inr (l, a, s, b, ap (λ z. at (ahead (rest_of l)) (head z)) q ∙ o)) (λ z. quiet (ap (λ z. is_else (head z)) (sym q) ∙ z))
+after_front n c l k f g j x more whole h e r a s o q =
+    whole c k f refl (fits_node c k f (inner_is c k l r a s b) (fits_else (front l) k f h) (fits_parts (front l) k f h)) n (spelled g j) r (inr (
+      l,
+      a,
+      s,
+      b,
+      ap (λ z. at (ahead (rest_of l)) (head z)) q ∙ o,
+    )) (λ z. quiet (ap (λ z. is_else (head z)) (sym q) ∙ z))
   where
     b : allowed (front l) k ≡ true
     b = fits_allowed (front l) k f h
 
     quiet : is_else (Some x.kind) ≡ true → waits f ≡ false
-    quiet z = else_fits_quiet k f g (subst (λ (l : Label). else_fits l (Cons (Node k f) g) ≡ true) (else_is l x.kind s o z) e)
+    quiet z = else_fits_quiet k f g (subst (λ (l : Production). else_fits l (Cons (Node k f) g) ≡ true) (else_is l x.kind s o z) e)
 
-suffix_reaches : (n : ℕ) (c : Class) (l k : Label) (f g : Tree) (j : List Token) → Whole (Node k f) → Rows g → Fits (One c) (Node l (Cons (Node k f) g)) → Fits (One (front l)) (Node k f) → Fits (All (rest_of l)) g → is_read c ≡ true → is_suffix l ≡ true → Sits c l (head j) → Settled (Cons (Node k f) g) j → Reaches n c (Node l (Cons (Node k f) g)) j
+suffix_reaches : (n : ℕ) (c : Nonterminal) (l k : Production) (f g : Tree) (j : List Token) → Whole (Node k f) → Rows g → Fits (One c) (Node l (Cons (Node k f) g)) →
+    Fits (One (front l)) (Node k f) → Fits (All (rest_of l)) g → is_read c ≡ true → is_suffix l ≡ true → Sits c l (head j) → Settled (Cons (Node k f) g) j → Reaches n c (Node l (Cons (Node k f) g)) j
 unfolding Opens begins_form empty_form spelled
 suffix_reaches n c l k f g j whole rows h hf hr r s i q = go (opens g (All (rest_of l)) hr)
   where
     a : allowed c l ≡ true
     a = fits_allowed c l (Cons (Node k f) g) h
 
-    rest : Reads (parts (read n) (rest_of l) (spelled g j)) g j
+    rest : Reads (children (read n) (rest_of l) (spelled g j)) g j
     rest = rows (rest_of l) hr n j (row_is l) (sits_ends c l (head j) r a i) (λ x. sym (waits_filled (rest_of l) (Node k f) g (rest_filled l s) hr) ∙ q x)
 
-    joins : Reaches n c (Node k f) (spelled g j) → ((m : ℕ) → (turns (read n) m c (Node k f) (spelled g j) ≡ Deep) ⊎ ((i : ℕ) × (turns (read n) m c (Node k f) (spelled g j) ≡ turns (read n) i c (Node l (Cons (Node k f) g)) j))) → Reaches n c (Node l (Cons (Node k f) g)) j
+    joins : Reaches n c (Node k f) (spelled g j) → ((m : ℕ) → (turns (read n) m c (Node k f) (spelled g j) ≡ OutOfFuel) ⊎ ((i : ℕ) × (turns (read n) m c (Node k f) (spelled g j) ≡ turns (read n) i c
+        (Node l (Cons (Node k f) g)) j))) → Reaches n c (Node l (Cons (Node k f) g)) j
     joins (inl e) t = inl e
     joins (inr e) t = onward (t e.0)
       where
-        onward : (turns (read n) e.0 c (Node k f) (spelled g j) ≡ Deep) ⊎ ((i : ℕ) × (turns (read n) e.0 c (Node k f) (spelled g j) ≡ turns (read n) i c (Node l (Cons (Node k f) g)) j)) → Reaches n c (Node l (Cons (Node k f) g)) j
+        onward : (turns (read n) e.0 c (Node k f) (spelled g j) ≡ OutOfFuel) ⊎ ((i : ℕ) × (turns (read n) e.0 c (Node k f) (spelled g j) ≡ turns (read n) i c (Node l (Cons (Node k f) g)) j)) →
+            Reaches n c (Node l (Cons (Node k f) g)) j
         onward (inl d) = inl (e.1 ∙ d)
         onward (inr d) = inr (d.0, e.1 ∙ d.1)
 
     go : Opens (ahead (rest_of l)) (all_nullable (rest_of l)) g → Reaches n c (Node l (Cons (Node k f) g)) j
     go (inl o) = absurd (cc (o.0, rest_filled l s))
     go (inr o) =
-        joins (behind_front n c l k f g j o.0 (o.1 ++ j) whole hf (fits_else c l (Cons (Node k f) g) h) r a s o.2 (o.3 j))
+        joins (after_front n c l k f g j o.0 (o.1 ++ j) whole hf (fits_else c l (Cons (Node k f) g) h) r a s o.2 (o.3 j))
         (λ m. turn_on n m c k l f g j s (ap (λ z. next c k (head z)) (o.3 j) ∙ next_chosen c k l o.0.kind r a s (fits_allowed (front l) k f hf) o.2) rest)
 
--- ---- rows
+-- ---- sequences
 
-waits_behind : (t g : Tree) → waits (Cons t g) ≡ false → waits g ≡ false
+waits_after : (t g : Tree) → waits (Cons t g) ≡ false → waits g ≡ false
 unfolding waits
-waits_behind t Nil h = refl
-waits_behind t (Leaf x) h = refl
-waits_behind t (Node l f) h = h
-waits_behind t (Cons u f) h = h
+waits_after t Nil h = refl
+waits_after t (Leaf x) h = refl
+waits_after t (Node l f) h = h
+waits_after t (Cons u f) h = h
 
--- what may follow the first class of a row
-pub record EndsClass (c : Class) (syms : List Sym) (h : Option TokenKind) : Type 0 where
-  pub others : ends syms h ≡ true
-  pub follow : all_nullable syms ≡ true → follows c h ≡ true
-  pub quiet : all_nullable syms ≡ true → (is_last syms ≡ true) ⊎ (is_else h ≡ false)
+-- what may follow the first nonterminal of a sequence
+pub record EndsNonterminal (c : Nonterminal) (symbols : List Symbol) (h : Option TokenKind) : Type 0 where
+  pub others : ends symbols h ≡ true
+  pub follow : all_nullable symbols ≡ true → follows c h ≡ true
+  pub quiet : all_nullable symbols ≡ true → (is_last symbols ≡ true) ⊎ (is_else h ≡ false)
 
-ends_class : (c : Class) (syms : List Sym) (h : Option TokenKind) → ends (N c ∷ syms) h ≡ true → EndsClass c syms h
+ends_nonterminal : (c : Nonterminal) (symbols : List Symbol) (h : Option TokenKind) → ends (N c ∷ symbols) h ≡ true → EndsNonterminal c symbols h
 unfolding ends
-ends_class c syms h e =
+ends_nonterminal c symbols h e =
     record {
-      others = and_left (ends syms h) (not (all_nullable syms) || (follows c h && (is_last syms || not (is_else h)))) e;
-      follow = λ n. and_left (follows c h) (is_last syms || not (is_else h)) (inside n);
-      quiet = λ n. sides (or_cases (is_last syms) (not (is_else h)) (and_right (follows c h) (is_last syms || not (is_else h)) (inside n)));
+      others = and_left (ends symbols h) (not (all_nullable symbols) || (follows c h && (is_last symbols || not (is_else h)))) e;
+      follow = λ n. and_left (follows c h) (is_last symbols || not (is_else h)) (inside n);
+      quiet = λ n. sides (or_cases (is_last symbols) (not (is_else h)) (and_right (follows c h) (is_last symbols || not (is_else h)) (inside n)));
     }
   where
-    inside : all_nullable syms ≡ true → (follows c h && (is_last syms || not (is_else h))) ≡ true
-    inside n = subst (λ b. (not b || (follows c h && (is_last syms || not (is_else h)))) ≡ true) n (and_right (ends syms h) (not (all_nullable syms) || (follows c h && (is_last syms || not (is_else h)))) e)
+    inside : all_nullable symbols ≡ true → (follows c h && (is_last symbols || not (is_else h))) ≡ true
+    inside n = subst (λ b. (not b || (follows c h && (is_last symbols || not (is_else h)))) ≡ true) n (and_right (ends symbols h) (not (all_nullable symbols) || (follows c h && (is_last symbols
+        || not (is_else h)))) e)
 
-    sides : (is_last syms ≡ true) ⊎ (not (is_else h) ≡ true) → (is_last syms ≡ true) ⊎ (is_else h ≡ false)
+    sides : (is_last symbols ≡ true) ⊎ (not (is_else h) ≡ true) → (is_last symbols ≡ true) ⊎ (is_else h ≡ false)
     sides (inl l) = inl l
     sides (inr m) = inr (not-true (is_else h) m)
 
-class_follows : (c : Class) (syms : List Sym) (t g : Tree) (j : List Token) → Row (N c ∷ syms) → EndsClass c syms (head j) → Settled (Cons t g) j → Fits (All syms) g → (follows c (head (spelled g j)) ≡ true) × (is_else (head (spelled g j)) ≡ true → waits t ≡ false)
+nonterminal_follows : (c : Nonterminal) (symbols : List Symbol) (t g : Tree) (j : List Token) → Row (N c ∷ symbols) → EndsNonterminal c symbols (head j) → Settled (Cons t g) j →
+    Fits (All symbols) g → (follows c (head (spelled g j)) ≡ true) × (is_else (head (spelled g j)) ≡ true → waits t ≡ false)
 unfolding Opens begins_form empty_form
-class_follows c syms t g j row e q h = go (opens g (All syms) h)
+nonterminal_follows c symbols t g j row e q h = go (opens g (All symbols) h)
   where
-    last : (syms : List Sym) → Fits (All syms) g → is_last syms ≡ true → is_else (head j) ≡ true → waits t ≡ false
+    last : (symbols : List Symbol) → Fits (All symbols) g → is_last symbols ≡ true → is_else (head j) ≡ true → waits t ≡ false
     last [] h l x = sym (waits_alone t) ∙ subst (λ (g : Tree). waits (Cons t g) ≡ false) (nil_is g h) (q x)
-    last (s ∷ syms) h l x = absurd (cc l)
+    last (s ∷ symbols) h l x = absurd (cc l)
 
-    either : is_else (head j) ≡ true → (is_last syms ≡ true) ⊎ (is_else (head j) ≡ false) → waits t ≡ false
-    either x (inl l) = last syms h l x
+    either : is_else (head j) ≡ true → (is_last symbols ≡ true) ⊎ (is_else (head j) ≡ false) → waits t ≡ false
+    either x (inl l) = last symbols h l x
     either x (inr o) = absurd (cc (x, o))
 
-    go : Opens (ahead syms) (all_nullable syms) g → (follows c (head (spelled g j)) ≡ true) × (is_else (head (spelled g j)) ≡ true → waits t ≡ false)
+    go : Opens (ahead symbols) (all_nullable symbols) g → (follows c (head (spelled g j)) ≡ true) × (is_else (head (spelled g j)) ≡ true → waits t ≡ false)
     go (inl o) =
         subst (λ (ts : List Token). (follows c (head ts) ≡ true) × (is_else (head ts) ≡ true → waits t ≡ false)) (sym (o.1 j))
         (e.follow o.0, λ x. either x (e.quiet o.0))
     go (inr o) =
-        let f = row_follows c syms row o.0.kind o.2 in
+        let f = row_follows c symbols row o.0.kind o.2 in
         subst (λ (ts : List Token). (follows c (head ts) ≡ true) × (is_else (head ts) ≡ true → waits t ≡ false)) (sym (o.3 j))
         (f.0, λ x. absurd (cc (x, f.1)))
 
--- one part, and then the others
-joined : (rd : Class → List Token → Out) (s : Sym) (syms : List Sym) (t g : Tree) (ts k j : List Token) → Reads (one rd s ts) t k → Reads (parts rd syms k) g j → Reads (parts rd (s ∷ syms) ts) (Cons t g) j
-unfolding parts
-joined rd s syms t g ts k j (inr e) h = inr (ap (λ (o : Out). and_then o (λ t k. and_then (parts rd syms k) (λ f j. Done (Cons t f) j))) e)
-joined rd s syms t g ts k j (inl e) (inl h) =
-    inl (ap (λ (o : Out). and_then o (λ t k. and_then (parts rd syms k) (λ f j. Done (Cons t f) j))) e ∙ ap (λ (o : Out). and_then o (λ f j. Done (Cons t f) j)) h)
-joined rd s syms t g ts k j (inl e) (inr h) =
-    inr (ap (λ (o : Out). and_then o (λ t k. and_then (parts rd syms k) (λ f j. Done (Cons t f) j))) e ∙ ap (λ (o : Out). and_then o (λ f j. Done (Cons t f) j)) h)
+-- one child, and then the others
+joined : (rd : Nonterminal → List Token → ReadResult) (s : Symbol) (symbols : List Symbol) (t g : Tree) (ts k j : List Token) → Reads (one rd s ts) t k → Reads (children rd symbols k) g j →
+    Reads (children rd (s ∷ symbols) ts) (Cons t g) j
+unfolding children
+joined rd s symbols t g ts k j (inr e) h = inr (ap (λ (o : ReadResult). and_then o (λ t k. and_then (children rd symbols k) (λ f j. Read (Cons t f) j))) e)
+joined rd s symbols t g ts k j (inl e) (inl h) =
+    inl (ap (λ (o : ReadResult). and_then o (λ t k. and_then (children rd symbols k) (λ f j. Read (Cons t f) j))) e ∙ ap (λ (o : ReadResult). and_then o (λ f j. Read (Cons t f) j)) h)
+joined rd s symbols t g ts k j (inl e) (inr h) =
+    inr (ap (λ (o : ReadResult). and_then o (λ t k. and_then (children rd symbols k) (λ f j. Read (Cons t f) j))) e ∙ ap (λ (o : ReadResult). and_then o (λ f j. Read (Cons t f) j)) h)
 
-token_read : (s : Terminal) (x : Token) (ts : List Token) → is s x.kind ≡ true → token s (x ∷ ts) ≡ Done (Leaf x) ts
+token_read : (s : Terminal) (x : Token) (ts : List Token) → is s x.kind ≡ true → token s (x ∷ ts) ≡ Read (Leaf x) ts
 unfolding token
 token_read s x ts e = rw e refl
 
 nil_rows : Rows Nil
-unfolding parts spelled
+unfolding children spelled
 nil_rows [] h n j row e q = inl refl
-nil_rows (T s ∷ syms) h n j row e q = absurd (cons_not_nil (T s) syms h)
-nil_rows (N c ∷ syms) h n j row e q = absurd (cons_not_nil (N c) syms h)
+nil_rows (T s ∷ symbols) h n j row e q = absurd (cons_not_nil (T s) symbols h)
+nil_rows (N c ∷ symbols) h n j row e q = absurd (cons_not_nil (N c) symbols h)
 
-token_rows : (s : Terminal) (syms : List Sym) (t g : Tree) (n : ℕ) (j : List Token) → Rows g → Fits (All (T s ∷ syms)) (Cons t g) → Row (T s ∷ syms) → ends (T s ∷ syms) (head j) ≡ true → Settled (Cons t g) j → Reads (parts (read n) (T s ∷ syms) (spelled (Cons t g) j)) (Cons t g) j
+token_rows : (s : Terminal) (symbols : List Symbol) (t g : Tree) (n : ℕ) (j : List Token) → Rows g → Fits (All (T s ∷ symbols)) (Cons t g) → Row (T s ∷ symbols) →
+    ends (T s ∷ symbols) (head j) ≡ true → Settled (Cons t g) j → Reads (children (read n) (T s ∷ symbols) (spelled (Cons t g) j)) (Cons t g) j
 unfolding Fits spelled ends one
-token_rows s syms (Leaf x) g n j rows h row e q =
-    joined (read n) (T s) syms (Leaf x) g (x ∷ spelled g j) (spelled g j) j (inl (token_read s x (spelled g j) h.0)) (rows syms h.1 n j (row_token s syms row) e (λ z. waits_behind (Leaf x) g (q z)))
-token_rows s syms (Node l f) g n j rows h row e q = absurd h
-token_rows s syms Nil g n j rows h row e q = absurd h
-token_rows s syms (Cons u f) g n j rows h row e q = absurd h
+token_rows s symbols (Leaf x) g n j rows h row e q =
+    joined (read n) (T s) symbols (Leaf x) g (x ∷ spelled g j) (spelled g j) j (inl (token_read s x (spelled g j) h.0)) (rows symbols h.1 n j (row_token s symbols row) e (λ z. waits_after (Leaf x) g
+    (q z)))
+token_rows s symbols (Node l f) g n j rows h row e q = absurd h
+token_rows s symbols Nil g n j rows h row e q = absurd h
+token_rows s symbols (Cons u f) g n j rows h row e q = absurd h
 
-class_rows : (c : Class) (syms : List Sym) (t g : Tree) (n : ℕ) (j : List Token) → Whole t → Rows g → Fits (All (N c ∷ syms)) (Cons t g) → Row (N c ∷ syms) → ends (N c ∷ syms) (head j) ≡ true → Settled (Cons t g) j → Reads (parts (read n) (N c ∷ syms) (spelled (Cons t g) j)) (Cons t g) j
+nonterminal_rows : (c : Nonterminal) (symbols : List Symbol) (t g : Tree) (n : ℕ) (j : List Token) → Whole t → Rows g → Fits (All (N c ∷ symbols)) (Cons t g) → Row (N c ∷ symbols) →
+    ends (N c ∷ symbols) (head j) ≡ true → Settled (Cons t g) j → Reads (children (read n) (N c ∷ symbols) (spelled (Cons t g) j)) (Cons t g) j
 unfolding Fits spelled one
-class_rows c syms t g n j whole rows h row e q =
-    let d = ends_class c syms (head j) e in
-    let f = class_follows c syms t g j row d q h.1 in
-    joined (read n) (N c) syms t g (spelled t (spelled g j)) (spelled g j) j (read_whole n c t (spelled g j) h.0 whole (row_read c syms row) f.0 f.1) (rows syms h.1 n j (row_rest c syms row) d.others (λ z. waits_behind t g (q z)))
+nonterminal_rows c symbols t g n j whole rows h row e q =
+    let d = ends_nonterminal c symbols (head j) e in
+    let f = nonterminal_follows c symbols t g j row d q h.1 in
+    joined (read n) (N c) symbols t g (spelled t (spelled g j)) (spelled g j) j (read_whole n c t (spelled g j) h.0 whole (row_read c symbols row) f.0 f.1) (rows symbols h.1 n j (row_rest c symbols
+    row) d.others (λ z. waits_after t g (q z)))
 
 cons_rows : (t g : Tree) → Whole t → Rows g → Rows (Cons t g)
 cons_rows t g whole rows [] h n j row e q = absurd (cons_not_empty t g h)
-cons_rows t g whole rows (T s ∷ syms) h n j row e q = token_rows s syms t g n j rows h row e q
-cons_rows t g whole rows (N c ∷ syms) h n j row e q = class_rows c syms t g n j whole rows h row e q
+cons_rows t g whole rows (T s ∷ symbols) h n j row e q = token_rows s symbols t g n j rows h row e q
+cons_rows t g whole rows (N c ∷ symbols) h n j row e q = nonterminal_rows c symbols t g n j whole rows h row e q
 
 -- ---- all trees
 
@@ -278,18 +306,19 @@ pub record Complete (t : Tree) : Type 0 where
   pub rows : Rows t
   pub inner : Inner t
 
-node_whole : (l : Label) (f : Tree) → Rows f → Inner f → Whole (Node l f)
+node_whole : (l : Production) (f : Tree) → Rows f → Inner f → Whole (Node l f)
 unfolding Fits
-node_whole l f rows inner c k g same h n j r i q = go f (is_suffix l) refl rows inner h (subst (λ (l : Label). Sits c l (head j)) label_same i) (subst (λ (f : Tree). Settled f j) parts_same q)
+node_whole l f rows inner c k g same h n j r i q = go f (is_suffix l) refl rows inner h (subst (λ (l : Production). Sits c l (head j)) production_same i) (subst (λ (f : Tree). Settled f j)
+    parts_same q)
   where
-    label_same : k ≡ l
-    label_same = cc same
+    production_same : k ≡ l
+    production_same = cc same
 
     parts_same : g ≡ f
     parts_same = cc same
 
     fits_front : (f : Tree) → is_suffix l ≡ true → Fits (One c) (Node l f) → Fits (All (N (front l) ∷ rest_of l)) f
-    fits_front f s h = subst (λ (syms : List Sym). Fits (All syms) f) (front_is l s) (fits_parts c l f h)
+    fits_front f s h = subst (λ (symbols : List Symbol). Fits (All symbols) f) (front_is l s) (fits_parts c l f h)
 
     go : (f : Tree) (b : Bool) → is_suffix l ≡ b → Rows f → Inner f → Fits (One c) (Node l f) → Sits c l (head j) → Settled f j → Reaches n c (Node l f) j
     go f false s rows inner h i q = prefix_reaches n c l f j rows h r s i q
@@ -305,16 +334,17 @@ node_whole l f rows inner c k g same h n j r i q = go f (is_suffix l) refl rows 
 
 pub complete : (t : Tree) → Complete t
 unfolding Fits
-complete (Leaf x) = record { whole = λ c l f e h. absurd (cc e); rows = λ syms h. absurd (not_leaf syms x h); inner = tt }
+complete (Leaf x) = record { whole = λ c l f e h. absurd (cc e); rows = λ symbols h. absurd (not_leaf symbols x h); inner = tt }
 complete Nil = record { whole = λ c l f e h. absurd (cc e); rows = nil_rows; inner = tt }
 complete (Node l f) =
     let d = complete f in
-    record { whole = node_whole l f d.rows d.inner; rows = λ syms h. absurd (not_node syms l f h); inner = tt }
+    record { whole = node_whole l f d.rows d.inner; rows = λ symbols h. absurd (not_node symbols l f h); inner = tt }
 complete (Cons t f) =
     let d = complete t in
     let e = complete f in
     record { whole = λ c l f e h. absurd (cc e); rows = cons_rows t f d.whole e.rows; inner = (d.whole, e.rows) }
 
--- A tree of a class is read from its spelling, where what follows may follow the class.
-pub read_again : (n : ℕ) (c : Class) (t : Tree) (j : List Token) → Fits (One c) t → is_read c ≡ true → follows c (head j) ≡ true → (is_else (head j) ≡ true → waits t ≡ false) → Reads (read n c (spelled t j)) t j
+-- A tree of a nonterminal is read from its spelling, where what follows may follow the nonterminal.
+pub read_again : (n : ℕ) (c : Nonterminal) (t : Tree) (j : List Token) → Fits (One c) t → is_read c ≡ true → follows c (head j) ≡ true → (is_else (head j) ≡ true → waits t ≡ false) →
+    Reads (read n c (spelled t j)) t j
 read_again n c t j h r f q = read_whole n c t j h (complete t).whole r f q

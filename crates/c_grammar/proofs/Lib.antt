@@ -8,7 +8,7 @@ pub mod Follow
 pub mod Judgement
 pub mod Lists
 pub mod Local
-pub mod Places
+pub mod Spans
 pub mod Samples
 pub mod Small
 pub mod Sound

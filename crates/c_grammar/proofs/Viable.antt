@@ -2,14 +2,14 @@
 use Rattle.std.specs.Prelude.{◌≡◌, ◌⊎◌, ℕ, zero, suc, Bool, true, false, List, [], ◌∷◌, ◌++◌, drop, Option, Some, None, if◌then◌else◌}
 use Rattle.std.proofs.Common.{refl, sym, ap, ◌∙◌, inl, inr, subst, append_assoc}
 use Rattle.c_lex.specs.declared.token.Token.{Token}
-use Rattle.c_ast.specs.Classes.{Class}
-use Rattle.c_ast.specs.Labels.{Label}
+use Rattle.c_ast.specs.Nonterminals.{Nonterminal}
+use Rattle.c_ast.specs.Productions.{Production}
 use Rattle.c_ast.specs.Terminals.{Terminal, is}
 use Rattle.c_ast.specs.Tree.{Tree, Leaf, Node, Cons}
 use Rattle.c_ast.specs.Spelling.{spelled}
-use Rattle.c_ast.specs.Grammar.{Sym, T, N, One, All, Fits, parts_of}
-use Rattle.c_grammar.specs.Starts.{head, typed, start, next}
-use Rattle.c_grammar.specs.Reader.{Out, Done, Fail, Deep, and_then, label_of, token, one, parts, begun, first, later, goes_on, turns, step, read}
+use Rattle.c_ast.specs.Grammar.{Symbol, T, N, One, All, Fits, symbols_of}
+use Rattle.c_grammar.specs.PredictSets.{head, typed, start, next}
+use Rattle.c_grammar.specs.Reader.{ReadResult, Read, SyntaxError, OutOfFuel, and_then, production_of, token, one, children, begun, first, later, goes_on, turns, step, read}
 use Rattle.c_grammar.proofs.Bridges.{start_is}
 use Rattle.c_grammar.proofs.Trees.{fits_node, fits_leaf, fits_cons, else_fits_other, prefix_if_else, spelled_node, spelled_cons}
 use Rattle.c_grammar.proofs.Firsts.{spelled_append}
@@ -17,7 +17,7 @@ use Rattle.c_grammar.proofs.Samples.{some_tree, some_fits, some_row, some_row_fi
 use Rattle.c_grammar.proofs.Sound.{Sound, Got, Stands, both, parts_sound, later_fits, later_stands, begun_sound, read_sound}
 
 -- Up to k the tokens are the beginning of the spelling of a tree.
-pub record Viable (c : Class) (ts k : List Token) : Type 0 where
+pub record Viable (c : Nonterminal) (ts k : List Token) : Type 0 where
   pub tree : Tree
   pub before : List Token
   pub more : List Token
@@ -25,61 +25,63 @@ pub record Viable (c : Class) (ts k : List Token) : Type 0 where
   pub split : ts ≡ before ++ k
   pub spells : spelled tree [] ≡ before ++ more
 
-pub record ViableParts (syms : List Sym) (ts k : List Token) : Type 0 where
+pub record ViableParts (symbols : List Symbol) (ts k : List Token) : Type 0 where
   pub tree : Tree
   pub before : List Token
   pub more : List Token
-  pub fits : Fits (All syms) tree
+  pub fits : Fits (All symbols) tree
   pub split : ts ≡ before ++ k
   pub spells : spelled tree [] ≡ before ++ more
 
-abbrev pub ViableReader : (Class → List Token → Out) → Type 0
-ViableReader rd = (c : Class) (ts k : List Token) → rd c ts ≡ Fail k → Viable c ts k
+abbrev pub ViableReader : (Nonterminal → List Token → ReadResult) → Type 0
+ViableReader rd = (c : Nonterminal) (ts k : List Token) → rd c ts ≡ SyntaxError k → Viable c ts k
 
--- where a sequence fails, its first part fails, or what comes then
-pub record FailsThen (o : Out) (go : Tree → List Token → Out) (k : List Token) : Type 0 where
+-- where a sequence fails, its first child fails, or what comes then
+pub record FailsThen (o : ReadResult) (go : Tree → List Token → ReadResult) (k : List Token) : Type 0 where
   pub tree : Tree
   pub left : List Token
-  pub first_is : o ≡ Done tree left
-  pub then_is : go tree left ≡ Fail k
+  pub first_is : o ≡ Read tree left
+  pub then_is : go tree left ≡ SyntaxError k
 
-failing : (o : Out) (go : Tree → List Token → Out) (k : List Token) → and_then o go ≡ Fail k → (o ≡ Fail k) ⊎ FailsThen o go k
-failing (Done u j) go k e = inr (record { tree = u; left = j; first_is = refl; then_is = e })
-failing (Fail j) go k e = inl e
-failing Deep go k e = absurd (cc e)
+failing : (o : ReadResult) (go : Tree → List Token → ReadResult) (k : List Token) → and_then o go ≡ SyntaxError k → (o ≡ SyntaxError k) ⊎ FailsThen o go k
+failing (Read u j) go k e = inr (record { tree = u; left = j; first_is = refl; then_is = e })
+failing (SyntaxError j) go k e = inl e
+failing OutOfFuel go k e = absurd (cc e)
 
-not_done : (t : Tree) (j k : List Token) → Done t j ≡ Fail k → ⊥
+not_done : (t : Tree) (j k : List Token) → Read t j ≡ SyntaxError k → ⊥
 not_done t j k e = cc e
 
-token_fails : (s : Terminal) (ts k : List Token) → token s ts ≡ Fail k → ts ≡ k
+token_fails : (s : Terminal) (ts k : List Token) → token s ts ≡ SyntaxError k → ts ≡ k
 unfolding token
 token_fails s [] k e = cc e
 token_fails s (x ∷ ts) k e = go (is s x.kind) e
   where
-    go : (b : Bool) → (if b then Done (Leaf x) ts else Fail (x ∷ ts)) ≡ Fail k → (x ∷ ts) ≡ k
+    go : (b : Bool) → (if b then Read (Leaf x) ts else SyntaxError (x ∷ ts)) ≡ SyntaxError k → (x ∷ ts) ≡ k
     go true h = absurd (cc h)
     go false h = cc h
 
--- nothing of a row was read
-nothing_read : (syms : List Sym) (ts k : List Token) → ts ≡ k → ViableParts syms ts k
-nothing_read syms ts k e =
-    record { tree = some_row syms; before = []; more = spelled (some_row syms) []; fits = some_row_fits syms; split = e; spells = refl }
+-- nothing of a sequence was read
+nothing_read : (symbols : List Symbol) (ts k : List Token) → ts ≡ k → ViableParts symbols ts k
+nothing_read symbols ts k e =
+    record { tree = some_row symbols; before = []; more = spelled (some_row symbols) []; fits = some_row_fits symbols; split = e; spells = refl }
 
--- the first part of a row was begun
-first_begun : (c : Class) (syms : List Sym) (ts k : List Token) → Viable c ts k → ViableParts (N c ∷ syms) ts k
-first_begun c syms ts k v =
+-- the first child of a sequence was begun
+first_begun : (c : Nonterminal) (symbols : List Symbol) (ts k : List Token) → Viable c ts k → ViableParts (N c ∷ symbols) ts k
+first_begun c symbols ts k v =
     record {
-      tree = Cons v.tree (some_row syms);
+      tree = Cons v.tree (some_row symbols);
       before = v.before;
-      more = v.more ++ spelled (some_row syms) [];
-      fits = fits_cons c syms v.tree (some_row syms) v.fits (some_row_fits syms);
+      more = v.more ++ spelled (some_row symbols) [];
+      fits = fits_cons c symbols v.tree (some_row symbols) v.fits (some_row_fits symbols);
       split = v.split;
-      spells = spelled_cons v.tree (some_row syms) [] ∙ spelled_append v.tree (spelled (some_row syms) []) ∙ ap (λ z. z ++ spelled (some_row syms) []) v.spells ∙ append_assoc v.before v.more (spelled (some_row syms) []);
+      spells = spelled_cons v.tree (some_row symbols) [] ∙ spelled_append v.tree (spelled (some_row symbols) []) ∙ ap (λ z. z ++ spelled (some_row symbols) []) v.spells
+          ∙ append_assoc v.before v.more (spelled (some_row symbols) []);
     }
 
--- the first part of a row was read, and the others begun
-first_read : (s : Sym) (syms : List Sym) (ts : List Token) (t : Tree) (j k : List Token) → ts ≡ spelled t j → ((f : Tree) → Fits (All syms) f → Fits (All (s ∷ syms)) (Cons t f)) → ViableParts syms j k → ViableParts (s ∷ syms) ts k
-first_read s syms ts t j k e fits v =
+-- the first child of a sequence was read, and the others begun
+first_read : (s : Symbol) (symbols : List Symbol) (ts : List Token) (t : Tree) (j k : List Token) → ts ≡ spelled t j → ((f : Tree) → Fits (All symbols) f → Fits (All (s ∷ symbols)) (Cons t f)) →
+    ViableParts symbols j k → ViableParts (s ∷ symbols) ts k
+first_read s symbols ts t j k e fits v =
     record {
       tree = Cons t v.tree;
       before = spelled t [] ++ v.before;
@@ -89,56 +91,61 @@ first_read s syms ts t j k e fits v =
       spells = spelled_cons t v.tree [] ∙ spelled_append t (spelled v.tree []) ∙ ap (λ z. spelled t [] ++ z) v.spells ∙ sym (append_assoc (spelled t []) v.before v.more);
     }
 
-pub token_done : (s : Terminal) (ts : List Token) (t : Tree) (k : List Token) → token s ts ≡ Done t k → (x : Token) × (is s x.kind ≡ true) × (t ≡ Leaf x) × (ts ≡ x ∷ k)
+pub token_done : (s : Terminal) (ts : List Token) (t : Tree) (k : List Token) → token s ts ≡ Read t k → (x : Token) × (is s x.kind ≡ true) × (t ≡ Leaf x) × (ts ≡ x ∷ k)
 unfolding token
 token_done s [] t k e = absurd (cc e)
 token_done s (x ∷ ts) t k e = go (is s x.kind) refl e
   where
-    go : (b : Bool) → is s x.kind ≡ b → (if b then Done (Leaf x) ts else Fail (x ∷ ts)) ≡ Done t k → (y : Token) × (is s y.kind ≡ true) × (t ≡ Leaf y) × ((x ∷ ts) ≡ y ∷ k)
+    go : (b : Bool) → is s x.kind ≡ b → (if b then Read (Leaf x) ts else SyntaxError (x ∷ ts)) ≡ Read t k → (y : Token) × (is s y.kind ≡ true) × (t ≡ Leaf y) × ((x ∷ ts) ≡ y ∷ k)
     go true i h = let same : ts ≡ k = cc h in (x, i, cc h, ap (λ z. x ∷ z) same)
     go false i h = absurd (cc h)
 
-token_read : (s : Terminal) (syms : List Sym) (ts : List Token) (t : Tree) (j k : List Token) → token s ts ≡ Done t j → ViableParts syms j k → ViableParts (T s ∷ syms) ts k
+token_read : (s : Terminal) (symbols : List Symbol) (ts : List Token) (t : Tree) (j k : List Token) → token s ts ≡ Read t j → ViableParts symbols j k → ViableParts (T s ∷ symbols) ts k
 unfolding spelled
-token_read s syms ts t j k e v =
+token_read s symbols ts t j k e v =
     let d = token_done s ts t j e in
-    first_read (T s) syms ts t j k (subst (λ (u : Tree). ts ≡ spelled u j) (sym d.2) d.3) (λ f h. subst (λ (u : Tree). Fits (All (T s ∷ syms)) (Cons u f)) (sym d.2) (fits_leaf s syms d.0 f d.1 h)) v
+    first_read (T s) symbols ts t j k (subst (λ (u : Tree). ts ≡ spelled u j) (sym d.2) d.3) (λ f h. subst (λ (u : Tree). Fits (All (T s ∷
+    symbols)) (Cons u f)) (sym d.2) (fits_leaf s symbols d.0 f d.1 h)) v
 
-pub parts_viable : (rd : Class → List Token → Out) → Sound rd → ViableReader rd → (syms : List Sym) (ts k : List Token) → parts rd syms ts ≡ Fail k → ViableParts syms ts k
-unfolding parts one
+pub parts_viable : (rd : Nonterminal → List Token → ReadResult) → Sound rd → ViableReader rd → (symbols : List Symbol) (ts k : List Token) → children rd symbols ts ≡ SyntaxError k →
+    ViableParts symbols ts k
+unfolding children one
 parts_viable rd sound viable [] ts k e = absurd (cc e)
-parts_viable rd sound viable (T s ∷ syms) ts k e =
-    go (failing (token s ts) (λ t k. and_then (parts rd syms k) (λ f j. Done (Cons t f) j)) k e) (parts_viable rd sound viable syms)
+parts_viable rd sound viable (T s ∷ symbols) ts k e =
+    go (failing (token s ts) (λ t k. and_then (children rd symbols k) (λ f j. Read (Cons t f) j)) k e) (parts_viable rd sound viable symbols)
   where
-    go : (token s ts ≡ Fail k) ⊎ FailsThen (token s ts) (λ t k. and_then (parts rd syms k) (λ f j. Done (Cons t f) j)) k → ((ts k : List Token) → parts rd syms ts ≡ Fail k → ViableParts syms ts k) → ViableParts (T s ∷ syms) ts k
-    go (inl h) again = nothing_read (T s ∷ syms) ts k (token_fails s ts k h)
-    go (inr h) again = inside (failing (parts rd syms h.left) (λ f j. Done (Cons h.tree f) j) k h.then_is)
+    go : (token s ts ≡ SyntaxError k) ⊎ FailsThen (token s ts) (λ t k. and_then (children rd symbols k) (λ f j. Read (Cons t f) j)) k → ((ts k : List Token) →
+        children rd symbols ts ≡ SyntaxError k → ViableParts symbols ts k) → ViableParts (T s ∷ symbols) ts k
+    go (inl h) again = nothing_read (T s ∷ symbols) ts k (token_fails s ts k h)
+    go (inr h) again = inside (failing (children rd symbols h.left) (λ f j. Read (Cons h.tree f) j) k h.then_is)
       where
-        inside : (parts rd syms h.left ≡ Fail k) ⊎ FailsThen (parts rd syms h.left) (λ f j. Done (Cons h.tree f) j) k → ViableParts (T s ∷ syms) ts k
-        inside (inl g) = token_read s syms ts h.tree h.left k h.first_is (again h.left k g)
+        inside : (children rd symbols h.left ≡ SyntaxError k) ⊎ FailsThen (children rd symbols h.left) (λ f j. Read (Cons h.tree f) j) k → ViableParts (T s ∷ symbols) ts k
+        inside (inl g) = token_read s symbols ts h.tree h.left k h.first_is (again h.left k g)
         inside (inr g) = absurd (not_done (Cons h.tree g.tree) g.left k g.then_is)
-parts_viable rd sound viable (N c ∷ syms) ts k e =
-    go (failing (rd c ts) (λ t k. and_then (parts rd syms k) (λ f j. Done (Cons t f) j)) k e) (parts_viable rd sound viable syms)
+parts_viable rd sound viable (N c ∷ symbols) ts k e =
+    go (failing (rd c ts) (λ t k. and_then (children rd symbols k) (λ f j. Read (Cons t f) j)) k e) (parts_viable rd sound viable symbols)
   where
-    go : (rd c ts ≡ Fail k) ⊎ FailsThen (rd c ts) (λ t k. and_then (parts rd syms k) (λ f j. Done (Cons t f) j)) k → ((ts k : List Token) → parts rd syms ts ≡ Fail k → ViableParts syms ts k) → ViableParts (N c ∷ syms) ts k
-    go (inl h) again = first_begun c syms ts k (viable c ts k h)
-    go (inr h) again = inside (failing (parts rd syms h.left) (λ f j. Done (Cons h.tree f) j) k h.then_is) (sound c ts h.tree h.left h.first_is)
+    go : (rd c ts ≡ SyntaxError k) ⊎ FailsThen (rd c ts) (λ t k. and_then (children rd symbols k) (λ f j. Read (Cons t f) j)) k → ((ts k : List Token) → children rd symbols ts ≡ SyntaxError k →
+        ViableParts symbols ts k) → ViableParts (N c ∷ symbols) ts k
+    go (inl h) again = first_begun c symbols ts k (viable c ts k h)
+    go (inr h) again = inside (failing (children rd symbols h.left) (λ f j. Read (Cons h.tree f) j) k h.then_is) (sound c ts h.tree h.left h.first_is)
       where
-        inside : (parts rd syms h.left ≡ Fail k) ⊎ FailsThen (parts rd syms h.left) (λ f j. Done (Cons h.tree f) j) k → Got c ts h.tree h.left → ViableParts (N c ∷ syms) ts k
-        inside (inl g) s = first_read (N c) syms ts h.tree h.left k s.spells (λ f i. fits_cons c syms h.tree f s.fits i) (again h.left k g)
+        inside : (children rd symbols h.left ≡ SyntaxError k) ⊎ FailsThen (children rd symbols h.left) (λ f j. Read (Cons h.tree f) j) k → Got c ts h.tree h.left → ViableParts (N c ∷ symbols) ts k
+        inside (inl g) s = first_read (N c) symbols ts h.tree h.left k s.spells (λ f i. fits_cons c symbols h.tree f s.fits i) (again h.left k g)
         inside (inr g) s = absurd (not_done (Cons h.tree g.tree) g.left k g.then_is)
 
 -- ---- beginning
 
-begun_viable : (rd : Class → List Token → Out) → Sound rd → ViableReader rd → (c : Class) (ts k : List Token) (o : Option Label) → start c (head ts) (typed ts) ≡ o → begun rd o ts ≡ Fail k → Viable c ts k
+begun_viable : (rd : Nonterminal → List Token → ReadResult) → Sound rd → ViableReader rd → (c : Nonterminal) (ts k : List Token) (o : Option Production) → start c (head ts) (typed ts) ≡ o →
+    begun rd o ts ≡ SyntaxError k → Viable c ts k
 unfolding begun
 begun_viable rd sound viable c ts k None e h =
     record { tree = some_tree c; before = []; more = spelled (some_tree c) []; fits = some_fits c; split = cc h; spells = refl }
-begun_viable rd sound viable c ts k (Some l) e h = go (failing (parts rd (parts_of l) ts) (λ f k. Done (Node l f) k) k h)
+begun_viable rd sound viable c ts k (Some l) e h = go (failing (children rd (symbols_of l) ts) (λ f k. Read (Node l f) k) k h)
   where
-    go : (parts rd (parts_of l) ts ≡ Fail k) ⊎ FailsThen (parts rd (parts_of l) ts) (λ f k. Done (Node l f) k) k → Viable c ts k
+    go : (children rd (symbols_of l) ts ≡ SyntaxError k) ⊎ FailsThen (children rd (symbols_of l) ts) (λ f k. Read (Node l f) k) k → Viable c ts k
     go (inl g) =
-        let v = parts_viable rd sound viable (parts_of l) ts k g in
+        let v = parts_viable rd sound viable (symbols_of l) ts k g in
         let s = start_is c (head ts) (typed ts) l e in
         record {
           tree = Node l v.tree;
@@ -152,11 +159,12 @@ begun_viable rd sound viable c ts k (Some l) e h = go (failing (parts rd (parts_
 
 -- ---- going on
 
-abbrev pub ViableTurns : (Class → List Token → Out) → ℕ → Class → List Token → Type 0
+abbrev pub ViableTurns : (Nonterminal → List Token → ReadResult) → ℕ → Nonterminal → List Token → Type 0
 ViableTurns rd n c k =
-    (l : Label) (f : Tree) (ts : List Token) → Stands c l f ts → turns rd n c (Node l f) ts ≡ Fail k → Viable c (spelled f ts) k
+    (l : Production) (f : Tree) (ts : List Token) → Stands c l f ts → turns rd n c (Node l f) ts ≡ SyntaxError k → Viable c (spelled f ts) k
 
-later_viable : (c : Class) (l m : Label) (f : Tree) (ts k : List Token) → Stands c l f ts → next c l (head ts) ≡ Some m → ViableParts (drop 1 (parts_of m)) ts k → Viable c (spelled f ts) k
+later_viable : (c : Nonterminal) (l m : Production) (f : Tree) (ts k : List Token) → Stands c l f ts → next c l (head ts) ≡ Some m → ViableParts (drop 1 (symbols_of m)) ts k →
+    Viable c (spelled f ts) k
 later_viable c l m f ts k s e v =
     record {
       tree = Node m (Cons (Node l f) v.tree);
@@ -164,45 +172,49 @@ later_viable c l m f ts k s e v =
       more = v.more;
       fits = later_fits c l m f v.tree ts s e v.fits;
       split = spelled_append f ts ∙ ap (λ z. spelled f [] ++ z) v.split ∙ sym (append_assoc (spelled f []) v.before k);
-      spells = spelled_node m (Cons (Node l f) v.tree) [] ∙ spelled_cons (Node l f) v.tree [] ∙ spelled_node l f (spelled v.tree []) ∙ spelled_append f (spelled v.tree []) ∙ ap (λ z. spelled f [] ++ z) v.spells ∙ sym (append_assoc (spelled f []) v.before v.more);
+      spells = spelled_node m (Cons (Node l f) v.tree) [] ∙ spelled_cons (Node l f) v.tree [] ∙ spelled_node l f (spelled v.tree []) ∙ spelled_append f (spelled v.tree [])
+          ∙ ap (λ z. spelled f [] ++ z) v.spells ∙ sym (append_assoc (spelled f []) v.before v.more);
     }
 
-goes_on_viable : (rd : Class → List Token → Out) → Sound rd → ViableReader rd → (n : ℕ) (c : Class) (k : List Token) → ViableTurns rd n c k → (l : Label) (f : Tree) (ts : List Token) → Stands c l f ts → (o : Option Label) → next c l (head ts) ≡ o → goes_on rd o (Node l f) ts (turns rd n c) ≡ Fail k → Viable c (spelled f ts) k
+goes_on_viable : (rd : Nonterminal → List Token → ReadResult) → Sound rd → ViableReader rd → (n : ℕ) (c : Nonterminal) (k : List Token) → ViableTurns rd n c k →
+    (l : Production) (f : Tree) (ts : List Token) → Stands c l f ts → (o : Option Production) → next c l (head ts) ≡ o → goes_on rd o (Node l f) ts (turns rd n c) ≡ SyntaxError k →
+    Viable c (spelled f ts) k
 unfolding goes_on later
 goes_on_viable rd sound viable n c k again l f ts s None e h = absurd (not_done (Node l f) ts k h)
 goes_on_viable rd sound viable n c k again l f ts s (Some m) e h = go (failing (later rd m (Node l f) ts) (turns rd n c) k h)
   where
-    go : (later rd m (Node l f) ts ≡ Fail k) ⊎ FailsThen (later rd m (Node l f) ts) (turns rd n c) k → Viable c (spelled f ts) k
+    go : (later rd m (Node l f) ts ≡ SyntaxError k) ⊎ FailsThen (later rd m (Node l f) ts) (turns rd n c) k → Viable c (spelled f ts) k
     go (inr g) =
-        let d = both (parts rd (drop 1 (parts_of m)) ts) (λ g j. Done (Node m (Cons (Node l f) g)) j) g.tree g.left g.first_is in
-        let p = parts_sound rd sound (drop 1 (parts_of m)) ts d.tree d.left d.first_is in
-        let i : turns rd n c (Node m (Cons (Node l f) d.tree)) d.left ≡ Fail k = ap (λ (o : Out). and_then o (turns rd n c)) d.then_is ∙ g.then_is in
+        let d = both (children rd (drop 1 (symbols_of m)) ts) (λ g j. Read (Node m (Cons (Node l f) g)) j) g.tree g.left g.first_is in
+        let p = parts_sound rd sound (drop 1 (symbols_of m)) ts d.tree d.left d.first_is in
+        let i : turns rd n c (Node m (Cons (Node l f) d.tree)) d.left ≡ SyntaxError k = ap (λ (o : ReadResult). and_then o (turns rd n c)) d.then_is ∙ g.then_is in
         let v = again m (Cons (Node l f) d.tree) d.left (later_stands c l m f d.tree ts d.left s e p) i in
         subst (λ (us : List Token). Viable c us k) (spelled_cons (Node l f) d.tree d.left ∙ spelled_node l f (spelled d.tree d.left) ∙ ap (spelled f) (sym p.spells)) v
-    go (inl g) = inside (failing (parts rd (drop 1 (parts_of m)) ts) (λ g j. Done (Node m (Cons (Node l f) g)) j) k g)
+    go (inl g) = inside (failing (children rd (drop 1 (symbols_of m)) ts) (λ g j. Read (Node m (Cons (Node l f) g)) j) k g)
       where
-        inside : (parts rd (drop 1 (parts_of m)) ts ≡ Fail k) ⊎ FailsThen (parts rd (drop 1 (parts_of m)) ts) (λ g j. Done (Node m (Cons (Node l f) g)) j) k → Viable c (spelled f ts) k
-        inside (inl i) = later_viable c l m f ts k s e (parts_viable rd sound viable (drop 1 (parts_of m)) ts k i)
+        inside : (children rd (drop 1 (symbols_of m)) ts ≡ SyntaxError k) ⊎ FailsThen (children rd (drop 1 (symbols_of m)) ts) (λ g j. Read (Node m (Cons (Node l f) g)) j) k →
+            Viable c (spelled f ts) k
+        inside (inl i) = later_viable c l m f ts k s e (parts_viable rd sound viable (drop 1 (symbols_of m)) ts k i)
         inside (inr i) = absurd (not_done (Node m (Cons (Node l f) i.tree)) i.left k i.then_is)
 
-turns_viable : (rd : Class → List Token → Out) → Sound rd → ViableReader rd → (n : ℕ) (c : Class) (k : List Token) → ViableTurns rd n c k
-unfolding turns label_of
+turns_viable : (rd : Nonterminal → List Token → ReadResult) → Sound rd → ViableReader rd → (n : ℕ) (c : Nonterminal) (k : List Token) → ViableTurns rd n c k
+unfolding turns production_of
 turns_viable rd sound viable zero c k l f ts s e = absurd (cc e)
 turns_viable rd sound viable (suc n) c k l f ts s e =
     goes_on_viable rd sound viable n c k (turns_viable rd sound viable n c k) l f ts s (next c l (head ts)) refl e
 
-step_viable : (rd : Class → List Token → Out) → Sound rd → ViableReader rd → (n : ℕ) (c : Class) (ts k : List Token) → step n rd c ts ≡ Fail k → Viable c ts k
+step_viable : (rd : Nonterminal → List Token → ReadResult) → Sound rd → ViableReader rd → (n : ℕ) (c : Nonterminal) (ts k : List Token) → step n rd c ts ≡ SyntaxError k → Viable c ts k
 unfolding step first
 step_viable rd sound viable n c ts k e = go (failing (first rd c ts) (turns rd (suc n) c) k e)
   where
-    go : (first rd c ts ≡ Fail k) ⊎ FailsThen (first rd c ts) (turns rd (suc n) c) k → Viable c ts k
+    go : (first rd c ts ≡ SyntaxError k) ⊎ FailsThen (first rd c ts) (turns rd (suc n) c) k → Viable c ts k
     go (inl h) = begun_viable rd sound viable c ts k (start c (head ts) (typed ts)) refl h
     go (inr h) =
         let d = begun_sound rd sound c ts h.tree h.left (start c (head ts) (typed ts)) refl h.first_is in
-        let i : turns rd (suc n) c (Node d.label d.parts) h.left ≡ Fail k = ap (λ (u : Tree). turns rd (suc n) c u h.left) d.is ∙ h.then_is in
-        subst (λ (us : List Token). Viable c us k) (sym d.spells) (turns_viable rd sound viable (suc n) c k d.label d.parts h.left d.stands i)
+        let i : turns rd (suc n) c (Node d.production d.children) h.left ≡ SyntaxError k = ap (λ (u : Tree). turns rd (suc n) c u h.left) d.is ∙ h.then_is in
+        subst (λ (us : List Token). Viable c us k) (sym d.spells) (turns_viable rd sound viable (suc n) c k d.production d.children h.left d.stands i)
 
--- What stands before a refused token is the beginning of the spelling of a tree of the class.
+-- What stands before a refused token is the beginning of the spelling of a tree of the nonterminal.
 pub read_viable : (n : ℕ) → ViableReader (read n)
 unfolding read
 read_viable zero c ts k e = absurd (cc e)

@@ -1,4 +1,4 @@
 pub mod Beginnings
 pub mod Laws
 pub mod Reader
-pub mod Starts
+pub mod PredictSets

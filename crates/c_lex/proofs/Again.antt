@@ -1,45 +1,36 @@
 -- The tokens of a source, written again, are read again.
-use Rattle.std.proofs.Common.{◌≡◌, ℕ, zero, suc, ◌+◌, ◌-◌, ◌<◌, ◌≤◌, Bool, true, false, cond, not, eqb, ltb, ◌&&◌, ◌||◌, List, [], ◌∷◌, ◌++◌, length, take, drop, Option, Some, None, Result, Ok, Err, codes, refl, sym, ap, ◌∙◌, subst, arith, inl, inr, zero-add}
+use Rattle.std.proofs.Common.{◌≡◌, ℕ, ◌+◌, ◌-◌, ◌<◌, ◌≤◌, Bool, true, false, cond, not, eqb, ltb, ◌&&◌, ◌||◌, List, [], ◌∷◌, ◌++◌, length, take, drop, Some, None, Result, Ok, Err, codes, refl, sym, ap, ◌∙◌, subst, arith, inl, inr}
 use Rattle.std.specs.Prelude.{nat_eq}
 use Rattle.std.specs.Option.{ok_or, option_and_then, option_map_or}
 use Rattle.std.specs.List.{starts_with, prefix_len}
-use Rattle.std.proofs.lemmas.Bool.{cases_lt, ltb-false, ltb-true, lt-ltb, le-ltb}
+use Rattle.std.proofs.lemmas.Bool.{ltb-false, lt-ltb, le-ltb, or_parts}
 use Rattle.std.proofs.lemmas.Bool.Decides.{nat_tests}
-use Rattle.std.proofs.lemmas.List.{drop_all, drop-drop, drop_at, length-drop, length-append, length-map}
+use Rattle.std.proofs.lemmas.List.{drop_at, length-append, length-map}
+use Rattle.limits.specs.Limits.{most_source_bytes, most_tokens}
 use Rattle.c_lex.specs.Results.{◌>>=◌}
 use Rattle.c_lex.specs.Classes.{is_line_end, is_inner_blank}
 use Rattle.c_lex.specs.Digits.{is_digit_in, digits_value}
-use Rattle.c_lex.specs.Gaps.{include_len, past_include, past, past_blanks, past_header, ends_line}
-use Rattle.c_lex.specs.Keywords.{keyword_of, keyword_spelling}
+use Rattle.c_lex.specs.Trivia.{include_len, past_include, past, past_blanks, past_header, ends_line}
+use Rattle.c_lex.specs.Keywords.{keyword_of}
 use Rattle.c_lex.specs.Numbers.{constant_at, digits_at, typed, suffix}
-use Rattle.c_lex.specs.Items.{item_at, item_of, start_of}
-use Rattle.c_lex.specs.Tokens.{tokens_from, counted, behind, lexed}
-use Rattle.c_lex.specs.Grammar.{Spells, Reads, done, gap, token}
+use Rattle.c_lex.specs.Lexemes.{lexeme_at, lexeme_of, start_of}
+use Rattle.c_lex.specs.Tokens.{tokens_from, counted, tokens_then, lexed}
+use Rattle.c_lex.specs.Grammar.{Spells, Reads, done, trivia, token}
 use Rattle.c_lex.specs.Written.{written, written_all, kinds, TokensAreReadAgain}
 use Rattle.c_lex.specs.declared.fault.LexFault.{LexFault}
 use Rattle.c_lex.specs.declared.fault.LexFault.TheVariants as fault
-use Rattle.c_lex.specs.declared.item.Item.{Item}
-use Rattle.c_lex.specs.declared.item.Item.TheVariants.{Gap, Piece}
-use Rattle.c_lex.specs.declared.item.Start.TheVariants as start
-use Rattle.c_lex.specs.declared.keyword.Keyword.{Keyword}
+use Rattle.c_lex.specs.declared.lexeme.Lexeme.TheVariants as lexeme
+use Rattle.c_lex.specs.declared.lexeme.Start.TheVariants as start
 use Rattle.c_lex.specs.declared.token.Token.{Token}
 use Rattle.c_lex.specs.declared.token.TokenKind.{TokenKind}
 use Rattle.c_lex.specs.declared.token.TokenKind.TheVariants as kind
-use Rattle.c_lex.proofs.Lengths.{bind_ok, chosen, item_fits, include_within}
-use Rattle.c_lex.proofs.Driver.{step, stops, skipped, counted_ok}
-use Rattle.c_lex.proofs.Tables.{keyword_is}
+use Rattle.c_lex.proofs.Lengths.{bind_ok, chosen, lexeme_fits}
+use Rattle.c_lex.proofs.Driver.{step}
+use Rattle.c_lex.proofs.Tables.{no_keyword}
 use Rattle.c_lex.proofs.Whole.{lexed_reads}
 use Rattle.c_lex.proofs.Reading.{IsProper, kind_read}
 
 -- ---- what the tokens are
-
-pub no_keyword : (bytes : List ℕ) (o : Option Keyword) → keyword_of bytes ≡ o → ((k : Keyword) → keyword_spelling k ≡ bytes → ⊥) → o ≡ None
-no_keyword bytes None is none = refl
-no_keyword bytes (Some k) is none = absurd (none k (keyword_is bytes k is))
-
-or_false : (x y : Bool) → (x || y) ≡ false → (x ≡ false) × (y ≡ false)
-or_false true y e = absurd cc
-or_false false y e = (refl, e)
 
 abbrev made_number : ℕ → Bool → Result TokenKind LexFault
 made_number v u = Ok (kind.Number v u)
@@ -49,7 +40,7 @@ number_parts v w u t e = (cc, cc)
 
 unsigned_by : (unsigned high u : Bool) (value : ℕ) → (unsigned || high) ≡ u → high ≡ ltb 2147483647 value → u ≡ false → value ≤ 2147483647
 unsigned_by unsigned high u value is test e =
-    let parts = or_false unsigned high (is ∙ e) in
+    let parts = or_parts unsigned high (is ∙ e) in
     ltb-false 2147483647 value (sym test ∙ parts.1)
 
 typed_fits : (base at value : ℕ) (unsigned : Bool) (v : ℕ) (u : Bool) → typed base at value unsigned ≡ Ok (kind.Number v u) → IsProper (kind.Number v u)
@@ -59,7 +50,7 @@ typed_fits base at value unsigned v u e =
       | inl (_, f) ↦ absurd cc
       | inr (fits, f) ↦
           let same = number_parts value v (unsigned || ltb 2147483647 value) u f in
-          let below : value ≤ 4294967295 = ltb-false 4294967295 value (or_false (ltb 4294967295 value) (eqb base 10 && not unsigned && ltb 2147483647 value) fits).0 in
+          let below : value ≤ 4294967295 = ltb-false 4294967295 value (or_parts (ltb 4294967295 value) (eqb base 10 && not unsigned && ltb 2147483647 value) fits).0 in
           subst (λ (w : ℕ). IsProper (kind.Number w u)) same.0 (below, unsigned_by unsigned (ltb 2147483647 value) u value same.1 refl)
     ]
 
@@ -103,85 +94,12 @@ AllProper (k ∷ ks) = IsProper k × AllProper ks
 
 all_proper : (source : List ℕ) (to at : ℕ) (ts : List Token) → Reads source to at ts → AllProper (kinds ts)
 all_proper source to at _ (done _ e) = tt
-all_proper source to at ts (gap _ end _ less within g rest) = all_proper source to end ts rest
+all_proper source to at ts (trivia _ end _ less within g rest) = all_proper source to end ts rest
 all_proper source to _ _ (token t ts stands rest) = (proper_of _ t.kind stands.spells, all_proper source to t.end ts rest)
-
--- ---- how many there are
-
-behind_ok : (t : Token) (o : Result (List Token) LexFault) (ts : List Token) → behind (t ∷ []) o ≡ Ok ts → (us : List Token) × (o ≡ Ok us) × (t ∷ us ≡ ts)
-behind_ok t (Ok us) ts e = (us, refl, cc)
-behind_ok t (Err f) ts e = absurd cc
-
-piece_counts : (count at : ℕ) (r : Result Item LexFault) (k : TokenKind) (n : ℕ) → counted count at r ≡ Ok (Piece k n) → r ≡ Ok (Piece k n) → count < 200000
-piece_counts count at r k n e is =
-    elim (chosen (ltb count 200000) (Ok (Piece k n)) (Err (fault.ManyTokens at)) (Ok (Piece k n)) (ap (counted count at) (sym is) ∙ e)) [
-      | inl (less, _) ↦ ltb-true count 200000 less
-      | inr (_, f) ↦ absurd cc
-    ]
-
-abbrev Counts : List ℕ → ℕ → Type 0
-Counts source at = (count place : ℕ) (ts : List Token) → at < place → place ≤ length source → count ≤ 200000 → tokens_from count place 0 (drop place source) ≡ Ok ts → count + length ts ≤ 200000
-
-counts_by : (source : List ℕ) (count at : ℕ) (ts : List Token) (r : Result Item LexFault) → at < length source → count ≤ 200000 → Counts source at → counted count at (item_at at (drop at source)) ≡ r → tokens_from count at 0 (drop at source) ≡ Ok ts → count + length ts ≤ 200000
-counts_by source count at ts (Err f) less low next is e =
-    let some : 0 < length (drop at source) = omega (arith, length-drop at source) in
-    let stop = stops count at (drop at source) f is some in
-    absurd cc
-counts_by source count at ts (Ok (Gap n)) less low next is e =
-    let text = drop at source in
-    let some : 0 < length text = omega (arith, length-drop at source) in
-    let fits = item_fits at text (Gap n) some (counted_ok count at (item_at at text) (Gap n) is) in
-    let within : at + n ≤ length source = omega (arith, length-drop at source, fits.1) in
-    let more : drop n text ≡ drop (at + n) source = drop-drop n at source in
-    let there : tokens_from count (at + n) 0 (drop (at + n) source) ≡ Ok ts = ap (tokens_from count (at + n) 0) (sym more) ∙ sym (step count at text (Gap n) is fits.0 some) ∙ e in
-    next count (at + n) ts (omega (arith, fits.0)) within low there
-counts_by source count at ts (Ok (Piece k n)) less low next is e =
-    let text = drop at source in
-    let some : 0 < length text = omega (arith, length-drop at source) in
-    let item = counted_ok count at (item_at at text) (Piece k n) is in
-    let fits = item_fits at text (Piece k n) some item in
-    let within : at + n ≤ length source = omega (arith, length-drop at source, fits.1) in
-    let more : drop n text ≡ drop (at + n) source = drop-drop n at source in
-    let t : Token = record { kind = k; at = at; end = at + n } in
-    let split = behind_ok t (tokens_from (count + 1) (at + n) 0 (drop n text)) ts (sym (step count at text (Piece k n) is fits.0 some) ∙ e) in
-    let there : tokens_from (count + 1) (at + n) 0 (drop (at + n) source) ≡ Ok split.0 = ap (tokens_from (count + 1) (at + n) 0) (sym more) ∙ split.1 in
-    let below = piece_counts count at (item_at at text) k n is item in
-    let rest = next (count + 1) (at + n) split.0 (omega (arith, fits.0)) within (omega arith) there in
-    omega (arith, ap length split.2)
-
-abbrev made : List Token → Result (List Token) LexFault
-made ts = Ok ts
-
-empty_counts : (count : ℕ) (ts : List Token) → count ≤ 200000 → made [] ≡ made ts → count + length ts ≤ 200000
-empty_counts count ts low e = let empty : [] ≡ ts = cc in omega (arith, ap length empty)
-
-counts_from : (fuel : ℕ) (source : List ℕ) (count at : ℕ) (ts : List Token) → length source ≤ at + fuel → at ≤ length source → count ≤ 200000 → tokens_from count at 0 (drop at source) ≡ Ok ts → count + length ts ≤ 200000
-counts_from zero source count at ts enough within low e =
-    let none : drop at source ≡ [] = drop_all at source (omega arith) in
-    empty_counts count ts low (ap (tokens_from count at 0) (sym none) ∙ e)
-counts_from (suc fuel) source count at ts enough within low e =
-    elim (cases_lt at (length source)) [
-      | inl less ↦ counts_by source count at ts (counted count at (item_at at (drop at source))) less low (λ c place us later fits few f. counts_from fuel source c place us (omega arith) fits few f) refl e
-      | inr over ↦
-          let none : drop at source ≡ [] = drop_all at source over in
-          empty_counts count ts low (ap (tokens_from count at 0) (sym none) ∙ e)
-    ]
-
-pub few_tokens : (source : List ℕ) (ts : List Token) → lexed source ≡ Ok ts → length ts ≤ 200000
-unfolding lexed
-few_tokens source ts e =
-    let i = include_len source in
-    elim (chosen (ltb 1048576 (length source)) (Err (fault.LongSource 1048576)) (tokens_from 0 0 i source) (Ok ts) e) [
-      | inl (_, f) ↦ absurd cc
-      | inr (_, f) ↦
-          let within : i ≤ length source = include_within source in
-          let there : tokens_from 0 (0 + i) 0 (drop (0 + i) source) ≡ Ok ts = ap (λ j. tokens_from 0 (0 + i) 0 (drop j source)) (zero-add i) ∙ sym (skipped 0 0 i source) ∙ f in
-          omega (arith, counts_from (length source) source 0 (0 + i) ts (omega arith) (omega arith) (omega arith) there)
-    ]
 
 -- ---- reading what is written
 
--- the tokens of what is written, from a place on
+-- the tokens of what is written, from an offset on
 abbrev placed : ℕ → List TokenKind → List Token
 placed at [] = []
 placed at (k ∷ ks) = record { kind = k; at = at; end = at + length (written k) } ∷ placed (at + length (written k) + 1) ks
@@ -190,43 +108,44 @@ kinds_placed : (at : ℕ) (ks : List TokenKind) → kinds (placed at ks) ≡ ks
 kinds_placed at [] = refl
 kinds_placed at (k ∷ ks) = ap (λ (js : List TokenKind). k ∷ js) (kinds_placed (at + length (written k) + 1) ks)
 
-space_read : (at : ℕ) (more : List ℕ) → item_at at (32 ∷ more) ≡ Ok (Gap 1)
-unfolding item_of start_of
+space_read : (at : ℕ) (more : List ℕ) → lexeme_at at (32 ∷ more) ≡ Ok (lexeme.Trivia 1)
+unfolding lexeme_of start_of
 space_read at more = refl
 
-written_read : (count at : ℕ) (ks : List TokenKind) → AllProper ks → count + length ks ≤ 200000 → tokens_from count at 0 (written_all ks) ≡ Ok (placed at ks)
+written_read : (count at : ℕ) (ks : List TokenKind) → AllProper ks → count + length ks ≤ most_tokens → tokens_from count at 0 (written_all ks) ≡ Ok (placed at ks)
 written_read count at [] h few = refl
 written_read count at (k ∷ ks) h few =
     let n = length (written k) in
     let more = written_all ks in
     let text : List ℕ = written k ++ 32 ∷ more in
-    let item = kind_read k h.0 at more in
-    let below : ltb count 200000 ≡ true = lt-ltb count 200000 (omega arith) in
-    let passes : counted count at (item_at at text) ≡ Ok (Piece k n) = ap (counted count at) item ∙ ap (λ b. cond b (Ok (Piece k n)) (Err (fault.ManyTokens at))) below in
+    let scanned = kind_read k h.0 at more in
+    let below : ltb count most_tokens ≡ true = lt-ltb count most_tokens (omega arith) in
+    let passes : counted count at (lexeme_at at text) ≡ Ok (lexeme.Token k n) = ap (counted count at) scanned ∙ ap (λ b. cond b (Ok (lexeme.Token k n)) (Err (fault.ManyTokens at))) below in
     let some : 0 < length text = omega (arith, length-append (written k) (32 ∷ more)) in
-    let fits = item_fits at text (Piece k n) some item in
+    let fits = lexeme_fits at text (lexeme.Token k n) some scanned in
     let rest : drop n text ≡ 32 ∷ more = drop_at (written k) (32 ∷ more) n refl in
-    let space : tokens_from (count + 1) (at + n) 0 (32 ∷ more) ≡ tokens_from (count + 1) (at + n + 1) 0 more = step (count + 1) (at + n) (32 ∷ more) (Gap 1) (ap (counted (count + 1) (at + n)) (space_read (at + n) more)) (omega arith) (omega arith) in
-    step count at text (Piece k n) passes fits.0 some
-    ∙ ap (λ (t : List ℕ). behind (record { kind = k; at = at; end = at + n } ∷ []) (tokens_from (count + 1) (at + n) 0 t)) rest
-    ∙ ap (behind (record { kind = k; at = at; end = at + n } ∷ [])) (space ∙ written_read (count + 1) (at + n + 1) ks h.1 (omega arith))
+    let space : tokens_from (count + 1) (at + n) 0 (32 ∷ more) ≡ tokens_from (count + 1) (at + n + 1) 0 more =
+    step (count + 1) (at + n) (32 ∷ more) (lexeme.Trivia 1) (ap (counted (count + 1) (at + n)) (space_read (at + n) more)) (omega arith) (omega arith) in
+    step count at text (lexeme.Token k n) passes fits.0 some
+    ∙ ap (λ (t : List ℕ). tokens_then (record { kind = k; at = at; end = at + n } ∷ []) (tokens_from (count + 1) (at + n) 0 t)) rest
+    ∙ ap (tokens_then (record { kind = k; at = at; end = at + n } ∷ [])) (space ∙ written_read (count + 1) (at + n + 1) ks h.1 (omega arith))
 
 -- ---- no include line begins it
 
-blank_item : (at b : ℕ) (bs : List ℕ) (k : TokenKind) (n : ℕ) (t : Bool) → is_inner_blank b ≡ true → is_line_end b ≡ t → item_at at (b ∷ bs) ≡ Ok (Piece k n) → ⊥
-unfolding item_of start_of
-blank_item at b bs k n true blank line e =
+blank_lexeme : (at b : ℕ) (bs : List ℕ) (k : TokenKind) (n : ℕ) (t : Bool) → is_inner_blank b ≡ true → is_line_end b ≡ t → lexeme_at at (b ∷ bs) ≡ Ok (lexeme.Token k n) → ⊥
+unfolding lexeme_of start_of
+blank_lexeme at b bs k n true blank line e =
     let s : start_of b ≡ start.LineEnd = rw line refl in
-    let item = ap (λ s. item_of s at (b ∷ bs)) (sym s) ∙ e in
+    let scanned = ap (λ s. lexeme_of s at (b ∷ bs)) (sym s) ∙ e in
     cc
-blank_item at b bs k n false blank line e =
+blank_lexeme at b bs k n false blank line e =
     let s : start_of b ≡ start.Blank = rw (line, blank) refl in
-    let item = ap (λ s. item_of s at (b ∷ bs)) (sym s) ∙ e in
+    let scanned = ap (λ s. lexeme_of s at (b ∷ bs)) (sym s) ∙ e in
     cc
 
-hash_item : (at : ℕ) (bs : List ℕ) (k : TokenKind) (n : ℕ) → item_at at (35 ∷ bs) ≡ Ok (Piece k n) → ⊥
-unfolding item_of start_of
-hash_item at bs k n e = cc
+hash_lexeme : (at : ℕ) (bs : List ℕ) (k : TokenKind) (n : ℕ) → lexeme_at at (35 ∷ bs) ≡ Ok (lexeme.Token k n) → ⊥
+unfolding lexeme_of start_of
+hash_lexeme at bs k n e = cc
 
 pub include_none : (b : ℕ) (bs : List ℕ) → is_inner_blank b ≡ false → eqb 35 b ≡ false → include_len (b ∷ bs) ≡ 0
 unfolding past_include
@@ -236,37 +155,40 @@ include_none b bs blank hash =
     let here : past_blanks line ≡ line = ap (λ n. drop n line) blanks in
     let fails : starts_with nat_eq line (codes "#") ≡ false = ap (λ t. t && true) hash in
     let no_hash : past (codes "#") (past_blanks line) ≡ None = ap (past (codes "#")) here ∙ ap (λ t. cond t (Some (drop 1 line)) None) fails in
-    let none : past_include line ≡ None = ap (option_and_then (λ a. option_and_then (λ b. option_and_then (λ c. cond (ends_line (past_blanks c)) (Some (past_blanks c)) None) (past_header (past_blanks b))) (past (codes "include") (past_blanks a)))) no_hash in
+    let none : past_include line ≡ None =
+    ap (option_and_then (λ a. option_and_then (λ b. option_and_then (λ c. cond (ends_line (past_blanks c)) (Some (past_blanks c)) None) (past_header (past_blanks b))) (past (codes "include")
+    (past_blanks a)))) no_hash in
     ap (λ o. option_map_or (λ rest. length line - length rest) o 0) none
 
-first_piece : (text : List ℕ) (k : TokenKind) (n : ℕ) → item_at 0 text ≡ Ok (Piece k n) → 0 < length text → include_len text ≡ 0
-first_piece [] k n e some = absurd (omega arith)
-first_piece (b ∷ bs) k n e some =
+first_token : (text : List ℕ) (k : TokenKind) (n : ℕ) → lexeme_at 0 text ≡ Ok (lexeme.Token k n) → 0 < length text → include_len text ≡ 0
+first_token [] k n e some = absurd (omega arith)
+first_token (b ∷ bs) k n e some =
     include_none b bs (by_blank (is_inner_blank b) refl) (by_hash (eqb 35 b) refl)
   where
     by_blank : (t : Bool) → is_inner_blank b ≡ t → is_inner_blank b ≡ false
-    by_blank true is = absurd (blank_item 0 b bs k n (is_line_end b) is refl e)
+    by_blank true is = absurd (blank_lexeme 0 b bs k n (is_line_end b) is refl e)
     by_blank false is = is
 
     by_hash : (t : Bool) → eqb 35 b ≡ t → eqb 35 b ≡ false
-    by_hash true is = let same : b ≡ 35 = grind (arith, nat_tests) in absurd (hash_item 0 bs k n (ap (λ c. item_at 0 (c ∷ bs)) (sym same) ∙ e))
+    by_hash true is = let same : b ≡ 35 = grind (arith, nat_tests) in absurd (hash_lexeme 0 bs k n (ap (λ c. lexeme_at 0 (c ∷ bs)) (sym same) ∙ e))
     by_hash false is = is
 
 written_no_include : (ks : List TokenKind) → AllProper ks → include_len (written_all ks) ≡ 0
 unfolding past_include
 written_no_include [] h = refl
 written_no_include (k ∷ ks) h =
-    first_piece (written k ++ 32 ∷ written_all ks) k (length (written k)) (kind_read k h.0 0 (written_all ks)) (omega (arith, length-append (written k) (32 ∷ written_all ks)))
+    first_token (written k ++ 32 ∷ written_all ks) k (length (written k)) (kind_read k h.0 0 (written_all ks)) (omega (arith, length-append (written k) (32 ∷ written_all ks)))
 
 pub tokens_are_read_again : TokensAreReadAgain
 unfolding lexed
 tokens_are_read_again source ts e short =
     let ks = kinds ts in
-    let proper = all_proper source (length source) 0 ts (lexed_reads source ts e) in
-    let few : 0 + length ks ≤ 200000 = omega (arith, few_tokens source ts e, length-map ts (λ (t : Token). t.kind)) in
+    let proper = all_proper source (length source) 0 ts (lexed_reads source ts e).1 in
+    let few : 0 + length ks ≤ most_tokens = omega (arith, (lexed_reads source ts e).0, length-map ts (λ (t : Token). t.kind)) in
     let text = written_all ks in
-    let fits : ltb 1048576 (length text) ≡ false = le-ltb 1048576 (length text) short in (
+    let fits : ltb most_source_bytes (length text) ≡ false = le-ltb most_source_bytes (length text) short in (
       placed 0 ks,
-      ap (λ b. cond b (Err (fault.LongSource 1048576)) (tokens_from 0 0 (include_len text) text)) fits ∙ ap (λ i. tokens_from 0 0 i text) (written_no_include ks proper) ∙ written_read 0 0 ks proper few,
+      ap (λ b. cond b (Err (fault.LongSource most_source_bytes)) (tokens_from 0 0 (include_len text) text)) fits ∙ ap (λ i. tokens_from 0 0 i text) (written_no_include ks proper)
+          ∙ written_read 0 0 ks proper few,
       kinds_placed 0 ks,
     )

@@ -2,7 +2,7 @@
 use Rattle.std.proofs.Common.{◌≡◌, ℕ, zero, suc, ◌+◌, ◌-◌, ◌<◌, ◌≤◌, List, [], ◌∷◌, ◌++◌, length, drop, Option, Some, None, refl, sym, ap, ◌∙◌, append_assoc, arith}
 use Rattle.std.specs.Option.{option_map, option_and_then}
 use Rattle.std.proofs.lemmas.List.{drop_all, drop-drop, append-nil, length-drop}
-use Rattle.c_lex.specs.Texts.{character_at, characters, with_first, only}
+use Rattle.c_lex.specs.Quoted.{character_at, characters, with_first, only}
 
 pub characters_skip : (k : ℕ) (t : List ℕ) → characters k t ≡ characters 0 (drop k t)
 characters_skip zero [] = refl
@@ -25,13 +25,13 @@ only_pair : (v w : ℕ) (cs : Option (List ℕ)) → option_and_then only (with_
 only_pair v w None = refl
 only_pair v w (Some cs) = refl
 
-only_behind : (v : ℕ) (bs : List ℕ) (o : Option (ℕ × ℕ)) → option_and_then only (with_first v (option_and_then (λ c. with_first c.0 (characters (c.1 - 1) bs)) o)) ≡ None
-only_behind v bs None = refl
-only_behind v bs (Some c) = only_pair v c.0 (characters (c.1 - 1) bs)
+only_after : (v : ℕ) (bs : List ℕ) (o : Option (ℕ × ℕ)) → option_and_then only (with_first v (option_and_then (λ c. with_first c.0 (characters (c.1 - 1) bs)) o)) ≡ None
+only_after v bs None = refl
+only_after v bs (Some c) = only_pair v c.0 (characters (c.1 - 1) bs)
 
 only_more : (v : ℕ) (t : List ℕ) → 0 < length t → option_and_then only (with_first v (characters 0 t)) ≡ None
 only_more v [] h = absurd (omega arith)
-only_more v (b ∷ bs) h = only_behind v bs (character_at (b ∷ bs))
+only_more v (b ∷ bs) h = only_after v bs (character_at (b ∷ bs))
 
 -- ---- the only character
 
@@ -58,13 +58,16 @@ regroup : (cs : List ℕ) (v : ℕ) (o : Option (List ℕ)) → then_characters 
 regroup cs v None = refl
 regroup cs v (Some rest) = ap Some (sym (append_assoc cs (v ∷ []) rest))
 
-pub characters_push : (cs ds : List ℕ) (v n at : ℕ) (text : List ℕ) (all : Option (List ℕ)) → ds ≡ cs ++ v ∷ [] → 0 < n → character_at (drop at text) ≡ Some (v, n) → at < length text → then_characters cs (characters 0 (drop at text)) ≡ all → then_characters ds (characters 0 (drop (at + n) text)) ≡ all
+pub characters_push : (cs ds : List ℕ) (v n at : ℕ) (text : List ℕ) (all : Option (List ℕ)) → ds ≡ cs ++ v ∷ [] → 0 < n → character_at (drop at text) ≡ Some (v, n) → at < length text →
+    then_characters cs (characters 0 (drop at text)) ≡ all → then_characters ds (characters 0 (drop (at + n) text)) ≡ all
 characters_push cs ds v n at text all is pos e h inv =
     let more : drop n (drop at text) ≡ drop (at + n) text = drop-drop n at text in
     let step = characters_step (drop at text) v n pos e (omega (arith, length-drop at text)) in
-    ap (λ xs. then_characters xs (characters 0 (drop (at + n) text))) is ∙ sym (regroup cs v (characters 0 (drop (at + n) text))) ∙ ap (λ r. then_characters cs (with_first v (characters 0 r))) (sym more) ∙ ap (then_characters cs) (sym step) ∙ inv
+    ap (λ xs. then_characters xs (characters 0 (drop (at + n) text))) is ∙ sym (regroup cs v (characters 0 (drop (at + n) text)))
+    ∙ ap (λ r. then_characters cs (with_first v (characters 0 r))) (sym more) ∙ ap (then_characters cs) (sym step) ∙ inv
 
-pub characters_stop : (cs : List ℕ) (at : ℕ) (text : List ℕ) (all : Option (List ℕ)) → character_at (drop at text) ≡ None → at < length text → then_characters cs (characters 0 (drop at text)) ≡ all → all ≡ None
+pub characters_stop : (cs : List ℕ) (at : ℕ) (text : List ℕ) (all : Option (List ℕ)) → character_at (drop at text) ≡ None → at < length text →
+    then_characters cs (characters 0 (drop at text)) ≡ all → all ≡ None
 characters_stop cs at text all e h inv =
     sym inv ∙ ap (then_characters cs) (characters_none (drop at text) e (omega (arith, length-drop at text)))
 

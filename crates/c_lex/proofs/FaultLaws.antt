@@ -1,38 +1,39 @@
 -- Each fault of the definition is what its name says.
-use Rattle.std.proofs.Common.{◌≡◌, ◌⊎◌, ℕ, zero, suc, ◌+◌, ◌<◌, ◌≤◌, Bool, true, false, cond, not, eqb, ltb, ◌&&◌, ◌||◌, List, [], ◌∷◌, length, take, drop, Option, Some, None, Result, Ok, Err, codes, refl, sym, ap, ◌∙◌, subst, arith, inl, inr}
+use Rattle.std.proofs.Common.{◌≡◌, ◌⊎◌, ℕ, zero, suc, ◌+◌, ◌<◌, ◌≤◌, Bool, true, false, cond, not, eqb, ltb, ◌&&◌, ◌||◌, List, [], ◌∷◌, ◌++◌, length, take, drop, Option, Some, None, Result, Ok, Err, codes, refl, sym, ap, ◌∙◌, subst, arith, inl, inr}
 use Rattle.std.specs.Prelude.{nat_eq}
 use Rattle.std.specs.Option.{ok_or, option_and_then}
 use Rattle.std.specs.List.{starts_with, prefix_len}
-use Rattle.std.proofs.lemmas.Bool.{ltb-true, ltb-false}
-use Rattle.std.proofs.lemmas.Bool.Decides.{nat_tests}
+use Rattle.std.proofs.lemmas.Bool.{ltb-true, ltb-false, eqb-false, eqb-true}
 use Rattle.std.proofs.lemmas.List.{length-take-le, take-append-drop, drop_all}
+use Rattle.std.proofs.lemmas.List.Sums.{prefix_len-le-length}
+use Rattle.limits.specs.Limits.{most_name_bytes, most_tokens}
 use Rattle.c_lex.specs.Results.{◌>>=◌}
-use Rattle.c_lex.specs.Classes.{is_letter, is_digit, is_word, is_number_byte, is_line_end, is_inner_blank}
+use Rattle.c_lex.specs.Classes.{is_letter, is_digit, is_name_byte, is_number_byte, is_line_end, is_inner_blank}
 use Rattle.c_lex.specs.Digits.{is_digit_in, digits_value}
 use Rattle.c_lex.specs.Keywords.{keyword_of}
 use Rattle.c_lex.specs.Punctuators.{punct_at, punct_spelling}
 use Rattle.c_lex.specs.Numbers.{number_at, constant_at, digits_at, typed, suffix}
-use Rattle.c_lex.specs.Texts.{closing_from, characters, only, char_at, text_at}
-use Rattle.c_lex.specs.Gaps.{comment_at, comment_end, line_comment}
-use Rattle.c_lex.specs.Items.{item_at, item_of, start_of, word_at, word_kind_of, slash_at, punct_item}
+use Rattle.c_lex.specs.Quoted.{closing_from, characters, only, char_at, string_at}
+use Rattle.c_lex.specs.Trivia.{comment_at, comment_end, line_comment}
+use Rattle.c_lex.specs.Lexemes.{lexeme_at, lexeme_of, start_of, identifier_at, identifier_kind_of, slash_at, punct_lexeme}
 use Rattle.c_lex.specs.Tokens.{counted}
 use Rattle.c_lex.specs.Grammar.{IsQuoted, IsToken}
-use Rattle.c_lex.specs.Faults.{IsLongest, IsLongestNumber, IsLongestWord, IsFault}
+use Rattle.c_lex.specs.Faults.{IsLongest, IsLongestNumber, IsLongestIdentifier, IsEnclosed, IsFault}
 use Rattle.c_lex.specs.declared.fault.LexFault.{LexFault}
 use Rattle.c_lex.specs.declared.fault.LexFault.TheVariants as fault
-use Rattle.c_lex.specs.declared.item.Item.{Item}
-use Rattle.c_lex.specs.declared.item.Item.TheVariants.{Gap, Piece}
-use Rattle.c_lex.specs.declared.item.Start.{Start}
-use Rattle.c_lex.specs.declared.item.Start.TheVariants as start
+use Rattle.c_lex.specs.declared.lexeme.Lexeme.{Lexeme}
+use Rattle.c_lex.specs.declared.lexeme.Lexeme.TheVariants as lexeme
+use Rattle.c_lex.specs.declared.lexeme.Start.{Start}
+use Rattle.c_lex.specs.declared.lexeme.Start.TheVariants as start
 use Rattle.c_lex.specs.declared.punct.Punct.{Punct}
 use Rattle.c_lex.specs.declared.token.TokenKind.{TokenKind}
 use Rattle.c_lex.specs.declared.token.TokenKind.TheVariants as kind
-use Rattle.c_lex.proofs.Lengths.{ok_or_ok, chosen, punct_some, start_by, start_letter, start_digit}
+use Rattle.c_lex.proofs.Lengths.{closing_within, ok_or_ok, chosen, lexeme_fits, punct_some, start_by, start_letter, start_digit}
 use Rattle.c_lex.proofs.Tables.{is_mark, punct_none}
 use Rattle.c_lex.proofs.Sorts.{token_mark, closed_found}
-use Rattle.c_lex.proofs.Munch.{word_longest_by, word_is, number_longest_by, number_is, quoted_is, quoted_bytes, same_byte, start_quote, start_double, item_longest}
+use Rattle.c_lex.proofs.Munch.{identifier_longest_by, identifier_is, number_longest_by, number_is, quoted_is, quoted_bytes, start_quote, start_double, lexeme_longest}
 
-abbrev refused : LexFault → Result Item LexFault
+abbrev refused : LexFault → Result Lexeme LexFault
 refused f = Err f
 
 abbrev wrong : LexFault → Result TokenKind LexFault
@@ -103,30 +104,35 @@ unfolding number_at
 number_fault at b bs f digit e =
     let text = b ∷ bs in
     let n = prefix_len is_number_byte text in
-    let is : IsLongestNumber text n = record { number = number_is b bs digit; longest = λ m. number_longest_by b bs m digit } in
-    elim (bind_err (constant_at at (take n text)) (λ k. Ok (Piece k n)) f e) [
+    let is : IsLongestNumber text n = record { within = prefix_len-le-length is_number_byte text; number = number_is b bs digit; longest = λ m. number_longest_by b bs m digit } in
+    elim (bind_err (constant_at at (take n text)) (λ k. Ok (lexeme.Token k n)) f e) [
       | inl h ↦ number_fault_by at n text f is h (constant_err at (take n text) f h)
       | inr h ↦ absurd (no_fault h.0 n h.2)
     ]
   where
-    no_fault : (k : TokenKind) (n : ℕ) → Ok (Piece k n) ≡ refused f → ⊥
+    no_fault : (k : TokenKind) (n : ℕ) → Ok (lexeme.Token k n) ≡ refused f → ⊥
     no_fault k n h = cc
 
 -- ---- names
 
-word_fault : (at b : ℕ) (bs : List ℕ) (f : LexFault) → is_letter b ≡ true → word_at at (b ∷ bs) ≡ Err f → IsFault (b ∷ bs) 0 at f
-unfolding word_at
-word_fault at b bs f letter e =
+identifier_fault : (at b : ℕ) (bs : List ℕ) (f : LexFault) → is_letter b ≡ true → identifier_at at (b ∷ bs) ≡ Err f → IsFault (b ∷ bs) 0 at f
+unfolding identifier_at
+identifier_fault at b bs f letter e =
     let text = b ∷ bs in
-    let n = prefix_len is_word text in
-    elim (chosen (ltb 63 n) (Err (fault.LongName at)) (Ok (Piece (word_kind_of (take n text) (keyword_of (take n text))) n)) (Err f) e) [
+    let n = prefix_len is_name_byte text in
+    elim (chosen (ltb most_name_bytes n) (Err (fault.LongName at)) (Ok (lexeme.Token (identifier_kind_of (take n text) (keyword_of (take n text))) n)) (Err f) e) [
       | inl (long, g) ↦
-          let is : IsLongestWord text n = record { word = word_is b bs letter; longest = λ m. word_longest_by b bs m letter } in
-          subst (λ (h : LexFault). IsFault text 0 at h) (err_same Item (fault.LongName at) f g) (refl, (n, ltb-true 63 n long, is))
+          let is : IsLongestIdentifier text n = record {
+            within = prefix_len-le-length is_name_byte text;
+            identifier = identifier_is b bs letter;
+            longest =
+                λ m. identifier_longest_by b bs m letter;
+          } in
+          subst (λ (h : LexFault). IsFault text 0 at h) (err_same Lexeme (fault.LongName at) f g) (refl, (n, ltb-true most_name_bytes n long, is))
       | inr (_, g) ↦ absurd cc
     ]
 
--- ---- quoted texts
+-- ---- between quotes
 
 open_by : (quote b : ℕ) (bs : List ℕ) (n : ℕ) → (quote ≡ 10 → ⊥) → (quote ≡ 92 → ⊥) → closing_from quote false 0 bs ≡ None → n ≤ length (b ∷ bs) → IsQuoted quote (take n (b ∷ bs)) → ⊥
 open_by quote b bs zero q10 q92 is within h = h
@@ -141,48 +147,62 @@ open_by quote b bs (suc (suc j)) q10 q92 is within h =
     some_none : (i : ℕ) → None ≡ Some i → ⊥
     some_none i e = cc
 
+enclosed_is : (quote b m : ℕ) (bs : List ℕ) → b ≡ quote → closing_from quote false 0 bs ≡ Some m → IsEnclosed quote (b ∷ bs) (take m bs)
+enclosed_is quote b m bs same is =
+    let before = closing_within quote false 0 bs m is in
+    let size : m + 2 ≡ length (take m bs) + 2 = omega (arith, length-take-le m bs (omega (arith, before.1))) in
+    let P : ℕ → Type 0 = λ n. (n ≤ length (b ∷ bs)) × IsQuoted quote (take n (b ∷ bs)) × (take n (b ∷ bs) ≡ quote ∷ (take m bs ++ quote ∷ [])) in
+    subst P size (omega (arith, before.1), quoted_is quote b m bs same is, quoted_bytes quote b m bs same is)
+
 char_fault : (at b : ℕ) (bs : List ℕ) (f : LexFault) → b ≡ 39 → char_at at bs ≡ Err f → IsFault (b ∷ bs) 0 at f
 unfolding char_at
 char_fault at b bs f quote e =
     let text = b ∷ bs in
-    elim (bind_err (ok_or (closing_from 39 false 0 bs) (fault.OpenText at)) (λ m. ok_or (option_and_then only (characters 0 (take m bs))) (fault.BadText at) >>= λ c. Ok (Piece (kind.Char c) (m + 2))) f e) [
+    elim (bind_err (ok_or (closing_from 39 false 0 bs) (fault.OpenText at)) (λ m. ok_or (option_and_then only (characters 0 (take m bs))) (fault.BadText at) >>= λ c. Ok (lexeme.Token
+    (kind.Char c) (m + 2))) f e) [
       | inl h ↦
           let opened = ok_or_err (closing_from 39 false 0 bs) (fault.OpenText at) f h in
           subst (λ (g : LexFault). IsFault text 0 at g) opened.1 (refl, inl (quote, λ n. open_by 39 b bs n (λ q. omega arith) (λ q. omega arith) opened.0))
-      | inr h ↦ char_text h.0 (ok_or_ok (closing_from 39 false 0 bs) (fault.OpenText at) h.0 h.1) (bind_err (ok_or (option_and_then only (characters 0 (take h.0 bs))) (fault.BadText at)) (λ c. Ok (Piece (kind.Char c) (h.0 + 2))) f h.2)
+      | inr h ↦ bad_char h.0 (ok_or_ok (closing_from 39 false 0 bs) (fault.OpenText at) h.0 h.1) (bind_err (ok_or (option_and_then only (characters 0 (take h.0 bs))) (fault.BadText at)) (λ c. Ok
+          (lexeme.Token (kind.Char c) (h.0 + 2))) f h.2)
     ]
   where
     not_one : (o : Option (List ℕ)) (c : ℕ) → option_and_then only o ≡ None → o ≡ Some (c ∷ []) → ⊥
     not_one o c none one = let e = sym none ∙ ap (option_and_then only) one in cc
 
-    no_fault : (c n : ℕ) → Ok (Piece (kind.Char c) n) ≡ refused f → ⊥
+    no_fault : (c n : ℕ) → Ok (lexeme.Token (kind.Char c) n) ≡ refused f → ⊥
     no_fault c n h = cc
 
-    char_text : (m : ℕ) → closing_from 39 false 0 bs ≡ Some m → (ok_or (option_and_then only (characters 0 (take m bs))) (fault.BadText at) ≡ Err f) ⊎ ((c : ℕ) × (ok_or (option_and_then only (characters 0 (take m bs))) (fault.BadText at) ≡ Ok c) × (Ok (Piece (kind.Char c) (m + 2)) ≡ refused f)) → IsFault (b ∷ bs) 0 at f
-    char_text m is (inl h) =
+    bad_char : (m : ℕ) → closing_from 39 false 0 bs ≡ Some m →
+        (ok_or (option_and_then only (characters 0 (take m bs))) (fault.BadText at) ≡ Err f) ⊎ ((c : ℕ) × (ok_or (option_and_then only (characters 0 (take m bs))) (fault.BadText at) ≡ Ok c)
+        × (Ok (lexeme.Token (kind.Char c) (m + 2)) ≡ refused f)) → IsFault (b ∷ bs) 0 at f
+    bad_char m is (inl h) =
         let bad = ok_or_err (option_and_then only (characters 0 (take m bs))) (fault.BadText at) f h in
-        subst (λ (g : LexFault). IsFault (b ∷ bs) 0 at g) bad.1 (refl, (m + 2, take m bs, inl ((quoted_is 39 b m bs quote is, quoted_bytes 39 b m bs quote is), λ c. not_one (characters 0 (take m bs)) c bad.0)))
-    char_text m is (inr h) = absurd (no_fault h.0 (m + 2) h.2)
+        subst (λ (g : LexFault). IsFault (b ∷ bs) 0 at g) bad.1 (refl, (take m bs, inl (enclosed_is 39 b m bs quote is, λ c. not_one (characters 0 (take m bs)) c bad.0)))
+    bad_char m is (inr h) = absurd (no_fault h.0 (m + 2) h.2)
 
-text_fault : (at b : ℕ) (bs : List ℕ) (f : LexFault) → b ≡ 34 → text_at at bs ≡ Err f → IsFault (b ∷ bs) 0 at f
-unfolding text_at
-text_fault at b bs f quote e =
+string_fault : (at b : ℕ) (bs : List ℕ) (f : LexFault) → b ≡ 34 → string_at at bs ≡ Err f → IsFault (b ∷ bs) 0 at f
+unfolding string_at
+string_fault at b bs f quote e =
     let text = b ∷ bs in
-    elim (bind_err (ok_or (closing_from 34 false 0 bs) (fault.OpenText at)) (λ m. ok_or (characters 0 (take m bs)) (fault.BadText at) >>= λ c. Ok (Piece (kind.Text c) (m + 2))) f e) [
+    elim (bind_err (ok_or (closing_from 34 false 0 bs) (fault.OpenText at)) (λ m. ok_or (characters 0 (take m bs)) (fault.BadText at) >>= λ c. Ok (lexeme.Token (kind.Text c) (m + 2))) f e) [
       | inl h ↦
           let opened = ok_or_err (closing_from 34 false 0 bs) (fault.OpenText at) f h in
           subst (λ (g : LexFault). IsFault text 0 at g) opened.1 (refl, inr (quote, λ n. open_by 34 b bs n (λ q. omega arith) (λ q. omega arith) opened.0))
-      | inr h ↦ inner_text h.0 (ok_or_ok (closing_from 34 false 0 bs) (fault.OpenText at) h.0 h.1) (bind_err (ok_or (characters 0 (take h.0 bs)) (fault.BadText at)) (λ c. Ok (Piece (kind.Text c) (h.0 + 2))) f h.2)
+      | inr h ↦ bad_string h.0 (ok_or_ok (closing_from 34 false 0 bs) (fault.OpenText at) h.0 h.1) (bind_err (ok_or (characters 0 (take h.0 bs)) (fault.BadText at)) (λ c. Ok (lexeme.Token
+          (kind.Text c) (h.0 + 2))) f h.2)
     ]
   where
-    no_fault : (c : List ℕ) (n : ℕ) → Ok (Piece (kind.Text c) n) ≡ refused f → ⊥
+    no_fault : (c : List ℕ) (n : ℕ) → Ok (lexeme.Token (kind.Text c) n) ≡ refused f → ⊥
     no_fault c n h = cc
 
-    inner_text : (m : ℕ) → closing_from 34 false 0 bs ≡ Some m → (ok_or (characters 0 (take m bs)) (fault.BadText at) ≡ Err f) ⊎ ((c : List ℕ) × (ok_or (characters 0 (take m bs)) (fault.BadText at) ≡ Ok c) × (Ok (Piece (kind.Text c) (m + 2)) ≡ refused f)) → IsFault (b ∷ bs) 0 at f
-    inner_text m is (inl h) =
+    bad_string : (m : ℕ) → closing_from 34 false 0 bs ≡ Some m →
+        (ok_or (characters 0 (take m bs)) (fault.BadText at) ≡ Err f) ⊎ ((c : List ℕ) × (ok_or (characters 0 (take m bs)) (fault.BadText at) ≡ Ok c)
+        × (Ok (lexeme.Token (kind.Text c) (m + 2)) ≡ refused f)) → IsFault (b ∷ bs) 0 at f
+    bad_string m is (inl h) =
         let bad = ok_or_err (characters 0 (take m bs)) (fault.BadText at) f h in
-        subst (λ (g : LexFault). IsFault (b ∷ bs) 0 at g) bad.1 (refl, (m + 2, take m bs, inr ((quoted_is 34 b m bs quote is, quoted_bytes 34 b m bs quote is), bad.0)))
-    inner_text m is (inr h) = absurd (no_fault h.0 (m + 2) h.2)
+        subst (λ (g : LexFault). IsFault (b ∷ bs) 0 at g) bad.1 (refl, (take m bs, inr (enclosed_is 34 b m bs quote is, bad.0)))
+    bad_string m is (inr h) = absurd (no_fault h.0 (m + 2) h.2)
 
 -- ---- comments
 
@@ -201,7 +221,7 @@ comment_never at (b ∷ bs) (suc n) e =
 
 -- ---- bytes that begin nothing
 
-no_empty : IsToken [] → ⊥
+pub no_empty : IsToken [] → ⊥
 no_empty (inl w) = w
 no_empty (inr (inl n)) = n
 no_empty (inr (inr (inl q))) = q
@@ -224,11 +244,12 @@ record IsPlain (b : ℕ) : Type 0 where
   double : b ≡ 34 → ⊥
   hash : b ≡ 35 → ⊥
 
-byte_fault : (at b : ℕ) (bs : List ℕ) (f : LexFault) (o : Option Punct) → IsPlain b → punct_at (b ∷ bs) ≡ o → punct_item at o ≡ Err f → IsFault (b ∷ bs) 0 at f
+byte_fault : (at b : ℕ) (bs : List ℕ) (f : LexFault) (o : Option Punct) → IsPlain b → punct_at (b ∷ bs) ≡ o → punct_lexeme at o ≡ Err f → IsFault (b ∷ bs) 0 at f
 byte_fault at b bs f None plain none e =
-    subst (λ (g : LexFault). IsFault (b ∷ bs) 0 at g) (err_same Item (fault.BadByte at) f e) (
+    subst (λ (g : LexFault). IsFault (b ∷ bs) 0 at g) (err_same Lexeme (fault.BadByte at) f e) (
       refl,
       record {
+        some = omega arith;
         no_token = λ n. mark_no_token b bs n plain.mark none;
         no_line_end = plain.line;
         no_blank = plain.blank;
@@ -265,7 +286,8 @@ slash_by false false false false false false true _ e = absurd cc
 slash_by false false false false false false false true e = refl
 slash_by false false false false false false false false e = absurd cc
 
-other_by : (line blank letter digit quote double hash slash : Bool) → start_by line blank letter digit quote double hash slash ≡ start.Other → (line ≡ false) × (blank ≡ false) × (letter ≡ false) × (digit ≡ false) × (quote ≡ false) × (double ≡ false) × (hash ≡ false)
+other_by : (line blank letter digit quote double hash slash : Bool) → start_by line blank letter digit quote double hash slash ≡ start.Other →
+    (line ≡ false) × (blank ≡ false) × (letter ≡ false) × (digit ≡ false) × (quote ≡ false) × (double ≡ false) × (hash ≡ false)
 unfolding start_by
 other_by true _ _ _ _ _ _ _ e = absurd cc
 other_by false true _ _ _ _ _ _ e = absurd cc
@@ -279,14 +301,11 @@ other_by false false false false false false false false e = (refl, refl, refl, 
 
 start_hash : (b : ℕ) → start_of b ≡ start.Hash → b ≡ 35
 unfolding start_of start_by
-start_hash b e = same_byte b 35 (hash_by (is_line_end b) (is_inner_blank b) (is_letter b) (is_digit b) (eqb b 39) (eqb b 34) (eqb b 35) (eqb b 47) e)
+start_hash b e = eqb-true b 35 (hash_by (is_line_end b) (is_inner_blank b) (is_letter b) (is_digit b) (eqb b 39) (eqb b 34) (eqb b 35) (eqb b 47) e)
 
 start_slash : (b : ℕ) → start_of b ≡ start.Slash → b ≡ 47
 unfolding start_of start_by
-start_slash b e = same_byte b 47 (slash_by (is_line_end b) (is_inner_blank b) (is_letter b) (is_digit b) (eqb b 39) (eqb b 34) (eqb b 35) (eqb b 47) e)
-
-other_byte : (x y : ℕ) → eqb x y ≡ false → x ≡ y → ⊥
-other_byte x y e h = grind (arith, nat_tests)
+start_slash b e = eqb-true b 47 (slash_by (is_line_end b) (is_inner_blank b) (is_letter b) (is_digit b) (eqb b 39) (eqb b 34) (eqb b 35) (eqb b 47) e)
 
 all_false : (x y z w : Bool) → x ≡ false → y ≡ false → z ≡ false → w ≡ false → (not x && (not y && (not z && not w))) ≡ true
 all_false false false false false _ _ _ _ = refl
@@ -303,9 +322,9 @@ start_other b e =
       line = no.0;
       blank = no.1;
       mark = all_false (is_letter b) (is_digit b) (eqb b 39) (eqb b 34) no.2 no.3 no.4 no.5;
-      quote = other_byte b 39 no.4;
-      double = other_byte b 34 no.5;
-      hash = other_byte b 35 no.6;
+      quote = eqb-false b 39 no.4;
+      double = eqb-false b 34 no.5;
+      hash = eqb-false b 35 no.6;
     }
 
 slash_plain : (b : ℕ) → b ≡ 47 → IsPlain b
@@ -318,69 +337,82 @@ slash_plain b e = record {
   hash = λ q. omega (arith, e, q);
 }
 
--- ---- every item
+-- ---- every lexeme
 
 slash_fault : (at b : ℕ) (bs : List ℕ) (f : LexFault) → b ≡ 47 → slash_at at (b ∷ bs) ≡ Err f → IsFault (b ∷ bs) 0 at f
 unfolding slash_at comment_at
 slash_fault at b bs f slash e =
     let text = b ∷ bs in
-    elim (chosen (starts_with nat_eq text (codes "/*")) (comment_at at (drop 2 text)) (cond (starts_with nat_eq text (codes "//")) (Ok (line_comment (drop 2 text))) (punct_item at (punct_at text))) (Err f) e) [
-      | inl (starts, g) ↦ elim (bind_err (ok_or (comment_end 0 (drop 2 text)) (fault.OpenComment at)) (λ m. Ok (Gap (m + 2))) f g) [
+    elim (chosen (starts_with nat_eq text (codes "/*")) (comment_at at (drop 2 text)) (cond (starts_with nat_eq text (codes "//")) (Ok (line_comment (drop 2 text))) (punct_lexeme at
+    (punct_at text))) (Err f) e) [
+      | inl (starts, g) ↦ elim (bind_err (ok_or (comment_end 0 (drop 2 text)) (fault.OpenComment at)) (λ m. Ok (lexeme.Trivia (m + 2))) f g) [
         | inl h ↦
             let opened = ok_or_err (comment_end 0 (drop 2 text)) (fault.OpenComment at) f h in
             subst (λ (g : LexFault). IsFault text 0 at g) opened.1 (refl, starts, λ n. comment_never 0 (drop 2 text) n opened.0)
-        | inr h ↦ absurd (no_gap (h.0 + 2) h.2)
+        | inr h ↦ absurd (no_trivia (h.0 + 2) h.2)
       ]
-      | inr (_, g) ↦ elim (chosen (starts_with nat_eq text (codes "//")) (Ok (line_comment (drop 2 text))) (punct_item at (punct_at text)) (Err f) g) [
+      | inr (_, g) ↦ elim (chosen (starts_with nat_eq text (codes "//")) (Ok (line_comment (drop 2 text))) (punct_lexeme at (punct_at text)) (Err f) g) [
         | inl (_, h) ↦ absurd cc
         | inr (_, h) ↦ byte_fault at b bs f (punct_at text) (slash_plain b slash) refl h
       ]
     ]
   where
-    no_gap : (n : ℕ) → Ok (Gap n) ≡ refused f → ⊥
-    no_gap n h = cc
+    no_trivia : (n : ℕ) → Ok (lexeme.Trivia n) ≡ refused f → ⊥
+    no_trivia n h = cc
 
-item_fault_of : (s : Start) (at b : ℕ) (bs : List ℕ) (f : LexFault) → start_of b ≡ s → item_of s at (b ∷ bs) ≡ Err f → IsFault (b ∷ bs) 0 at f
-unfolding item_of
-item_fault_of start.LineEnd at b bs f is e = absurd cc
-item_fault_of start.Blank at b bs f is e = absurd cc
-item_fault_of start.Letter at b bs f is e = word_fault at b bs f (start_letter b is) e
-item_fault_of start.Digit at b bs f is e = number_fault at b bs f (start_digit b is) e
-item_fault_of start.Quote at b bs f is e = char_fault at b bs f (start_quote b is) e
-item_fault_of start.DoubleQuote at b bs f is e = text_fault at b bs f (start_double b is) e
-item_fault_of start.Hash at b bs f is e = subst (λ (g : LexFault). IsFault (b ∷ bs) 0 at g) (err_same Item (fault.Directive at) f e) (refl, start_hash b is)
-item_fault_of start.Slash at b bs f is e = slash_fault at b bs f (start_slash b is) e
-item_fault_of start.Other at b bs f is e = byte_fault at b bs f (punct_at (b ∷ bs)) (start_other b is) refl e
+lexeme_fault_of : (s : Start) (at b : ℕ) (bs : List ℕ) (f : LexFault) → start_of b ≡ s → lexeme_of s at (b ∷ bs) ≡ Err f → IsFault (b ∷ bs) 0 at f
+unfolding lexeme_of
+lexeme_fault_of start.LineEnd at b bs f is e = absurd cc
+lexeme_fault_of start.Blank at b bs f is e = absurd cc
+lexeme_fault_of start.Letter at b bs f is e = identifier_fault at b bs f (start_letter b is) e
+lexeme_fault_of start.Digit at b bs f is e = number_fault at b bs f (start_digit b is) e
+lexeme_fault_of start.Quote at b bs f is e = char_fault at b bs f (start_quote b is) e
+lexeme_fault_of start.DoubleQuote at b bs f is e = string_fault at b bs f (start_double b is) e
+lexeme_fault_of start.Hash at b bs f is e = subst (λ (g : LexFault). IsFault (b ∷ bs) 0 at g) (err_same Lexeme (fault.Directive at) f e) (refl, start_hash b is)
+lexeme_fault_of start.Slash at b bs f is e = slash_fault at b bs f (start_slash b is) e
+lexeme_fault_of start.Other at b bs f is e = byte_fault at b bs f (punct_at (b ∷ bs)) (start_other b is) refl e
 
-item_fault : (at : ℕ) (text : List ℕ) (f : LexFault) → 0 < length text → item_at at text ≡ Err f → IsFault text 0 at f
-item_fault at [] f some e = absurd (omega arith)
-item_fault at (b ∷ bs) f some e = item_fault_of (start_of b) at b bs f refl e
+lexeme_fault : (at : ℕ) (text : List ℕ) (f : LexFault) → 0 < length text → lexeme_at at text ≡ Err f → IsFault text 0 at f
+lexeme_fault at [] f some e = absurd (omega arith)
+lexeme_fault at (b ∷ bs) f some e = lexeme_fault_of (start_of b) at b bs f refl e
 
 -- ---- with the count
 
-counted_by : (count at : ℕ) (text : List ℕ) (r : Result Item LexFault) (f : LexFault) → ((g : LexFault) → r ≡ Err g → IsFault text 0 at g) → ((k : TokenKind) (n : ℕ) → r ≡ Ok (Piece k n) → IsLongest text n k) → counted count at r ≡ Err f → IsFault text count at f
-counted_by count at text (Ok (Gap n)) f faulty longest e = absurd cc
-counted_by count at text (Ok (Piece k n)) f faulty longest e =
-    elim (chosen (ltb count 200000) (Ok (Piece k n)) (Err (fault.ManyTokens at)) (Err f) e) [
+counted_by : (count at : ℕ) (text : List ℕ) (r : Result Lexeme LexFault) (f : LexFault) → ((g : LexFault) → r ≡ Err g → IsFault text 0 at g) → ((k : TokenKind) (n : ℕ) →
+    r ≡ Ok (lexeme.Token k n) → (n ≤ length text) × IsLongest text n k) → counted count at r ≡ Err f → IsFault text count at f
+counted_by count at text (Ok (lexeme.Trivia n)) f faulty longest e = absurd cc
+counted_by count at text (Ok (lexeme.Token k n)) f faulty longest e =
+    elim (chosen (ltb count most_tokens) (Ok (lexeme.Token k n)) (Err (fault.ManyTokens at)) (Err f) e) [
       | inl (_, g) ↦ absurd cc
-      | inr (many, g) ↦ subst (λ (h : LexFault). IsFault text count at h) (err_same Item (fault.ManyTokens at) f g) (refl, ltb-false count 200000 many, inl (n, k, longest k n refl))
+      | inr (many, g) ↦ subst (λ (h : LexFault). IsFault text count at h) (err_same Lexeme (fault.ManyTokens at) f g) (
+        refl,
+        ltb-false count most_tokens many,
+        inl (
+          n,
+          k,
+          (longest k n refl).0,
+          (longest k n refl).1,
+        ),
+      )
     ]
 counted_by count at text (Err (fault.BadNumber p)) f faulty longest e =
     let is = faulty (fault.BadNumber p) refl in
-    elim (chosen (ltb count 200000) (Err (fault.BadNumber p)) (Err (fault.ManyTokens at)) (Err f) e) [
-      | inl (few, g) ↦ subst (λ (h : LexFault). IsFault text count at h) (err_same Item (fault.BadNumber p) f g) (is.0, ltb-true count 200000 few, is.2)
-      | inr (many, g) ↦ subst (λ (h : LexFault). IsFault text count at h) (err_same Item (fault.ManyTokens at) f g) (refl, ltb-false count 200000 many, inr is.2)
+    elim (chosen (ltb count most_tokens) (Err (fault.BadNumber p)) (Err (fault.ManyTokens at)) (Err f) e) [
+      | inl (few, g) ↦ subst (λ (h : LexFault). IsFault text count at h) (err_same Lexeme (fault.BadNumber p) f g) (is.0, ltb-true count most_tokens few, is.2)
+      | inr (many, g) ↦ subst (λ (h : LexFault). IsFault text count at h) (err_same Lexeme (fault.ManyTokens at) f g) (refl, ltb-false count most_tokens many, inr is.2)
     ]
 counted_by count at text (Err fault.NoMemory) f faulty longest e = absurd (faulty fault.NoMemory refl)
 counted_by count at text (Err (fault.LongSource p)) f faulty longest e = absurd (faulty (fault.LongSource p) refl)
 counted_by count at text (Err (fault.ManyTokens p)) f faulty longest e = let is = faulty (fault.ManyTokens p) refl in absurd (omega (arith, is.1))
-counted_by count at text (Err (fault.BadByte p)) f faulty longest e = subst (λ (h : LexFault). IsFault text count at h) (err_same Item (fault.BadByte p) f e) (faulty (fault.BadByte p) refl)
-counted_by count at text (Err (fault.OpenComment p)) f faulty longest e = subst (λ (h : LexFault). IsFault text count at h) (err_same Item (fault.OpenComment p) f e) (faulty (fault.OpenComment p) refl)
-counted_by count at text (Err (fault.OpenText p)) f faulty longest e = subst (λ (h : LexFault). IsFault text count at h) (err_same Item (fault.OpenText p) f e) (faulty (fault.OpenText p) refl)
-counted_by count at text (Err (fault.BadText p)) f faulty longest e = subst (λ (h : LexFault). IsFault text count at h) (err_same Item (fault.BadText p) f e) (faulty (fault.BadText p) refl)
-counted_by count at text (Err (fault.TooWide p)) f faulty longest e = subst (λ (h : LexFault). IsFault text count at h) (err_same Item (fault.TooWide p) f e) (faulty (fault.TooWide p) refl)
-counted_by count at text (Err (fault.LongName p)) f faulty longest e = subst (λ (h : LexFault). IsFault text count at h) (err_same Item (fault.LongName p) f e) (faulty (fault.LongName p) refl)
-counted_by count at text (Err (fault.Directive p)) f faulty longest e = subst (λ (h : LexFault). IsFault text count at h) (err_same Item (fault.Directive p) f e) (faulty (fault.Directive p) refl)
+counted_by count at text (Err (fault.BadByte p)) f faulty longest e = subst (λ (h : LexFault). IsFault text count at h) (err_same Lexeme (fault.BadByte p) f e) (faulty (fault.BadByte p) refl)
+counted_by count at text (Err (fault.OpenComment p)) f faulty longest e =
+    subst (λ (h : LexFault). IsFault text count at h) (err_same Lexeme (fault.OpenComment p) f e) (faulty (fault.OpenComment p) refl)
+counted_by count at text (Err (fault.OpenText p)) f faulty longest e = subst (λ (h : LexFault). IsFault text count at h) (err_same Lexeme (fault.OpenText p) f e) (faulty (fault.OpenText p) refl)
+counted_by count at text (Err (fault.BadText p)) f faulty longest e = subst (λ (h : LexFault). IsFault text count at h) (err_same Lexeme (fault.BadText p) f e) (faulty (fault.BadText p) refl)
+counted_by count at text (Err (fault.TooWide p)) f faulty longest e = subst (λ (h : LexFault). IsFault text count at h) (err_same Lexeme (fault.TooWide p) f e) (faulty (fault.TooWide p) refl)
+counted_by count at text (Err (fault.LongName p)) f faulty longest e = subst (λ (h : LexFault). IsFault text count at h) (err_same Lexeme (fault.LongName p) f e) (faulty (fault.LongName p) refl)
+counted_by count at text (Err (fault.Directive p)) f faulty longest e = subst (λ (h : LexFault). IsFault text count at h) (err_same Lexeme (fault.Directive p) f e) (faulty (fault.Directive p) refl)
 
-pub counted_fault : (count at : ℕ) (text : List ℕ) (f : LexFault) → 0 < length text → counted count at (item_at at text) ≡ Err f → IsFault text count at f
-counted_fault count at text f some e = counted_by count at text (item_at at text) f (λ g h. item_fault at text g some h) (λ k n h. item_longest at text n k some h) e
+pub counted_fault : (count at : ℕ) (text : List ℕ) (f : LexFault) → 0 < length text → counted count at (lexeme_at at text) ≡ Err f → IsFault text count at f
+counted_fault count at text f some e =
+    counted_by count at text (lexeme_at at text) f (λ g h. lexeme_fault at text g some h) (λ k n h. ((lexeme_fits at text (lexeme.Token k n) some h).1, lexeme_longest at text n k some h)) e

@@ -1,24 +1,26 @@
--- An item takes at least one byte, and no more than there are.
-use Rattle.std.proofs.Common.{◌≡◌, ◌⊎◌, ℕ, ◌+◌, ◌-◌, ◌<◌, ◌≤◌, Bool, true, false, cond, not, ◌&&◌, ◌||◌, subst, lit<, eqb, ltb, List, [], ◌∷◌, length, drop, take, Option, Some, None, Result, Ok, Err, codes, refl, sym, ap, ◌∙◌, arith, inl, inr}
+-- A lexeme takes at least one byte, and no more than there are.
+use Rattle.std.proofs.Common.{◌≡◌, ◌⊎◌, ℕ, ◌+◌, ◌-◌, ◌<◌, ◌≤◌, Bool, true, false, cond, not, subst, lit<, eqb, ltb, List, [], ◌∷◌, length, drop, take, Option, Some, None, Result, Ok, Err, codes, refl, sym, ap, ◌∙◌, arith, inl, inr}
 use Rattle.std.specs.Prelude.{nat_eq, find}
 use Rattle.std.specs.Option.{ok_or, option_and_then, option_map_or}
 use Rattle.std.specs.List.{starts_with, prefix_len, position_or_len}
 use Rattle.std.proofs.lemmas.List.{length-drop}
 use Rattle.std.proofs.lemmas.List.Sums.{prefix_len-le-length}
+use Rattle.std.proofs.lemmas.Bool.{or_left, or_right, and_parts}
+use Rattle.limits.specs.Limits.{most_name_bytes}
 use Rattle.c_lex.specs.Results.{◌>>=◌}
-use Rattle.c_lex.specs.Classes.{is_letter, is_digit, is_word, is_number_byte, is_inner_blank, is_line_end}
-use Rattle.c_lex.specs.Gaps.{comment_end, comment_at, line_comment, include_len, past_include}
+use Rattle.c_lex.specs.Classes.{is_letter, is_digit, is_name_byte, is_number_byte, is_inner_blank, is_line_end}
+use Rattle.c_lex.specs.Trivia.{comment_end, comment_at, line_comment, include_len, past_include}
 use Rattle.c_lex.specs.Numbers.{number_at, constant_at}
-use Rattle.c_lex.specs.Texts.{closing_from, characters, only, char_at, text_at}
+use Rattle.c_lex.specs.Quoted.{closing_from, characters, only, char_at, string_at}
 use Rattle.c_lex.specs.Keywords.{keyword_of}
 use Rattle.c_lex.specs.Punctuators.{punct_at, punct_spelling, all_puncts}
-use Rattle.c_lex.specs.Items.{item_at, item_of, item_len, start_of, word_at, word_kind_of, slash_at, punct_item}
+use Rattle.c_lex.specs.Lexemes.{lexeme_at, lexeme_of, lexeme_len, start_of, identifier_at, identifier_kind_of, slash_at, punct_lexeme}
 use Rattle.c_lex.specs.declared.fault.LexFault.{LexFault}
 use Rattle.c_lex.specs.declared.fault.LexFault.TheVariants as fault
-use Rattle.c_lex.specs.declared.item.Item.{Item}
-use Rattle.c_lex.specs.declared.item.Item.TheVariants.{Gap, Piece}
-use Rattle.c_lex.specs.declared.item.Start.{Start}
-use Rattle.c_lex.specs.declared.item.Start.TheVariants as start
+use Rattle.c_lex.specs.declared.lexeme.Lexeme.{Lexeme}
+use Rattle.c_lex.specs.declared.lexeme.Lexeme.TheVariants as lexeme
+use Rattle.c_lex.specs.declared.lexeme.Start.{Start}
+use Rattle.c_lex.specs.declared.lexeme.Start.TheVariants as start
 use Rattle.c_lex.specs.declared.punct.Punct.{Punct}
 use Rattle.c_lex.specs.declared.punct.Punct.TheVariants as mark
 use Rattle.c_lex.specs.declared.token.TokenKind.TheVariants as kind
@@ -54,14 +56,10 @@ closing_within quote taken at (b ∷ bs) n e =
       ]
     ]
 
-pub starts_long : (text word : List ℕ) → starts_with nat_eq text word ≡ true → length word ≤ length text
+pub starts_long : (text prefix : List ℕ) → starts_with nat_eq text prefix ≡ true → length prefix ≤ length text
 starts_long text [] e = omega arith
 starts_long [] (c ∷ cs) e = absurd cc
-starts_long (b ∷ bs) (c ∷ cs) e = omega (arith, starts_long bs cs (and_right (nat_eq c b) (starts_with nat_eq bs cs) e))
-  where
-    and_right : (x y : Bool) → (x && y) ≡ true → y ≡ true
-    and_right true y e = e
-    and_right false y e = absurd cc
+starts_long (b ∷ bs) (c ∷ cs) e = omega (arith, starts_long bs cs (and_parts (nat_eq c b) (starts_with nat_eq bs cs) e).1)
 
 pub comment_within : (at : ℕ) (text : List ℕ) (n : ℕ) → comment_end at text ≡ Some n → n ≤ at + length text
 comment_within at [] n e = absurd cc
@@ -81,25 +79,18 @@ include_within line = by_rest (past_include line)
 pub run_some : (p : ℕ → Bool) (b : ℕ) (bs : List ℕ) → p b ≡ true → 0 < prefix_len p (b ∷ bs)
 run_some p b bs e = let first : prefix_len p (b ∷ bs) ≡ 1 + prefix_len p bs = ap (λ t. cond t (1 + prefix_len p bs) 0) e in omega arith
 
-or_left : (x y : Bool) → x ≡ true → (x || y) ≡ true
-or_left true y e = refl
-or_left false y e = absurd cc
-
-or_right : (x y : Bool) → y ≡ true → (x || y) ≡ true
-or_right true y e = refl
-or_right false y e = e
-
-pub letter_is_word : (b : ℕ) → is_letter b ≡ true → is_word b ≡ true
-letter_is_word b e = or_left (is_letter b) (is_digit b) e
+pub letter_is_name_byte : (b : ℕ) → is_letter b ≡ true → is_name_byte b ≡ true
+letter_is_name_byte b e = or_left (is_letter b) (is_digit b) e
 
 pub digit_goes_on : (b : ℕ) → is_digit b ≡ true → is_number_byte b ≡ true
-digit_goes_on b e = or_left (is_word b) (eqb b 46) (or_right (is_letter b) (is_digit b) e)
+digit_goes_on b e = or_left (is_name_byte b) (eqb b 46) (or_right (is_letter b) (is_digit b) e)
 
 -- ---- what a first byte begins
 
 unfoldable pub start_by : (line blank letter digit quote double hash slash : Bool) → Start
 start_by line blank letter digit quote double hash slash =
-    cond line start.LineEnd (cond blank start.Blank (cond letter start.Letter (cond digit start.Digit (cond quote start.Quote (cond double start.DoubleQuote (cond hash start.Hash (cond slash start.Slash start.Other)))))))
+    cond line start.LineEnd (cond blank start.Blank (cond letter start.Letter (cond digit start.Digit (cond quote start.Quote (cond double start.DoubleQuote (cond hash start.Hash
+    (cond slash start.Slash start.Other)))))))
 
 letter_by : (line blank letter digit quote double hash slash : Bool) → start_by line blank letter digit quote double hash slash ≡ start.Letter → letter ≡ true
 unfolding start_by
@@ -133,65 +124,67 @@ pub start_digit : (b : ℕ) → start_of b ≡ start.Digit → is_digit b ≡ tr
 unfolding start_of start_by
 start_digit b e = digit_by (is_line_end b) (is_inner_blank b) (is_letter b) (is_digit b) (eqb b 39) (eqb b 34) (eqb b 35) (eqb b 47) e
 
--- ---- items
+-- ---- lexemes
 
--- an item takes at least one byte, and no more than there are
-abbrev pub IsFitting : Item → List ℕ → Type 0
-IsFitting i text = (0 < item_len i) × (item_len i ≤ length text)
+-- a lexeme takes at least one byte, and no more than there are
+abbrev pub IsFitting : Lexeme → List ℕ → Type 0
+IsFitting i text = (0 < lexeme_len i) × (lexeme_len i ≤ length text)
 
-abbrev pub found : Item → Result Item LexFault
+abbrev pub found : Lexeme → Result Lexeme LexFault
 found i = Ok i
 
-fits_ok : (i j : Item) (text : List ℕ) → IsFitting i text → found i ≡ found j → IsFitting j text
-fits_ok i j text h e = let same : i ≡ j = cc in subst (λ (k : Item). IsFitting k text) same h
+fits_ok : (i j : Lexeme) (text : List ℕ) → IsFitting i text → found i ≡ found j → IsFitting j text
+fits_ok i j text h e = let same : i ≡ j = cc in subst (λ (k : Lexeme). IsFitting k text) same h
 
-word_fits : (at b : ℕ) (bs : List ℕ) (i : Item) → is_letter b ≡ true → word_at at (b ∷ bs) ≡ Ok i → IsFitting i (b ∷ bs)
-unfolding word_at
-word_fits at b bs i letter e =
+identifier_fits : (at b : ℕ) (bs : List ℕ) (i : Lexeme) → is_letter b ≡ true → identifier_at at (b ∷ bs) ≡ Ok i → IsFitting i (b ∷ bs)
+unfolding identifier_at
+identifier_fits at b bs i letter e =
     let text = b ∷ bs in
-    let n = prefix_len is_word text in
-    let some : 0 < n = run_some is_word b bs (letter_is_word b letter) in
-    let k = word_kind_of (take n text) (keyword_of (take n text)) in
-    elim (chosen (ltb 63 n) (Err (fault.LongName at)) (Ok (Piece k n)) (Ok i) e) [
+    let n = prefix_len is_name_byte text in
+    let some : 0 < n = run_some is_name_byte b bs (letter_is_name_byte b letter) in
+    let k = identifier_kind_of (take n text) (keyword_of (take n text)) in
+    elim (chosen (ltb most_name_bytes n) (Err (fault.LongName at)) (Ok (lexeme.Token k n)) (Ok i) e) [
       | inl (_, f) ↦ absurd cc
-      | inr (_, f) ↦ fits_ok (Piece k n) i text (some, prefix_len-le-length is_word text) f
+      | inr (_, f) ↦ fits_ok (lexeme.Token k n) i text (some, prefix_len-le-length is_name_byte text) f
     ]
 
-number_fits : (at b : ℕ) (bs : List ℕ) (i : Item) → is_digit b ≡ true → number_at at (b ∷ bs) ≡ Ok i → IsFitting i (b ∷ bs)
+number_fits : (at b : ℕ) (bs : List ℕ) (i : Lexeme) → is_digit b ≡ true → number_at at (b ∷ bs) ≡ Ok i → IsFitting i (b ∷ bs)
 unfolding number_at
 number_fits at b bs i digit e =
     let text = b ∷ bs in
     let n = prefix_len is_number_byte text in
     let some : 0 < n = run_some is_number_byte b bs (digit_goes_on b digit) in
-    let k = bind_ok (constant_at at (take n text)) (λ k. Ok (Piece k n)) i e in
-    fits_ok (Piece k.0 n) i text (some, prefix_len-le-length is_number_byte text) k.2
+    let k = bind_ok (constant_at at (take n text)) (λ k. Ok (lexeme.Token k n)) i e in
+    fits_ok (lexeme.Token k.0 n) i text (some, prefix_len-le-length is_number_byte text) k.2
 
-char_fits : (at b : ℕ) (bs : List ℕ) (i : Item) → char_at at bs ≡ Ok i → IsFitting i (b ∷ bs)
+char_fits : (at b : ℕ) (bs : List ℕ) (i : Lexeme) → char_at at bs ≡ Ok i → IsFitting i (b ∷ bs)
 unfolding char_at
 char_fits at b bs i e =
-    let closed = bind_ok (ok_or (closing_from 39 false 0 bs) (fault.OpenText at)) (λ n. ok_or (option_and_then only (characters 0 (take n bs))) (fault.BadText at) >>= λ c. Ok (Piece (kind.Char c) (n + 2))) i e in
+    let closed =
+    bind_ok (ok_or (closing_from 39 false 0 bs) (fault.OpenText at)) (λ n. ok_or (option_and_then only (characters 0 (take n bs))) (fault.BadText at) >>= λ c. Ok (lexeme.Token (kind.Char c)
+    (n + 2))) i e in
     let n = closed.0 in
     let within = closing_within 39 false 0 bs n (ok_or_ok (closing_from 39 false 0 bs) (fault.OpenText at) n closed.1) in
-    let made = bind_ok (ok_or (option_and_then only (characters 0 (take n bs))) (fault.BadText at)) (λ c. Ok (Piece (kind.Char c) (n + 2))) i closed.2 in
-    fits_ok (Piece (kind.Char made.0) (n + 2)) i (b ∷ bs) (omega arith, omega arith) made.2
+    let made = bind_ok (ok_or (option_and_then only (characters 0 (take n bs))) (fault.BadText at)) (λ c. Ok (lexeme.Token (kind.Char c) (n + 2))) i closed.2 in
+    fits_ok (lexeme.Token (kind.Char made.0) (n + 2)) i (b ∷ bs) (omega arith, omega arith) made.2
 
-text_fits : (at b : ℕ) (bs : List ℕ) (i : Item) → text_at at bs ≡ Ok i → IsFitting i (b ∷ bs)
-unfolding text_at
-text_fits at b bs i e =
-    let closed = bind_ok (ok_or (closing_from 34 false 0 bs) (fault.OpenText at)) (λ n. ok_or (characters 0 (take n bs)) (fault.BadText at) >>= λ c. Ok (Piece (kind.Text c) (n + 2))) i e in
+string_fits : (at b : ℕ) (bs : List ℕ) (i : Lexeme) → string_at at bs ≡ Ok i → IsFitting i (b ∷ bs)
+unfolding string_at
+string_fits at b bs i e =
+    let closed = bind_ok (ok_or (closing_from 34 false 0 bs) (fault.OpenText at)) (λ n. ok_or (characters 0 (take n bs)) (fault.BadText at) >>= λ c. Ok (lexeme.Token (kind.Text c) (n + 2))) i e in
     let n = closed.0 in
     let within = closing_within 34 false 0 bs n (ok_or_ok (closing_from 34 false 0 bs) (fault.OpenText at) n closed.1) in
-    let made = bind_ok (ok_or (characters 0 (take n bs)) (fault.BadText at)) (λ c. Ok (Piece (kind.Text c) (n + 2))) i closed.2 in
-    fits_ok (Piece (kind.Text made.0) (n + 2)) i (b ∷ bs) (omega arith, omega arith) made.2
+    let made = bind_ok (ok_or (characters 0 (take n bs)) (fault.BadText at)) (λ c. Ok (lexeme.Token (kind.Text c) (n + 2))) i closed.2 in
+    fits_ok (lexeme.Token (kind.Text made.0) (n + 2)) i (b ∷ bs) (omega arith, omega arith) made.2
 
-comment_fits : (at : ℕ) (text : List ℕ) (i : Item) → 2 ≤ length text → comment_at at (drop 2 text) ≡ Ok i → IsFitting i text
+comment_fits : (at : ℕ) (text : List ℕ) (i : Lexeme) → 2 ≤ length text → comment_at at (drop 2 text) ≡ Ok i → IsFitting i text
 unfolding comment_at
 comment_fits at text i long e =
-    let closed = bind_ok (ok_or (comment_end 0 (drop 2 text)) (fault.OpenComment at)) (λ n. Ok (Gap (n + 2))) i e in
+    let closed = bind_ok (ok_or (comment_end 0 (drop 2 text)) (fault.OpenComment at)) (λ n. Ok (lexeme.Trivia (n + 2))) i e in
     let n = closed.0 in
     let within = comment_within 0 (drop 2 text) n (ok_or_ok (comment_end 0 (drop 2 text)) (fault.OpenComment at) n closed.1) in
     let size = length-drop 2 text in
-    fits_ok (Gap (n + 2)) i text (omega arith, omega arith) closed.2
+    fits_ok (lexeme.Trivia (n + 2)) i text (omega arith, omega arith) closed.2
 
 pub punct_some : (p : Punct) → 0 < length (punct_spelling p)
 punct_some mark.LParen = lit< tt
@@ -240,7 +233,7 @@ punct_some mark.AmpEqual = lit< tt
 punct_some mark.CaretEqual = lit< tt
 punct_some mark.PipeEqual = lit< tt
 
-find_passes : {X : Type 0} (p : X → Bool) (xs : List X) (x : X) → find p xs ≡ Some x → p x ≡ true
+pub find_passes : {X : Type 0} (p : X → Bool) (xs : List X) (x : X) → find p xs ≡ Some x → p x ≡ true
 find_passes p [] x e = absurd cc
 find_passes p (y ∷ ys) x e =
     elim (chosen (p y) (Some y) (find p ys) (Some x) e) [
@@ -248,43 +241,44 @@ find_passes p (y ∷ ys) x e =
       | inr (_, f) ↦ find_passes p ys x f
     ]
 
-punct_fits : (at : ℕ) (text : List ℕ) (i : Item) → punct_item at (punct_at text) ≡ Ok i → IsFitting i text
+punct_fits : (at : ℕ) (text : List ℕ) (i : Lexeme) → punct_lexeme at (punct_at text) ≡ Ok i → IsFitting i text
 punct_fits at text i e = by_found (punct_at text) refl e
   where
-    by_found : (o : Option Punct) → punct_at text ≡ o → punct_item at o ≡ Ok i → IsFitting i text
+    by_found : (o : Option Punct) → punct_at text ≡ o → punct_lexeme at o ≡ Ok i → IsFitting i text
     by_found None is f = absurd cc
     by_found (Some p) is f =
         let begins = starts_long text (punct_spelling p) (find_passes (λ q. starts_with nat_eq text (punct_spelling q)) all_puncts p is) in
-        fits_ok (Piece (kind.Punct p) (length (punct_spelling p))) i text (punct_some p, begins) f
+        fits_ok (lexeme.Token (kind.Punct p) (length (punct_spelling p))) i text (punct_some p, begins) f
 
-slash_fits : (at : ℕ) (text : List ℕ) (i : Item) → slash_at at text ≡ Ok i → IsFitting i text
+slash_fits : (at : ℕ) (text : List ℕ) (i : Lexeme) → slash_at at text ≡ Ok i → IsFitting i text
 unfolding slash_at line_comment
 slash_fits at text i e =
-    elim (chosen (starts_with nat_eq text (codes "/*")) (comment_at at (drop 2 text)) (cond (starts_with nat_eq text (codes "//")) (Ok (line_comment (drop 2 text))) (punct_item at (punct_at text))) (Ok i) e) [
+    elim (chosen (starts_with nat_eq text (codes "/*")) (comment_at at (drop 2 text)) (cond (starts_with nat_eq text (codes "//")) (Ok (line_comment (drop 2 text))) (punct_lexeme at
+    (punct_at text))) (Ok i) e) [
       | inl (passes, f) ↦ comment_fits at text i (starts_long text (codes "/*") passes) f
-      | inr (_, f) ↦ elim (chosen (starts_with nat_eq text (codes "//")) (Ok (line_comment (drop 2 text))) (punct_item at (punct_at text)) (Ok i) f) [
+      | inr (_, f) ↦ elim (chosen (starts_with nat_eq text (codes "//")) (Ok (line_comment (drop 2 text))) (punct_lexeme at (punct_at text)) (Ok i) f) [
         | inl (passes, g) ↦
             let long = starts_long text (codes "//") passes in
             let n = position_or_len is_line_end (drop 2 text) in
             let within = prefix_len-le-length (λ b. not (is_line_end b)) (drop 2 text) in
             let size = length-drop 2 text in
-            fits_ok (Gap (n + 2)) i text (omega arith, omega arith) g
+            fits_ok (lexeme.Trivia (n + 2)) i text (omega arith, omega arith) g
         | inr (_, g) ↦ punct_fits at text i g
       ]
     ]
 
-item_fits_of : (s : Start) (at b : ℕ) (bs : List ℕ) (i : Item) → start_of b ≡ s → item_of s at (b ∷ bs) ≡ Ok i → IsFitting i (b ∷ bs)
-unfolding item_of
-item_fits_of start.LineEnd at b bs i is e = fits_ok (Gap (include_len bs + 1)) i (b ∷ bs) (omega arith, omega (arith, include_within bs)) e
-item_fits_of start.Blank at b bs i is e = fits_ok (Gap 1) i (b ∷ bs) (omega arith, omega arith) e
-item_fits_of start.Letter at b bs i is e = word_fits at b bs i (start_letter b is) e
-item_fits_of start.Digit at b bs i is e = number_fits at b bs i (start_digit b is) e
-item_fits_of start.Quote at b bs i is e = char_fits at b bs i e
-item_fits_of start.DoubleQuote at b bs i is e = text_fits at b bs i e
-item_fits_of start.Hash at b bs i is e = absurd cc
-item_fits_of start.Slash at b bs i is e = slash_fits at (b ∷ bs) i e
-item_fits_of start.Other at b bs i is e = punct_fits at (b ∷ bs) i e
+lexeme_fits_of : (s : Start) (at b : ℕ) (bs : List ℕ) (i : Lexeme) → start_of b ≡ s → lexeme_of s at (b ∷ bs) ≡ Ok i → IsFitting i (b ∷ bs)
+unfolding lexeme_of
+lexeme_fits_of start.LineEnd at b bs i is e = fits_ok (lexeme.Trivia (include_len bs + 1)) i (b ∷ bs) (omega arith, omega (arith, include_within bs)) e
+lexeme_fits_of start.Blank at b bs i is e = fits_ok (lexeme.Trivia 1) i (b ∷ bs) (omega arith, omega arith) e
+lexeme_fits_of start.Letter at b bs i is e = identifier_fits at b bs i (start_letter b is) e
+lexeme_fits_of start.Digit at b bs i is e = number_fits at b bs i (start_digit b is) e
+lexeme_fits_of start.Quote at b bs i is e = char_fits at b bs i e
+lexeme_fits_of start.DoubleQuote at b bs i is e = string_fits at b bs i e
+lexeme_fits_of start.Hash at b bs i is e = absurd cc
+lexeme_fits_of start.Slash at b bs i is e = slash_fits at (b ∷ bs) i e
+lexeme_fits_of start.Other at b bs i is e = punct_fits at (b ∷ bs) i e
 
-pub item_fits : (at : ℕ) (text : List ℕ) (i : Item) → 0 < length text → item_at at text ≡ Ok i → IsFitting i text
-item_fits at [] i some e = absurd (omega arith)
-item_fits at (b ∷ bs) i some e = item_fits_of (start_of b) at b bs i refl e
+pub lexeme_fits : (at : ℕ) (text : List ℕ) (i : Lexeme) → 0 < length text → lexeme_at at text ≡ Ok i → IsFitting i text
+lexeme_fits at [] i some e = absurd (omega arith)
+lexeme_fits at (b ∷ bs) i some e = lexeme_fits_of (start_of b) at b bs i refl e

@@ -1,15 +1,18 @@
-pub mod RunLemmas
-pub mod Scans
-pub mod Characters
-pub mod Lengths
-pub mod Driver
-pub mod Tables
-pub mod Sorts
-pub mod Munch
-pub mod GapLaws
-pub mod Whole
-pub mod Reading
-pub mod Again
-pub mod FaultLaws
-pub mod Complete
-pub mod Converse
+mod RunLemmas
+mod Scans
+mod Characters
+mod Lengths
+mod Driver
+mod Tables
+mod Sorts
+mod Munch
+mod TriviaLaws
+mod Reading
+mod Complete
+mod Lines
+mod Covered
+mod FaultLaws
+mod Whole
+mod Again
+mod FaultFound
+mod Converse

@@ -6,22 +6,23 @@ use Rattle.std.proofs.lemmas.Bool.{le-ltb}
 use Rattle.std.proofs.lemmas.Bool.Decides.{nat_tests}
 use Rattle.std.proofs.lemmas.List.{take_at, drop_at, length-append, append-nil}
 use Rattle.std.proofs.lemmas.List.Sums.{fold_push}
+use Rattle.limits.specs.Limits.{most_name_bytes}
 use Rattle.c_lex.specs.Results.{◌>>=◌}
-use Rattle.c_lex.specs.Classes.{is_letter, is_digit, is_word, is_number_byte, is_line_end, is_inner_blank}
+use Rattle.c_lex.specs.Classes.{is_letter, is_digit, is_name_byte, is_number_byte, is_line_end, is_inner_blank}
 use Rattle.c_lex.specs.Digits.{is_digit_in, digit_value, digits_value}
 use Rattle.c_lex.specs.Keywords.{keyword_of}
 use Rattle.c_lex.specs.Numbers.{number_at, constant_at, digits_at, typed, suffix}
-use Rattle.c_lex.specs.Texts.{closing_from, characters, character_at, escape_at, simple_escape, with_first, only, char_at, text_at}
-use Rattle.c_lex.specs.Items.{item_at, item_of, start_of, word_at, word_kind_of, slash_at}
-use Rattle.c_lex.specs.Grammar.{IsWord}
+use Rattle.c_lex.specs.Quoted.{closing_from, characters, character_at, escape_at, simple_escape, with_first, only, char_at, string_at}
+use Rattle.c_lex.specs.Lexemes.{lexeme_at, lexeme_of, start_of, identifier_at, identifier_kind_of, slash_at}
+use Rattle.c_lex.specs.Grammar.{IsIdentifier}
 use Rattle.c_lex.specs.Written.{octal, is_escaped, escapes, quoted, written}
 use Rattle.c_lex.specs.declared.fault.LexFault.{LexFault}
 use Rattle.c_lex.specs.declared.fault.LexFault.TheVariants as fault
-use Rattle.c_lex.specs.declared.item.Item.{Item}
-use Rattle.c_lex.specs.declared.item.Item.TheVariants.{Piece}
-use Rattle.c_lex.specs.declared.item.Start.TheVariants as start
+use Rattle.c_lex.specs.declared.lexeme.Lexeme.{Lexeme}
+use Rattle.c_lex.specs.declared.lexeme.Lexeme.TheVariants as lexeme
+use Rattle.c_lex.specs.declared.lexeme.Start.TheVariants as start
 use Rattle.c_lex.specs.declared.keyword.Keyword.{Keyword}
-use Rattle.c_lex.specs.declared.keyword.Keyword.TheVariants as word
+use Rattle.c_lex.specs.declared.keyword.Keyword.TheVariants as keyword
 use Rattle.c_lex.specs.declared.punct.Punct.{Punct}
 use Rattle.c_lex.specs.declared.punct.Punct.TheVariants as mark
 use Rattle.c_lex.specs.declared.token.TokenKind.{TokenKind}
@@ -30,65 +31,65 @@ use Rattle.c_lex.proofs.Lengths.{digit_goes_on}
 
 -- what the tokens of a source are
 abbrev pub IsProper : TokenKind → Type 0
-IsProper (kind.Name name) = IsWord name × (length name ≤ 63) × (keyword_of name ≡ None)
+IsProper (kind.Name name) = IsIdentifier name × (length name ≤ most_name_bytes) × (keyword_of name ≡ None)
 IsProper (kind.Number value unsigned) = (value ≤ 4294967295) × (unsigned ≡ false → value ≤ 2147483647)
 IsProper _ = Unit {0}
 
--- what is written for a token is read so, whatever follows the space behind it
+-- what is written for a token is read so, whatever follows the space after it
 abbrev pub IsRead : TokenKind → Type 0
-IsRead k = (at : ℕ) (more : List ℕ) → item_at at (written k ++ 32 ∷ more) ≡ Ok (Piece k (length (written k)))
+IsRead k = (at : ℕ) (more : List ℕ) → lexeme_at at (written k ++ 32 ∷ more) ≡ Ok (lexeme.Token k (length (written k)))
 
 -- ---- keywords and punctuators
 
 keyword_read : (k : Keyword) → IsRead (kind.Keyword k)
-unfolding item_of start_of word_at
-keyword_read word.Break at more = refl
-keyword_read word.Case at more = refl
-keyword_read word.Char at more = refl
-keyword_read word.Const at more = refl
-keyword_read word.Continue at more = refl
-keyword_read word.Default at more = refl
-keyword_read word.Do at more = refl
-keyword_read word.Else at more = refl
-keyword_read word.For at more = refl
-keyword_read word.If at more = refl
-keyword_read word.Int at more = refl
-keyword_read word.Return at more = refl
-keyword_read word.Short at more = refl
-keyword_read word.Signed at more = refl
-keyword_read word.Sizeof at more = refl
-keyword_read word.Static at more = refl
-keyword_read word.Struct at more = refl
-keyword_read word.Switch at more = refl
-keyword_read word.Unsigned at more = refl
-keyword_read word.Void at more = refl
-keyword_read word.While at more = refl
-keyword_read word.Auto at more = refl
-keyword_read word.Double at more = refl
-keyword_read word.Enum at more = refl
-keyword_read word.Extern at more = refl
-keyword_read word.Float at more = refl
-keyword_read word.Goto at more = refl
-keyword_read word.Inline at more = refl
-keyword_read word.Long at more = refl
-keyword_read word.Register at more = refl
-keyword_read word.Restrict at more = refl
-keyword_read word.Typedef at more = refl
-keyword_read word.Union at more = refl
-keyword_read word.Volatile at more = refl
-keyword_read word.Alignas at more = refl
-keyword_read word.Alignof at more = refl
-keyword_read word.Atomic at more = refl
-keyword_read word.Bool at more = refl
-keyword_read word.Complex at more = refl
-keyword_read word.Generic at more = refl
-keyword_read word.Imaginary at more = refl
-keyword_read word.Noreturn at more = refl
-keyword_read word.StaticAssert at more = refl
-keyword_read word.ThreadLocal at more = refl
+unfolding lexeme_of start_of identifier_at
+keyword_read keyword.Break at more = refl
+keyword_read keyword.Case at more = refl
+keyword_read keyword.Char at more = refl
+keyword_read keyword.Const at more = refl
+keyword_read keyword.Continue at more = refl
+keyword_read keyword.Default at more = refl
+keyword_read keyword.Do at more = refl
+keyword_read keyword.Else at more = refl
+keyword_read keyword.For at more = refl
+keyword_read keyword.If at more = refl
+keyword_read keyword.Int at more = refl
+keyword_read keyword.Return at more = refl
+keyword_read keyword.Short at more = refl
+keyword_read keyword.Signed at more = refl
+keyword_read keyword.Sizeof at more = refl
+keyword_read keyword.Static at more = refl
+keyword_read keyword.Struct at more = refl
+keyword_read keyword.Switch at more = refl
+keyword_read keyword.Unsigned at more = refl
+keyword_read keyword.Void at more = refl
+keyword_read keyword.While at more = refl
+keyword_read keyword.Auto at more = refl
+keyword_read keyword.Double at more = refl
+keyword_read keyword.Enum at more = refl
+keyword_read keyword.Extern at more = refl
+keyword_read keyword.Float at more = refl
+keyword_read keyword.Goto at more = refl
+keyword_read keyword.Inline at more = refl
+keyword_read keyword.Long at more = refl
+keyword_read keyword.Register at more = refl
+keyword_read keyword.Restrict at more = refl
+keyword_read keyword.Typedef at more = refl
+keyword_read keyword.Union at more = refl
+keyword_read keyword.Volatile at more = refl
+keyword_read keyword.Alignas at more = refl
+keyword_read keyword.Alignof at more = refl
+keyword_read keyword.Atomic at more = refl
+keyword_read keyword.Bool at more = refl
+keyword_read keyword.Complex at more = refl
+keyword_read keyword.Generic at more = refl
+keyword_read keyword.Imaginary at more = refl
+keyword_read keyword.Noreturn at more = refl
+keyword_read keyword.StaticAssert at more = refl
+keyword_read keyword.ThreadLocal at more = refl
 
 punct_read : (p : Punct) → IsRead (kind.Punct p)
-unfolding item_of start_of slash_at
+unfolding lexeme_of start_of slash_at
 punct_read mark.LParen at more = refl
 punct_read mark.RParen at more = refl
 punct_read mark.LBracket at more = refl
@@ -154,27 +155,27 @@ letter_starts b e =
     let blank : is_inner_blank b ≡ false = grind (arith, nat_tests) in
     rw (line, blank, e) refl
 
-pub word_all : (b : ℕ) (bs : List ℕ) → IsWord (b ∷ bs) → list_all is_word (b ∷ bs) ≡ true
-word_all b bs h = let first : is_word b ≡ true = or_left (is_letter b) (is_digit b) h.0 in ap (λ t. t && list_all is_word bs) first ∙ h.1
+pub identifier_all : (b : ℕ) (bs : List ℕ) → IsIdentifier (b ∷ bs) → list_all is_name_byte (b ∷ bs) ≡ true
+identifier_all b bs h = let first : is_name_byte b ≡ true = or_left (is_letter b) (is_digit b) h.0 in ap (λ t. t && list_all is_name_byte bs) first ∙ h.1
   where
     or_left : (x y : Bool) → x ≡ true → (x || y) ≡ true
     or_left true y e = refl
     or_left false y e = absurd cc
 
 name_read : (name : List ℕ) → IsProper (kind.Name name) → IsRead (kind.Name name)
-unfolding item_of word_at
+unfolding lexeme_of identifier_at
 name_read [] h at more = absurd h.0
 name_read (b ∷ bs) h at more =
     let name = b ∷ bs in
     let text = name ++ 32 ∷ more in
-    let len : prefix_len is_word text ≡ length name = run_before is_word name 32 more (word_all b bs h.0) refl in
+    let len : prefix_len is_name_byte text ≡ length name = run_before is_name_byte name 32 more (identifier_all b bs h.0) refl in
     let front : take (length name) text ≡ name = take_at name (32 ∷ more) (length name) refl in
-    let short : ltb 63 (length name) ≡ false = le-ltb 63 (length name) h.1 in
-    ap (λ s. item_of s at text) (letter_starts b h.0.0)
-    ∙ ap (λ n. cond (ltb 63 n) (Err (fault.LongName at)) (Ok (Piece (word_kind_of (take n text) (keyword_of (take n text))) n))) len
-    ∙ ap (λ t. cond t (Err (fault.LongName at)) (Ok (Piece (word_kind_of (take (length name) text) (keyword_of (take (length name) text))) (length name)))) short
-    ∙ ap (λ (t : List ℕ). Ok (Piece (word_kind_of t (keyword_of t)) (length name))) front
-    ∙ ap (λ o. Ok (Piece (word_kind_of name o) (length name))) h.2
+    let short : ltb most_name_bytes (length name) ≡ false = le-ltb most_name_bytes (length name) h.1 in
+    ap (λ s. lexeme_of s at text) (letter_starts b h.0.0)
+    ∙ ap (λ n. cond (ltb most_name_bytes n) (Err (fault.LongName at)) (Ok (lexeme.Token (identifier_kind_of (take n text) (keyword_of (take n text))) n))) len
+    ∙ ap (λ t. cond t (Err (fault.LongName at)) (Ok (lexeme.Token (identifier_kind_of (take (length name) text) (keyword_of (take (length name) text))) (length name)))) short
+    ∙ ap (λ (t : List ℕ). Ok (lexeme.Token (identifier_kind_of t (keyword_of t)) (length name))) front
+    ∙ ap (λ o. Ok (lexeme.Token (identifier_kind_of name o) (length name))) h.2
 
 -- ---- numbers
 
@@ -224,13 +225,10 @@ octal_value (suc n) value h =
     let last = value_of (value % 8) (omega arith) in
     fold_push (λ v d. v * 8 + digit_value d) 0 (octal n (value / 8)) (value % 8 + 48) ∙ ap (λ v. v * 8 + digit_value (value % 8 + 48)) front ∙ ap (λ d. value / 8 * 8 + d) last ∙ omega arith
 
-byte_of : (b : ℕ) → is_digit b ≡ true → is_number_byte b ≡ true
-byte_of b h = digit_goes_on b h
-
 octal_bytes : (n value : ℕ) → list_all is_number_byte (octal n value) ≡ true
 octal_bytes zero value = refl
 octal_bytes (suc n) value =
-    all_append is_number_byte (octal n (value / 8)) ((value % 8 + 48) ∷ []) (octal_bytes n (value / 8)) (ap (λ t. t && true) (byte_of (value % 8 + 48) (digit_of (value % 8) (omega arith))))
+    all_append is_number_byte (octal n (value / 8)) ((value % 8 + 48) ∷ []) (octal_bytes n (value / 8)) (ap (λ t. t && true) (digit_goes_on (value % 8 + 48) (digit_of (value % 8) (omega arith))))
 
 pub run_whole : (p : ℕ → Bool) (xs : List ℕ) → list_all p xs ≡ true → prefix_len p xs ≡ length xs
 run_whole p [] all = refl
@@ -263,7 +261,8 @@ digits_len : (ds : List ℕ) (unsigned : Bool) → list_all (is_digit_in 8) ds �
 digits_len ds true all = run_before (is_digit_in 8) ds 117 [] all refl
 digits_len ds false all = ap (prefix_len (is_digit_in 8)) (append-nil ds) ∙ run_whole (is_digit_in 8) ds all
 
-digits_read : (at value : ℕ) (unsigned : Bool) (ds : List ℕ) → list_all (is_digit_in 8) ds ≡ true → eqb (length ds) 0 ≡ false → digits_value 8 ds ≡ value → IsProper (kind.Number value unsigned) → digits_at 8 at (ds ++ suffix_of unsigned) ≡ Ok (kind.Number value unsigned)
+digits_read : (at value : ℕ) (unsigned : Bool) (ds : List ℕ) → list_all (is_digit_in 8) ds ≡ true → eqb (length ds) 0 ≡ false → digits_value 8 ds ≡ value → IsProper (kind.Number value unsigned) →
+    digits_at 8 at (ds ++ suffix_of unsigned) ≡ Ok (kind.Number value unsigned)
 unfolding digits_at
 digits_read at value unsigned ds all some is h =
     let run = ds ++ suffix_of unsigned in
@@ -286,7 +285,7 @@ suffix_bytes true = refl
 suffix_bytes false = refl
 
 number_read : (value : ℕ) (unsigned : Bool) → IsProper (kind.Number value unsigned) → IsRead (kind.Number value unsigned)
-unfolding item_of start_of number_at
+unfolding lexeme_of start_of number_at
 number_read value unsigned h at more =
     let ds : List ℕ = 48 ∷ 48 ∷ octal 11 value in
     let run : List ℕ = ds ++ suffix_of unsigned in
@@ -297,14 +296,14 @@ number_read value unsigned h at more =
     let below : value < limit 11 = by_bound h.0 in
     let is : digits_value 8 ds ≡ value = octal_value 11 value below in
     let some : eqb (length ds) 0 ≡ false = refl in
-    ap (λ n. constant_at at (take n text) >>= λ k. Ok (Piece k n)) len
-    ∙ ap (λ (t : List ℕ). constant_at at t >>= λ k. Ok (Piece k (length run))) front
-    ∙ ap (λ r. r >>= λ k. Ok (Piece k (length run))) (constant_read at (octal 11 value ++ suffix_of unsigned) ∙ digits_read at value unsigned ds (octal_all 11 value) some is h)
+    ap (λ n. constant_at at (take n text) >>= λ k. Ok (lexeme.Token k n)) len
+    ∙ ap (λ (t : List ℕ). constant_at at t >>= λ k. Ok (lexeme.Token k (length run))) front
+    ∙ ap (λ r. r >>= λ k. Ok (lexeme.Token k (length run))) (constant_read at (octal 11 value ++ suffix_of unsigned) ∙ digits_read at value unsigned ds (octal_all 11 value) some is h)
   where
     by_bound : value ≤ 4294967295 → value < limit 11
     by_bound le = omega arith
 
--- ---- texts
+-- ---- characters and string literals
 
 is_escaped_quote : (c quote : ℕ) → is_escaped quote ≡ true → is_escaped c ≡ false → eqb c quote ≡ false
 is_escaped_quote c quote q e = grind (arith, nat_tests)
@@ -316,23 +315,30 @@ plain_slash c e = grind (arith, nat_tests)
 abbrev first_escape : Bool → Bool → ℕ → List ℕ → List ℕ
 first_escape line special c rest = cond line (92 ∷ 110 ∷ rest) (cond special (92 ∷ c ∷ rest) (c ∷ rest))
 
-closing_first : (quote at c : ℕ) (rest more : List ℕ) (line special : Bool) → eqb 92 quote ≡ false → is_escaped quote ≡ true → eqb c 10 ≡ line → is_escaped c ≡ special → ((i : ℕ) → closing_from quote false i (rest ++ quote ∷ more) ≡ Some (i + length rest)) → closing_from quote false at (first_escape line special c rest ++ quote ∷ more) ≡ Some (at + length (first_escape line special c rest))
+closing_first : (quote at c : ℕ) (rest more : List ℕ) (line special : Bool) → eqb 92 quote ≡ false → is_escaped quote ≡ true → eqb c 10 ≡ line → is_escaped c ≡ special → ((i : ℕ) →
+    closing_from quote false i (rest ++ quote ∷ more) ≡ Some (i + length rest)) →
+    closing_from quote false at (first_escape line special c rest ++ quote ∷ more) ≡ Some (at + length (first_escape line special c rest))
 closing_first quote at c rest more true special slash known is sp ih =
     let size : at + 1 + 1 + length rest ≡ at + length (92 ∷ 110 ∷ rest) = omega arith in
     ap (λ t. cond t (Some at) (closing_from quote true (at + 1) (110 ∷ (rest ++ quote ∷ more)))) slash ∙ ih (at + 1 + 1) ∙ ap Some size
 closing_first quote at c rest more false true slash known is sp ih =
     let size : at + 1 + 1 + length rest ≡ at + length (92 ∷ c ∷ rest) = omega arith in
-    ap (λ t. cond t (Some at) (closing_from quote true (at + 1) (c ∷ (rest ++ quote ∷ more)))) slash ∙ ap (λ t. cond t None (closing_from quote false (at + 1 + 1) (rest ++ quote ∷ more))) is ∙ ih (at + 1 + 1) ∙ ap Some size
+    ap (λ t. cond t (Some at) (closing_from quote true (at + 1) (c ∷ (rest ++ quote ∷ more)))) slash ∙ ap (λ t. cond t None (closing_from quote false (at + 1 + 1) (rest ++ quote ∷ more))) is
+    ∙ ih (at + 1 + 1) ∙ ap Some size
 closing_first quote at c rest more false false slash known is sp ih =
     let size : at + 1 + length rest ≡ at + length (c ∷ rest) = omega arith in
     let tail : List ℕ = rest ++ quote ∷ more in
-    ap (λ t. cond t None (cond (eqb c quote) (Some at) (closing_from quote (eqb c 92) (at + 1) tail))) is ∙ ap (λ t. cond t (Some at) (closing_from quote (eqb c 92) (at + 1) tail)) (is_escaped_quote c quote known sp) ∙ ap (λ t. closing_from quote t (at + 1) tail) (plain_slash c sp) ∙ ih (at + 1) ∙ ap Some size
+    ap (λ t. cond t None (cond (eqb c quote) (Some at) (closing_from quote (eqb c 92) (at + 1) tail))) is
+    ∙ ap (λ t. cond t (Some at) (closing_from quote (eqb c 92) (at + 1) tail)) (is_escaped_quote c quote known sp) ∙ ap (λ t. closing_from quote t (at + 1) tail) (plain_slash c sp)
+    ∙ ih (at + 1) ∙ ap Some size
 
-closing_escapes : (quote at : ℕ) (cs more : List ℕ) → eqb 92 quote ≡ false → is_escaped quote ≡ true → eqb quote 10 ≡ false → closing_from quote false at (escapes cs ++ quote ∷ more) ≡ Some (at + length (escapes cs))
+closing_escapes : (quote at : ℕ) (cs more : List ℕ) → eqb 92 quote ≡ false → is_escaped quote ≡ true → eqb quote 10 ≡ false →
+    closing_from quote false at (escapes cs ++ quote ∷ more) ≡ Some (at + length (escapes cs))
 closing_escapes quote at [] more slash known no_end =
     let same : eqb quote quote ≡ true = grind (arith, nat_tests) in
     let size : at ≡ at + 0 = omega arith in
-    ap (λ t. cond t None (cond (eqb quote quote) (Some at) (closing_from quote (eqb quote 92) (at + 1) more))) no_end ∙ ap (λ t. cond t (Some at) (closing_from quote (eqb quote 92) (at + 1) more)) same ∙ ap Some size
+    ap (λ t. cond t None (cond (eqb quote quote) (Some at) (closing_from quote (eqb quote 92) (at + 1) more))) no_end
+    ∙ ap (λ t. cond t (Some at) (closing_from quote (eqb quote 92) (at + 1) more)) same ∙ ap Some size
 closing_escapes quote at (c ∷ cs) more slash known no_end =
     closing_first quote at c (escapes cs) more (eqb c 10) (is_escaped c) slash known refl refl (λ i. closing_escapes quote i cs more slash known no_end)
 
@@ -361,7 +367,8 @@ plain_read : (c : ℕ) (rest : List ℕ) → is_escaped c ≡ false → characte
 unfolding character_at
 plain_read c rest e = rw (plain_slash c e) refl
 
-characters_first : (c : ℕ) (cs rest : List ℕ) (line special : Bool) → eqb c 10 ≡ line → is_escaped c ≡ special → characters 0 rest ≡ Some cs → characters 0 (first_escape line special c rest) ≡ Some (c ∷ cs)
+characters_first : (c : ℕ) (cs rest : List ℕ) (line special : Bool) → eqb c 10 ≡ line → is_escaped c ≡ special → characters 0 rest ≡ Some cs →
+    characters 0 (first_escape line special c rest) ≡ Some (c ∷ cs)
 characters_first c cs rest true special is sp ih =
     let same : 10 ≡ c = grind (arith, nat_tests) in
     ap (λ o. option_and_then (λ d. with_first d.0 (characters (d.1 - 1) (110 ∷ rest))) o) (line_read rest) ∙ ap (with_first 10) ih ∙ ap (λ x. Some (x ∷ cs)) same
@@ -374,45 +381,45 @@ characters_escapes : (cs : List ℕ) → characters 0 (escapes cs) ≡ Some cs
 characters_escapes [] = refl
 characters_escapes (c ∷ cs) = characters_first c cs (escapes cs) (eqb c 10) (is_escaped c) refl refl (characters_escapes cs)
 
--- the text behind the opening quote
-behind_quote : (quote : ℕ) (cs more : List ℕ) → (escapes cs ++ quote ∷ []) ++ 32 ∷ more ≡ escapes cs ++ quote ∷ 32 ∷ more
-behind_quote quote cs more = append_assoc (escapes cs) (quote ∷ []) (32 ∷ more)
+-- the text after the opening quote
+after_quote : (quote : ℕ) (cs more : List ℕ) → (escapes cs ++ quote ∷ []) ++ 32 ∷ more ≡ escapes cs ++ quote ∷ 32 ∷ more
+after_quote quote cs more = append_assoc (escapes cs) (quote ∷ []) (32 ∷ more)
 
 quoted_len : (quote : ℕ) (cs : List ℕ) → length (escapes cs) + 2 ≡ length (quoted quote cs)
 quoted_len quote cs = omega (arith, length-append (escapes cs) (quote ∷ []))
 
 char_read : (c : ℕ) → IsRead (kind.Char c)
-unfolding item_of start_of char_at
+unfolding lexeme_of start_of char_at
 char_read c at more =
     let inner = escapes (c ∷ []) in
     let text : List ℕ = inner ++ 39 ∷ 32 ∷ more in
     let closed : closing_from 39 false 0 text ≡ Some (length inner) = closing_escapes 39 0 (c ∷ []) (32 ∷ more) refl refl refl ∙ ap Some (zero-add (length inner)) in
     let front : take (length inner) text ≡ inner = take_at inner (39 ∷ 32 ∷ more) (length inner) refl in
-    let made : ℕ → Result Item LexFault = λ n. ok_or (option_and_then only (characters 0 (take n text))) (fault.BadText at) >>= λ d. Ok (Piece (kind.Char d) (n + 2)) in
-    ap (λ (t : List ℕ). char_at at t) (behind_quote 39 (c ∷ []) more)
+    let made : ℕ → Result Lexeme LexFault = λ n. ok_or (option_and_then only (characters 0 (take n text))) (fault.BadText at) >>= λ d. Ok (lexeme.Token (kind.Char d) (n + 2)) in
+    ap (λ (t : List ℕ). char_at at t) (after_quote 39 (c ∷ []) more)
     ∙ ap (λ o. ok_or o (fault.OpenText at) >>= made) closed
-    ∙ ap (λ (t : List ℕ). ok_or (option_and_then only (characters 0 t)) (fault.BadText at) >>= λ d. Ok (Piece (kind.Char d) (length inner + 2))) front
-    ∙ ap (λ o. ok_or (option_and_then only o) (fault.BadText at) >>= λ d. Ok (Piece (kind.Char d) (length inner + 2))) (characters_escapes (c ∷ []))
-    ∙ ap (λ n. Ok (Piece (kind.Char c) n)) (quoted_len 39 (c ∷ []))
+    ∙ ap (λ (t : List ℕ). ok_or (option_and_then only (characters 0 t)) (fault.BadText at) >>= λ d. Ok (lexeme.Token (kind.Char d) (length inner + 2))) front
+    ∙ ap (λ o. ok_or (option_and_then only o) (fault.BadText at) >>= λ d. Ok (lexeme.Token (kind.Char d) (length inner + 2))) (characters_escapes (c ∷ []))
+    ∙ ap (λ n. Ok (lexeme.Token (kind.Char c) n)) (quoted_len 39 (c ∷ []))
 
-text_read : (cs : List ℕ) → IsRead (kind.Text cs)
-unfolding item_of start_of text_at
-text_read cs at more =
+string_read : (cs : List ℕ) → IsRead (kind.Text cs)
+unfolding lexeme_of start_of string_at
+string_read cs at more =
     let inner = escapes cs in
     let text : List ℕ = inner ++ 34 ∷ 32 ∷ more in
     let closed : closing_from 34 false 0 text ≡ Some (length inner) = closing_escapes 34 0 cs (32 ∷ more) refl refl refl ∙ ap Some (zero-add (length inner)) in
     let front : take (length inner) text ≡ inner = take_at inner (34 ∷ 32 ∷ more) (length inner) refl in
-    let made : ℕ → Result Item LexFault = λ n. ok_or (characters 0 (take n text)) (fault.BadText at) >>= λ d. Ok (Piece (kind.Text d) (n + 2)) in
-    ap (λ (t : List ℕ). text_at at t) (behind_quote 34 cs more)
+    let made : ℕ → Result Lexeme LexFault = λ n. ok_or (characters 0 (take n text)) (fault.BadText at) >>= λ d. Ok (lexeme.Token (kind.Text d) (n + 2)) in
+    ap (λ (t : List ℕ). string_at at t) (after_quote 34 cs more)
     ∙ ap (λ o. ok_or o (fault.OpenText at) >>= made) closed
-    ∙ ap (λ (t : List ℕ). ok_or (characters 0 t) (fault.BadText at) >>= λ d. Ok (Piece (kind.Text d) (length inner + 2))) front
-    ∙ ap (λ o. ok_or o (fault.BadText at) >>= λ d. Ok (Piece (kind.Text d) (length inner + 2))) (characters_escapes cs)
-    ∙ ap (λ n. Ok (Piece (kind.Text cs) n)) (quoted_len 34 cs)
+    ∙ ap (λ (t : List ℕ). ok_or (characters 0 t) (fault.BadText at) >>= λ d. Ok (lexeme.Token (kind.Text d) (length inner + 2))) front
+    ∙ ap (λ o. ok_or o (fault.BadText at) >>= λ d. Ok (lexeme.Token (kind.Text d) (length inner + 2))) (characters_escapes cs)
+    ∙ ap (λ n. Ok (lexeme.Token (kind.Text cs) n)) (quoted_len 34 cs)
 
 pub kind_read : (k : TokenKind) → IsProper k → IsRead k
 kind_read (kind.Name name) h = name_read name h
 kind_read (kind.Keyword k) h = keyword_read k
 kind_read (kind.Number value unsigned) h = number_read value unsigned h
 kind_read (kind.Char c) h = char_read c
-kind_read (kind.Text cs) h = text_read cs
+kind_read (kind.Text cs) h = string_read cs
 kind_read (kind.Punct p) h = punct_read p

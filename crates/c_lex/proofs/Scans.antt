@@ -1,15 +1,17 @@
--- The steps of the loops that look for a place.
+-- The steps of the loops that look for an offset.
 use Rattle.std.proofs.Common.{◌≡◌, ℕ, ◌+◌, ◌-◌, ◌*◌, ◌^◌, ◌<◌, ◌≤◌, Bool, false, cond, eqb, List, [], ◌∷◌, length, drop, take, get_or, Some, None, codes, sym, ap, ◌∙◌, arith}
 use Rattle.std.specs.Prelude.{nat_eq, fold}
 use Rattle.std.specs.List.{starts_with}
 use Rattle.std.proofs.lemmas.List.{at_drop_more, at_drop_all, take_rest}
 use Rattle.c_lex.specs.Digits.{digit_value}
-use Rattle.c_lex.specs.Texts.{closing_from}
-use Rattle.c_lex.specs.Gaps.{comment_end}
+use Rattle.c_lex.specs.Quoted.{closing_from}
+use Rattle.c_lex.specs.Trivia.{comment_end}
 
 -- ---- the closing quote
 
-pub closing_step : (quote : ℕ) (taken : Bool) (i : ℕ) (text : List ℕ) → i < length text → closing_from quote taken i (drop i text) ≡ cond (eqb (get_or text i 0) 10) None (cond taken (closing_from quote false (i + 1) (drop (i + 1) text)) (cond (eqb (get_or text i 0) quote) (Some i) (closing_from quote (eqb (get_or text i 0) 92) (i + 1) (drop (i + 1) text))))
+pub closing_step : (quote : ℕ) (taken : Bool) (i : ℕ) (text : List ℕ) → i < length text →
+    closing_from quote taken i (drop i text) ≡ cond (eqb (get_or text i 0) 10) None (cond taken (closing_from quote false (i + 1) (drop (i + 1) text)) (cond (eqb (get_or text i 0) quote)
+    (Some i) (closing_from quote (eqb (get_or text i 0) 92) (i + 1) (drop (i + 1) text))))
 closing_step quote taken i text h = at_drop_more (closing_from quote taken i) text i 0 h
 
 pub closing_all : (quote : ℕ) (taken : Bool) (i : ℕ) (text : List ℕ) → length text ≤ i → closing_from quote taken i (drop i text) ≡ None
@@ -17,12 +19,15 @@ closing_all quote taken i text h = at_drop_all (closing_from quote taken i) text
 
 -- ---- the end of a comment
 
-pub comment_step : (i : ℕ) (text : List ℕ) → i < length text → comment_end i (drop i text) ≡ cond (starts_with nat_eq (drop i text) (codes "*/")) (Some (i + 2)) (comment_end (i + 1) (drop (i + 1) text))
+pub comment_step : (i : ℕ) (text : List ℕ) → i < length text →
+    comment_end i (drop i text) ≡ cond (starts_with nat_eq (drop i text) (codes "*/")) (Some (i + 2)) (comment_end (i + 1) (drop (i + 1) text))
 comment_step i text h =
-    at_drop_more (comment_end i) text i 0 h ∙ ap (λ (t : List ℕ). cond (starts_with nat_eq t (codes "*/")) (Some (i + 2)) (comment_end (i + 1) (drop (i + 1) text))) (sym (at_drop_more (λ t. t) text i 0 h))
+    at_drop_more (comment_end i) text i 0 h
+    ∙ ap (λ (t : List ℕ). cond (starts_with nat_eq t (codes "*/")) (Some (i + 2)) (comment_end (i + 1) (drop (i + 1) text))) (sym (at_drop_more (λ t. t) text i 0 h))
 
 -- no comment ends here, where the slice from `i` on is what was tested
-pub comment_goes : (i : ℕ) (text : List ℕ) (r : Bool) → r ≡ starts_with nat_eq (take (length text - i) (drop i text)) (codes "*/") → r ≡ false → i < length text → comment_end i (drop i text) ≡ comment_end (i + 1) (drop (i + 1) text)
+pub comment_goes : (i : ℕ) (text : List ℕ) (r : Bool) → r ≡ starts_with nat_eq (take (length text - i) (drop i text)) (codes "*/") → r ≡ false → i < length text →
+    comment_end i (drop i text) ≡ comment_end (i + 1) (drop (i + 1) text)
 comment_goes i text r is fails h =
     let tested : starts_with nat_eq (drop i text) (codes "*/") ≡ false = ap (λ (t : List ℕ). starts_with nat_eq t (codes "*/")) (sym (take_rest text i)) ∙ sym is ∙ fails in
     comment_step i text h ∙ ap (λ b. cond b (Some (i + 2)) (comment_end (i + 1) (drop (i + 1) text))) tested

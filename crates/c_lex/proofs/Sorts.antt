@@ -2,9 +2,10 @@
 use Rattle.std.proofs.Common.{◌≡◌, ℕ, zero, suc, ◌+◌, ◌-◌, ◌≤◌, Bool, true, false, cond, not, eqb, ◌&&◌, List, [], ◌∷◌, ◌++◌, length, take, Some, None, refl, sym, ap, ◌∙◌, arith, inl, inr}
 use Rattle.std.specs.List.{list_all, prefix_len}
 use Rattle.std.proofs.lemmas.Bool.Decides.{nat_tests}
+use Rattle.std.proofs.lemmas.Bool.{and_parts, eqb-true, eqb-false}
 use Rattle.c_lex.specs.Classes.{is_letter, is_digit}
-use Rattle.c_lex.specs.Texts.{closing_from}
-use Rattle.c_lex.specs.Grammar.{IsWord, IsNumber, IsClosed, IsPunctuator, IsToken}
+use Rattle.c_lex.specs.Quoted.{closing_from}
+use Rattle.c_lex.specs.Grammar.{IsIdentifier, IsNumber, IsClosed, IsPunctuator, IsToken}
 use Rattle.c_lex.proofs.Lengths.{chosen, closing_within}
 use Rattle.c_lex.proofs.Tables.{is_mark, punct_first}
 
@@ -50,12 +51,12 @@ digit_no_quote b m e = let f = ap is_digit (sym e) ∙ m in cc
 digit_no_double : (b : ℕ) → is_digit b ≡ true → b ≡ 34 → ⊥
 digit_no_double b m e = let f = ap is_digit (sym e) ∙ m in cc
 
-pub token_word : (b : ℕ) (bs : List ℕ) → is_letter b ≡ true → IsToken (b ∷ bs) → IsWord (b ∷ bs)
-token_word b bs l (inl w) = w
-token_word b bs l (inr (inl n)) = absurd (letter_not_digit b l n.0)
-token_word b bs l (inr (inr (inl q))) = absurd (letter_no_quote b l q.0)
-token_word b bs l (inr (inr (inr (inl q)))) = absurd (letter_no_double b l q.0)
-token_word b bs l (inr (inr (inr (inr p)))) = absurd (mark_no_letter b (punct_first p.0 b bs p.1) l)
+pub token_identifier : (b : ℕ) (bs : List ℕ) → is_letter b ≡ true → IsToken (b ∷ bs) → IsIdentifier (b ∷ bs)
+token_identifier b bs l (inl w) = w
+token_identifier b bs l (inr (inl n)) = absurd (letter_not_digit b l n.0)
+token_identifier b bs l (inr (inr (inl q))) = absurd (letter_no_quote b l q.0)
+token_identifier b bs l (inr (inr (inr (inl q)))) = absurd (letter_no_double b l q.0)
+token_identifier b bs l (inr (inr (inr (inr p)))) = absurd (mark_no_letter b (punct_first p.0 b bs p.1) l)
 
 pub token_number : (b : ℕ) (bs : List ℕ) → is_digit b ≡ true → IsToken (b ∷ bs) → IsNumber (b ∷ bs)
 token_number b bs d (inl w) = absurd (letter_not_digit b w.0 d)
@@ -99,56 +100,50 @@ pub run_all : (p : ℕ → Bool) (xs : List ℕ) → list_all p (take (prefix_le
 run_all p [] = refl
 run_all p (x ∷ xs) = run_all_by p x xs (p x) (run_all p xs) refl
 
-and_both : (x y : Bool) → (x && y) ≡ true → (x ≡ true) × (y ≡ true)
-and_both true y e = (refl, e)
-and_both false y e = absurd cc
-
 pub run_most : (p : ℕ → Bool) (xs : List ℕ) (m : ℕ) → m ≤ length xs → list_all p (take m xs) ≡ true → m ≤ prefix_len p xs
 run_most p xs zero h e = omega arith
 run_most p [] (suc m) h e = absurd (omega arith)
 run_most p (x ∷ xs) (suc m) h e =
-    let both = and_both (p x) (list_all p (take m xs)) e in
+    let both = and_parts (p x) (list_all p (take m xs)) e in
     let n : prefix_len p (x ∷ xs) ≡ 1 + prefix_len p xs = ap (λ t. cond t (1 + prefix_len p xs) 0) both.0 in
     omega (arith, run_most p xs m (omega arith) both.1)
 
 pub run_first : (p : ℕ → Bool) (b : ℕ) (bs : List ℕ) → p b ≡ true → prefix_len p (b ∷ bs) ≡ suc (prefix_len p bs)
 run_first p b bs e = ap (λ t. cond t (1 + prefix_len p bs) 0) e ∙ omega arith
 
--- ---- quoted texts
-
-is_not : (x y : ℕ) → eqb x y ≡ false → x ≡ y → ⊥
-is_not x y e h = grind (arith, nat_tests)
-
-is_same : (x y : ℕ) → eqb x y ≡ true → x ≡ y
-is_same x y e = grind (arith, nat_tests)
+-- ---- between quotes
 
 some_is : (a b : ℕ) → Some a ≡ Some b → a ≡ b
 some_is a b e = cc
 
-plain_closed : (quote at b c m : ℕ) (cs : List ℕ) → (b ≡ 10 → ⊥) → (b ≡ quote → ⊥) → (b ≡ 92 → ⊥) → ((k : ℕ) → closing_from quote false (at + 1) (c ∷ cs) ≡ Some (at + 1 + k) → IsClosed quote (take (suc k) (c ∷ cs))) → closing_from quote false (at + 1) (c ∷ cs) ≡ Some (at + m) → IsClosed quote (take (suc m) (b ∷ c ∷ cs))
+plain_closed : (quote at b c m : ℕ) (cs : List ℕ) → (b ≡ 10 → ⊥) → (b ≡ quote → ⊥) → (b ≡ 92 → ⊥) → ((k : ℕ) → closing_from quote false (at + 1) (c ∷ cs) ≡ Some (at + 1 + k) →
+    IsClosed quote (take (suc k) (c ∷ cs))) → closing_from quote false (at + 1) (c ∷ cs) ≡ Some (at + m) → IsClosed quote (take (suc m) (b ∷ c ∷ cs))
 plain_closed quote at b c zero cs no_end no_quote no_slash ih e =
     absurd (omega (arith, (closing_within quote false (at + 1) (c ∷ cs) (at + 0) e).0))
 plain_closed quote at b c (suc k) cs no_end no_quote no_slash ih e =
-    let place : at + suc k ≡ at + 1 + k = omega arith in
-    inl (no_end, no_quote, no_slash, ih k (e ∙ ap Some place))
+    let offset : at + suc k ≡ at + 1 + k = omega arith in
+    inl (no_end, no_quote, no_slash, ih k (e ∙ ap Some offset))
 
-escape_closed : (quote at b c m : ℕ) (cs : List ℕ) → b ≡ 92 → (c ≡ 10 → ⊥) → ((k : ℕ) → closing_from quote false (at + 1 + 1) cs ≡ Some (at + 1 + 1 + k) → IsClosed quote (take (suc k) cs)) → closing_from quote false (at + 1 + 1) cs ≡ Some (at + m) → IsClosed quote (take (suc m) (b ∷ c ∷ cs))
+escape_closed : (quote at b c m : ℕ) (cs : List ℕ) → b ≡ 92 → (c ≡ 10 → ⊥) → ((k : ℕ) → closing_from quote false (at + 1 + 1) cs ≡ Some (at + 1 + 1 + k) → IsClosed quote (take (suc k) cs)) →
+    closing_from quote false (at + 1 + 1) cs ≡ Some (at + m) → IsClosed quote (take (suc m) (b ∷ c ∷ cs))
 escape_closed quote at b c zero cs slash no_end ih e = absurd (omega (arith, (closing_within quote false (at + 1 + 1) cs (at + 0) e).0))
 escape_closed quote at b c (suc zero) cs slash no_end ih e = absurd (omega (arith, (closing_within quote false (at + 1 + 1) cs (at + 1) e).0))
 escape_closed quote at b c (suc (suc k)) cs slash no_end ih e =
-    let place : at + suc (suc k) ≡ at + 1 + 1 + k = omega arith in
-    inr (slash, no_end, ih k (e ∙ ap Some place))
+    let offset : at + suc (suc k) ≡ at + 1 + 1 + k = omega arith in
+    inr (slash, no_end, ih k (e ∙ ap Some offset))
 
-behind_closed : (quote at b c m : ℕ) (cs : List ℕ) (t : Bool) → eqb b 92 ≡ t → (b ≡ 10 → ⊥) → (b ≡ quote → ⊥) → ((k : ℕ) → closing_from quote false (at + 1) (c ∷ cs) ≡ Some (at + 1 + k) → IsClosed quote (take (suc k) (c ∷ cs))) → ((k : ℕ) → closing_from quote false (at + 1 + 1) cs ≡ Some (at + 1 + 1 + k) → IsClosed quote (take (suc k) cs)) → closing_from quote t (at + 1) (c ∷ cs) ≡ Some (at + m) → IsClosed quote (take (suc m) (b ∷ c ∷ cs))
-behind_closed quote at b c m cs false is no_end no_quote plain escaped e = plain_closed quote at b c m cs no_end no_quote (is_not b 92 is) plain e
-behind_closed quote at b c m cs true is no_end no_quote plain escaped e =
+after_closed : (quote at b c m : ℕ) (cs : List ℕ) (t : Bool) → eqb b 92 ≡ t → (b ≡ 10 → ⊥) → (b ≡ quote → ⊥) → ((k : ℕ) → closing_from quote false (at + 1) (c ∷ cs) ≡ Some (at + 1 + k) →
+    IsClosed quote (take (suc k) (c ∷ cs))) → ((k : ℕ) → closing_from quote false (at + 1 + 1) cs ≡ Some (at + 1 + 1 + k) → IsClosed quote (take (suc k) cs)) →
+    closing_from quote t (at + 1) (c ∷ cs) ≡ Some (at + m) → IsClosed quote (take (suc m) (b ∷ c ∷ cs))
+after_closed quote at b c m cs false is no_end no_quote plain escaped e = plain_closed quote at b c m cs no_end no_quote (eqb-false b 92 is) plain e
+after_closed quote at b c m cs true is no_end no_quote plain escaped e =
     elim (chosen (eqb c 10) None (closing_from quote false (at + 1 + 1) cs) (Some (at + m)) e) [
       | inl (_, f) ↦ absurd cc
-      | inr (goes_on, f) ↦ escape_closed quote at b c m cs (is_same b 92 is) (is_not c 10 goes_on) escaped f
+      | inr (goes_on, f) ↦ escape_closed quote at b c m cs (eqb-true b 92 is) (eqb-false c 10 goes_on) escaped f
     ]
 
 one_closed : (quote at b m : ℕ) (text : List ℕ) → eqb b quote ≡ true → Some at ≡ Some (at + m) → IsClosed quote (take (suc m) (b ∷ text))
-one_closed quote at b zero text same e = is_same b quote same
+one_closed quote at b zero text same e = eqb-true b quote same
 one_closed quote at b (suc m) text same e = absurd (omega (arith, some_is at (at + suc m) e))
 
 -- the bytes up to and with the closing quote are closed
@@ -168,7 +163,8 @@ closed_is quote at m (b ∷ c ∷ cs) e =
       | inr (no_end, f) ↦ elim (chosen (eqb b quote) (Some at) (closing_from quote (eqb b 92) (at + 1) (c ∷ cs)) (Some (at + m)) f) [
         | inl (same, g) ↦ one_closed quote at b m (c ∷ cs) same g
         | inr (no_quote, g) ↦
-            behind_closed quote at b c m cs (eqb b 92) refl (is_not b 10 no_end) (is_not b quote no_quote) (λ k f. closed_is quote (at + 1) k (c ∷ cs) f) (λ k f. closed_is quote (at + 1 + 1) k cs f) g
+            after_closed quote at b c m cs (eqb b 92) refl (eqb-false b 10 no_end) (eqb-false b quote no_quote) (λ k f. closed_is quote (at + 1) k (c ∷ cs) f) (λ k f. closed_is quote
+            (at + 1 + 1) k cs f) g
       ]
     ]
 
@@ -179,16 +175,18 @@ closed_found quote at k (b ∷ []) more q10 q92 len h =
     let k_is : k ≡ 0 = omega arith in
     let no_end : eqb b 10 ≡ false = grind (arith, nat_tests) in
     let same : eqb b quote ≡ true = grind (arith, nat_tests) in
-    let place : at ≡ at + k = omega arith in
-    ap (λ t. cond t None (cond (eqb b quote) (Some at) (closing_from quote (eqb b 92) (at + 1) more))) no_end ∙ ap (λ t. cond t (Some at) (closing_from quote (eqb b 92) (at + 1) more)) same ∙ ap Some place
+    let offset : at ≡ at + k = omega arith in
+    ap (λ t. cond t None (cond (eqb b quote) (Some at) (closing_from quote (eqb b 92) (at + 1) more))) no_end ∙ ap (λ t. cond t (Some at) (closing_from quote (eqb b 92) (at + 1) more)) same
+    ∙ ap Some offset
 closed_found quote at k (b ∷ c ∷ cs) more q10 q92 len (inl h) =
     let no_end : eqb b 10 ≡ false = grind (arith, nat_tests, h.0) in
     let no_quote : eqb b quote ≡ false = grind (arith, nat_tests, h.1) in
     let no_slash : eqb b 92 ≡ false = grind (arith, nat_tests, h.2) in
     let j : ℕ = k - 1 in
-    let place : at + 1 + j ≡ at + k = omega arith in
+    let offset : at + 1 + j ≡ at + k = omega arith in
     let rest = closed_found quote (at + 1) j (c ∷ cs) more q10 q92 (omega arith) h.3 in
-    ap (λ t. cond t None (cond (eqb b quote) (Some at) (closing_from quote (eqb b 92) (at + 1) (c ∷ (cs ++ more))))) no_end ∙ ap (λ t. cond t (Some at) (closing_from quote (eqb b 92) (at + 1) (c ∷ (cs ++ more)))) no_quote ∙ ap (λ t. closing_from quote t (at + 1) (c ∷ (cs ++ more))) no_slash ∙ rest ∙ ap Some place
+    ap (λ t. cond t None (cond (eqb b quote) (Some at) (closing_from quote (eqb b 92) (at + 1) (c ∷ (cs ++ more))))) no_end
+    ∙ ap (λ t. cond t (Some at) (closing_from quote (eqb b 92) (at + 1) (c ∷ (cs ++ more)))) no_quote ∙ ap (λ t. closing_from quote t (at + 1) (c ∷ (cs ++ more))) no_slash ∙ rest ∙ ap Some offset
 closed_found quote at k (b ∷ c ∷ []) more q10 q92 len (inr h) = absurd h.2
 closed_found quote at k (b ∷ c ∷ d ∷ ds) more q10 q92 len (inr h) =
     let no_end : eqb b 10 ≡ false = grind (arith, nat_tests, h.0) in
@@ -196,10 +194,12 @@ closed_found quote at k (b ∷ c ∷ d ∷ ds) more q10 q92 len (inr h) =
     let slash : eqb b 92 ≡ true = grind (arith, nat_tests, h.0) in
     let goes_on : eqb c 10 ≡ false = grind (arith, nat_tests, h.1) in
     let j : ℕ = k - 2 in
-    let place : at + 1 + 1 + j ≡ at + k = omega arith in
+    let offset : at + 1 + 1 + j ≡ at + k = omega arith in
     let rest = closed_found quote (at + 1 + 1) j (d ∷ ds) more q10 q92 (omega arith) h.2 in
     let tail : List ℕ = d ∷ (ds ++ more) in
-    ap (λ t. cond t None (cond (eqb b quote) (Some at) (closing_from quote (eqb b 92) (at + 1) (c ∷ tail)))) no_end ∙ ap (λ t. cond t (Some at) (closing_from quote (eqb b 92) (at + 1) (c ∷ tail))) no_quote ∙ ap (λ t. closing_from quote t (at + 1) (c ∷ tail)) slash ∙ ap (λ t. cond t None (closing_from quote false (at + 1 + 1) tail)) goes_on ∙ rest ∙ ap Some place
+    ap (λ t. cond t None (cond (eqb b quote) (Some at) (closing_from quote (eqb b 92) (at + 1) (c ∷ tail)))) no_end
+    ∙ ap (λ t. cond t (Some at) (closing_from quote (eqb b 92) (at + 1) (c ∷ tail))) no_quote ∙ ap (λ t. closing_from quote t (at + 1) (c ∷ tail)) slash
+    ∙ ap (λ t. cond t None (closing_from quote false (at + 1 + 1) tail)) goes_on ∙ rest ∙ ap Some offset
 
 -- the closing quote stands where it was found
 pub closing_at : (quote at m : ℕ) (taken : Bool) (text : List ℕ) → closing_from quote taken at text ≡ Some (at + m) → take (suc m) text ≡ take m text ++ quote ∷ []
@@ -210,20 +210,20 @@ closing_at quote at zero taken (b ∷ bs) e =
       | inr (_, f) ↦ elim (chosen taken (closing_from quote false (at + 1) bs) (cond (eqb b quote) (Some at) (closing_from quote (eqb b 92) (at + 1) bs)) (Some (at + 0)) f) [
         | inl (_, g) ↦ absurd (omega (arith, (closing_within quote false (at + 1) bs (at + 0) g).0))
         | inr (_, g) ↦ elim (chosen (eqb b quote) (Some at) (closing_from quote (eqb b 92) (at + 1) bs) (Some (at + 0)) g) [
-          | inl (same, _) ↦ ap (λ x. x ∷ []) (is_same b quote same)
+          | inl (same, _) ↦ ap (λ x. x ∷ []) (eqb-true b quote same)
           | inr (_, k) ↦ absurd (omega (arith, (closing_within quote (eqb b 92) (at + 1) bs (at + 0) k).0))
         ]
       ]
     ]
 closing_at quote at (suc m) taken (b ∷ bs) e =
-    let place : at + suc m ≡ at + 1 + m = omega arith in
+    let offset : at + suc m ≡ at + 1 + m = omega arith in
     elim (chosen (eqb b 10) None (cond taken (closing_from quote false (at + 1) bs) (cond (eqb b quote) (Some at) (closing_from quote (eqb b 92) (at + 1) bs))) (Some (at + suc m)) e) [
       | inl (_, f) ↦ absurd cc
       | inr (_, f) ↦ elim (chosen taken (closing_from quote false (at + 1) bs) (cond (eqb b quote) (Some at) (closing_from quote (eqb b 92) (at + 1) bs)) (Some (at + suc m)) f) [
-        | inl (_, g) ↦ ap (λ (t : List ℕ). b ∷ t) (closing_at quote (at + 1) m false bs (g ∙ ap Some place))
+        | inl (_, g) ↦ ap (λ (t : List ℕ). b ∷ t) (closing_at quote (at + 1) m false bs (g ∙ ap Some offset))
         | inr (_, g) ↦ elim (chosen (eqb b quote) (Some at) (closing_from quote (eqb b 92) (at + 1) bs) (Some (at + suc m)) g) [
           | inl (_, h) ↦ absurd (omega (arith, some_is at (at + suc m) h))
-          | inr (_, h) ↦ ap (λ (t : List ℕ). b ∷ t) (closing_at quote (at + 1) m (eqb b 92) bs (h ∙ ap Some place))
+          | inr (_, h) ↦ ap (λ (t : List ℕ). b ∷ t) (closing_at quote (at + 1) m (eqb b 92) bs (h ∙ ap Some offset))
         ]
       ]
     ]

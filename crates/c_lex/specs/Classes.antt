@@ -22,12 +22,12 @@ abbrev pub is_letter : ℕ → Bool
 is_letter b = is_between 97 122 b || is_between 65 90 b || b == 95
 
 -- what a name goes on with
-abbrev pub is_word : ℕ → Bool
-is_word b = is_letter b || is_digit b
+abbrev pub is_name_byte : ℕ → Bool
+is_name_byte b = is_letter b || is_digit b
 
--- what a number goes on with (6.4.8, without signs behind an exponent)
+-- what a number goes on with (6.4.8, without signs after an exponent)
 abbrev pub is_number_byte : ℕ → Bool
-is_number_byte b = is_word b || b == 46
+is_number_byte b = is_name_byte b || b == 46
 
 -- the end of a line
 abbrev pub is_line_end : ℕ → Bool

@@ -1,11 +1,12 @@
--- What is wrong where a fault is told.
-use Rattle.std.specs.Prelude.{◌≡◌, ◌≢◌, ◌⊎◌, ℕ, ◌<◌, ◌≤◌, true, false, List, [], ◌∷◌, ◌++◌, length, take, drop, nat_eq, slice_index, Some, None, Err, codes}
+-- What is wrong where a fault is reported.
+use Rattle.std.specs.Prelude.{◌≡◌, ◌≢◌, ◌⊎◌, ◌↔◌, ℕ, ◌+◌, ◌<◌, ◌≤◌, true, false, List, [], ◌∷◌, ◌++◌, length, take, drop, nat_eq, slice_index, Some, None, Err, codes}
 use Rattle.std.specs.List.{starts_with}
+use Rattle.limits.specs.Limits.{most_name_bytes, most_source_bytes, most_tokens}
 use Rattle.c_lex.specs.Classes.{is_inner_blank, is_line_end}
 use Rattle.c_lex.specs.Numbers.{constant_at}
-use Rattle.c_lex.specs.Texts.{characters}
+use Rattle.c_lex.specs.Quoted.{characters}
 use Rattle.c_lex.specs.Tokens.{lexed}
-use Rattle.c_lex.specs.Grammar.{IsWord, IsNumber, IsQuoted, IsToken, Spells, Reads, begins_comment}
+use Rattle.c_lex.specs.Grammar.{IsIdentifier, IsNumber, IsQuoted, IsToken, Spells, Reads, IsInIncludeLine, begins_comment}
 use Rattle.c_lex.specs.declared.fault.LexFault.{LexFault}
 use Rattle.c_lex.specs.declared.fault.LexFault.TheVariants as fault
 use Rattle.c_lex.specs.declared.token.Token.{Token}
@@ -20,16 +21,19 @@ pub record IsLongest (text : List ℕ) (n : ℕ) (k : TokenKind) : Type 0 where
 
 -- the first n bytes are a number, and no more of them are a token
 pub record IsLongestNumber (text : List ℕ) (n : ℕ) : Type 0 where
+  pub within : n ≤ length text
   pub number : IsNumber (take n text)
   pub longest : (m : ℕ) → n < m → m ≤ length text → IsToken (take m text) → ⊥
 
 -- the first n bytes are a name or a keyword, and no more of them are a token
-pub record IsLongestWord (text : List ℕ) (n : ℕ) : Type 0 where
-  pub word : IsWord (take n text)
+pub record IsLongestIdentifier (text : List ℕ) (n : ℕ) : Type 0 where
+  pub within : n ≤ length text
+  pub identifier : IsIdentifier (take n text)
   pub longest : (m : ℕ) → n < m → m ≤ length text → IsToken (take m text) → ⊥
 
--- no token, blank, quoted text or directive begins with the first byte
+-- there is a first byte, and no token, blank, quoted sequence or directive begins with it
 pub record BeginsNothing (text : List ℕ) : Type 0 where
+  pub some : 0 < length text
   pub no_token : (n : ℕ) → n ≤ length text → IsToken (take n text) → ⊥
   pub no_line_end : is_line_end (slice_index text 0) ≡ false
   pub no_blank : is_inner_blank (slice_index text 0) ≡ false
@@ -41,38 +45,50 @@ pub record BeginsNothing (text : List ℕ) : Type 0 where
 abbrev pub IsOpen : ℕ → List ℕ → Type 0
 IsOpen quote text = (slice_index text 0 ≡ quote) × ((n : ℕ) → n ≤ length text → IsQuoted quote (take n text) → ⊥)
 
--- a text between quotes, of n bytes with them
-abbrev pub IsText : ℕ → List ℕ → ℕ → List ℕ → Type 0
-IsText quote text n inner = IsQuoted quote (take n text) × (take n text ≡ quote ∷ (inner ++ quote ∷ []))
+-- the first bytes are quotes with these bytes between them
+abbrev pub IsEnclosed : ℕ → List ℕ → List ℕ → Type 0
+IsEnclosed quote text inner =
+    let n = length inner + 2 in
+    (n ≤ length text) × IsQuoted quote (take n text) × (take n text ≡ quote ∷ (inner ++ quote ∷ []))
 
--- Why this fault is told at the place `at`, where the text from there on is `text`, and `count` tokens stand before.
+-- a number that is no constant, for this reason
+abbrev pub IsNoConstant : List ℕ → ℕ → LexFault → Type 0
+IsNoConstant text at f = (n : ℕ) × IsLongestNumber text n × (constant_at at (take n text) ≡ Err f)
+
+-- What is wrong at the offset `at`, from where on the source is `text`, and before which `count` tokens stand.
 abbrev pub IsFault : List ℕ → ℕ → ℕ → LexFault → Type 0
-IsFault text count at (fault.BadByte place) = (place ≡ at) × BeginsNothing text
-IsFault text count at (fault.OpenComment place) =
-    (place ≡ at) × (starts_with nat_eq text (codes "/*") ≡ true) × ((n : ℕ) → starts_with nat_eq (drop n (drop 2 text)) (codes "*/") ≡ false)
-IsFault text count at (fault.OpenText place) = (place ≡ at) × (IsOpen 39 text ⊎ IsOpen 34 text)
-IsFault text count at (fault.BadText place) =
-    (place ≡ at) × ((n : ℕ) × (inner : List ℕ) × (
-    (IsText 39 text n inner × ((c : ℕ) → characters 0 inner ≡ Some (c ∷ []) → ⊥))
-    ⊎ (IsText 34 text n inner × (characters 0 inner ≡ None))))
-IsFault text count at (fault.TooWide place) =
-    (place ≡ at) × ((n : ℕ) × IsLongestNumber text n × (constant_at at (take n text) ≡ Err (fault.TooWide at)))
-IsFault text count at (fault.LongName place) = (place ≡ at) × ((n : ℕ) × (63 < n) × IsLongestWord text n)
-IsFault text count at (fault.Directive place) = (place ≡ at) × (slice_index text 0 ≡ 35)
-IsFault text count at (fault.ManyTokens place) =
-    (place ≡ at) × (200000 ≤ count) × (
-    ((n : ℕ) × (k : TokenKind) × IsLongest text n k)
-    ⊎ ((n : ℕ) × IsLongestNumber text n × (constant_at at (take n text) ≡ Err (fault.BadNumber at))))
-IsFault text count at (fault.BadNumber place) =
-    (place ≡ at) × (count < 200000) × ((n : ℕ) × IsLongestNumber text n × (constant_at at (take n text) ≡ Err (fault.BadNumber at)))
-IsFault text count at (fault.LongSource place) = ⊥
+IsFault text count at (fault.BadByte offset) = (offset ≡ at) × BeginsNothing text
+IsFault text count at (fault.OpenComment offset) =
+    (offset ≡ at) × (starts_with nat_eq text (codes "/*") ≡ true) × ((n : ℕ) → starts_with nat_eq (drop n (drop 2 text)) (codes "*/") ≡ false)
+IsFault text count at (fault.OpenText offset) = (offset ≡ at) × (IsOpen 39 text ⊎ IsOpen 34 text)
+IsFault text count at (fault.BadText offset) =
+    (offset ≡ at) × ((inner : List ℕ) × (
+    (IsEnclosed 39 text inner × ((c : ℕ) → characters 0 inner ≡ Some (c ∷ []) → ⊥)) ⊎ (IsEnclosed 34 text inner × (characters 0 inner ≡ None))))
+IsFault text count at (fault.TooWide offset) = (offset ≡ at) × IsNoConstant text at (fault.TooWide at)
+IsFault text count at (fault.LongName offset) = (offset ≡ at) × ((n : ℕ) × (most_name_bytes < n) × IsLongestIdentifier text n)
+IsFault text count at (fault.Directive offset) = (offset ≡ at) × (slice_index text 0 ≡ 35)
+IsFault text count at (fault.ManyTokens offset) =
+    (offset ≡ at) × (most_tokens ≤ count) × (
+    ((n : ℕ) × (k : TokenKind) × (n ≤ length text) × IsLongest text n k) ⊎ IsNoConstant text at (fault.BadNumber at))
+IsFault text count at (fault.BadNumber offset) = (offset ≡ at) × (count < most_tokens) × IsNoConstant text at (fault.BadNumber at)
+IsFault text count at (fault.LongSource offset) = ⊥
 IsFault text count at fault.NoMemory = ⊥
+
+-- Up to an offset the source is tokens, at most as many as there may be, with trivia between them. No include line covers
+-- the offset, and there the source is wrong.
+pub record IsFaulty (source : List ℕ) (f : LexFault) : Type 0 where
+  pub short : length source ≤ most_source_bytes
+  pub tokens : List Token
+  pub few : length tokens ≤ most_tokens
+  pub offset : ℕ
+  pub reads : Reads source offset 0 tokens
+  pub outside : IsInIncludeLine source offset → ⊥
+  pub fault : IsFault (drop offset source) (length tokens) offset f
 
 -- ---- the law
 
--- A fault is that of a source that is too long, or up to its place the source is tokens and gaps, and there it is.
+-- A source has a fault exactly where it is too long, or is wrong so at an offset. So it is so at one offset at most.
 abbrev pub FaultsAreFirst : Type 0
 FaultsAreFirst =
-    (source : List ℕ) (f : LexFault) → lexed source ≡ Err f →
-    ((1048576 < length source) × (f ≡ fault.LongSource 1048576))
-    ⊎ ((length source ≤ 1048576) × ((ts : List Token) × (place : ℕ) × Reads source place 0 ts × IsFault (drop place source) (length ts) place f))
+    (source : List ℕ) (f : LexFault) →
+    (lexed source ≡ Err f) ↔ (((most_source_bytes < length source) × (f ≡ fault.LongSource most_source_bytes)) ⊎ IsFaulty source f)

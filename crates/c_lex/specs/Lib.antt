@@ -1,13 +1,13 @@
 pub mod Classes
 pub mod Digits
 pub mod Faults
-pub mod Gaps
+pub mod Trivia
 pub mod Grammar
-pub mod Items
+pub mod Lexemes
 pub mod Keywords
 pub mod Numbers
 pub mod Punctuators
 pub mod Results
-pub mod Texts
+pub mod Quoted
 pub mod Tokens
 pub mod Written

@@ -7,12 +7,12 @@ use Rattle.c_lex.specs.Digits.{is_digit_in, digits_value}
 use Rattle.c_lex.specs.Results.{◌>>=◌}
 use Rattle.c_lex.specs.declared.fault.LexFault.{LexFault}
 use Rattle.c_lex.specs.declared.fault.LexFault.TheVariants.{TooWide, BadNumber}
-use Rattle.c_lex.specs.declared.item.Item.{Item}
-use Rattle.c_lex.specs.declared.item.Item.TheVariants.{Piece}
+use Rattle.c_lex.specs.declared.lexeme.Lexeme.{Lexeme}
+use Rattle.c_lex.specs.declared.lexeme.Lexeme.TheVariants as lexeme
 use Rattle.c_lex.specs.declared.token.TokenKind.{TokenKind}
 use Rattle.c_lex.specs.declared.token.TokenKind.TheVariants as kind
 
--- behind the digits stands nothing, or one `u` or `U`: whether it stands there
+-- after the digits stands nothing, or one `u` or `U`: whether it stands there
 abbrev pub suffix : List ℕ → Option Bool
 suffix [] = Some false
 suffix (b ∷ []) = if b == 117 || b == 85 then Some true else None
@@ -33,14 +33,14 @@ digits_at base at text =
     else (ok_or (suffix (drop n text)) (BadNumber at) >>= λ unsigned.
     typed base at (digits_value base (take n text)) unsigned)
 
--- hexadecimal behind `0x` or `0X`, else octal behind `0`, else decimal
+-- hexadecimal after `0x` or `0X`, else octal after `0`, else decimal
 unfoldable pub constant_at : ℕ → List ℕ → Result TokenKind LexFault
 constant_at at run =
     if starts_with nat_eq run (codes "0x") || starts_with nat_eq run (codes "0X") then digits_at 16 at (drop 2 run)
     else (if starts_with nat_eq run (codes "0") then digits_at 8 at run else digits_at 10 at run)
 
 -- the longest run of bytes that a number goes on with, which is to be a constant
-unfoldable pub number_at : ℕ → List ℕ → Result Item LexFault
+unfoldable pub number_at : ℕ → List ℕ → Result Lexeme LexFault
 number_at at text =
     let n = prefix_len is_number_byte text in
-    constant_at at (take n text) >>= λ k. Ok (Piece k n)
+    constant_at at (take n text) >>= λ k. Ok (lexeme.Token k n)

@@ -1,5 +1,5 @@
 -- The punctuators (ISO 9899:2011, 6.4.6) of the compiled language, and how each is written.
-use Rattle.std.specs.Prelude.{ℕ, List, [], ◌∷◌, Option, codes, nat_eq, find}
+use Rattle.std.specs.Prelude.{ℕ, List, [], ◌∷◌, Option, codes, nat_eq, ◌==◌, slice_index, find, filter}
 use Rattle.std.specs.List.{starts_with}
 use Rattle.c_lex.specs.declared.punct.Punct.{Punct}
 use Rattle.c_lex.specs.declared.punct.Punct.TheVariants as mark
@@ -59,3 +59,7 @@ all_puncts =
 -- the longest punctuator that the text begins with: the first in that order
 abbrev pub punct_at : List ℕ → Option Punct
 punct_at text = find (λ p. starts_with nat_eq text (punct_spelling p)) all_puncts
+
+-- the punctuators that begin with this byte, in that order
+abbrev pub puncts_beginning_with : ℕ → List Punct
+puncts_beginning_with b = filter (λ p. slice_index (punct_spelling p) 0 == b) all_puncts

@@ -8,7 +8,7 @@ abbrev pub ◌>>=◌ : {A B : Type 0} → Result A LexFault → (A → Result B 
 (Ok x) >>= f = f x
 (Err e) >>= f = Err e
 
--- The fault of the definition, or want of memory, which comes in place of any answer.
+-- The fault of the definition, or out of memory, which comes in offset of any answer.
 abbrev pub Fails : {X : Type 0} → LexFault → Result X LexFault → Type 0
 Fails NoMemory defined = Unit {0}
 Fails e defined = defined ≡ Err e

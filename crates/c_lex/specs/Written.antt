@@ -1,5 +1,6 @@
 -- How tokens can be written again.
 use Rattle.std.specs.Prelude.{◌≡◌, ℕ, zero, suc, ◌+◌, ◌/◌, ◌%◌, ◌≤◌, Bool, ◌||◌, ◌==◌, List, [], ◌∷◌, ◌++◌, length, Ok, map, if◌then◌else◌}
+use Rattle.limits.specs.Limits.{most_source_bytes}
 use Rattle.c_lex.specs.Keywords.{keyword_spelling}
 use Rattle.c_lex.specs.Punctuators.{punct_spelling}
 use Rattle.c_lex.specs.Tokens.{lexed}
@@ -34,7 +35,7 @@ written (kind.Char c) = quoted 39 (c ∷ [])
 written (kind.Text cs) = quoted 34 cs
 written (kind.Punct p) = punct_spelling p
 
--- tokens as text, with a space behind each
+-- tokens as text, with a space after each
 abbrev pub written_all : List TokenKind → List ℕ
 written_all [] = []
 written_all (k ∷ ks) = written k ++ 32 ∷ written_all ks
@@ -45,5 +46,5 @@ kinds ts = map (λ t. t.kind) ts
 -- The tokens of a source say all of it but what stands between them: written again they give the same tokens.
 abbrev pub TokensAreReadAgain : Type 0
 TokensAreReadAgain =
-    (source : List ℕ) (ts : List Token) → lexed source ≡ Ok ts → length (written_all (kinds ts)) ≤ 1048576 →
+    (source : List ℕ) (ts : List Token) → lexed source ≡ Ok ts → length (written_all (kinds ts)) ≤ most_source_bytes →
     (us : List Token) × (lexed (written_all (kinds ts)) ≡ Ok us) × (kinds us ≡ kinds ts)

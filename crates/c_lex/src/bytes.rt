@@ -5,7 +5,8 @@ ghost use Rattle.std.specs.Cmp.Lexicographic.{pointwise, nat_list_eq_equiv};
 use std::alloc::AllocError;
 use std::marker::Model;
 
-/// The bytes of a string literal, which contracts see as a list. Each is the value of one character.
+/// The bytes of a string literal, which contracts see as a list. Each is the value of one
+/// character.
 #[derive(Debug, Drop)]
 pub struct Bytes {
     bytes: Vec<u8>,
@@ -27,6 +28,7 @@ impl Bytes {
         Bytes { bytes }
     }
 
+    /// The vector of these bytes, with its memory.
     pub fn into_vec(self) -> Vec<u8>
         ensures { result.items ≡ self }
     {
@@ -34,6 +36,7 @@ impl Bytes {
         bytes
     }
 
+    /// The bytes, in order.
     pub fn as_slice(&self) -> &[u8]
         ensures { result.now ≡ self.now }
     {

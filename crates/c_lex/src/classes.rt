@@ -28,8 +28,8 @@ pub(crate) fn is_letter(b: u8) -> bool
 }
 
 /// What a name goes on with.
-pub(crate) fn is_word(b: u8) -> bool
-    ensures { result ≡ spec.is_word b }
+pub(crate) fn is_name_byte(b: u8) -> bool
+    ensures { result ≡ spec.is_name_byte b }
 {
     is_letter(b) || is_digit(b)
 }
@@ -38,7 +38,7 @@ pub(crate) fn is_word(b: u8) -> bool
 pub(crate) fn is_number_byte(b: u8) -> bool
     ensures { result ≡ spec.is_number_byte b }
 {
-    is_word(b) || b == b'.'
+    is_name_byte(b) || b == b'.'
 }
 
 /// A blank that ends no line.

@@ -26,7 +26,7 @@ pub(crate) fn is_digit_in(base: u32, b: u8) -> bool
 #[tactic(auto, using(crate::proofs::Scans::value_step, crate::proofs::Scans::value_all, crate::proofs::Scans::value_over))]
 pub(crate) fn digits_value(base: u32, digits: &[u8]) -> Option<u32>
     requires { 0 < base }
-    ensures { SomeIff result (spec.digits_value base digits.now < 2 ^ 32) (spec.digits_value base digits.now) }
+    ensures { let v = spec.digits_value base digits.now in SomeIff result (v < 2 ^ 32) v }
 {
     let mut value: u32 = 0;
     for d in digits {

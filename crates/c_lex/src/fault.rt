@@ -4,7 +4,7 @@ ghost use Rattle.c_lex.specs.declared.fault.LexFault.TheVariants.{NoMemory};
 use std::alloc::{AllocError, AllocFailed};
 use thiserror::Error;
 
-/// Why a source has no tokens, with the place of the fault, in bytes from the start.
+/// Why a source has no tokens, with the offset of the fault in bytes.
 #[derive(Clone, Copy, Debug, PartialEq, Eq, Error)]
 pub enum LexFault {
     /// A byte that begins no token, blank or comment.
@@ -13,13 +13,16 @@ pub enum LexFault {
     /// A `/*` without its `*/`, at its start.
     #[error("at byte {0}: a comment that does not end")]
     OpenComment(u32),
-    /// A character constant or a string literal whose line ends before its closing quote, at its start.
+    /// A character constant or a string literal whose line ends before its closing quote, at its
+    /// start.
     #[error("at byte {0}: a quote that is not closed on its line")]
     OpenText(u32),
-    /// An escape that is unknown or above 255, or a character constant that is not one character, at the quote.
+    /// An escape that is unknown or above 255, or a character constant that is not one character,
+    /// at the quote.
     #[error("at byte {0}: an escape or a character constant that is not allowed")]
     BadText(u32),
-    /// A decimal constant above 2147483647 without suffix, or any constant above 4294967295, at its start.
+    /// A decimal constant above 2147483647 without suffix, or any constant above 4294967295, at its
+    /// start.
     #[error("at byte {0}: a constant that is too large")]
     TooWide(u32),
     /// A name of more than 63 bytes, at its start.
@@ -34,7 +37,7 @@ pub enum LexFault {
     /// A number that is no integer constant, at its start.
     #[error("at byte {0}: a number that is not allowed")]
     BadNumber(u32),
-    /// A source of more than 1,048,576 bytes; the place is 1,048,576.
+    /// A source of more than 1,048,576 bytes; the offset is 1,048,576.
     #[error("at byte {0}: a source of more than 1048576 bytes")]
     LongSource(u32),
     /// Memory ran out.

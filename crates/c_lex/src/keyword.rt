@@ -2,7 +2,8 @@ ghost use Rattle.std.specs.Prelude.{◌≡◌, find};
 ghost use Rattle.std.specs.Str.{bytes_eq};
 ghost use Rattle.c_lex.specs.Keywords.{keyword_spelling, keyword_of, is_left_out, all_keywords};
 
-/// A keyword of C11 (ISO 9899:2011, 6.4.1). The last 23 are not part of the language that is compiled.
+/// A keyword of C11 (ISO 9899:2011, 6.4.1). The last 23 are not part of the language that is
+/// compiled.
 #[derive(Clone, Copy, Debug, PartialEq, Eq)]
 pub enum Keyword {
     Break,

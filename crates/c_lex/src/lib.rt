@@ -1,23 +1,24 @@
-//! The first phase of the front end: the tokens of a source text, or its first lexical fault with its place
-//! (ISO 9899:2011, 6.4). The tree, the parser and the checker stand on its tokens. It promises exactly the tokens that
-//! stand in the source, each the longest run that is one, and exactly the fault that the definition names.
+//! The first phase of the front end: the tokens of a source text, or its first lexical fault with
+//! its offset (ISO 9899:2011, 6.4). The tree, the parser and the checker stand on its tokens. It
+//! promises exactly the tokens that stand in the source, each the longest run that is one, and
+//! exactly the fault that the definition names.
 #![tactic(auto)]
 
 mod bytes;
 mod classes;
 mod digits;
 mod fault;
-mod gap;
-mod item;
 mod keyword;
 pub mod laws;
+mod lexeme;
 mod lexer;
 mod name;
 mod number;
 mod punct;
+mod quoted;
 mod runs;
-mod text;
 mod token;
+mod trivia;
 
 pub use bytes::Bytes;
 pub use fault::LexFault;
@@ -26,6 +27,3 @@ pub use lexer::lex;
 pub use name::Name;
 pub use punct::Punct;
 pub use token::{Token, TokenKind};
-
-#[cfg(test)]
-mod tests;

@@ -10,7 +10,8 @@ use std::alloc::{AllocError, Global};
 use std::hash::{Hash, Hasher};
 use std::marker::Model;
 
-/// An identifier, which contracts see as the list of its bytes. One of up to 20 bytes takes no allocation.
+/// An identifier, which contracts see as the list of its bytes. One of up to 20 bytes takes no
+/// allocation.
 #[derive(Debug, Drop)]
 pub struct Name {
     bytes: SmallVec<u8, 20>,
@@ -25,7 +26,7 @@ impl Model for Name {
 }
 
 impl Name {
-    /// The name with these bytes.
+    /// The name with these bytes. Up to 20 bytes it succeeds always.
     pub fn from_slice(alloc: Global, bytes: &[u8]) -> Result<Name, AllocError>
         ensures ok { IfOk result (λ name. name ≡ bytes.now) }
         ensures short { length bytes.now ≤ 20 → IsOk result }
@@ -34,6 +35,7 @@ impl Name {
         Ok(Name { bytes })
     }
 
+    /// The bytes, in order.
     pub fn as_slice(&self) -> &[u8]
         ensures { result.now ≡ self.now }
     {

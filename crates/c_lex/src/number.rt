@@ -6,11 +6,11 @@ ghost use Rattle.c_lex.specs.Numbers as spec;
 ghost use Rattle.c_lex.specs.Digits.{digits_value};
 
 use crate::digits::digits_value;
-use crate::item::Item;
+use crate::lexeme::Lexeme;
 use crate::runs::{digits_len, number_len};
 use crate::{LexFault, TokenKind};
 
-/// Whether `u` or `U` stands behind the digits; none where anything else does.
+/// Whether `u` or `U` stands after the digits; none where anything else does.
 fn suffix(text: &[u8]) -> Option<bool>
     ensures { result ≡ spec.suffix text.now }
 {
@@ -64,10 +64,10 @@ fn constant_at(at: u32, run: &[u8]) -> Result<TokenKind, LexFault>
 
 /// A number at the front of a text that begins at `at`.
 #[tactic(auto, unfolding(crate::specs::Numbers::number_at))]
-pub(crate) fn number_at(at: u32, text: &[u8]) -> Result<Item, LexFault>
+pub(crate) fn number_at(at: u32, text: &[u8]) -> Result<Lexeme, LexFault>
     ensures { result ≡ spec.number_at at text.now }
 {
     let n = number_len(text);
     let kind = constant_at(at, &text[..n])?;
-    Ok(Item::Piece(kind, n))
+    Ok(Lexeme::Token(kind, n))
 }

@@ -1,5 +1,6 @@
-ghost use Rattle.std.specs.Prelude.{◌≡◌};
-ghost use Rattle.c_lex.specs.Punctuators.{punct_spelling, punct_at};
+ghost use Rattle.std.specs.Prelude.{◌≡◌, nat_eq, find};
+ghost use Rattle.std.specs.List.{starts_with};
+ghost use Rattle.c_lex.specs.Punctuators.{punct_spelling, punct_at, puncts_beginning_with};
 
 /// A punctuator (ISO 9899:2011, 6.4.6) of the language that is compiled.
 #[derive(Clone, Copy, Debug, PartialEq, Eq)]
@@ -96,64 +97,73 @@ pub enum Punct {
     PipeEqual,
 }
 
-/// Every punctuator, the longer ones first.
-const PUNCTUATORS: [Punct; 45] = [
-    Punct::ShiftLeftEqual,
-    Punct::ShiftRightEqual,
-    Punct::Arrow,
-    Punct::PlusPlus,
-    Punct::MinusMinus,
-    Punct::ShiftLeft,
-    Punct::ShiftRight,
-    Punct::LessEqual,
-    Punct::GreaterEqual,
-    Punct::EqualEqual,
-    Punct::BangEqual,
-    Punct::AmpAmp,
-    Punct::PipePipe,
-    Punct::StarEqual,
-    Punct::SlashEqual,
-    Punct::PercentEqual,
-    Punct::PlusEqual,
-    Punct::MinusEqual,
-    Punct::AmpEqual,
-    Punct::CaretEqual,
-    Punct::PipeEqual,
-    Punct::LParen,
-    Punct::RParen,
-    Punct::LBracket,
-    Punct::RBracket,
-    Punct::LBrace,
-    Punct::RBrace,
-    Punct::Semicolon,
-    Punct::Comma,
-    Punct::Dot,
-    Punct::Amp,
-    Punct::Star,
-    Punct::Plus,
-    Punct::Minus,
-    Punct::Tilde,
-    Punct::Bang,
-    Punct::Slash,
-    Punct::Percent,
-    Punct::Less,
-    Punct::Greater,
-    Punct::Caret,
-    Punct::Pipe,
-    Punct::Question,
-    Punct::Colon,
-    Punct::Equal,
-];
+/// The first of these punctuators that the text begins with.
+fn first_of(puncts: &[Punct], text: &[u8]) -> Option<Punct>
+    ensures { result ≡ find (λ p. starts_with nat_eq text.now (punct_spelling p)) puncts.now }
+{
+    puncts
+        .iter()
+        .copied()
+        .find(|punct| text.starts_with(punct.spelling()))
+}
 
 impl Punct {
+    /// The punctuators that begin with this byte, the longer ones first.
+    fn beginning_with(first: u8) -> &'static [Punct]
+        ensures { result.now ≡ puncts_beginning_with first }
+    {
+        match first {
+            b'(' => &[Punct::LParen],
+            b')' => &[Punct::RParen],
+            b'[' => &[Punct::LBracket],
+            b']' => &[Punct::RBracket],
+            b'{' => &[Punct::LBrace],
+            b'}' => &[Punct::RBrace],
+            b';' => &[Punct::Semicolon],
+            b',' => &[Punct::Comma],
+            b'.' => &[Punct::Dot],
+            b'~' => &[Punct::Tilde],
+            b'?' => &[Punct::Question],
+            b':' => &[Punct::Colon],
+            b'-' => &[
+                Punct::Arrow,
+                Punct::MinusMinus,
+                Punct::MinusEqual,
+                Punct::Minus,
+            ],
+            b'+' => &[Punct::PlusPlus, Punct::PlusEqual, Punct::Plus],
+            b'<' => &[
+                Punct::ShiftLeftEqual,
+                Punct::ShiftLeft,
+                Punct::LessEqual,
+                Punct::Less,
+            ],
+            b'>' => &[
+                Punct::ShiftRightEqual,
+                Punct::ShiftRight,
+                Punct::GreaterEqual,
+                Punct::Greater,
+            ],
+            b'=' => &[Punct::EqualEqual, Punct::Equal],
+            b'!' => &[Punct::BangEqual, Punct::Bang],
+            b'&' => &[Punct::AmpAmp, Punct::AmpEqual, Punct::Amp],
+            b'|' => &[Punct::PipePipe, Punct::PipeEqual, Punct::Pipe],
+            b'*' => &[Punct::StarEqual, Punct::Star],
+            b'/' => &[Punct::SlashEqual, Punct::Slash],
+            b'%' => &[Punct::PercentEqual, Punct::Percent],
+            b'^' => &[Punct::CaretEqual, Punct::Caret],
+            _ => &[],
+        }
+    }
+
     /// The longest punctuator that the text begins with, if it begins with one.
     pub fn at_front(text: &[u8]) -> Option<Punct>
         ensures { result ≡ punct_at text.now }
     {
-        PUNCTUATORS
-            .iter()
-            .copied()
-            .find(|punct| text.starts_with(punct.spelling()))
+        match text {
+            [] => None,
+            [first, ..] => first_of(Punct::beginning_with(*first), text),
+        }
     }
 
     /// How it is written.

@@ -4,14 +4,16 @@ ghost use Rattle.std.specs.List.{prefix_len, position_or_len};
 ghost use Rattle.c_lex.specs.Classes as class;
 ghost use Rattle.c_lex.specs.Digits as digit;
 
-use crate::classes::{is_inner_blank, is_number_byte, is_word};
+use crate::classes::{is_inner_blank, is_name_byte, is_number_byte};
 use crate::digits::is_digit_in;
 
-pub(crate) fn word_len(text: &[u8]) -> usize
-    ensures run { result ≡ prefix_len class.is_word text.now }
+pub(crate) fn identifier_len(text: &[u8]) -> usize
+    ensures run { result ≡ prefix_len class.is_name_byte text.now }
     ensures within { result ≤ length text.now }
 {
-    text.iter().position(|b| !is_word(*b)).unwrap_or(text.len())
+    text.iter()
+        .position(|b| !is_name_byte(*b))
+        .unwrap_or(text.len())
 }
 
 pub(crate) fn number_len(text: &[u8]) -> usize

@@ -1,10 +1,13 @@
 use crate::{Bytes, Keyword, Name, Punct};
 
-/// A token and where it stands: its bytes are those of the source from `at` up to `end`.
+/// A token and where it stands in the source: its bytes are those from `at` up to `end`.
 #[derive(Clone, Debug, Drop, PartialEq, Eq)]
 pub struct Token {
+    /// What it is.
     pub kind: TokenKind,
+    /// The offset of its first byte.
     pub at: u32,
+    /// The offset after its last byte.
     pub end: u32,
 }
 
@@ -13,7 +16,8 @@ pub struct Token {
 pub enum TokenKind {
     /// An identifier that is no keyword, of at most 63 bytes (6.4.2).
     Name(Name),
-    /// An integer constant (6.4.4.1). `unsigned` is true where its type is `unsigned int`, and false where it is `int`.
+    /// An integer constant (6.4.4.1). `unsigned` is true where its type is `unsigned int`, and
+    /// false where it is `int`.
     Number { value: u32, unsigned: bool },
     /// A character constant (6.4.4.4).
     Char(u8),

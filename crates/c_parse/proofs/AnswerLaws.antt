@@ -5,13 +5,13 @@ use Rattle.c_lex.specs.declared.token.Token.{Token}
 use Rattle.c_lex.specs.declared.token.TokenKind.{TokenKind}
 use Rattle.c_ast.specs.declared.external.Unit as ast
 use Rattle.c_ast.specs.Externals.{unit_tree}
-use Rattle.c_ast.specs.Nesting.{depth, deepest, behind_token}
+use Rattle.c_ast.specs.Nesting.{depth, deepest, after_token}
 use Rattle.c_ast.specs.Shape.{Shaped}
 use Rattle.c_ast.specs.Spelling.{kinds, tokens_of}
 use Rattle.c_ast.specs.Tree.{Tree}
-use Rattle.c_grammar.proofs.Judgement.{one_place}
-use Rattle.c_grammar.proofs.Places.{kinds_append}
-use Rattle.c_parse.specs.Refusal.{FirstTooDeep, place_of, WrongAt, Answers, Agree, OneAnswer, ShapedIsAccepted}
+use Rattle.c_grammar.proofs.Judgement.{one_token}
+use Rattle.c_grammar.proofs.Spans.{kinds_append}
+use Rattle.c_parse.specs.Refusal.{FirstTooDeep, offset_of, WrongAt, Answers, Agree, OneAnswer, ShapedIsAccepted}
 use Rattle.c_parse.specs.declared.fault.ParseFault.{ParseFault}
 use Rattle.c_parse.specs.declared.fault.ParseFault.TheVariants as fault
 use Rattle.c_parse.proofs.FirstDeep.{token_head, token_lower}
@@ -23,8 +23,8 @@ deepest_more : (c : List ℕ) (ks ls : List TokenKind) → deepest c ks ≤ deep
 deepest_more c [] ls = omega arith
 deepest_more c (k ∷ []) ls = omega (arith, token_lower k ls c)
 deepest_more c (k ∷ x ∷ ks) ls =
-    let same : behind_token k (x ∷ (ks ++ ls)) c ≡ behind_token k (x ∷ ks) c = token_head k x (ks ++ ls) ks c in
-    let again = deepest_more (behind_token k (x ∷ ks) c) (x ∷ ks) ls in
+    let same : after_token k (x ∷ (ks ++ ls)) c ≡ after_token k (x ∷ ks) c = token_head k x (ks ++ ls) ks c in
+    let again = deepest_more (after_token k (x ∷ ks) c) (x ∷ ks) ls in
     rw same (omega arith)
 
 depth_more : (a b : List Token) → depth (kinds a) ≤ depth (kinds (a ++ b))
@@ -72,8 +72,8 @@ is_deep ts p f low =
 
 -- ---- the tree
 
-one_wrong_place : (ts : List Token) (n p q : ℕ) → WrongAt ts n p → WrongAt ts n q → p ≡ q
-one_wrong_place ts n p q f g = f.at ∙ ap (λ r. place_of r n) (one_place ts f.rest g.rest f.wrong g.wrong) ∙ sym g.at
+one_wrong_offset : (ts : List Token) (n p q : ℕ) → WrongAt ts n p → WrongAt ts n q → p ≡ q
+one_wrong_offset ts n p q f g = f.at ∙ ap (λ r. offset_of r n) (one_token ts f.rest g.rest f.wrong g.wrong) ∙ sym g.at
 
 not_wrong : (ts : List Token) (n p : ℕ) (t : Tree) → WrongAt ts n p → Shaped t → tokens_of t ≡ ts → ⊥
 not_wrong ts n p t w h e = w.wrong.short t h.0 (ap kinds e)
@@ -86,25 +86,25 @@ not_deep ts p t f h e = is_deep ts p f (subst (λ (z : List Token). depth (kinds
 faults_agree : (ts : List Token) (n : ℕ) (e f : ParseFault) → Answers ts n (Err e) → Answers ts n (Err f) → Agree (Err e) (Err f)
 faults_agree ts n (fault.LeftOut p) (fault.LeftOut q) a b = let h = sym a ∙ b in cc h
 faults_agree ts n (fault.TooDeep p) (fault.TooDeep q) a b = ap fault.TooDeep (one_too_deep ts p q a.1 b.1)
-faults_agree ts n (fault.Syntax p) (fault.Syntax q) a b = ap fault.Syntax (one_wrong_place ts n p q a.2 b.2)
+faults_agree ts n (fault.Syntax p) (fault.Syntax q) a b = ap fault.Syntax (one_wrong_offset ts n p q a.2 b.2)
 faults_agree ts n (fault.TooDeep p) (fault.Syntax q) a b = absurd (is_deep ts p a.1 b.1)
 faults_agree ts n (fault.Syntax p) (fault.TooDeep q) a b = absurd (is_deep ts q b.1 a.1)
 faults_agree ts n (fault.LeftOut p) (fault.TooDeep q) a b = let h = sym a ∙ b.0 in cc h
 faults_agree ts n (fault.LeftOut p) (fault.Syntax q) a b = let h = sym a ∙ b.0 in cc h
 faults_agree ts n (fault.TooDeep p) (fault.LeftOut q) a b = let h = sym b ∙ a.0 in cc h
 faults_agree ts n (fault.Syntax p) (fault.LeftOut q) a b = let h = sym b ∙ a.0 in cc h
-faults_agree ts n fault.Memory f a b = tt
-faults_agree ts n e fault.Memory a b = tt
+faults_agree ts n fault.NoMemory f a b = tt
+faults_agree ts n e fault.NoMemory a b = tt
 
 -- a fault, and a tree of the same tokens
 not_both : (ts : List Token) (n : ℕ) (e : ParseFault) (u : ast.Unit) → Answers ts n (Err e) → Answers ts n (Ok u) → Agree (Err e) (Ok u)
 not_both ts n (fault.LeftOut p) u a b = let h = sym a ∙ b.0 in cc h
 not_both ts n (fault.TooDeep p) u a b = not_deep ts p (unit_tree u) a.1 b.1.shaped b.1.spells
 not_both ts n (fault.Syntax p) u a b = not_wrong ts n p (unit_tree u) a.2 b.1.shaped b.1.spells
-not_both ts n fault.Memory u a b = tt
+not_both ts n fault.NoMemory u a b = tt
 
 agree_symmetric : (e : ParseFault) (u : ast.Unit) → Agree (Err e) (Ok u) → Agree (Ok u) (Err e)
-agree_symmetric fault.Memory u h = tt
+agree_symmetric fault.NoMemory u h = tt
 agree_symmetric e u h = h
 
 pub one_answer : OneAnswer
@@ -117,5 +117,5 @@ pub shaped_is_accepted : ShapedIsAccepted
 shaped_is_accepted t n (Err (fault.LeftOut p)) h a = let e = sym a ∙ none_left_out t h.0 in cc e
 shaped_is_accepted t n (Err (fault.TooDeep p)) h a = not_deep (tokens_of t) p t a.1 h refl
 shaped_is_accepted t n (Err (fault.Syntax p)) h a = not_wrong (tokens_of t) n p t a.2 h refl
-shaped_is_accepted t n (Err fault.Memory) h a = tt
+shaped_is_accepted t n (Err fault.NoMemory) h a = tt
 shaped_is_accepted t n (Ok u) h a = sym (a.1.only t h refl)

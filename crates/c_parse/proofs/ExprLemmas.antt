@@ -9,25 +9,25 @@ use Rattle.c_ast.specs.declared.operator.BinaryOp.{BinaryOp}
 use Rattle.c_ast.specs.declared.operator.BinaryOp.TheVariants as binary
 use Rattle.c_ast.specs.declared.operator.Selection.{Selection}
 use Rattle.c_ast.specs.declared.operator.Selection.TheVariants as selection
-use Rattle.c_ast.specs.declared.operator.Step.{Step}
-use Rattle.c_ast.specs.declared.operator.Step.TheVariants as step
+use Rattle.c_ast.specs.declared.operator.IncDec.{IncDec}
+use Rattle.c_ast.specs.declared.operator.IncDec.TheVariants as step
 use Rattle.c_ast.specs.declared.operator.UnaryOp.{UnaryOp}
 use Rattle.c_ast.specs.declared.operator.UnaryOp.TheVariants as unary
-use Rattle.c_ast.specs.Classes.{Class, level_number}
-use Rattle.c_ast.specs.Grammar.{T, parts_of, production}
-use Rattle.c_ast.specs.Labels.{Label}
-use Rattle.c_ast.specs.Operators.{selection_label, selection_mark, step_mark, unary_mark, binary_mark, binary_level, assign_mark}
-use Rattle.c_ast.specs.Terminals.{Mark, AnyName, BinaryMark, AssignMark, StepMark, UnaryMark, is, mark_number, is_step_mark, is_unary_mark, is_assign_mark, is_of_level, operator_level}
+use Rattle.c_ast.specs.Nonterminals.{Nonterminal, level_number}
+use Rattle.c_ast.specs.Grammar.{T, symbols_of, rule}
+use Rattle.c_ast.specs.Productions.{Production}
+use Rattle.c_ast.specs.Operators.{selection_production, selection_mark, inc_dec_mark, unary_mark, binary_mark, binary_level, assign_mark}
+use Rattle.c_ast.specs.Terminals.{Mark, AnyName, BinaryMark, AssignMark, IncDecMark, UnaryMark, is, mark_number, is_inc_dec_mark, is_unary_mark, is_assign_mark, is_of_level, operator_level}
 use Rattle.c_ast.specs.Tree.{Tree, Node, Cons}
 use Rattle.c_ast.proofs.ExprViews.{expr_views}
 use Rattle.c_ast.proofs.ListLemmas.{grows}
-use Rattle.c_grammar.specs.Reader.{Out, Done, and_then, read, step as reader_step, first, parts, turns, goes_on, later, token, label_of}
-use Rattle.c_grammar.specs.Starts.{head, next}
+use Rattle.c_grammar.specs.Reader.{ReadResult, Read, and_then, read, step as reader_step, first, children, turns, goes_on, later, token, production_of}
+use Rattle.c_grammar.specs.PredictSets.{head, next}
 use Rattle.c_parse.proofs.ReadLemmas.{loops, token-as, at_mark}
 use Rattle.c_parse.proofs.TypeViews.{type-tree}
-use Rattle.c_parse.proofs.SameClass.{sizeof-type, sizeof-other}
+use Rattle.c_parse.proofs.SameNonterminal.{sizeof-type, sizeof-other}
 
-pub read-steps : (n : ℕ) (c : Class) (ts : List Token) → 0 < n →
+pub read-steps : (n : ℕ) (c : Nonterminal) (ts : List Token) → 0 < n →
     read n c ts ≡ and_then (first (read (n - 1)) c ts) (turns (read (n - 1)) n c)
 unfolding read reader_step
 read-steps zero c ts h = absurd (omega arith)
@@ -36,13 +36,13 @@ read-steps (suc n) c ts h = let e : suc n - 1 ≡ n = omega arith in rw e
 less : (n i : ℕ) → i < n → n - i ≡ suc (n - (i + 1))
 less n i h = omega arith
 
-pub turn-none : (rd : Class → List Token → Out) (n i : ℕ) (c : Class) (t : Tree) (ts : List Token) →
-    i < n → next c (label_of t) (head ts) ≡ None → turns rd (n - i) c t ts ≡ Done t ts
+pub turn-none : (rd : Nonterminal → List Token → ReadResult) (n i : ℕ) (c : Nonterminal) (t : Tree) (ts : List Token) →
+    i < n → next c (production_of t) (head ts) ≡ None → turns rd (n - i) c t ts ≡ Read t ts
 unfolding turns goes_on
 turn-none rd n i c t ts h e = rw (less n i h, e)
 
-pub turn-some : (rd : Class → List Token → Out) (n i : ℕ) (c : Class) (t : Tree) (ts : List Token) (l : Label) →
-    i < n → next c (label_of t) (head ts) ≡ Some l → turns rd (n - i) c t ts ≡ and_then (later rd l t ts) (turns rd (n - (i + 1)) c)
+pub turn-some : (rd : Nonterminal → List Token → ReadResult) (n i : ℕ) (c : Nonterminal) (t : Tree) (ts : List Token) (l : Production) →
+    i < n → next c (production_of t) (head ts) ≡ Some l → turns rd (n - i) c t ts ≡ and_then (later rd l t ts) (turns rd (n - (i + 1)) c)
 unfolding turns goes_on
 turn-some rd n i c t ts l h e = rw (less n i h, e)
 
@@ -62,10 +62,10 @@ unfolding is is_assign_mark assign_mark
 assign_is assign.Plain = refl
 assign_is op = refl
 
-step_is : (s : Step) → is StepMark (kind.Punct (step_mark s)) ≡ true
-unfolding is is_step_mark step_mark
-step_is step.Up = refl
-step_is step.Down = refl
+inc_dec_is : (s : IncDec) → is IncDecMark (kind.Punct (inc_dec_mark s)) ≡ true
+unfolding is is_inc_dec_mark inc_dec_mark
+inc_dec_is step.Increment = refl
+inc_dec_is step.Decrement = refl
 
 unary_is : (op : UnaryOp) → is UnaryMark (kind.Punct (unary_mark op)) ≡ true
 unfolding is is_unary_mark unary_mark
@@ -80,19 +80,19 @@ pub token-assign : (op : AssignOp) (ts : List Token) → head ts ≡ Some (kind.
     token AssignMark ts ≡ token (Mark (assign_mark op)) ts
 token-assign op ts h = token-as _ _ (kind.Punct (assign_mark op)) ts h (assign_is op) (mark_is (assign_mark op))
 
-pub token-step : (s : Step) (ts : List Token) → head ts ≡ Some (kind.Punct (step_mark s)) →
-    token StepMark ts ≡ token (Mark (step_mark s)) ts
-token-step s ts h = token-as _ _ (kind.Punct (step_mark s)) ts h (step_is s) (mark_is (step_mark s))
+pub token-inc_dec : (s : IncDec) (ts : List Token) → head ts ≡ Some (kind.Punct (inc_dec_mark s)) →
+    token IncDecMark ts ≡ token (Mark (inc_dec_mark s)) ts
+token-inc_dec s ts h = token-as _ _ (kind.Punct (inc_dec_mark s)) ts h (inc_dec_is s) (mark_is (inc_dec_mark s))
 
 pub token-unary : (op : UnaryOp) (ts : List Token) → head ts ≡ Some (kind.Punct (unary_mark op)) →
     token UnaryMark ts ≡ token (Mark (unary_mark op)) ts
 token-unary op ts h = token-as _ _ (kind.Punct (unary_mark op)) ts h (unary_is op) (mark_is (unary_mark op))
 
-pub later-select : (rd : Class → List Token → Out) (s : Selection) (t : Tree) (ts : List Token) →
-    later rd (selection_label s) t ts
-    ≡ and_then (parts rd (T (Mark (selection_mark s)) ∷ T AnyName ∷ []) ts) (λ f k. Done (Node (selection_label s) (Cons t f)) k)
-unfolding later parts_of production selection_label selection_mark
+pub later-select : (rd : Nonterminal → List Token → ReadResult) (s : Selection) (t : Tree) (ts : List Token) →
+    later rd (selection_production s) t ts
+    ≡ and_then (children rd (T (Mark (selection_mark s)) ∷ T AnyName ∷ []) ts) (λ f k. Read (Node (selection_production s) (Cons t f)) k)
+unfolding later symbols_of rule selection_production selection_mark
 later-select rd selection.Dot t ts = refl
 later-select rd selection.Arrow t ts = refl
 
-pub ruleset expressions = (loops, grows, expr_views, read-steps, turn-none, turn-some, token-binary, token-assign, token-step, token-unary, later-select, type-tree, sizeof-type, sizeof-other)
+pub ruleset expressions = (loops, grows, expr_views, read-steps, turn-none, turn-some, token-binary, token-assign, token-inc_dec, token-unary, later-select, type-tree, sizeof-type, sizeof-other)

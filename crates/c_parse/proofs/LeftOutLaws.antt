@@ -8,25 +8,25 @@ use Rattle.c_lex.specs.declared.token.Token.{Token}
 use Rattle.c_lex.specs.declared.token.TokenKind.{TokenKind}
 use Rattle.c_lex.specs.declared.token.TokenKind.TheVariants as kind
 use Rattle.c_lex.specs.Keywords as keyword
-use Rattle.c_ast.specs.Grammar.{Sym, T, N, Form, One, All, Fits, production, parts_of, repeated, optional}
-use Rattle.c_ast.specs.Labels.{Label, Repeated, Optional}
-use Rattle.c_ast.specs.Labels as label
+use Rattle.c_ast.specs.Grammar.{Symbol, T, N, Form, One, All, Fits, rule, symbols_of, repeated, optional}
+use Rattle.c_ast.specs.Productions.{Production, Repeated, Optional}
+use Rattle.c_ast.specs.Productions as production
 use Rattle.c_ast.specs.Shape.{FollowsGrammar}
 use Rattle.c_ast.specs.Spelling.{spelled, tokens_of}
-use Rattle.c_ast.specs.Terminals.{Terminal, Word, SignWord, is, word_number}
+use Rattle.c_ast.specs.Terminals.{Terminal, Word, SignWord, is, keyword_number}
 use Rattle.c_ast.specs.Tree.{Tree, Leaf, Node, Nil, Cons}
 use Rattle.c_parse.specs.LeftOut.{is_left_out, first_left_out}
 
 -- ---- terminals
 
 -- the keywords that are left out have the last numbers
-word_kept : (k : Keyword) → keyword.is_left_out k ≡ nat_le 21 (word_number k)
-unfolding word_number
+word_kept : (k : Keyword) → keyword.is_left_out k ≡ nat_le 21 (keyword_number k)
+unfolding keyword_number
 word_kept word.Break = refl
 word_kept k = refl
 
 sign_kept : (k : Keyword) → is SignWord (kind.Keyword k) ≡ true → keyword.is_left_out k ≡ false
-unfolding is word_number
+unfolding is keyword_number
 sign_kept word.Signed e = refl
 sign_kept word.Unsigned e = refl
 sign_kept k e = cc e
@@ -42,39 +42,39 @@ not_true false e = refl
 terminal_kept : (s : Terminal) (k : TokenKind) → keeps s ≡ true → is s k ≡ true → is_left_out k ≡ false
 unfolding keeps is
 terminal_kept (Word w) (kind.Keyword k) h e =
-    word_kept k ∙ ap (nat_le 21) (sym (eqb-true (word_number w) (word_number k) e)) ∙ sym (word_kept w) ∙ not_true _ h
+    word_kept k ∙ ap (nat_le 21) (sym (eqb-true (keyword_number w) (keyword_number k) e)) ∙ sym (word_kept w) ∙ not_true _ h
 terminal_kept SignWord (kind.Keyword k) h e = sign_kept k e
 terminal_kept s (kind.Keyword k) h e = cc e
 terminal_kept s k h e = refl
 
 -- ---- productions
 
-all_kept : List Sym → Bool
+all_kept : List Symbol → Bool
 all_kept [] = true
-all_kept (T s ∷ syms) = keeps s && all_kept syms
-all_kept (N c ∷ syms) = all_kept syms
+all_kept (T s ∷ symbols) = keeps s && all_kept symbols
+all_kept (N c ∷ symbols) = all_kept symbols
 
 repeated_kept : (k : Repeated) → all_kept (repeated k) ≡ true
 unfolding repeated all_kept keeps
-repeated_kept label.Externals = refl
+repeated_kept production.Externals = refl
 repeated_kept k = refl
 
 optional_kept : (k : Optional) → all_kept (optional k) ≡ true
 unfolding optional all_kept keeps
-optional_kept label.Constant = refl
+optional_kept production.Constant = refl
 optional_kept k = refl
 
-parts_kept : (l : Label) → all_kept (parts_of l) ≡ true
-unfolding parts_of production all_kept keeps
-parts_kept (label.More k) = repeated_kept k
-parts_kept (label.Present k) = optional_kept k
+parts_kept : (l : Production) → all_kept (symbols_of l) ≡ true
+unfolding symbols_of rule all_kept keeps
+parts_kept (production.More k) = repeated_kept k
+parts_kept (production.Present k) = optional_kept k
 parts_kept l = refl
 
 -- ---- trees
 
 form_kept : Form → Bool
 form_kept (One c) = true
-form_kept (All syms) = all_kept syms
+form_kept (All symbols) = all_kept symbols
 
 and_left : (a b : Bool) → (a && b) ≡ true → a ≡ true
 and_left true b e = refl
@@ -89,14 +89,14 @@ none_more x ts e n = rw e n
 
 none_in : (f : Form) (t : Tree) (more : List Token) → Fits f t → form_kept f ≡ true → find (λ t. is_left_out t.kind) more ≡ None → find (λ t. is_left_out t.kind) (spelled t more) ≡ None
 unfolding Fits form_kept all_kept spelled
-none_in (One c) (Node l parts) more h k n = none_in (All (parts_of l)) parts more h.2 (parts_kept l) n
+none_in (One c) (Node l children) more h k n = none_in (All (symbols_of l)) children more h.2 (parts_kept l) n
 none_in (All []) Nil more h k n = n
-none_in (All (T s ∷ syms)) (Cons (Leaf x) parts) more h k n =
-    none_more x (spelled parts more)
-    (terminal_kept s x.kind (and_left (keeps s) (all_kept syms) k) h.0)
-    (none_in (All syms) parts more h.1 (and_right (keeps s) (all_kept syms) k) n)
-none_in (All (N c ∷ syms)) (Cons part parts) more h k n =
-    none_in (One c) part (spelled parts more) h.0 refl (none_in (All syms) parts more h.1 k n)
+none_in (All (T s ∷ symbols)) (Cons (Leaf x) children) more h k n =
+    none_more x (spelled children more)
+    (terminal_kept s x.kind (and_left (keeps s) (all_kept symbols) k) h.0)
+    (none_in (All symbols) children more h.1 (and_right (keeps s) (all_kept symbols) k) n)
+none_in (All (N c ∷ symbols)) (Cons child children) more h k n =
+    none_in (One c) child (spelled children more) h.0 refl (none_in (All symbols) children more h.1 k n)
 none_in f t more h k n = absurd h
 
 pub none_left_out : (t : Tree) → FollowsGrammar t → first_left_out (tokens_of t) ≡ None

@@ -9,7 +9,7 @@ pub mod LiteralLemmas
 pub mod Marks
 pub mod OperandLemmas
 pub mod ReadLemmas
-pub mod SameClass
+pub mod SameNonterminal
 pub mod TypeViews
 pub mod AnswerLaws
 pub mod Counters

@@ -5,7 +5,7 @@ use Rattle.c_lex.specs.declared.keyword.Keyword.{Keyword}
 use Rattle.c_lex.specs.declared.keyword.Keyword.TheVariants as w
 use Rattle.c_lex.specs.declared.punct.Punct.{Punct}
 use Rattle.c_lex.specs.declared.punct.Punct.TheVariants as m
-use Rattle.c_ast.specs.Terminals.{mark_number, word_number}
+use Rattle.c_ast.specs.Terminals.{mark_number, keyword_number}
 use Rattle.c_grammar.proofs.Lists.{nth}
 
 other_words : List Keyword
@@ -24,8 +24,8 @@ other_marks =
     m.AmpAmp ∷ m.PipePipe ∷ m.Question ∷ m.Colon ∷ m.Equal ∷ m.StarEqual ∷ m.SlashEqual ∷ m.PercentEqual ∷
     m.PlusEqual ∷ m.MinusEqual ∷ m.ShiftLeftEqual ∷ m.ShiftRightEqual ∷ m.AmpEqual ∷ m.CaretEqual ∷ m.PipeEqual ∷ []
 
-word_at : (k : Keyword) → nth w.Break other_words (word_number k) ≡ k
-unfolding word_number other_words
+word_at : (k : Keyword) → nth w.Break other_words (keyword_number k) ≡ k
+unfolding keyword_number other_words
 word_at w.Break = refl
 word_at k = refl
 
@@ -34,8 +34,8 @@ unfolding mark_number other_marks
 mark_at m.LParen = refl
 mark_at p = refl
 
-pub same_word : (j k : Keyword) → (word_number j == word_number k) ≡ true → j ≡ k
-same_word j k h = sym (word_at j) ∙ ap (nth w.Break other_words) (eqb-true (word_number j) (word_number k) h) ∙ word_at k
+pub same_word : (j k : Keyword) → (keyword_number j == keyword_number k) ≡ true → j ≡ k
+same_word j k h = sym (word_at j) ∙ ap (nth w.Break other_words) (eqb-true (keyword_number j) (keyword_number k) h) ∙ word_at k
 
 pub same_mark : (p q : Punct) → (mark_number p == mark_number q) ≡ true → p ≡ q
 same_mark p q h = sym (mark_at p) ∙ ap (nth m.LParen other_marks) (eqb-true (mark_number p) (mark_number q) h) ∙ mark_at q

@@ -9,14 +9,14 @@ use Rattle.c_lex.specs.declared.token.Token.{Token}
 use Rattle.c_lex.specs.declared.token.TokenKind.{TokenKind}
 use Rattle.c_lex.specs.declared.token.TokenKind.TheVariants as kind
 use Rattle.c_ast.specs.declared.token.Span.{Span}
-use Rattle.c_ast.specs.Parts.{mark, word, name, none_of}
-use Rattle.c_ast.specs.Terminals.{Terminal, Mark, Word, AnyName, SignWord, is, mark_number, word_number}
+use Rattle.c_ast.specs.Nodes.{mark, word, name, none_of}
+use Rattle.c_ast.specs.Terminals.{Terminal, Mark, Word, AnyName, SignWord, is, mark_number, keyword_number}
 use Rattle.c_ast.specs.Tree.{Tree, Leaf, Node, Cons}
-use Rattle.c_grammar.specs.Reader.{Out, Done, Fail, Deep, token, and_then, read, step, first, begun, parts, turns, goes_on, later}
-use Rattle.c_grammar.specs.Starts.{head, at, start, next, begins_repeated}
-use Rattle.c_ast.specs.Classes.{Class, Many}
-use Rattle.c_ast.specs.Grammar.{parts_of, production, repeated}
-use Rattle.c_ast.specs.Labels.{Repeated, More}
+use Rattle.c_grammar.specs.Reader.{ReadResult, Read, SyntaxError, OutOfFuel, token, and_then, read, step, first, begun, children, turns, goes_on, later}
+use Rattle.c_grammar.specs.PredictSets.{head, at, start, next, begins_repeated}
+use Rattle.c_ast.specs.Nonterminals.{Nonterminal, Many}
+use Rattle.c_ast.specs.Grammar.{symbols_of, rule, repeated}
+use Rattle.c_ast.specs.Productions.{Repeated, More}
 use Rattle.c_parse.specs.declared.fault.Fault.{Fault}
 use Rattle.c_parse.specs.declared.fault.Fault.TheVariants as fault
 use Rattle.c_parse.specs.Reading.{Gives, Takes, token_at, name_of}
@@ -40,31 +40,31 @@ pub at_some : (p : TokenKind → Bool) (h : Option TokenKind) → at p h ≡ tru
 at_some p None e = cc
 at_some p (Some k) e = refl
 
-pub token-fails : (s : Terminal) (ts : List Token) → at (is s) (head ts) ≡ false → token s ts ≡ Fail ts
+pub token-fails : (s : Terminal) (ts : List Token) → at (is s) (head ts) ≡ false → token s ts ≡ SyntaxError ts
 unfolding token
 token-fails s [] e = refl
 token-fails s (x ∷ ts) e = rw e
 
 pub token-taken : (s : Terminal) (k : TokenKind) (span : Span) (ts more : List Token) →
-    head ts ≡ Some k → Takes ts span more → is s k ≡ true → token s ts ≡ Done (Leaf (token_at k span)) more
+    head ts ≡ Some k → Takes ts span more → is s k ≡ true → token s ts ≡ Read (Leaf (token_at k span)) more
 unfolding token
 token-taken s k span ts more h taken e =
-    ap (token s) (taken k h) ∙ (let P : Bool → Out = λ b. if b then Done (Leaf (token_at k span)) more else Fail (token_at k span ∷ more) in ap P e)
+    ap (token s) (taken k h) ∙ (let P : Bool → ReadResult = λ b. if b then Read (Leaf (token_at k span)) more else SyntaxError (token_at k span ∷ more) in ap P e)
 
 pub token-mark : (p : Punct) (span : Span) (ts more : List Token) →
-    at (is (Mark p)) (head ts) ≡ true → Takes ts span more → token (Mark p) ts ≡ Done (mark p span) more
+    at (is (Mark p)) (head ts) ≡ true → Takes ts span more → token (Mark p) ts ≡ Read (mark p span) more
 unfolding is
 token-mark p span ts more e taken =
     token-taken (Mark p) (kind.Punct p) span ts more (at_mark p (head ts) e) taken (eq-eqb (mark_number p) (mark_number p) refl)
 
 pub token-word : (w : Keyword) (span : Span) (ts more : List Token) →
-    at (is (Word w)) (head ts) ≡ true → Takes ts span more → token (Word w) ts ≡ Done (word w span) more
+    at (is (Word w)) (head ts) ≡ true → Takes ts span more → token (Word w) ts ≡ Read (word w span) more
 unfolding is
 token-word w span ts more e taken =
-    token-taken (Word w) (kind.Keyword w) span ts more (at_word w (head ts) e) taken (eq-eqb (word_number w) (word_number w) refl)
+    token-taken (Word w) (kind.Keyword w) span ts more (at_word w (head ts) e) taken (eq-eqb (keyword_number w) (keyword_number w) refl)
 
 pub token-name : (n : Name) (span : Span) (ts more : List Token) →
-    option_and_then name_of (head ts) ≡ Some n → Takes ts span more → token AnyName ts ≡ Done (name (record { name = n; span = span })) more
+    option_and_then name_of (head ts) ≡ Some n → Takes ts span more → token AnyName ts ≡ Read (name (record { name = n; span = span })) more
 unfolding is
 token-name n span ts more e taken = token-taken AnyName (kind.Name n) span ts more (by_head (head ts) e) taken refl
   where
@@ -77,7 +77,7 @@ pub some_name : (h : Option TokenKind) → IsSome (option_and_then name_of h) �
 some_name None e = e
 some_name (Some k) e = refl
 
-pub token-no_name : (ts : List Token) → option_and_then name_of (head ts) ≡ None → token AnyName ts ≡ Fail ts
+pub token-no_name : (ts : List Token) → option_and_then name_of (head ts) ≡ None → token AnyName ts ≡ SyntaxError ts
 unfolding is
 token-no_name ts e = token-fails AnyName ts (by_head (head ts) e)
   where
@@ -94,42 +94,42 @@ unfolding token
 token-as s z k [] h e d = cc
 token-as s z k (x ∷ ts) h e d = by_kind x.kind h
   where
-    by_kind : (j : TokenKind) → Some j ≡ Some k → (if is s j then Done (Leaf x) ts else Fail (x ∷ ts)) ≡ (if is z j then Done (Leaf x) ts else Fail (x ∷ ts))
+    by_kind : (j : TokenKind) → Some j ≡ Some k → (if is s j then Read (Leaf x) ts else SyntaxError (x ∷ ts)) ≡ (if is z j then Read (Leaf x) ts else SyntaxError (x ∷ ts))
     by_kind j h = let same : j ≡ k = cc in rw (same, e, d)
 
 -- ---- `signed` and `unsigned`
 
 pub token-unsigned : (ts : List Token) → at (is (Word w.Unsigned)) (head ts) ≡ true → token SignWord ts ≡ token (Word w.Unsigned) ts
-unfolding is word_number
+unfolding is keyword_number
 token-unsigned ts e = token-as SignWord (Word w.Unsigned) (kind.Keyword w.Unsigned) ts (at_word w.Unsigned (head ts) e) refl refl
 
 pub token-signed : (ts : List Token) → at (is (Word w.Unsigned)) (head ts) ≡ false → token SignWord ts ≡ token (Word w.Signed) ts
-unfolding token is word_number
+unfolding token is keyword_number
 token-signed [] e = refl
-token-signed (x ∷ ts) e = ap (λ (b : Bool). if b then Done (Leaf x) ts else Fail (x ∷ ts)) (by_kind x.kind e)
+token-signed (x ∷ ts) e = ap (λ (b : Bool). if b then Read (Leaf x) ts else SyntaxError (x ∷ ts)) (by_kind x.kind e)
   where
     by_kind : (k : TokenKind) → is (Word w.Unsigned) k ≡ false → is SignWord k ≡ is (Word w.Signed) k
     by_kind (kind.Keyword w.Unsigned) e = cc
     by_kind (kind.Keyword w.Signed) e = refl
     by_kind k e = refl
 
--- ---- rows of symbols
+-- ---- sequences of symbols
 
-pub err-then : {X Y : Type 0} (view : X → Tree) (view' : Y → Tree) (o : Out) (f : Tree → List Token → Out) (e : Fault) (left : List Token) →
+pub err-then : {X Y : Type 0} (view : X → Tree) (view' : Y → Tree) (o : ReadResult) (f : Tree → List Token → ReadResult) (e : Fault) (left : List Token) →
     Gives view o (Err e) left → Gives view' (and_then o f) (Err e) left
-err-then view view' o f fault.Syntax left h = ap (λ (x : Out). and_then x f) h
-err-then view view' o f fault.Deep left h = ap (λ (x : Out). and_then x f) h
-err-then view view' o f fault.Memory left h = tt
+err-then view view' o f fault.Syntax left h = ap (λ (x : ReadResult). and_then x f) h
+err-then view view' o f fault.OutOfFuel left h = ap (λ (x : ReadResult). and_then x f) h
+err-then view view' o f fault.NoMemory left h = tt
 
-pub done-then : (o : Out) (f : Tree → List Token → Out) (t : Tree) (ts : List Token) → o ≡ Done t ts → and_then o f ≡ f t ts
-done-then o f t ts h = ap (λ (x : Out). and_then x f) h
+pub done-then : (o : ReadResult) (f : Tree → List Token → ReadResult) (t : Tree) (ts : List Token) → o ≡ Read t ts → and_then o f ≡ f t ts
+done-then o f t ts h = ap (λ (x : ReadResult). and_then x f) h
 
-pub read-suc : (n : ℕ) (c : Class) (ts : List Token) → (0 < n) → read n c ts ≡ step (n - 1) (read (n - 1)) c ts
+pub read-suc : (n : ℕ) (c : Nonterminal) (ts : List Token) → (0 < n) → read n c ts ≡ step (n - 1) (read (n - 1)) c ts
 unfolding read
 read-suc zero c ts h = absurd (omega arith)
 read-suc (suc n) c ts h = let e : suc n - 1 ≡ n = omega arith in rw e
 
-pub read-zero : (n : ℕ) (c : Class) (ts : List Token) → n ≡ 0 → read n c ts ≡ Deep
+pub read-zero : (n : ℕ) (c : Nonterminal) (ts : List Token) → n ≡ 0 → read n c ts ≡ OutOfFuel
 unfolding read
 read-zero n c ts h = ap (λ (m : ℕ). read m c ts) h
 
@@ -137,36 +137,36 @@ pub ruleset stepping = (err-then, done-then, read-suc, read-zero)
 
 -- ---- repetitions
 
-pub then-then : (o : Out) (f g : Tree → List Token → Out) →
+pub then-then : (o : ReadResult) (f g : Tree → List Token → ReadResult) →
     and_then (and_then o f) g ≡ and_then o (λ t k. and_then (f t k) g)
-then-then (Done t k) f g = refl
-then-then (Fail k) f g = refl
-then-then Deep f g = refl
+then-then (Read t k) f g = refl
+then-then (SyntaxError k) f g = refl
+then-then OutOfFuel f g = refl
 
 pub many-first : (n : ℕ) (k : Repeated) (ts : List Token) →
     0 < n → read n (Many k) ts ≡ turns (read (n - 1)) (n - 0) (Many k) (none_of k) ts
-unfolding read step first begun start parts_of production parts
+unfolding read step first begun start symbols_of rule children
 many-first zero k ts h = absurd (omega arith)
 many-first (suc n) k ts h = let e : suc n - 1 ≡ n = omega arith in let d : suc n - 0 ≡ suc n = omega arith in rw (e, d)
 
 less : (n i : ℕ) → i < n → n - i ≡ suc (n - (i + 1))
 less n i h = omega arith
 
-pub many-on : (rd : Class → List Token → Out) (n i : ℕ) (k : Repeated) (t : Tree) (ts : List Token) →
+pub many-on : (rd : Nonterminal → List Token → ReadResult) (n i : ℕ) (k : Repeated) (t : Tree) (ts : List Token) →
     i < n → at (begins_repeated k) (head ts) ≡ true →
     turns rd (n - i) (Many k) t ts
-    ≡ and_then (parts rd (repeated k) ts) (λ f j. turns rd (n - (i + 1)) (Many k) (Node (More k) (Cons t f)) j)
-unfolding turns goes_on later next parts_of production
+    ≡ and_then (children rd (repeated k) ts) (λ f j. turns rd (n - (i + 1)) (Many k) (Node (More k) (Cons t f)) j)
+unfolding turns goes_on later next symbols_of rule
 many-on rd n i k t ts h e =
-    rw (less n i h, e) (then-then (parts rd (repeated k) ts) (λ f j. Done (Node (More k) (Cons t f)) j) (turns rd (n - (i + 1)) (Many k)))
+    rw (less n i h, e) (then-then (children rd (repeated k) ts) (λ f j. Read (Node (More k) (Cons t f)) j) (turns rd (n - (i + 1)) (Many k)))
 
-pub many-end : (rd : Class → List Token → Out) (n i : ℕ) (k : Repeated) (t : Tree) (ts : List Token) →
-    i < n → at (begins_repeated k) (head ts) ≡ false → turns rd (n - i) (Many k) t ts ≡ Done t ts
+pub many-end : (rd : Nonterminal → List Token → ReadResult) (n i : ℕ) (k : Repeated) (t : Tree) (ts : List Token) →
+    i < n → at (begins_repeated k) (head ts) ≡ false → turns rd (n - i) (Many k) t ts ≡ Read t ts
 unfolding turns goes_on next
 many-end rd n i k t ts h e = rw (less n i h, e)
 
-pub turns-deep : (rd : Class → List Token → Out) (n i : ℕ) (c : Class) (t : Tree) (ts : List Token) →
-    n ≤ i → turns rd (n - i) c t ts ≡ Deep
+pub turns-deep : (rd : Nonterminal → List Token → ReadResult) (n i : ℕ) (c : Nonterminal) (t : Tree) (ts : List Token) →
+    n ≤ i → turns rd (n - i) c t ts ≡ OutOfFuel
 unfolding turns
 turns-deep rd n i c t ts h = let e : n - i ≡ 0 = omega arith in rw e
 
@@ -174,5 +174,5 @@ pub ruleset signs = (token-unsigned, token-signed)
 
 pub ruleset loops = (stepping, many-first, many-on, many-end, turns-deep)
 
--- for classes whose reading is spelled out
+-- for nonterminals whose reading is spelled out
 pub ruleset repeats = (err-then, done-then, read-zero, many-first, many-on, many-end, turns-deep)

@@ -13,8 +13,8 @@ use Rattle.c_ast.specs.declared.statement.Label.{Label}
 use Rattle.c_ast.specs.declared.statement.Stmt.{Stmt}
 use Rattle.c_ast.specs.declared.token.Span.{Span}
 use Rattle.c_ast.specs.Expressions.{type_tree, dimensions}
-use Rattle.c_ast.specs.Labels as l
-use Rattle.c_ast.specs.Parts.{node, mark}
+use Rattle.c_ast.specs.Productions as l
+use Rattle.c_ast.specs.Nodes.{node, mark}
 use Rattle.c_ast.specs.Specifiers.{constant, spec_tree, stars}
 use Rattle.c_ast.specs.Statements.{block_tree, items_tree, group_tree, label_tree, labels_tree, stmt_tree, stmts_tree}
 

@@ -2,10 +2,10 @@
 use Rattle.std.specs.Prelude.{Bool, true, false}
 use Rattle.c_ast.specs.declared.specifier.Spec.{Spec}
 use Rattle.c_ast.specs.declared.specifier.Spec.TheVariants as named
-use Rattle.c_ast.specs.Labels.{Label}
-use Rattle.c_ast.specs.Labels as label
-use Rattle.c_parse.specs.declared.ahead.BaseWord.{BaseWord}
-use Rattle.c_parse.specs.declared.ahead.BaseWord.TheVariants as word
+use Rattle.c_ast.specs.Productions.{Production}
+use Rattle.c_ast.specs.Productions as production
+use Rattle.c_parse.specs.declared.ahead.BaseKeyword.{BaseKeyword}
+use Rattle.c_parse.specs.declared.ahead.BaseKeyword.TheVariants as word
 use Rattle.c_parse.specs.declared.ahead.SpecStart.{SpecStart}
 use Rattle.c_parse.specs.declared.ahead.SpecStart.TheVariants as spec
 use Rattle.c_parse.specs.declared.ahead.StmtStart.{StmtStart}
@@ -17,42 +17,42 @@ use Rattle.c_parse.specs.declared.ahead.LabelStart.TheVariants as case
 use Rattle.c_parse.specs.declared.ahead.ExternalStart.{ExternalStart}
 use Rattle.c_parse.specs.declared.ahead.ExternalStart.TheVariants as external
 
-abbrev pub base_label : BaseWord → Label
-base_label word.Char = label.Char
-base_label word.Int = label.Int
-base_label word.Short = label.Short
+abbrev pub base_production : BaseKeyword → Production
+base_production word.Char = production.Char
+base_production word.Int = production.Int
+base_production word.Short = production.Short
 
-abbrev pub spec_label : SpecStart → Label
-spec_label spec.Void = label.Void
-spec_label (spec.Base w) = base_label w
-spec_label spec.Struct = label.StructTag
-spec_label spec.Signed = label.Signed
+abbrev pub spec_production : SpecStart → Production
+spec_production spec.Void = production.Void
+spec_production (spec.Base w) = base_production w
+spec_production spec.Struct = production.StructTag
+spec_production spec.Signed = production.Signed
 
-abbrev pub simple_label : SimpleStart → Label
-simple_label simple.Null = label.Null
-simple_label simple.Expression = label.Expression
-simple_label simple.Break = label.Break
-simple_label simple.Continue = label.Continue
-simple_label simple.Return = label.Return
+abbrev pub simple_production : SimpleStart → Production
+simple_production simple.Null = production.Null
+simple_production simple.Expression = production.Expression
+simple_production simple.Break = production.Break
+simple_production simple.Continue = production.Continue
+simple_production simple.Return = production.Return
 
-abbrev pub stmt_label : StmtStart → Label
-stmt_label (stmt.Simple s) = simple_label s
-stmt_label stmt.Block = label.Block
-stmt_label stmt.If = label.If
-stmt_label stmt.While = label.While
-stmt_label stmt.Do = label.DoWhile
-stmt_label stmt.For = label.For
-stmt_label stmt.Switch = label.Switch
+abbrev pub stmt_production : StmtStart → Production
+stmt_production (stmt.Simple s) = simple_production s
+stmt_production stmt.Block = production.Block
+stmt_production stmt.If = production.If
+stmt_production stmt.While = production.While
+stmt_production stmt.Do = production.DoWhile
+stmt_production stmt.For = production.For
+stmt_production stmt.Switch = production.Switch
 
-abbrev pub case_label : LabelStart → Label
-case_label case.Case = label.Case
-case_label case.Default = label.Default
+abbrev pub case_production : LabelStart → Production
+case_production case.Case = production.Case
+case_production case.Default = production.Default
 
-abbrev pub external_label : ExternalStart → Label
-external_label external.Static = label.Static
-external_label external.Const = label.Const
-external_label external.Struct = label.Struct
-external_label external.Plain = label.Plain
+abbrev pub external_production : ExternalStart → Production
+external_production external.Static = production.Static
+external_production external.Const = production.Const
+external_production external.Struct = production.Struct
+external_production external.Plain = production.Plain
 
 -- whether a structure is named
 abbrev pub starts_struct : SpecStart → Bool

@@ -9,6 +9,6 @@ abbrev pub is_left_out : TokenKind → Bool
 is_left_out (kind.Keyword k) = keyword.is_left_out k
 is_left_out _ = false
 
--- the place of the first of them
+-- the offset of the first of them
 abbrev pub first_left_out : List Token → Option ℕ
 first_left_out ts = option_map (λ t. t.at) (find (λ t. is_left_out t.kind) ts)

@@ -7,18 +7,18 @@ use Rattle.c_lex.specs.declared.token.TokenKind.{TokenKind}
 use Rattle.c_lex.specs.declared.token.TokenKind.TheVariants as kind
 use Rattle.c_ast.specs.declared.token.Span.{Span}
 use Rattle.c_ast.specs.Tree.{Tree}
-use Rattle.c_grammar.specs.Reader.{Out, Done, Fail, Deep}
-use Rattle.c_grammar.specs.Starts.{head}
+use Rattle.c_grammar.specs.Reader.{ReadResult, Read, SyntaxError, OutOfFuel}
+use Rattle.c_grammar.specs.PredictSets.{head}
 use Rattle.c_parse.specs.declared.fault.Fault.{Fault}
 use Rattle.c_parse.specs.declared.fault.Fault.TheVariants as fault
 
--- The tree that the reader gives, with the same tokens behind it; or the same tokens from the first wrong one on; or the
--- reader's bound is passed. Want of memory comes in place of any answer.
-abbrev pub Gives : {X : Type 0} → (X → Tree) → Out → Result X Fault → List Token → Type 0
-Gives view o (Ok x) left = o ≡ Done (view x) left
-Gives view o (Err fault.Syntax) left = o ≡ Fail left
-Gives view o (Err fault.Deep) left = o ≡ Deep
-Gives view o (Err fault.Memory) left = Unit {0}
+-- The tree that the reader gives, with the same tokens after it; or the same tokens from the first wrong one on; or the
+-- reader's bound is passed. Want of memory comes in offset of any answer.
+abbrev pub Gives : {X : Type 0} → (X → Tree) → ReadResult → Result X Fault → List Token → Type 0
+Gives view o (Ok x) left = o ≡ Read (view x) left
+Gives view o (Err fault.Syntax) left = o ≡ SyntaxError left
+Gives view o (Err fault.OutOfFuel) left = o ≡ OutOfFuel
+Gives view o (Err fault.NoMemory) left = Unit {0}
 
 -- a token of this kind
 abbrev pub token_at : TokenKind → Span → Token
@@ -40,6 +40,6 @@ abbrev pub char_of : TokenKind → Option ℕ
 char_of (kind.Char c) = Some c
 char_of _ = None
 
-abbrev pub text_of : TokenKind → Option Bytes
-text_of (kind.Text cs) = Some cs
-text_of _ = None
+abbrev pub literal_of : TokenKind → Option Bytes
+literal_of (kind.Text cs) = Some cs
+literal_of _ = None

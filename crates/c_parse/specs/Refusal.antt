@@ -1,5 +1,6 @@
 -- What the parser answers on the tokens of a text, and that the answer is determined.
 use Rattle.std.specs.Prelude.{◌≡◌, ℕ, ◌<◌, ◌≤◌, ⊤, List, [], ◌∷◌, ◌++◌, Some, None, Result, Ok, Err}
+use Rattle.limits.specs.Limits.{most_nesting}
 use Rattle.c_lex.specs.declared.token.Token.{Token}
 use Rattle.c_ast.specs.declared.external.Unit as ast
 use Rattle.c_ast.specs.Externals.{unit_tree}
@@ -12,50 +13,50 @@ use Rattle.c_parse.specs.LeftOut.{first_left_out}
 use Rattle.c_parse.specs.declared.fault.ParseFault.{ParseFault}
 use Rattle.c_parse.specs.declared.fault.ParseFault.TheVariants as fault
 
--- Up to a token the nesting is at most 200 deep, and with it it is deeper. The token stands at this place.
-pub record FirstTooDeep (ts : List Token) (place : ℕ) : Type 0 where
+-- Up to a token the nesting is at most as deep as the language allows, and with it deeper. The token is at this offset.
+pub record FirstTooDeep (ts : List Token) (offset : ℕ) : Type 0 where
   pub before : List Token
   pub token : Token
   pub rest : List Token
   pub split : ts ≡ before ++ token ∷ rest
-  pub at : place ≡ token.at
-  pub shallow : depth (kinds before) ≤ 200
-  pub deep : 200 < depth (kinds (before ++ token ∷ []))
+  pub at : offset ≡ token.at
+  pub shallow : depth (kinds before) ≤ most_nesting
+  pub deep : most_nesting < depth (kinds (before ++ token ∷ []))
 
 -- where the next token stands, or the end of the text
-abbrev pub place_of : List Token → ℕ → ℕ
-place_of [] length = length
-place_of (x ∷ rest) length = x.at
+abbrev pub offset_of : List Token → ℕ → ℕ
+offset_of [] length = length
+offset_of (x ∷ rest) length = x.at
 
--- The tokens begin a program up to one that no program goes on with, or end before a program does. The place is that of
+-- The tokens begin a program up to one that no program goes on with, or end before a program does. The offset is that of
 -- the token, or the end of the text.
-pub record WrongAt (ts : List Token) (length place : ℕ) : Type 0 where
+pub record WrongAt (ts : List Token) (length offset : ℕ) : Type 0 where
   pub rest : List Token
   pub wrong : WrongFrom ts rest
-  pub at : place ≡ place_of rest length
+  pub at : offset ≡ offset_of rest length
 
--- the one shaped tree that spells these tokens, with their places
+-- the one shaped tree that spells these tokens, with their spans
 pub record IsTreeOf (ts : List Token) (t : Tree) : Type 0 where
   pub shaped : Shaped t
   pub spells : tokens_of t ≡ ts
   pub only : (u : Tree) → Shaped u → tokens_of u ≡ ts → u ≡ t
 
--- The answer on the tokens of a text of this length: the first of the three faults that there is, or the tree. Want of
--- memory comes in place of any answer.
+-- The answer on the tokens of a text of this length: the first of the three faults that there is, or the tree. Out of
+-- memory may come in place of any answer.
 abbrev pub Answers : List Token → ℕ → Result ast.Unit ParseFault → Type 0
-Answers ts length (Err (fault.LeftOut place)) = first_left_out ts ≡ Some place
-Answers ts length (Err (fault.TooDeep place)) = (first_left_out ts ≡ None) × FirstTooDeep ts place
-Answers ts length (Err (fault.Syntax place)) =
-    (first_left_out ts ≡ None) × (depth (kinds ts) ≤ 200) × WrongAt ts length place
-Answers ts length (Err fault.Memory) = ⊤
+Answers ts length (Err (fault.LeftOut offset)) = first_left_out ts ≡ Some offset
+Answers ts length (Err (fault.TooDeep offset)) = (first_left_out ts ≡ None) × FirstTooDeep ts offset
+Answers ts length (Err (fault.Syntax offset)) =
+    (first_left_out ts ≡ None) × (depth (kinds ts) ≤ most_nesting) × WrongAt ts length offset
+Answers ts length (Err fault.NoMemory) = ⊤
 Answers ts length (Ok unit) = (first_left_out ts ≡ None) × IsTreeOf ts (unit_tree unit)
 
 -- ---- laws
 
 -- unless memory ran out, the same fault or trees of one view
 abbrev pub Agree : Result ast.Unit ParseFault → Result ast.Unit ParseFault → Type 0
-Agree (Err fault.Memory) s = ⊤
-Agree r (Err fault.Memory) = ⊤
+Agree (Err fault.NoMemory) s = ⊤
+Agree r (Err fault.NoMemory) = ⊤
 Agree (Err e) (Err f) = e ≡ f
 Agree (Ok u) (Ok v) = unit_tree u ≡ unit_tree v
 Agree r s = ⊥
@@ -67,7 +68,7 @@ OneAnswer =
 
 abbrev pub Accepts : Tree → Result ast.Unit ParseFault → Type 0
 Accepts t (Ok unit) = unit_tree unit ≡ t
-Accepts t (Err fault.Memory) = ⊤
+Accepts t (Err fault.NoMemory) = ⊤
 Accepts t (Err e) = ⊥
 
 -- On what a shaped tree spells the answer is that tree.

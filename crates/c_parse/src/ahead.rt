@@ -1,21 +1,21 @@
 //! What the next tokens begin.
-#![tactic(auto, unfolding(c_ast::specs::Terminals::is, c_ast::specs::Terminals::word_number, c_ast::specs::Terminals::mark_number, c_ast::specs::Terminals::is_step_mark, c_ast::specs::Terminals::is_unary_mark, c_grammar::specs::Starts::base, c_grammar::specs::Starts::plain_spec, c_grammar::specs::Starts::spec, c_grammar::specs::Starts::begins_base, c_grammar::specs::Starts::begins_type, c_grammar::specs::Starts::begins_expr, c_grammar::specs::Starts::typed, c_grammar::specs::Starts::stmt, c_grammar::specs::Starts::word_stmt, c_grammar::specs::Starts::group_label, c_grammar::specs::Starts::external))]
+#![tactic(auto, unfolding(c_ast::specs::Terminals::is, c_ast::specs::Terminals::keyword_number, c_ast::specs::Terminals::mark_number, c_ast::specs::Terminals::is_inc_dec_mark, c_ast::specs::Terminals::is_unary_mark, c_grammar::specs::PredictSets::base, c_grammar::specs::PredictSets::plain_spec, c_grammar::specs::PredictSets::spec, c_grammar::specs::PredictSets::begins_base, c_grammar::specs::PredictSets::begins_type, c_grammar::specs::PredictSets::begins_expr, c_grammar::specs::PredictSets::typed, c_grammar::specs::PredictSets::stmt, c_grammar::specs::PredictSets::keyword_stmt, c_grammar::specs::PredictSets::group_label, c_grammar::specs::PredictSets::external))]
 
 ghost use Rattle.std.specs.Prelude.{◌≡◌, ◌&&◌, option_map, IfSome, false};
 ghost use Rattle.c_lex.specs.declared.punct.Punct.TheVariants as m;
 ghost use Rattle.c_ast.specs.Terminals.{is, Mark, AnyName};
 ghost use Rattle.std.specs.Option.{option_and_then};
-ghost use Rattle.c_ast.specs.Labels as label;
-ghost use Rattle.c_grammar.specs.Starts as starts;
-ghost use Rattle.c_grammar.specs.Starts.{head, at, typed, begins_type, begins_expr};
-ghost use Rattle.c_parse.specs.Ahead.{base_label, spec_label, simple_label, stmt_label, case_label, external_label, starts_struct};
+ghost use Rattle.c_ast.specs.Productions as production;
+ghost use Rattle.c_grammar.specs.PredictSets as predict;
+ghost use Rattle.c_grammar.specs.PredictSets.{head, at, typed, begins_type, begins_expr};
+ghost use Rattle.c_parse.specs.Ahead.{base_production, spec_production, simple_production, stmt_production, case_production, external_production, starts_struct};
 
 use crate::tokens::Tokens;
 use c_lex::{Keyword, Punct, TokenKind};
 
 /// A keyword that names an integer type without a sign.
 #[derive(Clone, Copy)]
-pub enum BaseWord {
+pub enum BaseKeyword {
     Char,
     Int,
     Short,
@@ -25,31 +25,31 @@ pub enum BaseWord {
 #[derive(Clone, Copy)]
 pub enum SpecStart {
     Void,
-    Base(BaseWord),
+    Base(BaseKeyword),
     Struct,
     Signed,
 }
 
 impl Tokens<'_> {
-    pub fn base_word(&self) -> Option<BaseWord>
-        ensures { option_map base_label result ≡ option_and_then starts.base (head self.now) }
+    pub fn base_keyword(&self) -> Option<BaseKeyword>
+        ensures { option_map base_production result ≡ option_and_then predict.base (head self.now) }
     {
         match self.peek() {
-            Some(TokenKind::Keyword(Keyword::Char)) => Some(BaseWord::Char),
-            Some(TokenKind::Keyword(Keyword::Int)) => Some(BaseWord::Int),
-            Some(TokenKind::Keyword(Keyword::Short)) => Some(BaseWord::Short),
+            Some(TokenKind::Keyword(Keyword::Char)) => Some(BaseKeyword::Char),
+            Some(TokenKind::Keyword(Keyword::Int)) => Some(BaseKeyword::Int),
+            Some(TokenKind::Keyword(Keyword::Short)) => Some(BaseKeyword::Short),
             _ => None,
         }
     }
 
     pub fn spec_start(&self) -> Option<SpecStart>
-        ensures { option_map spec_label result ≡ option_and_then starts.spec (head self.now) }
+        ensures { option_map spec_production result ≡ option_and_then predict.spec (head self.now) }
     {
         match self.peek() {
             Some(TokenKind::Keyword(Keyword::Void)) => Some(SpecStart::Void),
-            Some(TokenKind::Keyword(Keyword::Char)) => Some(SpecStart::Base(BaseWord::Char)),
-            Some(TokenKind::Keyword(Keyword::Int)) => Some(SpecStart::Base(BaseWord::Int)),
-            Some(TokenKind::Keyword(Keyword::Short)) => Some(SpecStart::Base(BaseWord::Short)),
+            Some(TokenKind::Keyword(Keyword::Char)) => Some(SpecStart::Base(BaseKeyword::Char)),
+            Some(TokenKind::Keyword(Keyword::Int)) => Some(SpecStart::Base(BaseKeyword::Int)),
+            Some(TokenKind::Keyword(Keyword::Short)) => Some(SpecStart::Base(BaseKeyword::Short)),
             Some(TokenKind::Keyword(Keyword::Struct)) => Some(SpecStart::Struct),
             Some(TokenKind::Keyword(Keyword::Signed | Keyword::Unsigned)) => Some(
                 SpecStart::Signed,
@@ -60,14 +60,15 @@ impl Tokens<'_> {
 
     /// As `spec_start`, but no structure.
     pub fn plain_spec_start(&self) -> Option<SpecStart>
-        ensures production { option_map spec_label result ≡ option_and_then starts.plain_spec (head self.now) }
+        ensures production { option_map spec_production result ≡ option_and_then predict.plain_spec
+            (head self.now) }
         ensures plain { IfSome result (λ s. starts_struct s ≡ false) }
     {
         match self.peek() {
             Some(TokenKind::Keyword(Keyword::Void)) => Some(SpecStart::Void),
-            Some(TokenKind::Keyword(Keyword::Char)) => Some(SpecStart::Base(BaseWord::Char)),
-            Some(TokenKind::Keyword(Keyword::Int)) => Some(SpecStart::Base(BaseWord::Int)),
-            Some(TokenKind::Keyword(Keyword::Short)) => Some(SpecStart::Base(BaseWord::Short)),
+            Some(TokenKind::Keyword(Keyword::Char)) => Some(SpecStart::Base(BaseKeyword::Char)),
+            Some(TokenKind::Keyword(Keyword::Int)) => Some(SpecStart::Base(BaseKeyword::Int)),
+            Some(TokenKind::Keyword(Keyword::Short)) => Some(SpecStart::Base(BaseKeyword::Short)),
             Some(TokenKind::Keyword(Keyword::Signed | Keyword::Unsigned)) => Some(
                 SpecStart::Signed,
             ),
@@ -77,7 +78,7 @@ impl Tokens<'_> {
 
     /// Whether `char`, `int` or `short` comes next.
     pub fn sees_base(&self) -> bool
-        ensures { result ≡ at starts.begins_base (head self.now) }
+        ensures { result ≡ at predict.begins_base (head self.now) }
     {
         matches!(
             self.peek(),
@@ -95,11 +96,11 @@ impl Tokens<'_> {
         }
     }
 
-    /// Whether a type stands behind the next token.
-    pub fn sees_type_behind(&self) -> bool
+    /// Whether a type stands after the next token.
+    pub fn sees_type_second(&self) -> bool
         ensures { result ≡ typed self.now }
     {
-        match self.peek_behind() {
+        match self.peek_second() {
             Some(kind) => begins_type(kind),
             None => false,
         }
@@ -109,7 +110,7 @@ impl Tokens<'_> {
     pub fn sees_type_in_parentheses(&self) -> bool
         ensures { result ≡ (at (is (Mark m.LParen)) (head self.now) && typed self.now) }
     {
-        self.sees(Punct::LParen) && self.sees_type_behind()
+        self.sees(Punct::LParen) && self.sees_type_second()
     }
 
     /// Whether an expression comes next.
@@ -124,7 +125,7 @@ impl Tokens<'_> {
 }
 
 pub fn begins_type(kind: &TokenKind) -> bool
-    ensures { result ≡ starts.begins_type kind.now }
+    ensures { result ≡ predict.begins_type kind.now }
 {
     matches!(
         kind,
@@ -142,7 +143,7 @@ pub fn begins_type(kind: &TokenKind) -> bool
 }
 
 pub fn begins_expr(kind: &TokenKind) -> bool
-    ensures { result ≡ starts.begins_expr kind.now }
+    ensures { result ≡ predict.begins_expr kind.now }
 {
     match kind {
         TokenKind::Name(_) | TokenKind::Number { .. } | TokenKind::Char(_) | TokenKind::Text(_) =>
@@ -203,7 +204,7 @@ pub enum ExternalStart {
 
 impl Tokens<'_> {
     pub fn stmt_start(&self) -> Option<StmtStart>
-        ensures { option_map stmt_label result ≡ option_and_then starts.stmt (head self.now) }
+        ensures { option_map stmt_production result ≡ option_and_then predict.stmt (head self.now) }
     {
         match self.peek() {
             Some(TokenKind::Keyword(keyword)) => keyword_start(*keyword),
@@ -215,23 +216,24 @@ impl Tokens<'_> {
     }
 
     /// Whether a statement comes next.
-    #[tactic(auto, using(crate::proofs::Begins::beginnings), unfolding(c_grammar::specs::Starts::begins_repeated))]
+    #[tactic(auto, using(crate::proofs::Begins::beginnings), unfolding(c_grammar::specs::PredictSets::begins_repeated))]
     pub fn sees_statement(&self) -> bool
-        ensures { result ≡ at (starts.begins_repeated label.MoreStmts) (head self.now) }
+        ensures { result ≡ at (predict.begins_repeated production.MoreStmts) (head self.now) }
     {
         self.stmt_start().is_some()
     }
 
     /// Whether a statement or a declaration comes next.
-    #[tactic(auto, using(crate::proofs::Begins::beginnings), unfolding(c_grammar::specs::Starts::begins_repeated))]
+    #[tactic(auto, using(crate::proofs::Begins::beginnings), unfolding(c_grammar::specs::PredictSets::begins_repeated))]
     pub fn sees_item(&self) -> bool
-        ensures { result ≡ at (starts.begins_repeated label.Items) (head self.now) }
+        ensures { result ≡ at (predict.begins_repeated production.Items) (head self.now) }
     {
         self.sees_type() || self.sees_statement()
     }
 
     pub fn label_start(&self) -> Option<LabelStart>
-        ensures { option_map case_label result ≡ option_and_then starts.group_label (head self.now) }
+        ensures { option_map case_production result ≡ option_and_then predict.group_label (head
+            self.now) }
     {
         match self.peek() {
             Some(TokenKind::Keyword(Keyword::Case)) => Some(LabelStart::Case),
@@ -248,16 +250,18 @@ impl Tokens<'_> {
     }
 
     /// Whether a label of a `switch` comes next.
-    #[tactic(auto, using(crate::proofs::Begins::beginnings), unfolding(c_grammar::specs::Starts::begins_repeated))]
+    #[tactic(auto, using(crate::proofs::Begins::beginnings), unfolding(c_grammar::specs::PredictSets::begins_repeated))]
     pub fn sees_label(&self) -> bool
-        ensures groups { result ≡ at (starts.begins_repeated label.Groups) (head self.now) }
-        ensures labels { result ≡ at (starts.begins_repeated label.MoreLabels) (head self.now) }
+        ensures groups { result ≡ at (predict.begins_repeated production.Groups) (head self.now) }
+        ensures labels { result ≡ at (predict.begins_repeated production.MoreLabels) (head
+            self.now) }
     {
         self.label_start().is_some()
     }
 
     pub fn external_start(&self) -> Option<ExternalStart>
-        ensures { option_map external_label result ≡ option_and_then starts.external (head self.now) }
+        ensures { option_map external_production result ≡ option_and_then predict.external (head
+            self.now) }
     {
         match self.peek() {
             Some(TokenKind::Keyword(Keyword::Static)) => Some(ExternalStart::Static),
@@ -278,17 +282,17 @@ impl Tokens<'_> {
     }
 
     /// Whether a declaration at file scope comes next.
-    #[tactic(auto, using(crate::proofs::Begins::beginnings), unfolding(c_grammar::specs::Starts::begins_repeated))]
+    #[tactic(auto, using(crate::proofs::Begins::beginnings), unfolding(c_grammar::specs::PredictSets::begins_repeated))]
     pub fn sees_external(&self) -> bool
-        ensures { result ≡ at (starts.begins_repeated label.Externals) (head self.now) }
+        ensures { result ≡ at (predict.begins_repeated production.Externals) (head self.now) }
     {
-        self.sees_type() || self.sees_word(Keyword::Static)
+        self.sees_type() || self.sees_keyword(Keyword::Static)
     }
 }
 
 /// The statement that a keyword begins.
 fn keyword_start(keyword: Keyword) -> Option<StmtStart>
-    ensures { option_map stmt_label result ≡ starts.word_stmt keyword }
+    ensures { option_map stmt_production result ≡ predict.keyword_stmt keyword }
 {
     match keyword {
         Keyword::If => Some(StmtStart::If),

@@ -1,108 +1,158 @@
 //! Expressions, by the looseness of their operators (ISO 9899:2011, 6.5).
-#![tactic(auto, using(crate::proofs::ExprLemmas::expressions), unfolding(c_grammar::specs::Reader::first, c_grammar::specs::Reader::begun, c_grammar::specs::Reader::later, c_grammar::specs::Reader::parts, c_grammar::specs::Reader::one, c_grammar::specs::Reader::step, c_grammar::specs::Reader::turns, c_grammar::specs::Reader::goes_on, c_grammar::specs::Starts::start, c_grammar::specs::Starts::next, c_grammar::specs::Starts::begins_optional, c_grammar::specs::Starts::begins_repeated, c_ast::specs::Grammar::production, c_ast::specs::Grammar::parts_of, c_ast::specs::Grammar::optional, c_ast::specs::Grammar::repeated, crate::specs::Operands::class_of, c_ast::specs::Expressions::type_tree, c_ast::specs::Expressions::list_parts, c_ast::specs::Expressions::dimension_parts))]
+#![tactic(auto, using(crate::proofs::ExprLemmas::expressions), unfolding(c_grammar::specs::Reader::first, c_grammar::specs::Reader::begun, c_grammar::specs::Reader::later, c_grammar::specs::Reader::children, c_grammar::specs::Reader::one, c_grammar::specs::Reader::step, c_grammar::specs::Reader::turns, c_grammar::specs::Reader::goes_on, c_grammar::specs::PredictSets::start, c_grammar::specs::PredictSets::next, c_grammar::specs::PredictSets::begins_optional, c_grammar::specs::PredictSets::begins_repeated, c_ast::specs::Grammar::rule, c_ast::specs::Grammar::symbols_of, c_ast::specs::Grammar::optional, c_ast::specs::Grammar::repeated, crate::specs::Operands::nonterminal_of, c_ast::specs::Expressions::type_tree, c_ast::specs::Expressions::list_children, c_ast::specs::Expressions::dimension_children))]
 
 ghost use Rattle.std.specs.Prelude.{◌≡◌, ◌-◌, [], ◌∷◌, Some};
 ghost use Rattle.c_lex.specs.declared.token.TokenKind.TheVariants as kind;
-ghost use Rattle.c_ast.specs.Classes as class;
-ghost use Rattle.c_ast.specs.Classes.{Opt, Many};
-ghost use Rattle.c_ast.specs.Expressions.{expr_tree, list_tree, list_parts, next, type_tree, dimensions, literal};
-ghost use Rattle.c_ast.specs.Labels as label;
-ghost use Rattle.c_ast.specs.Parts.{opt, many};
-ghost use Rattle.c_ast.specs.Terminals.{AnyText};
+ghost use Rattle.c_ast.specs.Nonterminals as nonterminal;
+ghost use Rattle.c_ast.specs.Nonterminals.{Opt, Many};
+ghost use Rattle.c_ast.specs.Expressions.{expr_tree, list_tree, list_children, next, type_tree, dimensions, literal};
+ghost use Rattle.c_ast.specs.Productions as production;
+ghost use Rattle.c_ast.specs.Nodes.{opt, many};
+ghost use Rattle.c_ast.specs.Terminals.{AnyLiteral};
 ghost use Rattle.c_grammar.specs.Reader.{read, first, later, turns, begun, token};
-ghost use Rattle.c_grammar.specs.Starts.{head};
-ghost use Rattle.c_parse.specs.Operands.{class_of, suffix_label, suffix_mark};
+ghost use Rattle.c_grammar.specs.PredictSets.{head};
+ghost use Rattle.c_parse.specs.Operands.{nonterminal_of, suffix_production, suffix_mark};
+ghost use Rattle.c_ast.specs.Operators.{selection_production, inc_dec_mark, unary_mark, binary_mark, binary_level, assign_mark};
 ghost use Rattle.c_parse.specs.Reading.{Gives};
 
 use crate::fault::Fault;
-use crate::operators::{OperandStart, Rank, Suffix, right_of};
+use crate::held::try_with;
+use crate::operators::{OperandStart, Precedence, Suffix, right_of};
 use crate::tokens::Tokens;
-use c_ast::{Dimension, Expr, ExprList, Next, TypeName};
+use c_ast::{
+    AssignOp, BinaryOp, Dimension, Expr, ExprList, IncDec, Next, Selection, TypeName, UnaryOp,
+};
 use c_lex::{Keyword, Punct};
 use sqlite_items::{Boxed, Items};
 
 impl Tokens<'_> {
-    /// An operand of this rank.
+    /// An operand of this precedence.
     #[cycle(expression)]
-    pub fn operand(&mut self, depth: usize, rank: Rank) -> Result<Expr, Fault>
-        ensures { Gives expr_tree (read depth (class_of rank) self.old) result self.new }
+    pub fn operand(&mut self, fuel: usize, precedence: Precedence) -> Result<Expr, Fault>
+        ensures { Gives expr_tree (read fuel (nonterminal_of precedence) self.old) result self.new }
     {
-        if depth == 0 {
-            return Err(Fault::Deep);
+        if fuel == 0 {
+            return Err(Fault::OutOfFuel);
         }
-        let first = self.prefix(depth - 1, rank)?;
-        self.operations(depth, rank, first)
+        let first = self.prefix(fuel - 1, precedence)?;
+        self.operations(fuel, precedence, first)
     }
 
-    /// An operand without what may go on behind it.
+    /// An operand of this precedence, on the heap.
     #[cycle(expression)]
-    fn prefix(&mut self, depth: usize, rank: Rank) -> Result<Expr, Fault>
-        ensures { Gives expr_tree (first (read depth) (class_of rank) self.old) result self.new }
+    fn boxed_operand(&mut self, fuel: usize, precedence: Precedence) -> Result<Boxed<Expr>, Fault>
+        ensures { Gives expr_tree (read fuel (nonterminal_of precedence) self.old) result self.new }
     {
-        match self.operand_start(rank) {
+        let operand = self.operand(fuel, precedence)?;
+        Ok(Boxed::new(self.alloc, operand)?)
+    }
+
+    /// An operand without the operators that may follow it.
+    #[cycle(expression)]
+    fn prefix(&mut self, fuel: usize, precedence: Precedence) -> Result<Expr, Fault>
+        ensures { Gives expr_tree (first (read fuel) (nonterminal_of precedence) self.old) result
+            self.new }
+    {
+        match self.operand_start(precedence) {
             None => Err(Fault::Syntax),
-            Some(OperandStart::Name) => {
-                let name = self.identifier()?;
-                Ok(Expr::Name(name))
-            }
-            Some(OperandStart::Number) => self.number(depth),
-            Some(OperandStart::Char) => self.character(depth),
-            Some(OperandStart::Text) => {
-                let first = self.literal()?;
-                let more = self.texts(depth)?;
-                Ok(Expr::Text { first, more })
-            }
-            Some(OperandStart::Paren) => {
-                let open = self.expect(Punct::LParen)?;
-                let inner = self.expression(depth)?;
-                let close = self.expect(Punct::RParen)?;
-                Ok(Expr::Paren { open, inner, close })
-            }
-            Some(OperandStart::Cast) => {
-                let open = self.expect(Punct::LParen)?;
-                let target = self.type_name(depth)?;
-                let close = self.expect(Punct::RParen)?;
-                let operand = self.operand(depth, Rank::Cast)?;
-                let operand = Boxed::new(self.alloc, operand)?;
-                Ok(Expr::Cast {
-                    open,
-                    target,
-                    close,
-                    operand,
-                })
-            }
-            Some(OperandStart::Step(step)) => {
-                let span = self.expect(step.punct())?;
-                let operand = self.operand(depth, Rank::Unary)?;
-                let operand = Boxed::new(self.alloc, operand)?;
-                Ok(Expr::Increment {
-                    step,
-                    span,
-                    operand,
-                })
-            }
-            Some(OperandStart::Unary(op)) => {
-                let span = self.expect(op.punct())?;
-                let operand = self.operand(depth, Rank::Cast)?;
-                let operand = Boxed::new(self.alloc, operand)?;
-                Ok(Expr::Unary { op, span, operand })
-            }
-            Some(OperandStart::Sizeof) => self.size_of(depth),
+            Some(OperandStart::Name) => self.name(fuel),
+            Some(OperandStart::Number) => self.number(fuel),
+            Some(OperandStart::Char) => self.character(fuel),
+            Some(OperandStart::Text) => self.string_literals(fuel),
+            Some(OperandStart::Paren) => self.parenthesised(fuel),
+            Some(OperandStart::Cast) => self.cast(fuel),
+            Some(OperandStart::IncDec(op)) => self.increment(fuel, op),
+            Some(OperandStart::Unary(op)) => self.unary(fuel, op),
+            Some(OperandStart::Sizeof) => self.size_of(fuel),
         }
+    }
+
+    fn name(&mut self, fuel: usize) -> Result<Expr, Fault>
+        ensures { Gives expr_tree (begun (read fuel) (Some production.Name) self.old) result
+            self.new }
+    {
+        let name = self.identifier()?;
+        Ok(Expr::Name(name))
+    }
+
+    /// String literals, as many as follow one another.
+    fn string_literals(&mut self, fuel: usize) -> Result<Expr, Fault>
+        ensures { Gives expr_tree (begun (read fuel) (Some production.Text) self.old) result
+            self.new }
+    {
+        let first = self.literal()?;
+        let more = try_with!(self.more_literals(fuel); first);
+        Ok(Expr::Text { first, more })
+    }
+
+    /// An expression in parentheses.
+    #[cycle(expression)]
+    fn parenthesised(&mut self, fuel: usize) -> Result<Expr, Fault>
+        ensures { Gives expr_tree (begun (read fuel) (Some production.Paren) self.old) result
+            self.new }
+    {
+        let open = self.expect(Punct::LParen)?;
+        let inner = self.expression(fuel)?;
+        let close = try_with!(self.expect(Punct::RParen); inner);
+        Ok(Expr::Paren { open, inner, close })
+    }
+
+    #[cycle(expression)]
+    fn cast(&mut self, fuel: usize) -> Result<Expr, Fault>
+        ensures { Gives expr_tree (begun (read fuel) (Some production.Cast) self.old) result
+            self.new }
+    {
+        let open = self.expect(Punct::LParen)?;
+        let target = self.type_name(fuel)?;
+        let target = Boxed::new(self.alloc, target)?;
+        let close = self.expect(Punct::RParen)?;
+        let operand = self.boxed_operand(fuel, Precedence::Cast)?;
+        Ok(Expr::Cast {
+            open,
+            target,
+            close,
+            operand,
+        })
+    }
+
+    /// `++` or `--`, which comes next, and its operand.
+    #[cycle(expression)]
+    fn increment(&mut self, fuel: usize, op: IncDec) -> Result<Expr, Fault>
+        requires { head self.old ≡ Some (kind.Punct (inc_dec_mark op)) }
+        ensures { Gives expr_tree (begun (read fuel) (Some production.Increment) self.old) result
+            self.new }
+    {
+        let span = self.expect(op.punct())?;
+        let operand = self.boxed_operand(fuel, Precedence::Unary)?;
+        Ok(Expr::Increment { op, span, operand })
+    }
+
+    /// This unary operator, which comes next, and its operand.
+    #[cycle(expression)]
+    fn unary(&mut self, fuel: usize, op: UnaryOp) -> Result<Expr, Fault>
+        requires { head self.old ≡ Some (kind.Punct (unary_mark op)) }
+        ensures { Gives expr_tree (begun (read fuel) (Some production.Unary) self.old) result
+            self.new }
+    {
+        let span = self.expect(op.punct())?;
+        let operand = self.boxed_operand(fuel, Precedence::Cast)?;
+        Ok(Expr::Unary { op, span, operand })
     }
 
     /// `sizeof` and its operand.
     #[cycle(expression)]
-    fn size_of(&mut self, depth: usize) -> Result<Expr, Fault>
-        ensures { Gives expr_tree (begun (read depth) (Some label.Sizeof) self.old) result self.new }
+    fn size_of(&mut self, fuel: usize) -> Result<Expr, Fault>
+        ensures { Gives expr_tree (begun (read fuel) (Some production.Sizeof) self.old) result
+            self.new }
     {
-        let keyword = self.expect_word(Keyword::Sizeof)?;
-        if depth == 0 {
-            return Err(Fault::Deep);
+        let keyword = self.expect_keyword(Keyword::Sizeof)?;
+        if fuel == 0 {
+            return Err(Fault::OutOfFuel);
         }
         if self.sees_type_in_parentheses() {
             let open = self.expect(Punct::LParen)?;
-            let operand = self.type_name(depth - 1)?;
+            let operand = self.type_name(fuel - 1)?;
+            let operand = Boxed::new(self.alloc, operand)?;
             let close = self.expect(Punct::RParen)?;
             return Ok(Expr::SizeofType {
                 keyword,
@@ -111,110 +161,159 @@ impl Tokens<'_> {
                 close,
             });
         }
-        let operand = self.operand(depth, Rank::Unary)?;
-        let operand = Boxed::new(self.alloc, operand)?;
+        let operand = self.boxed_operand(fuel, Precedence::Unary)?;
         Ok(Expr::Sizeof { keyword, operand })
     }
 
-    /// What goes on behind `left`, where an operand of this rank is to stand.
+    /// What follows `left`, where an operand of this precedence is to stand.
     #[cycle(expression)]
-    fn operations(&mut self, depth: usize, rank: Rank, left: Expr) -> Result<Expr, Fault>
-        ensures { Gives expr_tree (turns (read (depth - 1)) depth (class_of rank) (expr_tree left) self.old) result self.new }
+    fn operations(&mut self, fuel: usize, precedence: Precedence, left: Expr) -> Result<Expr, Fault>
+        ensures { Gives expr_tree (turns (read (fuel - 1)) fuel (nonterminal_of precedence)
+            (expr_tree left) self.old) result self.new }
     {
         let mut left = left;
-        for _turn in 0..depth {
-            match self.suffix_behind(rank, &left) {
+        for _turn in 0..fuel {
+            match self.suffix_after(precedence, &left) {
                 None => return Ok(left),
-                Some(suffix) => left = self.longer(depth - 1, suffix, left)?,
+                Some(suffix) => left = self.longer(fuel - 1, suffix, left)?,
             }
         }
-        Err(Fault::Deep)
+        drop(left);
+        Err(Fault::OutOfFuel)
     }
 
-    /// The operation with this operator, which comes next, behind `left`.
+    /// The operation of `left` with this operator, which comes next.
     #[cycle(expression)]
-    fn longer(&mut self, depth: usize, suffix: Suffix, left: Expr) -> Result<Expr, Fault>
+    fn longer(&mut self, fuel: usize, suffix: Suffix, left: Expr) -> Result<Expr, Fault>
         requires { head self.old ≡ Some (kind.Punct (suffix_mark suffix)) }
-        ensures { Gives expr_tree (later (read depth) (suffix_label suffix) (expr_tree left) self.old) result self.new }
+        ensures { Gives expr_tree (later (read fuel) (suffix_production suffix) (expr_tree left)
+            self.old) result self.new }
     {
         let left = Boxed::new(self.alloc, left)?;
         match suffix {
-            Suffix::Index => {
-                let open = self.expect(Punct::LBracket)?;
-                let index = self.expression(depth)?;
-                let close = self.expect(Punct::RBracket)?;
-                Ok(Expr::Index {
-                    array: left,
-                    open,
-                    index,
-                    close,
-                })
-            }
-            Suffix::Call => {
-                let open = self.expect(Punct::LParen)?;
-                let arguments = self.arguments(depth)?;
-                let close = self.expect(Punct::RParen)?;
-                Ok(Expr::Call {
-                    function: left,
-                    open,
-                    arguments,
-                    close,
-                })
-            }
-            Suffix::Select(selection) => {
-                let span = self.expect(selection.punct())?;
-                let member = self.identifier()?;
-                Ok(Expr::Select {
-                    object: left,
-                    selection,
-                    span,
-                    member,
-                })
-            }
-            Suffix::Step(step) => {
-                let span = self.expect(step.punct())?;
-                Ok(Expr::PostIncrement {
-                    operand: left,
-                    step,
-                    span,
-                })
-            }
-            Suffix::Conditional => self.conditional(depth, left),
-            Suffix::Assign(op) => {
-                let span = self.expect(op.punct())?;
-                let value = self.operand(depth, Rank::Assignment)?;
-                let value = Boxed::new(self.alloc, value)?;
-                Ok(Expr::Assign {
-                    target: left,
-                    op,
-                    span,
-                    value,
-                })
-            }
-            Suffix::Binary(op) => {
-                let span = self.expect(op.punct())?;
-                let right = self.operand(depth, right_of(op))?;
-                let right = Boxed::new(self.alloc, right)?;
-                Ok(Expr::Binary {
-                    left,
-                    op,
-                    span,
-                    right,
-                })
-            }
+            Suffix::Index => self.index(fuel, left),
+            Suffix::Call => self.call(fuel, left),
+            Suffix::Select(selection) => self.select(fuel, selection, left),
+            Suffix::IncDec(op) => self.post_increment(fuel, op, left),
+            Suffix::Conditional => self.conditional(fuel, left),
+            Suffix::Assign(op) => self.assign(fuel, op, left),
+            Suffix::Binary(op) => self.binary(fuel, op, left),
         }
     }
 
-    /// `?` and `:` behind a condition.
+    /// `[`, an index and `]` after an array.
     #[cycle(expression)]
-    fn conditional(&mut self, depth: usize, condition: Boxed<Expr>) -> Result<Expr, Fault>
-        ensures { Gives expr_tree (later (read depth) label.Conditional (expr_tree condition) self.old) result self.new }
+    fn index(&mut self, fuel: usize, array: Boxed<Expr>) -> Result<Expr, Fault>
+        ensures { Gives expr_tree (later (read fuel) production.Index (expr_tree array) self.old)
+            result self.new }
+    {
+        let open = self.expect(Punct::LBracket)?;
+        let index = self.expression(fuel)?;
+        let close = try_with!(self.expect(Punct::RBracket); index);
+        Ok(Expr::Index {
+            array,
+            open,
+            index,
+            close,
+        })
+    }
+
+    /// Arguments in parentheses after a function.
+    #[cycle(expression)]
+    fn call(&mut self, fuel: usize, function: Boxed<Expr>) -> Result<Expr, Fault>
+        ensures { Gives expr_tree (later (read fuel) production.Call (expr_tree function) self.old)
+            result self.new }
+    {
+        let open = self.expect(Punct::LParen)?;
+        let arguments = self.arguments(fuel)?;
+        let close = try_with!(self.expect(Punct::RParen); arguments);
+        Ok(Expr::Call {
+            function,
+            open,
+            arguments,
+            close,
+        })
+    }
+
+    /// `.` or `->` and a member's name after an object.
+    fn select(
+        &mut self,
+        fuel: usize,
+        selection: Selection,
+        object: Boxed<Expr>,
+    ) -> Result<Expr, Fault>
+        ensures { Gives expr_tree (later (read fuel) (selection_production selection) (expr_tree
+            object) self.old) result self.new }
+    {
+        let span = self.expect(selection.punct())?;
+        let member = self.identifier()?;
+        Ok(Expr::Select {
+            object,
+            selection,
+            span,
+            member,
+        })
+    }
+
+    /// `++` or `--`, which comes next, after its operand.
+    fn post_increment(
+        &mut self,
+        fuel: usize,
+        op: IncDec,
+        operand: Boxed<Expr>,
+    ) -> Result<Expr, Fault>
+        requires { head self.old ≡ Some (kind.Punct (inc_dec_mark op)) }
+        ensures { Gives expr_tree (later (read fuel) production.PostIncrement (expr_tree operand)
+            self.old) result self.new }
+    {
+        let span = self.expect(op.punct())?;
+        Ok(Expr::PostIncrement { operand, op, span })
+    }
+
+    /// An assignment by this operator, which comes next, to a target.
+    #[cycle(expression)]
+    fn assign(&mut self, fuel: usize, op: AssignOp, target: Boxed<Expr>) -> Result<Expr, Fault>
+        requires { head self.old ≡ Some (kind.Punct (assign_mark op)) }
+        ensures { Gives expr_tree (later (read fuel) production.Assignment (expr_tree target)
+            self.old) result self.new }
+    {
+        let span = self.expect(op.punct())?;
+        let value = self.boxed_operand(fuel, Precedence::Assignment)?;
+        Ok(Expr::Assign {
+            target,
+            op,
+            span,
+            value,
+        })
+    }
+
+    /// This binary operator, which comes next, and its right operand after the left one.
+    #[cycle(expression)]
+    fn binary(&mut self, fuel: usize, op: BinaryOp, left: Boxed<Expr>) -> Result<Expr, Fault>
+        requires { head self.old ≡ Some (kind.Punct (binary_mark op)) }
+        ensures { Gives expr_tree (later (read fuel) (production.Binary (binary_level op))
+            (expr_tree left) self.old) result self.new }
+    {
+        let span = self.expect(op.punct())?;
+        let right = self.boxed_operand(fuel, right_of(op))?;
+        Ok(Expr::Binary {
+            left,
+            op,
+            span,
+            right,
+        })
+    }
+
+    /// `?` and `:` after a condition.
+    #[cycle(expression)]
+    fn conditional(&mut self, fuel: usize, condition: Boxed<Expr>) -> Result<Expr, Fault>
+        ensures { Gives expr_tree (later (read fuel) production.Conditional (expr_tree condition)
+            self.old) result self.new }
     {
         let question = self.expect(Punct::Question)?;
-        let then = self.expression(depth)?;
-        let colon = self.expect(Punct::Colon)?;
-        let otherwise = self.operand(depth, Rank::Conditional)?;
-        let otherwise = Boxed::new(self.alloc, otherwise)?;
+        let then = self.expression(fuel)?;
+        let colon = try_with!(self.expect(Punct::Colon); then);
+        let otherwise = try_with!(self.boxed_operand(fuel, Precedence::Conditional); then);
         Ok(Expr::Conditional {
             condition,
             question,
@@ -226,67 +325,67 @@ impl Tokens<'_> {
 
     /// A comma expression.
     #[cycle(expression)]
-    pub fn expression(&mut self, depth: usize) -> Result<ExprList, Fault>
-        ensures { Gives list_tree (read depth class.Expr self.old) result self.new }
+    pub fn expression(&mut self, fuel: usize) -> Result<ExprList, Fault>
+        ensures { Gives list_tree (read fuel nonterminal.Expr self.old) result self.new }
     {
-        if depth == 0 {
-            return Err(Fault::Deep);
+        if fuel == 0 {
+            return Err(Fault::OutOfFuel);
         }
-        let first = self.operand(depth - 1, Rank::Assignment)?;
-        let first = Boxed::new(self.alloc, first)?;
-        let more = self.more_expressions(depth - 1)?;
+        let first = self.boxed_operand(fuel - 1, Precedence::Assignment)?;
+        let more = self.more_expressions(fuel - 1)?;
         Ok(ExprList { first, more })
     }
 
     /// The arguments of a call, if there are any.
     #[cycle(expression)]
-    fn arguments(&mut self, depth: usize) -> Result<Option<ExprList>, Fault>
-        ensures { Gives (opt label.Arguments list_parts) (read depth (Opt label.Arguments) self.old) result self.new }
+    fn arguments(&mut self, fuel: usize) -> Result<Option<ExprList>, Fault>
+        ensures { Gives (opt production.Arguments list_children) (read fuel (Opt
+            production.Arguments) self.old) result self.new }
     {
-        if depth == 0 {
-            return Err(Fault::Deep);
+        if fuel == 0 {
+            return Err(Fault::OutOfFuel);
         }
         if !self.sees_expression() {
             return Ok(None);
         }
-        let first = self.operand(depth - 1, Rank::Assignment)?;
-        let first = Boxed::new(self.alloc, first)?;
-        let more = self.more_expressions(depth - 1)?;
+        let first = self.boxed_operand(fuel - 1, Precedence::Assignment)?;
+        let more = self.more_expressions(fuel - 1)?;
         Ok(Some(ExprList { first, more }))
     }
 
-    /// Expressions behind commas.
+    /// Expressions after commas.
     #[cycle(expression)]
-    fn more_expressions(&mut self, depth: usize) -> Result<Items<Next<Expr>>, Fault>
-        ensures { Gives (many label.MoreAssigns (next expr_tree)) (read depth (Many label.MoreAssigns) self.old) result self.new }
+    fn more_expressions(&mut self, fuel: usize) -> Result<Items<Next<Expr>>, Fault>
+        ensures { Gives (many production.MoreAssigns (next expr_tree)) (read fuel (Many
+            production.MoreAssigns) self.old) result self.new }
     {
-        if depth == 0 {
-            return Err(Fault::Deep);
+        if fuel == 0 {
+            return Err(Fault::OutOfFuel);
         }
         let mut more = Items::new(self.alloc);
-        for _turn in 0..depth {
+        for _turn in 0..fuel {
             if !self.sees(Punct::Comma) {
                 return Ok(more);
             }
             let comma = self.expect(Punct::Comma)?;
-            let element = self.operand(depth - 1, Rank::Assignment)?;
+            let element = self.operand(fuel - 1, Precedence::Assignment)?;
             more.push(Next { comma, element })?;
         }
-        Err(Fault::Deep)
+        Err(Fault::OutOfFuel)
     }
 
     /// A type's name.
     #[cycle(expression)]
-    pub fn type_name(&mut self, depth: usize) -> Result<TypeName, Fault>
-        ensures { Gives type_tree (read depth class.TypeName self.old) result self.new }
+    pub fn type_name(&mut self, fuel: usize) -> Result<TypeName, Fault>
+        ensures { Gives type_tree (read fuel nonterminal.TypeName self.old) result self.new }
     {
-        if depth == 0 {
-            return Err(Fault::Deep);
+        if fuel == 0 {
+            return Err(Fault::OutOfFuel);
         }
-        let qualifier = self.qualifier(depth - 1)?;
-        let spec = self.specifier(depth - 1)?;
-        let stars = self.stars(depth - 1)?;
-        let dimensions = self.dimensions(depth - 1)?;
+        let qualifier = self.qualifier(fuel - 1)?;
+        let spec = self.specifier(fuel - 1)?;
+        let stars = try_with!(self.stars(fuel - 1); spec);
+        let dimensions = try_with!(self.dimensions(fuel - 1); spec);
         Ok(TypeName {
             qualifier,
             spec,
@@ -297,22 +396,23 @@ impl Tokens<'_> {
 
     /// Dimensions.
     #[cycle(expression)]
-    pub fn dimensions(&mut self, depth: usize) -> Result<Items<Dimension>, Fault>
-        ensures { Gives dimensions (read depth (Many label.Dimensions) self.old) result self.new }
+    pub fn dimensions(&mut self, fuel: usize) -> Result<Items<Dimension>, Fault>
+        ensures { Gives dimensions (read fuel (Many production.Dimensions) self.old) result
+            self.new }
     {
-        if depth == 0 {
-            return Err(Fault::Deep);
+        if fuel == 0 {
+            return Err(Fault::OutOfFuel);
         }
         let mut found = Items::new(self.alloc);
-        for _turn in 0..depth {
+        for _turn in 0..fuel {
             if !self.sees(Punct::LBracket) {
                 return Ok(found);
             }
             let open = self.expect(Punct::LBracket)?;
-            let size = self.operand(depth - 1, Rank::Conditional)?;
-            let close = self.expect(Punct::RBracket)?;
+            let size = self.operand(fuel - 1, Precedence::Conditional)?;
+            let close = try_with!(self.expect(Punct::RBracket); size);
             found.push(Dimension { open, size, close })?;
         }
-        Err(Fault::Deep)
+        Err(Fault::OutOfFuel)
     }
 }

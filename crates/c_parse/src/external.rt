@@ -1,20 +1,21 @@
 //! Declarations at file scope (ISO 9899:2011, 6.9).
-#![tactic(auto, using(crate::proofs::ExternalLemmas::externals), unfolding(c_grammar::specs::Reader::parts, c_grammar::specs::Reader::one, c_grammar::specs::Starts::begins_optional, c_grammar::specs::Starts::begins_repeated, c_ast::specs::Grammar::production, c_ast::specs::Grammar::parts_of, c_ast::specs::Grammar::optional, c_ast::specs::Grammar::repeated, c_ast::specs::Externals::member, c_ast::specs::Externals::members, c_ast::specs::Externals::param, c_ast::specs::Externals::body_tree, c_ast::specs::Externals::external_tree, c_ast::specs::Externals::specified))]
+#![tactic(auto, using(crate::proofs::ExternalLemmas::externals), unfolding(c_grammar::specs::Reader::children, c_grammar::specs::Reader::one, c_grammar::specs::PredictSets::begins_optional, c_grammar::specs::PredictSets::begins_repeated, c_ast::specs::Grammar::rule, c_ast::specs::Grammar::symbols_of, c_ast::specs::Grammar::optional, c_ast::specs::Grammar::repeated, c_ast::specs::Externals::member, c_ast::specs::Externals::members, c_ast::specs::Externals::param, c_ast::specs::Externals::body_tree, c_ast::specs::Externals::external_tree, c_ast::specs::Externals::specified))]
 
 ghost use Rattle.std.specs.Prelude.{◌≡◌, [], ◌∷◌, Some};
-ghost use Rattle.c_ast.specs.Classes as class;
-ghost use Rattle.c_ast.specs.Classes.{Opt, Many};
+ghost use Rattle.c_ast.specs.Nonterminals as nonterminal;
+ghost use Rattle.c_ast.specs.Nonterminals.{Opt, Many};
 ghost use Rattle.c_ast.specs.Expressions.{next};
 ghost use Rattle.c_ast.specs.Externals as view;
 ghost use Rattle.c_ast.specs.Externals.{external_tree, specified, body_tree};
-ghost use Rattle.c_ast.specs.Labels as label;
-ghost use Rattle.c_ast.specs.Parts.{opt, many, name};
+ghost use Rattle.c_ast.specs.Productions as production;
+ghost use Rattle.c_ast.specs.Nodes.{opt, many, name};
 ghost use Rattle.c_grammar.specs.Reader.{read, begun};
-ghost use Rattle.c_parse.specs.Externals.{rest_tree, declared_tree, behind_tag_tree};
+ghost use Rattle.c_parse.specs.Externals.{rest_tree, declared_tree, after_tag_tree};
 ghost use Rattle.c_parse.specs.Reading.{Gives};
 
 use crate::ahead::ExternalStart;
 use crate::fault::Fault;
+use crate::held::try_with;
 use crate::tokens::Tokens;
 use c_ast::{
     Body, Declarator, External, Function, Globals, Identifier, Initializer, Member, Members, Next,
@@ -23,7 +24,7 @@ use c_ast::{
 use c_lex::{Keyword, Punct};
 use sqlite_items::Items;
 
-/// What stands behind the name of a function or of the first variable.
+/// What stands after the name of a function or of the first variable.
 #[derive(Drop)]
 enum Rest {
     Function {
@@ -40,7 +41,7 @@ enum Rest {
     },
 }
 
-/// What stands behind the type of a function or of variables.
+/// What stands after the type of a function or of variables.
 #[derive(Drop)]
 struct Declared {
     stars: Items<Span>,
@@ -48,9 +49,10 @@ struct Declared {
     rest: Rest,
 }
 
-/// What stands behind `struct` and a name: the definition of the structure, or what is declared with it.
+/// What stands after `struct` and a name: the definition of the structure, or what is declared with
+/// it.
 #[derive(Drop)]
-enum BehindTag {
+enum AfterTag {
     Struct {
         body: Option<StructBody>,
         semicolon: Span,
@@ -60,15 +62,15 @@ enum BehindTag {
 
 impl Tokens<'_> {
     /// The declarator of a member.
-    fn member(&mut self, depth: usize) -> Result<Member, Fault>
-        ensures { Gives view.member (read depth class.Member self.old) result self.new }
+    fn member(&mut self, fuel: usize) -> Result<Member, Fault>
+        ensures { Gives view.member (read fuel nonterminal.Member self.old) result self.new }
     {
-        if depth == 0 {
-            return Err(Fault::Deep);
+        if fuel == 0 {
+            return Err(Fault::OutOfFuel);
         }
-        let stars = self.stars(depth - 1)?;
+        let stars = self.stars(fuel - 1)?;
         let name = self.identifier()?;
-        let dimensions = self.dimensions(depth - 1)?;
+        let dimensions = try_with!(self.dimensions(fuel - 1); name);
         Ok(Member {
             stars,
             name,
@@ -76,37 +78,38 @@ impl Tokens<'_> {
         })
     }
 
-    /// Declarators of members behind commas.
-    fn more_members(&mut self, depth: usize) -> Result<Items<Next<Member>>, Fault>
-        ensures { Gives view.more_members (read depth (Many label.MoreMember) self.old) result self.new }
+    /// Declarators of members after commas.
+    fn more_members(&mut self, fuel: usize) -> Result<Items<Next<Member>>, Fault>
+        ensures { Gives view.more_members (read fuel (Many production.MoreMember) self.old) result
+            self.new }
     {
-        if depth == 0 {
-            return Err(Fault::Deep);
+        if fuel == 0 {
+            return Err(Fault::OutOfFuel);
         }
         let mut more = Items::new(self.alloc);
-        for _turn in 0..depth {
+        for _turn in 0..fuel {
             if !self.sees(Punct::Comma) {
                 return Ok(more);
             }
             let comma = self.expect(Punct::Comma)?;
-            let element = self.member(depth - 1)?;
+            let element = self.member(fuel - 1)?;
             more.push(Next { comma, element })?;
         }
-        Err(Fault::Deep)
+        Err(Fault::OutOfFuel)
     }
 
     /// Members of one type.
-    fn members(&mut self, depth: usize) -> Result<Members, Fault>
-        ensures { Gives view.members (read depth class.Members self.old) result self.new }
+    fn members(&mut self, fuel: usize) -> Result<Members, Fault>
+        ensures { Gives view.members (read fuel nonterminal.Members self.old) result self.new }
     {
-        if depth == 0 {
-            return Err(Fault::Deep);
+        if fuel == 0 {
+            return Err(Fault::OutOfFuel);
         }
-        let qualifier = self.qualifier(depth - 1)?;
-        let spec = self.specifier(depth - 1)?;
-        let first = self.member(depth - 1)?;
-        let more = self.more_members(depth - 1)?;
-        let semicolon = self.expect(Punct::Semicolon)?;
+        let qualifier = self.qualifier(fuel - 1)?;
+        let spec = self.specifier(fuel - 1)?;
+        let first = try_with!(self.member(fuel - 1); spec);
+        let more = try_with!(self.more_members(fuel - 1); spec, first);
+        let semicolon = try_with!(self.expect(Punct::Semicolon); spec, first);
         Ok(Members {
             qualifier,
             spec,
@@ -116,30 +119,32 @@ impl Tokens<'_> {
         })
     }
 
-    /// Members behind those of the first type.
-    fn members_behind(&mut self, depth: usize) -> Result<Items<Members>, Fault>
-        ensures { Gives (many label.MoreMembers (λ x. view.members x ∷ [])) (read depth (Many label.MoreMembers) self.old) result self.new }
+    /// Members after those of the first type.
+    fn further_members(&mut self, fuel: usize) -> Result<Items<Members>, Fault>
+        ensures { Gives (many production.MoreMembers (λ x. view.members x ∷ [])) (read fuel (Many
+            production.MoreMembers) self.old) result self.new }
     {
-        if depth == 0 {
-            return Err(Fault::Deep);
+        if fuel == 0 {
+            return Err(Fault::OutOfFuel);
         }
         let mut found = Items::new(self.alloc);
-        for _turn in 0..depth {
+        for _turn in 0..fuel {
             if !self.sees_type() {
                 return Ok(found);
             }
-            let members = self.members(depth - 1)?;
+            let members = self.members(fuel - 1)?;
             found.push(members)?;
         }
-        Err(Fault::Deep)
+        Err(Fault::OutOfFuel)
     }
 
     /// The name of a parameter, where it is written.
-    fn param_name(&mut self, depth: usize) -> Result<Option<Identifier>, Fault>
-        ensures { Gives (opt label.ParamName (λ i. name i ∷ [])) (read depth (Opt label.ParamName) self.old) result self.new }
+    fn param_name(&mut self, fuel: usize) -> Result<Option<Identifier>, Fault>
+        ensures { Gives (opt production.ParamName (λ i. name i ∷ [])) (read fuel (Opt
+            production.ParamName) self.old) result self.new }
     {
-        if depth == 0 {
-            return Err(Fault::Deep);
+        if fuel == 0 {
+            return Err(Fault::OutOfFuel);
         }
         if !self.sees_name() {
             return Ok(None);
@@ -149,17 +154,17 @@ impl Tokens<'_> {
     }
 
     /// A parameter.
-    fn param(&mut self, depth: usize) -> Result<Param, Fault>
-        ensures { Gives view.param (read depth class.Param self.old) result self.new }
+    fn param(&mut self, fuel: usize) -> Result<Param, Fault>
+        ensures { Gives view.param (read fuel nonterminal.Param self.old) result self.new }
     {
-        if depth == 0 {
-            return Err(Fault::Deep);
+        if fuel == 0 {
+            return Err(Fault::OutOfFuel);
         }
-        let qualifier = self.qualifier(depth - 1)?;
-        let spec = self.specifier(depth - 1)?;
-        let stars = self.stars(depth - 1)?;
-        let name = self.param_name(depth - 1)?;
-        let dimensions = self.open_dimensions(depth - 1)?;
+        let qualifier = self.qualifier(fuel - 1)?;
+        let spec = self.specifier(fuel - 1)?;
+        let stars = try_with!(self.stars(fuel - 1); spec);
+        let name = try_with!(self.param_name(fuel - 1); spec);
+        let dimensions = try_with!(self.open_dimensions(fuel - 1); spec, name);
         Ok(Param {
             qualifier,
             spec,
@@ -169,78 +174,96 @@ impl Tokens<'_> {
         })
     }
 
-    /// Parameters behind commas.
-    fn more_params(&mut self, depth: usize) -> Result<Items<Next<Param>>, Fault>
-        ensures { Gives (many label.MoreParams (next view.param)) (read depth (Many label.MoreParams) self.old) result self.new }
+    /// Parameters after commas.
+    fn more_params(&mut self, fuel: usize) -> Result<Items<Next<Param>>, Fault>
+        ensures { Gives (many production.MoreParams (next view.param)) (read fuel (Many
+            production.MoreParams) self.old) result self.new }
     {
-        if depth == 0 {
-            return Err(Fault::Deep);
+        if fuel == 0 {
+            return Err(Fault::OutOfFuel);
         }
         let mut more = Items::new(self.alloc);
-        for _turn in 0..depth {
+        for _turn in 0..fuel {
             if !self.sees(Punct::Comma) {
                 return Ok(more);
             }
             let comma = self.expect(Punct::Comma)?;
-            let element = self.param(depth - 1)?;
+            let element = self.param(fuel - 1)?;
             more.push(Next { comma, element })?;
         }
-        Err(Fault::Deep)
+        Err(Fault::OutOfFuel)
     }
 
     /// The parameters of a function, if any are written.
-    fn params(&mut self, depth: usize) -> Result<Option<Params>, Fault>
-        ensures { Gives view.params (read depth (Opt label.Params) self.old) result self.new }
+    fn params(&mut self, fuel: usize) -> Result<Option<Params>, Fault>
+        ensures { Gives view.params (read fuel (Opt production.Params) self.old) result self.new }
     {
-        if depth == 0 {
-            return Err(Fault::Deep);
+        if fuel == 0 {
+            return Err(Fault::OutOfFuel);
         }
         if !self.sees_type() {
             return Ok(None);
         }
-        let first = self.param(depth - 1)?;
-        let more = self.more_params(depth - 1)?;
+        let first = self.param(fuel - 1)?;
+        let more = try_with!(self.more_params(fuel - 1); first);
         Ok(Some(Params { first, more }))
     }
 
-    /// The body of a function, or the semicolon in its place.
-    fn body(&mut self, depth: usize) -> Result<Body, Fault>
-        ensures { Gives body_tree (read depth class.Body self.old) result self.new }
+    /// The body of a function, or the semicolon in its offset.
+    fn body(&mut self, fuel: usize) -> Result<Body, Fault>
+        ensures { Gives body_tree (read fuel nonterminal.Body self.old) result self.new }
     {
-        if depth == 0 {
-            return Err(Fault::Deep);
+        if fuel == 0 {
+            return Err(Fault::OutOfFuel);
         }
         if self.sees(Punct::Semicolon) {
             let semicolon = self.expect(Punct::Semicolon)?;
             return Ok(Body::Prototype(semicolon));
         }
-        let block = self.block(depth)?;
+        let block = self.block(fuel)?;
         Ok(Body::Block(block))
     }
 
-    /// What stands behind a name.
-    fn rest(&mut self, depth: usize) -> Result<Rest, Fault>
-        ensures { Gives rest_tree (read depth class.BehindName self.old) result self.new }
+    /// What stands after a name.
+    fn rest(&mut self, fuel: usize) -> Result<Rest, Fault>
+        ensures { Gives rest_tree (read fuel nonterminal.AfterName self.old) result self.new }
     {
-        if depth == 0 {
-            return Err(Fault::Deep);
+        if fuel == 0 {
+            return Err(Fault::OutOfFuel);
         }
         if self.sees(Punct::LParen) {
-            let open = self.expect(Punct::LParen)?;
-            let params = self.params(depth - 1)?;
-            let close = self.expect(Punct::RParen)?;
-            let body = self.body(depth - 1)?;
-            return Ok(Rest::Function {
-                open,
-                params,
-                close,
-                body,
-            });
+            self.function_rest(fuel - 1)
+        } else {
+            self.globals_rest(fuel - 1)
         }
-        let dimensions = self.open_dimensions(depth - 1)?;
-        let initializer = self.initializer(depth - 1)?;
-        let more = self.more_declarators(depth - 1)?;
-        let semicolon = self.expect(Punct::Semicolon)?;
+    }
+
+    /// What follows the name of a function.
+    fn function_rest(&mut self, fuel: usize) -> Result<Rest, Fault>
+        ensures { Gives rest_tree (begun (read fuel) (Some production.Function) self.old) result
+            self.new }
+    {
+        let open = self.expect(Punct::LParen)?;
+        let params = self.params(fuel)?;
+        let close = try_with!(self.expect(Punct::RParen); params);
+        let body = try_with!(self.body(fuel); params);
+        Ok(Rest::Function {
+            open,
+            params,
+            close,
+            body,
+        })
+    }
+
+    /// What follows the name of the first variable.
+    fn globals_rest(&mut self, fuel: usize) -> Result<Rest, Fault>
+        ensures { Gives rest_tree (begun (read fuel) (Some production.Globals) self.old) result
+            self.new }
+    {
+        let dimensions = self.open_dimensions(fuel)?;
+        let initializer = self.initializer(fuel)?;
+        let more = try_with!(self.more_declarators(fuel); initializer);
+        let semicolon = try_with!(self.expect(Punct::Semicolon); initializer);
         Ok(Rest::Globals {
             dimensions,
             initializer,
@@ -249,43 +272,51 @@ impl Tokens<'_> {
         })
     }
 
-    /// What stands behind a type.
-    fn declared(&mut self, depth: usize) -> Result<Declared, Fault>
-        ensures { Gives declared_tree (read depth class.BehindType self.old) result self.new }
+    /// What stands after a type.
+    fn declared(&mut self, fuel: usize) -> Result<Declared, Fault>
+        ensures { Gives declared_tree (read fuel nonterminal.AfterType self.old) result self.new }
     {
-        if depth == 0 {
-            return Err(Fault::Deep);
+        if fuel == 0 {
+            return Err(Fault::OutOfFuel);
         }
-        let stars = self.stars(depth - 1)?;
+        let stars = self.stars(fuel - 1)?;
         let name = self.identifier()?;
-        let rest = self.rest(depth - 1)?;
+        let rest = try_with!(self.rest(fuel - 1); name);
         Ok(Declared { stars, name, rest })
     }
 
-    /// What stands behind `struct` and a name.
-    fn behind_tag(&mut self, depth: usize) -> Result<BehindTag, Fault>
-        ensures { Gives behind_tag_tree (read depth class.BehindTag self.old) result self.new }
+    /// What stands after `struct` and a name.
+    fn after_tag(&mut self, fuel: usize) -> Result<AfterTag, Fault>
+        ensures { Gives after_tag_tree (read fuel nonterminal.AfterTag self.old) result self.new }
     {
-        if depth == 0 {
-            return Err(Fault::Deep);
+        if fuel == 0 {
+            return Err(Fault::OutOfFuel);
         }
         if self.sees(Punct::Semicolon) {
             let semicolon = self.expect(Punct::Semicolon)?;
-            return Ok(BehindTag::Struct {
+            return Ok(AfterTag::Struct {
                 body: None,
                 semicolon,
             });
         }
         if !self.sees(Punct::LBrace) {
-            let declared = self.declared(depth)?;
-            return Ok(BehindTag::Declared(declared));
+            let declared = self.declared(fuel)?;
+            return Ok(AfterTag::Declared(declared));
         }
+        self.struct_members(fuel - 1)
+    }
+
+    /// The members of a structure in braces, and the semicolon.
+    fn struct_members(&mut self, fuel: usize) -> Result<AfterTag, Fault>
+        ensures { Gives after_tag_tree (begun (read fuel) (Some production.StructMembers) self.old)
+            result self.new }
+    {
         let open = self.expect(Punct::LBrace)?;
-        let first = self.members(depth - 1)?;
-        let more = self.members_behind(depth - 1)?;
-        let close = self.expect(Punct::RBrace)?;
-        let semicolon = self.expect(Punct::Semicolon)?;
-        Ok(BehindTag::Struct {
+        let first = self.members(fuel)?;
+        let more = try_with!(self.further_members(fuel); first);
+        let close = try_with!(self.expect(Punct::RBrace); first);
+        let semicolon = try_with!(self.expect(Punct::Semicolon); first);
+        Ok(AfterTag::Struct {
             body: Some(StructBody {
                 open,
                 first,
@@ -297,50 +328,70 @@ impl Tokens<'_> {
     }
 
     /// A declaration at file scope.
-    fn external(&mut self, depth: usize) -> Result<External, Fault>
-        ensures { Gives external_tree (read depth class.External self.old) result self.new }
+    fn external(&mut self, fuel: usize) -> Result<External, Fault>
+        ensures { Gives external_tree (read fuel nonterminal.External self.old) result self.new }
     {
-        if depth == 0 {
-            return Err(Fault::Deep);
+        if fuel == 0 {
+            return Err(Fault::OutOfFuel);
         }
         match self.external_start() {
             None => Err(Fault::Syntax),
-            Some(ExternalStart::Static) => {
-                let storage = self.expect_word(Keyword::Static)?;
-                let qualifier = self.qualifier(depth - 1)?;
-                let spec = self.specifier(depth - 1)?;
-                let declared = self.declared(depth - 1)?;
-                Ok(whole(Some(storage), qualifier, spec, declared))
-            }
-            Some(ExternalStart::Const) => {
-                let qualifier = self.expect_word(Keyword::Const)?;
-                let spec = self.specifier(depth - 1)?;
-                let declared = self.declared(depth - 1)?;
-                Ok(whole(None, Some(qualifier), spec, declared))
-            }
-            Some(ExternalStart::Struct) => self.structure(depth - 1),
-            Some(ExternalStart::Plain) => {
-                let spec = self.plain_specifier(depth - 1)?;
-                let declared = self.declared(depth - 1)?;
-                Ok(whole(None, None, spec, declared))
-            }
+            Some(ExternalStart::Static) => self.static_external(fuel - 1),
+            Some(ExternalStart::Const) => self.const_external(fuel - 1),
+            Some(ExternalStart::Struct) => self.structure(fuel - 1),
+            Some(ExternalStart::Plain) => self.plain_external(fuel - 1),
         }
     }
 
-    /// A declaration at file scope that begins with `struct`.
-    fn structure(&mut self, depth: usize) -> Result<External, Fault>
-        ensures { Gives external_tree (begun (read depth) (Some label.Struct) self.old) result self.new }
+    /// A declaration at file scope that begins with `static`.
+    fn static_external(&mut self, fuel: usize) -> Result<External, Fault>
+        ensures { Gives external_tree (begun (read fuel) (Some production.Static) self.old) result
+            self.new }
     {
-        let keyword = self.expect_word(Keyword::Struct)?;
+        let storage = self.expect_keyword(Keyword::Static)?;
+        let qualifier = self.qualifier(fuel)?;
+        let spec = self.specifier(fuel)?;
+        let declared = try_with!(self.declared(fuel); spec);
+        Ok(whole(Some(storage), qualifier, spec, declared))
+    }
+
+    /// A declaration at file scope that begins with `const`.
+    fn const_external(&mut self, fuel: usize) -> Result<External, Fault>
+        ensures { Gives external_tree (begun (read fuel) (Some production.Const) self.old) result
+            self.new }
+    {
+        let qualifier = self.expect_keyword(Keyword::Const)?;
+        let spec = self.specifier(fuel)?;
+        let declared = try_with!(self.declared(fuel); spec);
+        Ok(whole(None, Some(qualifier), spec, declared))
+    }
+
+    /// A declaration at file scope that begins with a type that is no structure.
+    fn plain_external(&mut self, fuel: usize) -> Result<External, Fault>
+        ensures { Gives external_tree (begun (read fuel) (Some production.Plain) self.old) result
+            self.new }
+    {
+        let spec = self.plain_specifier(fuel)?;
+        let declared = try_with!(self.declared(fuel); spec);
+        Ok(whole(None, None, spec, declared))
+    }
+
+    /// A declaration at file scope that begins with `struct`.
+    fn structure(&mut self, fuel: usize) -> Result<External, Fault>
+        ensures { Gives external_tree (begun (read fuel) (Some production.Struct) self.old) result
+            self.new }
+    {
+        let keyword = self.expect_keyword(Keyword::Struct)?;
         let tag = self.identifier()?;
-        match self.behind_tag(depth)? {
-            BehindTag::Struct { body, semicolon } => Ok(External::Struct(Structure {
+        let rest = try_with!(self.after_tag(fuel); tag);
+        match rest {
+            AfterTag::Struct { body, semicolon } => Ok(External::Struct(Structure {
                 keyword,
                 tag,
                 body,
                 semicolon,
             })),
-            BehindTag::Declared(declared) => {
+            AfterTag::Declared(declared) => {
                 let spec = Spec::Struct { keyword, tag };
                 Ok(whole(None, None, spec, declared))
             }
@@ -348,27 +399,32 @@ impl Tokens<'_> {
     }
 
     /// Declarations at file scope.
-    pub fn unit(&mut self, depth: usize) -> Result<Unit, Fault>
-        ensures { Gives view.unit_tree (read depth (Many label.Externals) self.old) result self.new }
+    pub fn unit(&mut self, fuel: usize) -> Result<Unit, Fault>
+        ensures { Gives view.unit_tree (read fuel (Many production.Externals) self.old) result
+            self.new }
     {
-        if depth == 0 {
-            return Err(Fault::Deep);
+        if fuel == 0 {
+            return Err(Fault::OutOfFuel);
         }
         let mut externals = Items::new(self.alloc);
-        for _turn in 0..depth {
+        for _turn in 0..fuel {
             if !self.sees_external() {
                 return Ok(Unit { externals });
             }
-            let external = self.external(depth - 1)?;
+            let external = self.external(fuel - 1)?;
             externals.push(external)?;
         }
-        Err(Fault::Deep)
+        Err(Fault::OutOfFuel)
     }
 }
 
 /// What is declared, with its type in front of it.
 fn whole(storage: Option<Span>, qualifier: Option<Span>, spec: Spec, declared: Declared) -> External
-    ensures { external_tree result ≡ specified (record { storage = storage; qualifier = qualifier; spec = spec }) (declared_tree declared) }
+    ensures { external_tree result ≡ specified (record {
+      storage = storage;
+      qualifier = qualifier;
+      spec = spec;
+    }) (declared_tree declared) }
 {
     let specifiers = Specifiers {
         storage,

@@ -4,13 +4,13 @@ ghost use Rattle.c_parse.specs.declared.fault.Fault.TheVariants as fault;
 use std::alloc::{AllocError, AllocFailed};
 use thiserror::Error;
 
-/// Why tokens have no tree, with the place of the fault, in bytes from the start of the source.
-#[derive(Clone, Copy, Debug, PartialEq, Eq, Error)]
+/// Why tokens have no tree, with the offset of the fault in the source, in bytes.
+#[derive(Clone, Copy, Debug, Error)]
 pub enum ParseFault {
     /// A keyword of C that the language leaves out.
     #[error("at byte {0}: a keyword that is left out")]
     LeftOut(u32),
-    /// The first token behind which the nesting is deeper than 200.
+    /// The first token after which the nesting is deeper than 200.
     #[error("at byte {0}: nesting deeper than 200")]
     TooDeep(u32),
     /// The first token that no program could go on with, or the end of the source.
@@ -18,30 +18,30 @@ pub enum ParseFault {
     Syntax(u32),
     /// Memory ran out.
     #[error("out of memory")]
-    Memory,
+    NoMemory,
 }
 
-/// Why a part of the grammar could not be read. The tokens then stand at the first wrong one.
-#[derive(Clone, Copy, Debug, PartialEq, Eq)]
+/// Why a nonterminal could not be read. After `Syntax` the next token is the first wrong one.
+#[derive(Clone, Copy)]
 pub enum Fault {
     Syntax,
     /// The grammar nests deeper than the reader's bound.
-    Deep,
-    Memory,
+    OutOfFuel,
+    NoMemory,
 }
 
 impl From<AllocError> for Fault {
-    ghost from_gives = { λ _ e. e ≡ fault.Memory };
+    ghost from_gives = { λ _ e. e ≡ fault.NoMemory };
 
     fn from(_e: AllocError) -> Fault {
-        Fault::Memory
+        Fault::NoMemory
     }
 }
 
 impl<T: Drop> From<AllocFailed<T>> for Fault {
-    ghost from_gives = { λ _ e. e ≡ fault.Memory };
+    ghost from_gives = { λ _ e. e ≡ fault.NoMemory };
 
     fn from(_e: AllocFailed<T>) -> Fault {
-        Fault::Memory
+        Fault::NoMemory
     }
 }

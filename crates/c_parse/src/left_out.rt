@@ -12,7 +12,7 @@ fn is_left_out(kind: &TokenKind) -> bool
     }
 }
 
-/// The place of the first keyword of C that the language leaves out, if there is one.
+/// The offset of the first keyword of C that the language leaves out, if there is one.
 pub fn first_left_out(tokens: &[Token]) -> Option<u32>
     ensures { result ≡ first_left_out tokens.now }
 {

@@ -1,5 +1,5 @@
-//! The second phase of the front end: the one shaped tree that the tokens spell, or the first token that no program
-//! could go on with.
+//! The second phase of the front end: the one shaped tree that the tokens spell, or the first token
+//! that no program could go on with.
 #![tactic(auto)]
 
 mod ahead;
@@ -7,6 +7,7 @@ mod declaration;
 mod expression;
 mod external;
 mod fault;
+mod held;
 pub mod laws;
 mod left_out;
 mod literals;

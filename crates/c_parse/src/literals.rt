@@ -1,15 +1,15 @@
 //! Constants and string literals as operands.
-#![tactic(auto, using(crate::proofs::LiteralLemmas::literals), unfolding(c_grammar::specs::Reader::begun, c_grammar::specs::Reader::parts, c_grammar::specs::Reader::one, c_grammar::specs::Starts::begins_repeated, c_ast::specs::Grammar::production, c_ast::specs::Grammar::parts_of, c_ast::specs::Grammar::repeated, c_ast::specs::Terminals::is))]
+#![tactic(auto, using(crate::proofs::LiteralLemmas::literals), unfolding(c_grammar::specs::Reader::begun, c_grammar::specs::Reader::children, c_grammar::specs::Reader::one, c_grammar::specs::PredictSets::begins_repeated, c_ast::specs::Grammar::rule, c_ast::specs::Grammar::symbols_of, c_ast::specs::Grammar::repeated, c_ast::specs::Terminals::is))]
 
 ghost use Rattle.std.specs.Prelude.{◌≡◌, Some, Bool};
 ghost use Rattle.std.specs.Option.{option_copied, option_and_then};
-ghost use Rattle.c_ast.specs.Classes.{Many};
+ghost use Rattle.c_ast.specs.Nonterminals.{Many};
 ghost use Rattle.c_ast.specs.Expressions.{expr_tree, texts, literal};
-ghost use Rattle.c_ast.specs.Labels as label;
-ghost use Rattle.c_ast.specs.Terminals.{AnyText, is};
+ghost use Rattle.c_ast.specs.Productions as production;
+ghost use Rattle.c_ast.specs.Terminals.{AnyLiteral, is};
 ghost use Rattle.c_grammar.specs.Reader.{read, begun, token};
-ghost use Rattle.c_grammar.specs.Starts.{head, at};
-ghost use Rattle.c_parse.specs.Reading.{Gives, number_of, char_of, text_of};
+ghost use Rattle.c_grammar.specs.PredictSets.{head, at};
+ghost use Rattle.c_parse.specs.Reading.{Gives, number_of, char_of, literal_of};
 
 use crate::fault::Fault;
 use crate::tokens::Tokens;
@@ -39,8 +39,8 @@ impl<'a> Tokens<'a> {
     }
 
     /// The string literal that comes next, if one does.
-    fn peek_text(&self) -> Option<&'a Bytes>
-        ensures { option_copied result ≡ option_and_then text_of (head self.now) }
+    fn peek_literal(&self) -> Option<&'a Bytes>
+        ensures { option_copied result ≡ option_and_then literal_of (head self.now) }
     {
         match self.peek() {
             Some(TokenKind::Text(bytes)) => Some(bytes),
@@ -49,15 +49,16 @@ impl<'a> Tokens<'a> {
     }
 
     /// Whether a string literal comes next.
-    fn sees_text(&self) -> bool
-        ensures { result ≡ at (is AnyText) (head self.now) }
+    fn sees_literal(&self) -> bool
+        ensures { result ≡ at (is AnyLiteral) (head self.now) }
     {
         matches!(self.peek(), Some(TokenKind::Text(_)))
     }
 
     /// An integer constant.
-    pub fn number(&mut self, depth: usize) -> Result<Expr, Fault>
-        ensures { Gives expr_tree (begun (read depth) (Some label.Number) self.old) result self.new }
+    pub fn number(&mut self, fuel: usize) -> Result<Expr, Fault>
+        ensures { Gives expr_tree (begun (read fuel) (Some production.Number) self.old) result
+            self.new }
     {
         match self.peek_number() {
             Some((value, unsigned)) => {
@@ -73,8 +74,9 @@ impl<'a> Tokens<'a> {
     }
 
     /// A character constant.
-    pub fn character(&mut self, depth: usize) -> Result<Expr, Fault>
-        ensures { Gives expr_tree (begun (read depth) (Some label.Character) self.old) result self.new }
+    pub fn character(&mut self, fuel: usize) -> Result<Expr, Fault>
+        ensures { Gives expr_tree (begun (read fuel) (Some production.Character) self.old) result
+            self.new }
     {
         match self.peek_char() {
             Some(value) => {
@@ -87,9 +89,9 @@ impl<'a> Tokens<'a> {
 
     /// A string literal.
     pub fn literal(&mut self) -> Result<Literal, Fault>
-        ensures { Gives literal (token AnyText self.old) result self.new }
+        ensures { Gives literal (token AnyLiteral self.old) result self.new }
     {
-        match self.peek_text() {
+        match self.peek_literal() {
             Some(bytes) => {
                 let bytes = bytes.clone()?;
                 let span = self.take();
@@ -99,21 +101,21 @@ impl<'a> Tokens<'a> {
         }
     }
 
-    /// String literals behind the first one.
-    pub fn texts(&mut self, depth: usize) -> Result<Items<Literal>, Fault>
-        ensures { Gives texts (read depth (Many label.MoreTexts) self.old) result self.new }
+    /// String literals after the first one.
+    pub fn more_literals(&mut self, fuel: usize) -> Result<Items<Literal>, Fault>
+        ensures { Gives texts (read fuel (Many production.MoreLiterals) self.old) result self.new }
     {
-        if depth == 0 {
-            return Err(Fault::Deep);
+        if fuel == 0 {
+            return Err(Fault::OutOfFuel);
         }
-        let mut texts = Items::new(self.alloc);
-        for _turn in 0..depth {
-            if !self.sees_text() {
-                return Ok(texts);
+        let mut literals = Items::new(self.alloc);
+        for _turn in 0..fuel {
+            if !self.sees_literal() {
+                return Ok(literals);
             }
-            let text = self.literal()?;
-            texts.push(text)?;
+            let literal = self.literal()?;
+            literals.push(literal)?;
         }
-        Err(Fault::Deep)
+        Err(Fault::OutOfFuel)
     }
 }

@@ -1,19 +1,21 @@
 //! How deep the tokens are nested.
-#![tactic(auto, using(crate::proofs::Counters::counters), unfolding(c_ast::specs::Terminals::is, c_ast::specs::Terminals::word_number))]
+#![tactic(auto, using(crate::proofs::Counters::counters), unfolding(c_ast::specs::Terminals::is, c_ast::specs::Terminals::keyword_number))]
 
 ghost use Rattle.std.specs.Prelude.{◌≡◌, ◌≤◌, ◌<◌, [], ◌∷◌, MatchOption, Some};
-ghost use Rattle.c_ast.specs.Nesting.{raised, popped, ended, behind_mark, behind_token, is_counted, depth_of, depth};
+ghost use Rattle.c_ast.specs.Nesting.{raised, popped, ended, after_mark, after_token, is_counted, depth_of, depth};
 ghost use Rattle.c_ast.specs.Spelling.{kinds};
 ghost use Rattle.c_ast.specs.Terminals.{is, Word};
-ghost use Rattle.c_grammar.specs.Starts.{head, at};
+ghost use Rattle.c_grammar.specs.PredictSets.{head, at};
+ghost use Rattle.limits.specs.Limits.{most_nesting};
 ghost use Rattle.c_lex.specs.declared.keyword.Keyword.TheVariants as word;
 ghost use Rattle.c_parse.specs.Counters.{cleared};
 ghost use Rattle.c_parse.specs.Refusal.{FirstTooDeep};
 
 use c_lex::{Keyword, Punct, Token, TokenKind};
+use limits::MOST_NESTING;
 use std::marker::Model;
 
-const MAX_DEPTH: u8 = 200;
+const MAX_DEPTH: u8 = MOST_NESTING as u8;
 
 /// A stack of counters. The depth is their sum, and their number less one.
 #[derive(Drop)]
@@ -97,7 +99,7 @@ impl Counters {
 
     fn pass_mark(&mut self, punct: Punct, rest: &[Token])
         requires { depth_of self.old ≤ 200 }
-        ensures { self.new ≡ behind_mark punct (kinds rest.now) self.old }
+        ensures { self.new ≡ after_mark punct (kinds rest.now) self.old }
     {
         match punct {
             Punct::LParen | Punct::LBracket => {
@@ -118,7 +120,7 @@ impl Counters {
     /// Passes a token, before the tokens `rest`.
     fn pass(&mut self, kind: &TokenKind, rest: &[Token])
         requires { depth_of self.old ≤ 200 }
-        ensures { self.new ≡ behind_token kind.now (kinds rest.now) self.old }
+        ensures { self.new ≡ after_token kind.now (kinds rest.now) self.old }
     {
         match kind {
             TokenKind::Punct(punct) => self.pass_mark(*punct, rest),
@@ -158,9 +160,10 @@ fn is_counted(kind: &TokenKind) -> bool
     )
 }
 
-/// The place of the first token behind which the nesting is deeper than 200, if there is one.
+/// The offset of the first token after which the nesting is deeper than 200, if there is one.
 pub fn first_too_deep(tokens: &[Token]) -> Option<u32>
-    ensures { MatchOption result (depth (kinds tokens.now) ≤ 200) (λ at. FirstTooDeep tokens.now at) }
+    ensures { MatchOption result (depth (kinds tokens.now) ≤ most_nesting) (λ at. FirstTooDeep
+        tokens.now at) }
 {
     let mut counters = Counters::new();
     for (i, token) in tokens.iter().enumerate() {

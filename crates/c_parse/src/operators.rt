@@ -1,27 +1,28 @@
-//! Operands, and the operators that go on behind them.
-#![tactic(auto, using(crate::proofs::OperandLemmas::operands), unfolding(c_ast::specs::Classes::class_number, c_ast::specs::Classes::level_number, c_ast::specs::Grammar::tighter, c_ast::specs::Grammar::production, c_ast::specs::Grammar::allowed, c_grammar::specs::Reader::label_of, c_grammar::specs::Starts::left, c_grammar::specs::Starts::operation, c_grammar::specs::Starts::suffix, crate::specs::Operands::class_of, c_ast::specs::Terminals::is, c_ast::specs::Terminals::is_step_mark, c_ast::specs::Terminals::is_unary_mark, c_ast::specs::Terminals::is_assign_mark, c_ast::specs::Terminals::operator_level, c_ast::specs::Operators::selection_mark, c_ast::specs::Operators::selection_label, c_ast::specs::Operators::step_mark, c_ast::specs::Operators::unary_mark, c_ast::specs::Operators::binary_mark, c_ast::specs::Operators::binary_level, c_ast::specs::Operators::assign_mark, c_grammar::specs::Starts::mark_suffix, c_grammar::specs::Starts::operand, c_grammar::specs::Starts::operand_mark, c_grammar::specs::Starts::parenthesis, c_ast::specs::Classes::same_class))]
+//! Operands, and the operators that go on after them.
+#![tactic(auto, using(crate::proofs::OperandLemmas::operands), unfolding(c_ast::specs::Nonterminals::nonterminal_number, c_ast::specs::Nonterminals::level_number, c_ast::specs::Grammar::tighter, c_ast::specs::Grammar::rule, c_ast::specs::Grammar::allowed, c_grammar::specs::Reader::production_of, c_grammar::specs::PredictSets::left, c_grammar::specs::PredictSets::operation, c_grammar::specs::PredictSets::suffix, crate::specs::Operands::nonterminal_of, c_ast::specs::Terminals::is, c_ast::specs::Terminals::is_inc_dec_mark, c_ast::specs::Terminals::is_unary_mark, c_ast::specs::Terminals::is_assign_mark, c_ast::specs::Terminals::operator_level, c_ast::specs::Operators::selection_mark, c_ast::specs::Operators::selection_production, c_ast::specs::Operators::inc_dec_mark, c_ast::specs::Operators::unary_mark, c_ast::specs::Operators::binary_mark, c_ast::specs::Operators::binary_level, c_ast::specs::Operators::assign_mark, c_grammar::specs::PredictSets::mark_suffix, c_grammar::specs::PredictSets::operand, c_grammar::specs::PredictSets::operand_mark, c_grammar::specs::PredictSets::parenthesis, c_ast::specs::Nonterminals::same_nonterminal))]
 
-ghost use Rattle.std.specs.Prelude.{◌≡◌, ◌≤◌, option_map, IfSome};
+ghost use Rattle.std.specs.Prelude.{◌≡◌, nat_le, option_map, IfSome};
 ghost use Rattle.c_lex.specs.declared.token.TokenKind.TheVariants as kind;
-ghost use Rattle.c_ast.specs.Classes as class;
+ghost use Rattle.c_ast.specs.Nonterminals as nonterminal;
 ghost use Rattle.std.specs.Option.{option_and_then};
-ghost use Rattle.c_ast.specs.Classes.{class_number};
+ghost use Rattle.c_ast.specs.Nonterminals.{nonterminal_number};
 ghost use Rattle.c_ast.specs.Expressions.{expr_tree};
-ghost use Rattle.c_ast.specs.Grammar.{tighter, production, allowed};
+ghost use Rattle.c_ast.specs.Grammar.{tighter, rule, allowed};
 ghost use Rattle.c_ast.specs.Operators.{binary_level, binary_mark};
-ghost use Rattle.c_grammar.specs.Reader.{label_of};
-ghost use Rattle.c_grammar.specs.Starts as starts;
-ghost use Rattle.c_grammar.specs.Starts.{head, typed, mark_suffix, start, next};
-ghost use Rattle.c_parse.specs.Operands.{class_of, operand_label, suffix_label, suffix_mark, StartsAt, prefix_label};
+ghost use Rattle.c_grammar.specs.Reader.{production_of};
+ghost use Rattle.c_grammar.specs.PredictSets as predict;
+ghost use Rattle.c_grammar.specs.PredictSets.{head, typed, mark_suffix, start, next};
+ghost use Rattle.c_parse.specs.Operands.{nonterminal_of, operand_of, operand_production, suffix_production, suffix_mark, StartsAt, prefix_production};
 ghost use Rattle.c_ast.specs.Terminals.{operator_level};
 
 use crate::tokens::Tokens;
-use c_ast::{AssignOp, BinaryOp, Expr, Selection, Step, UnaryOp};
+use c_ast::{AssignOp, BinaryOp, Expr, IncDec, Selection, UnaryOp};
 use c_lex::{Keyword, Punct, TokenKind};
 
-/// The operands that may stand somewhere, the tightest first: each rank has those of the ranks before it too.
+/// The operands that may stand somewhere, the tightest first: each precedence has those of the
+/// ranks before it too.
 #[derive(Clone, Copy)]
-pub enum Rank {
+pub enum Precedence {
     Unary,
     Cast,
     Multiplicative,
@@ -47,7 +48,7 @@ pub enum OperandStart {
     Text,
     Paren,
     Cast,
-    Step(Step),
+    IncDec(IncDec),
     Unary(UnaryOp),
     Sizeof,
 }
@@ -58,16 +59,17 @@ pub enum Suffix {
     Index,
     Call,
     Select(Selection),
-    Step(Step),
+    IncDec(IncDec),
     Conditional,
     Assign(AssignOp),
     Binary(BinaryOp),
 }
 
 impl Tokens<'_> {
-    /// How an operand of this rank begins here.
-    pub fn operand_start(&self, rank: Rank) -> Option<OperandStart>
-        ensures production { option_map operand_label result ≡ start (class_of rank) (head self.now) (typed self.now) }
+    /// How an operand of this precedence begins here.
+    pub fn operand_start(&self, precedence: Precedence) -> Option<OperandStart>
+        ensures production { option_map operand_production result ≡ start (nonterminal_of
+            precedence) (head self.now) (typed self.now) }
         ensures operator { IfSome result (λ s. StartsAt s (head self.now)) }
     {
         match self.peek() {
@@ -77,28 +79,30 @@ impl Tokens<'_> {
             Some(TokenKind::Text(_)) => Some(OperandStart::Text),
             Some(TokenKind::Keyword(Keyword::Sizeof)) => Some(OperandStart::Sizeof),
             Some(TokenKind::Punct(Punct::LParen)) => Some(parenthesis(
-                rank,
-                self.sees_type_behind(),
+                precedence,
+                self.sees_type_second(),
             )),
             Some(TokenKind::Punct(punct)) => prefix_operator(*punct),
             _ => None,
         }
     }
 
-    /// How an operand goes on here behind `left`, where one of this rank is to stand.
-    pub fn suffix_behind(&self, rank: Rank, left: &Expr) -> Option<Suffix>
-        ensures production { option_map suffix_label result ≡ next (class_of rank) (label_of (expr_tree left.now)) (head self.now) }
+    /// How an operand goes on here after `left`, where one of this precedence is to stand.
+    pub fn suffix_after(&self, precedence: Precedence, left: &Expr) -> Option<Suffix>
+        ensures production { option_map suffix_production result ≡ next (nonterminal_of precedence)
+            (production_of (expr_tree left.now)) (head self.now) }
         ensures operator { IfSome result (λ s. head self.now ≡ Some (kind.Punct (suffix_mark s))) }
     {
         match self.suffix() {
-            Some(suffix) if fits(rank, suffix) && takes(suffix, left) => Some(suffix),
+            Some(suffix) if fits(precedence, suffix) && takes(suffix, left) => Some(suffix),
             _ => None,
         }
     }
 
     /// The operator that comes next, if one does.
     fn suffix(&self) -> Option<Suffix>
-        ensures production { option_map suffix_label result ≡ option_and_then starts.suffix (head self.now) }
+        ensures production { option_map suffix_production result ≡ option_and_then predict.suffix
+            (head self.now) }
         ensures operator { IfSome result (λ s. head self.now ≡ Some (kind.Punct (suffix_mark s))) }
     {
         match self.peek() {
@@ -109,23 +113,23 @@ impl Tokens<'_> {
 }
 
 /// What `(` begins: a cast where a type follows and casts may stand.
-fn parenthesis(rank: Rank, is_type: bool) -> OperandStart
-    ensures { operand_label result ≡ starts.parenthesis (class_of rank) is_type }
+fn parenthesis(precedence: Precedence, is_type: bool) -> OperandStart
+    ensures { operand_production result ≡ predict.parenthesis (nonterminal_of precedence) is_type }
 {
-    match (rank, is_type) {
-        (Rank::Unary, _) | (_, false) => OperandStart::Paren,
+    match (precedence, is_type) {
+        (Precedence::Unary, _) | (_, false) => OperandStart::Paren,
         _ => OperandStart::Cast,
     }
 }
 
 /// The operator that stands in front of an operand as this punctuator.
 fn prefix_operator(punct: Punct) -> Option<OperandStart>
-    ensures production { option_map operand_label result ≡ prefix_label punct }
+    ensures production { option_map operand_production result ≡ prefix_production punct }
     ensures operator { IfSome result (λ s. StartsAt s (Some (kind.Punct punct))) }
 {
     match punct {
-        Punct::PlusPlus => Some(OperandStart::Step(Step::Up)),
-        Punct::MinusMinus => Some(OperandStart::Step(Step::Down)),
+        Punct::PlusPlus => Some(OperandStart::IncDec(IncDec::Increment)),
+        Punct::MinusMinus => Some(OperandStart::IncDec(IncDec::Decrement)),
         Punct::Amp => Some(OperandStart::Unary(UnaryOp::AddressOf)),
         Punct::Star => Some(OperandStart::Unary(UnaryOp::Deref)),
         Punct::Plus => Some(OperandStart::Unary(UnaryOp::Plus)),
@@ -136,9 +140,9 @@ fn prefix_operator(punct: Punct) -> Option<OperandStart>
     }
 }
 
-/// The operator that goes on behind an operand as this punctuator.
+/// The operator that goes on after an operand as this punctuator.
 fn suffix_of(punct: Punct) -> Option<Suffix>
-    ensures production { option_map suffix_label result ≡ mark_suffix punct }
+    ensures production { option_map suffix_production result ≡ mark_suffix punct }
     ensures operator { IfSome result (λ s. punct ≡ suffix_mark s) }
 {
     match punct {
@@ -146,8 +150,8 @@ fn suffix_of(punct: Punct) -> Option<Suffix>
         Punct::LParen => Some(Suffix::Call),
         Punct::Dot => Some(Suffix::Select(Selection::Dot)),
         Punct::Arrow => Some(Suffix::Select(Selection::Arrow)),
-        Punct::PlusPlus => Some(Suffix::Step(Step::Up)),
-        Punct::MinusMinus => Some(Suffix::Step(Step::Down)),
+        Punct::PlusPlus => Some(Suffix::IncDec(IncDec::Increment)),
+        Punct::MinusMinus => Some(Suffix::IncDec(IncDec::Decrement)),
         Punct::Question => Some(Suffix::Conditional),
         Punct::Equal => Some(Suffix::Assign(AssignOp::Plain)),
         Punct::StarEqual => Some(Suffix::Assign(AssignOp::Multiply)),
@@ -194,103 +198,118 @@ fn binary_operator(punct: Punct) -> Option<BinaryOp>
     }
 }
 
-/// Whether an operation with this operator may stand where an operand of the rank is to stand.
-fn fits(rank: Rank, suffix: Suffix) -> bool
-    ensures { result ≡ allowed (class_of rank) (suffix_label suffix) }
+/// Whether an operation with this operator may stand where an operand of the precedence is to
+/// stand.
+fn fits(precedence: Precedence, suffix: Suffix) -> bool
+    ensures { result ≡ allowed (nonterminal_of precedence) (suffix_production suffix) }
 {
-    operation_looseness(suffix) <= rank_looseness(rank)
+    is_within(operation_precedence(suffix), Some(precedence))
 }
 
 /// Whether an expression may stand in front of this operator.
 fn takes(suffix: Suffix, left: &Expr) -> bool
-    ensures { result ≡ allowed (starts.left (suffix_label suffix)) (label_of (expr_tree left.now)) }
+    ensures { result ≡ allowed (predict.left (suffix_production suffix)) (production_of (expr_tree
+        left.now)) }
 {
-    looseness(left) <= left_looseness(suffix)
+    is_within(precedence_of(left), left_precedence(suffix))
 }
 
-/// How loose an operation with this operator is.
-fn operation_looseness(suffix: Suffix) -> u8
-    ensures { result ≡ class_number (production (suffix_label suffix)).of }
+/// Whether operands of the inner precedence may stand where one of the outer is to stand. None is
+/// that of postfix expressions, which bind tightest.
+fn is_within(inner: Option<Precedence>, outer: Option<Precedence>) -> bool
+    ensures { result ≡ nat_le (nonterminal_number (operand_of inner)) (nonterminal_number
+        (operand_of outer)) }
 {
-    match suffix {
-        Suffix::Index | Suffix::Call | Suffix::Select(_) | Suffix::Step(_) => 0,
-        Suffix::Binary(op) => binary_looseness(op),
-        Suffix::Conditional => 13,
-        Suffix::Assign(_) => 14,
+    looseness(inner) <= looseness(outer)
+}
+
+/// The index of a precedence in their order, the tightest first.
+fn looseness(precedence: Option<Precedence>) -> u8
+    ensures { result ≡ nonterminal_number (operand_of precedence) }
+{
+    match precedence {
+        None => 0,
+        Some(precedence) => precedence as u8 + 1,
     }
 }
 
-/// How loose the left operand of this operator may be.
-fn left_looseness(suffix: Suffix) -> u8
-    ensures { result ≡ class_number (starts.left (suffix_label suffix)) }
+/// The precedence of an operation with this operator, none for a postfix expression.
+fn operation_precedence(suffix: Suffix) -> Option<Precedence>
+    ensures { operand_of result ≡ (rule (suffix_production suffix)).of }
 {
     match suffix {
-        Suffix::Index | Suffix::Call | Suffix::Select(_) | Suffix::Step(_) => 0,
-        Suffix::Assign(_) => 1,
-        Suffix::Binary(op) => binary_looseness(op),
-        Suffix::Conditional => 12,
+        Suffix::Index | Suffix::Call | Suffix::Select(_) | Suffix::IncDec(_) => None,
+        Suffix::Binary(op) => Some(binary_precedence(op)),
+        Suffix::Conditional => Some(Precedence::Conditional),
+        Suffix::Assign(_) => Some(Precedence::Assignment),
     }
 }
 
-fn rank_looseness(rank: Rank) -> u8
-    ensures { result ≡ class_number (class_of rank) }
+/// The loosest precedence of a left operand of this operator, none for a postfix expression.
+fn left_precedence(suffix: Suffix) -> Option<Precedence>
+    ensures { operand_of result ≡ predict.left (suffix_production suffix) }
 {
-    rank as u8 + 1
+    match suffix {
+        Suffix::Index | Suffix::Call | Suffix::Select(_) | Suffix::IncDec(_) => None,
+        Suffix::Assign(_) => Some(Precedence::Unary),
+        Suffix::Binary(op) => Some(binary_precedence(op)),
+        Suffix::Conditional => Some(Precedence::LogicalOr),
+    }
 }
 
-/// The rank of an operator's right operand, the next tighter one.
-pub fn right_of(op: BinaryOp) -> Rank
-    ensures { class_of result ≡ tighter (binary_level op) }
+/// The precedence of an operator's right operand, the next tighter one.
+pub fn right_of(op: BinaryOp) -> Precedence
+    ensures { nonterminal_of result ≡ tighter (binary_level op) }
 {
     match op {
-        BinaryOp::Multiply | BinaryOp::Divide | BinaryOp::Remainder => Rank::Cast,
-        BinaryOp::Add | BinaryOp::Subtract => Rank::Multiplicative,
-        BinaryOp::ShiftLeft | BinaryOp::ShiftRight => Rank::Additive,
+        BinaryOp::Multiply | BinaryOp::Divide | BinaryOp::Remainder => Precedence::Cast,
+        BinaryOp::Add | BinaryOp::Subtract => Precedence::Multiplicative,
+        BinaryOp::ShiftLeft | BinaryOp::ShiftRight => Precedence::Additive,
         BinaryOp::Less | BinaryOp::Greater | BinaryOp::LessEqual | BinaryOp::GreaterEqual =>
-            Rank::Shift,
-        BinaryOp::Equal | BinaryOp::NotEqual => Rank::Relational,
-        BinaryOp::BitAnd => Rank::Equality,
-        BinaryOp::BitXor => Rank::BitAnd,
-        BinaryOp::BitOr => Rank::BitXor,
-        BinaryOp::And => Rank::BitOr,
-        BinaryOp::Or => Rank::LogicalAnd,
+            Precedence::Shift,
+        BinaryOp::Equal | BinaryOp::NotEqual => Precedence::Relational,
+        BinaryOp::BitAnd => Precedence::Equality,
+        BinaryOp::BitXor => Precedence::BitAnd,
+        BinaryOp::BitOr => Precedence::BitXor,
+        BinaryOp::And => Precedence::BitOr,
+        BinaryOp::Or => Precedence::LogicalAnd,
     }
 }
 
-/// How loose a binary operation is, from 3 on.
-fn binary_looseness(op: BinaryOp) -> u8
-    ensures { result ≡ class_number (class.Binary (binary_level op)) }
+/// The precedence of a binary operation.
+fn binary_precedence(op: BinaryOp) -> Precedence
+    ensures { nonterminal_of result ≡ nonterminal.Binary (binary_level op) }
 {
     match op {
-        BinaryOp::Multiply | BinaryOp::Divide | BinaryOp::Remainder => 3,
-        BinaryOp::Add | BinaryOp::Subtract => 4,
-        BinaryOp::ShiftLeft | BinaryOp::ShiftRight => 5,
-        BinaryOp::Less | BinaryOp::Greater | BinaryOp::LessEqual | BinaryOp::GreaterEqual => 6,
-        BinaryOp::Equal | BinaryOp::NotEqual => 7,
-        BinaryOp::BitAnd => 8,
-        BinaryOp::BitXor => 9,
-        BinaryOp::BitOr => 10,
-        BinaryOp::And => 11,
-        BinaryOp::Or => 12,
+        BinaryOp::Multiply | BinaryOp::Divide | BinaryOp::Remainder => Precedence::Multiplicative,
+        BinaryOp::Add | BinaryOp::Subtract => Precedence::Additive,
+        BinaryOp::ShiftLeft | BinaryOp::ShiftRight => Precedence::Shift,
+        BinaryOp::Less | BinaryOp::Greater | BinaryOp::LessEqual | BinaryOp::GreaterEqual =>
+            Precedence::Relational,
+        BinaryOp::Equal | BinaryOp::NotEqual => Precedence::Equality,
+        BinaryOp::BitAnd => Precedence::BitAnd,
+        BinaryOp::BitXor => Precedence::BitXor,
+        BinaryOp::BitOr => Precedence::BitOr,
+        BinaryOp::And => Precedence::LogicalAnd,
+        BinaryOp::Or => Precedence::LogicalOr,
     }
 }
 
-/// How loose an expression is: 0 for what stands behind an operator of any kind, 1 and 2 for unary operators and
-/// casts, and then as operations bind.
-fn looseness(expr: &Expr) -> u8
-    ensures { result ≡ class_number (production (label_of (expr_tree expr.now))).of }
+/// The precedence of an expression, none for a postfix expression.
+fn precedence_of(expr: &Expr) -> Option<Precedence>
+    ensures { operand_of result ≡ (rule (production_of (expr_tree expr.now))).of }
 {
     match expr {
         Expr::Increment { .. }
         | Expr::Unary { .. }
         | Expr::Sizeof { .. }
-        | Expr::SizeofType { .. } => 1,
-        Expr::Cast { .. } => 2,
-        Expr::Binary { op, .. } => binary_looseness(*op),
-        Expr::Conditional { .. } => 13,
-        Expr::Assign { .. } => 14,
-        Expr::Name(_) | Expr::Number { .. } | Expr::Char { .. } | Expr::Text { .. } => 0,
-        Expr::Paren { .. } | Expr::Index { .. } | Expr::Call { .. } => 0,
-        Expr::Select { .. } | Expr::PostIncrement { .. } => 0,
+        | Expr::SizeofType { .. } => Some(Precedence::Unary),
+        Expr::Cast { .. } => Some(Precedence::Cast),
+        Expr::Binary { op, .. } => Some(binary_precedence(*op)),
+        Expr::Conditional { .. } => Some(Precedence::Conditional),
+        Expr::Assign { .. } => Some(Precedence::Assignment),
+        Expr::Name(_) | Expr::Number { .. } | Expr::Char { .. } | Expr::Text { .. } => None,
+        Expr::Paren { .. } | Expr::Index { .. } | Expr::Call { .. } => None,
+        Expr::Select { .. } | Expr::PostIncrement { .. } => None,
     }
 }

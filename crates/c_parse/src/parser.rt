@@ -12,8 +12,9 @@ use std::alloc::Global;
 
 /// The tree of the tokens of a source of `length` bytes.
 ///
-/// A keyword that is left out is told before nesting that is too deep, and that before a token with which no program
-/// goes on, or the end of the source where the tokens are only the beginning of programs.
+/// A keyword that is left out is reported before nesting that is too deep, and that before a token
+/// with which no program goes on, or the end of the source where the tokens are only the beginning
+/// of programs.
 pub fn parse(alloc: Global, tokens: &[Token], length: u32) -> Result<Unit, ParseFault>
     ensures { Answers tokens.now length result }
 {
@@ -26,8 +27,8 @@ pub fn parse(alloc: Global, tokens: &[Token], length: u32) -> Result<Unit, Parse
     let mut rest = Tokens::new(alloc, tokens);
     match rest.unit(16 * (tokens.len() + 1)) {
         Ok(unit) if rest.is_empty() => Ok(unit),
-        Ok(_) | Err(Fault::Syntax) => Err(ParseFault::Syntax(rest.place(length))),
-        Err(Fault::Deep) => unreachable!(),
-        Err(Fault::Memory) => Err(ParseFault::Memory),
+        Ok(_) | Err(Fault::Syntax) => Err(ParseFault::Syntax(rest.offset(length))),
+        Err(Fault::OutOfFuel) => unreachable!(),
+        Err(Fault::NoMemory) => Err(ParseFault::NoMemory),
     }
 }

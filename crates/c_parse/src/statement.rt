@@ -1,22 +1,28 @@
 //! Statements (ISO 9899:2011, 6.8).
-#![tactic(auto, using(crate::proofs::StatementLemmas::statements), unfolding(c_grammar::specs::Reader::parts, c_grammar::specs::Reader::one, c_grammar::specs::Starts::begins_optional, c_grammar::specs::Starts::begins_repeated, c_ast::specs::Grammar::production, c_ast::specs::Grammar::parts_of, c_ast::specs::Grammar::optional, c_ast::specs::Grammar::repeated, crate::specs::Operands::class_of, c_ast::specs::Statements::start_tree, c_ast::specs::Statements::label_tree, c_ast::specs::Statements::else_parts))]
+#![tactic(auto, using(crate::proofs::StatementLemmas::statements), unfolding(c_grammar::specs::Reader::children, c_grammar::specs::Reader::one, c_grammar::specs::PredictSets::begins_optional, c_grammar::specs::PredictSets::begins_repeated, c_ast::specs::Grammar::rule, c_ast::specs::Grammar::symbols_of, c_ast::specs::Grammar::optional, c_ast::specs::Grammar::repeated, crate::specs::Operands::nonterminal_of, c_ast::specs::Statements::start_tree, c_ast::specs::Statements::label_tree, c_ast::specs::Statements::else_children))]
 
-ghost use Rattle.std.specs.Prelude.{◌≡◌, ◌<◌, ◌-◌, [], ◌∷◌, Some};
-ghost use Rattle.c_ast.specs.Classes as class;
-ghost use Rattle.c_ast.specs.Classes.{Opt, Many};
-ghost use Rattle.c_ast.specs.Labels as label;
-ghost use Rattle.c_ast.specs.Statements.{clause, else_parts, start_tree, label_tree, labels_tree, stmt_tree, stmts_tree, item_tree, items_tree, block_tree, group_tree, groups_tree};
-ghost use Rattle.c_ast.specs.Parts.{node};
-ghost use Rattle.c_grammar.specs.Reader.{Done, read, begun, turns, and_then};
-ghost use Rattle.c_parse.specs.Ahead.{simple_label};
+ghost use Rattle.std.specs.Prelude.{◌≡◌, ◌<◌, ◌-◌, [], ◌∷◌, Some, IfOk, IfErr};
+ghost use Rattle.c_ast.specs.Nonterminals as nonterminal;
+ghost use Rattle.c_ast.specs.Nonterminals.{Opt, Many};
+ghost use Rattle.c_ast.specs.Productions as production;
+ghost use Rattle.c_ast.specs.Statements.{clause, else_children, start_tree, label_tree, labels_tree, stmt_tree, stmts_tree, item_tree, items_tree, block_tree, group_tree, groups_tree};
+ghost use Rattle.c_ast.specs.Nodes.{node, word};
+ghost use Rattle.c_lex.specs.declared.keyword.Keyword.TheVariants as w;
+ghost use Rattle.c_parse.specs.declared.fault.Fault.TheVariants as fault;
+ghost use Rattle.c_grammar.specs.Reader.{Read, read, begun, turns, and_then};
+ghost use Rattle.c_parse.specs.Ahead.{simple_production};
 ghost use Rattle.c_parse.specs.Made.{if_tree};
 ghost use Rattle.c_parse.specs.Reading.{Gives};
 
 use crate::ahead::{LabelStart, SimpleStart, StmtStart};
 use crate::fault::Fault;
-use crate::operators::Rank;
+use crate::held::try_with;
+use crate::operators::Precedence;
 use crate::tokens::Tokens;
-use c_ast::{Block, BlockItem, Else, ExprList, ForStart, Group, Label, Span, Stmt};
+use c_ast::{
+    Block, BlockItem, Else, ExprList, ForClauses, ForHeader, ForStart, Group, Label, Span, Stmt,
+    Subject,
+};
 use c_lex::{Keyword, Punct};
 use sqlite_items::{Boxed, Items};
 
@@ -44,8 +50,9 @@ impl IfThen {
         }
     }
 
-    fn with_else(self, otherwise: Else) -> Stmt
-        ensures { stmt_tree result ≡ node label.IfElse (if_tree self ∷ else_parts otherwise) }
+    fn with_else(self, otherwise: Boxed<Else>) -> Stmt
+        ensures { stmt_tree result ≡ node production.IfElse (if_tree self ∷ else_children
+            otherwise) }
     {
         Stmt::If {
             keyword: self.keyword,
@@ -60,154 +67,180 @@ impl IfThen {
 
 impl Tokens<'_> {
     /// A comma expression, where one is written.
-    fn clause(&mut self, depth: usize) -> Result<Option<ExprList>, Fault>
-        ensures { Gives clause (read depth (Opt label.Clause) self.old) result self.new }
+    fn clause(&mut self, fuel: usize) -> Result<Option<ExprList>, Fault>
+        ensures { Gives clause (read fuel (Opt production.Clause) self.old) result self.new }
     {
-        if depth == 0 {
-            return Err(Fault::Deep);
+        if fuel == 0 {
+            return Err(Fault::OutOfFuel);
         }
         if !self.sees_expression() {
             return Ok(None);
         }
-        let value = self.expression(depth - 1)?;
+        let value = self.expression(fuel - 1)?;
         Ok(Some(value))
     }
 
     /// What stands before the condition of a `for`.
-    fn for_start(&mut self, depth: usize) -> Result<ForStart, Fault>
-        ensures { Gives start_tree (read depth class.ForFirst self.old) result self.new }
+    fn for_start(&mut self, fuel: usize) -> Result<ForStart, Fault>
+        ensures { Gives start_tree (read fuel nonterminal.ForFirst self.old) result self.new }
     {
-        if depth == 0 {
-            return Err(Fault::Deep);
+        if fuel == 0 {
+            return Err(Fault::OutOfFuel);
         }
         if self.sees_type() {
-            let locals = self.locals(depth)?;
+            let locals = self.locals(fuel)?;
             return Ok(ForStart::Locals(locals));
         }
-        let value = self.clause(depth - 1)?;
-        let semicolon = self.expect(Punct::Semicolon)?;
+        let value = self.clause(fuel - 1)?;
+        let semicolon = try_with!(self.expect(Punct::Semicolon); value);
         Ok(ForStart::Clause { value, semicolon })
     }
 
     /// A label of a `switch`.
-    fn label(&mut self, depth: usize) -> Result<Label, Fault>
-        ensures { Gives label_tree (read depth class.GroupLabel self.old) result self.new }
+    fn label(&mut self, fuel: usize) -> Result<Label, Fault>
+        ensures { Gives label_tree (read fuel nonterminal.GroupLabel self.old) result self.new }
     {
-        if depth == 0 {
-            return Err(Fault::Deep);
+        if fuel == 0 {
+            return Err(Fault::OutOfFuel);
         }
         match self.label_start() {
             None => Err(Fault::Syntax),
-            Some(LabelStart::Case) => {
-                let keyword = self.expect_word(Keyword::Case)?;
-                let value = self.operand(depth - 1, Rank::Conditional)?;
-                let colon = self.expect(Punct::Colon)?;
-                Ok(Label::Case {
-                    keyword,
-                    value,
-                    colon,
-                })
-            }
+            Some(LabelStart::Case) => self.case_label(fuel - 1),
             Some(LabelStart::Default) => {
-                let keyword = self.expect_word(Keyword::Default)?;
+                let keyword = self.expect_keyword(Keyword::Default)?;
                 let colon = self.expect(Punct::Colon)?;
                 Ok(Label::Default { keyword, colon })
             }
         }
     }
 
-    /// Labels behind the first one.
-    fn labels(&mut self, depth: usize) -> Result<Items<Label>, Fault>
-        ensures { Gives labels_tree (read depth (Many label.MoreLabels) self.old) result self.new }
+    fn case_label(&mut self, fuel: usize) -> Result<Label, Fault>
+        ensures { Gives label_tree (begun (read fuel) (Some production.Case) self.old) result
+            self.new }
     {
-        if depth == 0 {
-            return Err(Fault::Deep);
+        let keyword = self.expect_keyword(Keyword::Case)?;
+        let value = self.operand(fuel, Precedence::Conditional)?;
+        let colon = try_with!(self.expect(Punct::Colon); value);
+        Ok(Label::Case {
+            keyword,
+            value,
+            colon,
+        })
+    }
+
+    /// Labels after the first one.
+    fn labels(&mut self, fuel: usize) -> Result<Items<Label>, Fault>
+        ensures { Gives labels_tree (read fuel (Many production.MoreLabels) self.old) result
+            self.new }
+    {
+        if fuel == 0 {
+            return Err(Fault::OutOfFuel);
         }
         let mut labels = Items::new(self.alloc);
-        for _turn in 0..depth {
+        for _turn in 0..fuel {
             if !self.sees_label() {
                 return Ok(labels);
             }
-            let label = self.label(depth - 1)?;
+            let label = self.label(fuel - 1)?;
             labels.push(label)?;
         }
-        Err(Fault::Deep)
+        Err(Fault::OutOfFuel)
     }
 
-    /// A statement that holds no other.
-    fn simple_statement(&mut self, depth: usize, start: SimpleStart) -> Result<Stmt, Fault>
-        ensures { Gives stmt_tree (begun (read depth) (Some (simple_label start)) self.old) result self.new }
+    /// A statement that begins so and holds no other.
+    fn simple_statement(&mut self, fuel: usize, start: SimpleStart) -> Result<Stmt, Fault>
+        ensures { Gives stmt_tree (begun (read fuel) (Some (simple_production start)) self.old)
+            result self.new }
     {
         match start {
             SimpleStart::Null => {
                 let semicolon = self.expect(Punct::Semicolon)?;
                 Ok(Stmt::Null(semicolon))
             }
-            SimpleStart::Expression => {
-                let value = self.expression(depth)?;
-                let semicolon = self.expect(Punct::Semicolon)?;
-                Ok(Stmt::Expr { value, semicolon })
-            }
+            SimpleStart::Expression => self.expression_statement(fuel),
             SimpleStart::Break => {
-                let keyword = self.expect_word(Keyword::Break)?;
+                let keyword = self.expect_keyword(Keyword::Break)?;
                 let semicolon = self.expect(Punct::Semicolon)?;
                 Ok(Stmt::Break { keyword, semicolon })
             }
             SimpleStart::Continue => {
-                let keyword = self.expect_word(Keyword::Continue)?;
+                let keyword = self.expect_keyword(Keyword::Continue)?;
                 let semicolon = self.expect(Punct::Semicolon)?;
                 Ok(Stmt::Continue { keyword, semicolon })
             }
-            SimpleStart::Return => {
-                let keyword = self.expect_word(Keyword::Return)?;
-                let value = self.clause(depth)?;
-                let semicolon = self.expect(Punct::Semicolon)?;
-                Ok(Stmt::Return {
-                    keyword,
-                    value,
-                    semicolon,
-                })
-            }
+            SimpleStart::Return => self.return_statement(fuel),
         }
+    }
+
+    fn expression_statement(&mut self, fuel: usize) -> Result<Stmt, Fault>
+        ensures { Gives stmt_tree (begun (read fuel) (Some production.Expression) self.old) result
+            self.new }
+    {
+        let value = self.expression(fuel)?;
+        let semicolon = try_with!(self.expect(Punct::Semicolon); value);
+        Ok(Stmt::Expr { value, semicolon })
+    }
+
+    fn return_statement(&mut self, fuel: usize) -> Result<Stmt, Fault>
+        ensures { Gives stmt_tree (begun (read fuel) (Some production.Return) self.old) result
+            self.new }
+    {
+        let keyword = self.expect_keyword(Keyword::Return)?;
+        let value = self.clause(fuel)?;
+        let semicolon = try_with!(self.expect(Punct::Semicolon); value);
+        Ok(Stmt::Return {
+            keyword,
+            value,
+            semicolon,
+        })
     }
 
     /// A statement.
     #[cycle(statement)]
-    fn statement(&mut self, depth: usize) -> Result<Stmt, Fault>
-        ensures { Gives stmt_tree (read depth class.Stmt self.old) result self.new }
+    fn statement(&mut self, fuel: usize) -> Result<Stmt, Fault>
+        ensures { Gives stmt_tree (read fuel nonterminal.Stmt self.old) result self.new }
     {
-        if depth == 0 {
-            return Err(Fault::Deep);
+        if fuel == 0 {
+            return Err(Fault::OutOfFuel);
         }
         match self.stmt_start() {
             None => Err(Fault::Syntax),
-            Some(StmtStart::If) => self.if_statement(depth),
-            Some(StmtStart::Simple(start)) => self.simple_statement(depth - 1, start),
+            Some(StmtStart::If) => self.if_statement(fuel),
+            Some(StmtStart::Simple(start)) => self.simple_statement(fuel - 1, start),
             Some(StmtStart::Block) => {
-                let block = self.block(depth)?;
+                let block = self.block(fuel)?;
                 Ok(Stmt::Block(block))
             }
-            Some(StmtStart::While) => self.while_statement(depth - 1),
-            Some(StmtStart::Do) => self.do_statement(depth - 1),
-            Some(StmtStart::For) => self.for_statement(depth - 1),
-            Some(StmtStart::Switch) => self.switch_statement(depth - 1),
+            Some(StmtStart::While) => self.while_statement(fuel - 1),
+            Some(StmtStart::Do) => self.do_statement(fuel - 1),
+            Some(StmtStart::For) => self.for_statement(fuel - 1),
+            Some(StmtStart::Switch) => self.switch_statement(fuel - 1),
         }
+    }
+
+    /// A statement on the heap.
+    #[cycle(statement)]
+    fn boxed_statement(&mut self, fuel: usize) -> Result<Boxed<Stmt>, Fault>
+        ensures { Gives stmt_tree (read fuel nonterminal.Stmt self.old) result self.new }
+    {
+        let statement = self.statement(fuel)?;
+        Ok(Boxed::new(self.alloc, statement)?)
     }
 
     /// An `if`, with its `else` where one follows.
     #[cycle(statement)]
-    fn if_statement(&mut self, depth: usize) -> Result<Stmt, Fault>
-        requires { 0 < depth }
-        ensures { Gives stmt_tree (and_then (begun (read (depth - 1)) (Some label.If) self.old) (turns (read (depth - 1)) depth class.Stmt)) result self.new }
+    fn if_statement(&mut self, fuel: usize) -> Result<Stmt, Fault>
+        requires { 0 < fuel }
+        ensures { Gives stmt_tree (and_then (begun (read (fuel - 1)) (Some production.If) self.old)
+            (turns (read (fuel - 1)) fuel nonterminal.Stmt)) result self.new }
     {
-        let keyword = self.expect_word(Keyword::If)?;
+        let keyword = self.expect_keyword(Keyword::If)?;
         let opening = self.expect(Punct::LParen)?;
-        let condition = self.expression(depth - 1)?;
-        let closing = self.expect(Punct::RParen)?;
-        let then = self.statement(depth - 1)?;
-        let then = Boxed::new(self.alloc, then)?;
-        self.if_behind(
-            depth,
+        let condition = self.expression(fuel - 1)?;
+        let closing = try_with!(self.expect(Punct::RParen); condition);
+        let then = try_with!(self.boxed_statement(fuel - 1); condition);
+        self.if_rest(
+            fuel,
             IfThen {
                 keyword,
                 opening,
@@ -218,31 +251,41 @@ impl Tokens<'_> {
         )
     }
 
-    /// `else` and its statement, where they stand behind this `if`.
+    /// `else` and its statement, where they follow this `if`.
     #[cycle(statement)]
-    fn if_behind(&mut self, depth: usize, head: IfThen) -> Result<Stmt, Fault>
-        requires { 0 < depth }
-        ensures { Gives stmt_tree (turns (read (depth - 1)) depth class.Stmt (if_tree head) self.old) result self.new }
+    fn if_rest(&mut self, fuel: usize, head: IfThen) -> Result<Stmt, Fault>
+        requires { 0 < fuel }
+        ensures { Gives stmt_tree (turns (read (fuel - 1)) fuel nonterminal.Stmt (if_tree head)
+            self.old) result self.new }
     {
-        if !self.sees_word(Keyword::Else) {
+        if !self.sees_keyword(Keyword::Else) {
             return Ok(head.alone());
         }
-        let keyword = self.expect_word(Keyword::Else)?;
-        let body = self.statement(depth - 1)?;
-        let body = Boxed::new(self.alloc, body)?;
-        Ok(head.with_else(Else { keyword, body }))
+        let keyword = try_with!(self.expect_keyword(Keyword::Else); head);
+        let body = try_with!(self.boxed_statement(fuel - 1); head);
+        let otherwise = try_with!(self.boxed_else(keyword, body); head);
+        Ok(head.with_else(otherwise))
+    }
+
+    /// `else` and its statement on the heap.
+    fn boxed_else(&self, keyword: Span, body: Boxed<Stmt>) -> Result<Boxed<Else>, Fault>
+        ensures children { IfOk result (λ e. else_children e ≡ word w.Else keyword ∷ stmt_tree body
+            ∷ []) }
+        ensures error { IfErr result (λ e. e ≡ fault.NoMemory) }
+    {
+        Ok(Boxed::new(self.alloc, Else { keyword, body })?)
     }
 
     #[cycle(statement)]
-    fn while_statement(&mut self, depth: usize) -> Result<Stmt, Fault>
-        ensures { Gives stmt_tree (begun (read depth) (Some label.While) self.old) result self.new }
+    fn while_statement(&mut self, fuel: usize) -> Result<Stmt, Fault>
+        ensures { Gives stmt_tree (begun (read fuel) (Some production.While) self.old) result
+            self.new }
     {
-        let keyword = self.expect_word(Keyword::While)?;
+        let keyword = self.expect_keyword(Keyword::While)?;
         let open = self.expect(Punct::LParen)?;
-        let condition = self.expression(depth)?;
-        let close = self.expect(Punct::RParen)?;
-        let body = self.statement(depth)?;
-        let body = Boxed::new(self.alloc, body)?;
+        let condition = self.expression(fuel)?;
+        let close = try_with!(self.expect(Punct::RParen); condition);
+        let body = try_with!(self.boxed_statement(fuel); condition);
         Ok(Stmt::While {
             keyword,
             open,
@@ -253,17 +296,17 @@ impl Tokens<'_> {
     }
 
     #[cycle(statement)]
-    fn do_statement(&mut self, depth: usize) -> Result<Stmt, Fault>
-        ensures { Gives stmt_tree (begun (read depth) (Some label.DoWhile) self.old) result self.new }
+    fn do_statement(&mut self, fuel: usize) -> Result<Stmt, Fault>
+        ensures { Gives stmt_tree (begun (read fuel) (Some production.DoWhile) self.old) result
+            self.new }
     {
-        let keyword = self.expect_word(Keyword::Do)?;
-        let body = self.statement(depth)?;
-        let body = Boxed::new(self.alloc, body)?;
-        let until = self.expect_word(Keyword::While)?;
+        let keyword = self.expect_keyword(Keyword::Do)?;
+        let body = self.boxed_statement(fuel)?;
+        let until = self.expect_keyword(Keyword::While)?;
         let open = self.expect(Punct::LParen)?;
-        let condition = self.expression(depth)?;
-        let close = self.expect(Punct::RParen)?;
-        let semicolon = self.expect(Punct::Semicolon)?;
+        let condition = self.expression(fuel)?;
+        let close = try_with!(self.expect(Punct::RParen); condition);
+        let semicolon = try_with!(self.expect(Punct::Semicolon); condition);
         Ok(Stmt::Do {
             keyword,
             body,
@@ -276,46 +319,50 @@ impl Tokens<'_> {
     }
 
     #[cycle(statement)]
-    fn for_statement(&mut self, depth: usize) -> Result<Stmt, Fault>
-        ensures { Gives stmt_tree (begun (read depth) (Some label.For) self.old) result self.new }
+    fn for_statement(&mut self, fuel: usize) -> Result<Stmt, Fault>
+        ensures { Gives stmt_tree (begun (read fuel) (Some production.For) self.old) result
+            self.new }
     {
-        let keyword = self.expect_word(Keyword::For)?;
+        let keyword = self.expect_keyword(Keyword::For)?;
         let open = self.expect(Punct::LParen)?;
-        let start = self.for_start(depth)?;
-        let condition = self.clause(depth)?;
-        let semicolon = self.expect(Punct::Semicolon)?;
-        let step = self.clause(depth)?;
-        let close = self.expect(Punct::RParen)?;
-        let body = self.statement(depth)?;
-        let body = Boxed::new(self.alloc, body)?;
-        Ok(Stmt::For {
-            keyword,
-            open,
+        let start = self.for_start(fuel)?;
+        let condition = try_with!(self.clause(fuel); start);
+        let semicolon = try_with!(self.expect(Punct::Semicolon); start, condition);
+        let step = try_with!(self.clause(fuel); start, condition);
+        let clauses = ForClauses {
             start,
             condition,
             semicolon,
             step,
+        };
+        let clauses = Boxed::new(self.alloc, clauses)?;
+        let close = self.expect(Punct::RParen)?;
+        let body = self.boxed_statement(fuel)?;
+        Ok(Stmt::For {
+            keyword,
+            open,
+            header: ForHeader { clauses },
             close,
             body,
         })
     }
 
     #[cycle(statement)]
-    fn switch_statement(&mut self, depth: usize) -> Result<Stmt, Fault>
-        ensures { Gives stmt_tree (begun (read depth) (Some label.Switch) self.old) result self.new }
+    fn switch_statement(&mut self, fuel: usize) -> Result<Stmt, Fault>
+        ensures { Gives stmt_tree (begun (read fuel) (Some production.Switch) self.old) result
+            self.new }
     {
-        let keyword = self.expect_word(Keyword::Switch)?;
+        let keyword = self.expect_keyword(Keyword::Switch)?;
         let open = self.expect(Punct::LParen)?;
-        let value = self.expression(depth)?;
+        let value = self.expression(fuel)?;
+        let value = Boxed::new(self.alloc, value)?;
         let close = self.expect(Punct::RParen)?;
         let begin = self.expect(Punct::LBrace)?;
-        let groups = self.groups(depth)?;
+        let groups = self.groups(fuel)?;
         let end = self.expect(Punct::RBrace)?;
         Ok(Stmt::Switch {
             keyword,
-            open,
-            value,
-            close,
+            subject: Subject { open, value, close },
             begin,
             groups,
             end,
@@ -324,44 +371,45 @@ impl Tokens<'_> {
 
     /// Groups of a `switch`.
     #[cycle(statement)]
-    fn groups(&mut self, depth: usize) -> Result<Items<Group>, Fault>
-        ensures { Gives groups_tree (read depth (Many label.Groups) self.old) result self.new }
+    fn groups(&mut self, fuel: usize) -> Result<Items<Group>, Fault>
+        ensures { Gives groups_tree (read fuel (Many production.Groups) self.old) result self.new }
     {
-        if depth == 0 {
-            return Err(Fault::Deep);
+        if fuel == 0 {
+            return Err(Fault::OutOfFuel);
         }
         let mut groups = Items::new(self.alloc);
-        for _turn in 0..depth {
+        for _turn in 0..fuel {
             if !self.sees_label() {
                 return Ok(groups);
             }
-            let group = self.group(depth - 1)?;
+            let group = self.group(fuel - 1)?;
             groups.push(group)?;
         }
-        Err(Fault::Deep)
+        Err(Fault::OutOfFuel)
     }
 
-    /// Labels and the statements behind them.
+    /// Labels and the statements after them.
     #[cycle(statement)]
-    fn group(&mut self, depth: usize) -> Result<Group, Fault>
-        ensures { Gives group_tree (read depth class.Group self.old) result self.new }
+    fn group(&mut self, fuel: usize) -> Result<Group, Fault>
+        ensures { Gives group_tree (read fuel nonterminal.Group self.old) result self.new }
     {
-        if depth == 0 {
-            return Err(Fault::Deep);
+        if fuel == 0 {
+            return Err(Fault::OutOfFuel);
         }
-        let first = self.label(depth - 1)?;
-        let more = self.labels(depth - 1)?;
-        self.labelled(depth - 1, first, more)
+        let first = self.label(fuel - 1)?;
+        let more = try_with!(self.labels(fuel - 1); first);
+        self.labelled(fuel - 1, first, more)
     }
 
-    /// The statements behind these labels.
+    /// The statements after these labels.
     #[cycle(statement)]
-    fn labelled(&mut self, depth: usize, front: Label, labels: Items<Label>) -> Result<Group, Fault>
-        ensures { Gives group_tree (and_then (read depth class.Stmt self.old) (λ t k. and_then (read depth (Many label.MoreStmts) k) (λ u j. Done (node label.Group (label_tree front ∷ labels_tree labels ∷ t ∷ u ∷ [])) j))) result self.new }
+    fn labelled(&mut self, fuel: usize, front: Label, labels: Items<Label>) -> Result<Group, Fault>
+        ensures { Gives group_tree (and_then (read fuel nonterminal.Stmt self.old) (λ t k. and_then
+            (read fuel (Many production.MoreStmts) k) (λ u j. Read (node production.Group
+            (label_tree front ∷ labels_tree labels ∷ t ∷ u ∷ [])) j))) result self.new }
     {
-        let first = self.statement(depth)?;
-        let first = Boxed::new(self.alloc, first)?;
-        let more = self.more_statements(depth)?;
+        let first = try_with!(self.boxed_statement(fuel); front);
+        let more = try_with!(self.more_statements(fuel); front);
         Ok(Group {
             label: front,
             labels,
@@ -370,68 +418,68 @@ impl Tokens<'_> {
         })
     }
 
-    /// Statements behind the first one of a group.
+    /// Statements after the first one of a group.
     #[cycle(statement)]
-    fn more_statements(&mut self, depth: usize) -> Result<Items<Stmt>, Fault>
-        ensures { Gives stmts_tree (read depth (Many label.MoreStmts) self.old) result self.new }
+    fn more_statements(&mut self, fuel: usize) -> Result<Items<Stmt>, Fault>
+        ensures { Gives stmts_tree (read fuel (Many production.MoreStmts) self.old) result self.new }
     {
-        if depth == 0 {
-            return Err(Fault::Deep);
+        if fuel == 0 {
+            return Err(Fault::OutOfFuel);
         }
         let mut more = Items::new(self.alloc);
-        for _turn in 0..depth {
+        for _turn in 0..fuel {
             if !self.sees_statement() {
                 return Ok(more);
             }
-            let statement = self.statement(depth - 1)?;
+            let statement = self.statement(fuel - 1)?;
             more.push(statement)?;
         }
-        Err(Fault::Deep)
+        Err(Fault::OutOfFuel)
     }
 
     /// A block.
     #[cycle(statement)]
-    pub fn block(&mut self, depth: usize) -> Result<Block, Fault>
-        ensures { Gives block_tree (read depth class.Block self.old) result self.new }
+    pub fn block(&mut self, fuel: usize) -> Result<Block, Fault>
+        ensures { Gives block_tree (read fuel nonterminal.Block self.old) result self.new }
     {
-        if depth == 0 {
-            return Err(Fault::Deep);
+        if fuel == 0 {
+            return Err(Fault::OutOfFuel);
         }
         let open = self.expect(Punct::LBrace)?;
-        let items = self.items(depth - 1)?;
+        let items = self.items(fuel - 1)?;
         let close = self.expect(Punct::RBrace)?;
         Ok(Block { open, items, close })
     }
 
     /// Items of a block.
     #[cycle(statement)]
-    fn items(&mut self, depth: usize) -> Result<Items<BlockItem>, Fault>
-        ensures { Gives items_tree (read depth (Many label.Items) self.old) result self.new }
+    fn items(&mut self, fuel: usize) -> Result<Items<BlockItem>, Fault>
+        ensures { Gives items_tree (read fuel (Many production.Items) self.old) result self.new }
     {
-        if depth == 0 {
-            return Err(Fault::Deep);
+        if fuel == 0 {
+            return Err(Fault::OutOfFuel);
         }
         let mut items = Items::new(self.alloc);
-        for _turn in 0..depth {
+        for _turn in 0..fuel {
             if !self.sees_item() {
                 return Ok(items);
             }
-            let item = self.item(depth - 1)?;
+            let item = self.item(fuel - 1)?;
             items.push(item)?;
         }
-        Err(Fault::Deep)
+        Err(Fault::OutOfFuel)
     }
 
     /// A statement, or a declaration of variables.
     #[cycle(statement)]
-    fn item(&mut self, depth: usize) -> Result<BlockItem, Fault>
-        ensures { Gives item_tree (read depth class.Item self.old) result self.new }
+    fn item(&mut self, fuel: usize) -> Result<BlockItem, Fault>
+        ensures { Gives item_tree (read fuel nonterminal.Item self.old) result self.new }
     {
         if self.sees_type() {
-            let locals = self.locals(depth)?;
+            let locals = self.locals(fuel)?;
             Ok(BlockItem::Locals(locals))
         } else {
-            let statement = self.statement(depth)?;
+            let statement = self.statement(fuel)?;
             Ok(BlockItem::Stmt(statement))
         }
     }

@@ -1,13 +1,13 @@
-#![tactic(auto, using(crate::proofs::ReadLemmas::heads), unfolding(c_ast::specs::Terminals::is, c_ast::specs::Terminals::mark_number, c_ast::specs::Terminals::word_number))]
+#![tactic(auto, using(crate::proofs::ReadLemmas::heads), unfolding(c_ast::specs::Terminals::is, c_ast::specs::Terminals::mark_number, c_ast::specs::Terminals::keyword_number))]
 
 ghost use Rattle.std.specs.Prelude.{◌≡◌, ◌↔◌, [], ◌∷◌, IsTrue, IsSome, IfOk, drop};
 ghost use Rattle.std.specs.Option.{option_copied, option_and_then};
-ghost use Rattle.c_ast.specs.Parts.{mark, word, name};
+ghost use Rattle.c_ast.specs.Nodes.{mark, word, name};
 ghost use Rattle.c_ast.specs.Terminals.{Mark, Word, AnyName, is};
 ghost use Rattle.c_ast.specs.Terminals as spec;
 ghost use Rattle.c_grammar.specs.Reader.{token};
-ghost use Rattle.c_grammar.specs.Starts.{head, at, typed, begins_type, begins_base, begins_expr};
-ghost use Rattle.c_parse.specs.Refusal.{place_of};
+ghost use Rattle.c_grammar.specs.PredictSets.{head, at, typed, begins_type, begins_base, begins_expr};
+ghost use Rattle.c_parse.specs.Refusal.{offset_of};
 ghost use Rattle.c_parse.specs.Reading.{Gives, Takes, name_of};
 
 use crate::fault::Fault;
@@ -52,8 +52,8 @@ impl<'a> Tokens<'a> {
         }
     }
 
-    /// The kind of the token behind the next one.
-    pub fn peek_behind(&self) -> Option<&'a TokenKind>
+    /// The kind of the token after the next one.
+    pub fn peek_second(&self) -> Option<&'a TokenKind>
         ensures { option_copied result ≡ head (drop 1 self.now) }
     {
         match self.rest {
@@ -69,8 +69,8 @@ impl<'a> Tokens<'a> {
     }
 
     /// Where the next token stands, or the end of the source where there is none.
-    pub fn place(&self, length: u32) -> u32
-        ensures { result ≡ place_of self.now length }
+    pub fn offset(&self, length: u32) -> u32
+        ensures { result ≡ offset_of self.now length }
     {
         match self.rest {
             [first, ..] => first.at,
@@ -102,11 +102,11 @@ impl<'a> Tokens<'a> {
     }
 
     /// Whether the next token is this keyword.
-    pub fn sees_word(&self, keyword: Keyword) -> bool
+    pub fn sees_keyword(&self, keyword: Keyword) -> bool
         ensures { result ≡ at (is (Word keyword)) (head self.now) }
     {
         match self.peek() {
-            Some(TokenKind::Keyword(next)) => word_number(keyword) == word_number(*next),
+            Some(TokenKind::Keyword(next)) => keyword_number(keyword) == keyword_number(*next),
             _ => false,
         }
     }
@@ -123,10 +123,10 @@ impl<'a> Tokens<'a> {
     }
 
     /// Takes this keyword, which has to come next.
-    pub fn expect_word(&mut self, keyword: Keyword) -> Result<Span, Fault>
+    pub fn expect_keyword(&mut self, keyword: Keyword) -> Result<Span, Fault>
         ensures { Gives (word keyword) (token (Word keyword) self.old) result self.new }
     {
-        if self.sees_word(keyword) {
+        if self.sees_keyword(keyword) {
             Ok(self.take())
         } else {
             Err(Fault::Syntax)
@@ -166,8 +166,8 @@ fn mark_number(punct: Punct) -> u8
     punct as u8
 }
 
-fn word_number(keyword: Keyword) -> u8
-    ensures { result ≡ spec.word_number keyword }
+fn keyword_number(keyword: Keyword) -> u8
+    ensures { result ≡ spec.keyword_number keyword }
 {
     keyword as u8
 }

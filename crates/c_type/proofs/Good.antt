@@ -31,7 +31,8 @@ good (d ∷ ds) w = with_rest (good ds w.1) where
         order = λ tag h at m. order_of tag (d.tag == tag) h at m;
       } where
         multiple_of : (tag : ℕ) (test : Bool) → (test || is_defined ds tag) ≡ true →
-            IsMultiple (cond test (largest (align ds) d.members) (struct_align ds tag)) (cond test (rounded_up (members_end (size ds) (align ds) 0 d.members) (largest (align ds) d.members)) (struct_size ds tag))
+            IsMultiple (cond test (largest (align ds) d.members) (struct_align ds tag)) (cond test (rounded_up (members_end (size ds) (align ds) 0 d.members) (largest (align ds) d.members))
+            (struct_size ds tag))
         multiple_of tag true h = multiple-round (members_end (size ds) (align ds) 0 d.members) (largest (align ds) d.members)
         multiple_of tag false h = g.multiple tag h
 

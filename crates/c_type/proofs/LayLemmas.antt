@@ -1,7 +1,8 @@
 -- Laying out one member after the other.
 use Rattle.std.proofs.Common.{◌≡◌, ℕ, zero, suc, ◌+◌, ◌^◌, ◌<◌, ◌≤◌, ◌⊎◌, max, List, [], ◌∷◌, ◌++◌, length, slice_index, refl, sym, ap, ◌∙◌, inl, inr, arith, length-append}
+use Rattle.limits.specs.Limits.{most_type_bytes}
 use Rattle.c_type.specs.Trees.{TypeTree}
-use Rattle.c_type.specs.Layout.{Definitions, rounded_up, align, largest, size, members_end, offset_from, most_bytes, IsLaidOut}
+use Rattle.c_type.specs.Layout.{Definitions, rounded_up, align, largest, size, members_end, offset_from, IsLaidOut}
 use Rattle.c_type.specs.WellDefined.{AreLaidOut}
 use Rattle.c_type.specs.LaidUpTo.{LaidUpTo, IsLaid, struct_bytes}
 use Rattle.c_type.proofs.Bounds.{align-between, members-between, round-lower, round-upper, end-grows}
@@ -35,7 +36,7 @@ index-last [] y = refl
 index-last (x ∷ xs) y = index-last xs y
 
 pub one-laid : (defs : Definitions) (ms : List TypeTree) (t : TypeTree) (ts : List TypeTree) (offsets : List ℕ) (end a : ℕ) → LaidUpTo defs ms (t ∷ ts) offsets end a →
-    rounded_up end (align defs t) + size defs t ≤ most_bytes →
+    rounded_up end (align defs t) + size defs t ≤ most_type_bytes →
     LaidUpTo defs ms ts (offsets ++ rounded_up end (align defs t) ∷ []) (rounded_up end (align defs t) + size defs t) (max a (align defs t))
 one-laid defs ms t ts offsets end a l small =
     let one = length-append offsets (rounded_up end (align defs t) ∷ []) in
@@ -60,12 +61,14 @@ one-laid defs ms t ts offsets end a l small =
           ∙ sym (l.later 0)
           ∙ ap (offset_from (size defs) (align defs) 0 ms) (z ∙ sym e)
 
-      by_place : (k : ℕ) → k < length (offsets ++ rounded_up end (align defs t) ∷ []) → length (offsets ++ rounded_up end (align defs t) ∷ []) ≡ length offsets + 1 → slice_index (offsets ++ rounded_up end (align defs t) ∷ []) k ≡ offset_from (size defs) (align defs) 0 ms k
+      by_place : (k : ℕ) → k < length (offsets ++ rounded_up end (align defs t) ∷ []) → length (offsets ++ rounded_up end (align defs t) ∷ []) ≡ length offsets + 1 →
+          slice_index (offsets ++ rounded_up end (align defs t) ∷ []) k ≡ offset_from (size defs) (align defs) 0 ms k
       by_place k h one = at_place k (either k (length offsets) (omega (arith, h, one))) where
         either : (i n : ℕ) → i < n + 1 → (i < n) ⊎ (i ≡ n)
         either i n h = grind arith
 
-pub all-laid : (defs : Definitions) (ms : List TypeTree) (offsets : List ℕ) (end a : ℕ) → LaidUpTo defs ms [] offsets end a → rounded_up end a ≤ most_bytes → IsLaid defs ms offsets (rounded_up end a) a
+pub all-laid : (defs : Definitions) (ms : List TypeTree) (offsets : List ℕ) (end a : ℕ) → LaidUpTo defs ms [] offsets end a → rounded_up end a ≤ most_type_bytes →
+    IsLaid defs ms offsets (rounded_up end a) a
 all-laid defs ms offsets end a l small =
     let al : a ≡ largest (align defs) ms = let h = l.aligned in let p = l.positive in omega (arith, h, p) in
     record {
@@ -78,7 +81,7 @@ all-laid defs ms offsets end a l small =
 
 -- what is too large on the way is too large as a whole
 pub too-large-end : (defs : Definitions) (ms : List TypeTree) (t : TypeTree) (ts : List TypeTree) (offsets : List ℕ) (end a : ℕ) → LaidUpTo defs ms (t ∷ ts) offsets end a →
-    most_bytes < rounded_up end (align defs t) + size defs t → most_bytes < struct_bytes defs ms
+    most_type_bytes < rounded_up end (align defs t) + size defs t → most_type_bytes < struct_bytes defs ms
 too-large-end defs ms t ts offsets end a l large =
     let g = end-grows (size defs) (align defs) (λ x. (align-between defs x).0) (rounded_up end (align defs t) + size defs t) ts in
     let r = round-lower (members_end (size defs) (align defs) 0 ms) (largest (align defs) ms) (let h = l.aligned in let p = l.positive in omega (arith, h, p)) in
@@ -93,7 +96,7 @@ lay-room defs ms rest offsets end a l =
     let s = l.small in
     omega (arith, h, b.1, s)
 
-pub lay-next : (defs : Definitions) (end : ℕ) (t : TypeTree) → end ≤ most_bytes → IsLaidOut defs t →
+pub lay-next : (defs : Definitions) (end : ℕ) (t : TypeTree) → end ≤ most_type_bytes → IsLaidOut defs t →
     (0 < align defs t) × (end + align defs t < 2 ^ 32) × (rounded_up end (align defs t) + size defs t < 2 ^ 32)
 lay-next defs end t small laid =
     let b = align-between defs t in

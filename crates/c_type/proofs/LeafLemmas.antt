@@ -13,7 +13,7 @@ more (suc n) s at f =
     ap (λ r. f at ++ r) (more n s (at + s) f ∙ ap (λ k. repeated n s (at + s) f ++ f k) e)
     ∙ sym (append_assoc (f at) (repeated n s (at + s) f) (f (at + suc n * s)))
 
--- of the elements behind the first
+-- of the elements after the first
 pub repeated-next : (i s at : ℕ) (f : ℕ → List Leaf) → 0 < i → repeated i s (at + s) f ≡ repeated (i - 1) s (at + s) f ++ f (at + i * s)
 repeated-next zero s at f h = absurd (omega arith)
 repeated-next (suc i) s at f h =

@@ -1,13 +1,15 @@
-pub mod StructLemmas
-pub mod SizeLemmas
-pub mod Levels
-pub mod Bounds
-pub mod LeafLemmas
-pub mod MemberLemmas
-pub mod Places
-pub mod LayLemmas
-pub mod Defined
-pub mod Order
-pub mod Good
-pub mod MovedLemmas
-pub mod PendingLemmas
+mod StructLemmas
+mod SizeLemmas
+mod Levels
+mod Bounds
+mod LeafLemmas
+mod MemberLemmas
+mod Indices
+mod LayLemmas
+mod Defined
+mod Order
+mod Good
+mod MovedLemmas
+mod WorkLemmas
+mod NormalLemmas
+mod PendingLemmas

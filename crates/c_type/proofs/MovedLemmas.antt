@@ -1,8 +1,9 @@
 -- Leaves move with their type.
 use Rattle.std.proofs.Common.{◌≡◌, ℕ, zero, suc, ◌+◌, ◌-◌, ◌*◌, ◌^◌, ◌<◌, ◌≤◌, ◌==◌, Bool, true, false, cond, List, [], ◌∷◌, ◌++◌, map, length, drop, refl, sym, ap, ap₂, ◌∙◌, arith, length-append, suc-mul, length-drop}
 use Rattle.val_core.specs.declared.leaf.Leaf.{Leaf}
+use Rattle.limits.specs.Limits.{most_type_bytes}
 use Rattle.c_type.specs.Trees.{TypeTree, void_type, scalar_type, pointer_to, array_of, struct_type}
-use Rattle.c_type.specs.Layout.{Definitions, rounded_up, align, largest, size, size_by, struct_size, members_end, repeated, leaves_at, leaves_by, members_leaves, struct_leaves, most_bytes}
+use Rattle.c_type.specs.Layout.{Definitions, rounded_up, align, largest, size, size_by, struct_size, members_end, repeated, leaves_at, leaves_by, members_leaves, struct_leaves}
 use Rattle.c_type.specs.Moved.{moved, CanMove}
 use Rattle.c_type.proofs.LeafLemmas.{within-elements}
 use Rattle.c_type.proofs.Bounds.{align-between, members-between, round-lower, end-grows}
@@ -18,14 +19,16 @@ repeated-moved (suc n) s at by f h =
     ap₂ (λ x y. x ++ y) (h at) (ap (λ k. repeated n s k f) e ∙ repeated-moved n s (at + s) by f h)
     ∙ sym (map-append (moved by) (f at) (repeated n s (at + s) f))
 
-type-moved : (sz : TypeTree → ℕ) (by : ℕ) (sl : ℕ → ℕ → List Leaf) → ((k at : ℕ) → sl k (at + by) ≡ map (moved by) (sl k at)) → (t : TypeTree) (at : ℕ) → leaves_by sz sl t (at + by) ≡ map (moved by) (leaves_by sz sl t at)
+type-moved : (sz : TypeTree → ℕ) (by : ℕ) (sl : ℕ → ℕ → List Leaf) → ((k at : ℕ) → sl k (at + by) ≡ map (moved by) (sl k at)) → (t : TypeTree) (at : ℕ) →
+    leaves_by sz sl t (at + by) ≡ map (moved by) (leaves_by sz sl t at)
 type-moved sz by sl h void_type at = refl
 type-moved sz by sl h (scalar_type s) at = refl
 type-moved sz by sl h (pointer_to t) at = refl
 type-moved sz by sl h (array_of t n) at = repeated-moved n (sz t) at by (leaves_by sz sl t) (type-moved sz by sl h t)
 type-moved sz by sl h (struct_type k) at = h k at
 
-members-moved : (sz a : TypeTree → ℕ) (by : ℕ) (f : TypeTree → ℕ → List Leaf) → ((t : TypeTree) (at : ℕ) → f t (at + by) ≡ map (moved by) (f t at)) → (start at : ℕ) (ts : List TypeTree) → members_leaves sz a f (start + by) at ts ≡ map (moved by) (members_leaves sz a f start at ts)
+members-moved : (sz a : TypeTree → ℕ) (by : ℕ) (f : TypeTree → ℕ → List Leaf) → ((t : TypeTree) (at : ℕ) → f t (at + by) ≡ map (moved by) (f t at)) → (start at : ℕ) (ts : List TypeTree) →
+    members_leaves sz a f (start + by) at ts ≡ map (moved by) (members_leaves sz a f start at ts)
 members-moved sz a by f h start at [] = refl
 members-moved sz a by f h start at (t ∷ ts) =
     let o = rounded_up at (a t) in
@@ -76,7 +79,8 @@ type-below ss sl h (pointer_to t) at = (omega arith, tt)
 type-below ss sl h (array_of t n) at = repeated-below (size_by ss t) (leaves_by (size_by ss) sl t) (type-below ss sl h t) n at
 type-below ss sl h (struct_type k) at = h k at
 
-members-below : (ds : Definitions) → ((t : TypeTree) (at : ℕ) → AreBelow (at + size ds t) (leaves_at ds t at)) → (start at : ℕ) (ts : List TypeTree) → AreBelow (start + members_end (size ds) (align ds) at ts) (members_leaves (size ds) (align ds) (leaves_at ds) start at ts)
+members-below : (ds : Definitions) → ((t : TypeTree) (at : ℕ) → AreBelow (at + size ds t) (leaves_at ds t at)) → (start at : ℕ) (ts : List TypeTree) →
+    AreBelow (start + members_end (size ds) (align ds) at ts) (members_leaves (size ds) (align ds) (leaves_at ds) start at ts)
 members-below ds h start at [] = tt
 members-below ds h start at (t ∷ ts) =
     let o = rounded_up at (align ds t) in
@@ -113,7 +117,7 @@ pub drop-front : (xs ys : List Leaf) → drop (length xs) (xs ++ ys) ≡ ys
 drop-front [] ys = refl
 drop-front (x ∷ xs) ys = drop-front xs ys
 
-length-moved : (by : ℕ) (xs : List Leaf) → length (map (moved by) xs) ≡ length xs
+pub length-moved : (by : ℕ) (xs : List Leaf) → length (map (moved by) xs) ≡ length xs
 length-moved by [] = refl
 length-moved by (x ∷ xs) = ap suc (length-moved by xs)
 
@@ -140,7 +144,7 @@ index-step at s (suc j) h =
 pub next-element : (defs : Definitions) (t : TypeTree) (at s i : ℕ) → 0 < i → leaves_at defs t (at + i * s) ≡ map (moved s) (leaves_at defs t (at + (i - 1) * s))
 next-element defs t at s i h = ap (leaves_at defs t) (sym (index-step at s i h)) ∙ leaves-moved s defs t (at + (i - 1) * s)
 
-pub room-again : (at n s z i : ℕ) → s ≡ z → at + n * z ≤ most_bytes → 0 < i → i < n → (at + (i - 1) * s) + z + s < 2 ^ 32
+pub room-again : (at n s z i : ℕ) → s ≡ z → at + n * z ≤ most_type_bytes → 0 < i → i < n → (at + (i - 1) * s) + z + s < 2 ^ 32
 room-again at n s z i e room h k =
     let w = within-elements i n z k in
     let x = index-step at s i h in

@@ -1,6 +1,7 @@
 -- Sizes are multiples of alignments, and leaves stand in order.
-use Rattle.std.proofs.Common.{◌≡◌, ℕ, zero, suc, ◌+◌, ◌-◌, ◌*◌, ◌/◌, ◌<◌, ◌≤◌, ◌==◌, ◌&&◌, max, not, Bool, true, false, cond, List, [], ◌∷◌, ◌++◌, refl, sym, ap, ap₂, ◌∙◌, subst, inl, inr, arith, add_assoc, add-mul, mul_assoc, mul-one, suc-mul}
+use Rattle.std.proofs.Common.{◌≡◌, ℕ, zero, suc, ◌+◌, ◌-◌, ◌*◌, ◌/◌, ◌<◌, ◌≤◌, ◌==◌, max, not, Bool, true, false, cond, List, [], ◌∷◌, ◌++◌, refl, sym, ap, ap₂, ◌∙◌, subst, inl, inr, arith, add_assoc, add-mul, mul_assoc, mul-one, suc-mul}
 use Rattle.val_core.specs.declared.leaf.Leaf.{Leaf}
+use Rattle.std.proofs.lemmas.Bool.{and_parts}
 use Rattle.c_type.specs.declared.scalar.Scalar.{Scalar}
 use Rattle.c_type.specs.declared.scalar.Scalar.TheVariants.{Char, SignedChar, UnsignedChar, Short, UnsignedShort, Int, UnsignedInt}
 use Rattle.c_type.specs.Trees.{TypeTree, void_type, scalar_type, pointer_to, array_of, struct_type}
@@ -103,11 +104,6 @@ joined low mid high (x ∷ xs) ys h k = (h.0, joined (x.offset + x.width) mid hi
 one-leaf : (at w : ℕ) → IsWidth w → IsMultiple w at → AreInOrder at (at + w) (record { offset = at; width = w } ∷ [])
 one-leaf at w h k = (record { above = omega arith; width = h; aligned = k }, omega arith)
 
-both : (a b : Bool) → (a && b) ≡ true → (a ≡ true) × (b ≡ true)
-both true true h = (refl, refl)
-both true false h = cc
-both false b h = cc
-
 -- what holds of the structs that are defined
 pub record AreGood (defs : Definitions) : Type 0 where
   pub multiple : (tag : ℕ) → is_defined defs tag ≡ true → IsMultiple (struct_align defs tag) (struct_size defs tag)
@@ -118,7 +114,8 @@ positive-product : (n s : ℕ) → not (n == 0) ≡ true → 0 < s → 0 < n * s
 positive-product zero s h k = cc
 positive-product (suc n) s h k = let e = suc-mul n s in omega (arith, e, k)
 
-elements-order : (f : ℕ → List Leaf) (s a : ℕ) → IsMultiple a s → ((at : ℕ) → IsMultiple a at → AreInOrder at (at + s) (f at)) → (n at : ℕ) → IsMultiple a at → AreInOrder at (at + n * s) (repeated n s at f)
+elements-order : (f : ℕ → List Leaf) (s a : ℕ) → IsMultiple a s → ((at : ℕ) → IsMultiple a at → AreInOrder at (at + s) (f at)) → (n at : ℕ) → IsMultiple a at →
+    AreInOrder at (at + n * s) (repeated n s at f)
 elements-order f s a m h zero at k = omega arith
 elements-order f s a m h (suc n) at k =
     let e : (at + s) + n * s ≡ at + suc n * s = let d = suc-mul n s in omega (arith, d) in
@@ -130,7 +127,7 @@ module _ (defs : Definitions) (good : AreGood defs) where
   size-multiple void_type h = cc
   size-multiple (scalar_type s) h = multiple-itself (scalar_size s)
   size-multiple (pointer_to t) h = multiple-itself 4
-  size-multiple (array_of t n) h = multiple-times (align defs t) n (size defs t) (size-multiple t (both (not (n == 0)) (is_complete defs t) h).1)
+  size-multiple (array_of t n) h = multiple-times (align defs t) n (size defs t) (size-multiple t (and_parts (not (n == 0)) (is_complete defs t) h).1)
   size-multiple (struct_type k) h = good.multiple k h
 
   pub size-positive : (t : TypeTree) → is_complete defs t ≡ true → 0 < size defs t
@@ -146,7 +143,7 @@ module _ (defs : Definitions) (good : AreGood defs) where
     scalar-positive UnsignedInt = omega arith
   size-positive (pointer_to t) h = omega arith
   size-positive (array_of t n) h =
-      let b = both (not (n == 0)) (is_complete defs t) h in
+      let b = and_parts (not (n == 0)) (is_complete defs t) h in
       positive-product n (size defs t) b.0 (size-positive t b.1)
   size-positive (struct_type k) h = good.positive k h
 
@@ -155,7 +152,7 @@ module _ (defs : Definitions) (good : AreGood defs) where
   type-order (scalar_type s) h at m = one-leaf at (scalar_size s) (scalar-width s) m
   type-order (pointer_to t) h at m = one-leaf at 4 (inr (inr refl)) m
   type-order (array_of t n) h at m =
-      let c = (both (not (n == 0)) (is_complete defs t) h).1 in
+      let c = (and_parts (not (n == 0)) (is_complete defs t) h).1 in
       elements-order (leaves_at defs t) (size defs t) (align defs t) (size-multiple t c) (type-order t c) n at m
   type-order (struct_type k) h at m = good.order k h at m
 
@@ -171,5 +168,7 @@ module _ (defs : Definitions) (good : AreGood defs) where
       let begin = multiple-plus (align defs t) start o (multiple-of (align defs t) a start own m) (multiple-round at (align defs t)) in
       let first = lower (start + at) (start + o) (start + o + size defs t) (leaves_at defs t (start + o)) (omega (arith, up)) (type-order t laid.0.complete (start + o) begin) in
       let rest = members-order a start w m (o + size defs t) ts (omega (arith, h)) laid.1 in
-      joined (start + at) (start + o + size defs t) (start + members_end (size defs) (align defs) (o + size defs t) ts) (leaves_at defs t (start + o)) (members_leaves (size defs) (align defs) (leaves_at defs) start (o + size defs t) ts) first
-      (subst (λ x. AreInOrder x (start + members_end (size defs) (align defs) (o + size defs t) ts) (members_leaves (size defs) (align defs) (leaves_at defs) start (o + size defs t) ts)) (sym (add_assoc start o (size defs t))) rest)
+      joined (start + at) (start + o + size defs t) (start + members_end (size defs) (align defs) (o + size defs t) ts) (leaves_at defs t (start + o)) (members_leaves (size defs) (align defs)
+      (leaves_at defs) start (o + size defs t) ts) first
+      (subst (λ x. AreInOrder x (start + members_end (size defs) (align defs) (o + size defs t) ts) (members_leaves (size defs) (align defs) (leaves_at defs) start (o + size defs t) ts)) (sym
+      (add_assoc start o (size defs t))) rest)

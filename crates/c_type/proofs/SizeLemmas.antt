@@ -1,17 +1,14 @@
--- The parts of a type that is laid out.
-use Rattle.std.proofs.Common.{◌≡◌, ℕ, zero, suc, ◌*◌, ◌≤◌, ◌==◌, ◌&&◌, not, Bool, true, false, refl, arith, suc-mul}
+-- The elements of an array that is laid out.
+use Rattle.std.proofs.Common.{◌≡◌, ℕ, zero, suc, ◌*◌, ◌≤◌, ◌==◌, not, true, refl, arith, suc-mul}
+use Rattle.limits.specs.Limits.{most_type_bytes}
+use Rattle.std.proofs.lemmas.Bool.{and_parts}
 use Rattle.c_type.specs.Trees.{TypeTree, array_of}
-use Rattle.c_type.specs.Layout.{Definitions, is_complete, size, most_bytes, IsLaidOut}
+use Rattle.c_type.specs.Layout.{Definitions, is_complete, size, IsLaidOut}
 
 -- an array's elements are laid out
-some-part : (n s : ℕ) → n * s ≤ most_bytes → (n ≡ 0 → ⊥) → s ≤ most_bytes
+some-part : (n s : ℕ) → n * s ≤ most_type_bytes → (n ≡ 0 → ⊥) → s ≤ most_type_bytes
 some-part zero s h ne = absurd (ne refl)
 some-part (suc n) s h ne = let e = suc-mul n s in omega (arith, e)
-
-both : (a b : Bool) → (a && b) ≡ true → (a ≡ true) × (b ≡ true)
-both true true h = (refl, refl)
-both true false h = cc
-both false b h = cc
 
 not-zero : (n : ℕ) → not (n == 0) ≡ true → n ≡ 0 → ⊥
 not-zero n h e = absurd-of n e h where
@@ -21,5 +18,5 @@ not-zero n h e = absurd-of n e h where
 
 pub element : (defs : Definitions) (t : TypeTree) (n : ℕ) → IsLaidOut defs (array_of t n) → IsLaidOut defs t
 element defs t n h =
-    let b = both (not (n == 0)) (is_complete defs t) h.complete in
+    let b = and_parts (not (n == 0)) (is_complete defs t) h.complete in
     record { complete = b.1; small = some-part n (size defs t) h.small (not-zero n b.0) }

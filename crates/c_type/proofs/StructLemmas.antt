@@ -1,6 +1,7 @@
--- Structs and their places.
+-- Structs and their indices.
 use Rattle.std.proofs.Common.{◌≡◌, ℕ, zero, suc, ◌==◌, ◌||◌, Bool, true, false, List, [], ◌∷◌, slice_get, Option, None, Some, option_and_then, MatchOption, option_copied, Bor, refl, sym, ap, ◌∙◌, subst, eqb-true, eq-eqb}
 use Rattle.std.specs.List.{list_any}
+use Rattle.std.proofs.lemmas.Bool.{false_from_ne_true}
 use Rattle.c_type.specs.Layout.{Definitions, is_defined}
 use Rattle.c_type.specs.Structs.{definitions_of, AreIndexed}
 use Rattle.c_type.specs.Kept.{IsFound}
@@ -51,28 +52,27 @@ there-of (x ∷ ss) tag h = by_test (x.tag == tag) refl h (there-of ss tag) wher
   by_test false differ k rest = let r = rest k in (suc r.0, (r.1.0, (r.1.1.0, r.1.1.1)))
 
 -- what is found by a tag
-false-of : (b : Bool) → (b ≡ true → ⊥) → b ≡ false
-false-of true h = absurd (h refl)
-false-of false h = refl
-
-none-found : (places : List ℕ) (structs : List Struct) (tag : ℕ) → AreIndexed places structs → option_and_then (slice_get structs) (slice_get places tag) ≡ None → is_defined (definitions_of [] structs) tag ≡ false
-none-found places structs tag i none =
+none-found : (indices : List ℕ) (structs : List Struct) (tag : ℕ) → AreIndexed indices structs → option_and_then (slice_get structs) (slice_get indices tag) ≡ None →
+    is_defined (definitions_of [] structs) tag ≡ false
+none-found indices structs tag i none =
     defined-is structs tag
-    ∙ false-of (has_tag tag structs)
+    ∙ false_from_ne_true (has_tag tag structs)
     (λ h.
     let r = there-of structs tag h in
-    let at = subst (λ k. slice_get places k ≡ Some r.0) r.1.1.1 (i.placed r.0 r.1.0 r.1.1.0) in
+    let at = subst (λ k. slice_get indices k ≡ Some r.0) r.1.1.1 (i.indexed r.0 r.1.0 r.1.1.0) in
     let e = ap (option_and_then (slice_get structs)) at ∙ r.1.1.0 in
     cc)
 
-some-found : (places : List ℕ) (structs : List Struct) (tag : ℕ) (s : Struct) (place : Option ℕ) → AreIndexed places structs → slice_get places tag ≡ place → option_and_then (slice_get structs) place ≡ Some s → IsFound (definitions_of [] structs) tag s
-some-found places structs tag s None i at is = cc
-some-found places structs tag s (Some p) i at is =
+some-found : (indices : List ℕ) (structs : List Struct) (tag : ℕ) (s : Struct) (index : Option ℕ) → AreIndexed indices structs → slice_get indices tag ≡ index →
+    option_and_then (slice_get structs) index ≡ Some s → IsFound (definitions_of [] structs) tag s
+some-found indices structs tag s None i at is = cc
+some-found indices structs tag s (Some p) i at is =
     let e = i.found tag p s at is in
     let h = defined-is structs tag ∙ has-there structs p s tag is e in
-    record { defined = h; tagged = e; kept = i.kept p s is; level = level (definitions_of [] structs) i.ordered tag h }
+    record { defined = h; tagged = e; kept = i.kept p s is; level = level (definitions_of [] structs) i.ordered tag h; ordered = i.ordered }
 
-pub found : (places : List ℕ) (structs : List Struct) (tag : ℕ) (result : Option (Bor Struct)) → AreIndexed places structs → option_copied result ≡ option_and_then (slice_get structs) (slice_get places tag) →
+pub found : (indices : List ℕ) (structs : List Struct) (tag : ℕ) (result : Option (Bor Struct)) → AreIndexed indices structs →
+    option_copied result ≡ option_and_then (slice_get structs) (slice_get indices tag) →
     MatchOption result (is_defined (definitions_of [] structs) tag ≡ false) (λ s. IsFound (definitions_of [] structs) tag s.now)
-found places structs tag None i e = none-found places structs tag i (sym e)
-found places structs tag (Some s) i e = some-found places structs tag s.now (slice_get places tag) i refl (sym e)
+found indices structs tag None i e = none-found indices structs tag i (sym e)
+found indices structs tag (Some s) i e = some-found indices structs tag s.now (slice_get indices tag) i refl (sym e)

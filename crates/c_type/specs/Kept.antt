@@ -2,6 +2,7 @@
 use Rattle.std.specs.Prelude.{◌≡◌, ℕ, true}
 use Rattle.c_type.specs.Layout.{Definitions, is_defined}
 use Rattle.c_type.specs.Level.{IsLevel}
+use Rattle.c_type.specs.WellDefined.{AreDefinitions}
 use Rattle.c_type.specs.Structs.{IsKept}
 use Rattle.c_type.specs.declared.structs.Struct.{Struct}
 
@@ -10,3 +11,4 @@ pub record IsFound (defs : Definitions) (tag : ℕ) (s : Struct) : Type 0 where
   pub tagged : s.tag ≡ tag
   pub kept : IsKept defs s
   pub level : IsLevel defs tag
+  pub ordered : AreDefinitions defs

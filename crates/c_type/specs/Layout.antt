@@ -2,6 +2,7 @@
 use Rattle.std.specs.Prelude.{ℕ, zero, suc, ◌+◌, ◌-◌, ◌*◌, ◌/◌, ◌≤◌, ◌==◌, ◌&&◌, not, max, Bool, true, false, if◌then◌else◌, List, [], ◌∷◌, ◌++◌, IsTrue}
 use Rattle.std.specs.List.{list_any}
 use Rattle.val_core.specs.declared.leaf.Leaf.{Leaf}
+use Rattle.limits.specs.Limits.{most_type_bytes}
 use Rattle.c_type.specs.declared.scalar.Scalar.{Scalar}
 use Rattle.c_type.specs.declared.scalar.Scalar.TheVariants.{Char, SignedChar, UnsignedChar, Short, UnsignedShort, Int, UnsignedInt}
 use Rattle.c_type.specs.Trees.{TypeTree, void_type, scalar_type, pointer_to, array_of, struct_type}
@@ -68,7 +69,7 @@ size_by struct_size (pointer_to t) = 4
 size_by struct_size (array_of t n) = n * size_by struct_size t
 size_by struct_size (struct_type tag) = struct_size tag
 
--- where the last of these members ends, if they begin at this place
+-- where the last of these members ends, if they begin at this offset
 abbrev pub members_end : (size align : TypeTree → ℕ) → (at : ℕ) → List TypeTree → ℕ
 members_end size align at [] = at
 members_end size align at (t ∷ ts) = members_end size align (rounded_up at (align t) + size t) ts
@@ -95,7 +96,7 @@ offset [] tag member = 0
 offset (d ∷ ds) tag member =
     if d.tag == tag then offset_from (size ds) (align ds) 0 d.members member else offset ds tag member
 
--- ---- leaves: the scalars and pointers of a type, in order of offset, if it begins at this place
+-- ---- leaves: the scalars and pointers of a type that begins at this offset, in order of offset
 
 abbrev pub repeated : (count stride at : ℕ) → (ℕ → List Leaf) → List Leaf
 repeated zero stride at leaves_at = []
@@ -128,13 +129,10 @@ leaves defs t = leaves_at defs t 0
 
 -- ---- what the calls ask for
 
-abbrev pub most_bytes : ℕ
-most_bytes = 1048576
-
 -- a complete type of at most so many bytes
 pub record IsLaidOut (defs : Definitions) (t : TypeTree) : Type 0 where
   pub complete : IsTrue (is_complete defs t)
-  pub small : size defs t ≤ most_bytes
+  pub small : size defs t ≤ most_type_bytes
 
 -- the members' types of the struct of this tag
 abbrev pub members : Definitions → (tag : ℕ) → List TypeTree

@@ -12,13 +12,13 @@ IsMultiple of n = (k : ℕ) × (n ≡ k * of)
 abbrev pub IsWidth : ℕ → Type 0
 IsWidth n = (n ≡ 1) ⊎ ((n ≡ 2) ⊎ (n ≡ 4))
 
--- a leaf not below this place, of one of the widths, at a multiple of its width
+-- a leaf not below this offset, of one of the widths, at a multiple of its width
 pub record IsPlaced (low : ℕ) (l : Leaf) : Type 0 where
   pub above : low ≤ l.offset
   pub width : IsWidth l.width
   pub aligned : IsMultiple l.width l.offset
 
--- leaves in order of offset, none of which overlap, between these places
+-- leaves in order of offset, none of which overlap, between these offsets
 abbrev pub AreInOrder : (low high : ℕ) → List Leaf → Type 0
 AreInOrder low high [] = low ≤ high
 AreInOrder low high (l ∷ ls) = IsPlaced low l × AreInOrder (l.offset + l.width) high ls

@@ -1,7 +1,8 @@
 -- The struct definitions of a program, in the order in which it has them.
-use Rattle.std.specs.Prelude.{◌≡◌, ℕ, ◌+◌, ◌^◌, ◌<◌, ◌≤◌, ◌==◌, false, if◌then◌else◌, List, [], ◌∷◌, length}
-use Rattle.c_type.specs.Trees.{TypeTree, array_of, struct_type}
-use Rattle.c_type.specs.Layout.{Definition, Definitions, is_defined, rounded_up, align, size, struct_size, most_bytes, IsLaidOut}
+use Rattle.std.specs.Prelude.{◌≡◌, ℕ, ◌+◌, ◌^◌, ◌<◌, ◌≤◌, false, List, [], ◌∷◌, length}
+use Rattle.limits.specs.Limits.{most_type_bytes}
+use Rattle.c_type.specs.Trees.{TypeTree}
+use Rattle.c_type.specs.Layout.{Definition, Definitions, is_defined, rounded_up, align, size, struct_size, IsLaidOut}
 
 abbrev pub AreLaidOut : Definitions → List TypeTree → Type 0
 AreLaidOut defs [] = Unit {0}
@@ -12,34 +13,17 @@ pub record Follows (defs : Definitions) (d : Definition) : Type 0 where
   pub new : is_defined defs d.tag ≡ false
   pub some : 0 < length d.members
   pub laid_out : AreLaidOut defs d.members
-  pub small : struct_size (d ∷ defs) d.tag ≤ most_bytes
+  pub small : struct_size (d ∷ defs) d.tag ≤ most_type_bytes
 
 -- each definition follows the earlier ones
 abbrev pub AreDefinitions : Definitions → Type 0
 AreDefinitions [] = Unit {0}
 AreDefinitions (d ∷ ds) = Follows ds d × AreDefinitions ds
 
--- In how many steps the leaves of a type are listed, where one element of an array stands for all of them.
-abbrev pub steps_by : (struct_steps : ℕ → ℕ) → TypeTree → ℕ
-steps_by struct_steps (array_of t n) = steps_by struct_steps t + 2
-steps_by struct_steps (struct_type tag) = struct_steps tag + 1
-steps_by struct_steps _ = 1
-
-abbrev pub members_steps : (TypeTree → ℕ) → List TypeTree → ℕ
-members_steps steps [] = 1
-members_steps steps (t ∷ ts) = steps t + members_steps steps ts + 1
-
-abbrev pub struct_steps : Definitions → (tag : ℕ) → ℕ
-struct_steps [] tag = 0
-struct_steps (d ∷ ds) tag = if d.tag == tag then members_steps (steps_by (struct_steps ds)) d.members else struct_steps ds tag
-
-abbrev pub steps : Definitions → TypeTree → ℕ
-steps defs t = steps_by (struct_steps defs) t
-
--- A member of a struct that begins at `at` is laid out, and fits behind the earlier members, which end at `end`.
+-- A member of a struct that begins at `at` is laid out, and fits after the earlier members, which end at `end`.
 pub record MemberFits (defs : Definitions) (at end : ℕ) (t : TypeTree) : Type 0 where
   pub laid_out : IsLaidOut defs t
   pub positive : 0 < align defs t
   pub room : end + align defs t < 2 ^ 32
-  pub within : at + (rounded_up end (align defs t) + size defs t) ≤ most_bytes
+  pub within : at + (rounded_up end (align defs t) + size defs t) ≤ most_type_bytes
   pub above : end ≤ rounded_up end (align defs t)

@@ -7,7 +7,7 @@ use thiserror::Error;
 /// Why a struct is not defined.
 #[derive(Clone, Copy, PartialEq, Eq, Debug, Error)]
 pub enum DefineFault {
-    /// It would have more than `MOST_BYTES`.
+    /// It would have more than `MOST_TYPE_BYTES`.
     #[error("a struct of more than 1048576 bytes")]
     TooLarge,
     /// Memory ran out.
@@ -27,6 +27,14 @@ impl<T: Drop> From<AllocFailed<T>> for DefineFault {
     ghost from_gives = { λ _ e. e ≡ NoMemory };
 
     fn from(_e: AllocFailed<T>) -> DefineFault {
+        DefineFault::NoMemory
+    }
+}
+
+impl From<no_memory::NoMemory> for DefineFault {
+    ghost from_gives = { λ _ e. e ≡ NoMemory };
+
+    fn from(_e: no_memory::NoMemory) -> DefineFault {
         DefineFault::NoMemory
     }
 }

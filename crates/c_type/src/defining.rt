@@ -1,17 +1,18 @@
 ghost use Rattle.std.specs.Prelude.{◌≡◌, ℕ, ◌+◌, ◌<◌, ◌≤◌, ◌^◌, max, length, IfOk, OnOk, IfErr, OnErr};
-ghost use Rattle.c_type.specs.Layout.{most_bytes};
+ghost use Rattle.limits.specs.Limits.{most_type_bytes};
 ghost use Rattle.c_type.specs.WellDefined.{AreLaidOut};
 ghost use Rattle.c_type.specs.LaidUpTo.{IsLaid, struct_bytes};
 ghost use Rattle.c_type.specs.Structs.{Pads};
 ghost use Rattle.c_type.specs.declared.define_fault.DefineFault.TheVariants.{NoMemory, TooLarge};
 
 use crate::define_fault::DefineFault;
-use crate::layout::{MOST_BYTES, align_of, rounded_up, size_of};
+use crate::layout::{align_of, rounded_up, size_of};
 use crate::structs::Types;
 use crate::trees::CType;
+use limits::MOST_TYPE_BYTES;
 use std::alloc::{AllocError, Global};
 
-// What stands for the place of a tag that has none.
+// What stands for the index of a tag that has none.
 const ABSENT: u32 = u32::MAX;
 
 // What a struct of some members occupies.
@@ -30,7 +31,8 @@ pub(crate) fn lay_out(
 ) -> Result<Layout, DefineFault>
     requires { AreLaidOut types.now members.now }
     ensures ok { IfOk result (λ l. IsLaid types.now members.now l.offsets.items l.size l.align) }
-    ensures too_large { IfErr result (λ e. e ≡ TooLarge → most_bytes < struct_bytes types.now members.now) }
+    ensures too_large { IfErr result (λ e.
+        e ≡ TooLarge → most_type_bytes < struct_bytes types.now members.now) }
 {
     let mut offsets = Vec::new(alloc);
     let mut end = 0;
@@ -40,13 +42,13 @@ pub(crate) fn lay_out(
         let offset = rounded_up(end, own);
         offsets.push(offset)?;
         end = offset + size_of(types, t);
-        if end > MOST_BYTES {
+        if end > MOST_TYPE_BYTES {
             return Err(DefineFault::TooLarge);
         }
         align = align.max(own);
     }
     let size = rounded_up(end, align);
-    if size > MOST_BYTES {
+    if size > MOST_TYPE_BYTES {
         return Err(DefineFault::TooLarge);
     }
     Ok(Layout {
@@ -56,13 +58,13 @@ pub(crate) fn lay_out(
     })
 }
 
-// Makes room for the place of a tag.
-pub(crate) fn make_place(places: &mut Vec<u32>, tag: u32) -> Result<(), AllocError>
-    ensures pads { Pads places.old.items places.new.items }
-    ensures room { OnOk result (tag < length places.new.items) }
+// Makes room for the index of a tag.
+pub(crate) fn make_index(indices: &mut Vec<u32>, tag: u32) -> Result<(), AllocError>
+    ensures pads { Pads indices.old.items indices.new.items }
+    ensures room { OnOk result (tag < length indices.new.items) }
 {
-    for _i in places.len()..=tag as usize {
-        places.push(ABSENT)?;
+    for _i in indices.len()..=tag as usize {
+        indices.push(ABSENT)?;
     }
     Ok(())
 }

@@ -1,4 +1,5 @@
-//! Laws of layouts, for the proofs of the crates above: each is the contract of a function that does nothing.
+//! Laws of layouts, for the proofs of the crates above: each is the contract of a function that
+//! does nothing.
 
 ghost use Rattle.c_type.specs.LayoutLaws.{AlignmentIsWidth, SizeIsMultiple, MemberIsWithin, LeavesAreInOrder};
 
@@ -17,8 +18,8 @@ pub fn member_is_within()
     ensures { MemberIsWithin }
 {}
 
-/// The leaves of a type that begins at a multiple of its alignment are in order, do not overlap, and lie within it, each
-/// at a multiple of its width.
+/// The leaves of a type that begins at a multiple of its alignment are in order, do not overlap,
+/// and lie within it, each at a multiple of its width.
 pub fn leaves_are_in_order()
     ensures { LeavesAreInOrder }
 {}

@@ -1,16 +1,15 @@
 ghost use Rattle.std.specs.Prelude.{◌≡◌, ℕ, ◌+◌, ◌*◌, ◌<◌, ◌≤◌, ◌^◌, true, length, ◌↔◌, IsTrue, SomeIff};
+ghost use Rattle.limits.specs.Limits.{most_type_bytes};
 ghost use Rattle.c_type.specs.WellDefined.{AreLaidOut};
-ghost use Rattle.c_type.specs.Layout.{is_complete, is_defined, rounded_up, scalar_size, align, size, offset, members, most_bytes, IsLaidOut};
+ghost use Rattle.c_type.specs.Layout.{is_complete, is_defined, rounded_up, scalar_size, align, size, offset, members, IsLaidOut};
 
 use crate::scalar::Scalar;
 use crate::structs::Types;
 use crate::trees::{CType, TypeForm};
+use limits::MOST_TYPE_BYTES;
 
-/// The most bytes that a type may have.
-pub const MOST_BYTES: u32 = 1_048_576;
-
-/// Whether the type is complete (ISO/IEC 9899:2011, 6.2.5p1): no `void`, and no struct without a definition, or an
-/// array of these or of no elements.
+/// Whether the type is complete (ISO/IEC 9899:2011, 6.2.5p1): no `void`, and no struct without a
+/// definition, or an array of these or of no elements.
 pub fn is_complete(types: &Types, t: &CType) -> bool
     ensures { result ≡ is_complete types.now t.now }
 {
@@ -22,14 +21,14 @@ pub fn is_complete(types: &Types, t: &CType) -> bool
     }
 }
 
-/// Whether the type is complete and has at most `MOST_BYTES`.
+/// Whether the type is complete and has at most `MOST_TYPE_BYTES`.
 pub fn is_laid_out(types: &Types, t: &CType) -> bool
     ensures { IsTrue result ↔ IsLaidOut types.now t.now }
 {
     is_complete(types, t) && bounded_size(types, t).is_some()
 }
 
-/// Whether all these types are complete and have at most `MOST_BYTES` each.
+/// Whether all these types are complete and have at most `MOST_TYPE_BYTES` each.
 pub fn are_laid_out(types: &Types, ts: &[CType]) -> bool
     ensures { IsTrue result ↔ AreLaidOut types.now ts.now }
 {
@@ -55,7 +54,7 @@ pub fn align_of(types: &Types, t: &CType) -> u32
     }
 }
 
-/// The size of a complete type of at most `MOST_BYTES`, in bytes (6.5.3.4).
+/// The size of a complete type of at most `MOST_TYPE_BYTES`, in bytes (6.5.3.4).
 pub fn size_of(types: &Types, t: &CType) -> u32
     requires { IsLaidOut types.now t.now }
     ensures { result ≡ size types.now t.now }
@@ -69,10 +68,10 @@ pub fn size_of(types: &Types, t: &CType) -> u32
     }
 }
 
-/// The size of a complete type, in bytes, where it is at most `MOST_BYTES`.
+/// The size of a complete type, in bytes, where it is at most `MOST_TYPE_BYTES`.
 pub fn bounded_size(types: &Types, t: &CType) -> Option<u32>
     requires { IsTrue (is_complete types.now t.now) }
-    ensures { SomeIff result (size types.now t.now ≤ most_bytes) (size types.now t.now) }
+    ensures { SomeIff result (size types.now t.now ≤ most_type_bytes) (size types.now t.now) }
 {
     match &t.form {
         TypeForm::Void => Some(0),
@@ -86,7 +85,8 @@ pub fn bounded_size(types: &Types, t: &CType) -> Option<u32>
     }
 }
 
-/// The offset of a member of a struct that is defined, in bytes; members are counted from 0 (6.7.2.1p15).
+/// The offset of a member of a struct that is defined, in bytes; members are counted from 0
+/// (6.7.2.1p15).
 pub fn offset_of(types: &Types, tag: u32, member: u32) -> u32
     requires defined { IsTrue (is_defined types.now tag) }
     requires member { member < length (members types.now tag) }
@@ -119,11 +119,11 @@ pub(crate) fn rounded_up(n: u32, align: u32) -> u32
 }
 
 fn bounded_product(n: u32, size: u32) -> Option<u32>
-    requires { size ≤ most_bytes }
-    ensures { SomeIff result (n * size ≤ most_bytes) (n * size) }
+    requires { size ≤ most_type_bytes }
+    ensures { SomeIff result (n * size ≤ most_type_bytes) (n * size) }
 {
     let whole = u64::from(n) * u64::from(size);
-    if whole <= u64::from(MOST_BYTES) {
+    if whole <= u64::from(MOST_TYPE_BYTES) {
         Some(whole as u32)
     } else {
         None

@@ -1,6 +1,7 @@
-//! The types of the language: what a C type occupies.
-//! The checker, the typed program and construction stand on it; it stands on `val_core`.
-//! Promise: sizes, alignments, offsets and leaves are those of the recursion on the type, and only `leaves` takes memory.
+//! The types of the language: what a C type occupies. The checker, the typed program and
+//! construction stand on it. Promise: sizes, alignments, offsets and leaves are those of the
+//! recursion on the type. Only `leaves` takes memory, and its steps are linear in its result and
+//! the height of the type.
 #![tactic(auto)]
 
 mod define_fault;
@@ -8,21 +9,20 @@ mod defining;
 pub mod laws;
 mod layout;
 mod listing;
-mod no_memory;
+mod normal;
 mod same;
 mod scalar;
+mod steps;
 mod structs;
-#[cfg(test)]
-mod tests;
 mod trees;
 
 pub use define_fault::DefineFault;
 pub use layout::{
-    MOST_BYTES, align_of, are_laid_out, bounded_size, is_complete, is_laid_out, offset_of, size_of,
+    align_of, are_laid_out, bounded_size, is_complete, is_laid_out, offset_of, size_of,
 };
-pub use listing::leaves;
-pub use no_memory::NoMemory;
+pub use listing::{counted_leaves, leaves};
 pub use scalar::Scalar;
+pub use steps::Steps;
 pub use structs::Types;
 pub use trees::{CType, TypeForm};
 pub use val_core::Leaf;

@@ -1,9 +1,9 @@
 ghost use Rattle.std.specs.Prelude.{◌≡◌, ◌↔◌, IsTrue, IfOk};
 ghost use Rattle.c_type.specs.Trees.{pointer_to, array_of, scalar_type, struct_type, void_type};
 
-use crate::no_memory::NoMemory;
 use crate::scalar::Scalar;
 use crate::trees::{CType, TypeForm};
+use no_memory::NoMemory;
 use std::alloc::Global;
 
 impl CType {

@@ -23,7 +23,7 @@ pub enum TypeForm {
 
 impl Model for CType {
     ghost use Rattle.c_type.specs.Trees.{TypeTree, tree_height};
-    ghost use Rattle.c_type.specs.TreeCodes.{coded_tree};
+    ghost use Rattle.c_type.specs.TreeEncoding.{coded_tree};
 
     ghost Value = { TypeTree };
 
@@ -35,7 +35,7 @@ impl Model for CType {
 
     ghost size = { tree_height };
 
-    ghost use Rattle.c_type.specs.TreeFalls.{form_falls};
+    ghost use Rattle.c_type.specs.TreeHeight.{form_height};
 
-    ghost size_decreases = { λ a h. form_falls a.form };
+    ghost size_decreases = { λ a h. form_height a.form };
 }

@@ -1,9 +1,7 @@
 -- The last group is closed, as a unit.
-use Rattle.std.proofs.Common.{◌≡◌, ◌≢◌, ℕ, zero, suc, ◌+◌, ◌-◌, ◌<◌, ◌≤◌, ◌⊎◌, Bool, true, false, inl, inr, List, [], ◌∷◌, ◌++◌, length, take, drop, count_by, slice_index, slice_index_or, slice_set, Contains, refl, sym, ap, subst, ◌∙◌, arith}
-use Rattle.std.specs.Prelude.{if◌then◌else◌}
-use Rattle.std.proofs.lemmas.List.{append-nil, length-set, length-take-le, length-drop, get_or-take, get_or-drop, get_or_default, get_or-set_same, get_or-set_other, take_all, drop_all, set_past}
-use Rattle.std.proofs.lemmas.List.Sums.{sum_by-set}
-use Rattle.std.proofs.lemmas.Bool.{cases_lt, cases_eq, false≢true}
+use Rattle.std.proofs.Common.{◌≡◌, ℕ, ◌+◌, ◌-◌, ◌<◌, ◌≤◌, ◌⊎◌, true, false, inl, inr, List, ◌++◌, length, take, drop, count_by, slice_index, slice_index_or, Contains, refl, sym, ap, subst, ◌∙◌, arith}
+use Rattle.std.proofs.lemmas.List.{append-nil, length-take-le, length-drop, get_or-take, get_or-drop, get_or_default, take_all, drop_all}
+use Rattle.std.proofs.lemmas.Bool.{cases_lt, false≢true}
 use Rattle.call_order.specs.declared.stages.Stage.{Stage}
 use Rattle.call_order.specs.declared.stages.Stage.TheVariants.{New, Held, Closed}
 use Rattle.call_order.specs.declared.search.Group.{Group}
@@ -11,12 +9,17 @@ use Rattle.call_order.specs.Units.{Calls, Reaches, IsMutual, IsUnitOf, CallsOut}
 use Rattle.call_order.specs.Search.{is_new, is_closed, rank_in, above, stage_of, all_at, StayEntered, IsClosedAs, IsPending, IsWithin, HasCaller, IsSearch, NotSplit, ClosesFrom}
 use Rattle.call_order.proofs.ReachLemmas.{reaches-keeps}
 use Rattle.call_order.proofs.StageLemmas.{above-small, closed-parts, closed-onward, closed-kept, inside-from_stage}
+use Rattle.call_order.proofs.AllAtLemmas.{length-all_at, all_at-other, all_at-here, count-all_at_more, count-all_at_same}
 
 pub written-back : {X : Type 0} (xs new : List X) (n : ℕ) → n ≡ length xs → length new ≡ length xs → take n (new ++ drop (length new) xs) ≡ new
 written-back xs new n e f =
     ap (λ ys. take n (new ++ ys)) (drop_all (length new) xs (omega arith)) ∙ (ap (take n) (append-nil new) ∙ take_all n new (omega arith))
 
-pub closes-answer : (calls : List (List ℕ)) (stages stages1 : List Stage) (members part : List ℕ) (from unit rank : ℕ) (stages' : List Stage) (members' : List ℕ) → part ≡ drop from members → stages1 ≡ stages → Contains part unit → ((a : ℕ) → a < length part → unit ≤ slice_index part a) → ((a k : ℕ) → a < length part → Calls calls (slice_index part a) k → above (stage_of stages1 k) ≤ rank) → (rank ≡ 0) ⊎ ((a : ℕ) × (k : ℕ) × (a < length part) × Calls calls (slice_index part a) k × (rank ≡ above (stage_of stages1 k))) → stages' ≡ all_at stages part (Closed unit rank) → members' ≡ take from members → ClosesFrom calls stages members from stages' members'
+pub closes-answer : (calls : List (List ℕ)) (stages stages1 : List Stage) (members part : List ℕ) (from unit rank : ℕ) (stages' : List Stage) (members' : List ℕ) → part ≡ drop from members
+    → stages1 ≡ stages → Contains part unit → ((a : ℕ) → a < length part → unit ≤ slice_index part a)
+    → ((a k : ℕ) → a < length part → Calls calls (slice_index part a) k → above (stage_of stages1 k) ≤ rank)
+    → (rank ≡ 0) ⊎ ((a : ℕ) × (k : ℕ) × (a < length part) × Calls calls (slice_index part a) k × (rank ≡ above (stage_of stages1 k))) → stages' ≡ all_at stages part (Closed unit rank)
+    → members' ≡ take from members → ClosesFrom calls stages members from stages' members'
 closes-answer calls stages stages1 members part from unit rank stages' members' p s named least ranks tight put cut =
     let Named : List ℕ → Type 0 = λ x. Contains x unit in
     let Least : List ℕ → Type 0 = λ x. (a : ℕ) → a < length x → unit ≤ slice_index x a in
@@ -34,82 +37,9 @@ closes-answer calls stages stages1 members part from unit rank stages' members' 
     }
 
 -- many functions get one stage
-pub length-all_at : (stages : List Stage) (js : List ℕ) (stage : Stage) → length (all_at stages js stage) ≡ length stages
-length-all_at stages [] stage = refl
-length-all_at stages (j ∷ js) stage = length-all_at (slice_set stages j stage) js stage ∙ length-set stages j stage
 
-all_at-other : (stages : List Stage) (js : List ℕ) (stage : Stage) (k : ℕ) → ((e : ℕ) → e < length js → slice_index js e ≢ k) → stage_of (all_at stages js stage) k ≡ stage_of stages k
-all_at-other stages [] stage k apart = refl
-all_at-other stages (j ∷ js) stage k apart =
-    all_at-other (slice_set stages j stage) js stage k (λ e h. apart (suc e) (omega arith))
-    ∙ get_or-set_other stages j k stage New (λ same. apart 0 (omega arith) (sym same))
-
-all_at-stays : (stages : List Stage) (js : List ℕ) (stage : Stage) (k : ℕ) → k < length stages → stage_of stages k ≡ stage → stage_of (all_at stages js stage) k ≡ stage
-all_at-stays stages [] stage k inside is = is
-all_at-stays stages (j ∷ js) stage k inside is =
-    all_at-stays (slice_set stages j stage) js stage k (omega (arith, length-set stages j stage))
-    (elim (cases_eq k j) [
-      | inl same ↦ ap (stage_of (slice_set stages j stage)) same ∙ get_or-set_same stages j stage New (omega arith)
-      | inr apart ↦ get_or-set_other stages j k stage New apart ∙ is
-    ])
-
-all_at-here : (stages : List Stage) (js : List ℕ) (stage : Stage) (e : ℕ) → e < length js → slice_index js e < length stages → stage_of (all_at stages js stage) (slice_index js e) ≡ stage
-all_at-here stages [] stage e h inside = absurd (omega arith)
-all_at-here stages (j ∷ js) stage zero h inside =
-    all_at-stays (slice_set stages j stage) js stage j (omega (arith, length-set stages j stage)) (get_or-set_same stages j stage New inside)
-all_at-here stages (j ∷ js) stage (suc e) h inside =
-    all_at-here (slice_set stages j stage) js stage e (omega arith) (omega (arith, length-set stages j stage))
-
--- a count of the stages that pass a test, where the new stage passes it
-count-set_up : (p : Stage → Bool) (stages : List Stage) (j : ℕ) (stage : Stage) → p stage ≡ true → count_by p stages ≤ count_by p (slice_set stages j stage)
-count-set_up p stages j stage passes =
-    let one : Bool → ℕ = λ b. if b then 1 else 0 in
-    let most : (b : Bool) → one b ≤ 1 = elim [ true ↦ omega arith | false ↦ omega arith ] in
-    elim (cases_lt j (length stages)) [
-      | inl inside ↦ omega (arith, sum_by-set (λ x. one (p x)) stages j stage New inside, ap one passes, most (p (stage_of stages j)))
-      | inr past ↦ let same = ap (count_by p) (set_past stages j stage past) in omega (arith, same)
-    ]
-
-count-set_more : (p : Stage → Bool) (stages : List Stage) (j : ℕ) (stage : Stage) → j < length stages → p stage ≡ true → p (stage_of stages j) ≡ false → count_by p stages + 1 ≡ count_by p (slice_set stages j stage)
-count-set_more p stages j stage inside passes fails =
-    let one : Bool → ℕ = λ b. if b then 1 else 0 in
-    omega (arith, sum_by-set (λ x. one (p x)) stages j stage New inside, ap one passes, ap one fails)
-
-count-all_at_up : (p : Stage → Bool) (stages : List Stage) (js : List ℕ) (stage : Stage) → p stage ≡ true → count_by p stages ≤ count_by p (all_at stages js stage)
-count-all_at_up p stages [] stage passes = omega arith
-count-all_at_up p stages (j ∷ js) stage passes =
-    omega (arith, count-set_up p stages j stage passes, count-all_at_up p (slice_set stages j stage) js stage passes)
-
-count-all_at_more : (p : Stage → Bool) (stages : List Stage) (js : List ℕ) (stage : Stage) → 0 < length js → slice_index js 0 < length stages → p stage ≡ true → p (stage_of stages (slice_index js 0)) ≡ false → count_by p stages + 1 ≤ count_by p (all_at stages js stage)
-count-all_at_more p stages [] stage some inside passes fails = absurd (omega arith)
-count-all_at_more p stages (j ∷ js) stage some inside passes fails =
-    omega (arith, count-set_more p stages j stage inside passes fails, count-all_at_up p (slice_set stages j stage) js stage passes)
-
-count-set_same : (p : Stage → Bool) (stages : List Stage) (j : ℕ) (stage : Stage) → p stage ≡ false → p (stage_of stages j) ≡ false → count_by p (slice_set stages j stage) ≡ count_by p stages
-count-set_same p stages j stage fails was =
-    let one : Bool → ℕ = λ b. if b then 1 else 0 in
-    elim (cases_lt j (length stages)) [
-      | inl inside ↦ omega (arith, sum_by-set (λ x. one (p x)) stages j stage New inside, ap one fails, ap one was)
-      | inr past ↦ ap (count_by p) (set_past stages j stage past)
-    ]
-
--- no function is new that was not, and none enters
-count-all_at_same : (p : Stage → Bool) (stages : List Stage) (js : List ℕ) (stage : Stage) → p stage ≡ false → ((e : ℕ) → e < length js → p (stage_of stages (slice_index js e)) ≡ false) → count_by p (all_at stages js stage) ≡ count_by p stages
-count-all_at_same p stages [] stage fails was = refl
-count-all_at_same p stages (j ∷ js) stage fails was =
-    count-all_at_same p (slice_set stages j stage) js stage fails
-    (λ e h.
-    elim (cases_eq (slice_index js e) j) [
-      | inl same ↦
-          elim (cases_lt j (length stages)) [
-            | inl inside ↦ ap (λ k. p (stage_of (slice_set stages j stage) k)) same ∙ (ap p (get_or-set_same stages j stage New inside) ∙ fails)
-            | inr past ↦ ap (λ xs. p (stage_of xs (slice_index js e))) (set_past stages j stage past) ∙ was (suc e) (omega arith)
-          ]
-      | inr apart ↦ ap p (get_or-set_other stages j (slice_index js e) stage New apart) ∙ was (suc e) (omega arith)
-    ])
-    ∙ count-set_same p stages j stage fails (was 0 (omega arith))
-
-module _ (calls : List (List ℕ)) (stages : List Stage) (members pending : List ℕ) (groups : List Group) (was : IsSearch calls stages members pending groups) (d : Group) (n : ℕ) (last : length groups ≡ n + 1) (done : length pending ≡ (slice_index_or groups n d).pending_from) where
+module _ (calls : List (List ℕ)) (stages : List Stage) (members pending : List ℕ) (groups : List Group) (was : IsSearch calls stages members pending groups) (d : Group) (n : ℕ)
+    (last : length groups ≡ n + 1) (done : length pending ≡ (slice_index_or groups n d).pending_from) where
   abbrev from : ℕ
   from = (slice_index_or groups n d).members_from
 
@@ -135,7 +65,7 @@ module _ (calls : List (List ℕ)) (stages : List Stage) (members pending : List
 
   -- closed, or of the last group
   abbrev IsInside : ℕ → Type 0
-  IsInside k = (is_closed (stage_of stages k) ≡ true) ⊎ ((place : ℕ) × (stage_of stages k ≡ Held place) × (from ≤ place))
+  IsInside k = (is_closed (stage_of stages k) ≡ true) ⊎ ((index : ℕ) × (stage_of stages k ≡ Held index) × (from ≤ index))
 
   inside-callee : (a k : ℕ) → a < length members → from ≤ a → Calls calls (slice_index members a) k → IsInside k
   inside-callee a k h over called =
@@ -144,9 +74,9 @@ module _ (calls : List (List ℕ)) (stages : List Stage) (members pending : List
         | inr (inl it) ↦ absurd (omega (arith, it.inside, it.grouped n d (omega arith) over))
         | inr (inr it) ↦
             inr (
-              it.place,
+              it.index,
               it.held,
-              elim (cases_lt it.place from) [ inl under ↦ absurd (omega (arith, it.grouped n d (omega arith) under)) | inr up ↦ up ],
+              elim (cases_lt it.index from) [ inl under ↦ absurd (omega (arith, it.grouped n d (omega arith) under)) | inr up ↦ up ],
             )
       ]
 
@@ -155,7 +85,7 @@ module _ (calls : List (List ℕ)) (stages : List Stage) (members pending : List
       let parts = closed-parts (stage_of stages j) shut in
       inl ((was.closed j parts.0 parts.1 parts.2).onward k called)
   inside-onward j k (inr it) called =
-      let at = was.place j it.0 it.1 in
+      let at = was.index j it.0 it.1 in
       let family : ℕ → Type 0 = λ x. Calls calls x k in
       inside-callee it.0 k at.0 it.2 (subst family (sym at.1) called)
 
@@ -163,7 +93,7 @@ module _ (calls : List (List ℕ)) (stages : List Stage) (members pending : List
   held-open a h = ap is_closed (was.held a h)
 
   -- what calls itself there and back with a function of the group is of the group
-  group-whole : (a k : ℕ) → a < length members → from ≤ a → IsMutual calls (slice_index members a) k → (place : ℕ) × (stage_of stages k ≡ Held place) × (from ≤ place)
+  group-whole : (a k : ℕ) → a < length members → from ≤ a → IsMutual calls (slice_index members a) k → (index : ℕ) × (stage_of stages k ≡ Held index) × (from ≤ index)
   group-whole a k h over both =
       elim (reaches-keeps calls IsInside inside-onward (slice_index members a) k both.0 (inr (a, was.held a h, over))) [
         | inl shut ↦
@@ -193,7 +123,7 @@ module _ (calls : List (List ℕ)) (stages : List Stage) (members pending : List
         ap (λ xs. stage_of xs (slice_index members a)) put.stages_are
         ∙ subst family at (all_at-here stages (drop from members) closing e (omega (arith, part-length)) (omega (arith, at, member-known a h)))
 
-    other : (k : ℕ) → ((place : ℕ) → stage_of stages k ≡ Held place → place < from) → stage_of stages' k ≡ stage_of stages k
+    other : (k : ℕ) → ((index : ℕ) → stage_of stages k ≡ Held index → index < from) → stage_of stages' k ≡ stage_of stages k
     other k apart =
         ap (λ xs. stage_of xs k) put.stages_are
         ∙ all_at-other stages (drop from members) closing k
@@ -203,27 +133,27 @@ module _ (calls : List (List ℕ)) (stages : List Stage) (members pending : List
         absurd (omega (arith, apart (from + e) (ap (stage_of stages) (sym is ∙ part-at e) ∙ held))))
 
     closed-other : (k : ℕ) → is_closed (stage_of stages k) ≡ true → stage_of stages' k ≡ stage_of stages k
-    closed-other k shut = other k (λ place is. let now = ap is_closed is in absurd (false≢true (sym now ∙ shut)))
+    closed-other k shut = other k (λ index is. let now = ap is_closed is in absurd (false≢true (sym now ∙ shut)))
 
-    held-here : (k place : ℕ) → stage_of stages k ≡ Held place → from ≤ place → stage_of stages' k ≡ closing
-    held-here k place is over =
-        let at = was.place k place is in
-        ap (stage_of stages') (sym at.1) ∙ here place at.0 over
+    held-here : (k index : ℕ) → stage_of stages k ≡ Held index → from ≤ index → stage_of stages' k ≡ closing
+    held-here k index is over =
+        let at = was.index k index is in
+        ap (stage_of stages') (sym at.1) ∙ here index at.0 over
 
     -- what is closed now
     inside-closed : (k : ℕ) → IsInside k → is_closed (stage_of stages' k) ≡ true
     inside-closed k (inl shut) = ap is_closed (closed-other k shut) ∙ shut
     inside-closed k (inr it) = ap is_closed (held-here k it.0 it.1 it.2)
 
-    stage-cases : (k : ℕ) → ((place : ℕ) × (stage_of stages k ≡ Held place) × (from ≤ place)) ⊎ (stage_of stages' k ≡ stage_of stages k)
+    stage-cases : (k : ℕ) → ((index : ℕ) × (stage_of stages k ≡ Held index) × (from ≤ index)) ⊎ (stage_of stages' k ≡ stage_of stages k)
     stage-cases k = stage-cases-of (stage_of stages k) refl where
-      stage-cases-of : (stage : Stage) → stage_of stages k ≡ stage → ((place : ℕ) × (stage_of stages k ≡ Held place) × (from ≤ place)) ⊎ (stage_of stages' k ≡ stage_of stages k)
-      stage-cases-of New is = inr (other k (λ place held. cc))
-      stage-cases-of (Closed unit rank) is = inr (other k (λ place held. cc))
-      stage-cases-of (Held place) is =
-          elim (cases_lt place from) [
-            | inl under ↦ inr (other k (λ place' held. let same : place' ≡ place = cc in omega arith))
-            | inr over ↦ inl (place, is, over)
+      stage-cases-of : (stage : Stage) → stage_of stages k ≡ stage → ((index : ℕ) × (stage_of stages k ≡ Held index) × (from ≤ index)) ⊎ (stage_of stages' k ≡ stage_of stages k)
+      stage-cases-of New is = inr (other k (λ index held. cc))
+      stage-cases-of (Closed unit rank) is = inr (other k (λ index held. cc))
+      stage-cases-of (Held index) is =
+          elim (cases_lt index from) [
+            | inl under ↦ inr (other k (λ index' held. let same : index' ≡ index = cc in omega arith))
+            | inr over ↦ inl (index, is, over)
           ]
 
     more-closed : count_by is_closed stages + 1 ≤ count_by is_closed stages'
@@ -254,7 +184,8 @@ module _ (calls : List (List ℕ)) (stages : List Stage) (members pending : List
     group-same : (t : ℕ) (e : Group) → t < n → slice_index_or groups' t e ≡ slice_index_or groups t e
     group-same t e h = get_or-take n groups t e h
 
-    each-group : (P : ℕ → ℕ → Type 0) (e : Group) → ((t : ℕ) → t < length groups → P (slice_index_or groups t e).members_from (slice_index_or groups t e).pending_from) → (t : ℕ) → t < length groups' → P (slice_index_or groups' t e).members_from (slice_index_or groups' t e).pending_from
+    each-group : (P : ℕ → ℕ → Type 0) (e : Group) → ((t : ℕ) → t < length groups → P (slice_index_or groups t e).members_from (slice_index_or groups t e).pending_from) → (t : ℕ) → t < length groups'
+        → P (slice_index_or groups' t e).members_from (slice_index_or groups' t e).pending_from
     each-group P e old t h =
         let inside : t < n = omega (arith, groups-short) in
         let family : Group → Type 0 = λ x. P x.members_from x.pending_from in
@@ -263,15 +194,15 @@ module _ (calls : List (List ℕ)) (stages : List Stage) (members pending : List
     held-low : (a : ℕ) → a < from → stage_of stages' (slice_index members a) ≡ Held a
     held-low a h =
         let is = was.held a (omega (arith, from-inside)) in
-        other (slice_index members a) (λ place held. let same : place ≡ a = cc in omega arith) ∙ is
+        other (slice_index members a) (λ index held. let same : index ≡ a = cc in omega arith) ∙ is
 
-    place-low : (k a : ℕ) → stage_of stages' k ≡ Held a → (a < length members'') × (slice_index members'' a ≡ k)
-    place-low k a h =
+    index-low : (k a : ℕ) → stage_of stages' k ≡ Held a → (a < length members'') × (slice_index members'' a ≡ k)
+    index-low k a h =
         elim (stage-cases k) [
           | inl it ↦ let closing' = held-here k it.0 it.1 it.2 in cc
           | inr same ↦
               let is : stage_of stages k ≡ Held a = sym same ∙ h in
-              let at = was.place k a is in
+              let at = was.index k a is in
               elim (cases_lt a from) [
                 | inl low ↦ (omega (arith, members-short), member-same a low ∙ at.1)
                 | inr over ↦ let closing' = held-here k a is over in cc
@@ -339,28 +270,30 @@ module _ (calls : List (List ℕ)) (stages : List Stage) (members pending : List
           back = λ t e. each-group (λ m p. m ≤ it.caller → p ≤ q) e (λ u l. it.back u e l) t;
         }
 
-    followed-low : (a k : ℕ) → a < from → (is_closed (stage_of stages k) ≡ true) ⊎ (IsPending members pending groups a k ⊎ IsWithin stages groups a k) → (is_closed (stage_of stages' k) ≡ true) ⊎ (IsPending members'' pending groups' a k ⊎ IsWithin stages' groups' a k)
+    followed-low : (a k : ℕ) → a < from → (is_closed (stage_of stages k) ≡ true) ⊎ (IsPending members pending groups a k ⊎ IsWithin stages groups a k)
+        → (is_closed (stage_of stages' k) ≡ true) ⊎ (IsPending members'' pending groups' a k ⊎ IsWithin stages' groups' a k)
     followed-low a k h (inl shut) = inl (inside-closed k (inl shut))
     followed-low a k h (inr (inl it)) =
         inr (inl (record {
-          place = it.place;
+          index = it.index;
           inside = it.inside;
           called = it.called;
-          grouped = λ t e. each-group (λ m q. m ≤ a → q ≤ it.place) e (λ u l. it.grouped u e l) t;
+          grouped = λ t e. each-group (λ m q. m ≤ a → q ≤ it.index) e (λ u l. it.grouped u e l) t;
         }))
     followed-low a k h (inr (inr it)) =
-        elim (cases_lt it.place from) [
+        elim (cases_lt it.index from) [
           | inl low ↦
-              let at = was.place k it.place it.held in
+              let at = was.index k it.index it.held in
               inr (inr (record {
-                place = it.place;
-                held = ap (stage_of stages') (sym at.1) ∙ held-low it.place low;
-                grouped = λ t e. each-group (λ m q. it.place < m → a < m) e (λ u l. it.grouped u e l) t;
+                index = it.index;
+                held = ap (stage_of stages') (sym at.1) ∙ held-low it.index low;
+                grouped = λ t e. each-group (λ m q. it.index < m → a < m) e (λ u l. it.grouped u e l) t;
               }))
-          | inr over ↦ inl (inside-closed k (inr (it.place, it.held, over)))
+          | inr over ↦ inl (inside-closed k (inr (it.index, it.held, over)))
         ]
 
-    followed' : (a k : ℕ) → a < length members'' → Calls calls (slice_index members'' a) k → (is_closed (stage_of stages' k) ≡ true) ⊎ (IsPending members'' pending groups' a k ⊎ IsWithin stages' groups' a k)
+    followed' : (a k : ℕ) → a < length members'' → Calls calls (slice_index members'' a) k
+        → (is_closed (stage_of stages' k) ≡ true) ⊎ (IsPending members'' pending groups' a k ⊎ IsWithin stages' groups' a k)
     followed' a k h called =
         let low : a < from = omega (arith, members-short) in
         let family : ℕ → Type 0 = λ x. Calls calls x k in
@@ -377,7 +310,7 @@ module _ (calls : List (List ℕ)) (stages : List Stage) (members pending : List
           within = subst family name (group-mutual a (from + e) h short over (omega arith));
           least = λ k both.
               let it = group-whole a k h over both in
-              let at = was.place k it.0 it.1 in
+              let at = was.index k it.0 it.1 in
               let f : ℕ = it.0 - from in
               let same : slice_index (drop from members) f ≡ k = part-at f ∙ (ap (slice_index members) (omega (arith, it.2)) ∙ at.1) in
               omega (arith, same, put.least f (omega (arith, part-length, at.0, it.2)));
@@ -387,7 +320,7 @@ module _ (calls : List (List ℕ)) (stages : List Stage) (members pending : List
     leaves-closed : (a k : ℕ) → a < length members → from ≤ a → CallsOut calls (slice_index members a) k → (is_closed (stage_of stages k) ≡ true) × (above (stage_of stages k) ≤ put.rank)
     leaves-closed a k h over leaves =
         let it = group-whole a leaves.caller h over leaves.within in
-        let at = was.place leaves.caller it.0 it.1 in
+        let at = was.index leaves.caller it.0 it.1 in
         let family : ℕ → Type 0 = λ x. Calls calls x k in
         let called = subst family (sym at.1) leaves.called in
         let f : ℕ = it.0 - from in
@@ -395,7 +328,7 @@ module _ (calls : List (List ℕ)) (stages : List Stage) (members pending : List
           elim (inside-callee it.0 k at.0 it.2 called) [
             | inl shut ↦ shut
             | inr inner ↦
-                let there = was.place k inner.0 inner.1 in
+                let there = was.index k inner.0 inner.1 in
                 let both : ℕ → Type 0 = λ x. IsMutual calls (slice_index members a) x in
                 absurd (leaves.outside (subst both there.1 (group-mutual a inner.0 h there.0 over inner.2)))
           ],
@@ -404,12 +337,12 @@ module _ (calls : List (List ℕ)) (stages : List Stage) (members pending : List
 
     above-closed : (stage : Stage) → is_closed stage ≡ true → above stage ≡ rank_in stage + 1
     above-closed New h = cc
-    above-closed (Held place) h = cc
+    above-closed (Held index) h = cc
     above-closed (Closed unit rank) h = refl
 
     above-open : (stage : Stage) → (is_closed stage ≡ true) ⊎ (above stage ≡ 0)
     above-open New = inr refl
-    above-open (Held place) = inr refl
+    above-open (Held index) = inr refl
     above-open (Closed unit rank) = inl refl
 
     tight-is : (a : ℕ) → a < length members → from ≤ a → (put.rank ≡ 0) ⊎ ((k : ℕ) × CallsOut calls (slice_index members a) k × (put.rank ≡ rank_in (stage_of stages' k) + 1))
@@ -459,12 +392,13 @@ module _ (calls : List (List ℕ)) (stages : List Stage) (members pending : List
     closed' k unit rank is =
         elim (stage-cases k) [
           | inl it ↦
-              let at = was.place k it.0 it.1 in
+              let at = was.index k it.0 it.1 in
               let now : Closed put.unit put.rank ≡ Closed unit rank = sym (held-here k it.0 it.1 it.2) ∙ is in
               let unit-same : put.unit ≡ unit = cc in
               let rank-same : put.rank ≡ rank = cc in
               let family : ℕ → ℕ → ℕ → Type 0 = IsClosedAs calls stages' in
-              subst (λ x. family x unit rank) at.1 (subst (λ x. family (slice_index members it.0) x rank) unit-same (subst (λ x. family (slice_index members it.0) put.unit x) rank-same (closed-here it.0 at.0 it.2)))
+              subst (λ x. family x unit rank) at.1
+              (subst (λ x. family (slice_index members it.0) x rank) unit-same (subst (λ x. family (slice_index members it.0) put.unit x) rank-same (closed-here it.0 at.0 it.2)))
           | inr same ↦
               closed-kept calls stages stages' was.closed closed-other (omega (arith, more-closed)) k unit rank (sym same ∙ is)
         ]
@@ -478,7 +412,7 @@ module _ (calls : List (List ℕ)) (stages : List Stage) (members pending : List
           held = λ a h.
               let low : a < from = omega (arith, members-short) in
               ap (stage_of stages') (member-same a low) ∙ held-low a low;
-          place = place-low;
+          index = index-low;
           joined = joined';
           member_end = member_end';
           pending_end = λ t e. each-group (λ m q. q ≤ length pending) e (λ u l. was.pending_end u e l) t;

@@ -13,7 +13,8 @@ use Rattle.call_order.specs.Search.{is_closed, stage_of, IsClosedAs, IsPending, 
 use Rattle.call_order.proofs.ReachLemmas.{reaches-self}
 use Rattle.call_order.proofs.StageLemmas.{closed-kept}
 
-module _ (calls : List (List ℕ)) (stages : List Stage) (members pending : List ℕ) (groups : List Group) (was : IsSearch calls stages members pending groups) (j : ℕ) (inside : j < length calls) (new : stage_of stages j ≡ New) (reached : (a : ℕ) → a < length members → Reaches calls (slice_index members a) j) where
+module _ (calls : List (List ℕ)) (stages : List Stage) (members pending : List ℕ) (groups : List Group) (was : IsSearch calls stages members pending groups) (j : ℕ) (inside : j < length calls)
+    (new : stage_of stages j ≡ New) (reached : (a : ℕ) → a < length members → Reaches calls (slice_index members a) j) where
   abbrev stages' : List Stage
   stages' = slice_set stages j (Held (length members))
 
@@ -56,12 +57,13 @@ module _ (calls : List (List ℕ)) (stages : List Stage) (members pending : List
   stage-other : (k : ℕ) → k ≢ j → stage_of stages' k ≡ stage_of stages k
   stage-other k apart = get_or-set_other stages j k (Held (length members)) New apart
 
-  -- each place is an old one or the last
+  -- each index is an old one or the last
   last-or : {X : Type 0} (xs : List X) (x : X) (i : ℕ) → i < length (xs ++ x ∷ []) → (i < length xs) ⊎ (i ≡ length xs)
   last-or xs x i h = elim (cases_lt i (length xs)) [ inl l ↦ inl l | inr g ↦ inr (omega (arith, length_push xs x)) ]
 
   -- a fact of each group follows from that of the old ones and of the last
-  each-group : (P : ℕ → ℕ → ℕ → Type 0) (d : Group) → ((t : ℕ) → t < length groups → P t (slice_index_or groups t d).members_from (slice_index_or groups t d).pending_from) → P (length groups) (length members) (length pending) → (t : ℕ) → t < length groups' → P t (slice_index_or groups' t d).members_from (slice_index_or groups' t d).pending_from
+  each-group : (P : ℕ → ℕ → ℕ → Type 0) (d : Group) → ((t : ℕ) → t < length groups → P t (slice_index_or groups t d).members_from (slice_index_or groups t d).pending_from)
+      → P (length groups) (length members) (length pending) → (t : ℕ) → t < length groups' → P t (slice_index_or groups' t d).members_from (slice_index_or groups' t d).pending_from
   each-group P d old last t h =
       elim (last-or groups group t h) [
         | inl l ↦
@@ -85,8 +87,8 @@ module _ (calls : List (List ℕ)) (stages : List Stage) (members pending : List
       let family : Group → Type 0 = λ x. b < x.members_from → a < x.members_from in
       subst family (group-new group) (h (length groups) group (omega (arith, length_push groups group)))
 
-  not-held : (k place : ℕ) → stage_of stages k ≡ Held place → k ≢ j
-  not-held k place h e = let here = ap (stage_of stages) e in cc
+  not-held : (k index : ℕ) → stage_of stages k ≡ Held index → k ≢ j
+  not-held k index h e = let here = ap (stage_of stages) e in cc
 
   not-closed : (k : ℕ) → is_closed (stage_of stages k) ≡ true → k ≢ j
   not-closed k h e = let here = ap (λ x. is_closed (stage_of stages x)) e in let open' = ap is_closed new in cc
@@ -100,14 +102,14 @@ module _ (calls : List (List ℕ)) (stages : List Stage) (members pending : List
         | inr e ↦ ap (λ x. stage_of stages' (slice_index members' x)) e ∙ (ap (stage_of stages') member-new ∙ (stage-here ∙ ap Held (sym e)))
       ]
 
-  place : (k a : ℕ) → stage_of stages' k ≡ Held a → (a < length members') × (slice_index members' a ≡ k)
-  place k a h =
+  index : (k a : ℕ) → stage_of stages' k ≡ Held a → (a < length members') × (slice_index members' a ≡ k)
+  index k a h =
       elim (cases_eq k j) [
         | inl e ↦
             let at : a ≡ length members = let here = ap (stage_of stages') e in let there = stage-here in cc in
             (omega (arith, length_push members j), ap (slice_index members') at ∙ (member-new ∙ sym e))
         | inr apart ↦
-            let old = was.place k a (sym (stage-other k apart) ∙ h) in
+            let old = was.index k a (sym (stage-other k apart) ∙ h) in
             (omega (arith, length_push members j, old.0), member-old a old.0 ∙ old.1)
       ]
 
@@ -162,32 +164,34 @@ module _ (calls : List (List ℕ)) (stages : List Stage) (members pending : List
             }
       ]
 
-  followed-old : (a k : ℕ) → a < length members → (is_closed (stage_of stages k) ≡ true) ⊎ (IsPending members pending groups a k ⊎ IsWithin stages groups a k) → (is_closed (stage_of stages' k) ≡ true) ⊎ (IsPending members' pending' groups' a k ⊎ IsWithin stages' groups' a k)
+  followed-old : (a k : ℕ) → a < length members → (is_closed (stage_of stages k) ≡ true) ⊎ (IsPending members pending groups a k ⊎ IsWithin stages groups a k)
+      → (is_closed (stage_of stages' k) ≡ true) ⊎ (IsPending members' pending' groups' a k ⊎ IsWithin stages' groups' a k)
   followed-old a k old (inl shut) = inl (ap is_closed (stage-other k (not-closed k shut)) ∙ shut)
   followed-old a k old (inr (inl it)) =
       inr (inl (record {
-        place = it.place;
+        index = it.index;
         inside = omega (arith, length-append pending row, it.inside);
-        called = pending-old it.place it.inside ∙ it.called;
-        grouped = λ t d. each-group (λ u m q. m ≤ a → q ≤ it.place) d (λ u l. it.grouped u d l) (λ m. absurd (omega arith)) t;
+        called = pending-old it.index it.inside ∙ it.called;
+        grouped = λ t d. each-group (λ u m q. m ≤ a → q ≤ it.index) d (λ u l. it.grouped u d l) (λ m. absurd (omega arith)) t;
       }))
   followed-old a k old (inr (inr it)) =
       inr (inr (record {
-        place = it.place;
-        held = stage-other k (not-held k it.place it.held) ∙ it.held;
-        grouped = λ t d. each-group (λ u m q. it.place < m → a < m) d (λ u l. it.grouped u d l) (λ m. old) t;
+        index = it.index;
+        held = stage-other k (not-held k it.index it.held) ∙ it.held;
+        grouped = λ t d. each-group (λ u m q. it.index < m → a < m) d (λ u l. it.grouped u d l) (λ m. old) t;
       }))
 
   followed-last : (k : ℕ) → Calls calls j k → IsPending members' pending' groups' (length members) k
   followed-last k h =
       record {
-        place = length pending + h.0;
+        index = length pending + h.0;
         inside = omega (arith, length-append pending row, h.1);
         called = pending-new h.0 ∙ (get_or_default row h.0 0 k h.1 ∙ h.2);
         grouped = λ t d. each-group (λ u m q. m ≤ length members → q ≤ length pending + h.0) d (λ u l m. omega (arith, was.pending_end u d l)) (λ m. omega arith) t;
       }
 
-  followed : (a k : ℕ) → a < length members' → Calls calls (slice_index members' a) k → (is_closed (stage_of stages' k) ≡ true) ⊎ (IsPending members' pending' groups' a k ⊎ IsWithin stages' groups' a k)
+  followed : (a k : ℕ) → a < length members' → Calls calls (slice_index members' a) k
+      → (is_closed (stage_of stages' k) ≡ true) ⊎ (IsPending members' pending' groups' a k ⊎ IsWithin stages' groups' a k)
   followed a k h called =
       elim (last-or members j a h) [
         | inl old ↦
@@ -245,7 +249,7 @@ module _ (calls : List (List ℕ)) (stages : List Stage) (members pending : List
       record {
         counted = length-set stages j (Held (length members)) ∙ was.counted;
         held = held;
-        place = place;
+        index = index;
         joined = joined;
         member_end = λ t d. each-group (λ u m q. m < length members') d (λ u l. omega (arith, was.member_end u d l, length_push members j)) (omega (arith, length_push members j)) t;
         pending_end = λ t d. each-group (λ u m q. q ≤ length pending') d (λ u l. omega (arith, was.pending_end u d l, length-append pending row)) (omega (arith, length-append pending row)) t;
@@ -259,7 +263,8 @@ module _ (calls : List (List ℕ)) (stages : List Stage) (members pending : List
       }
 
   -- the same of lists that a call made, where it did not fail
-  pub enter-answer : {T E : Type 0} (result : Result T E) (stages2 : List Stage) (members2 pending2 row2 : List ℕ) (groups2 : List Group) (group2 : Group) → stages2 ≡ stages' → members2 ≡ members' → row2 ≡ row → pending2 ≡ (if is_ok result then pending ++ row2 else pending) → group2 ≡ group → groups2 ≡ groups ++ group2 ∷ [] → OnOk result (IsSearch calls stages2 members2 pending2 groups2)
+  pub enter-answer : {T E : Type 0} (result : Result T E) (stages2 : List Stage) (members2 pending2 row2 : List ℕ) (groups2 : List Group) (group2 : Group) → stages2 ≡ stages' → members2 ≡ members'
+      → row2 ≡ row → pending2 ≡ (if is_ok result then pending ++ row2 else pending) → group2 ≡ group → groups2 ≡ groups ++ group2 ∷ [] → OnOk result (IsSearch calls stages2 members2 pending2 groups2)
   enter-answer (Ok value) stages2 members2 pending2 row2 groups2 group2 a b r p e g =
       let family : List Stage → List ℕ → List ℕ → List Group → Type 0 = IsSearch calls in
       subst (λ x. family x members2 pending2 groups2) (sym a)

@@ -9,7 +9,8 @@ use Rattle.call_order.specs.Search.{is_new, is_closed, stage_of, StayEntered, Is
 use Rattle.call_order.proofs.JoinLemmas.{reaches-called, join-keeps, join-before, pop-keeps}
 use Rattle.call_order.proofs.CloseLemmas.{close-keeps, close-entered, close-new}
 
-module _ (calls : List (List ℕ)) (stages : List Stage) (members pending : List ℕ) (groups : List Group) (was : IsSearch calls stages members pending groups) (d : Group) (n : ℕ) (last : length groups ≡ n + 1) (at : d ≡ slice_index_or groups n d) where
+module _ (calls : List (List ℕ)) (stages : List Stage) (members pending : List ℕ) (groups : List Group) (was : IsSearch calls stages members pending groups) (d : Group) (n : ℕ)
+    (last : length groups ≡ n + 1) (at : d ≡ slice_index_or groups n d) where
   pending-at : (slice_index_or groups n d).pending_from ≡ d.pending_from
   pending-at = ap (λ (x : Group). x.pending_from) (sym at)
 
@@ -17,7 +18,8 @@ module _ (calls : List (List ℕ)) (stages : List Stage) (members pending : List
   pub from-held : d.members_from < length members
   from-held = omega (arith, ap (λ (x : Group). x.members_from) at, was.member_end n d (omega arith))
 
-  module _ (done : length pending ≡ d.pending_from) (stages' : List Stage) (members' pending' : List ℕ) (groups' : List Group) (put : ClosesFrom calls stages members d.members_from stages' members') (same : pending' ≡ pending) (popped : groups' ≡ take n groups) where
+  module _ (done : length pending ≡ d.pending_from) (stages' : List Stage) (members' pending' : List ℕ) (groups' : List Group) (put : ClosesFrom calls stages members d.members_from stages' members')
+      (same : pending' ≡ pending) (popped : groups' ≡ take n groups) where
     put' : ClosesFrom calls stages members (slice_index_or groups n d).members_from stages' members'
     put' = let family : Group → Type 0 = λ x. ClosesFrom calls stages members x.members_from stages' members' in subst family at put
 
@@ -56,14 +58,16 @@ module _ (calls : List (List ℕ)) (stages : List Stage) (members pending : List
     pub followed-closed : (p : ℕ) → length pending ≡ p + 1 → is_closed (stage_of stages (slice_index pending p)) ≡ true → IsSearch calls stages members (take p pending) groups
     followed-closed p e shut = pop-keeps calls stages members pending groups was p e (top p e) (inl shut)
 
-    pub followed-held : (p : ℕ) → length pending ≡ p + 1 → (place : ℕ) → stage_of stages (slice_index pending p) ≡ Held place → (count : ℕ) → count ≤ length groups → ((t : ℕ) (e : Group) → count ≤ t → t < length groups → place < (slice_index_or groups t e).members_from) → ((e : Group) → 0 < count → (slice_index_or groups (count - 1) e).members_from ≤ place) → IsSearch calls stages members (take p pending) (take count groups)
-    followed-held p e place is count fewer dropped kept =
+    pub followed-held : (p : ℕ) → length pending ≡ p + 1 → (index : ℕ) → stage_of stages (slice_index pending p) ≡ Held index → (count : ℕ) → count ≤ length groups
+        → ((t : ℕ) (e : Group) → count ≤ t → t < length groups → index < (slice_index_or groups t e).members_from)
+        → ((e : Group) → 0 < count → (slice_index_or groups (count - 1) e).members_from ≤ index) → IsSearch calls stages members (take p pending) (take count groups)
+    followed-held p e index is count fewer dropped kept =
         let short : p < length pending = omega arith in
-        let now = join-keeps calls stages members pending groups was d p short (top p e) place is count fewer dropped kept in
-        let before = join-before calls stages members pending groups was d p short (top p e) place is count fewer dropped kept in
+        let now = join-keeps calls stages members pending groups was d p short (top p e) index is count fewer dropped kept in
+        let before = join-before calls stages members pending groups was d p short (top p e) index is count fewer dropped kept in
         pop-keeps calls stages members pending (take count groups) now p e
         (λ t f h.
         let inside : t < count = omega (arith, length-take-le count groups fewer) in
         let same = ap (λ (x : Group). x.pending_from) (get_or-take count groups t f inside) in
         omega (arith, same, top p e t f (omega arith)))
-        (inr (place, is, before))
+        (inr (index, is, before))

@@ -9,8 +9,9 @@ use Rattle.call_order.specs.Units.{Calls, Reaches}
 use Rattle.call_order.specs.Search.{is_closed, stage_of, IsPending, IsWithin, HasCaller, IsSearch, NotSplit}
 use Rattle.call_order.proofs.ReachLemmas.{reaches-call, reaches-trans}
 
--- the pending call at this place is the last of the last group, and leads from it
-module _ (calls : List (List ℕ)) (stages : List Stage) (members pending : List ℕ) (groups : List Group) (was : IsSearch calls stages members pending groups) (d : Group) (p : ℕ) (last : p < length pending) (top : (t : ℕ) (e : Group) → t < length groups → (slice_index_or groups t e).pending_from ≤ p) where
+-- the pending call at this index is the last of the last group, and leads from it
+module _ (calls : List (List ℕ)) (stages : List Stage) (members pending : List ℕ) (groups : List Group) (was : IsSearch calls stages members pending groups) (d : Group) (p : ℕ)
+    (last : p < length pending) (top : (t : ℕ) (e : Group) → t < length groups → (slice_index_or groups t e).pending_from ≤ p) where
   caller-last : (t : ℕ) (e : Group) → t < length groups → (slice_index_or groups t e).members_from ≤ (was.callers p last).caller
   caller-last t e h = (was.callers p last).from t e h (top t e h)
 
@@ -22,12 +23,14 @@ module _ (calls : List (List ℕ)) (stages : List Stage) (members pending : List
       (was.joined a it.caller h it.inside (λ t e l before. absurd (omega (arith, caller-last t e l))))
       (reaches-call calls (slice_index members it.caller) (slice_index pending p) it.called)
 
-  module _ (place : ℕ) (is_held : stage_of stages (slice_index pending p) ≡ Held place) (count : ℕ) (fewer : count ≤ length groups) (dropped : (t : ℕ) (e : Group) → count ≤ t → t < length groups → place < (slice_index_or groups t e).members_from) (kept : (e : Group) → 0 < count → (slice_index_or groups (count - 1) e).members_from ≤ place) where
+  module _ (index : ℕ) (is_held : stage_of stages (slice_index pending p) ≡ Held index) (count : ℕ) (fewer : count ≤ length groups)
+      (dropped : (t : ℕ) (e : Group) → count ≤ t → t < length groups → index < (slice_index_or groups t e).members_from)
+      (kept : (e : Group) → 0 < count → (slice_index_or groups (count - 1) e).members_from ≤ index) where
     abbrev groups' : List Group
     groups' = take count groups
 
-    here : (place < length members) × (slice_index members place ≡ slice_index pending p)
-    here = was.place (slice_index pending p) place is_held
+    here : (index < length members) × (slice_index members index ≡ slice_index pending p)
+    here = was.index (slice_index pending p) index is_held
 
     some : 0 < count
     some =
@@ -49,13 +52,14 @@ module _ (calls : List (List ℕ)) (stages : List Stage) (members pending : List
     group-default t e f h = ap (λ (x : Group). x.members_from) (get_or_default groups t e f h)
 
     -- a fact of each group is one of each that is kept
-    each-group : (P : ℕ → ℕ → Type 0) (e : Group) → ((t : ℕ) → t < length groups → P (slice_index_or groups t e).members_from (slice_index_or groups t e).pending_from) → (t : ℕ) → t < length groups' → P (slice_index_or groups' t e).members_from (slice_index_or groups' t e).pending_from
+    each-group : (P : ℕ → ℕ → Type 0) (e : Group) → ((t : ℕ) → t < length groups → P (slice_index_or groups t e).members_from (slice_index_or groups t e).pending_from) → (t : ℕ) → t < length groups'
+        → P (slice_index_or groups' t e).members_from (slice_index_or groups' t e).pending_from
     each-group P e old t h =
         let inside : t < count = omega (arith, short) in
         let family : Group → Type 0 = λ x. P x.members_from x.pending_from in
         subst family (sym (group-same t e inside)) (old t (omega arith))
 
-    all-before : (t : ℕ) (e : Group) → t < count → (slice_index_or groups t e).members_from ≤ place
+    all-before : (t : ℕ) (e : Group) → t < count → (slice_index_or groups t e).members_from ≤ index
     all-before t e h =
         elim (cases_lt t (count - 1)) [
           | inl earlier ↦ omega (arith, was.member_order t (count - 1) e earlier (omega arith), kept e some)
@@ -99,7 +103,7 @@ module _ (calls : List (List ℕ)) (stages : List Stage) (members pending : List
               let from : ℕ → Type 0 = λ x. Reaches calls x (slice_index members b) in
               reaches-trans calls (slice_index members a) (slice_index pending p) (slice_index members b) called
               (subst from here.1
-              (was.joined place b here.0 i
+              (was.joined index b here.0 i
               (λ t e l before.
               elim (cases_lt t count) [
                 | inl early ↦ absurd (omega (arith, before-start t e early))
@@ -107,20 +111,21 @@ module _ (calls : List (List ℕ)) (stages : List Stage) (members pending : List
               ])))
         ]
 
-    followed : (a k : ℕ) → (is_closed (stage_of stages k) ≡ true) ⊎ (IsPending members pending groups a k ⊎ IsWithin stages groups a k) → (is_closed (stage_of stages k) ≡ true) ⊎ (IsPending members pending groups' a k ⊎ IsWithin stages groups' a k)
+    followed : (a k : ℕ) → (is_closed (stage_of stages k) ≡ true) ⊎ (IsPending members pending groups a k ⊎ IsWithin stages groups a k)
+        → (is_closed (stage_of stages k) ≡ true) ⊎ (IsPending members pending groups' a k ⊎ IsWithin stages groups' a k)
     followed a k (inl shut) = inl shut
     followed a k (inr (inl it)) =
         inr (inl (record {
-          place = it.place;
+          index = it.index;
           inside = it.inside;
           called = it.called;
-          grouped = λ t e. each-group (λ m q. m ≤ a → q ≤ it.place) e (λ u l. it.grouped u e l) t;
+          grouped = λ t e. each-group (λ m q. m ≤ a → q ≤ it.index) e (λ u l. it.grouped u e l) t;
         }))
     followed a k (inr (inr it)) =
         inr (inr (record {
-          place = it.place;
+          index = it.index;
           held = it.held;
-          grouped = λ t e. each-group (λ m q. it.place < m → a < m) e (λ u l. it.grouped u e l) t;
+          grouped = λ t e. each-group (λ m q. it.index < m → a < m) e (λ u l. it.grouped u e l) t;
         }))
 
     callers : (q : ℕ) → q < length pending → HasCaller calls members pending groups' q
@@ -149,7 +154,7 @@ module _ (calls : List (List ℕ)) (stages : List Stage) (members pending : List
         record {
           counted = was.counted;
           held = was.held;
-          place = was.place;
+          index = was.index;
           joined = joined;
           member_end = λ t e. each-group (λ m q. m < length members) e (λ u l. was.member_end u e l) t;
           pending_end = λ t e. each-group (λ m q. q ≤ length pending) e (λ u l. was.pending_end u e l) t;
@@ -162,13 +167,16 @@ module _ (calls : List (List ℕ)) (stages : List Stage) (members pending : List
           closed = was.closed;
         }
 
-    pub join-before : (t : ℕ) (e : Group) → t < length groups' → (slice_index_or groups' t e).members_from ≤ place
+    pub join-before : (t : ℕ) (e : Group) → t < length groups' → (slice_index_or groups' t e).members_from ≤ index
     join-before t e h =
         let inside : t < count = omega (arith, short) in
         omega (arith, ap (λ (x : Group). x.members_from) (group-same t e inside), all-before t e inside)
 
 -- the last pending call is followed: the function that it calls is closed, or held in the last group or a later one
-module _ (calls : List (List ℕ)) (stages : List Stage) (members pending : List ℕ) (groups : List Group) (was : IsSearch calls stages members pending groups) (p : ℕ) (last : length pending ≡ p + 1) (room : (t : ℕ) (e : Group) → t < length groups → (slice_index_or groups t e).pending_from ≤ p) (settled : (is_closed (stage_of stages (slice_index pending p)) ≡ true) ⊎ ((place : ℕ) × (stage_of stages (slice_index pending p) ≡ Held place) × ((t : ℕ) (e : Group) → t < length groups → (slice_index_or groups t e).members_from ≤ place))) where
+module _ (calls : List (List ℕ)) (stages : List Stage) (members pending : List ℕ) (groups : List Group) (was : IsSearch calls stages members pending groups) (p : ℕ) (last : length pending ≡ p + 1)
+    (room : (t : ℕ) (e : Group) → t < length groups → (slice_index_or groups t e).pending_from ≤ p)
+    (settled : (is_closed (stage_of stages (slice_index pending p)) ≡ true)
+    ⊎ ((index : ℕ) × (stage_of stages (slice_index pending p) ≡ Held index) × ((t : ℕ) (e : Group) → t < length groups → (slice_index_or groups t e).members_from ≤ index))) where
   abbrev pending' : List ℕ
   pending' = take p pending
 
@@ -195,18 +203,19 @@ module _ (calls : List (List ℕ)) (stages : List Stage) (members pending : List
   pop-last a =
       elim settled [
         | inl shut ↦ inl shut
-        | inr it ↦ inr (inr (record { place = it.0; held = it.1; grouped = λ t e l before. absurd (omega (arith, it.2 t e l)) }))
+        | inr it ↦ inr (inr (record { index = it.0; held = it.1; grouped = λ t e l before. absurd (omega (arith, it.2 t e l)) }))
       ]
 
-  pop-followed : (a k : ℕ) → (is_closed (stage_of stages k) ≡ true) ⊎ (IsPending members pending groups a k ⊎ IsWithin stages groups a k) → (is_closed (stage_of stages k) ≡ true) ⊎ (IsPending members pending' groups a k ⊎ IsWithin stages groups a k)
+  pop-followed : (a k : ℕ) → (is_closed (stage_of stages k) ≡ true) ⊎ (IsPending members pending groups a k ⊎ IsWithin stages groups a k)
+      → (is_closed (stage_of stages k) ≡ true) ⊎ (IsPending members pending' groups a k ⊎ IsWithin stages groups a k)
   pop-followed a k (inl shut) = inl shut
   pop-followed a k (inr (inr it)) = inr (inr it)
   pop-followed a k (inr (inl it)) =
-      elim (cases_lt it.place p) [
+      elim (cases_lt it.index p) [
         | inl early ↦
-            inr (inl (record { place = it.place; inside = omega (arith, pending-short); called = pending-same it.place early ∙ it.called; grouped = it.grouped }))
+            inr (inl (record { index = it.index; inside = omega (arith, pending-short); called = pending-same it.index early ∙ it.called; grouped = it.grouped }))
         | inr late ↦
-            let at : it.place ≡ p = omega (arith, it.inside) in
+            let at : it.index ≡ p = omega (arith, it.inside) in
             let family : ℕ → Type 0 = λ x. (is_closed (stage_of stages x) ≡ true) ⊎ (IsPending members pending' groups a x ⊎ IsWithin stages groups a x) in
             subst family (ap (slice_index pending) (sym at) ∙ it.called) (pop-last a)
       ]
@@ -216,7 +225,7 @@ module _ (calls : List (List ℕ)) (stages : List Stage) (members pending : List
       record {
         counted = was.counted;
         held = was.held;
-        place = was.place;
+        index = was.index;
         joined = was.joined;
         member_end = was.member_end;
         pending_end = λ t e h. omega (arith, pending-short, room t e h);

@@ -50,7 +50,8 @@ rank-same-next calls r s known j of_r of_s below =
           ]
     ]
 
-rank-same : (calls : List (List ℕ)) (r s : ℕ → ℕ) → AllKnown calls → ((j : ℕ) → j < length calls → IsRankOf calls r j) → ((j : ℕ) → j < length calls → IsRankOf calls s j) → (n j : ℕ) → j < length calls → r j < n → r j ≡ s j
+rank-same : (calls : List (List ℕ)) (r s : ℕ → ℕ) → AllKnown calls → ((j : ℕ) → j < length calls → IsRankOf calls r j) → ((j : ℕ) → j < length calls → IsRankOf calls s j) → (n j : ℕ)
+    → j < length calls → r j < n → r j ≡ s j
 rank-same calls r s known of_r of_s zero j inside small = absurd (omega arith)
 rank-same calls r s known of_r of_s (suc n) j inside small =
     rank-same-next calls r s known j (of_r j inside) (of_s j inside)

@@ -1,8 +1,9 @@
-pub mod ReachLemmas
-pub mod LawsLemmas
-pub mod StageLemmas
-pub mod EnterLemmas
-pub mod JoinLemmas
-pub mod CloseLemmas
-pub mod FollowLemmas
-pub mod UnitsLemmas
+mod AllAtLemmas
+mod CloseLemmas
+mod EnterLemmas
+mod FollowLemmas
+mod JoinLemmas
+mod LawsLemmas
+mod ReachLemmas
+mod StageLemmas
+mod UnitsLemmas

@@ -11,7 +11,7 @@ use Rattle.call_order.proofs.ReachLemmas.{reaches-keeps}
 
 pub closed-parts : (stage : Stage) → is_closed stage ≡ true → (unit : ℕ) × (rank : ℕ) × (stage ≡ Closed unit rank)
 closed-parts New h = cc
-closed-parts (Held place) h = cc
+closed-parts (Held index) h = cc
 closed-parts (Closed unit rank) h = (unit, rank, refl)
 
 pub closed-from : (stage : Stage) (unit rank : ℕ) → stage ≡ Closed unit rank → is_closed stage ≡ true
@@ -31,14 +31,17 @@ pub row-is : {A : Type 0} → (calls : List (Vec ℕ A)) (j : ℕ) (row : Vec �
 row-is calls j row inside is = get_or-map (λ callees. callees.items) calls j row [] inside ∙ ap (λ callees. callees.items) is
 
 -- closed functions call closed functions alone, and so on
-pub closed-onward : (calls : List (List ℕ)) (stages : List Stage) → ((j unit rank : ℕ) → stage_of stages j ≡ Closed unit rank → IsClosedAs calls stages j unit rank) → (j k : ℕ) → Reaches calls j k → is_closed (stage_of stages j) ≡ true → is_closed (stage_of stages k) ≡ true
+pub closed-onward : (calls : List (List ℕ)) (stages : List Stage) → ((j unit rank : ℕ) → stage_of stages j ≡ Closed unit rank → IsClosedAs calls stages j unit rank) → (j k : ℕ) → Reaches calls j k
+    → is_closed (stage_of stages j) ≡ true → is_closed (stage_of stages k) ≡ true
 closed-onward calls stages closed j k there h =
     reaches-keeps calls (λ x. is_closed (stage_of stages x) ≡ true)
     (λ x y shut called. let parts = closed-parts (stage_of stages x) shut in (closed x parts.0 parts.1 parts.2).onward y called)
     j k there h
 
 -- what is closed stays so while no closed function changes
-pub closed-kept : (calls : List (List ℕ)) (old new : List Stage) → ((j unit rank : ℕ) → stage_of old j ≡ Closed unit rank → IsClosedAs calls old j unit rank) → ((j : ℕ) → is_closed (stage_of old j) ≡ true → stage_of new j ≡ stage_of old j) → count_by is_closed old ≤ count_by is_closed new → (j unit rank : ℕ) → stage_of old j ≡ Closed unit rank → IsClosedAs calls new j unit rank
+pub closed-kept : (calls : List (List ℕ)) (old new : List Stage) → ((j unit rank : ℕ) → stage_of old j ≡ Closed unit rank → IsClosedAs calls old j unit rank)
+    → ((j : ℕ) → is_closed (stage_of old j) ≡ true → stage_of new j ≡ stage_of old j) → count_by is_closed old ≤ count_by is_closed new → (j unit rank : ℕ) → stage_of old j ≡ Closed unit rank
+    → IsClosedAs calls new j unit rank
 closed-kept calls old new closed same more j unit rank is =
     let was = closed j unit rank is in
     let out : (k : ℕ) → CallsOut calls j k → stage_of new k ≡ stage_of old k = λ k leaves.
@@ -57,14 +60,16 @@ pub max-steps : (m n top : ℕ) → top ≡ max m n → (m ≤ top) × (n ≤ to
 max-steps m n top e = (omega arith, omega arith, elim (cases_lt m n) [ inl below ↦ inr (omega arith) | inr over ↦ inl (omega arith) ])
 
 -- a call of a function is one of its row
-pub row-calls : {A : Type 0} → (calls : List (Vec ℕ A)) (j : ℕ) (row : Vec ℕ A) (items : List ℕ) → j < length calls → row ≡ slice_index_or calls j row → items ≡ row.items → (k : ℕ) → (Contains items k → Calls (call_lists calls) j k) × (Calls (call_lists calls) j k → Contains items k)
+pub row-calls : {A : Type 0} → (calls : List (Vec ℕ A)) (j : ℕ) (row : Vec ℕ A) (items : List ℕ) → j < length calls → row ≡ slice_index_or calls j row → items ≡ row.items → (k : ℕ)
+    → (Contains items k → Calls (call_lists calls) j k) × (Calls (call_lists calls) j k → Contains items k)
 row-calls calls j row items inside is value k =
     let same : slice_index_or (call_lists calls) j [] ≡ items = row-is calls j row inside (sym is) ∙ sym value in
     let family : List ℕ → Type 0 = λ x. Contains x k in
     (subst family (sym same), subst family same)
 
 -- ranks are small
-pub above-small : (calls : List (List ℕ)) (stages : List Stage) → ((j unit rank : ℕ) → stage_of stages j ≡ Closed unit rank → IsClosedAs calls stages j unit rank) → (stage : Stage) (k : ℕ) → stage_of stages k ≡ stage → above stage ≤ count_by is_closed stages
+pub above-small : (calls : List (List ℕ)) (stages : List Stage) → ((j unit rank : ℕ) → stage_of stages j ≡ Closed unit rank → IsClosedAs calls stages j unit rank) → (stage : Stage) (k : ℕ)
+    → stage_of stages k ≡ stage → above stage ≤ count_by is_closed stages
 above-small calls stages closed New k is = omega arith
-above-small calls stages closed (Held place) k is = omega arith
+above-small calls stages closed (Held index) k is = omega arith
 above-small calls stages closed (Closed unit rank) k is = omega (arith, (closed k unit rank is).small)

@@ -17,10 +17,11 @@ map-at f none stages k =
           get_or_past (map f stages) k 0 (omega (arith, length-map stages f)) ∙ (sym none ∙ ap f (sym (get_or_past stages k New past)))
     ]
 
-module _ (calls : List (List ℕ)) (stages : List Stage) (members pending : List ℕ) (groups : List Group) (was : IsSearch calls stages members pending groups) (idle : length groups ≡ 0) (entered : (k : ℕ) → k < length calls → stage_of stages k ≢ New) where
+module _ (calls : List (List ℕ)) (stages : List Stage) (members pending : List ℕ) (groups : List Group) (was : IsSearch calls stages members pending groups) (idle : length groups ≡ 0)
+    (entered : (k : ℕ) → k < length calls → stage_of stages k ≢ New) where
   closed-of : (k : ℕ) (stage : Stage) → stage_of stages k ≡ stage → stage ≢ New → is_closed stage ≡ true
   closed-of k New is apart = absurd (apart refl)
-  closed-of k (Held place) is apart = absurd (omega (arith, (was.place k place is).0, was.empty idle))
+  closed-of k (Held index) is apart = absurd (omega (arith, (was.index k index is).0, was.empty idle))
   closed-of k (Closed unit rank) is apart = refl
 
   parts : (k : ℕ) → k < length calls → (unit : ℕ) × (rank : ℕ) × (stage_of stages k ≡ Closed unit rank)

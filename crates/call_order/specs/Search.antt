@@ -8,30 +8,30 @@ use Rattle.call_order.specs.Units.{Calls, Reaches, IsUnitOf, CallsOut}
 
 abbrev pub is_new : Stage → Bool
 is_new New = true
-is_new (Held place) = false
+is_new (Held index) = false
 is_new (Closed unit rank) = false
 
 abbrev pub is_closed : Stage → Bool
 is_closed New = false
-is_closed (Held place) = false
+is_closed (Held index) = false
 is_closed (Closed unit rank) = true
 
 -- the unit of a closed function
 abbrev pub unit_in : Stage → ℕ
 unit_in New = 0
-unit_in (Held place) = 0
+unit_in (Held index) = 0
 unit_in (Closed unit rank) = unit
 
 -- the rank of a closed function
 abbrev pub rank_in : Stage → ℕ
 rank_in New = 0
-rank_in (Held place) = 0
+rank_in (Held index) = 0
 rank_in (Closed unit rank) = rank
 
 -- the least rank above that of a closed function
 abbrev pub above : Stage → ℕ
 above New = 0
-above (Held place) = 0
+above (Held index) = 0
 above (Closed unit rank) = rank + 1
 
 -- the stage of a function
@@ -59,33 +59,33 @@ pub record IsClosedAs (calls : List (List ℕ)) (stages : List Stage) (j unit ra
   pub tight : (rank ≡ 0) ⊎ ((k : ℕ) × CallsOut calls j k × (rank ≡ rank_in (stage_of stages k) + 1))
   pub small : rank < count_by is_closed stages
 
--- the call of k by the function at the place a is yet to be followed
+-- the call of k by the function at the index a is yet to be followed
 pub record IsPending (members pending : List ℕ) (groups : List Group) (a k : ℕ) : Type 0 where
-  pub place : ℕ
-  pub inside : place < length pending
-  pub called : slice_index pending place ≡ k
-  pub grouped : (t : ℕ) (d : Group) → t < length groups → (slice_index_or groups t d).members_from ≤ a → (slice_index_or groups t d).pending_from ≤ place
+  pub index : ℕ
+  pub inside : index < length pending
+  pub called : slice_index pending index ≡ k
+  pub grouped : (t : ℕ) (d : Group) → t < length groups → (slice_index_or groups t d).members_from ≤ a → (slice_index_or groups t d).pending_from ≤ index
 
--- k is held in the group of the function at the place a, or in a later one
+-- k is held in the group of the function at the index a, or in a later one
 pub record IsWithin (stages : List Stage) (groups : List Group) (a k : ℕ) : Type 0 where
-  pub place : ℕ
-  pub held : stage_of stages k ≡ Held place
-  pub grouped : NotSplit groups place a
+  pub index : ℕ
+  pub held : stage_of stages k ≡ Held index
+  pub grouped : NotSplit groups index a
 
--- the function that has the pending call at this place
-pub record HasCaller (calls : List (List ℕ)) (members pending : List ℕ) (groups : List Group) (place : ℕ) : Type 0 where
+-- the function that has the pending call at this index
+pub record HasCaller (calls : List (List ℕ)) (members pending : List ℕ) (groups : List Group) (index : ℕ) : Type 0 where
   pub caller : ℕ
   pub inside : caller < length members
-  pub called : Calls calls (slice_index members caller) (slice_index pending place)
-  pub from : (t : ℕ) (d : Group) → t < length groups → (slice_index_or groups t d).pending_from ≤ place → (slice_index_or groups t d).members_from ≤ caller
-  pub back : (t : ℕ) (d : Group) → t < length groups → (slice_index_or groups t d).members_from ≤ caller → (slice_index_or groups t d).pending_from ≤ place
+  pub called : Calls calls (slice_index members caller) (slice_index pending index)
+  pub from : (t : ℕ) (d : Group) → t < length groups → (slice_index_or groups t d).pending_from ≤ index → (slice_index_or groups t d).members_from ≤ caller
+  pub back : (t : ℕ) (d : Group) → t < length groups → (slice_index_or groups t d).members_from ≤ caller → (slice_index_or groups t d).pending_from ≤ index
 
--- The functions that are held stand in groups, one after another: all of a group call each other there and back,
+-- The functions that are held are in groups, one after another: all of a group call each other there and back,
 -- and calls lead from each group to the next.
 pub record IsSearch (calls : List (List ℕ)) (stages : List Stage) (members pending : List ℕ) (groups : List Group) : Type 0 where
   pub counted : length stages ≡ length calls
   pub held : (a : ℕ) → a < length members → stage_of stages (slice_index members a) ≡ Held a
-  pub place : (j a : ℕ) → stage_of stages j ≡ Held a → (a < length members) × (slice_index members a ≡ j)
+  pub index : (j a : ℕ) → stage_of stages j ≡ Held a → (a < length members) × (slice_index members a ≡ j)
   pub joined : (a b : ℕ) → a < length members → b < length members → NotSplit groups b a → Reaches calls (slice_index members a) (slice_index members b)
   pub member_end : (t : ℕ) (d : Group) → t < length groups → (slice_index_or groups t d).members_from < length members
   pub pending_end : (t : ℕ) (d : Group) → t < length groups → (slice_index_or groups t d).pending_from ≤ length pending
@@ -93,11 +93,11 @@ pub record IsSearch (calls : List (List ℕ)) (stages : List Stage) (members pen
   pub pending_order : (t u : ℕ) (d : Group) → t ≤ u → u < length groups → (slice_index_or groups t d).pending_from ≤ (slice_index_or groups u d).pending_from
   pub first : (d : Group) → 0 < length groups → (slice_index_or groups 0 d).members_from ≡ 0
   pub empty : length groups ≡ 0 → length members ≡ 0
-  pub callers : (place : ℕ) → place < length pending → HasCaller calls members pending groups place
+  pub callers : (index : ℕ) → index < length pending → HasCaller calls members pending groups index
   pub followed : (a k : ℕ) → a < length members → Calls calls (slice_index members a) k → (is_closed (stage_of stages k) ≡ true) ⊎ (IsPending members pending groups a k ⊎ IsWithin stages groups a k)
   pub closed : (j unit rank : ℕ) → stage_of stages j ≡ Closed unit rank → IsClosedAs calls stages j unit rank
 
--- the functions from a place on are closed, as a unit that calls closed functions alone
+-- the functions from an index on are closed, as a unit that calls closed functions alone
 pub record ClosesFrom (calls : List (List ℕ)) (stages : List Stage) (members : List ℕ) (from : ℕ) (stages' : List Stage) (members' : List ℕ) : Type 0 where
   pub unit : ℕ
   pub rank : ℕ

@@ -1,5 +1,5 @@
 -- Units of functions that call each other, and their ranks. `calls` has a list for each function: the functions that
--- it calls. A function is named by its place.
+-- it calls. A function is named by its index.
 use Rattle.std.specs.Prelude.{◌≡◌, ℕ, ◌+◌, ◌<◌, ◌≤◌, ◌⊎◌, List, [], ◌∷◌, length, map, slice_index, slice_index_or, Contains}
 use Rattle.std.specs.declared.vec.Vec.{Vec}
 

@@ -1,16 +1,16 @@
-//! Which functions call each other there and back, and how far each stands above those that it calls. It stands on
-//! std alone. `units` gives exactly the units and ranks that specs/Units.antt defines by paths of calls, in time linear
-//! in functions and calls, and without recursion.
+//! Which functions call each other, directly or through others, and the rank of each above those
+//! that it calls. Of the repository it stands on `no_memory` alone. Promise: `units` gives exactly
+//! the units and ranks that specs/Units.antt defines by paths of calls. No contract says that it
+//! takes time and memory linear in functions and calls, and does not recurse.
 #![tactic(auto)]
 
 mod answer;
 mod finding;
+mod known;
 pub mod laws;
 mod search;
 mod stages;
 
-pub use answer::{NoMemory, Units};
+pub use answer::Units;
 pub use finding::units;
-
-#[cfg(test)]
-mod tests;
+pub use known::all_known;

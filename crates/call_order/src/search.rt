@@ -1,5 +1,6 @@
-// A search in depth that keeps the functions of the path it is on in groups, each of which is known to call itself
-// there and back. A call that leads back into an earlier group joins all groups from there on.
+// A search in depth that keeps the functions of the path it is on in groups, each of which is known
+// to call itself there and back. A call that leads back into an earlier group joins all groups from
+// there on.
 ghost use Rattle.std.specs.Prelude.{◌≡◌, ◌≢◌, ℕ, ◌+◌, ◌-◌, ◌<◌, ◌≤◌, ◌^◌, ◌⊎◌, List, length, take, drop, IfSome, IfNone, IfOk, OnOk, slice_index, slice_index_or, vec_len};
 ghost use Rattle.call_order.specs.Units.{call_lists, AllKnown, Calls, Reaches};
 ghost use Rattle.call_order.specs.Search.{above, stage_of};
@@ -15,7 +16,8 @@ pub(crate) struct Group {
     pending_from: usize,
 }
 
-/// The stage of each function, the functions that are held, their calls that are yet to be followed, and the groups.
+/// The stage of each function, the functions that are held, their calls that are yet to be
+/// followed, and the groups.
 #[derive(Drop)]
 pub(crate) struct Search {
     pub(crate) stages: Vec<Stage>,
@@ -24,17 +26,18 @@ pub(crate) struct Search {
     groups: Vec<Group>,
 }
 
-// Drops the groups that begin above this place.
-fn join(groups: &mut Vec<Group>, place: usize)
+// Drops the groups that begin above this index.
+fn join(groups: &mut Vec<Group>, index: usize)
     ensures front { groups.new.items ≡ take (length groups.new.items) groups.old.items }
     ensures fewer { length groups.new.items ≤ length groups.old.items }
-    ensures dropped { (t : ℕ) (d : Group) → length groups.new.items ≤ t → t < length groups.old.items
-        → place < (slice_index_or groups.old.items t d).members_from }
+    ensures dropped { (t : ℕ) (d : Group) → length groups.new.items ≤ t
+        → t < length groups.old.items
+        → index < (slice_index_or groups.old.items t d).members_from }
     ensures kept { (d : Group) → 0 < length groups.new.items
-        → (slice_index_or groups.old.items (length groups.new.items - 1) d).members_from ≤ place }
+        → (slice_index_or groups.old.items (length groups.new.items - 1) d).members_from ≤ index }
 {
     while let Some(group) = groups.last() {
-        if group.members_from <= place {
+        if group.members_from <= index {
             break;
         }
         groups.pop();
@@ -43,15 +46,19 @@ fn join(groups: &mut Vec<Group>, place: usize)
 
 // The rank of functions that are a unit, where the other functions that they call are closed.
 fn rank_of(calls: &[Vec<u32>], stages: &[Stage], members: &[u32]) -> u32
-    requires inside { (a : ℕ) → a < length members.now → slice_index members.now a < length calls.now }
+    requires inside { (a : ℕ) → a < length members.now
+        → slice_index members.now a < length calls.now }
     requires known { (a k : ℕ) → a < length members.now
         → Calls (call_lists calls.now) (slice_index members.now a) k → k < length stages.now }
     requires small { (a k : ℕ) → a < length members.now
-        → Calls (call_lists calls.now) (slice_index members.now a) k → above (stage_of stages.now k) < 2 ^ 32 }
+        → Calls (call_lists calls.now) (slice_index members.now a) k
+        → above (stage_of stages.now k) < 2 ^ 32 }
     ensures above { (a k : ℕ) → a < length members.now
-        → Calls (call_lists calls.now) (slice_index members.now a) k → above (stage_of stages.now k) ≤ result }
+        → Calls (call_lists calls.now) (slice_index members.now a) k
+        → above (stage_of stages.now k) ≤ result }
     ensures tight { (result ≡ 0)
-        ⊎ ((a : ℕ) × (k : ℕ) × (a < length members.now) × Calls (call_lists calls.now) (slice_index members.now a) k
+        ⊎ ((a : ℕ) × (k : ℕ) × (a < length members.now)
+        × Calls (call_lists calls.now) (slice_index members.now a) k
         × (result ≡ above (stage_of stages.now k))) }
 {
     let mut rank = 0;
@@ -64,11 +71,12 @@ fn rank_of(calls: &[Vec<u32>], stages: &[Stage], members: &[u32]) -> u32
 impl Search {
     ghost use Rattle.call_order.specs.Search.{IsSearchOf, ClosesFrom, StayEntered, new_count, work_left};
 
-    /// A search that has entered none of so many functions.
+    /// A search that has entered none of this many functions.
     pub(crate) fn new(alloc: Global, count: usize) -> Result<Self, AllocError>
         ensures new { IfOk result (λ search. (j : ℕ) → stage_of search.stages.items j ≡ Stage.New) }
         ensures idle { IfOk result (λ search. vec_len search.groups ≡ 0) }
-        ensures search { (calls : List (List ℕ)) → length calls ≡ count → IfOk result (IsSearchOf calls) }
+        ensures search { (calls : List (List ℕ)) → length calls ≡ count
+            → IfOk result (IsSearchOf calls) }
     {
         Ok(Search {
             stages: vec![in alloc; Stage::New; count]?,
@@ -89,7 +97,10 @@ impl Search {
         ensures entered { OnOk result (stage_of self.new.stages.items function ≢ Stage.New) }
         ensures kept { OnOk result (StayEntered self.old.stages.items self.new.stages.items) }
         ensures fewer { OnOk result (new_count self.new + 1 ≡ new_count self.old) }
-        ensures work { OnOk result (work_left self.new ≤ work_left self.old + length (slice_index_or (call_lists calls.now) function (List.[])) + 1) }
+        ensures work { OnOk result
+            (work_left self.new
+            ≤ work_left self.old + length
+            (slice_index_or (call_lists calls.now) function (List.[])) + 1) }
     {
         self.groups.push(Group {
             members_from: self.members.len(),
@@ -107,7 +118,8 @@ impl Search {
         requires known { AllKnown (call_lists calls.now) }
         requires search { IsSearchOf (call_lists calls.now) self.old }
         requires inside { from < length self.old.members.items }
-        ensures closed { ClosesFrom (call_lists calls.now) self.old.stages.items self.old.members.items from
+        ensures closed { ClosesFrom
+            (call_lists calls.now) self.old.stages.items self.old.members.items from
             self.new.stages.items self.new.members.items }
         ensures pending { self.new.pending.items ≡ self.old.pending.items }
         ensures groups { self.new.groups.items ≡ self.old.groups.items }
@@ -119,8 +131,8 @@ impl Search {
         self.members.truncate(from);
     }
 
-    // Follows one call of the last group, or closes the group where it has none. Gives the function that is called
-    // where that is yet to be entered.
+    // Follows one call of the last group, or closes the group where it has none. Gives the function
+    // that is called where that is yet to be entered.
     fn follow(&mut self, calls: &[Vec<u32>]) -> Option<u32>
         requires few { length calls.now < 2 ^ 32 }
         requires known { AllKnown (call_lists calls.now) }
@@ -132,7 +144,8 @@ impl Search {
         ensures work { IfNone result (work_left self.new < work_left self.old) }
         ensures same { IfSome result (λ _. work_left self.new ≡ work_left self.old) }
         ensures inside { IfSome result (λ function. function < length calls.now) }
-        ensures new { IfSome result (λ function. stage_of self.new.stages.items function ≡ Stage.New) }
+        ensures new { IfSome result
+            (λ function. stage_of self.new.stages.items function ≡ Stage.New) }
         ensures reached { IfSome result (λ function. (a : ℕ) → a < length self.new.members.items
             → Reaches (call_lists calls.now) (slice_index self.new.members.items a) function) }
     {
@@ -145,14 +158,14 @@ impl Search {
         let function = self.pending[self.pending.len() - 1];
         match self.stages[function as usize] {
             Stage::New => return Some(function),
-            Stage::Held(place) => join(&mut self.groups, place),
+            Stage::Held(index) => join(&mut self.groups, index),
             Stage::Closed(_, _) => (),
         }
         self.pending.pop();
         None
     }
 
-    /// Enters a function and all that it leads to, and closes them.
+    /// Enters a function and all that it reaches, and closes them.
     pub(crate) fn explore(&mut self, calls: &[Vec<u32>], root: u32) -> Result<(), AllocError>
         requires few { length calls.now < 2 ^ 32 }
         requires known { AllKnown (call_lists calls.now) }

@@ -7,9 +7,9 @@ ghost use Rattle.call_order.specs.Search.{above, all_at, rank_in, stage_of, unit
 pub(crate) enum Stage {
     /// Not entered yet.
     New,
-    /// Entered, at this place among the functions that are held.
+    /// Entered, at this index among the functions that are held.
     Held(usize),
-    /// All that it leads to is entered, and its unit and rank are known.
+    /// All that it reaches is entered, and its unit and rank are known.
     Closed(u32, u32),
 }
 
@@ -59,13 +59,15 @@ fn above(stage: Stage) -> u32
     }
 }
 
-/// The least rank that is no smaller than `rank` and above those of the closed ones of these functions.
+/// The least rank that is no smaller than `rank` and above those of the closed ones of these
+/// functions.
 pub(crate) fn rank_above(stages: &[Stage], callees: &[u32], rank: u32) -> u32
     requires known { (k : ℕ) → Contains callees.now k → k < length stages.now }
     requires small { (k : ℕ) → Contains callees.now k → above (stage_of stages.now k) < 2 ^ 32 }
     ensures start { rank ≤ result }
     ensures above { (k : ℕ) → Contains callees.now k → above (stage_of stages.now k) ≤ result }
-    ensures tight { (result ≡ rank) ⊎ ((k : ℕ) × Contains callees.now k × (result ≡ above (stage_of stages.now k))) }
+    ensures tight { (result ≡ rank)
+        ⊎ ((k : ℕ) × Contains callees.now k × (result ≡ above (stage_of stages.now k))) }
 {
     let mut top = rank;
     for callee in callees {

@@ -1,20 +1,76 @@
--- Each list of words is read as its row says.
+-- Each list of arguments is read as its row says.
 use Rattle.std.proofs.Common.{refl}
 use Rattle.cc_command.specs.Command.{number_in}
 use Rattle.cc_command.specs.CommandRows.{BuildRows, RunRows, OtherRows, GenRows}
 
 pub build_rows : BuildRows
 unfolding number_in
-build_rows = record { two_names = refl; empty_name = refl; lone_hyphen = refl; hyphens_first = refl; hyphens_between = refl; one_name = refl; three_names = refl; no_name = refl; unknown_option = refl; unknown_letter = refl }
+build_rows = record {
+  two_names = refl;
+  empty_name = refl;
+  lone_hyphen = refl;
+  hyphens_first = refl;
+  hyphens_between = refl;
+  one_name = refl;
+  three_names = refl;
+  no_name = refl;
+  unknown_option = refl;
+  unknown_letter = refl;
+}
 
 pub other_rows : OtherRows
 unfolding number_in
-other_rows = record { nothing = refl; name_alone = refl; hyphens_before = refl; another_case = refl; help_word = refl; help_on_build = refl; help_first = refl; help_last = refl; version_first = refl; help_for_a_name = refl; help_after_hyphens = refl; help_for_a_value = refl; help_and_value = refl; version_last = refl }
+other_rows = record {
+  nothing = refl;
+  name_alone = refl;
+  hyphens_before = refl;
+  another_case = refl;
+  help_alone = refl;
+  help_on_build = refl;
+  help_first = refl;
+  help_last = refl;
+  version_first = refl;
+  help_for_a_name = refl;
+  help_after_hyphens = refl;
+  help_for_a_value = refl;
+  help_and_value = refl;
+  version_last = refl;
+}
 
 pub gen_rows : GenRows
 unfolding number_in
-gen_rows = record { least = refl; greatest = refl; twenty_digits = refl; more_digits = refl; great_number = refl; great_count = refl; no_functions = refl; plus = refl; minus = refl; blank = refl; empty = refl; two_words = refl; four_words = refl }
+gen_rows = record {
+  least = refl;
+  greatest = refl;
+  twenty_digits = refl;
+  more_digits = refl;
+  great_number = refl;
+  great_count = refl;
+  no_functions = refl;
+  plus = refl;
+  minus = refl;
+  blank = refl;
+  empty = refl;
+  two_arguments = refl;
+  four_arguments = refl;
+}
 
 pub run_rows : RunRows
 unfolding number_in
-run_rows = record { no_option = refl; next_word = refl; in_front = refl; equals_sign = refl; greatest = refl; greater = refl; no_steps = refl; no_value = refl; empty_value = refl; hyphens_for_value = refl; option_for_value = refl; twice = refl; cut_short = refl; two_images = refl; no_image = refl }
+run_rows = record {
+  no_option = refl;
+  next_argument = refl;
+  before_the_image = refl;
+  equals_sign = refl;
+  greatest = refl;
+  greater = refl;
+  no_steps = refl;
+  no_value = refl;
+  empty_value = refl;
+  hyphens_for_value = refl;
+  option_for_value = refl;
+  twice = refl;
+  cut_short = refl;
+  two_images = refl;
+  no_image = refl;
+}

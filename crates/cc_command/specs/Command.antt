@@ -1,10 +1,10 @@
 -- The command line: a command, or none.
-use Rattle.std.specs.Prelude.{ℕ, Bool, ◌*◌, ◌+◌, ◌-◌, ◌&&◌, ◌||◌, List, [], ◌∷◌, Option, Some, None, codes, fold, length, nat_le, if◌then◌else◌, option_and_then}
-use Rattle.std.specs.List.{list_all, list_any}
-use Rattle.std.specs.Str.{bytes_eq}
-use Rattle.cc_command.specs.Parts.{Text, Parts, parts, value_of}
+use Rattle.std.specs.Prelude.{ℕ, Bool, ◌*◌, ◌+◌, ◌-◌, ◌&&◌, List, [], ◌∷◌, Option, Some, None, codes, fold, length, nat_le, if◌then◌else◌, option_map}
+use Rattle.std.specs.List.{list_all}
+use Rattle.cc_command.specs.ParsedArguments.{Text}
+use Rattle.cc_command.specs.Forms.{Form, OptionForm, Value, text, number, command_among}
 
--- what the words ask for; names are the bytes of their text
+-- what the arguments ask for; names are the bytes of their text
 pub data Command : Type 0 where
   -- compile the source of the first name to the image of the second
   build : List ℕ → List ℕ → Command
@@ -12,6 +12,8 @@ pub data Command : Type 0 where
   run : List ℕ → (steps : ℕ) → Command
   -- write the generated program of this many functions, whose draws begin with a number, to the file of this name
   generate : (start functions : ℕ) → List ℕ → Command
+
+-- ---- numbers
 
 abbrev pub is_digit : ℕ → Bool
 is_digit b = nat_le 48 b && nat_le b 57
@@ -22,77 +24,71 @@ digits_value digits = fold (λ n b. n * 10 + (b - 48)) 0 digits
 
 -- 1 to 20 decimal digits
 abbrev pub is_number : List ℕ → Bool
-is_number text = nat_le 1 (length text) && (nat_le (length text) 20 && list_all is_digit text)
+is_number a = nat_le 1 (length a) && (nat_le (length a) 20 && list_all is_digit a)
 
--- the number that the text gives, where it is in this range
+-- the number that the argument gives, where it is in this range
 unfoldable pub number_in : (least most : ℕ) → List ℕ → Option ℕ
-number_in least most text =
-    if is_number text && (nat_le least (digits_value text) && nat_le (digits_value text) most) then Some (digits_value text) else None
+number_in least most a =
+    if is_number a && (nat_le least (digits_value a) && nat_le (digits_value a) most) then Some (digits_value a) else None
 
-infixl 10 ◌>>=◌
-abbrev pub ◌>>=◌ : {A B : Type 0} → Option A → (A → Option B) → Option B
-o >>= f = option_and_then f o
+-- ---- the commands
 
--- ---- each command by the words behind its name
+-- an argument whose value is a text, and one whose value is a number in a range
+abbrev pub read_text : Text → Option Value
+read_text a = Some (text a)
+
+abbrev pub read_number : (least most : ℕ) → Text → Option Value
+read_number least most a = option_map number (number_in least most a)
 
 -- `build IN OUT`
-abbrev pub build_with : List Text → Option Command
-build_with (source ∷ image ∷ []) = Some (build source image)
-build_with _ = None
+abbrev pub build_of : List Value → Option Command
+build_of (text source ∷ text image ∷ []) = Some (build source image)
+build_of _ = None
 
-abbrev pub build_of : Parts → Option Command
-build_of p = build_with p.words
+abbrev pub build_form : Form Command
+build_form = record {
+  name = codes "build";
+  positionals = record { name = codes "IN"; read = read_text } ∷ record { name = codes "OUT"; read = read_text } ∷ [];
+  options = [];
+  command = build_of;
+}
 
--- How many instructions a run may have: 1 to 10^12, and 10^9 where it is not said.
-abbrev pub steps_of : Option Text → Option ℕ
-steps_of None = Some 1000000000
-steps_of (Some text) = number_in 1 1000000000000 text
+-- `run IMG [--steps N]`, N from 1 to 10^12, and 10^9 where it is not given
+abbrev pub run_of : List Value → Option Command
+run_of (text image ∷ number steps ∷ []) = Some (run image steps)
+run_of _ = None
 
--- `run IMG [--steps N]`
-abbrev pub run_with : List Text → Option ℕ → Option Command
-run_with (image ∷ []) steps = do
-  count ← steps
-  Some (run image count)
-run_with _ steps = None
+abbrev pub steps_option : OptionForm
+steps_option = record { name = codes "steps"; read = read_number 1 1000000000000; default = number 1000000000 }
 
-abbrev pub run_of : Parts → Option Command
-run_of p = option_and_then (λ steps. run_with p.words (steps_of steps)) (value_of (codes "steps") p.options)
+abbrev pub run_form : Form Command
+run_form = record {
+  name = codes "run";
+  positionals = record { name = codes "IMG"; read = read_text } ∷ [];
+  options = steps_option ∷ [];
+  command = run_of;
+}
 
 -- `gen NUMBER COUNT OUT`
-abbrev pub generate_with : List Text → Option Command
-generate_with (number ∷ count ∷ out ∷ []) = do
-  start ← number_in 0 4294967295 number
-  functions ← number_in 1 511 count
-  Some (generate start functions out)
-generate_with _ = None
+abbrev pub generate_of : List Value → Option Command
+generate_of (number start ∷ number functions ∷ text out ∷ []) = Some (generate start functions out)
+generate_of _ = None
 
-abbrev pub generate_of : Parts → Option Command
-generate_of p = generate_with p.words
+abbrev pub generate_form : Form Command
+generate_form = record {
+  name = codes "gen";
+  positionals =
+      record { name = codes "NUMBER"; read = read_number 0 4294967295 }
+      ∷ record { name = codes "COUNT"; read = read_number 1 511 }
+      ∷ record { name = codes "OUT"; read = read_text }
+      ∷ [];
+  options = [];
+  command = generate_of;
+}
 
--- ---- the command line
+abbrev pub forms : List (Form Command)
+forms = build_form ∷ run_form ∷ generate_form ∷ []
 
--- the word asks for help or for the version
-abbrev pub asks_for_help : Text → Bool
-asks_for_help w =
-    bytes_eq w (codes "help")
-    || (bytes_eq w (codes "--help") || (bytes_eq w (codes "-h") || (bytes_eq w (codes "--version") || bytes_eq w (codes "-V"))))
-
--- the command of this name, with the words behind it
-abbrev pub command_named : Text → List Text → Option Command
-command_named name words =
-    if bytes_eq name (codes "build") then option_and_then build_of (parts [] None words)
-    else if bytes_eq name (codes "run") then option_and_then run_of (parts (codes "steps" ∷ []) None words)
-    else if bytes_eq name (codes "gen") then option_and_then generate_of (parts [] None words)
-    else None
-
-abbrev pub command_after : List Text → Option Command
-command_after [] = None
-command_after (name ∷ words) = command_named name words
-
-abbrev pub command_without_help : List Text → Option Command
-command_without_help words = if list_any asks_for_help words then None else command_after words
-
--- The command of all words, the program's name first.
+-- The command of all arguments, the program's name first.
 abbrev pub command_of : List Text → Option Command
-command_of [] = None
-command_of (program ∷ words) = command_without_help words
+command_of = command_among forms

@@ -1,12 +1,12 @@
--- Lists of words with their commands.
+-- Lists of arguments with their commands.
 use Rattle.std.specs.Prelude.{◌≡◌, ℕ, List, [], ◌∷◌, Option, Some, None, codes}
 use Rattle.cc_command.specs.Command.{Command, build, run, generate, command_of}
 
--- the command of the words after the program's name
+-- the command of the arguments after the program's name
 abbrev pub command_after_name : List (List ℕ) → Option Command
-command_after_name words = command_of (codes "rvcc" ∷ words)
+command_after_name arguments = command_of (codes "rvcc" ∷ arguments)
 
--- how many words there are, and what a word looks like
+-- how many arguments there are, and what an argument looks like
 pub record BuildRows : Type 0 where
   pub two_names : command_after_name (codes "build" ∷ codes "a" ∷ codes "b" ∷ []) ≡ Some (build (codes "a") (codes "b"))
   pub empty_name : command_after_name (codes "build" ∷ [] ∷ codes "b" ∷ []) ≡ Some (build [] (codes "b"))
@@ -19,13 +19,13 @@ pub record BuildRows : Type 0 where
   pub unknown_option : command_after_name (codes "build" ∷ codes "a" ∷ codes "b" ∷ codes "--work" ∷ codes "2" ∷ []) ≡ None
   pub unknown_letter : command_after_name (codes "build" ∷ codes "-o" ∷ codes "a" ∷ codes "b" ∷ []) ≡ None
 
--- words that are no command, or ask for help or a version
+-- arguments that are no command, or ask for help or a version
 pub record OtherRows : Type 0 where
   pub nothing : command_of [] ≡ None
   pub name_alone : command_after_name [] ≡ None
   pub hyphens_before : command_after_name (codes "--" ∷ codes "build" ∷ codes "a" ∷ codes "b" ∷ []) ≡ None
   pub another_case : command_after_name (codes "Build" ∷ codes "a" ∷ codes "b" ∷ []) ≡ None
-  pub help_word : command_after_name (codes "help" ∷ []) ≡ None
+  pub help_alone : command_after_name (codes "help" ∷ []) ≡ None
   pub help_on_build : command_after_name (codes "help" ∷ codes "build" ∷ []) ≡ None
   pub help_first : command_after_name (codes "--help" ∷ []) ≡ None
   pub help_last : command_after_name (codes "build" ∷ codes "a" ∷ codes "b" ∷ codes "-h" ∷ []) ≡ None
@@ -39,8 +39,8 @@ pub record OtherRows : Type 0 where
 -- the option of `run`
 pub record RunRows : Type 0 where
   pub no_option : command_after_name (codes "run" ∷ codes "a" ∷ []) ≡ Some (run (codes "a") 1000000000)
-  pub next_word : command_after_name (codes "run" ∷ codes "a" ∷ codes "--steps" ∷ codes "23" ∷ []) ≡ Some (run (codes "a") 23)
-  pub in_front : command_after_name (codes "run" ∷ codes "--steps" ∷ codes "023" ∷ codes "a" ∷ []) ≡ Some (run (codes "a") 23)
+  pub next_argument : command_after_name (codes "run" ∷ codes "a" ∷ codes "--steps" ∷ codes "23" ∷ []) ≡ Some (run (codes "a") 23)
+  pub before_the_image : command_after_name (codes "run" ∷ codes "--steps" ∷ codes "023" ∷ codes "a" ∷ []) ≡ Some (run (codes "a") 23)
   pub equals_sign : command_after_name (codes "run" ∷ codes "a" ∷ codes "--steps=1" ∷ []) ≡ Some (run (codes "a") 1)
   pub greatest : command_after_name (codes "run" ∷ codes "a" ∷ codes "--steps" ∷ codes "1000000000000" ∷ []) ≡ Some (run (codes "a") 1000000000000)
   pub greater : command_after_name (codes "run" ∷ codes "a" ∷ codes "--steps" ∷ codes "1000000000001" ∷ []) ≡ None
@@ -67,8 +67,8 @@ pub record GenRows : Type 0 where
   pub minus : command_after_name (codes "gen" ∷ codes "--" ∷ codes "-1" ∷ codes "1" ∷ codes "x" ∷ []) ≡ None
   pub blank : command_after_name (codes "gen" ∷ codes " 1" ∷ codes "1" ∷ codes "x" ∷ []) ≡ None
   pub empty : command_after_name (codes "gen" ∷ [] ∷ codes "1" ∷ codes "x" ∷ []) ≡ None
-  pub two_words : command_after_name (codes "gen" ∷ codes "1" ∷ codes "1" ∷ []) ≡ None
-  pub four_words : command_after_name (codes "gen" ∷ codes "1" ∷ codes "1" ∷ codes "x" ∷ codes "y" ∷ []) ≡ None
+  pub two_arguments : command_after_name (codes "gen" ∷ codes "1" ∷ codes "1" ∷ []) ≡ None
+  pub four_arguments : command_after_name (codes "gen" ∷ codes "1" ∷ codes "1" ∷ codes "x" ∷ codes "y" ∷ []) ≡ None
 
 abbrev pub CommandRows : Type 0
 CommandRows = BuildRows × RunRows × OtherRows × GenRows

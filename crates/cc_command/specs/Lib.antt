@@ -1,6 +1,7 @@
-pub mod Parts
+pub mod ParsedArguments
+pub mod Forms
 pub mod Command
 pub mod Arguments
 pub mod Reading
-pub mod Words
+pub mod PlainCommand
 pub mod CommandRows

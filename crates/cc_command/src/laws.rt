@@ -1,7 +1,7 @@
 //! Laws of the definition, each the contract of a function that does nothing.
 ghost use Rattle.cc_command.specs.CommandRows.{CommandRows};
 
-/// Known lists of words have their commands.
-pub fn words_have_commands()
+/// Known lists of arguments have their commands.
+pub fn arguments_have_commands()
     ensures { CommandRows }
 {}

@@ -1,9 +1,12 @@
-//! The words of the command line: what command they are, or that they are none.
+//! The arguments of the command line: what command they are, or that they are none.
 //! The top call stands on it; it stands on the kit's reader of command lines.
-//! Promise: the command is the defined one, whatever the words, and no words but those of the definition are a command.
+//! Promise: the command is the defined one, whatever the arguments, and no arguments but those of
+//! the definition are a command.
 #![tactic(auto)]
 
+mod arguments;
 pub mod laws;
-mod words;
+pub mod numbers;
+pub mod reader;
 
-pub use words::{Command, parse_command};
+pub use arguments::{Command, parse_command};

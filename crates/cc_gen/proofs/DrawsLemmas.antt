@@ -7,7 +7,9 @@ pub state-first : (start : ℕ) → start ≡ state_before start 0
 unfolding state_after
 state-first start = refl
 
-pub state-next : (start number state : ℕ) → state ≡ (if number == 0 then next_state (next_state (next_state (state_before start number))) else next_state (next_state (next_state (next_state (state_before start number))))) → state ≡ state_before start (number + 1)
+pub state-next : (start number state : ℕ)
+    → state ≡ (if number == 0 then next_state (next_state (next_state (state_before start number))) else next_state (next_state (next_state (next_state (state_before start number)))))
+    → state ≡ state_before start (number + 1)
 unfolding state_after
 state-next start zero state is = is
 state-next start (suc n) state is =

@@ -1,2 +1,3 @@
-pub mod PartLemmas
-pub mod DrawsLemmas
+mod ChunksLemmas
+mod DrawsLemmas
+mod PrefixLemmas

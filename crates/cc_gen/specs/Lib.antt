@@ -1,3 +1,4 @@
+pub mod Chunks
 pub mod Draws
 pub mod Generated
 pub mod Pieces

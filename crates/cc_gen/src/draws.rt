@@ -35,7 +35,8 @@ impl Draws {
     /// Draws what the function of this number is made of. Function 0 calls no other.
     pub fn draw_function(&mut self, number: u32) -> Drawn
         ensures drawn { result ≡ drawn_from number self.old.state }
-        ensures state { self.new.state ≡ (if number == 0 then next_state (next_state (next_state self.old.state))
+        ensures state { self.new.state
+            ≡ (if number == 0 then next_state (next_state (next_state self.old.state))
             else next_state (next_state (next_state (next_state self.old.state)))) }
     {
         let turns = 1 + self.draw(4);

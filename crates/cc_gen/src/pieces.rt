@@ -2,7 +2,7 @@
 ghost use Rattle.std.specs.Prelude.{◌≡◌, OnOk, OnErr};
 ghost use Rattle.cc_io.specs.Faults.{HasCause};
 ghost use Rattle.cc_io.specs.Sink.{append};
-ghost use Rattle.cc_gen.specs.Pieces.{text_of, text_of_all, HoldsPart};
+ghost use Rattle.cc_gen.specs.Pieces.{text_of, text_of_all, HoldsPrefix};
 
 use cc_io::{Failed, Sink, write_all};
 use itoa::Buffer;
@@ -15,11 +15,11 @@ pub(crate) enum Piece<'a> {
     Number(u32),
 }
 
-/// Writes a text. After an `Err` a part of it from its front was written.
+/// Writes a text. After an `Err` a prefix of it was written.
 pub(crate) fn write_text<S: Sink>(out: &mut S, text: &str) -> Result<(), Failed>
     ensures ok { OnOk result (S.held out.new ≡ append (S.held out.old) text.now) }
-    ensures err { OnErr result (HoldsPart text.now (S.held out.old) (S.held out.new)) }
-    ensures beside { S.beside out.new ≡ S.beside out.old }
+    ensures err { OnErr result (HoldsPrefix text.now (S.held out.old) (S.held out.new)) }
+    ensures rest { S.rest out.new ≡ S.rest out.old }
     ensures cause { HasCause (S.faults out.old) (S.faults out.new) result }
 {
     write_all(out, text.as_bytes())
@@ -27,8 +27,8 @@ pub(crate) fn write_text<S: Sink>(out: &mut S, text: &str) -> Result<(), Failed>
 
 fn write_piece<S: Sink>(out: &mut S, piece: &Piece) -> Result<(), Failed>
     ensures ok { OnOk result (S.held out.new ≡ append (S.held out.old) (text_of piece.now)) }
-    ensures err { OnErr result (HoldsPart (text_of piece.now) (S.held out.old) (S.held out.new)) }
-    ensures beside { S.beside out.new ≡ S.beside out.old }
+    ensures err { OnErr result (HoldsPrefix (text_of piece.now) (S.held out.old) (S.held out.new)) }
+    ensures rest { S.rest out.new ≡ S.rest out.old }
     ensures cause { HasCause (S.faults out.old) (S.faults out.new) result }
 {
     match piece {
@@ -40,11 +40,12 @@ fn write_piece<S: Sink>(out: &mut S, piece: &Piece) -> Result<(), Failed>
     }
 }
 
-/// Writes the pieces one behind the other. After an `Err` a part of their text from its front was written.
+/// Writes the pieces one after the other. After an `Err` a prefix of their text was written.
 pub(crate) fn write_pieces<S: Sink>(out: &mut S, pieces: &[Piece]) -> Result<(), Failed>
     ensures ok { OnOk result (S.held out.new ≡ append (S.held out.old) (text_of_all pieces.now)) }
-    ensures err { OnErr result (HoldsPart (text_of_all pieces.now) (S.held out.old) (S.held out.new)) }
-    ensures beside { S.beside out.new ≡ S.beside out.old }
+    ensures err { OnErr result
+        (HoldsPrefix (text_of_all pieces.now) (S.held out.old) (S.held out.new)) }
+    ensures rest { S.rest out.new ≡ S.rest out.old }
     ensures cause { HasCause (S.faults out.old) (S.faults out.new) result }
 {
     for piece in pieces {

@@ -42,7 +42,8 @@ put_same name files bytes had = fun_ext (λ other. at other (bytes_eq name other
     at other true same = sym (ap files (sym ((bytes_eq-Decides name other).0 same)) ∙ had)
     at other false differ = refl
 
-module _ {Y Z E : Type 0} (r : Result (Unit {0}) E) (name : Name) (m n : BTreeMap (String Y) (Vec ℕ Z)) (old held : Vec ℕ Z) (piece : List ℕ) (had : get_by_text m name ≡ Some old) (more : held.items ≡ cond (is_ok r) (old.items ++ piece) old.items) (sets : SetsName name m n (Some held)) where
+module _ {Y Z E : Type 0} (r : Result (Unit {0}) E) (name : Name) (m n : BTreeMap (String Y) (Vec ℕ Z)) (old held : Vec ℕ Z) (piece : List ℕ) (had : get_by_text m name ≡ Some old)
+    (more : held.items ≡ cond (is_ok r) (old.items ++ piece) old.items) (sets : SetsName name m n (Some held)) where
   file_set-more : (b : Bool) → is_ok r ≡ b → file_set n ≡ put_file name (cond b (old.items ++ piece) old.items) (file_set m)
   file_set-more b is = file_set-put name m n held sets ∙ ap (λ bytes. put_file name bytes (file_set m)) (more ∙ ap (λ x. cond x (old.items ++ piece) old.items) is)
 
@@ -63,7 +64,8 @@ on_err : {E P : Type 0} (r : Result (Unit {0}) E) → (is_ok r ≡ false → P) 
 on_err (Ok u) p = tt
 on_err (Err e) p = p refl
 
-module _ {Y Z E : Type 0} (r : Result (Unit {0}) E) (name : Name) (m n : BTreeMap (String Y) (Vec ℕ Z)) (old held : Vec ℕ Z) (piece : List ℕ) (had : get_by_text m name ≡ Some old) (more : held.items ≡ cond (is_ok r) (old.items ++ piece) old.items) (sets : SetsName name m n (Some held)) where
+module _ {Y Z E : Type 0} (r : Result (Unit {0}) E) (name : Name) (m n : BTreeMap (String Y) (Vec ℕ Z)) (old held : Vec ℕ Z) (piece : List ℕ) (had : get_by_text m name ≡ Some old)
+    (more : held.items ≡ cond (is_ok r) (old.items ++ piece) old.items) (sets : SetsName name m n (Some held)) where
   pub append-ok : OnOk r (file_set n ≡ append_file name piece (file_set m))
   append-ok = on_ok r (at_ok r name m n old held piece had more sets)
 

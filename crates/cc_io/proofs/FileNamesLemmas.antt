@@ -5,7 +5,8 @@ use Rattle.std.proofs.lemmas.Slice.Eq.{bytes_eq-Decides}
 use Rattle.cc_io.specs.Files.{Name, FileSet, put_file, append_file}
 use Rattle.cc_io.specs.FileNames.{NamesFit}
 
-put-at : (name other : Name) (bytes : List ℕ) (files : FileSet) (room : ℕ) (b : Bool) → bytes_eq name other ≡ b → length name ≤ room → NamesFit files room → IsSome (cond b (Some bytes) (files other)) → length other ≤ room
+put-at : (name other : Name) (bytes : List ℕ) (files : FileSet) (room : ℕ) (b : Bool) → bytes_eq name other ≡ b → length name ≤ room → NamesFit files room → IsSome (cond b (Some bytes) (files other))
+    → length other ≤ room
 put-at name other bytes files room true same fits all is = subst (λ n. length n ≤ room) ((bytes_eq-Decides name other).0 same) fits
 put-at name other bytes files room false differ fits all is = all other is
 
@@ -17,13 +18,15 @@ append-at other piece None false is = is
 larger : (files : FileSet) (room room' : ℕ) → room ≤ room' → NamesFit files room → NamesFit files room'
 larger files room room' le all = λ name is. let h : length name ≤ room = all name is in omega arith
 
-pub NamesFit-put : {E : Type 0} (r : Result (Unit {0}) E) (name : Name) (bytes : List ℕ) (old new : FileSet) (room room' : ℕ) → NamesFit old room → room ≤ room' → length name ≤ room' → OnOk r (new ≡ put_file name bytes old) → OnErr r (new ≡ old) → NamesFit new room'
+pub NamesFit-put : {E : Type 0} (r : Result (Unit {0}) E) (name : Name) (bytes : List ℕ) (old new : FileSet) (room room' : ℕ) → NamesFit old room → room ≤ room' → length name ≤ room'
+    → OnOk r (new ≡ put_file name bytes old) → OnErr r (new ≡ old) → NamesFit new room'
 NamesFit-put (Ok u) name bytes old new room room' all le fits ok err =
     λ other is. put-at name other bytes old room' (bytes_eq name other) refl fits (larger old room room' le all) (subst (λ f. IsSome (f other)) ok is)
 NamesFit-put (Err e) name bytes old new room room' all le fits ok err =
     λ other is. larger old room room' le all other (subst (λ f. IsSome (f other)) err is)
 
-pub NamesFit-append : {E : Type 0} (r : Result (Unit {0}) E) (name : Name) (piece : List ℕ) (old new : FileSet) (room : ℕ) → NamesFit old room → OnOk r (new ≡ append_file name piece old) → OnErr r (new ≡ old) → NamesFit new room
+pub NamesFit-append : {E : Type 0} (r : Result (Unit {0}) E) (name : Name) (piece : List ℕ) (old new : FileSet) (room : ℕ) → NamesFit old room → OnOk r (new ≡ append_file name piece old)
+    → OnErr r (new ≡ old) → NamesFit new room
 NamesFit-append (Ok u) name piece old new room all ok err =
     λ other is. all other (append-at other piece (old other) (bytes_eq name other) (subst (λ f. IsSome (f other)) ok is))
 NamesFit-append (Err e) name piece old new room all ok err = λ other is. all other (subst (λ f. IsSome (f other)) err is)

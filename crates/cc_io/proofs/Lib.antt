@@ -1,7 +1,6 @@
-pub mod SinkLemmas
-pub mod CreatedLemmas
-pub mod FileMapLemmas
-pub mod FileNamesLemmas
-pub mod OpenLemmas
-pub mod LawsLemmas
-pub mod UntoldLemmas
+pub mod lemmas
+mod FileMapLemmas
+mod FileNamesLemmas
+mod OpenLemmas
+mod LawsLemmas
+mod UnknownLemmas

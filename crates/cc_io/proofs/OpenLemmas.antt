@@ -27,16 +27,19 @@ other-append name other piece files differ = at (bytes_eq name other) refl
     at false differs = refl
 
 -- what is left of a file that is as it was
-left-same : (read : Name) (read_at : Option ℕ) (old new : FileSet) → (option_map (λ k. read) read_at ≡ Some read → new read ≡ old read) → option_map (λ k. drop k (content read new)) read_at ≡ option_map (λ k. drop k (content read old)) read_at
+left-same : (read : Name) (read_at : Option ℕ) (old new : FileSet) → (option_map (λ k. read) read_at ≡ Some read → new read ≡ old read)
+    → option_map (λ k. drop k (content read new)) read_at ≡ option_map (λ k. drop k (content read old)) read_at
 left-same read None old new same = refl
 left-same read (Some at) old new same = ap (λ held. Some (drop at (content read (λ name. held)))) (same refl)
 
-pub left-put : {E : Type 0} (r : Result (Unit {0}) E) (read name : Name) (read_at : Option ℕ) (bytes : List ℕ) (old new : FileSet) → OnOk r (new ≡ put_file name bytes old) → OnErr r (new ≡ old) → option_map (λ k. read) read_at ≢ Some name → option_map (λ k. drop k (content read new)) read_at ≡ option_map (λ k. drop k (content read old)) read_at
+pub left-put : {E : Type 0} (r : Result (Unit {0}) E) (read name : Name) (read_at : Option ℕ) (bytes : List ℕ) (old new : FileSet) → OnOk r (new ≡ put_file name bytes old) → OnErr r (new ≡ old)
+    → option_map (λ k. read) read_at ≢ Some name → option_map (λ k. drop k (content read new)) read_at ≡ option_map (λ k. drop k (content read old)) read_at
 left-put (Ok u) read name read_at bytes old new ok err differ =
     left-same read read_at old new (λ is. ap (λ f. f read) ok ∙ other-put name read bytes old (λ same. differ (is ∙ ap Some (sym same))))
 left-put (Err e) read name read_at bytes old new ok err differ = left-same read read_at old new (λ is. ap (λ f. f read) err)
 
-pub left-append : {E : Type 0} (r : Result (Unit {0}) E) (read name : Name) (read_at : Option ℕ) (piece : List ℕ) (old new : FileSet) → OnOk r (new ≡ append_file name piece old) → OnErr r (new ≡ old) → option_map (λ k. read) read_at ≢ Some name → option_map (λ k. drop k (content read new)) read_at ≡ option_map (λ k. drop k (content read old)) read_at
+pub left-append : {E : Type 0} (r : Result (Unit {0}) E) (read name : Name) (read_at : Option ℕ) (piece : List ℕ) (old new : FileSet) → OnOk r (new ≡ append_file name piece old) → OnErr r (new ≡ old)
+    → option_map (λ k. read) read_at ≢ Some name → option_map (λ k. drop k (content read new)) read_at ≡ option_map (λ k. drop k (content read old)) read_at
 left-append (Ok u) read name read_at piece old new ok err differ =
     left-same read read_at old new (λ is. ap (λ f. f read) ok ∙ other-append name read piece old (λ same. differ (is ∙ ap Some (sym same))))
 left-append (Err e) read name read_at piece old new ok err differ = left-same read read_at old new (λ is. ap (λ f. f read) err)

@@ -1,9 +1,9 @@
--- The created file of a lent `Files`, seen as a sink, and what stands beside it.
+-- The created file of a lent `Files`, seen as a sink, and the rest of the files.
 use Rattle.std.specs.Prelude.{ℕ, Bool, true, false, List, Option, None, Some, option_map, if◌then◌else◌}
 use Rattle.std.specs.Str.{bytes_eq}
 use Rattle.cc_io.specs.Files.{Name, FileSet}
 
--- what the file that is written holds, where the files are told
+-- what the file that is written holds, where the files are known
 abbrev pub written_content : Option Name → Option FileSet → Option (List ℕ)
 written_content None files = None
 written_content (Some name) None = None
@@ -13,7 +13,7 @@ written_content (Some name) (Some files) = files name
 abbrev pub without_file : Name → FileSet → FileSet
 without_file name files = λ other. if bytes_eq name other then None else files other
 
--- the files beside the one that is written, where they are told
+-- the files without the one that is written, where they are known
 abbrev pub other_files : Option Name → Option FileSet → Option FileSet
 other_files None files = None
 other_files (Some name) files = option_map (without_file name) files
@@ -29,8 +29,8 @@ is_same_file (Some name) (Some other) = bytes_eq name other
 abbrev pub other_left : Option Name → Option Name → Option (List ℕ) → Option (List ℕ)
 other_left reading writing left = if is_same_file reading writing then None else left
 
--- what stands beside the created file
-pub record BesideCreated : Type 0 where
+-- the rest of the files: all but the content of the created file
+pub record RestOfCreated : Type 0 where
   -- which `&mut` is lent, by its ghost name
   pub lender : ℕ
   pub writing : Option Name

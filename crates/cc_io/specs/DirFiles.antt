@@ -9,9 +9,9 @@ use Rattle.cc_io.specs.declared.dir_files.DirFiles.{DirFiles}
 abbrev pub name_of : {H : Type 0} → Option (NamedFile H) → Option Name
 name_of file = option_map (λ found. string_bytes found.name) file
 
--- the bytes that the system's file, where there is one, tells of itself
+-- the bytes that are known of the system's file, where there is one
 abbrev pub bytes_of : {H : Type 0} → (H → Option (List ℕ)) → Option (NamedFile H) → Option (List ℕ)
-bytes_of told file = option_and_then (λ found. told found.file) file
+bytes_of known file = option_and_then (λ found. known found.file) file
 
 module _ {R H D : Type 0} where
   -- the file that is open, and the one that is written

@@ -1,4 +1,4 @@
--- Files by name, as a told set of files has them.
+-- Files by name, as a known set of files has them.
 use Rattle.std.specs.Prelude.{ℕ, ◌≡◌, ◌≤◌, List, [], ◌++◌, Option, Some, if◌then◌else◌, option_map, unwrap_or}
 use Rattle.std.specs.Str.{bytes_eq}
 

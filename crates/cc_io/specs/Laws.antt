@@ -5,11 +5,11 @@ use Rattle.cc_io.specs.Sink.{append}
 use Rattle.cc_io.specs.Created.{written_content, other_files}
 use Rattle.cc_io.specs.Files.{Name, FileSet, put_file, append_file}
 
--- two pieces read one after the other are one
+-- two reads, one after the other, take what one read of both pieces takes
 abbrev pub PrependTwice : Type 0
 PrependTwice = (first second : List ℕ) (rest : Option (List ℕ)) → prepend first (prepend second rest) ≡ prepend (first ++ second) rest
 
--- two pieces written one after the other are one
+-- two pieces appended, one after the other, are both joined
 abbrev pub AppendTwice : Type 0
 AppendTwice = (held : Option (List ℕ)) (first second : List ℕ) → append (append held first) second ≡ append held (first ++ second)
 
@@ -32,7 +32,8 @@ abbrev pub PutElsewhere : Type 0
 PutElsewhere =
     (name other : Name) (bytes : List ℕ) (files : FileSet) → name ≢ other → put_file name bytes files other ≡ files other
 
--- a file that was created, and to which bytes were then appended while those beside it stayed, was put there with them
+-- a file that was created and then appended to, while the other files stayed, holds these bytes
 abbrev pub WrittenWhole : Type 0
 WrittenWhole =
-    (name : Name) (bytes : List ℕ) (old made new : Option FileSet) (writing writing' : Option Name) → writing ≡ Some name → writing' ≡ writing → made ≡ option_map (put_file name []) old → written_content writing' new ≡ append (written_content writing made) bytes → other_files writing' new ≡ other_files writing made → new ≡ option_map (put_file name bytes) old
+    (name : Name) (bytes : List ℕ) (old made new : Option FileSet) (writing writing' : Option Name) → writing ≡ Some name → writing' ≡ writing → made ≡ option_map (put_file name []) old
+    → written_content writing' new ≡ append (written_content writing made) bytes → other_files writing' new ≡ other_files writing made → new ≡ option_map (put_file name bytes) old

@@ -24,7 +24,8 @@ fn read_from<H: Read>(reading: &mut Option<NamedFile<H>>, buf: &mut [u8]) -> io:
     requires { IsSome reading.old }
     ensures count { IfOk result (λ n. n ≤ length buf.old) }
     ensures name { name_of reading.new ≡ name_of reading.old }
-    ensures file { ReadConsumes (bytes_of H.remaining reading.old) (bytes_of H.remaining reading.new) result buf.new }
+    ensures file { ReadConsumes (bytes_of H.remaining reading.old)
+        (bytes_of H.remaining reading.new) result buf.new }
 {
     match reading {
         Some(found) => found.file.read(buf),
@@ -36,7 +37,8 @@ fn write_to<H: Write>(writing: &mut Option<NamedFile<H>>, piece: &[u8]) -> io::R
     requires { IsSome writing.old }
     ensures count { IfOk result (λ n. n ≤ length piece.now) }
     ensures name { name_of writing.new ≡ name_of writing.old }
-    ensures file { WriteAppends (bytes_of H.contents writing.old) (bytes_of H.contents writing.new) result piece.now }
+    ensures file { WriteAppends (bytes_of H.contents writing.old)
+        (bytes_of H.contents writing.new) result piece.now }
 {
     match writing {
         Some(made) => made.file.write(piece),
@@ -44,8 +46,8 @@ fn write_to<H: Write>(writing: &mut Option<NamedFile<H>>, piece: &[u8]) -> io::R
     }
 }
 
-/// The files of a folder. A name is a path from there; one that begins with a slash stands for itself. It tells no
-/// content.
+/// The files of a folder. A name is a path from there; one that begins with a slash is absolute.
+/// What the files hold is unknown.
 #[derive(Drop)]
 pub struct DirFiles<'a, R: rt::Files> {
     alloc: Global,
@@ -62,7 +64,8 @@ pub struct DirFiles<'a, R: rt::Files> {
 impl<'a, R: rt::Files> DirFiles<'a, R> {
     ghost use Rattle.cc_io.specs.DirFiles.{IsNew};
 
-    /// As `DirFiles::new(rt.alloc(), &rt, ".")`.
+    /// The files of this folder, as `DirFiles::new(rt.alloc(), &rt, ".")`. `Err` where there is no
+    /// memory for the name.
     pub fn new(alloc: Global, system: &'a R, folder: &str) -> Result<Self, AllocError>
         ensures { IfOk result (IsNew folder.now) }
     {
@@ -116,7 +119,7 @@ impl<R: rt::Files> Files for DirFiles<'_, R> {
 
     ghost create_faults = { creates_failed };
 
-    ghost told = { λ _. None };
+    ghost known = { λ _. None };
 
     ghost reading = { λ files. name_of (open_file files) };
 
@@ -136,16 +139,18 @@ impl<R: rt::Files> Files for DirFiles<'_, R> {
         }
     }
 
-    /// Hands on what the system's file gives.
+    /// Hands on what the system's file gives; its error is a fault.
     fn read(&mut self, buf: &mut [u8]) -> Result<usize, Failed>
         requires open { IsSome (name_of (open_file self.old)) }
         requires room { 0 < length buf.old }
         ensures count { IfOk result (λ n. n ≤ length buf.old) }
-        ensures file { ReadConsumes (bytes_of R.File.remaining (open_file self.old)) (bytes_of R.File.remaining (open_file self.new)) result buf.new }
+        ensures file { ReadConsumes (bytes_of R.File.remaining (open_file self.old))
+            (bytes_of R.File.remaining (open_file self.new)) result buf.new }
         ensures cause { HasCause (reads_failed self.old) (reads_failed self.new) result }
         ensures reading { name_of (open_file self.new) ≡ name_of (open_file self.old) }
         ensures writing { made_file self.new ≡ made_file self.old }
-        ensures counts { OnlyReadsRise reads_failed writes_failed opens_failed creates_failed self.old self.new }
+        ensures counts { OnlyReadsRise reads_failed writes_failed opens_failed creates_failed
+            self.old self.new }
     {
         match read_from(&mut self.reading, buf) {
             Ok(n) => Ok(n),
@@ -164,16 +169,19 @@ impl<R: rt::Files> Files for DirFiles<'_, R> {
         }
     }
 
-    /// Hands on to the system's file; where it takes nothing of a piece, this is a fault.
+    /// Hands on to the system's file; its error, and a write that takes nothing of a piece, is a
+    /// fault.
     fn write(&mut self, piece: &[u8]) -> Result<usize, Failed>
         requires { IsSome (name_of (made_file self.old)) }
         ensures count { IfOk result (λ n. n ≤ length piece.now) }
         ensures some { IfOk result (λ n. 0 < length piece.now → 0 < n) }
-        ensures file { WriteAppends (bytes_of R.File.contents (made_file self.old)) (bytes_of R.File.contents (made_file self.new)) result piece.now }
+        ensures file { WriteAppends (bytes_of R.File.contents (made_file self.old))
+            (bytes_of R.File.contents (made_file self.new)) result piece.now }
         ensures cause { HasCause (writes_failed self.old) (writes_failed self.new) result }
         ensures writing { name_of (made_file self.new) ≡ name_of (made_file self.old) }
         ensures reading { open_file self.new ≡ open_file self.old }
-        ensures counts { OnlyWritesRise reads_failed writes_failed opens_failed creates_failed self.old self.new }
+        ensures counts { OnlyWritesRise reads_failed writes_failed opens_failed creates_failed
+            self.old self.new }
     {
         match write_to(&mut self.writing, piece) {
             Ok(n) if n > 0 || piece.is_empty() => Ok(n),

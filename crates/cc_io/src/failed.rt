@@ -1,7 +1,8 @@
 // The one error of the outside.
 use thiserror::Error;
 
-/// A call of the outside that was refused. It comes only where a count of faults rose in that call.
+/// A call of the outside failed. It comes only where the count of faults of that kind of call
+/// increased in it.
 #[derive(Clone, Copy, Debug, PartialEq, Eq, Error)]
 #[error("input or output failed")]
 pub struct Failed;

@@ -1,4 +1,5 @@
-// What the forms in memory have in common: the calls that are to fail, counts of faults, and a read of bytes.
+// What the forms in memory have in common: the calls that are to fail, counts of faults, and a read
+// of bytes.
 ghost use Rattle.std.specs.Prelude.{◌≡◌, ◌≤◌, ◌↔◌, ℕ, List, [], length, min, take, drop, ◌++◌, IsTrue};
 ghost use Rattle.cc_io.specs.Faults.{raised};
 
@@ -48,7 +49,8 @@ fn raised(count: u64) -> u64
     count.saturating_add(1)
 }
 
-/// Copies as many bytes from the front of `from` to the front of `buf` as there are and fit, and says how many.
+/// Copies as many bytes from the front of `from` to the front of `buf` as there are and fit, and
+/// says how many.
 pub(crate) fn copy_front(from: &[u8], buf: &mut [u8]) -> usize
     ensures count { result ≡ min (length buf.old) (length from.now) }
     ensures bytes { take result buf.new ≡ take result from.now }

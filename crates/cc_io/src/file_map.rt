@@ -9,14 +9,15 @@ use std::collections::BTreeMap;
 
 pub(crate) type FileMap = BTreeMap<String, Vec<u8>>;
 
-/// Puts these bytes in the place of what the file of this name holds. A name that is there takes no memory.
+/// Sets the content of the file of this name. A name that is there takes no memory.
 pub(crate) fn put(
     alloc: Global,
     files: &mut FileMap,
     name: &str,
     bytes: Vec<u8>,
 ) -> Result<(), AllocError>
-    ensures ok { OnOk result (file_set files.new ≡ put_file name.now bytes.items (file_set files.old)) }
+    ensures ok { OnOk result
+        (file_set files.new ≡ put_file name.now bytes.items (file_set files.old)) }
     ensures err { OnErr result (file_set files.new ≡ file_set files.old) }
     ensures missing { OnErr result (file_set files.old name.now ≡ None) }
 {
@@ -31,7 +32,8 @@ pub(crate) fn put(
 
 /// Appends to the file of this name, where there is one.
 pub(crate) fn append(files: &mut FileMap, name: &str, piece: &[u8]) -> Result<(), AllocError>
-    ensures ok { OnOk result (file_set files.new ≡ append_file name.now piece.now (file_set files.old)) }
+    ensures ok { OnOk result
+        (file_set files.new ≡ append_file name.now piece.now (file_set files.old)) }
     ensures err { OnErr result (file_set files.new ≡ file_set files.old) }
     ensures full { OnErr result (file_room files.old name.now < length piece.now) }
 {
@@ -41,10 +43,13 @@ pub(crate) fn append(files: &mut FileMap, name: &str, piece: &[u8]) -> Result<()
     }
 }
 
-/// Copies as much of the file of this name, from this place on, as there is and fits, and says how much.
+/// Copies the bytes of the file of this name from the offset `at` on, as many as there are and fit,
+/// and gives their number.
 pub(crate) fn read_at(files: &FileMap, name: &str, at: usize, buf: &mut [u8]) -> usize
-    ensures count { result ≡ min (length buf.old) (length (drop at (content name.now (file_set files.now)))) }
-    ensures bytes { take result buf.new ≡ take result (drop at (content name.now (file_set files.now))) }
+    ensures count { result
+        ≡ min (length buf.old) (length (drop at (content name.now (file_set files.now)))) }
+    ensures bytes { take result buf.new
+        ≡ take result (drop at (content name.now (file_set files.now))) }
 {
     match files.get(name) {
         Some(bytes) if at < bytes.len() => copy_front(&bytes[at..], buf),

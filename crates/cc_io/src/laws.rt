@@ -1,13 +1,13 @@
-//! Laws of what is read, written and filed, for the proofs of callers: each is the contract of a function that does
-//! nothing.
+//! Laws of what is read, written and filed, for the proofs of callers: each is the contract of a
+//! function that does nothing.
 ghost use Rattle.cc_io.specs.Laws.{PrependTwice, AppendTwice, PutThenAppend, PutTwice, PutHere, PutElsewhere, WrittenWhole};
 
-/// Two pieces read one after the other are one.
+/// Two reads, one after the other, take what one read of both pieces takes.
 pub fn prepend_twice()
     ensures { PrependTwice }
 {}
 
-/// Two pieces written one after the other are one.
+/// Two pieces appended, one after the other, are both joined.
 pub fn append_twice()
     ensures { AppendTwice }
 {}
@@ -32,8 +32,8 @@ pub fn put_elsewhere()
     ensures { PutElsewhere }
 {}
 
-/// A file that was created, and to which bytes were then appended while those beside it stayed, was put there with
-/// them: what a caller of `Created` knows once the loan is over.
+/// A file that was created and then appended to, while the other files stayed, holds these bytes:
+/// what a caller of `Created` knows once the loan is over.
 pub fn written_whole()
     ensures { WrittenWhole }
 {}

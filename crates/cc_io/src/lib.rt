@@ -1,6 +1,7 @@
-//! The outside of the compiler: where it reads from, where it writes to, and its files. Every crate that reads or
-//! writes stands on it, and on nothing else of the outside. It promises that a call fails only where a count of
-//! faults rose in it, and that bytes come and go in order, none lost and none twice.
+//! The outside of the compiler: sources that are read, sinks that are written, and files by name.
+//! Every crate that reads or writes stands on it. Promise: a call fails only where a count of
+//! faults increased in it, and bytes come and go in order, none lost and none twice. Nothing is
+//! promised of what the system's streams and files hold.
 #![tactic(auto)]
 
 mod created;
@@ -24,9 +25,6 @@ pub use files::Files;
 pub use mem_files::MemFiles;
 pub use mem_sink::MemSink;
 pub use mem_source::{MemSource, NoFailSource};
-pub use sink::{PIECE, Sink, write_all};
+pub use sink::{CHUNK, Sink, write_all};
 pub use source::Source;
 pub use std_streams::{StdSink, StdSource};
-
-#[cfg(test)]
-mod tests;

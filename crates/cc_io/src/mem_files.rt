@@ -11,7 +11,7 @@ use crate::file_map::{FileMap, append, put, read_at};
 use crate::files::Files;
 use std::alloc::{AllocError, Global};
 
-/// Files in memory, of whose calls some are to fail.
+/// Files in memory: a map from name to content, and the numbers of the calls that are to fail.
 #[derive(Drop)]
 pub struct MemFiles {
     alloc: Global,
@@ -57,7 +57,8 @@ impl MemFiles {
     ghost use Rattle.cc_io.specs.Files.{put_file, append_file};
     ghost use Rattle.cc_io.specs.MemFiles.{files_of, open_name, open_left, written_name, written_room, files_calls, IsFaultless, IsSameFaults};
 
-    /// No files. `failing` has the numbers of the calls that are to fail, counted from 0 over all calls of `Files`.
+    /// No files. `failing` has the numbers of the calls that are to fail, counted from 0 over all
+    /// calls of `Files`.
     pub fn new(alloc: Global, failing: Vec<u64>) -> Self
         ensures files { files_of result ≡ (λ name. None) }
         ensures open { open_name result ≡ None }
@@ -81,13 +82,16 @@ impl MemFiles {
         }
     }
 
-    /// Puts a file there, in the place of one of that name.
+    /// Puts a file there, or replaces the content of the one of that name. `Err` only where a
+    /// missing file found no memory; no file has changed then.
     pub fn insert(&mut self, name: &str, bytes: Vec<u8>) -> Result<(), AllocError>
-        ensures ok { OnOk result (files_of self.new ≡ put_file name.now bytes.items (files_of self.old)) }
+        ensures ok { OnOk result
+            (files_of self.new ≡ put_file name.now bytes.items (files_of self.old)) }
         ensures err { OnErr result (files_of self.new ≡ files_of self.old) }
         ensures missing { OnErr result (files_of self.old name.now ≡ None) }
         ensures open { open_name self.new ≡ open_name self.old }
-        ensures left { open_name self.old ≢ Some name.now → open_left self.new ≡ open_left self.old }
+        ensures left { open_name self.old ≢ Some name.now
+            → open_left self.new ≡ open_left self.old }
         ensures written { written_name self.new ≡ written_name self.old }
         ensures calls { files_calls self.new ≡ files_calls self.old }
         ensures faults { IsSameFaults self.old self.new }
@@ -97,7 +101,7 @@ impl MemFiles {
         put(self.alloc, &mut self.files, name, bytes)
     }
 
-    /// What the file of this name holds, where there is one.
+    /// The content of the file of this name; `None` where there is no such file.
     pub fn get(&self, name: &str) -> Option<&[u8]>
         ensures { option_copied result ≡ files_of self.now name.now }
     {
@@ -115,7 +119,8 @@ impl MemFiles {
         ensures err { OnErr result (files_of self.new ≡ files_of self.old) }
         ensures full { OnErr result (written_room self.old < length piece.now) }
         ensures open { open_name self.new ≡ open_name self.old }
-        ensures left { open_name self.old ≢ written_name self.old → open_left self.new ≡ open_left self.old }
+        ensures left { open_name self.old ≢ written_name self.old
+            → open_left self.new ≡ open_left self.old }
         ensures written { written_name self.new ≡ written_name self.old }
         ensures calls { files_calls self.new ≡ files_calls self.old }
         ensures faults { IsSameFaults self.old self.new }
@@ -140,7 +145,7 @@ impl Files for MemFiles {
 
     ghost create_faults = { creates_failed };
 
-    ghost told = { λ files. Some (files_of files) };
+    ghost known = { λ files. Some (files_of files) };
 
     ghost reading = { open_name };
 
@@ -150,18 +155,22 @@ impl Files for MemFiles {
 
     /// Fails where this call is listed, and where there is no such file. It takes no memory.
     fn open(&mut self, name: &str) -> Result<(), Failed>
-        ensures fails { IsErr result ↔ (NextFails (files_calls self.old) ⊎ IsNone (files_of self.old name.now)) }
+        ensures fails { IsErr result
+            ↔ (NextFails (files_calls self.old) ⊎ IsNone (files_of self.old name.now)) }
         ensures calls { CountsCall (files_calls self.old) (files_calls self.new) }
         ensures faults { OnOk result (IsSameFaults self.old self.new) }
 
         ensures reading { OnOk result (open_name self.new ≡ Some name.now) }
-        ensures left { OnOk result (open_left self.new ≡ Some (content name.now (files_of self.old))) }
+        ensures left { OnOk result
+            (open_left self.new ≡ Some (content name.now (files_of self.old))) }
         ensures err { OnErr result (open_name self.new ≡ None) }
-        ensures cause { HasCause (opens_failed self.old name.now) (opens_failed self.new name.now) result }
+        ensures cause { HasCause (opens_failed self.old name.now)
+            (opens_failed self.new name.now) result }
 
-        ensures told { files_of self.new ≡ files_of self.old }
+        ensures known { files_of self.new ≡ files_of self.old }
         ensures writing { written_name self.new ≡ written_name self.old }
-        ensures counts { OnlyOpensRise reads_failed writes_failed opens_failed creates_failed self.old self.new }
+        ensures counts { OnlyOpensRise reads_failed writes_failed opens_failed creates_failed
+            self.old self.new }
     {
         self.read_at = None;
         if self.calls.fails_next() || !self.files.contains_key(name) {
@@ -180,15 +189,18 @@ impl Files for MemFiles {
         ensures calls { CountsCall (files_calls self.old) (files_calls self.new) }
         ensures faults { OnOk result (IsSameFaults self.old self.new) }
 
-        ensures count { IfOk result (λ n. n ≡ min (length buf.old) (length (unwrap_or (open_left self.old) []))) }
-        ensures bytes { IfOk result (λ n. open_left self.old ≡ prepend (take n buf.new) (open_left self.new)) }
+        ensures count { IfOk result
+            (λ n. n ≡ min (length buf.old) (length (unwrap_or (open_left self.old) []))) }
+        ensures bytes { IfOk result
+            (λ n. open_left self.old ≡ prepend (take n buf.new) (open_left self.new)) }
         ensures err { OnErr result (open_left self.new ≡ open_left self.old) }
         ensures cause { HasCause (reads_failed self.old) (reads_failed self.new) result }
 
-        ensures told { files_of self.new ≡ files_of self.old }
+        ensures known { files_of self.new ≡ files_of self.old }
         ensures reading { open_name self.new ≡ open_name self.old }
         ensures writing { written_name self.new ≡ written_name self.old }
-        ensures counts { OnlyReadsRise reads_failed writes_failed opens_failed creates_failed self.old self.new }
+        ensures counts { OnlyReadsRise reads_failed writes_failed opens_failed creates_failed
+            self.old self.new }
     {
         if self.calls.fails_next() {
             return Err(fault(&mut self.read_faults));
@@ -202,19 +214,23 @@ impl Files for MemFiles {
     /// Fails where this call is listed, and where there is no memory for a new file.
     fn create(&mut self, name: &str) -> Result<(), Failed>
         ensures listed { NextFails (files_calls self.old) → IsErr result }
-        ensures fails { OnErr result (NextFails (files_calls self.old) ⊎ IsNone (files_of self.old name.now)) }
+        ensures fails { OnErr result
+            (NextFails (files_calls self.old) ⊎ IsNone (files_of self.old name.now)) }
         ensures calls { CountsCall (files_calls self.old) (files_calls self.new) }
         ensures faults { OnOk result (IsSameFaults self.old self.new) }
 
         ensures writing { OnOk result (written_name self.new ≡ Some name.now) }
-        ensures told { OnOk result (files_of self.new ≡ put_file name.now [] (files_of self.old)) }
+        ensures known { OnOk result (files_of self.new ≡ put_file name.now [] (files_of self.old)) }
         ensures err { OnErr result (written_name self.new ≡ None) }
-        ensures err_told { OnErr result (files_of self.new ≡ files_of self.old) }
-        ensures cause { HasCause (creates_failed self.old name.now) (creates_failed self.new name.now) result }
+        ensures err_known { OnErr result (files_of self.new ≡ files_of self.old) }
+        ensures cause { HasCause (creates_failed self.old name.now)
+            (creates_failed self.new name.now) result }
 
         ensures reading { open_name self.new ≡ open_name self.old }
-        ensures left { open_name self.old ≢ Some name.now → open_left self.new ≡ open_left self.old }
-        ensures counts { OnlyCreatesRise reads_failed writes_failed opens_failed creates_failed self.old self.new }
+        ensures left { open_name self.old ≢ Some name.now
+            → open_left self.new ≡ open_left self.old }
+        ensures counts { OnlyCreatesRise reads_failed writes_failed opens_failed creates_failed
+            self.old self.new }
     {
         self.is_written = false;
         if self.calls.fails_next() {
@@ -228,24 +244,28 @@ impl Files for MemFiles {
         Ok(())
     }
 
-    /// Fails where this call is listed, and where there is no memory for the piece; else takes all of it.
+    /// Fails where this call is listed, and where there is no memory for the piece; else takes all
+    /// of it.
     fn write(&mut self, piece: &[u8]) -> Result<usize, Failed>
         requires { IsSome (written_name self.old) }
         ensures listed { NextFails (files_calls self.old) → IsErr result }
-        ensures fails { OnErr result (NextFails (files_calls self.old) ⊎ (written_room self.old < length piece.now)) }
+        ensures fails { OnErr result
+            (NextFails (files_calls self.old) ⊎ (written_room self.old < length piece.now)) }
         ensures calls { CountsCall (files_calls self.old) (files_calls self.new) }
         ensures faults { OnOk result (IsSameFaults self.old self.new) }
 
         ensures count { IfOk result (λ n. n ≡ length piece.now) }
-        ensures told { OnOk result (ForSome (written_name self.old) (λ name.
+        ensures known { OnOk result (ForSome (written_name self.old) (λ name.
             files_of self.new ≡ append_file name piece.now (files_of self.old))) }
         ensures err { OnErr result (files_of self.new ≡ files_of self.old) }
         ensures cause { HasCause (writes_failed self.old) (writes_failed self.new) result }
 
         ensures writing { written_name self.new ≡ written_name self.old }
         ensures reading { open_name self.new ≡ open_name self.old }
-        ensures left { open_name self.old ≢ written_name self.old → open_left self.new ≡ open_left self.old }
-        ensures counts { OnlyWritesRise reads_failed writes_failed opens_failed creates_failed self.old self.new }
+        ensures left { open_name self.old ≢ written_name self.old
+            → open_left self.new ≡ open_left self.old }
+        ensures counts { OnlyWritesRise reads_failed writes_failed opens_failed creates_failed
+            self.old self.new }
     {
         if self.calls.fails_next() {
             return Err(fault(&mut self.write_faults));

@@ -6,7 +6,8 @@ use crate::failing::{FailingCalls, fault};
 use crate::sink::Sink;
 use std::alloc::Global;
 
-/// A sink in memory, of whose calls some are to fail.
+/// A sink in memory, with the numbers of the calls that are to fail. A write that finds no memory
+/// fails too.
 #[derive(Drop)]
 pub struct MemSink {
     bytes: Vec<u8>,
@@ -31,7 +32,7 @@ impl MemSink {
         }
     }
 
-    /// All that was appended.
+    /// All bytes that were appended.
     pub fn bytes(&self) -> &[u8]
         ensures { result.now ≡ sink_held self.now }
     {
@@ -48,14 +49,16 @@ impl Sink for MemSink {
 
     ghost held = { λ sink. Some (sink_held sink) };
 
-    ghost Beside = { Unit {0} };
+    ghost Rest = { Unit {0} };
 
-    ghost beside = { λ _. tt };
+    ghost rest = { λ _. tt };
 
-    /// Fails where this call is listed, and where there is no memory for the piece; else takes all of it.
+    /// Fails where this call is listed, and where there is no memory for the piece; else takes all
+    /// of it.
     fn write(&mut self, piece: &[u8]) -> Result<usize, Failed>
         ensures listed { NextFails (sink_calls self.old) → IsErr result }
-        ensures fails { OnErr result (NextFails (sink_calls self.old) ⊎ (sink_room self.old < length piece.now)) }
+        ensures fails { OnErr result
+            (NextFails (sink_calls self.old) ⊎ (sink_room self.old < length piece.now)) }
         ensures calls { CountsCall (sink_calls self.old) (sink_calls self.new) }
         ensures faults { sink_faults self.new ≡
             (if is_ok result then sink_faults self.old else raised (sink_faults self.old)) }

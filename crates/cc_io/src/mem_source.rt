@@ -16,6 +16,7 @@ pub struct NoFailSource {
 impl NoFailSource {
     ghost use Rattle.cc_io.specs.Memory.{bytes_left};
 
+    /// A source of these bytes.
     pub fn new(content: Vec<u8>) -> Self
         ensures { bytes_left result ≡ content.items }
     {
@@ -36,7 +37,8 @@ impl Source for NoFailSource {
     fn read(&mut self, buf: &mut [u8]) -> Result<usize, Failed>
         requires { 0 < length buf.old }
         ensures never_fails { result ≡ Ok (min (length buf.old) (length (bytes_left self.old))) }
-        ensures bytes { IfOk result (λ n. bytes_left self.old ≡ take n buf.new ++ bytes_left self.new) }
+        ensures bytes { IfOk result
+            (λ n. bytes_left self.old ≡ take n buf.new ++ bytes_left self.new) }
     {
         let n = copy_front(&self.content[self.at..], buf);
         self.at += n;
@@ -44,7 +46,7 @@ impl Source for NoFailSource {
     }
 }
 
-/// A source in memory, of whose calls some are to fail.
+/// A source in memory, with the numbers of the calls that are to fail.
 #[derive(Drop)]
 pub struct MemSource {
     rest: NoFailSource,
@@ -55,7 +57,8 @@ pub struct MemSource {
 impl MemSource {
     ghost use Rattle.cc_io.specs.Memory.{source_left, source_calls, source_faults};
 
-    /// A source of these bytes. `failing` has the numbers of the calls that are to fail, counted from 0.
+    /// A source of these bytes. `failing` has the numbers of the calls that are to fail, counted
+    /// from 0.
     pub fn new(content: Vec<u8>, failing: Vec<u64>) -> Self
         ensures left { source_left result ≡ content.items }
         ensures failing { (source_calls result).listed.items ≡ failing.items }
@@ -89,8 +92,10 @@ impl Source for MemSource {
             (if is_ok result then source_faults self.old else raised (source_faults self.old)) }
         ensures cause { HasCause (source_faults self.old) (source_faults self.new) result }
 
-        ensures count { IfOk result (λ n. n ≡ min (length buf.old) (length (source_left self.old))) }
-        ensures bytes { IfOk result (λ n. source_left self.old ≡ take n buf.new ++ source_left self.new) }
+        ensures count { IfOk result
+            (λ n. n ≡ min (length buf.old) (length (source_left self.old))) }
+        ensures bytes { IfOk result
+            (λ n. source_left self.old ≡ take n buf.new ++ source_left self.new) }
         ensures err { OnErr result (source_left self.new ≡ source_left self.old) }
     {
         if self.calls.fails_next() {

@@ -7,7 +7,7 @@ use crate::sink::Sink;
 use crate::source::Source;
 use std::io::{Read, Write};
 
-/// A source over a reader of the system, as standard input. It tells no content.
+/// A source over a reader of the system, as standard input. What it has left is unknown.
 #[derive(Drop)]
 pub struct StdSource<R> {
     reader: R,
@@ -35,11 +35,12 @@ impl<R: Read> Source for StdSource<R> {
 
     ghost left = { λ _. None };
 
-    /// Hands on what the reader gives.
+    /// Hands on what the reader gives; an error of the reader is a fault.
     fn read(&mut self, buf: &mut [u8]) -> Result<usize, Failed>
         requires { 0 < length buf.old }
         ensures count { IfOk result (λ n. n ≤ length buf.old) }
-        ensures reader { ReadConsumes (R.remaining (reader_of self.old)) (R.remaining (reader_of self.new)) result buf.new }
+        ensures reader { ReadConsumes (R.remaining (reader_of self.old))
+            (R.remaining (reader_of self.new)) result buf.new }
         ensures cause { HasCause (source_faults self.old) (source_faults self.new) result }
     {
         match self.reader.read(buf) {
@@ -49,8 +50,8 @@ impl<R: Read> Source for StdSource<R> {
     }
 }
 
-/// A sink over a writer of the system, as standard output or standard error. It keeps nothing back, and tells no
-/// content.
+/// A sink over a writer of the system, as standard output or standard error. It buffers nothing.
+/// What it holds is unknown.
 #[derive(Drop)]
 pub struct StdSink<W> {
     writer: W,
@@ -78,15 +79,16 @@ impl<W: Write> Sink for StdSink<W> {
 
     ghost held = { λ _. None };
 
-    ghost Beside = { Unit {0} };
+    ghost Rest = { Unit {0} };
 
-    ghost beside = { λ _. tt };
+    ghost rest = { λ _. tt };
 
-    /// Hands on to the writer; where it takes nothing of a piece, this is a fault.
+    /// Hands on to the writer; its error, and a write that takes nothing of a piece, is a fault.
     fn write(&mut self, piece: &[u8]) -> Result<usize, Failed>
         ensures count { IfOk result (λ n. n ≤ length piece.now) }
         ensures some { IfOk result (λ n. 0 < length piece.now → 0 < n) }
-        ensures writer { WriteAppends (W.contents (writer_of self.old)) (W.contents (writer_of self.new)) result piece.now }
+        ensures writer { WriteAppends (W.contents (writer_of self.old))
+            (W.contents (writer_of self.new)) result piece.now }
         ensures cause { HasCause (sink_faults self.old) (sink_faults self.new) result }
     {
         match self.writer.write(piece) {

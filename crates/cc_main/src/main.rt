@@ -1,8 +1,9 @@
-//! The program `rvcc`: it hands the words of the command line, the files of the working folder and the
-//! standard streams to the top call, and ends with its status. Reports go to standard error.
+//! The program `rvcc`: it hands the arguments of the command line, the files of the working folder
+//! and the standard streams to the top call, and ends with its status. Reports go to standard
+//! error.
 #![tactic(auto)]
 
-use cc_io::{DirFiles, StdSink, StdSource};
+use cc_io::{DirFiles, StdSink, StdSource, write_all};
 use cc_top::top;
 use std::alloc::AllocError;
 use std::env;
@@ -10,11 +11,14 @@ use std::io::ErrorKind;
 use std::process::ExitCode;
 use std::rt::Env;
 
-/// The status where there is no memory even for the words.
+/// The status where memory ran out before the top call, which has the same for its own.
 const NO_MEMORY: u8 = 6;
 
-/// The words of the command line, the program's name first. There are none where one of them is no
-/// text, and such words are no command.
+/// The status where the report was not written.
+const NO_REPORT: u8 = 3;
+
+/// The arguments of the command line, the program's name first. There are none where one of them is
+/// no text, and then they are no command.
 fn words_of(rt: &(impl Env + AllocGlobal)) -> Result<Vec<String>, AllocError> {
     match env::args(rt) {
         Ok(words) => words.collect(rt.alloc()),
@@ -39,6 +43,17 @@ fn run(rt: &HostRuntime) -> Result<u8, AllocError> {
     ))
 }
 
+/// Reports that memory ran out.
+fn report_no_memory(rt: &HostRuntime) -> u8 {
+    match write_all(&mut StdSink::new(rt.stderr()), b"memory\n") {
+        Ok(()) => NO_MEMORY,
+        Err(_) => NO_REPORT,
+    }
+}
+
 fn main(rt: HostRuntime) -> ExitCode {
-    ExitCode::from(run(&rt).unwrap_or(NO_MEMORY))
+    ExitCode::from(match run(&rt) {
+        Ok(status) => status,
+        Err(_) => report_no_memory(&rt),
+    })
 }

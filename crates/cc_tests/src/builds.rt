@@ -1,4 +1,5 @@
 //! Builds through the top call, over files in memory.
+use crate::generated::ONE_FUNCTION;
 use cc_io::{MemFiles, MemSink, NoFailSource};
 use cc_top::top;
 use std::alloc::{AllocError, Global};
@@ -20,7 +21,8 @@ fn words_of(alloc: Global, texts: &[&str]) -> Result<Vec<String>, AllocError> {
     Ok(words)
 }
 
-/// Calls `top` with these words on a file `in` of these bytes, the numbered calls on the files failing.
+/// Calls `top` with these words on a file `in` of these bytes, the numbered calls on the files
+/// failing.
 pub fn called(
     alloc: Global,
     texts: &[&str],
@@ -215,27 +217,6 @@ fn other_words_are_usage(rt: HostRuntime) -> Result<(), Fail> {
 
 const GEN: [&str; 5] = ["rvcc", "gen", "1", "1", "out"];
 
-const ONE_FUNCTION: &[u8] = b"int f0(int a, int b)
-{
-    int s = a;
-    int k = 0;
-    while (k < 1) {
-        s = (s + b) + 46;
-        k = k + 1;
-    }
-    if (s & 1) s = s - b; else s = s ^ k;
-    return s;
-}
-int main(void)
-{
-    int s = 0;
-    s = s ^ f0(0, 7);
-    putchar(65 + (s & 15));
-    putchar(10);
-    return s & 255;
-}
-";
-
 #[test]
 fn a_program_is_generated(rt: HostRuntime) -> Result<(), Fail> {
     let alloc = rt.alloc();
@@ -249,10 +230,18 @@ fn a_program_is_generated(rt: HostRuntime) -> Result<(), Fail> {
     assert_eq!(rt; uncreated.status, 3);
     assert!(rt; uncreated.files.get("out").is_none());
 
-    let cut = called(alloc, &GEN, ANSWER, &[3])?;
-    assert_eq!(rt; cut.status, 3);
-    assert_eq!(rt; cut.report.bytes(), b"write fault\n".as_slice());
-    assert_eq!(rt; cut.files.get("out"), Some(b"int f0".as_slice()));
+    // Call 0 creates, and call 1 writes the first chunk.
+    for (count, failing, left) in [("1", 1, 0), ("100", 2, 4096)] {
+        let cut = called(
+            alloc,
+            &["rvcc", "gen", "1", count, "out"],
+            ANSWER,
+            &[failing],
+        )?;
+        assert_eq!(rt; cut.status, 3);
+        assert_eq!(rt; cut.report.bytes(), b"write fault\n".as_slice());
+        assert_eq!(rt; cut.files.get("out").map(|held| held.len()), Some(left));
+    }
     Ok(())
 }
 
@@ -267,7 +256,8 @@ fn images_run_as_the_machine_says(rt: HostRuntime) -> Result<(), Fail> {
     let alloc = rt.alloc();
     let image = answer_image(alloc)?;
     assert_eq!(rt; image.len(), 8200);
-    // A change of the image: its place and the bytes that stand there then; the option, the status and the line.
+    // A change of the image: its offset and the bytes from there on; the option, the status and the
+    // line.
     let rows: [(usize, &[u8], &str, u8, &[u8]); 7] = [
         (0, b"", "--steps=23", 0, b"exit 42\n"),
         (0, b"", "--steps=22", 7, b"budget\n"),
@@ -298,8 +288,8 @@ fn images_run_as_the_machine_says(rt: HostRuntime) -> Result<(), Fail> {
     for (at, bytes, steps, status, line) in rows {
         let mut changed = image.clone()?;
         for (k, byte) in bytes.iter().enumerate() {
-            if let Some(place) = changed.get_mut(at.saturating_add(k)) {
-                *place = *byte;
+            if let Some(old) = changed.get_mut(at.saturating_add(k)) {
+                *old = *byte;
             }
         }
         let left = called(alloc, &["rvcc", "run", "in", steps], &changed, &[])?;

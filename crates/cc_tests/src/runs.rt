@@ -49,7 +49,8 @@ struct Left {
     report: MemSink,
 }
 
-/// Calls `top` on the words `rvcc` and these, with the files `source` (a program) and, where it is not empty, `image`.
+/// Calls `top` on the words `rvcc` and these, with the files `source` (a program) and, where it is
+/// not empty, `image`.
 fn called(
     alloc: Global,
     texts: &[&str],
@@ -86,7 +87,7 @@ fn called(
     })
 }
 
-/// The image of the source, with the copying program in the place of its text.
+/// The image of the source, with the copying program for its text.
 fn copy_image(alloc: Global) -> Result<Vec<u8>, AllocError> {
     let left = called(alloc, &["build", "source", "image"], b"", b"", NONE)?;
     let mut image = left.files.get("image").unwrap_or(b"").to_vec(alloc)?;

@@ -1,33 +1,35 @@
 -- The image of a constant exits with its low byte.
 use Rattle.std.proofs.Common.{◌≡◌, ℕ, suc, ◌+◌, ◌-◌, ◌*◌, ◌%◌, ◌<◌, ◌≤◌, ◌^◌, ◌==◌, true, false, nat_lt, nat_le, List, [], ◌∷◌, ◌++◌, length, slice_index, slice_index_or, Ok, refl, ap, ◌∙◌, if◌then◌else◌, arith, inl, inr}
 use Rattle.std.proofs.lemmas.Bool.{cases_lt, lt-ltb, ltb-true, le-ltb, le-leb}
-use Rattle.elf_file.proofs.RoundTrip.{written_loads}
-use Rattle.elf_file.specs.Image.{Parts, IsPlaced, data_size}
+use Rattle.elf_file.proofs.lemmas.RoundTrip.{written_loads}
+use Rattle.elf_file.specs.Image.{Sections, IsPlaced, data_size}
 use Rattle.elf_file.specs.Laws.{executable_for, text_segment, data_segment}
 use Rattle.elf_file.specs.Loading.{LoadedSegment}
 use Rattle.elf_file.specs.Written.{file_of}
 use Rattle.rv_isa.specs.Words.{FitsFormat}
 use Rattle.rv_isa.specs.declared.instruction.Instr.{Instr}
 use Rattle.rv_isa.specs.declared.instruction.Instr.TheVariants.{Lui, Addi, Ebreak}
-use Rattle.rv_machine.specs.Machine.{State, next, exit, next_move, act, give}
+use Rattle.rv_machine.specs.Machine.{State, next, exit, next_effect, act, give}
 use Rattle.rv_machine.specs.Memory.{Bytes, allowed, load_bytes, store_bytes, put_at, memory_of, flags_of, has_flag, to_execute, to_read, to_write}
-use Rattle.rv_machine.specs.Run.{run_state, run, executed, executed_if_loaded, mach, standing, ended}
-use Rattle.cc_top.specs.Layout.{bytes_of, parts_of_code, image_of_constant}
-use Rattle.cc_top.specs.Templates.{enter, leave, load_immediate, upper_part, low_part}
+use Rattle.rv_machine.specs.Run.{run_state, run, executed, executed_if_loaded, image_at, standing, ended}
+use Rattle.cc_top.specs.Layout.{bytes_of, sections_of_code, image_of_constant}
+use Rattle.cc_top.specs.Templates.{enter, leave, load_immediate}
 use Rattle.cc_top.specs.Program.{ExitsWithin, ConstantExits}
-use Rattle.cc_top.proofs.ConstantRun.{program, TextStands, StackAllows, s0, s13, a0, b0, front-leads, a-ends, b-ends}
-use Rattle.cc_top.proofs.Standing.{stands-same, move-act, Leads, leads-more}
+use Rattle.cc_top.proofs.ConstantRun.{program, TextStands, StackAllows, s0, s13, a0, b0, front-reaches, a-ends, b-ends}
+use Rattle.cc_top.proofs.Standing.{stands-same, effect-act, Reaches, reaches-more}
 use Rattle.std.proofs.Common.{lit≤}
 use Rattle.rv_isa.specs.Formats.{IsSigned}
+use Rattle.rv_isa.specs.WordParts.{upper_part, low_part}
+use Rattle.rv_isa.proofs.lemmas.WordParts.{low_part_fits, parts_make_word}
 use Rattle.cc_top.proofs.ProgramFits.{AllFit-at, small_fits, large_fits}
 use Rattle.cc_top.proofs.Text.{Holds, holds-stands, length-bytes_of}
 
 -- ---- the segments in memory
 
-pub segments : Parts → List LoadedSegment
+pub segments : Sections → List LoadedSegment
 segments p = text_segment p ∷ data_segment p ∷ []
 
-pub text_byte : (p : Parts) (k : ℕ) → k < length p.text → memory_of (segments p) (65536 + k) ≡ slice_index p.text k
+pub text_byte : (p : Sections) (k : ℕ) → k < length p.text → memory_of (segments p) (65536 + k) ≡ slice_index p.text k
 unfolding memory_of segments
 text_byte p k inside =
     let low : nat_le 65536 (65536 + k) ≡ true = le-leb 65536 (65536 + k) (omega arith) in
@@ -35,14 +37,14 @@ text_byte p k inside =
     let back : 65536 + k - 65536 ≡ k = omega arith in
     rw (low, high, back) refl
 
-text_flag : (p : Parts) (k : ℕ) → k < length p.text → flags_of (segments p) (65536 + k) ≡ 5
+text_flag : (p : Sections) (k : ℕ) → k < length p.text → flags_of (segments p) (65536 + k) ≡ 5
 unfolding flags_of segments
 text_flag p k inside =
     let low : nat_le 65536 (65536 + k) ≡ true = le-leb 65536 (65536 + k) (omega arith) in
     let high : nat_lt (65536 + k) (65536 + length p.text) ≡ true = lt-ltb (65536 + k) (65536 + length p.text) (omega arith) in
     rw (low, high) refl
 
-data_flag : (p : Parts) (a : ℕ) → 65536 + length p.text ≤ a → p.data_at ≤ a → a < p.data_at + data_size p → flags_of (segments p) a ≡ 6
+data_flag : (p : Sections) (a : ℕ) → 65536 + length p.text ≤ a → p.data_at ≤ a → a < p.data_at + data_size p → flags_of (segments p) a ≡ 6
 unfolding flags_of segments
 data_flag p a above low high =
     let out : nat_lt a (65536 + length p.text) ≡ false = le-ltb a (65536 + length p.text) above in
@@ -52,7 +54,7 @@ data_flag p a above low high =
     rw (in_low, out, data_low, data_high) refl
 
 -- four bytes of the data segment may be read and written
-data_allows : (p : Parts) (flag a : ℕ) → has_flag 6 flag ≡ true → 65536 + length p.text ≤ a → p.data_at ≤ a → a + 4 ≤ p.data_at + data_size p
+data_allows : (p : Sections) (flag a : ℕ) → has_flag 6 flag ≡ true → 65536 + length p.text ≤ a → p.data_at ≤ a → a + 4 ≤ p.data_at + data_size p
     → allowed (flags_of (segments p)) flag a 4 ≡ true
 unfolding allowed
 data_allows p flag a has above low high =
@@ -70,8 +72,8 @@ data_allows p flag a has above low high =
 abbrev main_code : List Instr → List Instr
 main_code li = enter 16 1 ++ li ++ leave 16 1 9
 
--- the parts of an image of this text, with its data on the second page
-pub record IsImageOf (p : Parts) (li : List Instr) (count : ℕ) : Type 0 where
+-- the sections of an image of this text, with its data on the second page
+pub record IsImageOf (p : Sections) (li : List Instr) (count : ℕ) : Type 0 where
   pub text : p.text ≡ bytes_of (program li)
   pub fixed : p.fixed ≡ []
   pub data_at : p.data_at ≡ 69632
@@ -83,10 +85,10 @@ pub record IsImageOf (p : Parts) (li : List Instr) (count : ℕ) : Type 0 where
   pub most : 37 ≤ count
   pub fits : (k : ℕ) → k < count → FitsFormat (slice_index_or (program li) k Ebreak)
 
-image_text_length : {p : Parts} {li : List Instr} {count : ℕ} → IsImageOf p li count → length p.text ≡ 4 * count
+image_text_length : {p : Sections} {li : List Instr} {count : ℕ} → IsImageOf p li count → length p.text ≡ 4 * count
 image_text_length {p} {li} h = ap length h.text ∙ length-bytes_of (program li) ∙ ap (λ n. 4 * n) h.counted
 
-image_placed : {p : Parts} {li : List Instr} {count : ℕ} → IsImageOf p li count → IsPlaced p
+image_placed : {p : Sections} {li : List Instr} {count : ℕ} → IsImageOf p li count → IsPlaced p
 image_placed {p} h =
     let len = image_text_length h in
     let none : length p.fixed ≡ 0 = ap length h.fixed in
@@ -97,11 +99,11 @@ image_placed {p} h =
       sizes = omega (arith, h.data_at, h.stack_at, h.small);
     }
 
-image_segments : {p : Parts} {li : List Instr} {count : ℕ} → IsImageOf p li count → executable_for p ≡ record { entry = 65536; segments = segments p }
+image_segments : {p : Sections} {li : List Instr} {count : ℕ} → IsImageOf p li count → executable_for p ≡ record { entry = 65536; segments = segments p }
 unfolding executable_for segments
 image_segments h = rw h.fixed refl
 
-image_allows : {p : Parts} {li : List Instr} {count : ℕ} → IsImageOf p li count → StackAllows (flags_of (segments p))
+image_allows : {p : Sections} {li : List Instr} {count : ℕ} → IsImageOf p li count → StackAllows (flags_of (segments p))
 image_allows {p} h =
     let len = image_text_length h in
     let at : (flag a : ℕ) → has_flag 6 flag ≡ true → 73728 ≤ a → a + 4 ≤ 8462336 → allowed (flags_of (segments p)) flag a 4 ≡ true =
@@ -113,7 +115,7 @@ image_allows {p} h =
       r2 = at to_read 8462328 refl (omega arith) (omega arith);
     }
 
-image_holds : {p : Parts} {li : List Instr} {count : ℕ} → IsImageOf p li count → Holds (flags_of (segments p)) (memory_of (segments p)) 65536 (program li)
+image_holds : {p : Sections} {li : List Instr} {count : ℕ} → IsImageOf p li count → Holds (flags_of (segments p)) (memory_of (segments p)) 65536 (program li)
 image_holds {p} {li} h =
     let len = image_text_length h in
     record {
@@ -123,11 +125,11 @@ image_holds {p} {li} h =
       fits = (λ k inside. h.fits k (omega (arith, h.counted)));
     }
 
-pub image_stands : {p : Parts} {li : List Instr} {count : ℕ} → IsImageOf p li count → (part : ℕ) → part ≤ count
-    → TextStands (flags_of (segments p)) (memory_of (segments p)) part (program li)
-image_stands h part within k inside = holds-stands (image_holds h) k (omega (arith, ltb-true k part inside, h.counted))
+pub image_stands : {p : Sections} {li : List Instr} {count : ℕ} → IsImageOf p li count → (expected : ℕ) → expected ≤ count
+    → TextStands (flags_of (segments p)) (memory_of (segments p)) expected (program li)
+image_stands h expected within k inside = holds-stands (image_holds h) k (omega (arith, ltb-true k expected inside, h.counted))
 
-small_image : (n : ℕ) → n < 2048 → IsImageOf (parts_of_code (main_code (Addi 9 0 n ∷ []))) (Addi 9 0 n ∷ []) 45
+small_image : (n : ℕ) → n < 2048 → IsImageOf (sections_of_code (main_code (Addi 9 0 n ∷ []))) (Addi 9 0 n ∷ []) 45
 small_image n small = record {
   text = refl;
   fixed = refl;
@@ -141,7 +143,7 @@ small_image n small = record {
   fits = λ k. AllFit-at (program (Addi 9 0 n ∷ [])) k (small_fits n small);
 }
 
-large_image : (u l : ℕ) → u < 2 ^ 20 → IsSigned 12 l → IsImageOf (parts_of_code (main_code (Lui 9 u ∷ Addi 9 9 l ∷ []))) (Lui 9 u ∷ Addi 9 9 l ∷ []) 46
+large_image : (u l : ℕ) → u < 2 ^ 20 → IsSigned 12 l → IsImageOf (sections_of_code (main_code (Lui 9 u ∷ Addi 9 9 l ∷ []))) (Lui 9 u ∷ Addi 9 9 l ∷ []) 46
 large_image u l upper low = record {
   text = refl;
   fixed = refl;
@@ -158,8 +160,8 @@ large_image u l upper low = record {
 -- ---- the run
 
 -- a run of the image is a run from its start
-pub image_run : {p : Parts} {li : List Instr} {count : ℕ} → IsImageOf p li count → (n : ℕ) (input : List ℕ)
-    → mach n (file_of p) input ≡ Ok (run_state (flags_of (segments p)) n (s0 (memory_of (segments p))) input)
+pub image_run : {p : Sections} {li : List Instr} {count : ℕ} → IsImageOf p li count → (n : ℕ) (input : List ℕ)
+    → image_at n (file_of p) input ≡ Ok (run_state (flags_of (segments p)) n (s0 (memory_of (segments p))) input)
 unfolding executed run
 image_run {p} h n input =
     ap (λ l. executed_if_loaded n l input) (written_loads p (image_placed h) ∙ ap Ok (image_segments h)) ∙ refl
@@ -173,40 +175,40 @@ put_twice map at first second =
     λ i. λ z. each z i
 
 moves-small : (flags : ℕ → ℕ) (m : Bytes) (n : ℕ) → TextStands flags m 45 (program (Addi 9 0 n ∷ []))
-    → next_move flags (s13 m) ≡ next (a0 m ((0 + n) % 2 ^ 32))
+    → next_effect flags (s13 m) ≡ next (a0 m ((0 + n) % 2 ^ 32))
 unfolding act give load_bytes store_bytes
-moves-small flags m n text = move-act flags (s13 m) (Addi 9 0 n) (stands-same (text 37 refl) refl) ∙ refl
+moves-small flags m n text = effect-act flags (s13 m) (Addi 9 0 n) (stands-same (text 37 refl) refl) ∙ refl
 
 -- between the two instructions of a large constant
 half_loaded : Bytes → ℕ → State
 half_loaded m u = give (s13 m) 9 (u * 2 ^ 12)
 
 moves-upper : (flags : ℕ → ℕ) (m : Bytes) (u l : ℕ) → TextStands flags m 46 (program (Lui 9 u ∷ Addi 9 9 l ∷ []))
-    → next_move flags (s13 m) ≡ next (half_loaded m u)
+    → next_effect flags (s13 m) ≡ next (half_loaded m u)
 unfolding act give load_bytes store_bytes half_loaded
-moves-upper flags m u l text = move-act flags (s13 m) (Lui 9 u) (stands-same (text 37 refl) refl) ∙ refl
+moves-upper flags m u l text = effect-act flags (s13 m) (Lui 9 u) (stands-same (text 37 refl) refl) ∙ refl
 
 moves-lower : (flags : ℕ → ℕ) (m : Bytes) (u l : ℕ) → TextStands flags m 46 (program (Lui 9 u ∷ Addi 9 9 l ∷ []))
-    → next_move flags (half_loaded m u) ≡ next (b0 m ((u * 2 ^ 12 + l) % 2 ^ 32))
+    → next_effect flags (half_loaded m u) ≡ next (b0 m ((u * 2 ^ 12 + l) % 2 ^ 32))
 unfolding act give load_bytes store_bytes half_loaded
 moves-lower flags m u l text =
-    move-act flags (half_loaded m u) (Addi 9 9 l) (stands-same (text 38 refl) refl)
+    effect-act flags (half_loaded m u) (Addi 9 9 l) (stands-same (text 38 refl) refl)
     ∙ ap (λ regs. next (record { pc = 65692; regs = regs; mem = (s13 m).mem })) (put_twice (s13 m).regs 9 (u * 2 ^ 12) ((u * 2 ^ 12 + l) % 2 ^ 32))
 
 -- ---- both cases
 
-small_exits : (n : ℕ) → n < 2048 → ExitsWithin 23 (file_of (parts_of_code (main_code (Addi 9 0 n ∷ [])))) (n % 256)
+small_exits : (n : ℕ) → n < 2048 → ExitsWithin 23 (file_of (sections_of_code (main_code (Addi 9 0 n ∷ [])))) (n % 256)
 small_exits n small count input enough =
     let li = Addi 9 0 n ∷ [] in
     let image = small_image n small in
-    let p = parts_of_code (main_code li) in
+    let p = sections_of_code (main_code li) in
     let flags = flags_of (segments p) in
     let m = memory_of (segments p) in
     let whole = image_stands image 45 (lit≤ tt) in
     let front = image_stands image 37 (lit≤ tt) in
     let allows = image_allows image in
     let v = (0 + n) % 2 ^ 32 in
-    let loaded_at : Leads flags 14 (s0 m) (a0 m v) = leads-more flags 13 (s0 m) (s13 m) (a0 m v) (front-leads flags m li front allows) (moves-small flags m n whole) in
+    let loaded_at : Reaches flags 14 (s0 m) (a0 m v) = reaches-more flags 13 (s0 m) (s13 m) (a0 m v) (front-reaches flags m li front allows) (moves-small flags m n whole) in
     let same : (v + 0) % 2 ^ 32 % 256 ≡ n % 256 = omega arith in
     let steps : count ≡ 22 + suc (count - 23) = omega arith in
     image_run image count input
@@ -215,19 +217,19 @@ small_exits n small count input enough =
     ∙ ap (λ status. Ok (standing (ended (exit status)) input)) same
 
 pub large_exits : (n u l : ℕ) → u < 2 ^ 20 → IsSigned 12 l → (u * 2 ^ 12 + l) % 2 ^ 32 ≡ n
-    → ExitsWithin 24 (file_of (parts_of_code (main_code (Lui 9 u ∷ Addi 9 9 l ∷ [])))) (n % 256)
+    → ExitsWithin 24 (file_of (sections_of_code (main_code (Lui 9 u ∷ Addi 9 9 l ∷ [])))) (n % 256)
 large_exits n u l upper low sum count input enough =
     let li = Lui 9 u ∷ Addi 9 9 l ∷ [] in
     let image = large_image u l upper low in
-    let p = parts_of_code (main_code li) in
+    let p = sections_of_code (main_code li) in
     let flags = flags_of (segments p) in
     let m = memory_of (segments p) in
     let whole = image_stands image 46 (lit≤ tt) in
     let front = image_stands image 37 (lit≤ tt) in
     let allows = image_allows image in
     let v = (u * 2 ^ 12 + l) % 2 ^ 32 in
-    let half : Leads flags 14 (s0 m) (half_loaded m u) = leads-more flags 13 (s0 m) (s13 m) (half_loaded m u) (front-leads flags m li front allows) (moves-upper flags m u l whole) in
-    let loaded_at : Leads flags 15 (s0 m) (b0 m v) = leads-more flags 14 (s0 m) (half_loaded m u) (b0 m v) half (moves-lower flags m u l whole) in
+    let half : Reaches flags 14 (s0 m) (half_loaded m u) = reaches-more flags 13 (s0 m) (s13 m) (half_loaded m u) (front-reaches flags m li front allows) (moves-upper flags m u l whole) in
+    let loaded_at : Reaches flags 15 (s0 m) (b0 m v) = reaches-more flags 14 (s0 m) (half_loaded m u) (b0 m v) half (moves-lower flags m u l whole) in
     let same : (v + 0) % 2 ^ 32 % 256 ≡ n % 256 = omega (arith, sum) in
     let steps : count ≡ 23 + suc (count - 24) = omega arith in
     image_run image count input
@@ -237,24 +239,11 @@ large_exits n u l upper low sum count input enough =
 
 -- the image whose constant is loaded by these instructions
 image_by : List Instr → List ℕ
-image_by li = file_of (parts_of_code (main_code li))
+image_by li = file_of (sections_of_code (main_code li))
 
 exits_by : (n bound : ℕ) (li : List Instr) → load_immediate 9 n ≡ li → ExitsWithin bound (image_by li) (n % 256) → ExitsWithin bound (image_of_constant n) (n % 256)
 unfolding image_by
-exits_by n bound li same exits count input enough = ap (λ code. mach count (image_by code) input) same ∙ exits count input enough
-
--- `lui` and `addi` make the word
-low_fits : (n : ℕ) → IsSigned 12 (low_part n)
-low_fits n = elim (cases_lt (n % 2 ^ 12) 2048) [
-  | inl less ↦ rw (lt-ltb (n % 2 ^ 12) 2048 less) (omega arith, omega arith)
-  | inr more ↦ rw (le-ltb (n % 2 ^ 12) 2048 more) (omega arith, omega arith)
-]
-
-parts_sum : (n : ℕ) → n < 2 ^ 32 → (upper_part n * 2 ^ 12 + low_part n) % 2 ^ 32 ≡ n
-parts_sum n small = elim (cases_lt (n % 2 ^ 12) 2048) [
-  | inl less ↦ rw (lt-ltb (n % 2 ^ 12) 2048 less) (omega arith)
-  | inr more ↦ rw (le-ltb (n % 2 ^ 12) 2048 more) (omega arith)
-]
+exits_by n bound li same exits count input enough = ap (λ code. image_at count (image_by code) input) same ∙ exits count input enough
 
 pub constant_exits : ConstantExits
 unfolding image_by
@@ -266,5 +255,5 @@ constant_exits n bound = elim (cases_lt n 2048) [
       let two : load_immediate 9 n ≡ Lui 9 (upper_part n) ∷ Addi 9 9 (low_part n) ∷ [] = rw (le-ltb ((n + 2048) % 2 ^ 32) 4096 (omega arith)) refl in
       rw (le-ltb n 2048 large)
       (exits_by n 24 (Lui 9 (upper_part n) ∷ Addi 9 9 (low_part n) ∷ []) two
-      (large_exits n (upper_part n) (low_part n) (omega arith) (low_fits n) (parts_sum n (omega arith))))
+      (large_exits n (upper_part n) (low_part n) (omega arith) (low_part_fits n) (parts_make_word n (omega arith))))
 ]

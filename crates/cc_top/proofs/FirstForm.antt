@@ -8,22 +8,22 @@ use Rattle.c_lex.specs.declared.punct.Punct.TheVariants as mark
 use Rattle.c_lex.specs.declared.token.Token.{Token}
 use Rattle.c_lex.specs.declared.token.TokenKind.{TokenKind}
 use Rattle.c_lex.specs.declared.token.TokenKind.TheVariants as kind
-use Rattle.c_ast.specs.Classes.{includes, same_class, class_number, repeated_number, optional_number, level_number}
-use Rattle.c_ast.specs.Grammar.{Fits, allowed, else_fits, optional, parts_of, production, repeated}
-use Rattle.c_ast.specs.Labels as label
+use Rattle.c_ast.specs.Nonterminals.{includes, same_nonterminal, nonterminal_number, repeated_number, optional_number, level_number}
+use Rattle.c_ast.specs.Grammar.{Fits, allowed, else_fits, optional, symbols_of, rule, repeated}
+use Rattle.c_ast.specs.Productions as production
 use Rattle.c_ast.specs.Nesting.{depth}
-use Rattle.c_ast.specs.Parts.{node}
+use Rattle.c_ast.specs.Nodes.{node}
 use Rattle.c_ast.specs.Shape.{FollowsGrammar, Shaped}
 use Rattle.c_ast.specs.Spelling.{kinds, spelled, tokens_of}
-use Rattle.c_ast.specs.Terminals.{AnyName, AnyNumber, Mark, Word, is, mark_number, word_number}
+use Rattle.c_ast.specs.Terminals.{AnyName, AnyNumber, Mark, Word, is, mark_number, keyword_number}
 use Rattle.c_ast.specs.Tree.{Tree, Leaf}
-use Rattle.cc_top.specs.Source.{constant_of, after_return, and_behind, behind, int_constant, is_end, is_part, last_constant}
-use Rattle.cc_top.specs.declared.source.Part.{Part}
-use Rattle.cc_top.specs.declared.source.Part.TheVariants.{Int, Main, LeftParen, Void, RightParen, LeftBrace, Return, Semicolon, RightBrace}
+use Rattle.cc_top.specs.Source.{constant_of, after_return, and_tokens_after, tokens_after, int_constant, is_end, is_fixed_token, last_constant}
+use Rattle.cc_top.specs.declared.source.FixedToken.{FixedToken}
+use Rattle.cc_top.specs.declared.source.FixedToken.TheVariants.{Int, Main, LeftParen, Void, RightParen, LeftBrace, Return, Semicolon, RightBrace}
 
 -- ---- the tokens
 
-abbrev HasKind : Part → TokenKind → Type 0
+abbrev HasKind : FixedToken → TokenKind → Type 0
 HasKind Int k = k ≡ kind.Keyword word.Int
 HasKind Main k = (name : List ℕ) × (k ≡ kind.Name name)
 HasKind LeftParen k = k ≡ kind.Punct mark.LParen
@@ -34,37 +34,37 @@ HasKind Return k = k ≡ kind.Keyword word.Return
 HasKind Semicolon k = k ≡ kind.Punct mark.Semicolon
 HasKind RightBrace k = k ≡ kind.Punct mark.RBrace
 
-part_kind : (part : Part) (k : TokenKind) → is_part part k ≡ true → HasKind part k
-part_kind Int (kind.Keyword word.Int) e = refl
-part_kind Main (kind.Name name) e = (name, refl)
-part_kind LeftParen (kind.Punct mark.LParen) e = refl
-part_kind Void (kind.Keyword word.Void) e = refl
-part_kind RightParen (kind.Punct mark.RParen) e = refl
-part_kind LeftBrace (kind.Punct mark.LBrace) e = refl
-part_kind Return (kind.Keyword word.Return) e = refl
-part_kind Semicolon (kind.Punct mark.Semicolon) e = refl
-part_kind RightBrace (kind.Punct mark.RBrace) e = refl
-part_kind part k e = absurd (false≢true e)
+fixed_kind : (expected : FixedToken) (k : TokenKind) → is_fixed_token expected k ≡ true → HasKind expected k
+fixed_kind Int (kind.Keyword word.Int) e = refl
+fixed_kind Main (kind.Name name) e = (name, refl)
+fixed_kind LeftParen (kind.Punct mark.LParen) e = refl
+fixed_kind Void (kind.Keyword word.Void) e = refl
+fixed_kind RightParen (kind.Punct mark.RParen) e = refl
+fixed_kind LeftBrace (kind.Punct mark.LBrace) e = refl
+fixed_kind Return (kind.Keyword word.Return) e = refl
+fixed_kind Semicolon (kind.Punct mark.Semicolon) e = refl
+fixed_kind RightBrace (kind.Punct mark.RBrace) e = refl
+fixed_kind expected k e = absurd (false≢true e)
 
--- the first token is this part
-abbrev Begins : Part → List Token → List Token → Type 0
-Begins part ts rest = (t : Token) × (ts ≡ t ∷ rest) × HasKind part t.kind
+-- the first token is this one
+abbrev Begins : FixedToken → List Token → List Token → Type 0
+Begins expected ts rest = (t : Token) × (ts ≡ t ∷ rest) × HasKind expected t.kind
 
-begins_if : (part : Part) (t : Token) (ts rest : List Token) (b : Bool) → is_part part t.kind ≡ b → (if b then Some ts else None) ≡ Some rest → Begins part (t ∷ ts) rest
-begins_if part t ts rest true e h = let same : ts ≡ rest = cc in (t, ap (λ (more : List Token). t ∷ more) same, part_kind part t.kind e)
-begins_if part t ts rest false e h = absurd (cc h)
+begins_if : (expected : FixedToken) (t : Token) (ts rest : List Token) (b : Bool) → is_fixed_token expected t.kind ≡ b → (if b then Some ts else None) ≡ Some rest → Begins expected (t ∷ ts) rest
+begins_if expected t ts rest true e h = let same : ts ≡ rest = cc in (t, ap (λ (more : List Token). t ∷ more) same, fixed_kind expected t.kind e)
+begins_if expected t ts rest false e h = absurd (cc h)
 
-begins : (part : Part) (ts rest : List Token) → behind part ts ≡ Some rest → Begins part ts rest
-begins part [] rest h = absurd (cc h)
-begins part (t ∷ ts) rest h = begins_if part t ts rest (is_part part t.kind) refl h
+begins : (expected : FixedToken) (ts rest : List Token) → tokens_after expected ts ≡ Some rest → Begins expected ts rest
+begins expected [] rest h = absurd (cc h)
+begins expected (t ∷ ts) rest h = begins_if expected t ts rest (is_fixed_token expected t.kind) refl h
 
--- the first token of those that are there is this part
-abbrev GoesOn : Part → Option (List Token) → List Token → Type 0
-GoesOn part o rest = (t : Token) × (o ≡ Some (t ∷ rest)) × HasKind part t.kind
+-- the first token of those that are there is this one
+abbrev GoesOn : FixedToken → Option (List Token) → List Token → Type 0
+GoesOn expected o rest = (t : Token) × (o ≡ Some (t ∷ rest)) × HasKind expected t.kind
 
-goes_on : (part : Part) (o : Option (List Token)) (rest : List Token) → and_behind part o ≡ Some rest → GoesOn part o rest
-goes_on part None rest h = absurd (cc h)
-goes_on part (Some ts) rest h = let b = begins part ts rest h in (b.0, ap Some b.1, b.2)
+goes_on : (expected : FixedToken) (o : Option (List Token)) (rest : List Token) → and_tokens_after expected o ≡ Some rest → GoesOn expected o rest
+goes_on expected None rest h = absurd (cc h)
+goes_on expected (Some ts) rest h = let b = begins expected ts rest h in (b.0, ap Some b.1, b.2)
 
 -- the tokens before the constant
 record Front (ts rest : List Token) : Type 0 where
@@ -86,12 +86,12 @@ record Front (ts rest : List Token) : Type 0 where
 
 front : (ts rest : List Token) → after_return ts ≡ Some rest → Front ts rest
 front ts rest h =
-    let o1 : Option (List Token) = behind Int ts in
-    let o2 : Option (List Token) = and_behind Main o1 in
-    let o3 : Option (List Token) = and_behind LeftParen o2 in
-    let o4 : Option (List Token) = and_behind Void o3 in
-    let o5 : Option (List Token) = and_behind RightParen o4 in
-    let o6 : Option (List Token) = and_behind LeftBrace o5 in
+    let o1 : Option (List Token) = tokens_after Int ts in
+    let o2 : Option (List Token) = and_tokens_after Main o1 in
+    let o3 : Option (List Token) = and_tokens_after LeftParen o2 in
+    let o4 : Option (List Token) = and_tokens_after Void o3 in
+    let o5 : Option (List Token) = and_tokens_after RightParen o4 in
+    let o6 : Option (List Token) = and_tokens_after LeftBrace o5 in
     let g : GoesOn Return o6 rest = goes_on Return o6 rest h in
     let f : GoesOn LeftBrace o5 (g.0 ∷ rest) = goes_on LeftBrace o5 (g.0 ∷ rest) g.1 in
     let e : GoesOn RightParen o4 (f.0 ∷ g.0 ∷ rest) = goes_on RightParen o4 (f.0 ∷ g.0 ∷ rest) f.1 in
@@ -117,7 +117,7 @@ front ts rest h =
       is_w = g.2;
     }
 
--- the constant and the tokens behind it
+-- the constant and the tokens after it
 record Back (ts : List Token) : Type 0 where
   n : Token
   s : Token
@@ -154,11 +154,11 @@ ended_by : (ts : List Token) (n : ℕ) → last_constant ts ≡ Some n → Back 
 unfolding IsNumber
 ended_by [] n h = absurd (cc h)
 ended_by (t ∷ ts) n h =
-    let o : Option (List Token) = behind Semicolon ts in
-    let both : (is_end (and_behind RightBrace o) ≡ true) × (int_constant t.kind ≡ Some n) =
-    at_end (is_end (and_behind RightBrace o)) (int_constant t.kind) n h in
+    let o : Option (List Token) = tokens_after Semicolon ts in
+    let both : (is_end (and_tokens_after RightBrace o) ≡ true) × (int_constant t.kind ≡ Some n) =
+    at_end (is_end (and_tokens_after RightBrace o)) (int_constant t.kind) n h in
     let k : IsNumber t.kind = number t.kind n both.1 in
-    let e : GoesOn RightBrace o [] = goes_on RightBrace o [] (ended (and_behind RightBrace o) both.0) in
+    let e : GoesOn RightBrace o [] = goes_on RightBrace o [] (ended (and_tokens_after RightBrace o) both.0) in
     let s : Begins Semicolon ts (e.0 ∷ []) = begins Semicolon ts (e.0 ∷ []) e.1 in
     record {
       n = t;
@@ -176,50 +176,59 @@ ended_by (t ∷ ts) n h =
 
 main_tree : (i x l v r b w n s e : Token) → Tree
 main_tree i x l v r b w n s e =
-    let none = node (label.Empty label.Externals) [] in
-    let number = node label.Expr (node label.Number (Leaf n ∷ []) ∷ node (label.Empty label.MoreAssigns) [] ∷ []) in
-    let returned = node label.Return (Leaf w ∷ node (label.Present label.Clause) (number ∷ []) ∷ Leaf s ∷ []) in
-    let items = node (label.More label.Items) (node (label.Empty label.Items) [] ∷ returned ∷ []) in
-    let block = node label.Block (Leaf b ∷ items ∷ Leaf e ∷ []) in
+    let none = node (production.Empty production.Externals) [] in
+    let number = node production.Expr (node production.Number (Leaf n ∷ []) ∷ node (production.Empty production.MoreAssigns) [] ∷ []) in
+    let returned = node production.Return (Leaf w ∷ node (production.Present production.Clause) (number ∷ []) ∷ Leaf s ∷ []) in
+    let items = node (production.More production.Items) (node (production.Empty production.Items) [] ∷ returned ∷ []) in
+    let block = node production.Block (Leaf b ∷ items ∷ Leaf e ∷ []) in
     let param =
-    node label.Param (node (label.Absent label.Constant) [] ∷ node label.Void (Leaf v ∷ []) ∷ node (label.Empty label.Stars) [] ∷ node (label.Absent label.ParamName) [] ∷ node (label.Empty label.OpenDimensions) [] ∷ []) in
-    let params = node (label.Present label.Params) (param ∷ node (label.Empty label.MoreParams) [] ∷ []) in
-    let function = node label.Function (Leaf l ∷ params ∷ Leaf r ∷ block ∷ []) in
-    let declared = node label.Declared (node (label.Empty label.Stars) [] ∷ Leaf x ∷ function ∷ []) in
-    node (label.More label.Externals) (none ∷ node label.Plain (node label.Int (Leaf i ∷ []) ∷ declared ∷ []) ∷ [])
+    node production.Param
+    (node (production.Absent production.Constant) [] ∷ node production.Void (Leaf v ∷ []) ∷ node (production.Empty production.Stars) [] ∷ node (production.Absent production.ParamName) []
+    ∷ node (production.Empty production.OpenDimensions) [] ∷ []) in
+    let params = node (production.Present production.Params) (param ∷ node (production.Empty production.MoreParams) [] ∷ []) in
+    let function = node production.Function (Leaf l ∷ params ∷ Leaf r ∷ block ∷ []) in
+    let declared = node production.Declared (node (production.Empty production.Stars) [] ∷ Leaf x ∷ function ∷ []) in
+    node (production.More production.Externals) (none ∷ node production.Plain (node production.Int (Leaf i ∷ []) ∷ declared ∷ []) ∷ [])
 
 main_tokens : (i x l v r b w n s e : Token) → tokens_of (main_tree i x l v r b w n s e) ≡ i ∷ x ∷ l ∷ v ∷ r ∷ b ∷ w ∷ n ∷ s ∷ e ∷ []
 unfolding main_tree spelled
 main_tokens i x l v r b w n s e = refl
 
-main_follows : (i x l v r b w n s e : Token) → is (Word word.Int) i.kind ≡ true → is AnyName x.kind ≡ true → is (Mark mark.LParen) l.kind ≡ true → is (Word word.Void) v.kind ≡ true → is (Mark mark.RParen) r.kind ≡ true → is (Mark mark.LBrace) b.kind ≡ true → is (Word word.Return) w.kind ≡ true → is AnyNumber n.kind ≡ true → is (Mark mark.Semicolon) s.kind ≡ true → is (Mark mark.RBrace) e.kind ≡ true → FollowsGrammar (main_tree i x l v r b w n s e)
-unfolding main_tree Fits allowed else_fits optional parts_of production repeated includes same_class class_number repeated_number optional_number level_number
+main_follows : (i x l v r b w n s e : Token) → is (Word word.Int) i.kind ≡ true → is AnyName x.kind ≡ true → is (Mark mark.LParen) l.kind ≡ true → is (Word word.Void) v.kind ≡ true
+    → is (Mark mark.RParen) r.kind ≡ true → is (Mark mark.LBrace) b.kind ≡ true → is (Word word.Return) w.kind ≡ true → is AnyNumber n.kind ≡ true → is (Mark mark.Semicolon) s.kind ≡ true
+    → is (Mark mark.RBrace) e.kind ≡ true → FollowsGrammar (main_tree i x l v r b w n s e)
+unfolding main_tree Fits allowed else_fits optional symbols_of rule repeated includes same_nonterminal nonterminal_number repeated_number optional_number level_number
 main_follows i x l v r b w n s e is_i is_x is_l is_v is_r is_b is_w is_n is_s is_e = assumption refl
 
-main_shallow : (i x l v r b w n s e : TokenKind) → HasKind Int i → HasKind Main x → HasKind LeftParen l → HasKind Void v → HasKind RightParen r → HasKind LeftBrace b → HasKind Return w → (value : ℕ) (unsigned : Bool) → n ≡ kind.Number value unsigned → HasKind Semicolon s → HasKind RightBrace e → depth (i ∷ x ∷ l ∷ v ∷ r ∷ b ∷ w ∷ n ∷ s ∷ e ∷ []) ≤ 200
-unfolding is word_number
+main_shallow : (i x l v r b w n s e : TokenKind) → HasKind Int i → HasKind Main x → HasKind LeftParen l → HasKind Void v → HasKind RightParen r → HasKind LeftBrace b → HasKind Return w
+    → (value : ℕ) (unsigned : Bool) → n ≡ kind.Number value unsigned → HasKind Semicolon s → HasKind RightBrace e → depth (i ∷ x ∷ l ∷ v ∷ r ∷ b ∷ w ∷ n ∷ s ∷ e ∷ []) ≤ 200
+unfolding is keyword_number
 main_shallow i x l v r b w n s e is_i is_x is_l is_v is_r is_b is_w value unsigned is_n is_s is_e =
     let x_is = is_x.1 in
     let P : List TokenKind → Type 0 = λ ks. depth ks ≤ 200 in
-    let same : kind.Keyword word.Int ∷ kind.Name is_x.0 ∷ kind.Punct mark.LParen ∷ kind.Keyword word.Void ∷ kind.Punct mark.RParen ∷ kind.Punct mark.LBrace ∷ kind.Keyword word.Return ∷ kind.Number value unsigned ∷ kind.Punct mark.Semicolon ∷ kind.Punct mark.RBrace ∷ [] ≡ i ∷ x ∷ l ∷ v ∷ r ∷ b ∷ w ∷ n ∷ s ∷ e ∷ [] = cc in
+    let same : kind.Keyword word.Int ∷ kind.Name is_x.0 ∷ kind.Punct mark.LParen ∷ kind.Keyword word.Void ∷ kind.Punct mark.RParen ∷ kind.Punct mark.LBrace ∷ kind.Keyword word.Return
+    ∷ kind.Number value unsigned ∷ kind.Punct mark.Semicolon ∷ kind.Punct mark.RBrace ∷ [] ≡ i ∷ x ∷ l ∷ v ∷ r ∷ b ∷ w ∷ n ∷ s ∷ e ∷ [] = cc in
     subst P same (lit≤ tt)
 
-by_parts : (ts rest : List Token) → Front ts rest → Back rest → (t : Tree) × Shaped t × (tokens_of t ≡ ts)
-unfolding is word_number mark_number
-by_parts ts rest f g =
+by_front_and_back : (ts rest : List Token) → Front ts rest → Back rest → (t : Tree) × Shaped t × (tokens_of t ≡ ts)
+unfolding is keyword_number mark_number
+by_front_and_back ts rest f g =
     let t : Tree = main_tree f.i f.x f.l f.v f.r f.b f.w g.n g.s g.e in
     let split = f.split in
     let last = g.split in
     let spells : tokens_of t ≡ ts = main_tokens f.i f.x f.l f.v f.r f.b f.w g.n g.s g.e ∙ cc in
     let follows : FollowsGrammar t =
-    main_follows f.i f.x f.l f.v f.r f.b f.w g.n g.s g.e (ap (is (Word word.Int)) f.is_i) (ap (is AnyName) f.is_x.1) (ap (is (Mark mark.LParen)) f.is_l) (ap (is (Word word.Void)) f.is_v) (ap (is (Mark mark.RParen)) f.is_r) (ap (is (Mark mark.LBrace)) f.is_b) (ap (is (Word word.Return)) f.is_w) (ap (is AnyNumber) g.is_n) (ap (is (Mark mark.Semicolon)) g.is_s) (ap (is (Mark mark.RBrace)) g.is_e) in
-    let low = main_shallow f.i.kind f.x.kind f.l.kind f.v.kind f.r.kind f.b.kind f.w.kind g.n.kind g.s.kind g.e.kind f.is_i f.is_x f.is_l f.is_v f.is_r f.is_b f.is_w g.value g.unsigned g.is_n g.is_s g.is_e in
+    main_follows f.i f.x f.l f.v f.r f.b f.w g.n g.s g.e (ap (is (Word word.Int)) f.is_i) (ap (is AnyName) f.is_x.1) (ap (is (Mark mark.LParen)) f.is_l) (ap (is (Word word.Void)) f.is_v)
+    (ap (is (Mark mark.RParen)) f.is_r) (ap (is (Mark mark.LBrace)) f.is_b) (ap (is (Word word.Return)) f.is_w) (ap (is AnyNumber) g.is_n) (ap (is (Mark mark.Semicolon)) g.is_s)
+    (ap (is (Mark mark.RBrace)) g.is_e) in
+    let low = main_shallow f.i.kind f.x.kind f.l.kind f.v.kind f.r.kind f.b.kind f.w.kind g.n.kind g.s.kind g.e.kind f.is_i f.is_x f.is_l f.is_v f.is_r f.is_b f.is_w g.value g.unsigned g.is_n g.is_s
+    g.is_e in
     let P : List Token → Type 0 = λ us. depth (kinds us) ≤ 200 in
     (t, (follows, subst P (sym (main_tokens f.i f.x f.l f.v f.r f.b f.w g.n g.s g.e)) low), spells)
 
 by_rest : (ts : List Token) (o : Option (List Token)) (n : ℕ) → after_return ts ≡ o → option_and_then last_constant o ≡ Some n → (t : Tree) × Shaped t × (tokens_of t ≡ ts)
 by_rest ts None n e h = absurd (cc h)
-by_rest ts (Some rest) n e h = by_parts ts rest (front ts rest e) (ended_by rest n h)
+by_rest ts (Some rest) n e h = by_front_and_back ts rest (front ts rest e) (ended_by rest n h)
 
 pub accepted_is_a_program : (ts : List Token) (n : ℕ) → constant_of ts ≡ Some n → (t : Tree) × Shaped t × (tokens_of t ≡ ts)
 accepted_is_a_program ts n h = by_rest ts (after_return ts) n refl h

@@ -9,7 +9,7 @@ use Rattle.c_lex.specs.declared.fault.LexFault.{LexFault}
 use Rattle.c_lex.specs.declared.token.Token.{Token}
 use Rattle.c_parse.specs.Refusal.{Accepts, Agree, Answers}
 use Rattle.c_parse.specs.declared.fault.ParseFault.{ParseFault}
-use Rattle.c_parse.specs.declared.fault.ParseFault.TheVariants.{LeftOut, TooDeep, Syntax, Memory}
+use Rattle.c_parse.specs.declared.fault.ParseFault.TheVariants.{LeftOut, TooDeep, Syntax, NoMemory}
 use Rattle.c_parse.proofs.AnswerLaws.{one_answer, shaped_is_accepted}
 use Rattle.cc_top.specs.Refusal.{refusal_of_tokens}
 use Rattle.cc_top.specs.Source.{AcceptedIsNotRefused, AreRefused, IsRefusedBy, OneRefusal, constant_of, refusal_of_answer, returned_by, unless_built}
@@ -20,15 +20,15 @@ same_fault : (s : List ℕ) (e f : ParseFault) (p q : Refusal) → Agree (Err e)
 same_fault s (LeftOut x) (LeftOut y) p q h a b = cc
 same_fault s (TooDeep x) (TooDeep y) p q h a b = cc
 same_fault s (Syntax x) (Syntax y) p q h a b = cc
-same_fault s Memory f p q h a b = cc
-same_fault s e Memory p q h a b = cc
+same_fault s NoMemory f p q h a b = cc
+same_fault s e NoMemory p q h a b = cc
 same_fault s e f p q h a b = cc
 
 same_answer : (ts : List Token) (s : List ℕ) (r t : Result ast.Unit ParseFault) (p q : Refusal) → Agree r t → refusal_of_answer r ts s ≡ Some p → refusal_of_answer t ts s ≡ Some q → p ≡ q
 same_answer ts s (Ok u) (Ok v) p q h a b = cc
-same_answer ts s (Ok u) (Err Memory) p q h a b = cc
+same_answer ts s (Ok u) (Err NoMemory) p q h a b = cc
 same_answer ts s (Ok u) (Err f) p q h a b = absurd h
-same_answer ts s (Err Memory) t p q h a b = cc
+same_answer ts s (Err NoMemory) t p q h a b = cc
 same_answer ts s (Err e) (Ok v) p q h a b = absurd h
 same_answer ts s (Err e) (Err f) p q h a b = same_fault s e f p q h a b
 
@@ -44,7 +44,7 @@ one_refusal s p q h k = one_by s (lexed s) p q h k
 
 no_fault : (t : Tree) (ts : List Token) (s : List ℕ) (n : ℕ) (r : Result ast.Unit ParseFault) (p : Refusal) → constant_of ts ≡ Some n → Accepts t r → refusal_of_answer r ts s ≡ Some p → ⊥
 no_fault t ts s n (Ok u) p is a h = let built = ap unless_built is in cc
-no_fault t ts s n (Err Memory) p is a h = cc
+no_fault t ts s n (Err NoMemory) p is a h = cc
 no_fault t ts s n (Err e) p is a h = absurd a
 
 no_refusal : (ts : List Token) (s : List ℕ) (n : ℕ) (p : Refusal) → constant_of ts ≡ Some n → AreRefused ts s p → ⊥

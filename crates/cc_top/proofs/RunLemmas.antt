@@ -1,4 +1,4 @@
--- What the machine and the file's reader say, in the words of the command `run`.
+-- What the machine and the file's reader say, in the terms of the command `run`.
 use Rattle.std.proofs.Common.{◌≡◌, ◌⊎◌, ℕ, ◌<◌, List, Ok, Err, length, take, refl, ap, sym, ◌∙◌, subst, inl, inr, arith}
 use Rattle.std.specs.Option.{ForSome}
 use Rattle.std.proofs.lemmas.Bool.{cases_lt, lt-ltb}
@@ -8,19 +8,19 @@ use Rattle.elf_file.specs.Loading.{Executable, loaded, fault_of}
 use Rattle.elf_file.specs.declared.fault.ElfFault.{ElfFault}
 use Rattle.elf_file.specs.declared.fault.ElfFault.TheVariants.{LongFile}
 use Rattle.rv_machine.specs.Memory.{flags_of}
-use Rattle.rv_machine.specs.Run.{Hart, Outcome as RunOutcome, running, start, run, executed, executed_if_loaded, mach}
+use Rattle.rv_machine.specs.Run.{Hart, RunResult, running, start, run, executed, executed_if_loaded, image_at}
 use Rattle.rv_machine.specs.Runs.{IsLeft, IsSomeRun, HasCome, IsWhole}
-use Rattle.rv_machine.specs.Steps.{Streams, HasRisen, stop_of}
+use Rattle.rv_machine.specs.Steps.{Streams, HasIncreased, stop_of}
 use Rattle.rv_machine.specs.declared.stop.Stop.{Stop}
 use Rattle.rv_machine.specs.declared.stop.Stop.TheVariants as stop
-use Rattle.cc_top.specs.BuildEnds.{Keeps}
+use Rattle.cc_top.specs.BuildEnds.{Unchanged}
 use Rattle.cc_top.specs.Outside.{Outside, KeepsStreams}
-use Rattle.cc_top.specs.RunEnds.{RunEnds, RunCause, RunOf, Ran, RanInPart, HasRun}
+use Rattle.cc_top.specs.RunEnds.{RunEnds, RunCause, RunOf, Ran, RanFewer, HasRun}
 use Rattle.cc_top.specs.StopOutcomes.{outcome_of}
 use Rattle.cc_top.specs.declared.outcome.Outcome.{Outcome}
 use Rattle.cc_top.specs.declared.outcome.Outcome.TheVariants.{BadImage, NoMemory}
 
--- ---- a file that is longer than the limit is refused, so one byte more than the limit tells enough
+-- ---- a file that is longer than the limit is refused, so the limit and one more byte decide
 
 too_long : (bytes : List ℕ) → 268435456 < length bytes → loaded bytes ≡ Err LongFile
 unfolding fault_of
@@ -40,12 +40,12 @@ loaded-take bytes =
 abbrev pub streams_of : Outside → Streams
 streams_of o = record { held = o.output.bytes; left = o.input.bytes }
 
-mach_is : (bytes : List ℕ) (e : Executable) → loaded bytes ≡ Ok e → (n : ℕ) (input : List ℕ)
-    → mach n bytes input ≡ Ok (run (flags_of e.segments) n (running (start e)) input)
+image_at_is : (bytes : List ℕ) (e : Executable) → loaded bytes ≡ Ok e → (n : ℕ) (input : List ℕ)
+    → image_at n bytes input ≡ Ok (run (flags_of e.segments) n (running (start e)) input)
 unfolding executed
-mach_is bytes e is n input = ap (λ l. executed_if_loaded n l input) is
+image_at_is bytes e is n input = ap (λ l. executed_if_loaded n l input) is
 
-has_run : (o : RunOutcome) (h : Hart) (before after : Outside) → HasCome o h (streams_of before) (streams_of after) → HasRun o before after
+has_run : (o : RunResult) (h : Hart) (before after : Outside) → HasCome o h (streams_of before) (streams_of after) → HasRun o before after
 has_run o h before after come = record { output = come.output; rest = come.rest }
 
 -- a run that was not cut off
@@ -55,15 +55,15 @@ whole : (steps : ℕ) (bytes : List ℕ) (e : Executable) → loaded bytes ≡ O
     → Ran steps bytes s before after
 whole steps bytes e is before after new s input left (come, same) =
     let o = run (flags_of e.segments) steps (running (start e)) input in
-    (input, left, (o, mach_is bytes e is steps input, same ∙ ap stop_of come.hart, has_run o new before after come))
+    (input, left, (o, image_at_is bytes e is steps input, same ∙ ap stop_of come.hart, has_run o new before after come))
 
-part : (steps : ℕ) (bytes : List ℕ) (e : Executable) → loaded bytes ≡ Ok e → (before after : Outside) (new : Hart) (input : List ℕ)
+cut_off : (steps : ℕ) (bytes : List ℕ) (e : Executable) → loaded bytes ≡ Ok e → (before after : Outside) (new : Hart) (input : List ℕ)
     → IsLeft before.input.bytes input → (m : ℕ) → m < steps
     → HasCome (run (flags_of e.segments) m (running (start e)) input) new (streams_of before) (streams_of after)
-    → RanInPart steps bytes before after
-part steps bytes e is before after new input left m fewer come =
+    → RanFewer steps bytes before after
+cut_off steps bytes e is before after new input left m fewer come =
     let o = run (flags_of e.segments) m (running (start e)) input in
-    (input, left, (m, fewer, (o, mach_is bytes e is m input, has_run o new before after come)))
+    (input, left, (m, fewer, (o, image_at_is bytes e is m input, has_run o new before after come)))
 
 run_of : (steps : ℕ) (bytes : List ℕ) (e : Executable) → loaded bytes ≡ Ok e → (before after : Outside) (new : Hart) (s : Stop)
     → IsSomeRun (flags_of e.segments) steps (running (start e)) new (streams_of before) (streams_of after) s
@@ -72,49 +72,49 @@ run_of steps bytes e is before after new (stop.Exit status) r = whole steps byte
 run_of steps bytes e is before after new stop.Stack r = whole steps bytes e is before after new stop.Stack r.0 r.1 r.2
 run_of steps bytes e is before after new stop.Budget r = whole steps bytes e is before after new stop.Budget r.0 r.1 r.2
 run_of steps bytes e is before after new (stop.Stuck pc why) r = whole steps bytes e is before after new (stop.Stuck pc why) r.0 r.1 r.2
-run_of steps bytes e is before after new stop.ReadFault r = inr (part steps bytes e is before after new r.0 r.1 r.2.0 r.2.1 r.2.2)
-run_of steps bytes e is before after new stop.WriteFault r = part steps bytes e is before after new r.0 r.1 r.2.0 r.2.1 r.2.2
+run_of steps bytes e is before after new stop.ReadFault r = inr (cut_off steps bytes e is before after new r.0 r.1 r.2.0 r.2.1 r.2.2)
+run_of steps bytes e is before after new stop.WriteFault r = cut_off steps bytes e is before after new r.0 r.1 r.2.0 r.2.1 r.2.2
 
-run_cause : (image : Name) (s : Stop) (before after : Outside) → HasRisen s before.input.faults after.input.faults before.output.faults after.output.faults
+run_cause : (image : Name) (s : Stop) (before after : Outside) → HasIncreased s before.input.faults after.input.faults before.output.faults after.output.faults
     → RunCause image (outcome_of s) before after
-run_cause image (stop.Exit status) before after rose = tt
-run_cause image stop.Stack before after rose = tt
-run_cause image stop.Budget before after rose = tt
-run_cause image (stop.Stuck pc why) before after rose = tt
-run_cause image stop.ReadFault before after rose = inr rose
-run_cause image stop.WriteFault before after rose = rose
+run_cause image (stop.Exit status) before after increased = tt
+run_cause image stop.Stack before after increased = tt
+run_cause image stop.Budget before after increased = tt
+run_cause image (stop.Stuck pc why) before after increased = tt
+run_cause image stop.ReadFault before after increased = inr increased
+run_cause image stop.WriteFault before after increased = increased
 
 -- the whole command, where the machine ran
 pub run_ends : (image : Name) (steps : ℕ) (before after : Outside) (outcome : Outcome) (s : Stop) (flags : ℕ → ℕ) (old new : Hart) (read : List ℕ)
-    → outcome ≡ outcome_of s → Keeps before.files after.files
-    → ForSome before.files.told (λ files. read ≡ take 268435457 (content image files))
+    → outcome ≡ outcome_of s → Unchanged before.files after.files
+    → ForSome before.files.known (λ files. read ≡ take 268435457 (content image files))
     → (e : Executable) → loaded read ≡ Ok e → old ≡ running (start e) → flags ≡ flags_of e.segments
     → IsSomeRun flags steps old new (streams_of before) (streams_of after) s
-    → HasRisen s before.input.faults after.input.faults before.output.faults after.output.faults
+    → HasIncreased s before.input.faults after.input.faults before.output.faults after.output.faults
     → RunEnds image steps outcome before after
-run_ends image steps before after outcome s flags old new read ended keeps bytes e is at allows r rose =
+run_ends image steps before after outcome s flags old new read ended keeps bytes e is at allows r increased =
     let r' : IsSomeRun (flags_of e.segments) steps (running (start e)) new (streams_of before) (streams_of after) s =
     subst (λ f. IsSomeRun f steps (running (start e)) new (streams_of before) (streams_of after) s) allows
     (subst (λ h. IsSomeRun flags steps h new (streams_of before) (streams_of after) s) at r) in
     subst (λ o. RunEnds image steps o before after) (sym ended) (record {
-      cause = run_cause image s before after rose;
+      cause = run_cause image s before after increased;
       files = keeps;
-      run = λ files told.
-          let same : loaded (content image files) ≡ Ok e = sym (loaded-take (content image files)) ∙ ap loaded (sym (bytes files told)) ∙ is in
+      run = λ files known.
+          let same : loaded (content image files) ≡ Ok e = sym (loaded-take (content image files)) ∙ ap loaded (sym (bytes files known)) ∙ is in
           run_of steps (content image files) e same before after new s r';
     })
 
 -- the whole command, where there was no machine to run
 pub run_refused : (image : Name) (steps : ℕ) (before after : Outside) (outcome : Outcome) (read : List ℕ)
-    → Keeps before.files after.files → KeepsStreams before after
-    → ForSome before.files.told (λ files. read ≡ take 268435457 (content image files))
+    → Unchanged before.files after.files → KeepsStreams before after
+    → ForSome before.files.known (λ files. read ≡ take 268435457 (content image files))
     → (outcome ≡ NoMemory) ⊎ ((fault : ElfFault) × (outcome ≡ BadImage fault) × (loaded read ≡ Err fault))
     → RunEnds image steps outcome before after
 run_refused image steps before after outcome read keeps streams bytes why = elim why [
-  | inl none ↦ subst (λ o. RunEnds image steps o before after) (sym none) (record { cause = streams; files = keeps; run = λ files told. tt })
+  | inl none ↦ subst (λ o. RunEnds image steps o before after) (sym none) (record { cause = streams; files = keeps; run = λ files known. tt })
   | inr bad ↦ subst (λ o. RunEnds image steps o before after) (sym bad.1) (record {
     cause = streams;
     files = keeps;
-    run = λ files told. sym (loaded-take (content image files)) ∙ ap loaded (sym (bytes files told)) ∙ bad.2;
+    run = λ files known. sym (loaded-take (content image files)) ∙ ap loaded (sym (bytes files known)) ∙ bad.2;
   })
 ]

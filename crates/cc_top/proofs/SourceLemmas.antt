@@ -1,4 +1,4 @@
--- A source that is longer than the limit is refused at the limit, so one byte more than the limit tells enough; and an
+-- A source that is longer than the limit is refused at the limit, so the limit and one more byte decide; and an
 -- accepted one returns an `int`.
 use Rattle.std.proofs.Common.{◌≡◌, ℕ, ◌%◌, ◌<◌, ◌^◌, ◌+◌, ◌≤◌, true, false, List, [], ◌∷◌, Option, None, Some, length, take, refl, ap, sym, ◌∙◌, subst, inl, inr, nat_lt, option_map, count_by, arith}
 use Rattle.std.proofs.Common.{Global, Result, Ok, Err, Vec, IfOk, IfErr}
@@ -17,13 +17,13 @@ use Rattle.cc_top.specs.Layout.{image_of_constant}
 use Rattle.cc_top.specs.Program.{Compiles, ExitsWithin, instruction_count}
 use Rattle.c_lex.specs.Results.{Fails}
 use Rattle.cc_top.specs.Refusal.{is_line_end, refusal_of, refused_at}
-use Rattle.cc_top.specs.declared.refusal.Rule.TheVariants.{BadByte, OpenComment, OpenText, BadText, TooWide, LongName, Directive, ManyTokens, BadNumber, LongSource}
-use Rattle.cc_top.specs.Refused.{CompileFails, IsJudgedSo, outcome_of_refusal}
-use Rattle.cc_top.specs.Source.{after_return, int_constant, is_end, and_behind, behind, IsRefused, IsRefusedBy, last_constant, returned, returned_by}
+use Rattle.cc_top.specs.declared.refusal.RefusalKind.TheVariants.{BadByte, OpenComment, OpenText, BadText, TooWide, LongName, Directive, ManyTokens, BadNumber, LongSource}
+use Rattle.cc_top.specs.Refused.{CompileFails, IsRejectionOf, outcome_of_refusal}
+use Rattle.cc_top.specs.Source.{after_return, int_constant, is_end, and_tokens_after, tokens_after, IsRefused, IsRefusedBy, last_constant, returned, returned_by}
 use Rattle.cc_top.specs.declared.refusal.Refusal.{Refusal}
 use Rattle.cc_top.specs.declared.outcome.Outcome.{Outcome}
 use Rattle.cc_top.specs.declared.outcome.Outcome.TheVariants.{Done, Usage, ReadFault, WriteFault, Refused, BadImage, NoMemory, Exit, Stack, Budget, Stuck}
-use Rattle.cc_top.specs.declared.source.Part.TheVariants.{Semicolon, RightBrace}
+use Rattle.cc_top.specs.declared.source.FixedToken.TheVariants.{Semicolon, RightBrace}
 use Rattle.cc_top.proofs.ConstantExits.{constant_exits}
 
 too_long : (s : List ℕ) → 1048576 < length s → lexed s ≡ Err (fault.LongSource 1048576)
@@ -48,12 +48,13 @@ returned-take s =
       | inr short ↦ ap returned (take_all 1048577 s (omega arith))
     ]
 
--- what is wrong with the first bytes of a source is wrong with the source
+-- a refusal of the first bytes of a source is one of the source
 refused-long : (s : List ℕ) (refusal : Refusal) → 1048576 < length s → IsRefused (take 1048577 s) refusal → IsRefused s refusal
 refused-long s refusal long h =
     let whole : length (take 1048577 s) ≡ 1048577 = length-take-le 1048577 s (omega arith) in
     let front = subst (λ r. IsRefusedBy (take 1048577 s) r refusal) (too_long (take 1048577 s) (omega arith)) h in
-    let same : refused_at LongSource 1048576 (take 1048577 s) ≡ refused_at LongSource 1048576 s = ap (λ t. record { rule = LongSource; line = count_by is_line_end t + 1 }) (take-take 1048576 1048577 s (omega arith)) in
+    let same : refused_at LongSource 1048576 (take 1048577 s)
+    ≡ refused_at LongSource 1048576 s = ap (λ t. record { kind = LongSource; line = count_by is_line_end t + 1 }) (take-take 1048576 1048577 s (omega arith)) in
     subst (λ r. IsRefusedBy s r refusal) (sym (too_long s long)) (ap Some (sym same) ∙ front)
 
 refused-take : (s : List ℕ) (refusal : Refusal) → IsRefused (take 1048577 s) refusal → IsRefused s refusal
@@ -63,7 +64,7 @@ refused-take s refusal h =
       | inr short ↦ subst (λ t. IsRefused t refusal) (take_all 1048577 s (omega arith)) h
     ]
 
--- what a source compiles to is seen by its first bytes
+-- a source compiles to what its first bytes compile to
 Compiles-take : (s bytes : List ℕ) → Compiles (take 1048577 s) bytes → Compiles s bytes
 Compiles-take s bytes c = record {
   image = ap (option_map image_of_constant) (sym (returned-take s)) ∙ c.image;
@@ -92,7 +93,7 @@ constant_small (kind.Punct p) n is = cc
 last_small : (ts : List Token) (n : ℕ) → last_constant ts ≡ Some n → n < 2 ^ 31
 last_small [] n is = cc
 last_small (t ∷ ts) n is =
-    constant_small t.kind n (passed (is_end (and_behind RightBrace (behind Semicolon ts))) (int_constant t.kind) n is)
+    constant_small t.kind n (passed (is_end (and_tokens_after RightBrace (tokens_after Semicolon ts))) (int_constant t.kind) n is)
 
 from_small : (o : Option (List Token)) (n : ℕ) → option_and_then last_constant o ≡ Some n → n < 2 ^ 31
 from_small None n is = cc
@@ -122,28 +123,29 @@ pub compiles_of_read : {E : Type 0} (s read : List ℕ) (r : Result (Vec ℕ Glo
 compiles_of_read s read (Ok bytes) same c = Compiles-take s bytes.items (subst (λ t. Compiles t bytes.items) same c)
 compiles_of_read s read (Err e) same c = tt
 
--- what is wrong with the bytes that were read is wrong with the source
-fails-so : (name : Name) (e : Outcome) (told : Option FileSet) (unread : Type 0) (read : List ℕ) → ForSome told (λ files. read ≡ take 1048577 (content name files)) → IsJudgedSo read e → CompileFails name e told unread
-fails-so name (Refused refusal) told unread read same h = λ files is. refused-take (content name files) refusal (subst (λ t. IsRefused t refusal) (same files is) h)
-fails-so name NoMemory told unread read same h = tt
-fails-so name Done told unread read same h = absurd h
-fails-so name Usage told unread read same h = absurd h
-fails-so name ReadFault told unread read same h = absurd h
-fails-so name WriteFault told unread read same h = absurd h
-fails-so name (BadImage e) told unread read same h = absurd h
-fails-so name (Exit status) told unread read same h = absurd h
-fails-so name Stack told unread read same h = absurd h
-fails-so name Budget told unread read same h = absurd h
-fails-so name (Stuck pc why) told unread read same h = absurd h
+-- a refusal of the bytes that were read is one of the source
+fails-so : (name : Name) (e : Outcome) (known : Option FileSet) (unread : Type 0) (read : List ℕ) → ForSome known (λ files. read ≡ take 1048577 (content name files)) → IsRejectionOf read e
+    → CompileFails name e known unread
+fails-so name (Refused refusal) known unread read same h = λ files is. refused-take (content name files) refusal (subst (λ t. IsRefused t refusal) (same files is) h)
+fails-so name NoMemory known unread read same h = tt
+fails-so name Done known unread read same h = absurd h
+fails-so name Usage known unread read same h = absurd h
+fails-so name ReadFault known unread read same h = absurd h
+fails-so name WriteFault known unread read same h = absurd h
+fails-so name (BadImage e) known unread read same h = absurd h
+fails-so name (Exit status) known unread read same h = absurd h
+fails-so name Stack known unread read same h = absurd h
+fails-so name Budget known unread read same h = absurd h
+fails-so name (Stuck pc why) known unread read same h = absurd h
 
-pub fails_of_read : {T : Type 0} (name : Name) (told : Option FileSet) (unread : Type 0) (read : List ℕ) (r : Result T Outcome) → ForSome told (λ files. read ≡ take 1048577 (content name files))
-    → IfErr r (IsJudgedSo read) → IfErr r (λ e. CompileFails name e told unread)
-fails_of_read name told unread read (Ok x) same h = tt
-fails_of_read name told unread read (Err e) same h = fails-so name e told unread read same h
+pub fails_of_read : {T : Type 0} (name : Name) (known : Option FileSet) (unread : Type 0) (read : List ℕ) (r : Result T Outcome) → ForSome known (λ files. read ≡ take 1048577 (content name files))
+    → IfErr r (IsRejectionOf read) → IfErr r (λ e. CompileFails name e known unread)
+fails_of_read name known unread read (Ok x) same h = tt
+fails_of_read name known unread read (Err e) same h = fails-so name e known unread read same h
 
 -- ---- the outcome of a source that is not compiled
 
-pub lexical : (s : List ℕ) (f : LexFault) → Fails f (lexed s) → IsJudgedSo s (outcome_of_refusal (refusal_of f s))
+pub lexical : (s : List ℕ) (f : LexFault) → Fails f (lexed s) → IsRejectionOf s (outcome_of_refusal (refusal_of f s))
 lexical s (fault.BadByte at) h = subst (λ r. IsRefusedBy s r (refused_at BadByte at s)) (sym h) refl
 lexical s (fault.OpenComment at) h = subst (λ r. IsRefusedBy s r (refused_at OpenComment at s)) (sym h) refl
 lexical s (fault.OpenText at) h = subst (λ r. IsRefusedBy s r (refused_at OpenText at s)) (sym h) refl

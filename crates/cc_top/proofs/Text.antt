@@ -3,7 +3,7 @@ use Rattle.std.proofs.Common.{◌≡◌, ℕ, suc, ◌+◌, ◌*◌, ◌%◌, �
 use Rattle.std.proofs.lemmas.List.{length-take-le}
 use Rattle.std.proofs.lemmas.List.Concat.{get_or-flat_map}
 use Rattle.elf_file.specs.Header.{word}
-use Rattle.rv_isa.proofs.EncodedFitsWord.{encoded_fits_word}
+use Rattle.rv_isa.proofs.lemmas.EncodedFitsWord.{encoded_fits_word}
 use Rattle.rv_isa.specs.Words.{word_of, FitsFormat}
 use Rattle.rv_isa.specs.declared.instruction.Instr.{Instr}
 use Rattle.rv_isa.specs.declared.instruction.Instr.TheVariants.{Ebreak}
@@ -68,7 +68,7 @@ executable_here {flags} {mem} {at} {code} h k in_code =
     let f3 : has_flag (flags (suc (suc (suc a)))) to_execute ≡ true = flag_here h k 3 (suc (suc (suc a))) in_code (omega arith) (omega arith) in
     rw (f0, f1, f2, f3) refl
 
--- each instruction of the text stands at its place
+-- each instruction of the text is at its address
 pub holds-stands : {flags : ℕ → ℕ} {mem : Bytes} {at : ℕ} {code : List Instr} → Holds flags mem at code → (k : ℕ) → k < length code
     → StandsAt flags mem (at + 4 * k) (slice_index_or code k Ebreak)
 holds-stands {flags} {mem} {at} {code} h k in_code = record {

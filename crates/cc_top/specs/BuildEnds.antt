@@ -1,7 +1,7 @@
 -- How `build` ends: the cause of each outcome, and what the files hold then.
 use Rattle.std.specs.Prelude.{◌≡◌, ◌⊎◌, ℕ, List, take, option_map}
 use Rattle.std.specs.Option.{ForSome}
-use Rattle.cc_io.specs.Faults.{Rose}
+use Rattle.cc_io.specs.Faults.{Increased}
 use Rattle.cc_io.specs.Files.{Name, content, put_file}
 use Rattle.cc_top.specs.Outside.{FilesSeen}
 use Rattle.cc_top.specs.Program.{Compiles}
@@ -12,36 +12,36 @@ use Rattle.cc_top.specs.declared.outcome.Outcome.TheVariants.{Done, ReadFault, W
 -- the file of this name was not read
 abbrev pub ReadFails : Name → FilesSeen → FilesSeen → Type 0
 ReadFails name before after =
-    Rose (before.open_faults name) (after.open_faults name) ⊎ Rose before.read_faults after.read_faults
+    Increased (before.open_faults name) (after.open_faults name) ⊎ Increased before.read_faults after.read_faults
 
 -- the file of this name was not written
 abbrev pub WriteFails : Name → FilesSeen → FilesSeen → Type 0
 WriteFails name before after =
-    Rose (before.create_faults name) (after.create_faults name) ⊎ Rose before.write_faults after.write_faults
+    Increased (before.create_faults name) (after.create_faults name) ⊎ Increased before.write_faults after.write_faults
 
 -- The file of this name holds this and every other file is as it was.
-abbrev pub Puts : Name → List ℕ → FilesSeen → FilesSeen → Type 0
-Puts name bytes before after = after.told ≡ option_map (put_file name bytes) before.told
+abbrev pub Writes : Name → List ℕ → FilesSeen → FilesSeen → Type 0
+Writes name bytes before after = after.known ≡ option_map (put_file name bytes) before.known
 
 -- No file has changed.
-abbrev pub Keeps : FilesSeen → FilesSeen → Type 0
-Keeps before after = after.told ≡ before.told
+abbrev pub Unchanged : FilesSeen → FilesSeen → Type 0
+Unchanged before after = after.known ≡ before.known
 
 -- No file has changed, or the file of this name holds the bytes from their front on, and every other is as it was.
-abbrev pub PutsPart : Name → List ℕ → FilesSeen → FilesSeen → Type 0
-PutsPart name bytes before after = Keeps before after ⊎ ((count : ℕ) × Puts name (take count bytes) before after)
+abbrev pub WritesPrefix : Name → List ℕ → FilesSeen → FilesSeen → Type 0
+WritesPrefix name bytes before after = Unchanged before after ⊎ ((count : ℕ) × Writes name (take count bytes) before after)
 
--- of the source's text, where the files are told
-abbrev pub OfSource : Name → FilesSeen → (List ℕ → Type 0) → Type 0
-OfSource source before P = ForSome before.told (λ files. P (content source files))
+-- of the source's text, where the files are known
+abbrev pub IfKnown : Name → FilesSeen → (List ℕ → Type 0) → Type 0
+IfKnown source before P = ForSome before.known (λ files. P (content source files))
 
 abbrev pub BuildEnds : (source image : Name) → Outcome → FilesSeen → FilesSeen → Type 0
 BuildEnds source image Done before after =
-    OfSource source before (λ text. (bytes : List ℕ) × Compiles text bytes × Puts image bytes before after)
-BuildEnds source image ReadFault before after = ReadFails source before after × Keeps before after
+    IfKnown source before (λ text. (bytes : List ℕ) × Compiles text bytes × Writes image bytes before after)
+BuildEnds source image ReadFault before after = ReadFails source before after × Unchanged before after
 BuildEnds source image WriteFault before after =
     WriteFails image before after
-    × OfSource source before (λ text. (bytes : List ℕ) × Compiles text bytes × PutsPart image bytes before after)
-BuildEnds source image (Refused refusal) before after = OfSource source before (λ text. IsRefused text refusal) × Keeps before after
-BuildEnds source image NoMemory before after = Keeps before after
+    × IfKnown source before (λ text. (bytes : List ℕ) × Compiles text bytes × WritesPrefix image bytes before after)
+BuildEnds source image (Refused refusal) before after = IfKnown source before (λ text. IsRefused text refusal) × Unchanged before after
+BuildEnds source image NoMemory before after = Unchanged before after
 BuildEnds source image _ before after = ⊥

@@ -8,7 +8,8 @@ use Rattle.cc_top.specs.Outside.{Outside, KeepsStreams}
 use Rattle.cc_top.specs.declared.outcome.Outcome.{Outcome}
 use Rattle.cc_top.specs.declared.outcome.Outcome.TheVariants.{Usage, NoMemory}
 
--- The command of the words ends so. Words that are no command leave all as it was; memory may be wanting for them too.
+-- The command of the arguments ends so. Arguments that are no command leave all as it was; memory may run out for them
+-- too.
 abbrev pub Ends : Option Command → Outcome → Outside → Outside → Type 0
 Ends None ended before after = ((ended ≡ Usage) ⊎ (ended ≡ NoMemory)) × (after ≡ before)
 Ends (Some (build source image)) ended before after =

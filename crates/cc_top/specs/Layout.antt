@@ -1,32 +1,15 @@
--- Where the parts of a program stand, and the bytes of its text.
+-- The addresses of the sections of a program, and the bytes of its text.
 use Rattle.std.specs.Prelude.{ℕ, ◌+◌, ◌-◌, ◌*◌, ◌/◌, ◌^◌, List, [], ◌∷◌, ◌++◌, length, replicate}
 use Rattle.std.specs.List.{flat_map}
-use Rattle.elf_file.specs.Image.{Parts, text_at, next_page, stack_size}
+use Rattle.elf_file.specs.Image.{Sections, text_at, next_page, stack_size}
 use Rattle.elf_file.specs.Header.{word}
 use Rattle.elf_file.specs.Written.{file_of}
+use Rattle.rv_isa.specs.Calls.{read_call, write_call, exit_call}
+use Rattle.rv_isa.specs.Registers.{x0, ra, sp, t0, s0, a0, a1, a2, a7}
 use Rattle.rv_isa.specs.Words.{word_of}
 use Rattle.rv_isa.specs.declared.instruction.Instr.{Instr}
 use Rattle.rv_isa.specs.declared.instruction.Instr.TheVariants.{Lui, Jalr, Beq, Lbu, Sb, Addi, Add, Ecall}
-use Rattle.cc_top.specs.Templates.{ra, sp, t0, s0, a0, load_address, call, negative, return_constant}
-
-abbrev pub a1 : ℕ
-a1 = 11
-
-abbrev pub a2 : ℕ
-a2 = 12
-
-abbrev pub a7 : ℕ
-a7 = 17
-
--- the environment calls of Linux on RISC-V
-abbrev pub read_call : ℕ
-read_call = 63
-
-abbrev pub write_call : ℕ
-write_call = 64
-
-abbrev pub exit_call : ℕ
-exit_call = 93
+use Rattle.cc_top.specs.Templates.{load_address, call, negative, return_constant}
 
 -- The start code: s0 is the stack's base and sp its end; it calls `main` and exits with its value.
 abbrev pub start_code : (stack main : ℕ) → List Instr
@@ -35,7 +18,7 @@ start_code stack main =
     ++ Lui t0 (stack_size / 2 ^ 12)
     ∷ Add sp s0 t0
     ∷ call (main - (text_at + 16))
-    ++ Addi a7 0 exit_call
+    ++ Addi a7 x0 exit_call
     ∷ Ecall
     ∷ []
 
@@ -44,32 +27,32 @@ abbrev pub put_stub : (buffer : ℕ) → List Instr
 put_stub buffer =
     load_address t0 buffer
     ++ Sb t0 a0 0
-    ∷ Addi a0 0 1
+    ∷ Addi a0 x0 1
     ∷ Addi a1 t0 0
-    ∷ Addi a2 0 1
-    ∷ Addi a7 0 write_call
+    ∷ Addi a2 x0 1
+    ∷ Addi a7 x0 write_call
     ∷ Ecall
-    ∷ Jalr 0 ra 0
+    ∷ Jalr x0 ra 0
     ∷ []
 
 -- What is done with the answer of the call that reads: 1, or 0 at the end of the input.
 abbrev pub read_answer : List Instr
 read_answer =
-    Beq a0 0 12
+    Beq a0 x0 12
     ∷ Lbu a0 a1 0
-    ∷ Jalr 0 ra 0
-    ∷ Addi a0 0 (negative 1)
-    ∷ Jalr 0 ra 0
+    ∷ Jalr x0 ra 0
+    ∷ Addi a0 x0 (negative 1)
+    ∷ Jalr x0 ra 0
     ∷ []
 
 -- Reads a byte to a0, which is -1 at the end of the input.
 abbrev pub get_stub : (buffer : ℕ) → List Instr
 get_stub buffer =
     load_address t0 buffer
-    ++ Addi a0 0 0
+    ++ Addi a0 x0 0
     ∷ Addi a1 t0 0
-    ∷ Addi a2 0 1
-    ∷ Addi a7 0 read_call
+    ∷ Addi a2 x0 1
+    ∷ Addi a7 x0 read_call
     ∷ Ecall
     ∷ read_answer
 
@@ -80,31 +63,31 @@ functions_at = text_at + 4 * (8 + 9 + 12)
 abbrev pub bytes_of : List Instr → List ℕ
 bytes_of code = flat_map (λ i. word (word_of i)) code
 
--- The parts of the program whose one function, `main`, is this code. It has no globals but the buffer's
+-- The sections of the program whose one function, `main`, is this code. It has no globals but the buffer's
 -- word, which four zero bytes follow.
-abbrev pub data_place : List Instr → ℕ
-data_place code = next_page (functions_at + 4 * length code)
+abbrev pub data_address : List Instr → ℕ
+data_address code = next_page (functions_at + 4 * length code)
 
-abbrev pub stack_place : List Instr → ℕ
-stack_place code = next_page (data_place code + 8)
+abbrev pub stack_address : List Instr → ℕ
+stack_address code = next_page (data_address code + 8)
 
 abbrev pub text_of : List Instr → List ℕ
 text_of code =
-    bytes_of (start_code (stack_place code) functions_at)
-    ++ bytes_of (put_stub (data_place code))
-    ++ bytes_of (get_stub (data_place code))
+    bytes_of (start_code (stack_address code) functions_at)
+    ++ bytes_of (put_stub (data_address code))
+    ++ bytes_of (get_stub (data_address code))
     ++ bytes_of code
 
-abbrev pub parts_of_code : List Instr → Parts
-parts_of_code code = record {
+abbrev pub sections_of_code : List Instr → Sections
+sections_of_code code = record {
   text = text_of code;
   fixed = [];
-  fixed_at = data_place code;
+  fixed_at = data_address code;
   globals = replicate 8 0;
-  data_at = data_place code;
-  stack_at = stack_place code;
+  data_at = data_address code;
+  stack_at = stack_address code;
 }
 
 -- the image of the program that returns a constant
 abbrev pub image_of_constant : ℕ → List ℕ
-image_of_constant n = file_of (parts_of_code (return_constant n))
+image_of_constant n = file_of (sections_of_code (return_constant n))

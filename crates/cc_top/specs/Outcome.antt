@@ -36,8 +36,8 @@ text_of WriteFault = line (codes "write fault")
 text_of (Refused refusal) =
     line
     (codes "refused "
-    ++ Refusal.name_of refusal.rule
-    ++ 32 ∷ decimal_text (Refusal.number_of refusal.rule)
+    ++ Refusal.name_of refusal.kind
+    ++ 32 ∷ decimal_text (Refusal.number_of refusal.kind)
     ++ codes " line "
     ++ decimal_text refusal.line)
 text_of (BadImage fault) = line (codes "image " ++ name_of fault ++ 32 ∷ decimal_text (number_of fault))

@@ -2,15 +2,15 @@
 use Rattle.std.specs.Prelude.{◌≡◌, ℕ, List, Option}
 use Rattle.cc_io.specs.Files.{Name, FileSet}
 
--- Of the files: what they hold, where it is told, and how often each call has failed.
+-- Of the files: what they hold, where it is known, and how often each call has failed.
 pub record FilesSeen : Type 0 where
-  pub told : Option FileSet
+  pub known : Option FileSet
   pub read_faults : ℕ
   pub write_faults : ℕ
   pub open_faults : Name → ℕ
   pub create_faults : Name → ℕ
 
--- Of a stream: the bytes that it has left, or holds, where they are told, and how often a call has failed.
+-- Of a stream: the bytes that it has left, or holds, where they are known, and how often a call has failed.
 pub record StreamSeen : Type 0 where
   pub bytes : Option (List ℕ)
   pub faults : ℕ
@@ -24,10 +24,10 @@ pub record Outside : Type 0 where
 abbrev pub KeepsStreams : Outside → Outside → Type 0
 KeepsStreams before after = (after.input ≡ before.input) × (after.output ≡ before.output)
 
-module _ {F : Type 0} (told : F → Option FileSet) (read_faults write_faults : F → ℕ) (open_faults create_faults : F → Name → ℕ) where
+module _ {F : Type 0} (known : F → Option FileSet) (read_faults write_faults : F → ℕ) (open_faults create_faults : F → Name → ℕ) where
   abbrev pub files_seen : F → FilesSeen
   files_seen f = record {
-    told = told f;
+    known = known f;
     read_faults = read_faults f;
     write_faults = write_faults f;
     open_faults = open_faults f;

@@ -1,7 +1,7 @@
 -- What a run of a program file comes to.
 use Rattle.std.specs.Prelude.{◌≡◌, ℕ, ◌%◌, ◌<◌, ◌≤◌, ◌^◌, nat_lt, List, Option, Some, Ok, option_map, if◌then◌else◌}
 use Rattle.rv_machine.specs.Machine.{exit}
-use Rattle.rv_machine.specs.Run.{mach, standing, ended}
+use Rattle.rv_machine.specs.Run.{image_at, standing, ended}
 use Rattle.cc_top.specs.Layout.{image_of_constant}
 use Rattle.cc_top.specs.Source.{returned}
 
@@ -9,7 +9,7 @@ use Rattle.cc_top.specs.Source.{returned}
 -- written and nothing read.
 abbrev pub ExitsWithin : (count : ℕ) → List ℕ → (status : ℕ) → Type 0
 ExitsWithin count bytes status =
-    (n : ℕ) (input : List ℕ) → count ≤ n → mach n bytes input ≡ Ok (standing (ended (exit status)) input)
+    (n : ℕ) (input : List ℕ) → count ≤ n → image_at n bytes input ≡ Ok (standing (ended (exit status)) input)
 
 -- how many instructions a program that returns this constant has
 abbrev pub instruction_count : ℕ → ℕ

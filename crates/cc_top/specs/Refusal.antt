@@ -4,11 +4,11 @@ use Rattle.c_lex.specs.declared.fault.LexFault.{LexFault}
 use Rattle.c_lex.specs.declared.fault.LexFault.TheVariants as fault
 use Rattle.c_parse.specs.declared.fault.ParseFault.{ParseFault}
 use Rattle.c_parse.specs.declared.fault.ParseFault.TheVariants as tokens
-use Rattle.cc_top.specs.declared.refusal.Rule.{Rule}
-use Rattle.cc_top.specs.declared.refusal.Rule.TheVariants.{BadByte, OpenComment, OpenText, BadText, TooWide, LongName, Directive, ManyTokens, BadNumber, LongSource, LeftOut, TooDeep, Syntax, NotBuilt}
+use Rattle.cc_top.specs.declared.refusal.RefusalKind.{RefusalKind}
+use Rattle.cc_top.specs.declared.refusal.RefusalKind.TheVariants.{BadByte, OpenComment, OpenText, BadText, TooWide, LongName, Directive, ManyTokens, BadNumber, LongSource, LeftOut, TooDeep, Syntax, NotBuilt}
 use Rattle.cc_top.specs.declared.refusal.Refusal.{Refusal}
 
-abbrev pub number_of : Rule → ℕ
+abbrev pub number_of : RefusalKind → ℕ
 number_of BadByte = 1
 number_of OpenComment = 2
 number_of OpenText = 3
@@ -24,7 +24,7 @@ number_of TooDeep = 22
 number_of Syntax = 23
 number_of NotBuilt = 50
 
-abbrev pub name_of : Rule → List ℕ
+abbrev pub name_of : RefusalKind → List ℕ
 name_of BadByte = codes "BadByte"
 name_of OpenComment = codes "OpenComment"
 name_of OpenText = codes "OpenText"
@@ -43,14 +43,14 @@ name_of NotBuilt = codes "NotBuilt"
 abbrev pub is_line_end : ℕ → Bool
 is_line_end b = b == 10
 
--- The line of a place: as many line ends stand before it, and one is added.
+-- The line of an offset: the number of line ends before it, and one.
 abbrev pub line_at : (at : ℕ) → List ℕ → ℕ
 line_at at source = count_by is_line_end (take at source) + 1
 
-abbrev pub refused_at : Rule → (at : ℕ) → List ℕ → Refusal
-refused_at rule at source = record { rule = rule; line = line_at at source }
+abbrev pub refused_at : RefusalKind → (at : ℕ) → List ℕ → Refusal
+refused_at kind at source = record { kind = kind; line = line_at at source }
 
--- the refusal of a source that has this fault instead of tokens; none for want of memory, which is no fault of a source
+-- the refusal of a source that has this fault instead of tokens; none where memory ran out, which is no fault of a source
 abbrev pub refusal_of : LexFault → List ℕ → Option Refusal
 refusal_of (fault.BadByte at) source = Some (refused_at BadByte at source)
 refusal_of (fault.OpenComment at) source = Some (refused_at OpenComment at source)
@@ -69,8 +69,8 @@ abbrev pub refusal_of_tokens : ParseFault → List ℕ → Option Refusal
 refusal_of_tokens (tokens.LeftOut at) source = Some (refused_at LeftOut at source)
 refusal_of_tokens (tokens.TooDeep at) source = Some (refused_at TooDeep at source)
 refusal_of_tokens (tokens.Syntax at) source = Some (refused_at Syntax at source)
-refusal_of_tokens tokens.Memory source = None
+refusal_of_tokens tokens.NoMemory source = None
 
 -- the refusal of a source that is none of those that are compiled today
 abbrev pub not_built : Refusal
-not_built = record { rule = NotBuilt; line = 1 }
+not_built = record { kind = NotBuilt; line = 1 }

@@ -12,21 +12,21 @@ abbrev pub outcome_of_refusal : Option Refusal → Outcome
 outcome_of_refusal None = NoMemory
 outcome_of_refusal (Some refusal) = Refused refusal
 
--- The file of a source was not compiled: it is refused so where it is told, or was not read, or memory was wanting.
+-- The file of a source was not compiled: it is refused so where it is known, or it was not read, or memory ran out.
 abbrev pub CompileFails : Name → Outcome → Option FileSet → (unread : Type 0) → Type 0
-CompileFails name (Refused refusal) told unread = ForSome told (λ files. IsRefused (content name files) refusal)
-CompileFails name ReadFault told unread = unread
-CompileFails name NoMemory told unread = Unit {0}
-CompileFails name _ told unread = ⊥
+CompileFails name (Refused refusal) known unread = ForSome known (λ files. IsRefused (content name files) refusal)
+CompileFails name ReadFault known unread = unread
+CompileFails name NoMemory known unread = Unit {0}
+CompileFails name _ known unread = ⊥
 
--- The source is refused so, or memory was wanting.
-abbrev pub IsJudgedSo : List ℕ → Outcome → Type 0
-IsJudgedSo source (Refused refusal) = IsRefused source refusal
-IsJudgedSo source NoMemory = Unit {0}
-IsJudgedSo source _ = ⊥
+-- The source is refused so, or memory ran out.
+abbrev pub IsRejectionOf : List ℕ → Outcome → Type 0
+IsRejectionOf source (Refused refusal) = IsRefused source refusal
+IsRejectionOf source NoMemory = Unit {0}
+IsRejectionOf source _ = ⊥
 
--- The tokens of the source are refused so, or memory was wanting.
-abbrev pub AreJudgedSo : List Token → List ℕ → Outcome → Type 0
-AreJudgedSo tokens source (Refused refusal) = AreRefused tokens source refusal
-AreJudgedSo tokens source NoMemory = Unit {0}
-AreJudgedSo tokens source _ = ⊥
+-- The tokens of the source are refused so, or memory ran out.
+abbrev pub IsRejectionOfTokens : List Token → List ℕ → Outcome → Type 0
+IsRejectionOfTokens tokens source (Refused refusal) = AreRefused tokens source refusal
+IsRejectionOfTokens tokens source NoMemory = Unit {0}
+IsRejectionOfTokens tokens source _ = ⊥

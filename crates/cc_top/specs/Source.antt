@@ -14,34 +14,34 @@ use Rattle.c_parse.specs.Refusal.{Answers}
 use Rattle.c_parse.specs.declared.fault.ParseFault.{ParseFault}
 use Rattle.cc_top.specs.Refusal.{refusal_of, refusal_of_tokens, not_built}
 use Rattle.cc_top.specs.declared.refusal.Refusal.{Refusal}
-use Rattle.cc_top.specs.declared.source.Part.{Part}
-use Rattle.cc_top.specs.declared.source.Part.TheVariants.{Int, Main, LeftParen, Void, RightParen, LeftBrace, Return, Semicolon, RightBrace}
+use Rattle.cc_top.specs.declared.source.FixedToken.{FixedToken}
+use Rattle.cc_top.specs.declared.source.FixedToken.TheVariants.{Int, Main, LeftParen, Void, RightParen, LeftBrace, Return, Semicolon, RightBrace}
 
--- whether a token is this part of the program
-abbrev pub is_part : Part → TokenKind → Bool
-is_part Int (kind.Keyword word.Int) = true
-is_part Main (kind.Name name) = bytes_eq name (codes "main")
-is_part LeftParen (kind.Punct mark.LParen) = true
-is_part Void (kind.Keyword word.Void) = true
-is_part RightParen (kind.Punct mark.RParen) = true
-is_part LeftBrace (kind.Punct mark.LBrace) = true
-is_part Return (kind.Keyword word.Return) = true
-is_part Semicolon (kind.Punct mark.Semicolon) = true
-is_part RightBrace (kind.Punct mark.RBrace) = true
-is_part _ _ = false
+-- whether a token is this one
+abbrev pub is_fixed_token : FixedToken → TokenKind → Bool
+is_fixed_token Int (kind.Keyword word.Int) = true
+is_fixed_token Main (kind.Name name) = bytes_eq name (codes "main")
+is_fixed_token LeftParen (kind.Punct mark.LParen) = true
+is_fixed_token Void (kind.Keyword word.Void) = true
+is_fixed_token RightParen (kind.Punct mark.RParen) = true
+is_fixed_token LeftBrace (kind.Punct mark.LBrace) = true
+is_fixed_token Return (kind.Keyword word.Return) = true
+is_fixed_token Semicolon (kind.Punct mark.Semicolon) = true
+is_fixed_token RightBrace (kind.Punct mark.RBrace) = true
+is_fixed_token _ _ = false
 
--- the tokens behind this part, which has to come first
-abbrev pub behind : Part → List Token → Option (List Token)
-behind part [] = None
-behind part (t ∷ ts) = if is_part part t.kind then Some ts else None
+-- the tokens after this one, which has to come first
+abbrev pub tokens_after : FixedToken → List Token → Option (List Token)
+tokens_after expected [] = None
+tokens_after expected (t ∷ ts) = if is_fixed_token expected t.kind then Some ts else None
 
-abbrev pub and_behind : Part → Option (List Token) → Option (List Token)
-and_behind part ts = option_and_then (behind part) ts
+abbrev pub and_tokens_after : FixedToken → Option (List Token) → Option (List Token)
+and_tokens_after expected ts = option_and_then (tokens_after expected) ts
 
--- the tokens behind `int main ( void ) { return`
+-- the tokens after `int main ( void ) { return`
 abbrev pub after_return : List Token → Option (List Token)
 after_return ts =
-    and_behind Return (and_behind LeftBrace (and_behind RightParen (and_behind Void (and_behind LeftParen (and_behind Main (behind Int ts))))))
+    and_tokens_after Return (and_tokens_after LeftBrace (and_tokens_after RightParen (and_tokens_after Void (and_tokens_after LeftParen (and_tokens_after Main (tokens_after Int ts))))))
 
 -- a constant of type `int` (ISO 9899:2011, 6.4.4.1), whose value is at most 2147483647
 abbrev pub int_constant : TokenKind → Option ℕ
@@ -55,7 +55,7 @@ is_end (Some ts) = length ts == 0
 -- a constant, and then `; }` to the end
 abbrev pub last_constant : List Token → Option ℕ
 last_constant [] = None
-last_constant (t ∷ ts) = if is_end (and_behind RightBrace (behind Semicolon ts)) then int_constant t.kind else None
+last_constant (t ∷ ts) = if is_end (and_tokens_after RightBrace (tokens_after Semicolon ts)) then int_constant t.kind else None
 
 -- the constant N, where the tokens are `int main(void) { return N; }`
 abbrev pub constant_of : List Token → Option ℕ

@@ -1,41 +1,17 @@
 -- The instruction sequences of a function whose one node is a constant.
 use Rattle.std.specs.Prelude.{ℕ, zero, suc, ◌+◌, ◌-◌, ◌*◌, ◌/◌, ◌%◌, ◌^◌, ◌==◌, List, [], ◌∷◌, ◌++◌, nat_lt, if◌then◌else◌}
+use Rattle.rv_isa.specs.Registers.{x0, ra, sp, t0, t1, s0, s1, a0}
+use Rattle.rv_isa.specs.WordParts.{upper_part, low_part}
 use Rattle.rv_isa.specs.declared.instruction.Instr.{Instr}
 use Rattle.rv_isa.specs.declared.instruction.Instr.TheVariants.{Lui, Auipc, Jalr, Bgeu, Lw, Sw, Addi, Add, Sub, Ebreak}
 
--- registers by their numbers: the ABI's names
-abbrev pub ra : ℕ
-ra = 1
-
-abbrev pub sp : ℕ
-sp = 2
-
-abbrev pub t0 : ℕ
-t0 = 5
-
-abbrev pub t1 : ℕ
-t1 = 6
-
-abbrev pub s0 : ℕ
-s0 = 8
-
-abbrev pub a0 : ℕ
-a0 = 10
-
 -- the register that holds a place below 11: s1 to s11
 abbrev pub place_register : ℕ → ℕ
-place_register place = if place == 0 then 9 else place + 17
+place_register place = if place == 0 then s1 else place + 17
 
 -- minus n, as a word
 abbrev pub negative : ℕ → ℕ
 negative n = 2 ^ 32 - n
-
--- A word v is upper(v) times 4096 plus low(v), which is sign-extended, so the upper part rounds.
-abbrev pub low_part : ℕ → ℕ
-low_part v = if nat_lt (v % 2 ^ 12) 0x800 then v % 2 ^ 12 else v % 2 ^ 12 + (2 ^ 32 - 2 ^ 12)
-
-abbrev pub upper_part : ℕ → ℕ
-upper_part v = (v + 0x800) % 2 ^ 32 / 2 ^ 12
 
 -- a word in a register, always by two instructions
 abbrev pub load_address : (rd v : ℕ) → List Instr
@@ -43,9 +19,9 @@ load_address rd v = Lui rd (upper_part v) ∷ Addi rd rd (low_part v) ∷ []
 
 -- a word in a register: one instruction where it is -2048 to 2047 as a signed number, else two
 abbrev pub load_immediate : (rd v : ℕ) → List Instr
-load_immediate rd v = if nat_lt ((v + 2048) % 2 ^ 32) 4096 then Addi rd 0 v ∷ [] else load_address rd v
+load_immediate rd v = if nat_lt ((v + 2048) % 2 ^ 32) 4096 then Addi rd x0 v ∷ [] else load_address rd v
 
--- a call of what stands at this offset from the first instruction
+-- a call of the code at this offset from the first instruction
 abbrev pub call : (offset : ℕ) → List Instr
 call offset = Auipc ra (upper_part offset) ∷ Jalr ra ra (low_part offset) ∷ []
 
@@ -83,7 +59,7 @@ leave size saved value =
     ∷ restore_places saved
     ++ Lw ra t1 (negative 4)
     ∷ Addi sp t1 0
-    ∷ Jalr 0 ra 0
+    ∷ Jalr x0 ra 0
     ∷ []
 
 -- The function that returns a constant: its value has place 0, which is all that the frame keeps.

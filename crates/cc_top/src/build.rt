@@ -1,20 +1,21 @@
 //! The command `build`.
 ghost use Rattle.std.specs.Prelude.{◌≡◌, ◌≤◌, ◌⊎◌, ℕ, None, Some, take, length, option_map, IsSome, IfOk, OnOk, OnErr, IsErrOf, IfErr, ◌≢◌};
 ghost use Rattle.std.specs.Option.{ForSome};
-ghost use Rattle.cc_io.specs.Faults.{Rose};
+ghost use Rattle.cc_io.specs.Faults.{Increased};
 ghost use Rattle.cc_io.specs.Files.{Name, content, put_file};
 ghost use Rattle.cc_top.specs.BuildEnds.{BuildEnds};
 ghost use Rattle.cc_top.specs.Program.{Compiles};
 ghost use Rattle.cc_top.specs.Outside.{files_seen};
 ghost use Rattle.cc_top.specs.Layout.{image_of_constant};
-ghost use Rattle.cc_top.specs.Refused.{CompileFails, IsJudgedSo};
+ghost use Rattle.cc_top.specs.Refused.{CompileFails, IsRejectionOf};
 
 use crate::layout::image_of_code;
 use crate::load::{LoadError, load};
 use crate::outcome::Outcome;
-use crate::source::{SOURCE_LIMIT, judge};
+use crate::source::accept;
 use crate::templates::return_constant;
 use cc_io::{Files, save};
+use limits::MOST_SOURCE_BYTES;
 use std::alloc::Global;
 
 /// The image of the program that returns a constant.
@@ -30,25 +31,27 @@ fn image_of_constant(alloc: Global, constant: u32) -> Result<Vec<u8>, Outcome>
 /// The image of a source text.
 fn compile(alloc: Global, source: &[u8]) -> Result<Vec<u8>, Outcome>
     ensures bytes { IfOk result (λ bytes. Compiles source.now bytes.items) }
-    ensures err { IfErr result (IsJudgedSo source.now) }
+    ensures err { IfErr result (IsRejectionOf source.now) }
 {
-    let constant = judge(alloc, source)?;
+    let constant = accept(alloc, source)?;
     let image = image_of_constant(alloc, constant)?;
     Ok(image)
 }
 
 /// The bytes of the source file of this name and the image that they compile to.
 fn compile_file<F: Files>(alloc: Global, files: &mut F, source: &str) -> Result<Vec<u8>, Outcome>
-    ensures bytes { ForSome (F.told files.old) (λ all. IfOk result (λ bytes. Compiles (content source.now all) bytes.items)) }
-    ensures err { IfErr result (λ e. CompileFails source.now e (F.told files.old)
-        (Rose (F.open_faults files.old source.now) (F.open_faults files.new source.now) ⊎ Rose (F.read_faults files.old) (F.read_faults files.new))) }
-    ensures told { F.told files.new ≡ F.told files.old }
+    ensures bytes { ForSome (F.known files.old)
+        (λ all. IfOk result (λ bytes. Compiles (content source.now all) bytes.items)) }
+    ensures err { IfErr result (λ e. CompileFails source.now e (F.known files.old)
+        (Increased (F.open_faults files.old source.now) (F.open_faults files.new source.now)
+        ⊎ Increased (F.read_faults files.old) (F.read_faults files.new))) }
+    ensures known { F.known files.new ≡ F.known files.old }
     ensures create_faults { F.create_faults files.new ≡ F.create_faults files.old }
     ensures write_faults { F.write_faults files.new ≡ F.write_faults files.old }
     ensures open_faults { F.open_faults files.old source.now ≤ F.open_faults files.new source.now }
     ensures read_faults { F.read_faults files.old ≤ F.read_faults files.new }
 {
-    let text = match load(alloc, files, source, SOURCE_LIMIT + 1) {
+    let text = match load(alloc, files, source, MOST_SOURCE_BYTES + 1) {
         Ok(text) => text,
         Err(LoadError::Failed) => return Err(Outcome::ReadFault),
         Err(LoadError::NoMemory) => return Err(Outcome::NoMemory),
@@ -59,8 +62,8 @@ fn compile_file<F: Files>(alloc: Global, files: &mut F, source: &str) -> Result<
 /// Compiles the file named `source` to the file named `image`.
 pub fn build<F: Files>(alloc: Global, files: &mut F, source: &str, image: &str) -> Outcome
     ensures { BuildEnds source.now image.now result
-        (files_seen F.told F.read_faults F.write_faults F.open_faults F.create_faults files.old)
-        (files_seen F.told F.read_faults F.write_faults F.open_faults F.create_faults files.new) }
+        (files_seen F.known F.read_faults F.write_faults F.open_faults F.create_faults files.old)
+        (files_seen F.known F.read_faults F.write_faults F.open_faults F.create_faults files.new) }
 {
     match compile_file(alloc, files, source) {
         Ok(bytes) => match save(files, image, &bytes) {

@@ -1,20 +1,17 @@
-//! Where the parts of a program stand, and the bytes of its text.
+//! The addresses of the sections of a program, and the bytes of its text.
 ghost use Rattle.std.specs.Prelude.{◌≡◌, ◌<◌, ◌≤◌, ◌++◌, ◌∷◌, ◌+◌, ◌-◌, ◌*◌, ◌%◌, ◌^◌, [], length, vec_len, OnOk, IfOk};
-ghost use Rattle.elf_file.specs.Image.{parts_of, next_page, IsPlaced};
+ghost use Rattle.elf_file.specs.Image.{sections_of, next_page, IsPlaced};
+ghost use Rattle.rv_isa.specs.Registers.{x0, ra, a7};
 ghost use Rattle.cc_top.specs.Templates.{call};
-ghost use Rattle.cc_top.specs.Layout.{bytes_of, get_stub, parts_of_code, put_stub, read_answer, start_code};
+ghost use Rattle.cc_top.specs.Layout.{bytes_of, get_stub, sections_of_code, put_stub, read_answer, start_code};
 
-use crate::templates::{low_part, push_load_address, upper_part};
+use crate::templates::push_load_address;
 use elf_file::{Image, PAGE, STACK_SIZE, TEXT_AT};
-use rv_isa::{BranchOffset, Imm12, Instr, Reg, Upper, encode};
+use rv_isa::{
+    BranchOffset, EXIT_CALL, Imm12, Instr, READ_CALL, Reg, Upper, WRITE_CALL, encode, low_part,
+    upper_part,
+};
 use std::alloc::{AllocError, Global};
-
-/// The environment calls of Linux on RISC-V.
-const READ_CALL: u32 = 63;
-
-const WRITE_CALL: u32 = 64;
-
-const EXIT_CALL: u32 = 93;
 
 /// The first address after the start code and the two stubs.
 const FUNCTIONS_AT: u32 = TEXT_AT + 4 * (8 + 9 + 12);
@@ -76,7 +73,8 @@ fn add_immediate(rd: Reg, rs1: Reg, imm: u32) -> Instr
 
 fn push_environment_call(code: &mut Vec<Instr>, number: u32) -> Result<(), AllocError>
     requires { number < 2048 }
-    ensures { OnOk result (code.new.items ≡ code.old.items ++ Instr.Addi 17 0 number ∷ Instr.Ecall ∷ []) }
+    ensures { OnOk result
+        (code.new.items ≡ code.old.items ++ Instr.Addi a7 x0 number ∷ Instr.Ecall ∷ []) }
 {
     code.push(add_immediate(Reg::A7, Reg::ZERO, number))?;
     code.push(Instr::Ecall)?;
@@ -84,7 +82,7 @@ fn push_environment_call(code: &mut Vec<Instr>, number: u32) -> Result<(), Alloc
 }
 
 fn push_return(code: &mut Vec<Instr>) -> Result<(), AllocError>
-    ensures { OnOk result (code.new.items ≡ code.old.items ++ Instr.Jalr 0 1 0 ∷ []) }
+    ensures { OnOk result (code.new.items ≡ code.old.items ++ Instr.Jalr x0 ra 0 ∷ []) }
 {
     code.push(Instr::Jalr {
         rd: Reg::ZERO,
@@ -164,8 +162,8 @@ fn bytes_of(alloc: Global, code: &[Instr]) -> Result<Vec<u8>, AllocError>
 /// The image of the program whose one function, `main`, is this code.
 pub fn image_of_code(alloc: Global, code: &[Instr]) -> Result<Image, AllocError>
     requires { length code.now < 1024 - 29 }
-    ensures parts { IfOk result (λ image. parts_of image ≡ parts_of_code code.now) }
-    ensures placed { IfOk result (λ image. IsPlaced (parts_of image)) }
+    ensures sections { IfOk result (λ image. sections_of image ≡ sections_of_code code.now) }
+    ensures placed { IfOk result (λ image. IsPlaced (sections_of image)) }
 {
     let data_at = next_page(FUNCTIONS_AT + 4 * code.len() as u32);
     let stack_at = next_page(data_at + 8);

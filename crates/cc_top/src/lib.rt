@@ -1,6 +1,7 @@
-//! The top call of the compiler: it carries out the command that the words of a command line ask for,
-//! over the files and streams that it is handed. The program `cc_main` stands on it. It promises each
-//! status at its cause, and on status 0 of `build` exactly the defined image.
+//! The top call of the compiler: it carries out the command that the arguments of a command line
+//! ask for, over the files and streams that it is handed. The program `cc_main` stands on it.
+//! Promise: each status comes at its cause, and on status 0 of `build` OUT is exactly the defined
+//! image.
 #![tactic(auto)]
 
 mod build;
@@ -28,14 +29,25 @@ use cc_io::{Files, Sink, Source};
 use outcome::Outcome;
 use std::alloc::Global;
 
-/// Carries out the command of the words, the program's name first, and gives the status of the process.
+/// Carries out the command of the arguments `words`, the program's name first, and gives the status
+/// of the process.
 ///
 /// `build IN OUT` compiles the source file IN to the executable OUT. `run IMG [--steps N]` runs the
-/// executable IMG for at most N instructions, from `input` to `output`. `gen NUMBER COUNT OUT` writes the
-/// generated program of COUNT functions, 1 to 511, whose draws begin with NUMBER, 0 to 4294967295, to the
-/// file OUT. The statuses are 0 where OUT was written, 1 where the words are no command, 2 where IN was not
-/// read, 3 where OUT or the report was not written, 4 where the source is refused and 6 where memory was
-/// wanting. What a user is told is written on `report`.
+/// executable IMG for at most N instructions, from `input` to `output`. `gen NUMBER COUNT OUT`
+/// writes the generated program of COUNT functions, 1 to 511, whose draws begin with NUMBER, 0 to
+/// 4294967295, to the file OUT. What a user reads of the end is written on `report`, a line for
+/// each status but 0 of `build` and `gen`. The statuses:
+///
+/// - 0: `build` or `gen` wrote OUT, or the program that `run` ran has exited; the line has its exit status.
+/// - 1: the arguments are no command. Nothing has changed.
+/// - 2: a file or the input was not read, since a call failed.
+/// - 3: a file, the output or the report was not written, since a call failed. A file or stream that was
+///   written then holds a prefix of what was to be written.
+/// - 4: the source is refused; the line names the rule, its number and the source's line.
+/// - 5: IMG is no executable that can be run; the line names the fault.
+/// - 6: memory ran out. No file was created or written.
+/// - 7: the program that `run` ran used up its stack, was not done after N instructions, or came to an
+///   instruction that cannot be done.
 pub fn top<F: Files, I: Source, O: Sink, E: Sink>(
     alloc: Global,
     words: &[String],
@@ -44,26 +56,29 @@ pub fn top<F: Files, I: Source, O: Sink, E: Sink>(
     output: &mut O,
     report: &mut E,
 ) -> u8
-    // There is an outcome that comes at its cause, and the report tells it.
+    // There is an outcome that comes at its cause, and it is reported.
     ensures { (ended : Outcome)
         × Ends (command_of (map string_bytes words.now)) ended
         (record {
-          files = files_seen F.told F.read_faults F.write_faults F.open_faults F.create_faults files.old;
+          files = files_seen F.known F.read_faults F.write_faults F.open_faults F.create_faults
+              files.old;
           input = stream_seen I.left I.faults input.old;
           output = stream_seen O.held O.faults output.old;
         })
         (record {
-          files = files_seen F.told F.read_faults F.write_faults F.open_faults F.create_faults files.new;
+          files = files_seen F.known F.read_faults F.write_faults F.open_faults F.create_faults
+              files.new;
           input = stream_seen I.left I.faults input.new;
           output = stream_seen O.held O.faults output.new;
         })
-        × IsReported ended result (E.held report.old) (E.held report.new) (E.faults report.old) (E.faults report.new) }
+        × IsReported ended result (E.held report.old) (E.held report.new) (E.faults report.old)
+        (E.faults report.new) }
 {
     let outcome = carry_out(alloc, words, files, input, output);
     report::tell(report, outcome)
 }
 
-/// Carries out the command of the words.
+/// Carries out the command of the arguments.
 fn carry_out<F: Files, I: Source, O: Sink>(
     alloc: Global,
     words: &[String],
@@ -73,12 +88,14 @@ fn carry_out<F: Files, I: Source, O: Sink>(
 ) -> Outcome
     ensures { Ends (command_of (map string_bytes words.now)) result
         (record {
-          files = files_seen F.told F.read_faults F.write_faults F.open_faults F.create_faults files.old;
+          files = files_seen F.known F.read_faults F.write_faults F.open_faults F.create_faults
+              files.old;
           input = stream_seen I.left I.faults input.old;
           output = stream_seen O.held O.faults output.old;
         })
         (record {
-          files = files_seen F.told F.read_faults F.write_faults F.open_faults F.create_faults files.new;
+          files = files_seen F.known F.read_faults F.write_faults F.open_faults F.create_faults
+              files.new;
           input = stream_seen I.left I.faults input.new;
           output = stream_seen O.held O.faults output.new;
         }) }

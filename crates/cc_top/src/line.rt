@@ -1,5 +1,5 @@
-//! The lines that reports are made of. They are assembled without memory, so that a command that was
-//! done can always be told.
+//! The lines of reports. They are assembled without memory, so that the end of a command can always
+//! be reported.
 ghost use Rattle.std.specs.Prelude.{◌≡◌, ◌<◌, ◌≤◌, ◌++◌, ◌∷◌, ◌+◌, [], List, ℕ, length, take, map};
 ghost use Rattle.std.specs.Int.Digits.{digits_of};
 ghost use Rattle.cc_top.specs.Text.{decimal_text, hex_digit, hex_text};
@@ -25,6 +25,7 @@ impl Model for Line {
 }
 
 impl Line {
+    /// An empty line.
     pub fn new() -> Self
         ensures { result ≡ [] }
     {
@@ -34,12 +35,14 @@ impl Line {
         }
     }
 
+    /// The bytes of the line.
     pub fn as_bytes(&self) -> &[u8]
         ensures { result.now ≡ self.now }
     {
         &self.bytes[..self.len]
     }
 
+    /// Appends a byte.
     pub fn push(&mut self, byte: u8)
         requires { length self.old < 192 }
         ensures { self.new ≡ self.old ++ byte ∷ [] }

@@ -1,18 +1,20 @@
 //! Reads files whole.
 ghost use Rattle.std.specs.Prelude.{◌≡◌, ◌≤◌, ◌⊎◌, ℕ, None, Some, take, length, IsSome, IfOk, OnOk, OnErr, IsErrOf};
 ghost use Rattle.std.specs.Option.{ForSome};
-ghost use Rattle.cc_io.specs.Faults.{Rose};
+ghost use Rattle.cc_io.specs.Faults.{Increased};
 ghost use Rattle.cc_io.specs.Files.{Name, content};
 ghost use Rattle.cc_io.specs.Source.{prepend, IsAtEnd};
 ghost use Rattle.cc_top.specs.declared.load.LoadError.TheVariants.{NoMemory};
 
-use cc_io::{Files, PIECE};
+use cc_io::{CHUNK, Files};
 use std::alloc::{AllocError, Global};
 
 /// Why a file was not read.
 #[derive(Clone, Copy, Debug, PartialEq, Eq)]
 pub enum LoadError {
+    /// A call on the files failed.
     Failed,
+    /// Memory ran out.
     NoMemory,
 }
 
@@ -31,13 +33,16 @@ pub fn load<F: Files>(
     name: &str,
     limit: usize,
 ) -> Result<Vec<u8>, LoadError>
-    ensures bytes { ForSome (F.told files.old) (λ all. IfOk result (λ bytes. bytes.items ≡ take limit (content name.now all))) }
-    ensures fault { IsErrOf result LoadError.Failed → Rose (F.open_faults files.old name.now) (F.open_faults files.new name.now)
-        ⊎ Rose (F.read_faults files.old) (F.read_faults files.new) }
-    ensures told { F.told files.new ≡ F.told files.old }
+    ensures bytes { ForSome (F.known files.old)
+        (λ all. IfOk result (λ bytes. bytes.items ≡ take limit (content name.now all))) }
+    ensures fault { IsErrOf result LoadError.Failed
+        → Increased (F.open_faults files.old name.now) (F.open_faults files.new name.now)
+        ⊎ Increased (F.read_faults files.old) (F.read_faults files.new) }
+    ensures known { F.known files.new ≡ F.known files.old }
     ensures create_faults { F.create_faults files.new ≡ F.create_faults files.old }
     ensures write_faults { F.write_faults files.new ≡ F.write_faults files.old }
-    ensures open_faults { (other : Name) → F.open_faults files.old other ≤ F.open_faults files.new other }
+    ensures open_faults { (other : Name)
+        → F.open_faults files.old other ≤ F.open_faults files.new other }
     ensures read_faults { F.read_faults files.old ≤ F.read_faults files.new }
 {
     if files.open(name).is_err() {
@@ -49,18 +54,20 @@ pub fn load<F: Files>(
 /// The bytes that are left of the open file, of which no more than `limit` are read.
 fn read_open<F: Files>(alloc: Global, files: &mut F, limit: usize) -> Result<Vec<u8>, LoadError>
     requires { IsSome (F.reading files.old) }
-    ensures bytes { ForSome (F.left files.old) (λ left. IfOk result (λ bytes. bytes.items ≡ take limit left)) }
-    ensures fault { IsErrOf result LoadError.Failed → Rose (F.read_faults files.old) (F.read_faults files.new) }
-    ensures told { F.told files.new ≡ F.told files.old }
+    ensures bytes { ForSome (F.left files.old)
+        (λ left. IfOk result (λ bytes. bytes.items ≡ take limit left)) }
+    ensures fault { IsErrOf result LoadError.Failed
+        → Increased (F.read_faults files.old) (F.read_faults files.new) }
+    ensures known { F.known files.new ≡ F.known files.old }
     ensures create_faults { F.create_faults files.new ≡ F.create_faults files.old }
     ensures write_faults { F.write_faults files.new ≡ F.write_faults files.old }
     ensures open_faults { F.open_faults files.new ≡ F.open_faults files.old }
     ensures read_faults { F.read_faults files.old ≤ F.read_faults files.new }
 {
     let mut bytes = Vec::new(alloc);
-    let mut buffer = [0u8; PIECE];
+    let mut buffer = [0u8; CHUNK];
     while bytes.len() < limit {
-        let room = PIECE.min(limit - bytes.len());
+        let room = CHUNK.min(limit - bytes.len());
         let Ok(count) = files.read(&mut buffer[..room]) else {
             return Err(LoadError::Failed);
         };

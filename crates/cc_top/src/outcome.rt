@@ -4,6 +4,7 @@ ghost use Rattle.cc_top.specs.declared.outcome.Outcome.TheVariants.{NoMemory};
 
 use crate::refusal::Refusal;
 use elf_file::ElfFault;
+use no_memory::NoMemory;
 use std::alloc::AllocError;
 
 /// How a command ended.
@@ -11,22 +12,25 @@ use std::alloc::AllocError;
 pub enum Outcome {
     /// The command was done.
     Done,
-    /// The words are no command.
+    /// The arguments are no command.
     Usage,
+    /// A file or the input was not read.
     ReadFault,
+    /// A file or the output was not written.
     WriteFault,
     /// The source is refused.
     Refused(Refusal),
     /// The file is no executable that can be run.
     BadImage(ElfFault),
+    /// Memory ran out.
     NoMemory,
     /// The program ended with this status.
     Exit(u8),
     /// The program had no room left on its stack.
     Stack,
-    /// All instructions that it may do were done, and the program had not ended.
+    /// As many instructions were done as were allowed, and the program had not ended.
     Budget,
-    /// No instruction could be done at this address.
+    /// The instruction at the address `pc` cannot be done; `why` is as in `rv_machine::Stop`.
     Stuck { pc: u32, why: u8 },
 }
 
@@ -38,10 +42,10 @@ impl From<AllocError> for Outcome {
     }
 }
 
-impl From<elf_file::NoMemory> for Outcome {
+impl From<NoMemory> for Outcome {
     ghost from_gives = { λ _ e. e ≡ NoMemory };
 
-    fn from(_: elf_file::NoMemory) -> Self {
+    fn from(_: NoMemory) -> Self {
         Outcome::NoMemory
     }
 }

@@ -5,9 +5,11 @@ ghost use Rattle.cc_top.specs.Refusal.{name_of, number_of, line_at, refused_at, 
 use c_lex::LexFault;
 use c_parse::ParseFault;
 
-/// A rule that a source can break, or `NotBuilt` for a source that is none of those that are compiled today.
+/// The kind of a refusal: the rule that the source breaks, or `NotBuilt` for a source that is none
+/// of those that are compiled today. The variants have the names and numbers of reports: 1 to 10
+/// are faults of the text, by the lexer, and 21 to 23 of the tokens, by the parser.
 #[derive(Clone, Copy, Debug, PartialEq, Eq)]
-pub enum Rule {
+pub enum RefusalKind {
     BadByte = 1,
     OpenComment = 2,
     OpenText = 3,
@@ -24,42 +26,44 @@ pub enum Rule {
     NotBuilt = 50,
 }
 
-impl Rule {
-    /// The number of the rule in reports.
+impl RefusalKind {
+    /// The number in reports.
     pub fn number(self) -> u32
         ensures { result ≡ number_of self }
     {
         self as u32
     }
 
-    /// The name of the rule in reports, at most 11 bytes.
+    /// The name in reports, at most 11 bytes.
     pub fn name(self) -> &'static str
         ensures name { result.now ≡ name_of self }
         ensures short { length result.now ≤ 11 }
     {
         match self {
-            Rule::BadByte => "BadByte",
-            Rule::OpenComment => "OpenComment",
-            Rule::OpenText => "OpenText",
-            Rule::BadText => "BadText",
-            Rule::TooWide => "TooWide",
-            Rule::LongName => "LongName",
-            Rule::Directive => "Directive",
-            Rule::ManyTokens => "ManyTokens",
-            Rule::BadNumber => "BadNumber",
-            Rule::LongSource => "LongSource",
-            Rule::LeftOut => "LeftOut",
-            Rule::TooDeep => "TooDeep",
-            Rule::Syntax => "Syntax",
-            Rule::NotBuilt => "NotBuilt",
+            RefusalKind::BadByte => "BadByte",
+            RefusalKind::OpenComment => "OpenComment",
+            RefusalKind::OpenText => "OpenText",
+            RefusalKind::BadText => "BadText",
+            RefusalKind::TooWide => "TooWide",
+            RefusalKind::LongName => "LongName",
+            RefusalKind::Directive => "Directive",
+            RefusalKind::ManyTokens => "ManyTokens",
+            RefusalKind::BadNumber => "BadNumber",
+            RefusalKind::LongSource => "LongSource",
+            RefusalKind::LeftOut => "LeftOut",
+            RefusalKind::TooDeep => "TooDeep",
+            RefusalKind::Syntax => "Syntax",
+            RefusalKind::NotBuilt => "NotBuilt",
         }
     }
 }
 
-/// The rule that a source breaks, and the line, counted from 1, in which it does.
+/// Why a source is refused, and where.
 #[derive(Clone, Copy, Debug, PartialEq, Eq)]
 pub struct Refusal {
-    pub rule: Rule,
+    /// The rule that it breaks.
+    pub kind: RefusalKind,
+    /// The line in which it does, counted from 1.
     pub line: u64,
 }
 
@@ -76,7 +80,7 @@ fn line_ends(text: &[u8]) -> u64
     count
 }
 
-/// The line of a place, in bytes from the start of the source.
+/// The line of an offset into the source, counted from 1.
 fn line_at(at: u32, source: &[u8]) -> u64
     ensures value { result ≡ line_at at source.now }
     ensures small { result ≤ 2 ^ 32 }
@@ -84,44 +88,44 @@ fn line_at(at: u32, source: &[u8]) -> u64
     line_ends(&source[..source.len().min(at as usize)]) + 1
 }
 
-fn refused_at(rule: Rule, at: u32, source: &[u8]) -> Refusal
-    ensures { result ≡ refused_at rule at source.now }
+fn refused_at(kind: RefusalKind, at: u32, source: &[u8]) -> Refusal
+    ensures { result ≡ refused_at kind at source.now }
 {
     Refusal {
-        rule,
+        kind,
         line: line_at(at, source),
     }
 }
 
-/// The refusal of a source with this fault; `None` where memory was wanting.
+/// The refusal of a source with this fault; `None` where memory ran out.
 pub fn refusal_of(fault: LexFault, source: &[u8]) -> Option<Refusal>
     ensures { result ≡ refusal_of fault source.now }
 {
-    let (rule, at) = match fault {
-        LexFault::BadByte(at) => (Rule::BadByte, at),
-        LexFault::OpenComment(at) => (Rule::OpenComment, at),
-        LexFault::OpenText(at) => (Rule::OpenText, at),
-        LexFault::BadText(at) => (Rule::BadText, at),
-        LexFault::TooWide(at) => (Rule::TooWide, at),
-        LexFault::LongName(at) => (Rule::LongName, at),
-        LexFault::Directive(at) => (Rule::Directive, at),
-        LexFault::ManyTokens(at) => (Rule::ManyTokens, at),
-        LexFault::BadNumber(at) => (Rule::BadNumber, at),
-        LexFault::LongSource(at) => (Rule::LongSource, at),
+    let (kind, at) = match fault {
+        LexFault::BadByte(at) => (RefusalKind::BadByte, at),
+        LexFault::OpenComment(at) => (RefusalKind::OpenComment, at),
+        LexFault::OpenText(at) => (RefusalKind::OpenText, at),
+        LexFault::BadText(at) => (RefusalKind::BadText, at),
+        LexFault::TooWide(at) => (RefusalKind::TooWide, at),
+        LexFault::LongName(at) => (RefusalKind::LongName, at),
+        LexFault::Directive(at) => (RefusalKind::Directive, at),
+        LexFault::ManyTokens(at) => (RefusalKind::ManyTokens, at),
+        LexFault::BadNumber(at) => (RefusalKind::BadNumber, at),
+        LexFault::LongSource(at) => (RefusalKind::LongSource, at),
         LexFault::NoMemory => return None,
     };
-    Some(refused_at(rule, at, source))
+    Some(refused_at(kind, at, source))
 }
 
-/// The refusal of a source whose tokens have this fault; `None` where memory was wanting.
+/// The refusal of a source whose tokens have this fault; `None` where memory ran out.
 pub fn refusal_of_tokens(fault: ParseFault, source: &[u8]) -> Option<Refusal>
     ensures { result ≡ refusal_of_tokens fault source.now }
 {
-    let (rule, at) = match fault {
-        ParseFault::LeftOut(at) => (Rule::LeftOut, at),
-        ParseFault::TooDeep(at) => (Rule::TooDeep, at),
-        ParseFault::Syntax(at) => (Rule::Syntax, at),
-        ParseFault::Memory => return None,
+    let (kind, at) = match fault {
+        ParseFault::LeftOut(at) => (RefusalKind::LeftOut, at),
+        ParseFault::TooDeep(at) => (RefusalKind::TooDeep, at),
+        ParseFault::Syntax(at) => (RefusalKind::Syntax, at),
+        ParseFault::NoMemory => return None,
     };
-    Some(refused_at(rule, at, source))
+    Some(refused_at(kind, at, source))
 }

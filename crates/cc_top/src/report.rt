@@ -1,4 +1,4 @@
-//! What a user is told of how a command ended.
+//! The report of how a command ended.
 ghost use Rattle.std.specs.Prelude.{◌≡◌, ◌≤◌, length};
 ghost use Rattle.cc_top.specs.Outcome.{status_of, text_of};
 ghost use Rattle.cc_top.specs.Report.{IsReported};
@@ -45,9 +45,9 @@ fn refused_line(refusal: Refusal) -> Line
 {
     let mut line = Line::new();
     push_text(&mut line, b"refused ");
-    push_text(&mut line, refusal.rule.name().as_bytes());
+    push_text(&mut line, refusal.kind.name().as_bytes());
     line.push(b' ');
-    push_decimal(&mut line, refusal.rule.number().into());
+    push_decimal(&mut line, refusal.kind.number().into());
     push_text(&mut line, b" line ");
     push_decimal(&mut line, refusal.line.into());
     line.push(b'\n');
@@ -106,10 +106,11 @@ fn text_of(outcome: Outcome) -> Line
     }
 }
 
-/// Writes how a command ended, and gives the status of the call: that of the outcome, or 3 where the
-/// report was not written.
+/// Writes how a command ended, and gives the status of the call: that of the outcome, or 3 where
+/// the report was not written.
 pub fn tell<E: Sink>(report: &mut E, outcome: Outcome) -> u8
-    ensures { IsReported outcome result (E.held report.old) (E.held report.new) (E.faults report.old) (E.faults report.new) }
+    ensures { IsReported outcome result (E.held report.old) (E.held report.new)
+        (E.faults report.old) (E.faults report.new) }
 {
     let line = text_of(outcome);
     match write_all(report, line.as_bytes()) {

@@ -22,7 +22,9 @@ const IMAGE_LIMIT: usize = 268_435_456;
 fn machine_of(alloc: Global, bytes: &[u8]) -> Result<Machine, Outcome>
     ensures ok { IfOk result (λ m. (e : Executable) × (loaded bytes.now ≡ Ok e)
         × (hart_of m ≡ running (start e)) × (flags_in m ≡ flags_of e.segments)) }
-    ensures err { IfErr result (λ o. (o ≡ Outcome.NoMemory) ⊎ ((fault : ElfFault) × (o ≡ Outcome.BadImage fault) × (loaded bytes.now ≡ Err fault))) }
+    ensures err { IfErr result
+        (λ o. (o ≡ Outcome.NoMemory)
+        ⊎ ((fault : ElfFault) × (o ≡ Outcome.BadImage fault) × (loaded bytes.now ≡ Err fault))) }
 {
     let view = match elf_file::read(bytes) {
         Ok(view) => view,
@@ -58,12 +60,14 @@ pub fn run<F: Files, I: Source, O: Sink>(
 ) -> Outcome
     ensures { RunEnds image.now steps result
         (record {
-          files = files_seen F.told F.read_faults F.write_faults F.open_faults F.create_faults files.old;
+          files = files_seen F.known F.read_faults F.write_faults F.open_faults F.create_faults
+              files.old;
           input = stream_seen I.left I.faults input.old;
           output = stream_seen O.held O.faults output.old;
         })
         (record {
-          files = files_seen F.told F.read_faults F.write_faults F.open_faults F.create_faults files.new;
+          files = files_seen F.known F.read_faults F.write_faults F.open_faults F.create_faults
+              files.new;
           input = stream_seen I.left I.faults input.new;
           output = stream_seen O.held O.faults output.new;
         }) }

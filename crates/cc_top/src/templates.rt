@@ -1,28 +1,13 @@
 //! The instruction sequences of a function whose one node is a constant.
 ghost use Rattle.std.specs.Prelude.{◌≡◌, ◌<◌, ◌≤◌, ◌++◌, ◌∷◌, ◌+◌, ◌*◌, ◌%◌, ◌^◌, [], OnOk, IfOk};
 ghost use Rattle.cc_top.specs.declared.templates.TheConstants.{PLACE_REGISTERS};
-ghost use Rattle.cc_top.specs.Templates.{low_part, upper_part, load_address, load_immediate, negative, place_register, save_places, restore_places, enter, leave, return_constant};
+ghost use Rattle.cc_top.specs.Templates.{load_address, load_immediate, negative, place_register, save_places, restore_places, enter, leave, return_constant};
 
-use rv_isa::{BranchOffset, Imm12, Instr, Reg, Upper};
+use rv_isa::{BranchOffset, Imm12, Instr, Reg, low_part, upper_part};
 use std::alloc::{AllocError, Global};
 
-/// The most places that registers hold.
+/// The number of places that registers hold.
 pub const PLACE_REGISTERS: u32 = 11;
-
-/// The low 12 bits of a word, sign-extended.
-pub fn low_part(value: u32) -> Imm12
-    ensures { result ≡ low_part value }
-{
-    let low = value & 0xfff;
-    Imm12::new(if low < 0x800 { low } else { low + 0xffff_f000 })
-}
-
-/// The upper 20 bits of a word, one more where the low part is negative.
-pub fn upper_part(value: u32) -> Upper
-    ensures { result ≡ upper_part value }
-{
-    Upper::new(value.wrapping_add(0x800) >> 12)
-}
 
 /// Loads a word by two instructions, whatever it is.
 pub fn push_load_address(code: &mut Vec<Instr>, rd: Reg, value: u32) -> Result<(), AllocError>
@@ -73,10 +58,12 @@ fn negative(n: u32) -> Imm12
     Imm12::new(n.wrapping_neg())
 }
 
-/// A frame: its size in bytes, and the number of place registers that it keeps for the caller.
+/// A stack frame, with the place registers that it keeps for the caller.
 #[derive(Clone, Copy)]
 pub struct Frame {
+    /// The size in bytes.
     pub size: u32,
+    /// The number of place registers that it keeps.
     pub saved: u32,
     ghost in_registers: { saved ≤ PLACE_REGISTERS },
 }

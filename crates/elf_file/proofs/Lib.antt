@@ -1,7 +1,7 @@
-pub mod Appends
-pub mod WrittenLemmas
-pub mod LoadingLemmas
-pub mod SoundLemmas
-pub mod ReadBack
-pub mod RoundTrip
-pub mod SegmentLemmas
+mod Appends
+mod WrittenLemmas
+mod LoadingLemmas
+mod SoundLemmas
+mod ReadBack
+pub mod lemmas
+mod SegmentLemmas

@@ -1,6 +1,6 @@
 -- The headers of loaded segments, one after the other.
 use Rattle.std.proofs.Common.{◌≡◌, ◌≢◌, ℕ, zero, suc, ◌+◌, ◌-◌, ◌*◌, ◌≤◌, ◌<◌, ◌&&◌, Bool, true, false, Some, length, slice_get, List, [], ◌∷◌, refl, eq-eqb, arith, sym, ap, ◌∙◌}
-use Rattle.std.proofs.lemmas.Bool.{ne_eqb, leb-true}
+use Rattle.std.proofs.lemmas.Bool.{and_parts, ne_eqb, leb-true}
 use Rattle.std.proofs.lemmas.List.Sums.{sum_by-cons}
 use Rattle.std.specs.List.{list_all}
 use Rattle.elf_file.specs.Header.{ProgramHeader, header_at}
@@ -96,18 +96,9 @@ separate-end size b at n k past = rw (loads_from-end b at n k past) refl
 pub memory-end : (b : List ℕ) (at n k : ℕ) → n ≤ k → total_memory (loads_from b (at + 32 * k) (n - k)) ≡ 0
 memory-end b at n k past = rw (loads_from-end b at n k past) refl
 
--- both parts of a test hold
-pub left-true : (a b : Bool) → (a && b) ≡ true → a ≡ true
-left-true true b e = refl
-left-true false b e = e
-
-pub right-true : (a b : Bool) → (a && b) ≡ true → b ≡ true
-right-true true b e = e
-right-true false b e = cc
-
 pub few-headers : (b : List ℕ) → is_profile b ≡ true → header_count b ≤ 16
 unfolding is_profile
-few-headers b e = leb-true (header_count b) 16 (right-true _ _ e)
+few-headers b e = leb-true (header_count b) 16 (and_parts _ _ e).1
 
 -- the memory counted so far, with that of one more segment
 pub counted : (all before now one counted_one rest rest_now : ℕ) → all ≡ before + rest → rest ≡ one + rest_now → now ≡ before + counted_one → counted_one ≡ one

@@ -60,7 +60,7 @@ header_at-program_header h xs fits =
 pub header-back : (pre xs : List ℕ) (at : ℕ) (h : ProgramHeader) → length pre ≡ at → FitsWords h → header_at (pre ++ (program_header h ++ xs)) at ≡ h
 header-back pre xs at h len fits = header_at-append pre (program_header h ++ xs) at len ∙ header_at-program_header h xs fits
 
--- what is read of the header of a file with so many program headers
+-- what is read of the header of a file with this many program headers
 pub record ReadsBack (bytes : List ℕ) (n : ℕ) : Type 0 where
   pub magic : has_magic bytes ≡ true
   pub profile : is_profile bytes ≡ true

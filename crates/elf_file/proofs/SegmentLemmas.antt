@@ -1,6 +1,6 @@
 -- The segments of an executable, as sets of addresses.
-use Rattle.std.proofs.Common.{◌≡◌, ◌<◌, ℕ, zero, suc, ◌+◌, ◌-◌, ◌≤◌, ◌^◌, ◌==◌, ◌&&◌, ◌||◌, Bool, true, false, ◌⊎◌, inl, inr, List, [], ◌∷◌, length, map, drop, All, AllPairs, sum_by, Option, Some, None, Ok, is_none, refl, arith, sym, ap, ◌∙◌, nat_le}
-use Rattle.std.proofs.lemmas.Bool.{leb-true, leb-false, eqb-true, eqb-false}
+use Rattle.std.proofs.Common.{◌≡◌, ◌<◌, ℕ, zero, suc, ◌+◌, ◌-◌, ◌≤◌, ◌^◌, ◌==◌, ◌&&◌, ◌||◌, Bool, true, false, inl, inr, List, [], ◌∷◌, length, map, drop, All, AllPairs, sum_by, Option, Some, None, Ok, is_none, refl, arith, sym, ap, ◌∙◌, nat_le}
+use Rattle.std.proofs.lemmas.Bool.{and_parts, or_parts, or_cases, leb-true, leb-false, eqb-true, eqb-false}
 use Rattle.std.proofs.lemmas.List.{length-map, length-take}
 use Rattle.std.proofs.lemmas.List.Sums.{sum_by-cons, length-filter, count_by-le-length}
 use Rattle.std.proofs.lemmas.List.Kept.{AllPairs-cons}
@@ -11,21 +11,16 @@ use Rattle.elf_file.specs.Header.{ProgramHeader}
 use Rattle.elf_file.specs.Loading.{Executable, is_contained, is_apart, are_separate, total_memory, load_headers, loads_from, headers_from, headers_start, header_count, is_load, segment_at, executable, fault_of, unless_fault}
 use Rattle.elf_file.specs.Segments.{IsContained, AreApart, AreSound}
 use Rattle.elf_file.specs.Laws.{LoadedIsSound, OverlapHasAddress}
-use Rattle.elf_file.proofs.LoadingLemmas.{left-true, right-true}
 use Rattle.elf_file.proofs.SoundLemmas.{is_sound}
-
-or-cases : (a b : Bool) → (a || b) ≡ true → (a ≡ true) ⊎ (b ≡ true)
-or-cases true b e = inl refl
-or-cases false b e = inr e
 
 pub segment-contained : (bytes : List ℕ) (h : ProgramHeader) (size : ℕ) → is_contained size h ≡ true → IsContained (segment_at bytes h)
 unfolding is_contained
 segment-contained bytes h size e =
     let parts : Bool = nat_le h.file_size h.memory_size && nat_le (h.offset + h.file_size) size in
     let whole : Bool = nat_le (h.at + h.memory_size) (2 ^ 32) in
-    let both : parts ≡ true = left-true parts whole e in
-    let small : h.file_size ≤ h.memory_size = leb-true h.file_size h.memory_size (left-true _ (nat_le (h.offset + h.file_size) size) both) in
-    let end : h.at + h.memory_size ≤ 2 ^ 32 = leb-true (h.at + h.memory_size) (2 ^ 32) (right-true parts whole e) in
+    let both : parts ≡ true = (and_parts parts whole e).0 in
+    let small : h.file_size ≤ h.memory_size = leb-true h.file_size h.memory_size (and_parts _ (nat_le (h.offset + h.file_size) size) both).0 in
+    let end : h.at + h.memory_size ≤ 2 ^ 32 = leb-true (h.at + h.memory_size) (2 ^ 32) (and_parts parts whole e).1 in
     let part = length-take (h.offset + h.file_size - h.offset) (drop h.offset bytes) in
     record { part = omega arith; end = end }
 
@@ -40,11 +35,11 @@ segments-apart bytes a b e address in_a in_b =
     let none_b : Bool = b.memory_size == 0 in
     let a_first : Bool = nat_le (a.at + a.memory_size) b.at in
     let b_first : Bool = nat_le (b.at + b.memory_size) a.at in
-    elim (or-cases (none_a || none_b || a_first) b_first e) [
+    elim (or_cases (none_a || none_b || a_first) b_first e) [
       | inr after ↦ (let below = leb-true (b.at + b.memory_size) a.at after in omega arith)
-      | inl rest ↦ elim (or-cases (none_a || none_b) a_first rest) [
+      | inl rest ↦ elim (or_cases (none_a || none_b) a_first rest) [
         | inr before ↦ (let below = leb-true (a.at + a.memory_size) b.at before in omega arith)
-        | inl empty ↦ elim (or-cases none_a none_b empty) [
+        | inl empty ↦ elim (or_cases none_a none_b empty) [
           | inl first ↦ (let none = eqb-true a.memory_size 0 first in omega arith)
           | inr second ↦ (let none = eqb-true b.memory_size 0 second in omega arith)
         ]
@@ -54,22 +49,22 @@ segments-apart bytes a b e address in_a in_b =
 all-contained : (bytes : List ℕ) (size : ℕ) (hs : List ProgramHeader) → are_separate size hs ≡ true → All IsContained (map (segment_at bytes) hs)
 unfolding are_separate
 all-contained bytes size [] e k d below = omega arith
-all-contained bytes size (h ∷ hs) e zero d below = segment-contained bytes h size (left-true _ _ (left-true _ _ e))
-all-contained bytes size (h ∷ hs) e (suc k) d below = all-contained bytes size hs (right-true _ _ e) k d (omega arith)
+all-contained bytes size (h ∷ hs) e zero d below = segment-contained bytes h size (and_parts _ _ (and_parts _ _ e).0).0
+all-contained bytes size (h ∷ hs) e (suc k) d below = all-contained bytes size hs (and_parts _ _ e).1 k d (omega arith)
 
 all-apart : (bytes : List ℕ) (h : ProgramHeader) (hs : List ProgramHeader) → list_all (is_apart h) hs ≡ true
     → All (AreApart (segment_at bytes h)) (map (segment_at bytes) hs)
 all-apart bytes h [] e k d below = omega arith
-all-apart bytes h (x ∷ xs) e zero d below = segments-apart bytes h x (left-true _ _ e)
-all-apart bytes h (x ∷ xs) e (suc k) d below = all-apart bytes h xs (right-true _ _ e) k d (omega arith)
+all-apart bytes h (x ∷ xs) e zero d below = segments-apart bytes h x (and_parts _ _ e).0
+all-apart bytes h (x ∷ xs) e (suc k) d below = all-apart bytes h xs (and_parts _ _ e).1 k d (omega arith)
 
 pairs-apart : (bytes : List ℕ) (size : ℕ) (hs : List ProgramHeader) → are_separate size hs ≡ true → AllPairs AreApart (map (segment_at bytes) hs)
 unfolding are_separate
 pairs-apart bytes size [] e = λ i j d before below. omega arith
 pairs-apart bytes size (h ∷ hs) e =
     AllPairs-cons AreApart (segment_at bytes h) (map (segment_at bytes) hs)
-    (all-apart bytes h hs (right-true _ _ (left-true _ _ e)))
-    (pairs-apart bytes size hs (right-true _ _ e))
+    (all-apart bytes h hs (and_parts _ _ (and_parts _ _ e).0).1)
+    (pairs-apart bytes size hs (and_parts _ _ e).1)
 
 sum-sizes : (bytes : List ℕ) (hs : List ProgramHeader) → sum_by (λ s. s.size) (map (segment_at bytes) hs) ≡ total_memory hs
 sum-sizes bytes [] = refl
@@ -109,10 +104,6 @@ loaded_is_sound bytes e is =
     let both = ok-only (fault_of bytes) (executable bytes) e is in
     rw (sym both.1) (segments-sound bytes both.0)
 
-neither : (a b : Bool) → (a || b) ≡ false → (a ≡ false) × (b ≡ false)
-neither true b e = cc
-neither false b e = (refl, e)
-
 later-start : (a b : ProgramHeader) (t : Bool) → nat_le a.at b.at ≡ t → 0 < a.memory_size → 0 < b.memory_size
     → b.at < a.at + a.memory_size → a.at < b.at + b.memory_size
     → (address : ℕ) × (a.at ≤ address) × (address < a.at + a.memory_size) × (b.at ≤ address) × (address < b.at + b.memory_size)
@@ -130,9 +121,9 @@ overlap_has_address a b e =
     let none_b : Bool = b.memory_size == 0 in
     let a_first : Bool = nat_le (a.at + a.memory_size) b.at in
     let b_first : Bool = nat_le (b.at + b.memory_size) a.at in
-    let last = neither (none_a || none_b || a_first) b_first e in
-    let third = neither (none_a || none_b) a_first last.0 in
-    let sizes = neither none_a none_b third.0 in
+    let last = or_parts (none_a || none_b || a_first) b_first e in
+    let third = or_parts (none_a || none_b) a_first last.0 in
+    let sizes = or_parts none_a none_b third.0 in
     let some_a = eqb-false a.memory_size 0 sizes.0 in
     let some_b = eqb-false b.memory_size 0 sizes.1 in
     later-start a b (nat_le a.at b.at) refl (omega arith) (omega arith)

@@ -1,11 +1,11 @@
 -- What holds of a file without a fault.
 use Rattle.std.proofs.Common.{◌≡◌, ℕ, ◌+◌, ◌≤◌, Bool, true, false, if◌then◌else◌, List, Option, Some, is_none, not, length, refl, slice_get, [], ◌∷◌, zero, suc, unwrap_or, sym, ap, ◌∙◌}
-use Rattle.std.proofs.lemmas.Bool.{ltb-false, leb-true}
+use Rattle.std.proofs.lemmas.Bool.{and_parts, ltb-false, leb-true}
 use Rattle.elf_file.specs.Image.{memory_limit}
 use Rattle.elf_file.specs.Header.{ProgramHeader}
 use Rattle.elf_file.specs.Loading.{fault_of, headers_end, header_count, load_headers, is_contained, are_separate, are_loadable, total_memory}
 use Rattle.elf_file.specs.declared.fault.ElfFault.{ElfFault}
-use Rattle.elf_file.proofs.LoadingLemmas.{left-true, right-true, few-headers}
+use Rattle.elf_file.proofs.LoadingLemmas.{few-headers}
 
 pub record IsSound (b : List ℕ) : Type 0 where
   pub headed : 52 ≤ length b
@@ -35,8 +35,8 @@ is_sound b e =
       headed = ltb-false (length b) 52 headed.0;
       few = few-headers b (not-false _ profile.0);
       whole = ltb-false (length b) (headers_end b) whole.0;
-      separate = left-true _ _ (not-false _ loadable.0);
-      memory = leb-true (total_memory (load_headers b)) memory_limit (right-true _ _ (not-false _ loadable.0));
+      separate = (and_parts _ _ (not-false _ loadable.0)).0;
+      memory = leb-true (total_memory (load_headers b)) memory_limit (and_parts _ _ (not-false _ loadable.0)).1;
     }
 
 some-same : (x y : ProgramHeader) → Some x ≡ Some y → x ≡ y
@@ -46,9 +46,9 @@ some-same x y e = ap (λ o. unwrap_or o x) e
 pub contained-at : (size : ℕ) (hs : List ProgramHeader) (k : ℕ) (h : ProgramHeader) → are_separate size hs ≡ true → slice_get hs k ≡ Some h → is_contained size h ≡ true
 unfolding are_separate
 contained-at size [] k h e at = cc
-contained-at size (x ∷ hs) zero h e at = ap (is_contained size) (sym (some-same x h at)) ∙ left-true _ _ (left-true _ _ e)
-contained-at size (x ∷ hs) (suc k) h e at = contained-at size hs k h (right-true _ _ e) at
+contained-at size (x ∷ hs) zero h e at = ap (is_contained size) (sym (some-same x h at)) ∙ (and_parts _ _ (and_parts _ _ e).0).0
+contained-at size (x ∷ hs) (suc k) h e at = contained-at size hs k h (and_parts _ _ e).1 at
 
 pub within-file : (size : ℕ) (h : ProgramHeader) → is_contained size h ≡ true → h.offset + h.file_size ≤ size
 unfolding is_contained
-within-file size h e = leb-true (h.offset + h.file_size) size (right-true _ _ (left-true _ _ e))
+within-file size h e = leb-true (h.offset + h.file_size) size (and_parts _ _ (and_parts _ _ e).0).1

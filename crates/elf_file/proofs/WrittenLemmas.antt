@@ -1,7 +1,7 @@
--- The file of an image as it grows, part by part.
+-- The file of an image as it grows, section by section.
 use Rattle.std.proofs.Common.{◌≡◌, ℕ, ◌+◌, ◌-◌, ◌≤◌, ◌==◌, Bool, true, false, if◌then◌else◌, List, [], ◌∷◌, ◌++◌, length, take, replicate, refl, arith, sym, ap, ◌∙◌, length-append, append_assoc}
 use Rattle.std.proofs.lemmas.List.{take_all, length-replicate, append-nil}
-use Rattle.elf_file.specs.Image.{Parts, text_at, next_page}
+use Rattle.elf_file.specs.Image.{Sections, text_at, next_page}
 use Rattle.std.specs.List.{flat_map}
 use Rattle.elf_file.specs.Header.{ProgramHeader, elf_header, program_header}
 use Rattle.elf_file.specs.Written.{program_headers, text_header, fixed_header, fixed_headers, data_header, headers, padded, file_of, fixed_offset, data_offset}
@@ -19,7 +19,7 @@ length-padded xs =
     rw (length-replicate {A = ℕ} (next_page (length xs) - length xs) 0)
     (omega arith)
 
--- a file of whole pages, a part, and the zeros up to the next page
+-- a file of whole pages, a section, and the zeros up to the next page
 pub grown : (xs ys : List ℕ) (n : ℕ) → length xs ≡ next_page (length xs) → n ≡ next_page (length xs + length ys)
     → take n (xs ++ ys) ++ replicate (n - length (xs ++ ys)) 0 ≡ xs ++ padded ys
 grown xs ys n whole e =
@@ -45,11 +45,11 @@ headers-if : (b : Bool) (t f d : ProgramHeader)
 headers-if true t f d = ap (λ l. program_header t ++ l) (append-nil (program_header d))
 headers-if false t f d = rw (append-nil (program_header f)) (ap (λ l. program_header t ++ (program_header f ++ l)) (append-nil (program_header d)))
 
-pub headers-parts : (i : Parts) → headers i
+pub headers-sections : (i : Sections) → headers i
     ≡ elf_header text_at (length (program_headers i))
     ++ program_header (text_header i) ++ flat_map program_header (fixed_headers i) ++ program_header (data_header i)
 unfolding headers
-headers-parts i =
+headers-sections i =
     let start : List ℕ = elf_header text_at (length (program_headers i)) in
     let text : List ℕ = program_header (text_header i) in
     let fixed : List ℕ = flat_map program_header (fixed_headers i) in
@@ -68,7 +68,7 @@ pub record IsShort (xs : List ℕ) : Type 0 where
   pub some : 1 ≤ length xs
   pub few : length xs ≤ 148
 
-pub length-headers : (i : Parts) → IsShort (headers i)
+pub length-headers : (i : Sections) → IsShort (headers i)
 length-headers i =
     let first = length-elf_header text_at (length (program_headers i)) in
     let second = length-program_header (text_header i) in
@@ -81,7 +81,7 @@ length-headers i =
     let sum_1 = length-append start text in
     let sum_2 = length-append (start ++ text) fixed in
     let sum_3 = length-append (start ++ text ++ fixed) globals in
-    rw (headers-parts i) (record { some = omega arith; few = omega arith })
+    rw (headers-sections i) (record { some = omega arith; few = omega arith })
 
 next-part : (xs ys f g : List ℕ) (n : ℕ) → f ≡ xs ++ ys → g ≡ take n f ++ replicate (n - length f) 0
     → length xs ≡ next_page (length xs) → n ≡ next_page (length xs + length ys) → g ≡ xs ++ padded ys
@@ -96,13 +96,13 @@ length-next xs ys whole =
 next_page-again : (m n : ℕ) → m ≡ next_page n → m ≡ next_page m
 next_page-again m n e = omega arith
 
--- the lengths of the file up to each part
-pub record Lengths (i : Parts) : Type 0 where
+-- the lengths of the file up to each section
+pub record Lengths (i : Sections) : Type 0 where
   pub head : length (padded (headers i)) ≡ 4096
   pub with_text : length (padded (headers i) ++ padded i.text) ≡ fixed_offset i
   pub with_fixed : length (padded (headers i) ++ padded i.text ++ padded i.fixed) ≡ data_offset i
 
-pub lengths : (i : Parts) → Lengths i
+pub lengths : (i : Sections) → Lengths i
 lengths i =
     let low = (length-headers i).some in
     let high = (length-headers i).few in
@@ -115,8 +115,8 @@ lengths i =
     let w2 : length with_text ≡ next_page (length with_text) = next_page-again (length with_text) (4096 + length i.text) n2 in
     record { head = n1; with_text = n2; with_fixed = length-next with_text i.fixed w2 ∙ rw n2 refl }
 
--- the file after each of its parts: f2, f4 and f6 are filled up to a page
-pub file-grown : (i : Parts) (f1 f2 f3 f4 f5 f6 f7 : List ℕ) → f1 ≡ headers i
+-- the file after each of its sections: f2, f4 and f6 are filled up to a page
+pub file-grown : (i : Sections) (f1 f2 f3 f4 f5 f6 f7 : List ℕ) → f1 ≡ headers i
     → f2 ≡ take 4096 f1 ++ replicate (4096 - length f1) 0
     → f3 ≡ f2 ++ i.text
     → f4 ≡ take (fixed_offset i) f3 ++ replicate (fixed_offset i - length f3) 0

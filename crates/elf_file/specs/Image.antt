@@ -1,9 +1,9 @@
--- A program image as plain lists and numbers, and where its parts stand in memory.
+-- A program image as plain lists and numbers, and where its sections are in memory.
 use Rattle.std.specs.Prelude.{◌≡◌, ℕ, ◌+◌, ◌-◌, ◌*◌, ◌/◌, ◌≤◌, List, length}
 use Rattle.elf_file.specs.declared.image.Image.{Image}
 
--- The bytes of the three parts, and the addresses of the second, of the third and of the stack.
-pub record Parts : Type 0 where
+-- The bytes of the three sections, and the addresses of the second, of the third and of the stack.
+pub record Sections : Type 0 where
   pub text : List ℕ
   pub fixed : List ℕ
   pub fixed_at : ℕ
@@ -11,8 +11,8 @@ pub record Parts : Type 0 where
   pub data_at : ℕ
   pub stack_at : ℕ
 
-abbrev pub parts_of : Image → Parts
-parts_of i = record {
+abbrev pub sections_of : Image → Sections
+sections_of i = record {
   text = i.text.items;
   fixed = i.fixed.items;
   fixed_at = i.fixed_at;
@@ -40,13 +40,13 @@ abbrev pub next_page : ℕ → ℕ
 next_page n = (n + (page_size - 1)) / page_size * page_size
 
 -- the bytes of memory from the globals to the end of the stack
-abbrev pub data_size : Parts → ℕ
+abbrev pub data_size : Sections → ℕ
 data_size i = i.stack_at + stack_size - i.data_at
 
--- Each part begins on the first page after the part before it, and the stack on the first page after
--- the globals. Where there are no fixed bytes, their place and that of the globals are the same.
+-- Each section begins on the first page after the section before it, and the stack on the first page after
+-- the globals. Where there are no fixed bytes, their address and that of the globals are the same.
 -- The limit on memory also keeps the file below its limit, and every address below 2^32.
-pub record IsPlaced (i : Parts) : Type 0 where
+pub record IsPlaced (i : Sections) : Type 0 where
   pub fixed_place : i.fixed_at ≡ next_page (text_at + length i.text)
   pub globals_place : i.data_at ≡ next_page (i.fixed_at + length i.fixed)
   pub stack_place : i.stack_at ≡ next_page (i.data_at + length i.globals)

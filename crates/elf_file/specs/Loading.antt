@@ -50,7 +50,7 @@ is_profile bytes =
     && nat_le 1 (header_count bytes)
     && nat_le (header_count bytes) 16
 
--- this many program headers from a place on
+-- this many program headers from an offset on
 unfoldable pub headers_from : List ℕ → ℕ → ℕ → List ProgramHeader
 headers_from bytes at zero = []
 headers_from bytes at (suc n) = header_at bytes at ∷ headers_from bytes (at + 32) n
@@ -65,8 +65,8 @@ loads_from bytes at n = filter is_load (headers_from bytes at n)
 abbrev pub load_headers : List ℕ → List ProgramHeader
 load_headers bytes = loads_from bytes (headers_start bytes) (header_count bytes)
 
--- The file part is no longer than the memory and stands within a file of this length, and the memory
--- within 2^32 bytes.
+-- The bytes of the file are no more than those of the memory and within a file of this length, and the
+-- memory is within 2^32 bytes.
 unfoldable pub is_contained : ℕ → ProgramHeader → Bool
 is_contained file_length h =
     nat_le h.file_size h.memory_size

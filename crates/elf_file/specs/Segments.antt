@@ -3,7 +3,7 @@ use Rattle.std.specs.Prelude.{ℕ, ◌+◌, ◌^◌, ◌<◌, ◌≤◌, List, l
 use Rattle.elf_file.specs.Image.{memory_limit}
 use Rattle.elf_file.specs.Loading.{LoadedSegment}
 
--- The file part is no longer than the memory, which ends within 2^32 bytes.
+-- The bytes of the file are no more than those of the memory, which ends within 2^32 bytes.
 pub record IsContained (s : LoadedSegment) : Type 0 where
   pub part : length s.bytes ≤ s.size
   pub end : s.at + s.size ≤ 2 ^ 32

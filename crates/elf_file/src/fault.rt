@@ -1,17 +1,24 @@
 use thiserror::Error;
 
-/// Why a file is no executable that can be loaded. Of several, `LongFile` is told first, then `Short` for
-/// the ELF header, `NotElf`, `NotProfile`, `Short` for the program headers, and `BadSegment`.
+/// Why a file is no executable that can be loaded. A file with several faults is refused for the
+/// first in this order: `LongFile`, `Short` for the ELF header, `NotElf`, `NotProfile`, `Short` for
+/// the program headers, `BadSegment`.
 #[derive(Clone, Copy, Debug, PartialEq, Eq, Error)]
 pub enum ElfFault {
+    /// The file ends within its ELF header or its program headers.
     #[error("the file ends within its headers")]
     Short = 1,
+    /// The file does not begin with ELFMAG.
     #[error("the file does not begin as an ELF file")]
     NotElf = 2,
+    /// The file is no executable for RISC-V, 32-bit, little-endian, with 1 to 16 program headers.
     #[error("not an executable for 32-bit RISC-V with 1 to 16 program headers")]
     NotProfile = 3,
+    /// A segment is not within the file or the address space, overlaps another one, or the segments
+    /// have more than 268,435,456 bytes of memory together.
     #[error("a segment passes its bounds or overlaps another one")]
     BadSegment = 4,
+    /// The file has more than 268,435,456 bytes.
     #[error("the file has more than 268435456 bytes")]
     LongFile = 5,
 }

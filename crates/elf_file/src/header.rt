@@ -4,10 +4,10 @@ ghost use Rattle.elf_file.specs.Header.{half, half_at, word, word_at, elf_header
 use crate::image::PAGE;
 use std::alloc::AllocError;
 
-/// The bytes of an Elf32_Ehdr.
+/// The size of an Elf32_Ehdr in bytes.
 pub const ELF_HEADER_SIZE: usize = 52;
 
-/// The bytes of an Elf32_Phdr.
+/// The size of an Elf32_Phdr in bytes.
 pub const PROGRAM_HEADER_SIZE: usize = 32;
 
 /// The kind of a segment that is loaded.
@@ -26,6 +26,7 @@ pub struct ProgramHeader {
     pub flags: u32,
 }
 
+/// The Elf32_Half at the offset `at`.
 pub fn read_half(bytes: &[u8], at: usize) -> u16
     requires { at + 2 ≤ length bytes.now }
     ensures { result ≡ half_at bytes.now at }
@@ -33,6 +34,7 @@ pub fn read_half(bytes: &[u8], at: usize) -> u16
     u16::from_le_bytes([bytes[at], bytes[at + 1]])
 }
 
+/// The Elf32_Word at the offset `at`.
 pub fn read_word(bytes: &[u8], at: usize) -> u32
     requires { at + 4 ≤ length bytes.now }
     ensures { result ≡ word_at bytes.now at }
@@ -40,6 +42,7 @@ pub fn read_word(bytes: &[u8], at: usize) -> u32
     u32::from_le_bytes([bytes[at], bytes[at + 1], bytes[at + 2], bytes[at + 3]])
 }
 
+/// The Elf32_Phdr at the offset `at`.
 pub fn read_program_header(bytes: &[u8], at: usize) -> ProgramHeader
     requires { at + 32 ≤ length bytes.now }
     ensures { header_of result ≡ header_at bytes.now at }
@@ -66,6 +69,8 @@ fn push_word(file: &mut Vec<u8>, n: u32) -> Result<(), AllocError>
     file.extend_from_slice(&n.to_le_bytes())
 }
 
+/// Appends the Elf32_Ehdr of an executable with this entry and this many program headers, which
+/// follow it.
 pub fn push_elf_header(file: &mut Vec<u8>, entry: u32, count: u16) -> Result<(), AllocError>
     ensures { OnOk result (file.new.items ≡ file.old.items ++ elf_header entry count) }
 {
@@ -86,8 +91,10 @@ pub fn push_elf_header(file: &mut Vec<u8>, entry: u32, count: u16) -> Result<(),
     Ok(())
 }
 
+/// Appends an Elf32_Phdr.
 pub fn push_program_header(file: &mut Vec<u8>, header: &ProgramHeader) -> Result<(), AllocError>
-    ensures { OnOk result (file.new.items ≡ file.old.items ++ program_header (header_of header.now)) }
+    ensures { OnOk result
+        (file.new.items ≡ file.old.items ++ program_header (header_of header.now)) }
 {
     push_word(file, header.kind)?;
     push_word(file, header.offset)?;

@@ -1,38 +1,30 @@
-use std::alloc::AllocError;
-use thiserror::Error;
-
-/// The bytes of a page. Every part of an image begins on a page of its own.
+/// The size of a page in bytes. Each section of an image begins on a page of its own.
 pub const PAGE: u32 = 4096;
 
 /// The address of the text, which is also the entry.
 pub const TEXT_AT: u32 = 0x10000;
 
-/// The bytes of the stack.
+/// The size of the stack in bytes.
 pub const STACK_SIZE: u32 = 8_388_608;
 
-/// The greatest sum of the memory sizes of the segments of an executable.
+/// The most bytes of memory that the segments of an executable may have together.
 pub const MEMORY_LIMIT: u32 = 268_435_456;
 
-/// A program as it stands in memory: the text at `TEXT_AT`, the read-only globals at `fixed_at`, the
-/// other globals at `data_at`, and the stack from `stack_at`. Without read-only globals `fixed_at`
-/// equals `data_at`.
+/// A program in memory: the text at the address `TEXT_AT`, the read-only globals at `fixed_at`, the
+/// other globals at `data_at`, and the stack from `stack_at` on. Without read-only globals
+/// `fixed_at` equals `data_at`.
 #[derive(Debug, PartialEq, Eq, Drop)]
 pub struct Image {
+    /// The bytes of the instructions.
     pub text: Vec<u8>,
+    /// The bytes of the read-only globals.
     pub fixed: Vec<u8>,
+    /// The address of `fixed`.
     pub fixed_at: u32,
+    /// The bytes of the other globals.
     pub globals: Vec<u8>,
+    /// The address of `globals`.
     pub data_at: u32,
+    /// The lowest address of the stack, which has `STACK_SIZE` bytes.
     pub stack_at: u32,
-}
-
-/// There was not enough memory.
-#[derive(Clone, Copy, Debug, PartialEq, Eq, Error)]
-#[error("no memory")]
-pub struct NoMemory;
-
-impl From<AllocError> for NoMemory {
-    fn from(_e: AllocError) -> NoMemory {
-        NoMemory
-    }
 }

@@ -7,7 +7,8 @@ pub fn written_loads()
     ensures { WrittenLoads }
 {}
 
-/// The segments of every executable are contained in the address space, apart from one another, and few.
+/// The segments of every executable are contained in the address space, apart from one another, and
+/// few.
 pub fn loaded_is_sound()
     ensures { LoadedIsSound }
 {}

@@ -1,6 +1,7 @@
-// Executable files: ELF for 32-bit RISC-V. It stands on std and thiserror. `write` gives exactly the file
-// of an image that specs/Written.antt defines, and `read` exactly what specs/Loading.antt says that a file
-// loads as, or its fault.
+//! Executable files: ELF for 32-bit RISC-V (System V ABI, chapters 4 and 5). It stands on no crate
+//! of the repository but `no_memory`. Promise: `write` gives exactly the file of an image that
+//! specs/Written.antt defines, and `read` exactly what specs/Loading.antt says that a file loads
+//! as, or its first fault.
 #![tactic(auto)]
 
 mod fault;
@@ -12,10 +13,7 @@ mod view;
 mod writer;
 
 pub use fault::ElfFault;
-pub use image::{Image, NoMemory, PAGE, STACK_SIZE, TEXT_AT};
+pub use image::{Image, PAGE, STACK_SIZE, TEXT_AT};
 pub use reader::read;
 pub use view::{ImageView, Segment};
 pub use writer::write;
-
-#[cfg(test)]
-mod tests;

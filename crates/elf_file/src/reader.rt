@@ -74,11 +74,13 @@ fn is_apart_from_all(bytes: &[u8], header: &ProgramHeader, at: usize, count: usi
     true
 }
 
-/// Whether a segment may be loaded in a file with these bytes, and is apart from those of the `count`
-/// program headers from `at` on.
+/// Whether a segment may be loaded in a file with these bytes, and is apart from those of the
+/// `count` program headers from `at` on.
 fn is_separate(bytes: &[u8], header: &ProgramHeader, at: usize, count: usize) -> bool
     requires { at + 32 * count ≤ length bytes.now }
-    ensures { result ≡ (is_contained (length bytes.now) (header_of header.now) && list_all (is_apart (header_of header.now)) (loads_from bytes.now at count)) }
+    ensures { result
+        ≡ (is_contained (length bytes.now) (header_of header.now) && list_all
+        (is_apart (header_of header.now)) (loads_from bytes.now at count)) }
 {
     header.is_contained(bytes.len()) && is_apart_from_all(bytes, header, at, count)
 }
@@ -135,11 +137,12 @@ fn first_fault(bytes: &[u8]) -> Option<ElfFault>
     None
 }
 
-/// Reads an ELF executable for 32-bit RISC-V (System V ABI, chapters 4 and 5) without taking memory: the
-/// view borrows the bytes. Segments that are not loaded, sections and flags are passed over. A fault comes
-/// exactly where the file has it; `ElfFault` says which of several is told.
+/// Reads an ELF executable for 32-bit RISC-V (System V ABI, chapters 4 and 5) without taking
+/// memory: the view borrows the bytes. Segments that are not loaded, ELF sections and flags are
+/// skipped. A fault comes exactly where the file has it; `ElfFault` says which of several comes.
 pub fn read(bytes: &[u8]) -> Result<ImageView<'_>, ElfFault>
-    ensures { MatchResult result (λ view. loaded bytes.now ≡ Ok (executable_of view)) (λ fault. loaded bytes.now ≡ Err fault) }
+    ensures { MatchResult result (λ view. loaded bytes.now ≡ Ok (executable_of view))
+        (λ fault. loaded bytes.now ≡ Err fault) }
 {
     match first_fault(bytes) {
         Some(fault) => Err(fault),

@@ -8,13 +8,18 @@ use crate::header::{
     LOAD, PROGRAM_HEADER_SIZE, ProgramHeader, read_half, read_program_header, read_word,
 };
 
-/// A segment of an executable: `size` bytes of memory from the address `at` on, of which the first ones
-/// are `bytes` and the others zero. `flags` has 4 to read, 2 to write and 1 to execute.
+/// A segment of an executable: `size` bytes of memory from the address `at` on, of which the first
+/// ones are `bytes` and the others zero. `flags` has the bits 4 to read, 2 to write and 1 to
+/// execute.
 #[derive(Clone, Copy, Debug)]
 pub struct Segment<'a> {
+    /// The address of the first byte.
     pub at: u32,
+    /// The size in memory, in bytes.
     pub size: u32,
+    /// What is allowed: 4 to read, 2 to write, 1 to execute.
     pub flags: u32,
+    /// The bytes that the file has.
     pub bytes: &'a [u8],
 }
 
@@ -57,13 +62,14 @@ impl<'a> ImageView<'a> {
 
     fn header(&self, k: usize) -> ProgramHeader
         requires { k < header_count self.now.bytes.now }
-        ensures { header_of result ≡ header_at self.now.bytes.now (headers_start self.now.bytes.now + 32 * k) }
+        ensures { header_of result
+            ≡ header_at self.now.bytes.now (headers_start self.now.bytes.now + 32 * k) }
     {
         let start = read_word(self.bytes, 28) as usize;
         read_program_header(self.bytes, start + PROGRAM_HEADER_SIZE * k)
     }
 
-    /// The number of segments that are loaded.
+    /// The number of segments that are loaded (PT_LOAD), 0 to 16.
     pub fn count(&self) -> u32
         ensures value { result ≡ length (executable_of self.now).segments }
         ensures sound { AreSound (executable_of self.now).segments }

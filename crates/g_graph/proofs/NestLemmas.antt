@@ -3,6 +3,7 @@ use Rattle.std.proofs.Common.{◌≡◌, ℕ, ◌++◌, Bool, true, ◌&&◌, Li
 use Rattle.std.specs.Prelude.{◌==◌, ◌||◌, not, slice_get, if◌then◌else◌, option_map}
 use Rattle.std.specs.declared.option.Option.{Option}
 use Rattle.std.specs.declared.option.Option.TheVariants.{Some, None}
+use Rattle.std.proofs.lemmas.Bool.{and_parts}
 use Rattle.g_graph.specs.declared.op.Kind.{Kind}
 use Rattle.g_graph.specs.declared.op.Kind.TheVariants.{Value, Memory, Io}
 use Rattle.g_graph.specs.declared.op.Op.{Op}
@@ -16,7 +17,6 @@ use Rattle.g_graph.specs.Ids.{region_ids, node_ids, nodes_ids, regions_ids}
 use Rattle.g_graph.specs.Change.{first_some, region_changed, node_changed, nodes_changed, regions_changed}
 use Rattle.g_graph.specs.WellFormed.{all_of, some_of, all_regions, are, same, kinds_of, one_state_each, has_its_regions, regions_fit, theta_has_states, has_its_width, has_its_object, is_origin, is_last_of, is_last, node_fits, gives, region_fits, every_region, every_in_node, every_in_nodes, every_in_regions}
 use Rattle.g_graph.proofs.lemmas.Splices.{nodes_of-append, kind_after-joined, state_after-joined}
-use Rattle.g_graph.proofs.lemmas.Unique.{first_true, second_true}
 use Rattle.g_graph.proofs.lemmas.Numbers.{Numbered, numbered_left, numbered_right, numbered_rest}
 
 -- after the one nodes origins have the kinds that they have after the others, and states come from the same
@@ -224,7 +224,7 @@ mutual
       every_region (region_fits objects) r ≡ true → Numbered next (region_ids r) → RegionKept objects r s
   region_changed_kept objects next f k (region args nodes results) s e own numbers =
       by_cases (f (region args nodes results)) (nodes_changed f nodes) refl refl e
-      (λ ms q. nodes_changed_kept objects next f k nodes ms q (second_true (region_fits objects (region args nodes results)) (every_in_nodes (region_fits objects) nodes) own) numbers)
+      (λ ms q. nodes_changed_kept objects next f k nodes ms q (and_parts (region_fits objects (region args nodes results)) (every_in_nodes (region_fits objects) nodes) own).1 numbers)
     where
       by_cases : (o : Option RegionTree) (p : Option NodeTrees) → f (region args nodes results) ≡ o → nodes_changed f nodes ≡ p →
           first_some o (option_map (λ ns. region args ns results) p) ≡ Some s → ((ms : NodeTrees) → nodes_changed f nodes ≡ Some ms → NodesKept objects nodes ms) →
@@ -233,7 +233,7 @@ mutual
       by_cases None (Some ms) a b c h =
           let same : region args ms results ≡ s = cc in
           subst (λ t. RegionKept objects (region args nodes results) t) same
-          (region_kept objects args nodes ms results (h ms b) (first_true (region_fits objects (region args nodes results)) (every_in_nodes (region_fits objects) nodes) own))
+          (region_kept objects args nodes ms results (h ms b) (and_parts (region_fits objects (region args nodes results)) (every_in_nodes (region_fits objects) nodes) own).0)
       by_cases None None a b c h = absurd (cc)
 
   node_changed_kept : (objects next : ℕ) (f : RegionTree → Option RegionTree) → KeepsRegion objects next f → (x y : NodeTree) → node_changed f x ≡ Some y →
@@ -252,8 +252,8 @@ mutual
       every_in_nodes (region_fits objects) ns ≡ true → Numbered next (nodes_ids ns) → NodesKept objects ns ms
   nodes_changed_kept objects next f k no_nodes ms e own numbers = absurd (cc)
   nodes_changed_kept objects next f k (node_then x xs) ms e own numbers =
-      let first = first_true (every_in_node (region_fits objects) x) (every_in_nodes (region_fits objects) xs) own in
-      let rest = second_true (every_in_node (region_fits objects) x) (every_in_nodes (region_fits objects) xs) own in
+      let first = (and_parts (every_in_node (region_fits objects) x) (every_in_nodes (region_fits objects) xs) own).0 in
+      let rest = (and_parts (every_in_node (region_fits objects) x) (every_in_nodes (region_fits objects) xs) own).1 in
       by_cases (node_changed f x) (nodes_changed f xs) refl refl e first rest (λ y q. node_changed_kept objects next f k x y q first (numbered_left next (node_ids x) (nodes_ids xs) numbers))
       (λ ys q. nodes_changed_kept objects next f k xs ys q rest (numbered_right next (node_ids x) (nodes_ids xs) numbers))
     where
@@ -274,8 +274,8 @@ mutual
       every_in_regions (region_fits objects) rs ≡ true → Numbered next (regions_ids rs) → RegionsKept objects rs ss
   regions_changed_kept objects next f k no_regions ss e own numbers = absurd (cc)
   regions_changed_kept objects next f k (region_then r rs) ss e own numbers =
-      let first = first_true (every_region (region_fits objects) r) (every_in_regions (region_fits objects) rs) own in
-      let rest = second_true (every_region (region_fits objects) r) (every_in_regions (region_fits objects) rs) own in
+      let first = (and_parts (every_region (region_fits objects) r) (every_in_regions (region_fits objects) rs) own).0 in
+      let rest = (and_parts (every_region (region_fits objects) r) (every_in_regions (region_fits objects) rs) own).1 in
       by_cases (region_changed f r) (regions_changed f rs) refl refl e first rest (λ s q. region_changed_kept objects next f k r s q first (numbered_left next (region_ids r) (regions_ids rs) numbers))
       (λ ts q. regions_changed_kept objects next f k rs ts q rest (numbered_right next (region_ids r) (regions_ids rs) numbers))
     where

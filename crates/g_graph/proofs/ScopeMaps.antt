@@ -1,6 +1,7 @@
 -- Origins that keep their kinds from one scope to another, and what they keep of the nodes that use them.
 use Rattle.std.proofs.Common.{◌≡◌, ℕ, ◌++◌, true, ◌&&◌, List, [], ◌∷◌, map, refl, sym, ap, ◌∙◌, subst}
 use Rattle.std.proofs.lemmas.List.{length-map}
+use Rattle.std.proofs.lemmas.Bool.{and_parts}
 use Rattle.g_graph.specs.declared.op.Kind.{Kind}
 use Rattle.g_graph.specs.declared.op.Op.{Op}
 use Rattle.g_graph.specs.declared.op.Op.TheVariants.{Local, Load, Store, Clear, Gamma, Theta}
@@ -12,7 +13,6 @@ use Rattle.g_graph.specs.WellFormed.{all_of, are, one_state_each, has_its_region
 use Rattle.g_graph.specs.Replace.{node_redirected, nodes_redirected}
 use Rattle.g_graph.specs.Splice.{joined_nodes}
 use Rattle.g_graph.proofs.lemmas.Splices.{joined_none, joined_following}
-use Rattle.g_graph.proofs.lemmas.Unique.{first_true, second_true}
 
 -- an origin that is known and the last of its kind of state stays so
 pub record ScopeMap (args : List Kind) (bs : NodeTrees) (others : List Kind) (cs : NodeTrees) (f : Origin → Origin) : Type 0 where
@@ -23,8 +23,8 @@ pub mapped_all : (args : List Kind) (bs : NodeTrees) (others : List Kind) (cs : 
     (map (known others cs) (map f os) ≡ map (known args bs) os) × (all_of (is_last others cs) (map f os) ≡ true)
 mapped_all args bs others cs f m [] e = (refl, refl)
 mapped_all args bs others cs f m (o ∷ os) e =
-    let one = m.one o (first_true (is_last args bs o) (all_of (is_last args bs) os) e) in
-    let rest = mapped_all args bs others cs f m os (second_true (is_last args bs o) (all_of (is_last args bs) os) e) in
+    let one = m.one o (and_parts (is_last args bs o) (all_of (is_last args bs) os) e).0 in
+    let rest = mapped_all args bs others cs f m os (and_parts (is_last args bs o) (all_of (is_last args bs) os) e).1 in
     (λ i. one.0 i ∷ rest.0 i, λ i. one.1 i && rest.1 i)
 
 shape_free : (id : ℕ) (op : Op) (is js : List Origin) (rs : RegionTrees) → has_its_regions (node id op js rs) ≡ has_its_regions (node id op is rs)
@@ -66,12 +66,12 @@ mapped_node_fits objects args bs others cs f m (node id op inputs rs) e =
     let regions = regions_fit x in
     let theta = theta_has_states x in
     let width = has_its_width x in
-    let to_width = first_true (fits && lasts && states && shape && regions && theta && width) (has_its_object objects x) e in
-    let to_theta = first_true (fits && lasts && states && shape && regions && theta) width to_width in
-    let to_regions = first_true (fits && lasts && states && shape && regions) theta to_theta in
-    let to_shape = first_true (fits && lasts && states && shape) regions to_regions in
-    let to_states = first_true (fits && lasts && states) shape to_shape in
-    let last : all_of (is_last args bs) inputs ≡ true = second_true fits lasts (first_true (fits && lasts) states to_states) in
+    let to_width = (and_parts (fits && lasts && states && shape && regions && theta && width) (has_its_object objects x) e).0 in
+    let to_theta = (and_parts (fits && lasts && states && shape && regions && theta) width to_width).0 in
+    let to_regions = (and_parts (fits && lasts && states && shape && regions) theta to_theta).0 in
+    let to_shape = (and_parts (fits && lasts && states && shape) regions to_regions).0 in
+    let to_states = (and_parts (fits && lasts && states) shape to_shape).0 in
+    let last : all_of (is_last args bs) inputs ≡ true = (and_parts fits lasts (and_parts (fits && lasts) states to_states).0).1 in
     let all = mapped_all args bs others cs f m inputs last in
     let same : node_fits objects others cs (node_redirected f x) ≡ node_fits objects args bs x =
     λ i.
@@ -86,8 +86,8 @@ pub mapped_nodes_fit : (objects : ℕ) (args others : List Kind) (f : Origin →
     each_node (node_fits objects args) bs ns ≡ true → each_node (node_fits objects others) cs (nodes_redirected f ns) ≡ true
 mapped_nodes_fit objects args others f bs cs no_nodes m e = refl
 mapped_nodes_fit objects args others f bs cs (node_then x xs) m e =
-    let here = first_true (node_fits objects args (nodes_of bs) x) (each_node (node_fits objects args) (bs ++ x ∷ []) xs) e in
-    let rest = second_true (node_fits objects args (nodes_of bs) x) (each_node (node_fits objects args) (bs ++ x ∷ []) xs) e in
+    let here = (and_parts (node_fits objects args (nodes_of bs) x) (each_node (node_fits objects args) (bs ++ x ∷ []) xs) e).0 in
+    let rest = (and_parts (node_fits objects args (nodes_of bs) x) (each_node (node_fits objects args) (bs ++ x ∷ []) xs) e).1 in
     let scope : ScopeMap args (nodes_of bs) others (nodes_of cs) f =
     subst (λ ns. ScopeMap args (nodes_of bs) others ns f) (joined_none (nodes_of cs))
     (subst (λ ns. ScopeMap args ns others (joined_nodes (nodes_of cs) no_nodes) f) (joined_none (nodes_of bs)) (m no_nodes (node_then x xs) refl)) in

@@ -3,7 +3,7 @@ use Rattle.std.proofs.Common.{◌≡◌, ◌⊎◌, inl, inr, ℕ, zero, suc, Bo
 use Rattle.std.specs.Prelude.{◌==◌, ◌&&◌, ◌||◌, not, slice_get, unwrap_or, if◌then◌else◌}
 use Rattle.std.specs.declared.option.Option.{Option}
 use Rattle.std.specs.declared.option.Option.TheVariants.{Some, None}
-use Rattle.std.proofs.lemmas.Bool.{false_from_ne_true, or_left, or_right, or_cases}
+use Rattle.std.proofs.lemmas.Bool.{and_parts, false_from_ne_true, or_left, or_right, or_cases}
 use Rattle.g_graph.specs.declared.op.Kind.{Kind}
 use Rattle.g_graph.specs.declared.op.Kind.TheVariants.{Value, Memory, Io}
 use Rattle.g_graph.specs.declared.op.Origin.{Origin}
@@ -17,7 +17,7 @@ use Rattle.g_graph.specs.Replace.{node_redirected, nodes_redirected, region_redi
 use Rattle.g_graph.specs.Splice.{args_to_inputs, outputs_to_results, joined_nodes, nodes_spliced, region_spliced}
 use Rattle.g_graph.proofs.lemmas.Redirects.{nodes_of-redirected, kind_after-redirected, state_after-redirected, gives-redirected, every_in_nodes-redirected}
 use Rattle.g_graph.proofs.lemmas.Splices.{joined_none, joined_following, Split, joined_assoc, nodes_of-append, kind_after-joined, state_after-joined, gives-joined, every_in_nodes-joined}
-use Rattle.g_graph.proofs.lemmas.Unique.{same_number, equal_back, first_true, second_true}
+use Rattle.g_graph.proofs.lemmas.Unique.{same_number, equal_back}
 use Rattle.g_graph.proofs.NestLemmas.{RegionKept}
 use Rattle.g_graph.proofs.ScopeMaps.{ScopeMap, mapped_all, mapped_nodes_fit}
 use Rattle.g_graph.proofs.lemmas.Moved.{last_is_known}
@@ -49,11 +49,11 @@ record Entry (args : List Kind) (before : NodeTrees) (is : List Origin) (j : ℕ
 
 are_first : (x : Option Kind) (xs : List (Option Kind)) (w : Kind) (ws : List Kind) → are (x ∷ xs) (w ∷ ws) ≡ true → x ≡ Some w
 are_first None xs w ws e = absurd (cc)
-are_first (Some j) xs w ws e = ap Some (same_kind_true j w (first_true (same_kind j w) (are xs ws) e))
+are_first (Some j) xs w ws e = ap Some (same_kind_true j w (and_parts (same_kind j w) (are xs ws) e).0)
 
 are_rest : (x : Option Kind) (xs : List (Option Kind)) (w : Kind) (ws : List Kind) → are (x ∷ xs) (w ∷ ws) ≡ true → are xs ws ≡ true
 are_rest None xs w ws e = absurd (cc)
-are_rest (Some j) xs w ws e = second_true (same_kind j w) (are xs ws) e
+are_rest (Some j) xs w ws e = (and_parts (same_kind j w) (are xs ws) e).1
 
 are_wanted : (x : Option Kind) (xs : List (Option Kind)) → are (x ∷ xs) [] ≡ true → ⊥
 are_wanted None xs e = absurd (cc)
@@ -68,10 +68,10 @@ entry_at args before (o ∷ is) (w ∷ own) zero k a l e = record {
   origin = o;
   taken = refl;
   kind = are_first (known args before o) (map (known args before) is) w own a ∙ e;
-  last = first_true (is_last args before o) (all_of (is_last args before) is) l;
+  last = (and_parts (is_last args before o) (all_of (is_last args before) is) l).0;
 }
 entry_at args before (o ∷ is) (w ∷ own) (suc j) k a l e =
-    let r = entry_at args before is own j k (are_rest (known args before o) (map (known args before) is) w own a) (second_true (is_last args before o) (all_of (is_last args before) is) l) e in
+    let r = entry_at args before is own j k (are_rest (known args before o) (map (known args before) is) w own a) (and_parts (is_last args before o) (all_of (is_last args before) is) l).1 e in
     record { origin = r.origin; taken = r.taken; kind = r.kind; last = r.last }
 
 -- what a result of the replacement is
@@ -109,8 +109,8 @@ all_at : (test : Origin → Bool) (os : List Origin) (p : ℕ) (o : Origin) → 
 all_at test [] p o a e = absurd (cc)
 all_at test (c ∷ os) zero o a e =
     let same : c ≡ o = cc in
-    ap test (sym same) ∙ first_true (test c) (all_of test os) a
-all_at test (c ∷ os) (suc p) o a e = all_at test os p o (second_true (test c) (all_of test os) a) e
+    ap test (sym same) ∙ (and_parts (test c) (all_of test os) a).0
+all_at test (c ∷ os) (suc p) o a e = all_at test os p o (and_parts (test c) (all_of test os) a).1 e
 
 has_node-redirected : (f : Origin → Origin) (n : ℕ) (ns : NodeTrees) → has_node n (nodes_redirected f ns) ≡ has_node n ns
 has_node-redirected f n no_nodes = refl
@@ -290,32 +290,32 @@ module _ (objects : ℕ) (args : List Kind) (before : NodeTrees) (x : NodeTree) 
       ∙ ap (state_after k front) (state_after-redirected (args_to_inputs is) k replacement (last_state k args before))
 
   own_fits : region_fits objects (region own replacement outs) ≡ true
-  own_fits = first_true (region_fits objects (region own replacement outs)) (every_in_nodes (region_fits objects) replacement) s.inside
+  own_fits = (and_parts (region_fits objects (region own replacement outs)) (every_in_nodes (region_fits objects) replacement) s.inside).0
 
   own_returns : (nodes_fit objects (region own replacement outs) && results_are_last (region own replacement outs) && returns_state Memory (region own replacement outs) && returns_state Io
       (region own replacement outs)) ≡ true
   own_returns =
-      first_true
+      (and_parts
       (nodes_fit objects (region own replacement outs) && results_are_last (region own replacement outs) && returns_state Memory (region own replacement outs) && returns_state Io
       (region own replacement outs))
-      (region_has_one_state_each (region own replacement outs)) own_fits
+      (region_has_one_state_each (region own replacement outs)) own_fits).0
 
   own_memory : (nodes_fit objects (region own replacement outs) && results_are_last (region own replacement outs) && returns_state Memory (region own replacement outs)) ≡ true
   own_memory =
-      first_true (nodes_fit objects (region own replacement outs) && results_are_last (region own replacement outs) && returns_state Memory (region own replacement outs))
-      (returns_state Io (region own replacement outs)) own_returns
+      (and_parts (nodes_fit objects (region own replacement outs) && results_are_last (region own replacement outs) && returns_state Memory (region own replacement outs))
+      (returns_state Io (region own replacement outs)) own_returns).0
 
   own_last : (nodes_fit objects (region own replacement outs) && results_are_last (region own replacement outs)) ≡ true
-  own_last = first_true (nodes_fit objects (region own replacement outs) && results_are_last (region own replacement outs)) (returns_state Memory (region own replacement outs)) own_memory
+  own_last = (and_parts (nodes_fit objects (region own replacement outs) && results_are_last (region own replacement outs)) (returns_state Memory (region own replacement outs)) own_memory).0
 
   returns_own : (k : Kind) → (k ≡ Value) ⊎ (returns_state k (region own replacement outs) ≡ true)
   returns_own Value = inl refl
   returns_own Memory =
-      inr (second_true (nodes_fit objects (region own replacement outs) && results_are_last (region own replacement outs)) (returns_state Memory (region own replacement outs)) own_memory)
+      inr (and_parts (nodes_fit objects (region own replacement outs) && results_are_last (region own replacement outs)) (returns_state Memory (region own replacement outs)) own_memory).1
   returns_own Io =
-      inr (second_true
+      inr (and_parts
       (nodes_fit objects (region own replacement outs) && results_are_last (region own replacement outs) && returns_state Memory (region own replacement outs))
-      (returns_state Io (region own replacement outs)) own_returns)
+      (returns_state Io (region own replacement outs)) own_returns).1
 
   needed : (g r : Bool) → (not g || r) ≡ true → g ≡ true → r ≡ true
   needed true r e h = e
@@ -357,7 +357,7 @@ module _ (objects : ℕ) (args : List Kind) (before : NodeTrees) (x : NodeTree) 
       by_exit p r same kept =
           by_last (replacement_last replacement no_nodes (sym (joined_none replacement)) r.origin k
           (last_gives k own replacement r.origin r.kind
-          (all_at (is_last own replacement) outs p r.origin (second_true (nodes_fit objects (region own replacement outs)) (results_are_last (region own replacement outs)) own_last) r.given)))
+          (all_at (is_last own replacement) outs p r.origin (and_parts (nodes_fit objects (region own replacement outs)) (results_are_last (region own replacement outs)) own_last).1 r.given)))
         where
           by_last : (k ≡ Value) ⊎ (last_state k args (joined_nodes before (nodes_redirected (args_to_inputs is) replacement)) ≡ Some (args_to_inputs is r.origin)) →
               (k ≡ Value) ⊎ (last_state k args (following front) ≡ Some (given o))
@@ -447,10 +447,10 @@ module _ (objects : ℕ) (args : List Kind) (before : NodeTrees) (x : NodeTree) 
   nest_more e =
       let T = region_fits objects in
       let all : (every_in_nodes T before && (every_in_node T x && every_in_nodes T after)) ≡ true = sym (every_in_nodes-joined T before (node_then x after)) ∙ e in
-      let first = first_true (every_in_nodes T before) (every_in_node T x && every_in_nodes T after) all in
-      let rest = second_true (every_in_node T x) (every_in_nodes T after) (second_true (every_in_nodes T before) (every_in_node T x && every_in_nodes T after) all) in
+      let first = (and_parts (every_in_nodes T before) (every_in_node T x && every_in_nodes T after) all).0 in
+      let rest = (and_parts (every_in_node T x) (every_in_nodes T after) (and_parts (every_in_nodes T before) (every_in_node T x && every_in_nodes T after) all).1).1 in
       let middle : every_in_nodes T (nodes_redirected (args_to_inputs is) replacement) ≡ true =
-      every_in_nodes-redirected T (args_to_inputs is) replacement ∙ second_true (region_fits objects (region own replacement outs)) (every_in_nodes T replacement) s.inside in
+      every_in_nodes-redirected T (args_to_inputs is) replacement ∙ (and_parts (region_fits objects (region own replacement outs)) (every_in_nodes T replacement) s.inside).1 in
       let last : every_in_nodes T (nodes_redirected given after) ≡ true = every_in_nodes-redirected T given after ∙ rest in
       every_in_nodes-joined T before (joined_nodes (nodes_redirected (args_to_inputs is) replacement) (nodes_redirected given after))
       ∙ (λ i. first i && (every_in_nodes-joined T (nodes_redirected (args_to_inputs is) replacement) (nodes_redirected given after) ∙ (λ j. middle j && last j)) i)
@@ -468,23 +468,23 @@ replacement_kept objects args before x after own replacement outs is results s e
     let r = region args ns results in
     let fits = node_fits objects args in
     let replacement_with_inputs = map (node_redirected (args_to_inputs is)) replacement in
-    let whole = first_true (region_fits objects r) (every_in_nodes (region_fits objects) ns) e in
-    let inside = second_true (region_fits objects r) (every_in_nodes (region_fits objects) ns) e in
-    let to_io = first_true (nodes_fit objects r && results_are_last r && returns_state Memory r && returns_state Io r) (region_has_one_state_each r) whole in
-    let states = second_true (nodes_fit objects r && results_are_last r && returns_state Memory r && returns_state Io r) (region_has_one_state_each r) whole in
-    let to_memory = first_true (nodes_fit objects r && results_are_last r && returns_state Memory r) (returns_state Io r) to_io in
-    let io = second_true (nodes_fit objects r && results_are_last r && returns_state Memory r) (returns_state Io r) to_io in
-    let to_last = first_true (nodes_fit objects r && results_are_last r) (returns_state Memory r) to_memory in
-    let memory = second_true (nodes_fit objects r && results_are_last r) (returns_state Memory r) to_memory in
-    let fit = first_true (nodes_fit objects r) (results_are_last r) to_last in
-    let last : all_of (is_last args ns) results ≡ true = second_true (nodes_fit objects r) (results_are_last r) to_last in
+    let whole = (and_parts (region_fits objects r) (every_in_nodes (region_fits objects) ns) e).0 in
+    let inside = (and_parts (region_fits objects r) (every_in_nodes (region_fits objects) ns) e).1 in
+    let to_io = (and_parts (nodes_fit objects r && results_are_last r && returns_state Memory r && returns_state Io r) (region_has_one_state_each r) whole).0 in
+    let states = (and_parts (nodes_fit objects r && results_are_last r && returns_state Memory r && returns_state Io r) (region_has_one_state_each r) whole).1 in
+    let to_memory = (and_parts (nodes_fit objects r && results_are_last r && returns_state Memory r) (returns_state Io r) to_io).0 in
+    let io = (and_parts (nodes_fit objects r && results_are_last r && returns_state Memory r) (returns_state Io r) to_io).1 in
+    let to_last = (and_parts (nodes_fit objects r && results_are_last r) (returns_state Memory r) to_memory).0 in
+    let memory = (and_parts (nodes_fit objects r && results_are_last r) (returns_state Memory r) to_memory).1 in
+    let fit = (and_parts (nodes_fit objects r) (results_are_last r) to_last).0 in
+    let last : all_of (is_last args ns) results ≡ true = (and_parts (nodes_fit objects r) (results_are_last r) to_last).1 in
     let split : (each_node fits [] (nodes_of before) && each_node fits before (node_then x after)) ≡ true = sym (each_node-joined fits [] before (node_then x after)) ∙ fit in
-    let front_fit = first_true (each_node fits [] (nodes_of before)) (each_node fits before (node_then x after)) split in
+    let front_fit = (and_parts (each_node fits [] (nodes_of before)) (each_node fits before (node_then x after)) split).0 in
     let after_fit =
-    second_true (fits (nodes_of before) x) (each_node fits (before ++ x ∷ []) after) (second_true (each_node fits [] (nodes_of before)) (each_node fits before (node_then x after)) split) in
+    (and_parts (fits (nodes_of before) x) (each_node fits (before ++ x ∷ []) after) (and_parts (each_node fits [] (nodes_of before)) (each_node fits before (node_then x after)) split).1).1 in
     let own_fit =
-    first_true (nodes_fit objects (region own (nodes_of replacement) outs)) (results_are_last (region own (nodes_of replacement) outs))
-    (own_last objects args (nodes_of before) x after own (nodes_of replacement) outs is s) in
+    (and_parts (nodes_fit objects (region own (nodes_of replacement) outs)) (results_are_last (region own (nodes_of replacement) outs))
+    (own_last objects args (nodes_of before) x after own (nodes_of replacement) outs is s)).0 in
     let replacement_fit : each_node fits before (nodes_redirected (args_to_inputs is) (nodes_of replacement)) ≡ true =
     mapped_nodes_fit objects own args (args_to_inputs is) [] before (nodes_of replacement) (λ front rest w. replacement_map objects args (nodes_of before) x after own (nodes_of replacement) outs
     is s front rest w) own_fit in

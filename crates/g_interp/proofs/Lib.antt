@@ -2,3 +2,4 @@ mod Lists
 mod Events
 mod Runs
 mod Programs
+mod Depth

@@ -19,14 +19,16 @@ blocks_next [] i k h = absurd (omega arith)
 blocks_next (x ∷ ks) zero k h = refl
 blocks_next (x ∷ ks) (suc i) k h = ap (λ r. block_of x ∷ r) (blocks_next ks i k (omega arith))
 
-pub changed_next : (n : ℕ) (f : m.Block → m.Block) (ks : List Block) (i : ℕ) (k : Block) → i < length ks → block_changed n f (blocks_of (take (suc i) ks)) ≡ block_changed n f (blocks_of (take i ks)) ++ (if i == n then f (block_of (slice_index_or ks i k)) else block_of (slice_index_or ks i k)) ∷ []
+pub changed_next : (n : ℕ) (f : m.Block → m.Block) (ks : List Block) (i : ℕ) (k : Block) → i < length ks →
+    block_changed n f (blocks_of (take (suc i) ks)) ≡ block_changed n f (blocks_of (take i ks)) ++ (if i == n then f (block_of (slice_index_or ks i k)) else block_of (slice_index_or ks i k)) ∷ []
 changed_next n f [] i k h = absurd (omega arith)
 changed_next zero f (x ∷ ks) zero k h = refl
 changed_next (suc n) f (x ∷ ks) zero k h = rw compare.zero-suc refl
 changed_next zero f (x ∷ ks) (suc i) k h = rw compare.suc-zero (ap (λ r. f (block_of x) ∷ r) (blocks_next ks i k (omega arith)))
 changed_next (suc n) f (x ∷ ks) (suc i) k h = rw compare.suc-suc (ap (λ r. block_of x ∷ r) (changed_next n f ks i k (omega arith)))
 
-pub closed_next : (first count : ℕ) (ks : List Block) (i : ℕ) (k : Block) → i < length ks → closed first count (blocks_of (take (suc i) ks)) ≡ closed first count (blocks_of (take i ks)) ++ exited_if (among first count i) (block_of (slice_index_or ks i k)) ∷ []
+pub closed_next : (first count : ℕ) (ks : List Block) (i : ℕ) (k : Block) → i < length ks →
+    closed first count (blocks_of (take (suc i) ks)) ≡ closed first count (blocks_of (take i ks)) ++ exited_if (among first count i) (block_of (slice_index_or ks i k)) ∷ []
 closed_next first count [] i k h = absurd (omega arith)
 closed_next zero zero (x ∷ ks) zero k h = refl
 closed_next zero (suc count) (x ∷ ks) zero k h = refl
@@ -40,7 +42,8 @@ data_next [] i x h = absurd (omega arith)
 data_next (y ∷ xs) zero x h = refl
 data_next (y ∷ xs) (suc i) x h = ap (λ r. datum_of y ∷ r) (data_next xs i x (omega arith))
 
-pub changed_data_next : (n : ℕ) (f : d.Datum → d.Datum) (xs : List Datum) (i : ℕ) (x : Datum) → i < length xs → changed_at n f (data_of (take (suc i) xs)) ≡ changed_at n f (data_of (take i xs)) ++ (if i == n then f (datum_of (slice_index_or xs i x)) else datum_of (slice_index_or xs i x)) ∷ []
+pub changed_data_next : (n : ℕ) (f : d.Datum → d.Datum) (xs : List Datum) (i : ℕ) (x : Datum) → i < length xs →
+    changed_at n f (data_of (take (suc i) xs)) ≡ changed_at n f (data_of (take i xs)) ++ (if i == n then f (datum_of (slice_index_or xs i x)) else datum_of (slice_index_or xs i x)) ∷ []
 changed_data_next n f [] i x h = absurd (omega arith)
 changed_data_next zero f (y ∷ xs) zero x h = refl
 changed_data_next (suc n) f (y ∷ xs) zero x h = rw compare.zero-suc refl
@@ -67,14 +70,20 @@ pub data_grown : (new : List Datum) (x : Datum) (old : List d.Datum) (r : List d
 data_grown new x old r y p q e = map-append datum_of new (x ∷ []) ∙ ap₂ (λ a b. a ++ b ∷ []) p q ∙ sym e
 
 -- the same, of the item that a loop is at
-pub changed_item : (n : ℕ) (f : m.Block → m.Block) (ks : List Block) (i : ℕ) (k : Block) → i < length ks → k ≡ slice_index_or ks i k → block_changed n f (blocks_of (take (i + 1) ks)) ≡ block_changed n f (blocks_of (take i ks)) ++ (if i == n then f (block_of k) else block_of k) ∷ []
+pub changed_item : (n : ℕ) (f : m.Block → m.Block) (ks : List Block) (i : ℕ) (k : Block) → i < length ks → k ≡ slice_index_or ks i k →
+    block_changed n f (blocks_of (take (i + 1) ks)) ≡ block_changed n f (blocks_of (take i ks)) ++ (if i == n then f (block_of k) else block_of k) ∷ []
 changed_item n f ks i k h e =
-    ap (λ j. block_changed n f (blocks_of (take j ks))) (add-one i) ∙ changed_next n f ks i k h ∙ ap (λ x. block_changed n f (blocks_of (take i ks)) ++ (if i == n then f (block_of x) else block_of x) ∷ []) (sym e)
+    ap (λ j. block_changed n f (blocks_of (take j ks))) (add-one i) ∙ changed_next n f ks i k h ∙ ap
+    (λ x. block_changed n f (blocks_of (take i ks)) ++ (if i == n then f (block_of x) else block_of x) ∷ []) (sym e)
 
-pub closed_item : (first count : ℕ) (ks : List Block) (i : ℕ) (k : Block) (ends : Bool) → i < length ks → k ≡ slice_index_or ks i k → ends ≡ among first count i → closed first count (blocks_of (take (i + 1) ks)) ≡ closed first count (blocks_of (take i ks)) ++ exited_if ends (block_of k) ∷ []
+pub closed_item : (first count : ℕ) (ks : List Block) (i : ℕ) (k : Block) (ends : Bool) → i < length ks → k ≡ slice_index_or ks i k → ends ≡ among first count i →
+    closed first count (blocks_of (take (i + 1) ks)) ≡ closed first count (blocks_of (take i ks)) ++ exited_if ends (block_of k) ∷ []
 closed_item first count ks i k ends h e p =
-    ap (λ j. closed first count (blocks_of (take j ks))) (add-one i) ∙ closed_next first count ks i k h ∙ ap₂ (λ b x. closed first count (blocks_of (take i ks)) ++ exited_if b (block_of x) ∷ []) (sym p) (sym e)
+    ap (λ j. closed first count (blocks_of (take j ks))) (add-one i) ∙ closed_next first count ks i k h ∙ ap₂ (λ b x. closed first count (blocks_of (take i ks)) ++ exited_if b (block_of x) ∷ [])
+    (sym p) (sym e)
 
-pub changed_datum : (n : ℕ) (f : d.Datum → d.Datum) (xs : List Datum) (i : ℕ) (x : Datum) → i < length xs → x ≡ slice_index_or xs i x → changed_at n f (data_of (take (i + 1) xs)) ≡ changed_at n f (data_of (take i xs)) ++ (if i == n then f (datum_of x) else datum_of x) ∷ []
+pub changed_datum : (n : ℕ) (f : d.Datum → d.Datum) (xs : List Datum) (i : ℕ) (x : Datum) → i < length xs → x ≡ slice_index_or xs i x →
+    changed_at n f (data_of (take (i + 1) xs)) ≡ changed_at n f (data_of (take i xs)) ++ (if i == n then f (datum_of x) else datum_of x) ∷ []
 changed_datum n f xs i x h e =
-    ap (λ j. changed_at n f (data_of (take j xs))) (add-one i) ∙ changed_data_next n f xs i x h ∙ ap (λ y. changed_at n f (data_of (take i xs)) ++ (if i == n then f (datum_of y) else datum_of y) ∷ []) (sym e)
+    ap (λ j. changed_at n f (data_of (take j xs))) (add-one i) ∙ changed_data_next n f xs i x h ∙ ap
+    (λ y. changed_at n f (data_of (take i xs)) ++ (if i == n then f (datum_of y) else datum_of y) ∷ []) (sym e)

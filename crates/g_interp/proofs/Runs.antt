@@ -6,16 +6,17 @@ use Rattle.std.proofs.lemmas.Option.{slice_get_read, slice_get_past}
 use Rattle.std.proofs.Math.Seq.{drop-cons}
 use Rattle.val_core.specs.declared.values.Value.{Value}
 use Rattle.val_core.specs.declared.values.Value.TheVariants.{Num, At, Bad}
+use Rattle.val_core.specs.Objects.{address_in, opened}
 use Rattle.val_core.specs.Events.{Event}
 use Rattle.val_core.specs.Answers.{Answer, Returned, Undefined, before, then_on, active}
 use Rattle.val_core.proofs.lemmas.Answers.{then_associates}
-use Rattle.g_graph.specs.declared.no_memory.NoMemory.{NoMemory}
 use Rattle.g_graph.specs.declared.op.Origin.{Origin}
 use Rattle.g_graph.specs.Plain.{RegionTree, NodeTree, NodeTrees, node_then, nodes_of, regions_of, id_of, PlainObject, PlainLambda}
-use Rattle.g_mean.specs.Calls.{entered, applied, address_in, sizes_of, opened}
+use Rattle.g_mean.specs.Calls.{shapes_of, entered, applied, sizes_of}
 use Rattle.g_mean.specs.Data.{Datum, val, memory, input, at_port, on_memory, with_memory, changed_at}
 use Rattle.g_mean.specs.Meaning.{Context, Meaning, Outputs, extended, read, chosen, branched, looped, again, turns, region_meaning, node_run, nodes_run, meanings}
 use Rattle.g_interp.specs.declared.data.Answer as run
+use Rattle.g_interp.specs.declared.error.RunError.{RunError}
 use Rattle.g_interp.specs.declared.data.Datum as datum
 use Rattle.g_interp.specs.declared.data.Output.{Output}
 use Rattle.g_interp.specs.declared.steps.Numbered.{Numbered}
@@ -25,11 +26,11 @@ use Rattle.g_interp.specs.Runs.{chosen_tree, numbered, turned, stepped, left}
 use Rattle.g_interp.specs.Views.{answer_of, data_of, outputs_of, block_count}
 
 -- a result that gives one answer gives an equal one
-pub gives : (r : Result run.Answer NoMemory) (a b : Answer (List Datum)) → a ≡ b → IfOk r (λ x. answer_of x ≡ a) → IfOk r (λ x. answer_of x ≡ b)
+pub gives : (r : Result run.Answer RunError) (a b : Answer (List Datum)) → a ≡ b → IfOk r (λ x. answer_of x ≡ a) → IfOk r (λ x. answer_of x ≡ b)
 gives r a b e h = let P : Answer (List Datum) → Type 0 = λ v. IfOk r (λ x. answer_of x ≡ v) in subst P e h
 
 abbrev pub tree_meaning : Context → Option RegionTree → Meaning
-tree_meaning c None xs = Undefined
+tree_meaning c None xs = Undefined []
 tree_meaning c (Some r) xs = region_meaning c r xs
 
 pub chosen_is : (c : Context) (w : ℕ) (rs : List RegionTree) (xs : List Datum) → chosen w (meanings c (regions_of rs)) xs ≡ tree_meaning c (chosen_tree w rs) xs
@@ -42,7 +43,7 @@ chosen_is c (suc w) (r ∷ s ∷ rs) xs =
 
 -- a Gamma whose first input is no number, and one where it is
 abbrev pub number_then : Option (ℕ × List Datum) → (ℕ → Meaning) → Answer (List Datum)
-number_then None next = Undefined
+number_then None next = Undefined []
 number_then (Some p) next = next p.0 p.1
 
 pub branched_is : (ms : List Meaning) (xs : List Datum) → branched ms xs ≡ number_then (numbered xs) (λ w ys. chosen w ms ys)
@@ -54,7 +55,8 @@ branched_is ms (memory m ∷ xs) = refl
 branched_is ms (input i ∷ xs) = refl
 
 -- the nodes from one on: it, and then those after it
-pub nodes_next : {A : Type 0} (c : Context) (x : NodeTree) (ns : NodeTrees) (xs : List Datum) (o : Outputs) (k : Outputs → Answer A) → then_on (nodes_run c (node_then x ns) xs o) k ≡ then_on (node_run c x xs o) (λ ys. then_on (nodes_run c ns xs (extended o (id_of x) ys)) k)
+pub nodes_next : {A : Type 0} (c : Context) (x : NodeTree) (ns : NodeTrees) (xs : List Datum) (o : Outputs) (k : Outputs → Answer A) →
+    then_on (nodes_run c (node_then x ns) xs o) k ≡ then_on (node_run c x xs o) (λ ys. then_on (nodes_run c ns xs (extended o (id_of x) ys)) k)
 nodes_next c x ns xs o k = then_associates (node_run c x xs o) (λ ys. nodes_run c ns xs (extended o (id_of x) ys)) k
 
 -- ---- regions
@@ -127,7 +129,7 @@ gamma_runs c rs xs o n slice r found is same tree =
 
 pub gamma_stops :
     (c : Context) (rs : List RegionTree) (xs : List Datum) (o : Option Numbered) (n : Numbered) → IsFound xs o → o ≡ Some n →
-    chosen_tree n.number rs ≡ None → Undefined ≡ branched (meanings c (regions_of rs)) xs
+    chosen_tree n.number rs ≡ None → Undefined [] ≡ branched (meanings c (regions_of rs)) xs
 gamma_stops c rs xs o n found is tree =
     sym (gamma_is c rs xs o n n.rest.items found is refl ∙ ap (λ t. tree_meaning c t (data_of n.rest.items)) tree)
 
@@ -145,7 +147,7 @@ pub call_runs :
 call_runs ls g n f xs l answer h within at ran =
     ap (active f) (ran ∙ ap (λ o. entered (n - 1) (applied ls g (n - 1)) g o xs) (sym (slice_get_read ls (length ls) f l refl within at))) ∙ called_is ls g n f xs h
 
-pub call_stops : (ls : List PlainLambda) (g : ℕ → Value) (n f : ℕ) (xs : List Datum) → (n ≡ 0 → ⊥) → length ls ≤ f → Undefined ≡ applied ls g n f xs
+pub call_stops : (ls : List PlainLambda) (g : ℕ → Value) (n f : ℕ) (xs : List Datum) → (n ≡ 0 → ⊥) → length ls ≤ f → active f (Undefined []) ≡ applied ls g n f xs
 call_stops ls g n f xs h past =
     ap (λ o. active f (entered (n - 1) (applied ls g (n - 1)) g o xs)) (sym (slice_get_past ls f past)) ∙ called_is ls g n f xs h
 
@@ -156,10 +158,10 @@ counted (input i) n next e = cc
 
 -- around a body with these objects, whose blocks begin with the number `first`
 abbrev pub within : ℕ → (call : ℕ → Meaning) → (global : ℕ → Value) → (first : ℕ) → List PlainObject → Context
-within n call global first objects = record { bound = n; call = call; frame = record { local = address_in first (sizes_of objects); global = global } }
+within n call global first objects = record { bound = n; call = call; addresses = record { local = address_in first (sizes_of objects); global = global } }
 
 abbrev pub opens : PlainLambda → List Datum → List Datum
-opens l xs = changed_at l.params (with_memory (λ m. m ++ opened l.objects)) xs
+opens l xs = changed_at l.params (with_memory (λ m. m ++ opened (shapes_of l.objects))) xs
 
 enter_is :
     (n : ℕ) (call : ℕ → Meaning) (g : ℕ → Value) (l : PlainLambda) (xs : List Datum) (first : ℕ) (answer : Answer (List Datum)) →
@@ -174,10 +176,10 @@ pub enter_runs :
     (n : ℕ) (call : ℕ → Meaning) (g : ℕ → Value) (l k : PlainLambda) (xs : List Datum) (first count : ℕ) (new context : List PlainObject)
     (args slice : List datum.Datum) (answer : Answer (List Datum)) →
     l ≡ k → Some first ≡ block_count (at_port xs l.params) → new ≡ l.objects →
-    data_of args ≡ changed_at l.params (with_memory (λ m. m ++ opened new)) xs → context ≡ l.objects → slice ≡ args →
+    data_of args ≡ changed_at l.params (with_memory (λ m. m ++ opened (shapes_of new))) xs → context ≡ l.objects → slice ≡ args →
     answer ≡ region_meaning (within n call g first context) l.body (data_of slice) → count ≡ length l.objects →
     then_on answer (left first count) ≡ entered n call g (Some k) xs
 enter_runs n call g l k xs first count new context args slice answer view known news opening contexts same ran many =
-    let args_are = ap data_of same ∙ opening ∙ ap (λ os. changed_at l.params (with_memory (λ m. m ++ opened os)) xs) news in
+    let args_are = ap data_of same ∙ opening ∙ ap (λ os. changed_at l.params (with_memory (λ m. m ++ opened (shapes_of os))) xs) news in
     let body_ran = ran ∙ ap₂ (λ os ys. region_meaning (within n call g first os) l.body ys) contexts args_are in
     ap (λ m. then_on answer (left first m)) many ∙ enter_is n call g l xs first answer known body_ran ∙ ap (λ v. entered n call g (Some v) xs) view

@@ -1,4 +1,4 @@
 pub mod Views
-pub mod Frames
+pub mod Contexts
 pub mod Runs
-pub mod Programs
+pub mod Errors

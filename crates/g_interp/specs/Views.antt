@@ -11,7 +11,7 @@ use Rattle.g_interp.specs.declared.data.Datum.{Datum}
 use Rattle.g_interp.specs.declared.data.Datum.TheVariants.{Value, Memory, Input}
 use Rattle.g_interp.specs.declared.data.Output.{Output}
 use Rattle.g_interp.specs.declared.data.Event.{Event}
-use Rattle.g_interp.specs.declared.data.Event.TheVariants.{Wrote, Met}
+use Rattle.g_interp.specs.declared.data.Event.TheVariants.{Wrote, Took, Met}
 use Rattle.g_interp.specs.declared.data.Answer.{Answer}
 use Rattle.g_interp.specs.declared.data.Answer.TheVariants.{Returned, Cut, Exited, Undefined}
 
@@ -37,6 +37,7 @@ data_of xs = map datum_of xs
 
 abbrev pub event_of : Event → e.Event
 event_of (Wrote b) = e.wrote b
+event_of (Took b) = e.took b
 event_of (Met s) = e.met s.items
 
 abbrev pub events_of : List Event → List e.Event
@@ -46,7 +47,7 @@ abbrev pub answer_of : Answer → a.Answer (List d.Datum)
 answer_of (Returned xs o) = a.Returned (data_of xs.items) (events_of o.items)
 answer_of (Cut o) = a.Cut (events_of o.items)
 answer_of (Exited o s) = a.Exited (events_of o.items) s
-answer_of Undefined = a.Undefined
+answer_of (Undefined o) = a.Undefined (events_of o.items)
 
 -- how many blocks a memory has
 abbrev pub block_count : d.Datum → Option ℕ
@@ -78,4 +79,5 @@ among (suc first) count (suc n) = among first count n
 -- an event within a call of function `f`
 abbrev pub under : (f : ℕ) → e.Event → e.Event
 under f (e.wrote b) = e.wrote b
+under f (e.took b) = e.took b
 under f (e.met s) = e.met (f ∷ s)

@@ -1,11 +1,11 @@
 ghost use Rattle.std.specs.Prelude.{◌≡◌, [], ◌∷◌, ◌++◌, IfOk};
-ghost use Rattle.val_core.specs.Answers.{before, active};
+ghost use Rattle.val_core.specs.Answers.{Undefined, before, active};
 ghost use Rattle.val_core.specs.Events.{called};
 ghost use Rattle.g_mean.specs.Meaning.{given, given_memory};
 ghost use Rattle.g_interp.specs.Views.{datum_of, data_of, blocks_of, event_of, events_of, answer_of, under};
 
 use crate::data::{Answer, Block, Datum, Event};
-use g_graph::NoMemory;
+use no_memory::NoMemory;
 use std::alloc::Global;
 use val_core::Value;
 
@@ -49,9 +49,19 @@ pub fn given_memory(alloc: Global, memory: Vec<Block>) -> Result<Answer, NoMemor
     })
 }
 
+/// The answer that is undefined at once.
+pub fn undefined(alloc: Global) -> Answer
+    ensures { answer_of result ≡ Undefined [] }
+{
+    Answer::Undefined {
+        events: Vec::new(alloc),
+    }
+}
+
 /// The later events after the earlier ones.
 pub fn joined(earlier: Vec<Event>, later: Vec<Event>) -> Result<Vec<Event>, NoMemory>
-    ensures { IfOk result (λ events. events_of events.items ≡ events_of earlier.items ++ events_of later.items) }
+    ensures { IfOk result (λ events. events_of events.items ≡ events_of earlier.items ++
+        events_of later.items) }
 {
     let mut events = earlier;
     let mut later = later;
@@ -62,7 +72,8 @@ pub fn joined(earlier: Vec<Event>, later: Vec<Event>) -> Result<Vec<Event>, NoMe
 /// The answer with these events before its own.
 #[tactic(auto, using(crate::proofs::Events::before_returned, crate::proofs::Events::before_cut, crate::proofs::Events::before_exited, crate::proofs::Events::before_undefined))]
 pub fn before(events: Vec<Event>, answer: Answer) -> Result<Answer, NoMemory>
-    ensures { IfOk result (λ later. answer_of later ≡ before (events_of events.items) (answer_of answer)) }
+    ensures { IfOk result (λ later. answer_of later ≡
+        before (events_of events.items) (answer_of answer)) }
 {
     match answer {
         Answer::Returned {
@@ -82,7 +93,9 @@ pub fn before(events: Vec<Event>, answer: Answer) -> Result<Answer, NoMemory>
             events: joined(events, own)?,
             status,
         }),
-        Answer::Undefined => Ok(Answer::Undefined),
+        Answer::Undefined { events: own } => Ok(Answer::Undefined {
+            events: joined(events, own)?,
+        }),
     }
 }
 
@@ -102,6 +115,7 @@ fn event_beneath(alloc: Global, function: u32, event: &Event) -> Result<Event, N
 {
     match event {
         Event::Wrote(byte) => Ok(Event::Wrote(*byte)),
+        Event::Took(byte) => Ok(Event::Took(*byte)),
         Event::Met(stack) => Ok(Event::Met(stack_beneath(alloc, function, stack)?)),
     }
 }
@@ -133,6 +147,8 @@ pub fn active(alloc: Global, function: u32, answer: Answer) -> Result<Answer, No
             events: called(alloc, function, &events)?,
             status,
         }),
-        Answer::Undefined => Ok(Answer::Undefined),
+        Answer::Undefined { events } => Ok(Answer::Undefined {
+            events: called(alloc, function, &events)?,
+        }),
     }
 }

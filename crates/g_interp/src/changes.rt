@@ -1,12 +1,14 @@
 ghost use Rattle.std.specs.Prelude.{◌≡◌, ◌+◌, ◌<◌, ◌++◌, map, length, None, Some, IfOk, option_map, if◌then◌else◌};
 ghost use Rattle.val_core.specs.Memory.{block_changed, store, written, zeroed, cell_written, closed, new_block};
-ghost use Rattle.g_mean.specs.Calls.{word_of, opened};
+ghost use Rattle.val_core.specs.Objects.{word_of, opened};
+ghost use Rattle.g_mean.specs.Calls.{shapes_of};
 ghost use Rattle.g_mean.specs.Meaning.{cleared_at};
 ghost use Rattle.g_interp.specs.Views.{cell_of, cells_of, block_of, blocks_of, exited_if, among};
 
 use crate::data::{Block, Cell};
 use crate::memory::{copy_block, copy_memory, takes_store};
-use g_graph::{NoMemory, Object};
+use g_graph::Object;
+use no_memory::NoMemory;
 use std::alloc::Global;
 use val_core::{BlockName, Value, kept};
 
@@ -70,7 +72,8 @@ pub fn word_of(size: u64) -> u32
 }
 
 fn new_block(alloc: Global, object: &Object) -> Result<Block, NoMemory>
-    ensures { IfOk result (λ block. block_of block ≡ new_block (word_of object.now.size) object.now.leaves) }
+    ensures { IfOk result (λ block. block_of block ≡
+        new_block (word_of object.now.size) object.now.leaves) }
 {
     let mut cells = Vec::new(alloc);
     for leaf in &object.leaves {
@@ -89,7 +92,8 @@ fn new_block(alloc: Global, object: &Object) -> Result<Block, NoMemory>
 
 /// The memory with the blocks of the objects of a call after its own.
 pub fn open(alloc: Global, objects: &[Object], memory: &[Block]) -> Result<Vec<Block>, NoMemory>
-    ensures { IfOk result (λ new. blocks_of new.items ≡ blocks_of memory.now ++ opened objects.now) }
+    ensures { IfOk result (λ new. blocks_of new.items ≡ blocks_of memory.now ++
+        opened (shapes_of objects.now)) }
 {
     let mut new = copy_memory(alloc, memory)?;
     for object in objects {
@@ -106,7 +110,8 @@ fn write_block_if(
     value: Value,
     block: &Block,
 ) -> Result<Block, NoMemory>
-    ensures { IfOk result (λ new. block_of new ≡ (if here then written width offset value (block_of block.now) else block_of block.now)) }
+    ensures { IfOk result (λ new. block_of new ≡
+        (if here then written width offset value (block_of block.now) else block_of block.now)) }
 {
     if here {
         write_block(alloc, width, offset, value, block)
@@ -124,7 +129,8 @@ fn write(
     value: Value,
     memory: &[Block],
 ) -> Result<Vec<Block>, NoMemory>
-    ensures { IfOk result (λ new. blocks_of new.items ≡ block_changed name.number (written width offset value) (blocks_of memory.now)) }
+    ensures { IfOk result (λ new. blocks_of new.items ≡
+        block_changed name.number (written width offset value) (blocks_of memory.now)) }
 {
     let mut new = Vec::new(alloc);
     for (i, block) in memory.iter().enumerate() {
@@ -142,7 +148,8 @@ pub fn store(
     value: Value,
     memory: &[Block],
 ) -> Result<Option<Vec<Block>>, NoMemory>
-    ensures { IfOk result (λ new. option_map (λ v. blocks_of v.items) new ≡ store width at value (blocks_of memory.now)) }
+    ensures { IfOk result (λ new. option_map (λ v. blocks_of v.items) new ≡
+        store width at value (blocks_of memory.now)) }
 {
     let Value::At { block, offset } = at else {
         return Ok(None);
@@ -157,7 +164,8 @@ pub fn store(
 }
 
 fn clear_block_if(alloc: Global, here: bool, block: &Block) -> Result<Block, NoMemory>
-    ensures { IfOk result (λ new. block_of new ≡ (if here then zeroed (block_of block.now) else block_of block.now)) }
+    ensures { IfOk result (λ new. block_of new ≡
+        (if here then zeroed (block_of block.now) else block_of block.now)) }
 {
     if here {
         clear_block(alloc, block)
@@ -168,7 +176,8 @@ fn clear_block_if(alloc: Global, here: bool, block: &Block) -> Result<Block, NoM
 
 // The memory with every leaf of the block of this number 0.
 fn zero(alloc: Global, name: BlockName, memory: &[Block]) -> Result<Vec<Block>, NoMemory>
-    ensures { IfOk result (λ new. blocks_of new.items ≡ block_changed name.number zeroed (blocks_of memory.now)) }
+    ensures { IfOk result (λ new. blocks_of new.items ≡
+        block_changed name.number zeroed (blocks_of memory.now)) }
 {
     let mut new = Vec::new(alloc);
     for (i, block) in memory.iter().enumerate() {
@@ -180,7 +189,8 @@ fn zero(alloc: Global, name: BlockName, memory: &[Block]) -> Result<Vec<Block>, 
 
 /// The memory with every leaf of the object at an address 0.
 pub fn clear(alloc: Global, at: Value, memory: &[Block]) -> Result<Option<Vec<Block>>, NoMemory>
-    ensures { IfOk result (λ new. option_map (λ v. blocks_of v.items) new ≡ cleared_at at (blocks_of memory.now)) }
+    ensures { IfOk result (λ new. option_map (λ v. blocks_of v.items) new ≡
+        cleared_at at (blocks_of memory.now)) }
 {
     match at {
         Value::At { block, .. } => Ok(Some(zero(alloc, block, memory)?)),

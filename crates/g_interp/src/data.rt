@@ -7,7 +7,8 @@ pub struct Cell {
     pub value: Option<Value>,
 }
 
-/// A block of memory; the object in it is `live` while its lifetime lasts, and no store changes a `fixed` one.
+/// A block of memory; the object in it is `live` while its lifetime lasts, and no store changes a
+/// `fixed` one.
 #[derive(Clone, PartialEq, Eq, Debug, Drop)]
 pub struct Block {
     pub size: u32,
@@ -16,7 +17,8 @@ pub struct Block {
     pub fixed: bool,
 }
 
-/// What an edge of the graph carries: a value, the memory of all blocks, or the input bytes that are left.
+/// What an edge of the graph carries: a value, the memory of all blocks, or the input bytes that
+/// are left.
 #[derive(Clone, PartialEq, Eq, Debug, Drop)]
 pub enum Datum {
     Value(Value),
@@ -31,16 +33,17 @@ pub struct Output {
     pub data: Vec<Datum>,
 }
 
-/// What a run does that others can tell: a byte that it writes, or the functions of the calls that are active as one
-/// begins, the outermost first.
+/// What a run does that others can observe: a byte that it writes, a byte that it takes from the
+/// input, or the functions of the calls that are active as one begins, the outermost first.
 #[derive(Clone, PartialEq, Eq, Debug, Drop)]
 pub enum Event {
     Wrote(u8),
+    Took(u8),
     Met(Vec<u32>),
 }
 
-/// What a bounded run gives, with its events: its results, a cut by the bound, the end of the program with a status, or
-/// that it has no meaning.
+/// What a bounded run gives, with its events: its results, a cut by the bound, the end of the
+/// program with a status, or that what follows has no meaning.
 #[derive(Clone, PartialEq, Eq, Debug, Drop)]
 pub enum Answer {
     Returned {
@@ -54,5 +57,7 @@ pub enum Answer {
         events: Vec<Event>,
         status: u8,
     },
-    Undefined,
+    Undefined {
+        events: Vec<Event>,
+    },
 }

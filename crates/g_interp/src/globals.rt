@@ -1,18 +1,22 @@
-ghost use Rattle.std.specs.Prelude.{◌≡◌, ◌≤◌, ◌^◌, map, take, drop, IfOk, MatchOption};
-ghost use Rattle.g_mean.specs.Calls.{address_in, delta_sizes, little_endian, link_at, leaf_value, first_block};
-ghost use Rattle.g_interp.specs.Programs.{delta_of, deltas_of};
+ghost use Rattle.std.specs.Prelude.{◌≡◌, ◌≤◌, ◌^◌, map, take, drop, IfOk, IfErr, ◌≢◌, IsTrue, MatchOption};
+ghost use Rattle.std.specs.List.{list_any};
+ghost use Rattle.val_core.specs.Objects.{address_in};
+ghost use Rattle.g_mean.specs.Calls.{delta_sizes, little_endian, link_at, leaf_value, first_block};
+ghost use Rattle.g_interp.specs.Errors.{is_too_wide, lacks_value};
 ghost use Rattle.g_interp.specs.Views.{block_of, blocks_of};
 
 use crate::changes::word_of;
 use crate::data::{Block, Cell};
+use crate::error::RunError;
 use crate::ops::{address, global_size};
-use g_graph::{Delta, Link, NoMemory};
+use g_graph::{Delta, Link};
+use no_memory::NoMemory;
 use std::alloc::Global;
 use val_core::{Leaf, Value};
 
 /// The sizes of the globals in bytes.
 pub fn global_sizes(alloc: Global, deltas: &[Delta]) -> Result<Vec<u64>, NoMemory>
-    ensures { IfOk result (λ sizes. sizes.items ≡ delta_sizes (deltas_of deltas.now)) }
+    ensures { IfOk result (λ sizes. sizes.items ≡ delta_sizes deltas.now) }
 {
     let mut sizes = Vec::new(alloc);
     for delta in deltas {
@@ -23,7 +27,8 @@ pub fn global_sizes(alloc: Global, deltas: &[Delta]) -> Result<Vec<u64>, NoMemor
 
 // Bytes as a word, the lowest first, where a word holds them.
 fn little_endian(bytes: &[u8]) -> Option<u32>
-    ensures { MatchOption result (2 ^ 32 ≤ little_endian bytes.now) (λ w. w ≡ little_endian bytes.now) }
+    ensures { MatchOption result (2 ^ 32 ≤ little_endian bytes.now) (λ w. w ≡
+        little_endian bytes.now) }
 {
     match bytes.split_first() {
         Some((lowest, rest)) => little_endian(rest)?
@@ -54,20 +59,27 @@ fn link_at(offset: u32, links: &[Link]) -> Option<u32>
     None
 }
 
-fn leaf_value(globals: &[u64], delta: &Delta, leaf: Leaf) -> Result<Value, NoMemory>
-    ensures { IfOk result (λ value. value ≡ leaf_value (address_in 0 globals.now) delta.now.bytes.items leaf (link_at leaf.offset delta.now.links.items)) }
+fn leaf_value(globals: &[u64], delta: &Delta, leaf: Leaf) -> Result<Value, RunError>
+    ensures value { IfOk result (λ value. value ≡
+        leaf_value (address_in 0 globals.now) delta.now.bytes leaf
+        (link_at leaf.offset delta.now.links)) }
+    ensures error { IfErr result (λ e. e ≢ RunError.TooDeep) }
+    ensures none { result ≡ Err RunError.NoFirstValue → IsTrue (is_too_wide delta.now leaf) }
 {
     if let Some(k) = link_at(leaf.offset, &delta.links) {
-        return address(0, k, global_size(globals, k));
+        return Ok(address(0, k, global_size(globals, k))?);
     }
     match little_endian(leaf_bytes(leaf, &delta.bytes)) {
         Some(w) => Ok(Value::Num(w)),
-        None => Err(NoMemory),
+        None => Err(RunError::NoFirstValue),
     }
 }
 
-fn first_block(alloc: Global, globals: &[u64], delta: &Delta) -> Result<Block, NoMemory>
-    ensures { IfOk result (λ block. block_of block ≡ first_block (address_in 0 globals.now) (delta_of delta.now)) }
+fn first_block(alloc: Global, globals: &[u64], delta: &Delta) -> Result<Block, RunError>
+    ensures block { IfOk result (λ block. block_of block ≡
+        first_block (address_in 0 globals.now) delta.now) }
+    ensures error { IfErr result (λ e. e ≢ RunError.TooDeep) }
+    ensures none { result ≡ Err RunError.NoFirstValue → IsTrue (lacks_value delta.now) }
 {
     let mut cells = Vec::new(alloc);
     for leaf in &delta.leaves {
@@ -85,14 +97,17 @@ fn first_block(alloc: Global, globals: &[u64], delta: &Delta) -> Result<Block, N
     })
 }
 
-/// The memory as a program with these globals starts, whose sizes are `globals`. It is refused where a leaf that holds
-/// no address has a value that no word holds.
+/// The memory as a program with these globals starts, whose sizes are `globals`. It is refused
+/// where no word holds the first value of a leaf that holds no address.
 pub fn first_memory(
     alloc: Global,
     globals: &[u64],
     deltas: &[Delta],
-) -> Result<Vec<Block>, NoMemory>
-    ensures { IfOk result (λ memory. blocks_of memory.items ≡ map (first_block (address_in 0 globals.now)) (deltas_of deltas.now)) }
+) -> Result<Vec<Block>, RunError>
+    ensures memory { IfOk result (λ memory. blocks_of memory.items ≡
+        map (first_block (address_in 0 globals.now)) deltas.now) }
+    ensures error { IfErr result (λ e. e ≢ RunError.TooDeep) }
+    ensures none { result ≡ Err RunError.NoFirstValue → IsTrue (list_any lacks_value deltas.now) }
 {
     let mut memory = Vec::new(alloc);
     for delta in deltas {

@@ -4,7 +4,8 @@ ghost use Rattle.val_core.specs.Memory.{is_at, value_at, block_named, block_chan
 ghost use Rattle.g_interp.specs.Views.{cell_of, cells_of, block_of, blocks_of};
 
 use crate::data::{Block, Cell};
-use g_graph::{NoMemory, Object};
+use g_graph::Object;
+use no_memory::NoMemory;
 use std::alloc::Global;
 use val_core::{BlockName, Value, kept};
 
@@ -32,7 +33,8 @@ fn has_leaf(width: u8, offset: u32, cells: &[Cell]) -> bool
 
 // The block of this name, if the memory has one.
 fn find(name: BlockName, memory: &[Block]) -> Option<&Block>
-    ensures { MatchOption result (block_named name (blocks_of memory.now) ≡ None) (λ k. block_named name (blocks_of memory.now) ≡ Some (block_of k.now)) }
+    ensures { MatchOption result (block_named name (blocks_of memory.now) ≡
+        None) (λ k. block_named name (blocks_of memory.now) ≡ Some (block_of k.now)) }
 {
     let number = name.number as usize;
     if number < memory.len() && memory[number].size == name.size {

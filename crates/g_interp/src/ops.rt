@@ -1,21 +1,23 @@
 ghost use Rattle.std.specs.Prelude.{◌≡◌, ◌%◌, ◌+◌, ◌^◌, [], ◌∷◌, slice_get, IfOk};
-ghost use Rattle.val_core.specs.Answers.{Returned, Exited};
+ghost use Rattle.val_core.specs.Answers.{Returned, Exited, on_number, on_defined};
 ghost use Rattle.val_core.specs.Events.{wrote};
 ghost use Rattle.val_core.specs.Memory.{load, store, pointers_equal};
-ghost use Rattle.g_mean.specs.Calls.{block_address, sizes_of};
-ghost use Rattle.g_mean.specs.Data.{input, on_number, on_memory, on_input, on_defined};
+ghost use Rattle.val_core.specs.Objects.{block_address};
+ghost use Rattle.g_mean.specs.Calls.{sizes_of};
+ghost use Rattle.g_mean.specs.Data.{input, on_memory, on_input};
 ghost use Rattle.g_mean.specs.Meaning.{given, given_memory, got, cleared_at, done};
 ghost use Rattle.g_interp.specs.Views.{datum_of, data_of, answer_of};
-ghost use Rattle.g_interp.specs.Frames.{frame_of};
+ghost use Rattle.g_interp.specs.Contexts.{addresses_of};
 ghost use Rattle.val_core.specs.declared.values.Value.TheVariants.{Num};
 
-use crate::answers::{given, given_memory, one, two};
+use crate::answers::{given, given_memory, one, two, undefined};
 use crate::changes::{clear, store, word_of};
+use crate::context::Context;
 use crate::data::{Answer, Datum, Event};
-use crate::frame::Context;
 use crate::memory::{load, pointers_equal};
 use crate::ports::{port, value_at};
-use g_graph::{NoMemory, Object, Op};
+use g_graph::{Object, Op};
+use no_memory::NoMemory;
 use std::alloc::Global;
 use val_core::{BlockName, Value, value1, value2};
 
@@ -54,14 +56,15 @@ pub fn global_size(sizes: &[u64], k: u32) -> Option<u64>
 }
 
 fn load_op(alloc: Global, width: u8, at: Value, memory: &Datum) -> Result<Answer, NoMemory>
-    ensures { IfOk result (λ answer. answer_of answer ≡ on_memory (datum_of memory.now) (λ m. on_defined (load width at m) given)) }
+    ensures { IfOk result (λ answer. answer_of answer ≡
+        on_memory (datum_of memory.now) (λ m. on_defined (load width at m) given)) }
 {
     let Datum::Memory(blocks) = memory else {
-        return Ok(Answer::Undefined);
+        return Ok(undefined(alloc));
     };
     match load(width, at, blocks) {
         Some(value) => given(alloc, value),
-        None => Ok(Answer::Undefined),
+        None => Ok(undefined(alloc)),
     }
 }
 
@@ -72,49 +75,55 @@ fn store_op(
     value: Value,
     memory: &Datum,
 ) -> Result<Answer, NoMemory>
-    ensures { IfOk result (λ answer. answer_of answer ≡ on_memory (datum_of memory.now) (λ m. on_defined (store width at value m) given_memory)) }
+    ensures { IfOk result (λ answer. answer_of answer ≡
+        on_memory (datum_of memory.now) (λ m. on_defined (store width at value m) given_memory)) }
 {
     let Datum::Memory(blocks) = memory else {
-        return Ok(Answer::Undefined);
+        return Ok(undefined(alloc));
     };
     match store(alloc, width, at, value, blocks)? {
         Some(new) => given_memory(alloc, new),
-        None => Ok(Answer::Undefined),
+        None => Ok(undefined(alloc)),
     }
 }
 
 fn clear_op(alloc: Global, at: Value, memory: &Datum) -> Result<Answer, NoMemory>
-    ensures { IfOk result (λ answer. answer_of answer ≡ on_memory (datum_of memory.now) (λ m. on_defined (cleared_at at m) given_memory)) }
+    ensures { IfOk result (λ answer. answer_of answer ≡
+        on_memory (datum_of memory.now) (λ m. on_defined (cleared_at at m) given_memory)) }
 {
     let Datum::Memory(blocks) = memory else {
-        return Ok(Answer::Undefined);
+        return Ok(undefined(alloc));
     };
     match clear(alloc, at, blocks)? {
         Some(new) => given_memory(alloc, new),
-        None => Ok(Answer::Undefined),
+        None => Ok(undefined(alloc)),
     }
 }
 
 fn compare_op(alloc: Global, x: Value, y: Value, memory: &Datum) -> Result<Answer, NoMemory>
-    ensures { IfOk result (λ answer. answer_of answer ≡ on_memory (datum_of memory.now) (λ m. on_defined (pointers_equal x y m) (λ n. given (Num n)))) }
+    ensures { IfOk result (λ answer. answer_of answer ≡
+        on_memory (datum_of memory.now) (λ m. on_defined (pointers_equal x y m) (λ n. given
+        (Num n)))) }
 {
     let Datum::Memory(blocks) = memory else {
-        return Ok(Answer::Undefined);
+        return Ok(undefined(alloc));
     };
     match pointers_equal(x, y, blocks) {
         Some(equal) => given(alloc, Value::Num(equal)),
-        None => Ok(Answer::Undefined),
+        None => Ok(undefined(alloc)),
     }
 }
 
 fn put_op(alloc: Global, value: Value, io: &Datum) -> Result<Answer, NoMemory>
-    ensures { IfOk result (λ answer. answer_of answer ≡ on_number value (λ w. on_input (datum_of io.now) (λ i. Returned (input i ∷ []) (wrote (w % 256) ∷ [])))) }
+    ensures { IfOk result (λ answer. answer_of answer ≡
+        on_number value (λ w. on_input (datum_of io.now) (λ i. Returned (input i ∷ []) (wrote
+        (w % 256) ∷ [])))) }
 {
     let Value::Num(w) = value else {
-        return Ok(Answer::Undefined);
+        return Ok(undefined(alloc));
     };
     let Datum::Input(left) = io else {
-        return Ok(Answer::Undefined);
+        return Ok(undefined(alloc));
     };
     let results = one(alloc, Datum::Input(Vec::from_slice(alloc, left)?))?;
     let mut events = Vec::new(alloc);
@@ -130,45 +139,41 @@ fn exit_op(alloc: Global, value: Value) -> Answer
             events: Vec::new(alloc),
             status: (w % 256) as u8,
         },
-        _ => Answer::Undefined,
+        _ => undefined(alloc),
     }
 }
 
-fn got(alloc: Global, left: &[u8]) -> Result<Vec<Datum>, NoMemory>
-    ensures { IfOk result (λ new. Returned (data_of new.items) [] ≡ got left.now) }
+fn got(alloc: Global, left: &[u8]) -> Result<Answer, NoMemory>
+    ensures { IfOk result (λ answer. answer_of answer ≡ got left.now) }
 {
-    match left.split_first() {
+    let mut events = Vec::new(alloc);
+    let results = match left.split_first() {
         Some((byte, rest)) => {
-            let rest = Vec::from_slice(alloc, rest)?;
-            two(
-                alloc,
-                Datum::Value(Value::Num(*byte as u32)),
-                Datum::Input(rest),
-            )
+            events.push(Event::Took(*byte))?;
+            let rest = Datum::Input(Vec::from_slice(alloc, rest)?);
+            two(alloc, Datum::Value(Value::Num(*byte as u32)), rest)?
         }
-        None => two(
-            alloc,
-            Datum::Value(Value::Num(u32::MAX)),
-            Datum::Input(Vec::new(alloc)),
-        ),
-    }
+        None => {
+            let rest = Datum::Input(Vec::new(alloc));
+            two(alloc, Datum::Value(Value::Num(u32::MAX)), rest)?
+        }
+    };
+    Ok(Answer::Returned { results, events })
 }
 
 fn get_op(alloc: Global, io: &Datum) -> Result<Answer, NoMemory>
     ensures { IfOk result (λ answer. answer_of answer ≡ on_input (datum_of io.now) got) }
 {
-    let Datum::Input(left) = io else {
-        return Ok(Answer::Undefined);
-    };
-    Ok(Answer::Returned {
-        results: got(alloc, left)?,
-        events: Vec::new(alloc),
-    })
+    match io {
+        Datum::Input(left) => got(alloc, left),
+        _ => Ok(undefined(alloc)),
+    }
 }
 
 /// What an op without regions does but for a call.
 pub fn done(alloc: Global, context: Context, op: Op, inputs: &[Datum]) -> Result<Answer, NoMemory>
-    ensures { IfOk result (λ answer. answer_of answer ≡ done (frame_of context.entry) op (data_of inputs.now)) }
+    ensures { IfOk result (λ answer. answer_of answer ≡
+        done (addresses_of context.entry) op (data_of inputs.now)) }
 {
     let first = value_at(inputs, 0);
     let second = value_at(inputs, 1);
@@ -192,6 +197,6 @@ pub fn done(alloc: Global, context: Context, op: Op, inputs: &[Datum]) -> Result
         Op::Put => put_op(alloc, first, &port(alloc, inputs, 1)?),
         Op::Exit => Ok(exit_op(alloc, first)),
         Op::Get => get_op(alloc, &port(alloc, inputs, 0)?),
-        Op::Apply(_) | Op::Gamma | Op::Theta => Ok(Answer::Undefined),
+        Op::Apply(_) | Op::Gamma | Op::Theta => Ok(undefined(alloc)),
     }
 }

@@ -1,6 +1,7 @@
 ghost use Rattle.std.specs.Prelude.{◌≡◌, [], ◌∷◌, map, IfOk, if◌then◌else◌, ◌++◌};
 ghost use Rattle.val_core.specs.Memory.{closed};
-ghost use Rattle.g_mean.specs.Calls.{opened};
+ghost use Rattle.val_core.specs.Objects.{opened};
+ghost use Rattle.g_mean.specs.Calls.{shapes_of};
 ghost use Rattle.g_mean.specs.Data.{at_port, value_at, with_memory, changed_at};
 ghost use Rattle.g_mean.specs.Meaning.{read};
 ghost use Rattle.g_interp.specs.Views.{datum_of, data_of, outputs_of, block_count};
@@ -8,7 +9,8 @@ ghost use Rattle.g_interp.specs.Views.{datum_of, data_of, outputs_of, block_coun
 use crate::changes::{close, open};
 use crate::data::{Datum, Output};
 use crate::memory::copy_memory;
-use g_graph::{NoMemory, Object, Origin};
+use g_graph::{Object, Origin};
+use no_memory::NoMemory;
 use std::alloc::Global;
 use val_core::Value;
 
@@ -80,7 +82,8 @@ fn read(
     outputs: &[Output],
     origin: Origin,
 ) -> Result<Datum, NoMemory>
-    ensures { IfOk result (λ datum. datum_of datum ≡ read (data_of args.now) (outputs_of outputs.now) origin) }
+    ensures { IfOk result (λ datum. datum_of datum ≡
+        read (data_of args.now) (outputs_of outputs.now) origin) }
 {
     match origin {
         Origin::Arg(k) => port(alloc, args, k),
@@ -88,14 +91,16 @@ fn read(
     }
 }
 
-/// What stands at each of these origins, in a region with these arguments where these outputs have run.
+/// What stands at each of these origins, in a region with these arguments where these outputs have
+/// run.
 pub fn read_all(
     alloc: Global,
     args: &[Datum],
     outputs: &[Output],
     origins: &[Origin],
 ) -> Result<Vec<Datum>, NoMemory>
-    ensures { IfOk result (λ all. data_of all.items ≡ map (read (data_of args.now) (outputs_of outputs.now)) origins.now) }
+    ensures { IfOk result (λ all. data_of all.items ≡
+        map (read (data_of args.now) (outputs_of outputs.now)) origins.now) }
 {
     let mut all = Vec::new(alloc);
     for origin in origins {
@@ -110,7 +115,8 @@ fn open_datum(
     objects: &[Object],
     datum: &Datum,
 ) -> Result<Datum, NoMemory>
-    ensures { IfOk result (λ new. datum_of new ≡ (if here then with_memory (λ m. m ++ opened objects.now) (datum_of datum.now) else datum_of datum.now)) }
+    ensures { IfOk result (λ new. datum_of new ≡ (if here then with_memory (λ m. m ++
+        opened (shapes_of objects.now)) (datum_of datum.now) else datum_of datum.now)) }
 {
     match datum {
         Datum::Memory(memory) if here => Ok(Datum::Memory(open(alloc, objects, memory)?)),
@@ -125,7 +131,8 @@ pub fn open_at(
     objects: &[Object],
     xs: &[Datum],
 ) -> Result<Vec<Datum>, NoMemory>
-    ensures { IfOk result (λ new. data_of new.items ≡ changed_at port (with_memory (λ m. m ++ opened objects.now)) (data_of xs.now)) }
+    ensures { IfOk result (λ new. data_of new.items ≡ changed_at port (with_memory (λ m. m ++
+        opened (shapes_of objects.now))) (data_of xs.now)) }
 {
     let mut new = Vec::new(alloc);
     for (i, datum) in xs.iter().enumerate() {
@@ -141,7 +148,9 @@ fn close_datum(
     count: usize,
     datum: &Datum,
 ) -> Result<Datum, NoMemory>
-    ensures { IfOk result (λ new. datum_of new ≡ (if here then with_memory (closed first count) (datum_of datum.now) else datum_of datum.now)) }
+    ensures { IfOk result (λ new. datum_of new ≡
+        (if here then with_memory (closed first count)
+        (datum_of datum.now) else datum_of datum.now)) }
 {
     match datum {
         Datum::Memory(memory) if here => Ok(Datum::Memory(close(alloc, first, count, memory)?)),
@@ -149,7 +158,8 @@ fn close_datum(
     }
 }
 
-/// The data once the lifetimes of `count` blocks of the memory at a port, from number `first` on, have ended.
+/// The data once the lifetimes of `count` blocks of the memory at a port, from number `first` on,
+/// have ended.
 pub fn close_at(
     alloc: Global,
     port: usize,
@@ -157,7 +167,8 @@ pub fn close_at(
     count: usize,
     xs: &[Datum],
 ) -> Result<Vec<Datum>, NoMemory>
-    ensures { IfOk result (λ new. data_of new.items ≡ changed_at port (with_memory (closed first count)) (data_of xs.now)) }
+    ensures { IfOk result (λ new. data_of new.items ≡
+        changed_at port (with_memory (closed first count)) (data_of xs.now)) }
 {
     let mut new = Vec::new(alloc);
     for (i, datum) in xs.iter().enumerate() {

@@ -1,16 +1,19 @@
-ghost use Rattle.std.specs.Prelude.{◌≡◌, IfOk};
+ghost use Rattle.std.specs.Prelude.{◌≡◌, ◌+◌, IsTrue, IfOk};
+ghost use Rattle.std.specs.List.{list_any};
 ghost use Rattle.val_core.specs.Answers.{then_on};
-ghost use Rattle.g_mean.specs.Calls.{main_name, same_bytes, place_of, finished, program_at};
-ghost use Rattle.g_interp.specs.Programs.{omega_of};
+ghost use Rattle.g_graph.specs.Program.{main_name, same_bytes, name_index};
+ghost use Rattle.g_mean.specs.Calls.{finished, program_at};
+ghost use Rattle.g_interp.specs.Errors.{lacks_value, IsTooDeep};
 ghost use Rattle.g_interp.specs.Views.{answer_of};
 
-use crate::answers::two;
+use crate::answers::{two, undefined};
 use crate::data::{Answer, Datum};
+use crate::error::RunError;
 use crate::globals::{first_memory, global_sizes};
 use crate::ports::value_at;
 use crate::run::run_lambda;
 use c_lex::Name;
-use g_graph::{NoMemory, Omega};
+use g_graph::Omega;
 use std::alloc::Global;
 use val_core::Value;
 
@@ -24,9 +27,9 @@ fn same_bytes(xs: &[u8], ys: &[u8]) -> bool
     }
 }
 
-// The place of the name `main`, if it is there.
-fn main_place(names: &[Name]) -> Option<usize>
-    ensures { result ≡ place_of main_name names.now }
+// The index of the name `main`, if it is there.
+fn main_index(names: &[Name]) -> Option<usize>
+    ensures { result ≡ name_index main_name names.now }
 {
     for (i, name) in names.iter().enumerate() {
         if same_bytes(name.as_slice(), b"main") {
@@ -37,7 +40,7 @@ fn main_place(names: &[Name]) -> Option<usize>
 }
 
 // The program ends with what `main` gives back.
-#[tactic(auto, using(crate::proofs::Events::before_exited))]
+#[tactic(auto, using(crate::proofs::Events::before_exited, crate::proofs::Events::before_undefined))]
 fn finish(answer: Answer) -> Answer
     ensures { answer_of result ≡ then_on (answer_of answer) finished }
 {
@@ -49,26 +52,32 @@ fn finish(answer: Answer) -> Answer
             events,
             status: (w % 256) as u8,
         },
-        _ => Answer::Undefined,
+        _ => Answer::Undefined { events },
     }
 }
 
-/// What a program does at a bound, on this input: it starts with `main`, and its globals with their first values. The
-/// error says that memory ran out, that more than 1,000 calls and nested regions would be active at once, or that a leaf
-/// of a global without a link has a first value that no word holds, as one of more than four bytes may.
+/// What a program does at a bound, on this input: it starts with `main`, and its globals with their
+/// first values. It is refused where more than 1,000 calls and nested nodes would be active at
+/// once, and where no word holds the first value of a leaf of a global. Out of memory counts more
+/// than 2^32 functions too.
 pub fn run_program(
     alloc: Global,
     bound: u32,
     omega: &Omega,
     input: &[u8],
-) -> Result<Answer, NoMemory>
-    ensures { IfOk result (λ answer. answer_of answer ≡ program_at bound (omega_of omega.now) omega.now.lambdas.items input.now) }
+) -> Result<Answer, RunError>
+    ensures answer { IfOk result (λ answer. answer_of answer ≡
+        program_at bound omega.now omega.now.lambdas input.now) }
+    ensures too_deep { result ≡ Err RunError.TooDeep →
+        IsTooDeep 1000 0 (bound + 1) omega.now.lambdas }
+    ensures no_first_value { result ≡ Err RunError.NoFirstValue →
+        IsTrue (list_any lacks_value omega.now.deltas) }
 {
-    let Some(place) = main_place(&omega.names) else {
-        return Ok(Answer::Undefined);
+    let Some(index) = main_index(&omega.names) else {
+        return Ok(undefined(alloc));
     };
-    let Ok(function) = u32::try_from(place) else {
-        return Err(NoMemory);
+    let Ok(function) = u32::try_from(index) else {
+        return Err(RunError::NoMemory);
     };
     let globals = global_sizes(alloc, &omega.deltas)?;
     let memory = first_memory(alloc, &globals, &omega.deltas)?;

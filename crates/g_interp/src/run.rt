@@ -1,25 +1,30 @@
-ghost use Rattle.std.specs.Prelude.{◌≡◌, Some, IfOk};
+ghost use Rattle.std.specs.Prelude.{◌≡◌, ◌≢◌, ◌+◌, Some, IfOk, IfErr};
 ghost use Rattle.g_graph.specs.Plain.{regions_of};
 ghost use Rattle.g_mean.specs.Meaning.{branched, looped, turns, node_run, region_meaning, meanings};
-ghost use Rattle.g_mean.specs.Calls.{lambda_at, entered, applied, address_in};
+ghost use Rattle.val_core.specs.Objects.{address_in};
+ghost use Rattle.g_mean.specs.Calls.{lambda_at, entered, applied};
 ghost use Rattle.g_interp.specs.Views.{data_of, answer_of, outputs_of};
-ghost use Rattle.g_interp.specs.Frames.{context_of};
+ghost use Rattle.g_interp.specs.Errors.{region_levels, node_levels, regions_levels, IsTooDeep};
+ghost use Rattle.g_interp.specs.Contexts.{context_of};
 
-use crate::answers::active;
+use crate::answers::{active, undefined};
+use crate::context::Context;
 use crate::data::{Answer, Datum, Output};
-use crate::frame::Context;
+use crate::error::RunError;
 use crate::ops::done;
 use crate::ports::{block_count, copy_data, open_at, read_all};
 use crate::steps::{Progress, Turn, after_node, after_turn, chosen, leave, take_number};
-use g_graph::{Lambda, NoMemory, Node, Op, Region};
+use g_graph::{Lambda, Node, Op, Region};
 use std::alloc::Global;
 
-// How many calls and nested regions may be active: a run that wants more is refused, and does not run out of stack.
+// How many calls and nested nodes may be active: a run that wants more is refused, and does not run
+// out of stack.
 const DEEPEST: u32 = 1000;
 
-/// What a call of a function does whose lambda runs at this bound: `globals` are the sizes in bytes of the globals, whose
-/// blocks are the first of the memory, and `inputs` the values of the parameters, the memory and the input. The error
-/// says that memory ran out, or that more than 1,000 calls and nested regions would be active at once.
+/// What a call of a function does whose lambda runs at this bound: `globals` are the sizes in bytes
+/// of the globals, whose blocks are the first of the memory, and `inputs` the values of the
+/// parameters, the memory and the input. It is refused where more than 1,000 calls and nested nodes
+/// would be active at once, which takes calls and nested nodes that can be so many at this bound.
 pub fn run_lambda(
     alloc: Global,
     bound: u32,
@@ -27,8 +32,11 @@ pub fn run_lambda(
     globals: &[u64],
     function: u32,
     inputs: &[Datum],
-) -> Result<Answer, NoMemory>
-    ensures { IfOk result (λ answer. answer_of answer ≡ lambda_at bound lambdas.now (address_in 0 globals.now) function (data_of inputs.now)) }
+) -> Result<Answer, RunError>
+    ensures answer { IfOk result (λ answer. answer_of answer ≡
+        lambda_at bound lambdas.now (address_in 0 globals.now) function (data_of inputs.now)) }
+    ensures error { IfErr result (λ e. e ≢ RunError.NoFirstValue) }
+    ensures too_deep { result ≡ Err RunError.TooDeep → IsTooDeep 1000 0 (bound + 1) lambdas.now }
 {
     call(
         alloc,
@@ -49,8 +57,12 @@ fn run_region(
     depth: u32,
     region: &Region,
     args: &[Datum],
-) -> Result<Answer, NoMemory>
-    ensures { IfOk result (λ answer. answer_of answer ≡ region_meaning (context_of context.entry) region.now (data_of args.now)) }
+) -> Result<Answer, RunError>
+    ensures answer { IfOk result (λ answer. answer_of answer ≡
+        region_meaning (context_of context.entry) region.now (data_of args.now)) }
+    ensures error { IfErr result (λ e. e ≢ RunError.NoFirstValue) }
+    ensures too_deep { result ≡ Err RunError.TooDeep →
+        IsTooDeep depth (region_levels region.now) context.entry.bound context.entry.lambdas.now }
 {
     let mut outputs = Vec::new(alloc);
     let mut events = Vec::new(alloc);
@@ -80,12 +92,16 @@ fn run_node(
     node: &Node,
     args: &[Datum],
     outputs: &[Output],
-) -> Result<Answer, NoMemory>
-    ensures { IfOk result (λ answer. answer_of answer ≡ node_run (context_of context.entry) node.now (data_of args.now) (outputs_of outputs.now)) }
+) -> Result<Answer, RunError>
+    ensures answer { IfOk result (λ answer. answer_of answer ≡
+        node_run (context_of context.entry) node.now (data_of args.now) (outputs_of outputs.now)) }
+    ensures error { IfErr result (λ e. e ≢ RunError.NoFirstValue) }
+    ensures too_deep { result ≡ Err RunError.TooDeep →
+        IsTooDeep depth (node_levels node.now) context.entry.bound context.entry.lambdas.now }
 {
     let inputs = read_all(alloc, args, outputs, node.inputs.as_slice())?;
     if depth == 0 {
-        return Err(NoMemory);
+        return Err(RunError::TooDeep);
     }
     match node.op {
         Op::Apply(f) => call(
@@ -99,7 +115,7 @@ fn run_node(
         ),
         Op::Gamma => run_gamma(alloc, context, depth - 1, &node.regions, &inputs),
         Op::Theta => run_theta(alloc, context, depth - 1, &node.regions, &inputs),
-        op => done(alloc, context, op, &inputs),
+        op => Ok(done(alloc, context, op, &inputs)?),
     }
 }
 
@@ -110,15 +126,21 @@ fn run_gamma(
     depth: u32,
     regions: &[Region],
     inputs: &[Datum],
-) -> Result<Answer, NoMemory>
-    ensures { IfOk result (λ answer. answer_of answer ≡ branched (meanings (context_of context.entry) (regions_of regions.now)) (data_of inputs.now)) }
+) -> Result<Answer, RunError>
+    ensures answer { IfOk result (λ answer. answer_of answer ≡
+        branched (meanings (context_of context.entry) (regions_of regions.now))
+        (data_of inputs.now)) }
+    ensures error { IfErr result (λ e. e ≢ RunError.NoFirstValue) }
+    ensures too_deep { result ≡ Err RunError.TooDeep →
+        IsTooDeep depth (regions_levels
+        (regions_of regions.now)) context.entry.bound context.entry.lambdas.now }
 {
     let Some(found) = take_number(alloc, inputs)? else {
-        return Ok(Answer::Undefined);
+        return Ok(undefined(alloc));
     };
     match chosen(found.number, regions) {
         Some(region) => run_region(alloc, context, depth, region, &found.rest),
-        None => Ok(Answer::Undefined),
+        None => Ok(undefined(alloc)),
     }
 }
 
@@ -129,12 +151,18 @@ fn run_theta(
     depth: u32,
     regions: &[Region],
     inputs: &[Datum],
-) -> Result<Answer, NoMemory>
-    ensures { IfOk result (λ answer. answer_of answer ≡ looped context.entry.bound (meanings (context_of context.entry) (regions_of regions.now)) (data_of inputs.now)) }
+) -> Result<Answer, RunError>
+    ensures answer { IfOk result (λ answer. answer_of answer ≡
+        looped context.entry.bound (meanings (context_of context.entry) (regions_of regions.now))
+        (data_of inputs.now)) }
+    ensures error { IfErr result (λ e. e ≢ RunError.NoFirstValue) }
+    ensures too_deep { result ≡ Err RunError.TooDeep →
+        IsTooDeep depth (regions_levels
+        (regions_of regions.now)) context.entry.bound context.entry.lambdas.now }
 {
     match regions.first() {
         Some(body) => run_turns(alloc, context, depth, body, inputs),
-        None => Ok(Answer::Undefined),
+        None => Ok(undefined(alloc)),
     }
 }
 
@@ -145,8 +173,13 @@ fn run_turns(
     depth: u32,
     body: &Region,
     inputs: &[Datum],
-) -> Result<Answer, NoMemory>
-    ensures { IfOk result (λ answer. answer_of answer ≡ turns context.entry.bound (region_meaning (context_of context.entry) body.now) (data_of inputs.now)) }
+) -> Result<Answer, RunError>
+    ensures answer { IfOk result (λ answer. answer_of answer ≡
+        turns context.entry.bound (region_meaning (context_of context.entry) body.now)
+        (data_of inputs.now)) }
+    ensures error { IfErr result (λ e. e ≢ RunError.NoFirstValue) }
+    ensures too_deep { result ≡ Err RunError.TooDeep →
+        IsTooDeep depth (region_levels body.now) context.entry.bound context.entry.lambdas.now }
 {
     let mut events = Vec::new(alloc);
     let mut inputs = copy_data(alloc, inputs)?;
@@ -176,8 +209,11 @@ fn call(
     depth: u32,
     function: u32,
     inputs: &[Datum],
-) -> Result<Answer, NoMemory>
-    ensures { IfOk result (λ answer. answer_of answer ≡ applied lambdas.now (address_in 0 globals.now) bound function (data_of inputs.now)) }
+) -> Result<Answer, RunError>
+    ensures answer { IfOk result (λ answer. answer_of answer ≡
+        applied lambdas.now (address_in 0 globals.now) bound function (data_of inputs.now)) }
+    ensures error { IfErr result (λ e. e ≢ RunError.NoFirstValue) }
+    ensures too_deep { result ≡ Err RunError.TooDeep → IsTooDeep depth 0 bound lambdas.now }
 {
     if bound == 0 {
         return Ok(Answer::Cut {
@@ -187,9 +223,9 @@ fn call(
     match lambdas.get(function as usize) {
         Some(lambda) => {
             let answer = enter(alloc, bound - 1, lambdas, globals, depth, lambda, inputs)?;
-            active(alloc, function, answer)
+            Ok(active(alloc, function, answer)?)
         }
-        None => Ok(Answer::Undefined),
+        None => Ok(active(alloc, function, undefined(alloc))?),
     }
 }
 
@@ -203,14 +239,19 @@ fn enter(
     depth: u32,
     lambda: &Lambda,
     inputs: &[Datum],
-) -> Result<Answer, NoMemory>
-    ensures { IfOk result (λ answer. answer_of answer ≡ entered bound (applied lambdas.now (address_in 0 globals.now) bound) (address_in 0 globals.now) (Some lambda.now) (data_of inputs.now)) }
+) -> Result<Answer, RunError>
+    ensures answer { IfOk result (λ answer. answer_of answer ≡
+        entered bound (applied lambdas.now (address_in 0 globals.now) bound)
+        (address_in 0 globals.now) (Some lambda.now) (data_of inputs.now)) }
+    ensures error { IfErr result (λ e. e ≢ RunError.NoFirstValue) }
+    ensures too_deep { result ≡ Err RunError.TooDeep →
+        IsTooDeep depth (region_levels lambda.now.body) bound lambdas.now }
 {
-    let place = lambda.params as usize;
-    let Some(first) = block_count(inputs, place) else {
-        return Ok(Answer::Undefined);
+    let port = lambda.params as usize;
+    let Some(first) = block_count(inputs, port) else {
+        return Ok(undefined(alloc));
     };
-    let args = open_at(alloc, place, &lambda.objects, inputs)?;
+    let args = open_at(alloc, port, &lambda.objects, inputs)?;
     let context = Context {
         bound,
         lambdas,
@@ -219,5 +260,5 @@ fn enter(
         objects: &lambda.objects,
     };
     let answer = run_region(alloc, context, depth, &lambda.body, &args)?;
-    leave(alloc, first, lambda.objects.len(), answer)
+    Ok(leave(alloc, first, lambda.objects.len(), answer)?)
 }

@@ -9,7 +9,8 @@ ghost use Rattle.g_interp.specs.Runs.{chosen_tree, numbered, turned, stepped, le
 use crate::answers::{before, joined};
 use crate::data::{Answer, Datum, Event, Output};
 use crate::ports::{close_at, copy_data};
-use g_graph::{NoMemory, Region};
+use g_graph::Region;
+use no_memory::NoMemory;
 use std::alloc::Global;
 use val_core::Value;
 
@@ -41,7 +42,8 @@ pub enum Progress {
 }
 
 pub fn take_number(alloc: Global, inputs: &[Datum]) -> Result<Option<Numbered>, NoMemory>
-    ensures { IfOk result (λ found. MatchOption found (numbered (data_of inputs.now) ≡ None) (λ n. numbered (data_of inputs.now) ≡ Some (n.number, data_of n.rest.items))) }
+    ensures { IfOk result (λ found. MatchOption found (numbered (data_of inputs.now) ≡
+        None) (λ n. numbered (data_of inputs.now) ≡ Some (n.number, data_of n.rest.items))) }
 {
     match inputs.split_first() {
         Some((Datum::Value(Value::Num(number)), rest)) => Ok(Some(Numbered {
@@ -54,14 +56,17 @@ pub fn take_number(alloc: Global, inputs: &[Datum]) -> Result<Option<Numbered>, 
 
 /// Of n regions the one numbered min(w, n - 1).
 pub fn chosen(w: u32, regions: &[Region]) -> Option<&Region>
-    ensures { MatchOption result (chosen_tree w regions.now ≡ None) (λ r. chosen_tree w regions.now ≡ Some r.now) }
+    ensures { MatchOption result (chosen_tree w regions.now ≡
+        None) (λ r. chosen_tree w regions.now ≡ Some r.now) }
 {
     let last = regions.len().saturating_sub(1);
     regions.get(last.min(w as usize))
 }
 
 pub fn after_turn(alloc: Global, events: Vec<Event>, answer: Answer) -> Result<Turn, NoMemory>
-    ensures { IfOk result (λ turn. (next : Meaning) → before (events_of events.items) (then_on (answer_of answer) (again next)) ≡ turned next turn) }
+    ensures { IfOk result (λ turn. (next : Meaning) →
+        before (events_of events.items) (then_on (answer_of answer) (again next)) ≡
+        turned next turn) }
 {
     let Answer::Returned {
         results,
@@ -70,10 +75,10 @@ pub fn after_turn(alloc: Global, events: Vec<Event>, answer: Answer) -> Result<T
     else {
         return Ok(Turn::Last(before(events, answer)?));
     };
-    let Some(found) = take_number(alloc, &results)? else {
-        return Ok(Turn::Last(Answer::Undefined));
-    };
     let events = joined(events, did)?;
+    let Some(found) = take_number(alloc, &results)? else {
+        return Ok(Turn::Last(Answer::Undefined { events }));
+    };
     if found.number == 0 {
         Ok(Turn::Last(Answer::Returned {
             results: found.rest,
@@ -93,7 +98,9 @@ pub fn after_node(
     events: Vec<Event>,
     answer: Answer,
 ) -> Result<Progress, NoMemory>
-    ensures { IfOk result (λ progress. (next : Outputs → a.Answer (List d.Datum)) → before (events_of events.items) (then_on (answer_of answer) (λ ys. next (extended (outputs_of outputs.items) id ys))) ≡ stepped next progress) }
+    ensures { IfOk result (λ progress. (next : Outputs → a.Answer (List d.Datum)) →
+        before (events_of events.items) (then_on (answer_of answer) (λ ys. next (extended
+        (outputs_of outputs.items) id ys))) ≡ stepped next progress) }
 {
     let Answer::Returned {
         results,
@@ -116,7 +123,8 @@ pub fn after_node(
 
 /// After the body of a call, whose blocks are `count` from number `first` on.
 pub fn leave(alloc: Global, first: usize, count: usize, answer: Answer) -> Result<Answer, NoMemory>
-    ensures { IfOk result (λ outer. answer_of outer ≡ then_on (answer_of answer) (left first count)) }
+    ensures { IfOk result (λ outer. answer_of outer ≡
+        then_on (answer_of answer) (left first count)) }
 {
     match answer {
         Answer::Returned { results, events } => Ok(Answer::Returned {

@@ -11,9 +11,9 @@ use Rattle.g_graph.specs.declared.op.Origin.{Origin}
 use Rattle.g_graph.specs.declared.op.Origin.TheVariants.{Arg, Out}
 use Rattle.g_graph.specs.declared.op.Op.{Op}
 use Rattle.g_graph.specs.declared.op.Op.TheVariants.{Const, Undef, Local, Delta, Bin, Load, Store, Clear, PtrEq, Apply, Put, Exit, Get, Gamma, Theta}
-use Rattle.g_graph.specs.Plain.{region, NodeTree, node, no_regions, nodes_of, regions_of, PlainLambda}
+use Rattle.g_graph.specs.Plain.{region, NodeTree, node, no_regions, nodes_of, regions_of, PlainLambda, PlainOmega, PlainDelta}
 use Rattle.g_mean.specs.Data.{Datum, val, memory, input}
-use Rattle.g_mean.specs.Calls.{lambda_at, PlainOmega, PlainDelta, program_at, deepest_main}
+use Rattle.g_mean.specs.Calls.{lambda_at, program_at, deepest_main}
 
 abbrev states : List Kind
 states = Memory ∷ Io ∷ []
@@ -32,7 +32,7 @@ abbrev three_hundred : PlainLambda
 three_hundred = of_body 0 (plain 0 (Const 300) [] ∷ []) (Out 0 0 ∷ Arg 0 ∷ Arg 1 ∷ [])
 
 abbrev only_main : PlainOmega
-only_main = record { deltas = []; names = (109 ∷ 97 ∷ 105 ∷ 110 ∷ []) ∷ [] }
+only_main = record { lambdas = []; deltas = []; names = (109 ∷ 97 ∷ 105 ∷ 110 ∷ []) ∷ [] }
 
 status : program_at 0 only_main (three_hundred ∷ []) [] ≡ Exited (met (0 ∷ []) ∷ []) 44
 status = refl
@@ -41,7 +41,7 @@ status = refl
 undefined : program_at 5 only_main (of_body 0 (plain 0 Undef [] ∷ []) (Out 0 0 ∷ Arg 0 ∷ Arg 1 ∷ []) ∷ []) [] ≡ Undefined (met (0 ∷ []) ∷ [])
 undefined = refl
 
-no_main : program_at 5 (record { deltas = []; names = [] }) (three_hundred ∷ []) [] ≡ Undefined []
+no_main : program_at 5 (record { lambdas = []; deltas = []; names = [] }) (three_hundred ∷ []) [] ≡ Undefined []
 no_main = refl
 
 -- counts its parameter down to 0 and writes each number
@@ -139,11 +139,11 @@ abbrev pointed : Op → List Origin → PlainLambda
 pointed op inputs =
     of_body 0 (plain 0 (Delta 1) [] ∷ plain 1 (Load 4) (Out 0 0 ∷ Arg 0 ∷ []) ∷ plain 2 op inputs ∷ []) (Out 2 0 ∷ Arg 0 ∷ Arg 1 ∷ [])
 
-through : program_at 0 (record { deltas = globals; names = (109 ∷ 97 ∷ 105 ∷ 110 ∷ []) ∷ [] }) (pointed (Load 4) (Out 1 0 ∷ Arg 0 ∷ []) ∷ []) [] ≡ Exited (met (0 ∷ []) ∷ []) 44
+through : program_at 0 (record { lambdas = []; deltas = globals; names = (109 ∷ 97 ∷ 105 ∷ 110 ∷ []) ∷ [] }) (pointed (Load 4) (Out 1 0 ∷ Arg 0 ∷ []) ∷ []) [] ≡ Exited (met (0 ∷ []) ∷ []) 44
 through = refl
 
 -- a store to a fixed global
-fixed : program_at 0 (record { deltas = globals; names = (109 ∷ 97 ∷ 105 ∷ 110 ∷ []) ∷ [] }) (pointed (Store 4) (Out 1 0 ∷ Out 1 0 ∷ Arg 0 ∷ []) ∷ []) [] ≡ Undefined (met (0 ∷ []) ∷ [])
+fixed : program_at 0 (record { lambdas = []; deltas = globals; names = (109 ∷ 97 ∷ 105 ∷ 110 ∷ []) ∷ [] }) (pointed (Store 4) (Out 1 0 ∷ Out 1 0 ∷ Arg 0 ∷ []) ∷ []) [] ≡ Undefined (met (0 ∷ []) ∷ [])
 fixed = refl
 
 -- a frame of 16 bytes for each of the active calls

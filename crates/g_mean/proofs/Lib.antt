@@ -1,19 +1,2 @@
 mod Examples
-pub mod Kept
-pub mod Regions
-pub mod Equal
-pub mod LessDefinedLemmas
-pub mod Calls
-pub mod Bounds
-pub mod Replacement
-pub mod Programs
-pub mod Silent
-pub mod LocalRefinement
-pub mod Copies
-pub mod Closed
-pub mod Edits
-pub mod Moves
-pub mod Holds
-pub mod Splices
-pub mod Redirects
-pub mod KindsKept
+pub mod lemmas

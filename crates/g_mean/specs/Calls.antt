@@ -1,14 +1,15 @@
 -- What calls of lambdas do, and whole programs.
-use Rattle.std.specs.Prelude.{ℕ, zero, suc, ◌+◌, ◌*◌, ◌%◌, ◌^◌, ◌==◌, if◌then◌else◌, Bool, true, false, List, [], ◌∷◌, ◌++◌, map, length, slice_get, slice_index_or, take, drop, Option, None, Some, option_map}
+use Rattle.std.specs.Prelude.{ℕ, zero, suc, ◌+◌, ◌*◌, ◌%◌, ◌==◌, if◌then◌else◌, true, List, [], ◌∷◌, ◌++◌, map, length, slice_get, slice_index_or, take, drop, Option, None, Some}
 use Rattle.val_core.specs.declared.leaf.Leaf.{Leaf}
 use Rattle.val_core.specs.declared.values.Value.{Value}
-use Rattle.val_core.specs.declared.values.Value.TheVariants.{Num, At, Bad}
+use Rattle.val_core.specs.declared.values.Value.TheVariants.{Num}
 use Rattle.val_core.specs.Memory.{Cell, Block, Memory, BlockShape, closed}
 use Rattle.val_core.specs.Objects.{Addresses, word_of, address_in, opened}
 use Rattle.val_core.specs.Events.{deepest}
 use Rattle.val_core.specs.Answers.{Answer, Returned, Cut, Exited, Undefined, then_on, on_number, active, events}
-use Rattle.g_graph.specs.declared.lambda.Link.{Link}
-use Rattle.g_graph.specs.Plain.{RegionTree, PlainObject, PlainLambda}
+use Rattle.g_graph.specs.declared.link.Link.{Link}
+use Rattle.g_graph.specs.Plain.{RegionTree, PlainObject, PlainLambda, PlainDelta, PlainOmega}
+use Rattle.g_graph.specs.Program.{name_index, main_name}
 use Rattle.g_mean.specs.Data.{Datum, memory, input, at_port, value_at, on_memory, with_memory, changed_at}
 use Rattle.g_mean.specs.Meaning.{Meaning, Context, region_meaning}
 
@@ -51,18 +52,6 @@ lambda_at n ls global f xs = applied ls global (suc n) f xs
 
 -- ---- programs
 
--- a global: its first bytes, the places in it that hold the address of a global, its leaves, and whether it is fixed
-pub record PlainDelta : Type 0 where
-  pub bytes : List ℕ
-  pub links : List Link
-  pub leaves : List Leaf
-  pub fixed : Bool
-
--- a program but for its lambdas: the globals, and the functions' names
-pub record PlainOmega : Type 0 where
-  pub deltas : List PlainDelta
-  pub names : List (List ℕ)
-
 abbrev pub delta_sizes : List PlainDelta → List ℕ
 delta_sizes ds = map (λ d. length d.bytes) ds
 
@@ -96,20 +85,6 @@ first_block global d =
 abbrev pub first_memory : List PlainDelta → Memory
 first_memory ds = map (first_block (global_of ds)) ds
 
-abbrev pub same_bytes : List ℕ → List ℕ → Bool
-same_bytes [] [] = true
-same_bytes (x ∷ xs) (y ∷ ys) = if x == y then same_bytes xs ys else false
-same_bytes _ _ = false
-
--- the place of a name among others
-abbrev pub place_of : List ℕ → List (List ℕ) → Option ℕ
-place_of name [] = None
-place_of name (x ∷ xs) = if same_bytes x name then Some 0 else option_map suc (place_of name xs)
-
--- "main"
-abbrev pub main_name : List ℕ
-main_name = 109 ∷ 97 ∷ 105 ∷ 110 ∷ []
-
 -- the program ends with what `main` gives back, modulo 256
 abbrev pub finished : Meaning
 finished ys = on_number (value_at ys 0) (λ w. Exited [] (w % 256))
@@ -121,7 +96,7 @@ started n omega ls (Some f) i =
 
 -- the program at a bound, on this input
 abbrev pub program_at : ℕ → PlainOmega → List PlainLambda → List ℕ → Answer (List Datum)
-program_at n omega ls i = started n omega ls (place_of main_name omega.names) i
+program_at n omega ls i = started n omega ls (name_index main_name omega.names) i
 
 -- the greatest sum of frame sizes, by function, over the stacks of calls that it meets
 abbrev pub deepest_main : ℕ → PlainOmega → List PlainLambda → (sizes : List ℕ) → List ℕ → ℕ

@@ -8,10 +8,10 @@ use Rattle.val_core.specs.Refinement.{Forward, exactly, Refines}
 use Rattle.val_core.specs.Objects.{Addresses}
 use Rattle.g_graph.specs.declared.op.Op.TheVariants.{Theta}
 use Rattle.g_graph.specs.declared.op.Origin.{Origin}
-use Rattle.g_graph.specs.Plain.{RegionTree, NodeTree, node, nodes_of, no_regions, region_then, PlainLambda}
+use Rattle.g_graph.specs.Plain.{RegionTree, NodeTree, node, nodes_of, no_regions, region_then, PlainLambda, PlainOmega}
 use Rattle.g_mean.specs.Data.{Datum}
 use Rattle.g_mean.specs.Meaning.{Context, again, turns, Outputs, read, region_meaning, node_run, nodes_run}
-use Rattle.g_mean.specs.Calls.{PlainOmega, region_at, lambda_at, program_at}
+use Rattle.g_mean.specs.Calls.{region_at, lambda_at, program_at}
 use Rattle.g_mean.specs.LessDefined.{AreSound}
 
 -- A greater bound only extends: what ended stays as it is, and what was cut may go on. So it is with a region,

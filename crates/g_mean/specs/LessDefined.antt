@@ -4,8 +4,8 @@ use Rattle.val_core.specs.declared.values.Value.TheVariants.{Bad}
 use Rattle.val_core.specs.Values.{IsSound}
 use Rattle.val_core.specs.Memory.{IsSoundMemory}
 use Rattle.val_core.specs.declared.leaf.Leaf.{Leaf}
-use Rattle.g_mean.specs.Calls.{PlainDelta}
 use Rattle.g_mean.specs.Data.{Datum, val, memory, input}
+use Rattle.g_graph.specs.Plain.{PlainDelta}
 
 abbrev pub AreBytes : List ℕ → Type 0
 AreBytes [] = Unit {0}

@@ -1,14 +1,14 @@
 -- Nodes whose inputs come from elsewhere.
-use Rattle.std.specs.Prelude.{◌≡◌, ℕ, Bool, true, false, List, [], ◌∷◌, map}
+use Rattle.std.specs.Prelude.{◌≡◌, ℕ, Bool, true, List, [], ◌∷◌, map}
 use Rattle.val_core.specs.declared.values.Value.{Value}
 use Rattle.val_core.specs.declared.values.Value.TheVariants.{Num}
 use Rattle.val_core.specs.Answers.{Answer, Returned}
 use Rattle.val_core.specs.Refinement.{Direction, Refines, no_deeper}
 use Rattle.g_graph.specs.declared.op.Kind.{Kind}
 use Rattle.g_graph.specs.declared.op.Op.{Op}
-use Rattle.g_graph.specs.declared.op.Op.TheVariants.{Const, Undef, Local, Delta, Bin, Un}
 use Rattle.g_graph.specs.declared.op.Origin.{Origin}
 use Rattle.g_graph.specs.Plain.{region, node, NodeTrees, RegionTrees}
+use Rattle.g_graph.specs.Signatures.{is_pure}
 use Rattle.g_graph.specs.Ids.{nodes_ids}
 use Rattle.g_mean.specs.Data.{Datum, val, value_of}
 use Rattle.g_mean.specs.Meaning.{Meaning, Context, turns, Outputs, no_outputs, read, region_meaning, node_run, nodes_run}
@@ -17,15 +17,6 @@ use Rattle.g_mean.specs.Refining.{InOrder, ContextRefines}
 use Rattle.g_mean.specs.Copies.{IsRead, AreRead, known_after, NodesRead, CanMove, nodes_moved}
 
 -- ---- pure nodes
-
-abbrev pub is_pure : Op → Bool
-is_pure (Const w) = true
-is_pure Undef = true
-is_pure (Local k) = true
-is_pure (Delta k) = true
-is_pure (Bin op) = true
-is_pure (Un op) = true
-is_pure op = false
 
 -- A pure node gives one value, and that is the same for every node of its op whose inputs carry the same.
 pub record GivesTheSame (a b : Answer (List Datum)) : Type 0 where
@@ -41,11 +32,11 @@ PureNodesGiveTheSame =
 
 -- ---- nodes in another place
 
--- what these nodes read is near to what their moved inputs carry
+-- what these nodes read is less defined than what their moved inputs carry
 abbrev pub ReadLessDefined : (S : Origin → Bool) → List ℕ → (move : Origin → Origin) → (xs ys : List Datum) → Outputs → Outputs → Type 0
 ReadLessDefined S known move xs ys o q = (a : Origin) → IsRead S known a → IsLessDefinedDatum (read xs o a) (read ys q (move a))
 
--- Nodes and moved nodes refine where what they read is near, and then so is what follows them.
+-- Nodes and moved nodes refine where what they read is less defined, and then so is what follows them.
 abbrev pub MovedNodesRefine : Type 0
 MovedNodesRefine =
     (direction : Direction) (c d : Context) → ContextRefines no_deeper direction IsLessDefinedDatum c d →
@@ -53,7 +44,7 @@ MovedNodesRefine =
     (xs ys : List Datum) (o q : Outputs) → ReadLessDefined S [] move xs ys o q →
     Refines no_deeper direction (ReadLessDefined S (known_after [] ns) move xs ys) (nodes_run c ns xs o) (nodes_run d (nodes_moved move to ns) ys q)
 
--- A region and its moved nodes with moved results refine where the arguments that are read are near. An argument that
+-- A region and its moved nodes with moved results refine where the arguments that are read are less defined. An argument that
 -- is not read may be anything, or not be there.
 abbrev pub MovedRegionsRefine : Type 0
 MovedRegionsRefine =

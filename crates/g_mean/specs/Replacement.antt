@@ -7,10 +7,10 @@ use Rattle.val_core.specs.Answers.{Answer, events, IsUndefined}
 use Rattle.val_core.specs.Refinement.{Direction, Forward, Backward, no_deeper}
 use Rattle.val_core.specs.Within.{behaviour, Within}
 use Rattle.val_core.specs.Objects.{Addresses}
-use Rattle.g_graph.specs.Plain.{RegionTree, PlainLambda}
+use Rattle.g_graph.specs.Plain.{RegionTree, PlainLambda, PlainOmega}
 use Rattle.g_mean.specs.Data.{Datum}
 use Rattle.g_mean.specs.Meaning.{Context}
-use Rattle.g_mean.specs.Calls.{PlainOmega, applied, region_at, lambda_at, program_at}
+use Rattle.g_mean.specs.Calls.{applied, region_at, lambda_at, program_at}
 use Rattle.g_mean.specs.LessDefined.{Paired, AreBytes, AreSound, IsLessDefinedDatum, AreSoundDeltas}
 use Rattle.g_mean.specs.Refining.{MeaningRefines, RegionRefines, SameBut, LambdasSameBut}
 
@@ -32,7 +32,8 @@ pub record Linked (direction : Direction) (ls ks : List PlainLambda) (global : �
   pub far_global : (k : ℕ) → d.addresses.global k ≡ global k
   pub near_call : (f : ℕ) (xs : List Datum) → c.call f xs ≡ applied ls global c.bound f xs
   pub far_call : (f : ℕ) (xs : List Datum) → d.call f xs ≡ applied ks global d.bound f xs
-  pub nested : (n m : ℕ) → lesser direction n m ≤ lesser direction c.bound d.bound → IsTwice direction 1 n m → (f : ℕ) → MeaningRefines no_deeper direction IsLessDefinedDatum (applied ls global n f) (applied ks global m f)
+  pub nested : (n m : ℕ) → lesser direction n m ≤ lesser direction c.bound d.bound → IsTwice direction 1 n m → (f : ℕ) →
+      MeaningRefines no_deeper direction IsLessDefinedDatum (applied ls global n f) (applied ks global m f)
 
 -- Region `s` in a lambda of `ks` may stand for region `r` in that lambda of `ls`, whichever side is cut first.
 pub record Replaces (ls ks : List PlainLambda) (r s : RegionTree) : Type 0 where
@@ -49,23 +50,31 @@ pub record WithinTwice (near far : ℕ → Answer (List Datum)) (n : ℕ) : Type
 abbrev pub IsKeptWithinTwice : (near far : ℕ → Answer (List Datum)) → Type 0
 IsKeptWithinTwice near far = ((n : ℕ) → IsUndefined (near n) → ⊥) → (n : ℕ) → WithinTwice near far n
 
+-- every function of the one list of lambdas means in the other one what it meant
+abbrev pub FunctionsKeepMeaning : List PlainLambda → List PlainLambda → Type 0
+FunctionsKeepMeaning ls ks =
+    (global : ℕ → Value) (f : ℕ) (xs : List Datum) → ((k : ℕ) → IsSound (global k)) → AreSound xs →
+    IsKeptWithinTwice (λ n. lambda_at n ls global f xs) (λ n. lambda_at n ks global f xs)
+
+-- and so does every program, on every input
+abbrev pub ProgramKeepsMeaning : List PlainLambda → List PlainLambda → Type 0
+ProgramKeepsMeaning ls ks =
+    (omega : PlainOmega) (i : List ℕ) → AreSoundDeltas omega.deltas → AreBytes i →
+    IsKeptWithinTwice (λ n. program_at n omega ls i) (λ n. program_at n omega ks i)
+
 -- Where the lambdas of two lists are equal but for replaced regions, at any depth, every function keeps its meaning,
 abbrev pub LambdasKeepMeaning : Type 0
 LambdasKeepMeaning =
-    (ls ks : List PlainLambda) → LambdasSameBut (Replaces ls ks) ls ks →
-    (global : ℕ → Value) (f : ℕ) (xs : List Datum) → ((k : ℕ) → IsSound (global k)) → AreSound xs →
-    IsKeptWithinTwice (λ n. lambda_at n ls global f xs) (λ n. lambda_at n ks global f xs)
+    (ls ks : List PlainLambda) → LambdasSameBut (Replaces ls ks) ls ks → FunctionsKeepMeaning ls ks
 
 -- and so does every region that is equal but for replaced ones,
 abbrev pub RegionsKeepMeaning : Type 0
 RegionsKeepMeaning =
     (ls ks : List PlainLambda) → LambdasSameBut (Replaces ls ks) ls ks → (r s : RegionTree) → SameBut (Replaces ls ks) r s →
-    (addresses : Addresses) (xs : List Datum) → ((k : ℕ) → IsSound (addresses.local k)) → ((k : ℕ) → IsSound (addresses.global k)) → AreSound xs →
-    IsKeptWithinTwice (λ n. region_at n ls r xs addresses) (λ n. region_at n ks s xs addresses)
+    (addresses : Addresses) (xs : List Datum) → ((k : ℕ) → IsSound (addresses.local k)) → ((k : ℕ) → IsSound (addresses.global k)) →
+    AreSound xs → IsKeptWithinTwice (λ n. region_at n ls r xs addresses) (λ n. region_at n ks s xs addresses)
 
 -- and the whole program.
 abbrev pub ProgramsKeepMeaning : Type 0
 ProgramsKeepMeaning =
-    (ls ks : List PlainLambda) → LambdasSameBut (Replaces ls ks) ls ks →
-    (omega : PlainOmega) (i : List ℕ) → AreSoundDeltas omega.deltas → AreBytes i →
-    IsKeptWithinTwice (λ n. program_at n omega ls i) (λ n. program_at n omega ks i)
+    (ls ks : List PlainLambda) → LambdasSameBut (Replaces ls ks) ls ks → ProgramKeepsMeaning ls ks

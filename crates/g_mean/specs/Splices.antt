@@ -46,7 +46,7 @@ pub record CanRedirect (args : List Kind) (before : NodeTrees) (x : NodeTree) (a
   pub others : (n p : ℕ) → n ≢ id_of x → move (Out n p) ≡ Out n p
   pub own : (p : ℕ) → IsRead (is_argument (length args)) (id_of x ∷ known_after [] before) (move (Out (id_of x) p))
 
--- Where what they come from carries, once the node has run, what is near to its outputs, the regions refine.
+-- Where each output of the node, once it has run, is less defined than what it then comes from, the regions refine.
 abbrev pub RedirectedRegionsRefine : Type 0
 RedirectedRegionsRefine =
     (direction : Direction) (c d : Context) → ContextRefines no_deeper direction IsLessDefinedDatum c d →

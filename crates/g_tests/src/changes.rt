@@ -1,8 +1,9 @@
 use crate::checks::{A, I, KINDS, M, alone, of, out, region, with_regions};
 use g_graph::{
-    Lambda, NoMemory, Node, Object, Op, Origin, Region, check, copy_of, equal, ids, replace_uses,
-    splice, values,
+    Lambda, Node, Object, Op, Origin, Region, check, copy_of, equal, ids, replace_uses, splice,
+    values,
 };
+use no_memory::NoMemory;
 use smallvec::SmallVec;
 use std::alloc::Global;
 use std::test::Fail;

@@ -1,6 +1,7 @@
 // Lambdas with one parameter and one object, whose regions break one sentence of what is well
 // formed, or none.
-use g_graph::{Kind, Lambda, NoMemory, Node, Object, Op, Origin, Region, check};
+use g_graph::{Kind, Lambda, Node, Object, Op, Origin, Region, check};
+use no_memory::NoMemory;
 use smallvec::SmallVec;
 use std::alloc::Global;
 use std::process::Abort;

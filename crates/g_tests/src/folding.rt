@@ -1,6 +1,7 @@
 // Lambdas of one region, folded at one of their nodes.
 use crate::checks::{A, I, KINDS, M, of, out, region, with_regions};
-use g_graph::{Kind, Lambda, NoMemory, Node, Op, Origin, Region, check, equal, values};
+use g_graph::{Kind, Lambda, Node, Op, Origin, Region, check, equal, values};
+use no_memory::NoMemory;
 use r_fold::{applies, apply};
 use std::alloc::Global;
 use std::test::Fail;

@@ -1,8 +1,9 @@
 //! Small programs as graphs.
 
+use crate::checks::{of, out, region};
 use c_lex::Name;
-use g_graph::{Delta, Lambda, Link, NoMemory, Node, Object, Omega, Op, Origin, Region};
-use smallvec::SmallVec;
+use g_graph::{Delta, Kind, Lambda, Link, Node, Object, Omega, Op, Origin, Region};
+use no_memory::NoMemory;
 use std::alloc::Global;
 use val_core::{Leaf, Op2};
 
@@ -18,52 +19,54 @@ pub enum Program {
     Globals,
     /// `int *f(void) { int x = 7; return &x; } int main(void) { return *f(); }`
     Dangling,
+    /// `int main(void) { int t[2] = {5}; return t[0] + t[1]; }`
+    Cleared,
+    /// `int main(void) { int x, y; return (&x == &x) - (&x == &y); }`
+    Compared,
+    /// `char c = 200; int main(void) { switch (c) { case 0: putchar(97); .. } .. }`, where all but
+    /// 0 and 1 lead to the third case
+    Narrow,
+    /// `int main(void) { int x; putchar(65); putchar(getchar()); return x; }`
+    Unset,
+    /// A global of eight bytes with one leaf, whose first value is more than a word.
+    Wide,
 }
 
-pub const fn out(node: u32, port: u32) -> Origin {
-    Origin::Out { node, port }
-}
+const V: Kind = Kind::Value;
 
-pub const fn arg(k: u32) -> Origin {
+const M: Kind = Kind::Memory;
+
+const I: Kind = Kind::Io;
+
+const fn arg(k: u32) -> Origin {
     Origin::Arg(k)
 }
 
-fn node(alloc: Global, id: u32, op: Op, inputs: &[Origin]) -> Result<Node, NoMemory> {
-    Ok(Node {
-        id,
-        op,
-        inputs: SmallVec::from_slice(alloc, inputs)?,
-        regions: Vec::new(alloc),
-    })
+const fn leaf(offset: u32, width: u8) -> Leaf {
+    Leaf { offset, width }
 }
 
 fn flat(alloc: Global, rows: &[(u32, Op, &[Origin])]) -> Result<Vec<Node>, NoMemory> {
     let mut nodes = Vec::new(alloc);
     for (id, op, inputs) in rows {
-        nodes.push(node(alloc, *id, *op, inputs)?)?;
+        nodes.push(of(alloc, *id, *op, inputs)?)?;
     }
     Ok(nodes)
 }
 
-fn region(alloc: Global, nodes: Vec<Node>, results: &[Origin]) -> Result<Region, NoMemory> {
-    Ok(Region {
-        args: Vec::new(alloc),
-        nodes,
-        results: Vec::from_slice(alloc, results)?,
-    })
-}
-
 fn body(
     alloc: Global,
+    args: &[Kind],
     rows: &[(u32, Op, &[Origin])],
     results: &[Origin],
 ) -> Result<Region, NoMemory> {
-    region(alloc, flat(alloc, rows)?, results)
+    region(alloc, args, flat(alloc, rows)?, results)
 }
 
 // The nodes of `rows`, then a node with regions, then those of `after`.
 fn context(
     alloc: Global,
+    args: &[Kind],
     rows: &[(u32, Op, &[Origin])],
     nested: Node,
     after: &[(u32, Op, &[Origin])],
@@ -72,7 +75,7 @@ fn context(
     let mut nodes = flat(alloc, rows)?;
     nodes.push(nested)?;
     nodes.append(&mut flat(alloc, after)?)?;
-    region(alloc, nodes, results)
+    region(alloc, args, nodes, results)
 }
 
 fn gamma(
@@ -82,28 +85,31 @@ fn gamma(
     first: Region,
     last: Region,
 ) -> Result<Node, NoMemory> {
-    let mut made = node(alloc, id, Op::Gamma, inputs)?;
+    let mut made = of(alloc, id, Op::Gamma, inputs)?;
     made.regions.push(first)?;
     made.regions.push(last)?;
     Ok(made)
 }
 
 fn theta(alloc: Global, id: u32, inputs: &[Origin], turn: Region) -> Result<Node, NoMemory> {
-    let mut made = node(alloc, id, Op::Theta, inputs)?;
+    let mut made = of(alloc, id, Op::Theta, inputs)?;
     made.regions.push(turn)?;
     Ok(made)
 }
 
-fn words(alloc: Global, count: u32) -> Result<Vec<Object>, NoMemory> {
+// Objects of one or two words.
+fn words(alloc: Global, sizes: &[u32]) -> Result<Vec<Object>, NoMemory> {
     let mut objects = Vec::new(alloc);
-    for _ in 0..count {
-        let leaf = Leaf {
-            offset: 0,
-            width: 4,
+    for size in sizes {
+        let leaves = [leaf(0, 4), leaf(4, 4)];
+        let leaves = if *size == 4 {
+            Vec::from_slice(alloc, &leaves[..1])?
+        } else {
+            Vec::from_slice(alloc, &leaves)?
         };
         objects.push(Object {
-            size: 4,
-            leaves: Vec::from_slice(alloc, &[leaf])?,
+            size: *size,
+            leaves,
         })?;
     }
     Ok(objects)
@@ -113,7 +119,7 @@ fn lambda(
     alloc: Global,
     number: u32,
     params: u32,
-    objects: u32,
+    objects: &[u32],
     body: Region,
 ) -> Result<Lambda, NoMemory> {
     Ok(Lambda {
@@ -143,27 +149,27 @@ fn omega(
 }
 
 fn alone(alloc: Global, body: Region) -> Result<Omega, NoMemory> {
-    let mut lambdas = Vec::new(alloc);
-    lambdas.push(lambda(alloc, 0, 0, 0, body)?)?;
-    omega(alloc, lambdas, Vec::new(alloc), &[b"main"])
+    single(alloc, &[], body, Vec::new(alloc))
 }
 
 // A function called by `main`, which stands after it.
 fn called(alloc: Global, function: Lambda, main: Region) -> Result<Omega, NoMemory> {
     let mut lambdas = Vec::new(alloc);
     lambdas.push(function)?;
-    lambdas.push(lambda(alloc, 1, 0, 0, main)?)?;
+    lambdas.push(lambda(alloc, 1, 0, &[], main)?)?;
     omega(alloc, lambdas, Vec::new(alloc), &[b"f", b"main"])
 }
 
 fn counted(alloc: Global) -> Result<Omega, NoMemory> {
     let ends = body(
         alloc,
+        &[V, M, I],
         &[(5, Op::Const(0), &[])],
         &[out(5, 0), arg(0), arg(1), arg(2)],
     )?;
     let goes = body(
         alloc,
+        &[V, M, I],
         &[
             (6, Op::Const(1), &[]),
             (7, Op::Bin(Op2::Add), &[arg(0), out(6, 0)]),
@@ -174,6 +180,7 @@ fn counted(alloc: Global) -> Result<Omega, NoMemory> {
     let choice = gamma(alloc, 4, &[out(3, 0), arg(0), arg(1), arg(2)], ends, goes)?;
     let turn = context(
         alloc,
+        &[V, M, I],
         &[
             (2, Op::Const(3), &[]),
             (3, Op::Bin(Op2::Slt), &[arg(0), out(2, 0)]),
@@ -184,6 +191,7 @@ fn counted(alloc: Global) -> Result<Omega, NoMemory> {
     )?;
     let main = context(
         alloc,
+        &[M, I],
         &[(0, Op::Const(0), &[])],
         theta(alloc, 1, &[out(0, 0), arg(0), arg(1)], turn)?,
         &[
@@ -197,9 +205,10 @@ fn counted(alloc: Global) -> Result<Omega, NoMemory> {
 }
 
 fn echo(alloc: Global) -> Result<Omega, NoMemory> {
-    let ends = body(alloc, &[], &[arg(1), arg(2)])?;
+    let ends = body(alloc, &[V, M, I], &[], &[arg(1), arg(2)])?;
     let goes = body(
         alloc,
+        &[V, M, I],
         &[(5, Op::Put, &[arg(0), arg(2)])],
         &[arg(1), out(5, 0)],
     )?;
@@ -212,6 +221,7 @@ fn echo(alloc: Global) -> Result<Omega, NoMemory> {
     )?;
     let turn = context(
         alloc,
+        &[M, I],
         &[
             (1, Op::Get, &[arg(1)]),
             (2, Op::Const(u32::MAX), &[]),
@@ -223,6 +233,7 @@ fn echo(alloc: Global) -> Result<Omega, NoMemory> {
     )?;
     let main = context(
         alloc,
+        &[M, I],
         &[],
         theta(alloc, 0, &[arg(0), arg(1)], turn)?,
         &[(6, Op::Const(0), &[])],
@@ -235,11 +246,13 @@ fn echo(alloc: Global) -> Result<Omega, NoMemory> {
 fn parity_of(alloc: Global, number: u32, zero: u32, other: u32) -> Result<Lambda, NoMemory> {
     let ends = body(
         alloc,
+        &[V, M, I],
         &[(1, Op::Const(zero), &[])],
         &[out(1, 0), arg(1), arg(2)],
     )?;
     let goes = body(
         alloc,
+        &[V, M, I],
         &[
             (2, Op::Const(1), &[]),
             (3, Op::Bin(Op2::Sub), &[arg(0), out(2, 0)]),
@@ -248,13 +261,21 @@ fn parity_of(alloc: Global, number: u32, zero: u32, other: u32) -> Result<Lambda
         &[out(4, 0), out(4, 1), out(4, 2)],
     )?;
     let choice = gamma(alloc, 0, &[arg(0), arg(0), arg(1), arg(2)], ends, goes)?;
-    let whole = context(alloc, &[], choice, &[], &[out(0, 0), out(0, 1), out(0, 2)])?;
-    lambda(alloc, number, 1, 0, whole)
+    let whole = context(
+        alloc,
+        &[V, M, I],
+        &[],
+        choice,
+        &[],
+        &[out(0, 0), out(0, 1), out(0, 2)],
+    )?;
+    lambda(alloc, number, 1, &[], whole)
 }
 
 fn parity(alloc: Global) -> Result<Omega, NoMemory> {
     let main = body(
         alloc,
+        &[M, I],
         &[
             (0, Op::Const(10), &[]),
             (1, Op::Apply(0), &[out(0, 0), arg(0), arg(1)]),
@@ -264,7 +285,7 @@ fn parity(alloc: Global) -> Result<Omega, NoMemory> {
     let mut lambdas = Vec::new(alloc);
     lambdas.push(parity_of(alloc, 0, 1, 1)?)?;
     lambdas.push(parity_of(alloc, 1, 0, 0)?)?;
-    lambdas.push(lambda(alloc, 2, 0, 0, main)?)?;
+    lambdas.push(lambda(alloc, 2, 0, &[], main)?)?;
     omega(alloc, lambdas, Vec::new(alloc), &[b"even", b"odd", b"main"])
 }
 
@@ -284,16 +305,14 @@ fn delta(
 }
 
 fn globals(alloc: Global) -> Result<Omega, NoMemory> {
-    let word = Leaf {
-        offset: 0,
-        width: 4,
-    };
+    let word = leaf(0, 4);
     let link = Link { at: 0, delta: 0 };
     let mut deltas = Vec::new(alloc);
     deltas.push(delta(alloc, &[2, 1, 0, 0], &[], &[word], false)?)?;
     deltas.push(delta(alloc, &[0, 0, 0, 0], &[link], &[word], false)?)?;
     let main = body(
         alloc,
+        &[M, I],
         &[
             (0, Op::Delta(1), &[]),
             (1, Op::Load(4), &[out(0, 0), arg(0)]),
@@ -305,14 +324,13 @@ fn globals(alloc: Global) -> Result<Omega, NoMemory> {
         ],
         &[out(6, 0), out(5, 0), arg(1)],
     )?;
-    let mut lambdas = Vec::new(alloc);
-    lambdas.push(lambda(alloc, 0, 0, 0, main)?)?;
-    omega(alloc, lambdas, deltas, &[b"main"])
+    single(alloc, &[], main, deltas)
 }
 
 fn dangling(alloc: Global) -> Result<Omega, NoMemory> {
     let function = body(
         alloc,
+        &[M, I],
         &[
             (0, Op::Local(0), &[]),
             (1, Op::Const(7), &[]),
@@ -322,13 +340,131 @@ fn dangling(alloc: Global) -> Result<Omega, NoMemory> {
     )?;
     let main = body(
         alloc,
+        &[M, I],
         &[
             (0, Op::Apply(0), &[arg(0), arg(1)]),
             (1, Op::Load(4), &[out(0, 0), out(0, 1)]),
         ],
         &[out(1, 0), out(0, 1), out(0, 2)],
     )?;
-    called(alloc, lambda(alloc, 0, 0, 1, function)?, main)
+    called(alloc, lambda(alloc, 0, 0, &[4], function)?, main)
+}
+
+fn cleared(alloc: Global) -> Result<Omega, NoMemory> {
+    let main = body(
+        alloc,
+        &[M, I],
+        &[
+            (0, Op::Clear(0), &[arg(0)]),
+            (1, Op::Local(0), &[]),
+            (2, Op::Const(5), &[]),
+            (3, Op::Store(4), &[out(1, 0), out(2, 0), out(0, 0)]),
+            (4, Op::Const(4), &[]),
+            (5, Op::Bin(Op2::Add), &[out(1, 0), out(4, 0)]),
+            (6, Op::Load(4), &[out(5, 0), out(3, 0)]),
+            (7, Op::Load(4), &[out(1, 0), out(3, 0)]),
+            (8, Op::Bin(Op2::Add), &[out(7, 0), out(6, 0)]),
+        ],
+        &[out(8, 0), out(3, 0), arg(1)],
+    )?;
+    single(alloc, &[8], main, Vec::new(alloc))
+}
+
+fn compared(alloc: Global) -> Result<Omega, NoMemory> {
+    let main = body(
+        alloc,
+        &[M, I],
+        &[
+            (0, Op::Local(0), &[]),
+            (1, Op::Local(1), &[]),
+            (2, Op::PtrEq, &[out(0, 0), out(0, 0), arg(0)]),
+            (3, Op::PtrEq, &[out(0, 0), out(1, 0), arg(0)]),
+            (4, Op::Bin(Op2::Sub), &[out(2, 0), out(3, 0)]),
+        ],
+        &[out(4, 0), arg(0), arg(1)],
+    )?;
+    single(alloc, &[4, 4], main, Vec::new(alloc))
+}
+
+// A region that writes a byte, whose node for it has the number `id`.
+fn writes(alloc: Global, id: u32, byte: u32) -> Result<Region, NoMemory> {
+    let word = id + 1;
+    body(
+        alloc,
+        &[I],
+        &[
+            (word, Op::Const(byte), &[]),
+            (id, Op::Put, &[out(word, 0), arg(0)]),
+        ],
+        &[out(id, 0)],
+    )
+}
+
+fn narrow(alloc: Global) -> Result<Omega, NoMemory> {
+    let mut choice = gamma(
+        alloc,
+        2,
+        &[out(1, 0), arg(1)],
+        writes(alloc, 10, 97)?,
+        writes(alloc, 20, 98)?,
+    )?;
+    choice.regions.push(writes(alloc, 30, 99)?)?;
+    let main = context(
+        alloc,
+        &[M, I],
+        &[
+            (0, Op::Delta(0), &[]),
+            (1, Op::Load(1), &[out(0, 0), arg(0)]),
+        ],
+        choice,
+        &[],
+        &[out(1, 0), arg(0), out(2, 0)],
+    )?;
+    let mut deltas = Vec::new(alloc);
+    deltas.push(delta(alloc, &[200], &[], &[leaf(0, 1)], false)?)?;
+    single(alloc, &[], main, deltas)
+}
+
+fn unset(alloc: Global) -> Result<Omega, NoMemory> {
+    let main = body(
+        alloc,
+        &[M, I],
+        &[
+            (0, Op::Const(65), &[]),
+            (1, Op::Put, &[out(0, 0), arg(1)]),
+            (2, Op::Get, &[out(1, 0)]),
+            (3, Op::Put, &[out(2, 0), out(2, 1)]),
+            (4, Op::Local(0), &[]),
+            (5, Op::Load(4), &[out(4, 0), arg(0)]),
+        ],
+        &[out(5, 0), arg(0), out(3, 0)],
+    )?;
+    single(alloc, &[4], main, Vec::new(alloc))
+}
+
+fn wide(alloc: Global) -> Result<Omega, NoMemory> {
+    let main = body(
+        alloc,
+        &[M, I],
+        &[(0, Op::Const(0), &[])],
+        &[out(0, 0), arg(0), arg(1)],
+    )?;
+    let mut deltas = Vec::new(alloc);
+    let bytes = [0, 0, 0, 0, 1, 0, 0, 0];
+    deltas.push(delta(alloc, &bytes, &[], &[leaf(0, 8)], false)?)?;
+    single(alloc, &[], main, deltas)
+}
+
+// `main` alone, with objects of these sizes and these globals.
+fn single(
+    alloc: Global,
+    objects: &[u32],
+    main: Region,
+    deltas: Vec<Delta>,
+) -> Result<Omega, NoMemory> {
+    let mut lambdas = Vec::new(alloc);
+    lambdas.push(lambda(alloc, 0, 0, objects, main)?)?;
+    omega(alloc, lambdas, deltas, &[b"main"])
 }
 
 pub fn graph(alloc: Global, program: Program) -> Result<Omega, NoMemory> {
@@ -338,5 +474,10 @@ pub fn graph(alloc: Global, program: Program) -> Result<Omega, NoMemory> {
         Program::Parity => parity(alloc),
         Program::Globals => globals(alloc),
         Program::Dangling => dangling(alloc),
+        Program::Cleared => cleared(alloc),
+        Program::Compared => compared(alloc),
+        Program::Narrow => narrow(alloc),
+        Program::Unset => unset(alloc),
+        Program::Wide => wide(alloc),
     }
 }

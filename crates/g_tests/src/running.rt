@@ -1,6 +1,7 @@
 use crate::programs::{Program, graph};
-use g_graph::NoMemory;
-use g_interp::{Answer, Datum, Event, run_lambda, run_program};
+use g_graph::check;
+use g_interp::{Answer, Datum, Event, RunError, run_lambda, run_program};
+use no_memory::NoMemory;
 use std::alloc::Global;
 use std::test::Fail;
 use val_core::Value;
@@ -10,7 +11,7 @@ use val_core::Value;
 enum Shown {
     Exited(&'static [u8], u8),
     Cut(&'static [u8]),
-    Undefined,
+    Undefined(&'static [u8]),
 }
 
 #[derive(Clone, Copy)]
@@ -48,7 +49,9 @@ fn shows(alloc: Global, answer: &Answer, shown: Shown) -> Result<bool, NoMemory>
         (Answer::Cut { events }, Shown::Cut(bytes)) => {
             Ok(wrote(alloc, events)?.as_slice() == bytes)
         }
-        (Answer::Undefined, Shown::Undefined) => Ok(true),
+        (Answer::Undefined { events }, Shown::Undefined(bytes)) => {
+            Ok(wrote(alloc, events)?.as_slice() == bytes)
+        }
         _ => Ok(false),
     }
 }
@@ -75,10 +78,17 @@ fn programs_run(rt: HostRuntime) -> Result<(), Fail> {
         row(Program::Parity, 11, b"", Shown::Exited(b"", 1)),
         row(Program::Parity, 10, b"", Shown::Cut(b"")),
         row(Program::Globals, 0, b"", Shown::Exited(b"", 3)),
-        row(Program::Dangling, 1, b"", Shown::Undefined),
+        row(Program::Dangling, 1, b"", Shown::Undefined(b"")),
+        row(Program::Cleared, 0, b"", Shown::Exited(b"", 5)),
+        row(Program::Compared, 0, b"", Shown::Exited(b"", 1)),
+        row(Program::Narrow, 0, b"", Shown::Exited(b"c", 200)),
+        row(Program::Unset, 0, b"\x07\x08", Shown::Undefined(b"A\x07")),
     ];
     for row in rows {
         let omega = graph(alloc, row.program)?;
+        for lambda in &omega.lambdas {
+            assert!(rt; check(lambda), "{lambda:?}");
+        }
         let answer = run_program(alloc, row.bound, &omega, row.input)?;
         assert!(rt; shows(alloc, &answer, row.shown)?, "{answer:?}");
     }
@@ -110,9 +120,22 @@ fn calls_are_met(rt: HostRuntime) -> Result<(), Fail> {
 }
 
 #[test]
-fn deep_calls_are_refused(rt: HostRuntime) -> Result<(), Fail> {
+fn events_stay_before_what_is_undefined(rt: HostRuntime) -> Result<(), Fail> {
+    let alloc = rt.alloc();
+    let answer = run_program(alloc, 0, &graph(alloc, Program::Unset)?, b"\x07\x08")?;
+    let main = Event::Met(vec![in alloc; 0]?);
+    let events = vec![in alloc; main, Event::Wrote(65), Event::Took(7), Event::Wrote(7)]?;
+    assert_eq!(rt; answer, Answer::Undefined { events });
+    Ok(())
+}
+
+#[test]
+fn runs_without_an_answer_say_why(rt: HostRuntime) -> Result<(), Fail> {
     let alloc = rt.alloc();
     let lambdas = graph(alloc, Program::Parity)?.lambdas;
-    assert!(rt; run_lambda(alloc, 6000, &lambdas, &[], 0, &data_with(alloc, 5000)?).is_err());
+    let deep = run_lambda(alloc, 6000, &lambdas, &[], 0, &data_with(alloc, 5000)?);
+    assert!(rt; matches!(&deep, Err(RunError::TooDeep)), "{deep:?}");
+    let wide = run_program(alloc, 0, &graph(alloc, Program::Wide)?, b"");
+    assert!(rt; matches!(&wide, Err(RunError::NoFirstValue)), "{wide:?}");
     Ok(())
 }

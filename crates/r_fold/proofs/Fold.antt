@@ -7,8 +7,8 @@ use Rattle.val_core.specs.declared.operation.Op1.{Op1}
 use Rattle.val_core.specs.declared.values.Value.{Value}
 use Rattle.val_core.specs.declared.values.Value.TheVariants.{Num}
 use Rattle.val_core.specs.Words.{word1, word2}
-use Rattle.val_core.specs.Values.{value1, value2, IsSound}
-use Rattle.val_core.specs.Answers.{Returned}
+use Rattle.val_core.specs.Values.{value1, value2}
+use Rattle.val_core.specs.Answers.{Returned, on_number}
 use Rattle.val_core.specs.Refinement.{Direction, Forward, Backward, Refines, no_deeper}
 use Rattle.val_core.proofs.lemmas.Words.{gives_word1, gives_word2}
 use Rattle.val_core.proofs.lemmas.Values.{keeps_sound2}
@@ -22,34 +22,35 @@ use Rattle.g_graph.specs.Ids.{nodes_ids}
 use Rattle.g_graph.specs.WellFormed.{distinct}
 use Rattle.g_graph.specs.Replace.{region_redirected, origin_replaced}
 use Rattle.g_graph.specs.Splice.{args_to_inputs, joined_nodes, region_spliced}
-use Rattle.g_mean.specs.Data.{Datum, on_number, val, memory, input as input_left, value_of}
+use Rattle.g_mean.specs.Data.{Datum, val, value_of}
 use Rattle.g_mean.specs.Meaning.{Context, chosen, again, turns, no_outputs, read, nodes_run, region_meaning, meanings}
-use Rattle.g_mean.specs.LessDefined.{Paired, IsSoundDatum, IsLessDefinedDatum}
+use Rattle.g_mean.specs.LessDefined.{Paired, IsLessDefinedDatum}
 use Rattle.g_mean.specs.Refining.{MeaningRefines, ContextRefines}
 use Rattle.g_mean.specs.Copies.{IsClosed}
 use Rattle.g_mean.specs.Edits.{IsPartOf}
 use Rattle.g_mean.specs.Replacement.{IsTwice, Linked, Replaces}
-use Rattle.g_mean.proofs.LocalRefinement.{none-less}
-use Rattle.g_mean.proofs.Kept.{reads-refines}
-use Rattle.g_mean.proofs.LessDefinedLemmas.{less-kept}
-use Rattle.g_mean.proofs.Equal.{no_deeper-compares}
+use Rattle.g_mean.proofs.lemmas.LocalRefinement.{none-less}
+use Rattle.g_mean.proofs.lemmas.Kept.{reads-refines}
+use Rattle.g_mean.proofs.lemmas.LessDefined.{less-kept, value-sound}
+use Rattle.g_mean.proofs.lemmas.Equal.{no_deeper-compares}
 use Rattle.g_graph.specs.Nodes.{node_at, node_set, constant, is_used}
 use Rattle.r_fold.specs.Rule.{is_word, left_neutral, right_neutral, Folded, word, input, replacement, bin_folded, gamma_folded, theta_folded, chosen_region, folding, folded, fold_here}
 use Rattle.g_graph.proofs.lemmas.Splices.{joined_none}
 use Rattle.g_graph.proofs.lemmas.Found.{Found, found_at, constant_small}
-use Rattle.r_fold.proofs.Finding.{constant-holds}
+use Rattle.g_mean.proofs.lemmas.Constants.{constant-holds}
 use Rattle.r_fold.proofs.Neutral.{left-less, right-less}
-use Rattle.r_fold.proofs.Fits.{gamma-fits, theta-fits, inputs-read, regions-closed, inner-unique}
-use Rattle.r_fold.proofs.Law.{input-holds, word-replaces, input-replaces, replacement-replaces}
+use Rattle.g_mean.proofs.lemmas.Inside.{inputs-read, regions-closed, inner-unique}
+use Rattle.r_fold.proofs.Fits.{gamma-fits, theta-fits}
+use Rattle.g_mean.proofs.lemmas.Instead.{input-holds, word-replaces, input-replaces, replacement-replaces}
 use Rattle.val_core.proofs.lemmas.Answers.{then_associates, then_on_given}
-use Rattle.g_mean.proofs.Regions.{region-refines}
-use Rattle.g_mean.proofs.Replacement.{lambdas_keep_meaning}
-use Rattle.g_mean.proofs.Programs.{programs_keep_meaning}
+use Rattle.g_mean.proofs.lemmas.Regions.{region-refines}
+use Rattle.g_mean.proofs.lemmas.Replacement.{lambdas_keep_meaning}
+use Rattle.g_mean.proofs.lemmas.Programs.{programs_keep_meaning}
 use Rattle.r_fold.specs.Laws.{FoldReplaces, FoldKeepsLambdas, FoldKeepsPrograms}
-use Rattle.g_mean.proofs.Calls.{same-itself}
-use Rattle.g_mean.proofs.Bounds.{Never, Always, never-refines}
-use Rattle.g_mean.proofs.Holds.{holds-from}
-use Rattle.g_mean.proofs.Edits.{edits_replace}
+use Rattle.g_mean.proofs.lemmas.Calls.{same-itself}
+use Rattle.g_mean.proofs.lemmas.Bounds.{Never, Always, never-refines}
+use Rattle.g_mean.proofs.lemmas.Holds.{holds-from}
+use Rattle.g_mean.proofs.lemmas.Edits.{edits_replace}
 
 -- ---- what was found
 
@@ -112,11 +113,6 @@ once-refines direction c d context ls ks global linked own ns p gives closed uni
     once-by direction c d context c.bound linked.twice own ns p gives closed unique e us vs pairs
 
 -- ---- a node that folds
-
-value-sound : (x : Datum) → IsSoundDatum x → IsSound (value_of x)
-value-sound (val v) s = s
-value-sound (memory m) s = tt
-value-sound (input_left i) s = tt
 
 module _ (ls ks : List PlainLambda) (l : PlainLambda) (args : List Kind) (before : NodeTrees) (id : ℕ) (after : NodeTrees) (results : List Origin) where
   abbrev context_node : NodeTree → NodeTrees

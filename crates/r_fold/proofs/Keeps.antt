@@ -1,8 +1,8 @@
 -- A folded lambda is well formed.
 use Rattle.std.proofs.Common.{◌≡◌, ℕ, zero, suc, ◌==◌, Bool, true, false, not, ◌&&◌, ◌||◌, List, [], ◌∷◌, ◌++◌, map, length, Option, None, Some, option_map, option_and_then, refl, sym, ap, subst, ◌∙◌, arith}
 use Rattle.std.specs.Prelude.{if◌then◌else◌, slice_get, unwrap_or}
-use Rattle.std.proofs.lemmas.Bool.Decides.{nat_tests}
 use Rattle.std.proofs.lemmas.Option.{same_Some}
+use Rattle.std.proofs.lemmas.Bool.{and_parts}
 use Rattle.val_core.specs.declared.operation.Op2.{Op2}
 use Rattle.val_core.specs.declared.operation.Op1.{Op1}
 use Rattle.val_core.specs.Words.{word1, word2}
@@ -16,13 +16,13 @@ use Rattle.g_graph.specs.Plain.{RegionTree, region, NodeTree, node, NodeTrees, n
 use Rattle.g_graph.specs.Ids.{region_ids, nodes_ids, regions_ids}
 use Rattle.g_graph.specs.Signatures.{first_args, output_kinds}
 use Rattle.g_graph.specs.Scope.{is_of, known}
-use Rattle.g_graph.specs.Change.{has_node, region_changed}
+use Rattle.g_graph.specs.Change.{region_changed}
 use Rattle.g_graph.specs.WellFormed.{all_of, some_of, are, one_state_each, gives, is_last, nodes_fit, results_are_last, returns_state, region_has_one_state_each, region_fits, every_region, every_in_nodes, well_formed, IsWellFormed}
 use Rattle.g_graph.specs.Replace.{nodes_redirected, region_redirected, origin_replaced}
 use Rattle.g_graph.specs.Splice.{args_to_inputs, outputs_to_results, joined_nodes, nodes_spliced, region_spliced}
 use Rattle.g_graph.proofs.lemmas.Redirects.{region_ids-redirected}
 use Rattle.g_graph.proofs.lemmas.Splices.{Split, split_at}
-use Rattle.g_graph.proofs.lemmas.Unique.{same_number, first_true, second_true, times, times_append, times_cons}
+use Rattle.g_graph.proofs.lemmas.Unique.{same_number, times, times_append, times_cons}
 use Rattle.g_graph.proofs.lemmas.Numbers.{Numbered}
 use Rattle.g_graph.proofs.lemmas.Indexes.{same_number_true}
 use Rattle.g_graph.proofs.lemmas.Found.{found_node, node_at-joined}
@@ -99,16 +99,16 @@ tail_inside : (objects : ℕ) (own : List Kind) (ns : NodeTrees) (p : Origin) (o
 tail_inside objects own ns p outs v e =
     let r = region own ns (p ∷ outs) in
     let kinds = map (known own ns) outs in
-    let fits = first_true (region_fits objects r) (every_in_nodes (region_fits objects) ns) e in
-    let nest = second_true (region_fits objects r) (every_in_nodes (region_fits objects) ns) e in
-    let to_io = first_true (nodes_fit objects r && results_are_last r && returns_state Memory r && returns_state Io r) (region_has_one_state_each r) fits in
-    let states = second_true (nodes_fit objects r && results_are_last r && returns_state Memory r && returns_state Io r) (region_has_one_state_each r) fits in
-    let to_memory = first_true (nodes_fit objects r && results_are_last r && returns_state Memory r) (returns_state Io r) to_io in
-    let io = second_true (nodes_fit objects r && results_are_last r && returns_state Memory r) (returns_state Io r) to_io in
-    let to_last = first_true (nodes_fit objects r && results_are_last r) (returns_state Memory r) to_memory in
-    let memory = second_true (nodes_fit objects r && results_are_last r) (returns_state Memory r) to_memory in
-    let fit = first_true (nodes_fit objects r) (results_are_last r) to_last in
-    let last = second_true (is_last own ns p) (all_of (is_last own ns) outs) (second_true (nodes_fit objects r) (results_are_last r) to_last) in
+    let fits = (and_parts (region_fits objects r) (every_in_nodes (region_fits objects) ns) e).0 in
+    let nest = (and_parts (region_fits objects r) (every_in_nodes (region_fits objects) ns) e).1 in
+    let to_io = (and_parts (nodes_fit objects r && results_are_last r && returns_state Memory r && returns_state Io r) (region_has_one_state_each r) fits).0 in
+    let states = (and_parts (nodes_fit objects r && results_are_last r && returns_state Memory r && returns_state Io r) (region_has_one_state_each r) fits).1 in
+    let to_memory = (and_parts (nodes_fit objects r && results_are_last r && returns_state Memory r) (returns_state Io r) to_io).0 in
+    let io = (and_parts (nodes_fit objects r && results_are_last r && returns_state Memory r) (returns_state Io r) to_io).1 in
+    let to_last = (and_parts (nodes_fit objects r && results_are_last r) (returns_state Memory r) to_memory).0 in
+    let memory = (and_parts (nodes_fit objects r && results_are_last r) (returns_state Memory r) to_memory).1 in
+    let fit = (and_parts (nodes_fit objects r) (results_are_last r) to_last).0 in
+    let last = (and_parts (is_last own ns p) (all_of (is_last own ns) outs) (and_parts (nodes_fit objects r) (results_are_last r) to_last).1).1 in
     let memory_now : (not (gives Memory ns) || some_of (is_of Memory) kinds) ≡ true = ap (λ k. not (gives Memory ns) || (is_of Memory k || some_of (is_of Memory) kinds)) (sym v) ∙ memory in
     let io_now : (not (gives Io ns) || some_of (is_of Io) kinds) ≡ true = ap (λ k. not (gives Io ns) || (is_of Io k || some_of (is_of Io) kinds)) (sym v) ∙ io in
     let states_now : (one_state_each (map Some own) && one_state_each kinds) ≡ true = ap (λ k. one_state_each (map Some own) && one_state_each (k ∷ kinds)) (sym v) ∙ states in
@@ -119,9 +119,9 @@ theta_gives : (objects : ℕ) (args : List Kind) (before : NodeTrees) (id : ℕ)
     ReplacementGives objects args before (node id Theta ins (region_then (region own ns (p ∷ outs)) no_regions)) own ns outs ins
 theta_gives objects args before id ins own ns p outs after here =
     let kinds = map (known own ns) outs in
-    let results = first_kind (known own ns p) kinds Value own (first_true (are (known own ns p ∷ kinds) (Value ∷ own)) true here.regions) in
+    let results = first_kind (known own ns p) kinds Value own (and_parts (are (known own ns p ∷ kinds) (Value ∷ own)) true here.regions).0 in
     record {
-      inside = tail_inside objects own ns p outs results.0 (first_true (every_region (region_fits objects) (region own ns (p ∷ outs))) true here.inside);
+      inside = tail_inside objects own ns p outs results.0 (and_parts (every_region (region_fits objects) (region own ns (p ∷ outs))) true here.inside).0;
       entries = here.inputs;
       entries_last = here.last;
       exits = are_kinds kinds own results.1;
@@ -139,7 +139,7 @@ gamma_gives objects args before id p entries rs after here w own ns outs e =
     record {
       inside = chosen_inside (region_fits objects) w rs (region own ns outs) e here.inside;
       entries = ap (are (map (known args before) entries)) kinds.0 ∙ inputs.1;
-      entries_last = second_true (is_last args before p) (all_of (is_last args before) entries) here.last;
+      entries_last = (and_parts (is_last args before p) (all_of (is_last args before) entries) here.last).1;
       exits = kinds.1;
       ids = λ m. omega (arith, chosen_times m w rs (region own ns outs) e, times_cons m id (regions_ids rs));
     }

@@ -20,7 +20,7 @@ use Rattle.g_graph.specs.Program.{KeepsPrograms}
 use Rattle.g_graph.proofs.lemmas.Ops.{redirected_ops, region_spliced_ops, found_ops, set_ops, changed_ops}
 use Rattle.g_graph.proofs.lemmas.Complete.{complete_set, program_set}
 use Rattle.r_fold.specs.Rule.{is_word, left_neutral, right_neutral, Folded, word, input, replacement, bin_folded, gamma_folded, theta_folded, chosen_region, folding, folded, fold_here, fold}
-use Rattle.r_fold.specs.Lists.{FoldKeepsLists}
+use Rattle.r_fold.specs.Laws.{FoldKeepsLists}
 use Rattle.r_fold.proofs.Keeps.{fold_well_formed}
 
 module _ (p : Op → ℕ → Type 0) (consts : (w : ℕ) → p (Const w) 0) where

@@ -1,17 +1,16 @@
 -- A plan for a node says what folding gives, and regions are found by index.
-use Rattle.std.proofs.Common.{◌≡◌, ◌≤◌, ◌<◌, ◌+◌, get_or, ℕ, zero, suc, ◌==◌, Bool, true, false, List, [], ◌∷◌, Option, None, Some, option_map, option_and_then, length, refl, sym, ap, ◌∙◌, arith}
+use Rattle.std.proofs.Common.{◌≡◌, ◌≤◌, ◌<◌, get_or, ℕ, zero, suc, ◌==◌, Bool, true, false, List, [], ◌∷◌, Option, None, Some, option_map, option_and_then, length, refl, sym, ap, ◌∙◌, arith}
 use Rattle.std.proofs.Math.Dec.{eqb-suc-zero, eqb-suc-suc}
-use Rattle.std.specs.Prelude.{is_some, if◌then◌else◌, slice_get, slice_set, ◌-◌}
+use Rattle.std.specs.Prelude.{is_some, if◌then◌else◌, slice_get, ◌-◌}
 use Rattle.g_graph.specs.declared.op.Op.TheVariants.{Const, Undef, Local, Delta, Bin, Un, Load, Store, Clear, PtrEq, Apply, Put, Exit, Get, Gamma, Theta}
 use Rattle.g_graph.specs.declared.op.Origin.{Origin}
-use Rattle.g_graph.specs.Plain.{RegionTree, region, NodeTree, node, NodeTrees, no_nodes, node_then, RegionTrees, no_regions, region_then, nodes_of, regions_of, id_of, nodes_in}
-use Rattle.g_graph.specs.Change.{first_some, node_index}
-use Rattle.g_graph.proofs.lemmas.Splices.{node_index_least}
-use Rattle.g_graph.specs.Nodes.{node_at, node_set, const_word, constant}
+use Rattle.g_graph.specs.Plain.{RegionTree, region, NodeTree, node, NodeTrees, RegionTrees, no_regions, region_then, regions_of, nodes_in}
+use Rattle.g_graph.specs.Change.{first_some}
+use Rattle.g_graph.specs.Nodes.{node_at, constant}
 use Rattle.r_fold.specs.Rule.{is_word, Folded, word, input, replacement, gamma_folded, theta_folded, chosen_region, folding, folded, fold_here}
-use Rattle.r_fold.specs.Plan.{planned, bin_case, un_case, theta_case, plain_case, replacement_case, has_one_turn, carried_out, op_of, op_word}
+use Rattle.r_fold.specs.Plan.{planned, bin_case, un_case, theta_case, plain_case, replacement_case, has_one_turn, carried_out}
 
--- ---- the rows of the rule
+-- ---- the cases of the rule
 
 first_none : {X : Type 0} (a : Option X) → a ≡ first_some a None
 first_none None = refl

@@ -1,4 +1,3 @@
 pub mod Rule
 pub mod Laws
 pub mod Plan
-pub mod Lists

@@ -1,7 +1,6 @@
 //! Folding keeps meaning.
 
-ghost use Rattle.r_fold.specs.Laws.{FoldReplaces, FoldKeepsLambdas, FoldKeepsPrograms};
-ghost use Rattle.r_fold.specs.Lists.{FoldKeepsLists};
+ghost use Rattle.r_fold.specs.Laws.{FoldReplaces, FoldKeepsLambdas, FoldKeepsPrograms, FoldKeepsLists};
 
 /// A folded region of a well-formed lambda may replace it.
 pub fn fold_replaces()

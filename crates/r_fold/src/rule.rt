@@ -5,8 +5,7 @@ ghost use Rattle.g_graph.specs.WellFormed.{IsWellFormed};
 ghost use Rattle.g_graph.specs.Nodes.{node_at};
 ghost use Rattle.g_graph.specs.Program.{KeepsPrograms};
 ghost use Rattle.r_fold.specs.Rule.{folding, folded, fold_here, applies, fold};
-ghost use Rattle.r_fold.specs.Laws.{KeepsMeaning};
-ghost use Rattle.r_fold.specs.Lists.{KeepsLists};
+ghost use Rattle.g_mean.specs.Edits.{KeepsMeaning, KeepsComplete};
 ghost use Rattle.r_fold.specs.Plan.{planned};
 
 use crate::edit::{can_carry_out, carry_out};
@@ -35,7 +34,7 @@ pub fn apply(alloc: Global, lambda: &mut Lambda, node: u32) -> Result<(), NoMemo
     ensures ok { OnOk result (lambda.new ≡ fold node lambda.old) }
     ensures kept { OnOk result (IsWellFormed lambda.new) }
     ensures meaning { OnOk result (KeepsMeaning lambda.old lambda.new) }
-    ensures list { OnOk result (KeepsLists lambda.old lambda.new) }
+    ensures list { OnOk result (KeepsComplete lambda.old lambda.new) }
     ensures program { OnOk result (KeepsPrograms lambda.old lambda.new) }
     ensures err { OnErr result (lambda.new ≡ lambda.old) }
 {

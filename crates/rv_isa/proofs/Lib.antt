@@ -1,4 +1,2 @@
-pub mod Decoded
-pub mod DecodedEncodes
-pub mod EncodedDecodes
-pub mod EncodedFitsWord
+mod Decoded
+pub mod lemmas

@@ -16,7 +16,7 @@ pub data Encoding : Type 0 where
   j_type : (imm rd opcode : ℕ) → Encoding
   fixed_word : (w : ℕ) → Encoding
 
--- the word that has each field at its place
+-- the word with these fields
 abbrev pub packed : Encoding → ℕ
 packed (r_type funct7 rs2 rs1 funct3 rd opcode) =
     funct7 * 2 ^ 25 + rs2 * 2 ^ 20 + rs1 * 2 ^ 15 + funct3 * 2 ^ 12 + rd * 2 ^ 7 + opcode
@@ -49,7 +49,7 @@ IsInRange (u_type imm rd _) = (imm < 2 ^ 20) × (rd < 32)
 IsInRange (j_type imm rd _) = IsSigned 21 imm × (imm % 2 ≡ 0) × (rd < 32)
 IsInRange (fixed_word _) = Unit {0}
 
--- The fields of a word, at the places that the formats share.
+-- The fields of a word, which the formats have in common.
 
 abbrev pub opcode_of : ℕ → ℕ
 opcode_of w = bit_field 6 0 w

@@ -1,4 +1,7 @@
+pub mod Calls
+pub mod Encodings
 pub mod Formats
+pub mod Registers
 pub mod RoundTrip
-pub mod Rows
+pub mod WordParts
 pub mod Words

@@ -1,6 +1,6 @@
 -- Encoding and decoding undo each other.
 use Rattle.std.specs.Prelude.{◌≡◌, ℕ, ◌<◌, ◌^◌, Some, is_some}
-use Rattle.rv_isa.specs.Rows.{decoded, some_row_matches}
+use Rattle.rv_isa.specs.Encodings.{decoded, some_encoding_matches}
 use Rattle.rv_isa.specs.Words.{word_of, FitsFormat}
 use Rattle.rv_isa.specs.declared.instruction.Instr.{Instr}
 
@@ -15,4 +15,4 @@ DecodedEncodes =
     (w : ℕ) (i : Instr) → w < 2 ^ 32 → decoded w ≡ Some i → (word_of i ≡ w) × FitsFormat i
 
 abbrev pub SomeIfMatched : Type 0
-SomeIfMatched = (w : ℕ) → is_some (decoded w) ≡ some_row_matches w
+SomeIfMatched = (w : ℕ) → is_some (decoded w) ≡ some_encoding_matches w

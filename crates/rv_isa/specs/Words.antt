@@ -1,11 +1,11 @@
--- The word of an instruction, by its row of the instruction listings of RV32I and RV32M (RISC-V
+-- The word of an instruction, by its encoding in the instruction listings of RV32I and RV32M (RISC-V
 -- Unprivileged ISA 20191213, chapter 24).
 use Rattle.std.specs.Prelude.{ℕ}
 use Rattle.rv_isa.specs.Formats.{Encoding, r_type, i_type, s_type, b_type, u_type, j_type, fixed_word, packed, IsInRange}
 use Rattle.rv_isa.specs.declared.instruction.Instr.{Instr}
 use Rattle.rv_isa.specs.declared.instruction.Instr.TheVariants.{Lui, Auipc, Jal, Jalr, Beq, Bne, Blt, Bge, Bltu, Bgeu, Lb, Lh, Lw, Lbu, Lhu, Sb, Sh, Sw, Addi, Slti, Sltiu, Xori, Ori, Andi, Slli, Srli, Srai, Add, Sub, Sll, Slt, Sltu, Xor, Srl, Sra, Or, And, Mul, Mulh, Mulhsu, Mulhu, Div, Divu, Rem, Remu, Fence, Ecall, Ebreak}
 
--- a shift amount stands where format R has rs2
+-- a shift amount is in the field of rs2 of format R
 abbrev pub encoding_of : Instr → Encoding
 encoding_of (Lui rd imm) = u_type imm rd 0x37
 encoding_of (Auipc rd imm) = u_type imm rd 0x17

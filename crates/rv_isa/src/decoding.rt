@@ -1,8 +1,8 @@
-#![tactic(auto, unfolding(crate::specs::Rows::decoded))]
+#![tactic(auto, unfolding(crate::specs::Encodings::decoded))]
 
 ghost use Rattle.std.specs.Prelude.{◌≡◌, ◌↔◌, IsNone, IsFalse, IfSome};
 ghost use Rattle.rv_isa.specs.Formats.{opcode_of, funct7_of};
-ghost use Rattle.rv_isa.specs.Rows.{decoded, some_row_matches};
+ghost use Rattle.rv_isa.specs.Encodings.{decoded, some_encoding_matches};
 ghost use Rattle.rv_isa.specs.Words.{word_of};
 
 use crate::fields::{
@@ -13,11 +13,12 @@ use crate::opcodes::{
     AUIPC, BRANCH, EBREAK, ECALL, JAL, JALR, LOAD, LUI, MISC_MEM, OP, OP_IMM, STORE, SYSTEM,
 };
 
-/// The instruction of a word; `None` where the word matches no row of the tables of RV32I and RV32M.
-#[tactic(auto, using(crate::proofs::Decoded::none_if_unmatched), unfolding(crate::specs::Rows::decoded))]
+/// The instruction of a word (RISC-V Unprivileged ISA 20191213, chapter 24); `None` exactly where
+/// the word matches no encoding of RV32I and RV32M.
+#[tactic(auto, using(crate::proofs::Decoded::none_if_unmatched), unfolding(crate::specs::Encodings::decoded))]
 pub fn decode(word: u32) -> Option<Instr>
-    ensures row { result ≡ decoded word }
-    ensures none { IsNone result ↔ IsFalse (some_row_matches word) }
+    ensures value { result ≡ decoded word }
+    ensures none { IsNone result ↔ IsFalse (some_encoding_matches word) }
     ensures encodes { IfSome result (λ i. word_of i ≡ word) }
 {
     match opcode(word) {

@@ -7,7 +7,7 @@ use crate::opcodes::{
     AUIPC, BRANCH, EBREAK, ECALL, JAL, JALR, LOAD, LUI, MISC_MEM, OP, OP_IMM, STORE,
 };
 
-/// The 32-bit word of an instruction.
+/// The 32-bit word of an instruction (RISC-V Unprivileged ISA 20191213, chapter 24).
 #[tactic(auto, unfolding(crate::specs::Words::word_of, crate::specs::Words::FitsFormat))]
 pub fn encode(i: Instr) -> u32
     ensures word { result ≡ word_of i }

@@ -7,6 +7,7 @@ ghost use Rattle.rv_isa.specs.Formats.{packed, IsInRange, r_type as r, i_type as
 use crate::immediates::{BranchOffset, Imm12, JumpOffset, Shamt, Upper};
 use crate::registers::Reg;
 
+/// Format R.
 pub fn r_type(funct7: u32, rs2: Reg, rs1: Reg, funct3: u32, rd: Reg, opcode: u32) -> u32
     requires funct7_fits { funct7 < 128 }
     requires funct3_fits { funct3 < 8 }
@@ -24,7 +25,7 @@ pub fn r_type(funct7: u32, rs2: Reg, rs1: Reg, funct3: u32, rd: Reg, opcode: u32
     )
 }
 
-/// A shift by an immediate: format R with the amount in the place of `rs2`.
+/// A shift by an immediate: format R with the amount in the field of `rs2`.
 pub fn shift_type(funct7: u32, shamt: Shamt, rs1: Reg, funct3: u32, rd: Reg, opcode: u32) -> u32
     requires funct7_fits { funct7 < 128 }
     requires funct3_fits { funct3 < 8 }
@@ -42,6 +43,7 @@ pub fn shift_type(funct7: u32, shamt: Shamt, rs1: Reg, funct3: u32, rd: Reg, opc
     )
 }
 
+/// Format I.
 pub fn i_type(imm: Imm12, rs1: Reg, funct3: u32, rd: Reg, opcode: u32) -> u32
     requires funct3_fits { funct3 < 8 }
     requires opcode_fits { opcode < 128 }
@@ -52,6 +54,7 @@ pub fn i_type(imm: Imm12, rs1: Reg, funct3: u32, rd: Reg, opcode: u32) -> u32
     (imm.word() << 20) + low
 }
 
+/// Format S.
 pub fn s_type(imm: Imm12, rs2: Reg, rs1: Reg, funct3: u32, opcode: u32) -> u32
     requires funct3_fits { funct3 < 8 }
     requires opcode_fits { opcode < 128 }
@@ -65,6 +68,7 @@ pub fn s_type(imm: Imm12, rs2: Reg, rs1: Reg, funct3: u32, opcode: u32) -> u32
     joined(high, rs2.number(), rs1.number(), funct3, low, opcode)
 }
 
+/// Format B.
 pub fn b_type(offset: BranchOffset, rs2: Reg, rs1: Reg, funct3: u32, opcode: u32) -> u32
     requires funct3_fits { funct3 < 8 }
     requires opcode_fits { opcode < 128 }
@@ -78,6 +82,7 @@ pub fn b_type(offset: BranchOffset, rs2: Reg, rs1: Reg, funct3: u32, opcode: u32
     joined(high, rs2.number(), rs1.number(), funct3, low, opcode)
 }
 
+/// Format U.
 pub fn u_type(imm: Upper, rd: Reg, opcode: u32) -> u32
     requires { opcode < 128 }
     ensures word { result ≡ packed (u imm rd opcode) }
@@ -86,6 +91,7 @@ pub fn u_type(imm: Upper, rd: Reg, opcode: u32) -> u32
     (imm.bits() << 12) + (rd.number() << 7) + opcode
 }
 
+/// Format J.
 pub fn j_type(offset: JumpOffset, rd: Reg, opcode: u32) -> u32
     requires { opcode < 128 }
     ensures word { result ≡ packed (j offset rd opcode) }
@@ -98,7 +104,7 @@ pub fn j_type(offset: JumpOffset, rd: Reg, opcode: u32) -> u32
     (high << 21) + (low << 12) + (rd.number() << 7) + opcode
 }
 
-/// The six parts of a word in formats R, S and B, at their places.
+/// The six fields of a word in formats R, S and B.
 fn joined(high: u32, rs2: u32, rs1: u32, funct3: u32, low: u32, opcode: u32) -> u32
     requires high_fits { high < 128 }
     requires rs2_fits { rs2 < 32 }

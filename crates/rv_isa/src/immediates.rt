@@ -19,7 +19,7 @@ impl Model for Imm12 {
 }
 
 impl Imm12 {
-    /// The immediate of this sign-extended word.
+    /// The immediate of this word, which is -2048 to 2047 read as signed.
     pub fn new(word: u32) -> Imm12
         requires { (word + 2048) % 2 ^ 32 < 4096 }
         ensures { result ≡ word }
@@ -148,7 +148,7 @@ impl Model for Upper {
 }
 
 impl Upper {
-    /// The upper part with these 20 bits.
+    /// The upper bits of this number, which is below 2^20.
     pub fn new(bits: u32) -> Upper
         requires { bits < 2 ^ 20 }
         ensures { result ≡ bits }
@@ -163,7 +163,7 @@ impl Upper {
         bits < 1 << 20
     }
 
-    /// The 20 bits, as a number below 2^20; the word that they stand for is this times 4096.
+    /// The 20 bits, as a number below 2^20; as the upper bits of a word they are this times 4096.
     pub fn bits(self) -> u32
         ensures value { result ≡ self }
         ensures range { result < 2 ^ 20 }

@@ -1,9 +1,12 @@
-//! RV32IM instructions: the type `Instr`, `encode` to its 32-bit word, and `decode` back.
-//! The back end and the machine stand on it; it stands on no other crate and takes no memory.
-//! Promise: the word is the instruction's row in the manual's tables, `decode` gives the instruction
-//! of the row that a word matches and `None` exactly where none does, and the two undo each other.
+//! RV32IM instructions: the type `Instr`, `encode` to its 32-bit word, and `decode` back; and what
+//! the back end and the machine share: the registers' names, the numbers of the environment calls,
+//! and a word in two parts. It stands on no other crate and takes no memory.
+//! Promise: the word is the instruction's encoding in the manual's tables, `decode` gives the
+//! instruction of the encoding that a word matches and `None` exactly where none does, and the two
+//! undo each other.
 #![tactic(auto)]
 
+mod calls;
 mod decoding;
 mod encoding;
 mod fields;
@@ -13,11 +16,12 @@ mod instruction;
 pub mod laws;
 mod opcodes;
 mod registers;
-#[cfg(test)]
-mod tests;
+mod word_parts;
 
+pub use calls::{EXIT_CALL, READ_CALL, WRITE_CALL};
 pub use decoding::decode;
 pub use encoding::encode;
 pub use immediates::{BranchOffset, Imm12, JumpOffset, Shamt, Upper};
 pub use instruction::Instr;
 pub use registers::Reg;
+pub use word_parts::{low_part, upper_part};

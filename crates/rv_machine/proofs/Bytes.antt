@@ -10,7 +10,7 @@ written-suc : (bs : List ℕ) (i n k : ℕ) → written bs i n (suc k) ≡ writt
 unfolding written
 written-suc bs i n k = refl
 
--- one more byte on the way to the place `end`
+-- one more byte on the way to the offset `end`
 pub written_more : (bs : List ℕ) (i n end : ℕ) → i < end
     → written bs i n (end - i) ≡ written (set bs i (n % 256)) (i + 1) (n / 256) (end - (i + 1))
 written_more bs i n end below =
@@ -18,7 +18,7 @@ written_more bs i n end below =
     ∙ written-suc bs i n (end - (i + 1))
     ∙ written-same (set bs i (n % 256)) (suc i) (n / 256) (end - (i + 1)) (i + 1) (end - (i + 1)) (omega arith) refl
 
-written-zero : (bs : List ℕ) (i n : ℕ) → written bs i n 0 ≡ bs
+pub written-zero : (bs : List ℕ) (i n : ℕ) → written bs i n 0 ≡ bs
 unfolding written
 written-zero bs i n = refl
 

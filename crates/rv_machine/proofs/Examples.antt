@@ -1,8 +1,8 @@
 -- Small programs, run by evaluation.
 use Rattle.std.proofs.Common.{◌≡◌, [], ◌∷◌, refl}
 use Rattle.elf_file.specs.Loading.{Executable}
-use Rattle.rv_isa.specs.Rows.{decoded}
-use Rattle.rv_machine.specs.Machine.{exit, act, give, call, fetched, next_move}
+use Rattle.rv_isa.specs.Encodings.{decoded}
+use Rattle.rv_machine.specs.Machine.{exit, act, give, call, fetched, next_effect}
 use Rattle.rv_machine.specs.Memory.{load_bytes, allowed, memory_of, flags_of}
 use Rattle.rv_machine.specs.Run.{run_state, run, executed, standing, ended}
 
@@ -19,5 +19,5 @@ exit_42 = record {
 }
 
 exits_after_three : executed 3 exit_42 [] ≡ standing (ended (exit 42)) []
-unfolding exit_42 executed run run_state next_move fetched act give call decoded load_bytes allowed memory_of flags_of
+unfolding exit_42 executed run run_state next_effect fetched act give call decoded load_bytes allowed memory_of flags_of
 exits_after_three = refl

@@ -6,13 +6,13 @@ use Rattle.elf_file.specs.Segments.{AreApart}
 use Rattle.rv_machine.specs.declared.block.Block.{Block}
 use Rattle.rv_machine.specs.declared.memory.Memory.{Memory}
 use Rattle.rv_machine.specs.Block.{segment_of, outline_of}
-use Rattle.rv_machine.specs.Blocks.{IsPart, IsAbsent, IsOutside}
+use Rattle.rv_machine.specs.Blocks.{IsBlockAt, IsAbsent, IsOutside}
 use Rattle.rv_machine.specs.Memory.{holds}
 use Rattle.rv_machine.proofs.Lookups.{IsAt, NoneHolds, is_at, holds-above, holds-below, holds-true, memory_at, flags_at, flags_absent, bytes_absent}
 
-pub part_of : (m : Memory) (address k : ℕ) (b : Block) → AllPairs AreApart (map outline_of m.blocks.items)
-    → k < length m.blocks.items → get_or m.blocks.items k b ≡ b → holds (segment_of b) address ≡ true → IsPart m address b
-part_of m address k b apart within is h =
+pub block_of : (m : Memory) (address k : ℕ) (b : Block) → AllPairs AreApart (map outline_of m.blocks.items)
+    → k < length m.blocks.items → get_or m.blocks.items k b ≡ b → holds (segment_of b) address ≡ true → IsBlockAt m address b
+block_of m address k b apart within is h =
     let at : IsAt (map segment_of m.blocks.items) k (segment_of b) = is_at m.blocks.items k b apart within is in
     record {
       above = holds-above (segment_of b) address h;

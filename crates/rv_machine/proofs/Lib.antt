@@ -1,15 +1,12 @@
-pub mod Access
-pub mod Bytes
+mod Access
+mod Bytes
 mod Examples
-pub mod Found
-pub mod Loads
-pub mod Lookups
-pub mod Parts
-pub mod Ports
-pub mod Reached
-pub mod RunLaws
-pub mod Stopped
-pub mod Stores
-pub mod Texts
-pub mod Unwritable
-pub mod Writes
+mod Found
+mod HeldBlocks
+pub mod lemmas
+mod Loads
+mod Lookups
+mod Ports
+mod Reached
+mod Stopped
+mod Writes

@@ -125,10 +125,6 @@ at-set ss k s bytes at = record {
       rw (get_or-set_other ss k j (with_bytes s bytes) d (omega arith)) (at.before j x d below h);
 }
 
-written-zero : (bs : List ℕ) (i n : ℕ) → written bs i n 0 ≡ bs
-unfolding written
-written-zero bs i n = refl
-
 -- several bytes are written in a segment
 pub memory-written : (ss : List LoadedSegment) (k : ℕ) (s : LoadedSegment) (a n w : ℕ) → IsAt ss k s → length s.bytes ≡ s.size
     → s.at ≤ a → a + w ≤ s.at + s.size

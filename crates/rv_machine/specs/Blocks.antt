@@ -31,8 +31,8 @@ HoldsAt xs address k =
 abbrev pub EndsWithin : List Block → ℕ → ℕ → Type 0
 EndsWithin xs end k = (d : Block) → end ≤ (slice_index_or xs k d).at + vec_len (slice_index_or xs k d).bytes
 
--- the block has the address, and a memory's bytes and flags are those of the block at each of its addresses
-pub record IsPart (m : Memory) (address : ℕ) (b : Block) : Type 0 where
+-- the block has the address, and the memory's bytes and flags are those of the block at each of its addresses
+pub record IsBlockAt (m : Memory) (address : ℕ) (b : Block) : Type 0 where
   pub above : b.at ≤ address
   pub below : address < b.at + vec_len b.bytes
   pub bytes : (x : ℕ) → b.at ≤ x → x < b.at + vec_len b.bytes → bytes_of m x ≡ slice_index b.bytes.items (x - b.at)

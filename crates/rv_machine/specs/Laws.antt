@@ -1,13 +1,13 @@
 -- Laws of runs.
 use Rattle.std.specs.Prelude.{◌≡◌, ℕ, suc, ◌+◌, ◌≤◌, List, [], ◌∷◌, ◌++◌, Option, Some, None}
-use Rattle.rv_isa.specs.Rows.{decoded}
+use Rattle.rv_isa.specs.Encodings.{decoded}
 use Rattle.rv_isa.specs.declared.instruction.Instr.{Instr}
 use Rattle.rv_machine.specs.Machine.{State, Ending, act, fetched, next, put, get, stop}
-use Rattle.rv_machine.specs.Run.{Hart, running, ended, Outcome, standing, behind, run}
+use Rattle.rv_machine.specs.Run.{Hart, running, ended, RunResult, standing, after_output, run}
 
--- what follows an outcome in this many further instructions
-abbrev pub then_run : (flags : ℕ → ℕ) → ℕ → Outcome → Outcome
-then_run flags m o = behind o.output (run flags m o.hart o.rest)
+-- what follows a result in this many further instructions
+abbrev pub then_run : (flags : ℕ → ℕ) → ℕ → RunResult → RunResult
+then_run flags m o = after_output o.output (run flags m o.hart o.rest)
 
 -- n + m instructions are n instructions and then m.
 abbrev pub RunsAdd : Type 0
@@ -28,26 +28,26 @@ abbrev pub InputShrinks : Type 0
 InputShrinks = (flags : ℕ → ℕ) (n m : ℕ) (h : Hart) (input : List ℕ) → n ≤ m
     → (taken : List ℕ) × ((run flags n h input).rest ≡ taken ++ (run flags m h input).rest)
 
--- n instructions lead from a state and its input to another with its own, and write these bytes
-pub record Leads (flags : ℕ → ℕ) (n : ℕ) (s : State) (input : List ℕ) (written : List ℕ) (t : State) (rest : List ℕ) : Type 0 where
+-- n instructions reach from a state and its input another state and its input, and write these bytes
+pub record Reaches (flags : ℕ → ℕ) (n : ℕ) (s : State) (input : List ℕ) (written : List ℕ) (t : State) (rest : List ℕ) : Type 0 where
   pub to : run flags n (running s) input ≡ record { hart = running t; output = written; rest = rest }
 
--- The rest of a run is the run from where it was led to.
-abbrev pub LedRunGoesOn : Type 0
-LedRunGoesOn = (flags : ℕ → ℕ) (n k : ℕ) (s t : State) (input written rest : List ℕ)
-    → Leads flags n s input written t rest
-    → run flags (n + k) (running s) input ≡ behind written (run flags k (running t) rest)
+-- The rest of a run is the run from the state that was reached.
+abbrev pub RunGoesOn : Type 0
+RunGoesOn = (flags : ℕ → ℕ) (n k : ℕ) (s t : State) (input written rest : List ℕ)
+    → Reaches flags n s input written t rest
+    → run flags (n + k) (running s) input ≡ after_output written (run flags k (running t) rest)
 
-abbrev pub LeadsOnwards : Type 0
-LeadsOnwards = (flags : ℕ → ℕ) (n m : ℕ) (s t u : State) (input written rest more rest' : List ℕ)
-    → Leads flags n s input written t rest → Leads flags m t rest more u rest'
-    → Leads flags (n + m) s input (written ++ more) u rest'
+abbrev pub ReachesOnwards : Type 0
+ReachesOnwards = (flags : ℕ → ℕ) (n m : ℕ) (s t u : State) (input written rest more rest' : List ℕ)
+    → Reaches flags n s input written t rest → Reaches flags m t rest more u rest'
+    → Reaches flags (n + m) s input (written ++ more) u rest'
 
 -- One step forward: the word at pc, the instruction that it is, and what that does.
-abbrev pub StepLeads : Type 0
-StepLeads = (flags : ℕ → ℕ) (s t : State) (w : ℕ) (i : Instr) (input : List ℕ)
+abbrev pub StepReaches : Type 0
+StepReaches = (flags : ℕ → ℕ) (s t : State) (w : ℕ) (i : Instr) (input : List ℕ)
     → fetched flags s ≡ Some w → decoded w ≡ Some i → act flags i s ≡ next t
-    → Leads flags 1 s input [] t input
+    → Reaches flags 1 s input [] t input
 
 abbrev pub StepEnds : Type 0
 StepEnds = (flags : ℕ → ℕ) (n : ℕ) (s : State) (w : ℕ) (i : Instr) (e : Ending) (input : List ℕ)
@@ -57,14 +57,14 @@ StepEnds = (flags : ℕ → ℕ) (n : ℕ) (s : State) (w : ℕ) (i : Instr) (e 
 abbrev pub StepWrites : Type 0
 StepWrites = (flags : ℕ → ℕ) (s t : State) (w : ℕ) (i : Instr) (byte : ℕ) (input : List ℕ)
     → fetched flags s ≡ Some w → decoded w ≡ Some i → act flags i s ≡ put byte t
-    → Leads flags 1 s input (byte ∷ []) t input
+    → Reaches flags 1 s input (byte ∷ []) t input
 
 abbrev pub StepReads : Type 0
 StepReads = (flags : ℕ → ℕ) (s : State) (w : ℕ) (i : Instr) (received : Option ℕ → State) (byte : ℕ) (input : List ℕ)
     → fetched flags s ≡ Some w → decoded w ≡ Some i → act flags i s ≡ get received
-    → Leads flags 1 s (byte ∷ input) [] (received (Some byte)) input
+    → Reaches flags 1 s (byte ∷ input) [] (received (Some byte)) input
 
 abbrev pub StepReadsEnd : Type 0
 StepReadsEnd = (flags : ℕ → ℕ) (s : State) (w : ℕ) (i : Instr) (received : Option ℕ → State)
     → fetched flags s ≡ Some w → decoded w ≡ Some i → act flags i s ≡ get received
-    → Leads flags 1 s [] [] (received None) []
+    → Reaches flags 1 s [] [] (received None) []

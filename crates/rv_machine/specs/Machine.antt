@@ -1,8 +1,10 @@
 -- One instruction of RV32IM on a machine whose memory has flags (RISC-V Unprivileged ISA 20191213, chapters 2, 7
 -- and 24), with the environment calls write, read and exit.
 use Rattle.std.specs.Prelude.{ℕ, ◌+◌, ◌-◌, ◌*◌, ◌%◌, ◌^◌, ◌==◌, Bool, not, ◌&&◌, if◌then◌else◌, Option, Some, None}
+use Rattle.rv_isa.specs.Calls.{exit_call, read_call, write_call}
 use Rattle.rv_isa.specs.Formats.{sign_extended}
-use Rattle.rv_isa.specs.Rows.{decoded}
+use Rattle.rv_isa.specs.Registers.{a0, a1, a2, a7}
+use Rattle.rv_isa.specs.Encodings.{decoded}
 use Rattle.rv_isa.specs.declared.instruction.Instr.{Instr}
 use Rattle.rv_isa.specs.declared.instruction.Instr.TheVariants.{Lui, Auipc, Jal, Jalr, Beq, Bne, Blt, Bge, Bltu, Bgeu, Lb, Lh, Lw, Lbu, Lhu, Sb, Sh, Sw, Addi, Slti, Sltiu, Xori, Ori, Andi, Slli, Srli, Srai, Add, Sub, Sll, Slt, Sltu, Xor, Srl, Sra, Or, And, Mul, Mulh, Mulhsu, Mulhu, Div, Divu, Rem, Remu, Fence, Ecall, Ebreak}
 use Rattle.rv_machine.specs.Memory.{Bytes, put_at, load_bytes, store_bytes, allowed, to_read, to_write, to_execute}
@@ -36,13 +38,13 @@ misaligned = 4
 abbrev pub no_call : ℕ
 no_call = 5
 
--- What an instruction does: it goes on, ends the run, writes a byte, or asks for the next byte of the input,
+-- The effect of an instruction: it goes on, ends the run, writes a byte, or asks for the next byte of the input,
 -- which is missing at its end.
-pub data Move : Type 0 where
-  next : (state : State) → Move
-  stop : (ending : Ending) → Move
-  put : (byte : ℕ) (state : State) → Move
-  get : (received : Option ℕ → State) → Move
+pub data Effect : Type 0 where
+  next : (state : State) → Effect
+  stop : (ending : Ending) → Effect
+  put : (byte : ℕ) (state : State) → Effect
+  get : (received : Option ℕ → State) → Effect
 
 -- x0 is 0
 abbrev pub look : (regs : ℕ → ℕ) → ℕ → ℕ
@@ -66,18 +68,18 @@ go_on s = record { pc = after s.pc; regs = s.regs; mem = s.mem }
 unfoldable pub give : State → (rd n : ℕ) → State
 give s rd n = record { pc = after s.pc; regs = set_register s.regs rd n; mem = s.mem }
 
-abbrev pub register_op : (ℕ → ℕ → ℕ) → (rd rs1 rs2 : ℕ) → State → Move
+abbrev pub register_op : (ℕ → ℕ → ℕ) → (rd rs1 rs2 : ℕ) → State → Effect
 register_op op rd rs1 rs2 s = next (give s rd (op (look s.regs rs1) (look s.regs rs2)))
 
-abbrev pub immediate_op : (ℕ → ℕ → ℕ) → (rd rs1 imm : ℕ) → State → Move
+abbrev pub immediate_op : (ℕ → ℕ → ℕ) → (rd rs1 imm : ℕ) → State → Effect
 immediate_op op rd rs1 imm s = next (give s rd (op (look s.regs rs1) imm))
 
 -- to a target, with the address of the next instruction in a register
-unfoldable pub jump : (rd target : ℕ) → State → Move
+unfoldable pub jump : (rd target : ℕ) → State → Effect
 jump rd target s =
     next (record { pc = target; regs = set_register s.regs rd (after s.pc); mem = s.mem })
 
-abbrev pub branch : (ℕ → ℕ → Bool) → (rs1 rs2 distance : ℕ) → State → Move
+abbrev pub branch : (ℕ → ℕ → Bool) → (rs1 rs2 distance : ℕ) → State → Effect
 branch test rs1 rs2 distance s =
     next (record {
       pc = if test (look s.regs rs1) (look s.regs rs2) then offset s.pc distance else after s.pc;
@@ -86,19 +88,19 @@ branch test rs1 rs2 distance s =
     })
 
 -- An access to memory: the address is a multiple of the width, and each byte has the flag.
-abbrev pub access : (flags : ℕ → ℕ) (flag width address : ℕ) → State → Move → Move
-access flags flag width address s move =
+abbrev pub access : (flags : ℕ → ℕ) (flag width address : ℕ) → State → Effect → Effect
+access flags flag width address s effect =
     if not (address % width == 0) then stop (stuck s.pc misaligned)
     else if not (allowed flags flag address width) then stop (stuck s.pc no_access)
-    else move
+    else effect
 
-abbrev pub load : (flags : ℕ → ℕ) (width : ℕ) → (ℕ → ℕ) → (rd rs1 distance : ℕ) → State → Move
+abbrev pub load : (flags : ℕ → ℕ) (width : ℕ) → (ℕ → ℕ) → (rd rs1 distance : ℕ) → State → Effect
 load flags width extended rd rs1 distance s =
     let address = offset (look s.regs rs1) distance in
     access flags to_read width address s
     (next (give s rd (extended (load_bytes s.mem address width))))
 
-abbrev pub store : (flags : ℕ → ℕ) (width rs1 rs2 distance : ℕ) → State → Move
+abbrev pub store : (flags : ℕ → ℕ) (width rs1 rs2 distance : ℕ) → State → Effect
 store flags width rs1 rs2 distance s =
     let address = offset (look s.regs rs1) distance in
     access flags to_write width address s
@@ -107,20 +109,6 @@ store flags width rs1 rs2 distance s =
       regs = s.regs;
       mem = store_bytes s.mem address (look s.regs rs2) width;
     }))
-
--- The registers of an environment call.
-
-abbrev pub a0 : ℕ
-a0 = 10
-
-abbrev pub a1 : ℕ
-a1 = 11
-
-abbrev pub a2 : ℕ
-a2 = 12
-
-abbrev pub a7 : ℕ
-a7 = 17
 
 -- the call is done, and a0 has its answer
 abbrev pub answer : State → ℕ → State
@@ -132,19 +120,19 @@ received s None = answer s 0
 received s (Some byte) =
     answer (record { pc = s.pc; regs = s.regs; mem = put_at s.mem (s.regs a1) byte }) 1
 
--- a7 has the call, and a0, a1 and a2 have its arguments: exit (93) of a status, write (64) of one byte to the
--- standard output (1), and read (63) of one byte from the standard input (0)
-unfoldable pub call : (flags : ℕ → ℕ) → State → Move
+-- a7 has the number of the call, and a0, a1 and a2 have its arguments: exit with a status, write of one byte to the
+-- standard output (1), and read of one byte from the standard input (0)
+unfoldable pub call : (flags : ℕ → ℕ) → State → Effect
 call flags s =
-    if s.regs a7 == 93 then stop (exit (s.regs a0 % 256))
-    else if s.regs a7 == 64 && s.regs a0 == 1 && s.regs a2 == 1 then
+    if s.regs a7 == exit_call then stop (exit (s.regs a0 % 256))
+    else if s.regs a7 == write_call && s.regs a0 == 1 && s.regs a2 == 1 then
     access flags to_read 1 (s.regs a1) s (put (s.mem (s.regs a1)) (answer s 1))
-    else if s.regs a7 == 63 && s.regs a0 == 0 && s.regs a2 == 1 then
+    else if s.regs a7 == read_call && s.regs a0 == 0 && s.regs a2 == 1 then
     access flags to_write 1 (s.regs a1) s (get (received s))
     else stop (stuck s.pc no_call)
 
 -- what each instruction does
-unfoldable pub act : (flags : ℕ → ℕ) → Instr → State → Move
+unfoldable pub act : (flags : ℕ → ℕ) → Instr → State → Effect
 act flags (Lui rd imm) s = next (give s rd (imm * 2 ^ 12))
 act flags (Auipc rd imm) s = next (give s rd (offset s.pc (imm * 2 ^ 12)))
 act flags (Jal rd distance) s = jump rd (offset s.pc distance) s
@@ -201,14 +189,14 @@ unfoldable pub fetched : (flags : ℕ → ℕ) → State → Option ℕ
 fetched flags s =
     if s.pc % 4 == 0 && allowed flags to_execute s.pc 4 then Some (load_bytes s.mem s.pc 4) else None
 
-abbrev pub act_decoded : (flags : ℕ → ℕ) → Option Instr → State → Move
+abbrev pub act_decoded : (flags : ℕ → ℕ) → Option Instr → State → Effect
 act_decoded flags None s = stop (stuck s.pc no_instruction)
 act_decoded flags (Some i) s = act flags i s
 
-abbrev pub act_fetched : (flags : ℕ → ℕ) → Option ℕ → State → Move
+abbrev pub act_fetched : (flags : ℕ → ℕ) → Option ℕ → State → Effect
 act_fetched flags None s = stop (stuck s.pc bad_pc)
 act_fetched flags (Some w) s = act_decoded flags (decoded w) s
 
 -- what the instruction at pc does
-unfoldable pub next_move : (flags : ℕ → ℕ) → State → Move
-next_move flags s = act_fetched flags (fetched flags s) s
+unfoldable pub next_effect : (flags : ℕ → ℕ) → State → Effect
+next_effect flags s = act_fetched flags (fetched flags s) s

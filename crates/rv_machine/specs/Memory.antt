@@ -1,11 +1,11 @@
--- Memory by bytes: what stands at each address, and what is allowed there.
+-- Memory by bytes: the byte at each address, and what is allowed there.
 use Rattle.std.specs.Prelude.{◌≡◌, ◌⊎◌, ℕ, zero, suc, ◌+◌, ◌-◌, ◌*◌, ◌/◌, ◌%◌, ◌==◌, nat_le, nat_lt, not, Bool, true, ◌&&◌, if◌then◌else◌, List, [], ◌∷◌, slice_index, slice_set, bit_and}
 use Rattle.elf_file.specs.Loading.{LoadedSegment}
 
 abbrev pub Bytes : Type 0
 Bytes = ℕ → ℕ
 
--- the map with this number at a place, and all else as it was
+-- the map with this number at one argument, and all else as it was
 abbrev pub put_at : (ℕ → ℕ) → ℕ → ℕ → (ℕ → ℕ)
 put_at map at n = λ x. if x == at then n else map x
 
@@ -29,7 +29,7 @@ number (byte ∷ bytes) = byte + 256 * number bytes
 abbrev pub IsWidth : ℕ → Type 0
 IsWidth n = (n ≡ 1) ⊎ (n ≡ 2) ⊎ (n ≡ 4)
 
--- the bytes with the low bytes of a number from a place on
+-- the bytes with the low bytes of a number from an offset on
 unfoldable pub written : List ℕ → ℕ → ℕ → ℕ → List ℕ
 written bytes at n zero = bytes
 written bytes at n (suc k) = written (slice_set bytes at (n % 256)) (suc at) (n / 256) k

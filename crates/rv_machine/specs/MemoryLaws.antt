@@ -1,7 +1,7 @@
--- Laws of memory, and of words in two parts.
-use Rattle.std.specs.Prelude.{◌≡◌, ◌⊎◌, ℕ, ◌+◌, ◌-◌, ◌*◌, ◌/◌, ◌%◌, ◌^◌, ◌<◌, ◌≤◌, nat_lt, if◌then◌else◌, false, List}
-use Rattle.rv_machine.specs.Laws.{Leads}
-use Rattle.rv_machine.specs.Machine.{State, offset, fetched}
+-- Laws of memory.
+use Rattle.std.specs.Prelude.{◌≡◌, ◌⊎◌, ℕ, ◌+◌, ◌*◌, ◌%◌, ◌^◌, ◌<◌, ◌≤◌, false, List}
+use Rattle.rv_machine.specs.Laws.{Reaches}
+use Rattle.rv_machine.specs.Machine.{State, fetched}
 use Rattle.rv_machine.specs.Memory.{Bytes, load_bytes, store_bytes, has_flag, to_write}
 
 -- The bytes that were stored are loaded again.
@@ -24,32 +24,17 @@ LoadElsewhere = (mem : Bytes) (a n k b j : ℕ) → AreDisjoint b j a k
 -- Where memory may not be written, a run leaves it.
 abbrev pub UnwritableStays : Type 0
 UnwritableStays = (flags : ℕ → ℕ) (n : ℕ) (s t : State) (input written rest : List ℕ)
-    → Leads flags n s input written t rest → (x : ℕ) → has_flag (flags x) to_write ≡ false → t.mem x ≡ s.mem x
+    → Reaches flags n s input written t rest → (x : ℕ) → has_flag (flags x) to_write ≡ false → t.mem x ≡ s.mem x
 
 abbrev pub UnwritableLoadStays : Type 0
 UnwritableLoadStays = (flags : ℕ → ℕ) (n : ℕ) (s t : State) (input written rest : List ℕ)
-    → Leads flags n s input written t rest
+    → Reaches flags n s input written t rest
     → (a k : ℕ) → ((j : ℕ) → j < k → has_flag (flags (a + j)) to_write ≡ false)
     → load_bytes t.mem a k ≡ load_bytes s.mem a k
 
 -- So the same word is fetched from there after a run as before it.
 abbrev pub FetchStays : Type 0
 FetchStays = (flags : ℕ → ℕ) (n : ℕ) (s t : State) (input written rest : List ℕ)
-    → Leads flags n s input written t rest
+    → Reaches flags n s input written t rest
     → ((j : ℕ) → j < 4 → has_flag (flags (t.pc + j)) to_write ≡ false)
     → fetched flags t ≡ fetched flags (record { pc = t.pc; regs = s.regs; mem = s.mem })
-
--- A word is its upper part times 4096 plus its low part, which is sign-extended, so the upper part rounds.
-abbrev pub upper_part : ℕ → ℕ
-upper_part v = (v + 0x800) % 2 ^ 32 / 2 ^ 12
-
-abbrev pub low_part : ℕ → ℕ
-low_part v = if nat_lt (v % 2 ^ 12) 0x800 then v % 2 ^ 12 else v % 2 ^ 12 + (2 ^ 32 - 2 ^ 12)
-
--- lui, or auipc at an address, and then the low part.
-abbrev pub PartsMakeWord : Type 0
-PartsMakeWord = (v : ℕ) → v < 2 ^ 32 → offset (upper_part v * 2 ^ 12) (low_part v) ≡ v
-
-abbrev pub PartsMakeOffset : Type 0
-PartsMakeOffset = (address v : ℕ) → v < 2 ^ 32
-    → offset (offset address (upper_part v * 2 ^ 12)) (low_part v) ≡ offset address v

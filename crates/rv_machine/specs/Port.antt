@@ -2,7 +2,7 @@
 use Rattle.std.specs.Prelude.{◌≡◌, ℕ, Bool, true, false, List, [], ◌∷◌, Option, Some, None}
 use Rattle.cc_io.specs.Sink.{append}
 use Rattle.cc_io.specs.Source.{prepend, IsAtEnd}
-use Rattle.rv_machine.specs.Machine.{Move, next, stop, put, get}
+use Rattle.rv_machine.specs.Machine.{Effect, next, stop, put, get}
 use Rattle.rv_machine.specs.Run.{Hart, running}
 
 -- what the output holds, what the input has left, and whether its end was met
@@ -17,7 +17,7 @@ IsReceived (Some byte) before after =
 IsReceived None before after = (after.left ≡ before.left) × IsAtEnd after.left × (after.closed ≡ true)
 
 -- as `IsDone`
-abbrev pub IsDoneAt : Move → Hart → (before after : Port) → Type 0
+abbrev pub IsDoneAt : Effect → Hart → (before after : Port) → Type 0
 IsDoneAt (next s) h before after = (h ≡ running s) × (after ≡ before)
 IsDoneAt (stop e) h before after = ⊥
 IsDoneAt (put byte s) h before after =

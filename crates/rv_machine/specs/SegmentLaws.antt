@@ -3,18 +3,18 @@ use Rattle.std.specs.Prelude.{◌≡◌, ℕ, ◌+◌, ◌-◌, ◌%◌, ◌^◌
 use Rattle.std.specs.Int.{w32, to_le_bytes}
 use Rattle.elf_file.specs.Loading.{LoadedSegment, Executable}
 use Rattle.elf_file.specs.Segments.{AreSound, HasAddress}
-use Rattle.rv_machine.specs.Laws.{Leads}
+use Rattle.rv_machine.specs.Laws.{Reaches}
 use Rattle.rv_machine.specs.Machine.{State, fetched}
 use Rattle.rv_machine.specs.Memory.{Bytes, number, load_bytes, allowed, has_flag, memory_of, flags_of, to_write, to_execute}
 use Rattle.rv_machine.specs.Run.{start}
 
--- At each address of a segment stand its byte and its flags.
+-- Memory has at each address of a segment the byte and the flags of the segment.
 abbrev pub SegmentIsInMemory : Type 0
 SegmentIsInMemory = (segments : List LoadedSegment) (k : ℕ) (s : LoadedSegment) (x : ℕ)
     → AreSound segments → slice_get segments k ≡ Some s → HasAddress s x
     → (memory_of segments x ≡ slice_index s.bytes (x - s.at)) × (flags_of segments x ≡ s.flags)
 
--- Bytes that stand one after another are loaded as their number.
+-- Consecutive bytes are loaded as the number that they make.
 abbrev pub BytesAreLoaded : Type 0
 BytesAreLoaded = (mem : Bytes) (address k : ℕ) (bytes : List ℕ) → k ≤ length bytes
     → ((j : ℕ) → j < k → mem (address + j) ≡ slice_index bytes j)
@@ -44,6 +44,6 @@ pub record IsInText (s : LoadedSegment) (pc : ℕ) : Type 0 where
 abbrev pub TextIsFetched : Type 0
 TextIsFetched = (e : Executable) (k : ℕ) (s : LoadedSegment) (n : ℕ) (t : State) (input written rest : List ℕ)
     → AreSound e.segments → slice_get e.segments k ≡ Some s → has_flag s.flags to_write ≡ false
-    → Leads (flags_of e.segments) n (start e) input written t rest
+    → Reaches (flags_of e.segments) n (start e) input written t rest
     → IsInText s t.pc
     → fetched (flags_of e.segments) t ≡ Some (number (take 4 (drop (t.pc - s.at) s.bytes)))

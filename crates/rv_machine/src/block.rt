@@ -4,7 +4,8 @@ ghost use Rattle.rv_machine.specs.Memory.{number, IsWidth};
 use elf_file::Segment;
 use std::alloc::{AllocError, Global};
 
-/// A segment in memory: its bytes from the address `at` on. `flags` has 4 to read, 2 to write and 1 to execute.
+/// A segment in memory: its bytes from the address `at` on. `flags` has the bits 4 to read, 2 to
+/// write and 1 to execute.
 #[derive(Drop)]
 pub(crate) struct Block {
     pub(crate) at: u32,
@@ -57,7 +58,7 @@ impl Block {
         &self.bytes[(address - self.at) as usize..]
     }
 
-    /// Writes the low `width` bytes of a word, the lowest first, from the place `at` on.
+    /// Writes the low `width` bytes of a word, the lowest first, from the offset `at` on.
     #[inline(always)]
     pub(crate) fn write(&mut self, at: usize, word: u32, width: usize)
         requires { at + width ≤ vec_len self.old.bytes }

@@ -1,29 +1,25 @@
 //! One instruction.
 
 ghost use Rattle.std.specs.Prelude.{◌≡◌};
-ghost use Rattle.rv_machine.specs.Machine.{act, call, next_move};
-ghost use Rattle.rv_machine.specs.View.{state_of, flags_in, Keeps, HasDone};
+ghost use Rattle.rv_machine.specs.Machine.{act, call, next_effect};
+ghost use Rattle.rv_machine.specs.View.{state_of, flags_in, OnlyStateChanges, HasDone};
 
-use crate::machine::{BAD_PC, Effect, Machine, NO_ACCESS, NO_CALL, NO_INSTRUCTION};
+use crate::machine::{BAD_PC, Machine, NO_ACCESS, NO_CALL, NO_INSTRUCTION, Progress};
 use crate::memory::{READ, WRITE};
 use crate::stop::Ending;
 use crate::words::{
     div, divu, is_less, mulh, mulhsu, mulhu, rem, remu, sign_extended_byte, sign_extended_half, sra,
 };
-use rv_isa::{Instr, Reg, decode};
-
-const EXIT: u32 = 93;
-
-const PUT: u32 = 64;
-
-const GET: u32 = 63;
+use rv_isa::{EXIT_CALL, Instr, READ_CALL, Reg, WRITE_CALL, decode};
 
 impl Machine {
     /// Does the instruction at pc, but for what it writes or reads.
-    #[tactic(auto, unfolding(crate::specs::Machine::next_move))]
-    pub(crate) fn advance(&mut self) -> Result<Effect, Ending>
-        ensures done { HasDone (flags_in self.old) (next_move (flags_in self.old) (state_of self.old)) (state_of self.old) (state_of self.new) result }
-        ensures keeps { Keeps self.old self.new }
+    #[tactic(auto, unfolding(crate::specs::Machine::next_effect))]
+    pub(crate) fn advance(&mut self) -> Result<Progress, Ending>
+        ensures done { HasDone (flags_in self.old)
+            (next_effect (flags_in self.old) (state_of self.old)) (state_of self.old)
+            (state_of self.new) result }
+        ensures keeps { OnlyStateChanges self.old self.new }
     {
         let word = self.fetch().ok_or(self.stuck(BAD_PC))?;
         let instruction = decode(word).ok_or(self.stuck(NO_INSTRUCTION))?;
@@ -32,26 +28,29 @@ impl Machine {
 
     /// Asks for the environment call that a7 names.
     #[tactic(auto, unfolding(crate::specs::Machine::call))]
-    fn call(&self) -> Result<Effect, Ending>
-        ensures { HasDone (flags_in self.now) (call (flags_in self.now) (state_of self.now)) (state_of self.now) (state_of self.now) result }
+    fn call(&self) -> Result<Progress, Ending>
+        ensures { HasDone (flags_in self.now) (call (flags_in self.now) (state_of self.now))
+            (state_of self.now) (state_of self.now) result }
     {
         let (a0, a1, a2) = (self.look(Reg::A0), self.look(Reg::A1), self.look(Reg::A2));
         match (self.look(Reg::A7), a0, a2) {
-            (EXIT, status, _) => Err(Ending::Exit((status % 256) as u8)),
-            (PUT, 1, 1) if self.memory.all_allow(READ, a1, 1) => {
-                Ok(Effect::Put(self.memory.byte(a1)))
+            (EXIT_CALL, status, _) => Err(Ending::Exit((status % 256) as u8)),
+            (WRITE_CALL, 1, 1) if self.memory.all_allow(READ, a1, 1) => {
+                Ok(Progress::Put(self.memory.byte(a1)))
             }
-            (GET, 0, 1) if self.memory.all_allow(WRITE, a1, 1) => Ok(Effect::Get),
-            (PUT, 1, 1) | (GET, 0, 1) => Err(self.stuck(NO_ACCESS)),
+            (READ_CALL, 0, 1) if self.memory.all_allow(WRITE, a1, 1) => Ok(Progress::Get),
+            (WRITE_CALL, 1, 1) | (READ_CALL, 0, 1) => Err(self.stuck(NO_ACCESS)),
             _ => Err(self.stuck(NO_CALL)),
         }
     }
 
     /// Does an instruction, but for what it writes or reads.
     #[tactic(auto, unfolding(crate::specs::Machine::act))]
-    fn execute(&mut self, instruction: Instr) -> Result<Effect, Ending>
-        ensures done { HasDone (flags_in self.old) (act (flags_in self.old) instruction (state_of self.old)) (state_of self.old) (state_of self.new) result }
-        ensures keeps { Keeps self.old self.new }
+    fn execute(&mut self, instruction: Instr) -> Result<Progress, Ending>
+        ensures done { HasDone (flags_in self.old)
+            (act (flags_in self.old) instruction (state_of self.old)) (state_of self.old)
+            (state_of self.new) result }
+        ensures keeps { OnlyStateChanges self.old self.new }
     {
         match instruction {
             Instr::Lui { rd, imm } => self.give(rd, imm.bits() << 12),
@@ -157,6 +156,6 @@ impl Machine {
             Instr::Ecall => return self.call(),
             Instr::Ebreak => return Err(Ending::Stack),
         }
-        Ok(Effect::Done)
+        Ok(Progress::Done)
     }
 }

@@ -1,6 +1,7 @@
-//! Laws of the machine's definition, for the proofs of callers: each is the contract of a function that does nothing.
+//! Laws of the machine's definition, for the proofs of callers: each is the contract of a function
+//! that does nothing.
 
-ghost use Rattle.rv_machine.specs.Laws.{RunsAdd, EndedStays, OutputGrows, InputShrinks, LedRunGoesOn, LeadsOnwards, StepLeads, StepEnds, StepWrites, StepReads, StepReadsEnd};
+ghost use Rattle.rv_machine.specs.Laws.{RunsAdd, EndedStays, OutputGrows, InputShrinks, RunGoesOn, ReachesOnwards, StepReaches, StepEnds, StepWrites, StepReads, StepReadsEnd};
 
 /// n + m instructions are n instructions and then m.
 pub fn runs_add()
@@ -22,19 +23,20 @@ pub fn input_shrinks()
     ensures { InputShrinks }
 {}
 
-/// A run goes on from where its first instructions lead to.
-pub fn led_run_goes_on()
-    ensures { LedRunGoesOn }
+/// A run goes on from the state that its first instructions reach.
+pub fn run_goes_on()
+    ensures { RunGoesOn }
 {}
 
-/// Where n instructions lead to a state and m lead on from there, n + m lead all the way.
-pub fn leads_onwards()
-    ensures { LeadsOnwards }
+/// Where n instructions reach a state and m instructions another one from there, n + m reach that
+/// one.
+pub fn reaches_onwards()
+    ensures { ReachesOnwards }
 {}
 
-/// One instruction leads to the next state.
-pub fn step_leads()
-    ensures { StepLeads }
+/// One instruction reaches the next state.
+pub fn step_reaches()
+    ensures { StepReaches }
 {}
 
 /// One instruction ends the run.

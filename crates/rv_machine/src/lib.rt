@@ -1,6 +1,7 @@
-//! A machine for RV32IM executables: registers, memory by segments with flags, and three environment calls.
-//! The command that runs an executable stands on it, and the theorem that an image keeps its source's meaning.
-//! It promises that each step is the manual's row for the instruction at pc, and that a run is that many steps.
+//! A machine for RV32IM executables: registers, memory by segments with flags, and three
+//! environment calls. The command that runs an executable stands on it, and so does the theorem
+//! that an image keeps its source's meaning. Promise: each step does what specs/Machine.antt says
+//! of the instruction at pc, and a run is that many steps.
 #![tactic(auto)]
 
 mod block;
@@ -13,9 +14,7 @@ mod run;
 pub mod segment_laws;
 mod step;
 mod stop;
-#[cfg(test)]
-mod tests;
 mod words;
 
-pub use machine::{Machine, NoMemory};
+pub use machine::Machine;
 pub use stop::Stop;

@@ -3,11 +3,11 @@ ghost use Rattle.std.specs.Prelude.{◌≡◌, ◌≢◌, ◌<◌, ◌%◌, ◌^
 use crate::memory::{EXECUTE, Memory, READ};
 use crate::stop::Ending;
 use elf_file::ImageView;
+use no_memory::NoMemory;
 use rv_isa::{BranchOffset, Imm12, Reg};
-use std::alloc::{AllocError, Global};
-use thiserror::Error;
+use std::alloc::Global;
 
-/// Why a machine is stuck.
+// The reasons to be stuck, as `Stop::Stuck` explains them.
 pub(crate) const BAD_PC: u8 = 1;
 
 pub(crate) const NO_INSTRUCTION: u8 = 2;
@@ -18,24 +18,15 @@ pub(crate) const MISALIGNED: u8 = 4;
 
 pub(crate) const NO_CALL: u8 = 5;
 
-/// There was not enough memory.
-#[derive(Clone, Copy, Debug, PartialEq, Eq, Error)]
-#[error("no memory")]
-pub struct NoMemory;
-
-impl From<AllocError> for NoMemory {
-    fn from(_e: AllocError) -> NoMemory {
-        NoMemory
-    }
-}
-
-/// What is left of an instruction once the machine has done its part.
+/// What the streams have still to do for an instruction.
 #[derive(Clone, Copy, Debug, PartialEq, Eq)]
-pub(crate) enum Effect {
+pub(crate) enum Progress {
+    /// Nothing: the instruction is done.
     Done,
     /// This byte is to be written, and a0 then becomes 1.
     Put(u8),
-    /// A byte is to be read to the address in a1, and a0 then becomes 1, or 0 at the end of the input.
+    /// A byte is to be read to the address in a1, and a0 then becomes 1, or 0 at the end of the
+    /// input.
     Get,
 }
 
@@ -54,9 +45,10 @@ impl Machine {
     ghost use Rattle.rv_machine.specs.Memory.{IsWidth, flags_of, load_bytes, to_read};
     ghost use Rattle.rv_machine.specs.Run.{running, start};
     ghost use Rattle.rv_machine.specs.Endings.{ending_of};
-    ghost use Rattle.rv_machine.specs.View.{state_of, flags_in, hart_of, Keeps, Allows, Refuses};
+    ghost use Rattle.rv_machine.specs.View.{state_of, flags_in, hart_of, OnlyStateChanges, Allows, Refuses};
 
-    /// The executable in memory, with all registers 0 and pc at its entry.
+    /// The machine with this executable in memory, all registers 0, and pc at its entry. `NoMemory`
+    /// only where the allocator has none.
     pub fn load(alloc: Global, view: &ImageView<'_>) -> Result<Machine, NoMemory>
         ensures hart { IfOk result (λ m. hart_of m ≡ running (start (executable_of view.now))) }
         ensures flags { IfOk result (λ m. flags_in m ≡ flags_of (executable_of view.now).segments) }
@@ -84,7 +76,7 @@ impl Machine {
     /// Goes on to the next instruction.
     pub(crate) fn go_on(&mut self)
         ensures state { state_of self.new ≡ go_on (state_of self.old) }
-        ensures keeps { Keeps self.old self.new }
+        ensures keeps { OnlyStateChanges self.old self.new }
     {
         self.pc = self.pc.wrapping_add(4);
     }
@@ -93,7 +85,7 @@ impl Machine {
     #[tactic(auto, unfolding(crate::specs::Machine::give))]
     pub(crate) fn give(&mut self, rd: Reg, value: u32)
         ensures state { state_of self.new ≡ give (state_of self.old) rd value }
-        ensures keeps { Keeps self.old self.new }
+        ensures keeps { OnlyStateChanges self.old self.new }
     {
         let number = rd.number();
         if number != 0 {
@@ -106,7 +98,7 @@ impl Machine {
     #[tactic(auto, unfolding(crate::specs::Machine::give, crate::specs::Machine::jump))]
     pub(crate) fn jump(&mut self, rd: Reg, target: u32)
         ensures state { jump rd target (state_of self.old) ≡ next (state_of self.new) }
-        ensures keeps { Keeps self.old self.new }
+        ensures keeps { OnlyStateChanges self.old self.new }
     {
         let link = self.pc.wrapping_add(4);
         self.give(rd, link);
@@ -116,9 +108,10 @@ impl Machine {
     /// Goes on by the distance where the branch is taken, and else to the next instruction.
     pub(crate) fn branch(&mut self, taken: bool, distance: BranchOffset)
         ensures state { state_of self.new ≡ record (state_of self.old) {
-          pc = if taken then offset (state_of self.old).pc distance else after (state_of self.old).pc;
+          pc = if taken then offset (state_of self.old).pc distance else after
+              (state_of self.old).pc;
         } }
-        ensures keeps { Keeps self.old self.new }
+        ensures keeps { OnlyStateChanges self.old self.new }
     {
         let distance = if taken { distance.word() } else { 4 };
         self.pc = self.pc.wrapping_add(distance);
@@ -135,9 +128,11 @@ impl Machine {
     #[inline(always)]
     fn address(&self, rs1: Reg, distance: Imm12, width: u32) -> Result<u32, Ending>
         requires { IsWidth width }
-        ensures ok { IfOk result (λ address. address ≡ offset (look (state_of self.now).regs rs1) distance) }
+        ensures ok { IfOk result
+            (λ address. address ≡ offset (look (state_of self.now).regs rs1) distance) }
         ensures aligned { IfOk result (λ address. address % width ≡ 0) }
-        ensures err { OnErr result (offset (look (state_of self.now).regs rs1) distance % width ≢ 0) }
+        ensures err { OnErr result
+            (offset (look (state_of self.now).regs rs1) distance % width ≢ 0) }
         ensures ending { IfErr result (λ e. ending_of e ≡ stuck (state_of self.now).pc misaligned) }
     {
         let address = self.look(rs1).wrapping_add(distance.word());
@@ -151,12 +146,16 @@ impl Machine {
     #[inline(always)]
     pub(crate) fn loaded(&self, rs1: Reg, distance: Imm12, width: u32) -> Result<u32, Ending>
         requires { IsWidth width }
-        ensures ok { IfOk result (λ n. n ≡ load_bytes (state_of self.now).mem (offset (look (state_of self.now).regs rs1) distance) width) }
+        ensures ok { IfOk result
+            (λ n. n ≡ load_bytes (state_of self.now).mem
+            (offset (look (state_of self.now).regs rs1) distance) width) }
         ensures byte { IfOk result (λ n. width ≡ 1 → n < 2 ^ 8) }
         ensures half { IfOk result (λ n. width ≡ 2 → n < 2 ^ 16) }
         ensures access { MatchResult result
-            (λ _. Allows (access (flags_in self.now) to_read width (offset (look (state_of self.now).regs rs1) distance) (state_of self.now)))
-            (Refuses (access (flags_in self.now) to_read width (offset (look (state_of self.now).regs rs1) distance) (state_of self.now))) }
+            (λ _. Allows (access (flags_in self.now) to_read width
+            (offset (look (state_of self.now).regs rs1) distance) (state_of self.now)))
+            (Refuses (access (flags_in self.now) to_read width
+            (offset (look (state_of self.now).regs rs1) distance) (state_of self.now))) }
     {
         let address = self.address(rs1, distance, width)?;
         self.memory
@@ -174,10 +173,14 @@ impl Machine {
         width: u32,
     ) -> Result<(), Ending>
         requires { IsWidth width }
-        ensures ok { OnOk result (store (flags_in self.old) width rs1 rs2 distance (state_of self.old) ≡ next (state_of self.new)) }
-        ensures err { IfErr result (λ e. store (flags_in self.old) width rs1 rs2 distance (state_of self.old) ≡ stop (ending_of e)) }
+        ensures ok { OnOk result
+            (store (flags_in self.old) width rs1 rs2 distance (state_of self.old)
+            ≡ next (state_of self.new)) }
+        ensures err { IfErr result
+            (λ e. store (flags_in self.old) width rs1 rs2 distance (state_of self.old)
+            ≡ stop (ending_of e)) }
         ensures unchanged { OnErr result (state_of self.new ≡ state_of self.old) }
-        ensures keeps { Keeps self.old self.new }
+        ensures keeps { OnlyStateChanges self.old self.new }
     {
         let address = self.address(rs1, distance, width)?;
         let word = self.look(rs2);

@@ -24,12 +24,14 @@ pub(crate) struct Memory {
 impl Memory {
     ghost use Rattle.elf_file.specs.ImageView.{executable_of};
     ghost use Rattle.rv_machine.specs.Block.{segment_of};
-    ghost use Rattle.rv_machine.specs.Blocks.{bytes_of, allowance_of, IsAbsent, HoldsAt, IsPart, IsOutside, EndsWithin};
+    ghost use Rattle.rv_machine.specs.Blocks.{bytes_of, allowance_of, IsAbsent, HoldsAt, IsBlockAt, IsOutside, EndsWithin};
 
     /// The memory of an executable.
     pub(crate) fn new(alloc: Global, view: &ImageView<'_>) -> Result<Memory, AllocError>
-        ensures bytes { IfOk result (λ m. bytes_of m ≡ memory_of (executable_of view.now).segments) }
-        ensures flags { IfOk result (λ m. allowance_of m ≡ flags_of (executable_of view.now).segments) }
+        ensures bytes { IfOk result
+            (λ m. bytes_of m ≡ memory_of (executable_of view.now).segments) }
+        ensures flags { IfOk result
+            (λ m. allowance_of m ≡ flags_of (executable_of view.now).segments) }
     {
         let mut blocks = Vec::new(alloc);
         for k in 0..view.count() {
@@ -40,7 +42,8 @@ impl Memory {
 
     /// Which segment has the address.
     fn block_at(&self, address: u32) -> Option<usize>
-        ensures { MatchOption result (IsAbsent self.now.blocks.items address) (HoldsAt self.now.blocks.items address) }
+        ensures { MatchOption result (IsAbsent self.now.blocks.items address)
+            (HoldsAt self.now.blocks.items address) }
     {
         for (k, block) in self.blocks.iter().enumerate() {
             if block.holds(address) {
@@ -52,7 +55,8 @@ impl Memory {
 
     /// The segment that has the address.
     fn find(&self, address: u32) -> Option<&Block>
-        ensures { MatchOption result (IsOutside self.now address) (λ b. IsPart self.now address b.now) }
+        ensures { MatchOption result (IsOutside self.now address)
+            (λ b. IsBlockAt self.now address b.now) }
     {
         Some(&self.blocks[self.block_at(address)?])
     }
@@ -90,12 +94,15 @@ impl Memory {
         true
     }
 
-    /// The number that `width` bytes from an address on make, the lowest first, where each has the flag.
+    /// The number that `width` bytes from an address on make, the lowest first, where each has the
+    /// flag.
     #[inline(always)]
     pub(crate) fn load(&self, flag: u32, address: u32, width: u32) -> Option<u32>
         requires width { IsWidth width }
         requires end { address + width ≤ 2 ^ 32 }
-        ensures value { result ≡ (if allowed (allowance_of self.now) flag address width then Some (load_bytes (bytes_of self.now) address width) else None) }
+        ensures value { result
+            ≡ (if allowed (allowance_of self.now) flag address width then Some
+            (load_bytes (bytes_of self.now) address width) else None) }
         ensures byte { IfSome result (λ n. width ≡ 1 → n < 2 ^ 8) }
         ensures half { IfSome result (λ n. width ≡ 2 → n < 2 ^ 16) }
     {
@@ -114,7 +121,9 @@ impl Memory {
     fn load_across(&self, flag: u32, address: u32, width: u32) -> Option<u32>
         requires width { IsWidth width }
         requires end { address + width ≤ 2 ^ 32 }
-        ensures value { result ≡ (if allowed (allowance_of self.now) flag address width then Some (load_bytes (bytes_of self.now) address width) else None) }
+        ensures value { result
+            ≡ (if allowed (allowance_of self.now) flag address width then Some
+            (load_bytes (bytes_of self.now) address width) else None) }
         ensures byte { IfSome result (λ n. width ≡ 1 → n < 2 ^ 8) }
         ensures half { IfSome result (λ n. width ≡ 2 → n < 2 ^ 16) }
     {
@@ -153,13 +162,16 @@ impl Memory {
         }
     }
 
-    /// Writes the low `width` bytes of a word from an address on, the lowest first, where each may be written.
+    /// Writes the low `width` bytes of a word from an address on, the lowest first, where each may
+    /// be written.
     #[inline(always)]
     pub(crate) fn store(&mut self, address: u32, word: u32, width: u32) -> bool
         requires width { IsWidth width }
         requires end { address + width ≤ 2 ^ 32 }
         ensures done { result ≡ allowed (allowance_of self.old) WRITE address width }
-        ensures bytes { bytes_of self.new ≡ (if result then store_bytes (bytes_of self.old) address word width else bytes_of self.old) }
+        ensures bytes { bytes_of self.new
+            ≡ (if result then store_bytes
+            (bytes_of self.old) address word width else bytes_of self.old) }
         ensures flags { allowance_of self.new ≡ allowance_of self.old }
     {
         let Some(k) = self.block_at(address) else {
@@ -180,7 +192,9 @@ impl Memory {
     fn store_across(&mut self, address: u32, word: u32, width: u32) -> bool
         requires { address + width ≤ 2 ^ 32 }
         ensures done { result ≡ allowed (allowance_of self.old) WRITE address width }
-        ensures bytes { bytes_of self.new ≡ (if result then store_bytes (bytes_of self.old) address word width else bytes_of self.old) }
+        ensures bytes { bytes_of self.new
+            ≡ (if result then store_bytes
+            (bytes_of self.old) address word width else bytes_of self.old) }
         ensures flags { allowance_of self.new ≡ allowance_of self.old }
     {
         if !self.all_allow(WRITE, address, width) {

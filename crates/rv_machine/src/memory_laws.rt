@@ -1,6 +1,6 @@
-//! Laws of memory and of words in two parts: each is the contract of a function that does nothing.
+//! Laws of memory: each is the contract of a function that does nothing.
 
-ghost use Rattle.rv_machine.specs.MemoryLaws.{StoredIsLoaded, StoreLeavesOthers, LoadElsewhere, PartsMakeWord, PartsMakeOffset, UnwritableStays, UnwritableLoadStays, FetchStays};
+ghost use Rattle.rv_machine.specs.MemoryLaws.{StoredIsLoaded, StoreLeavesOthers, LoadElsewhere, UnwritableStays, UnwritableLoadStays, FetchStays};
 
 /// The bytes that were stored are loaded again.
 pub fn stored_is_loaded()
@@ -15,16 +15,6 @@ pub fn store_leaves_others()
 /// A load elsewhere gives what it gave before the store.
 pub fn load_elsewhere()
     ensures { LoadElsewhere }
-{}
-
-/// lui and addi make a word of its two parts.
-pub fn parts_make_word()
-    ensures { PartsMakeWord }
-{}
-
-/// auipc and the low part make an offset of its two parts.
-pub fn parts_make_offset()
-    ensures { PartsMakeOffset }
 {}
 
 /// A run leaves memory that may not be written.

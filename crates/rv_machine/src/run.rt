@@ -2,7 +2,7 @@
 
 ghost use Rattle.std.specs.Prelude.{◌≡◌, ◌≤◌};
 ghost use Rattle.rv_machine.specs.Runs.{IsSomeRun};
-ghost use Rattle.rv_machine.specs.Steps.{HasRisen};
+ghost use Rattle.rv_machine.specs.Steps.{HasIncreased};
 ghost use Rattle.rv_machine.specs.View.{flags_in, hart_of};
 
 use crate::machine::Machine;
@@ -10,9 +10,10 @@ use crate::stop::Stop;
 use cc_io::{Sink, Source};
 
 impl Machine {
-    /// Does up to `steps` instructions, of which the one that ends the run is the last. `Budget` where all
-    /// were done and the run has not ended. A machine that has ended gives its ending again. A fault comes
-    /// only where the stream's count of faults rose; the instruction has then not happened.
+    /// Does at most `steps` instructions, of which the one that ends the run is the last. `Budget`
+    /// exactly where all were done and the run has not ended. A machine that has ended gives its
+    /// ending again. A fault comes only where the stream's count of faults increased; the
+    /// instruction has then not happened. Takes no memory.
     pub fn run<I: Source, O: Sink>(&mut self, steps: u64, input: &mut I, output: &mut O) -> Stop
         ensures run { IsSomeRun (flags_in self.old) steps (hart_of self.old) (hart_of self.new)
             (record { held = O.held output.old; left = I.left input.old })
@@ -20,9 +21,9 @@ impl Machine {
         ensures flags { flags_in self.new ≡ flags_in self.old }
         ensures read_faults { I.faults input.old ≤ I.faults input.new }
         ensures write_faults { O.faults output.old ≤ O.faults output.new }
-        ensures cause { HasRisen result
+        ensures cause { HasIncreased result
             (I.faults input.old) (I.faults input.new) (O.faults output.old) (O.faults output.new) }
-        ensures beside { O.beside output.new ≡ O.beside output.old }
+        ensures rest { O.rest output.new ≡ O.rest output.old }
     {
         if let Some(ending) = self.ending {
             return Stop::from(ending);

@@ -2,12 +2,12 @@
 
 ghost use Rattle.rv_machine.specs.SegmentLaws.{SegmentIsInMemory, BytesAreLoaded, WordBytesMakeWord, FlagsAllow, FlagIsMissing, TextIsFetched};
 
-/// At each address of a segment stand its byte and its flags.
+/// Memory has at each address of a segment the byte and the flags of the segment.
 pub fn segment_is_in_memory()
     ensures { SegmentIsInMemory }
 {}
 
-/// Bytes that stand one after another are loaded as their number.
+/// Consecutive bytes are loaded as the number that they make.
 pub fn bytes_are_loaded()
     ensures { BytesAreLoaded }
 {}

@@ -4,12 +4,13 @@ ghost use Rattle.std.specs.Prelude.{◌≡◌, ℕ, ◌≤◌, [], ◌∷◌, Op
 ghost use Rattle.cc_io.specs.Faults.{HasCause};
 ghost use Rattle.cc_io.specs.Sink.{append};
 ghost use Rattle.cc_io.specs.Source.{IsAtEnd};
-ghost use Rattle.rv_machine.specs.Machine.{answer, received, a1};
+ghost use Rattle.rv_isa.specs.Registers.{a1};
+ghost use Rattle.rv_machine.specs.Machine.{answer, received};
 ghost use Rattle.rv_machine.specs.Memory.{allowed, to_write};
 ghost use Rattle.rv_machine.specs.Port.{IsReceived};
-ghost use Rattle.rv_machine.specs.View.{state_of, flags_in, hart_of, Keeps};
+ghost use Rattle.rv_machine.specs.View.{state_of, flags_in, hart_of, OnlyStateChanges};
 
-use crate::machine::{Effect, Machine};
+use crate::machine::{Machine, Progress};
 use crate::stop::Stop;
 use cc_io::{Failed, Sink, Source};
 use rv_isa::Reg;
@@ -37,25 +38,29 @@ fn next_byte<I: Source>(input: &mut I, at_end: &mut bool) -> Result<Option<u8>, 
 
 impl Machine {
     ghost use Rattle.rv_machine.specs.Port.{IsDoneAt};
-    ghost use Rattle.rv_machine.specs.Steps.{hart_move, IsDone, IsStopped, HasRisen};
+    ghost use Rattle.rv_machine.specs.Steps.{hart_effect, IsDone, IsStopped, HasIncreased};
 
-    /// Does the instruction at pc. `None` where it was done and did not end the run; else why the machine
-    /// stopped, and never `Budget`. A machine that has ended gives its ending again. After a fault the
-    /// instruction has not happened.
+    /// Does the instruction at pc. `None` exactly where it was done and did not end the run; else
+    /// why the machine stopped, and never `Budget`. A machine that has ended gives its ending
+    /// again. After a fault the instruction has not happened, and can be tried again. Takes no
+    /// memory.
     #[tactic(auto, using(crate::proofs::Ports::done_of))]
     pub fn step<I: Source, O: Sink>(&mut self, input: &mut I, output: &mut O) -> Option<Stop>
-        ensures done { IfNone result (IsDone (hart_move (flags_in self.old) (hart_of self.old)) (hart_of self.new)
+        ensures done { IfNone result
+            (IsDone (hart_effect (flags_in self.old) (hart_of self.old)) (hart_of self.new)
             (record { held = O.held output.old; left = I.left input.old })
             (record { held = O.held output.new; left = I.left input.new })) }
-        ensures stopped { IfSome result (IsStopped (hart_move (flags_in self.old) (hart_of self.old)) (hart_of self.old) (hart_of self.new)
+        ensures stopped { IfSome result
+            (IsStopped (hart_effect (flags_in self.old) (hart_of self.old)) (hart_of self.old)
+            (hart_of self.new)
             (record { held = O.held output.old; left = I.left input.old })
             (record { held = O.held output.new; left = I.left input.new })) }
         ensures flags { flags_in self.new ≡ flags_in self.old }
         ensures read_faults { I.faults input.old ≤ I.faults input.new }
         ensures write_faults { O.faults output.old ≤ O.faults output.new }
-        ensures cause { IfSome result (λ stop. HasRisen stop
+        ensures cause { IfSome result (λ stop. HasIncreased stop
             (I.faults input.old) (I.faults input.new) (O.faults output.old) (O.faults output.new)) }
-        ensures beside { O.beside output.new ≡ O.beside output.old }
+        ensures rest { O.rest output.new ≡ O.rest output.old }
     {
         let mut at_end = false;
         self.step_from(input, &mut at_end, output)
@@ -69,30 +74,33 @@ impl Machine {
         output: &mut O,
     ) -> Option<Stop>
         requires { at_end.old ≡ true → IsAtEnd (I.left input.old) }
-        ensures done { IfNone result (IsDoneAt (hart_move (flags_in self.old) (hart_of self.old)) (hart_of self.new)
+        ensures done { IfNone result
+            (IsDoneAt (hart_effect (flags_in self.old) (hart_of self.old)) (hart_of self.new)
             (record { held = O.held output.old; left = I.left input.old; closed = at_end.old })
             (record { held = O.held output.new; left = I.left input.new; closed = at_end.new })) }
-        ensures stopped { IfSome result (IsStopped (hart_move (flags_in self.old) (hart_of self.old)) (hart_of self.old) (hart_of self.new)
+        ensures stopped { IfSome result
+            (IsStopped (hart_effect (flags_in self.old) (hart_of self.old)) (hart_of self.old)
+            (hart_of self.new)
             (record { held = O.held output.old; left = I.left input.old })
             (record { held = O.held output.new; left = I.left input.new })) }
         ensures at_end { OnSome result (at_end.new ≡ at_end.old) }
         ensures flags { flags_in self.new ≡ flags_in self.old }
         ensures read_faults { I.faults input.old ≤ I.faults input.new }
         ensures write_faults { O.faults output.old ≤ O.faults output.new }
-        ensures cause { IfSome result (λ stop. HasRisen stop
+        ensures cause { IfSome result (λ stop. HasIncreased stop
             (I.faults input.old) (I.faults input.new) (O.faults output.old) (O.faults output.new)) }
-        ensures beside { O.beside output.new ≡ O.beside output.old }
+        ensures rest { O.rest output.new ≡ O.rest output.old }
     {
         if let Some(ending) = self.ending {
             return Some(Stop::from(ending));
         }
         match self.advance() {
-            Ok(Effect::Done) => None,
-            Ok(Effect::Put(byte)) => match self.put(byte, output) {
+            Ok(Progress::Done) => None,
+            Ok(Progress::Put(byte)) => match self.put(byte, output) {
                 Ok(()) => None,
                 Err(_) => Some(Stop::WriteFault),
             },
-            Ok(Effect::Get) => match self.get(input, at_end) {
+            Ok(Progress::Get) => match self.get(input, at_end) {
                 Ok(()) => None,
                 Err(_) => Some(Stop::ReadFault),
             },
@@ -107,7 +115,7 @@ impl Machine {
     fn receive(&mut self, taken: Option<u8>)
         requires { allowed (flags_in self.old) to_write ((state_of self.old).regs a1) 1 ≡ true }
         ensures state { state_of self.new ≡ received (state_of self.old) taken }
-        ensures keeps { Keeps self.old self.new }
+        ensures keeps { OnlyStateChanges self.old self.new }
     {
         match taken {
             Some(byte) => {
@@ -125,8 +133,8 @@ impl Machine {
         ensures held { OnOk result (O.held output.new ≡ append (O.held output.old) (byte ∷ [])) }
         ensures err { OnErr result (self.new ≡ self.old) }
         ensures err_held { OnErr result (O.held output.new ≡ O.held output.old) }
-        ensures keeps { Keeps self.old self.new }
-        ensures beside { O.beside output.new ≡ O.beside output.old }
+        ensures keeps { OnlyStateChanges self.old self.new }
+        ensures rest { O.rest output.new ≡ O.rest output.old }
         ensures cause { HasCause (O.faults output.old) (O.faults output.new) result }
     {
         output.write(&[byte])?;
@@ -137,14 +145,17 @@ impl Machine {
     /// Reads a byte.
     fn get<I: Source>(&mut self, input: &mut I, at_end: &mut bool) -> Result<(), Failed>
         requires ended { at_end.old ≡ true → IsAtEnd (I.left input.old) }
-        requires allowed { allowed (flags_in self.old) to_write ((state_of self.old).regs a1) 1 ≡ true }
-        ensures ok { OnOk result ((taken : Option ℕ) × (state_of self.new ≡ received (state_of self.old) taken) × IsReceived taken
+        requires allowed { allowed (flags_in self.old) to_write ((state_of self.old).regs a1) 1
+            ≡ true }
+        ensures ok { OnOk result
+            ((taken : Option ℕ) × (state_of self.new ≡ received (state_of self.old) taken)
+            × IsReceived taken
             (record { held = None; left = I.left input.old; closed = at_end.old })
             (record { held = None; left = I.left input.new; closed = at_end.new })) }
         ensures err { OnErr result (self.new ≡ self.old) }
         ensures err_left { OnErr result (I.left input.new ≡ I.left input.old) }
         ensures err_at_end { OnErr result (at_end.new ≡ at_end.old) }
-        ensures keeps { Keeps self.old self.new }
+        ensures keeps { OnlyStateChanges self.old self.new }
         ensures cause { HasCause (I.faults input.old) (I.faults input.new) result }
     {
         let taken = next_byte(input, at_end)?;

@@ -9,7 +9,8 @@ pub(crate) enum Ending {
     Stuck { pc: u32, why: u8 },
 }
 
-/// Why a machine stopped.
+/// Why a machine stopped. A machine that has ended, by `Exit`, `Stack` or `Stuck`, gives its ending
+/// again.
 #[derive(Clone, Copy, Debug, PartialEq, Eq)]
 pub enum Stop {
     /// The program has exited, with this status.
@@ -18,13 +19,14 @@ pub enum Stop {
     Stack,
     /// All steps were done, and the program has not ended.
     Budget,
-    /// The instruction at `pc` cannot be done: 1 `pc` is no multiple of 4 or not executable, 2 there is no
-    /// such instruction, 3 memory is absent or has not the flag, 4 an address is no multiple of its width,
-    /// 5 there is no such environment call.
+    /// The instruction at the address `pc` cannot be done. `why` is 1 where `pc` is no multiple of
+    /// 4 or not executable, 2 where there is no such instruction, 3 where memory is absent or has
+    /// not the flag, 4 where an address is no multiple of its width, and 5 where there is no such
+    /// environment call.
     Stuck { pc: u32, why: u8 },
-    /// The input failed. The instruction has not happened.
+    /// The input failed: its count of faults increased. The instruction has not happened.
     ReadFault,
-    /// The output failed. The instruction has not happened.
+    /// The output failed: its count of faults increased. The instruction has not happened.
     WriteFault,
 }
 

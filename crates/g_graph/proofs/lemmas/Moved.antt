@@ -2,6 +2,7 @@
 use Rattle.std.proofs.Common.{◌≡◌, ℕ, ◌⊎◌, inl, inr, Bool, true, false, ◌&&◌, List, [], map, refl, sym, ap, ◌∙◌}
 use Rattle.std.specs.Prelude.{◌==◌, ◌||◌, not, if◌then◌else◌}
 use Rattle.std.specs.declared.option.Option.TheVariants.{Some, None}
+use Rattle.std.proofs.lemmas.Bool.{and_parts}
 use Rattle.g_graph.specs.declared.op.Kind.{Kind}
 use Rattle.g_graph.specs.declared.op.Kind.TheVariants.{Value, Memory, Io}
 use Rattle.g_graph.specs.declared.op.Origin.{Origin}
@@ -13,7 +14,7 @@ use Rattle.g_graph.specs.Replace.{nodes_redirected, region_redirected, origin_re
 use Rattle.g_graph.specs.Splice.{joined_nodes}
 use Rattle.g_graph.proofs.lemmas.Redirects.{kind_after-redirected, state_after-redirected, gives-redirected, every_in_nodes-redirected}
 use Rattle.g_graph.proofs.lemmas.Splices.{joined_none}
-use Rattle.g_graph.proofs.lemmas.Unique.{same_number, first_true, second_true}
+use Rattle.g_graph.proofs.lemmas.Unique.{same_number}
 use Rattle.g_graph.proofs.NestLemmas.{SameScope, known_same, last_same, RegionKept}
 use Rattle.g_graph.proofs.ScopeMaps.{ScopeMap, mapped_all, mapped_nodes_fit}
 
@@ -21,7 +22,7 @@ pub same_origin_true : (a b : Origin) → same_origin a b ≡ true → a ≡ b
 same_origin_true (Arg j) (Arg k) e = ap Arg (same_number j k e)
 same_origin_true (Arg j) (Out n p) e = absurd (cc)
 same_origin_true (Out n p) (Arg k) e = absurd (cc)
-same_origin_true (Out n p) (Out m q) e = λ i. Out (same_number n m (first_true (n == m) (p == q) e) i) (same_number p q (second_true (n == m) (p == q) e) i)
+same_origin_true (Out n p) (Out m q) e = λ i. Out (same_number n m (and_parts (n == m) (p == q) e).0 i) (same_number p q (and_parts (n == m) (p == q) e).1 i)
 
 -- after some of the nodes the one origin is not known, or both are values
 pub record ValueFor (args : List Kind) (ns : NodeTrees) (from to : Origin) : Type 0 where
@@ -57,13 +58,13 @@ pub moved_kept : (objects : ℕ) (from to : Origin) (args : List Kind) (nodes : 
     every_region (region_fits objects) (region args nodes results) ≡ true → RegionKept objects (region args nodes results) (region_redirected (origin_replaced from to) (region args nodes results))
 moved_kept objects from to args nodes results v e =
     let r = region args nodes results in
-    let own = first_true (region_fits objects r) (every_in_nodes (region_fits objects) nodes) e in
-    let inside = second_true (region_fits objects r) (every_in_nodes (region_fits objects) nodes) e in
-    let to_io = first_true (nodes_fit objects r && results_are_last r && returns_state Memory r && returns_state Io r) (region_has_one_state_each r) own in
-    let to_memory = first_true (nodes_fit objects r && results_are_last r && returns_state Memory r) (returns_state Io r) to_io in
-    let to_last = first_true (nodes_fit objects r && results_are_last r) (returns_state Memory r) to_memory in
-    let fit = first_true (nodes_fit objects r) (results_are_last r) to_last in
-    let last : all_of (is_last args nodes) results ≡ true = second_true (nodes_fit objects r) (results_are_last r) to_last in
+    let own = (and_parts (region_fits objects r) (every_in_nodes (region_fits objects) nodes) e).0 in
+    let inside = (and_parts (region_fits objects r) (every_in_nodes (region_fits objects) nodes) e).1 in
+    let to_io = (and_parts (nodes_fit objects r && results_are_last r && returns_state Memory r && returns_state Io r) (region_has_one_state_each r) own).0 in
+    let to_memory = (and_parts (nodes_fit objects r && results_are_last r && returns_state Memory r) (returns_state Io r) to_io).0 in
+    let to_last = (and_parts (nodes_fit objects r && results_are_last r) (returns_state Memory r) to_memory).0 in
+    let fit = (and_parts (nodes_fit objects r) (results_are_last r) to_last).0 in
+    let last : all_of (is_last args nodes) results ≡ true = (and_parts (nodes_fit objects r) (results_are_last r) to_last).1 in
     let all = mapped_all args nodes args (nodes_redirected (origin_replaced from to) nodes) (origin_replaced from to) (moved_scope args nodes nodes no_nodes from to v (sym (joined_none nodes)))
     results last in
     let moved_fit = mapped_nodes_fit objects args args (origin_replaced from to) [] [] nodes (λ front rest w. moved_scope args nodes front rest from to v w) fit in

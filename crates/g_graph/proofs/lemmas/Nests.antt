@@ -3,12 +3,13 @@ use Rattle.std.proofs.Common.{◌≡◌, ◌≤◌, ◌+◌, ℕ, ◌++◌, Bool
 use Rattle.std.specs.Prelude.{◌==◌, nat_lt, count_by, option_map}
 use Rattle.std.specs.declared.option.Option.{Option}
 use Rattle.std.specs.declared.option.Option.TheVariants.{Some, None}
+use Rattle.std.proofs.lemmas.Bool.{and_parts}
 use Rattle.g_graph.specs.declared.op.Kind.TheVariants.{Value, Memory, Io}
 use Rattle.g_graph.specs.Plain.{RegionTree, region, NodeTree, node, NodeTrees, no_nodes, node_then, RegionTrees, no_regions, region_then, PlainLambda}
 use Rattle.g_graph.specs.Ids.{region_ids, node_ids, nodes_ids, regions_ids}
 use Rattle.g_graph.specs.Change.{first_some, region_changed, node_changed, nodes_changed, regions_changed}
 use Rattle.g_graph.specs.WellFormed.{all_of, distinct, leaves_fit, are, same, region_fits, every_region, every_in_node, every_in_nodes, every_in_regions, body_fits, numbers_fit, well_formed}
-use Rattle.g_graph.proofs.lemmas.Unique.{times_append, all_of_append, first_true, second_true}
+use Rattle.g_graph.proofs.lemmas.Unique.{times_append, all_of_append}
 use Rattle.g_graph.proofs.lemmas.Numbers.{Numbered, numbered_left, numbered_right, numbered_fewer}
 use Rattle.g_graph.proofs.NestLemmas.{KeepsRegion, region_changed_kept}
 
@@ -51,7 +52,7 @@ mutual
       Exchanged objects f (region_ids r) (region_ids s)
   region_changed_ids objects f (region args nodes results) s e own =
       by_cases (f (region args nodes results)) (nodes_changed f nodes) refl refl e
-      (λ ms q. nodes_changed_ids objects f nodes ms q (second_true (region_fits objects (region args nodes results)) (every_in_nodes (region_fits objects) nodes) own))
+      (λ ms q. nodes_changed_ids objects f nodes ms q (and_parts (region_fits objects (region args nodes results)) (every_in_nodes (region_fits objects) nodes) own).1)
     where
       by_cases : (o : Option RegionTree) (p : Option NodeTrees) → f (region args nodes results) ≡ o → nodes_changed f nodes ≡ p →
           first_some o (option_map (λ ns. region args ns results) p) ≡ Some s → ((ms : NodeTrees) → nodes_changed f nodes ≡ Some ms → Exchanged objects f (nodes_ids nodes) (nodes_ids ms)) →
@@ -87,8 +88,8 @@ mutual
   nodes_changed_ids objects f no_nodes ms e own = absurd (cc)
   nodes_changed_ids objects f (node_then x xs) ms e own =
       by_cases (node_changed f x) (nodes_changed f xs) refl refl e
-      (λ y q. node_changed_ids objects f x y q (first_true (every_in_node (region_fits objects) x) (every_in_nodes (region_fits objects) xs) own))
-      (λ ys q. nodes_changed_ids objects f xs ys q (second_true (every_in_node (region_fits objects) x) (every_in_nodes (region_fits objects) xs) own))
+      (λ y q. node_changed_ids objects f x y q (and_parts (every_in_node (region_fits objects) x) (every_in_nodes (region_fits objects) xs) own).0)
+      (λ ys q. nodes_changed_ids objects f xs ys q (and_parts (every_in_node (region_fits objects) x) (every_in_nodes (region_fits objects) xs) own).1)
     where
       by_cases : (o : Option NodeTree) (p : Option NodeTrees) → node_changed f x ≡ o → nodes_changed f xs ≡ p →
           first_some (option_map (λ y. node_then y xs) o) (option_map (λ ys. node_then x ys) p) ≡ Some ms →
@@ -108,8 +109,8 @@ mutual
   regions_changed_ids objects f no_regions ss e own = absurd (cc)
   regions_changed_ids objects f (region_then r rs) ss e own =
       by_cases (region_changed f r) (regions_changed f rs) refl refl e
-      (λ s q. region_changed_ids objects f r s q (first_true (every_region (region_fits objects) r) (every_in_regions (region_fits objects) rs) own))
-      (λ ts q. regions_changed_ids objects f rs ts q (second_true (every_region (region_fits objects) r) (every_in_regions (region_fits objects) rs) own))
+      (λ s q. region_changed_ids objects f r s q (and_parts (every_region (region_fits objects) r) (every_in_regions (region_fits objects) rs) own).0)
+      (λ ts q. regions_changed_ids objects f rs ts q (and_parts (every_region (region_fits objects) r) (every_in_regions (region_fits objects) rs) own).1)
     where
       by_cases : (o : Option RegionTree) (p : Option RegionTrees) → region_changed f r ≡ o → regions_changed f rs ≡ p →
           first_some (option_map (λ s. region_then s rs) o) (option_map (λ ts. region_then r ts) p) ≡ Some ss →
@@ -145,15 +146,15 @@ pub exchanged_all : (objects : ℕ) (f : RegionTree → Option RegionTree) (is j
 exchanged_all objects f is js test e all new =
     let whole : (all_of test (e.before ++ region_ids e.old) && all_of test e.after) ≡ true = sym (all_of_append test (e.before ++ region_ids e.old) e.after) ∙ ap (all_of test) (sym e.old_ids) ∙ all in
     let front : (all_of test e.before && all_of test (region_ids e.old)) ≡ true =
-    sym (all_of_append test e.before (region_ids e.old)) ∙ first_true (all_of test (e.before ++ region_ids e.old)) (all_of test e.after) whole in
+    sym (all_of_append test e.before (region_ids e.old)) ∙ (and_parts (all_of test (e.before ++ region_ids e.old)) (all_of test e.after) whole).0 in
     ap (all_of test) e.new_ids ∙ all_of_append test (e.before ++ region_ids e.new) e.after
-    ∙ (λ i. (all_of_append test e.before (region_ids e.new) ∙ (λ j. first_true (all_of test e.before) (all_of test (region_ids e.old)) front j && new j)) i
-    && second_true (all_of test (e.before ++ region_ids e.old)) (all_of test e.after) whole i)
+    ∙ (λ i. (all_of_append test e.before (region_ids e.new) ∙ (λ j. (and_parts (all_of test e.before) (all_of test (region_ids e.old)) front).0 j && new j)) i
+    && (and_parts (all_of test (e.before ++ region_ids e.old)) (all_of test e.after) whole).1 i)
 
 pub numbers_numbered : (l : PlainLambda) → numbers_fit l ≡ true → Numbered l.next (region_ids l.body)
 numbers_numbered l e = record {
-  unique = first_true (distinct (region_ids l.body)) (all_of (λ n. nat_lt n l.next) (region_ids l.body)) e;
-  below = second_true (distinct (region_ids l.body)) (all_of (λ n. nat_lt n l.next) (region_ids l.body)) e;
+  unique = (and_parts (distinct (region_ids l.body)) (all_of (λ n. nat_lt n l.next) (region_ids l.body)) e).0;
+  below = (and_parts (distinct (region_ids l.body)) (all_of (λ n. nat_lt n l.next) (region_ids l.body)) e).1;
 }
 
 -- the lambda stays well formed where the change of the region does, and numbers are unique and below the next
@@ -163,12 +164,12 @@ changed_well_formed f l s next k e w numbers =
     let body = body_fits l in
     let nest = every_region (region_fits (length l.objects)) l.body in
     let objects = all_of (λ o. leaves_fit o.size 0 o.leaves) l.objects in
-    let front = first_true (body && numbers_fit l && nest) objects w in
-    let own = first_true (body && numbers_fit l) nest front in
-    let kept = region_changed_kept (length l.objects) l.next f k l.body s e (second_true (body && numbers_fit l) nest front) (numbers_numbered l (second_true body (numbers_fit l) own)) in
+    let front = (and_parts (body && numbers_fit l && nest) objects w).0 in
+    let own = (and_parts (body && numbers_fit l) nest front).0 in
+    let kept = region_changed_kept (length l.objects) l.next f k l.body s e (and_parts (body && numbers_fit l) nest front).1 (numbers_numbered l (and_parts body (numbers_fit l) own).1) in
     let body_kept : body_fits (record l { body = s; next = next }) ≡ true =
-    (λ i. same (kept.args i) (replicate l.params Value ++ Memory ∷ Io ∷ []) && are (kept.results i) (Value ∷ Memory ∷ Io ∷ [])) ∙ first_true body (numbers_fit l) own in
-    λ i. body_kept i && numbers i && kept.inside i && second_true (body && numbers_fit l && nest) objects w i
+    (λ i. same (kept.args i) (replicate l.params Value ++ Memory ∷ Io ∷ []) && are (kept.results i) (Value ∷ Memory ∷ Io ∷ [])) ∙ (and_parts body (numbers_fit l) own).0 in
+    λ i. body_kept i && numbers i && kept.inside i && (and_parts (body && numbers_fit l && nest) objects w).1 i
 
 -- It stays well formed, with the same next number, where the changed region has no numbers but those that it had.
 pub changed_well_formed_within : (f : RegionTree → Option RegionTree) (l : PlainLambda) (s : RegionTree) → KeepsRegion (length l.objects) l.next f →
@@ -178,9 +179,9 @@ pub changed_well_formed_within : (f : RegionTree → Option RegionTree) (l : Pla
 changed_well_formed_within f l s k fewer e w =
     let nest = every_region (region_fits (length l.objects)) l.body in
     let objects = all_of (λ o. leaves_fit o.size 0 o.leaves) l.objects in
-    let front = first_true (body_fits l && numbers_fit l && nest) objects w in
-    let old = numbers_numbered l (second_true (body_fits l) (numbers_fit l) (first_true (body_fits l && numbers_fit l) nest front)) in
-    let x = region_changed_ids (length l.objects) f l.body s e (second_true (body_fits l && numbers_fit l) nest front) in
+    let front = (and_parts (body_fits l && numbers_fit l && nest) objects w).0 in
+    let old = numbers_numbered l (and_parts (body_fits l) (numbers_fit l) (and_parts (body_fits l && numbers_fit l) nest front).0).1 in
+    let x = region_changed_ids (length l.objects) f l.body s e (and_parts (body_fits l && numbers_fit l) nest front).1 in
     let whole : Numbered l.next ((x.before ++ region_ids x.old) ++ x.after) = subst (λ ns. Numbered l.next ns) x.old_ids old in
     let here = numbered_right l.next x.before (region_ids x.old) (numbered_left l.next (x.before ++ region_ids x.old) x.after whole) in
     let now =

@@ -1,7 +1,7 @@
 -- A node of a region that fits, and changes there that keep the region well formed and add no numbers.
 use Rattle.std.proofs.Common.{◌≡◌, ◌≤◌, ◌+◌, ◌⊎◌, inl, inr, ℕ, ◌==◌, Bool, true, false, ◌&&◌, ◌||◌, List, [], ◌∷◌, ◌++◌, map, Option, None, Some, refl, sym, ap, ◌∙◌, arith}
 use Rattle.std.specs.Prelude.{if◌then◌else◌, slice_get}
-use Rattle.std.proofs.lemmas.Bool.{false_from_ne_true, or_parts, or_left}
+use Rattle.std.proofs.lemmas.Bool.{and_parts, false_from_ne_true, or_parts, or_left}
 use Rattle.g_graph.specs.declared.op.Kind.{Kind}
 use Rattle.g_graph.specs.declared.op.Kind.TheVariants.{Value, Memory, Io}
 use Rattle.g_graph.specs.declared.op.Origin.{Origin}
@@ -16,7 +16,7 @@ use Rattle.g_graph.specs.Replace.{nodes_redirected, region_redirected}
 use Rattle.g_graph.specs.Splice.{args_to_inputs, outputs_to_results, joined_nodes, region_spliced}
 use Rattle.g_graph.proofs.lemmas.Redirects.{nodes_ids-redirected}
 use Rattle.g_graph.proofs.lemmas.Splices.{joined_none, joined_following, Split, nodes_ids-joined, every_in_nodes-joined, kind_after-joined}
-use Rattle.g_graph.proofs.lemmas.Unique.{first_true, second_true, times, times_append, times_cons, counts_of_distinct}
+use Rattle.g_graph.proofs.lemmas.Unique.{times, times_append, times_cons, counts_of_distinct}
 use Rattle.g_graph.proofs.lemmas.Numbers.{Numbered}
 use Rattle.g_graph.proofs.lemmas.Indexes.{either, same_number_true, same_kind_true, has_node-joined, kind_absent, kind_known}
 use Rattle.g_graph.proofs.lemmas.Moved.{ValueFor}
@@ -58,17 +58,17 @@ are_kinds [] [] e = refl
 are_kinds [] (k ∷ ks) e = absurd (cc)
 are_kinds (None ∷ xs) ks e = absurd (cc)
 are_kinds (Some j ∷ xs) [] e = absurd (cc)
-are_kinds (Some j ∷ xs) (k ∷ ks) e = λ i. Some (same_kind_true j k (first_true (same_kind j k) (are xs ks) e) i) ∷ are_kinds xs ks (second_true (same_kind j k) (are xs ks) e) i
+are_kinds (Some j ∷ xs) (k ∷ ks) e = λ i. Some (same_kind_true j k (and_parts (same_kind j k) (are xs ks) e).0 i) ∷ are_kinds xs ks (and_parts (same_kind j k) (are xs ks) e).1 i
 
 pub same_kinds : (js ks : List Kind) → same js ks ≡ true → js ≡ ks
 same_kinds [] [] e = refl
 same_kinds [] (k ∷ ks) e = absurd (cc)
 same_kinds (j ∷ js) [] e = absurd (cc)
-same_kinds (j ∷ js) (k ∷ ks) e = λ i. same_kind_true j k (first_true (same_kind j k) (same js ks) e) i ∷ same_kinds js ks (second_true (same_kind j k) (same js ks) e) i
+same_kinds (j ∷ js) (k ∷ ks) e = λ i. same_kind_true j k (and_parts (same_kind j k) (same js ks) e).0 i ∷ same_kinds js ks (and_parts (same_kind j k) (same js ks) e).1 i
 
 pub first_kind : (x : Option Kind) (xs : List (Option Kind)) (k : Kind) (ks : List Kind) → are (x ∷ xs) (k ∷ ks) ≡ true → (x ≡ Some k) × (are xs ks ≡ true)
 first_kind None xs k ks e = absurd (cc)
-first_kind (Some j) xs k ks e = (ap Some (same_kind_true j k (first_true (same_kind j k) (are xs ks) e)), second_true (same_kind j k) (are xs ks) e)
+first_kind (Some j) xs k ks e = (ap Some (same_kind_true j k (and_parts (same_kind j k) (are xs ks) e).0), (and_parts (same_kind j k) (are xs ks) e).1)
 
 -- ---- the node in its region
 
@@ -82,10 +82,10 @@ pub record NodeFits (objects : ℕ) (args : List Kind) (before : NodeTrees) (x :
 pub each_here : (test : NodeTrees → NodeTree → Bool) (earlier : List NodeTree) (before : NodeTrees) (x : NodeTree) (after : NodeTrees) →
     each_node test earlier (joined_nodes before (node_then x after)) ≡ true → test (joined_nodes (nodes_of earlier) before) x ≡ true
 each_here test earlier no_nodes x after e =
-    ap (λ ns. test ns x) (joined_none (nodes_of earlier)) ∙ first_true (test (nodes_of earlier) x) (each_node test (earlier ++ x ∷ []) after) e
+    ap (λ ns. test ns x) (joined_none (nodes_of earlier)) ∙ (and_parts (test (nodes_of earlier) x) (each_node test (earlier ++ x ∷ []) after) e).0
 each_here test earlier (node_then y before) x after e =
     ap (λ ns. test ns x) (sym (joined_following earlier y before))
-    ∙ each_here test (earlier ++ y ∷ []) before x after (second_true (test (nodes_of earlier) y) (each_node test (earlier ++ y ∷ []) (joined_nodes before (node_then x after))) e)
+    ∙ each_here test (earlier ++ y ∷ []) before x after (and_parts (test (nodes_of earlier) y) (each_node test (earlier ++ y ∷ []) (joined_nodes before (node_then x after))) e).1
 
 pub node_fits_here : (objects next : ℕ) (args : List Kind) (before : NodeTrees) (x : NodeTree) (after : NodeTrees) (results : List Origin) →
     every_region (region_fits objects) (region args (joined_nodes before (node_then x after)) results) ≡ true → Numbered next (nodes_ids (joined_nodes before (node_then x after))) →
@@ -93,32 +93,32 @@ pub node_fits_here : (objects next : ℕ) (args : List Kind) (before : NodeTrees
 node_fits_here objects next args before x after results e numbers =
     let ns = joined_nodes before (node_then x after) in
     let r = region args ns results in
-    let own = first_true (region_fits objects r) (every_in_nodes (region_fits objects) ns) e in
-    let nest = second_true (region_fits objects r) (every_in_nodes (region_fits objects) ns) e in
-    let to_io = first_true (nodes_fit objects r && results_are_last r && returns_state Memory r && returns_state Io r) (region_has_one_state_each r) own in
-    let to_memory = first_true (nodes_fit objects r && results_are_last r && returns_state Memory r) (returns_state Io r) to_io in
-    let to_last = first_true (nodes_fit objects r && results_are_last r) (returns_state Memory r) to_memory in
-    let fit = each_here (node_fits objects args) [] before x after (first_true (nodes_fit objects r) (results_are_last r) to_last) in
+    let own = (and_parts (region_fits objects r) (every_in_nodes (region_fits objects) ns) e).0 in
+    let nest = (and_parts (region_fits objects r) (every_in_nodes (region_fits objects) ns) e).1 in
+    let to_io = (and_parts (nodes_fit objects r && results_are_last r && returns_state Memory r && returns_state Io r) (region_has_one_state_each r) own).0 in
+    let to_memory = (and_parts (nodes_fit objects r && results_are_last r && returns_state Memory r) (returns_state Io r) to_io).0 in
+    let to_last = (and_parts (nodes_fit objects r && results_are_last r) (returns_state Memory r) to_memory).0 in
+    let fit = each_here (node_fits objects args) [] before x after (and_parts (nodes_fit objects r) (results_are_last r) to_last).0 in
     let to_width =
-    first_true
+    (and_parts
     (inputs_fit args before x && inputs_are_last args before x && node_has_one_state_each args before x && has_its_regions x && regions_fit x && theta_has_states x && has_its_width x)
-    (has_its_object objects x) fit in
+    (has_its_object objects x) fit).0 in
     let to_theta =
-    first_true (inputs_fit args before x && inputs_are_last args before x && node_has_one_state_each args before x && has_its_regions x && regions_fit x && theta_has_states x) (has_its_width x)
-    to_width in
-    let to_regions = first_true (inputs_fit args before x && inputs_are_last args before x && node_has_one_state_each args before x && has_its_regions x && regions_fit x) (theta_has_states x)
-    to_theta in
-    let to_shape = first_true (inputs_fit args before x && inputs_are_last args before x && node_has_one_state_each args before x && has_its_regions x) (regions_fit x) to_regions in
-    let to_states = first_true (inputs_fit args before x && inputs_are_last args before x && node_has_one_state_each args before x) (has_its_regions x) to_shape in
-    let to_both = first_true (inputs_fit args before x && inputs_are_last args before x) (node_has_one_state_each args before x) to_states in
+    (and_parts (inputs_fit args before x && inputs_are_last args before x && node_has_one_state_each args before x && has_its_regions x && regions_fit x && theta_has_states x) (has_its_width x)
+    to_width).0 in
+    let to_regions = (and_parts (inputs_fit args before x && inputs_are_last args before x && node_has_one_state_each args before x && has_its_regions x && regions_fit x) (theta_has_states x)
+    to_theta).0 in
+    let to_shape = (and_parts (inputs_fit args before x && inputs_are_last args before x && node_has_one_state_each args before x && has_its_regions x) (regions_fit x) to_regions).0 in
+    let to_states = (and_parts (inputs_fit args before x && inputs_are_last args before x && node_has_one_state_each args before x) (has_its_regions x) to_shape).0 in
+    let to_both = (and_parts (inputs_fit args before x && inputs_are_last args before x) (node_has_one_state_each args before x) to_states).0 in
     let inner =
-    second_true (every_in_nodes (region_fits objects) before) (every_in_nodes (region_fits objects) (node_then x after))
-    (sym (every_in_nodes-joined (region_fits objects) before (node_then x after)) ∙ nest) in
+    (and_parts (every_in_nodes (region_fits objects) before) (every_in_nodes (region_fits objects) (node_then x after))
+    (sym (every_in_nodes-joined (region_fits objects) before (node_then x after)) ∙ nest)).1 in
     record {
-      inputs = first_true (inputs_fit args before x) (inputs_are_last args before x) to_both;
-      last = second_true (inputs_fit args before x) (inputs_are_last args before x) to_both;
-      regions = second_true (inputs_fit args before x && inputs_are_last args before x && node_has_one_state_each args before x && has_its_regions x) (regions_fit x) to_regions;
-      inside = first_true (every_in_node (region_fits objects) x) (every_in_nodes (region_fits objects) after) inner;
+      inputs = (and_parts (inputs_fit args before x) (inputs_are_last args before x) to_both).0;
+      last = (and_parts (inputs_fit args before x) (inputs_are_last args before x) to_both).1;
+      regions = (and_parts (inputs_fit args before x && inputs_are_last args before x && node_has_one_state_each args before x && has_its_regions x) (regions_fit x) to_regions).1;
+      inside = (and_parts (every_in_node (region_fits objects) x) (every_in_nodes (region_fits objects) after) inner).0;
       once = once_in next before x after numbers;
     }
 

@@ -2,8 +2,9 @@
 use Rattle.std.proofs.Common.{◌≡◌, ◌≤◌, ◌+◌, ℕ, List, [], ◌∷◌, ◌++◌, refl, sym, ap, ◌∙◌, Bool, true, false, ◌&&◌, arith}
 use Rattle.std.specs.Prelude.{◌==◌, nat_lt, not, count_by, if◌then◌else◌}
 use Rattle.std.proofs.lemmas.Bool.Decides.{nat_tests}
+use Rattle.std.proofs.lemmas.Bool.{and_parts}
 use Rattle.g_graph.specs.WellFormed.{all_of, some_of, distinct}
-use Rattle.g_graph.proofs.lemmas.Unique.{all_of_append, times, times_append, times_cons, first_true, second_true, counts_of_distinct, distinct_of_counts}
+use Rattle.g_graph.proofs.lemmas.Unique.{all_of_append, times, times_append, times_cons, counts_of_distinct, distinct_of_counts}
 
 -- unique numbers below the next
 pub record Numbered (next : ℕ) (ns : List ℕ) : Type 0 where
@@ -13,25 +14,25 @@ pub record Numbered (next : ℕ) (ns : List ℕ) : Type 0 where
 pub numbered_left : (next : ℕ) (xs ys : List ℕ) → Numbered next (xs ++ ys) → Numbered next xs
 numbered_left next xs ys e = record {
   unique = distinct_of_counts xs (λ n. omega (arith, counts_of_distinct (xs ++ ys) e.unique n, times_append n xs ys));
-  below = first_true (all_of (λ n. nat_lt n next) xs) (all_of (λ n. nat_lt n next) ys) (sym (all_of_append (λ n. nat_lt n next) xs ys) ∙ e.below);
+  below = (and_parts (all_of (λ n. nat_lt n next) xs) (all_of (λ n. nat_lt n next) ys) (sym (all_of_append (λ n. nat_lt n next) xs ys) ∙ e.below)).0;
 }
 
 pub numbered_right : (next : ℕ) (xs ys : List ℕ) → Numbered next (xs ++ ys) → Numbered next ys
 numbered_right next xs ys e = record {
   unique = distinct_of_counts ys (λ n. omega (arith, counts_of_distinct (xs ++ ys) e.unique n, times_append n xs ys));
-  below = second_true (all_of (λ n. nat_lt n next) xs) (all_of (λ n. nat_lt n next) ys) (sym (all_of_append (λ n. nat_lt n next) xs ys) ∙ e.below);
+  below = (and_parts (all_of (λ n. nat_lt n next) xs) (all_of (λ n. nat_lt n next) ys) (sym (all_of_append (λ n. nat_lt n next) xs ys) ∙ e.below)).1;
 }
 
 pub numbered_rest : (next n : ℕ) (ns : List ℕ) → Numbered next (n ∷ ns) → Numbered next ns
 numbered_rest next n ns e = record {
-  unique = second_true (not (some_of (λ m. n == m) ns)) (distinct ns) e.unique;
-  below = second_true (nat_lt n next) (all_of (λ m. nat_lt m next) ns) e.below;
+  unique = (and_parts (not (some_of (λ m. n == m) ns)) (distinct ns) e.unique).1;
+  below = (and_parts (nat_lt n next) (all_of (λ m. nat_lt m next) ns) e.below).1;
 }
 
 test_of_times : (test : ℕ → Bool) (n : ℕ) (ns : List ℕ) → 1 ≤ times n ns → all_of test ns ≡ true → test n ≡ true
 test_of_times test n [] h e = absurd (omega arith)
 test_of_times test n (x ∷ ns) h e =
-    by_test (x == n) refl (times_cons n x ns) (first_true (test x) (all_of test ns) e) (λ k. test_of_times test n ns k (second_true (test x) (all_of test ns) e))
+    by_test (x == n) refl (times_cons n x ns) (and_parts (test x) (all_of test ns) e).0 (λ k. test_of_times test n ns k (and_parts (test x) (all_of test ns) e).1)
   where
     same : (x == n) ≡ true → x ≡ n
     same q = grind (arith, nat_tests)

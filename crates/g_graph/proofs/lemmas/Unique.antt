@@ -5,6 +5,7 @@ use Rattle.std.specs.Prelude.{◌==◌, nat_lt, not, count_by, if◌then◌else�
 use Rattle.std.proofs.lemmas.List.Sums.{sum_by-cons, sum_by-append}
 use Rattle.std.proofs.lemmas.Bool.Decides.{nat_tests}
 use Rattle.std.proofs.Math.Bool.{and_assoc}
+use Rattle.std.proofs.lemmas.Bool.{and_parts}
 use Rattle.g_graph.specs.Count.{saturated}
 use Rattle.g_graph.specs.WellFormed.{all_of, some_of, distinct}
 
@@ -86,14 +87,6 @@ each_once next ns =
     ap (λ b. b && all_of (λ n. nat_lt n next) ns) (once ns ∙ all_of_same (λ n. times n ns == 1) (λ n. saturated (times n ns) == 1) (λ n. saturated_once (times n ns)) ns)
     ∙ all_of_both (λ n. saturated (times n ns) == 1) (λ n. nat_lt n next) ns
 
-pub first_true : (a b : Bool) → (a && b) ≡ true → a ≡ true
-first_true true b e = refl
-first_true false b e = absurd (cc)
-
-pub second_true : (a b : Bool) → (a && b) ≡ true → b ≡ true
-second_true true b e = e
-second_true false b e = absurd (cc)
-
 none_of_not : (n : ℕ) → not (nat_lt 0 n) ≡ true → n ≡ 0
 none_of_not n e = grind (arith, nat_tests)
 
@@ -104,8 +97,8 @@ not_of_none n e = grind (arith, nat_tests)
 pub counts_of_distinct : (ns : List ℕ) → distinct ns ≡ true → (n : ℕ) → count_by (λ m. m == n) ns ≤ 1
 counts_of_distinct [] d n = omega arith
 counts_of_distinct (x ∷ ns) d n =
-    let none : times x ns ≡ 0 = none_of_not (times x ns) (ap not (sym (some_of_times x ns)) ∙ first_true (not (some_of (λ m. x == m) ns)) (distinct ns) d) in
-    by_test (x == n) refl (times_cons n x ns) none (counts_of_distinct ns (second_true (not (some_of (λ m. x == m) ns)) (distinct ns) d) n)
+    let none : times x ns ≡ 0 = none_of_not (times x ns) (ap not (sym (some_of_times x ns)) ∙ (and_parts (not (some_of (λ m. x == m) ns)) (distinct ns) d).0) in
+    by_test (x == n) refl (times_cons n x ns) none (counts_of_distinct ns (and_parts (not (some_of (λ m. x == m) ns)) (distinct ns) d).1 n)
   where
     same : (x == n) ≡ true → x ≡ n
     same q = grind (arith, nat_tests)
@@ -127,4 +120,4 @@ distinct_of_counts (x ∷ ns) h =
 
 pub all_of_holds : {X : Type 0} (p q : X → Bool) → ((x : X) → p x ≡ true → q x ≡ true) → (xs : List X) → all_of p xs ≡ true → all_of q xs ≡ true
 all_of_holds p q e [] h = refl
-all_of_holds p q e (x ∷ xs) h = λ i. e x (first_true (p x) (all_of p xs) h) i && all_of_holds p q e xs (second_true (p x) (all_of p xs) h) i
+all_of_holds p q e (x ∷ xs) h = λ i. e x (and_parts (p x) (all_of p xs) h).0 i && all_of_holds p q e xs (and_parts (p x) (all_of p xs) h).1 i

@@ -1,7 +1,7 @@
 use Rattle.std.proofs.Common.{ℕ, List, [], ◌≡◌, slice_index_or, sym, subst, ◌∙◌, below_more}
 use Rattle.board_core.specs.Calls.{NoBadDep}
 use Rattle.board_core.specs.History.{dep_lists}
-use Rattle.board_core.proofs.StandLemmas.{row-is}
+use Rattle.board_core.proofs.JobStateLemmas.{row-is}
 use Rattle.board_core.proofs.checks.first_bad.Goals as goal
 
 pub loop-job-preserved : goal.loop-job-preserved

@@ -9,5 +9,6 @@ use Rattle.c_lex.proofs.runs.digits_len.Goals as goal
 pub returns-clause-run : goal.returns-clause-run
 returns-clause-run c =
     let xs = c.args.text.now in
-    let found = position_from_yields_List (λ b. not (digit.is_digit_in c.args.base b)) _ _ c.position.result c.position.ensures.ran (YieldsList-from_slice xs (cc)) (λ x b q k. search (rules, tests)) in
+    let found =
+    position_from_yields_List (λ b. not (digit.is_digit_in c.args.base b)) _ _ c.position.result c.position.ensures.ran (YieldsList-from_slice xs (cc)) (λ x b q k. search (rules, tests)) in
     c.unwrap_or.ensures ∙ (ap (λ o. unwrap_or o (length xs)) found ∙ run_or_len (digit.is_digit_in c.args.base) xs)

@@ -5,7 +5,10 @@ use Rattle.c_parse.proofs.nesting.first_too_deep.Goals as goal
 
 pub returns-then-depth-gt-MAX_DEPTH : goal.returns-then-depth-gt-MAX_DEPTH
 returns-then-depth-gt-MAX_DEPTH c =
-    scan_here c.args.tokens.now c.loop-i.i c.index-tokens-i.result c.loop-i.counters c.pass.new.self c.index-tokens-i.is (omega arith) c.loop-i.invariant.0 c.pass.ensures (omega (arith, c.depth.ensures))
+    scan_here c.args.tokens.now c.loop-i.i c.index-tokens-i.result c.loop-i.counters c.pass.new.self c.index-tokens-i.is (omega arith) c.loop-i.invariant.0 c.pass.ensures (omega (
+      arith,
+      c.depth.ensures,
+    ))
 
 pub loop-i-preserved : goal.loop-i-preserved
 loop-i-preserved c =

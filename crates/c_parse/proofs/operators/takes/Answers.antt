@@ -1,9 +1,9 @@
 use Rattle.std.proofs.Common.{sym}
 use Rattle.c_ast.specs.Expressions.{expr_tree}
-use Rattle.c_ast.specs.Grammar.{allowed, production}
-use Rattle.c_grammar.specs.Reader.{label_of}
-use Rattle.c_grammar.specs.Starts as starts
-use Rattle.c_parse.specs.Operands.{suffix_label}
+use Rattle.c_ast.specs.Grammar.{allowed, rule}
+use Rattle.c_grammar.specs.Reader.{production_of}
+use Rattle.c_grammar.specs.PredictSets as predict
+use Rattle.c_parse.specs.Operands.{suffix_production}
 use Rattle.c_parse.proofs.OperandLemmas.{includes-operand, left_low}
 use Rattle.c_parse.proofs.operators.takes.Goals as goal
 
@@ -11,5 +11,5 @@ pub returns : goal.returns
 unfolding allowed
 returns c =
     let s = c.args.suffix in
-    rw (c.looseness.ensures, c.left_looseness.ensures)
-    (sym (includes-operand (starts.left (suffix_label s)) (left_low s) (production (label_of (expr_tree c.args.left.now))).of))
+    rw (c.is_within.ensures, c.precedence_of.ensures, c.left_precedence.ensures)
+    (sym (includes-operand (predict.left (suffix_production s)) (left_low s) (rule (production_of (expr_tree c.args.left.now))).of))

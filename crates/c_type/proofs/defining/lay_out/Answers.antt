@@ -1,5 +1,6 @@
 use Rattle.std.proofs.Common.{◌≡◌, ◌+◌, ◌^◌, ◌<◌, ◌≤◌, ap, ◌∙◌, subst, arith}
-use Rattle.c_type.specs.Layout.{align, rounded_up, size, most_bytes}
+use Rattle.limits.specs.Limits.{most_type_bytes}
+use Rattle.c_type.specs.Layout.{align, rounded_up, size}
 use Rattle.c_type.specs.LaidUpTo.{LaidUpTo}
 use Rattle.c_type.proofs.MemberLemmas.{at-member}
 use Rattle.c_type.proofs.LayLemmas.{nothing-laid, one-laid, too-large-end, lay-room, lay-next}
@@ -48,18 +49,18 @@ loop-t-preserved c =
     let at = at-member ms c.loop-t.t-index t c.loop-t-test.true c.t-item.is in
     let l = subst (λ r. LaidUpTo defs ms r c.loop-t.offsets.items c.loop-t.end c.loop-t.align) at c.loop-t.invariant in
     let e : c.rounded_up-offset.result ≡ rounded_up c.loop-t.end (align defs t) = c.rounded_up-offset.ensures ∙ ap (rounded_up c.loop-t.end) c.align_of-own.ensures in
-    let small : rounded_up c.loop-t.end (align defs t) + size defs t ≤ most_bytes = rw (e, c.size_of.ensures) at c.if-end-gt-MOST_BYTES.false in
+    let small : rounded_up c.loop-t.end (align defs t) + size defs t ≤ most_type_bytes = rw (e, c.size_of.ensures) at c.if-end-gt-MOST_TYPE_BYTES.false in
     rw (c.in_ok-push.ensures.items, c.max-align.ensures, e, c.size_of.ensures, c.align_of-own.ensures) (one-laid defs ms t _ _ _ _ l small)
 
-pub returns-then-end-gt-MOST_BYTES-clause-too_large : goal.returns-then-end-gt-MOST_BYTES-clause-too_large
-returns-then-end-gt-MOST_BYTES-clause-too_large c =
+pub returns-then-end-gt-MOST_TYPE_BYTES-clause-too_large : goal.returns-then-end-gt-MOST_TYPE_BYTES-clause-too_large
+returns-then-end-gt-MOST_TYPE_BYTES-clause-too_large c =
     let defs = c.args.types.now in
     let ms = c.args.members.now in
     let t = c.t-item.result in
     let at = at-member ms c.loop-t.t-index t c.loop-t-test.true c.t-item.is in
     let l = subst (λ r. LaidUpTo defs ms r c.loop-t.offsets.items c.loop-t.end c.loop-t.align) at c.loop-t.invariant in
     let e : c.rounded_up-offset.result ≡ rounded_up c.loop-t.end (align defs t) = c.rounded_up-offset.ensures ∙ ap (rounded_up c.loop-t.end) c.align_of-own.ensures in
-    let large : most_bytes < rounded_up c.loop-t.end (align defs t) + size defs t = rw (e, c.size_of.ensures) at c.if-end-gt-MOST_BYTES.true in
+    let large : most_type_bytes < rounded_up c.loop-t.end (align defs t) + size defs t = rw (e, c.size_of.ensures) at c.if-end-gt-MOST_TYPE_BYTES.true in
     λ same. too-large-end defs ms t _ _ _ _ l large
 
 pub rounded_up-size-requires-clause-room : goal.rounded_up-size-requires-clause-room

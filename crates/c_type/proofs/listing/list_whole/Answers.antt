@@ -36,7 +36,8 @@ returns-in_ok-push-in-Array-2 c =
     let len = c.len.ensures in
     subst (λ left. HasGoneOn c.args.types.now (Whole c.args.t c.args.at) c.args.pending.now.items left c.args.out.now.items c.args.out.now.items)
     (sym (last ∙ ap (λ x. x ++ Whole v c.args.at ∷ []) first))
-    (gone_array c.args.types.now c.args.t u v n c.args.at c.len.result _ _ (e ∙ ap (λ x. array_of x n) (sym c.deref.ensures)) (c.deref-in-Array.ensures ∙ sym c.deref.ensures) (omega (arith, len)) c.requires)
+    (gone_array c.args.types.now c.args.t u v n c.args.at c.len.result _ _ (e ∙ ap (λ x. array_of x n) (sym c.deref.ensures)) (c.deref-in-Array.ensures
+    ∙ sym c.deref.ensures) (omega (arith, len)) c.requires)
 
 pub returns-in_ok-push-in-Struct : goal.returns-in_ok-push-in-Struct
 returns-in_ok-push-in-Struct c =

@@ -13,7 +13,8 @@ HasEntered calls count search =
     IsSearchOf calls search × (length search.groups.items ≡ 0) × ((k : ℕ) → k < count → stage_of search.stages.items k ≢ New)
 
 -- what was entered stays so
-more-entered : (calls : List (List ℕ)) (f : ℕ) (old new now : Search) → now ≡ new → IsSearchOf calls new → length new.groups.items ≡ 0 → stage_of new.stages.items f ≢ New → StayEntered old.stages.items new.stages.items → ((k : ℕ) → k < f → stage_of old.stages.items k ≢ New) → HasEntered calls (f + 1) now
+more-entered : (calls : List (List ℕ)) (f : ℕ) (old new now : Search) → now ≡ new → IsSearchOf calls new → length new.groups.items ≡ 0 → stage_of new.stages.items f ≢ New
+    → StayEntered old.stages.items new.stages.items → ((k : ℕ) → k < f → stage_of old.stages.items k ≢ New) → HasEntered calls (f + 1) now
 more-entered calls f old new now same is idle here kept before =
     let Entered : ℕ → Type 0 = λ k. stage_of new.stages.items k ≢ New in
     let family : Search → Type 0 = λ x. HasEntered calls (f + 1) x in
@@ -37,7 +38,10 @@ loop-function-preserved c =
           w.in_ok-explore.ensures.entered w.in_ok-explore.ensures.kept c.loop-function.invariant.2
       | in_default w ↦
           more-entered calls f old old c.match-index.search w.search-is c.loop-function.invariant.0 c.loop-function.invariant.1
-          (λ e. w.in_default.not-New (c.index.ensures ∙ (get_or_default old.stages.items f c.index.result.now New (omega (arith, c.loop-function-test.true, c.loop-function.invariant.0.counted, length-map c.args.calls.now (λ (x : Vec ℕ Global). x.items))) ∙ e))) (λ k e. e) c.loop-function.invariant.2
+          (λ e. w.in_default.not-New
+          (c.index.ensures
+          ∙ (get_or_default old.stages.items f c.index.result.now New
+          (omega (arith, c.loop-function-test.true, c.loop-function.invariant.0.counted, length-map c.args.calls.now (λ (x : Vec ℕ Global). x.items))) ∙ e))) (λ k e. e) c.loop-function.invariant.2
     ]
 
 pub returns : goal.returns

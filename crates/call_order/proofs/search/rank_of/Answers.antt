@@ -7,19 +7,22 @@ use Rattle.call_order.proofs.search.rank_of.Goals as goal
 pub rank_above-rank-requires-clause-known : goal.rank_above-rank-requires-clause-known
 rank_above-rank-requires-clause-known c k h =
     let i = c.loop-member.member-index in
-    let row = row-calls c.args.calls.now (slice_index c.args.members.now i) c.index-calls-member.result _ (c.requires.inside i c.loop-member-test.true) c.index-calls-member.is c.as_slice.ensures.value k in
+    let row = row-calls c.args.calls.now (slice_index c.args.members.now i) c.index-calls-member.result _
+    (c.requires.inside i c.loop-member-test.true) c.index-calls-member.is c.as_slice.ensures.value k in
     c.requires.known i k c.loop-member-test.true (row.0 h)
 
 pub rank_above-rank-requires-clause-small : goal.rank_above-rank-requires-clause-small
 rank_above-rank-requires-clause-small c k h =
     let i = c.loop-member.member-index in
-    let row = row-calls c.args.calls.now (slice_index c.args.members.now i) c.index-calls-member.result _ (c.requires.inside i c.loop-member-test.true) c.index-calls-member.is c.as_slice.ensures.value k in
+    let row = row-calls c.args.calls.now (slice_index c.args.members.now i) c.index-calls-member.result _
+    (c.requires.inside i c.loop-member-test.true) c.index-calls-member.is c.as_slice.ensures.value k in
     c.requires.small i k c.loop-member-test.true (row.0 h)
 
 pub loop-member-preserved : goal.loop-member-preserved
 loop-member-preserved c =
     let i = c.loop-member.member-index in
-    let row = row-calls c.args.calls.now (slice_index c.args.members.now i) c.index-calls-member.result _ (c.requires.inside i c.loop-member-test.true) c.index-calls-member.is c.as_slice.ensures.value in
+    let row = row-calls c.args.calls.now (slice_index c.args.members.now i) c.index-calls-member.result _
+    (c.requires.inside i c.loop-member-test.true) c.index-calls-member.is c.as_slice.ensures.value in
     let Ranked : ℕ → Type 0 = λ a. (k : ℕ) → Calls (call_lists c.args.calls.now) (slice_index c.args.members.now a) k → above (stage_of c.args.stages.now k) ≤ c.rank_above-rank.result in (
       λ a k h called.
           below_more Ranked i (λ a h k called. omega (arith, c.loop-member.invariant.0 a k h called, c.rank_above-rank.ensures.start))

@@ -9,6 +9,6 @@ abbrev pub invariant-loop-number : goal.invariant-loop-number
 invariant-loop-number g l = record {
   drawn : l.draws.state ≡ state_before l.start l.number;
   appended : g.S.Sink.held l.out ≡ append (g.S.Sink.held l.initial.out) (functions_text l.start l.number);
-  beside : g.S.Sink.beside l.out ≡ g.S.Sink.beside l.initial.out;
+  rest : g.S.Sink.rest l.out ≡ g.S.Sink.rest l.initial.out;
   kept : g.S.Sink.faults l.initial.out ≤ g.S.Sink.faults l.out;
 }

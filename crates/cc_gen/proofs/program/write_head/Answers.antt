@@ -1,6 +1,6 @@
 use Rattle.std.proofs.Common.{append_assoc}
 use Rattle.cc_gen.specs.Generated.{function_head}
-use Rattle.cc_gen.proofs.PartLemmas.{same-ok, same-err}
+use Rattle.cc_gen.proofs.PrefixLemmas.{same-ok, same-err}
 use Rattle.cc_gen.proofs.program.write_head.Goals as goal
 
 pub returns-clause-ok : goal.returns-clause-ok

@@ -7,6 +7,6 @@ use Rattle.cc_gen.proofs.program.write_main_lines.Given as goal
 abbrev pub invariant-loop-number : goal.invariant-loop-number
 invariant-loop-number g l = record {
   appended : g.S.Sink.held l.out ≡ append (g.S.Sink.held l.initial.out) (main_lines l.number);
-  beside : g.S.Sink.beside l.out ≡ g.S.Sink.beside l.initial.out;
+  rest : g.S.Sink.rest l.out ≡ g.S.Sink.rest l.initial.out;
   kept : g.S.Sink.faults l.initial.out ≤ g.S.Sink.faults l.out;
 }

@@ -1,4 +1,4 @@
-use Rattle.cc_io.proofs.SinkLemmas.{append-append}
+use Rattle.cc_io.proofs.lemmas.Sink.{append-append}
 use Rattle.cc_io.proofs.laws.append_twice.Goals as goal
 
 pub returns : goal.returns

@@ -6,7 +6,7 @@ abbrev pub invariant-loop-at : goal.invariant-loop-at
 invariant-loop-at g l = record {
   within : l.at ≤ length l.piece;
   appended : g.S.Sink.held l.sink ≡ append (g.S.Sink.held l.initial.sink) (take l.at l.piece);
-  beside : g.S.Sink.beside l.sink ≡ g.S.Sink.beside l.initial.sink;
+  rest : g.S.Sink.rest l.sink ≡ g.S.Sink.rest l.initial.sink;
   kept : g.S.Sink.faults l.initial.sink ≤ g.S.Sink.faults l.sink;
 }
 

@@ -7,7 +7,7 @@ invariant-loop-buffer g l =
     IsSome (g.F.Files.reading l.files)
     × (g.F.Files.left l.initial.files ≡ prepend l.bytes.items (g.F.Files.left l.files))
     × (vec_len l.bytes ≤ l.limit)
-    × (g.F.Files.told l.files ≡ g.F.Files.told l.initial.files)
+    × (g.F.Files.known l.files ≡ g.F.Files.known l.initial.files)
     × (g.F.Files.create_faults l.files ≡ g.F.Files.create_faults l.initial.files)
     × (g.F.Files.write_faults l.files ≡ g.F.Files.write_faults l.initial.files)
     × (g.F.Files.open_faults l.files ≡ g.F.Files.open_faults l.initial.files)

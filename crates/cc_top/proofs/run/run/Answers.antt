@@ -7,10 +7,10 @@ pub returns-in-Ok-machine_of : goal.returns-in-Ok-machine_of
 returns-in-Ok-machine_of g c =
     let made = c.in-Ok-machine_of.ensures.ok in
     run_ends c.args.image.now c.args.steps _ _ c.outcome_of.result c.run.result (flags_in c.in-Ok-machine_of.machine) (hart_of c.in-Ok-machine_of.machine) (hart_of c.run.new.self) c.deref.result.now
-    c.outcome_of.ensures c.in-Ok.ensures.told (λ files told. c.deref.ensures.value ∙ c.in-Ok.ensures.bytes files told)
+    c.outcome_of.ensures c.in-Ok.ensures.known (λ files known. c.deref.ensures.value ∙ c.in-Ok.ensures.bytes files known)
     made.0 made.1 made.2 made.3 c.run.ensures.run c.run.ensures.cause
 
 pub returns : goal.returns
 returns g c =
     run_refused c.args.image.now c.args.steps _ _ c.in-Err.outcome c.deref.result.now
-    c.in-Ok.ensures.told (refl, refl) (λ files told. c.deref.ensures.value ∙ c.in-Ok.ensures.bytes files told) c.in-Err.ensures.err
+    c.in-Ok.ensures.known (refl, refl) (λ files known. c.deref.ensures.value ∙ c.in-Ok.ensures.bytes files known) c.in-Err.ensures.err

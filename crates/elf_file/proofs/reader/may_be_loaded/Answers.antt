@@ -36,7 +36,8 @@ loop-k-preserved c =
           let h1 = w.total-is in
           record {
             separate = before.separate ∙ ap (are_separate (length bytes)) same;
-            memory = before.memory ∙ ap (λ t. c.loop-k.total + t) (ap total_memory same) ∙ ap (λ t. t + total_memory (loads_from bytes (c.args.at + 32 * (c.loop-k.k + 1)) (c.args.count - (c.loop-k.k + 1)))) (sym w.total-is);
+            memory = before.memory ∙ ap (λ t. c.loop-k.total + t) (ap total_memory same)
+                ∙ ap (λ t. t + total_memory (loads_from bytes (c.args.at + 32 * (c.loop-k.k + 1)) (c.args.count - (c.loop-k.k + 1)))) (sym w.total-is);
             small = search rules;
           })
     ]

@@ -3,7 +3,7 @@ use Rattle.val_core.specs.Answers.{Returned, before, then_on}
 use Rattle.g_graph.specs.Plain.{nodes_of}
 use Rattle.g_mean.specs.Meaning.{read, turns, region_meaning, nodes_run}
 use Rattle.g_interp.specs.Views.{data_of, events_of, outputs_of}
-use Rattle.g_interp.specs.Frames.{context_of}
+use Rattle.g_interp.specs.Contexts.{context_of}
 use Rattle.g_interp.proofs.run.+run.Given as goal
 
 abbrev pub decreases-call : goal.decreases-call
@@ -31,7 +31,8 @@ abbrev pub invariant-run_region-loop-node : goal.invariant-run_region-loop-node
 invariant-run_region-loop-node l =
     let c = context_of l.context in
     let xs = data_of l.args in
-    before (events_of l.events.items) (then_on (nodes_run c (nodes_of (drop l.node-index l.node-items)) xs (outputs_of l.outputs.items)) (λ o. Returned (map (read xs o) l.region-inside.results.items) []))
+    before (events_of l.events.items)
+    (then_on (nodes_run c (nodes_of (drop l.node-index l.node-items)) xs (outputs_of l.outputs.items)) (λ o. Returned (map (read xs o) l.region-inside.results.items) []))
     ≡ region_meaning c l.region xs
 
 abbrev pub invariant-run_turns-loop-turn : goal.invariant-run_turns-loop-turn

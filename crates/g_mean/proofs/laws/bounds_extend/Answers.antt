@@ -1,4 +1,4 @@
-use Rattle.g_mean.proofs.Bounds.{region_extends, lambda_extends, program_extends}
+use Rattle.g_mean.proofs.lemmas.Bounds.{region_extends, lambda_extends, program_extends}
 use Rattle.g_mean.proofs.laws.bounds_extend.Goals as goal
 
 pub returns-clause-region : goal.returns-clause-region

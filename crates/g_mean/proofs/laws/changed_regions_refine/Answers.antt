@@ -1,5 +1,5 @@
-use Rattle.g_mean.proofs.Redirects.{redirected_regions_refine, replaced_nodes_refine}
-use Rattle.g_mean.proofs.Splices.{spliced_regions_refine}
+use Rattle.g_mean.proofs.lemmas.Redirects.{redirected_regions_refine, replaced_nodes_refine}
+use Rattle.g_mean.proofs.lemmas.Splices.{spliced_regions_refine}
 use Rattle.g_mean.proofs.laws.changed_regions_refine.Goals as goal
 
 pub returns-clause-spliced : goal.returns-clause-spliced

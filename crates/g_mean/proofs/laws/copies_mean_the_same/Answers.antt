@@ -1,4 +1,4 @@
-use Rattle.g_mean.proofs.Copies.{copied_regions_mean_the_same, copied_nodes_mean_the_same, region-itself}
+use Rattle.g_mean.proofs.lemmas.Copies.{copied_regions_mean_the_same, copied_nodes_mean_the_same, region-itself}
 use Rattle.g_mean.proofs.laws.copies_mean_the_same.Goals as goal
 
 pub returns-clause-region : goal.returns-clause-region

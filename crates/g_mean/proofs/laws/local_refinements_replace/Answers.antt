@@ -1,4 +1,4 @@
-use Rattle.g_mean.proofs.LocalRefinement as local
+use Rattle.g_mean.proofs.lemmas.LocalRefinement as local
 use Rattle.g_mean.proofs.laws.local_refinements_replace.Goals as goal
 
 pub returns : goal.returns

@@ -1,4 +1,4 @@
-use Rattle.g_mean.proofs.Moves as moves
+use Rattle.g_mean.proofs.lemmas.Moves as moves
 use Rattle.g_mean.proofs.laws.loops_refine.Goals as goal
 
 pub returns : goal.returns

@@ -1,4 +1,4 @@
-use Rattle.g_mean.proofs.Moves as moves
+use Rattle.g_mean.proofs.lemmas.Moves as moves
 use Rattle.g_mean.proofs.laws.moved_nodes_refine.Goals as goal
 
 pub returns-clause-nodes : goal.returns-clause-nodes

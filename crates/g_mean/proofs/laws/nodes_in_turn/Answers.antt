@@ -1,4 +1,4 @@
-use Rattle.g_mean.proofs.Bounds as bounds
+use Rattle.g_mean.proofs.lemmas.Bounds as bounds
 use Rattle.g_mean.proofs.laws.nodes_in_turn.Goals as goal
 
 pub returns : goal.returns

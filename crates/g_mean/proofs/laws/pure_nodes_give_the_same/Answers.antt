@@ -1,4 +1,4 @@
-use Rattle.g_mean.proofs.Moves as moves
+use Rattle.g_mean.proofs.lemmas.Moves as moves
 use Rattle.g_mean.proofs.laws.pure_nodes_give_the_same.Goals as goal
 
 pub returns : goal.returns

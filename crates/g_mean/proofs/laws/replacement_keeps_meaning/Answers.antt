@@ -1,6 +1,6 @@
-use Rattle.g_mean.proofs.KindsKept.{well_formed_keep_meaning}
-use Rattle.g_mean.proofs.Programs.{programs_keep_meaning}
-use Rattle.g_mean.proofs.Replacement.{lambdas_keep_meaning, regions_keep_meaning}
+use Rattle.g_mean.proofs.lemmas.Kinds.{well_formed_keep_meaning}
+use Rattle.g_mean.proofs.lemmas.Programs.{programs_keep_meaning}
+use Rattle.g_mean.proofs.lemmas.Replacement.{lambdas_keep_meaning, regions_keep_meaning}
 use Rattle.g_mean.proofs.laws.replacement_keeps_meaning.Goals as goal
 
 pub returns-clause-lambda : goal.returns-clause-lambda

@@ -1,4 +1,4 @@
-use Rattle.g_mean.proofs.Holds as holds
+use Rattle.g_mean.proofs.lemmas.Holds as holds
 use Rattle.g_mean.proofs.laws.run_nodes_hold.Goals as goal
 
 pub returns : goal.returns

@@ -1,4 +1,4 @@
-use Rattle.g_mean.proofs.Bounds.{region_is_sound, lambda_is_sound}
+use Rattle.g_mean.proofs.lemmas.Bounds.{region_is_sound, lambda_is_sound}
 use Rattle.g_mean.proofs.laws.soundness_is_kept.Goals as goal
 
 pub returns-clause-region : goal.returns-clause-region

@@ -2,8 +2,7 @@ use Rattle.std.proofs.Common.{sym, subst}
 use Rattle.g_graph.specs.Plain.{PlainLambda}
 use Rattle.g_graph.specs.WellFormed.{IsWellFormed}
 use Rattle.g_graph.specs.Program.{KeepsPrograms}
-use Rattle.r_fold.specs.Laws.{KeepsMeaning}
-use Rattle.r_fold.specs.Lists.{KeepsLists}
+use Rattle.g_mean.specs.Edits.{KeepsMeaning, KeepsComplete}
 use Rattle.r_fold.proofs.Keeps.{fold_well_formed}
 use Rattle.r_fold.proofs.Lists.{fold_keeps_lists, fold_keeps_program}
 use Rattle.r_fold.proofs.Meaning.{fold_keeps}
@@ -19,7 +18,7 @@ returns-clause-meaning c =
 
 pub returns-clause-list : goal.returns-clause-list
 returns-clause-list c =
-    subst (λ (l : PlainLambda). KeepsLists c.args.lambda.now l) (sym c.in_ok-change_lambda.ensures.ok) (fold_keeps_lists c.args.node c.args.lambda.now c.requires.well_formed)
+    subst (λ (l : PlainLambda). KeepsComplete c.args.lambda.now l) (sym c.in_ok-change_lambda.ensures.ok) (fold_keeps_lists c.args.node c.args.lambda.now c.requires.well_formed)
 
 pub returns-clause-program : goal.returns-clause-program
 returns-clause-program c =

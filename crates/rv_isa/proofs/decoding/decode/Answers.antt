@@ -1,20 +1,20 @@
 use Rattle.std.proofs.Common.{arith}
 use Rattle.std.proofs.lemmas.Grind.{common_steps}
-use Rattle.rv_isa.specs.Rows.{decoded}
-use Rattle.rv_isa.proofs.Decoded.{encodes_found, row_encodes}
+use Rattle.rv_isa.specs.Encodings.{decoded}
+use Rattle.rv_isa.proofs.Decoded.{encodes_found, encoding_encodes}
 use Rattle.rv_isa.proofs.decoding.decode.Goals as goal
 
 pub returns-in-55-clause-encodes : goal.returns-in-55-clause-encodes
 unfolding decoded
-returns-in-55-clause-encodes c = row_encodes _ _ (omega arith) (grind (arith, common_steps))
+returns-in-55-clause-encodes c = encoding_encodes _ _ (omega arith) (grind (arith, common_steps))
 
 pub returns-in-23-clause-encodes : goal.returns-in-23-clause-encodes
 unfolding decoded
-returns-in-23-clause-encodes c = row_encodes _ _ (omega arith) (grind (arith, common_steps))
+returns-in-23-clause-encodes c = encoding_encodes _ _ (omega arith) (grind (arith, common_steps))
 
 pub returns-in-111-clause-encodes : goal.returns-in-111-clause-encodes
 unfolding decoded
-returns-in-111-clause-encodes c = row_encodes _ _ (omega arith) (grind (arith, common_steps))
+returns-in-111-clause-encodes c = encoding_encodes _ _ (omega arith) (grind (arith, common_steps))
 
 pub returns-in-103-clause-encodes : goal.returns-in-103-clause-encodes
 returns-in-103-clause-encodes c = encodes_found _ _ (omega arith) c.indirect_jump.ensures

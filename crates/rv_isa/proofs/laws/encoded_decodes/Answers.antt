@@ -1,4 +1,4 @@
-use Rattle.rv_isa.proofs.EncodedDecodes.{encoded_decodes}
+use Rattle.rv_isa.proofs.lemmas.EncodedDecodes.{encoded_decodes}
 use Rattle.rv_isa.proofs.laws.encoded_decodes.Goals as goal
 
 pub returns : goal.returns

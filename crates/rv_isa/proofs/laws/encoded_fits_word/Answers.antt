@@ -1,4 +1,4 @@
-use Rattle.rv_isa.proofs.EncodedFitsWord.{encoded_fits_word}
+use Rattle.rv_isa.proofs.lemmas.EncodedFitsWord.{encoded_fits_word}
 use Rattle.rv_isa.proofs.laws.encoded_fits_word.Goals as goal
 
 pub returns : goal.returns

@@ -1,4 +1,4 @@
-use Rattle.rv_machine.proofs.Stores.{load_elsewhere}
+use Rattle.rv_machine.proofs.lemmas.Stores.{load_elsewhere}
 use Rattle.rv_machine.proofs.memory_laws.load_elsewhere.Goals as goal
 
 pub returns : goal.returns

@@ -1,4 +1,4 @@
-use Rattle.rv_machine.proofs.Stores.{store_leaves_others}
+use Rattle.rv_machine.proofs.lemmas.Stores.{store_leaves_others}
 use Rattle.rv_machine.proofs.memory_laws.store_leaves_others.Goals as goal
 
 pub returns : goal.returns

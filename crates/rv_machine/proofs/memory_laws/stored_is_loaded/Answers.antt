@@ -1,4 +1,4 @@
-use Rattle.rv_machine.proofs.Stores.{stored_is_loaded}
+use Rattle.rv_machine.proofs.lemmas.Stores.{stored_is_loaded}
 use Rattle.rv_machine.proofs.memory_laws.stored_is_loaded.Goals as goal
 
 pub returns : goal.returns

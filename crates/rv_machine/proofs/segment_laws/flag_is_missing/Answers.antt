@@ -1,4 +1,4 @@
-use Rattle.rv_machine.proofs.Texts.{flag_is_missing}
+use Rattle.rv_machine.proofs.lemmas.Texts.{flag_is_missing}
 use Rattle.rv_machine.proofs.segment_laws.flag_is_missing.Goals as goal
 
 pub returns : goal.returns

@@ -1,4 +1,4 @@
-use Rattle.rv_machine.proofs.Texts.{flags_allow}
+use Rattle.rv_machine.proofs.lemmas.Texts.{flags_allow}
 use Rattle.rv_machine.proofs.segment_laws.flags_allow.Goals as goal
 
 pub returns : goal.returns

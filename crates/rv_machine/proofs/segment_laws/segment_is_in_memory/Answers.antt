@@ -1,4 +1,4 @@
-use Rattle.rv_machine.proofs.Texts.{segment_is_in_memory}
+use Rattle.rv_machine.proofs.lemmas.Texts.{segment_is_in_memory}
 use Rattle.rv_machine.proofs.segment_laws.segment_is_in_memory.Goals as goal
 
 pub returns : goal.returns

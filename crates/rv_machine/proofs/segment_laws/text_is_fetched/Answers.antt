@@ -1,4 +1,4 @@
-use Rattle.rv_machine.proofs.Texts.{text_is_fetched}
+use Rattle.rv_machine.proofs.lemmas.Texts.{text_is_fetched}
 use Rattle.rv_machine.proofs.segment_laws.text_is_fetched.Goals as goal
 
 pub returns : goal.returns

@@ -1,22 +1,22 @@
 use Rattle.std.proofs.Common.{ℕ, List, [], ◌≡◌, ◌<◌, length, Vec, Global, slice_index_or, Contains, ap, subst, arith}
 use Rattle.std.specs.Prelude.{IfSome, IfNone}
 use Rattle.std.proofs.lemmas.List.{length-map}
-use Rattle.board_core.specs.declared.stand.Stand.{Stand}
+use Rattle.board_core.specs.declared.job_state.JobState.{JobState}
 use Rattle.board_core.specs.Board.{IsNext, IsReady}
 use Rattle.board_core.specs.History.{History, dep_lists, program_of, state_of}
-use Rattle.board_core.proofs.KeptLemmas.{stands-length, kept-search, next-some, next-none, written-back}
+use Rattle.board_core.proofs.KeptLemmas.{job_states-length, kept-search, next-some, next-none, written-back}
 use Rattle.board_core.proofs.board.Board.next_job.Goals as goal
 
 pub next_ready-requires-clause-few : goal.next_ready-requires-clause-few
 next_ready-requires-clause-few g c =
-    omega (arith, ap (λ (xs : List Stand). length xs) c.as_slice-2.ensures.value, stands-length _ c.self.inside.events.items _ _ _ _ _ c.self.invariant, c.self.invariant.few)
+    omega (arith, ap (λ (xs : List JobState). length xs) c.as_slice-2.ensures.value, job_states-length _ c.self.inside.events.items _ _ _ _ _ c.self.invariant, c.self.invariant.few)
 
 pub next_ready-requires-clause-deps_length : goal.next_ready-requires-clause-deps_length
 next_ready-requires-clause-deps_length g c =
     omega (
       arith,
-      ap (λ (xs : List Stand). length xs) c.as_slice-2.ensures.value,
-      stands-length _ c.self.inside.events.items _ _ _ _ _ c.self.invariant,
+      ap (λ (xs : List JobState). length xs) c.as_slice-2.ensures.value,
+      job_states-length _ c.self.inside.events.items _ _ _ _ _ c.self.invariant,
       ap (λ (xs : List (Vec ℕ Global)). length xs) c.as_slice.ensures.value,
       length-map c.self.inside.deps.items (λ (x : Vec ℕ Global). x.items),
     )
@@ -25,8 +25,8 @@ pub next_ready-requires-clause-checked_length : goal.next_ready-requires-clause-
 next_ready-requires-clause-checked_length g c =
     omega (
       arith,
-      ap (λ (xs : List Stand). length xs) c.as_slice-2.ensures.value,
-      stands-length _ c.self.inside.events.items _ _ _ _ _ c.self.invariant,
+      ap (λ (xs : List JobState). length xs) c.as_slice-2.ensures.value,
+      job_states-length _ c.self.inside.events.items _ _ _ _ _ c.self.invariant,
       ap (λ (xs : List ℕ). length xs) c.as_mut_slice.ensures.value,
       c.self.invariant.checked_length,
     )
@@ -36,8 +36,8 @@ next_ready-requires-clause-known g c j d h =
     let family : List (Vec ℕ Global) → Type 0 = λ x. Contains (slice_index_or (dep_lists x) j []) d in
     omega (
       arith,
-      ap (λ (xs : List Stand). length xs) c.as_slice-2.ensures.value,
-      stands-length _ c.self.inside.events.items _ _ _ _ _ c.self.invariant,
+      ap (λ (xs : List JobState). length xs) c.as_slice-2.ensures.value,
+      job_states-length _ c.self.inside.events.items _ _ _ _ _ c.self.invariant,
       c.self.invariant.ranked.known j d (subst family c.as_slice.ensures.value h),
     )
 

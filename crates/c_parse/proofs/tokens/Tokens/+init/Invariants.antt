@@ -1,19 +1,22 @@
 use Rattle.std.proofs.Common.{◌≡◌, ◌-◌, ◌+◌, ◌*◌}
-use Rattle.c_ast.specs.Classes.{InitItems}
+use Rattle.c_ast.specs.Nonterminals.{InitItems}
 use Rattle.c_grammar.specs.Reader.{read, turns}
 use Rattle.c_parse.specs.Made.{inits_tree}
 use Rattle.c_parse.proofs.tokens.Tokens.+init.Given as goal
 
 abbrev pub decreases-init : goal.decreases-init
-decreases-init l = 2 * l.depth
+decreases-init l = 2 * l.fuel
+
+abbrev pub decreases-init_list : goal.decreases-init_list
+decreases-init_list l = 2 * l.fuel + 1
 
 abbrev pub decreases-inits : goal.decreases-inits
-decreases-inits l = 2 * l.depth
+decreases-inits l = 2 * l.fuel
 
 abbrev pub decreases-more_inits : goal.decreases-more_inits
-decreases-more_inits l = 2 * l.depth + 1
+decreases-more_inits l = 2 * l.fuel + 1
 
 abbrev pub invariant-inits-loop-turn : goal.invariant-inits-loop-turn
 invariant-inits-loop-turn l =
-    read l.fn.depth InitItems l.fn.self
-    ≡ turns (read (l.fn.depth - 1)) (l.fn.depth - l._turn) InitItems (inits_tree l.inits) l.self
+    read l.fn.fuel InitItems l.fn.self
+    ≡ turns (read (l.fn.fuel - 1)) (l.fn.fuel - l._turn) InitItems (inits_tree l.inits) l.self

@@ -5,4 +5,4 @@ use Rattle.c_parse.proofs.tokens.Tokens.literal.Goals as goal
 
 pub returns-in_ok-bytes-in-Some : goal.returns-in_ok-bytes-in-Some
 returns-in_ok-bytes-in-Some c =
-    token-text _ _ _ _ (sym c.peek_text.ensures ∙ ap option_copied c.in-Some.is ∙ ap Some (sym c.in_ok-bytes-in-Some.ensures)) c.take-span.ensures
+    token-text _ _ _ _ (sym c.peek_literal.ensures ∙ ap option_copied c.in-Some.is ∙ ap Some (sym c.in_ok-bytes-in-Some.ensures)) c.take-span.ensures

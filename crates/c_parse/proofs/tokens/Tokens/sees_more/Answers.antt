@@ -1,4 +1,4 @@
-use Rattle.c_grammar.specs.Starts.{head}
+use Rattle.c_grammar.specs.PredictSets.{head}
 use Rattle.c_parse.proofs.DeclarationLemmas.{more-some}
 use Rattle.c_parse.proofs.tokens.Tokens.sees_more.Goals as goal
 

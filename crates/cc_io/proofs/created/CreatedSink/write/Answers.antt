@@ -1,14 +1,14 @@
-use Rattle.cc_io.proofs.CreatedLemmas.{written-ok, others-kept, other_left-same}
+use Rattle.cc_io.proofs.lemmas.Created.{written-ok, others-kept, other_left-same}
 use Rattle.cc_io.proofs.created.CreatedSink.write.Goals as goal
 
 pub returns-clause-bytes : goal.returns-clause-bytes
 returns-clause-bytes g c =
-    written-ok c.write.result _ _ _ _ c.args.piece.now c.write.ensures.told c.write.ensures.writing
+    written-ok c.write.result _ _ _ _ c.args.piece.now c.write.ensures.known c.write.ensures.writing
 
-pub returns-clause-beside : goal.returns-clause-beside
-returns-clause-beside g c =
+pub returns-clause-rest : goal.returns-clause-rest
+returns-clause-rest g c =
     let kept = c.write.ensures in
-    let others = others-kept c.write.result _ _ _ _ c.args.piece.now kept.told kept.err kept.writing in
+    let others = others-kept c.write.result _ _ _ _ c.args.piece.now kept.known kept.err kept.writing in
     let left = other_left-same _ _ _ _ _ _ kept.left kept.reading kept.writing in
     λ i. record {
       lender = c.args.self.now.files.ghost_name;

@@ -14,4 +14,6 @@ invariant_of-self c = record {
 pub returns-clause-left : goal.returns-clause-left
 returns-clause-left c = λ differ.
     let read = string_bytes c.args.self.now.read_name in
-    left-append c.append.result read c.as_str.result.now c.args.self.now.read_at c.args.piece.now (file_set c.args.self.now.files) (file_set c.append.new.files) c.append.ensures.ok c.append.ensures.err (λ same. differ (same ∙ ap Some c.as_str.ensures.value ∙ written-some c.args.self.now.is_written (string_bytes c.args.self.now.write_name) c.requires))
+    left-append c.append.result read c.as_str.result.now c.args.self.now.read_at c.args.piece.now (file_set c.args.self.now.files)
+    (file_set c.append.new.files) c.append.ensures.ok c.append.ensures.err
+    (λ same. differ (same ∙ ap Some c.as_str.ensures.value ∙ written-some c.args.self.now.is_written (string_bytes c.args.self.now.write_name) c.requires))

@@ -15,7 +15,7 @@ loop-done-init g c = record {
   flags = refl;
   reads = omega arith;
   writes = omega arith;
-  beside = refl;
+  rest = refl;
 }
 
 pub loop-done-preserved : goal.loop-done-preserved
@@ -28,7 +28,7 @@ loop-done-preserved g c =
       flags = d.flags ∙ c.loop-done.invariant.flags;
       reads = omega (arith, d.read_faults, c.loop-done.invariant.reads);
       writes = omega (arith, d.write_faults, c.loop-done.invariant.writes);
-      beside = d.beside ∙ c.loop-done.invariant.beside;
+      rest = d.rest ∙ c.loop-done.invariant.rest;
     }
 
 pub step_from-requires : goal.step_from-requires

@@ -15,5 +15,5 @@ invariant-loop-done g l = record {
   flags : flags_in l.self ≡ flags_in l.fn.self;
   reads : g.I.Source.faults l.fn.input ≤ g.I.Source.faults l.input;
   writes : g.O.Sink.faults l.fn.output ≤ g.O.Sink.faults l.output;
-  beside : g.O.Sink.beside l.output ≡ g.O.Sink.beside l.fn.output;
+  rest : g.O.Sink.rest l.output ≡ g.O.Sink.rest l.fn.output;
 }

@@ -1,5 +1,6 @@
 use Rattle.std.proofs.Common.{◌≡◌, ℕ, true}
-use Rattle.rv_machine.specs.Machine.{State, a1}
+use Rattle.rv_isa.specs.Registers.{a1}
+use Rattle.rv_machine.specs.Machine.{State}
 use Rattle.rv_machine.specs.Memory.{allowed, to_write}
 use Rattle.rv_machine.specs.View.{state_of, flags_in}
 use Rattle.rv_machine.proofs.machine.Machine.step_from.Goals as goal

@@ -1,5 +1,5 @@
 use Rattle.std.proofs.Common.{sym}
-use Rattle.rv_machine.proofs.Found.{part_of, outside_of}
+use Rattle.rv_machine.proofs.Found.{block_of, outside_of}
 use Rattle.rv_machine.proofs.memory.Memory.find.Goals as goal
 
 pub returns-in_err-block_at : goal.returns-in_err-block_at
@@ -8,6 +8,6 @@ returns-in_err-block_at c =
 
 pub returns : goal.returns
 returns c =
-    part_of c.args.self.now c.args.address c.in_ok-block_at.field-0 c.index.result.now c.args.self.now.apart
+    block_of c.args.self.now c.args.address c.in_ok-block_at.field-0 c.index.result.now c.args.self.now.apart
     c.in_ok-block_at.ensures.0 (sym c.index.ensures)
     (rw c.index.ensures (c.in_ok-block_at.ensures.1 c.index.result.now))

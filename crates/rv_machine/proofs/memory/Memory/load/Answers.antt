@@ -1,7 +1,7 @@
 use Rattle.std.proofs.Common.{◌≡◌, ◌+◌, ◌-◌, ◌≤◌, true, false, length, take, vec_len, Some, ap, ◌∙◌, arith, rules, refl, length-drop}
 use Rattle.rv_machine.specs.declared.block.Block.{Block}
 use Rattle.rv_machine.specs.Memory.{has_flag, number}
-use Rattle.rv_machine.proofs.Parts.{outside-allowed, part-bad, part-allowed, part-load}
+use Rattle.rv_machine.proofs.HeldBlocks.{outside-allowed, block-bad, block-allowed, block-load}
 use Rattle.rv_machine.proofs.memory.Memory.load.Goals as goal
 
 pub returns-in_err-block-clause-value : goal.returns-in_err-block-clause-value
@@ -12,7 +12,7 @@ returns-in_err-block-clause-value c =
 pub returns-then-not-has_flag-clause-value : goal.returns-then-not-has_flag-clause-value
 returns-then-not-has_flag-clause-value c =
     let bad : has_flag c.in_ok-block.block.now.flags c.args.flag ≡ false = search rules in
-    rw (part-bad c.args.self.now c.args.address c.in_ok-block.block.now c.in_ok-block.ensures c.args.flag c.args.width (omega arith) bad) refl
+    rw (block-bad c.args.self.now c.args.address c.in_ok-block.block.now c.in_ok-block.ensures c.args.flag c.args.width (omega arith) bad) refl
 
 pub returns-clause-value : goal.returns-clause-value
 returns-clause-value c =
@@ -22,6 +22,6 @@ returns-clause-value c =
     ap length c.bytes_from-bytes.ensures ∙ length-drop (c.args.address - b.at) b.bytes.items in
     let within : c.args.address + c.args.width ≤ b.at + vec_len b.bytes =
     omega (arith, from, c.if-bytes-width.false, c.in_ok-block.ensures.above, c.in_ok-block.ensures.below, b.bytes.ok) in
-    rw (part-allowed c.args.self.now c.args.address b c.in_ok-block.ensures c.args.flag c.args.width within good)
-    rw (part-load c.args.self.now c.args.address b c.in_ok-block.ensures c.args.width within)
+    rw (block-allowed c.args.self.now c.args.address b c.in_ok-block.ensures c.args.flag c.args.width within good)
+    rw (block-load c.args.self.now c.args.address b c.in_ok-block.ensures c.args.width within)
     (ap Some (c.number_of.ensures.value ∙ ap (λ bs. number (take c.args.width bs)) c.bytes_from-bytes.ensures))

@@ -1,8 +1,8 @@
 use Rattle.std.proofs.Common.{◌≡◌, ◌+◌, ◌-◌, ◌≤◌, length, vec_len, sym, ap, ◌∙◌, arith, length-drop}
 use Rattle.rv_machine.specs.declared.block.Block.{Block}
-use Rattle.rv_machine.specs.Blocks.{IsPart}
-use Rattle.rv_machine.proofs.Found.{part_of, outside_of}
-use Rattle.rv_machine.proofs.Parts.{outside-allowed, part-bad, part-allowed}
+use Rattle.rv_machine.specs.Blocks.{IsBlockAt}
+use Rattle.rv_machine.proofs.Found.{block_of, outside_of}
+use Rattle.rv_machine.proofs.HeldBlocks.{outside-allowed, block-bad, block-allowed}
 use Rattle.rv_machine.proofs.memory.Memory.store.Goals as goal
 
 pub returns-in_default-clause-done : goal.returns-in_default-clause-done
@@ -12,19 +12,19 @@ returns-in_default-clause-done c =
 pub returns-then-not-has_flag-clause-done : goal.returns-then-not-has_flag-clause-done
 returns-then-not-has_flag-clause-done c =
     let b : Block = c.index-block.result.now in
-    let part : IsPart c.args.self.now c.args.address b =
-    part_of c.args.self.now c.args.address c.in-Some.k b c.args.self.now.apart c.in-Some.ensures.0 (sym c.index-block.ensures)
+    let part : IsBlockAt c.args.self.now c.args.address b =
+    block_of c.args.self.now c.args.address c.in-Some.k b c.args.self.now.apart c.in-Some.ensures.0 (sym c.index-block.ensures)
     (rw c.index-block.ensures (c.in-Some.ensures.1 b)) in
-    sym (part-bad c.args.self.now c.args.address b part 2 c.args.width (omega arith) (sym c.if-not-has_flag.ensures))
+    sym (block-bad c.args.self.now c.args.address b part 2 c.args.width (omega arith) (sym c.if-not-has_flag.ensures))
 
 pub returns-clause-done : goal.returns-clause-done
 returns-clause-done c =
     let b : Block = c.index-block.result.now in
-    let part : IsPart c.args.self.now c.args.address b =
-    part_of c.args.self.now c.args.address c.in-Some.k b c.args.self.now.apart c.in-Some.ensures.0 (sym c.index-block.ensures)
+    let part : IsBlockAt c.args.self.now c.args.address b =
+    block_of c.args.self.now c.args.address c.in-Some.k b c.args.self.now.apart c.in-Some.ensures.0 (sym c.index-block.ensures)
     (rw c.index-block.ensures (c.in-Some.ensures.1 b)) in
     let from : length c.bytes_from.result.now ≡ length b.bytes.items - (c.args.address - b.at) =
     ap length c.bytes_from.ensures ∙ length-drop (c.args.address - b.at) b.bytes.items in
     let within : c.args.address + c.args.width ≤ b.at + vec_len b.bytes =
     omega (arith, from, c.if-bytes_from-width.false, part.above, part.below, b.bytes.ok) in
-    sym (part-allowed c.args.self.now c.args.address b part 2 c.args.width within (sym c.if-not-has_flag.ensures))
+    sym (block-allowed c.args.self.now c.args.address b part 2 c.args.width within (sym c.if-not-has_flag.ensures))

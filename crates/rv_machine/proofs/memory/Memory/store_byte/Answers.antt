@@ -4,7 +4,7 @@ use Rattle.rv_machine.specs.Blocks.{bytes_of, allowance_of, IsOutside}
 use Rattle.rv_machine.specs.Memory.{has_flag, store_bytes}
 use Rattle.rv_machine.proofs.Access.{allowed-one}
 use Rattle.rv_machine.proofs.Found.{outside_of}
-use Rattle.rv_machine.proofs.Parts.{zero_flags}
+use Rattle.rv_machine.proofs.HeldBlocks.{zero_flags}
 use Rattle.rv_machine.proofs.Writes.{store-one}
 use Rattle.rv_machine.proofs.memory.Memory.store_byte.Goals as goal
 

@@ -1,5 +1,0 @@
-use Rattle.c_grammar.proofs.Judgement as judgement
-use Rattle.c_grammar.proofs.laws.tokens_are_wrong_from_one_place.Goals as goal
-
-pub returns : goal.returns
-returns c = judgement.one_place

@@ -1,0 +1,5 @@
+use Rattle.c_mean.proofs.lemmas.ExtendRuns.{deepest_grows}
+use Rattle.c_mean.proofs.laws.deepest_grows.Goals as goal
+
+pub returns : goal.returns
+returns c = deepest_grows

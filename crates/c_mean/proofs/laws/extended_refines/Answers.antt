@@ -1,0 +1,5 @@
+use Rattle.c_mean.proofs.lemmas.Extends.{extended_refines}
+use Rattle.c_mean.proofs.laws.extended_refines.Goals as goal
+
+pub returns : goal.returns
+returns g c = extended_refines

@@ -1,0 +1,5 @@
+pub mod State
+pub mod Expressions
+pub mod Statements
+pub mod Run
+pub mod RunLaws

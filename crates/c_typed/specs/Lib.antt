@@ -1,0 +1,10 @@
+pub mod Typed
+pub mod ExprEncoding
+pub mod StmtEncoding
+pub mod ProgramEncoding
+pub mod ExprViews
+pub mod ExprHeight
+pub mod StmtViews
+pub mod StmtHeight
+pub mod ProgramViews
+pub mod WellTyped

@@ -1,0 +1,13 @@
+use Rattle.std.proofs.Common.{◌∙◌, ap₂}
+use Rattle.std.proofs.lemmas.Result.{IfOk-weaker}
+use Rattle.clap.specs.Words.{with_subcommand}
+use Rattle.cc_command.specs.Arguments.{rvcc}
+use Rattle.cc_command.proofs.arguments.rvcc.Goals as goal
+
+pub returns : goal.returns
+unfolding rvcc
+returns c =
+    let build = c.in_ok-subcommand.ensures.shape c.in_ok-build_arguments.ensures.globals ∙ ap₂ with_subcommand c.new.ensures.app c.in_ok-build_arguments.ensures.shape in
+    let run = c.in_ok-subcommand-2.ensures.shape c.in_ok-run_arguments.ensures.globals ∙ ap₂ with_subcommand build c.in_ok-run_arguments.ensures.shape in
+    IfOk-weaker c.subcommand-3.result _ _
+    (λ m added. added.shape c.in_ok-generate_arguments.ensures.globals ∙ ap₂ with_subcommand run c.in_ok-generate_arguments.ensures.shape) c.subcommand-3.ensures

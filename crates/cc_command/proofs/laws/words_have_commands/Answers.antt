@@ -1,5 +1,0 @@
-use Rattle.cc_command.proofs.CommandRowsLemmas.{build_rows, run_rows, other_rows, gen_rows}
-use Rattle.cc_command.proofs.laws.words_have_commands.Goals as goal
-
-pub returns : goal.returns
-returns c = (build_rows, run_rows, other_rows, gen_rows)

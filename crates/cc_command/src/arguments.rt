@@ -1,0 +1,174 @@
+//! The arguments of the command line.
+ghost use Rattle.std.specs.Prelude.{◌≡◌, false, map, option_and_then, option_map, IfOk};
+ghost use Rattle.std.specs.String.{string_bytes};
+ghost use Rattle.clap.specs.Words.{app_of, first_of, found_of, rows_of, shape_of, subcommand_rows_of};
+ghost use Rattle.clap.specs.declared.builder.command.Command.TheViews.{out-Command as fields_of};
+ghost use Rattle.cc_command.specs.Arguments.{rvcc, shape_of_form};
+ghost use Rattle.cc_command.specs.Command.{command_of, build_form, forms, generate_form, run_form, steps_option};
+ghost use Rattle.cc_command.specs.Forms.{form_named, number, value_or_default};
+ghost use Rattle.cc_command.specs.Reading.{found_by, read_by, read_command};
+ghost use Rattle.cc_command.specs.PlainCommand.{plain_command};
+
+use crate::numbers::number_in;
+use crate::reader::{help_is_asked, value, with_option, with_required};
+use clap::error::ErrorKind;
+use clap::{ArgMatches, Command as Reader};
+use std::alloc::{AllocError, Global};
+
+/// What the arguments of a command line ask for.
+#[derive(Clone, Copy)]
+pub enum Command<'a> {
+    /// `build IN OUT`: compile the source named IN to the image named OUT.
+    Build {
+        source: &'a str,
+        image: &'a str,
+    },
+    /// `run IMG [--steps N]`: run the image named IMG for at most N instructions, 1 to 10^12; 10^9
+    /// where N is not given.
+    Run {
+        image: &'a str,
+        steps: u64,
+    },
+    /// `gen NUMBER COUNT OUT`: write the generated program of COUNT functions whose draws begin
+    /// with NUMBER to the file OUT.
+    Generate {
+        start: u32,
+        functions: u32,
+        out: &'a str,
+    },
+}
+
+fn build_arguments<'a>(alloc: Global) -> Result<Reader<'a>, AllocError>
+    ensures shape { IfOk result (λ c. shape_of c ≡ shape_of_form build_form) }
+    ensures globals { IfOk result (λ c. (fields_of c).has_globals ≡ false) }
+{
+    let command = with_required(alloc, Reader::new(alloc, "build"), "IN")?;
+    with_required(alloc, command, "OUT")
+}
+
+fn run_arguments<'a>(alloc: Global) -> Result<Reader<'a>, AllocError>
+    ensures shape { IfOk result (λ c. shape_of c ≡ shape_of_form run_form) }
+    ensures globals { IfOk result (λ c. (fields_of c).has_globals ≡ false) }
+{
+    let command = with_required(alloc, Reader::new(alloc, "run"), "IMG")?;
+    with_option(alloc, command, "steps")
+}
+
+fn generate_arguments<'a>(alloc: Global) -> Result<Reader<'a>, AllocError>
+    ensures shape { IfOk result (λ c. shape_of c ≡ shape_of_form generate_form) }
+    ensures globals { IfOk result (λ c. (fields_of c).has_globals ≡ false) }
+{
+    let command = with_required(alloc, Reader::new(alloc, "gen"), "NUMBER")?;
+    let command = with_required(alloc, command, "COUNT")?;
+    with_required(alloc, command, "OUT")
+}
+
+/// The program, of which each command is a subcommand.
+fn rvcc<'a>(alloc: Global) -> Result<Reader<'a>, AllocError>
+    ensures { IfOk result (λ c. app_of c ≡ rvcc) }
+{
+    Reader::new(alloc, "rvcc")
+        .subcommand(build_arguments(alloc)?)?
+        .subcommand(run_arguments(alloc)?)?
+        .subcommand(generate_arguments(alloc)?)
+}
+
+fn build_in<'a>(arguments: &ArgMatches<'a>) -> Option<Command<'a>>
+    ensures { option_map plain_command result
+        ≡ read_by build_form (rows_of (found_of arguments.now)) }
+{
+    Some(Command::Build {
+        source: value(arguments, "IN")?,
+        image: value(arguments, "OUT")?,
+    })
+}
+
+/// How many instructions a run may have.
+fn steps_in(arguments: &ArgMatches<'_>) -> Option<u64>
+    ensures { option_map number result
+        ≡ value_or_default steps_option
+        (first_of steps_option.name (rows_of (found_of arguments.now))) }
+{
+    match value(arguments, "steps") {
+        Some(text) => number_in(1, 1_000_000_000_000, text),
+        None => Some(1_000_000_000),
+    }
+}
+
+fn run_in<'a>(arguments: &ArgMatches<'a>) -> Option<Command<'a>>
+    ensures { option_map plain_command result
+        ≡ read_by run_form (rows_of (found_of arguments.now)) }
+{
+    Some(Command::Run {
+        image: value(arguments, "IMG")?,
+        steps: steps_in(arguments)?,
+    })
+}
+
+fn generate_in<'a>(arguments: &ArgMatches<'a>) -> Option<Command<'a>>
+    ensures { option_map plain_command result
+        ≡ read_by generate_form (rows_of (found_of arguments.now)) }
+{
+    let start = number_in(0, 4_294_967_295, value(arguments, "NUMBER")?)?;
+    let functions = number_in(1, 511, value(arguments, "COUNT")?)?;
+    Some(Command::Generate {
+        start: start as u32,
+        functions: functions as u32,
+        out: value(arguments, "OUT")?,
+    })
+}
+
+/// The command of this name with these arguments.
+fn command_named<'a>(name: &str, arguments: &ArgMatches<'a>) -> Option<Command<'a>>
+    ensures { option_map plain_command result
+        ≡ option_and_then (λ form. read_by form (rows_of (found_of arguments.now)))
+        (form_named name.now forms) }
+{
+    match name {
+        "build" => build_in(arguments),
+        "run" => run_in(arguments),
+        "gen" => generate_in(arguments),
+        _ => None,
+    }
+}
+
+/// The command that the arguments name.
+fn command_in<'a>(arguments: &ArgMatches<'a>) -> Option<Command<'a>>
+    ensures { option_map plain_command result ≡ found_by forms (subcommand_rows_of arguments.now) }
+{
+    let (name, arguments) = arguments.subcommand()?;
+    command_named(name, arguments)
+}
+
+/// The command of the arguments as they are read, the program's name first; `None` where they are
+/// no command.
+fn read_arguments<'a>(
+    alloc: Global,
+    arguments: &'a [String],
+) -> Result<Option<Command<'a>>, AllocError>
+    ensures { IfOk result (λ command. option_map plain_command command
+        ≡ read_command (map string_bytes arguments.entry.now)) }
+{
+    match rvcc(alloc)?.try_get_matches_from(arguments) {
+        Ok(matches) => Ok(command_in(&matches)),
+        Err(error) => match error.kind() {
+            ErrorKind::OutOfMemory => Err(AllocError),
+            _ => Ok(None),
+        },
+    }
+}
+
+/// The command of the arguments, the program's name first; `None` where they are no command.
+pub fn parse_command<'a>(
+    alloc: Global,
+    arguments: &'a [String],
+) -> Result<Option<Command<'a>>, AllocError>
+    ensures { IfOk result (λ command. option_map plain_command command
+        ≡ command_of (map string_bytes arguments.entry.now)) }
+{
+    if help_is_asked(arguments) {
+        Ok(None)
+    } else {
+        read_arguments(alloc, arguments)
+    }
+}

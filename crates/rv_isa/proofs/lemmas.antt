@@ -1,0 +1,4 @@
+pub mod DecodedEncodes
+pub mod EncodedDecodes
+pub mod EncodedFitsWord
+pub mod WordParts

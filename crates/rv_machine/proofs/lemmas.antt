@@ -1,0 +1,4 @@
+pub mod RunLaws
+pub mod Stores
+pub mod Texts
+pub mod Unwritable

@@ -1,0 +1,2 @@
+// refused BadNumber 9 line 2
+int main(void) { return 08; }

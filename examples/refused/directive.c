@@ -1,0 +1,2 @@
+// refused Directive 7 line 2
+#define N 42

@@ -1,0 +1,2 @@
+// refused LeftOut 21 line 2
+int main(void) { goto a; }

@@ -1,0 +1,2 @@
+// refused OpenText 3 line 2
+int main(void) { return 'a; }

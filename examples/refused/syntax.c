@@ -1,0 +1,2 @@
+// refused Syntax 23 line 2
+int main(void) { return 0 }
