@@ -1,9 +1,10 @@
 -- The labels of a code are those from its first on, each marked once.
-use Rattle.std.proofs.Common.{◌≡◌, ◌<◌, ◌≤◌, ℕ, suc, ◌+◌, Bool, true, List, [], ◌∷◌, ◌++◌, map, refl, sym, ap, ◌∙◌, arith, zero-add}
-use Rattle.std.specs.Prelude.{◌==◌, nat_lt, ◌&&◌, IsTrue, if◌then◌else◌}
+use Rattle.std.proofs.Common.{◌≡◌, ◌<◌, ◌≤◌, ℕ, suc, ◌+◌, true, List, [], ◌∷◌, ◌++◌, map, refl, sym, ap, ◌∙◌, arith, zero-add}
+use Rattle.std.specs.Prelude.{◌==◌, nat_lt, IsTrue, if◌then◌else◌}
 use Rattle.std.proofs.lemmas.Bool.Decides.{nat_tests}
 use Rattle.g_graph.specs.WellFormed.{all_of}
-use Rattle.g_graph.proofs.lemmas.Unique.{all_of_append, first_true, second_true}
+use Rattle.g_graph.proofs.lemmas.Unique.{all_of_append}
+use Rattle.s_linear.proofs.Both.{both, first_true, second_true}
 use Rattle.s_linear.specs.Linear.{Instr, Step, plain, choice, loop, Code, no_steps, step_then, Codes, no_codes, code_then, LinearFunction}
 use Rattle.s_linear.specs.Lines.{Line, enter, leave, done, branch_not_zero, branch_zero, branch_equal, jump, label, counted, step_labels, code_labels, codes_labels, last_labels, LinesOf, branches, last_lines, labelled, before_last, choice_lines, step_lines, code_lines, codes_lines, marks, goes_to, numbers_from, lines}
 
@@ -258,9 +259,6 @@ labels_are_marked_once f k =
 
 below_true : (l n : ℕ) → l < n → nat_lt l n ≡ true
 below_true l n h = grind (arith, nat_tests)
-
-both : (a b : Bool) → a ≡ true → b ≡ true → (a && b) ≡ true
-both a b p q = λ i. p i && q i
 
 module _ (n : ℕ) where
   abbrev Goes : List Line → Type 0

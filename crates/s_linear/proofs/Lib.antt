@@ -1,2 +1,3 @@
+pub mod Both
 mod Labels
 pub mod Passing

@@ -1,8 +1,8 @@
 -- A test of lines holds of all lines of a code where it holds of those that its steps make.
 use Rattle.std.proofs.Common.{◌≡◌, ℕ, suc, ◌+◌, Bool, true, List, [], ◌∷◌, ◌++◌, map, refl, ◌∙◌}
-use Rattle.std.specs.Prelude.{◌&&◌}
 use Rattle.g_graph.specs.WellFormed.{all_of}
-use Rattle.g_graph.proofs.lemmas.Unique.{all_of_append, first_true, second_true}
+use Rattle.g_graph.proofs.lemmas.Unique.{all_of_append}
+use Rattle.s_linear.proofs.Both.{both, first_true, second_true}
 use Rattle.s_linear.specs.Linear.{Step, plain, choice, loop, Code, no_steps, step_then, Codes, no_codes, code_then, LinearFunction}
 use Rattle.s_linear.specs.Lines.{Line, enter, leave, done, branch_not_zero, branch_zero, branch_equal, jump, label, counted, step_labels, code_labels, last_from, others_from, LinesOf, branches, last_lines, labelled, before_last, choice_lines, step_lines, code_lines, codes_lines, numbers_from, lines}
 
@@ -22,9 +22,6 @@ module _ (test : Line → Bool) where
     pub CodesPass : Codes → Type 0
     CodesPass no_codes = Unit {0}
     CodesPass (code_then c cs) = CodePasses c × CodesPass cs
-
-pub both : (a b : Bool) → a ≡ true → b ≡ true → (a && b) ≡ true
-both a b p q = λ i. p i && q i
 
 module _ (test : Line → Bool) (jumps : (l : ℕ) → test (jump l) ≡ true) (labels : (l : ℕ) → test (label l) ≡ true) where
   abbrev Pass : List Line → Type 0
