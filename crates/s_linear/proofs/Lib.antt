@@ -1,0 +1,3 @@
+pub mod Both
+mod Labels
+pub mod Passing

@@ -1,6 +1,6 @@
 -- The frame of a function whose names have so many places: the first eleven places are registers, the others words at the
 -- foot of the frame; objects come after them; then the saved registers and the return address, up to a multiple of 16.
-use Rattle.std.specs.Prelude.{ℕ, ◌+◌, ◌-◌, ◌*◌, ◌/◌, List, [], ◌∷◌, min, take}
+use Rattle.std.specs.Prelude.{ℕ, ◌+◌, ◌-◌, ◌*◌, ◌/◌, List, min, take}
 use Rattle.std.specs.List.{sum_by}
 use Rattle.g_graph.specs.Plain.{PlainObject}
 
@@ -28,3 +28,8 @@ object_at s objects k = objects_at s + sum_by object_room (take k objects)
 
 abbrev pub frame_size : (places : ℕ) → List PlainObject → ℕ
 frame_size s objects = (4 * s + sum_by object_room objects + 4 + 15) / 16 * 16
+
+-- which place each name has, in the order of the names, and how many places there are
+pub record PlainPlaces : Type 0 where
+  pub of : List ℕ
+  pub count : ℕ

@@ -2,3 +2,5 @@ pub mod Linear
 pub mod Lines
 pub mod Meaning
 pub mod Frame
+pub mod Views
+pub mod Laws

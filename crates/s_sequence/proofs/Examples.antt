@@ -1,5 +1,5 @@
 -- Worked rows: the lines of small lambdas.
-use Rattle.std.specs.Prelude.{◌≡◌, refl, ℕ, List, [], ◌∷◌}
+use Rattle.std.specs.Prelude.{◌≡◌, refl, [], ◌∷◌}
 use Rattle.val_core.specs.declared.operation.Op2.TheVariants.{Sub}
 use Rattle.g_graph.specs.declared.op.Kind.TheVariants.{Value, Memory, Io}
 use Rattle.g_graph.specs.declared.op.Origin.TheVariants.{Arg, Out}

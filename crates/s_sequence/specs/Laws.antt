@@ -1,0 +1,57 @@
+-- What holds of the linear code of a lambda.
+use Rattle.std.specs.Prelude.{◌≡◌, ℕ, ◌-◌, nat_lt, Bool, true, IsTrue, [], ◌∷◌, ◌++◌, length}
+use Rattle.g_graph.specs.declared.op.Op.{Op}
+use Rattle.g_graph.specs.declared.op.Op.TheVariants.{Apply}
+use Rattle.g_graph.specs.Plain.{PlainLambda}
+use Rattle.g_graph.specs.Count.{region_values}
+use Rattle.g_graph.specs.Lists.{RegionOps}
+use Rattle.g_graph.specs.WellFormed.{all_of, is_width, IsWellFormed}
+use Rattle.s_linear.specs.Linear.{Instr, object_address, load, store, clear, call}
+use Rattle.s_linear.specs.Lines.{enter, leave, does, names_below, numbers_from, code_lines, lines}
+use Rattle.s_sequence.specs.Sequence.{sequenced}
+
+-- an instruction's width is 1, 2 or 4
+abbrev pub has_its_width : Instr → Bool
+has_its_width (load width t a) = is_width width
+has_its_width (store width a v) = is_width width
+has_its_width _ = true
+
+-- an instruction names one of so many objects
+abbrev pub has_its_object : ℕ → Instr → Bool
+has_its_object objects (object_address t k) = nat_lt k objects
+has_its_object objects (clear k) = nat_lt k objects
+has_its_object objects _ = true
+
+-- a call's function and number of arguments pass
+abbrev pub calls_with : (ℕ → ℕ → Bool) → Instr → Bool
+calls_with test (call f t arguments) = test f (length arguments)
+calls_with test _ = true
+
+-- an Apply's function and number of inputs without its states pass
+abbrev pub Applies : (ℕ → ℕ → Bool) → Op → (count : ℕ) → Type 0
+Applies test (Apply f) count = test f (count - 2) ≡ true
+Applies test op count = Unit {0}
+
+-- Each name is below the number of the lambda's values.
+abbrev pub NamesAreBelow : Type 0
+NamesAreBelow = (l : PlainLambda) → IsWellFormed l → IsTrue (all_of (names_below (region_values l.body)) (lines (sequenced l)))
+
+-- Each width is 1, 2 or 4.
+abbrev pub WidthsFit : Type 0
+WidthsFit = (l : PlainLambda) → IsWellFormed l → IsTrue (all_of (does has_its_width) (lines (sequenced l)))
+
+-- Each object that is named is one of the lambda's.
+abbrev pub ObjectsAreThere : Type 0
+ObjectsAreThere = (l : PlainLambda) → IsWellFormed l → IsTrue (all_of (does (has_its_object (length l.objects))) (lines (sequenced l)))
+
+-- A call has two arguments fewer than its Apply has inputs: what holds of each Apply's holds of each call's.
+abbrev pub CallsKeepArguments : Type 0
+CallsKeepArguments =
+    (test : ℕ → ℕ → Bool) (l : PlainLambda) → RegionOps (Applies test) l.body →
+    IsTrue (all_of (does (calls_with test)) (lines (sequenced l)))
+
+-- The parameters are the first names in order, on the first line, and the last line leaves with the value.
+abbrev pub ParamsAreFirst : Type 0
+ParamsAreFirst =
+    (l : PlainLambda) →
+    lines (sequenced l) ≡ (enter (numbers_from 0 l.params) ∷ code_lines 0 (sequenced l).code) ++ leave (sequenced l).value ∷ []

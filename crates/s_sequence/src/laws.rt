@@ -1,0 +1,30 @@
+//! Laws of the linear code of a lambda, for the proofs of the crates above: each is the contract of
+//! a function that does nothing.
+
+ghost use Rattle.s_sequence.specs.Laws.{NamesAreBelow, WidthsFit, ObjectsAreThere, CallsKeepArguments, ParamsAreFirst};
+
+/// Each name is below the number of the lambda's values.
+pub fn names_are_below()
+    ensures { NamesAreBelow }
+{}
+
+/// Each width is 1, 2 or 4.
+pub fn widths_fit()
+    ensures { WidthsFit }
+{}
+
+/// Each object that is named is one of the lambda's.
+pub fn objects_are_there()
+    ensures { ObjectsAreThere }
+{}
+
+/// A call has two arguments fewer than its Apply has inputs.
+pub fn calls_keep_arguments()
+    ensures { CallsKeepArguments }
+{}
+
+/// The parameters are the first names in order, on the first line, and the last line leaves with
+/// the value.
+pub fn params_are_first()
+    ensures { ParamsAreFirst }
+{}
