@@ -1,11 +1,12 @@
 -- Beginnings of a history, and what stays.
-use Rattle.std.proofs.Common.{◌≡◌, ◌≢◌, ℕ, inl, inr, List, [], ◌∷◌, ◌++◌, length, map, slice_index_or, slice_set, refl, sym, ap, ◌∙◌, arith}
+use Rattle.std.proofs.Common.{◌≡◌, ◌≢◌, ℕ, inl, inr, Some, List, [], ◌∷◌, ◌++◌, length, map, slice_index_or, slice_set, refl, sym, ap, ◌∙◌, arith}
 use Rattle.std.proofs.lemmas.List.{length-map, get_or-map, get_or_past, get_or-set_other}
 use Rattle.std.proofs.lemmas.Bool.{cases_lt, cases_eq}
 use Rattle.board_core.specs.declared.event.Event.{Event}
 use Rattle.board_core.specs.declared.event.Event.TheVariants.{Claim, Publish, Stop}
 use Rattle.board_core.specs.Board.{Job, Open, Held, Out, Program, State, job_at, released, MayHappen, after, start, replay_from, IsLegalFrom}
-use Rattle.board_laws.specs.Beginnings.{HistoriesGrow, ReplaysGoOn, EventsGoOn, BeginningsAreLegal, ResultsStay}
+use Rattle.board_core.specs.Laws.{DepsGiveAnswer}
+use Rattle.board_laws.specs.Beginnings.{HistoriesGrow, ReplaysGoOn, EventsGoOn, BeginningsAreLegal, ResultsStay, HeldJobsKeepResults}
 
 module _ {M : Type 0} where
   replay_from-append : (program : Program M) (state : State M) (before later : List Event)
@@ -77,3 +78,12 @@ module _ {M : Type 0} where
       let rest = (legal_from-split program (start program) before later legal).1 in
       ap (λ state. job_at state j) (replays-go-on program before later)
       ∙ out-from program (replay_from program (start program) before) later rest j made out
+
+  some-same : (x y : M) → Some x ≡ Some y → x ≡ y
+  some-same x y e = cc
+
+  pub held-jobs-keep-results : DepsGiveAnswer M → HeldJobsKeepResults M
+  held-jobs-keep-results gives program before later ranked legal worker j was is =
+      some-same _ _
+      (sym (gives program before ranked (beginnings-are-legal program before later legal) j (inr (worker, was)))
+      ∙ gives program (before ++ later) ranked legal j (inr (worker, is)))

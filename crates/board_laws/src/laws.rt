@@ -1,6 +1,8 @@
 //! Laws of the board, for the proofs of workers: each is the contract of a function that does
 //! nothing.
-ghost use Rattle.board_laws.specs.Beginnings.{HistoriesGrow, ReplaysGoOn, EventsGoOn, BeginningsAreLegal, ResultsStay};
+ghost use Rattle.board_laws.specs.Beginnings.{HistoriesGrow, ReplaysGoOn, EventsGoOn, BeginningsAreLegal, ResultsStay, HeldJobsKeepResults};
+
+use board_core::laws::deps_give_answer;
 
 /// A history and one event more is legal exactly where the history is and the event may happen
 /// where it leads.
@@ -27,3 +29,11 @@ pub fn beginnings_are_legal<M>()
 pub fn results_stay<M>()
     ensures { ResultsStay M }
 {}
+
+/// Where a worker holds a job after a beginning and after the whole, the result of the job is the
+/// same from the results of its deps at either time.
+pub fn held_jobs_keep_results<M>()
+    ensures { HeldJobsKeepResults M }
+{
+    deps_give_answer::<M>();
+}
