@@ -1,0 +1,39 @@
+//! Laws of the board, for the proofs of workers: each is the contract of a function that does
+//! nothing.
+ghost use Rattle.board_laws.specs.Beginnings.{HistoriesGrow, ReplaysGoOn, EventsGoOn, BeginningsAreLegal, ResultsStay, HeldJobsKeepResults};
+
+use board_core::laws::deps_give_answer;
+
+/// A history and one event more is legal exactly where the history is and the event may happen
+/// where it leads.
+pub fn histories_grow<M>()
+    ensures { HistoriesGrow M }
+{}
+
+/// Two lists of events in a row lead where the second leads from where the first does.
+pub fn replays_go_on<M>()
+    ensures { ReplaysGoOn M }
+{}
+
+/// One event more leads where the event does from where the history leads.
+pub fn events_go_on<M>()
+    ensures { EventsGoOn M }
+{}
+
+/// A beginning of a legal history is legal.
+pub fn beginnings_are_legal<M>()
+    ensures { BeginningsAreLegal M }
+{}
+
+/// A job that is out after a beginning is out after the whole, with the same result.
+pub fn results_stay<M>()
+    ensures { ResultsStay M }
+{}
+
+/// Where a worker holds a job after a beginning and after the whole, the result of the job is the
+/// same from the results of its deps at either time.
+pub fn held_jobs_keep_results<M>()
+    ensures { HeldJobsKeepResults M }
+{
+    deps_give_answer::<M>();
+}
