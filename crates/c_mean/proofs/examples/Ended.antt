@@ -220,6 +220,18 @@ recursion =
 recursion-heard : heard 11 recursion [] ≡ record { output = []; rest = []; ending = exit 1 }
 recursion-heard = refl
 
+-- int f(int n) { putchar(65); return f(n + 1); } int main(void) { return f(0); }
+abbrev deep_calls : ProgramTree
+deep_calls =
+    program 1
+    (function int 1 (int_value ∷ [])
+    (stmt_then (value (put (number 65))) (
+    stmt_then (return_value (called 0 (expr_then (computed op.Add (variable 0) (number 1)) no_exprs))) no_items)) ∷
+    function int 0 [] (stmt_then (return_value (called 0 (expr_then (number 0) no_exprs))) no_items) ∷ [])
+
+deep_calls-heard : heard 3 deep_calls [] ≡ record { output = 65 ∷ 65 ∷ 65 ∷ []; rest = []; ending = cut }
+deep_calls-heard = refl
+
 -- int main(void) { while (1) putchar(66); }
 abbrev bytes_of_loop : ProgramTree
 bytes_of_loop = program 0 (function int 0 [] (stmt_then (loop (some_expr (number 1)) no_expr (value (put (number 66)))) no_items) ∷ [])
