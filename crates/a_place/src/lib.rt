@@ -1,0 +1,6 @@
+//! The places of a function's names, and its frame. It stands on s_linear and g_graph.
+#![tactic(auto)]
+
+mod frames;
+
+pub use frames::frame;
