@@ -2,5 +2,6 @@
 #![tactic(auto)]
 
 mod frames;
+pub mod laws;
 
 pub use frames::frame;
