@@ -36,13 +36,12 @@ pub fn called(
     failing: [&[u64]; 4],
 ) -> Result<Left, AllocError> {
     let words = words_of(alloc, texts)?;
-    let [of_files, of_input, of_output, of_report] = failing;
     let (name, bytes) = file;
-    let mut files = MemFiles::new(alloc, of_files.to_vec(alloc)?);
+    let mut files = MemFiles::new(alloc, failing[0].to_vec(alloc)?);
     files.insert(name, bytes.to_vec(alloc)?)?;
-    let mut input = MemSource::new(input.to_vec(alloc)?, of_input.to_vec(alloc)?);
-    let mut output = MemSink::new(alloc, of_output.to_vec(alloc)?);
-    let mut report = MemSink::new(alloc, of_report.to_vec(alloc)?);
+    let mut input = MemSource::new(input.to_vec(alloc)?, failing[1].to_vec(alloc)?);
+    let mut output = MemSink::new(alloc, failing[2].to_vec(alloc)?);
+    let mut report = MemSink::new(alloc, failing[3].to_vec(alloc)?);
     let status = top(
         alloc,
         &words,
