@@ -42,8 +42,8 @@ use std::alloc::Global;
 ///   status.
 /// - 1: the arguments are no command. Nothing has changed.
 /// - 2: a file or the input was not read, since a call failed.
-/// - 3: a file, the output or the report was not written, since a call failed. A file or stream that
-///   was written then holds a prefix of what was to be written.
+/// - 3: a file, the output or the report was not written, since a call failed. A file or stream
+///   that was written then holds a prefix of what was to be written.
 /// - 4: the source is refused; the line names the rule, its number and the source's line.
 /// - 5: IMG is no executable that can be run; the line names the fault.
 /// - 6: memory ran out. No file was created or written.

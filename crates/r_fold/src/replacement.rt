@@ -22,8 +22,8 @@ pub fn has_replacement(nodes: &[Node], node: &Node) -> bool
     }
 }
 
-/// The plan for a node with regions; none where the rule does not fold it. `NoMemory` only where the
-/// allocator has none.
+/// The plan for a node with regions; none where the rule does not fold it. `NoMemory` only where
+/// the allocator has none.
 pub fn replacement_plan(
     alloc: Global,
     nodes: &[Node],
