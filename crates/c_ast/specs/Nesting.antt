@@ -39,7 +39,8 @@ after_mark _ rest counters = raised counters
 -- the keywords that count
 abbrev pub is_counted : TokenKind → Bool
 is_counted k =
-    is (ThisKeyword word.If) k || is (ThisKeyword word.Else) k || is (ThisKeyword word.While) k || is (ThisKeyword word.Do) k || is (ThisKeyword word.For) k || is (ThisKeyword word.Sizeof) k || is (ThisKeyword word.Switch) k
+    is (ThisKeyword word.If) k || is (ThisKeyword word.Else) k || is (ThisKeyword word.While) k || is (ThisKeyword word.Do) k
+    || is (ThisKeyword word.For) k || is (ThisKeyword word.Sizeof) k || is (ThisKeyword word.Switch) k
 
 -- the counters after a token, before the tokens `rest`
 abbrev pub after_token : TokenKind → List TokenKind → List ℕ → List ℕ

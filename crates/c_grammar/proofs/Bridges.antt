@@ -213,8 +213,8 @@ row_rest c symbols g y = (good_row_nonterminal c symbols g y).2
 pub row_follows : (c : Nonterminal) (symbols : List Symbol) → Row (N c ∷ symbols) → (k : TokenKind) → ahead symbols k ≡ true → (follows c (Some k) ≡ true) × (is_else (Some k) ≡ false)
 unfolding follows
 row_follows c symbols g k f =
-    let h = and_parts (follows_kind c k) (not (is_else (Some k))) (all_kept (λ k. follows_kind c k && not (is_else (Some k))) (ahead symbols) k (kinds (payload k)) (kind_in k) f (good_row_nonterminal c
-    symbols g (payload k)).1) in
+    let h = and_parts (follows_kind c k) (not (is_else (Some k))) (all_kept (λ k. follows_kind c k && not (is_else (Some k))) (ahead symbols) k (kinds (payload k)) (kind_in k) f
+    (good_row_nonterminal c symbols g (payload k)).1) in
     (h.0, not-true (is_else (Some k)) h.1)
 
 -- ---- first tokens

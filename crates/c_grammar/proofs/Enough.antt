@@ -101,7 +101,8 @@ parts_fresh n r enough (T s ∷ symbols) row ranks ts h e =
             parts_enough n enough symbols (row_token s symbols row) g.left (omega arith) i
         inside (inr i) = not_deep (Cons g.tree i.tree) i.left i.then_is
 parts_fresh n r enough (N c ∷ symbols) row ranks ts h e =
-    go (deep (read n c ts) (λ t k. and_then (children (read n) symbols k) (λ f j. Read (Cons t f) j)) e) (parts_fresh n r enough symbols (row_rest c symbols row) (and_parts (nat_lt (precedence c) r) (good_ranks r symbols) ranks).1)
+    go (deep (read n c ts) (λ t k. and_then (children (read n) symbols k) (λ f j. Read (Cons t f) j)) e) (parts_fresh n r enough symbols (row_rest c symbols row)
+    (and_parts (nat_lt (precedence c) r) (good_ranks r symbols) ranks).1)
   where
     lower : precedence c < r
     lower = ltb-true (precedence c) r (and_parts (nat_lt (precedence c) r) (good_ranks r symbols) ranks).0
