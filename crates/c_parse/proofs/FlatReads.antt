@@ -5,7 +5,7 @@ use Rattle.c_ast.specs.Nonterminals.{Nonterminal}
 use Rattle.c_ast.specs.Grammar.{Symbol, symbols_of}
 use Rattle.c_ast.specs.Productions.{Production}
 use Rattle.c_ast.specs.Tree.{Tree, Node, Nil, Cons}
-use Rattle.c_grammar.specs.Reader.{ReadResult, Read, SyntaxError, OutOfFuel, and_then, one, children, begun, later}
+use Rattle.c_grammar.specs.Reader.{ReadResult, Read, SyntaxError, and_then, one, children, begun, later}
 use Rattle.c_parse.proofs.ReadLemmas.{then-then}
 use Rattle.c_parse.proofs.SameNonterminal.{then_same}
 
