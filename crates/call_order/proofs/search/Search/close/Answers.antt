@@ -35,7 +35,7 @@ returns-clause-closed c =
     (ap (λ (xs : List ℕ). take (length xs - from) (drop from xs)) c.deref.ensures.value ∙ take_rest s.members.items from) c.deref-2.ensures.value
     c.least-unit.ensures.member c.least-unit.ensures.least c.rank_of-rank.ensures.above c.rank_of-rank.ensures.tight
     (ap (λ n. take n (c.put_all.new.stages ++ drop (length c.put_all.new.stages) s.stages.items))
-      (omega (arith, s.stages.ok.0, c.put_all.auto.stages, ap (λ (xs : List Stage). length xs) c.deref_mut.ensures.value))
+    (omega (arith, s.stages.ok.0, c.put_all.auto.stages, ap (λ (xs : List Stage). length xs) c.deref_mut.ensures.value))
     ∙ take-append_seam c.put_all.new.stages _
     ∙ (c.put_all.ensures
     ∙ ap (λ (xs : List Stage). all_at xs (take (length c.deref.result.now - from) (drop from c.deref.result.now)) (Closed c.least-unit.result c.rank_of-rank.result)) c.deref_mut.ensures.value))
