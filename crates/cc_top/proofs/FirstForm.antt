@@ -15,7 +15,7 @@ use Rattle.c_ast.specs.Nesting.{depth}
 use Rattle.c_ast.specs.Nodes.{node}
 use Rattle.c_ast.specs.Shape.{FollowsGrammar, Shaped}
 use Rattle.c_ast.specs.Spelling.{kinds, spelled, tokens_of}
-use Rattle.c_ast.specs.Terminals.{AnyName, AnyNumber, Mark, Word, is, mark_number, keyword_number}
+use Rattle.c_ast.specs.Terminals.{AnyName, AnyNumber, Mark, ThisKeyword, is, mark_number, keyword_number}
 use Rattle.c_ast.specs.Tree.{Tree, Leaf}
 use Rattle.cc_top.specs.Source.{constant_of, after_return, and_tokens_after, tokens_after, int_constant, is_end, is_fixed_token, last_constant}
 use Rattle.cc_top.specs.declared.source.FixedToken.{FixedToken}
@@ -194,8 +194,8 @@ main_tokens : (i x l v r b w n s e : Token) → tokens_of (main_tree i x l v r b
 unfolding main_tree spelled
 main_tokens i x l v r b w n s e = refl
 
-main_follows : (i x l v r b w n s e : Token) → is (Word word.Int) i.kind ≡ true → is AnyName x.kind ≡ true → is (Mark mark.LParen) l.kind ≡ true → is (Word word.Void) v.kind ≡ true
-    → is (Mark mark.RParen) r.kind ≡ true → is (Mark mark.LBrace) b.kind ≡ true → is (Word word.Return) w.kind ≡ true → is AnyNumber n.kind ≡ true → is (Mark mark.Semicolon) s.kind ≡ true
+main_follows : (i x l v r b w n s e : Token) → is (ThisKeyword word.Int) i.kind ≡ true → is AnyName x.kind ≡ true → is (Mark mark.LParen) l.kind ≡ true → is (ThisKeyword word.Void) v.kind ≡ true
+    → is (Mark mark.RParen) r.kind ≡ true → is (Mark mark.LBrace) b.kind ≡ true → is (ThisKeyword word.Return) w.kind ≡ true → is AnyNumber n.kind ≡ true → is (Mark mark.Semicolon) s.kind ≡ true
     → is (Mark mark.RBrace) e.kind ≡ true → FollowsGrammar (main_tree i x l v r b w n s e)
 unfolding main_tree Fits allowed else_fits optional symbols_of rule repeated includes same_nonterminal nonterminal_number repeated_number optional_number level_number
 main_follows i x l v r b w n s e is_i is_x is_l is_v is_r is_b is_w is_n is_s is_e = assumption refl
@@ -218,8 +218,8 @@ by_front_and_back ts rest f g =
     let last = g.split in
     let spells : tokens_of t ≡ ts = main_tokens f.i f.x f.l f.v f.r f.b f.w g.n g.s g.e ∙ cc in
     let follows : FollowsGrammar t =
-    main_follows f.i f.x f.l f.v f.r f.b f.w g.n g.s g.e (ap (is (Word word.Int)) f.is_i) (ap (is AnyName) f.is_x.1) (ap (is (Mark mark.LParen)) f.is_l) (ap (is (Word word.Void)) f.is_v)
-    (ap (is (Mark mark.RParen)) f.is_r) (ap (is (Mark mark.LBrace)) f.is_b) (ap (is (Word word.Return)) f.is_w) (ap (is AnyNumber) g.is_n) (ap (is (Mark mark.Semicolon)) g.is_s)
+    main_follows f.i f.x f.l f.v f.r f.b f.w g.n g.s g.e (ap (is (ThisKeyword word.Int)) f.is_i) (ap (is AnyName) f.is_x.1) (ap (is (Mark mark.LParen)) f.is_l) (ap (is (ThisKeyword word.Void)) f.is_v)
+    (ap (is (Mark mark.RParen)) f.is_r) (ap (is (Mark mark.LBrace)) f.is_b) (ap (is (ThisKeyword word.Return)) f.is_w) (ap (is AnyNumber) g.is_n) (ap (is (Mark mark.Semicolon)) g.is_s)
     (ap (is (Mark mark.RBrace)) g.is_e) in
     let low = main_shallow f.i.kind f.x.kind f.l.kind f.v.kind f.r.kind f.b.kind f.w.kind g.n.kind g.s.kind g.e.kind f.is_i f.is_x f.is_l f.is_v f.is_r f.is_b f.is_w g.value g.unsigned g.is_n g.is_s
     g.is_e in
