@@ -1,3 +1,4 @@
 mod Examples
 mod Instrs
 mod Named
+mod MoveLemmas

@@ -1,4 +1,10 @@
-//! The linear code of a lambda, and its laws. It stands on s_linear, g_graph, val_core and c_lex.
+//! The linear code of a lambda, and its laws. It stands on s_linear, g_graph, no_memory, val_core
+//! and c_lex.
 #![tactic(auto)]
 
 pub mod laws;
+mod moves;
+mod ops;
+mod ports;
+mod scope;
+mod writer;
