@@ -4,4 +4,6 @@ pub mod Scope
 pub mod Ops
 pub mod Writer
 pub mod Moves
+pub mod Shape
+pub mod Written
 pub mod Laws

@@ -2,9 +2,12 @@
 //! and c_lex.
 #![tactic(auto)]
 
+mod choices;
 pub mod laws;
+mod loops;
 mod moves;
 mod ops;
 mod ports;
+mod regions;
 mod scope;
 mod writer;
