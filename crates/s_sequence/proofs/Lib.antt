@@ -5,3 +5,6 @@ mod MoveLemmas
 mod PortLemmas
 mod BranchLemmas
 mod LoopLemmas
+mod LabelLemmas
+mod CodeLemmas
+mod ChoiceLemmas

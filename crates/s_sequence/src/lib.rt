@@ -8,6 +8,5 @@ mod loops;
 mod moves;
 mod ops;
 mod ports;
-mod regions;
 mod scope;
 mod writer;
