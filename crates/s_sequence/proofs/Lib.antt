@@ -8,3 +8,6 @@ mod LoopLemmas
 mod LabelLemmas
 mod CodeLemmas
 mod ChoiceLemmas
+mod NodeLemmas
+mod RoomLemmas
+mod StepLemmas
