@@ -1,5 +1,5 @@
 -- The lines of a choice, in the order in which its codes stand.
-use Rattle.std.proofs.Common.{◌≡◌, ◌<◌, ℕ, zero, suc, ◌+◌, ◌-◌, List, [], ◌∷◌, ◌++◌, length, refl, ap, sym, ◌∙◌, arith, append_assoc, append-nil, add-one, add-suc, add-zero}
+use Rattle.std.proofs.Common.{◌≡◌, ◌<◌, ℕ, zero, suc, ◌+◌, ◌-◌, List, [], ◌∷◌, ◌++◌, length, refl, ap, sym, subst, ◌∙◌, arith, append_assoc, append-nil, add-one, add-suc, add-zero, length-append}
 use Rattle.std.specs.declared.option.Option.{Option}
 use Rattle.g_graph.specs.declared.op.Kind.{Kind}
 use Rattle.g_graph.specs.declared.op.Op.TheVariants.{Gamma}
@@ -9,7 +9,7 @@ use Rattle.g_graph.specs.Signatures.{result_kinds, outputs_of}
 use Rattle.g_graph.specs.Count.{region_values, regions_values}
 use Rattle.s_linear.specs.Linear.{choice, Codes}
 use Rattle.s_linear.specs.Lines.{Line, LinesOf, jump, label, branch_equal, branch_not_zero, counted, last_labels, code_lines, codes_lines, branches, labelled, last_lines, before_last, choice_lines, step_lines, code_labels}
-use Rattle.s_sequence.specs.Sequence.{values_in, region_names, regions_names, last_names, outputs_at, bases, bases_from, branch_codes, branch_code}
+use Rattle.s_sequence.specs.Sequence.{values_in, region_names, regions_names, last_names, first_standing, outputs_at, bases, bases_from, branch_codes, branch_code}
 use Rattle.s_sequence.specs.Shape.{HasShape, last_kinds, RegionShaped, RegionsShaped}
 use Rattle.s_sequence.specs.Written.{count_of, region_labels, regions_labels, branch_lines, others_lines, cases_lines}
 use Rattle.s_sequence.proofs.LabelLemmas.{branch_labels_are}
@@ -184,3 +184,90 @@ module _ (entries : List ℕ) (p first next n : ℕ) where
   many_lines (region_then r (region_then s (region_then t no_regions))) l h k one = many (region_then r (region_then s (region_then t no_regions))) l h k
   many_lines (region_then r (region_then s (region_then t (region_then u no_regions)))) l h k one = many (region_then r (region_then s (region_then t (region_then u no_regions)))) l h k
   many_lines (region_then r (region_then s (region_then t (region_then u (region_then v rs))))) l h k one = many (region_then r (region_then s (region_then t (region_then u (region_then v rs))))) l h k
+
+standing_with_last : (fr : RegionTrees) (l : RegionTree) → (count_of fr ≡ 1 → ⊥) → first_standing (with_last fr l) ≡ region_names l
+standing_with_last no_regions l one = refl
+standing_with_last (region_then r no_regions) l one = absurd (one refl)
+standing_with_last (region_then r (region_then s no_regions)) l one = refl
+standing_with_last (region_then r (region_then s (region_then t rs))) l one = last_with_last (region_then t rs) l
+
+count_of_list : (xs : List RegionTree) → count_of (regions_of xs) ≡ length xs
+count_of_list [] = refl
+count_of_list (x ∷ xs) = ap suc (count_of_list xs)
+
+-- the last of regions that are not two, and the others
+module _ (xs ys : List RegionTree) (l : RegionTree) (parts : xs ≡ ys ++ l ∷ []) (other : length xs ≡ 2 → ⊥) where
+  pub trees_are : regions_of xs ≡ with_last (regions_of ys) l
+  trees_are = ap regions_of parts ∙ regions_with_last ys l
+
+  not_one : count_of (regions_of ys) ≡ 1 → ⊥
+  not_one h = other (ap length parts ∙ length-append ys (l ∷ []) ∙ ap (λ n. n + 1) (sym (count_of_list ys) ∙ h))
+
+  pub outputs_begin : (next : ℕ) → outputs_at next (regions_of xs) ≡ next + region_names l
+  outputs_begin next = ap (outputs_at next) trees_are ∙ ap (λ n. next + n) (standing_with_last (regions_of ys) l not_one)
+
+  pub outputs_are : HasShape Gamma (Arg 0 ∷ []) (regions_of xs) → outputs_of Gamma (regions_of xs) ≡ result_kinds l
+  outputs_are h = ap (outputs_of Gamma) trees_are ∙ outputs_with_last (regions_of ys) l (subst (HasShape Gamma (Arg 0 ∷ [])) trees_are h)
+
+  pub parts_shaped : RegionsShaped (regions_of xs) → RegionShaped l × RegionsShaped (regions_of ys)
+  parts_shaped h = shaped_with_last (regions_of ys) l (subst RegionsShaped trees_are h)
+
+  pub names_are : regions_names (regions_of xs) ≡ region_names l + regions_names (regions_of ys)
+  names_are = ap regions_names trees_are ∙ names_with_last (regions_of ys) l
+
+  pub labels_are : regions_labels (regions_of xs) ≡ region_labels l + regions_labels (regions_of ys)
+  labels_are = ap regions_labels trees_are ∙ labels_with_last (regions_of ys) l
+
+  pub values_are : regions_values (regions_of xs) ≡ region_values l + regions_values (regions_of ys)
+  values_are = ap regions_values trees_are ∙ values_with_last (regions_of ys) l
+
+  pub lengths_are : length xs ≡ length ys + 1
+  lengths_are = ap length parts ∙ length-append ys (l ∷ [])
+
+  pub many_written : (entries : List ℕ) (p first next : ℕ) → HasShape Gamma (Arg 0 ∷ []) (regions_of xs) → RegionsShaped (regions_of xs) →
+      (l0 l1 l2 : List Line) (k1 n1 : ℕ) → k1 ≡ first + length xs → n1 ≡ next → l1 ≡ l0 ++ branch_lines p 0 first (length xs - 1) →
+      l2 ≡ l1 ++ cases_lines entries first k1 n1 l (values_in (result_kinds l)) (regions_of ys) →
+      l2 ≡ l0 ++ lines_of_choice entries p first next (values_in (outputs_of Gamma (regions_of xs))) (regions_of xs)
+  many_written entries p first next shape shaped l0 l1 l2 k1 n1 a b e f =
+      let fr : RegionTrees = regions_of ys in
+      let n : ℕ = values_in (result_kinds l) in
+      let own = parts_shaped shaped in
+      let count : length xs - 1 ≡ count_of fr = omega (arith, lengths_are, count_of_list ys) in
+      let labels : k1 ≡ first + suc (count_of fr) = omega (arith, a, lengths_are, count_of_list ys) in
+      let heads : List Line = branch_lines p 0 first (count_of fr) in
+      f ∙ ap (λ ls. ls ++ cases_lines entries first k1 n1 l n fr) (e ∙ ap (λ m. l0 ++ branch_lines p 0 first m) count)
+      ∙ append_assoc l0 heads (cases_lines entries first k1 n1 l n fr)
+      ∙ ap (λ m. l0 ++ (heads ++ cases_lines entries first m n1 l n fr)) labels
+      ∙ ap (λ m. l0 ++ (heads ++ cases_lines entries first (first + suc (count_of fr)) m l n fr)) b
+      ∙ ap (λ ls. l0 ++ ls) (sym (many_lines entries p first next n fr l own.0 own.1 not_one))
+      ∙ ap (λ m. l0 ++ lines_of_choice entries p first next m (with_last fr l)) (sym (ap values_in (outputs_are shape)))
+      ∙ ap (λ rs. l0 ++ lines_of_choice entries p first next (values_in (outputs_of Gamma (regions_of xs))) rs) (sym trees_are)
+
+pub two_written : (xs ys : List RegionTree) (r s : RegionTree) → xs ≡ r ∷ s ∷ [] → ys ≡ s ∷ [] → RegionShaped r → (entries : List ℕ) (p first next : ℕ) (l0 l1 l2 : List Line) (k1 n1 : ℕ) →
+    k1 ≡ first + length xs → n1 ≡ next → l1 ≡ l0 ++ branch_not_zero p first ∷ [] → l2 ≡ l1 ++ cases_lines entries first k1 n1 r (values_in (result_kinds r)) (regions_of ys) →
+    l2 ≡ l0 ++ lines_of_choice entries p first next (values_in (outputs_of Gamma (regions_of xs))) (regions_of xs)
+two_written xs ys r s parts rest shaped entries p first next l0 l1 l2 k1 n1 a b e f =
+    let n : ℕ = values_in (result_kinds r) in
+    let one : RegionTrees = region_then s no_regions in
+    f ∙ ap (λ zs. l1 ++ cases_lines entries first k1 n1 r n (regions_of zs)) rest ∙ ap (λ ls. ls ++ cases_lines entries first k1 n1 r n one) e
+    ∙ append_assoc l0 (branch_not_zero p first ∷ []) (cases_lines entries first k1 n1 r n one)
+    ∙ ap (λ m. l0 ++ branch_not_zero p first ∷ cases_lines entries first m n1 r n one) (a ∙ ap (λ zs. first + length zs) parts)
+    ∙ ap (λ m. l0 ++ branch_not_zero p first ∷ cases_lines entries first (first + 2) m r n one) b
+    ∙ ap (λ ls. l0 ++ ls) (sym (two_lines entries p first next n r s shaped))
+    ∙ ap (λ zs. l0 ++ lines_of_choice entries p first next (values_in (outputs_of Gamma (regions_of zs))) (regions_of zs)) (sym parts)
+
+pub cases_written : (entries : List ℕ) (first k0 n0 values : ℕ) (r : RegionTree) (rs : RegionTrees) (l0 l1 l2 l3 : List Line) (out k1 n1 end : ℕ) → out ≡ n0 + region_names r → k1 ≡ k0 + region_labels r →
+    n1 ≡ n0 + region_names r + values → end ≡ first + count_of rs → l1 ≡ l0 ++ code_lines k0 (branch_code entries (n0 + region_names r) n0 r) → l2 ≡ l1 ++ others_lines entries out first end k1 n1 rs →
+    l3 ≡ l2 ++ label end ∷ [] → l3 ≡ l0 ++ cases_lines entries first k0 n0 r values rs
+cases_written entries first k0 n0 values r rs l0 l1 l2 l3 out k1 n1 end a b d e f g h =
+    let own : List Line = code_lines k0 (branch_code entries (n0 + region_names r) n0 r) in
+    let o : ℕ = n0 + region_names r in
+    h ∙ ap (λ ls. ls ++ label end ∷ []) (g ∙ ap (λ ls. ls ++ others_lines entries out first end k1 n1 rs) f)
+    ∙ ap (λ m. ((l0 ++ own) ++ others_lines entries out first m k1 n1 rs) ++ label m ∷ []) e
+    ∙ ap (λ m. ((l0 ++ own) ++ others_lines entries m first (first + count_of rs) k1 n1 rs) ++ label (first + count_of rs) ∷ []) a
+    ∙ ap (λ m. ((l0 ++ own) ++ others_lines entries o first (first + count_of rs) m n1 rs) ++ label (first + count_of rs) ∷ []) b
+    ∙ ap (λ m. ((l0 ++ own) ++ others_lines entries o first (first + count_of rs) (k0 + region_labels r) m rs) ++ label (first + count_of rs) ∷ []) d
+    ∙ regrouped l0 own (others_lines entries o first (first + count_of rs) (k0 + region_labels r) (o + values) rs) (label (first + count_of rs) ∷ [])
+  where
+    regrouped : (a b c d : List Line) → ((a ++ b) ++ c) ++ d ≡ a ++ ((b ++ c) ++ d)
+    regrouped a b c d = simp append_assoc

@@ -1,5 +1,5 @@
 -- One node more: what the scope holds, and the lines.
-use Rattle.std.proofs.Common.{◌≡◌, ℕ, zero, suc, ◌+◌, Bool, true, false, List, [], ◌∷◌, ◌++◌, map, take, refl, ap, sym, ◌∙◌, append_assoc, arith}
+use Rattle.std.proofs.Common.{◌≡◌, ℕ, zero, suc, ◌+◌, Bool, true, false, List, [], ◌∷◌, ◌++◌, map, take, refl, ap, sym, ◌∙◌, append_assoc, ◌<◌, subst, arith}
 use Rattle.std.specs.Prelude.{◌==◌, if◌then◌else◌, slice_get}
 use Rattle.std.proofs.lemmas.Bool.Decides.{nat_tests}
 use Rattle.std.specs.declared.option.Option.{Option}
@@ -7,17 +7,19 @@ use Rattle.std.specs.declared.option.Option.TheVariants.{Some, None}
 use Rattle.g_graph.specs.declared.op.Kind.{Kind}
 use Rattle.g_graph.specs.declared.op.Origin.{Origin}
 use Rattle.g_graph.specs.declared.op.Origin.TheVariants.{Arg, Out}
-use Rattle.g_graph.specs.Plain.{RegionTree, region, NodeTree, node, NodeTrees, node_then, id_of, args_of}
+use Rattle.g_graph.specs.Plain.{RegionTree, region, NodeTree, node, NodeTrees, node_then, id_of, args_of, nodes_in}
 use Rattle.g_graph.specs.Signatures.{joined, kind_of, kind_after, output_kinds, outputs_of}
+use Rattle.g_graph.specs.Count.{region_values, nodes_values}
 use Rattle.s_linear.specs.Linear.{Code}
 use Rattle.s_linear.specs.Lines.{Line, step_lines, step_labels, code_lines}
 use Rattle.s_sequence.specs.declared.ports.Port.{Port}
 use Rattle.s_sequence.specs.declared.scope.Scope.{Scope}
-use Rattle.s_sequence.specs.Sequence.{values_in, value_args, Names, no_names, name_of, named, node_names, nodes_named, outputs_at, nodes_code, node_step}
+use Rattle.s_sequence.specs.Sequence.{values_in, value_args, Names, no_names, name_of, named, node_names, nodes_names, region_names, nodes_named, outputs_at, nodes_code, node_step}
 use Rattle.s_sequence.specs.Ports.{ports_from, port_at}
 use Rattle.s_sequence.specs.Scope.{port_in, name_in, kind_in, names_in}
-use Rattle.s_sequence.specs.Shape.{NodeShaped}
-use Rattle.s_sequence.specs.Written.{node_labels, node_ports, region_port}
+use Rattle.s_sequence.specs.Shape.{NodeShaped, NodesShaped, RegionShaped}
+use Rattle.s_sequence.specs.Written.{node_labels, nodes_labels, region_labels, node_ports, region_port, region_code}
+use Rattle.s_sequence.proofs.Named.{args_length}
 use Rattle.s_sequence.proofs.PortLemmas.{port_of_kinds}
 use Rattle.s_sequence.proofs.LabelLemmas.{step_labels_are}
 
@@ -95,3 +97,36 @@ module _ (x : NodeTree) (scope after : Scope) (next : ℕ)
       ∙ ap (λ m. l0 ++ (step_lines k0 s ++ rest m (names_in after) n1)) (f ∙ ap (λ m. k0 + m) (sym (step_labels_are args base (names_in scope) next x shaped)))
       ∙ ap (λ names. l0 ++ (step_lines k0 s ++ rest (k0 + step_labels s) names n1)) names_after
       ∙ ap (λ n. l0 ++ (step_lines k0 s ++ rest (k0 + step_labels s) (named x next (names_in scope)) n)) g
+
+-- ---- before the first node
+
+module _ (scope : Scope) (nothing : (n p : ℕ) → port_in scope (Out n p) ≡ record { name = 0; kind = None }) where
+  nothing_named : names_in scope ≡ no_names
+  nothing_named = λ i n p. (nothing n p i).name
+
+  pub begin_code : (r : RegionTree) (ns : NodeTrees) → ns ≡ nodes_in r → (base next : ℕ) → next ≡ base + value_args (args_of r) → (k : Code) →
+      nodes_code (args_of r) base (names_in scope) next ns k ≡ region_code base r k
+  begin_code (region args nodes results) ns e base next f k =
+      ap (λ zs. nodes_code args base (names_in scope) next zs k) e ∙ ap (λ names. nodes_code args base names next nodes k) nothing_named
+      ∙ ap (λ m. nodes_code args base no_names m nodes k) f
+
+  pub begin_names : (r : RegionTree) (ns : NodeTrees) → ns ≡ nodes_in r → (base next : ℕ) → next ≡ base + value_args (args_of r) → (n p : ℕ) →
+      nodes_named ns next (names_in scope) n p ≡ (region_port base r (Out n p)).name
+  begin_names (region args nodes results) ns e base next f n p =
+      ap (λ zs. nodes_named zs next (names_in scope) n p) e ∙ ap (λ names. nodes_named nodes next names n p) nothing_named ∙ ap (λ m. nodes_named nodes m no_names n p) f
+
+  pub begin_kinds : (r : RegionTree) (ns : NodeTrees) → ns ≡ nodes_in r → (base n p : ℕ) → kind_after ns n p (kind_in scope (Out n p)) ≡ (region_port base r (Out n p)).kind
+  begin_kinds (region args nodes results) ns e base n p =
+      ap (λ zs. kind_after zs n p (kind_in scope (Out n p))) e ∙ ap (λ (q : Port). kind_after nodes n p q.kind) (nothing n p)
+
+pub region_names_are : (r : RegionTree) (ns : NodeTrees) → ns ≡ nodes_in r → value_args (args_of r) + nodes_names ns ≡ region_names r
+region_names_are (region args nodes results) ns e = ap (λ zs. value_args args + nodes_names zs) e
+
+pub region_labels_are : (r : RegionTree) (ns : NodeTrees) → ns ≡ nodes_in r → nodes_labels ns ≡ region_labels r
+region_labels_are (region args nodes results) ns e = ap nodes_labels e
+
+pub region_values_are : (r : RegionTree) (ns : NodeTrees) → ns ≡ nodes_in r → value_args (args_of r) + nodes_values ns < region_values r
+region_values_are (region args nodes results) ns e = omega (arith, ap nodes_values e, args_length args)
+
+pub region_shaped : (r : RegionTree) (ns : NodeTrees) → ns ≡ nodes_in r → RegionShaped r → NodesShaped ns
+region_shaped (region args nodes results) ns e h = subst NodesShaped (sym e) h

@@ -3,10 +3,11 @@ use Rattle.std.proofs.Common.{◌≡◌, ◌<◌, ◌≤◌, ℕ, zero, suc, ◌
 use Rattle.std.specs.Prelude.{slice_get}
 use Rattle.std.proofs.lemmas.List.{length-map}
 use Rattle.std.specs.declared.option.Option.{Option}
-use Rattle.std.specs.declared.option.Option.TheVariants.{Some}
+use Rattle.std.specs.declared.option.Option.TheVariants.{Some, None}
 use Rattle.g_graph.specs.declared.op.Kind.{Kind}
 use Rattle.g_graph.specs.declared.op.Origin.{Origin}
 use Rattle.g_graph.specs.Plain.{RegionTree, region, NodeTrees, node_then, no_regions, region_then, regions_of, args_of}
+use Rattle.g_graph.specs.Signatures.{kind_of, kind_after, result_kinds}
 use Rattle.g_graph.specs.Count.{region_values, node_values, nodes_values, regions_values}
 use Rattle.s_sequence.specs.Sequence.{values_in, value_args, region_names, regions_names, node_names, nodes_names}
 use Rattle.s_sequence.specs.Shape.{RegionShaped, NodesShaped}
@@ -26,11 +27,15 @@ pub exits_room : (r : RegionTree) (results : List Origin) (f : Origin → Option
 exits_room (region args nodes rs) results f e =
     omega (arith, values_length (map f results), length-map results f, ap length e, args_length args, nodes_names_values nodes)
 
+pub standing_room : (r : RegionTree) → region_names r + values_in (result_kinds r) < region_values r
+standing_room (region args nodes results) =
+    omega (arith, exits_room (region args nodes results) results (kind_of args (λ n p. kind_after nodes n p None)) refl)
+
 pub count_is : (xs : List RegionTree) → count_of (regions_of xs) ≡ length xs
 count_is [] = refl
 count_is (x ∷ xs) = ap suc (count_is xs)
 
-value_each : (r : RegionTree) → 0 < region_values r
+pub value_each : (r : RegionTree) → 0 < region_values r
 value_each (region args nodes results) = omega arith
 
 pub count_room : (xs : List RegionTree) → length xs ≤ regions_values (regions_of xs)

@@ -18,10 +18,10 @@ use Rattle.s_sequence.specs.Ports.{PlainPorts, ports_from}
 use Rattle.s_sequence.specs.Scope.{names_in}
 use Rattle.s_sequence.specs.Writer.{PlainWriter}
 
--- names and labels are left for so many values
-pub record HasRoom (w : PlainWriter) (values : ℕ) : Type 0 where
-  pub names : w.next + values < 2 ^ 32
-  pub labels : w.label + values < 2 ^ 32
+-- names are left for so many values, and so many labels
+pub record HasRoom (w : PlainWriter) (values labels : ℕ) : Type 0 where
+  pub for_names : w.next + values < 2 ^ 32
+  pub for_labels : w.label + labels < 2 ^ 32
 
 abbrev pub count_of : RegionTrees → ℕ
 count_of no_regions = 0

@@ -8,5 +8,6 @@ mod loops;
 mod moves;
 mod ops;
 mod ports;
+mod regions;
 mod scope;
 mod writer;
