@@ -12,14 +12,11 @@ use Rattle.s_sequence.specs.declared.ports.Port.{Port}
 use Rattle.s_sequence.specs.declared.scope.Scope.{Scope}
 use Rattle.s_sequence.specs.Sequence.{value_args, kept, moves, instrs_then, loop_results, predicate_name, no_names, nodes_named, nodes_names, name_of, nodes_code, branch_code, loop_step, region_names}
 use Rattle.s_sequence.specs.Scope.{port_in, name_in, kind_in}
-use Rattle.s_sequence.specs.Written.{region_port, region_code, entered_code}
+use Rattle.s_sequence.specs.Written.{results_in, region_port, region_code, entered_code}
 
 pub instrs_lines : (first : ℕ) (is : List Instr) (k : Code) → code_lines first (instrs_then is k) ≡ map done is ++ code_lines first k
 instrs_lines first [] k = refl
 instrs_lines first (i ∷ is) k = ap (λ n. done i ∷ code_lines n (instrs_then is k)) (add-zero first) ∙ ap (λ ls. done i ∷ ls) (instrs_lines first is k)
-
-abbrev pub results_in : RegionTree → List Origin
-results_in (region args nodes results) = results
 
 module _ (base : ℕ) (scope : Scope) where
   names_are : (r : RegionTree) (results : List Origin) → ((o : Origin) → port_in scope o ≡ region_port base r o) → map (name_in scope) results ≡ map (λ o. (region_port base r o).name) results

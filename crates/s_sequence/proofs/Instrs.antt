@@ -109,7 +109,7 @@ module _ (objects : ℕ) (p : Op → ℕ → Type 0)
     regions_have no_regions e = tt
     regions_have (region_then r rs) e = (region_has r (first_true (every_region (region_fits objects) r) _ e), regions_have rs (second_true (every_region (region_fits objects) r) _ e))
 
-regions_of_well_formed : (l : PlainLambda) → IsWellFormed l → every_region (region_fits (length l.objects)) l.body ≡ true
+pub regions_of_well_formed : (l : PlainLambda) → IsWellFormed l → every_region (region_fits (length l.objects)) l.body ≡ true
 regions_of_well_formed l w =
     second_true (body_fits l && numbers_fit l) (every_region (region_fits (length l.objects)) l.body)
     (first_true (body_fits l && numbers_fit l && every_region (region_fits (length l.objects)) l.body) (all_of (λ o. leaves_fit o.size 0 o.leaves) l.objects) w)

@@ -11,3 +11,4 @@ mod ChoiceLemmas
 mod NodeLemmas
 mod RoomLemmas
 mod StepLemmas
+mod ShapeLemmas

@@ -11,10 +11,9 @@ use Rattle.g_graph.specs.Signatures.{kind_of, kind_after, result_kinds}
 use Rattle.g_graph.specs.Count.{region_values, node_values, nodes_values, regions_values}
 use Rattle.s_sequence.specs.Sequence.{values_in, value_args, region_names, regions_names, node_names, nodes_names}
 use Rattle.s_sequence.specs.Shape.{RegionShaped, NodesShaped}
-use Rattle.s_sequence.specs.Written.{count_of, region_labels}
+use Rattle.s_sequence.specs.Written.{count_of, region_labels, results_in}
 use Rattle.s_sequence.proofs.Named.{args_length, values_length, names_values, nodes_names_values, regions_names_values}
 use Rattle.s_sequence.proofs.LabelLemmas.{region_labels_values}
-use Rattle.s_sequence.proofs.CodeLemmas.{results_in}
 
 pub args_room : (r : RegionTree) → value_args (args_of r) < region_values r
 args_room (region args nodes results) = omega (arith, args_length args)

@@ -10,4 +10,7 @@ mod ops;
 mod ports;
 mod regions;
 mod scope;
+mod sequencing;
 mod writer;
+
+pub use sequencing::sequence;

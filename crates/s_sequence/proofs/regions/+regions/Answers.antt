@@ -17,10 +17,10 @@ use Rattle.s_sequence.specs.Ports.{PlainPorts, ports_from, port_at}
 use Rattle.s_sequence.specs.Scope.{port_in, name_in, kind_in, names_in}
 use Rattle.s_sequence.specs.Shape.{NodeShaped, NodesShaped, RegionsShaped, RegionShaped}
 use Rattle.s_sequence.specs.Writer.{PlainWriter, with_lines}
-use Rattle.s_sequence.specs.Written.{region_code, region_port, region_labels, regions_labels, node_labels, nodes_labels, node_ports, count_of, StepWritten, branch_lines, other_lines, others_lines, cases_lines}
+use Rattle.s_sequence.specs.Written.{results_in, region_code, region_port, region_labels, regions_labels, node_labels, nodes_labels, node_ports, count_of, StepWritten, branch_lines, other_lines, others_lines, cases_lines}
 use Rattle.s_sequence.proofs.Named.{node_names_values, names_values, regions_names_values}
 use Rattle.s_sequence.proofs.PortLemmas.{ports_first, ports_end}
-use Rattle.s_sequence.proofs.CodeLemmas.{results_in, kinds_written, branch_written, entered_written, loop_written}
+use Rattle.s_sequence.proofs.CodeLemmas.{kinds_written, branch_written, entered_written, loop_written}
 use Rattle.s_sequence.proofs.RoomLemmas.{args_room, loop_room, exits_room, count_is, value_each, standing_room, second}
 use Rattle.s_sequence.proofs.NodeLemmas.{region_ports, names_after, kind_known, lines_after, begin_code, begin_names, begin_kinds, region_names_are, region_labels_are, region_values_are, region_shaped}
 use Rattle.s_sequence.proofs.StepLemmas.{gamma_written, theta_written, plain_written, only_region, plain_node, plain_names, plain_labels, plain_ports}
