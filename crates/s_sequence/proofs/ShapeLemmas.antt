@@ -12,7 +12,7 @@ use Rattle.g_graph.specs.Plain.{RegionTree, region, NodeTree, node, NodeTrees, n
 use Rattle.g_graph.specs.Signatures.{result_kinds}
 use Rattle.g_graph.specs.Scope.{each_node}
 use Rattle.g_graph.specs.WellFormed.{all_regions, are, same, kinds_of, every_region, every_in_node, every_in_nodes, every_in_regions, inputs_fit, inputs_are_last, node_has_one_state_each, has_its_regions, regions_fit, theta_has_states, has_its_width, has_its_object, node_fits, region_fits, results_are_last, returns_state, region_has_one_state_each, IsWellFormed}
-use Rattle.s_linear.proofs.Both.{first_true, second_true}
+use Rattle.std.proofs.lemmas.Bool.{and_parts}
 use Rattle.g_graph.specs.Count.{region_values}
 use Rattle.s_linear.specs.Linear.{Code, no_steps}
 use Rattle.s_linear.specs.Lines.{Line, leave, code_lines}
@@ -44,14 +44,14 @@ are_known (Some Io ∷ xs) (Memory ∷ ks) e = absurd (cc)
 are_known (Some Io ∷ xs) (Io ∷ ks) e = ap (λ zs. Some Io ∷ zs) (are_known xs ks e)
 
 last_known : (args ks : List Kind) (r : RegionTree) (rs : RegionTrees) → all_regions (λ s. same (args_of s) args && are (result_kinds s) ks) (region_then r rs) ≡ true → last_kinds r rs ≡ map Some ks
-last_known args ks r no_regions e = are_known (result_kinds r) ks (second_true (same (args_of r) args) (are (result_kinds r) ks) (first_true _ true e))
+last_known args ks r no_regions e = are_known (result_kinds r) ks ((and_parts (same (args_of r) args) (are (result_kinds r) ks) (and_parts _ true e)).1.0)
 last_known args ks r (region_then s rs) e =
-    last_known args ks s rs (second_true (same (args_of r) args && are (result_kinds r) ks) (all_regions (λ s. same (args_of s) args && are (result_kinds s) ks) (region_then s rs)) e)
+    last_known args ks s rs (and_parts (same (args_of r) args && are (result_kinds r) ks) (all_regions (λ s. same (args_of s) args && are (result_kinds s) ks) (region_then s rs)) e).1
 
 first_known : (args ks : List Kind) (r : RegionTree) (rs : RegionTrees) → all_regions (λ s. same (args_of s) args && are (result_kinds s) ks) (region_then r rs) ≡ true → result_kinds r ≡ map Some ks
 first_known args ks r rs e =
     are_known (result_kinds r) ks
-    (second_true (same (args_of r) args) (are (result_kinds r) ks) (first_true _ (all_regions (λ s. same (args_of s) args && are (result_kinds s) ks) rs) e))
+    ((and_parts (same (args_of r) args) (are (result_kinds r) ks) (and_parts _ (all_regions (λ s. same (args_of s) args && are (result_kinds s) ks) rs) e)).1.0)
 
 shape_is : (args : List Kind) (before : NodeTrees) (id : ℕ) (op : Op) (inputs : List Origin) (rs : RegionTrees) → inputs_fit args before (node id op inputs rs) ≡ true →
     has_its_regions (node id op inputs rs) ≡ true → regions_fit (node id op inputs rs) ≡ true → HasShape op inputs rs
@@ -69,26 +69,22 @@ module _ (objects : ℕ) where
   own_shape : (args : List Kind) (before : NodeTrees) (id : ℕ) (op : Op) (inputs : List Origin) (rs : RegionTrees) → node_fits objects args before (node id op inputs rs) ≡ true → HasShape op inputs rs
   own_shape args before id op inputs rs e =
       let x : NodeTree = node id op inputs rs in
-      let six = first_true _ (theta_has_states x) (first_true _ (has_its_width x) (first_true _ (has_its_object objects x) e)) in
+      let six = (and_parts _ (theta_has_states x) ((and_parts _ (has_its_width x) (and_parts _ (has_its_object objects x) e)).0.0)).0 in
       let fit : regions_fit x ≡ true =
-      second_true (inputs_fit args before x && inputs_are_last args before x && node_has_one_state_each args before x && has_its_regions x) (regions_fit x) six in
-      let five = first_true (inputs_fit args before x && inputs_are_last args before x && node_has_one_state_each args before x && has_its_regions x) (regions_fit x) six in
-      let has : has_its_regions x ≡ true = second_true (inputs_fit args before x && inputs_are_last args before x && node_has_one_state_each args before x) (has_its_regions x) five in
+      (and_parts (inputs_fit args before x && inputs_are_last args before x && node_has_one_state_each args before x && has_its_regions x) (regions_fit x) six).1 in
+      let five = (and_parts (inputs_fit args before x && inputs_are_last args before x && node_has_one_state_each args before x && has_its_regions x) (regions_fit x) six).0 in
+      let has : has_its_regions x ≡ true = (and_parts (inputs_fit args before x && inputs_are_last args before x && node_has_one_state_each args before x) (has_its_regions x) five).1 in
       let inputs_are : inputs_fit args before x ≡ true =
-      first_true (inputs_fit args before x) (inputs_are_last args before x)
-      (first_true (inputs_fit args before x && inputs_are_last args before x) (node_has_one_state_each args before x)
-      (first_true (inputs_fit args before x && inputs_are_last args before x && node_has_one_state_each args before x) (has_its_regions x) five)) in
+      (and_parts (inputs_fit args before x) (inputs_are_last args before x) ((and_parts (inputs_fit args before x && inputs_are_last args before x) (node_has_one_state_each args before x) (and_parts (inputs_fit args before x && inputs_are_last args before x && node_has_one_state_each args before x) (has_its_regions x) five)).0.0)).0 in
       shape_is args before id op inputs rs inputs_are has fit
 
   mutual
     region_is_shaped : (r : RegionTree) → every_region (region_fits objects) r ≡ true → RegionShaped r
     region_is_shaped (region args nodes results) e =
-        let here : region_fits objects (region args nodes results) ≡ true = first_true _ (every_in_nodes (region_fits objects) nodes) e in
+        let here : region_fits objects (region args nodes results) ≡ true = (and_parts _ (every_in_nodes (region_fits objects) nodes) e).0 in
         nodes_are_shaped args [] nodes
-        (first_true _ (results_are_last (region args nodes results))
-        (first_true _ (returns_state Memory (region args nodes results))
-        (first_true _ (returns_state Io (region args nodes results)) (first_true _ (region_has_one_state_each (region args nodes results)) here))))
-        (second_true (region_fits objects (region args nodes results)) _ e)
+        ((and_parts _ (results_are_last (region args nodes results)) (and_parts _ (returns_state Memory (region args nodes results)) ((and_parts _ (returns_state Io (region args nodes results)) (and_parts _ (region_has_one_state_each (region args nodes results)) here)).0.0))).0.0)
+        (and_parts (region_fits objects (region args nodes results)) _ e).1
 
     node_is_shaped : (args : List Kind) (before : NodeTrees) (x : NodeTree) → node_fits objects args before x ≡ true → every_in_node (region_fits objects) x ≡ true → NodeShaped x
     node_is_shaped args before (node id op inputs rs) e inside = (own_shape args before id op inputs rs e, regions_are_shaped rs inside)
@@ -97,13 +93,13 @@ module _ (objects : ℕ) where
         every_in_nodes (region_fits objects) ns ≡ true → NodesShaped ns
     nodes_are_shaped args before no_nodes e inside = tt
     nodes_are_shaped args before (node_then x xs) e inside = (
-      node_is_shaped args (nodes_of before) x (first_true (node_fits objects args (nodes_of before) x) _ e) (first_true (every_in_node (region_fits objects) x) _ inside),
-      nodes_are_shaped args (before ++ x ∷ []) xs (second_true (node_fits objects args (nodes_of before) x) _ e) (second_true (every_in_node (region_fits objects) x) _ inside),
+      node_is_shaped args (nodes_of before) x (and_parts (node_fits objects args (nodes_of before) x) _ e).0 (and_parts (every_in_node (region_fits objects) x) _ inside).0,
+      nodes_are_shaped args (before ++ x ∷ []) xs (and_parts (node_fits objects args (nodes_of before) x) _ e).1 (and_parts (every_in_node (region_fits objects) x) _ inside).1,
     )
 
     regions_are_shaped : (rs : RegionTrees) → every_in_regions (region_fits objects) rs ≡ true → RegionsShaped rs
     regions_are_shaped no_regions e = tt
-    regions_are_shaped (region_then r rs) e = (region_is_shaped r (first_true (every_region (region_fits objects) r) _ e), regions_are_shaped rs (second_true (every_region (region_fits objects) r) _ e))
+    regions_are_shaped (region_then r rs) e = (region_is_shaped r (and_parts (every_region (region_fits objects) r) _ e).0, regions_are_shaped rs (and_parts (every_region (region_fits objects) r) _ e).1)
 
 pub body_shaped : (l : PlainLambda) → IsWellFormed l → RegionShaped l.body
 body_shaped l w = region_is_shaped (length l.objects) l.body (regions_of_well_formed l w)
