@@ -44,14 +44,14 @@ are_known (Some Io ∷ xs) (Memory ∷ ks) e = absurd (cc)
 are_known (Some Io ∷ xs) (Io ∷ ks) e = ap (λ zs. Some Io ∷ zs) (are_known xs ks e)
 
 last_known : (args ks : List Kind) (r : RegionTree) (rs : RegionTrees) → all_regions (λ s. same (args_of s) args && are (result_kinds s) ks) (region_then r rs) ≡ true → last_kinds r rs ≡ map Some ks
-last_known args ks r no_regions e = are_known (result_kinds r) ks ((and_parts (same (args_of r) args) (are (result_kinds r) ks) (and_parts _ true e)).1.0)
+last_known args ks r no_regions e = are_known (result_kinds r) ks (and_parts (same (args_of r) args) (are (result_kinds r) ks) (and_parts _ true e).0).1
 last_known args ks r (region_then s rs) e =
     last_known args ks s rs (and_parts (same (args_of r) args && are (result_kinds r) ks) (all_regions (λ s. same (args_of s) args && are (result_kinds s) ks) (region_then s rs)) e).1
 
 first_known : (args ks : List Kind) (r : RegionTree) (rs : RegionTrees) → all_regions (λ s. same (args_of s) args && are (result_kinds s) ks) (region_then r rs) ≡ true → result_kinds r ≡ map Some ks
 first_known args ks r rs e =
     are_known (result_kinds r) ks
-    ((and_parts (same (args_of r) args) (are (result_kinds r) ks) (and_parts _ (all_regions (λ s. same (args_of s) args && are (result_kinds s) ks) rs) e)).1.0)
+    (and_parts (same (args_of r) args) (are (result_kinds r) ks) (and_parts _ (all_regions (λ s. same (args_of s) args && are (result_kinds s) ks) rs) e).0).1
 
 shape_is : (args : List Kind) (before : NodeTrees) (id : ℕ) (op : Op) (inputs : List Origin) (rs : RegionTrees) → inputs_fit args before (node id op inputs rs) ≡ true →
     has_its_regions (node id op inputs rs) ≡ true → regions_fit (node id op inputs rs) ≡ true → HasShape op inputs rs
@@ -69,13 +69,13 @@ module _ (objects : ℕ) where
   own_shape : (args : List Kind) (before : NodeTrees) (id : ℕ) (op : Op) (inputs : List Origin) (rs : RegionTrees) → node_fits objects args before (node id op inputs rs) ≡ true → HasShape op inputs rs
   own_shape args before id op inputs rs e =
       let x : NodeTree = node id op inputs rs in
-      let six = (and_parts _ (theta_has_states x) ((and_parts _ (has_its_width x) (and_parts _ (has_its_object objects x) e)).0.0)).0 in
+      let six = (and_parts _ (theta_has_states x) (and_parts _ (has_its_width x) (and_parts _ (has_its_object objects x) e).0).0).0 in
       let fit : regions_fit x ≡ true =
       (and_parts (inputs_fit args before x && inputs_are_last args before x && node_has_one_state_each args before x && has_its_regions x) (regions_fit x) six).1 in
       let five = (and_parts (inputs_fit args before x && inputs_are_last args before x && node_has_one_state_each args before x && has_its_regions x) (regions_fit x) six).0 in
       let has : has_its_regions x ≡ true = (and_parts (inputs_fit args before x && inputs_are_last args before x && node_has_one_state_each args before x) (has_its_regions x) five).1 in
       let inputs_are : inputs_fit args before x ≡ true =
-      (and_parts (inputs_fit args before x) (inputs_are_last args before x) ((and_parts (inputs_fit args before x && inputs_are_last args before x) (node_has_one_state_each args before x) (and_parts (inputs_fit args before x && inputs_are_last args before x && node_has_one_state_each args before x) (has_its_regions x) five)).0.0)).0 in
+      (and_parts (inputs_fit args before x) (inputs_are_last args before x) (and_parts (inputs_fit args before x && inputs_are_last args before x) (node_has_one_state_each args before x) (and_parts (inputs_fit args before x && inputs_are_last args before x && node_has_one_state_each args before x) (has_its_regions x) five).0).0).0 in
       shape_is args before id op inputs rs inputs_are has fit
 
   mutual
@@ -83,7 +83,7 @@ module _ (objects : ℕ) where
     region_is_shaped (region args nodes results) e =
         let here : region_fits objects (region args nodes results) ≡ true = (and_parts _ (every_in_nodes (region_fits objects) nodes) e).0 in
         nodes_are_shaped args [] nodes
-        ((and_parts _ (results_are_last (region args nodes results)) (and_parts _ (returns_state Memory (region args nodes results)) ((and_parts _ (returns_state Io (region args nodes results)) (and_parts _ (region_has_one_state_each (region args nodes results)) here)).0.0))).0.0)
+        (and_parts _ (results_are_last (region args nodes results)) (and_parts _ (returns_state Memory (region args nodes results)) (and_parts _ (returns_state Io (region args nodes results)) (and_parts _ (region_has_one_state_each (region args nodes results)) here).0).0).0).0
         (and_parts (region_fits objects (region args nodes results)) _ e).1
 
     node_is_shaped : (args : List Kind) (before : NodeTrees) (x : NodeTree) → node_fits objects args before x ≡ true → every_in_node (region_fits objects) x ≡ true → NodeShaped x
