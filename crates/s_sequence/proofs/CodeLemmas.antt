@@ -1,14 +1,12 @@
 -- The lines of moves before a code.
 use Rattle.std.proofs.Common.{◌≡◌, ℕ, ◌+◌, List, [], ◌∷◌, ◌++◌, map, suc, refl, ap, sym, ◌∙◌, append_assoc, append-nil, add-zero, add-one, add_comm, arith}
-use Rattle.std.specs.declared.option.Option.{Option}
-use Rattle.std.specs.declared.option.Option.TheVariants.{Some, None}
+use Rattle.std.specs.declared.option.Option.TheVariants.{Some}
 use Rattle.g_graph.specs.declared.op.Kind.{Kind}
 use Rattle.g_graph.specs.declared.op.Origin.{Origin}
 use Rattle.g_graph.specs.Plain.{RegionTree, region, args_of}
 use Rattle.g_graph.specs.Signatures.{result_kinds}
 use Rattle.s_linear.specs.Linear.{Instr, Code, no_steps}
 use Rattle.s_linear.specs.Lines.{Line, done, label, jump, branch_zero, code_lines, step_lines, numbers_from}
-use Rattle.s_sequence.specs.declared.ports.Port.{Port}
 use Rattle.s_sequence.specs.declared.scope.Scope.{Scope}
 use Rattle.s_sequence.specs.Sequence.{value_args, kept, moves, instrs_then, loop_results, predicate_name, no_names, nodes_named, nodes_names, name_of, nodes_code, branch_code, loop_step, region_names}
 use Rattle.s_sequence.specs.Scope.{port_in, name_in, kind_in}

@@ -2,13 +2,12 @@
 use Rattle.std.proofs.Common.{◌≡◌, ℕ, zero, suc, ◌+◌, Bool, true, false, List, [], ◌∷◌, ◌++◌, map, take, refl, ap, sym, ◌∙◌, append_assoc, ◌<◌, subst, arith}
 use Rattle.std.specs.Prelude.{◌==◌, if◌then◌else◌, slice_get}
 use Rattle.std.proofs.lemmas.Bool.Decides.{nat_tests}
-use Rattle.std.specs.declared.option.Option.{Option}
 use Rattle.std.specs.declared.option.Option.TheVariants.{Some, None}
 use Rattle.g_graph.specs.declared.op.Kind.{Kind}
 use Rattle.g_graph.specs.declared.op.Origin.{Origin}
 use Rattle.g_graph.specs.declared.op.Origin.TheVariants.{Arg, Out}
 use Rattle.g_graph.specs.Plain.{RegionTree, region, NodeTree, node, NodeTrees, node_then, id_of, args_of, nodes_in}
-use Rattle.g_graph.specs.Signatures.{joined, kind_of, kind_after, output_kinds, outputs_of}
+use Rattle.g_graph.specs.Signatures.{joined, kind_after, output_kinds, outputs_of}
 use Rattle.g_graph.specs.Count.{region_values, nodes_values}
 use Rattle.s_linear.specs.Linear.{Code}
 use Rattle.s_linear.specs.Lines.{Line, step_lines, step_labels, code_lines}

@@ -1,19 +1,16 @@
 -- Names and labels are left for what is to come.
-use Rattle.std.proofs.Common.{◌≡◌, ◌<◌, ◌≤◌, ℕ, zero, suc, ◌+◌, ◌-◌, List, [], ◌∷◌, ◌++◌, map, length, take, drop, get_or, refl, ap, sym, ◌∙◌, arith}
-use Rattle.std.specs.Prelude.{slice_get}
+use Rattle.std.proofs.Common.{◌≡◌, ◌<◌, ◌≤◌, suc, ◌+◌, ◌-◌, List, [], ◌∷◌, map, length, take, drop, get_or, refl, ap, sym, arith}
 use Rattle.std.proofs.lemmas.List.{length-map}
 use Rattle.std.specs.declared.option.Option.{Option}
-use Rattle.std.specs.declared.option.Option.TheVariants.{Some, None}
+use Rattle.std.specs.declared.option.Option.TheVariants.{None}
 use Rattle.g_graph.specs.declared.op.Kind.{Kind}
 use Rattle.g_graph.specs.declared.op.Origin.{Origin}
-use Rattle.g_graph.specs.Plain.{RegionTree, region, NodeTrees, node_then, no_regions, region_then, regions_of, args_of}
+use Rattle.g_graph.specs.Plain.{RegionTree, region, regions_of, args_of}
 use Rattle.g_graph.specs.Signatures.{kind_of, kind_after, result_kinds}
-use Rattle.g_graph.specs.Count.{region_values, node_values, nodes_values, regions_values}
-use Rattle.s_sequence.specs.Sequence.{values_in, value_args, region_names, regions_names, node_names, nodes_names}
-use Rattle.s_sequence.specs.Shape.{RegionShaped, NodesShaped}
-use Rattle.s_sequence.specs.Written.{count_of, region_labels, results_in}
-use Rattle.s_sequence.proofs.Named.{args_length, values_length, names_values, nodes_names_values, regions_names_values}
-use Rattle.s_sequence.proofs.LabelLemmas.{region_labels_values}
+use Rattle.g_graph.specs.Count.{region_values, regions_values}
+use Rattle.s_sequence.specs.Sequence.{values_in, value_args, region_names}
+use Rattle.s_sequence.specs.Written.{count_of, results_in}
+use Rattle.s_sequence.proofs.Named.{args_length, values_length, nodes_names_values}
 
 pub args_room : (r : RegionTree) → value_args (args_of r) < region_values r
 args_room (region args nodes results) = omega (arith, args_length args)

@@ -1,5 +1,5 @@
 -- Well-formed lambdas have the shapes that sequencing rests on.
-use Rattle.std.proofs.Common.{◌≡◌, ℕ, ◌+◌, Bool, true, List, [], ◌∷◌, ◌++◌, ◌<◌, ◌^◌, map, length, refl, ap, sym, ◌∙◌, zero-add, append-nil, arith}
+use Rattle.std.proofs.Common.{◌≡◌, ℕ, true, List, [], ◌∷◌, ◌++◌, ◌<◌, ◌^◌, map, length, refl, ap, sym, ◌∙◌, zero-add, append-nil, arith}
 use Rattle.std.specs.Prelude.{◌&&◌}
 use Rattle.std.specs.declared.option.Option.{Option}
 use Rattle.std.specs.declared.option.Option.TheVariants.{Some, None}
@@ -16,7 +16,6 @@ use Rattle.std.proofs.lemmas.Bool.{and_parts}
 use Rattle.g_graph.specs.Count.{region_values}
 use Rattle.s_linear.specs.Linear.{Code, no_steps}
 use Rattle.s_linear.specs.Lines.{Line, leave, code_lines}
-use Rattle.s_sequence.specs.declared.ports.Port.{Port}
 use Rattle.s_sequence.specs.declared.scope.Scope.{Scope}
 use Rattle.s_sequence.specs.Sequence.{value_args, no_names, name_of, nodes_named, nodes_code, body_code, value_name, name_at}
 use Rattle.s_sequence.specs.Scope.{port_in, name_in}

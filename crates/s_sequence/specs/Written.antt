@@ -7,13 +7,12 @@ use Rattle.g_graph.specs.declared.op.Origin.{Origin}
 use Rattle.g_graph.specs.declared.op.Op.{Op}
 use Rattle.g_graph.specs.declared.op.Op.TheVariants.{Gamma, Theta}
 use Rattle.g_graph.specs.Plain.{RegionTree, region, NodeTree, node, NodeTrees, no_nodes, node_then, RegionTrees, no_regions, region_then}
-use Rattle.g_graph.specs.Signatures.{kind_of, kind_after, outputs_of, result_kinds}
-use Rattle.s_linear.specs.Linear.{Code, Step}
+use Rattle.g_graph.specs.Signatures.{kind_of, kind_after, outputs_of}
+use Rattle.s_linear.specs.Linear.{Code}
 use Rattle.s_linear.specs.Lines.{Line, jump, label, branch_equal, code_lines, step_lines}
 use Rattle.s_sequence.specs.declared.ports.Port.{Port}
 use Rattle.s_sequence.specs.declared.scope.Scope.{Scope}
 use Rattle.s_sequence.specs.Sequence.{value_args, no_names, nodes_named, name_of, kept, moves, instrs_then, outputs_at, region_names, nodes_code, node_step, branch_code}
-use Rattle.s_sequence.specs.Sequence as sequence
 use Rattle.s_sequence.specs.Ports.{PlainPorts, ports_from}
 use Rattle.s_sequence.specs.Scope.{names_in}
 use Rattle.s_sequence.specs.Writer.{PlainWriter}

@@ -30,10 +30,10 @@ pub fn write_turn(
     requires labels { first + 1 < 2 ^ 32 }
     ensures lines { OnOk result (let outputs = w.old.next in
         w.new.lines ≡ w.old.lines
-            ++ map done (moves outputs (loop_results args.now results.now))
-            ++ branch_zero (predicate_name results.now) (first + 1)
-            ∷ map done (moves base (numbers_from outputs (value_args args.now)))
-            ++ jump first ∷ label (first + 1) ∷ []) }
+        ++ map done (moves outputs (loop_results args.now results.now))
+        ++ branch_zero (predicate_name results.now) (first + 1)
+        ∷ map done (moves base (numbers_from outputs (value_args args.now)))
+        ++ jump first ∷ label (first + 1) ∷ []) }
     ensures next { OnOk result (w.new.next ≡ w.old.next + value_args args.now) }
     ensures label { OnOk result (w.new.label ≡ w.old.label) }
     ensures outputs { IfOk result (λ outputs. outputs
@@ -59,7 +59,7 @@ fn write_results(
     requires { outputs + value_args args.now + 1 < 2 ^ 32 }
     ensures { OnOk result (w.new ≡ with_lines w.old
         (map done (moves outputs (loop_results args.now results.now))
-            ++ branch_zero (predicate_name results.now) end ∷ [])) }
+        ++ branch_zero (predicate_name results.now) end ∷ [])) }
 {
     let predicate = match results.split_first() {
         Some((predicate, values)) => {

@@ -50,12 +50,7 @@ pub fn write_nodes(alloc: Global, w: &mut Writer, region: &Region) -> Result<Sco
 
 // Writes the step of a node, and gives its outputs.
 #[cycle(regions)]
-fn write_step(
-    alloc: Global,
-    w: &mut Writer,
-    scope: &Scope,
-    node: &Node,
-) -> Result<Ports, NoMemory>
+fn write_step(alloc: Global, w: &mut Writer, scope: &Scope, node: &Node) -> Result<Ports, NoMemory>
     requires shaped { NodeShaped node.now }
     requires room { HasRoom w.old (node_values node.now) (node_labels node.now) }
     ensures lines { OnOk result (StepWritten w.old w.new scope.now node.now) }
@@ -101,8 +96,8 @@ fn write_choice(
     ensures lines { OnOk result (let rs = regions_of regions.now in
         let outputs = values_in (outputs_of Gamma rs) in
         w.new.lines ≡ w.old.lines ++ step_lines w.old.label (choice predicate
-            (branch_codes entries.now (outputs_at w.old.next rs)
-                (bases w.old.next outputs rs) rs))) }
+        (branch_codes entries.now (outputs_at w.old.next rs)
+        (bases w.old.next outputs rs) rs))) }
     ensures next { OnOk result (let rs = regions_of regions.now in
         w.new.next ≡ w.old.next + (regions_names rs + values_in (outputs_of Gamma rs))) }
     ensures label { OnOk result (let rs = regions_of regions.now in
@@ -254,7 +249,7 @@ fn write_entered(
     requires room { HasRoom w.old (region_values region.now) (region_labels region.now) }
     ensures lines { OnOk result ((k : Code) → w.new.lines ++ code_lines w.new.label k
         ≡ w.old.lines ++ code_lines w.old.label
-            (entered_code entries.now w.old.next region.now k)) }
+        (entered_code entries.now w.old.next region.now k)) }
     ensures next { OnOk result (w.new.next ≡ w.old.next + region_names region.now) }
     ensures label { OnOk result (w.new.label ≡ w.old.label + region_labels region.now) }
     ensures scope { IfOk result (λ scope. (o : Origin) →

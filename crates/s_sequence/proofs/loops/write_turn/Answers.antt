@@ -1,4 +1,4 @@
-use Rattle.std.proofs.Common.{◌≡◌, [], ◌∷◌, ◌++◌, ◌+◌, ◌-◌, ap, ◌∙◌, map, arith}
+use Rattle.std.proofs.Common.{◌≡◌, [], ◌∷◌, ◌++◌, ◌+◌, ap, ◌∙◌, map, arith}
 use Rattle.std.specs.declared.option.Option.TheVariants.{Some}
 use Rattle.s_linear.specs.Lines.{done, branch_zero}
 use Rattle.s_sequence.specs.Sequence.{value_args, moves, loop_results, predicate_name}

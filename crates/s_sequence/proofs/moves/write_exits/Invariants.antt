@@ -1,4 +1,4 @@
-use Rattle.std.proofs.Common.{◌≡◌, ◌+◌, ◌≤◌, ◌++◌, drop, map}
+use Rattle.std.proofs.Common.{◌≡◌, ◌+◌, ◌++◌, drop, map}
 use Rattle.s_linear.specs.Lines.{done}
 use Rattle.s_sequence.specs.Sequence.{values_in, kept, moves}
 use Rattle.s_sequence.specs.Ports.{ports_from, ports_added}

@@ -1,4 +1,4 @@
-use Rattle.std.proofs.Common.{◌≡◌, ◌<◌, ◌≤◌, ℕ, suc, ◌+◌, ◌-◌, List, [], ◌∷◌, ◌++◌, map, length, take, drop, get_or, refl, ap, sym, subst, ◌∙◌, arith, append_assoc, add-one, drop-cons, drop_of_length-le}
+use Rattle.std.proofs.Common.{◌≡◌, ◌<◌, ℕ, suc, ◌+◌, ◌-◌, List, [], ◌∷◌, ◌++◌, map, length, take, drop, ap, sym, subst, ◌∙◌, arith, append_assoc, add-one, drop-cons, drop_of_length-le}
 use Rattle.std.specs.Prelude.{◌==◌, if◌then◌else◌, slice_get}
 use Rattle.std.proofs.lemmas.Result.{IfOk-weaker, on_ok_weaker}
 use Rattle.std.specs.declared.option.Option.TheVariants.{Some}
@@ -8,17 +8,17 @@ use Rattle.g_graph.specs.declared.op.Origin.TheVariants.{Out}
 use Rattle.g_graph.specs.declared.op.Op.{Op}
 use Rattle.g_graph.specs.declared.op.Op.TheVariants.{Gamma, Theta}
 use Rattle.g_graph.specs.Plain.{RegionTree, RegionTrees, NodeTree, node, NodeTrees, node_then, no_regions, region_then, nodes_of, regions_of, args_of, nodes_in, id_of}
-use Rattle.g_graph.specs.Signatures.{result_kinds, outputs_of, kind_after}
-use Rattle.g_graph.specs.Count.{region_values, regions_values, node_values, nodes_values}
+use Rattle.g_graph.specs.Signatures.{result_kinds, kind_after}
+use Rattle.g_graph.specs.Count.{regions_values, nodes_values}
 use Rattle.s_linear.specs.Linear.{Code}
 use Rattle.s_linear.specs.Lines.{Line, done, jump, label, code_lines, branch_zero, branch_not_zero, numbers_from}
 use Rattle.s_sequence.specs.Sequence.{values_in, value_args, kept, moves, region_names, regions_names, node_names, nodes_names, nodes_named, nodes_code, branch_code, outputs_at, loop_results, predicate_name}
 use Rattle.s_sequence.specs.Ports.{PlainPorts, ports_from, port_at}
 use Rattle.s_sequence.specs.Scope.{port_in, name_in, kind_in, names_in}
-use Rattle.s_sequence.specs.Shape.{NodeShaped, NodesShaped, RegionsShaped, RegionShaped}
+use Rattle.s_sequence.specs.Shape.{NodeShaped, NodesShaped, RegionsShaped}
 use Rattle.s_sequence.specs.Writer.{PlainWriter, with_lines}
-use Rattle.s_sequence.specs.Written.{results_in, region_code, region_port, region_labels, regions_labels, node_labels, nodes_labels, node_ports, count_of, StepWritten, branch_lines, other_lines, others_lines, cases_lines}
-use Rattle.s_sequence.proofs.Named.{node_names_values, names_values, regions_names_values}
+use Rattle.s_sequence.specs.Written.{results_in, region_code, region_port, region_labels, regions_labels, node_labels, nodes_labels, node_ports, StepWritten, branch_lines, other_lines, others_lines, cases_lines}
+use Rattle.s_sequence.proofs.Named.{node_names_values, names_values}
 use Rattle.s_sequence.proofs.PortLemmas.{ports_first, ports_end}
 use Rattle.s_sequence.proofs.CodeLemmas.{kinds_written, branch_written, entered_written, loop_written}
 use Rattle.s_sequence.proofs.RoomLemmas.{args_room, loop_room, exits_room, count_is, value_each, standing_room, second}
@@ -200,8 +200,7 @@ write_others-write_other-requires t c =
     let test : i < length others = c.loop-i-test.true in
     let here : drop i others ≡ x ∷ drop (i + 1) others = rw (add-one, drop-cons others i x) (ap (λ y. y ∷ drop (suc i) others) (sym c.index-others-i.is)) in
     let more : regions_of (drop i others) ≡ region_then x (regions_of (drop (i + 1) others)) = ap regions_of here in
-    let shaped : RegionsShaped (region_then x (regions_of (drop (i + 1) others))) = subst RegionsShaped more inv.shaped in
-    (
+    let shaped : RegionsShaped (region_then x (regions_of (drop (i + 1) others))) = subst RegionsShaped more inv.shaped in (
       omega (arith, c.decreases, ap regions_values more, inv.nearer),
       (
         shaped.0,
@@ -253,8 +252,7 @@ write_cases-write_others-requires t c =
     let r = c.args.standing.now in
     let given = c.in_ok-outputs.ensures in
     let first : c.outputs.inside.first ≡ c.args.w.now.next + region_names r =
-    ap (λ (p : PlainPorts). p.first) c.outputs.view_is ∙ ports_first c.in_ok-outputs.outputs (c.args.w.now.next + region_names r) (result_kinds r) given.outputs in
-    (
+    ap (λ (p : PlainPorts). p.first) c.outputs.view_is ∙ ports_first c.in_ok-outputs.outputs (c.args.w.now.next + region_names r) (result_kinds r) given.outputs in (
       omega (arith, c.decreases, value_each r),
       (
         c.requires.shaped.1,
@@ -312,8 +310,7 @@ write_choice-write_cases-requires-in-Some t c =
     let other = c.if-regions-eq2.false in
     let pushed = c.in_ok-write_branches-in-Some.ensures in
     let next = ap next_of pushed ∙ ap next_of c.w.view_is in
-    let label = ap label_of pushed ∙ ap (λ n. n + length xs) (ap label_of c.w.view_is) in
-    (
+    let label = ap label_of pushed ∙ ap (λ n. n + length xs) (ap label_of c.w.view_is) in (
       omega (arith, c.decreases, values_are xs ys l parts other),
       (
         parts_shaped xs ys l parts other c.requires.shaped,
