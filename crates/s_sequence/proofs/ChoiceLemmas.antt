@@ -114,9 +114,12 @@ module _ (entries : List ℕ) (outputs : ℕ) where
       ∙ ap (λ m. c ++ others_lines entries outputs (suc (first + k)) end (others + m) (at + region_names r) (region_then s (region_then t no_regions))) (branch_labels_are entries outputs at r h.0)
   labelled_is next at last others k first end (region_then r (region_then s (region_then t (region_then u rs)))) l h =
       let c : List Line = jump end ∷ label (first + k) ∷ code_lines others (branch_code entries outputs at r) in
-      ap (λ ls. c ++ ls) (labelled_is next (at + region_names r) last (others + code_labels (branch_code entries outputs at r)) (suc k) first end (region_then s (region_then t (region_then u rs))) l h.1)
-      ∙ ap (λ m. c ++ others_lines entries outputs m end (others + code_labels (branch_code entries outputs at r)) (at + region_names r) (region_then s (region_then t (region_then u rs)))) (add-suc first k)
-      ∙ ap (λ m. c ++ others_lines entries outputs (suc (first + k)) end (others + m) (at + region_names r) (region_then s (region_then t (region_then u rs)))) (branch_labels_are entries outputs at r h.0)
+      ap (λ ls. c ++ ls) (labelled_is next (at + region_names r) last (others + code_labels (branch_code entries outputs at r)) (suc k) first end (region_then s (region_then t (region_then u rs)))
+      l h.1)
+      ∙ ap (λ m. c ++ others_lines entries outputs m end (others + code_labels (branch_code entries outputs at r)) (at + region_names r) (region_then s (region_then t (region_then u rs))))
+      (add-suc first k)
+      ∙ ap (λ m. c ++ others_lines entries outputs (suc (first + k)) end (others + m) (at + region_names r) (region_then s (region_then t (region_then u rs))))
+      (branch_labels_are entries outputs at r h.0)
 
   abbrev choice_of_more : (p first : ℕ) → List LinesOf → List Line
   choice_of_more p first cs = branches p 0 first cs ++ last_lines cs ++ labelled 0 first (first + before_last cs) cs ++ label (first + before_last cs) ∷ []
@@ -139,7 +142,8 @@ module _ (entries : List ℕ) (outputs : ℕ) where
       ∙ ap (λ ls. ls ++ label (first + k) ∷ []) (append_assoc heads own rest) ∙ append_assoc heads (own ++ rest) (label (first + k) ∷ [])
       ∙ ap (λ m. heads ++ (code_lines m (branch_code entries outputs next l) ++ rest ++ label (first + k) ∷ [])) d
       ∙ ap (λ m. heads ++ (code_lines (first + suc k) (branch_code entries outputs next l) ++ others_lines entries outputs first (first + k) m at fr ++ label (first + k) ∷ [])) e
-      ∙ ap (λ m. heads ++ (code_lines (first + suc k) (branch_code entries outputs next l) ++ others_lines entries outputs first (first + k) (first + suc k + region_labels l) m fr ++ label (first + k) ∷ [])) b
+      ∙ ap (λ m. heads ++ (code_lines (first + suc k) (branch_code entries outputs next l) ++ others_lines entries outputs first (first + k) (first + suc k + region_labels l) m fr ++ label
+      (first + k) ∷ [])) b
       ∙ ap (λ m. heads ++ (code_lines (first + suc k) (branch_code entries m next l)
       ++ others_lines entries m first (first + k) (first + suc k + region_labels l) (next + region_names l + n) fr ++ label (first + k) ∷ [])) a
 
@@ -181,7 +185,8 @@ module _ (entries : List ℕ) (p first next n : ℕ) where
   many_lines (region_then r (region_then s no_regions)) l h k one = many (region_then r (region_then s no_regions)) l h k
   many_lines (region_then r (region_then s (region_then t no_regions))) l h k one = many (region_then r (region_then s (region_then t no_regions))) l h k
   many_lines (region_then r (region_then s (region_then t (region_then u no_regions)))) l h k one = many (region_then r (region_then s (region_then t (region_then u no_regions)))) l h k
-  many_lines (region_then r (region_then s (region_then t (region_then u (region_then v rs))))) l h k one = many (region_then r (region_then s (region_then t (region_then u (region_then v rs))))) l h k
+  many_lines (region_then r (region_then s (region_then t (region_then u (region_then v rs))))) l h k one = many (region_then r (region_then s (region_then t (region_then u (region_then v rs)))))
+      l h k
 
 standing_with_last : (fr : RegionTrees) (l : RegionTree) → (count_of fr ≡ 1 → ⊥) → first_standing (with_last fr l) ≡ region_names l
 standing_with_last no_regions l one = refl
@@ -254,7 +259,8 @@ two_written xs ys r s parts rest shaped entries p first next l0 l1 l2 k1 n1 a b 
     ∙ ap (λ ls. l0 ++ ls) (sym (two_lines entries p first next n r s shaped))
     ∙ ap (λ zs. l0 ++ lines_of_choice entries p first next (values_in (outputs_of Gamma (regions_of zs))) (regions_of zs)) (sym parts)
 
-pub cases_written : (entries : List ℕ) (first k0 n0 values : ℕ) (r : RegionTree) (rs : RegionTrees) (l0 l1 l2 l3 : List Line) (out k1 n1 end : ℕ) → out ≡ n0 + region_names r → k1 ≡ k0 + region_labels r →
+pub cases_written : (entries : List ℕ) (first k0 n0 values : ℕ) (r : RegionTree) (rs : RegionTrees) (l0 l1 l2 l3 : List Line) (out k1 n1 end : ℕ) → out ≡ n0 + region_names r →
+    k1 ≡ k0 + region_labels r →
     n1 ≡ n0 + region_names r + values → end ≡ first + count_of rs → l1 ≡ l0 ++ code_lines k0 (branch_code entries (n0 + region_names r) n0 r) → l2 ≡ l1 ++ others_lines entries out first end k1 n1 rs →
     l3 ≡ l2 ++ label end ∷ [] → l3 ≡ l0 ++ cases_lines entries first k0 n0 r values rs
 cases_written entries first k0 n0 values r rs l0 l1 l2 l3 out k1 n1 end a b d e f g h =

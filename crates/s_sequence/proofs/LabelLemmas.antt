@@ -75,7 +75,8 @@ mutual
   step_labels_are args base names next (node id Gamma [] rs) h = absurd h.0
   step_labels_are args base names next (node id Gamma (p ∷ entries) no_regions) h = absurd h.0
   step_labels_are args base names next (node id Gamma (p ∷ entries) (region_then r rs)) h =
-      choice_labels_are (map (name_of args base names) entries) (outputs_at next (region_then r rs)) (bases next (values_in (outputs_of Gamma (region_then r rs))) (region_then r rs)) (region_then r rs)
+      choice_labels_are (map (name_of args base names) entries) (outputs_at next (region_then r rs)) (bases next (values_in (outputs_of Gamma (region_then r rs))) (region_then r rs))
+      (region_then r rs)
       (bases_has next (values_in (outputs_of Gamma (region_then r rs))) (region_then r rs)) h.1
   step_labels_are args base names next (node id Theta inputs no_regions) h = absurd h.0
   step_labels_are args base names next (node id Theta inputs (region_then r no_regions)) h = loop_labels_are (map (name_of args base names) inputs) next r h.1.0

@@ -17,6 +17,9 @@ pub turn_lines : (args : List Kind) (results : List ℕ) (base label_ at from to
     ++ jump label_ ∷ label (label_ + 1) ∷ []
 turn_lines args results base first at from to old one two three four e n f g h k =
     k ∙ ap (λ zs. zs ++ label (first + 1) ∷ []) (h ∙ ap (λ zs. zs ++ jump first ∷ []) (g ∙ ap (λ zs. zs ++ map done (moves base (numbers_from from (to - from)))) f))
-    ∙ grouped old (map done (moves from (loop_results args results))) (map done (moves base (numbers_from from (to - from)))) (branch_zero (predicate_name results) (first + 1)) (jump first) (label (first + 1))
-    ∙ ap (λ m. ((old ++ map done (moves from (loop_results args results))) ++ branch_zero (predicate_name results) (first + 1) ∷ map done (moves base (numbers_from from m))) ++ jump first ∷ label (first + 1) ∷ []) n
-    ∙ ap (λ m. ((old ++ map done (moves m (loop_results args results))) ++ branch_zero (predicate_name results) (first + 1) ∷ map done (moves base (numbers_from m (value_args args)))) ++ jump first ∷ label (first + 1) ∷ []) e
+    ∙ grouped old (map done (moves from (loop_results args results))) (map done (moves base (numbers_from from (to - from)))) (branch_zero (predicate_name results) (first + 1)) (jump first)
+    (label (first + 1))
+    ∙ ap (λ m. ((old ++ map done (moves from (loop_results args results))) ++ branch_zero (predicate_name results) (first + 1) ∷ map done (moves base (numbers_from from m))) ++ jump first ∷ label
+    (first + 1) ∷ []) n
+    ∙ ap (λ m. ((old ++ map done (moves m (loop_results args results))) ++ branch_zero (predicate_name results) (first + 1) ∷ map done (moves base (numbers_from m (value_args args)))) ++ jump
+    first ∷ label (first + 1) ∷ []) e

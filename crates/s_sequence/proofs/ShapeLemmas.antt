@@ -74,7 +74,8 @@ module _ (objects : ℕ) where
       let five = (and_parts (inputs_fit args before x && inputs_are_last args before x && node_has_one_state_each args before x && has_its_regions x) (regions_fit x) six).0 in
       let has : has_its_regions x ≡ true = (and_parts (inputs_fit args before x && inputs_are_last args before x && node_has_one_state_each args before x) (has_its_regions x) five).1 in
       let inputs_are : inputs_fit args before x ≡ true =
-      (and_parts (inputs_fit args before x) (inputs_are_last args before x) (and_parts (inputs_fit args before x && inputs_are_last args before x) (node_has_one_state_each args before x) (and_parts (inputs_fit args before x && inputs_are_last args before x && node_has_one_state_each args before x) (has_its_regions x) five).0).0).0 in
+      (and_parts (inputs_fit args before x) (inputs_are_last args before x) (and_parts (inputs_fit args before x && inputs_are_last args before x) (node_has_one_state_each args before x)
+      (and_parts (inputs_fit args before x && inputs_are_last args before x && node_has_one_state_each args before x) (has_its_regions x) five).0).0).0 in
       shape_is args before id op inputs rs inputs_are has fit
 
   mutual
@@ -82,7 +83,8 @@ module _ (objects : ℕ) where
     region_is_shaped (region args nodes results) e =
         let here : region_fits objects (region args nodes results) ≡ true = (and_parts _ (every_in_nodes (region_fits objects) nodes) e).0 in
         nodes_are_shaped args [] nodes
-        (and_parts _ (results_are_last (region args nodes results)) (and_parts _ (returns_state Memory (region args nodes results)) (and_parts _ (returns_state Io (region args nodes results)) (and_parts _ (region_has_one_state_each (region args nodes results)) here).0).0).0).0
+        (and_parts _ (results_are_last (region args nodes results)) (and_parts _ (returns_state Memory (region args nodes results))
+        (and_parts _ (returns_state Io (region args nodes results)) (and_parts _ (region_has_one_state_each (region args nodes results)) here).0).0).0).0
         (and_parts (region_fits objects (region args nodes results)) _ e).1
 
     node_is_shaped : (args : List Kind) (before : NodeTrees) (x : NodeTree) → node_fits objects args before x ≡ true → every_in_node (region_fits objects) x ≡ true → NodeShaped x
@@ -98,7 +100,11 @@ module _ (objects : ℕ) where
 
     regions_are_shaped : (rs : RegionTrees) → every_in_regions (region_fits objects) rs ≡ true → RegionsShaped rs
     regions_are_shaped no_regions e = tt
-    regions_are_shaped (region_then r rs) e = (region_is_shaped r (and_parts (every_region (region_fits objects) r) _ e).0, regions_are_shaped rs (and_parts (every_region (region_fits objects) r) _ e).1)
+    regions_are_shaped (region_then r rs) e = (
+      region_is_shaped r (and_parts (every_region (region_fits objects) r) _ e).0,
+      regions_are_shaped rs
+          (and_parts (every_region (region_fits objects) r) _ e).1,
+    )
 
 pub body_shaped : (l : PlainLambda) → IsWellFormed l → RegionShaped l.body
 body_shaped l w = region_is_shaped (length l.objects) l.body (regions_of_well_formed l w)
@@ -120,6 +126,7 @@ body_written r scope value w1 w2 w3 heads begins body ports e f =
     let named : value ≡ value_name r = e ∙ value_is r scope (λ o. ports o ∙ ap (λ (w : PlainWriter). region_port w.next r o) begins) in
     ap (λ (w : PlainWriter). w.lines) f ∙ ap (λ ls. ls ++ leave value ∷ []) own ∙ ap (λ v. (heads ++ code_lines 0 (body_code r)) ++ leave v ∷ []) named
 
-pub body_room : (r : RegionTree) (w : PlainWriter) (heads : List Line) → RegionShaped r → region_values r < 2 ^ 32 → w ≡ record { lines = heads; next = 0; label = 0 } → HasRoom w (region_values r) (region_labels r)
+pub body_room : (r : RegionTree) (w : PlainWriter) (heads : List Line) → RegionShaped r → region_values r < 2 ^ 32 → w ≡ record { lines = heads; next = 0; label = 0 } →
+    HasRoom w (region_values r) (region_labels r)
 body_room r w heads h few e =
     record { for_names = omega (arith, ap (λ (v : PlainWriter). v.next) e); for_labels = omega (arith, region_labels_values r h, ap (λ (v : PlainWriter). v.label) e) }

@@ -35,14 +35,16 @@ module _ (scope : Scope) (old new : PlainWriter) where
   gamma_written id (p ∷ es) rs names predicate entries e f g args base h =
       g ∙ ap (λ zs. old.lines ++ step_lines old.label (choice_from old.next rs zs)) (sym f ∙ e ∙ same (p ∷ es) args base h)
 
-  pub theta_written : (id : ℕ) (inputs : List Origin) (r : RegionTree) (names : List ℕ) → names ≡ map (name_in scope) inputs → new.lines ≡ old.lines ++ step_lines old.label (loop_step names old.next r) →
+  pub theta_written : (id : ℕ) (inputs : List Origin) (r : RegionTree) (names : List ℕ) → names ≡ map (name_in scope) inputs →
+      new.lines ≡ old.lines ++ step_lines old.label (loop_step names old.next r) →
       StepWritten old new scope (node id Theta inputs (region_then r no_regions))
   theta_written id inputs r names e g args base h = g ∙ ap (λ zs. old.lines ++ step_lines old.label (loop_step zs old.next r)) (e ∙ same inputs args base h)
 
   pub plain_written : (id : ℕ) (op : Op) (inputs : List Origin) → (op ≡ Gamma → ⊥) → new.lines ≡ old.lines ++ done (op_instr op old.next (map (name_in scope) inputs)) ∷ [] →
       StepWritten old new scope (node id op inputs no_regions)
   plain_written id op inputs other g args base h =
-      g ∙ ap (λ zs. old.lines ++ done (op_instr op old.next zs) ∷ []) (same inputs args base h) ∙ ap (λ s. old.lines ++ step_lines old.label s) (sym (plain_step op id inputs args base (names_in scope) old.next other))
+      g ∙ ap (λ zs. old.lines ++ done (op_instr op old.next zs) ∷ []) (same inputs args base h) ∙ ap (λ s. old.lines ++ step_lines old.label s)
+      (sym (plain_step op id inputs args base (names_in scope) old.next other))
     where
       plain_step : (op : Op) (id : ℕ) (inputs : List Origin) (args : List Kind) (base : ℕ) (names : Names) (next : ℕ) → (op ≡ Gamma → ⊥) →
           node_step args base names next (node id op inputs no_regions) ≡ plain (op_instr op next (map (name_of args base names) inputs))

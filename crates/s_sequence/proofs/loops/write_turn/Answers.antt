@@ -18,5 +18,6 @@ returns-clause-lines c =
     ap (λ (p : PlainPorts). p.end) c.outputs.view_is ∙ ports_end c.in_ok-outputs.outputs c.w.inside.next kinds c.in_ok-outputs.ensures ∙ ap (λ k. k + value_args c.args.args.now) same in
     turn_lines c.args.args.now c.args.results.now c.args.base c.args.first n c.outputs.inside.first c.outputs.inside.end c.args.w.now.lines c.write_results.new.w.lines c.write_back.new.w.lines
     c.push.new.self.lines c.push-2.new.self.lines from (omega (arith, from, to)) (ap (λ (w : PlainWriter). w.lines) c.in_ok-write_results.ensures
-    ∙ ap (λ (w : PlainWriter). w.lines ++ (map done (moves c.outputs.inside.first (loop_results c.args.args.now c.args.results.now)) ++ branch_zero (predicate_name c.args.results.now) (c.args.first + 1) ∷ [])) c.w.view_is)
+    ∙ ap (λ (w : PlainWriter). w.lines ++ (map done (moves c.outputs.inside.first (loop_results c.args.args.now c.args.results.now)) ++ branch_zero (predicate_name c.args.results.now)
+    (c.args.first + 1) ∷ [])) c.w.view_is)
     (ap (λ (w : PlainWriter). w.lines) c.in_ok-write_back.ensures) (ap (λ (w : PlainWriter). w.lines) c.in_ok-push.ensures) (ap (λ (w : PlainWriter). w.lines) c.in_ok-push-2.ensures)

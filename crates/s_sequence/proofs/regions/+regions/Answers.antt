@@ -150,7 +150,8 @@ write_first-returns-clause-lines t c =
     let e : results ≡ results_in r = c.deref.ensures.value ∙ ap results_in c.region.view_is in
     let n : c.w.inside.next ≡ w.next + region_names r = ap next_of c.w.view_is ∙ c.in_ok-scope.ensures.next in
     ap lines_of c.w-2.view_is
-    ∙ branch_written w.next scope r results e c.in_ok-scope.ensures.scope c.args.entries.now (w.next + region_names r) w.label c.write_entered.new.w.label w.lines c.write_entered.new.w.lines c.write_exits.new.w.lines
+    ∙ branch_written w.next scope r results e c.in_ok-scope.ensures.scope c.args.entries.now (w.next + region_names r) w.label c.write_entered.new.w.label w.lines c.write_entered.new.w.lines
+    c.write_exits.new.w.lines
     c.in_ok-scope.ensures.lines
     (ap lines_of c.in_ok-outputs.ensures.lines ∙ ap (λ m. lines_of (with_lines c.write_entered.new.w (map done (moves m (kept (map (kind_in scope) results) (map (name_in scope) results)))))) n)
 
@@ -185,7 +186,8 @@ write_other-returns-clause-lines t c =
     let results = c.deref.result.now in
     let e : results ≡ results_in r = c.deref.ensures.value ∙ ap results_in c.region.view_is in
     let heads : two ≡ with_lines (with_lines w (jump c.args.end ∷ [])) (label c.args.label ∷ []) = c.in_ok-push-2.ensures ∙ ap (λ v. with_lines v (label c.args.label ∷ [])) c.in_ok-push.ensures in
-    branch_written two.next scope r results e c.in_ok-scope.ensures.scope c.args.entries.now c.args.outputs two.label c.write_entered.new.w.label two.lines c.write_entered.new.w.lines c.write_exits.new.w.lines
+    branch_written two.next scope r results e c.in_ok-scope.ensures.scope c.args.entries.now c.args.outputs two.label c.write_entered.new.w.label two.lines c.write_entered.new.w.lines
+    c.write_exits.new.w.lines
     c.in_ok-scope.ensures.lines (ap lines_of c.in_ok-write_exits.ensures.lines)
     ∙ ap (λ (v : PlainWriter). v.lines ++ code_lines v.label (branch_code c.args.entries.now c.args.outputs v.next r)) heads
     ∙ append_assoc (w.lines ++ jump c.args.end ∷ []) (label c.args.label ∷ []) (code_lines w.label (branch_code c.args.entries.now c.args.outputs w.next r))
@@ -271,7 +273,8 @@ write_cases-returns-clause-lines t c =
     let first : c.outputs.inside.first ≡ w.next + region_names r =
     ap (λ (p : PlainPorts). p.first) c.outputs.view_is ∙ ports_first c.in_ok-outputs.outputs (w.next + region_names r) (result_kinds r) given.outputs in
     let end = c.args.first + length c.args.others.now in
-    cases_written c.args.entries.now c.args.first w.label w.next (values_in (result_kinds r)) r (regions_of c.args.others.now) w.lines c.write_first.new.w.lines c.write_others.new.w.lines c.push.new.self.lines
+    cases_written c.args.entries.now c.args.first w.label w.next (values_in (result_kinds r)) r (regions_of c.args.others.now) w.lines c.write_first.new.w.lines c.write_others.new.w.lines
+    c.push.new.self.lines
     c.outputs.inside.first c.write_first.new.w.label c.write_first.new.w.next end first given.label given.next (ap (λ n. c.args.first + n) (sym (count_is c.args.others.now))) given.lines
     c.in_ok-write_others.ensures.lines (ap lines_of c.in_ok-push.ensures)
 
@@ -294,9 +297,11 @@ write_choice-returns-then-regions-eq2-clause-lines t c =
     let heads : c.push.new.self.lines ≡ w.lines ++ branch_not_zero c.args.predicate w.label ∷ [] =
     ap lines_of pushed ∙ ap (λ (v : PlainWriter). v.lines ++ branch_not_zero c.args.predicate v.label ∷ []) c.w.view_is in
     on_ok_weaker c.write_cases.result
-    (λ h. two_written xs ys r two.0 two.1 two.2 shaped.0 c.args.entries.now c.args.predicate w.label w.next w.lines c.push.new.self.lines c.write_cases.new.w.lines c.push.new.self.label c.push.new.self.next
+    (λ h. two_written xs ys r two.0 two.1 two.2 shaped.0 c.args.entries.now c.args.predicate w.label w.next w.lines c.push.new.self.lines c.write_cases.new.w.lines c.push.new.self.label
+    c.push.new.self.next
     (ap label_of pushed ∙ ap (λ n. n + length xs) label) (ap next_of pushed ∙ ap next_of c.w.view_is) heads
-    (h ∙ ap (λ m. c.push.new.self.lines ++ cases_lines c.args.entries.now m c.push.new.self.label c.push.new.self.next r (values_in (result_kinds r)) (regions_of ys)) label)) c.write_cases.ensures.lines
+    (h ∙ ap (λ m. c.push.new.self.lines ++ cases_lines c.args.entries.now m c.push.new.self.label c.push.new.self.next r (values_in (result_kinds r)) (regions_of ys)) label))
+    c.write_cases.ensures.lines
 
 pub write_choice-write_branches-requires : goal.write_choice-write_branches-requires
 write_choice-write_branches-requires t c = omega (arith, count_is c.args.regions.now, c.requires.room.for_labels, ap label_of c.w.view_is)
@@ -426,7 +431,8 @@ write_loop-returns-clause-lines t c =
     let end : ℕ → ℕ → List Kind → List Line = λ m f ks.
     ((l3 ++ map done (moves n3 (loop_results ks names))) ++ branch_zero (predicate_name names) (f + 1) ∷ map done (moves m (numbers_from n3 (value_args ks)))) ++ jump f ∷ label (f + 1) ∷ [] in
     on_ok_weaker c.write_turn.result
-    (λ h. loop_written r args results names scope a b d entries w.next w.label w.lines c.write_moves.new.w.lines c.push.new.self.lines l3 c.write_turn.new.w.lines c.write_nodes.new.w.label n3 moved marked body
+    (λ h. loop_written r args results names scope a b d entries w.next w.label w.lines c.write_moves.new.w.lines c.push.new.self.lines l3 c.write_turn.new.w.lines c.write_nodes.new.w.label n3
+    moved marked body
     (c.in_ok-scope.ensures.next ∙ ap (λ m. m + region_names r) next_is) ports
     (h ∙ ap (λ m. end m c.w.inside.label c.deref-3.result.now) base ∙ ap (λ f. end w.next f c.deref-3.result.now) first ∙ ap (λ ks. end w.next w.label ks) same)) c.write_turn.ensures.lines
 
@@ -441,10 +447,12 @@ write_step-returns-in-Some-clause-lines t c =
     let regions = c.deref-in-Some.result.now in
     let names : c.deref.result.now ≡ map (name_in scope) inputs = c.deref.ensures.value ∙ c.in_ok-names-in-Gamma.ensures ∙ ap (map (name_in scope)) c.as_slice-inputs.ensures in
     let x : node c.node.inside.id Gamma inputs (regions_of regions) ≡ c.args.node.now =
-    ap (node c.node.inside.id Gamma inputs) (ap regions_of c.deref-in-Some.ensures.value) ∙ ap (λ op. node c.node.inside.id op inputs (regions_of c.node.inside.regions.items)) (sym c.in-Gamma.is) ∙ c.node.view_is in
+    ap (node c.node.inside.id Gamma inputs) (ap regions_of c.deref-in-Some.ensures.value) ∙ ap (λ op. node c.node.inside.id op inputs (regions_of c.node.inside.regions.items)) (sym c.in-Gamma.is)
+    ∙ c.node.view_is in
     on_ok_weaker c.write_choice.result
     (λ h. subst (StepWritten w new scope) x
-    (gamma_written scope w new c.node.inside.id inputs (regions_of regions) c.deref.result.now c.in-Some.predicate.now c.in-Some.entries.now names c.in-Some.ensures.cases.0 h)) c.write_choice.ensures.lines
+    (gamma_written scope w new c.node.inside.id inputs (regions_of regions) c.deref.result.now c.in-Some.predicate.now c.in-Some.entries.now names c.in-Some.ensures.cases.0 h))
+    c.write_choice.ensures.lines
 
 abbrev theta_node : (id : ℕ) → List Origin → RegionTree → NodeTree
 theta_node id inputs r = node id Theta inputs (region_then r no_regions)
@@ -483,7 +491,8 @@ write_step-returns t c =
     let inputs = c.as_slice-inputs.result.now in
     let id = c.node.inside.id in
     let op = c.node.inside.op in
-    let e : node id op inputs (regions_of c.node.inside.regions.items) ≡ c.args.node.now = ap (λ os. node id op os (regions_of c.node.inside.regions.items)) c.as_slice-inputs.ensures ∙ c.node.view_is in
+    let e : node id op inputs (regions_of c.node.inside.regions.items) ≡ c.args.node.now = ap (λ os. node id op os (regions_of c.node.inside.regions.items)) c.as_slice-inputs.ensures
+    ∙ c.node.view_is in
     let x : node id op inputs no_regions ≡ c.args.node.now =
     plain_node c.args.node.now id op inputs (regions_of c.node.inside.regions.items) e c.in_default.not-Gamma c.in_default.not-Theta c.requires.shaped in
     record {
