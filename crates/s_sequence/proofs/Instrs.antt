@@ -109,7 +109,7 @@ module _ (objects : ℕ) (p : Op → ℕ → Type 0)
     regions_have no_regions e = tt
     regions_have (region_then r rs) e = (region_has r ((and_parts (every_region (region_fits objects) r) _ e).0), regions_have rs ((and_parts (every_region (region_fits objects) r) _ e).1))
 
-regions_of_well_formed : (l : PlainLambda) → IsWellFormed l → every_region (region_fits (length l.objects)) l.body ≡ true
+pub regions_of_well_formed : (l : PlainLambda) → IsWellFormed l → every_region (region_fits (length l.objects)) l.body ≡ true
 regions_of_well_formed l w =
     (and_parts (body_fits l && numbers_fit l) (every_region (region_fits (length l.objects)) l.body)
     ((and_parts (body_fits l && numbers_fit l && every_region (region_fits (length l.objects)) l.body) (all_of (λ o. leaves_fit o.size 0 o.leaves) l.objects) w).0)).1

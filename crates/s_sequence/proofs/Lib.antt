@@ -1,3 +1,14 @@
 mod Examples
 mod Instrs
 mod Named
+mod MoveLemmas
+mod PortLemmas
+mod BranchLemmas
+mod LoopLemmas
+mod LabelLemmas
+mod CodeLemmas
+mod ChoiceLemmas
+mod NodeLemmas
+mod RoomLemmas
+mod StepLemmas
+mod ShapeLemmas

@@ -37,20 +37,20 @@ take_values (suc k) (Some Value ∷ ks) = omega (arith, take_values k ks)
 take_values (suc k) (Some Memory ∷ ks) = take_values k ks
 take_values (suc k) (Some Io ∷ ks) = take_values k ks
 
-values_length : (kinds : List (Option Kind)) → values_in kinds ≤ length kinds
+pub values_length : (kinds : List (Option Kind)) → values_in kinds ≤ length kinds
 values_length [] = omega arith
 values_length (None ∷ ks) = omega (arith, values_length ks)
 values_length (Some Value ∷ ks) = omega (arith, values_length ks)
 values_length (Some Memory ∷ ks) = omega (arith, values_length ks)
 values_length (Some Io ∷ ks) = omega (arith, values_length ks)
 
-args_length : (args : List Kind) → value_args args ≤ length args
+pub args_length : (args : List Kind) → value_args args ≤ length args
 args_length [] = omega arith
 args_length (Value ∷ ks) = omega (arith, args_length ks)
 args_length (Memory ∷ ks) = omega (arith, args_length ks)
 args_length (Io ∷ ks) = omega (arith, args_length ks)
 
-are_values : (xs : List (Option Kind)) (ks : List Kind) → are xs ks ≡ true → values_in xs ≡ value_args ks
+pub are_values : (xs : List (Option Kind)) (ks : List Kind) → are xs ks ≡ true → values_in xs ≡ value_args ks
 are_values [] [] e = refl
 are_values [] (k ∷ ks) e = absurd (cc)
 are_values (None ∷ xs) ks e = absurd (cc)
@@ -72,17 +72,17 @@ body_values zero = refl
 body_values (suc n) = ap suc (body_values n)
 
 mutual
-  names_values : (r : RegionTree) → region_names r < region_values r
+  pub names_values : (r : RegionTree) → region_names r < region_values r
   names_values (region args nodes results) = omega (arith, args_length args, nodes_names_values nodes)
 
-  node_names_values : (x : NodeTree) → node_names x ≤ node_values x
+  pub node_names_values : (x : NodeTree) → node_names x ≤ node_values x
   node_names_values (node id op inputs rs) = omega (arith, values_length (outputs_of op rs), regions_names_values rs)
 
-  nodes_names_values : (ns : NodeTrees) → nodes_names ns ≤ nodes_values ns
+  pub nodes_names_values : (ns : NodeTrees) → nodes_names ns ≤ nodes_values ns
   nodes_names_values no_nodes = omega arith
   nodes_names_values (node_then x xs) = omega (arith, node_names_values x, nodes_names_values xs)
 
-  regions_names_values : (rs : RegionTrees) → regions_names rs ≤ regions_values rs
+  pub regions_names_values : (rs : RegionTrees) → regions_names rs ≤ regions_values rs
   regions_names_values no_regions = omega arith
   regions_names_values (region_then r rs) = omega (arith, names_values r, regions_names_values rs)
 

@@ -1,2 +1,9 @@
 pub mod Sequence
+pub mod Ports
+pub mod Scope
+pub mod Ops
+pub mod Writer
+pub mod Moves
+pub mod Shape
+pub mod Written
 pub mod Laws

@@ -1,4 +1,16 @@
-//! The linear code of a lambda, and its laws. It stands on s_linear, g_graph, val_core and c_lex.
+//! The linear code of a lambda: the sequencing of its regions, and its laws. It stands on s_linear,
+//! g_graph, no_memory, val_core and c_lex.
 #![tactic(auto)]
 
+mod choices;
 pub mod laws;
+mod loops;
+mod moves;
+mod ops;
+mod ports;
+mod regions;
+mod scope;
+mod sequencing;
+mod writer;
+
+pub use sequencing::sequence;
