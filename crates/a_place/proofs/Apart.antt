@@ -1,17 +1,17 @@
 -- Names whose intervals overlap have different places, and each place is below the count.
-use Rattle.std.proofs.Common.{◌≡◌, ◌<◌, ◌⊎◌, ◌≢◌, ℕ, zero, suc, ◌+◌, Bool, true, false, ◌&&◌, ◌||◌, List, [], ◌∷◌, get_or, refl, sym, ap, ◌∙◌, inl, inr, arith, eqb-true}
+use Rattle.std.proofs.Common.{◌≡◌, ◌<◌, ◌⊎◌, ◌≢◌, ℕ, zero, suc, ◌+◌, Bool, true, false, ◌&&◌, List, [], ◌∷◌, get_or, refl, sym, ap, ◌∙◌, inl, inr, arith, eqb-true}
 use Rattle.std.specs.Prelude.{◌==◌}
-use Rattle.std.proofs.lemmas.Bool.{or_cases, and_parts, eqb-false, cases_Bool, or_left, or_right}
+use Rattle.std.proofs.lemmas.Bool.{or_cases, or_parts, and_parts, eqb-false, cases_Bool, or_left, or_right}
 use Rattle.std.proofs.lemmas.Bool.Decides.{nat_tests}
 use Rattle.g_graph.specs.WellFormed.{some_of}
 use Rattle.s_linear.specs.Lines.{Line}
-use Rattle.a_place.specs.Places.{occurs, overlap, name_count, in_order, Given, held, least, count_of, place_for, given, place_in, all_given, places}
+use Rattle.a_place.specs.Places.{among, occurs, overlap, name_count, in_order, Given, held, least, count_of, place_for, given, place_in, all_given, places}
 use Rattle.a_place.specs.Laws.{IsAliveAt, OverlappingNamesDiffer, PlacesAreBelowCount}
-use Rattle.a_place.proofs.Order.{among, below_name_count, in_order_all, get_numbers}
+use Rattle.a_place.proofs.Order.{below_name_count, in_order_all, get_numbers}
 
 -- ---- the least place is free
 
-held_below : (lines : List Line) (x : ℕ) (gs : List Given) (p : ℕ) → held lines x gs p ≡ true → p < count_of gs
+pub held_below : (lines : List Line) (x : ℕ) (gs : List Given) (p : ℕ) → held lines x gs p ≡ true → p < count_of gs
 held_below lines x [] p e = cc
 held_below lines x (g ∷ gs) p e =
     elim (or_cases ((g.place == p) && overlap lines g.name x) (held lines x gs p) e) [
@@ -33,7 +33,7 @@ least_fails test from (suc n) =
           ])
     ]
 
-place_free : (lines : List Line) (x : ℕ) (gs : List Given) → held lines x gs (place_for lines x gs) ≡ false
+pub place_free : (lines : List Line) (x : ℕ) (gs : List Given) → held lines x gs (place_for lines x gs) ≡ false
 place_free lines x gs =
     elim (least_fails (held lines x gs) 0 (count_of gs)) [
       | inl free ↦ free
@@ -51,21 +51,17 @@ place_free lines x gs =
 abbrev named : ℕ → List Given → Bool
 named x gs = some_of (λ g. g.name == x) gs
 
-false_left : (a b : Bool) → (a || b) ≡ false → a ≡ false
-false_left true b e = cc
-false_left false b e = refl
-
-false_right : (a b : Bool) → (a || b) ≡ false → b ≡ false
-false_right true b e = cc
-false_right false b e = e
+pub not_first : (a b : Bool) → (a && b) ≡ false → b ≡ true → a ≡ false
+not_first true b e f = sym f ∙ e
+not_first false b e f = refl
 
 not_held : (lines : List Line) (x y p : ℕ) (gs : List Given) → held lines x gs p ≡ false → named y gs ≡ true → overlap lines y x ≡ true
     → place_in gs y ≢ p
 not_held lines x y p [] free n o = cc
 not_held lines x y p (g ∷ gs) free n o =
-    let here : ((g.place == p) && overlap lines g.name x) ≡ false =
-    false_left ((g.place == p) && overlap lines g.name x) (held lines x gs p) free in
-    let rest : held lines x gs p ≡ false = false_right ((g.place == p) && overlap lines g.name x) (held lines x gs p) free in
+    let parts = or_parts ((g.place == p) && overlap lines g.name x) (held lines x gs p) free in
+    let here : ((g.place == p) && overlap lines g.name x) ≡ false = parts.0 in
+    let rest : held lines x gs p ≡ false = parts.1 in
     elim (cases_Bool (g.name == y)) [
       | inl same ↦
           let name : g.name ≡ y = eqb-true g.name y same in
@@ -76,10 +72,6 @@ not_held lines x y p (g ∷ gs) free n o =
           let later : named y gs ≡ true = rw other at n in
           rw other (not_held lines x y p gs rest later o)
     ]
-  where
-    not_first : (a b : Bool) → (a && b) ≡ false → b ≡ true → a ≡ false
-    not_first true b e f = sym f ∙ e
-    not_first false b e f = refl
 
 -- names whose intervals overlap have different places
 record IsApart (lines : List Line) (gs : List Given) : Type 0 where
@@ -143,7 +135,7 @@ occurring_named lines x e = all_named lines x (in_order lines) [] (in_order_all 
 
 place_of : (lines : List Line) (x : ℕ) → some_of (occurs x) lines ≡ true → get_or (places lines).of x 0 ≡ place_in (all_given lines) x
 place_of lines x e =
-    get_numbers (place_in (all_given lines)) 0 (name_count lines) x (below_name_count x lines e)
+    get_numbers (place_in (all_given lines)) 0 (name_count lines) x 0 (below_name_count x lines e)
     ∙ ap (place_in (all_given lines)) (omega arith)
 
 below_count : (x : ℕ) (gs : List Given) → named x gs ≡ true → place_in gs x < count_of gs

@@ -6,8 +6,12 @@ use Rattle.g_graph.specs.WellFormed.{some_of}
 use Rattle.s_linear.specs.Frame.{PlainPlaces}
 use Rattle.s_linear.specs.Lines.{Line, line_names, numbers_from}
 
+-- x is one of these numbers
+abbrev pub among : ℕ → List ℕ → Bool
+among x xs = some_of (λ y. y == x) xs
+
 abbrev pub occurs : (name : ℕ) → Line → Bool
-occurs x line = some_of (λ y. y == x) (line_names line)
+occurs x line = among x (line_names line)
 
 -- The interval of a name that occurs goes from the first to the last position in which it occurs. A label is a position too.
 abbrev pub first : (name : ℕ) → List Line → ℕ

@@ -3,6 +3,10 @@
 //! own.
 #![tactic(auto)]
 
+mod places;
+
+use crate::places::Shape;
+use a_place::place;
 use c_lex::lex;
 use c_parse::parse;
 use rv_isa::decode;
@@ -47,11 +51,41 @@ fn tell_instructions(rt: &(impl Input + Print + AllocGlobal)) -> io::Result<()> 
     Ok(())
 }
 
-fn main(rt: HostRuntime) -> io::Result<()> {
-    match env::args(&rt)?.nth(1) {
-        Some(word) if word.as_str() == "lex" => count_tokens(&rt),
-        Some(word) if word.as_str() == "parse" => count_declarations(&rt),
-        Some(word) if word.as_str() == "decode" => tell_instructions(&rt),
-        _ => eprintln!(rt; "usage: cc_bench lex | cc_bench parse | cc_bench decode"),
+/// Gives places to the names of lines of a shape, and tells how many there are.
+fn count_places(rt: &(impl Print + AllocGlobal), shape: Shape, count: u32) -> io::Result<()> {
+    let linear = places::lines(rt.alloc(), shape, count)?;
+    match place(rt.alloc(), &linear) {
+        Ok(places) => println!(rt; "{} places", places.count),
+        Err(fault) => println!(rt; "{fault}"),
     }
+}
+
+fn shape_of(word: &str) -> Option<Shape> {
+    match word {
+        "alive" => Some(Shape::Alive),
+        "dead" => Some(Shape::Dead),
+        "staircase" => Some(Shape::Staircase),
+        "nest" => Some(Shape::Nest),
+        _ => None,
+    }
+}
+
+fn main(rt: HostRuntime) -> io::Result<()> {
+    let mut words = env::args(&rt)?;
+    match words.nth(1) {
+        Some(word) if word.as_str() == "lex" => return count_tokens(&rt),
+        Some(word) if word.as_str() == "parse" => return count_declarations(&rt),
+        Some(word) if word.as_str() == "decode" => return tell_instructions(&rt),
+        Some(word) if word.as_str() == "place" => {
+            let shape = words.next().and_then(|shape| shape_of(shape.as_str()));
+            let count = words.next().and_then(|count| count.parse::<u32>().ok());
+            if let (Some(shape), Some(count)) = (shape, count) {
+                return count_places(&rt, shape, count);
+            }
+        }
+        _ => {}
+    }
+    eprintln!(rt;
+        "usage: cc_bench lex | parse | decode | place (alive | dead | staircase | nest) COUNT"
+    )
 }

@@ -1,0 +1,51 @@
+//! Lists of numbers by index.
+
+use std::alloc::{AllocError, Global};
+use std::marker::Model;
+
+/// A list of numbers for each index below a size.
+#[derive(Drop)]
+pub(crate) struct Buckets {
+    lists: Vec<Vec<u32>>,
+}
+
+impl Model for Buckets {
+    ghost use Rattle.std.specs.Prelude.{ℕ, List, map};
+
+    ghost Value = { List (List ℕ) };
+
+    ghost view = { λ b. map (λ list. list.items) b.lists.items };
+}
+
+impl Buckets {
+    ghost use Rattle.std.specs.Prelude.{◌≡◌, ◌<◌, [], ◌∷◌, ◌++◌, length, IfOk, OnOk, slice_index_or, slice_set, replicate};
+
+    /// Empty lists.
+    pub(crate) fn new(alloc: Global, size: usize) -> Result<Self, AllocError>
+        ensures { IfOk result (λ b. b ≡ replicate size []) }
+    {
+        let mut lists = Vec::with_capacity(alloc, size)?;
+        for _ in 0..size {
+            lists.push(Vec::new(alloc))?;
+        }
+        Ok(Buckets { lists })
+    }
+
+    /// Adds a number at the end of a list.
+    pub(crate) fn put(&mut self, index: usize, number: u32) -> Result<(), AllocError>
+        requires { index < length self.old }
+        ensures { OnOk result (self.new ≡ slice_set
+            self.old index (slice_index_or self.old index [] ++ number ∷ [])) }
+    {
+        self.lists[index].push(number)?;
+        Ok(())
+    }
+
+    /// The list at an index.
+    pub(crate) fn get(&self, index: usize) -> &[u32]
+        requires { index < length self.now }
+        ensures { result.now ≡ slice_index_or self.now index [] }
+    {
+        self.lists[index].as_slice()
+    }
+}
