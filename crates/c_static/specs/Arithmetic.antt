@@ -21,6 +21,10 @@ chosen o u is_unsigned = if is_unsigned then u else o
 abbrev pub two : BinaryOp → TypeTree → ExprTree → ExprTree → ExprTree
 two o t a b = expr t (binary o a b)
 
+-- one whose operator counts in elements, where these have a size
+abbrev pub two_where : Option BinaryOp → TypeTree → ExprTree → ExprTree → Option ExprTree
+two_where o t a b = option_map (λ p. two p t a b) o
+
 -- ---- `*`, `/`, `%`, `&`, `|`, `^` take integers, in their common type
 
 abbrev pub arithmetic : (signed unsigned : Op2) → (are_unsigned : Bool) → ExprTree → ExprTree → ExprTree
@@ -48,17 +52,10 @@ shifted o u a b = shifted_by o u (type_of a) (type_of b) a b
 
 -- ---- `+` takes integers, or a pointer and an integer in either order
 
--- a pointer that moves by elements of this type, which is complete
-abbrev pub pointer_plus : Definitions → TypeTree → ExprTree → ExprTree → Option ExprTree
-pointer_plus defs t a b = option_map (λ bytes. two (binary_op.PointerPlus bytes) (pointer_to t) a b) (laid_out_size defs t)
-
-abbrev pub integer_plus : Definitions → TypeTree → ExprTree → ExprTree → Option ExprTree
-integer_plus defs t a b = option_map (λ bytes. two (binary_op.IntegerPlus bytes) (pointer_to t) a b) (laid_out_size defs t)
-
 abbrev pub sum_by : Definitions → (left right : TypeTree) → ExprTree → ExprTree → Option ExprTree
 sum_by defs (scalar_type s) (scalar_type t) a b = Some (arithmetic op.Add op.Add (are_unsigned s t) a b)
-sum_by defs (pointer_to s) (scalar_type t) a b = pointer_plus defs s a b
-sum_by defs (scalar_type s) (pointer_to t) a b = integer_plus defs t a b
+sum_by defs (pointer_to s) (scalar_type t) a b = two_where (option_map binary_op.PointerPlus (laid_out_size defs s)) (pointer_to s) a b
+sum_by defs (scalar_type s) (pointer_to t) a b = two_where (option_map binary_op.IntegerPlus (laid_out_size defs t)) (pointer_to t) a b
 sum_by defs _ _ a b = None
 
 abbrev pub sum : Definitions → ExprTree → ExprTree → Option ExprTree
@@ -66,16 +63,11 @@ sum defs a b = sum_by defs (type_of a) (type_of b) a b
 
 -- ---- `-` takes integers, a pointer and an integer, or two pointers of one type
 
-abbrev pub pointer_minus : Definitions → TypeTree → ExprTree → ExprTree → Option ExprTree
-pointer_minus defs t a b = option_map (λ bytes. two (binary_op.PointerMinus bytes) (pointer_to t) a b) (laid_out_size defs t)
-
-abbrev pub pointer_difference : Definitions → TypeTree → ExprTree → ExprTree → Option ExprTree
-pointer_difference defs t a b = option_map (λ bytes. two (binary_op.PointerDifference bytes) int a b) (laid_out_size defs t)
-
 abbrev pub difference_by : Definitions → (left right : TypeTree) → ExprTree → ExprTree → Option ExprTree
 difference_by defs (scalar_type s) (scalar_type t) a b = Some (arithmetic op.Sub op.Sub (are_unsigned s t) a b)
-difference_by defs (pointer_to s) (scalar_type t) a b = pointer_minus defs s a b
-difference_by defs (pointer_to s) (pointer_to t) a b = if same_type s t then pointer_difference defs s a b else None
+difference_by defs (pointer_to s) (scalar_type t) a b = two_where (option_map binary_op.PointerMinus (laid_out_size defs s)) (pointer_to s) a b
+difference_by defs (pointer_to s) (pointer_to t) a b =
+    if same_type s t then two_where (option_map binary_op.PointerDifference (laid_out_size defs s)) int a b else None
 difference_by defs _ _ a b = None
 
 abbrev pub difference : Definitions → ExprTree → ExprTree → Option ExprTree

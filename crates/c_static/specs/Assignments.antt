@@ -52,15 +52,15 @@ abbrev pub shifted : (signed unsigned : Op2) → PlaceTree → ExprTree → Opti
 shifted o u p e = shifted_by o u (place_type p) (type_of e) p e
 
 -- a pointer, to a complete type, moves by an integer
-abbrev pub moved : (ℕ → CompoundOp) → Definitions → TypeTree → PlaceTree → ExprTree → Option ExprTree
-moved o defs t p e = option_map (λ bytes. compounded (o bytes) p e) (laid_out_size defs t)
+abbrev pub moved : Option CompoundOp → PlaceTree → ExprTree → Option ExprTree
+moved o p e = option_map (λ m. compounded m p e) o
 
 abbrev pub increased_by : Definitions → (target operand : TypeTree) → PlaceTree → ExprTree → Option ExprTree
-increased_by defs (pointer_to s) (scalar_type t) p e = moved compound_op.PointerPlus defs s p e
+increased_by defs (pointer_to s) (scalar_type t) p e = moved (option_map compound_op.PointerPlus (laid_out_size defs s)) p e
 increased_by defs s t p e = integers_by op.Add op.Add s t p e
 
 abbrev pub decreased_by : Definitions → (target operand : TypeTree) → PlaceTree → ExprTree → Option ExprTree
-decreased_by defs (pointer_to s) (scalar_type t) p e = moved compound_op.PointerMinus defs s p e
+decreased_by defs (pointer_to s) (scalar_type t) p e = moved (option_map compound_op.PointerMinus (laid_out_size defs s)) p e
 decreased_by defs s t p e = integers_by op.Sub op.Sub s t p e
 
 abbrev pub place_assigned : Definitions → Punct → PlaceTree → ExprTree → Option ExprTree

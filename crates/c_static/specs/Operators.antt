@@ -5,7 +5,7 @@ use Rattle.val_core.specs.declared.operation.Op2.TheVariants as op
 use Rattle.c_lex.specs.declared.punct.Punct.{Punct}
 use Rattle.c_lex.specs.declared.punct.Punct.TheVariants as mark
 use Rattle.c_type.specs.Trees.{TypeTree, void_type, scalar_type, pointer_to, array_of, struct_type}
-use Rattle.c_type.specs.Layout.{Definitions, members, offset}
+use Rattle.c_type.specs.Layout.{Definitions, is_defined, members, offset}
 use Rattle.c_typed.specs.declared.operator.Relation.TheVariants as relation
 use Rattle.c_typed.specs.declared.operator.UnaryOp.TheVariants as unary_op
 use Rattle.c_typed.specs.Typed.{ExprTree, expr, constant, address, unary, logical_and, logical_or, conditional, PlaceTree, place, at, member}
@@ -155,9 +155,10 @@ selected o a = None
 abbrev pub selected_tag : Punct → Operand → Option ℕ
 selected_tag o a = option_and_then (λ x. struct_tag (operand_type x)) (selected o a)
 
--- the member of a struct at an index, which is const where the struct is
+-- the member of a complete struct at an index, which is const where the struct is
 abbrev pub member_at : Definitions → (tag index : ℕ) → PlaceTree → (is_const : Bool) → Option Operand
-member_at defs tag k p is_const = option_map (λ t. Place (place t (member p (offset defs tag k))) is_const) (slice_get (members defs tag) k)
+member_at defs tag k p is_const =
+    if is_defined defs tag then option_map (λ t. Place (place t (member p (offset defs tag k))) is_const) (slice_get (members defs tag) k) else None
 
 abbrev pub member_by : Definitions → TypeTree → (index : ℕ) → PlaceTree → (is_const : Bool) → Option Operand
 member_by defs (struct_type tag) k p is_const = member_at defs tag k p is_const

@@ -1,7 +1,7 @@
 -- The test of types is true exactly of equal ones.
-use Rattle.std.proofs.Common.{◌≡◌, refl, ap, ◌∙◌}
-use Rattle.std.specs.Prelude.{◌==◌, ◌&&◌, true}
-use Rattle.std.proofs.lemmas.Bool.{false≢true, and_parts, eqb-true, eq-eqb}
+use Rattle.std.proofs.Common.{◌≡◌, refl, ap, sym, ◌∙◌, subst}
+use Rattle.std.specs.Prelude.{◌↔◌, ◌==◌, ◌&&◌, Bool, true, false, IsTrue}
+use Rattle.std.proofs.lemmas.Bool.{false≢true, false_from_ne_true, and_parts, eqb-true, eq-eqb}
 use Rattle.c_type.specs.declared.scalar.Scalar.{Scalar}
 use Rattle.c_type.specs.declared.scalar.Scalar.TheVariants.{Char, SignedChar, UnsignedChar, Short, UnsignedShort, Int, UnsignedInt}
 use Rattle.c_type.specs.Trees.{TypeTree, void_type, scalar_type, pointer_to, array_of, struct_type}
@@ -42,3 +42,8 @@ same_type-true (array_of s m) (array_of t n) h =
     ap (λ u. array_of u m) (same_type-true s t parts.1) ∙ ap (array_of t) (eqb-true m n parts.0)
 same_type-true (struct_type k) (struct_type l) h = ap struct_type (eqb-true k l h)
 same_type-true _ _ h = absurd (false≢true h)
+
+-- a test that tells equal types is this one
+pub same_type-is : (b : Bool) (s t : TypeTree) → (IsTrue b ↔ (s ≡ t)) → b ≡ same_type s t
+same_type-is true s t h = subst (λ u. true ≡ same_type s u) (h.0 refl) (sym (same_type-refl s))
+same_type-is false s t h = sym (false_from_ne_true (same_type s t) (λ same. false≢true (h.1 (same_type-true s t same))))
