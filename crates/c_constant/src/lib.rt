@@ -9,4 +9,4 @@ mod form;
 mod word;
 
 pub use constant::{constant_value, is_null_constant};
-pub use conversion::{converted, converts, is_integer, null_converted, same_type};
+pub use conversion::{converted, converts, is_integer, may_convert, same_type};

@@ -11,7 +11,8 @@ use Rattle.c_typed.specs.declared.operator.BinaryOp.TheVariants as binary_op
 use Rattle.c_typed.specs.Typed.{ExprTree, expr, binary}
 use Rattle.c_typed.specs.WellTyped.{int, type_of, if_unsigned}
 use Rattle.c_static.specs.Types.{same_type, is_unsigned, are_unsigned, common_type, laid_out_size}
-use Rattle.c_static.specs.Conversions.{converted, promoted, null_converted}
+use Rattle.c_static.specs.Constants.{is_null_constant}
+use Rattle.c_static.specs.Conversions.{converted, promoted}
 
 -- an operation has one form for signed numbers and one for unsigned ones
 abbrev pub chosen : (signed unsigned : Op2) → (is_unsigned : Bool) → Op2
@@ -90,8 +91,8 @@ ordered r a b = ordered_by r (type_of a) (type_of b) a b
 -- ---- `==` and `!=` take these, and also a pointer and a null constant
 
 abbrev pub equated_by : Relation → (left right : TypeTree) → ExprTree → ExprTree → Option ExprTree
-equated_by r (pointer_to s) (scalar_type t) a b = option_map (two (binary_op.Compare r) int a) (null_converted (pointer_to s) b)
-equated_by r (scalar_type s) (pointer_to t) a b = option_map (λ x. two (binary_op.Compare r) int x b) (null_converted (pointer_to t) a)
+equated_by r (pointer_to s) (scalar_type t) a b = if is_null_constant b then Some (two (binary_op.Compare r) int a (converted (pointer_to s) b)) else None
+equated_by r (scalar_type s) (pointer_to t) a b = if is_null_constant a then Some (two (binary_op.Compare r) int (converted (pointer_to t) a) b) else None
 equated_by r s t a b = ordered_by r s t a b
 
 abbrev pub equated : Relation → ExprTree → ExprTree → Option ExprTree

@@ -13,7 +13,8 @@ use Rattle.c_typed.specs.WellTyped.{int, unsigned_int, type_of, place_type}
 use Rattle.c_static.specs.declared.operand.Operand.{Operand}
 use Rattle.c_static.specs.declared.operand.Operand.TheVariants.{Place, Value}
 use Rattle.c_static.specs.Types.{same_type, promoted_type, common_type, laid_out_size}
-use Rattle.c_static.specs.Conversions.{converted, promoted, null_converted}
+use Rattle.c_static.specs.Constants.{is_null_constant}
+use Rattle.c_static.specs.Conversions.{converted, promoted}
 use Rattle.c_static.specs.Operands.{operand_type, value_of, if_scalar}
 use Rattle.c_static.specs.Arithmetic.{integers, shifted, sum, difference, ordered, equated}
 
@@ -108,8 +109,8 @@ choice t c a b = expr t (conditional c (converted t a) (converted t b))
 abbrev pub choice_by : (left right : TypeTree) → (condition left right : ExprTree) → Option ExprTree
 choice_by (scalar_type s) (scalar_type t) c a b = Some (choice (common_type s t) c a b)
 choice_by (pointer_to s) (pointer_to t) c a b = if same_type s t then Some (expr (pointer_to s) (conditional c a b)) else None
-choice_by (pointer_to s) (scalar_type t) c a b = option_map (λ y. expr (pointer_to s) (conditional c a y)) (null_converted (pointer_to s) b)
-choice_by (scalar_type s) (pointer_to t) c a b = option_map (λ x. expr (pointer_to t) (conditional c x b)) (null_converted (pointer_to t) a)
+choice_by (pointer_to s) (scalar_type t) c a b = if is_null_constant b then Some (expr (pointer_to s) (conditional c a (converted (pointer_to s) b))) else None
+choice_by (scalar_type s) (pointer_to t) c a b = if is_null_constant a then Some (expr (pointer_to t) (conditional c (converted (pointer_to t) a) b)) else None
 choice_by void_type void_type c a b = Some (expr void_type (conditional c a b))
 choice_by _ _ c a b = None
 

@@ -1,0 +1,127 @@
+ghost use Rattle.std.specs.Prelude.{◌≡◌, IfOk};
+ghost use Rattle.c_typed.specs.WellTyped.{int, type_of};
+ghost use Rattle.c_static.specs.Arithmetic.{two, two_where, sum, difference};
+
+use crate::arithmetic::{arithmetic, two};
+use crate::types::{are_unsigned, if_unsigned, laid_out_size};
+use c_constant::same_type;
+use c_type::{TypeForm, Types};
+use c_typed::{BinaryOp, TExpr};
+use no_memory::NoMemory;
+use std::alloc::Global;
+use std::sync::Arc;
+use val_core::Op2;
+
+// An expression of two operands of type `int`.
+pub(crate) fn two_in_int(
+    alloc: Global,
+    op: BinaryOp,
+    left: TExpr,
+    right: TExpr,
+) -> Result<TExpr, NoMemory>
+    ensures { IfOk result (λ r. r ≡ two op int left right) }
+{
+    let ty = if_unsigned(alloc, false)?;
+    two(alloc, op, ty, left, right)
+}
+
+// One of the type of its left operand, where there is an operator.
+fn two_like_left(
+    alloc: Global,
+    op: Option<BinaryOp>,
+    left: TExpr,
+    right: TExpr,
+) -> Result<Option<TExpr>, NoMemory>
+    ensures { IfOk result (λ r. r ≡ two_where op (type_of left) left right) }
+{
+    match op {
+        Some(op) => {
+            let ty = Arc::try_clone(&left.ty)?;
+            Ok(Some(two(alloc, op, ty, left, right)?))
+        }
+        None => Ok(None),
+    }
+}
+
+fn two_like_right(
+    alloc: Global,
+    op: Option<BinaryOp>,
+    left: TExpr,
+    right: TExpr,
+) -> Result<Option<TExpr>, NoMemory>
+    ensures { IfOk result (λ r. r ≡ two_where op (type_of right) left right) }
+{
+    match op {
+        Some(op) => {
+            let ty = Arc::try_clone(&right.ty)?;
+            Ok(Some(two(alloc, op, ty, left, right)?))
+        }
+        None => Ok(None),
+    }
+}
+
+fn two_where_in_int(
+    alloc: Global,
+    op: Option<BinaryOp>,
+    left: TExpr,
+    right: TExpr,
+) -> Result<Option<TExpr>, NoMemory>
+    ensures { IfOk result (λ r. r ≡ two_where op int left right) }
+{
+    match op {
+        Some(op) => Ok(Some(two_in_int(alloc, op, left, right)?)),
+        None => Ok(None),
+    }
+}
+
+// A sum of integers, or of a pointer and an integer in either order (ISO/IEC 9899:2011, 6.5.6p2).
+pub(crate) fn sum(
+    alloc: Global,
+    types: &Types,
+    left: TExpr,
+    right: TExpr,
+) -> Result<Option<TExpr>, NoMemory>
+    ensures { IfOk result (λ r. r ≡ sum types.now left right) }
+{
+    match (&left.ty.form, &right.ty.form) {
+        (TypeForm::Scalar(s), TypeForm::Scalar(t)) => {
+            let unsigned = are_unsigned(*s, *t);
+            Ok(Some(arithmetic(alloc, Op2::Add, Op2::Add, unsigned, left, right)?))
+        }
+        (TypeForm::Pointer(of), TypeForm::Scalar(_)) => {
+            let op = laid_out_size(types, of).map(|bytes| BinaryOp::PointerPlus(bytes));
+            two_like_left(alloc, op, left, right)
+        }
+        (TypeForm::Scalar(_), TypeForm::Pointer(of)) => {
+            let op = laid_out_size(types, of).map(|bytes| BinaryOp::IntegerPlus(bytes));
+            two_like_right(alloc, op, left, right)
+        }
+        _ => Ok(None),
+    }
+}
+
+// A difference of integers, of a pointer and an integer, or of two pointers of one type (6.5.6p3).
+pub(crate) fn difference(
+    alloc: Global,
+    types: &Types,
+    left: TExpr,
+    right: TExpr,
+) -> Result<Option<TExpr>, NoMemory>
+    ensures { IfOk result (λ r. r ≡ difference types.now left right) }
+{
+    match (&left.ty.form, &right.ty.form) {
+        (TypeForm::Scalar(s), TypeForm::Scalar(t)) => {
+            let unsigned = are_unsigned(*s, *t);
+            Ok(Some(arithmetic(alloc, Op2::Sub, Op2::Sub, unsigned, left, right)?))
+        }
+        (TypeForm::Pointer(of), TypeForm::Scalar(_)) => {
+            let op = laid_out_size(types, of).map(|bytes| BinaryOp::PointerMinus(bytes));
+            two_like_left(alloc, op, left, right)
+        }
+        (TypeForm::Pointer(of), TypeForm::Pointer(other)) if same_type(of, other) => {
+            let op = laid_out_size(types, of).map(|bytes| BinaryOp::PointerDifference(bytes));
+            two_where_in_int(alloc, op, left, right)
+        }
+        _ => Ok(None),
+    }
+}
