@@ -96,6 +96,11 @@ is_up mark.PlusPlus = Some true
 is_up mark.MinusMinus = Some false
 is_up o = None
 
+abbrev pub place_stepped : Definitions → (up gives_old : Bool) → PlaceTree → Option ExprTree
+place_stepped defs up gives_old p = option_map (λ by. stepped up gives_old by p) (step_bytes defs (place_type p))
+
+abbrev pub step_by : Definitions → (up gives_old : Bool) → (target : Operand) → Option ExprTree
+step_by defs up gives_old a = option_and_then (place_stepped defs up gives_old) (target_place a)
+
 abbrev pub step_typed : Definitions → Punct → (gives_old : Bool) → (target : Operand) → Option ExprTree
-step_typed defs o gives_old a =
-    option_and_then (λ up. option_and_then (λ p. option_map (λ by. stepped up gives_old by p) (step_bytes defs (place_type p))) (target_place a)) (is_up o)
+step_typed defs o gives_old a = option_and_then (λ up. step_by defs up gives_old a) (is_up o)

@@ -114,11 +114,14 @@ choice_by (scalar_type s) (pointer_to t) c a b = if is_null_constant a then Some
 choice_by void_type void_type c a b = Some (expr void_type (conditional c a b))
 choice_by _ _ c a b = None
 
+abbrev pub choice_of : (condition left right : ExprTree) → Option ExprTree
+choice_of c a b = choice_by (type_of a) (type_of b) c a b
+
 abbrev pub condition_of : Operand → Option ExprTree
 condition_of a = option_and_then if_scalar (value_of a)
 
 abbrev pub conditional_typed : (condition left right : Operand) → Option ExprTree
-conditional_typed c a b = option_and_then (λ d. on_values (λ x y. choice_by (type_of x) (type_of y) d x y) a b) (condition_of c)
+conditional_typed c a b = option_and_then (λ d. on_values (choice_of d) a b) (condition_of c)
 
 -- ---- `[]` is `*` of a sum with a pointer (6.5.2.1p2), and an element of an array that is const is so too
 

@@ -19,26 +19,18 @@ pub(crate) fn chosen(signed: Op2, unsigned: Op2, is_unsigned: bool) -> Op2
 }
 
 // An expression of two operands.
-pub(crate) fn two(
-    alloc: Global,
-    op: BinaryOp,
-    ty: Arc<CType>,
-    left: TExpr,
-    right: TExpr,
-) -> Result<TExpr, NoMemory>
-    ensures { IfOk result (λ r. r ≡ two op ty.value left right) }
+pub(crate) fn two(op: BinaryOp, ty: Arc<CType>, left: Box<TExpr>, right: Box<TExpr>) -> TExpr
+    ensures { result ≡ two op ty.value left.value right.value }
 {
-    let left = Box::new(alloc, left)?;
-    let right = Box::new(alloc, right)?;
-    Ok(TExpr {
+    TExpr {
         ty,
         form: ExprForm::Binary(op, left, right),
-    })
+    }
 }
 
 // An integer of this type, promoted (ISO/IEC 9899:2011, 6.3.1.1).
-pub(crate) fn promoted(alloc: Global, s: Scalar, e: TExpr) -> Result<TExpr, NoMemory>
-    ensures { IfOk result (λ r. r ≡ promoted s e) }
+pub(crate) fn promoted(alloc: Global, s: Scalar, e: Box<TExpr>) -> Result<Box<TExpr>, NoMemory>
+    ensures { IfOk result (λ r. r.value ≡ promoted s e.value) }
 {
     let ty = if_unsigned(alloc, is_unsigned(s))?;
     converted(alloc, e, &ty)
@@ -50,16 +42,16 @@ pub(crate) fn arithmetic(
     signed: Op2,
     unsigned: Op2,
     are_unsigned: bool,
-    left: TExpr,
-    right: TExpr,
+    left: Box<TExpr>,
+    right: Box<TExpr>,
 ) -> Result<TExpr, NoMemory>
-    ensures { IfOk result (λ r. r ≡ arithmetic signed unsigned are_unsigned left right) }
+    ensures { IfOk result (λ r. r ≡ arithmetic signed unsigned are_unsigned left.value right.value) }
 {
     let op = BinaryOp::Arithmetic(chosen(signed, unsigned, are_unsigned));
     let ty = if_unsigned(alloc, are_unsigned)?;
     let left = converted(alloc, left, &ty)?;
     let right = converted(alloc, right, &ty)?;
-    two(alloc, op, ty, left, right)
+    Ok(two(op, ty, left, right))
 }
 
 // An operation on two integers, in their common type.
@@ -67,10 +59,10 @@ pub(crate) fn integers(
     alloc: Global,
     signed: Op2,
     unsigned: Op2,
-    left: TExpr,
-    right: TExpr,
+    left: Box<TExpr>,
+    right: Box<TExpr>,
 ) -> Result<Option<TExpr>, NoMemory>
-    ensures { IfOk result (λ r. r ≡ integers signed unsigned left right) }
+    ensures { IfOk result (λ r. r ≡ integers signed unsigned left.value right.value) }
 {
     match (&left.ty.form, &right.ty.form) {
         (TypeForm::Scalar(s), TypeForm::Scalar(t)) => {
@@ -86,10 +78,10 @@ pub(crate) fn shifted(
     alloc: Global,
     signed: Op2,
     unsigned: Op2,
-    left: TExpr,
-    right: TExpr,
+    left: Box<TExpr>,
+    right: Box<TExpr>,
 ) -> Result<Option<TExpr>, NoMemory>
-    ensures { IfOk result (λ r. r ≡ shifted signed unsigned left right) }
+    ensures { IfOk result (λ r. r ≡ shifted signed unsigned left.value right.value) }
 {
     match (&left.ty.form, &right.ty.form) {
         (TypeForm::Scalar(s), TypeForm::Scalar(t)) => {
@@ -106,14 +98,14 @@ fn shift(
     unsigned: Op2,
     s: Scalar,
     t: Scalar,
-    left: TExpr,
-    right: TExpr,
+    left: Box<TExpr>,
+    right: Box<TExpr>,
 ) -> Result<TExpr, NoMemory>
-    ensures { IfOk result (λ r. r ≡ shift signed unsigned s t left right) }
+    ensures { IfOk result (λ r. r ≡ shift signed unsigned s t left.value right.value) }
 {
     let op = BinaryOp::Arithmetic(chosen(signed, unsigned, is_unsigned(s)));
     let ty = if_unsigned(alloc, is_unsigned(s))?;
     let left = promoted(alloc, s, left)?;
     let right = promoted(alloc, t, right)?;
-    two(alloc, op, ty, left, right)
+    Ok(two(op, ty, left, right))
 }

@@ -1,18 +1,19 @@
-ghost use Rattle.std.specs.Prelude.{◌≡◌, IfOk};
-ghost use Rattle.c_typed.specs.WellTyped.{type_of, place_type};
-ghost use Rattle.c_static.specs.Assignments.{target_place, plain_assigned, place_assigned, assigned_typed, stepped, step_bytes, is_up, step_typed};
+ghost use Rattle.std.specs.Prelude.{◌≡◌, IfOk, option_and_then};
+ghost use Rattle.c_typed.specs.Typed.{expr, assign};
+ghost use Rattle.c_typed.specs.WellTyped.{place_type};
+ghost use Rattle.c_static.specs.Operands.{value_of};
+ghost use Rattle.c_static.specs.Assignments.{target_place, plain_assigned, place_assigned, assigned_typed, stepped, step_bytes, is_up, place_stepped, step_by, step_typed};
 
 use crate::compounds::{decreased, increased, integers, shifted};
-use crate::operands::{is_assignable, value};
-use crate::types::laid_out_size;
-use c_constant::converts;
+use crate::operands::{boxed_value, is_assignable};
+use crate::types::{laid_out_size, shared};
+use c_constant::{converted, may_convert};
 use c_lex::Punct;
 use c_static::Operand;
 use c_type::{CType, TypeForm, Types};
 use c_typed::{ExprForm, IncDec, TExpr, TPlace};
 use no_memory::NoMemory;
 use std::alloc::Global;
-use std::sync::Arc;
 use val_core::Op2;
 
 /// What `=` or a compound assignment makes of its target and an operand (ISO/IEC 9899:2011,
@@ -27,12 +28,35 @@ pub fn assigned(
 ) -> Result<Option<TExpr>, NoMemory>
     ensures { IfOk result (λ r. r ≡ assigned_typed types.now op target operand) }
 {
-    let Some(place) = target_place(target) else {
-        return Ok(None);
-    };
-    match value(alloc, operand)? {
-        Some(e) => place_assigned(alloc, types, op, place, e),
-        None => Ok(None),
+    match target_place(target) {
+        Some(place) => with_place(alloc, types, op, place, operand),
+        None => {
+            drop(operand);
+            Ok(None)
+        }
+    }
+}
+
+fn with_place(
+    alloc: Global,
+    types: &Types,
+    op: Punct,
+    place: TPlace,
+    operand: Operand,
+) -> Result<Option<TExpr>, NoMemory>
+    ensures { IfOk result
+        (λ r. r ≡ option_and_then (place_assigned types.now op place) (value_of operand)) }
+{
+    match boxed_value(alloc, operand) {
+        Ok(Some(e)) => place_assigned(alloc, types, op, place, e),
+        Ok(None) => {
+            drop(place);
+            Ok(None)
+        }
+        Err(fault) => {
+            drop(place);
+            Err(fault)
+        }
     }
 }
 
@@ -41,24 +65,46 @@ fn target_place(target: Operand) -> Option<TPlace>
     ensures { result ≡ target_place target }
 {
     if !is_assignable(&target) {
+        drop(target);
         return None;
     }
     match target {
         Operand::Place { place, .. } => Some(place),
-        Operand::Value(_) => None,
+        Operand::Value(e) => {
+            drop(e);
+            None
+        }
     }
 }
 
-fn plain(alloc: Global, place: TPlace, e: TExpr) -> Result<Option<TExpr>, NoMemory>
-    ensures { IfOk result (λ r. r ≡ plain_assigned place e) }
+fn plain(alloc: Global, place: TPlace, e: Box<TExpr>) -> Result<Option<TExpr>, NoMemory>
+    ensures { IfOk result (λ r. r ≡ plain_assigned place e.value) }
 {
-    match converts(alloc, e, &place.ty)? {
-        Some(e) => {
-            let ty = Arc::try_clone(&place.ty)?;
-            let form = ExprForm::Assign(place, Box::new(alloc, e)?);
-            Ok(Some(TExpr { ty, form }))
+    if !may_convert(&e, &place.ty) {
+        drop(place);
+        return Ok(None);
+    }
+    match converted(alloc, e, &place.ty) {
+        Ok(e) => Ok(Some(stored(place, e)?)),
+        Err(fault) => {
+            drop(place);
+            Err(fault)
         }
-        None => Ok(None),
+    }
+}
+
+fn stored(place: TPlace, e: Box<TExpr>) -> Result<TExpr, NoMemory>
+    ensures { IfOk result (λ r. r ≡ expr (place_type place) (assign place e.value)) }
+{
+    match shared(&place.ty) {
+        Ok(ty) => {
+            let form = ExprForm::Assign(place, e);
+            Ok(TExpr { ty, form })
+        }
+        Err(fault) => {
+            drop(place);
+            Err(fault)
+        }
     }
 }
 
@@ -67,9 +113,9 @@ fn place_assigned(
     types: &Types,
     op: Punct,
     place: TPlace,
-    e: TExpr,
+    e: Box<TExpr>,
 ) -> Result<Option<TExpr>, NoMemory>
-    ensures { IfOk result (λ r. r ≡ place_assigned types.now op place e) }
+    ensures { IfOk result (λ r. r ≡ place_assigned types.now op place e.value) }
 {
     match op {
         Punct::Equal => plain(alloc, place, e),
@@ -83,7 +129,10 @@ fn place_assigned(
         Punct::ShiftRightEqual => shifted(alloc, Op2::Sra, Op2::Srl, place, e),
         Punct::PlusEqual => increased(alloc, types, place, e),
         Punct::MinusEqual => decreased(alloc, types, place, e),
-        _ => Ok(None),
+        _ => {
+            drop(place);
+            Ok(None)
+        }
     }
 }
 
@@ -98,15 +147,43 @@ pub fn step(
 ) -> Result<Option<TExpr>, NoMemory>
     ensures { IfOk result (λ r. r ≡ step_typed types.now op gives_old target) }
 {
-    let Some(up) = is_up(op) else {
-        return Ok(None);
-    };
-    let Some(place) = target_place(target) else {
-        return Ok(None);
-    };
+    match is_up(op) {
+        Some(up) => step_by(types, up, gives_old, target),
+        None => {
+            drop(target);
+            Ok(None)
+        }
+    }
+}
+
+fn step_by(
+    types: &Types,
+    up: bool,
+    gives_old: bool,
+    target: Operand,
+) -> Result<Option<TExpr>, NoMemory>
+    ensures { IfOk result (λ r. r ≡ step_by types.now up gives_old target) }
+{
+    match target_place(target) {
+        Some(place) => place_stepped(types, up, gives_old, place),
+        None => Ok(None),
+    }
+}
+
+fn place_stepped(
+    types: &Types,
+    up: bool,
+    gives_old: bool,
+    place: TPlace,
+) -> Result<Option<TExpr>, NoMemory>
+    ensures { IfOk result (λ r. r ≡ place_stepped types.now up gives_old place) }
+{
     match step_bytes(types, &place.ty) {
         Some(by) => Ok(Some(stepped(up, gives_old, by, place)?)),
-        None => Ok(None),
+        None => {
+            drop(place);
+            Ok(None)
+        }
     }
 }
 
@@ -133,7 +210,14 @@ fn step_bytes(types: &Types, t: &CType) -> Option<u32>
 fn stepped(up: bool, gives_old: bool, by: u32, place: TPlace) -> Result<TExpr, NoMemory>
     ensures { IfOk result (λ r. r ≡ stepped up gives_old by place) }
 {
-    let ty = Arc::try_clone(&place.ty)?;
-    let form = ExprForm::IncDec(IncDec { up, gives_old, by }, place);
-    Ok(TExpr { ty, form })
+    match shared(&place.ty) {
+        Ok(ty) => {
+            let form = ExprForm::IncDec(IncDec { up, gives_old, by }, place);
+            Ok(TExpr { ty, form })
+        }
+        Err(fault) => {
+            drop(place);
+            Err(fault)
+        }
+    }
 }

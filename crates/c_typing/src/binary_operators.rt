@@ -1,9 +1,10 @@
-ghost use Rattle.std.specs.Prelude.{◌≡◌, IfOk};
+ghost use Rattle.std.specs.Prelude.{◌≡◌, IfOk, option_and_then};
+ghost use Rattle.c_static.specs.Operands.{value_of};
 ghost use Rattle.c_static.specs.Operators.{binary_typed, values_joined};
 
 use crate::arithmetic::{integers, shifted};
 use crate::logical::{both, either};
-use crate::operands::value;
+use crate::operands::boxed_value;
 use crate::pointer::{difference, sum};
 use crate::relation::{equated, ordered};
 use c_lex::Punct;
@@ -25,10 +26,30 @@ pub fn binary(
 ) -> Result<Option<TExpr>, NoMemory>
     ensures { IfOk result (λ r. r ≡ binary_typed types.now op left right) }
 {
-    let Some(left) = value(alloc, left)? else {
-        return Ok(None);
-    };
-    match value(alloc, right)? {
+    match boxed_value(alloc, left) {
+        Ok(Some(left)) => with_left(alloc, types, op, left, right),
+        Ok(None) => {
+            drop(right);
+            Ok(None)
+        }
+        Err(fault) => {
+            drop(right);
+            Err(fault)
+        }
+    }
+}
+
+fn with_left(
+    alloc: Global,
+    types: &Types,
+    op: Punct,
+    left: Box<TExpr>,
+    right: Operand,
+) -> Result<Option<TExpr>, NoMemory>
+    ensures { IfOk result
+        (λ r. r ≡ option_and_then (values_joined types.now op left.value) (value_of right)) }
+{
+    match boxed_value(alloc, right)? {
         Some(right) => joined(alloc, types, op, left, right),
         None => Ok(None),
     }
@@ -38,10 +59,10 @@ fn joined(
     alloc: Global,
     types: &Types,
     op: Punct,
-    left: TExpr,
-    right: TExpr,
+    left: Box<TExpr>,
+    right: Box<TExpr>,
 ) -> Result<Option<TExpr>, NoMemory>
-    ensures { IfOk result (λ r. r ≡ values_joined types.now op left right) }
+    ensures { IfOk result (λ r. r ≡ values_joined types.now op left.value right.value) }
 {
     match op {
         Punct::Star => integers(alloc, Op2::Mul, Op2::Mul, left, right),

@@ -5,7 +5,7 @@ ghost use Rattle.c_typed.specs.Typed.{expr, unary};
 ghost use Rattle.c_typed.specs.WellTyped.{type_of};
 ghost use Rattle.c_static.specs.Operators.{cast_by, cast_typed, size_typed};
 
-use crate::operands::value;
+use crate::operands::boxed_value;
 use crate::types::{if_unsigned, laid_out_size};
 use c_constant::converted;
 use c_static::Operand;
@@ -20,27 +20,29 @@ use std::sync::Arc;
 pub fn cast(alloc: Global, to: &Arc<CType>, operand: Operand) -> Result<Option<TExpr>, NoMemory>
     ensures { IfOk result (λ r. r ≡ cast_typed to.now.value operand) }
 {
-    match value(alloc, operand)? {
+    match boxed_value(alloc, operand)? {
         Some(e) => cast_value(alloc, to, e),
         None => Ok(None),
     }
 }
 
-fn cast_value(alloc: Global, to: &Arc<CType>, e: TExpr) -> Result<Option<TExpr>, NoMemory>
-    ensures { IfOk result (λ r. r ≡ cast_by (type_of e) to.now.value e) }
+fn cast_value(alloc: Global, to: &Arc<CType>, e: Box<TExpr>) -> Result<Option<TExpr>, NoMemory>
+    ensures { IfOk result (λ r. r ≡ cast_by (type_of e.value) to.now.value e.value) }
 {
     match (&e.ty.form, &to.form) {
         (_, TypeForm::Void) => Ok(Some(discarded(alloc, e)?)),
-        (TypeForm::Scalar(_), TypeForm::Scalar(_)) => Ok(Some(converted(alloc, e, to)?)),
+        (TypeForm::Scalar(_), TypeForm::Scalar(_)) => {
+            Ok(Some(Box::into_inner(converted(alloc, e, to)?)))
+        }
         _ => Ok(None),
     }
 }
 
-fn discarded(alloc: Global, e: TExpr) -> Result<TExpr, NoMemory>
-    ensures { IfOk result (λ r. r ≡ expr void_type (unary unary_op.Discard e)) }
+fn discarded(alloc: Global, e: Box<TExpr>) -> Result<TExpr, NoMemory>
+    ensures { IfOk result (λ r. r ≡ expr void_type (unary unary_op.Discard e.value)) }
 {
     let ty = Arc::new(alloc, CType::void())?;
-    let form = ExprForm::Unary(UnaryOp::Discard, Box::new(alloc, e)?);
+    let form = ExprForm::Unary(UnaryOp::Discard, e);
     Ok(TExpr { ty, form })
 }
 

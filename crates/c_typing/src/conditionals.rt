@@ -1,12 +1,13 @@
-ghost use Rattle.std.specs.Prelude.{◌≡◌, IfOk, option_map};
+ghost use Rattle.std.specs.Prelude.{◌≡◌, IfOk, option_and_then};
 ghost use Rattle.c_typed.specs.Typed.{expr, conditional};
 ghost use Rattle.c_typed.specs.WellTyped.{type_of, if_unsigned};
-ghost use Rattle.c_static.specs.Conversions.{null_converted};
-ghost use Rattle.c_static.specs.Operators.{conditional_typed, choice, choice_by};
+ghost use Rattle.c_static.specs.Conversions.{converted};
+ghost use Rattle.c_static.specs.Operands.{value_of};
+ghost use Rattle.c_static.specs.Operators.{on_values, conditional_typed, choice, choice_of};
 
-use crate::operands::{condition, value};
-use crate::types::{are_unsigned, if_unsigned};
-use c_constant::{converted, null_converted, same_type};
+use crate::operands::{boxed_value, condition};
+use crate::types::{are_unsigned, if_unsigned, shared};
+use c_constant::{converted, is_null_constant, same_type};
 use c_static::Operand;
 use c_type::{CType, TypeForm};
 use c_typed::{ExprForm, TExpr};
@@ -24,20 +25,83 @@ pub fn conditional(
 ) -> Result<Option<TExpr>, NoMemory>
     ensures { IfOk result (λ r. r ≡ conditional_typed test left right) }
 {
-    let Some(test) = condition(alloc, test)? else {
-        return Ok(None);
-    };
-    let Some(left) = value(alloc, left)? else {
-        return Ok(None);
-    };
-    match value(alloc, right)? {
+    match condition(alloc, test) {
+        Ok(Some(test)) => with_test(alloc, test, left, right),
+        Ok(None) => {
+            drop(left);
+            drop(right);
+            Ok(None)
+        }
+        Err(fault) => {
+            drop(left);
+            drop(right);
+            Err(fault)
+        }
+    }
+}
+
+fn with_test(
+    alloc: Global,
+    test: TExpr,
+    left: Operand,
+    right: Operand,
+) -> Result<Option<TExpr>, NoMemory>
+    ensures { IfOk result (λ r. r ≡ on_values (choice_of test) left right) }
+{
+    match Box::new(alloc, test) {
+        Ok(test) => with_boxed(alloc, test, left, right),
+        Err(fault) => {
+            drop(fault);
+            drop(left);
+            drop(right);
+            Err(NoMemory)
+        }
+    }
+}
+
+fn with_boxed(
+    alloc: Global,
+    test: Box<TExpr>,
+    left: Operand,
+    right: Operand,
+) -> Result<Option<TExpr>, NoMemory>
+    ensures { IfOk result (λ r. r ≡ on_values (choice_of test.value) left right) }
+{
+    match boxed_value(alloc, left) {
+        Ok(Some(left)) => with_left(alloc, test, left, right),
+        Ok(None) => {
+            drop(right);
+            Ok(None)
+        }
+        Err(fault) => {
+            drop(right);
+            Err(fault)
+        }
+    }
+}
+
+fn with_left(
+    alloc: Global,
+    test: Box<TExpr>,
+    left: Box<TExpr>,
+    right: Operand,
+) -> Result<Option<TExpr>, NoMemory>
+    ensures { IfOk result
+        (λ r. r ≡ option_and_then (choice_of test.value left.value) (value_of right)) }
+{
+    match boxed_value(alloc, right)? {
         Some(right) => choice(alloc, test, left, right),
         None => Ok(None),
     }
 }
 
-fn choice(alloc: Global, test: TExpr, left: TExpr, right: TExpr) -> Result<Option<TExpr>, NoMemory>
-    ensures { IfOk result (λ r. r ≡ choice_by (type_of left) (type_of right) test left right) }
+fn choice(
+    alloc: Global,
+    test: Box<TExpr>,
+    left: Box<TExpr>,
+    right: Box<TExpr>,
+) -> Result<Option<TExpr>, NoMemory>
+    ensures { IfOk result (λ r. r ≡ choice_of test.value left.value right.value) }
 {
     match (&left.ty.form, &right.ty.form) {
         (TypeForm::Scalar(s), TypeForm::Scalar(t)) => {
@@ -45,86 +109,75 @@ fn choice(alloc: Global, test: TExpr, left: TExpr, right: TExpr) -> Result<Optio
             Ok(Some(of_integers(alloc, unsigned, test, left, right)?))
         }
         (TypeForm::Pointer(s), TypeForm::Pointer(t)) if same_type(s, t) => {
-            let ty = Arc::try_clone(&left.ty)?;
-            Ok(Some(chosen(alloc, ty, test, left, right)?))
+            let ty = shared(&left.ty)?;
+            Ok(Some(chosen(ty, test, left, right)))
         }
-        (TypeForm::Pointer(_), TypeForm::Scalar(_)) => {
-            let ty = Arc::try_clone(&left.ty)?;
-            null_right(alloc, ty, test, left, right)
+        (TypeForm::Pointer(_), TypeForm::Scalar(_)) if is_null_constant(&right) => {
+            Ok(Some(null_right(alloc, test, left, right)?))
         }
-        (TypeForm::Scalar(_), TypeForm::Pointer(_)) => {
-            let ty = Arc::try_clone(&right.ty)?;
-            null_left(alloc, ty, test, left, right)
+        (TypeForm::Scalar(_), TypeForm::Pointer(_)) if is_null_constant(&left) => {
+            Ok(Some(null_left(alloc, test, left, right)?))
         }
         (TypeForm::Void, TypeForm::Void) => {
-            let ty = Arc::new(alloc, CType::void())?;
-            Ok(Some(chosen(alloc, ty, test, left, right)?))
+            let ty = shared(&left.ty)?;
+            Ok(Some(chosen(ty, test, left, right)))
         }
         _ => Ok(None),
     }
 }
 
 // One of two operands of this type.
-fn chosen(
-    alloc: Global,
-    ty: Arc<CType>,
-    test: TExpr,
-    left: TExpr,
-    right: TExpr,
-) -> Result<TExpr, NoMemory>
-    ensures { IfOk result (λ r. r ≡ expr ty.value (conditional test left right)) }
+fn chosen(ty: Arc<CType>, test: Box<TExpr>, left: Box<TExpr>, right: Box<TExpr>) -> TExpr
+    ensures { result ≡ expr ty.value (conditional test.value left.value right.value) }
 {
-    let test = Box::new(alloc, test)?;
-    let left = Box::new(alloc, left)?;
-    let right = Box::new(alloc, right)?;
     let form = ExprForm::Conditional(test, left, right);
-    Ok(TExpr { ty, form })
+    TExpr { ty, form }
 }
 
 // Integers, in `unsigned int` or in `int`.
 fn of_integers(
     alloc: Global,
     unsigned: bool,
-    test: TExpr,
-    left: TExpr,
-    right: TExpr,
+    test: Box<TExpr>,
+    left: Box<TExpr>,
+    right: Box<TExpr>,
 ) -> Result<TExpr, NoMemory>
-    ensures { IfOk result (λ r. r ≡ choice (if_unsigned unsigned) test left right) }
+    ensures { IfOk result
+        (λ r. r ≡ choice (if_unsigned unsigned) test.value left.value right.value) }
 {
     let ty = if_unsigned(alloc, unsigned)?;
     let left = converted(alloc, left, &ty)?;
     let right = converted(alloc, right, &ty)?;
-    chosen(alloc, ty, test, left, right)
+    Ok(chosen(ty, test, left, right))
 }
 
+// A pointer, and an integer in its type.
 fn null_right(
     alloc: Global,
-    ty: Arc<CType>,
-    test: TExpr,
-    left: TExpr,
-    right: TExpr,
-) -> Result<Option<TExpr>, NoMemory>
-    ensures { let right = null_converted ty.value right in
-        IfOk result (λ r. r ≡ option_map (λ y. expr ty.value (conditional test left y)) right) }
+    test: Box<TExpr>,
+    left: Box<TExpr>,
+    right: Box<TExpr>,
+) -> Result<TExpr, NoMemory>
+    ensures { let t = type_of left.value in
+        let right = converted t right.value in
+        IfOk result (λ r. r ≡ expr t (conditional test.value left.value right)) }
 {
-    match null_converted(alloc, right, &ty)? {
-        Some(right) => Ok(Some(chosen(alloc, ty, test, left, right)?)),
-        None => Ok(None),
-    }
+    let right = converted(alloc, right, &left.ty)?;
+    let ty = shared(&left.ty)?;
+    Ok(chosen(ty, test, left, right))
 }
 
 fn null_left(
     alloc: Global,
-    ty: Arc<CType>,
-    test: TExpr,
-    left: TExpr,
-    right: TExpr,
-) -> Result<Option<TExpr>, NoMemory>
-    ensures { let left = null_converted ty.value left in
-        IfOk result (λ r. r ≡ option_map (λ x. expr ty.value (conditional test x right)) left) }
+    test: Box<TExpr>,
+    left: Box<TExpr>,
+    right: Box<TExpr>,
+) -> Result<TExpr, NoMemory>
+    ensures { let t = type_of right.value in
+        let left = converted t left.value in
+        IfOk result (λ r. r ≡ expr t (conditional test.value left right.value)) }
 {
-    match null_converted(alloc, left, &ty)? {
-        Some(left) => Ok(Some(chosen(alloc, ty, test, left, right)?)),
-        None => Ok(None),
-    }
+    let left = converted(alloc, left, &right.ty)?;
+    let ty = shared(&right.ty)?;
+    Ok(chosen(ty, test, left, right))
 }

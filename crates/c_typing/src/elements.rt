@@ -2,7 +2,7 @@ ghost use Rattle.std.specs.Prelude.{◌≡◌, IfOk};
 ghost use Rattle.c_static.specs.Operators.{has_const_elements, element, index_typed};
 
 use crate::binary_operators::binary;
-use crate::types::shared;
+use crate::types::owned;
 use c_lex::Punct;
 use c_static::Operand;
 use c_type::{TypeForm, Types};
@@ -22,7 +22,7 @@ pub fn index(
 {
     let is_const = has_const_elements(&left) || has_const_elements(&right);
     match binary(alloc, types, Punct::Plus, left, right)? {
-        Some(sum) => element(alloc, is_const, sum),
+        Some(sum) => element(alloc, is_const, Box::new(alloc, sum)?),
         None => Ok(None),
     }
 }
@@ -41,13 +41,13 @@ fn has_const_elements(operand: &Operand) -> bool
 }
 
 // What a sum with a pointer points to.
-fn element(alloc: Global, is_const: bool, sum: TExpr) -> Result<Option<Operand>, NoMemory>
-    ensures { IfOk result (λ r. r ≡ element is_const sum) }
+fn element(alloc: Global, is_const: bool, sum: Box<TExpr>) -> Result<Option<Operand>, NoMemory>
+    ensures { IfOk result (λ r. r ≡ element is_const sum.value) }
 {
     match &sum.ty.form {
         TypeForm::Pointer(of) => {
-            let ty = shared(alloc, of)?;
-            let form = PlaceForm::At(Box::new(alloc, sum)?);
+            let ty = owned(alloc, of)?;
+            let form = PlaceForm::At(sum);
             Ok(Some(Operand::Place {
                 place: TPlace { ty, form },
                 is_const,

@@ -2,8 +2,8 @@ ghost use Rattle.std.specs.Prelude.{◌≡◌, IfOk};
 ghost use Rattle.c_static.specs.Operators.{selected, selected_tag, struct_tag, member_at, member_of, member_typed};
 ghost use Rattle.c_lex.specs.declared.punct.Punct.TheVariants as mark;
 
-use crate::operands::{operand_type, value};
-use crate::types::shared;
+use crate::operands::{boxed_value, operand_type};
+use crate::types::owned;
 use crate::unary_operators::pointed;
 use c_lex::Punct;
 use c_static::Operand;
@@ -74,7 +74,7 @@ fn selected(alloc: Global, op: Punct, operand: Operand) -> Result<Option<Operand
 {
     match op {
         Punct::Dot => Ok(Some(operand)),
-        Punct::Arrow => match value(alloc, operand)? {
+        Punct::Arrow => match boxed_value(alloc, operand)? {
             Some(e) => pointed(alloc, e),
             None => Ok(None),
         },
@@ -96,7 +96,10 @@ fn member_of(
             let tag = *tag;
             member_at(alloc, types, tag, index, place, is_const)
         }
-        _ => Ok(None),
+        _ => {
+            drop(place);
+            Ok(None)
+        }
     }
 }
 
@@ -111,11 +114,12 @@ fn member_at(
     ensures { IfOk result (λ r. r ≡ member_at types.now tag index place is_const) }
 {
     if !types.has_member(tag, index) {
+        drop(place);
         return Ok(None);
     }
-    let ty = shared(alloc, &types.members(tag)[index as usize])?;
-    let offset = offset_of(types, tag, index);
-    let form = PlaceForm::Member(Box::new(alloc, place)?, offset);
+    let place = Box::new(alloc, place)?;
+    let ty = owned(alloc, &types.members(tag)[index as usize])?;
+    let form = PlaceForm::Member(place, offset_of(types, tag, index));
     Ok(Some(Operand::Place {
         place: TPlace { ty, form },
         is_const,

@@ -1,16 +1,15 @@
-ghost use Rattle.std.specs.Prelude.{◌≡◌, IfOk};
+ghost use Rattle.std.specs.Prelude.{◌≡◌, IfOk, MatchOption};
 ghost use Rattle.c_typed.specs.Typed.{expr, read};
 ghost use Rattle.c_typed.specs.WellTyped.{place_type};
 ghost use Rattle.c_static.specs.Operands.{operand_type, place_value, value_of, if_scalar, is_assignable};
 ghost use Rattle.c_static.specs.Operators.{condition_of};
 
-use crate::types::{is_scalar, pointer_type};
+use crate::types::{is_scalar, pointer_type, shared};
 use c_static::Operand;
 use c_type::{CType, TypeForm};
 use c_typed::{ExprForm, TExpr, TPlace};
 use no_memory::NoMemory;
 use std::alloc::Global;
-use std::sync::Arc;
 
 /// The type of an operand as it stands, an array or a structure too, as `sizeof` asks it.
 pub fn operand_type(operand: &Operand) -> &CType
@@ -38,31 +37,47 @@ fn place_value(alloc: Global, place: TPlace) -> Result<Option<TExpr>, NoMemory>
 {
     match &place.ty.form {
         TypeForm::Scalar(_) | TypeForm::Pointer(_) => Ok(Some(read(place)?)),
-        TypeForm::Array(of, _) => {
-            let ty = pointer_type(alloc, of)?;
-            Ok(Some(TExpr {
-                ty,
-                form: ExprForm::Address(place),
-            }))
+        TypeForm::Array(of, _) => match pointer_type(alloc, of) {
+            Ok(ty) => {
+                let form = ExprForm::Address(place);
+                Ok(Some(TExpr { ty, form }))
+            }
+            Err(fault) => {
+                drop(place);
+                Err(fault)
+            }
+        },
+        TypeForm::Void | TypeForm::Struct(_) => {
+            drop(place);
+            Ok(None)
         }
-        TypeForm::Void | TypeForm::Struct(_) => Ok(None),
     }
 }
 
 fn read(place: TPlace) -> Result<TExpr, NoMemory>
     ensures { IfOk result (λ r. r ≡ expr (place_type place) (read place)) }
 {
-    Ok(TExpr {
-        ty: Arc::try_clone(&place.ty)?,
-        form: ExprForm::Read(place),
-    })
+    match shared(&place.ty) {
+        Ok(ty) => {
+            let form = ExprForm::Read(place);
+            Ok(TExpr { ty, form })
+        }
+        Err(fault) => {
+            drop(place);
+            Err(fault)
+        }
+    }
 }
 
-// The value where it is of integer or pointer type.
-pub(crate) fn if_scalar(e: TExpr) -> Option<TExpr>
-    ensures { result ≡ if_scalar e }
+// The value of an operand in a box: letting that go is one call.
+pub(crate) fn boxed_value(alloc: Global, operand: Operand) -> Result<Option<Box<TExpr>>, NoMemory>
+    ensures { IfOk result (λ r. MatchOption r (value_of operand ≡ None)
+        (λ e. value_of operand ≡ Some e.value)) }
 {
-    if is_scalar(&e.ty) { Some(e) } else { None }
+    match value(alloc, operand)? {
+        Some(e) => Ok(Some(Box::new(alloc, e)?)),
+        None => Ok(None),
+    }
 }
 
 /// A condition: the value of an operand of integer or pointer type, and none of others.
@@ -72,6 +87,17 @@ pub fn condition(alloc: Global, operand: Operand) -> Result<Option<TExpr>, NoMem
     match value(alloc, operand)? {
         Some(e) => Ok(if_scalar(e)),
         None => Ok(None),
+    }
+}
+
+fn if_scalar(e: TExpr) -> Option<TExpr>
+    ensures { result ≡ if_scalar e }
+{
+    if is_scalar(&e.ty) {
+        Some(e)
+    } else {
+        drop(e);
+        None
     }
 }
 

@@ -3,41 +3,40 @@ ghost use Rattle.c_typed.specs.WellTyped.{int, type_of};
 ghost use Rattle.c_static.specs.Arithmetic.{two, two_where, sum, difference};
 
 use crate::arithmetic::{arithmetic, two};
-use crate::types::{are_unsigned, if_unsigned, laid_out_size};
+use crate::types::{are_unsigned, if_unsigned, laid_out_size, shared};
 use c_constant::same_type;
 use c_type::{TypeForm, Types};
 use c_typed::{BinaryOp, TExpr};
 use no_memory::NoMemory;
 use std::alloc::Global;
-use std::sync::Arc;
 use val_core::Op2;
 
 // An expression of two operands of type `int`.
 pub(crate) fn two_in_int(
     alloc: Global,
     op: BinaryOp,
-    left: TExpr,
-    right: TExpr,
+    left: Box<TExpr>,
+    right: Box<TExpr>,
 ) -> Result<TExpr, NoMemory>
-    ensures { IfOk result (λ r. r ≡ two op int left right) }
+    ensures { IfOk result (λ r. r ≡ two op int left.value right.value) }
 {
     let ty = if_unsigned(alloc, false)?;
-    two(alloc, op, ty, left, right)
+    Ok(two(op, ty, left, right))
 }
 
 // One of the type of its left operand, where there is an operator.
 fn two_like_left(
     alloc: Global,
     op: Option<BinaryOp>,
-    left: TExpr,
-    right: TExpr,
+    left: Box<TExpr>,
+    right: Box<TExpr>,
 ) -> Result<Option<TExpr>, NoMemory>
-    ensures { IfOk result (λ r. r ≡ two_where op (type_of left) left right) }
+    ensures { IfOk result (λ r. r ≡ two_where op (type_of left.value) left.value right.value) }
 {
     match op {
         Some(op) => {
-            let ty = Arc::try_clone(&left.ty)?;
-            Ok(Some(two(alloc, op, ty, left, right)?))
+            let ty = shared(&left.ty)?;
+            Ok(Some(two(op, ty, left, right)))
         }
         None => Ok(None),
     }
@@ -46,15 +45,15 @@ fn two_like_left(
 fn two_like_right(
     alloc: Global,
     op: Option<BinaryOp>,
-    left: TExpr,
-    right: TExpr,
+    left: Box<TExpr>,
+    right: Box<TExpr>,
 ) -> Result<Option<TExpr>, NoMemory>
-    ensures { IfOk result (λ r. r ≡ two_where op (type_of right) left right) }
+    ensures { IfOk result (λ r. r ≡ two_where op (type_of right.value) left.value right.value) }
 {
     match op {
         Some(op) => {
-            let ty = Arc::try_clone(&right.ty)?;
-            Ok(Some(two(alloc, op, ty, left, right)?))
+            let ty = shared(&right.ty)?;
+            Ok(Some(two(op, ty, left, right)))
         }
         None => Ok(None),
     }
@@ -63,10 +62,10 @@ fn two_like_right(
 fn two_where_in_int(
     alloc: Global,
     op: Option<BinaryOp>,
-    left: TExpr,
-    right: TExpr,
+    left: Box<TExpr>,
+    right: Box<TExpr>,
 ) -> Result<Option<TExpr>, NoMemory>
-    ensures { IfOk result (λ r. r ≡ two_where op int left right) }
+    ensures { IfOk result (λ r. r ≡ two_where op int left.value right.value) }
 {
     match op {
         Some(op) => Ok(Some(two_in_int(alloc, op, left, right)?)),
@@ -78,10 +77,10 @@ fn two_where_in_int(
 pub(crate) fn sum(
     alloc: Global,
     types: &Types,
-    left: TExpr,
-    right: TExpr,
+    left: Box<TExpr>,
+    right: Box<TExpr>,
 ) -> Result<Option<TExpr>, NoMemory>
-    ensures { IfOk result (λ r. r ≡ sum types.now left right) }
+    ensures { IfOk result (λ r. r ≡ sum types.now left.value right.value) }
 {
     match (&left.ty.form, &right.ty.form) {
         (TypeForm::Scalar(s), TypeForm::Scalar(t)) => {
@@ -104,10 +103,10 @@ pub(crate) fn sum(
 pub(crate) fn difference(
     alloc: Global,
     types: &Types,
-    left: TExpr,
-    right: TExpr,
+    left: Box<TExpr>,
+    right: Box<TExpr>,
 ) -> Result<Option<TExpr>, NoMemory>
-    ensures { IfOk result (λ r. r ≡ difference types.now left right) }
+    ensures { IfOk result (λ r. r ≡ difference types.now left.value right.value) }
 {
     match (&left.ty.form, &right.ty.form) {
         (TypeForm::Scalar(s), TypeForm::Scalar(t)) => {

@@ -1,27 +1,27 @@
-ghost use Rattle.std.specs.Prelude.{◌≡◌, IfOk, option_map};
-ghost use Rattle.c_typed.specs.WellTyped.{if_unsigned, int};
+ghost use Rattle.std.specs.Prelude.{◌≡◌, if◌then◌else◌, IfOk};
+ghost use Rattle.c_typed.specs.WellTyped.{if_unsigned, int, type_of};
 ghost use Rattle.c_typed.specs.declared.operator.BinaryOp.TheVariants as binary_op;
-ghost use Rattle.c_static.specs.Conversions.{null_converted};
+ghost use Rattle.c_static.specs.Constants.{is_null_constant};
+ghost use Rattle.c_static.specs.Conversions.{converted};
 ghost use Rattle.c_static.specs.Arithmetic.{two, compared, ordered, equated};
 
 use crate::pointer::two_in_int;
 use crate::types::{are_unsigned, if_unsigned};
-use c_constant::{converted, null_converted, same_type};
-use c_type::{CType, TypeForm};
+use c_constant::{converted, is_null_constant, same_type};
+use c_type::TypeForm;
 use c_typed::{BinaryOp, Relation, TExpr};
 use no_memory::NoMemory;
 use std::alloc::Global;
-use std::sync::Arc;
 
 // Two integers compared in `unsigned int` or in `int`.
 fn compared(
     alloc: Global,
     relation: Relation,
     unsigned: bool,
-    left: TExpr,
-    right: TExpr,
+    left: Box<TExpr>,
+    right: Box<TExpr>,
 ) -> Result<TExpr, NoMemory>
-    ensures { IfOk result (λ r. r ≡ compared relation (if_unsigned unsigned) left right) }
+    ensures { IfOk result (λ r. r ≡ compared relation (if_unsigned unsigned) left.value right.value) }
 {
     let ty = if_unsigned(alloc, unsigned)?;
     let left = converted(alloc, left, &ty)?;
@@ -33,10 +33,10 @@ fn compared(
 pub(crate) fn ordered(
     alloc: Global,
     relation: Relation,
-    left: TExpr,
-    right: TExpr,
+    left: Box<TExpr>,
+    right: Box<TExpr>,
 ) -> Result<Option<TExpr>, NoMemory>
-    ensures { IfOk result (λ r. r ≡ ordered relation left right) }
+    ensures { IfOk result (λ r. r ≡ ordered relation left.value right.value) }
 {
     match (&left.ty.form, &right.ty.form) {
         (TypeForm::Scalar(s), TypeForm::Scalar(t)) => {
@@ -57,52 +57,51 @@ pub(crate) fn ordered(
 pub(crate) fn equated(
     alloc: Global,
     relation: Relation,
-    left: TExpr,
-    right: TExpr,
+    left: Box<TExpr>,
+    right: Box<TExpr>,
 ) -> Result<Option<TExpr>, NoMemory>
-    ensures { IfOk result (λ r. r ≡ equated relation left right) }
+    ensures { IfOk result (λ r. r ≡ equated relation left.value right.value) }
 {
     match (&left.ty.form, &right.ty.form) {
-        (TypeForm::Pointer(_), TypeForm::Scalar(_)) => {
-            let ty = Arc::try_clone(&left.ty)?;
-            null_right(alloc, relation, &ty, left, right)
-        }
-        (TypeForm::Scalar(_), TypeForm::Pointer(_)) => {
-            let ty = Arc::try_clone(&right.ty)?;
-            null_left(alloc, relation, &ty, left, right)
-        }
+        (TypeForm::Pointer(_), TypeForm::Scalar(_)) => null_right(alloc, relation, left, right),
+        (TypeForm::Scalar(_), TypeForm::Pointer(_)) => null_left(alloc, relation, left, right),
         _ => ordered(alloc, relation, left, right),
     }
 }
 
+// A pointer and a null constant.
 fn null_right(
     alloc: Global,
     relation: Relation,
-    ty: &Arc<CType>,
-    left: TExpr,
-    right: TExpr,
+    left: Box<TExpr>,
+    right: Box<TExpr>,
 ) -> Result<Option<TExpr>, NoMemory>
-    ensures { let right = null_converted ty.now.value right in
-        IfOk result (λ r. r ≡ option_map (two (binary_op.Compare relation) int left) right) }
+    ensures { let r' = converted (type_of left.value) right.value in
+        let made = two (binary_op.Compare relation) int left.value r' in
+        IfOk result (λ r. r ≡ (if is_null_constant right.value then Some made else None)) }
 {
-    match null_converted(alloc, right, ty)? {
-        Some(right) => Ok(Some(two_in_int(alloc, BinaryOp::Compare(relation), left, right)?)),
-        None => Ok(None),
+    if !is_null_constant(&right) {
+        return Ok(None);
     }
+    let right = converted(alloc, right, &left.ty)?;
+    let op = BinaryOp::Compare(relation);
+    Ok(Some(two_in_int(alloc, op, left, right)?))
 }
 
 fn null_left(
     alloc: Global,
     relation: Relation,
-    ty: &Arc<CType>,
-    left: TExpr,
-    right: TExpr,
+    left: Box<TExpr>,
+    right: Box<TExpr>,
 ) -> Result<Option<TExpr>, NoMemory>
-    ensures { let left = null_converted ty.now.value left in
-        IfOk result (λ r. r ≡ option_map (λ x. two (binary_op.Compare relation) int x right) left) }
+    ensures { let l' = converted (type_of right.value) left.value in
+        let made = two (binary_op.Compare relation) int l' right.value in
+        IfOk result (λ r. r ≡ (if is_null_constant left.value then Some made else None)) }
 {
-    match null_converted(alloc, left, ty)? {
-        Some(left) => Ok(Some(two_in_int(alloc, BinaryOp::Compare(relation), left, right)?)),
-        None => Ok(None),
+    if !is_null_constant(&left) {
+        return Ok(None);
     }
+    let left = converted(alloc, left, &right.ty)?;
+    let op = BinaryOp::Compare(relation);
+    Ok(Some(two_in_int(alloc, op, left, right)?))
 }

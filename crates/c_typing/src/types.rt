@@ -26,11 +26,18 @@ pub(crate) fn pointer_type(alloc: Global, of: &CType) -> Result<Arc<CType>, NoMe
     Ok(Arc::new(alloc, CType::pointer_to(alloc, of)?)?)
 }
 
-// The type as one that is shared.
-pub(crate) fn shared(alloc: Global, t: &CType) -> Result<Arc<CType>, NoMemory>
+// A type of its own that is equal to this one.
+pub(crate) fn owned(alloc: Global, t: &CType) -> Result<Arc<CType>, NoMemory>
     ensures { IfOk result (λ s. s.value ≡ t.now) }
 {
     Ok(Arc::new(alloc, t.copy(alloc)?)?)
+}
+
+// The type once more.
+pub(crate) fn shared(t: &Arc<CType>) -> Result<Arc<CType>, NoMemory>
+    ensures { IfOk result (λ s. s.value ≡ t.now.value) }
+{
+    Ok(Arc::try_clone(t)?)
 }
 
 pub(crate) fn is_scalar(t: &CType) -> bool
