@@ -21,6 +21,7 @@ mod unary_operators;
 
 pub use assignments::{assigned, step};
 pub use binary_operators::binary;
+pub use c_static::Operand;
 pub use casts::{cast, size_of_type};
 pub use conditionals::conditional;
 pub use elements::index;
