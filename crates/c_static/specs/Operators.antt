@@ -8,7 +8,7 @@ use Rattle.c_type.specs.Trees.{TypeTree, void_type, scalar_type, pointer_to, arr
 use Rattle.c_type.specs.Layout.{Definitions, is_defined, members, offset}
 use Rattle.c_typed.specs.declared.operator.Relation.TheVariants as relation
 use Rattle.c_typed.specs.declared.operator.UnaryOp.TheVariants as unary_op
-use Rattle.c_typed.specs.Typed.{ExprTree, expr, constant, address, unary, logical_and, logical_or, conditional, PlaceTree, place, at, member}
+use Rattle.c_typed.specs.Typed.{ExprTree, expr, constant, address, unary, logical_and, logical_or, conditional, comma, ExprTrees, PlaceTree, place, at, member}
 use Rattle.c_typed.specs.WellTyped.{int, unsigned_int, type_of, place_type}
 use Rattle.c_static.specs.declared.operand.Operand.{Operand}
 use Rattle.c_static.specs.declared.operand.Operand.TheVariants.{Place, Value}
@@ -122,6 +122,11 @@ condition_of a = option_and_then if_scalar (value_of a)
 
 abbrev pub conditional_typed : (condition left right : Operand) → Option ExprTree
 conditional_typed c a b = option_and_then (λ d. on_values (choice_of d) a b) (condition_of c)
+
+-- ---- `,` takes values, and drops all but the last (6.5.17)
+
+abbrev pub comma_typed : (dropped : ExprTrees) → (last : ExprTree) → ExprTree
+comma_typed es e = expr (type_of e) (comma es e)
 
 -- ---- `[]` is `*` of a sum with a pointer (6.5.2.1p2), and an element of an array that is const is so too
 

@@ -45,7 +45,8 @@ pub(crate) fn arithmetic(
     left: Box<TExpr>,
     right: Box<TExpr>,
 ) -> Result<TExpr, NoMemory>
-    ensures { IfOk result (λ r. r ≡ arithmetic signed unsigned are_unsigned left.value right.value) }
+    ensures { IfOk result
+        (λ r. r ≡ arithmetic signed unsigned are_unsigned left.value right.value) }
 {
     let op = BinaryOp::Arithmetic(chosen(signed, unsigned, are_unsigned));
     let ty = if_unsigned(alloc, are_unsigned)?;

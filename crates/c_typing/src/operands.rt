@@ -21,8 +21,8 @@ pub fn operand_type(operand: &Operand) -> &CType
     }
 }
 
-/// The value of an operand (ISO/IEC 9899:2011, 6.3.2.1): what an object of scalar type holds, or the
-/// address of the first element of an array. A structure has none.
+/// The value of an operand (ISO/IEC 9899:2011, 6.3.2.1): what an object of scalar type holds, or
+/// the address of the first element of an array. A structure has none.
 pub fn value(alloc: Global, operand: Operand) -> Result<Option<TExpr>, NoMemory>
     ensures { IfOk result (λ r. r ≡ value_of operand) }
 {

@@ -21,7 +21,8 @@ fn compared(
     left: Box<TExpr>,
     right: Box<TExpr>,
 ) -> Result<TExpr, NoMemory>
-    ensures { IfOk result (λ r. r ≡ compared relation (if_unsigned unsigned) left.value right.value) }
+    ensures { let t = if_unsigned unsigned in
+        IfOk result (λ r. r ≡ compared relation t left.value right.value) }
 {
     let ty = if_unsigned(alloc, unsigned)?;
     let left = converted(alloc, left, &ty)?;

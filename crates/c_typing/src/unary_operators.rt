@@ -14,8 +14,8 @@ use c_typed::{ExprForm, PlaceForm, TExpr, TPlace, UnaryOp};
 use no_memory::NoMemory;
 use std::alloc::Global;
 
-/// What `&`, `*`, `+`, `-`, `~` or `!` makes of an operand (ISO/IEC 9899:2011, 6.5.3): an lvalue or a
-/// value; none where it does not take it, or is no such operator. `&` takes every lvalue.
+/// What `&`, `*`, `+`, `-`, `~` or `!` makes of an operand (ISO/IEC 9899:2011, 6.5.3): an lvalue or
+/// a value; none where it does not take it, or is no such operator. `&` takes every lvalue.
 pub fn unary(alloc: Global, op: Punct, operand: Operand) -> Result<Option<Operand>, NoMemory>
     ensures { IfOk result (λ r. r ≡ unary_typed op operand) }
 {

@@ -31,8 +31,8 @@ const CONSTANTS: [(&str, u32); 17] = [
     ("uh", 65535),
 ];
 
-/// Prints what constants are worth under a binary operator, after `unary` under a unary one, and for
-/// `null` which are null constants.
+/// Prints what constants are worth under a binary operator, after `unary` under a unary one, and
+/// for `null` which are null constants.
 pub fn print_constants(rt: &(impl Print + AllocGlobal), op: &str) -> io::Result<()> {
     let Ok(types) = definitions(rt.alloc()) else {
         return println!(rt; "out of memory");
@@ -67,12 +67,19 @@ fn print_unary(rt: &(impl Print + AllocGlobal), op: &str) -> io::Result<()> {
 
 fn print_nulls(rt: &(impl Print + AllocGlobal)) -> io::Result<()> {
     for of in CONSTANTS.iter() {
-        match constant(rt.alloc(), *of) {
-            Ok(e) => print!(rt; " {}", is_null_constant(&e))?,
+        match is_null(rt.alloc(), *of) {
+            Ok(is_null) => print!(rt; " {is_null}")?,
             Err(_) => print!(rt; " out of memory")?,
         }
     }
     println!(rt; "")
+}
+
+fn is_null(alloc: Global, of: (&str, u32)) -> Result<bool, NoMemory> {
+    let e = constant(alloc, of)?;
+    let is_null = is_null_constant(&e);
+    drop(e);
+    Ok(is_null)
 }
 
 fn print_word(rt: &impl Print, e: Result<Option<TExpr>, NoMemory>) -> io::Result<()> {
@@ -100,9 +107,14 @@ fn of_two(
     left: (&str, u32),
     right: (&str, u32),
 ) -> Result<Option<TExpr>, NoMemory> {
-    let right = Operand::Value(constant(alloc, right)?);
     let left = Operand::Value(constant(alloc, left)?);
-    binary(alloc, types, op, left, right)
+    match constant(alloc, right) {
+        Ok(right) => binary(alloc, types, op, left, Operand::Value(right)),
+        Err(fault) => {
+            drop(left);
+            Err(fault)
+        }
+    }
 }
 
 fn of_one(alloc: Global, op: Punct, of: (&str, u32)) -> Result<Option<TExpr>, NoMemory> {

@@ -2,10 +2,10 @@
 //! lines of `stdin`, and `stdout` has them: after the name of a table, one row for each operand or
 //! constant. It stands on the typing of operands and promises nothing of its own.
 //!
-//! A result is its type, after a `*` where it is an lvalue and `k` where that is const, and `-` where
-//! there is none. Types are written `c` (char), `sc`, `uc`, `h` (short), `uh`, `i`, `u`, `v` (void),
-//! `s` (a structure), `q` (a structure that is not complete), `p` and a type (a pointer) and `a` and
-//! a type (an array of three).
+//! A result is its type, after a `*` where it is an lvalue and `k` where that is const, and `-`
+//! where there is none. Types are written `c` (char), `sc`, `uc`, `h` (short), `uh`, `i`, `u`,
+//! `v` (void), `s` (a structure), `q` (a structure that is not complete), `p` and a type (a
+//! pointer) and `a` and a type (an array). `tools/typing.sh` compares the tables with gcc.
 #![tactic(auto)]
 
 mod constants;

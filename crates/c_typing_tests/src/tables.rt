@@ -1,5 +1,5 @@
 use crate::operands::{OPERANDS, operand_named, shared_type};
-use crate::types::{definitions, print_type, type_named};
+use crate::types::{definitions, print_type};
 use c_lex::{Punct, TokenKind, lex};
 use c_type::Types;
 use c_typed::{ExprForm, TExpr};
@@ -72,7 +72,7 @@ pub fn print_table(rt: &(impl Print + AllocGlobal), table: Table<'_>) -> io::Res
             for left in OPERANDS.iter() {
                 print!(rt; "{left}:")?;
                 for right in OPERANDS.iter() {
-                    print_result(rt, of_two(rt.alloc(), &types, table, left, right))?;
+                    print_made(rt, of_two(rt.alloc(), &types, table, left, right))?;
                 }
                 println!(rt; "")?;
             }
@@ -94,21 +94,50 @@ fn print_one(
     table: Table<'_>,
     name: &str,
 ) -> io::Result<()> {
-    let Ok(operand) = operand_named(rt.alloc(), name) else {
-        return print!(rt; " out of memory");
-    };
+    match operand_named(rt.alloc(), name) {
+        Ok(operand) => print_of_one(rt, types, table, operand),
+        Err(_) => print!(rt; " out of memory"),
+    }
+}
+
+fn print_of_one(
+    rt: &(impl Print + AllocGlobal),
+    types: &Types,
+    table: Table<'_>,
+    operand: Operand,
+) -> io::Result<()> {
     match table {
-        Table::Assignable => print!(rt; " {}", is_assignable(&operand)),
-        Table::Tag(op) => match selected_tag(op, &operand) {
-            Some(tag) => print!(rt; " {tag}"),
-            None => print!(rt; " -"),
-        },
-        Table::Size => match size_of_type(rt.alloc(), types, operand_type(&operand)) {
-            Ok(Some(e)) => print_constant(rt, &e),
-            Ok(None) => print!(rt; " -"),
-            Err(_) => print!(rt; " out of memory"),
-        },
-        _ => print_result(rt, of_one(rt.alloc(), types, table, operand)),
+        Table::Assignable => {
+            let may = is_assignable(&operand);
+            drop(operand);
+            print!(rt; " {may}")
+        }
+        Table::Tag(op) => {
+            let tag = selected_tag(op, &operand);
+            drop(operand);
+            print_tag(rt, tag)
+        }
+        Table::Size => {
+            let size = size_of_type(rt.alloc(), types, operand_type(&operand));
+            drop(operand);
+            print_size(rt, size)
+        }
+        _ => print_made(rt, of_one(rt.alloc(), types, table, operand)),
+    }
+}
+
+fn print_tag(rt: &impl Print, tag: Option<u32>) -> io::Result<()> {
+    match tag {
+        Some(tag) => print!(rt; " {tag}"),
+        None => print!(rt; " -"),
+    }
+}
+
+fn print_size(rt: &impl Print, size: Result<Option<TExpr>, NoMemory>) -> io::Result<()> {
+    match &size {
+        Ok(Some(e)) => print_constant(rt, e),
+        Ok(None) => print!(rt; " -"),
+        Err(_) => print!(rt; " out of memory"),
     }
 }
 
@@ -127,17 +156,44 @@ fn of_two(
     left: &str,
     right: &str,
 ) -> Result<Option<Operand>, NoMemory> {
-    let right = operand_named(alloc, right)?;
     let left = operand_named(alloc, left)?;
-    match table {
-        Table::Binary(op) => as_value(binary(alloc, types, op, left, right)?),
-        Table::Assigned(op) => as_value(assigned(alloc, types, op, left, right)?),
-        Table::Conditional => {
-            let test = operand_named(alloc, "i")?;
-            as_value(conditional(alloc, test, left, right)?)
+    match operand_named(alloc, right) {
+        Ok(right) => made_of_two(alloc, types, table, left, right),
+        Err(fault) => {
+            drop(left);
+            Err(fault)
         }
+    }
+}
+
+fn made_of_two(
+    alloc: Global,
+    types: &Types,
+    table: Table<'_>,
+    left: Operand,
+    right: Operand,
+) -> Result<Option<Operand>, NoMemory> {
+    match table {
+        Table::Binary(op) => as_value(binary(alloc, types, op, left, right)),
+        Table::Assigned(op) => as_value(assigned(alloc, types, op, left, right)),
+        Table::Conditional => chosen(alloc, left, right),
         Table::Index => index(alloc, types, left, right),
-        _ => Ok(None),
+        _ => {
+            drop(left);
+            drop(right);
+            Ok(None)
+        }
+    }
+}
+
+fn chosen(alloc: Global, left: Operand, right: Operand) -> Result<Option<Operand>, NoMemory> {
+    match operand_named(alloc, "i") {
+        Ok(test) => as_value(conditional(alloc, test, left, right)),
+        Err(fault) => {
+            drop(left);
+            drop(right);
+            Err(fault)
+        }
     }
 }
 
@@ -150,32 +206,51 @@ fn of_one(
 ) -> Result<Option<Operand>, NoMemory> {
     match table {
         Table::Unary(op) => unary(alloc, op, operand),
-        Table::Step(op) => as_value(step(types, op, true, operand)?),
-        Table::Cast(to) => as_value(cast(alloc, &shared_type(alloc, to)?, operand)?),
+        Table::Step(op) => as_value(step(types, op, true, operand)),
+        Table::Cast(to) => cast_to(alloc, to, operand),
         Table::Member(op, number) => member(alloc, types, op, operand, number),
-        Table::Condition => as_value(condition(alloc, operand)?),
-        _ => Ok(None),
+        Table::Condition => as_value(condition(alloc, operand)),
+        _ => {
+            drop(operand);
+            Ok(None)
+        }
     }
 }
 
-fn as_value(e: Option<TExpr>) -> Result<Option<Operand>, NoMemory> {
-    Ok(e.map(|e| Operand::Value(e)))
+fn cast_to(alloc: Global, to: &str, operand: Operand) -> Result<Option<Operand>, NoMemory> {
+    match shared_type(alloc, to) {
+        Ok(to) => as_value(cast(alloc, &to, operand)),
+        Err(fault) => {
+            drop(operand);
+            Err(fault)
+        }
+    }
 }
 
-fn print_result(rt: &impl Print, made: Result<Option<Operand>, NoMemory>) -> io::Result<()> {
+fn as_value(e: Result<Option<TExpr>, NoMemory>) -> Result<Option<Operand>, NoMemory> {
+    match e {
+        Ok(Some(e)) => Ok(Some(Operand::Value(e))),
+        Ok(None) => Ok(None),
+        Err(fault) => Err(fault),
+    }
+}
+
+fn print_made(rt: &impl Print, made: Result<Option<Operand>, NoMemory>) -> io::Result<()> {
     match &made {
-        Ok(Some(operand)) => {
-            print!(rt; " ")?;
-            match operand {
-                Operand::Place { is_const, .. } => print!(rt;
-                    "*{}",
-                    if *is_const { "k" } else { "" }
-                )?,
-                Operand::Value(_) => {}
-            }
-            print_type(rt, operand_type(operand))
-        }
+        Ok(Some(operand)) => print_operand(rt, operand),
         Ok(None) => print!(rt; " -"),
         Err(_) => print!(rt; " out of memory"),
     }
+}
+
+fn print_operand(rt: &impl Print, operand: &Operand) -> io::Result<()> {
+    match operand {
+        Operand::Place { is_const: true, .. } => print!(rt; " *k")?,
+        Operand::Place {
+            is_const: false,
+            ..
+        } => print!(rt; " *")?,
+        Operand::Value(_) => print!(rt; " ")?,
+    }
+    print_type(rt, operand_type(operand))
 }
