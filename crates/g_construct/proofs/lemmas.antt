@@ -1,0 +1,4 @@
+pub mod Later
+pub mod LaterExpressions
+pub mod LaterStatements
+pub mod Programs

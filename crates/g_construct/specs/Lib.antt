@@ -1,0 +1,11 @@
+pub mod Writer
+pub mod Operations
+pub mod Places
+pub mod Expressions
+pub mod Exits
+pub mod Jumps
+pub mod Switch
+pub mod Statements
+pub mod Globals
+pub mod Functions
+pub mod Laws
