@@ -142,6 +142,7 @@ module _ {T : Type 0} where
   popped table less xs d is updates = (finds, before.1.1) where
     before : IsLatest table (d ∷ reverse xs)
     before = subst (IsLatest table) (reverse-push xs d) is
+
     finds : (q : Name) → less q ≡ latest_index (declared_of (reverse xs)) q
     finds q =
         let rest = latest_index (declared_of (reverse xs)) in

@@ -1,4 +1,4 @@
-ghost use Rattle.std.specs.Prelude.{◌≡◌, ◌≤◌, [], ◌∷◌, length, take, drop, Some, is_some, IsSome, OnOk, OnErr};
+ghost use Rattle.std.specs.Prelude.{◌≡◌, ◌<◌, ◌≤◌, ◌^◌, [], ◌∷◌, length, take, drop, Some, is_some, IsSome, OnOk, OnErr};
 ghost use Rattle.std.specs.Map.{lookup};
 ghost use Rattle.indexmap.specs.IndexMap.{get, Updates, IsUnchanged};
 ghost use Rattle.c_scope.specs.Scopes.{same_name};
@@ -52,13 +52,6 @@ impl<T: Copy> Declarations<T> {
         }
     }
 
-    // How many they are.
-    pub(crate) fn len(&self) -> usize
-        ensures { result ≡ length self.now }
-    {
-        self.all.len()
-    }
-
     // What the latest declaration of a name says.
     #[tactic(auto, using(crate::proofs::LatestLemmas::found))]
     pub(crate) fn meaning(&self, name: &Name) -> Option<T>
@@ -71,7 +64,8 @@ impl<T: Copy> Declarations<T> {
     // Whether one of the latest `count` declarations is of the name.
     pub(crate) fn is_among_latest(&self, count: usize, name: &Name) -> bool
         requires { count ≤ length self.now }
-        ensures { result ≡ is_some (lookup (same_name name.now) (take count self.now)) }
+        ensures value { result ≡ is_some (lookup (same_name name.now) (take count self.now)) }
+        ensures small { length self.now < 2 ^ 63 }
     {
         match self.latest.get(name) {
             Some(index) => *index >= self.all.len() - count,

@@ -5,3 +5,6 @@
 #![tactic(auto)]
 
 mod declarations;
+mod scopes;
+
+pub use scopes::Scopes;
