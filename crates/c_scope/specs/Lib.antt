@@ -1,3 +1,6 @@
 pub mod Scopes
 pub mod Latest
 pub mod Nested
+pub mod Names
+pub mod Tags
+pub mod Members

@@ -5,6 +5,12 @@
 #![tactic(auto)]
 
 mod declarations;
+mod members;
+mod names;
 mod scopes;
+mod tags;
 
+pub use members::Members;
+pub use names::Names;
 pub use scopes::Scopes;
+pub use tags::Tags;
