@@ -127,34 +127,34 @@ module _ {T : Type 0} where
 
   -- ---- one declaration more, and less
 
-  pub pushed : (table more : Name → Option ℕ) (xs : List (Declaration T)) (d : Declaration T) → IsLatest table (reverse xs) → d.hidden ≡ table d.name
-      → ((q : Name) → more q ≡ cond (same_name d.name q) (Some (length xs)) (table q)) → IsLatest more (reverse (xs ++ d ∷ []))
-  pushed table more xs d is hidden updates = subst (IsLatest more) (sym (reverse-push xs d)) (finds, (hidden ∙ is.0 d.name, is.1)) where
-    finds : (q : Name) → more q ≡ latest_index (declared_of (d ∷ reverse xs)) q
-    finds q =
-        updates q
-        ∙ ap (λ b. cond b (Some (length xs)) (table q)) (same-sym d.name q)
-        ∙ ap (λ n. cond (same_name q d.name) (Some n) (table q)) (sym (length-declared (reverse xs) ∙ length-reverse xs))
-        ∙ ap (cond (same_name q d.name) (Some (length (declared_of (reverse xs))))) (is.0 q)
+  pub pushed : (table more : Name → Option ℕ) (old new : List (Declaration T)) (d : Declaration T) (key : Name) (index : ℕ) → IsLatest table (reverse old) → new ≡ old ++ d ∷ []
+      → d.hidden ≡ table d.name → key ≡ d.name → index ≡ length old → ((q : Name) → more q ≡ cond (same_name key q) (Some index) (table q)) → IsLatest more (reverse new)
+  pushed table more old new d key index is more-is hidden named numbered updates =
+      subst (λ ds. IsLatest more ds) (sym (ap reverse more-is ∙ reverse-push old d)) (finds, (hidden ∙ is.0 d.name, is.1)) where
+        finds : (q : Name) → more q ≡ latest_index (declared_of (d ∷ reverse old)) q
+        finds q =
+            updates q
+            ∙ ap (λ b. cond b (Some index) (table q)) (same-sym key q ∙ ap (same_name q) named)
+            ∙ ap (λ n. cond (same_name q d.name) (Some n) (table q)) (numbered ∙ sym (length-declared (reverse old) ∙ length-reverse old))
+            ∙ ap (cond (same_name q d.name) (Some (length (declared_of (reverse old))))) (is.0 q)
 
-  pub popped : (table less : Name → Option ℕ) (xs : List (Declaration T)) (d : Declaration T) → IsLatest table (reverse (xs ++ d ∷ []))
-      → ((q : Name) → less q ≡ cond (same_name d.name q) d.hidden (table q)) → IsLatest less (reverse xs)
-  popped table less xs d is updates = (finds, before.1.1) where
-    before : IsLatest table (d ∷ reverse xs)
-    before = subst (IsLatest table) (reverse-push xs d) is
+  module _ (table : Name → Option ℕ) (old new : List (Declaration T)) (d : Declaration T) (is : IsLatest table (reverse old)) (less-is : old ≡ new ++ d ∷ []) where
+    before : IsLatest table (d ∷ reverse new)
+    before = subst (λ ds. IsLatest table ds) (ap reverse less-is ∙ reverse-push new d) is
 
-    finds : (q : Name) → less q ≡ latest_index (declared_of (reverse xs)) q
-    finds q =
-        let rest = latest_index (declared_of (reverse xs)) in
-        let n = length (declared_of (reverse xs)) in
-        less-next (same_name q d.name) (less q) d.hidden (rest q) n
-        (updates q ∙ ap (λ b. cond b d.hidden (table q)) (same-sym d.name q) ∙ ap (cond (same_name q d.name) d.hidden) (before.0 q))
-        (λ e. before.1.0 ∙ ap rest (sym (same-equal q d.name e)))
+    pub popped : (less : Name → Option ℕ) → ((q : Name) → less q ≡ cond (same_name d.name q) d.hidden (table q)) → IsLatest less (reverse new)
+    popped less updates = (finds, before.1.1) where
+      finds : (q : Name) → less q ≡ latest_index (declared_of (reverse new)) q
+      finds q =
+          let rest = latest_index (declared_of (reverse new)) in
+          let n = length (declared_of (reverse new)) in
+          less-next (same_name q d.name) (less q) d.hidden (rest q) n
+          (updates q ∙ ap (λ b. cond b d.hidden (table q)) (same-sym d.name q) ∙ ap (cond (same_name q d.name) d.hidden) (before.0 q))
+          (λ e. before.1.0 ∙ ap rest (sym (same-equal q d.name e)))
 
-  -- the latest declaration has its name in the table
-  pub last-found : (table : Name → Option ℕ) (xs : List (Declaration T)) (d : Declaration T) → IsLatest table (reverse (xs ++ d ∷ [])) → IsSome (table d.name)
-  last-found table xs d is =
-      let here = (subst (IsLatest table) (reverse-push xs d) is).0 d.name in
-      let n = length (declared_of (reverse xs)) in
-      let rest = latest_index (declared_of (reverse xs)) d.name in
-      subst IsSome (sym (here ∙ ap (λ b. cond b (Some n) rest) (same-self d.name))) refl
+    -- the latest declaration has its name in the table
+    pub last-found : IsSome (table d.name)
+    last-found =
+        let n = length (declared_of (reverse new)) in
+        let rest = latest_index (declared_of (reverse new)) d.name in
+        subst IsSome (sym (before.0 d.name ∙ ap (λ b. cond b (Some n) rest) (same-self d.name))) refl

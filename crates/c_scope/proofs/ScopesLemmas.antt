@@ -4,6 +4,7 @@ use Rattle.std.specs.Map.{lookup}
 use Rattle.std.specs.Option.{MatchOption, option_or, option_to_list, unwrap_or}
 use Rattle.std.proofs.lemmas.List.{reverse-append, drop_all}
 use Rattle.c_scope.specs.Scopes.{Name, Scope, same_name, meaning, is_declared, with_declaration, outer}
+use Rattle.c_scope.specs.ScopeLaws.{DeclarationDecides, DeclarationIsInner}
 use Rattle.c_scope.specs.Nested.{scopes_of, AreCounted}
 
 module _ {T : Type 0} where
@@ -43,6 +44,17 @@ module _ {T : Type 0} where
   innermost ds count [] name = refl
   innermost ds count (n ∷ more) name = refl
 
+  -- ---- laws
+
+  pub declaration-decides : DeclarationDecides T
+  declaration-decides [] name other t = or-cond (same_name other name) t None None ∙ ap (cond (same_name other name) (Some t)) refl
+  declaration-decides (s ∷ rest) name other t = or-cond (same_name other name) t (lookup (same_name other) s) (meaning rest other)
+
+  pub declaration-is-inner : DeclarationIsInner T
+  declaration-is-inner [] name t = refl
+  declaration-is-inner (s ∷ []) name t = refl
+  declaration-is-inner (s ∷ r ∷ rest) name t = refl
+
   -- ---- one declaration more
 
   counted-suc : (ds : Scope T) (count : ℕ) (more : List ℕ) (d : Name × T) → AreCounted ds count more → AreCounted (d ∷ ds) (suc count) more
@@ -65,26 +77,28 @@ module _ {T : Type 0} where
   outer-is ds count n [] = refl
   outer-is ds count n (m ∷ more) = refl
 
-  module _ (ds : Scope T) (count : ℕ) (ns : List ℕ) (r : Option ℕ) (none : r ≡ None → ns ≡ []) where
-    abbrev before : List ℕ
-    before = reverse (ns ++ option_to_list r)
+  module _ (ds rest : Scope T) (count n : ℕ) (old new : List ℕ) (r : Option ℕ) (left : rest ≡ drop count ds) (around : old ≡ new ++ option_to_list r) (next : n ≡ unwrap_or r 0)
+      (none : r ≡ None → new ≡ []) where
+    pub counted-less : AreCounted ds count (reverse old) → AreCounted rest n (reverse new)
+    counted-less h =
+        subst (λ n. AreCounted rest n (reverse new)) (sym next) (subst (λ ds. AreCounted ds (unwrap_or r 0) (reverse new)) (sym left)
+        (by r none (subst (λ ns. AreCounted ds count (reverse ns)) around h))) where
+          by : (r : Option ℕ) → (r ≡ None → new ≡ []) → AreCounted ds count (reverse (new ++ option_to_list r)) → AreCounted (drop count ds) (unwrap_or r 0) (reverse new)
+          by None none h =
+              let empty = none refl in
+              let counted : AreCounted ds count [] = subst (λ xs. AreCounted ds count (reverse (xs ++ []))) empty h in
+              subst (λ xs. AreCounted (drop count ds) 0 (reverse xs)) (sym empty) (ap length (drop_all count ds (omega (arith, counted))))
+          by (Some n) none h = (subst (AreCounted ds count) (reverse-append new (n ∷ [])) h).1
 
-    pub counted-less : AreCounted ds count before → AreCounted (drop count ds) (unwrap_or r 0) (reverse ns)
-    counted-less h = by r none h where
-      by : (r : Option ℕ) → (r ≡ None → ns ≡ []) → AreCounted ds count (reverse (ns ++ option_to_list r)) → AreCounted (drop count ds) (unwrap_or r 0) (reverse ns)
-      by None none h =
-          let empty = none refl in
-          let counted : AreCounted ds count [] = subst (λ xs. AreCounted ds count (reverse (xs ++ []))) empty h in
-          subst (λ xs. AreCounted (drop count ds) 0 (reverse xs)) (sym empty) (ap length (drop_all count ds (omega (arith, counted))))
-      by (Some n) none h = (subst (AreCounted ds count) (reverse-append ns (n ∷ [])) h).1
-
-    pub scopes-less : outer (scopes_of ds count before) ≡ scopes_of (drop count ds) (unwrap_or r 0) (reverse ns)
-    scopes-less = by r none where
-      by : (r : Option ℕ) → (r ≡ None → ns ≡ []) → outer (scopes_of ds count (reverse (ns ++ option_to_list r))) ≡ scopes_of (drop count ds) (unwrap_or r 0) (reverse ns)
-      by None none =
-          let empty = none refl in
-          ap (λ xs. outer (scopes_of ds count (reverse (xs ++ [])))) empty ∙ sym (ap (λ xs. scopes_of (drop count ds) 0 (reverse xs)) empty)
-      by (Some n) none = ap (λ more. outer (scopes_of ds count more)) (reverse-append ns (n ∷ [])) ∙ outer-is ds count n (reverse ns)
+    pub scopes-less : scopes_of rest n (reverse new) ≡ outer (scopes_of ds count (reverse old))
+    scopes-less =
+        ap (λ ds. scopes_of ds n (reverse new)) left ∙ ap (λ n. scopes_of (drop count ds) n (reverse new)) next
+        ∙ by r none ∙ ap (λ ns. outer (scopes_of ds count (reverse ns))) (sym around) where
+          by : (r : Option ℕ) → (r ≡ None → new ≡ []) → scopes_of (drop count ds) (unwrap_or r 0) (reverse new) ≡ outer (scopes_of ds count (reverse (new ++ option_to_list r)))
+          by None none =
+              let empty = none refl in
+              ap (λ xs. scopes_of (drop count ds) 0 (reverse xs)) empty ∙ sym (ap (λ xs. outer (scopes_of ds count (reverse (xs ++ [])))) empty)
+          by (Some n) none = sym (ap (λ more. outer (scopes_of ds count more)) (reverse-append new (n ∷ [])) ∙ outer-is ds count n (reverse new))
 
 pub no-elements : {X : Type 0} (xs : List X) → length xs ≡ 0 → xs ≡ []
 no-elements [] h = refl

@@ -4,3 +4,4 @@ pub mod Nested
 pub mod Names
 pub mod Tags
 pub mod Members
+pub mod ScopeLaws

@@ -9,8 +9,8 @@ use no_memory::NoMemory;
 use std::alloc::Global;
 use std::marker::Model;
 
-// Declarations in order, the latest of each name being found at once. Contracts see a list of names and meanings, the
-// latest first.
+// Declarations in order, the latest of each name being found at once. Contracts see a list of names
+// with their meanings, the latest first.
 #[derive(Drop)]
 pub(crate) struct Declarations<T: Copy> {
     // Each name that is declared, with the index of its latest declaration.
@@ -53,8 +53,7 @@ impl<T: Copy> Declarations<T> {
     }
 
     // What the latest declaration of a name says.
-    #[tactic(auto, using(crate::proofs::LatestLemmas::found))]
-    pub(crate) fn meaning(&self, name: &Name) -> Option<T>
+    pub(crate) fn lookup(&self, name: &Name) -> Option<T>
         ensures { result ≡ lookup (same_name name.now) self.now }
     {
         let index = *self.latest.get(name)?;

@@ -8,8 +8,8 @@ use no_memory::NoMemory;
 use std::alloc::Global;
 use std::marker::Model;
 
-/// The names of the members of structs, a name space a struct (ISO/IEC 9899:2011, 6.2.3). Contracts see a list of the
-/// structs, each as the number of its tag with the names of its members.
+/// The names of the members of structs, a name space for each struct (ISO/IEC 9899:2011, 6.2.3).
+/// Contracts see a list of the structs, each as the number of its tag with its members' names.
 #[derive(Drop)]
 pub struct Members {
     structs: IndexMap<u32, Names>,
@@ -40,7 +40,8 @@ impl Members {
         self.structs.get(&tag)?.number(name)
     }
 
-    /// Makes these names those of the members, in order, of the struct with this tag. Without memory nothing changes.
+    /// Makes these names those of the members, in order, of the struct with this tag. Without memory
+    /// nothing changes.
     pub fn define(&mut self, tag: u32, names: Names) -> Result<(), NoMemory>
         ensures ok { OnOk result (self.new ≡ with_members self.old tag names) }
         ensures err { OnErr result (self.new ≡ self.old) }

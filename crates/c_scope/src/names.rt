@@ -7,8 +7,8 @@ use no_memory::NoMemory;
 use std::alloc::Global;
 use std::marker::Model;
 
-/// A set of names: those that a file defines, or those of a struct's members. Contracts see a list of them, in the order
-/// in which they were inserted, which numbers them from 0.
+/// A set of names, as those that a file defines, or those of a struct's members. Contracts see a
+/// list of them, in the order in which they were inserted, which numbers them from 0.
 #[derive(Drop)]
 pub struct Names {
     names: IndexSet<Name>,

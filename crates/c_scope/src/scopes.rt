@@ -7,10 +7,9 @@ use no_memory::NoMemory;
 use std::alloc::Global;
 use std::marker::Model;
 
-/// The scopes around a point of a program, with what each name means to the caller. Contracts see a list of scopes, the
-/// innermost first, and a scope as a list of names with their meanings, the latest first.
-///
-/// There is always a scope. The outermost one is file scope, where a checker begins.
+/// The scopes around a point of a program, with what each name means, which is the caller's. The
+/// outermost one is file scope. Contracts see a list of scopes, the innermost first, and a scope as
+/// a list of names with their meanings, the latest first.
 #[derive(Drop)]
 pub struct Scopes<T: Copy> {
     declarations: Declarations<T>,
@@ -45,16 +44,17 @@ impl<T: Copy> Scopes<T> {
         }
     }
 
-    /// What a name means here: what its innermost declaration says (ISO/IEC 9899:2011, 6.2.1p4).
-    pub fn meaning(&self, name: &Name) -> Option<T>
+    /// What a name means here, by its innermost declaration (ISO/IEC 9899:2011, 6.2.1p4).
+    pub fn lookup(&self, name: &Name) -> Option<T>
         ensures { result ≡ meaning self.now name.now }
     {
-        self.declarations.meaning(name)
+        self.declarations.lookup(name)
     }
 
-    /// Begins a scope within the innermost one. Without memory nothing changes.
+    /// Begins a scope within the innermost one; `leave` ends it. Without memory nothing changes.
     pub fn enter(&mut self) -> Result<(), NoMemory>
         ensures ok { OnOk result (self.new ≡ [] ∷ self.old) }
+        ensures left { OnOk result (outer self.new ≡ self.old) }
         ensures err { OnErr result (self.new ≡ self.old) }
     {
         self.outer.push(self.count)?;
@@ -62,8 +62,8 @@ impl<T: Copy> Scopes<T> {
         Ok(())
     }
 
-    /// Ends the innermost scope: names mean again what they meant around it. Where it is the outermost one, an empty one
-    /// takes its place.
+    /// Ends the innermost scope: names mean again what they meant around it. Where it is the
+    /// outermost one, an empty one takes its place.
     pub fn leave(&mut self)
         ensures { self.new ≡ outer self.old }
     {
@@ -73,8 +73,8 @@ impl<T: Copy> Scopes<T> {
         self.count = self.outer.pop().unwrap_or(0);
     }
 
-    /// Declares a name in the innermost scope, where no name is declared twice: the answer is whether it is new there, and
-    /// where it is not, nothing changes. Without memory nothing changes.
+    /// Declares a name in the innermost scope, where no name is declared twice. The answer is
+    /// whether it is new there; where it is not, nothing changes. Without memory nothing changes.
     pub fn declare(&mut self, name: &Name, meaning: T) -> Result<bool, NoMemory>
         ensures new { IfOk result (λ new. new ≡ not (is_declared self.old name.now)) }
         ensures scopes { IfOk result (λ new. self.new ≡

@@ -9,9 +9,9 @@ use no_memory::NoMemory;
 use std::alloc::Global;
 use std::marker::Model;
 
-/// The tags of structs, a name space of their own (ISO/IEC 9899:2011, 6.2.3). A tag may be named in a pointer before it
-/// is declared. Contracts see a list of the tags, each with whether it is declared, in the order in which they were first
-/// named, which numbers them from 0.
+/// The tags of structs, a name space of their own (ISO/IEC 9899:2011, 6.2.3). A tag may be named in
+/// a pointer before it is declared. Contracts see a list of the tags, each with whether it is
+/// declared, in the order in which they were first named, which numbers them from 0.
 #[derive(Drop)]
 pub struct Tags {
     tags: IndexMap<Name, bool>,
@@ -44,14 +44,11 @@ impl Tags {
         ensures { result ≡ declared_tag self.now name.now }
     {
         let (index, _, declared) = self.tags.get_full(name)?;
-        if *declared {
-            Some(index as u32)
-        } else {
-            None
-        }
+        if *declared { Some(index as u32) } else { None }
     }
 
-    /// The number of a tag that is named, whether or not it is declared. Without memory nothing changes.
+    /// The number of a tag that is named, whether or not it is declared. Without memory nothing
+    /// changes.
     pub fn number(&mut self, name: &Name) -> Result<u32, NoMemory>
         ensures number { IfOk result (λ number. number ≡ tag_number self.old name.now) }
         ensures tags { OnOk result (self.new ≡ with_named_tag self.old name.now) }
@@ -63,7 +60,8 @@ impl Tags {
         self.put(name, false)
     }
 
-    /// Declares a tag, which may be declared already, and gives its number. Without memory nothing changes.
+    /// Declares a tag, which may be declared already, and gives its number. Without memory nothing
+    /// changes.
     pub fn declare(&mut self, name: &Name) -> Result<u32, NoMemory>
         ensures number { IfOk result (λ number. number ≡ tag_number self.old name.now) }
         ensures tags { OnOk result (self.new ≡ with_declared_tag self.old name.now) }

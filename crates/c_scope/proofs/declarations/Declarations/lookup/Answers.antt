@@ -2,7 +2,7 @@ use Rattle.std.proofs.Common.{◌∙◌, ◌≤◌, ◌<◌, ap, sym, subst, len
 use Rattle.std.specs.Option.{option_map}
 use Rattle.std.proofs.lemmas.Option.{slice_get_past, slice_get-get_or}
 use Rattle.c_scope.proofs.LatestLemmas.{found}
-use Rattle.c_scope.proofs.declarations.Declarations.meaning.Goals as goal
+use Rattle.c_scope.proofs.declarations.Declarations.lookup.Goals as goal
 
 pub returns-in_err-index : goal.returns-in_err-index
 returns-in_err-index g c = c.from_residual.ensures ∙ found _ c.self.inside.all.items c.args.self.now c.args.name.now c.self.invariant c.self.view_is None c.in_err-index.ensures.value
