@@ -86,13 +86,11 @@ impl<T: Copy> Declarations<T> {
             meaning,
             hidden,
         })?;
-        match note(&mut self.latest, key, index) {
-            Ok(()) => Ok(()),
-            Err(fault) => {
-                self.all.pop();
-                Err(fault)
-            }
+        let noted = note(&mut self.latest, key, index);
+        if noted.is_err() {
+            self.all.pop();
         }
+        noted
     }
 
     // Takes back the latest declaration, if any, and finds again what it hid.

@@ -40,8 +40,8 @@ impl Members {
         self.structs.get(&tag)?.number(name)
     }
 
-    /// Makes these names those of the members, in order, of the struct with this tag. Without memory
-    /// nothing changes.
+    /// Makes these names those of the members, in order, of the struct with this tag. Without
+    /// memory nothing changes.
     pub fn define(&mut self, tag: u32, names: Names) -> Result<(), NoMemory>
         ensures ok { OnOk result (self.new ≡ with_members self.old tag names) }
         ensures err { OnErr result (self.new ≡ self.old) }

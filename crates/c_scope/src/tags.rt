@@ -1,4 +1,4 @@
-ghost use Rattle.std.specs.Prelude.{◌≡◌, [], Bool, if◌then◌else◌, true, false, OnOk, OnErr, IfOk};
+ghost use Rattle.std.specs.Prelude.{◌≡◌, [], OnOk, OnErr, IfOk};
 ghost use Rattle.indexmap.specs.IndexMap.{insert_entry};
 ghost use Rattle.c_scope.specs.Scopes.{same_name};
 ghost use Rattle.c_scope.specs.Tags.{tag_number, declared_tag, with_named_tag, with_declared_tag};
