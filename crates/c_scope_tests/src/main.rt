@@ -2,10 +2,10 @@
 //! calls on tables that are empty at first, and the same line of `stdout` has the answers and a
 //! point. It stands on the names of the lexer and on the tables, and promises nothing of its own.
 //!
-//! `{` and `}` begin and end a scope. `+x` declares x in it, with the number of the call on its line
-//! as its meaning, and `x` looks it up. `*S` names the tag S, `:S` declares it, and `?S` asks for
-//! it. `.x` inserts x into a set of names, `=3` makes the set the members of the struct of tag 3,
-//! and `3.x` asks for its member x.
+//! `{` and `}` begin and end a scope. `+x` declares x in it, with the number of the call on its
+//! line as its meaning, and `x` looks it up. `*S` names the tag S, `:S` declares it, and `?S` asks
+//! for it. `.x` inserts x into a set of names, `=3` makes the set the members of the struct of tag
+//! 3, and `3.x` asks for its member x.
 #![tactic(auto)]
 
 use c_lex::Name;
