@@ -3,13 +3,12 @@
 //! own.
 #![tactic(auto)]
 
-mod places;
-
-use crate::places::Shape;
-use a_place::place;
-use c_lex::lex;
+use c_lex::{Punct, Token, TokenKind, lex};
 use c_parse::parse;
+use c_scope::{Members, Names, Scopes};
+use no_memory::NoMemory;
 use rv_isa::decode;
+use std::alloc::Global;
 use std::env;
 use std::io::{self, Read};
 use std::rt::Env;
@@ -40,6 +39,70 @@ fn count_declarations(rt: &(impl Input + Print + AllocGlobal)) -> io::Result<()>
     }
 }
 
+/// Declares each name of these tokens in the scope that braces give it, and looks it up. The answer
+/// is how many names were new where they stand.
+fn declared(alloc: Global, tokens: &[Token]) -> Result<usize, NoMemory> {
+    let mut scopes = Scopes::new(alloc);
+    let mut count = 0usize;
+    for (index, token) in tokens.iter().enumerate() {
+        match &token.kind {
+            TokenKind::Punct(Punct::LBrace) => scopes.enter()?,
+            TokenKind::Punct(Punct::RBrace) => scopes.leave(),
+            TokenKind::Name(name) => {
+                let is_new = scopes.declare(name, index)?;
+                if is_new && scopes.lookup(name) == Some(index) {
+                    count = count.wrapping_add(1);
+                }
+            }
+            _ => {}
+        }
+    }
+    Ok(count)
+}
+
+/// Makes the names of these tokens the members of a struct, and asks for each name as often as it
+/// stands there. The answer is how many are found.
+fn members_found(alloc: Global, tokens: &[Token]) -> Result<usize, NoMemory> {
+    let mut names = Names::new(alloc);
+    for token in tokens {
+        if let TokenKind::Name(name) = &token.kind {
+            names.insert(name)?;
+        }
+    }
+    let mut members = Members::new(alloc);
+    members.define(0, names)?;
+    Ok(
+        tokens
+            .iter()
+            .filter(|token| match &token.kind {
+                TokenKind::Name(name) => members.number(0, name).is_some(),
+                _ => false,
+            })
+            .count(),
+    )
+}
+
+/// Reads a source from standard input and tells how many of its names are new in their scopes, or
+/// are members of the struct that has them all, or its fault.
+fn count_names(rt: &(impl Input + Print + AllocGlobal), are_members: bool) -> io::Result<()> {
+    let alloc = rt.alloc();
+    let mut source = Vec::new(alloc);
+    rt.reader().read_to_end(&mut source)?;
+    let tokens = match lex(alloc, &source) {
+        Ok(tokens) => tokens,
+        Err(fault) => return println!(rt; "{fault:?}"),
+    };
+    let count = if are_members {
+        members_found(alloc, &tokens)
+    } else {
+        declared(alloc, &tokens)
+    };
+    match count {
+        Ok(count) => println!(rt; "{count} names"),
+        Err(NoMemory) => println!(rt; "out of memory"),
+    }
+}
+
 /// Reads words from standard input, one a line in hexadecimal, and tells the instruction of each.
 fn tell_instructions(rt: &(impl Input + Print + AllocGlobal)) -> io::Result<()> {
     for line in rt.lines(rt.alloc()) {
@@ -51,41 +114,13 @@ fn tell_instructions(rt: &(impl Input + Print + AllocGlobal)) -> io::Result<()> 
     Ok(())
 }
 
-/// Gives places to the names of lines of a shape, and tells how many there are.
-fn count_places(rt: &(impl Print + AllocGlobal), shape: Shape, count: u32) -> io::Result<()> {
-    let linear = places::lines(rt.alloc(), shape, count)?;
-    match place(rt.alloc(), &linear) {
-        Ok(places) => println!(rt; "{} places", places.count),
-        Err(fault) => println!(rt; "{fault}"),
-    }
-}
-
-fn shape_of(word: &str) -> Option<Shape> {
-    match word {
-        "alive" => Some(Shape::Alive),
-        "dead" => Some(Shape::Dead),
-        "staircase" => Some(Shape::Staircase),
-        "nest" => Some(Shape::Nest),
-        _ => None,
-    }
-}
-
 fn main(rt: HostRuntime) -> io::Result<()> {
-    let mut words = env::args(&rt)?;
-    match words.nth(1) {
-        Some(word) if word.as_str() == "lex" => return count_tokens(&rt),
-        Some(word) if word.as_str() == "parse" => return count_declarations(&rt),
-        Some(word) if word.as_str() == "decode" => return tell_instructions(&rt),
-        Some(word) if word.as_str() == "place" => {
-            let shape = words.next().and_then(|shape| shape_of(shape.as_str()));
-            let count = words.next().and_then(|count| count.parse::<u32>().ok());
-            if let (Some(shape), Some(count)) = (shape, count) {
-                return count_places(&rt, shape, count);
-            }
-        }
-        _ => {}
+    match env::args(&rt)?.nth(1) {
+        Some(word) if word.as_str() == "lex" => count_tokens(&rt),
+        Some(word) if word.as_str() == "parse" => count_declarations(&rt),
+        Some(word) if word.as_str() == "scopes" => count_names(&rt, false),
+        Some(word) if word.as_str() == "members" => count_names(&rt, true),
+        Some(word) if word.as_str() == "decode" => tell_instructions(&rt),
+        _ => eprintln!(rt; "usage: cc_bench lex | parse | scopes | members | decode"),
     }
-    eprintln!(rt;
-        "usage: cc_bench lex | parse | decode | place (alive | dead | staircase | nest) COUNT"
-    )
 }
