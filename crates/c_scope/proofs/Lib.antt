@@ -1,0 +1,3 @@
+pub mod LatestLemmas
+pub mod ScopesLemmas
+pub mod TagsLemmas
