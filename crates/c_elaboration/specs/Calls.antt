@@ -1,5 +1,5 @@
 -- Calls (ISO/IEC 9899:2011, 6.5.2.2). Three functions are declared before the program begins.
-use Rattle.std.specs.Prelude.{ℕ, zero, suc, ◌==◌, ◌&&◌, not, Bool, true, false, if◌then◌else◌, List, [], ◌∷◌, Option, None, Some, option_map, option_and_then, slice_get}
+use Rattle.std.specs.Prelude.{ℕ, zero, suc, ◌&&◌, Bool, true, false, if◌then◌else◌, List, [], ◌∷◌, Option, None, Some, option_map, option_and_then, slice_get}
 use Rattle.c_type.specs.Trees.{TypeTree, void_type}
 use Rattle.c_typed.specs.declared.operator.UnaryOp.TheVariants as unary_op
 use Rattle.c_typed.specs.Typed as typed
@@ -12,7 +12,7 @@ use Rattle.c_static.specs.Operands.{value_of}
 use Rattle.c_scope.specs.Scopes.{Name}
 use Rattle.c_scope.specs.Names.{number_of}
 use Rattle.c_elaboration.specs.Refusals.{Unknown, BadCall}
-use Rattle.c_elaboration.specs.State.{Meaning, variable_at, global_numbered, function_numbered, MaybeType, Declared, Elaborated, ◌>>=◌, ◌>>◌, pure, state, breaks, broken_at, if_some, meaning_of}
+use Rattle.c_elaboration.specs.State.{Meaning, function_numbered, MaybeType, Declared, Elaborated, ◌>>=◌, pure, state, broken_at, meaning_of}
 use Rattle.c_elaboration.specs.Operands.{Term, term_meant}
 
 -- what a call does: what putchar, getchar or exit does, or a function of the file by its number among those that it defines

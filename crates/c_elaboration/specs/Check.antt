@@ -1,7 +1,7 @@
 -- What the checker says of a tree: the typed program, or why it is refused.
-use Rattle.std.specs.Prelude.{ℕ, ◌==◌, ◌&&◌, Bool, true, false, if◌then◌else◌, List, [], ◌∷◌, map, codes, Option, None, Some, option_and_then, is_some, slice_get, unwrap_or, Result, Ok, Err}
+use Rattle.std.specs.Prelude.{ℕ, ◌==◌, ◌&&◌, Bool, false, if◌then◌else◌, List, [], ◌∷◌, map, codes, Option, None, Some, option_and_then, is_some, slice_get, unwrap_or, Result, Ok, Err}
 use Rattle.c_ast.specs.Productions as l
-use Rattle.c_ast.specs.Tree.{Tree, Leaf, Node, Nil, Cons}
+use Rattle.c_ast.specs.Tree.{Tree, Node, Cons}
 use Rattle.c_type.specs.Trees.{void_type}
 use Rattle.c_typed.specs.Typed.{FunctionTree, GlobalTree, ProgramTree}
 use Rattle.c_typed.specs.WellTyped.{int}

@@ -1,17 +1,16 @@
 -- Declarations of variables (ISO/IEC 9899:2011, 6.7). A variable is in scope after its declarator, so also in its own
 -- initialiser.
-use Rattle.std.specs.Prelude.{ℕ, ◌==◌, ◌&&◌, Bool, true, false, if◌then◌else◌, List, [], ◌∷◌, ◌++◌, length, Option, None, Some, option_and_then, slice_get}
+use Rattle.std.specs.Prelude.{ℕ, ◌==◌, ◌&&◌, Bool, true, false, List, [], ◌∷◌, ◌++◌, Option, None, Some, option_and_then, slice_get}
 use Rattle.c_ast.specs.Productions as l
-use Rattle.c_ast.specs.Tree.{Tree, Leaf, Node, Nil, Cons}
-use Rattle.c_type.specs.Trees.{TypeTree}
+use Rattle.c_ast.specs.Tree.{Tree, Node, Cons}
 use Rattle.c_typed.specs.Typed.{DeclarationTree, InitialTree, no_initial, ItemTrees, no_items, stmt_then, declare_then}
 use Rattle.c_scope.specs.Scopes.{Name}
-use Rattle.c_elaboration.specs.State.{MaybeType, variable_at, global_numbered, Variable, Global, Elaborated, ◌>>=◌, ◌>>◌, pure, state, if_some, declare, variable_in, change_variable, add_variable, add_global, change_global}
+use Rattle.c_elaboration.specs.State.{MaybeType, variable_at, global_numbered, Variable, Elaborated, ◌>>=◌, ◌>>◌, pure, state, if_some, declare, variable_in, change_variable, add_variable, add_global, change_global}
 use Rattle.c_elaboration.specs.Leaves.{offset_of, begin_of, name_of, count_of, is_present}
 use Rattle.c_elaboration.specs.Specifiers.{Specified, specified_type}
 use Rattle.c_elaboration.specs.DeclaredTypes.{Dimension, empty, sized, object_type, small_type}
 use Rattle.c_elaboration.specs.Expressions.{expression, size}
-use Rattle.c_elaboration.specs.Initialisers.{Elements, initialiser, completed, initial, written}
+use Rattle.c_elaboration.specs.Initialisers.{initialiser, completed, initial, written}
 
 -- ---- dimensions, of which the first may be left empty
 

@@ -1,11 +1,11 @@
 -- The types that declarators and type names declare (ISO/IEC 9899:2011, 6.7.6, 6.7.7), and which of them may not be.
-use Rattle.std.specs.Prelude.{ℕ, zero, suc, ◌==◌, ◌&&◌, ◌||◌, not, nat_le, Bool, true, false, if◌then◌else◌, List, [], ◌∷◌, length, Option, None, Some, option_map, option_and_then, is_some, is_none}
+use Rattle.std.specs.Prelude.{ℕ, zero, suc, ◌&&◌, ◌||◌, not, nat_le, Bool, true, false, if◌then◌else◌, List, [], ◌∷◌, Option, None, Some, option_map, option_and_then}
 use Rattle.std.specs.List.{list_any}
 use Rattle.limits.specs.Limits.{most_type_bytes}
 use Rattle.c_type.specs.Trees.{TypeTree, void_type, pointer_to, array_of, struct_type}
 use Rattle.c_type.specs.Layout.{Definitions, is_complete, size}
 use Rattle.c_elaboration.specs.Refusals.{Unknown, BadType}
-use Rattle.c_elaboration.specs.State.{MaybeType, Elaborated, ◌>>=◌, ◌>>◌, pure, state, breaks, breaks_if, broken_at, if_some}
+use Rattle.c_elaboration.specs.State.{MaybeType, Elaborated, ◌>>=◌, ◌>>◌, pure, state, breaks_if, broken_at, if_some}
 use Rattle.c_elaboration.specs.Specifiers.{Specified}
 
 -- the size of a dimension, unless it breaks a rule

@@ -1,12 +1,12 @@
 -- What an expression is, and the type that a type name names: one recursion, since a dimension is an expression, and a
 -- cast or `sizeof` takes a type name (ISO/IEC 9899:2011, 6.5, 6.7.7).
-use Rattle.std.specs.Prelude.{ℕ, ◌&&◌, not, nat_le, Bool, true, false, if◌then◌else◌, List, [], ◌∷◌, ◌++◌, Option, None, Some, option_map, option_and_then}
+use Rattle.std.specs.Prelude.{ℕ, ◌&&◌, nat_le, true, false, if◌then◌else◌, List, [], ◌∷◌, ◌++◌, Option, None, Some, option_map, option_and_then}
 use Rattle.limits.specs.Limits.{most_type_bytes}
 use Rattle.c_ast.specs.Productions as l
-use Rattle.c_ast.specs.Tree.{Tree, Leaf, Node, Nil, Cons}
+use Rattle.c_ast.specs.Tree.{Tree, Node, Nil, Cons}
 use Rattle.c_static.specs.Operands.{operand_type}
 use Rattle.c_elaboration.specs.Refusals.{NotConstant}
-use Rattle.c_elaboration.specs.State.{MaybeType, Elaborated, ◌>>=◌, ◌>>◌, pure, or_broken}
+use Rattle.c_elaboration.specs.State.{MaybeType, Elaborated, ◌>>=◌, pure, or_broken}
 use Rattle.c_elaboration.specs.Leaves.{offset_of, begin_of, name_of, punct_of, characters_of, count_of}
 use Rattle.c_elaboration.specs.Specifiers.{specified_type}
 use Rattle.c_elaboration.specs.DeclaredTypes.{MaybeSize, named_type}

@@ -1,9 +1,9 @@
 -- Declarations at file scope (ISO/IEC 9899:2011, 6.9).
-use Rattle.std.specs.Prelude.{ℕ, zero, suc, ◌==◌, ◌&&◌, ◌||◌, not, nat_le, Bool, true, false, if◌then◌else◌, List, [], ◌∷◌, ◌++◌, map, length, Option, None, Some, option_map, option_and_then, is_some, slice_get, unwrap_or}
+use Rattle.std.specs.Prelude.{ℕ, suc, ◌==◌, ◌&&◌, ◌||◌, not, nat_le, Bool, true, false, if◌then◌else◌, List, [], ◌∷◌, ◌++◌, map, length, Option, None, Some, option_map, option_and_then, is_some, slice_get, unwrap_or}
 use Rattle.std.specs.List.{list_any}
 use Rattle.limits.specs.Limits.{most_type_bytes}
 use Rattle.c_ast.specs.Productions as l
-use Rattle.c_ast.specs.Tree.{Tree, Leaf, Node, Nil, Cons}
+use Rattle.c_ast.specs.Tree.{Tree, Node, Nil, Cons}
 use Rattle.c_type.specs.Trees.{TypeTree, void_type}
 use Rattle.c_type.specs.Layout.{Definition, Definitions, is_defined, struct_size}
 use Rattle.c_typed.specs.Typed.{VariableTree, FunctionTree, ItemTrees}
@@ -15,10 +15,10 @@ use Rattle.c_elaboration.specs.Refusals.{Redeclared, BadType}
 use Rattle.c_elaboration.specs.State.{Meaning, variable_at, function_numbered, MaybeType, Declared, Variable, State, Elaborated, ◌>>=◌, ◌>>◌, pure, state, change, breaks, breaks_if, meaning_of, declare, within_scope, changed, add_variable}
 use Rattle.c_elaboration.specs.Leaves.{offset_of, end_of, begin_of, name_of, count_of, is_present}
 use Rattle.c_elaboration.specs.Specifiers.{Specified, specified_type, tagged}
-use Rattle.c_elaboration.specs.DeclaredTypes.{Dimension, sized, object_type, param_type, result_type}
+use Rattle.c_elaboration.specs.DeclaredTypes.{sized, object_type, param_type, result_type}
 use Rattle.c_elaboration.specs.Expressions.{dimensions}
 use Rattle.c_elaboration.specs.Declarators.{open_dimensions, is_fixed, global_declarator, more_globals}
-use Rattle.c_elaboration.specs.Statements.{Jumps, items}
+use Rattle.c_elaboration.specs.Statements.{items}
 
 -- ---- struct definitions (6.7.2.1)
 

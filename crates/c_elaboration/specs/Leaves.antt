@@ -1,13 +1,12 @@
 -- What the tokens of a tree say.
-use Rattle.std.specs.Prelude.{ℕ, zero, suc, Bool, true, false, List, [], Option, None, Some, unwrap_or}
+use Rattle.std.specs.Prelude.{ℕ, suc, Bool, true, false, List, [], unwrap_or}
 use Rattle.c_lex.specs.declared.punct.Punct.{Punct}
 use Rattle.c_lex.specs.declared.punct.Punct.TheVariants.{Semicolon}
-use Rattle.c_lex.specs.declared.token.Token.{Token}
 use Rattle.c_lex.specs.declared.token.TokenKind.{TokenKind}
 use Rattle.c_lex.specs.declared.token.TokenKind.TheVariants as kind
 use Rattle.c_scope.specs.Scopes.{Name}
 use Rattle.c_ast.specs.Productions as l
-use Rattle.c_ast.specs.Tree.{Tree, Leaf, Node, Nil, Cons}
+use Rattle.c_ast.specs.Tree.{Tree, Leaf, Node, Cons}
 use Rattle.c_ast.specs.Spelling.{start_of}
 
 -- where a token stands

@@ -1,6 +1,6 @@
 -- The limits of programs: a quantity above its limit is told with its count, at the offset of what passes the limit.
-use Rattle.std.specs.Prelude.{ℕ, ◌+◌, nat_lt, Bool, if◌then◌else◌, List, [], ◌∷◌, map, length, Option, None, Some, option_map, slice_get}
-use Rattle.std.specs.List.{sum, find, filter}
+use Rattle.std.specs.Prelude.{ℕ, ◌+◌, nat_lt, if◌then◌else◌, List, [], ◌∷◌, map, length, Option, None, Some, option_map, slice_get}
+use Rattle.std.specs.List.{sum}
 use Rattle.std.specs.Option.{option_or}
 use Rattle.limits.specs.Limits.{most_functions, most_parameters, most_object_bytes, most_global_bytes, counted_bytes}
 use Rattle.c_type.specs.Layout.{Definitions, size}

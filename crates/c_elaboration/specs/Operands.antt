@@ -1,5 +1,5 @@
 -- What expressions are made of: names, constants, calls, and what operators make of operands (ISO/IEC 9899:2011, 6.5).
-use Rattle.std.specs.Prelude.{ℕ, suc, ◌==◌, ◌&&◌, ◌||◌, not, nat_le, nat_lt, Bool, true, false, if◌then◌else◌, List, [], ◌∷◌, ◌++◌, length, Option, None, Some, option_map, option_and_then, is_some, slice_get}
+use Rattle.std.specs.Prelude.{ℕ, suc, Bool, true, false, if◌then◌else◌, List, [], ◌∷◌, ◌++◌, length, Option, None, Some, option_map, option_and_then}
 use Rattle.c_lex.specs.declared.punct.Punct.{Punct}
 use Rattle.c_lex.specs.declared.punct.Punct.TheVariants as mark
 use Rattle.c_lex.specs.declared.token.TokenKind.{TokenKind}
@@ -13,13 +13,13 @@ use Rattle.c_typed.specs.WellTyped.{int, if_unsigned, type_of}
 use Rattle.c_static.specs.declared.operand.Operand.{Operand}
 use Rattle.c_static.specs.declared.operand.Operand.TheVariants.{Place, Value}
 use Rattle.c_static.specs.Constants.{constant_value}
-use Rattle.c_static.specs.Operands.{operand_type, value_of, is_assignable}
+use Rattle.c_static.specs.Operands.{value_of, is_assignable}
 use Rattle.c_static.specs.Operators.{binary_typed, unary_typed, conditional_typed, index_typed, selected_tag, member_typed, cast_typed, size_typed}
 use Rattle.c_static.specs.Assignments.{assigned_typed, step_typed}
 use Rattle.c_scope.specs.Scopes.{Name}
 use Rattle.c_scope.specs.Members.{member_number}
-use Rattle.c_elaboration.specs.Refusals.{Unknown, NotAssignable, BadOperands, BadCall, NotConstant, BadType}
-use Rattle.c_elaboration.specs.State.{Meaning, variable_at, global_numbered, function_numbered, MaybeType, Elaborated, ◌>>=◌, ◌>>◌, pure, state, breaks, breaks_if, broken_at, or_broken, if_some, meaning_of, variable_type, change_variable, global_type, add_global}
+use Rattle.c_elaboration.specs.Refusals.{Unknown, NotAssignable, BadOperands, BadCall}
+use Rattle.c_elaboration.specs.State.{Meaning, variable_at, global_numbered, function_numbered, MaybeType, Elaborated, ◌>>=◌, ◌>>◌, pure, state, broken_at, or_broken, if_some, meaning_of, variable_type, change_variable, global_type, add_global}
 
 -- what an expression is, unless a rule is broken within it
 abbrev pub Term : Type 0

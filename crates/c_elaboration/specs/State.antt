@@ -1,5 +1,5 @@
 -- What is known at a point of a program, and the steps that go on from it.
-use Rattle.std.specs.Prelude.{ℕ, Bool, true, false, List, [], ◌∷◌, ◌++◌, length, slice_get, slice_set, Option, None, Some, is_some, unwrap_or, option_and_then, if◌then◌else◌}
+use Rattle.std.specs.Prelude.{ℕ, Bool, false, List, [], ◌∷◌, ◌++◌, length, slice_get, slice_set, Option, None, Some, is_some, unwrap_or, option_and_then, if◌then◌else◌}
 use Rattle.c_type.specs.Trees.{TypeTree}
 use Rattle.c_type.specs.Layout.{Definitions}
 use Rattle.c_typed.specs.Typed.{WrittenTree, FunctionTree}

@@ -2,9 +2,8 @@
 use Rattle.std.specs.Prelude.{ℕ, ◌==◌, Bool, true, false, if◌then◌else◌, List, [], ◌∷◌, ◌++◌, Option, None, Some, option_and_then}
 use Rattle.std.specs.List.{list_any}
 use Rattle.c_ast.specs.Productions as l
-use Rattle.c_ast.specs.Tree.{Tree, Leaf, Node, Nil, Cons}
-use Rattle.c_type.specs.declared.scalar.Scalar.{Scalar}
-use Rattle.c_type.specs.Trees.{TypeTree, void_type, scalar_type}
+use Rattle.c_ast.specs.Tree.{Tree, Node, Cons}
+use Rattle.c_type.specs.Trees.{TypeTree, scalar_type}
 use Rattle.c_typed.specs.Typed as typed
 use Rattle.c_typed.specs.Typed.{ExprTree, OptionalExpr, no_expr, some_expr, StmtTree, ItemTrees, no_items, stmt_then, GroupTrees, no_groups, group_then}
 use Rattle.c_typed.specs.WellTyped.{type_of}
