@@ -5,7 +5,7 @@ use Rattle.limits.specs.Limits.{most_type_bytes}
 use Rattle.c_type.specs.Trees.{TypeTree, void_type, pointer_to, array_of, struct_type}
 use Rattle.c_type.specs.Layout.{Definitions, is_complete, size}
 use Rattle.c_elaboration.specs.Refusals.{Unknown, BadType}
-use Rattle.c_elaboration.specs.State.{MaybeType, Elaborated, ◌>>=◌, ◌>>◌, pure, state, breaks_if, broken_at, if_some}
+use Rattle.c_elaboration.specs.State.{MaybeType, Elaborated, ◌>>=◌, pure, state, broken_at, if_some}
 use Rattle.c_elaboration.specs.Specifiers.{Specified}
 
 -- the size of a dimension, unless it breaks a rule
@@ -79,6 +79,10 @@ small_type offset t = do
   s ← state
   type_if (is_large s.structs (with_elements t)) offset t
 
+-- a type, unless a dimension is left empty where none may be
+abbrev pub unless_empty : (wrong : Bool) → (offset : ℕ) → MaybeType → Elaborated MaybeType
+unless_empty wrong offset t = if wrong then broken_at BadType offset else pure t
+
 -- ---- the type before the name and its stars
 
 -- A tag stands alone only where it is declared.
@@ -111,8 +115,8 @@ object_type may_be_empty offset x stars ds = do
   s ← state
   u ← starred x stars offset
   t ← if_some u (λ t. type_if (not (is_object_of s.structs t)) offset t)
-  breaks_if (other_is_empty ds || (first_is_empty ds && not may_be_empty)) BadType offset
-  if_some (arrays_of t (sizes_of ds)) (small_type offset)
+  v ← if_some (arrays_of t (sizes_of ds)) (small_type offset)
+  unless_empty (other_is_empty ds || (first_is_empty ds && not may_be_empty)) offset v
 
 -- ---- parameters: an array is a pointer to its elements
 
@@ -129,22 +133,23 @@ abbrev pub elements_specified : Specified → List Dimension → Specified
 elements_specified x [] = x
 elements_specified x (d ∷ ds) = record { type = x.type; undeclared = None }
 
-abbrev pub pointer_by : MaybeSize → TypeTree → MaybeType
-pointer_by n t = option_map (λ m. pointer_to t) n
+-- the type of the elements, where all dimensions are known
+abbrev pub elements_type : MaybeType → MaybeSize → List Dimension → MaybeType
+elements_type t n ds = option_and_then (λ m. arrays_of t (sizes_of ds)) n
 
 abbrev pub adjusted : (offset : ℕ) → MaybeType → List Dimension → Elaborated MaybeType
 adjusted offset t [] = pure t
 adjusted offset t (d ∷ ds) = do
-  u ← if_some (arrays_of t (sizes_of ds)) (small_type offset)
-  pure (option_and_then (pointer_by (size_of_dimension d)) u)
+  u ← if_some (elements_type t (size_of_dimension d) ds) (small_type offset)
+  pure (option_map pointer_to u)
 
 abbrev pub param_type : (offset : ℕ) → Specified → (stars : ℕ) → List Dimension → Elaborated MaybeType
 param_type offset x stars ds = do
   s ← state
   u ← starred (elements_specified x ds) stars offset
   t ← if_some u (λ t. type_if (not (is_param_of s.structs t ds)) offset t)
-  breaks_if (other_is_empty ds) BadType offset
-  adjusted offset t ds
+  v ← adjusted offset t ds
+  unless_empty (other_is_empty ds) offset v
 
 -- ---- results of functions
 

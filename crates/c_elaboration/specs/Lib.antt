@@ -12,3 +12,4 @@ pub mod Statements
 pub mod Externals
 pub mod Limits
 pub mod Check
+pub mod CheckLaws

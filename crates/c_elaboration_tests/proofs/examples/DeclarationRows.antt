@@ -67,6 +67,10 @@ large_elements-row : Tells BadType (codes "int f(int ") (codes "a[][1048576]);")
 unfolding refusal_of
 large_elements-row = refl
 
+unknown_first_dimension-row : Tells Unknown (codes "int f(int a[") (codes "y][1048576]);")
+unfolding refusal_of
+unknown_first_dimension-row = refl
+
 large_struct-row : Tells BadType (codes "struct ") (codes "S { char a[1048576]; char b; };")
 unfolding refusal_of
 large_struct-row = refl

@@ -17,6 +17,10 @@ typeless_condition-row : Tells BadType (codes "int g(void) { for (void ") (codes
 unfolding refusal_of
 typeless_condition-row = refl
 
+condition_of_no_type-row : Tells BadType (codes "struct s { int a; }; int g(void) { for (struct s ") (codes "a[]; *a; ) ; return 1; }")
+unfolding refusal_of
+condition_of_no_type-row = refl
+
 do_condition-row : Tells BadOperands (codes "struct s { int a; }; int g(struct s *p) { do ; ") (codes "while (*p); return 1; }")
 unfolding refusal_of
 do_condition-row = refl
