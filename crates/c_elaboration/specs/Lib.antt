@@ -1,0 +1,15 @@
+pub mod Refusals
+pub mod State
+pub mod Leaves
+pub mod Specifiers
+pub mod DeclaredTypes
+pub mod Operands
+pub mod Calls
+pub mod Expressions
+pub mod Initialisers
+pub mod Declarators
+pub mod Statements
+pub mod Externals
+pub mod Limits
+pub mod Check
+pub mod CheckLaws

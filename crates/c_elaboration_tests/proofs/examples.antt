@@ -1,0 +1,6 @@
+mod Source
+mod NameRows
+mod ExpressionRows
+mod DeclarationRows
+mod StatementRows
+mod LimitRows
