@@ -1,0 +1,77 @@
+-- What functions and globals must meet so that they can be laid out.
+use Rattle.std.specs.Prelude.{ℕ, ◌+◌, ◌^◌, ◌==◌, ◌≤◌, nat_lt, nat_le, Bool, true, ◌&&◌, ◌||◌, IsTrue, List, [], ◌∷◌, length}
+use Rattle.elf_file.specs.Image.{stack_size}
+use Rattle.g_graph.specs.declared.link.Link.{Link}
+use Rattle.g_graph.specs.Plain.{PlainDelta}
+use Rattle.g_graph.specs.WellFormed.{all_of}
+use Rattle.rv_layout.specs.declared.item.Item.{Item}
+use Rattle.rv_layout.specs.declared.item.Item.TheVariants.{Jump, Call, Stub, Address}
+use Rattle.rv_layout.specs.Items.{items_size, marks}
+use Rattle.rv_layout.specs.Layout.{stack_at}
+
+-- a label that is jumped to is marked once among these items
+abbrev pub is_marked_once : List Item → Item → Bool
+is_marked_once items (Jump l) = marks l items == 1
+is_marked_once items _ = true
+
+abbrev pub labels_are_marked : List Item → Bool
+labels_are_marked items = all_of (is_marked_once items) items
+
+-- so short that a jump reaches from everywhere to everywhere: 21 bits, signed
+abbrev pub is_within_reach : List Item → Bool
+is_within_reach items = nat_lt (items_size items) (2 ^ 20)
+
+-- a called function is one of so many
+abbrev pub has_callee : (functions : ℕ) → Item → Bool
+has_callee functions (Call f) = nat_lt f functions
+has_callee functions _ = true
+
+-- a named global is one of so many
+abbrev pub has_global : (globals : ℕ) → Item → Bool
+has_global globals (Address r k) = nat_lt k globals
+has_global globals _ = true
+
+-- a stub is one of the two
+abbrev pub has_stub : Item → Bool
+has_stub (Stub s) = nat_lt s 2
+has_stub _ = true
+
+-- the register of an address is below 32
+abbrev pub has_register : Item → Bool
+has_register (Address r k) = nat_lt r 32
+has_register _ = true
+
+-- a link's global is one of so many
+abbrev pub link_has_global : (globals : ℕ) → Link → Bool
+link_has_global globals link = nat_lt link.delta globals
+
+-- a link's four bytes are among so many
+abbrev pub link_is_within : (size : ℕ) → Link → Bool
+link_is_within size link = nat_le (link.at + 4) size
+
+-- the four bytes of two links have none in common
+abbrev pub are_apart : Link → Link → Bool
+are_apart l m = nat_le (l.at + 4) m.at || nat_le (m.at + 4) l.at
+
+abbrev pub links_are_apart : List Link → Bool
+links_are_apart [] = true
+links_are_apart (l ∷ ls) = all_of (are_apart l) ls && links_are_apart ls
+
+-- the items of a function, of so many functions and globals
+pub record FunctionFits (functions globals : ℕ) (items : List Item) : Type 0 where
+  pub labels : IsTrue (labels_are_marked items)
+  pub reach : IsTrue (is_within_reach items)
+  pub callees : IsTrue (all_of (has_callee functions) items)
+  pub named : IsTrue (all_of (has_global globals) items)
+  pub stubs : IsTrue (all_of has_stub items)
+  pub registers : IsTrue (all_of has_register items)
+
+-- a global, of so many
+pub record GlobalFits (globals : ℕ) (d : PlainDelta) : Type 0 where
+  pub named : IsTrue (all_of (link_has_global globals) d.links)
+  pub within : IsTrue (all_of (link_is_within (length d.bytes)) d.links)
+  pub apart : IsTrue (links_are_apart d.links)
+
+-- every address of a program, up to the end of its stack, is below 2^32
+abbrev pub FitsMemory : List (List Item) → List PlainDelta → Type 0
+FitsMemory fs ds = stack_at fs ds + stack_size ≤ 2 ^ 32

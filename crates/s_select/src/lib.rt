@@ -1,0 +1,2 @@
+//! Selection: the items of a function, by one template for each line of its linear code.
+#![tactic(auto)]
