@@ -33,7 +33,7 @@ globals =
 
 program-addresses :
     addresses_of (items ∷ items ∷ []) globals
-    ≡ record { functions = 0x10074 ∷ 0x10098 ∷ []; globals = 0x11000 ∷ 0x12008 ∷ []; fixed = 0x11000; data_ = 0x12000; stack = 0x13000 }
+    ≡ record { functions = 0x10074 ∷ 0x10098 ∷ []; globals = 0x11000 ∷ 0x12008 ∷ []; fixed_at = 0x11000; data_at = 0x12000; stack_at = 0x13000 }
 program-addresses = refl
 
 second-code :

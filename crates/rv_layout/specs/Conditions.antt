@@ -1,5 +1,5 @@
 -- What functions and globals must meet so that they can be laid out.
-use Rattle.std.specs.Prelude.{ℕ, ◌+◌, ◌^◌, ◌==◌, ◌≤◌, nat_lt, nat_le, Bool, true, ◌&&◌, ◌||◌, IsTrue, List, [], ◌∷◌, length}
+use Rattle.std.specs.Prelude.{◌≡◌, ℕ, ◌+◌, ◌%◌, ◌^◌, ◌==◌, ◌<◌, ◌≤◌, nat_lt, nat_le, Bool, true, ◌&&◌, ◌||◌, IsTrue, List, [], ◌∷◌, length, Option, unwrap_or}
 use Rattle.elf_file.specs.Image.{stack_size}
 use Rattle.g_graph.specs.declared.link.Link.{Link}
 use Rattle.g_graph.specs.Plain.{PlainDelta}
@@ -7,7 +7,7 @@ use Rattle.g_graph.specs.WellFormed.{all_of}
 use Rattle.rv_layout.specs.declared.item.Item.{Item}
 use Rattle.rv_layout.specs.declared.item.Item.TheVariants.{Jump, Call, Stub, Address}
 use Rattle.rv_layout.specs.Items.{items_size, marks}
-use Rattle.rv_layout.specs.Layout.{stack_at}
+use Rattle.rv_layout.specs.Layout.{stack_address}
 
 -- a label that is jumped to is marked once among these items
 abbrev pub is_marked_once : List Item → Item → Bool
@@ -41,6 +41,18 @@ abbrev pub has_register : Item → Bool
 has_register (Address r k) = nat_lt r 32
 has_register _ = true
 
+-- a label's address is so near that a jump reaches it, and both are multiples of 4
+pub record IsNear (from to : ℕ) : Type 0 where
+  pub back : from < to + 2 ^ 20
+  pub forth : to < from + 2 ^ 20
+  pub from_aligned : from % 4 ≡ 0
+  pub to_aligned : to % 4 ≡ 0
+
+-- a jump at an address reaches its label
+abbrev pub Reaches : (labels : ℕ → Option ℕ) → (at : ℕ) → Item → Type 0
+Reaches labels at (Jump l) = IsNear at (unwrap_or (labels l) 0)
+Reaches labels at _ = Unit {0}
+
 -- a link's global is one of so many
 abbrev pub link_has_global : (globals : ℕ) → Link → Bool
 link_has_global globals link = nat_lt link.delta globals
@@ -57,21 +69,27 @@ abbrev pub links_are_apart : List Link → Bool
 links_are_apart [] = true
 links_are_apart (l ∷ ls) = all_of (are_apart l) ls && links_are_apart ls
 
+-- ---- all of them
+
+abbrev pub item_fits : (functions globals : ℕ) → Item → Bool
+item_fits functions globals i = has_callee functions i && has_global globals i && has_stub i && has_register i
+
 -- the items of a function, of so many functions and globals
-pub record FunctionFits (functions globals : ℕ) (items : List Item) : Type 0 where
-  pub labels : IsTrue (labels_are_marked items)
-  pub reach : IsTrue (is_within_reach items)
-  pub callees : IsTrue (all_of (has_callee functions) items)
-  pub named : IsTrue (all_of (has_global globals) items)
-  pub stubs : IsTrue (all_of has_stub items)
-  pub registers : IsTrue (all_of has_register items)
+abbrev pub function_fits : (functions globals : ℕ) → List Item → Bool
+function_fits functions globals items = labels_are_marked items && is_within_reach items && all_of (item_fits functions globals) items
 
 -- a global, of so many
-pub record GlobalFits (globals : ℕ) (d : PlainDelta) : Type 0 where
-  pub named : IsTrue (all_of (link_has_global globals) d.links)
-  pub within : IsTrue (all_of (link_is_within (length d.bytes)) d.links)
-  pub apart : IsTrue (links_are_apart d.links)
+abbrev pub global_fits : (globals : ℕ) → PlainDelta → Bool
+global_fits globals d =
+    all_of (link_has_global globals) d.links && all_of (link_is_within (length d.bytes)) d.links && links_are_apart d.links
 
 -- every address of a program, up to the end of its stack, is below 2^32
 abbrev pub FitsMemory : List (List Item) → List PlainDelta → Type 0
-FitsMemory fs ds = stack_at fs ds + stack_size ≤ 2 ^ 32
+FitsMemory fs ds = stack_address fs ds + stack_size ≤ 2 ^ 32
+
+-- These functions and globals can be laid out, and the program begins with function `main`.
+pub record CanLayOut (functions : List (List Item)) (globals : List PlainDelta) (main : ℕ) : Type 0 where
+  pub functions_fit : IsTrue (all_of (function_fits (length functions) (length globals)) functions)
+  pub globals_fit : IsTrue (all_of (global_fits (length globals)) globals)
+  pub has_main : main < length functions
+  pub fits_memory : FitsMemory functions globals

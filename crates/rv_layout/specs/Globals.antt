@@ -1,5 +1,5 @@
 -- Globals in memory: where each stands, and its bytes with the addresses that its links name.
-use Rattle.std.specs.Prelude.{ℕ, ◌+◌, ◌-◌, ◌*◌, ◌/◌, not, if◌then◌else◌, List, [], ◌∷◌, ◌++◌, length, take, drop, replicate, filter, slice_index}
+use Rattle.std.specs.Prelude.{ℕ, ◌+◌, ◌-◌, ◌*◌, ◌/◌, Bool, not, if◌then◌else◌, List, [], ◌∷◌, ◌++◌, length, take, drop, replicate, filter, slice_index}
 use Rattle.elf_file.specs.Header.{word}
 use Rattle.g_graph.specs.declared.link.Link.{Link}
 use Rattle.g_graph.specs.Plain.{PlainDelta}
@@ -8,11 +8,13 @@ use Rattle.g_graph.specs.Plain.{PlainDelta}
 abbrev pub global_room : PlainDelta → ℕ
 global_room d = (length d.bytes + 3) / 4 * 4 + 4
 
-abbrev pub fixed_globals : List PlainDelta → List PlainDelta
-fixed_globals ds = filter (λ (d : PlainDelta). d.fixed) ds
+abbrev pub is_where : (fixed : Bool) → PlainDelta → Bool
+is_where fixed d = if fixed then d.fixed else not d.fixed
 
-abbrev pub other_globals : List PlainDelta → List PlainDelta
-other_globals ds = filter (λ (d : PlainDelta). not d.fixed) ds
+-- those that never change, or the others
+abbrev pub globals_where : (fixed : Bool) → List PlainDelta → List PlainDelta
+globals_where fixed [] = []
+globals_where fixed (d ∷ ds) = if is_where fixed d then d ∷ globals_where fixed ds else globals_where fixed ds
 
 -- the addresses of globals, the fixed ones from `fixed` on, and the others from `other` on
 abbrev pub globals_from : (fixed other : ℕ) → List PlainDelta → List ℕ

@@ -1,5 +1,6 @@
 -- Where the parts of a program stand, and the bytes of its sections.
-use Rattle.std.specs.Prelude.{ℕ, ◌+◌, ◌-◌, ◌*◌, ◌%◌, ◌^◌, ◌==◌, if◌then◌else◌, List, [], ◌∷◌, ◌++◌, replicate, sum_by, slice_index, Option, unwrap_or}
+use Rattle.std.specs.Prelude.{ℕ, ◌+◌, ◌-◌, ◌*◌, ◌%◌, ◌^◌, ◌==◌, if◌then◌else◌, true, false, List, [], ◌∷◌, ◌++◌, replicate, map, sum_by, slice_index, Option, unwrap_or}
+use Rattle.std.specs.declared.vec.Vec.{Vec}
 use Rattle.std.specs.List.{flat_map}
 use Rattle.elf_file.specs.Image.{Sections, text_at, next_page}
 use Rattle.rv_isa.specs.Registers.{x0}
@@ -10,7 +11,7 @@ use Rattle.rv_layout.specs.declared.item.Item.{Item}
 use Rattle.rv_layout.specs.declared.item.Item.TheVariants.{Word, Mark, Jump, Call, Stub, Address}
 use Rattle.rv_layout.specs.Sequences.{load_address, call, start_code, put_stub, get_stub, bytes_of}
 use Rattle.rv_layout.specs.Items.{item_size, items_size, label_at}
-use Rattle.rv_layout.specs.Globals.{global_room, fixed_globals, other_globals, globals_from, global_bytes}
+use Rattle.rv_layout.specs.Globals.{global_room, globals_where, globals_from, global_bytes}
 
 -- ---- addresses
 
@@ -33,32 +34,36 @@ abbrev pub functions_from : (at : ℕ) → List (List Item) → List ℕ
 functions_from at [] = []
 functions_from at (f ∷ fs) = at ∷ functions_from (at + items_size f) fs
 
+-- the items of each function
+abbrev pub item_lists : {A : Type 0} → List (Vec Item A) → List (List Item)
+item_lists fs = map (λ f. f.items) fs
+
 -- where everything stands
 pub record Addresses : Type 0 where
   pub functions : List ℕ
   pub globals : List ℕ
-  pub fixed : ℕ
-  pub data_ : ℕ
-  pub stack : ℕ
+  pub fixed_at : ℕ
+  pub data_at : ℕ
+  pub stack_at : ℕ
 
 -- The text, the fixed globals, the others and the stack each begin on a page of their own. The first word with the other
 -- globals is the stubs' buffer, and 4 zero bytes follow it.
-abbrev pub fixed_at : List (List Item) → ℕ
-fixed_at fs = next_page (functions_at + sum_by items_size fs)
+abbrev pub fixed_address : List (List Item) → ℕ
+fixed_address fs = next_page (functions_at + sum_by items_size fs)
 
-abbrev pub data_at : List (List Item) → List PlainDelta → ℕ
-data_at fs ds = next_page (fixed_at fs + sum_by global_room (fixed_globals ds))
+abbrev pub data_address : List (List Item) → List PlainDelta → ℕ
+data_address fs ds = next_page (fixed_address fs + sum_by global_room (globals_where true ds))
 
-abbrev pub stack_at : List (List Item) → List PlainDelta → ℕ
-stack_at fs ds = next_page (data_at fs ds + 8 + sum_by global_room (other_globals ds))
+abbrev pub stack_address : List (List Item) → List PlainDelta → ℕ
+stack_address fs ds = next_page (data_address fs ds + 8 + sum_by global_room (globals_where false ds))
 
 abbrev pub addresses_of : List (List Item) → List PlainDelta → Addresses
 addresses_of fs ds = record {
   functions = functions_from functions_at fs;
-  globals = globals_from (fixed_at fs) (data_at fs ds + 8) ds;
-  fixed = fixed_at fs;
-  data_ = data_at fs ds;
-  stack = stack_at fs ds;
+  globals = globals_from (fixed_address fs) (data_address fs ds + 8) ds;
+  fixed_at = fixed_address fs;
+  data_at = data_address fs ds;
+  stack_at = stack_address fs ds;
 }
 
 -- ---- text
@@ -89,18 +94,18 @@ functions_code a at (f ∷ fs) = function_code a at f ++ functions_code a (at + 
 
 abbrev pub text_of : Addresses → List (List Item) → (main : ℕ) → List Instr
 text_of a fs main =
-    start_code a.stack (slice_index a.functions main) ++ put_stub a.data_ ++ get_stub a.data_ ++ functions_code a functions_at fs
+    start_code a.stack_at (slice_index a.functions main) ++ put_stub a.data_at ++ get_stub a.data_at ++ functions_code a functions_at fs
 
 -- ---- sections
 
 abbrev pub sections_at : Addresses → List (List Item) → List PlainDelta → (main : ℕ) → Sections
 sections_at a fs ds main = record {
   text = bytes_of (text_of a fs main);
-  fixed = flat_map (global_bytes a.globals) (fixed_globals ds);
-  fixed_at = a.fixed;
-  globals = replicate 8 0 ++ flat_map (global_bytes a.globals) (other_globals ds);
-  data_at = a.data_;
-  stack_at = a.stack;
+  fixed = flat_map (global_bytes a.globals) (globals_where true ds);
+  fixed_at = a.fixed_at;
+  globals = replicate 8 0 ++ flat_map (global_bytes a.globals) (globals_where false ds);
+  data_at = a.data_at;
+  stack_at = a.stack_at;
 }
 
 -- the sections of a program: these functions, these globals, and the number of the function that it begins with

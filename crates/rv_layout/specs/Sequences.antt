@@ -64,5 +64,5 @@ get_stub buffer =
     ∷ read_answer
 
 -- each instruction as a word, little-endian
-abbrev pub bytes_of : List Instr → List ℕ
+unfoldable pub bytes_of : List Instr → List ℕ
 bytes_of code = flat_map (λ i. word (word_of i)) code
