@@ -1,5 +1,5 @@
 //! The bytes of globals, with the addresses that their links name.
-ghost use Rattle.std.specs.Prelude.{◌≡◌, ℕ, ◌+◌, ◌<◌, ◌≤◌, ◌^◌, ◌++◌, IsTrue, length, OnOk};
+ghost use Rattle.std.specs.Prelude.{◌≡◌, ℕ, ◌+◌, ◌<◌, ◌≤◌, ◌^◌, ◌++◌, IsTrue, length, sum_by, OnOk};
 ghost use Rattle.std.specs.List.{flat_map};
 ghost use Rattle.g_graph.specs.WellFormed.{all_of};
 ghost use Rattle.rv_layout.specs.Globals.{global_room, globals_where, with_word, with_links, global_bytes};
@@ -39,5 +39,25 @@ fn push_global(section: &mut Vec<u8>, global: &Delta, addresses: &[u32]) -> Resu
     section.extend_from_slice(&global.bytes)?;
     set_links(&mut section[start..], &global.links, addresses);
     section.resize(start + global_room(global) as usize, 0)?;
+    Ok(())
+}
+
+/// The fixed globals in memory, or the others.
+pub fn push_globals(
+    section: &mut Vec<u8>,
+    globals: &[Delta],
+    fixed: bool,
+    addresses: &[u32],
+) -> Result<(), AllocError>
+    requires fits { IsTrue (all_of (global_fits (length addresses.now)) globals.now) }
+    requires room { sum_by global_room (globals_where fixed globals.now) < 2 ^ 32 }
+    ensures { OnOk result (section.new.items
+        ≡ section.old.items ++ flat_map (global_bytes addresses.now) (globals_where fixed globals.now)) }
+{
+    for global in globals {
+        if global.fixed == fixed {
+            push_global(section, global, addresses)?;
+        }
+    }
     Ok(())
 }
