@@ -1,6 +1,6 @@
 -- Lemmas on the code of items and on the addresses of labels.
-use Rattle.std.proofs.Common.{◌≡◌, ℕ, ◌+◌, ◌%◌, ◌^◌, ◌==◌, ◌<◌, ◌≤◌, refl, sym, ◌∙◌, ap, subst, true, false, List, [], ◌∷◌, ◌++◌, if◌then◌else◌, Option, None, Some, unwrap_or, append_assoc, append-nil, arith}
-use Rattle.std.proofs.lemmas.Grind.{flat_map-append, common_steps}
+use Rattle.std.proofs.Common.{◌≡◌, ℕ, ◌+◌, ◌%◌, ◌^◌, ◌==◌, ◌<◌, ◌≤◌, refl, sym, ◌∙◌, ap, subst, true, false, List, [], ◌∷◌, ◌++◌, if◌then◌else◌, Option, Some, unwrap_or, append_assoc, append-nil, arith}
+use Rattle.std.proofs.lemmas.Grind.{flat_map-append}
 use Rattle.std.proofs.lemmas.Bool.{and_parts, ltb-true}
 use Rattle.std.proofs.lemmas.Bool.Decides.{nat_tests}
 use Rattle.std.specs.Prelude.{Bool, IsTrue, ◌&&◌}
@@ -13,8 +13,8 @@ use Rattle.rv_layout.specs.declared.item.Item.{Item}
 use Rattle.rv_layout.specs.declared.item.Item.TheVariants.{Word, Mark, Jump, Call, Stub, Address}
 use Rattle.rv_layout.specs.Sequences.{bytes_of}
 use Rattle.rv_layout.specs.Items.{item_size, items_size, marks, label_at}
-use Rattle.rv_layout.specs.Layout.{Addresses, item_code, items_code}
-use Rattle.rv_layout.specs.Conditions.{is_marked_once, labels_are_marked, is_within_reach, item_fits, function_fits, IsNear, Reaches}
+use Rattle.rv_layout.specs.Layout.{Addresses, item_code, items_code, function_code, functions_code}
+use Rattle.rv_layout.specs.Conditions.{is_marked_once, labels_are_marked, is_within_reach, item_fits, function_fits, Reaches}
 
 pub bytes_of-append : (xs ys : List Instr) → bytes_of (xs ++ ys) ≡ bytes_of xs ++ bytes_of ys
 unfolding bytes_of
@@ -47,8 +47,8 @@ pub label_within : (l at : ℕ) (is : List Item) → 1 ≤ marks l is → IsWith
 label_within l at [] h = absurd (omega arith)
 label_within l at (Mark n ∷ is) h =
     elim (n == l) as (λ b. 1 ≤ (if b then 1 else 0) + marks l is → IsWithin at (items_size (Mark n ∷ is)) (unwrap_or (if b then Some at else label_at l at is) 0)) [
-      true ↦ λ _. record { from = omega arith; to = omega arith; aligned = refl }
-    | false ↦ λ k. within_whole at (items_size is) _ _ (sum_by-cons item_size (Mark n) is) (label_within l at is (omega arith))
+      | true ↦ λ _. record { from = omega arith; to = omega arith; aligned = refl }
+      | false ↦ λ k. within_whole at (items_size is) _ _ (sum_by-cons item_size (Mark n) is) (label_within l at is (omega arith))
     ] h
 label_within l at (Word i ∷ is) h = within_later 4 at (items_size is) _ _ (sum_by-cons item_size (Word i) is) refl (label_within l (at + 4) is h)
 label_within l at (Jump k ∷ is) h = within_later 4 at (items_size is) _ _ (sum_by-cons item_size (Jump k) is) refl (label_within l (at + 4) is h)
@@ -115,3 +115,30 @@ item_size-aligned (Jump l) = refl
 item_size-aligned (Call f) = refl
 item_size-aligned (Stub s) = refl
 item_size-aligned (Address r k) = refl
+
+pub items_size-aligned : (is : List Item) → items_size is % 4 ≡ 0
+items_size-aligned [] = refl
+items_size-aligned (i ∷ is) =
+    let sum : items_size (i ∷ is) ≡ item_size i + items_size is = sum_by-cons item_size i is in
+    omega (arith, item_size-aligned i, items_size-aligned is)
+
+-- one function more of a text
+pub functions_step : (a : Addresses) (at : ℕ) (f : List Item) (rest all : List (List Item)) (next : ℕ) (t t' whole : List ℕ)
+    → all ≡ f ∷ rest → next ≡ at + items_size f → t ++ bytes_of (functions_code a at all) ≡ whole → t' ≡ t ++ bytes_of (function_code a at f)
+    → t' ++ bytes_of (functions_code a next rest) ≡ whole
+functions_step a at f rest all next t t' whole first sum before pushed =
+    let code = function_code a at f in
+    let later = functions_code a (at + items_size f) rest in
+    ap (λ n. t' ++ bytes_of (functions_code a n rest)) sum
+    ∙ ap (λ z. z ++ bytes_of later) pushed
+    ∙ append_assoc t (bytes_of code) (bytes_of later)
+    ∙ ap (λ z. t ++ z) (sym (bytes_of-append code later))
+    ∙ ap (λ y. t ++ bytes_of (functions_code a at y)) (sym first)
+    ∙ before
+
+-- and at the end of the functions
+pub functions_end : (a : Addresses) (at : ℕ) (rest : List (List Item)) (t whole : List ℕ)
+    → rest ≡ [] → t ++ bytes_of (functions_code a at rest) ≡ whole → t ≡ whole
+unfolding bytes_of
+functions_end a at rest t whole none all =
+    sym (append-nil t) ∙ ap (λ fs. t ++ bytes_of (functions_code a at fs)) (sym none) ∙ all

@@ -1,2 +1,3 @@
 mod Examples
 mod ItemLemmas
+mod LayoutLemmas

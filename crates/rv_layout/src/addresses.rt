@@ -93,7 +93,12 @@ fn room_of(globals: &[Delta], fixed: bool) -> u32
 }
 
 /// Where the globals stand, the fixed ones from `fixed` on, the others from `other` on.
-fn global_addresses(alloc: Global, globals: &[Delta], fixed: u32, other: u32) -> Result<Vec<u32>, NoMemory>
+fn global_addresses(
+    alloc: Global,
+    globals: &[Delta],
+    fixed: u32,
+    other: u32,
+) -> Result<Vec<u32>, NoMemory>
     requires fixed_end { fixed + sum_by global_room (globals_where true globals.now) < 2 ^ 32 }
     requires other_end { other + sum_by global_room (globals_where false globals.now) < 2 ^ 32 }
     ensures { IfOk result (λ all. all.items ≡ globals_from fixed other globals.now) }
@@ -113,7 +118,11 @@ fn global_addresses(alloc: Global, globals: &[Delta], fixed: u32, other: u32) ->
 }
 
 /// Where everything stands. It takes time linear in the items and globals.
-pub fn addresses_of(alloc: Global, functions: &[Vec<Item>], globals: &[Delta]) -> Result<Addresses, NoMemory>
+pub fn addresses_of(
+    alloc: Global,
+    functions: &[Vec<Item>],
+    globals: &[Delta],
+) -> Result<Addresses, NoMemory>
     requires { FitsMemory (item_lists functions.now) globals.now }
     ensures { IfOk result (λ a. a ≡ addresses_of (item_lists functions.now) globals.now) }
 {

@@ -1,4 +1,6 @@
-//! The layout of a program: items of functions, and the image that they make with globals.
+//! The layout of a program: items of functions, and the image that they make with globals. It
+//! stands on g_graph, rv_isa and elf_file.
+//! Promise: `lay` gives exactly the sections that specs/Layout.antt defines.
 #![tactic(auto)]
 
 mod addresses;
@@ -6,7 +8,9 @@ mod globals;
 mod item;
 mod items;
 mod labels;
+mod layout;
 pub mod sequences;
 mod sizes;
 
 pub use item::Item;
+pub use layout::lay;

@@ -7,7 +7,7 @@ abbrev pub invariant-loop-global : goal.invariant-loop-global
 invariant-loop-global l = record {
   addresses : l.all.items ++ globals_from l.fixed l.other (drop l.global-index l.globals) ≡ globals_from l.fn.fixed l.fn.other l.globals;
   fixed_end :
-    l.fixed + sum_by global_room (globals_where true (drop l.global-index l.globals)) ≡ l.fn.fixed + sum_by global_room (globals_where true l.globals);
+      l.fixed + sum_by global_room (globals_where true (drop l.global-index l.globals)) ≡ l.fn.fixed + sum_by global_room (globals_where true l.globals);
   other_end :
-    l.other + sum_by global_room (globals_where false (drop l.global-index l.globals)) ≡ l.fn.other + sum_by global_room (globals_where false l.globals);
+      l.other + sum_by global_room (globals_where false (drop l.global-index l.globals)) ≡ l.fn.other + sum_by global_room (globals_where false l.globals);
 }

@@ -9,8 +9,8 @@ use Rattle.rv_layout.proofs.globals.push_globals.Given as goal
 abbrev pub invariant-loop-global : goal.invariant-loop-global
 invariant-loop-global l = record {
   bytes :
-    l.section.items ++ flat_map (global_bytes l.addresses) (globals_where l.fixed (drop l.global-index l.globals))
-    ≡ l.fn.section.items ++ flat_map (global_bytes l.addresses) (globals_where l.fixed l.globals);
+      l.section.items ++ flat_map (global_bytes l.addresses) (globals_where l.fixed (drop l.global-index l.globals))
+      ≡ l.fn.section.items ++ flat_map (global_bytes l.addresses) (globals_where l.fixed l.globals);
   room : sum_by global_room (globals_where l.fixed (drop l.global-index l.globals)) < 2 ^ 32;
   fits : IsTrue (all_of (global_fits (length l.addresses)) (drop l.global-index l.globals));
 }

@@ -10,8 +10,8 @@ use Rattle.rv_layout.proofs.items.push_items.Given as goal
 abbrev pub invariant-loop-item : goal.invariant-loop-item
 invariant-loop-item l = record {
   text :
-    l.text.items ++ bytes_of (items_code l.addresses (λ q. label_at q l.at l.items) l.here (drop l.item-index l.items))
-    ≡ l.fn.text.items ++ bytes_of (function_code l.addresses l.at l.items);
+      l.text.items ++ bytes_of (items_code l.addresses (λ q. label_at q l.at l.items) l.here (drop l.item-index l.items))
+      ≡ l.fn.text.items ++ bytes_of (function_code l.addresses l.at l.items);
   end : l.here + items_size (drop l.item-index l.items) ≡ l.at + items_size l.items;
   started : l.at ≤ l.here;
   aligned : l.here % 4 ≡ 0;
