@@ -9,8 +9,9 @@ mod item;
 mod items;
 mod labels;
 mod layout;
-pub mod sequences;
+mod sequences;
 mod sizes;
 
 pub use item::Item;
 pub use layout::lay;
+pub use sequences::load_address;

@@ -11,19 +11,20 @@ use Rattle.s_linear.specs.Linear.{const, global_address, load, call}
 use Rattle.s_linear.specs.Lines.{enter, leave, done}
 use Rattle.rv_layout.specs.declared.item.Item.{Item}
 use Rattle.rv_layout.specs.Items.{items_size}
+use Rattle.rv_layout.specs.Sequences.{bytes_of}
 use Rattle.rv_layout.specs.Layout.{laid_out}
-use Rattle.s_select.specs.Operands.{t2, get, location}
+use Rattle.s_select.specs.Operands.{t2, get, location_of}
 use Rattle.s_select.specs.Templates.{instr_items, items_of}
 
 -- ---- operands
 
-first-word : get t0 (location 11) ≡ Lw t0 sp 0 ∷ []
+first-word : get t0 (location_of 11) ≡ Lw t0 sp 0 ∷ []
 first-word = refl
 
-last-near-word : get t0 (location 522) ≡ Lw t0 sp 2044 ∷ []
+last-near-word : get t0 (location_of 522) ≡ Lw t0 sp 2044 ∷ []
 last-near-word = refl
 
-first-far-word : get t0 (location 523) ≡ Lui t2 1 ∷ Add t2 t2 sp ∷ Lw t0 t2 (2 ^ 32 - 2048) ∷ []
+first-far-word : get t0 (location_of 523) ≡ Lui t2 1 ∷ Add t2 t2 sp ∷ Lw t0 t2 (2 ^ 32 - 2048) ∷ []
 first-far-word = refl
 
 -- a call whose eight arguments and value are in far words
@@ -43,7 +44,7 @@ abbrev answer_sections : Sections
 answer_sections = laid_out (answer ∷ []) [] 0
 
 answer-file : length (file_of answer_sections) ≡ 8200
-unfolding file_of headers elf_header program_header
+unfolding file_of headers elf_header program_header bytes_of
 answer-file = refl
 
 -- return t[2];, where t is a fixed global of three words
@@ -57,7 +58,7 @@ abbrev third_sections : Sections
 third_sections = laid_out (third ∷ []) (table ∷ []) 0
 
 third-file : length (file_of third_sections) ≡ 12296
-unfolding file_of headers elf_header program_header
+unfolding file_of headers elf_header program_header bytes_of
 third-file = refl
 
 third-headers : length (program_headers third_sections) ≡ 3

@@ -15,14 +15,16 @@ use Rattle.s_linear.specs.Linear as linear
 use Rattle.s_linear.specs.Lines.{Line, enter, leave, done, branch_not_zero, branch_zero, branch_equal, jump, label}
 use Rattle.rv_layout.specs.declared.item.Item.{Item}
 use Rattle.rv_layout.specs.declared.item.Item.TheVariants.{Word, Mark, Jump, Call, Stub, Address}
-use Rattle.s_select.specs.Operands.{negative, place_register, Location, in_register, location, load_immediate, get, put, in_of, load_in, out_of, store_out}
+use Rattle.s_select.specs.declared.location.Location.{Location}
+use Rattle.s_select.specs.declared.location.Location.TheVariants.{Register}
+use Rattle.s_select.specs.Operands.{negative, place_register, location_of, load_immediate, get, put, in_of, load_in, out_of, store_out}
 
 abbrev pub words : List Instr → List Item
 words code = map Word code
 
 -- where the value of a name is
 abbrev pub place_of : PlainPlaces → (name : ℕ) → Location
-place_of places x = location (slice_index places.of x)
+place_of places x = location_of (slice_index places.of x)
 
 -- ---- the frame
 
@@ -70,24 +72,34 @@ abbrev pub get_arguments : PlainPlaces → (register : ℕ) → List ℕ → Lis
 get_arguments places r [] = []
 get_arguments places r (x ∷ xs) = get r (place_of places x) ++ get_arguments places (suc r) xs
 
+-- the instruction of an operation, and for a test of equality the difference
+abbrev pub binary_instr : Op2 → (rd left right : ℕ) → Instr
+binary_instr op.Add rd a b = rv.Add rd a b
+binary_instr op.Sub rd a b = rv.Sub rd a b
+binary_instr op.Mul rd a b = rv.Mul rd a b
+binary_instr op.Div rd a b = rv.Div rd a b
+binary_instr op.Rem rd a b = rv.Rem rd a b
+binary_instr op.Divu rd a b = rv.Divu rd a b
+binary_instr op.Remu rd a b = rv.Remu rd a b
+binary_instr op.And rd a b = rv.And rd a b
+binary_instr op.Or rd a b = rv.Or rd a b
+binary_instr op.Xor rd a b = rv.Xor rd a b
+binary_instr op.Sll rd a b = rv.Sll rd a b
+binary_instr op.Srl rd a b = rv.Srl rd a b
+binary_instr op.Sra rd a b = rv.Sra rd a b
+binary_instr op.Eq rd a b = rv.Sub rd a b
+binary_instr op.Ne rd a b = rv.Sub rd a b
+binary_instr op.Slt rd a b = rv.Slt rd a b
+binary_instr op.Sltu rd a b = rv.Sltu rd a b
+
+-- the test of the difference
+abbrev pub binary_rest : Op2 → (rd : ℕ) → List Instr
+binary_rest op.Eq rd = rv.Sltiu rd rd 1 ∷ []
+binary_rest op.Ne rd = rv.Sltu rd x0 rd ∷ []
+binary_rest _ rd = []
+
 abbrev pub binary_code : Op2 → (rd left right : ℕ) → List Instr
-binary_code op.Add rd a b = rv.Add rd a b ∷ []
-binary_code op.Sub rd a b = rv.Sub rd a b ∷ []
-binary_code op.Mul rd a b = rv.Mul rd a b ∷ []
-binary_code op.Div rd a b = rv.Div rd a b ∷ []
-binary_code op.Rem rd a b = rv.Rem rd a b ∷ []
-binary_code op.Divu rd a b = rv.Divu rd a b ∷ []
-binary_code op.Remu rd a b = rv.Remu rd a b ∷ []
-binary_code op.And rd a b = rv.And rd a b ∷ []
-binary_code op.Or rd a b = rv.Or rd a b ∷ []
-binary_code op.Xor rd a b = rv.Xor rd a b ∷ []
-binary_code op.Sll rd a b = rv.Sll rd a b ∷ []
-binary_code op.Srl rd a b = rv.Srl rd a b ∷ []
-binary_code op.Sra rd a b = rv.Sra rd a b ∷ []
-binary_code op.Eq rd a b = rv.Sub rd a b ∷ rv.Sltiu rd rd 1 ∷ []
-binary_code op.Ne rd a b = rv.Sub rd a b ∷ rv.Sltu rd x0 rd ∷ []
-binary_code op.Slt rd a b = rv.Slt rd a b ∷ []
-binary_code op.Sltu rd a b = rv.Sltu rd a b ∷ []
+binary_code o rd a b = binary_instr o rd a b ∷ binary_rest o rd
 
 abbrev pub unary_code : Op1 → (rd input : ℕ) → List Instr
 unary_code Sext8 rd a = rv.Slli rd a 24 ∷ rv.Srai rd rd 24 ∷ []
@@ -95,11 +107,11 @@ unary_code Zext8 rd a = rv.Andi rd a 255 ∷ []
 unary_code Sext16 rd a = rv.Slli rd a 16 ∷ rv.Srai rd rd 16 ∷ []
 unary_code Zext16 rd a = rv.Slli rd a 16 ∷ rv.Srli rd rd 16 ∷ []
 
-abbrev pub load_code : (width rd address : ℕ) → List Instr
-load_code width rd a = (if width == 1 then rv.Lbu rd a 0 else if width == 2 then rv.Lhu rd a 0 else rv.Lw rd a 0) ∷ []
+abbrev pub load_instr : (width rd address : ℕ) → Instr
+load_instr width rd a = if width == 1 then rv.Lbu rd a 0 else if width == 2 then rv.Lhu rd a 0 else rv.Lw rd a 0
 
-abbrev pub store_code : (width address value : ℕ) → List Instr
-store_code width a v = (if width == 1 then rv.Sb a v 0 else if width == 2 then rv.Sh a v 0 else rv.Sw a v 0) ∷ []
+abbrev pub store_instr : (width address value : ℕ) → Instr
+store_instr width a v = if width == 1 then rv.Sb a v 0 else if width == 2 then rv.Sh a v 0 else rv.Sw a v 0
 
 -- an instruction of two operands, of one, and of none, with its result to a location
 abbrev pub with_two : Location → Location → Location → (code : ℕ → ℕ → ℕ → List Instr) → List Instr
@@ -112,7 +124,7 @@ abbrev pub with_none : Location → (code : ℕ → List Instr) → List Instr
 with_none t code = code (out_of t) ++ store_out t
 
 abbrev pub move_code : (to from : Location) → List Instr
-move_code (in_register r) from = get r from
+move_code (Register r) from = get r from
 move_code to from = load_in t0 from ++ put to (in_of from t0)
 
 -- zeros in each word of an object at an offset from the stack pointer
@@ -139,9 +151,9 @@ instr_items p os (linear.object_address t k) =
 instr_items p os (linear.global_address t k) = Address (out_of (place_of p t)) k ∷ words (store_out (place_of p t))
 instr_items p os (linear.binary o t a b) = words (with_two (place_of p t) (place_of p a) (place_of p b) (binary_code o))
 instr_items p os (linear.unary o t a) = words (with_one (place_of p t) (place_of p a) (unary_code o))
-instr_items p os (linear.load width t a) = words (with_one (place_of p t) (place_of p a) (load_code width))
+instr_items p os (linear.load width t a) = words (with_one (place_of p t) (place_of p a) (λ rd r. load_instr width rd r ∷ []))
 instr_items p os (linear.store width a v) =
-    words (load_in t0 (place_of p a) ++ load_in t1 (place_of p v) ++ store_code width (in_of (place_of p a) t0) (in_of (place_of p v) t1))
+    words (load_in t0 (place_of p a) ++ load_in t1 (place_of p v) ++ store_instr width (in_of (place_of p a) t0) (in_of (place_of p v) t1) ∷ [])
 instr_items p os (linear.clear k) = words (clear_code (object_at p.count os k) (size_of os k))
 instr_items p os (linear.equal_pointers t a b) = words (with_two (place_of p t) (place_of p a) (place_of p b) (binary_code op.Eq))
 instr_items p os (linear.move t a) = words (move_code (place_of p t) (place_of p a))

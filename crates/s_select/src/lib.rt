@@ -1,2 +1,8 @@
 //! Selection: the items of a function, by one template for each line of its linear code.
 #![tactic(auto)]
+
+mod frames;
+mod instructions;
+mod location;
+mod operands;
+mod templates;
