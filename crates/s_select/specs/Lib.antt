@@ -1,3 +1,4 @@
 pub mod Operands
 pub mod Templates
 pub mod Conditions
+pub mod Objects

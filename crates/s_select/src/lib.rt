@@ -2,7 +2,9 @@
 #![tactic(auto)]
 
 mod frames;
+mod function;
 mod instructions;
 mod location;
+mod objects;
 mod operands;
 mod templates;
