@@ -38,7 +38,7 @@ impl Function<'_> {
     }
 
     /// The offset of an object from the stack pointer.
-    fn offset_of(&self, number: u32) -> u32
+    pub fn offset_of(&self, number: u32) -> u32
         requires { number < length self.now.objects.now }
         ensures { result ≡ object_at self.now.places.now.count self.now.objects.now number }
     {
@@ -46,7 +46,7 @@ impl Function<'_> {
     }
 
     /// The size of an object.
-    fn size_of(&self, number: u32) -> u32
+    pub fn size_of(&self, number: u32) -> u32
         requires { number < length self.now.objects.now }
         ensures size { result ≡ size_of self.now.objects.now number }
         ensures small { result + 3 < 2 ^ 32 }
@@ -71,7 +71,7 @@ impl Function<'_> {
     }
 
     /// The values of arguments into the argument registers.
-    fn push_arguments(&self, items: &mut Vec<Item>, arguments: &[u32]) -> Result<(), AllocError>
+    pub fn push_arguments(&self, items: &mut Vec<Item>, arguments: &[u32]) -> Result<(), AllocError>
         requires placed { IsTrue (all_of (has_place self.now.places.now) arguments.now) }
         requires few { length arguments.now ≤ 8 }
         ensures { OnOk result (items.new.items

@@ -7,4 +7,7 @@ mod instructions;
 mod location;
 mod objects;
 mod operands;
+mod selecting;
 mod templates;
+
+pub use selecting::select;
