@@ -1,8 +1,8 @@
 -- Lemmas on the offsets and sizes of memory objects.
-use Rattle.std.proofs.Common.{◌≡◌, ℕ, zero, suc, ◌+◌, ◌*◌, ◌/◌, ◌<◌, ◌≤◌, refl, ap, sym, ◌∙◌, List, [], ◌∷◌, length, slice_index, sum_by, take, arith}
+use Rattle.std.proofs.Common.{◌≡◌, ℕ, zero, suc, ◌+◌, ◌*◌, ◌/◌, ◌<◌, ◌≤◌, refl, ap, ◌∙◌, List, [], ◌∷◌, length, slice_index, sum_by, take, arith}
 use Rattle.std.proofs.lemmas.List.Sums.{sum_by-cons}
 use Rattle.g_graph.specs.Plain.{PlainObject}
-use Rattle.s_linear.specs.Frame.{object_room, object_at, objects_at}
+use Rattle.s_linear.specs.Frame.{object_room}
 use Rattle.s_select.specs.Objects.{offsets_from}
 use Rattle.s_select.specs.Templates.{size_of}
 

@@ -1,14 +1,14 @@
 //! The templates of a function, whose names have places.
 ghost use Rattle.std.specs.Prelude.{◌≡◌, ◌++◌, ◌+◌, ◌<◌, ◌≤◌, ◌^◌, IsTrue, length, OnOk};
 ghost use Rattle.g_graph.specs.WellFormed.{all_of};
-ghost use Rattle.s_linear.specs.Frame.{frame_size, object_at, objects_at};
+ghost use Rattle.s_linear.specs.Frame.{frame_size, object_at, objects_at, saved_of};
 ghost use Rattle.s_linear.specs.Lines.{instr_names};
 ghost use Rattle.s_linear.specs.Views.{instr_of};
 ghost use Rattle.s_select.specs.Objects.{offsets_from};
 ghost use Rattle.s_select.specs.Templates.{get_arguments, place_of, put_params, size_of, words, instr_items};
 ghost use Rattle.s_select.specs.Conditions.{has_few_arguments, has_its_object, has_place};
 
-use crate::location::{Location, location_of};
+use crate::location::{Location, REGISTERS, location_of};
 use crate::operands::{push_get, push_put};
 use g_graph::Object;
 use rv_isa::Reg;
@@ -35,6 +35,15 @@ impl Function<'_> {
     {
         let places = self.places;
         location_of(places.of[name as usize])
+    }
+
+    /// How many registers the function keeps for its caller.
+    pub fn saved(&self) -> u32
+        ensures value { result ≡ saved_of self.now.places.now.count }
+        ensures few { result ≤ REGISTERS }
+    {
+        let places = self.places;
+        places.count.min(REGISTERS)
     }
 
     /// The offset of an object from the stack pointer.

@@ -11,7 +11,6 @@ ghost use Rattle.s_select.specs.Conditions.{CanSelect, has_few_arguments, has_fe
 
 use crate::frames::{push_give_frame, push_take_frame};
 use crate::function::Function;
-use crate::location::REGISTERS;
 use crate::objects::offsets_from;
 use crate::operands::{push_get, push_item};
 use crate::templates::{
@@ -28,7 +27,14 @@ use std::alloc::{AllocError, Global};
 use val_core::{Op1, Op2};
 
 impl Function<'_> {
-    fn binary(&self, items: &mut Vec<Item>, op: Op2, to: u32, left: u32, right: u32) -> Result<(), AllocError>
+    fn binary(
+        &self,
+        items: &mut Vec<Item>,
+        op: Op2,
+        to: u32,
+        left: u32,
+        right: u32,
+    ) -> Result<(), AllocError>
         requires to { IsTrue (has_place self.now.places.now to) }
         requires left { IsTrue (has_place self.now.places.now left) }
         requires right { IsTrue (has_place self.now.places.now right) }
@@ -39,7 +45,13 @@ impl Function<'_> {
         push_binary(items, op, &to, &left, &right)
     }
 
-    fn store(&self, items: &mut Vec<Item>, width: u8, address: u32, value: u32) -> Result<(), AllocError>
+    fn store(
+        &self,
+        items: &mut Vec<Item>,
+        width: u8,
+        address: u32,
+        value: u32,
+    ) -> Result<(), AllocError>
         requires address { IsTrue (has_place self.now.places.now address) }
         requires value { IsTrue (has_place self.now.places.now value) }
         ensures { OnOk result (items.new.items
@@ -56,7 +68,13 @@ impl Function<'_> {
         push_clear(items, self.offset_of(number), self.size_of(number))
     }
 
-    fn call(&self, items: &mut Vec<Item>, function: u32, to: u32, arguments: &[u32]) -> Result<(), AllocError>
+    fn call(
+        &self,
+        items: &mut Vec<Item>,
+        function: u32,
+        to: u32,
+        arguments: &[u32],
+    ) -> Result<(), AllocError>
         requires to { IsTrue (has_place self.now.places.now to) }
         requires arguments { IsTrue (all_of (has_place self.now.places.now) arguments.now) }
         requires few { length arguments.now ≤ 8 }
@@ -97,7 +115,12 @@ impl Function<'_> {
                 width,
                 target,
                 address,
-            } => push_load(items, *width, &self.place_of(*target), &self.place_of(*address)),
+            } => push_load(
+                items,
+                *width,
+                &self.place_of(*target),
+                &self.place_of(*address),
+            ),
             Instr::Store {
                 width,
                 address,
@@ -130,7 +153,7 @@ impl Function<'_> {
         ensures { OnOk result (items.new.items
             ≡ items.old.items ++ line_items self.now.places.now self.now.objects.now (lines.enter params.now)) }
     {
-        push_take_frame(items, size, self.places.count.min(REGISTERS))?;
+        push_take_frame(items, size, self.saved())?;
         self.push_params(items, params)
     }
 
@@ -141,7 +164,7 @@ impl Function<'_> {
             ≡ items.old.items ++ line_items self.now.places.now self.now.objects.now (lines.leave value)) }
     {
         push_get(items, Reg::A0, &self.place_of(value))?;
-        push_give_frame(items, size, self.places.count.min(REGISTERS))
+        push_give_frame(items, size, self.saved())
     }
 
     /// The template of a line, in a function whose frame has this size.

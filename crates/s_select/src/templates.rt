@@ -9,7 +9,9 @@ ghost use Rattle.s_select.specs.Templates.{binary_code, branch_items, clear_code
 use crate::frames::negative;
 use crate::instructions::{load_instr, push_binary_code, push_unary_code, store_instr};
 use crate::location::{Location, in_of, out_of};
-use crate::operands::{push_get, push_immediate, push_in, push_item, push_out, push_put, push_words};
+use crate::operands::{
+    push_get, push_immediate, push_in, push_item, push_out, push_put, push_words,
+};
 use rv_isa::{BranchOffset, EXIT_CALL, Imm12, Instr, Reg};
 use rv_layout::Item;
 use std::alloc::AllocError;
@@ -25,7 +27,11 @@ pub fn push_const(items: &mut Vec<Item>, to: &Location, word: u32) -> Result<(),
 }
 
 /// The address of an object at an offset from the stack pointer.
-pub fn push_object_address(items: &mut Vec<Item>, to: &Location, offset: u32) -> Result<(), AllocError>
+pub fn push_object_address(
+    items: &mut Vec<Item>,
+    to: &Location,
+    offset: u32,
+) -> Result<(), AllocError>
     ensures { OnOk result (items.new.items
         ≡ items.old.items ++ words (with_none to.now (λ rd. load_immediate 5 offset ++ rv.Add rd 5 2 ∷ []))) }
 {
@@ -41,7 +47,11 @@ fn add(rd: Reg, rs1: Reg, rs2: Reg) -> Instr
 }
 
 /// The address of a global.
-pub fn push_global_address(items: &mut Vec<Item>, to: &Location, number: u32) -> Result<(), AllocError>
+pub fn push_global_address(
+    items: &mut Vec<Item>,
+    to: &Location,
+    number: u32,
+) -> Result<(), AllocError>
     ensures { OnOk result (items.new.items
         ≡ items.old.items ++ item.Address (out_of to.now) number ∷ words (store_out to.now)) }
 {
@@ -62,12 +72,23 @@ pub fn push_binary(
 {
     push_in(items, Reg::T0, left)?;
     push_in(items, Reg::T1, right)?;
-    push_binary_code(items, op, out_of(to), in_of(left, Reg::T0), in_of(right, Reg::T1))?;
+    push_binary_code(
+        items,
+        op,
+        out_of(to),
+        in_of(left, Reg::T0),
+        in_of(right, Reg::T1),
+    )?;
     push_out(items, to)
 }
 
 /// An operation with one operand.
-pub fn push_unary(items: &mut Vec<Item>, op: Op1, to: &Location, input: &Location) -> Result<(), AllocError>
+pub fn push_unary(
+    items: &mut Vec<Item>,
+    op: Op1,
+    to: &Location,
+    input: &Location,
+) -> Result<(), AllocError>
     ensures { OnOk result (items.new.items
         ≡ items.old.items ++ words (with_one to.now input.now (unary_code op))) }
 {
@@ -77,17 +98,30 @@ pub fn push_unary(items: &mut Vec<Item>, op: Op1, to: &Location, input: &Locatio
 }
 
 /// A load of so many bytes.
-pub fn push_load(items: &mut Vec<Item>, width: u8, to: &Location, address: &Location) -> Result<(), AllocError>
+pub fn push_load(
+    items: &mut Vec<Item>,
+    width: u8,
+    to: &Location,
+    address: &Location,
+) -> Result<(), AllocError>
     ensures { OnOk result (items.new.items
         ≡ items.old.items ++ words (with_one to.now address.now (λ rd r. load_instr width rd r ∷ []))) }
 {
     push_in(items, Reg::T0, address)?;
-    push_words(items, &[load_instr(width, out_of(to), in_of(address, Reg::T0))])?;
+    push_words(
+        items,
+        &[load_instr(width, out_of(to), in_of(address, Reg::T0))],
+    )?;
     push_out(items, to)
 }
 
 /// A store of so many bytes.
-pub fn push_store(items: &mut Vec<Item>, width: u8, address: &Location, value: &Location) -> Result<(), AllocError>
+pub fn push_store(
+    items: &mut Vec<Item>,
+    width: u8,
+    address: &Location,
+    value: &Location,
+) -> Result<(), AllocError>
     ensures { OnOk result (items.new.items ≡ items.old.items
         ++ words (load_in 5 address.now ++ load_in 6 value.now ++ store_instr width (in_of address.now 5) (in_of value.now 6) ∷ [])) }
 {
@@ -187,7 +221,11 @@ pub fn push_exit(items: &mut Vec<Item>, status: &Location) -> Result<(), AllocEr
 }
 
 /// Goes to a label where the predicate is not 0.
-pub fn push_branch_not_zero(items: &mut Vec<Item>, predicate: &Location, label: u32) -> Result<(), AllocError>
+pub fn push_branch_not_zero(
+    items: &mut Vec<Item>,
+    predicate: &Location,
+    label: u32,
+) -> Result<(), AllocError>
     ensures { OnOk result (items.new.items
         ≡ items.old.items ++ branch_items predicate.now (λ r. rv.Beq r 0 8 ∷ []) label) }
 {
@@ -202,7 +240,11 @@ pub fn push_branch_not_zero(items: &mut Vec<Item>, predicate: &Location, label: 
 }
 
 /// Goes to a label where the predicate is 0.
-pub fn push_branch_zero(items: &mut Vec<Item>, predicate: &Location, label: u32) -> Result<(), AllocError>
+pub fn push_branch_zero(
+    items: &mut Vec<Item>,
+    predicate: &Location,
+    label: u32,
+) -> Result<(), AllocError>
     ensures { OnOk result (items.new.items
         ≡ items.old.items ++ branch_items predicate.now (λ r. rv.Bne r 0 8 ∷ []) label) }
 {
@@ -212,7 +254,12 @@ pub fn push_branch_zero(items: &mut Vec<Item>, predicate: &Location, label: u32)
 }
 
 /// Goes to a label where the predicate is a number.
-pub fn push_branch_equal(items: &mut Vec<Item>, predicate: &Location, number: u32, label: u32) -> Result<(), AllocError>
+pub fn push_branch_equal(
+    items: &mut Vec<Item>,
+    predicate: &Location,
+    number: u32,
+    label: u32,
+) -> Result<(), AllocError>
     ensures { OnOk result (items.new.items
         ≡ items.old.items ++ branch_items predicate.now (λ r. load_immediate 6 number ++ rv.Bne r 6 8 ∷ []) label) }
 {

@@ -1,4 +1,4 @@
-use Rattle.std.proofs.Common.{◌≡◌, ◌∙◌, ap, length, slice_index, arith}
+use Rattle.std.proofs.Common.{◌∙◌, ap, length, slice_index, arith}
 use Rattle.s_linear.specs.Frame.{objects_at}
 use Rattle.s_select.proofs.ObjectLemmas.{length-offsets_from, offsets_from-at}
 use Rattle.s_select.proofs.function.Function.offset_of.Goals as goal

@@ -8,8 +8,8 @@ use Rattle.s_select.proofs.function.Function.push_arguments.Given as goal
 abbrev pub invariant-loop-name : goal.invariant-loop-name
 invariant-loop-name l = record {
   code :
-    l.items.items ++ words (get_arguments l.self.places.now l.register (drop l.name-index l.arguments))
-    ≡ l.fn.items.items ++ words (get_arguments l.self.places.now 10 l.arguments);
+      l.items.items ++ words (get_arguments l.self.places.now l.register (drop l.name-index l.arguments))
+      ≡ l.fn.items.items ++ words (get_arguments l.self.places.now 10 l.arguments);
   register : l.register ≡ 10 + l.name-index;
   placed : IsTrue (all_of (has_place l.self.places.now) (drop l.name-index l.arguments));
 }
