@@ -1,13 +1,13 @@
 -- Names whose intervals overlap have different places, and each place is below the count.
 use Rattle.std.proofs.Common.{◌≡◌, ◌<◌, ◌⊎◌, ◌≢◌, ℕ, zero, suc, ◌+◌, Bool, true, false, ◌&&◌, ◌||◌, List, [], ◌∷◌, get_or, refl, sym, ap, ◌∙◌, inl, inr, arith, eqb-true}
 use Rattle.std.specs.Prelude.{◌==◌}
-use Rattle.std.proofs.lemmas.Bool.{or_cases, and_parts, eqb-false}
+use Rattle.std.proofs.lemmas.Bool.{or_cases, and_parts, eqb-false, cases_Bool, or_left, or_right}
 use Rattle.std.proofs.lemmas.Bool.Decides.{nat_tests}
 use Rattle.g_graph.specs.WellFormed.{some_of}
 use Rattle.s_linear.specs.Lines.{Line}
 use Rattle.a_place.specs.Places.{occurs, overlap, name_count, in_order, Given, held, least, count_of, place_for, given, place_in, all_given, places}
 use Rattle.a_place.specs.Laws.{IsAliveAt, OverlappingNamesDiffer, PlacesAreBelowCount}
-use Rattle.a_place.proofs.Order.{among, or_left, or_right, either, below_name_count, in_order_all, get_numbers}
+use Rattle.a_place.proofs.Order.{among, below_name_count, in_order_all, get_numbers}
 
 -- ---- the least place is free
 
@@ -23,7 +23,7 @@ held_below lines x (g ∷ gs) p e =
 least_fails : (test : ℕ → Bool) (from n : ℕ) → (test (least test from n) ≡ false) ⊎ (least test from n ≡ from + n)
 least_fails test from zero = inr (omega arith)
 least_fails test from (suc n) =
-    elim (either (test from)) [
+    elim (cases_Bool (test from)) [
       | inr free ↦ rw free (inl free)
       | inl taken ↦
           rw taken
@@ -38,7 +38,7 @@ place_free lines x gs =
     elim (least_fails (held lines x gs) 0 (count_of gs)) [
       | inl free ↦ free
       | inr end ↦
-          elim (either (held lines x gs (place_for lines x gs))) [
+          elim (cases_Bool (held lines x gs (place_for lines x gs))) [
             | inr free ↦ free
             | inl taken ↦
                 let h : place_for lines x gs < count_of gs = held_below lines x gs (place_for lines x gs) taken in
@@ -66,7 +66,7 @@ not_held lines x y p (g ∷ gs) free n o =
     let here : ((g.place == p) && overlap lines g.name x) ≡ false =
     false_left ((g.place == p) && overlap lines g.name x) (held lines x gs p) free in
     let rest : held lines x gs p ≡ false = false_right ((g.place == p) && overlap lines g.name x) (held lines x gs p) free in
-    elim (either (g.name == y)) [
+    elim (cases_Bool (g.name == y)) [
       | inl same ↦
           let name : g.name ≡ y = eqb-true g.name y same in
           let o' : overlap lines g.name x ≡ true = ap (λ z. overlap lines z x) name ∙ o in
@@ -100,10 +100,10 @@ latest lines z y gs n o e =
 apart_next : (lines : List Line) (z : ℕ) (gs : List Given) → IsApart lines gs → IsApart lines (next lines z gs ∷ gs)
 apart_next lines z gs a = record {
   differ = λ x y ne nx ny o.
-      elim (either (z == x)) [
+      elim (cases_Bool (z == x)) [
         | inl zx ↦
             let ex : z ≡ x = eqb-true z x zx in
-            elim (either (z == y)) [
+            elim (cases_Bool (z == y)) [
               | inl zy ↦ absurd (ne (sym ex ∙ eqb-true z y zy))
               | inr zy ↦
                   let later : named y gs ≡ true = rw zy at ny in
@@ -111,7 +111,7 @@ apart_next lines z gs a = record {
             ]
         | inr zx ↦
             let before : named x gs ≡ true = rw zx at nx in
-            elim (either (z == y)) [
+            elim (cases_Bool (z == y)) [
               | inl zy ↦
                   let ey : z ≡ y = eqb-true z y zy in
                   rw (zx, zy) (λ e. latest lines z x gs before (overlap_sym lines x z (ap (λ w. overlap lines x w) ey ∙ o)) (sym e))
@@ -149,7 +149,7 @@ place_of lines x e =
 below_count : (x : ℕ) (gs : List Given) → named x gs ≡ true → place_in gs x < count_of gs
 below_count x [] n = cc
 below_count x (g ∷ gs) n =
-    elim (either (g.name == x)) [
+    elim (cases_Bool (g.name == x)) [
       | inl same ↦ rw same (omega arith)
       | inr other ↦
           let later : named x gs ≡ true = rw other at n in

@@ -1,3 +1,4 @@
+pub mod lemmas
 pub mod ListLemmas
 pub mod ExprViews
 pub mod InitViews

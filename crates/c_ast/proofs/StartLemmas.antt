@@ -1,5 +1,5 @@
 -- The offset of the first token of a tree.
-use Rattle.std.proofs.Common.{◌≡◌, ℕ, Bool, List, [], ◌∷◌, ◌++◌, Option, Some, None, refl, sym, ◌∙◌, ap, append_assoc}
+use Rattle.std.proofs.Common.{◌≡◌, ℕ, Bool, List, [], ◌∷◌, ◌++◌, Option, Some, None, refl, ◌∙◌, ap}
 use Rattle.c_lex.specs.declared.token.Token.{Token}
 use Rattle.c_ast.specs.declared.declaration.Init.{Init}
 use Rattle.c_ast.specs.declared.declaration.Init.TheVariants as init
@@ -27,19 +27,10 @@ use Rattle.c_ast.specs.Productions.{Production}
 use Rattle.c_ast.specs.Productions as production
 use Rattle.c_ast.specs.Specifiers.{spec_tree}
 use Rattle.c_ast.specs.Spelling.{spelled, first_offset, start_of}
-use Rattle.c_ast.specs.Tree.{Tree, Leaf, Node, Nil, Cons}
+use Rattle.c_ast.specs.Tree.{Tree, Node, Nil, Cons}
 use Rattle.c_ast.proofs.ExprViews.{tree-Name, tree-Number, tree-Char, tree-Text, tree-Paren, tree-Increment, tree-Unary, tree-Sizeof, tree-SizeofType, tree-Cast, tree-Index, tree-Call, tree-Select, tree-PostIncrement, tree-Binary, tree-Conditional, tree-Assign}
 use Rattle.c_ast.proofs.InitViews.{tree-Value, tree-List}
-
-spelled_append : (t : Tree) (more : List Token) → spelled t more ≡ spelled t [] ++ more
-unfolding spelled
-spelled_append (Leaf x) more = refl
-spelled_append (Node l children) more = spelled_append children more
-spelled_append Nil more = refl
-spelled_append (Cons child children) more =
-    spelled_append child (spelled children more) ∙ ap (λ ts. spelled child [] ++ ts) (spelled_append children more)
-    ∙ sym (append_assoc (spelled child []) (spelled children []) more)
-    ∙ ap (λ ts. ts ++ more) (sym (spelled_append child (spelled children [])))
+use Rattle.c_ast.proofs.lemmas.Spelling.{spelled_append}
 
 first_append : (xs ys : List Token) (n : ℕ) → first_offset xs ≡ Some n → first_offset (xs ++ ys) ≡ Some n
 first_append [] ys n h = cc h

@@ -7,7 +7,7 @@ use Rattle.c_lex.specs.declared.punct.Punct.TheVariants as mark
 use Rattle.c_ast.specs.Nonterminals.{Nonterminal, includes, Many, Opt, External, AfterTag, AfterType, AfterName, Body, Members, Member, Locals, Decl, Init, InitItems, InitEnded, InitOpen, Param, Spec, PlainSpec, Base, TypeName, Block, Item, Stmt, IfPart, ForFirst, Group, GroupLabel, Expr, Assign, Cond, Binary, Cast, Unary, SizeofOperand, Postfix}
 use Rattle.c_ast.specs.Productions.{Level, Repeated, Optional, Production, Multiplicative, Additive, Shift, Relational, Equality, BitAnd, BitXor, BitOr, LogicalAnd, LogicalOr}
 use Rattle.c_ast.specs.Productions as production
-use Rattle.c_ast.specs.Terminals.{Terminal, AnyName, AnyNumber, AnyChar, AnyLiteral, Word, Mark, SignWord, AssignMark, BinaryMark, UnaryMark, IncDecMark, is}
+use Rattle.c_ast.specs.Terminals.{Terminal, AnyName, AnyNumber, AnyChar, AnyLiteral, ThisKeyword, Mark, SignKeyword, AssignMark, BinaryMark, UnaryMark, IncDecMark, is}
 use Rattle.c_ast.specs.Tree.{Tree, Leaf, Node, Nil, Cons}
 
 -- a symbol of a production: a terminal or a nonterminal
@@ -16,7 +16,7 @@ pub data Symbol : Type 0 where
   N : Nonterminal → Symbol
 
 abbrev pub w : Keyword → Symbol
-w k = T (Word k)
+w k = T (ThisKeyword k)
 
 abbrev pub m : Punct → Symbol
 m p = T (Mark p)
@@ -130,7 +130,7 @@ rule production.Char = Base ⟶ w word.Char ∷ []
 rule production.Int = Base ⟶ w word.Int ∷ []
 rule production.Short = Base ⟶ w word.Short ∷ N (Opt production.ShortInt) ∷ []
 rule production.StructTag = Spec ⟶ w word.Struct ∷ T AnyName ∷ []
-rule production.Signed = PlainSpec ⟶ T SignWord ∷ N (Opt production.SignedBase) ∷ []
+rule production.Signed = PlainSpec ⟶ T SignKeyword ∷ N (Opt production.SignedBase) ∷ []
 -- type = ["const"] spec {"*"} { "[" cond "]" }
 rule production.TypeName =
     TypeName ⟶ N (Opt production.Constant) ∷ N Spec ∷ N (Many production.Stars) ∷ N (Many production.Dimensions) ∷ []

@@ -6,7 +6,7 @@ use Rattle.c_lex.specs.declared.punct.Punct.{Punct}
 use Rattle.c_lex.specs.declared.punct.Punct.TheVariants as mark
 use Rattle.c_lex.specs.declared.token.TokenKind.{TokenKind}
 use Rattle.c_lex.specs.declared.token.TokenKind.TheVariants as kind
-use Rattle.c_ast.specs.Terminals.{is, Word}
+use Rattle.c_ast.specs.Terminals.{is, ThisKeyword}
 
 -- one more on the top counter
 abbrev pub raised : List ℕ → List ℕ
@@ -39,7 +39,8 @@ after_mark _ rest counters = raised counters
 -- the keywords that count
 abbrev pub is_counted : TokenKind → Bool
 is_counted k =
-    is (Word word.If) k || is (Word word.Else) k || is (Word word.While) k || is (Word word.Do) k || is (Word word.For) k || is (Word word.Sizeof) k || is (Word word.Switch) k
+    is (ThisKeyword word.If) k || is (ThisKeyword word.Else) k || is (ThisKeyword word.While) k || is (ThisKeyword word.Do) k
+    || is (ThisKeyword word.For) k || is (ThisKeyword word.Sizeof) k || is (ThisKeyword word.Switch) k
 
 -- the counters after a token, before the tokens `rest`
 abbrev pub after_token : TokenKind → List TokenKind → List ℕ → List ℕ

@@ -17,10 +17,10 @@ pub data Terminal : Type 0 where
   AnyChar : Terminal
   AnyLiteral : Terminal
   -- this keyword; this punctuator
-  Word : Keyword → Terminal
+  ThisKeyword : Keyword → Terminal
   Mark : Punct → Terminal
   -- `signed` or `unsigned`
-  SignWord : Terminal
+  SignKeyword : Terminal
   -- `=` or a compound assignment (6.5.16)
   AssignMark : Terminal
   -- the operators of a level
@@ -188,9 +188,9 @@ is AnyName (kind.Name name) = true
 is AnyNumber (kind.Number value unsigned) = true
 is AnyChar (kind.Char c) = true
 is AnyLiteral (kind.Text cs) = true
-is (Word w) (kind.Keyword k) = keyword_number w == keyword_number k
+is (ThisKeyword w) (kind.Keyword k) = keyword_number w == keyword_number k
 is (Mark m) (kind.Punct p) = mark_number m == mark_number p
-is SignWord (kind.Keyword k) = keyword_number k == 13 || keyword_number k == 18
+is SignKeyword (kind.Keyword k) = keyword_number k == 13 || keyword_number k == 18
 is AssignMark (kind.Punct p) = is_assign_mark p
 is (BinaryMark level) (kind.Punct p) = is_of_level level (operator_level p)
 is UnaryMark (kind.Punct p) = is_unary_mark p

@@ -17,6 +17,7 @@ pub struct Locals {
     pub semicolon: Span,
 }
 
+/// A declarator of a variable, with its initialiser where it has one (ISO 9899:2011, 6.7.6).
 #[derive(Drop)]
 pub struct Declarator {
     pub stars: Items<Span>,
@@ -33,6 +34,7 @@ pub struct OpenDimension {
     pub close: Span,
 }
 
+/// `=` and what a variable begins with (ISO 9899:2011, 6.7.9).
 #[derive(Drop)]
 pub struct Initializer {
     pub equal: Span,

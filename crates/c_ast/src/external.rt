@@ -14,6 +14,7 @@ pub struct Unit {
     pub externals: Items<External>,
 }
 
+/// A declaration at file scope, or a definition of a function (ISO 9899:2011, 6.9).
 #[derive(Drop)]
 pub enum External {
     Struct(Structure),
@@ -40,6 +41,7 @@ pub struct Structure {
     pub semicolon: Span,
 }
 
+/// The members of a structure in braces (ISO 9899:2011, 6.7.2.1).
 #[derive(Drop)]
 pub struct StructBody {
     pub open: Span,
@@ -58,6 +60,7 @@ pub struct Members {
     pub semicolon: Span,
 }
 
+/// A declarator of a member (ISO 9899:2011, 6.7.2.1).
 #[derive(Drop)]
 pub struct Member {
     pub stars: Items<Span>,
@@ -77,6 +80,8 @@ pub struct Function {
     pub body: Body,
 }
 
+/// What follows the parameters of a function: a semicolon, or its statements (ISO 9899:2011,
+/// 6.9.1).
 #[derive(Drop)]
 pub enum Body {
     /// None: the function is only declared.
@@ -92,6 +97,7 @@ pub struct Params {
     pub more: Items<Next<Param>>,
 }
 
+/// A declaration of a parameter, whose name may be left out (ISO 9899:2011, 6.7.6).
 #[derive(Drop)]
 pub struct Param {
     pub qualifier: Option<Span>,

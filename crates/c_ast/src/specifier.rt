@@ -24,6 +24,7 @@ pub enum Spec {
     },
 }
 
+/// The keyword that says whether an integer type has a sign (ISO 9899:2011, 6.7.2).
 #[derive(Clone, Copy)]
 pub enum Sign {
     Signed,

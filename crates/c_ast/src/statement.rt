@@ -64,6 +64,7 @@ pub enum Stmt {
     },
 }
 
+/// A compound statement (ISO 9899:2011, 6.8.2).
 #[cycle(statement)]
 #[derive(Drop)]
 pub struct Block {
@@ -72,6 +73,7 @@ pub struct Block {
     pub close: Span,
 }
 
+/// A statement or a declaration in a block (ISO 9899:2011, 6.8.2).
 #[cycle(statement)]
 #[derive(Drop)]
 pub enum BlockItem {
@@ -79,6 +81,7 @@ pub enum BlockItem {
     Locals(Locals),
 }
 
+/// `else` and its statement (ISO 9899:2011, 6.8.4.1).
 #[cycle(statement)]
 #[derive(Drop)]
 pub struct Else {
@@ -92,6 +95,7 @@ pub struct ForHeader {
     pub clauses: Boxed<ForClauses>,
 }
 
+/// The clauses of a `for` (ISO 9899:2011, 6.8.5.3).
 #[derive(Drop)]
 pub struct ForClauses {
     pub start: ForStart,
@@ -118,7 +122,7 @@ pub enum ForStart {
     },
 }
 
-/// Productions of a `switch` and the statements after them.
+/// Labels of a `switch` and the statements after them (ISO 9899:2011, 6.8.4.2).
 #[cycle(statement)]
 #[derive(Drop)]
 pub struct Group {
@@ -128,6 +132,7 @@ pub struct Group {
     pub more: Items<Stmt>,
 }
 
+/// A label of a `switch` (ISO 9899:2011, 6.8.1).
 #[derive(Drop)]
 pub enum Label {
     Case {

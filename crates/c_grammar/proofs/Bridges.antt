@@ -2,7 +2,7 @@
 use Rattle.std.specs.Prelude.{◌≡◌, ◌⊎◌, drop, ◌≤◌, Bool, true, false, not, ◌&&◌, ◌||◌, List, [], ◌∷◌, Option, Some, None, nat_le}
 use Rattle.std.specs.List.{list_all}
 use Rattle.std.proofs.Common.{refl, sym, ap, inl, inr, subst}
-use Rattle.std.proofs.lemmas.Bool.{not-true, not_from_false, leb-true}
+use Rattle.std.proofs.lemmas.Bool.{not-true, not_from_false, leb-true, and_parts, and_from, or_left, or_right, or_cases}
 use Rattle.c_lex.specs.declared.token.TokenKind.{TokenKind}
 use Rattle.c_ast.specs.Nonterminals.{Nonterminal}
 use Rattle.c_ast.specs.Productions.{Production}
@@ -11,7 +11,7 @@ use Rattle.c_lex.specs.declared.token.TokenKind.TheVariants as kind
 use Rattle.c_ast.specs.Terminals.{Terminal, is}
 use Rattle.c_ast.specs.Grammar.{Symbol, T, N, symbols_of, allowed}
 use Rattle.c_grammar.specs.PredictSets.{at, start, next, begins_type}
-use Rattle.c_grammar.proofs.Lists.{In, all_in, all_kept, in_kept, or_cases, both_true, left_or, right_or, refuted, conj2, conj3, conj5, kept}
+use Rattle.c_grammar.proofs.Lists.{In, all_in, all_kept, in_kept, refuted, conj3, conj5, kept}
 use Rattle.c_grammar.proofs.Enumerations.{Payload, same_if_else, kinds, heads, labels, nonterminals, payload, head_payload, same_production, kind_in, head_in, flag_in, production_in, nonterminal_in, same_production-true}
 use Rattle.c_grammar.proofs.Follow.{first_nonterminal, without_front, is_suffix, front, rest_of, is_read, is_nullable, all_nullable, begins, ahead, follows_kind, follows, is_else, ends, precedence}
 use Rattle.c_grammar.proofs.Checks.{good_start, good_next, sits, good_begin, begins_checked, good_look, takes_it, same_choice, looks_checked, good_ranks, ranks_checked, stops, is_choice, alternatives, suffixes, read_nonterminals, flags, good_row, is_nonterminal, starts_checked, nexts_checked, stops_checked, chosen_checked, inner_checked, ends_checked, before_checked, rows_checked, firsts_checked, nonempty_checked, tails_checked, goes, ifs_checked, elses_checked}
@@ -70,7 +70,7 @@ begins_token c l r a s t symbols e k h i g =
 good_begin_nonterminal : (c : Nonterminal) (l : Production) → is_read c ≡ true → allowed c l ≡ true → is_suffix l ≡ false → (d : Nonterminal) (symbols : List Symbol) → symbols_of l ≡ N d ∷ symbols →
     (k : TokenKind) → (not (all_nullable (N d ∷ symbols)) ≡ true) × (list_all (λ k. list_all (λ b. is_choice l (start c (Some k) b)) flags) (kept (ahead (N d ∷ symbols)) (kinds (payload k))) ≡ true)
 good_begin_nonterminal c l r a s d symbols e k =
-    conj2 (not (all_nullable (N d ∷ symbols))) (list_all (λ k. list_all (λ b. is_choice l (start c (Some k) b)) flags) (kept (ahead (N d ∷ symbols)) (kinds (payload k))))
+    and_parts (not (all_nullable (N d ∷ symbols))) (list_all (λ k. list_all (λ b. is_choice l (start c (Some k) b)) flags) (kept (ahead (N d ∷ symbols)) (kinds (payload k))))
     (subst (λ (symbols : List Symbol). good_begin (payload k) (payload k) c l symbols ≡ true) e (good_begin_of c l r a s (payload k) (payload k)))
 
 -- one that begins with a nonterminal
@@ -129,7 +129,7 @@ next_stops c l h r a f w = go (next c l h) (stops_of c l h r a f)
   where
     go : (o : Option Production) → stops l h o ≡ true → o ≡ None
     go None s = refl
-    go (Some n) s = let g = conj2 (same_production l production.If) (is_else h) s in absurd (w g.1 (same_production-true l production.If g.0))
+    go (Some n) s = let g = and_parts (same_production l production.If) (is_else h) s in absurd (w g.1 (same_production-true l production.If g.0))
 
 -- what may go on does
 pub next_chosen : (c : Nonterminal) (l n : Production) (k : TokenKind) → is_read c ≡ true → allowed c n ≡ true → is_suffix n ≡ true → allowed (front n) l ≡ true → ahead (rest_of n) k ≡ true →
@@ -213,8 +213,8 @@ row_rest c symbols g y = (good_row_nonterminal c symbols g y).2
 pub row_follows : (c : Nonterminal) (symbols : List Symbol) → Row (N c ∷ symbols) → (k : TokenKind) → ahead symbols k ≡ true → (follows c (Some k) ≡ true) × (is_else (Some k) ≡ false)
 unfolding follows
 row_follows c symbols g k f =
-    let h = conj2 (follows_kind c k) (not (is_else (Some k))) (all_kept (λ k. follows_kind c k && not (is_else (Some k))) (ahead symbols) k (kinds (payload k)) (kind_in k) f (good_row_nonterminal c
-    symbols g (payload k)).1) in
+    let h = and_parts (follows_kind c k) (not (is_else (Some k))) (all_kept (λ k. follows_kind c k && not (is_else (Some k))) (ahead symbols) k (kinds (payload k)) (kind_in k) f
+    (good_row_nonterminal c symbols g (payload k)).1) in
     (h.0, not-true (is_else (Some k)) h.1)
 
 -- ---- first tokens
@@ -234,7 +234,7 @@ nonempty_is c l n a =
 
 tail_of : (n : Production) → is_suffix n ≡ true → (is_nonterminal (symbols_of n) ≡ true) × (not (all_nullable (rest_of n)) ≡ true)
 tail_of n s =
-    conj2 (is_nonterminal (symbols_of n)) (not (all_nullable (rest_of n)))
+    and_parts (is_nonterminal (symbols_of n)) (not (all_nullable (rest_of n)))
     (all_kept (λ n. is_nonterminal (symbols_of n) && not (all_nullable (rest_of n))) is_suffix n labels (production_in n) s (tails_checked (payload (kind.Char 0))))
 
 -- what a production that goes on is made of
@@ -278,11 +278,11 @@ look_is c k = go (or_cases (same_choice (start c (Some k) false) (start c (Some 
     go : (same_choice (start c (Some k) false) (start c (Some k) true) ≡ true) ⊎ ((takes_it k (start c (Some k) false) && takes_it k (start c (Some k) true)) ≡ true) →
         (start c (Some k) false ≡ start c (Some k) true) ⊎ ((takes_it k (start c (Some k) false) ≡ true) × (takes_it k (start c (Some k) true) ≡ true))
     go (inl e) = inl (same_choice-true (start c (Some k) false) (start c (Some k) true) e)
-    go (inr e) = inr (conj2 (takes_it k (start c (Some k) false)) (takes_it k (start c (Some k) true)) e)
+    go (inr e) = inr (and_parts (takes_it k (start c (Some k) false)) (takes_it k (start c (Some k) true)) e)
 
 ranks_of : (c : Nonterminal) → is_read c ≡ true → (nat_le (precedence c) 10 ≡ true) × (list_all (λ l. good_ranks (precedence c) (rest_of l)) (alternatives c) ≡ true)
 ranks_of c r =
-    conj2 (nat_le (precedence c) 10) (list_all (λ l. good_ranks (precedence c) (rest_of l)) (alternatives c))
+    and_parts (nat_le (precedence c) 10) (list_all (λ l. good_ranks (precedence c) (rest_of l)) (alternatives c))
     (all_in (λ c. nat_le (precedence c) 10 && list_all (λ l. good_ranks (precedence c) (rest_of l)) (alternatives c)) c read_nonterminals (nonterminal_among c r) (ranks_checked (payload (kind.Char
     0))))
 
@@ -301,12 +301,12 @@ Sits c l h =
 
 pub sits_from : (c : Nonterminal) (l : Production) (h : Option TokenKind) → Sits c l h → sits c l h ≡ true
 unfolding Sits
-sits_from c l h (inl f) = left_or (follows c h) (not (list_all (λ n. not (allowed (front n) l && at (ahead (rest_of n)) h)) (suffixes c))) f
+sits_from c l h (inl f) = or_left (follows c h) (not (list_all (λ n. not (allowed (front n) l && at (ahead (rest_of n)) h)) (suffixes c))) f
 sits_from c l h (inr g) =
-    right_or (follows c h) (not (list_all (λ n. not (allowed (front n) l && at (ahead (rest_of n)) h)) (suffixes c)))
+    or_right (follows c h) (not (list_all (λ n. not (allowed (front n) l && at (ahead (rest_of n)) h)) (suffixes c)))
     (refuted (list_all (λ n. not (allowed (front n) l && at (ahead (rest_of n)) h)) (suffixes c))
     (λ a. let no_one = all_in (λ n. not (allowed (front n) l && at (ahead (rest_of n)) h)) g.0 (suffixes c) (suffix_among c g.0 g.1 g.2) a in
-    cc (not-true (allowed (front g.0) l && at (ahead (rest_of g.0)) h) no_one, both_true (allowed (front g.0) l) (at (ahead (rest_of g.0)) h) g.3 g.4)))
+    cc (not-true (allowed (front g.0) l && at (ahead (rest_of g.0)) h) no_one, and_from (allowed (front g.0) l) (at (ahead (rest_of g.0)) h) g.3 g.4)))
 
 pub sits_ends : (c : Nonterminal) (l : Production) (h : Option TokenKind) → is_read c ≡ true → allowed c l ≡ true → Sits c l h → ends (rest_of l) h ≡ true
 unfolding Sits

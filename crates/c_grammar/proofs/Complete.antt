@@ -1,7 +1,7 @@
 -- Every tree that follows the grammar is read again from what it spells.
 use Rattle.std.specs.Prelude.{◌≡◌, ◌⊎◌, ℕ, zero, suc, Bool, true, false, not, ◌&&◌, ◌||◌, List, [], ◌∷◌, ◌++◌, Option, Some, None}
 use Rattle.std.proofs.Common.{refl, sym, ap, ◌∙◌, inl, inr, subst}
-use Rattle.std.proofs.lemmas.Bool.{not-true}
+use Rattle.std.proofs.lemmas.Bool.{not-true, and_parts, or_left, or_right, or_cases}
 use Rattle.c_lex.specs.declared.token.Token.{Token}
 use Rattle.c_lex.specs.declared.token.TokenKind.{TokenKind}
 use Rattle.c_ast.specs.Nonterminals.{Nonterminal}
@@ -13,7 +13,6 @@ use Rattle.c_ast.specs.Spelling.{spelled}
 use Rattle.c_ast.specs.Grammar.{Symbol, T, N, One, All, Fits, symbols_of, allowed, waits, else_fits}
 use Rattle.c_grammar.specs.PredictSets.{at, begins_type, head, typed, start, next}
 use Rattle.c_grammar.specs.Reader.{ReadResult, Read, OutOfFuel, and_then, production_of, token, one, children, begun, first, later, goes_on, turns, step, read}
-use Rattle.c_grammar.proofs.Lists.{and_left, and_right, or_cases, left_or, right_or}
 use Rattle.c_grammar.proofs.Follow.{is_suffix, front, rest_of, is_read, all_nullable, ahead, follows, is_else, is_last, ends}
 use Rattle.c_grammar.proofs.Bridges.{Row, Sits, row_is, row_token, row_read, row_rest, row_follows, sits_from, sits_ends, next_stops, next_chosen, inner_is, else_is, begins_empty, begins_token, begins_nonterminal, begins_filled, front_is, rest_is, drop_front, rest_filled}
 use Rattle.c_grammar.proofs.Trees.{waits_node, waits_if, waits_alone, is_if, NodeOf, nil_is, leaf_is, node_is, cons_not_nil, cons_not_empty, not_leaf, not_node, else_fits_quiet, fits_node, fits_allowed, fits_else, fits_parts}
@@ -58,8 +57,8 @@ unfolding Opens begins_form empty_form
 after_row symbols f j h = go (opens f (All symbols) h)
   where
     go : Opens (ahead symbols) (all_nullable symbols) f → (at (ahead symbols) (head (spelled f j)) || all_nullable symbols) ≡ true
-    go (inl e) = right_or (at (ahead symbols) (head (spelled f j))) (all_nullable symbols) e.0
-    go (inr e) = left_or (at (ahead symbols) (head (spelled f j))) (all_nullable symbols) (ap (λ z. at (ahead symbols) (head z)) (e.3 j) ∙ e.2)
+    go (inl e) = or_right (at (ahead symbols) (head (spelled f j))) (all_nullable symbols) e.0
+    go (inr e) = or_left (at (ahead symbols) (head (spelled f j))) (all_nullable symbols) (ap (λ z. at (ahead symbols) (head z)) (e.3 j) ∙ e.2)
 
 start_chosen : (c : Nonterminal) (l : Production) (f : Tree) (j : List Token) → is_read c ≡ true → allowed c l ≡ true → is_suffix l ≡ false → Sits c l (head j) → (symbols : List Symbol) →
     symbols_of l ≡ symbols → Fits (All symbols) f → start c (head (spelled f j)) (typed (spelled f j)) ≡ Some l
@@ -220,14 +219,14 @@ ends_nonterminal : (c : Nonterminal) (symbols : List Symbol) (h : Option TokenKi
 unfolding ends
 ends_nonterminal c symbols h e =
     record {
-      others = and_left (ends symbols h) (not (all_nullable symbols) || (follows c h && (is_last symbols || not (is_else h)))) e;
-      follow = λ n. and_left (follows c h) (is_last symbols || not (is_else h)) (inside n);
-      quiet = λ n. sides (or_cases (is_last symbols) (not (is_else h)) (and_right (follows c h) (is_last symbols || not (is_else h)) (inside n)));
+      others = (and_parts (ends symbols h) (not (all_nullable symbols) || (follows c h && (is_last symbols || not (is_else h)))) e).0;
+      follow = λ n. (and_parts (follows c h) (is_last symbols || not (is_else h)) (inside n)).0;
+      quiet = λ n. sides (or_cases (is_last symbols) (not (is_else h)) (and_parts (follows c h) (is_last symbols || not (is_else h)) (inside n)).1);
     }
   where
     inside : all_nullable symbols ≡ true → (follows c h && (is_last symbols || not (is_else h))) ≡ true
-    inside n = subst (λ b. (not b || (follows c h && (is_last symbols || not (is_else h)))) ≡ true) n (and_right (ends symbols h) (not (all_nullable symbols) || (follows c h && (is_last symbols
-        || not (is_else h)))) e)
+    inside n = subst (λ b. (not b || (follows c h && (is_last symbols || not (is_else h)))) ≡ true) n (and_parts (ends symbols h) (not (all_nullable symbols) || (follows c h && (is_last symbols
+        || not (is_else h)))) e).1
 
     sides : (is_last symbols ≡ true) ⊎ (not (is_else h) ≡ true) → (is_last symbols ≡ true) ⊎ (is_else h ≡ false)
     sides (inl l) = inl l

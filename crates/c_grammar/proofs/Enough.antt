@@ -1,7 +1,7 @@
 -- A bound that is a multiple of the number of tokens is never passed.
 use Rattle.std.specs.Prelude.{◌≡◌, ◌⊎◌, ℕ, zero, suc, ◌+◌, ◌*◌, ◌<◌, ◌≤◌, Bool, true, false, List, [], ◌∷◌, length, drop, Option, Some, None, if◌then◌else◌, nat_lt}
 use Rattle.std.proofs.Common.{refl, sym, ap, ◌∙◌, inl, inr, subst, arith, length-append}
-use Rattle.std.proofs.lemmas.Bool.{ltb-true}
+use Rattle.std.proofs.lemmas.Bool.{ltb-true, and_parts}
 use Rattle.c_lex.specs.declared.token.Token.{Token}
 use Rattle.c_ast.specs.Nonterminals.{Nonterminal}
 use Rattle.c_ast.specs.Productions.{Production}
@@ -11,7 +11,6 @@ use Rattle.c_ast.specs.Spelling.{spelled}
 use Rattle.c_ast.specs.Grammar.{Symbol, T, N, All, Fits, symbols_of}
 use Rattle.c_grammar.specs.PredictSets.{head, typed, start, next}
 use Rattle.c_grammar.specs.Reader.{ReadResult, Read, SyntaxError, OutOfFuel, and_then, production_of, token, one, children, begun, first, later, goes_on, turns, step, read}
-use Rattle.c_grammar.proofs.Lists.{and_left, and_right}
 use Rattle.c_grammar.proofs.Follow.{is_read, all_nullable, ahead, rest_of, precedence}
 use Rattle.c_grammar.proofs.Checks.{good_ranks}
 use Rattle.c_grammar.proofs.Bridges.{Row, row_is, row_token, row_read, row_rest, start_is, next_is, rest_is, rest_filled, drop_front, rank_low, ranks_are, GoesOn}
@@ -102,11 +101,11 @@ parts_fresh n r enough (T s ∷ symbols) row ranks ts h e =
             parts_enough n enough symbols (row_token s symbols row) g.left (omega arith) i
         inside (inr i) = not_deep (Cons g.tree i.tree) i.left i.then_is
 parts_fresh n r enough (N c ∷ symbols) row ranks ts h e =
-    go (deep (read n c ts) (λ t k. and_then (children (read n) symbols k) (λ f j. Read (Cons t f) j)) e) (parts_fresh n r enough symbols (row_rest c symbols row) (and_right (nat_lt (precedence c) r)
-    (good_ranks r symbols) ranks))
+    go (deep (read n c ts) (λ t k. and_then (children (read n) symbols k) (λ f j. Read (Cons t f) j)) e) (parts_fresh n r enough symbols (row_rest c symbols row)
+    (and_parts (nat_lt (precedence c) r) (good_ranks r symbols) ranks).1)
   where
     lower : precedence c < r
-    lower = ltb-true (precedence c) r (and_left (nat_lt (precedence c) r) (good_ranks r symbols) ranks)
+    lower = ltb-true (precedence c) r (and_parts (nat_lt (precedence c) r) (good_ranks r symbols) ranks).0
 
     go : (read n c ts ≡ OutOfFuel) ⊎ DeepThen (read n c ts) (λ t k. and_then (children (read n) symbols k) (λ f j. Read (Cons t f) j)) → ((ts : List Token) → 16 * length ts + r ≤ n →
         children (read n) symbols ts ≡ OutOfFuel → ⊥) → ⊥

@@ -1,6 +1,7 @@
 -- How the spelling of a tree begins.
 use Rattle.std.specs.Prelude.{◌≡◌, ◌⊎◌, Bool, true, false, ◌&&◌, List, [], ◌∷◌, ◌++◌}
 use Rattle.std.proofs.Common.{refl, sym, ap, ◌∙◌, inl, inr, append_assoc}
+use Rattle.std.proofs.lemmas.Bool.{and_from, or_left, or_right}
 use Rattle.c_lex.specs.declared.token.Token.{Token}
 use Rattle.c_lex.specs.declared.token.TokenKind.{TokenKind}
 use Rattle.c_ast.specs.Nonterminals.{Nonterminal}
@@ -9,17 +10,9 @@ use Rattle.c_ast.specs.Terminals.{Terminal, is}
 use Rattle.c_ast.specs.Tree.{Tree, Leaf, Node, Nil, Cons}
 use Rattle.c_ast.specs.Spelling.{spelled}
 use Rattle.c_ast.specs.Grammar.{Symbol, T, N, Form, One, All, Fits, symbols_of, allowed}
-use Rattle.c_grammar.proofs.Lists.{both_true, left_or, right_or}
+use Rattle.c_ast.proofs.lemmas.Spelling.{spelled_append}
 use Rattle.c_grammar.proofs.Follow.{is_nullable, all_nullable, begins, ahead}
 use Rattle.c_grammar.proofs.Bridges.{first_is, nonempty_is}
-
-pub spelled_append : (t : Tree) (j : List Token) → spelled t j ≡ spelled t [] ++ j
-unfolding spelled
-spelled_append (Leaf x) j = refl
-spelled_append (Node l f) j = spelled_append f j
-spelled_append Nil j = refl
-spelled_append (Cons t f) j =
-    spelled_append t (spelled f j) ∙ ap (λ z. spelled t [] ++ z) (spelled_append f j) ∙ sym (append_assoc (spelled t []) (spelled f []) j) ∙ ap (λ z. z ++ j) (sym (spelled_append t (spelled f [])))
 
 unfoldable pub begins_form : Form → TokenKind → Bool
 begins_form (One c) k = begins c k
@@ -49,14 +42,14 @@ unfolding Opens spelled ahead all_nullable
 cons_opens c symbols t f (inr h) g = inr (
   h.0,
   h.1 ++ spelled f [],
-  left_or (begins c h.0.kind) (is_nullable c && ahead symbols h.0.kind) h.2,
+  or_left (begins c h.0.kind) (is_nullable c && ahead symbols h.0.kind) h.2,
   λ j. ap (spelled t) (spelled_append f j) ∙ h.3 (spelled f [] ++ j) ∙ ap (λ z. h.0 ∷ z) (sym (append_assoc h.1 (spelled f []) j)),
 )
-cons_opens c symbols t f (inl h) (inl g) = inl (both_true (is_nullable c) (all_nullable symbols) h.0 g.0, λ j. h.1 (spelled f j) ∙ g.1 j)
+cons_opens c symbols t f (inl h) (inl g) = inl (and_from (is_nullable c) (all_nullable symbols) h.0 g.0, λ j. h.1 (spelled f j) ∙ g.1 j)
 cons_opens c symbols t f (inl h) (inr g) = inr (
   g.0,
   g.1,
-  right_or (begins c g.0.kind) (is_nullable c && ahead symbols g.0.kind) (both_true (is_nullable c) (ahead symbols g.0.kind) h.0 g.2),
+  or_right (begins c g.0.kind) (is_nullable c && ahead symbols g.0.kind) (and_from (is_nullable c) (ahead symbols g.0.kind) h.0 g.2),
   λ j. h.1 (spelled f j) ∙ g.3 j,
 )
 

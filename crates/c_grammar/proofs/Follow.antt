@@ -8,7 +8,7 @@ use Rattle.c_lex.specs.declared.token.TokenKind.TheVariants as kind
 use Rattle.c_ast.specs.Nonterminals.{Nonterminal, Many, Opt, External, AfterTag, AfterType, AfterName, Body, Members, Member, Locals, Decl, Init, InitItems, InitEnded, InitOpen, Param, Spec, PlainSpec, Base, TypeName, Block, Item, Stmt, IfPart, ForFirst, Group, GroupLabel, Expr, Assign, Cond, Binary, Cast, Unary, SizeofOperand, Postfix, level_number}
 use Rattle.c_ast.specs.Productions.{Level, Repeated, Optional, Production}
 use Rattle.c_ast.specs.Productions as production
-use Rattle.c_ast.specs.Terminals.{is, Word, Mark, AnyName, AssignMark, operator_level}
+use Rattle.c_ast.specs.Terminals.{is, ThisKeyword, Mark, AnyName, AssignMark, operator_level}
 use Rattle.c_ast.specs.Grammar.{Symbol, T, N, symbols_of}
 use Rattle.c_grammar.specs.PredictSets.{at, begins_base, begins_type, begins_external, begins_expr, begins_init, begins_optional, begins_repeated, stmt, item, group_label}
 
@@ -101,14 +101,14 @@ begins InitItems k = begins_init k
 begins InitEnded k = begins_init k
 begins InitOpen k = begins_init k
 begins Param k = begins_type k
-begins Spec k = begins_type k && not (is (Word word.Const) k)
-begins PlainSpec k = begins_type k && not (is (Word word.Const) k) && not (is (Word word.Struct) k)
+begins Spec k = begins_type k && not (is (ThisKeyword word.Const) k)
+begins PlainSpec k = begins_type k && not (is (ThisKeyword word.Const) k) && not (is (ThisKeyword word.Struct) k)
 begins Base k = begins_base k
 begins TypeName k = begins_type k
 begins Block k = is (Mark mark.LBrace) k
 begins Item k = begins_some (item k)
 begins Stmt k = begins_some (stmt k)
-begins IfPart k = is (Word word.If) k
+begins IfPart k = is (ThisKeyword word.If) k
 begins ForFirst k = begins_type k || begins_expr k || is (Mark mark.Semicolon) k
 begins Group k = begins_some (group_label k)
 begins GroupLabel k = begins_some (group_label k)
@@ -166,7 +166,7 @@ follows_list production.MoreAssigns k =
 follows_list production.MoreLiterals k = follows_operand 0 k || is AssignMark k || goes_on_primary k
 
 abbrev pub follows_option : Optional → TokenKind → Bool
-follows_option production.Constant k = begins_type k && not (is (Word word.Const) k)
+follows_option production.Constant k = begins_type k && not (is (ThisKeyword word.Const) k)
 follows_option production.ShortInt k = follows_spec k
 follows_option production.SignedBase k = follows_spec k
 follows_option production.Size k = is (Mark mark.RBracket) k
@@ -200,7 +200,7 @@ follows_kind TypeName k = is (Mark mark.RParen) k
 follows_kind Block k = begins_external k || begins_some (item k) || is (Mark mark.RBrace) k
 follows_kind Item k = begins_some (item k) || is (Mark mark.RBrace) k
 follows_kind Stmt k =
-    begins_some (item k) || is (Mark mark.RBrace) k || is (Word word.Else) k || begins_some (group_label k)
+    begins_some (item k) || is (Mark mark.RBrace) k || is (ThisKeyword word.Else) k || begins_some (group_label k)
 follows_kind ForFirst k = begins_expr k || is (Mark mark.Semicolon) k
 follows_kind Group k = begins_some (group_label k) || is (Mark mark.RBrace) k
 follows_kind GroupLabel k = begins_some (group_label k) || begins_some (stmt k)
@@ -219,7 +219,7 @@ follows c None = true
 follows c (Some k) = follows_kind c k
 
 abbrev pub is_else : Option TokenKind → Bool
-is_else h = at (is (Word word.Else)) h
+is_else h = at (is (ThisKeyword word.Else)) h
 
 abbrev pub is_last : List Symbol → Bool
 is_last [] = true

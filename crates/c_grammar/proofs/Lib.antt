@@ -5,7 +5,7 @@ pub mod Enough
 pub mod Enumerations
 pub mod Firsts
 pub mod Follow
-pub mod Judgement
+pub mod GrammarLaws
 pub mod Lists
 pub mod Local
 pub mod Spans

@@ -1,7 +1,8 @@
 -- Checks over lists.
-use Rattle.std.specs.Prelude.{◌≡◌, ◌⊎◌, ℕ, zero, suc, Bool, true, false, not, ◌&&◌, ◌||◌, List, [], ◌∷◌, map}
+use Rattle.std.specs.Prelude.{◌≡◌, ◌⊎◌, ℕ, zero, suc, Bool, true, false, not, ◌&&◌, List, [], ◌∷◌, map}
 use Rattle.std.specs.List.{list_all}
 use Rattle.std.proofs.Common.{refl, ap, inl, inr, sym, ◌∙◌}
+use Rattle.std.proofs.lemmas.Bool.{and_parts}
 
 -- an element of a list
 abbrev pub In : {X : Type 0} → X → List X → Type 0
@@ -24,22 +25,10 @@ in_map f x [] i = i
 in_map f x (y ∷ ys) (inl e) = inl (ap f e)
 in_map f x (y ∷ ys) (inr i) = inr (in_map f x ys i)
 
-pub and_left : (a b : Bool) → (a && b) ≡ true → a ≡ true
-and_left true b h = refl
-and_left false b h = h
-
-pub and_right : (a b : Bool) → (a && b) ≡ true → b ≡ true
-and_right true b h = h
-and_right false b h = cc
-
-pub or_cases : (a b : Bool) → (a || b) ≡ true → (a ≡ true) ⊎ (b ≡ true)
-or_cases true b h = inl refl
-or_cases false b h = inr h
-
 pub all_in : {X : Type 0} (p : X → Bool) (x : X) (xs : List X) → In x xs → list_all p xs ≡ true → p x ≡ true
 all_in p x [] i h = absurd i
-all_in p x (y ∷ ys) (inl e) h = ap p e ∙ and_left (p y) (list_all p ys) h
-all_in p x (y ∷ ys) (inr i) h = all_in p x ys i (and_right (p y) (list_all p ys) h)
+all_in p x (y ∷ ys) (inl e) h = ap p e ∙ (and_parts (p y) (list_all p ys) h).0
+all_in p x (y ∷ ys) (inr i) h = all_in p x ys i (and_parts (p y) (list_all p ys) h).1
 
 -- x before xs if the test holds
 abbrev pub joined : {X : Type 0} → Bool → X → List X → List X
@@ -65,29 +54,16 @@ in_kept p x (y ∷ ys) h i = joined_in x y ys (kept p ys) (p y) (in_kept p x ys 
 pub all_kept : {X : Type 0} (p q : X → Bool) (x : X) (xs : List X) → In x xs → q x ≡ true → list_all p (kept q xs) ≡ true → p x ≡ true
 all_kept p q x xs i h a = all_in p x (kept q xs) (in_kept q x xs h i) a
 
-pub conj2 : (a b : Bool) → (a && b) ≡ true → (a ≡ true) × (b ≡ true)
-conj2 a b h = (and_left a b h, and_right a b h)
-
 pub conj3 : (a b c : Bool) → (a && b && c) ≡ true → (a ≡ true) × (b ≡ true) × (c ≡ true)
 conj3 a b c h =
-    let g = and_left (a && b) c h in (and_left a b g, and_right a b g, and_right (a && b) c h)
+    let g = (and_parts (a && b) c h).0 in ((and_parts a b g).0, (and_parts a b g).1, (and_parts (a && b) c h).1)
 
 pub conj5 : (a b c d e : Bool) → (a && b && c && d && e) ≡ true → (a ≡ true) × (b ≡ true) × (c ≡ true) × (d ≡ true) × (e ≡ true)
 conj5 a b c d e h =
-    let f = and_left (a && b && c && d) e h in
-    let g = and_left (a && b && c) d f in
-    let i = and_left (a && b) c g in
-    (and_left a b i, and_right a b i, and_right (a && b) c g, and_right (a && b && c) d f, and_right (a && b && c && d) e h)
-
-pub both_true : (a b : Bool) → a ≡ true → b ≡ true → (a && b) ≡ true
-both_true a b h g = rw (h, g) refl
-
-pub left_or : (a b : Bool) → a ≡ true → (a || b) ≡ true
-left_or a b h = rw h refl
-
-pub right_or : (a b : Bool) → b ≡ true → (a || b) ≡ true
-right_or true b h = refl
-right_or false b h = h
+    let f = (and_parts (a && b && c && d) e h).0 in
+    let g = (and_parts (a && b && c) d f).0 in
+    let i = (and_parts (a && b) c g).0 in
+    ((and_parts a b i).0, (and_parts a b i).1, (and_parts (a && b) c g).1, (and_parts (a && b && c) d f).1, (and_parts (a && b && c && d) e h).1)
 
 pub refuted : (a : Bool) → (a ≡ true → ⊥) → not a ≡ true
 refuted true h = absurd (h refl)

@@ -20,14 +20,14 @@ module _ (x : Token) (r s : List Token) where
   abbrev pub Same : List Token → List Token → Type 0
   Same k j = (q : List Token) × (k ≡ q ++ x ∷ r) × (j ≡ q ++ x ∷ s)
 
-  abbrev pub Alike : ReadResult → ReadResult → Type 0
-  Alike (Read t k) (Read u j) = (t ≡ u) × Same k j
-  Alike (SyntaxError k) (SyntaxError j) = Same k j
-  Alike _ _ = ⊥
+  abbrev pub SameResult : ReadResult → ReadResult → Type 0
+  SameResult (Read t k) (Read u j) = (t ≡ u) × Same k j
+  SameResult (SyntaxError k) (SyntaxError j) = Same k j
+  SameResult _ _ = ⊥
 
   -- The first has passed the token, or both are equal.
   abbrev pub Twin : ReadResult → ReadResult → Type 0
-  Twin o p = Alike o p ⊎ Small (length r) o
+  Twin o p = SameResult o p ⊎ Small (length r) o
 
   abbrev pub TwinReader : (Nonterminal → List Token → ReadResult) → Type 0
   TwinReader rd = (c : Nonterminal) (p : List Token) → Twin (rd c (p ++ x ∷ r)) (rd c (p ++ x ∷ s))

@@ -2,6 +2,7 @@
 use Rattle.std.specs.Prelude.{◌≡◌, ℕ, Bool, true, false, ◌==◌, ◌&&◌, List, [], ◌∷◌}
 use Rattle.std.specs.List.{list_all}
 use Rattle.std.proofs.Common.{refl, eq-eqb}
+use Rattle.std.proofs.lemmas.Bool.{and_parts}
 use Rattle.c_lex.specs.declared.keyword.Keyword.TheVariants as word
 use Rattle.c_lex.specs.declared.punct.Punct.TheVariants as mark
 use Rattle.c_lex.specs.declared.token.Token.{Token}
@@ -10,10 +11,10 @@ use Rattle.c_lex.specs.declared.token.TokenKind.TheVariants as kind
 use Rattle.c_ast.specs.Nonterminals.{Nonterminal, Many, Opt, External, AfterTag, AfterType, AfterName, Body, Members, Member, Locals, Decl, InitItems, InitEnded, InitOpen, Param, Spec, PlainSpec, Base, TypeName, Block, Item, Stmt, IfPart, ForFirst, Group, GroupLabel, Expr, includes, nonterminal_number, level_number, repeated_number, optional_number, same_nonterminal}
 use Rattle.c_ast.specs.Productions.{Level, Production}
 use Rattle.c_ast.specs.Productions as production
-use Rattle.c_ast.specs.Terminals.{Terminal, AnyName, AnyNumber, AnyChar, AnyLiteral, Word, Mark, SignWord, AssignMark, BinaryMark, UnaryMark, IncDecMark, is, keyword_number, mark_number, is_of_level, operator_level, is_assign_mark, is_unary_mark, is_inc_dec_mark}
+use Rattle.c_ast.specs.Terminals.{Terminal, AnyName, AnyNumber, AnyChar, AnyLiteral, ThisKeyword, Mark, SignKeyword, AssignMark, BinaryMark, UnaryMark, IncDecMark, is, keyword_number, mark_number, is_of_level, operator_level, is_assign_mark, is_unary_mark, is_inc_dec_mark}
 use Rattle.c_ast.specs.Tree.{Tree, Leaf, Node, Nil, Cons}
 use Rattle.c_ast.specs.Grammar.{Symbol, T, N, Form, One, All, Fits, rule, symbols_of, allowed, waits, else_fits, repeated, optional, tighter}
-use Rattle.c_grammar.proofs.Lists.{all_in, conj3, and_left, and_right}
+use Rattle.c_grammar.proofs.Lists.{all_in, conj3}
 use Rattle.c_grammar.proofs.Enumerations.{nonterminals, nonterminal_in}
 use Rattle.c_grammar.proofs.Trees.{fits_nil, fits_leaf, fits_cons}
 
@@ -33,9 +34,9 @@ fitting-true (Node l f) (One c) h =
     (g.0, g.1, fitting-true f (All (symbols_of l)) g.2)
 fitting-true Nil (All []) h = tt
 fitting-true (Cons (Leaf x) f) (All (T s ∷ symbols)) h =
-    (and_left (is s x.kind) (fitting (All symbols) f) h, fitting-true f (All symbols) (and_right (is s x.kind) (fitting (All symbols) f) h))
+    ((and_parts (is s x.kind) (fitting (All symbols) f) h).0, fitting-true f (All symbols) (and_parts (is s x.kind) (fitting (All symbols) f) h).1)
 fitting-true (Cons t f) (All (N c ∷ symbols)) h =
-    (fitting-true t (One c) (and_left (fitting (One c) t) (fitting (All symbols) f) h), fitting-true f (All symbols) (and_right (fitting (One c) t) (fitting (All symbols) f) h))
+    (fitting-true t (One c) (and_parts (fitting (One c) t) (fitting (All symbols) f) h).0, fitting-true f (All symbols) (and_parts (fitting (One c) t) (fitting (All symbols) f) h).1)
 fitting-true t (One c) h = absurd (cc h)
 fitting-true t (All []) h = absurd (cc h)
 fitting-true t (All (T s ∷ symbols)) h = absurd (cc h)
@@ -60,9 +61,9 @@ some_kind AnyName = kind.Name []
 some_kind AnyNumber = kind.Number 0 false
 some_kind AnyChar = kind.Char 0
 some_kind AnyLiteral = kind.Text []
-some_kind (Word w) = kind.Keyword w
+some_kind (ThisKeyword w) = kind.Keyword w
 some_kind (Mark m) = kind.Punct m
-some_kind SignWord = kind.Keyword word.Signed
+some_kind SignKeyword = kind.Keyword word.Signed
 some_kind AssignMark = kind.Punct mark.Equal
 some_kind (BinaryMark level) = some_operator level
 some_kind UnaryMark = kind.Punct mark.Minus
@@ -78,7 +79,7 @@ same_number n = eq-eqb n n refl
 
 pub some_is : (s : Terminal) → is s (some_kind s) ≡ true
 unfolding is is_assign_mark is_unary_mark is_inc_dec_mark keyword_number
-some_is (Word w) = same_number (keyword_number w)
+some_is (ThisKeyword w) = same_number (keyword_number w)
 some_is (Mark m) = same_number (mark_number m)
 some_is (BinaryMark level) = operator_is level
 some_is s = refl
@@ -99,7 +100,7 @@ abbrev pub some_expr : Tree
 some_expr = Node production.Name (row (leaf AnyName ∷ []))
 
 abbrev pub some_spec : Tree
-some_spec = Node production.Int (row (leaf (Word word.Int) ∷ []))
+some_spec = Node production.Int (row (leaf (ThisKeyword word.Int) ∷ []))
 
 abbrev pub semicolon : Tree
 semicolon = leaf (Mark mark.Semicolon)
@@ -119,7 +120,7 @@ abbrev pub some_stmt : Tree
 some_stmt = Node production.Null (row (semicolon ∷ []))
 
 abbrev pub some_production : Tree
-some_production = Node production.Default (row (leaf (Word word.Default) ∷ leaf (Mark mark.Colon) ∷ []))
+some_production = Node production.Default (row (leaf (ThisKeyword word.Default) ∷ leaf (Mark mark.Colon) ∷ []))
 
 abbrev pub some_member : Tree
 some_member =
@@ -134,7 +135,7 @@ unfoldable pub some_tree : Nonterminal → Tree
 some_tree (Many k) = Node (production.Empty k) Nil
 some_tree (Opt k) = Node (production.Absent k) Nil
 some_tree External =
-    Node production.Struct (row (leaf (Word word.Struct) ∷ leaf AnyName ∷ Node production.StructName (row (semicolon ∷ [])) ∷ []))
+    Node production.Struct (row (leaf (ThisKeyword word.Struct) ∷ leaf AnyName ∷ Node production.StructName (row (semicolon ∷ [])) ∷ []))
 some_tree AfterTag = Node production.StructName (row (semicolon ∷ []))
 some_tree AfterType = Node production.Declared (row (Node (production.Empty production.Stars) Nil ∷ leaf AnyName ∷ some_names ∷ []))
 some_tree AfterName = some_names
@@ -162,7 +163,7 @@ some_tree Block =
 some_tree Item = some_stmt
 some_tree Stmt = some_stmt
 some_tree IfPart =
-    Node production.If (row (leaf (Word word.If) ∷ leaf (Mark mark.LParen) ∷ some_whole ∷ leaf (Mark mark.RParen) ∷ some_stmt ∷ []))
+    Node production.If (row (leaf (ThisKeyword word.If) ∷ leaf (Mark mark.LParen) ∷ some_whole ∷ leaf (Mark mark.RParen) ∷ some_stmt ∷ []))
 some_tree ForFirst = Node production.ForClause (row (Node (production.Absent production.Clause) Nil ∷ semicolon ∷ []))
 some_tree Group =
     Node production.Group (row (some_production ∷ Node (production.Empty production.MoreLabels) Nil ∷ some_stmt ∷ Node (production.Empty production.MoreStmts) Nil ∷ []))
@@ -171,7 +172,8 @@ some_tree Expr = some_whole
 some_tree _ = some_expr
 
 trees_checked : list_all (λ c. fitting (One c) (some_tree c)) nonterminals ≡ true
-unfolding fitting some_tree rule symbols_of allowed includes nonterminal_number level_number repeated_number optional_number same_nonterminal repeated optional tighter is keyword_number mark_number is_of_level operator_level is_assign_mark is_unary_mark is_inc_dec_mark waits else_fits
+unfolding fitting some_tree rule symbols_of allowed includes nonterminal_number level_number repeated_number optional_number same_nonterminal repeated optional tighter is keyword_number
+    mark_number is_of_level operator_level is_assign_mark is_unary_mark is_inc_dec_mark waits else_fits
 trees_checked = refl
 
 -- it is one of the nonterminal

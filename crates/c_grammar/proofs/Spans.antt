@@ -9,7 +9,7 @@ use Rattle.c_ast.specs.Tree.{Tree, Leaf, Node, Nil, Cons}
 use Rattle.c_ast.specs.Spelling.{spelled, kinds}
 use Rattle.c_ast.specs.Grammar.{T, N, Form, One, All, Fits, symbols_of, waits, else_fits}
 use Rattle.c_grammar.specs.Laws.{without_spans}
-use Rattle.c_grammar.proofs.Firsts.{spelled_append}
+use Rattle.c_ast.proofs.lemmas.Spelling.{spelled_append}
 
 waits_bare : (t : Tree) → waits (without_spans t) ≡ waits t
 unfolding waits without_spans

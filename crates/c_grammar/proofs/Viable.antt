@@ -12,7 +12,7 @@ use Rattle.c_grammar.specs.PredictSets.{head, typed, start, next}
 use Rattle.c_grammar.specs.Reader.{ReadResult, Read, SyntaxError, OutOfFuel, and_then, production_of, token, one, children, begun, first, later, goes_on, turns, step, read}
 use Rattle.c_grammar.proofs.Bridges.{start_is}
 use Rattle.c_grammar.proofs.Trees.{fits_node, fits_leaf, fits_cons, else_fits_other, prefix_if_else, spelled_node, spelled_cons}
-use Rattle.c_grammar.proofs.Firsts.{spelled_append}
+use Rattle.c_ast.proofs.lemmas.Spelling.{spelled_append}
 use Rattle.c_grammar.proofs.Samples.{some_tree, some_fits, some_row, some_row_fits}
 use Rattle.c_grammar.proofs.Sound.{Sound, Got, Stands, both, parts_sound, later_fits, later_stands, begun_sound, read_sound}
 

@@ -27,8 +27,8 @@ OneTreeAtSpans =
     (a b : Tree) → FollowsGrammar a → FollowsGrammar b → spell a ≡ spell b → spans a ≡ spans b → a ≡ b
 
 -- A list of tokens is spelled by a tree with these spans, or is wrong from some token on.
-abbrev pub Judged : Type 0
-Judged =
+abbrev pub TreeOrWrong : Type 0
+TreeOrWrong =
     (ts : List Token) → ((t : Tree) × FollowsGrammar t × (tokens_of t ≡ ts)) ⊎ ((rest : List Token) × WrongFrom ts rest)
 
 -- It is wrong from one token on alone.

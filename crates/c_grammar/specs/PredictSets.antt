@@ -11,7 +11,7 @@ use Rattle.c_lex.specs.declared.token.TokenKind.TheVariants as kind
 use Rattle.c_ast.specs.Nonterminals.{Nonterminal, Many, Opt, External, AfterTag, AfterType, AfterName, Body, Members, Member, Locals, Decl, Init, InitItems, InitEnded, InitOpen, Param, Spec, PlainSpec, Base, TypeName, Block, Item, Stmt, IfPart, ForFirst, Group, GroupLabel, Expr, Assign, Cond, Binary, Cast, Unary, SizeofOperand, Postfix}
 use Rattle.c_ast.specs.Productions.{Level, Repeated, Optional, Production}
 use Rattle.c_ast.specs.Productions as production
-use Rattle.c_ast.specs.Terminals.{is, Word, Mark, AnyName, AnyLiteral, operator_level, is_assign_mark, is_unary_mark, is_inc_dec_mark}
+use Rattle.c_ast.specs.Terminals.{is, ThisKeyword, Mark, AnyName, AnyLiteral, operator_level, is_assign_mark, is_unary_mark, is_inc_dec_mark}
 use Rattle.c_ast.specs.Grammar.{allowed}
 
 -- ---- the tokens ahead
@@ -44,7 +44,7 @@ begins_type (kind.Keyword word.Struct) = true
 begins_type _ = false
 
 unfoldable pub begins_external : TokenKind → Bool
-begins_external k = begins_type k || is (Word word.Static) k
+begins_external k = begins_type k || is (ThisKeyword word.Static) k
 
 unfoldable pub begins_expr : TokenKind → Bool
 begins_expr (kind.Name name) = true
@@ -147,8 +147,8 @@ initialiser b k = if is (Mark mark.LBrace) k then Some production.InitList else 
 
 -- what the tokens are with which an optional symbol begins
 unfoldable pub begins_optional : Optional → TokenKind → Bool
-begins_optional production.Constant k = is (Word word.Const) k
-begins_optional production.ShortInt k = is (Word word.Int) k
+begins_optional production.Constant k = is (ThisKeyword word.Const) k
+begins_optional production.ShortInt k = is (ThisKeyword word.Int) k
 begins_optional production.SignedBase k = begins_base k
 begins_optional production.Size k = begins_expr k
 begins_optional production.Initialiser k = is (Mark mark.Equal) k
@@ -246,7 +246,7 @@ init_next _ k = if is (Mark mark.Comma) k then Some production.InitComma else No
 
 -- After an `if` an `else` goes on.
 unfoldable pub stmt_next : Production → TokenKind → Option Production
-stmt_next production.If k = if is (Word word.Else) k then Some production.IfElse else None
+stmt_next production.If k = if is (ThisKeyword word.Else) k then Some production.IfElse else None
 stmt_next _ k = None
 
 -- The production that takes a tree of the production l as its first child, in a nonterminal, by the kind of the next token.

@@ -1,5 +1,5 @@
 //! Laws of the grammar: each function has one as its contract, and does nothing.
-ghost use Rattle.c_grammar.specs.Laws.{OneTree, OneTreeAtSpans, Judged, OneToken, ReaderIsExact};
+ghost use Rattle.c_grammar.specs.Laws.{OneTree, OneTreeAtSpans, TreeOrWrong, OneToken, ReaderIsExact};
 
 /// Two trees that follow the grammar and have one spelling differ at most in their spans.
 pub fn a_spelling_has_one_tree()
@@ -15,7 +15,7 @@ pub fn a_spelling_has_one_tree_at_its_spans()
 /// on: up to there it begins such a spelling, and with that token it does not, or there it ends too
 /// early.
 pub fn tokens_are_a_tree_or_wrong()
-    ensures { Judged }
+    ensures { TreeOrWrong }
 {}
 
 /// That token is determined.

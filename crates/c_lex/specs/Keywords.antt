@@ -52,7 +52,14 @@ keyword_spelling keyword.ThreadLocal = codes "_Thread_local"
 
 abbrev pub all_keywords : List Keyword
 all_keywords =
-    keyword.Break ∷ keyword.Case ∷ keyword.Char ∷ keyword.Const ∷ keyword.Continue ∷ keyword.Default ∷ keyword.Do ∷ keyword.Else ∷ keyword.For ∷ keyword.If ∷ keyword.Int ∷ keyword.Return ∷ keyword.Short ∷ keyword.Signed ∷ keyword.Sizeof ∷ keyword.Static ∷ keyword.Struct ∷ keyword.Switch ∷ keyword.Unsigned ∷ keyword.Void ∷ keyword.While ∷ keyword.Auto ∷ keyword.Double ∷ keyword.Enum ∷ keyword.Extern ∷ keyword.Float ∷ keyword.Goto ∷ keyword.Inline ∷ keyword.Long ∷ keyword.Register ∷ keyword.Restrict ∷ keyword.Typedef ∷ keyword.Union ∷ keyword.Volatile ∷ keyword.Alignas ∷ keyword.Alignof ∷ keyword.Atomic ∷ keyword.Bool ∷ keyword.Complex ∷ keyword.Generic ∷ keyword.Imaginary ∷ keyword.Noreturn ∷ keyword.StaticAssert ∷ keyword.ThreadLocal ∷ []
+    keyword.Break ∷ keyword.Case ∷ keyword.Char ∷ keyword.Const ∷ keyword.Continue ∷ keyword.Default ∷
+    keyword.Do ∷ keyword.Else ∷ keyword.For ∷ keyword.If ∷ keyword.Int ∷ keyword.Return ∷ keyword.Short ∷
+    keyword.Signed ∷ keyword.Sizeof ∷ keyword.Static ∷ keyword.Struct ∷ keyword.Switch ∷ keyword.Unsigned ∷
+    keyword.Void ∷ keyword.While ∷ keyword.Auto ∷ keyword.Double ∷ keyword.Enum ∷ keyword.Extern ∷
+    keyword.Float ∷ keyword.Goto ∷ keyword.Inline ∷ keyword.Long ∷ keyword.Register ∷ keyword.Restrict ∷
+    keyword.Typedef ∷ keyword.Union ∷ keyword.Volatile ∷ keyword.Alignas ∷ keyword.Alignof ∷ keyword.Atomic ∷
+    keyword.Bool ∷ keyword.Complex ∷ keyword.Generic ∷ keyword.Imaginary ∷ keyword.Noreturn ∷
+    keyword.StaticAssert ∷ keyword.ThreadLocal ∷ []
 
 -- the keyword that is written so
 abbrev pub keyword_of : List ℕ → Option Keyword

@@ -54,7 +54,13 @@ punct_spelling mark.PipeEqual = codes "|="
 -- the longer ones first
 abbrev pub all_puncts : List Punct
 all_puncts =
-    mark.ShiftLeftEqual ∷ mark.ShiftRightEqual ∷ mark.Arrow ∷ mark.PlusPlus ∷ mark.MinusMinus ∷ mark.ShiftLeft ∷ mark.ShiftRight ∷ mark.LessEqual ∷ mark.GreaterEqual ∷ mark.EqualEqual ∷ mark.BangEqual ∷ mark.AmpAmp ∷ mark.PipePipe ∷ mark.StarEqual ∷ mark.SlashEqual ∷ mark.PercentEqual ∷ mark.PlusEqual ∷ mark.MinusEqual ∷ mark.AmpEqual ∷ mark.CaretEqual ∷ mark.PipeEqual ∷ mark.LParen ∷ mark.RParen ∷ mark.LBracket ∷ mark.RBracket ∷ mark.LBrace ∷ mark.RBrace ∷ mark.Semicolon ∷ mark.Comma ∷ mark.Dot ∷ mark.Amp ∷ mark.Star ∷ mark.Plus ∷ mark.Minus ∷ mark.Tilde ∷ mark.Bang ∷ mark.Slash ∷ mark.Percent ∷ mark.Less ∷ mark.Greater ∷ mark.Caret ∷ mark.Pipe ∷ mark.Question ∷ mark.Colon ∷ mark.Equal ∷ []
+    mark.ShiftLeftEqual ∷ mark.ShiftRightEqual ∷ mark.Arrow ∷ mark.PlusPlus ∷ mark.MinusMinus ∷
+    mark.ShiftLeft ∷ mark.ShiftRight ∷ mark.LessEqual ∷ mark.GreaterEqual ∷ mark.EqualEqual ∷ mark.BangEqual ∷
+    mark.AmpAmp ∷ mark.PipePipe ∷ mark.StarEqual ∷ mark.SlashEqual ∷ mark.PercentEqual ∷ mark.PlusEqual ∷
+    mark.MinusEqual ∷ mark.AmpEqual ∷ mark.CaretEqual ∷ mark.PipeEqual ∷ mark.LParen ∷ mark.RParen ∷
+    mark.LBracket ∷ mark.RBracket ∷ mark.LBrace ∷ mark.RBrace ∷ mark.Semicolon ∷ mark.Comma ∷ mark.Dot ∷
+    mark.Amp ∷ mark.Star ∷ mark.Plus ∷ mark.Minus ∷ mark.Tilde ∷ mark.Bang ∷ mark.Slash ∷ mark.Percent ∷
+    mark.Less ∷ mark.Greater ∷ mark.Caret ∷ mark.Pipe ∷ mark.Question ∷ mark.Colon ∷ mark.Equal ∷ []
 
 -- the longest punctuator that the text begins with: the first in that order
 abbrev pub punct_at : List ℕ → Option Punct

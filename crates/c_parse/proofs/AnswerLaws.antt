@@ -9,7 +9,7 @@ use Rattle.c_ast.specs.Nesting.{depth, deepest, after_token}
 use Rattle.c_ast.specs.Shape.{Shaped}
 use Rattle.c_ast.specs.Spelling.{kinds, tokens_of}
 use Rattle.c_ast.specs.Tree.{Tree}
-use Rattle.c_grammar.proofs.Judgement.{one_token}
+use Rattle.c_grammar.proofs.GrammarLaws.{one_token}
 use Rattle.c_grammar.proofs.Spans.{kinds_append}
 use Rattle.c_parse.specs.Refusal.{FirstTooDeep, offset_of, WrongAt, Answers, Agree, OneAnswer, ShapedIsAccepted}
 use Rattle.c_parse.specs.declared.fault.ParseFault.{ParseFault}

@@ -6,7 +6,7 @@ use Rattle.c_lex.specs.declared.keyword.Keyword.TheVariants as w
 use Rattle.c_lex.specs.declared.token.TokenKind.{TokenKind}
 use Rattle.c_ast.specs.Productions.{Production}
 use Rattle.c_ast.specs.Productions as production
-use Rattle.c_ast.specs.Terminals.{Word, is}
+use Rattle.c_ast.specs.Terminals.{ThisKeyword, is}
 use Rattle.c_grammar.specs.PredictSets.{at, stmt, item, begins_type, begins_external, begins_repeated}
 
 of_production : (l : Option Production) → is_some l ≡ option_map_or (λ x. true) l false
@@ -35,7 +35,7 @@ unfolding begins_repeated item
 item-begins None = refl
 item-begins (Some k) = by_type (begins_type k) (stmt k)
 
-pub external-begins : (h : Option TokenKind) → at (begins_repeated production.Externals) h ≡ (at begins_type h || at (is (Word w.Static)) h)
+pub external-begins : (h : Option TokenKind) → at (begins_repeated production.Externals) h ≡ (at begins_type h || at (is (ThisKeyword w.Static)) h)
 unfolding begins_repeated begins_external
 external-begins None = refl
 external-begins (Some k) = refl

@@ -23,7 +23,7 @@ use Rattle.c_ast.proofs.ExprViews.{expr_views}
 use Rattle.c_ast.proofs.ListLemmas.{grows}
 use Rattle.c_grammar.specs.Reader.{ReadResult, Read, and_then, read, step as reader_step, first, children, turns, goes_on, later, token, production_of}
 use Rattle.c_grammar.specs.PredictSets.{head, next}
-use Rattle.c_parse.proofs.ReadLemmas.{loops, token-as, at_mark}
+use Rattle.c_parse.proofs.ReadLemmas.{loops, token-as, at_mark, less}
 use Rattle.c_parse.proofs.TypeViews.{type-tree}
 use Rattle.c_parse.proofs.SameNonterminal.{sizeof-type, sizeof-other}
 
@@ -32,9 +32,6 @@ pub read-steps : (n : ℕ) (c : Nonterminal) (ts : List Token) → 0 < n →
 unfolding read reader_step
 read-steps zero c ts h = absurd (omega arith)
 read-steps (suc n) c ts h = let e : suc n - 1 ≡ n = omega arith in rw e
-
-less : (n i : ℕ) → i < n → n - i ≡ suc (n - (i + 1))
-less n i h = omega arith
 
 pub turn-none : (rd : Nonterminal → List Token → ReadResult) (n i : ℕ) (c : Nonterminal) (t : Tree) (ts : List Token) →
     i < n → next c (production_of t) (head ts) ≡ None → turns rd (n - i) c t ts ≡ Read t ts

@@ -5,18 +5,14 @@ use Rattle.c_ast.specs.Nonterminals.{Nonterminal}
 use Rattle.c_ast.specs.Grammar.{Symbol, symbols_of}
 use Rattle.c_ast.specs.Productions.{Production}
 use Rattle.c_ast.specs.Tree.{Tree, Node, Nil, Cons}
-use Rattle.c_grammar.specs.Reader.{ReadResult, Read, SyntaxError, OutOfFuel, and_then, one, children, begun, later}
+use Rattle.c_grammar.specs.Reader.{ReadResult, Read, SyntaxError, and_then, one, children, begun, later}
 use Rattle.c_parse.proofs.ReadLemmas.{then-then}
+use Rattle.c_parse.proofs.SameNonterminal.{then_same}
 
 -- a sequence of symbols, and what is made of their trees
 abbrev pub row : (Nonterminal → List Token → ReadResult) → List Symbol → List Token → (Tree → List Token → ReadResult) → ReadResult
 row rd [] ts go = go Nil ts
 row rd (s ∷ symbols) ts go = and_then (one rd s ts) (λ t k. row rd symbols k (λ f j. go (Cons t f) j))
-
-same_then : (o : ReadResult) (f g : Tree → List Token → ReadResult) → ((t : Tree) (k : List Token) → f t k ≡ g t k) → and_then o f ≡ and_then o g
-same_then (Read t k) f g same = same t k
-same_then (SyntaxError k) f g same = refl
-same_then OutOfFuel f g same = refl
 
 parts_row : (rd : Nonterminal → List Token → ReadResult) (symbols : List Symbol) (ts : List Token) (go : Tree → List Token → ReadResult) →
     and_then (children rd symbols ts) go ≡ row rd symbols ts go
@@ -24,7 +20,7 @@ unfolding children
 parts_row rd [] ts go = refl
 parts_row rd (s ∷ symbols) ts go =
     then-then (one rd s ts) (λ t k. and_then (children rd symbols k) (λ f j. Read (Cons t f) j)) go
-    ∙ same_then (one rd s ts) _ _ (λ t k.
+    ∙ then_same (one rd s ts) _ _ (λ t k.
     then-then (children rd symbols k) (λ f j. Read (Cons t f) j) go ∙ parts_row rd symbols k (λ f j. go (Cons t f) j))
 
 pub begun-row : (rd : Nonterminal → List Token → ReadResult) (l : Production) (ts : List Token) →

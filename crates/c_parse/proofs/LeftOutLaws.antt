@@ -1,7 +1,7 @@
 -- The grammar has no keyword that is left out.
 use Rattle.std.specs.Prelude.{◌≡◌, Bool, true, false, not, nat_le, ◌&&◌, List, [], ◌∷◌, None, find, option_map}
 use Rattle.std.proofs.Common.{refl, sym, ap, ◌∙◌}
-use Rattle.std.proofs.lemmas.Bool.{eqb-true}
+use Rattle.std.proofs.lemmas.Bool.{eqb-true, not-true, and_parts}
 use Rattle.c_lex.specs.declared.keyword.Keyword.{Keyword}
 use Rattle.c_lex.specs.declared.keyword.Keyword.TheVariants as word
 use Rattle.c_lex.specs.declared.token.Token.{Token}
@@ -13,7 +13,7 @@ use Rattle.c_ast.specs.Productions.{Production, Repeated, Optional}
 use Rattle.c_ast.specs.Productions as production
 use Rattle.c_ast.specs.Shape.{FollowsGrammar}
 use Rattle.c_ast.specs.Spelling.{spelled, tokens_of}
-use Rattle.c_ast.specs.Terminals.{Terminal, Word, SignWord, is, keyword_number}
+use Rattle.c_ast.specs.Terminals.{Terminal, ThisKeyword, SignKeyword, is, keyword_number}
 use Rattle.c_ast.specs.Tree.{Tree, Leaf, Node, Nil, Cons}
 use Rattle.c_parse.specs.LeftOut.{is_left_out, first_left_out}
 
@@ -25,25 +25,21 @@ unfolding keyword_number
 word_kept word.Break = refl
 word_kept k = refl
 
-sign_kept : (k : Keyword) → is SignWord (kind.Keyword k) ≡ true → keyword.is_left_out k ≡ false
+sign_kept : (k : Keyword) → is SignKeyword (kind.Keyword k) ≡ true → keyword.is_left_out k ≡ false
 unfolding is keyword_number
 sign_kept word.Signed e = refl
 sign_kept word.Unsigned e = refl
 sign_kept k e = cc e
 
 keeps : Terminal → Bool
-keeps (Word w) = not (keyword.is_left_out w)
+keeps (ThisKeyword w) = not (keyword.is_left_out w)
 keeps _ = true
-
-not_true : (b : Bool) → not b ≡ true → b ≡ false
-not_true true e = cc e
-not_true false e = refl
 
 terminal_kept : (s : Terminal) (k : TokenKind) → keeps s ≡ true → is s k ≡ true → is_left_out k ≡ false
 unfolding keeps is
-terminal_kept (Word w) (kind.Keyword k) h e =
-    word_kept k ∙ ap (nat_le 21) (sym (eqb-true (keyword_number w) (keyword_number k) e)) ∙ sym (word_kept w) ∙ not_true _ h
-terminal_kept SignWord (kind.Keyword k) h e = sign_kept k e
+terminal_kept (ThisKeyword w) (kind.Keyword k) h e =
+    word_kept k ∙ ap (nat_le 21) (sym (eqb-true (keyword_number w) (keyword_number k) e)) ∙ sym (word_kept w) ∙ not-true _ h
+terminal_kept SignKeyword (kind.Keyword k) h e = sign_kept k e
 terminal_kept s (kind.Keyword k) h e = cc e
 terminal_kept s k h e = refl
 
@@ -76,14 +72,6 @@ form_kept : Form → Bool
 form_kept (One c) = true
 form_kept (All symbols) = all_kept symbols
 
-and_left : (a b : Bool) → (a && b) ≡ true → a ≡ true
-and_left true b e = refl
-and_left false b e = cc e
-
-and_right : (a b : Bool) → (a && b) ≡ true → b ≡ true
-and_right true b e = e
-and_right false b e = cc e
-
 none_more : (x : Token) (ts : List Token) → is_left_out x.kind ≡ false → find (λ t. is_left_out t.kind) ts ≡ None → find (λ t. is_left_out t.kind) (x ∷ ts) ≡ None
 none_more x ts e n = rw e n
 
@@ -93,8 +81,8 @@ none_in (One c) (Node l children) more h k n = none_in (All (symbols_of l)) chil
 none_in (All []) Nil more h k n = n
 none_in (All (T s ∷ symbols)) (Cons (Leaf x) children) more h k n =
     none_more x (spelled children more)
-    (terminal_kept s x.kind (and_left (keeps s) (all_kept symbols) k) h.0)
-    (none_in (All symbols) children more h.1 (and_right (keeps s) (all_kept symbols) k) n)
+    (terminal_kept s x.kind (and_parts (keeps s) (all_kept symbols) k).0 h.0)
+    (none_in (All symbols) children more h.1 (and_parts (keeps s) (all_kept symbols) k).1 n)
 none_in (All (N c ∷ symbols)) (Cons child children) more h k n =
     none_in (One c) child (spelled children more) h.0 refl (none_in (All symbols) children more h.1 k n)
 none_in f t more h k n = absurd h

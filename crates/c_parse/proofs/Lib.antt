@@ -14,5 +14,5 @@ pub mod TypeViews
 pub mod AnswerLaws
 pub mod Counters
 pub mod FirstDeep
-pub mod Judging
+pub mod ParserAnswers
 pub mod LeftOutLaws

@@ -10,7 +10,7 @@ use Rattle.c_lex.specs.declared.token.TokenKind.{TokenKind}
 use Rattle.c_lex.specs.declared.token.TokenKind.TheVariants as kind
 use Rattle.c_ast.specs.declared.token.Span.{Span}
 use Rattle.c_ast.specs.Nodes.{mark, word, name, none_of}
-use Rattle.c_ast.specs.Terminals.{Terminal, Mark, Word, AnyName, SignWord, is, mark_number, keyword_number}
+use Rattle.c_ast.specs.Terminals.{Terminal, Mark, ThisKeyword, AnyName, SignKeyword, is, mark_number, keyword_number}
 use Rattle.c_ast.specs.Tree.{Tree, Leaf, Node, Cons}
 use Rattle.c_grammar.specs.Reader.{ReadResult, Read, SyntaxError, OutOfFuel, token, and_then, read, step, first, begun, children, turns, goes_on, later}
 use Rattle.c_grammar.specs.PredictSets.{head, at, start, next, begins_repeated}
@@ -30,7 +30,7 @@ at_mark p None e = cc
 at_mark p (Some (kind.Punct q)) e = ap (λ (r : Punct). Some (kind.Punct r)) (sym (same_mark p q e))
 at_mark p (Some k) e = cc
 
-pub at_word : (w : Keyword) (h : Option TokenKind) → at (is (Word w)) h ≡ true → h ≡ Some (kind.Keyword w)
+pub at_word : (w : Keyword) (h : Option TokenKind) → at (is (ThisKeyword w)) h ≡ true → h ≡ Some (kind.Keyword w)
 unfolding is
 at_word w None e = cc
 at_word w (Some (kind.Keyword q)) e = ap (λ (r : Keyword). Some (kind.Keyword r)) (sym (same_word w q e))
@@ -58,10 +58,10 @@ token-mark p span ts more e taken =
     token-taken (Mark p) (kind.Punct p) span ts more (at_mark p (head ts) e) taken (eq-eqb (mark_number p) (mark_number p) refl)
 
 pub token-word : (w : Keyword) (span : Span) (ts more : List Token) →
-    at (is (Word w)) (head ts) ≡ true → Takes ts span more → token (Word w) ts ≡ Read (word w span) more
+    at (is (ThisKeyword w)) (head ts) ≡ true → Takes ts span more → token (ThisKeyword w) ts ≡ Read (word w span) more
 unfolding is
 token-word w span ts more e taken =
-    token-taken (Word w) (kind.Keyword w) span ts more (at_word w (head ts) e) taken (eq-eqb (keyword_number w) (keyword_number w) refl)
+    token-taken (ThisKeyword w) (kind.Keyword w) span ts more (at_word w (head ts) e) taken (eq-eqb (keyword_number w) (keyword_number w) refl)
 
 pub token-name : (n : Name) (span : Span) (ts more : List Token) →
     option_and_then name_of (head ts) ≡ Some n → Takes ts span more → token AnyName ts ≡ Read (name (record { name = n; span = span })) more
@@ -99,16 +99,16 @@ token-as s z k (x ∷ ts) h e d = by_kind x.kind h
 
 -- ---- `signed` and `unsigned`
 
-pub token-unsigned : (ts : List Token) → at (is (Word w.Unsigned)) (head ts) ≡ true → token SignWord ts ≡ token (Word w.Unsigned) ts
+pub token-unsigned : (ts : List Token) → at (is (ThisKeyword w.Unsigned)) (head ts) ≡ true → token SignKeyword ts ≡ token (ThisKeyword w.Unsigned) ts
 unfolding is keyword_number
-token-unsigned ts e = token-as SignWord (Word w.Unsigned) (kind.Keyword w.Unsigned) ts (at_word w.Unsigned (head ts) e) refl refl
+token-unsigned ts e = token-as SignKeyword (ThisKeyword w.Unsigned) (kind.Keyword w.Unsigned) ts (at_word w.Unsigned (head ts) e) refl refl
 
-pub token-signed : (ts : List Token) → at (is (Word w.Unsigned)) (head ts) ≡ false → token SignWord ts ≡ token (Word w.Signed) ts
+pub token-signed : (ts : List Token) → at (is (ThisKeyword w.Unsigned)) (head ts) ≡ false → token SignKeyword ts ≡ token (ThisKeyword w.Signed) ts
 unfolding token is keyword_number
 token-signed [] e = refl
 token-signed (x ∷ ts) e = ap (λ (b : Bool). if b then Read (Leaf x) ts else SyntaxError (x ∷ ts)) (by_kind x.kind e)
   where
-    by_kind : (k : TokenKind) → is (Word w.Unsigned) k ≡ false → is SignWord k ≡ is (Word w.Signed) k
+    by_kind : (k : TokenKind) → is (ThisKeyword w.Unsigned) k ≡ false → is SignKeyword k ≡ is (ThisKeyword w.Signed) k
     by_kind (kind.Keyword w.Unsigned) e = cc
     by_kind (kind.Keyword w.Signed) e = refl
     by_kind k e = refl
@@ -149,7 +149,7 @@ unfolding read step first begun start symbols_of rule children
 many-first zero k ts h = absurd (omega arith)
 many-first (suc n) k ts h = let e : suc n - 1 ≡ n = omega arith in let d : suc n - 0 ≡ suc n = omega arith in rw (e, d)
 
-less : (n i : ℕ) → i < n → n - i ≡ suc (n - (i + 1))
+pub less : (n i : ℕ) → i < n → n - i ≡ suc (n - (i + 1))
 less n i h = omega arith
 
 pub many-on : (rd : Nonterminal → List Token → ReadResult) (n i : ℕ) (k : Repeated) (t : Tree) (ts : List Token) →

@@ -14,7 +14,7 @@ use Rattle.c_ast.specs.Tree.{Tree, Node}
 use Rattle.c_grammar.specs.Reader.{ReadResult, Read, SyntaxError, OutOfFuel, and_then, read, step, first, begun, children, turns, goes_on, production_of}
 use Rattle.c_grammar.specs.PredictSets.{head, typed, at, start, next, operand, operand_next, operation, suffix, mark_suffix, parenthesis, operand_mark, left, initialiser}
 
-then_same : (o : ReadResult) (f g : Tree → List Token → ReadResult) → ((t : Tree) (k : List Token) → f t k ≡ g t k) → and_then o f ≡ and_then o g
+pub then_same : (o : ReadResult) (f g : Tree → List Token → ReadResult) → ((t : Tree) (k : List Token) → f t k ≡ g t k) → and_then o f ≡ and_then o g
 then_same (Read t k) f g same = same t k
 then_same (SyntaxError k) f g same = refl
 then_same OutOfFuel f g same = refl

@@ -8,7 +8,7 @@ use Rattle.c_ast.specs.Nonterminals.{Block, Item, Stmt, ForFirst, Locals}
 use Rattle.c_ast.specs.Grammar.{symbols_of, rule}
 use Rattle.c_ast.specs.Productions.{Production}
 use Rattle.c_ast.specs.Productions as production
-use Rattle.c_ast.specs.Terminals.{Word, is}
+use Rattle.c_ast.specs.Terminals.{ThisKeyword, is}
 use Rattle.c_ast.specs.Tree.{Tree, Node, Cons}
 use Rattle.c_ast.proofs.ListLemmas.{grows}
 use Rattle.c_ast.proofs.StmtViews.{stmt_views}
@@ -19,7 +19,7 @@ use Rattle.c_parse.specs.declared.ahead.SimpleStart.TheVariants as simple
 use Rattle.c_parse.specs.Ahead.{simple_production}
 use Rattle.c_parse.proofs.ExprLemmas.{read-steps}
 use Rattle.c_parse.proofs.FlatReads.{rows}
-use Rattle.c_parse.proofs.PlainReads.{plain_reads}
+use Rattle.c_parse.proofs.PlainReads.{plain_reads, read-block, read-locals}
 use Rattle.c_parse.proofs.ReadLemmas.{repeats}
 use Rattle.c_parse.proofs.SameNonterminal.{read_plain, read_same}
 use Rattle.c_parse.proofs.TypeViews.{type_views}
@@ -44,16 +44,8 @@ pub simple-plain : (s : SimpleStart) → is_plain (simple_production s) ≡ true
 simple-plain simple.Null = refl
 simple-plain s = refl
 
-block_plain : (n : ℕ) (ts : List Token) → 0 < n → read n Block ts ≡ begun (read (n - 1)) (Some production.Block) ts
-unfolding start next
-block_plain n ts h = read_plain Block production.Block n ts h refl (λ k. refl)
-
-locals_plain : (n : ℕ) (ts : List Token) → 0 < n → read n Locals ts ≡ begun (read (n - 1)) (Some production.Locals) ts
-unfolding start next
-locals_plain n ts h = read_plain Locals production.Locals n ts h refl (λ k. refl)
-
 pub stmt-block : (n : ℕ) (ts : List Token) → 0 < n → start Stmt (head ts) (typed ts) ≡ Some production.Block → read n Stmt ts ≡ read n Block ts
-stmt-block n ts h e = stmt-plain n ts production.Block h e refl ∙ sym (block_plain n ts h)
+stmt-block n ts h e = stmt-plain n ts production.Block h e refl ∙ sym (read-block n ts h)
 
 -- ---- items of a block, and the first clause of a `for`
 
@@ -71,7 +63,7 @@ pub item-locals : (n : ℕ) (ts : List Token) → at begins_type (head ts) ≡ t
 unfolding read
 item-locals zero ts e = refl
 item-locals (suc n) ts e =
-    read_plain Item production.Locals (suc n) ts (omega arith) (start_item (head ts) (typed ts) e) next_locals ∙ sym (locals_plain (suc n) ts (omega arith))
+    read_plain Item production.Locals (suc n) ts (omega arith) (start_item (head ts) (typed ts) e) next_locals ∙ sym (read-locals (suc n) ts (omega arith))
 
 start_stmt : (h : Option TokenKind) (b : Bool) → at begins_type h ≡ false → start Item h b ≡ start Stmt h b
 unfolding start item
@@ -93,11 +85,11 @@ pub for-locals : (n : ℕ) (ts : List Token) → at begins_type (head ts) ≡ tr
 unfolding read next
 for-locals zero ts e = refl
 for-locals (suc n) ts e =
-    read_plain ForFirst production.Locals (suc n) ts (omega arith) (start_for (head ts) (typed ts) e) (λ k. refl) ∙ sym (locals_plain (suc n) ts (omega arith))
+    read_plain ForFirst production.Locals (suc n) ts (omega arith) (start_for (head ts) (typed ts) e) (λ k. refl) ∙ sym (read-locals (suc n) ts (omega arith))
 
 -- ---- `if`
 
-pub if-ends : (n : ℕ) (f : Tree) (ts : List Token) → 0 < n → at (is (Word w.Else)) (head ts) ≡ false →
+pub if-ends : (n : ℕ) (f : Tree) (ts : List Token) → 0 < n → at (is (ThisKeyword w.Else)) (head ts) ≡ false →
     turns (read (n - 1)) n Stmt (Node production.If f) ts ≡ Read (Node production.If f) ts
 unfolding turns goes_on next stmt_next production_of
 if-ends zero f ts h e = absurd (omega arith)
@@ -107,7 +99,7 @@ if-ends (suc n) f (x ∷ ts) h e = rw e
 after_else : (n : ℕ) (t : Tree) (ts : List Token) →
     and_then (later (read n) production.IfElse t ts) (turns (read n) n Stmt) ≡ later (read n) production.IfElse t ts
 unfolding later children one symbols_of rule read turns goes_on next stmt_next production_of
-after_else zero t ts = by_token (token (Word w.Else) ts)
+after_else zero t ts = by_token (token (ThisKeyword w.Else) ts)
   where
     by_token : (o : ReadResult) →
         and_then (and_then (and_then o (λ a k. and_then OutOfFuel (λ f j. Read (Cons a f) j))) (λ f k. Read (Node production.IfElse (Cons t f)) k)) (turns (λ c ts. OutOfFuel) zero Stmt)
@@ -128,12 +120,12 @@ after_else (suc n) t ts = by_out (children (read (suc n)) (drop 1 (symbols_of pr
     by_out (SyntaxError k) = refl
     by_out OutOfFuel = refl
 
-if_else : (n : ℕ) (f : Tree) (x : Token) (ts : List Token) → is (Word w.Else) x.kind ≡ true →
+if_else : (n : ℕ) (f : Tree) (x : Token) (ts : List Token) → is (ThisKeyword w.Else) x.kind ≡ true →
     turns (read n) (suc n) Stmt (Node production.If f) (x ∷ ts) ≡ later (read n) production.IfElse (Node production.If f) (x ∷ ts)
 unfolding turns goes_on next stmt_next production_of
 if_else n f x ts e = rw e (after_else n (Node production.If f) (x ∷ ts))
 
-pub if-goes : (n : ℕ) (f : Tree) (ts : List Token) → 0 < n → at (is (Word w.Else)) (head ts) ≡ true →
+pub if-goes : (n : ℕ) (f : Tree) (ts : List Token) → 0 < n → at (is (ThisKeyword w.Else)) (head ts) ≡ true →
     turns (read (n - 1)) n Stmt (Node production.If f) ts ≡ later (read (n - 1)) production.IfElse (Node production.If f) ts
 if-goes zero f ts h e = absurd (omega arith)
 if-goes (suc n) f [] h e = cc

@@ -31,6 +31,7 @@ pub enum SpecStart {
 }
 
 impl Tokens<'_> {
+    /// The keyword of an integer type that comes next, or `None` before anything else.
     pub fn base_keyword(&self) -> Option<BaseKeyword>
         ensures { option_map base_production result ≡ option_and_then predict.base (head self.now) }
     {
@@ -42,6 +43,7 @@ impl Tokens<'_> {
         }
     }
 
+    /// How the type specifiers that come next begin, or `None` where none do.
     pub fn spec_start(&self) -> Option<SpecStart>
         ensures { option_map spec_production result ≡ option_and_then predict.spec (head self.now) }
     {
@@ -124,6 +126,7 @@ impl Tokens<'_> {
     }
 }
 
+/// Whether the type of a declaration may begin with a token of this kind.
 pub fn begins_type(kind: &TokenKind) -> bool
     ensures { result ≡ predict.begins_type kind.now }
 {
@@ -142,6 +145,7 @@ pub fn begins_type(kind: &TokenKind) -> bool
     )
 }
 
+/// Whether an expression may begin with a token of this kind.
 pub fn begins_expr(kind: &TokenKind) -> bool
     ensures { result ≡ predict.begins_expr kind.now }
 {
@@ -203,6 +207,7 @@ pub enum ExternalStart {
 }
 
 impl Tokens<'_> {
+    /// How the statement that comes next begins, or `None` where none does.
     pub fn stmt_start(&self) -> Option<StmtStart>
         ensures { option_map stmt_production result ≡ option_and_then predict.stmt (head self.now) }
     {
@@ -231,6 +236,7 @@ impl Tokens<'_> {
         self.sees_type() || self.sees_statement()
     }
 
+    /// The label of a `switch` that comes next, or `None` where none does.
     pub fn label_start(&self) -> Option<LabelStart>
         ensures { option_map case_production result ≡ option_and_then predict.group_label (head
             self.now) }
@@ -259,6 +265,7 @@ impl Tokens<'_> {
         self.label_start().is_some()
     }
 
+    /// How the declaration at file scope that comes next begins, or `None` where none does.
     pub fn external_start(&self) -> Option<ExternalStart>
         ensures { option_map external_production result ≡ option_and_then predict.external (head
             self.now) }

@@ -17,7 +17,7 @@ ghost use Rattle.c_parse.specs.Made.{inits_tree, more_production};
 ghost use Rattle.c_parse.specs.Reading.{Gives};
 
 use crate::fault::Fault;
-use crate::held::try_with;
+use crate::held::{read_list, try_with};
 use crate::operators::Precedence;
 use crate::tokens::Tokens;
 use c_ast::{Declarator, Expr, Init, Initializer, Locals, Next, OpenDimension, Span, Spec};
@@ -57,16 +57,12 @@ impl Tokens<'_> {
             return Err(Fault::OutOfFuel);
         }
         let mut found = Items::new(self.alloc);
-        for _turn in 0..fuel {
-            if !self.sees(Punct::LBracket) {
-                return Ok(found);
-            }
+        read_list!(found, fuel; self.sees(Punct::LBracket); {
             let open = self.expect(Punct::LBracket)?;
             let size = self.size(fuel - 1)?;
             let close = try_with!(self.expect(Punct::RBracket); size);
-            found.push(OpenDimension { open, size, close })?;
-        }
-        Err(Fault::OutOfFuel)
+            OpenDimension { open, size, close }
+        })
     }
 
     /// Whether an initialiser comes next.
@@ -223,15 +219,11 @@ impl Tokens<'_> {
             return Err(Fault::OutOfFuel);
         }
         let mut more = Items::new(self.alloc);
-        for _turn in 0..fuel {
-            if !self.sees(Punct::Comma) {
-                return Ok(more);
-            }
+        read_list!(more, fuel; self.sees(Punct::Comma); {
             let comma = self.expect(Punct::Comma)?;
             let element = self.declarator(fuel - 1)?;
-            more.push(Next { comma, element })?;
-        }
-        Err(Fault::OutOfFuel)
+            Next { comma, element }
+        })
     }
 
     /// A declaration of variables in a block.

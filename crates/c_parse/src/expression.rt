@@ -16,7 +16,7 @@ ghost use Rattle.c_ast.specs.Operators.{selection_production, inc_dec_mark, unar
 ghost use Rattle.c_parse.specs.Reading.{Gives};
 
 use crate::fault::Fault;
-use crate::held::try_with;
+use crate::held::{read_list, try_with};
 use crate::operators::{OperandStart, Precedence, Suffix, right_of};
 use crate::tokens::Tokens;
 use c_ast::{
@@ -363,15 +363,11 @@ impl Tokens<'_> {
             return Err(Fault::OutOfFuel);
         }
         let mut more = Items::new(self.alloc);
-        for _turn in 0..fuel {
-            if !self.sees(Punct::Comma) {
-                return Ok(more);
-            }
+        read_list!(more, fuel; self.sees(Punct::Comma); {
             let comma = self.expect(Punct::Comma)?;
             let element = self.operand(fuel - 1, Precedence::Assignment)?;
-            more.push(Next { comma, element })?;
-        }
-        Err(Fault::OutOfFuel)
+            Next { comma, element }
+        })
     }
 
     /// A type's name.
@@ -404,15 +400,11 @@ impl Tokens<'_> {
             return Err(Fault::OutOfFuel);
         }
         let mut found = Items::new(self.alloc);
-        for _turn in 0..fuel {
-            if !self.sees(Punct::LBracket) {
-                return Ok(found);
-            }
+        read_list!(found, fuel; self.sees(Punct::LBracket); {
             let open = self.expect(Punct::LBracket)?;
             let size = self.operand(fuel - 1, Precedence::Conditional)?;
             let close = try_with!(self.expect(Punct::RBracket); size);
-            found.push(Dimension { open, size, close })?;
-        }
-        Err(Fault::OutOfFuel)
+            Dimension { open, size, close }
+        })
     }
 }

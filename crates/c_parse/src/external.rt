@@ -15,7 +15,7 @@ ghost use Rattle.c_parse.specs.Reading.{Gives};
 
 use crate::ahead::ExternalStart;
 use crate::fault::Fault;
-use crate::held::try_with;
+use crate::held::{read_list, try_with};
 use crate::tokens::Tokens;
 use c_ast::{
     Body, Declarator, External, Function, Globals, Identifier, Initializer, Member, Members, Next,
@@ -87,15 +87,11 @@ impl Tokens<'_> {
             return Err(Fault::OutOfFuel);
         }
         let mut more = Items::new(self.alloc);
-        for _turn in 0..fuel {
-            if !self.sees(Punct::Comma) {
-                return Ok(more);
-            }
+        read_list!(more, fuel; self.sees(Punct::Comma); {
             let comma = self.expect(Punct::Comma)?;
             let element = self.member(fuel - 1)?;
-            more.push(Next { comma, element })?;
-        }
-        Err(Fault::OutOfFuel)
+            Next { comma, element }
+        })
     }
 
     /// Members of one type.
@@ -128,14 +124,7 @@ impl Tokens<'_> {
             return Err(Fault::OutOfFuel);
         }
         let mut found = Items::new(self.alloc);
-        for _turn in 0..fuel {
-            if !self.sees_type() {
-                return Ok(found);
-            }
-            let members = self.members(fuel - 1)?;
-            found.push(members)?;
-        }
-        Err(Fault::OutOfFuel)
+        read_list!(found, fuel; self.sees_type(); self.members(fuel - 1)?)
     }
 
     /// The name of a parameter, where it is written.
@@ -183,15 +172,11 @@ impl Tokens<'_> {
             return Err(Fault::OutOfFuel);
         }
         let mut more = Items::new(self.alloc);
-        for _turn in 0..fuel {
-            if !self.sees(Punct::Comma) {
-                return Ok(more);
-            }
+        read_list!(more, fuel; self.sees(Punct::Comma); {
             let comma = self.expect(Punct::Comma)?;
             let element = self.param(fuel - 1)?;
-            more.push(Next { comma, element })?;
-        }
-        Err(Fault::OutOfFuel)
+            Next { comma, element }
+        })
     }
 
     /// The parameters of a function, if any are written.

@@ -14,3 +14,20 @@ macro_rules! try_with {
 }
 
 pub(crate) use try_with;
+
+/// Reads a repetition into this list, and returns it from the caller: while the test holds, one
+/// more element is read and put at the end. Each element takes a turn of the fuel.
+macro_rules! read_list {
+    ($list:ident, $fuel:expr; $goes_on:expr; $element:expr) => {{
+        for _turn in 0..$fuel {
+            if !$goes_on {
+                return Ok($list);
+            }
+            let element = $element;
+            $list.push(element)?;
+        }
+        Err(Fault::OutOfFuel)
+    }};
+}
+
+pub(crate) use read_list;

@@ -12,6 +12,7 @@ ghost use Rattle.c_grammar.specs.PredictSets.{head, at};
 ghost use Rattle.c_parse.specs.Reading.{Gives, number_of, char_of, literal_of};
 
 use crate::fault::Fault;
+use crate::held::read_list;
 use crate::tokens::Tokens;
 use c_ast::{Expr, Literal};
 use c_lex::{Bytes, TokenKind};
@@ -109,13 +110,6 @@ impl<'a> Tokens<'a> {
             return Err(Fault::OutOfFuel);
         }
         let mut literals = Items::new(self.alloc);
-        for _turn in 0..fuel {
-            if !self.sees_literal() {
-                return Ok(literals);
-            }
-            let literal = self.literal()?;
-            literals.push(literal)?;
-        }
-        Err(Fault::OutOfFuel)
+        read_list!(literals, fuel; self.sees_literal(); self.literal()?)
     }
 }

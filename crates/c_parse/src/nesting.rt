@@ -4,7 +4,7 @@
 ghost use Rattle.std.specs.Prelude.{◌≡◌, ◌≤◌, ◌<◌, [], ◌∷◌, MatchOption, Some};
 ghost use Rattle.c_ast.specs.Nesting.{raised, popped, ended, after_mark, after_token, is_counted, depth_of, depth};
 ghost use Rattle.c_ast.specs.Spelling.{kinds};
-ghost use Rattle.c_ast.specs.Terminals.{is, Word};
+ghost use Rattle.c_ast.specs.Terminals.{is, ThisKeyword};
 ghost use Rattle.c_grammar.specs.PredictSets.{head, at};
 ghost use Rattle.limits.specs.Limits.{most_nesting};
 ghost use Rattle.c_lex.specs.declared.keyword.Keyword.TheVariants as word;
@@ -134,7 +134,7 @@ impl Counters {
 }
 
 fn begins_with_else(tokens: &[Token]) -> bool
-    ensures { result ≡ at (is (Word word.Else)) (head tokens.now) }
+    ensures { result ≡ at (is (ThisKeyword word.Else)) (head tokens.now) }
 {
     match tokens {
         [first, ..] => matches!(first.kind, TokenKind::Keyword(Keyword::Else)),

@@ -1,4 +1,4 @@
-#![tactic(auto, using(crate::proofs::Judging::judging))]
+#![tactic(auto, using(crate::proofs::ParserAnswers::parser_answers))]
 
 ghost use Rattle.c_parse.specs.Refusal.{Answers};
 

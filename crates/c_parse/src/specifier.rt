@@ -3,7 +3,7 @@
 ghost use Rattle.c_ast.specs.Nonterminals.{Opt, Many};
 ghost use Rattle.c_ast.specs.Nonterminals as nonterminal;
 ghost use Rattle.c_ast.specs.Productions as production;
-ghost use Rattle.c_ast.specs.Terminals.{SignWord};
+ghost use Rattle.c_ast.specs.Terminals.{SignKeyword};
 ghost use Rattle.c_ast.specs.Specifiers.{constant, stars, base_tree, spec_tree, sign_word};
 ghost use Rattle.c_ast.specs.Nodes.{opt, word};
 ghost use Rattle.c_lex.specs.declared.keyword.Keyword.TheVariants as w;
@@ -14,6 +14,7 @@ ghost use Rattle.std.specs.Prelude.{◌≡◌, [], ◌∷◌, false, IfOk};
 
 use crate::ahead::{BaseKeyword, SpecStart};
 use crate::fault::Fault;
+use crate::held::read_list;
 use crate::tokens::Tokens;
 use c_ast::{Base, Sign, Span, Spec};
 use c_lex::{Keyword, Punct};
@@ -43,14 +44,7 @@ impl Tokens<'_> {
             return Err(Fault::OutOfFuel);
         }
         let mut spans = Items::new(self.alloc);
-        for _turn in 0..fuel {
-            if !self.sees(Punct::Star) {
-                return Ok(spans);
-            }
-            let span = self.expect(Punct::Star)?;
-            spans.push(span)?;
-        }
-        Err(Fault::OutOfFuel)
+        read_list!(spans, fuel; self.sees(Punct::Star); self.expect(Punct::Star)?)
     }
 
     /// `char`, `int` or `short`, of which this one is to come next.
@@ -121,7 +115,8 @@ impl Tokens<'_> {
     /// `signed` or `unsigned`.
     #[tactic(auto, using(crate::proofs::ReadLemmas::signs))]
     fn sign(&mut self) -> Result<(Sign, Span), Fault>
-        ensures { Gives (λ s. word (sign_word s.0) s.1) (token SignWord self.old) result self.new }
+        ensures { Gives (λ s. word (sign_word s.0) s.1) (token SignKeyword self.old) result
+            self.new }
     {
         if self.sees_keyword(Keyword::Unsigned) {
             let span = self.expect_keyword(Keyword::Unsigned)?;

@@ -16,7 +16,7 @@ ghost use Rattle.c_parse.specs.Reading.{Gives};
 
 use crate::ahead::{LabelStart, SimpleStart, StmtStart};
 use crate::fault::Fault;
-use crate::held::try_with;
+use crate::held::{read_list, try_with};
 use crate::operators::Precedence;
 use crate::tokens::Tokens;
 use c_ast::{
@@ -137,14 +137,7 @@ impl Tokens<'_> {
             return Err(Fault::OutOfFuel);
         }
         let mut labels = Items::new(self.alloc);
-        for _turn in 0..fuel {
-            if !self.sees_label() {
-                return Ok(labels);
-            }
-            let label = self.label(fuel - 1)?;
-            labels.push(label)?;
-        }
-        Err(Fault::OutOfFuel)
+        read_list!(labels, fuel; self.sees_label(); self.label(fuel - 1)?)
     }
 
     /// A statement that begins so and holds no other.
@@ -378,14 +371,7 @@ impl Tokens<'_> {
             return Err(Fault::OutOfFuel);
         }
         let mut groups = Items::new(self.alloc);
-        for _turn in 0..fuel {
-            if !self.sees_label() {
-                return Ok(groups);
-            }
-            let group = self.group(fuel - 1)?;
-            groups.push(group)?;
-        }
-        Err(Fault::OutOfFuel)
+        read_list!(groups, fuel; self.sees_label(); self.group(fuel - 1)?)
     }
 
     /// Labels and the statements after them.
@@ -421,20 +407,14 @@ impl Tokens<'_> {
     /// Statements after the first one of a group.
     #[cycle(statement)]
     fn more_statements(&mut self, fuel: usize) -> Result<Items<Stmt>, Fault>
-        ensures { Gives stmts_tree (read fuel (Many production.MoreStmts) self.old) result self.new }
+        ensures { Gives stmts_tree (read fuel (Many production.MoreStmts) self.old) result
+            self.new }
     {
         if fuel == 0 {
             return Err(Fault::OutOfFuel);
         }
         let mut more = Items::new(self.alloc);
-        for _turn in 0..fuel {
-            if !self.sees_statement() {
-                return Ok(more);
-            }
-            let statement = self.statement(fuel - 1)?;
-            more.push(statement)?;
-        }
-        Err(Fault::OutOfFuel)
+        read_list!(more, fuel; self.sees_statement(); self.statement(fuel - 1)?)
     }
 
     /// A block.
@@ -460,14 +440,7 @@ impl Tokens<'_> {
             return Err(Fault::OutOfFuel);
         }
         let mut items = Items::new(self.alloc);
-        for _turn in 0..fuel {
-            if !self.sees_item() {
-                return Ok(items);
-            }
-            let item = self.item(fuel - 1)?;
-            items.push(item)?;
-        }
-        Err(Fault::OutOfFuel)
+        read_list!(items, fuel; self.sees_item(); self.item(fuel - 1)?)
     }
 
     /// A statement, or a declaration of variables.

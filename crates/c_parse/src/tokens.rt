@@ -3,7 +3,7 @@
 ghost use Rattle.std.specs.Prelude.{◌≡◌, ◌↔◌, [], ◌∷◌, IsTrue, IsSome, IfOk, drop};
 ghost use Rattle.std.specs.Option.{option_copied, option_and_then};
 ghost use Rattle.c_ast.specs.Nodes.{mark, word, name};
-ghost use Rattle.c_ast.specs.Terminals.{Mark, Word, AnyName, is};
+ghost use Rattle.c_ast.specs.Terminals.{Mark, ThisKeyword, AnyName, is};
 ghost use Rattle.c_ast.specs.Terminals as spec;
 ghost use Rattle.c_grammar.specs.Reader.{token};
 ghost use Rattle.c_grammar.specs.PredictSets.{head, at, typed, begins_type, begins_base, begins_expr};
@@ -33,6 +33,7 @@ impl<'a> Model for Tokens<'a> {
 }
 
 impl<'a> Tokens<'a> {
+    /// A reader at the first of these tokens.
     pub fn new(alloc: Global, tokens: &'a [Token]) -> Tokens<'a>
         ensures { result ≡ tokens.now }
     {
@@ -62,6 +63,7 @@ impl<'a> Tokens<'a> {
         }
     }
 
+    /// Whether every token has been read.
     pub fn is_empty(&self) -> bool
         ensures { IsTrue result ↔ (self.now ≡ []) }
     {
@@ -103,7 +105,7 @@ impl<'a> Tokens<'a> {
 
     /// Whether the next token is this keyword.
     pub fn sees_keyword(&self, keyword: Keyword) -> bool
-        ensures { result ≡ at (is (Word keyword)) (head self.now) }
+        ensures { result ≡ at (is (ThisKeyword keyword)) (head self.now) }
     {
         match self.peek() {
             Some(TokenKind::Keyword(next)) => keyword_number(keyword) == keyword_number(*next),
@@ -124,7 +126,7 @@ impl<'a> Tokens<'a> {
 
     /// Takes this keyword, which has to come next.
     pub fn expect_keyword(&mut self, keyword: Keyword) -> Result<Span, Fault>
-        ensures { Gives (word keyword) (token (Word keyword) self.old) result self.new }
+        ensures { Gives (word keyword) (token (ThisKeyword keyword) self.old) result self.new }
     {
         if self.sees_keyword(keyword) {
             Ok(self.take())

@@ -1,5 +1,6 @@
-//! A program that prints what the parser answers on sources. The sources are the lines of `stdin`, and the answers
-//! those of `stdout`. It stands on the lexer and the parser and promises nothing of its own.
+//! A program that prints what the parser answers on sources. The sources are the lines of `stdin`,
+//! and the answers those of `stdout`. It stands on the lexer and the parser and promises nothing of
+//! its own.
 #![tactic(auto)]
 
 use c_lex::{Token, lex};
@@ -8,7 +9,8 @@ use std::alloc::Global;
 use std::io;
 use std::rt::Env;
 
-/// The source of a row. Between two `@` stand a count, a blank and a text, which the source repeats that often.
+/// The source of a row. Between two `@` stand a count, a blank and a text, which the source repeats
+/// that often.
 fn source_of(alloc: Global, row: &str) -> io::Result<String> {
     let mut source = String::new(alloc);
     for (i, chunk) in row.split('@').enumerate() {
@@ -35,8 +37,8 @@ fn report(rt: &(impl Print + AllocGlobal), tokens: &[Token], length: u32) -> io:
     }
 }
 
-/// Prints the answer on a source. Where the row begins with `#`, it prints one for each number of first tokens, as if
-/// the source ended after them.
+/// Prints the answer on a source. Where the row begins with `#`, it prints one for each number of
+/// first tokens, as if the source ended after them.
 fn report_row(rt: &(impl Print + AllocGlobal), row: &str) -> io::Result<()> {
     let (text, cuts) = match row.strip_prefix('#') {
         Some(text) => (text, true),

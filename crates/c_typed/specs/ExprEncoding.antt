@@ -82,13 +82,16 @@ mutual
   form_inj (read a) (read u) p = λ i. read (place_inj a u (ap (λ g. head (tail g)) p) i)
   form_inj (address a) (address u) p = λ i. address (place_inj a u (ap (λ g. head (tail g)) p) i)
   form_inj (unary a b) (unary u v) p = λ i. unary (unary_op.the_row.coded.inj a u (ap (λ g. head (tail g)) p) i) (expr_inj b v (ap (λ g. head (tail (tail g))) p) i)
-  form_inj (binary a b c) (binary u v w) p = λ i. binary (binary_op.the_row.coded.inj a u (ap (λ g. head (tail g)) p) i) (expr_inj b v (ap (λ g. head (tail (tail g))) p) i) (expr_inj c w (ap (λ g. head (tail (tail (tail g)))) p) i)
+  form_inj (binary a b c) (binary u v w) p =
+      λ i. binary (binary_op.the_row.coded.inj a u (ap (λ g. head (tail g)) p) i) (expr_inj b v (ap (λ g. head (tail (tail g))) p) i) (expr_inj c w (ap (λ g. head (tail (tail (tail g)))) p) i)
   form_inj (logical_and a b) (logical_and u v) p = λ i. logical_and (expr_inj a u (ap (λ g. head (tail g)) p) i) (expr_inj b v (ap (λ g. head (tail (tail g))) p) i)
   form_inj (logical_or a b) (logical_or u v) p = λ i. logical_or (expr_inj a u (ap (λ g. head (tail g)) p) i) (expr_inj b v (ap (λ g. head (tail (tail g))) p) i)
-  form_inj (conditional a b c) (conditional u v w) p = λ i. conditional (expr_inj a u (ap (λ g. head (tail g)) p) i) (expr_inj b v (ap (λ g. head (tail (tail g))) p) i) (expr_inj c w (ap (λ g. head (tail (tail (tail g)))) p) i)
+  form_inj (conditional a b c) (conditional u v w) p =
+      λ i. conditional (expr_inj a u (ap (λ g. head (tail g)) p) i) (expr_inj b v (ap (λ g. head (tail (tail g))) p) i) (expr_inj c w (ap (λ g. head (tail (tail (tail g)))) p) i)
   form_inj (comma a b) (comma u v) p = λ i. comma (exprs_inj a u (ap (λ g. head (tail g)) p) i) (expr_inj b v (ap (λ g. head (tail (tail g))) p) i)
   form_inj (assign a b) (assign u v) p = λ i. assign (place_inj a u (ap (λ g. head (tail g)) p) i) (expr_inj b v (ap (λ g. head (tail (tail g))) p) i)
-  form_inj (compound a b c) (compound u v w) p = λ i. compound (compound_op.the_row.coded.inj a u (ap (λ g. head (tail g)) p) i) (place_inj b v (ap (λ g. head (tail (tail g))) p) i) (expr_inj c w (ap (λ g. head (tail (tail (tail g)))) p) i)
+  form_inj (compound a b c) (compound u v w) p =
+      λ i. compound (compound_op.the_row.coded.inj a u (ap (λ g. head (tail g)) p) i) (place_inj b v (ap (λ g. head (tail (tail g))) p) i) (expr_inj c w (ap (λ g. head (tail (tail (tail g)))) p) i)
   form_inj (inc_dec a b) (inc_dec u v) p = λ i. inc_dec (inc_dec_op.the_row.coded.inj a u (ap (λ g. head (tail g)) p) i) (place_inj b v (ap (λ g. head (tail (tail g))) p) i)
   form_inj (call a b) (call u v) p = λ i. call (coded_ℕ.inj a u (ap (λ g. head (tail g)) p) i) (exprs_inj b v (ap (λ g. head (tail (tail g))) p) i)
   form_inj get get p = refl

@@ -75,8 +75,10 @@ mutual
   stmt_inj null null p = refl
   stmt_inj (value a) (value u) p = λ i. value (expr_inj a u (ap (λ g. head (tail g)) p) i)
   stmt_inj (block a) (block u) p = λ i. block (items_inj a u (ap (λ g. head (tail g)) p) i)
-  stmt_inj (if_else a b c) (if_else u v w) p = λ i. if_else (expr_inj a u (ap (λ g. head (tail g)) p) i) (stmt_inj b v (ap (λ g. head (tail (tail g))) p) i) (stmt_inj c w (ap (λ g. head (tail (tail (tail g)))) p) i)
-  stmt_inj (loop a b c) (loop u v w) p = λ i. loop (optional_inj a u (ap (λ g. head (tail g)) p) i) (optional_inj b v (ap (λ g. head (tail (tail g))) p) i) (stmt_inj c w (ap (λ g. head (tail (tail (tail g)))) p) i)
+  stmt_inj (if_else a b c) (if_else u v w) p =
+      λ i. if_else (expr_inj a u (ap (λ g. head (tail g)) p) i) (stmt_inj b v (ap (λ g. head (tail (tail g))) p) i) (stmt_inj c w (ap (λ g. head (tail (tail (tail g)))) p) i)
+  stmt_inj (loop a b c) (loop u v w) p =
+      λ i. loop (optional_inj a u (ap (λ g. head (tail g)) p) i) (optional_inj b v (ap (λ g. head (tail (tail g))) p) i) (stmt_inj c w (ap (λ g. head (tail (tail (tail g)))) p) i)
   stmt_inj (do_while a b) (do_while u v) p = λ i. do_while (stmt_inj a u (ap (λ g. head (tail g)) p) i) (expr_inj b v (ap (λ g. head (tail (tail g))) p) i)
   stmt_inj break break p = refl
   stmt_inj continue continue p = refl

@@ -51,7 +51,8 @@ pub struct TPlace {
 #[cycle(typed)]
 #[derive(Drop)]
 pub enum PlaceForm {
-    /// The variable at this slot: as many variables of the function were in scope where it was declared.
+    /// The variable at this slot: as many variables of the function were in scope where it was
+    /// declared.
     Local(u32),
     /// The global of this number.
     Global(u32),

@@ -1,7 +1,7 @@
 use val_core::Op2;
 
-/// A comparison (ISO/IEC 9899:2011, 6.5.8, 6.5.9). Its operands have one type, which says whether it is of signed
-/// numbers, of unsigned numbers or of addresses.
+/// A comparison (ISO/IEC 9899:2011, 6.5.8, 6.5.9). Its operands have one type, which says whether
+/// it is of signed numbers, of unsigned numbers or of addresses.
 #[derive(Clone, Copy, PartialEq, Eq, Debug)]
 pub enum Relation {
     Less,
@@ -34,8 +34,8 @@ pub enum UnaryOp {
 /// What is done with two operands, which are evaluated from left to right. Sizes are in bytes.
 #[derive(Clone, Copy, PartialEq, Eq, Debug)]
 pub enum BinaryOp {
-    /// An operation on two numbers of the type of the expression; the right operand of a shift has a type of its own
-    /// (6.5.5 to 6.5.7, 6.5.10 to 6.5.12).
+    /// An operation on two numbers of the type of the expression; the right operand of a shift has
+    /// a type of its own (6.5.5 to 6.5.7, 6.5.10 to 6.5.12).
     Arithmetic(Op2),
     Compare(Relation),
     /// A pointer plus an integer, with the size of the pointed type (6.5.6).
@@ -59,8 +59,8 @@ pub enum CompoundOp {
     PointerMinus(u32),
 }
 
-/// `++` or `--` (6.5.2.4, 6.5.3.1): whether it goes up, whether its value is the old one (it stands after its operand),
-/// and by how much: 1, or the size of the pointed type in bytes.
+/// `++` or `--` (6.5.2.4, 6.5.3.1): whether it goes up, whether its value is the old one (it stands
+/// after its operand), and by how much: 1, or the size of the pointed type in bytes.
 #[derive(Clone, Copy, PartialEq, Eq, Debug)]
 pub struct IncDec {
     pub up: bool,

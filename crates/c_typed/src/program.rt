@@ -4,8 +4,9 @@ use c_type::{CType, Types};
 use std::marker::Model;
 use std::sync::Arc;
 
-/// A program: its struct definitions, its functions in source order, its globals (the variables at file scope and the
-/// string literals that are objects) in order of offset, and which function is `main`. Contracts see a plain record.
+/// A program: its struct definitions, its functions in source order, its globals (the variables at
+/// file scope and the string literals that are objects) in order of offset, and which function is
+/// `main`. Contracts see a plain record.
 #[derive(Drop)]
 pub struct Typed {
     pub structs: Types,
@@ -14,8 +15,9 @@ pub struct Typed {
     pub main: u32,
 }
 
-/// A function: its name, the offset of that, where its definition begins and ends in the source, its result's type, how
-/// many of its variables are parameters (they come first), its variables in order of declaration, and its body.
+/// A function: its name, the offset of that, where its definition begins and ends in the source,
+/// its result's type, how many of its variables are parameters (they come first), its variables in
+/// order of declaration, and its body.
 #[derive(Drop)]
 pub struct TFunction {
     pub name: Name,
@@ -28,15 +30,16 @@ pub struct TFunction {
     pub body: Vec<Item>,
 }
 
-/// A variable of a function: its type, and whether it is a memory object (its address is taken, or it is no scalar).
+/// A variable of a function: its type, and whether it is a memory object (its address is taken, or
+/// it is no scalar).
 #[derive(Drop)]
 pub struct Variable {
     pub ty: Arc<CType>,
     pub is_object: bool,
 }
 
-/// A global: the offset of its name or of the string literal, its type, whether it never changes, and what it begins with
-/// where that is not zero, in order of offset.
+/// A global: the offset of its name or of the string literal, its type, whether it never changes,
+/// and what it begins with where that is not zero, in order of offset.
 #[derive(Drop)]
 pub struct TGlobal {
     pub at: u32,
@@ -45,7 +48,8 @@ pub struct TGlobal {
     pub written: Vec<Written>,
 }
 
-/// What stands at an offset in bytes of a global: a word of 1, 2 or 4 bytes, the address of a global, or characters.
+/// What stands at an offset in bytes of a global: a word of 1, 2 or 4 bytes, the address of a
+/// global, or characters.
 #[derive(Drop)]
 pub enum Written {
     Word { offset: u32, width: u8, word: u32 },
@@ -61,7 +65,12 @@ impl Model for Typed {
 
     ghost coded = { coded_program };
 
-    ghost view = { λ p. record { structs = p.structs; functions = p.functions.items; globals = p.globals.items; main = p.main } };
+    ghost view = { λ p. record {
+      structs = p.structs;
+      functions = p.functions.items;
+      globals = p.globals.items;
+      main = p.main;
+    } };
 }
 
 impl Model for TFunction {
@@ -74,7 +83,16 @@ impl Model for TFunction {
 
     ghost use Rattle.c_typed.specs.StmtViews.{items_of};
 
-    ghost view = { λ f. record { name = f.name; at = f.at; starts = f.starts; ends = f.ends; result = f.result.value; params = f.params; variables = f.variables.items; body = items_of f.body.items } };
+    ghost view = { λ f. record {
+      name = f.name;
+      at = f.at;
+      starts = f.starts;
+      ends = f.ends;
+      result = f.result.value;
+      params = f.params;
+      variables = f.variables.items;
+      body = items_of f.body.items;
+    } };
 }
 
 impl Model for Variable {
@@ -99,5 +117,10 @@ impl Model for TGlobal {
 
     ghost use Rattle.c_typed.specs.ProgramViews.{written_of};
 
-    ghost view = { λ g. record { at = g.at; type = g.ty.value; fixed = g.fixed; written = map written_of g.written.items } };
+    ghost view = { λ g. record {
+      at = g.at;
+      type = g.ty.value;
+      fixed = g.fixed;
+      written = map written_of g.written.items;
+    } };
 }

@@ -2,8 +2,8 @@ use crate::TExpr;
 use c_lex::Bytes;
 use std::marker::Model;
 
-/// A statement (ISO/IEC 9899:2011, 6.8). A `while` is a loop without step, and a `for` a block of its header's
-/// declarations and a loop. Contracts see its tree.
+/// A statement (ISO/IEC 9899:2011, 6.8). A `while` is a loop without step, and a `for` a block of
+/// its header's declarations and a loop. Contracts see its tree.
 #[cycle(statement)]
 #[derive(Drop)]
 pub struct TStmt {
@@ -20,7 +20,8 @@ pub enum StmtForm {
     Block(Vec<Item>),
     /// An `if`, whose second branch is null where there is no `else`.
     IfElse(TExpr, Box<TStmt>, Box<TStmt>),
-    /// The condition, true where it is left out, is asked before each turn, and the step is done after it.
+    /// The condition, true where it is left out, is asked before each turn, and the step is done
+    /// after it.
     Loop {
         condition: Option<TExpr>,
         step: Option<TExpr>,
@@ -45,8 +46,8 @@ pub enum Item {
     Variable(Declaration),
 }
 
-/// The labels of a `switch` that stand together, and the statements after them: the words of its `case`s, in order,
-/// and whether `default` is among the labels.
+/// The labels of a `switch` that stand together, and the statements after them: the words of its
+/// `case`s, in order, and whether `default` is among the labels.
 #[cycle(statement)]
 #[derive(Drop)]
 pub struct Group {
@@ -55,8 +56,8 @@ pub struct Group {
     pub body: Vec<Item>,
 }
 
-/// The declaration of a variable (6.7): its number in the function, whether its initialiser names it, and what it begins
-/// with.
+/// The declaration of a variable (6.7): its number in the function, whether its initialiser names
+/// it, and what it begins with.
 #[derive(Drop)]
 pub struct Declaration {
     pub variable: u32,
@@ -73,7 +74,8 @@ pub enum Initial {
     Elements(Vec<Element>),
 }
 
-/// A written element, at its offset in bytes: a value, or the characters of a string without its closing zero.
+/// A written element, at its offset in bytes: a value, or the characters of a string without its
+/// closing zero.
 #[derive(Drop)]
 pub enum Element {
     Value { offset: u32, value: TExpr },

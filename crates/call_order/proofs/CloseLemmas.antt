@@ -11,10 +11,6 @@ use Rattle.call_order.proofs.ReachLemmas.{reaches-keeps}
 use Rattle.call_order.proofs.StageLemmas.{above-small, closed-parts, closed-onward, closed-kept, inside-from_stage}
 use Rattle.call_order.proofs.AllAtLemmas.{length-all_at, all_at-other, all_at-here, count-all_at_more, count-all_at_same}
 
-pub written-back : {X : Type 0} (xs new : List X) (n : ℕ) → n ≡ length xs → length new ≡ length xs → take n (new ++ drop (length new) xs) ≡ new
-written-back xs new n e f =
-    ap (λ ys. take n (new ++ ys)) (drop_all (length new) xs (omega arith)) ∙ (ap (take n) (append-nil new) ∙ take_all n new (omega arith))
-
 pub closes-answer : (calls : List (List ℕ)) (stages stages1 : List Stage) (members part : List ℕ) (from unit rank : ℕ) (stages' : List Stage) (members' : List ℕ) → part ≡ drop from members
     → stages1 ≡ stages → Contains part unit → ((a : ℕ) → a < length part → unit ≤ slice_index part a)
     → ((a k : ℕ) → a < length part → Calls calls (slice_index part a) k → above (stage_of stages1 k) ≤ rank)

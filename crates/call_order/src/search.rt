@@ -69,7 +69,8 @@ fn rank_of(calls: &[Vec<u32>], stages: &[Stage], members: &[u32]) -> u32
 }
 
 impl Search {
-    ghost use Rattle.call_order.specs.Search.{IsSearchOf, ClosesFrom, StayEntered, new_count, work_left};
+    ghost use Rattle.call_order.specs.Search.{IsSearchOf, ClosesFrom, StayEntered, new_count};
+    ghost use Rattle.call_order.specs.Search.{work_left};
 
     /// A search that has entered none of this many functions.
     pub(crate) fn new(alloc: Global, count: usize) -> Result<Self, AllocError>

@@ -1,5 +1,6 @@
-//! A program for measuring parts of the compiler, and for comparing them with outside programs: the scripts of
-//! `tools/` run it. It stands on the parts that it measures and promises nothing of its own.
+//! A program for measuring parts of the compiler, and for comparing them with outside programs: the
+//! scripts of `tools/` run it. It stands on the parts that it measures and promises nothing of its
+//! own.
 #![tactic(auto)]
 
 use c_lex::lex;
@@ -19,7 +20,8 @@ fn count_tokens(rt: &(impl Input + Print + AllocGlobal)) -> io::Result<()> {
     }
 }
 
-/// Reads a source from standard input and tells how many declarations it has at file scope, or its fault.
+/// Reads a source from standard input and tells how many declarations it has at file scope, or its
+/// fault.
 fn count_declarations(rt: &(impl Input + Print + AllocGlobal)) -> io::Result<()> {
     let mut source = Vec::new(rt.alloc());
     rt.reader().read_to_end(&mut source)?;

@@ -6,7 +6,7 @@ use Rattle.std.specs.Prelude.{String, drop, find, fold, if◌then◌else◌, is_
 use Rattle.std.specs.Option.{option_map_or}
 use Rattle.std.specs.List.{list_all, list_any}
 use Rattle.std.specs.Str.{bytes_eq, IsUtf8}
-use Rattle.std.proofs.lemmas.Bool.{false≢true, ltb-true}
+use Rattle.std.proofs.lemmas.Bool.{false≢true, ltb-true, and_parts}
 use Rattle.clap.specs.Kinds.{Kinds, or_else}
 use Rattle.clap.specs.Walk.{Names, Rule, Walk, answers_to, arg_by_long, arg_by_short, finished, nothing_held, rows_after, settled, walk_from, walked}
 use Rattle.clap.specs.Simple.{App, Shape, built, entered, label_of, names_of, rows_at}
@@ -19,7 +19,7 @@ use Rattle.cc_command.specs.Reading.{found_by, read_app, read_by}
 use Rattle.cc_command.proofs.Classes.{IsPositional, IsOption, IsLetters, Class, a_positional, an_end, an_option, are_letters, class}
 use Rattle.cc_command.proofs.Lookups.{bytes-sym, either, same-bytes}
 use Rattle.cc_command.proofs.Settled.{IsFaulty, faulty-left, faulty-right, or_else-none}
-use Rattle.cc_command.proofs.ReadSoFar.{IsRead, Required, and-both, has_distinct_names}
+use Rattle.cc_command.proofs.ReadSoFar.{IsRead, Required, has_distinct_names}
 use Rattle.cc_command.proofs.AtEnd.{leaf}
 use Rattle.cc_command.proofs.Steps.{before, long-refused, outcome, short-refused, trailing}
 use Rattle.cc_command.proofs.FormReads.{AreTexts, all-reads}
@@ -39,7 +39,7 @@ nothing-read ps os = record { required = nothing-required ps; options = λ name 
 
 pub form-reads : {A : Type 0} (form : Form A) (ws : List Text) → is_sound form ≡ true → AreTexts ws → outcome (leaf form) (read_by form) (before nothing_held 1) ws ≡ command_by form ws
 form-reads form ws sound u =
-    let both = and-both (has_distinct_names form.positionals form.options) (nat_lt (length form.positionals) 998) sound in
+    let both = and_parts (has_distinct_names form.positionals form.options) (nat_lt (length form.positionals) 998) sound in
     let few : 1 + length form.positionals < 1000 = omega (arith, ltb-true (length form.positionals) 998 both.1) in
     (all-reads form both.0 few ws u).0 [] None [] [] tt (nothing-read form.positionals form.options)
 
@@ -100,8 +100,8 @@ module _ {A : Type 0} where
   pub named-sound : (name : Text) (fs : List (Form A)) (f : Form A) → list_all is_sound fs ≡ true → form_named name fs ≡ Some f → is_sound f ≡ true
   named-sound name [] f sound is = no-form f is
   named-sound name (g ∷ fs) f sound is =
-      by_test (and-both (is_sound g) (list_all is_sound fs) sound).0 (bytes_eq name g.name) refl is
-      (named-sound name fs f (and-both (is_sound g) (list_all is_sound fs) sound).1) where
+      by_test (and_parts (is_sound g) (list_all is_sound fs) sound).0 (bytes_eq name g.name) refl is
+      (named-sound name fs f (and_parts (is_sound g) (list_all is_sound fs) sound).1) where
         by_test : is_sound g ≡ true → (t : Bool) → bytes_eq name g.name ≡ t → form_named name (g ∷ fs) ≡ Some f → (form_named name fs ≡ Some f → is_sound f ≡ true) → is_sound f ≡ true
         by_test here true same is rest = subst (λ h. is_sound h ≡ true) (some-form g f (rw same at is)) here
         by_test here false other is rest = rest (rw other at is)

@@ -4,6 +4,7 @@ use Rattle.std.proofs.Common.{◌≡◌, ◌+◌, ◌<◌, ◌||◌, ◌++◌, B
 use Rattle.std.specs.Prelude.{if◌then◌else◌, option_map}
 use Rattle.std.specs.Str.{IsUtf8}
 use Rattle.std.proofs.Math.Bool.{and-false}
+use Rattle.std.proofs.lemmas.Bool.{or_left, or_right}
 use Rattle.clap.specs.Lexer.{usize_max}
 use Rattle.clap.specs.Kinds.{Kinds, or_else}
 use Rattle.clap.specs.Walk.{Held, Row, Rule, Walk, arg_by_index, arg_by_long, Waiting, arg_by_short, finished, idle, is_pending, option_word, pushed, settled, used, to_positional, value, walked}
@@ -24,13 +25,6 @@ use Rattle.cc_command.proofs.Steps.{before, expecting, letters-before, letters-e
 abbrev pub AreTexts : List Text → Type 0
 AreTexts [] = Unit {0}
 AreTexts (w ∷ ws) = IsUtf8 w × AreTexts ws
-
-pub or-known : (a b : Bool) → b ≡ true → (a || b) ≡ true
-or-known true b is = refl
-or-known false b is = is
-
-pub or-first : (a b : Bool) → a ≡ true → (a || b) ≡ true
-or-first a b is = rw is refl
 
 pub next-below : {A : Type 0} (form : Form A) (xs : List Text) (r : Text) → next_of form.positionals xs ≡ Some r → length xs < length form.positionals
 next-below form xs r is = below form.positionals xs is where
@@ -139,7 +133,7 @@ module _ {A : Type 0} (form : Form A) (distinct : has_distinct_names form.positi
   module _ (seen : Given) (last : Option (Text × Text)) (xs : List Text) (given : Given) (ready : IsReady seen last) (read : ReadAs (whole seen last) xs given)
       (r w : Text) (is : next_of form.positionals xs ≡ Some r) where
     pub next-ready : IsReady (whole seen last) (Some (r, w))
-    next-ready = (or-first (is_positional form.positionals r) (is_known form.options r) (next-positional form.positionals xs r is), next-free form.positionals xs (whole seen last) r is read.required)
+    next-ready = (or_left (is_positional form.positionals r) (is_known form.options r) (next-positional form.positionals xs r is), next-free form.positionals xs (whole seen last) r is read.required)
 
     pub next-read : ReadAs (whole (whole seen last) (Some (r, w))) (xs ++ w ∷ []) given
     next-read = read-positional form.positionals form.options distinct (whole seen last) xs given read r w is
@@ -181,7 +175,7 @@ module _ {A : Type 0} (form : Form A) (distinct : has_distinct_names form.positi
   named-unknown name unknown = subst (λ t. LongFound t name (arg_by_long rules name)) unknown (long-found 1 form.positionals form.options name)
 
   pub known-name : (name : Text) → is_known form.options name ≡ true → name_of name ≡ true
-  known-name name known = or-known (is_positional form.positionals name) (is_known form.options name) known
+  known-name name known = or_right (is_positional form.positionals name) (is_known form.options name) known
 
   module _ (seen : Given) (last : Option (Text × Text)) (xs : List Text) (given : Given) (ready : IsReady seen last) (read : ReadAs (whole seen last) xs given)
       (a name : Text) (known : is_known form.options name ≡ true) where

@@ -1,5 +1,5 @@
 -- The arguments of a form as the reader of command lines builds them, and what it finds among them.
-use Rattle.std.proofs.Common.{◌≡◌, ◌≢◌, ◌==◌, ◌+◌, ◌<◌, ◌||◌, ◌++◌, ◌⊎◌, inl, inr, Bool, true, false, ℕ, List, [], ◌∷◌, Option, Some, None, codes, refl, sym, ap, subst, ◌∙◌, length, min, arith, eq-eqb, eqb-true}
+use Rattle.std.proofs.Common.{◌≡◌, ◌≢◌, ◌==◌, ◌+◌, ◌<◌, ◌||◌, ◌++◌, ◌⊎◌, inl, inr, Bool, true, false, ℕ, List, [], ◌∷◌, Option, Some, None, codes, refl, sym, ap, subst, ◌∙◌, length, min, arith, eq-eqb, ne_eqb}
 use Rattle.std.specs.Prelude.{if◌then◌else◌, option_map}
 use Rattle.std.specs.List.{list_any}
 use Rattle.std.specs.Str.{bytes_eq}
@@ -24,12 +24,6 @@ bytes-sym xs ys = by_test (bytes_eq xs ys) (bytes_eq ys xs) refl refl where
   by_test true b is same = is ∙ sym (subst (λ zs. bytes_eq ys zs ≡ true) (sym (same-bytes xs ys is)) (bytes-refl ys))
   by_test false false is same = is ∙ sym same
   by_test false true is same = absurd (false≢true (sym is ∙ subst (λ zs. bytes_eq xs zs ≡ true) (sym (same-bytes ys xs same)) (bytes-refl xs)))
-
-pub other-number : (m n : ℕ) → m ≢ n → (m == n) ≡ false
-other-number m n differ = by_test (m == n) refl where
-  by_test : (b : Bool) → (m == n) ≡ b → (m == n) ≡ false
-  by_test true is = absurd (differ (eqb-true m n is))
-  by_test false is = is
 
 -- ---- the arguments as they are built
 
@@ -107,7 +101,7 @@ index-found i (p ∷ ps) os [] k at few =
     rw found (ap (λ j. Some (positional_rule j p.name)) same)
 index-found i (p ∷ ps) os (a ∷ xs) k at few =
     let differ : i ≢ k = omega (arith, at) in
-    let other : (i == k) ≡ false = other-number i k differ in
+    let other : (i == k) ≡ false = ne_eqb i k differ in
     let next : min (i + 1) usize_max ≡ i + 1 = omega arith in
     rw (other, next) (index-found (i + 1) ps os xs k (omega arith) (omega arith))
 

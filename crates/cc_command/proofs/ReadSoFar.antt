@@ -2,7 +2,7 @@
 use Rattle.std.proofs.Common.{◌≡◌, ◌||◌, ◌&&◌, ◌++◌, Bool, true, false, List, [], ◌∷◌, Some, None, refl, sym, ap, subst, ◌∙◌, append-nil}
 use Rattle.std.specs.Prelude.{not}
 use Rattle.std.specs.Str.{bytes_eq}
-use Rattle.std.proofs.lemmas.Bool.{false≢true}
+use Rattle.std.proofs.lemmas.Bool.{false≢true, not-true, or_parts, and_parts}
 use Rattle.cc_command.specs.ParsedArguments.{Text, once, values_of}
 use Rattle.cc_command.specs.Forms.{Positional, OptionForm}
 use Rattle.cc_command.proofs.Lookups.{bytes-refl, bytes-sym, is_known, is_positional, next_of, same-bytes}
@@ -31,20 +31,6 @@ pub record IsRead (ps : List Positional) (os : List OptionForm) (seen : Given) (
   pub options : (name : Text) → is_known os name ≡ true → values_of name seen ≡ values_of name given
   pub once : (name : Text) → AtMostOne (values_of name seen)
 
--- ---- Booleans
-
-pub or-false : (a b : Bool) → (a || b) ≡ false → (a ≡ false) × (b ≡ false)
-or-false true b is = absurd (false≢true (sym is))
-or-false false b is = (refl, is)
-
-pub and-both : (a b : Bool) → (a && b) ≡ true → (a ≡ true) × (b ≡ true)
-and-both true b is = (refl, is)
-and-both false b is = absurd (false≢true is)
-
-pub not-true : (a : Bool) → not a ≡ true → a ≡ false
-not-true true is = absurd (false≢true is)
-not-true false is = refl
-
 -- a test tells two names apart
 pub apart : (test : Text → Bool) (m n : Text) → test m ≡ true → test n ≡ false → bytes_eq m n ≡ false
 apart test m n passes fails = by_test (bytes_eq m n) refl where
@@ -66,10 +52,10 @@ pub required-other : (ps : List Positional) (xs : List Text) (seen : Given) (q :
 required-other [] [] seen q other r = tt
 required-other [] (x ∷ xs) seen q other r = r
 required-other (p ∷ ps) [] seen q other r =
-    let o = or-false (bytes_eq p.name q.0) (is_positional ps q.0) other in
+    let o = or_parts (bytes_eq p.name q.0) (is_positional ps q.0) other in
     (values_of-other p.name q seen o.0 ∙ r.0, required-other ps [] seen q o.1 r.1)
 required-other (p ∷ ps) (x ∷ xs) seen q other r =
-    let o = or-false (bytes_eq p.name q.0) (is_positional ps q.0) other in
+    let o = or_parts (bytes_eq p.name q.0) (is_positional ps q.0) other in
     (values_of-other p.name q seen o.0 ∙ r.0, required-other ps xs seen q o.1 r.1)
 
 pub none-some : {A : Type 0} (x : Text) → None ≡ Some x → A
@@ -97,8 +83,8 @@ module _ (os : List OptionForm) where
   pub first-distinct : (p : Positional) (ps : List Positional) → has_distinct_names (p ∷ ps) os ≡ true →
       (is_positional ps p.name ≡ false) × (is_known os p.name ≡ false) × (has_distinct_names ps os ≡ true)
   first-distinct p ps distinct =
-      let b = and-both (not (is_positional ps p.name || is_known os p.name)) (has_distinct_names ps os) distinct in
-      let o = or-false (is_positional ps p.name) (is_known os p.name) (not-true (is_positional ps p.name || is_known os p.name) b.0) in
+      let b = and_parts (not (is_positional ps p.name || is_known os p.name)) (has_distinct_names ps os) distinct in
+      let o = or_parts (is_positional ps p.name) (is_known os p.name) (not-true (is_positional ps p.name || is_known os p.name) b.0) in
       (o.0, o.1, b.1)
 
   -- an option is no required argument

@@ -1,7 +1,7 @@
-//! A program that prints what lists of arguments are to a command of two required arguments and three
-//! options. A table of them is in `stdin`, one list a line with a blank between two arguments, and
-//! what is printed in `stdout`.
-//! It stands on the reader of the commands, and its own command is read by the laws of all forms.
+//! A program that prints what lists of arguments are to a command of two required arguments and
+//! three options. A table of them is in `stdin`, one list a line with a blank between two
+//! arguments, and what is printed in `stdout`. It stands on the reader of the commands, and its own
+//! command is read by the laws of all forms.
 #![tactic(auto)]
 
 mod example;

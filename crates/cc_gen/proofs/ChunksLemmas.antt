@@ -31,9 +31,6 @@ pub gathered-more : (held : Option (List ℕ)) (xs ys : List ℕ) (sent : ℕ) �
 gathered-more held xs ys sent fits =
     ap (append held) (drop-append-le sent xs ys fits) ∙ sym (append-append held (drop sent xs) ys)
 
-take-shorter : (n k : ℕ) (xs : List ℕ) → n ≤ length (take k xs) → take n (take k xs) ≡ take n xs
-take-shorter n k xs fits = sym (take-append-le n (take k xs) (drop k xs) fits) ∙ ap (take n) (take-append-drop k xs)
-
 -- without the bytes that were not handed on, a prefix is held still
 pub unsent : (text : List ℕ) (first now : Option (List ℕ)) (rest : List ℕ) → held_length first ≤ held_length now
     → HoldsPrefix text first (append now rest) → HoldsPrefix text first now
@@ -54,7 +51,7 @@ unsent text (Some old) (Some now) rest grown h =
           ∙ ap (take (length now)) whole
           ∙ ap (λ k. take k (old ++ take h.count text)) long
           ∙ take-append-add old (take h.count text) n
-          ∙ ap (λ bytes. old ++ bytes) (take-shorter n h.count text fits));
+          ∙ ap (λ bytes. old ++ bytes) (sym (take-append-le n (take h.count text) (drop h.count text) fits) ∙ ap (take n) (take-append-drop h.count text)));
     }
 
 -- where nothing is gathered

@@ -109,7 +109,8 @@ impl<R: rt::Files> Files for DirFiles<'_, R> {
     ghost use Rattle.std.specs.Io.KnownBytes.{ReadConsumes, WriteAppends};
     ghost use Rattle.cc_io.specs.Faults.{HasCause};
     ghost use Rattle.cc_io.specs.Files.{Name, OnlyReadsRise, OnlyWritesRise};
-    ghost use Rattle.cc_io.specs.DirFiles.{name_of, bytes_of, open_file, made_file, reads_failed, writes_failed, opens_failed, creates_failed};
+    ghost use Rattle.cc_io.specs.DirFiles.{name_of, bytes_of, open_file, made_file, reads_failed};
+    ghost use Rattle.cc_io.specs.DirFiles.{writes_failed, opens_failed, creates_failed};
 
     ghost read_faults = { reads_failed };
 

@@ -55,7 +55,8 @@ fn make_room(text: &mut String, len: usize) -> Result<(), AllocError>
 
 impl MemFiles {
     ghost use Rattle.cc_io.specs.Files.{put_file, append_file};
-    ghost use Rattle.cc_io.specs.MemFiles.{files_of, open_name, open_left, written_name, written_room, files_calls, IsFaultless, IsSameFaults};
+    ghost use Rattle.cc_io.specs.MemFiles.{files_of, open_name, open_left, written_name};
+    ghost use Rattle.cc_io.specs.MemFiles.{written_room, files_calls, IsFaultless, IsSameFaults};
 
     /// No files. `failing` has the numbers of the calls that are to fail, counted from 0 over all
     /// calls of `Files`.
@@ -134,8 +135,12 @@ impl Files for MemFiles {
     ghost use Rattle.cc_io.specs.Faults.{HasCause, raised};
     ghost use Rattle.cc_io.specs.Source.{prepend, IsAtEnd};
     ghost use Rattle.cc_io.specs.Calls.{NextFails, CountsCall};
-    ghost use Rattle.cc_io.specs.Files.{Name, FileSet, content, put_file, append_file, OnlyReadsRise, OnlyWritesRise, OnlyOpensRise, OnlyCreatesRise};
-    ghost use Rattle.cc_io.specs.MemFiles.{files_of, open_name, open_left, written_name, written_room, files_calls, reads_failed, writes_failed, opens_failed, creates_failed, IsSameFaults};
+    ghost use Rattle.cc_io.specs.Files.{Name, FileSet, content, put_file, append_file};
+    ghost use Rattle.cc_io.specs.Files.{OnlyReadsRise, OnlyWritesRise, OnlyOpensRise};
+    ghost use Rattle.cc_io.specs.Files.{OnlyCreatesRise};
+    ghost use Rattle.cc_io.specs.MemFiles.{files_of, open_name, open_left, written_name};
+    ghost use Rattle.cc_io.specs.MemFiles.{written_room, files_calls, reads_failed, writes_failed};
+    ghost use Rattle.cc_io.specs.MemFiles.{opens_failed, creates_failed, IsSameFaults};
 
     ghost read_faults = { reads_failed };
 

@@ -1,58 +1,9 @@
 //! Builds through the top call, over files in memory.
-use crate::generated::ONE_FUNCTION;
-use cc_io::{MemFiles, MemSink, NoFailSource};
-use cc_top::top;
+use crate::calls::{ANSWER, BUILD, called_on};
+use cc_gen::generate;
+use cc_io::MemSink;
 use std::alloc::{AllocError, Global};
 use std::test::Fail;
-
-/// What a call of `build IN OUT` left.
-#[derive(Drop)]
-pub struct Left {
-    pub status: u8,
-    pub files: MemFiles,
-    pub report: MemSink,
-}
-
-fn words_of(alloc: Global, texts: &[&str]) -> Result<Vec<String>, AllocError> {
-    let mut words = Vec::new(alloc);
-    for text in texts {
-        words.push(String::from_str(alloc, text)?)?;
-    }
-    Ok(words)
-}
-
-/// Calls `top` with these words on a file `in` of these bytes, the numbered calls on the files
-/// failing.
-pub fn called(
-    alloc: Global,
-    texts: &[&str],
-    source: &[u8],
-    failing: &[u64],
-) -> Result<Left, AllocError> {
-    let words = words_of(alloc, texts)?;
-    let mut files = MemFiles::new(alloc, failing.to_vec(alloc)?);
-    files.insert("in", source.to_vec(alloc)?)?;
-    let mut input = NoFailSource::new(Vec::new(alloc));
-    let mut output = MemSink::new(alloc, Vec::new(alloc));
-    let mut report = MemSink::new(alloc, Vec::new(alloc));
-    let status = top(
-        alloc,
-        &words,
-        &mut files,
-        &mut input,
-        &mut output,
-        &mut report,
-    );
-    Ok(Left {
-        status,
-        files,
-        report,
-    })
-}
-
-pub const BUILD: [&str; 4] = ["rvcc", "build", "in", "out"];
-
-const ANSWER: &[u8] = b"int main(void) { return 42; }";
 
 const NOT_BUILT: &[u8] = b"refused NotBuilt 50 line 1\n";
 
@@ -119,13 +70,13 @@ fn sources_are_accepted_or_refused(rt: HostRuntime) -> Result<(), Fail> {
         b"int main(void) { return 042; }",
     ];
     for source in accepted {
-        let left = called(rt.alloc(), &BUILD, source, &[])?;
+        let left = called_on(rt.alloc(), &BUILD, source, &[])?;
         assert_eq!(rt; left.status, 0);
         assert_eq!(rt; left.report.bytes().len(), 0);
         assert_eq!(rt; left.files.get("out").map_or(0, |image| image.len()), 8200);
     }
     for (source, line) in &REFUSED {
-        let left = called(rt.alloc(), &BUILD, source, &[])?;
+        let left = called_on(rt.alloc(), &BUILD, source, &[])?;
         assert_eq!(rt; left.status, 4);
         assert_eq!(rt; left.report.bytes(), *line);
         assert!(rt; left.files.get("out").is_none());
@@ -138,10 +89,10 @@ fn long_sources_are_refused(rt: HostRuntime) -> Result<(), Fail> {
     let alloc = rt.alloc();
     let mut source = ANSWER.to_vec(alloc)?;
     source.resize(1_048_576, b' ')?;
-    assert_eq!(rt; called(alloc, &BUILD, &source, &[])?.status, 0);
+    assert_eq!(rt; called_on(alloc, &BUILD, &source, &[])?.status, 0);
     source[100] = b'\n';
     source.push(b'\n')?;
-    let left = called(alloc, &BUILD, &source, &[])?;
+    let left = called_on(alloc, &BUILD, &source, &[])?;
     assert_eq!(rt; left.status, 4);
     assert_eq!(rt;
         left.report.bytes(),
@@ -164,7 +115,7 @@ fn failing_calls_have_their_status(rt: HostRuntime) -> Result<(), Fail> {
         (7, 0, Some(8200)),
     ];
     for (failing, status, len) in rows {
-        let left = called(rt.alloc(), &BUILD, ANSWER, &[failing])?;
+        let left = called_on(rt.alloc(), &BUILD, ANSWER, &[failing])?;
         assert_eq!(rt; left.status, status, "call {failing}");
         assert_eq!(rt;
             left.files.get("out").map(|image| image.len()),
@@ -197,7 +148,7 @@ fn other_words_are_usage(rt: HostRuntime) -> Result<(), Fail> {
         &["rvcc", "gen", "1", "", "out"],
     ];
     for texts in rows {
-        let left = called(alloc, texts, ANSWER, &[])?;
+        let left = called_on(alloc, texts, ANSWER, &[])?;
         assert_eq!(rt; left.status, 1);
         assert!(rt;
             left.report
@@ -207,8 +158,8 @@ fn other_words_are_usage(rt: HostRuntime) -> Result<(), Fail> {
         assert!(rt; left.files.get("out").is_none());
     }
     let after_hyphens = ["rvcc", "build", "--", "in", "out"];
-    assert_eq!(rt; called(alloc, &after_hyphens, ANSWER, &[])?.status, 0);
-    let missing = called(alloc, &["rvcc", "build", "none", "out"], ANSWER, &[])?;
+    assert_eq!(rt; called_on(alloc, &after_hyphens, ANSWER, &[])?.status, 0);
+    let missing = called_on(alloc, &["rvcc", "build", "none", "out"], ANSWER, &[])?;
     assert_eq!(rt; missing.status, 2);
     assert_eq!(rt; missing.report.bytes(), b"read fault\n".as_slice());
     assert!(rt; missing.files.get("out").is_none());
@@ -220,19 +171,21 @@ const GEN: [&str; 5] = ["rvcc", "gen", "1", "1", "out"];
 #[test]
 fn a_program_is_generated(rt: HostRuntime) -> Result<(), Fail> {
     let alloc = rt.alloc();
-    let left = called(alloc, &GEN, ANSWER, &[])?;
+    let left = called_on(alloc, &GEN, ANSWER, &[])?;
     assert_eq!(rt; left.status, 0);
     assert_eq!(rt; left.report.bytes().len(), 0);
-    assert_eq!(rt; left.files.get("out"), Some(ONE_FUNCTION));
+    let mut text = MemSink::new(alloc, Vec::new(alloc));
+    assert!(rt; generate(1, 1, &mut text).is_ok());
+    assert_eq!(rt; left.files.get("out"), Some(text.bytes()));
     assert_eq!(rt; left.files.get("in"), Some(ANSWER));
 
-    let uncreated = called(alloc, &GEN, ANSWER, &[0])?;
+    let uncreated = called_on(alloc, &GEN, ANSWER, &[0])?;
     assert_eq!(rt; uncreated.status, 3);
     assert!(rt; uncreated.files.get("out").is_none());
 
     // Call 0 creates, and call 1 writes the first chunk.
     for (count, failing, left) in [("1", 1, 0), ("100", 2, 4096)] {
-        let cut = called(
+        let cut = called_on(
             alloc,
             &["rvcc", "gen", "1", count, "out"],
             ANSWER,
@@ -247,7 +200,7 @@ fn a_program_is_generated(rt: HostRuntime) -> Result<(), Fail> {
 
 /// The image of the first example.
 fn answer_image(alloc: Global) -> Result<Vec<u8>, AllocError> {
-    let left = called(alloc, &BUILD, ANSWER, &[])?;
+    let left = called_on(alloc, &BUILD, ANSWER, &[])?;
     left.files.get("out").unwrap_or(b"").to_vec(alloc)
 }
 
@@ -292,7 +245,7 @@ fn images_run_as_the_machine_says(rt: HostRuntime) -> Result<(), Fail> {
                 *old = *byte;
             }
         }
-        let left = called(alloc, &["rvcc", "run", "in", steps], &changed, &[])?;
+        let left = called_on(alloc, &["rvcc", "run", "in", steps], &changed, &[])?;
         assert_eq!(rt; left.status, status);
         assert_eq!(rt; left.report.bytes(), line);
     }
@@ -303,7 +256,7 @@ fn images_run_as_the_machine_says(rt: HostRuntime) -> Result<(), Fail> {
         (116, b"image BadSegment 4\n"),
         (8199, b"image BadSegment 4\n"),
     ] {
-        let left = called(
+        let left = called_on(
             alloc,
             &["rvcc", "run", "in"],
             image.get(..len).unwrap_or(b""),

@@ -1,5 +1,5 @@
 //! Sources that a build refuses, and the line that it reports.
-use crate::builds::{BUILD, called};
+use crate::calls::{BUILD, called_on};
 use std::alloc::{AllocError, Global};
 use std::test::Fail;
 
@@ -61,7 +61,7 @@ fn parenthesised(alloc: Global, count: usize) -> Result<Vec<u8>, AllocError> {
 fn sources_are_refused_at_their_lines(rt: HostRuntime) -> Result<(), Fail> {
     let alloc = rt.alloc();
     for (source, line) in &SOURCES {
-        let left = called(alloc, &BUILD, source, &[])?;
+        let left = called_on(alloc, &BUILD, source, &[])?;
         assert_eq!(rt; left.status, 4);
         assert_eq!(rt; left.report.bytes(), *line);
         assert!(rt; left.files.get("out").is_none());
@@ -75,12 +75,12 @@ fn long_and_deep_sources_are_refused(rt: HostRuntime) -> Result<(), Fail> {
     for (byte, count, line) in REPEATED {
         let mut source = Vec::new(alloc);
         source.resize(count, byte)?;
-        let left = called(alloc, &BUILD, &source, &[])?;
+        let left = called_on(alloc, &BUILD, &source, &[])?;
         assert_eq!(rt; left.status, 4);
         assert_eq!(rt; left.report.bytes(), line);
     }
     for (count, line) in PARENTHESES {
-        let left = called(alloc, &BUILD, &parenthesised(alloc, count)?, &[])?;
+        let left = called_on(alloc, &BUILD, &parenthesised(alloc, count)?, &[])?;
         assert_eq!(rt; left.status, 4);
         assert_eq!(rt; left.report.bytes(), line);
     }

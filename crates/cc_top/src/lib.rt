@@ -38,16 +38,17 @@ use std::alloc::Global;
 /// 4294967295, to the file OUT. What a user reads of the end is written on `report`, a line for
 /// each status but 0 of `build` and `gen`. The statuses:
 ///
-/// - 0: `build` or `gen` wrote OUT, or the program that `run` ran has exited; the line has its exit status.
+/// - 0: `build` or `gen` wrote OUT, or the program that `run` ran has exited; the line has its exit
+///   status.
 /// - 1: the arguments are no command. Nothing has changed.
 /// - 2: a file or the input was not read, since a call failed.
-/// - 3: a file, the output or the report was not written, since a call failed. A file or stream that was
-///   written then holds a prefix of what was to be written.
+/// - 3: a file, the output or the report was not written, since a call failed. A file or stream
+///   that was written then holds a prefix of what was to be written.
 /// - 4: the source is refused; the line names the rule, its number and the source's line.
 /// - 5: IMG is no executable that can be run; the line names the fault.
 /// - 6: memory ran out. No file was created or written.
-/// - 7: the program that `run` ran used up its stack, was not done after N instructions, or came to an
-///   instruction that cannot be done.
+/// - 7: the program that `run` ran used up its stack, was not done after N instructions, or came to
+///   an instruction that cannot be done.
 pub fn top<F: Files, I: Source, O: Sink, E: Sink>(
     alloc: Global,
     words: &[String],

@@ -1,6 +1,8 @@
 -- Worked rows of the definitions: small lambdas, and each broken in one place.
 use Rattle.std.proofs.Common.{◌≡◌, ℕ, zero, suc, ◌+◌, ◌^◌, true, false, List, [], ◌∷◌, map, replicate, length, slice_get, Some, None, refl, sym, ap, subst, ◌∙◌}
 use Rattle.std.proofs.lemmas.Option.{same_Some}
+use Rattle.std.proofs.lemmas.Bool.{leb-true}
+use Rattle.limits.specs.Limits.{counted_bytes, most_global_bytes}
 use Rattle.val_core.specs.declared.operation.Op2.TheVariants.{Add}
 use Rattle.val_core.specs.declared.operation.Op1.TheVariants.{Zext8}
 use Rattle.val_core.specs.declared.leaf.Leaf.{Leaf}
@@ -17,7 +19,7 @@ use Rattle.g_graph.specs.Ids.{region_ids}
 use Rattle.g_graph.specs.WellFormed.{well_formed, IsWellFormed, leaves_fit, all_of, distinct}
 use Rattle.g_graph.specs.Nodes.{constant as origin_word}
 use Rattle.g_graph.specs.Lists.{RegionOps, Calls, NamesGlobal, IsComplete}
-use Rattle.g_graph.specs.Program.{main_name, link_fits, IsGlobal, HasMain, IsProgram}
+use Rattle.g_graph.specs.Program.{main_name, link_fits, IsGlobal, HasMain, IsProgram, IsFunctionWithinLimits, IsWithinLimits}
 
 abbrev states : List Kind
 states = Memory ∷ Io ∷ []
@@ -250,6 +252,25 @@ returns_zero-program = record {
   named = λ f l e. subst (λ (k : PlainLambda). RegionOps (NamesGlobal 1) k.body) (at_zero returns_zero l f e).1 ((tt, tt), tt);
   globals = λ k d e. subst (λ (g : PlainDelta). IsGlobal 1 g) (at_zero (pointer (0 ∷ [])) d k e).1 (record { bytes = refl; leaves = refl; links = refl; apart = refl });
 }
+
+-- its function and its global are within the limits
+returns_zero-limits : IsWithinLimits (program_of (pointer (0 ∷ [])) (main_name ∷ [])) (returns_zero ∷ [])
+returns_zero-limits = record {
+  functions = leb-true _ _ refl;
+  each = λ f l e.
+      subst (λ (k : PlainLambda). IsFunctionWithinLimits k) (at_zero returns_zero l f e).1
+      (record { parameters = leb-true _ _ refl; objects = leb-true _ _ refl; values = leb-true _ _ refl });
+  values = leb-true _ _ refl;
+  globals = leb-true _ _ refl;
+}
+
+-- an object of one byte counts as eight bytes
+counted-byte : counted_bytes 1 ≡ 8
+counted-byte = refl
+
+-- the largest global that a program may have, alone
+counted-most : counted_bytes 1048572 ≡ most_global_bytes
+counted-most = refl
 
 -- two links at one offset
 two_links : distinct (map (λ (link : Link). link.at) (pointer (0 ∷ 0 ∷ [])).links) ≡ false

@@ -3,7 +3,7 @@ use Rattle.std.proofs.Common.{◌≡◌, ◌⊎◌, inl, inr, ℕ, zero, suc, Bo
 use Rattle.std.specs.Prelude.{◌==◌, ◌&&◌, ◌||◌, not, slice_get, unwrap_or, if◌then◌else◌}
 use Rattle.std.specs.declared.option.Option.{Option}
 use Rattle.std.specs.declared.option.Option.TheVariants.{Some, None}
-use Rattle.std.proofs.lemmas.Bool.{and_parts, false_from_ne_true, or_left, or_right, or_cases}
+use Rattle.std.proofs.lemmas.Bool.{and_parts, false_from_ne_true, or_left, or_right, or_cases, cases_Bool}
 use Rattle.g_graph.specs.declared.op.Kind.{Kind}
 use Rattle.g_graph.specs.declared.op.Kind.TheVariants.{Value, Memory, Io}
 use Rattle.g_graph.specs.declared.op.Origin.{Origin}
@@ -21,7 +21,7 @@ use Rattle.g_graph.proofs.lemmas.Unique.{same_number, equal_back}
 use Rattle.g_graph.proofs.NestLemmas.{RegionKept}
 use Rattle.g_graph.proofs.ScopeMaps.{ScopeMap, mapped_all, mapped_nodes_fit}
 use Rattle.g_graph.proofs.lemmas.Moved.{last_is_known}
-use Rattle.g_graph.proofs.lemmas.Indexes.{either, same_number_true, has_node-joined, kind_absent, kind_present, kind_known, index_kind, index_none, same_kind_true, GivesState, KeepsState, state_cases, last_gives, gives_last, each_node-joined}
+use Rattle.g_graph.proofs.lemmas.Indexes.{same_number_true, has_node-joined, kind_absent, kind_present, kind_known, index_kind, index_none, same_kind_true, GivesState, KeepsState, state_cases, last_gives, gives_last, each_node-joined}
 
 -- a replacement whose arguments take these inputs, and whose results are the node's outputs; its nodes, those before the node
 -- and those after it have numbers apart
@@ -246,7 +246,7 @@ module _ (objects : ℕ) (args : List Kind) (before : NodeTrees) (x : NodeTree) 
   after_known : (front rest : NodeTrees) → after ≡ joined_nodes front rest → (o : Origin) (k : Kind) → known args (joined_nodes before (node_then x front)) o ≡ Some k →
       known args (joined_nodes before (joined_nodes (nodes_redirected (args_to_inputs is) replacement) (nodes_redirected given front))) (given o) ≡ Some k
   after_known front rest w (Arg j) k e = e
-  after_known front rest w (Out n p) k e = by_front (either (has_node n front))
+  after_known front rest w (Out n p) k e = by_front (cases_Bool (has_node n front))
     where
       by_number : has_node n front ≡ false → (n == id_of x) ≡ true ⊎ (n == id_of x) ≡ false →
           known args (joined_nodes before (joined_nodes (nodes_redirected (args_to_inputs is) replacement) (nodes_redirected given front))) (given (Out n p)) ≡ Some k
@@ -272,7 +272,7 @@ module _ (objects : ℕ) (args : List Kind) (before : NodeTrees) (x : NodeTree) 
           ∙ kind_following front n p
           ∙ kind_present front n p (kind_after replacement n p (kind_after before n p None)) (if id_of x == n then joined (slice_get (output_kinds x) p) else kind_after before n p None) h
           ∙ sym (kind_before front n p) ∙ e
-      by_front (inr h) = by_number h (either (n == id_of x))
+      by_front (inr h) = by_number h (cases_Bool (n == id_of x))
 
   -- the scope after the node, with the replacement
   abbrev following : NodeTrees → NodeTrees
@@ -437,7 +437,7 @@ module _ (objects : ℕ) (args : List Kind) (before : NodeTrees) (x : NodeTree) 
           (sym (gives-joined k (nodes_redirected (args_to_inputs is) replacement) (nodes_redirected given after)) ∙ h))
 
   returns_more : (k : Kind) (r : Bool) → (k ≡ Value → ⊥) → (not (gives k (joined_nodes before (node_then x after))) || r) ≡ true → (not (gives k (following after)) || r) ≡ true
-  returns_more k r v e = by_gives (either (gives k (following after)))
+  returns_more k r v e = by_gives (cases_Bool (gives k (following after)))
     where
       by_gives : (gives k (following after) ≡ true) ⊎ (gives k (following after) ≡ false) → (not (gives k (following after)) || r) ≡ true
       by_gives (inl g) = or_right (not (gives k (following after))) r (needed (gives k (joined_nodes before (node_then x after))) r e (gives_more k v g))

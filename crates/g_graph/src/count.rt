@@ -36,7 +36,7 @@ fn values_of_node(node: &Node) -> u64
     total
 }
 
-// How many outputs a node has.
+/// How many outputs a node has.
 pub fn outputs(node: &Node) -> usize
     ensures { result ≡ length (output_kinds node.now) }
 {

@@ -10,6 +10,7 @@ use crate::count::outputs;
 use crate::kinds::{is_of, known, output_kind, same_kind};
 use crate::{Kind, Node, Origin};
 
+/// Whether these kinds are the wanted ones, in number too.
 pub fn same_kinds(kinds: &[Kind], wanted: &[Kind]) -> bool
     ensures { result ≡ same kinds.now wanted.now }
 {
@@ -24,7 +25,7 @@ pub fn same_kinds(kinds: &[Kind], wanted: &[Kind]) -> bool
     true
 }
 
-// Whether these origins have these kinds, in number too.
+/// Whether these origins have these kinds, in number too.
 pub fn have_kinds(args: &[Kind], before: &[Node], origins: &[Origin], wanted: &[Kind]) -> bool
     ensures { result ≡ are (map (known args.now (nodes_of before.now)) origins.now) wanted.now }
 {
@@ -44,7 +45,7 @@ pub fn have_kinds(args: &[Kind], before: &[Node], origins: &[Origin], wanted: &[
     true
 }
 
-// Whether these origins are a value and then these kinds.
+/// Whether these origins are a value and then these kinds.
 pub fn have_value_and(args: &[Kind], before: &[Node], origins: &[Origin], wanted: &[Kind]) -> bool
     ensures { result ≡ are (map (known args.now (nodes_of before.now)) origins.now)
         (Value ∷ wanted.now) }
@@ -70,7 +71,7 @@ fn all_values(args: &[Kind], before: &[Node], origins: &[Origin]) -> bool
     true
 }
 
-// Whether these origins are values and then both states, as a call takes them.
+/// Whether these origins are values and then both states, as a call takes them.
 #[tactic(auto, using(crate::proofs::KindLemmas::are_values_then, crate::proofs::KindLemmas::are_unequal))]
 pub fn have_values_and_states(args: &[Kind], before: &[Node], origins: &[Origin]) -> bool
     ensures { result ≡ are (map (known args.now (nodes_of before.now)) origins.now)
@@ -94,7 +95,7 @@ fn are_values(kinds: &[Kind]) -> bool
     true
 }
 
-// Whether these kinds are so many values and then both states.
+/// Whether these kinds are so many values and then both states.
 #[tactic(auto, using(crate::proofs::KindLemmas::same_values_then, crate::proofs::KindLemmas::same_values_unequal))]
 pub fn are_values_and_states(kinds: &[Kind], values: u32) -> bool
     ensures { result ≡ same kinds.now (replicate values Value ++ Memory ∷ Io ∷ []) }
@@ -107,8 +108,8 @@ pub fn are_values_and_states(kinds: &[Kind], values: u32) -> bool
     are_values(values) && same_kinds(states, &[Kind::Memory, Kind::Io])
 }
 
-// Whether these origins have the kinds that those of another region have, where they are known
-// there.
+/// Whether these origins have the kinds that those of another region have, where they are known
+/// there.
 #[tactic(auto, using(crate::proofs::KindLemmas::are_none))]
 pub fn match_known(
     args: &[Kind],
@@ -136,7 +137,7 @@ pub fn match_known(
     index == origins.len()
 }
 
-// How many of these origins have this kind.
+/// How many of these origins have this kind.
 pub fn count_of_origins(args: &[Kind], before: &[Node], origins: &[Origin], kind: Kind) -> usize
     ensures { result ≡ count_by (is_of kind)
         (map (known args.now (nodes_of before.now)) origins.now) }
@@ -148,6 +149,7 @@ pub fn count_of_origins(args: &[Kind], before: &[Node], origins: &[Origin], kind
     count
 }
 
+/// How many of these kinds are this one.
 pub fn count_of_args(args: &[Kind], kind: Kind) -> usize
     ensures { result ≡ count_by (is_of kind) (map Some args.now) }
 {
@@ -158,6 +160,7 @@ pub fn count_of_args(args: &[Kind], kind: Kind) -> usize
     count
 }
 
+/// How many outputs of the node have this kind.
 #[tactic(auto, using(crate::proofs::KindLemmas::count_by_port))]
 pub fn count_of_outputs(node: &Node, kind: Kind) -> usize
     ensures { result ≡ count_by (is_of kind) (output_kinds node.now) }

@@ -6,7 +6,8 @@ ghost use Rattle.g_graph.specs.Scope.{known, same_kind, is_of};
 
 use crate::{Kind, Node, Op, Origin, Region};
 
-// The kind of an origin in a region with these arguments, after these nodes of it.
+/// The kind of an origin in a region with these arguments, after these nodes of it; none where the
+/// origin is not there.
 pub fn known(args: &[Kind], before: &[Node], origin: Origin) -> Option<Kind>
     ensures { result ≡ known args.now (nodes_of before.now) origin }
 {
@@ -40,6 +41,7 @@ fn later(node: &Node, id: u32, port: usize, before: Option<Kind>) -> Option<Kind
     }
 }
 
+/// The kind of the node's output at this port; none where there is no such output.
 #[tactic(auto, using(crate::proofs::KindLemmas::joined_some))]
 #[cycle(kinds)]
 pub fn output_kind(node: &Node, port: usize) -> Option<Kind>
@@ -73,6 +75,7 @@ fn kind_at(kinds: &[Kind], index: usize) -> Option<Kind>
     kinds.get(index).copied()
 }
 
+/// The arguments of the first region; none where there is no region.
 pub fn first_args(regions: &[Region]) -> &[Kind]
     ensures { result.now ≡ first_args (regions_of regions.now) }
 {
@@ -82,7 +85,7 @@ pub fn first_args(regions: &[Region]) -> &[Kind]
     }
 }
 
-// The inputs of an op, where they depend on the op alone.
+/// The kinds of an op's inputs, where they depend on the op alone; none for the other ops.
 pub fn op_inputs(op: Op) -> &'static [Kind]
     ensures { result.now ≡ op_inputs op }
 {
@@ -112,6 +115,7 @@ fn op_outputs(op: Op) -> &'static [Kind]
     }
 }
 
+/// Whether the kinds are equal.
 pub fn same_kind(a: Kind, b: Kind) -> bool
     ensures { result ≡ same_kind a b }
 {
@@ -121,6 +125,7 @@ pub fn same_kind(a: Kind, b: Kind) -> bool
     )
 }
 
+/// Whether there is a kind, and it is this one.
 pub fn is_of(kind: Kind, found: Option<Kind>) -> bool
     ensures { result ≡ is_of kind found }
 {

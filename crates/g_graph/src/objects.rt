@@ -4,6 +4,8 @@ ghost use Rattle.g_graph.specs.WellFormed.{is_width, leaves_fit, all_of};
 use crate::Object;
 use val_core::Leaf;
 
+/// Whether the leaves of each object stand in order and apart within its bytes, each with a width
+/// that divides its offset.
 pub fn objects_fit(objects: &[Object]) -> bool
     ensures { result ≡ all_of (λ o. leaves_fit o.size 0 o.leaves) objects.now }
 {
@@ -40,6 +42,7 @@ fn leaf_fits(size: u32, from: u64, leaf: Leaf) -> bool
         && leaf.offset % leaf.width as u32 == 0
 }
 
+/// Whether a leaf may have so many bytes: 1, 2 or 4.
 pub fn is_width(width: u8) -> bool
     ensures { result ≡ is_width width }
 {

@@ -23,12 +23,14 @@ impl Model for StepList {
 }
 
 impl StepList {
+    /// The steps, in order.
     pub fn as_slice(&self) -> &[Step]
         ensures { result.now ≡ self.now }
     {
         &self.steps
     }
 
+    /// The vector that holds the steps. It takes no memory.
     pub fn into_vec(self) -> Vec<Step>
         ensures { result.items ≡ self }
     {

@@ -70,7 +70,7 @@ impl Change for Replacement {
 
 /// Puts the nodes of the replacement, whose arguments are origins of the region already, instead of
 /// the region's node `at`, uses of whose outputs become the replacement's results, in the same
-/// order. It takes time linear in the region and the part.
+/// order. It takes time linear in the region and the replacement.
 pub fn splice_region(region: &mut Region, at: u32, replacement: Region) -> Result<(), NoMemory>
     ensures ok { OnOk result (region.new ≡ region_spliced at replacement region.old) }
     ensures err { OnErr result (region.new ≡ region.old) }

@@ -10,7 +10,7 @@ use crate::count::outputs;
 use crate::kinds::{is_of, known, output_kind, same_kind};
 use crate::{Kind, Node, Origin};
 
-// Whether each of these origins is a value, or the last of its kind of state.
+/// Whether each of these origins is a value, or the last of its kind of state.
 pub fn all_last(args: &[Kind], before: &[Node], origins: &[Origin]) -> bool
     ensures { result ≡ all_of (is_last args.now (nodes_of before.now)) origins.now }
 {

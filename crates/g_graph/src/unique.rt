@@ -5,7 +5,7 @@ ghost use Rattle.g_graph.specs.WellFormed.{all_of, distinct};
 
 use crate::{Node, Region};
 
-// Whether the numbers of the nodes are unique and below the next.
+/// Whether the numbers of the nodes of the body, nested ones too, are unique and below `next`.
 #[tactic(auto, using(crate::proofs::lemmas::Unique::each_once))]
 pub fn numbers_fit(body: &Region, next: u32) -> bool
     ensures { result ≡ (distinct (region_ids body.now)

@@ -64,7 +64,7 @@ fn clear_block(alloc: Global, block: &Block) -> Result<Block, NoMemory>
     })
 }
 
-// A size, which is a word.
+/// A size as a word, modulo 2^32.
 pub fn word_of(size: u64) -> u32
     ensures { result ≡ word_of size }
 {

@@ -57,6 +57,7 @@ pub fn load(width: u8, at: Value, memory: &[Block]) -> Option<Value>
     }
 }
 
+/// Whether a store of this width and offset in the block of this name is defined.
 pub fn takes_store(width: u8, offset: u32, name: BlockName, memory: &[Block]) -> bool
     ensures { result ≡ takes_store width offset (block_named name (blocks_of memory.now)) }
 {
@@ -72,6 +73,7 @@ fn copy_cells(alloc: Global, cells: &[Cell]) -> Result<Vec<Cell>, NoMemory>
     Ok(Vec::from_slice(alloc, cells)?)
 }
 
+/// A block equal to this one; `NoMemory` only where the allocator has none.
 pub fn copy_block(alloc: Global, block: &Block) -> Result<Block, NoMemory>
     ensures { IfOk result (λ copy. block_of copy ≡ block_of block.now) }
 {

@@ -21,7 +21,8 @@ use no_memory::NoMemory;
 use std::alloc::Global;
 use val_core::{BlockName, Value, value1, value2};
 
-// The first byte of the block numbered k of some the first of which has the number `base`.
+/// The first byte of the block numbered k of some the first of which has the number `base`.
+/// `NoMemory` only where no number is left for it, at 2^64.
 pub fn address(base: u64, k: u32, size: Option<u64>) -> Result<Value, NoMemory>
     ensures { IfOk result (λ value. value ≡ block_address (base + k) size) }
 {
@@ -49,6 +50,7 @@ fn object_size(objects: &[Object], k: u32) -> Option<u64>
     }
 }
 
+/// The size of the global of this number; none where there is none.
 pub fn global_size(sizes: &[u64], k: u32) -> Option<u64>
     ensures { result ≡ slice_get sizes.now k }
 {

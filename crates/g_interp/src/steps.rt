@@ -41,6 +41,8 @@ pub enum Progress {
     Last(Answer),
 }
 
+/// The number that the first datum is, and the data after it; none where it is no number.
+/// `NoMemory` only where the allocator has none.
 pub fn take_number(alloc: Global, inputs: &[Datum]) -> Result<Option<Numbered>, NoMemory>
     ensures { IfOk result (λ found. MatchOption found (numbered (data_of inputs.now) ≡
         None) (λ n. numbered (data_of inputs.now) ≡ Some (n.number, data_of n.rest.items))) }
@@ -63,6 +65,8 @@ pub fn chosen(w: u32, regions: &[Region]) -> Option<&Region>
     regions.get(last.min(w as usize))
 }
 
+/// What comes after a turn of a loop that did these events and then gave this answer. `NoMemory`
+/// only where the allocator has none.
 pub fn after_turn(alloc: Global, events: Vec<Event>, answer: Answer) -> Result<Turn, NoMemory>
     ensures { IfOk result (λ turn. (next : Meaning) →
         before (events_of events.items) (then_on (answer_of answer) (again next)) ≡
@@ -92,6 +96,8 @@ pub fn after_turn(alloc: Global, events: Vec<Event>, answer: Answer) -> Result<T
     }
 }
 
+/// What comes after a node, which gave this answer after these outputs and events. `NoMemory` only
+/// where the allocator has none.
 pub fn after_node(
     id: u32,
     outputs: Vec<Output>,

@@ -8,22 +8,29 @@ use std::process::Abort;
 use std::test::Fail;
 use val_core::{Leaf, Op1, Op2};
 
+/// A value and both states.
 pub const KINDS: [Kind; 3] = [Kind::Value, Kind::Memory, Kind::Io];
 
+/// The value among the arguments of those kinds.
 pub const A: Origin = Origin::Arg(0);
 
+/// The memory among them.
 pub const M: Origin = Origin::Arg(1);
 
+/// The state of input and output among them.
 pub const I: Origin = Origin::Arg(2);
 
+/// An output of a node.
 pub const fn out(node: u32, port: u32) -> Origin {
     Origin::Out { node, port }
 }
 
+/// A node without regions; `NoMemory` only where the allocator has none.
 pub fn of(alloc: Global, id: u32, op: Op, inputs: &[Origin]) -> Result<Node, NoMemory> {
     with_regions(alloc, id, op, inputs, Vec::new(alloc))
 }
 
+/// A node with these regions; `NoMemory` as for `of`.
 pub fn with_regions(
     alloc: Global,
     id: u32,
@@ -40,6 +47,7 @@ pub fn with_regions(
     })
 }
 
+/// A region of copies of these lists; `NoMemory` as for `of`.
 pub fn region(
     alloc: Global,
     args: &[Kind],
@@ -73,6 +81,7 @@ fn theta(alloc: Global, id: u32, inputs: &[Origin], inside: Region) -> Result<No
     with_regions(alloc, id, Op::Theta, inputs, regions)
 }
 
+/// The lambda of this body, with one parameter and one object; `NoMemory` as for `of`.
 pub fn alone(alloc: Global, body: Region) -> Result<Lambda, NoMemory> {
     let leaf = Leaf {
         offset: 0,

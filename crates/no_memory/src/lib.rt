@@ -1,11 +1,13 @@
-//! The answer of a call that found no memory, one type for every crate. It stands on no crate of the repository.
+//! The answer of a call that found no memory, one type for every crate. It stands on no crate of
+//! the repository.
 //! Promise: a failed allocation, with or without a value that is given back, turns into it.
 #![tactic(auto)]
 
 use std::alloc::{AllocError, AllocFailed};
 use thiserror::Error;
 
-/// The allocator had no memory for a call. It names no other cause, and what a call that gives it leaves is said there.
+/// The allocator had no memory for a call. It names no other cause, and what a call that gives it
+/// leaves is said there.
 #[derive(Clone, Copy, PartialEq, Eq, Debug, Error)]
 #[error("out of memory")]
 pub struct NoMemory;

@@ -12,7 +12,7 @@ use no_memory::NoMemory;
 use smallvec::SmallVec;
 use std::alloc::Global;
 
-// Whether the plan for the node changes the region.
+/// Whether the plan for the node changes the region.
 pub fn can_carry_out(region: &Region, id: u32, plan: &Plan) -> bool
     ensures { result ≡ is_some (carried_out id region.now plan.now) }
 {
@@ -22,7 +22,8 @@ pub fn can_carry_out(region: &Region, id: u32, plan: &Plan) -> bool
     }
 }
 
-// Carries out the plan for the node, and answers whether it changes the region.
+/// Carries out the plan for the node, and answers whether it changes the region. `NoMemory` only
+/// where the allocator has none; the region is then as it was.
 pub fn carry_out(alloc: Global, region: &mut Region, id: u32, plan: Plan) -> Result<bool, NoMemory>
     ensures ok { IfOk result (λ done.
         MatchBool done (carried_out id region.old plan ≡

@@ -6,18 +6,18 @@ ghost use Rattle.r_fold.specs.Plan.{planned, bin_case, un_case, plain_case};
 use g_graph::{Node, Op, Origin, Region, constant};
 use val_core::{Op1, Op2, op1, op2};
 
-// What comes instead of a node.
+/// What comes instead of a node.
 #[derive(Drop)]
 pub enum Plan {
-    // A constant.
+    /// A constant.
     Word(u32),
-    // Another origin, for its uses.
+    /// Another origin, for its uses.
     Input(Origin),
-    // The nodes and results of a region, whose arguments are origins of the node's region already.
+    /// The nodes and results of a region, whose arguments are origins of the node's region already.
     Replacement(Region),
 }
 
-// The plan for a node without regions.
+/// The plan for a node without regions; none where the rule does not fold it.
 pub fn plain_plan(nodes: &[Node], node: &Node) -> Option<Plan>
     ensures { result ≡ option_map planned (plain_case (nodes_of nodes.now) node.now) }
 {
@@ -94,7 +94,7 @@ fn right_neutral(op: Op2) -> Option<u32>
     }
 }
 
-// Whether both are the same word.
+/// Whether both are the same word.
 pub fn is_word(wanted: Option<u32>, found: Option<u32>) -> bool
     ensures { result ≡ is_word wanted found }
 {

@@ -10,7 +10,7 @@ use g_graph::{ArgsToInputs, Node, Op, Origin, Region, constant, copy_region, red
 use no_memory::NoMemory;
 use std::alloc::Global;
 
-// Whether one of its regions comes instead of a node.
+/// Whether one of its regions comes instead of a node.
 #[tactic(auto, using(crate::proofs::PlanLemmas::theta_turn))]
 pub fn has_replacement(nodes: &[Node], node: &Node) -> bool
     ensures { result ≡ is_some (replacement_case (nodes_of nodes.now) node.now) }
@@ -22,7 +22,8 @@ pub fn has_replacement(nodes: &[Node], node: &Node) -> bool
     }
 }
 
-// The plan for a node with regions.
+/// The plan for a node with regions; none where the rule does not fold it. `NoMemory` only where
+/// the allocator has none.
 pub fn replacement_plan(
     alloc: Global,
     nodes: &[Node],

@@ -41,11 +41,13 @@ pub struct Machine {
 
 impl Machine {
     ghost use Rattle.elf_file.specs.ImageView.{executable_of};
-    ghost use Rattle.rv_machine.specs.Machine.{look, go_on, give, jump, store, offset, after, fetched, access, next, stop, stuck, misaligned};
+    ghost use Rattle.rv_machine.specs.Machine.{look, go_on, give, jump, store, offset, after};
+    ghost use Rattle.rv_machine.specs.Machine.{fetched, access, next, stop, stuck, misaligned};
     ghost use Rattle.rv_machine.specs.Memory.{IsWidth, flags_of, load_bytes, to_read};
     ghost use Rattle.rv_machine.specs.Run.{running, start};
     ghost use Rattle.rv_machine.specs.Endings.{ending_of};
-    ghost use Rattle.rv_machine.specs.View.{state_of, flags_in, hart_of, OnlyStateChanges, Allows, Refuses};
+    ghost use Rattle.rv_machine.specs.View.{state_of, flags_in, hart_of, OnlyStateChanges, Allows};
+    ghost use Rattle.rv_machine.specs.View.{Refuses};
 
     /// The machine with this executable in memory, all registers 0, and pc at its entry. `NoMemory`
     /// only where the allocator has none.

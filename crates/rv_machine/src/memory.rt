@@ -24,7 +24,8 @@ pub(crate) struct Memory {
 impl Memory {
     ghost use Rattle.elf_file.specs.ImageView.{executable_of};
     ghost use Rattle.rv_machine.specs.Block.{segment_of};
-    ghost use Rattle.rv_machine.specs.Blocks.{bytes_of, allowance_of, IsAbsent, HoldsAt, IsBlockAt, IsOutside, EndsWithin};
+    ghost use Rattle.rv_machine.specs.Blocks.{bytes_of, allowance_of, IsAbsent, HoldsAt, IsBlockAt};
+    ghost use Rattle.rv_machine.specs.Blocks.{IsOutside, EndsWithin};
 
     /// The memory of an executable.
     pub(crate) fn new(alloc: Global, view: &ImageView<'_>) -> Result<Memory, AllocError>

@@ -1,10 +1,10 @@
 -- The labels of a code are those from its first on, each marked once.
 use Rattle.std.proofs.Common.{◌≡◌, ◌<◌, ◌≤◌, ℕ, suc, ◌+◌, true, List, [], ◌∷◌, ◌++◌, map, refl, sym, ap, ◌∙◌, arith, zero-add}
+use Rattle.std.proofs.lemmas.Bool.{and_from, and_parts, lt-ltb}
 use Rattle.std.specs.Prelude.{◌==◌, nat_lt, IsTrue, if◌then◌else◌}
 use Rattle.std.proofs.lemmas.Bool.Decides.{nat_tests}
 use Rattle.g_graph.specs.WellFormed.{all_of}
 use Rattle.g_graph.proofs.lemmas.Unique.{all_of_append}
-use Rattle.s_linear.proofs.Both.{both, first_true, second_true}
 use Rattle.s_linear.specs.Linear.{Instr, Step, plain, choice, loop, Code, no_steps, step_then, Codes, no_codes, code_then, LinearFunction}
 use Rattle.s_linear.specs.Lines.{Line, enter, leave, done, branch_not_zero, branch_zero, branch_equal, jump, label, counted, step_labels, code_labels, codes_labels, last_labels, LinesOf, branches, last_lines, labelled, before_last, choice_lines, step_lines, code_lines, codes_lines, marks, goes_to, numbers_from, lines}
 
@@ -257,15 +257,12 @@ labels_are_marked_once f k =
 
 -- ---- where lines go
 
-below_true : (l n : ℕ) → l < n → nat_lt l n ≡ true
-below_true l n h = grind (arith, nat_tests)
-
 module _ (n : ℕ) where
   abbrev Goes : List Line → Type 0
   Goes ls = all_of (goes_to (λ l. nat_lt l n)) ls ≡ true
 
   goes_append : (xs ys : List Line) → Goes xs → Goes ys → Goes (xs ++ ys)
-  goes_append xs ys a b = all_of_append (goes_to (λ l. nat_lt l n)) xs ys ∙ both _ _ a b
+  goes_append xs ys a b = all_of_append (goes_to (λ l. nat_lt l n)) xs ys ∙ and_from _ _ a b
 
   instrs_go : (is : List Instr) → Goes (map done is)
   instrs_go [] = refl
@@ -274,16 +271,16 @@ module _ (n : ℕ) where
   branches_go : (p r first : ℕ) (cs : List LinesOf) → first + r + before_last cs ≤ n → Goes (branches p r first cs)
   branches_go p r first [] h = refl
   branches_go p r first (c ∷ []) h = refl
-  branches_go p r first (c ∷ d ∷ cs) h = both _ _ (below_true (first + r) n (omega arith)) (branches_go p (suc r) first (d ∷ cs) (omega arith))
+  branches_go p r first (c ∷ d ∷ cs) h = and_from _ _ (lt-ltb (first + r) n (omega arith)) (branches_go p (suc r) first (d ∷ cs) (omega arith))
 
   abbrev AllGo : List LinesOf → Type 0
   AllGo cs = all_of (λ c. all_of (goes_to (λ l. nat_lt l n)) c) cs ≡ true
 
   first_goes : (c : LinesOf) (cs : List LinesOf) → AllGo (c ∷ cs) → Goes c
-  first_goes c cs h = first_true (all_of (goes_to (λ l. nat_lt l n)) c) (all_of (λ c. all_of (goes_to (λ l. nat_lt l n)) c) cs) h
+  first_goes c cs h = (and_parts (all_of (goes_to (λ l. nat_lt l n)) c) (all_of (λ c. all_of (goes_to (λ l. nat_lt l n)) c) cs) h).0
 
   rest_goes : (c : LinesOf) (cs : List LinesOf) → AllGo (c ∷ cs) → AllGo cs
-  rest_goes c cs h = second_true (all_of (goes_to (λ l. nat_lt l n)) c) (all_of (λ c. all_of (goes_to (λ l. nat_lt l n)) c) cs) h
+  rest_goes c cs h = (and_parts (all_of (goes_to (λ l. nat_lt l n)) c) (all_of (λ c. all_of (goes_to (λ l. nat_lt l n)) c) cs) h).1
 
   last_goes : (cs : List LinesOf) → AllGo cs → Goes (last_lines cs)
   last_goes [] h = refl
@@ -294,7 +291,7 @@ module _ (n : ℕ) where
   labelled_goes r first end [] e h = refl
   labelled_goes r first end (c ∷ []) e h = refl
   labelled_goes r first end (c ∷ d ∷ cs) e h =
-      both _ _ (below_true end n e)
+      and_from _ _ (lt-ltb end n e)
       (goes_append c (labelled (suc r) first end (d ∷ cs)) (first_goes c (d ∷ cs) h) (labelled_goes (suc r) first end (d ∷ cs) e (rest_goes c (d ∷ cs) h)))
 
   more_go : (p first : ℕ) (cs : List LinesOf) → first + before_last cs < n → AllGo cs →
@@ -309,10 +306,10 @@ module _ (n : ℕ) where
   choice_goes p first [] e h = refl
   choice_goes p first (c ∷ []) e h = more_go p first (c ∷ []) e h
   choice_goes p first (c ∷ d ∷ []) e h =
-      both _ _ (below_true first n (omega arith))
+      and_from _ _ (lt-ltb first n (omega arith))
       (goes_append (c ++ jump (suc first) ∷ label first ∷ d) (label (suc first) ∷ [])
       (goes_append c (jump (suc first) ∷ label first ∷ d) (first_goes c (d ∷ []) h)
-      (both _ _ (below_true (suc first) n (omega arith)) (first_goes d [] (rest_goes c (d ∷ []) h)))) refl)
+      (and_from _ _ (lt-ltb (suc first) n (omega arith)) (first_goes d [] (rest_goes c (d ∷ []) h)))) refl)
   choice_goes p first (c ∷ d ∷ f ∷ cs) e h = more_go p first (c ∷ d ∷ f ∷ cs) e h
 
   before_counted : (last others : ℕ) (cs : Codes) → before_last (codes_lines last others cs) ≤ counted cs
@@ -344,8 +341,8 @@ module _ (n : ℕ) where
         goes_append ((map done moves ++ label first ∷ code_lines (2 + first) body) ++ branch_zero p (suc first) ∷ map done back) (jump first ∷ label (suc first) ∷ [])
         (goes_append (map done moves ++ label first ∷ code_lines (2 + first) body) (branch_zero p (suc first) ∷ map done back)
         (goes_append (map done moves) (label first ∷ code_lines (2 + first) body) (instrs_go moves) (code_goes (2 + first) body (omega arith)))
-        (both _ _ (below_true (suc first) n (omega arith)) (instrs_go back)))
-        (both _ _ (below_true first n (omega arith)) refl)
+        (and_from _ _ (lt-ltb (suc first) n (omega arith)) (instrs_go back)))
+        (and_from _ _ (lt-ltb first n (omega arith)) refl)
 
     code_goes : (first : ℕ) (c : Code) → first + code_labels c ≤ n → Goes (code_lines first c)
     code_goes first no_steps e = refl
@@ -354,9 +351,9 @@ module _ (n : ℕ) where
 
     codes_go : (last others : ℕ) (cs : Codes) → last + last_labels cs ≤ n → others + others_labels cs ≤ n → AllGo (codes_lines last others cs)
     codes_go last others no_codes a b = refl
-    codes_go last others (code_then c no_codes) a b = both _ _ (code_goes last c a) refl
+    codes_go last others (code_then c no_codes) a b = and_from _ _ (code_goes last c a) refl
     codes_go last others (code_then c (code_then d ds)) a b =
-        both _ _ (code_goes others c (omega arith)) (codes_go last (others + code_labels c) (code_then d ds) a (omega arith))
+        and_from _ _ (code_goes others c (omega arith)) (codes_go last (others + code_labels c) (code_then d ds) a (omega arith))
 
 pub lines_go_to_labels : (f : LinearFunction) → IsTrue (all_of (goes_to (λ l. nat_lt l (code_labels f.code))) (lines f))
 lines_go_to_labels f =

@@ -1,3 +1,2 @@
-pub mod Both
 mod Labels
 pub mod Passing

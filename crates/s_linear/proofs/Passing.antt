@@ -1,8 +1,8 @@
 -- A test of lines holds of all lines of a code where it holds of those that its steps make.
 use Rattle.std.proofs.Common.{◌≡◌, ℕ, suc, ◌+◌, Bool, true, List, [], ◌∷◌, ◌++◌, map, refl, ◌∙◌}
+use Rattle.std.proofs.lemmas.Bool.{and_from, and_parts}
 use Rattle.g_graph.specs.WellFormed.{all_of}
 use Rattle.g_graph.proofs.lemmas.Unique.{all_of_append}
-use Rattle.s_linear.proofs.Both.{both, first_true, second_true}
 use Rattle.s_linear.specs.Linear.{Step, plain, choice, loop, Code, no_steps, step_then, Codes, no_codes, code_then, LinearFunction}
 use Rattle.s_linear.specs.Lines.{Line, enter, leave, done, branch_not_zero, branch_zero, branch_equal, jump, label, counted, step_labels, code_labels, last_from, others_from, LinesOf, branches, last_lines, labelled, before_last, choice_lines, step_lines, code_lines, codes_lines, numbers_from, lines}
 
@@ -28,21 +28,21 @@ module _ (test : Line → Bool) (jumps : (l : ℕ) → test (jump l) ≡ true) (
   Pass ls = all_of test ls ≡ true
 
   append_passes : (xs ys : List Line) → Pass xs → Pass ys → Pass (xs ++ ys)
-  append_passes xs ys a b = all_of_append test xs ys ∙ both _ _ a b
+  append_passes xs ys a b = all_of_append test xs ys ∙ and_from _ _ a b
 
   branches_pass : (p r first : ℕ) (cs : List LinesOf) → ((r l : ℕ) → test (branch_equal p r l) ≡ true) → Pass (branches p r first cs)
   branches_pass p r first [] h = refl
   branches_pass p r first (c ∷ []) h = refl
-  branches_pass p r first (c ∷ d ∷ cs) h = both _ _ (h r (first + r)) (branches_pass p (suc r) first (d ∷ cs) h)
+  branches_pass p r first (c ∷ d ∷ cs) h = and_from _ _ (h r (first + r)) (branches_pass p (suc r) first (d ∷ cs) h)
 
   abbrev AllPass : List LinesOf → Type 0
   AllPass cs = all_of (λ c. all_of test c) cs ≡ true
 
   first_passes : (c : LinesOf) (cs : List LinesOf) → AllPass (c ∷ cs) → Pass c
-  first_passes c cs h = first_true (all_of test c) (all_of (λ c. all_of test c) cs) h
+  first_passes c cs h = (and_parts (all_of test c) (all_of (λ c. all_of test c) cs) h).0
 
   rest_passes : (c : LinesOf) (cs : List LinesOf) → AllPass (c ∷ cs) → AllPass cs
-  rest_passes c cs h = second_true (all_of test c) (all_of (λ c. all_of test c) cs) h
+  rest_passes c cs h = (and_parts (all_of test c) (all_of (λ c. all_of test c) cs) h).1
 
   last_passes : (cs : List LinesOf) → AllPass cs → Pass (last_lines cs)
   last_passes [] h = refl
@@ -53,7 +53,7 @@ module _ (test : Line → Bool) (jumps : (l : ℕ) → test (jump l) ≡ true) (
   labelled_passes r first end [] h = refl
   labelled_passes r first end (c ∷ []) h = refl
   labelled_passes r first end (c ∷ d ∷ cs) h =
-      both _ _ (jumps end) (append_passes (label (first + r) ∷ c) (labelled (suc r) first end (d ∷ cs)) (both _ _ (labels (first + r)) (first_passes c (d ∷ cs) h))
+      and_from _ _ (jumps end) (append_passes (label (first + r) ∷ c) (labelled (suc r) first end (d ∷ cs)) (and_from _ _ (labels (first + r)) (first_passes c (d ∷ cs) h))
       (labelled_passes (suc r) first end (d ∷ cs) (rest_passes c (d ∷ cs) h)))
 
   more_pass : (p first : ℕ) (cs : List LinesOf) → ((r l : ℕ) → test (branch_equal p r l) ≡ true) → AllPass cs →
@@ -63,32 +63,32 @@ module _ (test : Line → Bool) (jumps : (l : ℕ) → test (jump l) ≡ true) (
       append_passes ((branches p 0 first cs ++ last_lines cs) ++ labelled 0 first end cs) (label end ∷ [])
       (append_passes (branches p 0 first cs ++ last_lines cs) (labelled 0 first end cs)
       (append_passes (branches p 0 first cs) (last_lines cs) (branches_pass p 0 first cs e) (last_passes cs h)) (labelled_passes 0 first end cs h))
-      (both _ _ (labels end) refl)
+      (and_from _ _ (labels end) refl)
 
   choice_passes : (p first : ℕ) (cs : List LinesOf) → ((r l : ℕ) → test (branch_equal p r l) ≡ true) → ((l : ℕ) → test (branch_not_zero p l) ≡ true) → AllPass cs →
       Pass (choice_lines p first cs)
   choice_passes p first [] e z h = refl
   choice_passes p first (c ∷ []) e z h = more_pass p first (c ∷ []) e h
   choice_passes p first (c ∷ d ∷ []) e z h =
-      both _ _ (z first)
+      and_from _ _ (z first)
       (append_passes (c ++ jump (suc first) ∷ label first ∷ d) (label (suc first) ∷ [])
       (append_passes c (jump (suc first) ∷ label first ∷ d) (first_passes c (d ∷ []) h)
-      (both _ _ (jumps (suc first)) (both _ _ (labels first) (first_passes d [] (rest_passes c (d ∷ []) h)))))
-      (both _ _ (labels (suc first)) refl))
+      (and_from _ _ (jumps (suc first)) (and_from _ _ (labels first) (first_passes d [] (rest_passes c (d ∷ []) h)))))
+      (and_from _ _ (labels (suc first)) refl))
   choice_passes p first (c ∷ d ∷ f ∷ cs) e z h = more_pass p first (c ∷ d ∷ f ∷ cs) e h
 
   mutual
     step_passes : (first : ℕ) (s : Step) → StepPasses test s → Pass (step_lines first s)
-    step_passes first (plain i) h = both _ _ h refl
+    step_passes first (plain i) h = and_from _ _ h refl
     step_passes first (choice p cs) h =
         choice_passes p first (codes_lines (last_from (first + counted cs) cs) (others_from (first + counted cs) cs) cs) h.0 h.1
         (codes_pass (last_from (first + counted cs) cs) (others_from (first + counted cs) cs) cs h.2)
     step_passes first (loop moves body p back) h =
         append_passes ((map done moves ++ label first ∷ code_lines (2 + first) body) ++ branch_zero p (suc first) ∷ map done back) (jump first ∷ label (suc first) ∷ [])
         (append_passes (map done moves ++ label first ∷ code_lines (2 + first) body) (branch_zero p (suc first) ∷ map done back)
-        (append_passes (map done moves) (label first ∷ code_lines (2 + first) body) h.0 (both _ _ (labels first) (code_passes (2 + first) body h.1)))
-        (both _ _ (h.2 (suc first)) h.3))
-        (both _ _ (jumps first) (both _ _ (labels (suc first)) refl))
+        (append_passes (map done moves) (label first ∷ code_lines (2 + first) body) h.0 (and_from _ _ (labels first) (code_passes (2 + first) body h.1)))
+        (and_from _ _ (h.2 (suc first)) h.3))
+        (and_from _ _ (jumps first) (and_from _ _ (labels (suc first)) refl))
 
     pub code_passes : (first : ℕ) (c : Code) → CodePasses test c → Pass (code_lines first c)
     code_passes first no_steps h = refl
@@ -96,9 +96,9 @@ module _ (test : Line → Bool) (jumps : (l : ℕ) → test (jump l) ≡ true) (
 
     codes_pass : (last others : ℕ) (cs : Codes) → CodesPass test cs → AllPass (codes_lines last others cs)
     codes_pass last others no_codes h = refl
-    codes_pass last others (code_then c no_codes) h = both _ _ (code_passes last c h.0) refl
-    codes_pass last others (code_then c (code_then d ds)) h = both _ _ (code_passes others c h.0) (codes_pass last (others + code_labels c) (code_then d ds) h.1)
+    codes_pass last others (code_then c no_codes) h = and_from _ _ (code_passes last c h.0) refl
+    codes_pass last others (code_then c (code_then d ds)) h = and_from _ _ (code_passes others c h.0) (codes_pass last (others + code_labels c) (code_then d ds) h.1)
 
   pub lines_pass : (f : LinearFunction) → test (enter (numbers_from 0 f.params)) ≡ true → CodePasses test f.code → test (leave f.value) ≡ true → all_of test (lines f) ≡ true
   lines_pass f a b c =
-      append_passes (enter (numbers_from 0 f.params) ∷ code_lines 0 f.code) (leave f.value ∷ []) (both _ _ a (code_passes 0 f.code b)) (both _ _ c refl)
+      append_passes (enter (numbers_from 0 f.params) ∷ code_lines 0 f.code) (leave f.value ∷ []) (and_from _ _ a (code_passes 0 f.code b)) (and_from _ _ c refl)

@@ -2,6 +2,7 @@
 -- foot of the frame; objects come after them; then the saved registers and the return address, up to a multiple of 16.
 use Rattle.std.specs.Prelude.{ℕ, ◌+◌, ◌-◌, ◌*◌, ◌/◌, List, min, take}
 use Rattle.std.specs.List.{sum_by}
+use Rattle.limits.specs.Limits.{counted_bytes}
 use Rattle.g_graph.specs.Plain.{PlainObject}
 
 -- how many places are registers
@@ -16,7 +17,7 @@ words_of s = s - saved_of s
 
 -- the bytes of an object in a frame: its size up to a multiple of 4, and 4 more
 abbrev pub object_room : PlainObject → ℕ
-object_room o = (o.size + 3) / 4 * 4 + 4
+object_room o = counted_bytes o.size
 
 -- where the objects begin, in bytes from the stack pointer
 abbrev pub objects_at : (places : ℕ) → ℕ

@@ -1,5 +1,6 @@
 -- What holds of the instruction of every op of a lambda, and of moves, holds of its linear code.
 use Rattle.std.proofs.Common.{◌≡◌, ℕ, suc, ◌+◌, ◌-◌, Bool, true, List, [], ◌∷◌, ◌++◌, map, length, refl, sym, ap, subst, ◌∙◌, arith}
+use Rattle.std.proofs.lemmas.Bool.{and_from, and_parts}
 use Rattle.std.specs.Prelude.{◌&&◌, nat_lt}
 use Rattle.std.proofs.lemmas.List.{length-map}
 use Rattle.g_graph.specs.declared.op.Kind.{Kind}
@@ -11,7 +12,6 @@ use Rattle.g_graph.specs.Scope.{each_node}
 use Rattle.g_graph.specs.Lists.{RegionOps, NodeOps, NodesOps, RegionsOps}
 use Rattle.g_graph.specs.WellFormed.{all_of, is_width, every_region, every_in_node, every_in_nodes, every_in_regions, has_its_width, has_its_object, inputs_fit, inputs_are_last, node_has_one_state_each, has_its_regions, regions_fit, theta_has_states, node_fits, results_are_last, returns_state, region_has_one_state_each, region_fits, body_fits, numbers_fit, leaves_fit, IsWellFormed}
 use Rattle.g_graph.specs.declared.op.Kind.TheVariants.{Memory, Io}
-use Rattle.s_linear.proofs.Both.{both, first_true, second_true}
 use Rattle.s_linear.specs.Linear.{Instr, move, undef, Code, no_steps}
 use Rattle.s_linear.specs.Lines.{done, does, lines}
 use Rattle.s_linear.proofs.Passing.{StepPasses, CodePasses, CodesPass, lines_pass}
@@ -26,7 +26,7 @@ module _ (test : Instr → Bool) (p : Op → ℕ → Type 0) (moved : (t s : ℕ
 
   moves_hold : (t : ℕ) (xs : List ℕ) → all_of (does test) (map done (moves t xs)) ≡ true
   moves_hold t [] = refl
-  moves_hold t (x ∷ xs) = both _ _ (moved t x) (moves_hold (suc t) xs)
+  moves_hold t (x ∷ xs) = and_from _ _ (moved t x) (moves_hold (suc t) xs)
 
   own : (op : Op) (t : ℕ) (f : Origin → ℕ) (inputs : List Origin) → p op (length inputs) → test (op_instr op t (map f inputs)) ≡ true
   own op t f inputs h = made op t (map f inputs) (subst (λ n. p op n) (sym (length-map inputs f)) h)
@@ -87,12 +87,12 @@ module _ (objects : ℕ) (p : Op → ℕ → Type 0)
   mutual
     region_has : (r : RegionTree) → every_region (region_fits objects) r ≡ true → RegionOps p r
     region_has (region args nodes results) e =
-        let here : region_fits objects (region args nodes results) ≡ true = first_true _ (every_in_nodes (region_fits objects) nodes) e in
+        let here : region_fits objects (region args nodes results) ≡ true = (and_parts _ (every_in_nodes (region_fits objects) nodes) e).0 in
         nodes_have args [] nodes
-        (first_true _ (results_are_last (region args nodes results))
-        (first_true _ (returns_state Memory (region args nodes results))
-        (first_true _ (returns_state Io (region args nodes results)) (first_true _ (region_has_one_state_each (region args nodes results)) here))))
-        (second_true (region_fits objects (region args nodes results)) _ e)
+        ((and_parts _ (results_are_last (region args nodes results))
+        ((and_parts _ (returns_state Memory (region args nodes results))
+        ((and_parts _ (returns_state Io (region args nodes results)) ((and_parts _ (region_has_one_state_each (region args nodes results)) here).0)).0)).0)).0)
+        ((and_parts (region_fits objects (region args nodes results)) _ e).1)
 
     node_has : (args : List Kind) (before : NodeTrees) (x : NodeTree) → node_fits objects args before x ≡ true → every_in_node (region_fits objects) x ≡ true → NodeOps p x
     node_has args before (node id op inputs rs) e inside = (fits args before id op inputs rs e, regions_have rs inside)
@@ -101,18 +101,18 @@ module _ (objects : ℕ) (p : Op → ℕ → Type 0)
         every_in_nodes (region_fits objects) ns ≡ true → NodesOps p ns
     nodes_have args before no_nodes e inside = tt
     nodes_have args before (node_then x xs) e inside = (
-      node_has args (nodes_of before) x (first_true (node_fits objects args (nodes_of before) x) _ e) (first_true (every_in_node (region_fits objects) x) _ inside),
-      nodes_have args (before ++ x ∷ []) xs (second_true (node_fits objects args (nodes_of before) x) _ e) (second_true (every_in_node (region_fits objects) x) _ inside),
+      node_has args (nodes_of before) x ((and_parts (node_fits objects args (nodes_of before) x) _ e).0) ((and_parts (every_in_node (region_fits objects) x) _ inside).0),
+      nodes_have args (before ++ x ∷ []) xs ((and_parts (node_fits objects args (nodes_of before) x) _ e).1) ((and_parts (every_in_node (region_fits objects) x) _ inside).1),
     )
 
     regions_have : (rs : RegionTrees) → every_in_regions (region_fits objects) rs ≡ true → RegionsOps p rs
     regions_have no_regions e = tt
-    regions_have (region_then r rs) e = (region_has r (first_true (every_region (region_fits objects) r) _ e), regions_have rs (second_true (every_region (region_fits objects) r) _ e))
+    regions_have (region_then r rs) e = (region_has r ((and_parts (every_region (region_fits objects) r) _ e).0), regions_have rs ((and_parts (every_region (region_fits objects) r) _ e).1))
 
 regions_of_well_formed : (l : PlainLambda) → IsWellFormed l → every_region (region_fits (length l.objects)) l.body ≡ true
 regions_of_well_formed l w =
-    second_true (body_fits l && numbers_fit l) (every_region (region_fits (length l.objects)) l.body)
-    (first_true (body_fits l && numbers_fit l && every_region (region_fits (length l.objects)) l.body) (all_of (λ o. leaves_fit o.size 0 o.leaves) l.objects) w)
+    (and_parts (body_fits l && numbers_fit l) (every_region (region_fits (length l.objects)) l.body)
+    ((and_parts (body_fits l && numbers_fit l && every_region (region_fits (length l.objects)) l.body) (all_of (λ o. leaves_fit o.size 0 o.leaves) l.objects) w).0)).1
 
 -- ---- widths
 
@@ -124,10 +124,9 @@ WidthFits op n = Unit {0}
 width_fits : (objects : ℕ) (args : List Kind) (before : NodeTrees) (id : ℕ) (op : Op) (inputs : List Origin) (rs : RegionTrees) →
     node_fits objects args before (node id op inputs rs) ≡ true → has_its_width (node id op inputs rs) ≡ true
 width_fits objects args before id op inputs rs e =
-    second_true
-    (inputs_fit args before (node id op inputs rs) && inputs_are_last args before (node id op inputs rs) && node_has_one_state_each args before (node id op inputs rs)
+    (and_parts (inputs_fit args before (node id op inputs rs) && inputs_are_last args before (node id op inputs rs) && node_has_one_state_each args before (node id op inputs rs)
     && has_its_regions (node id op inputs rs) && regions_fit (node id op inputs rs) && theta_has_states (node id op inputs rs))
-    (has_its_width (node id op inputs rs)) (first_true _ (has_its_object objects (node id op inputs rs)) e)
+    (has_its_width (node id op inputs rs)) ((and_parts _ (has_its_object objects (node id op inputs rs)) e).0)).1
 
 width_is : (id : ℕ) (op : Op) (inputs : List Origin) (rs : RegionTrees) → has_its_width (node id op inputs rs) ≡ true → WidthFits op (length inputs)
 width_is id (Load width) inputs rs e = e
@@ -219,7 +218,7 @@ objects_are_there l w =
     let objects : ℕ = length l.objects in
     sequenced_passes (laws.has_its_object objects) (ObjectIsThere objects) (λ t s. refl) (λ t. refl) (object_made objects) l
     (region_has objects (ObjectIsThere objects)
-    (λ args before id op inputs rs e. object_is objects id op inputs rs (second_true _ (has_its_object objects (node id op inputs rs)) e)) l.body
+    (λ args before id op inputs rs e. object_is objects id op inputs rs ((and_parts _ (has_its_object objects (node id op inputs rs)) e).1)) l.body
     (regions_of_well_formed l w))
 
 -- ---- calls

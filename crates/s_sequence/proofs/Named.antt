@@ -1,7 +1,7 @@
 -- Every name of the linear code of a well-formed lambda is below the number of the lambda's values.
 use Rattle.std.proofs.Common.{◌≡◌, ◌<◌, ◌≤◌, ℕ, zero, suc, ◌+◌, Bool, true, false, List, [], ◌∷◌, ◌++◌, map, length, take, refl, ap, arith}
+use Rattle.std.proofs.lemmas.Bool.{and_from, and_parts, lt-ltb, ltb-true}
 use Rattle.std.specs.Prelude.{◌&&◌, ◌==◌, nat_lt, replicate, if◌then◌else◌}
-use Rattle.std.proofs.lemmas.Bool.Decides.{nat_tests}
 use Rattle.std.specs.declared.option.Option.{Option}
 use Rattle.std.specs.declared.option.Option.TheVariants.{Some, None}
 use Rattle.g_graph.specs.declared.op.Kind.{Kind}
@@ -15,7 +15,6 @@ use Rattle.g_graph.specs.Signatures.{outputs_of, result_kinds, output_kinds}
 use Rattle.g_graph.specs.Count.{region_values, node_values, nodes_values, regions_values}
 use Rattle.g_graph.specs.Scope.{each_node}
 use Rattle.g_graph.specs.WellFormed.{all_of, all_regions, are, same, kinds_of, every_region, every_in_node, every_in_nodes, every_in_regions, has_its_width, has_its_object, regions_fit, theta_has_states, node_fits, results_are_last, returns_state, region_has_one_state_each, region_fits, body_fits, numbers_fit, leaves_fit, IsWellFormed}
-use Rattle.s_linear.proofs.Both.{both, first_true, second_true}
 use Rattle.s_linear.specs.Linear.{Code, no_steps}
 use Rattle.s_linear.specs.Lines.{done, names_below, numbers_from, lines}
 use Rattle.s_linear.proofs.Passing.{StepPasses, CodePasses, CodesPass, lines_pass}
@@ -105,24 +104,18 @@ standing_names (region_then r no_regions) = omega arith
 standing_names (region_then r (region_then s no_regions)) = omega arith
 standing_names (region_then r (region_then s (region_then t rs))) = omega (arith, all_names (region_then r (region_then s (region_then t rs))))
 
-below_true : (x n : ℕ) → x < n → nat_lt x n ≡ true
-below_true x n h = grind (arith, nat_tests)
-
-true_below : (x n : ℕ) → nat_lt x n ≡ true → x < n
-true_below x n h = grind (arith, nat_tests)
-
 module _ (n : ℕ) where
   abbrev Each : List ℕ → Type 0
   Each xs = all_of (λ x. nat_lt x n) xs ≡ true
 
   cons : (x : ℕ) (xs : List ℕ) → x < n → Each xs → Each (x ∷ xs)
-  cons x xs h k = both (nat_lt x n) (all_of (λ x. nat_lt x n) xs) (below_true x n h) k
+  cons x xs h k = and_from (nat_lt x n) (all_of (λ x. nat_lt x n) xs) (lt-ltb x n h) k
 
   front : (x : ℕ) (xs : List ℕ) → Each (x ∷ xs) → x < n
-  front x xs h = true_below x n (first_true (nat_lt x n) (all_of (λ x. nat_lt x n) xs) h)
+  front x xs h = ltb-true x n ((and_parts (nat_lt x n) (all_of (λ x. nat_lt x n) xs) h).0)
 
   rest : (x : ℕ) (xs : List ℕ) → Each (x ∷ xs) → Each xs
-  rest x xs h = second_true (nat_lt x n) (all_of (λ x. nat_lt x n) xs) h
+  rest x xs h = (and_parts (nat_lt x n) (all_of (λ x. nat_lt x n) xs) h).1
 
   each_map : (f : Origin → ℕ) (os : List Origin) → ((o : Origin) → f o < n) → Each (map f os)
   each_map f [] h = refl
@@ -189,7 +182,7 @@ module _ (n : ℕ) where
 
   moves_hold : (t : ℕ) (xs : List ℕ) → t + length xs ≤ n → Each xs → all_of (names_below n) (map done (moves t xs)) ≡ true
   moves_hold t [] h e = refl
-  moves_hold t (x ∷ xs) h e = both _ _ (cons t (x ∷ []) (omega arith) (cons x [] (front x xs e) refl)) (moves_hold (suc t) xs (omega arith) (rest x xs e))
+  moves_hold t (x ∷ xs) h e = and_from _ _ (cons t (x ∷ []) (omega arith) (cons x [] (front x xs e) refl)) (moves_hold (suc t) xs (omega arith) (rest x xs e))
 
   abbrev AreBelow : Names → Type 0
   AreBelow names = (i p : ℕ) → names i p < n
@@ -244,8 +237,8 @@ module _ (n : ℕ) where
       ResultsFit outputs rs
   results_fit outputs args ks no_regions h e = tt
   results_fit outputs args ks (region_then r rs) h e =
-      let own = second_true (same (args_of r) args) (are (result_kinds r) ks) (first_true _ (all_regions (λ r. same (args_of r) args && are (result_kinds r) ks) rs) e) in
-      (omega (arith, are_values (result_kinds r) ks own), results_fit outputs args ks rs h (second_true (same (args_of r) args && are (result_kinds r) ks) _ e))
+      let own = (and_parts (same (args_of r) args) (are (result_kinds r) ks) ((and_parts _ (all_regions (λ r. same (args_of r) args && are (result_kinds r) ks) rs) e).0)).1 in
+      (omega (arith, are_values (result_kinds r) ks own), results_fit outputs args ks rs h ((and_parts (same (args_of r) args && are (result_kinds r) ks) _ e).1))
 
   kept_length : (ks : List (Option Kind)) (xs : List ℕ) → length (kept ks xs) ≤ values_in ks
   kept_length [] xs = omega arith
@@ -275,19 +268,19 @@ module _ (n : ℕ) where
   gamma_results objects args before id inputs r rs outputs e h =
       let x : NodeTree = node id Gamma inputs (region_then r rs) in
       let ks : List Kind = kinds_of (result_kinds r) in
-      let fit : regions_fit x ≡ true = second_true _ (regions_fit x) (first_true _ (theta_has_states x) (first_true _ (has_its_width x) (first_true _ (has_its_object objects x) e))) in
+      let fit : regions_fit x ≡ true = (and_parts _ (regions_fit x) ((and_parts _ (theta_has_states x) ((and_parts _ (has_its_width x) ((and_parts _ (has_its_object objects x) e).0)).0)).0)).1 in
       let own : are (result_kinds r) ks ≡ true =
-      second_true (same (args_of r) (args_of r)) (are (result_kinds r) ks) (first_true _ (all_regions (λ s. same (args_of s) (args_of r) && are (result_kinds s) ks) rs) fit) in
+      (and_parts (same (args_of r) (args_of r)) (are (result_kinds r) ks) ((and_parts _ (all_regions (λ s. same (args_of s) (args_of r) && are (result_kinds s) ks) rs) fit).0)).1 in
       results_fit outputs (args_of r) ks (region_then r rs) (omega (arith, are_values (result_kinds r) ks own)) fit
 
   module _ (objects : ℕ) where
     nodes_are : (args : List Kind) (nodes : NodeTrees) (results : List Origin) → every_region (region_fits objects) (region args nodes results) ≡ true →
         each_node (node_fits objects args) [] nodes ≡ true
     nodes_are args nodes results e =
-        let here : region_fits objects (region args nodes results) ≡ true = first_true _ (every_in_nodes (region_fits objects) nodes) e in
-        first_true _ (results_are_last (region args nodes results))
-        (first_true _ (returns_state Memory (region args nodes results))
-        (first_true _ (returns_state Io (region args nodes results)) (first_true _ (region_has_one_state_each (region args nodes results)) here)))
+        let here : region_fits objects (region args nodes results) ≡ true = (and_parts _ (every_in_nodes (region_fits objects) nodes) e).0 in
+        (and_parts _ (results_are_last (region args nodes results))
+        ((and_parts _ (returns_state Memory (region args nodes results))
+        ((and_parts _ (returns_state Io (region args nodes results)) ((and_parts _ (region_has_one_state_each (region args nodes results)) here).0)).0)).0)).0
 
     mutual
       nodes_pass : (args : List Kind) (base : ℕ) (names : Names) (next : ℕ) (before : List NodeTree) (ns : NodeTrees) (k : Code) → base + value_args args < n → AreBelow names →
@@ -295,10 +288,10 @@ module _ (n : ℕ) where
           CodePasses (names_below n) (nodes_code args base names next ns k)
       nodes_pass args base names next before no_nodes k a b c e inside q = q
       nodes_pass args base names next before (node_then x xs) k a b c e inside q = (
-        node_passes args base names next (nodes_of before) x a b (omega arith) (first_true (node_fits objects args (nodes_of before) x) _ e)
-            (first_true (every_in_node (region_fits objects) x) _ inside),
+        node_passes args base names next (nodes_of before) x a b (omega arith) ((and_parts (node_fits objects args (nodes_of before) x) _ e).0)
+            ((and_parts (every_in_node (region_fits objects) x) _ inside).0),
         nodes_pass args base (named x next names) (next + node_names x) (before ++ x ∷ []) xs k a (named_below x next names (omega arith) b) (omega arith)
-            (second_true (node_fits objects args (nodes_of before) x) _ e) (second_true (every_in_node (region_fits objects) x) _ inside) q,
+            ((and_parts (node_fits objects args (nodes_of before) x) _ e).1) ((and_parts (every_in_node (region_fits objects) x) _ inside).1) q,
       )
 
       node_passes : (args : List Kind) (base : ℕ) (names : Names) (next : ℕ) (before : NodeTrees) (x : NodeTree) → base + value_args args < n → AreBelow names → next + node_names x < n →
@@ -329,7 +322,7 @@ module _ (n : ℕ) where
       )
       node_passes args base names next before (node id Theta inputs no_regions) a b c e inside = cons next [] (omega arith) refl
       node_passes args base names next before (node id Theta inputs (region_then r no_regions)) a b c e inside =
-          loop_passes (map (name_of args base names) inputs) next r (each_map _ inputs (name_below args base names a b)) (omega arith) (first_true (every_region (region_fits objects) r) _ inside)
+          loop_passes (map (name_of args base names) inputs) next r (each_map _ inputs (name_below args base names a b)) (omega arith) ((and_parts (every_region (region_fits objects) r) _ inside).0)
       node_passes args base names next before (node id Theta inputs (region_then r (region_then s rs))) a b c e inside = cons next [] (omega arith) refl
 
       branches_pass : (entries : List ℕ) (outputs : ℕ) (bs : List ℕ) (rs : RegionTrees) → Each entries → BasesFit bs rs → ResultsFit outputs rs →
@@ -338,8 +331,8 @@ module _ (n : ℕ) where
       branches_pass entries outputs [] rs a b c inside = tt
       branches_pass entries outputs (x ∷ bs) no_regions a b c inside = tt
       branches_pass entries outputs (x ∷ bs) (region_then r rs) a b c inside = (
-        branch_passes entries outputs x r a b.0 c.0 (first_true (every_region (region_fits objects) r) _ inside),
-        branches_pass entries outputs bs rs a b.1 c.1 (second_true (every_region (region_fits objects) r) _ inside),
+        branch_passes entries outputs x r a b.0 c.0 ((and_parts (every_region (region_fits objects) r) _ inside).0),
+        branches_pass entries outputs bs rs a b.1 c.1 ((and_parts (every_region (region_fits objects) r) _ inside).1),
       )
 
       branch_passes : (entries : List ℕ) (outputs base : ℕ) (r : RegionTree) → Each entries → base + region_names r < n → outputs + values_in (result_kinds r) ≤ n →
@@ -349,7 +342,7 @@ module _ (n : ℕ) where
           let names : Names = nodes_named nodes (base + value_args args) no_names in
           moves_pass base (kept (map Some args) entries) _ (omega (arith, kept_length (map Some args) entries)) (each_kept (map Some args) entries a)
           (nodes_pass args base no_names (base + value_args args) [] nodes _ (omega arith) (λ i p. omega arith) (omega arith) (nodes_are args nodes results inside)
-          (second_true (region_fits objects (region args nodes results)) _ inside)
+          ((and_parts (region_fits objects (region args nodes results)) _ inside).1)
           (moves_pass outputs (kept kinds (map (name_of args base names) results)) no_steps (omega (arith, kept_length kinds (map (name_of args base names) results)))
           (each_kept kinds (map (name_of args base names) results)
           (each_map (name_of args base names) results (name_below args base names (omega arith) (nodes_named_below nodes (base + value_args args) no_names (omega arith) (λ i p. omega arith))))) tt))
@@ -364,7 +357,7 @@ module _ (n : ℕ) where
           each_map (name_of args next own) results (name_below args next own (omega arith) (nodes_named_below nodes (next + value_args args) no_names (omega arith) (λ i p. omega arith))) in (
             moves_hold next (kept (map Some args) entries) (omega (arith, kept_length (map Some args) entries)) (each_kept (map Some args) entries a),
             nodes_pass args next no_names (next + value_args args) [] nodes _ (omega arith) (λ i p. omega arith) (omega arith) (nodes_are args nodes results inside)
-                (second_true (region_fits objects (region args nodes results)) _ inside)
+                ((and_parts (region_fits objects (region args nodes results)) _ inside).1)
                 (moves_pass outputs (loop_results args names) no_steps (omega (arith, loop_length args names)) (each_result args names each) tt),
             (λ l. cons (name_at names 0) [] (at_0 names (omega arith) each) refl),
             moves_hold next (numbers_from outputs (value_args args)) (omega (arith, numbers_length outputs (value_args args))) (each_number outputs (value_args args) (omega arith)),
@@ -373,7 +366,7 @@ module _ (n : ℕ) where
     body_passes : (r : RegionTree) → region_names r < n → every_region (region_fits objects) r ≡ true → CodePasses (names_below n) (body_code r)
     body_passes (region args nodes results) h e =
         nodes_pass args 0 no_names (value_args args) [] nodes no_steps (omega arith) (λ i p. omega arith) (omega arith) (nodes_are args nodes results e)
-        (second_true (region_fits objects (region args nodes results)) _ e) tt
+        ((and_parts (region_fits objects (region args nodes results)) _ e).1) tt
 
     value_below : (r : RegionTree) → region_names r < n → value_name r < n
     value_below (region args nodes results) h =
@@ -382,7 +375,7 @@ module _ (n : ℕ) where
         (name_below args 0 (nodes_named nodes (value_args args) no_names) (omega arith) (nodes_named_below nodes (value_args args) no_names (omega arith) (λ i p. omega arith))))
 
 params_are : (l : PlainLambda) → body_fits l ≡ true → l.params ≤ region_names l.body
-params_are l e = by_form l.body (first_true (same (args_of l.body) (replicate l.params Value ++ Memory ∷ Io ∷ [])) _ e)
+params_are l e = by_form l.body ((and_parts (same (args_of l.body) (replicate l.params Value ++ Memory ∷ Io ∷ [])) _ e).0)
   where
     by_form : (r : RegionTree) → same (args_of r) (replicate l.params Value ++ Memory ∷ Io ∷ []) ≡ true → l.params ≤ region_names r
     by_form (region args nodes results) h = omega (arith, are_values (map Some args) (replicate l.params Value ++ Memory ∷ Io ∷ []) h, body_values l.params)
@@ -391,9 +384,9 @@ pub names_are_below : (l : PlainLambda) → IsWellFormed l → all_of (names_bel
 names_are_below l w =
     let n : ℕ = region_values l.body in
     let own : (body_fits l && numbers_fit l && every_region (region_fits (length l.objects)) l.body) ≡ true =
-    first_true (body_fits l && numbers_fit l && every_region (region_fits (length l.objects)) l.body) (all_of (λ o. leaves_fit o.size 0 o.leaves) l.objects) w in
-    let fit : body_fits l ≡ true = first_true (body_fits l) (numbers_fit l) (first_true (body_fits l && numbers_fit l) (every_region (region_fits (length l.objects)) l.body) own) in
+    (and_parts (body_fits l && numbers_fit l && every_region (region_fits (length l.objects)) l.body) (all_of (λ o. leaves_fit o.size 0 o.leaves) l.objects) w).0 in
+    let fit : body_fits l ≡ true = (and_parts (body_fits l) (numbers_fit l) ((and_parts (body_fits l && numbers_fit l) (every_region (region_fits (length l.objects)) l.body) own).0)).0 in
     lines_pass (names_below n) (λ l. refl) (λ l. refl) (sequenced l)
     (each_number n 0 l.params (omega (arith, params_are l fit, names_values l.body)))
-    (body_passes n (length l.objects) l.body (names_values l.body) (second_true (body_fits l && numbers_fit l) (every_region (region_fits (length l.objects)) l.body) own))
+    (body_passes n (length l.objects) l.body (names_values l.body) ((and_parts (body_fits l && numbers_fit l) (every_region (region_fits (length l.objects)) l.body) own).1))
     (cons n (value_name l.body) [] (value_below n (length l.objects) l.body (names_values l.body)) refl)

@@ -83,11 +83,11 @@ elsewhere-of w w' o p b c (inl ne) same = inl (λ e. ne (ap₂ At same e))
 elsewhere-of w w' o p b c (inr ne) same = inr ne
 
 -- where the block's number is the same, the block that is stored in has the other name, or nothing has it
-read-beside : (w o w' p : ℕ) (b c : BlockName) (u : Value) (m : Memory) (k : Block) (found : Option Block) → Apart w (At b o) w' (At c p) → b.number ≡ c.number → block_named b m ≡ Some k →
+read-elsewhere : (w o w' p : ℕ) (b c : BlockName) (u : Value) (m : Memory) (k : Block) (found : Option Block) → Apart w (At b o) w' (At c p) → b.number ≡ c.number → block_named b m ≡ Some k →
     block_named c m ≡ found →
     read_block w' p (option_map (written w o u) found) ≡ read_block w' p found
-read-beside w o w' p b c u m k None apart n is is' = refl
-read-beside w o w' p b c u m k (Some j) apart n is is' =
+read-elsewhere w o w' p b c u m k None apart n is is' = refl
+read-elsewhere w o w' p b c u m k (Some j) apart n is is' =
     read-other w o w' p u (Some j) (elsewhere-of w w' o p b c apart (same-name b c n (sizes-agree b c k j m n is is')))
 
 load-stored : (w o w' p : ℕ) (b c : BlockName) (u : Value) (m : Memory) → Apart w (At b o) w' (At c p) → takes_store w o (block_named b m) ≡ true →
@@ -99,7 +99,7 @@ load-stored w o w' p b c u m apart takes = by_number (b.number == c.number) refl
       let k = named-of-takes w o (block_named b m) takes in
       ap (λ i. read_block w' p (block_named c (block_changed i (written w o u) m))) n
       ∙ ap (read_block w' p) (named-changed c (written w o u) m (λ j. refl))
-      ∙ read-beside w o w' p b c u m k.0 (block_named c m) apart n k.1 refl
+      ∙ read-elsewhere w o w' p b c u m k.0 (block_named c m) apart n k.1 refl
   by_number false differ = ap (read_block w' p) (named-other b.number c (written w o u) m (eqb-false b.number c.number differ))
 
 pub load_elsewhere : LoadElsewhere

@@ -5,7 +5,7 @@ use Rattle.std.proofs.lemmas.Bool.Decides.{nat_tests}
 use Rattle.std.specs.declared.option.Option.{Option}
 use Rattle.std.specs.declared.option.Option.TheVariants.{Some, None}
 use Rattle.std.proofs.Math.Bool.{and_assoc, or_assoc}
-use Rattle.std.proofs.lemmas.Bool.{or_right}
+use Rattle.std.proofs.lemmas.Bool.{cases_Bool, or_right}
 use Rattle.g_graph.specs.declared.op.Kind.{Kind}
 use Rattle.g_graph.specs.declared.op.Kind.TheVariants.{Value, Memory, Io}
 use Rattle.g_graph.specs.declared.op.Origin.{Origin}
@@ -17,10 +17,6 @@ use Rattle.g_graph.specs.Change.{has_node}
 use Rattle.g_graph.specs.WellFormed.{some_of, gives, is_origin, is_last_of, is_last}
 use Rattle.g_graph.specs.Splice.{joined_nodes}
 use Rattle.g_graph.proofs.lemmas.Moved.{same_origin_true}
-
-pub either : (b : Bool) → (b ≡ true) ⊎ (b ≡ false)
-either true = inl refl
-either false = inr refl
 
 pub same_number_true : (n : ℕ) → (n == n) ≡ true
 same_number_true n = grind (arith, nat_tests)
@@ -69,7 +65,7 @@ kind_present (node_then x xs) n p b c e = by_test (id_of x == n) e (λ q. kind_p
     by_test false q h = h q
 
 pub kind_known : (xs : NodeTrees) (n p : ℕ) (k : Kind) → kind_after xs n p None ≡ Some k → has_node n xs ≡ true
-kind_known xs n p k e = by_either (either (has_node n xs))
+kind_known xs n p k e = by_either (cases_Bool (has_node n xs))
   where
     by_either : (has_node n xs ≡ true) ⊎ (has_node n xs ≡ false) → has_node n xs ≡ true
     by_either (inl h) = h
@@ -95,7 +91,7 @@ pub record FoundAt (k : Kind) (i : ℕ) (xs : List (Option Kind)) (found : Optio
 
 index_found : (k : Kind) (i : ℕ) (xs : List (Option Kind)) (found : Option ℕ) → some_of (is_of k) xs ≡ true → FoundAt k i xs found
 index_found k i [] found e = absurd (cc)
-index_found k i (x ∷ xs) found e = by_either (either (some_of (is_of k) xs)) (λ c q. index_found k (suc i) xs c q)
+index_found k i (x ∷ xs) found e = by_either (cases_Bool (some_of (is_of k) xs)) (λ c q. index_found k (suc i) xs c q)
   where
     own : (t : Bool) → (t || some_of (is_of k) xs) ≡ true → some_of (is_of k) xs ≡ false → t ≡ true
     own true a b = refl
@@ -114,7 +110,7 @@ index_found k i (x ∷ xs) found e = by_either (either (some_of (is_of k) xs)) (
         }
 
 pub index_kind : (k : Kind) (xs : List (Option Kind)) (p : ℕ) → last_index k 0 xs None ≡ Some p → (slice_get xs p ≡ Some (Some k)) × (some_of (is_of k) xs ≡ true)
-index_kind k xs p e = by_either (either (some_of (is_of k) xs))
+index_kind k xs p e = by_either (cases_Bool (some_of (is_of k) xs))
   where
     by_either : (some_of (is_of k) xs ≡ true) ⊎ (some_of (is_of k) xs ≡ false) → (slice_get xs p ≡ Some (Some k)) × (some_of (is_of k) xs ≡ true)
     by_either (inl h) =
@@ -128,7 +124,7 @@ index_kind k xs p e = by_either (either (some_of (is_of k) xs))
         absurd (cc)
 
 pub index_none : (k : Kind) (xs : List (Option Kind)) → last_index k 0 xs None ≡ None → some_of (is_of k) xs ≡ false
-index_none k xs e = by_either (either (some_of (is_of k) xs))
+index_none k xs e = by_either (cases_Bool (some_of (is_of k) xs))
   where
     by_either : (some_of (is_of k) xs ≡ true) ⊎ (some_of (is_of k) xs ≡ false) → some_of (is_of k) xs ≡ false
     by_either (inl h) =

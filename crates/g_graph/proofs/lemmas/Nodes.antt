@@ -1,7 +1,7 @@
 -- A node of a region that fits, and changes there that keep the region well formed and add no numbers.
 use Rattle.std.proofs.Common.{◌≡◌, ◌≤◌, ◌+◌, ◌⊎◌, inl, inr, ℕ, ◌==◌, Bool, true, false, ◌&&◌, ◌||◌, List, [], ◌∷◌, ◌++◌, map, Option, None, Some, refl, sym, ap, ◌∙◌, arith}
 use Rattle.std.specs.Prelude.{if◌then◌else◌, slice_get}
-use Rattle.std.proofs.lemmas.Bool.{and_parts, false_from_ne_true, or_parts, or_left}
+use Rattle.std.proofs.lemmas.Bool.{and_parts, false_from_ne_true, or_parts, or_left, cases_Bool}
 use Rattle.g_graph.specs.declared.op.Kind.{Kind}
 use Rattle.g_graph.specs.declared.op.Kind.TheVariants.{Value, Memory, Io}
 use Rattle.g_graph.specs.declared.op.Origin.{Origin}
@@ -18,7 +18,7 @@ use Rattle.g_graph.proofs.lemmas.Redirects.{nodes_ids-redirected}
 use Rattle.g_graph.proofs.lemmas.Splices.{joined_none, joined_following, Split, nodes_ids-joined, every_in_nodes-joined, kind_after-joined}
 use Rattle.g_graph.proofs.lemmas.Unique.{times, times_append, times_cons, counts_of_distinct}
 use Rattle.g_graph.proofs.lemmas.Numbers.{Numbered}
-use Rattle.g_graph.proofs.lemmas.Indexes.{either, same_number_true, same_kind_true, has_node-joined, kind_absent, kind_known}
+use Rattle.g_graph.proofs.lemmas.Indexes.{same_number_true, same_kind_true, has_node-joined, kind_absent, kind_known}
 use Rattle.g_graph.proofs.lemmas.Moved.{ValueFor}
 use Rattle.g_graph.proofs.NestLemmas.{RegionKept}
 use Rattle.g_graph.proofs.SpliceKept.{ReplacementFits, region_spliced_kept}
@@ -211,7 +211,7 @@ more_node m x between rest after e h =
 -- after nodes that know the one, the first output of the node, both are values
 pub value_for : (objects n : ℕ) (args : List Kind) (before : NodeTrees) (x : NodeTree) (after : NodeTrees) → NodeFits objects args before x after → id_of x ≡ n → output_kinds x ≡ Some Value ∷ [] →
     (b : Origin) → known args before b ≡ Some Value → ValueFor args (joined_nodes before (node_then x after)) (Out n 0) b
-value_for objects n args before x after here number gives_value b value = record { after = λ front rest w. by_front front rest w (either (has_node n front)) }
+value_for objects n args before x after here number gives_value b value = record { after = λ front rest w. by_front front rest w (cases_Bool (has_node n front)) }
   where
     not_before : has_node n before ≡ false
     not_before = false_from_ne_true (has_node n before) (λ h. omega (arith, has_times n before h, ap (λ k. times k (node_ids x)) number, own_times x, here.once n))

@@ -1,5 +1,5 @@
-use Rattle.c_grammar.proofs.Judgement as judgement
+use Rattle.c_grammar.proofs.GrammarLaws as grammar_laws
 use Rattle.c_grammar.proofs.laws.a_spelling_has_one_tree.Goals as goal
 
 pub returns : goal.returns
-returns c = judgement.one_tree
+returns c = grammar_laws.one_tree

@@ -1,5 +1,5 @@
-use Rattle.c_grammar.proofs.Judgement as judgement
+use Rattle.c_grammar.proofs.GrammarLaws as grammar_laws
 use Rattle.c_grammar.proofs.laws.reader_is_exact.Goals as goal
 
 pub returns : goal.returns
-returns c = judgement.reader_is_exact
+returns c = grammar_laws.reader_is_exact

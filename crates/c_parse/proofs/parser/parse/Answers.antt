@@ -3,7 +3,7 @@ use Rattle.std.proofs.lemmas.Grind.{common_steps}
 use Rattle.c_ast.specs.Nesting.{depth}
 use Rattle.c_ast.specs.Spelling.{kinds}
 use Rattle.c_parse.specs.LeftOut.{first_left_out}
-use Rattle.c_parse.proofs.Judging.{read_ended}
+use Rattle.c_parse.proofs.ParserAnswers.{read_ended}
 use Rattle.c_parse.proofs.parser.parse.Goals as goal
 
 pub returns-in-Ok : goal.returns-in-Ok

@@ -1,5 +1,5 @@
 use Rattle.std.proofs.Common.{sym, ◌∙◌}
-use Rattle.c_ast.specs.Terminals.{Word}
+use Rattle.c_ast.specs.Terminals.{ThisKeyword}
 use Rattle.c_parse.proofs.ReadLemmas.{token-word, token-fails}
 use Rattle.c_parse.proofs.tokens.Tokens.expect_keyword.Goals as goal
 
@@ -7,4 +7,4 @@ pub returns-then-sees_keyword : goal.returns-then-sees_keyword
 returns-then-sees_keyword c = token-word _ _ _ _ (sym c.sees_keyword.ensures ∙ c.if-sees_keyword.true) c.take.ensures
 
 pub returns-else-sees_keyword : goal.returns-else-sees_keyword
-returns-else-sees_keyword c = token-fails (Word c.args.keyword) _ (sym c.sees_keyword.ensures ∙ c.if-sees_keyword.false)
+returns-else-sees_keyword c = token-fails (ThisKeyword c.args.keyword) _ (sym c.sees_keyword.ensures ∙ c.if-sees_keyword.false)

@@ -39,7 +39,8 @@ invariant_of-self-2 c =
     let parts = rw c.deref-2.ensures.value at c.in_ok-parts.ensures in
     let normal = subst (λ d. AreNormalOf d c.args.members.items s.parts.items) v parts in
     rw c.in_ok-push.ensures.items
-    (indexed-define c.make_index.new.indices.items c.self.inside.structs.items s c.in_ok-index.index indexed c.in_ok-index.ensures.ok.0 c.in_ok-index.ensures.ok.1 c.in_ok-make_index.ensures.room new c.requires.some laid normal layout)
+    (indexed-define c.make_index.new.indices.items c.self.inside.structs.items s c.in_ok-index.index indexed
+    c.in_ok-index.ensures.ok.0 c.in_ok-index.ensures.ok.1 c.in_ok-make_index.ensures.room new c.requires.some laid normal layout)
 
 pub returns-clause-ok : goal.returns-clause-ok
 returns-clause-ok c =

@@ -1,4 +1,5 @@
-use Rattle.std.proofs.Common.{ℕ, List, ◌-◌, length, take, drop, Vec, Global, ap, ◌∙◌, refl, arith}
+use Rattle.std.proofs.Common.{ℕ, List, ◌-◌, ◌++◌, length, take, drop, Vec, Global, ap, ◌∙◌, refl, arith}
+use Rattle.std.proofs.Math.Seq.{take-append_seam}
 use Rattle.std.proofs.lemmas.List.{take_rest, length-map}
 use Rattle.std.proofs.lemmas.List.Sums.{count_by-le-length}
 use Rattle.call_order.specs.declared.stages.Stage.{Stage}
@@ -6,7 +7,7 @@ use Rattle.call_order.specs.declared.stages.Stage.TheVariants.{Closed}
 use Rattle.call_order.specs.Units.{call_lists}
 use Rattle.call_order.specs.Search.{above, all_at, stage_of, is_closed}
 use Rattle.call_order.proofs.StageLemmas.{above-small}
-use Rattle.call_order.proofs.CloseLemmas.{closes-answer, written-back}
+use Rattle.call_order.proofs.CloseLemmas.{closes-answer}
 use Rattle.call_order.proofs.search.Search.close.Goals as goal
 
 pub rank_of-rank-requires-clause-known : goal.rank_of-rank-requires-clause-known
@@ -33,7 +34,9 @@ returns-clause-closed c =
     closes-answer (call_lists c.args.calls.now) s.stages.items c.deref-2.result.now s.members.items _ from c.least-unit.result c.rank_of-rank.result _ _
     (ap (λ (xs : List ℕ). take (length xs - from) (drop from xs)) c.deref.ensures.value ∙ take_rest s.members.items from) c.deref-2.ensures.value
     c.least-unit.ensures.member c.least-unit.ensures.least c.rank_of-rank.ensures.above c.rank_of-rank.ensures.tight
-    (written-back s.stages.items c.put_all.new.stages _ s.stages.ok.0 (omega (arith, c.put_all.auto.stages, ap (λ (xs : List Stage). length xs) c.deref_mut.ensures.value))
+    (ap (λ n. take n (c.put_all.new.stages ++ drop (length c.put_all.new.stages) s.stages.items))
+    (omega (arith, s.stages.ok.0, c.put_all.auto.stages, ap (λ (xs : List Stage). length xs) c.deref_mut.ensures.value))
+    ∙ take-append_seam c.put_all.new.stages _
     ∙ (c.put_all.ensures
     ∙ ap (λ (xs : List Stage). all_at xs (take (length c.deref.result.now - from) (drop from c.deref.result.now)) (Closed c.least-unit.result c.rank_of-rank.result)) c.deref_mut.ensures.value))
     c.truncate.ensures.items

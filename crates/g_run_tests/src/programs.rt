@@ -1,12 +1,13 @@
 //! Small programs as graphs.
 
-use crate::checks::{of, out, region};
 use c_lex::Name;
 use g_graph::{Delta, Kind, Lambda, Link, Node, Object, Omega, Op, Origin, Region};
 use no_memory::NoMemory;
+use smallvec::SmallVec;
 use std::alloc::Global;
 use val_core::{Leaf, Op2};
 
+/// A program, by what it shows.
 #[derive(Clone, Copy)]
 pub enum Program {
     /// `int main(void) { int i; for (i = 0; i < 3; i++) ; putchar(72); return 0; }`
@@ -42,8 +43,37 @@ const fn arg(k: u32) -> Origin {
     Origin::Arg(k)
 }
 
+const fn out(node: u32, port: u32) -> Origin {
+    Origin::Out { node, port }
+}
+
 const fn leaf(offset: u32, width: u8) -> Leaf {
     Leaf { offset, width }
+}
+
+// A node without regions.
+fn of(alloc: Global, id: u32, op: Op, inputs: &[Origin]) -> Result<Node, NoMemory> {
+    Ok(Node {
+        id,
+        op,
+        inputs: SmallVec::from_slice(alloc, inputs)?,
+        regions: Vec::new(alloc),
+    })
+}
+
+fn region(
+    alloc: Global,
+    args: &[Kind],
+    nodes: Vec<Node>,
+    results: &[Origin],
+) -> Result<Region, NoMemory> {
+    let args = Vec::from_slice(alloc, args)?;
+    let results = Vec::from_slice(alloc, results)?;
+    Ok(Region {
+        args,
+        nodes,
+        results,
+    })
 }
 
 fn flat(alloc: Global, rows: &[(u32, Op, &[Origin])]) -> Result<Vec<Node>, NoMemory> {
@@ -466,6 +496,7 @@ fn single(
     omega(alloc, lambdas, deltas, &[b"main"])
 }
 
+/// The graph of the program; `NoMemory` only where the allocator has none.
 pub fn graph(alloc: Global, program: Program) -> Result<Omega, NoMemory> {
     match program {
         Program::Counted => counted(alloc),

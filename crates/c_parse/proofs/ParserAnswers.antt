@@ -13,7 +13,7 @@ use Rattle.c_ast.specs.Tree.{Tree}
 use Rattle.c_grammar.specs.Beginnings.{WrongFrom}
 use Rattle.c_grammar.specs.Laws.{Says}
 use Rattle.c_grammar.specs.Reader.{ReadResult, Read, SyntaxError, OutOfFuel, read}
-use Rattle.c_grammar.proofs.Judgement.{reader_is_exact}
+use Rattle.c_grammar.proofs.GrammarLaws.{reader_is_exact}
 use Rattle.c_parse.specs.LeftOut.{first_left_out}
 use Rattle.c_parse.specs.Refusal.{offset_of, Answers}
 use Rattle.c_parse.specs.declared.fault.ParseFault.TheVariants as fault
@@ -59,4 +59,4 @@ read_none n ts rest end p e = wrong n ts rest end p (says n ts (SyntaxError rest
 pub never_deep : (n : ℕ) (ts : List Token) → Passed n ts → read n (Many Externals) ts ≡ OutOfFuel → ⊥
 never_deep n ts p e = says n ts OutOfFuel p e
 
-pub ruleset judging = (read_ended, read_part, read_none, never_deep)
+pub ruleset parser_answers = (read_ended, read_part, read_none, never_deep)

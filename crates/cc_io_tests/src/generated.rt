@@ -3,7 +3,7 @@ use cc_gen::generate;
 use cc_io::MemSink;
 use std::test::Fail;
 
-pub const ONE_FUNCTION: &[u8] = b"int f0(int a, int b)
+const ONE_FUNCTION: &[u8] = b"int f0(int a, int b)
 {
     int s = a;
     int k = 0;

@@ -10,13 +10,13 @@ use Rattle.c_ast.specs.Spelling.{kinds, tokens_of, spell}
 use Rattle.c_ast.specs.Grammar.{One}
 use Rattle.c_grammar.specs.Reader.{ReadResult, Read, SyntaxError, OutOfFuel, read}
 use Rattle.c_grammar.specs.Beginnings.{Begins, WrongFrom}
-use Rattle.c_grammar.specs.Laws.{without_spans, OneTree, OneTreeAtSpans, Judged, OneToken, Says, ReaderIsExact}
+use Rattle.c_grammar.specs.Laws.{without_spans, OneTree, OneTreeAtSpans, TreeOrWrong, OneToken, Says, ReaderIsExact}
 use Rattle.c_grammar.proofs.Follow.{is_read, follows, precedence}
-use Rattle.c_grammar.proofs.Firsts.{spelled_append}
+use Rattle.c_ast.proofs.lemmas.Spelling.{spelled_append}
 use Rattle.c_grammar.proofs.Sound.{read_sound}
 use Rattle.c_grammar.proofs.Complete.{Reads, read_again}
 use Rattle.c_grammar.proofs.Viable.{read_viable}
-use Rattle.c_grammar.proofs.Local.{Alike, read_twin}
+use Rattle.c_grammar.proofs.Local.{SameResult, read_twin}
 use Rattle.c_grammar.proofs.Small.{Small}
 use Rattle.c_grammar.proofs.Enough.{read_enough}
 use Rattle.c_grammar.proofs.Spans.{kinds_append, split_kinds, dress, dressed_fits, token_lists}
@@ -78,7 +78,7 @@ not_spelled n ts o e deep done t h s =
 
 -- A tree of a longer spelling would have been read past the token at which the reader stopped.
 no_more : (n : ℕ) (before : List Token) (x : Token) (r : List Token) (o : ReadResult) → read n unit (before ++ x ∷ r) ≡ o → (Small (length r) o → ⊥) → ((s : List Token) (p : ReadResult) →
-    Alike x r s o p → (t : Tree) → Reads p t [] → ⊥) → Begins (kinds (before ++ x ∷ [])) → ⊥
+    SameResult x r s o p → (t : Tree) → Reads p t [] → ⊥) → Begins (kinds (before ++ x ∷ [])) → ⊥
 unfolding Begins
 no_more n before x r o e large other b =
     let s = split_kinds (tokens_of b.0) (kinds (before ++ x ∷ [])) b.1 b.3 in
@@ -88,12 +88,12 @@ no_more n before x r o e large other b =
     (subst (λ (us : List Token). Reads (read n unit us) d.tree []) (d.spells ∙ append_assoc before (x ∷ []) s.right) (whole n d.tree (dressed_fits (One unit) b.0 us d b.2)))
     (read_twin x r s.right n unit before)
   where
-    go : (t : Tree) (s : List Token) → Reads (read n unit (before ++ x ∷ s)) t [] → (Alike x r s (read n unit (before ++ x ∷ r)) (read n unit (before ++ x ∷
+    go : (t : Tree) (s : List Token) → Reads (read n unit (before ++ x ∷ s)) t [] → (SameResult x r s (read n unit (before ++ x ∷ r)) (read n unit (before ++ x ∷
         s))) ⊎ (Small (length r) (read n unit (before ++ x ∷ r))) → ⊥
-    go t s w (inl a) = other s (read n unit (before ++ x ∷ s)) (subst (λ (o : ReadResult). Alike x r s o (read n unit (before ++ x ∷ s))) e a) t w
+    go t s w (inl a) = other s (read n unit (before ++ x ∷ s)) (subst (λ (o : ReadResult). SameResult x r s o (read n unit (before ++ x ∷ s))) e a) t w
     go t s w (inr m) = large (subst (Small (length r)) e m)
 
-fail_other : (x : Token) (r s : List Token) (p : ReadResult) → Alike x r s (SyntaxError (x ∷ r)) p → (t : Tree) → Reads p t [] → ⊥
+fail_other : (x : Token) (r s : List Token) (p : ReadResult) → SameResult x r s (SyntaxError (x ∷ r)) p → (t : Tree) → Reads p t [] → ⊥
 fail_other x r s (Read u j) a t w = a
 fail_other x r s OutOfFuel a t w = a
 fail_other x r s (SyntaxError j) a t (inl e) = cc e
@@ -103,7 +103,7 @@ not_empty : (q : List Token) (x : Token) (s : List Token) → q ++ x ∷ s ≡ [
 not_empty [] x s e = cc e
 not_empty (y ∷ q) x s e = cc e
 
-done_other : (u : Tree) (x : Token) (r s : List Token) (p : ReadResult) → Alike x r s (Read u (x ∷ r)) p → (t : Tree) → Reads p t [] → ⊥
+done_other : (u : Tree) (x : Token) (r s : List Token) (p : ReadResult) → SameResult x r s (Read u (x ∷ r)) p → (t : Tree) → Reads p t [] → ⊥
 done_other u x r s (Read v j) a t (inl e) = not_empty a.1.0 x s (sym a.1.2 ∙ cc e)
 done_other u x r s (Read v j) a t (inr e) = cc e
 done_other u x r s (SyntaxError j) a t w = a
@@ -155,8 +155,8 @@ says n ts b OutOfFuel e = deep_enough n ts b e
 pub reader_is_exact : ReaderIsExact
 reader_is_exact n ts b = says n ts b (read n unit ts) refl
 
-pub judged : Judged
-judged ts = go (read (16 * length ts + 16) unit ts) (reader_is_exact (16 * length ts + 16) ts (omega arith))
+pub tree_or_wrong : TreeOrWrong
+tree_or_wrong ts = go (read (16 * length ts + 16) unit ts) (reader_is_exact (16 * length ts + 16) ts (omega arith))
   where
     go : (o : ReadResult) → Says ts o → ((t : Tree) × FollowsGrammar t × (tokens_of t ≡ ts)) ⊎ ((rest : List Token) × WrongFrom ts rest)
     go (Read t []) s = inl (t, s.0, s.1)
