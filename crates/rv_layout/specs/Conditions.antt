@@ -42,7 +42,7 @@ has_register (Address r k) = nat_lt r 32
 has_register _ = true
 
 -- a label's address is so near that a jump reaches it, and both are multiples of 4
-pub record IsNear (from to : ℕ) : Type 0 where
+pub record CanJump (from to : ℕ) : Type 0 where
   pub back : from < to + 2 ^ 20
   pub forth : to < from + 2 ^ 20
   pub from_aligned : from % 4 ≡ 0
@@ -50,7 +50,7 @@ pub record IsNear (from to : ℕ) : Type 0 where
 
 -- a jump at an address reaches its label
 abbrev pub Reaches : (labels : ℕ → Option ℕ) → (at : ℕ) → Item → Type 0
-Reaches labels at (Jump l) = IsNear at (unwrap_or (labels l) 0)
+Reaches labels at (Jump l) = CanJump at (unwrap_or (labels l) 0)
 Reaches labels at _ = Unit {0}
 
 -- a link's global is one of so many

@@ -1,12 +1,13 @@
 -- Globals in memory: where each stands, and its bytes with the addresses that its links name.
-use Rattle.std.specs.Prelude.{ℕ, ◌+◌, ◌-◌, ◌*◌, ◌/◌, Bool, not, if◌then◌else◌, List, [], ◌∷◌, ◌++◌, length, take, drop, replicate, slice_index}
+use Rattle.std.specs.Prelude.{ℕ, ◌+◌, ◌-◌, Bool, not, if◌then◌else◌, List, [], ◌∷◌, ◌++◌, length, take, drop, replicate, slice_index}
+use Rattle.limits.specs.Limits.{counted_bytes}
 use Rattle.elf_file.specs.Header.{word}
 use Rattle.g_graph.specs.declared.link.Link.{Link}
 use Rattle.g_graph.specs.Plain.{PlainDelta}
 
--- the bytes of a global in memory: its size up to a multiple of 4, and 4 more
+-- the bytes of a global in memory
 abbrev pub global_room : PlainDelta → ℕ
-global_room d = (length d.bytes + 3) / 4 * 4 + 4
+global_room d = counted_bytes (length d.bytes)
 
 abbrev pub is_where : (fixed : Bool) → PlainDelta → Bool
 is_where fixed d = if fixed then d.fixed else not d.fixed

@@ -3,3 +3,4 @@ pub mod Items
 pub mod Globals
 pub mod Layout
 pub mod Conditions
+pub mod Laws

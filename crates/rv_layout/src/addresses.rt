@@ -66,8 +66,10 @@ fn next_page(end: u32) -> u32
 /// Where the functions stand, and the end of the last one.
 fn function_addresses(alloc: Global, functions: &[Vec<Item>]) -> Result<(Vec<u32>, u32), NoMemory>
     requires { functions_at + sum_by items_size (item_lists functions.now) < 2 ^ 32 }
-    ensures all { IfOk result (λ r. r.0.items ≡ functions_from functions_at (item_lists functions.now)) }
-    ensures end { IfOk result (λ r. r.1 ≡ functions_at + sum_by items_size (item_lists functions.now)) }
+    ensures all { IfOk result (λ r.
+        r.0.items ≡ functions_from functions_at (item_lists functions.now)) }
+    ensures end { IfOk result (λ r.
+        r.1 ≡ functions_at + sum_by items_size (item_lists functions.now)) }
 {
     let mut all = Vec::with_capacity(alloc, functions.len())?;
     let mut at = FUNCTIONS_AT;

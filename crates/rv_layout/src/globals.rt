@@ -52,7 +52,8 @@ pub fn push_globals(
     requires fits { IsTrue (all_of (global_fits (length addresses.now)) globals.now) }
     requires room { sum_by global_room (globals_where fixed globals.now) < 2 ^ 32 }
     ensures { OnOk result (section.new.items
-        ≡ section.old.items ++ flat_map (global_bytes addresses.now) (globals_where fixed globals.now)) }
+        ≡ section.old.items ++ flat_map (global_bytes addresses.now) (globals_where fixed
+        globals.now)) }
 {
     for global in globals {
         if global.fixed == fixed {

@@ -6,7 +6,7 @@ ghost use Rattle.g_graph.specs.WellFormed.{all_of};
 ghost use Rattle.rv_layout.specs.Sequences.{bytes_of};
 ghost use Rattle.rv_layout.specs.Items.{items_size, label_at};
 ghost use Rattle.rv_layout.specs.Layout.{item_lists, offset_to, item_code, items_code, function_code, functions_at, functions_code};
-ghost use Rattle.rv_layout.specs.Conditions.{IsNear, Reaches, item_fits, function_fits};
+ghost use Rattle.rv_layout.specs.Conditions.{CanJump, Reaches, item_fits, function_fits};
 
 use crate::Item;
 use crate::addresses::{Addresses, FUNCTIONS_AT, stub_at};
@@ -19,7 +19,7 @@ use std::alloc::{AllocError, Global};
 use std::collections::BTreeMap;
 
 fn jump(from: u32, to: u32) -> Instr
-    requires { IsNear from to }
+    requires { CanJump from to }
     ensures { result ≡ Instr.Jal 0 (offset_to from to) }
 {
     Instr::Jal {
@@ -36,10 +36,12 @@ fn push_item(
     labels: &BTreeMap<u32, u32>,
     addresses: &Addresses,
 ) -> Result<(), AllocError>
-    requires fits { IsTrue (item_fits (length addresses.now.functions) (length addresses.now.globals) item.now) }
+    requires fits { IsTrue
+        (item_fits (length addresses.now.functions) (length addresses.now.globals) item.now) }
     requires reaches { Reaches (get nat_cmp labels.now) at item.now }
     ensures { OnOk result (text.new.items
-        ≡ text.old.items ++ bytes_of (item_code addresses.now (get nat_cmp labels.now) at item.now)) }
+        ≡ text.old.items ++ bytes_of (item_code addresses.now (get nat_cmp labels.now) at
+        item.now)) }
 {
     match item {
         Item::Word(i) => push_code(text, &[*i]),
@@ -67,7 +69,8 @@ fn push_items(
     labels: &BTreeMap<u32, u32>,
     addresses: &Addresses,
 ) -> Result<(), AllocError>
-    requires fits { IsTrue (function_fits (length addresses.now.functions) (length addresses.now.globals) items.now) }
+    requires fits { IsTrue
+        (function_fits (length addresses.now.functions) (length addresses.now.globals) items.now) }
     requires end { at + items_size items.now < 2 ^ 32 }
     requires aligned { at % 4 ≡ 0 }
     requires found { (label : ℕ) → get nat_cmp labels.now label ≡ label_at label at items.now }
@@ -90,7 +93,8 @@ fn push_function(
     at: u32,
     addresses: &Addresses,
 ) -> Result<(), NoMemory>
-    requires fits { IsTrue (function_fits (length addresses.now.functions) (length addresses.now.globals) items.now) }
+    requires fits { IsTrue
+        (function_fits (length addresses.now.functions) (length addresses.now.globals) items.now) }
     requires end { at + items_size items.now < 2 ^ 32 }
     requires aligned { at % 4 ≡ 0 }
     ensures { OnOk result (text.new.items
@@ -109,10 +113,13 @@ pub fn push_functions(
     functions: &[Vec<Item>],
     addresses: &Addresses,
 ) -> Result<(), NoMemory>
-    requires fits { IsTrue (all_of (function_fits (length addresses.now.functions) (length addresses.now.globals)) (item_lists functions.now)) }
+    requires fits { IsTrue (all_of
+        (function_fits (length addresses.now.functions) (length addresses.now.globals))
+        (item_lists functions.now)) }
     requires end { functions_at + sum_by items_size (item_lists functions.now) < 2 ^ 32 }
     ensures { OnOk result (text.new.items
-        ≡ text.old.items ++ bytes_of (functions_code addresses.now functions_at (item_lists functions.now))) }
+        ≡ text.old.items
+            ++ bytes_of (functions_code addresses.now functions_at (item_lists functions.now))) }
 {
     let mut at = FUNCTIONS_AT;
     for items in functions {

@@ -14,7 +14,8 @@ use std::collections::BTreeMap;
 /// time n log n in the items.
 pub fn labels_of(alloc: Global, items: &[Item], at: u32) -> Result<BTreeMap<u32, u32>, NoMemory>
     requires { at + items_size items.now < 2 ^ 32 }
-    ensures { IfOk result (λ labels. (label : ℕ) → get nat_cmp labels label ≡ label_at label at items.now) }
+    ensures { IfOk result (λ labels.
+        (label : ℕ) → get nat_cmp labels label ≡ label_at label at items.now) }
 {
     let mut labels = BTreeMap::new(alloc);
     let mut here = at + items_size(items);

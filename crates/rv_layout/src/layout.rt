@@ -24,7 +24,8 @@ use std::alloc::Global;
 fn start_and_stubs(alloc: Global, main: u32, addresses: &Addresses) -> Result<Vec<Instr>, NoMemory>
     requires { TEXT_AT + 16 < main }
     ensures { IfOk result (λ code. code.items
-        ≡ start_code addresses.now.stack_at main ++ put_stub addresses.now.data_at ++ get_stub addresses.now.data_at) }
+        ≡ start_code addresses.now.stack_at main
+            ++ put_stub addresses.now.data_at ++ get_stub addresses.now.data_at) }
 {
     let mut code = Vec::new(alloc);
     push_start_code(&mut code, addresses.stack_at, main)?;
@@ -47,7 +48,9 @@ fn text_of(
     main: u32,
     addresses: &Addresses,
 ) -> Result<Vec<u8>, NoMemory>
-    requires fits { IsTrue (all_of (function_fits (length addresses.now.functions) (length addresses.now.globals)) (item_lists functions.now)) }
+    requires fits { IsTrue (all_of
+        (function_fits (length addresses.now.functions) (length addresses.now.globals))
+        (item_lists functions.now)) }
     requires end { functions_at + sum_by items_size (item_lists functions.now) < 2 ^ 32 }
     requires has_main { main < length addresses.now.functions }
     requires after_start { TEXT_AT + 16 < slice_index addresses.now.functions main }
@@ -79,7 +82,8 @@ fn data_section(alloc: Global, globals: &[Delta], addresses: &[u32]) -> Result<V
     requires fits { IsTrue (all_of (global_fits (length addresses.now)) globals.now) }
     requires room { sum_by global_room (globals_where false globals.now) < 2 ^ 32 }
     ensures { IfOk result (λ section. section.items
-        ≡ replicate 8 0 ++ flat_map (global_bytes addresses.now) (globals_where false globals.now)) }
+        ≡ replicate 8 0 ++ flat_map (global_bytes addresses.now) (globals_where false
+        globals.now)) }
 {
     let mut section = vec![in alloc; 0; 8]?;
     push_globals(&mut section, globals, false, addresses)?;
@@ -97,7 +101,8 @@ pub fn lay(
     main: u32,
 ) -> Result<Image, NoMemory>
     requires { CanLayOut (item_lists functions.now) deltas.now main }
-    ensures { IfOk result (λ image. sections_of image ≡ laid_out (item_lists functions.now) deltas.now main) }
+    ensures { IfOk result (λ image.
+        sections_of image ≡ laid_out (item_lists functions.now) deltas.now main) }
 {
     let addresses = addresses_of(alloc, functions, deltas)?;
     let text = text_of(alloc, functions, main, &addresses)?;

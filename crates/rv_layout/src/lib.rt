@@ -8,6 +8,7 @@ mod globals;
 mod item;
 mod items;
 mod labels;
+pub mod laws;
 mod layout;
 mod sequences;
 mod sizes;

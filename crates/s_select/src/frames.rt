@@ -47,8 +47,10 @@ fn push_restore_places(items: &mut Vec<Item>, saved: u32) -> Result<(), AllocErr
     Ok(())
 }
 
+// The test of the stack, and where it has room, the frame and the return address in it.
 fn test_and_take() -> [Instr; 6]
-    ensures { result ≡ Instr.Sub 6 2 8 ∷ Instr.Bgeu 6 5 8 ∷ Instr.Ebreak ∷ Instr.Sub 2 2 5 ∷ Instr.Add 6 2 5 ∷ Instr.Sw 6 1 (negative 4) ∷ [] }
+    ensures { result ≡ Instr.Sub 6 2 8 ∷ Instr.Bgeu 6 5 8 ∷ Instr.Ebreak
+        ∷ Instr.Sub 2 2 5 ∷ Instr.Add 6 2 5 ∷ Instr.Sw 6 1 (negative 4) ∷ [] }
 {
     let (sp, t0, t1) = (Reg::SP, Reg::T0, Reg::T1);
     [
@@ -98,6 +100,7 @@ pub fn push_take_frame(items: &mut Vec<Item>, size: u32, saved: u32) -> Result<(
     push_save_places(items, saved)
 }
 
+// The frame given back, t1 being its end.
 fn return_to_caller() -> [Instr; 3]
     ensures { result ≡ Instr.Lw 1 6 (negative 4) ∷ Instr.Addi 2 6 0 ∷ Instr.Jalr 0 1 0 ∷ [] }
 {

@@ -39,7 +39,8 @@ pub fn push_binary_code(
     left: Reg,
     right: Reg,
 ) -> Result<(), AllocError>
-    ensures { OnOk result (items.new.items ≡ items.old.items ++ words (binary_code op rd left right)) }
+    ensures { OnOk result (items.new.items ≡ items.old.items ++ words (binary_code op rd left
+        right)) }
 {
     let first = binary_instr(op, rd, left, right);
     match op {

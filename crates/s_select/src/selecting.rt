@@ -39,7 +39,9 @@ impl Function<'_> {
         requires left { IsTrue (has_place self.now.places.now left) }
         requires right { IsTrue (has_place self.now.places.now right) }
         ensures { OnOk result (items.new.items
-            ≡ items.old.items ++ instr_items self.now.places.now self.now.objects.now (linear.binary op to left right)) }
+            ≡ items.old.items
+            ++ instr_items self.now.places.now self.now.objects.now
+            (linear.binary op to left right)) }
     {
         let (to, left, right) = (self.place_of(to), self.place_of(left), self.place_of(right));
         push_binary(items, op, &to, &left, &right)
@@ -55,7 +57,9 @@ impl Function<'_> {
         requires address { IsTrue (has_place self.now.places.now address) }
         requires value { IsTrue (has_place self.now.places.now value) }
         ensures { OnOk result (items.new.items
-            ≡ items.old.items ++ instr_items self.now.places.now self.now.objects.now (linear.store width address value)) }
+            ≡ items.old.items
+            ++ instr_items self.now.places.now self.now.objects.now
+            (linear.store width address value)) }
     {
         push_store(items, width, &self.place_of(address), &self.place_of(value))
     }
@@ -63,7 +67,8 @@ impl Function<'_> {
     fn clear(&self, items: &mut Vec<Item>, number: u32) -> Result<(), AllocError>
         requires { number < length self.now.objects.now }
         ensures { OnOk result (items.new.items
-            ≡ items.old.items ++ instr_items self.now.places.now self.now.objects.now (linear.clear number)) }
+            ≡ items.old.items
+            ++ instr_items self.now.places.now self.now.objects.now (linear.clear number)) }
     {
         push_clear(items, self.offset_of(number), self.size_of(number))
     }
@@ -79,7 +84,9 @@ impl Function<'_> {
         requires arguments { IsTrue (all_of (has_place self.now.places.now) arguments.now) }
         requires few { length arguments.now ≤ 8 }
         ensures { OnOk result (items.new.items
-            ≡ items.old.items ++ instr_items self.now.places.now self.now.objects.now (linear.call function to arguments.now)) }
+            ≡ items.old.items
+            ++ instr_items self.now.places.now self.now.objects.now
+            (linear.call function to arguments.now)) }
     {
         self.push_arguments(items, arguments)?;
         push_call(items, function, &self.place_of(to))
@@ -87,11 +94,14 @@ impl Function<'_> {
 
     /// The template of an instruction.
     fn push_instr(&self, items: &mut Vec<Item>, instr: &Instr) -> Result<(), AllocError>
-        requires placed { IsTrue (all_of (has_place self.now.places.now) (instr_names (instr_of instr.now))) }
-        requires object { IsTrue (has_its_object (length self.now.objects.now) (instr_of instr.now)) }
+        requires placed { IsTrue (all_of (has_place self.now.places.now) (instr_names (instr_of
+            instr.now))) }
+        requires object { IsTrue (has_its_object (length self.now.objects.now) (instr_of
+            instr.now)) }
         requires arguments { IsTrue (has_few_arguments (instr_of instr.now)) }
         ensures { OnOk result (items.new.items
-            ≡ items.old.items ++ instr_items self.now.places.now self.now.objects.now (instr_of instr.now)) }
+            ≡ items.old.items ++ instr_items self.now.places.now self.now.objects.now (instr_of
+            instr.now)) }
     {
         match instr {
             Instr::Const { target, word } => push_const(items, &self.place_of(*target), *word),
@@ -151,7 +161,8 @@ impl Function<'_> {
         requires placed { IsTrue (all_of (has_place self.now.places.now) params.now) }
         requires few { length params.now ≤ 8 }
         ensures { OnOk result (items.new.items
-            ≡ items.old.items ++ line_items self.now.places.now self.now.objects.now (lines.enter params.now)) }
+            ≡ items.old.items
+            ++ line_items self.now.places.now self.now.objects.now (lines.enter params.now)) }
     {
         push_take_frame(items, size, self.saved())?;
         self.push_params(items, params)
@@ -161,7 +172,8 @@ impl Function<'_> {
         requires size { size ≡ frame_size self.now.places.now.count self.now.objects.now }
         requires placed { IsTrue (has_place self.now.places.now value) }
         ensures { OnOk result (items.new.items
-            ≡ items.old.items ++ line_items self.now.places.now self.now.objects.now (lines.leave value)) }
+            ≡ items.old.items
+            ++ line_items self.now.places.now self.now.objects.now (lines.leave value)) }
     {
         push_get(items, Reg::A0, &self.place_of(value))?;
         push_give_frame(items, size, self.saved())
@@ -171,11 +183,13 @@ impl Function<'_> {
     fn push_line(&self, items: &mut Vec<Item>, size: u32, line: &Line) -> Result<(), AllocError>
         requires size { size ≡ frame_size self.now.places.now.count self.now.objects.now }
         requires placed { IsTrue (names_have_places self.now.places.now (line_of line.now)) }
-        requires object { IsTrue (does (has_its_object (length self.now.objects.now)) (line_of line.now)) }
+        requires object { IsTrue (does (has_its_object (length self.now.objects.now)) (line_of
+            line.now)) }
         requires params { IsTrue (has_few_params (line_of line.now)) }
         requires arguments { IsTrue (does has_few_arguments (line_of line.now)) }
         ensures { OnOk result (items.new.items
-            ≡ items.old.items ++ line_items self.now.places.now self.now.objects.now (line_of line.now)) }
+            ≡ items.old.items ++ line_items self.now.places.now self.now.objects.now (line_of
+            line.now)) }
     {
         match line {
             Line::Enter { params } => self.enter(items, size, params),

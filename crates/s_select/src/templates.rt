@@ -33,7 +33,8 @@ pub fn push_object_address(
     offset: u32,
 ) -> Result<(), AllocError>
     ensures { OnOk result (items.new.items
-        ≡ items.old.items ++ words (with_none to.now (λ rd. load_immediate 5 offset ++ rv.Add rd 5 2 ∷ []))) }
+        ≡ items.old.items ++ words (with_none to.now (λ rd. load_immediate 5 offset ++ rv.Add rd
+        5 2 ∷ []))) }
 {
     push_immediate(items, Reg::T0, offset)?;
     push_words(items, &[add(out_of(to), Reg::T0, Reg::SP)])?;
@@ -105,7 +106,8 @@ pub fn push_load(
     address: &Location,
 ) -> Result<(), AllocError>
     ensures { OnOk result (items.new.items
-        ≡ items.old.items ++ words (with_one to.now address.now (λ rd r. load_instr width rd r ∷ []))) }
+        ≡ items.old.items ++ words (with_one to.now address.now (λ rd r. load_instr width rd r ∷
+        []))) }
 {
     push_in(items, Reg::T0, address)?;
     push_words(
@@ -123,7 +125,8 @@ pub fn push_store(
     value: &Location,
 ) -> Result<(), AllocError>
     ensures { OnOk result (items.new.items ≡ items.old.items
-        ++ words (load_in 5 address.now ++ load_in 6 value.now ++ store_instr width (in_of address.now 5) (in_of value.now 6) ∷ [])) }
+        ++ words (load_in 5 address.now ++ load_in 6 value.now ++ store_instr width (in_of
+        address.now 5) (in_of value.now 6) ∷ [])) }
 {
     push_in(items, Reg::T0, address)?;
     push_in(items, Reg::T1, value)?;
@@ -184,7 +187,8 @@ fn clear_words() -> [Instr; 4]
 
 /// A call of a function, its arguments being in registers.
 pub fn push_call(items: &mut Vec<Item>, function: u32, to: &Location) -> Result<(), AllocError>
-    ensures { OnOk result (items.new.items ≡ items.old.items ++ item.Call function ∷ words (put to.now 10)) }
+    ensures { OnOk result (items.new.items ≡ items.old.items ++ item.Call function ∷ words (put
+        to.now 10)) }
 {
     push_item(items, Item::Call(function))?;
     push_put(items, to, Reg::A0)
@@ -192,7 +196,8 @@ pub fn push_call(items: &mut Vec<Item>, function: u32, to: &Location) -> Result<
 
 /// A byte is written.
 pub fn push_put_byte(items: &mut Vec<Item>, byte: &Location) -> Result<(), AllocError>
-    ensures { OnOk result (items.new.items ≡ items.old.items ++ words (get 10 byte.now) ++ item.Stub 0 ∷ []) }
+    ensures { OnOk result (items.new.items ≡ items.old.items ++ words (get 10 byte.now) ++
+        item.Stub 0 ∷ []) }
 {
     push_get(items, Reg::A0, byte)?;
     push_item(items, Item::Stub(0))
@@ -200,7 +205,8 @@ pub fn push_put_byte(items: &mut Vec<Item>, byte: &Location) -> Result<(), Alloc
 
 /// A byte is read.
 pub fn push_get_byte(items: &mut Vec<Item>, to: &Location) -> Result<(), AllocError>
-    ensures { OnOk result (items.new.items ≡ items.old.items ++ item.Stub 1 ∷ words (put to.now 10)) }
+    ensures { OnOk result (items.new.items
+        ≡ items.old.items ++ item.Stub 1 ∷ words (put to.now 10)) }
 {
     push_item(items, Item::Stub(1))?;
     push_put(items, to, Reg::A0)
@@ -261,7 +267,8 @@ pub fn push_branch_equal(
     label: u32,
 ) -> Result<(), AllocError>
     ensures { OnOk result (items.new.items
-        ≡ items.old.items ++ branch_items predicate.now (λ r. load_immediate 6 number ++ rv.Bne r 6 8 ∷ []) label) }
+        ≡ items.old.items ++ branch_items predicate.now (λ r. load_immediate 6 number ++ rv.Bne
+        r 6 8 ∷ []) label) }
 {
     push_in(items, Reg::T0, predicate)?;
     push_immediate(items, Reg::T1, number)?;
