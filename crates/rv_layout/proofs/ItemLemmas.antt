@@ -96,7 +96,10 @@ pub labels_marked : (fs gs : ℕ) (items : List Item) → IsTrue (function_fits 
 labels_marked fs gs items h = (and_parts (labels_are_marked items) (is_within_reach items) (and_parts (labels_are_marked items && is_within_reach items) (all_of (item_fits fs gs) items) h).0).0
 
 pub items_short : (fs gs : ℕ) (items : List Item) → IsTrue (function_fits fs gs items) → items_size items < 2 ^ 20
-items_short fs gs items h = ltb-true _ _ (and_parts (labels_are_marked items) (is_within_reach items) (and_parts (labels_are_marked items && is_within_reach items) (all_of (item_fits fs gs) items) h).0).1
+items_short fs gs items h =
+    ltb-true _ _
+    (and_parts (labels_are_marked items) (is_within_reach items)
+    (and_parts (labels_are_marked items && is_within_reach items) (all_of (item_fits fs gs) items) h).0).1
 
 pub items_fit : (fs gs : ℕ) (items : List Item) → IsTrue (function_fits fs gs items) → IsTrue (all_of (item_fits fs gs) items)
 items_fit fs gs items h = (and_parts (labels_are_marked items && is_within_reach items) (all_of (item_fits fs gs) items) h).1

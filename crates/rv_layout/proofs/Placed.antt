@@ -37,16 +37,24 @@ length-item_code a labels at (Address r k) = refl
 length-items_code : (a : Addresses) (labels : ℕ → Option ℕ) (at : ℕ) (is : List Item) → 4 * length (items_code a labels at is) ≡ items_size is
 length-items_code a labels at [] = refl
 length-items_code a labels at (i ∷ is) =
-    omega
-    (arith, length-append (item_code a labels at i) (items_code a labels (at + item_size i) is),
-    length-item_code a labels at i, length-items_code a labels (at + item_size i) is, sum_by-cons item_size i is)
+    omega (
+      arith,
+      length-append (item_code a labels at i) (items_code a labels (at + item_size i) is),
+      length-item_code a labels at i,
+      length-items_code a labels (at + item_size i) is,
+      sum_by-cons item_size i is,
+    )
 
 length-functions_code : (a : Addresses) (at : ℕ) (fs : List (List Item)) → 4 * length (functions_code a at fs) ≡ sum_by items_size fs
 length-functions_code a at [] = refl
 length-functions_code a at (f ∷ fs) =
-    omega
-    (arith, length-append (function_code a at f) (functions_code a (at + items_size f) fs),
-    length-items_code a (λ l. label_at l at f) at f, length-functions_code a (at + items_size f) fs, sum_by-cons items_size f fs)
+    omega (
+      arith,
+      length-append (function_code a at f) (functions_code a (at + items_size f) fs),
+      length-items_code a (λ l. label_at l at f) at f,
+      length-functions_code a (at + items_size f) fs,
+      sum_by-cons items_size f fs,
+    )
 
 length-text : (a : Addresses) (fs : List (List Item)) (main : ℕ) → text_at + length (bytes_of (text_of a fs main)) ≡ functions_at + sum_by items_size fs
 length-text a fs main = omega (arith, length-bytes_of (text_of a fs main), length-functions_code a functions_at fs)
@@ -77,11 +85,16 @@ length-globals globals n fixed [] h = refl
 length-globals globals n fixed (d ∷ ds) h =
     let parts = and_parts (global_fits n d) (all_of (global_fits n) ds) h in
     let rest = length-globals globals n fixed ds parts.1 in
-    elim (is_where fixed d) as (λ b. length (flat_map (global_bytes globals) (if b then d ∷ globals_where fixed ds else globals_where fixed ds)) ≡ sum_by global_room (if b then d ∷ globals_where fixed ds else globals_where fixed ds)) [
+    let chosen : Bool → List PlainDelta = λ b. if b then d ∷ globals_where fixed ds else globals_where fixed ds in
+    elim (is_where fixed d) as (λ b. length (flat_map (global_bytes globals) (chosen b)) ≡ sum_by global_room (chosen b)) [
       | true ↦
-          omega
-          (arith, length-append (global_bytes globals d) (flat_map (global_bytes globals) (globals_where fixed ds)), length-global_bytes globals n d parts.0, rest,
-          sum_by-cons global_room d (globals_where fixed ds))
+          omega (
+            arith,
+            length-append (global_bytes globals d) (flat_map (global_bytes globals) (globals_where fixed ds)),
+            length-global_bytes globals n d parts.0,
+            rest,
+            sum_by-cons global_room d (globals_where fixed ds),
+          )
       | false ↦ rest
     ]
 

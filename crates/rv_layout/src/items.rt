@@ -119,7 +119,7 @@ pub fn push_functions(
     requires end { functions_at + sum_by items_size (item_lists functions.now) < 2 ^ 32 }
     ensures { OnOk result (text.new.items
         ≡ text.old.items
-            ++ bytes_of (functions_code addresses.now functions_at (item_lists functions.now))) }
+        ++ bytes_of (functions_code addresses.now functions_at (item_lists functions.now))) }
 {
     let mut at = FUNCTIONS_AT;
     for items in functions {

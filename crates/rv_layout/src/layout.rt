@@ -25,7 +25,7 @@ fn start_and_stubs(alloc: Global, main: u32, addresses: &Addresses) -> Result<Ve
     requires { TEXT_AT + 16 < main }
     ensures { IfOk result (λ code. code.items
         ≡ start_code addresses.now.stack_at main
-            ++ put_stub addresses.now.data_at ++ get_stub addresses.now.data_at) }
+        ++ put_stub addresses.now.data_at ++ get_stub addresses.now.data_at) }
 {
     let mut code = Vec::new(alloc);
     push_start_code(&mut code, addresses.stack_at, main)?;

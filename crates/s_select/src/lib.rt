@@ -1,4 +1,6 @@
-//! Selection: the items of a function, by one template for each line of its linear code.
+//! Selection: the items of a function, by one template for each line of its linear code. It stands
+//! on s_linear, rv_layout and rv_isa.
+//! Promise: `select` gives exactly the items that specs/Templates.antt defines.
 #![tactic(auto)]
 
 mod frames;

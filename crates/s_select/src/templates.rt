@@ -106,8 +106,8 @@ pub fn push_load(
     address: &Location,
 ) -> Result<(), AllocError>
     ensures { OnOk result (items.new.items
-        ≡ items.old.items ++ words (with_one to.now address.now (λ rd r. load_instr width rd r ∷
-        []))) }
+        ≡ items.old.items
+        ++ words (with_one to.now address.now (λ rd r. load_instr width rd r ∷ []))) }
 {
     push_in(items, Reg::T0, address)?;
     push_words(

@@ -14,7 +14,9 @@ push_item-requires-clause-reaches c =
     ∙ ap (λ x. x ∷ drop (c.loop-item.item-index + 1) c.args.items.now) (sym c.item-item.is)
     in
     reaches (get nat_cmp c.args.labels.now) c.args.items.now c.args.at c.loop-item.here c.item-item.result c.requires.found
-    (all_first _ _ _ _ more c.loop-item.invariant.marked) (items_short (length c.args.addresses.now.functions) (length c.args.addresses.now.globals) c.args.items.now c.requires.fits) c.requires.aligned c.loop-item.invariant.started (omega arith) c.loop-item.invariant.aligned
+    (all_first _ _ _ _ more c.loop-item.invariant.marked)
+    (items_short (length c.args.addresses.now.functions) (length c.args.addresses.now.globals) c.args.items.now c.requires.fits)
+    c.requires.aligned c.loop-item.invariant.started (omega arith) c.loop-item.invariant.aligned
 
 pub loop-item-preserved : goal.loop-item-preserved
 loop-item-preserved c =
