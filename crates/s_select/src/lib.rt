@@ -6,6 +6,7 @@
 mod frames;
 mod function;
 mod instructions;
+pub mod laws;
 mod location;
 mod objects;
 mod operands;
