@@ -1,5 +1,5 @@
 -- Worked row: the image of the program that returns 42.
-use Rattle.std.specs.Prelude.{◌≡◌, ℕ, refl, List, [], ◌∷◌, length, map, drop}
+use Rattle.std.specs.Prelude.{◌≡◌, refl, [], ◌∷◌, length, map, drop}
 use Rattle.elf_file.specs.Header.{elf_header, program_header}
 use Rattle.elf_file.specs.Written.{file_of, headers}
 use Rattle.rv_isa.specs.Words.{word_of}

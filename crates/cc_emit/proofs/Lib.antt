@@ -1,2 +1,3 @@
 mod Examples
 mod Placed
+mod Selects

@@ -1,9 +1,9 @@
 -- Each name of lines has a place.
-use Rattle.std.proofs.Common.{◌≡◌, ℕ, zero, suc, ◌+◌, ◌<◌, ◌≤◌, ◌==◌, refl, sym, ap, ◌∙◌, Bool, true, false, List, [], ◌∷◌, map, max, length, slice_index, arith}
-use Rattle.std.proofs.lemmas.Bool.{and_from, ltb-true, lt-ltb}
+use Rattle.std.proofs.Common.{◌≡◌, ℕ, zero, suc, ◌<◌, ◌==◌, refl, ap, ◌∙◌, Bool, true, false, List, [], ◌∷◌, length, slice_index, arith}
+use Rattle.std.proofs.lemmas.Bool.{and_from, lt-ltb}
 use Rattle.std.proofs.lemmas.Bool.Decides.{nat_tests}
 use Rattle.std.proofs.lemmas.List.{length-map}
-use Rattle.std.specs.Prelude.{◌||◌, nat_lt, is_some, slice_get, IsTrue}
+use Rattle.std.specs.Prelude.{◌||◌, nat_lt, is_some, slice_get}
 use Rattle.g_graph.specs.WellFormed.{all_of, some_of}
 use Rattle.s_linear.specs.Lines.{Line, line_names, numbers_from}
 use Rattle.a_place.specs.Laws.{PlacesAreBelowCount}
@@ -39,7 +39,7 @@ below_count x (line ∷ ls) h =
     (λ e. let here = below_above x (line_names line) e in omega arith)
     (λ e. let rest = below_count x ls e in omega arith)
 
-length-numbers_from : (first n : ℕ) → length (numbers_from first n) ≡ n
+pub length-numbers_from : (first n : ℕ) → length (numbers_from first n) ≡ n
 length-numbers_from first zero = refl
 length-numbers_from first (suc n) = ap suc (length-numbers_from (suc first) n)
 
