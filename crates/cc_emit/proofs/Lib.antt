@@ -1,3 +1,4 @@
 mod Examples
 mod Placed
 mod Selects
+mod Short

@@ -1,6 +1,7 @@
 //! Laws of the composition: each is the contract of a function that does nothing.
 
 ghost use Rattle.cc_emit.specs.Laws.{LambdaCanSelect, NamesHavePlaces};
+ghost use Rattle.cc_emit.specs.Sizes.{LinesAreShort};
 
 /// Each name of the lines has a place below their count.
 pub fn names_have_places()
@@ -19,3 +20,8 @@ pub fn lambda_can_select()
     s_sequence::laws::calls_keep_arguments();
     s_sequence::laws::widths_fit();
 }
+
+/// The items of a line have no more bytes than its template counts with far words.
+pub fn lines_are_short()
+    ensures { LinesAreShort }
+{}
