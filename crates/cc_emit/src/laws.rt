@@ -1,6 +1,6 @@
 //! Laws of the composition: each is the contract of a function that does nothing.
 
-ghost use Rattle.cc_emit.specs.Laws.{LambdaCanSelect, NamesHavePlaces};
+ghost use Rattle.cc_emit.specs.Laws.{GlobalsFit, LambdaCanSelect, NamesHavePlaces};
 ghost use Rattle.cc_emit.specs.Sizes.{LinesAreShort};
 
 /// Each name of the lines has a place below their count.
@@ -24,4 +24,9 @@ pub fn lambda_can_select()
 /// The items of a line have no more bytes than its template counts with far words.
 pub fn lines_are_short()
     ensures { LinesAreShort }
+{}
+
+/// A global of a program can be laid out.
+pub fn globals_fit()
+    ensures { GlobalsFit }
 {}
