@@ -1,0 +1,5 @@
+mod Examples
+mod Globals
+mod Placed
+mod Selects
+mod Short

@@ -1,0 +1,4 @@
+mod Examples
+mod ItemLemmas
+mod LayoutLemmas
+mod Placed

@@ -1,0 +1,5 @@
+use Rattle.s_select.proofs.Selected.{selected_items_fit}
+use Rattle.s_select.proofs.laws.selected_items_fit.Goals as goal
+
+pub returns : goal.returns
+returns c = selected_items_fit

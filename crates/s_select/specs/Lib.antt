@@ -1,0 +1,5 @@
+pub mod Operands
+pub mod Templates
+pub mod Conditions
+pub mod Objects
+pub mod Laws
