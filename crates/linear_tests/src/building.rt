@@ -1,0 +1,130 @@
+//! Lambdas as the tests build them, and their linear code as text.
+use g_graph::{Kind, Lambda, Node, Object, Op, Origin, Region, check, values};
+use no_memory::NoMemory;
+use s_linear::Linear;
+use s_sequence::sequence;
+use smallvec::SmallVec;
+use std::alloc::Global;
+use val_core::Leaf;
+
+/// A value.
+pub const V: Kind = Kind::Value;
+
+/// The state of memory.
+pub const M: Kind = Kind::Memory;
+
+/// The state of input and output.
+pub const I: Kind = Kind::Io;
+
+/// The argument of this index.
+pub const fn arg(k: u32) -> Origin {
+    Origin::Arg(k)
+}
+
+/// An output of the node of this number.
+pub const fn out(node: u32, port: u32) -> Origin {
+    Origin::Out { node, port }
+}
+
+/// A node with these regions; `NoMemory` as for each function here.
+pub fn with_regions(
+    alloc: Global,
+    id: u32,
+    op: Op,
+    inputs: &[Origin],
+    regions: Vec<Region>,
+) -> Result<Node, NoMemory> {
+    Ok(Node {
+        id,
+        op,
+        inputs: SmallVec::from_slice(alloc, inputs)?,
+        regions,
+    })
+}
+
+/// A node without regions.
+pub fn of(alloc: Global, id: u32, op: Op, inputs: &[Origin]) -> Result<Node, NoMemory> {
+    with_regions(alloc, id, op, inputs, Vec::new(alloc))
+}
+
+/// A region of these nodes.
+pub fn region(
+    alloc: Global,
+    args: &[Kind],
+    nodes: Vec<Node>,
+    results: &[Origin],
+) -> Result<Region, NoMemory> {
+    Ok(Region {
+        args: Vec::from_slice(alloc, args)?,
+        nodes,
+        results: Vec::from_slice(alloc, results)?,
+    })
+}
+
+/// A region without nodes.
+pub fn empty(alloc: Global, args: &[Kind], results: &[Origin]) -> Result<Region, NoMemory> {
+    region(alloc, args, Vec::new(alloc), results)
+}
+
+/// A region without arguments that gives this constant, by a node of this number.
+pub fn constant(alloc: Global, id: u32, word: u32) -> Result<Region, NoMemory> {
+    let nodes = Vec::from_array(alloc, [of(alloc, id, Op::Const(word), &[])?])?;
+    region(alloc, &[], nodes, &[out(id, 0)])
+}
+
+/// A function of so many parameters and one object, whose next node number is the greatest.
+pub fn function(
+    alloc: Global,
+    params: u32,
+    nodes: Vec<Node>,
+    results: &[Origin],
+) -> Result<Lambda, NoMemory> {
+    let mut args = Vec::new(alloc);
+    for _ in 0..params {
+        args.push(V)?;
+    }
+    args.push(M)?;
+    args.push(I)?;
+    let leaf = Leaf {
+        offset: 0,
+        width: 4,
+    };
+    let object = Object {
+        size: 4,
+        leaves: Vec::from_array(alloc, [leaf])?,
+    };
+    Ok(Lambda {
+        number: 0,
+        params,
+        objects: Vec::from_array(alloc, [object])?,
+        body: region(alloc, &args, nodes, results)?,
+        next: u32::MAX,
+    })
+}
+
+/// A function of one node.
+pub fn single(
+    alloc: Global,
+    params: u32,
+    node: Node,
+    results: &[Origin],
+) -> Result<Lambda, NoMemory> {
+    function(alloc, params, Vec::from_array(alloc, [node])?, results)
+}
+
+/// The linear code of a lambda, or none where it is not well formed.
+pub fn code(alloc: Global, lambda: &Lambda) -> Result<Option<Linear>, NoMemory> {
+    if check(lambda) && values(lambda) < 1 << 32 {
+        Ok(Some(sequence(alloc, lambda)?))
+    } else {
+        Ok(None)
+    }
+}
+
+/// The lines of a lambda as text.
+pub fn text(alloc: Global, lambda: &Lambda) -> Result<String, NoMemory> {
+    match code(alloc, lambda)? {
+        Some(linear) => Ok(format!(in alloc; "{:?}", linear.lines)?),
+        None => Ok(String::from_str(alloc, "not well formed")?),
+    }
+}
