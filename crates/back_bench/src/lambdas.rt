@@ -63,12 +63,7 @@ fn args(alloc: Global, values: u32) -> Result<Vec<Kind>, NoMemory> {
 }
 
 // A function of these nodes that gives this value.
-fn function(
-    alloc: Global,
-    params: u32,
-    nodes: Vec<Node>,
-    value: Origin,
-) -> Result<Lambda, NoMemory>
+fn function(alloc: Global, params: u32, nodes: Vec<Node>, value: Origin) -> Result<Lambda, NoMemory>
     requires { params ≤ 100 }
 {
     let states = [value, Origin::Arg(params), Origin::Arg(params + 1)];
@@ -107,10 +102,7 @@ fn decisions(alloc: Global, size: u32) -> Result<Lambda, NoMemory>
         carried.push(Origin::Arg(index))?;
     }
     for i in 0..size {
-        let regions = Vec::from_array(
-            alloc,
-            [passing(alloc, 3 * i)?, passing(alloc, 3 * i + 1)?],
-        )?;
+        let regions = Vec::from_array(alloc, [passing(alloc, 3 * i)?, passing(alloc, 3 * i + 1)?])?;
         let id = 3 * i + 2;
         nodes.push(node(alloc, id, Op::Gamma, &carried, regions)?)?;
         carried.clear();

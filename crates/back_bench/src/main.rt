@@ -8,9 +8,8 @@ mod places;
 use crate::lambdas::count_lines;
 use crate::places::Shape;
 use a_place::place;
-use std::env;
-use std::io;
 use std::rt::Env;
+use std::{env, io};
 
 /// Gives places to the names of lines of a shape, and tells how many there are.
 fn count_places(rt: &(impl Print + AllocGlobal), shape: Shape, count: u32) -> io::Result<()> {

@@ -1,4 +1,4 @@
--- The rules of the language that a program may break, and the broken rule that is told.
+-- The rules of the language that a program may break, and the broken rule that is reported.
 use Rattle.std.specs.Prelude.{ℕ, ◌==◌, ◌&&◌, ◌||◌, nat_lt, Bool, if◌then◌else◌, Option, None, Some}
 
 pub data Rule : Type 0 where
@@ -24,7 +24,7 @@ pub data Rule : Type 0 where
   -- a second label of one value in a `switch`
   BadLabel : Rule
 
--- the numbers that the rules are told by
+-- the numbers that the rules are reported by
 abbrev pub rule_number : Rule → ℕ
 rule_number Unknown = 31
 rule_number Redeclared = 32
@@ -38,7 +38,7 @@ rule_number BadReturn = 39
 rule_number BadJump = 40
 rule_number BadLabel = 43
 
--- a broken rule and the offset that it is told at
+-- a broken rule and the offset that it is reported at
 pub record Broken : Type 0 where
   pub rule : Rule
   pub offset : ℕ

@@ -90,7 +90,7 @@ object_made defs v = record { size = size defs v.type; leaves = leaves defs v.ty
 abbrev pub objects_made : Definitions → List VariableTree → List PlainObject
 objects_made defs vs = map (object_made defs) (filter (λ (v : VariableTree). v.is_object) vs)
 
--- the body of a function, and the next number behind it
+-- the body of a function, and the next number after it
 abbrev pub body_made : (is_main : Bool) → FunctionTree → RegionTree
 body_made is_main f = body_region f.params (body_built is_main f)
 

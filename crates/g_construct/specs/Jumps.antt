@@ -10,7 +10,7 @@ use Rattle.g_construct.specs.Expressions.{expr_made, tested}
 
 -- ---- jumps
 
--- `go` is 1 behind a `break`, 2 behind a `continue`, and 3 behind a `return`
+-- `go` is 1 after a `break`, 2 after a `continue`, and 3 after a `return`
 abbrev pub jump_made : (code : ℕ) → Point → Built (Unit {0})
 jump_made w s = bind (const_made w s) (λ g t. nothing (with_go t g))
 
@@ -23,7 +23,7 @@ jump_ended w s =
     bind (const_made w s) (λ k t.
     bind (bin_made op.Ne t.carried.go k t) (λ x u. bind (bin_made op.Mul u.carried.go x u) (λ g v. nothing (with_go v g))))
 
--- behind a loop or a `switch` that can be left: its own `break` has ended
+-- after a loop or a `switch` that can be left: its own `break` has ended
 abbrev pub break_ended : (leaves : Bool) → Point → Built (Unit {0})
 break_ended true s = jump_ended 1 s
 break_ended false s = nothing s
@@ -45,7 +45,7 @@ abbrev pub step_made : (leaves : Bool) → OptionalExpr → Point → Built (Uni
 step_made l no_expr s = nothing s
 step_made l (some_expr e) s = unless_left l (λ t. dropped (expr_made e t)) s
 
--- whether there is another turn, behind the body
+-- whether there is another turn, after the body
 abbrev pub again_made : (leaves : Bool) → (step : OptionalExpr) → Point → Built Origin
 again_made true step s = bind (jump_ended 2 s) (λ _ t. bind (step_made true step t) (λ _ u. is_zero_made u.carried.go u))
 again_made false step s = bind (step_made false step s) (λ _ t. const_made 1 t)

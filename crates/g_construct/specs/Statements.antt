@@ -31,7 +31,7 @@ elements_made k (value_then o e es) s =
     bind (expr_made e s) (λ v t. bind (element_stored k o (access_width (type_of e)) v t) (λ _ u. elements_made k es u))
 elements_made k (characters_then o cs es) s = bind (characters_made k o cs s) (λ _ t. elements_made k es t)
 
--- the initialiser of a value variable, which comes into scope behind it unless it is named in it
+-- the initialiser of a value variable, which comes into scope after it unless it is named in it
 abbrev pub value_begun : (names_itself : Bool) → InitialTree → Point → Built (Unit {0})
 value_begun true (initial_value e) s =
     bind (undef_made s) (λ o t. bind (expr_made e (pushed (held o) t)) (λ v u. nothing (newest_set (held v) u)))

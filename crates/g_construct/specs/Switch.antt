@@ -45,7 +45,7 @@ pub record Target : Type 0 where
   pub segment : ℕ
   pub group : ℕ
 
--- Where `default` leads, among groups from this segment and this group on: behind the last ones where there is none.
+-- Where `default` leads, among groups from this segment and this group on: after the last ones where there is none.
 abbrev pub default_target : (segment group : ℕ) → GroupTrees → Target
 default_target k g no_groups = record { segment = k; group = g }
 default_target k g (group_then cases true is gs) = record { segment = k; group = g }

@@ -56,7 +56,7 @@ slot_origin _ = Arg 0
 -- ---- what is carried
 
 -- Whether a function's jumps are carried out by two variables more: `go` is 0 where control goes on, and 1, 2 or 3
--- behind a `break`, a `continue` and a `return`; `ret` is what is returned.
+-- after a `break`, a `continue` and a `return`; `ret` is what is returned.
 pub data Form : Type 0 where
   straight : Form
   jumping : Form
@@ -105,7 +105,7 @@ numbered (held o ∷ xs) f = held (f 0) ∷ numbered xs (λ k. f (suc k))
 numbered (object n ∷ xs) f = object n ∷ numbered xs f
 numbered (hidden o ∷ xs) f = hidden (f 0) ∷ numbered xs (λ k. f (suc k))
 
--- the numbering behind these variables
+-- the numbering after these variables
 abbrev pub beyond : List SlotOrigin → (ℕ → Origin) → ℕ → Origin
 beyond [] f = f
 beyond (held o ∷ xs) f = beyond xs (λ k. f (suc k))
@@ -173,14 +173,14 @@ given v s = record { nodes = []; value = v; after = s }
 abbrev pub nothing : Point → Built (Unit {0})
 nothing s = given tt s
 
--- one part, and then another, which begins behind it with what it gives
+-- one part, and then another, which begins after it with what it gives
 abbrev pub bind : {A B : Type 0} → Built A → (A → Point → Built B) → Built B
 bind a f = let b = f a.value a.after in record { nodes = a.nodes ++ b.nodes; value = b.value; after = b.after }
 
 abbrev pub dropped : {A : Type 0} → Built A → Built (Unit {0})
 dropped a = bind a (λ _ t. nothing t)
 
--- a node without regions, what it gives, and the states behind it
+-- a node without regions, what it gives, and the states after it
 abbrev pub one_node : {A : Type 0} → Point → Op → (inputs : List Origin) → A → (memory io : Origin) → Built A
 one_node s op inputs v m i = record { nodes = node s.next op inputs no_regions ∷ []; value = v; after = with_states s m i }
 
@@ -210,7 +210,7 @@ inside k n = record { next = n; carried = renamed k Arg }
 abbrev pub region_made : {A : Type 0} → Extra A → Carried → Built A → RegionTree
 region_made x k b = region (carried_kinds k) (nodes_of b.nodes) (x.results b.value ++ carried_origins b.after.carried)
 
--- regions, and the next number behind them
+-- regions, and the next number after them
 pub record Regions : Type 0 where
   pub regions : List RegionTree
   pub next : ℕ

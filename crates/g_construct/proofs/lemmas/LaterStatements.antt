@@ -238,7 +238,7 @@ pub from_popped_later : (several : Bool) (s t : Point) → Later (with_from seve
 from_popped_later false s t h = h
 from_popped_later true s t h = popped_later s t (hidden (Arg 0)) h
 
--- behind the regions of a `switch`, where `from` has left
+-- after the regions of a `switch`, where `from` has left
 abbrev pub chosen_end : (value : Origin) → GroupTrees → (segments : List (Point → Built (Unit {0}))) → Point → Point
 chosen_end p gs fs s =
     let d : Target = default_target 0 0 gs in
