@@ -15,7 +15,7 @@ use Rattle.c_elaboration.specs.declared.call.Callee.{Callee}
 use Rattle.c_elaboration.specs.declared.call.Callee.TheVariants as callees
 use Rattle.c_elaboration.specs.declared.call.Called.{Called}
 use Rattle.c_elaboration.specs.declared.call.Called.TheVariants as calls
-use Rattle.c_elaboration.specs.Refusals.{Unknown, BadCall}
+use Rattle.c_elaboration.specs.declared.rule.Rule.TheVariants.{Unknown, BadCall}
 use Rattle.c_elaboration.specs.declared.meaning.Meaning.{Meaning}
 use Rattle.c_elaboration.specs.declared.meaning.Meaning.TheVariants as means
 use Rattle.c_elaboration.specs.State.{MaybeType, Declared, Elaborated, ◌>>=◌, pure, state, broken_at, meaning_of}

@@ -8,7 +8,8 @@ use Rattle.c_typed.specs.WellTyped.{int}
 use Rattle.c_static.specs.Types.{same_type}
 use Rattle.c_scope.specs.Scopes.{Name, Scope}
 use Rattle.c_scope.specs.Names.{number_of, with_name}
-use Rattle.c_elaboration.specs.Refusals.{Broken, Refusal, rule_broken, no_main}
+use Rattle.c_elaboration.specs.declared.rule.Broken.{Broken}
+use Rattle.c_elaboration.specs.Refusals.{Refusal, rule_broken, no_main}
 use Rattle.c_elaboration.specs.declared.meaning.Meaning.{Meaning}
 use Rattle.c_elaboration.specs.declared.meaning.Meaning.TheVariants as means
 use Rattle.c_elaboration.specs.State.{Global, State, Elaborated, ◌>>=◌, ◌>>◌, pure, state}

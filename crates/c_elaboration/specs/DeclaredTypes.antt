@@ -6,7 +6,7 @@ use Rattle.c_type.specs.Trees.{TypeTree, void_type, pointer_to, array_of, struct
 use Rattle.c_type.specs.Layout.{Definitions, is_complete, size}
 use Rattle.c_elaboration.specs.declared.dimension.Dimension.{Dimension}
 use Rattle.c_elaboration.specs.declared.dimension.Dimension.TheVariants as dimension
-use Rattle.c_elaboration.specs.Refusals.{Unknown, BadType}
+use Rattle.c_elaboration.specs.declared.rule.Rule.TheVariants.{Unknown, BadType}
 use Rattle.c_elaboration.specs.State.{MaybeType, Elaborated, ◌>>=◌, pure, state, broken_at, if_some}
 use Rattle.c_elaboration.specs.Specifiers.{Specified}
 

@@ -11,7 +11,7 @@ use Rattle.c_static.specs.Types.{is_scalar, same_type}
 use Rattle.c_scope.specs.Scopes.{Name, same_name, with_declaration}
 use Rattle.c_scope.specs.Tags.{tag_number, with_declared_tag}
 use Rattle.c_scope.specs.Members.{with_members}
-use Rattle.c_elaboration.specs.Refusals.{Redeclared, BadType}
+use Rattle.c_elaboration.specs.declared.rule.Rule.TheVariants.{Redeclared, BadType}
 use Rattle.c_elaboration.specs.declared.meaning.Meaning.{Meaning}
 use Rattle.c_elaboration.specs.declared.meaning.Meaning.TheVariants as means
 use Rattle.c_elaboration.specs.State.{MaybeType, Declared, Variable, State, Elaborated, ◌>>=◌, ◌>>◌, pure, state, change, breaks, breaks_if, meaning_of, declare, within_scope, changed, add_variable}

@@ -18,7 +18,7 @@ use Rattle.c_static.specs.Operators.{binary_typed, unary_typed, conditional_type
 use Rattle.c_static.specs.Assignments.{assigned_typed, step_typed}
 use Rattle.c_scope.specs.Scopes.{Name}
 use Rattle.c_scope.specs.Members.{member_number}
-use Rattle.c_elaboration.specs.Refusals.{Unknown, NotAssignable, BadOperands, BadCall}
+use Rattle.c_elaboration.specs.declared.rule.Rule.TheVariants.{Unknown, NotAssignable, BadOperands, BadCall}
 use Rattle.c_elaboration.specs.declared.meaning.Meaning.{Meaning}
 use Rattle.c_elaboration.specs.declared.meaning.Meaning.TheVariants as means
 use Rattle.c_elaboration.specs.State.{MaybeType, Elaborated, ◌>>=◌, ◌>>◌, pure, state, broken_at, or_broken, if_some, meaning_of, variable_type, change_variable, global_type, add_global}

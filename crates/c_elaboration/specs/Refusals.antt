@@ -1,10 +1,9 @@
 -- The broken rule that is told, and why a program is refused.
 use Rattle.std.specs.Prelude.{ℕ, ◌==◌, ◌&&◌, ◌||◌, nat_lt, Bool, if◌then◌else◌, Option, None, Some}
-pub use Rattle.c_elaboration.specs.declared.rule.Rule.{Rule}
-pub use Rattle.c_elaboration.specs.declared.rule.Rule.TheVariants.{Unknown, Redeclared, NotAssignable, BadOperands, BadCall, NotConstant, BadInitialiser, BadType, BadReturn, BadJump, BadLabel}
-pub use Rattle.c_elaboration.specs.declared.rule.Broken.{Broken}
-pub use Rattle.c_elaboration.specs.declared.rule.Quantity.{Quantity}
-pub use Rattle.c_elaboration.specs.declared.rule.Quantity.TheVariants.{Functions, Parameters, ObjectBytes, GlobalBytes}
+use Rattle.c_elaboration.specs.declared.rule.Rule.{Rule}
+use Rattle.c_elaboration.specs.declared.rule.Rule.TheVariants.{Unknown, Redeclared, NotAssignable, BadOperands, BadCall, NotConstant, BadInitialiser, BadType, BadReturn, BadJump, BadLabel}
+use Rattle.c_elaboration.specs.declared.rule.Broken.{Broken}
+use Rattle.c_elaboration.specs.declared.rule.Quantity.{Quantity}
 
 -- the numbers that the rules are told by
 abbrev pub rule_number : Rule → ℕ

@@ -7,7 +7,10 @@ use Rattle.c_scope.specs.Scopes.{Name, Scopes, meaning, is_declared, with_declar
 use Rattle.c_scope.specs.Tags.{Tags, tag_number, declared_tag, with_named_tag}
 use Rattle.c_scope.specs.Members.{Members}
 use Rattle.c_elaboration.specs.declared.meaning.Meaning.{Meaning}
-use Rattle.c_elaboration.specs.Refusals.{Rule, Redeclared, Broken, first_of_both}
+use Rattle.c_elaboration.specs.declared.rule.Rule.{Rule}
+use Rattle.c_elaboration.specs.declared.rule.Rule.TheVariants.{Redeclared}
+use Rattle.c_elaboration.specs.declared.rule.Broken.{Broken}
+use Rattle.c_elaboration.specs.Refusals.{first_of_both}
 
 -- a type, unless it breaks a rule
 abbrev pub MaybeType : Type 0

@@ -27,7 +27,9 @@ use Rattle.c_grammar.specs.Beginnings as cgrammarBeginnings
 use Rattle.c_grammar.specs.PredictSets as cgrammarPredictSets
 use Rattle.c_grammar.specs.Reader as cgrammarReader
 use Rattle.c_typed.specs.Typed.{ProgramTree}
-use Rattle.c_elaboration.specs.Refusals.{Rule, Refusal, rule_broken, Quantity, above_limit}
+use Rattle.c_elaboration.specs.declared.rule.Rule.{Rule}
+use Rattle.c_elaboration.specs.declared.rule.Quantity.{Quantity}
+use Rattle.c_elaboration.specs.Refusals.{Refusal, rule_broken, above_limit}
 use Rattle.c_elaboration.specs.Check.{check}
 
 abbrev pub tokens_in : Result (List Token) LexFault → List Token
