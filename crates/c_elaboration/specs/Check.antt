@@ -60,7 +60,7 @@ initial_state names = record {
   functions = [];
 }
 
--- A rule is told at an offset of the declaration that breaks it: the first one that breaks a rule decides.
+-- A rule is reported at an offset of the declaration that breaks it: the first one that breaks a rule decides.
 abbrev pub externals : Tree → Elaborated (Unit {0})
 externals (Node (l.More k) (Cons before (Cons t none))) = do
   externals before

@@ -1,4 +1,4 @@
--- The limits of programs: a quantity above its limit is told with its count, at the offset of what passes the limit.
+-- The limits of programs: a quantity above its limit is reported with its count, at the offset of what passes the limit.
 use Rattle.std.specs.Prelude.{ℕ, ◌+◌, nat_lt, if◌then◌else◌, List, [], ◌∷◌, map, length, Option, None, Some, option_map, slice_get}
 use Rattle.std.specs.List.{sum}
 use Rattle.std.specs.Option.{option_or}

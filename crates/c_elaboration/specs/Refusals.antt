@@ -1,11 +1,11 @@
--- The broken rule that is told, and why a program is refused.
+-- The broken rule that is reported, and why a program is refused.
 use Rattle.std.specs.Prelude.{ℕ, ◌==◌, ◌&&◌, ◌||◌, nat_lt, Bool, if◌then◌else◌, Option, None, Some}
 use Rattle.c_elaboration.specs.declared.rule.Rule.{Rule}
 use Rattle.c_elaboration.specs.declared.rule.Rule.TheVariants.{Unknown, Redeclared, NotAssignable, BadOperands, BadCall, NotConstant, BadInitialiser, BadType, BadReturn, BadJump, BadLabel}
 use Rattle.c_elaboration.specs.declared.rule.Broken.{Broken}
 use Rattle.c_elaboration.specs.declared.rule.Quantity.{Quantity}
 
--- the numbers that the rules are told by
+-- the numbers of the rules
 abbrev pub rule_number : Rule → ℕ
 rule_number Unknown = 31
 rule_number Redeclared = 32

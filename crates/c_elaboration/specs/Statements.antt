@@ -38,7 +38,7 @@ in_switch j = record j { may_break = true }
 abbrev pub whole : (offset : ℕ) → Term → Elaborated (Option ExprTree)
 whole offset a = if_some a (λ x. or_broken BadOperands offset (value_of x))
 
--- a condition is of an integer or a pointer, told at the keyword
+-- a condition is of an integer or a pointer, reported at the keyword
 abbrev pub condition : (offset : ℕ) → Term → Elaborated (Option ExprTree)
 condition offset a = if_some a (λ x. or_broken BadOperands offset (condition_of x))
 

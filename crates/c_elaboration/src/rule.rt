@@ -25,7 +25,7 @@ pub enum Rule {
     BadLabel,
 }
 
-/// A broken rule and the offset in bytes that it is told at.
+/// A broken rule and the offset in bytes that it is reported at.
 #[derive(Clone, Copy, PartialEq, Eq, Debug)]
 pub struct Broken {
     pub rule: Rule,

@@ -1,4 +1,4 @@
--- Expressions: where a rule of operators and calls is told, and what within them switches it off.
+-- Expressions: where a rule of operators and calls is reported, and what within them switches it off.
 use Rattle.std.specs.Prelude.{refl, codes}
 use Rattle.c_elaboration.specs.declared.rule.Rule.TheVariants.{Unknown, NotAssignable, BadOperands, BadCall, BadType}
 use Rattle.c_elaboration_tests.proofs.examples.Source.{refusal_of, Tells, IsAccepted}
@@ -13,7 +13,7 @@ struct_operand-row : Tells BadOperands (codes "struct s { int a; }; int g(void) 
 unfolding refusal_of
 struct_operand-row = refl
 
--- ---- a call tells of its arguments also beside one without type
+-- ---- a call tells of its arguments also next to one without type
 
 argument_and_unknown-row : Tells BadCall (codes "int fn(int a, int b) { return 1; } int g(int *ip) { return fn") (codes "(ip, zz); }")
 unfolding refusal_of
@@ -39,7 +39,7 @@ parenthesised_function-row : Tells BadCall (codes "int f(int a) { return a; } in
 unfolding refusal_of
 parenthesised_function-row = refl
 
--- ---- an assignment tells of its target also beside a value without type
+-- ---- an assignment tells of its target also next to a value without type
 
 target_and_unknown-row : Tells NotAssignable (codes "int g(void) { 1 ") (codes "= zz; return 1; }")
 unfolding refusal_of
@@ -49,7 +49,7 @@ compound_and_unknown-row : Tells Unknown (codes "int g(int *p) { p += ") (codes 
 unfolding refusal_of
 compound_and_unknown-row = refl
 
--- ---- a comma tells where its operands have a type, at the comma beside the struct
+-- ---- a comma tells where its operands have a type, at the comma next to the struct
 
 comma-row : Tells BadOperands (codes "struct s { int a; }; int g(struct s *p) { return (*p") (codes ", 1, 2); }")
 unfolding refusal_of

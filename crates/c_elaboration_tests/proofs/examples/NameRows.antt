@@ -3,7 +3,7 @@ use Rattle.std.specs.Prelude.{refl, codes}
 use Rattle.c_elaboration.specs.declared.rule.Rule.TheVariants.{Unknown, Redeclared, NotConstant, BadType}
 use Rattle.c_elaboration_tests.proofs.examples.Source.{refusal_of, Tells, IsAccepted}
 
--- ---- an unknown tag is told for the second declarator, before the type of the first
+-- ---- an unknown tag is reported for the second declarator, before the type of the first
 
 unknown_tag-row : Tells Unknown (codes "struct ") (codes "Z *x[], y;")
 unfolding refusal_of

@@ -3,7 +3,7 @@ use Rattle.std.specs.Prelude.{refl, codes}
 use Rattle.c_elaboration.specs.declared.rule.Rule.TheVariants.{Unknown, BadOperands, NotConstant, BadType, BadReturn, BadJump, BadLabel}
 use Rattle.c_elaboration_tests.proofs.examples.Source.{refusal_of, Tells, IsAccepted}
 
--- ---- a condition is told at its keyword, also where an earlier clause has a broken rule
+-- ---- a condition is reported at its keyword, also where an earlier clause has a broken rule
 
 for_condition-row : Tells BadOperands (codes "struct s { int a; }; int g(void) { struct s s; ") (codes "for (zz; s; ) ; return 1; }")
 unfolding refusal_of
