@@ -11,56 +11,44 @@ use Rattle.c_static.specs.Conversions.{converts}
 use Rattle.c_static.specs.Operands.{value_of}
 use Rattle.c_scope.specs.Scopes.{Name}
 use Rattle.c_scope.specs.Names.{number_of}
-use Rattle.c_elaboration.specs.Refusals.{Unknown, BadCall}
-use Rattle.c_elaboration.specs.State.{Meaning, function_numbered, MaybeType, Declared, Elaborated, ◌>>=◌, pure, state, broken_at, meaning_of}
+use Rattle.c_elaboration.specs.declared.call.Callee.{Callee}
+use Rattle.c_elaboration.specs.declared.call.Callee.TheVariants as callees
+use Rattle.c_elaboration.specs.declared.call.Called.{Called}
+use Rattle.c_elaboration.specs.declared.call.Called.TheVariants as calls
+use Rattle.c_elaboration.specs.declared.rule.Rule.TheVariants.{Unknown, BadCall}
+use Rattle.c_elaboration.specs.declared.meaning.Meaning.{Meaning}
+use Rattle.c_elaboration.specs.declared.meaning.Meaning.TheVariants as means
+use Rattle.c_elaboration.specs.State.{MaybeType, Declared, Elaborated, ◌>>=◌, pure, state, broken_at, meaning_of}
 use Rattle.c_elaboration.specs.Operands.{Term, term_meant}
 
--- what a call does: what putchar, getchar or exit does, or a function of the file by its number among those that it defines
-pub data Callee : Type 0 where
-  putchar : Callee
-  getchar : Callee
-  exit : Callee
-  defined_function : ℕ → Callee
-
--- What is called: a function with its types, what is no function, or what has a broken rule within it.
-pub data Called : Type 0 where
-  function : Callee → Declared → Called
-  no_function : Called
-  nothing : Called
-
 -- ---- the name of a function
-
-abbrev pub called_if : Option Declared → Callee → Called
-called_if None callee = nothing
-called_if (Some f) callee = function callee f
 
 -- A function is called only where the file defines it.
 abbrev pub callee_of : (offset : ℕ) → Option ℕ → Elaborated (Option Callee)
 callee_of offset None = broken_at Unknown offset
-callee_of offset (Some n) = pure (Some (defined_function n))
+callee_of offset (Some n) = pure (Some (callees.Defined n))
 
 abbrev pub callee_numbered : ℕ → (name : Name) → (offset : ℕ) → Elaborated (Option Callee)
-callee_numbered zero name offset = pure (Some putchar)
-callee_numbered (suc zero) name offset = pure (Some getchar)
-callee_numbered (suc (suc zero)) name offset = pure (Some exit)
+callee_numbered zero name offset = pure (Some callees.Putchar)
+callee_numbered (suc zero) name offset = pure (Some callees.Getchar)
+callee_numbered (suc (suc zero)) name offset = pure (Some callees.Exit)
 callee_numbered k name offset = do
   s ← state
   callee_of offset (number_of s.defined name)
 
-abbrev pub called_with : Option Declared → Option Callee → Called
-called_with (Some f) (Some callee) = function callee f
-called_with f callee = nothing
+abbrev pub called_as : (declared : ℕ) → Option Callee → Called
+called_as k None = calls.Nothing
+called_as k (Some callee) = calls.Function callee k
 
 -- an expression is called: no function, unless a rule is broken within it
 abbrev pub called_term : Term → Called
-called_term None = nothing
-called_term (Some a) = no_function
+called_term None = calls.Nothing
+called_term (Some a) = calls.NoFunction
 
 abbrev pub called_meant : (name : Name) → (offset : ℕ) → Option Meaning → Elaborated Called
-called_meant name offset (Some (function_numbered k)) = do
-  s ← state
+called_meant name offset (Some (means.Function k)) = do
   callee ← callee_numbered k name offset
-  pure (called_with (slice_get s.declared k) callee)
+  pure (called_as k callee)
 called_meant name offset m = do
   a ← term_meant offset m
   pure (called_term a)
@@ -102,18 +90,24 @@ all_passed ts xs = None
 -- ---- the call
 
 abbrev pub call_form : Callee → List ExprTree → FormTree
-call_form putchar (e ∷ es) = typed.unary unary_op.Put e
-call_form exit (e ∷ es) = typed.unary unary_op.Exit e
-call_form (defined_function n) es = typed.call n (exprs_of es)
+call_form callees.Putchar (e ∷ es) = typed.unary unary_op.Put e
+call_form callees.Exit (e ∷ es) = typed.unary unary_op.Exit e
+call_form (callees.Defined n) es = typed.call n (exprs_of es)
 call_form callee es = typed.get
 
 abbrev pub call_term : Callee → Declared → List Term → Term
 call_term callee f xs = option_and_then (λ t. option_map (λ es. Value (expr t (call_form callee es))) (all_passed f.params xs)) f.result
 
+abbrev pub call_of : (offset : ℕ) → Callee → List Term → Option Declared → Elaborated Term
+call_of offset callee xs None = pure None
+call_of offset callee xs (Some f) = if all_fit f.params xs then pure (call_term callee f xs) else broken_at BadCall offset
+
 abbrev pub called : (offset : ℕ) → Called → List Term → Elaborated Term
-called offset nothing xs = pure None
-called offset no_function xs = broken_at BadCall offset
-called offset (function callee f) xs = if all_fit f.params xs then pure (call_term callee f xs) else broken_at BadCall offset
+called offset calls.Nothing xs = pure None
+called offset calls.NoFunction xs = broken_at BadCall offset
+called offset (calls.Function callee k) xs = do
+  s ← state
+  call_of offset callee xs (slice_get s.declared k)
 
 -- ---- the functions that are declared before the program begins, in order of the callees
 

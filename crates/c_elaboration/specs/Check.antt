@@ -8,8 +8,11 @@ use Rattle.c_typed.specs.WellTyped.{int}
 use Rattle.c_static.specs.Types.{same_type}
 use Rattle.c_scope.specs.Scopes.{Name, Scope}
 use Rattle.c_scope.specs.Names.{number_of, with_name}
-use Rattle.c_elaboration.specs.Refusals.{Broken, Refusal, rule_broken, no_main}
-use Rattle.c_elaboration.specs.State.{Meaning, function_numbered, Global, State, Elaborated, ◌>>=◌, ◌>>◌, pure, state}
+use Rattle.c_elaboration.specs.declared.rule.Broken.{Broken}
+use Rattle.c_elaboration.specs.Refusals.{Refusal, rule_broken, no_main}
+use Rattle.c_elaboration.specs.declared.meaning.Meaning.{Meaning}
+use Rattle.c_elaboration.specs.declared.meaning.Meaning.TheVariants as means
+use Rattle.c_elaboration.specs.State.{Global, State, Elaborated, ◌>>=◌, ◌>>◌, pure, state}
 use Rattle.c_elaboration.specs.Leaves.{name_of}
 use Rattle.c_elaboration.specs.Calls.{predeclared}
 use Rattle.c_elaboration.specs.Externals.{external}
@@ -40,7 +43,7 @@ defined_in t = []
 -- ---- the declarations in order
 
 abbrev pub predeclared_names : Scope Meaning
-predeclared_names = (codes "exit", function_numbered 2) ∷ (codes "getchar", function_numbered 1) ∷ (codes "putchar", function_numbered 0) ∷ []
+predeclared_names = (codes "exit", means.Function 2) ∷ (codes "getchar", means.Function 1) ∷ (codes "putchar", means.Function 0) ∷ []
 
 abbrev pub initial_state : List Name → State
 initial_state names = record {

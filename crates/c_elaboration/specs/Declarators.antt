@@ -5,10 +5,13 @@ use Rattle.c_ast.specs.Productions as l
 use Rattle.c_ast.specs.Tree.{Tree, Node, Cons}
 use Rattle.c_typed.specs.Typed.{DeclarationTree, InitialTree, no_initial, ItemTrees, no_items, stmt_then, declare_then}
 use Rattle.c_scope.specs.Scopes.{Name}
-use Rattle.c_elaboration.specs.State.{MaybeType, variable_at, global_numbered, Variable, Elaborated, ◌>>=◌, ◌>>◌, pure, state, if_some, declare, variable_in, change_variable, add_variable, add_global, change_global}
+use Rattle.c_elaboration.specs.declared.meaning.Meaning.TheVariants as means
+use Rattle.c_elaboration.specs.State.{MaybeType, Variable, Elaborated, ◌>>=◌, ◌>>◌, pure, state, if_some, declare, variable_in, change_variable, add_variable, add_global, change_global}
 use Rattle.c_elaboration.specs.Leaves.{offset_of, begin_of, name_of, count_of, is_present}
 use Rattle.c_elaboration.specs.Specifiers.{Specified, specified_type}
-use Rattle.c_elaboration.specs.DeclaredTypes.{Dimension, empty, sized, object_type, small_type}
+use Rattle.c_elaboration.specs.declared.dimension.Dimension.{Dimension}
+use Rattle.c_elaboration.specs.declared.dimension.Dimension.TheVariants as dimension
+use Rattle.c_elaboration.specs.DeclaredTypes.{object_type, small_type}
 use Rattle.c_elaboration.specs.Expressions.{expression, size}
 use Rattle.c_elaboration.specs.Initialisers.{initialiser, completed, initial, written}
 
@@ -18,8 +21,8 @@ abbrev pub open_dimension : Tree → Elaborated Dimension
 open_dimension (Node (l.Present k) (Cons bound none)) = do
   a ← expression bound
   n ← size (begin_of bound) a
-  pure (sized n)
-open_dimension t = pure empty
+  pure (dimension.Sized n)
+open_dimension t = pure dimension.Empty
 
 abbrev pub open_dimensions : Tree → Elaborated (List Dimension)
 open_dimensions (Node (l.More k) (Cons before (Cons opening (Cons bound none)))) = do
@@ -53,7 +56,7 @@ global_declarator x is_const stars name offset bounds begun = do
   ds ← open_dimensions bounds
   t ← object_type (is_present begun) offset x stars ds
   change_global k (λ g. record g { type = t })
-  declare name offset (global_numbered k (is_fixed is_const stars))
+  declare name offset (means.Global k (is_fixed is_const stars))
   initialise_global k offset t begun
 
 abbrev pub global_declared : Specified → (is_const : Bool) → Tree → Elaborated (Unit {0})
@@ -92,7 +95,7 @@ variable_declarator x is_const stars name offset bounds begun = do
   ds ← open_dimensions bounds
   t ← object_type (is_present begun) offset x stars ds
   slot ← add_variable t
-  declare name offset (variable_at slot (is_fixed is_const stars))
+  declare name offset (means.Variable slot (is_fixed is_const stars))
   i ← initialise_variable slot offset t begun
   variable_declared slot i
 

@@ -4,18 +4,15 @@ use Rattle.std.specs.List.{list_any}
 use Rattle.limits.specs.Limits.{most_type_bytes}
 use Rattle.c_type.specs.Trees.{TypeTree, void_type, pointer_to, array_of, struct_type}
 use Rattle.c_type.specs.Layout.{Definitions, is_complete, size}
-use Rattle.c_elaboration.specs.Refusals.{Unknown, BadType}
+use Rattle.c_elaboration.specs.declared.dimension.Dimension.{Dimension}
+use Rattle.c_elaboration.specs.declared.dimension.Dimension.TheVariants as dimension
+use Rattle.c_elaboration.specs.declared.rule.Rule.TheVariants.{Unknown, BadType}
 use Rattle.c_elaboration.specs.State.{MaybeType, Elaborated, ◌>>=◌, pure, state, broken_at, if_some}
 use Rattle.c_elaboration.specs.Specifiers.{Specified}
 
 -- the size of a dimension, unless it breaks a rule
 abbrev pub MaybeSize : Type 0
 MaybeSize = Option ℕ
-
--- a dimension of a declarator, which may be left empty
-pub data Dimension : Type 0 where
-  empty : Dimension
-  sized : MaybeSize → Dimension
 
 -- ---- parts of a type
 
@@ -33,16 +30,16 @@ arrays_of t (n ∷ ns) = option_and_then (array_by n) (arrays_of t ns)
 
 -- An array whose dimension is left empty has no elements yet, and so is incomplete.
 abbrev pub size_of_dimension : Dimension → MaybeSize
-size_of_dimension empty = Some 0
-size_of_dimension (sized n) = n
+size_of_dimension dimension.Empty = Some 0
+size_of_dimension (dimension.Sized n) = n
 
 abbrev pub sizes_of : List Dimension → List MaybeSize
 sizes_of [] = []
 sizes_of (d ∷ ds) = size_of_dimension d ∷ sizes_of ds
 
 abbrev pub is_empty : Dimension → Bool
-is_empty empty = true
-is_empty (sized n) = false
+is_empty dimension.Empty = true
+is_empty (dimension.Sized n) = false
 
 abbrev pub first_is_empty : List Dimension → Bool
 first_is_empty [] = false

@@ -5,7 +5,7 @@ use Rattle.limits.specs.Limits.{most_type_bytes}
 use Rattle.c_ast.specs.Productions as l
 use Rattle.c_ast.specs.Tree.{Tree, Node, Nil, Cons}
 use Rattle.c_static.specs.Operands.{operand_type}
-use Rattle.c_elaboration.specs.Refusals.{NotConstant}
+use Rattle.c_elaboration.specs.declared.rule.Rule.TheVariants.{NotConstant}
 use Rattle.c_elaboration.specs.State.{MaybeType, Elaborated, ◌>>=◌, pure, or_broken}
 use Rattle.c_elaboration.specs.Leaves.{offset_of, begin_of, name_of, punct_of, characters_of, count_of}
 use Rattle.c_elaboration.specs.Specifiers.{specified_type}

@@ -11,11 +11,14 @@ use Rattle.c_static.specs.Types.{is_scalar, same_type}
 use Rattle.c_scope.specs.Scopes.{Name, same_name, with_declaration}
 use Rattle.c_scope.specs.Tags.{tag_number, with_declared_tag}
 use Rattle.c_scope.specs.Members.{with_members}
-use Rattle.c_elaboration.specs.Refusals.{Redeclared, BadType}
-use Rattle.c_elaboration.specs.State.{Meaning, variable_at, function_numbered, MaybeType, Declared, Variable, State, Elaborated, ◌>>=◌, ◌>>◌, pure, state, change, breaks, breaks_if, meaning_of, declare, within_scope, changed, add_variable}
+use Rattle.c_elaboration.specs.declared.rule.Rule.TheVariants.{Redeclared, BadType}
+use Rattle.c_elaboration.specs.declared.meaning.Meaning.{Meaning}
+use Rattle.c_elaboration.specs.declared.meaning.Meaning.TheVariants as means
+use Rattle.c_elaboration.specs.State.{MaybeType, Declared, Variable, State, Elaborated, ◌>>=◌, ◌>>◌, pure, state, change, breaks, breaks_if, meaning_of, declare, within_scope, changed, add_variable}
 use Rattle.c_elaboration.specs.Leaves.{offset_of, end_of, begin_of, name_of, count_of, is_present}
 use Rattle.c_elaboration.specs.Specifiers.{Specified, specified_type, tagged}
-use Rattle.c_elaboration.specs.DeclaredTypes.{sized, object_type, param_type, result_type}
+use Rattle.c_elaboration.specs.declared.dimension.Dimension.TheVariants as dimension
+use Rattle.c_elaboration.specs.DeclaredTypes.{object_type, param_type, result_type}
 use Rattle.c_elaboration.specs.Expressions.{dimensions}
 use Rattle.c_elaboration.specs.Declarators.{open_dimensions, is_fixed, global_declarator, more_globals}
 use Rattle.c_elaboration.specs.Statements.{items}
@@ -32,7 +35,7 @@ has_member xs name = list_any (λ (x : Member). same_name x.name name) xs
 abbrev pub member : Specified → List Member → Tree → Elaborated (List Member)
 member x xs (Node l.Member (Cons stars (Cons name (Cons bounds none)))) = do
   ns ← dimensions bounds
-  t ← object_type false (offset_of name) x (count_of stars) (map sized ns)
+  t ← object_type false (offset_of name) x (count_of stars) (map dimension.Sized ns)
   breaks_if (has_member xs (name_of name)) Redeclared (offset_of name)
   pure (xs ++ record { name = name_of name; type = t } ∷ [])
 member x xs t = pure xs
@@ -121,7 +124,7 @@ param_at offset is_const specifier stars name bounds = do
   ds ← open_dimensions bounds
   t ← param_type offset x (count_of stars) ds
   slot ← add_variable t
-  declare_if (param_name name) offset (variable_at slot (is_fixed is_const (count_of stars)))
+  declare_if (param_name name) offset (means.Variable slot (is_fixed is_const (count_of stars)))
   pure (record { name = param_name name; offset = offset; type = t; is_const = is_fixed is_const (count_of stars) })
 
 abbrev pub param : Tree → Elaborated (List Param)
@@ -171,8 +174,8 @@ declared_again f g = record g { is_defined = g.is_defined || f.is_defined }
 abbrev pub function_meant : Name → (offset : ℕ) → Declared → Option Meaning → Elaborated (Unit {0})
 function_meant name offset f None = do
   s ← state
-  change (λ s. record s { declared = s.declared ++ f ∷ []; scopes = with_declaration s.scopes name (function_numbered (length s.declared)) })
-function_meant name offset f (Some (function_numbered k)) = do
+  change (λ s. record s { declared = s.declared ++ f ∷ []; scopes = with_declaration s.scopes name (means.Function (length s.declared)) })
+function_meant name offset f (Some (means.Function k)) = do
   s ← state
   breaks_if (not (may_follow (slice_get s.declared k) f)) Redeclared offset
   change (λ s. record s { declared = changed (declared_again f) k s.declared })
@@ -197,7 +200,7 @@ abbrev pub bind_params : (slot : ℕ) → List Param → Elaborated (Unit {0})
 bind_params slot [] = pure tt
 bind_params slot (p ∷ ps) = do
   change (λ s. record s { slots = s.slots ++ slot ∷ [] })
-  bind_if p.name (variable_at slot p.is_const)
+  bind_if p.name (means.Variable slot p.is_const)
   bind_params (suc slot) ps
 
 -- each parameter of a definition has a name

@@ -14,7 +14,7 @@ use Rattle.c_typed.specs.Typed.{ExprTree, expr, place, global, address, ElementT
 use Rattle.c_static.specs.declared.operand.Operand.{Operand}
 use Rattle.c_static.specs.declared.operand.Operand.TheVariants.{Place, Value}
 use Rattle.c_static.specs.Constants.{expr_word}
-use Rattle.c_elaboration.specs.Refusals.{NotConstant, BadInitialiser}
+use Rattle.c_elaboration.specs.declared.rule.Rule.TheVariants.{NotConstant, BadInitialiser}
 use Rattle.c_elaboration.specs.State.{MaybeType, Global, Elaborated, ◌>>=◌, ◌>>◌, pure, state, breaks_if, broken_at, or_broken, if_some}
 use Rattle.c_elaboration.specs.Leaves.{offset_of, begin_of, characters_of}
 use Rattle.c_elaboration.specs.Operands.{Term, term_constant}

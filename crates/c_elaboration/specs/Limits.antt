@@ -5,7 +5,9 @@ use Rattle.std.specs.Option.{option_or}
 use Rattle.limits.specs.Limits.{most_functions, most_parameters, most_object_bytes, most_global_bytes, counted_bytes}
 use Rattle.c_type.specs.Layout.{Definitions, size}
 use Rattle.c_typed.specs.Typed.{VariableTree, FunctionTree, GlobalTree, ProgramTree}
-use Rattle.c_elaboration.specs.Refusals.{Quantity, Functions, Parameters, ObjectBytes, GlobalBytes, Refusal, above_limit}
+use Rattle.c_elaboration.specs.declared.rule.Quantity.{Quantity}
+use Rattle.c_elaboration.specs.declared.rule.Quantity.TheVariants.{Functions, Parameters, ObjectBytes, GlobalBytes}
+use Rattle.c_elaboration.specs.Refusals.{Refusal, above_limit}
 
 -- ---- function definitions
 

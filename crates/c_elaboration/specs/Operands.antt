@@ -18,8 +18,10 @@ use Rattle.c_static.specs.Operators.{binary_typed, unary_typed, conditional_type
 use Rattle.c_static.specs.Assignments.{assigned_typed, step_typed}
 use Rattle.c_scope.specs.Scopes.{Name}
 use Rattle.c_scope.specs.Members.{member_number}
-use Rattle.c_elaboration.specs.Refusals.{Unknown, NotAssignable, BadOperands, BadCall}
-use Rattle.c_elaboration.specs.State.{Meaning, variable_at, global_numbered, function_numbered, MaybeType, Elaborated, ◌>>=◌, ◌>>◌, pure, state, broken_at, or_broken, if_some, meaning_of, variable_type, change_variable, global_type, add_global}
+use Rattle.c_elaboration.specs.declared.rule.Rule.TheVariants.{Unknown, NotAssignable, BadOperands, BadCall}
+use Rattle.c_elaboration.specs.declared.meaning.Meaning.{Meaning}
+use Rattle.c_elaboration.specs.declared.meaning.Meaning.TheVariants as means
+use Rattle.c_elaboration.specs.State.{MaybeType, Elaborated, ◌>>=◌, ◌>>◌, pure, state, broken_at, or_broken, if_some, meaning_of, variable_type, change_variable, global_type, add_global}
 
 -- what an expression is, unless a rule is broken within it
 abbrev pub Term : Type 0
@@ -44,9 +46,9 @@ global_named k is_const = do
 -- A function's name is an expression only where it is called.
 abbrev pub term_meant : (offset : ℕ) → Option Meaning → Elaborated Term
 term_meant offset None = broken_at Unknown offset
-term_meant offset (Some (variable_at slot is_const)) = variable_named slot is_const
-term_meant offset (Some (global_numbered k is_const)) = global_named k is_const
-term_meant offset (Some (function_numbered k)) = broken_at BadCall offset
+term_meant offset (Some (means.Variable slot is_const)) = variable_named slot is_const
+term_meant offset (Some (means.Global k is_const)) = global_named k is_const
+term_meant offset (Some (means.Function k)) = broken_at BadCall offset
 
 abbrev pub named : Name → (offset : ℕ) → Elaborated Term
 named name offset = do

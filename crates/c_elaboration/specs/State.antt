@@ -6,13 +6,11 @@ use Rattle.c_typed.specs.Typed.{WrittenTree, FunctionTree}
 use Rattle.c_scope.specs.Scopes.{Name, Scopes, meaning, is_declared, with_declaration, outer}
 use Rattle.c_scope.specs.Tags.{Tags, tag_number, declared_tag, with_named_tag}
 use Rattle.c_scope.specs.Members.{Members}
-use Rattle.c_elaboration.specs.Refusals.{Rule, Redeclared, Broken, first_of_both}
-
--- What a name means. A variable in scope has a slot, and a variable at file scope and a function have numbers.
-pub data Meaning : Type 0 where
-  variable_at : (slot : ℕ) → (is_const : Bool) → Meaning
-  global_numbered : (number : ℕ) → (is_const : Bool) → Meaning
-  function_numbered : (number : ℕ) → Meaning
+use Rattle.c_elaboration.specs.declared.meaning.Meaning.{Meaning}
+use Rattle.c_elaboration.specs.declared.rule.Rule.{Rule}
+use Rattle.c_elaboration.specs.declared.rule.Rule.TheVariants.{Redeclared}
+use Rattle.c_elaboration.specs.declared.rule.Broken.{Broken}
+use Rattle.c_elaboration.specs.Refusals.{first_of_both}
 
 -- a type, unless it breaks a rule
 abbrev pub MaybeType : Type 0

@@ -11,7 +11,7 @@ use Rattle.c_static.specs.declared.operand.Operand.{Operand}
 use Rattle.c_static.specs.Conversions.{promoted}
 use Rattle.c_static.specs.Operands.{value_of}
 use Rattle.c_static.specs.Operators.{condition_of}
-use Rattle.c_elaboration.specs.Refusals.{BadOperands, NotConstant, BadReturn, BadJump, BadLabel}
+use Rattle.c_elaboration.specs.declared.rule.Rule.TheVariants.{BadOperands, NotConstant, BadReturn, BadJump, BadLabel}
 use Rattle.c_elaboration.specs.State.{MaybeType, Elaborated, ◌>>=◌, ◌>>◌, pure, breaks_if, or_broken, if_some, within_scope}
 use Rattle.c_elaboration.specs.Leaves.{offset_of, begin_of}
 use Rattle.c_elaboration.specs.Operands.{Term, term_constant}

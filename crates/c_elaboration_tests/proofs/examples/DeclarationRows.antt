@@ -1,6 +1,6 @@
 -- Declarations: dimensions, types, and initialisers.
 use Rattle.std.specs.Prelude.{refl, codes}
-use Rattle.c_elaboration.specs.Refusals.{Unknown, NotConstant, BadInitialiser, BadType}
+use Rattle.c_elaboration.specs.declared.rule.Rule.TheVariants.{Unknown, NotConstant, BadInitialiser, BadType}
 use Rattle.c_elaboration_tests.proofs.examples.Source.{refusal_of, Tells, IsAccepted}
 
 -- ---- a dimension is constant even where a rule is broken within it

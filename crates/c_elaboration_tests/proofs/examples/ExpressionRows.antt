@@ -1,6 +1,6 @@
 -- Expressions: where a rule of operators and calls is reported, and what within them switches it off.
 use Rattle.std.specs.Prelude.{refl, codes}
-use Rattle.c_elaboration.specs.Refusals.{Unknown, NotAssignable, BadOperands, BadCall, BadType}
+use Rattle.c_elaboration.specs.declared.rule.Rule.TheVariants.{Unknown, NotAssignable, BadOperands, BadCall, BadType}
 use Rattle.c_elaboration_tests.proofs.examples.Source.{refusal_of, Tells, IsAccepted}
 
 -- ---- an operator tells of its operands only where all have a type

@@ -1,6 +1,8 @@
 -- Limits, and `main`.
 use Rattle.std.specs.Prelude.{◌≡◌, refl, codes, Some}
-use Rattle.c_elaboration.specs.Refusals.{Parameters, ObjectBytes, GlobalBytes, BadLabel, no_main}
+use Rattle.c_elaboration.specs.declared.rule.Rule.TheVariants.{BadLabel}
+use Rattle.c_elaboration.specs.declared.rule.Quantity.TheVariants.{Parameters, ObjectBytes, GlobalBytes}
+use Rattle.c_elaboration.specs.Refusals.{no_main}
 use Rattle.c_elaboration_tests.proofs.examples.Source.{refusal_of, Tells, Counts, IsAccepted}
 
 -- ---- parameters, bytes of objects, bytes of globals

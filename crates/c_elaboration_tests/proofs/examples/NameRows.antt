@@ -1,6 +1,6 @@
 -- Names, tags and members: what is unknown, and what is declared again.
 use Rattle.std.specs.Prelude.{refl, codes}
-use Rattle.c_elaboration.specs.Refusals.{Unknown, Redeclared, NotConstant, BadType}
+use Rattle.c_elaboration.specs.declared.rule.Rule.TheVariants.{Unknown, Redeclared, NotConstant, BadType}
 use Rattle.c_elaboration_tests.proofs.examples.Source.{refusal_of, Tells, IsAccepted}
 
 -- ---- an unknown tag is reported for the second declarator, before the type of the first

@@ -1,4 +1,4 @@
--- What is reported of a source. Each definition on the line under `refusal_of` is one that it computes with.
+-- What is reported for a source. Each definition on the line under `refusal_of` is one that it computes with.
 use Rattle.std.specs.Prelude.{◌≡◌, ℕ, List, [], ◌++◌, length, codes, Option, None, Some, Result, Ok, Err}
 use Rattle.c_lex.specs.declared.token.Token.{Token}
 use Rattle.c_lex.specs.declared.fault.LexFault.{LexFault}
@@ -27,7 +27,9 @@ use Rattle.c_grammar.specs.Beginnings as cgrammarBeginnings
 use Rattle.c_grammar.specs.PredictSets as cgrammarPredictSets
 use Rattle.c_grammar.specs.Reader as cgrammarReader
 use Rattle.c_typed.specs.Typed.{ProgramTree}
-use Rattle.c_elaboration.specs.Refusals.{Rule, Refusal, rule_broken, Quantity, above_limit}
+use Rattle.c_elaboration.specs.declared.rule.Rule.{Rule}
+use Rattle.c_elaboration.specs.declared.rule.Quantity.{Quantity}
+use Rattle.c_elaboration.specs.Refusals.{Refusal, rule_broken, above_limit}
 use Rattle.c_elaboration.specs.Check.{check}
 
 abbrev pub tokens_in : Result (List Token) LexFault → List Token
@@ -50,17 +52,16 @@ unfoldable pub refusal_of : List ℕ → Option Refusal
 unfolding clexLexemes.identifier_at clexLexemes.slash_at clexLexemes.start_of clexLexemes.lexeme_of clexNumbers.digits_at clexNumbers.constant_at clexNumbers.number_at
     clexQuoted.simple_escape clexQuoted.escape_at clexQuoted.character_at clexQuoted.char_at clexQuoted.string_at clexTokens.lexed clexTrivia.comment_at clexTrivia.line_comment
     clexTrivia.past_include castBare.bare castDeclarations.inits castDeclarations.init_tree castDeclarations.declarator castDeclarations.locals_tree castExpressions.expr_tree
-    castExpressions.list_children castExpressions.dimension_children castExpressions.type_tree castExternals.member castExternals.members castExternals.param
-    castExternals.body_tree castExternals.specified castExternals.external_tree castGrammar.repeated castGrammar.optional castGrammar.tighter castGrammar.rule
-    castGrammar.symbols_of castGrammar.allowed castGrammar.waits castGrammar.else_fits castGrammar.Fits castNodes.many castNonterminals.level_number
-    castNonterminals.repeated_number castNonterminals.optional_number castNonterminals.nonterminal_number castNonterminals.same_nonterminal castNonterminals.includes
-    castOperators.selection_production castOperators.selection_mark castOperators.inc_dec_mark castOperators.unary_mark castOperators.binary_mark castOperators.binary_level
-    castOperators.assign_mark castSpelling.spelled castStatements.start_tree castStatements.label_tree castStatements.stmt_tree castStatements.item_tree castStatements.block_tree
-    castStatements.else_children castStatements.group_tree castTerminals.keyword_number castTerminals.mark_number castTerminals.operator_level castTerminals.is_assign_mark
-    castTerminals.is_unary_mark castTerminals.is_inc_dec_mark castTerminals.is_of_level castTerminals.is cgrammarBeginnings.Begins cgrammarPredictSets.begins_base
-    cgrammarPredictSets.begins_type cgrammarPredictSets.begins_external cgrammarPredictSets.begins_expr cgrammarPredictSets.begins_init cgrammarPredictSets.typed
-    cgrammarPredictSets.keyword_stmt cgrammarPredictSets.stmt cgrammarPredictSets.item cgrammarPredictSets.base cgrammarPredictSets.plain_spec cgrammarPredictSets.spec
-    cgrammarPredictSets.external cgrammarPredictSets.after_tag cgrammarPredictSets.group_label cgrammarPredictSets.parenthesis cgrammarPredictSets.operand_mark
+    castExpressions.list_children castExpressions.dimension_children castExpressions.type_tree castExternals.member castExternals.members castExternals.param castExternals.body_tree
+    castExternals.specified castExternals.external_tree castGrammar.repeated castGrammar.optional castGrammar.tighter castGrammar.rule castGrammar.symbols_of castGrammar.allowed
+    castGrammar.waits castGrammar.else_fits castGrammar.Fits castNodes.many castNonterminals.level_number castNonterminals.repeated_number castNonterminals.optional_number
+    castNonterminals.nonterminal_number castNonterminals.same_nonterminal castNonterminals.includes castOperators.selection_production castOperators.selection_mark castOperators.inc_dec_mark
+    castOperators.unary_mark castOperators.binary_mark castOperators.binary_level castOperators.assign_mark castSpelling.spelled castStatements.start_tree castStatements.label_tree
+    castStatements.stmt_tree castStatements.item_tree castStatements.block_tree castStatements.else_children castStatements.group_tree castTerminals.keyword_number castTerminals.mark_number
+    castTerminals.operator_level castTerminals.is_assign_mark castTerminals.is_unary_mark castTerminals.is_inc_dec_mark castTerminals.is_of_level castTerminals.is cgrammarBeginnings.Begins
+    cgrammarPredictSets.begins_base cgrammarPredictSets.begins_type cgrammarPredictSets.begins_external cgrammarPredictSets.begins_expr cgrammarPredictSets.begins_init
+    cgrammarPredictSets.typed cgrammarPredictSets.keyword_stmt cgrammarPredictSets.stmt cgrammarPredictSets.item cgrammarPredictSets.base cgrammarPredictSets.plain_spec
+    cgrammarPredictSets.spec cgrammarPredictSets.external cgrammarPredictSets.after_tag cgrammarPredictSets.group_label cgrammarPredictSets.parenthesis cgrammarPredictSets.operand_mark
     cgrammarPredictSets.operand cgrammarPredictSets.initialiser cgrammarPredictSets.begins_optional cgrammarPredictSets.start cgrammarPredictSets.begins_repeated
     cgrammarPredictSets.mark_suffix cgrammarPredictSets.suffix cgrammarPredictSets.left cgrammarPredictSets.operation cgrammarPredictSets.operand_next cgrammarPredictSets.init_next
     cgrammarPredictSets.stmt_next cgrammarPredictSets.next cgrammarReader.production_of cgrammarReader.token cgrammarReader.one cgrammarReader.children cgrammarReader.begun

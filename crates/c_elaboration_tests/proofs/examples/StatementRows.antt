@@ -1,6 +1,6 @@
 -- Statements.
 use Rattle.std.specs.Prelude.{refl, codes}
-use Rattle.c_elaboration.specs.Refusals.{Unknown, BadOperands, NotConstant, BadType, BadReturn, BadJump, BadLabel}
+use Rattle.c_elaboration.specs.declared.rule.Rule.TheVariants.{Unknown, BadOperands, NotConstant, BadType, BadReturn, BadJump, BadLabel}
 use Rattle.c_elaboration_tests.proofs.examples.Source.{refusal_of, Tells, IsAccepted}
 
 -- ---- a condition is reported at its keyword, also where an earlier clause has a broken rule
