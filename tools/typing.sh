@@ -39,8 +39,8 @@ def accepted(statements):
     """Which statements gcc takes, each in a function of its own on a line of its own."""
     head = DECLARATIONS.count("\n")
     text = DECLARATIONS + "".join("void f%d(void) { %s; }\n" % (k, s) for k, s in enumerate(statements))
-    told = gcc(text, "-pedantic-errors", "-fsyntax-only", "-fmax-errors=0").stderr
-    bad = {int(line) - head - 1 for line in re.findall(r"rows\.c:(\d+):\d+: error", told)}
+    errors = gcc(text, "-pedantic-errors", "-fsyntax-only", "-fmax-errors=0").stderr
+    bad = {int(line) - head - 1 for line in re.findall(r"rows\.c:(\d+):\d+: error", errors)}
     return [k not in bad for k in range(len(statements))]
 
 def words(expressions):
