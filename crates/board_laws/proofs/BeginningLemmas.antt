@@ -50,7 +50,7 @@ module _ {M : Type 0} where
         | inr other ↦ get_or-set_other jobs j k it Open other ∙ out
       ]
 
-  job-released : (jobs : List (Job M)) (worker j : ℕ) → slice_index_or (map (released worker) jobs) j Open ≡ released worker (slice_index_or jobs j Open)
+  pub job-released : (jobs : List (Job M)) (worker j : ℕ) → slice_index_or (map (released worker) jobs) j Open ≡ released worker (slice_index_or jobs j Open)
   job-released jobs worker j =
       elim (cases_lt j (length jobs)) [
         | inl inside ↦ get_or-map (released worker) jobs j Open Open inside

@@ -1,6 +1,7 @@
 //! Laws of the board, for the proofs of workers: each is the contract of a function that does
 //! nothing.
 ghost use Rattle.board_laws.specs.Beginnings.{HistoriesGrow, ReplaysGoOn, EventsGoOn, BeginningsAreLegal, ResultsStay, HeldJobsKeepResults};
+ghost use Rattle.board_laws.specs.OwnEvents.{OwnEventsDecide, OwnStopsDecide, WorkersHoldOne};
 
 use board_core::laws::deps_give_answer;
 
@@ -37,3 +38,19 @@ pub fn held_jobs_keep_results<M>()
 {
     deps_give_answer::<M>();
 }
+
+/// A worker holds a job exactly where its own events leave it holding that job: the last of them is
+/// the claim of it.
+pub fn own_events_decide<M>()
+    ensures { OwnEventsDecide M }
+{}
+
+/// A worker has stopped exactly where its own events have a stop.
+pub fn own_stops_decide<M>()
+    ensures { OwnStopsDecide M }
+{}
+
+/// A worker holds one job at most.
+pub fn workers_hold_one<M>()
+    ensures { WorkersHoldOne M }
+{}
