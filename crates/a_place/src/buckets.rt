@@ -18,7 +18,8 @@ impl Model for Buckets {
 }
 
 impl Buckets {
-    ghost use Rattle.std.specs.Prelude.{◌≡◌, ◌<◌, [], ◌∷◌, ◌++◌, length, IfOk, OnOk, slice_index_or, slice_set, replicate};
+    ghost use Rattle.std.specs.Prelude.{◌≡◌, ◌<◌, [], ◌∷◌, ◌++◌, length, IfOk, OnOk};
+    ghost use Rattle.std.specs.Prelude.{slice_index_or, slice_set, replicate};
 
     /// Empty lists.
     pub(crate) fn new(alloc: Global, size: usize) -> Result<Self, AllocError>

@@ -39,8 +39,8 @@ fn above(names: &[u32]) -> usize
     count
 }
 
-/// The interval of each name below a count, as all names of these lines are. One that does not occur
-/// starts after the last line and ends at 0.
+/// The interval of each name below a count, as all names of these lines are. One that does not
+/// occur starts after the last line and ends at 0.
 pub(crate) fn spans(alloc: Global, lines: &[Line], count: usize) -> Result<Vec<Span>, AllocError>
     requires { count ≡ name_count (map line_of lines.now) }
     ensures { IfOk result (λ spans. spans.items ≡ spans_of (map line_of lines.now)) }

@@ -22,7 +22,8 @@ pub(crate) struct Sweep {
 }
 
 impl Sweep {
-    ghost use Rattle.std.specs.Prelude.{◌⊎◌, ◌&&◌, not, ◌+◌, ◌<◌, ◌≤◌, [], ◌∷◌, List, length, vec_len, slice_index, slice_index_or, IfOk};
+    ghost use Rattle.std.specs.Prelude.{◌⊎◌, ◌&&◌, not, ◌+◌, ◌<◌, ◌≤◌, [], ◌∷◌, List, length, IfOk};
+    ghost use Rattle.std.specs.Prelude.{vec_len, slice_index, slice_index_or};
     ghost use Rattle.s_linear.specs.Lines.{Line};
     ghost use Rattle.a_place.specs.Places.{first, last, name_count, Given, given};
     ghost use Rattle.a_place.specs.declared.spans.Span.{Span};

@@ -43,7 +43,8 @@ module _ {M : Type 0} where
         | inl same ↦ (
           λ e. absurd (elim (cases_lt k (length jobs)) [
             | inl inside ↦ is (sym (get_or-set_same jobs k it Open inside) ∙ ap (λ n. slice_index_or (slice_set jobs k it) n Open) (sym same) ∙ e)
-            | inr past ↦ (let gone = get_or_past (slice_set jobs k it) k Open (omega (arith, length-set jobs k it)) in let e' = ap (λ n. slice_index_or (slice_set jobs k it) n Open) (sym same) ∙ e in cc)
+            | inr past ↦ (let gone = get_or_past (slice_set jobs k it) k Open (omega (arith, length-set jobs k it)) in
+                let e' = ap (λ n. slice_index_or (slice_set jobs k it) n Open) (sym same) ∙ e in cc)
           ]),
           λ e. absurd (was (ap (λ n. slice_index_or jobs n Open) (sym same) ∙ e)),
         )

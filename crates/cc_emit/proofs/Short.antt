@@ -171,7 +171,8 @@ instr_short p os (linear.binary o x a b) =
     words_short (t.with_two (place_of p x) (place_of p a) (place_of p b) (t.binary_code o)) 11 (two_short (place_of p x) (place_of p a) (place_of p b) (t.binary_code o) (binary_short o))
 instr_short p os (linear.unary o x a) = words_short (t.with_one (place_of p x) (place_of p a) (t.unary_code o)) 8 (one_short (place_of p x) (place_of p a) (t.unary_code o) 2 (unary_short o))
 instr_short p os (linear.load width x a) =
-    words_short (t.with_one (place_of p x) (place_of p a) (λ rd r. t.load_instr width rd r ∷ [])) 7 (one_short (place_of p x) (place_of p a) (λ rd r. t.load_instr width rd r ∷ []) 1 (λ rd r. omega arith))
+    words_short (t.with_one (place_of p x) (place_of p a) (λ rd r. t.load_instr width rd r ∷ [])) 7
+    (one_short (place_of p x) (place_of p a) (λ rd r. t.load_instr width rd r ∷ []) 1 (λ rd r. omega arith))
 instr_short p os (linear.store width a v) =
     words_short (load_in t0 (place_of p a) ++ load_in t1 (place_of p v) ++ t.store_instr width (in_of (place_of p a) t0) (in_of (place_of p v) t1) ∷ []) 7
     (both (load_in t0 (place_of p a) ++ load_in t1 (place_of p v)) (t.store_instr width (in_of (place_of p a) t0) (in_of (place_of p v) t1) ∷ []) 6 1
