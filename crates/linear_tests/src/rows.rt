@@ -93,7 +93,7 @@ fn a_loop_counts_down(rt: HostRuntime) -> Result<(), Fail> {
     Ok(())
 }
 
-// The results go to two new names, and these to the arguments after the branch.
+// The results go to two new names, and these to the arguments behind the branch.
 #[test]
 fn a_loop_swaps_its_variables(rt: HostRuntime) -> Result<(), Fail> {
     let alloc = rt.alloc();
