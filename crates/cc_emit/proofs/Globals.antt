@@ -2,20 +2,14 @@
 use Rattle.std.proofs.Common.{◌≡◌, ℕ, ◌+◌, ◌%◌, ◌≤◌, ◌==◌, refl, Bool, true, false, List, [], ◌∷◌, map, length, inl, inr, eq-eqb, arith}
 use Rattle.std.specs.Prelude.{◌⊎◌, ◌&&◌, ◌||◌, not, nat_le, nat_lt}
 use Rattle.std.proofs.lemmas.Bool.{and_from, and_parts, leb-true, le-leb}
-use Rattle.std.proofs.lemmas.Bool.Decides.{nat_tests}
 use Rattle.val_core.specs.declared.leaf.Leaf.{Leaf}
 use Rattle.g_graph.specs.declared.link.Link.{Link}
 use Rattle.g_graph.specs.Program.{link_fits}
 use Rattle.g_graph.specs.WellFormed.{all_of, some_of, distinct, is_width, leaves_fit}
+use Rattle.g_graph.proofs.lemmas.Unique.{all_of_holds, same_number}
 use Rattle.rv_layout.specs.Conditions.{link_has_global, link_is_within, are_apart, links_are_apart}
 use Rattle.cc_emit.specs.Laws.{GlobalsFit}
 use Rattle.cc_emit.proofs.Placed.{or_cases, or_left, or_right}
-
-all_imp : {X : Type 0} (p q : X → Bool) → ((x : X) → p x ≡ true → q x ≡ true) → (xs : List X) → all_of p xs ≡ true → all_of q xs ≡ true
-all_imp p q h [] a = refl
-all_imp p q h (x ∷ xs) a =
-    let parts = and_parts (p x) (all_of p xs) a in
-    and_from (q x) (all_of q xs) (h x parts.0) (all_imp p q h xs parts.1)
 
 -- ---- leaves
 
@@ -32,9 +26,6 @@ first_leaf size from l ls h =
     let ends = and_parts (nat_le from l.offset) (nat_le (l.offset + l.width) size) width.0 in
     record { start = leb-true from l.offset ends.0; end = leb-true (l.offset + l.width) size ends.1; rest = last.1 }
 
-equal : (a b : ℕ) → (a == b) ≡ true → a ≡ b
-equal a b h = grind (arith, nat_tests)
-
 -- a leaf of width 4 begins there
 stands : ℕ → Leaf → Bool
 stands o l = (l.offset == o) && (l.width == 4)
@@ -47,7 +38,7 @@ stands_there : (o : ℕ) (l : Leaf) → stands o l ≡ true → Stands o l
 unfolding stands
 stands_there o l h =
     let parts = and_parts (l.offset == o) (l.width == 4) h in
-    record { offset = equal l.offset o parts.0; width = equal l.width 4 parts.1 }
+    record { offset = same_number l.offset o parts.0; width = same_number l.width 4 parts.1 }
 
 record IsInside (size from o : ℕ) : Type 0 where
   start : from ≤ o
@@ -122,7 +113,7 @@ pub globals_fit : GlobalsFit
 globals_fit globals d g =
     and_from (all_of (link_has_global globals) d.links && all_of (link_is_within (length d.bytes)) d.links) (links_are_apart d.links)
     (and_from (all_of (link_has_global globals) d.links) (all_of (link_is_within (length d.bytes)) d.links)
-    (all_imp (link_fits globals d.leaves) (link_has_global globals) (λ k h. (and_parts _ (nat_lt k.delta globals) h).1) d.links g.links)
-    (all_imp (link_fits globals d.leaves) (link_is_within (length d.bytes))
+    (all_of_holds (link_fits globals d.leaves) (link_has_global globals) (λ k h. (and_parts _ (nat_lt k.delta globals) h).1) d.links g.links)
+    (all_of_holds (link_fits globals d.leaves) (link_is_within (length d.bytes))
     (λ k h. le-leb (k.at + 4) (length d.bytes) (inside (length d.bytes) 0 d.leaves k.at g.leaves (unfolded globals (length d.bytes) d.leaves g.leaves k h)).end) d.links g.links))
     (links_apart globals (length d.bytes) d.leaves g.leaves d.links g.links g.apart)

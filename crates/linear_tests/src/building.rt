@@ -47,6 +47,18 @@ pub fn of(alloc: Global, id: u32, op: Op, inputs: &[Origin]) -> Result<Node, NoM
     with_regions(alloc, id, op, inputs, Vec::new(alloc))
 }
 
+/// A node as a row of a test: its number, its op and its inputs. It has no regions.
+pub type Row<'a> = (u32, Op, &'a [Origin]);
+
+/// The nodes of these rows.
+pub fn list(alloc: Global, rows: &[Row]) -> Result<Vec<Node>, NoMemory> {
+    let mut nodes = Vec::new(alloc);
+    for (id, op, inputs) in rows {
+        nodes.push(of(alloc, *id, *op, inputs)?)?;
+    }
+    Ok(nodes)
+}
+
 /// A region of these nodes.
 pub fn region(
     alloc: Global,
@@ -68,8 +80,12 @@ pub fn empty(alloc: Global, args: &[Kind], results: &[Origin]) -> Result<Region,
 
 /// A region without arguments that gives this constant, by a node of this number.
 pub fn constant(alloc: Global, id: u32, word: u32) -> Result<Region, NoMemory> {
-    let nodes = Vec::from_array(alloc, [of(alloc, id, Op::Const(word), &[])?])?;
-    region(alloc, &[], nodes, &[out(id, 0)])
+    region(
+        alloc,
+        &[],
+        list(alloc, &[(id, Op::Const(word), &[])])?,
+        &[out(id, 0)],
+    )
 }
 
 /// A function of so many parameters and one object, whose next node number is the greatest.
@@ -102,14 +118,42 @@ pub fn function(
     })
 }
 
-/// A function of one node.
+/// A function of one node, with these regions.
 pub fn single(
     alloc: Global,
     params: u32,
-    node: Node,
+    op: Op,
+    inputs: &[Origin],
+    regions: Vec<Region>,
     results: &[Origin],
 ) -> Result<Lambda, NoMemory> {
+    let node = with_regions(alloc, 0, op, inputs, regions)?;
     function(alloc, params, Vec::from_array(alloc, [node])?, results)
+}
+
+/// The lines of a function of these nodes as text.
+pub fn lines_of(
+    alloc: Global,
+    params: u32,
+    rows: &[Row],
+    results: &[Origin],
+) -> Result<String, NoMemory> {
+    text(
+        alloc,
+        &function(alloc, params, list(alloc, rows)?, results)?,
+    )
+}
+
+/// The lines of a function of one node, with these regions, as text.
+pub fn lines_of_one(
+    alloc: Global,
+    params: u32,
+    op: Op,
+    inputs: &[Origin],
+    regions: Vec<Region>,
+    results: &[Origin],
+) -> Result<String, NoMemory> {
+    text(alloc, &single(alloc, params, op, inputs, regions, results)?)
 }
 
 /// The linear code of a lambda, or none where it is not well formed.

@@ -1,5 +1,7 @@
+ghost use Rattle.std.specs.Prelude.{◌≤◌};
+
 use crate::building::{
-    I, M, V, arg, code, constant, empty, out, region, single, text, with_regions,
+    I, M, V, arg, code, constant, empty, lines_of_one, out, region, single, with_regions,
 };
 use g_graph::{Lambda, Op, Origin};
 use no_memory::NoMemory;
@@ -7,20 +9,22 @@ use std::alloc::Global;
 use std::test::Fail;
 
 // A choice among so many regions, each of which gives its number.
-fn among(alloc: Global, count: u32) -> Result<Lambda, NoMemory> {
+fn among(alloc: Global, count: u32) -> Result<String, NoMemory>
+    requires { count ≤ 1000 }
+{
     let mut regions = Vec::new(alloc);
     for i in 0..count {
-        regions.push(constant(alloc, i, i)?)?;
+        regions.push(constant(alloc, i + 1, i)?)?;
     }
-    let node = with_regions(alloc, 100, Op::Gamma, &[arg(0)], regions)?;
-    single(alloc, 1, node, &[out(100, 0), arg(1), arg(2)])
+    let results = [out(0, 0), arg(1), arg(2)];
+    lines_of_one(alloc, 1, Op::Gamma, &[arg(0)], regions, &results)
 }
 
 // Each but the last has a branch, a jump and a label.
 #[test]
 fn forty_regions_have_a_branch_each(rt: HostRuntime) -> Result<(), Fail> {
     let alloc = rt.alloc();
-    let text = text(alloc, &among(alloc, 40)?)?;
+    let text = among(alloc, 40)?;
     let last = "BranchEqual { predicate: 0, number: 38, label: 38 }, \
         Done { instr: Const { target: 1, word: 39 } }, \
         Done { instr: Move { target: 2, source: 1 } }, Jump { label: 39 }, Label { number: 0 }, \
@@ -44,8 +48,7 @@ fn nested(alloc: Global, depth: u32) -> Result<Lambda, NoMemory> {
         inside = region(alloc, &kinds, nodes, &outputs(id))?;
     }
     let regions = Vec::from_array(alloc, [inside])?;
-    let node = with_regions(alloc, 0, Op::Gamma, &inputs, regions)?;
-    single(alloc, 1, node, &outputs(0))
+    single(alloc, 1, Op::Gamma, &inputs, regions, &outputs(0))
 }
 
 fn outputs(id: u32) -> [Origin; 3] {

@@ -1,4 +1,4 @@
-use crate::building::{arg, function, of, out, text};
+use crate::building::{Row, arg, lines_of, out};
 use g_graph::Op;
 use std::test::Fail;
 use val_core::{Op1, Op2};
@@ -7,22 +7,19 @@ use val_core::{Op1, Op2};
 #[test]
 fn each_op_is_one_instruction(rt: HostRuntime) -> Result<(), Fail> {
     let alloc = rt.alloc();
-    let nodes = Vec::from_array(
-        alloc,
-        [
-            of(alloc, 0, Op::Const(7), &[])?,
-            of(alloc, 1, Op::Undef, &[])?,
-            of(alloc, 2, Op::Local(0), &[])?,
-            of(alloc, 3, Op::Delta(5), &[])?,
-            of(alloc, 4, Op::Bin(Op2::Add), &[arg(0), out(0, 0)])?,
-            of(alloc, 5, Op::Un(Op1::Sext8), &[out(4, 0)])?,
-            of(alloc, 6, Op::Clear(0), &[arg(1)])?,
-            of(alloc, 7, Op::Store(4), &[out(2, 0), out(5, 0), out(6, 0)])?,
-            of(alloc, 8, Op::Load(2), &[out(2, 0), out(7, 0)])?,
-            of(alloc, 9, Op::PtrEq, &[out(2, 0), out(3, 0), out(7, 0)])?,
-        ],
-    )?;
-    let lambda = function(alloc, 1, nodes, &[out(9, 0), out(7, 0), arg(2)])?;
+    let rows: [Row; 10] = [
+        (0, Op::Const(7), &[]),
+        (1, Op::Undef, &[]),
+        (2, Op::Local(0), &[]),
+        (3, Op::Delta(5), &[]),
+        (4, Op::Bin(Op2::Add), &[arg(0), out(0, 0)]),
+        (5, Op::Un(Op1::Sext8), &[out(4, 0)]),
+        (6, Op::Clear(0), &[arg(1)]),
+        (7, Op::Store(4), &[out(2, 0), out(5, 0), out(6, 0)]),
+        (8, Op::Load(2), &[out(2, 0), out(7, 0)]),
+        (9, Op::PtrEq, &[out(2, 0), out(3, 0), out(7, 0)]),
+    ];
+    let lines = lines_of(alloc, 1, &rows, &[out(9, 0), out(7, 0), arg(2)])?;
     let expected = "[Enter { params: [0] }, Done { instr: Const { target: 1, word: 7 } }, \
         Done { instr: Undef { target: 2 } }, \
         Done { instr: ObjectAddress { target: 3, number: 0 } }, \
@@ -33,7 +30,7 @@ fn each_op_is_one_instruction(rt: HostRuntime) -> Result<(), Fail> {
         Done { instr: Store { width: 4, address: 3, value: 6 } }, \
         Done { instr: Load { width: 2, target: 7, address: 3 } }, \
         Done { instr: EqualPointers { target: 8, left: 3, right: 4 } }, Leave { value: 8 }]";
-    assert_eq!(rt; text(alloc, &lambda)?.as_str(), expected);
+    assert_eq!(rt; lines.as_str(), expected);
     Ok(())
 }
 
@@ -42,24 +39,17 @@ fn each_op_is_one_instruction(rt: HostRuntime) -> Result<(), Fail> {
 fn calls_hand_over_no_state(rt: HostRuntime) -> Result<(), Fail> {
     let alloc = rt.alloc();
     let last = 4_294_967_294;
-    let nodes = Vec::from_array(
-        alloc,
-        [
-            of(alloc, last, Op::Get, &[arg(4)])?,
-            of(
-                alloc,
-                0,
-                Op::Apply(9),
-                &[arg(2), out(last, 0), arg(0), arg(3), out(last, 1)],
-            )?,
-            of(alloc, 3_000_000_000, Op::Put, &[out(0, 0), out(0, 2)])?,
-            of(alloc, 1, Op::Exit, &[out(last, 0), out(3_000_000_000, 0)])?,
-        ],
-    )?;
-    let lambda = function(alloc, 3, nodes, &[out(0, 0), out(0, 1), out(1, 0)])?;
+    let arguments = [arg(2), out(last, 0), arg(0), arg(3), out(last, 1)];
+    let rows: [Row; 4] = [
+        (last, Op::Get, &[arg(4)]),
+        (0, Op::Apply(9), &arguments),
+        (3_000_000_000, Op::Put, &[out(0, 0), out(0, 2)]),
+        (1, Op::Exit, &[out(last, 0), out(3_000_000_000, 0)]),
+    ];
+    let lines = lines_of(alloc, 3, &rows, &[out(0, 0), out(0, 1), out(1, 0)])?;
     let expected = "[Enter { params: [0, 1, 2] }, Done { instr: Get { target: 3 } }, \
         Done { instr: Call { function: 9, target: 4, arguments: [2, 3, 0] } }, \
         Done { instr: Put { byte: 4 } }, Done { instr: Exit { status: 3 } }, Leave { value: 4 }]";
-    assert_eq!(rt; text(alloc, &lambda)?.as_str(), expected);
+    assert_eq!(rt; lines.as_str(), expected);
     Ok(())
 }

@@ -1,4 +1,4 @@
-use crate::building::{I, M, V, arg, empty, out, single, text, with_regions};
+use crate::building::{I, M, V, arg, empty, lines_of_one, out};
 use g_graph::{Kind, Op, Origin};
 use no_memory::NoMemory;
 use std::alloc::Global;
@@ -18,8 +18,7 @@ fn passing(
     if op == Op::Gamma {
         regions.push(empty(alloc, args, results)?)?;
     }
-    let node = with_regions(alloc, 0, op, inputs, regions)?;
-    text(alloc, &single(alloc, 2, node, outputs)?)
+    lines_of_one(alloc, 2, op, inputs, regions, outputs)
 }
 
 // Two values in, two out: their names do not depend on where the states stand.
@@ -101,11 +100,11 @@ fn states_of_a_loop_have_no_names(rt: HostRuntime) -> Result<(), Fail> {
 fn one_region_gives_an_argument_twice(rt: HostRuntime) -> Result<(), Fail> {
     let alloc = rt.alloc();
     let regions = Vec::from_array(alloc, [empty(alloc, &[V], &[arg(0), arg(0)])?])?;
-    let node = with_regions(alloc, 0, Op::Gamma, &[arg(0), arg(1)], regions)?;
-    let lambda = single(alloc, 2, node, &[out(0, 1), arg(2), arg(3)])?;
+    let results = [out(0, 1), arg(2), arg(3)];
+    let lines = lines_of_one(alloc, 2, Op::Gamma, &[arg(0), arg(1)], regions, &results)?;
     let expected = "[Enter { params: [0, 1] }, Done { instr: Move { target: 2, source: 1 } }, \
         Done { instr: Move { target: 3, source: 2 } }, \
         Done { instr: Move { target: 4, source: 2 } }, Label { number: 0 }, Leave { value: 4 }]";
-    assert_eq!(rt; text(alloc, &lambda)?.as_str(), expected);
+    assert_eq!(rt; lines.as_str(), expected);
     Ok(())
 }

@@ -11,6 +11,7 @@ use Rattle.s_sequence.specs.Sequence.{values_in, region_names, regions_names, la
 use Rattle.s_sequence.specs.Shape.{HasShape, last_kinds, RegionShaped, RegionsShaped}
 use Rattle.s_sequence.specs.Written.{count_of, region_labels, regions_labels, branch_lines, others_lines, cases_lines}
 use Rattle.s_sequence.proofs.LabelLemmas.{branch_labels_are}
+use Rattle.s_sequence.proofs.RoomLemmas.{count_is}
 
 abbrev pub with_last : RegionTrees → RegionTree → RegionTrees
 with_last no_regions l = region_then l no_regions
@@ -194,17 +195,13 @@ standing_with_last (region_then r no_regions) l one = absurd (one refl)
 standing_with_last (region_then r (region_then s no_regions)) l one = refl
 standing_with_last (region_then r (region_then s (region_then t rs))) l one = last_with_last (region_then t rs) l
 
-count_of_list : (xs : List RegionTree) → count_of (regions_of xs) ≡ length xs
-count_of_list [] = refl
-count_of_list (x ∷ xs) = ap suc (count_of_list xs)
-
 -- the last of regions that are not two, and the others
 module _ (xs ys : List RegionTree) (l : RegionTree) (parts : xs ≡ ys ++ l ∷ []) (other : length xs ≡ 2 → ⊥) where
   pub trees_are : regions_of xs ≡ with_last (regions_of ys) l
   trees_are = ap regions_of parts ∙ regions_with_last ys l
 
   not_one : count_of (regions_of ys) ≡ 1 → ⊥
-  not_one h = other (ap length parts ∙ length-append ys (l ∷ []) ∙ ap (λ n. n + 1) (sym (count_of_list ys) ∙ h))
+  not_one h = other (ap length parts ∙ length-append ys (l ∷ []) ∙ ap (λ n. n + 1) (sym (count_is ys) ∙ h))
 
   pub outputs_begin : (next : ℕ) → outputs_at next (regions_of xs) ≡ next + region_names l
   outputs_begin next = ap (outputs_at next) trees_are ∙ ap (λ n. next + n) (standing_with_last (regions_of ys) l not_one)
@@ -235,8 +232,8 @@ module _ (xs ys : List RegionTree) (l : RegionTree) (parts : xs ≡ ys ++ l ∷ 
       let fr : RegionTrees = regions_of ys in
       let n : ℕ = values_in (result_kinds l) in
       let own = parts_shaped shaped in
-      let count : length xs - 1 ≡ count_of fr = omega (arith, lengths_are, count_of_list ys) in
-      let labels : k1 ≡ first + suc (count_of fr) = omega (arith, a, lengths_are, count_of_list ys) in
+      let count : length xs - 1 ≡ count_of fr = omega (arith, lengths_are, count_is ys) in
+      let labels : k1 ≡ first + suc (count_of fr) = omega (arith, a, lengths_are, count_is ys) in
       let heads : List Line = branch_lines p 0 first (count_of fr) in
       f ∙ ap (λ ls. ls ++ cases_lines entries first k1 n1 l n fr) (e ∙ ap (λ m. l0 ++ branch_lines p 0 first m) count)
       ∙ append_assoc l0 heads (cases_lines entries first k1 n1 l n fr)

@@ -1,7 +1,6 @@
 -- One node more: what the scope holds, and the lines.
 use Rattle.std.proofs.Common.{◌≡◌, ℕ, zero, suc, ◌+◌, Bool, true, false, List, [], ◌∷◌, ◌++◌, map, take, refl, ap, sym, ◌∙◌, append_assoc, ◌<◌, subst, arith}
 use Rattle.std.specs.Prelude.{◌==◌, if◌then◌else◌, slice_get}
-use Rattle.std.proofs.lemmas.Bool.Decides.{nat_tests}
 use Rattle.std.specs.declared.option.Option.TheVariants.{Some, None}
 use Rattle.g_graph.specs.declared.op.Kind.{Kind}
 use Rattle.g_graph.specs.declared.op.Origin.{Origin}
@@ -11,6 +10,7 @@ use Rattle.g_graph.specs.Signatures.{joined, kind_after, output_kinds, outputs_o
 use Rattle.g_graph.specs.Count.{region_values, nodes_values}
 use Rattle.s_linear.specs.Linear.{Code}
 use Rattle.s_linear.specs.Lines.{Line, step_lines, step_labels, code_lines}
+use Rattle.g_graph.proofs.lemmas.Unique.{equal_back}
 use Rattle.s_sequence.specs.declared.ports.Port.{Port}
 use Rattle.s_sequence.specs.declared.scope.Scope.{Scope}
 use Rattle.s_sequence.specs.Sequence.{values_in, value_args, Names, no_names, name_of, named, node_names, nodes_names, region_names, nodes_named, outputs_at, nodes_code, node_step}
@@ -21,9 +21,6 @@ use Rattle.s_sequence.specs.Written.{node_labels, nodes_labels, region_labels, n
 use Rattle.s_sequence.proofs.Named.{args_length}
 use Rattle.s_sequence.proofs.PortLemmas.{port_of_kinds}
 use Rattle.s_sequence.proofs.LabelLemmas.{step_labels_are}
-
-equal_both : (a b : ℕ) → (a == b) ≡ (b == a)
-equal_both a b = grind (arith, nat_tests)
 
 -- ---- arguments
 
@@ -75,7 +72,7 @@ module _ (x : NodeTree) (scope after : Scope) (next : ℕ)
   names_after = λ i n p. name_after n p i
 
   pub kind_known : (n p : ℕ) → kind_in after (Out n p) ≡ (if id_of x == n then joined (slice_get (output_kinds x) p) else kind_in scope (Out n p))
-  kind_known n p = ap (λ (q : Port). q.kind) (outputs n p ∙ ap (λ t. if t then port_at (node_ports next x) p else port_in scope (Out n p)) (equal_both n (id_of x))) ∙ by_node x n p
+  kind_known n p = ap (λ (q : Port). q.kind) (outputs n p ∙ ap (λ t. if t then port_at (node_ports next x) p else port_in scope (Out n p)) (equal_back n (id_of x))) ∙ by_node x n p
     where
       by_node : (y : NodeTree) (n p : ℕ) → (if id_of y == n then port_at (node_ports next y) p else port_in scope (Out n p)).kind
           ≡ (if id_of y == n then joined (slice_get (output_kinds y) p) else kind_in scope (Out n p))

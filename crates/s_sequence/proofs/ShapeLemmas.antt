@@ -1,10 +1,9 @@
 -- Well-formed lambdas have the shapes that sequencing rests on.
-use Rattle.std.proofs.Common.{◌≡◌, ℕ, true, List, [], ◌∷◌, ◌++◌, ◌<◌, ◌^◌, map, length, refl, ap, sym, ◌∙◌, zero-add, append-nil, arith}
+use Rattle.std.proofs.Common.{◌≡◌, ℕ, true, List, [], ◌∷◌, ◌++◌, ◌<◌, ◌^◌, map, length, ap, sym, ◌∙◌, zero-add, append-nil, arith}
 use Rattle.std.specs.Prelude.{◌&&◌}
-use Rattle.std.specs.declared.option.Option.{Option}
-use Rattle.std.specs.declared.option.Option.TheVariants.{Some, None}
+use Rattle.std.specs.declared.option.Option.TheVariants.{Some}
 use Rattle.g_graph.specs.declared.op.Kind.{Kind}
-use Rattle.g_graph.specs.declared.op.Kind.TheVariants.{Value, Memory, Io}
+use Rattle.g_graph.specs.declared.op.Kind.TheVariants.{Memory, Io}
 use Rattle.g_graph.specs.declared.op.Origin.{Origin}
 use Rattle.g_graph.specs.declared.op.Op.{Op}
 use Rattle.g_graph.specs.declared.op.Op.TheVariants.{Gamma, Theta}
@@ -16,6 +15,7 @@ use Rattle.std.proofs.lemmas.Bool.{and_parts}
 use Rattle.g_graph.specs.Count.{region_values}
 use Rattle.s_linear.specs.Linear.{Code, no_steps}
 use Rattle.s_linear.specs.Lines.{Line, leave, code_lines}
+use Rattle.g_graph.proofs.lemmas.Nodes.{are_kinds}
 use Rattle.s_sequence.specs.declared.scope.Scope.{Scope}
 use Rattle.s_sequence.specs.Sequence.{value_args, no_names, name_of, nodes_named, nodes_code, body_code, value_name, name_at}
 use Rattle.s_sequence.specs.Scope.{port_in, name_in}
@@ -25,31 +25,14 @@ use Rattle.s_sequence.specs.Written.{HasRoom, results_in, region_labels, region_
 use Rattle.s_sequence.proofs.LabelLemmas.{region_labels_values}
 use Rattle.s_sequence.proofs.Instrs.{regions_of_well_formed}
 
-are_known : (xs : List (Option Kind)) (ks : List Kind) → are xs ks ≡ true → xs ≡ map Some ks
-are_known [] [] e = refl
-are_known [] (k ∷ ks) e = absurd (cc)
-are_known (None ∷ xs) ks e = absurd (cc)
-are_known (Some Value ∷ xs) [] e = absurd (cc)
-are_known (Some Memory ∷ xs) [] e = absurd (cc)
-are_known (Some Io ∷ xs) [] e = absurd (cc)
-are_known (Some Value ∷ xs) (Value ∷ ks) e = ap (λ zs. Some Value ∷ zs) (are_known xs ks e)
-are_known (Some Value ∷ xs) (Memory ∷ ks) e = absurd (cc)
-are_known (Some Value ∷ xs) (Io ∷ ks) e = absurd (cc)
-are_known (Some Memory ∷ xs) (Value ∷ ks) e = absurd (cc)
-are_known (Some Memory ∷ xs) (Memory ∷ ks) e = ap (λ zs. Some Memory ∷ zs) (are_known xs ks e)
-are_known (Some Memory ∷ xs) (Io ∷ ks) e = absurd (cc)
-are_known (Some Io ∷ xs) (Value ∷ ks) e = absurd (cc)
-are_known (Some Io ∷ xs) (Memory ∷ ks) e = absurd (cc)
-are_known (Some Io ∷ xs) (Io ∷ ks) e = ap (λ zs. Some Io ∷ zs) (are_known xs ks e)
-
 last_known : (args ks : List Kind) (r : RegionTree) (rs : RegionTrees) → all_regions (λ s. same (args_of s) args && are (result_kinds s) ks) (region_then r rs) ≡ true → last_kinds r rs ≡ map Some ks
-last_known args ks r no_regions e = are_known (result_kinds r) ks (and_parts (same (args_of r) args) (are (result_kinds r) ks) (and_parts _ true e).0).1
+last_known args ks r no_regions e = are_kinds (result_kinds r) ks (and_parts (same (args_of r) args) (are (result_kinds r) ks) (and_parts _ true e).0).1
 last_known args ks r (region_then s rs) e =
     last_known args ks s rs (and_parts (same (args_of r) args && are (result_kinds r) ks) (all_regions (λ s. same (args_of s) args && are (result_kinds s) ks) (region_then s rs)) e).1
 
 first_known : (args ks : List Kind) (r : RegionTree) (rs : RegionTrees) → all_regions (λ s. same (args_of s) args && are (result_kinds s) ks) (region_then r rs) ≡ true → result_kinds r ≡ map Some ks
 first_known args ks r rs e =
-    are_known (result_kinds r) ks
+    are_kinds (result_kinds r) ks
     (and_parts (same (args_of r) args) (are (result_kinds r) ks) (and_parts _ (all_regions (λ s. same (args_of s) args && are (result_kinds s) ks) rs) e).0).1
 
 shape_is : (args : List Kind) (before : NodeTrees) (id : ℕ) (op : Op) (inputs : List Origin) (rs : RegionTrees) → inputs_fit args before (node id op inputs rs) ≡ true →

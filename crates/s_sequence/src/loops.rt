@@ -15,7 +15,7 @@ use std::alloc::Global;
 
 #[tactic(auto, using(crate::proofs::PortLemmas::ports_end, crate::proofs::PortLemmas::ports_first))]
 /// Writes the end of a loop, whose label is `first`: moves from its results to its outputs, the
-/// branch behind it where the predicate is 0, moves back to its arguments, whose names begin at
+/// branch past its end where the predicate is 0, moves back to its arguments, whose names begin at
 /// `base`, and the jump to its label.
 pub fn write_turn(
     alloc: Global,

@@ -33,6 +33,7 @@ impl Model for Writer {
 }
 
 impl Writer {
+    /// No line is written, and no name or label is used.
     pub fn new(alloc: Global) -> Writer
         ensures { result ≡ record { lines = []; next = 0; label = 0 } }
     {
@@ -43,6 +44,7 @@ impl Writer {
         }
     }
 
+    /// Writes a line after the others. `NoMemory` where the allocator has none.
     pub fn push(&mut self, line: Line) -> Result<(), NoMemory>
         ensures { OnOk result (self.new ≡ with_lines self.old (line_of line ∷ [])) }
     {
@@ -50,6 +52,7 @@ impl Writer {
         Ok(())
     }
 
+    /// Writes the move of one name's value to another. `NoMemory` where the allocator has none.
     pub fn push_move(&mut self, target: u32, source: u32) -> Result<(), NoMemory>
         ensures { OnOk result (self.new ≡ with_lines self.old (done (move target source) ∷ [])) }
     {
