@@ -1,5 +1,6 @@
 pub mod Has
 pub mod HasExpressions
+pub mod HasDeclarations
 pub mod HasStatements
 pub mod HasFunctions
 pub mod Near

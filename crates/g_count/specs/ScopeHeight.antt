@@ -1,5 +1,5 @@
 -- The scope around is linked to fewer scopes.
-use Rattle.std.specs.Prelude.{ℕ, suc, ◌≤◌, Option, None, Some}
+use Rattle.std.specs.Prelude.{suc, ◌≤◌, None, Some}
 use Rattle.std.proofs.Common.{arith}
 use Rattle.g_count.specs.ScopeViews.{seen_of, depth_around}
 use Rattle.g_count.specs.declared.scope.Scope.TheInside.{Inside}

@@ -18,7 +18,7 @@ use Rattle.g_construct.specs.Switch.{ends_segment, some_segment_has_several}
 
 -- ---- regions
 
--- a Gamma of two regions of so many values, which gives so many extra values beside the carried variables
+-- a Gamma of two regions of so many values, which gives so many extra values and the carried variables
 abbrev pub choice_values : (carried extra : ℕ) → (region0 region1 : ℕ) → ℕ
 choice_values c x a b = 3 + 3 * x + 5 * c + a + b
 

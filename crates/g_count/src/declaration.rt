@@ -55,7 +55,8 @@ fn value_values(initial: &Initial, names_itself: bool, carried: u64, scope: &Sco
 
 // Of the initialiser of an object, which is in scope.
 fn object_values(initial: &Initial, carried: u64, scope: &Scope) -> u64
-    ensures { result ≡ saturated (object_values carried scope.now.objects (initial_of initial.now)) }
+    ensures { result ≡
+        saturated (object_values carried scope.now.objects (initial_of initial.now)) }
 {
     match initial {
         Initial::Nothing => 0,
@@ -72,7 +73,8 @@ pub fn declared_values(
     scope: &Scope,
 ) -> u64
     ensures { result ≡
-        saturated (declared_values variables.now carried scope.now.objects (declaration_of declaration.now)) }
+        saturated (declared_values variables.now carried scope.now.objects
+        (declaration_of declaration.now)) }
 {
     match variables.get(declaration.variable as usize) {
         Some(variable) => {
@@ -80,7 +82,12 @@ pub fn declared_values(
                 let within = Scope::with(scope, true);
                 object_values(&declaration.initial, carried, &within)
             } else {
-                value_values(&declaration.initial, declaration.names_itself, carried, scope)
+                value_values(
+                    &declaration.initial,
+                    declaration.names_itself,
+                    carried,
+                    scope,
+                )
             }
         }
         None => 0,

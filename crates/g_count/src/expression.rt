@@ -3,11 +3,11 @@ ghost use Rattle.g_graph.specs.Count.{saturated};
 ghost use Rattle.c_typed.specs.Typed.{exprs_of};
 ghost use Rattle.g_count.specs.Values.{expr_values, tested_values, exprs_values, place_values, in_memory};
 
-use crate::scope::Scope;
 use crate::operations::{
     binary_values, choice_values, compound_values, condition_values, conditional_extras,
     converted_values, read_values, unary_values,
 };
+use crate::scope::Scope;
 use c_typed::{ExprForm, PlaceForm, TExpr, TPlace};
 
 // How many values the address of a place has, and whether the place is in memory.
@@ -26,7 +26,9 @@ pub fn expr_values(e: &TExpr, carried: u64, scope: &Scope) -> u64
         ExprForm::Constant(_) => 2,
         ExprForm::Read(p) => {
             let place = place_values(p, carried, scope);
-            place.values.saturating_add(read_values(place.in_memory, &e.ty))
+            place
+                .values
+                .saturating_add(read_values(place.in_memory, &e.ty))
         }
         ExprForm::Address(p) => place_values(p, carried, scope).values,
         ExprForm::Unary(op, a) => {
@@ -43,8 +45,9 @@ pub fn expr_values(e: &TExpr, carried: u64, scope: &Scope) -> u64
             let then = expr_values(a, carried, scope);
             let otherwise = expr_values(b, carried, scope);
             let extra = conditional_extras(&e.ty);
-            tested_values(c, carried, scope)
-                .saturating_add(choice_values(carried, extra, otherwise, then))
+            tested_values(c, carried, scope).saturating_add(choice_values(
+                carried, extra, otherwise, then,
+            ))
         }
         ExprForm::Comma(es, last) => {
             let mut total = expr_values(last, carried, scope);
@@ -56,7 +59,10 @@ pub fn expr_values(e: &TExpr, carried: u64, scope: &Scope) -> u64
         ExprForm::Assign(p, a) => {
             let place = place_values(p, carried, scope);
             let write = if place.in_memory { 2 } else { 0 };
-            place.values.saturating_add(expr_values(a, carried, scope)).saturating_add(write)
+            place
+                .values
+                .saturating_add(expr_values(a, carried, scope))
+                .saturating_add(write)
         }
         ExprForm::Compound(op, p, a) => {
             let place = place_values(p, carried, scope);
@@ -65,13 +71,15 @@ pub fn expr_values(e: &TExpr, carried: u64, scope: &Scope) -> u64
                 + compound_values(*op)
                 + converted_values(&e.ty)
                 + write;
-            place.values.saturating_add(expr_values(a, carried, scope)).saturating_add(around)
+            place
+                .values
+                .saturating_add(expr_values(a, carried, scope))
+                .saturating_add(around)
         }
         ExprForm::IncDec(_, p) => {
             let place = place_values(p, carried, scope);
             let write = if place.in_memory { 2 } else { 0 };
-            let around =
-                read_values(place.in_memory, &e.ty) + 4 + converted_values(&e.ty) + write;
+            let around = read_values(place.in_memory, &e.ty) + 4 + converted_values(&e.ty) + write;
             place.values.saturating_add(around)
         }
         ExprForm::Call(_, es) => {

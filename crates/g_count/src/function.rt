@@ -70,9 +70,9 @@ fn states_carried(jumps: bool) -> u64
     if jumps { 4 } else { 2 }
 }
 
-/// How many values the graph of the function has: those of the lambda that construction makes of it,
-/// 2^64 - 1 where there are more. It takes no memory, and its steps are linear in the function but
-/// for the scopes around a variable, one for each block and each 256 variables.
+/// How many values the graph of the function has: those of the lambda that construction makes of
+/// it, 2^64 - 1 where there are more. It takes no memory, and its steps are linear in the function
+/// but for the scopes around a variable, one for each block and each 256 variables.
 pub fn count(f: &TFunction) -> u64
     ensures { result ≡ saturated (function_values f.now) }
 {

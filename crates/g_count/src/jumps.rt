@@ -16,10 +16,8 @@ fn stmt_jumps(a: &TStmt) -> bool
         StmtForm::IfElse(_, then, otherwise) => stmt_jumps(then) || stmt_jumps(otherwise),
         StmtForm::Loop { body, .. } => stmt_jumps(body),
         StmtForm::DoWhile { body, .. } => stmt_jumps(body),
-        StmtForm::Break
-        | StmtForm::Continue
-        | StmtForm::ReturnValue(_)
-        | StmtForm::ReturnNone => true,
+        StmtForm::Break | StmtForm::Continue | StmtForm::ReturnValue(_) | StmtForm::ReturnNone =>
+            true,
         StmtForm::Switch(_, groups) => groups_jump(groups),
     }
 }

@@ -1,11 +1,11 @@
-//! How many values the graph of a function has, counted before it is made. It stands on the definition of
-//! construction, and takes no memory.
+//! How many values the graph of a function has, counted before it is made. It stands on the
+//! definition of construction, and takes no memory.
 #![tactic(auto)]
 
-mod function;
 mod declaration;
 mod exits;
 mod expression;
+mod function;
 mod jumps;
 mod loops;
 mod operations;
@@ -15,4 +15,3 @@ mod straight;
 mod switch;
 
 pub use function::count;
-pub use scope::Scope;

@@ -4,8 +4,8 @@ ghost use Rattle.c_typed.specs.StmtViews.{optional_of};
 ghost use Rattle.g_graph.specs.Count.{saturated};
 ghost use Rattle.g_count.specs.Values.{leaving_values, step_values, loop_values, do_values};
 
-use crate::operations::{choice_values, repeat_values};
 use crate::expression::{expr_values, tested_values};
+use crate::operations::{choice_values, repeat_values};
 use crate::scope::Scope;
 use c_typed::TExpr;
 
@@ -40,14 +40,19 @@ pub fn loop_values(
     carried: u64,
     scope: &Scope,
 ) -> u64
-    ensures { result ≡ saturated (loop_values carried scope.now.objects (optional_of condition.now) (optional_of step.now) leaves body) }
+    ensures { result ≡
+        saturated (loop_values carried scope.now.objects
+        (optional_of condition.now) (optional_of step.now) leaves body) }
 {
     let asked = match condition {
         Some(e) => tested_values(e, carried, scope),
         None => 2,
     };
-    let again = step_values(step, leaves, carried, scope)
-        .saturating_add(if leaves { 10 } else { 2 });
+    let again = step_values(step, leaves, carried, scope).saturating_add(if leaves {
+        10
+    } else {
+        2
+    });
     let turn = choice_values(carried, 1, 2, body.saturating_add(again));
     let whole = repeat_values(carried, asked.saturating_add(turn));
     whole.saturating_add(if leaves { 6 } else { 0 })

@@ -110,12 +110,19 @@ pub fn choice_values(carried: u64, extra: u64, region0: u64, region1: u64) -> u6
 pub fn repeat_values(carried: u64, region: u64) -> u64
     ensures { result ≡ saturated (repeat_values carried region) }
 {
-    carried.saturating_mul(3).saturating_add(3).saturating_add(region)
+    carried
+        .saturating_mul(3)
+        .saturating_add(3)
+        .saturating_add(region)
 }
 
 // Of the carried variables, with one more that is declared.
 pub fn more_carried(carried: u64, is_object: bool) -> u64
     ensures { result ≡ saturated (more_carried is_object carried) }
 {
-    if is_object { carried } else { carried.saturating_add(1) }
+    if is_object {
+        carried
+    } else {
+        carried.saturating_add(1)
+    }
 }

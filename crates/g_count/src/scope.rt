@@ -28,7 +28,9 @@ impl<'a> Model for Scope<'a> {
 
     ghost use Rattle.std.specs.Prelude.{◌≡◌, ◌≤◌, ◌-◌, ◌^◌, length, min};
 
-    ghost invariant = { λ s. (s.first ≡ min (length (objects_around (seen_of (λ r. r.now) s.around))) (2 ^ 64 - 1)) × (s.count ≤ 256) };
+    ghost invariant = { λ s.
+        (s.first ≡ min (length (objects_around (seen_of (λ r. r.now) s.around))) (2 ^ 64 - 1))
+        × (s.count ≤ 256) };
 
     ghost size = { λ s. s.depth };
 

@@ -122,15 +122,10 @@ pub fn stmt_values(variables: &[Variable], a: &TStmt, carried: u64, scope: &Scop
     }
 }
 
-// Of a list of items. Where many variables are declared in it, the items behind them are counted in
+// Of a list of items. Where many variables are declared in it, the items after them are counted in
 // a scope of their own.
 #[cycle(statements)]
-pub fn items_values(
-    variables: &[Variable],
-    items: &[Item],
-    carried: u64,
-    scope: &Scope,
-) -> Counted
+pub fn items_values(variables: &[Variable], items: &[Item], carried: u64, scope: &Scope) -> Counted
     ensures values { result.values ≡
         saturated (items_values variables.now carried scope.now.objects (items_of items.now)) }
     ensures leaves { exits_of result.leaves ≡ items_exits (items_of items.now) }
@@ -175,7 +170,8 @@ pub fn items_values(
 #[cycle(statements)]
 fn groups_values(variables: &[Variable], groups: &[Group], carried: u64, scope: &Scope) -> Counted
     ensures values { result.values ≡
-        saturated (groups_values variables.now carried scope.now.objects true (groups_of groups.now)) }
+        saturated (groups_values variables.now carried scope.now.objects
+        true (groups_of groups.now)) }
     ensures leaves { exits_of result.leaves ≡ groups_exits (groups_of groups.now) }
 {
     let mut total: u64 = 0;

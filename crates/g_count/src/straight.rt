@@ -38,7 +38,9 @@ fn statement_values(
     scope: &Scope,
 ) -> Ended
     ensures values { result.values ≡
-        (if not follows && is_return a.now then saturated (returned_values carried scope.now.objects a.now) else saturated (stmt_values variables.now carried scope.now.objects a.now)) }
+        (if not follows && is_return a.now
+        then saturated (returned_values carried scope.now.objects a.now)
+        else saturated (stmt_values variables.now carried scope.now.objects a.now)) }
     ensures ends { result.ends ≡ (not follows && is_return a.now) }
 {
     if !follows && is_return(a) {

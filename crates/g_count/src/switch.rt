@@ -14,10 +14,8 @@ fn is_jump(a: &TStmt) -> bool
     ensures { result ≡ is_jump a.now }
 {
     match &a.form {
-        StmtForm::Break
-        | StmtForm::Continue
-        | StmtForm::ReturnValue(_)
-        | StmtForm::ReturnNone => true,
+        StmtForm::Break | StmtForm::Continue | StmtForm::ReturnValue(_) | StmtForm::ReturnNone =>
+            true,
         _ => false,
     }
 }
@@ -98,7 +96,9 @@ pub fn selected_values(several: bool, labels: u64) -> u64
 {
     let number = labels.saturating_mul(10).saturating_add(2);
     if several {
-        number.saturating_add(labels.saturating_mul(6)).saturating_add(2)
+        number
+            .saturating_add(labels.saturating_mul(6))
+            .saturating_add(2)
     } else {
         number
     }
@@ -109,12 +109,18 @@ pub fn segments_values(carried: u64, count: u64) -> u64
     ensures { result ≡ saturated (segments_values carried count) }
 {
     let region = carried.saturating_mul(2).saturating_add(1);
-    count.saturating_mul(region).saturating_add(region).saturating_add(carried).saturating_add(1)
+    count
+        .saturating_mul(region)
+        .saturating_add(region)
+        .saturating_add(carried)
+        .saturating_add(1)
 }
 
 // Of a `switch` with groups of so many values, whose regions carry so many variables.
 pub fn switch_values(value: u64, segments: Segments, within: u64, groups: u64, breaks: bool) -> u64
-    ensures { result ≡ saturated (value + selected_values segments.several segments.labels + segments_values within segments.count + groups + jump_ended_values breaks) }
+    ensures { result ≡
+        saturated (value + selected_values segments.several segments.labels
+        + segments_values within segments.count + groups + jump_ended_values breaks) }
 {
     let ended = if breaks { 6 } else { 0 };
     selected_values(segments.several, segments.labels)

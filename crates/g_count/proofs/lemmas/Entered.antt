@@ -6,7 +6,8 @@ use Rattle.c_typed.specs.WellTyped.{params_of}
 use Rattle.g_graph.specs.Count.{saturated}
 use Rattle.g_construct.specs.Exits.{body_jumps}
 use Rattle.g_construct.specs.Functions.{function_values}
-use Rattle.g_count.specs.Values.{more_carried, items_values, straight_values, objects_of, params_values, value_params, body_values, counted_values, entered_values}
+use Rattle.g_count.specs.Values.{more_carried, items_values, straight_values, objects_of, params_values, value_params, entered_values}
+use Rattle.g_count.proofs.lemmas.HasDeclarations.{no_more}
 use Rattle.g_count.proofs.lemmas.Near.{Near, near_itself, near_saturated, near_add, more_near, items_near, straight_near}
 use Rattle.g_count.proofs.lemmas.HasFunctions.{values_counted}
 
@@ -27,12 +28,11 @@ entered_step f j c d os ps p rest all b total v u w e o h g inv hv hu =
     let near = (entered_near (near_saturated (more_carried b c)) f j rest (os ++ b ∷ [])).equal in
     omega (arith, two, four, near, inv, hv, hu)
 
+-- ---- in the plain form
+
+-- what follows the parameters
 abbrev after_params : FunctionTree → Bool → ℕ → List Bool → ℕ
 after_params f j c os = if j then 4 + items_values f.variables c os f.body else straight_values f.variables c os f.body
-
-no_more : {A : Type 0} → (xs : List A) → xs ++ [] ≡ xs
-no_more [] = refl
-no_more (x ∷ xs) = ap (λ ys. x ∷ ys) (no_more xs)
 
 entered_last : (f : FunctionTree) (j : Bool) (c d : ℕ) (os ps : List Bool) → c ≡ d → os ≡ ps → entered_values f j [] c os ≡ 0 + after_params f j d ps
 entered_last f j c d os ps e g = let q = ap (λ n. after_params f j n os) e ∙ ap (after_params f j d) g in omega (arith, q)
@@ -48,7 +48,8 @@ entered_counted f j (p ∷ ps) c os =
     let b : Bool = p.is_object in
     let rest = entered_counted f j ps (more_carried b c) (os ++ b ∷ []) in
     let one : after_params f j (value_params ps + more_carried b c) ((os ++ b ∷ []) ++ objects_of ps) ≡ after_params f j (value_params (p ∷ ps) + c) (os ++ objects_of (p ∷ ps)) =
-    ap (λ n. after_params f j n ((os ++ b ∷ []) ++ objects_of ps)) (more_counted b (value_params ps) c) ∙ ap (after_params f j (value_params (p ∷ ps) + c)) (append_assoc os (b ∷ []) (objects_of ps)) in
+    ap (λ n. after_params f j n ((os ++ b ∷ []) ++ objects_of ps)) (more_counted b (value_params ps) c)
+    ∙ ap (after_params f j (value_params (p ∷ ps) + c)) (append_assoc os (b ∷ []) (objects_of ps)) in
     omega (arith, rest, one)
 
 pub count_is : (f : FunctionTree) → 6 + f.params + entered_values f (body_jumps f.body) (params_of f) (if body_jumps f.body then 4 else 2) [] ≡ function_values f

@@ -1,13 +1,13 @@
 -- Items and groups by index.
-use Rattle.std.proofs.Common.{◌≡◌, ℕ, zero, suc, ◌+◌, ◌<◌, ◌≤◌, Bool, true, false, ◌||◌, not, List, [], ◌∷◌, drop, get_or, length, refl, sym, ap, ◌∙◌, arith, add-one, drop-cons}
-use Rattle.c_typed.specs.Typed.{StmtTree, ItemTrees, GroupTrees, group_then}
-use Rattle.c_typed.specs.StmtViews.{items_of, groups_of, declaration_of}
+use Rattle.std.proofs.Common.{◌≡◌, ℕ, zero, suc, ◌+◌, ◌<◌, ◌≤◌, Bool, true, false, ◌||◌, not, List, [], ◌∷◌, drop, get_or, length, refl, sym, ap, ◌∙◌, arith, drop-cons}
+use Rattle.c_typed.specs.Typed.{StmtTree, group_then}
+use Rattle.c_typed.specs.StmtViews.{items_of, groups_of}
 use Rattle.c_typed.specs.declared.statement.Group.{Group}
 use Rattle.c_typed.specs.declared.statement.Item.{Item}
 use Rattle.c_typed.specs.declared.statement.Item.TheVariants as item
 use Rattle.g_construct.specs.Exits.{some_items}
-use Rattle.g_construct.specs.Switch.{some_groups, ends_with_jump, ends_segment, some_segment_has_several}
-use Rattle.g_count.specs.Values.{first_ends, label_count, segment_count}
+use Rattle.g_construct.specs.Switch.{some_groups, ends_with_jump}
+use Rattle.g_count.specs.Values.{first_ends}
 use Rattle.g_count.specs.Weights.{stmt_weight, items_weight, groups_weight}
 
 -- a list from an index on
@@ -47,13 +47,13 @@ statement_weight xs i x a e h k =
     ap (λ ys. items_weight (items_of ys)) (from_index xs i x e h) ∙ ap (λ y. items_weight (items_of (y ∷ drop (i + 1) xs))) k in
     omega (arith, all, here)
 
-pub items_behind_weight : (xs : List Item) (i : ℕ) → i < length xs → items_weight (items_of (drop (i + 1) xs)) < items_weight (items_of xs)
-items_behind_weight [] i h = let no : ⊥ = omega (arith, h) in absurd no
-items_behind_weight (item.Statement a ∷ xs) zero h = let e : items_weight (items_of (drop (0 + 1) (item.Statement a ∷ xs))) ≡ items_weight (items_of xs) = refl in omega (arith, e)
-items_behind_weight (item.Variable d ∷ xs) zero h = let e : items_weight (items_of (drop (0 + 1) (item.Variable d ∷ xs))) ≡ items_weight (items_of xs) = refl in omega (arith, e)
-items_behind_weight (x ∷ xs) (suc i) h =
+pub items_after_weight : (xs : List Item) (i : ℕ) → i < length xs → items_weight (items_of (drop (i + 1) xs)) < items_weight (items_of xs)
+items_after_weight [] i h = let no : ⊥ = omega (arith, h) in absurd no
+items_after_weight (item.Statement a ∷ xs) zero h = let e : items_weight (items_of (drop (0 + 1) (item.Statement a ∷ xs))) ≡ items_weight (items_of xs) = refl in omega (arith, e)
+items_after_weight (item.Variable d ∷ xs) zero h = let e : items_weight (items_of (drop (0 + 1) (item.Variable d ∷ xs))) ≡ items_weight (items_of xs) = refl in omega (arith, e)
+items_after_weight (x ∷ xs) (suc i) h =
     let k : i < length xs = omega (arith, h) in
-    let rest = items_behind_weight xs i k in
+    let rest = items_after_weight xs i k in
     let n : suc i + 1 ≡ suc (i + 1) = omega arith in
     let same : items_weight (items_of (drop (suc i + 1) (x ∷ xs))) ≡ items_weight (items_of (drop (i + 1) xs)) = ap (λ m. items_weight (items_of (drop m (x ∷ xs)))) n in
     let less = rest_weight (x ∷ xs) 1 in

@@ -17,7 +17,8 @@ use Rattle.g_construct.proofs.lemmas.Programs.{values_in, values_append}
 use Rattle.g_count.specs.Values.{declared_object, items_values, params_values, value_params, straight_then_values, straight_values, objects_of, body_values, counted_values}
 use Rattle.g_count.proofs.lemmas.Has.{Seen, Sees, Has, Counts, has_equal, given_has, bind_has, value_count, marks}
 use Rattle.g_count.proofs.lemmas.HasExpressions.{expr_has}
-use Rattle.g_count.proofs.lemmas.HasStatements.{undef_has, stored_has, declared_has, seen_more, stmt_has, items_have}
+use Rattle.g_count.proofs.lemmas.HasDeclarations.{undef_has, stored_has, declared_has, seen_more}
+use Rattle.g_count.proofs.lemmas.HasStatements.{stmt_has, items_have}
 
 -- ---- parameters
 
@@ -48,7 +49,7 @@ params_has v k a (p ∷ ps) s h =
       | false ↦ has_equal (params_values ps) (0 + params_values ps) v (params_stored k (suc a) ps s) e (params_has v k (suc a) ps s h)
     ]
 
--- what is seen at the start, before and behind `go` and `ret`
+-- what is seen at the start, before and after `go` and `ret`
 abbrev seen_first : (last : ℕ) → FunctionTree → Seen
 seen_first n f = record { carried = value_params (params_of f) + n; objects = objects_of (params_of f) }
 

@@ -1,14 +1,14 @@
 -- The values of a tree, up to the greatest answer, need the number of carried variables only up to it.
-use Rattle.std.proofs.Common.{◌≡◌, ℕ, zero, suc, ◌+◌, ◌*◌, ◌-◌, ◌^◌, Bool, true, false, ◌&&◌, not, List, [], ◌∷◌, ◌++◌, length, slice_get, Option, Some, None, refl, sym, ap, ◌∙◌, arith}
+use Rattle.std.proofs.Common.{◌≡◌, ℕ, zero, suc, ◌+◌, ◌*◌, ◌-◌, ◌^◌, Bool, true, false, ◌&&◌, not, List, [], ◌∷◌, ◌++◌, length, slice_get, Option, Some, None, refl, ap, ◌∙◌, arith}
 use Rattle.std.proofs.Math.Nat.{suc-mul}
 use Rattle.std.specs.Prelude.{if◌then◌else◌, min}
-use Rattle.c_typed.specs.Typed.{ExprTree, expr, FormTree, constant, read, address, unary, binary, logical_and, logical_or, conditional, comma, assign, compound, inc_dec, call, get, ExprTrees, no_exprs, expr_then, PlaceTree, place, PlaceFormTree, local, global, at, member, OptionalExpr, no_expr, some_expr, ElementTrees, no_elements, value_then, characters_then, InitialTree, no_initial, initial_value, initial_elements, DeclarationTree, StmtTree, null, value, block, if_else, loop, do_while, break, continue, return_value, return_none, switch, ItemTrees, no_items, stmt_then, declare_then, GroupTrees, no_groups, group_then, VariableTree}
+use Rattle.c_typed.specs.Typed.{ExprTree, expr, FormTree, constant, read, address, unary, binary, logical_and, logical_or, conditional, comma, assign, compound, inc_dec, call, get, ExprTrees, no_exprs, expr_then, PlaceTree, place, local, global, at, member, OptionalExpr, no_expr, some_expr, ElementTrees, no_elements, value_then, characters_then, InitialTree, no_initial, initial_value, initial_elements, DeclarationTree, StmtTree, null, value, block, if_else, loop, do_while, break, continue, return_value, return_none, switch, ItemTrees, no_items, stmt_then, declare_then, GroupTrees, no_groups, group_then, VariableTree}
 use Rattle.c_typed.specs.WellTyped.{type_of}
 use Rattle.c_type.specs.Trees.{TypeTree}
 use Rattle.g_graph.specs.Count.{saturated}
 use Rattle.g_construct.specs.Exits.{stmt_exits, items_exits, groups_exits, can_leave, some_items}
 use Rattle.g_construct.specs.Switch.{ends_segment, some_segment_has_several}
-use Rattle.g_count.specs.Values.{choice_values, repeat_values, converted_values, condition_values, unary_values, binary_values, compound_values, conditional_extras, is_object, in_memory, read_values, write_values, expr_values, form_values, tested_values, exprs_values, place_values, place_form_values, leaving_values, jump_ended_values, optional_tested_values, step_values, again_values, loop_values, do_again_values, do_values, elements_values, value_values, object_values, object_as, declared_object, variable_values, declared_values_as, declared_values, more_carried, label_count, segment_count, group_values, selected_values, segments_values, with_from, stmt_values, items_values, groups_values, straight_then_values, straight_values}
+use Rattle.g_count.specs.Values.{choice_values, repeat_values, converted_values, condition_values, unary_values, binary_values, compound_values, conditional_extras, in_memory, read_values, write_values, expr_values, form_values, tested_values, exprs_values, place_values, leaving_values, jump_ended_values, optional_tested_values, step_values, again_values, do_again_values, elements_values, value_values, object_values, declared_object, variable_values, declared_values_as, declared_values, more_carried, label_count, segment_count, group_values, selected_values, segments_values, with_from, stmt_values, items_values, groups_values, straight_then_values, straight_values}
 
 -- ---- numbers that are equal up to the greatest answer
 

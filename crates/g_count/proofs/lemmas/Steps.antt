@@ -1,7 +1,7 @@
 -- One more item is counted.
-use Rattle.std.proofs.Common.{◌≡◌, ℕ, zero, suc, ◌+◌, ◌-◌, ◌<◌, ◌≤◌, ◌^◌, Bool, true, false, ◌&&◌, ◌||◌, not, List, [], ◌∷◌, ◌++◌, take, drop, length, length-drop, refl, sym, ap, ◌∙◌, arith}
+use Rattle.std.proofs.Common.{◌≡◌, ℕ, zero, suc, ◌+◌, ◌-◌, ◌≤◌, ◌^◌, Bool, true, false, ◌&&◌, ◌||◌, not, List, [], ◌∷◌, ◌++◌, take, drop, length, length-drop, refl, sym, ap, ◌∙◌, arith}
 use Rattle.std.specs.Prelude.{min, if◌then◌else◌}
-use Rattle.c_typed.specs.Typed.{ExprTree, StmtTree, null, value, block, if_else, loop, do_while, break, continue, return_value, return_none, switch, ItemTrees, stmt_then, declare_then, GroupTrees, DeclarationTree, VariableTree}
+use Rattle.c_typed.specs.Typed.{ExprTree, StmtTree, return_value, return_none, switch, ItemTrees, stmt_then, declare_then, GroupTrees, DeclarationTree, VariableTree}
 use Rattle.c_typed.specs.declared.statement.Group.{Group}
 use Rattle.g_construct.specs.Switch.{some_segment_has_several}
 use Rattle.c_typed.specs.StmtViews.{items_of, groups_of}

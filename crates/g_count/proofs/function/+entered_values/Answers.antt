@@ -1,4 +1,4 @@
-use Rattle.std.proofs.Common.{◌≡◌, ◌+◌, ◌-◌, [], ◌∷◌, ◌++◌, arith, drop, ap, ◌∙◌}
+use Rattle.std.proofs.Common.{◌≡◌, ◌+◌, [], ◌∷◌, ◌++◌, arith, drop, ap, ◌∙◌}
 use Rattle.g_graph.specs.Count.{saturated}
 use Rattle.g_count.specs.Values.{entered_values}
 use Rattle.g_count.proofs.lemmas.Groups.{from_index}
@@ -31,8 +31,9 @@ loop-i-preserved t c =
     let j = c.args.jumps in
     let xs = c.args.params.now in
     let b = c.param.inside.is_object in
-    let here = from_index xs c.loop-i.i c.index-params-i.result c.index-params-i.is c.loop-i-test.true in
-    (entered_step f j c.loop-i.carried c.more_carried-carried.result c.loop-i.inner.objects c.push.new.self.objects c.index-params-i.result (drop (c.loop-i.i + 1) xs) (drop c.loop-i.i xs) b
-     c.loop-i.total c.param_values.result c.saturating_add-total.result (saturated (entered_values f j xs c.args.carried c.inside-inner.result.objects)) here
-     (ap (λ p. p.is_object) c.param.view_is) c.more_carried-carried.ensures c.if-not-push.ensures c.loop-i.invariant.0 c.param_values.ensures c.saturating_add-total.ensures,
-     omega (arith, c.saturating_add-total.ensures))
+    let here = from_index xs c.loop-i.i c.index-params-i.result c.index-params-i.is c.loop-i-test.true in (
+      entered_step f j c.loop-i.carried c.more_carried-carried.result c.loop-i.inner.objects c.push.new.self.objects c.index-params-i.result (drop (c.loop-i.i + 1) xs) (drop c.loop-i.i xs) b
+          c.loop-i.total c.param_values.result c.saturating_add-total.result (saturated (entered_values f j xs c.args.carried c.inside-inner.result.objects)) here
+          (ap (λ p. p.is_object) c.param.view_is) c.more_carried-carried.ensures c.if-not-push.ensures c.loop-i.invariant.0 c.param_values.ensures c.saturating_add-total.ensures,
+      omega (arith, c.saturating_add-total.ensures),
+    )

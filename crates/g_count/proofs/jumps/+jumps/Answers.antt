@@ -1,6 +1,6 @@
-use Rattle.std.proofs.Common.{◌≡◌, ◌<◌, ap, sym, ◌∙◌, arith}
+use Rattle.std.proofs.Common.{◌≡◌, ◌<◌, ap, arith}
 use Rattle.c_typed.specs.StmtViews.{items_of}
-use Rattle.g_count.specs.Weights.{stmt_weight, items_weight}
+use Rattle.g_count.specs.Weights.{items_weight}
 use Rattle.g_count.proofs.lemmas.Groups.{statement_weight, group_weight}
 use Rattle.g_count.proofs.jumps.+jumps.Goals as goal
 

@@ -9,7 +9,7 @@ use Rattle.g_count.proofs.statement.+statements.Goals.{items_values-in-Statement
 use Rattle.c_typed.specs.StmtViews.{items_of, declaration_of, groups_of, stmt_of}
 use Rattle.g_construct.specs.Switch.{some_segment_has_several}
 use Rattle.g_count.specs.Weights.{items_weight}
-use Rattle.g_count.proofs.lemmas.Groups.{from_index, statement_weight, items_behind_weight, group_weight}
+use Rattle.g_count.proofs.lemmas.Groups.{from_index, statement_weight, items_after_weight, group_weight}
 use Rattle.g_count.proofs.statement.+statements.Goals as goal
 
 pub items_values-stmt_values-counted-requires : goal.items_values-stmt_values-counted-requires
@@ -20,7 +20,7 @@ pub items_values-items_values-rest-requires : goal.items_values-items_values-res
 items_values-items_values-rest-requires t c =
     let k = c.loop-i.i + 1 in
     let less : items_weight (items_of (take (length c.args.items.now - k) (drop k c.args.items.now))) < t =
-    omega (arith, taken_weight (drop k c.args.items.now) (length c.args.items.now - k), items_behind_weight c.args.items.now c.loop-i.i c.loop-i-test.true, c.decreases) in
+    omega (arith, taken_weight (drop k c.args.items.now) (length c.args.items.now - k), items_after_weight c.args.items.now c.loop-i.i c.loop-i-test.true, c.decreases) in
     (less, tt)
 
 pub groups_values-items_values-inner-requires : goal.groups_values-items_values-inner-requires
@@ -39,34 +39,37 @@ items_values-loop-i-preserved t c =
     let rest = items_of (drop (c.loop-i.i + 1) xs) in
     let all = saturated (items_values c.args.variables.now c.args.carried c.inside-inner.result.objects (items_of xs)) in
     elim c.match-items-i.branch [
-      items_values-in-Statement w ↦
-        let a = w.in-Statement.a in
-        let here : items_of (drop c.loop-i.i xs) ≡ stmt_then a rest = ap items_of from ∙ ap (λ y. items_of (y ∷ drop (c.loop-i.i + 1) xs)) w.in-Statement.is in
-        let left : c.match-items-i.left ≡ can_leave (stmt_exits a) =
-        w.left-is ∙ w.can_leave-left.ensures ∙ ap (λ l. can_leave l) w.stmt_values-counted.ensures.leaves in
-        let leaves : exits_of c.match-items-i.leaves ≡ either_exits (exits_of c.loop-i.leaves) (stmt_exits a) =
-        ap exits_of w.leaves-is ∙ w.either-leaves.ensures ∙ ap (either_exits (exits_of c.loop-i.leaves)) w.stmt_values-counted.ensures.leaves in
-        (statement_step c.args.variables.now c.loop-i.carried c.match-items-i.carried c.loop-i.inner.objects c.match-items-i.inner.objects a rest (items_of (drop c.loop-i.i xs))
-         c.loop-i.left c.match-items-i.left c.loop-i.total c.leaving_values.result c.saturating_add-total.result w.stmt_values-counted.result.values c.match-items-i.total all
-         here w.carried-is (ap (λ i. i.objects) w.inner-is) left c.loop-i.invariant.0 c.leaving_values.ensures c.saturating_add-total.ensures w.stmt_values-counted.ensures.values
-         (w.total-is ∙ w.saturating_add-total-in-Statement.ensures),
-         statement_exits (exits_of c.loop-i.leaves) (exits_of c.match-items-i.leaves) (items_exits (items_of xs)) a rest (items_of (drop c.loop-i.i xs)) here leaves c.loop-i.invariant.1,
-         omega (arith, w.total-is, w.saturating_add-total-in-Statement.ensures))
-    | items_values-in-Variable+else-not-push w ↦
-        let d = declaration_of w.in-Variable.d in
-        let b = w.declared_object-is_object.result in
-        let here : items_of (drop c.loop-i.i xs) ≡ declare_then d rest = ap items_of from ∙ ap (λ y. items_of (y ∷ drop (c.loop-i.i + 1) xs)) w.in-Variable.is in
-        let inner : c.match-items-i.inner.objects ≡ c.loop-i.inner.objects ++ b ∷ [] = ap (λ i. i.objects) w.inner-is ∙ w.if-not-push.ensures in
-        let step =
-        declared_step c.args.variables.now c.loop-i.carried c.match-items-i.carried c.loop-i.inner.objects c.match-items-i.inner.objects d rest (items_of (drop c.loop-i.i xs)) b c.loop-i.left
-        c.loop-i.total c.leaving_values.result c.saturating_add-total.result w.declared_values.result c.match-items-i.total all here w.declared_object-is_object.ensures
-        (w.carried-is ∙ w.more_carried-carried.ensures) inner c.loop-i.invariant.0 c.leaving_values.ensures c.saturating_add-total.ensures w.declared_values.ensures
-        (w.total-is ∙ w.saturating_add-total-in-Variable.ensures) in
-        let none : leaving_values c.match-items-i.carried (c.match-items-i.left && some_items rest) ≡ 0 =
-        ap (λ l. leaving_values c.match-items-i.carried (l && some_items rest)) w.left-is in
-        (omega (arith, step, none),
-         ap (λ l. either_exits (exits_of l) (items_exits rest)) w.leaves-is ∙ ap (λ x. either_exits (exits_of c.loop-i.leaves) (items_exits x)) (sym here) ∙ c.loop-i.invariant.1,
-         omega (arith, w.total-is, w.saturating_add-total-in-Variable.ensures)) ]
+      | items_values-in-Statement w ↦
+          let a = w.in-Statement.a in
+          let here : items_of (drop c.loop-i.i xs) ≡ stmt_then a rest = ap items_of from ∙ ap (λ y. items_of (y ∷ drop (c.loop-i.i + 1) xs)) w.in-Statement.is in
+          let left : c.match-items-i.left ≡ can_leave (stmt_exits a) =
+          w.left-is ∙ w.can_leave-left.ensures ∙ ap (λ l. can_leave l) w.stmt_values-counted.ensures.leaves in
+          let leaves : exits_of c.match-items-i.leaves ≡ either_exits (exits_of c.loop-i.leaves) (stmt_exits a) =
+          ap exits_of w.leaves-is ∙ w.either-leaves.ensures ∙ ap (either_exits (exits_of c.loop-i.leaves)) w.stmt_values-counted.ensures.leaves in (
+            statement_step c.args.variables.now c.loop-i.carried c.match-items-i.carried c.loop-i.inner.objects c.match-items-i.inner.objects a rest (items_of (drop c.loop-i.i xs))
+                c.loop-i.left c.match-items-i.left c.loop-i.total c.leaving_values.result c.saturating_add-total.result w.stmt_values-counted.result.values c.match-items-i.total all
+                here w.carried-is (ap (λ i. i.objects) w.inner-is) left c.loop-i.invariant.0 c.leaving_values.ensures c.saturating_add-total.ensures w.stmt_values-counted.ensures.values
+                (w.total-is ∙ w.saturating_add-total-in-Statement.ensures),
+            statement_exits (exits_of c.loop-i.leaves) (exits_of c.match-items-i.leaves) (items_exits (items_of xs)) a rest (items_of (drop c.loop-i.i xs)) here leaves c.loop-i.invariant.1,
+            omega (arith, w.total-is, w.saturating_add-total-in-Statement.ensures),
+          )
+      | items_values-in-Variable+else-not-push w ↦
+          let d = declaration_of w.in-Variable.d in
+          let b = w.declared_object-is_object.result in
+          let here : items_of (drop c.loop-i.i xs) ≡ declare_then d rest = ap items_of from ∙ ap (λ y. items_of (y ∷ drop (c.loop-i.i + 1) xs)) w.in-Variable.is in
+          let inner : c.match-items-i.inner.objects ≡ c.loop-i.inner.objects ++ b ∷ [] = ap (λ i. i.objects) w.inner-is ∙ w.if-not-push.ensures in
+          let step =
+          declared_step c.args.variables.now c.loop-i.carried c.match-items-i.carried c.loop-i.inner.objects c.match-items-i.inner.objects d rest (items_of (drop c.loop-i.i xs)) b c.loop-i.left
+          c.loop-i.total c.leaving_values.result c.saturating_add-total.result w.declared_values.result c.match-items-i.total all here w.declared_object-is_object.ensures
+          (w.carried-is ∙ w.more_carried-carried.ensures) inner c.loop-i.invariant.0 c.leaving_values.ensures c.saturating_add-total.ensures w.declared_values.ensures
+          (w.total-is ∙ w.saturating_add-total-in-Variable.ensures) in
+          let none : leaving_values c.match-items-i.carried (c.match-items-i.left && some_items rest) ≡ 0 =
+          ap (λ l. leaving_values c.match-items-i.carried (l && some_items rest)) w.left-is in (
+            omega (arith, step, none),
+            ap (λ l. either_exits (exits_of l) (items_exits rest)) w.leaves-is ∙ ap (λ x. either_exits (exits_of c.loop-i.leaves) (items_exits x)) (sym here) ∙ c.loop-i.invariant.1,
+            omega (arith, w.total-is, w.saturating_add-total-in-Variable.ensures),
+          )
+    ]
 
 pub items_values-returns-then-not-push-clause-values : goal.items_values-returns-then-not-push-clause-values
 items_values-returns-then-not-push-clause-values t c =

@@ -4,7 +4,7 @@ use Rattle.c_typed.specs.StmtViews.{items_of, declaration_of}
 use Rattle.g_graph.specs.Count.{saturated}
 use Rattle.g_count.specs.Values.{straight_values}
 use Rattle.g_count.specs.Weights.{items_weight}
-use Rattle.g_count.proofs.lemmas.Groups.{from_index, items_behind_weight}
+use Rattle.g_count.proofs.lemmas.Groups.{from_index, items_after_weight}
 use Rattle.g_count.proofs.lemmas.Steps.{taken_weight, take_rest, straight_step, straight_declared}
 use Rattle.g_count.proofs.straight.+straight_values.Goals.{in-Statement+else-ended, in-Variable+else-not-push}
 use Rattle.g_count.proofs.straight.+straight_values.Goals as goal
@@ -13,7 +13,7 @@ pub straight_values-rest-requires : goal.straight_values-rest-requires
 straight_values-rest-requires t c =
     let k = c.loop-i.i + 1 in
     let less : items_weight (items_of (take (length c.args.items.now - k) (drop k c.args.items.now))) < t =
-    omega (arith, taken_weight (drop k c.args.items.now) (length c.args.items.now - k), items_behind_weight c.args.items.now c.loop-i.i c.loop-i-test.true, c.decreases) in
+    omega (arith, taken_weight (drop k c.args.items.now) (length c.args.items.now - k), items_after_weight c.args.items.now c.loop-i.i c.loop-i-test.true, c.decreases) in
     (less, tt)
 
 pub returns-then-not-push : goal.returns-then-not-push
@@ -45,19 +45,22 @@ loop-i-preserved t c =
     let rest = items_of (drop (c.loop-i.i + 1) xs) in
     let all = saturated (straight_values c.args.variables.now c.args.carried c.inside-inner.result.objects (items_of xs)) in
     elim c.match-items-i.branch [
-      in-Statement+else-ended w ↦
-        let here : items_of (drop c.loop-i.i xs) ≡ stmt_then w.in-Statement.a rest = ap items_of from ∙ ap (λ y. items_of (y ∷ drop (c.loop-i.i + 1) xs)) w.in-Statement.is in
-        (straight_step c.args.variables.now c.loop-i.carried c.match-items-i.carried c.loop-i.inner.objects c.match-items-i.inner.objects w.in-Statement.a rest (items_of (drop c.loop-i.i xs))
-         w.items_follow-follows.result c.loop-i.total w.statement_values-ended.result.values c.match-items-i.total all here w.carried-is (ap (λ i. i.objects) w.inner-is)
-         w.items_follow-follows.ensures (sym w.statement_values-ended.ensures.ends ∙ w.if-ended.false) c.loop-i.invariant.0 w.statement_values-ended.ensures.values
-         (w.total-is ∙ w.saturating_add-total.ensures),
-         omega (arith, w.total-is, w.saturating_add-total.ensures))
-    | in-Variable+else-not-push w ↦
-        let d = declaration_of w.in-Variable.d in
-        let b = w.declared_object-is_object.result in
-        let here : items_of (drop c.loop-i.i xs) ≡ declare_then d rest = ap items_of from ∙ ap (λ y. items_of (y ∷ drop (c.loop-i.i + 1) xs)) w.in-Variable.is in
-        let inner : c.match-items-i.inner.objects ≡ c.loop-i.inner.objects ++ b ∷ [] = ap (λ i. i.objects) w.inner-is ∙ w.if-not-push.ensures in
-        (straight_declared c.args.variables.now c.loop-i.carried c.match-items-i.carried c.loop-i.inner.objects c.match-items-i.inner.objects d rest (items_of (drop c.loop-i.i xs)) b
-         c.loop-i.total w.declared_values.result c.match-items-i.total all here w.declared_object-is_object.ensures (w.carried-is ∙ w.more_carried-carried.ensures) inner
-         c.loop-i.invariant.0 w.declared_values.ensures (w.total-is ∙ w.saturating_add-total-in-Variable.ensures),
-         omega (arith, w.total-is, w.saturating_add-total-in-Variable.ensures)) ]
+      | in-Statement+else-ended w ↦
+          let here : items_of (drop c.loop-i.i xs) ≡ stmt_then w.in-Statement.a rest = ap items_of from ∙ ap (λ y. items_of (y ∷ drop (c.loop-i.i + 1) xs)) w.in-Statement.is in (
+            straight_step c.args.variables.now c.loop-i.carried c.match-items-i.carried c.loop-i.inner.objects c.match-items-i.inner.objects w.in-Statement.a rest (items_of (drop c.loop-i.i xs))
+                w.items_follow-follows.result c.loop-i.total w.statement_values-ended.result.values c.match-items-i.total all here w.carried-is (ap (λ i. i.objects) w.inner-is)
+                w.items_follow-follows.ensures (sym w.statement_values-ended.ensures.ends ∙ w.if-ended.false) c.loop-i.invariant.0 w.statement_values-ended.ensures.values
+                (w.total-is ∙ w.saturating_add-total.ensures),
+            omega (arith, w.total-is, w.saturating_add-total.ensures),
+          )
+      | in-Variable+else-not-push w ↦
+          let d = declaration_of w.in-Variable.d in
+          let b = w.declared_object-is_object.result in
+          let here : items_of (drop c.loop-i.i xs) ≡ declare_then d rest = ap items_of from ∙ ap (λ y. items_of (y ∷ drop (c.loop-i.i + 1) xs)) w.in-Variable.is in
+          let inner : c.match-items-i.inner.objects ≡ c.loop-i.inner.objects ++ b ∷ [] = ap (λ i. i.objects) w.inner-is ∙ w.if-not-push.ensures in (
+            straight_declared c.args.variables.now c.loop-i.carried c.match-items-i.carried c.loop-i.inner.objects c.match-items-i.inner.objects d rest (items_of (drop c.loop-i.i xs)) b
+                c.loop-i.total w.declared_values.result c.match-items-i.total all here w.declared_object-is_object.ensures (w.carried-is ∙ w.more_carried-carried.ensures) inner
+                c.loop-i.invariant.0 w.declared_values.ensures (w.total-is ∙ w.saturating_add-total-in-Variable.ensures),
+            omega (arith, w.total-is, w.saturating_add-total-in-Variable.ensures),
+          )
+    ]

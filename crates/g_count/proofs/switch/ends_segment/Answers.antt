@@ -1,4 +1,4 @@
-use Rattle.std.proofs.Common.{◌≡◌, ◌+◌, ◌<◌, length, ap, ◌∙◌, sym, get_or, arith}
+use Rattle.std.proofs.Common.{◌≡◌, ◌+◌, ◌<◌, length, ap, ◌∙◌, sym, arith}
 use Rattle.c_typed.specs.StmtViews.{items_of}
 use Rattle.g_construct.specs.Switch.{ends_with_jump}
 use Rattle.g_count.proofs.lemmas.Groups.{ends_at_last, ends_inside}

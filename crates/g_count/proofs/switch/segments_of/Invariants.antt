@@ -1,4 +1,4 @@
-use Rattle.std.proofs.Common.{◌≡◌, ◌+◌, ◌<◌, ◌≤◌, ◌^◌, drop, length}
+use Rattle.std.proofs.Common.{◌≡◌, ◌+◌, ◌<◌, ◌≤◌, ◌^◌, drop}
 use Rattle.std.specs.Prelude.{◌||◌}
 use Rattle.g_graph.specs.Count.{saturated}
 use Rattle.c_typed.specs.StmtViews.{groups_of}
