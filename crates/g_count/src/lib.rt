@@ -1,0 +1,17 @@
+//! How many values the graph of a function has, counted before it is made. It stands on the
+//! definition of construction, and takes no memory.
+#![tactic(auto)]
+
+mod declaration;
+mod exits;
+mod expression;
+mod function;
+mod jumps;
+mod loops;
+mod operations;
+mod scope;
+mod statement;
+mod straight;
+mod switch;
+
+pub use function::count;
