@@ -1,6 +1,6 @@
 -- How well formed regions are put together: a node after those that stand already, a region around its nodes. What is
 -- known at a point of a region grows with each node, so nothing is asked of the nodes before it as a list.
-use Rattle.std.specs.Prelude.{◌≡◌, ℕ, suc, ◌≤◌, ◌==◌, true, List, [], ◌∷◌, length, map, if◌then◌else◌, slice_get, Option, None, Some}
+use Rattle.std.specs.Prelude.{◌≡◌, ◌⊎◌, ℕ, suc, ◌≤◌, ◌==◌, true, List, [], ◌∷◌, length, map, if◌then◌else◌, slice_get, Option, None, Some}
 use Rattle.g_graph.specs.declared.op.Kind.{Kind}
 use Rattle.g_graph.specs.declared.op.Kind.TheVariants.{Value, Memory, Io}
 use Rattle.g_graph.specs.declared.op.Origin.{Origin}
@@ -69,6 +69,14 @@ pub record FormsNode (c : Standing) (op : Op) (id : ℕ) (inputs : List Origin) 
   pub gives : outputs ≡ op_outputs op
   pub rises : next ≡ suc id
 
+-- numbers from `low` on and before `high`, and those from `from` on and before `to`, lie within bounds and are apart
+pub record AreApart (first low high from to next : ℕ) : Type 0 where
+  pub low_within : first ≤ low
+  pub high_within : high ≤ next
+  pub from_within : first ≤ from
+  pub to_within : to ≤ next
+  pub apart : (high ≤ from) ⊎ (to ≤ low)
+
 -- a Gamma has regions, and a Theta has one
 abbrev pub AreSome : RegionTrees → Type 0
 AreSome no_regions = ⊥
@@ -100,6 +108,8 @@ abbrev mutual
   pub RegionForms : (Op → ℕ → Type 0) → (first : ℕ) → (args results : List Kind) → RegionTree → (next : ℕ) → Type 0
   RegionForms allowed n args outs (region own nodes results) m = (own ≡ args) × NodesForm allowed (at_start n args) nodes (λ c. (c.next ≡ m) × HasAll c outs results)
 
+  -- The numbers of a region come before those of the regions that follow it, or after them.
   pub RegionsForm : (Op → ℕ → Type 0) → (first : ℕ) → (args results : List Kind) → RegionTrees → (next : ℕ) → Type 0
   RegionsForm allowed n args outs no_regions m = n ≤ m
-  RegionsForm allowed n args outs (region_then r rs) m = (k : ℕ) × RegionForms allowed n args outs r k × RegionsForm allowed k args outs rs m
+  RegionsForm allowed n args outs (region_then r rs) m =
+      (low : ℕ) × (high : ℕ) × (from : ℕ) × (to : ℕ) × RegionForms allowed low args outs r high × RegionsForm allowed from args outs rs to × AreApart n low high from to m

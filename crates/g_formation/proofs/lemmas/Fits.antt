@@ -114,25 +114,25 @@ gamma_regions : (allowed : Op → ℕ → Type 0) (n : ℕ) (args outs : List Ki
     all_regions (λ r. same (args_of r) args && are (result_kinds r) outs) rs ≡ true
 gamma_regions a n args outs no_regions m b h = refl
 gamma_regions a n args outs (region_then r rs) m b h =
-    let f = results_fit a n args outs r h.0 b h.1 in
-    λ i. ((ap (λ own. same own args) f.0 ∙ are_self args) i && f.1 i) && gamma_regions a h.0 args outs rs m b h.2 i
+    let f = results_fit a h.0 args outs r h.1 b h.4 in
+    λ i. ((ap (λ own. same own args) f.0 ∙ are_self args) i && f.1 i) && gamma_regions a h.2 args outs rs h.3 b h.5 i
 
 first_args_are : (allowed : Op → ℕ → Type 0) (n : ℕ) (args outs : List Kind) (rs : RegionTrees) (m : ℕ) → AreSome rs → RegionsForm allowed n args outs rs m → first_args rs ≡ args
 first_args_are a n args outs no_regions m s h = absurd s
-first_args_are a n args outs (region_then (region own nodes results) rs) m s h = h.1.0
+first_args_are a n args outs (region_then (region own nodes results) rs) m s h = h.4.0
 
 theta_regions : (allowed : Op → ℕ → Type 0) (n : ℕ) (ks : List Kind) (rs : RegionTrees) (m : ℕ) → HasBothStates ks → RegionsForm allowed n ks (Value ∷ ks) rs m →
     all_regions (λ r. are (result_kinds r) (Value ∷ args_of r)) rs ≡ true
 theta_regions a n ks no_regions m b h = refl
 theta_regions a n ks (region_then r rs) m b h =
-    let f = results_fit a n ks (Value ∷ ks) r h.0 b h.1 in
-    λ i. (ap (λ own. are (result_kinds r) (Value ∷ own)) f.0 ∙ f.1) i && theta_regions a h.0 ks rs m b h.2 i
+    let f = results_fit a h.0 ks (Value ∷ ks) r h.1 b h.4 in
+    λ i. (ap (λ own. are (result_kinds r) (Value ∷ own)) f.0 ∙ f.1) i && theta_regions a h.2 ks rs h.3 b h.5 i
 
 theta_states : (allowed : Op → ℕ → Type 0) (n : ℕ) (ks outs : List Kind) (rs : RegionTrees) (m : ℕ) → HasBothStates ks → RegionsForm allowed n ks outs rs m →
     all_regions (λ r. some_of (same_kind Memory) (args_of r) && some_of (same_kind Io) (args_of r)) rs ≡ true
 theta_states a n ks outs no_regions m b h = refl
 theta_states a n ks outs (region_then (region own nodes results) rs) m b h =
-    λ i. ((ap (some_of (same_kind Memory)) h.1.0 ∙ b.memory) i && (ap (some_of (same_kind Io)) h.1.0 ∙ b.io) i) && theta_states a h.0 ks outs rs m b h.2 i
+    λ i. ((ap (some_of (same_kind Memory)) h.4.0 ∙ b.memory) i && (ap (some_of (same_kind Io)) h.4.0 ∙ b.io) i) && theta_states a h.2 ks outs rs h.3 b h.5 i
 
 some_regions : (id : ℕ) (inputs : List Origin) (rs : RegionTrees) → AreSome rs → has_its_regions (node id Gamma inputs rs) ≡ true
 some_regions id inputs no_regions s = absurd s
@@ -256,4 +256,4 @@ mutual
       RegionsForm allowed n args outs rs m → every_in_regions (region_fits objects) rs ≡ true
   regions_tests a objects n args outs no_regions m allows b s h = refl
   regions_tests a objects n args outs (region_then r rs) m allows b s h =
-      λ i. region_tests a objects n args outs r h.0 allows b s h.1 i && regions_tests a objects h.0 args outs rs m allows b s h.2 i
+      λ i. region_tests a objects h.0 args outs r h.1 allows b s h.4 i && regions_tests a objects h.2 args outs rs h.3 allows b s h.5 i

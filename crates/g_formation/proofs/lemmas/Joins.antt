@@ -40,7 +40,7 @@ mutual
 
   pub regions_rise : (allowed : Op → ℕ → Type 0) (n : ℕ) (args outs : List Kind) (rs : RegionTrees) (m : ℕ) → RegionsForm allowed n args outs rs m → n ≤ m
   regions_rise a n args outs no_regions m h = h
-  regions_rise a n args outs (region_then r rs) m h = omega (arith, region_rises a n args outs r h.0 h.1, regions_rise a h.0 args outs rs m h.2)
+  regions_rise a n args outs (region_then r rs) m h = omega (arith, region_rises a h.0 args outs r h.1 h.4, h.6.low_within, h.6.high_within)
 
 -- where nodes lead
 pub record LeadsTo (c : Standing) (P : Standing → Type 0) : Type 0 where

@@ -30,7 +30,7 @@ mutual
 
   regions_ops : (p q : Op → ℕ → Type 0) → ((op : Op) (n : ℕ) → p op n → q op n) → (n : ℕ) (args outs : List Kind) (rs : RegionTrees) (m : ℕ) → RegionsForm p n args outs rs m → RegionsOps q rs
   regions_ops p q f n args outs no_regions m h = tt
-  regions_ops p q f n args outs (region_then r rs) m h = (region_ops p q f n args outs r h.0 h.1, regions_ops p q f h.0 args outs rs m h.2)
+  regions_ops p q f n args outs (region_then r rs) m h = (region_ops p q f h.0 args outs r h.1 h.4, regions_ops p q f h.2 args outs rs h.3 h.5)
 
 -- ---- ops that fit
 

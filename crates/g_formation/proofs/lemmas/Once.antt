@@ -1,5 +1,5 @@
 -- The numbers of the nodes that are put together: each stands once, within its bounds.
-use Rattle.std.proofs.Common.{◌≡◌, ◌≤◌, ◌<◌, ◌+◌, ℕ, zero, suc, Bool, true, false, List, [], ◌∷◌, ◌++◌, refl, sym, ap, ◌∙◌, arith, subst}
+use Rattle.std.proofs.Common.{◌≡◌, ◌⊎◌, inl, inr, ◌≤◌, ◌<◌, ◌+◌, ℕ, zero, suc, Bool, true, false, List, [], ◌∷◌, ◌++◌, refl, sym, ap, ◌∙◌, arith, subst}
 use Rattle.std.specs.Prelude.{◌==◌, ◌&&◌, nat_lt, if◌then◌else◌}
 use Rattle.std.proofs.lemmas.Bool.Decides.{nat_tests}
 use Rattle.g_graph.specs.declared.op.Kind.{Kind}
@@ -12,7 +12,7 @@ use Rattle.g_graph.specs.Ids.{region_ids, node_ids, nodes_ids, regions_ids}
 use Rattle.g_graph.specs.WellFormed.{all_of, distinct}
 use Rattle.g_graph.proofs.lemmas.Unique.{times, times_append, times_cons, distinct_of_counts}
 use Rattle.g_graph.proofs.lemmas.Indexes.{same_number_true}
-use Rattle.g_formation.specs.Formation.{Standing, at_start, after_node, NodeForms, NodesForm, RegionForms, RegionsForm}
+use Rattle.g_formation.specs.Formation.{AreApart, Standing, at_start, after_node, NodeForms, NodesForm, RegionForms, RegionsForm}
 use Rattle.g_formation.proofs.lemmas.Joins.{Ends, node_rises, nodes_rise, region_rises, regions_rise}
 
 -- each number stands once at most, from the first on and before the other
@@ -24,30 +24,30 @@ pub record Once (first : ℕ) (ns : List ℕ) (next : ℕ) : Type 0 where
 once_none : (lo hi : ℕ) → Once lo [] hi
 once_none lo hi = record { once = λ n. omega arith; low = λ n h. absurd (omega (arith, h)); high = λ n h. absurd (omega (arith, h)) }
 
--- numbers of two lists, where those of the second come after those of the first
-once_append : (lo mid hi : ℕ) (xs ys : List ℕ) → lo ≤ mid → mid ≤ hi → Once lo xs mid → Once mid ys hi → Once lo (xs ++ ys) hi
-once_append lo mid hi xs ys l m a b = record {
-  once = λ n. apart n (times n xs) (times n ys) (times_append n xs ys) (a.once n) (b.once n) (a.high n) (b.low n);
-  low = λ n h. low_of n (times n xs) (times n ys) (times_append n xs ys) h (a.low n) (b.low n);
-  high = λ n h. high_of n (times n xs) (times n ys) (times_append n xs ys) h (a.high n) (b.high n);
+-- numbers of two lists that lie apart
+once_apart : (first low high from to next : ℕ) (xs ys : List ℕ) → AreApart first low high from to next → Once low xs high → Once from ys to → Once first (xs ++ ys) next
+once_apart first low high from to next xs ys w a b = record {
+  once = λ n. one n (times n xs) (times n ys) (times_append n xs ys) (a.once n) (b.once n) (λ j k. never n w.apart (a.low n j) (a.high n j) (b.low n k) (b.high n k));
+  low = λ n h. either n (times n xs) (times n ys) (times_append n xs ys) h (λ j. omega (arith, w.low_within, a.low n j)) (λ k. omega (arith, w.from_within, b.low n k));
+  high = λ n h. either n (times n xs) (times n ys) (times_append n xs ys) h (λ j. omega (arith, w.high_within, a.high n j)) (λ k. omega (arith, w.to_within, b.high n k));
 }
   where
-    apart : (n j k : ℕ) → times n (xs ++ ys) ≡ j + k → j ≤ 1 → k ≤ 1 → (1 ≤ j → n < mid) → (1 ≤ k → mid ≤ n) → times n (xs ++ ys) ≤ 1
-    apart n zero k e c d f g = omega (arith, e, d)
-    apart n (suc j) zero e c d f g = omega (arith, e, c)
-    apart n (suc j) (suc k) e c d f g = absurd (omega (arith, f (omega arith), g (omega arith)))
+    never : (n : ℕ) → (high ≤ from) ⊎ (to ≤ low) → low ≤ n → n < high → from ≤ n → n < to → ⊥
+    never n (inl h) c d e f = omega (arith, h, d, e)
+    never n (inr h) c d e f = omega (arith, h, c, f)
 
-    low_of : (n j k : ℕ) → times n (xs ++ ys) ≡ j + k → 1 ≤ times n (xs ++ ys) → (1 ≤ j → lo ≤ n) → (1 ≤ k → mid ≤ n) → lo ≤ n
-    low_of n zero k e h f g = omega (arith, l, g (omega (arith, e, h)))
-    low_of n (suc j) k e h f g = f (omega arith)
+    one : (n j k : ℕ) → times n (xs ++ ys) ≡ j + k → j ≤ 1 → k ≤ 1 → (1 ≤ j → 1 ≤ k → ⊥) → times n (xs ++ ys) ≤ 1
+    one n zero k e c d f = omega (arith, e, d)
+    one n (suc j) zero e c d f = omega (arith, e, c)
+    one n (suc j) (suc k) e c d f = absurd (f (omega arith) (omega arith))
 
-    high_of : (n j k : ℕ) → times n (xs ++ ys) ≡ j + k → 1 ≤ times n (xs ++ ys) → (1 ≤ j → n < mid) → (1 ≤ k → n < hi) → n < hi
-    high_of n zero k e h f g = g (omega (arith, e, h))
-    high_of n (suc j) k e h f g = omega (arith, m, f (omega arith))
+    either : {P : Type 0} → (n j k : ℕ) → times n (xs ++ ys) ≡ j + k → 1 ≤ times n (xs ++ ys) → (1 ≤ j → P) → (1 ≤ k → P) → P
+    either n zero k e h f g = g (omega (arith, e, h))
+    either n (suc j) k e h f g = f (omega arith)
 
 -- one number before those of a list
 once_first : (lo id hi : ℕ) (ns : List ℕ) → lo ≤ id → suc id ≤ hi → Once (suc id) ns hi → Once lo (id ∷ ns) hi
-once_first lo id hi ns l m a = once_append lo (suc id) hi (id ∷ []) ns (omega (arith, l)) m own a
+once_first lo id hi ns l m a = once_apart lo lo (suc id) (suc id) hi hi (id ∷ []) ns apart own a
   where
     same : (n : ℕ) → times n (id ∷ []) ≡ (if id == n then 1 else 0)
     same n = times_cons n id [] ∙ omega arith
@@ -60,6 +60,9 @@ once_first lo id hi ns l m a = once_append lo (suc id) hi (id ∷ []) ns (omega 
     by_test n false e =
         let none = same n ∙ ap (λ t. if t then 1 else 0) e in
         (omega (arith, none), λ h. absurd (omega (arith, none, h)), λ h. absurd (omega (arith, none, h)))
+
+    apart : AreApart lo lo (suc id) (suc id) hi hi
+    apart = record { low_within = omega arith; high_within = m; from_within = omega (arith, l); to_within = omega arith; apart = inl (omega arith) }
 
     own : Once lo (id ∷ []) (suc id)
     own = record { once = λ n. (by_test n (id == n) refl).0; low = λ n. (by_test n (id == n) refl).1; high = λ n. (by_test n (id == n) refl).2 }
@@ -76,7 +79,14 @@ mutual
   nodes_once : (allowed : Op → ℕ → Type 0) (c : Standing) (ns : NodeTrees) (m : ℕ) (outs : List Kind) (results : List Origin) → NodesForm allowed c ns (Ends m outs results) → Once c.next (nodes_ids ns) m
   nodes_once a c no_nodes m outs results h = once_none c.next m
   nodes_once a c (node_then x ns) m outs results h =
-      once_append c.next h.1 m (node_ids x) (nodes_ids ns) (omega (arith, node_rises a c x h.0 h.1 h.2)) (nodes_rise a (after_node c (id_of x) h.0 h.1) ns m outs results h.3)
+      once_apart c.next c.next h.1 h.1 m m (node_ids x) (nodes_ids ns)
+      (record {
+        low_within = omega arith;
+        high_within = nodes_rise a (after_node c (id_of x) h.0 h.1) ns m outs results h.3;
+        from_within = omega (arith, node_rises a c x h.0 h.1 h.2);
+        to_within = omega arith;
+        apart = inl (omega arith);
+      })
       (node_once a c x h.0 h.1 h.2) (nodes_once a (after_node c (id_of x) h.0 h.1) ns m outs results h.3)
 
   pub region_once : (allowed : Op → ℕ → Type 0) (n : ℕ) (args outs : List Kind) (r : RegionTree) (m : ℕ) → RegionForms allowed n args outs r m → Once n (region_ids r) m
@@ -85,8 +95,7 @@ mutual
   regions_once : (allowed : Op → ℕ → Type 0) (n : ℕ) (args outs : List Kind) (rs : RegionTrees) (m : ℕ) → RegionsForm allowed n args outs rs m → Once n (regions_ids rs) m
   regions_once a n args outs no_regions m h = once_none n m
   regions_once a n args outs (region_then r rs) m h =
-      once_append n h.0 m (region_ids r) (regions_ids rs) (region_rises a n args outs r h.0 h.1) (regions_rise a h.0 args outs rs m h.2)
-      (region_once a n args outs r h.0 h.1) (regions_once a h.0 args outs rs m h.2)
+      once_apart n h.0 h.1 h.2 h.3 m (region_ids r) (regions_ids rs) h.6 (region_once a h.0 args outs r h.1 h.4) (regions_once a h.2 args outs rs h.3 h.5)
 
 -- ---- the test of a lambda
 

@@ -41,11 +41,11 @@ mutual
   first_results : (allowed : Op → ℕ → Type 0) (n : ℕ) (args outs : List Kind) (rs : RegionTrees) (m : ℕ) → HasBothStates args → AreSome rs → RegionsForm allowed n args outs rs m →
       outputs_of Gamma rs ≡ map Some outs
   first_results a n args outs no_regions m b s h = absurd s
-  first_results a n args outs (region_then r rs) m b s h = results_are a n args outs r h.0 b h.1
+  first_results a n args outs (region_then r rs) m b s h = results_are a h.0 args outs r h.1 b h.4
 
   loop_outputs : (allowed : Op → ℕ → Type 0) (n : ℕ) (ks : List Kind) (rs : RegionTrees) (m : ℕ) → IsOne rs → RegionsForm allowed n ks (Value ∷ ks) rs m → outputs_of Theta rs ≡ map Some ks
   loop_outputs a n ks no_regions m s h = absurd s
-  loop_outputs a n ks (region_then (region own nodes results) no_regions) m s h = ap (map Some) h.1.0
+  loop_outputs a n ks (region_then (region own nodes results) no_regions) m s h = ap (map Some) h.4.0
   loop_outputs a n ks (region_then r (region_then q rs)) m s h = absurd s
 
   pub nodes_lead : (allowed : Op → ℕ → Type 0) (args : List Kind) (before : List NodeTree) (c : Standing) (ns : NodeTrees) (m : ℕ) (outs : List Kind) (results : List Origin) →
