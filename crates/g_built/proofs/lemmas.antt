@@ -1,3 +1,4 @@
 pub mod Stands
 pub mod Parts
 pub mod Operations
+pub mod Places
