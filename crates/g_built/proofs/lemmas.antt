@@ -5,3 +5,4 @@ pub mod Places
 pub mod Expressions
 pub mod Exits
 pub mod Jumps
+pub mod Switches
