@@ -6,3 +6,5 @@ pub mod Expressions
 pub mod Exits
 pub mod Jumps
 pub mod Switches
+pub mod Declarations
+pub mod Statements
