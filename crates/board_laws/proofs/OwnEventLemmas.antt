@@ -3,14 +3,12 @@ use Rattle.std.proofs.Common.{◌≡◌, ◌≢◌, ℕ, ◌<◌, ◌↔◌, ◌
 use Rattle.std.proofs.lemmas.List.{length-set, length-replicate, get_or_past, get_or-set_same, get_or-set_other, get_or-replicate}
 use Rattle.std.proofs.lemmas.Bool.{cases_lt, cases_eq, eq-eqb, ne_eqb}
 use Rattle.std.proofs.Math.Bool.{or-false}
+use Rattle.std.proofs.Math.Option.{some-injective}
 use Rattle.board_core.specs.declared.event.Event.{Event}
 use Rattle.board_core.specs.declared.event.Event.TheVariants.{Claim, Publish, Stop}
 use Rattle.board_core.specs.Board.{Job, Open, Held, Out, Program, State, job_at, released, MayHappen, after, start, replay_from, IsLegalFrom}
 use Rattle.board_laws.specs.OwnEvents.{worker_of, own_events, held_after, held_from, is_stop, has_stop, OwnEventsDecide, OwnStopsDecide, WorkersHoldOne}
 use Rattle.board_laws.proofs.BeginningLemmas.{job-released}
-
-some-number : (j k : ℕ) → Some j ≡ Some k → j ≡ k
-some-number j k e = cc
 
 or-moves : (a b c : Bool) → (a || b) || c ≡ b || (a || c)
 or-moves true true c = refl
@@ -145,7 +143,7 @@ module _ {M : Type 0} where
 
   pub workers-hold-one : WorkersHoldOne M
   workers-hold-one program events legal worker j k first second =
-      some-number j k (sym ((own-events-decide program events legal worker j).0 first) ∙ (own-events-decide program events legal worker k).0 second)
+      some-injective j k (sym ((own-events-decide program events legal worker j).0 first) ∙ (own-events-decide program events legal worker k).0 second)
 
   -- ---- stops
 
