@@ -1,6 +1,6 @@
 -- Which typed programs are well typed: the operands of each form have the types that it asks for (ISO/IEC 9899:2011, 6.5),
 -- names stand for what is in scope, jumps stand where they may (6.8.6), and initialisers fit what they begin (6.7.9).
-use Rattle.std.specs.Prelude.{◌≡◌, ◌≢◌, ℕ, suc, ◌+◌, ◌*◌, ◌^◌, ◌<◌, ◌≤◌, ◌⊎◌, Bool, true, false, List, [], ◌∷◌, ◌++◌, map, length, take, slice_get, Some}
+use Rattle.std.specs.Prelude.{◌≡◌, ◌≢◌, ℕ, suc, ◌+◌, ◌*◌, ◌^◌, ◌<◌, ◌≤◌, ◌⊎◌, Bool, true, false, List, [], ◌∷◌, ◌++◌, map, length, take, slice_get, Some, codes}
 use Rattle.val_core.specs.declared.leaf.Leaf.{Leaf}
 use Rattle.val_core.specs.declared.operation.Op2.{Op2}
 use Rattle.val_core.specs.declared.operation.Op2.TheVariants as op
@@ -379,10 +379,12 @@ pub record GlobalIsTyped (p : ProgramTree) (g : GlobalTree) : Type 0 where
   pub laid_out : IsLaidOut p.structs g.type
   pub written : WrittenFits (leaves p.structs g.type) (length p.globals) 0 g.written
 
--- `main` takes nothing and gives an `int` (5.1.2.2.1).
+-- One function is called `main`. It takes nothing and gives an `int` (5.1.2.2.1).
 pub record HasMain (p : ProgramTree) : Type 0 where
   pub function : FunctionTree
   pub there : slice_get p.functions p.main ≡ Some function
+  pub named : function.name ≡ codes "main"
+  pub alone : (k : ℕ) (f : FunctionTree) → slice_get p.functions k ≡ Some f → f.name ≡ codes "main" → k ≡ p.main
   pub gives : function.result ≡ int
   pub takes : function.params ≡ 0
 

@@ -5,16 +5,18 @@ use Rattle.std.specs.declared.option.Option.{Option}
 use Rattle.std.specs.declared.option.Option.TheVariants.{Some, None}
 use Rattle.val_core.specs.declared.leaf.Leaf.{Leaf}
 use Rattle.c_typed.specs.Typed.{ElementTrees, no_elements, value_then, characters_then, InitialTree, no_initial, initial_value, initial_elements, DeclarationTree, VariableTree}
-use Rattle.c_typed.specs.WellTyped.{Scope, extended, type_of, ElementsFit, InitialFits, initial_scope}
+use Rattle.c_type.specs.Trees.{TypeTree}
+use Rattle.c_typed.specs.WellTyped.{Scope, IsBegunAs, extended, type_of, ElementsFit, InitialFits, initial_scope}
 use Rattle.c_type.specs.Layout.{leaves, size}
 use Rattle.g_graph.specs.declared.op.Kind.TheVariants.{Value}
 use Rattle.g_graph.specs.declared.op.Origin.{Origin}
 use Rattle.g_graph.specs.WellFormed.{is_width}
 use Rattle.g_formation.specs.Formation.{Standing}
 use Rattle.g_construct.specs.Writer.{held, object, Point, pushed, popped, newest_set, Built, given, nothing, bind, dropped}
-use Rattle.g_construct.specs.Operations.{const_made, undef_made, local_made, store_made, clear_made, access_width, at_offset_made}
+use Rattle.g_construct.specs.Operations.{const_made, undef_made, local_made, store_made, clear_made, at_offset_made}
+use Rattle.c_typed.specs.Objects.{access_width, object_number}
 use Rattle.g_construct.specs.Expressions.{expr_made}
-use Rattle.g_construct.specs.Statements.{object_stored, element_stored, characters_made, elements_made, value_begun, object_begun, object_number, variable_begun, declared_as, declared_made}
+use Rattle.g_construct.specs.Statements.{object_stored, element_stored, characters_made, elements_made, value_begun, object_begun, variable_begun, declared_as, declared_made}
 use Rattle.g_built.proofs.lemmas.Stands.{Frame, Mark, a_value, an_object, with_mark, IsValue, Grown, NoValue, Stands, Done, Made}
 use Rattle.g_built.proofs.lemmas.Parts.{bind_made, then_made, nothing_made, dropped_made}
 use Rattle.g_built.proofs.lemmas.Operations.{const_ok, undef_ok, local_ok, store_ok, clear_ok, at_offset_ok, is_access_width}
@@ -83,9 +85,9 @@ scope_carried f k m q = record {
   variables = q.variables;
 }
 
-initial_fits : (names : Bool) (f : Frame) (k : Scope) (v : VariableTree) (m : Mark) → FitsScope f k → one_shown m ≡ 1 → FitsScope (with_mark f m) (initial_scope names k v)
-initial_fits true f k v m q e = scope_extended f k v m q e
-initial_fits false f k v m q e = scope_carried f k m q
+initial_fits : (names : Bool) (f : Frame) (k : Scope) (v : VariableTree) (t : TypeTree) (m : Mark) → FitsScope f k → one_shown m ≡ 1 → FitsScope (with_mark f m) (initial_scope names k v t)
+initial_fits true f k v t m q e = scope_extended f k (record v { type = t }) m q e
+initial_fits false f k v t m q e = scope_carried f k m q
 
 value_pushed : (f : Frame) (c : Standing) (s : Point) (v : Origin) → Stands f c s → IsValue c v → Made (with_mark f a_value) NoValue c (nothing (pushed (held v) s))
 value_pushed f c s v h x = nothing_made (with_mark f a_value) c (pushed (held v) s) (stands_pushed f c s a_value (held v) h x)
@@ -94,23 +96,23 @@ undef_pushed : (f : Frame) (c : Standing) (s : Point) → Stands f c s → Made 
 undef_pushed f c s h =
     let o = undef_made s in bind_made f (with_mark f a_value) IsValue NoValue c o (λ o t. nothing (pushed (held o) t)) refl (undef_ok f c s h) (λ d x. value_pushed f d o.after o.value x.stands x.value)
 
-value_begun_ok : (names : Bool) (f : Frame) (k : Scope) (v : VariableTree) (i : InitialTree) (c : Standing) (s : Point) → FitsScope f k → InitialFits (initial_scope names k v) v i → Stands f c s →
+value_begun_ok : (names : Bool) (f : Frame) (k : Scope) (v : VariableTree) (t : TypeTree) (i : InitialTree) (c : Standing) (s : Point) → FitsScope f k → InitialFits (initial_scope names k v t) v i → Stands f c s →
     Made (with_mark f a_value) NoValue c (value_begun names i s)
-value_begun_ok true f k v (initial_value e) c s q ty h =
+value_begun_ok true f k v begun (initial_value e) c s q ty h =
     let g = with_mark f a_value in
     let o = undef_made s in
     let b = expr_made e (pushed (held o.value) o.after) in
     bind_made f g IsValue NoValue c o (λ o t. bind (expr_made e (pushed (held o) t)) (λ v u. nothing (newest_set (held v) u))) refl (undef_ok f c s h) (λ d1 x1.
     bind_made g g IsValue NoValue d1 b (λ v u. nothing (newest_set (held v) u)) refl
-    (expr_ok g (extended k v) e d1 (pushed (held o.value) o.after) (scope_extended f k v a_value q refl) ty.0 (stands_pushed f d1 o.after a_value (held o.value) x1.stands x1.value)) (λ d2 x2.
+    (expr_ok g (extended k (record v { type = begun })) e d1 (pushed (held o.value) o.after) (scope_extended f k (record v { type = begun }) a_value q refl) ty.0 (stands_pushed f d1 o.after a_value (held o.value) x1.stands x1.value)) (λ d2 x2.
     value_pushed f d2 (popped b.after) b.value (stands_popped f d2 b.after a_value x2.stands) x2.value))
-value_begun_ok false f k v (initial_value e) c s q ty h =
+value_begun_ok false f k v begun (initial_value e) c s q ty h =
     let b = expr_made e s in
     bind_made f (with_mark f a_value) IsValue NoValue c b (λ v t. nothing (pushed (held v) t)) refl (expr_ok f k e c s q ty.0 h) (λ d x. value_pushed f d b.after b.value x.stands x.value)
-value_begun_ok true f k v no_initial c s q ty h = undef_pushed f c s h
-value_begun_ok true f k v (initial_elements es) c s q ty h = undef_pushed f c s h
-value_begun_ok false f k v no_initial c s q ty h = undef_pushed f c s h
-value_begun_ok false f k v (initial_elements es) c s q ty h = undef_pushed f c s h
+value_begun_ok true f k v begun no_initial c s q ty h = undef_pushed f c s h
+value_begun_ok true f k v begun (initial_elements es) c s q ty h = undef_pushed f c s h
+value_begun_ok false f k v begun no_initial c s q ty h = undef_pushed f c s h
+value_begun_ok false f k v begun (initial_elements es) c s q ty h = undef_pushed f c s h
 
 object_begun_ok : (f : Frame) (k : Scope) (v : VariableTree) (n : ℕ) (i : InitialTree) (c : Standing) (s : Point) → FitsScope f k → InitialFits k v i → n < f.objects → Stands f c s → Made f NoValue c (object_begun n i s)
 object_begun_ok f k v n no_initial c s q ty l h = nothing_made f c s h
@@ -132,19 +134,20 @@ pub mark_shown : (is_object : Bool) (k : ℕ) → one_shown (mark_by is_object k
 mark_shown true k = refl
 mark_shown false k = refl
 
-variable_begun_ok : (is_object : Bool) (f : Frame) (k : Scope) (v : VariableTree) (n : ℕ) (d : DeclarationTree) (c : Standing) (s : Point) → FitsScope f k → InitialFits (initial_scope d.names_itself k v) v d.initial →
+variable_begun_ok : (is_object : Bool) (f : Frame) (k : Scope) (v : VariableTree) (t : TypeTree) (n : ℕ) (d : DeclarationTree) (c : Standing) (s : Point) → FitsScope f k →
+    InitialFits (initial_scope d.names_itself k v t) v d.initial →
     (is_object ≡ true → n < f.objects) → Stands f c s → Made (with_mark f (mark_by is_object n)) NoValue c (variable_begun is_object n d s)
-variable_begun_ok false f k v n d c s q ty l h = value_begun_ok d.names_itself f k v d.initial c s q ty h
-variable_begun_ok true f k v n d c s q ty l h =
-    object_begun_ok (with_mark f (an_object n)) (initial_scope d.names_itself k v) v n d.initial c (pushed (object n) s) (initial_fits d.names_itself f k v (an_object n) q refl) ty (l refl)
+variable_begun_ok false f k v t n d c s q ty l h = value_begun_ok d.names_itself f k v t d.initial c s q ty h
+variable_begun_ok true f k v t n d c s q ty l h =
+    object_begun_ok (with_mark f (an_object n)) (initial_scope d.names_itself k v t) v n d.initial c (pushed (object n) s) (initial_fits d.names_itself f k v t (an_object n) q refl) ty (l refl)
     (stands_pushed f c s (an_object n) (object n) h (refl, l refl))
 
 -- the mark of a declared variable
 abbrev pub declared_mark : Scope → DeclarationTree → VariableTree → Mark
 declared_mark k d v = mark_by v.is_object (object_number k.variables d.variable)
 
-pub declared_ok : (f : Frame) (k : Scope) (v : VariableTree) (d : DeclarationTree) (c : Standing) (s : Point) → FitsScope f k → slice_get k.variables d.variable ≡ Some v →
-    InitialFits (initial_scope d.names_itself k v) v d.initial → Stands f c s → Made (with_mark f (declared_mark k d v)) NoValue c (declared_made k.variables d s)
-declared_ok f k v d c s q there ty h =
+pub declared_ok : (f : Frame) (k : Scope) (v : VariableTree) (t : TypeTree) (d : DeclarationTree) (c : Standing) (s : Point) → FitsScope f k → slice_get k.variables d.variable ≡ Some v →
+    InitialFits (initial_scope d.names_itself k v t) v d.initial → Stands f c s → Made (with_mark f (declared_mark k d v)) NoValue c (declared_made k.variables d s)
+declared_ok f k v t d c s q there ty h =
     subst (λ (x : Option VariableTree). Made (with_mark f (declared_mark k d v)) NoValue c (declared_as k.variables d x s)) (sym there)
-    (variable_begun_ok v.is_object f k v (object_number k.variables d.variable) d c s q ty (q.variables d.variable v there) h)
+    (variable_begun_ok v.is_object f k v t (object_number k.variables d.variable) d c s q ty (q.variables d.variable v there) h)

@@ -23,7 +23,7 @@ use Rattle.g_construct.specs.Writer.{Point, Built, given, nothing, bind, Extra, 
 use Rattle.g_construct.specs.Places.{Spot, spot_address, spot_read, spot_written, member_spot}
 use Rattle.g_construct.specs.Operations.{const_made, delta_made, bin_made, un_made, apply_made, put_made, is_not_zero_made, condition_made, converted_made}
 use Rattle.g_construct.specs.Expressions.{unary_made, binary_made, compound_made, step_op, stepped_made, conditional_extra, expr_made, form_made, tested, commas_made, arguments_made, place_made, place_form_made}
-use Rattle.g_construct.specs.Statements.{object_number}
+use Rattle.c_typed.specs.Objects.{object_number}
 use Rattle.g_built.proofs.lemmas.Stands.{Frame, Mark, IsValue, Grown, NoValue, Stands, Done, Made, MadeInside}
 use Rattle.g_built.proofs.lemmas.Parts.{then_made, given_made, nothing_made, one_value_fits, void_value_fits, choice_made}
 use Rattle.g_built.proofs.lemmas.Operations.{const_ok, delta_ok, bin_ok, un_ok, put_ok, exit_ok, get_ok, AreValues, values_grown, apply_ok, converted_ok, is_not_zero_ok, not_ok, condition_ok, compared_ok, moved_ok, difference_ok, value_then}

@@ -10,6 +10,7 @@ use Rattle.c_type.specs.declared.scalar.Scalar.TheVariants.{Char, SignedChar, Un
 use Rattle.c_type.specs.Trees.{TypeTree, void_type, scalar_type, pointer_to, array_of, struct_type}
 use Rattle.c_typed.specs.declared.operator.Relation.{Relation}
 use Rattle.c_typed.specs.declared.operator.Relation.TheVariants.{Less, Greater, LessEqual, GreaterEqual, Equal, NotEqual}
+use Rattle.c_typed.specs.Objects.{access_width}
 use Rattle.g_graph.specs.declared.op.Kind.{Kind}
 use Rattle.g_graph.specs.declared.op.Kind.TheVariants.{Value, Memory, Io}
 use Rattle.g_graph.specs.declared.op.Origin.{Origin}
@@ -22,7 +23,7 @@ use Rattle.g_graph.specs.Lists.{HasCallee}
 use Rattle.g_graph.specs.WellFormed.{is_width}
 use Rattle.g_formation.specs.Formation.{Standing, after_node, Has, HasAll}
 use Rattle.g_construct.specs.Writer.{Point, Built, given, bind}
-use Rattle.g_construct.specs.Operations.{const_made, undef_made, local_made, delta_made, bin_made, un_made, load_made, ptr_eq_made, store_made, clear_made, apply_made, put_made, exit_made, get_made, access_width, converted_made, extended_made, read_made, is_zero_made, is_not_zero_made, is_null_made, not_made, condition_made, less_op, equal_made, not_equal_made, compared_made, moved_made, difference_made, at_offset_made}
+use Rattle.g_construct.specs.Operations.{const_made, undef_made, local_made, delta_made, bin_made, un_made, load_made, ptr_eq_made, store_made, clear_made, apply_made, put_made, exit_made, get_made, converted_made, extended_made, read_made, is_zero_made, is_not_zero_made, is_null_made, not_made, condition_made, less_op, equal_made, not_equal_made, compared_made, moved_made, difference_made, at_offset_made}
 use Rattle.g_built.proofs.lemmas.Stands.{Frame, IsValue, Grown, NoValue, Stands, Done, Made, kind_new, has_append}
 use Rattle.g_built.proofs.lemmas.Parts.{then_made, given_made, node_made, value_made}
 

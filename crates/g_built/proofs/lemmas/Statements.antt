@@ -94,7 +94,7 @@ mutual
       let g = with_mark f (declared_mark k d ty.0) in
       let b = declared_made k.variables d s in
       let r = items_made k.variables is b.after in
-      bind_made g f NoValue NoValue c b (λ _ t. bind (items_made k.variables is t) (λ _ u. nothing (popped u))) refl (declared_ok f k ty.0 d c s q ty.1 ty.2 h) (λ d1 x1.
+      bind_made g f NoValue NoValue c b (λ _ t. bind (items_made k.variables is t) (λ _ u. nothing (popped u))) refl (declared_ok f k ty.0 ty.2.0 d c s q ty.1 ty.2.2 h) (λ d1 x1.
       bind_made g f NoValue NoValue d1 r (λ _ u. nothing (popped u)) refl
       (items_ok g (extended k ty.0) j is d1 b.after (scope_extended f k ty.0 (declared_mark k d ty.0) q (mark_shown ty.0.is_object _)) ty.3 m x1.stands) (λ d2 x2.
       nothing_made f d2 (popped r.after) (stands_popped f d2 r.after (declared_mark k d ty.0) x2.stands)))
