@@ -8,3 +8,4 @@ pub mod Jumps
 pub mod Switches
 pub mod Declarations
 pub mod Statements
+pub mod Bodies

@@ -10,11 +10,11 @@ abbrev pub MayJump : Form → Bool → Type 0
 MayJump straight b = b ≡ false
 MayJump jumping b = Unit {0}
 
-neither_left : (a b : Bool) → (a || b) ≡ false → a ≡ false
+pub neither_left : (a b : Bool) → (a || b) ≡ false → a ≡ false
 neither_left true b e = e
 neither_left false b e = refl
 
-neither_right : (a b : Bool) → (a || b) ≡ false → b ≡ false
+pub neither_right : (a b : Bool) → (a || b) ≡ false → b ≡ false
 neither_right true b e = absurd (cc)
 neither_right false b e = e
 
