@@ -9,3 +9,4 @@ pub mod Switches
 pub mod Declarations
 pub mod Statements
 pub mod Bodies
+pub mod Starts

@@ -107,7 +107,7 @@ value_made f c s op inputs h plain outputs ok takes =
 
 -- ---- regions
 
-at_start_old : (n : ℕ) (args : List Kind) → IsOld (at_start n args)
+pub at_start_old : (n : ℕ) (args : List Kind) → IsOld (at_start n args)
 at_start_old n args (Arg k) j e = tt
 at_start_old n args (Out id p) j e = absurd (cc)
 
