@@ -10,3 +10,4 @@ pub mod Declarations
 pub mod Statements
 pub mod Bodies
 pub mod Starts
+pub mod Leaves

@@ -1,24 +1,22 @@
 -- The graphs of bodies.
-use Rattle.std.proofs.Common.{◌≡◌, ◌≤◌, ◌<◌, ℕ, ◌+◌, zero, suc, Bool, true, false, List, [], ◌∷◌, ◌++◌, length, replicate, refl, sym, ap, ◌∙◌, arith, subst}
-use Rattle.std.specs.Prelude.{not, ◌||◌, ◌&&◌, if◌then◌else◌, slice_get}
-use Rattle.std.specs.declared.option.Option.TheVariants.{Some}
-use Rattle.c_typed.specs.Typed.{StmtTree, null, value, block, if_else, loop, do_while, break, continue, return_value, return_none, switch, ItemTrees, no_items, stmt_then, declare_then, VariableTree, FunctionTree}
+use Rattle.std.proofs.Common.{◌≡◌, ◌<◌, ℕ, suc, Bool, true, false, List, [], ◌∷◌, refl, subst}
+use Rattle.std.specs.Prelude.{not, ◌&&◌, if◌then◌else◌}
+use Rattle.c_typed.specs.Typed.{StmtTree, return_value, return_none, ItemTrees, no_items, stmt_then, declare_then, VariableTree, FunctionTree}
 use Rattle.c_typed.specs.WellTyped.{Scope, Jumps, extended, params_of, StmtIsTyped, ItemsAreTyped}
 use Rattle.c_typed.specs.Objects.{access_width}
-use Rattle.g_graph.specs.declared.op.Kind.{Kind}
 use Rattle.g_graph.specs.declared.op.Kind.TheVariants.{Value, Memory, Io}
 use Rattle.g_graph.specs.declared.op.Origin.{Origin}
 use Rattle.g_graph.specs.declared.op.Origin.TheVariants.{Arg}
 use Rattle.g_graph.specs.Plain.{nodes_of}
-use Rattle.g_formation.specs.Formation.{Standing, last_origin, at_start, Has, NodesForm}
+use Rattle.g_formation.specs.Formation.{Standing, Has, NodesForm}
 use Rattle.g_formation.proofs.lemmas.Joins.{weaken, join}
-use Rattle.g_construct.specs.Writer.{SlotOrigin, held, object, hidden, Form, straight, jumping, Point, with_jumps, Built, given, nothing, bind}
+use Rattle.g_construct.specs.Writer.{Form, straight, jumping, Point, with_jumps, Built, given, nothing, bind}
 use Rattle.g_construct.specs.Operations.{const_made, undef_made}
 use Rattle.g_construct.specs.Expressions.{expr_made}
-use Rattle.g_construct.specs.Exits.{stmt_jumps, items_jump, is_return, some_items, body_jumps}
+use Rattle.g_construct.specs.Exits.{stmt_jumps, is_return, body_jumps}
 use Rattle.g_construct.specs.Statements.{object_stored, declared_made, stmt_made, items_made}
 use Rattle.g_construct.specs.Functions.{params_stored, start_of, end_value, jumps_begun, straight_then, straight_made, jumping_body, straight_body, body_built}
-use Rattle.g_built.proofs.lemmas.Stands.{Frame, Mark, allowed, with_mark, IsValue, Grown, NoValue, Stands, Done, Made}
+use Rattle.g_built.proofs.lemmas.Stands.{Frame, allowed, with_mark, IsValue, Grown, NoValue, Stands, Done, Made}
 use Rattle.g_built.proofs.lemmas.Parts.{bind_made, then_made, given_made, nothing_made}
 use Rattle.g_built.proofs.lemmas.Operations.{const_ok, undef_ok, is_access_width}
 use Rattle.g_built.proofs.lemmas.Expressions.{FitsScope, expr_ok}

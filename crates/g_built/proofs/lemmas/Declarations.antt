@@ -1,23 +1,23 @@
 -- The graphs of declarations.
-use Rattle.std.proofs.Common.{◌≡◌, ◌≤◌, ◌<◌, ℕ, ◌+◌, zero, suc, Bool, true, false, List, [], ◌∷◌, ◌++◌, length, refl, sym, ap, ◌∙◌, arith, subst}
+use Rattle.std.proofs.Common.{◌≡◌, ◌<◌, ℕ, ◌+◌, suc, Bool, true, false, List, [], ◌∷◌, ◌++◌, length, refl, sym, arith, subst}
 use Rattle.std.specs.Prelude.{slice_get}
 use Rattle.std.specs.declared.option.Option.{Option}
-use Rattle.std.specs.declared.option.Option.TheVariants.{Some, None}
+use Rattle.std.specs.declared.option.Option.TheVariants.{Some}
 use Rattle.val_core.specs.declared.leaf.Leaf.{Leaf}
 use Rattle.c_typed.specs.Typed.{ElementTrees, no_elements, value_then, characters_then, InitialTree, no_initial, initial_value, initial_elements, DeclarationTree, VariableTree}
 use Rattle.c_type.specs.Trees.{TypeTree}
-use Rattle.c_typed.specs.WellTyped.{Scope, IsBegunAs, extended, type_of, ElementsFit, InitialFits, initial_scope}
+use Rattle.c_typed.specs.WellTyped.{Scope, extended, type_of, ElementsFit, InitialFits, initial_scope}
 use Rattle.c_type.specs.Layout.{leaves, size}
 use Rattle.g_graph.specs.declared.op.Kind.TheVariants.{Value}
 use Rattle.g_graph.specs.declared.op.Origin.{Origin}
 use Rattle.g_graph.specs.WellFormed.{is_width}
 use Rattle.g_formation.specs.Formation.{Standing}
-use Rattle.g_construct.specs.Writer.{held, object, Point, pushed, popped, newest_set, Built, given, nothing, bind, dropped}
+use Rattle.g_construct.specs.Writer.{held, object, Point, pushed, popped, newest_set, nothing, bind, dropped}
 use Rattle.g_construct.specs.Operations.{const_made, undef_made, local_made, store_made, clear_made, at_offset_made}
 use Rattle.c_typed.specs.Objects.{access_width, object_number}
 use Rattle.g_construct.specs.Expressions.{expr_made}
 use Rattle.g_construct.specs.Statements.{object_stored, element_stored, characters_made, elements_made, value_begun, object_begun, variable_begun, declared_as, declared_made}
-use Rattle.g_built.proofs.lemmas.Stands.{Frame, Mark, a_value, an_object, with_mark, IsValue, Grown, NoValue, Stands, Done, Made}
+use Rattle.g_built.proofs.lemmas.Stands.{Frame, Mark, a_value, an_object, with_mark, IsValue, NoValue, Stands, Made}
 use Rattle.g_built.proofs.lemmas.Parts.{bind_made, then_made, nothing_made, dropped_made}
 use Rattle.g_built.proofs.lemmas.Operations.{const_ok, undef_ok, local_ok, store_ok, clear_ok, at_offset_ok, is_access_width}
 use Rattle.g_built.proofs.lemmas.Places.{one_shown, shown_pushed, stands_pushed, stands_popped}

@@ -1,11 +1,11 @@
 -- The graphs of expressions.
-use Rattle.std.proofs.Common.{◌≡◌, ◌≤◌, ◌<◌, ℕ, ◌+◌, zero, suc, Bool, true, false, List, [], ◌∷◌, length, map, refl, sym, ap, ◌∙◌, arith, subst}
+use Rattle.std.proofs.Common.{◌≡◌, ◌≤◌, ◌<◌, ℕ, ◌+◌, Bool, true, false, List, [], ◌∷◌, length, refl, sym, ap, ◌∙◌, arith, subst}
 use Rattle.std.specs.Prelude.{◌-◌, ◌^◌, slice_get, if◌then◌else◌}
 use Rattle.std.specs.declared.option.Option.TheVariants.{Some}
 use Rattle.std.proofs.lemmas.Option.{slice_get_within}
 use Rattle.val_core.specs.declared.operation.Op1.TheVariants.{Zext8}
 use Rattle.val_core.specs.declared.operation.Op2.TheVariants as op
-use Rattle.c_type.specs.Trees.{TypeTree, void_type, scalar_type, pointer_to, array_of, struct_type}
+use Rattle.c_type.specs.Trees.{TypeTree, void_type}
 use Rattle.c_typed.specs.declared.operator.UnaryOp.{UnaryOp}
 use Rattle.c_typed.specs.declared.operator.UnaryOp.TheVariants as unary_op
 use Rattle.c_typed.specs.declared.operator.BinaryOp.{BinaryOp}
@@ -13,20 +13,20 @@ use Rattle.c_typed.specs.declared.operator.BinaryOp.TheVariants as binary_op
 use Rattle.c_typed.specs.declared.operator.CompoundOp.{CompoundOp}
 use Rattle.c_typed.specs.declared.operator.CompoundOp.TheVariants as compound_op
 use Rattle.c_typed.specs.declared.operator.IncDec.{IncDec}
-use Rattle.c_typed.specs.Typed.{ExprTree, expr, FormTree, constant, read, address, unary, binary, logical_and, logical_or, conditional, comma, assign, compound, inc_dec, call, get, ExprTrees, no_exprs, expr_then, PlaceTree, place, PlaceFormTree, local, global, at, member, OptionalExpr, no_expr, some_expr, VariableTree}
-use Rattle.c_typed.specs.WellTyped.{Scope, Signature, Calls, type_of, types_of, ExprIsTyped, FormIsTyped, ExprsAreTyped, PlaceIsTyped, PlaceFormIsTyped}
+use Rattle.c_typed.specs.Typed.{ExprTree, expr, FormTree, constant, read, address, unary, binary, logical_and, logical_or, conditional, comma, assign, compound, inc_dec, call, get, ExprTrees, no_exprs, expr_then, PlaceTree, place, PlaceFormTree, local, global, at, member, VariableTree}
+use Rattle.c_typed.specs.WellTyped.{Scope, Signature, type_of, types_of, ExprIsTyped, FormIsTyped, ExprsAreTyped, PlaceIsTyped, PlaceFormIsTyped}
 use Rattle.g_graph.specs.declared.op.Kind.TheVariants.{Value}
 use Rattle.g_graph.specs.declared.op.Origin.{Origin}
 use Rattle.g_graph.specs.Lists.{HasCallee}
 use Rattle.g_formation.specs.Formation.{Standing}
-use Rattle.g_construct.specs.Writer.{Point, Built, given, nothing, bind, Extra, one_value, void_value, choice}
-use Rattle.g_construct.specs.Places.{Spot, spot_address, spot_read, spot_written, member_spot}
+use Rattle.g_construct.specs.Writer.{Point, Built, given, bind, one_value, void_value, choice}
+use Rattle.g_construct.specs.Places.{spot_address, spot_read, spot_written, member_spot}
 use Rattle.g_construct.specs.Operations.{const_made, delta_made, bin_made, un_made, apply_made, put_made, is_not_zero_made, condition_made, converted_made}
 use Rattle.g_construct.specs.Expressions.{unary_made, binary_made, compound_made, step_op, stepped_made, conditional_extra, expr_made, form_made, tested, commas_made, arguments_made, place_made, place_form_made}
 use Rattle.c_typed.specs.Objects.{object_number}
-use Rattle.g_built.proofs.lemmas.Stands.{Frame, Mark, IsValue, Grown, NoValue, Stands, Done, Made, MadeInside}
+use Rattle.g_built.proofs.lemmas.Stands.{Frame, IsValue, NoValue, Stands, Made, MadeInside}
 use Rattle.g_built.proofs.lemmas.Parts.{then_made, given_made, nothing_made, one_value_fits, void_value_fits, choice_made}
-use Rattle.g_built.proofs.lemmas.Operations.{const_ok, delta_ok, bin_ok, un_ok, put_ok, exit_ok, get_ok, AreValues, values_grown, apply_ok, converted_ok, is_not_zero_ok, not_ok, condition_ok, compared_ok, moved_ok, difference_ok, value_then}
+use Rattle.g_built.proofs.lemmas.Operations.{const_ok, delta_ok, bin_ok, un_ok, put_ok, exit_ok, get_ok, AreValues, apply_ok, converted_ok, is_not_zero_ok, not_ok, condition_ok, compared_ok, moved_ok, difference_ok, value_then}
 use Rattle.g_built.proofs.lemmas.Places.{shown, SpotFits, spot_grown, address_spot_ok, slot_spot_ok, member_spot_ok, spot_address_ok, spot_read_ok, spot_written_ok}
 
 -- a frame in which what a scope has is there

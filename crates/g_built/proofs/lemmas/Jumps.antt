@@ -1,17 +1,17 @@
 -- Jumps and loops.
-use Rattle.std.proofs.Common.{◌≡◌, ℕ, zero, suc, Bool, true, false, List, [], ◌∷◌, refl, sym, ap, ◌∙◌, subst}
+use Rattle.std.proofs.Common.{ℕ, Bool, true, false, [], ◌∷◌}
 use Rattle.val_core.specs.declared.operation.Op2.TheVariants as op
 use Rattle.c_typed.specs.Typed.{ExprTree, OptionalExpr, no_expr, some_expr}
-use Rattle.c_typed.specs.WellTyped.{Scope, ExprIsTyped, OptionalIsTyped, IsCondition, IsOptionalCondition}
+use Rattle.c_typed.specs.WellTyped.{Scope, OptionalIsTyped, IsCondition, IsOptionalCondition}
 use Rattle.g_graph.specs.declared.op.Kind.TheVariants.{Value}
 use Rattle.g_graph.specs.declared.op.Origin.{Origin}
 use Rattle.g_formation.specs.Formation.{Standing}
-use Rattle.g_construct.specs.Writer.{Form, straight, jumping, Point, with_go, with_go_and_ret, Built, given, nothing, bind, dropped, no_value, one_value, choice, repeat}
+use Rattle.g_construct.specs.Writer.{Form, straight, jumping, Point, with_go, with_go_and_ret, Built, nothing, bind, dropped, no_value, one_value, choice, repeat}
 use Rattle.g_construct.specs.Operations.{const_made, bin_made, is_zero_made}
 use Rattle.g_construct.specs.Expressions.{expr_made, tested}
 use Rattle.g_construct.specs.Jumps.{jump_made, return_made, jump_ended, break_ended, unless_left, optional_tested, step_made, again_made, turn_made, loop_made, do_again_made, do_made}
-use Rattle.g_built.proofs.lemmas.Stands.{Frame, IsValue, Grown, NoValue, JumpsFit, Stands, Done, Made, MadeInside}
-use Rattle.g_built.proofs.lemmas.Parts.{then_made, given_made, nothing_made, dropped_made, no_value_fits, one_value_fits, choice_made, repeat_made}
+use Rattle.g_built.proofs.lemmas.Stands.{Frame, IsValue, NoValue, JumpsFit, Stands, Made, MadeInside}
+use Rattle.g_built.proofs.lemmas.Parts.{then_made, nothing_made, dropped_made, no_value_fits, one_value_fits, choice_made, repeat_made}
 use Rattle.g_built.proofs.lemmas.Operations.{const_ok, bin_ok, is_zero_ok, value_then}
 use Rattle.g_built.proofs.lemmas.Expressions.{FitsScope, expr_ok, tested_ok}
 use Rattle.g_built.proofs.lemmas.Exits.{MayJump}

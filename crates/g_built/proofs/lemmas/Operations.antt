@@ -1,6 +1,5 @@
 -- The nodes of operations.
-use Rattle.std.proofs.Common.{◌≡◌, ◌≤◌, ◌<◌, ℕ, ◌+◌, ◌-◌, zero, suc, Bool, true, false, List, [], ◌∷◌, ◌++◌, length, replicate, refl, sym, ap, ◌∙◌, arith, subst}
-use Rattle.std.specs.declared.option.Option.TheVariants.{Some}
+use Rattle.std.proofs.Common.{◌≡◌, ◌<◌, ℕ, ◌+◌, ◌-◌, suc, true, List, [], ◌∷◌, ◌++◌, length, replicate, refl, sym, arith, subst}
 use Rattle.val_core.specs.declared.operation.Op1.{Op1}
 use Rattle.val_core.specs.declared.operation.Op1.TheVariants.{Sext8, Zext8, Sext16, Zext16}
 use Rattle.val_core.specs.declared.operation.Op2.{Op2}
@@ -11,17 +10,13 @@ use Rattle.c_type.specs.Trees.{TypeTree, void_type, scalar_type, pointer_to, arr
 use Rattle.c_typed.specs.declared.operator.Relation.{Relation}
 use Rattle.c_typed.specs.declared.operator.Relation.TheVariants.{Less, Greater, LessEqual, GreaterEqual, Equal, NotEqual}
 use Rattle.c_typed.specs.Objects.{access_width}
-use Rattle.g_graph.specs.declared.op.Kind.{Kind}
 use Rattle.g_graph.specs.declared.op.Kind.TheVariants.{Value, Memory, Io}
 use Rattle.g_graph.specs.declared.op.Origin.{Origin}
 use Rattle.g_graph.specs.declared.op.Origin.TheVariants.{Out}
-use Rattle.g_graph.specs.declared.op.Op.{Op}
 use Rattle.g_graph.specs.declared.op.Op.TheVariants.{Const, Undef, Local, Delta, Bin, Un, Load, Store, Clear, PtrEq, Apply, Put, Exit, Get}
-use Rattle.g_graph.specs.Plain.{no_regions}
-use Rattle.g_graph.specs.Signatures.{inputs_of}
 use Rattle.g_graph.specs.Lists.{HasCallee}
 use Rattle.g_graph.specs.WellFormed.{is_width}
-use Rattle.g_formation.specs.Formation.{Standing, after_node, Has, HasAll}
+use Rattle.g_formation.specs.Formation.{Standing, HasAll}
 use Rattle.g_construct.specs.Writer.{Point, Built, given, bind}
 use Rattle.g_construct.specs.Operations.{const_made, undef_made, local_made, delta_made, bin_made, un_made, load_made, ptr_eq_made, store_made, clear_made, apply_made, put_made, exit_made, get_made, converted_made, extended_made, read_made, is_zero_made, is_not_zero_made, is_null_made, not_made, condition_made, less_op, equal_made, not_equal_made, compared_made, moved_made, difference_made, at_offset_made}
 use Rattle.g_built.proofs.lemmas.Stands.{Frame, IsValue, Grown, NoValue, Stands, Done, Made, kind_new, has_append}

@@ -1,20 +1,20 @@
 -- Parts of a construction: one after another, a node, regions.
-use Rattle.std.proofs.Common.{◌≡◌, ◌≤◌, inl, inr, ℕ, zero, suc, Bool, true, false, List, [], ◌∷◌, ◌++◌, map, length, refl, sym, ap, ◌∙◌, arith, subst}
+use Rattle.std.proofs.Common.{◌≡◌, ◌≤◌, inl, inr, ℕ, suc, Bool, true, false, List, [], ◌∷◌, ◌++◌, map, length, refl, ap, ◌∙◌, arith, subst}
 use Rattle.std.specs.Prelude.{◌||◌, slice_get}
-use Rattle.std.specs.declared.option.Option.TheVariants.{Some, None}
+use Rattle.std.specs.declared.option.Option.TheVariants.{Some}
 use Rattle.g_graph.specs.declared.op.Kind.{Kind}
 use Rattle.g_graph.specs.declared.op.Kind.TheVariants.{Value, Memory, Io}
 use Rattle.g_graph.specs.declared.op.Origin.{Origin}
 use Rattle.g_graph.specs.declared.op.Origin.TheVariants.{Arg, Out}
 use Rattle.g_graph.specs.declared.op.Op.{Op}
 use Rattle.g_graph.specs.declared.op.Op.TheVariants.{Gamma, Theta}
-use Rattle.g_graph.specs.Plain.{RegionTree, region, NodeTree, node, no_nodes, node_then, nodes_of, no_regions, region_then, regions_of}
-use Rattle.g_graph.specs.Signatures.{kind_of, inputs_of, op_outputs}
+use Rattle.g_graph.specs.Plain.{node, nodes_of, no_regions, region_then, regions_of}
+use Rattle.g_graph.specs.Signatures.{inputs_of, op_outputs}
 use Rattle.g_graph.specs.Scope.{same_kind}
 use Rattle.g_graph.specs.WellFormed.{some_of, one_state_each}
-use Rattle.g_formation.specs.Formation.{Standing, last_origin, at_start, after_node, Has, HasAll, HasBothStates, AreApart, AreSome, NodeForms, NodesForm, RegionForms, RegionsForm}
+use Rattle.g_formation.specs.Formation.{Standing, last_origin, at_start, after_node, Has, HasAll, HasBothStates, AreSome, NodeForms, NodesForm, RegionForms, RegionsForm}
 use Rattle.g_formation.proofs.lemmas.Joins.{weaken, join, Ends, region_rises, regions_rise}
-use Rattle.g_construct.specs.Writer.{SlotOrigin, Form, straight, jumping, last_kinds, carried_kinds, carried_origins, renamed, Carried, Point, with_states, Built, given, nothing, bind, dropped, one_node, Extra, no_value, one_value, void_value, inside, region_made, Regions, regions_made, gamma, choices, choice, choice_one_first, exchanged, repeat}
+use Rattle.g_construct.specs.Writer.{Form, straight, jumping, last_kinds, carried_origins, renamed, Point, Built, given, nothing, bind, dropped, one_node, Extra, no_value, one_value, void_value, inside, region_made, Regions, regions_made, gamma, choices, choice, choice_one_first, repeat}
 use Rattle.g_construct.specs.Operations.{value_node}
 use Rattle.g_built.proofs.lemmas.Stands.{Frame, Mark, a_value, an_object, a_hidden, allowed, mark_kinds, frame_kinds, IsValue, IsOld, Grown, NoValue, Stands, Done, Made, MadeInside, slots_grown, jumps_grown, kind_new, after_grown, after_old, stands_renamed, has_append, carried_have, kinds_carried}
 
@@ -75,8 +75,7 @@ node_made f V c s op inputs v m i h plain ok takes gives =
     let low : c.next ≤ s.next = omega (arith, h.next) in
     let d = after_node c s.next (op_outputs op) (suc s.next) in
     let g = after_grown c s.next (op_outputs op) (suc s.next) h.old low in
-    let r = gives g in
-    (
+    let r = gives g in (
       op_outputs op,
       suc s.next,
       node_forms (allowed f) c op s.next inputs plain low ok takes,
@@ -191,12 +190,11 @@ pub region_forms : {A : Type 0} → (f : Frame) (V : Standing → A → Type 0) 
     RegionForms (allowed f) n (frame_kinds f) (extra ++ frame_kinds f) (region_made x s.carried (g (inside s.carried n))) (g (inside s.carried n)).after.next
 region_forms f V c s n x extra g h inner gives =
     let b = g (inside s.carried n) in
-    let start = at_start n (frame_kinds f) in
-    (
+    let start = at_start n (frame_kinds f) in (
       kinds_carried f c s h,
       weaken (allowed f) start (nodes_of b.nodes) (Done f V start b) (Ends b.after.next (extra ++ frame_kinds f) (x.results b.value ++ carried_origins b.after.carried))
-      (inner start (inside s.carried n) (stands_inside f c s n h))
-      (λ d e. (e.stands.next, has_append d extra (frame_kinds f) (x.results b.value) (carried_origins b.after.carried) (gives d b.value e.value) (carried_have f d b.after e.stands))),
+          (inner start (inside s.carried n) (stands_inside f c s n h))
+          (λ d e. (e.stands.next, has_append d extra (frame_kinds f) (x.results b.value) (carried_origins b.after.carried) (gives d b.value e.value) (carried_have f d b.after e.stands))),
     )
 
 abbrev pub AllInside : {A : Type 0} → Frame → (Standing → A → Type 0) → List (Point → Built A) → Type 0
@@ -211,9 +209,13 @@ regions_form f V c s n x extra (g ∷ gs) h inner gives =
     let b = g (inside s.carried n) in
     let own = region_forms f V c s n x extra g h inner.0 gives in
     let rest = regions_form f V c s b.after.next x extra gs h inner.1 gives in
-    let r = regions_made x s.carried b.after.next gs in
-    (
-      n, b.after.next, b.after.next, r.next, own, rest,
+    let r = regions_made x s.carried b.after.next gs in (
+      n,
+      b.after.next,
+      b.after.next,
+      r.next,
+      own,
+      rest,
       record {
         low_within = omega arith;
         high_within = regions_rise (allowed f) b.after.next (frame_kinds f) (extra ++ frame_kinds f) (regions_of r.regions) r.next rest;
@@ -229,19 +231,17 @@ after_stands : {A : Type 0} → (f : Frame) (V W : Standing → A → Type 0) (c
     × Stands f (after_node c s.next (extra ++ frame_kinds f) m) (record { next = m; carried = renamed s.carried (λ k. Out s.next (x.port k)) })
 after_stands f V W c s x extra m h fits rises =
     let ks = extra ++ frame_kinds f in
-    let low : c.next ≤ s.next = omega (arith, h.next) in
-    (
+    let low : c.next ≤ s.next = omega (arith, h.next) in (
       after_grown c s.next ks m h.old low,
       stands_renamed f c (after_node c s.next ks m) s m (λ k. Out s.next (x.port k)) c.memory c.io h refl (after_old c s.next ks m h.old low (omega (arith, rises)))
-      (fits.kinds m) (fits.memory m) (fits.io m),
+          (fits.kinds m) (fits.memory m) (fits.io m),
     )
 
 pub gamma_made : {A : Type 0} → (f : Frame) (V W : Standing → A → Type 0) (c : Standing) (s : Point) (x : Extra A) (extra : List Kind) (p : Origin) (r : Regions) → Stands f c s → IsValue c p →
     ExtraFits f V W c s.next x extra → AreSome (regions_of r.regions) → RegionsForm (allowed f) (suc s.next) (frame_kinds f) (extra ++ frame_kinds f) (regions_of r.regions) r.next → Made f W c (gamma x s p r)
 gamma_made f V W c s x extra p r h test fits some regions =
     let rises = regions_rise (allowed f) (suc s.next) (frame_kinds f) (extra ++ frame_kinds f) (regions_of r.regions) r.next regions in
-    let e = after_stands f V W c s x extra r.next h fits rises in
-    (
+    let e = after_stands f V W c s x extra r.next h fits rises in (
       extra ++ frame_kinds f,
       r.next,
       (omega (arith, h.next), tt, (frame_kinds f, (test, carried_have f c s h), frame_states f, fits.states, some, regions)),
@@ -270,14 +270,22 @@ choice_one_first_made f V W c s x extra p g k h test fits a b =
     let zero_region = region_forms f V c s first.after.next x extra g h a fits.gives in
     let one_rises = region_rises (allowed f) n ks outs (region_made x s.carried first) first.after.next one in
     let zero_rises = region_rises (allowed f) first.after.next ks outs (region_made x s.carried second) second.after.next zero_region in
-    let last : RegionsForm (allowed f) n ks outs (region_then (region_made x s.carried first) no_regions) first.after.next =
-    (
-      n, first.after.next, first.after.next, first.after.next, one, omega arith,
+    let last : RegionsForm (allowed f) n ks outs (region_then (region_made x s.carried first) no_regions) first.after.next = (
+      n,
+      first.after.next,
+      first.after.next,
+      first.after.next,
+      one,
+      omega arith,
       record { low_within = omega arith; high_within = omega arith; from_within = one_rises; to_within = omega arith; apart = inl (omega arith) },
     ) in
-    gamma_made f V W c s x extra p (record { regions = region_made x s.carried second ∷ region_made x s.carried first ∷ []; next = second.after.next }) h test fits tt
-    (
-      first.after.next, second.after.next, n, first.after.next, zero_region, last,
+    gamma_made f V W c s x extra p (record { regions = region_made x s.carried second ∷ region_made x s.carried first ∷ []; next = second.after.next }) h test fits tt (
+      first.after.next,
+      second.after.next,
+      n,
+      first.after.next,
+      zero_region,
+      last,
       record { low_within = one_rises; high_within = omega arith; from_within = omega arith; to_within = zero_rises; apart = inr (omega arith) },
     )
 
@@ -290,13 +298,26 @@ repeat_made f c s g h inner =
     let rises = region_rises (allowed f) n ks (Value ∷ ks) (region_made one_value s.carried b) b.after.next own in
     let fits = no_value_fits f c s.next in
     let e = after_stands f NoValue NoValue c s no_value [] b.after.next h fits rises in
-    let states = frame_states f in
-    (
+    let states = frame_states f in (
       ks,
       b.after.next,
-      (omega (arith, h.next), tt, (carried_have f c s h, states, tt, (
-        n, b.after.next, b.after.next, b.after.next, own, omega arith,
-        record { low_within = omega arith; high_within = omega arith; from_within = rises; to_within = omega arith; apart = inl (omega arith) },
-      ))),
+      (
+        omega (arith, h.next),
+        tt,
+        (
+          carried_have f c s h,
+          states,
+          tt,
+          (
+            n,
+            b.after.next,
+            b.after.next,
+            b.after.next,
+            own,
+            omega arith,
+            record { low_within = omega arith; high_within = omega arith; from_within = rises; to_within = omega arith; apart = inl (omega arith) },
+          ),
+        ),
+      ),
       record { grown = e.0; stands = e.1; value = tt },
     )

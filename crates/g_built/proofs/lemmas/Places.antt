@@ -1,16 +1,15 @@
 -- Variables in scope, and places.
-use Rattle.std.proofs.Common.{◌≡◌, ◌≤◌, ◌<◌, ◌⊎◌, inl, inr, ℕ, ◌+◌, zero, suc, Bool, true, false, List, [], ◌∷◌, ◌++◌, length, refl, sym, ap, ◌∙◌, arith, subst}
-use Rattle.std.specs.Prelude.{slice_get}
+use Rattle.std.proofs.Common.{◌≡◌, ◌<◌, ℕ, ◌+◌, zero, suc, List, [], ◌∷◌, ◌++◌, refl, arith, subst}
 use Rattle.std.specs.declared.option.Option.{Option}
 use Rattle.std.specs.declared.option.Option.TheVariants.{Some, None}
 use Rattle.c_type.specs.Trees.{TypeTree}
 use Rattle.g_graph.specs.declared.op.Origin.{Origin}
 use Rattle.g_formation.specs.Formation.{Standing}
-use Rattle.g_construct.specs.Writer.{SlotOrigin, held, object, hidden, variable_at, variable_set, without_newest, newest, slot_origin, Point, with_variables, pushed, popped, Built, given, bind}
-use Rattle.g_construct.specs.Operations.{local_made, store_made, read_made, at_offset_made}
+use Rattle.g_construct.specs.Writer.{SlotOrigin, held, object, hidden, variable_at, variable_set, without_newest, newest, slot_origin, Point, with_variables, pushed, popped, Built, given}
+use Rattle.g_construct.specs.Operations.{local_made, at_offset_made}
 use Rattle.c_typed.specs.Objects.{access_width}
 use Rattle.g_construct.specs.Places.{Spot, in_slot, at_address, address_spot, slot_spot, member_spot, spot_address, spot_read, spot_written}
-use Rattle.g_built.proofs.lemmas.Stands.{Frame, Mark, a_value, an_object, a_hidden, with_mark, IsValue, Grown, SlotFits, SlotsFit, Stands, Done, Made}
+use Rattle.g_built.proofs.lemmas.Stands.{Frame, Mark, a_value, an_object, a_hidden, with_mark, IsValue, Grown, SlotFits, SlotsFit, Stands, Made}
 use Rattle.g_built.proofs.lemmas.Parts.{then_made, given_made}
 use Rattle.g_built.proofs.lemmas.Operations.{local_ok, store_ok, read_ok, at_offset_ok, is_access_width}
 

@@ -1,9 +1,8 @@
 -- What holds at every point of a construction: what is carried are values and the last states.
-use Rattle.std.proofs.Common.{◌≡◌, ◌≤◌, ◌<◌, ℕ, zero, suc, Bool, true, false, List, [], ◌∷◌, ◌++◌, refl, sym, ap, ◌∙◌, arith, subst}
+use Rattle.std.proofs.Common.{◌≡◌, ◌≤◌, ◌<◌, ℕ, suc, Bool, true, false, List, [], ◌∷◌, ◌++◌, refl, sym, ap, ◌∙◌, arith, subst}
 use Rattle.std.specs.Prelude.{◌==◌, slice_get, if◌then◌else◌}
 use Rattle.std.proofs.lemmas.Bool.Decides.{nat_tests}
-use Rattle.std.specs.declared.option.Option.{Option}
-use Rattle.std.specs.declared.option.Option.TheVariants.{Some, None}
+use Rattle.std.specs.declared.option.Option.TheVariants.{Some}
 use Rattle.g_graph.specs.declared.op.Kind.{Kind}
 use Rattle.g_graph.specs.declared.op.Kind.TheVariants.{Value, Memory, Io}
 use Rattle.g_graph.specs.declared.op.Origin.{Origin}
@@ -13,7 +12,7 @@ use Rattle.g_graph.specs.Plain.{nodes_of, PlainLambda}
 use Rattle.g_graph.proofs.lemmas.Indexes.{same_number_true}
 use Rattle.g_formation.specs.Formation.{Standing, last_origin, after_node, Has, HasAll, NodesForm}
 use Rattle.g_formation.specs.FormationLaws.{OpFits}
-use Rattle.g_construct.specs.Writer.{SlotOrigin, held, object, hidden, variable_at, variable_set, without_newest, newest, slot_origin, Form, straight, jumping, value_kinds, last_kinds, carried_kinds, value_origins, last_origins, carried_origins, numbered, beyond, with_last, renamed, Carried, Point, Built}
+use Rattle.g_construct.specs.Writer.{SlotOrigin, held, object, hidden, Form, straight, jumping, value_kinds, last_kinds, carried_kinds, value_origins, last_origins, carried_origins, numbered, beyond, with_last, renamed, Carried, Point, Built}
 
 -- ---- frames
 

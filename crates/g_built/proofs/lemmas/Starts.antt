@@ -1,5 +1,5 @@
 -- The start of a function.
-use Rattle.std.proofs.Common.{◌≡◌, ◌≤◌, ◌<◌, ℕ, ◌+◌, zero, suc, Bool, true, false, List, [], ◌∷◌, ◌++◌, length, replicate, map, take, refl, sym, ap, ◌∙◌, arith, subst}
+use Rattle.std.proofs.Common.{◌≡◌, ◌≤◌, ◌<◌, ℕ, ◌+◌, zero, suc, Bool, true, false, List, [], ◌∷◌, ◌++◌, length, replicate, map, refl, sym, ap, ◌∙◌, arith}
 use Rattle.std.specs.Prelude.{if◌then◌else◌, slice_get, option_map}
 use Rattle.std.specs.List.{count_by, filter}
 use Rattle.std.specs.declared.option.Option.{Option}
@@ -9,19 +9,18 @@ use Rattle.std.proofs.lemmas.List.{length-map, length-take-le}
 use Rattle.std.proofs.lemmas.List.Sums.{length-filter, count_by_more_yes, sum_by-take-le, sum_by-cons}
 use Rattle.c_type.specs.Layout.{Definitions}
 use Rattle.c_typed.specs.Typed.{VariableTree, FunctionTree, ProgramTree}
-use Rattle.c_typed.specs.WellTyped.{Scope, Signature, params_of, signature_of, scope_of, FunctionIsTyped, IsWellTyped}
+use Rattle.c_typed.specs.WellTyped.{Signature, params_of, signature_of, scope_of, FunctionIsTyped, IsWellTyped}
 use Rattle.c_typed.specs.Objects.{object_number}
 use Rattle.g_graph.specs.declared.op.Kind.{Kind}
 use Rattle.g_graph.specs.declared.op.Kind.TheVariants.{Value, Memory, Io}
 use Rattle.g_graph.specs.declared.op.Origin.{Origin}
 use Rattle.g_graph.specs.declared.op.Origin.TheVariants.{Arg}
-use Rattle.g_graph.specs.Plain.{PlainLambda, nodes_of}
-use Rattle.g_graph.specs.Scope.{same_kind}
+use Rattle.g_graph.specs.Plain.{nodes_of}
 use Rattle.g_graph.specs.Lists.{HasCallee}
 use Rattle.g_formation.specs.Formation.{Standing, last_origin, at_start, RegionForms}
 use Rattle.g_formation.specs.FormationLaws.{OpFits}
 use Rattle.g_formation.proofs.lemmas.Joins.{weaken}
-use Rattle.g_construct.specs.Writer.{SlotOrigin, held, object, straight}
+use Rattle.g_construct.specs.Writer.{held, object, straight}
 use Rattle.g_construct.specs.Functions.{params_carried, start_of, body_built, objects_made, body_made, next_number, lambda_made, graph}
 use Rattle.g_construct.proofs.lemmas.Programs.{lambdas_stand_at_their_numbers}
 use Rattle.g_built.proofs.lemmas.Stands.{Frame, Mark, a_value, an_object, SlotsFit, Stands}
@@ -182,10 +181,9 @@ pub body_forms : (p : ProgramTree) (f : FunctionTree) (is_main : Bool) → IsWel
     RegionForms (OpFits (graph p) (length p.globals) (length (objects_made p.structs f.variables))) 0 (start_kinds f.params) (Value ∷ Memory ∷ Io ∷ []) (body_made is_main f) (next_number is_main f)
 body_forms p f is_main w h =
     let b = body_built is_main f in
-    let c = at_start 0 (start_kinds f.params) in
-    (
+    let c = at_start 0 (start_kinds f.params) in (
       refl,
       weaken (OpFits (graph p) (length p.globals) (length (objects_made p.structs f.variables))) c (nodes_of b.nodes) (Ended b) _
-      (body_ok (start_frame p f) (scope_of p f) _ is_main f c (start_scope p f w h) refl h.body (start_params p f h) (start_stands p f h))
-      (λ d x. (x.next, (x.value, (x.memory, (x.io, tt))))),
+          (body_ok (start_frame p f) (scope_of p f) _ is_main f c (start_scope p f w h) refl h.body (start_params p f h) (start_stands p f h))
+          (λ d x. (x.next, (x.value, (x.memory, (x.io, tt))))),
     )

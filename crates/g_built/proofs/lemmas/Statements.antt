@@ -1,19 +1,17 @@
 -- The graphs of statements.
-use Rattle.std.proofs.Common.{◌≡◌, ℕ, suc, Bool, true, false, List, [], ◌∷◌, ◌++◌, refl, sym, ap, ◌∙◌, arith, subst}
+use Rattle.std.proofs.Common.{ℕ, suc, Bool, true, false, [], refl, arith}
 use Rattle.std.specs.Prelude.{not, ◌||◌, ◌&&◌}
-use Rattle.c_typed.specs.Typed.{StmtTree, null, value, block, if_else, loop, do_while, break, continue, return_value, return_none, switch, ItemTrees, no_items, stmt_then, declare_then, GroupTrees, no_groups, group_then, VariableTree}
+use Rattle.c_typed.specs.Typed.{StmtTree, null, value, block, if_else, loop, do_while, break, continue, return_value, return_none, switch, ItemTrees, no_items, stmt_then, declare_then, GroupTrees, no_groups, group_then}
 use Rattle.c_typed.specs.WellTyped.{Scope, Jumps, in_loop, in_switch, extended, StmtIsTyped, ItemsAreTyped, GroupsAreTyped}
-use Rattle.g_graph.specs.declared.op.Kind.TheVariants.{Value}
-use Rattle.g_graph.specs.declared.op.Origin.{Origin}
 use Rattle.g_formation.specs.Formation.{Standing}
-use Rattle.g_construct.specs.Writer.{Form, straight, jumping, Point, popped, Built, given, nothing, bind, no_value, choice_one_first}
+use Rattle.g_construct.specs.Writer.{Form, straight, jumping, Point, popped, nothing, bind, no_value, choice_one_first}
 use Rattle.g_construct.specs.Operations.{undef_made}
 use Rattle.g_construct.specs.Expressions.{expr_made, tested}
-use Rattle.g_construct.specs.Exits.{stmt_exits, items_exits, groups_exits, can_leave, stmt_jumps, items_jump, groups_jump, some_items}
+use Rattle.g_construct.specs.Exits.{stmt_exits, items_exits, can_leave, stmt_jumps, items_jump, groups_jump, some_items}
 use Rattle.g_construct.specs.Jumps.{return_made, unless_left}
 use Rattle.g_construct.specs.Switch.{ends_segment, some_segment_has_several, switch_made}
 use Rattle.g_construct.specs.Statements.{declared_made, stmt_made, items_made, segments_made}
-use Rattle.g_built.proofs.lemmas.Stands.{Frame, Mark, a_hidden, with_mark, IsValue, NoValue, Stands, Done, Made, MadeInside}
+use Rattle.g_built.proofs.lemmas.Stands.{Frame, a_hidden, with_mark, IsValue, NoValue, Stands, Made}
 use Rattle.g_built.proofs.lemmas.Parts.{bind_made, then_made, nothing_made, dropped_made, AllInside, no_value_fits, choice_one_first_made}
 use Rattle.g_built.proofs.lemmas.Operations.{undef_ok}
 use Rattle.g_built.proofs.lemmas.Places.{shown_pushed, stands_popped}

@@ -1,18 +1,17 @@
 -- The graph of a `switch`.
-use Rattle.std.proofs.Common.{◌≡◌, ℕ, zero, suc, Bool, true, false, List, [], ◌∷◌, ◌++◌, refl, sym, ap, ◌∙◌, subst}
+use Rattle.std.proofs.Common.{◌≡◌, ℕ, suc, Bool, true, false, List, [], ◌∷◌, ◌++◌, refl, sym, subst}
 use Rattle.std.specs.Prelude.{not, ◌||◌}
 use Rattle.val_core.specs.declared.operation.Op2.TheVariants as op
 use Rattle.c_typed.specs.Typed.{GroupTrees, no_groups, group_then}
 use Rattle.g_graph.specs.declared.op.Kind.TheVariants.{Value}
 use Rattle.g_graph.specs.declared.op.Origin.{Origin}
-use Rattle.g_graph.specs.Plain.{regions_of}
 use Rattle.g_formation.specs.Formation.{Standing}
-use Rattle.g_construct.specs.Writer.{hidden, newest, slot_origin, Point, pushed, popped, Built, given, nothing, bind, no_value, choice, choices}
+use Rattle.g_construct.specs.Writer.{hidden, newest, slot_origin, Point, pushed, Built, given, nothing, bind, no_value, choice, choices}
 use Rattle.g_construct.specs.Operations.{const_made, bin_made}
 use Rattle.g_construct.specs.Exits.{groups_exits}
 use Rattle.g_construct.specs.Jumps.{break_ended, unless_left}
-use Rattle.g_construct.specs.Switch.{some_segment_has_several, Target, default_target, Label, labels_of, word_difference, moved_where, Selected, labels_made, segment_made, groups_moved, from_made, from_popped, group_made, segments_with, chosen_made, switch_made}
-use Rattle.g_built.proofs.lemmas.Stands.{Frame, Mark, a_hidden, allowed, with_mark, IsValue, Grown, NoValue, SlotsFit, Stands, Done, Made, MadeInside}
+use Rattle.g_construct.specs.Switch.{some_segment_has_several, Target, default_target, Label, labels_of, word_difference, moved_where, Selected, labels_made, segment_made, groups_moved, from_made, from_popped, group_made, segments_with, switch_made}
+use Rattle.g_built.proofs.lemmas.Stands.{Frame, Mark, a_hidden, allowed, with_mark, IsValue, NoValue, SlotsFit, Stands, Made, MadeInside}
 use Rattle.g_built.proofs.lemmas.Parts.{bind_made, then_made, given_made, nothing_made, AllInside, no_value_fits, choices_made, choice_made}
 use Rattle.g_built.proofs.lemmas.Operations.{const_ok, bin_ok, AreValues, values_grown, value_then}
 use Rattle.g_built.proofs.lemmas.Places.{newest_hidden, stands_pushed, stands_popped}
@@ -109,12 +108,16 @@ segments_with_ok f true true g l k later from m a b = (a, b)
 segments_with_ok f false true g l k later from m a b = (λ c s h. group_made_ok f c s g k from h a, b)
 segments_with_ok f true false g l k [] from m a b = (λ c s h. group_made_ok f c s g k from h a, tt)
 segments_with_ok f false false g l k [] from m a b = (λ c s h. group_made_ok f c s g k from h a, tt)
-segments_with_ok f true false g l k (rest ∷ later) from m a b =
-    (λ c s h. then_made f NoValue NoValue c (group_made g k s) (λ _ t. unless_left l rest t) (group_made_ok f c s g k from h a)
-    (λ d x. unless_left_ok f d (group_made g k s).after l rest m x.stands b.0), b.1)
-segments_with_ok f false false g l k (rest ∷ later) from m a b =
-    (λ c s h. then_made f NoValue NoValue c (group_made g k s) (λ _ t. unless_left l rest t) (group_made_ok f c s g k from h a)
-    (λ d x. unless_left_ok f d (group_made g k s).after l rest m x.stands b.0), b.1)
+segments_with_ok f true false g l k (rest ∷ later) from m a b = (
+  λ c s h. then_made f NoValue NoValue c (group_made g k s) (λ _ t. unless_left l rest t) (group_made_ok f c s g k from h a)
+      (λ d x. unless_left_ok f d (group_made g k s).after l rest m x.stands b.0),
+  b.1,
+)
+segments_with_ok f false false g l k (rest ∷ later) from m a b = (
+  λ c s h. then_made f NoValue NoValue c (group_made g k s) (λ _ t. unless_left l rest t) (group_made_ok f c s g k from h a)
+      (λ d x. unless_left_ok f d (group_made g k s).after l rest m x.stands b.0),
+  b.1,
+)
 
 -- ---- the whole
 

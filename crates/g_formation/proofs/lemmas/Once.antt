@@ -13,7 +13,7 @@ use Rattle.g_graph.specs.WellFormed.{all_of, distinct}
 use Rattle.g_graph.proofs.lemmas.Unique.{times, times_append, times_cons, distinct_of_counts}
 use Rattle.g_graph.proofs.lemmas.Indexes.{same_number_true}
 use Rattle.g_formation.specs.Formation.{AreApart, Standing, at_start, after_node, NodeForms, NodesForm, RegionForms, RegionsForm}
-use Rattle.g_formation.proofs.lemmas.Joins.{Ends, node_rises, nodes_rise, region_rises, regions_rise}
+use Rattle.g_formation.proofs.lemmas.Joins.{Ends, node_rises, nodes_rise, regions_rise}
 
 -- each number stands once at most, from the first on and before the other
 pub record Once (first : ℕ) (ns : List ℕ) (next : ℕ) : Type 0 where
