@@ -75,7 +75,8 @@ main_found : (fs : List FunctionTree) (k : ℕ) (f : FunctionTree) → slice_get
 main_found [] k f e n alone = absurd (cc)
 main_found (g ∷ fs) zero f e n alone =
     let same : g ≡ f = cc in
-    ap (λ t. if t then Some 0 else option_map suc (name_index main_name (map (λ (f : FunctionTree). f.name) fs))) (ap (λ (f : FunctionTree). same_bytes f.name main_name) same ∙ ap (λ xs. same_bytes xs main_name) n ∙ bytes_same main_name)
+    ap (λ t. if t then Some 0 else option_map suc (name_index main_name (map (λ (f : FunctionTree). f.name) fs)))
+    (ap (λ (f : FunctionTree). same_bytes f.name main_name) same ∙ ap (λ xs. same_bytes xs main_name) n ∙ bytes_same main_name)
 main_found (g ∷ fs) (suc k) f e n alone =
     by_test (same_bytes g.name main_name) refl (main_found fs k f e n (λ j h q r. let s = alone (suc j) h q r in omega (arith, s)))
   where
@@ -159,9 +160,11 @@ sum_of_objects defs (v ∷ vs) = by_kind v.is_object (sum_of_objects defs vs) �
   where
     by_kind : (t : Bool) → sum_by (λ (o : PlainObject). counted_bytes o.size) (objects_made defs vs) ≡ sum_by (object_bytes defs) vs →
         sum_by (λ (o : PlainObject). counted_bytes o.size)
-        (map (λ (v : VariableTree). record { size = size defs v.type; leaves = leaves defs v.type }) (if t then v ∷ filter (λ (v : VariableTree). v.is_object) vs else filter (λ (v : VariableTree). v.is_object) vs))
+        (map (λ (v : VariableTree). record { size = size defs v.type; leaves = leaves defs v.type })
+        (if t then v ∷ filter (λ (v : VariableTree). v.is_object) vs else filter (λ (v : VariableTree). v.is_object) vs))
         ≡ (if t then counted_bytes (size defs v.type) else 0) + sum_by (object_bytes defs) vs
-    by_kind true e = sum_by-cons (λ (o : PlainObject). counted_bytes o.size) (record { size = size defs v.type; leaves = leaves defs v.type }) (objects_made defs vs) ∙ ap (λ n. counted_bytes (size defs v.type) + n) e
+    by_kind true e = sum_by-cons (λ (o : PlainObject). counted_bytes o.size) (record { size = size defs v.type; leaves = leaves defs v.type })
+        (objects_made defs vs) ∙ ap (λ n. counted_bytes (size defs v.type) + n) e
     by_kind false e = omega (arith, e)
 
 sum_of_globals : (defs : Definitions) (gs : List GlobalTree) → ((g : GlobalTree) → length (global_made defs g).bytes ≡ size defs g.type) →

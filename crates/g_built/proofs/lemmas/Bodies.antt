@@ -95,7 +95,8 @@ may_stay straight b h = h
 may_stay jumping b h = tt
 
 -- a last statement, and what a body gives after it
-last_ok : (f : Frame) (k : Scope) (j : Jumps) (a : StmtTree) (rest : Point → Built Origin) (c : Standing) (s : Point) → FitsScope f k → StmtIsTyped k j a → (not (is_return a) && stmt_jumps a) ≡ false →
+last_ok : (f : Frame) (k : Scope) (j : Jumps) (a : StmtTree) (rest : Point → Built Origin) (c : Standing) (s : Point) → FitsScope f k → StmtIsTyped k j a →
+    (not (is_return a) && stmt_jumps a) ≡ false →
     ((d : Standing) (t : Point) → Stands f d t → Ends f d (rest t)) → Stands f c s → Ends f c (straight_then false k.variables a rest s)
 last_ok f k j (return_value e) rest c s q ty m go h = made_ends f c (expr_made e s) (expr_ok f k e c s q ty.0 h)
 last_ok f k j return_none rest c s q ty m go h = made_ends f c (undef_made s) (undef_ok f c s h)
@@ -161,7 +162,8 @@ jumps_begun_ok f is_main c s h =
       old = x2.stands.old;
     })))
 
-jumping_ok : (f : Frame) (k : Scope) (j : Jumps) (is_main : Bool) (ps : List VariableTree) (is : ItemTrees) (c : Standing) (s : Point) → FitsScope f k → ItemsAreTyped k j is → ParamsFit f c 0 0 ps → Stands f c s →
+jumping_ok : (f : Frame) (k : Scope) (j : Jumps) (is_main : Bool) (ps : List VariableTree) (is : ItemTrees) (c : Standing) (s : Point) → FitsScope f k → ItemsAreTyped k j is → ParamsFit f c 0 0 ps →
+    Stands f c s →
     Ends f c (bind (jumps_begun is_main s) (λ _ s. bind (params_stored 0 0 ps s) (λ _ t. bind (items_made k.variables is t) (λ _ u. given u.carried.ret u))))
 jumping_ok f k j is_main ps is c s q ty p h =
     let g = with_form f jumping in
@@ -174,7 +176,8 @@ jumping_ok f k j is_main ps is c s q ty p h =
     then_ends g f NoValue d2 r (λ _ u. given u.carried.ret u) refl (items_ok g k j is d2 b.after (scope_formed f k jumping q) ty tt x2.stands) (λ d3 x3.
     made_ends g d3 (given r.after.carried.ret r.after) (given_made g IsValue d3 r.after r.after.carried.ret x3.stands x3.stands.jumps.1))))
 
-pub body_ok : (f : Frame) (k : Scope) (j : Jumps) (is_main : Bool) (g : FunctionTree) (c : Standing) → FitsScope f k → k.variables ≡ g.variables → ItemsAreTyped k j g.body → ParamsFit f c 0 0 (params_of g) →
+pub body_ok : (f : Frame) (k : Scope) (j : Jumps) (is_main : Bool) (g : FunctionTree) (c : Standing) → FitsScope f k → k.variables ≡ g.variables → ItemsAreTyped k j g.body →
+    ParamsFit f c 0 0 (params_of g) →
     Stands f c (start_of g) → Ends f c (body_built is_main g)
 body_ok f k j is_main g c q same ty p h = by_jumps (body_jumps g.body) refl
   where

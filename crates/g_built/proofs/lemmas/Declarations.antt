@@ -94,9 +94,11 @@ value_pushed f c s v h x = nothing_made (with_mark f a_value) c (pushed (held v)
 
 undef_pushed : (f : Frame) (c : Standing) (s : Point) → Stands f c s → Made (with_mark f a_value) NoValue c (bind (undef_made s) (λ o t. nothing (pushed (held o) t)))
 undef_pushed f c s h =
-    let o = undef_made s in bind_made f (with_mark f a_value) IsValue NoValue c o (λ o t. nothing (pushed (held o) t)) refl (undef_ok f c s h) (λ d x. value_pushed f d o.after o.value x.stands x.value)
+    let o = undef_made s in bind_made f (with_mark f a_value) IsValue NoValue c o (λ o t. nothing (pushed (held o) t)) refl (undef_ok f c s h)
+    (λ d x. value_pushed f d o.after o.value x.stands x.value)
 
-value_begun_ok : (names : Bool) (f : Frame) (k : Scope) (v : VariableTree) (t : TypeTree) (i : InitialTree) (c : Standing) (s : Point) → FitsScope f k → InitialFits (initial_scope names k v t) v i → Stands f c s →
+value_begun_ok : (names : Bool) (f : Frame) (k : Scope) (v : VariableTree) (t : TypeTree) (i : InitialTree) (c : Standing) (s : Point) → FitsScope f k → InitialFits (initial_scope names k v t) v i →
+    Stands f c s →
     Made (with_mark f a_value) NoValue c (value_begun names i s)
 value_begun_ok true f k v begun (initial_value e) c s q ty h =
     let g = with_mark f a_value in
@@ -104,7 +106,8 @@ value_begun_ok true f k v begun (initial_value e) c s q ty h =
     let b = expr_made e (pushed (held o.value) o.after) in
     bind_made f g IsValue NoValue c o (λ o t. bind (expr_made e (pushed (held o) t)) (λ v u. nothing (newest_set (held v) u))) refl (undef_ok f c s h) (λ d1 x1.
     bind_made g g IsValue NoValue d1 b (λ v u. nothing (newest_set (held v) u)) refl
-    (expr_ok g (extended k (record v { type = begun })) e d1 (pushed (held o.value) o.after) (scope_extended f k (record v { type = begun }) a_value q refl) ty.0 (stands_pushed f d1 o.after a_value (held o.value) x1.stands x1.value)) (λ d2 x2.
+    (expr_ok g (extended k (record v { type = begun })) e d1 (pushed (held o.value) o.after)
+    (scope_extended f k (record v { type = begun }) a_value q refl) ty.0 (stands_pushed f d1 o.after a_value (held o.value) x1.stands x1.value)) (λ d2 x2.
     value_pushed f d2 (popped b.after) b.value (stands_popped f d2 b.after a_value x2.stands) x2.value))
 value_begun_ok false f k v begun (initial_value e) c s q ty h =
     let b = expr_made e s in
@@ -114,7 +117,8 @@ value_begun_ok true f k v begun (initial_elements es) c s q ty h = undef_pushed 
 value_begun_ok false f k v begun no_initial c s q ty h = undef_pushed f c s h
 value_begun_ok false f k v begun (initial_elements es) c s q ty h = undef_pushed f c s h
 
-object_begun_ok : (f : Frame) (k : Scope) (v : VariableTree) (n : ℕ) (i : InitialTree) (c : Standing) (s : Point) → FitsScope f k → InitialFits k v i → n < f.objects → Stands f c s → Made f NoValue c (object_begun n i s)
+object_begun_ok : (f : Frame) (k : Scope) (v : VariableTree) (n : ℕ) (i : InitialTree) (c : Standing) (s : Point) → FitsScope f k → InitialFits k v i → n < f.objects → Stands f c s →
+    Made f NoValue c (object_begun n i s)
 object_begun_ok f k v n no_initial c s q ty l h = nothing_made f c s h
 object_begun_ok f k v n (initial_value e) c s q ty l h =
     let b = expr_made e s in

@@ -138,7 +138,8 @@ mutual
       value_then f d1 old (λ old v. bind (expr_made e v) (λ y w. bind (compound_made o old y w) (λ new z. bind (converted_made t new z) (spot_written t l.value))))
       (spot_read_ok f d1 l.after t l.value x1.stands x1.value) (λ d2 x2.
       value_then f d2 r (λ y w. bind (compound_made o old.value y w) (λ new z. bind (converted_made t new z) (spot_written t l.value))) (expr_ok f k e d2 old.after q ty.1 x2.stands) (λ d3 x3.
-      value_then f d3 new (λ new z. bind (converted_made t new z) (spot_written t l.value)) (compound_ok f d3 r.after o old.value r.value x3.stands (x3.grown old.value Value x2.value) x3.value) (λ d4 x4.
+      value_then f d3 new (λ new z. bind (converted_made t new z) (spot_written t l.value)) (compound_ok f d3 r.after o old.value r.value x3.stands (x3.grown old.value Value x2.value) x3.value)
+      (λ d4 x4.
       value_then f d4 low (spot_written t l.value) (converted_ok f d4 new.after t new.value x4.stands x4.value) (λ d5 x5.
       spot_written_ok f d5 low.after t l.value low.value x5.stands
       (spot_grown f.marks d1 d5 l.value (λ o j i. x5.grown o j (x4.grown o j (x3.grown o j (x2.grown o j i)))) x1.value) x5.value)))))
@@ -149,7 +150,8 @@ mutual
       let low = converted_made t new.value new.after in
       let out = spot_written t l.value low.value low.after in
       then_made f (SpotFits f.marks) IsValue c l
-      (λ x u. bind (spot_read t x u) (λ old v. bind (stepped_made i old v) (λ new w. bind (converted_made t new w) (λ c z. bind (spot_written t x c z) (λ _ y. given (if i.gives_old then old else c) y)))))
+      (λ x u. bind (spot_read t x u) (λ old v. bind (stepped_made i old v) (λ new w. bind (converted_made t new w) (λ c z. bind (spot_written t x c z)
+      (λ _ y. given (if i.gives_old then old else c) y)))))
       (place_ok f k p c s q ty.0 h) (λ d1 x1.
       value_then f d1 old (λ old v. bind (stepped_made i old v) (λ new w. bind (converted_made t new w) (λ c z. bind (spot_written t l.value c z) (λ _ y. given (if i.gives_old then old else c) y))))
       (spot_read_ok f d1 l.after t l.value x1.stands x1.value) (λ d2 x2.
@@ -176,7 +178,8 @@ mutual
   commas_ok f k (expr_then e es) c s q ty h =
       let b = expr_made e s in then_made f IsValue NoValue c b (λ _ u. commas_made es u) (expr_ok f k e c s q ty.0 h) (λ d x. commas_ok f k es d b.after q ty.1 x.stands)
 
-  arguments_ok : (f : Frame) (k : Scope) (es : ExprTrees) (c : Standing) (s : Point) → FitsScope f k → ExprsAreTyped k es → Stands f c s → Made f (ArgumentsFit (length (types_of es))) c (arguments_made es s)
+  arguments_ok : (f : Frame) (k : Scope) (es : ExprTrees) (c : Standing) (s : Point) → FitsScope f k → ExprsAreTyped k es → Stands f c s →
+      Made f (ArgumentsFit (length (types_of es))) c (arguments_made es s)
   arguments_ok f k no_exprs c s q ty h = given_made f (ArgumentsFit 0) c s [] h (record { values = tt; count = refl })
   arguments_ok f k (expr_then e es) c s q ty h =
       let b = expr_made e s in

@@ -52,7 +52,8 @@ both_set f c s g r h x y =
 
 pub jump_made_ok : (f : Frame) (c : Standing) (s : Point) (w : ℕ) → Stands f c s → Made f NoValue c (jump_made w s)
 jump_made_ok f c s w h =
-    let k = const_made w s in then_made f IsValue NoValue c k (λ g t. nothing (with_go t g)) (const_ok f c s w h) (λ d x. nothing_made f d (with_go k.after k.value) (go_set f d k.after k.value x.stands x.value))
+    let k = const_made w s in then_made f IsValue NoValue c k (λ g t. nothing (with_go t g)) (const_ok f c s w h) (λ d x. nothing_made f d (with_go k.after k.value)
+    (go_set f d k.after k.value x.stands x.value))
 
 pub return_made_ok : (f : Frame) (c : Standing) (s : Point) (v : Origin) → Stands f c s → IsValue c v → Made f NoValue c (return_made v s)
 return_made_ok f c s v h y =
@@ -86,12 +87,14 @@ optional_tested_ok : (f : Frame) (k : Scope) (e : OptionalExpr) (c : Standing) (
 optional_tested_ok f k no_expr c s q ty h = const_ok f c s 1 h
 optional_tested_ok f k (some_expr e) c s q ty h = tested_ok f k e c s q ty.0 h
 
-step_made_ok : (f : Frame) (k : Scope) (l : Bool) (e : OptionalExpr) (c : Standing) (s : Point) → FitsScope f k → OptionalIsTyped k e → MayJump f.form l → Stands f c s → Made f NoValue c (step_made l e s)
+step_made_ok : (f : Frame) (k : Scope) (l : Bool) (e : OptionalExpr) (c : Standing) (s : Point) → FitsScope f k → OptionalIsTyped k e → MayJump f.form l → Stands f c s →
+    Made f NoValue c (step_made l e s)
 step_made_ok f k l no_expr c s q ty m h = nothing_made f c s h
 step_made_ok f k l (some_expr e) c s q ty m h =
     unless_left_ok f c s l (λ t. dropped (expr_made e t)) m h (λ d t g. dropped_made f IsValue d (expr_made e t) (expr_ok f k e d t q ty g))
 
-again_made_ok : (f : Frame) (k : Scope) (l : Bool) (e : OptionalExpr) (c : Standing) (s : Point) → FitsScope f k → OptionalIsTyped k e → MayJump f.form l → Stands f c s → Made f IsValue c (again_made l e s)
+again_made_ok : (f : Frame) (k : Scope) (l : Bool) (e : OptionalExpr) (c : Standing) (s : Point) → FitsScope f k → OptionalIsTyped k e → MayJump f.form l → Stands f c s →
+    Made f IsValue c (again_made l e s)
 again_made_ok f k true e c s q ty m h =
     let a = jump_ended 2 s in
     let b = step_made true e a.after in
@@ -101,7 +104,8 @@ again_made_ok f k true e c s q ty m h =
 again_made_ok f k false e c s q ty m h =
     let b = step_made false e s in then_made f NoValue IsValue c b (λ _ t. const_made 1 t) (step_made_ok f k false e c s q ty m h) (λ d x. const_ok f d b.after 1 x.stands)
 
-turn_made_ok : (f : Frame) (k : Scope) (d e : OptionalExpr) (l : Bool) (g : Point → Built (Unit {0})) (c : Standing) (s : Point) → FitsScope f k → IsOptionalCondition k d → OptionalIsTyped k e → MayJump f.form l →
+turn_made_ok : (f : Frame) (k : Scope) (d e : OptionalExpr) (l : Bool) (g : Point → Built (Unit {0})) (c : Standing) (s : Point) → FitsScope f k → IsOptionalCondition k d → OptionalIsTyped k e →
+    MayJump f.form l →
     MadeInside f NoValue g → Stands f c s → Made f IsValue c (turn_made d e l g s)
 turn_made_ok f k d e l g c s q test step m inner h =
     let p = optional_tested d s in
@@ -110,14 +114,16 @@ turn_made_ok f k d e l g c s q test step m inner h =
     (λ d2 u y. const_ok f d2 u 0 y)
     (λ d2 u y. then_made f NoValue IsValue d2 (g u) (λ _ v. again_made l e v) (inner d2 u y) (λ d3 z. again_made_ok f k l e d3 (g u).after q step m z.stands)))
 
-pub loop_made_ok : (f : Frame) (k : Scope) (d e : OptionalExpr) (l : Bool) (g : Point → Built (Unit {0})) (c : Standing) (s : Point) → FitsScope f k → IsOptionalCondition k d → OptionalIsTyped k e → MayJump f.form l →
+pub loop_made_ok : (f : Frame) (k : Scope) (d e : OptionalExpr) (l : Bool) (g : Point → Built (Unit {0})) (c : Standing) (s : Point) → FitsScope f k → IsOptionalCondition k d → OptionalIsTyped k e →
+    MayJump f.form l →
     MadeInside f NoValue g → Stands f c s → Made f NoValue c (loop_made d e l g s)
 loop_made_ok f k d e l g c s q test step m inner h =
     let r = repeat s (turn_made d e l g) in
     then_made f NoValue NoValue c r (λ _ t. break_ended l t) (repeat_made f c s (turn_made d e l g) h (λ d1 t y. turn_made_ok f k d e l g d1 t q test step m inner y)) (λ d1 x1.
     break_ended_ok f d1 r.after l m x1.stands)
 
-do_again_made_ok : (f : Frame) (k : Scope) (l : Bool) (e : ExprTree) (c : Standing) (s : Point) → FitsScope f k → IsCondition k e → MayJump f.form l → Stands f c s → Made f IsValue c (do_again_made l e s)
+do_again_made_ok : (f : Frame) (k : Scope) (l : Bool) (e : ExprTree) (c : Standing) (s : Point) → FitsScope f k → IsCondition k e → MayJump f.form l → Stands f c s →
+    Made f IsValue c (do_again_made l e s)
 do_again_made_ok f k true e c s q test m h =
     let a = jump_ended 2 s in
     then_made f NoValue IsValue c a (λ _ t. choice one_value t t.carried.go (tested e) (const_made 0)) (jump_ended_ok f c s 2 m h) (λ d x.
@@ -131,5 +137,6 @@ do_made_ok f k e l g c s q test m inner h =
     let body = λ (t : Point). bind (g t) (λ _ u. do_again_made l e u) in
     let r = repeat s body in
     then_made f NoValue NoValue c r (λ _ t. break_ended l t)
-    (repeat_made f c s body h (λ d1 t y. then_made f NoValue IsValue d1 (g t) (λ _ u. do_again_made l e u) (inner d1 t y) (λ d2 z. do_again_made_ok f k l e d2 (g t).after q test m z.stands))) (λ d1 x1.
+    (repeat_made f c s body h (λ d1 t y. then_made f NoValue IsValue d1 (g t) (λ _ u. do_again_made l e u) (inner d1 t y) (λ d2 z. do_again_made_ok f k l e d2 (g t).after q test m z.stands)))
+    (λ d1 x1.
     break_ended_ok f d1 r.after l m x1.stands)

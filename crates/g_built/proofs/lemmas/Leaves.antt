@@ -53,12 +53,14 @@ leaves_of_fit law defs good t h =
     let whole : 0 + size defs t ≡ size defs t = omega arith in
     order_fits 0 (size defs t) (leaves defs t) (subst (λ n. AreInOrder 0 n (leaves defs t)) whole (law defs good t h.complete 0 (0, omega arith)))
 
-pub objects_fit_of : LeavesAreInOrder → (defs : Definitions) → AreDefinitions defs → (vs : List VariableTree) → VariablesFit defs vs → all_of (λ (o : PlainObject). leaves_fit o.size 0 o.leaves) (objects_made defs vs) ≡ true
+pub objects_fit_of : LeavesAreInOrder → (defs : Definitions) → AreDefinitions defs → (vs : List VariableTree) → VariablesFit defs vs →
+    all_of (λ (o : PlainObject). leaves_fit o.size 0 o.leaves) (objects_made defs vs) ≡ true
 objects_fit_of law defs good [] h = refl
 objects_fit_of law defs good (v ∷ vs) h = by_kind v.is_object (leaves_of_fit law defs good v.type h.0.0) (objects_fit_of law defs good vs h.1)
   where
     by_kind : (t : Bool) → leaves_fit (size defs v.type) 0 (leaves defs v.type) ≡ true → all_of (λ (o : PlainObject). leaves_fit o.size 0 o.leaves) (objects_made defs vs) ≡ true →
-        all_of (λ (o : PlainObject). leaves_fit o.size 0 o.leaves) (map (λ (v : VariableTree). record { size = size defs v.type; leaves = leaves defs v.type }) (if t then v ∷ filter (λ (v : VariableTree). v.is_object) vs else filter (λ (v : VariableTree). v.is_object) vs)) ≡ true
+        all_of (λ (o : PlainObject). leaves_fit o.size 0 o.leaves) (map (λ (v : VariableTree). record { size = size defs v.type; leaves = leaves defs v.type })
+        (if t then v ∷ filter (λ (v : VariableTree). v.is_object) vs else filter (λ (v : VariableTree). v.is_object) vs)) ≡ true
     by_kind true a b = λ i. a i && b i
     by_kind false a b = b
 

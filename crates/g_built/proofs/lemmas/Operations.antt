@@ -143,7 +143,8 @@ extended_ok f c s (scalar_type Short) v h x = un_ok f c s Sext16 v h x
 extended_ok f c s t v h x = same_value f c s v h x
 
 -- one operation on what another gives
-pub value_then : (f : Frame) (c : Standing) (a : Built Origin) (k : Origin → Point → Built Origin) → Made f IsValue c a → ((d : Standing) → Done f IsValue c a d → Made f IsValue d (k a.value a.after)) →
+pub value_then : (f : Frame) (c : Standing) (a : Built Origin) (k : Origin → Point → Built Origin) → Made f IsValue c a →
+    ((d : Standing) → Done f IsValue c a d → Made f IsValue d (k a.value a.after)) →
     Made f IsValue c (bind a k)
 value_then f c a k h then = then_made f IsValue IsValue c a k h then
 

@@ -56,7 +56,8 @@ IsPlain Gamma = ⊥
 IsPlain Theta = ⊥
 IsPlain op = Unit {0}
 
-node_forms : (a : Op → ℕ → Type 0) (c : Standing) (op : Op) (id : ℕ) (inputs : List Origin) → IsPlain op → c.next ≤ id → a op (length inputs) → HasAll c (inputs_of op (length inputs) no_regions) inputs →
+node_forms : (a : Op → ℕ → Type 0) (c : Standing) (op : Op) (id : ℕ) (inputs : List Origin) → IsPlain op → c.next ≤ id → a op (length inputs) →
+    HasAll c (inputs_of op (length inputs) no_regions) inputs →
     NodeForms a c (node id op inputs no_regions) (op_outputs op) (suc id)
 node_forms a c Gamma id inputs p l f h = absurd p
 node_forms a c Theta id inputs p l f h = absurd p
@@ -68,7 +69,8 @@ pub record Given {A : Type 0} (V : Standing → A → Type 0) (d : Standing) (v 
   pub io : Has d Io i
   pub value : V d v
 
-pub node_made : {A : Type 0} → (f : Frame) (V : Standing → A → Type 0) (c : Standing) (s : Point) (op : Op) (inputs : List Origin) (v : A) (m i : Origin) → Stands f c s → IsPlain op → allowed f op (length inputs) →
+pub node_made : {A : Type 0} → (f : Frame) (V : Standing → A → Type 0) (c : Standing) (s : Point) (op : Op) (inputs : List Origin) (v : A) (m i : Origin) → Stands f c s → IsPlain op →
+    allowed f op (length inputs) →
     HasAll c (inputs_of op (length inputs) no_regions) inputs →
     (Grown c (after_node c s.next (op_outputs op) (suc s.next)) → Given V (after_node c s.next (op_outputs op) (suc s.next)) v m i) → Made f V c (one_node s op inputs v m i)
 node_made f V c s op inputs v m i h plain ok takes gives =
@@ -201,7 +203,8 @@ abbrev pub AllInside : {A : Type 0} → Frame → (Standing → A → Type 0) �
 AllInside f V [] = Unit {0}
 AllInside f V (g ∷ gs) = MadeInside f V g × AllInside f V gs
 
-regions_form : {A : Type 0} → (f : Frame) (V : Standing → A → Type 0) (c : Standing) (s : Point) (n : ℕ) (x : Extra A) (extra : List Kind) (gs : List (Point → Built A)) → Stands f c s → AllInside f V gs →
+regions_form : {A : Type 0} → (f : Frame) (V : Standing → A → Type 0) (c : Standing) (s : Point) (n : ℕ) (x : Extra A) (extra : List Kind) (gs : List (Point → Built A)) → Stands f c s →
+    AllInside f V gs →
     ((d : Standing) (v : A) → V d v → HasAll d extra (x.results v)) →
     RegionsForm (allowed f) n (frame_kinds f) (extra ++ frame_kinds f) (regions_of (regions_made x s.carried n gs).regions) (regions_made x s.carried n gs).next
 regions_form f V c s n x extra [] h inner gives = omega arith
@@ -226,7 +229,8 @@ regions_form f V c s n x extra (g ∷ gs) h inner gives =
     )
 
 -- what stands after a Gamma or a Theta
-after_stands : {A : Type 0} → (f : Frame) (V W : Standing → A → Type 0) (c : Standing) (s : Point) (x : Extra A) (extra : List Kind) (m : ℕ) → Stands f c s → ExtraFits f V W c s.next x extra → suc s.next ≤ m →
+after_stands : {A : Type 0} → (f : Frame) (V W : Standing → A → Type 0) (c : Standing) (s : Point) (x : Extra A) (extra : List Kind) (m : ℕ) → Stands f c s → ExtraFits f V W c s.next x extra →
+    suc s.next ≤ m →
     Grown c (after_node c s.next (extra ++ frame_kinds f) m)
     × Stands f (after_node c s.next (extra ++ frame_kinds f) m) (record { next = m; carried = renamed s.carried (λ k. Out s.next (x.port k)) })
 after_stands f V W c s x extra m h fits rises =
@@ -238,7 +242,8 @@ after_stands f V W c s x extra m h fits rises =
     )
 
 pub gamma_made : {A : Type 0} → (f : Frame) (V W : Standing → A → Type 0) (c : Standing) (s : Point) (x : Extra A) (extra : List Kind) (p : Origin) (r : Regions) → Stands f c s → IsValue c p →
-    ExtraFits f V W c s.next x extra → AreSome (regions_of r.regions) → RegionsForm (allowed f) (suc s.next) (frame_kinds f) (extra ++ frame_kinds f) (regions_of r.regions) r.next → Made f W c (gamma x s p r)
+    ExtraFits f V W c s.next x extra → AreSome (regions_of r.regions) → RegionsForm (allowed f) (suc s.next) (frame_kinds f) (extra ++ frame_kinds f) (regions_of r.regions) r.next →
+    Made f W c (gamma x s p r)
 gamma_made f V W c s x extra p r h test fits some regions =
     let rises = regions_rise (allowed f) (suc s.next) (frame_kinds f) (extra ++ frame_kinds f) (regions_of r.regions) r.next regions in
     let e = after_stands f V W c s x extra r.next h fits rises in (
@@ -248,7 +253,8 @@ gamma_made f V W c s x extra p r h test fits some regions =
       record { grown = e.0; stands = e.1; value = fits.value r.next e.0 },
     )
 
-pub choices_made : {A : Type 0} → (f : Frame) (V W : Standing → A → Type 0) (c : Standing) (s : Point) (x : Extra A) (extra : List Kind) (p : Origin) (g : Point → Built A) (gs : List (Point → Built A)) → Stands f c s →
+pub choices_made : {A : Type 0} → (f : Frame) (V W : Standing → A → Type 0) (c : Standing) (s : Point) (x : Extra A) (extra : List Kind) (p : Origin) (g : Point → Built A) (gs : List (Point →
+    Built A)) → Stands f c s →
     IsValue c p → ExtraFits f V W c s.next x extra → AllInside f V (g ∷ gs) → Made f W c (choices x s p (g ∷ gs))
 choices_made f V W c s x extra p g gs h test fits inner =
     gamma_made f V W c s x extra p (regions_made x s.carried (suc s.next) (g ∷ gs)) h test fits tt (regions_form f V c s (suc s.next) x extra (g ∷ gs) h inner fits.gives)

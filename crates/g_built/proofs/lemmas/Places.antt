@@ -178,7 +178,8 @@ pub address_spot_ok : (f : Frame) (c : Standing) (b : Built Origin) → Made f I
 address_spot_ok f c b h =
     then_made f IsValue (SpotFits f.marks) c b (λ a t. given (at_address a) t) h (λ d x. given_made f (SpotFits f.marks) d b.after (at_address b.value) x.stands x.value)
 
-slot_spot_by : (f : Frame) (c : Standing) (s : Point) (k : ℕ) (m : Mark) (x : Option SlotOrigin) → Stands f c s → mark_at f.marks k ≡ Some m → SlotIs f.objects c m x → Made f (SpotFits f.marks) c (slot_spot k x s)
+slot_spot_by : (f : Frame) (c : Standing) (s : Point) (k : ℕ) (m : Mark) (x : Option SlotOrigin) → Stands f c s → mark_at f.marks k ≡ Some m → SlotIs f.objects c m x →
+    Made f (SpotFits f.marks) c (slot_spot k x s)
 slot_spot_by f c s k m None h e g = absurd g
 slot_spot_by f c s k a_value (Some (held o)) h e g = given_made f (SpotFits f.marks) c s (in_slot k) h e
 slot_spot_by f c s k (an_object j) (Some (held o)) h e g = absurd g

@@ -68,7 +68,8 @@ params_shown : (k : ℕ) (ps : List VariableTree) → shown (params_marks k ps) 
 params_shown k [] = refl
 params_shown k (p ∷ ps) = by_kind p.is_object (params_shown (suc k) ps) (params_shown k ps)
   where
-    by_kind : (t : Bool) → shown (params_marks (suc k) ps) ≡ length ps → shown (params_marks k ps) ≡ length ps → shown (if t then an_object k ∷ params_marks (suc k) ps else a_value ∷ params_marks k ps) ≡ suc (length ps)
+    by_kind : (t : Bool) → shown (params_marks (suc k) ps) ≡ length ps → shown (params_marks k ps) ≡ length ps →
+        shown (if t then an_object k ∷ params_marks (suc k) ps else a_value ∷ params_marks k ps) ≡ suc (length ps)
     by_kind true e d = ap suc e
     by_kind false e d = ap suc d
 

@@ -40,7 +40,8 @@ labels_made_ok f c s p d (l ∷ ls) n h x y =
     let m = moved_where q.value (word_difference l.target.segment d) n q.after in
     let r = labels_made p d ls m.value m.after in
     then_made f IsValue SelectedFits c w
-    (λ w t. bind (bin_made op.Eq p w t) (λ q u. bind (moved_where q (word_difference l.target.segment d) n u) (λ m v. bind (labels_made p d ls m v) (λ x w2. given (record { number = x.number; equals = q ∷ x.equals }) w2))))
+    (λ w t. bind (bin_made op.Eq p w t) (λ q u. bind (moved_where q (word_difference l.target.segment d) n u) (λ m v. bind (labels_made p d ls m v)
+    (λ x w2. given (record { number = x.number; equals = q ∷ x.equals }) w2))))
     (const_ok f c s l.word h) (λ d1 x1.
     then_made f IsValue SelectedFits d1 q
     (λ q u. bind (moved_where q (word_difference l.target.segment d) n u) (λ m v. bind (labels_made p d ls m v) (λ x w2. given (record { number = x.number; equals = q ∷ x.equals }) w2)))
@@ -57,7 +58,8 @@ segment_made_ok f c s p d ls h x =
     let n = const_made d s in
     then_made f IsValue SelectedFits c n (λ n t. labels_made p d ls n t) (const_ok f c s d h) (λ e y. labels_made_ok f e n.after p d ls n.value y.stands (y.grown p Value x) y.value)
 
-groups_moved_ok : (f : Frame) (c : Standing) (s : Point) (d : ℕ) (ls : List Label) (qs : List Origin) (n : Origin) → Stands f c s → AreValues c qs → IsValue c n → Made f IsValue c (groups_moved d ls qs n s)
+groups_moved_ok : (f : Frame) (c : Standing) (s : Point) (d : ℕ) (ls : List Label) (qs : List Origin) (n : Origin) → Stands f c s → AreValues c qs → IsValue c n →
+    Made f IsValue c (groups_moved d ls qs n s)
 groups_moved_ok f c s d [] qs n h x y = given_made f IsValue c s n h y
 groups_moved_ok f c s d (l ∷ ls) [] n h x y = given_made f IsValue c s n h y
 groups_moved_ok f c s d (l ∷ ls) (q ∷ qs) n h x y =
@@ -72,7 +74,8 @@ abbrev pub from_frame : (several : Bool) → Frame → Frame
 from_frame true f = with_mark f a_hidden
 from_frame false f = f
 
-from_made_ok : (several : Bool) (f : Frame) (c : Standing) (s : Point) (d : ℕ) (ls : List Label) (qs : List Origin) → Stands f c s → AreValues c qs → Made (from_frame several f) NoValue c (from_made several d ls qs s)
+from_made_ok : (several : Bool) (f : Frame) (c : Standing) (s : Point) (d : ℕ) (ls : List Label) (qs : List Origin) → Stands f c s → AreValues c qs →
+    Made (from_frame several f) NoValue c (from_made several d ls qs s)
 from_made_ok false f c s d ls qs h x = nothing_made f c s h
 from_made_ok true f c s d ls qs h x =
     let n = const_made d s in
@@ -102,7 +105,8 @@ group_made_ok f c s g k from h inner =
     then_made f IsValue NoValue d1 p (λ p u. choice no_value u p nothing k) (bin_ok f d1 w.after op.Sltu (slot_origin (newest w.after.carried.variables)) w.value x1.stands (value d1 x1.stands) x1.value) (λ d2 x2.
     choice_made f NoValue NoValue d2 p.after no_value [] p.value nothing k x2.stands x2.value (no_value_fits f d2 p.after.next) (λ d t y. nothing_made f d t y) inner))
 
-pub segments_with_ok : (f : Frame) (begins ends : Bool) (g : ℕ) (l : Bool) (k : Point → Built (Unit {0})) (later : List (Point → Built (Unit {0}))) → HasFrom (not begins || not ends) f → MayJump f.form l →
+pub segments_with_ok : (f : Frame) (begins ends : Bool) (g : ℕ) (l : Bool) (k : Point → Built (Unit {0})) (later : List (Point → Built (Unit {0}))) → HasFrom (not begins || not ends) f →
+    MayJump f.form l →
     MadeInside f NoValue k → AllInside f NoValue later → AllInside f NoValue (segments_with begins ends g l k later)
 segments_with_ok f true true g l k later from m a b = (a, b)
 segments_with_ok f false true g l k later from m a b = (λ c s h. group_made_ok f c s g k from h a, b)
@@ -130,10 +134,12 @@ some_choices : (f : Frame) (c : Standing) (s : Point) (p : Origin) (gs : List (P
 some_choices f c s p [] h x inner = choices_made f NoValue NoValue c s no_value [] p nothing [] h x (no_value_fits f c s.next) (and_nothing f [] inner)
 some_choices f c s p (g ∷ gs) h x inner = choices_made f NoValue NoValue c s no_value [] p g (gs ++ nothing ∷ []) h x (no_value_fits f c s.next) (and_nothing f (g ∷ gs) inner)
 
-chosen_ok : (several : Bool) (f : Frame) (c : Standing) (s : Point) (p : Origin) (d : Target) (ls : List Label) (leaves : Bool) (fs : List (Point → Built (Unit {0}))) → Stands f c s → IsValue c p → MayJump f.form leaves →
+chosen_ok : (several : Bool) (f : Frame) (c : Standing) (s : Point) (p : Origin) (d : Target) (ls : List Label) (leaves : Bool) (fs : List (Point → Built (Unit {0}))) → Stands f c s → IsValue c p →
+    MayJump f.form leaves →
     allowed f ≡ allowed (from_frame several f) → AllInside (from_frame several f) NoValue fs →
     Made f NoValue c
-    (bind (segment_made p d.segment ls s) (λ x t. bind (from_made several d.group ls x.equals t) (λ _ u. bind (choices no_value u x.number (fs ++ nothing ∷ [])) (λ _ v. break_ended leaves (from_popped several v)))))
+    (bind (segment_made p d.segment ls s) (λ x t. bind (from_made several d.group ls x.equals t) (λ _ u. bind (choices no_value u x.number (fs ++ nothing ∷ []))
+    (λ _ v. break_ended leaves (from_popped several v)))))
 chosen_ok several f c s p d ls leaves fs h x m same inner =
     let g = from_frame several f in
     let n = segment_made p d.segment ls s in
@@ -152,7 +158,8 @@ same_allowed : (several : Bool) (f : Frame) → allowed f ≡ allowed (from_fram
 same_allowed true f = refl
 same_allowed false f = refl
 
-pub switch_made_ok : (f : Frame) (c : Standing) (s : Point) (p : Origin) (gs : GroupTrees) (fs : List (Point → Built (Unit {0}))) → Stands f c s → IsValue c p → MayJump f.form (groups_exits gs).breaks →
+pub switch_made_ok : (f : Frame) (c : Standing) (s : Point) (p : Origin) (gs : GroupTrees) (fs : List (Point → Built (Unit {0}))) → Stands f c s → IsValue c p →
+    MayJump f.form (groups_exits gs).breaks →
     AllInside (from_frame (some_segment_has_several gs) f) NoValue fs → Made f NoValue c (switch_made p gs fs s)
 switch_made_ok f c s p no_groups fs h x m inner = nothing_made f c s h
 switch_made_ok f c s p (group_then cases d is gs) fs h x m inner =

@@ -76,7 +76,8 @@ mutual
   node_once a c (node id op inputs rs) ks m h =
       once_first c.next id m (regions_ids rs) h.0 (omega (arith, h.2.rises)) (subst (λ ns. Once (suc id) ns m) (ap regions_ids (sym h.2.without)) (once_none (suc id) m))
 
-  nodes_once : (allowed : Op → ℕ → Type 0) (c : Standing) (ns : NodeTrees) (m : ℕ) (outs : List Kind) (results : List Origin) → NodesForm allowed c ns (Ends m outs results) → Once c.next (nodes_ids ns) m
+  nodes_once : (allowed : Op → ℕ → Type 0) (c : Standing) (ns : NodeTrees) (m : ℕ) (outs : List Kind) (results : List Origin) → NodesForm allowed c ns (Ends m outs results) →
+      Once c.next (nodes_ids ns) m
   nodes_once a c no_nodes m outs results h = once_none c.next m
   nodes_once a c (node_then x ns) m outs results h =
       once_apart c.next c.next h.1 h.1 m m (node_ids x) (nodes_ids ns)
