@@ -46,9 +46,9 @@ size_found defs t = if_holds (SizeOf defs t) (is_complete defs t && nat_le (size
 -- ---- arithmetic
 
 -- operations of two integers in their common type, signed and unsigned
-record AreOperations (o u : Op2) : Type 0 where
-  serves : (b : Bool) → Serves (chosen o u b) (if_unsigned b)
-  plain : (b : Bool) → is_shift (chosen o u b) ≡ false
+pub record AreOperations (o u : Op2) : Type 0 where
+  pub serves : (b : Bool) → Serves (chosen o u b) (if_unsigned b)
+  pub plain : (b : Bool) → is_shift (chosen o u b) ≡ false
 
 arithmetic_typed : (c : Scope) (o u : Op2) (b : Bool) (x y : ExprTree) → AreOperations o u → ExprIsTyped c x → ExprIsTyped c y → IsInteger (type_of x) → IsInteger (type_of y) → ExprIsTyped c (arithmetic o u b x y)
 arithmetic_typed c o u b x y ok tx ty ix iy =
@@ -60,9 +60,9 @@ integers_typed : (c : Scope) (o u : Op2) (s t : TypeTree) (x y : ExprTree) → A
 integers_typed c o u (scalar_type s) (scalar_type t) x y ok tx ty ex ey = arithmetic_typed c o u (are_unsigned s t) x y ok tx ty (subst IsInteger (sym ex) tt) (subst IsInteger (sym ey) tt)
 integers_typed c o u s t x y ok tx ty ex ey = tt
 
-record AreShifts (o u : Op2) : Type 0 where
-  serves : (b : Bool) → Serves (chosen o u b) (if_unsigned b)
-  shifts : (b : Bool) → is_shift (chosen o u b) ≡ true
+pub record AreShifts (o u : Op2) : Type 0 where
+  pub serves : (b : Bool) → Serves (chosen o u b) (if_unsigned b)
+  pub shifts : (b : Bool) → is_shift (chosen o u b) ≡ true
 
 shifted_typed : (c : Scope) (o u : Op2) (s t : TypeTree) (x y : ExprTree) → AreShifts o u → ExprIsTyped c x → ExprIsTyped c y → type_of x ≡ s → type_of y ≡ t → IfSome (ExprIsTyped c) (shifted_by o u s t x y)
 shifted_typed c o u (scalar_type s) (scalar_type t) x y ok tx ty ex ey =
@@ -71,7 +71,7 @@ shifted_typed c o u (scalar_type s) (scalar_type t) x y ok tx ty ex ey =
     (l.typed, r.typed, (ok.serves (is_unsigned s), l.type, subst (λ q. IsRightOf q (if_unsigned (is_unsigned s)) (type_of (promoted t y))) (sym (ok.shifts (is_unsigned s))) (subst IsPromoted (sym r.type) (unsigned_promoted (is_unsigned t)))))
 shifted_typed c o u s t x y ok tx ty ex ey = tt
 
-mul_serves : AreOperations op.Mul op.Mul
+pub mul_serves : AreOperations op.Mul op.Mul
 mul_serves = record { serves = serves; plain = plain }
   where
     serves : (b : Bool) → Serves (chosen op.Mul op.Mul b) (if_unsigned b)
@@ -82,7 +82,7 @@ mul_serves = record { serves = serves; plain = plain }
     plain true = refl
     plain false = refl
 
-div_serves : AreOperations op.Div op.Divu
+pub div_serves : AreOperations op.Div op.Divu
 div_serves = record { serves = serves; plain = plain }
   where
     serves : (b : Bool) → Serves (chosen op.Div op.Divu b) (if_unsigned b)
@@ -93,7 +93,7 @@ div_serves = record { serves = serves; plain = plain }
     plain true = refl
     plain false = refl
 
-rem_serves : AreOperations op.Rem op.Remu
+pub rem_serves : AreOperations op.Rem op.Remu
 rem_serves = record { serves = serves; plain = plain }
   where
     serves : (b : Bool) → Serves (chosen op.Rem op.Remu b) (if_unsigned b)
@@ -104,7 +104,7 @@ rem_serves = record { serves = serves; plain = plain }
     plain true = refl
     plain false = refl
 
-and_serves : AreOperations op.And op.And
+pub and_serves : AreOperations op.And op.And
 and_serves = record { serves = serves; plain = plain }
   where
     serves : (b : Bool) → Serves (chosen op.And op.And b) (if_unsigned b)
@@ -115,7 +115,7 @@ and_serves = record { serves = serves; plain = plain }
     plain true = refl
     plain false = refl
 
-or_serves : AreOperations op.Or op.Or
+pub or_serves : AreOperations op.Or op.Or
 or_serves = record { serves = serves; plain = plain }
   where
     serves : (b : Bool) → Serves (chosen op.Or op.Or b) (if_unsigned b)
@@ -126,7 +126,7 @@ or_serves = record { serves = serves; plain = plain }
     plain true = refl
     plain false = refl
 
-xor_serves : AreOperations op.Xor op.Xor
+pub xor_serves : AreOperations op.Xor op.Xor
 xor_serves = record { serves = serves; plain = plain }
   where
     serves : (b : Bool) → Serves (chosen op.Xor op.Xor b) (if_unsigned b)
@@ -137,7 +137,7 @@ xor_serves = record { serves = serves; plain = plain }
     plain true = refl
     plain false = refl
 
-add_serves : AreOperations op.Add op.Add
+pub add_serves : AreOperations op.Add op.Add
 add_serves = record { serves = serves; plain = plain }
   where
     serves : (b : Bool) → Serves (chosen op.Add op.Add b) (if_unsigned b)
@@ -148,7 +148,7 @@ add_serves = record { serves = serves; plain = plain }
     plain true = refl
     plain false = refl
 
-sub_serves : AreOperations op.Sub op.Sub
+pub sub_serves : AreOperations op.Sub op.Sub
 sub_serves = record { serves = serves; plain = plain }
   where
     serves : (b : Bool) → Serves (chosen op.Sub op.Sub b) (if_unsigned b)
@@ -159,7 +159,7 @@ sub_serves = record { serves = serves; plain = plain }
     plain true = refl
     plain false = refl
 
-left_shifts : AreShifts op.Sll op.Sll
+pub left_shifts : AreShifts op.Sll op.Sll
 left_shifts = record { serves = serves; shifts = shifts }
   where
     serves : (b : Bool) → Serves (chosen op.Sll op.Sll b) (if_unsigned b)
@@ -170,7 +170,7 @@ left_shifts = record { serves = serves; shifts = shifts }
     shifts true = refl
     shifts false = refl
 
-right_shifts : AreShifts op.Sra op.Srl
+pub right_shifts : AreShifts op.Sra op.Srl
 right_shifts = record { serves = serves; shifts = shifts }
   where
     serves : (b : Bool) → Serves (chosen op.Sra op.Srl b) (if_unsigned b)
