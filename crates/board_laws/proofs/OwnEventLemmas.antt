@@ -3,7 +3,6 @@ use Rattle.std.proofs.Common.{◌≡◌, ◌≢◌, ℕ, ◌<◌, ◌↔◌, ◌
 use Rattle.std.proofs.lemmas.List.{length-set, length-replicate, get_or_past, get_or-set_same, get_or-set_other, get_or-replicate}
 use Rattle.std.proofs.lemmas.Bool.{cases_lt, cases_eq, eq-eqb, ne_eqb}
 use Rattle.std.proofs.Math.Bool.{or-false}
-use Rattle.std.proofs.Math.Option.{some-injective}
 use Rattle.board_core.specs.declared.event.Event.{Event}
 use Rattle.board_core.specs.declared.event.Event.TheVariants.{Claim, Publish, Stop}
 use Rattle.board_core.specs.Board.{Job, Open, Held, Out, Program, State, job_at, released, MayHappen, after, start, replay_from, IsLegalFrom}
@@ -143,7 +142,8 @@ module _ {M : Type 0} where
 
   pub workers-hold-one : WorkersHoldOne M
   workers-hold-one program events legal worker j k first second =
-      some-injective j k (sym ((own-events-decide program events legal worker j).0 first) ∙ (own-events-decide program events legal worker k).0 second)
+      let same : Some j ≡ Some k = sym ((own-events-decide program events legal worker j).0 first) ∙ (own-events-decide program events legal worker k).0 second in
+      cc
 
   -- ---- stops
 

@@ -76,6 +76,7 @@ impl<T: Copy> Declarations<T> {
     pub(crate) fn push(&mut self, name: &Name, meaning: T) -> Result<(), NoMemory>
         ensures ok { OnOk result (self.new ≡ (name.now, meaning) ∷ self.old) }
         ensures err { OnErr result (self.new ≡ self.old) }
+        ensures small { length self.old < 2 ^ 63 }
     {
         let hidden = self.latest.get(name).copied();
         let index = self.all.len();

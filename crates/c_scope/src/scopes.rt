@@ -88,4 +88,22 @@ impl<T: Copy> Scopes<T> {
         self.count += 1;
         Ok(true)
     }
+
+    /// Whether the innermost scope declares a name.
+    pub fn is_declared(&self, name: &Name) -> bool
+        ensures { result ≡ is_declared self.now name.now }
+    {
+        self.declarations.is_among_latest(self.count, name)
+    }
+
+    /// Declares a name in the innermost scope, which may declare it already: the later declaration
+    /// hides the earlier one. Without memory nothing changes.
+    pub fn bind(&mut self, name: &Name, meaning: T) -> Result<(), NoMemory>
+        ensures ok { OnOk result (self.new ≡ with_declaration self.old name.now meaning) }
+        ensures err { OnErr result (self.new ≡ self.old) }
+    {
+        self.declarations.push(name, meaning)?;
+        self.count += 1;
+        Ok(())
+    }
 }

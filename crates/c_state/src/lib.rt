@@ -1,0 +1,23 @@
+//! The state of the checker: what is known at a point of a program, and each step that goes on from
+//! it. It stands on scopes, types and the typed program; the checker's functions stand on it.
+//! Promise: each step makes of a state exactly what the definition of elaboration makes of it, out
+//! of memory apart, after which nothing is promised. No step copies the state.
+#![tactic(auto)]
+
+mod declared;
+mod functions;
+mod globals;
+mod initial;
+mod maybe_type;
+mod names;
+mod state;
+mod structs;
+mod term;
+mod variables;
+
+pub use declared::Declared;
+pub use globals::GlobalObject;
+pub use maybe_type::MaybeType;
+pub use state::State;
+pub use term::Term;
+pub use variables::Variable;
