@@ -1,0 +1,4 @@
+pub mod Renaming
+pub mod Slots
+pub mod Scopes
+pub mod Ends

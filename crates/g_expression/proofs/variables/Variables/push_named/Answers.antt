@@ -1,0 +1,19 @@
+use Rattle.std.proofs.Common.{◌≡◌, ◌+◌, ◌-◌, ◌<◌, ◌≤◌, map, ℕ, Bool, true, false, List, [], ◌∷◌, ◌++◌, length, take, drop, slice_set, get_or, sym, ap, ◌∙◌, arith, rules, refl}
+use Rattle.std.specs.Prelude.{not, is_ok, if◌then◌else◌, option_copied, slice_get}
+use Rattle.g_graph.specs.declared.op.Origin.TheVariants.{Arg, Out}
+use Rattle.g_construct.specs.Writer.{variable_at, variable_set, newest, without_newest, slot_origin, numbered}
+use Rattle.g_expression.specs.SlotViews.{slot_of}
+use Rattle.g_expression.specs.Places.{is_hidden}
+use Rattle.g_expression.specs.Numbers.{origin_from}
+use Rattle.g_expression.proofs.Scopes.{item_get, at_found, at_missing, newest_of, newest_none, pop_drops, pop_keeps, popped_is, push_adds, push_keeps, set_one, set_past, set_keeps, set_at_found, set_at_missing, not_true, not_false, shorter, same_length, rename_step, rename_keeps}
+use Rattle.g_expression.proofs.variables.Variables.push_named.Goals as goal
+
+pub invariant_of-self-else-is_err : goal.invariant_of-self-else-is_err
+invariant_of-self-else-is_err c =
+    let did : is_ok c.push-2.result ≡ true = c.is_err.ensures.negation ∙ ap not c.if-is_err.false in
+    let all : c.push-2.new.self.items ≡ c.self.inside.all.items ++ c.args.variable ∷ [] =
+    c.push-2.ensures.items ∙ ap (λ (b : Bool). if b then (c.self.inside.all.items ++ c.args.variable ∷ []) else c.self.inside.all.items) did in
+    let count : c.len.result ≡ length c.self.inside.all.items = c.len.ensures ∙ c.self.inside.all.ok.0 in (
+      omega (arith, ap length all, shorter c.self.inside.all.items c.args.variable, c.requires.room, ap length c.self.view_is, same_length c.self.inside.all.items),
+      push_adds c.self.inside.all.items c.push-2.new.self.items c.args.variable c.self.inside.places.items c.push.new.self.items c.len.result c.self.invariant.1 c.requires.named all count c.in_ok-push.ensures.items,
+    )

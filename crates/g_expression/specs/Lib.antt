@@ -1,0 +1,5 @@
+pub mod SlotViews
+pub mod Places
+pub mod Numbers
+pub mod Work
+pub mod WorkCodes
