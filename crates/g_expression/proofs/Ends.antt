@@ -1,8 +1,8 @@
 -- A node with regions ends.
-use Rattle.std.proofs.Common.{◌≡◌, ℕ, Bool, List, [], ◌∷◌, refl, sym, ap, ◌∙◌}
-use Rattle.std.specs.Prelude.{Option, None, Some}
+use Rattle.std.proofs.Common.{◌≡◌, ℕ, Bool, List, [], ◌∷◌, ap, ◌∙◌}
+use Rattle.std.specs.Prelude.{Some}
 use Rattle.g_graph.specs.declared.op.Op.{Op}
-use Rattle.g_graph.specs.declared.op.Origin.TheVariants.{Arg, Out}
+use Rattle.g_graph.specs.declared.op.Origin.TheVariants.{Out}
 use Rattle.g_construct.specs.Writer.{Carried, renamed}
 use Rattle.g_expression.specs.Work.{Around, Work, ended_id, node_ended, ended_in, ended, carried_from, extra_count, port_of}
 use Rattle.g_expression.proofs.Renaming.{renamed_ports}

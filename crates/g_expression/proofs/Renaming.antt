@@ -1,5 +1,5 @@
 -- Carried variables from a numbering.
-use Rattle.std.proofs.Common.{◌≡◌, ℕ, zero, suc, ◌+◌, List, [], ◌∷◌, ◌++◌, length, map, refl, sym, ap, ◌∙◌, arith}
+use Rattle.std.proofs.Common.{◌≡◌, ℕ, suc, ◌+◌, List, [], ◌∷◌, ◌++◌, length, refl, sym, ap, ◌∙◌, arith}
 use Rattle.std.specs.Prelude.{Option, None, Some}
 use Rattle.g_graph.specs.declared.op.Origin.{Origin}
 use Rattle.g_graph.specs.declared.op.Origin.TheVariants.{Arg, Out}
@@ -21,7 +21,7 @@ beyond_is (held o ∷ xs) f k = let e : suc (length (value_origins xs) + k) ≡ 
 beyond_is (object n ∷ xs) f k = beyond_is xs f k
 beyond_is (hidden o ∷ xs) f k = let e : suc (length (value_origins xs) + k) ≡ suc (length (value_origins xs)) + k = omega arith in beyond_is xs (λ j. f (suc j)) k ∙ ap f e
 
-last_same : (x : Form) (xs ys : List SlotOrigin) (f g : ℕ → Origin) → xs ≡ ys → ((k : ℕ) → f k ≡ g k) → with_last x xs f ≡ with_last x ys g
+pub last_same : (x : Form) (xs ys : List SlotOrigin) (f g : ℕ → Origin) → xs ≡ ys → ((k : ℕ) → f k ≡ g k) → with_last x xs f ≡ with_last x ys g
 last_same straight xs ys f g e h = λ i. record { form = straight; variables = e i; go = Arg 0; ret = Arg 0; memory = h 0 i; io = h 1 i }
 last_same jumping xs ys f g e h = λ i. record { form = jumping; variables = e i; go = h 0 i; ret = h 1 i; memory = h 2 i; io = h 3 i }
 

@@ -1,16 +1,16 @@
 -- The code's list of variables, with the places of its slots.
 use Rattle.std.proofs.Common.{◌≡◌, ℕ, zero, suc, ◌+◌, ◌-◌, ◌≤◌, Bool, true, false, List, [], ◌∷◌, ◌++◌, length, map, take, drop, get_or, Bor, ◌<◌, append_assoc, refl, sym, ap, ◌∙◌, arith}
-use Rattle.std.specs.Prelude.{not, Option, None, Some, IfSome, MatchOption, option_copied, option_map, option_and_then, option_to_list, slice_get, slice_set}
+use Rattle.std.specs.Prelude.{not, Option, None, Some, IfSome, MatchOption, option_copied, option_map, option_and_then, slice_get, slice_set}
 use Rattle.std.specs.List.{HoldsAt}
 use Rattle.g_graph.specs.declared.op.Origin.{Origin}
-use Rattle.g_graph.specs.declared.op.Origin.TheVariants.{Arg, Out}
-use Rattle.g_construct.specs.Writer.{SlotOrigin, held, object, hidden, variable_at, variable_set, newest, without_newest, slot_origin, value_origins, value_kinds, numbered}
+use Rattle.g_graph.specs.declared.op.Origin.TheVariants.{Arg}
+use Rattle.g_construct.specs.Writer.{SlotOrigin, held, object, hidden, variable_at, variable_set, newest, without_newest, slot_origin, value_origins, numbered}
 use Rattle.g_expression.specs.declared.variables.InScope.{InScope}
 use Rattle.g_expression.specs.SlotViews.{slot_of}
 use Rattle.g_expression.specs.Places.{is_hidden, slot_places, slot_set, held_set}
 use Rattle.g_expression.specs.Numbers.{origin_from, slot_at, slot_values}
 use Rattle.g_expression.proofs.Renaming.{numbered_step}
-use Rattle.g_expression.proofs.Slots.{at_place, set_found, set_place, places_append, places_numbered, places_set, without_newest_append, newest_append}
+use Rattle.g_expression.proofs.Slots.{at_place, set_found, set_place, places_append, places_numbered, places_set, without_newest_append}
 
 get_map : {X Y : Type 0} → (f : X → Y) (xs : List X) (i : ℕ) → option_map f (slice_get xs i) ≡ slice_get (map f xs) i
 get_map f [] i = refl

@@ -1,10 +1,9 @@
 -- Variables by slot, by place, and the newest one.
-use Rattle.std.proofs.Common.{◌≡◌, ℕ, zero, suc, ◌+◌, Bool, true, false, List, [], ◌∷◌, ◌++◌, length, map, append_assoc, refl, sym, ap, ◌∙◌, arith}
+use Rattle.std.proofs.Common.{◌≡◌, ℕ, zero, suc, ◌+◌, List, [], ◌∷◌, ◌++◌, length, append_assoc, refl, sym, ap, ◌∙◌, arith}
 use Rattle.std.specs.Prelude.{Option, None, Some, option_and_then, slice_get}
 use Rattle.g_graph.specs.declared.op.Origin.{Origin}
-use Rattle.g_graph.specs.declared.op.Origin.TheVariants.{Arg, Out}
 use Rattle.g_construct.specs.Writer.{SlotOrigin, held, object, hidden, variable_at, variable_set, newest, without_newest, value_origins, value_kinds, numbered}
-use Rattle.g_expression.specs.Places.{is_hidden, slot_places, slot_set, held_set}
+use Rattle.g_expression.specs.Places.{slot_places, slot_set, held_set}
 
 get_here : {X : Type 0} → (pre xs : List X) (x : X) → slice_get (pre ++ x ∷ xs) (length pre) ≡ Some x
 get_here [] xs x = refl

@@ -3,3 +3,5 @@ pub mod Places
 pub mod Numbers
 pub mod Work
 pub mod WorkCodes
+pub mod SpotViews
+pub mod Parts

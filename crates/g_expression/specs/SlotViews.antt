@@ -1,5 +1,4 @@
 -- Variables in scope, as the code keeps them.
-use Rattle.std.specs.Prelude.{Option, None, Some}
 use Rattle.g_construct.specs.Writer.{Form, straight, jumping, SlotOrigin, held, object, hidden}
 use Rattle.std.specs.Prelude.{Bool, true, false}
 use Rattle.g_expression.specs.declared.variables.InScope.{InScope}

@@ -6,7 +6,7 @@ use Rattle.g_graph.specs.declared.op.Origin.TheVariants.{Arg, Out}
 use Rattle.g_graph.specs.declared.op.Op.{Op}
 use Rattle.g_graph.specs.declared.op.Op.TheVariants.{Apply}
 use Rattle.g_graph.specs.Plain.{RegionTree, region, NodeTree, node, nodes_of, no_regions, regions_of}
-use Rattle.g_construct.specs.Writer.{Carried, carried_origins, carried_kinds, renamed, Point, with_states, Built, inside, exchanged}
+use Rattle.g_construct.specs.Writer.{carried_origins, carried_kinds, renamed, Point, with_states, Built, inside, exchanged}
 use Rattle.g_expression.specs.Numbers.{origin_from}
 
 -- A node whose regions are being made: the nodes before it, its number, its inputs, and its regions so far.

@@ -140,6 +140,13 @@ impl Builder {
         self.go
     }
 
+    // A list of no origins.
+    pub fn no_origins(&self) -> Vec<Origin>
+        ensures { result.items ≡ [] }
+    {
+        Vec::new(self.alloc)
+    }
+
     /// What stands at a slot.
     pub fn variable(&self, slot: u32) -> Option<InScope>
         ensures { option_map slot_of result ≡ variable_at self.now.point.carried.variables slot }

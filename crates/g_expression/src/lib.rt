@@ -4,7 +4,9 @@
 #![tactic(auto)]
 
 mod builder;
+mod expression;
 mod operations;
+mod places;
 mod variables;
 
 pub use builder::Builder;

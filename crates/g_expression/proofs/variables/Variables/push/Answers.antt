@@ -1,11 +1,7 @@
-use Rattle.std.proofs.Common.{◌≡◌, ◌+◌, ◌-◌, ◌<◌, ◌≤◌, map, ℕ, Bool, true, false, List, [], ◌∷◌, ◌++◌, length, take, drop, slice_set, get_or, sym, ap, ◌∙◌, arith, rules, refl}
-use Rattle.std.specs.Prelude.{not, is_ok, if◌then◌else◌, option_copied, slice_get}
-use Rattle.g_graph.specs.declared.op.Origin.TheVariants.{Arg, Out}
-use Rattle.g_construct.specs.Writer.{variable_at, variable_set, newest, without_newest, slot_origin, numbered}
+use Rattle.std.proofs.Common.{length, sym, ap, ◌∙◌, arith}
 use Rattle.g_expression.specs.SlotViews.{slot_of}
 use Rattle.g_expression.specs.Places.{is_hidden}
-use Rattle.g_expression.specs.Numbers.{origin_from}
-use Rattle.g_expression.proofs.Scopes.{item_get, at_found, at_missing, newest_of, newest_none, pop_drops, pop_keeps, popped_is, push_adds, push_keeps, set_one, set_past, set_keeps, set_at_found, set_at_missing, not_true, not_false, shorter, same_length, rename_step, rename_keeps}
+use Rattle.g_expression.proofs.Scopes.{push_keeps, not_false, shorter}
 use Rattle.g_expression.proofs.variables.Variables.push.Goals as goal
 
 pub invariant_of-self-2 : goal.invariant_of-self-2
