@@ -1,3 +1,4 @@
+pub mod lemmas
 mod Apart
 mod Examples
 mod Intervals
