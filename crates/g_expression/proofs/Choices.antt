@@ -1,0 +1,128 @@
+-- Regions of a node, one after the other.
+use Rattle.std.proofs.Common.{◌≡◌, ℕ, suc, Bool, List, [], ◌∷◌, ◌++◌, ◌+◌, length, refl, sym, ap, ◌∙◌}
+use Rattle.g_graph.specs.declared.op.Op.{Op}
+use Rattle.g_graph.specs.declared.op.Op.TheVariants.{Gamma}
+use Rattle.g_graph.specs.declared.op.Origin.{Origin}
+use Rattle.g_graph.specs.declared.op.Origin.TheVariants.{Arg, Out}
+use Rattle.g_graph.specs.Plain.{region, node, nodes_of, regions_of}
+use Rattle.g_construct.specs.Writer.{SlotOrigin, held, object, hidden, Carried, carried_origins, carried_kinds, value_origins, value_kinds, last_kinds, numbered, beyond, with_last, renamed, Point, Built, Extra, inside, region_made, choice}
+use Rattle.g_construct.specs.Laws.{shape, Later}
+use Rattle.g_construct.proofs.lemmas.Later.{Keeps, numbered_twice, form_renamed, shape_renamed}
+use Rattle.g_expression.specs.Work.{Around, Work, made, begun, closed, with_regions, ended, ended_value, port_of}
+use Rattle.g_expression.proofs.Renaming.{last_same, beyond_is, renamed_same}
+use Rattle.g_expression.proofs.Made.{Makes}
+
+-- the same variables, whatever their origins
+pub record SameShape (k l : Carried) : Type 0 where
+  pub form : l.form ≡ k.form
+  pub shape : shape l.variables ≡ shape k.variables
+
+kinds_numbered : (xs : List SlotOrigin) (f : ℕ → Origin) → value_kinds (numbered xs f) ≡ value_kinds xs
+kinds_numbered [] f = refl
+kinds_numbered (held o ∷ xs) f = ap (λ ks. value_kinds (held o ∷ []) ++ ks) (kinds_numbered xs (λ k. f (suc k)))
+kinds_numbered (object n ∷ xs) f = kinds_numbered xs f
+kinds_numbered (hidden o ∷ xs) f = ap (λ ks. value_kinds (hidden o ∷ []) ++ ks) (kinds_numbered xs (λ k. f (suc k)))
+
+count_numbered : (xs : List SlotOrigin) (f : ℕ → Origin) → length (value_origins (numbered xs f)) ≡ length (value_origins xs)
+count_numbered [] f = refl
+count_numbered (held o ∷ xs) f = ap suc (count_numbered xs (λ k. f (suc k)))
+count_numbered (object n ∷ xs) f = count_numbered xs f
+count_numbered (hidden o ∷ xs) f = ap suc (count_numbered xs (λ k. f (suc k)))
+
+same_kinds : (k l : Carried) → SameShape k l → carried_kinds l ≡ carried_kinds k
+same_kinds k l h =
+    ap (λ ks. ks ++ last_kinds l.form) (sym (kinds_numbered l.variables (λ _. Arg 0)) ∙ ap value_kinds h.shape ∙ kinds_numbered k.variables (λ _. Arg 0))
+    ∙ ap (λ x. value_kinds k.variables ++ last_kinds x) h.form
+
+pub same_renamed : (k l : Carried) → SameShape k l → (f : ℕ → Origin) → renamed l f ≡ renamed k f
+same_renamed k l h f =
+    let variables : numbered l.variables f ≡ numbered k.variables f =
+    sym (numbered_twice l.variables (λ _. Arg 0) f) ∙ ap (λ ys. numbered ys f) h.shape ∙ numbered_twice k.variables (λ _. Arg 0) f in
+    let count : length (value_origins l.variables) ≡ length (value_origins k.variables) =
+    sym (count_numbered l.variables (λ _. Arg 0)) ∙ ap (λ ys. length (value_origins ys)) h.shape ∙ count_numbered k.variables (λ _. Arg 0) in
+    last_same l.form (numbered l.variables f) (numbered k.variables f) (beyond l.variables f) (beyond k.variables f) variables
+    (λ j. beyond_is l.variables f j ∙ ap (λ n. f (n + j)) count ∙ sym (beyond_is k.variables f j))
+    ∙ ap (λ x. with_last x (numbered k.variables f) (beyond k.variables f)) h.form
+
+pub later_same : (k : Carried) (m : ℕ) (t : Point) → Later (inside k m) t → SameShape k t.carried
+later_same k m t h = record { form = h.form ∙ form_renamed k Arg; shape = h.shape ∙ shape_renamed k Arg }
+
+renamed_twice : (k : Carried) (f : ℕ → Origin) → renamed (renamed k Arg) f ≡ renamed k f
+renamed_twice k f = same_renamed k (renamed k Arg) (record { form = form_renamed k Arg; shape = shape_renamed k Arg }) f
+
+-- ---- one region
+
+-- a region stands open in a node with these regions so far, and nothing is made in it
+abbrev pub open_in : Around → List Around → Carried → (next : ℕ) → Work
+open_in a rest k m = record { around = a ∷ rest; nodes = []; point = inside k m }
+
+abbrev pub with_region : {A : Type 0} → Around → Extra A → Carried → Built A → Around
+with_region a x k b = with_regions a (a.regions ++ region_made x k b ∷ [])
+
+close_step : {A : Type 0} → (x : Extra A) (a : Around) (rest : List Around) (k : Carried) (m : ℕ) (f : Point → Built A) (rs : List Origin) → Keeps f →
+    rs ≡ x.results (f (inside k m)).value →
+    closed rs (made (open_in a rest k m) (f (inside k m))) ≡ open_in (with_region a x k (f (inside k m))) rest k (f (inside k m)).after.next
+close_step {A} x a rest k m f rs h e =
+    let b : Built A = f (inside k m) in
+    let same : SameShape k b.after.carried = later_same k m b.after (h (inside k m)) in
+    λ i. record {
+      around = with_regions a (a.regions ++ region (same_kinds k b.after.carried same i) (nodes_of b.nodes) (e i ++ carried_origins b.after.carried) ∷ []) ∷ rest;
+      nodes = [];
+      point = record { next = b.after.next; carried = same_renamed k b.after.carried same Arg i };
+    }
+
+-- a region is made and closed
+pub close_from : {A : Type 0} → (x : Extra A) (a : Around) (rest : List Around) (k : Carried) (m : ℕ) (f : Point → Built A) (w w1 w2 : Work) (rs : List Origin) → Keeps f →
+    w ≡ open_in a rest k m → w1 ≡ made w (f w.point) → rs ≡ x.results (f w.point).value → w2 ≡ closed rs w1 →
+    w2 ≡ open_in (with_region a x k (f (inside k m))) rest k (f (inside k m)).after.next
+close_from x a rest k m f w w1 w2 rs h g g1 e g2 =
+    g2 ∙ ap (closed rs) g1 ∙ ap (λ u. closed rs (made u (f u.point))) g ∙ close_step x a rest k m f rs h (e ∙ ap (λ u. x.results (f u.point).value) g)
+
+-- the node ends
+abbrev pub after_node : Around → List Around → Carried → Op → (port : ℕ → ℕ) → (next : ℕ) → Work
+after_node a rest k o port m = record {
+  around = rest;
+  nodes = a.nodes ++ node a.id o a.inputs (regions_of a.regions) ∷ [];
+  point = record { next = m; carried = renamed k (λ j. Out a.id (port j)) };
+}
+
+pub end_from : (a : Around) (rest : List Around) (k : Carried) (m : ℕ) (o : Op) (e : Bool) (port : ℕ → ℕ) (w w1 : Work) → ((j : ℕ) → port_of e j ≡ port j) →
+    w ≡ open_in a rest k m → w1 ≡ ended o e w → w1 ≡ after_node a rest k o port m
+end_from a rest k m o e port w w1 h g g1 =
+    let f : Carried → Work = λ c. record { around = rest; nodes = a.nodes ++ node a.id o a.inputs (regions_of a.regions) ∷ []; point = record { next = m; carried = c } } in
+    g1 ∙ ap (ended o e) g
+    ∙ ap f (renamed_twice k (λ j. Out a.id (port_of e j)) ∙ renamed_same k (λ j. Out a.id (port_of e j)) (λ j. Out a.id (port j)) (λ j. ap (λ n. Out a.id n) (h j)))
+
+-- ---- a Gamma
+
+abbrev pub gamma_around : (predicate : Origin) → Work → Around
+gamma_around p w = record { nodes = w.nodes; id = w.point.next; inputs = p ∷ carried_origins w.point.carried; regions = [] }
+
+pub choice_makes : {A : Type 0} → (x : Extra A) (e : Bool) → ((j : ℕ) → port_of e j ≡ x.port j) → (w w1 w2 w3 w4 w5 w6 : Work) (p : Origin) (f g : Point → Built A) (rs qs : List Origin) (v : A) →
+    Keeps f → Keeps g → w1 ≡ begun (p ∷ []) w → w2 ≡ made w1 (f w1.point) → rs ≡ x.results (f w1.point).value → w3 ≡ closed rs w2 → w4 ≡ made w3 (g w3.point) →
+    qs ≡ x.results (g w3.point).value → w5 ≡ closed qs w4 → w6 ≡ ended Gamma e w5 → v ≡ x.value w.point.next → Makes w (choice x w.point p f g) w6 v
+choice_makes {A} x e h w w1 w2 w3 w4 w5 w6 p f g rs qs v hf hg e1 e2 er e3 e4 eq e5 e6 ev =
+    let k : Carried = w.point.carried in
+    let n : ℕ = w.point.next in
+    let a : Around = gamma_around p w in
+    let b : Built A = f (inside k (suc n)) in
+    let first : w3 ≡ open_in (with_region a x k b) w.around k b.after.next = close_from x a w.around k (suc n) f w1 w2 w3 rs hf e1 e2 er e3 in
+    let c : Built A = g (inside k b.after.next) in
+    let second : w5 ≡ open_in (with_region (with_region a x k b) x k c) w.around k c.after.next =
+    close_from x (with_region a x k b) w.around k b.after.next g w3 w4 w5 qs hg first e4 eq e5 in
+    record { work = end_from (with_region (with_region a x k b) x k c) w.around k c.after.next Gamma e x.port w5 w6 h second e6; value = ev }
+
+-- what a Gamma gives first is its output 0
+pub first_output : {A : Type 0} → (x : Extra A) (w w1 w2 w3 w4 w5 : Work) (p : Origin) (f g : Point → Built A) (rs qs : List Origin) →
+    Keeps f → Keeps g → w1 ≡ begun (p ∷ []) w → w2 ≡ made w1 (f w1.point) → rs ≡ x.results (f w1.point).value → w3 ≡ closed rs w2 → w4 ≡ made w3 (g w3.point) →
+    qs ≡ x.results (g w3.point).value → w5 ≡ closed qs w4 → ended_value w5.around ≡ Out w.point.next 0
+first_output {A} x w w1 w2 w3 w4 w5 p f g rs qs hf hg e1 e2 er e3 e4 eq e5 =
+    let k : Carried = w.point.carried in
+    let n : ℕ = w.point.next in
+    let a : Around = gamma_around p w in
+    let b : Built A = f (inside k (suc n)) in
+    let first : w3 ≡ open_in (with_region a x k b) w.around k b.after.next = close_from x a w.around k (suc n) f w1 w2 w3 rs hf e1 e2 er e3 in
+    let c : Built A = g (inside k b.after.next) in
+    let second : w5 ≡ open_in (with_region (with_region a x k b) x k c) w.around k c.after.next =
+    close_from x (with_region a x k b) w.around k b.after.next g w3 w4 w5 qs hg first e4 eq e5 in
+    ap (λ u. ended_value u.around) second
