@@ -1,11 +1,11 @@
 pub mod lemmas
-mod Apart
+pub mod Apart
 mod Examples
 mod Intervals
 mod Lists
 mod Order
 mod Positions
 mod Sets
-mod Starting
+pub mod Starting
 mod Steps
 mod Sweeping

@@ -8,7 +8,7 @@ use Rattle.std.proofs.lemmas.List.{append-nil, get_or-set_same, get_or-set_other
 use Rattle.std.proofs.lemmas.List.Elements.{filter-append}
 use Rattle.g_graph.specs.WellFormed.{some_of, all_of}
 use Rattle.s_linear.specs.Lines.{Line, line_names, names_below, numbers_from}
-use Rattle.a_place.specs.Places.{occurs, first, last, above, name_count, starting, Given, least, count_of, place_for, given, held}
+use Rattle.a_place.specs.Places.{occurs, first, last, above, name_count, starting, in_order, Given, least, count_of, place_for, given, held, places}
 use Rattle.a_place.specs.Sweep.{AllStartAt, given_before}
 use Rattle.a_place.proofs.Intervals.{first_of_none}
 use Rattle.a_place.proofs.lemmas.Names.{length_numbers}
@@ -181,6 +181,18 @@ few_names n (l ∷ ls) e =
     let parts = and_parts (names_below n l) (all_of (names_below n) ls) e in
     let here : above (line_names l) ≤ n = above_below n (line_names l) parts.0 in
     let rest : name_count ls ≤ n = few_names n ls parts.1 in
+    omega arith
+
+-- ---- places
+
+pub places_are_few : (n : ℕ) (lines : List Line) → all_of (names_below n) lines ≡ true → (places lines).count ≤ n
+places_are_few n lines e =
+    let numbers = numbers_from 0 (name_count lines) in
+    let given_places : count_of (given lines (in_order lines) []) ≤ 0 + length (in_order lines) = count_given lines (in_order lines) [] in
+    let once : length (in_order lines) ≤ length (filter (λ x. nat_le 0 (first x lines)) numbers) = each_once (λ x. first x lines) numbers 0 (length lines) in
+    let fewer_pass : length (filter (λ x. nat_le 0 (first x lines)) numbers) ≤ length numbers = fewer (λ x. nat_le 0 (first x lines)) numbers in
+    let all : length numbers ≡ name_count lines = length_numbers 0 (name_count lines) in
+    let few : name_count lines ≤ n = few_names n lines e in
     omega arith
 
 -- ---- a name more in the lists of names by position

@@ -1,5 +1,12 @@
+mod Answered
+mod Bytes
+mod CodeSize
+mod Emitted
 mod Examples
+mod FunctionFits
 mod Globals
+mod Lambdas
 mod Placed
+mod Programs
 mod Selects
 mod Short

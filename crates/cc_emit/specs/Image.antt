@@ -3,7 +3,7 @@
 use Rattle.std.specs.Prelude.{ℕ, List, map, unwrap_or}
 use Rattle.elf_file.specs.Image.{Sections}
 use Rattle.elf_file.specs.Written.{file_of}
-use Rattle.g_graph.specs.Plain.{PlainLambda, PlainOmega}
+use Rattle.g_graph.specs.Plain.{PlainLambda, PlainOmega, PlainOptimised}
 use Rattle.g_graph.specs.Program.{IsProgram, IsWithinLimits, main_name, name_index}
 use Rattle.s_linear.specs.Frame.{frame_size}
 use Rattle.s_linear.specs.Lines.{Line, lines}
@@ -32,6 +32,10 @@ code_size l = items_size (function_items l)
 -- the number of the function that a program begins with
 abbrev pub main_of : PlainOmega → ℕ
 main_of omega = unwrap_or (name_index main_name omega.names) 0
+
+-- the lambdas that recipes made
+abbrev pub lambdas_of : List PlainOptimised → List PlainLambda
+lambdas_of answers = map (λ (o : PlainOptimised). o.lambda) answers
 
 -- the sections of these lambdas with the globals of a program
 abbrev pub image_of : PlainOmega → List PlainLambda → Sections

@@ -1,7 +1,6 @@
 ghost use Rattle.std.specs.Prelude.{◌≡◌, ◌+◌, IsTrue, IfOk};
 ghost use Rattle.std.specs.List.{list_any};
 ghost use Rattle.val_core.specs.Answers.{then_on};
-ghost use Rattle.g_graph.specs.Program.{main_name, same_bytes, name_index};
 ghost use Rattle.g_mean.specs.Calls.{finished, program_at};
 ghost use Rattle.g_interp.specs.Errors.{lacks_value, IsTooDeep};
 ghost use Rattle.g_interp.specs.Views.{answer_of};
@@ -12,32 +11,9 @@ use crate::error::RunError;
 use crate::globals::{first_memory, global_sizes};
 use crate::ports::value_at;
 use crate::run::run_lambda;
-use c_lex::Name;
-use g_graph::Omega;
+use g_graph::{Omega, main_index};
 use std::alloc::Global;
 use val_core::Value;
-
-fn same_bytes(xs: &[u8], ys: &[u8]) -> bool
-    ensures { result ≡ same_bytes xs.now ys.now }
-{
-    match (xs.split_first(), ys.split_first()) {
-        (Some((x, xs)), Some((y, ys))) => *x == *y && same_bytes(xs, ys),
-        (None, None) => true,
-        _ => false,
-    }
-}
-
-// The index of the name `main`, if it is there.
-fn main_index(names: &[Name]) -> Option<usize>
-    ensures { result ≡ name_index main_name names.now }
-{
-    for (i, name) in names.iter().enumerate() {
-        if same_bytes(name.as_slice(), b"main") {
-            return Some(i);
-        }
-    }
-    None
-}
 
 // The program ends with what `main` gives back.
 #[tactic(auto, using(crate::proofs::Events::before_exited, crate::proofs::Events::before_undefined))]

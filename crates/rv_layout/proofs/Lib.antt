@@ -1,4 +1,4 @@
 mod Examples
 mod ItemLemmas
 mod LayoutLemmas
-mod Placed
+pub mod Placed

@@ -21,7 +21,7 @@ use Rattle.rv_layout.specs.Laws.{LaidIsPlaced}
 
 -- ---- text
 
-length-bytes_of : (code : List Instr) → length (bytes_of code) ≡ 4 * length code
+pub length-bytes_of : (code : List Instr) → length (bytes_of code) ≡ 4 * length code
 unfolding bytes_of
 length-bytes_of [] = refl
 length-bytes_of (i ∷ is) = omega (arith, length-bytes_of is)
@@ -56,7 +56,7 @@ length-functions_code a at (f ∷ fs) =
       sum_by-cons items_size f fs,
     )
 
-length-text : (a : Addresses) (fs : List (List Item)) (main : ℕ) → text_at + length (bytes_of (text_of a fs main)) ≡ functions_at + sum_by items_size fs
+pub length-text : (a : Addresses) (fs : List (List Item)) (main : ℕ) → text_at + length (bytes_of (text_of a fs main)) ≡ functions_at + sum_by items_size fs
 length-text a fs main = omega (arith, length-bytes_of (text_of a fs main), length-functions_code a functions_at fs)
 
 -- ---- globals

@@ -1,2 +1,2 @@
-mod Labels
+pub mod Labels
 pub mod Passing

@@ -1,3 +1,3 @@
 mod Examples
 mod ObjectLemmas
-mod Selected
+pub mod Selected

@@ -15,7 +15,7 @@ use Rattle.s_linear.specs.Laws.{LabelsAreMarkedOnce, LinesGoToLabels}
 use Rattle.s_linear.specs.Linear as linear
 use Rattle.s_linear.specs.Linear.{LinearFunction}
 use Rattle.s_linear.specs.Lines as lines
-use Rattle.s_linear.specs.Lines.{Line, enter, leave, done, branch_not_zero, branch_zero, branch_equal, jump, label, does, goes_to, code_labels}
+use Rattle.s_linear.specs.Lines.{Line, enter, leave, done, branch_not_zero, branch_zero, branch_equal, jump, label, does, has_its_callee, has_its_global, goes_to, code_labels}
 use Rattle.rv_layout.specs.declared.item.Item.{Item}
 use Rattle.rv_layout.specs.declared.item.Item.TheVariants.{Word, Mark, Jump, Call, Stub, Address}
 use Rattle.rv_layout.specs.Items.{marks}
@@ -23,7 +23,7 @@ use Rattle.rv_layout.specs.Conditions.{is_marked_once, item_fits}
 use Rattle.s_select.specs.declared.location.Location.TheVariants.{Register, Near, Far}
 use Rattle.s_select.specs.Operands.{place_register, word_at, load_immediate, get, put, in_of, load_in, out_of, store_out}
 use Rattle.s_select.specs.Templates.{words, place_of, take_frame, give_frame, put_params, get_arguments, binary_code, unary_code, load_instr, store_instr, with_two, with_one, with_none, move_code, clear_code, size_of, instr_items, line_items, items_of}
-use Rattle.s_select.specs.Laws.{has_its_callee, has_its_global, SelectedLabelsAreMarked, SelectedItemsFit}
+use Rattle.s_select.specs.Laws.{SelectedLabelsAreMarked, SelectedItemsFit}
 
 -- ---- tests that each instruction passes
 

@@ -1,22 +1,12 @@
 -- What holds of the items of all lines.
-use Rattle.std.specs.Prelude.{ℕ, nat_lt, Bool, true, IsTrue, List}
+use Rattle.std.specs.Prelude.{ℕ, IsTrue, List}
 use Rattle.g_graph.specs.Plain.{PlainObject}
 use Rattle.g_graph.specs.WellFormed.{all_of}
 use Rattle.s_linear.specs.Frame.{PlainPlaces}
-use Rattle.s_linear.specs.Linear.{Instr, LinearFunction, global_address, call}
-use Rattle.s_linear.specs.Lines.{Line, does, lines}
+use Rattle.s_linear.specs.Linear.{LinearFunction}
+use Rattle.s_linear.specs.Lines.{Line, does, has_its_callee, has_its_global, lines}
 use Rattle.rv_layout.specs.Conditions.{item_fits, labels_are_marked}
 use Rattle.s_select.specs.Templates.{items_of}
-
--- an instruction's function is one of so many
-abbrev pub has_its_callee : (functions : ℕ) → Instr → Bool
-has_its_callee functions (call f t arguments) = nat_lt f functions
-has_its_callee functions _ = true
-
--- an instruction's global is one of so many
-abbrev pub has_its_global : (globals : ℕ) → Instr → Bool
-has_its_global globals (global_address t k) = nat_lt k globals
-has_its_global globals _ = true
 
 -- Each label that is jumped to is marked once.
 abbrev pub SelectedLabelsAreMarked : Type 0

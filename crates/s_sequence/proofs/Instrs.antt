@@ -1,6 +1,6 @@
 -- What holds of the instruction of every op of a lambda, and of moves, holds of its linear code.
 use Rattle.std.proofs.Common.{◌≡◌, ℕ, suc, ◌+◌, ◌-◌, Bool, true, List, [], ◌∷◌, ◌++◌, map, length, refl, sym, ap, subst, ◌∙◌, arith}
-use Rattle.std.proofs.lemmas.Bool.{and_from, and_parts}
+use Rattle.std.proofs.lemmas.Bool.{and_from, and_parts, lt-ltb}
 use Rattle.std.specs.Prelude.{◌&&◌, nat_lt}
 use Rattle.std.proofs.lemmas.List.{length-map}
 use Rattle.g_graph.specs.declared.op.Kind.{Kind}
@@ -9,11 +9,11 @@ use Rattle.g_graph.specs.declared.op.Op.{Op}
 use Rattle.g_graph.specs.declared.op.Op.TheVariants.{Const, Undef, Local, Delta, Bin, Un, Load, Store, Clear, PtrEq, Apply, Put, Exit, Get, Gamma, Theta}
 use Rattle.g_graph.specs.Plain.{RegionTree, region, NodeTree, node, NodeTrees, no_nodes, node_then, nodes_of, RegionTrees, no_regions, region_then, PlainLambda}
 use Rattle.g_graph.specs.Scope.{each_node}
-use Rattle.g_graph.specs.Lists.{RegionOps, NodeOps, NodesOps, RegionsOps}
+use Rattle.g_graph.specs.Lists.{RegionOps, NodeOps, NodesOps, RegionsOps, NamesGlobal}
 use Rattle.g_graph.specs.WellFormed.{all_of, is_width, every_region, every_in_node, every_in_nodes, every_in_regions, has_its_width, has_its_object, inputs_fit, inputs_are_last, node_has_one_state_each, has_its_regions, regions_fit, theta_has_states, node_fits, results_are_last, returns_state, region_has_one_state_each, region_fits, body_fits, numbers_fit, leaves_fit, IsWellFormed}
 use Rattle.g_graph.specs.declared.op.Kind.TheVariants.{Memory, Io}
 use Rattle.s_linear.specs.Linear.{Instr, move, undef, Code, no_steps}
-use Rattle.s_linear.specs.Lines.{done, does, lines}
+use Rattle.s_linear.specs.Lines.{done, does, has_its_global, lines}
 use Rattle.s_linear.specs.Operands as operands
 use Rattle.s_linear.proofs.Passing.{StepPasses, CodePasses, CodesPass, lines_pass}
 use Rattle.s_sequence.specs.Sequence.{value_args, Names, no_names, node_names, nodes_names, named, name_of, moves, without_states, op_instr, instrs_then, outputs_at, nodes_code, node_step, branch_codes, branch_code, loop_step, body_code, sequenced}
@@ -222,9 +222,32 @@ objects_are_there l w =
     (λ args before id op inputs rs e. object_is objects id op inputs rs ((and_parts _ (has_its_object objects (node id op inputs rs)) e).1)) l.body
     (regions_of_well_formed l w))
 
+-- ---- globals
+
+global_made : (globals : ℕ) (op : Op) (t : ℕ) (xs : List ℕ) → NamesGlobal globals op (length xs) → has_its_global globals (op_instr op t xs) ≡ true
+global_made globals (Delta k) t xs h = lt-ltb k globals h
+global_made globals (Load width) t xs h = refl
+global_made globals (Store width) t xs h = refl
+global_made globals (Local k) t xs h = refl
+global_made globals (Clear k) t xs h = refl
+global_made globals (Const w) t xs h = refl
+global_made globals Undef t xs h = refl
+global_made globals (Bin o) t xs h = refl
+global_made globals (Un o) t xs h = refl
+global_made globals PtrEq t xs h = refl
+global_made globals (Apply f) t xs h = refl
+global_made globals Put t xs h = refl
+global_made globals Exit t xs h = refl
+global_made globals Get t xs h = refl
+global_made globals Gamma t xs h = refl
+global_made globals Theta t xs h = refl
+
+pub globals_are_there : (globals : ℕ) (l : PlainLambda) → RegionOps (NamesGlobal globals) l.body → all_of (does (has_its_global globals)) (lines (sequenced l)) ≡ true
+globals_are_there globals l h = sequenced_passes (has_its_global globals) (NamesGlobal globals) (λ t s. refl) (λ t. refl) (global_made globals) l h
+
 -- ---- calls
 
-arguments_counted : (xs : List ℕ) → length (without_states xs) ≡ length xs - 2
+pub arguments_counted : (xs : List ℕ) → length (without_states xs) ≡ length xs - 2
 arguments_counted [] = refl
 arguments_counted (x ∷ []) = refl
 arguments_counted (x ∷ y ∷ []) = refl

@@ -1,6 +1,6 @@
 mod Examples
-mod Instrs
-mod Named
+pub mod Instrs
+pub mod Named
 mod MoveLemmas
 mod PortLemmas
 mod BranchLemmas

@@ -50,6 +50,17 @@ args_length (Value ∷ ks) = omega (arith, args_length ks)
 args_length (Memory ∷ ks) = omega (arith, args_length ks)
 args_length (Io ∷ ks) = omega (arith, args_length ks)
 
+pub kept_length : (ks : List (Option Kind)) (xs : List ℕ) → length (kept ks xs) ≤ values_in ks
+kept_length [] xs = omega arith
+kept_length (None ∷ ks) [] = omega arith
+kept_length (Some Value ∷ ks) [] = omega arith
+kept_length (Some Memory ∷ ks) [] = omega arith
+kept_length (Some Io ∷ ks) [] = omega arith
+kept_length (None ∷ ks) (x ∷ xs) = kept_length ks xs
+kept_length (Some Value ∷ ks) (x ∷ xs) = omega (arith, kept_length ks xs)
+kept_length (Some Memory ∷ ks) (x ∷ xs) = kept_length ks xs
+kept_length (Some Io ∷ ks) (x ∷ xs) = kept_length ks xs
+
 pub are_values : (xs : List (Option Kind)) (ks : List Kind) → are xs ks ≡ true → values_in xs ≡ value_args ks
 are_values [] [] e = refl
 are_values [] (k ∷ ks) e = absurd (cc)
@@ -239,17 +250,6 @@ module _ (n : ℕ) where
   results_fit outputs args ks (region_then r rs) h e =
       let own = (and_parts (same (args_of r) args) (are (result_kinds r) ks) ((and_parts _ (all_regions (λ r. same (args_of r) args && are (result_kinds r) ks) rs) e).0)).1 in
       (omega (arith, are_values (result_kinds r) ks own), results_fit outputs args ks rs h ((and_parts (same (args_of r) args && are (result_kinds r) ks) _ e).1))
-
-  kept_length : (ks : List (Option Kind)) (xs : List ℕ) → length (kept ks xs) ≤ values_in ks
-  kept_length [] xs = omega arith
-  kept_length (None ∷ ks) [] = omega arith
-  kept_length (Some Value ∷ ks) [] = omega arith
-  kept_length (Some Memory ∷ ks) [] = omega arith
-  kept_length (Some Io ∷ ks) [] = omega arith
-  kept_length (None ∷ ks) (x ∷ xs) = kept_length ks xs
-  kept_length (Some Value ∷ ks) (x ∷ xs) = omega (arith, kept_length ks xs)
-  kept_length (Some Memory ∷ ks) (x ∷ xs) = kept_length ks xs
-  kept_length (Some Io ∷ ks) (x ∷ xs) = kept_length ks xs
 
   loop_length : (args : List Kind) (xs : List ℕ) → length (loop_results args xs) ≤ value_args args
   loop_length args [] = omega arith

@@ -4,10 +4,10 @@ use Rattle.g_graph.specs.declared.op.Op.{Op}
 use Rattle.g_graph.specs.declared.op.Op.TheVariants.{Apply}
 use Rattle.g_graph.specs.Plain.{PlainLambda}
 use Rattle.g_graph.specs.Count.{region_values}
-use Rattle.g_graph.specs.Lists.{RegionOps}
+use Rattle.g_graph.specs.Lists.{RegionOps, NamesGlobal}
 use Rattle.g_graph.specs.WellFormed.{all_of, IsWellFormed}
 use Rattle.s_linear.specs.Linear.{Instr, call}
-use Rattle.s_linear.specs.Lines.{enter, leave, does, names_below, numbers_from, code_lines, lines}
+use Rattle.s_linear.specs.Lines.{enter, leave, does, has_its_global, names_below, numbers_from, code_lines, lines}
 use Rattle.s_linear.specs.Operands.{has_its_object, has_its_width}
 use Rattle.s_sequence.specs.Sequence.{sequenced}
 
@@ -32,6 +32,11 @@ WidthsFit = (l : PlainLambda) → IsWellFormed l → IsTrue (all_of (does has_it
 -- Each object that is named is one of the lambda's.
 abbrev pub ObjectsAreThere : Type 0
 ObjectsAreThere = (l : PlainLambda) → IsWellFormed l → IsTrue (all_of (does (has_its_object (length l.objects))) (lines (sequenced l)))
+
+-- Each global that is named is one of so many, where those of the lambda's nodes are.
+abbrev pub GlobalsAreThere : Type 0
+GlobalsAreThere =
+    (globals : ℕ) (l : PlainLambda) → RegionOps (NamesGlobal globals) l.body → IsTrue (all_of (does (has_its_global globals)) (lines (sequenced l)))
 
 -- A call has two arguments fewer than its Apply has inputs: what holds of each Apply's holds of each call's.
 abbrev pub CallsKeepArguments : Type 0

@@ -1,7 +1,7 @@
 //! Laws of the linear code of a lambda, for the proofs of the crates above: each is the contract of
 //! a function that does nothing.
 
-ghost use Rattle.s_sequence.specs.Laws.{NamesAreBelow, WidthsFit, ObjectsAreThere, CallsKeepArguments, ParamsAreFirst};
+ghost use Rattle.s_sequence.specs.Laws.{NamesAreBelow, WidthsFit, ObjectsAreThere, GlobalsAreThere, CallsKeepArguments, ParamsAreFirst};
 
 /// Each name is below the number of the lambda's values.
 pub fn names_are_below()
@@ -16,6 +16,11 @@ pub fn widths_fit()
 /// Each object that is named is one of the lambda's.
 pub fn objects_are_there()
     ensures { ObjectsAreThere }
+{}
+
+/// Each global that is named is one of so many, where those of the lambda's nodes are.
+pub fn globals_are_there()
+    ensures { GlobalsAreThere }
 {}
 
 /// A call has two arguments fewer than its Apply has inputs.

@@ -1,5 +1,5 @@
 use Rattle.std.proofs.Common.{length}
-use Rattle.g_interp.proofs.program.+same_bytes.Given as goal
+use Rattle.g_graph.proofs.names.+same_bytes.Given as goal
 
 abbrev pub decreases-same_bytes : goal.decreases-same_bytes
 decreases-same_bytes l = length l.xs.now

@@ -1,5 +1,0 @@
-pub mod Options
-pub mod Values
-pub mod Binary
-pub mod Operators
-pub mod Assigning

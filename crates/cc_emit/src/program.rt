@@ -1,0 +1,37 @@
+//! The image of a program.
+ghost use Rattle.std.specs.Prelude.{◌≡◌, ◌<◌, ◌^◌, map, IfOk};
+ghost use Rattle.std.specs.Arc.{arc_value};
+ghost use Rattle.elf_file.specs.Image.{sections_of, IsPlaced};
+ghost use Rattle.cc_emit.specs.Image.{image_of, lambdas_of, main_of, CanEmit};
+
+use crate::functions::all_items;
+use elf_file::Image;
+use g_graph::{Omega, Optimised, main_index};
+use no_memory::NoMemory;
+use rv_layout::lay;
+use std::alloc::Global;
+use std::sync::Arc;
+
+/// The number of the function that a program begins with.
+fn main_of(omega: &Omega) -> u32
+    requires { main_of omega.now < 2 ^ 32 }
+    ensures { result ≡ main_of omega.now }
+{
+    match main_index(&omega.names) {
+        Some(index) => index as u32,
+        None => 0,
+    }
+}
+
+/// The image of a program: the functions that these lambdas are, in the order of the source, and
+/// the globals of the program. It takes time n log n in the values of each function, and linear in
+/// all else. `NoMemory` only where the allocator has none.
+pub fn emit(alloc: Global, answers: &[Arc<Optimised>], omega: &Omega) -> Result<Image, NoMemory>
+    requires { CanEmit omega.now (lambdas_of (map arc_value answers.now)) }
+    ensures image { IfOk result (λ image.
+        sections_of image ≡ image_of omega.now (lambdas_of (map arc_value answers.now))) }
+    ensures placed { IfOk result (λ image. IsPlaced (sections_of image)) }
+{
+    let functions = all_items(alloc, answers)?;
+    lay(alloc, &functions, &omega.deltas, main_of(omega))
+}
