@@ -7,7 +7,8 @@ use Rattle.g_graph.specs.WellFormed.{some_of}
 use Rattle.s_linear.specs.Lines.{Line}
 use Rattle.a_place.specs.Places.{among, occurs, overlap, name_count, in_order, Given, held, least, count_of, place_for, given, place_in, all_given, places}
 use Rattle.a_place.specs.Laws.{IsAliveAt, OverlappingNamesDiffer, PlacesAreBelowCount}
-use Rattle.a_place.proofs.Order.{below_name_count, in_order_all, get_numbers}
+use Rattle.a_place.proofs.Order.{in_order_all, get_numbers}
+use Rattle.a_place.proofs.lemmas.Names.{below_name_count}
 
 -- ---- the least place is free
 

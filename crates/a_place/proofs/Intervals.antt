@@ -12,6 +12,7 @@ use Rattle.s_linear.specs.declared.line.Line as code_line
 use Rattle.a_place.specs.Places.{among, occurs, first, last, above, name_count}
 use Rattle.a_place.specs.Sweep.{span_of, spans_of, begun, span_from}
 use Rattle.a_place.specs.declared.spans.Span.{Span}
+use Rattle.a_place.proofs.lemmas.Names.{length_numbers}
 use Rattle.a_place.proofs.Order.{first_within, get_numbers}
 
 -- a name that does not occur has its first position after the lines, and 0 as its last
@@ -87,10 +88,6 @@ filled lines x =
       | inl there ↦ rw there (same_span _ _ _ _ (omega arith) (omega arith))
       | inr never ↦ rw never (same_span _ _ _ _ (omega arith) (sym (last_of_none x lines never)))
     ]
-
-pub length_numbers : (from n : ℕ) → length (numbers_from from n) ≡ n
-length_numbers from zero = refl
-length_numbers from (suc n) = ap suc (length_numbers (suc from) n)
 
 pub all_filled : (lines : List Line) (spans : List Span) → length spans ≡ name_count lines
     → ((x : ℕ) (d : Span) → x < length spans → get_or spans x d ≡ span_from 0 lines x) → spans ≡ spans_of lines

@@ -1,3 +1,4 @@
+pub mod lemmas
 pub mod Apart
 mod Examples
 mod Intervals

@@ -9,7 +9,7 @@ use Rattle.a_place.specs.Sweep.{IsSweepAt, AllStartAt, span_of, spans_of, given_
 use Rattle.a_place.specs.declared.spans.Span.{Span}
 use Rattle.a_place.specs.declared.sweep.Sweep.{Sweep}
 use Rattle.a_place.proofs.Order.{get_numbers}
-use Rattle.a_place.proofs.Intervals.{length_numbers}
+use Rattle.a_place.proofs.lemmas.Names.{length_numbers}
 use Rattle.a_place.proofs.Starting.{starting_below, starting_last, all_start, given_more}
 
 pub length_spans : (lines : List Line) (spans : List Span) → spans ≡ spans_of lines → length spans ≡ name_count lines

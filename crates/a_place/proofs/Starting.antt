@@ -10,7 +10,8 @@ use Rattle.g_graph.specs.WellFormed.{some_of, all_of}
 use Rattle.s_linear.specs.Lines.{Line, line_names, names_below, numbers_from}
 use Rattle.a_place.specs.Places.{occurs, first, last, above, name_count, starting, in_order, Given, least, count_of, place_for, given, held, places}
 use Rattle.a_place.specs.Sweep.{AllStartAt, given_before}
-use Rattle.a_place.proofs.Intervals.{first_of_none, length_numbers}
+use Rattle.a_place.proofs.Intervals.{first_of_none}
+use Rattle.a_place.proofs.lemmas.Names.{length_numbers}
 use Rattle.a_place.proofs.Sweeping.{given_append}
 
 -- ---- intervals

@@ -15,7 +15,7 @@ use Rattle.a_place.specs.Sweep.{held_at, IsSweepAt, TakesFree, TakesNext}
 use Rattle.a_place.specs.declared.sweep.Sweep.{Sweep}
 use Rattle.a_place.proofs.Sweeping.{given_append, least_is, least_none, held_now, free_after, started_after}
 use Rattle.a_place.proofs.Apart.{place_free}
-use Rattle.a_place.proofs.Intervals.{length_numbers}
+use Rattle.a_place.proofs.lemmas.Names.{length_numbers}
 use Rattle.a_place.proofs.Order.{get_numbers}
 
 pub ended : (lines : List Line) (i : ℕ) (gs : List Given) (old new : Sweep) → new.of ≡ old.of → new.count ≡ old.count → new.ends ≡ old.ends

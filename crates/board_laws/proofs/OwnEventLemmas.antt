@@ -9,9 +9,6 @@ use Rattle.board_core.specs.Board.{Job, Open, Held, Out, Program, State, job_at,
 use Rattle.board_laws.specs.OwnEvents.{worker_of, own_events, held_after, held_from, is_stop, has_stop, OwnEventsDecide, OwnStopsDecide, WorkersHoldOne}
 use Rattle.board_laws.proofs.BeginningLemmas.{job-released}
 
-some-number : (j k : ℕ) → Some j ≡ Some k → j ≡ k
-some-number j k e = cc
-
 or-moves : (a b c : Bool) → (a || b) || c ≡ b || (a || c)
 or-moves true true c = refl
 or-moves true false c = refl
@@ -145,7 +142,8 @@ module _ {M : Type 0} where
 
   pub workers-hold-one : WorkersHoldOne M
   workers-hold-one program events legal worker j k first second =
-      some-number j k (sym ((own-events-decide program events legal worker j).0 first) ∙ (own-events-decide program events legal worker k).0 second)
+      let same : Some j ≡ Some k = sym ((own-events-decide program events legal worker j).0 first) ∙ (own-events-decide program events legal worker k).0 second in
+      cc
 
   -- ---- stops
 

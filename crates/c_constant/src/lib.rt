@@ -10,3 +10,4 @@ mod word;
 
 pub use constant::{constant_value, is_null_constant};
 pub use conversion::{converted, converts, is_integer, may_convert, same_type};
+pub use word::expr_word;

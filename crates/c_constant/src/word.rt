@@ -6,8 +6,9 @@ use c_type::{CType, Scalar, TypeForm};
 use c_typed::{BinaryOp, ExprForm, Relation, TExpr, UnaryOp};
 use val_core::{Op1, Op2, op1, op2};
 
-// The word that an expression of the form of a constant one is worth, where it has a value.
-pub(crate) fn expr_word(e: &TExpr) -> Option<u32>
+/// The word that an expression of the form of a constant one is worth, where it has a value
+/// (ISO/IEC 9899:2011, 6.6).
+pub fn expr_word(e: &TExpr) -> Option<u32>
     ensures { result ≡ expr_word e.now }
 {
     match &e.form {

@@ -21,7 +21,8 @@ use Rattle.c_typed.specs.declared.operator.CompoundOp.TheVariants as compound_op
 use Rattle.c_typed.specs.declared.operator.IncDec.{IncDec}
 use Rattle.c_typed.specs.Typed.{ExprTree, expr, FormTree, constant, read, address, unary, binary, logical_and, logical_or, conditional, comma, assign, compound, inc_dec, call, get, ExprTrees, no_exprs, expr_then, PlaceTree, place, PlaceFormTree, local, global, at, member}
 use Rattle.c_typed.specs.WellTyped.{type_of}
-use Rattle.c_mean.specs.State.{Slot, holds, object, State, Valued, gives, with_memory, with_slots, used, width_of, is_pointer, converted, extended, arithmetic, compared, truth, pointer_moved, pointer_difference, member_address}
+use Rattle.c_mean.specs.State.{Slot, holds, object, State, Valued, gives, with_memory, with_slots, used, is_pointer, converted, extended, arithmetic, compared, truth, pointer_moved, pointer_difference, member_address}
+use Rattle.c_typed.specs.Objects.{access_width}
 
 -- from arguments, memory and input to what a function gives: a value, or none
 abbrev pub Call : Type 0
@@ -76,12 +77,12 @@ slot_value _ = Bad
 -- Reading what has no value is undefined (6.3.2.1p2).
 abbrev pub spot_read : TypeTree → Spot → State → Answer Valued
 spot_read t (in_slot k) s = used (slot_value (slot_get s k)) (gives s)
-spot_read t (at_address a) s = on_defined (load (width_of t) a s.memory) (λ v. used (extended t v) (gives s))
+spot_read t (at_address a) s = on_defined (load (access_width t) a s.memory) (λ v. used (extended t v) (gives s))
 
 -- the value becomes that of a place, and is the value of the assignment (6.5.16p3)
 abbrev pub spot_written : TypeTree → Spot → Value → State → Answer Valued
 spot_written t (in_slot k) v s = gives (with_slots s (slice_set s.slots k (holds v))) v
-spot_written t (at_address a) v s = on_defined (store (width_of t) a v s.memory) (λ m. gives (with_memory s m) v)
+spot_written t (at_address a) v s = on_defined (store (access_width t) a v s.memory) (λ m. gives (with_memory s m) v)
 
 -- ---- operations
 

@@ -12,7 +12,8 @@ use Rattle.val_core.specs.Within.{Given}
 use Rattle.c_type.specs.Layout.{Definitions, size, leaves}
 use Rattle.c_typed.specs.Typed.{VariableTree, FunctionTree, WrittenTree, word_at, link_at, characters_at, GlobalTree, ProgramTree}
 use Rattle.c_typed.specs.WellTyped.{params_of}
-use Rattle.c_mean.specs.State.{Slot, holds, object, width_of}
+use Rattle.c_mean.specs.State.{Slot, holds, object}
+use Rattle.c_typed.specs.Objects.{access_width}
 use Rattle.c_mean.specs.Expressions.{Call}
 use Rattle.c_mean.specs.Statements.{Flow, returned, Flowed, items_run}
 
@@ -35,7 +36,7 @@ abbrev pub params_stored : (address : ℕ → Value) → (number : ℕ) → List
 params_stored address k [] vs m = Some m
 params_stored address k (p ∷ ps) vs m =
     if p.is_object
-    then option_and_then (params_stored address (suc k) ps (drop 1 vs)) (store (width_of p.type) (address k) (slice_index_or vs 0 Bad) m)
+    then option_and_then (params_stored address (suc k) ps (drop 1 vs)) (store (access_width p.type) (address k) (slice_index_or vs 0 Bad) m)
     else params_stored address k ps (drop 1 vs) m
 
 -- The value of a function: `main` gives 0 at its end, and others give none (5.1.2.2.3, 6.9.1p12).

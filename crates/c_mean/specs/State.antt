@@ -12,7 +12,6 @@ use Rattle.val_core.specs.declared.operation.Op2.{Op2}
 use Rattle.val_core.specs.declared.operation.Op2.TheVariants as op
 use Rattle.c_type.specs.declared.scalar.Scalar.TheVariants.{Char, SignedChar, UnsignedChar, Short, UnsignedShort, UnsignedInt}
 use Rattle.c_type.specs.Trees.{TypeTree, scalar_type, pointer_to}
-use Rattle.c_type.specs.Layout.{scalar_size}
 use Rattle.c_typed.specs.declared.operator.Relation.{Relation}
 use Rattle.c_typed.specs.declared.operator.Relation.TheVariants.{Less, Greater, LessEqual, GreaterEqual, Equal, NotEqual}
 
@@ -49,10 +48,6 @@ used (Num w) next = next (Num w)
 used (At b o) next = next (At b o)
 
 -- ---- types
-
-abbrev pub width_of : TypeTree → ℕ
-width_of (scalar_type t) = scalar_size t
-width_of t = 4
 
 abbrev pub is_pointer : TypeTree → Bool
 is_pointer (pointer_to t) = true

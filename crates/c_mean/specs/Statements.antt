@@ -1,13 +1,14 @@
 -- What a statement does (ISO/IEC 9899:2011, 6.8) within a bound: it goes on normally, or a jump leaves it.
 use Rattle.std.specs.Prelude.{ℕ, zero, suc, ◌-◌, ◌==◌, Bool, true, false, if◌then◌else◌, List, [], ◌∷◌, ◌++◌, take, length, slice_get, Option, None, Some, option_and_then, unwrap_or}
-use Rattle.std.specs.List.{count_by, list_any}
+use Rattle.std.specs.List.{list_any}
 use Rattle.val_core.specs.declared.values.Value.{Value}
 use Rattle.val_core.specs.declared.values.Value.TheVariants.{Num, At, Bad}
 use Rattle.val_core.specs.Memory.{Memory, store, cleared}
 use Rattle.val_core.specs.Answers.{Answer, Returned, Cut, Undefined, then_on, on_number, on_defined}
 use Rattle.c_typed.specs.Typed.{ExprTree, OptionalExpr, no_expr, some_expr, ElementTrees, no_elements, value_then, characters_then, InitialTree, no_initial, initial_value, initial_elements, StmtTree, null, value, block, if_else, loop, do_while, break, continue, return_value, return_none, switch, ItemTrees, no_items, stmt_then, declare_then, GroupTrees, no_groups, group_then, VariableTree}
 use Rattle.c_typed.specs.WellTyped.{type_of}
-use Rattle.c_mean.specs.State.{Slot, holds, object, State, with_memory, with_slots, used, width_of, bytes_into}
+use Rattle.c_typed.specs.Objects.{object_number, access_width}
+use Rattle.c_mean.specs.State.{Slot, holds, object, State, with_memory, with_slots, used, bytes_into}
 use Rattle.c_mean.specs.Expressions.{Context, expr_run, branched}
 
 -- how a statement ends: normally, by a jump, or by a return with a value or none
@@ -81,10 +82,6 @@ out_of_scope n x = flows (with_slots x.state (take n x.state.slots)) x.flow
 abbrev pub newest_written : State → Value → State
 newest_written s v = with_slots s (take (length s.slots - 1) s.slots ++ holds v ∷ [])
 
--- The objects of a function are numbered in order of declaration: so many stand before this variable.
-abbrev pub object_number : List VariableTree → (variable : ℕ) → ℕ
-object_number vs k = count_by (λ (v : VariableTree). v.is_object) (take k vs)
-
 abbrev pub characters_stored : (address : Value) → (offset : ℕ) → List ℕ → Memory → Option Memory
 characters_stored a o [] m = Some m
 characters_stored a o (b ∷ bs) m = option_and_then (characters_stored a (suc o) bs) (store 1 (bytes_into a o) (Num b) m)
@@ -94,7 +91,7 @@ abbrev pub elements_run : Context → (address : Value) → ElementTrees → Sta
 elements_run c a no_elements s = Returned s []
 elements_run c a (value_then o e es) s =
     then_on (expr_run c e s) (λ x.
-    used x.value (λ v. on_defined (store (width_of (type_of e)) (bytes_into a o) v x.state.memory) (λ m. elements_run c a es (with_memory x.state m))))
+    used x.value (λ v. on_defined (store (access_width (type_of e)) (bytes_into a o) v x.state.memory) (λ m. elements_run c a es (with_memory x.state m))))
 elements_run c a (characters_then o cs es) s = on_defined (characters_stored a o cs s.memory) (λ m. elements_run c a es (with_memory s m))
 
 -- zeros in a whole object
@@ -110,7 +107,7 @@ value_begun c i s = Returned s []
 abbrev pub object_begun : Context → (address : Value) → InitialTree → State → Answer State
 object_begun c a no_initial s = Returned s []
 object_begun c a (initial_value e) s =
-    then_on (expr_run c e s) (λ x. used x.value (λ v. on_defined (store (width_of (type_of e)) a v x.state.memory) (λ m. Returned (with_memory x.state m) [])))
+    then_on (expr_run c e s) (λ x. used x.value (λ v. on_defined (store (access_width (type_of e)) a v x.state.memory) (λ m. Returned (with_memory x.state m) [])))
 object_begun c a (initial_elements es) s = on_defined (zeros a s.memory) (λ m. elements_run c a es (with_memory s m))
 
 -- A declaration is reached: a value variable loses its value, an object keeps its contents, and then it begins.

@@ -3,7 +3,8 @@ use Rattle.std.proofs.Common.{◌≡◌, ℕ, zero, suc, ◌-◌, ◌<◌, ◌�
 use native.Mathlib.Numerals.{unary_clauses}
 use Rattle.std.specs.Map.{lookup}
 use Rattle.std.specs.Option.{option_map, option_and_then}
-use Rattle.std.proofs.lemmas.List.{reverse-append, reverse-reverse, length-reverse}
+use Rattle.std.proofs.lemmas.List.{length-append, get_or_push, reverse-append, reverse-reverse, length-reverse}
+use Rattle.std.proofs.lemmas.Option.{slice_get-get_or}
 use Rattle.std.proofs.lemmas.Slice.Eq.{bytes_eq-Decides}
 use Rattle.c_scope.specs.Scopes.{Name, Scope, same_name}
 use Rattle.c_scope.specs.Latest.{latest_index, declared_of, IsLatest}
@@ -30,10 +31,6 @@ get-front : {X : Type 0} (xs : List X) (y : X) (p : ℕ) → p < length xs → s
 get-front [] y p is = absurd (omega arith)
 get-front (z ∷ xs) y zero is = refl
 get-front (z ∷ xs) y (suc p) is = get-front xs y p (omega arith)
-
-get-last : {X : Type 0} (xs : List X) (y : X) → slice_get (xs ++ y ∷ []) (length xs) ≡ Some y
-get-last [] y = refl
-get-last (x ∷ xs) y = get-last xs y
 
 reverse-push : {X : Type 0} (xs : List X) (y : X) → reverse (xs ++ y ∷ []) ≡ y ∷ reverse xs
 reverse-push xs y = reverse-append xs (y ∷ [])
@@ -73,7 +70,9 @@ module _ {T : Type 0} where
   found-next : (b : Bool) (d : Declaration T) (ds : List (Declaration T)) (rest : Option ℕ) (value : Option T) → ((p : ℕ) → rest ≡ Some p → p < length ds)
       → at (reverse ds) rest ≡ value → at (reverse ds ++ d ∷ []) (cond b (Some (length ds)) rest) ≡ cond b (Some d.meaning) value
   found-next true d ds rest value below is =
-      ap (λ n. at (reverse ds ++ d ∷ []) (Some n)) (sym (length-reverse ds)) ∙ ap (option_map (λ d. d.meaning)) (get-last (reverse ds) d)
+      ap (λ n. at (reverse ds ++ d ∷ []) (Some n)) (sym (length-reverse ds)) ∙ ap (option_map (λ d. d.meaning))
+      (slice_get-get_or (reverse ds ++ d ∷ []) (length (reverse ds)) d (omega (arith, length-append (reverse ds) (d ∷ [])))
+      ∙ ap Some (get_or_push (reverse ds) d d (length (reverse ds)) refl))
   found-next false d ds rest value below is = at-front (reverse ds) d rest (λ p e. subst (λ n. p < n) (sym (length-reverse ds)) (below p e)) ∙ is
 
   found-in : (ds : List (Declaration T)) (name : Name) → at (reverse ds) (latest_index (declared_of ds) name) ≡ lookup (same_name name) (declared_of ds)

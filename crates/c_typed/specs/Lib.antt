@@ -8,3 +8,4 @@ pub mod StmtViews
 pub mod StmtHeight
 pub mod ProgramViews
 pub mod WellTyped
+pub mod Objects

@@ -290,10 +290,19 @@ AreStatements no_items = Unit {0}
 AreStatements (stmt_then s is) = AreStatements is
 AreStatements (declare_then d is) = ⊥
 
--- the scope of an initialiser has its own variable where it names it
-abbrev pub initial_scope : Bool → Scope → VariableTree → Scope
-initial_scope true c v = extended c v
-initial_scope false c v = c
+-- The type of a variable within its own initialiser. An array that is declared without a length is of unknown size until
+-- its initialiser ends, and its elements are counted only there (6.7.9p22): in `int a[] = {a == a};` both operands are the
+-- address of an array without a length. It is incomplete (6.2.5p22), so nothing asks for its size, and its address and that
+-- of its first element are as they are afterwards. A global has its whole type in every expression of a program: what it
+-- begins with is constants and addresses, not expressions.
+abbrev pub IsBegunAs : (type begun : TypeTree) → Type 0
+IsBegunAs (array_of u n) t = (t ≡ array_of u n) ⊎ (t ≡ array_of u 0)
+IsBegunAs u t = t ≡ u
+
+-- the scope of an initialiser has its own variable where it names it, of this type
+abbrev pub initial_scope : (names_itself : Bool) → Scope → VariableTree → (begun : TypeTree) → Scope
+initial_scope true c v t = extended c (record v { type = t })
+initial_scope false c v t = c
 
 abbrev mutual
   pub StmtIsTyped : Scope → Jumps → StmtTree → Type 0
@@ -314,7 +323,8 @@ abbrev mutual
   ItemsAreTyped c j no_items = Unit {0}
   ItemsAreTyped c j (stmt_then s is) = StmtIsTyped c j s × ItemsAreTyped c j is
   ItemsAreTyped c j (declare_then d is) =
-      (v : VariableTree) × (slice_get c.variables d.variable ≡ Some v) × InitialFits (initial_scope d.names_itself c v) v d.initial × ItemsAreTyped (extended c v) j is
+      (v : VariableTree) × (slice_get c.variables d.variable ≡ Some v)
+      × ((t : TypeTree) × IsBegunAs v.type t × InitialFits (initial_scope d.names_itself c v t) v d.initial) × ItemsAreTyped (extended c v) j is
 
   pub GroupsAreTyped : Scope → Jumps → GroupTrees → Type 0
   GroupsAreTyped c j no_groups = Unit {0}

@@ -16,6 +16,7 @@ use Rattle.s_linear.specs.Lines.{Line, enter, leave, numbers_from, code_lines}
 use Rattle.s_sequence.specs.Sequence.{values_in, value_args, kept, Names, no_names, node_names, nodes_names, named, nodes_named, name_of, moves, instrs_then, outputs_at, bases, loop_results, nodes_code, node_step, branch_codes, branch_code, loop_step, body_code, sequenced}
 use Rattle.s_sequence.proofs.Instrs.{arguments_counted}
 use Rattle.s_sequence.proofs.Named.{args_length, kept_length}
+use Rattle.a_place.proofs.lemmas.Names.{length_numbers}
 use Rattle.a_place.specs.Places.{places}
 use Rattle.rv_layout.specs.Items.{item_size, items_size}
 use Rattle.s_select.specs.Templates.{line_items, items_of}
@@ -23,7 +24,6 @@ use Rattle.cc_emit.specs.Image.{lines_of}
 use Rattle.cc_emit.specs.Laws.{HasFewArguments, CodeIsShort}
 use Rattle.cc_emit.specs.Sizes.{instr_bytes, line_bytes, LinesAreShort}
 use Rattle.cc_emit.proofs.Bytes.{bytes, instrs_bytes, step_bytes, code_bytes, codes_bytes, code_lines_bytes}
-use Rattle.cc_emit.proofs.Placed.{length-numbers_from}
 
 -- ---- moves
 
@@ -127,7 +127,7 @@ mutual
         nodes_bytes args next no_names (next + value_args args) nodes exits h,
         then_bytes outputs left no_steps,
         moves_bytes next (numbers_from outputs (value_args args)),
-        length-numbers_from outputs (value_args args),
+        length_numbers outputs (value_args args),
         entered_few args entries,
         args_length args,
         results_few args named_results,
@@ -159,7 +159,7 @@ code_is_short short l params calls =
       items_bytes short (places (lines_of l)) l.objects (lines_of l),
       sum_by-append line_bytes (start ∷ code) (leave (sequenced l).value ∷ []),
       sum_by-cons line_bytes start code,
-      length-numbers_from 0 l.params,
+      length_numbers 0 l.params,
       code_lines_bytes 0 (sequenced l).code,
       body_bytes l.body calls,
     )

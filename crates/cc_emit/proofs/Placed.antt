@@ -1,5 +1,5 @@
 -- Each name of lines has a place.
-use Rattle.std.proofs.Common.{◌≡◌, ℕ, zero, suc, ◌<◌, ◌==◌, refl, ap, ◌∙◌, Bool, true, false, List, [], ◌∷◌, length, slice_index, arith}
+use Rattle.std.proofs.Common.{◌≡◌, ℕ, zero, suc, ◌<◌, ◌==◌, refl, ◌∙◌, Bool, true, false, List, [], ◌∷◌, length, slice_index, arith}
 use Rattle.std.proofs.lemmas.Bool.{and_from, lt-ltb}
 use Rattle.std.proofs.lemmas.Bool.Decides.{nat_tests}
 use Rattle.std.proofs.lemmas.List.{length-map}
@@ -7,7 +7,8 @@ use Rattle.std.specs.Prelude.{◌||◌, nat_lt, is_some, slice_get}
 use Rattle.g_graph.specs.WellFormed.{all_of, some_of}
 use Rattle.s_linear.specs.Lines.{Line, line_names, numbers_from}
 use Rattle.a_place.specs.Laws.{PlacesAreBelowCount}
-use Rattle.a_place.specs.Places.{occurs, above, name_count, all_given, place_in, places}
+use Rattle.a_place.proofs.lemmas.Names.{length_numbers, below_name_count}
+use Rattle.a_place.specs.Places.{occurs, name_count, all_given, place_in, places}
 use Rattle.s_select.specs.Conditions.{has_place}
 use Rattle.s_select.specs.Conditions as condition
 use Rattle.cc_emit.specs.Laws.{NamesHavePlaces}
@@ -23,26 +24,6 @@ pub or_right : (a b : Bool) → b ≡ true → (a || b) ≡ true
 or_right true b h = refl
 or_right false b h = h
 
--- ---- names are below their count
-
-below_above : (x : ℕ) (xs : List ℕ) → some_of (λ y. y == x) xs ≡ true → x < above xs
-below_above x [] h = absurd cc
-below_above x (y ∷ ys) h =
-    or_cases (y == x) (some_of (λ y. y == x) ys) (x < above (y ∷ ys)) h
-    (λ e. let same : y ≡ x = grind (arith, nat_tests) in omega arith)
-    (λ e. let rest = below_above x ys e in omega arith)
-
-below_count : (x : ℕ) (ls : List Line) → some_of (occurs x) ls ≡ true → x < name_count ls
-below_count x [] h = absurd cc
-below_count x (line ∷ ls) h =
-    or_cases (occurs x line) (some_of (occurs x) ls) (x < name_count (line ∷ ls)) h
-    (λ e. let here = below_above x (line_names line) e in omega arith)
-    (λ e. let rest = below_count x ls e in omega arith)
-
-pub length-numbers_from : (first n : ℕ) → length (numbers_from first n) ≡ n
-length-numbers_from first zero = refl
-length-numbers_from first (suc n) = ap suc (length-numbers_from (suc first) n)
-
 there : (xs : List ℕ) (k : ℕ) → k < length xs → is_some (slice_get xs k) ≡ true
 there [] k h = absurd (omega arith)
 there (x ∷ xs) zero h = refl
@@ -52,8 +33,8 @@ there (x ∷ xs) (suc k) h = there xs k (omega arith)
 
 name_has_place : PlacesAreBelowCount → (all : List Line) (x : ℕ) → some_of (occurs x) all ≡ true → has_place (places all) x ≡ true
 name_has_place below all x h =
-    let count : length (places all).of ≡ name_count all = length-map (numbers_from 0 (name_count all)) (place_in (all_given all)) ∙ length-numbers_from 0 (name_count all) in
-    let inside : x < length (places all).of = omega (arith, count, below_count x all h) in
+    let count : length (places all).of ≡ name_count all = length-map (numbers_from 0 (name_count all)) (place_in (all_given all)) ∙ length_numbers 0 (name_count all) in
+    let inside : x < length (places all).of = omega (arith, count, below_name_count x all h) in
     and_from (is_some (slice_get (places all).of x)) (nat_lt (slice_index (places all).of x) (places all).count)
     (there (places all).of x inside) (lt-ltb _ _ (below all x h))
 

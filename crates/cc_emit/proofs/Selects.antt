@@ -11,7 +11,7 @@ use Rattle.s_sequence.specs.Sequence.{sequenced}
 use Rattle.s_select.specs.Conditions.{has_few_params}
 use Rattle.cc_emit.specs.Image.{lines_of}
 use Rattle.cc_emit.specs.Laws.{NamesHavePlaces, LambdaCanSelect}
-use Rattle.cc_emit.proofs.Placed.{length-numbers_from}
+use Rattle.a_place.proofs.lemmas.Names.{length_numbers}
 
 few_instrs : (is : List Instr) → all_of has_few_params (map done is) ≡ true
 few_instrs [] = refl
@@ -39,7 +39,7 @@ lambda_can_select placed there keeps widths l frame well few calls framed = reco
   framed = framed;
   params =
       lines_pass has_few_params (λ k. refl) (λ k. refl) (sequenced l)
-      (le-leb (length (numbers_from 0 l.params)) 8 (subst (λ n. n ≤ 8) (sym (length-numbers_from 0 l.params)) few)) (few_code (sequenced l).code) refl;
+      (le-leb (length (numbers_from 0 l.params)) 8 (subst (λ n. n ≤ 8) (sym (length_numbers 0 l.params)) few)) (few_code (sequenced l).code) refl;
   arguments = keeps (λ f n. nat_le n 8) l calls;
   widths = widths l well;
 }

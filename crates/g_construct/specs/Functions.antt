@@ -10,7 +10,8 @@ use Rattle.g_graph.specs.declared.op.Origin.TheVariants.{Arg}
 use Rattle.g_graph.specs.Plain.{RegionTree, region, nodes_of, PlainObject, PlainLambda, PlainOmega}
 use Rattle.g_graph.specs.Count.{region_values}
 use Rattle.g_construct.specs.Writer.{SlotOrigin, held, object, straight, Point, jumping, with_jumps, Built, given, nothing, bind}
-use Rattle.g_construct.specs.Operations.{const_made, undef_made, access_width}
+use Rattle.g_construct.specs.Operations.{const_made, undef_made}
+use Rattle.c_typed.specs.Objects.{access_width}
 use Rattle.g_construct.specs.Expressions.{expr_made}
 use Rattle.g_construct.specs.Exits.{some_items, body_jumps}
 use Rattle.g_construct.specs.Statements.{object_stored, declared_made, stmt_made, items_made}

@@ -6,7 +6,8 @@ use Rattle.g_graph.specs.declared.op.Origin.TheVariants.{Arg}
 use Rattle.g_graph.specs.Count.{region_values}
 use Rattle.g_construct.specs.Writer.{SlotOrigin, held, object, numbered, Point, pushed}
 use Rattle.g_construct.specs.Expressions.{expr_made}
-use Rattle.g_construct.specs.Statements.{object_number, declared_made, stmt_made, items_made}
+use Rattle.g_construct.specs.Statements.{declared_made, stmt_made, items_made}
+use Rattle.c_typed.specs.Objects.{object_number}
 use Rattle.g_construct.specs.Globals.{global_made, globals_made}
 use Rattle.g_construct.specs.Functions.{body_made, function_values, lambda_made, graph}
 

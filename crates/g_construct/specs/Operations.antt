@@ -6,7 +6,7 @@ use Rattle.val_core.specs.declared.operation.Op2.{Op2}
 use Rattle.val_core.specs.declared.operation.Op2.TheVariants as op
 use Rattle.c_type.specs.declared.scalar.Scalar.TheVariants.{Char, SignedChar, UnsignedChar, Short, UnsignedShort, Int}
 use Rattle.c_type.specs.Trees.{TypeTree, scalar_type, pointer_to}
-use Rattle.c_type.specs.Layout.{scalar_size}
+use Rattle.c_typed.specs.Objects.{access_width}
 use Rattle.c_typed.specs.declared.operator.Relation.{Relation}
 use Rattle.c_typed.specs.declared.operator.Relation.TheVariants.{Less, Greater, LessEqual, GreaterEqual, Equal, NotEqual}
 use Rattle.g_graph.specs.declared.op.Origin.{Origin}
@@ -66,11 +66,6 @@ abbrev pub get_made : Point → Built Origin
 get_made s = one_node s Get (s.carried.io ∷ []) (Out s.next 0) s.carried.memory (Out s.next 1)
 
 -- ---- types
-
--- the bytes of a scalar object
-abbrev pub access_width : TypeTree → ℕ
-access_width (scalar_type t) = scalar_size t
-access_width t = 4
 
 -- A conversion to a type keeps the low bits, and extends them (ISO/IEC 9899:2011, 6.3.1.3).
 abbrev pub converted_made : TypeTree → Origin → Point → Built Origin

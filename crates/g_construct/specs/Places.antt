@@ -3,7 +3,8 @@ use Rattle.std.specs.Prelude.{ℕ, Option, None, Some}
 use Rattle.c_type.specs.Trees.{TypeTree}
 use Rattle.g_graph.specs.declared.op.Origin.{Origin}
 use Rattle.g_construct.specs.Writer.{SlotOrigin, held, object, hidden, variable_at, variable_set, slot_origin, Point, with_variables, Built, given, bind}
-use Rattle.g_construct.specs.Operations.{local_made, store_made, access_width, read_made, at_offset_made}
+use Rattle.g_construct.specs.Operations.{local_made, store_made, read_made, at_offset_made}
+use Rattle.c_typed.specs.Objects.{access_width}
 
 -- what a place is once its address is made
 pub data Spot : Type 0 where

@@ -1,12 +1,12 @@
 -- Declarations and statements (ISO/IEC 9899:2011, 6.7, 6.8).
-use Rattle.std.specs.Prelude.{ℕ, suc, ◌&&◌, Bool, true, false, List, [], ◌∷◌, slice_get, take, Option, None, Some}
-use Rattle.std.specs.List.{count_by}
+use Rattle.std.specs.Prelude.{ℕ, suc, ◌&&◌, Bool, true, false, List, [], ◌∷◌, slice_get, Option, None, Some}
 use Rattle.c_typed.specs.Typed.{ElementTrees, no_elements, value_then, characters_then, InitialTree, no_initial, initial_value, initial_elements, DeclarationTree, StmtTree, null, value, block, if_else, loop, do_while, break, continue, return_value, return_none, switch, ItemTrees, no_items, stmt_then, declare_then, GroupTrees, no_groups, group_then, VariableTree}
 use Rattle.c_typed.specs.WellTyped.{type_of}
+use Rattle.c_typed.specs.Objects.{object_number, access_width}
 use Rattle.g_graph.specs.declared.op.Origin.{Origin}
 use Rattle.g_graph.specs.declared.op.Origin.TheVariants.{Arg}
 use Rattle.g_construct.specs.Writer.{held, object, Point, pushed, popped, newest_set, Built, nothing, bind, dropped, no_value, choice_one_first}
-use Rattle.g_construct.specs.Operations.{const_made, undef_made, local_made, store_made, clear_made, at_offset_made, access_width}
+use Rattle.g_construct.specs.Operations.{const_made, undef_made, local_made, store_made, clear_made, at_offset_made}
 use Rattle.g_construct.specs.Expressions.{expr_made, tested}
 use Rattle.g_construct.specs.Exits.{stmt_exits, items_exits, can_leave, some_items}
 use Rattle.g_construct.specs.Jumps.{jump_made, return_made, unless_left, loop_made, do_made}
@@ -43,10 +43,6 @@ abbrev pub object_begun : (number : ℕ) → InitialTree → Point → Built (Un
 object_begun k no_initial s = nothing s
 object_begun k (initial_value e) s = bind (expr_made e s) (λ v t. object_stored k (access_width (type_of e)) v t)
 object_begun k (initial_elements es) s = bind (clear_made k s) (λ _ t. elements_made k es t)
-
--- the objects of a function are numbered in order of declaration: so many stand before this variable
-abbrev pub object_number : List VariableTree → (variable : ℕ) → ℕ
-object_number vs k = count_by (λ (v : VariableTree). v.is_object) (take k vs)
 
 abbrev pub variable_begun : (is_object : Bool) → (number : ℕ) → DeclarationTree → Point → Built (Unit {0})
 variable_begun false k d s = value_begun d.names_itself d.initial s

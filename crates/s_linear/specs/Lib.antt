@@ -1,5 +1,6 @@
 pub mod Linear
 pub mod Lines
+pub mod Operands
 pub mod Meaning
 pub mod Frame
 pub mod Views

@@ -1,10 +1,11 @@
 -- What lines, places and a frame must meet so that items can be selected.
 use Rattle.std.specs.Prelude.{◌≡◌, ℕ, nat_lt, nat_le, Bool, true, ◌&&◌, IsTrue, List, length, slice_get, slice_index, is_some}
 use Rattle.g_graph.specs.Plain.{PlainObject}
-use Rattle.g_graph.specs.WellFormed.{all_of, is_width}
+use Rattle.g_graph.specs.WellFormed.{all_of}
 use Rattle.s_linear.specs.Frame.{PlainPlaces, frame_size, objects_at}
-use Rattle.s_linear.specs.Linear.{Instr, object_address, load, store, clear, call}
+use Rattle.s_linear.specs.Linear.{Instr, call}
 use Rattle.s_linear.specs.Lines.{Line, enter, does, line_names}
+use Rattle.s_linear.specs.Operands.{has_its_object, has_its_width}
 use Rattle.s_linear.specs.declared.frame.Frame.{Frame}
 
 -- a name has a place, which is below the count
@@ -13,18 +14,6 @@ has_place p x = is_some (slice_get p.of x) && nat_lt (slice_index p.of x) p.coun
 
 abbrev pub names_have_places : PlainPlaces → Line → Bool
 names_have_places p line = all_of (has_place p) (line_names line)
-
--- an object that is named is one of so many
-abbrev pub has_its_object : (objects : ℕ) → Instr → Bool
-has_its_object objects (object_address t k) = nat_lt k objects
-has_its_object objects (clear k) = nat_lt k objects
-has_its_object objects _ = true
-
--- a width is 1, 2 or 4
-abbrev pub has_its_width : Instr → Bool
-has_its_width (load width t a) = is_width width
-has_its_width (store width a v) = is_width width
-has_its_width _ = true
 
 -- at most 8 arguments, which are in registers
 abbrev pub has_few_arguments : Instr → Bool

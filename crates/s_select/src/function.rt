@@ -6,7 +6,8 @@ ghost use Rattle.s_linear.specs.Lines.{instr_names};
 ghost use Rattle.s_linear.specs.Views.{instr_of};
 ghost use Rattle.s_select.specs.Objects.{offsets_from};
 ghost use Rattle.s_select.specs.Templates.{get_arguments, place_of, put_params, size_of, words, instr_items};
-ghost use Rattle.s_select.specs.Conditions.{has_few_arguments, has_its_object, has_place};
+ghost use Rattle.s_select.specs.Conditions.{has_few_arguments, has_place};
+ghost use Rattle.s_linear.specs.Operands.{has_its_object};
 
 use crate::location::{Location, REGISTERS, location_of};
 use crate::operands::{push_get, push_put};

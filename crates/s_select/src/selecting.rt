@@ -7,7 +7,8 @@ ghost use Rattle.s_linear.specs.Lines as lines;
 ghost use Rattle.s_linear.specs.Lines.{does, instr_names};
 ghost use Rattle.s_linear.specs.Views.{instr_of, line_of};
 ghost use Rattle.s_select.specs.Templates.{instr_items, items_of, line_items};
-ghost use Rattle.s_select.specs.Conditions.{CanSelect, has_few_arguments, has_few_params, has_its_object, has_place, names_have_places};
+ghost use Rattle.s_select.specs.Conditions.{CanSelect, has_few_arguments, has_few_params, has_place, names_have_places};
+ghost use Rattle.s_linear.specs.Operands.{has_its_object};
 
 use crate::frames::{push_give_frame, push_take_frame};
 use crate::function::Function;

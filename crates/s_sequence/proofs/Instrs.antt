@@ -13,7 +13,9 @@ use Rattle.g_graph.specs.Lists.{RegionOps, NodeOps, NodesOps, RegionsOps, NamesG
 use Rattle.g_graph.specs.WellFormed.{all_of, is_width, every_region, every_in_node, every_in_nodes, every_in_regions, has_its_width, has_its_object, inputs_fit, inputs_are_last, node_has_one_state_each, has_its_regions, regions_fit, theta_has_states, node_fits, results_are_last, returns_state, region_has_one_state_each, region_fits, body_fits, numbers_fit, leaves_fit, IsWellFormed}
 use Rattle.g_graph.specs.declared.op.Kind.TheVariants.{Memory, Io}
 use Rattle.s_linear.specs.Linear.{Instr, move, undef, Code, no_steps}
-use Rattle.s_linear.specs.Lines.{done, does, has_its_global, lines}
+use Rattle.s_linear.specs.Lines.{done, does, lines}
+use Rattle.s_linear.specs.Operands as operands
+use Rattle.s_linear.specs.Operands.{has_its_global}
 use Rattle.s_linear.proofs.Passing.{StepPasses, CodePasses, CodesPass, lines_pass}
 use Rattle.s_sequence.specs.Sequence.{value_args, Names, no_names, node_names, nodes_names, named, name_of, moves, without_states, op_instr, instrs_then, outputs_at, nodes_code, node_step, branch_codes, branch_code, loop_step, body_code, sequenced}
 use Rattle.s_sequence.specs.Laws as laws
@@ -146,7 +148,7 @@ width_is id Get inputs rs e = tt
 width_is id Gamma inputs rs e = tt
 width_is id Theta inputs rs e = tt
 
-width_made : (op : Op) (t : ℕ) (xs : List ℕ) → WidthFits op (length xs) → laws.has_its_width (op_instr op t xs) ≡ true
+width_made : (op : Op) (t : ℕ) (xs : List ℕ) → WidthFits op (length xs) → operands.has_its_width (op_instr op t xs) ≡ true
 width_made (Load width) t xs h = h
 width_made (Store width) t xs h = h
 width_made (Const w) t xs h = refl
@@ -164,9 +166,9 @@ width_made Get t xs h = refl
 width_made Gamma t xs h = refl
 width_made Theta t xs h = refl
 
-pub widths_fit : (l : PlainLambda) → IsWellFormed l → all_of (does laws.has_its_width) (lines (sequenced l)) ≡ true
+pub widths_fit : (l : PlainLambda) → IsWellFormed l → all_of (does operands.has_its_width) (lines (sequenced l)) ≡ true
 widths_fit l w =
-    sequenced_passes laws.has_its_width WidthFits (λ t s. refl) (λ t. refl) width_made l
+    sequenced_passes operands.has_its_width WidthFits (λ t s. refl) (λ t. refl) width_made l
     (region_has (length l.objects) WidthFits
     (λ args before id op inputs rs e. width_is id op inputs rs (width_fits (length l.objects) args before id op inputs rs e)) l.body (regions_of_well_formed l w))
 
@@ -195,7 +197,7 @@ object_is objects id Get inputs rs e = tt
 object_is objects id Gamma inputs rs e = tt
 object_is objects id Theta inputs rs e = tt
 
-object_made : (objects : ℕ) (op : Op) (t : ℕ) (xs : List ℕ) → ObjectIsThere objects op (length xs) → laws.has_its_object objects (op_instr op t xs) ≡ true
+object_made : (objects : ℕ) (op : Op) (t : ℕ) (xs : List ℕ) → ObjectIsThere objects op (length xs) → operands.has_its_object objects (op_instr op t xs) ≡ true
 object_made objects (Local k) t xs h = h
 object_made objects (Clear k) t xs h = h
 object_made objects (Load width) t xs h = refl
@@ -213,10 +215,10 @@ object_made objects Get t xs h = refl
 object_made objects Gamma t xs h = refl
 object_made objects Theta t xs h = refl
 
-pub objects_are_there : (l : PlainLambda) → IsWellFormed l → all_of (does (laws.has_its_object (length l.objects))) (lines (sequenced l)) ≡ true
+pub objects_are_there : (l : PlainLambda) → IsWellFormed l → all_of (does (operands.has_its_object (length l.objects))) (lines (sequenced l)) ≡ true
 objects_are_there l w =
     let objects : ℕ = length l.objects in
-    sequenced_passes (laws.has_its_object objects) (ObjectIsThere objects) (λ t s. refl) (λ t. refl) (object_made objects) l
+    sequenced_passes (operands.has_its_object objects) (ObjectIsThere objects) (λ t s. refl) (λ t. refl) (object_made objects) l
     (region_has objects (ObjectIsThere objects)
     (λ args before id op inputs rs e. object_is objects id op inputs rs ((and_parts _ (has_its_object objects (node id op inputs rs)) e).1)) l.body
     (regions_of_well_formed l w))

@@ -1,26 +1,15 @@
 -- What holds of the linear code of a lambda.
-use Rattle.std.specs.Prelude.{◌≡◌, ℕ, ◌-◌, nat_lt, Bool, true, IsTrue, [], ◌∷◌, ◌++◌, length}
+use Rattle.std.specs.Prelude.{◌≡◌, ℕ, ◌-◌, Bool, true, IsTrue, [], ◌∷◌, ◌++◌, length}
 use Rattle.g_graph.specs.declared.op.Op.{Op}
 use Rattle.g_graph.specs.declared.op.Op.TheVariants.{Apply}
 use Rattle.g_graph.specs.Plain.{PlainLambda}
 use Rattle.g_graph.specs.Count.{region_values}
 use Rattle.g_graph.specs.Lists.{RegionOps, NamesGlobal}
-use Rattle.g_graph.specs.WellFormed.{all_of, is_width, IsWellFormed}
-use Rattle.s_linear.specs.Linear.{Instr, object_address, load, store, clear, call}
-use Rattle.s_linear.specs.Lines.{enter, leave, does, has_its_global, names_below, numbers_from, code_lines, lines}
+use Rattle.g_graph.specs.WellFormed.{all_of, IsWellFormed}
+use Rattle.s_linear.specs.Linear.{Instr, call}
+use Rattle.s_linear.specs.Lines.{enter, leave, does, names_below, numbers_from, code_lines, lines}
+use Rattle.s_linear.specs.Operands.{has_its_object, has_its_global, has_its_width}
 use Rattle.s_sequence.specs.Sequence.{sequenced}
-
--- an instruction's width is 1, 2 or 4
-abbrev pub has_its_width : Instr → Bool
-has_its_width (load width t a) = is_width width
-has_its_width (store width a v) = is_width width
-has_its_width _ = true
-
--- an instruction names one of so many objects
-abbrev pub has_its_object : ℕ → Instr → Bool
-has_its_object objects (object_address t k) = nat_lt k objects
-has_its_object objects (clear k) = nat_lt k objects
-has_its_object objects _ = true
 
 -- a call's function and number of arguments pass
 abbrev pub calls_with : (ℕ → ℕ → Bool) → Instr → Bool

@@ -8,7 +8,8 @@ use Rattle.c_typed.specs.Typed.{ExprTree, OptionalExpr, no_expr, some_expr, Elem
 use Rattle.c_typed.specs.WellTyped.{type_of}
 use Rattle.c_mean.specs.State.{State, with_memory}
 use Rattle.c_mean.specs.Expressions.{Call, Context, expr_run}
-use Rattle.c_mean.specs.Statements.{Flow, normal, broke, continued, returned, Flowed, goes_on, if_normal, after_turn, optional_step, while_true, loop_run, do_run, object_number, elements_run, value_begun, object_begun, begun, declared, group_count, chosen_groups, groups_done, stmt_run, items_run, groups_runs}
+use Rattle.c_mean.specs.Statements.{Flow, normal, broke, continued, returned, Flowed, goes_on, if_normal, after_turn, optional_step, while_true, loop_run, do_run, elements_run, value_begun, object_begun, begun, declared, group_count, chosen_groups, groups_done, stmt_run, items_run, groups_runs}
+use Rattle.c_typed.specs.Objects.{object_number}
 use Rattle.c_mean.specs.RunLaws.{Extends}
 use Rattle.c_mean.proofs.lemmas.Extends.{extends-itself, extends-then, extends-defined, extends-number, extends-used, extends-branched}
 use Rattle.c_mean.proofs.lemmas.ExtendExpressions.{expr-extends}

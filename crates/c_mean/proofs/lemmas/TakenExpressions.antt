@@ -16,7 +16,8 @@ use Rattle.c_typed.specs.declared.operator.BinaryOp.TheVariants as binary_op
 use Rattle.c_typed.specs.declared.operator.IncDec.{IncDec}
 use Rattle.c_typed.specs.Typed.{ExprTree, expr, FormTree, constant, read, address, unary, binary, logical_and, logical_or, conditional, comma, assign, compound, inc_dec, call, get, ExprTrees, no_exprs, expr_then, PlaceTree, place, PlaceFormTree, local, global, at, member}
 use Rattle.c_typed.specs.WellTyped.{type_of}
-use Rattle.c_mean.specs.State.{Slot, holds, object, State, Valued, gives, with_memory, used, width_of, converted, extended, arithmetic, compared, truth, pointer_moved, pointer_difference, member_address}
+use Rattle.c_mean.specs.State.{Slot, holds, object, State, Valued, gives, with_memory, used, converted, extended, arithmetic, compared, truth, pointer_moved, pointer_difference, member_address}
+use Rattle.c_typed.specs.Objects.{access_width}
 use Rattle.c_mean.specs.Expressions.{Context, Arguments, Spot, in_slot, at_address, Located, found, slot_get, slot_value, address_of, member_spot, slot_spot, spot_read, spot_written, unary_done, binary_done, compound_done, stepped, branched, given_word, got, expr_run, form_run, dropped_run, arguments_run, place_run, place_form_run}
 use Rattle.c_mean.proofs.lemmas.Taken.{Takes, takes-then, takes-defined, takes-number, takes-used, takes-branched}
 
@@ -57,11 +58,11 @@ slot-takes c k (Some (object n)) s = refl
 read-takes : (t : TypeTree) (p : Spot) (s : State) → Takes of_value s.input (spot_read t p s)
 read-takes t (in_slot k) s = used-takes (slot_value (slot_get s k)) s
 read-takes t (at_address a) s =
-    takes-defined of_value s.input (load (width_of t) a s.memory) (λ v. used (extended t v) (gives s)) (λ v. used-takes (extended t v) s)
+    takes-defined of_value s.input (load (access_width t) a s.memory) (λ v. used (extended t v) (gives s)) (λ v. used-takes (extended t v) s)
 
 written-takes : (t : TypeTree) (p : Spot) (v : Value) (s : State) → Takes of_value s.input (spot_written t p v s)
 written-takes t (in_slot k) v s = refl
-written-takes t (at_address a) v s = takes-defined of_value s.input (store (width_of t) a v s.memory) (λ m. gives (with_memory s m) v) (λ m. refl)
+written-takes t (at_address a) v s = takes-defined of_value s.input (store (access_width t) a v s.memory) (λ m. gives (with_memory s m) v) (λ m. refl)
 
 unary-takes : (o : UnaryOp) (t u : TypeTree) (v : Value) (s : State) → Takes of_value s.input (unary_done o t u v s)
 unary-takes unary_op.Convert t u v s = takes-used of_value s.input v (λ x. used (converted t x) (gives s)) (λ x. used-takes (converted t x) s)

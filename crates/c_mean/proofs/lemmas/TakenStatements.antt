@@ -6,9 +6,10 @@ use Rattle.val_core.specs.Memory.{Memory, store}
 use Rattle.val_core.specs.Answers.{Answer, Returned, Cut, then_on, on_defined}
 use Rattle.c_typed.specs.Typed.{ExprTree, OptionalExpr, no_expr, some_expr, ElementTrees, no_elements, value_then, characters_then, InitialTree, no_initial, initial_value, initial_elements, StmtTree, null, value, block, if_else, loop, do_while, break, continue, return_value, return_none, switch, ItemTrees, no_items, stmt_then, declare_then, GroupTrees, no_groups, group_then, VariableTree}
 use Rattle.c_typed.specs.WellTyped.{type_of}
-use Rattle.c_mean.specs.State.{holds, object, State, with_memory, width_of, bytes_into}
+use Rattle.c_mean.specs.State.{holds, object, State, with_memory, bytes_into}
+use Rattle.c_typed.specs.Objects.{access_width, object_number}
 use Rattle.c_mean.specs.Expressions.{Context}
-use Rattle.c_mean.specs.Statements.{Flow, normal, broke, continued, returned, Flowed, flows, goes_on, if_normal, past, after_turn, optional_step, while_true, loop_run, do_run, in_scope, newest_written, object_number, characters_stored, elements_run, zeros, value_begun, object_begun, begun, declared, group_count, chosen_groups, groups_done, stmt_run, items_run, groups_runs}
+use Rattle.c_mean.specs.Statements.{Flow, normal, broke, continued, returned, Flowed, flows, goes_on, if_normal, past, after_turn, optional_step, while_true, loop_run, do_run, in_scope, newest_written, characters_stored, elements_run, zeros, value_begun, object_begun, begun, declared, group_count, chosen_groups, groups_done, stmt_run, items_run, groups_runs}
 use Rattle.c_mean.proofs.lemmas.Taken.{Takes, takes-then, takes-defined, takes-number, takes-used, takes-branched}
 use Rattle.c_mean.proofs.lemmas.TakenExpressions.{of_value, of_state, of_given, expr-takes}
 
@@ -63,8 +64,8 @@ module _ (c : Context) (calls : (f : ℕ) (vs : List Value) (m : Memory) (i : Li
   elements-take a no_elements s = refl
   elements-take a (value_then o e es) s =
       takes-then of_value of_state s.input _ _ (expr-takes c calls e s) (λ x.
-      takes-used of_state x.state.input x.value (λ v. on_defined (store (width_of (type_of e)) (bytes_into a o) v x.state.memory) (λ m. elements_run c a es (with_memory x.state m))) (λ v.
-      takes-defined of_state x.state.input (store (width_of (type_of e)) (bytes_into a o) v x.state.memory) (λ m. elements_run c a es (with_memory x.state m)) (λ m.
+      takes-used of_state x.state.input x.value (λ v. on_defined (store (access_width (type_of e)) (bytes_into a o) v x.state.memory) (λ m. elements_run c a es (with_memory x.state m))) (λ v.
+      takes-defined of_state x.state.input (store (access_width (type_of e)) (bytes_into a o) v x.state.memory) (λ m. elements_run c a es (with_memory x.state m)) (λ m.
       elements-take a es (with_memory x.state m))))
   elements-take a (characters_then o cs es) s =
       takes-defined of_state s.input (characters_stored a o cs s.memory) (λ m. elements_run c a es (with_memory s m)) (λ m. elements-take a es (with_memory s m))
@@ -80,8 +81,8 @@ module _ (c : Context) (calls : (f : ℕ) (vs : List Value) (m : Memory) (i : Li
   object-takes a no_initial s = refl
   object-takes a (initial_value e) s =
       takes-then of_value of_state s.input _ _ (expr-takes c calls e s) (λ x.
-      takes-used of_state x.state.input x.value (λ v. on_defined (store (width_of (type_of e)) a v x.state.memory) (λ m. Returned (with_memory x.state m) [])) (λ v.
-      takes-defined of_state x.state.input (store (width_of (type_of e)) a v x.state.memory) (λ m. Returned (with_memory x.state m) []) (λ m. refl)))
+      takes-used of_state x.state.input x.value (λ v. on_defined (store (access_width (type_of e)) a v x.state.memory) (λ m. Returned (with_memory x.state m) [])) (λ v.
+      takes-defined of_state x.state.input (store (access_width (type_of e)) a v x.state.memory) (λ m. Returned (with_memory x.state m) []) (λ m. refl)))
   object-takes a (initial_elements es) s =
       takes-defined of_state s.input (zeros a s.memory) (λ m. elements_run c a es (with_memory s m)) (λ m. elements-take a es (with_memory s m))
 

@@ -23,7 +23,8 @@ use Rattle.g_graph.specs.declared.op.Origin.TheVariants.{Out}
 use Rattle.g_graph.specs.declared.op.Op.{Op}
 use Rattle.g_graph.specs.declared.op.Op.TheVariants.{Const, Local, Delta, Bin, Un, Load, Store, PtrEq, Apply, Put, Exit, Get}
 use Rattle.g_construct.specs.Writer.{SlotOrigin, held, object, hidden, variable_at, Point, Built, given, bind, one_value, choice}
-use Rattle.g_construct.specs.Operations.{value_node, const_made, local_made, delta_made, bin_made, un_made, ptr_eq_made, load_made, store_made, apply_made, put_made, access_width, converted_made, extended_made, read_made, is_zero_made, is_not_zero_made, is_null_made, not_made, condition_made, less_op, equal_made, not_equal_made, compared_made, moved_made, difference_made, at_offset_made}
+use Rattle.g_construct.specs.Operations.{value_node, const_made, local_made, delta_made, bin_made, un_made, ptr_eq_made, load_made, store_made, apply_made, put_made, converted_made, extended_made, read_made, is_zero_made, is_not_zero_made, is_null_made, not_made, condition_made, less_op, equal_made, not_equal_made, compared_made, moved_made, difference_made, at_offset_made}
+use Rattle.c_typed.specs.Objects.{access_width}
 use Rattle.g_construct.specs.Places.{Spot, in_slot, at_address, address_spot, slot_spot, member_spot, spot_address, spot_read, spot_written}
 use Rattle.g_construct.specs.Expressions.{unary_made, binary_made, compound_made, step_op, stepped_made, conditional_extra, expr_made, form_made, tested, commas_made, arguments_made, place_made, place_form_made}
 use Rattle.g_construct.specs.Laws.{Later}

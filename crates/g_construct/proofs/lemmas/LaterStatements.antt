@@ -7,12 +7,13 @@ use Rattle.g_graph.specs.declared.op.Origin.{Origin}
 use Rattle.g_graph.specs.declared.op.Origin.TheVariants.{Arg, Out}
 use Rattle.g_graph.specs.declared.op.Op.TheVariants.{Undef, Clear}
 use Rattle.g_construct.specs.Writer.{SlotOrigin, held, object, hidden, newest, slot_origin, Point, with_go, with_go_and_ret, pushed, popped, newest_set, Built, nothing, bind, dropped, no_value, one_value, choice, choices, choice_one_first, repeat}
-use Rattle.g_construct.specs.Operations.{const_made, undef_made, local_made, bin_made, store_made, clear_made, at_offset_made, access_width, is_zero_made}
+use Rattle.g_construct.specs.Operations.{const_made, undef_made, local_made, bin_made, store_made, clear_made, at_offset_made, is_zero_made}
+use Rattle.c_typed.specs.Objects.{access_width, object_number}
 use Rattle.g_construct.specs.Expressions.{expr_made, tested}
 use Rattle.g_construct.specs.Exits.{stmt_exits, items_exits, groups_exits, can_leave, some_items}
 use Rattle.g_construct.specs.Jumps.{jump_made, return_made, jump_ended, break_ended, unless_left, optional_tested, step_made, again_made, turn_made, loop_made, do_again_made, do_made}
 use Rattle.g_construct.specs.Switch.{ends_segment, some_segment_has_several, Target, default_target, Label, labels_of, word_difference, moved_where, Selected, labels_made, segment_made, groups_moved, from_made, from_popped, group_made, segments_with, chosen_made, switch_made}
-use Rattle.g_construct.specs.Statements.{object_stored, element_stored, characters_made, elements_made, value_begun, object_begun, object_number, variable_begun, declared_as, declared_made, stmt_made, items_made, segments_made}
+use Rattle.g_construct.specs.Statements.{object_stored, element_stored, characters_made, elements_made, value_begun, object_begun, variable_begun, declared_as, declared_made, stmt_made, items_made, segments_made}
 use Rattle.g_construct.specs.Laws.{shape, Later, variable_shape, shape_as, declared_shape}
 use Rattle.g_construct.proofs.lemmas.Later.{Keeps, later_here, later_then, bind_later, node_later, EachKeeps, choices_later, choice_later, choice_one_first_later, repeat_later, shape_append, popped_later}
 use Rattle.g_construct.proofs.lemmas.LaterExpressions.{const_later, bin_later, local_later, store_later, is_zero_later, at_offset_later, expr_later, tested_later}

@@ -7,10 +7,11 @@ use Rattle.g_graph.specs.declared.op.Origin.{Origin}
 use Rattle.g_graph.specs.declared.op.Origin.TheVariants.{Arg, Out}
 use Rattle.g_graph.specs.declared.op.Op.TheVariants.{Undef, Clear}
 use Rattle.g_construct.specs.Writer.{SlotOrigin, held, object, hidden, Point, with_go, with_go_and_ret, pushed, Built, nothing, bind, dropped, no_value, one_value, choice, repeat}
-use Rattle.g_construct.specs.Operations.{const_made, undef_made, local_made, bin_made, store_made, clear_made, at_offset_made, access_width, is_zero_made}
+use Rattle.g_construct.specs.Operations.{const_made, undef_made, local_made, bin_made, store_made, clear_made, at_offset_made, is_zero_made}
+use Rattle.c_typed.specs.Objects.{access_width, object_number}
 use Rattle.g_construct.specs.Expressions.{expr_made, tested}
 use Rattle.g_construct.specs.Jumps.{jump_made, return_made, jump_ended, break_ended, unless_left, optional_tested, step_made, again_made, turn_made, loop_made, do_again_made, do_made}
-use Rattle.g_construct.specs.Statements.{object_stored, element_stored, characters_made, elements_made, value_begun, object_begun, object_number, variable_begun, declared_as, declared_made}
+use Rattle.g_construct.specs.Statements.{object_stored, element_stored, characters_made, elements_made, value_begun, object_begun, variable_begun, declared_as, declared_made}
 use Rattle.g_construct.specs.Laws.{shape, Later, variable_shape, shape_as, declared_shape}
 use Rattle.g_construct.proofs.lemmas.Programs.{values_in, values_append}
 use Rattle.g_construct.proofs.lemmas.LaterStatements.{declared_later}

@@ -9,7 +9,7 @@ use Rattle.g_graph.specs.declared.op.Kind.TheVariants.{Value, Memory, Io}
 use Rattle.g_graph.specs.declared.op.Origin.{Origin}
 use Rattle.g_graph.specs.declared.op.Origin.TheVariants.{Arg}
 use Rattle.g_construct.specs.Writer.{held, object, Point, Built, bind}
-use Rattle.g_construct.specs.Operations.{access_width}
+use Rattle.c_typed.specs.Objects.{access_width}
 use Rattle.g_construct.specs.Exits.{some_items, body_jumps}
 use Rattle.g_construct.specs.Statements.{object_stored, declared_made, stmt_made, items_made}
 use Rattle.g_construct.specs.Functions.{params_carried, params_stored, start_of, jumps_begun, straight_then, straight_made, jumping_body, straight_body, body_built, function_values}

@@ -3,7 +3,8 @@ use Rattle.g_graph.specs.WellFormed.{all_of}
 use Rattle.s_linear.specs.Lines.{does}
 use Rattle.s_linear.specs.Views.{line_of}
 use Rattle.s_select.specs.Templates.{items_of}
-use Rattle.s_select.specs.Conditions.{has_few_arguments, has_few_params, has_its_object, names_have_places}
+use Rattle.s_select.specs.Conditions.{has_few_arguments, has_few_params, names_have_places}
+use Rattle.s_linear.specs.Operands.{has_its_object}
 use Rattle.s_select.proofs.selecting.select.Given as goal
 
 -- with what is left, all of them
