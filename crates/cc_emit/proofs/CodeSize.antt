@@ -16,6 +16,7 @@ use Rattle.s_linear.specs.Lines.{Line, enter, leave, numbers_from, code_lines}
 use Rattle.s_sequence.specs.Sequence.{values_in, value_args, kept, Names, no_names, node_names, nodes_names, named, nodes_named, name_of, moves, instrs_then, outputs_at, bases, loop_results, nodes_code, node_step, branch_codes, branch_code, loop_step, body_code, sequenced}
 use Rattle.s_sequence.proofs.Instrs.{arguments_counted}
 use Rattle.s_sequence.proofs.Named.{args_length, kept_length}
+use Rattle.a_place.proofs.lemmas.Names.{length_numbers}
 use Rattle.a_place.specs.Places.{places}
 use Rattle.rv_layout.specs.Items.{item_size, items_size}
 use Rattle.s_select.specs.Templates.{line_items, items_of}
@@ -23,7 +24,6 @@ use Rattle.cc_emit.specs.Image.{lines_of}
 use Rattle.cc_emit.specs.Laws.{HasFewArguments, CodeIsShort}
 use Rattle.cc_emit.specs.Sizes.{instr_bytes, line_bytes, LinesAreShort}
 use Rattle.cc_emit.proofs.Bytes.{bytes, instrs_bytes, step_bytes, code_bytes, codes_bytes, code_lines_bytes}
-use Rattle.a_place.proofs.lemmas.Names.{length_numbers}
 
 -- ---- moves
 

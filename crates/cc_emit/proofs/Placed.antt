@@ -1,5 +1,5 @@
 -- Each name of lines has a place.
-use Rattle.std.proofs.Common.{◌≡◌, ℕ, zero, suc, ◌<◌, ◌==◌, refl, ap, ◌∙◌, Bool, true, false, List, [], ◌∷◌, length, slice_index, arith}
+use Rattle.std.proofs.Common.{◌≡◌, ℕ, zero, suc, ◌<◌, ◌==◌, refl, ◌∙◌, Bool, true, false, List, [], ◌∷◌, length, slice_index, arith}
 use Rattle.std.proofs.lemmas.Bool.{and_from, lt-ltb}
 use Rattle.std.proofs.lemmas.Bool.Decides.{nat_tests}
 use Rattle.std.proofs.lemmas.List.{length-map}
@@ -8,7 +8,7 @@ use Rattle.g_graph.specs.WellFormed.{all_of, some_of}
 use Rattle.s_linear.specs.Lines.{Line, line_names, numbers_from}
 use Rattle.a_place.specs.Laws.{PlacesAreBelowCount}
 use Rattle.a_place.proofs.lemmas.Names.{length_numbers, below_name_count}
-use Rattle.a_place.specs.Places.{occurs, above, name_count, all_given, place_in, places}
+use Rattle.a_place.specs.Places.{occurs, name_count, all_given, place_in, places}
 use Rattle.s_select.specs.Conditions.{has_place}
 use Rattle.s_select.specs.Conditions as condition
 use Rattle.cc_emit.specs.Laws.{NamesHavePlaces}

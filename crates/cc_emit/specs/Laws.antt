@@ -39,7 +39,10 @@ LambdaCanSelect =
     → IsFrameOf frame (places (lines_of l)) l.objects → CanSelect (lines_of l) (places (lines_of l)) frame l.objects
 
 -- The code of a lambda has at most 32 bytes for each value and 256 more, where it has at most 8 parameters and each of its
--- calls at most 8 arguments.
+-- calls at most 8 arguments. The first and the last line take 252 with far words. A node that is no call takes at most 44, of
+-- 64; a call of eight arguments 116, of 128. A region of a choice takes for itself a branch of 28 bytes and a jump of 4, which
+-- are the 32 of its one value; a loop a branch of 20 and a jump, of 96. A move takes 24: an argument or a result has one, and
+-- the values that a loop passes on have three, of 96.
 abbrev pub CodeIsShort : Type 0
 CodeIsShort = (l : PlainLambda) → l.params ≤ 8 → RegionOps HasFewArguments l.body → code_size l ≤ 32 * lambda_values l + 256
 

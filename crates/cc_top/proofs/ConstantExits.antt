@@ -12,17 +12,22 @@ use Rattle.rv_isa.specs.declared.instruction.Instr.TheVariants.{Lui, Addi, Ebrea
 use Rattle.rv_machine.specs.Machine.{State, next, exit, next_effect, act, give}
 use Rattle.rv_machine.specs.Memory.{Bytes, allowed, load_bytes, store_bytes, put_at, memory_of, flags_of, has_flag, to_execute, to_read, to_write}
 use Rattle.rv_machine.specs.Run.{run_state, run, executed, executed_if_loaded, image_at, standing, ended}
-use Rattle.cc_top.specs.Layout.{bytes_of, sections_of_code, image_of_constant}
-use Rattle.cc_top.specs.Templates.{enter, leave, load_immediate}
+use Rattle.rv_layout.proofs.Placed.{length-bytes_of}
+use Rattle.rv_layout.specs.declared.item.Item.{Item}
+use Rattle.rv_layout.specs.Layout.{laid_out}
+use Rattle.rv_layout.specs.Sequences.{bytes_of}
+use Rattle.s_select.specs.Operands.{load_immediate}
+use Rattle.s_select.specs.Templates.{words, take_frame}
+use Rattle.cc_top.specs.Constant.{image_of_constant}
 use Rattle.cc_top.specs.Program.{ExitsWithin, ConstantExits}
-use Rattle.cc_top.proofs.ConstantRun.{program, TextStands, StackAllows, s0, s13, a0, b0, front-reaches, a-ends, b-ends}
+use Rattle.cc_top.proofs.ConstantRun.{program, last_code, TextStands, StackAllows, s0, s13, a0, b0, front-reaches, a-ends, b-ends}
 use Rattle.cc_top.proofs.Standing.{stands-same, effect-act, Reaches, reaches-more}
 use Rattle.std.proofs.Common.{lit≤}
 use Rattle.rv_isa.specs.Formats.{IsSigned}
 use Rattle.rv_isa.specs.WordParts.{upper_part, low_part}
 use Rattle.rv_isa.proofs.lemmas.WordParts.{low_part_fits, parts_make_word}
 use Rattle.cc_top.proofs.ProgramFits.{AllFit-at, small_fits, large_fits}
-use Rattle.cc_top.proofs.Text.{Holds, holds-stands, length-bytes_of}
+use Rattle.cc_top.proofs.Text.{Holds, holds-stands}
 
 -- ---- the segments in memory
 
@@ -68,9 +73,12 @@ data_allows p flag a has above low high =
 
 -- ---- the program of a constant
 
--- the code of `main`, its constant loaded by these instructions
-abbrev main_code : List Instr → List Instr
-main_code li = enter 16 1 ++ li ++ leave 16 1 9
+-- the items of `main`, its constant loaded by these instructions, and the sections of the program
+abbrev main_items : List Instr → List Item
+main_items li = words (take_frame 16 1) ++ (words (li ++ []) ++ (words last_code ++ []))
+
+abbrev sections_by : List Instr → Sections
+sections_by li = laid_out (main_items li ∷ []) [] 0
 
 -- the sections of an image of this text, with its data on the second page
 pub record IsImageOf (p : Sections) (li : List Instr) (count : ℕ) : Type 0 where
@@ -129,7 +137,7 @@ pub image_stands : {p : Sections} {li : List Instr} {count : ℕ} → IsImageOf 
     → TextStands (flags_of (segments p)) (memory_of (segments p)) expected (program li)
 image_stands h expected within k inside = holds-stands (image_holds h) k (omega (arith, ltb-true k expected inside, h.counted))
 
-small_image : (n : ℕ) → n < 2048 → IsImageOf (sections_of_code (main_code (Addi 9 0 n ∷ []))) (Addi 9 0 n ∷ []) 45
+small_image : (n : ℕ) → n < 2048 → IsImageOf (sections_by (Addi 9 0 n ∷ [])) (Addi 9 0 n ∷ []) 45
 small_image n small = record {
   text = refl;
   fixed = refl;
@@ -143,7 +151,7 @@ small_image n small = record {
   fits = λ k. AllFit-at (program (Addi 9 0 n ∷ [])) k (small_fits n small);
 }
 
-large_image : (u l : ℕ) → u < 2 ^ 20 → IsSigned 12 l → IsImageOf (sections_of_code (main_code (Lui 9 u ∷ Addi 9 9 l ∷ []))) (Lui 9 u ∷ Addi 9 9 l ∷ []) 46
+large_image : (u l : ℕ) → u < 2 ^ 20 → IsSigned 12 l → IsImageOf (sections_by (Lui 9 u ∷ Addi 9 9 l ∷ [])) (Lui 9 u ∷ Addi 9 9 l ∷ []) 46
 large_image u l upper low = record {
   text = refl;
   fixed = refl;
@@ -197,11 +205,11 @@ moves-lower flags m u l text =
 
 -- ---- both cases
 
-small_exits : (n : ℕ) → n < 2048 → ExitsWithin 23 (file_of (sections_of_code (main_code (Addi 9 0 n ∷ [])))) (n % 256)
+small_exits : (n : ℕ) → n < 2048 → ExitsWithin 23 (file_of (sections_by (Addi 9 0 n ∷ []))) (n % 256)
 small_exits n small count input enough =
     let li = Addi 9 0 n ∷ [] in
     let image = small_image n small in
-    let p = sections_of_code (main_code li) in
+    let p = sections_by li in
     let flags = flags_of (segments p) in
     let m = memory_of (segments p) in
     let whole = image_stands image 45 (lit≤ tt) in
@@ -217,11 +225,11 @@ small_exits n small count input enough =
     ∙ ap (λ status. Ok (standing (ended (exit status)) input)) same
 
 pub large_exits : (n u l : ℕ) → u < 2 ^ 20 → IsSigned 12 l → (u * 2 ^ 12 + l) % 2 ^ 32 ≡ n
-    → ExitsWithin 24 (file_of (sections_of_code (main_code (Lui 9 u ∷ Addi 9 9 l ∷ [])))) (n % 256)
+    → ExitsWithin 24 (file_of (sections_by (Lui 9 u ∷ Addi 9 9 l ∷ []))) (n % 256)
 large_exits n u l upper low sum count input enough =
     let li = Lui 9 u ∷ Addi 9 9 l ∷ [] in
     let image = large_image u l upper low in
-    let p = sections_of_code (main_code li) in
+    let p = sections_by li in
     let flags = flags_of (segments p) in
     let m = memory_of (segments p) in
     let whole = image_stands image 46 (lit≤ tt) in
@@ -239,7 +247,7 @@ large_exits n u l upper low sum count input enough =
 
 -- the image whose constant is loaded by these instructions
 image_by : List Instr → List ℕ
-image_by li = file_of (sections_of_code (main_code li))
+image_by li = file_of (sections_by li)
 
 exits_by : (n bound : ℕ) (li : List Instr) → load_immediate 9 n ≡ li → ExitsWithin bound (image_by li) (n % 256) → ExitsWithin bound (image_of_constant n) (n % 256)
 unfolding image_by

@@ -5,13 +5,17 @@ use Rattle.rv_isa.specs.declared.instruction.Instr.TheVariants.{Lui, Auipc, Jalr
 use Rattle.rv_machine.specs.Machine.{State, next, stop, exit, next_effect, act, call, give, jump, after, set_register}
 use Rattle.rv_machine.specs.Memory.{Bytes, allowed, load_bytes, store_bytes, put_at, to_read, to_write}
 use Rattle.rv_machine.specs.Run.{run_state, standing, ended}
-use Rattle.cc_top.specs.Layout.{start_code, put_stub, get_stub}
-use Rattle.cc_top.specs.Templates.{enter, leave}
+use Rattle.rv_layout.specs.Sequences.{start_code, put_stub, get_stub}
+use Rattle.s_select.specs.Templates.{take_frame, give_frame}
 use Rattle.cc_top.proofs.Standing.{StandsAt, stands-same, effect-act, Reaches, reaches-one, reaches-more, reaches-stop}
+
+-- the end of `main`, whose value is in s1
+abbrev pub last_code : List Instr
+last_code = Addi 10 9 0 ∷ give_frame 16 1
 
 -- The text of a program whose `main` loads its constant by these instructions.
 abbrev pub program : List Instr → List Instr
-program li = start_code 73728 65652 ++ put_stub 69632 ++ get_stub 69632 ++ enter 16 1 ++ li ++ leave 16 1 9
+program li = start_code 73728 65652 ++ put_stub 69632 ++ get_stub 69632 ++ take_frame 16 1 ++ li ++ last_code
 
 -- each of the first instructions of a text is at its address
 abbrev pub TextStands : (ℕ → ℕ) → Bytes → (count : ℕ) → List Instr → Type 0

@@ -6,6 +6,7 @@ pub mod GenerateLemmas
 pub mod Standing
 pub mod Text
 pub mod ProgramFits
+pub mod ConstantProgram
 pub mod ConstantRun
 pub mod ConstantExits
 pub mod RunLemmas

@@ -6,9 +6,9 @@ use Rattle.rv_isa.specs.Formats.{Encoding, r_type, i_type, s_type, b_type, u_typ
 use Rattle.rv_isa.specs.Words.{FitsFormat, encoding_of}
 use Rattle.rv_isa.specs.declared.instruction.Instr.{Instr}
 use Rattle.rv_isa.specs.declared.instruction.Instr.TheVariants.{Lui, Addi, Ebreak}
-use Rattle.cc_top.specs.Layout.{start_code, put_stub, get_stub}
-use Rattle.cc_top.specs.Templates.{enter, leave}
-use Rattle.cc_top.proofs.ConstantRun.{program}
+use Rattle.rv_layout.specs.Sequences.{start_code, put_stub, get_stub}
+use Rattle.s_select.specs.Templates.{take_frame}
+use Rattle.cc_top.proofs.ConstantRun.{last_code, program}
 
 -- each instruction fits its format
 abbrev pub AllFit : List Instr → Type 0
@@ -77,18 +77,18 @@ all_fit (i ∷ code) e = let both = and_parts _ _ e in (in_range-true (encoding_
 
 -- the instructions before those that load the constant
 abbrev front : List Instr
-front = start_code 73728 65652 ++ put_stub 69632 ++ get_stub 69632 ++ enter 16 1
+front = start_code 73728 65652 ++ put_stub 69632 ++ get_stub 69632 ++ take_frame 16 1
 
 front_fits : AllFit front
 unfolding in_range is_signed
 front_fits = all_fit front refl
 
-leave_fits : AllFit (leave 16 1 9)
+last_fits : AllFit last_code
 unfolding in_range is_signed
-leave_fits = all_fit (leave 16 1 9) refl
+last_fits = all_fit last_code refl
 
 by_load : (load : List Instr) → AllFit load → AllFit (program load)
-by_load load fits = AllFit-append (front ++ load) (leave 16 1 9) (AllFit-append front load front_fits fits) leave_fits
+by_load load fits = AllFit-append (front ++ load) last_code (AllFit-append front load front_fits fits) last_fits
 
 pub small_fits : (n : ℕ) → n < 2048 → AllFit (program (Addi 9 0 n ∷ []))
 unfolding FitsFormat

@@ -13,7 +13,7 @@ use Rattle.c_lex.specs.declared.fault.LexFault.TheVariants as fault
 use Rattle.c_lex.specs.declared.token.Token.{Token}
 use Rattle.c_lex.specs.declared.token.TokenKind.{TokenKind}
 use Rattle.c_lex.specs.declared.token.TokenKind.TheVariants as kind
-use Rattle.cc_top.specs.Layout.{image_of_constant}
+use Rattle.cc_top.specs.Constant.{image_of_constant}
 use Rattle.cc_top.specs.Program.{Compiles, ExitsWithin, instruction_count}
 use Rattle.c_lex.specs.Results.{Fails}
 use Rattle.cc_top.specs.Refusal.{is_line_end, refusal_of, refused_at}

@@ -1,5 +1,5 @@
 -- The bytes of a text, loaded at an address, are its instructions.
-use Rattle.std.proofs.Common.{◌≡◌, ℕ, suc, ◌+◌, ◌*◌, ◌%◌, ◌<◌, ◌^◌, true, List, [], ◌∷◌, length, take, slice_index, slice_index_or, refl, ap, sym, ◌∙◌, arith, length-append}
+use Rattle.std.proofs.Common.{◌≡◌, ℕ, suc, ◌+◌, ◌*◌, ◌%◌, ◌<◌, ◌^◌, true, List, length, take, slice_index, slice_index_or, refl, ap, sym, ◌∙◌, arith}
 use Rattle.std.proofs.lemmas.List.{length-take-le}
 use Rattle.std.proofs.lemmas.List.Concat.{get_or-flat_map}
 use Rattle.elf_file.specs.Header.{word}
@@ -8,16 +8,14 @@ use Rattle.rv_isa.specs.Words.{word_of, FitsFormat}
 use Rattle.rv_isa.specs.declared.instruction.Instr.{Instr}
 use Rattle.rv_isa.specs.declared.instruction.Instr.TheVariants.{Ebreak}
 use Rattle.rv_machine.specs.Memory.{Bytes, allowed, load_bytes, to_execute, has_flag}
-use Rattle.cc_top.specs.Layout.{bytes_of}
+use Rattle.rv_layout.proofs.Placed.{length-bytes_of}
+use Rattle.rv_layout.specs.Sequences.{bytes_of}
 use Rattle.cc_top.proofs.Standing.{StandsAt}
-
-pub length-bytes_of : (code : List Instr) → length (bytes_of code) ≡ 4 * length code
-length-bytes_of [] = refl
-length-bytes_of (i ∷ code) = let rest = length-bytes_of code in omega (arith, length-append (word (word_of i)) (bytes_of code), rest)
 
 -- the j-th byte of the k-th instruction
 bytes_of-at : (code : List Instr) (k j : ℕ) → k < length code → j < 4
     → slice_index (bytes_of code) (4 * k + j) ≡ slice_index (word (word_of (slice_index_or code k Ebreak))) j
+unfolding bytes_of
 bytes_of-at code k j in_code in_word =
     let front : length (bytes_of (take k code)) ≡ 4 * k = length-bytes_of (take k code) ∙ ap (λ n. 4 * n) (length-take-le k code (omega arith)) in
     ap (λ n. slice_index (bytes_of code) (n + j)) (sym front)

@@ -1,8 +1,7 @@
 pub mod Source
 pub mod Refusal
 pub mod Refused
-pub mod Templates
-pub mod Layout
+pub mod Constant
 pub mod Report
 pub mod Outcome
 pub mod Text

@@ -2,7 +2,7 @@
 use Rattle.std.specs.Prelude.{◌≡◌, ℕ, ◌%◌, ◌<◌, ◌≤◌, ◌^◌, nat_lt, List, Option, Some, Ok, option_map, if◌then◌else◌}
 use Rattle.rv_machine.specs.Machine.{exit}
 use Rattle.rv_machine.specs.Run.{image_at, standing, ended}
-use Rattle.cc_top.specs.Layout.{image_of_constant}
+use Rattle.cc_top.specs.Constant.{image_of_constant}
 use Rattle.cc_top.specs.Source.{returned}
 
 -- Whatever the input, this many instructions and any more of the file end with this status, with nothing

@@ -6,27 +6,15 @@ ghost use Rattle.cc_io.specs.Files.{Name, content, put_file};
 ghost use Rattle.cc_top.specs.BuildEnds.{BuildEnds};
 ghost use Rattle.cc_top.specs.Program.{Compiles};
 ghost use Rattle.cc_top.specs.Outside.{files_seen};
-ghost use Rattle.cc_top.specs.Layout.{image_of_constant};
 ghost use Rattle.cc_top.specs.Refused.{CompileFails, IsRejectionOf};
 
-use crate::layout::image_of_code;
+use crate::constant::image_of_constant;
 use crate::load::{LoadError, load};
 use crate::outcome::Outcome;
 use crate::source::accept;
-use crate::templates::return_constant;
 use cc_io::{Files, save};
 use limits::MOST_SOURCE_BYTES;
 use std::alloc::Global;
-
-/// The image of the program that returns a constant.
-fn image_of_constant(alloc: Global, constant: u32) -> Result<Vec<u8>, Outcome>
-    ensures bytes { IfOk result (λ bytes. bytes.items ≡ image_of_constant constant) }
-    ensures memory { IfErr result (λ e. e ≡ Outcome.NoMemory) }
-{
-    let code = return_constant(alloc, constant)?;
-    let image = image_of_code(alloc, &code)?;
-    Ok(elf_file::write(alloc, &image)?)
-}
 
 /// The image of a source text.
 fn compile(alloc: Global, source: &[u8]) -> Result<Vec<u8>, Outcome>

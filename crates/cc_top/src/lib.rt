@@ -5,9 +5,9 @@
 #![tactic(auto)]
 
 mod build;
+mod constant;
 mod generated;
 pub mod laws;
-mod layout;
 mod line;
 mod load;
 mod outcome;
@@ -15,7 +15,6 @@ mod refusal;
 mod report;
 mod run;
 mod source;
-mod templates;
 
 ghost use Rattle.std.specs.Prelude.{map};
 ghost use Rattle.std.specs.String.{string_bytes};

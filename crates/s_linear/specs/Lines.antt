@@ -131,16 +131,6 @@ abbrev pub does : (Instr → Bool) → Line → Bool
 does test (done i) = test i
 does test _ = true
 
--- an instruction's function is one of so many
-abbrev pub has_its_callee : (functions : ℕ) → Instr → Bool
-has_its_callee functions (call f t arguments) = nat_lt f functions
-has_its_callee functions _ = true
-
--- an instruction's global is one of so many
-abbrev pub has_its_global : (globals : ℕ) → Instr → Bool
-has_its_global globals (global_address t k) = nat_lt k globals
-has_its_global globals _ = true
-
 -- the names that an instruction writes or reads, and those of a line
 abbrev pub instr_names : Instr → List ℕ
 instr_names (const t w) = t ∷ []

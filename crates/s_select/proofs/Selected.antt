@@ -15,7 +15,8 @@ use Rattle.s_linear.specs.Laws.{LabelsAreMarkedOnce, LinesGoToLabels}
 use Rattle.s_linear.specs.Linear as linear
 use Rattle.s_linear.specs.Linear.{LinearFunction}
 use Rattle.s_linear.specs.Lines as lines
-use Rattle.s_linear.specs.Lines.{Line, enter, leave, done, branch_not_zero, branch_zero, branch_equal, jump, label, does, has_its_callee, has_its_global, goes_to, code_labels}
+use Rattle.s_linear.specs.Lines.{Line, enter, leave, done, branch_not_zero, branch_zero, branch_equal, jump, label, does, goes_to, code_labels}
+use Rattle.s_linear.specs.Operands.{has_its_callee, has_its_global}
 use Rattle.rv_layout.specs.declared.item.Item.{Item}
 use Rattle.rv_layout.specs.declared.item.Item.TheVariants.{Word, Mark, Jump, Call, Stub, Address}
 use Rattle.rv_layout.specs.Items.{marks}

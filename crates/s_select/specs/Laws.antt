@@ -4,7 +4,8 @@ use Rattle.g_graph.specs.Plain.{PlainObject}
 use Rattle.g_graph.specs.WellFormed.{all_of}
 use Rattle.s_linear.specs.Frame.{PlainPlaces}
 use Rattle.s_linear.specs.Linear.{LinearFunction}
-use Rattle.s_linear.specs.Lines.{Line, does, has_its_callee, has_its_global, lines}
+use Rattle.s_linear.specs.Lines.{Line, does, lines}
+use Rattle.s_linear.specs.Operands.{has_its_callee, has_its_global}
 use Rattle.rv_layout.specs.Conditions.{item_fits, labels_are_marked}
 use Rattle.s_select.specs.Templates.{items_of}
 

@@ -13,8 +13,9 @@ use Rattle.g_graph.specs.Lists.{RegionOps, NodeOps, NodesOps, RegionsOps, NamesG
 use Rattle.g_graph.specs.WellFormed.{all_of, is_width, every_region, every_in_node, every_in_nodes, every_in_regions, has_its_width, has_its_object, inputs_fit, inputs_are_last, node_has_one_state_each, has_its_regions, regions_fit, theta_has_states, node_fits, results_are_last, returns_state, region_has_one_state_each, region_fits, body_fits, numbers_fit, leaves_fit, IsWellFormed}
 use Rattle.g_graph.specs.declared.op.Kind.TheVariants.{Memory, Io}
 use Rattle.s_linear.specs.Linear.{Instr, move, undef, Code, no_steps}
-use Rattle.s_linear.specs.Lines.{done, does, has_its_global, lines}
+use Rattle.s_linear.specs.Lines.{done, does, lines}
 use Rattle.s_linear.specs.Operands as operands
+use Rattle.s_linear.specs.Operands.{has_its_global}
 use Rattle.s_linear.proofs.Passing.{StepPasses, CodePasses, CodesPass, lines_pass}
 use Rattle.s_sequence.specs.Sequence.{value_args, Names, no_names, node_names, nodes_names, named, name_of, moves, without_states, op_instr, instrs_then, outputs_at, nodes_code, node_step, branch_codes, branch_code, loop_step, body_code, sequenced}
 use Rattle.s_sequence.specs.Laws as laws

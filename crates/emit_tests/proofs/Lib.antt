@@ -1,0 +1,2 @@
+mod Programs
+mod Runs
