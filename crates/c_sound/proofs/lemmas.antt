@@ -1,0 +1,5 @@
+pub mod Options
+pub mod Values
+pub mod Binary
+pub mod Operators
+pub mod Assigning
