@@ -3,3 +3,4 @@ pub mod Values
 pub mod Binary
 pub mod Operators
 pub mod Assigning
+pub mod States
