@@ -4,3 +4,4 @@ pub mod Binary
 pub mod Operators
 pub mod Assigning
 pub mod States
+pub mod Steps
