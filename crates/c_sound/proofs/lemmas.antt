@@ -5,3 +5,5 @@ pub mod Operators
 pub mod Assigning
 pub mod States
 pub mod Steps
+pub mod Terms
+pub mod CalledTerms

@@ -155,14 +155,22 @@ pub record FunctionFits (e : Ending) (defined : List Name) (declared : List Decl
 -- what names mean is there: a variable has a slot, and a function its definition
 pub record NamesFit (e : Ending) (s : State) : Type 0 where
   pub slots : (name : Name) (slot : ℕ) (is_const : Bool) → meaning s.scopes name ≡ Some (means.Variable slot is_const) → slot < length s.slots
+  pub variables : (slot k : ℕ) → slice_get s.slots slot ≡ Some k → k < length s.variables
   pub functions : (name : Name) (k : ℕ) → meaning s.scopes name ≡ Some (means.Function (suc (suc (suc k)))) → FunctionFits e s.defined s.declared name (suc (suc (suc k)))
   pub put : slice_get s.declared 0 ≡ Some (declared_as int (Some int ∷ []))
   pub get : slice_get s.declared 1 ≡ Some (declared_as int [])
   pub exit : slice_get s.declared 2 ≡ Some (declared_as void_type (Some int ∷ []))
 
+pub same_length : (vs ws : List Variable) → AreSame vs ws → length ws ≡ length vs
+same_length [] [] a = refl
+same_length [] (w ∷ ws) a = absurd a
+same_length (v ∷ vs) [] a = absurd a
+same_length (v ∷ vs) (w ∷ ws) a = ap suc (same_length vs ws a.2)
+
 pub names_step : (e : Ending) (s t : State) → Step s t → NamesFit e s → NamesFit e t
 names_step e s t a h = record {
   slots = λ name k b m. subst (λ (ks : List ℕ). k < length ks) (sym a.slots) (h.slots name k b (sym (ap (λ q. meaning q name) a.scopes) ∙ m));
+  variables = λ slot k m. subst (λ n. k < n) (sym (same_length s.variables t.variables a.variables)) (h.variables slot k (sym (ap (λ ks. slice_get ks slot) a.slots) ∙ m));
   functions = λ name k m.
   subst (λ ds. FunctionFits e ds t.declared name (suc (suc (suc k)))) (sym a.defined)
   (subst (λ ds. FunctionFits e s.defined ds name (suc (suc (suc k)))) (sym a.declared) (h.functions name k (sym (ap (λ q. meaning q name) a.scopes) ∙ m)));

@@ -100,7 +100,7 @@ get_append [] ys k x e = absurd (cc)
 get_append (z ∷ xs) ys zero x e = e
 get_append (z ∷ xs) ys (suc k) x e = get_append xs ys k x e
 
-add_global_steps : (g : Global) → Steps (add_global g)
+pub add_global_steps : (g : Global) → Steps (add_global g)
 add_global_steps g s = record {
   broken = λ q. q;
   scopes = refl;
@@ -116,10 +116,10 @@ add_global_steps g s = record {
 
 -- ---- names
 
-named_keeps : KeepsVariable (λ v. record v { is_named = true })
+pub named_keeps : KeepsVariable (λ v. record v { is_named = true })
 named_keeps v = (refl, λ h. h)
 
-taken_keeps : KeepsVariable (λ v. record v { is_taken = true })
+pub taken_keeps : KeepsVariable (λ v. record v { is_taken = true })
 taken_keeps v = (refl, λ h. refl)
 
 pub term_meant_steps : (offset : ℕ) (m : Option Meaning) → Steps (term_meant offset m)
@@ -148,7 +148,7 @@ cast_steps offset t a s = if_some_steps t _ (λ u. if_some_steps a _ (λ x. or_b
 pub measured_steps : (offset : ℕ) (t : MaybeType) → Steps (measured offset t)
 measured_steps offset t s = if_some_steps t _ (λ u. or_broken_steps _ offset _) s
 
-take_address_steps : (a : Operand) → Steps (take_address a)
+pub take_address_steps : (a : Operand) → Steps (take_address a)
 take_address_steps (Place (place t (local slot)) is_const) s = change_variable_steps slot (λ v. record v { is_taken = true }) taken_keeps s
 take_address_steps (Place (place t (global k)) is_const) s = stay s
 take_address_steps (Place (place t (at e)) is_const) s = stay s
@@ -178,7 +178,7 @@ stepped_steps o offset gives_old a s = let r = target offset a s in step_then s 
 pub assigned_steps : (o : Punct) (offset : ℕ) (a b : Term) → Steps (assigned o offset a b)
 assigned_steps o offset a b s = let r = target offset a s in step_then s r.1 _ (target_steps offset a s) (if_some_steps r.0 _ (λ x. if_some_steps b _ (λ y. or_broken_steps _ offset _)) r.1)
 
-member_numbered_steps : (o : Punct) (offset : ℕ) (a : Operand) (k : Option ℕ) → Steps (member_numbered o offset a k)
+pub member_numbered_steps : (o : Punct) (offset : ℕ) (a : Operand) (k : Option ℕ) → Steps (member_numbered o offset a k)
 member_numbered_steps o offset a None s = breaks_steps _ offset s
 member_numbered_steps o offset a (Some k) s = or_broken_steps _ offset _ s
 
@@ -193,17 +193,17 @@ comma_steps offset x b s = if_some_steps x _ (λ y. if_some_steps b _ (λ z. or_
 
 -- ---- calls
 
-callee_of_steps : (offset : ℕ) (n : Option ℕ) → Steps (callee_of offset n)
+pub callee_of_steps : (offset : ℕ) (n : Option ℕ) → Steps (callee_of offset n)
 callee_of_steps offset None s = breaks_steps _ offset s
 callee_of_steps offset (Some n) s = stay s
 
-callee_numbered_steps : (k : ℕ) (name : Name) (offset : ℕ) → Steps (callee_numbered k name offset)
+pub callee_numbered_steps : (k : ℕ) (name : Name) (offset : ℕ) → Steps (callee_numbered k name offset)
 callee_numbered_steps zero name offset s = stay s
 callee_numbered_steps (suc zero) name offset s = stay s
 callee_numbered_steps (suc (suc zero)) name offset s = stay s
 callee_numbered_steps (suc (suc (suc k))) name offset s = callee_of_steps offset (number_of s.defined name) s
 
-called_meant_steps : (name : Name) (offset : ℕ) (m : Option Meaning) → Steps (called_meant name offset m)
+pub called_meant_steps : (name : Name) (offset : ℕ) (m : Option Meaning) → Steps (called_meant name offset m)
 called_meant_steps name offset (Some (means.Function k)) s = callee_numbered_steps k name offset s
 called_meant_steps name offset None s = term_meant_steps offset None s
 called_meant_steps name offset (Some (means.Variable slot is_const)) s = term_meant_steps offset (Some (means.Variable slot is_const)) s
@@ -212,7 +212,7 @@ called_meant_steps name offset (Some (means.Global k is_const)) s = term_meant_s
 pub called_name_steps : (name : Name) (offset : ℕ) → Steps (called_name name offset)
 called_name_steps name offset s = called_meant_steps name offset (meaning_of name s).0 s
 
-call_of_steps : (offset : ℕ) (callee : Callee) (xs : List Term) (f : Option Declared) → Steps (call_of offset callee xs f)
+pub call_of_steps : (offset : ℕ) (callee : Callee) (xs : List Term) (f : Option Declared) → Steps (call_of offset callee xs f)
 call_of_steps offset callee xs None s = stay s
 call_of_steps offset callee xs (Some f) s = by_test (all_fit f.params xs) s
   where
@@ -325,19 +325,19 @@ mutual
       let a = expression first s in step_then s a.1 _ (expression_steps first s) (more_expressions_steps (option_map first_of a.0) more a.1)
   expressions_steps t s = stay s
 
-  more_expressions_steps : (first : Option Sequence) (t : Tree) → Steps (more_expressions first t)
+  pub more_expressions_steps : (first : Option Sequence) (t : Tree) → Steps (more_expressions first t)
   more_expressions_steps first (Node (l.More k) (Cons before (Cons o (Cons element none)))) s =
       let x = more_expressions first before s in
       let b = expression element x.1 in
       step_then s x.1 _ (more_expressions_steps first before s) (step_then x.1 b.1 _ (expression_steps element x.1) (comma_steps (offset_of o) x.0 b.0 b.1))
   more_expressions_steps first t s = stay s
 
-  arguments_steps : (t : Tree) → Steps (arguments t)
+  pub arguments_steps : (t : Tree) → Steps (arguments t)
   arguments_steps (Node (l.Present k) (Cons first (Cons more none))) s =
       let a = expression first s in step_then s a.1 _ (expression_steps first s) (more_arguments_steps more a.1)
   arguments_steps t s = stay s
 
-  more_arguments_steps : (t : Tree) → Steps (more_arguments t)
+  pub more_arguments_steps : (t : Tree) → Steps (more_arguments t)
   more_arguments_steps (Node (l.More k) (Cons before (Cons o (Cons element none)))) s =
       let xs = more_arguments before s in step_then s xs.1 _ (more_arguments_steps before s) (expression_steps element xs.1)
   more_arguments_steps t s = stay s

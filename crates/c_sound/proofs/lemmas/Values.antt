@@ -26,7 +26,7 @@ OperandIsTyped c (Value e) = ExprIsTyped c e
 abbrev pub ObjectsFit : Scope → Type 0
 ObjectsFit c = (slot : ℕ) (v : VariableTree) → slice_get c.slots slot ≡ Some v → is_scalar v.type ≡ false → v.is_object ≡ true
 
-member_of_struct : (c : Scope) (t u : TypeTree) (begins : ℕ) → IsMemberOf c.structs t begins u → is_scalar t ≡ false
+pub member_of_struct : (c : Scope) (t u : TypeTree) (begins : ℕ) → IsMemberOf c.structs t begins u → is_scalar t ≡ false
 member_of_struct c (struct_type tag) u begins h = refl
 member_of_struct c void_type u begins h = absurd h
 member_of_struct c (scalar_type s) u begins h = absurd h
