@@ -7,3 +7,4 @@ pub mod States
 pub mod Steps
 pub mod Terms
 pub mod CalledTerms
+pub mod Expressions
