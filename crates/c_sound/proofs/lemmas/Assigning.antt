@@ -1,26 +1,24 @@
 -- Assignments, `++` and `--`.
-use Rattle.std.proofs.Common.{◌≡◌, ℕ, Bool, true, false, refl, sym, ap, ◌∙◌, subst}
-use Rattle.std.specs.Prelude.{◌&&◌, not, Option, None, Some, option_and_then, option_map, if◌then◌else◌}
+use Rattle.std.proofs.Common.{◌≡◌, ℕ, Bool, refl, sym, subst}
+use Rattle.std.specs.Prelude.{not, Option, None, Some, option_and_then, option_map}
 use Rattle.std.proofs.lemmas.Bool.{and_parts}
 use Rattle.c_lex.specs.declared.punct.Punct.{Punct}
 use Rattle.c_lex.specs.declared.punct.Punct.TheVariants as mark
 use Rattle.val_core.specs.declared.operation.Op2.{Op2}
 use Rattle.val_core.specs.declared.operation.Op2.TheVariants as op
-use Rattle.c_type.specs.Trees.{TypeTree, void_type, scalar_type, pointer_to, array_of, struct_type}
-use Rattle.c_type.specs.Layout.{Definitions}
-use Rattle.c_typed.specs.declared.operator.CompoundOp.{CompoundOp}
+use Rattle.c_type.specs.Trees.{TypeTree, scalar_type, pointer_to}
 use Rattle.c_typed.specs.declared.operator.CompoundOp.TheVariants as compound_op
 use Rattle.c_typed.specs.Typed.{ExprTree, expr, assign, PlaceTree}
-use Rattle.c_typed.specs.WellTyped.{Scope, IsInteger, IsScalar, IsPromoted, IsRightOf, is_shift, if_unsigned, PointsTo, CompoundFits, IncDecFits, type_of, place_type, ExprIsTyped, PlaceIsTyped}
+use Rattle.c_typed.specs.WellTyped.{Scope, IsInteger, IsScalar, IsPromoted, IsRightOf, if_unsigned, PointsTo, IncDecFits, type_of, place_type, ExprIsTyped, PlaceIsTyped}
 use Rattle.c_static.specs.declared.operand.Operand.{Operand}
 use Rattle.c_static.specs.declared.operand.Operand.TheVariants.{Place, Value}
 use Rattle.c_static.specs.Operands.{value_of, is_assignable}
 use Rattle.c_static.specs.Types.{is_scalar, is_unsigned, are_unsigned, laid_out_size}
 use Rattle.c_static.specs.Conversions.{converted, promoted, converts}
-use Rattle.c_static.specs.Arithmetic.{chosen}
-use Rattle.c_static.specs.Assignments.{target_place, plain_assigned, compounded, in_type, integers_by, shifted_by, moved, increased_by, decreased_by, place_assigned, assigned_typed, stepped, step_bytes, is_up, place_stepped, step_by, step_typed}
-use Rattle.c_sound.proofs.lemmas.Options.{IfSome, and_then_holds, map_holds, if_holds}
-use Rattle.c_sound.proofs.lemmas.Values.{OperandIsTyped, ObjectsFit, value_typed, scalar_is, unsigned_promoted, promoted_scalar, ValueOf, converted_typed, promoted_typed, converts_typed}
+use Rattle.c_static.specs.Assignments.{target_place, plain_assigned, integers_by, shifted_by, moved, increased_by, decreased_by, place_assigned, assigned_typed, stepped, step_bytes, is_up, place_stepped, step_by, step_typed}
+use Rattle.c_sound.specs.TypedOperands.{IfSome, OperandIsTyped, ObjectsFit}
+use Rattle.c_sound.proofs.lemmas.Options.{and_then_holds, map_holds, if_holds}
+use Rattle.c_sound.proofs.lemmas.Values.{value_typed, scalar_is, unsigned_promoted, promoted_scalar, ValueOf, converted_typed, promoted_typed, converts_typed}
 use Rattle.c_sound.proofs.lemmas.Binary.{SizeOf, size_found, AreOperations, AreShifts, mul_serves, div_serves, rem_serves, and_serves, or_serves, xor_serves, add_serves, sub_serves, left_shifts, right_shifts}
 
 -- a scalar place
@@ -49,12 +47,20 @@ integers_typed c o u s t p e ok h ty ep ee = tt
 shifted_typed : (c : Scope) (o u : Op2) (s t : TypeTree) (p : PlaceTree) (e : ExprTree) → AreShifts o u → Target c p → ExprIsTyped c e → place_type p ≡ s → type_of e ≡ t →
     IfSome (ExprIsTyped c) (shifted_by o u s t p e)
 shifted_typed c o u (scalar_type s) (scalar_type t) p e ok h ty ep ee =
-    let r = promoted_typed c t e ty ee in
-    (h.typed, r.typed, refl, (subst IsInteger (sym ep) tt, ok.serves (is_unsigned s),
-    subst (λ q. IsRightOf q (if_unsigned (is_unsigned s)) (type_of (promoted t e))) (sym (ok.shifts (is_unsigned s))) (subst IsPromoted (sym r.type) (unsigned_promoted (is_unsigned t)))))
+    let r = promoted_typed c t e ty ee in (
+      h.typed,
+      r.typed,
+      refl,
+      (
+        subst IsInteger (sym ep) tt,
+        ok.serves (is_unsigned s),
+        subst (λ q. IsRightOf q (if_unsigned (is_unsigned s)) (type_of (promoted t e))) (sym (ok.shifts (is_unsigned s))) (subst IsPromoted (sym r.type) (unsigned_promoted (is_unsigned t))),
+      ),
+    )
 shifted_typed c o u s t p e ok h ty ep ee = tt
 
-increased_typed : (c : Scope) (s t : TypeTree) (p : PlaceTree) (e : ExprTree) → Target c p → ExprIsTyped c e → place_type p ≡ s → type_of e ≡ t → IfSome (ExprIsTyped c) (increased_by c.structs s t p e)
+increased_typed : (c : Scope) (s t : TypeTree) (p : PlaceTree) (e : ExprTree) → Target c p → ExprIsTyped c e → place_type p ≡ s → type_of e ≡ t →
+    IfSome (ExprIsTyped c) (increased_by c.structs s t p e)
 increased_typed c (pointer_to s) (scalar_type t) p e h ty ep ee = plus (laid_out_size c.structs s) (size_found c.structs s)
   where
     plus : (o : Option ℕ) → IfSome (SizeOf c.structs s) o → IfSome (ExprIsTyped c) (moved (option_map compound_op.PointerPlus o) p e)
@@ -62,7 +68,8 @@ increased_typed c (pointer_to s) (scalar_type t) p e h ty ep ee = plus (laid_out
     plus (Some n) q = (h.typed, ty, refl, (subst (λ u. PointsTo c.structs u n) (sym ep) (q.complete, q.same), subst IsInteger (sym ee) tt))
 increased_typed c s t p e h ty ep ee = integers_typed c op.Add op.Add s t p e add_serves h ty ep ee
 
-decreased_typed : (c : Scope) (s t : TypeTree) (p : PlaceTree) (e : ExprTree) → Target c p → ExprIsTyped c e → place_type p ≡ s → type_of e ≡ t → IfSome (ExprIsTyped c) (decreased_by c.structs s t p e)
+decreased_typed : (c : Scope) (s t : TypeTree) (p : PlaceTree) (e : ExprTree) → Target c p → ExprIsTyped c e → place_type p ≡ s → type_of e ≡ t →
+    IfSome (ExprIsTyped c) (decreased_by c.structs s t p e)
 decreased_typed c (pointer_to s) (scalar_type t) p e h ty ep ee = minus (laid_out_size c.structs s) (size_found c.structs s)
   where
     minus : (o : Option ℕ) → IfSome (SizeOf c.structs s) o → IfSome (ExprIsTyped c) (moved (option_map compound_op.PointerMinus o) p e)

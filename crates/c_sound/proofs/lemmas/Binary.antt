@@ -1,6 +1,6 @@
 -- Binary operators, and what is like them.
-use Rattle.std.proofs.Common.{◌≡◌, ◌≤◌, ◌⊎◌, inl, inr, ℕ, Bool, true, false, refl, sym, ap, ◌∙◌, subst, arith}
-use Rattle.std.specs.Prelude.{◌<◌, ◌^◌, ◌&&◌, ◌||◌, nat_le, Option, None, Some, option_and_then, option_map, if◌then◌else◌}
+use Rattle.std.proofs.Common.{◌≡◌, ◌≤◌, ℕ, Bool, true, false, refl, sym, ap, ◌∙◌, subst, arith}
+use Rattle.std.specs.Prelude.{◌<◌, ◌^◌, ◌&&◌, nat_le, Option, None, Some, option_and_then, option_map}
 use Rattle.std.proofs.lemmas.Bool.Decides.{nat_tests}
 use Rattle.std.proofs.lemmas.Bool.{and_parts}
 use Rattle.limits.specs.Limits.{most_type_bytes}
@@ -8,26 +8,24 @@ use Rattle.c_lex.specs.declared.punct.Punct.{Punct}
 use Rattle.c_lex.specs.declared.punct.Punct.TheVariants as mark
 use Rattle.val_core.specs.declared.operation.Op2.{Op2}
 use Rattle.val_core.specs.declared.operation.Op2.TheVariants as op
-use Rattle.c_type.specs.declared.scalar.Scalar.{Scalar}
-use Rattle.c_type.specs.Trees.{TypeTree, void_type, scalar_type, pointer_to, array_of, struct_type}
+use Rattle.c_type.specs.Trees.{TypeTree, void_type, scalar_type, pointer_to}
 use Rattle.c_type.specs.Layout.{Definitions, is_complete, size}
 use Rattle.c_typed.specs.declared.operator.Relation.{Relation}
 use Rattle.c_typed.specs.declared.operator.Relation.TheVariants as relation
-use Rattle.c_typed.specs.declared.operator.BinaryOp.{BinaryOp}
 use Rattle.c_typed.specs.declared.operator.BinaryOp.TheVariants as binary_op
-use Rattle.c_typed.specs.Typed.{ExprTree, expr, binary, logical_and, logical_or, conditional}
-use Rattle.c_typed.specs.WellTyped.{Scope, int, IsInteger, IsScalar, IsPromoted, is_shift, Serves, IsRightOf, if_unsigned, PointsTo, IsCompared, BinaryFits, IsScalarOrVoid, type_of, ExprIsTyped}
+use Rattle.c_typed.specs.Typed.{ExprTree, expr, logical_and, logical_or, conditional}
+use Rattle.c_typed.specs.WellTyped.{Scope, int, IsInteger, IsPromoted, is_shift, Serves, IsRightOf, if_unsigned, PointsTo, IsCompared, IsScalarOrVoid, type_of, ExprIsTyped}
 use Rattle.c_static.specs.declared.operand.Operand.{Operand}
-use Rattle.c_static.specs.declared.operand.Operand.TheVariants.{Place, Value}
 use Rattle.c_static.specs.Operands.{value_of, if_scalar}
-use Rattle.c_static.specs.Types.{is_scalar, same_type, is_unsigned, are_unsigned, promoted_type, common_type, laid_out_size}
+use Rattle.c_static.specs.Types.{same_type, is_unsigned, are_unsigned, laid_out_size}
 use Rattle.c_static.specs.Constants.{is_null_constant}
 use Rattle.c_static.specs.Conversions.{converted, promoted}
-use Rattle.c_static.specs.Arithmetic.{chosen, two, two_where, arithmetic, integers_by, integers, shift, shifted_by, shifted, sum_by, sum, difference_by, difference, compared, ordered_by, ordered, equated_by, equated}
-use Rattle.c_static.specs.Operators.{on_values, both, either, values_joined, binary_typed, choice, choice_by, choice_of, condition_of, conditional_typed}
+use Rattle.c_static.specs.Arithmetic.{chosen, two, two_where, arithmetic, integers_by, shifted_by, sum_by, difference_by, ordered_by, equated_by}
+use Rattle.c_static.specs.Operators.{on_values, both, either, values_joined, binary_typed, choice_by, choice_of, condition_of, conditional_typed}
 use Rattle.c_static.proofs.lemmas.SameType.{same_type-true}
-use Rattle.c_sound.proofs.lemmas.Options.{IfSome, and_then_holds, map_holds, if_holds}
-use Rattle.c_sound.proofs.lemmas.Values.{OperandIsTyped, ObjectsFit, value_typed, unsigned_promoted, promoted_scalar, ScalarValue, scalar_value, ValueOf, converted_typed, same_converted, promoted_typed}
+use Rattle.c_sound.specs.TypedOperands.{IfSome, OperandIsTyped, ObjectsFit}
+use Rattle.c_sound.proofs.lemmas.Options.{and_then_holds, map_holds, if_holds}
+use Rattle.c_sound.proofs.lemmas.Values.{value_typed, unsigned_promoted, promoted_scalar, ScalarValue, scalar_value, converted_typed, promoted_typed}
 
 -- ---- sizes
 
@@ -38,7 +36,8 @@ pub record SizeOf (defs : Definitions) (t : TypeTree) (bytes : ℕ) : Type 0 whe
   pub small : bytes < 2 ^ 32
 
 pub size_found : (defs : Definitions) (t : TypeTree) → IfSome (SizeOf defs t) (laid_out_size defs t)
-size_found defs t = if_holds (SizeOf defs t) (is_complete defs t && nat_le (size defs t) most_type_bytes) (Some (size defs t)) (λ h. found (and_parts (is_complete defs t) (nat_le (size defs t) most_type_bytes) h).0 (and_parts (is_complete defs t) (nat_le (size defs t) most_type_bytes) h).1)
+size_found defs t = if_holds (SizeOf defs t) (is_complete defs t && nat_le (size defs t) most_type_bytes) (Some (size defs t)) (λ h. found (and_parts (is_complete defs t)
+    (nat_le (size defs t) most_type_bytes) h).0 (and_parts (is_complete defs t) (nat_le (size defs t) most_type_bytes) h).1)
   where
     found : is_complete defs t ≡ true → nat_le (size defs t) most_type_bytes ≡ true → SizeOf defs t (size defs t)
     found c l = let least : size defs t ≤ most_type_bytes = grind (arith, nat_tests, l) in record { complete = c; same = refl; small = omega (arith, least) }
@@ -50,13 +49,15 @@ pub record AreOperations (o u : Op2) : Type 0 where
   pub serves : (b : Bool) → Serves (chosen o u b) (if_unsigned b)
   pub plain : (b : Bool) → is_shift (chosen o u b) ≡ false
 
-arithmetic_typed : (c : Scope) (o u : Op2) (b : Bool) (x y : ExprTree) → AreOperations o u → ExprIsTyped c x → ExprIsTyped c y → IsInteger (type_of x) → IsInteger (type_of y) → ExprIsTyped c (arithmetic o u b x y)
+arithmetic_typed : (c : Scope) (o u : Op2) (b : Bool) (x y : ExprTree) → AreOperations o u → ExprIsTyped c x → ExprIsTyped c y → IsInteger (type_of x) → IsInteger (type_of y) →
+    ExprIsTyped c (arithmetic o u b x y)
 arithmetic_typed c o u b x y ok tx ty ix iy =
     let l = converted_typed c (if_unsigned b) x tx ix (promoted_scalar b) in
     let r = converted_typed c (if_unsigned b) y ty iy (promoted_scalar b) in
     (l.typed, r.typed, (ok.serves b, l.type, subst (λ s. IsRightOf s (if_unsigned b) (type_of (converted (if_unsigned b) y))) (sym (ok.plain b)) r.type))
 
-integers_typed : (c : Scope) (o u : Op2) (s t : TypeTree) (x y : ExprTree) → AreOperations o u → ExprIsTyped c x → ExprIsTyped c y → type_of x ≡ s → type_of y ≡ t → IfSome (ExprIsTyped c) (integers_by o u s t x y)
+integers_typed : (c : Scope) (o u : Op2) (s t : TypeTree) (x y : ExprTree) → AreOperations o u → ExprIsTyped c x → ExprIsTyped c y → type_of x ≡ s → type_of y ≡ t →
+    IfSome (ExprIsTyped c) (integers_by o u s t x y)
 integers_typed c o u (scalar_type s) (scalar_type t) x y ok tx ty ex ey = arithmetic_typed c o u (are_unsigned s t) x y ok tx ty (subst IsInteger (sym ex) tt) (subst IsInteger (sym ey) tt)
 integers_typed c o u s t x y ok tx ty ex ey = tt
 
@@ -64,11 +65,20 @@ pub record AreShifts (o u : Op2) : Type 0 where
   pub serves : (b : Bool) → Serves (chosen o u b) (if_unsigned b)
   pub shifts : (b : Bool) → is_shift (chosen o u b) ≡ true
 
-shifted_typed : (c : Scope) (o u : Op2) (s t : TypeTree) (x y : ExprTree) → AreShifts o u → ExprIsTyped c x → ExprIsTyped c y → type_of x ≡ s → type_of y ≡ t → IfSome (ExprIsTyped c) (shifted_by o u s t x y)
+shifted_typed : (c : Scope) (o u : Op2) (s t : TypeTree) (x y : ExprTree) → AreShifts o u → ExprIsTyped c x → ExprIsTyped c y → type_of x ≡ s → type_of y ≡ t →
+    IfSome (ExprIsTyped c) (shifted_by o u s t x y)
 shifted_typed c o u (scalar_type s) (scalar_type t) x y ok tx ty ex ey =
     let l = promoted_typed c s x tx ex in
-    let r = promoted_typed c t y ty ey in
-    (l.typed, r.typed, (ok.serves (is_unsigned s), l.type, subst (λ q. IsRightOf q (if_unsigned (is_unsigned s)) (type_of (promoted t y))) (sym (ok.shifts (is_unsigned s))) (subst IsPromoted (sym r.type) (unsigned_promoted (is_unsigned t)))))
+    let r = promoted_typed c t y ty ey in (
+      l.typed,
+      r.typed,
+      (
+        ok.serves (is_unsigned s),
+        l.type,
+        subst (λ q. IsRightOf q (if_unsigned (is_unsigned s)) (type_of (promoted t y))) (sym (ok.shifts (is_unsigned s)))
+            (subst IsPromoted (sym r.type) (unsigned_promoted (is_unsigned t))),
+      ),
+    )
 shifted_typed c o u s t x y ok tx ty ex ey = tt
 
 pub mul_serves : AreOperations op.Mul op.Mul

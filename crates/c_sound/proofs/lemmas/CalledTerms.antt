@@ -1,9 +1,9 @@
 -- Calls are typed.
-use Rattle.std.proofs.Common.{◌≡◌, ℕ, zero, suc, Bool, true, false, List, [], ◌∷◌, length, refl, sym, ap, ◌∙◌, subst}
-use Rattle.std.specs.Prelude.{slice_get, Option, None, Some, option_map, option_and_then, if◌then◌else◌}
+use Rattle.std.proofs.Common.{◌≡◌, ℕ, zero, suc, Bool, true, false, List, [], ◌∷◌, refl, sym, ap, ◌∙◌, subst}
+use Rattle.std.specs.Prelude.{slice_get, Option, None, Some, option_map, if◌then◌else◌}
 use Rattle.c_type.specs.Trees.{TypeTree, void_type}
 use Rattle.c_typed.specs.Typed.{ExprTree, expr}
-use Rattle.c_typed.specs.WellTyped.{Scope, Signature, Calls, int, ExprIsTyped, ExprsAreTyped, types_of}
+use Rattle.c_typed.specs.WellTyped.{Scope, int, ExprIsTyped}
 use Rattle.c_static.specs.declared.operand.Operand.TheVariants.{Value}
 use Rattle.c_scope.specs.Scopes.{Name, meaning}
 use Rattle.c_scope.specs.Names.{number_of}
@@ -14,13 +14,13 @@ use Rattle.c_elaboration.specs.declared.call.Callee.{Callee}
 use Rattle.c_elaboration.specs.declared.call.Callee.TheVariants as callees
 use Rattle.c_elaboration.specs.declared.call.Called.{Called}
 use Rattle.c_elaboration.specs.declared.call.Called.TheVariants as calls
-use Rattle.c_elaboration.specs.State.{MaybeType, Declared, State, pure, broken_at, meaning_of}
+use Rattle.c_elaboration.specs.State.{Declared, State, pure, broken_at}
 use Rattle.c_elaboration.specs.Operands.{Term, term_meant}
 use Rattle.c_elaboration.specs.Calls.{callee_of, callee_numbered, called_as, called_term, called_meant, called_name, all_fit, all_passed, call_form, call_term, call_of, called}
-use Rattle.c_sound.proofs.lemmas.Options.{IfSome, and_then_holds, map_holds}
-use Rattle.c_sound.proofs.lemmas.Values.{OperandIsTyped, ObjectsFit, ValueOf}
+use Rattle.c_sound.specs.TypedOperands.{IfSome, OperandIsTyped, ObjectsFit}
+use Rattle.c_sound.proofs.lemmas.Options.{and_then_holds, map_holds}
 use Rattle.c_sound.proofs.lemmas.Operators.{found}
-use Rattle.c_sound.proofs.lemmas.States.{Ending, AllTypes, declared_as, NamesFit, At}
+use Rattle.c_sound.proofs.lemmas.States.{Ending, AllTypes, declared_as, At}
 use Rattle.c_sound.proofs.lemmas.Terms.{TermFits, AllFit, ArgumentsFit, PassedFit, all_passed_typed, arguments_typed}
 
 -- A function that is called has this number, and the types of its definition.
@@ -55,7 +55,8 @@ callee_numbered_fits e c (suc (suc (suc k))) name offset s here m = by_number (n
     by_number None q = tt
     by_number (Some n) q = λ f t ts there result params. (here.names.functions name k m).fits n f t ts q there result params
 
-called_meant_fits : (e : Ending) (c : Scope) (name : Name) (offset : ℕ) (m : Option Meaning) (s : State) → At e c s → meaning s.scopes name ≡ m → CalledFits e s.declared (called_meant name offset m s).0
+called_meant_fits : (e : Ending) (c : Scope) (name : Name) (offset : ℕ) (m : Option Meaning) (s : State) → At e c s → meaning s.scopes name ≡ m →
+    CalledFits e s.declared (called_meant name offset m s).0
 called_meant_fits e c name offset (Some (means.Function k)) s here q = called_as_fits e s.declared k (callee_numbered k name offset s).0 (callee_numbered_fits e c k name offset s here q)
 called_meant_fits e c name offset None s here q = tt
 called_meant_fits e c name offset (Some (means.Variable slot is_const)) s here q =
@@ -71,7 +72,8 @@ called_expression_fits = called_term_fits
 
 -- ---- the call
 
-put_typed : (c : Scope) (t : TypeTree) (ts : List TypeTree) (es : List ExprTree) → Some int ≡ Some t → AllTypes (Some int ∷ []) ts → ArgumentsFit c ts es → ExprIsTyped c (expr t (call_form callees.Putchar es))
+put_typed : (c : Scope) (t : TypeTree) (ts : List TypeTree) (es : List ExprTree) → Some int ≡ Some t → AllTypes (Some int ∷ []) ts → ArgumentsFit c ts es →
+    ExprIsTyped c (expr t (call_form callees.Putchar es))
 put_typed c t [] es r a h = absurd a
 put_typed c t (u ∷ []) [] r a h = absurd h
 put_typed c t (u ∷ []) (x ∷ []) r a h =
@@ -86,7 +88,8 @@ get_typed c t [] [] r a h = let result : int ≡ t = cc in sym result
 get_typed c t [] (x ∷ es) r a h = absurd h
 get_typed c t (u ∷ ts) es r a h = absurd a
 
-exit_typed : (c : Scope) (t : TypeTree) (ts : List TypeTree) (es : List ExprTree) → Some void_type ≡ Some t → AllTypes (Some int ∷ []) ts → ArgumentsFit c ts es → ExprIsTyped c (expr t (call_form callees.Exit es))
+exit_typed : (c : Scope) (t : TypeTree) (ts : List TypeTree) (es : List ExprTree) → Some void_type ≡ Some t → AllTypes (Some int ∷ []) ts → ArgumentsFit c ts es →
+    ExprIsTyped c (expr t (call_form callees.Exit es))
 exit_typed c t [] es r a h = absurd a
 exit_typed c t (u ∷ []) [] r a h = absurd h
 exit_typed c t (u ∷ []) (x ∷ []) r a h =
@@ -113,8 +116,7 @@ call_typed e c callees.Exit k s f t ts es here fits there result params fit =
     let same = declared_is s.declared k 2 f (declared_as void_type (Some int ∷ [])) fits there here.names.exit in
     exit_typed c t ts es (ap (λ (f : Declared). f.result) same ∙ result) (subst (λ (f : Declared). AllTypes f.params ts) (sym same) params) fit
 call_typed e c (callees.Defined n) k s f t ts es here fits there result params fit =
-    let a = arguments_typed c ts es fit in
-    (
+    let a = arguments_typed c ts es fit in (
       a.0,
       record {
         callee = record { result = t; params = ts };
@@ -124,7 +126,8 @@ call_typed e c (callees.Defined n) k s f t ts es here fits there result params f
       },
     )
 
-call_term_typed : (e : Ending) (c : Scope) (callee : Callee) (k : ℕ) (s : State) (f : Declared) (xs : List Term) → At e c s → ObjectsFit c → CalleeFits e s.declared callee k → slice_get s.declared k ≡ Some f →
+call_term_typed : (e : Ending) (c : Scope) (callee : Callee) (k : ℕ) (s : State) (f : Declared) (xs : List Term) → At e c s → ObjectsFit c → CalleeFits e s.declared callee k →
+    slice_get s.declared k ≡ Some f →
     AllFit c xs → TermFits c (call_term callee f xs)
 call_term_typed e c callee k s f xs here fit fits there h =
     and_then_holds (λ t. f.result ≡ Some t) (OperandIsTyped c) (λ t. option_map (λ es. Value (expr t (call_form callee es))) (all_passed f.params xs)) f.result (found f.result) (λ t r.
@@ -140,7 +143,8 @@ call_of_typed e c offset callee k s xs (Some f) here fit fits there h = by_test 
     by_test true = call_term_typed e c callee k s f xs here fit fits there h
     by_test false = tt
 
-pub called_typed : (e : Ending) (c : Scope) (offset : ℕ) (f : Called) (xs : List Term) (s : State) → At e c s → ObjectsFit c → CalledFits e s.declared f → AllFit c xs → TermFits c (called offset f xs s).0
+pub called_typed : (e : Ending) (c : Scope) (offset : ℕ) (f : Called) (xs : List Term) (s : State) → At e c s → ObjectsFit c → CalledFits e s.declared f → AllFit c xs →
+    TermFits c (called offset f xs s).0
 called_typed e c offset calls.Nothing xs s here fit fits h = tt
 called_typed e c offset calls.NoFunction xs s here fit fits h = tt
 called_typed e c offset (calls.Function callee k) xs s here fit fits h = call_of_typed e c offset callee k s xs (slice_get s.declared k) here fit fits refl h

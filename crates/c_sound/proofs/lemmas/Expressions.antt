@@ -1,18 +1,18 @@
 -- What the checker makes of an expression is typed.
-use Rattle.std.proofs.Common.{◌≡◌, ℕ, zero, suc, Bool, true, false, List, [], ◌∷◌, ◌++◌, length, refl, sym, ap, ◌∙◌, subst}
-use Rattle.std.specs.Prelude.{Option, None, Some, option_map}
+use Rattle.std.proofs.Common.{true, false, List, [], ◌∷◌, ◌++◌, sym, ◌∙◌, subst}
+use Rattle.std.specs.Prelude.{Option, option_map}
 use Rattle.c_ast.specs.Productions as l
-use Rattle.c_ast.specs.Tree.{Tree, Leaf, Node, Nil, Cons}
+use Rattle.c_ast.specs.Tree.{Tree, Node, Cons}
 use Rattle.c_typed.specs.WellTyped.{Scope}
 use Rattle.c_static.specs.Operands.{operand_type}
 use Rattle.c_elaboration.specs.State.{State}
-use Rattle.c_elaboration.specs.Leaves.{offset_of, begin_of, name_of, punct_of, characters_of, count_of}
-use Rattle.c_elaboration.specs.Operands.{Term, named, constant_of, string, binary, conditional, indexed, cast, measured, unary, stepped, assigned, selected, Sequence, first_of, comma, sequence_term}
-use Rattle.c_elaboration.specs.Calls.{called_name, called_term, called}
+use Rattle.c_elaboration.specs.Leaves.{offset_of, name_of, punct_of, characters_of}
+use Rattle.c_elaboration.specs.Operands.{Term, Sequence, first_of}
+use Rattle.c_elaboration.specs.Calls.{called_name, called_term}
 use Rattle.c_elaboration.specs.Expressions.{more_characters, expression, expressions, more_expressions, arguments, more_arguments, type_name}
-use Rattle.c_sound.proofs.lemmas.Options.{IfSome}
-use Rattle.c_sound.proofs.lemmas.States.{Ending, Step, Fits, fits_back, At, at_step, objects_fit}
-use Rattle.c_sound.proofs.lemmas.Steps.{indexed_steps, called_name_steps, called_steps, selected_steps, stepped_steps, unary_steps, measured_steps, cast_steps, binary_steps, conditional_steps, assigned_steps, comma_steps, expression_steps, expressions_steps, more_expressions_steps, arguments_steps, more_arguments_steps, type_name_steps}
+use Rattle.c_sound.specs.TypedOperands.{IfSome}
+use Rattle.c_sound.proofs.lemmas.States.{Ending, Fits, fits_back, At, at_step, objects_fit}
+use Rattle.c_sound.proofs.lemmas.Steps.{indexed_steps, called_name_steps, called_steps, selected_steps, stepped_steps, unary_steps, cast_steps, binary_steps, conditional_steps, assigned_steps, comma_steps, expression_steps, expressions_steps, more_expressions_steps, arguments_steps, more_arguments_steps, type_name_steps}
 use Rattle.c_sound.proofs.lemmas.Terms.{TermFits, InRange, named_typed, constant_typed, string_typed, binary_term, conditional_term, indexed_term, cast_term, measured_term, unary_term, stepped_term, assigned_term, selected_term, SequenceFits, first_fits, comma_term, sequence_typed, AllFit}
 use Rattle.c_sound.proofs.lemmas.CalledTerms.{CalledFits, called_name_fits, called_expression_fits, called_typed}
 

@@ -1,21 +1,21 @@
 -- Unary operators, places, casts, sizes and commas.
-use Rattle.std.proofs.Common.{◌≡◌, ◌⊎◌, inl, inr, ℕ, Bool, true, false, refl, sym, ap, ◌∙◌, subst}
-use Rattle.std.specs.Prelude.{◌||◌, slice_get, Option, None, Some, option_and_then, option_map, if◌then◌else◌}
+use Rattle.std.proofs.Common.{◌≡◌, inl, ℕ, Bool, refl, sym, subst}
+use Rattle.std.specs.Prelude.{◌||◌, slice_get, Option, None, Some, option_map}
 use Rattle.c_lex.specs.declared.punct.Punct.{Punct}
 use Rattle.c_lex.specs.declared.punct.Punct.TheVariants as mark
 use Rattle.c_type.specs.Trees.{TypeTree, void_type, scalar_type, pointer_to, array_of, struct_type}
-use Rattle.c_type.specs.Layout.{Definitions, is_defined, offset, members}
+use Rattle.c_type.specs.Layout.{is_defined, offset, members}
 use Rattle.c_typed.specs.declared.operator.UnaryOp.TheVariants as unary_op
-use Rattle.c_typed.specs.Typed.{ExprTree, expr, constant, unary, address, PlaceTree, place, at, member}
-use Rattle.c_typed.specs.WellTyped.{Scope, int, unsigned_int, IsInteger, IsScalar, HasAddress, IsAddressOf, IsMemberOf, HasMember, type_of, place_type, ExprIsTyped, PlaceIsTyped}
+use Rattle.c_typed.specs.Typed.{ExprTree, expr, constant, unary, PlaceTree, place, member}
+use Rattle.c_typed.specs.WellTyped.{Scope, int, unsigned_int, IsInteger, IsAddressOf, IsMemberOf, type_of, place_type, ExprIsTyped, PlaceIsTyped}
 use Rattle.c_static.specs.declared.operand.Operand.{Operand}
 use Rattle.c_static.specs.declared.operand.Operand.TheVariants.{Place, Value}
 use Rattle.c_static.specs.Operands.{value_of, if_scalar}
-use Rattle.c_static.specs.Types.{is_scalar, is_unsigned, promoted_type, laid_out_size}
-use Rattle.c_static.specs.Conversions.{converted, promoted}
-use Rattle.c_static.specs.Operators.{plus_by, minus_by, complement_by, negation, pointed_by, pointed, value_joined, address_of, unary_typed, has_const_elements, element_by, element, index_typed, selected, member_at, member_by, member_of, member_typed, cast_by, cast_typed, size_typed, binary_typed}
-use Rattle.c_sound.proofs.lemmas.Options.{IfSome, and_then_holds, map_holds, if_holds}
-use Rattle.c_sound.proofs.lemmas.Values.{OperandIsTyped, ObjectsFit, value_typed, unsigned_promoted, promoted_scalar, ScalarValue, scalar_value, ValueOf, converted_typed, promoted_typed}
+use Rattle.c_static.specs.Types.{is_unsigned, laid_out_size}
+use Rattle.c_static.specs.Operators.{plus_by, minus_by, complement_by, negation, pointed_by, pointed, value_joined, address_of, unary_typed, has_const_elements, element_by, element, index_typed, selected, member_by, member_of, member_typed, cast_by, cast_typed, size_typed, binary_typed}
+use Rattle.c_sound.specs.TypedOperands.{IfSome, OperandIsTyped, ObjectsFit, MayBeTaken}
+use Rattle.c_sound.proofs.lemmas.Options.{and_then_holds, map_holds, if_holds}
+use Rattle.c_sound.proofs.lemmas.Values.{value_typed, unsigned_promoted, ScalarValue, scalar_value, converted_typed, promoted_typed}
 use Rattle.c_sound.proofs.lemmas.Binary.{SizeOf, size_found, binary_is_typed}
 
 -- what there is, is that
@@ -54,11 +54,6 @@ value_joined_typed c mark.Minus e ty = as_value c (minus_by (type_of e) e) (minu
 value_joined_typed c mark.Tilde e ty = as_value c (complement_by (type_of e) e) (complement_typed c (type_of e) e ty refl)
 value_joined_typed c mark.Bang e ty = as_value c (negation e) (negation_typed c e ty)
 value_joined_typed c o e ty = tt
-
--- an operand of `&` has an address
-abbrev pub MayBeTaken : Scope → Operand → Type 0
-MayBeTaken c (Place p is_const) = HasAddress c p
-MayBeTaken c (Value e) = Unit {0}
 
 is_address : (t : TypeTree) → IsAddressOf (pointer_to t) t
 is_address void_type = refl

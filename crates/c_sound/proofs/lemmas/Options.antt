@@ -1,10 +1,7 @@
 -- What holds of what there is.
 use Rattle.std.proofs.Common.{◌≡◌, refl}
-use Rattle.std.specs.Prelude.{ Option, None, Some, option_map, option_and_then, Bool, true, false, if◌then◌else◌}
-
-abbrev pub IfSome : {A : Type 0} → (A → Type 0) → Option A → Type 0
-IfSome P None = Unit {0}
-IfSome P (Some x) = P x
+use Rattle.std.specs.Prelude.{Option, None, Some, option_map, option_and_then, Bool, true, false, if◌then◌else◌}
+use Rattle.c_sound.specs.TypedOperands.{IfSome}
 
 pub and_then_holds : {A B : Type 0} → (P : A → Type 0) (Q : B → Type 0) (f : A → Option B) (o : Option A) → IfSome P o → ((x : A) → P x → IfSome Q (f x)) → IfSome Q (option_and_then f o)
 and_then_holds P Q f None h k = tt

@@ -1,17 +1,15 @@
 -- States of the checker along an expression, and what names mean there.
-use Rattle.std.proofs.Common.{◌≡◌, ◌≤◌, ◌<◌, ℕ, zero, suc, Bool, true, false, List, [], ◌∷◌, ◌++◌, length, refl, sym, ap, ◌∙◌, subst, arith}
-use Rattle.std.specs.Prelude.{slice_get, Option, None, Some, option_and_then, option_map, unwrap_or, if◌then◌else◌}
+use Rattle.std.proofs.Common.{◌≡◌, ◌<◌, ℕ, zero, suc, Bool, true, false, List, [], ◌∷◌, length, refl, sym, ap, ◌∙◌, subst}
+use Rattle.std.specs.Prelude.{slice_get, Option, None, Some, option_and_then, unwrap_or}
 use Rattle.c_type.specs.Trees.{TypeTree, void_type}
-use Rattle.c_type.specs.Layout.{Definitions}
 use Rattle.c_typed.specs.Typed.{VariableTree}
 use Rattle.c_typed.specs.WellTyped.{Signature, Scope, int}
 use Rattle.c_static.specs.Types.{is_scalar}
 use Rattle.c_scope.specs.Scopes.{Name, meaning}
 use Rattle.c_scope.specs.Names.{number_of}
-use Rattle.c_elaboration.specs.declared.meaning.Meaning.{Meaning}
 use Rattle.c_elaboration.specs.declared.meaning.Meaning.TheVariants as means
 use Rattle.c_elaboration.specs.State.{MaybeType, Declared, Global, Variable, State}
-use Rattle.c_sound.proofs.lemmas.Values.{ObjectsFit}
+use Rattle.c_sound.specs.TypedOperands.{ObjectsFit}
 
 -- ---- what is known at the end
 
@@ -150,7 +148,7 @@ declared_as t ts = record { result = Some t; params = ts; is_defined = true }
 -- a function that the file declares has the types of its definition
 pub record FunctionFits (e : Ending) (defined : List Name) (declared : List Declared) (name : Name) (k : ℕ) : Type 0 where
   pub fits : (n : ℕ) (f : Declared) (t : TypeTree) (ts : List TypeTree) → number_of defined name ≡ Some n → slice_get declared k ≡ Some f → f.result ≡ Some t → AllTypes f.params ts →
-    slice_get e.functions n ≡ Some (record { result = t; params = ts })
+      slice_get e.functions n ≡ Some (record { result = t; params = ts })
 
 -- what names mean is there: a variable has a slot, and a function its definition
 pub record NamesFit (e : Ending) (s : State) : Type 0 where
@@ -172,8 +170,8 @@ names_step e s t a h = record {
   slots = λ name k b m. subst (λ (ks : List ℕ). k < length ks) (sym a.slots) (h.slots name k b (sym (ap (λ q. meaning q name) a.scopes) ∙ m));
   variables = λ slot k m. subst (λ n. k < n) (sym (same_length s.variables t.variables a.variables)) (h.variables slot k (sym (ap (λ ks. slice_get ks slot) a.slots) ∙ m));
   functions = λ name k m.
-  subst (λ ds. FunctionFits e ds t.declared name (suc (suc (suc k)))) (sym a.defined)
-  (subst (λ ds. FunctionFits e s.defined ds name (suc (suc (suc k)))) (sym a.declared) (h.functions name k (sym (ap (λ q. meaning q name) a.scopes) ∙ m)));
+      subst (λ ds. FunctionFits e ds t.declared name (suc (suc (suc k)))) (sym a.defined)
+      (subst (λ ds. FunctionFits e s.defined ds name (suc (suc (suc k)))) (sym a.declared) (h.functions name k (sym (ap (λ q. meaning q name) a.scopes) ∙ m)));
   put = ap (λ ds. slice_get ds 0) a.declared ∙ h.put;
   get = ap (λ ds. slice_get ds 1) a.declared ∙ h.get;
   exit = ap (λ ds. slice_get ds 2) a.declared ∙ h.exit;
@@ -221,7 +219,8 @@ slot_at e vs [] slot v h = absurd (cc)
 slot_at e vs (k ∷ ks) zero v h = let same : record { type = type_now vs k; is_object = is_object_then e k } ≡ v = cc in record { variable = k; there = refl; same = sym same }
 slot_at e vs (k ∷ ks) (suc slot) v h = let r = slot_at e vs ks slot v h in record { variable = r.variable; there = r.there; same = r.same }
 
-pub slot_there : (e : Ending) (vs : List Variable) (ks : List ℕ) (slot k : ℕ) → slice_get ks slot ≡ Some k → slice_get (slots_in e vs ks) slot ≡ Some (record { type = type_now vs k; is_object = is_object_then e k })
+pub slot_there : (e : Ending) (vs : List Variable) (ks : List ℕ) (slot k : ℕ) → slice_get ks slot ≡ Some k →
+    slice_get (slots_in e vs ks) slot ≡ Some (record { type = type_now vs k; is_object = is_object_then e k })
 slot_there e vs [] slot k h = absurd (cc)
 slot_there e vs (j ∷ ks) zero k h = let same : j ≡ k = cc in ap (λ n. Some (record { type = type_now vs n; is_object = is_object_then e n })) same
 slot_there e vs (j ∷ ks) (suc slot) k h = slot_there e vs ks slot k h

@@ -1,14 +1,12 @@
 -- An expression only takes steps.
-use Rattle.std.proofs.Common.{◌≡◌, ℕ, zero, suc, Bool, true, false, List, [], ◌∷◌, ◌++◌, length, refl, sym, ap, ◌∙◌, subst, arith}
-use Rattle.std.specs.Prelude.{slice_get, slice_set, Option, None, Some, option_map, option_and_then, if◌then◌else◌, nat_le, ◌&&◌}
-use Rattle.std.proofs.lemmas.Option.{slice_get_within}
+use Rattle.std.proofs.Common.{◌≡◌, ℕ, zero, suc, Bool, true, false, List, [], ◌∷◌, ◌++◌, refl, subst}
+use Rattle.std.specs.Prelude.{slice_get, slice_set, Option, None, Some, option_map, if◌then◌else◌}
 use Rattle.c_lex.specs.declared.punct.Punct.{Punct}
 use Rattle.c_lex.specs.declared.punct.Punct.TheVariants as mark
-use Rattle.c_lex.specs.declared.token.TokenKind.{TokenKind}
 use Rattle.c_ast.specs.Productions as l
-use Rattle.c_ast.specs.Tree.{Tree, Leaf, Node, Nil, Cons}
+use Rattle.c_ast.specs.Tree.{Tree, Node, Nil, Cons}
 use Rattle.c_type.specs.Trees.{TypeTree}
-use Rattle.c_typed.specs.Typed.{ExprTree, place, local, global, at, member}
+use Rattle.c_typed.specs.Typed.{place, local, global, at, member}
 use Rattle.c_static.specs.declared.operand.Operand.{Operand}
 use Rattle.c_static.specs.declared.operand.Operand.TheVariants.{Place, Value}
 use Rattle.c_static.specs.Operands.{operand_type, is_assignable}
@@ -24,12 +22,12 @@ use Rattle.c_elaboration.specs.declared.call.Callee.{Callee}
 use Rattle.c_elaboration.specs.declared.call.Called.{Called}
 use Rattle.c_elaboration.specs.declared.call.Called.TheVariants as calls
 use Rattle.c_elaboration.specs.State.{MaybeType, Declared, Global, Variable, State, Elaborated, pure, breaks, breaks_if, broken_at, or_broken, if_some, meaning_of, tag_of, changed_by, changed, variable_in, change_variable, add_global}
-use Rattle.c_elaboration.specs.Leaves.{offset_of, begin_of, name_of, punct_of, characters_of, count_of}
+use Rattle.c_elaboration.specs.Leaves.{offset_of, begin_of, name_of, punct_of, count_of}
 use Rattle.c_elaboration.specs.Specifiers.{Specified, specified_type, tagged}
 use Rattle.c_elaboration.specs.DeclaredTypes.{MaybeSize, arrays_of, type_if, small_type, unstarred, starred, named_type, with_elements, is_large, is_void, pointers_to}
-use Rattle.c_elaboration.specs.Operands.{Term, variable_named, global_named, term_meant, named, constant_of, string, binary, conditional, indexed, cast, measured, take_address, address, unary_of, unary, target, stepped, assigned, member_numbered, member_named, selected, Sequence, first_of, comma, sequence_term, term_constant}
-use Rattle.c_elaboration.specs.Calls.{callee_of, callee_numbered, called_as, called_term, called_meant, called_name, all_fit, call_term, call_of, called}
-use Rattle.c_elaboration.specs.Expressions.{more_characters, size_by, size, expression, expressions, more_expressions, arguments, more_arguments, type_name, dimensions}
+use Rattle.c_elaboration.specs.Operands.{Term, term_meant, named, binary, conditional, indexed, cast, measured, take_address, address, unary_of, unary, target, stepped, assigned, member_numbered, selected, Sequence, first_of, comma}
+use Rattle.c_elaboration.specs.Calls.{callee_of, callee_numbered, called_term, called_meant, called_name, all_fit, call_term, call_of, called}
+use Rattle.c_elaboration.specs.Expressions.{size, expression, expressions, more_expressions, arguments, more_arguments, type_name, dimensions}
 use Rattle.c_sound.proofs.lemmas.States.{AreSame, same_self, Step, stay, step_then}
 
 abbrev pub Steps : {A : Type 0} → Elaborated A → Type 0
@@ -260,7 +258,8 @@ starred_steps x zero offset s = unstarred_steps x.undeclared x.type s
 starred_steps x (suc n) offset s = type_if_steps (is_void x.type) offset (pointers_to x.type (suc n)) s
 
 named_type_steps : (offset : ℕ) (x : Specified) (stars : ℕ) (ns : List MaybeSize) → Steps (named_type offset x stars ns)
-named_type_steps offset x stars ns s = let r = starred x stars offset s in step_then s r.1 _ (starred_steps x stars offset s) (if_some_steps (arrays_of r.0 ns) (small_type offset) (small_type_steps offset) r.1)
+named_type_steps offset x stars ns s = let r = starred x stars offset s in step_then s r.1 _ (starred_steps x stars offset s) (if_some_steps (arrays_of r.0 ns) (small_type offset)
+    (small_type_steps offset) r.1)
 
 pub size_steps : (offset : ℕ) (a : Term) → Steps (size offset a)
 size_steps offset a s = or_broken_steps _ offset _ s

@@ -1,47 +1,41 @@
 -- What expressions are made of is typed.
-use Rattle.std.proofs.Common.{◌≡◌, ◌≤◌, ◌<◌, ℕ, zero, suc, Bool, true, false, List, [], ◌∷◌, ◌++◌, length, refl, sym, ap, ◌∙◌, subst, arith}
-use Rattle.std.specs.Prelude.{◌^◌, slice_get, slice_set, Option, None, Some, option_map, option_and_then, unwrap_or, if◌then◌else◌, ◌&&◌}
+use Rattle.std.proofs.Common.{◌≡◌, ◌<◌, ℕ, zero, suc, Bool, true, false, List, [], ◌∷◌, ◌++◌, length, refl, sym, ap, ◌∙◌, subst, arith}
+use Rattle.std.specs.Prelude.{slice_get, slice_set, Option, None, Some, option_map, option_and_then, unwrap_or, if◌then◌else◌}
 use Rattle.std.proofs.Math.ListN.{get_or}
-use Rattle.std.proofs.lemmas.Option.{slice_get_within, slice_get-get_or}
+use Rattle.std.proofs.lemmas.Option.{slice_get-get_or}
 use Rattle.c_lex.specs.declared.punct.Punct.{Punct}
 use Rattle.c_lex.specs.declared.punct.Punct.TheVariants as mark
 use Rattle.c_lex.specs.declared.token.TokenKind.{TokenKind}
 use Rattle.c_lex.specs.declared.token.TokenKind.TheVariants as kind
 use Rattle.c_ast.specs.Tree.{Tree, Leaf, Node, Nil, Cons}
-use Rattle.c_type.specs.Trees.{TypeTree, void_type}
-use Rattle.c_typed.specs.declared.operator.UnaryOp.TheVariants as unary_op
+use Rattle.c_type.specs.Trees.{TypeTree}
 use Rattle.c_typed.specs.Typed as typed
 use Rattle.c_typed.specs.Typed.{ExprTree, expr, PlaceTree, place, PlaceFormTree, local, global, member, ExprTrees, no_exprs, expr_then, exprs_of, VariableTree}
-use Rattle.c_typed.specs.WellTyped.{Scope, Signature, Calls, int, HasAddress, type_of, types_of, place_type, ExprIsTyped, ExprsAreTyped, PlaceIsTyped}
+use Rattle.c_typed.specs.WellTyped.{Scope, int, HasAddress, types_of, place_type, ExprIsTyped, ExprsAreTyped, PlaceIsTyped}
 use Rattle.c_static.specs.declared.operand.Operand.{Operand}
 use Rattle.c_static.specs.declared.operand.Operand.TheVariants.{Place, Value}
-use Rattle.c_static.specs.Operands.{operand_type, value_of, is_assignable}
-use Rattle.c_static.specs.Types.{is_scalar}
+use Rattle.c_static.specs.Operands.{value_of, is_assignable}
 use Rattle.c_static.specs.Conversions.{converts}
 use Rattle.c_static.specs.Operators.{binary_typed, unary_typed, conditional_typed, index_typed, selected_tag, member_typed, cast_typed, size_typed}
 use Rattle.c_static.specs.Assignments.{assigned_typed, step_typed}
 use Rattle.c_scope.specs.Scopes.{Name, meaning}
-use Rattle.c_scope.specs.Names.{number_of}
 use Rattle.c_scope.specs.Members.{member_number}
 use Rattle.c_elaboration.specs.declared.meaning.Meaning.{Meaning}
 use Rattle.c_elaboration.specs.declared.meaning.Meaning.TheVariants as means
 use Rattle.c_elaboration.specs.declared.rule.Rule.{Rule}
-use Rattle.c_elaboration.specs.declared.rule.Rule.TheVariants.{Unknown, NotAssignable, BadOperands, BadCall}
-use Rattle.c_elaboration.specs.declared.call.Callee.{Callee}
-use Rattle.c_elaboration.specs.declared.call.Callee.TheVariants as callees
-use Rattle.c_elaboration.specs.declared.call.Called.{Called}
-use Rattle.c_elaboration.specs.declared.call.Called.TheVariants as calls
-use Rattle.c_elaboration.specs.State.{MaybeType, Declared, Global, Variable, State, Elaborated, pure, breaks, broken_at, or_broken, if_some, meaning_of, changed_by, changed, variable_in, change_variable}
+use Rattle.c_elaboration.specs.declared.rule.Rule.TheVariants.{Unknown, NotAssignable, BadOperands}
+use Rattle.c_elaboration.specs.State.{MaybeType, Global, Variable, State, pure, broken_at, or_broken, if_some, changed_by, changed, variable_in, change_variable}
 use Rattle.c_elaboration.specs.Operands.{Term, term_of, term_meant, named, constant_by, constant_of, string_type, string, binary, conditional, indexed, cast, measured, take_address, address, unary_of, unary, target, stepped, assigned, member_numbered, member_named, selected, Sequence, first_of, followed_by, comma, sequence_value, sequence_term}
-use Rattle.c_elaboration.specs.Calls.{callee_of, callee_numbered, called_as, called_term, called_meant, called_name, passed, all_fit, passed_as, all_passed, call_form, call_term, call_of, called}
+use Rattle.c_elaboration.specs.Calls.{passed, passed_as, all_passed}
 use Rattle.c_elaboration.specs.CheckLaws.{IsInRange}
-use Rattle.c_sound.proofs.lemmas.Options.{IfSome, and_then_holds, map_holds, if_holds}
-use Rattle.c_sound.proofs.lemmas.Values.{OperandIsTyped, ObjectsFit, value_typed, unsigned_promoted, ValueOf, converts_typed, member_of_struct, has_address}
+use Rattle.c_sound.specs.TypedOperands.{IfSome, OperandIsTyped, ObjectsFit, MayBeTaken}
+use Rattle.c_sound.proofs.lemmas.Options.{and_then_holds, map_holds}
+use Rattle.c_sound.proofs.lemmas.Values.{value_typed, unsigned_promoted, ValueOf, converts_typed, member_of_struct, has_address}
 use Rattle.c_sound.proofs.lemmas.Binary.{binary_is_typed, conditional_is_typed}
-use Rattle.c_sound.proofs.lemmas.Operators.{found, MayBeTaken, unary_is_typed, index_is_typed, member_is_typed, cast_is_typed, size_is_typed}
+use Rattle.c_sound.proofs.lemmas.Operators.{found, unary_is_typed, index_is_typed, member_is_typed, cast_is_typed, size_is_typed}
 use Rattle.c_sound.proofs.lemmas.Assigning.{assigned_is_typed, step_is_typed}
-use Rattle.c_sound.proofs.lemmas.States.{Ending, is_object_then, type_now, slots_in, scope_in, AreSame, Step, stay, step_then, Fits, fits_back, AllTypes, declared_as, FunctionFits, NamesFit, At, at_step, SlotAt, slot_at, slot_there, objects_fit, structs_at}
-use Rattle.c_sound.proofs.lemmas.Steps.{Steps, breaks_if_steps, or_broken_steps, change_variable_steps, named_keeps, taken_keeps, take_address_steps, target_steps, add_global_steps, if_some_steps}
+use Rattle.c_sound.proofs.lemmas.States.{Ending, is_object_then, type_now, Fits, fits_back, AllTypes, At, at_step, slot_at, slot_there, structs_at}
+use Rattle.c_sound.proofs.lemmas.Steps.{or_broken_steps, change_variable_steps, named_keeps}
 
 abbrev pub TermFits : Scope → Term → Type 0
 TermFits c a = IfSome (OperandIsTyped c) a
@@ -66,8 +60,7 @@ variable_typed e c slot is_const s at below =
     let there : slice_get t.slots slot ≡ Some k = slice_get-get_or t.slots slot 0 below in
     let same : variable_in t.slots slot ≡ k = ap (λ o. unwrap_or o 0) there in
     let type = option_and_then (λ (v : Variable). v.type) (slice_get t.variables (variable_in t.slots slot)) in
-    map_holds (λ u. type ≡ Some u) (OperandIsTyped c) (λ u. Place (place u (local slot)) is_const) type (found type) (λ u q.
-    (
+    map_holds (λ u. type ≡ Some u) (OperandIsTyped c) (λ u. Place (place u (local slot)) is_const) type (found type) (λ u q. (
       record { type = type_now t.variables k; is_object = is_object_then e k },
       ap (λ (c : Scope). slice_get c.slots slot) (sym here.scope) ∙ slot_there e t.variables t.slots slot k there,
       ap (λ n. unwrap_or (option_and_then (λ (v : Variable). v.type) (slice_get t.variables n)) int) (sym same) ∙ ap (λ o. unwrap_or o int) q,
@@ -84,7 +77,8 @@ global_typed e c k is_const s at fit = by_global (slice_get s.globals k) refl
     by_global None q = tt
     by_global (Some g) q = by_type g g.type q refl
 
-term_meant_typed : (e : Ending) (c : Scope) (name : Name) (offset : ℕ) (m : Option Meaning) (s : State) → At e c s → meaning s.scopes name ≡ m → Fits e (term_meant offset m s).1 → TermFits c (term_meant offset m s).0
+term_meant_typed : (e : Ending) (c : Scope) (name : Name) (offset : ℕ) (m : Option Meaning) (s : State) → At e c s → meaning s.scopes name ≡ m → Fits e (term_meant offset m s).1 →
+    TermFits c (term_meant offset m s).0
 term_meant_typed e c name offset None s at q fit = tt
 term_meant_typed e c name offset (Some (means.Variable slot is_const)) s at q fit = variable_typed e c slot is_const s at (at.names.slots name slot is_const q)
 term_meant_typed e c name offset (Some (means.Global k is_const)) s at q fit = global_typed e c k is_const s at fit
@@ -163,7 +157,8 @@ set_there (z ∷ xs) zero x y e = refl
 set_there (z ∷ xs) (suc k) x y e = set_there xs k x y e
 
 -- a variable whose address was taken is an object at the end
-taken_is_object : (e : Ending) (slot : ℕ) (s : State) (v : Variable) → slice_get s.variables (variable_in s.slots slot) ≡ Some v → Fits e (change_variable slot (λ v. record v { is_taken = true }) s).1 →
+taken_is_object : (e : Ending) (slot : ℕ) (s : State) (v : Variable) → slice_get s.variables (variable_in s.slots slot) ≡ Some v →
+    Fits e (change_variable slot (λ v. record v { is_taken = true }) s).1 →
     is_object_then e (variable_in s.slots slot) ≡ true
 taken_is_object e slot s v there fit =
     let k = variable_in s.slots slot in
@@ -194,7 +189,8 @@ address_term e c offset a s at fit ty ends =
     let taken = operand_taken e c a s at fit ty (fits_back e t _ (or_broken_steps NotAssignable offset (unary_typed mark.Amp a) t) ends) in
     or_broken_holds (OperandIsTyped c) NotAssignable offset (unary_typed mark.Amp a) t (unary_is_typed c mark.Amp a fit ty (λ q. taken))
 
-unary_of_term : (e : Ending) (c : Scope) (o : Punct) (offset : ℕ) (a : Operand) (s : State) → At e c s → ObjectsFit c → OperandIsTyped c a → Fits e (unary_of o offset a s).1 → TermFits c (unary_of o offset a s).0
+unary_of_term : (e : Ending) (c : Scope) (o : Punct) (offset : ℕ) (a : Operand) (s : State) → At e c s → ObjectsFit c → OperandIsTyped c a → Fits e (unary_of o offset a s).1 →
+    TermFits c (unary_of o offset a s).0
 unary_of_term e c mark.Amp offset a s at fit ty ends = address_term e c offset a s at fit ty ends
 unary_of_term e c o offset a s at fit ty ends = or_broken_holds (OperandIsTyped c) BadOperands offset (unary_typed o a) s (unary_is_typed c o a fit ty (λ q. absurd (cc)))
 
@@ -233,7 +229,8 @@ assigned_term e c o offset a b s at fit ta tb = by_target (target offset a s).0 
 
 -- ---- members
 
-member_numbered_term : (e : Ending) (c : Scope) (o : Punct) (offset : ℕ) (a : Operand) (k : Option ℕ) (s : State) → At e c s → ObjectsFit c → OperandIsTyped c a → TermFits c (member_numbered o offset a k s).0
+member_numbered_term : (e : Ending) (c : Scope) (o : Punct) (offset : ℕ) (a : Operand) (k : Option ℕ) (s : State) → At e c s → ObjectsFit c → OperandIsTyped c a →
+    TermFits c (member_numbered o offset a k s).0
 member_numbered_term e c o offset a None s at fit ty = tt
 member_numbered_term e c o offset a (Some k) s at fit ty =
     or_broken_holds (OperandIsTyped c) Unknown offset (member_typed s.structs o a k) s
@@ -264,7 +261,8 @@ exprs_append c (x ∷ xs) y h ty = (h.0, exprs_append c xs y h.1 ty)
 
 followed_typed : (c : Scope) (x : Sequence) (b : Operand) → ObjectsFit c → SequenceFits c x → OperandIsTyped c b → IfSome (SequenceFits c) (followed_by x b)
 followed_typed c x b fit h ty =
-    and_then_holds (ExprIsTyped c) (SequenceFits c) (λ e. option_map (λ f. record { dropped = x.dropped ++ e ∷ []; last = Value f }) (value_of b)) (value_of x.last) (value_typed c x.last fit h.last) (λ e te.
+    and_then_holds (ExprIsTyped c) (SequenceFits c) (λ e. option_map (λ f. record { dropped = x.dropped ++ e ∷ []; last = Value f }) (value_of b)) (value_of x.last) (value_typed c x.last fit h.last)
+    (λ e te.
     map_holds (ExprIsTyped c) (SequenceFits c) (λ f. record { dropped = x.dropped ++ e ∷ []; last = Value f }) (value_of b) (value_typed c b fit ty) (λ f tf.
     record { dropped = exprs_append c x.dropped e h.dropped te; last = tf }))
 
@@ -317,7 +315,8 @@ all_passed_typed c [] [] fit h = record { types = []; all = tt; fit = tt }
 all_passed_typed c [] (a ∷ xs) fit h = tt
 all_passed_typed c (t ∷ ts) [] fit h = tt
 all_passed_typed c (t ∷ ts) (a ∷ xs) fit h =
-    and_then_holds (λ e. (u : TypeTree) × (t ≡ Some u) × ValueOf c u e) (PassedFit c (t ∷ ts)) (λ e. option_map (λ es. e ∷ es) (all_passed ts xs)) (passed_as t a) (passed_as_typed c t a fit h.0) (λ e p.
+    and_then_holds (λ e. (u : TypeTree) × (t ≡ Some u) × ValueOf c u e) (PassedFit c (t ∷ ts)) (λ e. option_map (λ es. e ∷ es) (all_passed ts xs)) (passed_as t a) (passed_as_typed c t a fit h.0)
+    (λ e p.
     map_holds (PassedFit c ts) (PassedFit c (t ∷ ts)) (λ es. e ∷ es) (all_passed ts xs) (all_passed_typed c ts xs fit h.1) (λ es q.
     record { types = p.0 ∷ q.types; all = (p.1, q.all); fit = (p.2, q.fit) }))
 

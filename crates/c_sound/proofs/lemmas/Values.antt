@@ -1,30 +1,22 @@
 -- The values of operands, and conversions.
-use Rattle.std.proofs.Common.{◌≡◌, ◌≢◌, ◌⊎◌, inl, inr, ℕ, Bool, true, false, refl, sym, ap, ◌∙◌, subst}
+use Rattle.std.proofs.Common.{◌≡◌, inr, ℕ, Bool, true, false, refl, sym, ap, ◌∙◌, subst}
 use Rattle.std.proofs.lemmas.Bool.{false≢true}
-use Rattle.std.specs.Prelude.{slice_get, Option, None, Some, option_and_then, option_map, if◌then◌else◌}
+use Rattle.std.specs.Prelude.{Some, if◌then◌else◌}
 use Rattle.c_type.specs.declared.scalar.Scalar.{Scalar}
 use Rattle.c_type.specs.Trees.{TypeTree, void_type, scalar_type, pointer_to, array_of, struct_type}
 use Rattle.c_typed.specs.declared.operator.UnaryOp.TheVariants as unary_op
-use Rattle.c_typed.specs.Typed.{ExprTree, expr, read, address, unary, PlaceTree, place, PlaceFormTree, local, global, at, member, VariableTree}
+use Rattle.c_typed.specs.Typed.{ExprTree, expr, unary, PlaceTree, place, local, global, at, member}
 use Rattle.c_typed.specs.WellTyped.{Scope, IsInteger, IsScalar, IsPromoted, if_unsigned, HasAddress, IsMemberOf, type_of, place_type, ExprIsTyped, PlaceIsTyped}
 use Rattle.c_static.specs.declared.operand.Operand.{Operand}
 use Rattle.c_static.specs.declared.operand.Operand.TheVariants.{Place, Value}
 use Rattle.c_static.specs.Operands.{place_value, value_of, if_scalar}
 use Rattle.c_static.specs.Types.{is_integer, is_scalar, same_type, is_unsigned, promoted_type}
-use Rattle.c_static.specs.Constants.{is_null_constant, constant_value}
 use Rattle.c_static.specs.Conversions.{converted, promoted, may_convert, converts}
 use Rattle.c_static.proofs.lemmas.SameType.{same_type-refl, same_type-true}
-use Rattle.c_sound.proofs.lemmas.Options.{IfSome, if_holds}
+use Rattle.c_sound.specs.TypedOperands.{IfSome, OperandIsTyped, ObjectsFit}
+use Rattle.c_sound.proofs.lemmas.Options.{if_holds}
 
 -- ---- operands
-
-abbrev pub OperandIsTyped : Scope → Operand → Type 0
-OperandIsTyped c (Place p is_const) = PlaceIsTyped c p
-OperandIsTyped c (Value e) = ExprIsTyped c e
-
--- a variable in scope that is no scalar is an object
-abbrev pub ObjectsFit : Scope → Type 0
-ObjectsFit c = (slot : ℕ) (v : VariableTree) → slice_get c.slots slot ≡ Some v → is_scalar v.type ≡ false → v.is_object ≡ true
 
 pub member_of_struct : (c : Scope) (t u : TypeTree) (begins : ℕ) → IsMemberOf c.structs t begins u → is_scalar t ≡ false
 member_of_struct c (struct_type tag) u begins h = refl
