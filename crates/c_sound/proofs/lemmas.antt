@@ -8,3 +8,4 @@ pub mod Steps
 pub mod Terms
 pub mod CalledTerms
 pub mod Expressions
+pub mod Later
