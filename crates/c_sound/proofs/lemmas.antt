@@ -9,3 +9,4 @@ pub mod Terms
 pub mod CalledTerms
 pub mod Expressions
 pub mod Later
+pub mod StatementSteps

@@ -116,7 +116,7 @@ fits_before e s t a h = record {
 
 -- ---- names and scopes
 
-more_length : (vs ws : List Variable) → AreMore vs ws → length vs ≤ length ws
+pub more_length : (vs ws : List Variable) → AreMore vs ws → length vs ≤ length ws
 more_length [] ws a = omega arith
 more_length (v ∷ vs) [] a = absurd a
 more_length (v ∷ vs) (w ∷ ws) a = let n = more_length vs ws a.2 in omega (arith, n)
@@ -167,7 +167,7 @@ at_still e c s t a h =
 abbrev pub HasScope : State → Type 0
 HasScope s = outer ([] ∷ s.scopes) ≡ s.scopes
 
-declared_scope : (sc : Scopes Meaning) (name : Name) (m : Meaning) → outer (with_declaration sc name m) ≡ outer sc
+pub declared_scope : (sc : Scopes Meaning) (name : Name) (m : Meaning) → outer (with_declaration sc name m) ≡ outer sc
 declared_scope [] name m = refl
 declared_scope (x ∷ []) name m = refl
 declared_scope (x ∷ y ∷ rest) name m = refl
@@ -224,7 +224,7 @@ add_variable_later t s = record {
   variables = more_append s.variables _;
 }
 
-declare_after : (name : Name) (m : Meaning) (s : State) → Later s (record s { scopes = with_declaration s.scopes name m })
+pub declare_after : (name : Name) (m : Meaning) (s : State) → Later s (record s { scopes = with_declaration s.scopes name m })
 declare_after name m s = record {
   broken = λ h. h;
   outer = declared_scope s.scopes name m;

@@ -242,7 +242,7 @@ tag_of_steps name s = record {
 pub tagged_steps : (name : Name) (offset : ℕ) → Steps (tagged name offset)
 tagged_steps name offset s = tag_of_steps name s
 
-type_if_steps : (wrong : Bool) (offset : ℕ) (t : TypeTree) → Steps (type_if wrong offset t)
+pub type_if_steps : (wrong : Bool) (offset : ℕ) (t : TypeTree) → Steps (type_if wrong offset t)
 type_if_steps true offset t s = breaks_steps _ offset s
 type_if_steps false offset t s = stay s
 

@@ -107,7 +107,7 @@ constant_typed c (Node p children) h = tt
 constant_typed c Nil h = tt
 constant_typed c (Cons t ts) h = tt
 
-get_end : {A : Type 0} → (xs : List A) (x : A) → slice_get (xs ++ x ∷ []) (length xs) ≡ Some x
+pub get_end : {A : Type 0} → (xs : List A) (x : A) → slice_get (xs ++ x ∷ []) (length xs) ≡ Some x
 get_end [] x = refl
 get_end (y ∷ xs) x = get_end xs x
 
