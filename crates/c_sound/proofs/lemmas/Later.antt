@@ -17,10 +17,15 @@ AreMore [] ws = Unit {0}
 AreMore (v ∷ vs) [] = ⊥
 AreMore (v ∷ vs) (w ∷ ws) = (w.type ≡ v.type) × (v.is_taken ≡ true → w.is_taken ≡ true) × AreMore vs ws
 
+-- there is a scope
+abbrev pub HasScope : State → Type 0
+HasScope s = outer ([] ∷ s.scopes) ≡ s.scopes
+
 -- one state later than another in a function
 pub record Later (s t : State) : Type 0 where
   pub broken : t.broken ≡ None → s.broken ≡ None
   pub outer : outer t.scopes ≡ outer s.scopes
+  pub scope : HasScope s → HasScope t
   pub slots : (more : List ℕ) × (t.slots ≡ s.slots ++ more)
   pub structs : t.structs ≡ s.structs
   pub members : t.members ≡ s.members
@@ -55,6 +60,7 @@ pub later_then : (r s t : State) → Later r s → Later s t → Later r t
 later_then r s t a b = record {
   broken = λ h. a.broken (b.broken h);
   outer = b.outer ∙ a.outer;
+  scope = λ h. b.scope (a.scope h);
   slots = (a.slots.0 ++ b.slots.0, b.slots.1 ∙ ap (λ ks. ks ++ b.slots.0) a.slots.1 ∙ append_assoc r.slots a.slots.0 b.slots.0);
   structs = b.structs ∙ a.structs;
   members = b.members ∙ a.members;
@@ -68,11 +74,15 @@ later_then r s t a b = record {
 pub still_then : (r s t : State) → Still r s → Still s t → Still r t
 still_then r s t a b = record { later = later_then r s t a.later b.later; scopes = b.scopes ∙ a.scopes; slots = b.slots ∙ a.slots }
 
+pub still_has_scope : (s t : State) → t.scopes ≡ s.scopes → HasScope s → HasScope t
+still_has_scope s t e h = subst (λ sc. outer ([] ∷ sc) ≡ sc) (sym e) h
+
 pub step_still : (s t : State) → Step s t → Still s t
 step_still s t a = record {
   later = record {
     broken = a.broken;
     outer = ap outer a.scopes;
+    scope = λ h. still_has_scope s t a.scopes h;
     slots = ([], a.slots ∙ sym (append-nil s.slots));
     structs = a.structs;
     members = a.members;
@@ -163,17 +173,10 @@ at_still e c s t a h =
 
 -- ---- a scope of its own
 
--- there is a scope
-abbrev pub HasScope : State → Type 0
-HasScope s = outer ([] ∷ s.scopes) ≡ s.scopes
-
 pub declared_scope : (sc : Scopes Meaning) (name : Name) (m : Meaning) → outer (with_declaration sc name m) ≡ outer sc
 declared_scope [] name m = refl
 declared_scope (x ∷ []) name m = refl
 declared_scope (x ∷ y ∷ rest) name m = refl
-
-pub still_has_scope : (s t : State) → t.scopes ≡ s.scopes → HasScope s → HasScope t
-still_has_scope s t e h = subst (λ sc. outer ([] ∷ sc) ≡ sc) (sym e) h
 
 -- the state in a new scope
 abbrev pub entered : State → State
@@ -182,25 +185,28 @@ entered s = record s { scopes = [] ∷ s.scopes }
 entered_has_scope : (s : State) → HasScope (entered s)
 entered_has_scope s = refl
 
-pub within_still : {A : Type 0} → (m : Elaborated A) (s : State) → HasScope s → (HasScope (entered s) → Later (entered s) (m (entered s)).1) → Still s (within_scope m s).1
-within_still m s h inner =
-    let l = inner (entered_has_scope s) in
-    record {
-      later = record {
-        broken = l.broken;
-        outer = ap outer (l.outer ∙ h);
-        slots = ([], sym (append-nil s.slots));
-        structs = l.structs;
-        members = l.members;
-        declared = l.declared;
-        defined = l.defined;
-        functions = l.functions;
-        globals = l.globals;
-        variables = l.variables;
-      };
-      scopes = l.outer ∙ h;
-      slots = refl;
-    }
+-- the state after a scope that began in this one
+abbrev pub left : State → State → State
+left s t = record t { scopes = outer t.scopes; slots = s.slots }
+
+pub within_still : (s t : State) → HasScope s → Later (entered s) t → Still s (left s t)
+within_still s t h l = record {
+  later = record {
+    broken = l.broken;
+    outer = ap outer (l.outer ∙ h);
+    scope = λ g. still_has_scope s (left s t) (l.outer ∙ h) g;
+    slots = ([], sym (append-nil s.slots));
+    structs = l.structs;
+    members = l.members;
+    declared = l.declared;
+    defined = l.defined;
+    functions = l.functions;
+    globals = l.globals;
+    variables = l.variables;
+  };
+  scopes = l.outer ∙ h;
+  slots = refl;
+}
 
 pub names_entered : (e : Ending) (s : State) → NamesFit e s → NamesFit e (entered s)
 names_entered e s h = record { slots = h.slots; variables = h.variables; functions = h.functions; put = h.put; get = h.get; exit = h.exit }
@@ -214,6 +220,7 @@ pub add_variable_later : (t : MaybeType) (s : State) → Later s (add_variable t
 add_variable_later t s = record {
   broken = λ h. h;
   outer = refl;
+  scope = λ h. h;
   slots = (length s.variables ∷ [], refl);
   structs = refl;
   members = refl;
@@ -224,10 +231,15 @@ add_variable_later t s = record {
   variables = more_append s.variables _;
 }
 
+some_scope : (sc : Scopes Meaning) (name : Name) (m : Meaning) → outer ([] ∷ with_declaration sc name m) ≡ with_declaration sc name m
+some_scope [] name m = refl
+some_scope (x ∷ rest) name m = refl
+
 pub declare_after : (name : Name) (m : Meaning) (s : State) → Later s (record s { scopes = with_declaration s.scopes name m })
 declare_after name m s = record {
   broken = λ h. h;
   outer = declared_scope s.scopes name m;
+  scope = λ h. some_scope s.scopes name m;
   slots = ([], sym (append-nil s.slots));
   structs = refl;
   members = refl;

@@ -19,7 +19,7 @@ use Rattle.c_elaboration.specs.State.{MaybeType, Variable, State, Elaborated, pu
 use Rattle.c_elaboration.specs.Leaves.{offset_of, begin_of, name_of, characters_of, count_of, is_present}
 use Rattle.c_elaboration.specs.Specifiers.{Specified, specified_type}
 use Rattle.c_elaboration.specs.DeclaredTypes.{is_object_of, arrays_of, sizes_of, type_if, small_type, unless_empty, starred, object_type, other_is_empty, first_is_empty}
-use Rattle.c_elaboration.specs.Operands.{Term}
+use Rattle.c_elaboration.specs.Operands.{Term, term_constant}
 use Rattle.c_elaboration.specs.Expressions.{more_characters, size, expression, expressions}
 use Rattle.c_elaboration.specs.Initialisers as initial
 use Rattle.c_elaboration.specs.Initialisers.{Elements, converted, value_read, value, character_array, characters, string_for, sets_to_zero, count_in, part_of, part_at, parts_of, takes, list_for, initialiser, elements, completed}
@@ -141,6 +141,7 @@ change_new s t f h =
     record {
       broken = l.broken;
       outer = l.outer;
+      scope = l.scope;
       slots = l.slots;
       structs = l.structs;
       members = l.members;
@@ -191,3 +192,144 @@ locals_later (Node l.Locals (Cons qualifier (Cons specifier (Cons first (Cons mo
     later_then s x.1 _ (step_still s x.1 (specified_type_steps specifier s)).later
     (later_then x.1 d.1 _ (declarator_later x.0 (is_present qualifier) first x.1) (more_declarators_later x.0 (is_present qualifier) more d.1))
 locals_later t s = (stay_still s).later
+
+-- ---- parts of statements
+
+pub whole_steps : (offset : ℕ) (a : Term) → Steps (whole offset a)
+whole_steps offset a s = if_some_steps a _ (λ x. or_broken_steps _ offset _) s
+
+pub condition_steps : (offset : ℕ) (a : Term) → Steps (condition offset a)
+condition_steps offset a s = if_some_steps a _ (λ x. or_broken_steps _ offset _) s
+
+pub subject_steps : (offset : ℕ) (a : Term) → Steps (subject offset a)
+subject_steps offset a s = if_some_steps a _ (λ x. or_broken_steps _ offset _) s
+
+pub condition_clause_steps : (offset : ℕ) (t : Tree) → Steps (condition_clause offset t)
+condition_clause_steps offset (Node (l.Present k) (Cons x none)) s = let a = expressions x s in step_then s a.1 _ (expressions_steps x s) (condition_steps offset a.0 a.1)
+condition_clause_steps offset t s = stay s
+
+pub value_clause_steps : (t : Tree) → Steps (value_clause t)
+value_clause_steps (Node (l.Present k) (Cons x none)) s = let a = expressions x s in step_then s a.1 _ (expressions_steps x s) (whole_steps (begin_of x) a.0 a.1)
+value_clause_steps t s = stay s
+
+pub jump_steps : (allowed : Bool) (offset : ℕ) (a : StmtTree) → Steps (jump allowed offset a)
+jump_steps allowed offset a s = breaks_if_steps _ BadJump offset s
+
+pub returned_steps : (t : MaybeType) (offset : ℕ) (x : Tree) → Steps (returned t offset x)
+returned_steps t offset (Node (l.Present k) (Cons x none)) s =
+    let a = expressions x s in step_then s a.1 _ (expressions_steps x s) (if_some_steps t _ (λ u. if_some_steps a.0 _ (λ y. or_broken_steps _ offset _)) a.1)
+returned_steps t offset x s = breaks_if_steps (if gives_none t then false else true) BadReturn offset s
+
+case_label_steps : (x : Labels) (offset : ℕ) (w : Option ℕ) → Steps (case_label x offset w)
+case_label_steps x offset None s = stay s
+case_label_steps x offset (Some w) s = breaks_if_steps _ BadLabel offset s
+
+pub label_steps : (x : Labels) (t : Tree) → Steps (label x t)
+label_steps x (Node l.Case (Cons word (Cons value (Cons colon none)))) s =
+    let a = expression value s in
+    let w = or_broken NotConstant (begin_of value) (term_constant a.0) a.1 in
+    step_then s a.1 _ (expression_steps value s) (step_then a.1 w.1 _ (or_broken_steps NotConstant (begin_of value) (term_constant a.0) a.1) (case_label_steps x (offset_of word) w.0 w.1))
+label_steps x (Node l.Default (Cons word (Cons colon none))) s = breaks_if_steps _ BadLabel (offset_of word) s
+label_steps x t s = stay s
+
+pub more_labels_steps : (x : Labels) (t : Tree) → Steps (more_labels x t)
+more_labels_steps x (Node (l.More k) (Cons before (Cons t none))) s = let y = more_labels x before s in step_then s y.1 _ (more_labels_steps x before s) (label_steps y.0 t y.1)
+more_labels_steps x t s = stay s
+
+pub for_start_later : (t : Tree) (s : State) → Later s (for_start t s).1
+for_start_later (Node l.ForClause (Cons x (Cons semicolon none))) s = (step_still s _ (value_clause_steps x s)).later
+for_start_later t s = locals_later t s
+
+-- ---- statements
+
+-- no declaration stands directly among these items
+abbrev pub StatementsOnly : Tree → Type 0
+StatementsOnly (Node (l.More k) (Cons before (Cons (Node l.Locals children) none))) = ⊥
+StatementsOnly (Node (l.More k) (Cons before (Cons t none))) = StatementsOnly before
+StatementsOnly t = Unit {0}
+
+-- the groups of a `switch` have statements
+abbrev pub WellGrouped : Tree → Type 0
+WellGrouped (Node l.Group (Cons first (Cons more (Cons t (Cons ts none))))) = StatementsOnly ts × WellGrouped t × WellGrouped ts
+WellGrouped (Node p children) = WellGrouped children
+WellGrouped (Cons t ts) = WellGrouped t × WellGrouped ts
+WellGrouped t = Unit {0}
+
+mutual
+  pub statement_still : (j : Jumps) (t : Tree) (s : State) → WellGrouped t → HasScope s → Still s (statement j t s).1
+  statement_still j (Node l.Null children) s w h = stay_still s
+  statement_still j (Node l.Expression (Cons x (Cons semicolon none))) s w h =
+      let a = expressions x s in step_still s _ (step_then s a.1 _ (expressions_steps x s) (whole_steps (begin_of x) a.0 a.1))
+  statement_still j (Node l.Block (Cons opening (Cons xs (Cons closing none)))) s w h = within_still s (items j xs (entered s)).1 h (items_later j xs (entered s) w.1.0 refl)
+  statement_still j (Node l.If (Cons word (Cons opening (Cons x (Cons closing (Cons t none)))))) s w h =
+      let a = expressions x s in
+      let c = condition (offset_of word) a.0 a.1 in
+      let step = step_still s c.1 (step_then s a.1 c.1 (expressions_steps x s) (condition_steps (offset_of word) a.0 a.1)) in
+      still_then s c.1 _ step (statement_still j t c.1 w.1.1.1.1.0 (still_has_scope s c.1 step.scopes h))
+  statement_still j (Node l.IfElse (Cons before (Cons word (Cons t none)))) s w h =
+      let a = statement j before s in
+      let first = statement_still j before s w.0 h in
+      still_then s a.1 _ first (statement_still j t a.1 w.1.1.0 (still_has_scope s a.1 first.scopes h))
+  statement_still j (Node l.While (Cons word (Cons opening (Cons x (Cons closing (Cons t none)))))) s w h =
+      let a = expressions x s in
+      let c = condition (offset_of word) a.0 a.1 in
+      let step = step_still s c.1 (step_then s a.1 c.1 (expressions_steps x s) (condition_steps (offset_of word) a.0 a.1)) in
+      still_then s c.1 _ step (statement_still (in_loop j) t c.1 w.1.1.1.1.0 (still_has_scope s c.1 step.scopes h))
+  statement_still j (Node l.DoWhile (Cons word (Cons t (Cons until (Cons opening (Cons x more)))))) s w h =
+      let b = statement (in_loop j) t s in
+      let a = expressions x b.1 in
+      still_then s b.1 _ (statement_still (in_loop j) t s w.1.0 h) (step_still b.1 _ (step_then b.1 a.1 _ (expressions_steps x b.1) (condition_steps (offset_of until) a.0 a.1)))
+  statement_still j (Node l.For (Cons word (Cons opening (Cons start (Cons x (Cons semicolon (Cons y (Cons closing (Cons t none))))))))) s w h =
+      let is = for_start start (entered s) in
+      let c = condition_clause (offset_of word) x is.1 in
+      let step = value_clause y c.1 in
+      let b = statement (in_loop j) t step.1 in
+      let l = for_start_later start (entered s) in
+      let a = step_still is.1 step.1 (step_then is.1 c.1 step.1 (condition_clause_steps (offset_of word) x is.1) (value_clause_steps y c.1)) in
+      let k = later_then (entered s) is.1 step.1 l a.later in
+      within_still s b.1 h (later_then (entered s) step.1 b.1 k (statement_still (in_loop j) t step.1 w.1.1.1.1.1.1.1.0 (k.scope refl)).later)
+  statement_still j (Node l.Break (Cons word more)) s w h = step_still s _ (jump_steps j.may_break (offset_of word) typed.break s)
+  statement_still j (Node l.Continue (Cons word more)) s w h = step_still s _ (jump_steps j.may_continue (offset_of word) typed.continue s)
+  statement_still j (Node l.Return (Cons word (Cons x more))) s w h = step_still s _ (returned_steps j.result (offset_of word) x s)
+  statement_still j (Node l.Switch (Cons word (Cons opening (Cons x (Cons closing (Cons begin (Cons gs more))))))) s w h =
+      let a = expressions x s in
+      let e = subject (offset_of word) a.0 a.1 in
+      let step = step_still s e.1 (step_then s a.1 e.1 (expressions_steps x s) (subject_steps (offset_of word) a.0 a.1)) in
+      still_then s e.1 _ step (groups_still (in_switch j) gs e.1 w.1.1.1.1.1.0 (still_has_scope s e.1 step.scopes h))
+  statement_still j t s w h = stay_still s
+
+  pub items_later : (j : Jumps) (t : Tree) (s : State) → WellGrouped t → HasScope s → Later s (items j t s).1
+  items_later j (Node (l.More k) (Cons before (Cons (Node l.Locals children) none))) s w h =
+      let is = items j before s in later_then s is.1 _ (items_later j before s w.0 h) (locals_later (Node l.Locals children) is.1)
+  items_later j (Node (l.More k) (Cons before (Cons t none))) s w h =
+      let is = items j before s in
+      let first = items_later j before s w.0 h in
+      later_then s is.1 _ first (statement_still j t is.1 w.1.0 (first.scope h)).later
+  items_later j t s w h = (stay_still s).later
+
+  -- statements alone
+  pub items_still : (j : Jumps) (t : Tree) (s : State) → StatementsOnly t → WellGrouped t → HasScope s → Still s (items j t s).1
+  items_still j (Node (l.More k) (Cons before (Cons (Node l.Locals children) none))) s o w h = absurd o
+  items_still j (Node (l.More k) (Cons before (Cons t none))) s o w h =
+      let is = items j before s in
+      let first = items_still j before s o w.0 h in
+      still_then s is.1 _ first (statement_still j t is.1 w.1.0 (still_has_scope s is.1 first.scopes h))
+  items_still j t s o w h = stay_still s
+
+  pub groups_still : (j : Jumps) (t : Tree) (s : State) → WellGrouped t → HasScope s → Still s (groups j t s).1
+  groups_still j (Node (l.More k) (Cons before (Cons t none))) s w h =
+      let x = groups j before s in
+      let first = groups_still j before s w.0 h in
+      still_then s x.1 _ first (group_still j x.0 t x.1 w.1.0 (still_has_scope s x.1 first.scopes h))
+  groups_still j t s w h = stay_still s
+
+  group_still : (j : Jumps) (x : Groups) (t : Tree) (s : State) → WellGrouped t → HasScope s → Still s (group j x t s).1
+  group_still j x (Node l.Group (Cons first (Cons more (Cons t (Cons ts none))))) s w h =
+      let y = label (next_group x.labels) first s in
+      let z = more_labels y.0 more y.1 in
+      let b = statement j t z.1 in
+      let a = step_still s z.1 (step_then s y.1 z.1 (label_steps (next_group x.labels) first s) (more_labels_steps y.0 more y.1)) in
+      let c = statement_still j t z.1 w.1 (still_has_scope s z.1 a.scopes h) in
+      let d = still_then s z.1 b.1 a c in
+      still_then s b.1 _ d (items_still j ts b.1 w.0 w.2 (still_has_scope s b.1 d.scopes h))
+  group_still j x t s w h = stay_still s
