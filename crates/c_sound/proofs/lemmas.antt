@@ -10,3 +10,4 @@ pub mod CalledTerms
 pub mod Expressions
 pub mod Later
 pub mod StatementSteps
+pub mod ConstantWords
