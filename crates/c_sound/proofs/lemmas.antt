@@ -11,3 +11,4 @@ pub mod Expressions
 pub mod Later
 pub mod StatementSteps
 pub mod ConstantWords
+pub mod Labels

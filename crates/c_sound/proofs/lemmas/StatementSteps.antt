@@ -220,7 +220,7 @@ returned_steps t offset (Node (l.Present k) (Cons x none)) s =
     let a = expressions x s in step_then s a.1 _ (expressions_steps x s) (if_some_steps t _ (λ u. if_some_steps a.0 _ (λ y. or_broken_steps _ offset _)) a.1)
 returned_steps t offset x s = breaks_if_steps (if gives_none t then false else true) BadReturn offset s
 
-case_label_steps : (x : Labels) (offset : ℕ) (w : Option ℕ) → Steps (case_label x offset w)
+pub case_label_steps : (x : Labels) (offset : ℕ) (w : Option ℕ) → Steps (case_label x offset w)
 case_label_steps x offset None s = stay s
 case_label_steps x offset (Some w) s = breaks_if_steps _ BadLabel offset s
 
