@@ -12,3 +12,4 @@ pub mod Later
 pub mod StatementSteps
 pub mod ConstantWords
 pub mod Labels
+pub mod Statements

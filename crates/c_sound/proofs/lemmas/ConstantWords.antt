@@ -1,9 +1,8 @@
 -- The value of a constant expression is a word.
-use Rattle.std.proofs.Common.{◌≡◌, ◌<◌, ℕ, Bool, true, false, refl, arith}
+use Rattle.std.proofs.Common.{◌<◌, ℕ, Bool, true, false, arith}
 use Rattle.std.specs.Prelude.{◌^◌, ◌-◌, ◌==◌, Option, None, Some, option_and_then, option_map, if◌then◌else◌}
-use Rattle.val_core.specs.Words.{word1, word2, one_if}
+use Rattle.val_core.specs.Words.{word2, one_if}
 use Rattle.val_core.specs.declared.operation.Op1.TheVariants.{Sext8, Zext8, Sext16, Zext16}
-use Rattle.val_core.specs.declared.operation.Op2.{Op2}
 use Rattle.val_core.specs.declared.operation.Op2.TheVariants as op
 use Rattle.val_core.proofs.lemmas.Words.{gives_word1, gives_word2}
 use Rattle.c_type.specs.declared.scalar.Scalar.TheVariants.{Char, SignedChar, UnsignedChar, Short, UnsignedShort}
@@ -14,9 +13,9 @@ use Rattle.c_typed.specs.declared.operator.BinaryOp.{BinaryOp}
 use Rattle.c_typed.specs.declared.operator.BinaryOp.TheVariants as binary_op
 use Rattle.c_typed.specs.Typed.{ExprTree, expr, FormTree, constant, unary, binary, logical_and, logical_or, conditional}
 use Rattle.c_typed.specs.WellTyped.{Scope, type_of, ExprIsTyped, FormIsTyped}
-use Rattle.c_static.specs.Constants.{has_constant_form, converted_word, unary_word, has_result, arithmetic_word, are_related, binary_word, truth_word, expr_word, form_word, constant_value}
+use Rattle.c_static.specs.Constants.{has_constant_form, converted_word, unary_word, has_result, are_related, binary_word, truth_word, expr_word, form_word, constant_value}
 use Rattle.c_sound.specs.TypedOperands.{IfSome}
-use Rattle.c_sound.proofs.lemmas.Options.{and_then_holds, map_holds, if_holds}
+use Rattle.c_sound.proofs.lemmas.Options.{and_then_holds, if_holds}
 
 abbrev pub IsWord : ℕ → Type 0
 IsWord w = w < 2 ^ 32

@@ -1,11 +1,11 @@
 -- The labels of a `switch`: words, all different, and one `default` at most.
-use Rattle.std.proofs.Common.{◌≡◌, ◌≢◌, ◌≤◌, ◌<◌, ℕ, ◌+◌, zero, suc, Bool, true, false, List, [], ◌∷◌, ◌++◌, refl, sym, ap, ◌∙◌, subst, arith}
-use Rattle.std.specs.Prelude.{◌^◌, ◌==◌, ◌||◌, Option, None, Some, if◌then◌else◌}
+use Rattle.std.proofs.Common.{◌≡◌, ◌≢◌, ◌<◌, ℕ, ◌+◌, Bool, true, false, List, [], ◌∷◌, ◌++◌, refl, sym, ap, ◌∙◌, arith}
+use Rattle.std.specs.Prelude.{◌^◌, ◌==◌, ◌||◌, Option, None, Some}
 use Rattle.std.specs.List.{list_any}
 use Rattle.std.proofs.lemmas.List.{append_assoc, append-nil}
 use Rattle.std.proofs.lemmas.Bool.Decides.{nat_tests}
 use Rattle.c_ast.specs.Productions as l
-use Rattle.c_ast.specs.Tree.{Tree, Leaf, Node, Nil, Cons}
+use Rattle.c_ast.specs.Tree.{Tree, Node, Cons}
 use Rattle.c_typed.specs.Typed.{ItemTrees, GroupTrees, no_groups, group_then}
 use Rattle.c_typed.specs.WellTyped.{Scope, Jumps, AreStatements, ItemsAreTyped, GroupsAreTyped, all_cases, defaults, AreWords, IsNotAmong, AreDistinct}
 use Rattle.c_static.specs.Operands.{value_of}
@@ -14,7 +14,7 @@ use Rattle.c_elaboration.specs.declared.rule.Rule.{Rule}
 use Rattle.c_elaboration.specs.declared.rule.Rule.TheVariants.{NotConstant, BadLabel}
 use Rattle.c_elaboration.specs.State.{State, breaks_if, or_broken}
 use Rattle.c_elaboration.specs.Leaves.{offset_of, begin_of}
-use Rattle.c_elaboration.specs.Operands.{Term, term_value, term_constant}
+use Rattle.c_elaboration.specs.Operands.{Term, term_constant}
 use Rattle.c_elaboration.specs.Expressions.{expression}
 use Rattle.c_elaboration.specs.Statements.{Labels, no_labels, next_group, case_label, label, more_labels, Groups, with_group, grouped}
 use Rattle.c_sound.specs.TypedOperands.{IfSome, ObjectsFit}
@@ -120,7 +120,8 @@ pub record GroupsFit (c : Scope) (j : Jumps) (x : Groups) : Type 0 where
   pub are_words : AreWords x.labels.words
   pub defaults : defaults x.groups ≡ one_if_true x.labels.has_default
 
-with_group_typed : (c : Scope) (j : Jumps) (gs : GroupTrees) (cases : List ℕ) (d : Bool) (is : ItemTrees) → GroupsAreTyped c j gs → AreStatements is → ItemsAreTyped c j is → GroupsAreTyped c j (with_group gs cases d is)
+with_group_typed : (c : Scope) (j : Jumps) (gs : GroupTrees) (cases : List ℕ) (d : Bool) (is : ItemTrees) → GroupsAreTyped c j gs → AreStatements is → ItemsAreTyped c j is →
+    GroupsAreTyped c j (with_group gs cases d is)
 with_group_typed c j no_groups cases d is h a b = (a, b, tt)
 with_group_typed c j (group_then ws e ys gs) cases d is h a b = (h.0, h.1, with_group_typed c j gs cases d is h.2 a b)
 
@@ -134,7 +135,8 @@ with_group_defaults no_groups cases false is = refl
 with_group_defaults (group_then ws true ys gs) cases d is = let n = with_group_defaults gs cases d is in omega (arith, n)
 with_group_defaults (group_then ws false ys gs) cases d is = with_group_defaults gs cases d is
 
-pub grouped_fits : (c : Scope) (j : Jumps) (x : Groups) (y : Labels) (is : ItemTrees) → GroupsFit c j x → LabelsFit x.labels y → AreStatements is → ItemsAreTyped c j is → GroupsFit c j (grouped x y is)
+pub grouped_fits : (c : Scope) (j : Jumps) (x : Groups) (y : Labels) (is : ItemTrees) → GroupsFit c j x → LabelsFit x.labels y → AreStatements is → ItemsAreTyped c j is →
+    GroupsFit c j (grouped x y is)
 grouped_fits c j x y is h f a b = record {
   typed = with_group_typed c j x.groups y.cases y.is_default is h.typed a b;
   words = with_group_cases x.groups y.cases y.is_default is ∙ ap (λ ws. ws ++ y.cases) h.words ∙ sym f.words;

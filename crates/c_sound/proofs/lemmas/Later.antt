@@ -1,15 +1,11 @@
 -- States of the checker along statements: variables come, and names come into scope.
-use Rattle.std.proofs.Common.{◌≡◌, ◌≤◌, ◌<◌, ℕ, ◌+◌, zero, suc, Bool, true, false, List, [], ◌∷◌, ◌++◌, length, refl, sym, ap, ◌∙◌, subst, arith, append_assoc, append-nil}
-use Rattle.std.specs.Prelude.{slice_get, Option, None, Some, option_map, unwrap_or, if◌then◌else◌}
-use Rattle.std.proofs.lemmas.Option.{slice_get_within}
+use Rattle.std.proofs.Common.{◌≡◌, ◌≤◌, ◌<◌, ℕ, zero, suc, true, List, [], ◌∷◌, ◌++◌, length, refl, sym, ap, ◌∙◌, subst, arith, append_assoc, append-nil}
+use Rattle.std.specs.Prelude.{slice_get, None, Some, unwrap_or}
 use Rattle.c_typed.specs.WellTyped.{Scope, int}
 use Rattle.c_scope.specs.Scopes.{Name, Scopes, meaning, with_declaration, outer}
 use Rattle.c_elaboration.specs.declared.meaning.Meaning.{Meaning}
-use Rattle.c_elaboration.specs.declared.meaning.Meaning.TheVariants as means
-use Rattle.c_elaboration.specs.declared.rule.Rule.TheVariants.{Redeclared}
-use Rattle.c_elaboration.specs.State.{MaybeType, Global, Variable, State, Elaborated, declare, within_scope, add_variable}
+use Rattle.c_elaboration.specs.State.{MaybeType, Global, Variable, State, add_variable}
 use Rattle.c_sound.proofs.lemmas.States.{Ending, is_object_then, type_now, slots_in, scope_in, AreSame, same_self, Step, stay, VariableFitsNow, Fits, FunctionFits, NamesFit, At}
-use Rattle.c_sound.proofs.lemmas.Steps.{breaks_if_steps}
 
 -- the same variables, and more
 abbrev pub AreMore : List Variable → List Variable → Type 0
@@ -137,10 +133,10 @@ names_still e s t a h =
     record {
       slots = λ name k b m. subst (λ (ks : List ℕ). k < length ks) (sym a.slots) (h.slots name k b (sym (ap (λ q. meaning q name) a.scopes) ∙ m));
       variables = λ slot k m.
-      let n = h.variables slot k (sym (ap (λ ks. slice_get ks slot) a.slots) ∙ m) in let o = more_length s.variables t.variables l.variables in omega (arith, n, o);
+          let n = h.variables slot k (sym (ap (λ ks. slice_get ks slot) a.slots) ∙ m) in let o = more_length s.variables t.variables l.variables in omega (arith, n, o);
       functions = λ name k m.
-      subst (λ ds. FunctionFits e ds t.declared name (suc (suc (suc k)))) (sym l.defined)
-      (subst (λ ds. FunctionFits e s.defined ds name (suc (suc (suc k)))) (sym l.declared) (h.functions name k (sym (ap (λ q. meaning q name) a.scopes) ∙ m)));
+          subst (λ ds. FunctionFits e ds t.declared name (suc (suc (suc k)))) (sym l.defined)
+          (subst (λ ds. FunctionFits e s.defined ds name (suc (suc (suc k)))) (sym l.declared) (h.functions name k (sym (ap (λ q. meaning q name) a.scopes) ∙ m)));
       put = ap (λ ds. slice_get ds 0) l.declared ∙ h.put;
       get = ap (λ ds. slice_get ds 1) l.declared ∙ h.get;
       exit = ap (λ ds. slice_get ds 2) l.declared ∙ h.exit;

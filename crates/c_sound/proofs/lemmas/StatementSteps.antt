@@ -1,34 +1,30 @@
 -- Statements and declarations lead to later states.
-use Rattle.std.proofs.Common.{◌≡◌, ◌≤◌, ◌<◌, ℕ, ◌+◌, zero, suc, Bool, true, false, List, [], ◌∷◌, ◌++◌, length, refl, sym, ap, ◌∙◌, subst, arith}
-use Rattle.std.specs.Prelude.{slice_get, slice_set, Option, None, Some, option_map, option_and_then, unwrap_or, if◌then◌else◌, nat_le, not, ◌||◌, ◌&&◌}
-use Rattle.std.proofs.lemmas.List.{append-nil}
-use Rattle.c_lex.specs.declared.token.TokenKind.{TokenKind}
+use Rattle.std.proofs.Common.{◌≡◌, ◌≤◌, ℕ, ◌+◌, zero, suc, Bool, true, false, List, [], ◌∷◌, ◌++◌, length, refl, ap, ◌∙◌, arith}
+use Rattle.std.specs.Prelude.{slice_get, slice_set, Option, None, Some, option_and_then, unwrap_or, if◌then◌else◌, nat_le, not, ◌||◌, ◌&&◌}
 use Rattle.c_ast.specs.Productions as l
-use Rattle.c_ast.specs.Tree.{Tree, Leaf, Node, Nil, Cons}
+use Rattle.c_ast.specs.Tree.{Tree, Node, Cons}
 use Rattle.c_type.specs.Trees.{TypeTree}
 use Rattle.c_typed.specs.Typed as typed
 use Rattle.c_typed.specs.Typed.{ElementTrees, ItemTrees, StmtTree, no_items, stmt_then}
 use Rattle.c_static.specs.declared.operand.Operand.{Operand}
-use Rattle.c_scope.specs.Scopes.{Name, with_declaration}
+use Rattle.c_scope.specs.Scopes.{Name}
 use Rattle.c_elaboration.specs.declared.dimension.Dimension.{Dimension}
 use Rattle.c_elaboration.specs.declared.meaning.Meaning.{Meaning}
 use Rattle.c_elaboration.specs.declared.meaning.Meaning.TheVariants as means
-use Rattle.c_elaboration.specs.declared.rule.Rule.{Rule}
-use Rattle.c_elaboration.specs.declared.rule.Rule.TheVariants.{Redeclared, BadInitialiser, BadType, BadOperands, BadReturn, BadJump, NotConstant, BadLabel}
-use Rattle.c_elaboration.specs.State.{MaybeType, Variable, State, Elaborated, pure, breaks_if, broken_at, or_broken, if_some, changed_by, changed, variable_in, change_variable, add_variable, declare, within_scope}
+use Rattle.c_elaboration.specs.declared.rule.Rule.TheVariants.{Redeclared, BadInitialiser, BadType, BadReturn, BadJump, NotConstant, BadLabel}
+use Rattle.c_elaboration.specs.State.{MaybeType, Variable, State, pure, breaks_if, broken_at, or_broken, if_some, changed_by, variable_in, change_variable, add_variable, declare}
 use Rattle.c_elaboration.specs.Leaves.{offset_of, begin_of, name_of, characters_of, count_of, is_present}
 use Rattle.c_elaboration.specs.Specifiers.{Specified, specified_type}
 use Rattle.c_elaboration.specs.DeclaredTypes.{is_object_of, arrays_of, sizes_of, type_if, small_type, unless_empty, starred, object_type, other_is_empty, first_is_empty}
 use Rattle.c_elaboration.specs.Operands.{Term, term_constant}
-use Rattle.c_elaboration.specs.Expressions.{more_characters, size, expression, expressions}
-use Rattle.c_elaboration.specs.Initialisers as initial
-use Rattle.c_elaboration.specs.Initialisers.{Elements, converted, value_read, value, character_array, characters, string_for, sets_to_zero, count_in, part_of, part_at, parts_of, takes, list_for, initialiser, elements, completed}
+use Rattle.c_elaboration.specs.Expressions.{more_characters, expression, expressions}
+use Rattle.c_elaboration.specs.Initialisers.{converted, value_read, value, character_array, characters, string_for, sets_to_zero, count_in, part_of, part_at, parts_of, takes, list_for, initialiser, elements, completed}
 use Rattle.c_elaboration.specs.Declarators.{open_dimension, open_dimensions, completed_type, initialise_variable, variable_declarator, declarator, more_declarators, locals, is_fixed}
 use Rattle.c_elaboration.specs.Statements.{Jumps, in_loop, in_switch, whole, condition, subject, condition_clause, value_clause, jump, gives_none, returned, Labels, next_group, case_label, label, more_labels, Groups, for_start, statement, items, groups, group}
-use Rattle.c_sound.proofs.lemmas.States.{Step, stay, step_then, AreSame, same_length}
+use Rattle.c_sound.proofs.lemmas.States.{Step, stay, step_then}
 use Rattle.c_sound.proofs.lemmas.Steps.{Steps, breaks_if_steps, or_broken_steps, if_some_steps, type_if_steps, small_type_steps, starred_steps, size_steps, expression_steps, expressions_steps, specified_type_steps}
 use Rattle.c_sound.proofs.lemmas.Terms.{get_end}
-use Rattle.c_sound.proofs.lemmas.Later.{AreMore, Later, Still, later_then, still_then, step_still, stay_still, more_length, HasScope, still_has_scope, entered, within_still, add_variable_later, declare_after, declared_scope}
+use Rattle.c_sound.proofs.lemmas.Later.{AreMore, Later, Still, later_then, still_then, step_still, stay_still, HasScope, still_has_scope, entered, within_still, add_variable_later, declare_after}
 
 -- ---- initialisers only take steps
 
@@ -68,9 +64,11 @@ mutual
       by_test (sets_to_zero t items) (elements_steps is_static t n items s)
     where
       by_test : (b : Bool) → Step s (elements is_static t n items s).1 →
-          Step s ((if b then pure (Some typed.no_elements) else (λ s. (if_some (elements is_static t n items s).0 (list_for t (offset_of opening) (count_in items)) (elements is_static t n items s).1))) s).1
+          Step s ((if b then pure (Some typed.no_elements) else (λ s. (if_some (elements is_static t n items s).0 (list_for t (offset_of opening) (count_in items))
+          (elements is_static t n items s).1))) s).1
       by_test true h = stay s
-      by_test false h = let r = elements is_static t n items s in step_then s r.1 _ h (if_some_steps r.0 (list_for t (offset_of opening) (count_in items)) (list_for_steps t (offset_of opening) (count_in items)) r.1)
+      by_test false h = let r = elements is_static t n items s in step_then s r.1 _ h (if_some_steps r.0 (list_for t (offset_of opening) (count_in items)) (list_for_steps t (offset_of opening)
+          (count_in items)) r.1)
   initialiser_steps is_static t n (Node l.Text (Cons x (Cons xs none))) s =
       string_for_steps is_static t n (Node l.Text (Cons x (Cons xs none))) (characters_of x ++ more_characters xs) (option_and_then character_array t) s
   initialiser_steps is_static t n x s = value_steps is_static t n x s
@@ -164,7 +162,8 @@ initialise_later s t offset u (Node (l.Present o) (Cons equal (Cons x none))) h 
     change_new s w.1 _ (begun_step s es.1 w.1 a (completed_type_steps offset x u es.1))
 initialise_later s t offset u x h = h.later
 
-variable_declarator_later : (x : Specified) (is_const : Bool) (stars : ℕ) (name : Name) (offset : ℕ) (bounds begun : Tree) (s : State) → Later s (variable_declarator x is_const stars name offset bounds begun s).1
+variable_declarator_later : (x : Specified) (is_const : Bool) (stars : ℕ) (name : Name) (offset : ℕ) (bounds begun : Tree) (s : State) →
+    Later s (variable_declarator x is_const stars name offset bounds begun s).1
 variable_declarator_later x is_const stars name offset bounds begun s =
     let ds = open_dimensions bounds s in
     let t = object_type (is_present begun) offset x stars ds.0 ds.1 in
@@ -323,7 +322,7 @@ mutual
       still_then s x.1 _ first (group_still j x.0 t x.1 w.1.0 (still_has_scope s x.1 first.scopes h))
   groups_still j t s w h = stay_still s
 
-  group_still : (j : Jumps) (x : Groups) (t : Tree) (s : State) → WellGrouped t → HasScope s → Still s (group j x t s).1
+  pub group_still : (j : Jumps) (x : Groups) (t : Tree) (s : State) → WellGrouped t → HasScope s → Still s (group j x t s).1
   group_still j x (Node l.Group (Cons first (Cons more (Cons t (Cons ts none))))) s w h =
       let y = label (next_group x.labels) first s in
       let z = more_labels y.0 more y.1 in
