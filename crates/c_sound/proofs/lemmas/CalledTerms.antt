@@ -40,7 +40,7 @@ called_as_fits : (e : Ending) (ds : List Declared) (k : ℕ) (callee : Option Ca
 called_as_fits e ds k None h = tt
 called_as_fits e ds k (Some callee) h = h
 
-called_term_fits : (e : Ending) (ds : List Declared) (a : Term) → CalledFits e ds (called_term a)
+pub called_term_fits : (e : Ending) (ds : List Declared) (a : Term) → CalledFits e ds (called_term a)
 called_term_fits e ds None = tt
 called_term_fits e ds (Some a) = tt
 
@@ -66,9 +66,6 @@ called_meant_fits e c name offset (Some (means.Global k is_const)) s here q =
 
 pub called_name_fits : (e : Ending) (c : Scope) (name : Name) (offset : ℕ) (s : State) → At e c s → CalledFits e s.declared (called_name name offset s).0
 called_name_fits e c name offset s here = called_meant_fits e c name offset (meaning s.scopes name) s here refl
-
-pub called_expression_fits : (e : Ending) (ds : List Declared) (a : Term) → CalledFits e ds (called_term a)
-called_expression_fits = called_term_fits
 
 -- ---- the call
 

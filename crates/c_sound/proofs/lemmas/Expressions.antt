@@ -14,7 +14,7 @@ use Rattle.c_sound.specs.TypedOperands.{IfSome}
 use Rattle.c_sound.proofs.lemmas.States.{Ending, Fits, fits_back, At, at_step, objects_fit}
 use Rattle.c_sound.proofs.lemmas.Steps.{indexed_steps, called_name_steps, called_steps, selected_steps, stepped_steps, unary_steps, cast_steps, binary_steps, conditional_steps, assigned_steps, comma_steps, expression_steps, expressions_steps, more_expressions_steps, arguments_steps, more_arguments_steps, type_name_steps}
 use Rattle.c_sound.proofs.lemmas.Terms.{TermFits, InRange, named_typed, constant_typed, string_typed, binary_term, conditional_term, indexed_term, cast_term, measured_term, unary_term, stepped_term, assigned_term, selected_term, SequenceFits, first_fits, comma_term, sequence_typed, AllFit}
-use Rattle.c_sound.proofs.lemmas.CalledTerms.{CalledFits, called_name_fits, called_expression_fits, called_typed}
+use Rattle.c_sound.proofs.lemmas.CalledTerms.{CalledFits, called_name_fits, called_term_fits, called_typed}
 
 all_append : (c : Scope) (xs : List Term) (a : Term) → AllFit c xs → TermFits c a → AllFit c (xs ++ a ∷ [])
 all_append c [] a h k = (k, tt)
@@ -51,7 +51,7 @@ mutual
       let fe = fits_back e es.1 _ (called_steps (offset_of opening) (called_term f.0) es.0 es.1) fit in
       let hf = at_step e c s f.1 (expression_steps function s) h in
       let he = at_step e c f.1 es.1 (arguments_steps xs f.1) hf in
-      called_typed e c (offset_of opening) (called_term f.0) es.0 es.1 he (objects_fit e c es.1 he fe) (called_expression_fits e es.1.declared f.0) (arguments_typed e c xs f.1 r.1.1.0 hf fe)
+      called_typed e c (offset_of opening) (called_term f.0) es.0 es.1 he (objects_fit e c es.1 he fe) (called_term_fits e es.1.declared f.0) (arguments_typed e c xs f.1 r.1.1.0 hf fe)
   expression_typed e c (Node l.Dot (Cons object (Cons o (Cons x more)))) s r h fit =
       let a = expression object s in
       let fa = fits_back e a.1 _ (selected_steps (punct_of o) (offset_of o) (name_of x) (offset_of x) a.0 a.1) fit in

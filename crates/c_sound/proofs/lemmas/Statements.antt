@@ -206,7 +206,9 @@ returned_typed e c q offset (Node (l.Present k) (Cons x none)) s r h fit =
   where
     by_term : (a : Term) (u : State) → ObjectsFit c → TermFits c a → StmtIsTyped c q (return_stmt (if_some a (λ y. or_broken BadReturn offset (passed q.result y)) u).0)
     by_term None u fit ty = tt
-    by_term (Some a) u fit ty = return_stmt_typed c q (or_broken BadReturn offset (passed q.result a) u).0 (or_broken_holds (ResultOf c q.result) BadReturn offset (passed q.result a) u (result_typed c q.result a fit ty))
+    by_term (Some a) u fit ty =
+        return_stmt_typed c q (or_broken BadReturn offset (passed q.result a) u).0
+        (or_broken_holds (ResultOf c q.result) BadReturn offset (passed q.result a) u (result_typed c q.result a fit ty))
 returned_typed e c q offset x s r h fit = is_void_type q.result (not_wrong (if is_void q.result then false else true) BadReturn offset s fit.clean)
 
 -- ---- statements
@@ -312,8 +314,10 @@ mutual
         body,
       ) in
       lead_typed c o.scope q (items_joined is.0 (stmt_then (typed.loop (optional d.0) (optional step.0) b.0) no_items)) (lead_joined c o.scope o.scope q is.0 _ o.lead (turn, refl))
-  statement_typed e ls c j q (Node l.Break (Cons word more)) s r w g m h ends = sym m.breaks ∙ allowed j.may_break (not_wrong (if j.may_break then false else true) BadJump (offset_of word) s ends.fits.clean)
-  statement_typed e ls c j q (Node l.Continue (Cons word more)) s r w g m h ends = sym m.continues ∙ allowed j.may_continue (not_wrong (if j.may_continue then false else true) BadJump (offset_of word) s ends.fits.clean)
+  statement_typed e ls c j q (Node l.Break (Cons word more)) s r w g m h ends =
+      sym m.breaks ∙ allowed j.may_break (not_wrong (if j.may_break then false else true) BadJump (offset_of word) s ends.fits.clean)
+  statement_typed e ls c j q (Node l.Continue (Cons word more)) s r w g m h ends =
+      sym m.continues ∙ allowed j.may_continue (not_wrong (if j.may_continue then false else true) BadJump (offset_of word) s ends.fits.clean)
   statement_typed e ls c j q (Node l.Return (Cons word (Cons x more))) s r w g m h ends =
       subst (λ t. Fits e (returned t (offset_of word) x s).1 → StmtIsTyped c q (returned t (offset_of word) x s).0) (sym m.result) (returned_typed e c q (offset_of word) x s r.1.0 h) ends.fits
   statement_typed e ls c j q (Node l.Switch (Cons word (Cons opening (Cons x (Cons closing (Cons begin (Cons gs more))))))) s r w g m h ends =
