@@ -13,3 +13,4 @@ pub mod StatementSteps
 pub mod ConstantWords
 pub mod Labels
 pub mod Statements
+pub mod Shapes
