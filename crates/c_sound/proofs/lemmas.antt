@@ -14,3 +14,4 @@ pub mod ConstantWords
 pub mod Labels
 pub mod Statements
 pub mod Shapes
+pub mod ExpressionShapes
