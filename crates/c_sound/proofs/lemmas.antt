@@ -15,3 +15,4 @@ pub mod Labels
 pub mod Statements
 pub mod Shapes
 pub mod ExpressionShapes
+pub mod There

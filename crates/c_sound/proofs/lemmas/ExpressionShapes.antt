@@ -68,3 +68,9 @@ includes_small (class.Binary level) b h e = grind (arith, nat_tests, e, h)
 includes_small class.Cond b h e = grind (arith, nat_tests, e)
 includes_small class.Assign b h e = grind (arith, nat_tests, e)
 includes_small c b h e = absurd (omega (arith, h))
+
+-- A tree of a nonterminal of operands is an expression.
+pub operand_is_expression : (c : class.Nonterminal) (t : Tree) → class.nonterminal_number c ≤ 14 → grammar.Fits (grammar.One c) t → IsExpression t
+unfolding grammar.Fits grammar.allowed
+operand_is_expression c (Node p children) h f = (small_production p (includes_small c (grammar.rule p).of h f.0), f.2)
+operand_is_expression c t h f = absurd f

@@ -117,7 +117,7 @@ pub record SameAt (v : Variable) (ws : List Variable) (k : ℕ) : Type 0 where
   pub type : later.type ≡ v.type
   pub taken : v.is_taken ≡ true → later.is_taken ≡ true
 
-same_at : (vs ws : List Variable) (k : ℕ) (v : Variable) → AreSame vs ws → slice_get vs k ≡ Some v → SameAt v ws k
+pub same_at : (vs ws : List Variable) (k : ℕ) (v : Variable) → AreSame vs ws → slice_get vs k ≡ Some v → SameAt v ws k
 same_at [] ws k v a e = absurd (cc)
 same_at (u ∷ vs) [] k v a e = absurd a
 same_at (u ∷ vs) (w ∷ ws) zero v a e = let same : u ≡ v = cc in subst (λ v. SameAt v (w ∷ ws) zero) same (record { later = w; there = refl; type = a.0; taken = a.1 })
