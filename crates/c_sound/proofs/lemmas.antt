@@ -16,3 +16,4 @@ pub mod Statements
 pub mod Shapes
 pub mod ExpressionShapes
 pub mod There
+pub mod ThereExpressions

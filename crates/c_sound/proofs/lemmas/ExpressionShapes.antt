@@ -1,11 +1,10 @@
 -- Trees of expressions, by the grammar.
-use Rattle.std.proofs.Common.{◌≡◌, ◌≤◌, ℕ, ◌+◌, Bool, true, false, List, [], ◌∷◌, refl, sym, ap, ◌∙◌, subst, arith}
-use Rattle.std.specs.Prelude.{◌==◌, ◌&&◌, ◌||◌, nat_le}
-use Rattle.std.proofs.lemmas.Bool.{false≢true}
+use Rattle.std.proofs.Common.{◌≡◌, ◌≤◌, ◌⊎◌, inl, inr, Bool, true, false, refl, arith}
+use Rattle.std.specs.Prelude.{◌==◌}
 use Rattle.std.proofs.lemmas.Bool.Decides.{nat_tests}
 use Rattle.c_ast.specs.Productions as l
 use Rattle.c_ast.specs.Nonterminals as class
-use Rattle.c_ast.specs.Tree.{Tree, Leaf, Node, Nil, Cons}
+use Rattle.c_ast.specs.Tree.{Tree, Node}
 use Rattle.c_ast.specs.Grammar as grammar
 
 -- the productions of expressions without commas
@@ -74,3 +73,188 @@ pub operand_is_expression : (c : class.Nonterminal) (t : Tree) → class.nonterm
 unfolding grammar.Fits grammar.allowed
 operand_is_expression c (Node p children) h f = (small_production p (includes_small c (grammar.rule p).of h f.0), f.2)
 operand_is_expression c t h f = absurd f
+
+-- ---- the nonterminals of operands
+
+pub postfix_small : class.nonterminal_number class.Postfix ≤ 14
+unfolding class.nonterminal_number
+postfix_small = omega arith
+
+pub unary_small : class.nonterminal_number class.Unary ≤ 14
+unfolding class.nonterminal_number
+unary_small = omega arith
+
+pub cast_small : class.nonterminal_number class.Cast ≤ 14
+unfolding class.nonterminal_number
+cast_small = omega arith
+
+pub cond_small : class.nonterminal_number class.Cond ≤ 14
+unfolding class.nonterminal_number
+cond_small = omega arith
+
+pub assign_small : class.nonterminal_number class.Assign ≤ 14
+unfolding class.nonterminal_number
+assign_small = omega arith
+
+pub binary_small : (level : l.Level) → class.nonterminal_number (class.Binary level) ≤ 14
+unfolding class.nonterminal_number class.level_number
+binary_small l.Multiplicative = omega arith
+binary_small l.Additive = omega arith
+binary_small l.Shift = omega arith
+binary_small l.Relational = omega arith
+binary_small l.Equality = omega arith
+binary_small l.BitAnd = omega arith
+binary_small l.BitXor = omega arith
+binary_small l.BitOr = omega arith
+binary_small l.LogicalAnd = omega arith
+binary_small l.LogicalOr = omega arith
+
+pub tighter_small : (level : l.Level) → class.nonterminal_number (grammar.tighter level) ≤ 14
+unfolding class.nonterminal_number class.level_number grammar.tighter
+tighter_small l.Multiplicative = omega arith
+tighter_small l.Additive = omega arith
+tighter_small l.Shift = omega arith
+tighter_small l.Relational = omega arith
+tighter_small l.Equality = omega arith
+tighter_small l.BitAnd = omega arith
+tighter_small l.BitXor = omega arith
+tighter_small l.BitOr = omega arith
+tighter_small l.LogicalAnd = omega arith
+tighter_small l.LogicalOr = omega arith
+
+-- ---- other nonterminals
+
+level_small : (level : l.Level) → class.level_number level ≤ 9
+unfolding class.level_number
+level_small l.Multiplicative = omega arith
+level_small l.Additive = omega arith
+level_small l.Shift = omega arith
+level_small l.Relational = omega arith
+level_small l.Equality = omega arith
+level_small l.BitAnd = omega arith
+level_small l.BitXor = omega arith
+level_small l.BitOr = omega arith
+level_small l.LogicalAnd = omega arith
+level_small l.LogicalOr = omega arith
+
+repeated_small : (k : l.Repeated) → class.repeated_number k ≤ 13
+unfolding class.repeated_number
+repeated_small l.Externals = omega arith
+repeated_small l.MoreMembers = omega arith
+repeated_small l.MoreMember = omega arith
+repeated_small l.Stars = omega arith
+repeated_small l.Dimensions = omega arith
+repeated_small l.OpenDimensions = omega arith
+repeated_small l.MoreDecls = omega arith
+repeated_small l.MoreParams = omega arith
+repeated_small l.Items = omega arith
+repeated_small l.Groups = omega arith
+repeated_small l.MoreLabels = omega arith
+repeated_small l.MoreStmts = omega arith
+repeated_small l.MoreAssigns = omega arith
+repeated_small l.MoreLiterals = omega arith
+
+-- such a nonterminal has no alternatives but itself
+expr_number : (b : class.Nonterminal) → class.includes class.Expr b ≡ true → class.nonterminal_number b ≡ 15
+unfolding class.includes class.same_nonterminal class.nonterminal_number
+expr_number b e = grind (arith, nat_tests, e)
+
+arguments_number : (b : class.Nonterminal) → class.includes (class.Opt l.Arguments) b ≡ true → class.nonterminal_number b ≡ 78
+unfolding class.includes class.same_nonterminal class.nonterminal_number class.optional_number
+arguments_number b e = grind (arith, nat_tests, e)
+
+assigns_number : (b : class.Nonterminal) → class.includes (class.Many l.MoreAssigns) b ≡ true → class.nonterminal_number b ≡ 62
+unfolding class.includes class.same_nonterminal class.nonterminal_number class.repeated_number
+assigns_number b e = grind (arith, nat_tests, e)
+
+-- an expression with commas
+abbrev pub IsExpressions : Tree → Type 0
+IsExpressions (Node l.Expr children) = grammar.Fits (grammar.All (grammar.symbols_of l.Expr)) children
+IsExpressions t = ⊥
+
+pub is_expressions : (t : Tree) → grammar.Fits (grammar.One class.Expr) t → IsExpressions t
+unfolding grammar.Fits grammar.allowed grammar.rule class.nonterminal_number
+is_expressions (Node l.Expr children) f = f.2
+is_expressions (Node (l.Binary level) children) f = absurd (omega (arith, expr_number (class.Binary level) f.0, level_small level))
+is_expressions (Node p children) f = absurd (omega (arith, expr_number (grammar.rule p).of f.0))
+is_expressions t f = absurd f
+
+-- the arguments of a call
+abbrev pub AreArguments : Tree → Type 0
+AreArguments (Node (l.Present l.Arguments) children) = grammar.Fits (grammar.All (grammar.symbols_of (l.Present l.Arguments))) children
+AreArguments (Node (l.Absent k) children) = Unit {0}
+AreArguments t = ⊥
+
+pub are_arguments : (t : Tree) → grammar.Fits (grammar.One (class.Opt l.Arguments)) t → AreArguments t
+unfolding grammar.Fits grammar.allowed grammar.rule class.nonterminal_number class.optional_number
+are_arguments (Node (l.Present l.Arguments) children) f = f.2
+are_arguments (Node (l.Present k) children) f = absurd (omega (arith, arguments_number (class.Opt k) f.0))
+are_arguments (Node (l.Absent k) children) f = tt
+are_arguments (Node (l.Binary level) children) f = absurd (omega (arith, arguments_number (class.Binary level) f.0, level_small level))
+are_arguments (Node (l.Empty k) children) f = absurd (omega (arith, arguments_number (class.Many k) f.0, repeated_small k))
+are_arguments (Node (l.More k) children) f = absurd (omega (arith, arguments_number (class.Many k) f.0, repeated_small k))
+are_arguments (Node p children) f = absurd (omega (arith, arguments_number (grammar.rule p).of f.0))
+are_arguments t f = absurd f
+
+-- more of them, each after a comma
+abbrev pub AreMoreAssigns : Tree → Type 0
+AreMoreAssigns (Node (l.More l.MoreAssigns) children) = grammar.Fits (grammar.All (grammar.symbols_of (l.More l.MoreAssigns))) children
+AreMoreAssigns (Node (l.Empty k) children) = Unit {0}
+AreMoreAssigns t = ⊥
+
+pub are_more_assigns : (t : Tree) → grammar.Fits (grammar.One (class.Many l.MoreAssigns)) t → AreMoreAssigns t
+unfolding grammar.Fits grammar.allowed grammar.rule class.nonterminal_number class.repeated_number
+are_more_assigns (Node (l.More l.MoreAssigns) children) f = f.2
+are_more_assigns (Node (l.More k) children) f = absurd (omega (arith, assigns_number (class.Many k) f.0))
+are_more_assigns (Node (l.Empty k) children) f = tt
+are_more_assigns (Node (l.Binary level) children) f = absurd (omega (arith, assigns_number (class.Binary level) f.0, level_small level))
+are_more_assigns (Node p children) f = absurd (omega (arith, assigns_number (grammar.rule p).of f.0))
+are_more_assigns t f = absurd f
+
+-- a type name
+type_number : (b : class.Nonterminal) → class.includes class.TypeName b ≡ true → class.nonterminal_number b ≡ 34
+unfolding class.includes class.same_nonterminal class.nonterminal_number
+type_number b e = grind (arith, nat_tests, e)
+
+abbrev pub IsTypeName : Tree → Type 0
+IsTypeName (Node l.TypeName children) = grammar.Fits (grammar.All (grammar.symbols_of l.TypeName)) children
+IsTypeName t = ⊥
+
+pub is_type_name : (t : Tree) → grammar.Fits (grammar.One class.TypeName) t → IsTypeName t
+unfolding grammar.Fits grammar.allowed grammar.rule class.nonterminal_number
+is_type_name (Node l.TypeName children) f = f.2
+is_type_name (Node (l.Binary level) children) f = absurd (omega (arith, type_number (class.Binary level) f.0, level_small level))
+is_type_name (Node p children) f = absurd (omega (arith, type_number (grammar.rule p).of f.0))
+is_type_name t f = absurd f
+
+-- what follows `sizeof`: a type name in parentheses, or an expression
+sizeof_number : (b : class.Nonterminal) → class.includes class.SizeofOperand b ≡ true → (class.nonterminal_number b ≡ 16) ⊎ (class.nonterminal_number b ≤ 14)
+unfolding class.includes class.same_nonterminal class.nonterminal_number
+sizeof_number b e = by_test (class.nonterminal_number b == 16) refl
+  where
+    by_test : (t : Bool) → (class.nonterminal_number b == 16) ≡ t → (class.nonterminal_number b ≡ 16) ⊎ (class.nonterminal_number b ≤ 14)
+    by_test true q = inl (grind (arith, nat_tests, q))
+    by_test false q = inr (grind (arith, nat_tests, e, q))
+
+sizeof_alone : (p : l.Production) → class.nonterminal_number (grammar.rule p).of ≡ 16 → p ≡ l.SizeofType
+unfolding grammar.rule class.nonterminal_number class.level_number
+sizeof_alone l.SizeofType h = refl
+sizeof_alone (l.Binary level) h = absurd (binary_number level h)
+  where
+    binary_number : (level : l.Level) → class.nonterminal_number (class.Binary level) ≡ 16 → ⊥
+    binary_number level h = omega (arith, h, level_small level)
+sizeof_alone p h = absurd (omega (arith, h))
+
+abbrev pub IsSizeofOperand : Tree → Type 0
+IsSizeofOperand (Node l.SizeofType children) = grammar.Fits (grammar.All (grammar.symbols_of l.SizeofType)) children
+IsSizeofOperand t = IsExpression t
+
+pub is_sizeof_operand : (t : Tree) → grammar.Fits (grammar.One class.SizeofOperand) t → IsSizeofOperand t
+unfolding grammar.Fits grammar.allowed
+is_sizeof_operand (Node l.SizeofType children) f = f.2
+is_sizeof_operand (Node p children) f = (by_number (sizeof_number (grammar.rule p).of f.0), f.2)
+  where
+    by_number : (class.nonterminal_number (grammar.rule p).of ≡ 16) ⊎ (class.nonterminal_number (grammar.rule p).of ≤ 14) → is_expression p ≡ true
+    by_number (inr h) = small_production p h
+    by_number (inl h) = absurd (let e = sizeof_alone p h in cc)
+is_sizeof_operand t f = absurd f

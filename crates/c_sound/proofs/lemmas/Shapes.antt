@@ -1,15 +1,14 @@
 -- What the grammar says of trees that the checker goes on.
-use Rattle.std.proofs.Common.{◌≡◌, ℕ, Bool, true, false, List, [], ◌∷◌, ◌++◌, map, refl, sym, ap, ◌∙◌, subst}
+use Rattle.std.proofs.Common.{List, [], ◌∷◌}
 use Rattle.std.specs.Prelude.{All}
 use Rattle.std.proofs.lemmas.Bool.{false≢true}
 use Rattle.std.proofs.lemmas.List.Elements.{All-head, All-tail}
 use Rattle.c_lex.specs.declared.token.Token.{Token}
-use Rattle.c_lex.specs.declared.token.TokenKind.{TokenKind}
 use Rattle.c_ast.specs.Productions as l
 use Rattle.c_ast.specs.Nonterminals as class
 use Rattle.c_ast.specs.Tree.{Tree, Leaf, Node, Nil, Cons}
 use Rattle.c_ast.specs.Grammar as grammar
-use Rattle.c_ast.specs.Spelling.{spelled, tokens_of, kinds, spell}
+use Rattle.c_ast.specs.Spelling.{spelled, kinds, spell}
 use Rattle.c_elaboration.specs.CheckLaws.{IsInRange}
 use Rattle.c_sound.proofs.lemmas.Terms.{InRange}
 use Rattle.c_sound.proofs.lemmas.StatementSteps.{StatementsOnly, WellGrouped}
@@ -45,12 +44,11 @@ statements_only t h = tt
 
 pub well_grouped : (f : grammar.Form) (t : Tree) → grammar.Fits f t → WellGrouped t
 unfolding grammar.Fits grammar.symbols_of grammar.rule
-well_grouped (grammar.One c) (Node l.Group (Cons first (Cons more (Cons t (Cons ts none))))) h =
-    (
-      statements_only ts h.2.1.1.1.0,
-      well_grouped (grammar.One class.Stmt) t h.2.1.1.0,
-      well_grouped (grammar.One (class.Many l.MoreStmts)) ts h.2.1.1.1.0,
-    )
+well_grouped (grammar.One c) (Node l.Group (Cons first (Cons more (Cons t (Cons ts none))))) h = (
+  statements_only ts h.2.1.1.1.0,
+  well_grouped (grammar.One class.Stmt) t h.2.1.1.0,
+  well_grouped (grammar.One (class.Many l.MoreStmts)) ts h.2.1.1.1.0,
+)
 well_grouped (grammar.One c) (Node p children) h = well_grouped (grammar.All (grammar.symbols_of p)) children h.2
 well_grouped (grammar.All []) Nil h = tt
 well_grouped (grammar.All (grammar.T s ∷ ss)) (Cons (Leaf x) children) h = (tt, well_grouped (grammar.All ss) children h.1)

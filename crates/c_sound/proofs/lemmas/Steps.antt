@@ -257,7 +257,7 @@ pub starred_steps : (x : Specified) (stars offset : ℕ) → Steps (starred x st
 starred_steps x zero offset s = unstarred_steps x.undeclared x.type s
 starred_steps x (suc n) offset s = type_if_steps (is_void x.type) offset (pointers_to x.type (suc n)) s
 
-named_type_steps : (offset : ℕ) (x : Specified) (stars : ℕ) (ns : List MaybeSize) → Steps (named_type offset x stars ns)
+pub named_type_steps : (offset : ℕ) (x : Specified) (stars : ℕ) (ns : List MaybeSize) → Steps (named_type offset x stars ns)
 named_type_steps offset x stars ns s = let r = starred x stars offset s in step_then s r.1 _ (starred_steps x stars offset s) (if_some_steps (arrays_of r.0 ns) (small_type offset)
     (small_type_steps offset) r.1)
 

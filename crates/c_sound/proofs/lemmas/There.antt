@@ -1,6 +1,6 @@
 -- What an expression is, is there where no rule is broken.
-use Rattle.std.proofs.Common.{◌≡◌, ◌≤◌, ℕ, zero, suc, Bool, true, false, List, [], ◌∷◌, ◌++◌, length, refl, sym, ap, ◌∙◌, subst, arith}
-use Rattle.std.specs.Prelude.{◌&&◌, slice_get, Option, None, Some, option_map, option_and_then, unwrap_or, if◌then◌else◌}
+use Rattle.std.proofs.Common.{◌≡◌, ℕ, zero, suc, Bool, true, false, List, [], ◌∷◌, refl, sym, ap, ◌∙◌, subst}
+use Rattle.std.specs.Prelude.{slice_get, Option, None, Some, option_map, option_and_then, if◌then◌else◌}
 use Rattle.std.proofs.lemmas.Bool.{false≢true, and_parts}
 use Rattle.c_lex.specs.declared.punct.Punct.{Punct}
 use Rattle.c_lex.specs.declared.punct.Punct.TheVariants as mark
@@ -23,10 +23,10 @@ use Rattle.c_elaboration.specs.declared.call.Callee.{Callee}
 use Rattle.c_elaboration.specs.declared.call.Called.{Called}
 use Rattle.c_elaboration.specs.declared.call.Called.TheVariants as calls
 use Rattle.c_elaboration.specs.State.{MaybeType, Declared, Global, Variable, State, pure, broken_at, or_broken, if_some, variable_in, change_variable}
-use Rattle.c_elaboration.specs.Operands.{Term, term_of, term_meant, named, binary, conditional, indexed, cast, measured, take_address, address, unary_of, unary, target, stepped, assigned, member_numbered, member_named, selected, Sequence, first_of, followed_by, comma, sequence_term}
+use Rattle.c_elaboration.specs.Operands.{Term, term_of, term_meant, named, binary, conditional, indexed, cast, measured, take_address, unary_of, unary, target, stepped, assigned, member_numbered, member_named, selected, Sequence, first_of, followed_by, comma, sequence_term}
 use Rattle.c_elaboration.specs.Calls.{callee_of, callee_numbered, called_as, called_term, called_meant, called_name, passed, fits, all_fit, is_some_of, passed_as, all_passed, call_form, call_term, call_of, called}
-use Rattle.c_sound.proofs.lemmas.States.{AllTypes, Step, SameAt, same_at}
-use Rattle.c_sound.proofs.lemmas.Steps.{or_broken_steps, change_variable_steps, named_keeps, take_address_steps, target_steps, if_some_steps, member_numbered_steps}
+use Rattle.c_sound.proofs.lemmas.States.{AllTypes, Step, same_at}
+use Rattle.c_sound.proofs.lemmas.Steps.{or_broken_steps, change_variable_steps, named_keeps, if_some_steps}
 
 abbrev pub IsThere : {A : Type 0} → Option A → Type 0
 IsThere None = ⊥
@@ -66,9 +66,9 @@ variable_step s t k a h = let r = same_at s.variables t.variables k h.variable a
 pub typed_step : (s t : State) → Step s t → NamesTyped s → NamesTyped t
 typed_step s t a h = record {
   variables = λ name slot b m.
-  subst (λ ks. VariableTyped t (variable_in ks slot)) (sym a.slots) (variable_step s t (variable_in s.slots slot) a (h.variables name slot b (sym (ap (λ q. meaning q name) a.scopes) ∙ m)));
+      subst (λ ks. VariableTyped t (variable_in ks slot)) (sym a.slots) (variable_step s t (variable_in s.slots slot) a (h.variables name slot b (sym (ap (λ q. meaning q name) a.scopes) ∙ m)));
   globals = λ name k b m.
-  let g = h.globals name k b (sym (ap (λ q. meaning q name) a.scopes) ∙ m) in record { declared = g.declared; there = a.globals k g.declared g.there; type = g.type; has = g.has };
+      let g = h.globals name k b (sym (ap (λ q. meaning q name) a.scopes) ∙ m) in record { declared = g.declared; there = a.globals k g.declared g.there; type = g.type; has = g.has };
   functions = λ name k m. subst (λ ds. FunctionTyped ds k) (sym a.declared) (h.functions name k (sym (ap (λ q. meaning q name) a.scopes) ∙ m));
 }
 
@@ -80,7 +80,7 @@ or_broken_there rule offset (Some a) s h = tt
 
 -- ---- names
 
-map_there : {A B : Type 0} → (f : A → B) (o : Option A) → IsThere o → IsThere (option_map f o)
+pub map_there : {A B : Type 0} → (f : A → B) (o : Option A) → IsThere o → IsThere (option_map f o)
 map_there f None h = h
 map_there f (Some a) h = tt
 
@@ -148,7 +148,8 @@ target_there offset (Some a) s h clean = by_test (is_assignable a) clean
 pub stepped_there : (o : Punct) (offset : ℕ) (gives_old : Bool) (a : Term) (s : State) → IsThere a → (stepped o offset gives_old a s).1.broken ≡ None → IsThere (stepped o offset gives_old a s).0
 stepped_there o offset gives_old a s h clean =
     let r = target offset a s in
-    by_target r.0 r.1 (target_there offset a s h ((if_some_steps r.0 (λ x. or_broken BadOperands offset (term_of (step_typed s.structs o gives_old x))) (λ x. or_broken_steps BadOperands offset _) r.1).broken clean)) clean
+    by_target r.0 r.1 (target_there offset a s h ((if_some_steps r.0 (λ x. or_broken BadOperands offset (term_of (step_typed s.structs o gives_old x)))
+    (λ x. or_broken_steps BadOperands offset _) r.1).broken clean)) clean
   where
     by_target : (t : Term) (u : State) → IsThere t → (if_some t (λ x. or_broken BadOperands offset (term_of (step_typed s.structs o gives_old x))) u).1.broken ≡ None →
         IsThere (if_some t (λ x. or_broken BadOperands offset (term_of (step_typed s.structs o gives_old x))) u).0
@@ -158,7 +159,8 @@ stepped_there o offset gives_old a s h clean =
 pub assigned_there : (o : Punct) (offset : ℕ) (a b : Term) (s : State) → IsThere a → IsThere b → (assigned o offset a b s).1.broken ≡ None → IsThere (assigned o offset a b s).0
 assigned_there o offset a b s h k clean =
     let r = target offset a s in
-    by_target r.0 b r.1 (target_there offset a s h ((if_some_steps r.0 (λ x. if_some b (λ y. or_broken BadOperands offset (term_of (assigned_typed s.structs o x y)))) (λ x. if_some_steps b _ (λ y. or_broken_steps BadOperands offset _)) r.1).broken clean)) k clean
+    by_target r.0 b r.1 (target_there offset a s h ((if_some_steps r.0 (λ x. if_some b (λ y. or_broken BadOperands offset (term_of (assigned_typed s.structs o x y))))
+    (λ x. if_some_steps b _ (λ y. or_broken_steps BadOperands offset _)) r.1).broken clean)) k clean
   where
     by_target : (t b : Term) (u : State) → IsThere t → IsThere b → (if_some t (λ x. if_some b (λ y. or_broken BadOperands offset (term_of (assigned_typed s.structs o x y)))) u).1.broken ≡ None →
         IsThere (if_some t (λ x. if_some b (λ y. or_broken BadOperands offset (term_of (assigned_typed s.structs o x y)))) u).0
@@ -170,7 +172,8 @@ member_numbered_there : (o : Punct) (offset : ℕ) (a : Operand) (k : Option ℕ
 member_numbered_there o offset a None s clean = absurd (cc)
 member_numbered_there o offset a (Some k) s clean = or_broken_there Unknown offset (member_typed s.structs o a k) s clean
 
-pub selected_there : (o : Punct) (offset : ℕ) (name : Name) (name_offset : ℕ) (a : Term) (s : State) → IsThere a → (selected o offset name name_offset a s).1.broken ≡ None → IsThere (selected o offset name name_offset a s).0
+pub selected_there : (o : Punct) (offset : ℕ) (name : Name) (name_offset : ℕ) (a : Term) (s : State) → IsThere a → (selected o offset name name_offset a s).1.broken ≡ None →
+    IsThere (selected o offset name name_offset a s).0
 selected_there o offset name name_offset None s h clean = absurd h
 selected_there o offset name name_offset (Some a) s h clean = by_tag (selected_tag o a) clean
   where
@@ -222,8 +225,10 @@ pub called_term_there : (ds : List Declared) (a : Term) → IsThere a → Called
 called_term_there ds None h = h
 called_term_there ds (Some a) h = tt
 
-called_meant_there : (name : Name) (offset : ℕ) (m : Option Meaning) (s : State) → NamesTyped s → meaning s.scopes name ≡ m → (called_meant name offset m s).1.broken ≡ None → CalledThere s.declared (called_meant name offset m s).0
-called_meant_there name offset (Some (means.Function k)) s h q clean = called_as_there s.declared k (callee_numbered k name offset s).0 (callee_numbered_there k name offset s clean) (h.functions name k q)
+called_meant_there : (name : Name) (offset : ℕ) (m : Option Meaning) (s : State) → NamesTyped s → meaning s.scopes name ≡ m → (called_meant name offset m s).1.broken ≡ None →
+    CalledThere s.declared (called_meant name offset m s).0
+called_meant_there name offset (Some (means.Function k)) s h q clean = called_as_there s.declared k (callee_numbered k name offset s).0 (callee_numbered_there k name offset s clean)
+    (h.functions name k q)
 called_meant_there name offset None s h q clean = absurd (cc)
 called_meant_there name offset (Some (means.Variable slot b)) s h q clean = called_term_there s.declared (term_meant offset (Some (means.Variable slot b)) s).0 (term_meant_there name offset (Some (means.Variable slot b)) s h q clean)
 called_meant_there name offset (Some (means.Global k b)) s h q clean = called_term_there s.declared (term_meant offset (Some (means.Global k b)) s).0 (term_meant_there name offset (Some (means.Global k b)) s h q clean)
@@ -254,7 +259,8 @@ all_passed_there (t ∷ params) (u ∷ ts) (x ∷ xs) a h f =
     by_parts (Some e) None h k = absurd k
     by_parts (Some e) (Some es) h k = tt
 
-call_term_there : (callee : Callee) (k : ℕ) (ds : List Declared) (f : Declared) (xs : List Term) → FunctionTyped ds k → slice_get ds k ≡ Some f → AllThere xs → all_fit f.params xs ≡ true → IsThere (call_term callee f xs)
+call_term_there : (callee : Callee) (k : ℕ) (ds : List Declared) (f : Declared) (xs : List Term) → FunctionTyped ds k → slice_get ds k ≡ Some f → AllThere xs → all_fit f.params xs ≡ true →
+    IsThere (call_term callee f xs)
 call_term_there callee k ds f xs t there h fit =
     let same : t.function ≡ f = let both : Some t.function ≡ Some f = sym t.there ∙ there in cc in
     by_parts f.result (all_passed f.params xs) (is_there f.result t.result (ap (λ (f : Declared). f.result) (sym same) ∙ t.has))
@@ -265,7 +271,8 @@ call_term_there callee k ds f xs t there h fit =
     by_parts (Some t) None h k = absurd k
     by_parts (Some t) (Some es) h k = tt
 
-call_of_there : (offset : ℕ) (callee : Callee) (k : ℕ) (s : State) (xs : List Term) (f : Option Declared) → FunctionTyped s.declared k → slice_get s.declared k ≡ f → AllThere xs → (call_of offset callee xs f s).1.broken ≡ None →
+call_of_there : (offset : ℕ) (callee : Callee) (k : ℕ) (s : State) (xs : List Term) (f : Option Declared) → FunctionTyped s.declared k → slice_get s.declared k ≡ f → AllThere xs →
+    (call_of offset callee xs f s).1.broken ≡ None →
     IsThere (call_of offset callee xs f s).0
 call_of_there offset callee k s xs None t there h clean = let none : None ≡ Some t.function = sym there ∙ t.there in absurd (cc)
 call_of_there offset callee k s xs (Some f) t there h clean = by_test (all_fit f.params xs) refl clean
