@@ -17,3 +17,4 @@ pub mod Shapes
 pub mod ExpressionShapes
 pub mod There
 pub mod ThereExpressions
+pub mod Types

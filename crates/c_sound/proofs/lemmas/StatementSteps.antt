@@ -83,7 +83,7 @@ mutual
 
 -- ---- declarators
 
-open_dimension_steps : (t : Tree) → Steps (open_dimension t)
+pub open_dimension_steps : (t : Tree) → Steps (open_dimension t)
 open_dimension_steps (Node (l.Present k) (Cons bound none)) s = let a = expression bound s in step_then s a.1 _ (expression_steps bound s) (size_steps (begin_of bound) a.0 a.1)
 open_dimension_steps t s = stay s
 
@@ -92,7 +92,7 @@ open_dimensions_steps (Node (l.More k) (Cons before (Cons opening (Cons bound no
     let ds = open_dimensions before s in step_then s ds.1 _ (open_dimensions_steps before s) (open_dimension_steps bound ds.1)
 open_dimensions_steps t s = stay s
 
-unless_empty_steps : (wrong : Bool) (offset : ℕ) (t : MaybeType) → Steps (unless_empty wrong offset t)
+pub unless_empty_steps : (wrong : Bool) (offset : ℕ) (t : MaybeType) → Steps (unless_empty wrong offset t)
 unless_empty_steps true offset t s = or_broken_steps {A = TypeTree} BadType offset None s
 unless_empty_steps false offset t s = stay s
 

@@ -1,0 +1,120 @@
+-- The types of variables are laid out where no rule is broken, but for arrays whose initialiser gives the length.
+use Rattle.std.proofs.Common.{◌≡◌, ◌≤◌, ◌⊎◌, inl, inr, ℕ, zero, suc, Bool, true, false, List, [], ◌∷◌, ◌++◌, refl, sym, ap, ◌∙◌, subst, arith}
+use Rattle.std.specs.Prelude.{◌==◌, ◌&&◌, ◌||◌, not, nat_le, Option, None, Some, option_map, option_and_then, if◌then◌else◌, IsTrue}
+use Rattle.std.specs.List.{list_any}
+use Rattle.std.proofs.lemmas.Bool.{false≢true, and_parts}
+use Rattle.std.proofs.lemmas.Bool.Decides.{nat_tests}
+use Rattle.limits.specs.Limits.{most_type_bytes}
+use Rattle.c_ast.specs.Productions as l
+use Rattle.c_ast.specs.Tree.{Tree, Leaf, Node, Nil, Cons}
+use Rattle.c_type.specs.Trees.{TypeTree, void_type, scalar_type, pointer_to, array_of, struct_type}
+use Rattle.c_type.specs.Layout.{Definitions, is_complete, size, IsLaidOut}
+use Rattle.c_elaboration.specs.declared.dimension.Dimension.{Dimension}
+use Rattle.c_elaboration.specs.declared.dimension.Dimension.TheVariants as dimension
+use Rattle.c_elaboration.specs.declared.rule.Rule.TheVariants.{NotConstant, BadType}
+use Rattle.c_elaboration.specs.State.{MaybeType, State, if_some, or_broken}
+use Rattle.c_elaboration.specs.Leaves.{begin_of, is_present}
+use Rattle.c_elaboration.specs.Specifiers.{Specified, specified_type}
+use Rattle.c_elaboration.specs.DeclaredTypes.{MaybeSize, pointers_to, array_by, arrays_of, size_of_dimension, sizes_of, is_empty, first_is_empty, other_is_empty, is_void, is_large, with_elements, type_if, small_type, unless_empty, unstarred, starred, is_object_of, object_type}
+use Rattle.c_elaboration.specs.Operands.{Term, term_constant}
+use Rattle.c_elaboration.specs.Expressions as expressions
+use Rattle.c_elaboration.specs.Expressions.{size_by, expression}
+use Rattle.c_elaboration.specs.Declarators.{open_dimension, open_dimensions}
+use Rattle.c_sound.proofs.lemmas.Steps.{type_if_steps, small_type_steps, starred_steps, size_steps, if_some_steps, expression_steps}
+use Rattle.c_sound.proofs.lemmas.StatementSteps.{open_dimension_steps, open_dimensions_steps, unless_empty_steps}
+
+-- ---- named types are no arrays
+
+abbrev pub IsNoArray : TypeTree → Type 0
+IsNoArray (array_of t n) = ⊥
+IsNoArray t = Unit {0}
+
+pub specified_no_array : (t : Tree) (s : State) → IsNoArray (specified_type t s).0.type
+specified_no_array (Node l.Signed (Cons sign (Cons base more))) s = tt
+specified_no_array (Node l.StructTag (Cons word (Cons tag more))) s = tt
+specified_no_array t s = tt
+
+-- ---- one step after another, where no rule is broken
+
+-- a type that is there, and what is known of it
+pub record TypeThere (P : TypeTree → Type 0) (t : MaybeType) : Type 0 where
+  pub type : TypeTree
+  pub there : t ≡ Some type
+  pub holds : P type
+
+starred_typed : (x : Specified) (stars offset : ℕ) (s : State) → IsNoArray x.type → (starred x stars offset s).1.broken ≡ None → TypeThere IsNoArray (starred x stars offset s).0
+starred_typed x zero offset s h clean = by_tag x.undeclared clean
+  where
+    by_tag : (u : Option ℕ) → (unstarred u x.type s).1.broken ≡ None → TypeThere IsNoArray (unstarred u x.type s).0
+    by_tag None q = record { type = x.type; there = refl; holds = h }
+    by_tag (Some tag) q = absurd (cc)
+starred_typed x (suc n) offset s h clean = by_test (is_void x.type) clean
+  where
+    by_test : (b : Bool) → (type_if b offset (pointers_to x.type (suc n)) s).1.broken ≡ None → TypeThere IsNoArray (type_if b offset (pointers_to x.type (suc n)) s).0
+    by_test true q = absurd (cc)
+    by_test false q = record { type = pointers_to x.type (suc n); there = refl; holds = tt }
+
+object_is_complete : (defs : Definitions) (t : TypeTree) → IsNoArray t → is_object_of defs t ≡ true → is_complete defs t ≡ true
+object_is_complete defs void_type h e = absurd (false≢true e)
+object_is_complete defs (scalar_type s) h e = refl
+object_is_complete defs (pointer_to t) h e = refl
+object_is_complete defs (array_of t n) h e = absurd h
+object_is_complete defs (struct_type tag) h e = e
+
+object_typed : (offset : ℕ) (t : TypeTree) (s : State) → IsNoArray t → (type_if (not (is_object_of s.structs t)) offset t s).1.broken ≡ None →
+    TypeThere (λ u. is_complete s.structs u ≡ true) (type_if (not (is_object_of s.structs t)) offset t s).0
+object_typed offset t s h clean = by_test (is_object_of s.structs t) refl clean
+  where
+    by_test : (b : Bool) → is_object_of s.structs t ≡ b → (type_if (not b) offset t s).1.broken ≡ None → TypeThere (λ u. is_complete s.structs u ≡ true) (type_if (not b) offset t s).0
+    by_test true e q = record { type = t; there = refl; holds = object_is_complete s.structs t h e }
+    by_test false e q = absurd (cc)
+
+-- ---- dimensions
+
+-- a size of at least one
+abbrev pub IsSize : MaybeSize → Type 0
+IsSize None = ⊥
+IsSize (Some n) = 1 ≤ n
+
+abbrev pub DimensionFits : Dimension → Type 0
+DimensionFits dimension.Empty = Unit {0}
+DimensionFits (dimension.Sized n) = IsSize n
+
+abbrev pub DimensionsFit : List Dimension → Type 0
+DimensionsFit [] = Unit {0}
+DimensionsFit (d ∷ ds) = DimensionFits d × DimensionsFit ds
+
+dimensions_append : (ds : List Dimension) (d : Dimension) → DimensionsFit ds → DimensionFits d → DimensionsFit (ds ++ d ∷ [])
+dimensions_append [] d h k = (k, tt)
+dimensions_append (c ∷ ds) d h k = (h.0, dimensions_append ds d h.1 k)
+
+size_by_fits : (w : ℕ) (n : ℕ) → size_by w ≡ Some n → 1 ≤ n
+size_by_fits w n e = by_test (nat_le 1 w && nat_le w most_type_bytes) refl e
+  where
+    by_test : (b : Bool) → (nat_le 1 w && nat_le w most_type_bytes) ≡ b → (if b then Some w else None) ≡ Some n → 1 ≤ n
+    by_test true q r =
+        let low = (and_parts (nat_le 1 w) (nat_le w most_type_bytes) q).0 in
+        let same : w ≡ n = cc in
+        grind (arith, nat_tests, low, same)
+    by_test false q r = absurd (cc)
+
+size_fits : (offset : ℕ) (a : Term) (s : State) → (expressions.size offset a s).1.broken ≡ None → IsSize (expressions.size offset a s).0
+size_fits offset a s clean = by_word (term_constant a) clean
+  where
+    by_size : (o : MaybeSize) → ((n : ℕ) → o ≡ Some n → 1 ≤ n) → (or_broken NotConstant offset o s).1.broken ≡ None → IsSize (or_broken NotConstant offset o s).0
+    by_size None k q = absurd (cc)
+    by_size (Some n) k q = k n refl
+
+    by_word : (w : Option ℕ) → (or_broken NotConstant offset (option_and_then size_by w) s).1.broken ≡ None → IsSize (or_broken NotConstant offset (option_and_then size_by w) s).0
+    by_word None q = absurd (cc)
+    by_word (Some w) q = by_size (size_by w) (size_by_fits w) q
+
+pub open_dimensions_fit : (t : Tree) (s : State) → (open_dimensions t s).1.broken ≡ None → DimensionsFit (open_dimensions t s).0
+open_dimensions_fit (Node (l.More k) (Cons before (Cons opening (Cons bound none)))) s clean =
+    let ds = open_dimensions before s in
+    dimensions_append ds.0 (open_dimension bound ds.1).0 (open_dimensions_fit before s ((open_dimension_steps bound ds.1).broken clean)) (one bound ds.1 clean)
+  where
+    one : (t : Tree) (s : State) → (open_dimension t s).1.broken ≡ None → DimensionFits (open_dimension t s).0
+    one (Node (l.Present k) (Cons bound none)) s q = let a = expression bound s in size_fits (begin_of bound) a.0 a.1 q
+    one t s q = tt
+open_dimensions_fit t s clean = tt
