@@ -118,3 +118,45 @@ open_dimensions_fit (Node (l.More k) (Cons before (Cons opening (Cons bound none
     one (Node (l.Present k) (Cons bound none)) s q = let a = expression bound s in size_fits (begin_of bound) a.0 a.1 q
     one t s q = tt
 open_dimensions_fit t s clean = tt
+
+-- ---- arrays
+
+sized_type : (defs : Definitions) (t : TypeTree) (ds : List Dimension) → DimensionsFit ds → list_any is_empty ds ≡ false → is_complete defs t ≡ true →
+    TypeThere (λ u. is_complete defs u ≡ true) (arrays_of (Some t) (sizes_of ds))
+sized_type defs t [] h e c = record { type = t; there = refl; holds = c }
+sized_type defs t (dimension.Empty ∷ ds) h e c = absurd (false≢true (sym e))
+sized_type defs t (dimension.Sized None ∷ ds) h e c = absurd h.0
+sized_type defs t (dimension.Sized (Some n) ∷ ds) h e c =
+    let r = sized_type defs t ds h.1 e c in
+    let some : not (n == 0) ≡ true = grind (arith, nat_tests, h.0) in
+    record { type = array_of r.type n; there = ap (option_and_then (array_by (Some n))) r.there; holds = λ i. some i && r.holds i }
+
+allowed : (b : Bool) → (not b) ≡ false → b ≡ true
+allowed true h = refl
+allowed false h = absurd (false≢true (sym h))
+
+-- a complete type, or an array that has no elements yet, where that may be
+pub record Open (defs : Definitions) (may : Bool) (u : TypeTree) : Type 0 where
+  pub may_be : may ≡ true
+  pub element : TypeTree
+  pub array : u ≡ array_of element 0
+  pub complete : is_complete defs element ≡ true
+
+dimensioned : (defs : Definitions) (may : Bool) (t : TypeTree) (ds : List Dimension) → DimensionsFit ds → (other_is_empty ds || (first_is_empty ds && not may)) ≡ false → is_complete defs t ≡ true →
+    TypeThere (λ u. (is_complete defs u ≡ true) ⊎ Open defs may u) (arrays_of (Some t) (sizes_of ds))
+dimensioned defs may t [] h e c = record { type = t; there = refl; holds = inl c }
+dimensioned defs may t (d ∷ ds) h e c = by_other (list_any is_empty ds) refl e
+  where
+    first : (d : Dimension) → DimensionFits d → list_any is_empty ds ≡ false → (is_empty d && not may) ≡ false → TypeThere (λ u. (is_complete defs u ≡ true) ⊎ Open defs may u) (arrays_of (Some t) (sizes_of (d ∷ ds)))
+    first dimension.Empty k none m =
+        let r = sized_type defs t ds h.1 none c in
+        record { type = array_of r.type 0; there = ap (option_and_then (array_by (Some 0))) r.there; holds = inr (record { may_be = allowed may m; element = r.type; array = refl; complete = r.holds }) }
+    first (dimension.Sized None) k none m = absurd k
+    first (dimension.Sized (Some n)) k none m =
+        let r = sized_type defs t ds h.1 none c in
+        let some : not (n == 0) ≡ true = grind (arith, nat_tests, k) in
+        record { type = array_of r.type n; there = ap (option_and_then (array_by (Some n))) r.there; holds = inl (λ i. some i && r.holds i) }
+
+    by_other : (b : Bool) → list_any is_empty ds ≡ b → (b || (is_empty d && not may)) ≡ false → TypeThere (λ u. (is_complete defs u ≡ true) ⊎ Open defs may u) (arrays_of (Some t) (sizes_of (d ∷ ds)))
+    by_other true q m = absurd (false≢true (sym m))
+    by_other false q m = first d h.0 q m
