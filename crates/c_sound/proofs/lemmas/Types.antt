@@ -160,3 +160,98 @@ dimensioned defs may t (d ∷ ds) h e c = by_other (list_any is_empty ds) refl e
     by_other : (b : Bool) → list_any is_empty ds ≡ b → (b || (is_empty d && not may)) ≡ false → TypeThere (λ u. (is_complete defs u ≡ true) ⊎ Open defs may u) (arrays_of (Some t) (sizes_of (d ∷ ds)))
     by_other true q m = absurd (false≢true (sym m))
     by_other false q m = first d h.0 q m
+
+-- ---- sizes
+
+not_large : (defs : Definitions) (t : TypeTree) → is_complete defs t ≡ true → is_large defs t ≡ false → IsLaidOut defs t
+not_large defs t c e = record { complete = c; small = by_size (nat_le (size defs t) most_type_bytes) refl (sym (ap (λ b. b && not (nat_le (size defs t) most_type_bytes)) c) ∙ e) }
+  where
+    by_size : (b : Bool) → nat_le (size defs t) most_type_bytes ≡ b → (not b) ≡ false → size defs t ≤ most_type_bytes
+    by_size true q m = grind (arith, nat_tests, q)
+    by_size false q m = absurd (false≢true (sym m))
+
+complete_elements : (defs : Definitions) (t : TypeTree) → is_complete defs t ≡ true → with_elements t ≡ t
+complete_elements defs void_type c = refl
+complete_elements defs (scalar_type s) c = refl
+complete_elements defs (pointer_to t) c = refl
+complete_elements defs (array_of t zero) c = absurd (false≢true c)
+complete_elements defs (array_of t (suc n)) c = refl
+complete_elements defs (struct_type tag) c = refl
+
+-- a type that is laid out, or an array whose elements are, where the initialiser gives the length
+pub record OpenLaid (defs : Definitions) (may : Bool) (u : TypeTree) : Type 0 where
+  pub may_be : may ≡ true
+  pub element : TypeTree
+  pub array : u ≡ array_of element 0
+  pub one : IsLaidOut defs (array_of element 1)
+
+abbrev pub LaidOrOpen : Definitions → Bool → TypeTree → Type 0
+LaidOrOpen defs may u = IsLaidOut defs u ⊎ OpenLaid defs may u
+
+small_typed : (defs : Definitions) (may : Bool) (offset : ℕ) (u : TypeTree) (s : State) → s.structs ≡ defs → (is_complete defs u ≡ true) ⊎ Open defs may u → (small_type offset u s).1.broken ≡ None →
+    TypeThere (LaidOrOpen defs may) (small_type offset u s).0
+small_typed defs may offset u s same h clean = by_test (is_large s.structs (with_elements u)) refl clean
+  where
+    laid : is_large s.structs (with_elements u) ≡ false → (is_complete defs u ≡ true) ⊎ Open defs may u → LaidOrOpen defs may u
+    laid e (inl c) = inl (not_large defs u c (ap (is_large defs) (sym (complete_elements defs u c)) ∙ ap (λ d. is_large d (with_elements u)) (sym same) ∙ e))
+    laid e (inr o) =
+        let whole : is_complete defs (array_of o.element 1) ≡ true = o.complete in
+        inr (record {
+          may_be = o.may_be;
+          element = o.element;
+          array = o.array;
+          one = not_large defs (array_of o.element 1) whole (ap (λ t. is_large defs (with_elements t)) (sym o.array) ∙ ap (λ d. is_large d (with_elements u)) (sym same) ∙ e);
+        })
+
+    by_test : (b : Bool) → is_large s.structs (with_elements u) ≡ b → (type_if b offset u s).1.broken ≡ None → TypeThere (LaidOrOpen defs may) (type_if b offset u s).0
+    by_test true q r = absurd (cc)
+    by_test false q r = record { type = u; there = refl; holds = laid q h }
+
+-- The type of a variable or member is laid out, or an array whose initialiser gives the length.
+pub object_type_typed : (may : Bool) (offset : ℕ) (x : Specified) (stars : ℕ) (ds : List Dimension) (s : State) → IsNoArray x.type → DimensionsFit ds → (object_type may offset x stars ds s).1.broken ≡ None →
+    TypeThere (LaidOrOpen s.structs may) (object_type may offset x stars ds s).0
+object_type_typed may offset x stars ds s base fit clean =
+    let wrong = other_is_empty ds || (first_is_empty ds && not may) in
+    let u = starred x stars offset s in
+    let t = if_some u.0 (λ t. type_if (not (is_object_of s.structs t)) offset t) u.1 in
+    let v = if_some (arrays_of t.0 (sizes_of ds)) (small_type offset) t.1 in
+    let cv = (unless_empty_steps wrong offset v.0 v.1).broken clean in
+    let st = if_some_steps u.0 (λ t. type_if (not (is_object_of s.structs t)) offset t) (λ t. type_if_steps (not (is_object_of s.structs t)) offset t) u.1 in
+    let sv = if_some_steps (arrays_of t.0 (sizes_of ds)) (small_type offset) (small_type_steps offset) t.1 in
+    let ct = sv.broken cv in
+    let cu = st.broken ct in
+    let su = starred_steps x stars offset s in
+    let a = starred_typed x stars offset s base cu in
+    let b : TypeThere (λ u. is_complete s.structs u ≡ true) t.0 =
+    element u.0 u.1 su.structs a ct in
+    let right : wrong ≡ false = not_empty wrong offset v.0 v.1 clean in
+    let c = dimensioned s.structs may b.type ds fit right b.holds in
+    let d : TypeThere (LaidOrOpen s.structs may) v.0 =
+    arrayed (arrays_of t.0 (sizes_of ds)) t.1 (st.structs ∙ su.structs) (record { type = c.type; there = ap (λ t. arrays_of t (sizes_of ds)) b.there ∙ c.there; holds = c.holds }) cv in
+    given wrong v.0 v.1 right d
+  where
+    element : (u : MaybeType) (q : State) → q.structs ≡ s.structs → TypeThere IsNoArray u → (if_some u (λ t. type_if (not (is_object_of s.structs t)) offset t) q).1.broken ≡ None →
+        TypeThere (λ u. is_complete s.structs u ≡ true) (if_some u (λ t. type_if (not (is_object_of s.structs t)) offset t) q).0
+    element None q same a c = let none = a.there in absurd (cc)
+    element (Some t) q same a c =
+        let is : t ≡ a.type = let e = a.there in cc in
+        by_test (is_object_of s.structs t) refl (subst IsNoArray (sym is) a.holds) c
+      where
+        by_test : (b : Bool) → is_object_of s.structs t ≡ b → IsNoArray t → (type_if (not b) offset t q).1.broken ≡ None → TypeThere (λ u. is_complete s.structs u ≡ true) (type_if (not b) offset t q).0
+        by_test true e n r = record { type = t; there = refl; holds = object_is_complete s.structs t n e }
+        by_test false e n r = absurd (cc)
+
+    not_empty : (wrong : Bool) (offset : ℕ) (t : MaybeType) (s : State) → (unless_empty wrong offset t s).1.broken ≡ None → wrong ≡ false
+    not_empty true offset t s c = absurd (cc)
+    not_empty false offset t s c = refl
+
+    arrayed : (u : MaybeType) (q : State) → q.structs ≡ s.structs → TypeThere (λ u. (is_complete s.structs u ≡ true) ⊎ Open s.structs may u) u → (if_some u (small_type offset) q).1.broken ≡ None →
+        TypeThere (LaidOrOpen s.structs may) (if_some u (small_type offset) q).0
+    arrayed None q same a c = let none = a.there in absurd (cc)
+    arrayed (Some t) q same a c =
+        let is : t ≡ a.type = let e = a.there in cc in
+        small_typed s.structs may offset t q same (subst (λ u. (is_complete s.structs u ≡ true) ⊎ Open s.structs may u) (sym is) a.holds) c
+
+    given : (wrong : Bool) (t : MaybeType) (q : State) → wrong ≡ false → TypeThere (LaidOrOpen s.structs may) t → TypeThere (LaidOrOpen s.structs may) (unless_empty wrong offset t q).0
+    given true t q e h = absurd (false≢true (sym e))
+    given false t q e h = h
