@@ -4,8 +4,9 @@ use Rattle.std.specs.Prelude.{◌==◌}
 use Rattle.std.proofs.lemmas.Bool.Decides.{nat_tests}
 use Rattle.c_ast.specs.Productions as l
 use Rattle.c_ast.specs.Nonterminals as class
-use Rattle.c_ast.specs.Tree.{Tree, Node}
+use Rattle.c_ast.specs.Tree.{Tree, Node, Cons}
 use Rattle.c_ast.specs.Grammar as grammar
+use Rattle.c_elaboration.specs.Initialisers.{count_in}
 
 -- the productions of expressions without commas
 abbrev pub is_expression : l.Production → Bool
@@ -258,3 +259,46 @@ is_sizeof_operand (Node p children) f = (by_number (sizeof_number (grammar.rule 
     by_number (inr h) = small_production p h
     by_number (inl h) = absurd (let e = sizeof_alone p h in cc)
 is_sizeof_operand t f = absurd f
+
+-- ---- lists of initialisers
+
+ended_number : (b : class.Nonterminal) → class.includes class.InitEnded b ≡ true → class.nonterminal_number b ≡ 28
+unfolding class.includes class.same_nonterminal class.nonterminal_number
+ended_number b e = grind (arith, nat_tests, e)
+
+items_number : (b : class.Nonterminal) → class.includes class.InitItems b ≡ true → (class.nonterminal_number b ≡ 28) ⊎ (class.nonterminal_number b ≡ 29)
+unfolding class.includes class.same_nonterminal class.nonterminal_number
+items_number b e = by_test (class.nonterminal_number b == 28) refl
+  where
+    by_test : (t : Bool) → (class.nonterminal_number b == 28) ≡ t → (class.nonterminal_number b ≡ 28) ⊎ (class.nonterminal_number b ≡ 29)
+    by_test true q = inl (grind (arith, nat_tests, q))
+    by_test false q = inr (grind (arith, nat_tests, e, q))
+
+count_ended : (t : Tree) → grammar.Fits (grammar.One class.InitEnded) t → 1 ≤ count_in t
+unfolding grammar.Fits grammar.allowed grammar.symbols_of grammar.rule class.nonterminal_number
+count_ended (Node l.InitFirst children) f = omega arith
+count_ended (Node l.InitNext (Cons before more)) f = omega arith
+count_ended (Node l.InitNext children) f = absurd (assumption)
+count_ended (Node (l.Binary level) children) f = absurd (omega (arith, ended_number (class.Binary level) f.0, level_small level))
+count_ended (Node p children) f = absurd (omega (arith, ended_number (grammar.rule p).of f.0))
+count_ended t f = absurd f
+
+-- a list has an element
+pub count_positive : (t : Tree) → grammar.Fits (grammar.One class.InitItems) t → 1 ≤ count_in t
+unfolding grammar.Fits grammar.allowed grammar.symbols_of grammar.rule class.nonterminal_number
+count_positive (Node l.InitFirst children) f = omega arith
+count_positive (Node l.InitNext (Cons before more)) f = omega arith
+count_positive (Node l.InitNext children) f = absurd (assumption)
+count_positive (Node l.InitComma (Cons before more)) f = count_ended before f.2.0
+count_positive (Node l.InitComma children) f = absurd (assumption)
+count_positive (Node (l.Binary level) children) f = absurd (by_number (items_number (class.Binary level) f.0))
+  where
+    by_number : (class.nonterminal_number (class.Binary level) ≡ 28) ⊎ (class.nonterminal_number (class.Binary level) ≡ 29) → ⊥
+    by_number (inl e) = omega (arith, e, level_small level)
+    by_number (inr e) = omega (arith, e, level_small level)
+count_positive (Node p children) f = absurd (by_number (items_number (grammar.rule p).of f.0))
+  where
+    by_number : (class.nonterminal_number (grammar.rule p).of ≡ 28) ⊎ (class.nonterminal_number (grammar.rule p).of ≡ 29) → ⊥
+    by_number (inl e) = omega (arith, e)
+    by_number (inr e) = omega (arith, e)
+count_positive t f = absurd f

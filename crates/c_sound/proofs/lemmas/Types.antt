@@ -1,27 +1,27 @@
 -- The types of variables are laid out where no rule is broken, but for arrays whose initialiser gives the length.
 use Rattle.std.proofs.Common.{◌≡◌, ◌≤◌, ◌⊎◌, inl, inr, ℕ, zero, suc, Bool, true, false, List, [], ◌∷◌, ◌++◌, refl, sym, ap, ◌∙◌, subst, arith}
-use Rattle.std.specs.Prelude.{◌==◌, ◌&&◌, ◌||◌, not, nat_le, Option, None, Some, option_map, option_and_then, if◌then◌else◌, IsTrue}
+use Rattle.std.specs.Prelude.{◌==◌, ◌&&◌, ◌||◌, not, nat_le, Option, None, Some, option_and_then, if◌then◌else◌}
 use Rattle.std.specs.List.{list_any}
 use Rattle.std.proofs.lemmas.Bool.{false≢true, and_parts}
 use Rattle.std.proofs.lemmas.Bool.Decides.{nat_tests}
 use Rattle.limits.specs.Limits.{most_type_bytes}
 use Rattle.c_ast.specs.Productions as l
-use Rattle.c_ast.specs.Tree.{Tree, Leaf, Node, Nil, Cons}
+use Rattle.c_ast.specs.Tree.{Tree, Node, Cons}
 use Rattle.c_type.specs.Trees.{TypeTree, void_type, scalar_type, pointer_to, array_of, struct_type}
 use Rattle.c_type.specs.Layout.{Definitions, is_complete, size, IsLaidOut}
 use Rattle.c_elaboration.specs.declared.dimension.Dimension.{Dimension}
 use Rattle.c_elaboration.specs.declared.dimension.Dimension.TheVariants as dimension
-use Rattle.c_elaboration.specs.declared.rule.Rule.TheVariants.{NotConstant, BadType}
+use Rattle.c_elaboration.specs.declared.rule.Rule.TheVariants.{NotConstant}
 use Rattle.c_elaboration.specs.State.{MaybeType, State, if_some, or_broken}
-use Rattle.c_elaboration.specs.Leaves.{begin_of, is_present}
+use Rattle.c_elaboration.specs.Leaves.{begin_of}
 use Rattle.c_elaboration.specs.Specifiers.{Specified, specified_type}
-use Rattle.c_elaboration.specs.DeclaredTypes.{MaybeSize, pointers_to, array_by, arrays_of, size_of_dimension, sizes_of, is_empty, first_is_empty, other_is_empty, is_void, is_large, with_elements, type_if, small_type, unless_empty, unstarred, starred, is_object_of, object_type}
+use Rattle.c_elaboration.specs.DeclaredTypes.{MaybeSize, pointers_to, array_by, arrays_of, sizes_of, is_empty, first_is_empty, other_is_empty, is_void, is_large, with_elements, type_if, small_type, unless_empty, unstarred, starred, is_object_of, object_type}
 use Rattle.c_elaboration.specs.Operands.{Term, term_constant}
 use Rattle.c_elaboration.specs.Expressions as expressions
 use Rattle.c_elaboration.specs.Expressions.{size_by, expression}
 use Rattle.c_elaboration.specs.Declarators.{open_dimension, open_dimensions}
-use Rattle.c_sound.proofs.lemmas.Steps.{type_if_steps, small_type_steps, starred_steps, size_steps, if_some_steps, expression_steps}
-use Rattle.c_sound.proofs.lemmas.StatementSteps.{open_dimension_steps, open_dimensions_steps, unless_empty_steps}
+use Rattle.c_sound.proofs.lemmas.Steps.{type_if_steps, small_type_steps, starred_steps, if_some_steps}
+use Rattle.c_sound.proofs.lemmas.StatementSteps.{open_dimension_steps, unless_empty_steps}
 
 -- ---- named types are no arrays
 
@@ -147,7 +147,8 @@ dimensioned : (defs : Definitions) (may : Bool) (t : TypeTree) (ds : List Dimens
 dimensioned defs may t [] h e c = record { type = t; there = refl; holds = inl c }
 dimensioned defs may t (d ∷ ds) h e c = by_other (list_any is_empty ds) refl e
   where
-    first : (d : Dimension) → DimensionFits d → list_any is_empty ds ≡ false → (is_empty d && not may) ≡ false → TypeThere (λ u. (is_complete defs u ≡ true) ⊎ Open defs may u) (arrays_of (Some t) (sizes_of (d ∷ ds)))
+    first : (d : Dimension) → DimensionFits d → list_any is_empty ds ≡ false → (is_empty d && not may) ≡ false →
+        TypeThere (λ u. (is_complete defs u ≡ true) ⊎ Open defs may u) (arrays_of (Some t) (sizes_of (d ∷ ds)))
     first dimension.Empty k none m =
         let r = sized_type defs t ds h.1 none c in
         record { type = array_of r.type 0; there = ap (option_and_then (array_by (Some 0))) r.there; holds = inr (record { may_be = allowed may m; element = r.type; array = refl; complete = r.holds }) }
@@ -208,7 +209,8 @@ small_typed defs may offset u s same h clean = by_test (is_large s.structs (with
     by_test false q r = record { type = u; there = refl; holds = laid q h }
 
 -- The type of a variable or member is laid out, or an array whose initialiser gives the length.
-pub object_type_typed : (may : Bool) (offset : ℕ) (x : Specified) (stars : ℕ) (ds : List Dimension) (s : State) → IsNoArray x.type → DimensionsFit ds → (object_type may offset x stars ds s).1.broken ≡ None →
+pub object_type_typed : (may : Bool) (offset : ℕ) (x : Specified) (stars : ℕ) (ds : List Dimension) (s : State) → IsNoArray x.type → DimensionsFit ds →
+    (object_type may offset x stars ds s).1.broken ≡ None →
     TypeThere (LaidOrOpen s.structs may) (object_type may offset x stars ds s).0
 object_type_typed may offset x stars ds s base fit clean =
     let wrong = other_is_empty ds || (first_is_empty ds && not may) in
@@ -237,7 +239,8 @@ object_type_typed may offset x stars ds s base fit clean =
         let is : t ≡ a.type = let e = a.there in cc in
         by_test (is_object_of s.structs t) refl (subst IsNoArray (sym is) a.holds) c
       where
-        by_test : (b : Bool) → is_object_of s.structs t ≡ b → IsNoArray t → (type_if (not b) offset t q).1.broken ≡ None → TypeThere (λ u. is_complete s.structs u ≡ true) (type_if (not b) offset t q).0
+        by_test : (b : Bool) → is_object_of s.structs t ≡ b → IsNoArray t → (type_if (not b) offset t q).1.broken ≡ None →
+            TypeThere (λ u. is_complete s.structs u ≡ true) (type_if (not b) offset t q).0
         by_test true e n r = record { type = t; there = refl; holds = object_is_complete s.structs t n e }
         by_test false e n r = absurd (cc)
 
