@@ -81,7 +81,8 @@ from_made_ok true f c s d ls qs h x =
     let n = const_made d s in
     let m = groups_moved d ls qs n.value n.after in
     bind_made f (with_mark f a_hidden) IsValue NoValue c n (λ n t. bind (groups_moved d ls qs n t) (λ m u. nothing (pushed (hidden m) u))) refl (const_ok f c s d h) (λ d1 x1.
-    bind_made f (with_mark f a_hidden) IsValue NoValue d1 m (λ m u. nothing (pushed (hidden m) u)) refl (groups_moved_ok f d1 n.after d ls qs n.value x1.stands (values_grown c d1 qs x1.grown x) x1.value) (λ d2 x2.
+    bind_made f (with_mark f a_hidden) IsValue NoValue d1 m (λ m u. nothing (pushed (hidden m) u)) refl
+    (groups_moved_ok f d1 n.after d ls qs n.value x1.stands (values_grown c d1 qs x1.grown x) x1.value) (λ d2 x2.
     nothing_made (with_mark f a_hidden) d2 (pushed (hidden m.value) m.after) (stands_pushed f d2 m.after a_hidden (hidden m.value) x2.stands x2.value)))
 
 from_popped_stands : (several : Bool) (f : Frame) (c : Standing) (s : Point) → Stands (from_frame several f) c s → Stands f c (from_popped several s)
@@ -102,7 +103,8 @@ group_made_ok f c s g k from h inner =
     λ d x. newest_hidden f.objects d is_hidden.0 w.after.carried.variables (subst (λ ms. SlotsFit f.objects d ms w.after.carried.variables) is_hidden.1 x.slots) in
     let p = bin_made op.Sltu (slot_origin (newest w.after.carried.variables)) w.value w.after in
     then_made f IsValue NoValue c w (λ k2 t. bind (bin_made op.Sltu (slot_origin (newest t.carried.variables)) k2 t) (λ p u. choice no_value u p nothing k)) (const_ok f c s (suc g) h) (λ d1 x1.
-    then_made f IsValue NoValue d1 p (λ p u. choice no_value u p nothing k) (bin_ok f d1 w.after op.Sltu (slot_origin (newest w.after.carried.variables)) w.value x1.stands (value d1 x1.stands) x1.value) (λ d2 x2.
+    then_made f IsValue NoValue d1 p (λ p u. choice no_value u p nothing k)
+    (bin_ok f d1 w.after op.Sltu (slot_origin (newest w.after.carried.variables)) w.value x1.stands (value d1 x1.stands) x1.value) (λ d2 x2.
     choice_made f NoValue NoValue d2 p.after no_value [] p.value nothing k x2.stands x2.value (no_value_fits f d2 p.after.next) (λ d t y. nothing_made f d t y) inner))
 
 pub segments_with_ok : (f : Frame) (begins ends : Bool) (g : ℕ) (l : Bool) (k : Point → Built (Unit {0})) (later : List (Point → Built (Unit {0}))) → HasFrom (not begins || not ends) f →

@@ -229,7 +229,8 @@ own_tests a objects n args outs nodes results m allows b s h =
     let kinds = has_kinds args nodes l.end outs results l.agrees l.ends.1 in
     let given : (k : Kind) → some_of (same_kind k) outs ≡ true → returns_state k (region args nodes results) ≡ true =
     λ k e. ap (λ xs. not (gives k nodes) || some_of (is_of k) xs) kinds ∙ ap (λ b. not (gives k nodes) || b) (some_kind k outs ∙ e) ∙ or_right (not (gives k nodes)) true refl in
-    λ i. (((each_tests a objects args [] (at_start n args) nodes m outs results allows start h i && have_last args nodes l.end outs results l.agrees l.ends.1 i) && given Memory s.memory i) && given Io s.io i)
+    λ i. (((each_tests a objects args [] (at_start n args) nodes m outs results allows start h i
+    && have_last args nodes l.end outs results l.agrees l.ends.1 i) && given Memory s.memory i) && given Io s.io i)
     && (b.once i && (ap one_state_each kinds ∙ s.once) i)
 
 mutual
