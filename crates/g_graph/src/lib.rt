@@ -43,6 +43,7 @@ pub use lambda::{Lambda, Object};
 pub use link::Link;
 pub use names::main_index;
 pub use numbers::ids;
+pub use objects::leaves_fit;
 pub use omega::{Delta, Omega};
 pub use op::{Kind, Op, Origin};
 pub use optimised::{Optimised, StepList};

@@ -17,8 +17,8 @@ pub fn objects_fit(objects: &[Object]) -> bool
     true
 }
 
-// Whether the leaves stand in order and apart within so many bytes.
-fn leaves_fit(size: u32, leaves: &[Leaf]) -> bool
+/// Whether the leaves stand in order and apart within so many bytes.
+pub fn leaves_fit(size: u32, leaves: &[Leaf]) -> bool
     ensures { result ≡ leaves_fit size 0 leaves.now }
 {
     let mut from = 0;
