@@ -34,8 +34,11 @@ pub from-to : (a : Operand) → from_sum (to_sum a) ≡ a
 from-to (Place p is_const) = refl
 from-to (Value e) = refl
 
+abbrev pub coded_operand : Coded Operand
+coded_operand = code_by ((PlaceTree × Bool) ⊎ ExprTree) (coded⊎ (coded× coded_place coded_bool) coded_expr) to_sum from_sum from-to
+
 abbrev pub coded_term : Coded Term
-coded_term = coded_option (code_by ((PlaceTree × Bool) ⊎ ExprTree) (coded⊎ (coded× coded_place coded_bool) coded_expr) to_sum from_sum from-to)
+coded_term = coded_option coded_operand
 
 -- ---- parts of a state
 
