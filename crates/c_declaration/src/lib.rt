@@ -1,7 +1,7 @@
-//! Declarations (ISO/IEC 9899:2011, 6.7): struct definitions, variables in blocks and at file scope,
-//! and what they begin with. It stands on expressions and on the types that declarations declare;
-//! the checker stands on it. Promise: what each declaration makes, and the state after it, are those
-//! of the definition of elaboration, out of memory apart.
+//! Declarations (ISO/IEC 9899:2011, 6.7): variables in blocks and at file scope, and what they
+//! begin with. It stands on expressions and on the types that declarations declare; the checker
+//! stands on it. Promise: what each declaration makes, and the state after it, are those of the
+//! definition of elaboration, out of memory apart.
 #![tactic(auto)]
 
 mod completed;
