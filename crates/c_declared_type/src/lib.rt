@@ -12,4 +12,4 @@ mod steps;
 
 pub use declared_type::{named_type, object_type, param_type, result_type};
 pub use specifiers::{Specified, specified_type, tagged};
-pub use steps::small_type;
+pub use steps::small_if_some;

@@ -27,9 +27,8 @@ pub(crate) fn type_if(state: &mut State, wrong: bool, offset: u32, ty: Arc<CType
     }
 }
 
-/// The type, unless it has too many bytes, with one element where it is an array without any. An
-/// incomplete type has no size.
-pub fn small_type(state: &mut State, offset: u32, ty: Arc<CType>) -> MaybeType
+// The type, unless it has too many bytes.
+fn small_type(state: &mut State, offset: u32, ty: Arc<CType>) -> MaybeType
     ensures value { result ≡ (small_type offset ty.value state.old).0 }
     ensures state { state.new ≡ (small_type offset ty.value state.old).1 }
     ensures keeps { KeepsDeclarations state.old state.new }
@@ -38,8 +37,9 @@ pub fn small_type(state: &mut State, offset: u32, ty: Arc<CType>) -> MaybeType
     type_if(state, wrong, offset, ty)
 }
 
-// The same of a type that there may be.
-pub(crate) fn small_if_some(state: &mut State, offset: u32, ty: MaybeType) -> MaybeType
+/// The type, unless it has too many bytes, with one element where it is an array without any. An
+/// incomplete type has no size.
+pub fn small_if_some(state: &mut State, offset: u32, ty: MaybeType) -> MaybeType
     ensures value { result ≡ (if_some ty (small_type offset) state.old).0 }
     ensures state { state.new ≡ (if_some ty (small_type offset) state.old).1 }
     ensures keeps { KeepsDeclarations state.old state.new }

@@ -23,6 +23,6 @@ pub use commas::{Sequence, comma, first_of, sequence_term};
 pub use constants::{character, number, string};
 pub use members::selected;
 pub use names::named;
-pub use operators::{binary, cast, conditional, indexed, measured};
+pub use operators::{binary, cast, conditional, indexed, measured_term, measured_type};
 pub use sizes::{size, term_constant};
 pub use unary_operators::unary;

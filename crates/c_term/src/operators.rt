@@ -1,5 +1,5 @@
-ghost use Rattle.std.specs.Prelude.{◌≡◌, IfOk, OnOk};
-ghost use Rattle.std.specs.Option.{option_copied};
+ghost use Rattle.std.specs.Prelude.{◌≡◌, IfOk, OnOk, option_map};
+ghost use Rattle.c_static.specs.Operands.{operand_type};
 ghost use Rattle.c_static.specs.Operators.{binary_typed, conditional_typed, index_typed, cast_typed, size_typed};
 ghost use Rattle.c_elaboration.specs.declared.rule.Rule.TheVariants.{BadOperands};
 ghost use Rattle.c_elaboration.specs.State.{or_broken};
@@ -168,13 +168,27 @@ fn cast_of(
 }
 
 /// The size of a type, `sizeof` being at the offset (6.5.3.4).
-pub fn measured(state: &mut State, offset: u32, t: Option<&CType>) -> Result<Term, NoMemory>
-    ensures value { IfOk result (λ r. r ≡ (measured offset (option_copied t.entry) state.old).0) }
-    ensures state { OnOk result (state.new ≡ (measured offset (option_copied t.entry) state.old).1) }
+pub fn measured_type(state: &mut State, offset: u32, t: MaybeType) -> Result<Term, NoMemory>
+    ensures value { IfOk result (λ r. r ≡ (measured offset t state.old).0) }
+    ensures state { OnOk result (state.new ≡ (measured offset t state.old).1) }
     ensures keeps { OnOk result (KeepsDeclarations state.old state.new) }
 {
-    match t {
-        Some(t) => measured_of(state, offset, t),
+    match t.ty {
+        Some(t) => measured_of(state, offset, &t),
+        None => Ok(Term::none()),
+    }
+}
+
+/// The size of the type of a term, `sizeof` being at the offset.
+pub fn measured_term(state: &mut State, offset: u32, a: Term) -> Result<Term, NoMemory>
+    ensures value { IfOk result
+        (λ r. r ≡ (measured offset (option_map operand_type a) state.old).0) }
+    ensures state { OnOk result
+        (state.new ≡ (measured offset (option_map operand_type a) state.old).1) }
+    ensures keeps { OnOk result (KeepsDeclarations state.old state.new) }
+{
+    match a.operand {
+        Some(a) => measured_of(state, offset, c_typing::operand_type(&a)),
         None => Ok(Term::none()),
     }
 }

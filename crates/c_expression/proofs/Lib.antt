@@ -1,0 +1,4 @@
+pub mod ListLemmas
+mod LoopLemmas
+mod ShapeLemmas
+mod ArmLemmas
