@@ -23,7 +23,8 @@ pub(crate) fn text(state: &mut State, first: &Literal, more: &[Literal]) -> Resu
     string(state, first.span.at, characters)
 }
 
-/// The characters of neighbouring string literals, one after another (ISO/IEC 9899:2011, 5.1.1.2p1).
+/// The characters of neighbouring string literals, one after another (ISO/IEC 9899:2011,
+/// 5.1.1.2p1).
 #[tactic(auto, using(crate::proofs::ListLemmas::grows))]
 pub fn characters(alloc: Global, first: &Literal, more: &[Literal]) -> Result<Bytes, NoMemory>
     ensures { IfOk result
