@@ -2,7 +2,7 @@ ghost use Rattle.std.specs.Prelude.{◌≡◌};
 ghost use Rattle.g_construct.specs.Exits.{no_exits, either_exits, past_loop, past_switch, can_leave};
 ghost use Rattle.g_count.specs.ExitsViews.{exits_of};
 
-// Which jumps a statement holds that leave it.
+/// Which jumps a statement holds that leave it.
 #[derive(Clone, Copy)]
 pub struct Leaves {
     pub returns: bool,
@@ -11,6 +11,7 @@ pub struct Leaves {
 }
 
 impl Leaves {
+    /// It cannot be left.
     pub fn none() -> Leaves
         ensures { exits_of result ≡ no_exits }
     {
@@ -21,7 +22,7 @@ impl Leaves {
         }
     }
 
-    // Those of either part.
+    /// Those of either part.
     pub fn either(self, other: Leaves) -> Leaves
         ensures { exits_of result ≡ either_exits (exits_of self) (exits_of other) }
     {
@@ -32,7 +33,7 @@ impl Leaves {
         }
     }
 
-    // Those of the body of a loop that leave the loop.
+    /// Those of the body of a loop that leave the loop.
     pub fn past_loop(self) -> Leaves
         ensures { exits_of result ≡ past_loop (exits_of self) }
     {
@@ -43,7 +44,7 @@ impl Leaves {
         }
     }
 
-    // Those of the groups of a `switch` that leave it.
+    /// Those of the groups of a `switch` that leave it.
     pub fn past_switch(self) -> Leaves
         ensures { exits_of result ≡ past_switch (exits_of self) }
     {
@@ -54,6 +55,7 @@ impl Leaves {
         }
     }
 
+    /// Whether there is one.
     pub fn can_leave(self) -> bool
         ensures { result ≡ can_leave (exits_of self) }
     {

@@ -11,8 +11,8 @@ use crate::statement::items_values;
 use crate::straight::straight_values;
 use c_typed::{TFunction, Variable};
 
-// The parameters of a function.
-fn params_of(f: &TFunction) -> &[Variable]
+/// The parameters of a function.
+pub fn params_of(f: &TFunction) -> &[Variable]
     ensures { result.now ≡ params_of f.now }
 {
     let count = f.params as usize;

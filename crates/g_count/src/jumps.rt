@@ -48,6 +48,7 @@ fn groups_jump(groups: &[Group]) -> bool
     false
 }
 
+/// Whether a statement is a `return`.
 pub fn is_return(a: &TStmt) -> bool
     ensures { result ≡ is_return a.now }
 {
@@ -57,7 +58,7 @@ pub fn is_return(a: &TStmt) -> bool
     }
 }
 
-// Whether items follow the one at this index.
+/// Whether items follow the one at this index.
 pub fn items_follow(items: &[Item], i: usize) -> bool
     requires { i < length items.now }
     ensures { result ≡ some_items (items_of (drop (i + 1) items.now)) }
@@ -79,7 +80,7 @@ fn item_jumps(a: &TStmt, follows: bool) -> bool
     stmt_jumps(a)
 }
 
-// Whether a jump other than a `return` as the last item stands in a body.
+/// Whether a jump other than a `return` as the last item stands in a body.
 pub fn body_jumps(items: &[Item]) -> bool
     ensures { result ≡ body_jumps (items_of items.now) }
 {

@@ -14,4 +14,7 @@ mod statement;
 mod straight;
 mod switch;
 
-pub use function::count;
+pub use exits::Leaves;
+pub use function::{count, params_of};
+pub use jumps::{body_jumps, is_return, items_follow};
+pub use switch::ends_segment;

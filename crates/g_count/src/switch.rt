@@ -34,7 +34,7 @@ pub fn ends_with_jump(items: &[Item]) -> bool
     ends
 }
 
-// Whether the group at this index is the last of its segment.
+/// Whether the group at this index is the last of its segment.
 pub fn ends_segment(groups: &[Group], i: usize) -> bool
     requires { i < length groups.now }
     ensures { result ≡ first_ends (groups_of (drop i groups.now)) }

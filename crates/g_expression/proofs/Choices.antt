@@ -1,16 +1,16 @@
 -- Regions of a node, one after the other.
-use Rattle.std.proofs.Common.{◌≡◌, ℕ, suc, Bool, List, [], ◌∷◌, ◌++◌, ◌+◌, length, refl, sym, ap, ◌∙◌}
+use Rattle.std.proofs.Common.{◌≡◌, ℕ, suc, Bool, List, [], ◌∷◌, ◌++◌, ◌+◌, length, refl, sym, ap, ◌∙◌, false}
 use Rattle.g_graph.specs.declared.op.Op.{Op}
-use Rattle.g_graph.specs.declared.op.Op.TheVariants.{Gamma}
+use Rattle.g_graph.specs.declared.op.Op.TheVariants.{Gamma, Theta}
 use Rattle.g_graph.specs.declared.op.Origin.{Origin}
 use Rattle.g_graph.specs.declared.op.Origin.TheVariants.{Arg, Out}
 use Rattle.g_graph.specs.Plain.{region, node, nodes_of, regions_of}
-use Rattle.g_construct.specs.Writer.{SlotOrigin, held, object, hidden, Carried, carried_origins, carried_kinds, value_origins, value_kinds, last_kinds, numbered, beyond, with_last, renamed, Point, Built, Extra, inside, region_made, choice}
+use Rattle.g_construct.specs.Writer.{SlotOrigin, held, object, hidden, Carried, carried_origins, carried_kinds, value_origins, value_kinds, last_kinds, numbered, beyond, with_last, renamed, Point, Built, Extra, no_value, one_value, inside, nothing, region_made, choice, exchanged, choice_one_first, repeat}
 use Rattle.g_construct.specs.Laws.{shape, Later}
-use Rattle.g_construct.proofs.lemmas.Later.{Keeps, numbered_twice, form_renamed, shape_renamed}
-use Rattle.g_expression.specs.Work.{Around, Work, made, begun, closed, with_regions, ended, ended_value, port_of}
+use Rattle.g_construct.proofs.lemmas.Later.{Keeps, later_here, numbered_twice, form_renamed, shape_renamed}
+use Rattle.g_expression.specs.Work.{Around, Work, made, begun, closed, with_regions, with_exchanged, ended, ended_value, port_of}
 use Rattle.g_expression.proofs.Renaming.{last_same, beyond_is, renamed_same}
-use Rattle.g_expression.proofs.Made.{Makes}
+use Rattle.g_expression.proofs.Made.{Makes, made_given}
 
 -- the same variables, whatever their origins
 pub record SameShape (k l : Carried) : Type 0 where
@@ -126,3 +126,52 @@ first_output {A} x w w1 w2 w3 w4 w5 p f g rs qs hf hg e1 e2 er e3 e4 eq e5 =
     let second : w5 ≡ open_in (with_region (with_region a x k b) x k c) w.around k c.after.next =
     close_from x (with_region a x k b) w.around k b.after.next g w3 w4 w5 qs hg first e4 eq e5 in
     ap (λ u. ended_value u.around) second
+
+-- ---- a Gamma without extra values
+
+nothing_more : (w : Work) → w ≡ made w (nothing w.point)
+nothing_more w = let v : Unit {0} = tt in sym (made_given w v)
+
+-- region 0 has the part, and region 1 nothing
+pub unless_makes : (w w1 w2 w3 w4 w5 : Work) (p : Origin) (f : Point → Built (Unit {0})) → Keeps f → w1 ≡ begun (p ∷ []) w → w2 ≡ made w1 (f w1.point) → w3 ≡ closed [] w2 →
+    w4 ≡ closed [] w3 → w5 ≡ ended Gamma false w4 → w5 ≡ made w (choice no_value w.point p f nothing)
+unless_makes w w1 w2 w3 w4 w5 p f h e1 e2 e3 e4 e5 =
+    (choice_makes no_value false (λ j. refl) w w1 w2 w3 w3 w4 w5 p f nothing [] [] tt h later_here e1 e2 refl e3 (nothing_more w3) refl e4 e5 refl).work
+
+-- region 0 has nothing, and region 1 the part
+pub where_makes : (w w1 w2 w3 w4 w5 : Work) (p : Origin) (f : Point → Built (Unit {0})) → Keeps f → w1 ≡ begun (p ∷ []) w → w2 ≡ closed [] w1 → w3 ≡ made w2 (f w2.point) →
+    w4 ≡ closed [] w3 → w5 ≡ ended Gamma false w4 → w5 ≡ made w (choice no_value w.point p nothing f)
+where_makes w w1 w2 w3 w4 w5 p f h e1 e2 e3 e4 e5 =
+    (choice_makes no_value false (λ j. refl) w w1 w1 w2 w3 w4 w5 p nothing f [] [] tt later_here h e1 (nothing_more w1) refl e2 e3 refl e4 e5 refl).work
+
+exchanged_open : (a : Around) (rest : List Around) (k : Carried) (m : ℕ) (w w1 : Work) → w ≡ open_in a rest k m → w1 ≡ with_exchanged w →
+    w1 ≡ open_in (with_regions a (exchanged a.regions)) rest k m
+exchanged_open a rest k m w w1 e e1 = e1 ∙ ap with_exchanged e
+
+-- the nodes of region 1 get their numbers first
+pub one_first_makes : (w w1 w2 w3 w4 w5 w6 w7 : Work) (p : Origin) (f g : Point → Built (Unit {0})) → Keeps f → Keeps g → w1 ≡ begun (p ∷ []) w → w2 ≡ made w1 (g w1.point) →
+    w3 ≡ closed [] w2 → w4 ≡ made w3 (f w3.point) → w5 ≡ closed [] w4 → w6 ≡ with_exchanged w5 → w7 ≡ ended Gamma false w6 →
+    w7 ≡ made w (choice_one_first no_value w.point p f g)
+one_first_makes w w1 w2 w3 w4 w5 w6 w7 p f g hf hg e1 e2 e3 e4 e5 e6 e7 =
+    let k : Carried = w.point.carried in
+    let n : ℕ = w.point.next in
+    let a : Around = gamma_around p w in
+    let b : Built (Unit {0}) = g (inside k (suc n)) in
+    let first : w3 ≡ open_in (with_region a no_value k b) w.around k b.after.next = close_from no_value a w.around k (suc n) g w1 w2 w3 [] hg e1 e2 refl e3 in
+    let c : Built (Unit {0}) = f (inside k b.after.next) in
+    let second : w5 ≡ open_in (with_region (with_region a no_value k b) no_value k c) w.around k c.after.next =
+    close_from no_value (with_region a no_value k b) w.around k b.after.next f w3 w4 w5 [] hf first e4 refl e5 in
+    let both : Around = with_region (with_region a no_value k b) no_value k c in
+    end_from (with_regions both (exchanged both.regions)) w.around k c.after.next Gamma false (λ j. j) w6 w7 (λ j. refl) (exchanged_open both w.around k c.after.next w5 w6 second e6) e7
+
+-- ---- a Theta
+
+pub repeat_makes : (w w1 w2 w3 w4 : Work) (f : Point → Built Origin) (v : Origin) → Keeps f → w1 ≡ begun [] w → w2 ≡ made w1 (f w1.point) → v ≡ (f w1.point).value →
+    w3 ≡ closed (v ∷ []) w2 → w4 ≡ ended Theta false w3 → w4 ≡ made w (repeat w.point f)
+repeat_makes w w1 w2 w3 w4 f v h e1 e2 ev e3 e4 =
+    let k : Carried = w.point.carried in
+    let n : ℕ = w.point.next in
+    let a : Around = record { nodes = w.nodes; id = n; inputs = carried_origins k; regions = [] } in
+    let b : Built Origin = f (inside k (suc n)) in
+    let first : w3 ≡ open_in (with_region a one_value k b) w.around k b.after.next = close_from one_value a w.around k (suc n) f w1 w2 w3 (v ∷ []) h e1 e2 (ap (λ o. o ∷ []) ev) e3 in
+    end_from (with_region a one_value k b) w.around k b.after.next Theta false (λ j. j) w3 w4 (λ j. refl) first e4

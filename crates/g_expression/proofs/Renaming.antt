@@ -42,11 +42,13 @@ from_shift (Some id) n m j k e = ap (λ x. Out id x) e
 pub numbered_step : (node : Option ℕ) (n m : ℕ) (x : SlotOrigin) (xs : List SlotOrigin) → m ≡ n + slot_values x →
     numbered (x ∷ xs) (origin_from node n) ≡ slot_at x (origin_from node n 0) ∷ numbered xs (origin_from node m)
 numbered_step node n m (held o) xs e =
-    ap (λ ys. held (origin_from node n 0) ∷ ys) (numbered_same xs (λ k. origin_from node n (suc k)) (origin_from node m) (λ k. let q : n + suc k ≡ m + k = omega (arith, e) in from_shift node n m (suc k) k q))
+    ap (λ ys. held (origin_from node n 0) ∷ ys) (numbered_same xs (λ k. origin_from node n (suc k)) (origin_from node m) (λ k. let q : n + suc k ≡ m + k = omega (arith, e) in
+    from_shift node n m (suc k) k q))
 numbered_step node n m (object k) xs e =
     ap (λ ys. object k ∷ ys) (numbered_same xs (origin_from node n) (origin_from node m) (λ j. let q : n + j ≡ m + j = omega (arith, e) in from_shift node n m j j q))
 numbered_step node n m (hidden o) xs e =
-    ap (λ ys. hidden (origin_from node n 0) ∷ ys) (numbered_same xs (λ k. origin_from node n (suc k)) (origin_from node m) (λ k. let q : n + suc k ≡ m + k = omega (arith, e) in from_shift node n m (suc k) k q))
+    ap (λ ys. hidden (origin_from node n 0) ∷ ys) (numbered_same xs (λ k. origin_from node n (suc k)) (origin_from node m) (λ k. let q : n + suc k ≡ m + k = omega (arith, e) in
+    from_shift node n m (suc k) k q))
 
 -- the arguments of a region, and the outputs of a node
 pub renamed_args : (c : Carried) → renamed c (origin_from None 0) ≡ renamed c Arg

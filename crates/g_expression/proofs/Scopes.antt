@@ -111,7 +111,8 @@ no_more (x ∷ xs) = ap (λ ys. x ∷ ys) (no_more xs)
 pub push_keeps : (xs ys : List InScope) (x : InScope) (ps : List ℕ) → ps ≡ slot_places 0 (map slot_of xs) → is_hidden (slot_of x) ≡ true → ys ≡ xs ++ x ∷ [] →
     ps ≡ slot_places 0 (map slot_of ys)
 push_keeps xs ys x ps e h g =
-    e ∙ sym (ap (λ zs. slot_places 0 (map slot_of zs)) g ∙ places_more xs x ∙ ap (λ qs. slot_places 0 (map slot_of xs) ++ qs) (hidden_place (length xs) (slot_of x) h) ∙ no_more (slot_places 0 (map slot_of xs)))
+    e ∙ sym (ap (λ zs. slot_places 0 (map slot_of zs)) g ∙ places_more xs x ∙ ap (λ qs. slot_places 0 (map slot_of xs) ++ qs) (hidden_place (length xs) (slot_of x) h)
+    ∙ no_more (slot_places 0 (map slot_of xs)))
 
 pub push_adds : (xs ys : List InScope) (x : InScope) (ps qs : List ℕ) (n : ℕ) → ps ≡ slot_places 0 (map slot_of xs) → is_hidden (slot_of x) ≡ false → ys ≡ xs ++ x ∷ [] → n ≡ length xs →
     qs ≡ ps ++ n ∷ [] → qs ≡ slot_places 0 (map slot_of ys)
@@ -170,7 +171,7 @@ past_get [] i h = refl
 past_get (x ∷ xs) zero h = absurd (omega (arith, h))
 past_get (x ∷ xs) (suc i) h = past_get xs i (omega (arith, h))
 
-within_get : {X : Type 0} → (xs : List X) (i : ℕ) (x : X) → i < length xs → x ≡ get_or xs i x → slice_get xs i ≡ Some x
+pub within_get : {X : Type 0} → (xs : List X) (i : ℕ) (x : X) → i < length xs → x ≡ get_or xs i x → slice_get xs i ≡ Some x
 within_get [] i x h e = absurd (omega (arith, h))
 within_get (y ∷ xs) zero x h e = ap Some (sym e)
 within_get (y ∷ xs) (suc i) x h e = within_get xs i x (omega (arith, h)) e

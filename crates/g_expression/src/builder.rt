@@ -2,8 +2,8 @@
 ghost use Rattle.std.specs.Prelude.{◌≡◌, ◌+◌, ◌<◌, ◌≤◌, ◌^◌, [], ◌∷◌, ◌++◌, true, false, suc, OnOk, IfOk, option_map, option_to_list};
 ghost use Rattle.g_graph.specs.declared.op.Op.TheVariants.{Gamma, Theta};
 ghost use Rattle.g_graph.specs.declared.op.Origin.TheVariants.{Arg, Out};
-ghost use Rattle.g_graph.specs.Plain.{node, no_regions};
-ghost use Rattle.g_construct.specs.Writer.{straight, exchanged, last_origins, last_kinds, carried_kinds, variable_at, variable_set, newest, slot_origin, carried_origins, pushed, popped, with_variables, with_go, with_jumps, with_states};
+ghost use Rattle.g_graph.specs.Plain.{node, no_regions, region, nodes_of};
+ghost use Rattle.g_construct.specs.Writer.{straight, exchanged, last_origins, last_kinds, carried_kinds, variable_at, variable_set, newest, slot_origin, carried_origins, pushed, popped, with_variables, with_go, with_go_and_ret, with_jumps, with_states};
 ghost use Rattle.g_construct.specs.Operations.{value_node, store_made, clear_made, put_made, exit_made, get_made};
 ghost use Rattle.g_expression.specs.SlotViews.{slot_of, form_of};
 ghost use Rattle.g_expression.specs.Work.{made, moved_to, opened, open_region, without_nodes, around_is, region_added, with_regions, node_added, applied, carried_from, begun, closed, with_exchanged, ended, ended_id, extra_count, node_ended, ended_value};
@@ -86,6 +86,13 @@ impl Model for Builder {
     } };
 }
 
+/// The body of a function, and the number after those of its nodes.
+#[derive(Drop)]
+pub struct Body {
+    pub region: Region,
+    pub next: u32,
+}
+
 impl Builder {
     /// No node is made, no variable is in scope, and the states are these.
     pub fn new(alloc: Global, memory: Origin, io: Origin) -> Builder
@@ -133,6 +140,36 @@ impl Builder {
         self.io
     }
 
+    /// Where `ret` comes from.
+    pub fn ret(&self) -> Origin
+        ensures { result ≡ self.now.point.carried.ret }
+    {
+        self.ret
+    }
+
+    /// The nodes that stand open, as a region with these arguments that gives a value and the
+    /// states, and the next number.
+    pub fn finish(self, args: Vec<Kind>, value: Origin) -> Result<Body, NoMemory>
+        ensures region { IfOk result (λ body. body.region ≡
+            region args.items (nodes_of self.nodes)
+            (value ∷ self.point.carried.memory ∷ self.point.carried.io ∷ [])) }
+        ensures next { IfOk result (λ body. body.next ≡ self.point.next) }
+    {
+        let mut results = Vec::new(self.alloc);
+        results.push(value)?;
+        results.push(self.memory)?;
+        results.push(self.io)?;
+        let region = Region {
+            args,
+            nodes: self.nodes,
+            results,
+        };
+        Ok(Body {
+            region,
+            next: self.next,
+        })
+    }
+
     /// Where `go` comes from.
     pub fn go(&self) -> Origin
         ensures { result ≡ self.now.point.carried.go }
@@ -140,7 +177,12 @@ impl Builder {
         self.go
     }
 
-    // A list of no origins.
+    /// The allocator of what is made.
+    pub fn allocator(&self) -> Global {
+        self.alloc
+    }
+
+    /// A list of no origins.
     pub fn no_origins(&self) -> Vec<Origin>
         ensures { result.items ≡ [] }
     {
@@ -190,6 +232,14 @@ impl Builder {
         ensures { self.new ≡ moved_to self.old (with_go self.old.point go) }
     {
         self.go = go;
+    }
+
+    /// `go` and `ret` have other origins.
+    pub fn set_go_and_ret(&mut self, go: Origin, ret: Origin)
+        ensures { self.new ≡ moved_to self.old (with_go_and_ret self.old.point go ret) }
+    {
+        self.go = go;
+        self.ret = ret;
     }
 
     /// The function has jumps or not, and `go` and `ret` have these origins.

@@ -9,5 +9,6 @@ mod operations;
 mod places;
 mod variables;
 
-pub use builder::Builder;
+pub use builder::{Body, Builder};
+pub use operations::access_width;
 pub use variables::InScope;

@@ -1,8 +1,9 @@
 //! The nodes of operations on what operands give.
 ghost use Rattle.std.specs.Prelude.{◌≡◌, ◌-◌, ◌^◌, ◌∷◌, [], OnOk, IfOk};
-ghost use Rattle.g_construct.specs.Operations.{const_made, undef_made, local_made, delta_made, bin_made, un_made, load_made, ptr_eq_made, access_width, converted_made, extended_made, read_made, is_zero_made, is_not_zero_made, is_null_made, not_made, condition_made, less_op, equal_made, not_equal_made, compared_made, moved_made, difference_made, at_offset_made};
+ghost use Rattle.g_construct.specs.Operations.{const_made, undef_made, local_made, delta_made, bin_made, un_made, load_made, ptr_eq_made, converted_made, extended_made, read_made, is_zero_made, is_not_zero_made, is_null_made, not_made, condition_made, less_op, equal_made, not_equal_made, compared_made, moved_made, difference_made, at_offset_made};
 ghost use Rattle.g_construct.specs.Expressions.{unary_made, binary_made, compound_made, stepped_made, step_op};
 ghost use Rattle.g_construct.specs.Writer.{bind};
+ghost use Rattle.c_typed.specs.Objects.{access_width};
 ghost use Rattle.c_typed.specs.WellTyped.{int};
 ghost use Rattle.g_expression.specs.Work.{made};
 
@@ -13,7 +14,7 @@ use g_graph::{Op, Origin};
 use no_memory::NoMemory;
 use val_core::{Op1, Op2};
 
-// The bytes of a scalar object.
+/// The bytes of a scalar object: 1, 2 or 4.
 pub fn access_width(t: &CType) -> u8
     ensures { result ≡ access_width t.now }
 {
@@ -198,7 +199,8 @@ impl Builder {
     }
 
     fn is_equal(&mut self, t: &CType, a: Origin, b: Origin) -> Result<Origin, NoMemory>
-        ensures work { OnOk result (self.new ≡ made self.old (equal_made t.now a b self.old.point)) }
+        ensures work { OnOk result
+            (self.new ≡ made self.old (equal_made t.now a b self.old.point)) }
         ensures value { IfOk result (λ v. v ≡ (equal_made t.now a b self.old.point).value) }
     {
         match &t.form {
@@ -387,7 +389,8 @@ impl Builder {
 
     /// The operation of a compound assignment on the old value and the operand.
     pub fn compound(&mut self, op: CompoundOp, old: Origin, b: Origin) -> Result<Origin, NoMemory>
-        ensures work { OnOk result (self.new ≡ made self.old (compound_made op old b self.old.point)) }
+        ensures work { OnOk result
+            (self.new ≡ made self.old (compound_made op old b self.old.point)) }
         ensures value { IfOk result (λ v. v ≡ (compound_made op old b self.old.point).value) }
     {
         match op {
@@ -399,7 +402,8 @@ impl Builder {
 
     /// The old value, one step up or down.
     pub fn stepped(&mut self, step: &IncDec, old: Origin) -> Result<Origin, NoMemory>
-        ensures work { OnOk result (self.new ≡ made self.old (stepped_made step.now old self.old.point)) }
+        ensures work { OnOk result
+            (self.new ≡ made self.old (stepped_made step.now old self.old.point)) }
         ensures value { IfOk result (λ v. v ≡ (stepped_made step.now old self.old.point).value) }
     {
         let by = self.constant(step.by)?;

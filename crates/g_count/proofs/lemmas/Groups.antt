@@ -60,7 +60,7 @@ items_after_weight (x ∷ xs) (suc i) h =
     let one : items_weight (items_of (drop 1 (x ∷ xs))) ≡ items_weight (items_of xs) = refl in
     omega (arith, rest, same, less, one)
 
-groups_rest_weight : (gs : List Group) (i : ℕ) → groups_weight (groups_of (drop i gs)) ≤ groups_weight (groups_of gs)
+pub groups_rest_weight : (gs : List Group) (i : ℕ) → groups_weight (groups_of (drop i gs)) ≤ groups_weight (groups_of gs)
 groups_rest_weight gs zero = omega arith
 groups_rest_weight [] (suc i) = omega arith
 groups_rest_weight (g ∷ gs) (suc i) = let h = groups_rest_weight gs i in omega (arith, h)

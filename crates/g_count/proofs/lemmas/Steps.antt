@@ -27,7 +27,7 @@ or_assoc : (a b c : Bool) → ((a || b) || c) ≡ (a || (b || c))
 or_assoc true b c = refl
 or_assoc false b c = refl
 
-either_assoc : (a b c : Exits) → either_exits (either_exits a b) c ≡ either_exits a (either_exits b c)
+pub either_assoc : (a b c : Exits) → either_exits (either_exits a b) c ≡ either_exits a (either_exits b c)
 either_assoc a b c =
     λ i. record {
       returns = or_assoc a.returns b.returns c.returns i;

@@ -1,0 +1,5 @@
+pub mod Numbers
+pub mod Pops
+pub mod LabelViews
+pub mod LabelParts
+pub mod Segments

@@ -1,0 +1,13 @@
+-- The numbers of a function's objects.
+use Rattle.std.specs.Prelude.{ℕ, suc, if◌then◌else◌, List, [], ◌∷◌}
+use Rattle.std.specs.Coded.{Coded, coded_list}
+use Rattle.c_typed.specs.Typed.{VariableTree}
+use Rattle.c_typed.specs.ProgramEncoding.{coded_variable}
+
+abbrev pub coded_variables : Coded (List VariableTree)
+coded_variables = coded_list coded_variable
+
+-- for each variable how many objects stand before it, where so many stand before the first
+abbrev pub numbers_from : ℕ → List VariableTree → List ℕ
+numbers_from n [] = []
+numbers_from n (v ∷ vs) = n ∷ numbers_from (if v.is_object then suc n else n) vs
