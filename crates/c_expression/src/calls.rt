@@ -21,19 +21,19 @@ use no_memory::NoMemory;
 pub(crate) fn call(
     state: &mut State,
     f: Called,
-    open: Span,
+    bracket: Span,
     xs: &Option<ExprList>,
 ) -> Result<Term, NoMemory>
     ensures value { IfOk result (λ r. r ≡
         (after (arguments (opt l.Arguments list_children xs.now) state.old)
-        (called open.at f)).0) }
+        (called bracket.at f)).0) }
     ensures state { OnOk result (state.new ≡
         (after (arguments (opt l.Arguments list_children xs.now) state.old)
-        (called open.at f)).1) }
+        (called bracket.at f)).1) }
     ensures keeps { OnOk result (KeepsDeclarations state.old state.new) }
 {
     let es = arguments(state, xs)?;
-    called(state, open.at, f, es)
+    called(state, bracket.at, f, es)
 }
 
 // What is called: a function by its name, or another expression.

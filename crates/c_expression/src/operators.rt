@@ -25,17 +25,17 @@ use no_memory::NoMemory;
 pub(crate) fn index_expression(
     state: &mut State,
     a: Term,
-    open: Span,
+    bracket: Span,
     index: &ExprList,
 ) -> Result<Term, NoMemory>
     ensures value { IfOk result (λ r. r ≡
-        (after (expressions (list_tree index.now) state.old) (indexed open.at a)).0) }
+        (after (expressions (list_tree index.now) state.old) (indexed bracket.at a)).0) }
     ensures state { OnOk result (state.new ≡
-        (after (expressions (list_tree index.now) state.old) (indexed open.at a)).1) }
+        (after (expressions (list_tree index.now) state.old) (indexed bracket.at a)).1) }
     ensures keeps { OnOk result (KeepsDeclarations state.old state.new) }
 {
     let i = comma_expression(state, index)?;
-    indexed(state, open.at, a, i)
+    indexed(state, bracket.at, a, i)
 }
 
 // `.` or `->` and a member's name.
@@ -161,18 +161,18 @@ pub(crate) fn sizeof_type(
 #[cycle(expression)]
 pub(crate) fn cast_expression(
     state: &mut State,
-    open: Span,
+    bracket: Span,
     t: MaybeType,
     operand: &Expr,
 ) -> Result<Term, NoMemory>
     ensures value { IfOk result (λ r. r ≡
-        (after (expression (expr_tree operand.now) state.old) (cast open.at t)).0) }
+        (after (expression (expr_tree operand.now) state.old) (cast bracket.at t)).0) }
     ensures state { OnOk result (state.new ≡
-        (after (expression (expr_tree operand.now) state.old) (cast open.at t)).1) }
+        (after (expression (expr_tree operand.now) state.old) (cast bracket.at t)).1) }
     ensures keeps { OnOk result (KeepsDeclarations state.old state.new) }
 {
     let a = expression(state, operand)?;
-    cast(state, open.at, t, a)
+    cast(state, bracket.at, t, a)
 }
 
 // The right operand of a binary operator.

@@ -1,3 +1,3 @@
 pub mod Returned
 pub mod Bodies
-pub mod Limits
+pub mod Passed

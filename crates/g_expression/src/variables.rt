@@ -146,7 +146,7 @@ impl Variables {
         Ok(next)
     }
 
-    // The origins of the values, behind others.
+    // The origins of the values, after others.
     pub fn push_origins(&self, origins: &mut Vec<Origin>) -> Result<(), NoMemory>
         ensures { OnOk result (origins.new.items ≡ origins.old.items ++ value_origins self.now) }
     {
@@ -156,7 +156,7 @@ impl Variables {
         Ok(())
     }
 
-    // A kind for each value, behind others.
+    // A kind for each value, after others.
     pub fn push_kinds(&self, kinds: &mut Vec<Kind>) -> Result<(), NoMemory>
         ensures { OnOk result (kinds.new.items ≡ kinds.old.items ++ value_kinds self.now) }
     {

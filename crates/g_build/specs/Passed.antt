@@ -5,7 +5,7 @@ use Rattle.limits.specs.Limits.{most_lambda_values}
 use Rattle.c_typed.specs.Typed.{FunctionTree}
 use Rattle.g_graph.specs.Count.{saturated}
 use Rattle.g_construct.specs.Functions.{function_values}
-use Rattle.g_build.specs.declared.limits.Passed.{Passed}
+use Rattle.g_build.specs.declared.passed.Passed.{Passed}
 
 abbrev pub most_built_values : ℕ
 most_built_values = 400000

@@ -3,7 +3,7 @@ ghost use Rattle.std.specs.Prelude.{◌≡◌, option_map, nat_lt};
 ghost use Rattle.std.specs.List.{sum_by};
 ghost use Rattle.g_graph.specs.Count.{saturated};
 ghost use Rattle.g_construct.specs.Functions.{function_values};
-ghost use Rattle.g_build.specs.Limits.{limit_passed, first_large, first_beyond, most_built_values};
+ghost use Rattle.g_build.specs.Passed.{limit_passed, first_large, first_beyond, most_built_values};
 
 use c_typed::TFunction;
 use g_count::count;
