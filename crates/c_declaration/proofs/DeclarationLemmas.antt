@@ -16,6 +16,7 @@ use Rattle.c_ast.specs.Declarations as trees
 use Rattle.c_ast.specs.Expressions.{expr_tree, next}
 use Rattle.c_ast.specs.Nodes.{opt, many, one_more, none_of, mark}
 use Rattle.c_ast.proofs.ListLemmas.{many-none, many-snoc}
+use Rattle.c_expression.proofs.ListLemmas.{count_many}
 use Rattle.c_scope.specs.Scopes.{Name}
 use Rattle.c_declaration.specs.Bounds.{variable_typed}
 use Rattle.c_typed.specs.Typed.{DeclarationTree, ItemTrees, no_items, stmt_then, declare_then}
@@ -53,16 +54,6 @@ pub declarators-more : (x : Specified) (b : Bool) (xs : List (Next Declarator)) 
     )
 declarators-more x b xs d s = ap (λ t. more_declarators x b t s) (many-snoc l.MoreDecls (next trees.declarator) xs d)
 
--- ---- how many elements a repetition has
-
-count_from : {X : Type 0} (k : Repeated) (element : X → List Tree) (t : Tree) (xs : List X) → count_of (fold (one_more k element) t xs) ≡ count_of t + length xs
-count_from k element t [] = omega arith
-count_from k element t (x ∷ xs) = count_from k element (one_more k element t x) xs ∙ omega arith
-
-pub count-many : {X : Type 0} (k : Repeated) (element : X → List Tree) (xs : List X) → count_of (many k element xs) ≡ length xs
-unfolding many
-count-many k element xs = count_from k element (none_of k) xs ∙ omega arith
-
 -- ---- one declarator
 
 pub declarator-of : (x : Specified) (b : Bool) (d : Declarator) (s : State) →
@@ -71,7 +62,7 @@ pub declarator-of : (x : Specified) (b : Bool) (d : Declarator) (s : State) →
 unfolding declarator_tree
 declarator-of x b d s =
     ap (λ (n : ℕ). let v = variable_declarator x b n d.name.name d.name.span.at (trees.open_dimensions d.dimensions) (trees.initializer d.initializer) s in
-    (declare_then v.0 no_items, v.1)) (count-many l.Stars (λ span. mark m.Star span ∷ []) d.stars)
+    (declare_then v.0 no_items, v.1)) (count_many l.Stars (λ span. mark m.Star span ∷ []) d.stars)
 
 -- from its dimensions on
 pub declared-typed : (x : Specified) (b : Bool) (n : ℕ) (name : Name) (at : ℕ) (bounds begun : Tree) (s s1 : State) (ds : List Dimension) →

@@ -16,7 +16,7 @@ use Rattle.c_elaboration.specs.State.{State}
 use Rattle.c_elaboration.specs.Specifiers.{Specified}
 use Rattle.c_elaboration.specs.Declarators.{open_dimensions, is_fixed, global_declarator, more_globals}
 use Rattle.c_declaration.specs.Globals.{new_global, global_begun, global_sized}
-use Rattle.c_declaration.proofs.DeclarationLemmas.{count-many}
+use Rattle.c_expression.proofs.ListLemmas.{count_many}
 
 pub begun-sized : (x : Specified) (fixed : Bool) (n k : ℕ) (name : Name) (at : ℕ) (bounds begun : Tree) (s s1 : State) (ds : List Dimension) →
     ds ≡ (open_dimensions bounds s).0 → s1 ≡ (open_dimensions bounds s).1 → global_begun x fixed n k name at bounds begun s ≡ global_sized x fixed n k name at ds begun s1
@@ -43,4 +43,4 @@ unfolding declarator_tree
 globals-more x b xs d s =
     ap (λ t. (more_globals x b t s).1) (many-snoc l.MoreDecls (next trees.declarator) xs d)
     ∙ ap (λ (n : ℕ). (global_declarator x b n d.element.name.name d.element.name.span.at (trees.open_dimensions d.element.dimensions)
-    (trees.initializer d.element.initializer) (more_globals x b (trees.more_declarators xs) s).1).1) (count-many l.Stars (λ span. mark m.Star span ∷ []) d.element.stars)
+    (trees.initializer d.element.initializer) (more_globals x b (trees.more_declarators xs) s).1).1) (count_many l.Stars (λ span. mark m.Star span ∷ []) d.element.stars)

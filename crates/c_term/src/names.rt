@@ -11,7 +11,8 @@ use c_typed::{PlaceForm, TPlace};
 use no_memory::NoMemory;
 use std::alloc::Global;
 
-/// What a name at an offset is as an expression (ISO/IEC 9899:2011, 6.5.1): a variable. A function's
+/// What a name at an offset is as an expression (ISO/IEC 9899:2011, 6.5.1): a variable. A
+/// function's
 /// name is one only where it is called.
 pub fn named(state: &mut State, name: &Name, offset: u32) -> Result<Term, NoMemory>
     ensures value { IfOk result (λ r. r ≡ (named name.now offset state.old).0) }

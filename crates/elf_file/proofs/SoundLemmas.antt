@@ -1,6 +1,6 @@
 -- What holds of a file without a fault.
 use Rattle.std.proofs.Common.{◌≡◌, ℕ, ◌+◌, ◌≤◌, Bool, true, false, if◌then◌else◌, List, Option, Some, is_none, not, length, refl, slice_get, [], ◌∷◌, zero, suc, unwrap_or, sym, ap, ◌∙◌}
-use Rattle.std.proofs.lemmas.Bool.{and_parts, ltb-false, leb-true}
+use Rattle.std.proofs.lemmas.Bool.{and_parts, ltb-false, leb-true, not-false}
 use Rattle.elf_file.specs.Image.{memory_limit}
 use Rattle.elf_file.specs.Header.{ProgramHeader}
 use Rattle.elf_file.specs.Loading.{fault_of, headers_end, header_count, load_headers, is_contained, are_separate, are_loadable, total_memory}
@@ -17,10 +17,6 @@ pub record IsSound (b : List ℕ) : Type 0 where
 if-none : (t : Bool) (f : ElfFault) (rest : Option ElfFault) → is_none (if t then Some f else rest) ≡ true → (t ≡ false) × (is_none rest ≡ true)
 if-none true f rest e = cc
 if-none false f rest e = (refl, e)
-
-not-false : (t : Bool) → not t ≡ false → t ≡ true
-not-false true e = refl
-not-false false e = cc
 
 pub is_sound : (b : List ℕ) → is_none (fault_of b) ≡ true → IsSound b
 unfolding fault_of are_loadable

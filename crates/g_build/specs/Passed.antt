@@ -1,6 +1,7 @@
 -- The limits of the values of a program's lambdas as they are built.
 use Rattle.std.specs.Prelude.{ℕ, ◌+◌, nat_lt, if◌then◌else◌, List, [], ◌∷◌, Option, None, Some}
 use Rattle.std.specs.List.{sum_by}
+use Rattle.std.specs.Option.{option_or}
 use Rattle.limits.specs.Limits.{most_lambda_values}
 use Rattle.c_typed.specs.Typed.{FunctionTree}
 use Rattle.g_graph.specs.Count.{saturated}
@@ -21,13 +22,9 @@ abbrev pub first_beyond : (before : ℕ) → List FunctionTree → ℕ
 first_beyond n [] = 0
 first_beyond n (f ∷ fs) = if nat_lt most_built_values (n + function_values f) then f.at else first_beyond (n + function_values f) fs
 
-abbrev pub first_of : Option Passed → Option Passed → Option Passed
-first_of None y = y
-first_of (Some x) y = Some x
-
 abbrev pub limit_passed : List FunctionTree → Option Passed
 limit_passed fs =
-    first_of (first_large fs)
+    option_or (first_large fs)
     (if nat_lt most_built_values (sum_by function_values fs)
     then Some (record { at = first_beyond 0 fs; which = 6; count = saturated (sum_by function_values fs) })
     else None)

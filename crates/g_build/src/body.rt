@@ -42,7 +42,7 @@ fn argument_kinds(alloc: Global, params: u32) -> Result<Vec<Kind>, NoMemory>
 // A builder at the start of a function.
 fn start(alloc: Global, f: &TFunction) -> Result<Builder, NoMemory>
     ensures work { IfOk result
-        (λ b. b ≡ record { around = []; nodes = []; point = start_of f.now }) }
+        (λ b. b ≡ record { enclosing = []; nodes = []; point = start_of f.now }) }
     ensures few { OnOk result (length (params_of f.now) < 2 ^ 32 - 1) }
 {
     let params = params_of(f);

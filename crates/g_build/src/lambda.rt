@@ -20,7 +20,7 @@ fn object(alloc: Global, types: &Types, variable: &Variable) -> Result<Object, N
     Ok(Object { size, leaves })
 }
 
-// The object of a variable, if it is one, behind others.
+// Appends the object of a variable, if it is one.
 fn push_object(
     alloc: Global,
     types: &Types,

@@ -9,7 +9,7 @@ ghost use Rattle.g_expression.specs.SlotViews.{slot_of};
 use c_typed::Variable;
 use g_expression::{Builder, InScope, access_width};
 use g_graph::Origin;
-use g_statement::store_object;
+use g_statement::{number_after, store_object};
 use no_memory::NoMemory;
 
 fn in_scope(is_object: bool, number: u32, argument: u32) -> InScope
@@ -21,13 +21,6 @@ fn in_scope(is_object: bool, number: u32, argument: u32) -> InScope
     } else {
         InScope::Held(Origin::Arg(argument))
     }
-}
-
-fn number_after(number: u32, is_object: bool) -> u32
-    requires { number < 2 ^ 32 - 1 }
-    ensures { result ≡ (if is_object then suc number else number) }
-{
-    if is_object { number + 1 } else { number }
 }
 
 /// The parameters come into scope.

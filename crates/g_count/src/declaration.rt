@@ -7,7 +7,7 @@ use crate::expression::expr_values;
 use crate::scope::Scope;
 use c_typed::{Declaration, Element, Initial, Variable};
 
-// Whether a declared variable is an object.
+/// Whether a declared variable is an object.
 pub fn declared_object(variables: &[Variable], declaration: &Declaration) -> bool
     ensures { result ≡ declared_object variables.now (declaration_of declaration.now) }
 {
@@ -65,7 +65,7 @@ fn object_values(initial: &Initial, carried: u64, scope: &Scope) -> u64
     }
 }
 
-// Of a declaration.
+/// Of a declaration.
 pub fn declared_values(
     variables: &[Variable],
     declaration: &Declaration,

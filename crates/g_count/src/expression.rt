@@ -17,7 +17,7 @@ struct PlaceCount {
     in_memory: bool,
 }
 
-// Of an expression.
+/// Of an expression.
 #[cycle(expressions)]
 pub fn expr_values(e: &TExpr, carried: u64, scope: &Scope) -> u64
     ensures { result ≡ saturated (expr_values carried scope.now.objects e.now) }
@@ -93,7 +93,7 @@ pub fn expr_values(e: &TExpr, carried: u64, scope: &Scope) -> u64
     }
 }
 
-// Of an expression as a condition.
+/// Of an expression as a condition.
 #[cycle(expressions)]
 pub fn tested_values(e: &TExpr, carried: u64, scope: &Scope) -> u64
     ensures { result ≡ saturated (tested_values carried scope.now.objects e.now) }

@@ -9,7 +9,7 @@ use crate::operations::{choice_values, repeat_values};
 use crate::scope::Scope;
 use c_typed::TExpr;
 
-// Of a Gamma on `go` round what follows an item that can leave, without what follows.
+/// Of a Gamma on `go` round what follows an item that can leave, without what follows.
 pub fn leaving_values(carried: u64, leaves: bool) -> u64
     ensures { result ≡ saturated (leaving_values carried leaves) }
 {
@@ -31,7 +31,7 @@ fn step_values(step: &Option<TExpr>, leaves: bool, carried: u64, scope: &Scope) 
     }
 }
 
-// Of a `while` or `for`.
+/// Of a `while` or `for`.
 pub fn loop_values(
     condition: &Option<TExpr>,
     step: &Option<TExpr>,
@@ -58,7 +58,7 @@ pub fn loop_values(
     whole.saturating_add(if leaves { 6 } else { 0 })
 }
 
-// Of a `do`.
+/// Of a `do`.
 pub fn do_values(condition: &TExpr, leaves: bool, body: u64, carried: u64, scope: &Scope) -> u64
     ensures { result ≡
         saturated (do_values carried scope.now.objects condition.now leaves body) }

@@ -6,7 +6,7 @@ ghost use Rattle.g_count.specs.Values.{converted_values, load_values, condition_
 use c_type::{CType, Scalar, TypeForm};
 use c_typed::{BinaryOp, CompoundOp, Relation, UnaryOp};
 
-// Of a conversion to this type.
+/// Of a conversion to this type.
 pub fn converted_values(t: &CType) -> u64
     ensures { result ≡ converted_values t.now }
 {
@@ -17,7 +17,7 @@ pub fn converted_values(t: &CType) -> u64
     }
 }
 
-// Of the read of an object of this type, in a value variable or at an address.
+/// Of the read of an object of this type, in a value variable or at an address.
 pub fn read_values(in_memory: bool, t: &CType) -> u64
     ensures { result ≡ read_values in_memory t.now }
 {
@@ -30,7 +30,7 @@ pub fn read_values(in_memory: bool, t: &CType) -> u64
     }
 }
 
-// Of a value of this type as a condition.
+/// Of a value of this type as a condition.
 pub fn condition_values(t: &CType) -> u64
     ensures { result ≡ condition_values t.now }
 {
@@ -53,6 +53,7 @@ fn compared_values(relation: Relation, t: &CType) -> u64
     }
 }
 
+/// The values of a unary operator on an operand of this type, without those of the operand.
 pub fn unary_values(op: UnaryOp, t: &CType) -> u64
     ensures { result ≡ unary_values op t.now }
 {
@@ -64,7 +65,7 @@ pub fn unary_values(op: UnaryOp, t: &CType) -> u64
     }
 }
 
-// Of an operation on two operands, the left one of this type.
+/// Of an operation on two operands, the left one of this type.
 pub fn binary_values(op: BinaryOp, t: &CType) -> u64
     ensures { result ≡ binary_values op t.now }
 {
@@ -75,6 +76,7 @@ pub fn binary_values(op: BinaryOp, t: &CType) -> u64
     }
 }
 
+/// The values of the operation of a compound assignment, without those of its operands.
 pub fn compound_values(op: CompoundOp) -> u64
     ensures { result ≡ compound_values op }
 {
@@ -84,7 +86,7 @@ pub fn compound_values(op: CompoundOp) -> u64
     }
 }
 
-// The extra values of a `?:` of this type.
+/// The extra values of a `?:` of this type.
 pub fn conditional_extras(t: &CType) -> u64
     ensures { result ≡ conditional_extras t.now }
 {
@@ -94,7 +96,7 @@ pub fn conditional_extras(t: &CType) -> u64
     }
 }
 
-// Of a Gamma of two regions, with at most one extra value.
+/// Of a Gamma of two regions, with at most one extra value.
 pub fn choice_values(carried: u64, extra: u64, region0: u64, region1: u64) -> u64
     requires { extra ≤ 1 }
     ensures { result ≡ saturated (choice_values carried extra region0 region1) }
@@ -106,7 +108,7 @@ pub fn choice_values(carried: u64, extra: u64, region0: u64, region1: u64) -> u6
         .saturating_add(region1)
 }
 
-// Of a Theta.
+/// Of a Theta.
 pub fn repeat_values(carried: u64, region: u64) -> u64
     ensures { result ≡ saturated (repeat_values carried region) }
 {
@@ -116,7 +118,7 @@ pub fn repeat_values(carried: u64, region: u64) -> u64
         .saturating_add(region)
 }
 
-// Of the carried variables, with one more that is declared.
+/// Of the carried variables, with one more that is declared.
 pub fn more_carried(carried: u64, is_object: bool) -> u64
     ensures { result ≡ saturated (more_carried is_object carried) }
 {

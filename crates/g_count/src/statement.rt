@@ -14,7 +14,7 @@ use crate::scope::Scope;
 use crate::switch::{ends_segment, group_values, segments_of, switch_values};
 use c_typed::{Group, Item, StmtForm, TStmt, Variable};
 
-// How many values a part has, and how it can be left.
+/// How many values a part has, and how it can be left.
 #[derive(Clone, Copy)]
 pub struct Counted {
     pub values: u64,
@@ -47,7 +47,7 @@ fn returned(values: u64) -> Counted
     }
 }
 
-// Of a statement.
+/// Of a statement.
 #[cycle(statements)]
 pub fn stmt_values(variables: &[Variable], a: &TStmt, carried: u64, scope: &Scope) -> Counted
     ensures values { result.values ≡
@@ -122,8 +122,8 @@ pub fn stmt_values(variables: &[Variable], a: &TStmt, carried: u64, scope: &Scop
     }
 }
 
-// Of a list of items. Where many variables are declared in it, the items after them are counted in
-// a scope of their own.
+/// Of a list of items. Where many variables are declared in it, the items after them are counted in
+/// a scope of their own.
 #[cycle(statements)]
 pub fn items_values(variables: &[Variable], items: &[Item], carried: u64, scope: &Scope) -> Counted
     ensures values { result.values ≡

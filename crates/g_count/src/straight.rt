@@ -55,7 +55,7 @@ fn statement_values(
     }
 }
 
-// Of the body of a function without `go`, where a `return` that is last gives the value.
+/// Of the body of a function without `go`, where a `return` that is last gives the value.
 pub fn straight_values(variables: &[Variable], items: &[Item], carried: u64, scope: &Scope) -> u64
     ensures { result ≡
         saturated (straight_values variables.now carried scope.now.objects (items_of items.now)) }

@@ -20,7 +20,7 @@ fn is_jump(a: &TStmt) -> bool
     }
 }
 
-// Whether the last of these statements is a jump.
+/// Whether the last of these statements is a jump.
 pub fn ends_with_jump(items: &[Item]) -> bool
     ensures { result ≡ ends_with_jump (items_of items.now) }
 {
@@ -45,7 +45,7 @@ pub fn ends_segment(groups: &[Group], i: usize) -> bool
     ends_with_jump(&groups[i].body)
 }
 
-// What groups are like together.
+/// What groups are like together.
 #[derive(Clone, Copy)]
 pub struct Segments {
     pub labels: u64,
@@ -53,7 +53,7 @@ pub struct Segments {
     pub several: bool,
 }
 
-// How many labels and segments there are, and whether some segment has several groups.
+/// How many labels and segments there are, and whether some segment has several groups.
 pub fn segments_of(groups: &[Group]) -> Segments
     ensures labels { result.labels ≡ saturated (label_count (groups_of groups.now)) }
     ensures count { result.count ≡ segment_count (groups_of groups.now) }
@@ -77,7 +77,7 @@ pub fn segments_of(groups: &[Group]) -> Segments
     }
 }
 
-// Of a group with statements of so many values, which begins a segment and ends it or not.
+/// Of a group with statements of so many values, which begins a segment and ends it or not.
 pub fn group_values(carried: u64, begins: bool, ends: bool, leaves: bool, statements: u64) -> u64
     ensures { result ≡
         saturated (group_values carried (begins && ends) (not ends && leaves) statements) }
@@ -90,7 +90,7 @@ pub fn group_values(carried: u64, begins: bool, ends: bool, leaves: bool, statem
         .saturating_add(leaving_values(carried, !ends && leaves))
 }
 
-// Of the number of the segment and of `from`.
+/// Of the number of the segment and of `from`.
 pub fn selected_values(several: bool, labels: u64) -> u64
     ensures { result ≡ saturated (selected_values several labels) }
 {
@@ -104,7 +104,7 @@ pub fn selected_values(several: bool, labels: u64) -> u64
     }
 }
 
-// Of the Gamma round the segments, without what stands in them.
+/// Of the Gamma round the segments, without what stands in them.
 pub fn segments_values(carried: u64, count: u64) -> u64
     ensures { result ≡ saturated (segments_values carried count) }
 {
@@ -116,7 +116,7 @@ pub fn segments_values(carried: u64, count: u64) -> u64
         .saturating_add(1)
 }
 
-// Of a `switch` with groups of so many values, whose regions carry so many variables.
+/// Of a `switch` with groups of so many values, whose regions carry so many variables.
 pub fn switch_values(value: u64, segments: Segments, within: u64, groups: u64, breaks: bool) -> u64
     ensures { result ≡
         saturated (value + selected_values segments.several segments.labels

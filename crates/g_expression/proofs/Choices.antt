@@ -8,7 +8,7 @@ use Rattle.g_graph.specs.Plain.{region, node, nodes_of, regions_of}
 use Rattle.g_construct.specs.Writer.{SlotOrigin, held, object, hidden, Carried, carried_origins, carried_kinds, value_origins, value_kinds, last_kinds, numbered, beyond, with_last, renamed, Point, Built, Extra, no_value, one_value, inside, nothing, region_made, choice, exchanged, choice_one_first, repeat}
 use Rattle.g_construct.specs.Laws.{shape, Later}
 use Rattle.g_construct.proofs.lemmas.Later.{Keeps, later_here, numbered_twice, form_renamed, shape_renamed}
-use Rattle.g_expression.specs.Work.{Around, Work, made, begun, closed, with_regions, with_exchanged, ended, ended_value, port_of}
+use Rattle.g_expression.specs.Work.{Enclosing, Work, made, begun, closed, with_regions, with_exchanged, ended, ended_value, port_of}
 use Rattle.g_expression.proofs.Renaming.{last_same, beyond_is, renamed_same}
 use Rattle.g_expression.proofs.Made.{Makes, made_given}
 
@@ -53,50 +53,50 @@ renamed_twice k f = same_renamed k (renamed k Arg) (record { form = form_renamed
 -- ---- one region
 
 -- a region stands open in a node with these regions so far, and nothing is made in it
-abbrev pub open_in : Around → List Around → Carried → (next : ℕ) → Work
-open_in a rest k m = record { around = a ∷ rest; nodes = []; point = inside k m }
+abbrev pub open_in : Enclosing → List Enclosing → Carried → (next : ℕ) → Work
+open_in a rest k m = record { enclosing = a ∷ rest; nodes = []; point = inside k m }
 
-abbrev pub with_region : {A : Type 0} → Around → Extra A → Carried → Built A → Around
+abbrev pub with_region : {A : Type 0} → Enclosing → Extra A → Carried → Built A → Enclosing
 with_region a x k b = with_regions a (a.regions ++ region_made x k b ∷ [])
 
-close_step : {A : Type 0} → (x : Extra A) (a : Around) (rest : List Around) (k : Carried) (m : ℕ) (f : Point → Built A) (rs : List Origin) → Keeps f →
+close_step : {A : Type 0} → (x : Extra A) (a : Enclosing) (rest : List Enclosing) (k : Carried) (m : ℕ) (f : Point → Built A) (rs : List Origin) → Keeps f →
     rs ≡ x.results (f (inside k m)).value →
     closed rs (made (open_in a rest k m) (f (inside k m))) ≡ open_in (with_region a x k (f (inside k m))) rest k (f (inside k m)).after.next
 close_step {A} x a rest k m f rs h e =
     let b : Built A = f (inside k m) in
     let same : SameShape k b.after.carried = later_same k m b.after (h (inside k m)) in
     λ i. record {
-      around = with_regions a (a.regions ++ region (same_kinds k b.after.carried same i) (nodes_of b.nodes) (e i ++ carried_origins b.after.carried) ∷ []) ∷ rest;
+      enclosing = with_regions a (a.regions ++ region (same_kinds k b.after.carried same i) (nodes_of b.nodes) (e i ++ carried_origins b.after.carried) ∷ []) ∷ rest;
       nodes = [];
       point = record { next = b.after.next; carried = same_renamed k b.after.carried same Arg i };
     }
 
 -- a region is made and closed
-pub close_from : {A : Type 0} → (x : Extra A) (a : Around) (rest : List Around) (k : Carried) (m : ℕ) (f : Point → Built A) (w w1 w2 : Work) (rs : List Origin) → Keeps f →
+pub close_from : {A : Type 0} → (x : Extra A) (a : Enclosing) (rest : List Enclosing) (k : Carried) (m : ℕ) (f : Point → Built A) (w w1 w2 : Work) (rs : List Origin) → Keeps f →
     w ≡ open_in a rest k m → w1 ≡ made w (f w.point) → rs ≡ x.results (f w.point).value → w2 ≡ closed rs w1 →
     w2 ≡ open_in (with_region a x k (f (inside k m))) rest k (f (inside k m)).after.next
 close_from x a rest k m f w w1 w2 rs h g g1 e g2 =
     g2 ∙ ap (closed rs) g1 ∙ ap (λ u. closed rs (made u (f u.point))) g ∙ close_step x a rest k m f rs h (e ∙ ap (λ u. x.results (f u.point).value) g)
 
 -- the node ends
-abbrev pub after_node : Around → List Around → Carried → Op → (port : ℕ → ℕ) → (next : ℕ) → Work
+abbrev pub after_node : Enclosing → List Enclosing → Carried → Op → (port : ℕ → ℕ) → (next : ℕ) → Work
 after_node a rest k o port m = record {
-  around = rest;
+  enclosing = rest;
   nodes = a.nodes ++ node a.id o a.inputs (regions_of a.regions) ∷ [];
   point = record { next = m; carried = renamed k (λ j. Out a.id (port j)) };
 }
 
-pub end_from : (a : Around) (rest : List Around) (k : Carried) (m : ℕ) (o : Op) (e : Bool) (port : ℕ → ℕ) (w w1 : Work) → ((j : ℕ) → port_of e j ≡ port j) →
+pub end_from : (a : Enclosing) (rest : List Enclosing) (k : Carried) (m : ℕ) (o : Op) (e : Bool) (port : ℕ → ℕ) (w w1 : Work) → ((j : ℕ) → port_of e j ≡ port j) →
     w ≡ open_in a rest k m → w1 ≡ ended o e w → w1 ≡ after_node a rest k o port m
 end_from a rest k m o e port w w1 h g g1 =
-    let f : Carried → Work = λ c. record { around = rest; nodes = a.nodes ++ node a.id o a.inputs (regions_of a.regions) ∷ []; point = record { next = m; carried = c } } in
+    let f : Carried → Work = λ c. record { enclosing = rest; nodes = a.nodes ++ node a.id o a.inputs (regions_of a.regions) ∷ []; point = record { next = m; carried = c } } in
     g1 ∙ ap (ended o e) g
     ∙ ap f (renamed_twice k (λ j. Out a.id (port_of e j)) ∙ renamed_same k (λ j. Out a.id (port_of e j)) (λ j. Out a.id (port j)) (λ j. ap (λ n. Out a.id n) (h j)))
 
 -- ---- a Gamma
 
-abbrev pub gamma_around : (predicate : Origin) → Work → Around
-gamma_around p w = record { nodes = w.nodes; id = w.point.next; inputs = p ∷ carried_origins w.point.carried; regions = [] }
+abbrev pub gamma_enclosing : (predicate : Origin) → Work → Enclosing
+gamma_enclosing p w = record { nodes = w.nodes; id = w.point.next; inputs = p ∷ carried_origins w.point.carried; regions = [] }
 
 pub choice_makes : {A : Type 0} → (x : Extra A) (e : Bool) → ((j : ℕ) → port_of e j ≡ x.port j) → (w w1 w2 w3 w4 w5 w6 : Work) (p : Origin) (f g : Point → Built A) (rs qs : List Origin) (v : A) →
     Keeps f → Keeps g → w1 ≡ begun (p ∷ []) w → w2 ≡ made w1 (f w1.point) → rs ≡ x.results (f w1.point).value → w3 ≡ closed rs w2 → w4 ≡ made w3 (g w3.point) →
@@ -104,28 +104,28 @@ pub choice_makes : {A : Type 0} → (x : Extra A) (e : Bool) → ((j : ℕ) → 
 choice_makes {A} x e h w w1 w2 w3 w4 w5 w6 p f g rs qs v hf hg e1 e2 er e3 e4 eq e5 e6 ev =
     let k : Carried = w.point.carried in
     let n : ℕ = w.point.next in
-    let a : Around = gamma_around p w in
+    let a : Enclosing = gamma_enclosing p w in
     let b : Built A = f (inside k (suc n)) in
-    let first : w3 ≡ open_in (with_region a x k b) w.around k b.after.next = close_from x a w.around k (suc n) f w1 w2 w3 rs hf e1 e2 er e3 in
+    let first : w3 ≡ open_in (with_region a x k b) w.enclosing k b.after.next = close_from x a w.enclosing k (suc n) f w1 w2 w3 rs hf e1 e2 er e3 in
     let c : Built A = g (inside k b.after.next) in
-    let second : w5 ≡ open_in (with_region (with_region a x k b) x k c) w.around k c.after.next =
-    close_from x (with_region a x k b) w.around k b.after.next g w3 w4 w5 qs hg first e4 eq e5 in
-    record { work = end_from (with_region (with_region a x k b) x k c) w.around k c.after.next Gamma e x.port w5 w6 h second e6; value = ev }
+    let second : w5 ≡ open_in (with_region (with_region a x k b) x k c) w.enclosing k c.after.next =
+    close_from x (with_region a x k b) w.enclosing k b.after.next g w3 w4 w5 qs hg first e4 eq e5 in
+    record { work = end_from (with_region (with_region a x k b) x k c) w.enclosing k c.after.next Gamma e x.port w5 w6 h second e6; value = ev }
 
 -- what a Gamma gives first is its output 0
 pub first_output : {A : Type 0} → (x : Extra A) (w w1 w2 w3 w4 w5 : Work) (p : Origin) (f g : Point → Built A) (rs qs : List Origin) →
     Keeps f → Keeps g → w1 ≡ begun (p ∷ []) w → w2 ≡ made w1 (f w1.point) → rs ≡ x.results (f w1.point).value → w3 ≡ closed rs w2 → w4 ≡ made w3 (g w3.point) →
-    qs ≡ x.results (g w3.point).value → w5 ≡ closed qs w4 → ended_value w5.around ≡ Out w.point.next 0
+    qs ≡ x.results (g w3.point).value → w5 ≡ closed qs w4 → ended_value w5.enclosing ≡ Out w.point.next 0
 first_output {A} x w w1 w2 w3 w4 w5 p f g rs qs hf hg e1 e2 er e3 e4 eq e5 =
     let k : Carried = w.point.carried in
     let n : ℕ = w.point.next in
-    let a : Around = gamma_around p w in
+    let a : Enclosing = gamma_enclosing p w in
     let b : Built A = f (inside k (suc n)) in
-    let first : w3 ≡ open_in (with_region a x k b) w.around k b.after.next = close_from x a w.around k (suc n) f w1 w2 w3 rs hf e1 e2 er e3 in
+    let first : w3 ≡ open_in (with_region a x k b) w.enclosing k b.after.next = close_from x a w.enclosing k (suc n) f w1 w2 w3 rs hf e1 e2 er e3 in
     let c : Built A = g (inside k b.after.next) in
-    let second : w5 ≡ open_in (with_region (with_region a x k b) x k c) w.around k c.after.next =
-    close_from x (with_region a x k b) w.around k b.after.next g w3 w4 w5 qs hg first e4 eq e5 in
-    ap (λ u. ended_value u.around) second
+    let second : w5 ≡ open_in (with_region (with_region a x k b) x k c) w.enclosing k c.after.next =
+    close_from x (with_region a x k b) w.enclosing k b.after.next g w3 w4 w5 qs hg first e4 eq e5 in
+    ap (λ u. ended_value u.enclosing) second
 
 -- ---- a Gamma without extra values
 
@@ -144,7 +144,7 @@ pub where_makes : (w w1 w2 w3 w4 w5 : Work) (p : Origin) (f : Point → Built (U
 where_makes w w1 w2 w3 w4 w5 p f h e1 e2 e3 e4 e5 =
     (choice_makes no_value false (λ j. refl) w w1 w1 w2 w3 w4 w5 p nothing f [] [] tt later_here h e1 (nothing_more w1) refl e2 e3 refl e4 e5 refl).work
 
-exchanged_open : (a : Around) (rest : List Around) (k : Carried) (m : ℕ) (w w1 : Work) → w ≡ open_in a rest k m → w1 ≡ with_exchanged w →
+exchanged_open : (a : Enclosing) (rest : List Enclosing) (k : Carried) (m : ℕ) (w w1 : Work) → w ≡ open_in a rest k m → w1 ≡ with_exchanged w →
     w1 ≡ open_in (with_regions a (exchanged a.regions)) rest k m
 exchanged_open a rest k m w w1 e e1 = e1 ∙ ap with_exchanged e
 
@@ -155,14 +155,14 @@ pub one_first_makes : (w w1 w2 w3 w4 w5 w6 w7 : Work) (p : Origin) (f g : Point 
 one_first_makes w w1 w2 w3 w4 w5 w6 w7 p f g hf hg e1 e2 e3 e4 e5 e6 e7 =
     let k : Carried = w.point.carried in
     let n : ℕ = w.point.next in
-    let a : Around = gamma_around p w in
+    let a : Enclosing = gamma_enclosing p w in
     let b : Built (Unit {0}) = g (inside k (suc n)) in
-    let first : w3 ≡ open_in (with_region a no_value k b) w.around k b.after.next = close_from no_value a w.around k (suc n) g w1 w2 w3 [] hg e1 e2 refl e3 in
+    let first : w3 ≡ open_in (with_region a no_value k b) w.enclosing k b.after.next = close_from no_value a w.enclosing k (suc n) g w1 w2 w3 [] hg e1 e2 refl e3 in
     let c : Built (Unit {0}) = f (inside k b.after.next) in
-    let second : w5 ≡ open_in (with_region (with_region a no_value k b) no_value k c) w.around k c.after.next =
-    close_from no_value (with_region a no_value k b) w.around k b.after.next f w3 w4 w5 [] hf first e4 refl e5 in
-    let both : Around = with_region (with_region a no_value k b) no_value k c in
-    end_from (with_regions both (exchanged both.regions)) w.around k c.after.next Gamma false (λ j. j) w6 w7 (λ j. refl) (exchanged_open both w.around k c.after.next w5 w6 second e6) e7
+    let second : w5 ≡ open_in (with_region (with_region a no_value k b) no_value k c) w.enclosing k c.after.next =
+    close_from no_value (with_region a no_value k b) w.enclosing k b.after.next f w3 w4 w5 [] hf first e4 refl e5 in
+    let both : Enclosing = with_region (with_region a no_value k b) no_value k c in
+    end_from (with_regions both (exchanged both.regions)) w.enclosing k c.after.next Gamma false (λ j. j) w6 w7 (λ j. refl) (exchanged_open both w.enclosing k c.after.next w5 w6 second e6) e7
 
 -- ---- a Theta
 
@@ -171,7 +171,7 @@ pub repeat_makes : (w w1 w2 w3 w4 : Work) (f : Point → Built Origin) (v : Orig
 repeat_makes w w1 w2 w3 w4 f v h e1 e2 ev e3 e4 =
     let k : Carried = w.point.carried in
     let n : ℕ = w.point.next in
-    let a : Around = record { nodes = w.nodes; id = n; inputs = carried_origins k; regions = [] } in
+    let a : Enclosing = record { nodes = w.nodes; id = n; inputs = carried_origins k; regions = [] } in
     let b : Built Origin = f (inside k (suc n)) in
-    let first : w3 ≡ open_in (with_region a one_value k b) w.around k b.after.next = close_from one_value a w.around k (suc n) f w1 w2 w3 (v ∷ []) h e1 e2 (ap (λ o. o ∷ []) ev) e3 in
-    end_from (with_region a one_value k b) w.around k b.after.next Theta false (λ j. j) w3 w4 (λ j. refl) first e4
+    let first : w3 ≡ open_in (with_region a one_value k b) w.enclosing k b.after.next = close_from one_value a w.enclosing k (suc n) f w1 w2 w3 (v ∷ []) h e1 e2 (ap (λ o. o ∷ []) ev) e3 in
+    end_from (with_region a one_value k b) w.enclosing k b.after.next Theta false (λ j. j) w3 w4 (λ j. refl) first e4

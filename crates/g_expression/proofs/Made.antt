@@ -6,7 +6,7 @@ use Rattle.g_construct.specs.Writer.{Point, Built, given, bind}
 use Rattle.g_expression.specs.Work.{Work, made, moved_to}
 
 pub moved_made : {A : Type 0} → (w : Work) (v : A) (p : Point) → made w (given v p) ≡ moved_to w p
-moved_made w v p = ap (λ ns. record { around = w.around; nodes = ns; point = p }) (append-nil w.nodes)
+moved_made w v p = ap (λ ns. record { enclosing = w.enclosing; nodes = ns; point = p }) (append-nil w.nodes)
 
 pub made_given : {A : Type 0} → (w : Work) (v : A) → made w (given v w.point) ≡ w
 made_given w v = moved_made w v w.point
@@ -23,7 +23,7 @@ bind_makes {A} {B} w w1 w2 a f v u h k =
     record {
       work =
           k.work ∙ ap (made w1) same ∙ ap (λ x. made x (f a.value a.after)) h.work
-          ∙ ap (λ ns. record { around = w.around; nodes = ns; point = (f a.value a.after).after }) (append_assoc w.nodes a.nodes (f a.value a.after).nodes);
+          ∙ ap (λ ns. record { enclosing = w.enclosing; nodes = ns; point = (f a.value a.after).after }) (append_assoc w.nodes a.nodes (f a.value a.after).nodes);
       value = k.value ∙ ap (λ (x : Built B). x.value) same;
     }
 

@@ -10,7 +10,9 @@ use Rattle.g_expression.specs.SlotViews.{slot_of}
 use Rattle.g_expression.specs.Places.{is_hidden, slot_places, slot_set, held_set}
 use Rattle.g_expression.specs.Numbers.{origin_from, slot_at, slot_values}
 use Rattle.g_expression.proofs.Renaming.{numbered_step}
-use Rattle.g_expression.proofs.Slots.{at_place, set_found, set_place, places_append, places_numbered, places_set, without_newest_append}
+use Rattle.g_expression.proofs.Slots.{at_place, set_found, set_place, places_append, places_numbered, places_set, length_more}
+use Rattle.std.proofs.lemmas.List.{length-map}
+use Rattle.g_construct.proofs.lemmas.Later.{without_newest_append}
 
 get_map : {X Y : Type 0} → (f : X → Y) (xs : List X) (i : ℕ) → option_map f (slice_get xs i) ≡ slice_get (map f xs) i
 get_map f [] i = refl
@@ -20,10 +22,6 @@ get_map f (x ∷ xs) (suc i) = get_map f xs i
 map_append : {X Y : Type 0} → (f : X → Y) (xs ys : List X) → map f (xs ++ ys) ≡ map f xs ++ map f ys
 map_append f [] ys = refl
 map_append f (x ∷ xs) ys = ap (λ zs. f x ∷ zs) (map_append f xs ys)
-
-length_map : {X Y : Type 0} → (f : X → Y) (xs : List X) → length (map f xs) ≡ length xs
-length_map f [] = refl
-length_map f (x ∷ xs) = ap suc (length_map f xs)
 
 -- ---- by slot
 
@@ -55,7 +53,7 @@ set_keeps_length (x ∷ xs) (suc i) p = ap suc (set_keeps_length xs i p)
 pub set_keeps : (xs ys : List InScope) (ps : List ℕ) (i : ℕ) (p : Origin) → ps ≡ slot_places 0 (map slot_of xs) → map slot_of ys ≡ held_set (map slot_of xs) i p →
     (length ys ≡ length xs) × (ps ≡ slot_places 0 (map slot_of ys))
 set_keeps xs ys ps i p e g =
-    (sym (length_map slot_of ys) ∙ ap length g ∙ set_keeps_length (map slot_of xs) i p ∙ length_map slot_of xs, e ∙ sym (ap (slot_places 0) g ∙ places_set 0 (map slot_of xs) i p))
+    (sym (length-map ys slot_of) ∙ ap length g ∙ set_keeps_length (map slot_of xs) i p ∙ length-map xs slot_of, e ∙ sym (ap (slot_places 0) g ∙ places_set 0 (map slot_of xs) i p))
 
 -- a write to one element
 pub set_one : (xs : List InScope) (i : ℕ) (x y : InScope) (p : Origin) → x ≡ get_or xs i x → slot_of y ≡ slot_set (slot_of x) p →
@@ -101,7 +99,7 @@ named_place n (hidden o) h = absurd cc
 
 places_more : (xs : List InScope) (x : InScope) → slot_places 0 (map slot_of (xs ++ x ∷ [])) ≡ slot_places 0 (map slot_of xs) ++ slot_places (length xs) (slot_of x ∷ [])
 places_more xs x =
-    let q : length xs ≡ 0 + length (map slot_of xs) = omega (arith, length_map slot_of xs) in
+    let q : length xs ≡ 0 + length (map slot_of xs) = omega (arith, length-map xs slot_of) in
     ap (slot_places 0) (map_append slot_of xs (x ∷ [])) ∙ places_append 0 (length xs) (map slot_of xs) (slot_of x ∷ []) q
 
 no_more : {X : Type 0} → (xs : List X) → xs ++ [] ≡ xs
@@ -125,10 +123,6 @@ take_first [] x n e = let q : n ≡ 0 = e in ap (λ k. take k (x ∷ [])) q
 take_first (y ∷ xs) x zero e = absurd cc
 take_first (y ∷ xs) x (suc n) e = let q : n ≡ length xs = omega (arith, e) in ap (λ ys. y ∷ ys) (take_first xs x n q)
 
-length_last : {X : Type 0} → (xs : List X) (x : X) → length (xs ++ x ∷ []) ≡ suc (length xs)
-length_last [] x = refl
-length_last (y ∷ xs) x = ap suc (length_last xs x)
-
 -- the places without the last, where a variable with a slot goes
 pub pop_drops : (xs ys : List InScope) (x : InScope) (ps qs : List ℕ) → ps ≡ slot_places 0 (map slot_of xs) → is_hidden (slot_of x) ≡ false → xs ≡ ys ++ x ∷ [] →
     qs ≡ take (length ps - 1) ps → qs ≡ slot_places 0 (map slot_of ys)
@@ -136,7 +130,7 @@ pop_drops xs ys x ps qs e h g k =
     let both : ps ≡ slot_places 0 (map slot_of ys) ++ length ys ∷ [] =
     e ∙ ap (λ zs. slot_places 0 (map slot_of zs)) g ∙ places_more ys x ∙ ap (λ js. slot_places 0 (map slot_of ys) ++ js) (named_place (length ys) (slot_of x) h) in
     let count : length ps - 1 ≡ length (slot_places 0 (map slot_of ys)) =
-    omega (arith, ap length both, length_last (slot_places 0 (map slot_of ys)) (length ys)) in
+    omega (arith, ap length both, length_more (slot_places 0 (map slot_of ys)) (length ys)) in
     k ∙ ap (λ zs. take (length ps - 1) zs) both ∙ take_first (slot_places 0 (map slot_of ys)) (length ys) (length ps - 1) count
 
 pub pop_keeps : (xs ys : List InScope) (x : InScope) (ps : List ℕ) → ps ≡ slot_places 0 (map slot_of xs) → is_hidden (slot_of x) ≡ true → xs ≡ ys ++ x ∷ [] →
@@ -152,19 +146,8 @@ pub popped_none : (xs ys : List InScope) → xs ≡ ys ++ [] → length xs ≡ 0
 popped_none xs [] g h = sym (ap (λ zs. without_newest (map slot_of zs)) g)
 popped_none xs (y ∷ ys) g h = absurd (omega (arith, ap length g, h))
 
-pub not_true : (b : Bool) → not b ≡ true → b ≡ false
-not_true true h = absurd cc
-not_true false h = refl
-
-pub not_false : (b : Bool) → not b ≡ false → b ≡ true
-not_false true h = refl
-not_false false h = absurd cc
-
-pub shorter : {X : Type 0} → (xs : List X) (x : X) → length (xs ++ x ∷ []) ≡ suc (length xs)
-shorter xs x = length_last xs x
-
 pub same_length : (xs : List InScope) → length (map slot_of xs) ≡ length xs
-same_length xs = length_map slot_of xs
+same_length xs = length-map xs slot_of
 
 past_get : {X : Type 0} → (xs : List X) (i : ℕ) → length xs ≤ i → slice_get xs i ≡ None
 past_get [] i h = refl
@@ -270,6 +253,6 @@ length_numbered (hidden o ∷ xs) f = ap suc (length_numbered xs (λ k. f (suc k
 pub rename_keeps : (xs all : List InScope) (ps : List ℕ) (f : ℕ → Origin) → ps ≡ slot_places 0 (map slot_of xs) → map slot_of all ≡ numbered (map slot_of xs) f →
     (length all ≡ length xs) × (ps ≡ slot_places 0 (map slot_of all))
 rename_keeps xs all ps f e g = (
-  sym (length_map slot_of all) ∙ ap length g ∙ length_numbered (map slot_of xs) f ∙ length_map slot_of xs,
+  sym (length-map all slot_of) ∙ ap length g ∙ length_numbered (map slot_of xs) f ∙ length-map xs slot_of,
   e ∙ sym (ap (slot_places 0) g ∙ places_numbered 0 (map slot_of xs) f),
 )

@@ -9,7 +9,7 @@ get_here : {X : Type 0} → (pre xs : List X) (x : X) → slice_get (pre ++ x �
 get_here [] xs x = refl
 get_here (y ∷ pre) xs x = get_here pre xs x
 
-length_more : {X : Type 0} → (pre : List X) (x : X) → length (pre ++ x ∷ []) ≡ suc (length pre)
+pub length_more : {X : Type 0} → (pre : List X) (x : X) → length (pre ++ x ∷ []) ≡ suc (length pre)
 length_more [] x = refl
 length_more (y ∷ pre) x = ap suc (length_more pre x)
 
@@ -82,11 +82,6 @@ places_set n (object k ∷ xs) (suc i) p = ap (λ zs. n ∷ zs) (places_set (suc
 places_set n (hidden o ∷ xs) (suc i) p = places_set (suc n) xs i p
 
 -- ---- the newest
-
-pub without_newest_append : (xs : List SlotOrigin) (x : SlotOrigin) → without_newest (xs ++ x ∷ []) ≡ xs
-without_newest_append [] x = refl
-without_newest_append (y ∷ []) x = refl
-without_newest_append (y ∷ z ∷ ys) x = ap (λ zs. y ∷ zs) (without_newest_append (z ∷ ys) x)
 
 pub newest_append : (xs : List SlotOrigin) (x : SlotOrigin) → newest (xs ++ x ∷ []) ≡ Some x
 newest_append [] x = refl

@@ -7,7 +7,7 @@ use Rattle.g_graph.specs.declared.op.Origin.{Origin}
 use Rattle.g_graph.specs.Plain.{RegionTree, NodeTree}
 use Rattle.g_graph.specs.Codes.{coded_region, coded_node}
 use Rattle.g_construct.specs.Writer.{Form, straight, jumping, SlotOrigin, held, object, hidden, Carried, Point}
-use Rattle.g_expression.specs.Work.{Around, Work}
+use Rattle.g_expression.specs.Work.{Enclosing, Work}
 
 abbrev pub coded_origin : Coded Origin
 coded_origin = origin.the_row.coded
@@ -58,13 +58,13 @@ coded_carried =
 abbrev pub coded_point : Coded Point
 coded_point = code_by (ℕ × Carried) (coded× coded_ℕ coded_carried) (λ s. (s.next, s.carried)) (λ p. record { next = p.0; carried = p.1 }) (λ _. refl)
 
-abbrev pub coded_around : Coded Around
-coded_around =
+abbrev pub coded_enclosing : Coded Enclosing
+coded_enclosing =
     code_by (List NodeTree × (ℕ × (List Origin × List RegionTree)))
     (coded× (coded_list coded_node) (coded× coded_ℕ (coded× (coded_list coded_origin) (coded_list coded_region))))
     (λ a. (a.nodes, (a.id, (a.inputs, a.regions)))) (λ p. record { nodes = p.0; id = p.1.0; inputs = p.1.1.0; regions = p.1.1.1 }) (λ _. refl)
 
 abbrev pub coded_work : Coded Work
 coded_work =
-    code_by (List Around × (List NodeTree × Point)) (coded× (coded_list coded_around) (coded× (coded_list coded_node) coded_point))
-    (λ w. (w.around, (w.nodes, w.point))) (λ p. record { around = p.0; nodes = p.1.0; point = p.1.1 }) (λ _. refl)
+    code_by (List Enclosing × (List NodeTree × Point)) (coded× (coded_list coded_enclosing) (coded× (coded_list coded_node) coded_point))
+    (λ w. (w.enclosing, (w.nodes, w.point))) (λ p. record { enclosing = p.0; nodes = p.1.0; point = p.1.1 }) (λ _. refl)

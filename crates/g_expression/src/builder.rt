@@ -6,7 +6,7 @@ ghost use Rattle.g_graph.specs.Plain.{node, no_regions, region, nodes_of};
 ghost use Rattle.g_construct.specs.Writer.{straight, exchanged, last_origins, last_kinds, carried_kinds, variable_at, variable_set, newest, slot_origin, carried_origins, pushed, popped, with_variables, with_go, with_go_and_ret, with_jumps, with_states};
 ghost use Rattle.g_construct.specs.Operations.{value_node, store_made, clear_made, put_made, exit_made, get_made};
 ghost use Rattle.g_expression.specs.SlotViews.{slot_of, form_of};
-ghost use Rattle.g_expression.specs.Work.{made, moved_to, opened, open_region, without_nodes, around_is, region_added, with_regions, node_added, applied, carried_from, begun, closed, with_exchanged, ended, ended_id, extra_count, node_ended, ended_value};
+ghost use Rattle.g_expression.specs.Work.{made, moved_to, opened, open_region, without_nodes, enclosing_is, region_added, with_regions, node_added, applied, carried_from, begun, closed, with_exchanged, ended, ended_id, extra_count, node_ended, ended_value};
 
 use crate::variables::{InScope, Variables, origin_from};
 use g_graph::{Kind, Node, Op, Origin, Region};
@@ -19,20 +19,20 @@ use std::mem;
 // A node whose regions are being made: the nodes before it, its number, its inputs, and its regions
 // so far. Contracts see a plain record.
 #[derive(Drop)]
-struct Around {
+struct Enclosing {
     nodes: Vec<Node>,
     id: u32,
     inputs: SmallVec<Origin, 4>,
     regions: Vec<Region>,
 }
 
-impl Model for Around {
-    ghost use Rattle.g_expression.specs.Work.{Around as PlainAround};
-    ghost use Rattle.g_expression.specs.WorkCodes.{coded_around};
+impl Model for Enclosing {
+    ghost use Rattle.g_expression.specs.Work.{Enclosing as PlainEnclosing};
+    ghost use Rattle.g_expression.specs.WorkCodes.{coded_enclosing};
 
-    ghost Value = { PlainAround };
+    ghost Value = { PlainEnclosing };
 
-    ghost coded = { coded_around };
+    ghost coded = { coded_enclosing };
 
     ghost view = { λ a. record {
       nodes = a.nodes.items;
@@ -42,13 +42,13 @@ impl Model for Around {
     } };
 }
 
-/// The graph under way: the nodes of the region that stands open, the nodes with regions around it,
-/// the next number, and what is carried. Contracts see a plain record. Where a call fails, what
+/// The graph under way: the nodes of the region that stands open, the nodes whose regions enclose
+/// it, the next number, and what is carried. Contracts see a plain record. Where a call fails, what
 /// stands in it is of no use.
 #[derive(Drop)]
 pub struct Builder {
     alloc: Global,
-    around: Vec<Around>,
+    enclosing: Vec<Enclosing>,
     nodes: Vec<Node>,
     next: u32,
     variables: Variables,
@@ -70,7 +70,7 @@ impl Model for Builder {
     ghost coded = { coded_work };
 
     ghost view = { λ b. record {
-      around = reverse b.around.items;
+      enclosing = reverse b.enclosing.items;
       nodes = b.nodes.items;
       point = record {
         next = b.next;
@@ -97,7 +97,7 @@ impl Builder {
     /// No node is made, no variable is in scope, and the states are these.
     pub fn new(alloc: Global, memory: Origin, io: Origin) -> Builder
         ensures { result ≡ record {
-          around = [];
+          enclosing = [];
           nodes = [];
           point = record {
             next = 0;
@@ -114,7 +114,7 @@ impl Builder {
     {
         Builder {
             alloc,
-            around: Vec::new(alloc),
+            enclosing: Vec::new(alloc),
             nodes: Vec::new(alloc),
             next: 0,
             variables: Variables::new(alloc),
@@ -434,7 +434,7 @@ impl Builder {
         let inputs = SmallVec::from_slice(self.alloc, &origins)?;
         let nodes = mem::replace(&mut self.nodes, Vec::new(self.alloc));
         let regions = Vec::new(self.alloc);
-        self.around.push(Around {
+        self.enclosing.push(Enclosing {
             nodes,
             id,
             inputs,
@@ -472,13 +472,13 @@ impl Builder {
     #[tactic(auto, using(crate::proofs::Renaming::reverse_last))]
     fn add_region(&mut self, region: Region) -> Result<(), NoMemory>
         ensures { OnOk result
-            (self.new ≡ around_is (region_added region self.old.around) self.old) }
+            (self.new ≡ enclosing_is (region_added region self.old.enclosing) self.old) }
     {
-        let Some(around) = self.around.pop() else {
+        let Some(enclosing) = self.enclosing.pop() else {
             return Ok(());
         };
-        let more = with_region(around, region)?;
-        self.around.push(more)?;
+        let more = with_region(enclosing, region)?;
+        self.enclosing.push(more)?;
         Ok(())
     }
 
@@ -487,27 +487,27 @@ impl Builder {
     pub fn exchange(&mut self) -> Result<(), NoMemory>
         ensures { OnOk result (self.new ≡ with_exchanged self.old) }
     {
-        let Some(around) = self.around.pop() else {
+        let Some(enclosing) = self.enclosing.pop() else {
             return Ok(());
         };
-        self.around.push(exchanged(around))?;
+        self.enclosing.push(exchanged(enclosing))?;
         Ok(())
     }
 
     #[tactic(auto, using(crate::proofs::Renaming::reverse_last))]
     fn end_node(&mut self, op: Op) -> Result<Option<u32>, NoMemory>
-        ensures work { OnOk result (self.new ≡ node_ended self.old.around op self.old) }
-        ensures id { IfOk result (λ id. id ≡ ended_id self.old.around) }
+        ensures work { OnOk result (self.new ≡ node_ended self.old.enclosing op self.old) }
+        ensures id { IfOk result (λ id. id ≡ ended_id self.old.enclosing) }
     {
-        let Some(around) = self.around.pop() else {
+        let Some(enclosing) = self.enclosing.pop() else {
             return Ok(None);
         };
-        let Around {
+        let Enclosing {
             nodes,
             id,
             inputs,
             regions,
-        } = around;
+        } = enclosing;
         self.nodes = nodes;
         self.nodes.push(Node {
             id,
@@ -523,7 +523,7 @@ impl Builder {
     #[tactic(auto, using(crate::proofs::Ends::ended_is))]
     pub fn end(&mut self, op: Op, extra: bool) -> Result<Origin, NoMemory>
         ensures work { OnOk result (self.new ≡ ended op extra self.old) }
-        ensures value { IfOk result (λ v. v ≡ ended_value self.old.around) }
+        ensures value { IfOk result (λ v. v ≡ ended_value self.old.enclosing) }
     {
         match self.end_node(op)? {
             Some(id) => {
@@ -542,22 +542,22 @@ fn extra_count(extra: bool) -> u32
     if extra { 1 } else { 0 }
 }
 
-fn with_region(around: Around, region: Region) -> Result<Around, NoMemory>
-    ensures { IfOk result (λ a. a ≡ with_regions around (around.regions ++ region ∷ [])) }
+fn with_region(enclosing: Enclosing, region: Region) -> Result<Enclosing, NoMemory>
+    ensures { IfOk result (λ a. a ≡ with_regions enclosing (enclosing.regions ++ region ∷ [])) }
 {
-    let mut around = around;
-    around.regions.push(region)?;
-    Ok(around)
+    let mut enclosing = enclosing;
+    enclosing.regions.push(region)?;
+    Ok(enclosing)
 }
 
-fn exchanged(around: Around) -> Around
-    ensures { result ≡ with_regions around (exchanged around.regions) }
+fn exchanged(enclosing: Enclosing) -> Enclosing
+    ensures { result ≡ with_regions enclosing (exchanged enclosing.regions) }
 {
-    let mut around = around;
-    if around.regions.len() >= 2 {
-        around.regions.swap(0, 1);
+    let mut enclosing = enclosing;
+    if enclosing.regions.len() >= 2 {
+        enclosing.regions.swap(0, 1);
     }
-    around
+    enclosing
 }
 
 fn push_last_kinds(jumps: bool, kinds: &mut Vec<Kind>) -> Result<(), NoMemory>

@@ -30,7 +30,7 @@ impl Builder {
     fn end_conditional(&mut self, t: &CType, predicate: Origin) -> Result<Origin, NoMemory>
         ensures work { OnOk result (self.new ≡ ended Gamma (has_value t.now) self.old) }
         ensures value { IfOk result
-            (λ v. v ≡ chosen_value t.now predicate (ended_value self.old.around)) }
+            (λ v. v ≡ chosen_value t.now predicate (ended_value self.old.enclosing)) }
     {
         match &t.form {
             TypeForm::Void => {

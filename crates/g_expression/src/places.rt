@@ -14,7 +14,7 @@ use c_type::CType;
 use g_graph::Origin;
 use no_memory::NoMemory;
 
-// What a place is once its address is made.
+/// What a place is once its address is made.
 #[derive(Clone, Copy)]
 pub enum Spot {
     InSlot(u32),
@@ -22,7 +22,7 @@ pub enum Spot {
 }
 
 impl Builder {
-    // The variable at a slot, as a place.
+    /// The variable at a slot, as a place.
     #[tactic(auto, using(crate::proofs::Made::made_given))]
     pub fn slot_spot(&mut self, slot: u32) -> Result<Spot, NoMemory>
         ensures work { OnOk result (self.new ≡ made self.old
@@ -42,7 +42,7 @@ impl Builder {
         }
     }
 
-    // A member of a place, at an offset in bytes.
+    /// A member of a place, at an offset in bytes.
     #[tactic(auto, using(crate::proofs::Made::made_given))]
     pub fn member_spot(&mut self, whole: Spot, offset: u32) -> Result<Spot, NoMemory>
         ensures work { OnOk result
@@ -69,7 +69,7 @@ impl Builder {
         }
     }
 
-    // The address of a place.
+    /// The address of a place.
     pub fn spot_address(&self, spot: Spot) -> Origin
         ensures { result ≡ (spot_address (spot_of spot) self.now.point).value }
     {
@@ -79,7 +79,7 @@ impl Builder {
         }
     }
 
-    // The read of a place of this type.
+    /// The read of a place of this type.
     #[tactic(auto, using(crate::proofs::Made::made_given))]
     pub fn spot_read(&mut self, t: &CType, spot: Spot) -> Result<Origin, NoMemory>
         ensures work { OnOk result
@@ -93,7 +93,7 @@ impl Builder {
         }
     }
 
-    // The write of a place of this type.
+    /// The write of a place of this type.
     #[tactic(auto, using(crate::proofs::Made::moved_made))]
     pub fn spot_write(&mut self, t: &CType, spot: Spot, value: Origin) -> Result<Origin, NoMemory>
         ensures work { OnOk result (self.new ≡

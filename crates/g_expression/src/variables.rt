@@ -45,11 +45,12 @@ impl Model for Variables {
     ghost use Rattle.std.specs.Prelude.{◌≡◌, ◌≤◌, ◌^◌, length};
     ghost use Rattle.g_expression.specs.Places.{slot_places};
 
-    ghost invariant = { λ v.
-        (length v.all.items ≤ 2 ^ 31) × (v.places.items ≡ slot_places 0 (map slot_of v.all.items)) };
+    ghost invariant = { λ v. (length v.all.items ≤ 2 ^ 31)
+        × (v.places.items ≡ slot_places 0 (map slot_of v.all.items)) };
 }
 
 impl Variables {
+    /// No variables.
     pub fn new(alloc: Global) -> Variables
         ensures { result ≡ [] }
     {
@@ -59,7 +60,7 @@ impl Variables {
         }
     }
 
-    // A variable comes into scope.
+    /// A variable comes into scope.
     pub fn push(&mut self, variable: InScope) -> Result<(), NoMemory>
         ensures { OnOk result (self.new ≡ self.old ++ slot_of variable ∷ []) }
     {
@@ -86,7 +87,7 @@ impl Variables {
         Ok(())
     }
 
-    // The newest variable leaves the scope.
+    /// The newest variable leaves the scope.
     pub fn pop(&mut self)
         ensures { self.new ≡ without_newest self.old }
     {
@@ -98,7 +99,7 @@ impl Variables {
         }
     }
 
-    // The origin of the newest variable.
+    /// The origin of the newest variable.
     pub fn newest(&self) -> Origin
         ensures { result ≡ slot_origin (newest self.now) }
     {
@@ -108,7 +109,7 @@ impl Variables {
         }
     }
 
-    // What stands at a slot.
+    /// What stands at a slot.
     pub fn at(&self, slot: u32) -> Option<InScope>
         ensures { option_map slot_of result ≡ variable_at self.now slot }
     {
@@ -118,7 +119,7 @@ impl Variables {
         }
     }
 
-    // The value variable at the slot has another origin.
+    /// The value variable at the slot has another origin.
     pub fn set(&mut self, slot: u32, origin: Origin)
         ensures { self.new ≡ variable_set self.old slot origin }
     {
@@ -128,8 +129,8 @@ impl Variables {
         }
     }
 
-    // The same variables, the values among them numbered from this output or argument on; the
-    // number after them.
+    /// The same variables, the values among them numbered from this output or argument on; the
+    /// number after them.
     pub fn rename(&mut self, alloc: Global, node: Option<u32>, first: u32) -> Result<u32, NoMemory>
         requires { first ≤ 1 }
         ensures names { OnOk result (self.new ≡ numbered self.old (origin_from node first)) }
@@ -146,7 +147,7 @@ impl Variables {
         Ok(next)
     }
 
-    // The origins of the values, after others.
+    /// The origins of the values, after others.
     pub fn push_origins(&self, origins: &mut Vec<Origin>) -> Result<(), NoMemory>
         ensures { OnOk result (origins.new.items ≡ origins.old.items ++ value_origins self.now) }
     {
@@ -156,7 +157,7 @@ impl Variables {
         Ok(())
     }
 
-    // A kind for each value, after others.
+    /// A kind for each value, after others.
     pub fn push_kinds(&self, kinds: &mut Vec<Kind>) -> Result<(), NoMemory>
         ensures { OnOk result (kinds.new.items ≡ kinds.old.items ++ value_kinds self.now) }
     {
@@ -186,7 +187,7 @@ fn is_named(variable: InScope) -> bool
     }
 }
 
-// The origin of a variable that has one.
+/// The origin of a variable that has one.
 pub fn value_origin(variable: InScope) -> Origin
     ensures { result ≡ slot_origin (Some (slot_of variable)) }
 {
@@ -250,7 +251,7 @@ fn values_of(variable: InScope) -> u32
     }
 }
 
-// The argument of a region, or the output of a node.
+/// The argument of a region, or the output of a node.
 pub fn origin_from(node: Option<u32>, number: u32) -> Origin
     ensures { result ≡ origin_from node number 0 }
 {

@@ -1,24 +1,25 @@
 -- The first of a list that can be changed, as a loop looks for it.
+use Rattle.std.specs.Option.{option_or}
 use Rattle.std.proofs.Common.{◌≡◌, ℕ, ◌<◌, ◌+◌, zero, suc, List, [], ◌∷◌, length, take, get_or, refl, sym, ap, ◌∙◌, add-one, arith}
 use Rattle.std.specs.Prelude.{Bool, true, false, ◌==◌, ◌||◌, if◌then◌else◌, is_some, MatchBool, slice_set, option_map}
 use Rattle.std.proofs.lemmas.List.{set-get_or}
 use Rattle.std.specs.declared.option.Option.{Option}
 use Rattle.std.specs.declared.option.Option.TheVariants.{Some, None}
 use Rattle.g_graph.specs.Plain.{RegionTree, region, NodeTree, node, NodeTrees, no_nodes, node_then, RegionTrees, no_regions, region_then, nodes_of, regions_of, id_of}
-use Rattle.g_graph.specs.Change.{first_some, region_changed, node_changed, nodes_changed, regions_changed, some_region, some_in_node, some_in_nodes, some_in_regions, has_node, node_index}
+use Rattle.g_graph.specs.Change.{region_changed, node_changed, nodes_changed, regions_changed, some_region, some_in_node, some_in_nodes, some_in_regions, has_node, node_index}
 
 pub region_changed_here : (f : RegionTree → Option RegionTree) (r s : RegionTree) → f r ≡ Some s → region_changed f r ≡ Some s
-region_changed_here f (region args nodes results) s e = ap (λ o. first_some o (option_map (λ ns. region args ns results) (nodes_changed f nodes))) e
+region_changed_here f (region args nodes results) s e = ap (λ o. option_or o (option_map (λ ns. region args ns results) (nodes_changed f nodes))) e
 
 none_map : {X Y : Type 0} (g : X → Y) (o : Option X) → option_map g o ≡ None → o ≡ None
 none_map g None e = refl
 none_map g (Some x) e = absurd (cc)
 
-none_first : {X : Type 0} (a b : Option X) → first_some a b ≡ None → a ≡ None
+none_first : {X : Type 0} (a b : Option X) → option_or a b ≡ None → a ≡ None
 none_first None b e = refl
 none_first (Some x) b e = absurd (cc)
 
-none_second : {X : Type 0} (a b : Option X) → first_some a b ≡ None → b ≡ None
+none_second : {X : Type 0} (a b : Option X) → option_or a b ≡ None → b ≡ None
 none_second None b e = e
 none_second (Some x) b e = absurd (cc)
 
@@ -26,23 +27,23 @@ pub nodes_changed_at : (f : RegionTree → Option RegionTree) (xs : List NodeTre
     nodes_changed f (nodes_of (take i xs)) ≡ None → node_changed f x ≡ Some y → nodes_changed f (nodes_of xs) ≡ Some (nodes_of (slice_set xs i y))
 nodes_changed_at f [] i x y b e n h = absurd (omega arith)
 nodes_changed_at f (z ∷ xs) zero x y b e n h =
-    ap (λ o. first_some (option_map (λ w. node_then w (nodes_of xs)) o) (option_map (λ ys. node_then z ys) (nodes_changed f (nodes_of xs)))) (ap (node_changed f) (sym e) ∙ h)
+    ap (λ o. option_or (option_map (λ w. node_then w (nodes_of xs)) o) (option_map (λ ys. node_then z ys) (nodes_changed f (nodes_of xs)))) (ap (node_changed f) (sym e) ∙ h)
 nodes_changed_at f (z ∷ xs) (suc i) x y b e n h =
     let first = none_map (λ w. node_then w (nodes_of (take i xs))) (node_changed f z) (none_first _ _ n) in
     let rest = none_map (λ ys. node_then z ys) (nodes_changed f (nodes_of (take i xs))) (none_second _ _ n) in
     let more = nodes_changed_at f xs i x y (omega arith) e rest h in
-    ap (λ o. first_some (option_map (λ w. node_then w (nodes_of xs)) o) (option_map (λ ys. node_then z ys) (nodes_changed f (nodes_of xs)))) first
+    ap (λ o. option_or (option_map (λ w. node_then w (nodes_of xs)) o) (option_map (λ ys. node_then z ys) (nodes_changed f (nodes_of xs)))) first
     ∙ ap (option_map (λ ys. node_then z ys)) more
 
 nodes_unchanged_suc : (f : RegionTree → Option RegionTree) (xs : List NodeTree) (i : ℕ) (x : NodeTree) → i < length xs → x ≡ get_or xs i x →
     nodes_changed f (nodes_of (take i xs)) ≡ None → node_changed f x ≡ None → nodes_changed f (nodes_of (take (suc i) xs)) ≡ None
 nodes_unchanged_suc f [] i x b e n h = absurd (omega arith)
-nodes_unchanged_suc f (z ∷ xs) zero x b e n h = ap (λ o. first_some (option_map (λ w. node_then w no_nodes) o) None) (ap (node_changed f) (sym e) ∙ h)
+nodes_unchanged_suc f (z ∷ xs) zero x b e n h = ap (λ o. option_or (option_map (λ w. node_then w no_nodes) o) None) (ap (node_changed f) (sym e) ∙ h)
 nodes_unchanged_suc f (z ∷ xs) (suc i) x b e n h =
     let first = none_map (λ w. node_then w (nodes_of (take i xs))) (node_changed f z) (none_first _ _ n) in
     let rest = none_map (λ ys. node_then z ys) (nodes_changed f (nodes_of (take i xs))) (none_second _ _ n) in
     let more = nodes_unchanged_suc f xs i x (omega arith) e rest h in
-    ap (λ o. first_some (option_map (λ w. node_then w (nodes_of (take (suc i) xs))) o) (option_map (λ ys. node_then z ys) (nodes_changed f (nodes_of (take (suc i) xs))))) first
+    ap (λ o. option_or (option_map (λ w. node_then w (nodes_of (take (suc i) xs))) o) (option_map (λ ys. node_then z ys) (nodes_changed f (nodes_of (take (suc i) xs))))) first
     ∙ ap (option_map (λ ys. node_then z ys)) more
 
 pub nodes_unchanged_more : (f : RegionTree → Option RegionTree) (xs : List NodeTree) (i : ℕ) (x : NodeTree) → i < length xs → x ≡ get_or xs i x →
@@ -53,23 +54,23 @@ pub regions_changed_at : (f : RegionTree → Option RegionTree) (xs : List Regio
     regions_changed f (regions_of (take i xs)) ≡ None → region_changed f x ≡ Some y → regions_changed f (regions_of xs) ≡ Some (regions_of (slice_set xs i y))
 regions_changed_at f [] i x y b e n h = absurd (omega arith)
 regions_changed_at f (z ∷ xs) zero x y b e n h =
-    ap (λ o. first_some (option_map (λ w. region_then w (regions_of xs)) o) (option_map (λ ys. region_then z ys) (regions_changed f (regions_of xs)))) (ap (region_changed f) (sym e) ∙ h)
+    ap (λ o. option_or (option_map (λ w. region_then w (regions_of xs)) o) (option_map (λ ys. region_then z ys) (regions_changed f (regions_of xs)))) (ap (region_changed f) (sym e) ∙ h)
 regions_changed_at f (z ∷ xs) (suc i) x y b e n h =
     let first = none_map (λ w. region_then w (regions_of (take i xs))) (region_changed f z) (none_first _ _ n) in
     let rest = none_map (λ ys. region_then z ys) (regions_changed f (regions_of (take i xs))) (none_second _ _ n) in
     let more = regions_changed_at f xs i x y (omega arith) e rest h in
-    ap (λ o. first_some (option_map (λ w. region_then w (regions_of xs)) o) (option_map (λ ys. region_then z ys) (regions_changed f (regions_of xs)))) first
+    ap (λ o. option_or (option_map (λ w. region_then w (regions_of xs)) o) (option_map (λ ys. region_then z ys) (regions_changed f (regions_of xs)))) first
     ∙ ap (option_map (λ ys. region_then z ys)) more
 
 regions_unchanged_suc : (f : RegionTree → Option RegionTree) (xs : List RegionTree) (i : ℕ) (x : RegionTree) → i < length xs → x ≡ get_or xs i x →
     regions_changed f (regions_of (take i xs)) ≡ None → region_changed f x ≡ None → regions_changed f (regions_of (take (suc i) xs)) ≡ None
 regions_unchanged_suc f [] i x b e n h = absurd (omega arith)
-regions_unchanged_suc f (z ∷ xs) zero x b e n h = ap (λ o. first_some (option_map (λ w. region_then w no_regions) o) None) (ap (region_changed f) (sym e) ∙ h)
+regions_unchanged_suc f (z ∷ xs) zero x b e n h = ap (λ o. option_or (option_map (λ w. region_then w no_regions) o) None) (ap (region_changed f) (sym e) ∙ h)
 regions_unchanged_suc f (z ∷ xs) (suc i) x b e n h =
     let first = none_map (λ w. region_then w (regions_of (take i xs))) (region_changed f z) (none_first _ _ n) in
     let rest = none_map (λ ys. region_then z ys) (regions_changed f (regions_of (take i xs))) (none_second _ _ n) in
     let more = regions_unchanged_suc f xs i x (omega arith) e rest h in
-    ap (λ o. first_some (option_map (λ w. region_then w (regions_of (take (suc i) xs))) o) (option_map (λ ys. region_then z ys) (regions_changed f (regions_of (take (suc i) xs))))) first
+    ap (λ o. option_or (option_map (λ w. region_then w (regions_of (take (suc i) xs))) o) (option_map (λ ys. region_then z ys) (regions_changed f (regions_of (take (suc i) xs))))) first
     ∙ ap (option_map (λ ys. region_then z ys)) more
 
 pub regions_unchanged_more : (f : RegionTree → Option RegionTree) (xs : List RegionTree) (i : ℕ) (x : RegionTree) → i < length xs → x ≡ get_or xs i x →
@@ -100,7 +101,7 @@ is_some_map : {X Y : Type 0} (g : X → Y) (o : Option X) → is_some (option_ma
 is_some_map g None = refl
 is_some_map g (Some x) = refl
 
-is_some_first : {X : Type 0} (a b : Option X) → is_some (first_some a b) ≡ (is_some a || is_some b)
+is_some_first : {X : Type 0} (a b : Option X) → is_some (option_or a b) ≡ (is_some a || is_some b)
 is_some_first None b = refl
 is_some_first (Some x) b = refl
 

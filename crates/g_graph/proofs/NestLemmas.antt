@@ -1,4 +1,5 @@
 -- A change of one region keeps a nest well formed, where the region stays so and takes and gives what it did.
+use Rattle.std.specs.Option.{option_or}
 use Rattle.std.proofs.Common.{◌≡◌, ℕ, ◌++◌, Bool, true, ◌&&◌, List, [], ◌∷◌, map, length, refl, sym, ap, ◌∙◌, subst}
 use Rattle.std.specs.Prelude.{◌==◌, ◌||◌, not, slice_get, if◌then◌else◌, option_map}
 use Rattle.std.specs.declared.option.Option.{Option}
@@ -14,7 +15,7 @@ use Rattle.g_graph.specs.Plain.{RegionTree, region, NodeTree, node, NodeTrees, n
 use Rattle.g_graph.specs.Signatures.{joined, first_args, inputs_of, outputs_of, result_kinds, output_kinds, kind_after}
 use Rattle.g_graph.specs.Scope.{same_kind, is_of, known, last_index, origin_at, state_after, each_node}
 use Rattle.g_graph.specs.Ids.{region_ids, node_ids, nodes_ids, regions_ids}
-use Rattle.g_graph.specs.Change.{first_some, region_changed, node_changed, nodes_changed, regions_changed}
+use Rattle.g_graph.specs.Change.{region_changed, node_changed, nodes_changed, regions_changed}
 use Rattle.g_graph.specs.WellFormed.{all_of, some_of, all_regions, are, same, kinds_of, one_state_each, has_its_regions, regions_fit, theta_has_states, has_its_width, has_its_object, is_origin, is_last_of, is_last, node_fits, gives, region_fits, every_region, every_in_node, every_in_nodes, every_in_regions}
 use Rattle.g_graph.proofs.lemmas.Splices.{nodes_of-append, kind_after-joined, state_after-joined}
 use Rattle.g_graph.proofs.lemmas.Numbers.{Numbered, numbered_left, numbered_right, numbered_rest}
@@ -227,7 +228,7 @@ mutual
       (λ ms q. nodes_changed_kept objects next f k nodes ms q (and_parts (region_fits objects (region args nodes results)) (every_in_nodes (region_fits objects) nodes) own).1 numbers)
     where
       by_cases : (o : Option RegionTree) (p : Option NodeTrees) → f (region args nodes results) ≡ o → nodes_changed f nodes ≡ p →
-          first_some o (option_map (λ ns. region args ns results) p) ≡ Some s → ((ms : NodeTrees) → nodes_changed f nodes ≡ Some ms → NodesKept objects nodes ms) →
+          option_or o (option_map (λ ns. region args ns results) p) ≡ Some s → ((ms : NodeTrees) → nodes_changed f nodes ≡ Some ms → NodesKept objects nodes ms) →
           RegionKept objects (region args nodes results) s
       by_cases (Some t) p a b c h = k.kept (region args nodes results) s (a ∙ c) own numbers
       by_cases None (Some ms) a b c h =
@@ -258,7 +259,7 @@ mutual
       (λ ys q. nodes_changed_kept objects next f k xs ys q rest (numbered_right next (node_ids x) (nodes_ids xs) numbers))
     where
       by_cases : (o : Option NodeTree) (p : Option NodeTrees) → node_changed f x ≡ o → nodes_changed f xs ≡ p →
-          first_some (option_map (λ y. node_then y xs) o) (option_map (λ ys. node_then x ys) p) ≡ Some ms →
+          option_or (option_map (λ y. node_then y xs) o) (option_map (λ ys. node_then x ys) p) ≡ Some ms →
           every_in_node (region_fits objects) x ≡ true → every_in_nodes (region_fits objects) xs ≡ true →
           ((y : NodeTree) → node_changed f x ≡ Some y → NodeKept objects x y) → ((ys : NodeTrees) → nodes_changed f xs ≡ Some ys → NodesKept objects xs ys) →
           NodesKept objects (node_then x xs) ms
@@ -280,7 +281,7 @@ mutual
       (λ ts q. regions_changed_kept objects next f k rs ts q rest (numbered_right next (region_ids r) (regions_ids rs) numbers))
     where
       by_cases : (o : Option RegionTree) (p : Option RegionTrees) → region_changed f r ≡ o → regions_changed f rs ≡ p →
-          first_some (option_map (λ s. region_then s rs) o) (option_map (λ ts. region_then r ts) p) ≡ Some ss →
+          option_or (option_map (λ s. region_then s rs) o) (option_map (λ ts. region_then r ts) p) ≡ Some ss →
           every_region (region_fits objects) r ≡ true → every_in_regions (region_fits objects) rs ≡ true →
           ((s : RegionTree) → region_changed f r ≡ Some s → RegionKept objects r s) → ((ts : RegionTrees) → regions_changed f rs ≡ Some ts → RegionsKept objects rs ts) →
           RegionsKept objects (region_then r rs) ss

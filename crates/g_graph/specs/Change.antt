@@ -1,28 +1,25 @@
 -- A change of one region of a nest: of the first, in pre-order, that can be changed so. None where there is no such
 -- region.
+use Rattle.std.specs.Option.{option_or}
 use Rattle.std.specs.Prelude.{ℕ, suc, ◌==◌, Bool, false, ◌||◌, if◌then◌else◌, unwrap_or, option_map}
 use Rattle.std.specs.declared.option.Option.{Option}
 use Rattle.std.specs.declared.option.Option.TheVariants.{Some, None}
 use Rattle.g_graph.specs.Plain.{RegionTree, region, NodeTree, node, NodeTrees, no_nodes, node_then, RegionTrees, no_regions, region_then, id_of, nodes_in, PlainLambda}
 
-abbrev pub first_some : {X : Type 0} → Option X → Option X → Option X
-first_some None y = y
-first_some (Some x) y = Some x
-
 abbrev mutual
   pub region_changed : (RegionTree → Option RegionTree) → RegionTree → Option RegionTree
-  region_changed f (region args nodes results) = first_some (f (region args nodes results)) (option_map (λ ns. region args ns results) (nodes_changed f nodes))
+  region_changed f (region args nodes results) = option_or (f (region args nodes results)) (option_map (λ ns. region args ns results) (nodes_changed f nodes))
 
   pub node_changed : (RegionTree → Option RegionTree) → NodeTree → Option NodeTree
   node_changed f (node id op inputs rs) = option_map (λ ss. node id op inputs ss) (regions_changed f rs)
 
   pub nodes_changed : (RegionTree → Option RegionTree) → NodeTrees → Option NodeTrees
   nodes_changed f no_nodes = None
-  nodes_changed f (node_then x xs) = first_some (option_map (λ y. node_then y xs) (node_changed f x)) (option_map (λ ys. node_then x ys) (nodes_changed f xs))
+  nodes_changed f (node_then x xs) = option_or (option_map (λ y. node_then y xs) (node_changed f x)) (option_map (λ ys. node_then x ys) (nodes_changed f xs))
 
   pub regions_changed : (RegionTree → Option RegionTree) → RegionTrees → Option RegionTrees
   regions_changed f no_regions = None
-  regions_changed f (region_then r rs) = first_some (option_map (λ s. region_then s rs) (region_changed f r)) (option_map (λ ss. region_then r ss) (regions_changed f rs))
+  regions_changed f (region_then r rs) = option_or (option_map (λ s. region_then s rs) (region_changed f r)) (option_map (λ ss. region_then r ss) (regions_changed f rs))
 
 -- the test holds of a region or of one nested in it
 abbrev mutual

@@ -101,8 +101,8 @@ pub fn op_inputs(op: Op) -> &'static [Kind]
     }
 }
 
-// The outputs of an op without regions.
-fn op_outputs(op: Op) -> &'static [Kind]
+/// The kinds of the outputs of an op without regions.
+pub fn op_outputs(op: Op) -> &'static [Kind]
     ensures { result.now ≡ op_outputs op }
 {
     match op {

@@ -25,7 +25,7 @@ statement_step vs n w w1 u a rest all passed e h f e1 inv =
 scope_ends : (vs : List VariableTree) (w : Work) (rest : ItemTrees) →
     made w (bind (items_made vs rest w.point) (λ _ x. nothing (popped x))) ≡ moved_to (made w (items_made vs rest w.point)) (popped (made w (items_made vs rest w.point)).point)
 scope_ends vs w rest =
-    let b : Built (Unit {0}) = items_made vs rest w.point in ap (λ ns. record { around = w.around; nodes = w.nodes ++ ns; point = popped b.after }) (append-nil b.nodes)
+    let b : Built (Unit {0}) = items_made vs rest w.point in ap (λ ns. record { enclosing = w.enclosing; nodes = w.nodes ++ ns; point = popped b.after }) (append-nil b.nodes)
 
 pub declared_step : (vs : List VariableTree) (n : ℕ) (w w1 u : Work) (d : DeclarationTree) (rest all : ItemTrees) → all ≡ declare_then d rest →
     w1 ≡ made w (declared_made vs d w.point) → pops n (made w (items_made vs all w.point)) ≡ u → pops (n + 1) (made w1 (items_made vs rest w1.point)) ≡ u

@@ -14,9 +14,9 @@ use Rattle.g_construct.specs.Statements.{items_made, segments_made}
 use Rattle.g_construct.proofs.lemmas.Later.{Keeps, EachKeeps, later_here}
 use Rattle.g_count.specs.Values.{first_ends}
 use Rattle.g_count.proofs.lemmas.Steps.{either_assoc}
-use Rattle.g_expression.specs.Work.{Around, Work, made, moved_to, begun, closed, with_regions, ended}
+use Rattle.g_expression.specs.Work.{Enclosing, Work, made, moved_to, begun, closed, with_regions, ended}
 use Rattle.g_expression.proofs.Made.{Makes, bind_makes, made_given}
-use Rattle.g_expression.proofs.Choices.{open_in, close_from, end_from, gamma_around}
+use Rattle.g_expression.proofs.Choices.{open_in, close_from, end_from, gamma_enclosing}
 use Rattle.c_typed.specs.StmtViews.{items_of, groups_of}
 use Rattle.c_typed.specs.declared.statement.Group.{Group}
 use Rattle.g_statement.specs.LabelParts.{segment_chosen}
@@ -43,10 +43,6 @@ moved_end (l ∷ ls) [] zero d n p h = refl
 moved_end (l ∷ ls) [] (suc k) d n p h = moved_none (drop k ls) d n p
 moved_end (l ∷ ls) (q ∷ qs) zero d n p h = absurd (omega (arith, h))
 moved_end (l ∷ ls) (q ∷ qs) (suc k) d n p h = moved_end ls qs k d n p (omega (arith, h))
-
-pub length_map : {X Y : Type 0} → (f : X → Y) (xs : List X) → length (map f xs) ≡ length xs
-length_map f [] = refl
-length_map f (x ∷ xs) = ap suc (length_map f xs)
 
 pub drop_map : {X Y : Type 0} → (f : X → Y) (xs : List X) (k : ℕ) → map f (drop k xs) ≡ drop k (map f xs)
 drop_map f xs zero = refl
@@ -103,7 +99,7 @@ later_step gs e c d is rest h k =
 
 -- ---- all regions
 
-regions_from : (a : Around) (rest : List Around) (k : Carried) (m : ℕ) (fs : List Part) (w : Work) → EachKeeps fs → w ≡ open_in a rest k m →
+regions_from : (a : Enclosing) (rest : List Enclosing) (k : Carried) (m : ℕ) (fs : List Part) (w : Work) → EachKeeps fs → w ≡ open_in a rest k m →
     regions_closed w fs ≡ open_in (with_regions a (a.regions ++ (regions_made no_value k m fs).regions)) rest k (regions_made no_value k m fs).next
 regions_from a rest k m [] w h e = e ∙ ap (λ rs. open_in (with_regions a rs) rest k m) (sym (append-nil a.regions))
 regions_from a rest k m (f ∷ fs) w h e =
@@ -126,11 +122,11 @@ pub choices_makes : (w w1 w2 w3 w4 : Work) (p : Origin) (fs : List Part) → Eac
 choices_makes w w1 w2 w3 w4 p fs h e1 e2 e3 e4 =
     let k : Carried = w.point.carried in
     let n : ℕ = w.point.next in
-    let a : Around = gamma_around p w in
+    let a : Enclosing = gamma_enclosing p w in
     let gs : List Part = fs ++ nothing ∷ [] in
-    let all : w3 ≡ open_in (with_regions a (regions_made no_value k (suc n) gs).regions) w.around k (regions_made no_value k (suc n) gs).next =
-    e3 ∙ ap (closed []) e2 ∙ sym (closed_append w1 fs) ∙ regions_from a w.around k (suc n) gs w1 (each_append fs h) e1 in
-    end_from (with_regions a (regions_made no_value k (suc n) gs).regions) w.around k (regions_made no_value k (suc n) gs).next Gamma false (λ j. j) w3 w4 (λ j. refl) all e4
+    let all : w3 ≡ open_in (with_regions a (regions_made no_value k (suc n) gs).regions) w.enclosing k (regions_made no_value k (suc n) gs).next =
+    e3 ∙ ap (closed []) e2 ∙ sym (closed_append w1 fs) ∙ regions_from a w.enclosing k (suc n) gs w1 (each_append fs h) e1 in
+    end_from (with_regions a (regions_made no_value k (suc n) gs).regions) w.enclosing k (regions_made no_value k (suc n) gs).next Gamma false (λ j. j) w3 w4 (λ j. refl) all e4
 
 -- ---- groups by index
 
@@ -254,5 +250,5 @@ chosen_makes p n gs fs w w1 w4 w5 w6 e1 en e4 e5 e6 =
     let all = (bind_makes w w1 w6 (segment_chosen p gs w.point) g n v (record { work = e1; value = en }) rest).work in
     let c : Built (Unit {0}) = g a.value.number b.after in
     all
-    ∙ ap (λ ns. record { around = w.around; nodes = w.nodes ++ ns; point = c.after })
+    ∙ ap (λ ns. record { enclosing = w.enclosing; nodes = w.nodes ++ ns; point = c.after })
     (ap (λ ns. (a.nodes ++ ns) ++ c.nodes) (append-nil b.nodes) ∙ append_assoc a.nodes b.nodes c.nodes)

@@ -70,8 +70,8 @@ fn store_characters(
 }
 
 fn store_value(b: &mut Builder, number: u32, offset: u32, e: &TExpr) -> Result<(), NoMemory>
-    ensures { OnOk result
-        (b.new ≡ made b.old (elements_made number (value_then offset e.now no_elements) b.old.point)) }
+    ensures { OnOk result (b.new ≡ made b.old
+        (elements_made number (value_then offset e.now no_elements) b.old.point)) }
 {
     let value = b.expression(e)?;
     store_element(b, number, offset, access_width(&e.ty), value)
@@ -157,8 +157,8 @@ fn store_initial(b: &mut Builder, number: u32, e: &TExpr) -> Result<(), NoMemory
 }
 
 fn store_list(b: &mut Builder, number: u32, elements: &[Element]) -> Result<(), NoMemory>
-    ensures { OnOk result (b.new ≡
-        made b.old (object_begun number (initial_elements (elements_of elements.now)) b.old.point)) }
+    ensures { OnOk result (b.new ≡ made b.old
+        (object_begun number (initial_elements (elements_of elements.now)) b.old.point)) }
 {
     b.clear(number)?;
     store_elements(b, number, elements)

@@ -1,4 +1,4 @@
-//! Jumps by the variable `go`, and what stands around loops.
+//! Jumps by the variable `go`, and what stands enclosing loops.
 ghost use Rattle.std.specs.Prelude.{◌≡◌, true, false, OnOk, IfOk};
 ghost use Rattle.c_typed.specs.Typed.{some_expr};
 ghost use Rattle.c_typed.specs.StmtViews.{optional_of};

@@ -10,5 +10,5 @@ mod select;
 mod statements;
 
 pub use declaration::{declare, store_object};
-pub use objects::{Declared, Objects};
+pub use objects::{Declared, Objects, number_after};
 pub use statements::{list, statement};

@@ -76,7 +76,8 @@ impl<'a> Objects<'a> {
     }
 }
 
-fn number_after(number: u32, is_object: bool) -> u32
+/// The number of the next object after a variable, which may be one.
+pub fn number_after(number: u32, is_object: bool) -> u32
     requires { number < 2 ^ 32 - 1 }
     ensures { result ≡ (if is_object then suc number else number) }
 {

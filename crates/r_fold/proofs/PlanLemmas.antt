@@ -1,22 +1,22 @@
 -- A plan for a node says what folding gives, and regions are found by index.
+use Rattle.std.specs.Option.{option_or}
 use Rattle.std.proofs.Common.{◌≡◌, ◌≤◌, ◌<◌, get_or, ℕ, zero, suc, ◌==◌, Bool, true, false, List, [], ◌∷◌, Option, None, Some, option_map, option_and_then, length, refl, sym, ap, ◌∙◌, arith}
 use Rattle.std.proofs.Math.Dec.{eqb-suc-zero, eqb-suc-suc}
 use Rattle.std.specs.Prelude.{is_some, if◌then◌else◌, slice_get, ◌-◌}
 use Rattle.g_graph.specs.declared.op.Op.TheVariants.{Const, Undef, Local, Delta, Bin, Un, Load, Store, Clear, PtrEq, Apply, Put, Exit, Get, Gamma, Theta}
 use Rattle.g_graph.specs.declared.op.Origin.{Origin}
 use Rattle.g_graph.specs.Plain.{RegionTree, region, NodeTree, node, NodeTrees, RegionTrees, no_regions, region_then, regions_of, nodes_in}
-use Rattle.g_graph.specs.Change.{first_some}
 use Rattle.g_graph.specs.Nodes.{node_at, constant}
 use Rattle.r_fold.specs.Rule.{is_word, Folded, word, input, replacement, gamma_folded, theta_folded, chosen_region, folding, folded, fold_here}
 use Rattle.r_fold.specs.Plan.{planned, bin_case, un_case, theta_case, plain_case, replacement_case, has_one_turn, carried_out}
 
 -- ---- the cases of the rule
 
-first_none : {X : Type 0} (a : Option X) → a ≡ first_some a None
+first_none : {X : Type 0} (a : Option X) → a ≡ option_or a None
 first_none None = refl
 first_none (Some x) = refl
 
-pub folding_cases : (nodes : NodeTrees) (x : NodeTree) → folding nodes x ≡ first_some (plain_case nodes x) (replacement_case nodes x)
+pub folding_cases : (nodes : NodeTrees) (x : NodeTree) → folding nodes x ≡ option_or (plain_case nodes x) (replacement_case nodes x)
 folding_cases nodes (node id (Bin op) [] rs) = refl
 folding_cases nodes (node id (Bin op) (a ∷ []) rs) = refl
 folding_cases nodes (node id (Bin op) (a ∷ b ∷ []) rs) = first_none (bin_case nodes op (a ∷ b ∷ []))
@@ -42,11 +42,11 @@ folding_cases nodes (node id Put os rs) = refl
 folding_cases nodes (node id Exit os rs) = refl
 folding_cases nodes (node id Get os rs) = refl
 
-pub planned_first : (a b : Option Folded) → option_map planned (first_some a b) ≡ first_some (option_map planned a) (option_map planned b)
+pub planned_first : (a b : Option Folded) → option_map planned (option_or a b) ≡ option_or (option_map planned a) (option_map planned b)
 planned_first None b = refl
 planned_first (Some f) b = refl
 
-pub folding_planned : (nodes : NodeTrees) (x : NodeTree) → option_map planned (folding nodes x) ≡ first_some (option_map planned (plain_case nodes x)) (option_map planned (replacement_case nodes x))
+pub folding_planned : (nodes : NodeTrees) (x : NodeTree) → option_map planned (folding nodes x) ≡ option_or (option_map planned (plain_case nodes x)) (option_map planned (replacement_case nodes x))
 folding_planned nodes x = ap (option_map planned) (folding_cases nodes x) ∙ planned_first (plain_case nodes x) (replacement_case nodes x)
 
 pub theta_turn : (inputs : List Origin) (rs : RegionTrees) → is_some (theta_case inputs rs) ≡ has_one_turn rs

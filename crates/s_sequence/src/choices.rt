@@ -8,11 +8,11 @@ ghost use Rattle.s_sequence.specs.Scope.{name_in};
 ghost use Rattle.s_sequence.specs.Writer.{with_lines};
 ghost use Rattle.s_sequence.specs.Written.{branch_lines};
 
-use crate::ops::{instr, output_kinds};
+use crate::ops::instr;
 use crate::ports::{Ports, ports_of};
 use crate::scope::Scope;
 use crate::writer::Writer;
-use g_graph::{Op, Origin};
+use g_graph::{Op, Origin, op_outputs};
 use no_memory::NoMemory;
 use s_linear::Line;
 use std::alloc::Global;
@@ -36,7 +36,7 @@ pub fn write_plain(
 {
     let instr = instr(alloc, op, w.next, scope, inputs)?;
     w.push(Line::Done { instr })?;
-    let outputs = ports_of(alloc, output_kinds(op), w.next)?;
+    let outputs = ports_of(alloc, op_outputs(op), w.next)?;
     w.next = outputs.end;
     Ok(outputs)
 }

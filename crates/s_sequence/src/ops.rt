@@ -1,12 +1,11 @@
 ghost use Rattle.std.specs.Prelude.{◌≡◌, map, IfOk};
-ghost use Rattle.g_graph.specs.Signatures.{op_outputs};
 ghost use Rattle.s_linear.specs.Views.{instr_of};
 ghost use Rattle.s_sequence.specs.Sequence.{name_at, without_states, op_instr};
 ghost use Rattle.s_sequence.specs.Ops.{instr_with};
 ghost use Rattle.s_sequence.specs.Scope.{name_in};
 
 use crate::scope::Scope;
-use g_graph::{Kind, Op, Origin};
+use g_graph::{Op, Origin};
 use no_memory::NoMemory;
 use s_linear::Instr;
 use std::alloc::Global;
@@ -100,18 +99,4 @@ fn arguments(alloc: Global, scope: &Scope, inputs: &[Origin]) -> Result<Vec<u32>
 {
     let count = inputs.len().saturating_sub(2);
     scope.names(alloc, &inputs[..count])
-}
-
-/// The kinds of the outputs of an op without regions.
-pub fn output_kinds(op: Op) -> &'static [Kind]
-    ensures { result.now ≡ op_outputs op }
-{
-    match op {
-        Op::Store(_) | Op::Clear(_) => &[Kind::Memory],
-        Op::Apply(_) => &[Kind::Value, Kind::Memory, Kind::Io],
-        Op::Put | Op::Exit => &[Kind::Io],
-        Op::Get => &[Kind::Value, Kind::Io],
-        Op::Gamma | Op::Theta => &[],
-        _ => &[Kind::Value],
-    }
 }

@@ -8,7 +8,7 @@ use Rattle.c_static.proofs.examples.Terms.{Term, char, unsigned_char, short, s, 
 abbrev pointer : Term
 pointer = variable (pointer_to int)
 
--- ---- no operands: p < 0, ip == 1, char * beside unsigned char *, s + 1, ip * 2, ip + ip
+-- ---- no operands: p < 0, ip == 1, char * and unsigned char *, s + 1, ip * 2, ip + ip
 
 null-order : binary mark.Less pointer (number 0) ≡ None
 null-order = refl

@@ -2,6 +2,7 @@
 use Rattle.std.proofs.Common.{◌≡◌, ◌≤◌, ◌<◌, inl, inr, ℕ, ◌+◌, ◌*◌, zero, suc, Bool, true, false, List, [], ◌∷◌, length, map, refl, ap, ◌∙◌, arith, subst}
 use Rattle.std.specs.Prelude.{◌-◌, ◌/◌, ◌%◌, ◌^◌, ◌==◌, ◌&&◌, ◌||◌, not, nat_le, nat_lt, if◌then◌else◌, slice_index_or}
 use Rattle.std.proofs.lemmas.Bool.Decides.{nat_tests}
+use Rattle.g_formation.proofs.lemmas.Names.{below}
 use Rattle.std.specs.List.{filter}
 use Rattle.std.proofs.lemmas.Bool.{or_right}
 use Rattle.std.proofs.Math.Nat.{mod-lt}
@@ -87,12 +88,9 @@ byte_below ls n from i (characters_at o cs ∷ ws) h =
     by_test true a b = a
     by_test false a b = b
 
-lt_true : (m n : ℕ) → m < n → nat_lt m n ≡ true
-lt_true m n h = grind (arith, nat_tests, h)
-
 pub bytes_below : (ls : List Leaf) (n from : ℕ) (ws : List WrittenTree) (i count : ℕ) → WrittenFits ls n from ws → all_of (λ b. nat_lt b 256) (bytes_from ws i count) ≡ true
 bytes_below ls n from ws i zero h = refl
-bytes_below ls n from ws i (suc count) h = λ k. lt_true (byte_at ws i) 256 (byte_below ls n from i ws h) k && bytes_below ls n from ws (suc i) count h k
+bytes_below ls n from ws i (suc count) h = λ k. below (byte_at ws i) 256 (byte_below ls n from i ws h) k && bytes_below ls n from ws (suc i) count h k
 
 -- ---- links
 
@@ -110,7 +108,7 @@ leaf_found (l ∷ ls) o w (inr h) = or_right ((l.offset == o) && (l.width == w))
 pub links_fit : (ls : List Leaf) (n from : ℕ) (ws : List WrittenTree) → WrittenFits ls n from ws → all_of (link_fits n ls) (links_in ws) ≡ true
 links_fit ls n from [] h = refl
 links_fit ls n from (word_at o width w ∷ ws) h = links_fit ls n (o + width) ws h.3
-links_fit ls n from (link_at o k ∷ ws) h = λ i. (leaf_found ls o 4 h.1 i && lt_true k n h.2 i) && links_fit ls n (o + 4) ws h.3 i
+links_fit ls n from (link_at o k ∷ ws) h = λ i. (leaf_found ls o 4 h.1 i && below k n h.2 i) && links_fit ls n (o + 4) ws h.3 i
 links_fit ls n from (characters_at o cs ∷ ws) h = links_fit ls n (o + length cs) ws h.2
 
 differ : (m n : ℕ) → m < n → (m == n) ≡ false

@@ -34,7 +34,7 @@ mutual
 
 -- ---- ops that fit
 
-below : (k n : ℕ) → k < n → nat_lt k n ≡ true
+pub below : (k n : ℕ) → k < n → nat_lt k n ≡ true
 below k n h = grind (arith, nat_tests, h)
 
 pub fits_allows_only : (ls : List PlainLambda) (globals objects : ℕ) → AllowsOnly objects (OpFits ls globals objects)

@@ -1,4 +1,5 @@
 -- The numbers of a nest where one region of it is changed: those of the region are exchanged, and all others stay.
+use Rattle.std.specs.Option.{option_or}
 use Rattle.std.proofs.Common.{◌≡◌, ◌≤◌, ◌+◌, ℕ, ◌++◌, Bool, true, ◌&&◌, List, [], ◌∷◌, length, refl, sym, ap, ◌∙◌, subst, append_assoc, append-nil, replicate, arith}
 use Rattle.std.specs.Prelude.{◌==◌, nat_lt, count_by, option_map}
 use Rattle.std.specs.declared.option.Option.{Option}
@@ -7,7 +8,7 @@ use Rattle.std.proofs.lemmas.Bool.{and_parts}
 use Rattle.g_graph.specs.declared.op.Kind.TheVariants.{Value, Memory, Io}
 use Rattle.g_graph.specs.Plain.{RegionTree, region, NodeTree, node, NodeTrees, no_nodes, node_then, RegionTrees, no_regions, region_then, PlainLambda}
 use Rattle.g_graph.specs.Ids.{region_ids, node_ids, nodes_ids, regions_ids}
-use Rattle.g_graph.specs.Change.{first_some, region_changed, node_changed, nodes_changed, regions_changed}
+use Rattle.g_graph.specs.Change.{region_changed, node_changed, nodes_changed, regions_changed}
 use Rattle.g_graph.specs.WellFormed.{all_of, distinct, leaves_fit, are, same, region_fits, every_region, every_in_node, every_in_nodes, every_in_regions, body_fits, numbers_fit, well_formed}
 use Rattle.g_graph.proofs.lemmas.Unique.{times_append, all_of_append}
 use Rattle.g_graph.proofs.lemmas.Numbers.{Numbered, numbered_left, numbered_right, numbered_fewer}
@@ -55,7 +56,7 @@ mutual
       (λ ms q. nodes_changed_ids objects f nodes ms q (and_parts (region_fits objects (region args nodes results)) (every_in_nodes (region_fits objects) nodes) own).1)
     where
       by_cases : (o : Option RegionTree) (p : Option NodeTrees) → f (region args nodes results) ≡ o → nodes_changed f nodes ≡ p →
-          first_some o (option_map (λ ns. region args ns results) p) ≡ Some s → ((ms : NodeTrees) → nodes_changed f nodes ≡ Some ms → Exchanged objects f (nodes_ids nodes) (nodes_ids ms)) →
+          option_or o (option_map (λ ns. region args ns results) p) ≡ Some s → ((ms : NodeTrees) → nodes_changed f nodes ≡ Some ms → Exchanged objects f (nodes_ids nodes) (nodes_ids ms)) →
           Exchanged objects f (nodes_ids nodes) (region_ids s)
       by_cases (Some t) p a b c h = record {
         old = region args nodes results;
@@ -92,7 +93,7 @@ mutual
       (λ ys q. nodes_changed_ids objects f xs ys q (and_parts (every_in_node (region_fits objects) x) (every_in_nodes (region_fits objects) xs) own).1)
     where
       by_cases : (o : Option NodeTree) (p : Option NodeTrees) → node_changed f x ≡ o → nodes_changed f xs ≡ p →
-          first_some (option_map (λ y. node_then y xs) o) (option_map (λ ys. node_then x ys) p) ≡ Some ms →
+          option_or (option_map (λ y. node_then y xs) o) (option_map (λ ys. node_then x ys) p) ≡ Some ms →
           ((y : NodeTree) → node_changed f x ≡ Some y → Exchanged objects f (node_ids x) (node_ids y)) →
           ((ys : NodeTrees) → nodes_changed f xs ≡ Some ys → Exchanged objects f (nodes_ids xs) (nodes_ids ys)) →
           Exchanged objects f (node_ids x ++ nodes_ids xs) (nodes_ids ms)
@@ -113,7 +114,7 @@ mutual
       (λ ts q. regions_changed_ids objects f rs ts q (and_parts (every_region (region_fits objects) r) (every_in_regions (region_fits objects) rs) own).1)
     where
       by_cases : (o : Option RegionTree) (p : Option RegionTrees) → region_changed f r ≡ o → regions_changed f rs ≡ p →
-          first_some (option_map (λ s. region_then s rs) o) (option_map (λ ts. region_then r ts) p) ≡ Some ss →
+          option_or (option_map (λ s. region_then s rs) o) (option_map (λ ts. region_then r ts) p) ≡ Some ss →
           ((s : RegionTree) → region_changed f r ≡ Some s → Exchanged objects f (region_ids r) (region_ids s)) →
           ((ts : RegionTrees) → regions_changed f rs ≡ Some ts → Exchanged objects f (regions_ids rs) (regions_ids ts)) →
           Exchanged objects f (region_ids r ++ regions_ids rs) (regions_ids ss)

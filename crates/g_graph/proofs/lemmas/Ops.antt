@@ -1,4 +1,5 @@
 -- A property of the ops of a region, at any depth, through the changes that rules make.
+use Rattle.std.specs.Option.{option_or}
 use Rattle.std.proofs.Common.{◌≡◌, ℕ, ◌==◌, Bool, true, false, List, length, Option, Some, None, refl, sym, subst, ◌∙◌, if◌then◌else◌, option_map}
 use Rattle.std.specs.Prelude.{unwrap_or}
 use Rattle.std.proofs.lemmas.List.{length-map}
@@ -6,7 +7,7 @@ use Rattle.std.proofs.lemmas.Option.{same_Some}
 use Rattle.g_graph.specs.declared.op.Op.{Op}
 use Rattle.g_graph.specs.declared.op.Origin.{Origin}
 use Rattle.g_graph.specs.Plain.{RegionTree, region, NodeTree, node, NodeTrees, no_nodes, node_then, RegionTrees, no_regions, region_then, id_of, PlainLambda}
-use Rattle.g_graph.specs.Change.{first_some, region_changed, node_changed, nodes_changed, regions_changed, lambda_changed}
+use Rattle.g_graph.specs.Change.{region_changed, node_changed, nodes_changed, regions_changed, lambda_changed}
 use Rattle.g_graph.specs.Replace.{nodes_redirected, region_redirected}
 use Rattle.g_graph.specs.Splice.{outputs_to_results, joined_nodes, nodes_spliced, region_spliced}
 use Rattle.g_graph.specs.Nodes.{node_at, node_set}
@@ -62,7 +63,7 @@ module _ (p : Op → ℕ → Type 0) where
           by_cases (f (region args nodes results)) (nodes_changed f nodes) refl refl e (λ ms q. nodes_ops nodes ms q h)
         where
           by_cases : (o : Option RegionTree) (q : Option NodeTrees) → f (region args nodes results) ≡ o → nodes_changed f nodes ≡ q →
-              first_some o (option_map (λ ns. region args ns results) q) ≡ Some s → ((ms : NodeTrees) → nodes_changed f nodes ≡ Some ms → NodesOps p ms) → RegionOps p s
+              option_or o (option_map (λ ns. region args ns results) q) ≡ Some s → ((ms : NodeTrees) → nodes_changed f nodes ≡ Some ms → NodesOps p ms) → RegionOps p s
           by_cases (Some t) q a b c rest = keeps (region args nodes results) s (a ∙ c) h
           by_cases None (Some ms) a b c rest = subst (λ z. RegionOps p z) (same_Some (region args ms results) s c) (rest ms b)
           by_cases None None a b c rest = absurd (cc)
@@ -81,7 +82,7 @@ module _ (p : Op → ℕ → Type 0) where
           by_cases (node_changed f x) (nodes_changed f xs) refl refl e (λ y q. node_ops x y q h.0) (λ ys q. nodes_ops xs ys q h.1)
         where
           by_cases : (o : Option NodeTree) (q : Option NodeTrees) → node_changed f x ≡ o → nodes_changed f xs ≡ q →
-              first_some (option_map (λ y. node_then y xs) o) (option_map (λ ys. node_then x ys) q) ≡ Some ms →
+              option_or (option_map (λ y. node_then y xs) o) (option_map (λ ys. node_then x ys) q) ≡ Some ms →
               ((y : NodeTree) → node_changed f x ≡ Some y → NodeOps p y) → ((ys : NodeTrees) → nodes_changed f xs ≡ Some ys → NodesOps p ys) → NodesOps p ms
           by_cases (Some y) q a b c first rest = subst (λ z. NodesOps p z) (same_Some (node_then y xs) ms c) (first y a, h.1)
           by_cases None (Some ys) a b c first rest = subst (λ z. NodesOps p z) (same_Some (node_then x ys) ms c) (h.0, rest ys b)
@@ -93,7 +94,7 @@ module _ (p : Op → ℕ → Type 0) where
           by_cases (region_changed f r) (regions_changed f rs) refl refl e (λ s q. region_ops r s q h.0) (λ ts q. regions_ops rs ts q h.1)
         where
           by_cases : (o : Option RegionTree) (q : Option RegionTrees) → region_changed f r ≡ o → regions_changed f rs ≡ q →
-              first_some (option_map (λ s. region_then s rs) o) (option_map (λ ts. region_then r ts) q) ≡ Some ss →
+              option_or (option_map (λ s. region_then s rs) o) (option_map (λ ts. region_then r ts) q) ≡ Some ss →
               ((s : RegionTree) → region_changed f r ≡ Some s → RegionOps p s) → ((ts : RegionTrees) → regions_changed f rs ≡ Some ts → RegionsOps p ts) → RegionsOps p ss
           by_cases (Some s) q a b c first rest = subst (λ z. RegionsOps p z) (same_Some (region_then s rs) ss c) (first s a, h.1)
           by_cases None (Some ts) a b c first rest = subst (λ z. RegionsOps p z) (same_Some (region_then r ts) ss c) (h.0, rest ts b)

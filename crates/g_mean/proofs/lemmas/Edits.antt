@@ -1,4 +1,5 @@
 -- Changes of regions of one lambda.
+use Rattle.std.specs.Option.{option_or}
 use Rattle.std.proofs.Common.{◌≡◌, ℕ, zero, suc, nat_lt, ◌==◌, Bool, true, false, not, ◌&&◌, ◌||◌, List, [], ◌∷◌, ◌++◌, length, slice_get, Option, None, Some, option_map, unwrap_or, refl, sym, subst, ◌∙◌, inl, inr}
 use Rattle.std.proofs.lemmas.Bool.{and_parts, and_from}
 use Rattle.g_graph.specs.Plain.{RegionTree, region, node, NodeTrees, no_nodes, node_then, RegionTrees, no_regions, region_then, PlainLambda}
@@ -9,7 +10,7 @@ use Rattle.g_mean.specs.Replacement.{Replaces}
 use Rattle.g_graph.specs.declared.op.Kind.{Kind}
 use Rattle.g_graph.specs.declared.op.Op.{Op}
 use Rattle.g_graph.specs.declared.op.Origin.{Origin}
-use Rattle.g_graph.specs.Change.{first_some, region_changed, nodes_changed, regions_changed, lambda_changed}
+use Rattle.g_graph.specs.Change.{region_changed, nodes_changed, regions_changed, lambda_changed}
 use Rattle.g_mean.specs.Edits.{AreEditedAt, IsPartOf, EditsReplace}
 use Rattle.g_mean.proofs.lemmas.Calls.{same-itself, nodes-itself, regions-itself}
 use Rattle.g_mean.proofs.lemmas.Closed.{region-closed}
@@ -63,7 +64,7 @@ module _ (P : RegionTree → RegionTree → Type 0) where
 
   first-or-rest : (id : ℕ) (op : Op) (inputs : List Origin) (rs : RegionTrees) (ns : NodeTrees) (first : Option RegionTrees) → ((ss : RegionTrees) → first ≡ Some ss → RegionsSameBut P rs ss) →
       (rest : Option NodeTrees) → ((ks : NodeTrees) → rest ≡ Some ks → NodesSameBut P ns ks) → (ms : NodeTrees) →
-      first_some (option_map (λ y. node_then y ns) (option_map (λ ss. node id op inputs ss) first)) (option_map (λ ys. node_then (node id op inputs rs) ys) rest) ≡ Some ms →
+      option_or (option_map (λ y. node_then y ns) (option_map (λ ss. node id op inputs ss) first)) (option_map (λ ys. node_then (node id op inputs rs) ys) rest) ≡ Some ms →
       NodesSameBut P (node_then (node id op inputs rs) ns) ms
   first-or-rest id op inputs rs ns (Some ss) h rest k ms e =
       let same : node_then (node id op inputs ss) ns ≡ ms = cc in
@@ -75,7 +76,7 @@ module _ (P : RegionTree → RegionTree → Type 0) where
 
   region-or-rest : (r : RegionTree) (rs : RegionTrees) (first : Option RegionTree) → ((s : RegionTree) → first ≡ Some s → SameBut P r s) → (rest : Option RegionTrees) →
       ((qs : RegionTrees) → rest ≡ Some qs → RegionsSameBut P rs qs) → (ss : RegionTrees) →
-      first_some (option_map (λ s. region_then s rs) first) (option_map (λ qs. region_then r qs) rest) ≡ Some ss → RegionsSameBut P (region_then r rs) ss
+      option_or (option_map (λ s. region_then s rs) first) (option_map (λ qs. region_then r qs) rest) ≡ Some ss → RegionsSameBut P (region_then r rs) ss
   region-or-rest r rs (Some s) h rest k ss e =
       let same : region_then s rs ≡ ss = cc in
       subst (λ z. RegionsSameBut P (region_then r rs) z) same (h s refl, regions-itself P rs)
@@ -86,7 +87,7 @@ module _ (P : RegionTree → RegionTree → Type 0) where
 
 module _ (P : RegionTree → RegionTree → Type 0) (here : RegionTree → Option RegionTree) (l : PlainLambda) (local : (r s : RegionTree) → IsPartOf l r → here r ≡ Some s → P r s) where
   changed-here : (r : RegionTree) → IsPartOf l r → (found : Option RegionTree) → here r ≡ found → (rest : Option RegionTree) → ((s : RegionTree) → rest ≡ Some s → SameBut P r s) →
-      (s : RegionTree) → first_some found rest ≡ Some s → SameBut P r s
+      (s : RegionTree) → option_or found rest ≡ Some s → SameBut P r s
   changed-here (region args nodes results) part (Some (region args' nodes' results')) e rest same (region args'' nodes'' results'') d =
       inl (local (region args nodes results) (region args'' nodes'' results'') part (e ∙ d))
   changed-here r part None e rest same s d = same s d

@@ -7,7 +7,8 @@ use Rattle.g_construct.specs.Switch.{groups_moved, from_made}
 use Rattle.g_expression.specs.Work.{made, moved_to}
 use Rattle.g_expression.proofs.Made.{bind_makes, moved_made, made_given, on_ok}
 use Rattle.g_statement.specs.LabelViews.{label_of}
-use Rattle.g_statement.proofs.Segments.{moved_end, length_map, drop_map}
+use Rattle.g_statement.proofs.Segments.{moved_end, drop_map}
+use Rattle.std.proofs.lemmas.List.{length-map}
 use Rattle.g_statement.proofs.select.begin_several.Goals as goal
 
 pub returns : goal.returns
@@ -22,7 +23,7 @@ returns c =
     let n = c.loop-k.number in
     let k = c.loop-k.k in
     let ended = ap (λ xs. groups_moved d xs (drop k qs) n wk.point) (drop_map label_of c.args.labels.now k)
-    ∙ moved_end ls qs k d n wk.point (omega (arith, c.loop-k-test.false, c.min-count.ensures, length_map label_of c.args.labels.now)) in
+    ∙ moved_end ls qs k d n wk.point (omega (arith, c.loop-k-test.false, c.min-count.ensures, length-map c.args.labels.now label_of)) in
     let work : wk ≡ made w1 (groups_moved d ls qs c.in_ok-number.number w1.point) = sym (ap (made wk) ended ∙ made_given wk n) ∙ c.loop-k.invariant.work in
     let value = sym (ap (λ (b : Built Origin). b.value) ended) ∙ c.loop-k.invariant.value in
     on_ok c.push_variable.result (c.push_variable.new.self ≡ moved_to wk (pushed (hidden n) wk.point)) (c.push_variable.new.self ≡ made w (from_made true d ls qs w.point)) c.push_variable.ensures
