@@ -1,3 +1,5 @@
 pub mod Returned
 pub mod Bodies
+pub mod Globals
 pub mod Passed
+pub mod Answer
