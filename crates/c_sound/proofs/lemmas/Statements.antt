@@ -5,6 +5,7 @@ use Rattle.std.proofs.lemmas.Bool.{false≢true}
 use Rattle.c_ast.specs.Productions as l
 use Rattle.c_ast.specs.Tree.{Tree, Node, Cons}
 use Rattle.c_type.specs.Trees.{TypeTree, void_type, scalar_type, pointer_to}
+use Rattle.c_type.specs.WellDefined.{AreDefinitions}
 use Rattle.c_typed.specs.Typed as typed
 use Rattle.c_typed.specs.Typed.{ExprTree, OptionalExpr, StmtTree, ItemTrees, no_items, stmt_then, declare_then, VariableTree}
 use Rattle.c_typed.specs.WellTyped as well
@@ -37,19 +38,28 @@ use Rattle.c_sound.proofs.lemmas.Labels.{not_wrong, one_if_true, labels_begin, l
 
 -- ---- what the end says in a function
 
--- what fits, and the types of variables
+-- what fits, and the types of variables; struct definitions are well formed
 pub record Ends (e : Ending) (s : State) : Type 0 where
   pub fits : Fits e s
+  pub shows : e.hides ≡ false
+  pub structs : AreDefinitions s.structs
   pub types : (k : ℕ) (v : Variable) (t : TypeTree) → slice_get s.variables k ≡ Some v → v.type ≡ Some t → (w : VariableTree) × (slice_get e.variables k ≡ Some w) × (w.type ≡ t)
 
 pub ends_before : (e : Ending) (s t : State) → Later s t → Ends e t → Ends e s
 ends_before e s t a h = record {
-  fits = fits_before e s t a h.fits;
+  fits = fits_before e s t h.shows a h.fits;
+  shows = h.shows;
+  structs = subst AreDefinitions a.structs h.structs;
   types = λ k v u there type. let r = more_at s.variables t.variables k v a.variables there in h.types k r.later u r.there (r.type ∙ type);
 }
 
 pub ends_left : (e : Ending) (s t : State) → Ends e (left s t) → Ends e t
-ends_left e s t h = record { fits = record { clean = h.fits.clean; globals = h.fits.globals; variables = h.fits.variables }; types = h.types }
+ends_left e s t h = record {
+  fits = record { clean = h.fits.clean; globals = h.fits.globals; variables = h.fits.variables; unnamed = λ q slot last. absurd (false≢true (sym h.shows ∙ q)) };
+  shows = h.shows;
+  structs = h.structs;
+  types = h.types;
+}
 
 -- items lead from one scope to another
 abbrev pub ItemsLead : Scope → well.Jumps → ItemTrees → Scope → Type 0
@@ -176,12 +186,12 @@ scalar_target (pointer_to s) t e h = absurd (false≢true h)
 scalar_target s t e h = absurd (false≢true h)
 
 -- a value of the result's type
-record ResultOf (c : Scope) (t : TypeTree) (e : ExprTree) : Type 0 where
-  typed : ExprIsTyped c e
-  type : type_of e ≡ t
-  scalar : IsScalar t
+pub record ResultOf (c : Scope) (t : TypeTree) (e : ExprTree) : Type 0 where
+  pub typed : ExprIsTyped c e
+  pub type : type_of e ≡ t
+  pub scalar : IsScalar t
 
-result_typed : (c : Scope) (t : TypeTree) (a : Operand) → ObjectsFit c → TermFits c (Some a) → IfSome (ResultOf c t) (passed t a)
+pub result_typed : (c : Scope) (t : TypeTree) (a : Operand) → ObjectsFit c → TermFits c (Some a) → IfSome (ResultOf c t) (passed t a)
 result_typed c t a fit ty =
     and_then_holds (ExprIsTyped c) (ResultOf c t) (converts t) (value_of a) (value_typed c a fit ty) (λ e te.
     if_holds (ResultOf c t) (may_convert (type_of e) t e) (Some (converted t e)) (λ m.
