@@ -18,3 +18,6 @@ pub mod ExpressionShapes
 pub mod There
 pub mod ThereExpressions
 pub mod Types
+pub mod Definitions
+pub mod Parts
+pub mod Initialisers

@@ -32,11 +32,11 @@ converted_steps : (t : MaybeType) (n offset : ℕ) (a : Operand) → Steps (conv
 converted_steps None n offset a s = stay s
 converted_steps (Some t) n offset a s = or_broken_steps _ offset _ s
 
-value_read_steps : (is_static : Bool) (t : MaybeType) (n offset : ℕ) (a : Term) → Steps (value_read is_static t n offset a)
+pub value_read_steps : (is_static : Bool) (t : MaybeType) (n offset : ℕ) (a : Term) → Steps (value_read is_static t n offset a)
 value_read_steps is_static t n offset a s =
     let r = breaks_if _ NotConstant offset s in step_then s r.1 _ (breaks_if_steps _ NotConstant offset s) (if_some_steps a (converted t n offset) (converted_steps t n offset) r.1)
 
-value_steps : (is_static : Bool) (t : MaybeType) (n : ℕ) (x : Tree) → Steps (value is_static t n x)
+pub value_steps : (is_static : Bool) (t : MaybeType) (n : ℕ) (x : Tree) → Steps (value is_static t n x)
 value_steps is_static t n x s = let a = expression x s in step_then s a.1 _ (expression_steps x s) (value_read_steps is_static t n (begin_of x) a.0 a.1)
 
 characters_steps : (n offset : ℕ) (cs : List ℕ) (length : ℕ) → Steps (characters n offset cs length)
@@ -50,7 +50,7 @@ string_for_steps : (is_static : Bool) (t : MaybeType) (n : ℕ) (x : Tree) (cs :
 string_for_steps is_static t n x cs None s = value_steps is_static t n x s
 string_for_steps is_static t n x cs (Some m) s = characters_steps n (begin_of x) cs m s
 
-list_for_steps : (t : MaybeType) (offset count : ℕ) (es : ElementTrees) → Steps (list_for t offset count es)
+pub list_for_steps : (t : MaybeType) (offset count : ℕ) (es : ElementTrees) → Steps (list_for t offset count es)
 list_for_steps None offset count es s = stay s
 list_for_steps (Some t) offset count es s = by_test (takes (parts_of s.structs t) count)
   where
@@ -73,7 +73,7 @@ mutual
       string_for_steps is_static t n (Node l.Text (Cons x (Cons xs none))) (characters_of x ++ more_characters xs) (option_and_then character_array t) s
   initialiser_steps is_static t n x s = value_steps is_static t n x s
 
-  elements_steps : (is_static : Bool) (t : MaybeType) (n : ℕ) (x : Tree) → Steps (elements is_static t n x)
+  pub elements_steps : (is_static : Bool) (t : MaybeType) (n : ℕ) (x : Tree) → Steps (elements is_static t n x)
   elements_steps is_static t n (Node l.InitFirst (Cons x none)) s = initialiser_steps is_static (part_of s.structs t 0) (n + part_at s.structs t 0) x s
   elements_steps is_static t n (Node l.InitComma (Cons before more)) s = elements_steps is_static t n before s
   elements_steps is_static t n (Node l.InitNext (Cons before (Cons x none))) s =
