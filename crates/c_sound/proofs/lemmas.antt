@@ -21,3 +21,4 @@ pub mod Types
 pub mod Definitions
 pub mod Parts
 pub mod Initialisers
+pub mod Locals

@@ -54,7 +54,7 @@ term_holds c (Some e) h = h
 
 -- ---- names
 
-set_there : {A : Type 0} → (xs : List A) (k : ℕ) (x y : A) → slice_get xs k ≡ Some x → slice_get (slice_set xs k y) k ≡ Some y
+pub set_there : {A : Type 0} → (xs : List A) (k : ℕ) (x y : A) → slice_get xs k ≡ Some x → slice_get (slice_set xs k y) k ≡ Some y
 set_there [] k x y e = absurd (cc)
 set_there (z ∷ xs) zero x y e = refl
 set_there (z ∷ xs) (suc k) x y e = set_there xs k x y e
