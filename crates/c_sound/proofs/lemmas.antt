@@ -22,3 +22,4 @@ pub mod Definitions
 pub mod Parts
 pub mod Initialisers
 pub mod Locals
+pub mod Declared

@@ -67,22 +67,21 @@ scalar_or (struct_type tag) = inr (λ k. k, refl)
 -- ---- the type that an initialiser completes
 
 -- an initialiser that is one value
-IsOneValue : Tree → TypeTree → Type 0
+abbrev pub IsOneValue : Tree → TypeTree → Type 0
 IsOneValue x u = (s : State) → initialiser false (Some u) 0 x s ≡ value false (Some u) 0 x s
 
 -- the type after the initialiser
-record Completed (defs : Definitions) (x : Tree) (t : TypeTree) : Type 0 where
-  type : TypeTree
-  there : completed x t ≡ Some type
-  begun : IsBegunAs type t
-  scalar : is_scalar t ≡ is_scalar type
-  whole : (is_complete defs type ≡ true) ⊎ IsOneValue x type
+pub record Completed (defs : Definitions) (x : Tree) (t : TypeTree) : Type 0 where
+  pub type : TypeTree
+  pub there : completed x t ≡ Some type
+  pub begun : IsBegunAs type t
+  pub scalar : is_scalar t ≡ is_scalar type
+  pub whole : (is_complete defs type ≡ true) ⊎ IsOneValue x type
 
 some_elements : (defs : Definitions) (t : TypeTree) (n : ℕ) → 1 ≤ n → is_complete defs t ≡ true → is_complete defs (array_of t n) ≡ true
 some_elements defs t n h c = let some : not (n == 0) ≡ true = grind (arith, nat_tests, h) in λ i. some i && c i
 
 completed_array : (defs : Definitions) (x : Tree) (t : TypeTree) → is_complete defs t ≡ true → IsInitialiser x → Completed defs x (array_of t 0)
-unfolding IsOneValue
 completed_array defs (Node l.InitList (Cons opening (Cons items closing))) t c h =
     record { type = array_of t (count_in items); there = refl; begun = inr refl; scalar = refl; whole = inl (some_elements defs t (count_in items) h c) }
 completed_array defs (Node l.Text (Cons x (Cons xs none))) t c h = by_array (character_array (array_of t 0)) refl
@@ -112,14 +111,13 @@ completed_laid defs x (scalar_type s) c = record { type = scalar_type s; there =
 completed_laid defs x (pointer_to t) c = record { type = pointer_to t; there = refl; begun = refl; scalar = refl; whole = inl c }
 completed_laid defs x (struct_type tag) c = record { type = struct_type tag; there = refl; begun = refl; scalar = refl; whole = inl c }
 
-completed_fits : (defs : Definitions) (may : Bool) (x : Tree) (t : TypeTree) → LaidOrOpen defs may t → IsInitialiser x → Completed defs x t
+pub completed_fits : (defs : Definitions) (may : Bool) (x : Tree) (t : TypeTree) → LaidOrOpen defs may t → IsInitialiser x → Completed defs x t
 completed_fits defs may x t (inl laid) h = completed_laid defs x t laid.complete
 completed_fits defs may x t (inr o) h = subst (Completed defs x) (sym o.array) (completed_array defs x o.element o.one.complete h)
 
 -- what a variable begins with, of its whole type
-begins : (y : Layouts) (e : Ending) (c : Scope) (v : VariableTree) (x : Tree) (u : TypeTree) (s : State) → AreDefinitions c.structs → u ≡ v.type → (is_scalar u ≡ false → v.is_object ≡ true) →
+pub begins : (y : Layouts) (e : Ending) (c : Scope) (v : VariableTree) (x : Tree) (u : TypeTree) (s : State) → AreDefinitions c.structs → u ≡ v.type → (is_scalar u ≡ false → v.is_object ≡ true) →
     (is_complete c.structs u ≡ true) ⊎ IsOneValue x u → InRange x → At e c s → Fits e (initialiser false (Some u) 0 x s).1 → InitialFits c v (initial (initialiser false (Some u) 0 x s).0 (Some u))
-unfolding IsOneValue
 begins y e c v x u s good same object whole r h fit = by_type (scalar_or u) whole
   where
     by_value : IsScalar u → (o : Elements) → IfSome (IsValue c u 0) o → InitialFits c v (initial o (Some u))
@@ -173,7 +171,7 @@ pub length_end : {A : Type 0} → (xs : List A) (x : A) → length (xs ++ x ∷ 
 length_end [] x = refl
 length_end (z ∷ xs) x = ap suc (length_end xs x)
 
-names_added : (e : Ending) (o : MaybeType) (s : State) → NamesFit e s → NamesFit e (add_variable o s).1
+pub names_added : (e : Ending) (o : MaybeType) (s : State) → NamesFit e s → NamesFit e (add_variable o s).1
 names_added e o s h = record {
   slots = λ name slot b m. let k = h.slots name slot b m in let n = length_end s.slots (length s.variables) in omega (arith, k, n);
   variables = λ slot k m. by_slot slot k (get_append_cases s.slots (length s.variables) k slot m);

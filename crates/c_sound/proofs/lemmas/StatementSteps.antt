@@ -123,7 +123,7 @@ declare_later name offset m s =
     let r = breaks_if _ Redeclared offset s in
     later_then s r.1 _ (step_still s r.1 (breaks_if_steps _ Redeclared offset s)).later (declare_after name m r.1)
 
-declare_slots : (name : Name) (offset : ℕ) (m : Meaning) (s : State) → (declare name offset m s).1.slots ≡ s.slots
+pub declare_slots : (name : Name) (offset : ℕ) (m : Meaning) (s : State) → (declare name offset m s).1.slots ≡ s.slots
 declare_slots name offset m s = (breaks_if_steps _ Redeclared offset s).slots
 
 set_beyond : (us vs : List Variable) (k : ℕ) (v : Variable) → AreMore us vs → length us ≤ k → AreMore us (slice_set vs k v)
@@ -175,12 +175,12 @@ variable_declarator_later x is_const stars name offset bounds begun s =
     let declared = later_then t.1 k.1 d.1 (add_variable_later t.0 t.1) (declare_later name offset m k.1) in
     later_then s t.1 _ to_type (initialise_later t.1 d.1 offset t.0 begun (record { later = declared; slots = declare_slots name offset m k.1 }))
 
-declarator_later : (x : Specified) (is_const : Bool) (t : Tree) (s : State) → Later s (declarator x is_const t s).1
+pub declarator_later : (x : Specified) (is_const : Bool) (t : Tree) (s : State) → Later s (declarator x is_const t s).1
 declarator_later x is_const (Node l.Decl (Cons stars (Cons name (Cons bounds (Cons begun none))))) s =
     variable_declarator_later x is_const (count_of stars) (name_of name) (offset_of name) bounds begun s
 declarator_later x is_const t s = (stay_still s).later
 
-more_declarators_later : (x : Specified) (is_const : Bool) (t : Tree) (s : State) → Later s (more_declarators x is_const t s).1
+pub more_declarators_later : (x : Specified) (is_const : Bool) (t : Tree) (s : State) → Later s (more_declarators x is_const t s).1
 more_declarators_later x is_const (Node (l.More k) (Cons before (Cons comma (Cons t none)))) s =
     let ds = more_declarators x is_const before s in later_then s ds.1 _ (more_declarators_later x is_const before s) (declarator_later x is_const t ds.1)
 more_declarators_later x is_const t s = (stay_still s).later
