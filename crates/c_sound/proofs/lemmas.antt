@@ -23,3 +23,4 @@ pub mod Parts
 pub mod Initialisers
 pub mod Locals
 pub mod Declared
+pub mod Widened
