@@ -24,3 +24,4 @@ pub mod Initialisers
 pub mod Locals
 pub mod Declared
 pub mod Widened
+pub mod Texts
