@@ -25,3 +25,4 @@ pub mod Locals
 pub mod Declared
 pub mod Widened
 pub mod Texts
+pub mod StatementTexts

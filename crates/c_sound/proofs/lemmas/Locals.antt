@@ -29,6 +29,7 @@ use Rattle.c_elaboration.specs.Expressions.{more_characters}
 use Rattle.c_elaboration.specs.Declarators.{open_dimensions, is_fixed, completed_type, is_named, initialise_variable, variable_declared, variable_declarator, declarator, more_declarators, locals, items_joined}
 use Rattle.c_sound.specs.TypedOperands.{IfSome}
 use Rattle.c_sound.proofs.lemmas.States.{Ending, is_object_then, type_now, slots_in, shown, shown_append, is_named_at, scope_in, AreSame, Step, Fits, VariableFitsNow, FunctionFits, NamesFit, At, same_at}
+use Rattle.c_sound.proofs.lemmas.ExpressionShapes.{IsExpression}
 use Rattle.c_sound.proofs.lemmas.Steps.{specified_type_steps}
 use Rattle.c_sound.proofs.lemmas.StatementSteps.{IsInitialiser, MayBegin, WellShaped, Begun, begun_step, change_new, declare_later, declare_slots, open_dimensions_steps, object_type_steps, completed_type_steps, initialiser_steps, initialise_later, locals_later}
 use Rattle.c_sound.proofs.lemmas.Terms.{InRange, get_end}
@@ -70,13 +71,20 @@ scalar_or (struct_type tag) = inr (λ k. k, refl)
 abbrev pub IsOneValue : Tree → TypeTree → Type 0
 IsOneValue x u = (s : State) → initialiser false (Some u) 0 x s ≡ value false (Some u) 0 x s
 
+-- an array that no list and no string completes
+pub record Uncompleted (x : Tree) (u : TypeTree) : Type 0 where
+  pub one : IsOneValue x u
+  pub shape : IsExpression x
+  pub element : TypeTree
+  pub array : u ≡ array_of element 0
+
 -- the type after the initialiser
 pub record Completed (defs : Definitions) (x : Tree) (t : TypeTree) : Type 0 where
   pub type : TypeTree
   pub there : completed x t ≡ Some type
   pub begun : IsBegunAs type t
   pub scalar : is_scalar t ≡ is_scalar type
-  pub whole : (is_complete defs type ≡ true) ⊎ IsOneValue x type
+  pub whole : (is_complete defs type ≡ true) ⊎ Uncompleted x type
 
 some_elements : (defs : Definitions) (t : TypeTree) (n : ℕ) → 1 ≤ n → is_complete defs t ≡ true → is_complete defs (array_of t n) ≡ true
 some_elements defs t n h c = let some : not (n == 0) ≡ true = grind (arith, nat_tests, h) in λ i. some i && c i
@@ -92,7 +100,12 @@ completed_array defs (Node l.Text (Cons x (Cons xs none))) t c h = by_array (cha
       there = ap (completed_by (Node l.Text (Cons x (Cons xs none))) t) q;
       begun = inr refl;
       scalar = refl;
-      whole = inr (λ s. ap (λ n. string_for false (Some (array_of t 0)) 0 (Node l.Text (Cons x (Cons xs none))) (characters_of x ++ more_characters xs) n s) q);
+      whole = inr (record {
+        one = λ s. ap (λ n. string_for false (Some (array_of t 0)) 0 (Node l.Text (Cons x (Cons xs none))) (characters_of x ++ more_characters xs) n s) q;
+        shape = h;
+        element = t;
+        array = refl;
+      });
     }
     by_array (Some n) q = record {
       type = array_of t (suc (length (characters_of x ++ more_characters xs)));
@@ -101,7 +114,7 @@ completed_array defs (Node l.Text (Cons x (Cons xs none))) t c h = by_array (cha
       scalar = refl;
       whole = inl (some_elements defs t (suc (length (characters_of x ++ more_characters xs))) (omega arith) c);
     }
-completed_array defs x t c h = record { type = array_of t 0; there = refl; begun = inr refl; scalar = refl; whole = inr (λ s. refl) }
+completed_array defs x t c h = record { type = array_of t 0; there = refl; begun = inr refl; scalar = refl; whole = inr (record { one = λ s. refl; shape = h; element = t; array = refl }) }
 
 completed_laid : (defs : Definitions) (x : Tree) (t : TypeTree) → is_complete defs t ≡ true → Completed defs x t
 completed_laid defs x (array_of t zero) c = absurd (false≢true c)
@@ -117,7 +130,7 @@ completed_fits defs may x t (inr o) h = subst (Completed defs x) (sym o.array) (
 
 -- what a variable begins with, of its whole type
 pub begins : (y : Layouts) (e : Ending) (c : Scope) (v : VariableTree) (x : Tree) (u : TypeTree) (s : State) → AreDefinitions c.structs → u ≡ v.type → (is_scalar u ≡ false → v.is_object ≡ true) →
-    (is_complete c.structs u ≡ true) ⊎ IsOneValue x u → InRange x → At e c s → Fits e (initialiser false (Some u) 0 x s).1 → InitialFits c v (initial (initialiser false (Some u) 0 x s).0 (Some u))
+    (is_complete c.structs u ≡ true) ⊎ Uncompleted x u → InRange x → At e c s → Fits e (initialiser false (Some u) 0 x s).1 → InitialFits c v (initial (initialiser false (Some u) 0 x s).0 (Some u))
 begins y e c v x u s good same object whole r h fit = by_type (scalar_or u) whole
   where
     by_value : IsScalar u → (o : Elements) → IfSome (IsValue c u 0) o → InitialFits c v (initial o (Some u))
@@ -133,12 +146,12 @@ begins y e c v x u s good same object whole r h fit = by_type (scalar_or u) whol
     no_value n None q = tt
     no_value n (Some es) q = absurd (n q.fits.scalar)
 
-    by_type : IsScalar u ⊎ ((IsScalar u → ⊥) × (is_scalar u ≡ false)) → (is_complete c.structs u ≡ true) ⊎ ((s : State) → initialiser false (Some u) 0 x s ≡ value false (Some u) 0 x s) →
+    by_type : IsScalar u ⊎ ((IsScalar u → ⊥) × (is_scalar u ≡ false)) → (is_complete c.structs u ≡ true) ⊎ Uncompleted x u →
         InitialFits c v (initial (initialiser false (Some u) 0 x s).0 (Some u))
     by_type (inl k) w = by_value k (initialiser false (Some u) 0 x s).0 (initialiser_value e c false u 0 x s k r h fit)
     by_type (inr n) (inl w) = by_elements n.0 n.1 (initialiser false (Some u) 0 x s).0 (initialiser_fits y e c good false u 0 x s w r h fit)
     by_type (inr n) (inr w) =
-        subst (λ p. InitialFits c v (initial p.0 (Some u))) (sym (w s)) (no_value n.0 (value false (Some u) 0 x s).0 (value_fits e c false u 0 x s r h (subst (λ p. Fits e p.1) (w s) fit)))
+        subst (λ p. InitialFits c v (initial p.0 (Some u))) (sym (w.one s)) (no_value n.0 (value false (Some u) 0 x s).0 (value_fits e c false u 0 x s r h (subst (λ p. Fits e p.1) (w.one s) fit)))
 
 -- ---- names after a declaration
 
