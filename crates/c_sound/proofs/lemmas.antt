@@ -26,3 +26,4 @@ pub mod Declared
 pub mod Widened
 pub mod Texts
 pub mod StatementTexts
+pub mod Goes

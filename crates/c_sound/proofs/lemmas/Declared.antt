@@ -42,7 +42,7 @@ set_length [] k y = refl
 set_length (x ∷ xs) zero y = refl
 set_length (x ∷ xs) (suc k) y = ap suc (set_length xs k y)
 
-changed_length : (f : Variable → Variable) (k : ℕ) (vs : List Variable) → length (changed f k vs) ≡ length vs
+pub changed_length : (f : Variable → Variable) (k : ℕ) (vs : List Variable) → length (changed f k vs) ≡ length vs
 changed_length f k vs = by_variable (slice_get vs k)
   where
     by_variable : (x : Option Variable) → length (changed_by f x k vs) ≡ length vs
@@ -188,7 +188,7 @@ record NewAt (s t : State) (u : TypeTree) : Type 0 where
 new_step : (s t q : State) (u : TypeTree) → NewAt s t u → Step t q → NewAt s q u
 new_step s t q u h a = let r = same_at t.variables q.variables (length s.variables) h.variable a.variables h.there in record { variable = r.later; there = r.there; type = r.type ∙ h.type }
 
-slot_of : (s t : State) → t.slots ≡ s.slots ++ length s.variables ∷ [] → variable_in t.slots (length s.slots) ≡ length s.variables
+pub slot_of : (s t : State) → t.slots ≡ s.slots ++ length s.variables ∷ [] → variable_in t.slots (length s.slots) ≡ length s.variables
 slot_of s t h = ap (λ ks. variable_in ks (length s.slots)) h ∙ ap (λ o. unwrap_or o 0) (get_end s.slots (length s.variables))
 
 -- names stay where the types of variables change
@@ -280,7 +280,7 @@ begun_declared y e c x s t u k h n r ends =
         ap (λ m. is_named (slice_get q.variables (variable_in q.slots m))) same
         ∙ sym (changed_named (λ v. record v { type = Some k.type }) (λ v. refl) q.variables (variable_in q.slots slot)) ∙ p))
 
-small_is : (offset : ℕ) (u : TypeTree) (q : State) → (small_type offset u q).1.broken ≡ None → small_type offset u q ≡ (Some u, q)
+pub small_is : (offset : ℕ) (u : TypeTree) (q : State) → (small_type offset u q).1.broken ≡ None → small_type offset u q ≡ (Some u, q)
 small_is offset u q clean = by_test (is_large q.structs (with_elements u)) clean
   where
     by_test : (b : Bool) → (type_if b offset u q).1.broken ≡ None → type_if b offset u q ≡ (Some u, q)

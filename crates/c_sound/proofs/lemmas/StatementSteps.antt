@@ -255,6 +255,7 @@ IsInitialiser x = IsExpression x
 
 abbrev pub MayBegin : Tree → Type 0
 MayBegin (Node (l.Present k) (Cons equal (Cons x none))) = IsInitialiser x
+MayBegin (Node (l.Present k) children) = ⊥
 MayBegin t = Unit {0}
 
 -- The groups of a `switch` have statements, and variables begin with initialisers.

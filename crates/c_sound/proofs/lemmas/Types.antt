@@ -189,7 +189,7 @@ pub record OpenLaid (defs : Definitions) (may : Bool) (u : TypeTree) : Type 0 wh
 abbrev pub LaidOrOpen : Definitions → Bool → TypeTree → Type 0
 LaidOrOpen defs may u = IsLaidOut defs u ⊎ OpenLaid defs may u
 
-small_typed : (defs : Definitions) (may : Bool) (offset : ℕ) (u : TypeTree) (s : State) → s.structs ≡ defs → (is_complete defs u ≡ true) ⊎ Open defs may u → (small_type offset u s).1.broken ≡ None →
+pub small_typed : (defs : Definitions) (may : Bool) (offset : ℕ) (u : TypeTree) (s : State) → s.structs ≡ defs → (is_complete defs u ≡ true) ⊎ Open defs may u → (small_type offset u s).1.broken ≡ None →
     TypeThere (LaidOrOpen defs may) (small_type offset u s).0
 small_typed defs may offset u s same h clean = by_test (is_large s.structs (with_elements u)) refl clean
   where
