@@ -27,3 +27,5 @@ pub mod Widened
 pub mod Texts
 pub mod StatementTexts
 pub mod Goes
+pub mod GoesLocals
+pub mod GoesStatements

@@ -70,7 +70,7 @@ names_typed s h = record {
 }
 
 -- a variable of a later list is one of the earlier
-same_back : (vs ws : List Variable) (k : ℕ) (w : Variable) → AreSame vs ws → slice_get ws k ≡ Some w → (v : Variable) × (slice_get vs k ≡ Some v) × (w.type ≡ v.type)
+pub same_back : (vs ws : List Variable) (k : ℕ) (w : Variable) → AreSame vs ws → slice_get ws k ≡ Some w → (v : Variable) × (slice_get vs k ≡ Some v) × (w.type ≡ v.type)
 same_back [] [] k w a e = absurd (cc)
 same_back [] (x ∷ ws) k w a e = absurd a
 same_back (v ∷ vs) [] k w a e = absurd a
@@ -209,11 +209,10 @@ named_declared name offset fixed u s h =
     named_bound name (length s.slots) fixed b below (named_step k b steps (named_added u s h))
 
 -- the other variables are laid out
-AreLaidBut : ℕ → State → Type 0
+abbrev pub AreLaidBut : ℕ → State → Type 0
 AreLaidBut n s = (k : ℕ) (v : Variable) → (k ≡ n → ⊥) → slice_get s.variables k ≡ Some v → (t : TypeTree) × (v.type ≡ Some t) × IsLaidOut s.structs t
 
-laid_declared : (name : Name) (offset : ℕ) (fixed : Bool) (u : TypeTree) (s : State) → AreLaid s → AreLaidBut (length s.variables) (declared_in name offset fixed (Some u) s)
-unfolding AreLaidBut
+pub laid_declared : (name : Name) (offset : ℕ) (fixed : Bool) (u : TypeTree) (s : State) → AreLaid s → AreLaidBut (length s.variables) (declared_in name offset fixed (Some u) s)
 laid_declared name offset fixed u s h k w other here =
     let v : Variable = record { type = Some u; is_taken = false; is_named = false } in
     let a = (add_variable (Some u) s).1 in
@@ -228,7 +227,7 @@ laid_declared name offset fixed u s h k w other here =
     by_place k w n (inl a) = a
     by_place k w n (inr a) = absurd (n a.0)
 
-new_declared : (name : Name) (offset : ℕ) (fixed : Bool) (u : TypeTree) (s : State) (w : Variable) → slice_get (declared_in name offset fixed (Some u) s).variables (length s.variables) ≡ Some w → w.type ≡ Some u
+pub new_declared : (name : Name) (offset : ℕ) (fixed : Bool) (u : TypeTree) (s : State) (w : Variable) → slice_get (declared_in name offset fixed (Some u) s).variables (length s.variables) ≡ Some w → w.type ≡ Some u
 new_declared name offset fixed u s w here =
     let v : Variable = record { type = Some u; is_taken = false; is_named = false } in
     let a = (add_variable (Some u) s).1 in
@@ -238,8 +237,7 @@ new_declared name offset fixed u s w here =
     b.2 ∙ ap (λ (v : Variable). v.type) (sym is)
 
 -- with the last one laid out, all are
-all_laid : (n : ℕ) (s : State) → AreLaidBut n s → ((v : Variable) → slice_get s.variables n ≡ Some v → (t : TypeTree) × (v.type ≡ Some t) × IsLaidOut s.structs t) → AreLaid s
-unfolding AreLaidBut
+pub all_laid : (n : ℕ) (s : State) → AreLaidBut n s → ((v : Variable) → slice_get s.variables n ≡ Some v → (t : TypeTree) × (v.type ≡ Some t) × IsLaidOut s.structs t) → AreLaid s
 all_laid n s h last k v here = by_test (k == n) refl
   where
     by_test : (b : Bool) → (k == n) ≡ b → (t : TypeTree) × (v.type ≡ Some t) × IsLaidOut s.structs t
@@ -262,7 +260,7 @@ no_array_passed t n a = by_value (value_of a)
     by_value None = refl
     by_value (Some e) = by_type (type_of e) e
 
-no_array_value : (t : TypeTree) (n : ℕ) (x : Tree) (s : State) → IsExpression x → NamesTyped s → (value false (Some (array_of t n)) 0 x s).1.broken ≡ None → ⊥
+pub no_array_value : (t : TypeTree) (n : ℕ) (x : Tree) (s : State) → IsExpression x → NamesTyped s → (value false (Some (array_of t n)) 0 x s).1.broken ≡ None → ⊥
 no_array_value t n x s shape h clean =
     let a = expression x s in
     by_term a.0 a.1 (expression_there x s shape h ((value_read_steps false (Some (array_of t n)) 0 (begin_of x) a.0 a.1).broken clean)) clean
