@@ -29,3 +29,5 @@ pub mod StatementTexts
 pub mod Goes
 pub mod GoesLocals
 pub mod GoesStatements
+pub mod File
+pub mod Structs

@@ -86,7 +86,7 @@ pub record Completed (defs : Definitions) (x : Tree) (t : TypeTree) : Type 0 whe
   pub scalar : is_scalar t ≡ is_scalar type
   pub whole : (is_complete defs type ≡ true) ⊎ Uncompleted x type
 
-some_elements : (defs : Definitions) (t : TypeTree) (n : ℕ) → 1 ≤ n → is_complete defs t ≡ true → is_complete defs (array_of t n) ≡ true
+pub some_elements : (defs : Definitions) (t : TypeTree) (n : ℕ) → 1 ≤ n → is_complete defs t ≡ true → is_complete defs (array_of t n) ≡ true
 some_elements defs t n h c = let some : not (n == 0) ≡ true = grind (arith, nat_tests, h) in λ i. some i && c i
 
 completed_array : (defs : Definitions) (x : Tree) (t : TypeTree) → is_complete defs t ≡ true → IsInitialiser x → Completed defs x (array_of t 0)

@@ -98,7 +98,7 @@ size_by_fits w n e = by_test (nat_le 1 w && nat_le w most_type_bytes) refl e
         grind (arith, nat_tests, low, same)
     by_test false q r = absurd (cc)
 
-size_fits : (offset : ℕ) (a : Term) (s : State) → (expressions.size offset a s).1.broken ≡ None → IsSize (expressions.size offset a s).0
+pub size_fits : (offset : ℕ) (a : Term) (s : State) → (expressions.size offset a s).1.broken ≡ None → IsSize (expressions.size offset a s).0
 size_fits offset a s clean = by_word (term_constant a) clean
   where
     by_size : (o : MaybeSize) → ((n : ℕ) → o ≡ Some n → 1 ≤ n) → (or_broken NotConstant offset o s).1.broken ≡ None → IsSize (or_broken NotConstant offset o s).0
