@@ -31,3 +31,4 @@ pub mod GoesLocals
 pub mod GoesStatements
 pub mod File
 pub mod Structs
+pub mod Names

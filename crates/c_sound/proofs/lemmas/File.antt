@@ -218,11 +218,14 @@ file_more s t a known h = record {
 -- ---- from one declaration to the next
 
 pub record Moved (s t : State) : Type 0 where
-  pub onward : Onward s t
-  pub file : t.broken ≡ None → File s → File t
+  pub broken : t.broken ≡ None → s.broken ≡ None
+  pub go : t.broken ≡ None → File s → Onward s t × File t
 
 pub moved_then : (r s t : State) → Moved r s → Moved s t → Moved r t
-moved_then r s t a b = record { onward = onward_then r s t a.onward b.onward; file = λ clean h. b.file clean (a.file (b.onward.broken clean) h) }
+moved_then r s t a b = record {
+  broken = λ h. a.broken (b.broken h);
+  go = λ clean h. let p = a.go (b.broken clean) h in let q = b.go clean p.1 in (onward_then r s t p.0 q.0, q.1);
+}
 
 no_variables_after : (vs ws : List Variable) → vs ≡ [] → AreSame vs ws → ws ≡ []
 no_variables_after [] [] e a = refl
@@ -231,8 +234,9 @@ no_variables_after (v ∷ vs) ws e a = absurd (cc)
 
 pub moved_step : (s t : State) → Step s t → Texts s t → Moved s t
 moved_step s t a b = record {
-  onward = onward_step s t a;
-  file = λ clean h.
+  broken = a.broken;
+  go = λ clean h. (
+    onward_step s t a,
       file_more s t
       (record {
         scopes = a.scopes;
@@ -243,5 +247,6 @@ moved_step s t a b = record {
         structs = ([], a.structs);
         good = subst AreDefinitions (sym a.structs) h.structs;
       })
-      (λ k f q. known_later s t f a.scopes a.declared (h.functions k f (sym (ap (λ fs. slice_get fs k) a.functions) ∙ q))) h;
+      (λ k f q. known_later s t f a.scopes a.declared (h.functions k f (sym (ap (λ fs. slice_get fs k) a.functions) ∙ q))) h,
+  );
 }

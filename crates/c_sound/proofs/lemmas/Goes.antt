@@ -260,15 +260,15 @@ no_array_passed t n a = by_value (value_of a)
     by_value None = refl
     by_value (Some e) = by_type (type_of e) e
 
-pub no_array_value : (t : TypeTree) (n : ℕ) (x : Tree) (s : State) → IsExpression x → NamesTyped s → (value false (Some (array_of t n)) 0 x s).1.broken ≡ None → ⊥
-no_array_value t n x s shape h clean =
+pub no_array_value : (is_static : Bool) (t : TypeTree) (n : ℕ) (x : Tree) (s : State) → IsExpression x → NamesTyped s → (value is_static (Some (array_of t n)) 0 x s).1.broken ≡ None → ⊥
+no_array_value is_static t n x s shape h clean =
     let a = expression x s in
-    by_term a.0 a.1 (expression_there x s shape h ((value_read_steps false (Some (array_of t n)) 0 (begin_of x) a.0 a.1).broken clean)) clean
+    by_term a.0 a.1 (expression_there x s shape h ((value_read_steps is_static (Some (array_of t n)) 0 (begin_of x) a.0 a.1).broken clean)) clean
   where
     by_passed : (o : Option ExprTree) (q : State) → o ≡ None → (or_broken BadInitialiser (begin_of x) (option_map (value_at 0) o) q).1.broken ≡ None → ⊥
     by_passed None q e c = cc
     by_passed (Some e) q none c = cc
 
-    by_term : (a : Term) (q : State) → IsThere a → (value_read false (Some (array_of t n)) 0 (begin_of x) a q).1.broken ≡ None → ⊥
+    by_term : (a : Term) (q : State) → IsThere a → (value_read is_static (Some (array_of t n)) 0 (begin_of x) a q).1.broken ≡ None → ⊥
     by_term None q k c = k
-    by_term (Some y) q k c = by_passed (passed (array_of t n) y) q (no_array_passed t n y) c
+    by_term (Some y) q k c = by_passed (passed (array_of t n) y) _ (no_array_passed t n y) c

@@ -98,8 +98,8 @@ completed_sound x offset s t u k h clean =
         is_complete (initialiser false (Some k.type) 0 x t).1.structs k.type ≡ true
     by_whole (inl c) clean same = ap (λ d. is_complete d k.type) same ∙ c
     by_whole (inr w) clean same =
-        let value_clean : (value false (Some k.type) 0 x t).1.broken ≡ None = ap (λ (p : Elements × State). p.1.broken) (sym (w.one t)) ∙ clean in
-        absurd (no_array_value w.element 0 x t w.shape (names_typed t h.named) (subst (λ u. (value false (Some u) 0 x t).1.broken ≡ None) w.array value_clean))
+        let value_clean : (value false (Some k.type) 0 x t).1.broken ≡ None = ap (λ (p : Elements × State). p.1.broken) (sym (w.one false t)) ∙ clean in
+        absurd (no_array_value false w.element 0 x t w.shape (names_typed t h.named) (subst (λ u. (value false (Some u) 0 x t).1.broken ≡ None) w.array value_clean))
 
 initialised_sound : (offset : ℕ) (may : Bool) (begun : Tree) (s t : State) (u : TypeTree) → MayBegin begun → may ≡ is_present begun → LaidOrOpen t.structs may u → Fresh s t u →
     (initialise_variable (length s.slots) offset (Some u) begun t).1.broken ≡ None → IsSound (initialise_variable (length s.slots) offset (Some u) begun t).1

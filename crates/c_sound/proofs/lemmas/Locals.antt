@@ -69,7 +69,7 @@ scalar_or (struct_type tag) = inr (λ k. k, refl)
 
 -- an initialiser that is one value
 abbrev pub IsOneValue : Tree → TypeTree → Type 0
-IsOneValue x u = (s : State) → initialiser false (Some u) 0 x s ≡ value false (Some u) 0 x s
+IsOneValue x u = (is_static : Bool) (s : State) → initialiser is_static (Some u) 0 x s ≡ value is_static (Some u) 0 x s
 
 -- an array that no list and no string completes
 pub record Uncompleted (x : Tree) (u : TypeTree) : Type 0 where
@@ -101,7 +101,7 @@ completed_array defs (Node l.Text (Cons x (Cons xs none))) t c h = by_array (cha
       begun = inr refl;
       scalar = refl;
       whole = inr (record {
-        one = λ s. ap (λ n. string_for false (Some (array_of t 0)) 0 (Node l.Text (Cons x (Cons xs none))) (characters_of x ++ more_characters xs) n s) q;
+        one = λ b s. ap (λ n. string_for b (Some (array_of t 0)) 0 (Node l.Text (Cons x (Cons xs none))) (characters_of x ++ more_characters xs) n s) q;
         shape = h;
         element = t;
         array = refl;
@@ -114,7 +114,7 @@ completed_array defs (Node l.Text (Cons x (Cons xs none))) t c h = by_array (cha
       scalar = refl;
       whole = inl (some_elements defs t (suc (length (characters_of x ++ more_characters xs))) (omega arith) c);
     }
-completed_array defs x t c h = record { type = array_of t 0; there = refl; begun = inr refl; scalar = refl; whole = inr (record { one = λ s. refl; shape = h; element = t; array = refl }) }
+completed_array defs x t c h = record { type = array_of t 0; there = refl; begun = inr refl; scalar = refl; whole = inr (record { one = λ b s. refl; shape = h; element = t; array = refl }) }
 
 completed_laid : (defs : Definitions) (x : Tree) (t : TypeTree) → is_complete defs t ≡ true → Completed defs x t
 completed_laid defs x (array_of t zero) c = absurd (false≢true c)
@@ -151,7 +151,7 @@ begins y e c v x u s good same object whole r h fit = by_type (scalar_or u) whol
     by_type (inl k) w = by_value k (initialiser false (Some u) 0 x s).0 (initialiser_value e c false u 0 x s k r h fit)
     by_type (inr n) (inl w) = by_elements n.0 n.1 (initialiser false (Some u) 0 x s).0 (initialiser_fits y e c good false u 0 x s w r h fit)
     by_type (inr n) (inr w) =
-        subst (λ p. InitialFits c v (initial p.0 (Some u))) (sym (w.one s)) (no_value n.0 (value false (Some u) 0 x s).0 (value_fits e c false u 0 x s r h (subst (λ p. Fits e p.1) (w.one s) fit)))
+        subst (λ p. InitialFits c v (initial p.0 (Some u))) (sym (w.one false s)) (no_value n.0 (value false (Some u) 0 x s).0 (value_fits e c false u 0 x s r h (subst (λ p. Fits e p.1) (w.one false s) fit)))
 
 -- ---- names after a declaration
 
