@@ -32,3 +32,5 @@ pub mod GoesStatements
 pub mod File
 pub mod Structs
 pub mod Names
+pub mod Globals
+pub mod GlobalDeclared

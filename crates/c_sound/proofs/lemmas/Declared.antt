@@ -192,7 +192,7 @@ pub slot_of : (s t : State) → t.slots ≡ s.slots ++ length s.variables ∷ []
 slot_of s t h = ap (λ ks. variable_in ks (length s.slots)) h ∙ ap (λ o. unwrap_or o 0) (get_end s.slots (length s.variables))
 
 -- names stay where the types of variables change
-names_same : (e : Ending) (s t : State) → t.scopes ≡ s.scopes → t.slots ≡ s.slots → length t.variables ≡ length s.variables → t.declared ≡ s.declared → t.defined ≡ s.defined → NamesFit e s → NamesFit e t
+pub names_same : (e : Ending) (s t : State) → t.scopes ≡ s.scopes → t.slots ≡ s.slots → length t.variables ≡ length s.variables → t.declared ≡ s.declared → t.defined ≡ s.defined → NamesFit e s → NamesFit e t
 names_same e s t scopes slots same declared defined h = record {
   slots = λ name k b m. subst (λ (ks : List ℕ). k < length ks) (sym slots) (h.slots name k b (sym (ap (λ q. meaning q name) scopes) ∙ m));
   variables = λ slot k m. subst (λ n. k < n) (sym same) (h.variables slot k (sym (ap (λ ks. slice_get ks slot) slots) ∙ m));

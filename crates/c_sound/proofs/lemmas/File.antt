@@ -104,7 +104,7 @@ pub record File (s : State) : Type 0 where
   pub globals : GlobalsFit s
   pub functions : (k : ℕ) (f : FunctionTree) → slice_get s.functions k ≡ Some f → FunctionKnown s f
 
-nothing_at : {A : Type 0} → (xs : List A) (k : ℕ) (x : A) → xs ≡ [] → slice_get xs k ≡ Some x → ⊥
+pub nothing_at : {A : Type 0} → (xs : List A) (k : ℕ) (x : A) → xs ≡ [] → slice_get xs k ≡ Some x → ⊥
 nothing_at xs k x e h = let none : None ≡ Some x = sym (ap (λ ys. slice_get ys k) e) ∙ h in cc
 
 pub file_named : (s : State) → File s → Named s
@@ -141,17 +141,17 @@ text_fits defs n g h =
     let there : AreCharactersAt (leaves defs (string_type h.bytes)) 0 h.bytes = bytes_at (leaves defs (string_type h.bytes)) 0 0 (suc (length h.bytes)) h.bytes (b.leaf 0) (omega arith) h.range in
     record { type = string_type h.bytes; has = h.type; complete = some_elements defs (scalar_type scalar.Char) (suc (length h.bytes)) (omega arith) refl; written = subst (WrittenFits (leaves defs (string_type h.bytes)) n 0) (sym h.written) (omega arith, there, tt) }
 
-get_split : {A : Type 0} → (xs ys : List A) (k : ℕ) (y : A) → slice_get (xs ++ ys) k ≡ Some y → (slice_get xs k ≡ Some y) ⊎ ((j : ℕ) × (slice_get ys j ≡ Some y))
+pub get_split : {A : Type 0} → (xs ys : List A) (k : ℕ) (y : A) → slice_get (xs ++ ys) k ≡ Some y → (slice_get xs k ≡ Some y) ⊎ ((j : ℕ) × (slice_get ys j ≡ Some y))
 get_split [] ys k y h = inr (k, h)
 get_split (x ∷ xs) ys zero y h = inl h
 get_split (x ∷ xs) ys (suc k) y h = get_split xs ys k y h
 
-text_at : (gs : List Global) (j : ℕ) (g : Global) → AreTexts gs → slice_get gs j ≡ Some g → IsText g
+pub text_at : (gs : List Global) (j : ℕ) (g : Global) → AreTexts gs → slice_get gs j ≡ Some g → IsText g
 text_at [] j g a h = absurd (cc)
 text_at (x ∷ gs) zero g a h = let same : x ≡ g = cc in subst IsText same a.0
 text_at (x ∷ gs) (suc j) g a h = text_at gs j g a.1 h
 
-length_more : {A : Type 0} → (xs ys : List A) → length xs ≤ length (xs ++ ys)
+pub length_more : {A : Type 0} → (xs ys : List A) → length xs ≤ length (xs ++ ys)
 length_more [] ys = omega arith
 length_more (x ∷ xs) ys = let n = length_more xs ys in omega (arith, n)
 
@@ -227,7 +227,7 @@ moved_then r s t a b = record {
   go = λ clean h. let p = a.go (b.broken clean) h in let q = b.go clean p.1 in (onward_then r s t p.0 q.0, q.1);
 }
 
-no_variables_after : (vs ws : List Variable) → vs ≡ [] → AreSame vs ws → ws ≡ []
+pub no_variables_after : (vs ws : List Variable) → vs ≡ [] → AreSame vs ws → ws ≡ []
 no_variables_after [] [] e a = refl
 no_variables_after [] (w ∷ ws) e a = absurd a
 no_variables_after (v ∷ vs) ws e a = absurd (cc)

@@ -60,7 +60,7 @@ retyped slot n u q v place there h k laid =
     )
 
 -- a complete type that is small is laid out
-small_laid : (offset : ℕ) (u : TypeTree) (q : State) → is_complete q.structs u ≡ true → (small_type offset u q).1.broken ≡ None → IsLaidOut q.structs u
+pub small_laid : (offset : ℕ) (u : TypeTree) (q : State) → is_complete q.structs u ≡ true → (small_type offset u q).1.broken ≡ None → IsLaidOut q.structs u
 small_laid offset u q c clean =
     let k = small_typed q.structs false offset u q refl (inl c) clean in
     let same : k.type ≡ u = let both : Some k.type ≡ Some u = sym k.there ∙ ap (λ (p : MaybeType × State). p.0) (small_is offset u q clean) in cc in
