@@ -34,3 +34,4 @@ pub mod Structs
 pub mod Names
 pub mod Globals
 pub mod GlobalDeclared
+pub mod Params

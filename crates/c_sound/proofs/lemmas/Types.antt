@@ -42,7 +42,7 @@ pub record TypeThere (P : TypeTree → Type 0) (t : MaybeType) : Type 0 where
   pub there : t ≡ Some type
   pub holds : P type
 
-starred_typed : (x : Specified) (stars offset : ℕ) (s : State) → IsNoArray x.type → (starred x stars offset s).1.broken ≡ None → TypeThere IsNoArray (starred x stars offset s).0
+pub starred_typed : (x : Specified) (stars offset : ℕ) (s : State) → IsNoArray x.type → (starred x stars offset s).1.broken ≡ None → TypeThere IsNoArray (starred x stars offset s).0
 starred_typed x zero offset s h clean = by_tag x.undeclared clean
   where
     by_tag : (u : Option ℕ) → (unstarred u x.type s).1.broken ≡ None → TypeThere IsNoArray (unstarred u x.type s).0
