@@ -35,3 +35,5 @@ pub mod Names
 pub mod Globals
 pub mod GlobalDeclared
 pub mod Params
+pub mod DeclaredFunctions
+pub mod FunctionBodies

@@ -5,7 +5,7 @@ use Rattle.std.proofs.lemmas.Bool.{false≢true, and_parts}
 use Rattle.c_type.specs.Trees.{TypeTree, void_type}
 use Rattle.c_type.specs.WellDefined.{AreDefinitions}
 use Rattle.c_typed.specs.Typed.{FunctionTree}
-use Rattle.c_typed.specs.WellTyped.{int}
+use Rattle.c_typed.specs.WellTyped.{int, params_of}
 use Rattle.c_static.specs.Types.{same_type}
 use Rattle.c_static.proofs.lemmas.SameType.{same_type-true}
 use Rattle.c_scope.specs.Scopes.{Name, Scope, meaning, with_declaration}
@@ -16,6 +16,7 @@ use Rattle.c_elaboration.specs.declared.rule.Rule.TheVariants.{Redeclared}
 use Rattle.c_elaboration.specs.State.{MaybeType, Declared, State, breaks_if, changed_by, changed}
 use Rattle.c_elaboration.specs.Externals.{agree, all_agree, may_follow, declared_again, function_meant, declare_function}
 use Rattle.c_sound.proofs.lemmas.States.{AllTypes, declared_as}
+use Rattle.c_sound.proofs.lemmas.Steps.{breaks_if_steps}
 use Rattle.c_sound.proofs.lemmas.Terms.{get_end, set_there}
 use Rattle.c_sound.proofs.lemmas.Labels.{not_wrong}
 use Rattle.c_sound.proofs.lemmas.Locals.{declared_meaning}
@@ -81,17 +82,17 @@ agree_is (Some x) (Some y) t u p q h =
     let second : y ≡ u = cc in
     sym first ∙ same_type-true x y h ∙ second
 
-all_agree_is : (as bs : List MaybeType) (ts us : List TypeTree) → AllTypes as ts → AllTypes bs us → all_agree as bs ≡ true → AllTypes as us
+all_agree_is : (ps qs : List MaybeType) (ts us : List TypeTree) → AllTypes ps ts → AllTypes qs us → all_agree ps qs ≡ true → AllTypes ps us
 all_agree_is [] [] [] [] p q h = tt
 all_agree_is [] [] [] (u ∷ us) p q h = absurd q
 all_agree_is [] [] (t ∷ ts) us p q h = absurd p
-all_agree_is [] (b ∷ bs) ts us p q h = absurd (false≢true h)
-all_agree_is (a ∷ as) [] ts us p q h = absurd (false≢true h)
-all_agree_is (a ∷ as) (b ∷ bs) [] us p q h = absurd p
-all_agree_is (a ∷ as) (b ∷ bs) (t ∷ ts) [] p q h = absurd q
-all_agree_is (a ∷ as) (b ∷ bs) (t ∷ ts) (u ∷ us) p q h =
-    let parts = and_parts (agree a b) (all_agree as bs) h in
-    (p.0 ∙ ap Some (agree_is a b t u p.0 q.0 parts.0), all_agree_is as bs ts us p.1 q.1 parts.1)
+all_agree_is [] (b ∷ qs) ts us p q h = absurd (false≢true h)
+all_agree_is (a ∷ ps) [] ts us p q h = absurd (false≢true h)
+all_agree_is (a ∷ ps) (b ∷ qs) [] us p q h = absurd p
+all_agree_is (a ∷ ps) (b ∷ qs) (t ∷ ts) [] p q h = absurd q
+all_agree_is (a ∷ ps) (b ∷ qs) (t ∷ ts) (u ∷ us) p q h =
+    let parts = and_parts (agree a b) (all_agree ps qs) h in
+    (p.0 ∙ ap Some (agree_is a b t u p.0 q.0 parts.0), all_agree_is ps qs ts us p.1 q.1 parts.1)
 
 -- ---- what a declaration of a function leads to
 
@@ -203,15 +204,15 @@ again_function name f t ts s k g result params h meant there same_result same_pa
             let x = h.functions_named asked j m in
             let y = still j x.function x.there in
             record { function = y.later; there = y.there; result = x.result; has = y.result ∙ x.has; types = x.types; takes = subst (λ ps. AllTypes ps x.types) (sym y.params) x.takes };
-        put = by_predeclared 0 _ h.put here after;
-        get = by_predeclared 1 _ h.get here after;
-        exit = by_predeclared 2 _ h.exit here after;
+        put = predeclared_there 0 (declared_as int (Some int ∷ [])) refl (still 0 _ h.put);
+        get = predeclared_there 1 (declared_as int []) refl (still 1 _ h.get);
+        exit = predeclared_there 2 (declared_as void_type (Some int ∷ [])) refl (still 2 _ h.exit);
         structs = h.structs;
         globals = h.globals;
         functions = λ j x q.
             let r = h.functions j x q in
             let y = still r.number r.declared r.there in
-            record { number = r.number; meant = r.meant; declared = y.later; there = y.there; defined = y.defined r.defined; result = y.result ∙ r.result; takes = subst (λ ps. AllTypes ps _) (sym y.params) r.takes };
+            record { number = r.number; meant = r.meant; declared = y.later; there = y.there; defined = y.defined r.defined; result = y.result ∙ r.result; takes = subst (λ ps. AllTypes ps (map (λ v. v.type) (params_of x))) (sym y.params) r.takes };
       };
       onward = record { broken = λ q. q; structs = ([], refl); defined = refl; globals = λ j x q. q; declared = still; functions = λ j x q. q; names = λ clean asked m q. q };
       number = k;
@@ -255,9 +256,52 @@ again_function name f t ts s k g result params h meant there same_result same_pa
     by_place j d q here after false e =
         still_declared d (changed (declared_again f) k s.declared) j (ap (λ ds. slice_get ds j) after ∙ set_other s.declared k j (declared_again f g) (λ r. false≢true (sym e ∙ eq-eqb j k r)) ∙ q)
 
-    same_declared : (d : Declared) → d.is_defined ≡ true → declared_again f d ≡ d
-    same_declared d e = λ i. record { result = d.result; params = d.params; is_defined = (or_left d.is_defined f.is_defined e ∙ sym e) i }
+    predeclared_there : (j : ℕ) (d : Declared) → d.is_defined ≡ true → StillDeclared d (changed (declared_again f) k s.declared) j → slice_get (changed (declared_again f) k s.declared) j ≡ Some d
+    predeclared_there j d e y =
+        let same : y.later ≡ d = λ i. record { result = y.result i; params = y.params i; is_defined = (y.defined e ∙ sym e) i } in
+        y.there ∙ ap Some same
 
-    by_predeclared : (j : ℕ) (d : Declared) → slice_get s.declared j ≡ Some (declared_as (predeclared_result d) d.params) → slice_get (changed (declared_again f) k s.declared) k ≡ Some (declared_again f g) →
-        changed (declared_again f) k s.declared ≡ slice_set s.declared k (declared_again f g) → slice_get (changed (declared_again f) k s.declared) j ≡ Some (declared_as (predeclared_result d) d.params)
-    by_predeclared j d q here after = q
+-- ---- the declaration
+
+function_broken : (name : Name) (offset : ℕ) (f : Declared) (m : Option Meaning) (s : State) → (function_meant name offset f m s).1.broken ≡ None → s.broken ≡ None
+function_broken name offset f None s clean = clean
+function_broken name offset f (Some (means.Function k)) s clean = (breaks_if_steps (not (may_follow (slice_get s.declared k) f)) Redeclared offset s).broken clean
+function_broken name offset f (Some (means.Variable slot b)) s clean = absurd (cc)
+function_broken name offset f (Some (means.Global k b)) s clean = absurd (cc)
+
+pub declare_function_broken : (name : Name) (offset : ℕ) (f : Declared) (s : State) → (declare_function name offset f s).1.broken ≡ None → s.broken ≡ None
+declare_function_broken name offset f s clean = function_broken name offset f (meaning s.scopes name) s clean
+
+not_false : (b : Bool) → not b ≡ false → b ≡ true
+not_false true e = refl
+not_false false e = absurd (false≢true (sym e))
+
+not_true : (b : Bool) → not b ≡ true → b ≡ false
+not_true false e = refl
+not_true true e = absurd (false≢true e)
+
+nothing_breaks : (wrong : Bool) (rule : Rule) (offset : ℕ) (s : State) → wrong ≡ false → (breaks_if wrong rule offset s).1 ≡ s
+nothing_breaks true rule offset s e = absurd (false≢true (sym e))
+nothing_breaks false rule offset s e = refl
+
+function_out : (name : Name) (offset : ℕ) (f : Declared) (t : TypeTree) (ts : List TypeTree) (m : Option Meaning) (s : State) → f.result ≡ Some t → AllTypes f.params ts → Core s → meaning s.scopes name ≡ m →
+    (function_meant name offset f m s).1.broken ≡ None → FunctionOut name f t ts s (function_meant name offset f m s).1
+function_out name offset f t ts None s result params h e clean = new_function name f t ts s result params h e
+function_out name offset f t ts (Some (means.Variable slot b)) s result params h e clean = absurd (cc)
+function_out name offset f t ts (Some (means.Global k b)) s result params h e clean = absurd (cc)
+function_out name offset f t ts (Some (means.Function k)) s result params h e clean =
+    let g = h.functions_named name k e in
+    let wrong = not (may_follow (slice_get s.declared k) f) in
+    let none = not_wrong wrong Redeclared offset s clean in
+    let may : may_follow (Some g.function) f ≡ true = sym (ap (λ x. may_follow x f) g.there) ∙ not_false (may_follow (slice_get s.declared k) f) none in
+    let parts = and_parts (agree g.function.result f.result && all_agree g.function.params f.params) (not (g.function.is_defined && f.is_defined)) may in
+    let both = and_parts (agree g.function.result f.result) (all_agree g.function.params f.params) parts.0 in
+    let same : g.function.result ≡ Some t = g.has ∙ ap Some (agree_is g.function.result f.result g.result t g.has result both.0) in
+    let takes = all_agree_is g.function.params f.params g.types ts g.takes params both.1 in
+    let once = not_true (g.function.is_defined && f.is_defined) parts.1 in
+    subst (λ b. FunctionOut name f t ts s (record b { declared = changed (declared_again f) k b.declared })) (sym (nothing_breaks wrong Redeclared offset s none))
+    (again_function name f t ts s k g.function result params h e g.there same takes once)
+
+pub declare_function_out : (name : Name) (offset : ℕ) (f : Declared) (t : TypeTree) (ts : List TypeTree) (s : State) → f.result ≡ Some t → AllTypes f.params ts → Core s →
+    (declare_function name offset f s).1.broken ≡ None → FunctionOut name f t ts s (declare_function name offset f s).1
+declare_function_out name offset f t ts s result params h clean = function_out name offset f t ts (meaning s.scopes name) s result params h refl clean
