@@ -37,3 +37,4 @@ pub mod GlobalDeclared
 pub mod Params
 pub mod DeclaredFunctions
 pub mod FunctionBodies
+pub mod TypedFunctions

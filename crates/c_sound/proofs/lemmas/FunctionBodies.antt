@@ -36,14 +36,14 @@ use Rattle.c_sound.proofs.lemmas.DeclaredFunctions.{Core}
 
 -- ---- names and slots of parameters
 
-name_params_steps : (ps : List Param) (s : State) → Step s (name_params ps s).1
+pub name_params_steps : (ps : List Param) (s : State) → Step s (name_params ps s).1
 name_params_steps [] s = stay s
 name_params_steps (p ∷ ps) s =
     let wrong = not (is_some p.name) in
     let b = (breaks_if wrong BadType p.offset s).1 in
     step_then s b _ (breaks_if_steps wrong BadType p.offset s) (name_params_steps ps b)
 
-name_params_quiet : (ps : List Param) → Quiet (name_params ps)
+pub name_params_quiet : (ps : List Param) → Quiet (name_params ps)
 name_params_quiet [] s = refl
 name_params_quiet (p ∷ ps) s =
     let wrong = not (is_some p.name) in
@@ -56,17 +56,17 @@ range k zero = []
 range k (suc n) = k ∷ range (suc k) n
 
 -- what a name means after parameters got their slots
-record BoundName (k n : ℕ) (before : Option Meaning) (m : Meaning) : Type 0 where
-  cases : ((slot : ℕ) × ((b : Bool) × ((m ≡ means.Variable slot b) × (slot < k + n)))) ⊎ (before ≡ Some m)
+pub record BoundName (k n : ℕ) (before : Option Meaning) (m : Meaning) : Type 0 where
+  pub cases : ((slot : ℕ) × ((b : Bool) × ((m ≡ means.Variable slot b) × (slot < k + n)))) ⊎ (before ≡ Some m)
 
 -- parameters of these numbers are bound
-record BoundOut (k n : ℕ) (s t : State) : Type 0 where
-  later : Later s t
-  slots : t.slots ≡ s.slots ++ range k n
-  names : (name : Name) (m : Meaning) → meaning t.scopes name ≡ Some m → BoundName k n (meaning s.scopes name) m
-  variables : t.variables ≡ s.variables
-  globals : t.globals ≡ s.globals
-  broken : t.broken ≡ s.broken
+pub record BoundOut (k n : ℕ) (s t : State) : Type 0 where
+  pub later : Later s t
+  pub slots : t.slots ≡ s.slots ++ range k n
+  pub names : (name : Name) (m : Meaning) → meaning t.scopes name ≡ Some m → BoundName k n (meaning s.scopes name) m
+  pub variables : t.variables ≡ s.variables
+  pub globals : t.globals ≡ s.globals
+  pub broken : t.broken ≡ s.broken
 
 -- one slot more
 slot_later : (slot : ℕ) (s : State) → Later s (record s { slots = s.slots ++ slot ∷ [] })
@@ -86,7 +86,7 @@ slot_later slot s =
       variables = same.variables;
     }
 
-bind_out : (k : ℕ) (ps : List Param) (s : State) → BoundOut k (length ps) s (bind_params k ps s).1
+pub bind_out : (k : ℕ) (ps : List Param) (s : State) → BoundOut k (length ps) s (bind_params k ps s).1
 bind_out k [] s = record { later = (stay_still s).later; slots = sym (append-nil s.slots); names = λ name m q. record { cases = inr q }; variables = refl; globals = refl; broken = refl }
 bind_out k (p ∷ ps) s =
     let a = record s { slots = s.slots ++ k ∷ [] } in
@@ -147,7 +147,7 @@ drop_at [] k x h = absurd (cc)
 drop_at (y ∷ xs) zero x h = let same : y ≡ x = cc in ap (λ z. z ∷ xs) same
 drop_at (y ∷ xs) (suc k) x h = drop_at xs k x h
 
-slots_range : (e : Ending) (vs : List Variable) (k n : ℕ) → ((i : ℕ) → k ≤ i → i < k + n → (w : VariableTree) × (slice_get e.variables i ≡ Some w) × (type_now vs i ≡ w.type)) →
+pub slots_range : (e : Ending) (vs : List Variable) (k n : ℕ) → ((i : ℕ) → k ≤ i → i < k + n → (w : VariableTree) × (slice_get e.variables i ≡ Some w) × (type_now vs i ≡ w.type)) →
     slots_in e vs (range k n) ≡ take n (drop k e.variables)
 slots_range e vs k zero h = refl
 slots_range e vs k (suc n) h =
@@ -193,23 +193,23 @@ params_length [] (v ∷ vs) h = absurd h
 params_length (p ∷ ps) [] h = absurd h
 params_length (p ∷ ps) (v ∷ vs) h = ap suc (params_length ps vs h.1)
 
-tree_type : (v : Variable) (t : TypeTree) → v.type ≡ Some t → (variable_tree v).type ≡ t
+pub tree_type : (v : Variable) (t : TypeTree) → v.type ≡ Some t → (variable_tree v).type ≡ t
 tree_type v t e = ap (λ o. unwrap_or o void_type) e
 
-params_scalar : (ps : List Param) (us vs : List Variable) → ParamsAre ps us → AreMore us vs → AreScalar (map (λ v. v.type) (take (length ps) (map variable_tree vs)))
+pub params_scalar : (ps : List Param) (us vs : List Variable) → ParamsAre ps us → AreMore us vs → AreScalar (map (λ v. v.type) (take (length ps) (map variable_tree vs)))
 params_scalar [] us vs h a = tt
 params_scalar (p ∷ ps) [] vs h a = absurd h
 params_scalar (p ∷ ps) (u ∷ us) [] h a = absurd a
 params_scalar (p ∷ ps) (u ∷ us) (v ∷ vs) h a = (subst IsScalar (sym (tree_type v h.0.0 (a.0 ∙ h.0.2))) h.0.3, params_scalar ps us vs h.1 a.2)
 
 -- the types of the parameters are those of its variables
-params_types : (ps : List Param) (us vs : List Variable) → ParamsAre ps us → AreMore us vs → AllTypes (map (λ (p : Param). p.type) ps) (map (λ v. v.type) (take (length ps) (map variable_tree vs)))
+pub params_types : (ps : List Param) (us vs : List Variable) → ParamsAre ps us → AreMore us vs → AllTypes (map (λ (p : Param). p.type) ps) (map (λ v. v.type) (take (length ps) (map variable_tree vs)))
 params_types [] us vs h a = tt
 params_types (p ∷ ps) [] vs h a = absurd h
 params_types (p ∷ ps) (u ∷ us) [] h a = absurd a
 params_types (p ∷ ps) (u ∷ us) (v ∷ vs) h a = (h.0.1 ∙ ap Some (sym (tree_type v h.0.0 (a.0 ∙ h.0.2))), params_types ps us vs h.1 a.2)
 
-map_length : {A B : Type 0} → (f : A → B) (xs : List A) → length (map f xs) ≡ length xs
+pub map_length : {A B : Type 0} → (f : A → B) (xs : List A) → length (map f xs) ≡ length xs
 map_length f [] = refl
 map_length f (x ∷ xs) = ap suc (map_length f xs)
 
@@ -224,22 +224,22 @@ fits_one defs v t e h = (subst (IsLaidOut defs) (sym (tree_type v t e)) h, by_sc
     by_scalar true q = inr (scalar_is (unwrap_or v.type void_type) q)
     by_scalar false q = inl (or_right v.is_taken (not (is_scalar (unwrap_or v.type void_type))) (ap not q))
 
-all_fit : (defs : Definitions) (vs : List Variable) → ((k : ℕ) (v : Variable) → slice_get vs k ≡ Some v → (t : TypeTree) × (v.type ≡ Some t) × IsLaidOut defs t) → VariablesFit defs (map variable_tree vs)
+pub all_fit : (defs : Definitions) (vs : List Variable) → ((k : ℕ) (v : Variable) → slice_get vs k ≡ Some v → (t : TypeTree) × (v.type ≡ Some t) × IsLaidOut defs t) → VariablesFit defs (map variable_tree vs)
 all_fit defs [] h = tt
 all_fit defs (v ∷ vs) h = let t = h 0 v refl in (fits_one defs v t.0 t.1 t.2, all_fit defs vs (λ k w q. h (suc k) w q))
 
 -- ---- names at the start of the body
 
 -- what a body begins with: a file with the parameters' variables
-record Entry (ps : List Param) (n t : State) : Type 0 where
-  core : Core n
-  params : ParamsAre ps n.variables
-  bound : BoundOut 0 (length ps) (entered n) t
+pub record Entry (ps : List Param) (n t : State) : Type 0 where
+  pub core : Core n
+  pub params : ParamsAre ps n.variables
+  pub bound : BoundOut 0 (length ps) (entered n) t
 
-entry_slots : (ps : List Param) (n t : State) → Entry ps n t → t.slots ≡ range 0 (length ps)
+pub entry_slots : (ps : List Param) (n t : State) → Entry ps n t → t.slots ≡ range 0 (length ps)
 entry_slots ps n t h = h.bound.slots ∙ ap (λ ks. ks ++ range 0 (length ps)) h.core.slots
 
-entry_slot : (ps : List Param) (n t : State) → Entry ps n t → (name : Name) (slot : ℕ) (b : Bool) → meaning t.scopes name ≡ Some (means.Variable slot b) → slot < length t.slots
+pub entry_slot : (ps : List Param) (n t : State) → Entry ps n t → (name : Name) (slot : ℕ) (b : Bool) → meaning t.scopes name ≡ Some (means.Variable slot b) → slot < length t.slots
 entry_slot ps n t h name slot b m = by_cases (h.bound.names name (means.Variable slot b) m).cases
   where
     by_cases : ((x : ℕ) × ((c : Bool) × ((means.Variable slot b ≡ means.Variable x c) × (x < 0 + length ps)))) ⊎ (meaning n.scopes name ≡ Some (means.Variable slot b)) → slot < length t.slots
@@ -250,7 +250,7 @@ entry_slot ps n t h name slot b m = by_cases (h.bound.names name (means.Variable
         omega (arith, same, len, below)
     by_cases (inr a) = absurd (h.core.no_variables name slot b a)
 
-entry_variable : (ps : List Param) (n t : State) → Entry ps n t → (slot k : ℕ) → slice_get t.slots slot ≡ Some k → k < length t.variables
+pub entry_variable : (ps : List Param) (n t : State) → Entry ps n t → (slot k : ℕ) → slice_get t.slots slot ≡ Some k → k < length t.variables
 entry_variable ps n t h slot k m =
     let r = range_at 0 (length ps) slot k (ap (λ ks. slice_get ks slot) (sym (entry_slots ps n t h)) ∙ m) in
     let e = r.0 in
@@ -259,24 +259,24 @@ entry_variable ps n t h slot k m =
     omega (arith, e, b, len)
 
 -- a global or a function is that of the file
-entry_global : (ps : List Param) (n t : State) → Entry ps n t → (name : Name) (k : ℕ) (b : Bool) → meaning t.scopes name ≡ Some (means.Global k b) → meaning n.scopes name ≡ Some (means.Global k b)
+pub entry_global : (ps : List Param) (n t : State) → Entry ps n t → (name : Name) (k : ℕ) (b : Bool) → meaning t.scopes name ≡ Some (means.Global k b) → meaning n.scopes name ≡ Some (means.Global k b)
 entry_global ps n t h name k b m = by_cases (h.bound.names name (means.Global k b) m).cases
   where
     by_cases : ((x : ℕ) × ((c : Bool) × ((means.Global k b ≡ means.Variable x c) × (x < 0 + length ps)))) ⊎ (meaning n.scopes name ≡ Some (means.Global k b)) → meaning n.scopes name ≡ Some (means.Global k b)
     by_cases (inl a) = absurd (let e = a.1.1.0 in cc)
     by_cases (inr a) = a
 
-entry_function : (ps : List Param) (n t : State) → Entry ps n t → (name : Name) (k : ℕ) → meaning t.scopes name ≡ Some (means.Function k) → meaning n.scopes name ≡ Some (means.Function k)
+pub entry_function : (ps : List Param) (n t : State) → Entry ps n t → (name : Name) (k : ℕ) → meaning t.scopes name ≡ Some (means.Function k) → meaning n.scopes name ≡ Some (means.Function k)
 entry_function ps n t h name k m = by_cases (h.bound.names name (means.Function k) m).cases
   where
     by_cases : ((x : ℕ) × ((c : Bool) × ((means.Function k ≡ means.Variable x c) × (x < 0 + length ps)))) ⊎ (meaning n.scopes name ≡ Some (means.Function k)) → meaning n.scopes name ≡ Some (means.Function k)
     by_cases (inl a) = absurd (let e = a.1.1.0 in cc)
     by_cases (inr a) = a
 
-entry_param : (ps : List Param) (n t : State) → Entry ps n t → (k : ℕ) (v : Variable) → slice_get t.variables k ≡ Some v → (u : TypeTree) × (v.type ≡ Some u) × IsScalar u
+pub entry_param : (ps : List Param) (n t : State) → Entry ps n t → (k : ℕ) (v : Variable) → slice_get t.variables k ≡ Some v → (u : TypeTree) × (v.type ≡ Some u) × IsScalar u
 entry_param ps n t h k v q = params_at ps n.variables k v h.params (ap (λ vs. slice_get vs k) (sym h.bound.variables) ∙ q)
 
-entry_named : (ps : List Param) (n t : State) → Entry ps n t → Named t
+pub entry_named : (ps : List Param) (n t : State) → Entry ps n t → Named t
 entry_named ps n t h = record {
   there = λ k v q. let u = entry_param ps n t h k v q in (u.0, u.1);
   slots = entry_slot ps n t h;
@@ -287,10 +287,10 @@ entry_named ps n t h = record {
   functions = λ name k m. subst (λ ds. FunctionTyped ds k) (sym h.bound.later.declared) (h.core.functions_named name k (entry_function ps n t h name k m));
 }
 
-entry_laid : (ps : List Param) (n t : State) → Entry ps n t → AreLaid t
+pub entry_laid : (ps : List Param) (n t : State) → Entry ps n t → AreLaid t
 entry_laid ps n t h k v q = let u = entry_param ps n t h k v q in (u.0, u.1, scalar_laid t.structs u.0 u.2)
 
-entry_names : (ps : List Param) (n t z : State) (vs : List VariableTree) → Ended z → Onward n z → Entry ps n t → NamesFit (ending_of (program_of z) vs) t
+pub entry_names : (ps : List Param) (n t z : State) (vs : List VariableTree) → Ended z → Onward n z → Entry ps n t → NamesFit (ending_of (program_of z) vs) t
 entry_names ps n t z vs e o h =
     let l = h.bound.later in
     record {
