@@ -38,3 +38,4 @@ pub mod Params
 pub mod DeclaredFunctions
 pub mod FunctionBodies
 pub mod TypedFunctions
+pub mod FunctionMoved

@@ -219,12 +219,12 @@ file_more s t a known h = record {
 
 pub record Moved (s t : State) : Type 0 where
   pub broken : t.broken ≡ None → s.broken ≡ None
-  pub go : t.broken ≡ None → File s → Onward s t × File t
+  pub go : t.broken ≡ None → File s → Onward s t × File t × (t.functions ≡ s.functions)
 
 pub moved_then : (r s t : State) → Moved r s → Moved s t → Moved r t
 moved_then r s t a b = record {
   broken = λ h. a.broken (b.broken h);
-  go = λ clean h. let p = a.go (b.broken clean) h in let q = b.go clean p.1 in (onward_then r s t p.0 q.0, q.1);
+  go = λ clean h. let p = a.go (b.broken clean) h in let q = b.go clean p.1 in (onward_then r s t p.0 q.0, q.1, q.2 ∙ p.2);
 }
 
 pub no_variables_after : (vs ws : List Variable) → vs ≡ [] → AreSame vs ws → ws ≡ []
@@ -248,5 +248,6 @@ moved_step s t a b = record {
         good = subst AreDefinitions (sym a.structs) h.structs;
       })
       (λ k f q. known_later s t f a.scopes a.declared (h.functions k f (sym (ap (λ fs. slice_get fs k) a.functions) ∙ q))) h,
+    a.functions,
   );
 }

@@ -276,7 +276,7 @@ global_declarator_moved y x is_const stars name offset bounds begun s base rb r 
           let new : is_declared s.scopes name ≡ false = sym (ap (λ sc. is_declared sc name) both.scopes) ∙ not_wrong again Redeclared offset c cb in
           let laid = subst (λ e. LaidOrOpen e may typed.type) (sym (sb.structs ∙ st.structs)) typed.holds in
           let o = by_type t.0 typed.type typed.there d (record { file = h; global = f g; begun = bd; scopes = scopes; type = typed.there; empty = refl }) laid clean in
-          (global_onward name k fixed s z to_s h new o, global_file name k fixed s z h new o);
+          (global_onward name k fixed s z to_s h new o, global_file name k fixed s z h new o, o.begun.functions);
     }
   where
     by_type : (o : MaybeType) (u : TypeTree) → o ≡ Some u → (d : State) → Ready name (length s.globals) (is_fixed is_const stars) s d u → LaidOrOpen d.structs (is_present begun) u →

@@ -178,7 +178,7 @@ ParamsAre [] [] = Unit {0}
 ParamsAre (p ∷ ps) (v ∷ vs) = ((t : TypeTree) × (p.type ≡ Some t) × (v.type ≡ Some t) × IsScalar t) × ParamsAre ps vs
 ParamsAre ps vs = ⊥
 
-params_same : (ps : List Param) (vs ws : List Variable) → ParamsAre ps vs → AreSame vs ws → ParamsAre ps ws
+pub params_same : (ps : List Param) (vs ws : List Variable) → ParamsAre ps vs → AreSame vs ws → ParamsAre ps ws
 params_same [] [] [] h a = tt
 params_same [] [] (w ∷ ws) h a = absurd a
 params_same [] (v ∷ vs) ws h a = absurd h

@@ -200,7 +200,7 @@ defined_moved tag offset xs (Some ts) s h new =
     by_broken : (b : State) (o : Bool) → is_some b.broken ≡ o → (b.broken ≡ None → Follows b.structs (record { tag = tag; members = ts })) →
         Moved b (if o then b else with_struct (record { tag = tag; members = ts }) xs b)
     by_broken b true q k = moved_step b b (stay b) (no_texts b)
-    by_broken b false q k = record { broken = λ h. h; go = λ clean f. (with_struct_onward (record { tag = tag; members = ts }) xs b, with_struct_file (record { tag = tag; members = ts }) xs b (k clean) f) }
+    by_broken b false q k = record { broken = λ h. h; go = λ clean f. (with_struct_onward (record { tag = tag; members = ts }) xs b, with_struct_file (record { tag = tag; members = ts }) xs b (k clean) f, refl) }
 
 -- what follows a tag has members, or none
 abbrev pub IsStruct : Tree → Type 0
