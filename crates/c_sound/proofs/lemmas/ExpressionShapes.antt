@@ -38,7 +38,7 @@ IsExpression t = ⊥
 abbrev pub IsOperandClass : class.Nonterminal → Type 0
 IsOperandClass c = class.nonterminal_number c ≤ 14
 
-small_production : (p : l.Production) → class.nonterminal_number (grammar.rule p).of ≤ 14 → is_expression p ≡ true
+pub small_production : (p : l.Production) → class.nonterminal_number (grammar.rule p).of ≤ 14 → is_expression p ≡ true
 unfolding grammar.rule class.nonterminal_number class.level_number class.repeated_number class.optional_number
 small_production l.Name h = refl
 small_production l.Number h = refl
@@ -125,7 +125,7 @@ tighter_small l.LogicalOr = omega arith
 
 -- ---- other nonterminals
 
-level_small : (level : l.Level) → class.level_number level ≤ 9
+pub level_small : (level : l.Level) → class.level_number level ≤ 9
 unfolding class.level_number
 level_small l.Multiplicative = omega arith
 level_small l.Additive = omega arith

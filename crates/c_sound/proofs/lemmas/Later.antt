@@ -1,11 +1,12 @@
 -- States of the checker along statements: variables come, and names come into scope.
-use Rattle.std.proofs.Common.{◌≡◌, ◌≤◌, ◌<◌, ℕ, zero, suc, true, List, [], ◌∷◌, ◌++◌, length, refl, sym, ap, ◌∙◌, subst, arith, append_assoc, append-nil}
+use Rattle.std.proofs.Common.{◌≡◌, ◌≤◌, ◌<◌, ℕ, zero, suc, true, false, List, [], ◌∷◌, ◌++◌, length, refl, sym, ap, ◌∙◌, subst, arith, append_assoc, append-nil}
 use Rattle.std.specs.Prelude.{slice_get, None, Some, unwrap_or}
+use Rattle.std.proofs.lemmas.Bool.{false≢true}
 use Rattle.c_typed.specs.WellTyped.{Scope, int}
 use Rattle.c_scope.specs.Scopes.{Name, Scopes, meaning, with_declaration, outer}
 use Rattle.c_elaboration.specs.declared.meaning.Meaning.{Meaning}
 use Rattle.c_elaboration.specs.State.{MaybeType, Global, Variable, State, add_variable}
-use Rattle.c_sound.proofs.lemmas.States.{Ending, is_object_then, type_now, slots_in, scope_in, AreSame, same_self, Step, stay, VariableFitsNow, Fits, FunctionFits, NamesFit, At}
+use Rattle.c_sound.proofs.lemmas.States.{Ending, is_object_then, type_now, slots_in, shown, shown_there, scope_in, AreSame, same_self, Step, stay, VariableFitsNow, Fits, FunctionFits, NamesFit, At}
 
 -- the same variables, and more
 abbrev pub AreMore : List Variable → List Variable → Type 0
@@ -40,7 +41,7 @@ pub record Still (s t : State) : Type 0 where
 same_more : (vs ws : List Variable) → AreSame vs ws → AreMore vs ws
 same_more [] ws a = tt
 same_more (v ∷ vs) [] a = absurd a
-same_more (v ∷ vs) (w ∷ ws) a = (a.0, a.1, same_more vs ws a.2)
+same_more (v ∷ vs) (w ∷ ws) a = (a.0, a.1, same_more vs ws a.3)
 
 more_then : (us vs ws : List Variable) → AreMore us vs → AreMore vs ws → AreMore us ws
 more_then [] vs ws a b = tt
@@ -110,11 +111,12 @@ more_at (u ∷ vs) (w ∷ ws) zero v a e = let same : u ≡ v = cc in subst (λ 
 more_at (u ∷ vs) (w ∷ ws) (suc k) v a e = let r = more_at vs ws k v a.2 e in record { later = r.later; there = r.there; type = r.type; taken = r.taken }
 
 -- what fits later fits before
-pub fits_before : (e : Ending) (s t : State) → Later s t → Fits e t → Fits e s
-fits_before e s t a h = record {
+pub fits_before : (e : Ending) (s t : State) → e.hides ≡ false → Later s t → Fits e t → Fits e s
+fits_before e s t shows a h = record {
   clean = a.broken h.clean;
   globals = λ k g u there type. h.globals k g u (a.globals k g there) type;
   variables = λ k v there. by_later k v (more_at s.variables t.variables k v a.variables there);
+  unnamed = λ q slot last. absurd (false≢true (sym shows ∙ q));
 }
   where
     by_later : (k : ℕ) (v : Variable) → MoreAt v t.variables k → VariableFitsNow e k v
@@ -163,7 +165,8 @@ at_still e c s t a h =
       functions = e.functions;
       globals = e.globals;
       variables = e.variables;
-      slots = (ap (slots_in e t.variables) a.slots ∙ more_slots e s.variables t.variables s.slots l.variables h.names.variables) i;
+      slots = (ap (λ ks. slots_in e t.variables (shown e.hides ks)) a.slots
+      ∙ more_slots e s.variables t.variables (shown e.hides s.slots) l.variables (λ slot k q. h.names.variables slot k (shown_there e.hides s.slots slot k q))) i;
     } in
     record { scope = same ∙ h.scope; names = names_still e s t a h.names }
 

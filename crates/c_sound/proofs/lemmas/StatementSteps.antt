@@ -21,6 +21,7 @@ use Rattle.c_elaboration.specs.Expressions.{more_characters, expression, express
 use Rattle.c_elaboration.specs.Initialisers.{converted, value_read, value, character_array, characters, string_for, sets_to_zero, count_in, part_of, part_at, parts_of, takes, list_for, initialiser, elements, completed}
 use Rattle.c_elaboration.specs.Declarators.{open_dimension, open_dimensions, completed_type, initialise_variable, variable_declarator, declarator, more_declarators, locals, is_fixed}
 use Rattle.c_elaboration.specs.Statements.{Jumps, in_loop, in_switch, whole, condition, subject, condition_clause, value_clause, jump, gives_none, returned, Labels, next_group, case_label, label, more_labels, Groups, for_start, statement, items, groups, group}
+use Rattle.c_sound.proofs.lemmas.ExpressionShapes.{IsExpression}
 use Rattle.c_sound.proofs.lemmas.States.{Step, stay, step_then}
 use Rattle.c_sound.proofs.lemmas.Steps.{Steps, breaks_if_steps, or_broken_steps, if_some_steps, type_if_steps, small_type_steps, starred_steps, size_steps, expression_steps, expressions_steps, specified_type_steps}
 use Rattle.c_sound.proofs.lemmas.Terms.{get_end}
@@ -32,11 +33,11 @@ converted_steps : (t : MaybeType) (n offset : ℕ) (a : Operand) → Steps (conv
 converted_steps None n offset a s = stay s
 converted_steps (Some t) n offset a s = or_broken_steps _ offset _ s
 
-value_read_steps : (is_static : Bool) (t : MaybeType) (n offset : ℕ) (a : Term) → Steps (value_read is_static t n offset a)
+pub value_read_steps : (is_static : Bool) (t : MaybeType) (n offset : ℕ) (a : Term) → Steps (value_read is_static t n offset a)
 value_read_steps is_static t n offset a s =
     let r = breaks_if _ NotConstant offset s in step_then s r.1 _ (breaks_if_steps _ NotConstant offset s) (if_some_steps a (converted t n offset) (converted_steps t n offset) r.1)
 
-value_steps : (is_static : Bool) (t : MaybeType) (n : ℕ) (x : Tree) → Steps (value is_static t n x)
+pub value_steps : (is_static : Bool) (t : MaybeType) (n : ℕ) (x : Tree) → Steps (value is_static t n x)
 value_steps is_static t n x s = let a = expression x s in step_then s a.1 _ (expression_steps x s) (value_read_steps is_static t n (begin_of x) a.0 a.1)
 
 characters_steps : (n offset : ℕ) (cs : List ℕ) (length : ℕ) → Steps (characters n offset cs length)
@@ -50,7 +51,7 @@ string_for_steps : (is_static : Bool) (t : MaybeType) (n : ℕ) (x : Tree) (cs :
 string_for_steps is_static t n x cs None s = value_steps is_static t n x s
 string_for_steps is_static t n x cs (Some m) s = characters_steps n (begin_of x) cs m s
 
-list_for_steps : (t : MaybeType) (offset count : ℕ) (es : ElementTrees) → Steps (list_for t offset count es)
+pub list_for_steps : (t : MaybeType) (offset count : ℕ) (es : ElementTrees) → Steps (list_for t offset count es)
 list_for_steps None offset count es s = stay s
 list_for_steps (Some t) offset count es s = by_test (takes (parts_of s.structs t) count)
   where
@@ -73,7 +74,7 @@ mutual
       string_for_steps is_static t n (Node l.Text (Cons x (Cons xs none))) (characters_of x ++ more_characters xs) (option_and_then character_array t) s
   initialiser_steps is_static t n x s = value_steps is_static t n x s
 
-  elements_steps : (is_static : Bool) (t : MaybeType) (n : ℕ) (x : Tree) → Steps (elements is_static t n x)
+  pub elements_steps : (is_static : Bool) (t : MaybeType) (n : ℕ) (x : Tree) → Steps (elements is_static t n x)
   elements_steps is_static t n (Node l.InitFirst (Cons x none)) s = initialiser_steps is_static (part_of s.structs t 0) (n + part_at s.structs t 0) x s
   elements_steps is_static t n (Node l.InitComma (Cons before more)) s = elements_steps is_static t n before s
   elements_steps is_static t n (Node l.InitNext (Cons before (Cons x none))) s =
@@ -106,15 +107,15 @@ object_type_steps may_be_empty offset x stars ds s =
     (step_then t.1 v.1 _ (if_some_steps (arrays_of t.0 (sizes_of ds)) (small_type offset) (small_type_steps offset) t.1)
     (unless_empty_steps (other_is_empty ds || (first_is_empty ds && not may_be_empty)) offset v.0 v.1)))
 
-completed_type_steps : (offset : ℕ) (x : Tree) (t : MaybeType) → Steps (completed_type offset x t)
+pub completed_type_steps : (offset : ℕ) (x : Tree) (t : MaybeType) → Steps (completed_type offset x t)
 completed_type_steps offset x t s = if_some_steps (option_and_then (completed x) t) (small_type offset) (small_type_steps offset) s
 
 -- a later state, with one more variable in one more slot
-record Begun (s t : State) : Type 0 where
-  later : Later s t
-  slots : t.slots ≡ s.slots ++ length s.variables ∷ []
+pub record Begun (s t : State) : Type 0 where
+  pub later : Later s t
+  pub slots : t.slots ≡ s.slots ++ length s.variables ∷ []
 
-begun_step : (s t u : State) → Begun s t → Step t u → Begun s u
+pub begun_step : (s t u : State) → Begun s t → Step t u → Begun s u
 begun_step s t u h a = record { later = later_then s t u h.later (step_still t u a).later; slots = a.slots ∙ h.slots }
 
 pub declare_later : (name : Name) (offset : ℕ) (m : Meaning) (s : State) → Later s (declare name offset m s).1
@@ -122,7 +123,7 @@ declare_later name offset m s =
     let r = breaks_if _ Redeclared offset s in
     later_then s r.1 _ (step_still s r.1 (breaks_if_steps _ Redeclared offset s)).later (declare_after name m r.1)
 
-declare_slots : (name : Name) (offset : ℕ) (m : Meaning) (s : State) → (declare name offset m s).1.slots ≡ s.slots
+pub declare_slots : (name : Name) (offset : ℕ) (m : Meaning) (s : State) → (declare name offset m s).1.slots ≡ s.slots
 declare_slots name offset m s = (breaks_if_steps _ Redeclared offset s).slots
 
 set_beyond : (us vs : List Variable) (k : ℕ) (v : Variable) → AreMore us vs → length us ≤ k → AreMore us (slice_set vs k v)
@@ -132,7 +133,7 @@ set_beyond (u ∷ us) (w ∷ vs) zero v a h = absurd (omega (arith, h))
 set_beyond (u ∷ us) (w ∷ vs) (suc k) v a h = (a.0, a.1, set_beyond us vs k v a.2 (omega (arith, h)))
 
 -- the new variable changes
-change_new : (s t : State) (f : Variable → Variable) → Begun s t → Later s (change_variable (length s.slots) f t).1
+pub change_new : (s t : State) (f : Variable → Variable) → Begun s t → Later s (change_variable (length s.slots) f t).1
 change_new s t f h =
     let l = h.later in
     let new : variable_in t.slots (length s.slots) ≡ length s.variables = ap (λ ks. variable_in ks (length s.slots)) h.slots ∙ ap (λ o. unwrap_or o 0) (get_end s.slots (length s.variables)) in
@@ -154,7 +155,7 @@ change_new s t f h =
     by_variable k None h a = a
     by_variable k (Some v) h a = set_beyond s.variables t.variables k (f v) a h
 
-initialise_later : (s t : State) (offset : ℕ) (u : MaybeType) (x : Tree) → Begun s t → Later s (initialise_variable (length s.slots) offset u x t).1
+pub initialise_later : (s t : State) (offset : ℕ) (u : MaybeType) (x : Tree) → Begun s t → Later s (initialise_variable (length s.slots) offset u x t).1
 initialise_later s t offset u (Node (l.Present o) (Cons equal (Cons x none))) h =
     let es = initialiser false (option_and_then (completed x) u) 0 x t in
     let w = completed_type offset x u es.1 in
@@ -174,12 +175,12 @@ variable_declarator_later x is_const stars name offset bounds begun s =
     let declared = later_then t.1 k.1 d.1 (add_variable_later t.0 t.1) (declare_later name offset m k.1) in
     later_then s t.1 _ to_type (initialise_later t.1 d.1 offset t.0 begun (record { later = declared; slots = declare_slots name offset m k.1 }))
 
-declarator_later : (x : Specified) (is_const : Bool) (t : Tree) (s : State) → Later s (declarator x is_const t s).1
+pub declarator_later : (x : Specified) (is_const : Bool) (t : Tree) (s : State) → Later s (declarator x is_const t s).1
 declarator_later x is_const (Node l.Decl (Cons stars (Cons name (Cons bounds (Cons begun none))))) s =
     variable_declarator_later x is_const (count_of stars) (name_of name) (offset_of name) bounds begun s
 declarator_later x is_const t s = (stay_still s).later
 
-more_declarators_later : (x : Specified) (is_const : Bool) (t : Tree) (s : State) → Later s (more_declarators x is_const t s).1
+pub more_declarators_later : (x : Specified) (is_const : Bool) (t : Tree) (s : State) → Later s (more_declarators x is_const t s).1
 more_declarators_later x is_const (Node (l.More k) (Cons before (Cons comma (Cons t none)))) s =
     let ds = more_declarators x is_const before s in later_then s ds.1 _ (more_declarators_later x is_const before s) (declarator_later x is_const t ds.1)
 more_declarators_later x is_const t s = (stay_still s).later
@@ -247,15 +248,27 @@ StatementsOnly (Node (l.More k) (Cons before (Cons (Node l.Locals children) none
 StatementsOnly (Node (l.More k) (Cons before (Cons t none))) = StatementsOnly before
 StatementsOnly t = Unit {0}
 
--- the groups of a `switch` have statements
-abbrev pub WellGrouped : Tree → Type 0
-WellGrouped (Node l.Group (Cons first (Cons more (Cons t (Cons ts none))))) = StatementsOnly ts × WellGrouped t × WellGrouped ts
-WellGrouped (Node p children) = WellGrouped children
-WellGrouped (Cons t ts) = WellGrouped t × WellGrouped ts
-WellGrouped t = Unit {0}
+-- what a variable begins with is a list that has an element, or an expression
+abbrev pub IsInitialiser : Tree → Type 0
+IsInitialiser (Node l.InitList (Cons opening (Cons items closing))) = 1 ≤ count_in items
+IsInitialiser x = IsExpression x
+
+abbrev pub MayBegin : Tree → Type 0
+MayBegin (Node (l.Present k) (Cons equal (Cons x none))) = IsInitialiser x
+MayBegin (Node (l.Present k) children) = ⊥
+MayBegin t = Unit {0}
+
+-- The groups of a `switch` have statements, and variables begin with initialisers.
+abbrev pub WellShaped : Tree → Type 0
+WellShaped (Node l.Group (Cons first (Cons more (Cons t (Cons ts none))))) = StatementsOnly ts × WellShaped t × WellShaped ts
+WellShaped (Node l.Decl (Cons stars (Cons name (Cons bounds (Cons begun none))))) = MayBegin begun
+WellShaped (Node l.Globals (Cons bounds (Cons begun (Cons more none)))) = MayBegin begun × WellShaped more
+WellShaped (Node p children) = WellShaped children
+WellShaped (Cons t ts) = WellShaped t × WellShaped ts
+WellShaped t = Unit {0}
 
 mutual
-  pub statement_still : (j : Jumps) (t : Tree) (s : State) → WellGrouped t → HasScope s → Still s (statement j t s).1
+  pub statement_still : (j : Jumps) (t : Tree) (s : State) → WellShaped t → HasScope s → Still s (statement j t s).1
   statement_still j (Node l.Null children) s w h = stay_still s
   statement_still j (Node l.Expression (Cons x (Cons semicolon none))) s w h =
       let a = expressions x s in step_still s _ (step_then s a.1 _ (expressions_steps x s) (whole_steps (begin_of x) a.0 a.1))
@@ -297,7 +310,7 @@ mutual
       still_then s e.1 _ step (groups_still (in_switch j) gs e.1 w.1.1.1.1.1.0 (still_has_scope s e.1 step.scopes h))
   statement_still j t s w h = stay_still s
 
-  pub items_later : (j : Jumps) (t : Tree) (s : State) → WellGrouped t → HasScope s → Later s (items j t s).1
+  pub items_later : (j : Jumps) (t : Tree) (s : State) → WellShaped t → HasScope s → Later s (items j t s).1
   items_later j (Node (l.More k) (Cons before (Cons (Node l.Locals children) none))) s w h =
       let is = items j before s in later_then s is.1 _ (items_later j before s w.0 h) (locals_later (Node l.Locals children) is.1)
   items_later j (Node (l.More k) (Cons before (Cons t none))) s w h =
@@ -307,7 +320,7 @@ mutual
   items_later j t s w h = (stay_still s).later
 
   -- statements alone
-  pub items_still : (j : Jumps) (t : Tree) (s : State) → StatementsOnly t → WellGrouped t → HasScope s → Still s (items j t s).1
+  pub items_still : (j : Jumps) (t : Tree) (s : State) → StatementsOnly t → WellShaped t → HasScope s → Still s (items j t s).1
   items_still j (Node (l.More k) (Cons before (Cons (Node l.Locals children) none))) s o w h = absurd o
   items_still j (Node (l.More k) (Cons before (Cons t none))) s o w h =
       let is = items j before s in
@@ -315,14 +328,14 @@ mutual
       still_then s is.1 _ first (statement_still j t is.1 w.1.0 (still_has_scope s is.1 first.scopes h))
   items_still j t s o w h = stay_still s
 
-  pub groups_still : (j : Jumps) (t : Tree) (s : State) → WellGrouped t → HasScope s → Still s (groups j t s).1
+  pub groups_still : (j : Jumps) (t : Tree) (s : State) → WellShaped t → HasScope s → Still s (groups j t s).1
   groups_still j (Node (l.More k) (Cons before (Cons t none))) s w h =
       let x = groups j before s in
       let first = groups_still j before s w.0 h in
       still_then s x.1 _ first (group_still j x.0 t x.1 w.1.0 (still_has_scope s x.1 first.scopes h))
   groups_still j t s w h = stay_still s
 
-  pub group_still : (j : Jumps) (x : Groups) (t : Tree) (s : State) → WellGrouped t → HasScope s → Still s (group j x t s).1
+  pub group_still : (j : Jumps) (x : Groups) (t : Tree) (s : State) → WellShaped t → HasScope s → Still s (group j x t s).1
   group_still j x (Node l.Group (Cons first (Cons more (Cons t (Cons ts none))))) s w h =
       let y = label (next_group x.labels) first s in
       let z = more_labels y.0 more y.1 in

@@ -5,6 +5,7 @@ use Rattle.std.proofs.lemmas.Bool.{false≢true}
 use Rattle.c_ast.specs.Productions as l
 use Rattle.c_ast.specs.Tree.{Tree, Node, Cons}
 use Rattle.c_type.specs.Trees.{TypeTree, void_type, scalar_type, pointer_to}
+use Rattle.c_type.specs.WellDefined.{AreDefinitions}
 use Rattle.c_typed.specs.Typed as typed
 use Rattle.c_typed.specs.Typed.{ExprTree, OptionalExpr, StmtTree, ItemTrees, no_items, stmt_then, declare_then, VariableTree}
 use Rattle.c_typed.specs.WellTyped as well
@@ -32,24 +33,33 @@ use Rattle.c_sound.proofs.lemmas.Steps.{expressions_steps, or_broken_steps, if_s
 use Rattle.c_sound.proofs.lemmas.Terms.{TermFits, InRange, or_broken_holds}
 use Rattle.c_sound.proofs.lemmas.Expressions.{expressions_typed}
 use Rattle.c_sound.proofs.lemmas.Later.{more_at, Later, step_still, fits_before, at_still, HasScope, still_has_scope, entered, left, at_entered}
-use Rattle.c_sound.proofs.lemmas.StatementSteps.{StatementsOnly, WellGrouped, whole_steps, condition_steps, subject_steps, condition_clause_steps, value_clause_steps, for_start_later, label_steps, more_labels_steps, statement_still, items_later, items_still, groups_still, group_still, locals_later}
+use Rattle.c_sound.proofs.lemmas.StatementSteps.{StatementsOnly, WellShaped, whole_steps, condition_steps, subject_steps, condition_clause_steps, value_clause_steps, for_start_later, label_steps, more_labels_steps, statement_still, items_later, items_still, groups_still, group_still, locals_later}
 use Rattle.c_sound.proofs.lemmas.Labels.{not_wrong, one_if_true, labels_begin, label_fits, more_labels_fit, GroupsFit, grouped_fits, no_groups_fit}
 
 -- ---- what the end says in a function
 
--- what fits, and the types of variables
+-- what fits, and the types of variables; struct definitions are well formed
 pub record Ends (e : Ending) (s : State) : Type 0 where
   pub fits : Fits e s
+  pub shows : e.hides ≡ false
+  pub structs : AreDefinitions s.structs
   pub types : (k : ℕ) (v : Variable) (t : TypeTree) → slice_get s.variables k ≡ Some v → v.type ≡ Some t → (w : VariableTree) × (slice_get e.variables k ≡ Some w) × (w.type ≡ t)
 
 pub ends_before : (e : Ending) (s t : State) → Later s t → Ends e t → Ends e s
 ends_before e s t a h = record {
-  fits = fits_before e s t a h.fits;
+  fits = fits_before e s t h.shows a h.fits;
+  shows = h.shows;
+  structs = subst AreDefinitions a.structs h.structs;
   types = λ k v u there type. let r = more_at s.variables t.variables k v a.variables there in h.types k r.later u r.there (r.type ∙ type);
 }
 
 pub ends_left : (e : Ending) (s t : State) → Ends e (left s t) → Ends e t
-ends_left e s t h = record { fits = record { clean = h.fits.clean; globals = h.fits.globals; variables = h.fits.variables }; types = h.types }
+ends_left e s t h = record {
+  fits = record { clean = h.fits.clean; globals = h.fits.globals; variables = h.fits.variables; unnamed = λ q slot last. absurd (false≢true (sym h.shows ∙ q)) };
+  shows = h.shows;
+  structs = h.structs;
+  types = h.types;
+}
 
 -- items lead from one scope to another
 abbrev pub ItemsLead : Scope → well.Jumps → ItemTrees → Scope → Type 0
@@ -77,7 +87,7 @@ pub record ItemsOut (e : Ending) (c : Scope) (q : well.Jumps) (is : ItemTrees) (
 -- declarations in blocks are typed
 abbrev pub LocalsAreTyped : Ending → Type 0
 LocalsAreTyped e =
-    (c : Scope) (q : well.Jumps) (t : Tree) (s : State) → InRange t → HasScope s → At e c s → Ends e (locals t s).1 → ItemsOut e c q (locals t s).0 (locals t s).1
+    (c : Scope) (q : well.Jumps) (t : Tree) (s : State) → InRange t → WellShaped t → HasScope s → At e c s → Ends e (locals t s).1 → ItemsOut e c q (locals t s).0 (locals t s).1
 
 -- ---- expressions in statements
 
@@ -176,12 +186,12 @@ scalar_target (pointer_to s) t e h = absurd (false≢true h)
 scalar_target s t e h = absurd (false≢true h)
 
 -- a value of the result's type
-record ResultOf (c : Scope) (t : TypeTree) (e : ExprTree) : Type 0 where
-  typed : ExprIsTyped c e
-  type : type_of e ≡ t
-  scalar : IsScalar t
+pub record ResultOf (c : Scope) (t : TypeTree) (e : ExprTree) : Type 0 where
+  pub typed : ExprIsTyped c e
+  pub type : type_of e ≡ t
+  pub scalar : IsScalar t
 
-result_typed : (c : Scope) (t : TypeTree) (a : Operand) → ObjectsFit c → TermFits c (Some a) → IfSome (ResultOf c t) (passed t a)
+pub result_typed : (c : Scope) (t : TypeTree) (a : Operand) → ObjectsFit c → TermFits c (Some a) → IfSome (ResultOf c t) (passed t a)
 result_typed c t a fit ty =
     and_then_holds (ExprIsTyped c) (ResultOf c t) (converts t) (value_of a) (value_typed c a fit ty) (λ e te.
     if_holds (ResultOf c t) (may_convert (type_of e) t e) (Some (converted t e)) (λ m.
@@ -217,15 +227,15 @@ allowed : (t : Bool) → (if t then false else true) ≡ false → t ≡ true
 allowed true h = refl
 allowed false h = absurd (false≢true (sym h))
 
-for_start_typed : (e : Ending) → LocalsAreTyped e → (c : Scope) (q : well.Jumps) (t : Tree) (s : State) → InRange t → HasScope s → At e c s → Ends e (for_start t s).1 →
+for_start_typed : (e : Ending) → LocalsAreTyped e → (c : Scope) (q : well.Jumps) (t : Tree) (s : State) → InRange t → WellShaped t → HasScope s → At e c s → Ends e (for_start t s).1 →
     ItemsOut e c q (for_start t s).0 (for_start t s).1
-for_start_typed e ls c q (Node l.ForClause (Cons x (Cons semicolon none))) s r g h ends =
+for_start_typed e ls c q (Node l.ForClause (Cons x (Cons semicolon none))) s r w g h ends =
     by_value (value_clause x s).0 (value_clause_typed e c x s r.0 h ends.fits)
   where
     by_value : (o : Option ExprTree) → IfSome (ExprIsTyped c) o → ItemsOut e c q (value_items o) (value_clause x s).1
     by_value None k = record { scope = c; lead = refl; here = at_step e c s (value_clause x s).1 (value_clause_steps x s) h }
     by_value (Some v) k = record { scope = c; lead = (k, refl); here = at_step e c s (value_clause x s).1 (value_clause_steps x s) h }
-for_start_typed e ls c q t s r g h ends = ls c q t s r g h ends
+for_start_typed e ls c q t s r w g h ends = ls c q t s r w g h ends
 
 statements_joined : (xs ys : ItemTrees) → AreStatements xs → AreStatements ys → AreStatements (items_joined xs ys)
 statements_joined no_items ys a b = b
@@ -238,7 +248,7 @@ items_are_statements j (Node (l.More k) (Cons before (Cons t none))) s o = state
 items_are_statements j t s o = tt
 
 mutual
-  pub statement_typed : (e : Ending) → LocalsAreTyped e → (c : Scope) (j : Jumps) (q : well.Jumps) (t : Tree) (s : State) → InRange t → WellGrouped t → HasScope s → JumpsAre j q → At e c s →
+  pub statement_typed : (e : Ending) → LocalsAreTyped e → (c : Scope) (j : Jumps) (q : well.Jumps) (t : Tree) (s : State) → InRange t → WellShaped t → HasScope s → JumpsAre j q → At e c s →
       Ends e (statement j t s).1 → StmtIsTyped c q (statement j t s).0
   statement_typed e ls c j q (Node l.Null children) s r w g m h ends = tt
   statement_typed e ls c j q (Node l.Expression (Cons x (Cons semicolon none))) s r w g m h ends =
@@ -304,7 +314,7 @@ mutual
       let ey = ends_before e step.1 b.1 (statement_still (in_loop j) t step.1 w.1.1.1.1.1.1.1.0 gy).later eb in
       let fd = fits_back e d.1 step.1 sy ey.fits in
       let ei = ends_before e is.1 step.1 (step_still is.1 step.1 both).later ey in
-      let o = for_start_typed e ls c q start (entered s) r.1.1.0 refl (at_entered e c s h) ei in
+      let o = for_start_typed e ls c q start (entered s) r.1.1.0 w.1.1.0 refl (at_entered e c s h) ei in
       let hd = at_step e o.scope is.1 d.1 sd o.here in
       let hy = at_step e o.scope d.1 step.1 sy hd in
       let body = statement_typed e ls o.scope (in_loop j) (well.in_loop q) t step.1 r.1.1.1.1.1.1.1.0 w.1.1.1.1.1.1.1.0 gy (loop_jumps j q m) hy eb in
@@ -332,14 +342,14 @@ mutual
       (groups_typed e ls c (in_switch j) (well.in_switch q) gs d.1 r.1.1.1.1.1.0 w.1.1.1.1.1.0 gd (switch_jumps j q m) (at_step e c s d.1 step h) ends)
   statement_typed e ls c j q t s r w g m h ends = tt
 
-  pub items_typed : (e : Ending) → LocalsAreTyped e → (c : Scope) (j : Jumps) (q : well.Jumps) (t : Tree) (s : State) → InRange t → WellGrouped t → HasScope s → JumpsAre j q → At e c s →
+  pub items_typed : (e : Ending) → LocalsAreTyped e → (c : Scope) (j : Jumps) (q : well.Jumps) (t : Tree) (s : State) → InRange t → WellShaped t → HasScope s → JumpsAre j q → At e c s →
       Ends e (items j t s).1 → ItemsOut e c q (items j t s).0 (items j t s).1
   items_typed e ls c j q (Node (l.More k) (Cons before (Cons (Node l.Locals children) none))) s r w g m h ends =
       let is = items j before s in
       let first = items_later j before s w.0 g in
       let ei = ends_before e is.1 _ (locals_later (Node l.Locals children) is.1) ends in
       let o = items_typed e ls c j q before s r.0 w.0 g m h ei in
-      let p = ls o.scope q (Node l.Locals children) is.1 r.1.0 (first.scope g) o.here ends in
+      let p = ls o.scope q (Node l.Locals children) is.1 r.1.0 w.1.0 (first.scope g) o.here ends in
       record { scope = p.scope; lead = lead_joined c o.scope p.scope q is.0 (locals (Node l.Locals children) is.1).0 o.lead p.lead; here = p.here }
   items_typed e ls c j q (Node (l.More k) (Cons before (Cons t none))) s r w g m h ends =
       let is = items j before s in
@@ -352,7 +362,7 @@ mutual
       record { scope = o.scope; lead = lead_joined c o.scope o.scope q is.0 _ o.lead (a, refl); here = at_still e o.scope is.1 _ still o.here }
   items_typed e ls c j q t s r w g m h ends = record { scope = c; lead = refl; here = h }
 
-  groups_typed : (e : Ending) → LocalsAreTyped e → (c : Scope) (j : Jumps) (q : well.Jumps) (t : Tree) (s : State) → InRange t → WellGrouped t → HasScope s → JumpsAre j q → At e c s →
+  groups_typed : (e : Ending) → LocalsAreTyped e → (c : Scope) (j : Jumps) (q : well.Jumps) (t : Tree) (s : State) → InRange t → WellShaped t → HasScope s → JumpsAre j q → At e c s →
       Ends e (groups j t s).1 → GroupsFit c q (groups j t s).0
   groups_typed e ls c j q (Node (l.More k) (Cons before (Cons t none))) s r w g m h ends =
       let x = groups j before s in
@@ -362,7 +372,7 @@ mutual
       group_typed e ls c j q x.0 t x.1 r.1.0 w.1.0 gx m (at_still e c s x.1 first h) ends (groups_typed e ls c j q before s r.0 w.0 g m h ex)
   groups_typed e ls c j q t s r w g m h ends = no_groups_fit c q
 
-  group_typed : (e : Ending) → LocalsAreTyped e → (c : Scope) (j : Jumps) (q : well.Jumps) (x : Groups) (t : Tree) (s : State) → InRange t → WellGrouped t → HasScope s → JumpsAre j q → At e c s →
+  group_typed : (e : Ending) → LocalsAreTyped e → (c : Scope) (j : Jumps) (q : well.Jumps) (x : Groups) (t : Tree) (s : State) → InRange t → WellShaped t → HasScope s → JumpsAre j q → At e c s →
       Ends e (group j x t s).1 → GroupsFit c q x → GroupsFit c q (group j x t s).0
   group_typed e ls c j q x (Node l.Group (Cons first (Cons more (Cons t (Cons ts none))))) s r w g m h ends k =
       let y = label (next_group x.labels) first s in

@@ -1,5 +1,5 @@
 -- States of the checker along an expression, and what names mean there.
-use Rattle.std.proofs.Common.{◌≡◌, ◌<◌, ℕ, zero, suc, Bool, true, false, List, [], ◌∷◌, length, refl, sym, ap, ◌∙◌, subst}
+use Rattle.std.proofs.Common.{◌≡◌, ◌<◌, ℕ, zero, suc, Bool, true, false, List, [], ◌∷◌, ◌++◌, length, refl, sym, ap, ◌∙◌, subst}
 use Rattle.std.specs.Prelude.{slice_get, Option, None, Some, option_and_then, unwrap_or}
 use Rattle.c_type.specs.Trees.{TypeTree, void_type}
 use Rattle.c_typed.specs.Typed.{VariableTree}
@@ -8,16 +8,19 @@ use Rattle.c_static.specs.Types.{is_scalar}
 use Rattle.c_scope.specs.Scopes.{Name, meaning}
 use Rattle.c_scope.specs.Names.{number_of}
 use Rattle.c_elaboration.specs.declared.meaning.Meaning.TheVariants as means
-use Rattle.c_elaboration.specs.State.{MaybeType, Declared, Global, Variable, State}
+use Rattle.c_elaboration.specs.State.{MaybeType, Declared, Global, Variable, State, variable_in}
+use Rattle.c_elaboration.specs.Declarators.{is_named}
 use Rattle.c_sound.specs.TypedOperands.{ObjectsFit}
 
 -- ---- what is known at the end
 
--- the functions and globals of the program, and the variables of the function
+-- The functions and globals of the program, and the variables of the function. The last slot may be hidden: that of a
+-- variable whose initialiser does not name it.
 pub record Ending : Type 0 where
   pub functions : List Signature
   pub globals : List TypeTree
   pub variables : List VariableTree
+  pub hides : Bool
 
 abbrev pub object_by : Option VariableTree → Bool
 object_by None = false
@@ -35,16 +38,27 @@ abbrev pub slots_in : Ending → List Variable → (slots : List ℕ) → List V
 slots_in e vs [] = []
 slots_in e vs (k ∷ ks) = record { type = type_now vs k; is_object = is_object_then e k } ∷ slots_in e vs ks
 
+-- the slots that are not hidden
+abbrev pub shown : (hides : Bool) → (slots : List ℕ) → List ℕ
+shown false ks = ks
+shown true [] = []
+shown true (k ∷ []) = []
+shown true (k ∷ j ∷ ks) = k ∷ shown true (j ∷ ks)
+
 -- what an expression may name in this state
 abbrev pub scope_in : Ending → State → Scope
-scope_in e s = record { structs = s.structs; functions = e.functions; globals = e.globals; variables = e.variables; slots = slots_in e s.variables s.slots }
+scope_in e s = record { structs = s.structs; functions = e.functions; globals = e.globals; variables = e.variables; slots = slots_in e s.variables (shown e.hides s.slots) }
+
+-- whether the name of the variable in a slot was used
+abbrev pub is_named_at : State → (slot : ℕ) → Bool
+is_named_at s slot = is_named (slice_get s.variables (variable_in s.slots slot))
 
 -- ---- steps
 
--- a variable keeps its type, and its address stays taken
+-- a variable keeps its type, its address stays taken, and its name used
 abbrev pub AreSame : List Variable → List Variable → Type 0
 AreSame [] [] = Unit {0}
-AreSame (v ∷ vs) (w ∷ ws) = (w.type ≡ v.type) × (v.is_taken ≡ true → w.is_taken ≡ true) × AreSame vs ws
+AreSame (v ∷ vs) (w ∷ ws) = (w.type ≡ v.type) × (v.is_taken ≡ true → w.is_taken ≡ true) × (w.is_named ≡ false → v.is_named ≡ false) × AreSame vs ws
 AreSame vs ws = ⊥
 
 -- An expression leads from one state to another.
@@ -62,7 +76,7 @@ pub record Step (s t : State) : Type 0 where
 
 pub same_self : (vs : List Variable) → AreSame vs vs
 same_self [] = tt
-same_self (v ∷ vs) = (refl, λ h. h, same_self vs)
+same_self (v ∷ vs) = (refl, λ h. h, λ h. h, same_self vs)
 
 same_then : (us vs ws : List Variable) → AreSame us vs → AreSame vs ws → AreSame us ws
 same_then [] [] [] a b = tt
@@ -70,7 +84,7 @@ same_then [] [] (w ∷ ws) a b = absurd b
 same_then [] (v ∷ vs) ws a b = absurd a
 same_then (u ∷ us) [] ws a b = absurd a
 same_then (u ∷ us) (v ∷ vs) [] a b = absurd b
-same_then (u ∷ us) (v ∷ vs) (w ∷ ws) a b = (b.0 ∙ a.0, λ h. b.1 (a.1 h), same_then us vs ws a.2 b.2)
+same_then (u ∷ us) (v ∷ vs) (w ∷ ws) a b = (b.0 ∙ a.0, λ h. b.1 (a.1 h), λ h. a.2 (b.2 h), same_then us vs ws a.3 b.3)
 
 pub stay : (s : State) → Step s s
 stay s = record {
@@ -110,6 +124,7 @@ pub record Fits (e : Ending) (s : State) : Type 0 where
   pub clean : s.broken ≡ None
   pub globals : (k : ℕ) (g : Global) (t : TypeTree) → slice_get s.globals k ≡ Some g → g.type ≡ Some t → slice_get e.globals k ≡ Some t
   pub variables : (k : ℕ) (v : Variable) → slice_get s.variables k ≡ Some v → VariableFitsNow e k v
+  pub unnamed : e.hides ≡ true → (slot : ℕ) → suc slot ≡ length s.slots → is_named_at s slot ≡ false
 
 pub record SameAt (v : Variable) (ws : List Variable) (k : ℕ) : Type 0 where
   pub later : Variable
@@ -121,7 +136,13 @@ pub same_at : (vs ws : List Variable) (k : ℕ) (v : Variable) → AreSame vs ws
 same_at [] ws k v a e = absurd (cc)
 same_at (u ∷ vs) [] k v a e = absurd a
 same_at (u ∷ vs) (w ∷ ws) zero v a e = let same : u ≡ v = cc in subst (λ v. SameAt v (w ∷ ws) zero) same (record { later = w; there = refl; type = a.0; taken = a.1 })
-same_at (u ∷ vs) (w ∷ ws) (suc k) v a e = let r = same_at vs ws k v a.2 e in record { later = r.later; there = r.there; type = r.type; taken = r.taken }
+same_at (u ∷ vs) (w ∷ ws) (suc k) v a e = let r = same_at vs ws k v a.3 e in record { later = r.later; there = r.there; type = r.type; taken = r.taken }
+
+same_named : (vs ws : List Variable) (k : ℕ) → AreSame vs ws → is_named (slice_get ws k) ≡ false → is_named (slice_get vs k) ≡ false
+same_named [] ws k a h = refl
+same_named (v ∷ vs) [] k a h = absurd a
+same_named (v ∷ vs) (w ∷ ws) zero a h = a.2 h
+same_named (v ∷ vs) (w ∷ ws) (suc k) a h = same_named vs ws k a.3 h
 
 -- what fits at the end of a step fits at its start
 pub fits_back : (e : Ending) (s t : State) → Step s t → Fits e t → Fits e s
@@ -129,6 +150,9 @@ fits_back e s t a h = record {
   clean = a.broken h.clean;
   globals = λ k g u there type. h.globals k g u (a.globals k g there) type;
   variables = λ k v there. by_later k v (same_at s.variables t.variables k v a.variables there);
+  unnamed = λ q slot last.
+      same_named s.variables t.variables (variable_in s.slots slot) a.variables
+      (sym (ap (λ ks. is_named (slice_get t.variables (variable_in ks slot))) a.slots) ∙ h.unnamed q slot (last ∙ sym (ap length a.slots)));
 }
   where
     by_later : (k : ℕ) (v : Variable) → SameAt v t.variables k → VariableFitsNow e k v
@@ -163,7 +187,7 @@ pub same_length : (vs ws : List Variable) → AreSame vs ws → length ws ≡ le
 same_length [] [] a = refl
 same_length [] (w ∷ ws) a = absurd a
 same_length (v ∷ vs) [] a = absurd a
-same_length (v ∷ vs) (w ∷ ws) a = ap suc (same_length vs ws a.2)
+same_length (v ∷ vs) (w ∷ ws) a = ap suc (same_length vs ws a.3)
 
 pub names_step : (e : Ending) (s t : State) → Step s t → NamesFit e s → NamesFit e t
 names_step e s t a h = record {
@@ -184,7 +208,7 @@ same_type_now [] [] k a = refl
 same_type_now [] (w ∷ ws) k a = absurd a
 same_type_now (v ∷ vs) [] k a = absurd a
 same_type_now (v ∷ vs) (w ∷ ws) zero a = ap (λ t. unwrap_or t int) a.0
-same_type_now (v ∷ vs) (w ∷ ws) (suc k) a = same_type_now vs ws k a.2
+same_type_now (v ∷ vs) (w ∷ ws) (suc k) a = same_type_now vs ws k a.3
 
 same_slots : (e : Ending) (vs ws : List Variable) (ks : List ℕ) → AreSame vs ws → slots_in e ws ks ≡ slots_in e vs ks
 same_slots e vs ws [] a = refl
@@ -197,7 +221,7 @@ same_scope e s t a =
       functions = e.functions;
       globals = e.globals;
       variables = e.variables;
-      slots = (ap (slots_in e t.variables) a.slots ∙ same_slots e s.variables t.variables s.slots a.variables) i;
+      slots = (ap (λ ks. slots_in e t.variables (shown e.hides ks)) a.slots ∙ same_slots e s.variables t.variables (shown e.hides s.slots) a.variables) i;
     }
 
 pub record At (e : Ending) (c : Scope) (s : State) : Type 0 where
@@ -209,6 +233,27 @@ at_step e c s t a h = record { scope = same_scope e s t a ∙ h.scope; names = n
 
 -- ---- variables in slots
 
+pub shown_there : (b : Bool) (ks : List ℕ) (slot k : ℕ) → slice_get (shown b ks) slot ≡ Some k → slice_get ks slot ≡ Some k
+shown_there false ks slot k h = h
+shown_there true [] slot k h = h
+shown_there true (i ∷ []) slot k h = absurd (cc)
+shown_there true (i ∷ j ∷ ks) zero k h = h
+shown_there true (i ∷ j ∷ ks) (suc slot) k h = shown_there true (j ∷ ks) slot k h
+
+-- a slot that is not the last is not hidden
+pub there_shown : (b : Bool) (ks : List ℕ) (slot k : ℕ) → (b ≡ true → suc slot ≡ length ks → ⊥) → slice_get ks slot ≡ Some k → slice_get (shown b ks) slot ≡ Some k
+there_shown false ks slot k n h = h
+there_shown true [] slot k n h = h
+there_shown true (i ∷ []) zero k n h = absurd (n refl refl)
+there_shown true (i ∷ []) (suc slot) k n h = absurd (cc)
+there_shown true (i ∷ j ∷ ks) zero k n h = h
+there_shown true (i ∷ j ∷ ks) (suc slot) k n h = there_shown true (j ∷ ks) slot k (λ q last. n q (ap suc last)) h
+
+pub shown_append : (ks : List ℕ) (k : ℕ) → shown true (ks ++ k ∷ []) ≡ ks
+shown_append [] k = refl
+shown_append (i ∷ []) k = refl
+shown_append (i ∷ j ∷ ks) k = ap (λ l. i ∷ l) (shown_append (j ∷ ks) k)
+
 pub record SlotAt (e : Ending) (vs : List Variable) (ks : List ℕ) (slot : ℕ) (v : VariableTree) : Type 0 where
   pub variable : ℕ
   pub there : slice_get ks slot ≡ Some variable
@@ -219,6 +264,11 @@ slot_at e vs [] slot v h = absurd (cc)
 slot_at e vs (k ∷ ks) zero v h = let same : record { type = type_now vs k; is_object = is_object_then e k } ≡ v = cc in record { variable = k; there = refl; same = sym same }
 slot_at e vs (k ∷ ks) (suc slot) v h = let r = slot_at e vs ks slot v h in record { variable = r.variable; there = r.there; same = r.same }
 
+-- the variable in a slot that an expression may name
+pub slot_in : (e : Ending) (s : State) (slot : ℕ) (v : VariableTree) → slice_get (scope_in e s).slots slot ≡ Some v → SlotAt e s.variables s.slots slot v
+slot_in e s slot v h =
+    let r = slot_at e s.variables (shown e.hides s.slots) slot v h in record { variable = r.variable; there = shown_there e.hides s.slots slot r.variable r.there; same = r.same }
+
 pub slot_there : (e : Ending) (vs : List Variable) (ks : List ℕ) (slot k : ℕ) → slice_get ks slot ≡ Some k →
     slice_get (slots_in e vs ks) slot ≡ Some (record { type = type_now vs k; is_object = is_object_then e k })
 slot_there e vs [] slot k h = absurd (cc)
@@ -228,7 +278,7 @@ slot_there e vs (j ∷ ks) (suc slot) k h = slot_there e vs ks slot k h
 -- a variable that is no scalar is an object at the end
 objects_now : (e : Ending) (s : State) → Fits e s → ObjectsFit (scope_in e s)
 objects_now e s h slot v there scalar =
-    let r = slot_at e s.variables s.slots slot v there in
+    let r = slot_in e s slot v there in
     ap (λ (w : VariableTree). w.is_object) r.same ∙ by_variable r.variable (slice_get s.variables r.variable) refl (sym (ap (λ (w : VariableTree). is_scalar w.type) r.same) ∙ scalar)
   where
     by_type : (k : ℕ) (v : Variable) (t : MaybeType) → v.type ≡ t → VariableFitsNow e k v → is_scalar (unwrap_or t int) ≡ false → is_object_then e k ≡ true

@@ -1,6 +1,7 @@
 -- An expression only takes steps.
-use Rattle.std.proofs.Common.{◌≡◌, ℕ, zero, suc, Bool, true, false, List, [], ◌∷◌, ◌++◌, refl, subst}
+use Rattle.std.proofs.Common.{◌≡◌, ℕ, zero, suc, Bool, true, false, List, [], ◌∷◌, ◌++◌, refl, sym, subst}
 use Rattle.std.specs.Prelude.{slice_get, slice_set, Option, None, Some, option_map, if◌then◌else◌}
+use Rattle.std.proofs.lemmas.Bool.{false≢true}
 use Rattle.c_lex.specs.declared.punct.Punct.{Punct}
 use Rattle.c_lex.specs.declared.punct.Punct.TheVariants as mark
 use Rattle.c_ast.specs.Productions as l
@@ -63,14 +64,14 @@ if_some_steps (Some a) f h s = h a s
 
 -- ---- variables and globals
 
--- a change of a variable that keeps its type, and that its address is taken
+-- a change of a variable that keeps its type, that its address is taken, and that its name was used
 abbrev pub KeepsVariable : (Variable → Variable) → Type 0
-KeepsVariable f = (v : Variable) → ((f v).type ≡ v.type) × (v.is_taken ≡ true → (f v).is_taken ≡ true)
+KeepsVariable f = (v : Variable) → ((f v).type ≡ v.type) × (v.is_taken ≡ true → (f v).is_taken ≡ true) × ((f v).is_named ≡ false → v.is_named ≡ false)
 
 set_same : (f : Variable → Variable) → KeepsVariable f → (vs : List Variable) (k : ℕ) (v : Variable) → slice_get vs k ≡ Some v → AreSame vs (slice_set vs k (f v))
 set_same f h [] k v e = absurd (cc)
-set_same f h (u ∷ vs) zero v e = let same : u ≡ v = cc in subst (λ w. AreSame (u ∷ vs) (f w ∷ vs)) same ((h u).0, (h u).1, same_self vs)
-set_same f h (u ∷ vs) (suc k) v e = (refl, λ q. q, set_same f h vs k v e)
+set_same f h (u ∷ vs) zero v e = let same : u ≡ v = cc in subst (λ w. AreSame (u ∷ vs) (f w ∷ vs)) same ((h u).0, (h u).1, (h u).2, same_self vs)
+set_same f h (u ∷ vs) (suc k) v e = (refl, λ q. q, λ q. q, set_same f h vs k v e)
 
 changed_same : (f : Variable → Variable) → KeepsVariable f → (vs : List Variable) (k : ℕ) → AreSame vs (changed f k vs)
 changed_same f h vs k = by_variable (slice_get vs k) refl
@@ -115,10 +116,10 @@ add_global_steps g s = record {
 -- ---- names
 
 pub named_keeps : KeepsVariable (λ v. record v { is_named = true })
-named_keeps v = (refl, λ h. h)
+named_keeps v = (refl, λ h. h, λ h. absurd (false≢true (sym h)))
 
 pub taken_keeps : KeepsVariable (λ v. record v { is_taken = true })
-taken_keeps v = (refl, λ h. refl)
+taken_keeps v = (refl, λ h. refl, λ h. h)
 
 pub term_meant_steps : (offset : ℕ) (m : Option Meaning) → Steps (term_meant offset m)
 term_meant_steps offset None s = breaks_steps _ offset s

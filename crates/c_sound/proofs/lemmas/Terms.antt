@@ -2,6 +2,7 @@
 use Rattle.std.proofs.Common.{◌≡◌, ◌<◌, ℕ, zero, suc, Bool, true, false, List, [], ◌∷◌, ◌++◌, length, refl, sym, ap, ◌∙◌, subst, arith}
 use Rattle.std.specs.Prelude.{slice_get, slice_set, Option, None, Some, option_map, option_and_then, unwrap_or, if◌then◌else◌}
 use Rattle.std.proofs.Math.ListN.{get_or}
+use Rattle.std.proofs.lemmas.Bool.{false≢true}
 use Rattle.std.proofs.lemmas.Option.{slice_get-get_or}
 use Rattle.c_lex.specs.declared.punct.Punct.{Punct}
 use Rattle.c_lex.specs.declared.punct.Punct.TheVariants as mark
@@ -26,6 +27,7 @@ use Rattle.c_elaboration.specs.declared.rule.Rule.{Rule}
 use Rattle.c_elaboration.specs.declared.rule.Rule.TheVariants.{Unknown, NotAssignable, BadOperands}
 use Rattle.c_elaboration.specs.State.{MaybeType, Global, Variable, State, pure, broken_at, or_broken, if_some, changed_by, changed, variable_in, change_variable}
 use Rattle.c_elaboration.specs.Operands.{Term, term_of, term_meant, named, constant_by, constant_of, string_type, string, binary, conditional, indexed, cast, measured, take_address, address, unary_of, unary, target, stepped, assigned, member_numbered, member_named, selected, Sequence, first_of, followed_by, comma, sequence_value, sequence_term}
+use Rattle.c_elaboration.specs.Declarators.{is_named}
 use Rattle.c_elaboration.specs.Calls.{passed, passed_as, all_passed}
 use Rattle.c_elaboration.specs.CheckLaws.{IsInRange}
 use Rattle.c_sound.specs.TypedOperands.{IfSome, OperandIsTyped, ObjectsFit, MayBeTaken}
@@ -34,7 +36,7 @@ use Rattle.c_sound.proofs.lemmas.Values.{value_typed, unsigned_promoted, ValueOf
 use Rattle.c_sound.proofs.lemmas.Binary.{binary_is_typed, conditional_is_typed}
 use Rattle.c_sound.proofs.lemmas.Operators.{found, unary_is_typed, index_is_typed, member_is_typed, cast_is_typed, size_is_typed}
 use Rattle.c_sound.proofs.lemmas.Assigning.{assigned_is_typed, step_is_typed}
-use Rattle.c_sound.proofs.lemmas.States.{Ending, is_object_then, type_now, Fits, fits_back, AllTypes, At, at_step, slot_at, slot_there, structs_at}
+use Rattle.c_sound.proofs.lemmas.States.{Ending, is_object_then, type_now, Fits, fits_back, AllTypes, At, at_step, shown, there_shown, slot_in, slot_there, structs_at}
 use Rattle.c_sound.proofs.lemmas.Steps.{or_broken_steps, change_variable_steps, named_keeps}
 
 abbrev pub TermFits : Scope → Term → Type 0
@@ -52,17 +54,33 @@ term_holds c (Some e) h = h
 
 -- ---- names
 
-variable_typed : (e : Ending) (c : Scope) (slot : ℕ) (is_const : Bool) (s : State) → At e c s → slot < length s.slots → TermFits c (term_meant 0 (Some (means.Variable slot is_const)) s).0
-variable_typed e c slot is_const s at below =
+pub set_there : {A : Type 0} → (xs : List A) (k : ℕ) (x y : A) → slice_get xs k ≡ Some x → slice_get (slice_set xs k y) k ≡ Some y
+set_there [] k x y e = absurd (cc)
+set_there (z ∷ xs) zero x y e = refl
+set_there (z ∷ xs) (suc k) x y e = set_there xs k x y e
+
+-- the name of a variable is used
+now_named : (vs : List Variable) (k : ℕ) → k < length vs → is_named (slice_get (changed (λ (v : Variable). record v { is_named = true }) k vs) k) ≡ true
+now_named vs k below =
+    let v = get_or vs k (record { type = None; is_taken = false; is_named = false }) in
+    let there : slice_get vs k ≡ Some v = slice_get-get_or vs k _ below in
+    ap (λ x. is_named (slice_get (changed_by (λ (v : Variable). record v { is_named = true }) x k vs) k)) there ∙ ap is_named (set_there vs k v (record v { is_named = true }) there)
+
+variable_typed : (e : Ending) (c : Scope) (slot : ℕ) (is_const : Bool) (s : State) → At e c s → slot < length s.slots → Fits e (term_meant 0 (Some (means.Variable slot is_const)) s).1 →
+    TermFits c (term_meant 0 (Some (means.Variable slot is_const)) s).0
+variable_typed e c slot is_const s at below fit =
     let t = (change_variable slot (λ v. record v { is_named = true }) s).1 in
     let here = at_step e c s t (change_variable_steps slot (λ v. record v { is_named = true }) named_keeps s) at in
     let k = get_or t.slots slot 0 in
     let there : slice_get t.slots slot ≡ Some k = slice_get-get_or t.slots slot 0 below in
     let same : variable_in t.slots slot ≡ k = ap (λ o. unwrap_or o 0) there in
+    let named : is_named (slice_get t.variables (variable_in t.slots slot)) ≡ true =
+    now_named s.variables (variable_in s.slots slot) (subst (λ k. k < length s.variables) (sym same) (at.names.variables slot k there)) in
+    let in_scope = there_shown e.hides t.slots slot k (λ q last. false≢true (sym (fit.unnamed q slot last) ∙ named)) there in
     let type = option_and_then (λ (v : Variable). v.type) (slice_get t.variables (variable_in t.slots slot)) in
     map_holds (λ u. type ≡ Some u) (OperandIsTyped c) (λ u. Place (place u (local slot)) is_const) type (found type) (λ u q. (
       record { type = type_now t.variables k; is_object = is_object_then e k },
-      ap (λ (c : Scope). slice_get c.slots slot) (sym here.scope) ∙ slot_there e t.variables t.slots slot k there,
+      ap (λ (c : Scope). slice_get c.slots slot) (sym here.scope) ∙ slot_there e t.variables (shown e.hides t.slots) slot k in_scope,
       ap (λ n. unwrap_or (option_and_then (λ (v : Variable). v.type) (slice_get t.variables n)) int) (sym same) ∙ ap (λ o. unwrap_or o int) q,
     ))
 
@@ -80,7 +98,7 @@ global_typed e c k is_const s at fit = by_global (slice_get s.globals k) refl
 term_meant_typed : (e : Ending) (c : Scope) (name : Name) (offset : ℕ) (m : Option Meaning) (s : State) → At e c s → meaning s.scopes name ≡ m → Fits e (term_meant offset m s).1 →
     TermFits c (term_meant offset m s).0
 term_meant_typed e c name offset None s at q fit = tt
-term_meant_typed e c name offset (Some (means.Variable slot is_const)) s at q fit = variable_typed e c slot is_const s at (at.names.slots name slot is_const q)
+term_meant_typed e c name offset (Some (means.Variable slot is_const)) s at q fit = variable_typed e c slot is_const s at (at.names.slots name slot is_const q) fit
 term_meant_typed e c name offset (Some (means.Global k is_const)) s at q fit = global_typed e c k is_const s at fit
 term_meant_typed e c name offset (Some (means.Function k)) s at q fit = tt
 
@@ -151,11 +169,6 @@ measured_term e c offset (Some t) s at =
 
 -- ---- addresses
 
-set_there : {A : Type 0} → (xs : List A) (k : ℕ) (x y : A) → slice_get xs k ≡ Some x → slice_get (slice_set xs k y) k ≡ Some y
-set_there [] k x y e = absurd (cc)
-set_there (z ∷ xs) zero x y e = refl
-set_there (z ∷ xs) (suc k) x y e = set_there xs k x y e
-
 -- a variable whose address was taken is an object at the end
 taken_is_object : (e : Ending) (slot : ℕ) (s : State) (v : Variable) → slice_get s.variables (variable_in s.slots slot) ≡ Some v →
     Fits e (change_variable slot (λ v. record v { is_taken = true }) s).1 →
@@ -169,7 +182,7 @@ taken_is_object e slot s v there fit =
 -- what an address is taken of has one
 place_taken : (e : Ending) (c : Scope) (p : PlaceTree) (is_const : Bool) (s : State) → At e c s → ObjectsFit c → PlaceIsTyped c p → Fits e (take_address (Place p is_const) s).1 → HasAddress c p
 place_taken e c (place t (local slot)) is_const s at fit ty ends =
-    let r = slot_at e s.variables s.slots slot ty.0 (ap (λ (c : Scope). slice_get c.slots slot) at.scope ∙ ty.1) in
+    let r = slot_in e s slot ty.0 (ap (λ (c : Scope). slice_get c.slots slot) at.scope ∙ ty.1) in
     let same : variable_in s.slots slot ≡ r.variable = ap (λ o. unwrap_or o 0) r.there in
     let v = get_or s.variables r.variable (record { type = None; is_taken = false; is_named = false }) in
     let there : slice_get s.variables r.variable ≡ Some v = slice_get-get_or s.variables r.variable _ (at.names.variables slot r.variable r.there) in

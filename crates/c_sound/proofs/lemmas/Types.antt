@@ -42,7 +42,7 @@ pub record TypeThere (P : TypeTree → Type 0) (t : MaybeType) : Type 0 where
   pub there : t ≡ Some type
   pub holds : P type
 
-starred_typed : (x : Specified) (stars offset : ℕ) (s : State) → IsNoArray x.type → (starred x stars offset s).1.broken ≡ None → TypeThere IsNoArray (starred x stars offset s).0
+pub starred_typed : (x : Specified) (stars offset : ℕ) (s : State) → IsNoArray x.type → (starred x stars offset s).1.broken ≡ None → TypeThere IsNoArray (starred x stars offset s).0
 starred_typed x zero offset s h clean = by_tag x.undeclared clean
   where
     by_tag : (u : Option ℕ) → (unstarred u x.type s).1.broken ≡ None → TypeThere IsNoArray (unstarred u x.type s).0
@@ -98,7 +98,7 @@ size_by_fits w n e = by_test (nat_le 1 w && nat_le w most_type_bytes) refl e
         grind (arith, nat_tests, low, same)
     by_test false q r = absurd (cc)
 
-size_fits : (offset : ℕ) (a : Term) (s : State) → (expressions.size offset a s).1.broken ≡ None → IsSize (expressions.size offset a s).0
+pub size_fits : (offset : ℕ) (a : Term) (s : State) → (expressions.size offset a s).1.broken ≡ None → IsSize (expressions.size offset a s).0
 size_fits offset a s clean = by_word (term_constant a) clean
   where
     by_size : (o : MaybeSize) → ((n : ℕ) → o ≡ Some n → 1 ≤ n) → (or_broken NotConstant offset o s).1.broken ≡ None → IsSize (or_broken NotConstant offset o s).0
@@ -189,7 +189,7 @@ pub record OpenLaid (defs : Definitions) (may : Bool) (u : TypeTree) : Type 0 wh
 abbrev pub LaidOrOpen : Definitions → Bool → TypeTree → Type 0
 LaidOrOpen defs may u = IsLaidOut defs u ⊎ OpenLaid defs may u
 
-small_typed : (defs : Definitions) (may : Bool) (offset : ℕ) (u : TypeTree) (s : State) → s.structs ≡ defs → (is_complete defs u ≡ true) ⊎ Open defs may u → (small_type offset u s).1.broken ≡ None →
+pub small_typed : (defs : Definitions) (may : Bool) (offset : ℕ) (u : TypeTree) (s : State) → s.structs ≡ defs → (is_complete defs u ≡ true) ⊎ Open defs may u → (small_type offset u s).1.broken ≡ None →
     TypeThere (LaidOrOpen defs may) (small_type offset u s).0
 small_typed defs may offset u s same h clean = by_test (is_large s.structs (with_elements u)) refl clean
   where
