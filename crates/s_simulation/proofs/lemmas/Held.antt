@@ -13,7 +13,7 @@ use Rattle.g_mean.specs.Data.{Datum, val, memory, input, at_port, value_of}
 use Rattle.s_linear.specs.Linear.{Code}
 use Rattle.s_linear.specs.Lines.{numbers_from}
 use Rattle.s_linear.specs.Meaning.{State, Context, written, set, instrs_run, code_run}
-use Rattle.s_sequence.specs.Sequence.{values_in, value_args, kept, moves, instrs_then}
+use Rattle.s_sequence.specs.Sequence.{values_in, value_args, kept, moves, name_at, instrs_then}
 
 -- ---- names and moves
 
@@ -221,3 +221,26 @@ take-values [] (suc p) = refl
 take-values (ValueKind ∷ ks) (suc p) = ap suc (take-values ks p)
 take-values (Memory ∷ ks) (suc p) = take-values ks p
 take-values (Io ∷ ks) (suc p) = take-values ks p
+
+-- what the inputs of an op carry, by their places
+pub held-tied : (first next : ℕ) (ks : List Kind) (ds : List Datum) (xs : List ℕ) (s : State) → Held first next ks ds xs s → (p : ℕ) → slice_get ks p ≡ Some ValueKind →
+    Tied first next (at_port ds p) (name_at xs p) s
+held-tied first next [] [] [] s h p e = absurd cc
+held-tied first next (ValueKind ∷ ks) (d ∷ ds) (x ∷ xs) s h zero e = h.0
+held-tied first next (Memory ∷ ks) (d ∷ ds) (x ∷ xs) s h zero e = absurd cc
+held-tied first next (Io ∷ ks) (d ∷ ds) (x ∷ xs) s h zero e = absurd cc
+held-tied first next (ValueKind ∷ ks) (d ∷ ds) (x ∷ xs) s h (suc p) e = held-tied first next ks ds xs s h.1 p e
+held-tied first next (Memory ∷ ks) (d ∷ ds) (x ∷ xs) s h (suc p) e = held-tied first next ks ds xs s h.1 p e
+held-tied first next (Io ∷ ks) (d ∷ ds) (x ∷ xs) s h (suc p) e = held-tied first next ks ds xs s h.1 p e
+held-tied first next _ _ _ s h p e = absurd h
+
+pub held-state : (k : Kind) → IsState k → (first next : ℕ) (ks : List Kind) (ds : List Datum) (xs : List ℕ) (s : State) → Held first next ks ds xs s → (p : ℕ) → slice_get ks p ≡ Some k →
+    at_port ds p ≡ state_datum k s
+held-state k state first next [] [] [] s h p e = absurd cc
+held-state k state first next (ValueKind ∷ ks) (d ∷ ds) (x ∷ xs) s h zero e = let same : k ≡ ValueKind = cc in absurd (subst IsState same state)
+held-state k state first next (Memory ∷ ks) (d ∷ ds) (x ∷ xs) s h zero e = let same : Memory ≡ k = cc in subst (λ j. d ≡ state_datum j s) same h.0
+held-state k state first next (Io ∷ ks) (d ∷ ds) (x ∷ xs) s h zero e = let same : Io ≡ k = cc in subst (λ j. d ≡ state_datum j s) same h.0
+held-state k state first next (ValueKind ∷ ks) (d ∷ ds) (x ∷ xs) s h (suc p) e = held-state k state first next ks ds xs s h.1 p e
+held-state k state first next (Memory ∷ ks) (d ∷ ds) (x ∷ xs) s h (suc p) e = held-state k state first next ks ds xs s h.1 p e
+held-state k state first next (Io ∷ ks) (d ∷ ds) (x ∷ xs) s h (suc p) e = held-state k state first next ks ds xs s h.1 p e
+held-state k state first next _ _ _ s h p e = absurd h
