@@ -1,5 +1,5 @@
 -- The ops without regions: a node and its instruction agree.
-use Rattle.std.proofs.Common.{◌≡◌, ◌⊎◌, ◌<◌, ◌≤◌, inl, inr, ℕ, zero, suc, ◌+◌, ◌-◌, ◌%◌, ◌^◌, ◌==◌, Bool, true, false, cond, List, [], ◌∷◌, ◌++◌, map, length, Option, None, Some, option_map, slice_get, refl, sym, ap, ap₂, subst, ◌∙◌, arith}
+use Rattle.std.proofs.Common.{◌≡◌, ◌<◌, ◌≤◌, inl, inr, ℕ, zero, suc, ◌-◌, ◌^◌, Bool, true, false, cond, List, [], ◌∷◌, ◌++◌, map, length, Option, None, Some, option_map, slice_get, refl, sym, ap₂, subst, arith}
 use Rattle.std.specs.Prelude.{replicate}
 use Rattle.val_core.specs.declared.values.Value.{Value}
 use Rattle.val_core.specs.declared.values.Value.TheVariants.{Num, At, Bad}
@@ -8,17 +8,16 @@ use Rattle.val_core.specs.declared.operation.Op2.{Op2}
 use Rattle.val_core.specs.Values.{IsLessDefined, value1, value2}
 use Rattle.val_core.specs.Memory.{Memory as Blocks, load, store, takes_store, block_named, pointers_equal}
 use Rattle.val_core.specs.Objects.{Addresses}
-use Rattle.val_core.specs.Events.{wrote, took}
-use Rattle.val_core.specs.Answers.{Answer, Returned, Cut, Exited, Undefined, then_on, on_number, on_defined}
+use Rattle.val_core.specs.Answers.{Answer, Returned, then_on, on_defined}
 use Rattle.val_core.specs.Within.{Given}
 use Rattle.val_core.proofs.lemmas.Answers.{then_nothing}
 use Rattle.val_core.proofs.lemmas.Values.{keeps_less_defined1, keeps_less_defined2}
 use Rattle.g_graph.specs.declared.op.Kind.{Kind}
 use Rattle.g_graph.specs.declared.op.Kind.TheVariants.{Value as ValueKind, Memory, Io}
-use Rattle.g_graph.specs.declared.op.Op.TheVariants.{Const, Undef, Local, Delta, Bin, Un, Load, Store, Clear, PtrEq, Apply, Put, Exit, Get}
+use Rattle.g_graph.specs.declared.op.Op.TheVariants.{Bin, Un, Load, Store, Clear, PtrEq, Apply, Put, Exit, Get}
 use Rattle.g_graph.specs.Scope.{is_of}
 use Rattle.g_graph.specs.WellFormed.{some_of}
-use Rattle.g_mean.specs.Data.{Datum, val, memory, input, at_port, value_of, value_at, on_memory, on_input}
+use Rattle.g_mean.specs.Data.{Datum, val, memory, input, at_port, value_at}
 use Rattle.g_mean.specs.Meaning as graph
 use Rattle.g_mean.specs.Meaning.{Meaning, done, given, given_memory}
 use Rattle.s_linear.specs.Meaning as linear

@@ -1,21 +1,20 @@
 -- What holds between the nodes of a region while the region and its linear code run.
-use Rattle.std.proofs.Common.{◌≡◌, ◌⊎◌, ◌<◌, ◌≤◌, inl, inr, ℕ, zero, suc, ◌+◌, ◌==◌, Bool, true, false, ◌&&◌, not, ◌||◌, cond, List, [], ◌∷◌, ◌++◌, map, length, slice_get, Option, None, Some, refl, sym, ap, subst, ◌∙◌, arith}
+use Rattle.std.proofs.Common.{◌≡◌, ◌⊎◌, ◌<◌, ◌≤◌, inl, inr, ℕ, zero, suc, ◌+◌, ◌==◌, Bool, true, false, not, ◌||◌, cond, List, [], ◌∷◌, ◌++◌, map, slice_get, Option, None, Some, refl, sym, ap, subst, ◌∙◌, arith}
 use Rattle.std.specs.Prelude.{take}
 use Rattle.std.proofs.lemmas.Bool.{and_parts}
-use Rattle.val_core.specs.declared.values.Value.{Value}
 use Rattle.g_graph.specs.declared.op.Kind.{Kind}
 use Rattle.g_graph.specs.declared.op.Kind.TheVariants.{Value as ValueKind, Memory, Io}
 use Rattle.g_graph.specs.declared.op.Op.{Op}
 use Rattle.g_graph.specs.declared.op.Origin.{Origin}
 use Rattle.g_graph.specs.declared.op.Origin.TheVariants.{Arg, Out}
-use Rattle.g_graph.specs.Plain.{region, NodeTree, node, NodeTrees, no_nodes, node_then, RegionTrees, nodes_of, id_of}
+use Rattle.g_graph.specs.Plain.{region, NodeTree, node, NodeTrees, no_nodes, RegionTrees, nodes_of, id_of}
 use Rattle.g_graph.specs.Signatures.{joined, outputs_of, output_kinds, kind_after, result_kinds}
 use Rattle.g_graph.specs.Scope.{is_of, known, last_index, origin_at, state_after, last_state}
 use Rattle.g_graph.specs.WellFormed.{all_of, some_of, is_last, gives, returns_state}
 use Rattle.g_graph.specs.Change.{has_node}
 use Rattle.g_graph.proofs.lemmas.Indexes.{same_number_true, index_kind, index_none, GivesState, KeepsState, state_cases, last_gives}
 use Rattle.g_graph.proofs.lemmas.Unique.{same_number, equal_back}
-use Rattle.g_mean.specs.Data.{Datum, val, memory, input, at_port}
+use Rattle.g_mean.specs.Data.{Datum, at_port}
 use Rattle.g_mean.specs.Meaning.{Outputs, no_outputs, extended, read}
 use Rattle.s_linear.specs.Meaning.{State}
 use Rattle.s_sequence.specs.Sequence.{values_in, value_args, Names, no_names, outputs_at, named, name_of}
