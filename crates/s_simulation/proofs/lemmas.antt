@@ -4,3 +4,4 @@ pub mod Running
 pub mod Ops
 pub mod Claims
 pub mod Branches
+pub mod Loops
