@@ -5,3 +5,5 @@ pub mod Ops
 pub mod Claims
 pub mod Branches
 pub mod Loops
+pub mod Nodes
+pub mod Regions
