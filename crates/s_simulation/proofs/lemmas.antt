@@ -7,3 +7,4 @@ pub mod Branches
 pub mod Loops
 pub mod Nodes
 pub mod Regions
+pub mod Functions

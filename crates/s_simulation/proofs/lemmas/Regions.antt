@@ -31,7 +31,7 @@ use Rattle.s_simulation.proofs.lemmas.Branches.{region-tests, branch-agrees, All
 use Rattle.s_simulation.proofs.lemmas.Loops.{loop-agrees}
 use Rattle.s_simulation.proofs.lemmas.Nodes.{NodeTests, node-tests, AtMostOnce, times-more, not-before, advance, theta-states, inputs-held, op-agrees, gamma-agrees}
 
-every-here : (test : RegionTree → Bool) (r : RegionTree) → every_region test r ≡ true → test r ≡ true
+pub every-here : (test : RegionTree → Bool) (r : RegionTree) → every_region test r ≡ true → test r ≡ true
 every-here test (region args nodes results) t = (and_parts (test (region args nodes results)) (every_in_nodes test nodes) t).0
 
 module _ (objects n : ℕ) (call : ℕ → Meaning) (callees : ℕ → Call) (addresses : Addresses) (agree : AllCallsAgree call callees) where
