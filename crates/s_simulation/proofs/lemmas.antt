@@ -8,3 +8,4 @@ pub mod Loops
 pub mod Nodes
 pub mod Regions
 pub mod Functions
+pub mod Written

@@ -58,12 +58,15 @@ abbrev pub after_instrs : NameSet → List Instr → NameSet
 after_instrs D [] = D
 after_instrs D (i ∷ is) = after_instrs (after_instr D i) is
 
--- after a code, on each way through it: after a loop those of its moves in and of its body
+abbrev pub no_names : NameSet
+no_names x = ⊥
+
+-- After a code, on each way through it. Each turn of a loop writes what the moves in and the body write.
 abbrev mutual
   pub after_step : NameSet → Step → NameSet
   after_step D (plain i) x = after_instr D i x
   after_step D (choice p cs) x = after_each D cs x
-  after_step D (loop enter body p back) x = after_code (after_instrs D enter) body x
+  after_step D (loop enter body p back) x = after_code (after_instrs no_names enter) body x ⊎ D x
 
   pub after_code : NameSet → Code → NameSet
   after_code D no_steps x = D x
@@ -77,15 +80,15 @@ abbrev pub InstrsAreClosed : NameSet → List Instr → Type 0
 InstrsAreClosed D [] = Unit {0}
 InstrsAreClosed D (i ∷ is) = AreIn D (sources_of i) × InstrsAreClosed (after_instr D i) is
 
--- Where the names of `D` are written, each name that the code reads is written before. The moves back of a loop read what
--- its moves in or its body wrote, and write the names that the moves in wrote.
+-- Where the names of `D` are written, each name that the code reads is written before. A loop's body and its moves back read
+-- only what its moves in or its body wrote, and the moves back write the names that the moves in wrote.
 abbrev mutual
   pub StepIsClosed : NameSet → Step → Type 0
   StepIsClosed D (plain i) = AreIn D (sources_of i)
   StepIsClosed D (choice p cs) = D p × AreClosed D cs
   StepIsClosed D (loop enter body p back) =
-      InstrsAreClosed D enter × CodeIsClosed (after_instrs D enter) body × after_code (after_instrs D enter) body p
-      × InstrsAreClosed (after_code (after_instrs D enter) body) back × (targets_of back ≡ targets_of enter)
+      InstrsAreClosed D enter × CodeIsClosed (after_instrs no_names enter) body × after_code (after_instrs no_names enter) body p
+      × InstrsAreClosed (after_code (after_instrs no_names enter) body) back × (targets_of back ≡ targets_of enter)
 
   pub CodeIsClosed : NameSet → Code → Type 0
   CodeIsClosed D no_steps = Unit {0}

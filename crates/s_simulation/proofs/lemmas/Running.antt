@@ -55,7 +55,7 @@ joined-at (j ∷ ks) (suc p) k e = joined-at ks p k e
 
 -- ---- one more node
 
-kind-more : (before : List NodeTree) (x : NodeTree) (n p : ℕ) (found : Option Kind) →
+pub kind-more : (before : List NodeTree) (x : NodeTree) (n p : ℕ) (found : Option Kind) →
     kind_after (nodes_of (before ++ x ∷ [])) n p found ≡ cond (id_of x == n) (joined (slice_get (output_kinds x) p)) (kind_after (nodes_of before) n p found)
 kind-more [] x n p found = refl
 kind-more (y ∷ before) x n p found = kind-more before x n p (cond (id_of y == n) (joined (slice_get (output_kinds y) p)) found)
