@@ -1,1 +1,4 @@
+pub mod Alike
 mod Examples
+pub mod Needs
+pub mod Standing
