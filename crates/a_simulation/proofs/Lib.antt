@@ -1,4 +1,6 @@
 pub mod Alike
+pub mod Defined
 mod Examples
 pub mod Needs
+pub mod Positions
 pub mod Standing
