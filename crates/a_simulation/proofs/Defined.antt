@@ -70,7 +70,7 @@ instrs_defined (i ∷ is) D N k h x n =
 abbrev AreDefined : Code → Type 1
 AreDefined c = (D N : NameSet) → IsClosedCode D c → IsSubset N (joined D (written_by_code c)) → IsSubset (needed_by_code c N) D
 
-label_in : (body : Code) (p : ℕ) (back : List Instr) (E D N : NameSet) → AreDefined body → IsClosedCode E body → joined E (written_by_code body) p
+pub label_in : (body : Code) (p : ℕ) (back : List Instr) (E D N : NameSet) → AreDefined body → IsClosedCode E body → joined E (written_by_code body) p
     → AreClosedInstrs (joined E (written_by_code body)) back → IsSubset N (joined (joined D E) (written_by_code body)) → IsSubset (at_label body p back N) (joined D E)
 label_in body p back E D N are b q r h x l = are (joined D E) (after_body p back N) (wider_code body E (joined D E) (λ y e. inr e) b) after x l
   where

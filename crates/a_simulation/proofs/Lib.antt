@@ -3,4 +3,5 @@ pub mod Defined
 mod Examples
 pub mod Needs
 pub mod Positions
+pub mod Safe
 pub mod Standing

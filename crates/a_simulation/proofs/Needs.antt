@@ -19,7 +19,7 @@ pub need_instrs : (is : List Instr) (M N K : NameSet) → IsWithin M N K → IsW
 need_instrs [] M N K h x m = h x m
 need_instrs (i ∷ is) M N K h x m = need_instr i (needed_by_instrs is M) (needed_by_instrs is N) K (need_instrs is M N K h) x m
 
-need_after : (p : ℕ) (back : List Instr) (M N K : NameSet) → IsWithin M N K → IsWithin (after_body p back M) (after_body p back N) K
+pub need_after : (p : ℕ) (back : List Instr) (M N K : NameSet) → IsWithin M N K → IsWithin (after_body p back M) (after_body p back N) K
 need_after p back M N K h x (inl e) = inl (inl e)
 need_after p back M N K h x (inr (inl m)) =
     elim (h x m) [
