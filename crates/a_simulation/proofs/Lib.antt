@@ -1,6 +1,7 @@
 pub mod Alike
 pub mod Defined
 mod Examples
+pub mod Functions
 pub mod Needs
 pub mod Positions
 pub mod Safe

@@ -1,7 +1,7 @@
 //! Laws of code over places, for the proofs of the crates above: each is the contract of a function
 //! that does nothing.
 
-ghost use Rattle.a_simulation.specs.Laws.{SafeCodeRunsAlike, IntervalsSpanCode, PlacesApartAreSafe};
+ghost use Rattle.a_simulation.specs.Laws.{SafeCodeRunsAlike, IntervalsSpanCode, PlacesApartAreSafe, FunctionsAgree};
 
 /// Where places are safe for a code and what it needs holds in its place what it holds as a name,
 /// the code does the same over places: events, memory, input and status are equal, and so is what
@@ -20,4 +20,10 @@ pub fn intervals_span_code()
 /// its end.
 pub fn places_apart_are_safe()
     ensures { PlacesApartAreSafe }
+{}
+
+/// Of each list of closed functions, calls over names and calls over places are equal at every
+/// bound, on all arguments, memories and inputs.
+pub fn functions_agree()
+    ensures { FunctionsAgree }
 {}
