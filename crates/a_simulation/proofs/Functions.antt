@@ -15,8 +15,8 @@ use Rattle.a_simulation.specs.Placed.{placed_code, place_of, placed, put_params,
 use Rattle.a_simulation.specs.Need.{IsIn, NameSet, these, joined, needed_by_code, SafeCode}
 use Rattle.a_simulation.specs.Closed.{written_by_code, below, IsClosed, AreClosed}
 use Rattle.a_simulation.specs.Spans.{StandAt, ArePlacesApart}
-use Rattle.a_simulation.specs.Laws.{AreAlike, Holds, FunctionsAgree}
-use Rattle.a_simulation.proofs.Alike.{code_alike}
+use Rattle.a_simulation.specs.Laws.{Same, Holds, FunctionsAgree}
+use Rattle.a_simulation.proofs.Runs.{code_same}
 use Rattle.a_simulation.proofs.Defined.{code_defined}
 use Rattle.a_simulation.proofs.Positions.{begun, later}
 use Rattle.a_simulation.proofs.Safe.{safe_code}
@@ -54,7 +54,7 @@ in_numbers x from (suc n) a b =
 
 -- ---- one function
 
-same_results : {A B C : Type 0} (R : A → B → Type 0) (a : Answer A) (b : Answer B) (g : A → C) (h : B → C) → AreAlike R a b
+same_results : {A B C : Type 0} (R : A → B → Type 0) (a : Answer A) (b : Answer B) (g : A → C) (h : B → C) → Same R a b
     → ((x : A) (y : B) → R x y → g x ≡ h y) → then_on a (λ x. Returned (g x) []) ≡ then_on b (λ y. Returned (h y) [])
 same_results R (Returned x o) (Returned y p) g h k e = λ j. before (k.1 j) (Returned (e x y k.0 j) [])
 same_results R (Cut o) (Cut p) g h k e = λ j. Cut (k j)
@@ -106,19 +106,19 @@ module _ (f : LinearFunction) (is_closed : IsClosed f) where
       same_results (Holds (place_of f) value_only) (code_run c f.code s) (code_run c (placed_code (place_of f) f.code) q)
       (λ t. record { value = t.names f.value; memory = closed (length m) (length f.objects) t.memory; input = t.input })
       (λ u. record { value = u.names (place_of f f.value); memory = closed (length m) (length f.objects) u.memory; input = u.input })
-      (code_alike c (place_of f) f.code value_only s q is_safe (record { values = params_hold vs; memory = refl; input = refl }))
+      (code_same c (place_of f) f.code value_only s q is_safe (record { values = params_hold vs; memory = refl; input = refl }))
       (λ t u h j. record { value = h.values f.value (inl refl) j; memory = closed (length m) (length f.objects) (h.memory j); input = h.input j })
 
 -- ---- calls
 
-entered_alike : (fs : List LinearFunction) → AreClosed fs → (k n : ℕ) (callees : ℕ → Call) (global : ℕ → Value) (vs : List Value) (m : Memory) (i : List ℕ)
+entered_each : (fs : List LinearFunction) → AreClosed fs → (k n : ℕ) (callees : ℕ → Call) (global : ℕ → Value) (vs : List Value) (m : Memory) (i : List ℕ)
     → entered n callees global (slice_get fs k) vs m i ≡ placed_entered n callees global (slice_get (map placed fs) k) vs m i
-entered_alike [] h k n callees global vs m i = refl
-entered_alike (f ∷ fs) h zero n callees global vs m i = entered_same f h.0 n callees global vs m i
-entered_alike (f ∷ fs) h (suc k) n callees global vs m i = entered_alike fs h.1 k n callees global vs m i
+entered_each [] h k n callees global vs m i = refl
+entered_each (f ∷ fs) h zero n callees global vs m i = entered_same f h.0 n callees global vs m i
+entered_each (f ∷ fs) h (suc k) n callees global vs m i = entered_each fs h.1 k n callees global vs m i
 
 pub functions_agree : FunctionsAgree
 functions_agree fs h global zero f vs m i = refl
 functions_agree fs h global (suc n) f vs m i =
-    ap (active f) (entered_alike fs h f n (calls fs global n) global vs m i)
+    ap (active f) (entered_each fs h f n (calls fs global n) global vs m i)
     ∙ (λ j. active f (placed_entered n (λ g us l k. functions_agree fs h global n g us l k j) global (slice_get (map placed fs) f) vs m i))

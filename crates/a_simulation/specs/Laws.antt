@@ -13,12 +13,12 @@ use Rattle.a_simulation.specs.Closed.{written_by_code, IsClosedCode, AreClosed}
 use Rattle.a_simulation.specs.Spans.{StandAt, IsBegunAt, ArePlacesApart, SpansCode}
 
 -- the answers are equal, but that their results relate by `R`
-abbrev pub AreAlike : {A B : Type 0} → (A → B → Type 0) → Answer A → Answer B → Type 0
-AreAlike R (Returned x o) (Returned y p) = R x y × (o ≡ p)
-AreAlike R (Cut o) (Cut p) = o ≡ p
-AreAlike R (Exited o s) (Exited p t) = (o ≡ p) × (s ≡ t)
-AreAlike R (Undefined o) (Undefined p) = o ≡ p
-AreAlike R _ _ = ⊥
+abbrev pub Same : {A B : Type 0} → (A → B → Type 0) → Answer A → Answer B → Type 0
+Same R (Returned x o) (Returned y p) = R x y × (o ≡ p)
+Same R (Cut o) (Cut p) = o ≡ p
+Same R (Exited o s) (Exited p t) = (o ≡ p) × (s ≡ t)
+Same R (Undefined o) (Undefined p) = o ≡ p
+Same R _ _ = ⊥
 
 -- the place of each of these names holds what the name holds; memory and input are the same
 pub record Holds (place : ℕ → ℕ) (N : NameSet) (s q : State) : Type 0 where
@@ -26,13 +26,13 @@ pub record Holds (place : ℕ → ℕ) (N : NameSet) (s q : State) : Type 0 wher
   pub memory : s.memory ≡ q.memory
   pub input : s.input ≡ q.input
 
--- Safe code runs alike: where what is needed holds in its place what it holds as a name, so does after the code what is needed
--- then, and events, memory, input and status are equal.
-abbrev pub SafeCodeRunsAlike : Type 0
-SafeCodeRunsAlike =
+-- Safe code does the same over places: where what it needs holds in its place what it holds as a name, so does what is needed
+-- after it, and events, memory, input and status are equal.
+abbrev pub SafeCodeDoesTheSame : Type 0
+SafeCodeDoesTheSame =
     (context : Context) (place : ℕ → ℕ) (code : Code) (after : List ℕ) (s q : State) → SafeCode place code (these after)
     → Holds place (needed_by_code code (these after)) s q
-    → AreAlike (Holds place (these after)) (code_run context code s) (code_run context (placed_code place code) q)
+    → Same (Holds place (these after)) (code_run context code s) (code_run context (placed_code place code) q)
 
 -- Places that are apart are safe for closed code that the intervals span: what was written before has started, and what is
 -- needed after goes on to the end and was written before or by the code.

@@ -1,13 +1,13 @@
 //! Laws of code over places, for the proofs of the crates above: each is the contract of a function
 //! that does nothing.
 
-ghost use Rattle.a_simulation.specs.Laws.{SafeCodeRunsAlike, IntervalsSpanCode, PlacesApartAreSafe, FunctionsAgree};
+ghost use Rattle.a_simulation.specs.Laws.{SafeCodeDoesTheSame, IntervalsSpanCode, PlacesApartAreSafe, FunctionsAgree};
 
 /// Where places are safe for a code and what it needs holds in its place what it holds as a name,
 /// the code does the same over places: events, memory, input and status are equal, and so is what
 /// is needed after it.
-pub fn safe_code_runs_alike()
-    ensures { SafeCodeRunsAlike }
+pub fn safe_code_does_the_same()
+    ensures { SafeCodeDoesTheSame }
 {}
 
 /// The intervals of the names of a list of lines span each code whose lines stand in it.
