@@ -1,4 +1,4 @@
--- Worked rows: what functions do over names and over their places, and three choices that would be wrong.
+-- Worked rows: what functions do over names and over their places; two wrong choices of places, and two codes that are not closed.
 use Rattle.std.specs.Prelude.{◌≡◌, refl, ℕ, Bool, ◌==◌, nat_lt, ◌&&◌, List, [], ◌∷◌, map, slice_index}
 use Rattle.g_graph.specs.WellFormed.{some_of}
 use Rattle.val_core.specs.declared.values.Value.{Value}
@@ -148,3 +148,23 @@ one-names = refl
 
 one-places : over_places 1 (one ∷ []) [] [] ≡ Undefined (called 0 [])
 one-places = refl
+
+-- ---- do { a = a - k; } while (a); with k from outside: the moves in do not write it, so its interval ends within the body.
+
+abbrev outer : LinearFunction
+outer = record {
+  number = 0;
+  params = 1;
+  objects = [];
+  code =
+      step_then (plain (const 1 2)) (step_then (loop (move 2 0 ∷ [])
+      (step_then (plain (binary Sub 3 2 1)) (step_then (plain (const 4 9)) (step_then (plain (move 5 3)) no_steps)))
+      3 (move 2 5 ∷ [])) no_steps);
+  value = 5;
+}
+
+outer-names : over_names 5 (outer ∷ []) (Num 5 ∷ []) [] ≡ Cut (called 0 [])
+outer-names = refl
+
+outer-places : over_places 5 (outer ∷ []) (Num 5 ∷ []) [] ≡ gives 0
+outer-places = refl
