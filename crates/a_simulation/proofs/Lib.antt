@@ -1,0 +1,8 @@
+pub mod Defined
+mod Examples
+pub mod Functions
+pub mod Needs
+pub mod Positions
+pub mod Runs
+pub mod Safe
+pub mod Standing

@@ -1,0 +1,5 @@
+pub mod Placed
+pub mod Need
+pub mod Closed
+pub mod Spans
+pub mod Laws
