@@ -1,0 +1,6 @@
+pub mod lemmas
+mod ArmLemmas
+mod ItemLemmas
+mod WordLemmas
+mod LoopLemmas
+mod LabelLemmas

@@ -1,0 +1,196 @@
+ghost use Rattle.std.specs.Prelude.{◌≡◌, IfOk, OnOk};
+ghost use Rattle.c_ast.specs.Expressions.{list_tree};
+ghost use Rattle.c_ast.specs.Statements.{stmt_tree};
+ghost use Rattle.c_elaboration.specs.Statements.{statement, if_stmt, with_else};
+ghost use Rattle.c_statement.specs.Allowed.{jumps_of};
+ghost use Rattle.c_statement.specs.Parts.{if_statement, else_statement};
+ghost use Rattle.c_typed.specs.Typed.{if_else, null};
+
+use crate::blocks::block;
+use crate::conditions::{condition_at, value_statement};
+use crate::jumps::Jumps;
+use crate::loops::{do_statement, for_statement, while_statement};
+use crate::switches::switch_statement;
+use c_ast::{ExprList, Stmt};
+use c_clause::{jump, returned};
+use c_state::{MaybeType, State};
+use c_typed::{StmtForm, TExpr, TStmt};
+use no_memory::NoMemory;
+use std::alloc::Global;
+
+/// What a statement is, in a function with a result of the type that it gives (ISO/IEC 9899:2011,
+/// 6.8).
+#[cycle(statement)]
+#[tactic(auto, using(crate::proofs::ArmLemmas::arms))]
+pub(crate) fn statement(
+    x: &Stmt,
+    state: &mut State,
+    jumps: Jumps,
+    gives: &MaybeType,
+) -> Result<TStmt, NoMemory>
+    ensures value { IfOk result
+        (λ r. r ≡ (statement (jumps_of jumps gives.now) (stmt_tree x.now) state.old).0) }
+    ensures state { OnOk result
+        (state.new ≡ (statement (jumps_of jumps gives.now) (stmt_tree x.now) state.old).1) }
+{
+    match x {
+        Stmt::Null(_) => Ok(TStmt {
+            form: StmtForm::Null,
+        }),
+        Stmt::Expr { value, .. } => value_statement(state, value),
+        Stmt::Block(x) => block(x, state, jumps, gives),
+        Stmt::If {
+            keyword,
+            condition,
+            then,
+            otherwise,
+            ..
+        } => {
+            let s = if_statement(then.get(), state, jumps, gives, keyword.at, condition)?;
+            match otherwise {
+                Some(x) => else_statement(x.get().body.get(), state, jumps, gives, s),
+                None => Ok(s),
+            }
+        }
+        Stmt::While {
+            keyword,
+            condition,
+            body,
+            ..
+        } => while_statement(body.get(), state, gives, keyword.at, condition),
+        Stmt::Do {
+            body,
+            until,
+            condition,
+            ..
+        } => do_statement(body.get(), state, gives, until.at, condition),
+        Stmt::For {
+            keyword,
+            header,
+            body,
+            ..
+        } => for_statement(body.get(), state, gives, keyword.at, header.clauses.get()),
+        Stmt::Break { keyword, .. } => {
+            Ok(jump(state, jumps.may_break, keyword.at, StmtForm::Break))
+        }
+        Stmt::Continue { keyword, .. } => {
+            Ok(jump(state, jumps.may_continue, keyword.at, StmtForm::Continue))
+        }
+        Stmt::Return { keyword, value, .. } => returned(state, gives, keyword.at, value),
+        Stmt::Switch {
+            keyword,
+            subject,
+            groups,
+            ..
+        } => switch_statement(groups.as_slice(), state, jumps, gives, keyword.at, subject),
+    }
+}
+
+// An `if` at an offset without its `else` (6.8.4.1).
+#[cycle(statement)]
+fn if_statement(
+    x: &Stmt,
+    state: &mut State,
+    jumps: Jumps,
+    gives: &MaybeType,
+    offset: u32,
+    condition: &ExprList,
+) -> Result<TStmt, NoMemory>
+    ensures value { IfOk result (λ r. r ≡ (if_statement (jumps_of jumps gives.now) offset
+        (list_tree condition.now) (stmt_tree x.now) state.old).0) }
+    ensures state { OnOk result (state.new ≡ (if_statement (jumps_of jumps gives.now) offset
+        (list_tree condition.now) (stmt_tree x.now) state.old).1) }
+{
+    let c = condition_at(state, offset, condition)?;
+    match statement(x, state, jumps, gives) {
+        Ok(s) => if_stmt(state.alloc(), c, s),
+        Err(fault) => {
+            drop(c);
+            Err(fault)
+        }
+    }
+}
+
+fn if_stmt(alloc: Global, c: Option<TExpr>, s: TStmt) -> Result<TStmt, NoMemory>
+    ensures { IfOk result (λ r. r ≡ if_stmt c s) }
+{
+    match c {
+        Some(c) => if_then(alloc, c, s),
+        None => {
+            drop(s);
+            Ok(TStmt {
+                form: StmtForm::Null,
+            })
+        }
+    }
+}
+
+fn if_then(alloc: Global, c: TExpr, s: TStmt) -> Result<TStmt, NoMemory>
+    ensures { IfOk result (λ r. r ≡ if_else c s null) }
+{
+    let then = match Box::new(alloc, s) {
+        Ok(then) => then,
+        Err(_) => {
+            drop(c);
+            return Err(NoMemory);
+        }
+    };
+    let null = TStmt {
+        form: StmtForm::Null,
+    };
+    match Box::new(alloc, null) {
+        Ok(otherwise) => Ok(TStmt {
+            form: StmtForm::IfElse(c, then, otherwise),
+        }),
+        Err(_) => {
+            drop(c);
+            Err(NoMemory)
+        }
+    }
+}
+
+// The `else` of an `if`.
+#[cycle(statement)]
+fn else_statement(
+    x: &Stmt,
+    state: &mut State,
+    jumps: Jumps,
+    gives: &MaybeType,
+    s: TStmt,
+) -> Result<TStmt, NoMemory>
+    ensures value { IfOk result (λ r. r ≡
+        (else_statement (jumps_of jumps gives.now) s (stmt_tree x.now) state.old).0) }
+    ensures state { OnOk result (state.new ≡
+        (else_statement (jumps_of jumps gives.now) s (stmt_tree x.now) state.old).1) }
+{
+    match statement(x, state, jumps, gives) {
+        Ok(otherwise) => with_else(state.alloc(), s, otherwise),
+        Err(fault) => {
+            drop(s);
+            Err(fault)
+        }
+    }
+}
+
+fn with_else(alloc: Global, s: TStmt, otherwise: TStmt) -> Result<TStmt, NoMemory>
+    ensures { IfOk result (λ r. r ≡ with_else s otherwise) }
+{
+    match s.form {
+        StmtForm::IfElse(c, then, none) => {
+            drop(none);
+            match Box::new(alloc, otherwise) {
+                Ok(otherwise) => Ok(TStmt {
+                    form: StmtForm::IfElse(c, then, otherwise),
+                }),
+                Err(_) => {
+                    drop(c);
+                    Err(NoMemory)
+                }
+            }
+        }
+        form => {
+            drop(otherwise);
+            Ok(TStmt { form })
+        }
+    }
+}
