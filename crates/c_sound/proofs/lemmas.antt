@@ -39,3 +39,4 @@ pub mod DeclaredFunctions
 pub mod FunctionBodies
 pub mod TypedFunctions
 pub mod FunctionMoved
+pub mod FileSteps
