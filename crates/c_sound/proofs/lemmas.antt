@@ -40,3 +40,5 @@ pub mod FunctionBodies
 pub mod TypedFunctions
 pub mod FunctionMoved
 pub mod FileSteps
+pub mod FileShapes
+pub mod Accepted
