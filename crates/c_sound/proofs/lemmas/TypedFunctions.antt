@@ -33,7 +33,7 @@ use Rattle.c_sound.proofs.lemmas.Names.{get_map}
 use Rattle.c_sound.proofs.lemmas.Params.{ParamsAre}
 use Rattle.c_sound.proofs.lemmas.FunctionBodies.{ending_of, Ended, params_length, tree_type, params_scalar, map_length, all_fit, range, slots_range, Entry, entry_slots, entry_param, entry_named, entry_laid, entry_names}
 
-map_back : {A B : Type 0} → (f : A → B) (xs : List A) (k : ℕ) (y : B) → slice_get (map f xs) k ≡ Some y → (x : A) × (slice_get xs k ≡ Some x) × (y ≡ f x)
+pub map_back : {A B : Type 0} → (f : A → B) (xs : List A) (k : ℕ) (y : B) → slice_get (map f xs) k ≡ Some y → (x : A) × (slice_get xs k ≡ Some x) × (y ≡ f x)
 map_back f [] k y h = absurd (cc)
 map_back f (x ∷ xs) zero y h = (x, refl, let same : f x ≡ y = cc in sym same)
 map_back f (x ∷ xs) (suc k) y h = map_back f xs k y h
