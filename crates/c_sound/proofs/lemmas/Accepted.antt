@@ -1,11 +1,10 @@
 -- What the checker accepts is well typed.
-use Rattle.std.proofs.Common.{◌≡◌, ◌≤◌, ◌<◌, ◌⊎◌, inl, inr, ℕ, ◌+◌, ◌*◌, ◌/◌, ◌^◌, zero, suc, Bool, true, false, cond, List, [], ◌∷◌, ◌++◌, length, map, refl, sym, ap, ◌∙◌, subst, arith, mul_comm}
-use Rattle.std.specs.Prelude.{slice_get, nat_lt, ◌==◌, ◌&&◌, ◌||◌, All, codes, Option, None, Some, option_map, option_and_then, unwrap_or, Result, Ok, Err, if◌then◌else◌}
-use Rattle.std.specs.Map.{lookup}
+use Rattle.std.proofs.Common.{◌≡◌, ◌≤◌, ◌⊎◌, inl, inr, ℕ, ◌+◌, ◌*◌, ◌/◌, zero, suc, Bool, true, false, cond, List, [], ◌∷◌, ◌++◌, length, map, refl, sym, ap, ◌∙◌, subst, arith, mul_comm}
+use Rattle.std.specs.Prelude.{slice_get, nat_lt, ◌==◌, ◌||◌, All, codes, Option, None, Some, option_map, option_and_then, unwrap_or, Ok, Err, if◌then◌else◌}
 use Rattle.std.specs.Option.{option_or}
 use Rattle.std.proofs.lemmas.Bool.{false≢true, and_parts}
 use Rattle.std.proofs.lemmas.Bool.Decides.{nat_tests}
-use Rattle.limits.specs.Limits.{most_tokens, most_functions, most_parameters, most_global_bytes, most_type_bytes, counted_bytes}
+use Rattle.limits.specs.Limits.{most_tokens, most_functions, most_parameters, most_global_bytes, counted_bytes}
 use Rattle.c_lex.specs.declared.token.Token.{Token}
 use Rattle.c_ast.specs.Tree.{Tree, Node, Cons}
 use Rattle.c_ast.specs.Nonterminals as class
@@ -13,9 +12,9 @@ use Rattle.c_ast.specs.Productions as l
 use Rattle.c_ast.specs.Grammar as grammar
 use Rattle.c_ast.specs.Shape.{FollowsGrammar}
 use Rattle.c_ast.specs.Spelling.{spelled, spell}
-use Rattle.c_type.specs.Trees.{TypeTree, void_type}
-use Rattle.c_type.specs.Layout.{Definitions, is_complete, size, leaves, IsLaidOut}
-use Rattle.c_typed.specs.Typed.{FunctionTree, GlobalTree, VariableTree, ProgramTree}
+use Rattle.c_type.specs.Trees.{void_type}
+use Rattle.c_type.specs.Layout.{Definitions, is_complete, size, leaves}
+use Rattle.c_typed.specs.Typed.{FunctionTree, GlobalTree, VariableTree}
 use Rattle.c_typed.specs.WellTyped.{int, signature_of, params_of, WrittenFits, GlobalIsTyped, HasMain, IsWellTyped}
 use Rattle.c_static.specs.Types.{same_type}
 use Rattle.c_static.proofs.lemmas.SameType.{same_type-true}
@@ -29,16 +28,15 @@ use Rattle.c_elaboration.specs.declared.meaning.Meaning.TheVariants as means
 use Rattle.c_elaboration.specs.Refusals.{Refusal, no_main, above_limit}
 use Rattle.c_elaboration.specs.State.{Declared, Global, State}
 use Rattle.c_elaboration.specs.Calls.{predeclared}
-use Rattle.c_elaboration.specs.Limits.{many_functions, first_above, global_bytes, passing, many_global_bytes, object_bytes, above_limits}
-use Rattle.c_elaboration.specs.Check.{defined_by, with_defined, defined_in, predeclared_names, initial_state, externals, global_tree, program_of, is_main, has_main, or_refused, judged, check}
+use Rattle.c_elaboration.specs.Limits.{many_functions, first_above, global_bytes, passing, many_global_bytes, above_limits}
+use Rattle.c_elaboration.specs.Check.{defined_by, with_defined, defined_in, predeclared_names, initial_state, externals, global_tree, program_of, is_main, has_main, or_refused, judged}
 use Rattle.c_elaboration.specs.CheckLaws.{IsInRange, AcceptedAreWellTyped}
 use Rattle.c_sound.proofs.lemmas.States.{AllTypes, stay, FunctionFits}
 use Rattle.c_sound.proofs.lemmas.There.{FunctionTyped}
 use Rattle.c_sound.proofs.lemmas.Shapes.{in_range, well_shaped}
 use Rattle.c_sound.proofs.lemmas.Parts.{Layouts}
-use Rattle.c_sound.proofs.lemmas.GoesLocals.{declarations}
-use Rattle.c_sound.proofs.lemmas.File.{Onward, onward_step, FunctionKnown, File}
-use Rattle.c_sound.proofs.lemmas.Names.{same_is, same_self, name_at, get_map}
+use Rattle.c_sound.proofs.lemmas.File.{Onward, onward_step, File}
+use Rattle.c_sound.proofs.lemmas.Names.{same_self, name_at, get_map}
 use Rattle.c_sound.proofs.lemmas.FunctionBodies.{ending_of, Ended, map_length}
 use Rattle.c_sound.proofs.lemmas.TypedFunctions.{map_back}
 use Rattle.c_sound.proofs.lemmas.Locals.{get_append_cases}

@@ -1,13 +1,9 @@
 -- External declarations lead from one state of a file to the next.
-use Rattle.std.proofs.Common.{◌≡◌, ◌≤◌, ℕ, ◌+◌, Bool, true, false, List, [], ◌∷◌, length, refl, sym, ap, ◌∙◌, arith}
-use Rattle.std.specs.Prelude.{slice_get, Option, None, Some, is_some, if◌then◌else◌}
+use Rattle.std.proofs.Common.{◌≡◌, ◌≤◌, ℕ, Bool, true, false, [], refl, sym, ap, ◌∙◌, arith}
+use Rattle.std.specs.Prelude.{slice_get, Option, None, is_some, if◌then◌else◌}
 use Rattle.std.proofs.lemmas.Bool.{false≢true}
-use Rattle.c_lex.specs.declared.token.Token.{Token}
 use Rattle.c_ast.specs.Productions as l
-use Rattle.c_ast.specs.Nonterminals as class
-use Rattle.c_ast.specs.Tree.{Tree, Leaf, Node, Nil, Cons}
-use Rattle.c_ast.specs.Grammar as grammar
-use Rattle.c_ast.specs.Spelling.{spelled}
+use Rattle.c_ast.specs.Tree.{Tree, Node, Cons}
 use Rattle.c_scope.specs.Scopes.{Name}
 use Rattle.c_elaboration.specs.State.{State, pure}
 use Rattle.c_elaboration.specs.Leaves.{offset_of, begin_of, name_of, count_of, is_present}
@@ -23,7 +19,7 @@ use Rattle.c_sound.proofs.lemmas.Parts.{Layouts}
 use Rattle.c_sound.proofs.lemmas.Texts.{same_globals, no_texts, tagged_quiet, specified_type_quiet}
 use Rattle.c_sound.proofs.lemmas.GoesLocals.{declarations}
 use Rattle.c_sound.proofs.lemmas.File.{Onward, onward_step, onward_then, File, Moved, moved_then, moved_step}
-use Rattle.c_sound.proofs.lemmas.Structs.{HasFirst, IsStruct, struct_moved}
+use Rattle.c_sound.proofs.lemmas.Structs.{HasFirst, struct_moved}
 use Rattle.c_sound.proofs.lemmas.GlobalDeclared.{global_declarator_moved, more_globals_moved}
 use Rattle.c_sound.proofs.lemmas.FunctionMoved.{names_of, AreTyped, ExternalOut, moved_out, IsBody, defined_name, function_moves}
 use Rattle.c_sound.proofs.lemmas.FunctionBodies.{Ended}

@@ -1,17 +1,14 @@
 -- A function leads from one state of a file to the next.
-use Rattle.std.proofs.Common.{◌≡◌, ◌≤◌, ◌<◌, ◌⊎◌, inl, inr, ℕ, ◌+◌, ◌^◌, zero, suc, Bool, true, false, List, [], ◌∷◌, ◌++◌, length, map, refl, sym, ap, ◌∙◌, subst, arith}
+use Rattle.std.proofs.Common.{◌≡◌, ◌≤◌, ◌⊎◌, inl, inr, ℕ, suc, Bool, true, false, List, [], ◌∷◌, ◌++◌, length, map, refl, sym, ap, ◌∙◌, subst, arith}
 use Rattle.std.specs.Prelude.{slice_get, ◌||◌, Option, None, Some, unwrap_or, if◌then◌else◌}
-use Rattle.std.specs.List.{list_any}
 use Rattle.c_ast.specs.Productions as l
 use Rattle.c_ast.specs.Tree.{Tree, Node, Cons}
 use Rattle.c_type.specs.Trees.{TypeTree, void_type}
-use Rattle.c_type.specs.Layout.{Definitions}
 use Rattle.c_type.specs.WellDefined.{AreDefinitions}
 use Rattle.c_typed.specs.Typed.{FunctionTree}
 use Rattle.c_typed.specs.WellTyped.{IsScalarOrVoid, params_of, FunctionIsTyped}
 use Rattle.c_scope.specs.Scopes.{Name, same_name, meaning, outer}
 use Rattle.c_scope.specs.Names.{has_name, with_name}
-use Rattle.c_elaboration.specs.declared.meaning.Meaning.TheVariants as means
 use Rattle.c_elaboration.specs.State.{MaybeType, Declared, Variable, State}
 use Rattle.c_elaboration.specs.Leaves.{end_of}
 use Rattle.c_elaboration.specs.Specifiers.{Specified}
@@ -19,17 +16,17 @@ use Rattle.c_elaboration.specs.DeclaredTypes.{result_type}
 use Rattle.c_elaboration.specs.Statements.{Jumps, items}
 use Rattle.c_elaboration.specs.Externals.{Param, params, declare_function, bind_params, name_params, function_tree, function_body, is_block, function}
 use Rattle.c_elaboration.specs.Check.{with_defined, program_of}
-use Rattle.c_sound.proofs.lemmas.States.{AllTypes, Step}
+use Rattle.c_sound.proofs.lemmas.States.{AllTypes}
 use Rattle.c_sound.proofs.lemmas.Terms.{InRange, get_end}
 use Rattle.c_sound.proofs.lemmas.Later.{Later, later_then, HasScope, entered, left}
 use Rattle.c_sound.proofs.lemmas.StatementSteps.{WellShaped, items_later}
 use Rattle.c_sound.proofs.lemmas.Locals.{get_append_cases}
-use Rattle.c_sound.proofs.lemmas.Types.{IsNoArray, TypeThere}
+use Rattle.c_sound.proofs.lemmas.Types.{IsNoArray}
 use Rattle.c_sound.proofs.lemmas.Parts.{Layouts}
 use Rattle.c_sound.proofs.lemmas.Texts.{Texts, same_globals, texts_then}
 use Rattle.c_sound.proofs.lemmas.GoesLocals.{declarations}
 use Rattle.c_sound.proofs.lemmas.GoesStatements.{items_goes}
-use Rattle.c_sound.proofs.lemmas.File.{Onward, onward_step, onward_then, still_declared, FunctionKnown, known_later, File, SameNames, file_more, Moved, moved_step, get_more, texts_keep}
+use Rattle.c_sound.proofs.lemmas.File.{Onward, onward_step, onward_then, still_declared, FunctionKnown, known_later, File, file_more, Moved, moved_step, get_more}
 use Rattle.c_sound.proofs.lemmas.Params.{result_type_steps, result_type_quiet, result_type_typed, ParamsAre, params_same, params_out}
 use Rattle.c_sound.proofs.lemmas.Names.{same_is}
 use Rattle.c_sound.proofs.lemmas.DeclaredFunctions.{Core, core_of, file_cleared, FunctionOut, declare_function_broken, declare_function_out}
