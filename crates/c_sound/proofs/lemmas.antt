@@ -39,3 +39,6 @@ pub mod DeclaredFunctions
 pub mod FunctionBodies
 pub mod TypedFunctions
 pub mod FunctionMoved
+pub mod FileSteps
+pub mod FileShapes
+pub mod Accepted

@@ -1,12 +1,12 @@
 -- A declaration in a block leads to a scope with one more variable.
-use Rattle.std.proofs.Common.{◌≡◌, ◌≤◌, ◌<◌, ◌⊎◌, inl, inr, ℕ, zero, suc, Bool, true, false, List, [], ◌∷◌, ◌++◌, length, refl, sym, ap, ◌∙◌, subst, arith, eqb-true, eq-eqb}
-use Rattle.std.specs.Prelude.{◌==◌, slice_get, slice_set, not, Option, None, Some, option_and_then, unwrap_or}
+use Rattle.std.proofs.Common.{◌≡◌, ◌<◌, inl, ℕ, zero, suc, Bool, true, false, List, [], ◌∷◌, ◌++◌, length, refl, sym, ap, ◌∙◌, subst, arith, eqb-true, eq-eqb}
+use Rattle.std.specs.Prelude.{◌==◌, slice_get, slice_set, Option, None, Some, option_and_then, unwrap_or}
 use Rattle.std.proofs.lemmas.Bool.{false≢true}
 use Rattle.c_ast.specs.Productions as l
 use Rattle.c_ast.specs.Tree.{Tree, Node, Cons}
 use Rattle.c_type.specs.Trees.{TypeTree, array_of}
 use Rattle.c_type.specs.WellDefined.{AreDefinitions}
-use Rattle.c_typed.specs.Typed.{InitialTree, no_initial, DeclarationTree, VariableTree}
+use Rattle.c_typed.specs.Typed.{no_initial, DeclarationTree, VariableTree}
 use Rattle.c_typed.specs.WellTyped.{Scope, Jumps, extended, int, IsBegunAs, InitialFits, initial_scope}
 use Rattle.c_static.specs.Types.{is_scalar}
 use Rattle.c_scope.specs.Scopes.{Name, meaning, is_declared}
@@ -17,12 +17,12 @@ use Rattle.c_elaboration.specs.DeclaredTypes.{object_type, small_type, type_if, 
 use Rattle.c_elaboration.specs.Initialisers.{Elements, initial, initialiser, completed}
 use Rattle.c_elaboration.specs.Leaves.{offset_of, name_of, count_of, is_present}
 use Rattle.c_elaboration.specs.Specifiers.{Specified, specified_type}
-use Rattle.c_elaboration.specs.Declarators.{open_dimensions, is_fixed, is_named, initialise_variable, variable_declared, variable_declarator, declarator, more_declarators, locals}
-use Rattle.c_sound.proofs.lemmas.States.{Ending, object_by, is_object_then, type_now, slots_in, shown, shown_append, scope_in, Step, Fits, VariableFitsNow, FunctionFits, NamesFit, names_step, At, at_step, structs_at, same_at, same_length}
+use Rattle.c_elaboration.specs.Declarators.{open_dimensions, is_fixed, is_named, initialise_variable, variable_declared, variable_declarator, declarator, more_declarators}
+use Rattle.c_sound.proofs.lemmas.States.{Ending, object_by, is_object_then, type_now, slots_in, shown, shown_append, Step, Fits, VariableFitsNow, FunctionFits, NamesFit, names_step, At, at_step, structs_at, same_at, same_length}
 use Rattle.c_sound.proofs.lemmas.Steps.{breaks_if_steps, specified_type_steps}
 use Rattle.c_sound.proofs.lemmas.StatementSteps.{MayBegin, WellShaped, open_dimensions_steps, object_type_steps, initialise_later, declarator_later, more_declarators_later, Begun, begun_step, change_new, declare_later, declare_slots, initialiser_steps}
 use Rattle.c_sound.proofs.lemmas.Terms.{InRange, get_end, set_there}
-use Rattle.c_sound.proofs.lemmas.Later.{Later, later_then, add_variable_later, more_slots}
+use Rattle.c_sound.proofs.lemmas.Later.{later_then, add_variable_later, more_slots}
 use Rattle.c_sound.proofs.lemmas.Types.{IsNoArray, specified_no_array, open_dimensions_fit, TypeThere, object_type_typed, LaidOrOpen}
 use Rattle.c_sound.proofs.lemmas.Statements.{Ends, ends_before, lead_joined, ItemsOut, LocalsAreTyped}
 use Rattle.c_sound.proofs.lemmas.Parts.{Layouts}

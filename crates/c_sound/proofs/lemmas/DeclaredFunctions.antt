@@ -1,12 +1,11 @@
 -- A function is declared, again with the same types, and defined once.
-use Rattle.std.proofs.Common.{◌≡◌, ◌<◌, ◌⊎◌, inl, inr, ℕ, zero, suc, Bool, true, false, List, [], ◌∷◌, ◌++◌, length, map, refl, sym, ap, ◌∙◌, subst, eqb-true, eq-eqb}
+use Rattle.std.proofs.Common.{◌≡◌, ◌⊎◌, inl, inr, ℕ, Bool, true, false, List, [], ◌∷◌, ◌++◌, length, map, refl, sym, ap, ◌∙◌, subst, eqb-true, eq-eqb}
 use Rattle.std.specs.Prelude.{◌==◌, ◌&&◌, ◌||◌, not, slice_get, slice_set, Option, None, Some}
 use Rattle.std.proofs.lemmas.Bool.{false≢true, and_parts}
 use Rattle.c_type.specs.Trees.{TypeTree, void_type}
 use Rattle.c_type.specs.WellDefined.{AreDefinitions}
 use Rattle.c_typed.specs.Typed.{FunctionTree}
 use Rattle.c_typed.specs.WellTyped.{int, params_of}
-use Rattle.c_static.specs.Types.{same_type}
 use Rattle.c_static.proofs.lemmas.SameType.{same_type-true}
 use Rattle.c_scope.specs.Scopes.{Name, Scope, meaning, with_declaration}
 use Rattle.c_elaboration.specs.declared.meaning.Meaning.{Meaning}
@@ -22,7 +21,7 @@ use Rattle.c_sound.proofs.lemmas.Labels.{not_wrong}
 use Rattle.c_sound.proofs.lemmas.Locals.{declared_meaning}
 use Rattle.c_sound.proofs.lemmas.Declared.{set_other}
 use Rattle.c_sound.proofs.lemmas.There.{GlobalTyped, FunctionTyped}
-use Rattle.c_sound.proofs.lemmas.File.{StillDeclared, still_declared, Onward, GlobalFits, GlobalsFit, FunctionKnown, File, get_more}
+use Rattle.c_sound.proofs.lemmas.File.{StillDeclared, still_declared, Onward, GlobalsFit, FunctionKnown, File, get_more}
 use Rattle.c_sound.proofs.lemmas.Names.{kept_new, new_meaning}
 
 -- ---- a file, whatever its variables

@@ -1,18 +1,17 @@
 -- States of the checker between the declarations of a file.
-use Rattle.std.proofs.Common.{◌≡◌, ◌≤◌, ◌<◌, ◌⊎◌, inl, inr, ℕ, ◌+◌, ◌*◌, ◌^◌, zero, suc, Bool, true, false, List, [], ◌∷◌, ◌++◌, length, map, refl, sym, ap, ◌∙◌, subst, arith, append_assoc}
-use Rattle.std.specs.Prelude.{slice_get, Option, None, Some}
-use Rattle.std.proofs.lemmas.Option.{slice_get_within}
+use Rattle.std.proofs.Common.{◌≡◌, ◌≤◌, ◌⊎◌, inl, inr, ℕ, ◌+◌, zero, suc, Bool, true, List, [], ◌∷◌, ◌++◌, length, map, refl, sym, ap, ◌∙◌, subst, arith, append_assoc}
+use Rattle.std.specs.Prelude.{slice_get, None, Some}
 use Rattle.val_core.specs.declared.leaf.Leaf.{Leaf}
 use Rattle.c_type.specs.declared.scalar.Scalar.TheVariants as scalar
-use Rattle.c_type.specs.Trees.{TypeTree, void_type, scalar_type, array_of}
-use Rattle.c_type.specs.Layout.{Definitions, is_complete, leaves, leaves_at}
+use Rattle.c_type.specs.Trees.{TypeTree, void_type, scalar_type}
+use Rattle.c_type.specs.Layout.{Definitions, is_complete, leaves}
 use Rattle.c_type.specs.WellDefined.{AreDefinitions}
 use Rattle.c_typed.specs.Typed.{FunctionTree, WrittenTree, word_at, link_at, characters_at}
 use Rattle.c_typed.specs.WellTyped.{int, AreCharactersAt, WrittenFits, params_of}
 use Rattle.c_scope.specs.Scopes.{Name, Scope, meaning}
 use Rattle.c_elaboration.specs.declared.meaning.Meaning.{Meaning}
 use Rattle.c_elaboration.specs.declared.meaning.Meaning.TheVariants as means
-use Rattle.c_elaboration.specs.State.{MaybeType, Declared, Global, Variable, State}
+use Rattle.c_elaboration.specs.State.{Declared, Global, Variable, State}
 use Rattle.c_elaboration.specs.Operands.{string_type}
 use Rattle.c_sound.proofs.lemmas.States.{AllTypes, declared_as, AreSame, Step}
 use Rattle.c_sound.proofs.lemmas.There.{GlobalTyped, FunctionTyped}
@@ -237,17 +236,17 @@ moved_step s t a b = record {
   broken = a.broken;
   go = λ clean h. (
     onward_step s t a,
-      file_more s t
-      (record {
-        scopes = a.scopes;
-        variables = no_variables_after s.variables t.variables h.variables a.variables;
-        slots = a.slots ∙ h.slots;
-        declared = a.declared;
-        texts = b;
-        structs = ([], a.structs);
-        good = subst AreDefinitions (sym a.structs) h.structs;
-      })
-      (λ k f q. known_later s t f a.scopes a.declared (h.functions k f (sym (ap (λ fs. slice_get fs k) a.functions) ∙ q))) h,
+    file_more s t
+        (record {
+          scopes = a.scopes;
+          variables = no_variables_after s.variables t.variables h.variables a.variables;
+          slots = a.slots ∙ h.slots;
+          declared = a.declared;
+          texts = b;
+          structs = ([], a.structs);
+          good = subst AreDefinitions (sym a.structs) h.structs;
+        })
+        (λ k f q. known_later s t f a.scopes a.declared (h.functions k f (sym (ap (λ fs. slice_get fs k) a.functions) ∙ q))) h,
     a.functions,
   );
 }

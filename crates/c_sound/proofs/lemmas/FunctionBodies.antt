@@ -1,33 +1,26 @@
 -- A function that is defined is typed.
-use Rattle.std.proofs.Common.{◌≡◌, ◌≤◌, ◌<◌, ◌⊎◌, inl, inr, ℕ, ◌+◌, ◌^◌, zero, suc, Bool, true, false, List, [], ◌∷◌, ◌++◌, length, map, take, drop, refl, sym, ap, ◌∙◌, subst, arith, append_assoc, append-nil}
-use Rattle.std.specs.Prelude.{slice_get, not, ◌||◌, Option, None, Some, is_some, unwrap_or, option_and_then}
-use Rattle.std.proofs.lemmas.Bool.{false≢true}
-use Rattle.std.proofs.lemmas.Option.{slice_get_within}
-use Rattle.c_ast.specs.Productions as l
-use Rattle.c_ast.specs.Tree.{Tree, Node, Cons}
+use Rattle.std.proofs.Common.{◌≡◌, ◌≤◌, ◌<◌, ◌⊎◌, inl, inr, ℕ, ◌+◌, zero, suc, Bool, true, false, List, [], ◌∷◌, ◌++◌, length, map, take, drop, refl, sym, ap, ◌∙◌, subst, arith, append_assoc, append-nil}
+use Rattle.std.specs.Prelude.{slice_get, not, ◌||◌, Option, None, Some, is_some, unwrap_or}
 use Rattle.c_type.specs.Trees.{TypeTree, void_type, scalar_type, pointer_to}
 use Rattle.c_type.specs.Layout.{Definitions, IsLaidOut}
 use Rattle.c_type.specs.WellDefined.{AreDefinitions}
-use Rattle.c_typed.specs.Typed.{FunctionTree, VariableTree, ItemTrees, ProgramTree}
-use Rattle.c_typed.specs.WellTyped as well
-use Rattle.c_typed.specs.WellTyped.{int, Scope, IsScalar, IsScalarOrVoid, ItemsAreTyped, VariableFits, VariablesFit, AreScalar, params_of, signature_of, scope_of, FunctionIsTyped}
+use Rattle.c_typed.specs.Typed.{FunctionTree, VariableTree, ProgramTree}
+use Rattle.c_typed.specs.WellTyped.{IsScalar, VariableFits, VariablesFit, AreScalar, signature_of}
 use Rattle.c_static.specs.Types.{is_scalar}
 use Rattle.c_scope.specs.Scopes.{Name, meaning, with_declaration}
 use Rattle.c_elaboration.specs.declared.meaning.Meaning.{Meaning}
 use Rattle.c_elaboration.specs.declared.meaning.Meaning.TheVariants as means
 use Rattle.c_elaboration.specs.declared.rule.Rule.TheVariants.{BadType}
-use Rattle.c_elaboration.specs.State.{MaybeType, Global, Variable, State, breaks_if}
-use Rattle.c_elaboration.specs.Statements.{Jumps, items}
-use Rattle.c_elaboration.specs.Externals.{Param, bind, bind_if, bind_params, name_params, variable_tree, function_tree}
-use Rattle.c_sound.proofs.lemmas.States.{Ending, object_by, is_object_then, type_now, slots_in, scope_in, Step, stay, step_then, Fits, VariableFitsNow, FunctionFits, NamesFit, At, AllTypes}
+use Rattle.c_elaboration.specs.State.{Variable, State, breaks_if}
+use Rattle.c_elaboration.specs.Externals.{Param, bind_if, bind_params, name_params, variable_tree}
+use Rattle.c_sound.proofs.lemmas.States.{Ending, object_by, is_object_then, type_now, slots_in, Step, stay, step_then, FunctionFits, NamesFit, AllTypes}
 use Rattle.c_sound.proofs.lemmas.Steps.{breaks_if_steps}
-use Rattle.c_sound.proofs.lemmas.Terms.{InRange}
-use Rattle.c_sound.proofs.lemmas.Later.{AreMore, Later, later_then, stay_still, step_still, declare_after, more_at, entered, HasScope}
+use Rattle.c_sound.proofs.lemmas.Later.{AreMore, Later, later_then, stay_still, declare_after, entered}
 use Rattle.c_sound.proofs.lemmas.Locals.{declared_meaning}
-use Rattle.c_sound.proofs.lemmas.Texts.{Texts, same_globals, no_texts, Quiet, breaks_if_quiet}
+use Rattle.c_sound.proofs.lemmas.Texts.{Quiet, breaks_if_quiet}
 use Rattle.c_sound.proofs.lemmas.Params.{ParamsAre}
 use Rattle.c_type.specs.declared.scalar.Scalar.TheVariants as scalar
-use Rattle.c_elaboration.specs.Check.{global_tree, program_of}
+use Rattle.c_elaboration.specs.Check.{program_of}
 use Rattle.c_sound.proofs.lemmas.Values.{scalar_is}
 use Rattle.c_sound.proofs.lemmas.There.{FunctionTyped}
 use Rattle.c_sound.proofs.lemmas.Goes.{Named, AreLaid}

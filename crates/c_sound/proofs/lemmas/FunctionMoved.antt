@@ -1,17 +1,14 @@
 -- A function leads from one state of a file to the next.
-use Rattle.std.proofs.Common.{◌≡◌, ◌≤◌, ◌<◌, ◌⊎◌, inl, inr, ℕ, ◌+◌, ◌^◌, zero, suc, Bool, true, false, List, [], ◌∷◌, ◌++◌, length, map, refl, sym, ap, ◌∙◌, subst, arith}
+use Rattle.std.proofs.Common.{◌≡◌, ◌≤◌, ◌⊎◌, inl, inr, ℕ, suc, Bool, true, false, List, [], ◌∷◌, ◌++◌, length, map, refl, sym, ap, ◌∙◌, subst, arith}
 use Rattle.std.specs.Prelude.{slice_get, ◌||◌, Option, None, Some, unwrap_or, if◌then◌else◌}
-use Rattle.std.specs.List.{list_any}
 use Rattle.c_ast.specs.Productions as l
 use Rattle.c_ast.specs.Tree.{Tree, Node, Cons}
 use Rattle.c_type.specs.Trees.{TypeTree, void_type}
-use Rattle.c_type.specs.Layout.{Definitions}
 use Rattle.c_type.specs.WellDefined.{AreDefinitions}
 use Rattle.c_typed.specs.Typed.{FunctionTree}
 use Rattle.c_typed.specs.WellTyped.{IsScalarOrVoid, params_of, FunctionIsTyped}
 use Rattle.c_scope.specs.Scopes.{Name, same_name, meaning, outer}
 use Rattle.c_scope.specs.Names.{has_name, with_name}
-use Rattle.c_elaboration.specs.declared.meaning.Meaning.TheVariants as means
 use Rattle.c_elaboration.specs.State.{MaybeType, Declared, Variable, State}
 use Rattle.c_elaboration.specs.Leaves.{end_of}
 use Rattle.c_elaboration.specs.Specifiers.{Specified}
@@ -19,17 +16,17 @@ use Rattle.c_elaboration.specs.DeclaredTypes.{result_type}
 use Rattle.c_elaboration.specs.Statements.{Jumps, items}
 use Rattle.c_elaboration.specs.Externals.{Param, params, declare_function, bind_params, name_params, function_tree, function_body, is_block, function}
 use Rattle.c_elaboration.specs.Check.{with_defined, program_of}
-use Rattle.c_sound.proofs.lemmas.States.{AllTypes, Step}
+use Rattle.c_sound.proofs.lemmas.States.{AllTypes}
 use Rattle.c_sound.proofs.lemmas.Terms.{InRange, get_end}
 use Rattle.c_sound.proofs.lemmas.Later.{Later, later_then, HasScope, entered, left}
 use Rattle.c_sound.proofs.lemmas.StatementSteps.{WellShaped, items_later}
 use Rattle.c_sound.proofs.lemmas.Locals.{get_append_cases}
-use Rattle.c_sound.proofs.lemmas.Types.{IsNoArray, TypeThere}
+use Rattle.c_sound.proofs.lemmas.Types.{IsNoArray}
 use Rattle.c_sound.proofs.lemmas.Parts.{Layouts}
 use Rattle.c_sound.proofs.lemmas.Texts.{Texts, same_globals, texts_then}
 use Rattle.c_sound.proofs.lemmas.GoesLocals.{declarations}
 use Rattle.c_sound.proofs.lemmas.GoesStatements.{items_goes}
-use Rattle.c_sound.proofs.lemmas.File.{Onward, onward_step, onward_then, still_declared, FunctionKnown, known_later, File, SameNames, file_more, Moved, moved_step, get_more, texts_keep}
+use Rattle.c_sound.proofs.lemmas.File.{Onward, onward_step, onward_then, still_declared, FunctionKnown, known_later, File, file_more, Moved, moved_step, get_more}
 use Rattle.c_sound.proofs.lemmas.Params.{result_type_steps, result_type_quiet, result_type_typed, ParamsAre, params_same, params_out}
 use Rattle.c_sound.proofs.lemmas.Names.{same_is}
 use Rattle.c_sound.proofs.lemmas.DeclaredFunctions.{Core, core_of, file_cleared, FunctionOut, declare_function_broken, declare_function_out}
@@ -193,11 +190,11 @@ new_typed : (z : State) (new : FunctionTree) (fs : List FunctionTree) (m : ℕ) 
 new_typed z new fs m g a old (inl e) = old e
 new_typed z new fs m g a old (inr e) = subst (FunctionIsTyped (program_of z)) e.1 a
 
-block_out : (y : Layouts) (name : Name) (offset starts : ℕ) (r : MaybeType) (u : TypeTree) (ps : List Param) (f : Declared) (opening xs closing none : Tree) (s d : State) → f.is_defined ≡ true → r ≡ Some u →
-    IsScalarOrVoid u → InRange xs → WellShaped xs → declarations xs ≤ 200000 →
+block_out : (y : Layouts) (name : Name) (offset starts : ℕ) (r : MaybeType) (u : TypeTree) (ps : List Param) (f : Declared) (opening xs closing none : Tree) (s d : State) → f.is_defined ≡ true → unwrap_or r void_type ≡ u →
+    (d.broken ≡ None → (r ≡ Some u) × IsScalarOrVoid u) → InRange xs → WellShaped xs → declarations xs ≤ 200000 →
     (d.broken ≡ None → File s → Declaring name f u ps s d) → (d.broken ≡ None → s.broken ≡ None) →
     ExternalOut (Some name) s (record (function_body name offset starts r ps (Node l.Block (Cons opening (Cons xs (Cons closing none)))) d).1 { variables = [] })
-block_out y name offset starts r u ps f opening xs closing none s d defined result scalar range shape few declaring back =
+block_out y name offset starts r u ps f opening xs closing none s d defined is result range shape few declaring back =
     let j : Jumps = record { may_break = false; may_continue = false; result = r } in
     let n = (name_params ps d).1 in
     let sn = name_params_steps ps d in
@@ -210,7 +207,6 @@ block_out y name offset starts r u ps f opening xs closing none s d defined resu
     let new = function_tree name offset starts (end_of closing) r (length ps) i.1.variables i.0 in
     let b = record w { functions = w.functions ++ new ∷ [] } in
     let z1 = record b { variables = [] } in
-    let is : new.result ≡ u = ap (λ o. unwrap_or o void_type) result in
     let texts : Texts (entered n) i.1 = texts_then (entered n) t i.1 (same_globals (entered n) t bound.globals) goes.texts in
     let core_n : Declaring name f u ps s d → Core n =
     λ k.
@@ -259,6 +255,83 @@ block_out y name offset starts r u ps f opening xs closing none s d defined resu
           let b_to_z = onward_then b z1 z (cleared_onward b) onward in
           let at_end = b_to_z.functions (length w.functions) new (get_end w.functions new) in
           let most = e.few (length w.functions) new at_end in
-          let whole = body_typed y n t z ps xs r u name offset starts (end_of closing) e (onward_then n b z (n_to_b cn) b_to_z) (entry k) result scalar range shape clean b_to_z.globals (omega (arith, most, few)) in
+          let whole = body_typed y n t z ps xs r u name offset starts (end_of closing) e (onward_then n b z (n_to_b cn) b_to_z) (entry k) (result (clean_d clean)).0 (result (clean_d clean)).1 range shape clean b_to_z.globals (omega (arith, most, few)) in
           new_typed z new w.functions m g whole (λ q. typed_s m g (ap (λ fs. slice_get fs m) (sym old) ∙ q)) (get_append_cases w.functions new g m q);
     }
+
+-- ---- functions
+
+-- the state where the function is declared
+function_declaring : (name : Name) (offset : ℕ) (is_defined : Bool) (x : Specified) (stars : ℕ) (xs : Tree) (s : State) → IsNoArray x.type → InRange xs →
+    (let t = result_type offset x stars s in
+    let q = params xs (entered t.1) in
+    let l = left t.1 q.1 in
+    let f : Declared = record { result = t.0; params = map (λ (p : Param). p.type) q.0; is_defined = is_defined } in
+    let d = (declare_function name offset f l).1 in
+    d.broken ≡ None → File s → Declaring name f (unwrap_or t.0 void_type) q.0 s d)
+function_declaring name offset is_defined x stars xs s base r clean h =
+    let t = result_type offset x stars s in
+    let q = params xs (entered t.1) in
+    let l = left t.1 q.1 in
+    let f : Declared = record { result = t.0; params = map (λ (p : Param). p.type) q.0; is_defined = is_defined } in
+    let d = (declare_function name offset f l).1 in
+    let out = params_out xs (entered t.1) r in
+    let cq : q.1.broken ≡ None = declare_function_broken name offset f l clean in
+    let ct = out.later.broken cq in
+    let st = result_type_steps offset x stars s in
+    let first = moved_step s t.1 st (same_globals s t.1 (result_type_quiet offset x stars s)) in
+    let ft = (first.go ct h).1 in
+    let core_t = core_of t.1 ft in
+    let core_l = left_core t.1 q.1 core_t out.later out.texts in
+    let k = result_type_typed offset x stars s base ct in
+    let some : t.0 ≡ Some (unwrap_or t.0 void_type) = k.there ∙ ap Some (sym (ap (λ o. unwrap_or o void_type) k.there)) in
+    let are : ParamsAre q.0 q.1.variables = out.are cq [] (subst (ParamsAre []) (sym ft.variables) tt) in
+    let ts = params_have q.0 q.1.variables are in
+    let o = declare_function_out name offset f (unwrap_or t.0 void_type) ts.0 l some ts.1 core_l clean in
+    record {
+      core = core_of s h;
+      onward = onward_then s t.1 d (onward_step s t.1 st) (onward_then t.1 l d (left_onward t.1 q.1 (core_scope t.1 core_t) out.later) o.onward);
+      types = ts.0;
+      takes = ts.1;
+      base = l;
+      out = o;
+      before = core_l;
+      same = out.later.functions ∙ st.functions;
+      params = subst (ParamsAre q.0) (sym o.variables) are;
+    }
+
+plain_out : (name : Name) (f : Declared) (u : TypeTree) (ps : List Param) (s d : State) → (d.broken ≡ None → File s → Declaring name f u ps s d) → (d.broken ≡ None → s.broken ≡ None) →
+    ExternalOut None s (record d { variables = [] })
+plain_out name f u ps s d declaring back = record {
+  broken = back;
+  go = λ clean h.
+      let k = declaring clean h in
+      (onward_then s d (record d { variables = [] }) k.onward (cleared_onward d), file_cleared d k.out.core, ap names_of (k.out.functions ∙ k.same));
+  typed = λ z e clean h onward typed_s m g q. let k = declaring clean h in typed_s m g (ap (λ fs. slice_get fs m) (sym (k.out.functions ∙ k.same)) ∙ q);
+}
+
+pub function_moves : (y : Layouts) (starts : ℕ) (x : Specified) (stars : ℕ) (name : Name) (offset : ℕ) (xs body : Tree) (s : State) → IsNoArray x.type → InRange xs → InRange body → WellShaped body → IsBody body →
+    declarations body ≤ 200000 → ExternalOut (defined_name name body) s (function starts x stars name offset xs body s).1
+function_moves y starts x stars name offset xs (Node l.Block (Cons opening (Cons is (Cons closing none)))) s base rx r w b few =
+    let t = result_type offset x stars s in
+    let q = params xs (entered t.1) in
+    let l = left t.1 q.1 in
+    let f : Declared = record { result = t.0; params = map (λ (p : Param). p.type) q.0; is_defined = true } in
+    let d = (declare_function name offset f l).1 in
+    let out = params_out xs (entered t.1) rx in
+    let to_t : d.broken ≡ None → t.1.broken ≡ None = λ clean. out.later.broken (declare_function_broken name offset f l clean) in
+    block_out y name offset starts t.0 (unwrap_or t.0 void_type) q.0 f opening is closing none s d refl refl (λ clean.
+    let k = result_type_typed offset x stars s base (to_t clean) in
+    let value : unwrap_or t.0 void_type ≡ k.type = ap (λ o. unwrap_or o void_type) k.there in
+    (k.there ∙ ap Some (sym value), subst IsScalarOrVoid (sym value) k.holds)) r.1.0 w.1.0 (omega (arith, few)) (function_declaring name offset true x stars xs s base rx)
+    (λ clean. (result_type_steps offset x stars s).broken (to_t clean))
+function_moves y starts x stars name offset xs (Node l.Block children) s base rx r w b few = absurd b
+function_moves y starts x stars name offset xs body s base rx r w b few =
+    let t = result_type offset x stars s in
+    let q = params xs (entered t.1) in
+    let l = left t.1 q.1 in
+    let f : Declared = record { result = t.0; params = map (λ (p : Param). p.type) q.0; is_defined = is_block body } in
+    let d = (declare_function name offset f l).1 in
+    let out = params_out xs (entered t.1) rx in
+    plain_out name f (unwrap_or t.0 void_type) q.0 s d (function_declaring name offset (is_block body) x stars xs s base rx)
+    (λ clean. (result_type_steps offset x stars s).broken (out.later.broken (declare_function_broken name offset f l clean)))

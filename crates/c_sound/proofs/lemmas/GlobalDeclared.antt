@@ -1,11 +1,11 @@
 -- A declaration of globals leads from one state of a file to the next.
-use Rattle.std.proofs.Common.{◌≡◌, ◌⊎◌, inl, inr, ℕ, Bool, true, false, List, [], ◌∷◌, ◌++◌, length, refl, sym, ap, ◌∙◌, subst, arith}
-use Rattle.std.specs.Prelude.{slice_get, Option, None, Some, option_and_then}
+use Rattle.std.proofs.Common.{◌≡◌, ◌⊎◌, inl, inr, ℕ, Bool, true, false, [], ◌∷◌, length, refl, sym, ap, ◌∙◌, subst, arith}
+use Rattle.std.specs.Prelude.{slice_get, None, Some, option_and_then}
 use Rattle.std.proofs.lemmas.Bool.{false≢true}
 use Rattle.c_ast.specs.Productions as l
 use Rattle.c_ast.specs.Tree.{Tree, Node, Cons}
-use Rattle.c_type.specs.Trees.{TypeTree, array_of}
-use Rattle.c_type.specs.Layout.{is_complete, leaves, IsLaidOut}
+use Rattle.c_type.specs.Trees.{TypeTree}
+use Rattle.c_type.specs.Layout.{is_complete, leaves}
 use Rattle.c_type.specs.WellDefined.{AreDefinitions}
 use Rattle.c_typed.specs.Typed.{FunctionTree}
 use Rattle.c_typed.specs.WellTyped.{WrittenFits}
@@ -18,19 +18,19 @@ use Rattle.c_elaboration.specs.Leaves.{offset_of, name_of, count_of, is_present}
 use Rattle.c_elaboration.specs.Specifiers.{Specified}
 use Rattle.c_elaboration.specs.DeclaredTypes.{small_type, object_type}
 use Rattle.c_elaboration.specs.Initialisers.{Elements, value, initialiser, completed, written}
-use Rattle.c_elaboration.specs.Declarators.{open_dimensions, is_fixed, completed_type, initialise_global, global_declarator, global_declared, more_globals}
-use Rattle.c_sound.proofs.lemmas.States.{Step, stay, step_then, NamesFit}
-use Rattle.c_sound.proofs.lemmas.Steps.{breaks_if_steps, add_global_steps}
+use Rattle.c_elaboration.specs.Declarators.{open_dimensions, is_fixed, initialise_global, global_declarator, global_declared, more_globals}
+use Rattle.c_sound.proofs.lemmas.States.{stay, step_then, NamesFit}
+use Rattle.c_sound.proofs.lemmas.Steps.{breaks_if_steps}
 use Rattle.c_sound.proofs.lemmas.Terms.{InRange}
 use Rattle.c_sound.proofs.lemmas.Labels.{not_wrong}
 use Rattle.c_sound.proofs.lemmas.StatementSteps.{MayBegin, WellShaped, open_dimensions_steps, object_type_steps, initialiser_steps, completed_type_steps}
 use Rattle.c_sound.proofs.lemmas.There.{GlobalTyped, FunctionTyped}
-use Rattle.c_sound.proofs.lemmas.Types.{IsNoArray, open_dimensions_fit, TypeThere, object_type_typed, LaidOrOpen}
+use Rattle.c_sound.proofs.lemmas.Types.{IsNoArray, open_dimensions_fit, object_type_typed, LaidOrOpen}
 use Rattle.c_sound.proofs.lemmas.Parts.{Layouts}
 use Rattle.c_sound.proofs.lemmas.Locals.{Uncompleted, Completed, completed_fits, declared_meaning}
 use Rattle.c_sound.proofs.lemmas.Declared.{set_length, small_is, names_same}
-use Rattle.c_sound.proofs.lemmas.Texts.{Texts, same_globals, texts_then, no_texts, breaks_if_quiet}
-use Rattle.c_sound.proofs.lemmas.StatementTexts.{initialiser_texts, open_dimensions_texts, object_type_quiet, completed_type_quiet}
+use Rattle.c_sound.proofs.lemmas.Texts.{same_globals, texts_then, no_texts, breaks_if_quiet}
+use Rattle.c_sound.proofs.lemmas.StatementTexts.{initialiser_texts, open_dimensions_texts, object_type_quiet}
 use Rattle.c_sound.proofs.lemmas.Goes.{Named, names_typed, no_array_value}
 use Rattle.c_sound.proofs.lemmas.File.{Onward, still_declared, GlobalFits, FunctionKnown, File, Moved, moved_then, moved_step, nothing_at}
 use Rattle.c_sound.proofs.lemmas.Names.{kept_meaning}

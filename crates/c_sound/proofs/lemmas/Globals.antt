@@ -1,48 +1,34 @@
 -- Declarations of globals: what is written in them fits.
-use Rattle.std.proofs.Common.{◌≡◌, ◌≤◌, ◌<◌, ◌⊎◌, inl, inr, ℕ, ◌+◌, ◌*◌, ◌%◌, ◌^◌, zero, suc, Bool, true, false, List, [], ◌∷◌, ◌++◌, length, map, refl, sym, ap, ◌∙◌, subst, arith, eqb-true, eq-eqb}
-use Rattle.std.specs.Prelude.{◌==◌, slice_get, slice_set, Option, None, Some, option_and_then, unwrap_or}
+use Rattle.std.proofs.Common.{◌≡◌, ◌≤◌, ◌<◌, ◌⊎◌, inl, inr, ℕ, ◌+◌, ◌*◌, ◌^◌, suc, Bool, true, false, List, [], ◌∷◌, ◌++◌, length, map, refl, sym, ap, ◌∙◌, subst, arith, eqb-true, eq-eqb}
+use Rattle.std.specs.Prelude.{◌==◌, slice_get, slice_set, None, Some, unwrap_or}
 use Rattle.std.proofs.Math.Nat.{mod-lt}
 use Rattle.std.proofs.lemmas.Bool.{false≢true}
 use Rattle.std.proofs.lemmas.Option.{slice_get_within}
 use Rattle.val_core.specs.declared.leaf.Leaf.{Leaf}
-use Rattle.c_ast.specs.Productions as l
-use Rattle.c_ast.specs.Tree.{Tree, Node, Cons}
+use Rattle.c_ast.specs.Tree.{Tree}
 use Rattle.c_type.specs.declared.scalar.Scalar.{Scalar}
 use Rattle.c_type.specs.declared.scalar.Scalar.TheVariants as scalar
-use Rattle.c_type.specs.Trees.{TypeTree, void_type, scalar_type, pointer_to, array_of}
+use Rattle.c_type.specs.Trees.{TypeTree, void_type, scalar_type, pointer_to}
 use Rattle.c_type.specs.Layout.{is_complete, scalar_size, size, leaves, leaves_at}
 use Rattle.c_type.specs.WellDefined.{AreDefinitions}
-use Rattle.c_typed.specs.Typed as typed
-use Rattle.c_typed.specs.Typed.{ExprTree, expr, FormTree, address, place, PlaceTree, global, ElementTrees, no_elements, value_then, characters_then, WrittenTree}
+use Rattle.c_typed.specs.Typed.{ExprTree, expr, address, place, global, ElementTrees, no_elements, value_then, characters_then, WrittenTree}
 use Rattle.c_typed.specs.WellTyped.{Scope, IsScalar, type_of, ExprIsTyped, HasLeaf, ElementsFit, WrittenFits}
-use Rattle.c_scope.specs.Scopes.{Name, meaning, is_declared, with_declaration}
+use Rattle.c_scope.specs.Scopes.{Name, meaning, with_declaration}
 use Rattle.c_elaboration.specs.declared.meaning.Meaning.{Meaning}
 use Rattle.c_elaboration.specs.declared.meaning.Meaning.TheVariants as means
-use Rattle.c_elaboration.specs.declared.rule.Rule.TheVariants.{Redeclared}
-use Rattle.c_elaboration.specs.State.{MaybeType, Declared, Global, Variable, State, breaks_if, if_some, declare, changed_by, changed, add_global, change_global}
-use Rattle.c_elaboration.specs.Leaves.{offset_of, name_of, count_of, is_present}
-use Rattle.c_elaboration.specs.Specifiers.{Specified}
-use Rattle.c_elaboration.specs.DeclaredTypes.{small_type, object_type}
-use Rattle.c_elaboration.specs.Initialisers.{Elements, initialiser, completed, written_value, written_of, written}
-use Rattle.c_elaboration.specs.Declarators.{open_dimensions, is_fixed, completed_type, initialise_global, global_declarator, global_declared, more_globals}
+use Rattle.c_elaboration.specs.State.{Global, State, changed_by, changed, add_global, change_global}
+use Rattle.c_elaboration.specs.Initialisers.{Elements, initialiser, written_value, written_of, written}
 use Rattle.c_sound.specs.TypedOperands.{IfSome}
-use Rattle.c_sound.proofs.lemmas.States.{Ending, scope_in, AllTypes, Step, step_then, Fits, FunctionFits, NamesFit, At}
-use Rattle.c_sound.proofs.lemmas.Steps.{breaks_if_steps}
+use Rattle.c_sound.proofs.lemmas.States.{Ending, scope_in, Step, Fits, FunctionFits, NamesFit}
 use Rattle.c_sound.proofs.lemmas.Terms.{InRange, get_end, set_there}
-use Rattle.c_sound.proofs.lemmas.Labels.{not_wrong}
-use Rattle.c_sound.proofs.lemmas.StatementSteps.{MayBegin, WellShaped, open_dimensions_steps, object_type_steps, initialiser_steps, completed_type_steps}
-use Rattle.c_sound.proofs.lemmas.There.{GlobalTyped}
-use Rattle.c_sound.proofs.lemmas.Types.{IsNoArray, open_dimensions_fit, TypeThere, object_type_typed, LaidOrOpen}
+use Rattle.c_sound.proofs.lemmas.StatementSteps.{initialiser_steps}
 use Rattle.c_sound.proofs.lemmas.Parts.{Layouts}
 use Rattle.c_sound.proofs.lemmas.Initialisers.{ElementsWithin, within_fits, initialiser_fits}
-use Rattle.c_sound.proofs.lemmas.Locals.{Uncompleted, Completed, completed_fits, declared_meaning, length_end, get_append_cases}
-use Rattle.c_sound.proofs.lemmas.Declared.{set_other, set_length, small_is}
-use Rattle.c_sound.proofs.lemmas.Texts.{Texts, same_globals, texts_then, breaks_if_quiet}
-use Rattle.c_sound.proofs.lemmas.StatementTexts.{initialiser_texts, open_dimensions_texts, object_type_quiet, completed_type_quiet}
-use Rattle.c_sound.proofs.lemmas.Goes.{Named, named_step, names_typed, no_array_value}
-use Rattle.c_sound.proofs.lemmas.GoesLocals.{small_laid}
-use Rattle.c_sound.proofs.lemmas.File.{Onward, still_declared, GlobalFits, File, file_named, global_wider, get_split, text_at, text_fits, texts_length, texts_keep, get_more, Moved, moved_then, moved_step, no_variables_after, nothing_at, length_more}
-use Rattle.c_sound.proofs.lemmas.Names.{kept_meaning, name_at, get_map, signature_now, signature_is}
+use Rattle.c_sound.proofs.lemmas.Locals.{declared_meaning, get_append_cases}
+use Rattle.c_sound.proofs.lemmas.Declared.{set_other, set_length}
+use Rattle.c_sound.proofs.lemmas.Texts.{Texts}
+use Rattle.c_sound.proofs.lemmas.File.{GlobalFits, File, global_wider, get_split, text_at, text_fits, texts_length, get_more, no_variables_after, nothing_at, length_more}
+use Rattle.c_sound.proofs.lemmas.Names.{name_at, get_map, signature_now, signature_is}
 
 -- ---- what is written
 

@@ -1,13 +1,12 @@
 -- What statements lead to: names that have types, variables whose types are laid out, and globals for string literals.
 use Rattle.std.proofs.Common.{◌≡◌, ◌≤◌, ◌<◌, ◌⊎◌, inl, inr, ℕ, ◌+◌, zero, suc, Bool, true, false, List, [], ◌∷◌, ◌++◌, length, refl, sym, ap, ◌∙◌, subst, arith, eqb-true, eq-eqb}
-use Rattle.std.specs.Prelude.{◌==◌, slice_get, slice_set, Option, None, Some, option_map, option_and_then, unwrap_or, if◌then◌else◌}
+use Rattle.std.specs.Prelude.{◌==◌, slice_get, Option, None, Some, option_map, option_and_then, unwrap_or, if◌then◌else◌}
 use Rattle.std.proofs.Math.ListN.{get_or}
 use Rattle.std.proofs.lemmas.Bool.{false≢true}
-use Rattle.std.proofs.lemmas.Option.{slice_get-get_or, slice_get_within}
-use Rattle.c_ast.specs.Productions as l
-use Rattle.c_ast.specs.Tree.{Tree, Node, Cons}
+use Rattle.std.proofs.lemmas.Option.{slice_get-get_or}
+use Rattle.c_ast.specs.Tree.{Tree}
 use Rattle.c_type.specs.Trees.{TypeTree, void_type, scalar_type, pointer_to, array_of, struct_type}
-use Rattle.c_type.specs.Layout.{Definitions, is_complete, IsLaidOut}
+use Rattle.c_type.specs.Layout.{IsLaidOut}
 use Rattle.c_typed.specs.Typed.{ExprTree}
 use Rattle.c_typed.specs.WellTyped.{type_of}
 use Rattle.c_static.specs.declared.operand.Operand.{Operand}
@@ -16,29 +15,22 @@ use Rattle.c_static.specs.Conversions.{may_convert, converted, converts}
 use Rattle.c_scope.specs.Scopes.{Name, meaning, is_declared, with_declaration}
 use Rattle.c_elaboration.specs.declared.meaning.Meaning.TheVariants as means
 use Rattle.c_elaboration.specs.declared.rule.Rule.TheVariants.{Redeclared, BadInitialiser}
-use Rattle.c_elaboration.specs.State.{MaybeType, Declared, Global, Variable, State, breaks_if, or_broken, if_some, declare, changed_by, changed, variable_in, change_variable, add_variable}
-use Rattle.c_elaboration.specs.Leaves.{offset_of, begin_of, name_of, count_of, is_present}
-use Rattle.c_elaboration.specs.Specifiers.{Specified, specified_type}
-use Rattle.c_elaboration.specs.DeclaredTypes.{small_type, object_type}
+use Rattle.c_elaboration.specs.State.{MaybeType, Global, Variable, State, breaks_if, or_broken, declare, variable_in, add_variable}
+use Rattle.c_elaboration.specs.Leaves.{begin_of}
 use Rattle.c_elaboration.specs.Operands.{Term}
 use Rattle.c_elaboration.specs.Calls.{passed}
 use Rattle.c_elaboration.specs.Expressions.{expression}
-use Rattle.c_elaboration.specs.Initialisers as initialisers
-use Rattle.c_elaboration.specs.Initialisers.{Elements, value, value_at, value_read, initialiser, completed}
-use Rattle.c_elaboration.specs.Declarators.{open_dimensions, is_fixed, initialise_variable, variable_declarator, declarator, more_declarators, locals}
+use Rattle.c_elaboration.specs.Initialisers.{value, value_at, value_read}
 use Rattle.c_sound.proofs.lemmas.ExpressionShapes.{IsExpression}
 use Rattle.c_sound.proofs.lemmas.States.{AreSame, Step, stay, same_length}
-use Rattle.c_sound.proofs.lemmas.Steps.{breaks_if_steps, expression_steps, specified_type_steps}
-use Rattle.c_sound.proofs.lemmas.Terms.{InRange, get_end, set_there}
-use Rattle.c_sound.proofs.lemmas.Later.{Later, later_then, HasScope, entered, left, more_length, add_variable_later}
-use Rattle.c_sound.proofs.lemmas.StatementSteps.{IsInitialiser, MayBegin, WellShaped, open_dimensions_steps, object_type_steps, initialiser_steps, value_read_steps, completed_type_steps, initialise_later, declare_later, declare_slots}
-use Rattle.c_sound.proofs.lemmas.There.{IsThere, VariableTyped, GlobalTyped, FunctionTyped, NamesTyped}
+use Rattle.c_sound.proofs.lemmas.Steps.{breaks_if_steps}
+use Rattle.c_sound.proofs.lemmas.Terms.{get_end}
+use Rattle.c_sound.proofs.lemmas.Later.{Later, HasScope, entered, left, more_length}
+use Rattle.c_sound.proofs.lemmas.StatementSteps.{value_read_steps}
+use Rattle.c_sound.proofs.lemmas.There.{IsThere, GlobalTyped, FunctionTyped, NamesTyped}
 use Rattle.c_sound.proofs.lemmas.ThereExpressions.{expression_there}
-use Rattle.c_sound.proofs.lemmas.Types.{IsNoArray, specified_no_array, open_dimensions_fit, TypeThere, object_type_typed, small_typed, LaidOrOpen}
-use Rattle.c_sound.proofs.lemmas.Locals.{Uncompleted, Completed, completed_fits, declared_meaning, get_append_cases, length_end}
-use Rattle.c_sound.proofs.lemmas.Declared.{set_other, changed_length, small_is, slot_of}
-use Rattle.c_sound.proofs.lemmas.Texts.{Texts, same_globals, no_texts, texts_then, breaks_if_quiet, specified_type_quiet}
-use Rattle.c_sound.proofs.lemmas.StatementTexts.{initialiser_texts, open_dimensions_texts, object_type_quiet, completed_type_quiet}
+use Rattle.c_sound.proofs.lemmas.Locals.{declared_meaning, get_append_cases, length_end}
+use Rattle.c_sound.proofs.lemmas.Texts.{Texts, no_texts, texts_then}
 
 -- ---- names
 

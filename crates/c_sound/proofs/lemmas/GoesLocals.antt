@@ -1,35 +1,31 @@
 -- What declarations in blocks and statements lead to.
-use Rattle.std.proofs.Common.{◌≡◌, ◌≤◌, ◌<◌, ◌⊎◌, inl, inr, ℕ, ◌+◌, zero, suc, Bool, true, false, List, [], ◌∷◌, ◌++◌, length, refl, sym, ap, ◌∙◌, subst, arith, eqb-true, eq-eqb}
-use Rattle.std.specs.Prelude.{◌==◌, slice_get, slice_set, Option, None, Some, option_and_then, unwrap_or, if◌then◌else◌}
+use Rattle.std.proofs.Common.{◌≡◌, ◌⊎◌, inl, inr, ℕ, ◌+◌, suc, Bool, true, false, [], ◌∷◌, ◌++◌, length, refl, sym, ap, ◌∙◌, subst, arith}
+use Rattle.std.specs.Prelude.{slice_get, slice_set, None, Some, option_and_then}
 use Rattle.std.proofs.lemmas.Bool.{false≢true}
 use Rattle.c_ast.specs.Productions as l
 use Rattle.c_ast.specs.Tree.{Tree, Node, Cons}
-use Rattle.c_type.specs.Trees.{TypeTree, array_of}
+use Rattle.c_type.specs.Trees.{TypeTree}
 use Rattle.c_type.specs.Layout.{is_complete, IsLaidOut}
 use Rattle.c_scope.specs.Scopes.{Name, is_declared}
 use Rattle.c_elaboration.specs.declared.meaning.Meaning.TheVariants as means
-use Rattle.c_elaboration.specs.declared.rule.Rule.TheVariants.{Redeclared, NotConstant}
-use Rattle.c_typed.specs.Typed as typed
-use Rattle.c_elaboration.specs.State.{MaybeType, Variable, State, breaks_if, or_broken, if_some, declare, changed_by, changed, variable_in, change_variable, add_variable}
-use Rattle.c_elaboration.specs.Leaves.{offset_of, begin_of, name_of, count_of, is_present}
+use Rattle.c_elaboration.specs.declared.rule.Rule.TheVariants.{Redeclared}
+use Rattle.c_elaboration.specs.State.{MaybeType, Variable, State, if_some, changed_by, changed, variable_in, change_variable, add_variable}
+use Rattle.c_elaboration.specs.Leaves.{offset_of, name_of, count_of, is_present}
 use Rattle.c_elaboration.specs.Specifiers.{Specified, specified_type}
 use Rattle.c_elaboration.specs.DeclaredTypes.{small_type, object_type}
-use Rattle.c_elaboration.specs.Operands.{term_constant}
-use Rattle.c_elaboration.specs.Expressions.{expression, expressions}
 use Rattle.c_elaboration.specs.Initialisers.{Elements, value, initialiser, completed}
 use Rattle.c_elaboration.specs.Declarators.{open_dimensions, is_fixed, completed_type, initialise_variable, variable_declarator, declarator, more_declarators, locals}
-use Rattle.c_elaboration.specs.Statements.{Jumps, in_loop, in_switch, whole, condition, subject, condition_clause, value_clause, jump, returned, Labels, next_group, label, more_labels, Groups, for_start, statement, items, groups, group}
 use Rattle.c_sound.proofs.lemmas.States.{Step, step_then, same_length, same_at}
-use Rattle.c_sound.proofs.lemmas.Steps.{breaks_if_steps, expression_steps, expressions_steps, specified_type_steps}
+use Rattle.c_sound.proofs.lemmas.Steps.{breaks_if_steps, specified_type_steps}
 use Rattle.c_sound.proofs.lemmas.Terms.{InRange, get_end, set_there}
-use Rattle.c_sound.proofs.lemmas.Later.{Later, later_then, step_still, HasScope, still_has_scope, entered, left, add_variable_later}
-use Rattle.c_sound.proofs.lemmas.StatementSteps.{StatementsOnly, IsInitialiser, MayBegin, WellShaped, open_dimensions_steps, object_type_steps, initialiser_steps, completed_type_steps, initialise_later, declare_later, declare_slots, whole_steps, condition_steps, subject_steps, condition_clause_steps, value_clause_steps, jump_steps, returned_steps, label_steps, more_labels_steps, for_start_later, statement_still, items_later, items_still, groups_still}
+use Rattle.c_sound.proofs.lemmas.Later.{later_then, add_variable_later}
+use Rattle.c_sound.proofs.lemmas.StatementSteps.{MayBegin, WellShaped, open_dimensions_steps, object_type_steps, initialiser_steps, completed_type_steps, initialise_later, declare_later, declare_slots}
 use Rattle.c_sound.proofs.lemmas.Types.{IsNoArray, specified_no_array, open_dimensions_fit, TypeThere, object_type_typed, small_typed, LaidOrOpen}
 use Rattle.c_sound.proofs.lemmas.Locals.{Uncompleted, Completed, completed_fits, length_end}
 use Rattle.c_sound.proofs.lemmas.Declared.{set_other, changed_length, small_is, slot_of}
-use Rattle.c_sound.proofs.lemmas.Texts.{Texts, same_globals, no_texts, texts_then, breaks_if_quiet, specified_type_quiet, expression_texts, expressions_texts}
-use Rattle.c_sound.proofs.lemmas.StatementTexts.{initialiser_texts, open_dimensions_texts, object_type_quiet, completed_type_quiet, whole_quiet, condition_quiet, subject_quiet, condition_clause_texts, value_clause_texts, jump_quiet, returned_texts, label_texts, more_labels_texts}
-use Rattle.c_sound.proofs.lemmas.Goes.{Named, AreLaid, names_typed, named_step, same_back, Goes, goes_step, goes_then, goes_more, goes_nowhere, goes_within, declared_in, named_declared, AreLaidBut, laid_declared, new_declared, all_laid, no_array_value}
+use Rattle.c_sound.proofs.lemmas.Texts.{Texts, same_globals, no_texts, texts_then, breaks_if_quiet, specified_type_quiet}
+use Rattle.c_sound.proofs.lemmas.StatementTexts.{initialiser_texts, open_dimensions_texts, object_type_quiet, completed_type_quiet}
+use Rattle.c_sound.proofs.lemmas.Goes.{Named, AreLaid, names_typed, named_step, same_back, Goes, goes_step, goes_then, goes_more, goes_nowhere, declared_in, named_declared, AreLaidBut, laid_declared, all_laid, no_array_value}
 
 -- ---- the new variable gets its whole type
 
@@ -118,10 +114,12 @@ initialised_sound offset may (Node (l.Present o) (Cons equal (Cons x none))) s t
         same (completed_sound x offset s t u k h) in
         subst (λ (z : MaybeType × State). IsSound (change_variable (length s.slots) (λ w. record w { type = z.0 }) z.1).1) (sym (small_is offset v (initialiser false (Some v) 0 x t).1 c)) (core c)
 initialised_sound offset may (Node (l.Present o) children) s t u m p laid h clean = absurd m
-initialised_sound offset may begun s t u m p laid h clean =
-    (h.named, all_laid (length s.variables) t h.laid (λ w here.
-    let same : h.variable ≡ w = let both : Some h.variable ≡ Some w = sym h.there ∙ here in cc in
-    (u, ap (λ (v : Variable). v.type) (sym same) ∙ h.type, by_laid (subst (λ b. LaidOrOpen t.structs b u) p laid))))
+initialised_sound offset may begun s t u m p laid h clean = (
+  h.named,
+  all_laid (length s.variables) t h.laid (λ w here.
+      let same : h.variable ≡ w = let both : Some h.variable ≡ Some w = sym h.there ∙ here in cc in
+      (u, ap (λ (v : Variable). v.type) (sym same) ∙ h.type, by_laid (subst (λ b. LaidOrOpen t.structs b u) p laid))),
+)
   where
     by_laid : LaidOrOpen t.structs false u → IsLaidOut t.structs u
     by_laid (inl laid) = laid

@@ -1,19 +1,17 @@
 -- What statements lead to.
-use Rattle.std.proofs.Common.{◌≤◌, ℕ, ◌+◌, Bool, true, false, List, [], ◌∷◌, refl, ◌∙◌, arith}
-use Rattle.std.specs.Prelude.{if◌then◌else◌}
+use Rattle.std.proofs.Common.{ℕ, ◌+◌, refl, arith}
 use Rattle.c_ast.specs.Productions as l
 use Rattle.c_ast.specs.Tree.{Tree, Node, Cons}
 use Rattle.c_typed.specs.Typed as typed
 use Rattle.c_elaboration.specs.State.{State}
 use Rattle.c_elaboration.specs.Leaves.{offset_of, begin_of}
 use Rattle.c_elaboration.specs.Expressions.{expressions}
-use Rattle.c_elaboration.specs.Declarators.{locals}
-use Rattle.c_elaboration.specs.Statements.{Jumps, in_loop, in_switch, whole, condition, subject, condition_clause, value_clause, jump, returned, next_group, label, more_labels, Groups, for_start, statement, items, groups, group}
+use Rattle.c_elaboration.specs.Statements.{Jumps, in_loop, in_switch, condition, subject, condition_clause, value_clause, next_group, label, more_labels, Groups, for_start, statement, items, groups, group}
 use Rattle.c_sound.proofs.lemmas.States.{step_then}
 use Rattle.c_sound.proofs.lemmas.Steps.{expressions_steps}
 use Rattle.c_sound.proofs.lemmas.Terms.{InRange}
 use Rattle.c_sound.proofs.lemmas.Later.{later_then, step_still, HasScope, still_has_scope, entered}
-use Rattle.c_sound.proofs.lemmas.StatementSteps.{WellShaped, whole_steps, condition_steps, subject_steps, condition_clause_steps, value_clause_steps, jump_steps, returned_steps, label_steps, more_labels_steps, for_start_later, statement_still, items_later, items_still, groups_still, group_still}
+use Rattle.c_sound.proofs.lemmas.StatementSteps.{WellShaped, whole_steps, condition_steps, subject_steps, condition_clause_steps, value_clause_steps, jump_steps, returned_steps, label_steps, more_labels_steps, for_start_later, statement_still, items_later, groups_still}
 use Rattle.c_sound.proofs.lemmas.Texts.{same_globals, texts_then, expressions_texts}
 use Rattle.c_sound.proofs.lemmas.StatementTexts.{whole_quiet, condition_quiet, subject_quiet, condition_clause_texts, value_clause_texts, jump_quiet, returned_texts, label_texts, more_labels_texts}
 use Rattle.c_sound.proofs.lemmas.Goes.{Goes, goes_step, goes_then, goes_more, goes_nowhere, goes_within}

@@ -1,6 +1,6 @@
 -- The values of an initialiser are typed, and stand at the leaves of what they begin.
-use Rattle.std.proofs.Common.{◌≡◌, ◌≤◌, ◌<◌, ◌⊎◌, inl, inr, ℕ, ◌+◌, ◌*◌, ◌^◌, zero, suc, Bool, true, false, List, [], ◌∷◌, ◌++◌, length, refl, sym, ap, ◌∙◌, subst, arith}
-use Rattle.std.specs.Prelude.{nat_le, All, Option, None, Some, option_map, option_and_then, if◌then◌else◌}
+use Rattle.std.proofs.Common.{◌≡◌, ◌≤◌, ◌<◌, inl, inr, ℕ, ◌+◌, ◌*◌, ◌^◌, zero, suc, Bool, true, false, List, [], ◌∷◌, ◌++◌, length, refl, sym, ap, ◌∙◌, subst, arith}
+use Rattle.std.specs.Prelude.{nat_le, All, Option, None, Some, option_map, if◌then◌else◌}
 use Rattle.std.proofs.lemmas.Bool.{false≢true}
 use Rattle.std.proofs.lemmas.Bool.Decides.{nat_tests}
 use Rattle.std.proofs.lemmas.List.Elements.{All-nil, All-append, All-head, All-tail}
@@ -12,19 +12,19 @@ use Rattle.c_ast.specs.Tree as tree
 use Rattle.c_ast.specs.Tree.{Tree, Node, Nil, Cons}
 use Rattle.c_type.specs.declared.scalar.Scalar.{Scalar}
 use Rattle.c_type.specs.declared.scalar.Scalar.TheVariants.{Char, SignedChar, UnsignedChar}
-use Rattle.c_type.specs.Trees.{TypeTree, scalar_type, pointer_to, array_of, struct_type}
+use Rattle.c_type.specs.Trees.{TypeTree, scalar_type, pointer_to, array_of}
 use Rattle.c_type.specs.Layout.{Definitions, is_complete, scalar_size, size, leaves_at, repeated}
 use Rattle.c_type.specs.WellDefined.{AreDefinitions}
 use Rattle.c_typed.specs.Typed.{ExprTree, ElementTrees, no_elements, value_then, characters_then}
 use Rattle.c_typed.specs.WellTyped.{Scope, IsScalar, type_of, ExprIsTyped, HasLeaf, AreCharactersAt, ElementsFit}
 use Rattle.c_static.specs.declared.operand.Operand.{Operand}
 use Rattle.c_elaboration.specs.declared.rule.Rule.TheVariants.{NotConstant, BadInitialiser}
-use Rattle.c_elaboration.specs.State.{MaybeType, State, breaks_if, broken_at, if_some, pure}
+use Rattle.c_elaboration.specs.State.{State, breaks_if, broken_at, if_some, pure}
 use Rattle.c_elaboration.specs.Leaves.{offset_of, begin_of, characters_of, characters_by}
 use Rattle.c_elaboration.specs.Operands.{Term}
 use Rattle.c_elaboration.specs.Calls.{passed}
 use Rattle.c_elaboration.specs.Expressions.{more_characters, expression}
-use Rattle.c_elaboration.specs.Initialisers.{Elements, joined, both_joined, is_constant, value_at, converted, value_read, value, is_character, character_array, characters, string_for, sets_to_zero, count_in, part_type, part_offset, part_of, part_at, parts_of, takes, list_for, initialiser, elements}
+use Rattle.c_elaboration.specs.Initialisers.{Elements, joined, both_joined, value_at, converted, value_read, value, is_character, character_array, characters, string_for, sets_to_zero, count_in, part_type, part_offset, part_of, part_at, parts_of, takes, list_for, initialiser, elements}
 use Rattle.c_elaboration.specs.CheckLaws.{IsInRange}
 use Rattle.c_sound.specs.TypedOperands.{IfSome, ObjectsFit}
 use Rattle.c_sound.proofs.lemmas.Options.{map_holds}
@@ -254,7 +254,7 @@ part_moved : (e : Ending) (c : Scope) (is_static : Bool) (u t : TypeTree) (at i 
     IfSome (ElementsWithin c ls low high) (initialiser is_static (part_of q.structs (Some u) i) (at + part_at q.structs (Some u) i) x q).0
 part_moved e c is_static u t at i low high x q ls same there h =
     subst (λ d. Fits e (initialiser is_static (part_of d (Some u) i) (at + part_at d (Some u) i) x q).1 →
-      IfSome (ElementsWithin c ls low high) (initialiser is_static (part_of d (Some u) i) (at + part_at d (Some u) i) x q).0)
+    IfSome (ElementsWithin c ls low high) (initialiser is_static (part_of d (Some u) i) (at + part_at d (Some u) i) x q).0)
     (sym same)
     (subst (λ m. Fits e (initialiser is_static m (at + part_offset c.structs u i) x q).1 → IfSome (ElementsWithin c ls low high) (initialiser is_static m (at + part_offset c.structs u i) x q).0)
     (sym there) h)

@@ -166,7 +166,7 @@ at_still e c s t a h =
       globals = e.globals;
       variables = e.variables;
       slots = (ap (λ ks. slots_in e t.variables (shown e.hides ks)) a.slots
-      ∙ more_slots e s.variables t.variables (shown e.hides s.slots) l.variables (λ slot k q. h.names.variables slot k (shown_there e.hides s.slots slot k q))) i;
+          ∙ more_slots e s.variables t.variables (shown e.hides s.slots) l.variables (λ slot k q. h.names.variables slot k (shown_there e.hides s.slots slot k q))) i;
     } in
     record { scope = same ∙ h.scope; names = names_still e s t a h.names }
 

@@ -1,41 +1,31 @@
 -- Declarations in blocks are typed.
-use Rattle.std.proofs.Common.{◌≡◌, ◌≤◌, ◌<◌, ◌⊎◌, inl, inr, ℕ, ◌+◌, zero, suc, Bool, true, false, cond, List, [], ◌∷◌, ◌++◌, length, refl, sym, ap, ap₂, ◌∙◌, subst, arith}
-use Rattle.std.specs.Prelude.{◌==◌, ◌&&◌, slice_get, slice_set, not, Option, None, Some, option_and_then, unwrap_or, if◌then◌else◌}
+use Rattle.std.proofs.Common.{◌≡◌, ◌≤◌, ◌<◌, ◌⊎◌, inl, inr, ℕ, ◌+◌, zero, suc, Bool, true, false, cond, List, [], ◌∷◌, ◌++◌, length, refl, sym, ap, ◌∙◌, subst, arith}
+use Rattle.std.specs.Prelude.{◌==◌, ◌&&◌, slice_get, not, Option, None, Some}
 use Rattle.std.specs.Map.{lookup}
 use Rattle.std.specs.Option.{option_or}
 use Rattle.std.proofs.lemmas.Bool.{false≢true}
 use Rattle.std.proofs.lemmas.Bool.Decides.{nat_tests}
-use Rattle.std.proofs.lemmas.Option.{slice_get_within}
 use Rattle.c_ast.specs.Productions as l
 use Rattle.c_ast.specs.Tree.{Tree, Node, Cons}
 use Rattle.c_type.specs.Trees.{TypeTree, void_type, scalar_type, pointer_to, array_of, struct_type}
-use Rattle.c_type.specs.Layout.{Definitions, is_complete, size, leaves_at, IsLaidOut}
+use Rattle.c_type.specs.Layout.{Definitions, is_complete, size, leaves_at}
 use Rattle.c_type.specs.WellDefined.{AreDefinitions}
-use Rattle.c_typed.specs.Typed.{InitialTree, DeclarationTree, ItemTrees, no_items, declare_then, VariableTree, ElementTrees, no_elements, value_then, characters_then, initial_value, initial_elements}
-use Rattle.c_typed.specs.WellTyped as well
-use Rattle.c_typed.specs.WellTyped.{Scope, extended, int, IsScalar, IsBegunAs, ElementsFit, InitialFits, initial_scope}
+use Rattle.c_typed.specs.Typed.{VariableTree, ElementTrees, no_elements, value_then, characters_then, initial_elements}
+use Rattle.c_typed.specs.WellTyped.{Scope, IsScalar, IsBegunAs, ElementsFit, InitialFits}
 use Rattle.c_static.specs.Types.{is_scalar}
 use Rattle.c_scope.specs.Scopes.{Name, Scopes, same_name, meaning, with_declaration}
-use Rattle.c_elaboration.specs.declared.dimension.Dimension.{Dimension}
 use Rattle.c_elaboration.specs.declared.meaning.Meaning.{Meaning}
 use Rattle.c_elaboration.specs.declared.meaning.Meaning.TheVariants as means
-use Rattle.c_elaboration.specs.declared.rule.Rule.TheVariants.{Redeclared}
-use Rattle.c_elaboration.specs.State.{MaybeType, Variable, State, breaks_if, if_some, declare, changed_by, changed, variable_in, change_variable, add_variable}
-use Rattle.c_elaboration.specs.Leaves.{offset_of, name_of, characters_of, count_of, is_present}
-use Rattle.c_elaboration.specs.Specifiers.{Specified, specified_type}
-use Rattle.c_elaboration.specs.DeclaredTypes.{small_type, object_type}
+use Rattle.c_elaboration.specs.State.{MaybeType, State, add_variable}
+use Rattle.c_elaboration.specs.Leaves.{characters_of}
 use Rattle.c_elaboration.specs.Initialisers.{Elements, value, string_for, character_array, count_in, completed_by, initial_of, initial, initialiser, completed}
 use Rattle.c_elaboration.specs.Expressions.{more_characters}
-use Rattle.c_elaboration.specs.Declarators.{open_dimensions, is_fixed, completed_type, is_named, initialise_variable, variable_declared, variable_declarator, declarator, more_declarators, locals, items_joined}
 use Rattle.c_sound.specs.TypedOperands.{IfSome}
-use Rattle.c_sound.proofs.lemmas.States.{Ending, is_object_then, type_now, slots_in, shown, shown_append, is_named_at, scope_in, AreSame, Step, Fits, VariableFitsNow, FunctionFits, NamesFit, At, same_at}
+use Rattle.c_sound.proofs.lemmas.States.{Ending, Fits, FunctionFits, NamesFit, At}
 use Rattle.c_sound.proofs.lemmas.ExpressionShapes.{IsExpression}
-use Rattle.c_sound.proofs.lemmas.Steps.{specified_type_steps}
-use Rattle.c_sound.proofs.lemmas.StatementSteps.{IsInitialiser, MayBegin, WellShaped, Begun, begun_step, change_new, declare_later, declare_slots, open_dimensions_steps, object_type_steps, completed_type_steps, initialiser_steps, initialise_later, locals_later}
-use Rattle.c_sound.proofs.lemmas.Terms.{InRange, get_end}
-use Rattle.c_sound.proofs.lemmas.Later.{Later, HasScope, more_slots}
-use Rattle.c_sound.proofs.lemmas.Types.{IsNoArray, specified_no_array, open_dimensions_fit, TypeThere, object_type_typed, OpenLaid, LaidOrOpen}
-use Rattle.c_sound.proofs.lemmas.Statements.{Ends, ends_before, ItemsLead, lead_joined, ItemsOut, LocalsAreTyped}
+use Rattle.c_sound.proofs.lemmas.StatementSteps.{IsInitialiser}
+use Rattle.c_sound.proofs.lemmas.Terms.{InRange}
+use Rattle.c_sound.proofs.lemmas.Types.{LaidOrOpen}
 use Rattle.c_sound.proofs.lemmas.Parts.{Layouts}
 use Rattle.c_sound.proofs.lemmas.Initialisers.{ElementsWithin, within_fits, IsValue, value_fits, initialiser_fits, initialiser_value}
 

@@ -1,5 +1,5 @@
 -- Parameters have scalar types, and so have results or none.
-use Rattle.std.proofs.Common.{◌≡◌, ◌≤◌, ◌<◌, ◌⊎◌, inl, inr, ℕ, zero, suc, Bool, true, false, List, [], ◌∷◌, ◌++◌, length, map, refl, sym, ap, ◌∙◌, subst, arith, append_assoc, append-nil}
+use Rattle.std.proofs.Common.{◌≡◌, ℕ, Bool, true, false, List, [], ◌∷◌, ◌++◌, refl, sym, ◌∙◌, subst, append_assoc, append-nil}
 use Rattle.std.specs.Prelude.{◌==◌, ◌&&◌, not, Option, None, Some, option_map, option_and_then, if◌then◌else◌}
 use Rattle.std.proofs.lemmas.Bool.{false≢true}
 use Rattle.c_ast.specs.Productions as l
@@ -13,20 +13,20 @@ use Rattle.c_elaboration.specs.declared.dimension.Dimension.TheVariants as dimen
 use Rattle.c_elaboration.specs.declared.meaning.Meaning.{Meaning}
 use Rattle.c_elaboration.specs.declared.meaning.Meaning.TheVariants as means
 use Rattle.c_elaboration.specs.declared.rule.Rule.TheVariants.{Redeclared}
-use Rattle.c_elaboration.specs.State.{MaybeType, Variable, State, breaks_if, if_some, pure, add_variable}
+use Rattle.c_elaboration.specs.State.{MaybeType, Variable, State, if_some, pure, add_variable}
 use Rattle.c_elaboration.specs.Leaves.{begin_of, count_of, is_present}
 use Rattle.c_elaboration.specs.Specifiers.{Specified, specified_type}
-use Rattle.c_elaboration.specs.DeclaredTypes.{MaybeSize, array_by, arrays_of, size_of_dimension, sizes_of, other_is_empty, is_struct, type_if, small_type, unless_empty, starred, is_param_of, elements_specified, elements_type, adjusted, param_type, result_type}
+use Rattle.c_elaboration.specs.DeclaredTypes.{array_by, arrays_of, size_of_dimension, sizes_of, other_is_empty, is_struct, type_if, small_type, unless_empty, starred, is_param_of, elements_specified, elements_type, adjusted, param_type, result_type}
 use Rattle.c_elaboration.specs.Declarators.{open_dimensions, is_fixed}
 use Rattle.c_elaboration.specs.Externals.{Param, param_name, param_offset, declare_if, param_at, param, more_params, is_lone_void, params}
-use Rattle.c_sound.proofs.lemmas.States.{AreSame, same_self, Step, stay, step_then}
+use Rattle.c_sound.proofs.lemmas.States.{AreSame, same_self, stay, step_then}
 use Rattle.c_sound.proofs.lemmas.Steps.{Steps, breaks_if_steps, if_some_steps, type_if_steps, small_type_steps, starred_steps, specified_type_steps}
 use Rattle.c_sound.proofs.lemmas.Terms.{InRange}
 use Rattle.c_sound.proofs.lemmas.Later.{Later, later_then, step_still, stay_still, add_variable_later}
 use Rattle.c_sound.proofs.lemmas.StatementSteps.{open_dimensions_steps, unless_empty_steps, declare_later}
 use Rattle.c_sound.proofs.lemmas.There.{IsThere}
 use Rattle.c_sound.proofs.lemmas.ThereExpressions.{small_type_there}
-use Rattle.c_sound.proofs.lemmas.Types.{IsNoArray, specified_no_array, IsSize, DimensionFits, DimensionsFit, open_dimensions_fit, TypeThere, starred_typed}
+use Rattle.c_sound.proofs.lemmas.Types.{IsNoArray, specified_no_array, DimensionFits, DimensionsFit, open_dimensions_fit, TypeThere, starred_typed}
 use Rattle.c_sound.proofs.lemmas.Texts.{Texts, same_globals, no_texts, texts_then, Quiet, breaks_if_quiet, if_some_quiet, type_if_quiet, small_type_quiet, starred_quiet, specified_type_quiet}
 use Rattle.c_sound.proofs.lemmas.StatementTexts.{open_dimensions_texts, unless_empty_quiet}
 

@@ -1,12 +1,11 @@
 -- The elements of an array and the members of a struct stand in it in order.
-use Rattle.std.proofs.Common.{◌≡◌, ◌≤◌, ◌<◌, ◌⊎◌, inl, inr, ℕ, ◌+◌, ◌*◌, ◌-◌, ◌/◌, zero, suc, Bool, true, false, cond, List, [], ◌∷◌, ◌++◌, length, refl, sym, ap, ap₂, ◌∙◌, subst, arith, mul_comm, suc-mul}
-use Rattle.std.specs.Prelude.{◌==◌, ◌&&◌, not, nat_lt, slice_get, Option, None, Some, if◌then◌else◌}
-use Rattle.std.proofs.lemmas.Bool.{false≢true, and_parts}
+use Rattle.std.proofs.Common.{◌≡◌, ◌≤◌, ◌<◌, inl, inr, ℕ, ◌+◌, ◌*◌, ◌-◌, ◌/◌, zero, suc, Bool, true, false, cond, List, [], ◌∷◌, ◌++◌, length, refl, sym, ap, subst, arith, mul_comm, suc-mul}
+use Rattle.std.specs.Prelude.{◌==◌, not, nat_lt, slice_get, None, Some, if◌then◌else◌}
+use Rattle.std.proofs.lemmas.Bool.{and_parts}
 use Rattle.std.proofs.lemmas.Bool.Decides.{nat_tests}
-use Rattle.std.proofs.lemmas.Option.{slice_get_within}
 use Rattle.val_core.specs.declared.leaf.Leaf.{Leaf}
-use Rattle.c_type.specs.Trees.{TypeTree, void_type, scalar_type, pointer_to, array_of, struct_type}
-use Rattle.c_type.specs.Layout.{Definitions, is_defined, is_complete, rounded_up, align, size, offset, offset_from, leaves_at, struct_leaves, members_leaves, repeated, members}
+use Rattle.c_type.specs.Trees.{TypeTree, array_of, struct_type}
+use Rattle.c_type.specs.Layout.{Definitions, is_complete, rounded_up, align, size, offset, offset_from, leaves_at, struct_leaves, members_leaves, repeated, members}
 use Rattle.c_type.specs.LayoutLaws.{IsWidth, AlignmentIsWidth, MemberIsWithin}
 use Rattle.c_type.specs.WellDefined.{AreDefinitions}
 use Rattle.c_typed.specs.WellTyped.{HasLeaf}

@@ -1,14 +1,13 @@
 -- Parts of statements and declarations add globals for their string literals only.
-use Rattle.std.proofs.Common.{◌≡◌, ◌≤◌, ℕ, ◌+◌, Bool, true, false, List, [], ◌∷◌, ◌++◌, length, refl, ◌∙◌}
+use Rattle.std.proofs.Common.{◌≡◌, ℕ, ◌+◌, Bool, true, false, List, ◌++◌, length, refl, ◌∙◌}
 use Rattle.std.specs.Prelude.{Option, None, Some, option_and_then, if◌then◌else◌, nat_le, not, ◌||◌, ◌&&◌}
 use Rattle.c_ast.specs.Productions as l
 use Rattle.c_ast.specs.Tree.{Tree, Node, Cons}
-use Rattle.c_type.specs.Trees.{TypeTree}
 use Rattle.c_typed.specs.Typed as typed
 use Rattle.c_typed.specs.Typed.{ElementTrees, StmtTree}
 use Rattle.c_static.specs.declared.operand.Operand.{Operand}
 use Rattle.c_elaboration.specs.declared.dimension.Dimension.{Dimension}
-use Rattle.c_elaboration.specs.declared.rule.Rule.TheVariants.{BadInitialiser, BadType, BadReturn, BadJump, NotConstant, BadLabel}
+use Rattle.c_elaboration.specs.declared.rule.Rule.TheVariants.{BadInitialiser, BadReturn, BadJump, NotConstant, BadLabel}
 use Rattle.c_elaboration.specs.State.{MaybeType, State, pure, breaks_if, broken_at, or_broken, if_some}
 use Rattle.c_elaboration.specs.Leaves.{offset_of, begin_of, characters_of}
 use Rattle.c_elaboration.specs.Specifiers.{Specified}

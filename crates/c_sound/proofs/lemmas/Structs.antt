@@ -1,6 +1,6 @@
 -- Struct definitions follow the earlier ones.
-use Rattle.std.proofs.Common.{◌≡◌, ◌≤◌, ◌<◌, ◌⊎◌, inl, inr, ℕ, zero, suc, Bool, true, false, List, [], ◌∷◌, ◌++◌, length, map, refl, sym, ap, ◌∙◌, subst, arith}
-use Rattle.std.specs.Prelude.{not, nat_le, slice_get, Option, None, Some, option_map, option_and_then, is_some, if◌then◌else◌}
+use Rattle.std.proofs.Common.{◌≡◌, ◌≤◌, ◌<◌, inl, inr, ℕ, suc, Bool, true, false, List, [], ◌∷◌, ◌++◌, length, map, refl, sym, ap, ◌∙◌, subst, arith}
+use Rattle.std.specs.Prelude.{not, nat_le, Option, None, Some, option_map, option_and_then, is_some, if◌then◌else◌}
 use Rattle.std.proofs.lemmas.Bool.{false≢true}
 use Rattle.std.proofs.lemmas.Bool.Decides.{nat_tests}
 use Rattle.limits.specs.Limits.{most_type_bytes}
@@ -8,11 +8,11 @@ use Rattle.c_ast.specs.Productions as l
 use Rattle.c_ast.specs.Tree.{Tree, Node, Cons}
 use Rattle.c_type.specs.Trees.{TypeTree}
 use Rattle.c_type.specs.Layout.{Definition, Definitions, is_defined, struct_size, IsLaidOut}
-use Rattle.c_type.specs.WellDefined.{AreLaidOut, Follows, AreDefinitions}
+use Rattle.c_type.specs.WellDefined.{AreLaidOut, Follows}
 use Rattle.c_scope.specs.Scopes.{Name}
 use Rattle.c_elaboration.specs.declared.dimension.Dimension.TheVariants as dimension
-use Rattle.c_elaboration.specs.declared.rule.Rule.TheVariants.{Redeclared, BadType, NotConstant}
-use Rattle.c_elaboration.specs.State.{MaybeType, State, breaks_if, or_broken}
+use Rattle.c_elaboration.specs.declared.rule.Rule.TheVariants.{Redeclared, BadType}
+use Rattle.c_elaboration.specs.State.{State, breaks_if}
 use Rattle.c_elaboration.specs.Leaves.{offset_of, begin_of, name_of, count_of}
 use Rattle.c_elaboration.specs.Specifiers.{Specified, specified_type}
 use Rattle.c_elaboration.specs.DeclaredTypes.{MaybeSize, object_type}
@@ -24,10 +24,10 @@ use Rattle.c_sound.proofs.lemmas.Steps.{breaks_if_steps, expression_steps, size_
 use Rattle.c_sound.proofs.lemmas.StatementSteps.{object_type_steps}
 use Rattle.c_sound.proofs.lemmas.Terms.{InRange}
 use Rattle.c_sound.proofs.lemmas.Labels.{not_wrong}
-use Rattle.c_sound.proofs.lemmas.Types.{IsNoArray, specified_no_array, IsSize, DimensionsFit, size_fits, TypeThere, object_type_typed, LaidOrOpen}
+use Rattle.c_sound.proofs.lemmas.Types.{IsNoArray, specified_no_array, IsSize, DimensionsFit, size_fits, object_type_typed, LaidOrOpen}
 use Rattle.c_sound.proofs.lemmas.Texts.{Texts, same_globals, no_texts, texts_then, breaks_if_quiet, specified_type_quiet, dimensions_texts}
 use Rattle.c_sound.proofs.lemmas.StatementTexts.{object_type_quiet}
-use Rattle.c_sound.proofs.lemmas.File.{Onward, onward_step, still_declared, known_later, file_more, File, Moved, moved_then, moved_step}
+use Rattle.c_sound.proofs.lemmas.File.{Onward, still_declared, known_later, file_more, File, Moved, moved_then, moved_step}
 
 -- ---- members
 

@@ -1,5 +1,5 @@
 -- An expression adds globals for its string literals only.
-use Rattle.std.proofs.Common.{◌≡◌, ℕ, zero, suc, Bool, true, false, List, [], ◌∷◌, ◌++◌, refl, sym, ap, ◌∙◌, subst, append_assoc, append-nil}
+use Rattle.std.proofs.Common.{◌≡◌, ℕ, zero, suc, Bool, true, false, List, [], ◌∷◌, ◌++◌, refl, sym, ap, ◌∙◌, append_assoc, append-nil}
 use Rattle.std.specs.Prelude.{slice_get, Option, None, Some, option_map, if◌then◌else◌}
 use Rattle.c_lex.specs.declared.punct.Punct.{Punct}
 use Rattle.c_lex.specs.declared.punct.Punct.TheVariants as mark
@@ -21,7 +21,7 @@ use Rattle.c_elaboration.specs.declared.rule.Rule.TheVariants.{NotAssignable, Ba
 use Rattle.c_elaboration.specs.declared.call.Callee.{Callee}
 use Rattle.c_elaboration.specs.declared.call.Called.{Called}
 use Rattle.c_elaboration.specs.declared.call.Called.TheVariants as calls
-use Rattle.c_elaboration.specs.State.{MaybeType, Declared, Global, Variable, State, Elaborated, pure, breaks, breaks_if, broken_at, or_broken, if_some, meaning_of, tag_of, changed_by, changed, variable_in, change_variable, add_global}
+use Rattle.c_elaboration.specs.State.{MaybeType, Declared, Global, State, Elaborated, pure, breaks_if, broken_at, or_broken, if_some, meaning_of, tag_of}
 use Rattle.c_elaboration.specs.Leaves.{offset_of, begin_of, name_of, punct_of, characters_of, count_of}
 use Rattle.c_elaboration.specs.Specifiers.{Specified, specified_type, tagged}
 use Rattle.c_elaboration.specs.DeclaredTypes.{MaybeSize, arrays_of, type_if, small_type, unstarred, starred, named_type, with_elements, is_large, is_void, pointers_to}

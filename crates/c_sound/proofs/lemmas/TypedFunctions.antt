@@ -1,5 +1,5 @@
 -- The body of a function is typed in the scope of its parameters.
-use Rattle.std.proofs.Common.{◌≡◌, ◌≤◌, ◌<◌, ℕ, ◌+◌, ◌^◌, zero, suc, Bool, true, false, List, [], ◌∷◌, ◌++◌, length, map, take, refl, sym, ap, ◌∙◌, subst, arith}
+use Rattle.std.proofs.Common.{◌≡◌, ◌<◌, ℕ, ◌+◌, ◌^◌, zero, suc, Bool, true, false, List, [], ◌∷◌, ◌++◌, length, map, take, refl, sym, ap, ◌∙◌, subst, arith}
 use Rattle.std.specs.Prelude.{slice_get, not, ◌||◌, Option, None, Some, unwrap_or, option_and_then}
 use Rattle.std.proofs.Math.ListN.{get_or}
 use Rattle.std.proofs.lemmas.Bool.{false≢true}
@@ -8,7 +8,7 @@ use Rattle.c_ast.specs.Tree.{Tree}
 use Rattle.c_type.specs.Trees.{TypeTree, void_type}
 use Rattle.c_type.specs.Layout.{is_complete, IsLaidOut}
 use Rattle.c_type.specs.WellDefined.{AreDefinitions}
-use Rattle.c_typed.specs.Typed.{FunctionTree, VariableTree, ItemTrees, ProgramTree}
+use Rattle.c_typed.specs.Typed.{VariableTree}
 use Rattle.c_typed.specs.WellTyped as well
 use Rattle.c_typed.specs.WellTyped.{int, Scope, IsScalarOrVoid, ItemsAreTyped, signature_of, scope_of, FunctionIsTyped}
 use Rattle.c_static.specs.Types.{is_scalar}
@@ -17,11 +17,11 @@ use Rattle.c_elaboration.specs.State.{MaybeType, Global, Variable, State}
 use Rattle.c_elaboration.specs.Statements.{Jumps, items}
 use Rattle.c_elaboration.specs.Externals.{Param, variable_tree, function_tree}
 use Rattle.c_elaboration.specs.Check.{global_tree, program_of}
-use Rattle.c_sound.proofs.lemmas.States.{Ending, object_by, is_object_then, type_now, slots_in, scope_in, Fits, At}
+use Rattle.c_sound.proofs.lemmas.States.{object_by, is_object_then, type_now, slots_in, scope_in, Fits}
 use Rattle.c_sound.proofs.lemmas.Terms.{InRange}
 use Rattle.c_sound.proofs.lemmas.Later.{AreMore, more_at, more_length}
 use Rattle.c_sound.proofs.lemmas.StatementSteps.{WellShaped, items_later}
-use Rattle.c_sound.proofs.lemmas.Statements.{Ends, JumpsAre, lead_typed, items_typed}
+use Rattle.c_sound.proofs.lemmas.Statements.{Ends, lead_typed, items_typed}
 use Rattle.c_sound.proofs.lemmas.Parts.{Layouts}
 use Rattle.c_sound.proofs.lemmas.Definitions.{laid_after}
 use Rattle.c_sound.proofs.lemmas.Declared.{locals_typed}
@@ -30,10 +30,9 @@ use Rattle.c_sound.proofs.lemmas.GoesLocals.{declarations}
 use Rattle.c_sound.proofs.lemmas.GoesStatements.{items_goes}
 use Rattle.c_sound.proofs.lemmas.File.{Onward}
 use Rattle.c_sound.proofs.lemmas.Names.{get_map}
-use Rattle.c_sound.proofs.lemmas.Params.{ParamsAre}
 use Rattle.c_sound.proofs.lemmas.FunctionBodies.{ending_of, Ended, params_length, tree_type, params_scalar, map_length, all_fit, range, slots_range, Entry, entry_slots, entry_param, entry_named, entry_laid, entry_names}
 
-map_back : {A B : Type 0} → (f : A → B) (xs : List A) (k : ℕ) (y : B) → slice_get (map f xs) k ≡ Some y → (x : A) × (slice_get xs k ≡ Some x) × (y ≡ f x)
+pub map_back : {A B : Type 0} → (f : A → B) (xs : List A) (k : ℕ) (y : B) → slice_get (map f xs) k ≡ Some y → (x : A) × (slice_get xs k ≡ Some x) × (y ≡ f x)
 map_back f [] k y h = absurd (cc)
 map_back f (x ∷ xs) zero y h = (x, refl, let same : f x ≡ y = cc in sym same)
 map_back f (x ∷ xs) (suc k) y h = map_back f xs k y h
@@ -137,8 +136,8 @@ body_typed y n t z ps xs r u name offset starts ends e onward h result scalar ra
       params = omega (arith, len, first_len, tree_len, less);
       takes = params_scalar ps n.variables vs h.params more;
       variables = subst (λ defs. well.VariablesFit defs (map variable_tree vs)) (sym whole) (all_fit (ds ++ t.structs) vs (λ k v there.
-      let laid = sound.1 k v there in
-      (laid.0, laid.1, laid_after t.structs ds all laid.0 (subst (λ defs. IsLaidOut defs laid.0) structs laid.2))));
+          let laid = sound.1 k v there in
+          (laid.0, laid.1, laid_after t.structs ds all laid.0 (subst (λ defs. IsLaidOut defs laid.0) structs laid.2))));
       few = omega (arith, few, len, first_len, tree_len, count);
       body = subst (λ c. ItemsAreTyped c q i.0) same wide;
     }

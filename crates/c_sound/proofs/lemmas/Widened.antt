@@ -1,9 +1,9 @@
 -- What is typed stays so where more structs are defined.
-use Rattle.std.proofs.Common.{◌≡◌, ◌⊎◌, inl, inr, ℕ, ◌+◌, Bool, true, false, List, [], ◌∷◌, ◌++◌, length, refl, sym, ap, ◌∙◌, subst}
+use Rattle.std.proofs.Common.{◌≡◌, ℕ, ◌+◌, Bool, true, false, List, ◌++◌, length, refl, sym, ap, ◌∙◌, subst}
 use Rattle.std.specs.Prelude.{slice_get, Some}
 use Rattle.val_core.specs.declared.leaf.Leaf.{Leaf}
 use Rattle.c_type.specs.Trees.{TypeTree, scalar_type, pointer_to, struct_type}
-use Rattle.c_type.specs.Layout.{Definition, Definitions, is_complete, size, leaves}
+use Rattle.c_type.specs.Layout.{Definitions, is_complete, size, leaves}
 use Rattle.c_type.specs.WellDefined.{AreDefinitions}
 use Rattle.c_typed.specs.declared.operator.BinaryOp.{BinaryOp}
 use Rattle.c_typed.specs.declared.operator.BinaryOp.TheVariants as binary_op
@@ -11,7 +11,7 @@ use Rattle.c_typed.specs.declared.operator.CompoundOp.{CompoundOp}
 use Rattle.c_typed.specs.declared.operator.CompoundOp.TheVariants as compound_op
 use Rattle.c_typed.specs.Typed as typed
 use Rattle.c_typed.specs.Typed.{ExprTree, expr, FormTree, constant, read, address, unary, binary, logical_and, logical_or, conditional, comma, assign, compound, inc_dec, call, get, ExprTrees, no_exprs, expr_then, PlaceTree, place, PlaceFormTree, local, global, at, member, OptionalExpr, no_expr, some_expr, ElementTrees, no_elements, value_then, characters_then, InitialTree, no_initial, initial_value, initial_elements, StmtTree, ItemTrees, no_items, stmt_then, declare_then, GroupTrees, no_groups, group_then, VariableTree}
-use Rattle.c_typed.specs.WellTyped.{Scope, extended, IsScalar, type_of, PointsTo, HasAddress, IsMemberOf, BinaryFits, CompoundFits, IncDecFits, ExprIsTyped, FormIsTyped, ExprsAreTyped, PlaceIsTyped, PlaceFormIsTyped, OptionalIsTyped, IsCondition, IsOptionalCondition, HasLeaf, ElementsFit, InitialFits, Jumps, in_loop, in_switch, IsBegunAs, initial_scope, StmtIsTyped, ItemsAreTyped, GroupsAreTyped}
+use Rattle.c_typed.specs.WellTyped.{Scope, extended, IsScalar, type_of, PointsTo, HasAddress, IsMemberOf, BinaryFits, CompoundFits, IncDecFits, ExprIsTyped, FormIsTyped, ExprsAreTyped, PlaceIsTyped, PlaceFormIsTyped, OptionalIsTyped, IsOptionalCondition, HasLeaf, ElementsFit, InitialFits, Jumps, in_loop, in_switch, initial_scope, StmtIsTyped, ItemsAreTyped, GroupsAreTyped}
 use Rattle.c_sound.proofs.lemmas.Definitions.{complete_after, size_after, leaves_after, members_after, offset_after, has_members}
 
 -- a scope with more definitions
