@@ -88,13 +88,13 @@ ended body t = record { value = t.names (value_name body); memory = t.memory; in
 abbrev begun : List Value → Blocks → List ℕ → State
 begun ws m i = record { names = first_names ws; memory = m; input = i }
 
-record BodyFits (objects params : ℕ) (body : RegionTree) : Type 0 where
-  args : args_of body ≡ replicate params ValueKind ++ Memory ∷ Io ∷ []
-  results : result_kinds body ≡ map Some (ValueKind ∷ Memory ∷ Io ∷ [])
-  regions : every_region (region_fits objects) body ≡ true
-  once : AtMostOnce (region_ids body)
+pub record BodyFits (objects params : ℕ) (body : RegionTree) : Type 0 where
+  pub args : args_of body ≡ replicate params ValueKind ++ Memory ∷ Io ∷ []
+  pub results : result_kinds body ≡ map Some (ValueKind ∷ Memory ∷ Io ∷ [])
+  pub regions : every_region (region_fits objects) body ≡ true
+  pub once : AtMostOnce (region_ids body)
 
-lambda-body : (l : PlainLambda) → well_formed l ≡ true → BodyFits (length l.objects) l.params l.body
+pub lambda-body : (l : PlainLambda) → well_formed l ≡ true → BodyFits (length l.objects) l.params l.body
 lambda-body l t =
     let p = and_parts (body_fits l && numbers_fit l && every_region (region_fits (length l.objects)) l.body) (all_of (λ o. leaves_fit o.size 0 o.leaves) l.objects) t in
     let q = and_parts (body_fits l && numbers_fit l) (every_region (region_fits (length l.objects)) l.body) p.0 in
