@@ -97,7 +97,8 @@ body-closed objects params (region args nodes results) fits =
     record {
       code = whole.0;
       value =
-          known-at (after_code parameters (nodes_code args 0 no_names (value_args args) nodes no_steps)) (Value ∷ Memory ∷ Io ∷ []) (map (name_of args 0 (nodes_named nodes (value_args args) no_names)) results)
+          known-at (after_code parameters (nodes_code args 0 no_names (value_args args) nodes no_steps)) (Value ∷ Memory ∷ Io ∷ [])
+          (map (name_of args 0 (nodes_named nodes (value_args args) no_names)) results)
           (list-known args 0 (nodes_named nodes (value_args args) no_names) nodes (after_code parameters (nodes_code args 0 no_names (value_args args) nodes no_steps)) whole.1 results
           (Value ∷ Memory ∷ Io ∷ []) fits.results) 0 refl;
     }

@@ -109,7 +109,8 @@ lambda-body l t =
     }
 
 module _ (n : ℕ) (call : ℕ → Meaning) (callees : ℕ → Call) (agree : AllCallsAgree call callees) where
-  body-agrees : (objects params : ℕ) (body : RegionTree) → BodyFits objects params body → (addresses : Addresses) (vs ws : List Value) → AreLessDefined vs ws → params ≡ length vs → (m : Blocks) (i : List ℕ) →
+  body-agrees : (objects params : ℕ) (body : RegionTree) → BodyFits objects params body → (addresses : Addresses) (vs ws : List Value) → AreLessDefined vs ws →
+      params ≡ length vs → (m : Blocks) (i : List ℕ) →
       Agrees (λ ys t. GivesBack ys (ended body t)) (region_meaning (graph_context n call addresses) body (taken vs m i))
       (code_run (code_context n callees addresses) (body_code body) (begun ws m i))
   body-agrees objects params (region args nodes results) fits addresses vs ws less count m i =
@@ -178,7 +179,8 @@ module _ (n : ℕ) (call : ℕ → Meaning) (callees : ℕ → Call) (agree : Al
       after ys t b =
           (record { value = b.value; is = ap (changed_at 1 (with_memory (closed (length m) (length l.objects)))) b.is; less = b.less }, refl)
 
-  found-agrees : (global : ℕ → Value) (found : Option PlainLambda) → ((l : PlainLambda) → found ≡ Some l → well_formed l ≡ true) → (vs ws : List Value) → AreLessDefined vs ws → (m : Blocks) (i : List ℕ) →
+  found-agrees : (global : ℕ → Value) (found : Option PlainLambda) → ((l : PlainLambda) → found ≡ Some l → well_formed l ≡ true) → (vs ws : List Value) →
+      AreLessDefined vs ws → (m : Blocks) (i : List ℕ) →
       Agrees GivesBack (graph.entered n call global found (taken vs m i)) (linear.entered n callees global (option_map sequenced found) ws m i)
   found-agrees global None well vs ws less m i = tt
   found-agrees global (Some l) well vs ws less m i = entered-agrees global l (well l refl) vs ws less m i

@@ -114,7 +114,8 @@ module _ (args : List Kind) (base : ℕ) (names : Names) (earlier : NodeTrees) (
   at : (inputs : List Origin) (ks : List Kind) → are (map (known args earlier) inputs) ks ≡ true → (p : ℕ) → slice_get ks p ≡ Some Value → D (name_at (map (name_of args base names) inputs) p)
   at inputs ks fit p e = known-at D ks (map (name_of args base names) inputs) (inputs-known inputs ks fit) p e
 
-  pub op-writes : (id : ℕ) (op : Op) (inputs : List Origin) (rs : RegionTrees) → is_simple op ≡ true → NodeTests args earlier (node id op inputs rs) → NodeWrites D args base names next (node id op inputs rs)
+  pub op-writes : (id : ℕ) (op : Op) (inputs : List Origin) (rs : RegionTrees) → is_simple op ≡ true → NodeTests args earlier (node id op inputs rs) →
+      NodeWrites D args base names next (node id op inputs rs)
   op-writes id Gamma inputs rs simple t = absurd cc
   op-writes id Theta inputs rs simple t = absurd cc
   op-writes id (Const w) inputs no_regions simple t = one-value D next (op_instr (Const w) next (map (name_of args base names) inputs)) refl tt (Value ∷ []) refl
