@@ -16,8 +16,7 @@ use Rattle.g_graph.proofs.lemmas.Unique.{equal_back}
 use Rattle.s_linear.specs.Linear.{Instr, Step, plain, Code, no_steps}
 use Rattle.s_linear.specs.Lines.{numbers_from}
 use Rattle.s_sequence.specs.Sequence.{values_in, value_args, kept, Names, no_names, nodes_names, outputs_at, named, nodes_named, name_of, name_at, moves, op_instr, instrs_then, nodes_code, node_step, branch_code, loop_step}
-use Rattle.s_simulation.specs.Closed as closed
-use Rattle.s_simulation.specs.Closed.{target_of, sources_of, NameSet, AreIn, after_instrs, after_step, after_code, StepIsClosed, CodeIsClosed}
+use Rattle.s_simulation.specs.Closed.{target_of, sources_of, NameSet, none_written, AreIn, after_instrs, after_step, after_code, StepIsClosed, CodeIsClosed}
 use Rattle.s_simulation.proofs.lemmas.Held.{take-values}
 use Rattle.s_simulation.proofs.lemmas.Running.{joined-at, kind-more}
 use Rattle.s_simulation.proofs.lemmas.Nodes.{NodeTests, is_simple}
@@ -239,7 +238,7 @@ loop-writes D (region args nodes (predicate ∷ results)) claim kinds next entri
     entered = kept-in D args entries h
 
     E : NameSet
-    E = after_instrs closed.no_names (moves next (kept (map Some args) entries))
+    E = after_instrs none_written (moves next (kept (map Some args) entries))
 
     F : NameSet
     F = after_code E (nodes_code args next no_names (next + value_args args) nodes no_steps)
@@ -247,7 +246,7 @@ loop-writes D (region args nodes (predicate ∷ results)) claim kinds next entri
     inside : CodeIsClosed E (nodes_code args next no_names (next + value_args args) nodes no_steps)
         × OriginsKnown args next (nodes_named nodes (next + value_args args) no_names) nodes F
     inside =
-        claim next E (arguments-known args next E (λ k low. moves-write closed.no_names next (kept (map Some args) entries) k (let e = entered.1 in omega (arith, low, e))))
+        claim next E (arguments-known args next E (λ k low. moves-write none_written next (kept (map Some args) entries) k (let e = entered.1 in omega (arith, low, e))))
 
     known-all : F (name_of args next (nodes_named nodes (next + value_args args) no_names) predicate) × AreKnown F args found
     known-all = list-known args next (nodes_named nodes (next + value_args args) no_names) nodes F inside.1 (predicate ∷ results) (Value ∷ args) kinds
