@@ -1,11 +1,11 @@
--- Worked runs of lambdas and of their linear code, and two wrong sequencings.
-use Rattle.std.proofs.Common.{◌≡◌, ◌⊎◌, inl, inr, ℕ, List, [], ◌∷◌, ◌++◌, map, refl, Bool, true, false}
+-- Worked runs of lambdas and of their linear code, two wrong sequencings, and code that is not closed.
+use Rattle.std.proofs.Common.{◌≡◌, ◌⊎◌, ◌<◌, inl, inr, arith, ℕ, List, [], ◌∷◌, ◌++◌, map, refl, Some, Bool, true, false}
 use Rattle.std.specs.Prelude.{replicate}
 use Rattle.val_core.specs.declared.operation.Op2.TheVariants.{Add, Sub}
 use Rattle.val_core.specs.declared.values.Value.{Value}
 use Rattle.val_core.specs.declared.values.Value.TheVariants.{Num, Bad}
 use Rattle.val_core.specs.Memory.{Memory as Blocks}
-use Rattle.val_core.specs.Events.{wrote, took, met}
+use Rattle.val_core.specs.Events.{Event, wrote, took, met}
 use Rattle.val_core.specs.Answers.{Answer, Returned, Cut, Exited, Undefined}
 use Rattle.val_core.specs.Within.{Given}
 use Rattle.g_graph.specs.declared.op.Kind.TheVariants.{Value as ValueKind, Memory, Io}
@@ -17,10 +17,11 @@ use Rattle.g_graph.specs.Plain.{region, NodeTree, node, no_regions, nodes_of, re
 use Rattle.g_graph.specs.WellFormed.{well_formed}
 use Rattle.g_mean.specs.Data.{Datum, val, memory, input}
 use Rattle.g_mean.specs.Calls.{applied, program_at}
-use Rattle.s_linear.specs.Linear.{const, move, choice, loop, no_steps, step_then, no_codes, code_then, LinearFunction}
+use Rattle.s_linear.specs.Linear.{const, binary, move, choice, loop, Code, no_steps, step_then, no_codes, code_then, LinearFunction}
 use Rattle.s_linear.specs.Meaning.{calls}
 use Rattle.s_sequence.specs.Sequence.{sequenced, instrs_then}
 use Rattle.s_simulation.specs.Agreement.{Agrees, taken, GivesBack}
+use Rattle.s_simulation.specs.Closed.{target_of, NameSet, CodeIsClosed}
 use Rattle.s_simulation.specs.Programs.{linear_program_at}
 
 abbrev simple : ℕ → Op → List Origin → NodeTree
@@ -43,8 +44,11 @@ graph n ls xs m i = applied ls no_globals n 0 (taken (map Num xs) m i)
 abbrev linear : ℕ → List PlainLambda → List ℕ → Blocks → List ℕ → Answer (Given Value)
 linear n ls xs m i = calls (map sequenced ls) no_globals n 0 (map Num xs) m i
 
-abbrev gave : ℕ → Blocks → List ℕ → Given Value
-gave v m i = record { value = Num v; memory = m; input = i }
+abbrev returned : ℕ → Blocks → List ℕ → List Event → Answer (List Datum)
+returned v m i did = Returned (val (Num v) ∷ memory m ∷ input i ∷ []) did
+
+abbrev gave : ℕ → Blocks → List ℕ → List Event → Answer (Given Value)
+gave v m i did = Returned (record { value = Num v; memory = m; input = i }) did
 
 -- ---- return 42;
 
@@ -57,13 +61,38 @@ answer-fits = refl
 answer-0 : (graph 0 answer [] [] [] ≡ Cut []) × (linear 0 answer [] [] [] ≡ Cut [])
 answer-0 = (refl, refl)
 
-answer-1 : (graph 1 answer [] [] [] ≡ Returned (val (Num 42) ∷ memory [] ∷ input [] ∷ []) (met (0 ∷ []) ∷ [])) × (linear 1 answer [] [] [] ≡ Returned (gave 42 [] []) (met (0 ∷ []) ∷ []))
+answer-1 : (graph 1 answer [] [] [] ≡ returned 42 [] [] (met (0 ∷ []) ∷ [])) × (linear 1 answer [] [] [] ≡ gave 42 [] [] (met (0 ∷ []) ∷ []))
 answer-1 = (refl, refl)
 
--- ---- a choice between two regions on the first parameter, which also take the second one
+answer-3 : (graph 3 answer [] [] [] ≡ returned 42 [] [] (met (0 ∷ []) ∷ [])) × (linear 3 answer [] [] [] ≡ gave 42 [] [] (met (0 ∷ []) ∷ []))
+answer-3 = (refl, refl)
+
+-- ---- a choice between two regions on the parameter, which they also take: it gives 2 or 1, and the parameter
 
 abbrev two : List PlainLambda
 two =
+    of_body 1 (
+    node 0 Gamma (Arg 0 ∷ Arg 0 ∷ []) (regions_of (
+    region (ValueKind ∷ []) (nodes_of (simple 1 (Const 2) [] ∷ [])) (Out 1 0 ∷ Arg 0 ∷ [])
+    ∷ region (ValueKind ∷ []) (nodes_of (simple 2 (Const 1) [] ∷ [])) (Out 2 0 ∷ Arg 0 ∷ [])
+    ∷ []))
+    ∷ []) (Out 0 0 ∷ Arg 1 ∷ Arg 2 ∷ []) ∷ []
+
+two-fits : map well_formed two ≡ true ∷ []
+two-fits = refl
+
+two-0 : (graph 0 two (7 ∷ []) [] [] ≡ Cut []) × (linear 0 two (7 ∷ []) [] [] ≡ Cut [])
+two-0 = (refl, refl)
+
+two-first : (graph 1 two (0 ∷ []) [] [] ≡ returned 2 [] [] (met (0 ∷ []) ∷ [])) × (linear 1 two (0 ∷ []) [] [] ≡ gave 2 [] [] (met (0 ∷ []) ∷ []))
+two-first = (refl, refl)
+
+two-second : (graph 3 two (7 ∷ []) [] [] ≡ returned 1 [] [] (met (0 ∷ []) ∷ [])) × (linear 3 two (7 ∷ []) [] [] ≡ gave 1 [] [] (met (0 ∷ []) ∷ []))
+two-second = (refl, refl)
+
+-- the same on the first of two parameters, with the second one as the entry, and with the sum of its outputs
+abbrev both : List PlainLambda
+both =
     of_body 2 (
     node 0 Gamma (Arg 0 ∷ Arg 1 ∷ []) (regions_of (
     region (ValueKind ∷ []) (nodes_of (simple 1 (Const 2) [] ∷ [])) (Out 1 0 ∷ Arg 0 ∷ [])
@@ -72,16 +101,13 @@ two =
     ∷ simple 3 (Bin Add) (Out 0 0 ∷ Out 0 1 ∷ [])
     ∷ []) (Out 3 0 ∷ Arg 2 ∷ Arg 3 ∷ []) ∷ []
 
-two-fits : map well_formed two ≡ true ∷ []
-two-fits = refl
+both-first : (graph 1 both (0 ∷ 10 ∷ []) [] [] ≡ returned 12 [] [] (met (0 ∷ []) ∷ [])) × (linear 1 both (0 ∷ 10 ∷ []) [] [] ≡ gave 12 [] [] (met (0 ∷ []) ∷ []))
+both-first = (refl, refl)
 
-two-first : (graph 1 two (0 ∷ 10 ∷ []) [] [] ≡ Returned (val (Num 12) ∷ memory [] ∷ input [] ∷ []) (met (0 ∷ []) ∷ [])) × (linear 1 two (0 ∷ 10 ∷ []) [] [] ≡ Returned (gave 12 [] []) (met (0 ∷ []) ∷ []))
-two-first = (refl, refl)
+both-second : (graph 3 both (7 ∷ 10 ∷ []) [] [] ≡ returned 11 [] [] (met (0 ∷ []) ∷ [])) × (linear 3 both (7 ∷ 10 ∷ []) [] [] ≡ gave 11 [] [] (met (0 ∷ []) ∷ []))
+both-second = (refl, refl)
 
-two-second : (graph 3 two (7 ∷ 10 ∷ []) [] [] ≡ Returned (val (Num 11) ∷ memory [] ∷ input [] ∷ []) (met (0 ∷ []) ∷ [])) × (linear 3 two (7 ∷ 10 ∷ []) [] [] ≡ Returned (gave 11 [] []) (met (0 ∷ []) ∷ []))
-two-second = (refl, refl)
-
--- ---- three regions
+-- ---- three regions without entries
 
 abbrev three : List PlainLambda
 three =
@@ -93,11 +119,42 @@ three =
     ∷ []))
     ∷ []) (Out 0 0 ∷ Arg 1 ∷ Arg 2 ∷ []) ∷ []
 
-three-middle : (graph 1 three (1 ∷ []) [] [] ≡ Returned (val (Num 11) ∷ memory [] ∷ input [] ∷ []) (met (0 ∷ []) ∷ [])) × (linear 1 three (1 ∷ []) [] [] ≡ Returned (gave 11 [] []) (met (0 ∷ []) ∷ []))
+three-fits : map well_formed three ≡ true ∷ []
+three-fits = refl
+
+three-0 : (graph 0 three (1 ∷ []) [] [] ≡ Cut []) × (linear 0 three (1 ∷ []) [] [] ≡ Cut [])
+three-0 = (refl, refl)
+
+three-first : (graph 1 three (0 ∷ []) [] [] ≡ returned 10 [] [] (met (0 ∷ []) ∷ [])) × (linear 1 three (0 ∷ []) [] [] ≡ gave 10 [] [] (met (0 ∷ []) ∷ []))
+three-first = (refl, refl)
+
+three-middle : (graph 1 three (1 ∷ []) [] [] ≡ returned 11 [] [] (met (0 ∷ []) ∷ [])) × (linear 1 three (1 ∷ []) [] [] ≡ gave 11 [] [] (met (0 ∷ []) ∷ []))
 three-middle = (refl, refl)
 
-three-beyond : (graph 1 three (9 ∷ []) [] [] ≡ Returned (val (Num 12) ∷ memory [] ∷ input [] ∷ []) (met (0 ∷ []) ∷ [])) × (linear 1 three (9 ∷ []) [] [] ≡ Returned (gave 12 [] []) (met (0 ∷ []) ∷ []))
+three-beyond : (graph 3 three (9 ∷ []) [] [] ≡ returned 12 [] [] (met (0 ∷ []) ∷ [])) × (linear 3 three (9 ∷ []) [] [] ≡ gave 12 [] [] (met (0 ∷ []) ∷ []))
 three-beyond = (refl, refl)
+
+-- ---- do a = a - 1; while (a);
+
+abbrev decrement : List PlainLambda
+decrement =
+    of_body 1 (
+    node 0 Theta (Arg 0 ∷ Arg 1 ∷ Arg 2 ∷ []) (regions_of (region (ValueKind ∷ Memory ∷ Io ∷ []) (nodes_of (
+    simple 1 (Const 1) [] ∷ simple 2 (Bin Sub) (Arg 0 ∷ Out 1 0 ∷ [])
+    ∷ [])) (Out 2 0 ∷ Out 2 0 ∷ Arg 1 ∷ Arg 2 ∷ []) ∷ []))
+    ∷ []) (Out 0 0 ∷ Out 0 1 ∷ Out 0 2 ∷ []) ∷ []
+
+decrement-fits : map well_formed decrement ≡ true ∷ []
+decrement-fits = refl
+
+decrement-0 : (graph 0 decrement (2 ∷ []) [] [] ≡ Cut []) × (linear 0 decrement (2 ∷ []) [] [] ≡ Cut [])
+decrement-0 = (refl, refl)
+
+decrement-1 : (graph 1 decrement (2 ∷ []) [] [] ≡ Cut (met (0 ∷ []) ∷ [])) × (linear 1 decrement (2 ∷ []) [] [] ≡ Cut (met (0 ∷ []) ∷ []))
+decrement-1 = (refl, refl)
+
+decrement-3 : (graph 3 decrement (2 ∷ []) [] [] ≡ returned 0 [] [] (met (0 ∷ []) ∷ [])) × (linear 3 decrement (2 ∷ []) [] [] ≡ gave 0 [] [] (met (0 ∷ []) ∷ []))
+decrement-3 = (refl, refl)
 
 -- ---- a loop that writes its variable, and counts it down to 0
 
@@ -117,8 +174,8 @@ countdown-fits = refl
 countdown-1 : (graph 1 countdown (2 ∷ []) [] [] ≡ Cut (met (0 ∷ []) ∷ [])) × (linear 1 countdown (2 ∷ []) [] [] ≡ Cut (met (0 ∷ []) ∷ []))
 countdown-1 = (refl, refl)
 
-countdown-3 : (graph 3 countdown (2 ∷ []) [] [] ≡ Returned (val (Num 0) ∷ memory [] ∷ input [] ∷ []) (met (0 ∷ []) ∷ wrote 2 ∷ wrote 1 ∷ []))
-    × (linear 3 countdown (2 ∷ []) [] [] ≡ Returned (gave 0 [] []) (met (0 ∷ []) ∷ wrote 2 ∷ wrote 1 ∷ []))
+countdown-3 : (graph 3 countdown (2 ∷ []) [] [] ≡ returned 0 [] [] (met (0 ∷ []) ∷ wrote 2 ∷ wrote 1 ∷ []))
+    × (linear 3 countdown (2 ∷ []) [] [] ≡ gave 0 [] [] (met (0 ∷ []) ∷ wrote 2 ∷ wrote 1 ∷ []))
 countdown-3 = (refl, refl)
 
 countdown-short : (graph 3 countdown (9 ∷ []) [] [] ≡ Cut (met (0 ∷ []) ∷ wrote 9 ∷ wrote 8 ∷ [])) × (linear 3 countdown (9 ∷ []) [] [] ≡ Cut (met (0 ∷ []) ∷ wrote 9 ∷ wrote 8 ∷ []))
@@ -136,10 +193,13 @@ swap =
 swap-fits : map well_formed swap ≡ true ∷ []
 swap-fits = refl
 
+swap-0 : (graph 0 swap (5 ∷ 0 ∷ []) [] [] ≡ Cut []) × (linear 0 swap (5 ∷ 0 ∷ []) [] [] ≡ Cut [])
+swap-0 = (refl, refl)
+
 swap-1 : (graph 1 swap (5 ∷ 0 ∷ []) [] [] ≡ Cut (met (0 ∷ []) ∷ [])) × (linear 1 swap (5 ∷ 0 ∷ []) [] [] ≡ Cut (met (0 ∷ []) ∷ []))
 swap-1 = (refl, refl)
 
-swap-3 : (graph 3 swap (5 ∷ 0 ∷ []) [] [] ≡ Returned (val (Num 5) ∷ memory [] ∷ input [] ∷ []) (met (0 ∷ []) ∷ [])) × (linear 3 swap (5 ∷ 0 ∷ []) [] [] ≡ Returned (gave 5 [] []) (met (0 ∷ []) ∷ []))
+swap-3 : (graph 3 swap (5 ∷ 0 ∷ []) [] [] ≡ returned 5 [] [] (met (0 ∷ []) ∷ [])) × (linear 3 swap (5 ∷ 0 ∷ []) [] [] ≡ gave 5 [] [] (met (0 ∷ []) ∷ []))
 swap-3 = (refl, refl)
 
 -- ---- a called function that writes its parameter and ends the program
@@ -166,8 +226,8 @@ reading = of_body 0 (simple 0 Get (Arg 1 ∷ []) ∷ simple 1 Get (Out 0 1 ∷ [
 reading-fits : map well_formed reading ≡ true ∷ []
 reading-fits = refl
 
-reading-1 : (graph 1 reading [] [] (7 ∷ []) ≡ Returned (val (Num 4294967295) ∷ memory [] ∷ input [] ∷ []) (met (0 ∷ []) ∷ took 7 ∷ []))
-    × (linear 1 reading [] [] (7 ∷ []) ≡ Returned (gave 4294967295 [] []) (met (0 ∷ []) ∷ took 7 ∷ []))
+reading-1 : (graph 1 reading [] [] (7 ∷ []) ≡ returned 4294967295 [] [] (met (0 ∷ []) ∷ took 7 ∷ []))
+    × (linear 1 reading [] [] (7 ∷ []) ≡ gave 4294967295 [] [] (met (0 ∷ []) ∷ took 7 ∷ []))
 reading-1 = (refl, refl)
 
 -- ---- an object is written and its address given back: the caller reads it after the call
@@ -262,3 +322,27 @@ exchanged-is-wrong h = by h.0.value h.0.is h.0.less
     by : (v : Value) → val (Num 2) ∷ memory [] ∷ input [] ∷ [] ≡ val v ∷ memory [] ∷ input [] ∷ [] → (v ≡ Num 1) ⊎ (v ≡ Bad) → ⊥
     by v e (inl z) = let same : Num 2 ≡ v = cc in let apart : Num 2 ≡ Num 1 = cc in absurd cc
     by v e (inr z) = let same : Num 2 ≡ v = cc in absurd cc
+
+-- ---- code that is not closed
+
+abbrev first_name : NameSet
+first_name x = x < 1
+
+-- name 1 is read after a choice in which one code alone writes it
+abbrev one_branch : Code
+one_branch =
+    step_then (choice 0 (code_then (instrs_then (const 1 5 ∷ []) no_steps) (code_then no_steps no_codes))) (instrs_then (move 2 1 ∷ []) no_steps)
+
+one_branch-is-not-closed : CodeIsClosed first_name one_branch → ⊥
+one_branch-is-not-closed h = let low : 1 < 1 = h.1.0.0.1.0 in omega (arith, low)
+
+-- the body of a loop reads name 0, which is written before the loop
+abbrev outer_name : Code
+outer_name = step_then (loop (move 1 0 ∷ []) (instrs_then (binary Add 2 1 0 ∷ []) no_steps) 2 (move 1 2 ∷ [])) no_steps
+
+outer_name-is-not-closed : CodeIsClosed first_name outer_name → ⊥
+outer_name-is-not-closed h = by h.0.1.0.1.0
+  where
+    by : (target_of (move 1 0) ≡ Some 0) ⊎ ⊥ → ⊥
+    by (inl e) = cc
+    by (inr e) = e

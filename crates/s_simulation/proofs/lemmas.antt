@@ -9,3 +9,5 @@ pub mod Nodes
 pub mod Regions
 pub mod Functions
 pub mod Written
+pub mod Known
+pub mod ClosedCode

@@ -8,7 +8,7 @@ use Rattle.val_core.specs.Events.{Event, output, deepest, called}
 use Rattle.val_core.specs.Answers.{Answer, Returned, Cut, Exited, Undefined, then_on, on_number, on_defined, active, IsUndefined}
 use Rattle.val_core.proofs.lemmas.Answers.{added, before-is}
 use Rattle.val_core.proofs.lemmas.Events.{prefix-self}
-use Rattle.g_mean.specs.Data.{Datum, val, memory, input, on_memory, on_input}
+use Rattle.g_mean.specs.Data.{Datum, val, memory, input, on_memory}
 use Rattle.s_simulation.specs.Agreement.{Agrees, AreWithin}
 
 agrees-added : {A B : Type 0} (R : A → B → Type 0) (o p : List Event) (a : Answer A) (b : Answer B) → o ≡ p → Agrees R a b → Agrees R (added o a) (added p b)
@@ -43,7 +43,7 @@ agrees-change R S (Cut o) (Cut p) more h = h
 agrees-change R S (Exited o s) (Exited p t) more h = h
 agrees-change R S _ _ more h = absurd h
 
--- ---- what follows on a number, a memory or an input
+-- ---- what follows on a number, on what may be undefined, or on a memory
 
 pub agrees-number : {A B : Type 0} (R : A → B → Type 0) (v w : Value) → IsLessDefined v w → (next : ℕ → Answer A) (next' : ℕ → Answer B) → ((n : ℕ) → Agrees R (next n) (next' n)) →
     Agrees R (on_number v next) (on_number w next')
@@ -61,11 +61,6 @@ pub agrees-memory : {A B : Type 0} (R : A → B → Type 0) (d : Datum) (next : 
 agrees-memory R (memory m) next b go = go m refl
 agrees-memory R (val v) next b go = tt
 agrees-memory R (input i) next b go = tt
-
-pub agrees-input : {A B : Type 0} (R : A → B → Type 0) (d : Datum) (next : List ℕ → Answer A) (b : Answer B) → ((i : List ℕ) → d ≡ input i → Agrees R (next i) b) → Agrees R (on_input d next) b
-agrees-input R (input i) next b go = go i refl
-agrees-input R (val v) next b go = tt
-agrees-input R (memory m) next b go = tt
 
 -- ---- whole runs
 

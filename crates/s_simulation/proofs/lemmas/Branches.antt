@@ -52,7 +52,10 @@ pub branch-agrees : (c : graph.Context) (d : linear.Context) (objects : ℕ) (r 
     (first next out base : ℕ) → BaseFits next out (value_args gives) base r → next ≤ out → (entries : List ℕ) (xs : List Datum) (s : State) → Held first next (args_of r) xs entries s →
     Agrees (NodeDone next out (map Some gives) s) (region_meaning c r xs) (code_run d (branch_code entries out base r) s)
 branch-agrees c d objects (region args nodes results) claim fits gives kinds first next out base place low entries xs s h =
-    rw (moves-then d base (kept (map Some args) entries) (nodes_code args base no_names (base + value_args args) nodes ends) s, nodes-then d args base no_names (base + value_args args) nodes ends begun)
+    rw (
+      moves-then d base (kept (map Some args) entries) (nodes_code args base no_names (base + value_args args) nodes ends) s,
+      nodes-then d args base no_names (base + value_args args) nodes ends begun,
+    )
     (agrees-then (Running args base xs begun nodes all top) (NodeDone next out (map Some gives) s) (nodes_run c nodes xs no_outputs)
     (code_run d (nodes_code args base no_names (base + value_args args) nodes no_steps) begun) (λ o. Returned (map (read xs o) results) []) (code_run d ends) (claim base xs begun carries) after)
   where

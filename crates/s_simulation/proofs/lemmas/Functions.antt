@@ -88,13 +88,13 @@ ended body t = record { value = t.names (value_name body); memory = t.memory; in
 abbrev begun : List Value → Blocks → List ℕ → State
 begun ws m i = record { names = first_names ws; memory = m; input = i }
 
-record BodyFits (objects params : ℕ) (body : RegionTree) : Type 0 where
-  args : args_of body ≡ replicate params ValueKind ++ Memory ∷ Io ∷ []
-  results : result_kinds body ≡ map Some (ValueKind ∷ Memory ∷ Io ∷ [])
-  regions : every_region (region_fits objects) body ≡ true
-  once : AtMostOnce (region_ids body)
+pub record BodyFits (objects params : ℕ) (body : RegionTree) : Type 0 where
+  pub args : args_of body ≡ replicate params ValueKind ++ Memory ∷ Io ∷ []
+  pub results : result_kinds body ≡ map Some (ValueKind ∷ Memory ∷ Io ∷ [])
+  pub regions : every_region (region_fits objects) body ≡ true
+  pub once : AtMostOnce (region_ids body)
 
-lambda-body : (l : PlainLambda) → well_formed l ≡ true → BodyFits (length l.objects) l.params l.body
+pub lambda-body : (l : PlainLambda) → well_formed l ≡ true → BodyFits (length l.objects) l.params l.body
 lambda-body l t =
     let p = and_parts (body_fits l && numbers_fit l && every_region (region_fits (length l.objects)) l.body) (all_of (λ o. leaves_fit o.size 0 o.leaves) l.objects) t in
     let q = and_parts (body_fits l && numbers_fit l) (every_region (region_fits (length l.objects)) l.body) p.0 in
@@ -109,7 +109,8 @@ lambda-body l t =
     }
 
 module _ (n : ℕ) (call : ℕ → Meaning) (callees : ℕ → Call) (agree : AllCallsAgree call callees) where
-  body-agrees : (objects params : ℕ) (body : RegionTree) → BodyFits objects params body → (addresses : Addresses) (vs ws : List Value) → AreLessDefined vs ws → params ≡ length vs → (m : Blocks) (i : List ℕ) →
+  body-agrees : (objects params : ℕ) (body : RegionTree) → BodyFits objects params body → (addresses : Addresses) (vs ws : List Value) → AreLessDefined vs ws →
+      params ≡ length vs → (m : Blocks) (i : List ℕ) →
       Agrees (λ ys t. GivesBack ys (ended body t)) (region_meaning (graph_context n call addresses) body (taken vs m i))
       (code_run (code_context n callees addresses) (body_code body) (begun ws m i))
   body-agrees objects params (region args nodes results) fits addresses vs ws less count m i =
@@ -178,7 +179,8 @@ module _ (n : ℕ) (call : ℕ → Meaning) (callees : ℕ → Call) (agree : Al
       after ys t b =
           (record { value = b.value; is = ap (changed_at 1 (with_memory (closed (length m) (length l.objects)))) b.is; less = b.less }, refl)
 
-  found-agrees : (global : ℕ → Value) (found : Option PlainLambda) → ((l : PlainLambda) → found ≡ Some l → well_formed l ≡ true) → (vs ws : List Value) → AreLessDefined vs ws → (m : Blocks) (i : List ℕ) →
+  found-agrees : (global : ℕ → Value) (found : Option PlainLambda) → ((l : PlainLambda) → found ≡ Some l → well_formed l ≡ true) → (vs ws : List Value) →
+      AreLessDefined vs ws → (m : Blocks) (i : List ℕ) →
       Agrees GivesBack (graph.entered n call global found (taken vs m i)) (linear.entered n callees global (option_map sequenced found) ws m i)
   found-agrees global None well vs ws less m i = tt
   found-agrees global (Some l) well vs ws less m i = entered-agrees global l (well l refl) vs ws less m i

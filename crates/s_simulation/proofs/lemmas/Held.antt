@@ -68,7 +68,7 @@ moved-states k t (x ∷ xs) s = moved-states k (suc t) xs (set s t (s.names x)) 
 -- ---- what names hold
 
 -- a datum is a value for which another one may stand
-pub record Near (d : Datum) (w : Value) : Type 0 where
+pub record MayStandFor (d : Datum) (w : Value) : Type 0 where
   pub value : Value
   pub is : d ≡ val value
   pub less : IsLessDefined value w
@@ -111,7 +111,7 @@ Held first next _ _ _ s = ⊥
 -- the same where the names of the values are those from `x` on
 abbrev pub Carries : List Kind → List Datum → (x : ℕ) → State → Type 0
 Carries [] [] x s = Unit {0}
-Carries (ValueKind ∷ ks) (d ∷ ds) x s = Near d (s.names x) × Carries ks ds (suc x) s
+Carries (ValueKind ∷ ks) (d ∷ ds) x s = MayStandFor d (s.names x) × Carries ks ds (suc x) s
 Carries (Memory ∷ ks) (d ∷ ds) x s = (d ≡ memory s.memory) × Carries ks ds x s
 Carries (Io ∷ ks) (d ∷ ds) x s = (d ≡ input s.input) × Carries ks ds x s
 Carries _ _ x s = ⊥

@@ -135,9 +135,9 @@ module _ (objects n : ℕ) (call : ℕ → Meaning) (callees : ℕ → Call) (ad
     abbrev pub StepAgrees : NodeTree → Type 0
     StepAgrees x = Agrees (StepDone x next s) (node_run c x xs o) (step_run d (node_step args base names next x) s)
 
-    pub inputs-held : (x : NodeTree) → NodeTests args earlier x → (inputs : List Origin) → all_of (is_last args earlier) inputs ≡ true → (ks : List Kind) → are (map (known args earlier) inputs) ks ≡ true →
+    pub inputs-held : (inputs : List Origin) → all_of (is_last args earlier) inputs ≡ true → (ks : List Kind) → are (map (known args earlier) inputs) ks ≡ true →
         Held base next ks (map (read xs o) inputs) (map (name_of args base names) inputs) s
-    inputs-held x t inputs last ks fit = held args base xs start earlier names next o s run inputs ks (are_kinds (map (known args earlier) inputs) ks fit) last
+    inputs-held inputs last ks fit = held args base xs start earlier names next o s run inputs ks (are_kinds (map (known args earlier) inputs) ks fit) last
 
     -- a node without regions has its outputs where its names begin
     at-next : (id : ℕ) (op : Op) (inputs : List Origin) (kinds : List (Option Kind)) →
@@ -156,34 +156,35 @@ module _ (objects n : ℕ) (call : ℕ → Meaning) (callees : ℕ → Call) (ad
     op-agrees id (Delta k) inputs no_regions simple t = at-next id (Delta k) inputs (Some ValueKind ∷ []) (constant-agrees n callees addresses base next s (addresses.global k))
     op-agrees id (Bin op) inputs no_regions simple t =
         at-next id (Bin op) inputs (Some ValueKind ∷ []) (binary-agrees n callees addresses base next s op (map (read xs o) inputs) (map (name_of args base names) inputs)
-        (inputs-held (node id (Bin op) inputs no_regions) t inputs t.last (ValueKind ∷ ValueKind ∷ []) t.inputs))
+        (inputs-held inputs t.last (ValueKind ∷ ValueKind ∷ []) t.inputs))
     op-agrees id (Un op) inputs no_regions simple t =
         at-next id (Un op) inputs (Some ValueKind ∷ []) (unary-agrees n callees addresses base next s op (map (read xs o) inputs) (map (name_of args base names) inputs)
-        (inputs-held (node id (Un op) inputs no_regions) t inputs t.last (ValueKind ∷ []) t.inputs))
+        (inputs-held inputs t.last (ValueKind ∷ []) t.inputs))
     op-agrees id (Load w) inputs no_regions simple t =
         at-next id (Load w) inputs (Some ValueKind ∷ []) (load-op-agrees n callees addresses base next s w (map (read xs o) inputs) (map (name_of args base names) inputs)
-        (inputs-held (node id (Load w) inputs no_regions) t inputs t.last (ValueKind ∷ Memory ∷ []) t.inputs))
+        (inputs-held inputs t.last (ValueKind ∷ Memory ∷ []) t.inputs))
     op-agrees id (Store w) inputs no_regions simple t =
         at-next id (Store w) inputs (Some Memory ∷ []) (store-op-agrees n callees addresses base next s w (map (read xs o) inputs) (map (name_of args base names) inputs)
-        (inputs-held (node id (Store w) inputs no_regions) t inputs t.last (ValueKind ∷ ValueKind ∷ Memory ∷ []) t.inputs))
+        (inputs-held inputs t.last (ValueKind ∷ ValueKind ∷ Memory ∷ []) t.inputs))
     op-agrees id (Clear k) inputs no_regions simple t =
         at-next id (Clear k) inputs (Some Memory ∷ []) (clear-op-agrees n callees addresses base next s k (map (read xs o) inputs) (map (name_of args base names) inputs)
-        (inputs-held (node id (Clear k) inputs no_regions) t inputs t.last (Memory ∷ []) t.inputs))
+        (inputs-held inputs t.last (Memory ∷ []) t.inputs))
     op-agrees id PtrEq inputs no_regions simple t =
         at-next id PtrEq inputs (Some ValueKind ∷ []) (pointers-op-agree n callees addresses base next s (map (read xs o) inputs) (map (name_of args base names) inputs)
-        (inputs-held (node id PtrEq inputs no_regions) t inputs t.last (ValueKind ∷ ValueKind ∷ Memory ∷ []) t.inputs))
+        (inputs-held inputs t.last (ValueKind ∷ ValueKind ∷ Memory ∷ []) t.inputs))
     op-agrees id Put inputs no_regions simple t =
         at-next id Put inputs (Some Io ∷ []) (put-agrees n callees addresses base next s (map (read xs o) inputs) (map (name_of args base names) inputs)
-        (inputs-held (node id Put inputs no_regions) t inputs t.last (ValueKind ∷ Io ∷ []) t.inputs))
+        (inputs-held inputs t.last (ValueKind ∷ Io ∷ []) t.inputs))
     op-agrees id Exit inputs no_regions simple t =
         at-next id Exit inputs (Some Io ∷ []) (exit-agrees n callees addresses base next s (map (read xs o) inputs) (map (name_of args base names) inputs)
-        (inputs-held (node id Exit inputs no_regions) t inputs t.last (ValueKind ∷ Io ∷ []) t.inputs))
+        (inputs-held inputs t.last (ValueKind ∷ Io ∷ []) t.inputs))
     op-agrees id Get inputs no_regions simple t =
         at-next id Get inputs (Some ValueKind ∷ Some Io ∷ []) (get-agrees n callees addresses base next s (map (read xs o) inputs) (map (name_of args base names) inputs)
-        (inputs-held (node id Get inputs no_regions) t inputs t.last (Io ∷ []) t.inputs))
+        (inputs-held inputs t.last (Io ∷ []) t.inputs))
     op-agrees id (Apply f) inputs no_regions simple t =
-        at-next id (Apply f) inputs (Some ValueKind ∷ Some Memory ∷ Some Io ∷ []) (call-agrees n callees addresses base next s call agree f (length inputs - 2) (map (read xs o) inputs) (map (name_of args base names) inputs)
-        (inputs-held (node id (Apply f) inputs no_regions) t inputs t.last (inputs_of (Apply f) (length inputs) no_regions) t.inputs))
+        at-next id (Apply f) inputs (Some ValueKind ∷ Some Memory ∷ Some Io ∷ [])
+        (call-agrees n callees addresses base next s call agree f (length inputs - 2) (map (read xs o) inputs) (map (name_of args base names) inputs)
+        (inputs-held inputs t.last (inputs_of (Apply f) (length inputs) no_regions) t.inputs))
     op-agrees id op inputs (region_then r rs) simple t = let h = t.has in absurd cc
 
     -- a Gamma whose regions and branches agree
@@ -194,7 +195,7 @@ module _ (objects n : ℕ) (call : ℕ → Meaning) (callees : ℕ → Call) (ad
         StepAgrees (node id Gamma inputs (region_then r rs))
     gamma-agrees id [] r rs t all = let h = t.inputs in absurd cc
     gamma-agrees id (p ∷ entries) r rs t all =
-        let both = inputs-held (node id Gamma (p ∷ entries) (region_then r rs)) t (p ∷ entries) t.last (ValueKind ∷ args_of r) t.inputs in
+        let both = inputs-held (p ∷ entries) t.last (ValueKind ∷ args_of r) t.inputs in
         let less = tied-less base next (read xs o p) (name_of args base names p) s both.0 in
         let agreed = all (map (name_of args base names) entries) (map (read xs o) entries) both.1 in
         agrees-number (NodeDone next (outputs_at next (region_then r rs)) (result_kinds r) s) (value_of (read xs o p)) (s.names (name_of args base names p)) less _ _

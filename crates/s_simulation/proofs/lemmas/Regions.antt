@@ -93,7 +93,7 @@ module _ (objects n : ℕ) (call : ℕ → Meaning) (callees : ℕ → Call) (ad
     node-agrees args base xs start earlier names next o s run (node id Theta inputs no_regions) t nested once = let h = t.has in absurd cc
     node-agrees args base xs start earlier names next o s run (node id Theta inputs (region_then r (region_then q rs))) t nested once = let h = t.has in absurd cc
     node-agrees args base xs start earlier names next o s run (node id Theta inputs (region_then r no_regions)) t nested once =
-        let all-held = inputs-held objects n call callees addresses agree args base xs start earlier names next o s run (node id Theta inputs (region_then r no_regions)) t inputs t.last (args_of r) t.inputs in
+        let all-held = inputs-held objects n call callees addresses agree args base xs start earlier names next o s run inputs t.last (args_of r) t.inputs in
         let here = and_parts (every_region (region_fits objects) r) true nested in
         let kinds = and_parts (are (result_kinds r) (ValueKind ∷ args_of r)) true t.regions in
         let both = and_parts (some_of (same_kind Memory) (args_of r) && some_of (same_kind Io) (args_of r)) true t.states in
@@ -107,7 +107,8 @@ module _ (objects n : ℕ) (call : ℕ → Meaning) (callees : ℕ → Call) (ad
     node-agrees args base xs start earlier names next o s run (node id op inputs rs) t nested once =
         op-agrees objects n call callees addresses agree args base xs start earlier names next o s run id op inputs rs refl t
 
-    regions-agree : (first next out : ℕ) (takes gives : List Kind) (s : State) (entries : List ℕ) (us : List Datum) → Held first next takes us entries s → next ≤ out → (rs : RegionTrees) (bs : List ℕ) →
+    regions-agree : (first next out : ℕ) (takes gives : List Kind) (s : State) (entries : List ℕ) (us : List Datum) → Held first next takes us entries s →
+        next ≤ out → (rs : RegionTrees) (bs : List ℕ) →
         AllFit next out (value_args gives) bs rs → all_regions (λ r. same (args_of r) takes && are (result_kinds r) gives) rs ≡ true → every_in_regions (region_fits objects) rs ≡ true →
         AtMostOnce (regions_ids rs) → AllAgree (NodeDone next out (map Some gives) s) us s (meanings c rs) (codes_runs d (branch_codes entries out bs rs))
     regions-agree first next out takes gives s entries us h low no_regions [] place t nested once = tt

@@ -48,7 +48,7 @@ some-at [] p k e = absurd cc
 some-at (j ∷ ks) zero k e = let same : j ≡ k = cc in ap Some same
 some-at (j ∷ ks) (suc p) k e = some-at ks p k e
 
-joined-at : (ks : List Kind) (p : ℕ) (k : Kind) → joined (slice_get (map Some ks) p) ≡ Some k → slice_get ks p ≡ Some k
+pub joined-at : (ks : List Kind) (p : ℕ) (k : Kind) → joined (slice_get (map Some ks) p) ≡ Some k → slice_get ks p ≡ Some k
 joined-at [] p k e = absurd cc
 joined-at (j ∷ ks) zero k e = e
 joined-at (j ∷ ks) (suc p) k e = joined-at ks p k e
