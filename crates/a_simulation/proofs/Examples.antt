@@ -1,4 +1,5 @@
--- Worked rows: what functions do over names and over their places; two wrong choices of places, and two codes that are not closed.
+-- Worked rows: what functions do over names and over their places; two wrong choices of places, a choice of one code, and a loop
+-- that reads a name from outside.
 use Rattle.std.specs.Prelude.{◌≡◌, refl, ℕ, Bool, ◌==◌, nat_lt, ◌&&◌, List, [], ◌∷◌, map, slice_index}
 use Rattle.g_graph.specs.WellFormed.{some_of}
 use Rattle.val_core.specs.declared.values.Value.{Value}
