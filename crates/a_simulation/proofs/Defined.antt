@@ -1,116 +1,157 @@
 -- What closed code needs was written before it.
-use Rattle.std.proofs.Common.{◌⊎◌, ℕ, List, [], ◌∷◌, subst, inl, inr}
+use Rattle.std.proofs.Common.{ℕ, List, [], ◌∷◌, subst, inl, inr}
 use Rattle.s_linear.specs.Linear.{Instr, Step, plain, choice, loop, Code, no_steps, step_then, Codes, no_codes, code_then}
-use Rattle.a_simulation.specs.Need.{NameSet, no_name, these, joined, targets, needed_by, needed_by_instrs, after_body, needed_by_step, needed_by_code, needed_by_codes, at_label}
-use Rattle.a_simulation.specs.Closed.{written_by_instrs, written_by_step, written_by_code, written_by_codes, IsClosedInstr, AreClosedInstrs, IsClosedStep, IsClosedCode, AreClosedCodes}
-
-pub regroup : {A B C : Type 0} → A ⊎ (B ⊎ C) → (A ⊎ B) ⊎ C
-regroup (inl a) = inl (inl a)
-regroup (inr (inl b)) = inl (inr b)
-regroup (inr (inr c)) = inr c
-
-pub first_of : {A B C : Type 0} → A ⊎ (B × C) → A ⊎ B
-first_of (inl a) = inl a
-first_of (inr both) = inr both.0
-
-pub rest_of : {A B C : Type 0} → A ⊎ (B × C) → A ⊎ C
-rest_of (inl a) = inl a
-rest_of (inr both) = inr both.1
+use Rattle.a_simulation.specs.Closed.{sources_of, NameSet, AreIn, after_instr, after_instrs, no_names, after_step, after_code, after_each, InstrsAreClosed, StepIsClosed, CodeIsClosed, AreClosed}
+use Rattle.a_simulation.specs.Need.{IsIn, joined, needed_by, needed_by_instrs, after_body, needed_by_step, needed_by_code, needed_by_codes, at_label}
 
 -- one set of names is in another
 abbrev pub IsSubset : (D C : NameSet) → Type 0
 IsSubset D C = (x : ℕ) → D x → C x
 
--- ---- code that is closed after some names is closed after more
+pub none_in : (D : NameSet) → IsSubset no_names D
+none_in D x z = absurd z
 
-pub wider_joined : (D C W : NameSet) → IsSubset D C → IsSubset (joined D W) (joined C W)
-wider_joined D C W h x (inl d) = inl (h x d)
-wider_joined D C W h x (inr w) = inr w
+reads_in : (D : NameSet) (xs : List ℕ) → AreIn D xs → (x : ℕ) → IsIn x xs → D x
+reads_in D [] h x r = absurd r
+reads_in D (y ∷ ys) h x (inl e) = subst D e h.0
+reads_in D (y ∷ ys) h x (inr r) = reads_in D ys h.1 x r
 
-pub wider_instrs : (is : List Instr) (D C : NameSet) → IsSubset D C → AreClosedInstrs D is → AreClosedInstrs C is
-wider_instrs [] D C h k = tt
-wider_instrs (i ∷ is) D C h k =
-    ((λ x r. h x (k.0 x r)), wider_instrs is (joined D (these (targets i))) (joined C (these (targets i))) (wider_joined D C (these (targets i)) h) k.1)
+are_in_wider : (D C : NameSet) (xs : List ℕ) → IsSubset D C → AreIn D xs → AreIn C xs
+are_in_wider D C [] h k = tt
+are_in_wider D C (x ∷ xs) h k = (h x k.0, are_in_wider D C xs h k.1)
+
+-- ---- after more names more are written
+
+instr_more : (i : Instr) (D C : NameSet) → IsSubset D C → IsSubset (after_instr D i) (after_instr C i)
+instr_more i D C h x (inl w) = inl w
+instr_more i D C h x (inr d) = inr (h x d)
+
+pub instrs_more : (is : List Instr) (D C : NameSet) → IsSubset D C → IsSubset (after_instrs D is) (after_instrs C is)
+instrs_more [] D C h x d = h x d
+instrs_more (i ∷ is) D C h x d = instrs_more is (after_instr D i) (after_instr C i) (instr_more i D C h) x d
 
 mutual
-  wider_step : (s : Step) (D C : NameSet) → IsSubset D C → IsClosedStep D s → IsClosedStep C s
-  wider_step (plain i) D C h k = λ x r. h x (k x r)
-  wider_step (choice p cs) D C h k = (h p k.0, k.1, wider_codes cs D C h k.2)
-  wider_step (loop moves body p back) D C h k = (wider_instrs moves D C h k.0, k.1, k.2, k.3, k.4)
+  step_more : (s : Step) (D C : NameSet) → IsSubset D C → IsSubset (after_step D s) (after_step C s)
+  step_more (plain i) D C h x d = instr_more i D C h x d
+  step_more (choice p cs) D C h x d = each_more cs D C h x d
+  step_more (loop moves body p back) D C h x (inl w) = inl w
+  step_more (loop moves body p back) D C h x (inr d) = inr (h x d)
 
-  pub wider_code : (c : Code) (D C : NameSet) → IsSubset D C → IsClosedCode D c → IsClosedCode C c
-  wider_code no_steps D C h k = tt
-  wider_code (step_then s c) D C h k =
-      (wider_step s D C h k.0, wider_code c (joined D (written_by_step s)) (joined C (written_by_step s)) (wider_joined D C (written_by_step s) h) k.1)
+  pub code_more : (c : Code) (D C : NameSet) → IsSubset D C → IsSubset (after_code D c) (after_code C c)
+  code_more no_steps D C h x d = h x d
+  code_more (step_then s c) D C h x d = code_more c (after_step D s) (after_step C s) (λ y e. step_more s D C h y e) x d
 
-  wider_codes : (cs : Codes) (D C : NameSet) → IsSubset D C → AreClosedCodes D cs → AreClosedCodes C cs
-  wider_codes no_codes D C h k = tt
-  wider_codes (code_then c cs) D C h k = (wider_code c D C h k.0, wider_codes cs D C h k.1)
+  each_more : (cs : Codes) (D C : NameSet) → IsSubset D C → IsSubset (after_each D cs) (after_each C cs)
+  each_more no_codes D C h x d = tt
+  each_more (code_then c cs) D C h x d = (code_more c D C h x d.0, each_more cs D C h x d.1)
+
+-- ---- what is written stays written
+
+pub instrs_grow : (is : List Instr) (D : NameSet) → IsSubset D (after_instrs D is)
+instrs_grow [] D x d = d
+instrs_grow (i ∷ is) D x d = instrs_grow is (after_instr D i) x (inr d)
+
+mutual
+  step_grow : (s : Step) (D : NameSet) → IsSubset D (after_step D s)
+  step_grow (plain i) D x d = inr d
+  step_grow (choice p cs) D x d = each_grow cs D x d
+  step_grow (loop moves body p back) D x d = inr d
+
+  pub code_grow : (c : Code) (D : NameSet) → IsSubset D (after_code D c)
+  code_grow no_steps D x d = d
+  code_grow (step_then s c) D x d = code_grow c (after_step D s) x (step_grow s D x d)
+
+  each_grow : (cs : Codes) (D : NameSet) → IsSubset D (after_each D cs)
+  each_grow no_codes D x d = tt
+  each_grow (code_then c cs) D x d = (code_grow c D x d, each_grow cs D x d)
+
+-- ---- code that is closed after some names is closed after more
+
+pub instrs_wider : (is : List Instr) (D C : NameSet) → IsSubset D C → InstrsAreClosed D is → InstrsAreClosed C is
+instrs_wider [] D C h k = tt
+instrs_wider (i ∷ is) D C h k =
+    (are_in_wider D C (sources_of i) h k.0, instrs_wider is (after_instr D i) (after_instr C i) (instr_more i D C h) k.1)
+
+mutual
+  step_wider : (s : Step) (D C : NameSet) → IsSubset D C → StepIsClosed D s → StepIsClosed C s
+  step_wider (plain i) D C h k = are_in_wider D C (sources_of i) h k
+  step_wider (choice p cs) D C h k = (h p k.0, each_wider cs D C h k.1)
+  step_wider (loop moves body p back) D C h k = (instrs_wider moves D C h k.0, k.1, k.2, k.3, k.4)
+
+  pub code_wider : (c : Code) (D C : NameSet) → IsSubset D C → CodeIsClosed D c → CodeIsClosed C c
+  code_wider no_steps D C h k = tt
+  code_wider (step_then s c) D C h k = (step_wider s D C h k.0, code_wider c (after_step D s) (after_step C s) (step_more s D C h) k.1)
+
+  each_wider : (cs : Codes) (D C : NameSet) → IsSubset D C → AreClosed D cs → AreClosed C cs
+  each_wider no_codes D C h k = tt
+  each_wider (code_then c cs) D C h k = (code_wider c D C h k.0, each_wider cs D C h k.1)
 
 -- ---- what is needed
 
-pub instr_defined : (i : Instr) (D N : NameSet) → IsClosedInstr D i → IsSubset N (joined D (these (targets i))) → IsSubset (needed_by i N) D
-instr_defined i D N k h x (inl read) = k x read
-instr_defined i D N k h x (inr later) =
-    elim (h x later.1) [
-      | inl d ↦ d
-      | inr w ↦ absurd (later.0 w)
+instr_defined : (i : Instr) (D N : NameSet) → AreIn D (sources_of i) → IsSubset N (after_instr D i) → IsSubset (needed_by i N) D
+instr_defined i D N k h x (inl read) = reads_in D (sources_of i) k x read
+instr_defined i D N k h x (inr m) =
+    elim (h x m.1) [
+      | inl w ↦ absurd (m.0 w)
+      | inr d ↦ d
     ]
 
-pub instrs_defined : (is : List Instr) (D N : NameSet) → AreClosedInstrs D is → IsSubset N (joined D (written_by_instrs is)) → IsSubset (needed_by_instrs is N) D
-instrs_defined [] D N k h x n =
-    elim (h x n) [
-      | inl d ↦ d
-      | inr z ↦ absurd z
-    ]
-instrs_defined (i ∷ is) D N k h x n =
-    instr_defined i D (needed_by_instrs is N) k.0 (instrs_defined is (joined D (these (targets i))) N k.1 (λ y m. regroup (h y m))) x n
+pub instrs_defined : (is : List Instr) (D N : NameSet) → InstrsAreClosed D is → IsSubset N (after_instrs D is) → IsSubset (needed_by_instrs is N) D
+instrs_defined [] D N k h x n = h x n
+instrs_defined (i ∷ is) D N k h x n = instr_defined i D (needed_by_instrs is N) k.0 (instrs_defined is (after_instr D i) N k.1 h) x n
 
 -- what a code needs of names that were written before it or by it was written before it
 abbrev AreDefined : Code → Type 1
-AreDefined c = (D N : NameSet) → IsClosedCode D c → IsSubset N (joined D (written_by_code c)) → IsSubset (needed_by_code c N) D
+AreDefined c = (D N : NameSet) → CodeIsClosed D c → IsSubset N (after_code D c) → IsSubset (needed_by_code c N) D
 
-pub label_in : (body : Code) (p : ℕ) (back : List Instr) (E D N : NameSet) → AreDefined body → IsClosedCode E body → joined E (written_by_code body) p
-    → AreClosedInstrs (joined E (written_by_code body)) back → IsSubset N (joined (joined D E) (written_by_code body)) → IsSubset (at_label body p back N) (joined D E)
-label_in body p back E D N are b q r h x l = are (joined D E) (after_body p back N) (wider_code body E (joined D E) (λ y e. inr e) b) after x l
+-- with the names of a loop's moves in and others
+pub with_others : (body : Code) (E D : NameSet) → IsSubset (after_code E body) (after_code (joined D E) body)
+with_others body E D x w = code_more body E (joined D E) (λ y e. inr e) x w
+
+pub label_in : (body : Code) (p : ℕ) (back : List Instr) (E D N : NameSet) → AreDefined body → CodeIsClosed E body → after_code E body p
+    → InstrsAreClosed (after_code E body) back → IsSubset N (after_code (joined D E) body) → IsSubset (at_label body p back N) (joined D E)
+label_in body p back E D N are b q r h x l = are (joined D E) (after_body p back N) (code_wider body E (joined D E) (λ y e. inr e) b) after x l
   where
-    wide : IsSubset (joined E (written_by_code body)) (joined (joined D E) (written_by_code body))
-    wide y e = wider_joined E (joined D E) (written_by_code body) (λ z e'. inr e') y e
-
-    after : IsSubset (after_body p back N) (joined (joined D E) (written_by_code body))
-    after y (inl e) = subst (joined (joined D E) (written_by_code body)) e (wide p q)
+    after : IsSubset (after_body p back N) (after_code (joined D E) body)
+    after y (inl e) = subst (after_code (joined D E) body) e (with_others body E D p q)
     after y (inr (inl n)) = h y n
     after y (inr (inr read)) =
-        instrs_defined back (joined (joined D E) (written_by_code body)) no_name
-        (wider_instrs back (joined E (written_by_code body)) (joined (joined D E) (written_by_code body)) wide r) (λ z n. absurd n) y read
+        instrs_defined back (after_code (joined D E) body) no_names (instrs_wider back (after_code E body) (after_code (joined D E) body) (with_others body E D) r)
+        (none_in (after_instrs (after_code (joined D E) body) back)) y read
+
+-- what is written after a loop is written after its body
+pub after_loop : (moves back : List Instr) (body : Code) (p : ℕ) (D : NameSet)
+    → IsSubset (after_step D (loop moves body p back)) (after_code (joined D (after_instrs no_names moves)) body)
+after_loop moves back body p D x (inl w) = with_others body (after_instrs no_names moves) D x w
+after_loop moves back body p D x (inr d) = code_grow body (joined D (after_instrs no_names moves)) x (inl d)
+
+pub moved_in : (moves : List Instr) (D : NameSet) → IsSubset (joined D (after_instrs no_names moves)) (after_instrs D moves)
+moved_in moves D x (inl d) = instrs_grow moves D x d
+moved_in moves D x (inr e) = instrs_more moves no_names D (none_in D) x e
 
 mutual
-  step_defined : (s : Step) (D N : NameSet) → IsClosedStep D s → IsSubset N (joined D (written_by_step s)) → IsSubset (needed_by_step s N) D
+  step_defined : (s : Step) (D N : NameSet) → StepIsClosed D s → IsSubset N (after_step D s) → IsSubset (needed_by_step s N) D
   step_defined (plain i) D N k h x n = instr_defined i D N k h x n
-  step_defined (choice p no_codes) D N k h x (inl e) = subst D e k.0
-  step_defined (choice p no_codes) D N k h x (inr n) = absurd n
-  step_defined (choice p (code_then c cs)) D N k h x (inl e) = subst D e k.0
-  step_defined (choice p (code_then c cs)) D N k h x (inr (inl n)) = code_defined c D N k.2.0 (λ y m. first_of (h y m)) x n
-  step_defined (choice p (code_then c cs)) D N k h x (inr (inr n)) = codes_defined cs D N k.2.1 (λ y m. rest_of (h y m)) x n
+  step_defined (choice p cs) D N k h x (inl e) = subst D e k.0
+  step_defined (choice p cs) D N k h x (inr n) = each_defined cs D N k.1 h x n
   step_defined (loop moves body p back) D N k h x n =
       instrs_defined moves D (at_label body p back N) k.0
-      (label_in body p back (written_by_instrs moves) D N (λ C M b g y m. code_defined body C M b g y m) k.1 k.2 k.3 (λ y m. regroup (h y m))) x n
+      (λ y l.
+      moved_in moves D y
+      (label_in body p back (after_instrs no_names moves) D N (λ C M b g z m. code_defined body C M b g z m) k.1 k.2 k.3
+      (λ z m. after_loop moves back body p D z (h z m)) y l)) x n
 
-  pub code_defined : (c : Code) (D N : NameSet) → IsClosedCode D c → IsSubset N (joined D (written_by_code c)) → IsSubset (needed_by_code c N) D
-  code_defined no_steps D N k h x n =
-      elim (h x n) [
-        | inl d ↦ d
-        | inr z ↦ absurd z
-      ]
+  pub code_defined : (c : Code) (D N : NameSet) → CodeIsClosed D c → IsSubset N (after_code D c) → IsSubset (needed_by_code c N) D
+  code_defined no_steps D N k h x n = h x n
   code_defined (step_then s c) D N k h x n =
-      step_defined s D (needed_by_code c N) k.0 (λ y m. code_defined c (joined D (written_by_step s)) N k.1 (λ z l. regroup (h z l)) y m) x n
+      step_defined s D (needed_by_code c N) k.0 (λ y m. code_defined c (after_step D s) N k.1 h y m) x n
 
-  codes_defined : (cs : Codes) (D N : NameSet) → AreClosedCodes D cs → IsSubset N (joined D (written_by_codes cs)) → IsSubset (needed_by_codes cs N) D
-  codes_defined no_codes D N k h x n = absurd n
-  codes_defined (code_then c cs) D N k h x (inl n) = code_defined c D N k.0 (λ y m. first_of (h y m)) x n
-  codes_defined (code_then c cs) D N k h x (inr n) = codes_defined cs D N k.1 (λ y m. rest_of (h y m)) x n
+  each_defined : (cs : Codes) (D N : NameSet) → AreClosed D cs → IsSubset N (after_each D cs) → IsSubset (needed_by_codes cs N) D
+  each_defined no_codes D N k h x n = absurd n
+  each_defined (code_then c cs) D N k h x (inl n) = code_defined c D N k.0 (λ y m. (h y m).0) x n
+  each_defined (code_then c cs) D N k h x (inr n) = each_defined cs D N k.1 (λ y m. (h y m).1) x n
 
 -- what is needed at a closed loop's label was written before the loop or by its moves in
-pub label_defined : (moves back : List Instr) (body : Code) (p : ℕ) (D N : NameSet) → IsClosedStep D (loop moves body p back)
-    → IsSubset N (joined (joined D (written_by_instrs moves)) (written_by_code body)) → IsSubset (at_label body p back N) (joined D (written_by_instrs moves))
-label_defined moves back body p D N k h = label_in body p back (written_by_instrs moves) D N (code_defined body) k.1 k.2 k.3 h
+pub label_defined : (moves back : List Instr) (body : Code) (p : ℕ) (D N : NameSet) → StepIsClosed D (loop moves body p back)
+    → IsSubset N (after_code (joined D (after_instrs no_names moves)) body) → IsSubset (at_label body p back N) (joined D (after_instrs no_names moves))
+label_defined moves back body p D N k h = label_in body p back (after_instrs no_names moves) D N (code_defined body) k.1 k.2 k.3 h

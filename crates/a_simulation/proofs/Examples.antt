@@ -1,5 +1,7 @@
--- Worked rows: what functions do over names and over their places; two wrong choices of places, and two codes that are not closed.
+-- Worked rows: what functions do over names and over their places; two wrong choices of places, a choice of one code, and a loop
+-- that reads a name from outside.
 use Rattle.std.specs.Prelude.{◌≡◌, refl, ℕ, Bool, ◌==◌, nat_lt, ◌&&◌, List, [], ◌∷◌, map, slice_index}
+use Rattle.std.proofs.Common.{inl, inr}
 use Rattle.g_graph.specs.WellFormed.{some_of}
 use Rattle.val_core.specs.declared.values.Value.{Value}
 use Rattle.val_core.specs.declared.values.Value.TheVariants.{Num, Bad}
@@ -12,6 +14,7 @@ use Rattle.s_linear.specs.Lines.{Line, enter, leave, done, branch_zero, jump, la
 use Rattle.s_linear.specs.Meaning.{calls}
 use Rattle.a_place.specs.Places.{first, last, in_order, least, count_of, place_in, places}
 use Rattle.a_place.specs.Places as place
+use Rattle.a_simulation.specs.Closed.{FunctionIsClosed}
 use Rattle.a_simulation.specs.Placed.{placed_at, placed, placed_calls}
 
 abbrev no_globals : ℕ → Value
@@ -130,7 +133,7 @@ calls-agree = refl
 calls-are-cut : over_places 1 (twice ∷ echo ∷ []) (Num 3 ∷ []) (4 ∷ []) ≡ Cut (called 0 [])
 calls-are-cut = refl
 
--- ---- A choice of one code: its lines do not read the predicate, so another name may have its place.
+-- ---- A choice of one code, which is closed: its lines do not read the predicate, so another name may have its place.
 
 abbrev one : LinearFunction
 one = record {
@@ -142,6 +145,9 @@ one = record {
       (step_then (choice 0 (code_then (step_then (plain (const 2 3)) no_steps) no_codes)) no_steps));
   value = 2;
 }
+
+one-closed : FunctionIsClosed one
+one-closed = record { code = (tt, (tt, ((inr (inl refl), ((tt, tt), tt)), tt))); value = (inl refl, tt) }
 
 one-names : over_names 1 (one ∷ []) [] [] ≡ gives 3
 one-names = refl

@@ -12,10 +12,11 @@ use Rattle.s_linear.specs.Lines.{enter, leave, code_lines, numbers_from, lines}
 use Rattle.s_linear.specs.Meaning.{State, Context, Call, no_names, written, code_run, first_names, shapes, entered, calls}
 use Rattle.a_place.proofs.Apart.{overlapping_names_differ}
 use Rattle.a_simulation.specs.Placed.{placed_code, place_of, placed, put_params, placed_entered}
-use Rattle.a_simulation.specs.Need.{IsIn, NameSet, these, joined, needed_by_code, SafeCode}
-use Rattle.a_simulation.specs.Closed.{written_by_code, below, IsClosed, AreClosed}
+use Rattle.a_simulation.specs.Closed.{NameSet, after_code, FunctionIsClosed}
+use Rattle.a_simulation.specs.Choices.{CodeChooses, FunctionsChoose}
+use Rattle.a_simulation.specs.Need.{IsIn, these, needed_by_code, SafeCode}
 use Rattle.a_simulation.specs.Spans.{StandAt, ArePlacesApart}
-use Rattle.a_simulation.specs.Laws.{Same, Holds, FunctionsAgree}
+use Rattle.a_simulation.specs.Laws.{Same, Holds, FunctionsAreClosed, FunctionsAgree}
 use Rattle.a_simulation.proofs.Runs.{code_same}
 use Rattle.a_simulation.proofs.Defined.{code_defined}
 use Rattle.a_simulation.proofs.Positions.{begun, later}
@@ -62,7 +63,10 @@ same_results R (Exited o s) (Exited p t) g h k e = λ j. Exited (k.0 j) (k.1 j)
 same_results R (Undefined o) (Undefined p) g h k e = λ j. Undefined (k j)
 same_results R _ _ g h k e = absurd k
 
-module _ (f : LinearFunction) (is_closed : IsClosed f) where
+module _ (f : LinearFunction) (is_closed : FunctionIsClosed f) (chooses : CodeChooses f.code) where
+  abbrev params : NameSet
+  params x = x < f.params
+
   abbrev value_only : NameSet
   value_only = these (f.value ∷ [])
 
@@ -73,17 +77,16 @@ module _ (f : LinearFunction) (is_closed : IsClosed f) where
   apart : ArePlacesApart (lines f) (place_of f)
   apart = overlapping_names_differ (lines f)
 
-  value_written : (x : ℕ) → value_only x → joined (below f.params) (written_by_code f.code) x
-  value_written x (inl e) = subst (joined (below f.params) (written_by_code f.code)) e (is_closed.value)
+  value_written : (x : ℕ) → value_only x → after_code params f.code x
+  value_written x (inl e) = subst (after_code params f.code) e (is_closed.value)
   value_written x (inr z) = absurd z
 
   is_safe : SafeCode (place_of f) f.code value_only
   is_safe =
-      safe_code (lines f) (place_of f) apart f.code (below f.params) value_only 1 stands.0 (is_closed.code)
+      safe_code (lines f) (place_of f) apart f.code params value_only 1 stands.0 (is_closed.code) chooses
       (spans_code (lines f) 0 1 stands.0 f.code stands.1.1)
-      (λ x l.
-      later (lines f) x 0 1 (omega arith)
-      (begun (lines f) x 0 (alive_at (lines f) 0 (enter (numbers_from 0 f.params)) x stands.1.0 (in_numbers x 0 f.params (omega arith) (omega arith)))))
+      (later (lines f) params 0 1 (omega arith)
+      (λ x l. begun (lines f) x 0 (alive_at (lines f) 0 (enter (numbers_from 0 f.params)) x stands.1.0 (in_numbers x 0 f.params (omega arith) (omega arith)))))
       (λ x n. (alive_at (lines f) stands.0 (leave f.value) x stands.2.0 n).not_ended) value_written
 
   params_apart : (x y : ℕ) → x ≢ y → x < 0 + f.params → y < 0 + f.params → place_of f x ≢ place_of f y
@@ -94,7 +97,7 @@ module _ (f : LinearFunction) (is_closed : IsClosed f) where
   params_hold : (vs : List Value) (x : ℕ) → needed_by_code f.code value_only x
       → first_names vs x ≡ put_params (map (place_of f) (numbers_from 0 f.params)) 0 vs no_names (place_of f x)
   params_hold vs x n =
-      let l : x < f.params = code_defined f.code (below f.params) value_only (is_closed.code) value_written x n in
+      let l : x < f.params = code_defined f.code params value_only (is_closed.code) value_written x n in
       sym (put_holds (place_of f) vs 0 f.params no_names params_apart (λ y z. absurd (omega arith)) x (omega arith))
 
   entered_same : (n : ℕ) (callees : ℕ → Call) (global : ℕ → Value) (vs : List Value) (m : Memory) (i : List ℕ)
@@ -111,14 +114,14 @@ module _ (f : LinearFunction) (is_closed : IsClosed f) where
 
 -- ---- calls
 
-entered_each : (fs : List LinearFunction) → AreClosed fs → (k n : ℕ) (callees : ℕ → Call) (global : ℕ → Value) (vs : List Value) (m : Memory) (i : List ℕ)
+entered_each : (fs : List LinearFunction) → FunctionsAreClosed fs → FunctionsChoose fs → (k n : ℕ) (callees : ℕ → Call) (global : ℕ → Value) (vs : List Value) (m : Memory) (i : List ℕ)
     → entered n callees global (slice_get fs k) vs m i ≡ placed_entered n callees global (slice_get (map placed fs) k) vs m i
-entered_each [] h k n callees global vs m i = refl
-entered_each (f ∷ fs) h zero n callees global vs m i = entered_same f h.0 n callees global vs m i
-entered_each (f ∷ fs) h (suc k) n callees global vs m i = entered_each fs h.1 k n callees global vs m i
+entered_each [] h c k n callees global vs m i = refl
+entered_each (f ∷ fs) h c zero n callees global vs m i = entered_same f h.0 c.0 n callees global vs m i
+entered_each (f ∷ fs) h c (suc k) n callees global vs m i = entered_each fs h.1 c.1 k n callees global vs m i
 
 pub functions_agree : FunctionsAgree
-functions_agree fs h global zero f vs m i = refl
-functions_agree fs h global (suc n) f vs m i =
-    ap (active f) (entered_each fs h f n (calls fs global n) global vs m i)
-    ∙ (λ j. active f (placed_entered n (λ g us l k. functions_agree fs h global n g us l k j) global (slice_get (map placed fs) f) vs m i))
+functions_agree fs h c global zero f vs m i = refl
+functions_agree fs h c global (suc n) f vs m i =
+    ap (active f) (entered_each fs h c f n (calls fs global n) global vs m i)
+    ∙ (λ j. active f (placed_entered n (λ g us l k. functions_agree fs h c global n g us l k j) global (slice_get (map placed fs) f) vs m i))

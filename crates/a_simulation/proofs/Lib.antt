@@ -1,6 +1,7 @@
 pub mod Defined
 mod Examples
 pub mod Functions
+pub mod Loops
 pub mod Needs
 pub mod Positions
 pub mod Runs

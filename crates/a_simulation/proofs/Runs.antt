@@ -1,5 +1,5 @@
 -- Safe code does over places what it does over names.
-use Rattle.std.proofs.Common.{◌≡◌, ◌≢◌, ℕ, zero, suc, Bool, true, false, if◌then◌else◌, List, [], ◌∷◌, ◌++◌, map, Option, Some, None, refl, sym, ap, subst, inl, inr, arith, eq-eqb, eqb-true}
+use Rattle.std.proofs.Common.{◌≡◌, ◌≢◌, ℕ, zero, suc, Bool, true, false, if◌then◌else◌, List, [], ◌∷◌, ◌++◌, map, Option, Some, None, refl, sym, ap, ◌∙◌, subst, inl, inr, arith, eq-eqb, eqb-true}
 use Rattle.std.specs.Prelude.{◌==◌, ◌-◌, ◌%◌, ◌^◌}
 use Rattle.std.proofs.lemmas.Bool.{cases_Bool, eqb-false}
 use Rattle.std.proofs.lemmas.Bool.Decides.{nat_tests}
@@ -13,9 +13,10 @@ use Rattle.val_core.specs.Answers.{Answer, Returned, Cut, Exited, Undefined, bef
 use Rattle.s_linear.specs.Linear.{Instr, const, undef, object_address, global_address, binary, unary, load, store, clear, equal_pointers, move, call, put, get, exit, Step, plain, choice, loop, Code, no_steps, step_then, Codes, no_codes, code_then}
 use Rattle.s_linear.specs.Meaning.{State, Run, Context, written, gives, gives_memory, got, cleared_at, back_from, instr_run, instrs_run, chosen, turns, step_run, code_run, codes_runs}
 use Rattle.a_simulation.specs.Placed.{placed_instr, placed_step, placed_code, placed_codes}
-use Rattle.a_simulation.specs.Need.{IsIn, targets, NameSet, these, needed_by, needed_by_instrs, needed_by_step, needed_by_code, needed_by_codes, at_label, at_branch, SafeInstr, SafeInstrs, SafeStep, SafeCode, SafeCodes}
+use Rattle.a_simulation.specs.Closed.{target_of, NameSet}
+use Rattle.a_simulation.specs.Need.{IsIn, these, needed_by, needed_by_instrs, needed_by_step, needed_by_code, needed_by_codes, at_label, at_branch, SafeInstr, SafeInstrs, SafeStep, SafeCode, SafeCodes}
 use Rattle.a_simulation.specs.Laws.{Same, Holds, SafeCodeDoesTheSame}
-use Rattle.a_simulation.proofs.Needs.{label_holds}
+use Rattle.a_simulation.proofs.Needs.{target_is, label_holds}
 
 -- ---- answers
 
@@ -110,21 +111,17 @@ args_same f ns qs [] h = refl
 args_same f ns qs (x ∷ xs) h = λ j. h x (inl refl) j ∷ args_same f ns qs xs (λ y r. h y (inr r)) j
 
 -- what is needed before a write and not written by it
-others : (f : ℕ → ℕ) (N : NameSet) (i : Instr) (t : ℕ) (s q : State) → SafeInstr f i N → targets i ≡ t ∷ [] → Holds f (needed_by i N) s q
+others : (f : ℕ → ℕ) (N : NameSet) (i : Instr) (t : ℕ) (s q : State) → SafeInstr f i N → target_of i ≡ Some t → Holds f (needed_by i N) s q
     → KeepsOthers f N t s.names q.names
-others f N i t s q safe only h x n ne = (
-  safe t x (subst (λ ts. IsIn t ts) (sym only) (inl refl)) n ne,
-  h.values x (inr ((λ w. unequal (subst (λ ts. IsIn x ts) only w)), n)),
-)
-  where
-    unequal : IsIn x (t ∷ []) → ⊥
-    unequal (inl e) = ne e
-    unequal (inr z) = z
+others f N i t s q safe only h x n ne = (safe t x only n ne, h.values x (inr ((λ w. ne (target_is t x (sym only ∙ w))), n)))
 
 -- what is needed before an instruction that writes no name
-all_others : (f : ℕ → ℕ) (N : NameSet) (i : Instr) (s q : State) → targets i ≡ [] → Holds f (needed_by i N) s q
+all_others : (f : ℕ → ℕ) (N : NameSet) (i : Instr) (s q : State) → target_of i ≡ None → Holds f (needed_by i N) s q
     → (x : ℕ) → N x → s.names x ≡ q.names (f x)
-all_others f N i s q none h x n = h.values x (inr ((λ w. subst (λ ts. IsIn x ts) none w), n))
+all_others f N i s q none h x n = h.values x (inr ((λ w. unequal (sym none ∙ w)), n))
+  where
+    unequal : ◌≡◌ {A = Option ℕ} None (Some x) → ⊥
+    unequal e = cc
 
 module _ (c : Context) (f : ℕ → ℕ) where
   instr_same : (i : Instr) (N : NameSet) (s q : State) → SafeInstr f i N → Holds f (needed_by i N) s q

@@ -1,212 +1,138 @@
 -- Places that are apart are safe for closed code that the intervals span.
-use Rattle.std.proofs.Common.{◌⊎◌, ◌≤◌, ℕ, suc, List, [], ◌∷◌, subst, inl, inr, arith}
+use Rattle.std.proofs.Common.{◌≤◌, ℕ, suc, List, [], ◌∷◌, sym, subst, inl, inr, arith}
 use Rattle.s_linear.specs.Linear.{Instr, Step, plain, choice, loop, Code, no_steps, step_then, Codes, no_codes, code_then}
 use Rattle.s_linear.specs.Lines.{Line}
 use Rattle.a_place.specs.Places.{last}
 use Rattle.a_place.specs.Laws.{IsAliveAt}
-use Rattle.a_simulation.specs.Need.{IsIn, targets, NameSet, no_name, these, joined, needed_by_instrs, after_body, needed_by_code, at_label, at_branch, SafeInstr, SafeInstrs, SafeStep, SafeCode, SafeCodes}
-use Rattle.a_simulation.specs.Closed.{written_by_instrs, written_by_step, written_by_code, written_by_codes, AreClosedInstrs, IsClosedStep, IsClosedCode, AreClosedCodes}
-use Rattle.a_simulation.specs.Spans.{IsBegunAt, ArePlacesApart, SpansInstr, SpansInstrs, SpansStep, SpansCode, SpansCodes}
+use Rattle.a_simulation.specs.Closed.{NameSet, after_instr, after_instrs, no_names, after_step, after_code, after_each, InstrsAreClosed, StepIsClosed, CodeIsClosed, AreClosed}
+use Rattle.a_simulation.specs.Choices.{StepChooses, CodeChooses, EachChooses}
+use Rattle.a_simulation.specs.Need.{these, joined, needed_by_instrs, needed_by_code, at_label, at_branch, SafeInstr, SafeInstrs, SafeStep, SafeCode, SafeCodes}
+use Rattle.a_simulation.specs.Spans.{ArePlacesApart, SpansInstr, SpansInstrs, SpansStep, SpansCode, SpansCodes}
 use Rattle.a_simulation.specs.Laws.{PlacesApartAreSafe}
-use Rattle.a_simulation.proofs.Needs.{need_after, need_code, need_back}
-use Rattle.a_simulation.proofs.Defined.{regroup, first_of, rest_of, IsSubset, wider_joined, wider_instrs, wider_code, instrs_defined, code_defined, label_in, label_defined}
-use Rattle.a_simulation.proofs.Positions.{instrs_le, code_le, step_le, begun, later, goes_on, instrs_begun, step_begun, code_begun, GoOn, instrs_last, code_last, label_last}
-
--- ---- what loops need
-
--- needed before moves: read by them first, or needed after them and not written by them
-kept_by : (is : List Instr) (N : NameSet) (x : ℕ) → needed_by_instrs is N x → needed_by_instrs is no_name x ⊎ ((¬ written_by_instrs is x) × N x)
-kept_by [] N x n = inr ((λ w. w), n)
-kept_by (i ∷ is) N x (inl read) = inl (inl read)
-kept_by (i ∷ is) N x (inr m) =
-    elim (kept_by is N x m.1) [
-      | inl read ↦ inl (inr (m.0, read))
-      | inr k ↦ inr (neither k.0, k.1)
-    ]
-  where
-    neither : (¬ written_by_instrs is x) → IsIn x (targets i) ⊎ written_by_instrs is x → ⊥
-    neither k (inl t) = m.0 t
-    neither k (inr w) = k w
-
--- what is needed at a closed loop's label is written by the moves in or needed after the loop
-label_split : (moves back : List Instr) (body : Code) (p : ℕ) (D N : NameSet) → IsClosedStep D (loop moves body p back)
-    → (x : ℕ) → at_label body p back N x → written_by_instrs moves x ⊎ N x
-label_split moves back body p D N k x l =
-    elim (need_code body (after_body p back N) (after_body p back no_name) N (need_after p back N no_name N (λ y n. inr n)) x l) [
-      | inr n ↦ inr n
-      | inl m ↦ inl (moved (label_in body p back (written_by_instrs moves) no_name no_name (code_defined body) k.1 k.2 k.3 (λ y z. absurd z) x m))
-    ]
-  where
-    moved : no_name x ⊎ written_by_instrs moves x → written_by_instrs moves x
-    moved (inl z) = absurd z
-    moved (inr w) = w
-
--- what the moves back need was written by then
-back_closed : (moves back : List Instr) (body : Code) (p : ℕ) (D : NameSet) → IsClosedStep D (loop moves body p back)
-    → AreClosedInstrs (joined (joined D (written_by_instrs moves)) (written_by_code body)) back
-back_closed moves back body p D k =
-    wider_instrs back (joined (written_by_instrs moves) (written_by_code body)) (joined (joined D (written_by_instrs moves)) (written_by_code body))
-    (wider_joined (written_by_instrs moves) (joined D (written_by_instrs moves)) (written_by_code body) (λ y e. inr e)) k.3
-
--- what is needed after a closed loop's body was written by then
-branch_in : (moves back : List Instr) (body : Code) (p : ℕ) (D N : NameSet) → IsClosedStep D (loop moves body p back)
-    → IsSubset N (joined (joined D (written_by_instrs moves)) (written_by_code body))
-    → IsSubset (at_branch body p back N) (joined (joined D (written_by_instrs moves)) (written_by_code body))
-branch_in moves back body p D N k h x (inl e) =
-    subst (joined (joined D (written_by_instrs moves)) (written_by_code body)) e
-    (wider_joined (written_by_instrs moves) (joined D (written_by_instrs moves)) (written_by_code body) (λ y w. inr w) p k.2)
-branch_in moves back body p D N k h x (inr (inl n)) = h x n
-branch_in moves back body p D N k h x (inr (inr m)) =
-    instrs_defined back (joined (joined D (written_by_instrs moves)) (written_by_code body)) (at_label body p back N) (back_closed moves back body p D k)
-    (λ y l. inl (inl (label_defined moves back body p D N k h y l))) x m
+use Rattle.a_simulation.proofs.Needs.{need_back}
+use Rattle.a_simulation.proofs.Defined.{IsSubset, none_in, instrs_defined, code_grow, code_wider, code_defined, label_defined, moved_in, after_loop}
+use Rattle.a_simulation.proofs.Loops.{same_written, kept_by, label_split, back_closed, branch_in}
+use Rattle.a_simulation.proofs.Positions.{instrs_le, code_le, goes_on, AreBegun, later, begun_or, begun_next, moves_begun, step_begun, code_begun, GoOn, sooner, instrs_last, back_last, branch_le, code_last, label_last}
 
 module _ (lines : List Line) (f : ℕ → ℕ) (apart : ArePlacesApart lines f) where
-  abbrev AreBegun : NameSet → (a : ℕ) → Type 0
-  AreBegun D a = (x : ℕ) → D x → IsBegunAt lines x a
-
-  -- what is needed after the body of a closed loop goes on to its branch
-  branch_last : (moves back : List Instr) (body : Code) (p : ℕ) (D N : NameSet) (a b : ℕ) → IsClosedStep D (loop moves body p back)
-      → (sp : SpansStep lines a (loop moves body p back) b) → GoOn lines N b → GoOn lines (at_branch body p back N) sp.1
-  branch_last moves back body p D N a b k sp h x (inl e) = subst (λ z. sp.1 ≤ last z lines) e (sp.5.not_ended)
-  branch_last moves back body p D N a b k sp h x (inr (inl n)) =
-      let r : b ≤ last x lines = h x n in
-      let back_end : suc sp.1 ≤ sp.2 = instrs_le lines back (suc sp.1) sp.2 sp.6 in
-      let end : sp.2 ≤ b = sp.7 in
-      omega arith
-  branch_last moves back body p D N a b k sp h x (inr (inr m)) =
-      elim (kept_by back (at_label body p back N) x m) [
-        | inl read ↦
-            let r : suc sp.1 ≤ last x lines = instrs_last lines back (suc sp.1) sp.2 no_name sp.6 (λ y z. absurd z) x read in omega arith
-        | inr kept ↦
-            elim (label_split moves back body p D N k x kept.1) [
-              | inl w ↦ absurd (kept.0 (k.4.0 x w))
-              | inr n ↦
-                  let r : b ≤ last x lines = h x n in
-                  let back_end : suc sp.1 ≤ sp.2 = instrs_le lines back (suc sp.1) sp.2 sp.6 in
-                  let end : sp.2 ≤ b = sp.7 in
-                  omega arith
-            ]
-      ]
-
   -- ---- instructions
 
-  begun_or : (D : NameSet) (i : Instr) (a : ℕ) → SpansInstr lines a i → AreBegun D a → AreBegun (joined D (these (targets i))) a
-  begun_or D i a sp begins x (inl d) = begins x d
-  begun_or D i a sp begins x (inr w) = begun lines x a (sp.target x w)
-
-  safe_instr : (i : Instr) (D N : NameSet) (a : ℕ) → SpansInstr lines a i → AreBegun D a → GoOn lines N (suc a)
-      → IsSubset N (joined D (these (targets i))) → SafeInstr f i N
+  safe_instr : (i : Instr) (D N : NameSet) (a : ℕ) → SpansInstr lines a i → AreBegun lines D a → GoOn lines N (suc a)
+      → IsSubset N (after_instr D i) → SafeInstr f i N
   safe_instr i D N a sp begins goes h t x w n ne =
-      let r : suc a ≤ last x lines = goes x n in
-      apart t x a ne (sp.target t w) (goes_on lines x a (begun_or D i a sp begins x (h x n)) (omega arith))
+      apart t x a ne (sp.target t w)
+      (goes_on lines x a (begun_or lines D i a sp begins x (h x n)) (sooner lines N a (suc a) (omega arith) goes x n))
 
-  begun_next : (D : NameSet) (i : Instr) (a : ℕ) → SpansInstr lines a i → AreBegun D a → AreBegun (joined D (these (targets i))) (suc a)
-  begun_next D i a sp begins x d = later lines x a (suc a) (omega arith) (begun_or D i a sp begins x d)
-
-  safe_instrs : (is : List Instr) (D N : NameSet) (a b : ℕ) → SpansInstrs lines a is b → AreClosedInstrs D is → AreBegun D a → GoOn lines N b
-      → IsSubset N (joined D (written_by_instrs is)) → SafeInstrs f is N
+  safe_instrs : (is : List Instr) (D N : NameSet) (a b : ℕ) → SpansInstrs lines a is b → InstrsAreClosed D is → AreBegun lines D a → GoOn lines N b
+      → IsSubset N (after_instrs D is) → SafeInstrs f is N
   safe_instrs [] D N a b sp k begins goes h = tt
   safe_instrs (i ∷ is) D N a b sp k begins goes h = (
-    safe_instr i D (needed_by_instrs is N) a sp.0 begins (instrs_last lines is (suc a) b N sp.1 goes)
-        (instrs_defined is (joined D (these (targets i))) N k.1 (λ y n. regroup (h y n))),
-    safe_instrs is (joined D (these (targets i))) N (suc a) b sp.1 k.1 (begun_next D i a sp.0 begins) goes (λ y n. regroup (h y n)),
+    safe_instr i D (needed_by_instrs is N) a sp.0 begins (instrs_last lines is (suc a) b N sp.1 goes) (instrs_defined is (after_instr D i) N k.1 h),
+    safe_instrs is (after_instr D i) N (suc a) b sp.1 k.1 (begun_next lines D i a sp.0 begins) goes h,
   )
 
-  -- Moves back from position j: what is needed at the label at l is alive there, and so is what they write.
-  safe_back : (is : List Instr) (D L : NameSet) (l j e : ℕ) → l ≤ j → SpansInstrs lines j is e → AreClosedInstrs D is → AreBegun D j
-      → AreBegun (written_by_instrs is) l → ((x : ℕ) → L x → IsAliveAt lines x l) → SafeInstrs f is L
-  safe_back [] D L l j e le sp k begins moved alive = tt
-  safe_back (i ∷ is) D L l j e le sp k begins moved alive =
-      (safe, safe_back is (joined D (these (targets i))) L l (suc j) e (omega arith) sp.1 k.1 (begun_next D i j sp.0 begins) (λ x w. moved x (inr w)) alive)
+  -- Moves back from position j: what is needed at the label at l is alive there, and what they write has started there.
+  safe_back : (is : List Instr) (D L W : NameSet) (l j e : ℕ) → l ≤ j → SpansInstrs lines j is e → InstrsAreClosed D is → AreBegun lines D j
+      → AreBegun lines W l → IsSubset (after_instrs no_names is) W → ((x : ℕ) → L x → IsAliveAt lines x l) → SafeInstrs f is L
+  safe_back [] D L W l j e le sp k begins starts moved alive = tt
+  safe_back (i ∷ is) D L W l j e le sp k begins starts moved alive = (
+    safe,
+    safe_back is (after_instr D i) L W l (suc j) e (omega arith) sp.1 k.1 (begun_next lines D i j sp.0 begins) starts
+        (λ x w. moved x (moved_in is (after_instr no_names i) x (inr w))) alive,
+  )
     where
       safe : SafeInstr f i (needed_by_instrs is L)
       safe t x w n ne =
           let last_of : j ≤ last t lines = (sp.0.target t w).not_ended in
           elim (need_back is L x n) [
-            | inr m ↦ apart t x l ne (goes_on lines t l (moved t (inl w)) (omega arith)) (alive x m)
+            | inr m ↦
+                let written : after_instrs (after_instr no_names i) is t = moved_in is (after_instr no_names i) t (inl (inl w)) in
+                apart t x l ne (goes_on lines t l (starts t (moved t written)) (omega arith)) (alive x m)
             | inl read ↦
-                let r : suc j ≤ last x lines = instrs_last lines is (suc j) e no_name sp.1 (λ y z. absurd z) x read in
-                let d = instrs_defined is (joined D (these (targets i))) no_name k.1 (λ y z. absurd z) x read in
-                apart t x j ne (sp.0.target t w) (goes_on lines x j (begun_or D i j sp.0 begins x d) (omega arith))
+                let d : after_instr D i x = instrs_defined is (after_instr D i) no_names k.1 (none_in (after_instrs (after_instr D i) is)) x read in
+                apart t x j ne (sp.0.target t w)
+                (goes_on lines x j (begun_or lines D i j sp.0 begins x d) (back_last lines is j e sp.1 x read))
           ]
+
+  -- ---- loops
+
+  abbrev Started : (moves : List Instr) → NameSet → NameSet
+  Started moves D = joined D (after_instrs no_names moves)
+
+  -- what is needed after the body of a closed loop goes on to its branch
+  branch_last : (moves back : List Instr) (body : Code) (p : ℕ) (D N : NameSet) (a b : ℕ) → StepIsClosed D (loop moves body p back)
+      → (sp : SpansStep lines a (loop moves body p back) b) → GoOn lines N b → GoOn lines (at_branch body p back N) sp.1
+  branch_last moves back body p D N a b k sp h x (inl e) = subst (λ z. sp.1 ≤ last z lines) e (sp.5.not_ended)
+  branch_last moves back body p D N a b k sp h x (inr (inl n)) = sooner lines N sp.1 b (branch_le lines moves back body p a b sp) h x n
+  branch_last moves back body p D N a b k sp h x (inr (inr m)) =
+      elim (kept_by back (at_label body p back N) x m) [
+        | inl read ↦ back_last lines back sp.1 sp.2 sp.6 x read
+        | inr kept ↦
+            elim (label_split moves back body p D N k x kept.1) [
+              | inl w ↦ absurd (kept.0 (same_written moves back no_names no_names (λ y z. z) (sym k.4) x w))
+              | inr n ↦ sooner lines N sp.1 b (branch_le lines moves back body p a b sp) h x n
+            ]
+      ]
+
+  begun_body : (moves back : List Instr) (body : Code) (p : ℕ) (D : NameSet) (a b : ℕ) (sp : SpansStep lines a (loop moves body p back) b)
+      → AreBegun lines D a → AreBegun lines (Started moves D) sp.0
+  begun_body moves back body p D a b sp begins x (inl d) = later lines D a sp.0 (instrs_le lines moves a sp.0 sp.3) begins x d
+  begun_body moves back body p D a b sp begins x (inr w) = moves_begun lines moves a sp.0 sp.3 x w
+
+  -- the moves in of a closed loop, and its moves back
+  safe_moves : (moves back : List Instr) (body : Code) (p : ℕ) (D N : NameSet) (a b : ℕ) → StepIsClosed D (loop moves body p back) → CodeChooses body
+      → (sp : SpansStep lines a (loop moves body p back) b) → AreBegun lines D a → GoOn lines N b → IsSubset N (after_code (Started moves D) body)
+      → SafeInstrs f moves (at_label body p back N)
+  safe_moves moves back body p D N a b k c sp begins goes h =
+      safe_instrs moves D (at_label body p back N) a sp.0 sp.3 k.0 begins (label_last lines moves back body p N a b c sp goes)
+      (λ x l. moved_in moves D x (label_defined moves back body p D N k h x l))
+
+  safe_moves_back : (moves back : List Instr) (body : Code) (p : ℕ) (D N : NameSet) (a b : ℕ) → StepIsClosed D (loop moves body p back) → CodeChooses body
+      → (sp : SpansStep lines a (loop moves body p back) b) → AreBegun lines D a → GoOn lines N b → IsSubset N (after_code (Started moves D) body)
+      → SafeInstrs f back (at_label body p back N)
+  safe_moves_back moves back body p D N a b k c sp begins goes h =
+      let starts : AreBegun lines (Started moves D) sp.0 = begun_body moves back body p D a b sp begins in
+      let le : suc sp.0 ≤ sp.1 = code_le lines body (suc sp.0) sp.1 sp.4 in
+      safe_back back (after_code (Started moves D) body) (at_label body p back N) (Started moves D) sp.0 (suc sp.1) sp.2 (omega arith) sp.6
+      (back_closed moves back body p D k)
+      (later lines (after_code (Started moves D) body) sp.1 (suc sp.1) (omega arith)
+      (code_begun lines body (Started moves D) (suc sp.0) sp.1 c sp.4 (later lines (Started moves D) sp.0 (suc sp.0) (omega arith) starts)))
+      starts (λ x w. inr (same_written back moves no_names no_names (λ y z. z) k.4 x w))
+      (λ x l. goes_on lines x sp.0 (starts x (label_defined moves back body p D N k h x l)) (label_last lines moves back body p N a b c sp goes x l))
 
   -- ---- code
 
-  -- the moves in of a closed loop, and its moves back
-  safe_moves : (moves back : List Instr) (body : Code) (p : ℕ) (D N : NameSet) (a b : ℕ) → IsClosedStep D (loop moves body p back)
-      → (sp : SpansStep lines a (loop moves body p back) b) → AreBegun D a → GoOn lines N b
-      → IsSubset N (joined (joined D (written_by_instrs moves)) (written_by_code body)) → SafeInstrs f moves (at_label body p back N)
-  safe_moves moves back body p D N a b k sp begins goes h =
-      safe_instrs moves D (at_label body p back N) a sp.0 sp.3 k.0 begins
-      (λ x l. let r : suc sp.0 ≤ last x lines = label_last lines moves back body p D N a b k sp goes x l in omega arith)
-      (label_defined moves back body p D N k h)
-
-  begun_body : (moves back : List Instr) (body : Code) (p : ℕ) (D : NameSet) (a b : ℕ) (sp : SpansStep lines a (loop moves body p back) b) → AreBegun D a
-      → AreBegun (joined D (written_by_instrs moves)) sp.0
-  begun_body moves back body p D a b sp begins x (inl d) = later lines x a sp.0 (instrs_le lines moves a sp.0 sp.3) (begins x d)
-  begun_body moves back body p D a b sp begins x (inr w) = instrs_begun lines moves a sp.0 sp.3 x w
-
-  begun_back : (moves back : List Instr) (body : Code) (p : ℕ) (D : NameSet) (a b : ℕ) (sp : SpansStep lines a (loop moves body p back) b) → AreBegun D a
-      → AreBegun (joined (joined D (written_by_instrs moves)) (written_by_code body)) (suc sp.1)
-  begun_back moves back body p D a b sp begins x (inl d) =
-      let le : suc sp.0 ≤ sp.1 = code_le lines body (suc sp.0) sp.1 sp.4 in
-      later lines x sp.0 (suc sp.1) (omega arith) (begun_body moves back body p D a b sp begins x d)
-  begun_back moves back body p D a b sp begins x (inr w) =
-      later lines x sp.1 (suc sp.1) (omega arith) (code_begun lines body (suc sp.0) sp.1 sp.4 x w)
-
-  safe_moves_back : (moves back : List Instr) (body : Code) (p : ℕ) (D N : NameSet) (a b : ℕ) → IsClosedStep D (loop moves body p back)
-      → (sp : SpansStep lines a (loop moves body p back) b) → AreBegun D a → GoOn lines N b
-      → IsSubset N (joined (joined D (written_by_instrs moves)) (written_by_code body)) → SafeInstrs f back (at_label body p back N)
-  safe_moves_back moves back body p D N a b k sp begins goes h =
-      let le : suc sp.0 ≤ sp.1 = code_le lines body (suc sp.0) sp.1 sp.4 in
-      safe_back back (joined (joined D (written_by_instrs moves)) (written_by_code body)) (at_label body p back N) sp.0 (suc sp.1) sp.2 (omega arith) sp.6
-      (back_closed moves back body p D k) (begun_back moves back body p D a b sp begins) (λ x w. instrs_begun lines moves a sp.0 sp.3 x (k.4.1 x w))
-      (λ x l.
-      let r : suc sp.0 ≤ last x lines = label_last lines moves back body p D N a b k sp goes x l in
-      goes_on lines x sp.0 (begun_body moves back body p D a b sp begins x (label_defined moves back body p D N k h x l)) (omega arith))
-
-  begun_step : (s : Step) (D : NameSet) (a b : ℕ) → SpansStep lines a s b → AreBegun D a → AreBegun (joined D (written_by_step s)) b
-  begun_step s D a b sp begins x (inl d) = later lines x a b (step_le lines s a b sp) (begins x d)
-  begun_step s D a b sp begins x (inr w) = step_begun lines s a b sp x w
-
   mutual
-    safe_step : (s : Step) (D N : NameSet) (a b : ℕ) → IsClosedStep D s → SpansStep lines a s b → AreBegun D a → GoOn lines N b
-        → IsSubset N (joined D (written_by_step s)) → SafeStep f s N
-    safe_step (plain i) D N a b k sp begins goes h =
-        safe_instr i D N a sp.0 begins (λ x n. let r : b ≤ last x lines = goes x n in let e : suc a ≤ b = sp.1 in omega arith) h
-    safe_step (choice p no_codes) D N a b k sp begins goes h = tt
-    safe_step (choice p (code_then c cs)) D N a b k sp begins goes h = (
-      safe_code c D N sp.1.0.0 sp.1.0.1 k.2.0 sp.1.0.3 (λ x d. later lines x a sp.1.0.0 sp.1.0.2 (begins x d))
-          (λ x n. let r : b ≤ last x lines = goes x n in let e : sp.1.0.1 ≤ b = sp.1.0.4 in omega arith) (λ x n. first_of (h x n)),
-      safe_codes cs D N a b k.2.1 sp.1.1 begins goes (λ x n. rest_of (h x n)),
-    )
-    safe_step (loop moves body p back) D N a b k sp begins goes h = (
-      safe_moves moves back body p D N a b k sp begins goes (λ x n. regroup (h x n)),
-      safe_code body (joined D (written_by_instrs moves)) (at_branch body p back N) (suc sp.0) sp.1
-          (wider_code body (written_by_instrs moves) (joined D (written_by_instrs moves)) (λ x e. inr e) k.1) sp.4
-          (λ x d. later lines x sp.0 (suc sp.0) (omega arith) (begun_body moves back body p D a b sp begins x d))
-          (branch_last moves back body p D N a b k sp goes) (branch_in moves back body p D N k (λ x n. regroup (h x n))),
-      safe_moves_back moves back body p D N a b k sp begins goes (λ x n. regroup (h x n)),
+    safe_step : (s : Step) (D N : NameSet) (a b : ℕ) → StepIsClosed D s → StepChooses s → SpansStep lines a s b → AreBegun lines D a → GoOn lines N b
+        → IsSubset N (after_step D s) → SafeStep f s N
+    safe_step (plain i) D N a b k c sp begins goes h = safe_instr i D N a sp.0 begins (sooner lines N (suc a) b sp.1 goes) h
+    safe_step (choice p cs) D N a b k c sp begins goes h = safe_codes cs D N a b k.1 c.1 sp.1 begins goes h
+    safe_step (loop moves body p back) D N a b k c sp begins goes h =
+        let after : IsSubset N (after_code (Started moves D) body) = λ x n. after_loop moves back body p D x (h x n) in (
+          safe_moves moves back body p D N a b k c sp begins goes after,
+          safe_code body (Started moves D) (at_branch body p back N) (suc sp.0) sp.1
+              (code_wider body (after_instrs no_names moves) (Started moves D) (λ x e. inr e) k.1) c sp.4
+              (later lines (Started moves D) sp.0 (suc sp.0) (omega arith) (begun_body moves back body p D a b sp begins))
+              (branch_last moves back body p D N a b k sp goes) (branch_in moves back body p D N k after (code_grow body (Started moves D))),
+          safe_moves_back moves back body p D N a b k c sp begins goes after,
+        )
+
+    pub safe_code : (k : Code) (D N : NameSet) (a b : ℕ) → CodeIsClosed D k → CodeChooses k → SpansCode lines a k b → AreBegun lines D a → GoOn lines N b
+        → IsSubset N (after_code D k) → SafeCode f k N
+    safe_code no_steps D N a b k c sp begins goes h = tt
+    safe_code (step_then s r) D N a b k c sp begins goes h = (
+      safe_step s D (needed_by_code r N) a sp.0 k.0 c.0 sp.1 begins (code_last lines r N sp.0 b c.1 sp.2 goes) (code_defined r (after_step D s) N k.1 h),
+      safe_code r (after_step D s) N sp.0 b k.1 c.1 sp.2 (step_begun lines s D a sp.0 c.0 sp.1 begins) goes h,
     )
 
-    pub safe_code : (c : Code) (D N : NameSet) (a b : ℕ) → IsClosedCode D c → SpansCode lines a c b → AreBegun D a → GoOn lines N b
-        → IsSubset N (joined D (written_by_code c)) → SafeCode f c N
-    safe_code no_steps D N a b k sp begins goes h = tt
-    safe_code (step_then s c) D N a b k sp begins goes h = (
-      safe_step s D (needed_by_code c N) a sp.0 k.0 sp.1 begins (code_last lines c (joined D (written_by_step s)) N sp.0 b k.1 sp.2 goes)
-          (code_defined c (joined D (written_by_step s)) N k.1 (λ x n. regroup (h x n))),
-      safe_code c (joined D (written_by_step s)) N sp.0 b k.1 sp.2 (λ x d. begun_step s D a sp.0 sp.1 begins x d) goes (λ x n. regroup (h x n)),
-    )
-
-    safe_codes : (cs : Codes) (D N : NameSet) (a b : ℕ) → AreClosedCodes D cs → SpansCodes lines a cs b → AreBegun D a → GoOn lines N b
-        → IsSubset N (joined D (written_by_codes cs)) → SafeCodes f cs N
-    safe_codes no_codes D N a b k sp begins goes h = tt
-    safe_codes (code_then c cs) D N a b k sp begins goes h = (
-      safe_code c D N sp.0.0 sp.0.1 k.0 sp.0.3 (λ x d. later lines x a sp.0.0 sp.0.2 (begins x d))
-          (λ x n. let r : b ≤ last x lines = goes x n in let e : sp.0.1 ≤ b = sp.0.4 in omega arith) (λ x n. first_of (h x n)),
-      safe_codes cs D N a b k.1 sp.1 begins goes (λ x n. rest_of (h x n)),
+    safe_codes : (ks : Codes) (D N : NameSet) (a b : ℕ) → AreClosed D ks → EachChooses ks → SpansCodes lines a ks b → AreBegun lines D a → GoOn lines N b
+        → IsSubset N (after_each D ks) → SafeCodes f ks N
+    safe_codes no_codes D N a b k c sp begins goes h = tt
+    safe_codes (code_then r rs) D N a b k c sp begins goes h = (
+      safe_code r D N sp.0.0 sp.0.1 k.0 c.0 sp.0.3 (later lines D a sp.0.0 sp.0.2 begins) (sooner lines N sp.0.1 b sp.0.4 goes) (λ x n. (h x n).0),
+      safe_codes rs D N a b k.1 c.1 sp.1 begins goes (λ x n. (h x n).1),
     )
 
 pub places_apart_are_safe : PlacesApartAreSafe
-places_apart_are_safe lines place code before after a b apart spans closed begins goes h =
-    safe_code lines place apart code (these before) (these after) a b closed spans begins goes h
+places_apart_are_safe lines place code before after a b apart spans closed chooses begins goes h =
+    safe_code lines place apart code (these before) (these after) a b closed chooses spans begins goes h

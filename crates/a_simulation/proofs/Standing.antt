@@ -7,9 +7,11 @@ use Rattle.s_linear.specs.Linear.{Instr, const, undef, object_address, global_ad
 use Rattle.s_linear.specs.Lines.{Line, done, branch_zero, jump, label, branch_not_zero, counted, code_labels, step_labels, last_from, others_from, LinesOf, branches, last_lines, labelled, before_last, choice_lines, step_lines, code_lines, codes_lines, instr_names, line_names}
 use Rattle.a_place.specs.Places.{among, occurs, first, last}
 use Rattle.a_place.specs.Laws.{IsAliveAt}
-use Rattle.a_simulation.specs.Need.{IsIn, targets, sources}
+use Rattle.a_simulation.specs.Closed.{target_of, sources_of}
+use Rattle.a_simulation.specs.Need.{IsIn}
 use Rattle.a_simulation.specs.Spans.{StandAt, SpansInstr, SpansInstrs, SpansStep, SpansCode, SpansCodes}
 use Rattle.a_simulation.specs.Laws.{IntervalsSpanCode}
+use Rattle.a_simulation.proofs.Needs.{target_is}
 
 -- ---- a name is alive where it occurs
 
@@ -64,25 +66,24 @@ stand_whole (l ∷ lines) = (refl, stand_after l lines 0 (length lines) lines (s
 
 -- ---- instructions
 
-target_named : (i : Instr) (x : ℕ) → IsIn x (targets i) → IsIn x (instr_names i)
-target_named (store width a v) x t = absurd t
-target_named (clear k) x t = absurd t
-target_named (put a) x t = absurd t
-target_named (exit a) x t = absurd t
-target_named (const t w) x (inl e) = inl e
-target_named (undef t) x (inl e) = inl e
-target_named (object_address t k) x (inl e) = inl e
-target_named (global_address t k) x (inl e) = inl e
-target_named (binary o t a b) x (inl e) = inl e
-target_named (unary o t a) x (inl e) = inl e
-target_named (load width t a) x (inl e) = inl e
-target_named (equal_pointers t a b) x (inl e) = inl e
-target_named (move t a) x (inl e) = inl e
-target_named (call f t xs) x (inl e) = inl e
-target_named (get t) x (inl e) = inl e
-target_named _ x (inr z) = absurd z
+target_named : (i : Instr) (x : ℕ) → target_of i ≡ Some x → IsIn x (instr_names i)
+target_named (const t w) x e = inl (target_is t x e)
+target_named (undef t) x e = inl (target_is t x e)
+target_named (object_address t k) x e = inl (target_is t x e)
+target_named (global_address t k) x e = inl (target_is t x e)
+target_named (binary o t a b) x e = inl (target_is t x e)
+target_named (unary o t a) x e = inl (target_is t x e)
+target_named (load width t a) x e = inl (target_is t x e)
+target_named (store width a v) x e = absurd cc
+target_named (clear k) x e = absurd cc
+target_named (equal_pointers t a b) x e = inl (target_is t x e)
+target_named (move t a) x e = inl (target_is t x e)
+target_named (call f t xs) x e = inl (target_is t x e)
+target_named (put a) x e = absurd cc
+target_named (get t) x e = inl (target_is t x e)
+target_named (exit a) x e = absurd cc
 
-source_named : (i : Instr) (x : ℕ) → IsIn x (sources i) → IsIn x (instr_names i)
+source_named : (i : Instr) (x : ℕ) → IsIn x (sources_of i) → IsIn x (instr_names i)
 source_named (store width a v) x s = s
 source_named (clear k) x s = s
 source_named (put a) x s = s

@@ -1,70 +1,104 @@
--- Closed code: on each way through it a name is written before it is read.
-use Rattle.std.specs.Prelude.{◌⊎◌, ◌<◌, ◌≤◌, ℕ, List, [], ◌∷◌}
-use Rattle.s_linear.specs.Linear.{Instr, Step, plain, choice, loop, Code, no_steps, step_then, Codes, no_codes, code_then, LinearFunction}
-use Rattle.s_linear.specs.Lines.{counted}
-use Rattle.a_simulation.specs.Need.{IsIn, targets, sources, NameSet, these, joined}
+-- Linear code in which each name is written before it is read, on each way through it.
+use Rattle.std.specs.Prelude.{◌≡◌, ℕ, ◌<◌, ◌⊎◌, List, [], ◌∷◌, Option, None, Some}
+use Rattle.s_linear.specs.Linear.{Instr, const, undef, object_address, global_address, binary, unary, load, store, clear, equal_pointers, move, call, put, get, exit, Step, plain, choice, loop, Code, no_steps, step_then, Codes, no_codes, code_then, LinearFunction}
 
--- ---- what is surely written
+-- the name that an instruction writes
+abbrev pub target_of : Instr → Option ℕ
+target_of (const t w) = Some t
+target_of (undef t) = Some t
+target_of (object_address t k) = Some t
+target_of (global_address t k) = Some t
+target_of (binary o t a b) = Some t
+target_of (unary o t a) = Some t
+target_of (load width t a) = Some t
+target_of (store width a v) = None
+target_of (clear k) = None
+target_of (equal_pointers t a b) = Some t
+target_of (move t a) = Some t
+target_of (call f t xs) = Some t
+target_of (put a) = None
+target_of (get t) = Some t
+target_of (exit a) = None
 
-abbrev pub written_by_instrs : List Instr → NameSet
-written_by_instrs [] x = ⊥
-written_by_instrs (i ∷ is) x = IsIn x (targets i) ⊎ written_by_instrs is x
+-- the names that it reads
+abbrev pub sources_of : Instr → List ℕ
+sources_of (const t w) = []
+sources_of (undef t) = []
+sources_of (object_address t k) = []
+sources_of (global_address t k) = []
+sources_of (binary o t a b) = a ∷ b ∷ []
+sources_of (unary o t a) = a ∷ []
+sources_of (load width t a) = a ∷ []
+sources_of (store width a v) = a ∷ v ∷ []
+sources_of (clear k) = []
+sources_of (equal_pointers t a b) = a ∷ b ∷ []
+sources_of (move t a) = a ∷ []
+sources_of (call f t xs) = xs
+sources_of (put a) = a ∷ []
+sources_of (get t) = []
+sources_of (exit a) = a ∷ []
 
--- a choice writes what each of its codes writes
+abbrev pub targets_of : List Instr → List (Option ℕ)
+targets_of [] = []
+targets_of (i ∷ is) = target_of i ∷ targets_of is
+
+-- some names, as those that are written so far
+abbrev pub NameSet : Type 1
+NameSet = ℕ → Type 0
+
+abbrev pub AreIn : NameSet → List ℕ → Type 0
+AreIn D [] = Unit {0}
+AreIn D (x ∷ xs) = D x × AreIn D xs
+
+-- the names that are written after an instruction, where those of `D` are before
+abbrev pub after_instr : NameSet → Instr → NameSet
+after_instr D i x = (target_of i ≡ Some x) ⊎ D x
+
+abbrev pub after_instrs : NameSet → List Instr → NameSet
+after_instrs D [] = D
+after_instrs D (i ∷ is) = after_instrs (after_instr D i) is
+
+abbrev pub no_names : NameSet
+no_names x = ⊥
+
+-- After a code, on each way through it. Each turn of a loop writes what the moves in and the body write.
 abbrev mutual
-  pub written_by_step : Step → NameSet
-  written_by_step (plain i) x = IsIn x (targets i)
-  written_by_step (choice p no_codes) x = ⊥
-  written_by_step (choice p (code_then k ks)) x = written_by_code k x × written_by_codes ks x
-  written_by_step (loop moves body p back) x = written_by_instrs moves x ⊎ written_by_code body x
+  pub after_step : NameSet → Step → NameSet
+  after_step D (plain i) x = after_instr D i x
+  after_step D (choice p cs) x = after_each D cs x
+  after_step D (loop enter body p back) x = after_code (after_instrs no_names enter) body x ⊎ D x
 
-  pub written_by_code : Code → NameSet
-  written_by_code no_steps x = ⊥
-  written_by_code (step_then s k) x = written_by_step s x ⊎ written_by_code k x
+  pub after_code : NameSet → Code → NameSet
+  after_code D no_steps x = D x
+  after_code D (step_then s c) x = after_code (after_step D s) c x
 
-  pub written_by_codes : Codes → NameSet
-  written_by_codes no_codes x = Unit {0}
-  written_by_codes (code_then k ks) x = written_by_code k x × written_by_codes ks x
+  pub after_each : NameSet → Codes → NameSet
+  after_each D no_codes x = Unit {0}
+  after_each D (code_then c cs) x = after_code D c x × after_each D cs x
 
--- ---- closed code, where some names were written before it
+abbrev pub InstrsAreClosed : NameSet → List Instr → Type 0
+InstrsAreClosed D [] = Unit {0}
+InstrsAreClosed D (i ∷ is) = AreIn D (sources_of i) × InstrsAreClosed (after_instr D i) is
 
-abbrev pub IsClosedInstr : NameSet → Instr → Type 0
-IsClosedInstr D i = (x : ℕ) → IsIn x (sources i) → D x
-
-abbrev pub AreClosedInstrs : NameSet → List Instr → Type 0
-AreClosedInstrs D [] = Unit {0}
-AreClosedInstrs D (i ∷ is) = IsClosedInstr D i × AreClosedInstrs (joined D (these (targets i))) is
-
--- two lists of instructions write the same names
-abbrev pub WriteSame : List Instr → List Instr → Type 0
-WriteSame is js = ((x : ℕ) → written_by_instrs is x → written_by_instrs js x) × ((x : ℕ) → written_by_instrs js x → written_by_instrs is x)
-
--- A choice has two codes or more: the lines of one with fewer do not read its predicate. A loop's body and its moves back read
--- what its moves in or the body wrote, and the moves back write the names that the moves in wrote.
+-- Where the names of `D` are written, each name that the code reads is written before. A loop's body and its moves back read
+-- only what its moves in or its body wrote, and the moves back write the names that the moves in wrote.
 abbrev mutual
-  pub IsClosedStep : NameSet → Step → Type 0
-  IsClosedStep D (plain i) = IsClosedInstr D i
-  IsClosedStep D (choice p cs) = D p × (2 ≤ counted cs) × AreClosedCodes D cs
-  IsClosedStep D (loop moves body p back) =
-      AreClosedInstrs D moves × IsClosedCode (written_by_instrs moves) body × joined (written_by_instrs moves) (written_by_code body) p
-      × AreClosedInstrs (joined (written_by_instrs moves) (written_by_code body)) back × WriteSame moves back
+  pub StepIsClosed : NameSet → Step → Type 0
+  StepIsClosed D (plain i) = AreIn D (sources_of i)
+  StepIsClosed D (choice p cs) = D p × AreClosed D cs
+  StepIsClosed D (loop enter body p back) =
+      InstrsAreClosed D enter × CodeIsClosed (after_instrs no_names enter) body × after_code (after_instrs no_names enter) body p
+      × InstrsAreClosed (after_code (after_instrs no_names enter) body) back × (targets_of back ≡ targets_of enter)
 
-  pub IsClosedCode : NameSet → Code → Type 0
-  IsClosedCode D no_steps = Unit {0}
-  IsClosedCode D (step_then s k) = IsClosedStep D s × IsClosedCode (joined D (written_by_step s)) k
+  pub CodeIsClosed : NameSet → Code → Type 0
+  CodeIsClosed D no_steps = Unit {0}
+  CodeIsClosed D (step_then s c) = StepIsClosed D s × CodeIsClosed (after_step D s) c
 
-  pub AreClosedCodes : NameSet → Codes → Type 0
-  AreClosedCodes D no_codes = Unit {0}
-  AreClosedCodes D (code_then k ks) = IsClosedCode D k × AreClosedCodes D ks
+  pub AreClosed : NameSet → Codes → Type 0
+  AreClosed D no_codes = Unit {0}
+  AreClosed D (code_then c cs) = CodeIsClosed D c × AreClosed D cs
 
-abbrev pub below : ℕ → NameSet
-below n x = x < n
-
--- A function is closed where its code is after the parameters, and its value is written.
-pub record IsClosed (f : LinearFunction) : Type 0 where
-  pub code : IsClosedCode (below f.params) f.code
-  pub value : joined (below f.params) (written_by_code f.code) f.value
-
-abbrev pub AreClosed : List LinearFunction → Type 0
-AreClosed [] = Unit {0}
-AreClosed (f ∷ fs) = IsClosed f × AreClosed fs
+-- A function's parameters are the first names, and its value is written at its end.
+pub record FunctionIsClosed (f : LinearFunction) : Type 0 where
+  pub code : CodeIsClosed (λ x. x < f.params) f.code
+  pub value : after_code (λ x. x < f.params) f.code f.value

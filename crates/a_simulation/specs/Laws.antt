@@ -1,5 +1,5 @@
 -- What holds of code over places.
-use Rattle.std.specs.Prelude.{◌≡◌, ◌≤◌, ℕ, List, map}
+use Rattle.std.specs.Prelude.{◌≡◌, ◌≤◌, ℕ, List, [], ◌∷◌, map}
 use Rattle.val_core.specs.declared.values.Value.{Value}
 use Rattle.val_core.specs.Memory.{Memory}
 use Rattle.val_core.specs.Answers.{Answer, Returned, Cut, Exited, Undefined}
@@ -8,8 +8,9 @@ use Rattle.s_linear.specs.Lines.{Line, code_lines}
 use Rattle.s_linear.specs.Meaning.{State, Context, code_run, calls}
 use Rattle.a_place.specs.Places.{last}
 use Rattle.a_simulation.specs.Placed.{placed_code, placed, placed_calls}
-use Rattle.a_simulation.specs.Need.{IsIn, NameSet, these, joined, needed_by_code, SafeCode}
-use Rattle.a_simulation.specs.Closed.{written_by_code, IsClosedCode, AreClosed}
+use Rattle.a_simulation.specs.Closed.{NameSet, after_code, CodeIsClosed, FunctionIsClosed}
+use Rattle.a_simulation.specs.Choices.{CodeChooses, FunctionsChoose}
+use Rattle.a_simulation.specs.Need.{IsIn, these, needed_by_code, SafeCode}
 use Rattle.a_simulation.specs.Spans.{StandAt, IsBegunAt, ArePlacesApart, SpansCode}
 
 -- the answers are equal, but that their results relate by `R`
@@ -34,21 +35,26 @@ SafeCodeDoesTheSame =
     → Holds place (needed_by_code code (these after)) s q
     → Same (Holds place (these after)) (code_run context code s) (code_run context (placed_code place code) q)
 
--- Places that are apart are safe for closed code that the intervals span: what was written before has started, and what is
+-- Places that are apart are safe for closed code that the intervals span, with choices of two codes or more: what was written before has started, and what is
 -- needed after goes on to the end and was written before or by the code.
 abbrev pub PlacesApartAreSafe : Type 0
 PlacesApartAreSafe =
     (lines : List Line) (place : ℕ → ℕ) (code : Code) (before after : List ℕ) (a b : ℕ) → ArePlacesApart lines place → SpansCode lines a code b
-    → IsClosedCode (these before) code → ((x : ℕ) → IsIn x before → IsBegunAt lines x a) → ((x : ℕ) → IsIn x after → b ≤ last x lines)
-    → ((x : ℕ) → IsIn x after → joined (these before) (written_by_code code) x) → SafeCode place code (these after)
+    → CodeIsClosed (these before) code → CodeChooses code → ((x : ℕ) → IsIn x before → IsBegunAt lines x a) → ((x : ℕ) → IsIn x after → b ≤ last x lines)
+    → ((x : ℕ) → IsIn x after → after_code (these before) code x) → SafeCode place code (these after)
 
 -- The intervals of a list of lines span each code whose lines stand in it.
 abbrev pub IntervalsSpanCode : Type 0
 IntervalsSpanCode =
     (lines : List Line) (code : Code) (labels a b : ℕ) → StandAt lines a (code_lines labels code) b → SpansCode lines a code b
 
--- Functions agree: calls over names and calls over places are equal at every bound.
+abbrev pub FunctionsAreClosed : List LinearFunction → Type 0
+FunctionsAreClosed [] = Unit {0}
+FunctionsAreClosed (f ∷ fs) = FunctionIsClosed f × FunctionsAreClosed fs
+
+-- Functions agree: of closed functions whose choices are of two codes or more, calls over names and calls over places are equal
+-- at every bound.
 abbrev pub FunctionsAgree : Type 0
 FunctionsAgree =
-    (fs : List LinearFunction) → AreClosed fs → (global : ℕ → Value) (bound f : ℕ) (arguments : List Value) (memory : Memory) (input : List ℕ)
+    (fs : List LinearFunction) → FunctionsAreClosed fs → FunctionsChoose fs → (global : ℕ → Value) (bound f : ℕ) (arguments : List Value) (memory : Memory) (input : List ℕ)
     → calls fs global bound f arguments memory input ≡ placed_calls (map placed fs) global bound f arguments memory input

@@ -1,5 +1,6 @@
 pub mod Placed
-pub mod Need
 pub mod Closed
+pub mod Choices
+pub mod Need
 pub mod Spans
 pub mod Laws

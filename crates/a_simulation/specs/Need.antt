@@ -1,54 +1,12 @@
 -- Which names are needed before a code when some are needed after it, and when places are safe for a code: a write changes no
 -- other name's place that is needed.
-use Rattle.std.specs.Prelude.{◌≡◌, ◌≢◌, ◌⊎◌, ℕ, List, [], ◌∷◌}
-use Rattle.s_linear.specs.Linear.{Instr, const, undef, object_address, global_address, binary, unary, load, store, clear, equal_pointers, move, call, put, get, exit, Step, plain, choice, loop, Code, no_steps, step_then, Codes, no_codes, code_then}
+use Rattle.std.specs.Prelude.{◌≡◌, ◌≢◌, ◌⊎◌, ℕ, List, [], ◌∷◌, Some}
+use Rattle.s_linear.specs.Linear.{Instr, Step, plain, choice, loop, Code, no_steps, step_then, Codes, no_codes, code_then}
+use Rattle.a_simulation.specs.Closed.{target_of, sources_of, NameSet, no_names}
 
 abbrev pub IsIn : ℕ → List ℕ → Type 0
 IsIn x [] = ⊥
 IsIn x (y ∷ ys) = (y ≡ x) ⊎ IsIn x ys
-
--- the name that an instruction writes, if any
-abbrev pub targets : Instr → List ℕ
-targets (const t w) = t ∷ []
-targets (undef t) = t ∷ []
-targets (object_address t k) = t ∷ []
-targets (global_address t k) = t ∷ []
-targets (binary o t a b) = t ∷ []
-targets (unary o t a) = t ∷ []
-targets (load width t a) = t ∷ []
-targets (store width a v) = []
-targets (clear k) = []
-targets (equal_pointers t a b) = t ∷ []
-targets (move t a) = t ∷ []
-targets (call f t xs) = t ∷ []
-targets (put a) = []
-targets (get t) = t ∷ []
-targets (exit a) = []
-
--- the names that an instruction reads
-abbrev pub sources : Instr → List ℕ
-sources (const t w) = []
-sources (undef t) = []
-sources (object_address t k) = []
-sources (global_address t k) = []
-sources (binary o t a b) = a ∷ b ∷ []
-sources (unary o t a) = a ∷ []
-sources (load width t a) = a ∷ []
-sources (store width a v) = a ∷ v ∷ []
-sources (clear k) = []
-sources (equal_pointers t a b) = a ∷ b ∷ []
-sources (move t a) = a ∷ []
-sources (call f t xs) = xs
-sources (put a) = a ∷ []
-sources (get t) = []
-sources (exit a) = a ∷ []
-
--- some of the names
-abbrev pub NameSet : Type 1
-NameSet = ℕ → Type 0
-
-abbrev pub no_name : NameSet
-no_name x = ⊥
 
 abbrev pub these : List ℕ → NameSet
 these xs x = IsIn x xs
@@ -60,7 +18,7 @@ joined N M x = N x ⊎ M x
 
 -- read, or needed after and not written
 abbrev pub needed_by : Instr → NameSet → NameSet
-needed_by i N x = IsIn x (sources i) ⊎ ((¬ IsIn x (targets i)) × N x)
+needed_by i N x = IsIn x (sources_of i) ⊎ ((target_of i ≢ Some x) × N x)
 
 abbrev pub needed_by_instrs : List Instr → NameSet → NameSet
 needed_by_instrs [] N = N
@@ -68,7 +26,7 @@ needed_by_instrs (i ∷ is) N = needed_by i (needed_by_instrs is N)
 
 -- After a loop's body: the predicate, what is needed after the loop, and what the moves back read before they write it.
 abbrev pub after_body : (predicate : ℕ) → (back : List Instr) → NameSet → NameSet
-after_body p back N x = (p ≡ x) ⊎ joined N (needed_by_instrs back no_name) x
+after_body p back N x = (p ≡ x) ⊎ joined N (needed_by_instrs back no_names) x
 
 -- What is needed at a loop's label is what its body needs of that: the next turn needs no more, since what is needed at the
 -- label and not moved back is needed here already.
@@ -98,7 +56,7 @@ at_branch body p back N x = (p ≡ x) ⊎ joined N (needed_by_instrs back (at_la
 
 -- no other name that is needed after the instruction has its target's place
 abbrev pub SafeInstr : (place : ℕ → ℕ) → Instr → NameSet → Type 0
-SafeInstr f i N = (t x : ℕ) → IsIn t (targets i) → N x → t ≢ x → f t ≢ f x
+SafeInstr f i N = (t x : ℕ) → target_of i ≡ Some t → N x → t ≢ x → f t ≢ f x
 
 abbrev pub SafeInstrs : (place : ℕ → ℕ) → List Instr → NameSet → Type 0
 SafeInstrs f [] N = Unit {0}

@@ -6,7 +6,8 @@ use Rattle.s_linear.specs.Linear.{Instr, Step, plain, choice, loop, Code, no_ste
 use Rattle.s_linear.specs.Lines.{Line, counted}
 use Rattle.a_place.specs.Places.{occurs, first}
 use Rattle.a_place.specs.Laws.{IsAliveAt}
-use Rattle.a_simulation.specs.Need.{IsIn, targets, sources}
+use Rattle.a_simulation.specs.Closed.{target_of, sources_of}
+use Rattle.a_simulation.specs.Need.{IsIn}
 
 -- these lines stand in `lines` from position a up to b
 abbrev pub StandAt : (lines : List Line) → (a : ℕ) → List Line → (b : ℕ) → Type 0
@@ -25,8 +26,8 @@ ArePlacesApart lines place = (x y i : ℕ) → x ≢ y → IsAliveAt lines x i �
 -- ---- from position a up to b
 
 pub record SpansInstr (lines : List Line) (a : ℕ) (i : Instr) : Type 0 where
-  pub target : (x : ℕ) → IsIn x (targets i) → IsAliveAt lines x a
-  pub source : (x : ℕ) → IsIn x (sources i) → IsAliveAt lines x a
+  pub target : (x : ℕ) → target_of i ≡ Some x → IsAliveAt lines x a
+  pub source : (x : ℕ) → IsIn x (sources_of i) → IsAliveAt lines x a
 
 abbrev pub SpansInstrs : (lines : List Line) → (a : ℕ) → List Instr → (b : ℕ) → Type 0
 SpansInstrs lines a [] b = a ≤ b
