@@ -1,0 +1,5 @@
+pub mod QueueLemmas
+pub mod ViewLemmas
+pub mod StepLemmas
+pub mod SeatLemmas
+pub mod PartLemmas
