@@ -1,8 +1,7 @@
 -- The programs of the tests are well typed.
-use Rattle.std.proofs.Common.{◌≡◌, ◌≢◌, ◌<◌, ◌≤◌, ◌^◌, ℕ, zero, suc, inl, inr, List, [], ◌∷◌, length, slice_get, Some, codes, refl, sym, ap, ◌∙◌, arith, rules, subst}
-use Rattle.c_type.specs.Layout.{size, leaves, IsLaidOut}
-use Rattle.c_typed.specs.Typed.{ExprTree, FunctionTree, GlobalTree, ProgramTree}
-use Rattle.c_typed.specs.WellTyped.{int, type_of, ExprIsTyped, scope_of, FunctionIsTyped, GlobalIsTyped, HasMain, IsWellTyped}
+use Rattle.std.proofs.Common.{◌≡◌, ◌≢◌, ◌<◌, ◌^◌, ℕ, zero, suc, inl, inr, List, [], ◌∷◌, length, slice_get, Some, codes, refl, arith, rules, subst}
+use Rattle.c_typed.specs.Typed.{ExprTree, FunctionTree, GlobalTree}
+use Rattle.c_typed.specs.WellTyped.{int, type_of, ExprIsTyped, scope_of, FunctionIsTyped, GlobalIsTyped, IsWellTyped}
 use Rattle.g_build_tests.specs.Samples.{char, main_of, program_of, x, p, linked, m, spelled}
 
 -- a function `main` that gives a value of type `int`

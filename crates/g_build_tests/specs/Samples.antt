@@ -1,5 +1,5 @@
 -- The programs of the tests: `main` gives the value of an expression.
-use Rattle.std.specs.Prelude.{ℕ, true, false, List, [], ◌∷◌, codes}
+use Rattle.std.specs.Prelude.{true, false, List, [], ◌∷◌, codes}
 use Rattle.c_type.specs.declared.scalar.Scalar.TheVariants.{Char}
 use Rattle.c_type.specs.Trees.{TypeTree, scalar_type, pointer_to, array_of}
 use Rattle.c_typed.specs.declared.operator.UnaryOp.TheVariants.{Convert}
