@@ -1,0 +1,4 @@
+pub mod ParamLemmas
+pub mod LoneLemmas
+pub mod BindLemmas
+pub mod AgreeLemmas
