@@ -10,8 +10,8 @@ use c_state::{Declared, MaybeType, State};
 use no_memory::NoMemory;
 use std::alloc::Global;
 
-/// Declares a function whose name is at an offset. It may be declared again with the same types, and
-/// is defined once (ISO/IEC 9899:2011, 6.7p4, 6.9p3).
+/// Declares a function whose name is at an offset. It may be declared again with the same types,
+/// and is defined once (ISO/IEC 9899:2011, 6.7p4, 6.9p3).
 pub fn declare_function(
     state: &mut State,
     name: &Name,

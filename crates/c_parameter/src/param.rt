@@ -2,9 +2,9 @@ use c_lex::Name;
 use c_state::MaybeType;
 use std::marker::Model;
 
-/// A parameter of a function (ISO/IEC 9899:2011, 6.7.6.3): its name, where it has one; the offset of
-/// its name, or else of its first token; its type, none where it breaks a rule; and whether it never
-/// changes.
+/// A parameter of a function (ISO/IEC 9899:2011, 6.7.6.3): its name, where it has one; the offset
+/// of its name, or else of its first token; its type, none where it breaks a rule; and whether it
+/// never changes.
 #[derive(Drop)]
 pub struct Param {
     pub name: Option<Name>,
