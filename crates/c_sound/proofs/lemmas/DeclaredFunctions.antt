@@ -137,7 +137,16 @@ new_function name f t ts s result params h none =
         globals = h.globals;
         functions = λ k g q.
             let r = h.functions k g q in
-            record { number = r.number; meant = kept g.name (means.Function r.number) r.meant; declared = r.declared; there = get_more s.declared (f ∷ []) r.number r.declared r.there; defined = r.defined; result = r.result; takes = r.takes };
+            record {
+              number = r.number;
+              meant = kept g.name (means.Function r.number) r.meant;
+              declared = r.declared;
+              there = get_more s.declared
+                  (f ∷ []) r.number r.declared r.there;
+              defined = r.defined;
+              result = r.result;
+              takes = r.takes;
+            };
       };
       onward = record {
         broken = λ q. q;
@@ -175,7 +184,8 @@ new_function name f t ts s result params h none =
     by_global asked k b q (inl a) = absurd (let both : Some (means.Function (length s.declared)) ≡ Some (means.Global k b) = sym a ∙ q in cc)
     by_global asked k b q (inr a) = let g = h.globals_named asked k b (sym a ∙ q) in record { declared = g.declared; there = g.there; type = g.type; has = g.has }
 
-    by_function : (asked : Name) (k : ℕ) → meaning (with_declaration s.scopes name (means.Function (length s.declared))) asked ≡ Some (means.Function k) → Meant asked → FunctionTyped (s.declared ++ f ∷ []) k
+    by_function : (asked : Name) (k : ℕ) → meaning (with_declaration s.scopes name (means.Function (length s.declared))) asked ≡ Some (means.Function k) → Meant asked →
+        FunctionTyped (s.declared ++ f ∷ []) k
     by_function asked k q (inl a) =
         let same : length s.declared ≡ k = let both : Some (means.Function (length s.declared)) ≡ Some (means.Function k) = sym a ∙ q in cc in
         subst (FunctionTyped (s.declared ++ f ∷ [])) same (record { function = f; there = get_end s.declared f; result = t; has = result; types = ts; takes = params })
@@ -211,7 +221,16 @@ again_function name f t ts s k g result params h meant there same_result same_pa
         functions = λ j x q.
             let r = h.functions j x q in
             let y = still r.number r.declared r.there in
-            record { number = r.number; meant = r.meant; declared = y.later; there = y.there; defined = y.defined r.defined; result = y.result ∙ r.result; takes = subst (λ ps. AllTypes ps (map (λ v. v.type) (params_of x))) (sym y.params) r.takes };
+            record {
+              number = r.number;
+              meant = r.meant;
+              declared = y.later;
+              there = y.there;
+              defined = y.defined r.defined;
+              result = y.result
+                  ∙ r.result;
+              takes = subst (λ ps. AllTypes ps (map (λ v. v.type) (params_of x))) (sym y.params) r.takes;
+            };
       };
       onward = record { broken = λ q. q; structs = ([], refl); defined = refl; globals = λ j x q. q; declared = still; functions = λ j x q. q; names = λ clean asked m q. q };
       number = k;
@@ -283,7 +302,8 @@ nothing_breaks : (wrong : Bool) (rule : Rule) (offset : ℕ) (s : State) → wro
 nothing_breaks true rule offset s e = absurd (false≢true (sym e))
 nothing_breaks false rule offset s e = refl
 
-function_out : (name : Name) (offset : ℕ) (f : Declared) (t : TypeTree) (ts : List TypeTree) (m : Option Meaning) (s : State) → f.result ≡ Some t → AllTypes f.params ts → Core s → meaning s.scopes name ≡ m →
+function_out : (name : Name) (offset : ℕ) (f : Declared) (t : TypeTree) (ts : List TypeTree) (m : Option Meaning) (s : State) → f.result ≡ Some t → AllTypes f.params ts → Core s →
+    meaning s.scopes name ≡ m →
     (function_meant name offset f m s).1.broken ≡ None → FunctionOut name f t ts s (function_meant name offset f m s).1
 function_out name offset f t ts None s result params h e clean = new_function name f t ts s result params h e
 function_out name offset f t ts (Some (means.Variable slot b)) s result params h e clean = absurd (cc)
