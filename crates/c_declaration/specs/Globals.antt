@@ -8,8 +8,8 @@ use Rattle.c_elaboration.specs.State.{MaybeType, Elaborated, ◌>>=◌, ◌>>◌
 use Rattle.c_elaboration.specs.Leaves.{is_present}
 use Rattle.c_elaboration.specs.Specifiers.{Specified}
 use Rattle.c_elaboration.specs.DeclaredTypes.{object_type}
-use Rattle.c_elaboration.specs.Initialisers.{initialiser, completed, written}
-use Rattle.c_elaboration.specs.Declarators.{open_dimensions, completed_type, initialise_global}
+use Rattle.c_elaboration.specs.Initialisers.{initialiser, completed}
+use Rattle.c_elaboration.specs.Declarators.{open_dimensions, completed_type, written_in, initialise_global}
 
 abbrev pub new_global : (offset : ℕ) → (fixed : Bool) → Elaborated ℕ
 new_global offset fixed = add_global (record { offset = offset; type = None; is_variable = true; fixed = fixed; written = [] })
@@ -18,7 +18,7 @@ abbrev pub begun_global : (number offset : ℕ) → MaybeType → Tree → Elabo
 begun_global k offset t x = do
   es ← initialiser true (option_and_then (completed x) t) 0 x
   u ← completed_type offset x t
-  change_global k (λ g. record g { type = u; written = written es })
+  change_global k (λ g. record g { type = u; written = written_in u es })
 
 abbrev pub global_typed : (fixed : Bool) → (number : ℕ) → Name → (offset : ℕ) → MaybeType → (initial : Tree) → Elaborated (Unit {0})
 global_typed fixed k name offset t begun = do

@@ -1,9 +1,8 @@
 ghost use Rattle.std.specs.Prelude.{◌≡◌, length, IfOk, OnOk};
 ghost use Rattle.c_ast.specs.Declarations.{init_tree, initializer, open_dimensions as dimension_trees, more_declarators as declarator_trees};
-ghost use Rattle.c_elaboration.specs.Declarators.{global_declarator, more_globals, initialise_global};
+ghost use Rattle.c_elaboration.specs.Declarators.{global_declarator, more_globals, initialise_global, written_in};
 ghost use Rattle.c_declaration.specs.Globals.{new_global, global_begun, global_sized, global_typed, begun_global};
 ghost use Rattle.c_typed.specs.ProgramViews.{written_of as written_tree};
-ghost use Rattle.c_elaboration.specs.Initialisers.{written};
 ghost use Rattle.c_declaration.specs.Pieces.{if_made};
 ghost use Rattle.std.specs.Prelude.{map};
 
@@ -166,15 +165,22 @@ fn begin_global(
     let mut out = Pieces::new(state.alloc());
     let made = initialiser(state, true, &whole, 0, init, &mut out)?;
     let small = small_if_some(state, offset, whole);
-    let written = written(state.alloc(), made, out)?;
+    let written = written_in(state.alloc(), &small, made, out)?;
     state.begin_global(number, small, written);
     Ok(())
 }
 
-fn written(alloc: Global, made: bool, out: Pieces) -> Result<Vec<Written>, NoMemory>
-    ensures { IfOk result (λ r. map written_tree r.items ≡ written (if_made made out)) }
+// What is written in a variable of this type, unless a rule is broken.
+fn written_in(
+    alloc: Global,
+    ty: &MaybeType,
+    made: bool,
+    out: Pieces,
+) -> Result<Vec<Written>, NoMemory>
+    ensures { IfOk result
+        (λ r. map written_tree r.items ≡ written_in ty.now (if_made made out)) }
 {
-    if made {
+    if made && ty.get().is_some() {
         out.into_written(alloc)
     } else {
         drop(out);

@@ -3,7 +3,7 @@
 use Rattle.std.specs.Prelude.{ℕ, ◌==◌, ◌&&◌, Bool, true, false, List, [], ◌∷◌, ◌++◌, Option, None, Some, option_and_then, slice_get}
 use Rattle.c_ast.specs.Productions as l
 use Rattle.c_ast.specs.Tree.{Tree, Node, Cons}
-use Rattle.c_typed.specs.Typed.{DeclarationTree, InitialTree, no_initial, ItemTrees, no_items, stmt_then, declare_then}
+use Rattle.c_typed.specs.Typed.{WrittenTree, DeclarationTree, InitialTree, no_initial, ItemTrees, no_items, stmt_then, declare_then}
 use Rattle.c_scope.specs.Scopes.{Name}
 use Rattle.c_elaboration.specs.declared.meaning.Meaning.TheVariants as means
 use Rattle.c_elaboration.specs.State.{MaybeType, Variable, Elaborated, ◌>>=◌, ◌>>◌, pure, state, if_some, declare, variable_in, change_variable, add_variable, add_global, change_global}
@@ -13,7 +13,7 @@ use Rattle.c_elaboration.specs.declared.dimension.Dimension.{Dimension}
 use Rattle.c_elaboration.specs.declared.dimension.Dimension.TheVariants as dimension
 use Rattle.c_elaboration.specs.DeclaredTypes.{object_type, small_type}
 use Rattle.c_elaboration.specs.Expressions.{expression, size}
-use Rattle.c_elaboration.specs.Initialisers.{initialiser, completed, initial, written}
+use Rattle.c_elaboration.specs.Initialisers.{Elements, initialiser, completed, initial, written}
 
 -- ---- dimensions, of which the first may be left empty
 
@@ -43,11 +43,16 @@ completed_type offset x t = if_some (option_and_then (completed x) t) (small_typ
 
 -- ---- at file scope: a global has its number from its name on
 
+-- what is written in a variable, where it has a type
+abbrev pub written_in : MaybeType → Elements → List WrittenTree
+written_in None es = []
+written_in (Some t) es = written es
+
 abbrev pub initialise_global : (number offset : ℕ) → MaybeType → Tree → Elaborated (Unit {0})
 initialise_global k offset t (Node (l.Present o) (Cons equal (Cons x none))) = do
   es ← initialiser true (option_and_then (completed x) t) 0 x
   u ← completed_type offset x t
-  change_global k (λ g. record g { type = u; written = written es })
+  change_global k (λ g. record g { type = u; written = written_in u es })
 initialise_global k offset t x = pure tt
 
 abbrev pub global_declarator : Specified → (is_const : Bool) → (stars : ℕ) → Name → (offset : ℕ) → (bounds initial : Tree) → Elaborated (Unit {0})

@@ -10,6 +10,7 @@ mod globals;
 mod initial;
 mod maybe_type;
 mod names;
+mod program;
 mod state;
 mod structs;
 mod term;
