@@ -18,7 +18,7 @@ use Rattle.c_elaboration.specs.Leaves.{offset_of, name_of, count_of, is_present}
 use Rattle.c_elaboration.specs.Specifiers.{Specified}
 use Rattle.c_elaboration.specs.DeclaredTypes.{small_type, object_type}
 use Rattle.c_elaboration.specs.Initialisers.{Elements, value, initialiser, completed, written}
-use Rattle.c_elaboration.specs.Declarators.{open_dimensions, is_fixed, initialise_global, global_declarator, global_declared, more_globals}
+use Rattle.c_elaboration.specs.Declarators.{written_in, open_dimensions, is_fixed, initialise_global, global_declarator, global_declared, more_globals}
 use Rattle.c_sound.proofs.lemmas.States.{stay, step_then, NamesFit}
 use Rattle.c_sound.proofs.lemmas.Steps.{breaks_if_steps}
 use Rattle.c_sound.proofs.lemmas.Terms.{InRange}
@@ -164,8 +164,8 @@ ready_names name k fixed s t z u o =
 -- what is left once the initialiser and the whole type are known
 WithType : Name → ℕ → Bool → State → Elements × State → MaybeType × State → Type 0
 WithType name k fixed s es u =
-    (change_global k (λ g. record g { type = u.0; written = written es.0 }) u.1).1.broken ≡ None →
-    GlobalOut name k fixed s (change_global k (λ g. record g { type = u.0; written = written es.0 }) u.1).1
+    (change_global k (λ g. record g { type = u.0; written = written_in u.0 es.0 }) u.1).1.broken ≡ None →
+    GlobalOut name k fixed s (change_global k (λ g. record g { type = u.0; written = written_in u.0 es.0 }) u.1).1
 
 begun_global : (y : Layouts) (name : Name) (k : ℕ) (fixed : Bool) (x : Tree) (s t : State) (u : TypeTree) (c : Completed t.structs x u) → Ready name k fixed s t u → InRange x →
     WithType name k fixed s (initialiser true (Some c.type) 0 x t) (Some c.type, (initialiser true (Some c.type) 0 x t).1)
