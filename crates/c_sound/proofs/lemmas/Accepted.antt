@@ -165,7 +165,8 @@ has_at (x ∷ names) (suc k) name h = or_right (same_name name x) (has_name name
 distinct_with : (names : List Name) (name : Name) → AreDistinctNames names → AreDistinctNames (with_name names name)
 distinct_with names name h = by_test (has_name names name) refl
   where
-    both : has_name names name ≡ false → (j k : ℕ) (asked : Name) → (slice_get names j ≡ Some asked) ⊎ ((j ≡ length names) × (name ≡ asked)) → (slice_get names k ≡ Some asked) ⊎ ((k ≡ length names) × (name ≡ asked)) → j ≡ k
+    both : has_name names name ≡ false → (j k : ℕ) (asked : Name) → (slice_get names j ≡ Some asked) ⊎ ((j ≡ length names) × (name ≡ asked)) →
+        (slice_get names k ≡ Some asked) ⊎ ((k ≡ length names) × (name ≡ asked)) → j ≡ k
     both e j k asked (inl a) (inl b) = h j k asked a b
     both e j k asked (inl a) (inr b) = absurd (false≢true (sym e ∙ has_at names j name (a ∙ ap Some (sym b.1))))
     both e j k asked (inr a) (inl b) = absurd (false≢true (sym e ∙ has_at names k name (b ∙ ap Some (sym a.1))))
@@ -212,7 +213,8 @@ end_functions z h vs s onward name k m = record {
       let gives : f.0.result ≡ t =
       let both : Some f.0.result ≡ Some t = sym known.result ∙ ap (λ (d : Declared). d.result) same ∙ later.result ∙ result in cc in
       let takes : map (λ v. v.type) (params_of f.0) ≡ ts =
-      all_types_same d.params (map (λ v. v.type) (params_of f.0)) ts (subst (λ ps. AllTypes ps (map (λ v. v.type) (params_of f.0))) (ap (λ (d : Declared). d.params) same ∙ later.params) known.takes) params in
+      all_types_same d.params (map (λ v. v.type) (params_of f.0)) ts
+      (subst (λ ps. AllTypes ps (map (λ v. v.type) (params_of f.0))) (ap (λ (d : Declared). d.params) same ∙ later.params) known.takes) params in
       get_map signature_of z.functions n f.0 f.1 ∙ (λ i. Some (record { result = gives i; params = takes i }));
 }
 
@@ -232,7 +234,8 @@ main_there z h e = by_number (number_of z.defined (codes "main")) refl e
           there = ap (slice_get z.functions) main ∙ there;
           named = ap (λ (f : FunctionTree). f.name) (sym is) ∙ named.2;
           alone = λ k g r same.
-              h.distinct k n (codes "main") (ap (λ ns. slice_get ns k) (sym h.names) ∙ get_map (λ (f : FunctionTree). f.name) z.functions k g r ∙ ap Some same) (name_at z.defined (codes "main") n q) ∙ sym main;
+              h.distinct k n (codes "main") (ap (λ ns. slice_get ns k) (sym h.names) ∙ get_map (λ (f : FunctionTree). f.name) z.functions k g r ∙ ap Some same)
+              (name_at z.defined (codes "main") n q) ∙ sym main;
           gives = same_type-true f.result int parts.0;
           takes = grind (arith, nat_tests, parts.1);
         }
@@ -248,7 +251,8 @@ global_typed z k g h there small =
     let count = map_length global_tree z.globals in
     record {
       laid_out = record { complete = ap (is_complete z.structs) is ∙ fits.complete; small = small };
-      written = subst (λ n. WrittenFits (leaves z.structs (global_tree g).type) n 0 g.written) (sym count) (subst (λ t. WrittenFits (leaves z.structs t) (length z.globals) 0 g.written) (sym is) fits.written);
+      written = subst (λ n. WrittenFits (leaves z.structs (global_tree g).type) n 0 g.written) (sym count)
+          (subst (λ t. WrittenFits (leaves z.structs t) (length z.globals) 0 g.written) (sym is) fits.written);
     }
 
 end_typed : (z : State) → AtEnd z → has_main z ≡ true → above_limits (program_of z) ≡ None → (Ended z → AreTyped z z.functions) → IsWellTyped (program_of z)
@@ -295,7 +299,8 @@ file_typed y t follows range few clean main limits =
 pub accepted_typed : Layouts → AcceptedAreWellTyped
 accepted_typed y t follows range few n p e = by_broken (last_state t).broken refl e
   where
-    by_limits : (last_state t).broken ≡ None → has_main (last_state t) ≡ true → (o : Option Refusal) → above_limits (program_of (last_state t)) ≡ o → or_refused (program_of (last_state t)) o ≡ Ok p → IsWellTyped p
+    by_limits : (last_state t).broken ≡ None → has_main (last_state t) ≡ true → (o : Option Refusal) → above_limits (program_of (last_state t)) ≡ o →
+        or_refused (program_of (last_state t)) o ≡ Ok p → IsWellTyped p
     by_limits clean main None q r = let same : program_of (last_state t) ≡ p = cc in subst IsWellTyped same (file_typed y t follows range few clean main q)
     by_limits clean main (Some x) q r = absurd (cc)
 

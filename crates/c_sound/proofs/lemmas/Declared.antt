@@ -192,7 +192,8 @@ pub slot_of : (s t : State) → t.slots ≡ s.slots ++ length s.variables ∷ []
 slot_of s t h = ap (λ ks. variable_in ks (length s.slots)) h ∙ ap (λ o. unwrap_or o 0) (get_end s.slots (length s.variables))
 
 -- names stay where the types of variables change
-pub names_same : (e : Ending) (s t : State) → t.scopes ≡ s.scopes → t.slots ≡ s.slots → length t.variables ≡ length s.variables → t.declared ≡ s.declared → t.defined ≡ s.defined → NamesFit e s → NamesFit e t
+pub names_same : (e : Ending) (s t : State) → t.scopes ≡ s.scopes → t.slots ≡ s.slots → length t.variables ≡ length s.variables → t.declared ≡ s.declared → t.defined ≡ s.defined → NamesFit e s →
+    NamesFit e t
 names_same e s t scopes slots same declared defined h = record {
   slots = λ name k b m. subst (λ (ks : List ℕ). k < length ks) (sym slots) (h.slots name k b (sym (ap (λ q. meaning q name) scopes) ∙ m));
   variables = λ slot k m. subst (λ n. k < n) (sym same) (h.variables slot k (sym (ap (λ ks. slice_get ks slot) slots) ∙ m));
@@ -251,7 +252,8 @@ begun_declared y e c x s t u k h n r ends =
     let w = ends.types j (f nq.variable) k.type last refl in
     let fit = fits_unchanged e q slot j nq.variable u k.type h.shows place nq.there nq.type k.scalar ends.fits in
     let later = change_new s q f bq in
-    let names = names_same e t z steps.scopes steps.slots (changed_length f (variable_in q.slots slot) q.variables ∙ same_length t.variables q.variables steps.variables) steps.declared steps.defined h.names in
+    let names = names_same e t z steps.scopes steps.slots (changed_length f (variable_in q.slots slot) q.variables
+    ∙ same_length t.variables q.variables steps.variables) steps.declared steps.defined h.names in
     let grown : Grown e c s z = record { shows = h.shows; before = h.before; begun = record { later = later; slots = bq.slots }; names = names } in
     let whole : record w.0 { type = k.type } ≡ w.0 = λ i. record w.0 { type = sym w.2 i } in
     let object : is_scalar k.type ≡ false → w.0.is_object ≡ true = λ m. sym (ap object_by w.1) ∙ (ends.fits.variables j (f nq.variable) last).shape k.type refl m in
@@ -268,7 +270,8 @@ begun_declared y e c x s t u k h n r ends =
     by_name : (b : Bool) → is_named (slice_get (change_variable (length s.slots) (λ v. record v { type = Some k.type }) (initialiser false (Some k.type) 0 x t).1).1.variables
         (variable_in (initialiser false (Some k.type) 0 x t).1.slots (length s.slots))) ≡ b →
         (w : VariableTree) → slice_get e.variables (length s.variables) ≡ Some w → k.type ≡ w.type → (is_scalar k.type ≡ false → w.is_object ≡ true) → AreDefinitions c.structs →
-        Fits e (initialiser false (Some k.type) 0 x t).1 → Begun s (initialiser false (Some k.type) 0 x t).1 → InitialFits (initial_scope b c w u) w (initial (initialiser false (Some k.type) 0 x t).0 (Some k.type))
+        Fits e (initialiser false (Some k.type) 0 x t).1 → Begun s (initialiser false (Some k.type) 0 x t).1 →
+        InitialFits (initial_scope b c w u) w (initial (initialiser false (Some k.type) 0 x t).0 (Some k.type))
     by_name true p w final type object good fit bq =
         begins y e (extended c (record w { type = u })) w x k.type t good type object k.whole r (at_new e c s t n.variable w u h n.there n.type final) fit
     by_name false p w final type object good fit bq =
@@ -287,7 +290,8 @@ small_is offset u q clean = by_test (is_large q.structs (with_elements u)) clean
     by_test true c = absurd (cc)
     by_test false c = refl
 
-initialised : (y : Layouts) (e : Ending) (c : Scope) (offset : ℕ) (may : Bool) (begun : Tree) (s t : State) (u : TypeTree) → LaidOrOpen c.structs may u → MayBegin begun → InRange begun → Grown e c s t → NewAt s t u → Ends e (initialise_variable (length s.slots) offset (Some u) begun t).1 →
+initialised : (y : Layouts) (e : Ending) (c : Scope) (offset : ℕ) (may : Bool) (begun : Tree) (s t : State) (u : TypeTree) → LaidOrOpen c.structs may u → MayBegin begun → InRange begun →
+    Grown e c s t → NewAt s t u → Ends e (initialise_variable (length s.slots) offset (Some u) begun t).1 →
     DeclaredOut e c (variable_declared (length s.slots) (initialise_variable (length s.slots) offset (Some u) begun t).0 (initialise_variable (length s.slots) offset (Some u) begun t).1).0
     (initialise_variable (length s.slots) offset (Some u) begun t).1
 unfolding WithType
@@ -351,11 +355,13 @@ declarator_out y e c x is_const stars name offset bounds begun s base m r h ends
     let typed = object_type_typed (is_present begun) offset x stars ds.0 ds.1 base fit clean in
     by_type typed (structs_at e c ds.1 hd) t.0 typed.there t.1 ht ends
   where
-    by_type : (k : TypeThere (LaidOrOpen (open_dimensions bounds s).1.structs (is_present begun)) (object_type (is_present begun) offset x stars (open_dimensions bounds s).0 (open_dimensions bounds s).1).0) →
+    by_type : (k : TypeThere (LaidOrOpen (open_dimensions bounds s).1.structs (is_present begun))
+        (object_type (is_present begun) offset x stars (open_dimensions bounds s).0 (open_dimensions bounds s).1).0) →
         (open_dimensions bounds s).1.structs ≡ c.structs → (o : MaybeType) → o ≡ Some k.type → (t : State) → At e c t →
         Ends e (initialise_variable (length t.slots) offset o begun (declare name offset (means.Variable (length t.slots) (is_fixed is_const stars)) (add_variable o t).1).1).1 →
         DeclaredOut e c
-        (variable_declared (length t.slots) (initialise_variable (length t.slots) offset o begun (declare name offset (means.Variable (length t.slots) (is_fixed is_const stars)) (add_variable o t).1).1).0
+        (variable_declared (length t.slots) (initialise_variable (length t.slots) offset o begun
+        (declare name offset (means.Variable (length t.slots) (is_fixed is_const stars)) (add_variable o t).1).1).0
         (initialise_variable (length t.slots) offset o begun (declare name offset (means.Variable (length t.slots) (is_fixed is_const stars)) (add_variable o t).1).1).1).0
         (initialise_variable (length t.slots) offset o begun (declare name offset (means.Variable (length t.slots) (is_fixed is_const stars)) (add_variable o t).1).1).1
     by_type k same None q t ht ends = absurd (cc)

@@ -1,7 +1,7 @@
 -- A function is declared, again with the same types, and defined once.
 use Rattle.std.proofs.Common.{◌≡◌, ◌⊎◌, inl, inr, ℕ, Bool, true, false, List, [], ◌∷◌, ◌++◌, length, map, refl, sym, ap, ◌∙◌, subst, eqb-true, eq-eqb}
 use Rattle.std.specs.Prelude.{◌==◌, ◌&&◌, ◌||◌, not, slice_get, slice_set, Option, None, Some}
-use Rattle.std.proofs.lemmas.Bool.{false≢true, and_parts}
+use Rattle.std.proofs.lemmas.Bool.{false≢true, and_parts, not-false, not-true}
 use Rattle.c_type.specs.Trees.{TypeTree, void_type}
 use Rattle.c_type.specs.WellDefined.{AreDefinitions}
 use Rattle.c_typed.specs.Typed.{FunctionTree}
@@ -137,7 +137,16 @@ new_function name f t ts s result params h none =
         globals = h.globals;
         functions = λ k g q.
             let r = h.functions k g q in
-            record { number = r.number; meant = kept g.name (means.Function r.number) r.meant; declared = r.declared; there = get_more s.declared (f ∷ []) r.number r.declared r.there; defined = r.defined; result = r.result; takes = r.takes };
+            record {
+              number = r.number;
+              meant = kept g.name (means.Function r.number) r.meant;
+              declared = r.declared;
+              there = get_more s.declared
+                  (f ∷ []) r.number r.declared r.there;
+              defined = r.defined;
+              result = r.result;
+              takes = r.takes;
+            };
       };
       onward = record {
         broken = λ q. q;
@@ -175,7 +184,8 @@ new_function name f t ts s result params h none =
     by_global asked k b q (inl a) = absurd (let both : Some (means.Function (length s.declared)) ≡ Some (means.Global k b) = sym a ∙ q in cc)
     by_global asked k b q (inr a) = let g = h.globals_named asked k b (sym a ∙ q) in record { declared = g.declared; there = g.there; type = g.type; has = g.has }
 
-    by_function : (asked : Name) (k : ℕ) → meaning (with_declaration s.scopes name (means.Function (length s.declared))) asked ≡ Some (means.Function k) → Meant asked → FunctionTyped (s.declared ++ f ∷ []) k
+    by_function : (asked : Name) (k : ℕ) → meaning (with_declaration s.scopes name (means.Function (length s.declared))) asked ≡ Some (means.Function k) → Meant asked →
+        FunctionTyped (s.declared ++ f ∷ []) k
     by_function asked k q (inl a) =
         let same : length s.declared ≡ k = let both : Some (means.Function (length s.declared)) ≡ Some (means.Function k) = sym a ∙ q in cc in
         subst (FunctionTyped (s.declared ++ f ∷ [])) same (record { function = f; there = get_end s.declared f; result = t; has = result; types = ts; takes = params })
@@ -211,7 +221,16 @@ again_function name f t ts s k g result params h meant there same_result same_pa
         functions = λ j x q.
             let r = h.functions j x q in
             let y = still r.number r.declared r.there in
-            record { number = r.number; meant = r.meant; declared = y.later; there = y.there; defined = y.defined r.defined; result = y.result ∙ r.result; takes = subst (λ ps. AllTypes ps (map (λ v. v.type) (params_of x))) (sym y.params) r.takes };
+            record {
+              number = r.number;
+              meant = r.meant;
+              declared = y.later;
+              there = y.there;
+              defined = y.defined r.defined;
+              result = y.result
+                  ∙ r.result;
+              takes = subst (λ ps. AllTypes ps (map (λ v. v.type) (params_of x))) (sym y.params) r.takes;
+            };
       };
       onward = record { broken = λ q. q; structs = ([], refl); defined = refl; globals = λ j x q. q; declared = still; functions = λ j x q. q; names = λ clean asked m q. q };
       number = k;
@@ -271,19 +290,12 @@ function_broken name offset f (Some (means.Global k b)) s clean = absurd (cc)
 pub declare_function_broken : (name : Name) (offset : ℕ) (f : Declared) (s : State) → (declare_function name offset f s).1.broken ≡ None → s.broken ≡ None
 declare_function_broken name offset f s clean = function_broken name offset f (meaning s.scopes name) s clean
 
-not_false : (b : Bool) → not b ≡ false → b ≡ true
-not_false true e = refl
-not_false false e = absurd (false≢true (sym e))
-
-not_true : (b : Bool) → not b ≡ true → b ≡ false
-not_true false e = refl
-not_true true e = absurd (false≢true e)
-
 nothing_breaks : (wrong : Bool) (rule : Rule) (offset : ℕ) (s : State) → wrong ≡ false → (breaks_if wrong rule offset s).1 ≡ s
 nothing_breaks true rule offset s e = absurd (false≢true (sym e))
 nothing_breaks false rule offset s e = refl
 
-function_out : (name : Name) (offset : ℕ) (f : Declared) (t : TypeTree) (ts : List TypeTree) (m : Option Meaning) (s : State) → f.result ≡ Some t → AllTypes f.params ts → Core s → meaning s.scopes name ≡ m →
+function_out : (name : Name) (offset : ℕ) (f : Declared) (t : TypeTree) (ts : List TypeTree) (m : Option Meaning) (s : State) → f.result ≡ Some t → AllTypes f.params ts → Core s →
+    meaning s.scopes name ≡ m →
     (function_meant name offset f m s).1.broken ≡ None → FunctionOut name f t ts s (function_meant name offset f m s).1
 function_out name offset f t ts None s result params h e clean = new_function name f t ts s result params h e
 function_out name offset f t ts (Some (means.Variable slot b)) s result params h e clean = absurd (cc)
@@ -292,12 +304,12 @@ function_out name offset f t ts (Some (means.Function k)) s result params h e cl
     let g = h.functions_named name k e in
     let wrong = not (may_follow (slice_get s.declared k) f) in
     let none = not_wrong wrong Redeclared offset s clean in
-    let may : may_follow (Some g.function) f ≡ true = sym (ap (λ x. may_follow x f) g.there) ∙ not_false (may_follow (slice_get s.declared k) f) none in
+    let may : may_follow (Some g.function) f ≡ true = sym (ap (λ x. may_follow x f) g.there) ∙ not-false (may_follow (slice_get s.declared k) f) none in
     let parts = and_parts (agree g.function.result f.result && all_agree g.function.params f.params) (not (g.function.is_defined && f.is_defined)) may in
     let both = and_parts (agree g.function.result f.result) (all_agree g.function.params f.params) parts.0 in
     let same : g.function.result ≡ Some t = g.has ∙ ap Some (agree_is g.function.result f.result g.result t g.has result both.0) in
     let takes = all_agree_is g.function.params f.params g.types ts g.takes params both.1 in
-    let once = not_true (g.function.is_defined && f.is_defined) parts.1 in
+    let once = not-true (g.function.is_defined && f.is_defined) parts.1 in
     subst (λ b. FunctionOut name f t ts s (record b { declared = changed (declared_again f) k b.declared })) (sym (nothing_breaks wrong Redeclared offset s none))
     (again_function name f t ts s k g.function result params h e g.there same takes once)
 

@@ -138,7 +138,13 @@ pub text_fits : (defs : Definitions) (n : ℕ) (g : Global) → IsText g → Glo
 text_fits defs n g h =
     let b = bytes_array defs scalar.Char (suc (length h.bytes)) refl in
     let there : AreCharactersAt (leaves defs (string_type h.bytes)) 0 h.bytes = bytes_at (leaves defs (string_type h.bytes)) 0 0 (suc (length h.bytes)) h.bytes (b.leaf 0) (omega arith) h.range in
-    record { type = string_type h.bytes; has = h.type; complete = some_elements defs (scalar_type scalar.Char) (suc (length h.bytes)) (omega arith) refl; written = subst (WrittenFits (leaves defs (string_type h.bytes)) n 0) (sym h.written) (omega arith, there, tt) }
+    record {
+      type = string_type h.bytes;
+      has = h.type;
+      complete = some_elements defs (scalar_type scalar.Char) (suc (length h.bytes)) (omega arith) refl;
+      written = subst
+          (WrittenFits (leaves defs (string_type h.bytes)) n 0) (sym h.written) (omega arith, there, tt);
+    }
 
 pub get_split : {A : Type 0} → (xs ys : List A) (k : ℕ) (y : A) → slice_get (xs ++ ys) k ≡ Some y → (slice_get xs k ≡ Some y) ⊎ ((j : ℕ) × (slice_get ys j ≡ Some y))
 get_split [] ys k y h = inr (k, h)
@@ -204,7 +210,8 @@ file_more s t a known h = record {
   slots = a.slots;
   no_variables = λ name slot b m. h.no_variables name slot b (sym (ap (λ q. meaning q name) a.scopes) ∙ m);
   globals_named = λ name k b m.
-      let g = h.globals_named name k b (sym (ap (λ q. meaning q name) a.scopes) ∙ m) in record { declared = g.declared; there = texts_keep s t a.texts k g.declared g.there; type = g.type; has = g.has };
+      let g = h.globals_named name k b (sym (ap (λ q. meaning q name) a.scopes)
+      ∙ m) in record { declared = g.declared; there = texts_keep s t a.texts k g.declared g.there; type = g.type; has = g.has };
   functions_named = λ name k m. subst (λ ds. FunctionTyped ds k) (sym a.declared) (h.functions_named name k (sym (ap (λ q. meaning q name) a.scopes) ∙ m));
   put = ap (λ ds. slice_get ds 0) a.declared ∙ h.put;
   get = ap (λ ds. slice_get ds 1) a.declared ∙ h.get;

@@ -52,7 +52,8 @@ abbrev defined_after : Tree → Tree → Option Name
 defined_after name (Node l.Function (Cons opening (Cons xs (Cons closing (Cons body none))))) = defined_name (name_of name) body
 defined_after name t = None
 
-after_name_out : (y : Layouts) (starts : ℕ) (x : Specified) (is_const : Bool) (stars : ℕ) (name t : Tree) (s : State) → IsNoArray x.type → InRange t → WellShaped t → FileShaped t → declarations t ≤ 200000 →
+after_name_out : (y : Layouts) (starts : ℕ) (x : Specified) (is_const : Bool) (stars : ℕ) (name t : Tree) (s : State) → IsNoArray x.type → InRange t → WellShaped t → FileShaped t →
+    declarations t ≤ 200000 →
     ExternalOut (defined_after name t) s (after_name starts x is_const stars (name_of name) (offset_of name) t s).1
 after_name_out y starts x is_const stars name (Node l.Function (Cons opening (Cons xs (Cons closing (Cons body none))))) s base r w f few =
     function_moves y starts x stars (name_of name) (offset_of name) xs body s base r.1.0 r.1.1.1.0 w.1.1.1.0 f (omega (arith, few))
@@ -63,8 +64,10 @@ after_name_out y starts x is_const stars name t s base r w f few = moved_out s s
 
 after_type_out : (y : Layouts) (starts : ℕ) (x : Specified) (is_const : Bool) (t : Tree) (s : State) → IsNoArray x.type → InRange t → WellShaped t → FileShaped t → declarations t ≤ 200000 →
     ExternalOut (defined_after_type t) s (after_type starts x is_const t s).1
-after_type_out y starts x is_const (Node l.Declared (Cons stars (Cons name (Cons (Node l.Function (Cons opening (Cons xs (Cons closing (Cons (Node l.Block children) none))))) more)))) s base r w f few =
-    after_name_out y starts x is_const (count_of stars) name (Node l.Function (Cons opening (Cons xs (Cons closing (Cons (Node l.Block children) none))))) s base r.1.1.0 w.1.1.0 f.1.1.0 (omega (arith, few))
+after_type_out y starts x is_const (Node l.Declared (Cons stars
+    (Cons name (Cons (Node l.Function (Cons opening (Cons xs (Cons closing (Cons (Node l.Block children) none))))) more)))) s base r w f few =
+    after_name_out y starts x is_const (count_of stars) name (Node l.Function (Cons opening (Cons xs (Cons closing (Cons (Node l.Block children) none))))) s base r.1.1.0 w.1.1.0 f.1.1.0
+    (omega (arith, few))
 after_type_out y starts x is_const (Node l.Declared (Cons stars (Cons name (Cons (Node l.Function (Cons opening (Cons xs (Cons closing (Cons body none))))) more)))) s base r w f few =
     after_name_out y starts x is_const (count_of stars) name (Node l.Function (Cons opening (Cons xs (Cons closing (Cons body none))))) s base r.1.1.0 w.1.1.0 f.1.1.0 (omega (arith, few))
 after_type_out y starts x is_const (Node l.Declared (Cons stars (Cons name (Cons rest none)))) s base r w f few =
@@ -75,7 +78,8 @@ after_tag_out : (y : Layouts) (starts : ℕ) (tag t : Tree) (s : State) → InRa
     ExternalOut (defined_after_type t) s (after_tag starts (name_of tag) (offset_of tag) t s).1
 after_tag_out y starts tag (Node l.Declared children) s r w f few =
     let x = tagged (name_of tag) (offset_of tag) s in
-    after_moved (defined_after_type (Node l.Declared children)) s x.1 _ (moved_step s x.1 (tagged_steps (name_of tag) (offset_of tag) s) (same_globals s x.1 (tagged_quiet (name_of tag) (offset_of tag) s)))
+    after_moved (defined_after_type (Node l.Declared children)) s x.1 _
+    (moved_step s x.1 (tagged_steps (name_of tag) (offset_of tag) s) (same_globals s x.1 (tagged_quiet (name_of tag) (offset_of tag) s)))
     (after_type_out y starts x.0 false (Node l.Declared children) x.1 tt r w f few)
 after_tag_out y starts tag (Node l.StructMembers (Cons opening (Cons first (Cons more none)))) s r w f few =
     moved_out s _ (struct_moved (name_of tag) (offset_of tag) (Node l.StructMembers (Cons opening (Cons first (Cons more none)))) s f r)
@@ -108,7 +112,8 @@ externals_out y (Node (l.More k) (Cons before (Cons t none))) s r w f few =
     let a = externals before s in
     by_broken (is_some a.1.broken) refl (externals_out y before s r.0 w.0 f.0 (omega (arith, few))) (external_out y t a.1 r.1.0 w.1.0 f.1.0 (omega (arith, few)))
   where
-    by_broken : (b : Bool) → is_some (externals before s).1.broken ≡ b → FileOut before s (externals before s).1 → ExternalOut (defined_by t) (externals before s).1 (external t (externals before s).1).1 →
+    by_broken : (b : Bool) → is_some (externals before s).1.broken ≡ b → FileOut before s (externals before s).1 →
+        ExternalOut (defined_by t) (externals before s).1 (external t (externals before s).1).1 →
         FileOut (Node (l.More k) (Cons before (Cons t none))) s ((if b then pure tt else external t) (externals before s).1).1
     by_broken true e a b = record {
       broken = λ clean. a.broken clean;

@@ -98,7 +98,8 @@ bind_out k (p ∷ ps) s =
     }
   where
     by_name : (name : Option Name) (a : State) (m : Meaning) →
-        Later a (bind_if name m a).1 × ((bind_if name m a).1.slots ≡ a.slots) × ((asked : Name) (x : Meaning) → meaning (bind_if name m a).1.scopes asked ≡ Some x → (x ≡ m) ⊎ (meaning a.scopes asked ≡ Some x))
+        Later a (bind_if name m a).1 × ((bind_if name m a).1.slots ≡ a.slots) ×
+        ((asked : Name) (x : Meaning) → meaning (bind_if name m a).1.scopes asked ≡ Some x → (x ≡ m) ⊎ (meaning a.scopes asked ≡ Some x))
         × ((bind_if name m a).1.variables ≡ a.variables) × ((bind_if name m a).1.globals ≡ a.globals) × ((bind_if name m a).1.broken ≡ a.broken)
     by_name None a m = ((stay_still a).later, refl, λ asked x q. inr q, refl, refl, refl)
     by_name (Some name) a m = (declare_after name m a, refl, λ asked x q. meant asked x q (declared_meaning a.scopes name m asked), refl, refl, refl)
@@ -109,7 +110,8 @@ bind_out k (p ∷ ps) s =
         meant asked x q (inr e) = inr (sym e ∙ q)
 
     by_rest : (name : Name) (x : Meaning) → BoundName (suc k) (length ps) (meaning (bind_if p.name (means.Variable k p.is_const) (record s { slots = s.slots ++ k ∷ [] })).1.scopes name) x →
-        (meaning (bind_if p.name (means.Variable k p.is_const) (record s { slots = s.slots ++ k ∷ [] })).1.scopes name ≡ Some x → (x ≡ means.Variable k p.is_const) ⊎ (meaning s.scopes name ≡ Some x)) →
+        (meaning (bind_if p.name (means.Variable k p.is_const) (record s { slots = s.slots ++ k ∷ [] })).1.scopes name ≡ Some x →
+        (x ≡ means.Variable k p.is_const) ⊎ (meaning s.scopes name ≡ Some x)) →
         BoundName k (suc (length ps)) (meaning s.scopes name) x
     by_rest name x h one = by_cases h.cases one
       where
@@ -119,7 +121,8 @@ bind_out k (p ∷ ps) s =
 
         by_cases : ((slot : ℕ) × ((b : Bool) × ((x ≡ means.Variable slot b) × (slot < suc k + length ps)))) ⊎
             (meaning (bind_if p.name (means.Variable k p.is_const) (record s { slots = s.slots ++ k ∷ [] })).1.scopes name ≡ Some x) →
-            (meaning (bind_if p.name (means.Variable k p.is_const) (record s { slots = s.slots ++ k ∷ [] })).1.scopes name ≡ Some x → (x ≡ means.Variable k p.is_const) ⊎ (meaning s.scopes name ≡ Some x)) →
+            (meaning (bind_if p.name (means.Variable k p.is_const) (record s { slots = s.slots ++ k ∷ [] })).1.scopes name ≡ Some x →
+            (x ≡ means.Variable k p.is_const) ⊎ (meaning s.scopes name ≡ Some x)) →
             BoundName k (suc (length ps)) (meaning s.scopes name) x
         by_cases (inl h) one = record { cases = inl (h.0, (h.1.0, (h.1.1.0, let b = h.1.1.1 in omega (arith, b)))) }
         by_cases (inr h) one = by_one (one h)
@@ -157,7 +160,8 @@ ending_of p vs = record { functions = map signature_of p.functions; globals = ma
 pub record Ended (z : State) : Type 0 where
   pub clean : z.broken ≡ None
   pub structs : AreDefinitions z.structs
-  pub functions : (vs : List VariableTree) (s : State) → Onward s z → (name : Name) (k : ℕ) → meaning s.scopes name ≡ Some (means.Function k) → FunctionFits (ending_of (program_of z) vs) s.defined s.declared name k
+  pub functions : (vs : List VariableTree) (s : State) → Onward s z → (name : Name) (k : ℕ) → meaning s.scopes name ≡ Some (means.Function k) →
+      FunctionFits (ending_of (program_of z) vs) s.defined s.declared name k
   pub few : (k : ℕ) (f : FunctionTree) → slice_get z.functions k ≡ Some f → f.params ≤ 8
 
 -- ---- parameters at the end
@@ -217,7 +221,8 @@ fits_one defs v t e h = (subst (IsLaidOut defs) (sym (tree_type v t e)) h, by_sc
     by_scalar true q = inr (scalar_is (unwrap_or v.type void_type) q)
     by_scalar false q = inl (or_right v.is_taken (not (is_scalar (unwrap_or v.type void_type))) (ap not q))
 
-pub all_fit : (defs : Definitions) (vs : List Variable) → ((k : ℕ) (v : Variable) → slice_get vs k ≡ Some v → (t : TypeTree) × (v.type ≡ Some t) × IsLaidOut defs t) → VariablesFit defs (map variable_tree vs)
+pub all_fit : (defs : Definitions) (vs : List Variable) → ((k : ℕ) (v : Variable) → slice_get vs k ≡ Some v → (t : TypeTree) × (v.type ≡ Some t) × IsLaidOut defs t) →
+    VariablesFit defs (map variable_tree vs)
 all_fit defs [] h = tt
 all_fit defs (v ∷ vs) h = let t = h 0 v refl in (fits_one defs v t.0 t.1 t.2, all_fit defs vs (λ k w q. h (suc k) w q))
 
@@ -255,14 +260,16 @@ entry_variable ps n t h slot k m =
 pub entry_global : (ps : List Param) (n t : State) → Entry ps n t → (name : Name) (k : ℕ) (b : Bool) → meaning t.scopes name ≡ Some (means.Global k b) → meaning n.scopes name ≡ Some (means.Global k b)
 entry_global ps n t h name k b m = by_cases (h.bound.names name (means.Global k b) m).cases
   where
-    by_cases : ((x : ℕ) × ((c : Bool) × ((means.Global k b ≡ means.Variable x c) × (x < 0 + length ps)))) ⊎ (meaning n.scopes name ≡ Some (means.Global k b)) → meaning n.scopes name ≡ Some (means.Global k b)
+    by_cases : ((x : ℕ) × ((c : Bool) × ((means.Global k b ≡ means.Variable x c) × (x < 0 + length ps)))) ⊎ (meaning n.scopes name ≡ Some (means.Global k b)) →
+        meaning n.scopes name ≡ Some (means.Global k b)
     by_cases (inl a) = absurd (let e = a.1.1.0 in cc)
     by_cases (inr a) = a
 
 pub entry_function : (ps : List Param) (n t : State) → Entry ps n t → (name : Name) (k : ℕ) → meaning t.scopes name ≡ Some (means.Function k) → meaning n.scopes name ≡ Some (means.Function k)
 entry_function ps n t h name k m = by_cases (h.bound.names name (means.Function k) m).cases
   where
-    by_cases : ((x : ℕ) × ((c : Bool) × ((means.Function k ≡ means.Variable x c) × (x < 0 + length ps)))) ⊎ (meaning n.scopes name ≡ Some (means.Function k)) → meaning n.scopes name ≡ Some (means.Function k)
+    by_cases : ((x : ℕ) × ((c : Bool) × ((means.Function k ≡ means.Variable x c) × (x < 0 + length ps)))) ⊎ (meaning n.scopes name ≡ Some (means.Function k)) →
+        meaning n.scopes name ≡ Some (means.Function k)
     by_cases (inl a) = absurd (let e = a.1.1.0 in cc)
     by_cases (inr a) = a
 

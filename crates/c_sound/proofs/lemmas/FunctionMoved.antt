@@ -54,7 +54,8 @@ core_with s vs h = record {
 known_with : (s : State) (vs : List Variable) (f : FunctionTree) → FunctionKnown s f → FunctionKnown (record s { variables = vs }) f
 known_with s vs f r = record { number = r.number; meant = r.meant; declared = r.declared; there = r.there; defined = r.defined; result = r.result; takes = r.takes }
 
-core_more : (s t : State) → t.scopes ≡ s.scopes → t.slots ≡ [] → t.declared ≡ s.declared → Texts s t → t.structs ≡ s.structs → ((k : ℕ) (f : FunctionTree) → slice_get t.functions k ≡ Some f → FunctionKnown t f) →
+core_more : (s t : State) → t.scopes ≡ s.scopes → t.slots ≡ [] → t.declared ≡ s.declared → Texts s t → t.structs ≡ s.structs →
+    ((k : ℕ) (f : FunctionTree) → slice_get t.functions k ≡ Some f → FunctionKnown t f) →
     Core s → Core t
 core_more s t scopes slots declared texts structs known h =
     core_with (record t { variables = [] }) t.variables
@@ -190,7 +191,8 @@ new_typed : (z : State) (new : FunctionTree) (fs : List FunctionTree) (m : ℕ) 
 new_typed z new fs m g a old (inl e) = old e
 new_typed z new fs m g a old (inr e) = subst (FunctionIsTyped (program_of z)) e.1 a
 
-block_out : (y : Layouts) (name : Name) (offset starts : ℕ) (r : MaybeType) (u : TypeTree) (ps : List Param) (f : Declared) (opening xs closing none : Tree) (s d : State) → f.is_defined ≡ true → unwrap_or r void_type ≡ u →
+block_out : (y : Layouts) (name : Name) (offset starts : ℕ) (r : MaybeType) (u : TypeTree) (ps : List Param) (f : Declared) (opening xs closing none : Tree) (s d : State) → f.is_defined ≡ true →
+    unwrap_or r void_type ≡ u →
     (d.broken ≡ None → (r ≡ Some u) × IsScalarOrVoid u) → InRange xs → WellShaped xs → declarations xs ≤ 200000 →
     (d.broken ≡ None → File s → Declaring name f u ps s d) → (d.broken ≡ None → s.broken ≡ None) →
     ExternalOut (Some name) s (record (function_body name offset starts r ps (Node l.Block (Cons opening (Cons xs (Cons closing none)))) d).1 { variables = [] })
@@ -216,7 +218,16 @@ block_out y name offset starts r u ps f opening xs closing none s d defined is r
     let n_to_b : Core n → Onward n b =
     λ h.
     let o = left_onward n i.1 (core_scope n h) later in
-    record { broken = o.broken; structs = o.structs; defined = o.defined; globals = o.globals; declared = o.declared; functions = λ m g q. get_more w.functions (new ∷ []) m g (o.functions m g q); names = o.names } in
+    record {
+      broken = o.broken;
+      structs = o.structs;
+      defined = o.defined;
+      globals = o.globals;
+      declared = o.declared;
+      functions = λ m g q. get_more w.functions (new ∷ []) m g
+          (o.functions m g q);
+      names = o.names;
+    } in
     let clean_d : z1.broken ≡ None → d.broken ≡ None = λ clean. sn.broken (later.broken clean) in
     let known : (k : Declaring name f u ps s d) → FunctionKnown b new =
     λ k.
@@ -243,7 +254,8 @@ block_out y name offset starts r u ps f opening xs closing none s d defined is r
           let all = onward_then s d z1 k.onward (onward_then d n z1 onward_n (onward_then n b z1 (n_to_b cn) (cleared_onward b))) in
           let old : w.functions ≡ s.functions = later.functions ∙ sn.functions ∙ k.out.functions ∙ k.same in
           let core_b = core_more n b scopes cn.slots later.declared (record { added = texts.added; globals = texts.globals; texts = texts.texts }) later.structs
-          (λ m g q. new_known b new w.functions m g (known k) (λ e. known_later n b g scopes later.declared (cn.functions m g (sym (ap (λ fs. slice_get fs m) later.functions) ∙ e))) (get_append_cases w.functions new g m q)) cn in
+          (λ m g q. new_known b new w.functions m g (known k) (λ e. known_later n b g scopes later.declared (cn.functions m g (sym (ap (λ fs. slice_get fs m) later.functions) ∙ e)))
+          (get_append_cases w.functions new g m q)) cn in
           let fresh = not_among name s.functions (λ m g q e.
           let x = k.before.functions m g (ap (λ fs. slice_get fs m) k.same ∙ q) in
           k.out.fresh defined x.number x.declared (ap (meaning k.base.scopes) (sym e) ∙ x.meant) x.there x.defined) in
@@ -255,7 +267,8 @@ block_out y name offset starts r u ps f opening xs closing none s d defined is r
           let b_to_z = onward_then b z1 z (cleared_onward b) onward in
           let at_end = b_to_z.functions (length w.functions) new (get_end w.functions new) in
           let most = e.few (length w.functions) new at_end in
-          let whole = body_typed y n t z ps xs r u name offset starts (end_of closing) e (onward_then n b z (n_to_b cn) b_to_z) (entry k) (result (clean_d clean)).0 (result (clean_d clean)).1 range shape clean b_to_z.globals (omega (arith, most, few)) in
+          let whole = body_typed y n t z ps xs r u name offset starts (end_of closing) e (onward_then n b z (n_to_b cn) b_to_z) (entry k) (result (clean_d clean)).0
+          (result (clean_d clean)).1 range shape clean b_to_z.globals (omega (arith, most, few)) in
           new_typed z new w.functions m g whole (λ q. typed_s m g (ap (λ fs. slice_get fs m) (sym old) ∙ q)) (get_append_cases w.functions new g m q);
     }
 
@@ -310,7 +323,8 @@ plain_out name f u ps s d declaring back = record {
   typed = λ z e clean h onward typed_s m g q. let k = declaring clean h in typed_s m g (ap (λ fs. slice_get fs m) (sym (k.out.functions ∙ k.same)) ∙ q);
 }
 
-pub function_moves : (y : Layouts) (starts : ℕ) (x : Specified) (stars : ℕ) (name : Name) (offset : ℕ) (xs body : Tree) (s : State) → IsNoArray x.type → InRange xs → InRange body → WellShaped body → IsBody body →
+pub function_moves : (y : Layouts) (starts : ℕ) (x : Specified) (stars : ℕ) (name : Name) (offset : ℕ) (xs body : Tree) (s : State) → IsNoArray x.type → InRange xs → InRange body →
+    WellShaped body → IsBody body →
     declarations body ≤ 200000 → ExternalOut (defined_name name body) s (function starts x stars name offset xs body s).1
 function_moves y starts x stars name offset xs (Node l.Block (Cons opening (Cons is (Cons closing none)))) s base rx r w b few =
     let t = result_type offset x stars s in

@@ -18,7 +18,7 @@ use Rattle.c_elaboration.specs.Leaves.{offset_of, name_of, count_of, is_present}
 use Rattle.c_elaboration.specs.Specifiers.{Specified}
 use Rattle.c_elaboration.specs.DeclaredTypes.{small_type, object_type}
 use Rattle.c_elaboration.specs.Initialisers.{Elements, value, initialiser, completed, written}
-use Rattle.c_elaboration.specs.Declarators.{open_dimensions, is_fixed, initialise_global, global_declarator, global_declared, more_globals}
+use Rattle.c_elaboration.specs.Declarators.{written_in, open_dimensions, is_fixed, initialise_global, global_declarator, global_declared, more_globals}
 use Rattle.c_sound.proofs.lemmas.States.{stay, step_then, NamesFit}
 use Rattle.c_sound.proofs.lemmas.Steps.{breaks_if_steps}
 use Rattle.c_sound.proofs.lemmas.Terms.{InRange}
@@ -45,7 +45,8 @@ record GlobalOut (name : Name) (k : ℕ) (fixed : Bool) (s t : State) : Type 0 w
   fits : GlobalFits t.structs (length t.globals) global
 
 -- other names keep their meanings
-name_kept : (name : Name) (m : Meaning) (s t : State) → File s → is_declared s.scopes name ≡ false → t.scopes ≡ with_declaration s.scopes name m → (asked : Name) (n : Meaning) → meaning s.scopes asked ≡ Some n →
+name_kept : (name : Name) (m : Meaning) (s t : State) → File s → is_declared s.scopes name ≡ false → t.scopes ≡ with_declaration s.scopes name m → (asked : Name) (n : Meaning) →
+    meaning s.scopes asked ≡ Some n →
     meaning t.scopes asked ≡ Some n
 name_kept name m s t h new scopes asked n q =
     let x = h.alone.0 in
@@ -85,7 +86,8 @@ global_file name k fixed s t h new o =
     }
   where
     Meant : Name → Type 0
-    Meant asked = (meaning (with_declaration s.scopes name (means.Global k fixed)) asked ≡ Some (means.Global k fixed)) ⊎ (meaning (with_declaration s.scopes name (means.Global k fixed)) asked ≡ meaning s.scopes asked)
+    Meant asked = (meaning (with_declaration s.scopes name (means.Global k fixed)) asked ≡ Some (means.Global k fixed)) ⊎
+        (meaning (with_declaration s.scopes name (means.Global k fixed)) asked ≡ meaning s.scopes asked)
 
     no_variable : (asked : Name) (slot : ℕ) (c : Bool) → meaning (with_declaration s.scopes name (means.Global k fixed)) asked ≡ Some (means.Variable slot c) → Meant asked → ⊥
     no_variable asked slot c q (inl a) = let both : Some (means.Global k fixed) ≡ Some (means.Variable slot c) = sym a ∙ q in cc
@@ -129,11 +131,13 @@ ready_named name k fixed s t u o = record {
   slots = λ asked slot c q. absurd (no_variable asked slot c (sym (ap (λ sc. meaning sc asked) o.scopes) ∙ q) (declared_meaning s.scopes name (means.Global k fixed) asked));
   variables = λ slot j q. absurd (nothing_at t.slots slot j o.begun.slots q);
   globals = λ asked j c q. by_global asked j c (sym (ap (λ sc. meaning sc asked) o.scopes) ∙ q) (declared_meaning s.scopes name (means.Global k fixed) asked);
-  functions = λ asked j q. subst (λ ds. FunctionTyped ds j) (sym o.begun.declared) (by_function asked j (sym (ap (λ sc. meaning sc asked) o.scopes) ∙ q) (declared_meaning s.scopes name (means.Global k fixed) asked));
+  functions = λ asked j q. subst (λ ds. FunctionTyped ds j) (sym o.begun.declared)
+      (by_function asked j (sym (ap (λ sc. meaning sc asked) o.scopes) ∙ q) (declared_meaning s.scopes name (means.Global k fixed) asked));
 }
   where
     Meant : Name → Type 0
-    Meant asked = (meaning (with_declaration s.scopes name (means.Global k fixed)) asked ≡ Some (means.Global k fixed)) ⊎ (meaning (with_declaration s.scopes name (means.Global k fixed)) asked ≡ meaning s.scopes asked)
+    Meant asked = (meaning (with_declaration s.scopes name (means.Global k fixed)) asked ≡ Some (means.Global k fixed)) ⊎
+        (meaning (with_declaration s.scopes name (means.Global k fixed)) asked ≡ meaning s.scopes asked)
 
     no_variable : (asked : Name) (slot : ℕ) (c : Bool) → meaning (with_declaration s.scopes name (means.Global k fixed)) asked ≡ Some (means.Variable slot c) → Meant asked → ⊥
     no_variable asked slot c q (inl a) = let both : Some (means.Global k fixed) ≡ Some (means.Variable slot c) = sym a ∙ q in cc
@@ -160,7 +164,8 @@ ready_names name k fixed s t z u o =
 -- what is left once the initialiser and the whole type are known
 WithType : Name → ℕ → Bool → State → Elements × State → MaybeType × State → Type 0
 WithType name k fixed s es u =
-    (change_global k (λ g. record g { type = u.0; written = written es.0 }) u.1).1.broken ≡ None → GlobalOut name k fixed s (change_global k (λ g. record g { type = u.0; written = written es.0 }) u.1).1
+    (change_global k (λ g. record g { type = u.0; written = written_in u.0 es.0 }) u.1).1.broken ≡ None →
+    GlobalOut name k fixed s (change_global k (λ g. record g { type = u.0; written = written_in u.0 es.0 }) u.1).1
 
 begun_global : (y : Layouts) (name : Name) (k : ℕ) (fixed : Bool) (x : Tree) (s t : State) (u : TypeTree) (c : Completed t.structs x u) → Ready name k fixed s t u → InRange x →
     WithType name k fixed s (initialiser true (Some c.type) 0 x t) (Some c.type, (initialiser true (Some c.type) 0 x t).1)
@@ -198,7 +203,8 @@ begun_global y name k fixed x s t u c o r clean =
         let value_clean : (value true (Some c.type) 0 x t).1.broken ≡ None = ap (λ (p : Elements × State). p.1.broken) (sym (w.one true t)) ∙ q in
         absurd (no_array_value true w.element 0 x t w.shape (names_typed t (ready_named name k fixed s t u o)) (subst (λ u. (value true (Some u) 0 x t).1.broken ≡ None) w.array value_clean))
 
-initialised_global : (y : Layouts) (name : Name) (k : ℕ) (fixed : Bool) (offset : ℕ) (may : Bool) (begun : Tree) (s t : State) (u : TypeTree) → Ready name k fixed s t u → MayBegin begun → InRange begun →
+initialised_global : (y : Layouts) (name : Name) (k : ℕ) (fixed : Bool) (offset : ℕ) (may : Bool) (begun : Tree) (s t : State) (u : TypeTree) → Ready name k fixed s t u → MayBegin begun →
+    InRange begun →
     may ≡ is_present begun → LaidOrOpen t.structs may u → (initialise_global k offset (Some u) begun t).1.broken ≡ None → GlobalOut name k fixed s (initialise_global k offset (Some u) begun t).1
 unfolding WithType
 initialised_global y name k fixed offset may (Node (l.Present o) (Cons equal (Cons x none))) s t u h m r p laid clean =
@@ -240,7 +246,8 @@ initialise_broken k offset o begun t clean = clean
 
 -- ---- declarators
 
-pub global_declarator_moved : (y : Layouts) (x : Specified) (is_const : Bool) (stars : ℕ) (name : Name) (offset : ℕ) (bounds begun : Tree) (s : State) → IsNoArray x.type → InRange bounds → InRange begun →
+pub global_declarator_moved : (y : Layouts) (x : Specified) (is_const : Bool) (stars : ℕ) (name : Name) (offset : ℕ) (bounds begun : Tree) (s : State) → IsNoArray x.type → InRange bounds →
+    InRange begun →
     MayBegin begun → Moved s (global_declarator x is_const stars name offset bounds begun s).1
 global_declarator_moved y x is_const stars name offset bounds begun s base rb r m =
     let fixed = is_fixed is_const stars in
@@ -280,11 +287,13 @@ global_declarator_moved y x is_const stars name offset bounds begun s base rb r 
     }
   where
     by_type : (o : MaybeType) (u : TypeTree) → o ≡ Some u → (d : State) → Ready name (length s.globals) (is_fixed is_const stars) s d u → LaidOrOpen d.structs (is_present begun) u →
-        (initialise_global (length s.globals) offset o begun d).1.broken ≡ None → GlobalOut name (length s.globals) (is_fixed is_const stars) s (initialise_global (length s.globals) offset o begun d).1
+        (initialise_global (length s.globals) offset o begun d).1.broken ≡ None →
+        GlobalOut name (length s.globals) (is_fixed is_const stars) s (initialise_global (length s.globals) offset o begun d).1
     by_type None u e d h laid clean = absurd (cc)
     by_type (Some v) u e d h laid clean =
         let same : u ≡ v = cc in
-        initialised_global y name (length s.globals) (is_fixed is_const stars) offset (is_present begun) begun s d v (subst (Ready name (length s.globals) (is_fixed is_const stars) s d) same h) m r refl
+        initialised_global y name (length s.globals) (is_fixed is_const stars) offset (is_present begun) begun s d v
+        (subst (Ready name (length s.globals) (is_fixed is_const stars) s d) same h) m r refl
         (subst (LaidOrOpen d.structs (is_present begun)) same laid) clean
 
 global_declared_moved : (y : Layouts) (x : Specified) (is_const : Bool) (t : Tree) (s : State) → IsNoArray x.type → InRange t → WellShaped t → Moved s (global_declared x is_const t s).1

@@ -66,7 +66,10 @@ pub names_now : (s t : State) → File s → NamesFit (ending_now s t) s
 names_now s t h = record {
   slots = λ name slot b m. absurd (h.no_variables name slot b m);
   variables = λ slot k m. absurd (nothing_at s.slots slot k h.slots m);
-  functions = λ name k m. record { fits = λ n f u us number there result params. get_map (signature_now s) s.defined n name (name_at s.defined name n number) ∙ ap Some (signature_is s name (suc (suc (suc k))) f u us m there result params) };
+  functions = λ name k m. record {
+    fits = λ n f u us number there result params. get_map (signature_now s) s.defined n name (name_at s.defined name n number)
+        ∙ ap Some (signature_is s name (suc (suc (suc k))) f u us m there result params);
+  };
   put = h.put;
   get = h.get;
   exit = h.exit;
@@ -84,7 +87,8 @@ names_global e name k fixed s h = record {
 }
   where
     Meant : Name → Type 0
-    Meant asked = (meaning (with_declaration s.scopes name (means.Global k fixed)) asked ≡ Some (means.Global k fixed)) ⊎ (meaning (with_declaration s.scopes name (means.Global k fixed)) asked ≡ meaning s.scopes asked)
+    Meant asked = (meaning (with_declaration s.scopes name (means.Global k fixed)) asked ≡ Some (means.Global k fixed)) ⊎
+        (meaning (with_declaration s.scopes name (means.Global k fixed)) asked ≡ meaning s.scopes asked)
 
     by_slot : (asked : Name) (slot : ℕ) (b : Bool) → meaning (with_declaration s.scopes name (means.Global k fixed)) asked ≡ Some (means.Variable slot b) → Meant asked → slot < length s.slots
     by_slot asked slot b m (inl a) = absurd (let both : Some (means.Global k fixed) ≡ Some (means.Variable slot b) = sym a ∙ m in cc)
@@ -96,7 +100,8 @@ names_global e name k fixed s h = record {
     by_function asked j m (inr a) = h.functions asked j (sym a ∙ m)
 
 -- what is written in a global of this type
-pub static_fits : (y : Layouts) (s t : State) (x : Tree) (u : TypeTree) → NamesFit (ending_now s (initialiser true (Some u) 0 x t).1) t → t.variables ≡ [] → AreDefinitions t.structs → is_complete t.structs u ≡ true →
+pub static_fits : (y : Layouts) (s t : State) (x : Tree) (u : TypeTree) → NamesFit (ending_now s (initialiser true (Some u) 0 x t).1) t → t.variables ≡ [] → AreDefinitions t.structs →
+    is_complete t.structs u ≡ true →
     InRange x → (initialiser true (Some u) 0 x t).1.broken ≡ None → (n : ℕ) → length (initialiser true (Some u) 0 x t).1.globals ≤ n →
     WrittenFits (leaves t.structs u) n 0 (written (initialiser true (Some u) 0 x t).0)
 static_fits y s t x u names none good complete r clean n le =
@@ -147,10 +152,12 @@ others_change k f s g there h j x other here =
 change_there : (k : ℕ) (f : Global → Global) (s : State) (g : Global) → slice_get s.globals k ≡ Some g → slice_get (change_global k f s).1.globals k ≡ Some (f g)
 change_there k f s g there = ap (λ gs. slice_get gs k) (change_is k f s.globals g there) ∙ set_there s.globals k g (f g) there
 
-change_other : (k j : ℕ) (f : Global → Global) (s : State) (g x : Global) → slice_get s.globals k ≡ Some g → (j ≡ k → ⊥) → slice_get s.globals j ≡ Some x → slice_get (change_global k f s).1.globals j ≡ Some x
+change_other : (k j : ℕ) (f : Global → Global) (s : State) (g x : Global) → slice_get s.globals k ≡ Some g → (j ≡ k → ⊥) → slice_get s.globals j ≡ Some x →
+    slice_get (change_global k f s).1.globals j ≡ Some x
 change_other k j f s g x there other here = ap (λ gs. slice_get gs j) (change_is k f s.globals g there) ∙ set_other s.globals k j (f g) other ∙ here
 
-pub all_fit : (k : ℕ) (s : State) → OthersFit k s → ((g : Global) → slice_get s.globals k ≡ Some g → GlobalFits s.structs (length s.globals) g) → (j : ℕ) (g : Global) → slice_get s.globals j ≡ Some g →
+pub all_fit : (k : ℕ) (s : State) → OthersFit k s → ((g : Global) → slice_get s.globals k ≡ Some g → GlobalFits s.structs (length s.globals) g) → (j : ℕ) (g : Global) →
+    slice_get s.globals j ≡ Some g →
     GlobalFits s.structs (length s.globals) g
 all_fit k s h last j g here = by_test (j == k) refl
   where

@@ -128,7 +128,8 @@ named_left s t g a h k =
       there = k.there;
       slots = λ name slot b m. h.slots name slot b (sym (ap (λ q. meaning q name) scopes) ∙ m);
       variables = λ slot j m. let below = h.variables slot j m in let more = more_length s.variables t.variables a.variables in omega (arith, below, more);
-      globals = λ name j b m. let x = h.globals name j b (sym (ap (λ q. meaning q name) scopes) ∙ m) in record { declared = x.declared; there = a.globals j x.declared x.there; type = x.type; has = x.has };
+      globals = λ name j b m. let x = h.globals name j b (sym (ap (λ q. meaning q name) scopes)
+          ∙ m) in record { declared = x.declared; there = a.globals j x.declared x.there; type = x.type; has = x.has };
       functions = λ name j m. subst (λ ds. FunctionTyped ds j) (sym a.declared) (h.functions name j (sym (ap (λ q. meaning q name) scopes) ∙ m));
     }
 
@@ -153,11 +154,13 @@ named_added u s h =
       functions = h.functions;
     }
   where
-    by_variable : (k : ℕ) (w : Variable) → (slice_get s.variables k ≡ Some w) ⊎ ((k ≡ length s.variables) × (record { type = Some u; is_taken = false; is_named = false } ≡ w)) → (t : TypeTree) × (w.type ≡ Some t)
+    by_variable : (k : ℕ) (w : Variable) → (slice_get s.variables k ≡ Some w) ⊎ ((k ≡ length s.variables) × (record { type = Some u; is_taken = false; is_named = false } ≡ w)) →
+        (t : TypeTree) × (w.type ≡ Some t)
     by_variable k w (inl a) = h.there k w a
     by_variable k w (inr a) = (u, ap (λ (v : Variable). v.type) (sym a.1))
 
-    by_slot : (slot k : ℕ) → (slice_get s.slots slot ≡ Some k) ⊎ ((slot ≡ length s.slots) × (length s.variables ≡ k)) → k < length (s.variables ++ record { type = Some u; is_taken = false; is_named = false } ∷ [])
+    by_slot : (slot k : ℕ) → (slice_get s.slots slot ≡ Some k) ⊎ ((slot ≡ length s.slots) × (length s.variables ≡ k)) →
+        k < length (s.variables ++ record { type = Some u; is_taken = false; is_named = false } ∷ [])
     by_slot slot k (inl a) = let b = h.variables slot k a in let n = length_end s.variables (record { type = Some u; is_taken = false; is_named = false }) in omega (arith, b, n)
     by_slot slot k (inr a) = let n = length_end s.variables (record { type = Some u; is_taken = false; is_named = false }) in omega (arith, a.1, n)
 
@@ -214,12 +217,14 @@ laid_declared name offset fixed u s h k w other here =
     let u = h k b.0 old in
     (u.0, b.2 ∙ u.1, subst (λ d. IsLaidOut d u.0) (sym steps.structs) u.2)
   where
-    by_place : (k : ℕ) (w : Variable) → (k ≡ length s.variables → ⊥) → (slice_get s.variables k ≡ Some w) ⊎ ((k ≡ length s.variables) × (record { type = Some u; is_taken = false; is_named = false } ≡ w)) →
+    by_place : (k : ℕ) (w : Variable) → (k ≡ length s.variables → ⊥) →
+        (slice_get s.variables k ≡ Some w) ⊎ ((k ≡ length s.variables) × (record { type = Some u; is_taken = false; is_named = false } ≡ w)) →
         slice_get s.variables k ≡ Some w
     by_place k w n (inl a) = a
     by_place k w n (inr a) = absurd (n a.0)
 
-pub new_declared : (name : Name) (offset : ℕ) (fixed : Bool) (u : TypeTree) (s : State) (w : Variable) → slice_get (declared_in name offset fixed (Some u) s).variables (length s.variables) ≡ Some w → w.type ≡ Some u
+pub new_declared : (name : Name) (offset : ℕ) (fixed : Bool) (u : TypeTree) (s : State) (w : Variable) →
+    slice_get (declared_in name offset fixed (Some u) s).variables (length s.variables) ≡ Some w → w.type ≡ Some u
 new_declared name offset fixed u s w here =
     let v : Variable = record { type = Some u; is_taken = false; is_named = false } in
     let a = (add_variable (Some u) s).1 in

@@ -104,13 +104,17 @@ initialised_sound offset may (Node (l.Present o) (Cons equal (Cons x none))) s t
     by_type k (completed x u) k.there clean
   where
     by_type : (k : Completed t.structs x u) (o : MaybeType) → o ≡ Some k.type → (if_some o (small_type offset) (initialiser false o 0 x t).1).1.broken ≡ None →
-        Named (change_variable (length s.slots) (λ v. record v { type = (if_some o (small_type offset) (initialiser false o 0 x t).1).0 }) (if_some o (small_type offset) (initialiser false o 0 x t).1).1).1
-        × AreLaid (change_variable (length s.slots) (λ v. record v { type = (if_some o (small_type offset) (initialiser false o 0 x t).1).0 }) (if_some o (small_type offset) (initialiser false o 0 x t).1).1).1
+        Named (change_variable (length s.slots) (λ v. record v { type = (if_some o (small_type offset) (initialiser false o 0 x t).1).0 })
+        (if_some o (small_type offset) (initialiser false o 0 x t).1).1).1
+        × AreLaid (change_variable (length s.slots) (λ v. record v { type = (if_some o (small_type offset) (initialiser false o 0 x t).1).0 })
+        (if_some o (small_type offset) (initialiser false o 0 x t).1).1).1
     by_type k None q c = absurd (cc)
     by_type k (Some v) q c =
         let same : k.type ≡ v = cc in
-        let core : (small_type offset v (initialiser false (Some v) 0 x t).1).1.broken ≡ None → IsSound (change_variable (length s.slots) (λ w. record w { type = Some v }) (initialiser false (Some v) 0 x t).1).1 =
-        subst (λ v. (small_type offset v (initialiser false (Some v) 0 x t).1).1.broken ≡ None → IsSound (change_variable (length s.slots) (λ w. record w { type = Some v }) (initialiser false (Some v) 0 x t).1).1)
+        let core : (small_type offset v (initialiser false (Some v) 0 x t).1).1.broken ≡ None →
+        IsSound (change_variable (length s.slots) (λ w. record w { type = Some v }) (initialiser false (Some v) 0 x t).1).1 =
+        subst (λ v. (small_type offset v (initialiser false (Some v) 0 x t).1).1.broken ≡ None →
+        IsSound (change_variable (length s.slots) (λ w. record w { type = Some v }) (initialiser false (Some v) 0 x t).1).1)
         same (completed_sound x offset s t u k h) in
         subst (λ (z : MaybeType × State). IsSound (change_variable (length s.slots) (λ w. record w { type = z.0 }) z.1).1) (sym (small_is offset v (initialiser false (Some v) 0 x t).1 c)) (core c)
 initialised_sound offset may (Node (l.Present o) children) s t u m p laid h clean = absurd m
@@ -149,7 +153,8 @@ declarations (Node p children) = declarations children
 declarations (Cons t ts) = declarations t + declarations ts
 declarations t = 0
 
-variable_declarator_goes : (x : Specified) (is_const : Bool) (stars : ℕ) (name : Name) (offset : ℕ) (bounds begun : Tree) (s : State) → IsNoArray x.type → InRange bounds → InRange begun → MayBegin begun →
+variable_declarator_goes : (x : Specified) (is_const : Bool) (stars : ℕ) (name : Name) (offset : ℕ) (bounds begun : Tree) (s : State) → IsNoArray x.type → InRange bounds → InRange begun →
+    MayBegin begun →
     Goes s (variable_declarator x is_const stars name offset bounds begun s).1 1
 variable_declarator_goes x is_const stars name offset bounds begun s base rb r m =
     let may = is_present begun in
@@ -158,7 +163,8 @@ variable_declarator_goes x is_const stars name offset bounds begun s base rb r m
     let t = object_type may offset x stars ds.0 ds.1 in
     let sd = open_dimensions_steps bounds s in
     let st = object_type_steps may offset x stars ds.0 ds.1 in
-    let first : Goes s t.1 0 = goes_step s t.1 0 (step_then s ds.1 t.1 sd st) (texts_then s ds.1 t.1 (open_dimensions_texts bounds s rb) (same_globals ds.1 t.1 (object_type_quiet may offset x stars ds.0 ds.1))) in
+    let first : Goes s t.1 0 = goes_step s t.1 0 (step_then s ds.1 t.1 sd st)
+    (texts_then s ds.1 t.1 (open_dimensions_texts bounds s rb) (same_globals ds.1 t.1 (object_type_quiet may offset x stars ds.0 ds.1))) in
     let a = (add_variable t.0 t.1).1 in
     let again = is_declared a.scopes name in
     let d = declared_in name offset fixed t.0 t.1 in

@@ -79,7 +79,8 @@ mutual
       goes_more s _ (declarations start + (0 + declarations t)) _ (omega arith)
       (goes_within s b.1 (declarations start + (0 + declarations t)) h whole
       (goes_then (entered s) is.1 b.1 (declarations start) (0 + declarations t) (for_start_goes start (entered s) r.1.1.0 w.1.1.0) (goes_then is.1 step.1 b.1 0 (declarations t) clauses body)))
-  statement_goes j (Node l.Break (Cons word more)) s r w h = goes_step s _ (declarations (Cons word more)) (jump_steps j.may_break (offset_of word) typed.break s) (same_globals s _ (jump_quiet j.may_break (offset_of word) typed.break s))
+  statement_goes j (Node l.Break (Cons word more)) s r w h = goes_step s _ (declarations (Cons word more)) (jump_steps j.may_break (offset_of word) typed.break s)
+      (same_globals s _ (jump_quiet j.may_break (offset_of word) typed.break s))
   statement_goes j (Node l.Continue (Cons word more)) s r w h =
       goes_step s _ (declarations (Cons word more)) (jump_steps j.may_continue (offset_of word) typed.continue s) (same_globals s _ (jump_quiet j.may_continue (offset_of word) typed.continue s))
   statement_goes j (Node l.Return (Cons word (Cons x more))) s r w h =

@@ -93,7 +93,8 @@ converted_fits c u at offset a s fit ty =
     or_broken_holds (IsValue c u at) BadInitialiser offset (option_map (value_at at) (passed u a)) s
     (map_holds (ResultOf c u) (IsValue c u at) (value_at at) (passed u a) (result_typed c u a fit ty) (λ v k. record { value = v; alone = refl; fits = k }))
 
-value_read_fits : (c : Scope) (is_static : Bool) (u : TypeTree) (at offset : ℕ) (a : Term) (s : State) → ObjectsFit c → TermFits c a → IfSome (IsValue c u at) (value_read is_static (Some u) at offset a s).0
+value_read_fits : (c : Scope) (is_static : Bool) (u : TypeTree) (at offset : ℕ) (a : Term) (s : State) → ObjectsFit c → TermFits c a →
+    IfSome (IsValue c u at) (value_read is_static (Some u) at offset a s).0
 value_read_fits c is_static u at offset a s fit ty = by_test _ _ (by_term a (breaks_if _ NotConstant offset s).1 ty)
   where
     by_term : (a : Term) (q : State) → TermFits c a → IfSome (IsValue c u at) (if_some a (converted (Some u) at offset) q).0
@@ -199,8 +200,12 @@ characters_fit c u at offset n cs s b h = by_test (nat_le (length cs) n) refl
         IfSome (ElementsWithin c (leaves_at c.structs u at) at (at + size c.structs u)) ((if t then pure (Some (characters_then at cs no_elements)) else broken_at BadInitialiser offset) s).0
     by_test true q =
         let room : length cs ≤ n = grind (arith, nat_tests, q) in
-        let start : at + 0 ≡ at = omega arith in
-        (omega arith, subst (λ o. AreCharactersAt (leaves_at c.structs u at) o cs) start (bytes_at (leaves_at c.structs u at) at 0 n cs (b.leaf at) (omega (arith, room)) h), omega (arith, room, b.bytes))
+        let start : at + 0 ≡ at = omega arith in (
+          omega arith,
+          subst (λ o. AreCharactersAt (leaves_at c.structs u at) o cs) start (bytes_at (leaves_at c.structs u at) at 0 n cs (b.leaf at) (omega (arith, room)) h),
+          omega
+              (arith, room, b.bytes),
+        )
     by_test false q = tt
 
 -- ---- lists
@@ -286,9 +291,11 @@ mutual
   initialiser_fits y e c good is_static u at (Node l.Text (Cons x (Cons xs none))) s w r h fit = by_array (character_array u) refl fit
     where
       by_array : (m : Option ℕ) → character_array u ≡ m → Fits e (string_for is_static (Some u) at (Node l.Text (Cons x (Cons xs none))) (characters_of x ++ more_characters xs) m s).1 →
-          IfSome (ElementsWithin c (leaves_at c.structs u at) at (at + size c.structs u)) (string_for is_static (Some u) at (Node l.Text (Cons x (Cons xs none))) (characters_of x ++ more_characters xs) m s).0
+          IfSome (ElementsWithin c (leaves_at c.structs u at) at (at + size c.structs u))
+          (string_for is_static (Some u) at (Node l.Text (Cons x (Cons xs none))) (characters_of x ++ more_characters xs) m s).0
       by_array None q f = values_within c u at _ (value_fits e c is_static u at (Node l.Text (Cons x (Cons xs none))) s r h f)
-      by_array (Some n) q f = characters_fit c u at (begin_of (Node l.Text (Cons x (Cons xs none)))) n (characters_of x ++ more_characters xs) s (character_bytes c.structs u n q) (string_in_range x xs r.0 r.1.0)
+      by_array (Some n) q f = characters_fit c u at (begin_of (Node l.Text (Cons x (Cons xs none)))) n (characters_of x ++ more_characters xs) s (character_bytes c.structs u n q)
+          (string_in_range x xs r.0 r.1.0)
   initialiser_fits y e c good is_static u at x s w r h fit = values_within c u at _ (value_fits e c is_static u at x s r h fit)
 
   elements_fits : (y : Layouts) (e : Ending) (c : Scope) → AreDefinitions c.structs → (is_static : Bool) (u : TypeTree) (n at : ℕ) (x : Tree) (s : State) → is_complete c.structs u ≡ true →

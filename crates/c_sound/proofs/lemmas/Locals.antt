@@ -141,7 +141,8 @@ begins y e c v x u s good same object whole r h fit = by_type (scalar_or u) whol
     by_type (inl k) w = by_value k (initialiser false (Some u) 0 x s).0 (initialiser_value e c false u 0 x s k r h fit)
     by_type (inr n) (inl w) = by_elements n.0 n.1 (initialiser false (Some u) 0 x s).0 (initialiser_fits y e c good false u 0 x s w r h fit)
     by_type (inr n) (inr w) =
-        subst (λ p. InitialFits c v (initial p.0 (Some u))) (sym (w.one false s)) (no_value n.0 (value false (Some u) 0 x s).0 (value_fits e c false u 0 x s r h (subst (λ p. Fits e p.1) (w.one false s) fit)))
+        subst (λ p. InitialFits c v (initial p.0 (Some u))) (sym (w.one false s))
+        (no_value n.0 (value false (Some u) 0 x s).0 (value_fits e c false u 0 x s r h (subst (λ p. Fits e p.1) (w.one false s) fit)))
 
 -- ---- names after a declaration
 
@@ -184,7 +185,8 @@ names_added e o s h = record {
   exit = h.exit;
 }
   where
-    by_slot : (slot k : ℕ) → (slice_get s.slots slot ≡ Some k) ⊎ ((slot ≡ length s.slots) × (length s.variables ≡ k)) → k < length (s.variables ++ record { type = o; is_taken = false; is_named = false } ∷ [])
+    by_slot : (slot k : ℕ) → (slice_get s.slots slot ≡ Some k) ⊎ ((slot ≡ length s.slots) × (length s.variables ≡ k)) →
+        k < length (s.variables ++ record { type = o; is_taken = false; is_named = false } ∷ [])
     by_slot slot k (inl a) = let b = h.variables slot k a in let n = length_end s.variables (record { type = o; is_taken = false; is_named = false }) in omega (arith, b, n)
     by_slot slot k (inr a) = let n = length_end s.variables (record { type = o; is_taken = false; is_named = false }) in omega (arith, a.1, n)
 
@@ -201,13 +203,15 @@ names_bound e name slot fixed s below h = record {
 }
   where
     by_slot : (asked : Name) (k : ℕ) (b : Bool) → meaning (with_declaration s.scopes name (means.Variable slot fixed)) asked ≡ Some (means.Variable k b) →
-        (meaning (with_declaration s.scopes name (means.Variable slot fixed)) asked ≡ Some (means.Variable slot fixed)) ⊎ (meaning (with_declaration s.scopes name (means.Variable slot fixed)) asked ≡ meaning s.scopes asked) →
+        (meaning (with_declaration s.scopes name (means.Variable slot fixed)) asked ≡ Some (means.Variable slot fixed)) ⊎
+        (meaning (with_declaration s.scopes name (means.Variable slot fixed)) asked ≡ meaning s.scopes asked) →
         k < length s.slots
     by_slot asked k b m (inl a) = let same : slot ≡ k = let both : Some (means.Variable slot fixed) ≡ Some (means.Variable k b) = sym a ∙ m in cc in subst (λ k. k < length s.slots) same below
     by_slot asked k b m (inr a) = h.slots asked k b (sym a ∙ m)
 
     by_function : (asked : Name) (k : ℕ) → meaning (with_declaration s.scopes name (means.Variable slot fixed)) asked ≡ Some (means.Function (suc (suc (suc k)))) →
-        (meaning (with_declaration s.scopes name (means.Variable slot fixed)) asked ≡ Some (means.Variable slot fixed)) ⊎ (meaning (with_declaration s.scopes name (means.Variable slot fixed)) asked ≡ meaning s.scopes asked) →
+        (meaning (with_declaration s.scopes name (means.Variable slot fixed)) asked ≡ Some (means.Variable slot fixed)) ⊎
+        (meaning (with_declaration s.scopes name (means.Variable slot fixed)) asked ≡ meaning s.scopes asked) →
         FunctionFits e s.defined s.declared asked (suc (suc (suc k)))
     by_function asked k m (inl a) = absurd (let both : Some (means.Variable slot fixed) ≡ Some (means.Function (suc (suc (suc k)))) = sym a ∙ m in cc)
     by_function asked k m (inr a) = h.functions asked k (sym a ∙ m)

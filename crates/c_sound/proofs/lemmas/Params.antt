@@ -84,7 +84,8 @@ param_scalar defs (pointer_to t) h e = tt
 param_scalar defs (array_of t n) h e = absurd h
 param_scalar defs (struct_type tag) h e = absurd (false≢true e)
 
-adjusted_typed : (offset : ℕ) (defs : Definitions) (ds : List Dimension) (t : TypeTree) (s : State) → DimensionsFit ds → IsNoArray t → is_param_of defs t ds ≡ true → (adjusted offset (Some t) ds s).1.broken ≡ None →
+adjusted_typed : (offset : ℕ) (defs : Definitions) (ds : List Dimension) (t : TypeTree) (s : State) → DimensionsFit ds → IsNoArray t → is_param_of defs t ds ≡ true →
+    (adjusted offset (Some t) ds s).1.broken ≡ None →
     TypeThere IsScalar (adjusted offset (Some t) ds s).0
 adjusted_typed offset defs [] t s fit base e clean = record { type = t; there = refl; holds = param_scalar defs t base e }
 adjusted_typed offset defs (d ∷ ds) t s fit base e clean = by_elements (elements_type (Some t) (size_of_dimension d) ds) (elements_there d ds (Some t) fit.0 fit.1 tt) clean
@@ -120,9 +121,11 @@ param_type_typed offset x stars ds s base fit clean =
     given false o q k c = k
 
     by_test : (b : Bool) (t : TypeTree) (q : State) → is_param_of s.structs t ds ≡ b → IsNoArray t →
-        (unless_empty (other_is_empty ds) offset (adjusted offset (type_if (not b) offset t q).0 ds (type_if (not b) offset t q).1).0 (adjusted offset (type_if (not b) offset t q).0 ds (type_if (not b) offset t q).1).1).1.broken ≡ None →
+        (unless_empty (other_is_empty ds) offset (adjusted offset (type_if (not b) offset t q).0 ds (type_if (not b) offset t q).1).0
+        (adjusted offset (type_if (not b) offset t q).0 ds (type_if (not b) offset t q).1).1).1.broken ≡ None →
         TypeThere IsScalar
-        (unless_empty (other_is_empty ds) offset (adjusted offset (type_if (not b) offset t q).0 ds (type_if (not b) offset t q).1).0 (adjusted offset (type_if (not b) offset t q).0 ds (type_if (not b) offset t q).1).1).0
+        (unless_empty (other_is_empty ds) offset (adjusted offset (type_if (not b) offset t q).0 ds (type_if (not b) offset t q).1).0
+        (adjusted offset (type_if (not b) offset t q).0 ds (type_if (not b) offset t q).1).1).0
     by_test true t q e n c =
         let v = adjusted offset (Some t) ds q in
         given (other_is_empty ds) v.0 v.1 (adjusted_typed offset s.structs ds t q fit n e ((unless_empty_steps (other_is_empty ds) offset v.0 v.1).broken c)) c
@@ -133,10 +136,12 @@ param_type_typed offset x stars ds s base fit clean =
         absurd (cc)
 
     by_type : (o : MaybeType) (q : State) → TypeThere IsNoArray o →
-        (unless_empty (other_is_empty ds) offset (adjusted offset (if_some o (λ t. type_if (not (is_param_of s.structs t ds)) offset t) q).0 ds (if_some o (λ t. type_if (not (is_param_of s.structs t ds)) offset t) q).1).0
+        (unless_empty (other_is_empty ds) offset (adjusted offset (if_some o (λ t. type_if (not (is_param_of s.structs t ds)) offset t) q).0 ds
+        (if_some o (λ t. type_if (not (is_param_of s.structs t ds)) offset t) q).1).0
         (adjusted offset (if_some o (λ t. type_if (not (is_param_of s.structs t ds)) offset t) q).0 ds (if_some o (λ t. type_if (not (is_param_of s.structs t ds)) offset t) q).1).1).1.broken ≡ None →
         TypeThere IsScalar
-        (unless_empty (other_is_empty ds) offset (adjusted offset (if_some o (λ t. type_if (not (is_param_of s.structs t ds)) offset t) q).0 ds (if_some o (λ t. type_if (not (is_param_of s.structs t ds)) offset t) q).1).0
+        (unless_empty (other_is_empty ds) offset (adjusted offset (if_some o (λ t. type_if (not (is_param_of s.structs t ds)) offset t) q).0 ds
+        (if_some o (λ t. type_if (not (is_param_of s.structs t ds)) offset t) q).1).0
         (adjusted offset (if_some o (λ t. type_if (not (is_param_of s.structs t ds)) offset t) q).0 ds (if_some o (λ t. type_if (not (is_param_of s.structs t ds)) offset t) q).1).1).0
     by_type None q k c = let none = k.there in absurd (cc)
     by_type (Some t) q k c = let same : k.type ≡ t = let e = k.there in cc in by_test (is_param_of s.structs t ds) t q refl (subst IsNoArray same k.holds) c
@@ -151,7 +156,8 @@ result_type_quiet offset x stars s =
     let t = starred x stars offset s in
     if_some_quiet t.0 (λ t. type_if (is_struct t) offset t) (λ t. type_if_quiet (is_struct t) offset t) t.1 ∙ starred_quiet x stars offset s
 
-pub result_type_typed : (offset : ℕ) (x : Specified) (stars : ℕ) (s : State) → IsNoArray x.type → (result_type offset x stars s).1.broken ≡ None → TypeThere IsScalarOrVoid (result_type offset x stars s).0
+pub result_type_typed : (offset : ℕ) (x : Specified) (stars : ℕ) (s : State) → IsNoArray x.type → (result_type offset x stars s).1.broken ≡ None →
+    TypeThere IsScalarOrVoid (result_type offset x stars s).0
 result_type_typed offset x stars s base clean =
     let t = starred x stars offset s in
     by_type t.0 t.1 (starred_typed x stars offset s base ((if_some_steps t.0 (λ t. type_if (is_struct t) offset t) (λ t. type_if_steps (is_struct t) offset t) t.1).broken clean)) clean
@@ -167,7 +173,8 @@ result_type_typed offset x stars s base clean =
     by_test true t q e n c = absurd (cc)
     by_test false t q e n c = record { type = t; there = refl; holds = fits t n e }
 
-    by_type : (o : MaybeType) (q : State) → TypeThere IsNoArray o → (if_some o (λ t. type_if (is_struct t) offset t) q).1.broken ≡ None → TypeThere IsScalarOrVoid (if_some o (λ t. type_if (is_struct t) offset t) q).0
+    by_type : (o : MaybeType) (q : State) → TypeThere IsNoArray o → (if_some o (λ t. type_if (is_struct t) offset t) q).1.broken ≡ None →
+        TypeThere IsScalarOrVoid (if_some o (λ t. type_if (is_struct t) offset t) q).0
     by_type None q k c = let none = k.there in absurd (cc)
     by_type (Some t) q k c = let same : k.type ≡ t = let e = k.there in cc in by_test (is_struct t) t q refl (subst IsNoArray same k.holds) c
 
@@ -186,7 +193,8 @@ params_same (p ∷ ps) [] ws h a = absurd h
 params_same (p ∷ ps) (v ∷ vs) [] h a = absurd a
 params_same (p ∷ ps) (v ∷ vs) (w ∷ ws) h a = ((h.0.0, h.0.1, a.0 ∙ h.0.2, h.0.3), params_same ps vs ws h.1 a.3)
 
-params_append : (ps : List Param) (vs : List Variable) (p : Param) (v : Variable) → ParamsAre ps vs → (t : TypeTree) × (p.type ≡ Some t) × (v.type ≡ Some t) × IsScalar t → ParamsAre (ps ++ p ∷ []) (vs ++ v ∷ [])
+params_append : (ps : List Param) (vs : List Variable) (p : Param) (v : Variable) → ParamsAre ps vs → (t : TypeTree) × (p.type ≡ Some t) × (v.type ≡ Some t) × IsScalar t →
+    ParamsAre (ps ++ p ∷ []) (vs ++ v ∷ [])
 params_append [] [] p v h k = (k, tt)
 params_append [] (w ∷ vs) p v h k = absurd h
 params_append (q ∷ ps) [] p v h k = absurd h

@@ -73,7 +73,8 @@ mutual
   elements_texts is_static t n (Node l.InitComma (Cons before more)) s r = elements_texts is_static t n before s r.0
   elements_texts is_static t n (Node l.InitNext (Cons before (Cons x none))) s r =
       let xs = elements is_static t n before s in
-      texts_then s xs.1 _ (elements_texts is_static t n before s r.0) (initialiser_texts is_static (part_of xs.1.structs t (count_in before)) (n + part_at xs.1.structs t (count_in before)) x xs.1 r.1.0)
+      texts_then s xs.1 _ (elements_texts is_static t n before s r.0)
+      (initialiser_texts is_static (part_of xs.1.structs t (count_in before)) (n + part_at xs.1.structs t (count_in before)) x xs.1 r.1.0)
   elements_texts is_static t n x s r = no_texts s
 
 -- ---- declarators

@@ -89,7 +89,8 @@ member_out x xs (Node l.Member (Cons stars (Cons name (Cons bounds none)))) s ba
     let sb = breaks_if_steps wrong Redeclared (offset_of name) t.1 in
     record {
       step = step_then s ns.1 b sn (step_then ns.1 t.1 b st sb);
-      texts = texts_then s ns.1 b (dimensions_texts bounds s r.1.1.0) (same_globals ns.1 b (breaks_if_quiet wrong Redeclared (offset_of name) t.1 ∙ object_type_quiet false (offset_of name) x (count_of stars) ds ns.1));
+      texts = texts_then s ns.1 b (dimensions_texts bounds s r.1.1.0)
+          (same_globals ns.1 b (breaks_if_quiet wrong Redeclared (offset_of name) t.1 ∙ object_type_quiet false (offset_of name) x (count_of stars) ds ns.1));
       more = one_more xs _;
       laid = λ clean h.
           let ct = sb.broken clean in
@@ -200,7 +201,11 @@ defined_moved tag offset xs (Some ts) s h new =
     by_broken : (b : State) (o : Bool) → is_some b.broken ≡ o → (b.broken ≡ None → Follows b.structs (record { tag = tag; members = ts })) →
         Moved b (if o then b else with_struct (record { tag = tag; members = ts }) xs b)
     by_broken b true q k = moved_step b b (stay b) (no_texts b)
-    by_broken b false q k = record { broken = λ h. h; go = λ clean f. (with_struct_onward (record { tag = tag; members = ts }) xs b, with_struct_file (record { tag = tag; members = ts }) xs b (k clean) f, refl) }
+    by_broken b false q k = record {
+      broken = λ h. h;
+      go = λ clean f.
+          (with_struct_onward (record { tag = tag; members = ts }) xs b, with_struct_file (record { tag = tag; members = ts }) xs b (k clean) f, refl);
+    }
 
 -- what follows a tag has members, or none
 abbrev pub IsStruct : Tree → Type 0

@@ -221,7 +221,12 @@ mutual
   expression_texts (Node l.Name (Cons x more)) s r = same_globals s _ (named_quiet (name_of x) (offset_of x) s)
   expression_texts (Node l.Number (Cons x more)) s r = no_texts s
   expression_texts (Node l.Character (Cons x more)) s r = no_texts s
-  expression_texts (Node l.Text (Cons x (Cons xs more))) s r = record { added = _ ∷ []; globals = refl; texts = (record { bytes = characters_of x ++ more_characters xs; type = refl; written = refl; range = string_in_range x xs r.0 r.1.0 }, tt) }
+  expression_texts (Node l.Text (Cons x (Cons xs more))) s r = record {
+    added = _ ∷ [];
+    globals = refl;
+    texts =
+        (record { bytes = characters_of x ++ more_characters xs; type = refl; written = refl; range = string_in_range x xs r.0 r.1.0 }, tt);
+  }
   expression_texts (Node l.Paren (Cons opening (Cons inner more))) s r = expressions_texts inner s r.1.0
   expression_texts (Node l.Index (Cons array (Cons opening (Cons index more)))) s r =
       let a = expression array s in
@@ -230,7 +235,8 @@ mutual
   expression_texts (Node l.Call (Cons (Node l.Name (Cons x none)) (Cons opening (Cons xs more)))) s r =
       let f = called_name (name_of x) (offset_of x) s in
       let es = arguments xs f.1 in
-      texts_then s f.1 _ (same_globals s _ (called_name_quiet (name_of x) (offset_of x) s)) (texts_then f.1 es.1 _ (arguments_texts xs f.1 r.1.1.0) (same_globals es.1 _ (called_quiet (offset_of opening) f.0 es.0 es.1)))
+      texts_then s f.1 _ (same_globals s _ (called_name_quiet (name_of x) (offset_of x) s))
+      (texts_then f.1 es.1 _ (arguments_texts xs f.1 r.1.1.0) (same_globals es.1 _ (called_quiet (offset_of opening) f.0 es.0 es.1)))
   expression_texts (Node l.Call (Cons function (Cons opening (Cons xs more)))) s r =
       let f = expression function s in
       let es = arguments xs f.1 in

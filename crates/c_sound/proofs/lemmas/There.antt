@@ -230,8 +230,10 @@ called_meant_there : (name : Name) (offset : ℕ) (m : Option Meaning) (s : Stat
 called_meant_there name offset (Some (means.Function k)) s h q clean = called_as_there s.declared k (callee_numbered k name offset s).0 (callee_numbered_there k name offset s clean)
     (h.functions name k q)
 called_meant_there name offset None s h q clean = absurd (cc)
-called_meant_there name offset (Some (means.Variable slot b)) s h q clean = called_term_there s.declared (term_meant offset (Some (means.Variable slot b)) s).0 (term_meant_there name offset (Some (means.Variable slot b)) s h q clean)
-called_meant_there name offset (Some (means.Global k b)) s h q clean = called_term_there s.declared (term_meant offset (Some (means.Global k b)) s).0 (term_meant_there name offset (Some (means.Global k b)) s h q clean)
+called_meant_there name offset (Some (means.Variable slot b)) s h q clean = called_term_there s.declared (term_meant offset (Some (means.Variable slot b)) s).0
+    (term_meant_there name offset (Some (means.Variable slot b)) s h q clean)
+called_meant_there name offset (Some (means.Global k b)) s h q clean = called_term_there s.declared (term_meant offset (Some (means.Global k b)) s).0
+    (term_meant_there name offset (Some (means.Global k b)) s h q clean)
 
 pub called_name_there : (name : Name) (offset : ℕ) (s : State) → NamesTyped s → (called_name name offset s).1.broken ≡ None → CalledThere s.declared (called_name name offset s).0
 called_name_there name offset s h clean = called_meant_there name offset (meaning s.scopes name) s h refl clean

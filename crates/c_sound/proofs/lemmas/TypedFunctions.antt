@@ -38,7 +38,8 @@ map_back f (x ∷ xs) zero y h = (x, refl, let same : f x ≡ y = cc in sym same
 map_back f (x ∷ xs) (suc k) y h = map_back f xs k y h
 
 -- the end of the body
-end_fits : (z t : State) → t.broken ≡ None → ((k : ℕ) (g : Global) → slice_get t.globals k ≡ Some g → slice_get z.globals k ≡ Some g) → Fits (ending_of (program_of z) (map variable_tree t.variables)) t
+end_fits : (z t : State) → t.broken ≡ None → ((k : ℕ) (g : Global) → slice_get t.globals k ≡ Some g → slice_get z.globals k ≡ Some g) →
+    Fits (ending_of (program_of z) (map variable_tree t.variables)) t
 end_fits z t clean keeps = record {
   clean = clean;
   globals = λ k g u there type.
@@ -84,7 +85,8 @@ pub body_typed : (y : Layouts) (n t z : State) (ps : List Param) (xs : Tree) (r 
     ((k : ℕ) (g : Global) → slice_get (items (record { may_break = false; may_continue = false; result = r }) xs t).1.globals k ≡ Some g → slice_get z.globals k ≡ Some g) →
     length ps + declarations xs < 2 ^ 32 →
     FunctionIsTyped (program_of z)
-    (function_tree name offset starts ends r (length ps) (items (record { may_break = false; may_continue = false; result = r }) xs t).1.variables (items (record { may_break = false; may_continue = false; result = r }) xs t).0)
+    (function_tree name offset starts ends r (length ps) (items (record { may_break = false; may_continue = false; result = r }) xs t).1.variables
+    (items (record { may_break = false; may_continue = false; result = r }) xs t).0)
 body_typed y n t z ps xs r u name offset starts ends e onward h result scalar range shape clean keeps few =
     let j : Jumps = record { may_break = false; may_continue = false; result = r } in
     let i = items j xs t in
@@ -108,7 +110,8 @@ body_typed y n t z ps xs r u name offset starts ends e onward h result scalar ra
       structs = subst AreDefinitions (sym structs) good;
       types = λ k v w there type. (variable_tree v, get_map variable_tree vs k v there, tree_type v w type);
     } in
-    let o = items_typed d (locals_typed y d) c j q xs t range shape scope (record { breaks = refl; continues = refl; result = result ∙ ap Some (sym is) }) (record { scope = refl; names = entry_names ps n t z (map variable_tree vs) e onward h }) ends_here in
+    let o = items_typed d (locals_typed y d) c j q xs t range shape scope (record { breaks = refl; continues = refl; result = result ∙ ap Some (sym is) })
+    (record { scope = refl; names = entry_names ps n t z (map variable_tree vs) e onward h }) ends_here in
     let body : ItemsAreTyped c q i.0 = lead_typed c o.scope q i.0 o.lead in
     let ds = onward.structs.0 in
     let whole : z.structs ≡ ds ++ t.structs = onward.structs.1 ∙ ap (λ defs. ds ++ defs) (sym first) in
@@ -116,7 +119,8 @@ body_typed y n t z ps xs r u name offset starts ends e onward h result scalar ra
     let wide = items_wider ds c q i.0 all (λ k v there.
     let b = map_back variable_tree vs k v there in
     let laid = sound.1 k b.0 b.1 in
-    subst (λ w. is_complete t.structs w ≡ true) (sym (ap (λ (v : VariableTree). v.type) b.2 ∙ tree_type b.0 laid.0 laid.1)) (subst (λ defs. is_complete defs laid.0 ≡ true) structs laid.2.complete)) body in
+    subst (λ w. is_complete t.structs w ≡ true) (sym (ap (λ (v : VariableTree). v.type) b.2 ∙ tree_type b.0 laid.0 laid.1))
+    (subst (λ defs. is_complete defs laid.0 ≡ true) structs laid.2.complete)) body in
     let same : widened ds c ≡ scope_of p f =
     λ i. record {
       structs = sym whole i;

@@ -151,7 +151,12 @@ dimensioned defs may t (d ∷ ds) h e c = by_other (list_any is_empty ds) refl e
         TypeThere (λ u. (is_complete defs u ≡ true) ⊎ Open defs may u) (arrays_of (Some t) (sizes_of (d ∷ ds)))
     first dimension.Empty k none m =
         let r = sized_type defs t ds h.1 none c in
-        record { type = array_of r.type 0; there = ap (option_and_then (array_by (Some 0))) r.there; holds = inr (record { may_be = allowed may m; element = r.type; array = refl; complete = r.holds }) }
+        record {
+          type = array_of r.type 0;
+          there = ap (option_and_then (array_by (Some 0))) r.there;
+          holds = inr
+              (record { may_be = allowed may m; element = r.type; array = refl; complete = r.holds });
+        }
     first (dimension.Sized None) k none m = absurd k
     first (dimension.Sized (Some n)) k none m =
         let r = sized_type defs t ds h.1 none c in
@@ -189,7 +194,8 @@ pub record OpenLaid (defs : Definitions) (may : Bool) (u : TypeTree) : Type 0 wh
 abbrev pub LaidOrOpen : Definitions → Bool → TypeTree → Type 0
 LaidOrOpen defs may u = IsLaidOut defs u ⊎ OpenLaid defs may u
 
-pub small_typed : (defs : Definitions) (may : Bool) (offset : ℕ) (u : TypeTree) (s : State) → s.structs ≡ defs → (is_complete defs u ≡ true) ⊎ Open defs may u → (small_type offset u s).1.broken ≡ None →
+pub small_typed : (defs : Definitions) (may : Bool) (offset : ℕ) (u : TypeTree) (s : State) → s.structs ≡ defs → (is_complete defs u ≡ true) ⊎ Open defs may u →
+    (small_type offset u s).1.broken ≡ None →
     TypeThere (LaidOrOpen defs may) (small_type offset u s).0
 small_typed defs may offset u s same h clean = by_test (is_large s.structs (with_elements u)) refl clean
   where
