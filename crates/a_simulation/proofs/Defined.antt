@@ -1,14 +1,14 @@
 -- What closed code needs was written before it.
 use Rattle.std.proofs.Common.{ℕ, List, [], ◌∷◌, subst, inl, inr}
 use Rattle.s_linear.specs.Linear.{Instr, Step, plain, choice, loop, Code, no_steps, step_then, Codes, no_codes, code_then}
-use Rattle.a_simulation.specs.Closed.{sources_of, NameSet, AreIn, after_instr, after_instrs, no_names, after_step, after_code, after_each, InstrsAreClosed, StepIsClosed, CodeIsClosed, AreClosed}
+use Rattle.a_simulation.specs.Closed.{sources_of, NameSet, AreIn, after_instr, after_instrs, none_written, after_step, after_code, after_each, InstrsAreClosed, StepIsClosed, CodeIsClosed, AreClosed}
 use Rattle.a_simulation.specs.Need.{IsIn, joined, needed_by, needed_by_instrs, after_body, needed_by_step, needed_by_code, needed_by_codes, at_label}
 
 -- one set of names is in another
 abbrev pub IsSubset : (D C : NameSet) → Type 0
 IsSubset D C = (x : ℕ) → D x → C x
 
-pub none_in : (D : NameSet) → IsSubset no_names D
+pub none_in : (D : NameSet) → IsSubset none_written D
 none_in D x z = absurd z
 
 reads_in : (D : NameSet) (xs : List ℕ) → AreIn D xs → (x : ℕ) → IsIn x xs → D x
@@ -116,18 +116,18 @@ label_in body p back E D N are b q r h x l = are (joined D E) (after_body p back
     after y (inl e) = subst (after_code (joined D E) body) e (with_others body E D p q)
     after y (inr (inl n)) = h y n
     after y (inr (inr read)) =
-        instrs_defined back (after_code (joined D E) body) no_names (instrs_wider back (after_code E body) (after_code (joined D E) body) (with_others body E D) r)
+        instrs_defined back (after_code (joined D E) body) none_written (instrs_wider back (after_code E body) (after_code (joined D E) body) (with_others body E D) r)
         (none_in (after_instrs (after_code (joined D E) body) back)) y read
 
 -- what is written after a loop is written after its body
 pub after_loop : (moves back : List Instr) (body : Code) (p : ℕ) (D : NameSet)
-    → IsSubset (after_step D (loop moves body p back)) (after_code (joined D (after_instrs no_names moves)) body)
-after_loop moves back body p D x (inl w) = with_others body (after_instrs no_names moves) D x w
-after_loop moves back body p D x (inr d) = code_grow body (joined D (after_instrs no_names moves)) x (inl d)
+    → IsSubset (after_step D (loop moves body p back)) (after_code (joined D (after_instrs none_written moves)) body)
+after_loop moves back body p D x (inl w) = with_others body (after_instrs none_written moves) D x w
+after_loop moves back body p D x (inr d) = code_grow body (joined D (after_instrs none_written moves)) x (inl d)
 
-pub moved_in : (moves : List Instr) (D : NameSet) → IsSubset (joined D (after_instrs no_names moves)) (after_instrs D moves)
+pub moved_in : (moves : List Instr) (D : NameSet) → IsSubset (joined D (after_instrs none_written moves)) (after_instrs D moves)
 moved_in moves D x (inl d) = instrs_grow moves D x d
-moved_in moves D x (inr e) = instrs_more moves no_names D (none_in D) x e
+moved_in moves D x (inr e) = instrs_more moves none_written D (none_in D) x e
 
 mutual
   step_defined : (s : Step) (D N : NameSet) → StepIsClosed D s → IsSubset N (after_step D s) → IsSubset (needed_by_step s N) D
@@ -138,7 +138,7 @@ mutual
       instrs_defined moves D (at_label body p back N) k.0
       (λ y l.
       moved_in moves D y
-      (label_in body p back (after_instrs no_names moves) D N (λ C M b g z m. code_defined body C M b g z m) k.1 k.2 k.3
+      (label_in body p back (after_instrs none_written moves) D N (λ C M b g z m. code_defined body C M b g z m) k.1 k.2 k.3
       (λ z m. after_loop moves back body p D z (h z m)) y l)) x n
 
   pub code_defined : (c : Code) (D N : NameSet) → CodeIsClosed D c → IsSubset N (after_code D c) → IsSubset (needed_by_code c N) D
@@ -153,5 +153,5 @@ mutual
 
 -- what is needed at a closed loop's label was written before the loop or by its moves in
 pub label_defined : (moves back : List Instr) (body : Code) (p : ℕ) (D N : NameSet) → StepIsClosed D (loop moves body p back)
-    → IsSubset N (after_code (joined D (after_instrs no_names moves)) body) → IsSubset (at_label body p back N) (joined D (after_instrs no_names moves))
-label_defined moves back body p D N k h = label_in body p back (after_instrs no_names moves) D N (code_defined body) k.1 k.2 k.3 h
+    → IsSubset N (after_code (joined D (after_instrs none_written moves)) body) → IsSubset (at_label body p back N) (joined D (after_instrs none_written moves))
+label_defined moves back body p D N k h = label_in body p back (after_instrs none_written moves) D N (code_defined body) k.1 k.2 k.3 h

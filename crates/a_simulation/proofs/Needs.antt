@@ -1,7 +1,7 @@
 -- What is needed before a code grows with what is needed after it, and by no more than that.
 use Rattle.std.proofs.Common.{◌≡◌, ◌⊎◌, ℕ, List, [], ◌∷◌, Option, None, Some, ap, inl, inr}
 use Rattle.s_linear.specs.Linear.{Instr, Step, plain, choice, loop, Code, no_steps, step_then, Codes, no_codes, code_then}
-use Rattle.a_simulation.specs.Closed.{NameSet, no_names}
+use Rattle.a_simulation.specs.Closed.{NameSet, none_written}
 use Rattle.a_simulation.specs.Need.{needed_by, needed_by_instrs, after_body, needed_by_step, needed_by_code, needed_by_codes, at_label, at_branch}
 
 abbrev name_or : ℕ → Option ℕ → ℕ
@@ -70,8 +70,8 @@ mutual
 -- ---- loops
 
 -- needed by moves back and not read by them first
-pub need_back : (back : List Instr) (L : NameSet) → IsWithin (needed_by_instrs back L) (needed_by_instrs back no_names) L
-need_back back L = need_instrs back L no_names L (λ x l. inr l)
+pub need_back : (back : List Instr) (L : NameSet) → IsWithin (needed_by_instrs back L) (needed_by_instrs back none_written) L
+need_back back L = need_instrs back L none_written L (λ x l. inr l)
 
 branch_after : (body : Code) (p : ℕ) (back : List Instr) (N : NameSet) → IsWithin (at_branch body p back N) (after_body p back N) (at_label body p back N)
 branch_after body p back N x (inl e) = inl (inl e)

@@ -4,7 +4,7 @@ use Rattle.s_linear.specs.Linear.{Instr, Step, plain, choice, loop, Code, no_ste
 use Rattle.s_linear.specs.Lines.{Line, counted}
 use Rattle.a_place.specs.Places.{first, last}
 use Rattle.a_place.specs.Laws.{IsAliveAt}
-use Rattle.a_simulation.specs.Closed.{NameSet, after_instr, after_instrs, no_names, after_step, after_code}
+use Rattle.a_simulation.specs.Closed.{NameSet, after_instr, after_instrs, none_written, after_step, after_code}
 use Rattle.a_simulation.specs.Choices.{StepChooses, CodeChooses, EachChooses}
 use Rattle.a_simulation.specs.Need.{needed_by_instrs, after_body, needed_by_step, needed_by_code, needed_by_codes, at_label}
 use Rattle.a_simulation.specs.Spans.{IsBegunAt, SpansInstr, SpansInstrs, SpansStep, SpansCode, SpansCodes}
@@ -60,8 +60,8 @@ module _ (lines : List Line) where
   instrs_begun [] D a b sp h = later D a b sp h
   instrs_begun (i ∷ is) D a b sp h = instrs_begun is (after_instr D i) (suc a) b sp.1 (begun_next D i a sp.0 h)
 
-  pub moves_begun : (moves : List Instr) (a b : ℕ) → SpansInstrs lines a moves b → AreBegun (after_instrs no_names moves) b
-  moves_begun moves a b sp = instrs_begun moves no_names a b sp (λ x z. absurd z)
+  pub moves_begun : (moves : List Instr) (a b : ℕ) → SpansInstrs lines a moves b → AreBegun (after_instrs none_written moves) b
+  moves_begun moves a b sp = instrs_begun moves none_written a b sp (λ x z. absurd z)
 
   mutual
     pub step_begun : (s : Step) (D : NameSet) (a b : ℕ) → StepChooses s → SpansStep lines a s b → AreBegun D a → AreBegun (after_step D s) b
@@ -71,7 +71,7 @@ module _ (lines : List Line) where
         later (after_code D k) sp.1.0.1 b sp.1.0.4
         (λ y v. code_begun k D sp.1.0.0 sp.1.0.1 c.1.0 sp.1.0.3 (later D a sp.1.0.0 sp.1.0.2 h) y v) x w.0
     step_begun (loop moves body p back) D a b c sp h x (inl w) =
-        let E : NameSet = after_instrs no_names moves in
+        let E : NameSet = after_instrs none_written moves in
         let back_end : suc sp.1 ≤ sp.2 = instrs_le back (suc sp.1) sp.2 sp.6 in
         let end : sp.2 ≤ b = sp.7 in
         later (after_code E body) sp.1 b (omega arith)
@@ -97,9 +97,9 @@ module _ (lines : List Line) where
   instrs_last (i ∷ is) a b N sp h x (inr m) = let r : suc a ≤ last x lines = instrs_last is (suc a) b N sp.1 h x m.1 in omega arith
 
   -- what moves back read first
-  pub back_last : (back : List Instr) (m e : ℕ) → SpansInstrs lines (suc m) back e → GoOn (needed_by_instrs back no_names) m
+  pub back_last : (back : List Instr) (m e : ℕ) → SpansInstrs lines (suc m) back e → GoOn (needed_by_instrs back none_written) m
   back_last back m e sp =
-      sooner (needed_by_instrs back no_names) m (suc m) (omega arith) (instrs_last back (suc m) e no_names sp (λ y z. absurd z))
+      sooner (needed_by_instrs back none_written) m (suc m) (omega arith) (instrs_last back (suc m) e none_written sp (λ y z. absurd z))
 
   -- where a loop's branch stands
   pub branch_le : (moves back : List Instr) (body : Code) (p : ℕ) (a b : ℕ) (sp : SpansStep lines a (loop moves body p back) b) → sp.1 ≤ b

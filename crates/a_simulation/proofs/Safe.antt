@@ -4,7 +4,7 @@ use Rattle.s_linear.specs.Linear.{Instr, Step, plain, choice, loop, Code, no_ste
 use Rattle.s_linear.specs.Lines.{Line}
 use Rattle.a_place.specs.Places.{last}
 use Rattle.a_place.specs.Laws.{IsAliveAt}
-use Rattle.a_simulation.specs.Closed.{NameSet, after_instr, after_instrs, no_names, after_step, after_code, after_each, InstrsAreClosed, StepIsClosed, CodeIsClosed, AreClosed}
+use Rattle.a_simulation.specs.Closed.{NameSet, after_instr, after_instrs, none_written, after_step, after_code, after_each, InstrsAreClosed, StepIsClosed, CodeIsClosed, AreClosed}
 use Rattle.a_simulation.specs.Choices.{StepChooses, CodeChooses, EachChooses}
 use Rattle.a_simulation.specs.Need.{these, joined, needed_by_instrs, needed_by_code, at_label, at_branch, SafeInstr, SafeInstrs, SafeStep, SafeCode, SafeCodes}
 use Rattle.a_simulation.specs.Spans.{ArePlacesApart, SpansInstr, SpansInstrs, SpansStep, SpansCode, SpansCodes}
@@ -33,12 +33,12 @@ module _ (lines : List Line) (f : ℕ → ℕ) (apart : ArePlacesApart lines f) 
 
   -- Moves back from position j: what is needed at the label at l is alive there, and what they write has started there.
   safe_back : (is : List Instr) (D L W : NameSet) (l j e : ℕ) → l ≤ j → SpansInstrs lines j is e → InstrsAreClosed D is → AreBegun lines D j
-      → AreBegun lines W l → IsSubset (after_instrs no_names is) W → ((x : ℕ) → L x → IsAliveAt lines x l) → SafeInstrs f is L
+      → AreBegun lines W l → IsSubset (after_instrs none_written is) W → ((x : ℕ) → L x → IsAliveAt lines x l) → SafeInstrs f is L
   safe_back [] D L W l j e le sp k begins starts moved alive = tt
   safe_back (i ∷ is) D L W l j e le sp k begins starts moved alive = (
     safe,
     safe_back is (after_instr D i) L W l (suc j) e (omega arith) sp.1 k.1 (begun_next lines D i j sp.0 begins) starts
-        (λ x w. moved x (moved_in is (after_instr no_names i) x (inr w))) alive,
+        (λ x w. moved x (moved_in is (after_instr none_written i) x (inr w))) alive,
   )
     where
       safe : SafeInstr f i (needed_by_instrs is L)
@@ -46,10 +46,10 @@ module _ (lines : List Line) (f : ℕ → ℕ) (apart : ArePlacesApart lines f) 
           let last_of : j ≤ last t lines = (sp.0.target t w).not_ended in
           elim (need_back is L x n) [
             | inr m ↦
-                let written : after_instrs (after_instr no_names i) is t = moved_in is (after_instr no_names i) t (inl (inl w)) in
+                let written : after_instrs (after_instr none_written i) is t = moved_in is (after_instr none_written i) t (inl (inl w)) in
                 apart t x l ne (goes_on lines t l (starts t (moved t written)) (omega arith)) (alive x m)
             | inl read ↦
-                let d : after_instr D i x = instrs_defined is (after_instr D i) no_names k.1 (none_in (after_instrs (after_instr D i) is)) x read in
+                let d : after_instr D i x = instrs_defined is (after_instr D i) none_written k.1 (none_in (after_instrs (after_instr D i) is)) x read in
                 apart t x j ne (sp.0.target t w)
                 (goes_on lines x j (begun_or lines D i j sp.0 begins x d) (back_last lines is j e sp.1 x read))
           ]
@@ -57,7 +57,7 @@ module _ (lines : List Line) (f : ℕ → ℕ) (apart : ArePlacesApart lines f) 
   -- ---- loops
 
   abbrev Started : (moves : List Instr) → NameSet → NameSet
-  Started moves D = joined D (after_instrs no_names moves)
+  Started moves D = joined D (after_instrs none_written moves)
 
   -- what is needed after the body of a closed loop goes on to its branch
   branch_last : (moves back : List Instr) (body : Code) (p : ℕ) (D N : NameSet) (a b : ℕ) → StepIsClosed D (loop moves body p back)
@@ -69,7 +69,7 @@ module _ (lines : List Line) (f : ℕ → ℕ) (apart : ArePlacesApart lines f) 
         | inl read ↦ back_last lines back sp.1 sp.2 sp.6 x read
         | inr kept ↦
             elim (label_split moves back body p D N k x kept.1) [
-              | inl w ↦ absurd (kept.0 (same_written moves back no_names no_names (λ y z. z) (sym k.4) x w))
+              | inl w ↦ absurd (kept.0 (same_written moves back none_written none_written (λ y z. z) (sym k.4) x w))
               | inr n ↦ sooner lines N sp.1 b (branch_le lines moves back body p a b sp) h x n
             ]
       ]
@@ -97,7 +97,7 @@ module _ (lines : List Line) (f : ℕ → ℕ) (apart : ArePlacesApart lines f) 
       (back_closed moves back body p D k)
       (later lines (after_code (Started moves D) body) sp.1 (suc sp.1) (omega arith)
       (code_begun lines body (Started moves D) (suc sp.0) sp.1 c sp.4 (later lines (Started moves D) sp.0 (suc sp.0) (omega arith) starts)))
-      starts (λ x w. inr (same_written back moves no_names no_names (λ y z. z) k.4 x w))
+      starts (λ x w. inr (same_written back moves none_written none_written (λ y z. z) k.4 x w))
       (λ x l. goes_on lines x sp.0 (starts x (label_defined moves back body p D N k h x l)) (label_last lines moves back body p N a b c sp goes x l))
 
   -- ---- code
@@ -111,7 +111,7 @@ module _ (lines : List Line) (f : ℕ → ℕ) (apart : ArePlacesApart lines f) 
         let after : IsSubset N (after_code (Started moves D) body) = λ x n. after_loop moves back body p D x (h x n) in (
           safe_moves moves back body p D N a b k c sp begins goes after,
           safe_code body (Started moves D) (at_branch body p back N) (suc sp.0) sp.1
-              (code_wider body (after_instrs no_names moves) (Started moves D) (λ x e. inr e) k.1) c sp.4
+              (code_wider body (after_instrs none_written moves) (Started moves D) (λ x e. inr e) k.1) c sp.4
               (later lines (Started moves D) sp.0 (suc sp.0) (omega arith) (begun_body moves back body p D a b sp begins))
               (branch_last moves back body p D N a b k sp goes) (branch_in moves back body p D N k after (code_grow body (Started moves D))),
           safe_moves_back moves back body p D N a b k c sp begins goes after,

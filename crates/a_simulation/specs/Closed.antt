@@ -58,15 +58,15 @@ abbrev pub after_instrs : NameSet → List Instr → NameSet
 after_instrs D [] = D
 after_instrs D (i ∷ is) = after_instrs (after_instr D i) is
 
-abbrev pub no_names : NameSet
-no_names x = ⊥
+abbrev pub none_written : NameSet
+none_written x = ⊥
 
 -- After a code, on each way through it. Each turn of a loop writes what the moves in and the body write.
 abbrev mutual
   pub after_step : NameSet → Step → NameSet
   after_step D (plain i) x = after_instr D i x
   after_step D (choice p cs) x = after_each D cs x
-  after_step D (loop enter body p back) x = after_code (after_instrs no_names enter) body x ⊎ D x
+  after_step D (loop enter body p back) x = after_code (after_instrs none_written enter) body x ⊎ D x
 
   pub after_code : NameSet → Code → NameSet
   after_code D no_steps x = D x
@@ -87,8 +87,8 @@ abbrev mutual
   StepIsClosed D (plain i) = AreIn D (sources_of i)
   StepIsClosed D (choice p cs) = D p × AreClosed D cs
   StepIsClosed D (loop enter body p back) =
-      InstrsAreClosed D enter × CodeIsClosed (after_instrs no_names enter) body × after_code (after_instrs no_names enter) body p
-      × InstrsAreClosed (after_code (after_instrs no_names enter) body) back × (targets_of back ≡ targets_of enter)
+      InstrsAreClosed D enter × CodeIsClosed (after_instrs none_written enter) body × after_code (after_instrs none_written enter) body p
+      × InstrsAreClosed (after_code (after_instrs none_written enter) body) back × (targets_of back ≡ targets_of enter)
 
   pub CodeIsClosed : NameSet → Code → Type 0
   CodeIsClosed D no_steps = Unit {0}

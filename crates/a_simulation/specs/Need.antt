@@ -2,7 +2,7 @@
 -- other name's place that is needed.
 use Rattle.std.specs.Prelude.{◌≡◌, ◌≢◌, ◌⊎◌, ℕ, List, [], ◌∷◌, Some}
 use Rattle.s_linear.specs.Linear.{Instr, Step, plain, choice, loop, Code, no_steps, step_then, Codes, no_codes, code_then}
-use Rattle.a_simulation.specs.Closed.{target_of, sources_of, NameSet, no_names}
+use Rattle.a_simulation.specs.Closed.{target_of, sources_of, NameSet, none_written}
 
 abbrev pub IsIn : ℕ → List ℕ → Type 0
 IsIn x [] = ⊥
@@ -26,7 +26,7 @@ needed_by_instrs (i ∷ is) N = needed_by i (needed_by_instrs is N)
 
 -- After a loop's body: the predicate, what is needed after the loop, and what the moves back read before they write it.
 abbrev pub after_body : (predicate : ℕ) → (back : List Instr) → NameSet → NameSet
-after_body p back N x = (p ≡ x) ⊎ joined N (needed_by_instrs back no_names) x
+after_body p back N x = (p ≡ x) ⊎ joined N (needed_by_instrs back none_written) x
 
 -- What is needed at a loop's label is what its body needs of that: the next turn needs no more, since what is needed at the
 -- label and not moved back is needed here already.
