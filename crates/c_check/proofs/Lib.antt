@@ -1,0 +1,5 @@
+mod DefinedLemmas
+mod ExternalLemmas
+mod FunctionLemmas
+mod LimitLemmas
+mod SlotLemmas

@@ -1,0 +1,99 @@
+-- Parameters add slots after those that are there.
+use Rattle.std.proofs.Common.{◌≡◌, ℕ, suc, Bool, true, false, [], ◌∷◌, ◌++◌, List, length, take, refl, Option, None, Some}
+use Rattle.std.specs.Prelude.{◌==◌, ◌&&◌, not, if◌then◌else◌, option_map}
+use Rattle.c_ast.specs.Productions as l
+use Rattle.c_ast.specs.Tree.{Tree, Node, Nil, Cons}
+use Rattle.c_type.specs.Trees.{pointer_to}
+use Rattle.c_scope.specs.Scopes.{Name, is_declared}
+use Rattle.c_elaboration.specs.declared.rule.Rule.TheVariants.{Redeclared}
+use Rattle.c_elaboration.specs.declared.dimension.Dimension.{Dimension}
+use Rattle.c_elaboration.specs.declared.meaning.Meaning.{Meaning}
+use Rattle.c_elaboration.specs.declared.meaning.Meaning.TheVariants as means
+use Rattle.c_elaboration.specs.State.{MaybeType, State, ◌>>=◌, pure, if_some, add_variable}
+use Rattle.c_elaboration.specs.Leaves.{begin_of, count_of, is_present}
+use Rattle.c_elaboration.specs.Specifiers.{Specified, specified_type}
+use Rattle.c_elaboration.specs.DeclaredTypes.{starred, type_if, small_type, elements_specified, elements_type, size_of_dimension, is_param_of, adjusted, other_is_empty, param_type}
+use Rattle.c_elaboration.specs.Declarators.{open_dimensions, is_fixed}
+use Rattle.c_elaboration.specs.Externals.{Param, declare_if, param_name, param_offset, param_at, param, more_params, is_lone_void, params, bind_if, bind_params}
+use Rattle.c_elaboration.specs.Statements.{items}
+use Rattle.c_sound.proofs.lemmas.States.{Step, stay, step_then}
+use Rattle.c_sound.proofs.lemmas.Steps.{Steps, breaks_if_steps, if_some_steps, type_if_steps, small_type_steps, starred_steps, specified_type_steps}
+use Rattle.c_sound.proofs.lemmas.StatementSteps.{open_dimensions_steps, unless_empty_steps}
+use Rattle.c_statement.proofs.lemmas.Slots.{Adds, adds_none, adds_then, keeps_slots, items_adds, entered}
+use Rattle.c_check.specs.Functions.{body_items}
+
+-- ---- types of parameters
+
+adjusted_steps : (offset : ℕ) (t : MaybeType) (ds : List Dimension) → Steps (adjusted offset t ds)
+adjusted_steps offset t [] s = stay s
+adjusted_steps offset t (d ∷ ds) s = if_some_steps (elements_type t (size_of_dimension d) ds) (small_type offset) (small_type_steps offset) s
+
+param_type_steps : (offset : ℕ) (x : Specified) (stars : ℕ) (ds : List Dimension) → Steps (param_type offset x stars ds)
+param_type_steps offset x stars ds s =
+    let u = starred (elements_specified x ds) stars offset s in
+    let t = if_some u.0 (λ t. type_if (not (is_param_of s.structs t ds)) offset t) u.1 in
+    let v = adjusted offset t.0 ds t.1 in
+    step_then s u.1 _ (starred_steps (elements_specified x ds) stars offset s)
+    (step_then u.1 t.1 _ (if_some_steps u.0 _ (λ t. type_if_steps (not (is_param_of s.structs t ds)) offset t) u.1)
+    (step_then t.1 v.1 _ (adjusted_steps offset t.0 ds t.1) (unless_empty_steps (other_is_empty ds) offset v.0 v.1)))
+
+-- ---- parameters in scope
+
+declare_if_adds : (name : Option Name) (offset : ℕ) (m : Meaning) (s : State) → Adds s (declare_if name offset m s).1
+declare_if_adds None offset m s = adds_none s s refl
+declare_if_adds (Some name) offset m s = adds_none s _ (breaks_if_steps (is_declared s.scopes name) Redeclared offset s).slots
+
+param_at_adds : (offset : ℕ) (is_const : Bool) (specifier stars name bounds : Tree) (s : State) → Adds s (param_at offset is_const specifier stars name bounds s).1
+param_at_adds offset is_const specifier stars name bounds s =
+    let x = specified_type specifier s in
+    let ds = open_dimensions bounds x.1 in
+    let t = param_type offset x.0 (count_of stars) ds.0 ds.1 in
+    let k = add_variable t.0 t.1 in
+    let to_type = step_then s x.1 t.1 (specified_type_steps specifier s) (step_then x.1 ds.1 t.1 (open_dimensions_steps bounds x.1) (param_type_steps offset x.0 (count_of stars) ds.0 ds.1)) in
+    adds_then s t.1 _ (adds_none s t.1 to_type.slots)
+    (adds_then t.1 k.1 _ (record { more = length t.1.variables ∷ []; slots = refl }) (declare_if_adds (param_name name) offset (means.Variable k.0 (is_fixed is_const (count_of stars))) k.1))
+
+param_adds : (t : Tree) (s : State) → Adds s (param t s).1
+param_adds (Node l.Param (Cons qualifier (Cons specifier (Cons stars (Cons name (Cons bounds none)))))) s =
+    param_at_adds (param_offset (begin_of (Cons qualifier (Cons specifier Nil))) name) (is_present qualifier) specifier stars name bounds s
+param_adds t s = adds_none s s refl
+
+more_params_adds : (t : Tree) (s : State) → Adds s (more_params t s).1
+more_params_adds (Node (l.More k) (Cons before (Cons comma (Cons t none)))) s =
+    let ps = more_params before s in adds_then s ps.1 _ (more_params_adds before s) (param_adds t ps.1)
+more_params_adds t s = adds_none s s refl
+
+params_adds : (t : Tree) (s : State) → Adds s (params t s).1
+params_adds (Node (l.Present k) (Cons first (Cons more none))) s = by_test (is_lone_void first && count_of more == 0)
+  where
+    both : State → List Param × State
+    both s = let p = param first s in let ps = more_params more p.1 in (p.0 ++ ps.0, ps.1)
+
+    by_test : (b : Bool) → Adds s ((if b then pure [] else both) s).1
+    by_test true = adds_none s s refl
+    by_test false = let p = param first s in adds_then s p.1 _ (param_adds first s) (more_params_adds more p.1)
+params_adds t s = adds_none s s refl
+
+pub params_leave : (t : Tree) (s : State) → take (length s.slots) (params t (entered s)).1.slots ≡ s.slots
+params_leave t s = keeps_slots (entered s) (params t (entered s)).1 (params_adds t (entered s))
+
+-- ---- bodies of functions
+
+bind_if_adds : (name : Option Name) (m : Meaning) (s : State) → Adds s (bind_if name m s).1
+bind_if_adds None m s = adds_none s s refl
+bind_if_adds (Some name) m s = adds_none s _ refl
+
+bind_params_adds : (slot : ℕ) (ps : List Param) (s : State) → Adds s (bind_params slot ps s).1
+bind_params_adds slot [] s = adds_none s s refl
+bind_params_adds slot (p ∷ ps) s =
+    let t = record s { slots = s.slots ++ slot ∷ [] } in
+    let u = bind_if p.name (means.Variable slot p.is_const) t in
+    adds_then s t _ (record { more = slot ∷ []; slots = refl }) (adds_then t u.1 _ (bind_if_adds p.name (means.Variable slot p.is_const) t) (bind_params_adds (suc slot) ps u.1))
+
+body_adds : (t : MaybeType) (ps : List Param) (xs : Tree) (s : State) → Adds s (body_items t ps xs s).1
+body_adds t ps xs s =
+    let b = bind_params 0 ps s in
+    adds_then s b.1 _ (bind_params_adds 0 ps s) (items_adds (record { may_break = false; may_continue = false; result = t }) xs b.1)
+
+pub body_leave : (t : MaybeType) (ps : List Param) (xs : Tree) (s : State) → take (length s.slots) (body_items t ps xs (entered s)).1.slots ≡ s.slots
+body_leave t ps xs s = keeps_slots (entered s) (body_items t ps xs (entered s)).1 (body_adds t ps xs (entered s))

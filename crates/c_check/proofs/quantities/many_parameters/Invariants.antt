@@ -1,0 +1,8 @@
+use Rattle.std.proofs.Common.{◌≡◌, drop}
+use Rattle.limits.specs.Limits.{most_parameters}
+use Rattle.c_elaboration.specs.declared.rule.Quantity.TheVariants.{Parameters}
+use Rattle.c_elaboration.specs.Limits.{first_above}
+use Rattle.c_check.proofs.quantities.many_parameters.Given as goal
+
+abbrev pub invariant-loop-f : goal.invariant-loop-f
+invariant-loop-f v = first_above Parameters most_parameters (λ f. f.params) v.fs ≡ first_above Parameters most_parameters (λ f. f.params) (drop v.f-index v.fs)

@@ -1,0 +1,38 @@
+ghost use Rattle.std.specs.Prelude.{◌≡◌, codes, IfOk, option_and_then, slice_get};
+ghost use Rattle.std.specs.Option.{option_copied};
+ghost use Rattle.c_typed.specs.WellTyped.{int};
+ghost use Rattle.c_static.specs.Types.{same_type};
+ghost use Rattle.c_elaboration.specs.Check.{has_main, is_main};
+
+use c_constant::same_type;
+use c_lex::Name;
+use c_state::State;
+use c_type::{CType, Scalar};
+use c_typed::TFunction;
+use no_memory::NoMemory;
+
+/// Whether the file defines `main` as `int main(void)` (ISO/IEC 9899:2011, 5.1.2.2.1).
+pub(crate) fn has_main(state: &State) -> Result<bool, NoMemory>
+    ensures { IfOk result (λ r. r ≡ has_main state.now) }
+{
+    let name = Name::from_slice(state.alloc(), b"main")?;
+    match state.defined_number(&name) {
+        Some(number) => Ok(is_main(state.functions().get(number as usize))),
+        None => Ok(false),
+    }
+}
+
+fn is_main(f: Option<&TFunction>) -> bool
+    ensures { result ≡ is_main (option_copied f.entry) }
+{
+    match f {
+        Some(f) => is_int(&f.result) && f.params == 0,
+        None => false,
+    }
+}
+
+fn is_int(t: &CType) -> bool
+    ensures { result ≡ same_type t.now int }
+{
+    same_type(t, &CType::scalar(Scalar::Int))
+}
