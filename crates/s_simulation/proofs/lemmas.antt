@@ -1,0 +1,13 @@
+pub mod Answers
+pub mod Held
+pub mod Running
+pub mod Ops
+pub mod Claims
+pub mod Branches
+pub mod Loops
+pub mod Nodes
+pub mod Regions
+pub mod Functions
+pub mod Written
+pub mod Known
+pub mod ClosedCode

@@ -1,0 +1,4 @@
+pub mod Agreement
+pub mod Programs
+pub mod Closed
+pub mod Laws
