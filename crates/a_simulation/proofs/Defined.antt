@@ -1,7 +1,7 @@
 -- What closed code needs was written before it.
 use Rattle.std.proofs.Common.{ℕ, List, [], ◌∷◌, subst, inl, inr}
 use Rattle.s_linear.specs.Linear.{Instr, Step, plain, choice, loop, Code, no_steps, step_then, Codes, no_codes, code_then}
-use Rattle.a_simulation.specs.Closed.{sources_of, NameSet, AreIn, after_instr, after_instrs, none_written, after_step, after_code, after_each, InstrsAreClosed, StepIsClosed, CodeIsClosed, AreClosed}
+use Rattle.s_simulation.specs.Closed.{sources_of, NameSet, AreIn, after_instr, after_instrs, none_written, after_step, after_code, after_each, InstrsAreClosed, StepIsClosed, CodeIsClosed, AreClosed}
 use Rattle.a_simulation.specs.Need.{IsIn, joined, needed_by, needed_by_instrs, after_body, needed_by_step, needed_by_code, needed_by_codes, at_label}
 
 -- one set of names is in another

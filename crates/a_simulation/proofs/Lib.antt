@@ -7,3 +7,4 @@ pub mod Positions
 pub mod Runs
 pub mod Safe
 pub mod Standing
+mod Sequenced

@@ -1,7 +1,7 @@
 -- What closed loops need, and what their moves write.
 use Rattle.std.proofs.Common.{◌≡◌, ◌⊎◌, ℕ, List, [], ◌∷◌, subst, sym, ◌∙◌, inl, inr}
 use Rattle.s_linear.specs.Linear.{Instr, loop, Code}
-use Rattle.a_simulation.specs.Closed.{target_of, targets_of, NameSet, after_instr, after_instrs, none_written, after_code, InstrsAreClosed, StepIsClosed}
+use Rattle.s_simulation.specs.Closed.{target_of, targets_of, NameSet, after_instr, after_instrs, none_written, after_code, InstrsAreClosed, StepIsClosed}
 use Rattle.a_simulation.specs.Need.{joined, needed_by_instrs, after_body, at_label, at_branch}
 use Rattle.a_simulation.proofs.Needs.{need_after, need_code}
 use Rattle.a_simulation.proofs.Defined.{IsSubset, instrs_more, instrs_grow, instrs_wider, instrs_defined, code_defined, with_others, label_in, label_defined}

@@ -1,7 +1,7 @@
 -- What is needed before a code grows with what is needed after it, and by no more than that.
 use Rattle.std.proofs.Common.{◌≡◌, ◌⊎◌, ℕ, List, [], ◌∷◌, Option, None, Some, ap, inl, inr}
 use Rattle.s_linear.specs.Linear.{Instr, Step, plain, choice, loop, Code, no_steps, step_then, Codes, no_codes, code_then}
-use Rattle.a_simulation.specs.Closed.{NameSet, none_written}
+use Rattle.s_simulation.specs.Closed.{NameSet, none_written}
 use Rattle.a_simulation.specs.Need.{needed_by, needed_by_instrs, after_body, needed_by_step, needed_by_code, needed_by_codes, at_label, at_branch}
 
 abbrev name_or : ℕ → Option ℕ → ℕ

@@ -4,7 +4,7 @@ use Rattle.s_linear.specs.Linear.{Instr, Step, plain, choice, loop, Code, no_ste
 use Rattle.s_linear.specs.Lines.{Line, counted}
 use Rattle.a_place.specs.Places.{first, last}
 use Rattle.a_place.specs.Laws.{IsAliveAt}
-use Rattle.a_simulation.specs.Closed.{NameSet, after_instr, after_instrs, none_written, after_step, after_code}
+use Rattle.s_simulation.specs.Closed.{NameSet, after_instr, after_instrs, none_written, after_step, after_code}
 use Rattle.a_simulation.specs.Choices.{StepChooses, CodeChooses, EachChooses}
 use Rattle.a_simulation.specs.Need.{needed_by_instrs, after_body, needed_by_step, needed_by_code, needed_by_codes, at_label}
 use Rattle.a_simulation.specs.Spans.{IsBegunAt, SpansInstr, SpansInstrs, SpansStep, SpansCode, SpansCodes}

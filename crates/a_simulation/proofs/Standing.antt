@@ -7,7 +7,7 @@ use Rattle.s_linear.specs.Linear.{Instr, const, undef, object_address, global_ad
 use Rattle.s_linear.specs.Lines.{Line, done, branch_zero, jump, label, branch_not_zero, counted, code_labels, step_labels, last_from, others_from, LinesOf, branches, last_lines, labelled, before_last, choice_lines, step_lines, code_lines, codes_lines, instr_names, line_names}
 use Rattle.a_place.specs.Places.{among, occurs, first, last}
 use Rattle.a_place.specs.Laws.{IsAliveAt}
-use Rattle.a_simulation.specs.Closed.{target_of, sources_of}
+use Rattle.s_simulation.specs.Closed.{target_of, sources_of}
 use Rattle.a_simulation.specs.Need.{IsIn}
 use Rattle.a_simulation.specs.Spans.{StandAt, SpansInstr, SpansInstrs, SpansStep, SpansCode, SpansCodes}
 use Rattle.a_simulation.specs.Laws.{IntervalsSpanCode}

@@ -6,9 +6,12 @@ use Rattle.val_core.specs.Answers.{Answer, Returned, Cut, Exited, Undefined}
 use Rattle.s_linear.specs.Linear.{Code, LinearFunction}
 use Rattle.s_linear.specs.Lines.{Line, code_lines}
 use Rattle.s_linear.specs.Meaning.{State, Context, code_run, calls}
+use Rattle.g_graph.specs.Plain.{PlainLambda}
+use Rattle.g_mean.specs.Kinds.{AreWellFormed}
+use Rattle.s_sequence.specs.Sequence.{sequenced}
 use Rattle.a_place.specs.Places.{last}
 use Rattle.a_simulation.specs.Placed.{placed_code, placed, placed_calls}
-use Rattle.a_simulation.specs.Closed.{NameSet, after_code, CodeIsClosed, FunctionIsClosed}
+use Rattle.s_simulation.specs.Closed.{NameSet, after_code, CodeIsClosed, FunctionIsClosed}
 use Rattle.a_simulation.specs.Choices.{CodeChooses, FunctionsChoose}
 use Rattle.a_simulation.specs.Need.{IsIn, these, needed_by_code, SafeCode}
 use Rattle.a_simulation.specs.Spans.{StandAt, IsBegunAt, ArePlacesApart, SpansCode}
@@ -58,3 +61,9 @@ abbrev pub FunctionsAgree : Type 0
 FunctionsAgree =
     (fs : List LinearFunction) → FunctionsAreClosed fs → FunctionsChoose fs → (global : ℕ → Value) (bound f : ℕ) (arguments : List Value) (memory : Memory) (input : List ℕ)
     → calls fs global bound f arguments memory input ≡ placed_calls (map placed fs) global bound f arguments memory input
+
+-- So it is with the linear code of well-formed lambdas, where its choices are of two codes or more.
+abbrev pub SequencedFunctionsAgree : Type 0
+SequencedFunctionsAgree =
+    (ls : List PlainLambda) → AreWellFormed ls → FunctionsChoose (map sequenced ls) → (global : ℕ → Value) (bound f : ℕ) (arguments : List Value) (memory : Memory) (input : List ℕ)
+    → calls (map sequenced ls) global bound f arguments memory input ≡ placed_calls (map placed (map sequenced ls)) global bound f arguments memory input

@@ -1,5 +1,4 @@
 pub mod Placed
-pub mod Closed
 pub mod Choices
 pub mod Need
 pub mod Spans

@@ -2,7 +2,7 @@
 -- other name's place that is needed.
 use Rattle.std.specs.Prelude.{◌≡◌, ◌≢◌, ◌⊎◌, ℕ, List, [], ◌∷◌, Some}
 use Rattle.s_linear.specs.Linear.{Instr, Step, plain, choice, loop, Code, no_steps, step_then, Codes, no_codes, code_then}
-use Rattle.a_simulation.specs.Closed.{target_of, sources_of, NameSet, none_written}
+use Rattle.s_simulation.specs.Closed.{target_of, sources_of, NameSet, none_written}
 
 abbrev pub IsIn : ℕ → List ℕ → Type 0
 IsIn x [] = ⊥

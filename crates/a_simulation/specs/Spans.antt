@@ -6,7 +6,7 @@ use Rattle.s_linear.specs.Linear.{Instr, Step, plain, choice, loop, Code, no_ste
 use Rattle.s_linear.specs.Lines.{Line, counted}
 use Rattle.a_place.specs.Places.{occurs, first}
 use Rattle.a_place.specs.Laws.{IsAliveAt}
-use Rattle.a_simulation.specs.Closed.{target_of, sources_of}
+use Rattle.s_simulation.specs.Closed.{target_of, sources_of}
 use Rattle.a_simulation.specs.Need.{IsIn}
 
 -- these lines stand in `lines` from position a up to b

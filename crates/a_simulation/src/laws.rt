@@ -1,7 +1,7 @@
 //! Laws of code over places, for the proofs of the crates above: each is the contract of a function
 //! that does nothing.
 
-ghost use Rattle.a_simulation.specs.Laws.{SafeCodeDoesTheSame, IntervalsSpanCode, PlacesApartAreSafe, FunctionsAgree};
+ghost use Rattle.a_simulation.specs.Laws.{SafeCodeDoesTheSame, IntervalsSpanCode, PlacesApartAreSafe, FunctionsAgree, SequencedFunctionsAgree};
 
 /// Where places are safe for a code and what it needs holds in its place what it holds as a name,
 /// the code does the same over places: events, memory, input and status are equal, and so is what
@@ -27,3 +27,12 @@ pub fn places_apart_are_safe()
 pub fn functions_agree()
     ensures { FunctionsAgree }
 {}
+
+/// Of the linear code of each list of well-formed lambdas, where its choices are of two codes or
+/// more, calls over names and calls over places are equal at every bound.
+pub fn sequenced_functions_agree()
+    ensures { SequencedFunctionsAgree }
+{
+    s_simulation::laws::sequenced_code_is_closed();
+    functions_agree();
+}
