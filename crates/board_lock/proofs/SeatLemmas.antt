@@ -1,7 +1,7 @@
 -- The rule at the opening, when a seat is split off or taken in, and at the close.
 use Rattle.std.proofs.Common.{◌≡◌, ◌≢◌, ℕ, zero, suc, ◌+◌, ◌^◌, ◌<◌, ◌≤◌, ◌⊎◌, inl, inr, ⊎_elim, true, false, Option, None, Some, List, [], ◌∷◌, ◌++◌, length, map, set, refl, sym, ap, ◌∙◌, subst, arith}
 use Rattle.std.proofs.lemmas.List.{length-set, length-append, map-append}
-use Rattle.std.proofs.lemmas.List.Elements.{All-nil, All-cons, All-append, All-weaker}
+use Rattle.std.proofs.lemmas.List.Elements.{All-nil, All-cons, All-append, All-weaker, Contains-append_left, Contains-append_right}
 use Rattle.std.proofs.lemmas.Bool.{cases_eq}
 use Rattle.std.specs.List.{All}
 use mathlib.Core.Option.{none, some, some-injective, some-ne-none}
@@ -12,16 +12,21 @@ use Rattle.board_core.specs.declared.event.Event.{Event}
 use Rattle.board_core.specs.History.{History}
 use Rattle.board_laws.specs.OwnEvents.{own_events}
 use Rattle.board_lock.specs.declared.view.View.{View}
-use Rattle.board_lock.specs.Rule.{opening, with_events, spent, ticket_of, program_weight, spents, IsQueue, IsTakenIn, IsKnown, IsOut, IsPlaced, IsOneHistory}
+use Rattle.board_lock.specs.Rule.{opening, with_events, Holds, spent, ticket_of, program_weight, spents, IsQueue, IsTakenIn, IsKnown, IsOut, IsPlaced, IsOneHistory}
 use Rattle.board_lock.specs.Seats.{sitting_of, first_view, Closes}
 use Rattle.board_lock.specs.Steps.{splitter, newcomer, taking_in}
 use Rattle.board_lock.proofs.QueueLemmas.{pushes-none}
-use Rattle.board_lock.proofs.ViewLemmas.{one-at, set-there, grown-same, tickets-set, not-spent, all-taken-stay, each-stays, placed-stays, spents-set, spents-same, weight-some, two-left, Counts}
+use Rattle.board_lock.proofs.ViewLemmas.{one-at, set-there, grown-same, tickets-set, not-spent, all-taken-stay, all-taken-stays, each-stays, placed-stays, spents-set, spents-same, weight-some, two-left, Counts}
 use Rattle.board_lock.proofs.StepLemmas.{known-at, same-workers}
 
 single : {A : Type 0} (x : A) (i : ℕ) (a : A) → get_elem? (x ∷ []) i ≡ some a → (i ≡ 0) × (x ≡ a)
 single x zero a at = (refl, some-injective x a at)
 single x (suc i) a at = absurd (some-ne-none a (sym at))
+
+elem-at : {A : Type 0} (l : List A) (i : ℕ) → i < length l → (a : A) × (get_elem? l i ≡ some a)
+elem-at [] i inside = absurd (omega arith)
+elem-at (x ∷ xs) zero inside = (x, refl)
+elem-at (x ∷ xs) (suc i) inside = elem-at xs i (omega arith)
 
 -- as `at_snoc`, and the last one stands at the end
 at-end : {A : Type 0} (l : List A) (a b : A) (j : ℕ) → get_elem? (l ++ a ∷ []) j ≡ some b → (get_elem? l j ≡ some b) ⊎ ((j ≡ length l) × (a ≡ b))
@@ -57,6 +62,7 @@ module _ {W M : Type 0} where
           few = omega arith;
           small = small;
           counts = λ v at. subst (Counts views) (single (first_view board) 0 v at).1 (refl, refl);
+          all_taken = λ id v first gone. absurd (not-spent (first_view board) (opening board) refl (single (first_view board) id spent gone).1);
           each =
               λ id v at.
               let is = single (first_view board) id v at in
@@ -142,6 +148,16 @@ module _ {W M : Type 0} where
           small = r.small;
           counts =
               λ u there. subst (Counts (views ++ n ∷ [])) (one-at (views ++ n ∷ []) 0 w u here there) (longer ∙ (let both : length views + 1 ≡ v.splits + 1 + 1 = omega arith in both), spent_are);
+          all_taken =
+              λ j u at0 gone.
+              let first_is = one-at (views ++ n ∷ []) 0 w u here at0 in
+              ⊎_elim
+              (λ (old : get_elem? views j ≡ some spent).
+              subst (λ (x : View W M). Holds x.taken j) first_is
+              (all-taken-stays s.views id v w at (not-spent w (opening board) known.program_is) refl r.all_taken j w
+              (ap (get_elem? views) (sym id_is) ∙ set-there s.views id v w at) old))
+              (λ (e : n ≡ spent). absurd (not-spent n (opening board) known.program_is e))
+              (at_snoc views n spent j gone);
           each =
               λ j u there.
               ⊎_elim
@@ -231,6 +247,25 @@ module _ {W M : Type 0} where
           few = subst (λ (n : ℕ). n ≤ board.workers) (sym long) r.few;
           small = r.small;
           counts = λ u at0. subst (Counts now) (one-at now 0 both u here at0) (long ∙ count.0, spent_are);
+          all_taken =
+              λ j u at0 gone.
+              let first_is = one-at now 0 both u here at0 in
+              subst (λ (x : View W M). Holds x.taken j) first_is
+              (⊎_elim
+              (λ (e : (j ≡ other) × (spent ≡ spent)). (
+                w.own,
+                Contains-append_right v.taken ((w.number, w.own) ∷ w.taken) (j, w.own)
+                    (let j_is : w.number ≡ j = known_w.number_is ∙ sym e.0 in
+                    (0, omega arith, λ i. (j_is i, w.own))),
+              ))
+              (λ (e : (j ≢ other) × (get_elem? views j ≡ some spent)).
+              let was = all-taken-stays s.views id v v at alive refl r.all_taken j v
+              (ap (get_elem? (set s.views id v)) (sym id_is) ∙ set-there s.views id v v at)
+              (⊎_elim (λ (f : (j ≡ id) × (both ≡ spent)). absurd (not-spent both (opening board) known.program_is f.1))
+              (λ (f : (j ≢ id) × (get_elem? s.views j ≡ some spent)). set_else s.views id j v f.0 ∙ f.1)
+              (at_set s.views id j both spent e.1)) in
+              (was.0, Contains-append_left v.taken ((w.number, w.own) ∷ w.taken) (j, was.0) was.1))
+              (at_set views other j spent spent gone));
           each =
               λ j u at_j.
               ⊎_elim (λ (e : (j ≡ other) × (spent ≡ u)). inl (sym e.1))
@@ -281,6 +316,18 @@ module _ {W M : Type 0} where
             begins = known.front;
             own = ap (λ (k : ℕ). own_events k r.log) known.number_is ∙ known.own;
             taken = All-weaker (IsTakenIn r.log s.views) (λ x. own_events x.0 r.log ≡ x.1) (λ x was. was.0) v.taken known.taken;
+            each =
+                λ k within.
+                ⊎_elim (λ (mine : k ≡ id). inl (mine ∙ sym known.number_is))
+                (λ (apart : k ≢ id).
+                let there = elem-at s.views k (omega arith) in
+                ⊎_elim (λ (gone : there.0 ≡ spent). inr (r.all_taken k v (ap (get_elem? s.views) (sym id_is) ∙ at) (there.1 ∙ ap some gone)))
+                (λ (left : IsKnown board r.log s.views k there.0).
+                absurd (
+                let two = two-left s.views id k v there.0 (opening board) (opening board) at there.1 (λ e. apart (sym e)) known.program_is left.program_is in
+                omega arith))
+                (r.each k there.0 there.1))
+                (cases_eq k id);
             no_other = λ k past. r.later k (omega arith);
           },
         )

@@ -15,7 +15,7 @@ use Rattle.board_lock.specs.declared.view.View.{View}
 use Rattle.board_lock.specs.Rule.{opening, with_events, IsBeginning, spent, ticket_of, IsQueue, IsKnown, IsOut, IsPlaced, IsOneHistory}
 use Rattle.board_lock.specs.Steps.{Part, moved, waiting, on_turn, noted, rested, compared, draws, looks, notes, leaves, Compares, compares}
 use Rattle.board_lock.proofs.QueueLemmas.{draws-ticket, leaves-ticket}
-use Rattle.board_lock.proofs.ViewLemmas.{inside-of, one-at, set-there, begins-all, beginnings-meet, own-event, IsGrown, grown-same, grown-event, begins-grown, tickets-set, not-spent, all-taken-stay, each-stays, placed-stays, counts-stay}
+use Rattle.board_lock.proofs.ViewLemmas.{inside-of, one-at, set-there, begins-all, beginnings-meet, own-event, IsGrown, grown-same, grown-event, begins-grown, tickets-set, not-spent, all-taken-stay, all-taken-stays, each-stays, placed-stays, counts-stay}
 
 pub same-workers : {W : Type 0} (a b : History W) → Some (opening a) ≡ Some (opening b) → a.workers ≡ b.workers
 same-workers {W = W} a b same = let is : opening a ≡ opening b = cc in ap (λ (h : History W). h.workers) is
@@ -65,6 +65,7 @@ module _ {W M : Type 0} (made : W → ℕ → List M → M) (board : History W) 
         few = subst (λ (n : ℕ). n ≤ board.workers) (sym long) r.few;
         small = r.small;
         counts = counts-stay s.views id v w at refl refl refl r.counts;
+        all_taken = all-taken-stays s.views id v w at (not-spent w (opening board) known.program_is) refl r.all_taken;
         each =
             each-stays board r.log now s.views id v w at alive grown r.each record {
               program_is = known.program_is;

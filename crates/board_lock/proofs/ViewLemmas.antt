@@ -11,7 +11,7 @@ use Rattle.board_core.specs.declared.event.Event.{Event}
 use Rattle.board_core.specs.History.{History}
 use Rattle.board_laws.specs.OwnEvents.{worker_of, own_events}
 use Rattle.board_lock.specs.declared.view.View.{View}
-use Rattle.board_lock.specs.Rule.{IsBeginning, spent, ticket_of, program_weight, spents, IsTakenIn, IsKnown, IsPlaced}
+use Rattle.board_lock.specs.Rule.{Holds, IsBeginning, spent, ticket_of, program_weight, spents, IsTakenIn, IsKnown, IsPlaced}
 
 pub inside-of : {A : Type 0} (l : List A) (i : ℕ) (a : A) → get_elem? l i ≡ some a → i < length l
 inside-of [] i a at = absurd (some-ne-none a (sym at))
@@ -116,6 +116,21 @@ module _ {W M : Type 0} where
       (long ∙ was.0 ∙ ap (λ (n : ℕ). n + 1) (sym splits_are), spent_are ∙ was.1 ∙ ap length (sym taken_is)))
       (λ (e : (0 ≢ id) × (get_elem? views 0 ≡ some u)). let was = counts u e.1 in (long ∙ was.0, spent_are ∙ was.1))
       (at_set views id 0 w u there)
+
+  abbrev pub AllTaken : List (View W M) → Type 0
+  AllTaken views = (id : ℕ) (first : View W M) → get_elem? views 0 ≡ some first → get_elem? views id ≡ some spent → Holds first.taken id
+
+  pub all-taken-stays : (views : List (View W M)) (id : ℕ) (v w : View W M) → get_elem? views id ≡ some v → w ≢ spent → w.taken ≡ v.taken → AllTaken views → AllTaken (set views id w)
+  all-taken-stays views id v w at alive taken_is all j u first gone =
+      ⊎_elim (λ (e : (j ≡ id) × (w ≡ spent)). absurd (alive e.1))
+      (λ (e : (j ≢ id) × (get_elem? views j ≡ some spent)).
+      ⊎_elim
+      (λ (f : (0 ≡ id) × (w ≡ u)).
+      let was = all j v (ap (get_elem? views) f.0 ∙ at) e.1 in
+      subst (λ (taken : List (ℕ × List Event)). Holds taken j) (sym taken_is ∙ ap (λ (x : View W M). x.taken) f.1) was)
+      (λ (f : (0 ≢ id) × (get_elem? views 0 ≡ some u)). all j u f.1 e.1)
+      (at_set views id 0 w u first))
+      (at_set views id j w spent gone)
 
   -- two seats that are not taken in are two more than those that are
   pub two-left : (views : List (View W M)) (i j : ℕ) (v w : View W M) (a b : History W) → get_elem? views i ≡ some v → get_elem? views j ≡ some w → i ≢ j

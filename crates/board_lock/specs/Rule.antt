@@ -1,6 +1,6 @@
 -- The rule of the lock: one history, tickets in a row, and the board at home or with the seat that has the turn.
 use Rattle.std.specs.Prelude.{◌≡◌, ◌≢◌, ℕ, ◌+◌, ◌%◌, ◌^◌, ◌<◌, ◌≤◌, ◌⊎◌, true, false, Option, None, Some, List, [], ◌∷◌, ◌++◌, length, map}
-use Rattle.std.specs.List.{All}
+use Rattle.std.specs.List.{All, Contains}
 use mathlib.Core.Option.{none, some}
 use lib.ListN.{get_elem?}
 use Rattle.atomic_table.specs.Table.{State}
@@ -20,6 +20,10 @@ with_events board events = record { ranks = board.ranks; deps = board.deps; work
 
 abbrev pub IsBeginning : List Event → List Event → Type 0
 IsBeginning front log = (later : List Event) × (log ≡ front ++ later)
+
+-- the number is one of these
+abbrev pub Holds : List (ℕ × List Event) → ℕ → Type 0
+Holds taken number = (own : List Event) × Contains taken (number, own)
 
 -- ---- tickets
 
@@ -101,6 +105,7 @@ module _ {W M : Type 0} where
     pub few : length table.views ≤ board.workers
     pub small : board.workers < 2 ^ 32
     pub counts : (view : View W M) → get_elem? table.views 0 ≡ some view → (length table.views ≡ view.splits + 1) × (spents table.views ≡ length view.taken)
+    pub all_taken : (id : ℕ) (view : View W M) → get_elem? table.views 0 ≡ some view → get_elem? table.views id ≡ some spent → Holds view.taken id
     pub each : (id : ℕ) (view : View W M) → get_elem? table.views id ≡ some view → (view ≡ spent) ⊎ IsKnown board log table.views id view
     pub later : (id : ℕ) → length table.views ≤ id → own_events id log ≡ []
     pub placed : IsPlaced board log served table.homes table.views

@@ -1,5 +1,5 @@
 -- What contracts see of a seat.
-use Rattle.std.specs.Prelude.{◌≡◌, ℕ, ◌+◌, ◌<◌, ◌⊎◌, true, false, Bool, Option, None, Some, List, [], ◌∷◌, ◌++◌}
+use Rattle.std.specs.Prelude.{◌≡◌, ℕ, ◌+◌, ◌<◌, ◌≤◌, ◌⊎◌, true, false, Bool, Option, None, Some, List, [], ◌∷◌, ◌++◌}
 use Rattle.std.specs.List.{All}
 use Rattle.atomic_table.specs.Seated.{TableId}
 use Rattle.atomic_table.specs.declared.shared.Seat.{Seat}
@@ -8,7 +8,7 @@ use Rattle.board_core.specs.Board.{IsLegal}
 use Rattle.board_core.specs.History.{History, program_of}
 use Rattle.board_laws.specs.OwnEvents.{own_events}
 use Rattle.board_lock.specs.declared.view.View.{View}
-use Rattle.board_lock.specs.Rule.{opening, IsBeginning}
+use Rattle.board_lock.specs.Rule.{opening, Holds, IsBeginning}
 
 -- A seat: the board that it is a seat of, without its events; its number; the history as it last saw it; the events by
 -- its number; each number that it has taken in, with the events by it; whether it has the turn; how many seats it has split.
@@ -85,13 +85,15 @@ pub record IsTaken {W M : Type 0} (made : W → ℕ → List M → M) (seat : Si
   pub known : seat.number < board.workers
 
 -- The board is of the program that the seat names. Its history is legal and begins with the front of the seat, the
--- events by each number that the seat holds are its own list, and there is none by a number that was never split off.
+-- events by each number that the seat holds are its own list, it holds each number that was split off, and there is none
+-- by another number.
 pub record Closes {W M : Type 0} (made : W → ℕ → List M → M) (seat : Sitting W) (board : History W) : Type 0 where
   pub program_is : seat.program ≡ Some (opening board)
   pub legal : IsLegal (program_of made board) board.events
   pub begins : IsBeginning seat.front board.events
   pub own : own_events seat.number board.events ≡ seat.own
   pub taken : All (λ taken. own_events taken.0 board.events ≡ taken.1) seat.taken
+  pub each : (number : ℕ) → number ≤ seat.splits → (number ≡ seat.number) ⊎ Holds seat.taken number
   pub no_other : (number : ℕ) → seat.splits < number → own_events number board.events ≡ []
 
 module _ {W M : Type 0} where
