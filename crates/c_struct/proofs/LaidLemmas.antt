@@ -14,7 +14,8 @@ use Rattle.c_elaboration.specs.declared.rule.Rule.TheVariants.{NotConstant}
 use Rattle.c_elaboration.specs.State.{MaybeType, State, if_some, or_broken}
 use Rattle.c_elaboration.specs.Leaves.{begin_of}
 use Rattle.c_elaboration.specs.Specifiers.{Specified}
-use Rattle.c_elaboration.specs.DeclaredTypes.{MaybeSize, pointers_to, array_by, arrays_of, sizes_of, is_void, is_large, with_elements, other_is_empty, first_is_empty, type_if, small_type, unless_empty, unstarred, starred, is_object_of, object_type}
+use Rattle.c_elaboration.specs.DeclaredTypes.{MaybeSize, pointers_to, array_by, arrays_of, sizes_of, is_void, is_large, with_elements, other_is_empty}
+use Rattle.c_elaboration.specs.DeclaredTypes.{first_is_empty, type_if, small_type, unless_empty, unstarred, starred, is_object_of, object_type}
 use Rattle.c_elaboration.specs.Operands.{term_constant}
 use Rattle.c_elaboration.specs.Expressions as expressions
 use Rattle.c_elaboration.specs.Expressions.{size_by, expression, dimensions}
@@ -55,7 +56,8 @@ pub dimensions-sizes : (t : Tree) (s : State) → AllSizes (dimensions t s).0
 dimensions-sizes (Node (l.More k) (Cons before (Cons opening (Cons bound none)))) s =
     let ns = dimensions before s in
     let a = expression bound ns.1 in
-    sizes-more ns.0 (expressions.size (begin_of bound) a.0 a.1).0 (dimensions-sizes before s) (or-size (begin_of bound) (option_and_then size_by (term_constant a.0)) a.1 (constant-size (term_constant a.0)))
+    sizes-more ns.0 (expressions.size (begin_of bound) a.0 a.1).0 (dimensions-sizes before s)
+    (or-size (begin_of bound) (option_and_then size_by (term_constant a.0)) a.1 (constant-size (term_constant a.0)))
 dimensions-sizes t s = tt
 
 -- ---- from the type before the stars on

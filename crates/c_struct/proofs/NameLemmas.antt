@@ -1,5 +1,6 @@
 -- The set of the names of members, one member more.
 use Rattle.std.proofs.Common.{◌≡◌, Bool, true, false, List, [], ◌∷◌, ◌++◌, fold, refl, sym, ap, ◌∙◌}
+use Rattle.std.proofs.Math.Bool.{or_assoc, or-false}
 use Rattle.std.specs.Prelude.{◌||◌, if◌then◌else◌}
 use Rattle.std.specs.Cmp.Lexicographic.{nat_list_eq_equiv}
 use Rattle.std.proofs.lemmas.List.Folds.{list_any-append}
@@ -7,14 +8,6 @@ use Rattle.c_scope.specs.Scopes.{Name, same_name}
 use Rattle.c_scope.specs.Names.{has_name, with_name}
 use Rattle.c_elaboration.specs.Externals.{Member, has_member}
 use Rattle.c_struct.specs.MemberLists.{names_of, name_set}
-
-or-false : (a : Bool) → (a || false) ≡ a
-or-false true = refl
-or-false false = refl
-
-or-joined : (a b c : Bool) → ((a || b) || c) ≡ (a || (b || c))
-or-joined true b c = refl
-or-joined false b c = refl
 
 -- a name that is the same as another is among the names where that is
 same-among : (ns : List Name) (m n : Name) → same_name m n ≡ true → has_name ns m ≡ has_name ns n
@@ -38,7 +31,7 @@ has-fold : (ns : List Name) (xs : List Member) (name : Name) → has_name (fold 
 has-fold ns [] name = sym (or-false (has_name ns name))
 has-fold ns (x ∷ xs) name =
     has-fold (with_name ns x.name) xs name ∙ ap (λ b. b || has_member xs name) (with-has ns x.name name)
-    ∙ or-joined (has_name ns name) (same_name x.name name) (has_member xs name)
+    ∙ or_assoc (has_name ns name) (same_name x.name name) (has_member xs name)
 
 pub has-set : (xs : List Member) (name : Name) → has_name (name_set xs) name ≡ has_member xs name
 has-set xs name = has-fold [] xs name

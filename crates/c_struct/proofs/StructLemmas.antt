@@ -1,5 +1,5 @@
 -- A struct by the names and types of its members, and each part of its definition.
-use Rattle.std.proofs.Common.{◌≡◌, ℕ, Bool, true, false, List, [], Option, None, Some, is_some, refl, sym, ap, ◌∙◌, eq-eqb}
+use Rattle.std.proofs.Common.{◌≡◌, ℕ, Bool, true, false, List, [], is_some, refl, sym, ap, ◌∙◌, eq-eqb}
 use Rattle.std.specs.Prelude.{nat_le, not, if◌then◌else◌}
 use Rattle.std.proofs.lemmas.Bool.{false≢true}
 use Rattle.limits.specs.Limits.{most_type_bytes}
@@ -8,47 +8,13 @@ use Rattle.c_type.specs.Trees.{TypeTree}
 use Rattle.c_type.specs.Layout.{Definition, Definitions, is_defined, struct_size}
 use Rattle.c_type.specs.LaidUpTo.{struct_bytes}
 use Rattle.c_scope.specs.Scopes.{Name}
-use Rattle.c_elaboration.specs.declared.rule.Broken.{Broken}
 use Rattle.c_elaboration.specs.declared.rule.Rule.TheVariants.{Redeclared, BadType}
 use Rattle.c_elaboration.specs.State.{State, breaks_if}
 use Rattle.c_elaboration.specs.Externals.{Member, types_of, is_large_struct, members, more_members, defined}
-use Rattle.c_struct.specs.MemberLists.{names_of, name_set, AreReady}
 use Rattle.c_struct.specs.Structs.{are_large, with_names, struct_of, struct_tagged}
 
 pub large-is : (defs : Definitions) (tag : ℕ) (ts : List TypeTree) → is_large_struct defs (record { tag = tag; members = ts }) ≡ are_large defs ts
 large-is defs tag ts = ap (λ (b : Bool). not (nat_le (if b then struct_bytes defs ts else struct_size defs tag) most_type_bytes)) (eq-eqb tag tag refl)
-
--- Where a rule is broken, the names do not matter.
-broken-names : (tag offset : ℕ) (names others : List Name) (ts : List TypeTree) (s : State) (b : Broken) → s.broken ≡ Some b →
-    (struct_of tag offset names ts s).1 ≡ (struct_of tag offset others ts s).1
-broken-names tag offset names others ts s b e = by_test (is_large_struct s.structs (record { tag = tag; members = ts }))
-  where
-    d : Definition
-    d = record { tag = tag; members = ts }
-
-    by_broken : (t : State) (o : Option Broken) → t.broken ≡ o → is_some o ≡ true →
-        (if is_some t.broken then t else with_names d names t) ≡ (if is_some t.broken then t else with_names d others t)
-    by_broken t o p q =
-        let r : is_some t.broken ≡ true = ap is_some p ∙ q in
-        ap (λ (x : Bool). if x then t else with_names d names t) r ∙ sym (ap (λ (x : Bool). if x then t else with_names d others t) r)
-
-    by_test : (large : Bool) →
-        (if is_some (breaks_if large BadType offset s).1.broken then (breaks_if large BadType offset s).1 else with_names d names (breaks_if large BadType offset s).1)
-        ≡ (if is_some (breaks_if large BadType offset s).1.broken then (breaks_if large BadType offset s).1 else with_names d others (breaks_if large BadType offset s).1)
-    by_test true = refl
-    by_test false = by_broken s (Some b) e refl
-
--- The names of members that are ready are a set, unless a rule is broken.
-pub defined-is : (tag offset : ℕ) (xs : List Member) (ts : List TypeTree) (s : State) → AreReady s tag xs → types_of xs ≡ Some ts →
-    (struct_of tag offset (name_set xs) ts s).1 ≡ (defined tag offset xs (types_of xs) s).1
-defined-is tag offset xs ts s ready e = by_broken s.broken refl ∙ ap (λ o. (defined tag offset xs o s).1) (sym e)
-  where
-    by_broken : (b : Option Broken) → s.broken ≡ b → (struct_of tag offset (name_set xs) ts s).1 ≡ (struct_of tag offset (names_of xs) ts s).1
-    by_broken None h = ap (λ ns. (struct_of tag offset ns ts s).1) (ready.distinct h)
-    by_broken (Some b) h = broken-names tag offset (name_set xs) (names_of xs) ts s b h
-
-pub defined-none : (tag offset : ℕ) (xs : List Member) (s : State) → types_of xs ≡ None → s ≡ (defined tag offset xs (types_of xs) s).1
-defined-none tag offset xs s e = ap (λ o. (defined tag offset xs o s).1) (sym e)
 
 -- ---- where a rule is broken, and where none is
 

@@ -23,5 +23,6 @@ loop-x-preserved c =
     let some : x.type ≡ Some t = sym (ap (λ (x : Member). x.type) c.x.view_is) ∙ c.in-Some.ensures in
     let grown : take (i + 1) xs ≡ take i xs ++ x ∷ [] = take_more xs i x (omega arith) ∙ ap (λ ys. take i xs ++ ys ∷ []) (sym c.x-item.is) in
     let copied : c.in_ok-copy-in-Some.field-0 ≡ t = c.in_ok-copy-in-Some.ensures ∙ c.deref.ensures in
+    let pushed : c.push.new.self.items ≡ c.loop-x.types.items ++ c.in_ok-copy-in-Some.field-0 ∷ [] = c.in_ok-push-in-Some.ensures.items in
     ap types_of grown ∙ types-more (take i xs) x c.loop-x.types.items t c.loop-x.invariant some
-    ∙ ap (λ u. Some (c.loop-x.types.items ++ u ∷ [])) (sym copied) ∙ ap Some (sym c.in_ok-push-in-Some.ensures.items)
+    ∙ ap (λ u. Some (c.loop-x.types.items ++ u ∷ [])) (sym copied) ∙ ap Some (sym pushed)
