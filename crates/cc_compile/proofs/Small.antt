@@ -1,0 +1,89 @@
+-- A program that passes no limit is small.
+use Rattle.std.proofs.Common.{◌≡◌, ◌≤◌, ℕ, zero, suc, ◌+◌, Bool, true, false, List, [], ◌∷◌, length, map, refl, sym, subst, arith}
+use Rattle.std.specs.Prelude.{nat_lt, if◌then◌else◌, Option, None, Some, option_map, slice_get}
+use Rattle.std.specs.List.{sum, sum_by}
+use Rattle.std.specs.Option.{option_or}
+use Rattle.std.proofs.lemmas.Bool.Decides.{nat_tests}
+use Rattle.std.proofs.lemmas.List.Sums.{sum-map, sum_by-cons}
+use Rattle.limits.specs.Limits.{most_functions, most_parameters, most_object_bytes, most_global_bytes, most_lambda_values}
+use Rattle.c_type.specs.Layout.{Definitions}
+use Rattle.c_typed.specs.Typed.{FunctionTree, GlobalTree, ProgramTree}
+use Rattle.c_elaboration.specs.declared.rule.Quantity.{Quantity}
+use Rattle.c_elaboration.specs.declared.rule.Quantity.TheVariants.{Parameters, ObjectBytes, GlobalBytes, Functions}
+use Rattle.c_elaboration.specs.Refusals.{above_limit}
+use Rattle.c_elaboration.specs.Limits.{many_functions, first_above, bytes_of, object_bytes, global_bytes, passing, many_global_bytes, above_limits}
+use Rattle.g_construct.specs.Functions.{function_values}
+use Rattle.g_build.specs.Passed.{first_large, limit_passed, most_built_values}
+use Rattle.g_built.specs.BuiltLaws.{FunctionIsSmall, IsSmall}
+use Rattle.cc_compile.specs.Compiled.{UnlimitedAreSmall}
+
+-- ---- options that are none
+
+or_none : {X : Type 0} (a b : Option X) → option_or a b ≡ None → (a ≡ None) × (b ≡ None)
+or_none None b h = (refl, h)
+or_none (Some x) b h = absurd cc
+
+map_none : {X Y : Type 0} (f : X → Y) (a : Option X) → option_map f a ≡ None → a ≡ None
+map_none f None h = refl
+map_none f (Some x) h = absurd cc
+
+if_none : {X : Type 0} (t : Bool) (x : X) (rest : Option X) → (if t then Some x else rest) ≡ None → (t ≡ false) × (rest ≡ None)
+if_none true x rest h = absurd cc
+if_none false x rest h = (refl, h)
+
+at_most : (m n : ℕ) → nat_lt m n ≡ false → n ≤ m
+at_most m n h = grind (arith, nat_tests, h)
+
+-- ---- each function
+
+few : {X : Type 0} (xs : List X) (n : ℕ) → slice_get xs n ≡ None → length xs ≤ n
+few [] n h = omega arith
+few (x ∷ xs) zero h = absurd cc
+few (x ∷ xs) (suc n) h = omega (arith, few xs n h)
+
+none_above : (q : Quantity) (most : ℕ) (count : FunctionTree → ℕ) (fs : List FunctionTree) → first_above q most count fs ≡ None →
+    (k : ℕ) (f : FunctionTree) → slice_get fs k ≡ Some f → count f ≤ most
+none_above q most count [] h k f e = absurd cc
+none_above q most count (g ∷ fs) h zero f e =
+    let same : g ≡ f = cc in
+    let within = if_none (nat_lt most (count g)) (above_limit q g.at (count g)) (first_above q most count fs) h in
+    subst (λ (x : FunctionTree). count x ≤ most) same (at_most most (count g) within.0)
+none_above q most count (g ∷ fs) h (suc k) f e =
+    none_above q most count fs (if_none (nat_lt most (count g)) (above_limit q g.at (count g)) (first_above q most count fs) h).1 k f e
+
+none_large : (fs : List FunctionTree) → first_large fs ≡ None → (k : ℕ) (f : FunctionTree) → slice_get fs k ≡ Some f → function_values f ≤ most_lambda_values
+none_large [] h k f e = absurd cc
+none_large (g ∷ fs) h zero f e =
+    let same : g ≡ f = cc in
+    subst (λ (x : FunctionTree). function_values x ≤ most_lambda_values) same (at_most most_lambda_values (function_values g) (if_none (nat_lt most_lambda_values (function_values g)) _ (first_large fs) h).0)
+none_large (g ∷ fs) h (suc k) f e = none_large fs (if_none (nat_lt most_lambda_values (function_values g)) _ (first_large fs) h).1 k f e
+
+-- ---- the globals
+
+none_passing : (defs : Definitions) (n : ℕ) (gs : List GlobalTree) → n ≤ most_global_bytes → passing defs n gs ≡ None → n + sum_by (global_bytes defs) gs ≤ most_global_bytes
+none_passing defs n [] small h = omega (arith, small)
+none_passing defs n (g ∷ gs) small h =
+    let within = if_none (nat_lt most_global_bytes (n + global_bytes defs g)) g.at (passing defs (n + global_bytes defs g) gs) h in
+    omega (arith, none_passing defs (n + global_bytes defs g) gs (at_most most_global_bytes (n + global_bytes defs g) within.0) within.1, sum_by-cons (global_bytes defs) g gs)
+
+-- ---- the program
+
+pub unlimited_are_small : UnlimitedAreSmall
+unlimited_are_small p checked built =
+    let first = or_none (many_functions p.functions) _ checked in
+    let second = or_none (first_above Parameters most_parameters (λ f. f.params) p.functions) _ first.1 in
+    let third = or_none (first_above ObjectBytes most_object_bytes (object_bytes p.structs) p.functions) (many_global_bytes p.structs p.globals) second.1 in
+    let values = or_none (first_large p.functions) _ built in
+    let all = if_none (nat_lt most_built_values (sum_by function_values p.functions)) _ None values.1 in
+    record {
+      functions = few p.functions most_functions (map_none _ (slice_get p.functions most_functions) first.0);
+      each = λ k f e. record {
+        parameters = none_above Parameters most_parameters (λ f. f.params) p.functions second.0 k f e;
+        objects =
+            subst (λ n. n ≤ most_object_bytes) (sum-map (bytes_of p.structs) f.variables)
+            (none_above ObjectBytes most_object_bytes (object_bytes p.structs) p.functions third.0 k f e);
+        values = none_large p.functions values.0 k f e;
+      };
+      values = omega (arith, at_most most_built_values (sum_by function_values p.functions) all.0);
+      globals = omega (arith, none_passing p.structs 0 p.globals (omega arith) (map_none _ (passing p.structs 0 p.globals) third.1));
+    }
