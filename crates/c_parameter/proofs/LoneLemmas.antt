@@ -22,7 +22,7 @@ use Rattle.c_ast.specs.Specifiers.{constant, base_tree, spec_tree}
 use Rattle.c_ast.specs.Declarations.{open_dimension}
 use Rattle.c_ast.specs.Externals.{AreNone, param as param_tree, params as params_tree}
 use Rattle.c_ast.proofs.ListLemmas.{many-none}
-use Rattle.c_declaration.proofs.DeclarationLemmas.{count-many}
+use Rattle.c_expression.proofs.ListLemmas.{count_many}
 use Rattle.c_elaboration.specs.Leaves.{count_of}
 use Rattle.c_elaboration.specs.State.{State, pure}
 use Rattle.c_elaboration.specs.Externals.{Param, is_lone_void, param, more_params, params}
@@ -81,7 +81,7 @@ void-lone span = refl
 
 nothing-more : (xs : List (Next ParamItem)) → (count_of (many l.MoreParams (next param_tree) xs) == 0) ≡ true → xs ≡ []
 nothing-more [] h = refl
-nothing-more (x ∷ xs) h = let n = count-many l.MoreParams (next param_tree) (x ∷ xs) in let none = eqb-true (count_of (many l.MoreParams (next param_tree) (x ∷ xs))) 0 h in absurd (omega (arith, n, none))
+nothing-more (x ∷ xs) h = let n = count_many l.MoreParams (next param_tree) (x ∷ xs) in let none = eqb-true (count_of (many l.MoreParams (next param_tree) (x ∷ xs))) 0 h in absurd (omega (arith, n, none))
 
 abbrev pub lone : Params → Bool
 lone p = is_lone_void (param_tree p.first) && (count_of (many l.MoreParams (next param_tree) p.more) == 0)
@@ -89,7 +89,7 @@ lone p = is_lone_void (param_tree p.first) && (count_of (many l.MoreParams (next
 none-lone : (p : Params) → AreNone p → lone p ≡ true
 none-lone p h =
     ap lone h.1 ∙ ap (λ b. b && (count_of (many l.MoreParams (next param_tree) []) == 0)) (void-lone h.0)
-    ∙ ap (λ (n : ℕ). n == 0) (count-many l.MoreParams (next param_tree) [])
+    ∙ ap (λ (n : ℕ). n == 0) (count_many l.MoreParams (next param_tree) [])
 
 lone-none : (p : Params) → lone p ≡ true → AreNone p
 unfolding param_tree

@@ -14,7 +14,7 @@ use Rattle.c_ast.specs.Declarations.{open_dimensions as dimension_trees}
 use Rattle.c_ast.specs.Externals.{param as param_tree}
 use Rattle.c_ast.specs.Specifiers.{constant, spec_tree}
 use Rattle.c_ast.proofs.ListLemmas.{many-none, many-snoc}
-use Rattle.c_declaration.proofs.DeclarationLemmas.{count-many}
+use Rattle.c_expression.proofs.ListLemmas.{count_many}
 use Rattle.c_scope.specs.Scopes.{Name}
 use Rattle.c_elaboration.specs.State.{State}
 use Rattle.c_elaboration.specs.Leaves.{begin_of, is_present}
@@ -57,7 +57,7 @@ unfolding param_tree param_specified param_typed
 param-of x s s1 y p q =
     let z = specified_type (spec_tree x.spec) s in
     let named = opt l.ParamName (λ i. name i ∷ []) x.name in
-    let n = count-many l.Stars (λ span. mark m.Star span ∷ []) x.stars in
+    let n = count_many l.Stars (λ span. mark m.Star span ∷ []) x.stars in
     let whole : param (param_tree x) s ≡ made x (is_present (constant x.qualifier)) (length x.stars) (param_name named) z.0 z.1 =
     ap (λ n. made x (is_present (constant x.qualifier)) n (param_name named) z.0 z.1) n in
     whole ∙ ap (λ b. made x b (length x.stars) (param_name named) z.0 z.1) (present x.qualifier)
