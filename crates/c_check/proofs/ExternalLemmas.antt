@@ -31,12 +31,9 @@ use Rattle.c_elaboration.specs.Declarators.{global_declarator, more_globals}
 use Rattle.c_elaboration.specs.Externals.{struct, function, after_name, external}
 use Rattle.c_elaboration.specs.Check.{externals}
 use Rattle.c_check.specs.Functions.{unless_broken}
+use Rattle.c_declaration.proofs.DeclarationLemmas.{present}
 
 -- ---- specifiers
-
-present : (q : Option Span) → is_present (constant q) ≡ is_some q
-present None = refl
-present (Some a) = refl
 
 some_same : (a b : ℕ) → Some a ≡ Some b → a ≡ b
 some_same a b h = ap (λ o. unwrap_or o 0) h

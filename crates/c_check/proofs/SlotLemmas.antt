@@ -19,21 +19,9 @@ use Rattle.c_sound.proofs.lemmas.Steps.{Steps, breaks_if_steps, if_some_steps, t
 use Rattle.c_sound.proofs.lemmas.StatementSteps.{open_dimensions_steps, unless_empty_steps}
 use Rattle.c_statement.proofs.lemmas.Slots.{Adds, adds_none, adds_then, keeps_slots, items_adds, entered}
 use Rattle.c_check.specs.Functions.{body_items}
+use Rattle.c_sound.proofs.lemmas.Params.{adjusted_steps, param_type_steps}
 
 -- ---- types of parameters
-
-adjusted_steps : (offset : ℕ) (t : MaybeType) (ds : List Dimension) → Steps (adjusted offset t ds)
-adjusted_steps offset t [] s = stay s
-adjusted_steps offset t (d ∷ ds) s = if_some_steps (elements_type t (size_of_dimension d) ds) (small_type offset) (small_type_steps offset) s
-
-param_type_steps : (offset : ℕ) (x : Specified) (stars : ℕ) (ds : List Dimension) → Steps (param_type offset x stars ds)
-param_type_steps offset x stars ds s =
-    let u = starred (elements_specified x ds) stars offset s in
-    let t = if_some u.0 (λ t. type_if (not (is_param_of s.structs t ds)) offset t) u.1 in
-    let v = adjusted offset t.0 ds t.1 in
-    step_then s u.1 _ (starred_steps (elements_specified x ds) stars offset s)
-    (step_then u.1 t.1 _ (if_some_steps u.0 _ (λ t. type_if_steps (not (is_param_of s.structs t ds)) offset t) u.1)
-    (step_then t.1 v.1 _ (adjusted_steps offset t.0 ds t.1) (unless_empty_steps (other_is_empty ds) offset v.0 v.1)))
 
 -- ---- parameters in scope
 

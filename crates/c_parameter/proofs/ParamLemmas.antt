@@ -23,6 +23,7 @@ use Rattle.c_elaboration.specs.declared.dimension.Dimension.{Dimension}
 use Rattle.c_elaboration.specs.Declarators.{open_dimensions, is_fixed}
 use Rattle.c_elaboration.specs.Externals.{Param, param, param_name, param_offset, more_params}
 use Rattle.c_parameter.specs.Params.{param_typed, param_specified}
+use Rattle.c_declaration.proofs.DeclarationLemmas.{present}
 
 -- ---- repetitions
 
@@ -35,10 +36,6 @@ pub params-more : (xs : List (Next ParamItem)) (x : Next ParamItem) (s : State) 
 params-more xs x s = ap (λ t. more_params t s) (many-snoc l.MoreParams (next param_tree) xs x)
 
 -- ---- one parameter
-
-present : (q : Option Span) → is_present (constant q) ≡ is_some q
-present None = refl
-present (Some a) = refl
 
 name-is : (x : Option Identifier) → param_name (opt l.ParamName (λ i. name i ∷ []) x) ≡ option_map (λ (i : Identifier). i.name) x
 name-is None = refl

@@ -20,7 +20,7 @@ use Rattle.c_elaboration.specs.Operands.{term_constant}
 use Rattle.c_elaboration.specs.Expressions as expressions
 use Rattle.c_elaboration.specs.Expressions.{size_by, expression, dimensions}
 use Rattle.c_sound.proofs.lemmas.Steps.{starred_steps, type_if_steps, if_some_steps}
-use Rattle.c_sound.proofs.lemmas.Types.{IsNoArray}
+use Rattle.c_sound.proofs.lemmas.Types.{IsNoArray, object_is_complete}
 use Rattle.c_struct.specs.MemberLists.{LaidIfSome}
 
 -- ---- sizes of at least one
@@ -82,20 +82,13 @@ abbrev CompleteIfSome : Definitions → MaybeType → Type 0
 CompleteIfSome defs None = Unit {0}
 CompleteIfSome defs (Some t) = is_complete defs t ≡ true
 
-object-complete : (defs : Definitions) (t : TypeTree) → IsNoArray t → is_object_of defs t ≡ true → is_complete defs t ≡ true
-object-complete defs void_type h e = absurd (false≢true e)
-object-complete defs (scalar_type s) h e = refl
-object-complete defs (pointer_to t) h e = refl
-object-complete defs (array_of t n) h e = absurd h
-object-complete defs (struct_type tag) h e = e
-
 module _ (defs : Definitions) (offset : ℕ) where
   object-if : (u : MaybeType) (s : State) → NoArrayIfSome u → CompleteIfSome defs (if_some u (λ t. type_if (not (is_object_of defs t)) offset t) s).0
   object-if None s h = tt
   object-if (Some t) s h = by_test (is_object_of defs t) refl
     where
       by_test : (b : Bool) → is_object_of defs t ≡ b → CompleteIfSome defs (type_if (not b) offset t s).0
-      by_test true e = object-complete defs t h e
+      by_test true e = object_is_complete defs t h e
       by_test false e = tt
 
   array-complete : (n : MaybeSize) (t : MaybeType) → SizeIfSome n → CompleteIfSome defs t → CompleteIfSome defs (option_and_then (array_by n) t)

@@ -1,7 +1,7 @@
 mod StructLemmas
 mod SizeLemmas
-mod Levels
-mod Bounds
+pub mod Levels
+pub mod Bounds
 mod LeafLemmas
 mod MemberLemmas
 mod Indices

@@ -16,16 +16,13 @@ use Rattle.g_construct.specs.Functions.{function_values}
 use Rattle.g_build.specs.Passed.{first_large, limit_passed, most_built_values}
 use Rattle.g_built.specs.BuiltLaws.{FunctionIsSmall, IsSmall}
 use Rattle.cc_compile.specs.Compiled.{UnlimitedAreSmall}
+use Rattle.g_graph.proofs.ChangeLemmas.{none_map}
 
 -- ---- options that are none
 
 or_none : {X : Type 0} (a b : Option X) → option_or a b ≡ None → (a ≡ None) × (b ≡ None)
 or_none None b h = (refl, h)
 or_none (Some x) b h = absurd cc
-
-map_none : {X Y : Type 0} (f : X → Y) (a : Option X) → option_map f a ≡ None → a ≡ None
-map_none f None h = refl
-map_none f (Some x) h = absurd cc
 
 if_none : {X : Type 0} (t : Bool) (x : X) (rest : Option X) → (if t then Some x else rest) ≡ None → (t ≡ false) × (rest ≡ None)
 if_none true x rest h = absurd cc
@@ -76,7 +73,7 @@ unlimited_are_small p checked built =
     let values = or_none (first_large p.functions) _ built in
     let all = if_none (nat_lt most_built_values (sum_by function_values p.functions)) _ None values.1 in
     record {
-      functions = few p.functions most_functions (map_none _ (slice_get p.functions most_functions) first.0);
+      functions = few p.functions most_functions (none_map _ (slice_get p.functions most_functions) first.0);
       each = λ k f e. record {
         parameters = none_above Parameters most_parameters (λ f. f.params) p.functions second.0 k f e;
         objects =
@@ -85,5 +82,5 @@ unlimited_are_small p checked built =
         values = none_large p.functions values.0 k f e;
       };
       values = omega (arith, at_most most_built_values (sum_by function_values p.functions) all.0);
-      globals = omega (arith, none_passing p.structs 0 p.globals (omega arith) (map_none _ (passing p.structs 0 p.globals) third.1));
+      globals = omega (arith, none_passing p.structs 0 p.globals (omega arith) (none_map _ (passing p.structs 0 p.globals) third.1));
     }

@@ -9,12 +9,9 @@ use Rattle.c_typed.specs.Typed.{WrittenTree, word_at, link_at, characters_at}
 use Rattle.c_typed.specs.WellTyped.{WrittenFits}
 use Rattle.g_construct.specs.Globals.{byte_at, bytes_from}
 use Rattle.g_build.specs.Globals.{StandApart, bytes_end, item_bytes}
+use Rattle.g_construct.proofs.lemmas.Programs.{bytes_counted}
 
 -- ---- bytes
-
-counted : (ws : List WrittenTree) (i n : ℕ) → length (bytes_from ws i n) ≡ n
-counted ws i zero = refl
-counted ws i (suc n) = ap suc (counted ws (suc i) n)
 
 bytes_append : (ws : List WrittenTree) (i m n : ℕ) → bytes_from ws i (m + n) ≡ bytes_from ws i m ++ bytes_from ws (i + m) n
 bytes_append ws i zero n =
@@ -37,12 +34,12 @@ unwritten i (suc n) = ap (λ t. 0 ∷ t) (unwritten (suc i) n)
 
 -- ---- items
 
--- where a byte is before an item, behind it, and within it
+-- where a byte is before an item, after it, and within it
 before : (o e j b c : ℕ) → j < o → (if nat_le o j && nat_lt j e then b else c) ≡ c
 before o e j b c h = ap (λ t. if t && nat_lt j e then b else c) (lt-leb o j h)
 
-behind : (o e j b c : ℕ) → o ≤ j → e ≤ j → (if nat_le o j && nat_lt j e then b else c) ≡ c
-behind o e j b c h k = ap (λ t. if t && nat_lt j e then b else c) (le-leb o j h) ∙ ap (λ t. if t then b else c) (le-ltb j e k)
+past_end : (o e j b c : ℕ) → o ≤ j → e ≤ j → (if nat_le o j && nat_lt j e then b else c) ≡ c
+past_end o e j b c h k = ap (λ t. if t && nat_lt j e then b else c) (le-leb o j h) ∙ ap (λ t. if t then b else c) (le-ltb j e k)
 
 inside : (o e j b c : ℕ) → o ≤ j → j < e → (if nat_le o j && nat_lt j e then b else c) ≡ b
 inside o e j b c h k = ap (λ t. if t && nat_lt j e then b else c) (le-leb o j h) ∙ ap (λ t. if t then b else c) (lt-ltb j e k)
@@ -86,10 +83,10 @@ within_item n j (characters_at o cs) ws h below =
 
 past_item : (n j : ℕ) (x : WrittenTree) (ws : List WrittenTree) → bytes_end n x ≤ j → byte_at (x ∷ ws) j ≡ byte_at ws j
 past_item n j (word_at o width w) ws past =
-    behind o (o + width) j (w / 2 ^ (8 * (j - o)) % 2 ^ 8) (byte_at ws j) (omega (arith, past)) past
+    past_end o (o + width) j (w / 2 ^ (8 * (j - o)) % 2 ^ 8) (byte_at ws j) (omega (arith, past)) past
 past_item n j (link_at o k) ws past = refl
 past_item n j (characters_at o cs) ws past =
-    behind o (o + length cs) j (slice_index_or cs (j - o) 0) (byte_at ws j) (omega (arith, past)) past
+    past_end o (o + length cs) j (slice_index_or cs (j - o) 0) (byte_at ws j) (omega (arith, past)) past
 
 item_first : (n k : ℕ) (x : WrittenTree) (ws : List WrittenTree) → StandApart n (x ∷ ws)
     → bytes_from (x ∷ ws) n (bytes_end n x - n + k) ≡ item_bytes n x ++ bytes_from ws (bytes_end n x) k
@@ -148,7 +145,7 @@ byte_of ws i (suc n) (suc k) h =
 
 characters_at_start : (o : ℕ) (cs : List ℕ) → bytes_from (characters_at o cs ∷ []) o (length cs) ≡ cs
 characters_at_start o cs =
-    let size : length (bytes_from (characters_at o cs ∷ []) o (length cs)) ≡ length cs = counted (characters_at o cs ∷ []) o (length cs) in
+    let size : length (bytes_from (characters_at o cs ∷ []) o (length cs)) ≡ length cs = bytes_counted (characters_at o cs ∷ []) o (length cs) in
     ext_get_or 0 (bytes_from (characters_at o cs ∷ []) o (length cs)) cs size
     (λ i below.
     let h : i < length cs = omega (arith, below, size) in
@@ -174,12 +171,12 @@ pub new_length : (bytes : List ℕ) (x : WrittenTree) (ws : List WrittenTree) �
 new_length bytes x ws h =
     let later : length bytes ≤ bytes_end (length bytes) x = ends_later (length bytes) x ws h in
     let size : length (item_bytes (length bytes) x) ≡ bytes_end (length bytes) x - length bytes
-    = counted (x ∷ []) (length bytes) (bytes_end (length bytes) x - length bytes) in
+    = bytes_counted (x ∷ []) (length bytes) (bytes_end (length bytes) x - length bytes) in
     length-append bytes (item_bytes (length bytes) x) ∙ omega (arith, later, size)
 
-bytes_behind : (x : WrittenTree) (ws all : List WrittenTree) (bytes : List ℕ) → StandApart (length bytes) (x ∷ ws)
+bytes_after_item : (x : WrittenTree) (ws all : List WrittenTree) (bytes : List ℕ) → StandApart (length bytes) (x ∷ ws)
     → AreBytesBefore (x ∷ ws) all bytes → AreBytesBefore ws all (bytes ++ item_bytes (length bytes) x)
-bytes_behind x ws all bytes h made k =
+bytes_after_item x ws all bytes h made k =
     let later : length bytes ≤ bytes_end (length bytes) x = ends_later (length bytes) x ws h in
     let size : length (bytes ++ item_bytes (length bytes) x) ≡ bytes_end (length bytes) x = new_length bytes x ws h in
     let whole : length bytes + (bytes_end (length bytes) x - length bytes + k) ≡ length (bytes ++ item_bytes (length bytes) x) + k
@@ -192,7 +189,7 @@ bytes_behind x ws all bytes h made k =
 
 pub bytes_more : (x : WrittenTree) (ws all : List WrittenTree) (bytes new : List ℕ) → StandApart (length bytes) (x ∷ ws)
     → AreBytesBefore (x ∷ ws) all bytes → new ≡ bytes ++ item_bytes (length bytes) x → AreBytesBefore ws all new
-bytes_more x ws all bytes new h made e = subst (AreBytesBefore ws all) (sym e) (bytes_behind x ws all bytes h made)
+bytes_more x ws all bytes new h made e = subst (AreBytesBefore ws all) (sym e) (bytes_after_item x ws all bytes h made)
 
 pub apart_more : (x : WrittenTree) (ws : List WrittenTree) (bytes new : List ℕ) → StandApart (length bytes) (x ∷ ws)
     → new ≡ bytes ++ item_bytes (length bytes) x → StandApart (length new) ws
@@ -216,7 +213,7 @@ bytes_ended all bytes n size e made = subst (λ m. take size bytes ++ replicate 
         let whole : length bytes + 0 ≡ size + (length bytes - size) = omega (arith, long) in
         ap (λ m. take size bytes ++ replicate m 0) none ∙ append-nil (take size bytes)
         ∙ ap (take size) (sym (append-nil bytes) ∙ made 0 ∙ ap (bytes_from all 0) whole ∙ bytes_append all 0 size (length bytes - size))
-        ∙ take_at (bytes_from all 0 size) (bytes_from all (0 + size) (length bytes - size)) size (counted all 0 size)
+        ∙ take_at (bytes_from all 0 size) (bytes_from all (0 + size) (length bytes - size)) size (bytes_counted all 0 size)
 
 -- ---- of a well-typed program
 

@@ -11,7 +11,7 @@ use Rattle.g_graph.specs.Change.{region_changed, node_changed, nodes_changed, re
 pub region_changed_here : (f : RegionTree → Option RegionTree) (r s : RegionTree) → f r ≡ Some s → region_changed f r ≡ Some s
 region_changed_here f (region args nodes results) s e = ap (λ o. option_or o (option_map (λ ns. region args ns results) (nodes_changed f nodes))) e
 
-none_map : {X Y : Type 0} (g : X → Y) (o : Option X) → option_map g o ≡ None → o ≡ None
+pub none_map : {X Y : Type 0} (g : X → Y) (o : Option X) → option_map g o ≡ None → o ≡ None
 none_map g None e = refl
 none_map g (Some x) e = absurd (cc)
 

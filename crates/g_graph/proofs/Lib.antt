@@ -1,10 +1,10 @@
 pub mod lemmas
 mod Examples
-mod ChangeLemmas
+pub mod ChangeLemmas
 mod EqualLemmas
 mod KindLemmas
 mod Mapped
 mod NestLemmas
-mod SpliceKept
+pub mod SpliceKept
 mod ScopeMaps
 mod StateLemmas

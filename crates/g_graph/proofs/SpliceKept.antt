@@ -93,7 +93,7 @@ joined_some : (x : Option (Option Kind)) (k : Kind) → joined x ≡ Some k → 
 joined_some None k e = absurd (cc)
 joined_some (Some y) k e = ap Some e
 
-some_at : (ks : List Kind) (j : ℕ) (k : Kind) → slice_get (map Some ks) j ≡ Some (Some k) → slice_get ks j ≡ Some k
+pub some_at : (ks : List Kind) (j : ℕ) (k : Kind) → slice_get (map Some ks) j ≡ Some (Some k) → slice_get ks j ≡ Some k
 some_at [] j k e = absurd (cc)
 some_at (c ∷ ks) zero k e = cc
 some_at (c ∷ ks) (suc j) k e = some_at ks j k e

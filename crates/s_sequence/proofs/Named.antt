@@ -78,7 +78,7 @@ are_values (Some Io ∷ xs) (Value ∷ ks) e = absurd (cc)
 are_values (Some Io ∷ xs) (Memory ∷ ks) e = absurd (cc)
 are_values (Some Io ∷ xs) (Io ∷ ks) e = are_values xs ks e
 
-body_values : (n : ℕ) → value_args (replicate n Value ++ Memory ∷ Io ∷ []) ≡ n
+pub body_values : (n : ℕ) → value_args (replicate n Value ++ Memory ∷ Io ∷ []) ≡ n
 body_values zero = refl
 body_values (suc n) = ap suc (body_values n)
 
@@ -109,7 +109,7 @@ all_names no_regions = refl
 all_names (region_then r no_regions) = refl
 all_names (region_then r (region_then s rs)) = omega (arith, all_names (region_then s rs))
 
-standing_names : (rs : RegionTrees) → first_standing rs ≤ regions_names rs
+pub standing_names : (rs : RegionTrees) → first_standing rs ≤ regions_names rs
 standing_names no_regions = omega arith
 standing_names (region_then r no_regions) = omega arith
 standing_names (region_then r (region_then s no_regions)) = omega arith

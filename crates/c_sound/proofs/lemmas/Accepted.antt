@@ -109,7 +109,7 @@ get_none (x ∷ xs) zero h = absurd (cc)
 get_none (x ∷ xs) (suc n) h = let r = get_none xs n h in omega (arith, r)
 
 -- the count of no function is above the most
-none_above : (q : Quantity) (most : ℕ) (count : FunctionTree → ℕ) (fs : List FunctionTree) → first_above q most count fs ≡ None → (k : ℕ) (f : FunctionTree) → slice_get fs k ≡ Some f → count f ≤ most
+pub none_above : (q : Quantity) (most : ℕ) (count : FunctionTree → ℕ) (fs : List FunctionTree) → first_above q most count fs ≡ None → (k : ℕ) (f : FunctionTree) → slice_get fs k ≡ Some f → count f ≤ most
 none_above q most count [] h k f e = absurd (cc)
 none_above q most count (g ∷ fs) h k f e = by_test (nat_lt most (count g)) refl h k e (none_above q most count fs)
   where

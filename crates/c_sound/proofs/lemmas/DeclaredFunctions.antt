@@ -15,13 +15,13 @@ use Rattle.c_elaboration.specs.declared.rule.Rule.TheVariants.{Redeclared}
 use Rattle.c_elaboration.specs.State.{MaybeType, Declared, State, breaks_if, changed_by, changed}
 use Rattle.c_elaboration.specs.Externals.{agree, all_agree, may_follow, declared_again, function_meant, declare_function}
 use Rattle.c_sound.proofs.lemmas.States.{AllTypes, declared_as}
-use Rattle.c_sound.proofs.lemmas.Steps.{breaks_if_steps}
+use Rattle.c_sound.proofs.lemmas.Steps.{breaks_if_steps, get_append}
 use Rattle.c_sound.proofs.lemmas.Terms.{get_end, set_there}
 use Rattle.c_sound.proofs.lemmas.Labels.{not_wrong}
 use Rattle.c_sound.proofs.lemmas.Locals.{declared_meaning}
 use Rattle.c_sound.proofs.lemmas.Declared.{set_other}
 use Rattle.c_sound.proofs.lemmas.There.{GlobalTyped, FunctionTyped}
-use Rattle.c_sound.proofs.lemmas.File.{StillDeclared, still_declared, Onward, GlobalsFit, FunctionKnown, File, get_more}
+use Rattle.c_sound.proofs.lemmas.File.{StillDeclared, still_declared, Onward, GlobalsFit, FunctionKnown, File}
 use Rattle.c_sound.proofs.lemmas.Names.{kept_new, new_meaning}
 
 -- ---- a file, whatever its variables
@@ -130,9 +130,9 @@ new_function name f t ts s result params h none =
         no_variables = λ asked slot b q. no_variable asked slot b q (declared_meaning s.scopes name m asked);
         globals_named = λ asked k b q. by_global asked k b q (declared_meaning s.scopes name m asked);
         functions_named = λ asked k q. by_function asked k q (declared_meaning s.scopes name m asked);
-        put = get_more s.declared (f ∷ []) 0 _ h.put;
-        get = get_more s.declared (f ∷ []) 1 _ h.get;
-        exit = get_more s.declared (f ∷ []) 2 _ h.exit;
+        put = get_append s.declared (f ∷ []) 0 _ h.put;
+        get = get_append s.declared (f ∷ []) 1 _ h.get;
+        exit = get_append s.declared (f ∷ []) 2 _ h.exit;
         structs = h.structs;
         globals = h.globals;
         functions = λ k g q.
@@ -141,7 +141,7 @@ new_function name f t ts s result params h none =
               number = r.number;
               meant = kept g.name (means.Function r.number) r.meant;
               declared = r.declared;
-              there = get_more s.declared
+              there = get_append s.declared
                   (f ∷ []) r.number r.declared r.there;
               defined = r.defined;
               result = r.result;
@@ -153,7 +153,7 @@ new_function name f t ts s result params h none =
         structs = ([], refl);
         defined = refl;
         globals = λ k g q. q;
-        declared = λ k d q. still_declared d (s.declared ++ f ∷ []) k (get_more s.declared (f ∷ []) k d q);
+        declared = λ k d q. still_declared d (s.declared ++ f ∷ []) k (get_append s.declared (f ∷ []) k d q);
         functions = λ k g q. q;
         names = λ clean asked k q. kept asked k q;
       };
@@ -191,7 +191,7 @@ new_function name f t ts s result params h none =
         subst (FunctionTyped (s.declared ++ f ∷ [])) same (record { function = f; there = get_end s.declared f; result = t; has = result; types = ts; takes = params })
     by_function asked k q (inr a) =
         let g = h.functions_named asked k (sym a ∙ q) in
-        record { function = g.function; there = get_more s.declared (f ∷ []) k g.function g.there; result = g.result; has = g.has; types = g.types; takes = g.takes }
+        record { function = g.function; there = get_append s.declared (f ∷ []) k g.function g.there; result = g.result; has = g.has; types = g.types; takes = g.takes }
 
 -- a function that was declared before, with the same types
 again_function : (name : Name) (f : Declared) (t : TypeTree) (ts : List TypeTree) (s : State) (k : ℕ) (g : Declared) → f.result ≡ Some t → AllTypes f.params ts → Core s →

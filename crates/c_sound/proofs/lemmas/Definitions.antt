@@ -6,16 +6,9 @@ use mathlib.Core.Path.{fun_ext}
 use Rattle.c_type.specs.Trees.{TypeTree, void_type, scalar_type, pointer_to, array_of, struct_type}
 use Rattle.c_type.specs.Layout.{Definition, Definitions, is_defined, is_complete, rounded_up, align, largest, size, struct_size, members_end, offset, offset_from, leaves_at, struct_leaves, members_leaves, repeated, members, IsLaidOut}
 use Rattle.c_type.specs.WellDefined.{AreLaidOut, AreDefinitions}
+use Rattle.c_type.proofs.Levels.{other-tag}
 
 -- ---- one more definition
-
--- a tag that is defined is no new one
-other_tag : (ds : Definitions) (tag new : ℕ) → is_defined ds tag ≡ true → is_defined ds new ≡ false → (new == tag) ≡ false
-other_tag ds tag new here absent = by_test (new == tag) refl
-  where
-    by_test : (b : Bool) → (new == tag) ≡ b → (new == tag) ≡ false
-    by_test false e = e
-    by_test true e = absurd (false≢true (sym absent ∙ ap (is_defined ds) (eqb-true new tag e) ∙ here))
 
 module _ (d : Definition) (ds : Definitions) (new : is_defined ds d.tag ≡ false) where
   pub size_later : (t : TypeTree) → is_complete ds t ≡ true → size (d ∷ ds) t ≡ size ds t
@@ -23,7 +16,7 @@ module _ (d : Definition) (ds : Definitions) (new : is_defined ds d.tag ≡ fals
   size_later (scalar_type s) h = refl
   size_later (pointer_to t) h = refl
   size_later (array_of t n) h = ap (λ s. n * s) (size_later t (and_parts (not (n == 0)) (is_complete ds t) h).1)
-  size_later (struct_type k) h = ap (λ b. cond b (rounded_up (members_end (size ds) (align ds) 0 d.members) (largest (align ds) d.members)) (struct_size ds k)) (other_tag ds k d.tag h new)
+  size_later (struct_type k) h = ap (λ b. cond b (rounded_up (members_end (size ds) (align ds) 0 d.members) (largest (align ds) d.members)) (struct_size ds k)) (other-tag ds k d.tag h new)
 
   pub leaves_later : (t : TypeTree) → is_complete ds t ≡ true → leaves_at (d ∷ ds) t ≡ leaves_at ds t
   leaves_later void_type h = refl
@@ -33,13 +26,13 @@ module _ (d : Definition) (ds : Definitions) (new : is_defined ds d.tag ≡ fals
       let c = (and_parts (not (n == 0)) (is_complete ds t) h).1 in
       fun_ext (λ at. ap₂ (λ s f. repeated n s at f) (size_later t c) (leaves_later t c))
   leaves_later (struct_type k) h =
-      fun_ext (λ at. ap (λ b. cond b (members_leaves (size ds) (align ds) (leaves_at ds) at 0 d.members) (struct_leaves ds k at)) (other_tag ds k d.tag h new))
+      fun_ext (λ at. ap (λ b. cond b (members_leaves (size ds) (align ds) (leaves_at ds) at 0 d.members) (struct_leaves ds k at)) (other-tag ds k d.tag h new))
 
   members_later : (k : ℕ) → is_defined ds k ≡ true → members (d ∷ ds) k ≡ members ds k
-  members_later k h = ap (λ b. cond b d.members (members ds k)) (other_tag ds k d.tag h new)
+  members_later k h = ap (λ b. cond b d.members (members ds k)) (other-tag ds k d.tag h new)
 
   offset_later : (k i : ℕ) → is_defined ds k ≡ true → offset (d ∷ ds) k i ≡ offset ds k i
-  offset_later k i h = ap (λ b. cond b (offset_from (size ds) (align ds) 0 d.members i) (offset ds k i)) (other_tag ds k d.tag h new)
+  offset_later k i h = ap (λ b. cond b (offset_from (size ds) (align ds) 0 d.members i) (offset ds k i)) (other-tag ds k d.tag h new)
 
   pub complete_later : (t : TypeTree) → is_complete ds t ≡ true → is_complete (d ∷ ds) t ≡ true
   complete_later void_type h = h
@@ -48,7 +41,7 @@ module _ (d : Definition) (ds : Definitions) (new : is_defined ds d.tag ≡ fals
   complete_later (array_of t n) h =
       let b = and_parts (not (n == 0)) (is_complete ds t) h in
       ap₂ (λ x y. x && y) b.0 (complete_later t b.1)
-  complete_later (struct_type k) h = ap (λ b. b || is_defined ds k) (other_tag ds k d.tag h new) ∙ h
+  complete_later (struct_type k) h = ap (λ b. b || is_defined ds k) (other-tag ds k d.tag h new) ∙ h
 
 -- ---- any number of definitions
 

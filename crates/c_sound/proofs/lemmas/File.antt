@@ -20,6 +20,7 @@ use Rattle.c_sound.proofs.lemmas.Locals.{some_elements}
 use Rattle.c_sound.proofs.lemmas.Initialisers.{bytes_at, bytes_array}
 use Rattle.c_sound.proofs.lemmas.Texts.{IsText, AreTexts, Texts}
 use Rattle.c_sound.proofs.lemmas.Goes.{Named, AreLaid}
+use Rattle.c_sound.proofs.lemmas.Steps.{get_append}
 
 -- ---- one state of a file after another
 
@@ -163,13 +164,8 @@ length_more (x ∷ xs) ys = let n = length_more xs ys in omega (arith, n)
 pub texts_length : (s t : State) → Texts s t → length s.globals ≤ length t.globals
 texts_length s t a = let e = ap length a.globals in let n = length_more s.globals a.added in omega (arith, e, n)
 
-pub get_more : {A : Type 0} → (xs ys : List A) (k : ℕ) (x : A) → slice_get xs k ≡ Some x → slice_get (xs ++ ys) k ≡ Some x
-get_more [] ys k x h = absurd (cc)
-get_more (z ∷ xs) ys zero x h = h
-get_more (z ∷ xs) ys (suc k) x h = get_more xs ys k x h
-
 pub texts_keep : (s t : State) → Texts s t → (k : ℕ) (g : Global) → slice_get s.globals k ≡ Some g → slice_get t.globals k ≡ Some g
-texts_keep s t a k g h = ap (λ gs. slice_get gs k) a.globals ∙ get_more s.globals a.added k g h
+texts_keep s t a k g h = ap (λ gs. slice_get gs k) a.globals ∙ get_append s.globals a.added k g h
 
 pub globals_more : (s t : State) (ds : Definitions) → Texts s t → t.structs ≡ ds ++ s.structs → AreDefinitions t.structs → GlobalsFit s → GlobalsFit t
 globals_more s t ds a same w h k g here = by_place (get_split s.globals a.added k g (ap (λ gs. slice_get gs k) (sym a.globals) ∙ here))

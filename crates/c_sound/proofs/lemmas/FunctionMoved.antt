@@ -26,12 +26,13 @@ use Rattle.c_sound.proofs.lemmas.Parts.{Layouts}
 use Rattle.c_sound.proofs.lemmas.Texts.{Texts, same_globals, texts_then}
 use Rattle.c_sound.proofs.lemmas.GoesLocals.{declarations}
 use Rattle.c_sound.proofs.lemmas.GoesStatements.{items_goes}
-use Rattle.c_sound.proofs.lemmas.File.{Onward, onward_step, onward_then, still_declared, FunctionKnown, known_later, File, file_more, Moved, moved_step, get_more}
+use Rattle.c_sound.proofs.lemmas.File.{Onward, onward_step, onward_then, still_declared, FunctionKnown, known_later, File, file_more, Moved, moved_step}
 use Rattle.c_sound.proofs.lemmas.Params.{result_type_steps, result_type_quiet, result_type_typed, ParamsAre, params_same, params_out}
-use Rattle.c_sound.proofs.lemmas.Names.{same_is}
+use Rattle.c_scope.proofs.LatestLemmas.{same-equal}
 use Rattle.c_sound.proofs.lemmas.DeclaredFunctions.{Core, core_of, file_cleared, FunctionOut, declare_function_broken, declare_function_out}
 use Rattle.c_sound.proofs.lemmas.FunctionBodies.{name_params_steps, name_params_quiet, bind_out, params_types, Entry, Ended}
 use Rattle.c_sound.proofs.lemmas.TypedFunctions.{body_typed}
+use Rattle.c_sound.proofs.lemmas.Steps.{get_append}
 
 -- ---- states that differ in variables
 
@@ -132,7 +133,7 @@ not_among name [] h = refl
 not_among name (f ∷ fs) h = by_test (same_name name f.name) refl (not_among name fs (λ k g q e. h (suc k) g q e))
   where
     by_test : (b : Bool) → same_name name f.name ≡ b → has_name (names_of fs) name ≡ false → (b || has_name (names_of fs) name) ≡ false
-    by_test true e k = absurd (h 0 f refl (sym (same_is name f.name e)))
+    by_test true e k = absurd (h 0 f refl (sym (same-equal name f.name e)))
     by_test false e k = k
 
 names_append : (fs : List FunctionTree) (f : FunctionTree) → names_of (fs ++ f ∷ []) ≡ names_of fs ++ f.name ∷ []
@@ -224,7 +225,7 @@ block_out y name offset starts r u ps f opening xs closing none s d defined is r
       defined = o.defined;
       globals = o.globals;
       declared = o.declared;
-      functions = λ m g q. get_more w.functions (new ∷ []) m g
+      functions = λ m g q. get_append w.functions (new ∷ []) m g
           (o.functions m g q);
       names = o.names;
     } in

@@ -27,8 +27,9 @@ use Rattle.c_sound.proofs.lemmas.Initialisers.{ElementsWithin, within_fits, init
 use Rattle.c_sound.proofs.lemmas.Locals.{declared_meaning, get_append_cases}
 use Rattle.c_sound.proofs.lemmas.Declared.{set_other, set_length}
 use Rattle.c_sound.proofs.lemmas.Texts.{Texts}
-use Rattle.c_sound.proofs.lemmas.File.{GlobalFits, File, global_wider, get_split, text_at, text_fits, texts_length, get_more, no_variables_after, nothing_at, length_more}
+use Rattle.c_sound.proofs.lemmas.File.{GlobalFits, File, global_wider, get_split, text_at, text_fits, texts_length, no_variables_after, nothing_at, length_more}
 use Rattle.c_sound.proofs.lemmas.Names.{name_at, get_map, signature_now, signature_is}
+use Rattle.c_sound.proofs.lemmas.Steps.{get_append}
 
 -- ---- what is written
 
@@ -228,7 +229,7 @@ begun_bound name k m s t x h = record {
 pub begun_added : (s : State) (g : Global) → File s → Begun (length s.globals) s (add_global g s).1 g
 begun_added s g h = record {
   below = refl;
-  kept = λ j x q. get_more s.globals (g ∷ []) j x q;
+  kept = λ j x q. get_append s.globals (g ∷ []) j x q;
   others = λ j x other here. by_place j x other (get_append_cases s.globals g x j here);
   there = get_end s.globals g;
   structs = refl;

@@ -16,9 +16,7 @@ use Rattle.c_elaboration.specs.declared.meaning.Meaning.{Meaning}
 use Rattle.c_elaboration.specs.declared.meaning.Meaning.TheVariants as means
 use Rattle.c_elaboration.specs.State.{MaybeType, Declared, State}
 use Rattle.c_sound.proofs.lemmas.States.{AllTypes}
-
-pub same_is : (x y : Name) → same_name x y ≡ true → x ≡ y
-same_is x y h = (bytes_eq-Decides x y).0 h
+use Rattle.c_scope.proofs.LatestLemmas.{same-equal}
 
 pub same_self : (x : Name) → same_name x x ≡ true
 same_self x = (bytes_eq-Decides x x).1 refl
@@ -33,7 +31,7 @@ kept_meaning x name m asked n new h = by_test (same_name asked name) refl
     clash (Some o) e q = false≢true (sym e)
 
     by_test : (b : Bool) → same_name asked name ≡ b → option_or (cond b (Some m) (lookup (same_name asked) x)) None ≡ Some n
-    by_test true e = absurd (clash (lookup (same_name name) x) new (ap (λ k. option_or (lookup (same_name k) x) None) (sym (same_is asked name e)) ∙ h))
+    by_test true e = absurd (clash (lookup (same_name name) x) new (ap (λ k. option_or (lookup (same_name k) x) None) (sym (same-equal asked name e)) ∙ h))
     by_test false e = h
 
 -- where a name had no meaning, all others keep theirs
@@ -42,7 +40,7 @@ pub kept_new : (x : Scope Meaning) (name : Name) (m : Meaning) (asked : Name) (n
 kept_new x name m asked n new h = by_test (same_name asked name) refl
   where
     by_test : (b : Bool) → same_name asked name ≡ b → option_or (cond b (Some m) (lookup (same_name asked) x)) None ≡ Some n
-    by_test true e = absurd (let both : None ≡ Some n = sym new ∙ ap (meaning (x ∷ [])) (sym (same_is asked name e)) ∙ h in cc)
+    by_test true e = absurd (let both : None ≡ Some n = sym new ∙ ap (meaning (x ∷ [])) (sym (same-equal asked name e)) ∙ h in cc)
     by_test false e = h
 
 -- the name that is declared has its new meaning
@@ -54,7 +52,7 @@ new_meaning x name m = ap (λ b. option_or (cond b (Some m) (lookup (same_name n
 pub name_at : (names : List Name) (name : Name) (n : ℕ) → number_of names name ≡ Some n → slice_get names n ≡ Some name
 name_at names name n h =
     let r = position-Some (same_name name) names n [] h in
-    slice_get-get_or names n [] r.0 ∙ ap Some (sym (same_is name (get_or names n []) r.1))
+    slice_get-get_or names n [] r.0 ∙ ap Some (sym (same-equal name (get_or names n []) r.1))
 
 pub get_map : {A B : Type 0} → (f : A → B) (xs : List A) (k : ℕ) (x : A) → slice_get xs k ≡ Some x → slice_get (map f xs) k ≡ Some (f x)
 get_map f [] k x h = absurd (cc)

@@ -32,7 +32,7 @@ use Rattle.c_sound.proofs.lemmas.StatementTexts.{open_dimensions_texts, unless_e
 
 -- ---- types of parameters and results
 
-adjusted_steps : (offset : ℕ) (t : MaybeType) (ds : List Dimension) → Steps (adjusted offset t ds)
+pub adjusted_steps : (offset : ℕ) (t : MaybeType) (ds : List Dimension) → Steps (adjusted offset t ds)
 adjusted_steps offset t [] s = stay s
 adjusted_steps offset t (d ∷ ds) s = if_some_steps (elements_type t (size_of_dimension d) ds) (small_type offset) (small_type_steps offset) s
 
@@ -40,7 +40,7 @@ adjusted_quiet : (offset : ℕ) (t : MaybeType) (ds : List Dimension) → Quiet 
 adjusted_quiet offset t [] s = refl
 adjusted_quiet offset t (d ∷ ds) s = if_some_quiet (elements_type t (size_of_dimension d) ds) (small_type offset) (small_type_quiet offset) s
 
-param_type_steps : (offset : ℕ) (x : Specified) (stars : ℕ) (ds : List Dimension) → Steps (param_type offset x stars ds)
+pub param_type_steps : (offset : ℕ) (x : Specified) (stars : ℕ) (ds : List Dimension) → Steps (param_type offset x stars ds)
 param_type_steps offset x stars ds s =
     let u = starred (elements_specified x ds) stars offset s in
     let f = λ (t : TypeTree). type_if (not (is_param_of s.structs t ds)) offset t in

@@ -12,6 +12,7 @@ use Rattle.c_typed.specs.WellTyped.{HasLeaf}
 use Rattle.c_elaboration.specs.State.{MaybeType}
 use Rattle.c_elaboration.specs.Initialisers.{part_type, part_offset, parts_of}
 use Rattle.c_sound.proofs.lemmas.Definitions.{leaves_later, size_later, member_laid, laid_at}
+use Rattle.c_type.proofs.Bounds.{round-lower}
 
 -- what the layouts of types keep to
 pub record Layouts : Type 0 where
@@ -116,16 +117,13 @@ width_positive n (inl e) = omega (arith, e)
 width_positive n (inr (inl e)) = omega (arith, e)
 width_positive n (inr (inr e)) = omega (arith, e)
 
-round_lower : (n a : ℕ) → 0 < a → n ≤ rounded_up n a
-round_lower n a h = let e = mul_comm ((n + (a - 1)) / a) a in omega (arith, e)
-
 offsets_rise : (s a : TypeTree → ℕ) → ((t : TypeTree) → 0 < a t) → (at : ℕ) (ts : List TypeTree) (i : ℕ) (t : TypeTree) → slice_get ts i ≡ Some t → suc i < length ts →
     offset_from s a at ts i + s t ≤ offset_from s a at ts (suc i)
 offsets_rise s a h at [] i t e below = absurd (cc)
 offsets_rise s a h at (u ∷ []) zero t e below = absurd (omega (arith, below))
 offsets_rise s a h at (u ∷ v ∷ ts) zero t e below =
     let same : u ≡ t = cc in
-    let r = round_lower (rounded_up at (a u) + s u) (a v) (h v) in
+    let r = round-lower (rounded_up at (a u) + s u) (a v) (h v) in
     subst (λ t. rounded_up at (a u) + s t ≤ rounded_up (rounded_up at (a u) + s u) (a v)) same r
 offsets_rise s a h at (u ∷ ts) (suc i) t e below = offsets_rise s a h (rounded_up at (a u) + s u) ts i t e (omega (arith, below))
 

@@ -94,7 +94,7 @@ change_variable_steps slot f h s = record {
   variables = changed_same f h s.variables (variable_in s.slots slot);
 }
 
-get_append : {A : Type 0} → (xs ys : List A) (k : ℕ) (x : A) → slice_get xs k ≡ Some x → slice_get (xs ++ ys) k ≡ Some x
+pub get_append : {A : Type 0} → (xs ys : List A) (k : ℕ) (x : A) → slice_get xs k ≡ Some x → slice_get (xs ++ ys) k ≡ Some x
 get_append [] ys k x e = absurd (cc)
 get_append (z ∷ xs) ys zero x e = e
 get_append (z ∷ xs) ys (suc k) x e = get_append xs ys k x e

@@ -54,7 +54,7 @@ starred_typed x (suc n) offset s h clean = by_test (is_void x.type) clean
     by_test true q = absurd (cc)
     by_test false q = record { type = pointers_to x.type (suc n); there = refl; holds = tt }
 
-object_is_complete : (defs : Definitions) (t : TypeTree) → IsNoArray t → is_object_of defs t ≡ true → is_complete defs t ≡ true
+pub object_is_complete : (defs : Definitions) (t : TypeTree) → IsNoArray t → is_object_of defs t ≡ true → is_complete defs t ≡ true
 object_is_complete defs void_type h e = absurd (false≢true e)
 object_is_complete defs (scalar_type s) h e = refl
 object_is_complete defs (pointer_to t) h e = refl

@@ -29,7 +29,7 @@ lambdas_stand_at_their_numbers p k =
 pub globals_stand_at_their_numbers : GlobalsStandAtTheirNumbers
 globals_stand_at_their_numbers p k = slice_get-map (global_made p.structs) p.globals k
 
-bytes_counted : (ws : List WrittenTree) (i n : ℕ) → length (bytes_from ws i n) ≡ n
+pub bytes_counted : (ws : List WrittenTree) (i n : ℕ) → length (bytes_from ws i n) ≡ n
 bytes_counted ws i zero = refl
 bytes_counted ws i (suc n) = ap suc (bytes_counted ws (suc i) n)
 

@@ -52,7 +52,7 @@ at-kind (j ∷ ks) [] h p k e = absurd h
 at-kind (j ∷ ks) (x ∷ xs) h zero k e = let same : j ≡ k = cc in subst (λ z. IsOfKind z x) same h.0
 at-kind (j ∷ ks) (x ∷ xs) h (suc p) k e = at-kind ks xs h.1 p k e
 
-joined-some : (ks : List Kind) (p : ℕ) (k : Kind) → joined (slice_get (map Some ks) p) ≡ Some k → slice_get ks p ≡ Some k
+pub joined-some : (ks : List Kind) (p : ℕ) (k : Kind) → joined (slice_get (map Some ks) p) ≡ Some k → slice_get ks p ≡ Some k
 joined-some [] p k e = absurd cc
 joined-some (j ∷ ks) zero k e = e
 joined-some (j ∷ ks) (suc p) k e = joined-some ks p k e
@@ -125,7 +125,7 @@ gives-out ks (Undefined o) h = tt
 
 -- ---- the map
 
-after-more : (before : List NodeTree) (x : NodeTree) (n p : ℕ) (found : Option Kind) →
+pub after-more : (before : List NodeTree) (x : NodeTree) (n p : ℕ) (found : Option Kind) →
     kind_after (nodes_of (before ++ x ∷ [])) n p found ≡ cond (id_of x == n) (joined (slice_get (output_kinds x) p)) (kind_after (nodes_of before) n p found)
 after-more [] x n p found = refl
 after-more (y ∷ before) x n p found = after-more before x n p (cond (id_of y == n) (joined (slice_get (output_kinds y) p)) found)
@@ -160,7 +160,7 @@ eight a b c d e f g h t =
     let v = and_parts (a && b) c u.0 in
     ((and_parts a b v.0).0, u.1, s.1)
 
-node-tests : (k : ℕ) (args : List Kind) (b : NodeTrees) (x : NodeTree) → node_fits k args b x ≡ true → NodeTests args b x
+pub node-tests : (k : ℕ) (args : List Kind) (b : NodeTrees) (x : NodeTree) → node_fits k args b x ≡ true → NodeTests args b x
 node-tests k args b x t =
     let w = eight (inputs_fit args b x) (inputs_are_last args b x) (node_has_one_state_each args b x) (has_its_regions x) (regions_fit x) (theta_has_states x) (has_its_width x)
     (has_its_object k x) t in
@@ -308,7 +308,7 @@ memory-place (suc count) (memory k ∷ xs) h zero m e = absurd h.0
 memory-place (suc count) (input i ∷ xs) h zero m e = absurd h.0
 memory-place (suc count) (x ∷ xs) h (suc n) m e = ap suc (memory-place count xs h.1 n m e)
 
-found-well : (ls : List PlainLambda) → AreWellFormed ls → (f : ℕ) (l : PlainLambda) → slice_get ls f ≡ Some l → well_formed l ≡ true
+pub found-well : (ls : List PlainLambda) → AreWellFormed ls → (f : ℕ) (l : PlainLambda) → slice_get ls f ≡ Some l → well_formed l ≡ true
 found-well [] h f l e = absurd cc
 found-well (k ∷ ls) h zero l e = let same : k ≡ l = cc in subst (λ z. well_formed z ≡ true) same h.0
 found-well (k ∷ ls) h (suc f) l e = found-well ls h.1 f l e

@@ -89,7 +89,7 @@ theta-by : (test : Bool) (a b : Bool) → (a ≡ true → b ≡ true) → (test 
 theta-by true a b h e = refl
 theta-by false a b h e = h e
 
-theta-gives : (k : Kind) (ks : List Kind) → some_of (same_kind k) ks ≡ true → some_of (is_of k) (map Some ks) ≡ true
+pub theta-gives : (k : Kind) (ks : List Kind) → some_of (same_kind k) ks ≡ true → some_of (is_of k) (map Some ks) ≡ true
 theta-gives k [] e = e
 theta-gives k (j ∷ ks) e = theta-by (same_kind k j) (some_of (same_kind k) ks) (some_of (is_of k) (map Some ks)) (theta-gives k ks) e
 
