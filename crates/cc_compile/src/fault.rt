@@ -1,0 +1,28 @@
+//! Why a source is not compiled.
+
+use c_check::CheckFault;
+use c_lex::LexFault;
+use c_parse::ParseFault;
+use g_build::BuildFault;
+use thiserror::Error;
+
+/// Why a source is not compiled: the fault of one of the phases. A fault of a phase is never its
+/// `NoMemory`.
+#[derive(Clone, Copy, Debug, Error)]
+pub enum CompileFault {
+    /// The source has no tokens (ISO/IEC 9899:2011, 6.4).
+    #[error("{0}")]
+    Lex(LexFault),
+    /// The tokens have no tree (6.5 to 6.9).
+    #[error("{0}")]
+    Parse(ParseFault),
+    /// The tree breaks a rule (6.5 to 6.9), or a limit of programs is passed.
+    #[error("{0}")]
+    Check(CheckFault),
+    /// A limit of the values of graphs is passed.
+    #[error("{0}")]
+    Build(BuildFault),
+    /// Memory ran out.
+    #[error("out of memory")]
+    NoMemory,
+}
