@@ -6,6 +6,8 @@ use Rattle.cc_command.specs.Forms.{Form, OptionForm, Value, text, number, comman
 
 -- what the arguments ask for; names are the bytes of their text
 pub data Command : Type 0 where
+  -- say whether the source on the input is accepted
+  accept : Command
   -- compile the source of the first name to the image of the second
   build : List ℕ → List ℕ → Command
   -- run the image of the name for at most this many instructions
@@ -89,6 +91,8 @@ generate_form = record {
 abbrev pub forms : List (Form Command)
 forms = build_form ∷ run_form ∷ generate_form ∷ []
 
--- The command of all arguments, the program's name first.
+-- The command of all arguments, the program's name first. No arguments at all are read as the name alone.
 abbrev pub command_of : List Text → Option Command
-command_of = command_among forms
+command_of [] = Some accept
+command_of (program ∷ []) = Some accept
+command_of (program ∷ name ∷ arguments) = command_among forms (program ∷ name ∷ arguments)

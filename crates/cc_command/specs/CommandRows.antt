@@ -1,6 +1,6 @@
 -- Lists of arguments with their commands.
 use Rattle.std.specs.Prelude.{◌≡◌, ℕ, List, [], ◌∷◌, Option, Some, None, codes}
-use Rattle.cc_command.specs.Command.{Command, build, run, generate, command_of}
+use Rattle.cc_command.specs.Command.{Command, accept, build, run, generate, command_of}
 
 -- the command of the arguments after the program's name
 abbrev pub command_after_name : List (List ℕ) → Option Command
@@ -19,10 +19,10 @@ pub record BuildRows : Type 0 where
   pub unknown_option : command_after_name (codes "build" ∷ codes "a" ∷ codes "b" ∷ codes "--work" ∷ codes "2" ∷ []) ≡ None
   pub unknown_letter : command_after_name (codes "build" ∷ codes "-o" ∷ codes "a" ∷ codes "b" ∷ []) ≡ None
 
--- arguments that are no command, or ask for help or a version
+-- no arguments, and arguments that are no command or ask for help or a version
 pub record OtherRows : Type 0 where
-  pub nothing : command_of [] ≡ None
-  pub name_alone : command_after_name [] ≡ None
+  pub nothing : command_of [] ≡ Some accept
+  pub name_alone : command_after_name [] ≡ Some accept
   pub hyphens_before : command_after_name (codes "--" ∷ codes "build" ∷ codes "a" ∷ codes "b" ∷ []) ≡ None
   pub another_case : command_after_name (codes "Build" ∷ codes "a" ∷ codes "b" ∷ []) ≡ None
   pub help_alone : command_after_name (codes "help" ∷ []) ≡ None

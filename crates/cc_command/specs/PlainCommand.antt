@@ -1,9 +1,10 @@
-use Rattle.cc_command.specs.Command.{Command, build, run, generate}
+use Rattle.cc_command.specs.Command.{Command, accept, build, run, generate}
 use Rattle.cc_command.specs.declared.arguments.Command.{Command as Parsed}
-use Rattle.cc_command.specs.declared.arguments.Command.TheVariants.{Build, Run, Generate}
+use Rattle.cc_command.specs.declared.arguments.Command.TheVariants.{Accept, Build, Run, Generate}
 
 -- the plain form of a parsed command
 abbrev pub plain_command : Parsed → Command
+plain_command Accept = accept
 plain_command (Build source image) = build source.now image.now
 plain_command (Run image steps) = run image.now steps
 plain_command (Generate start functions out) = generate start functions out.now

@@ -18,6 +18,8 @@ use std::alloc::{AllocError, Global};
 /// What the arguments of a command line ask for.
 #[derive(Clone, Copy)]
 pub enum Command<'a> {
+    /// No arguments: say whether the source on the input is accepted.
+    Accept,
     /// `build IN OUT`: compile the source named IN to the image named OUT.
     Build {
         source: &'a str,
@@ -158,7 +160,8 @@ fn read_arguments<'a>(
     }
 }
 
-/// The command of the arguments, the program's name first; `None` where they are no command.
+/// The command of the arguments, the program's name first; `None` where they are no command. No
+/// arguments at all are read as the name alone.
 pub fn parse_command<'a>(
     alloc: Global,
     arguments: &'a [String],
@@ -166,7 +169,9 @@ pub fn parse_command<'a>(
     ensures { IfOk result (λ command. option_map plain_command command
         ≡ command_of (map string_bytes arguments.entry.now)) }
 {
-    if help_is_asked(arguments) {
+    if arguments.len() <= 1 {
+        Ok(Some(Command::Accept))
+    } else if help_is_asked(arguments) {
         Ok(None)
     } else {
         read_arguments(alloc, arguments)

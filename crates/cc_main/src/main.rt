@@ -5,7 +5,7 @@
 
 use cc_io::{DirFiles, StdSink, StdSource, write_all};
 use cc_top::top;
-use std::alloc::AllocError;
+use std::alloc::{AllocError, Global};
 use std::env;
 use std::io::ErrorKind;
 use std::process::ExitCode;
@@ -17,13 +17,18 @@ const NO_MEMORY: u8 = 6;
 /// The status where the report was not written.
 const NO_REPORT: u8 = 3;
 
-/// The arguments of the command line, the program's name first. There are none where one of them is
-/// no text, and then they are no command.
+/// Two empty arguments, which are no command.
+fn no_command(alloc: Global) -> Result<Vec<String>, AllocError> {
+    Ok(Vec::from_array(alloc, [String::new(alloc), String::new(alloc)])?)
+}
+
+/// The arguments of the command line, the program's name first, or no command where one of them is
+/// no text.
 fn words_of(rt: &(impl Env + AllocGlobal)) -> Result<Vec<String>, AllocError> {
     match env::args(rt) {
         Ok(words) => words.collect(rt.alloc()),
         Err(error) if error.kind() == ErrorKind::OutOfMemory => Err(AllocError),
-        Err(_) => Ok(Vec::new(rt.alloc())),
+        Err(_) => no_command(rt.alloc()),
     }
 }
 

@@ -1,12 +1,10 @@
 pub mod SourceLemmas
 pub mod RefusalLaws
-pub mod FirstForm
 pub mod Digits
 pub mod GenerateLemmas
 pub mod Standing
 pub mod Text
 pub mod ProgramFits
-pub mod ConstantProgram
 pub mod ConstantRun
 pub mod ConstantExits
 pub mod RunLemmas

@@ -1,132 +1,83 @@
--- A source that is longer than the limit is refused at the limit, so the limit and one more byte decide; and an
--- accepted one returns an `int`.
-use Rattle.std.proofs.Common.{◌≡◌, ℕ, ◌%◌, ◌<◌, ◌^◌, ◌+◌, ◌≤◌, true, false, List, [], ◌∷◌, Option, None, Some, length, take, refl, ap, sym, ◌∙◌, subst, inl, inr, nat_lt, option_map, count_by, arith}
-use Rattle.std.proofs.Common.{Global, Result, Ok, Err, Vec, IfOk, IfErr}
-use Rattle.std.specs.Prelude.{Bool, if◌then◌else◌}
-use Rattle.std.specs.Option.{ForSome, option_and_then}
-use Rattle.cc_io.specs.Files.{Name, FileSet, content}
-use Rattle.std.proofs.lemmas.Bool.{cases_lt, lt-ltb, ltb-false}
+-- A source that is longer than the limit is refused at the limit, so the limit and one more byte decide.
+use Rattle.std.proofs.Common.{◌≡◌, ◌≢◌, ℕ, ◌<◌, ◌+◌, List, length, take, Option, None, Some, Result, Ok, Err, IfOk, IfErr, refl, ap, sym, ◌∙◌, subst, inl, inr, count_by, arith}
+use Rattle.std.specs.Option.{ForSome}
+use Rattle.std.proofs.lemmas.Bool.{cases_lt, lt-ltb}
 use Rattle.std.proofs.lemmas.List.{take_all, length-take-le, take-take}
 use Rattle.c_lex.specs.Tokens.{lexed}
 use Rattle.c_lex.specs.declared.fault.LexFault.{LexFault}
-use Rattle.c_lex.specs.declared.fault.LexFault.TheVariants as fault
+use Rattle.c_lex.specs.declared.fault.LexFault.TheVariants as lexer
 use Rattle.c_lex.specs.declared.token.Token.{Token}
-use Rattle.c_lex.specs.declared.token.TokenKind.{TokenKind}
-use Rattle.c_lex.specs.declared.token.TokenKind.TheVariants as kind
-use Rattle.cc_top.specs.Constant.{image_of_constant}
-use Rattle.cc_top.specs.Program.{Compiles, ExitsWithin, instruction_count}
-use Rattle.c_lex.specs.Results.{Fails}
-use Rattle.cc_top.specs.Refusal.{is_line_end, refusal_of, refused_at}
-use Rattle.cc_top.specs.declared.refusal.RefusalKind.TheVariants.{BadByte, OpenComment, OpenText, BadText, TooWide, LongName, Directive, ManyTokens, BadNumber, LongSource}
-use Rattle.cc_top.specs.Refused.{CompileFails, IsRejectionOf, outcome_of_refusal}
-use Rattle.cc_top.specs.Source.{after_return, int_constant, is_end, and_tokens_after, tokens_after, IsRefused, IsRefusedBy, last_constant, returned, returned_by}
+use Rattle.c_typed.specs.Typed.{ProgramTree}
+use Rattle.cc_compile.specs.Accepted.{Accepts, Refuses}
+use Rattle.cc_compile.specs.declared.fault.CompileFault.{CompileFault}
+use Rattle.cc_compile.specs.declared.fault.CompileFault.TheVariants as fault
+use Rattle.cc_io.specs.Files.{Name, FileSet, content}
+use Rattle.cc_top.specs.Refusal.{is_line_end, refusal_of, refusal_of_text, refused_at}
+use Rattle.cc_top.specs.Refused.{CompileFails, Defines, HasImage, IsRefused, IsRejectionOf, outcome_of_refusal}
 use Rattle.cc_top.specs.declared.refusal.Refusal.{Refusal}
+use Rattle.cc_top.specs.declared.refusal.RefusalKind.TheVariants.{LongSource}
 use Rattle.cc_top.specs.declared.outcome.Outcome.{Outcome}
 use Rattle.cc_top.specs.declared.outcome.Outcome.TheVariants.{Done, Usage, ReadFault, WriteFault, Refused, BadImage, NoMemory, Exit, Stack, Budget, Stuck}
-use Rattle.cc_top.specs.declared.source.FixedToken.TheVariants.{Semicolon, RightBrace}
-use Rattle.cc_top.proofs.ConstantExits.{constant_exits}
 
-too_long : (s : List ℕ) → 1048576 < length s → lexed s ≡ Err (fault.LongSource 1048576)
+too_long : (s : List ℕ) → 1048576 < length s → lexed s ≡ Err (lexer.LongSource 1048576)
 unfolding lexed
 too_long s long = rw (lt-ltb 1048576 (length s) long) refl
 
-pub lexed_short : (s : List ℕ) (tokens : List Token) → lexed s ≡ Ok tokens → length s ≤ 1048576
-lexed_short s tokens is =
-    elim (cases_lt 1048576 (length s)) [
-      | inl long ↦ absurd (clash (sym (too_long s long) ∙ is))
-      | inr short ↦ short
-    ] where
-      clash : Err (fault.LongSource 1048576) ≡ Ok tokens → ⊥
-      clash e = cc
-
-pub returned-take : (s : List ℕ) → returned (take 1048577 s) ≡ returned s
-returned-take s =
-    elim (cases_lt 1048576 (length s)) [
-      | inl long ↦
-          let whole : length (take 1048577 s) ≡ 1048577 = length-take-le 1048577 s (omega arith) in
-          ap returned_by (too_long (take 1048577 s) (omega arith)) ∙ sym (ap returned_by (too_long s long))
-      | inr short ↦ ap returned (take_all 1048577 s (omega arith))
-    ]
-
--- a refusal of the first bytes of a source is one of the source
-refused-long : (s : List ℕ) (refusal : Refusal) → 1048576 < length s → IsRefused (take 1048577 s) refusal → IsRefused s refusal
-refused-long s refusal long h =
+front_too_long : (s : List ℕ) → 1048576 < length s → lexed (take 1048577 s) ≡ Err (lexer.LongSource 1048576)
+front_too_long s long =
     let whole : length (take 1048577 s) ≡ 1048577 = length-take-le 1048577 s (omega arith) in
-    let front = subst (λ r. IsRefusedBy (take 1048577 s) r refusal) (too_long (take 1048577 s) (omega arith)) h in
-    let same : refused_at LongSource 1048576 (take 1048577 s)
-    ≡ refused_at LongSource 1048576 s = ap (λ t. record { kind = LongSource; line = count_by is_line_end t + 1 }) (take-take 1048576 1048577 s (omega arith)) in
-    subst (λ r. IsRefusedBy s r refusal) (sym (too_long s long)) (ap Some (sym same) ∙ front)
+    too_long (take 1048577 s) (omega (arith, whole))
 
-refused-take : (s : List ℕ) (refusal : Refusal) → IsRefused (take 1048577 s) refusal → IsRefused s refusal
-refused-take s refusal h =
+no_tokens : (s : List ℕ) (tokens : List Token) → 1048576 < length s → lexed (take 1048577 s) ≡ Ok tokens → ⊥
+no_tokens s tokens long is = clash (sym (front_too_long s long) ∙ is) where
+  clash : Err (lexer.LongSource 1048576) ≡ Ok tokens → ⊥
+  clash e = cc
+
+-- ---- what is said of the first bytes of a source is said of the source
+
+pub accepted-take : (s : List ℕ) (p : ProgramTree) → Accepts (take 1048577 s) p → Accepts s p
+accepted-take s p a =
     elim (cases_lt 1048576 (length s)) [
-      | inl long ↦ refused-long s refusal long h
-      | inr short ↦ subst (λ t. IsRefused t refusal) (take_all 1048577 s (omega arith)) h
+      | inl long ↦ absurd (no_tokens s a.checks.has_tree.tokens long a.checks.has_tree.lexed)
+      | inr short ↦ subst (λ t. Accepts t p) (take_all 1048577 s (omega arith)) a
     ]
 
--- a source compiles to what its first bytes compile to
-Compiles-take : (s bytes : List ℕ) → Compiles (take 1048577 s) bytes → Compiles s bytes
-Compiles-take s bytes c = record {
-  image = ap (option_map image_of_constant) (sym (returned-take s)) ∙ c.image;
-  exits = λ n is. c.exits n (returned-take s ∙ is);
-}
+same_refusal : (s : List ℕ) → refused_at LongSource 1048576 (take 1048577 s) ≡ refused_at LongSource 1048576 s
+same_refusal s = ap (λ t. record { kind = LongSource; line = count_by is_line_end t + 1 }) (take-take 1048576 1048577 s (omega arith))
 
--- ---- a constant is an `int`
+refused-long : (s : List ℕ) (r : Refusal) (e : CompileFault) → 1048576 < length s → Refuses e (take 1048577 s) → refusal_of e (take 1048577 s) ≡ Some r → IsRefused s r
+refused-long s r (fault.Lex e) long h is =
+    let front = front_too_long s long in
+    let same : e ≡ lexer.LongSource 1048576 = cc in
+    let told : refusal_of_text (lexer.LongSource 1048576) (take 1048577 s) ≡ Some r = subst (λ f. refusal_of_text f (take 1048577 s) ≡ Some r) same is in
+    (fault.Lex (lexer.LongSource 1048576), too_long s long, ap Some (sym (same_refusal s)) ∙ told)
+refused-long s r (fault.Parse e) long h is = absurd (no_tokens s h.1.0 long h.1.1)
+refused-long s r (fault.Check e) long h is = absurd (no_tokens s h.1.1.tokens long h.1.1.lexed)
+refused-long s r (fault.Build e) long h is = absurd (no_tokens s h.1.1.has_tree.tokens long h.1.1.has_tree.lexed)
+refused-long s r fault.NoMemory long h is = cc
 
-passed : (x : Bool) (o : Option ℕ) (n : ℕ) → (if x then o else None) ≡ Some n → o ≡ Some n
-passed true o n is = is
-passed false o n is = cc
+pub refused-take : (s : List ℕ) (r : Refusal) → IsRefused (take 1048577 s) r → IsRefused s r
+refused-take s r h =
+    elim (cases_lt 1048576 (length s)) [
+      | inl long ↦ refused-long s r h.0 long h.1 h.2
+      | inr short ↦ subst (λ t. IsRefused t r) (take_all 1048577 s (omega arith)) h
+    ]
 
-small-if : (x : Bool) (v n : ℕ) → nat_lt 2147483647 v ≡ x → (if x then None else Some v) ≡ Some n → n < 2 ^ 31
-small-if true v n is e = cc
-small-if false v n is e = let same : v ≡ n = cc in omega (arith, ltb-false 2147483647 v is, same)
+-- ---- what the bytes that were read compile to, the source compiles to
 
-constant_small : (k : TokenKind) (n : ℕ) → int_constant k ≡ Some n → n < 2 ^ 31
-constant_small (kind.Number v false) n is = small-if (nat_lt 2147483647 v) v n refl is
-constant_small (kind.Number v true) n is = cc
-constant_small (kind.Name x) n is = cc
-constant_small (kind.Char c) n is = cc
-constant_small (kind.Text t) n is = cc
-constant_small (kind.Keyword w) n is = cc
-constant_small (kind.Punct p) n is = cc
+pub image_of_read : (s read bytes : List ℕ) → read ≡ take 1048577 s → HasImage read bytes → HasImage s bytes
+image_of_read s read bytes same h = (h.0, accepted-take s h.0 (subst (λ t. Accepts t h.0) same h.1), h.2)
 
-last_small : (ts : List Token) (n : ℕ) → last_constant ts ≡ Some n → n < 2 ^ 31
-last_small [] n is = cc
-last_small (t ∷ ts) n is =
-    constant_small t.kind n (passed (is_end (and_tokens_after RightBrace (tokens_after Semicolon ts))) (int_constant t.kind) n is)
+pub defines_of_read : (s read : List ℕ) (functions : ℕ) → read ≡ take 1048577 s → Defines functions read → Defines functions s
+defines_of_read s read functions same h = (h.0, accepted-take s h.0 (subst (λ t. Accepts t h.0) same h.1), h.2)
 
-from_small : (o : Option (List Token)) (n : ℕ) → option_and_then last_constant o ≡ Some n → n < 2 ^ 31
-from_small None n is = cc
-from_small (Some ts) n is = last_small ts n is
-
-read_small : (r : Result (List Token) LexFault) (n : ℕ) → returned_by r ≡ Some n → n < 2 ^ 31
-read_small (Ok ts) n is = from_small (after_return ts) n is
-read_small (Err e) n is = cc
-
-returned_small : (s : List ℕ) (n : ℕ) → returned s ≡ Some n → n < 2 ^ 31
-returned_small s n is = read_small (lexed s) n is
-
--- ---- what a source compiles to
-
--- the image of a constant is that of each source that returns it
-pub compiles : (s : List ℕ) (n : ℕ) (bytes : List ℕ) → returned s ≡ Some n → bytes ≡ image_of_constant n → Compiles s bytes
-compiles s n bytes is image = record {
-  image = ap (option_map image_of_constant) is ∙ ap Some (sym image);
-  exits = λ k is'.
-      let same : n ≡ k = cc in
-      subst (λ b. ExitsWithin (instruction_count k) b (k % 256)) (ap image_of_constant (sym same) ∙ sym image) (constant_exits k (returned_small s k is'));
-}
-
--- what the bytes that were read compile to is what the source compiles to
-pub compiles_of_read : {E : Type 0} (s read : List ℕ) (r : Result (Vec ℕ Global) E) → read ≡ take 1048577 s
-    → IfOk r (λ bytes. Compiles read bytes.items) → IfOk r (λ bytes. Compiles s bytes.items)
-compiles_of_read s read (Ok bytes) same c = Compiles-take s bytes.items (subst (λ t. Compiles t bytes.items) same c)
-compiles_of_read s read (Err e) same c = tt
+pub refused_of_read : (s read : List ℕ) (r : Refusal) → read ≡ take 1048577 s → IsRefused read r → IsRefused s r
+refused_of_read s read r same h = refused-take s r (subst (λ t. IsRefused t r) same h)
 
 -- a refusal of the bytes that were read is one of the source
 fails-so : (name : Name) (e : Outcome) (known : Option FileSet) (unread : Type 0) (read : List ℕ) → ForSome known (λ files. read ≡ take 1048577 (content name files)) → IsRejectionOf read e
     → CompileFails name e known unread
-fails-so name (Refused refusal) known unread read same h = λ files is. refused-take (content name files) refusal (subst (λ t. IsRefused t refusal) (same files is) h)
+fails-so name (Refused refusal) known unread read same h = λ files is. refused_of_read (content name files) read refusal (same files is) h
 fails-so name NoMemory known unread read same h = tt
 fails-so name Done known unread read same h = absurd h
 fails-so name Usage known unread read same h = absurd h
@@ -145,15 +96,6 @@ fails_of_read name known unread read (Err e) same h = fails-so name e known unre
 
 -- ---- the outcome of a source that is not compiled
 
-pub lexical : (s : List ℕ) (f : LexFault) → Fails f (lexed s) → IsRejectionOf s (outcome_of_refusal (refusal_of f s))
-lexical s (fault.BadByte at) h = subst (λ r. IsRefusedBy s r (refused_at BadByte at s)) (sym h) refl
-lexical s (fault.OpenComment at) h = subst (λ r. IsRefusedBy s r (refused_at OpenComment at s)) (sym h) refl
-lexical s (fault.OpenText at) h = subst (λ r. IsRefusedBy s r (refused_at OpenText at s)) (sym h) refl
-lexical s (fault.BadText at) h = subst (λ r. IsRefusedBy s r (refused_at BadText at s)) (sym h) refl
-lexical s (fault.TooWide at) h = subst (λ r. IsRefusedBy s r (refused_at TooWide at s)) (sym h) refl
-lexical s (fault.LongName at) h = subst (λ r. IsRefusedBy s r (refused_at LongName at s)) (sym h) refl
-lexical s (fault.Directive at) h = subst (λ r. IsRefusedBy s r (refused_at Directive at s)) (sym h) refl
-lexical s (fault.ManyTokens at) h = subst (λ r. IsRefusedBy s r (refused_at ManyTokens at s)) (sym h) refl
-lexical s (fault.BadNumber at) h = subst (λ r. IsRefusedBy s r (refused_at BadNumber at s)) (sym h) refl
-lexical s (fault.LongSource at) h = subst (λ r. IsRefusedBy s r (refused_at LongSource at s)) (sym h) refl
-lexical s fault.NoMemory h = tt
+pub rejected : (s : List ℕ) (e : CompileFault) (o : Option Refusal) → Refuses e s → refusal_of e s ≡ o → IsRejectionOf s (outcome_of_refusal o)
+rejected s e None h is = tt
+rejected s e (Some r) h is = (e, h, is)

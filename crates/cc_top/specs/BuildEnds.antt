@@ -4,8 +4,7 @@ use Rattle.std.specs.Option.{ForSome}
 use Rattle.cc_io.specs.Faults.{Increased}
 use Rattle.cc_io.specs.Files.{Name, content, put_file}
 use Rattle.cc_top.specs.Outside.{FilesSeen}
-use Rattle.cc_top.specs.Program.{Compiles}
-use Rattle.cc_top.specs.Source.{IsRefused}
+use Rattle.cc_top.specs.Refused.{HasImage, IsRefused}
 use Rattle.cc_top.specs.declared.outcome.Outcome.{Outcome}
 use Rattle.cc_top.specs.declared.outcome.Outcome.TheVariants.{Done, ReadFault, WriteFault, Refused, NoMemory}
 
@@ -37,11 +36,11 @@ IfKnown source before P = ForSome before.known (λ files. P (content source file
 
 abbrev pub BuildEnds : (source image : Name) → Outcome → FilesSeen → FilesSeen → Type 0
 BuildEnds source image Done before after =
-    IfKnown source before (λ text. (bytes : List ℕ) × Compiles text bytes × Writes image bytes before after)
+    IfKnown source before (λ text. (bytes : List ℕ) × HasImage text bytes × Writes image bytes before after)
 BuildEnds source image ReadFault before after = ReadFails source before after × Unchanged before after
 BuildEnds source image WriteFault before after =
     WriteFails image before after
-    × IfKnown source before (λ text. (bytes : List ℕ) × Compiles text bytes × WritesPrefix image bytes before after)
+    × IfKnown source before (λ text. (bytes : List ℕ) × HasImage text bytes × WritesPrefix image bytes before after)
 BuildEnds source image (Refused refusal) before after = IfKnown source before (λ text. IsRefused text refusal) × Unchanged before after
 BuildEnds source image NoMemory before after = Unchanged before after
 BuildEnds source image _ before after = ⊥

@@ -1,25 +1,27 @@
 -- The program that returns a constant, and its image.
-use Rattle.std.specs.Prelude.{ℕ, List, [], ◌∷◌}
-use Rattle.g_graph.specs.declared.op.Kind.TheVariants.{Memory, Io}
-use Rattle.g_graph.specs.declared.op.Op.TheVariants.{Const}
-use Rattle.g_graph.specs.declared.op.Origin.TheVariants.{Arg, Out}
-use Rattle.g_graph.specs.Plain.{region, node, no_nodes, node_then, no_regions, PlainLambda, PlainOmega}
-use Rattle.g_graph.specs.Program.{main_name}
-use Rattle.cc_emit.specs.Image.{file_of_program}
+use Rattle.std.specs.Prelude.{ℕ, List, [], ◌∷◌, codes}
+use Rattle.c_type.specs.Trees.{scalar_type}
+use Rattle.c_type.specs.declared.scalar.Scalar.TheVariants.{Int}
+use Rattle.c_typed.specs.Typed.{FunctionTree, ProgramTree, expr, constant, return_value, stmt_then, no_items}
+use Rattle.cc_compile.specs.Compiled.{image_of}
 
--- `main`, whose one node is the constant
-abbrev pub constant_lambda : ℕ → PlainLambda
-constant_lambda n = record {
-  number = 0;
+-- `int main(void) { return N; }`, N being an `int`, with the name and the definition at these offsets
+abbrev pub constant_function : (at starts ends n : ℕ) → FunctionTree
+constant_function at starts ends n = record {
+  name = codes "main";
+  at = at;
+  starts = starts;
+  ends = ends;
+  result = scalar_type Int;
   params = 0;
-  objects = [];
-  body = region (Memory ∷ Io ∷ []) (node_then (node 0 (Const n) [] no_regions) no_nodes) (Out 0 0 ∷ Arg 0 ∷ Arg 1 ∷ []);
-  next = 1;
+  variables = [];
+  body = stmt_then (return_value (expr (scalar_type Int) (constant n))) no_items;
 }
 
-abbrev pub constant_program : ℕ → PlainOmega
-constant_program n = record { lambdas = constant_lambda n ∷ []; deltas = []; names = main_name ∷ [] }
+abbrev pub constant_program : (at starts ends n : ℕ) → ProgramTree
+constant_program at starts ends n =
+    record { structs = []; functions = constant_function at starts ends n ∷ []; globals = []; main = 0 }
 
--- the image of the program that returns a constant
-abbrev pub image_of_constant : ℕ → List ℕ
-image_of_constant n = file_of_program (constant_program n) (constant_lambda n ∷ [])
+-- its image, wherever it stands in the source
+abbrev pub image_of_constant : (at starts ends n : ℕ) → List ℕ
+image_of_constant at starts ends n = image_of (constant_program at starts ends n)

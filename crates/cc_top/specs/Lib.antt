@@ -1,4 +1,3 @@
-pub mod Source
 pub mod Refusal
 pub mod Refused
 pub mod Constant
@@ -6,6 +5,7 @@ pub mod Report
 pub mod Outcome
 pub mod Text
 pub mod Outside
+pub mod AcceptEnds
 pub mod BuildEnds
 pub mod GenerateEnds
 pub mod Ends

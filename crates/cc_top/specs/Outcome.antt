@@ -3,6 +3,8 @@ use Rattle.std.specs.Prelude.{ℕ, List, [], ◌∷◌, ◌++◌, codes}
 use Rattle.elf_file.specs.ElfFault.{name_of, number_of}
 use Rattle.cc_top.specs.Refusal as Refusal
 use Rattle.cc_top.specs.Text.{decimal_text, hex_text}
+use Rattle.cc_top.specs.declared.refusal.RefusalKind.{RefusalKind}
+use Rattle.cc_top.specs.declared.refusal.RefusalKind.TheVariants.{Limit}
 use Rattle.cc_top.specs.declared.outcome.Outcome.{Outcome}
 use Rattle.cc_top.specs.declared.outcome.Outcome.TheVariants.{Done, Usage, ReadFault, WriteFault, Refused, BadImage, NoMemory, Exit, Stack, Budget, Stuck}
 
@@ -28,6 +30,15 @@ usage_text =
     ++ line (codes "       rvcc run IMG [--steps N]")
     ++ line (codes "       rvcc gen NUMBER COUNT OUT")
 
+-- which limit is passed and with what count, where the refusal is of this kind
+abbrev pub limit_text : RefusalKind → List ℕ
+limit_text (Limit which count) = codes " which " ++ decimal_text which ++ codes " count " ++ decimal_text count
+limit_text _ = []
+
+-- what is written on the output of a source that is accepted and defines so many functions
+abbrev pub accepted_text : (functions : ℕ) → List ℕ
+accepted_text functions = line (codes "accepted " ++ decimal_text functions)
+
 abbrev pub text_of : Outcome → List ℕ
 text_of Done = []
 text_of Usage = usage_text
@@ -39,7 +50,8 @@ text_of (Refused refusal) =
     ++ Refusal.name_of refusal.kind
     ++ 32 ∷ decimal_text (Refusal.number_of refusal.kind)
     ++ codes " line "
-    ++ decimal_text refusal.line)
+    ++ decimal_text refusal.line
+    ++ limit_text refusal.kind)
 text_of (BadImage fault) = line (codes "image " ++ name_of fault ++ 32 ∷ decimal_text (number_of fault))
 text_of NoMemory = line (codes "memory")
 text_of (Exit status) = line (codes "exit " ++ decimal_text status)

@@ -1,9 +1,8 @@
--- What a run of a program file comes to.
-use Rattle.std.specs.Prelude.{◌≡◌, ℕ, ◌%◌, ◌<◌, ◌≤◌, ◌^◌, nat_lt, List, Option, Some, Ok, option_map, if◌then◌else◌}
+-- What a run of the program that returns a constant comes to.
+use Rattle.std.specs.Prelude.{◌≡◌, ℕ, ◌%◌, ◌<◌, ◌≤◌, ◌^◌, nat_lt, List, Ok, if◌then◌else◌}
 use Rattle.rv_machine.specs.Machine.{exit}
 use Rattle.rv_machine.specs.Run.{image_at, standing, ended}
 use Rattle.cc_top.specs.Constant.{image_of_constant}
-use Rattle.cc_top.specs.Source.{returned}
 
 -- Whatever the input, this many instructions and any more of the file end with this status, with nothing
 -- written and nothing read.
@@ -17,14 +16,5 @@ instruction_count n = if nat_lt n 2048 then 23 else 24
 
 -- The image of a constant exits with its low byte, after 23 instructions where it is below 2048, and else after 24.
 abbrev pub ConstantExits : Type 0
-ConstantExits = (n : ℕ) → n < 2 ^ 31 → ExitsWithin (instruction_count n) (image_of_constant n) (n % 256)
-
--- the image of a source that is accepted
-abbrev pub image_of_source : List ℕ → Option (List ℕ)
-image_of_source source = option_map image_of_constant (returned source)
-
--- These bytes are the image of this source, and a run of them does what the source says: it exits with what
--- `main` returns, modulo 256.
-pub record Compiles (source bytes : List ℕ) : Type 0 where
-  pub image : image_of_source source ≡ Some bytes
-  pub exits : (n : ℕ) → returned source ≡ Some n → ExitsWithin (instruction_count n) bytes (n % 256)
+ConstantExits =
+    (at starts ends n : ℕ) → n < 2 ^ 31 → ExitsWithin (instruction_count n) (image_of_constant at starts ends n) (n % 256)

@@ -1,12 +1,33 @@
--- The outcome of a source that is not compiled.
-use Rattle.std.specs.Prelude.{ℕ, List, Option, Some, None}
-use Rattle.c_lex.specs.declared.token.Token.{Token}
+-- What a source compiles to, why it is refused, and the outcome of one that is not compiled.
+use Rattle.std.specs.Prelude.{◌≡◌, ℕ, List, length, Option, Some, None}
 use Rattle.std.specs.Option.{ForSome}
+use Rattle.c_typed.specs.Typed.{ProgramTree}
+use Rattle.cc_compile.specs.Accepted.{Accepts, Refuses}
+use Rattle.cc_compile.specs.Compiled.{image_of}
+use Rattle.cc_compile.specs.declared.fault.CompileFault.{CompileFault}
 use Rattle.cc_io.specs.Files.{Name, FileSet, content}
-use Rattle.cc_top.specs.Source.{AreRefused, IsRefused}
+use Rattle.cc_top.specs.Refusal.{refusal_of}
 use Rattle.cc_top.specs.declared.outcome.Outcome.{Outcome}
 use Rattle.cc_top.specs.declared.outcome.Outcome.TheVariants.{Refused, ReadFault, NoMemory}
 use Rattle.cc_top.specs.declared.refusal.Refusal.{Refusal}
+
+-- A source is accepted, and these bytes are its image.
+abbrev pub HasImage : List ℕ → List ℕ → Type 0
+HasImage source bytes = (p : ProgramTree) × Accepts source p × (bytes ≡ image_of p)
+
+-- A source is accepted, and defines so many functions.
+abbrev pub Defines : (functions : ℕ) → List ℕ → Type 0
+Defines functions source = (p : ProgramTree) × Accepts source p × (functions ≡ length p.functions)
+
+-- A source is accepted, these bytes are its image, and it defines so many functions.
+abbrev pub CompilesTo : List ℕ → (bytes : List ℕ) → (functions : ℕ) → Type 0
+CompilesTo source bytes functions = (p : ProgramTree) × Accepts source p × (bytes ≡ image_of p) × (functions ≡ length p.functions)
+
+-- A source is refused so, for its fault.
+abbrev pub IsRefused : List ℕ → Refusal → Type 0
+IsRefused source refusal = (e : CompileFault) × Refuses e source × (refusal_of e source ≡ Some refusal)
+
+-- ---- the outcome of a source that is not compiled
 
 abbrev pub outcome_of_refusal : Option Refusal → Outcome
 outcome_of_refusal None = NoMemory
@@ -25,8 +46,12 @@ IsRejectionOf source (Refused refusal) = IsRefused source refusal
 IsRejectionOf source NoMemory = Unit {0}
 IsRejectionOf source _ = ⊥
 
--- The tokens of the source are refused so, or memory ran out.
-abbrev pub IsRejectionOfTokens : List Token → List ℕ → Outcome → Type 0
-IsRejectionOfTokens tokens source (Refused refusal) = AreRefused tokens source refusal
-IsRejectionOfTokens tokens source NoMemory = Unit {0}
-IsRejectionOfTokens tokens source _ = ⊥
+-- ---- laws
+
+-- A source has at most one refusal.
+abbrev pub OneRefusal : Type 0
+OneRefusal = (source : List ℕ) (r s : Refusal) → IsRefused source r → IsRefused source s → r ≡ s
+
+-- A source that is accepted has none.
+abbrev pub AcceptedIsNotRefused : Type 0
+AcceptedIsNotRefused = (source : List ℕ) (p : ProgramTree) (r : Refusal) → Accepts source p → IsRefused source r → ⊥

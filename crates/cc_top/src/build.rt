@@ -4,32 +4,20 @@ ghost use Rattle.std.specs.Option.{ForSome};
 ghost use Rattle.cc_io.specs.Faults.{Increased};
 ghost use Rattle.cc_io.specs.Files.{Name, content, put_file};
 ghost use Rattle.cc_top.specs.BuildEnds.{BuildEnds};
-ghost use Rattle.cc_top.specs.Program.{Compiles};
 ghost use Rattle.cc_top.specs.Outside.{files_seen};
-ghost use Rattle.cc_top.specs.Refused.{CompileFails, IsRejectionOf};
+ghost use Rattle.cc_top.specs.Refused.{CompileFails, HasImage};
 
-use crate::constant::image_of_constant;
+use crate::compile::compile;
 use crate::load::{LoadError, load};
 use crate::outcome::Outcome;
-use crate::source::accept;
 use cc_io::{Files, save};
 use limits::MOST_SOURCE_BYTES;
 use std::alloc::Global;
 
-/// The image of a source text.
-fn compile(alloc: Global, source: &[u8]) -> Result<Vec<u8>, Outcome>
-    ensures bytes { IfOk result (λ bytes. Compiles source.now bytes.items) }
-    ensures err { IfErr result (IsRejectionOf source.now) }
-{
-    let constant = accept(alloc, source)?;
-    let image = image_of_constant(alloc, constant)?;
-    Ok(image)
-}
-
-/// The bytes of the source file of this name and the image that they compile to.
+/// The image of the source in the file of this name.
 fn compile_file<F: Files>(alloc: Global, files: &mut F, source: &str) -> Result<Vec<u8>, Outcome>
     ensures bytes { ForSome (F.known files.old)
-        (λ all. IfOk result (λ bytes. Compiles (content source.now all) bytes.items)) }
+        (λ all. IfOk result (λ bytes. HasImage (content source.now all) bytes.items)) }
     ensures err { IfErr result (λ e. CompileFails source.now e (F.known files.old)
         (Increased (F.open_faults files.old source.now) (F.open_faults files.new source.now)
         ⊎ Increased (F.read_faults files.old) (F.read_faults files.new))) }
@@ -44,7 +32,7 @@ fn compile_file<F: Files>(alloc: Global, files: &mut F, source: &str) -> Result<
         Err(LoadError::Failed) => return Err(Outcome::ReadFault),
         Err(LoadError::NoMemory) => return Err(Outcome::NoMemory),
     };
-    compile(alloc, &text)
+    Ok(compile(alloc, &text)?.image)
 }
 
 /// Compiles the file named `source` to the file named `image`.

@@ -1,6 +1,6 @@
 //! Laws of the definitions, each the contract of a function that does nothing.
 ghost use Rattle.cc_top.specs.Program.{ConstantExits};
-ghost use Rattle.cc_top.specs.Source.{AcceptedIsNotRefused, OneRefusal};
+ghost use Rattle.cc_top.specs.Refused.{AcceptedIsNotRefused, OneRefusal};
 
 /// The image of a constant exits with its low byte.
 pub fn constant_exits()
@@ -10,9 +10,13 @@ pub fn constant_exits()
 /// A source has at most one refusal.
 pub fn a_source_has_one_refusal()
     ensures { OneRefusal }
-{}
+{
+    cc_compile::laws::a_source_has_one_fault();
+}
 
 /// A source that is accepted is not refused.
 pub fn accepted_sources_are_not_refused()
     ensures { AcceptedIsNotRefused }
-{}
+{
+    cc_compile::laws::accepted_sources_have_no_fault();
+}

@@ -1,11 +1,12 @@
 //! The top call of the compiler: it carries out the command that the arguments of a command line
 //! ask for, over the files and streams that it is handed. The program `cc_main` stands on it.
-//! Promise: each status comes at its cause, and on status 0 of `build` OUT is exactly the defined
-//! image.
+//! Promise: each status comes at its cause, and on status 0 of `build` the source is accepted and OUT
+//! is exactly its image.
 #![tactic(auto)]
 
+mod accept;
 mod build;
-mod constant;
+mod compile;
 mod generated;
 pub mod laws;
 mod line;
@@ -14,7 +15,6 @@ mod outcome;
 mod refusal;
 mod report;
 mod run;
-mod source;
 
 ghost use Rattle.std.specs.Prelude.{map};
 ghost use Rattle.std.specs.String.{string_bytes};
@@ -34,18 +34,22 @@ use std::alloc::Global;
 /// `build IN OUT` compiles the source file IN to the executable OUT. `run IMG [--steps N]` runs the
 /// executable IMG for at most N instructions, from `input` to `output`. `gen NUMBER COUNT OUT`
 /// writes the generated program of COUNT functions, 1 to 511, whose draws begin with NUMBER, 0 to
-/// 4294967295, to the file OUT. What a user reads of the end is written on `report`, a line for
-/// each status but 0 of `build` and `gen`. The statuses:
+/// 4294967295, to the file OUT. Without arguments the source on `input` is compiled and the line
+/// `accepted F` written on `output`, F being the number of functions that it defines; no file
+/// changes. What a user reads of the end is written on `report`: nothing on status 0 of `build`,
+/// `gen` and the command without arguments, and else a line. The statuses:
 ///
-/// - 0: `build` or `gen` wrote OUT, or the program that `run` ran has exited; the line has its exit
-///   status.
+/// - 0: `build` or `gen` wrote OUT, `accepted F` was written, or the program that `run` ran has
+///   exited; the line has its exit status.
 /// - 1: the arguments are no command. Nothing has changed.
-/// - 2: a file or the input was not read, since a call failed.
+/// - 2: a file or the input was not read, since a call failed. No file has changed.
 /// - 3: a file, the output or the report was not written, since a call failed. A file or stream
 ///   that was written then holds a prefix of what was to be written.
-/// - 4: the source is refused; the line names the rule, its number and the source's line.
+/// - 4: the source is refused; the line names the rule, its number and the source's line, and of a
+///   limit that is passed its number and the count. No file was created or written, and nothing was
+///   written on `output`.
 /// - 5: IMG is no executable that can be run; the line names the fault.
-/// - 6: memory ran out. No file was created or written.
+/// - 6: memory ran out. No file was created or written, and nothing was written on `output`.
 /// - 7: the program that `run` ran used up its stack, was not done after N instructions, or came to
 ///   an instruction that cannot be done.
 pub fn top<F: Files, I: Source, O: Sink, E: Sink>(
@@ -106,6 +110,7 @@ fn carry_out<F: Files, I: Source, O: Sink>(
         Err(_) => return Outcome::NoMemory,
     };
     match command {
+        Command::Accept => accept::accept(alloc, input, output),
         Command::Build { source, image } => build::build(alloc, files, source, image),
         Command::Run { image, steps } => run::run(alloc, files, input, output, image, steps),
         Command::Generate {

@@ -1,18 +1,18 @@
-//! Reads files whole.
-ghost use Rattle.std.specs.Prelude.{◌≡◌, ◌≤◌, ◌⊎◌, ℕ, None, Some, take, length, IsSome, IfOk, OnOk, OnErr, IsErrOf};
+//! Reads files and the input whole.
+ghost use Rattle.std.specs.Prelude.{◌≡◌, ◌≤◌, ◌⊎◌, ◌×◌, ℕ, List, None, Some, take, length, IsSome, IfOk, OnOk, OnErr, IsErrOf};
 ghost use Rattle.std.specs.Option.{ForSome};
 ghost use Rattle.cc_io.specs.Faults.{Increased};
 ghost use Rattle.cc_io.specs.Files.{Name, content};
 ghost use Rattle.cc_io.specs.Source.{prepend, IsAtEnd};
 ghost use Rattle.cc_top.specs.declared.load.LoadError.TheVariants.{NoMemory};
 
-use cc_io::{CHUNK, Files};
+use cc_io::{CHUNK, Files, Source};
 use std::alloc::{AllocError, Global};
 
-/// Why a file was not read.
-#[derive(Clone, Copy, Debug, PartialEq, Eq)]
+/// Why a file or the input was not read.
+#[derive(Clone, Copy)]
 pub enum LoadError {
-    /// A call on the files failed.
+    /// A call on it failed.
     Failed,
     /// Memory ran out.
     NoMemory,
@@ -69,6 +69,33 @@ fn read_open<F: Files>(alloc: Global, files: &mut F, limit: usize) -> Result<Vec
     while bytes.len() < limit {
         let room = CHUNK.min(limit - bytes.len());
         let Ok(count) = files.read(&mut buffer[..room]) else {
+            return Err(LoadError::Failed);
+        };
+        if count == 0 {
+            break;
+        }
+        bytes.extend_from_slice(&buffer[..count])?;
+    }
+    Ok(bytes)
+}
+
+/// The bytes that are left of the input, of which no more than `limit` are read.
+pub fn load_input<I: Source>(
+    alloc: Global,
+    input: &mut I,
+    limit: usize,
+) -> Result<Vec<u8>, LoadError>
+    ensures bytes { ForSome (I.left input.old)
+        (λ left. IfOk result (λ bytes. bytes.items ≡ take limit left)) }
+    ensures fault { IsErrOf result LoadError.Failed
+        → Increased (I.faults input.old) (I.faults input.new) }
+    ensures rest { (taken : List ℕ) × (I.left input.old ≡ prepend taken (I.left input.new)) }
+{
+    let mut bytes = Vec::new(alloc);
+    let mut buffer = [0u8; CHUNK];
+    while bytes.len() < limit {
+        let room = CHUNK.min(limit - bytes.len());
+        let Ok(count) = input.read(&mut buffer[..room]) else {
             return Err(LoadError::Failed);
         };
         if count == 0 {

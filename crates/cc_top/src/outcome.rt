@@ -8,7 +8,7 @@ use no_memory::NoMemory;
 use std::alloc::AllocError;
 
 /// How a command ended.
-#[derive(Clone, Copy, Debug, PartialEq, Eq)]
+#[derive(Clone, Copy)]
 pub enum Outcome {
     /// The command was done.
     Done,

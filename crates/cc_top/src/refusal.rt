@@ -1,29 +1,45 @@
 //! Why a source is refused.
 ghost use Rattle.std.specs.Prelude.{◌≡◌, ◌≤◌, ◌<◌, ◌^◌, count_by, length};
-ghost use Rattle.cc_top.specs.Refusal.{name_of, number_of, line_at, refused_at, refusal_of, refusal_of_tokens, is_line_end};
+ghost use Rattle.cc_top.specs.Refusal.{name_of, number_of, line_at, refused_at, refusal_of, refusal_of_text, refusal_of_tokens, refusal_of_tree, refusal_of_values, is_line_end};
 
+use c_check::CheckFault;
 use c_lex::LexFault;
 use c_parse::ParseFault;
+use cc_compile::CompileFault;
+use g_build::BuildFault;
 
-/// The kind of a refusal: the rule that the source breaks, or `NotBuilt` for a source that is none
-/// of those that are compiled today. The variants have the names and numbers of reports: 1 to 10
-/// are faults of the text, by the lexer, and 21 to 23 of the tokens, by the parser.
-#[derive(Clone, Copy, Debug, PartialEq, Eq)]
+/// The kind of a refusal: the rule that the source breaks, by the names of reports. 1 to 10 are
+/// faults of the text, by the lexer, 21 to 23 of the tokens, by the parser, and 31 to 43 of the
+/// program, by the checker; `Limit` is also that of the values of graphs, by construction.
+#[derive(Clone, Copy)]
 pub enum RefusalKind {
-    BadByte = 1,
-    OpenComment = 2,
-    OpenText = 3,
-    BadText = 4,
-    TooWide = 5,
-    LongName = 6,
-    Directive = 7,
-    ManyTokens = 8,
-    BadNumber = 9,
-    LongSource = 10,
-    LeftOut = 21,
-    TooDeep = 22,
-    Syntax = 23,
-    NotBuilt = 50,
+    BadByte,
+    OpenComment,
+    OpenText,
+    BadText,
+    TooWide,
+    LongName,
+    Directive,
+    ManyTokens,
+    BadNumber,
+    LongSource,
+    LeftOut,
+    TooDeep,
+    Syntax,
+    Unknown,
+    Redeclared,
+    NotAssignable,
+    BadOperands,
+    BadCall,
+    NotConstant,
+    BadInitialiser,
+    BadType,
+    BadReturn,
+    BadJump,
+    NoMain,
+    /// The limit of this number, 1 to 6, is passed with this count.
+    Limit { which: u8, count: u64 },
+    BadLabel,
 }
 
 impl RefusalKind {
@@ -31,13 +47,40 @@ impl RefusalKind {
     pub fn number(self) -> u32
         ensures { result ≡ number_of self }
     {
-        self as u32
+        match self {
+            RefusalKind::BadByte => 1,
+            RefusalKind::OpenComment => 2,
+            RefusalKind::OpenText => 3,
+            RefusalKind::BadText => 4,
+            RefusalKind::TooWide => 5,
+            RefusalKind::LongName => 6,
+            RefusalKind::Directive => 7,
+            RefusalKind::ManyTokens => 8,
+            RefusalKind::BadNumber => 9,
+            RefusalKind::LongSource => 10,
+            RefusalKind::LeftOut => 21,
+            RefusalKind::TooDeep => 22,
+            RefusalKind::Syntax => 23,
+            RefusalKind::Unknown => 31,
+            RefusalKind::Redeclared => 32,
+            RefusalKind::NotAssignable => 33,
+            RefusalKind::BadOperands => 34,
+            RefusalKind::BadCall => 35,
+            RefusalKind::NotConstant => 36,
+            RefusalKind::BadInitialiser => 37,
+            RefusalKind::BadType => 38,
+            RefusalKind::BadReturn => 39,
+            RefusalKind::BadJump => 40,
+            RefusalKind::NoMain => 41,
+            RefusalKind::Limit { .. } => 42,
+            RefusalKind::BadLabel => 43,
+        }
     }
 
-    /// The name in reports, at most 11 bytes.
+    /// The name in reports, at most 14 bytes.
     pub fn name(self) -> &'static str
         ensures name { result.now ≡ name_of self }
-        ensures short { length result.now ≤ 11 }
+        ensures short { length result.now ≤ 14 }
     {
         match self {
             RefusalKind::BadByte => "BadByte",
@@ -53,13 +96,25 @@ impl RefusalKind {
             RefusalKind::LeftOut => "LeftOut",
             RefusalKind::TooDeep => "TooDeep",
             RefusalKind::Syntax => "Syntax",
-            RefusalKind::NotBuilt => "NotBuilt",
+            RefusalKind::Unknown => "Unknown",
+            RefusalKind::Redeclared => "Redeclared",
+            RefusalKind::NotAssignable => "NotAssignable",
+            RefusalKind::BadOperands => "BadOperands",
+            RefusalKind::BadCall => "BadCall",
+            RefusalKind::NotConstant => "NotConstant",
+            RefusalKind::BadInitialiser => "BadInitialiser",
+            RefusalKind::BadType => "BadType",
+            RefusalKind::BadReturn => "BadReturn",
+            RefusalKind::BadJump => "BadJump",
+            RefusalKind::NoMain => "NoMain",
+            RefusalKind::Limit { .. } => "Limit",
+            RefusalKind::BadLabel => "BadLabel",
         }
     }
 }
 
 /// Why a source is refused, and where.
-#[derive(Clone, Copy, Debug, PartialEq, Eq)]
+#[derive(Clone, Copy)]
 pub struct Refusal {
     /// The rule that it breaks.
     pub kind: RefusalKind,
@@ -97,9 +152,8 @@ fn refused_at(kind: RefusalKind, at: u32, source: &[u8]) -> Refusal
     }
 }
 
-/// The refusal of a source with this fault; `None` where memory ran out.
-pub fn refusal_of(fault: LexFault, source: &[u8]) -> Option<Refusal>
-    ensures { result ≡ refusal_of fault source.now }
+fn refusal_of_text(fault: LexFault, source: &[u8]) -> Option<Refusal>
+    ensures { result ≡ refusal_of_text fault source.now }
 {
     let (kind, at) = match fault {
         LexFault::BadByte(at) => (RefusalKind::BadByte, at),
@@ -117,8 +171,7 @@ pub fn refusal_of(fault: LexFault, source: &[u8]) -> Option<Refusal>
     Some(refused_at(kind, at, source))
 }
 
-/// The refusal of a source whose tokens have this fault; `None` where memory ran out.
-pub fn refusal_of_tokens(fault: ParseFault, source: &[u8]) -> Option<Refusal>
+fn refusal_of_tokens(fault: ParseFault, source: &[u8]) -> Option<Refusal>
     ensures { result ≡ refusal_of_tokens fault source.now }
 {
     let (kind, at) = match fault {
@@ -128,4 +181,54 @@ pub fn refusal_of_tokens(fault: ParseFault, source: &[u8]) -> Option<Refusal>
         ParseFault::NoMemory => return None,
     };
     Some(refused_at(kind, at, source))
+}
+
+fn refusal_of_tree(fault: CheckFault, source: &[u8]) -> Option<Refusal>
+    ensures { result ≡ refusal_of_tree fault source.now }
+{
+    let (kind, at) = match fault {
+        CheckFault::Unknown { at } => (RefusalKind::Unknown, at),
+        CheckFault::Redeclared { at } => (RefusalKind::Redeclared, at),
+        CheckFault::NotAssignable { at } => (RefusalKind::NotAssignable, at),
+        CheckFault::BadOperands { at } => (RefusalKind::BadOperands, at),
+        CheckFault::BadCall { at } => (RefusalKind::BadCall, at),
+        CheckFault::NotConstant { at } => (RefusalKind::NotConstant, at),
+        CheckFault::BadInitialiser { at } => (RefusalKind::BadInitialiser, at),
+        CheckFault::BadType { at } => (RefusalKind::BadType, at),
+        CheckFault::BadReturn { at } => (RefusalKind::BadReturn, at),
+        CheckFault::BadJump { at } => (RefusalKind::BadJump, at),
+        CheckFault::BadLabel { at } => (RefusalKind::BadLabel, at),
+        CheckFault::NoMain { at } => (RefusalKind::NoMain, at),
+        CheckFault::Limit { at, which, count } => (RefusalKind::Limit { which, count }, at),
+        CheckFault::NoMemory => return None,
+    };
+    Some(refused_at(kind, at, source))
+}
+
+fn refusal_of_values(fault: BuildFault, source: &[u8]) -> Option<Refusal>
+    ensures { result ≡ refusal_of_values fault source.now }
+{
+    match fault {
+        BuildFault::Limit(passed) => {
+            let kind = RefusalKind::Limit {
+                which: passed.which,
+                count: passed.count,
+            };
+            Some(refused_at(kind, passed.at, source))
+        }
+        BuildFault::NoMemory => None,
+    }
+}
+
+/// The refusal of a source with this fault; `None` where memory ran out.
+pub fn refusal_of(fault: CompileFault, source: &[u8]) -> Option<Refusal>
+    ensures { result ≡ refusal_of fault source.now }
+{
+    match fault {
+        CompileFault::Lex(fault) => refusal_of_text(fault, source),
+        CompileFault::Parse(fault) => refusal_of_tokens(fault, source),
+        CompileFault::Check(fault) => refusal_of_tree(fault, source),
+        CompileFault::Build(fault) => refusal_of_values(fault, source),
+        CompileFault::NoMemory => None,
+    }
 }

@@ -1,12 +1,12 @@
 //! The report of how a command ended.
-ghost use Rattle.std.specs.Prelude.{◌≡◌, ◌≤◌, length};
-ghost use Rattle.cc_top.specs.Outcome.{status_of, text_of};
+ghost use Rattle.std.specs.Prelude.{◌≡◌, ◌≤◌, ◌+◌, ◌++◌, length};
+ghost use Rattle.cc_top.specs.Outcome.{limit_text, status_of, text_of};
 ghost use Rattle.cc_top.specs.Report.{IsReported};
 ghost use Rattle.cc_top.specs.declared.outcome.Outcome.TheVariants.{BadImage, Exit, Refused, Stuck};
 
 use crate::line::{Line, push_decimal, push_hex, push_text};
 use crate::outcome::Outcome;
-use crate::refusal::Refusal;
+use crate::refusal::{Refusal, RefusalKind};
 use cc_io::{Sink, write_all};
 use elf_file::ElfFault;
 
@@ -40,6 +40,20 @@ fn exit_line(status: u8) -> Line
     line
 }
 
+/// Appends which limit is passed and with what count, where the refusal is of this kind.
+fn push_limit(line: &mut Line, kind: RefusalKind)
+    requires { length line.old + 54 ≤ 192 }
+    ensures text { line.new ≡ line.old ++ limit_text kind }
+    ensures room { length line.new ≤ length line.old + 54 }
+{
+    if let RefusalKind::Limit { which, count } = kind {
+        push_text(line, b" which ");
+        push_decimal(line, which.into());
+        push_text(line, b" count ");
+        push_decimal(line, count);
+    }
+}
+
 fn refused_line(refusal: Refusal) -> Line
     ensures { result ≡ text_of (Refused refusal) }
 {
@@ -49,7 +63,8 @@ fn refused_line(refusal: Refusal) -> Line
     line.push(b' ');
     push_decimal(&mut line, refusal.kind.number().into());
     push_text(&mut line, b" line ");
-    push_decimal(&mut line, refusal.line.into());
+    push_decimal(&mut line, refusal.line);
+    push_limit(&mut line, refusal.kind);
     line.push(b'\n');
     line
 }

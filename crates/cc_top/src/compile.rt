@@ -1,0 +1,28 @@
+//! What a source compiles to, or how a command ends that was to compile it.
+ghost use Rattle.std.specs.Prelude.{◌≡◌, IfOk, IfErr};
+ghost use Rattle.cc_top.specs.Refused.{CompilesTo, IsRejectionOf, outcome_of_refusal};
+
+use crate::outcome::Outcome;
+use crate::refusal::{Refusal, refusal_of};
+use cc_compile::{Compiled, compile_one};
+use std::alloc::Global;
+
+fn outcome_of(refusal: Option<Refusal>) -> Outcome
+    ensures { result ≡ outcome_of_refusal refusal }
+{
+    match refusal {
+        Some(refusal) => Outcome::Refused(refusal),
+        None => Outcome::NoMemory,
+    }
+}
+
+/// The image of a source text, and how many functions it defines.
+pub fn compile(alloc: Global, source: &[u8]) -> Result<Compiled, Outcome>
+    ensures accepted { IfOk result (λ c. CompilesTo source.now c.image.items c.functions) }
+    ensures err { IfErr result (IsRejectionOf source.now) }
+{
+    match compile_one(alloc, source) {
+        Ok(compiled) => Ok(compiled),
+        Err(fault) => Err(outcome_of(refusal_of(fault, source))),
+    }
+}
