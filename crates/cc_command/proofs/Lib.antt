@@ -10,5 +10,6 @@ pub mod FormReads
 pub mod AppReads
 pub mod NumberLemmas
 pub mod ReadingLemmas
+pub mod Alone
 pub mod CommandLemmas
 pub mod CommandRowsLemmas
