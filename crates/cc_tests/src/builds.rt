@@ -5,85 +5,6 @@ use cc_io::MemSink;
 use std::alloc::{AllocError, Global};
 use std::test::Fail;
 
-const NOT_BUILT: &[u8] = b"refused NotBuilt 50 line 1\n";
-
-const REFUSED: [(&[u8], &[u8]); 19] = [
-    (b"", NOT_BUILT),
-    (b"int main(void) { return 1 + 1; }", NOT_BUILT),
-    (
-        b"int main(void)\n{ return 42; ",
-        b"refused Syntax 23 line 2\n",
-    ),
-    (b"int main(void) { return; }", NOT_BUILT),
-    (b"int main(void) { return42; }", NOT_BUILT),
-    (
-        b"intmain(void) { return 42; }",
-        b"refused Syntax 23 line 1\n",
-    ),
-    (b"int main() { return 42; }", NOT_BUILT),
-    (b"int name(void) { return 42; }", NOT_BUILT),
-    (
-        b"int main(void) { return 42; } x",
-        b"refused Syntax 23 line 1\n",
-    ),
-    (b"int main(void) { return 0xFFFFFFFF; }", NOT_BUILT),
-    (b"int main(void) { return 7u; }", NOT_BUILT),
-    (
-        b"int main(void) { return 2147483648; }",
-        b"refused TooWide 5 line 1\n",
-    ),
-    (
-        b"int main(void)\n{\n/* x",
-        b"refused OpenComment 2 line 3\n",
-    ),
-    (
-        b"int main(void) { return 42; }\x00",
-        b"refused BadByte 1 line 1\n",
-    ),
-    (
-        b"\n\nint main(void) { return '; }",
-        b"refused OpenText 3 line 3\n",
-    ),
-    (b"'\\q'\n", b"refused BadText 4 line 1\n"),
-    (
-        b"int main(void)\n{ return 08; }",
-        b"refused BadNumber 9 line 2\n",
-    ),
-    (b"#define N 42\n", b"refused Directive 7 line 1\n"),
-    (
-        b"\nint abcdefghijabcdefghijabcdefghijabcdefghijabcdefghijabcdefghij1234;",
-        b"refused LongName 6 line 2\n",
-    ),
-];
-
-#[test]
-fn sources_are_accepted_or_refused(rt: HostRuntime) -> Result<(), Fail> {
-    let accepted: [&[u8]; 9] = [
-        ANSWER,
-        b"int main(void) { return 300; }",
-        b"int main(void) { return 2147483647; }",
-        b"int main(void) { return 0; }",
-        b" int\tmain\n(\x0bvoid\x0c)\r{return 7;}\n",
-        b"int main(void){return 1 ; }",
-        b"#include <stdio.h>\nint main(void) { return /* 6 * 7 */ 42; } // x",
-        b"int main(void) { return 0x2A; }",
-        b"int main(void) { return 042; }",
-    ];
-    for source in accepted {
-        let left = called_on(rt.alloc(), &BUILD, source, &[])?;
-        assert_eq!(rt; left.status, 0);
-        assert_eq!(rt; left.report.bytes().len(), 0);
-        assert_eq!(rt; left.files.get("out").map_or(0, |image| image.len()), 8200);
-    }
-    for (source, line) in &REFUSED {
-        let left = called_on(rt.alloc(), &BUILD, source, &[])?;
-        assert_eq!(rt; left.status, 4);
-        assert_eq!(rt; left.report.bytes(), *line);
-        assert!(rt; left.files.get("out").is_none());
-    }
-    Ok(())
-}
-
 #[test]
 fn long_sources_are_refused(rt: HostRuntime) -> Result<(), Fail> {
     let alloc = rt.alloc();
@@ -102,36 +23,9 @@ fn long_sources_are_refused(rt: HostRuntime) -> Result<(), Fail> {
 }
 
 #[test]
-fn failing_calls_have_their_status(rt: HostRuntime) -> Result<(), Fail> {
-    // The number of the call that fails, the status, and the bytes of OUT, where it is there.
-    let rows = [
-        (0, 2, None),
-        (1, 2, None),
-        (2, 2, None),
-        (3, 3, None),
-        (4, 3, Some(0)),
-        (5, 3, Some(4096)),
-        (6, 3, Some(8192)),
-        (7, 0, Some(8200)),
-    ];
-    for (failing, status, len) in rows {
-        let left = called_on(rt.alloc(), &BUILD, ANSWER, &[failing])?;
-        assert_eq!(rt; left.status, status, "call {failing}");
-        assert_eq!(rt;
-            left.files.get("out").map(|image| image.len()),
-            len,
-            "call {failing}"
-        );
-    }
-    Ok(())
-}
-
-#[test]
 fn other_words_are_usage(rt: HostRuntime) -> Result<(), Fail> {
     let alloc = rt.alloc();
-    let rows: [&[&str]; 16] = [
-        &[],
-        &["rvcc"],
+    let rows: [&[&str]; 14] = [
         &["rvcc", "build"],
         &["rvcc", "build", "in"],
         &["rvcc", "build", "in", "out", "out"],

@@ -68,3 +68,8 @@ pub fn called_on(
 ) -> Result<Left, AllocError> {
     called(alloc, texts, ("in", source), b"", [failing, &[], &[], &[]])
 }
+
+/// Calls `top` without arguments on an input of these bytes.
+pub fn told_on(alloc: Global, source: &[u8]) -> Result<Left, AllocError> {
+    called(alloc, &["rvcc"], ("in", b""), source, [&[], &[], &[], &[]])
+}

@@ -1,21 +1,23 @@
-//! Sources that a build refuses, and the line that it reports.
-use crate::calls::{BUILD, called_on};
+//! Sources that are refused, and the line that is reported, by a build and from the input alike.
+use crate::calls::{BUILD, called_on, told_on};
 use std::alloc::{AllocError, Global};
 use std::test::Fail;
 
-const SYNTAX: &[u8] = b"refused Syntax 23 line 1\n";
-
 const TOO_DEEP: &[u8] = b"refused TooDeep 22 line 1\n";
 
-const NOT_BUILT: &[u8] = b"refused NotBuilt 50 line 1\n";
-
 /// Sources, and the report of each.
-const SOURCES: [(&[u8], &[u8]); 8] = [
-    (b"int main(void) { a = b + c = d; }", SYNTAX),
-    (b"int main(void) { return 0 }", SYNTAX),
+const SOURCES: [(&[u8], &[u8]); 31] = [
+    (
+        b"int main(void) { a = b + c = d; }",
+        b"refused Syntax 23 line 1\n",
+    ),
+    (
+        b"int main(void) { return 0 }",
+        b"refused Syntax 23 line 1\n",
+    ),
     (
         b"int main(void) { switch (1) { { case 1: ; } } return 0; }",
-        SYNTAX,
+        b"refused Syntax 23 line 1\n",
     ),
     (
         b"int main(void)\n{ goto a; }",
@@ -27,10 +29,90 @@ const SOURCES: [(&[u8], &[u8]); 8] = [
         b"refused Syntax 23 line 3\n",
     ),
     (
-        b"int main(void) { switch (1) { case 1: ; case 1: ; } return 0; }",
-        NOT_BUILT,
+        b"intmain(void) { return 42; }",
+        b"refused Syntax 23 line 1\n",
     ),
-    (b"", NOT_BUILT),
+    (
+        b"int main(void) { return 2147483648; }",
+        b"refused TooWide 5 line 1\n",
+    ),
+    (
+        b"int main(void)\n{\n/* x",
+        b"refused OpenComment 2 line 3\n",
+    ),
+    (
+        b"int main(void) { return 42; }\x00",
+        b"refused BadByte 1 line 1\n",
+    ),
+    (
+        b"\n\nint main(void) { return '; }",
+        b"refused OpenText 3 line 3\n",
+    ),
+    (b"'\\q'\n", b"refused BadText 4 line 1\n"),
+    (
+        b"int main(void)\n{ return 08; }",
+        b"refused BadNumber 9 line 2\n",
+    ),
+    (b"#define N 42\n", b"refused Directive 7 line 1\n"),
+    (
+        b"\nint abcdefghijabcdefghijabcdefghijabcdefghijabcdefghijabcdefghij1234;",
+        b"refused LongName 6 line 2\n",
+    ),
+    (b"", b"refused NoMain 41 line 1\n"),
+    (
+        b"int name(void) { return 42; }\n",
+        b"refused NoMain 41 line 2\n",
+    ),
+    (
+        b"int main(void) { x = 1; return 0; }",
+        b"refused Unknown 31 line 1\n",
+    ),
+    (
+        b"int main(void)\n{ int a;\nint a; }",
+        b"refused Redeclared 32 line 3\n",
+    ),
+    (
+        b"int main(void) { const int x = 1; x = 2; return 0; }",
+        b"refused NotAssignable 33 line 1\n",
+    ),
+    (
+        b"int main(void) { int a[2];\nreturn a * 2; }",
+        b"refused BadOperands 34 line 2\n",
+    ),
+    (
+        b"int main(void) { return main(1); }",
+        b"refused BadCall 35 line 1\n",
+    ),
+    (b"int n;\nint a[n];", b"refused NotConstant 36 line 2\n"),
+    (
+        b"int a[2] = {1, 2, 3};",
+        b"refused BadInitialiser 37 line 1\n",
+    ),
+    (
+        b"int main(void)\n{\nvoid a;\n}",
+        b"refused BadType 38 line 3\n",
+    ),
+    (
+        b"int main(void) { return; }",
+        b"refused BadReturn 39 line 1\n",
+    ),
+    (b"int main(void) { break; }", b"refused BadJump 40 line 1\n"),
+    (
+        b"int main(void) { switch (1) {\ncase 1: ; case 1: ; } return 0; }",
+        b"refused BadLabel 43 line 2\n",
+    ),
+    (
+        b"int f(int a, int b, int c, int d, int e, int g, int h, int i, char j) { return 0; } int main(void) { return 0; }",
+        b"refused Limit 42 line 1 which 2 count 9\n",
+    ),
+    (
+        b"int main(void)\n{ char a[65536]; return 0; }",
+        b"refused Limit 42 line 1 which 3 count 65540\n",
+    ),
+    (
+        b"char a[1048568];\nchar *p;\nint main(void) { return 0; }",
+        b"refused Limit 42 line 2 which 4 count 1048580\n",
+    ),
 ];
 
 /// A byte so many times, and the report of that source.
@@ -39,9 +121,6 @@ const REPEATED: [(u8, usize, &[u8]); 3] = [
     (b'(', 1_048_576, b"refused ManyTokens 8 line 1\n"),
     (b' ', 1_048_577, b"refused LongSource 10 line 1\n"),
 ];
-
-/// So many parentheses around a returned constant, and the report of that source.
-const PARENTHESES: [(usize, &[u8]); 2] = [(99, NOT_BUILT), (100, TOO_DEEP)];
 
 /// A program whose one constant stands in so many parentheses.
 fn parenthesised(alloc: Global, count: usize) -> Result<Vec<u8>, AllocError> {
@@ -57,14 +136,25 @@ fn parenthesised(alloc: Global, count: usize) -> Result<Vec<u8>, AllocError> {
     Ok(source)
 }
 
+/// Builds this source, and compiles it from the input: both report this line, and leave nothing.
+fn is_refused(alloc: Global, source: &[u8], line: &[u8]) -> Result<bool, AllocError> {
+    let built = called_on(alloc, &BUILD, source, &[])?;
+    let told = told_on(alloc, source)?;
+    Ok(
+        built.status == 4
+            && built.report.bytes() == line
+            && built.files.get("out").is_none()
+            && told.status == 4
+            && told.report.bytes() == line
+            && told.output.bytes().is_empty(),
+    )
+}
+
 #[test]
 fn sources_are_refused_at_their_lines(rt: HostRuntime) -> Result<(), Fail> {
     let alloc = rt.alloc();
     for (source, line) in &SOURCES {
-        let left = called_on(alloc, &BUILD, source, &[])?;
-        assert_eq!(rt; left.status, 4);
-        assert_eq!(rt; left.report.bytes(), *line);
-        assert!(rt; left.files.get("out").is_none());
+        assert!(rt; is_refused(alloc, source, line)?);
     }
     Ok(())
 }
@@ -75,14 +165,86 @@ fn long_and_deep_sources_are_refused(rt: HostRuntime) -> Result<(), Fail> {
     for (byte, count, line) in REPEATED {
         let mut source = Vec::new(alloc);
         source.resize(count, byte)?;
-        let left = called_on(alloc, &BUILD, &source, &[])?;
-        assert_eq!(rt; left.status, 4);
-        assert_eq!(rt; left.report.bytes(), line);
+        assert!(rt; is_refused(alloc, &source, line)?);
     }
-    for (count, line) in PARENTHESES {
-        let left = called_on(alloc, &BUILD, &parenthesised(alloc, count)?, &[])?;
-        assert_eq!(rt; left.status, 4);
-        assert_eq!(rt; left.report.bytes(), line);
+    assert_eq!(rt; told_on(alloc, &parenthesised(alloc, 99)?)?.status, 0);
+    assert!(rt; is_refused(alloc, &parenthesised(alloc, 100)?, TOO_DEEP)?);
+    Ok(())
+}
+
+/// What stands in front of a repeated text, that text, how often, what stands behind it, and the
+/// report.
+const LIMITS: [(&[u8], &[u8], usize, &[u8], &[u8]); 2] = [
+    (
+        b"int main(void) { ",
+        b"putchar(65); ",
+        4094,
+        b"getchar(); 65; }",
+        b"refused Limit 42 line 1 which 5 count 24577\n",
+    ),
+    (
+        b"int main(void) {\n",
+        b"{ int a; &a; }\n",
+        8193,
+        b"}",
+        b"refused Limit 42 line 1 which 3 count 65544\n",
+    ),
+];
+
+/// A text, another text so many times, and a third.
+fn repeated(
+    alloc: Global,
+    front: &[u8],
+    text: &[u8],
+    count: usize,
+    back: &[u8],
+) -> Result<Vec<u8>, AllocError> {
+    let mut source = front.to_vec(alloc)?;
+    for _ in 0..count {
+        source.extend_from_slice(text)?;
     }
+    source.extend_from_slice(back)?;
+    Ok(source)
+}
+
+#[test]
+fn limits_are_named_with_their_counts(rt: HostRuntime) -> Result<(), Fail> {
+    let alloc = rt.alloc();
+    for (front, text, count, back, line) in &LIMITS {
+        let source = repeated(alloc, front, text, *count, back)?;
+        assert!(rt; is_refused(alloc, &source, line)?);
+    }
+    let most = repeated(
+        alloc,
+        b"int main(void) { ",
+        b"putchar(65); ",
+        4094,
+        b"65; 65; }",
+    )?;
+    assert_eq!(rt;
+        told_on(alloc, &most)?.output.bytes(),
+        b"accepted 1\n".as_slice()
+    );
+    Ok(())
+}
+
+/// So many functions, each in a line, and `main` behind them.
+fn functions(alloc: Global, count: usize) -> Result<Vec<u8>, AllocError> {
+    let mut source = Vec::new(alloc);
+    for k in 0..count {
+        let line = format!(in alloc; "int f{k}(void) {{ return 0; }}\n")?;
+        source.extend_from_slice(line.as_bytes())?;
+    }
+    source.extend_from_slice(b"int main(void) { return 0; }")?;
+    Ok(source)
+}
+
+#[test]
+fn a_program_has_512_functions_at_most(rt: HostRuntime) -> Result<(), Fail> {
+    let alloc = rt.alloc();
+    let most = told_on(alloc, &functions(alloc, 511)?)?;
+    assert_eq!(rt; most.output.bytes(), b"accepted 512\n".as_slice());
+    let line = b"refused Limit 42 line 513 which 1 count 513\n";
+    assert!(rt; is_refused(alloc, &functions(alloc, 512)?, line)?);
     Ok(())
 }

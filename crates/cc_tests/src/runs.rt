@@ -1,27 +1,11 @@
 //! Runs of an image through the top call, whose streams fail in mid-stream.
-use crate::calls::{ANSWER, BUILD, Left, called, called_on};
+use crate::calls::{BUILD, Left, called, called_on};
 use std::alloc::{AllocError, Global};
 use std::test::Fail;
 
-/// Copies its input to its output, and exits with 0. The words are those of the GNU assembler.
-const COPY: [u32; 16] = [
-    0x0001_1437, // lui s0, 0x11
-    0x0000_0513, // addi a0, zero, 0
-    0x0004_0593, // addi a1, s0, 0
-    0x0010_0613, // addi a2, zero, 1
-    0x03f0_0893, // addi a7, zero, 63
-    0x0000_0073, // ecall
-    0x0005_0e63, // beq a0, zero, 28
-    0x0010_0513, // addi a0, zero, 1
-    0x0004_0593, // addi a1, s0, 0
-    0x0010_0613, // addi a2, zero, 1
-    0x0400_0893, // addi a7, zero, 64
-    0x0000_0073, // ecall
-    0xfd5f_f06f, // jal zero, -44
-    0x0000_0513, // addi a0, zero, 0
-    0x05d0_0893, // addi a7, zero, 93
-    0x0000_0073, // ecall
-];
+/// Copies its input to its output.
+const COPY: &[u8] =
+    b"int main(void) { int c; while ((c = getchar()) != -1) putchar(c); return 0; }";
 
 const NONE: [&[u64]; 4] = [&[], &[], &[], &[]];
 
@@ -41,16 +25,9 @@ fn run(
     )
 }
 
-/// The image of a built source, with the copying program for its text.
 fn copy_image(alloc: Global) -> Result<Vec<u8>, AllocError> {
-    let left = called_on(alloc, &BUILD, ANSWER, &[])?;
-    let mut image = left.files.get("out").unwrap_or(b"").to_vec(alloc)?;
-    image.truncate(4096);
-    for word in COPY {
-        image.extend_from_slice(&word.to_le_bytes())?;
-    }
-    image.resize(8200, 0)?;
-    Ok(image)
+    let left = called_on(alloc, &BUILD, COPY, &[])?;
+    left.files.get("out").unwrap_or(b"").to_vec(alloc)
 }
 
 #[test]

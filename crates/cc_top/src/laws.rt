@@ -10,13 +10,9 @@ pub fn constant_exits()
 /// A source has at most one refusal.
 pub fn a_source_has_one_refusal()
     ensures { OneRefusal }
-{
-    cc_compile::laws::a_source_has_one_fault();
-}
+{}
 
 /// A source that is accepted is not refused.
 pub fn accepted_sources_are_not_refused()
     ensures { AcceptedIsNotRefused }
-{
-    cc_compile::laws::accepted_sources_have_no_fault();
-}
+{}

@@ -1,0 +1,208 @@
+//! Programs that are built and run, with what they write and end with.
+use crate::calls::{BUILD, Left, called, called_on};
+use std::alloc::{AllocError, Global};
+use std::test::Fail;
+
+/// Sources, with what is read, what is written, and the report of the run.
+const PROGRAMS: [(&[u8], &[u8], &[u8], &[u8]); 15] = [
+    (b"int main(void) { return 300; }", b"", b"", b"exit 44\n"),
+    (
+        b"int main(void) { return 2147483647 + 1 < 0; }",
+        b"",
+        b"",
+        b"exit 1\n",
+    ),
+    (
+        b"int main(void) { int i; for (i = 0; i < 3; i++) ; putchar(72); return 0; }",
+        b"",
+        b"H",
+        b"exit 0\n",
+    ),
+    (
+        b"int odd(int n); int even(int n) { if (n == 0) return 1; return odd(n - 1); } int odd(int n) { if (n == 0) return 0; return even(n - 1); } int main(void) { return even(10); }",
+        b"",
+        b"",
+        b"exit 1\n",
+    ),
+    (
+        b"int main(void) { int a = 0, b = 1, t, i; for (i = 0; i < 10; i++) { t = a; a = b; b = t + b; } return a; }",
+        b"",
+        b"",
+        b"exit 55\n",
+    ),
+    (
+        b"struct P { char c; int n; }; struct P a[3]; int main(void) { struct P *p; int s = 0; for (p = a; p != a + 3; p++) { p->n = 5; s = s + p->n; } return s + sizeof(struct P); }",
+        b"",
+        b"",
+        b"exit 23\n",
+    ),
+    (
+        b"int main(void) { int i, j, s = 0; for (i = 0; i < 5; i++) { for (j = 0; j < 5; j++) { if (j == 1) continue; if (j == 3) break; if (i == 3) return s; s = s + 10 * i + j; } } return 99; }",
+        b"",
+        b"",
+        b"exit 66\n",
+    ),
+    (
+        b"int main(void) { int i, x = 7, y = 0; for (i = 0; i < 3; i++) { if (y) x = x / y; } return x; }",
+        b"",
+        b"",
+        b"exit 7\n",
+    ),
+    (
+        b"int main(void) { int a, b; int *p = &a, *q = &b, *z = 0; return (p == q) + 2 * (p + 1 == q) + 4 * (p != 0) + 8 * (z == 0); }",
+        b"",
+        b"",
+        b"exit 12\n",
+    ),
+    (
+        b"int d(int x) { return x + 1; } int b(int x) { return d(x) * 2; } int c(int x) { return d(x) * 3; } int main(void) { return b(1) + c(2); }",
+        b"",
+        b"",
+        b"exit 13\n",
+    ),
+    (
+        b"int main(void) { return 0xFFFFFFFF == -1; }",
+        b"",
+        b"",
+        b"exit 1\n",
+    ),
+    (
+        b"int main(void) { return (-7 / 2 == -3) + 2 * (-7 % 2 == -1) + 4 * (-8 >> 1 == -4); }",
+        b"",
+        b"",
+        b"exit 7\n",
+    ),
+    (
+        b"int main(void) { unsigned char c = 250; signed char s = 200; c = c + 10; return c + 10 * (s < 0); }",
+        b"",
+        b"",
+        b"exit 14\n",
+    ),
+    (
+        b"int main(void) { int a[1000] = {0}; int b[3] = {1, 2}; return a[999] + b[0] + b[1] + b[2]; }",
+        b"",
+        b"",
+        b"exit 3\n",
+    ),
+    (
+        b"#include <stdio.h>\nint main() { return /* 6 * 7 */ 052 - 0x2au + 42; } // x",
+        b"",
+        b"",
+        b"exit 42\n",
+    ),
+];
+
+/// Writes the numbers from 1 to 12 with their squares.
+const SQUARES: &[u8] = b"#include <stdio.h>
+#include <stdlib.h>
+
+static void number(int n)
+{
+    char digits[10];
+    int count = 0;
+    do {
+        digits[count] = '0' + n % 10;
+        n = n / 10;
+        count++;
+    } while (n > 0);
+    while (count > 0) {
+        count--;
+        putchar(digits[count]);
+    }
+}
+
+static int square(int n) { return n * n; }
+
+int main(void)
+{
+    int i;
+    for (i = 1; i <= 12; i++) {
+        number(i);
+        putchar(' ');
+        number(square(i));
+        putchar('\\n');
+    }
+    return 0;
+}
+";
+
+/// Builds this source and runs its image with this option.
+fn built_and_run(
+    alloc: Global,
+    source: &[u8],
+    input: &[u8],
+    steps: &str,
+) -> Result<Left, AllocError> {
+    let built = called_on(alloc, &BUILD, source, &[])?;
+    let image = built.files.get("out").unwrap_or(b"");
+    called(
+        alloc,
+        &["rvcc", "run", "image", steps],
+        ("image", image),
+        input,
+        [&[], &[], &[], &[]],
+    )
+}
+
+#[test]
+fn programs_do_what_their_sources_say(rt: HostRuntime) -> Result<(), Fail> {
+    let alloc = rt.alloc();
+    for (source, input, output, report) in &PROGRAMS {
+        let left = built_and_run(alloc, source, input, "--steps=1000000")?;
+        assert_eq!(rt; left.status, 0);
+        assert_eq!(rt; left.output.bytes(), *output);
+        assert_eq!(rt; left.report.bytes(), *report);
+    }
+    let squares = built_and_run(alloc, SQUARES, b"", "--steps=1000000")?;
+    assert_eq!(rt;
+        squares.output.bytes(),
+        b"1 1\n2 4\n3 9\n4 16\n5 25\n6 36\n7 49\n8 64\n9 81\n10 100\n11 121\n12 144\n".as_slice()
+    );
+    assert_eq!(rt; squares.report.bytes(), b"exit 0\n".as_slice());
+    Ok(())
+}
+
+#[test]
+fn programs_that_do_not_end_are_stopped(rt: HostRuntime) -> Result<(), Fail> {
+    let alloc = rt.alloc();
+    let endless = b"int main(void) { while (1); return 0; }";
+    let left = built_and_run(alloc, endless, b"", "--steps=1000")?;
+    assert_eq!(rt; left.status, 7);
+    assert_eq!(rt; left.report.bytes(), b"budget\n".as_slice());
+
+    // A frame has 16 bytes, and the stack 8,388,608; that of `main` is the first.
+    let deep = b"int f(int n) { putchar(65); return f(n + 1); } int main(void) { return f(0); }";
+    let left = built_and_run(alloc, deep, b"", "--steps=1000000000")?;
+    assert_eq!(rt; left.status, 7);
+    assert_eq!(rt; left.report.bytes(), b"stack\n".as_slice());
+    assert_eq!(rt; left.output.bytes().len(), 524_287);
+    assert!(rt; left.output.bytes().iter().all(|byte| *byte == b'A'));
+    Ok(())
+}
+
+#[test]
+fn failing_calls_of_a_build_have_their_status(rt: HostRuntime) -> Result<(), Fail> {
+    let alloc = rt.alloc();
+    let whole = called_on(alloc, &BUILD, SQUARES, &[])?;
+    let image = whole.files.get("out").unwrap_or(b"");
+    assert_eq!(rt; image.len(), 8200);
+    // The number of the call that fails, the status, and the bytes of OUT, where it is there.
+    let rows = [
+        (0, 2, None),
+        (1, 2, None),
+        (2, 2, None),
+        (3, 3, None),
+        (4, 3, Some(0)),
+        (5, 3, Some(4096)),
+        (6, 3, Some(8192)),
+        (7, 0, Some(8200)),
+    ];
+    for (failing, status, len) in rows {
+        let left = called_on(alloc, &BUILD, SQUARES, &[failing])?;
+        let out = left.files.get("out");
+        assert_eq!(rt; left.status, status, "call {failing}");
+        assert_eq!(rt; out.map(|held| held.len()), len, "call {failing}");
+        assert!(rt; image.starts_with(out.unwrap_or(b"")));
+    }
+    Ok(())
+}
