@@ -1,4 +1,5 @@
 pub mod SourceLemmas
+pub mod AcceptLemmas
 pub mod RefusalLaws
 pub mod Digits
 pub mod GenerateLemmas

@@ -1,5 +1,5 @@
 //! Reads files and the input whole.
-ghost use Rattle.std.specs.Prelude.{◌≡◌, ◌≤◌, ◌⊎◌, ◌×◌, ℕ, List, None, Some, take, length, IsSome, IfOk, OnOk, OnErr, IsErrOf};
+ghost use Rattle.std.specs.Prelude.{◌≡◌, ◌≤◌, ◌⊎◌, ℕ, List, None, Some, take, length, IsSome, IfOk, OnOk, OnErr, IsErrOf};
 ghost use Rattle.std.specs.Option.{ForSome};
 ghost use Rattle.cc_io.specs.Faults.{Increased};
 ghost use Rattle.cc_io.specs.Files.{Name, content};
