@@ -7,7 +7,7 @@ use Rattle.std.proofs.Math.Bool.{or-false}
 use Rattle.std.proofs.lemmas.Bool.{or_right}
 use Rattle.std.proofs.lemmas.Bool.Decides.{eqb_tells}
 use Rattle.std.proofs.lemmas.List.Folds.{list_any-append}
-use Rattle.c_statement.specs.WordSets.{HaveSame}
+use Rattle.c_label.specs.WordSets.{HaveSame}
 
 swap : (a b : ℕ) → (a == b) ≡ (b == a)
 swap a b = by (eqb_tells a b) (eqb_tells b a)
