@@ -47,7 +47,7 @@ by_specifiers : (storage qualifier : Option Span) (x : Spec) (a n rest : Tree) (
     external (declared_with storage qualifier x (declared a n rest)) s ≡ after (specified_type (spec_tree x) s) (following at (is_some qualifier) a n rest)
 unfolding spelled
 by_specifiers (Some k) q x a n rest at s h =
-    let present : is_present (constant q) ≡ is_some q = elim q [
+    let present : is_present (constant q) ≡ is_some q = elim q as (λ q. is_present (constant q) ≡ is_some q) [
       | None ↦ refl
       | Some a ↦ refl
     ] in
@@ -99,7 +99,7 @@ by_storage : (storage qualifier : Option Span) (x : Spec) (a n bounds begun more
     external (declared_with storage qualifier x (declared a n (declared_globals bounds begun more semicolon))) s
     ≡ after (specified_type (spec_tree x) s) (all_globals (is_some qualifier) (count_of a) (name_of n) (offset_of n) bounds begun more)
 by_storage (Some k) q x a n bounds begun more semicolon s =
-    let present : is_present (constant q) ≡ is_some q = elim q [
+    let present : is_present (constant q) ≡ is_some q = elim q as (λ q. is_present (constant q) ≡ is_some q) [
       | None ↦ refl
       | Some a ↦ refl
     ] in

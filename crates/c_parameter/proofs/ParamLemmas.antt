@@ -54,7 +54,7 @@ param-of x s s1 y p q =
     let z = specified_type (spec_tree x.spec) s in
     let named = opt l.ParamName (λ i. name i ∷ []) x.name in
     let n = count_many l.Stars (λ span. mark m.Star span ∷ []) x.stars in
-    let present : is_present (constant x.qualifier) ≡ is_some x.qualifier = elim x.qualifier [
+    let present : is_present (constant x.qualifier) ≡ is_some x.qualifier = elim x.qualifier as (λ q. is_present (constant q) ≡ is_some q) [
       | None ↦ refl
       | Some a ↦ refl
     ] in
