@@ -39,7 +39,7 @@ abbrev pub Refuses : CompileFault → List ℕ → Type 0
 Refuses (fault.Lex e) source = lexed source ≡ Err e
 Refuses (fault.Parse e) source = (e ≢ parse.NoMemory) × ((tokens : List Token) × (lexed source ≡ Ok tokens) × Answers tokens (length source) (Err e))
 Refuses (fault.Check e) source = (e ≢ check_fault.NoMemory) × ((tree : Tree) × HasTree source tree × checker.Refuses e (check tree (length source)))
-Refuses (fault.Build e) source = (e ≢ build_fault.NoMemory) × ((p : ProgramTree) × Checks source p × (limit_named {Unit {0}} (Err e) ≡ limit_passed p.functions))
+Refuses (fault.Build e) source = (e ≢ build_fault.NoMemory) × ((p : ProgramTree) × Checks source p × (limit_named {O = Unit {0}} (Err e) ≡ limit_passed p.functions))
 Refuses fault.NoMemory source = Unit {0}
 
 -- ---- laws

@@ -1,4 +1,6 @@
 //! Why a source is not compiled.
+ghost use Rattle.std.specs.Prelude.{◌≡◌};
+ghost use Rattle.cc_compile.specs.Faults.{of_build, of_checker, of_lexer, of_parser};
 
 use c_check::CheckFault;
 use c_lex::LexFault;
@@ -25,4 +27,48 @@ pub enum CompileFault {
     /// Memory ran out.
     #[error("out of memory")]
     NoMemory,
+}
+
+impl From<LexFault> for CompileFault {
+    ghost from_gives = { λ fault e. e ≡ of_lexer fault };
+
+    fn from(fault: LexFault) -> CompileFault {
+        match fault {
+            LexFault::NoMemory => CompileFault::NoMemory,
+            fault => CompileFault::Lex(fault),
+        }
+    }
+}
+
+impl From<ParseFault> for CompileFault {
+    ghost from_gives = { λ fault e. e ≡ of_parser fault };
+
+    fn from(fault: ParseFault) -> CompileFault {
+        match fault {
+            ParseFault::NoMemory => CompileFault::NoMemory,
+            fault => CompileFault::Parse(fault),
+        }
+    }
+}
+
+impl From<CheckFault> for CompileFault {
+    ghost from_gives = { λ fault e. e ≡ of_checker fault };
+
+    fn from(fault: CheckFault) -> CompileFault {
+        match fault {
+            CheckFault::NoMemory => CompileFault::NoMemory,
+            fault => CompileFault::Check(fault),
+        }
+    }
+}
+
+impl From<BuildFault> for CompileFault {
+    ghost from_gives = { λ fault e. e ≡ of_build fault };
+
+    fn from(fault: BuildFault) -> CompileFault {
+        match fault {
+            BuildFault::NoMemory => CompileFault::NoMemory,
+            fault => CompileFault::Build(fault),
+        }
+    }
 }

@@ -1,19 +1,19 @@
 //! From a source to the file.
-ghost use Rattle.std.specs.Prelude.{◌≡◌, ◌≤◌, ◌×◌, ◌^◌, length, vec_len, IfOk, IfErr, Ok, None};
-ghost use Rattle.limits.specs.Limits.{most_tokens, most_source_bytes};
-ghost use Rattle.c_lex.specs.Tokens.{lexed};
+ghost use Rattle.std.specs.Prelude.{◌≡◌, length, IfErr, IfOk, None};
+ghost use Rattle.c_ast.specs.Externals.{unit_tree};
 ghost use Rattle.c_typed.specs.Typed.{ProgramTree};
-ghost use Rattle.cc_compile.specs.Accepted.{Accepts, Checks, Refuses};
+ghost use Rattle.c_typed.specs.WellTyped.{IsWellTyped};
+ghost use Rattle.c_elaboration.specs.Limits.{above_limits};
+ghost use Rattle.cc_compile.specs.Accepted.{Accepts, Checks, HasTree, Refuses};
 ghost use Rattle.cc_compile.specs.Compiled.{image_of};
 
 use crate::fault::CompileFault;
 use crate::typed::compile_typed;
 use c_ast::Unit;
-use c_check::{CheckFault, check};
-use c_lex::{LexFault, Token, lex};
-use c_parse::{ParseFault, parse};
+use c_check::check;
+use c_lex::lex;
+use c_parse::parse;
 use c_typed::Typed;
-use g_build::BuildFault;
 use std::alloc::Global;
 
 /// What a source is compiled to.
@@ -25,33 +25,27 @@ pub struct Compiled {
     pub functions: u32,
 }
 
-// The tokens of a source.
-fn tokens_of(alloc: Global, source: &[u8]) -> Result<Vec<Token>, CompileFault> {
-    match lex(alloc, source) {
-        Ok(tokens) => Ok(tokens),
-        Err(LexFault::NoMemory) => Err(CompileFault::NoMemory),
-        Err(fault) => Err(CompileFault::Lex(fault)),
-    }
-}
-
 // The tree of a source.
-fn tree_of(alloc: Global, source: &[u8]) -> Result<Unit, CompileFault> {
-    let tokens = tokens_of(alloc, source)?;
-    match parse(alloc, &tokens, source.len() as u32) {
-        Ok(unit) => Ok(unit),
-        Err(ParseFault::NoMemory) => Err(CompileFault::NoMemory),
-        Err(fault) => Err(CompileFault::Parse(fault)),
-    }
+fn tree_of(alloc: Global, source: &[u8]) -> Result<Unit, CompileFault>
+    ensures tree { IfOk result (λ unit. HasTree source.now (unit_tree unit)) }
+    ensures refused { IfErr result (λ e. Refuses e source.now) }
+{
+    let tokens = lex(alloc, source)?;
+    Ok(parse(alloc, &tokens, source.len() as u32)?)
 }
 
 // The typed program of a source.
-fn typed_of(alloc: Global, source: &[u8]) -> Result<Typed, CompileFault> {
+fn typed_of(alloc: Global, source: &[u8]) -> Result<Typed, CompileFault>
+    ensures checked { IfOk result (λ p. Checks source.now p) }
+    ensures typed { IfOk result (λ p. IsWellTyped p) }
+    ensures limits { IfOk result (λ p. above_limits p ≡ None) }
+    ensures refused { IfErr result (λ e. Refuses e source.now) }
+{
+    c_accepted::laws::checked_are_well_typed();
     let unit = tree_of(alloc, source)?;
-    match check(alloc, &unit, source.len() as u32) {
-        Ok(typed) => Ok(typed),
-        Err(CheckFault::NoMemory) => Err(CompileFault::NoMemory),
-        Err(fault) => Err(CompileFault::Check(fault)),
-    }
+    let checked = check(alloc, &unit, source.len() as u32);
+    drop(unit);
+    Ok(checked?)
 }
 
 /// Compiles a source text to an executable file, on one thread.
@@ -65,12 +59,11 @@ pub fn compile_one(alloc: Global, source: &[u8]) -> Result<Compiled, CompileFaul
     ensures refused { IfErr result (λ e. Refuses e source.now) }
 {
     let typed = typed_of(alloc, source)?;
-    match compile_typed(alloc, &typed) {
-        Ok(image) => Ok(Compiled {
-            image,
-            functions: typed.functions.len() as u32,
-        }),
-        Err(BuildFault::NoMemory) => Err(CompileFault::NoMemory),
-        Err(fault) => Err(CompileFault::Build(fault)),
-    }
+    let functions = typed.functions.len() as u32;
+    let image = compile_typed(alloc, &typed);
+    drop(typed);
+    Ok(Compiled {
+        image: image?,
+        functions,
+    })
 }

@@ -1,0 +1,4 @@
+mod Constants
+mod Characters
+mod Tokens
+mod Checked

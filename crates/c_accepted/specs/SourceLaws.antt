@@ -1,0 +1,25 @@
+-- Laws of accepted sources.
+use Rattle.std.specs.Prelude.{◌≡◌, ℕ, ◌^◌, ◌<◌, All, List, None, Ok}
+use Rattle.c_lex.specs.Tokens.{lexed}
+use Rattle.c_lex.specs.declared.token.Token.{Token}
+use Rattle.c_ast.specs.Shape.{FollowsGrammar}
+use Rattle.c_ast.specs.Spelling.{kinds, tokens_of}
+use Rattle.c_ast.specs.Tree.{Tree}
+use Rattle.c_typed.specs.Typed.{ProgramTree}
+use Rattle.c_typed.specs.WellTyped.{IsWellTyped}
+use Rattle.c_elaboration.specs.Check.{check}
+use Rattle.c_elaboration.specs.CheckLaws.{IsInRange}
+use Rattle.c_elaboration.specs.Limits.{above_limits}
+
+abbrev pub AreBytes : List ℕ → Type 0
+AreBytes source = All (λ b. b < 2 ^ 8) source
+
+-- The tokens of a source of bytes have words, and bytes.
+abbrev pub TokensAreInRange : Type 0
+TokensAreInRange = (source : List ℕ) → AreBytes source → (ts : List Token) → lexed source ≡ Ok ts → All IsInRange (kinds ts)
+
+-- A program that is accepted from a source of bytes is well typed, and within the limits 1 to 4.
+abbrev pub CheckedAreWellTyped : Type 0
+CheckedAreWellTyped =
+    (source : List ℕ) → AreBytes source → (ts : List Token) → lexed source ≡ Ok ts → (t : Tree) → FollowsGrammar t → tokens_of t ≡ ts →
+    (n : ℕ) (p : ProgramTree) → check t n ≡ Ok p → IsWellTyped p × (above_limits p ≡ None)

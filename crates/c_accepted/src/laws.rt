@@ -1,0 +1,22 @@
+//! Laws of accepted sources, for the proofs of the crates above: each is the contract of a function
+//! that does nothing.
+
+ghost use Rattle.c_accepted.specs.SourceLaws.{CheckedAreWellTyped, TokensAreInRange};
+
+/// The tokens of a source of bytes have words for numbers, and bytes for characters (ISO/IEC
+/// 9899:2011, 6.4.4, 6.4.5).
+pub fn tokens_are_in_range()
+    ensures { TokensAreInRange }
+{
+    c_lex::laws::tokens_are_longest();
+}
+
+/// The program that the checker makes of the tree of a source of bytes is well typed, and within
+/// the limits 1 to 4 of programs.
+pub fn checked_are_well_typed()
+    ensures { CheckedAreWellTyped }
+{
+    c_lex::laws::tokens_are_longest();
+    tokens_are_in_range();
+    c_sound::laws::accepted_are_well_typed();
+}
