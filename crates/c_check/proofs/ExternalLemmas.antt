@@ -31,7 +31,6 @@ use Rattle.c_elaboration.specs.Declarators.{global_declarator, more_globals}
 use Rattle.c_elaboration.specs.Externals.{struct, function, after_name, external}
 use Rattle.c_elaboration.specs.Check.{externals}
 use Rattle.c_check.specs.Functions.{unless_broken}
-use Rattle.c_declaration.proofs.DeclarationLemmas.{present}
 
 -- ---- specifiers
 
@@ -48,7 +47,11 @@ by_specifiers : (storage qualifier : Option Span) (x : Spec) (a n rest : Tree) (
     external (declared_with storage qualifier x (declared a n rest)) s ≡ after (specified_type (spec_tree x) s) (following at (is_some qualifier) a n rest)
 unfolding spelled
 by_specifiers (Some k) q x a n rest at s h =
-    ap (λ b. after (specified_type (spec_tree x) s) (following k.at b a n rest)) (present q)
+    let present : is_present (constant q) ≡ is_some q = elim q as (λ q. is_present (constant q) ≡ is_some q) [
+      | None ↦ refl
+      | Some a ↦ refl
+    ] in
+    ap (λ b. after (specified_type (spec_tree x) s) (following k.at b a n rest)) present
     ∙ ap (λ o. after (specified_type (spec_tree x) s) (following o (is_some q) a n rest)) (some_same k.at at h)
 by_specifiers None (Some k) x a n rest at s h = ap (λ o. after (specified_type (spec_tree x) s) (following o true a n rest)) (some_same k.at at h)
 by_specifiers None None (spec.Struct k t) a n rest at s h = ap (λ o. after (specified_type (spec_tree (spec.Struct k t)) s) (following o false a n rest)) (some_same k.at at h)
@@ -96,7 +99,11 @@ by_storage : (storage qualifier : Option Span) (x : Spec) (a n bounds begun more
     external (declared_with storage qualifier x (declared a n (declared_globals bounds begun more semicolon))) s
     ≡ after (specified_type (spec_tree x) s) (all_globals (is_some qualifier) (count_of a) (name_of n) (offset_of n) bounds begun more)
 by_storage (Some k) q x a n bounds begun more semicolon s =
-    ap (λ b. after (specified_type (spec_tree x) s) (all_globals b (count_of a) (name_of n) (offset_of n) bounds begun more)) (present q)
+    let present : is_present (constant q) ≡ is_some q = elim q as (λ q. is_present (constant q) ≡ is_some q) [
+      | None ↦ refl
+      | Some a ↦ refl
+    ] in
+    ap (λ b. after (specified_type (spec_tree x) s) (all_globals b (count_of a) (name_of n) (offset_of n) bounds begun more)) present
 by_storage None (Some k) x a n bounds begun more semicolon s = refl
 by_storage None None (spec.Struct k t) a n bounds begun more semicolon s = refl
 by_storage None None (spec.Void k) a n bounds begun more semicolon s = refl

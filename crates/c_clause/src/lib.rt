@@ -5,9 +5,10 @@
 #![tactic(auto)]
 
 mod clauses;
+mod conditions;
 mod jumps;
 mod values;
 
 pub use clauses::{condition_clause, value_clause};
+pub use conditions::{condition_at, subject_at, value_statement};
 pub use jumps::{jump, returned};
-pub use values::{condition, subject, whole};

@@ -23,7 +23,6 @@ use Rattle.c_elaboration.specs.declared.dimension.Dimension.{Dimension}
 use Rattle.c_elaboration.specs.Declarators.{open_dimensions, is_fixed}
 use Rattle.c_elaboration.specs.Externals.{Param, param, param_name, param_offset, more_params}
 use Rattle.c_parameter.specs.Params.{param_typed, param_specified}
-use Rattle.c_declaration.proofs.DeclarationLemmas.{present}
 
 -- ---- repetitions
 
@@ -55,9 +54,13 @@ param-of x s s1 y p q =
     let z = specified_type (spec_tree x.spec) s in
     let named = opt l.ParamName (λ i. name i ∷ []) x.name in
     let n = count_many l.Stars (λ span. mark m.Star span ∷ []) x.stars in
+    let present : is_present (constant x.qualifier) ≡ is_some x.qualifier = elim x.qualifier as (λ q. is_present (constant q) ≡ is_some q) [
+      | None ↦ refl
+      | Some a ↦ refl
+    ] in
     let whole : param (param_tree x) s ≡ made x (is_present (constant x.qualifier)) (length x.stars) (param_name named) z.0 z.1 =
     ap (λ n. made x (is_present (constant x.qualifier)) n (param_name named) z.0 z.1) n in
-    whole ∙ ap (λ b. made x b (length x.stars) (param_name named) z.0 z.1) (present x.qualifier)
+    whole ∙ ap (λ b. made x b (length x.stars) (param_name named) z.0 z.1) present
     ∙ ap (λ o. made x (is_some x.qualifier) (length x.stars) o z.0 z.1) (name-is x.name)
     ∙ ap (λ y. made x (is_some x.qualifier) (length x.stars) (option_map (λ (i : Identifier). i.name) x.name) y z.1) (sym p)
     ∙ ap (made x (is_some x.qualifier) (length x.stars) (option_map (λ (i : Identifier). i.name) x.name) y) (sym q)

@@ -25,7 +25,8 @@ use Rattle.c_typed.specs.Typed.{no_items, stmt_then}
 use Rattle.c_elaboration.specs.State.{State, after}
 use Rattle.c_elaboration.specs.Declarators.{locals}
 use Rattle.c_elaboration.specs.Statements.{Jumps, in_loop, jump, returned, statement}
-use Rattle.c_statement.specs.Parts.{value_statement, if_statement, else_statement, while_statement, do_statement, for_block, switch_statement, item}
+use Rattle.c_clause.specs.Clauses.{value_statement}
+use Rattle.c_statement.specs.Parts.{if_statement, else_statement, while_statement, do_statement, for_block, switch_statement, item}
 
 pub arm_null : (j : Jumps) (a : Span) (s : State) → statement j (stmt_tree (e.Null a)) s ≡ (typed.null, s)
 arm_null j a s = ap (λ t. statement j t s) (tree-Null a)

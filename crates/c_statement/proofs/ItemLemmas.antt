@@ -11,7 +11,8 @@ use Rattle.c_elaboration.specs.State.{State, after}
 use Rattle.c_elaboration.specs.Declarators.{items_joined}
 use Rattle.c_elaboration.specs.Statements.{Jumps, Labels, in_switch, next_group, with_group, switch_stmt, items, groups, group, statement}
 use Rattle.c_declaration.proofs.DeclarationLemmas.{items-none, items-more}
-use Rattle.c_statement.specs.Parts.{subject_at, switch_statement, item}
+use Rattle.c_clause.specs.Clauses.{subject_at}
+use Rattle.c_statement.specs.Parts.{switch_statement, item}
 
 pub groups-more : (gs : List typed.Group) (g : typed.Group) → groups_of (gs ++ g ∷ []) ≡ with_group (groups_of gs) g.cases.items g.is_default (items_of g.body.items)
 groups-more [] g = refl

@@ -1,6 +1,4 @@
 pub mod lemmas
 mod ArmLemmas
 mod ItemLemmas
-mod WordLemmas
 mod LoopLemmas
-mod LabelLemmas

@@ -2,17 +2,16 @@
 use Rattle.std.proofs.Common.{◌≡◌, ◌<◌, ℕ, ◌+◌, List, [], ◌∷◌, length, take, get_or, refl, sym, ap, ◌∙◌}
 use Rattle.c_ast.specs.declared.statement.BlockItem.{BlockItem}
 use Rattle.c_ast.specs.declared.statement.Group.{Group}
-use Rattle.c_ast.specs.declared.statement.Label.{Label}
 use Rattle.c_ast.specs.declared.statement.Stmt.{Stmt}
 use Rattle.c_ast.specs.Productions as l
 use Rattle.c_ast.specs.Tree.{Tree}
-use Rattle.c_ast.specs.Statements.{stmt_tree, item_tree, items_tree, stmts_tree, group_tree, groups_tree, label_tree, labels_tree}
+use Rattle.c_ast.specs.Statements.{stmt_tree, item_tree, items_tree, stmts_tree, group_tree, groups_tree}
 use Rattle.c_ast.proofs.ListLemmas.{many-none}
 use Rattle.c_expression.proofs.ListLemmas.{many_next}
 use Rattle.c_typed.specs.Typed.{StmtTree, ItemTrees, GroupTrees, no_items, no_groups, stmt_then}
 use Rattle.c_elaboration.specs.State.{State, after}
 use Rattle.c_elaboration.specs.Declarators.{items_joined}
-use Rattle.c_elaboration.specs.Statements.{Jumps, Labels, Groups, no_labels, next_group, label, more_labels, statement, items, groups, group}
+use Rattle.c_elaboration.specs.Statements.{Jumps, Labels, Groups, no_labels, next_group, statement, items, groups, group}
 use Rattle.c_declaration.proofs.DeclarationLemmas.{items-none, items-joined}
 use Rattle.c_statement.specs.Parts.{item}
 use Rattle.c_statement.proofs.ArmLemmas.{item_statement}
@@ -75,22 +74,6 @@ stmts-grow j xs i x s t old now new below is had at made =
 pub stmts-go : (j : Jumps) (xs : List Stmt) (i : ℕ) (x : Stmt) (s t u : State) → i < length xs → x ≡ get_or xs i x
     → t ≡ (items j (stmts_tree (take i xs)) s).1 → u ≡ (statement j (stmt_tree x) t).1 → u ≡ (items j (stmts_tree (take (i + 1) xs)) s).1
 stmts-go j xs i x s t u below is at new = new ∙ ap (λ v. (statement j (stmt_tree x) v).1) at ∙ ap (λ r. r.1) (sym (stmts-after j xs i x s below is))
-
--- ---- labels
-
-pub labels-begun : (x : Labels) (s : State) → more_labels x (labels_tree []) s ≡ (x, s)
-labels-begun x s = ap (λ t. more_labels x t s) (many-none l.MoreLabels (λ y. label_tree y ∷ []))
-
-pub labels-after : (x : Labels) (ys : List Label) (i : ℕ) (y : Label) (s : State) → i < length ys → y ≡ get_or ys i y →
-    more_labels x (labels_tree (take (i + 1) ys)) s ≡ after (more_labels x (labels_tree (take i ys)) s) (λ z. label z (label_tree y))
-labels-after x ys i y s below is = ap (λ t. more_labels x t s) (many_next l.MoreLabels (λ z. label_tree z ∷ []) ys i y below is)
-
--- one more label
-pub labels-grow : (x : Labels) (ys : List Label) (i : ℕ) (y : Label) (s t : State) (all : Labels) → i < length ys → y ≡ get_or ys i y
-    → all ≡ (more_labels x (labels_tree (take i ys)) s).0 → t ≡ (more_labels x (labels_tree (take i ys)) s).1
-    → label all (label_tree y) t ≡ more_labels x (labels_tree (take (i + 1) ys)) s
-labels-grow x ys i y s t all below is had at =
-    ap (λ z. label z (label_tree y) t) had ∙ ap (label (more_labels x (labels_tree (take i ys)) s).0 (label_tree y)) at ∙ sym (labels-after x ys i y s below is)
 
 -- ---- groups
 

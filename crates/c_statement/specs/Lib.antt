@@ -1,4 +1,2 @@
 pub mod Allowed
-pub mod Codes
 pub mod Parts
-pub mod WordSets

@@ -5,22 +5,9 @@ use Rattle.c_ast.specs.Tree.{Tree, Node}
 use Rattle.c_typed.specs.Typed as typed
 use Rattle.c_typed.specs.Typed.{ExprTree, StmtTree, ItemTrees, no_items, stmt_then}
 use Rattle.c_elaboration.specs.State.{Elaborated, ◌>>=◌, pure, within_scope}
-use Rattle.c_elaboration.specs.Leaves.{begin_of}
-use Rattle.c_elaboration.specs.Expressions.{expressions}
 use Rattle.c_elaboration.specs.Declarators.{items_joined, locals}
-use Rattle.c_elaboration.specs.Statements.{Jumps, in_switch, whole, condition, subject, condition_clause, value_clause, optional, value_stmt, if_stmt, with_else, do_stmt, switch_stmt, Labels, next_group, label, more_labels, for_start, statement, items, groups}
-
-abbrev pub value_statement : Tree → Elaborated StmtTree
-value_statement x = do
-  a ← expressions x
-  e ← whole (begin_of x) a
-  pure (value_stmt e)
-
--- a condition, of the statement at an offset
-abbrev pub condition_at : (offset : ℕ) → Tree → Elaborated (Option ExprTree)
-condition_at offset x = do
-  a ← expressions x
-  condition offset a
+use Rattle.c_elaboration.specs.Statements.{Jumps, in_switch, condition_clause, value_clause, optional, if_stmt, with_else, do_stmt, switch_stmt, for_start, statement, items, groups}
+use Rattle.c_clause.specs.Clauses.{condition_at, subject_at}
 
 -- an `if` at an offset without its `else`, and the `else` of an `if`
 abbrev pub if_statement : Jumps → (offset : ℕ) → Tree → Tree → Elaborated StmtTree
@@ -74,24 +61,13 @@ for_block j offset start x y t = within_scope (do
 
 -- ---- `switch`
 
-abbrev pub subject_at : (offset : ℕ) → Tree → Elaborated (Option ExprTree)
-subject_at offset x = do
-  a ← expressions x
-  subject offset a
-
 abbrev pub switch_statement : Jumps → (offset : ℕ) → Tree → Tree → Elaborated StmtTree
 switch_statement j offset x gs = do
   e ← subject_at offset x
   y ← groups (in_switch j) gs
   pure (switch_stmt e y.groups)
 
--- the labels of the next group
-abbrev pub group_labels : Labels → (first more : Tree) → Elaborated Labels
-group_labels x first more = do
-  y ← label (next_group x) first
-  more_labels y more
-
--- its statements
+-- the statements of a group
 abbrev pub group_items : Jumps → (first more : Tree) → Elaborated ItemTrees
 group_items j t ts = do
   s ← statement j t

@@ -6,11 +6,10 @@ ghost use Rattle.c_elaboration.specs.Statements.{statement, do_stmt, for_start, 
 ghost use Rattle.c_statement.specs.Allowed.{jumps_of};
 ghost use Rattle.c_statement.specs.Parts.{loop, while_statement, do_statement, for_loop, for_items, for_block};
 
-use crate::conditions::condition_at;
 use crate::jumps::IN_LOOP;
 use crate::statements::statement;
 use c_ast::{ExprList, ForClauses, ForStart, Stmt};
-use c_clause::{condition_clause, value_clause};
+use c_clause::{condition_at, condition_clause, value_clause};
 use c_declaration::locals;
 use c_state::{MaybeType, State};
 use c_typed::{Item, StmtForm, TExpr, TStmt};

@@ -7,12 +7,11 @@ ghost use Rattle.c_statement.specs.Parts.{if_statement, else_statement};
 ghost use Rattle.c_typed.specs.Typed.{if_else, null};
 
 use crate::blocks::block;
-use crate::conditions::{condition_at, value_statement};
 use crate::jumps::Jumps;
 use crate::loops::{do_statement, for_statement, while_statement};
 use crate::switches::switch_statement;
 use c_ast::{ExprList, Stmt};
-use c_clause::{jump, returned};
+use c_clause::{condition_at, jump, returned, value_statement};
 use c_state::{MaybeType, State};
 use c_typed::{StmtForm, TExpr, TStmt};
 use no_memory::NoMemory;

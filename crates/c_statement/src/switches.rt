@@ -7,10 +7,10 @@ ghost use Rattle.c_statement.specs.Allowed.{jumps_of};
 ghost use Rattle.c_statement.specs.Parts.{switch_statement, group_items};
 
 use crate::blocks::{statement_item, statements};
-use crate::conditions::subject_at;
 use crate::jumps::Jumps;
-use crate::labels::{Labels, group_labels};
 use c_ast::{Group, Subject};
+use c_clause::subject_at;
+use c_label::{Labels, group_labels};
 use c_state::{MaybeType, State};
 use c_typed::{Group as TGroup, Item, StmtForm, TExpr, TStmt};
 use no_memory::NoMemory;

@@ -1,3 +1,4 @@
 mod Small
 mod Short
 mod Determined
+mod Decided

@@ -55,3 +55,7 @@ OneFault = (source : List ℕ) (e f : CompileFault) → e ≢ fault.NoMemory →
 -- A source that is accepted has none.
 abbrev pub AcceptedIsNotRefused : Type 0
 AcceptedIsNotRefused = (source : List ℕ) (p : ProgramTree) (e : CompileFault) → e ≢ fault.NoMemory → Accepts source p → Refuses e source → ⊥
+
+-- A source is accepted, or has a fault.
+abbrev pub AcceptedOrRefused : Type 0
+AcceptedOrRefused = (source : List ℕ) → ((p : ProgramTree) × Accepts source p) ⊎ ((e : CompileFault) × (e ≢ fault.NoMemory) × Refuses e source)

@@ -1,6 +1,6 @@
 //! Laws of the composition, each the contract of a function that does nothing.
 
-ghost use Rattle.cc_compile.specs.Accepted.{AcceptedIsNotRefused, OneFault, OneProgram};
+ghost use Rattle.cc_compile.specs.Accepted.{AcceptedIsNotRefused, AcceptedOrRefused, OneFault, OneProgram};
 ghost use Rattle.cc_compile.specs.Compiled.{UnlimitedAreSmall};
 
 /// A program that passes no limit is small enough for an image.
@@ -27,3 +27,8 @@ pub fn accepted_is_not_refused()
 {
     c_parse::laws::shaped_trees_are_accepted();
 }
+
+/// A source is accepted, or it has a fault.
+pub fn accepted_or_refused()
+    ensures { AcceptedOrRefused }
+{}

@@ -90,6 +90,12 @@ chosen w (r ∷ []) s = r s
 chosen zero (r ∷ rs) s = r s
 chosen (suc w) (r ∷ rs) s = chosen w rs s
 
+-- A predicate chooses of two runs or more. One run is done whatever the predicate is.
+abbrev pub chosen_by : (predicate : ℕ) → List Run → Run
+chosen_by p [] s = Undefined []
+chosen_by p (r ∷ []) s = r s
+chosen_by p (r ∷ q ∷ rs) s = on_number (s.names p) (λ w. chosen w (r ∷ q ∷ rs) s)
+
 -- at most so many turns of a body, the variables moved back between two of them
 abbrev pub turns : ℕ → (body : Run) → (predicate : ℕ) → (back : Run) → Run
 turns zero body p back s = Cut []
@@ -99,7 +105,7 @@ turns (suc n) body p back s =
 abbrev mutual
   pub step_run : Context → Step → Run
   step_run c (plain i) s = instr_run c i s
-  step_run c (choice p cs) s = on_number (s.names p) (λ w. chosen w (codes_runs c cs) s)
+  step_run c (choice p cs) s = chosen_by p (codes_runs c cs) s
   step_run c (loop moves body p back) s = then_on (instrs_run c moves s) (turns c.bound (code_run c body) p (instrs_run c back))
 
   pub code_run : Context → Code → Run

@@ -3,7 +3,7 @@ use Rattle.c_typed.specs.StmtViews.{items_of, groups_of}
 use Rattle.c_ast.specs.Expressions.{list_tree}
 use Rattle.c_ast.specs.Statements.{stmt_tree, groups_tree}
 use Rattle.c_elaboration.specs.Statements.{next_group, in_switch, groups, statement}
-use Rattle.c_statement.specs.Parts.{subject_at}
+use Rattle.c_clause.specs.Clauses.{subject_at}
 use Rattle.c_statement.proofs.ArmLemmas.{arm_value, arm_return}
 use Rattle.c_statement.proofs.ItemLemmas.{switch-made}
 use Rattle.c_statement.specs.Allowed.{jumps_of}

@@ -1,7 +1,7 @@
 use Rattle.std.proofs.Common.{◌≡◌, take}
 use Rattle.c_ast.specs.Statements.{labels_tree}
 use Rattle.c_elaboration.specs.Statements.{more_labels}
-use Rattle.c_statement.proofs.labels.more_labels.Given as goal
+use Rattle.c_label.proofs.labels.more_labels.Given as goal
 
 abbrev pub invariant-loop-x : goal.invariant-loop-x
 invariant-loop-x v =

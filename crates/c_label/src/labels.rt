@@ -7,7 +7,7 @@ ghost use Rattle.c_elaboration.specs.declared.rule.Rule.TheVariants.{NotConstant
 ghost use Rattle.c_elaboration.specs.Operands.{term_constant};
 ghost use Rattle.c_elaboration.specs.Expressions.{expression};
 ghost use Rattle.c_elaboration.specs.Statements.{no_labels, next_group, case_label, label, more_labels};
-ghost use Rattle.c_statement.specs.Parts.{group_labels};
+ghost use Rattle.c_label.specs.Groups.{group_labels};
 
 use crate::words::Words;
 use c_ast::{Expr, Label};
@@ -21,16 +21,16 @@ use std::marker::Model;
 /// The labels of the groups of a `switch` so far: the words of all cases, whether there is a
 /// `default`, and the labels of the group that begins. Contracts see a plain record.
 #[derive(Drop)]
-pub(crate) struct Labels {
-    pub(crate) words: Words,
-    pub(crate) has_default: bool,
-    pub(crate) cases: Vec<u32>,
-    pub(crate) is_default: bool,
+pub struct Labels {
+    pub words: Words,
+    pub has_default: bool,
+    pub cases: Vec<u32>,
+    pub is_default: bool,
 }
 
 impl Model for Labels {
     ghost use Rattle.c_elaboration.specs.Statements.{Labels as Record};
-    ghost use Rattle.c_statement.specs.Codes.{coded_labels};
+    ghost use Rattle.c_label.specs.Codes.{coded_labels};
 
     ghost Value = { Record };
 
@@ -46,7 +46,7 @@ impl Model for Labels {
 
 impl Labels {
     /// No labels.
-    pub(crate) fn new(alloc: Global) -> Labels
+    pub fn new(alloc: Global) -> Labels
         ensures { result ≡ no_labels }
     {
         Labels {
@@ -60,7 +60,7 @@ impl Labels {
 
 /// The labels that a group begins with, after those of the groups before it (ISO/IEC 9899:2011,
 /// 6.8.4.2).
-pub(crate) fn group_labels(
+pub fn group_labels(
     state: &mut State,
     labels: Labels,
     first: &Label,

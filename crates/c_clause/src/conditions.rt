@@ -1,17 +1,17 @@
 ghost use Rattle.std.specs.Prelude.{◌≡◌, IfOk, OnOk};
 ghost use Rattle.c_ast.specs.Expressions.{list_tree};
 ghost use Rattle.c_elaboration.specs.Statements.{value_stmt};
-ghost use Rattle.c_statement.specs.Parts.{condition_at, subject_at, value_statement};
+ghost use Rattle.c_clause.specs.Clauses.{condition_at, subject_at, value_statement};
 
+use crate::values::{condition, subject, whole};
 use c_ast::ExprList;
-use c_clause::{condition, subject, whole};
 use c_expression::comma_expression;
 use c_state::State;
 use c_typed::{StmtForm, TExpr, TStmt};
 use no_memory::NoMemory;
 
 /// A statement of an expression (ISO/IEC 9899:2011, 6.8.3).
-pub(crate) fn value_statement(state: &mut State, x: &ExprList) -> Result<TStmt, NoMemory>
+pub fn value_statement(state: &mut State, x: &ExprList) -> Result<TStmt, NoMemory>
     ensures value { IfOk result (λ r. r ≡ (value_statement (list_tree x.now) state.old).0) }
     ensures state { OnOk result
         (state.new ≡ (value_statement (list_tree x.now) state.old).1) }
@@ -32,11 +32,7 @@ fn value_stmt(e: Option<TExpr>) -> TStmt
 }
 
 /// The condition of the statement at an offset (6.8.4.1, 6.8.5).
-pub(crate) fn condition_at(
-    state: &mut State,
-    offset: u32,
-    x: &ExprList,
-) -> Result<Option<TExpr>, NoMemory>
+pub fn condition_at(state: &mut State, offset: u32, x: &ExprList) -> Result<Option<TExpr>, NoMemory>
     ensures value { IfOk result
         (λ r. r ≡ (condition_at offset (list_tree x.now) state.old).0) }
     ensures state { OnOk result
@@ -47,11 +43,7 @@ pub(crate) fn condition_at(
 }
 
 /// What the `switch` at an offset goes by (6.8.4.2).
-pub(crate) fn subject_at(
-    state: &mut State,
-    offset: u32,
-    x: &ExprList,
-) -> Result<Option<TExpr>, NoMemory>
+pub fn subject_at(state: &mut State, offset: u32, x: &ExprList) -> Result<Option<TExpr>, NoMemory>
     ensures value { IfOk result
         (λ r. r ≡ (subject_at offset (list_tree x.now) state.old).0) }
     ensures state { OnOk result

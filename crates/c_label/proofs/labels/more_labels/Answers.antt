@@ -1,6 +1,6 @@
 use Rattle.std.proofs.Common.{◌≡◌, ◌∙◌, ap, sym}
-use Rattle.c_statement.proofs.LoopLemmas.{labels-begun, labels-grow}
-use Rattle.c_statement.proofs.labels.more_labels.Goals as goal
+use Rattle.c_label.proofs.MoreLemmas.{labels-begun, labels-grow}
+use Rattle.c_label.proofs.labels.more_labels.Goals as goal
 
 pub loop-x-init : goal.loop-x-init
 loop-x-init c =

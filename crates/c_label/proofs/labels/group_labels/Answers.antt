@@ -1,7 +1,7 @@
 use Rattle.std.proofs.Common.{◌≡◌, IfOk, OnOk, subst}
 use Rattle.c_ast.specs.Statements.{label_tree, labels_tree}
-use Rattle.c_statement.proofs.LabelLemmas.{group-begun}
-use Rattle.c_statement.proofs.labels.group_labels.Goals as goal
+use Rattle.c_label.proofs.LabelLemmas.{group-begun}
+use Rattle.c_label.proofs.labels.group_labels.Goals as goal
 
 pub returns-clause-value : goal.returns-clause-value
 returns-clause-value c =

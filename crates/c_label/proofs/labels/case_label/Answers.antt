@@ -2,8 +2,8 @@ use Rattle.std.proofs.Common.{◌∙◌, ap}
 use Rattle.std.specs.Prelude.{◌==◌}
 use Rattle.std.specs.List.{list_any}
 use Rattle.c_elaboration.specs.Statements.{Labels}
-use Rattle.c_statement.proofs.LabelLemmas.{on_ok, case-some}
-use Rattle.c_statement.proofs.labels.case_label.Goals as goal
+use Rattle.c_label.proofs.LabelLemmas.{on_ok, case-some}
+use Rattle.c_label.proofs.labels.case_label.Goals as goal
 
 pub returns-in-Some-clause-state : goal.returns-in-Some-clause-state
 returns-in-Some-clause-state c =

@@ -6,7 +6,7 @@ use Rattle.c_ast.specs.Tree.{Tree}
 use Rattle.c_elaboration.specs.declared.rule.Rule.TheVariants.{BadLabel}
 use Rattle.c_elaboration.specs.State.{State, breaks_if, after}
 use Rattle.c_elaboration.specs.Statements.{Labels, next_group, case_label, label, more_labels}
-use Rattle.c_statement.specs.Parts.{group_labels}
+use Rattle.c_label.specs.Groups.{group_labels}
 
 pub on_ok : {X E : Type 0} (r : Result X E) (P : Type 0) → P → OnOk r P
 on_ok (Ok a) P p = p

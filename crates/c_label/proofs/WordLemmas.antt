@@ -1,29 +1,21 @@
 -- One more word in a list and in a set.
-use Rattle.std.proofs.Common.{◌≡◌, ◌≢◌, ◌⊎◌, ℕ, Bool, true, false, List, [], ◌∷◌, ◌++◌, refl, sym, ap, ◌∙◌, subst}
+use Rattle.std.proofs.Common.{◌≡◌, ◌≢◌, ◌⊎◌, ℕ, Bool, true, false, List, [], ◌∷◌, ◌++◌, refl, sym, ap, ◌∙◌, subst, arith}
 use mathlib.Core.Logic.{inl, inr}
 use Rattle.std.specs.Prelude.{◌==◌, ◌||◌, eqb, if◌then◌else◌}
 use Rattle.std.specs.List.{list_any}
 use Rattle.std.proofs.Math.Bool.{or-false}
 use Rattle.std.proofs.lemmas.Bool.{or_right}
-use Rattle.std.proofs.lemmas.Bool.Decides.{eqb_tells}
+use Rattle.std.proofs.lemmas.Bool.Decides.{eqb_tells, nat_tests}
 use Rattle.std.proofs.lemmas.List.Folds.{list_any-append}
-use Rattle.c_statement.specs.WordSets.{HaveSame}
-
-swap : (a b : ℕ) → (a == b) ≡ (b == a)
-swap a b = by (eqb_tells a b) (eqb_tells b a)
-  where
-    by : ((eqb a b ≡ true) × (a ≡ b)) ⊎ ((eqb a b ≡ false) × (a ≢ b)) → ((eqb b a ≡ true) × (b ≡ a)) ⊎ ((eqb b a ≡ false) × (b ≢ a)) → eqb a b ≡ eqb b a
-    by (inl p) (inl q) = p.0 ∙ sym q.0
-    by (inl p) (inr q) = absurd (q.1 (sym p.1))
-    by (inr p) (inl q) = absurd (p.1 (sym q.1))
-    by (inr p) (inr q) = p.0 ∙ sym q.0
+use Rattle.c_label.specs.WordSets.{HaveSame}
 
 abbrev set_with : List ℕ → ℕ → Bool → List ℕ
 set_with ks x b = if b then ks else ks ++ x ∷ []
 
 same_in : (ks ws : List ℕ) (x : ℕ) (b : Bool) → list_any (λ k. x == k) ks ≡ b → HaveSame ks ws → HaveSame (set_with ks x b) (ws ++ x ∷ [])
 same_in ks ws x false q h w =
-    list_any-append (λ k. w == k) ks (x ∷ []) ∙ ap (λ b. b || (w == x || false)) (h w) ∙ ap (λ b. list_any (λ v. v == w) ws || (b || false)) (swap w x)
+    let swap : (w == x) ≡ (x == w) = grind (arith, nat_tests) in
+    list_any-append (λ k. w == k) ks (x ∷ []) ∙ ap (λ b. b || (w == x || false)) (h w) ∙ ap (λ b. list_any (λ v. v == w) ws || (b || false)) swap
     ∙ sym (list_any-append (λ v. v == w) ws (x ∷ []))
 same_in ks ws x true q h w = by (eqb_tells x w) ∙ sym (list_any-append (λ v. v == w) ws (x ∷ []))
   where

@@ -9,14 +9,14 @@ use std::marker::Model;
 /// The words of all `case` labels of a `switch` so far, also where one stands twice, and a set of
 /// them. Contracts see the list.
 #[derive(Drop)]
-pub(crate) struct Words {
+pub struct Words {
     list: Vec<u32>,
     set: IndexSet<u32>,
 }
 
 impl Model for Words {
     ghost use Rattle.std.specs.Prelude.{ℕ, List};
-    ghost use Rattle.c_statement.specs.WordSets.{HaveSame};
+    ghost use Rattle.c_label.specs.WordSets.{HaveSame};
 
     ghost Value = { List ℕ };
 
@@ -27,7 +27,7 @@ impl Model for Words {
 
 impl Words {
     /// No words.
-    pub(crate) fn new(alloc: Global) -> Words
+    pub fn new(alloc: Global) -> Words
         ensures { result ≡ [] }
     {
         Words {
@@ -37,14 +37,14 @@ impl Words {
     }
 
     /// Whether a word is among them.
-    pub(crate) fn contains(&self, word: u32) -> bool
+    pub fn contains(&self, word: u32) -> bool
         ensures { result ≡ list_any (λ v. v == word) self.now }
     {
         self.set.contains(&word)
     }
 
     /// These words and one more.
-    pub(crate) fn with(self, word: u32) -> Result<Words, NoMemory>
+    pub fn with(self, word: u32) -> Result<Words, NoMemory>
         ensures { IfOk result (λ r. r ≡ self ++ word ∷ []) }
     {
         let Words { mut list, mut set } = self;

@@ -1,0 +1,3 @@
+mod LabelLemmas
+mod MoreLemmas
+mod WordLemmas
