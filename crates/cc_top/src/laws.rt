@@ -10,9 +10,13 @@ pub fn constant_exits()
 /// A source has at most one refusal.
 pub fn a_source_has_one_refusal()
     ensures { OneRefusal }
-{}
+{
+    cc_compile::laws::the_fault_is_determined();
+}
 
 /// A source that is accepted is not refused.
 pub fn accepted_sources_are_not_refused()
     ensures { AcceptedIsNotRefused }
-{}
+{
+    cc_compile::laws::accepted_is_not_refused();
+}
