@@ -1,0 +1,16 @@
+pub mod Stands
+pub mod Registers
+pub mod Locations
+pub mod Operands
+pub mod Segments
+pub mod Items
+pub mod Words
+pub mod Values
+pub mod Blocks
+pub mod Stores
+pub mod Represented
+pub mod Templates
+pub mod Rows
+pub mod Branches
+pub mod Memories
+pub mod Pointers
