@@ -14,3 +14,4 @@ pub mod Rows
 pub mod Branches
 pub mod Memories
 pub mod Pointers
+pub mod Clears

@@ -64,7 +64,7 @@ pub record LeafFits (base size width offset : ℕ) : Type 0 where
 -- a block is at an address above 0, where it may be read, and written unless it is fixed
 pub record BlockFits (flags : ℕ → ℕ) (base : ℕ) (b : Block) : Type 0 where
   pub low : 0 < base
-  pub high : base + b.size + 4 ≤ 2 ^ 32
+  pub high : base + b.size + 4 < 2 ^ 32
   pub aligned : base % 4 ≡ 0
   pub readable : (j : ℕ) → j < b.size + 4 → has_flag (flags (base + j)) to_read ≡ true
   pub writable : b.fixed ≡ false → (j : ℕ) → j < b.size + 4 → has_flag (flags (base + j)) to_write ≡ true

@@ -3,7 +3,7 @@
 
 ghost use Rattle.s_templates.specs.Laws.{StandingIsDone, TextStays, SegmentCodeStands, CodeIsCut, FunctionsStand, ItemsAreResolved, WordsAreTheSame};
 ghost use Rattle.s_templates.specs.Branches.{OffsetLeads, JumpIsDone, BranchNotZeroIsDone, BranchZeroIsDone, BranchEqualIsDone};
-ghost use Rattle.s_templates.specs.Memories.{LoadIsDone, StoreIsDone, EqualPointersIsDone};
+ghost use Rattle.s_templates.specs.Memories.{LoadIsDone, StoreIsDone, EqualPointersIsDone, ClearIsDone};
 ghost use Rattle.s_templates.specs.Rows.{ConstIsDone, UndefIsDone, ObjectAddressIsDone, GlobalAddressIsDone, BinaryIsDone, UnaryIsDone, MoveIsDone};
 
 /// The instruction that stands at pc is the one that is done.
@@ -84,3 +84,12 @@ pub fn templates_store()
 pub fn templates_compare_pointers()
     ensures { EqualPointersIsDone }
 {}
+
+/// So does that of clearing an object, a word a turn.
+pub fn templates_clear()
+    ensures { ClearIsDone }
+{
+    val_core::laws::memory::load_after_clear();
+    val_core::laws::memory::clear_elsewhere();
+    val_core::laws::memory::clear_keeps_blocks();
+}

@@ -210,7 +210,7 @@ store_is_done after-store elsewhere keeps text f q s words rep width a v m ina i
   where
     bytes-left : (w : machine.State) (width at x n : ℕ) → (n < at) ⊎ (at + width ≤ n) → (bytes-stored w width at x).mem n ≡ w.mem n
     bytes-left w width at x n (inl before) = store_leaves_others w.mem at x width n (inl (omega (arith, before)))
-    bytes-left w width at x n (inr after) = store_leaves_others w.mem at x width n (inr after)
+    bytes-left w width at x n (inr beyond) = store_leaves_others w.mem at x width n (inr beyond)
 
     beside : (n at width : ℕ) → (at ≤ n → n < at + width → ⊥) → (n < at) ⊎ (at + width ≤ n)
     beside n at width never =
@@ -219,6 +219,6 @@ store_is_done after-store elsewhere keeps text f q s words rep width a v m ina i
           | inr from ↦
               elim (cases_lt n (at + width)) [
                 | inl inside ↦ absurd (never from inside)
-                | inr after ↦ inr after
+                | inr beyond ↦ inr beyond
               ]
         ]

@@ -46,7 +46,7 @@ load-acts flags s rd rs d a place even good =
 abbrev pub stored : State → (a x : ℕ) → State
 stored s a x = record { pc = after s.pc; regs = s.regs; mem = store_bytes s.mem a x 4 }
 
-store-acts : (flags : ℕ → ℕ) (s : State) (rs rd d a : ℕ) → offset (look s.regs rs) d ≡ a → a % 4 ≡ 0 → allowed flags to_write a 4 ≡ true
+pub store-acts : (flags : ℕ → ℕ) (s : State) (rs rd d a : ℕ) → offset (look s.regs rs) d ≡ a → a % 4 ≡ 0 → allowed flags to_write a 4 ≡ true
     → act flags (Sw rs rd d) s ≡ next (stored s a (look s.regs rd))
 unfolding act
 store-acts flags s rs rd d a place even good =
@@ -162,7 +162,7 @@ module _ (text : Text) (f : Frame) (words : HasWords text f) where
 
   left-elsewhere : (s : State) (o x a : ℕ) → (a < f.sp + o) ⊎ (f.sp + o + 4 ≤ a) → (stored s (f.sp + o) x).mem a ≡ s.mem a
   left-elsewhere s o x a (inl before) = store_leaves_others s.mem (f.sp + o) x 4 a (inl (omega (arith, before)))
-  left-elsewhere s o x a (inr after) = store_leaves_others s.mem (f.sp + o) x 4 a (inr (omega (arith, after)))
+  left-elsewhere s o x a (inr beyond) = store_leaves_others s.mem (f.sp + o) x 4 a (inr (omega (arith, beyond)))
 
   pub put-done : (s : State) (b rs x : ℕ) (l : Location) (v : Value) → HasText text s.mem → s.regs sp ≡ f.sp → LocationFits f l → CodeStands text s.pc (put l rs) b → b < 2 ^ 32
       → rs ≢ 0 → rs ≢ t2 → s.regs rs ≡ x → Shows f.bases v x → Writes text f s b l v

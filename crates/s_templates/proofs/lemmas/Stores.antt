@@ -30,16 +30,16 @@ pub same-back : (m m' : Memory) → SameBlocks m m' → SameBlocks m' m
 same-back m m' h = record { shapes = sym h.shapes; lives = sym h.lives; fixed = sym h.fixed }
 
 -- the block of the same number
-record Fellow (m : Memory) (n : ℕ) (b : Block) : Type 0 where
-  block : Block
-  there : Lives m n block
-  shape : shape_of block ≡ shape_of b
-  fixed : block.fixed ≡ b.fixed
+pub record Fellow (m : Memory) (n : ℕ) (b : Block) : Type 0 where
+  pub block : Block
+  pub there : Lives m n block
+  pub shape : shape_of block ≡ shape_of b
+  pub fixed : block.fixed ≡ b.fixed
 
 mapped : {A B : Type 0} (g : A → B) (xs ys : List A) (n : ℕ) (x : A) → map g xs ≡ map g ys → slice_get xs n ≡ Some x → option_map g (slice_get ys n) ≡ Some (g x)
 mapped g xs ys n x e there = sym (slice_get-map g ys n) ∙ sym (ap (λ l. slice_get l n) e) ∙ slice_get-map g xs n ∙ ap (option_map g) there
 
-fellow : (m m' : Memory) → SameBlocks m m' → (n : ℕ) (b : Block) → Lives m n b → Fellow m' n b
+pub fellow : (m m' : Memory) → SameBlocks m m' → (n : ℕ) (b : Block) → Lives m n b → Fellow m' n b
 fellow m m' h n b lives =
     by (slice_get m' n) refl (mapped shape_of m m' n b h.shapes lives.there) (mapped (λ k. k.live) m m' n b h.lives lives.there) (mapped (λ k. k.fixed) m m' n b h.fixed lives.there)
   where
@@ -60,7 +60,7 @@ leaves-of-shape : (width offset : ℕ) (cs : List Cell) → list_any (is_at widt
 leaves-of-shape width offset [] = refl
 leaves-of-shape width offset (c ∷ cs) = ap (λ t. is_at width offset c || t) (leaves-of-shape width offset cs)
 
-leaf-same : (width offset : ℕ) (b c : Block) → shape_of b ≡ shape_of c → has_leaf width offset c ≡ true → has_leaf width offset b ≡ true
+pub leaf-same : (width offset : ℕ) (b c : Block) → shape_of b ≡ shape_of c → has_leaf width offset c ≡ true → has_leaf width offset b ≡ true
 leaf-same width offset b c e has =
     leaves-of-shape width offset b.cells ∙ ap (λ s. leaf-in width offset s.leaves) e ∙ sym (leaves-of-shape width offset c.cells) ∙ has
 
@@ -182,7 +182,7 @@ abbrev number-of : Value → ℕ
 number-of (At b o) = b.number
 number-of _ = 0
 
-same-some : (b c : Block) → Some b ≡ Some c → b ≡ c
+pub same-some : (b c : Block) → Some b ≡ Some c → b ≡ c
 same-some b c e = cc
 
 width-above : (w : ℕ) → IsWidth w → 0 < w
