@@ -15,3 +15,4 @@ pub mod Branches
 pub mod Memories
 pub mod Pointers
 pub mod Clears
+pub mod Exits

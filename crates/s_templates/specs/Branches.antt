@@ -1,12 +1,13 @@
--- What the templates of branches and jumps do, over places.
+-- What the templates of branches, jumps and exits do, over places.
 use Rattle.std.specs.Prelude.{◌≡◌, ℕ, ◌+◌, ◌-◌, ◌%◌, ◌^◌, ◌<◌, ◌==◌, if◌then◌else◌, [], ◌∷◌, ◌++◌}
 use Rattle.val_core.specs.declared.values.Value.TheVariants.{Num}
-use Rattle.rv_isa.specs.Registers.{x0, t0, t1}
-use Rattle.rv_isa.specs.declared.instruction.Instr.TheVariants.{Beq, Bne, Jal}
+use Rattle.rv_isa.specs.Calls.{exit_call}
+use Rattle.rv_isa.specs.Registers.{x0, t0, t1, a0, a7}
+use Rattle.rv_isa.specs.declared.instruction.Instr.TheVariants.{Beq, Bne, Jal, Addi, Ecall}
 use Rattle.rv_layout.specs.Layout.{offset_to}
-use Rattle.s_select.specs.Operands.{location_of, load_immediate, in_of, load_in}
+use Rattle.s_select.specs.Operands.{location_of, load_immediate, get, in_of, load_in}
 use Rattle.s_templates.specs.Standing.{CodeStands}
-use Rattle.s_templates.specs.Steps.{Arrives}
+use Rattle.s_templates.specs.Steps.{Arrives, Exits}
 use Rattle.s_templates.specs.Rows.{InBody}
 
 -- The offset of a jump leads to its target.
@@ -34,3 +35,9 @@ BranchEqualIsDone =
     InBody (λ text f q s. (p w number distance target b : ℕ) → p < f.places → q.names p ≡ Num w → number < 2 ^ 32
     → CodeStands text s.pc (load_in t0 (location_of p) ++ load_immediate t1 number ++ Bne (in_of (location_of p) t0) t1 8 ∷ Jal x0 distance ∷ []) b → b < 2 ^ 32
     → (b - 4 + distance) % 2 ^ 32 ≡ target → Arrives text f (if w == number then target else b) q s)
+
+-- An exit ends the run with the low byte of its status.
+abbrev pub ExitIsDone : Type 0
+ExitIsDone =
+    InBody (λ text f q s. (a w b : ℕ) → a < f.places → q.names a ≡ Num w → CodeStands text s.pc (get a0 (location_of a) ++ Addi a7 x0 exit_call ∷ Ecall ∷ []) b → b < 2 ^ 32
+    → Exits text.flags s (w % 256))

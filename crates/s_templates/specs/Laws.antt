@@ -1,5 +1,5 @@
 -- Laws of code where it stands, and of the words that its instructions give.
-use Rattle.std.specs.Prelude.{◌≡◌, ℕ, ◌+◌, ◌*◌, ◌%◌, ◌^◌, ◌<◌, ◌≤◌, true, false, List, ◌++◌, length, slice_get, Some}
+use Rattle.std.specs.Prelude.{◌≡◌, ℕ, ◌+◌, ◌*◌, ◌%◌, ◌^◌, ◌<◌, ◌≤◌, true, false, List, ◌++◌, map, length, slice_get, Option, Some}
 use Rattle.val_core.specs.declared.operation.Op1.{Op1}
 use Rattle.val_core.specs.declared.operation.Op2.{Op2}
 use Rattle.val_core.specs.Words.{word1, word2}
@@ -10,6 +10,7 @@ use Rattle.rv_machine.specs.Laws.{Reaches}
 use Rattle.rv_machine.specs.Machine.{State, act, next_effect}
 use Rattle.rv_machine.specs.Memory.{memory_of, flags_of, has_flag, to_write, to_execute}
 use Rattle.rv_layout.specs.declared.item.Item.{Item}
+use Rattle.rv_layout.specs.declared.item.Item.TheVariants.{Word}
 use Rattle.rv_layout.specs.Items.{marks, label_at}
 use Rattle.rv_layout.specs.Layout.{Addresses, functions_from, function_code, functions_code}
 use Rattle.rv_layout.specs.Sequences.{bytes_of}
@@ -45,6 +46,14 @@ FunctionsStand = (text : Text) (addresses : Addresses) (at b : ℕ) (fs : List (
 abbrev pub ItemsAreResolved : Type 0
 ItemsAreResolved = (text : Text) (addresses : Addresses) (at b : ℕ) (items : List Item) → ((l : ℕ) → marks l items ≤ 1)
     → CodeStands text at (function_code addresses at items) b → ItemsStand text addresses (λ l. label_at l at items) at items b
+
+-- Items one after the other are cut as code is, and items that are instructions are code.
+abbrev pub ItemsAreCut : Type 0
+ItemsAreCut = (text : Text) (addresses : Addresses) (labels : ℕ → Option ℕ) (a b : ℕ) (first second : List Item) → ItemsStand text addresses labels a (first ++ second) b
+    → (m : ℕ) × ItemsStand text addresses labels a first m × ItemsStand text addresses labels m second b
+
+abbrev pub WordsStand : Type 0
+WordsStand = (text : Text) (addresses : Addresses) (labels : ℕ → Option ℕ) (a b : ℕ) (code : List Instr) → ItemsStand text addresses labels a (map Word code) b → CodeStands text a code b
 
 -- The instructions of each operation give its words.
 pub record WordsAreTheSame : Type 0 where

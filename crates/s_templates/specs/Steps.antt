@@ -1,7 +1,8 @@
 -- Where the machine comes to, with nothing written and nothing read.
 use Rattle.std.specs.Prelude.{◌≡◌, ℕ, List, []}
 use Rattle.rv_machine.specs.Laws.{Reaches}
-use Rattle.rv_machine.specs.Machine.{State}
+use Rattle.rv_machine.specs.Machine.{State, exit}
+use Rattle.rv_machine.specs.Run.{run, running, ended, standing}
 use Rattle.s_linear.specs.Meaning as linear
 use Rattle.s_templates.specs.Standing.{Text}
 use Rattle.s_templates.specs.Relation.{Frame, Represents}
@@ -17,3 +18,8 @@ pub record Arrives (text : Text) (f : Frame) (b : ℕ) (q : linear.State) (s : S
   pub steps : Steps text.flags s state
   pub pc : state.pc ≡ b
   pub shows : Represents text f q state
+
+-- to the end of the run, with a status
+pub record Exits (flags : ℕ → ℕ) (s : State) (status : ℕ) : Type 0 where
+  pub count : ℕ
+  pub runs : (input : List ℕ) → run flags count (running s) input ≡ standing (ended (exit status)) input

@@ -1,8 +1,8 @@
 //! Laws of instructions where they stand in memory, for the proofs of the crates above: each is the
 //! contract of a function that does nothing.
 
-ghost use Rattle.s_templates.specs.Laws.{StandingIsDone, TextStays, SegmentCodeStands, CodeIsCut, FunctionsStand, ItemsAreResolved, WordsAreTheSame};
-ghost use Rattle.s_templates.specs.Branches.{OffsetLeads, JumpIsDone, BranchNotZeroIsDone, BranchZeroIsDone, BranchEqualIsDone};
+ghost use Rattle.s_templates.specs.Laws.{StandingIsDone, TextStays, SegmentCodeStands, CodeIsCut, FunctionsStand, ItemsAreResolved, ItemsAreCut, WordsStand, WordsAreTheSame};
+ghost use Rattle.s_templates.specs.Branches.{OffsetLeads, JumpIsDone, BranchNotZeroIsDone, BranchZeroIsDone, BranchEqualIsDone, ExitIsDone};
 ghost use Rattle.s_templates.specs.Memories.{LoadIsDone, StoreIsDone, EqualPointersIsDone, ClearIsDone};
 ghost use Rattle.s_templates.specs.Rows.{ConstIsDone, UndefIsDone, ObjectAddressIsDone, GlobalAddressIsDone, BinaryIsDone, UnaryIsDone, MoveIsDone};
 
@@ -36,6 +36,12 @@ pub fn functions_stand()
 /// resolved to where it is marked.
 pub fn items_are_resolved()
     ensures { ItemsAreResolved }
+{}
+
+/// Items that stand are cut as code is, and those that are instructions are code.
+pub fn items_are_code()
+    ensures cut { ItemsAreCut }
+    ensures words { WordsStand }
 {}
 
 /// The instructions of each operation give on words what the operation gives, zero divisors and
@@ -93,3 +99,8 @@ pub fn templates_clear()
     val_core::laws::memory::clear_elsewhere();
     val_core::laws::memory::clear_keeps_blocks();
 }
+
+/// The template of an exit ends the run with the low byte of the status.
+pub fn templates_exit()
+    ensures { ExitIsDone }
+{}

@@ -6,7 +6,7 @@ use Rattle.rv_layout.specs.declared.item.Item.TheVariants.{Word, Mark, Jump, Cal
 use Rattle.rv_layout.specs.Items.{item_size, items_size, marks, label_at}
 use Rattle.rv_layout.specs.Layout.{Addresses, functions_from, item_code, items_code, function_code, functions_code}
 use Rattle.s_templates.specs.Standing.{Text, CodeStands, IsResolved, ItemsStand, FunctionsStandFrom}
-use Rattle.s_templates.specs.Laws.{ItemsAreResolved}
+use Rattle.s_templates.specs.Laws.{ItemsAreResolved, ItemsAreCut, WordsStand}
 use Rattle.s_templates.proofs.lemmas.Stands.{code_is_cut}
 
 module _ (text : Text) (addresses : Addresses) where
@@ -97,3 +97,14 @@ items-resolved text addresses labels at b (i ∷ is) once same h =
 
 pub items_are_resolved : ItemsAreResolved
 items_are_resolved text addresses at b items once h = items-resolved text addresses (λ l. label_at l at items) at b items once (λ l marked. refl) h
+
+-- ---- items that stand
+
+pub items_are_cut : ItemsAreCut
+items_are_cut text addresses labels a b [] second h = (a, refl, h)
+items_are_cut text addresses labels a b (i ∷ is) second h =
+    let r = items_are_cut text addresses labels (a + item_size i) b is second h.2 in (r.0, (h.0, h.1, r.1), r.2)
+
+pub words_stand : WordsStand
+words_stand text addresses labels a b [] h = h
+words_stand text addresses labels a b (i ∷ is) h = (h.1.0, words_stand text addresses labels (a + 4) b is h.2)
