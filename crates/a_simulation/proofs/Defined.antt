@@ -33,7 +33,8 @@ instrs_more (i ∷ is) D C h x d = instrs_more is (after_instr D i) (after_instr
 mutual
   step_more : (s : Step) (D C : NameSet) → IsSubset D C → IsSubset (after_step D s) (after_step C s)
   step_more (plain i) D C h x d = instr_more i D C h x d
-  step_more (choice p cs) D C h x d = each_more cs D C h x d
+  step_more (choice p no_codes) D C h x d = h x d
+  step_more (choice p (code_then c cs)) D C h x d = each_more (code_then c cs) D C h x d
   step_more (loop moves body p back) D C h x (inl w) = inl w
   step_more (loop moves body p back) D C h x (inr d) = inr (h x d)
 
@@ -54,7 +55,8 @@ instrs_grow (i ∷ is) D x d = instrs_grow is (after_instr D i) x (inr d)
 mutual
   step_grow : (s : Step) (D : NameSet) → IsSubset D (after_step D s)
   step_grow (plain i) D x d = inr d
-  step_grow (choice p cs) D x d = each_grow cs D x d
+  step_grow (choice p no_codes) D x d = d
+  step_grow (choice p (code_then c cs)) D x d = each_grow (code_then c cs) D x d
   step_grow (loop moves body p back) D x d = inr d
 
   pub code_grow : (c : Code) (D : NameSet) → IsSubset D (after_code D c)
@@ -132,8 +134,9 @@ moved_in moves D x (inr e) = instrs_more moves none_written D (none_in D) x e
 mutual
   step_defined : (s : Step) (D N : NameSet) → StepIsClosed D s → IsSubset N (after_step D s) → IsSubset (needed_by_step s N) D
   step_defined (plain i) D N k h x n = instr_defined i D N k h x n
-  step_defined (choice p cs) D N k h x (inl e) = subst D e k.0
-  step_defined (choice p cs) D N k h x (inr n) = each_defined cs D N k.1 h x n
+  step_defined (choice p cs) D N k h x (inl e) = subst D e.1 k.0
+  step_defined (choice p no_codes) D N k h x (inr n) = absurd n
+  step_defined (choice p (code_then c cs)) D N k h x (inr n) = each_defined (code_then c cs) D N k.1 h x n
   step_defined (loop moves body p back) D N k h x n =
       instrs_defined moves D (at_label body p back N) k.0
       (λ y l.

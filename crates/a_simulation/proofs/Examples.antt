@@ -7,7 +7,7 @@ use Rattle.val_core.specs.declared.values.Value.{Value}
 use Rattle.val_core.specs.declared.values.Value.TheVariants.{Num, Bad}
 use Rattle.val_core.specs.declared.operation.Op2.TheVariants.{Add, Sub}
 use Rattle.val_core.specs.Events.{called}
-use Rattle.val_core.specs.Answers.{Answer, Returned, Cut, Undefined}
+use Rattle.val_core.specs.Answers.{Answer, Returned, Cut}
 use Rattle.val_core.specs.Within.{Given}
 use Rattle.s_linear.specs.Linear.{const, undef, binary, move, call, put, get, plain, choice, loop, no_steps, step_then, no_codes, code_then, LinearFunction}
 use Rattle.s_linear.specs.Lines.{Line, enter, leave, done, branch_zero, jump, label, lines}
@@ -133,7 +133,7 @@ calls-agree = refl
 calls-are-cut : over_places 1 (twice ∷ echo ∷ []) (Num 3 ∷ []) (4 ∷ []) ≡ Cut (called 0 [])
 calls-are-cut = refl
 
--- ---- A choice of one code, which is closed: its lines do not read the predicate, so another name may have its place.
+-- ---- A choice of one code reads no predicate, neither in its lines nor in its meaning, so another name may have its place.
 
 abbrev one : LinearFunction
 one = record {
@@ -152,7 +152,7 @@ one-closed = record { code = (tt, (tt, ((inr (inl refl), ((tt, tt), tt)), tt)));
 one-names : over_names 1 (one ∷ []) [] [] ≡ gives 3
 one-names = refl
 
-one-places : over_places 1 (one ∷ []) [] [] ≡ Undefined (called 0 [])
+one-places : over_places 1 (one ∷ []) [] [] ≡ gives 3
 one-places = refl
 
 -- ---- do { a = a - k; } while (a); with k from outside: the moves in do not write it, so its interval ends within the body.

@@ -7,16 +7,16 @@ use Rattle.val_core.specs.declared.values.Value.{Value}
 use Rattle.val_core.specs.Memory.{Memory, closed}
 use Rattle.val_core.specs.Objects.{address_in, opened}
 use Rattle.val_core.specs.Answers.{Answer, Returned, Cut, Exited, Undefined, before, then_on, active}
+use Rattle.g_mean.specs.Copies.{Same}
 use Rattle.s_linear.specs.Linear.{LinearFunction}
 use Rattle.s_linear.specs.Lines.{enter, leave, code_lines, numbers_from, lines}
 use Rattle.s_linear.specs.Meaning.{State, Context, Call, no_names, written, code_run, first_names, shapes, entered, calls}
 use Rattle.a_place.proofs.Apart.{overlapping_names_differ}
 use Rattle.a_simulation.specs.Placed.{placed_code, place_of, placed, put_params, placed_entered}
 use Rattle.s_simulation.specs.Closed.{NameSet, after_code, FunctionIsClosed}
-use Rattle.a_simulation.specs.Choices.{CodeChooses, FunctionsChoose}
 use Rattle.a_simulation.specs.Need.{IsIn, these, needed_by_code, SafeCode}
 use Rattle.a_simulation.specs.Spans.{StandAt, ArePlacesApart}
-use Rattle.a_simulation.specs.Laws.{Same, Holds, FunctionsAreClosed, FunctionsAgree}
+use Rattle.a_simulation.specs.Laws.{Holds, FunctionsAreClosed, FunctionsAgree}
 use Rattle.a_simulation.proofs.Runs.{code_same}
 use Rattle.a_simulation.proofs.Defined.{code_defined}
 use Rattle.a_simulation.proofs.Positions.{begun, later}
@@ -63,7 +63,7 @@ same_results R (Exited o s) (Exited p t) g h k e = λ j. Exited (k.0 j) (k.1 j)
 same_results R (Undefined o) (Undefined p) g h k e = λ j. Undefined (k j)
 same_results R _ _ g h k e = absurd k
 
-module _ (f : LinearFunction) (is_closed : FunctionIsClosed f) (chooses : CodeChooses f.code) where
+module _ (f : LinearFunction) (is_closed : FunctionIsClosed f) where
   abbrev params : NameSet
   params x = x < f.params
 
@@ -83,7 +83,7 @@ module _ (f : LinearFunction) (is_closed : FunctionIsClosed f) (chooses : CodeCh
 
   is_safe : SafeCode (place_of f) f.code value_only
   is_safe =
-      safe_code (lines f) (place_of f) apart f.code params value_only 1 stands.0 (is_closed.code) chooses
+      safe_code (lines f) (place_of f) apart f.code params value_only 1 stands.0 (is_closed.code)
       (spans_code (lines f) 0 1 stands.0 f.code stands.1.1)
       (later (lines f) params 0 1 (omega arith)
       (λ x l. begun (lines f) x 0 (alive_at (lines f) 0 (enter (numbers_from 0 f.params)) x stands.1.0 (in_numbers x 0 f.params (omega arith) (omega arith)))))
@@ -114,14 +114,14 @@ module _ (f : LinearFunction) (is_closed : FunctionIsClosed f) (chooses : CodeCh
 
 -- ---- calls
 
-entered_each : (fs : List LinearFunction) → FunctionsAreClosed fs → FunctionsChoose fs → (k n : ℕ) (callees : ℕ → Call) (global : ℕ → Value) (vs : List Value) (m : Memory) (i : List ℕ)
+entered_each : (fs : List LinearFunction) → FunctionsAreClosed fs → (k n : ℕ) (callees : ℕ → Call) (global : ℕ → Value) (vs : List Value) (m : Memory) (i : List ℕ)
     → entered n callees global (slice_get fs k) vs m i ≡ placed_entered n callees global (slice_get (map placed fs) k) vs m i
-entered_each [] h c k n callees global vs m i = refl
-entered_each (f ∷ fs) h c zero n callees global vs m i = entered_same f h.0 c.0 n callees global vs m i
-entered_each (f ∷ fs) h c (suc k) n callees global vs m i = entered_each fs h.1 c.1 k n callees global vs m i
+entered_each [] h k n callees global vs m i = refl
+entered_each (f ∷ fs) h zero n callees global vs m i = entered_same f h.0 n callees global vs m i
+entered_each (f ∷ fs) h (suc k) n callees global vs m i = entered_each fs h.1 k n callees global vs m i
 
 pub functions_agree : FunctionsAgree
-functions_agree fs h c global zero f vs m i = refl
-functions_agree fs h c global (suc n) f vs m i =
-    ap (active f) (entered_each fs h c f n (calls fs global n) global vs m i)
-    ∙ (λ j. active f (placed_entered n (λ g us l k. functions_agree fs h c global n g us l k j) global (slice_get (map placed fs) f) vs m i))
+functions_agree fs h global zero f vs m i = refl
+functions_agree fs h global (suc n) f vs m i =
+    ap (active f) (entered_each fs h f n (calls fs global n) global vs m i)
+    ∙ (λ j. active f (placed_entered n (λ g us l k. functions_agree fs h global n g us l k j) global (slice_get (map placed fs) f) vs m i))

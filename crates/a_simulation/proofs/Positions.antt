@@ -1,11 +1,10 @@
 -- Where the names of spanned code start and end: what it writes has started at its end, and what it needs goes on to its start.
 use Rattle.std.proofs.Common.{◌≤◌, ℕ, suc, List, [], ◌∷◌, subst, inl, inr, arith}
 use Rattle.s_linear.specs.Linear.{Instr, Step, plain, choice, loop, Code, no_steps, step_then, Codes, no_codes, code_then}
-use Rattle.s_linear.specs.Lines.{Line, counted}
+use Rattle.s_linear.specs.Lines.{Line}
 use Rattle.a_place.specs.Places.{first, last}
 use Rattle.a_place.specs.Laws.{IsAliveAt}
 use Rattle.s_simulation.specs.Closed.{NameSet, after_instr, after_instrs, none_written, after_step, after_code}
-use Rattle.a_simulation.specs.Choices.{StepChooses, CodeChooses, EachChooses}
 use Rattle.a_simulation.specs.Need.{needed_by_instrs, after_body, needed_by_step, needed_by_code, needed_by_codes, at_label}
 use Rattle.a_simulation.specs.Spans.{IsBegunAt, SpansInstr, SpansInstrs, SpansStep, SpansCode, SpansCodes}
 
@@ -64,24 +63,24 @@ module _ (lines : List Line) where
   moves_begun moves a b sp = instrs_begun moves none_written a b sp (λ x z. absurd z)
 
   mutual
-    pub step_begun : (s : Step) (D : NameSet) (a b : ℕ) → StepChooses s → SpansStep lines a s b → AreBegun D a → AreBegun (after_step D s) b
-    step_begun (plain i) D a b c sp h x w = later (after_instr D i) (suc a) b sp.1 (begun_next D i a sp.0 h) x w
-    step_begun (choice p no_codes) D a b c sp h x w = let many : 2 ≤ counted no_codes = c.0 in absurd (omega arith)
-    step_begun (choice p (code_then k ks)) D a b c sp h x w =
+    pub step_begun : (s : Step) (D : NameSet) (a b : ℕ) → SpansStep lines a s b → AreBegun D a → AreBegun (after_step D s) b
+    step_begun (plain i) D a b sp h x w = later (after_instr D i) (suc a) b sp.1 (begun_next D i a sp.0 h) x w
+    step_begun (choice p no_codes) D a b sp h x w = later D a b sp.2 h x w
+    step_begun (choice p (code_then k ks)) D a b sp h x w =
         later (after_code D k) sp.1.0.1 b sp.1.0.4
-        (λ y v. code_begun k D sp.1.0.0 sp.1.0.1 c.1.0 sp.1.0.3 (later D a sp.1.0.0 sp.1.0.2 h) y v) x w.0
-    step_begun (loop moves body p back) D a b c sp h x (inl w) =
+        (λ y v. code_begun k D sp.1.0.0 sp.1.0.1 sp.1.0.3 (later D a sp.1.0.0 sp.1.0.2 h) y v) x w.0
+    step_begun (loop moves body p back) D a b sp h x (inl w) =
         let E : NameSet = after_instrs none_written moves in
         let back_end : suc sp.1 ≤ sp.2 = instrs_le back (suc sp.1) sp.2 sp.6 in
         let end : sp.2 ≤ b = sp.7 in
         later (after_code E body) sp.1 b (omega arith)
-        (λ y v. code_begun body E (suc sp.0) sp.1 c sp.4 (later E sp.0 (suc sp.0) (omega arith) (moves_begun moves a sp.0 sp.3)) y v) x w
-    step_begun (loop moves body p back) D a b c sp h x (inr d) = later D a b (step_le (loop moves body p back) a b sp) h x d
+        (λ y v. code_begun body E (suc sp.0) sp.1 sp.4 (later E sp.0 (suc sp.0) (omega arith) (moves_begun moves a sp.0 sp.3)) y v) x w
+    step_begun (loop moves body p back) D a b sp h x (inr d) = later D a b (step_le (loop moves body p back) a b sp) h x d
 
-    pub code_begun : (c : Code) (D : NameSet) (a b : ℕ) → CodeChooses c → SpansCode lines a c b → AreBegun D a → AreBegun (after_code D c) b
-    code_begun no_steps D a b c sp h x w = later D a b sp h x w
-    code_begun (step_then s k) D a b c sp h x w =
-        code_begun k (after_step D s) sp.0 b c.1 sp.2 (λ y v. step_begun s D a sp.0 c.0 sp.1 h y v) x w
+    pub code_begun : (c : Code) (D : NameSet) (a b : ℕ) → SpansCode lines a c b → AreBegun D a → AreBegun (after_code D c) b
+    code_begun no_steps D a b sp h x w = later D a b sp h x w
+    code_begun (step_then s k) D a b sp h x w =
+        code_begun k (after_step D s) sp.0 b sp.2 (λ y v. step_begun s D a sp.0 sp.1 h y v) x w
 
   -- ---- what goes on
 
@@ -116,29 +115,29 @@ module _ (lines : List Line) where
   after_last moves back body p a b N sp h x (inr (inr read)) = back_last back sp.1 sp.2 sp.6 x read
 
   mutual
-    step_last : (s : Step) (N : NameSet) (a b : ℕ) → StepChooses s → SpansStep lines a s b → GoOn N b → GoOn (needed_by_step s N) a
-    step_last (plain i) N a b c sp h x (inl read) = (sp.0.source x read).not_ended
-    step_last (plain i) N a b c sp h x (inr m) = let r : b ≤ last x lines = h x m.1 in let e : suc a ≤ b = sp.1 in omega arith
-    step_last (choice p cs) N a b c sp h x (inl e) = subst (λ z. a ≤ last z lines) e ((sp.0 c.0).not_ended)
-    step_last (choice p cs) N a b c sp h x (inr n) = codes_last cs N a b c.1 sp.1 h x n
-    step_last (loop moves body p back) N a b c sp h x n =
+    step_last : (s : Step) (N : NameSet) (a b : ℕ) → SpansStep lines a s b → GoOn N b → GoOn (needed_by_step s N) a
+    step_last (plain i) N a b sp h x (inl read) = (sp.0.source x read).not_ended
+    step_last (plain i) N a b sp h x (inr m) = let r : b ≤ last x lines = h x m.1 in let e : suc a ≤ b = sp.1 in omega arith
+    step_last (choice p cs) N a b sp h x (inl e) = subst (λ z. a ≤ last z lines) e.1 ((sp.0 e.0).not_ended)
+    step_last (choice p cs) N a b sp h x (inr n) = codes_last cs N a b sp.1 h x n
+    step_last (loop moves body p back) N a b sp h x n =
         instrs_last moves a sp.0 (at_label body p back N) sp.3
         (sooner (at_label body p back N) sp.0 (suc sp.0) (omega arith)
-        (λ y l. code_last body (after_body p back N) (suc sp.0) sp.1 c sp.4 (after_last moves back body p a b N sp h) y l)) x n
+        (λ y l. code_last body (after_body p back N) (suc sp.0) sp.1 sp.4 (after_last moves back body p a b N sp h) y l)) x n
 
-    pub code_last : (k : Code) (N : NameSet) (a b : ℕ) → CodeChooses k → SpansCode lines a k b → GoOn N b → GoOn (needed_by_code k N) a
-    code_last no_steps N a b c sp h x n = sooner N a b sp h x n
-    code_last (step_then s k) N a b c sp h x n =
-        step_last s (needed_by_code k N) a sp.0 c.0 sp.1 (λ y l. code_last k N sp.0 b c.1 sp.2 h y l) x n
+    pub code_last : (k : Code) (N : NameSet) (a b : ℕ) → SpansCode lines a k b → GoOn N b → GoOn (needed_by_code k N) a
+    code_last no_steps N a b sp h x n = sooner N a b sp h x n
+    code_last (step_then s k) N a b sp h x n =
+        step_last s (needed_by_code k N) a sp.0 sp.1 (λ y l. code_last k N sp.0 b sp.2 h y l) x n
 
-    codes_last : (ks : Codes) (N : NameSet) (a b : ℕ) → EachChooses ks → SpansCodes lines a ks b → GoOn N b → GoOn (needed_by_codes ks N) a
-    codes_last no_codes N a b c sp h x n = absurd n
-    codes_last (code_then k ks) N a b c sp h x (inl n) =
-        sooner (needed_by_code k N) a sp.0.0 sp.0.2 (λ y m. code_last k N sp.0.0 sp.0.1 c.0 sp.0.3 (sooner N sp.0.1 b sp.0.4 h) y m) x n
-    codes_last (code_then k ks) N a b c sp h x (inr n) = codes_last ks N a b c.1 sp.1 h x n
+    codes_last : (ks : Codes) (N : NameSet) (a b : ℕ) → SpansCodes lines a ks b → GoOn N b → GoOn (needed_by_codes ks N) a
+    codes_last no_codes N a b sp h x n = absurd n
+    codes_last (code_then k ks) N a b sp h x (inl n) =
+        sooner (needed_by_code k N) a sp.0.0 sp.0.2 (λ y m. code_last k N sp.0.0 sp.0.1 sp.0.3 (sooner N sp.0.1 b sp.0.4 h) y m) x n
+    codes_last (code_then k ks) N a b sp h x (inr n) = codes_last ks N a b sp.1 h x n
 
-  pub label_last : (moves back : List Instr) (body : Code) (p : ℕ) (N : NameSet) (a b : ℕ) → CodeChooses body
+  pub label_last : (moves back : List Instr) (body : Code) (p : ℕ) (N : NameSet) (a b : ℕ)
       → (sp : SpansStep lines a (loop moves body p back) b) → GoOn N b → GoOn (at_label body p back N) sp.0
-  label_last moves back body p N a b c sp h =
+  label_last moves back body p N a b sp h =
       sooner (at_label body p back N) sp.0 (suc sp.0) (omega arith)
-      (code_last body (after_body p back N) (suc sp.0) sp.1 c sp.4 (after_last moves back body p a b N sp h))
+      (code_last body (after_body p back N) (suc sp.0) sp.1 sp.4 (after_last moves back body p a b N sp h))

@@ -1,5 +1,5 @@
 -- Safe code does over places what it does over names.
-use Rattle.std.proofs.Common.{◌≡◌, ◌≢◌, ℕ, zero, suc, Bool, true, false, if◌then◌else◌, List, [], ◌∷◌, ◌++◌, map, Option, Some, None, refl, sym, ap, ◌∙◌, subst, inl, inr, arith, eq-eqb, eqb-true}
+use Rattle.std.proofs.Common.{◌≡◌, ◌≢◌, ℕ, zero, suc, Bool, true, false, if◌then◌else◌, List, [], ◌∷◌, map, Option, Some, None, refl, sym, ap, ◌∙◌, subst, inl, inr, arith, eq-eqb, eqb-true}
 use Rattle.std.specs.Prelude.{◌==◌, ◌-◌, ◌%◌, ◌^◌}
 use Rattle.std.proofs.lemmas.Bool.{cases_Bool, eqb-false}
 use Rattle.std.proofs.lemmas.Bool.Decides.{nat_tests}
@@ -8,45 +8,25 @@ use Rattle.val_core.specs.declared.values.Value.TheVariants.{Num, At, Bad}
 use Rattle.val_core.specs.Values.{value1, value2}
 use Rattle.val_core.specs.Memory.{Memory, pointers_equal}
 use Rattle.val_core.specs.Memory as mem
-use Rattle.val_core.specs.Events.{Event, wrote}
-use Rattle.val_core.specs.Answers.{Answer, Returned, Cut, Exited, Undefined, before, then_on, on_number, on_defined}
+use Rattle.val_core.specs.Events.{wrote}
+use Rattle.val_core.specs.Answers.{Answer, Returned, Exited, then_on, on_number, on_defined}
+use Rattle.g_mean.specs.Copies.{Same}
+use Rattle.g_mean.proofs.lemmas.Copies.{same-then, Equals, equal-same}
 use Rattle.s_linear.specs.Linear.{Instr, const, undef, object_address, global_address, binary, unary, load, store, clear, equal_pointers, move, call, put, get, exit, Step, plain, choice, loop, Code, no_steps, step_then, Codes, no_codes, code_then}
 use Rattle.s_linear.specs.Meaning.{State, Run, Context, written, gives, gives_memory, got, cleared_at, back_from, instr_run, instrs_run, chosen, turns, step_run, code_run, codes_runs}
 use Rattle.a_simulation.specs.Placed.{placed_instr, placed_step, placed_code, placed_codes}
 use Rattle.s_simulation.specs.Closed.{target_of, NameSet}
 use Rattle.a_simulation.specs.Need.{IsIn, these, needed_by, needed_by_instrs, needed_by_step, needed_by_code, needed_by_codes, at_label, at_branch, SafeInstr, SafeInstrs, SafeStep, SafeCode, SafeCodes}
-use Rattle.a_simulation.specs.Laws.{Same, Holds, SafeCodeDoesTheSame}
+use Rattle.a_simulation.specs.Laws.{Holds, SafeCodeDoesTheSame}
 use Rattle.a_simulation.proofs.Needs.{target_is, label_holds}
 
 -- ---- answers
 
-before_same : {A B : Type 0} (R : A → B → Type 0) (o : List Event) (a : Answer A) (b : Answer B) → Same R a b → Same R (before o a) (before o b)
-before_same R [] a b h = h
-before_same R (e ∷ es) (Returned x o) (Returned y p) h = (h.0, ap (λ z. (e ∷ es) ++ z) h.1)
-before_same R (e ∷ es) (Cut o) (Cut p) h = ap (λ z. (e ∷ es) ++ z) h
-before_same R (e ∷ es) (Exited o s) (Exited p t) h = (ap (λ z. (e ∷ es) ++ z) h.0, h.1)
-before_same R (e ∷ es) (Undefined o) (Undefined p) h = ap (λ z. (e ∷ es) ++ z) h
-before_same R (e ∷ es) _ _ h = absurd h
-
-pub then_same : {A B C D : Type 0} (R : A → B → Type 0) (Q : C → D → Type 0) (a : Answer A) (b : Answer B) (next : A → Answer C) (last : B → Answer D)
-    → Same R a b → ((x : A) (y : B) → R x y → Same Q (next x) (last y)) → Same Q (then_on a next) (then_on b last)
-then_same R Q (Returned x o) (Returned y p) next last h g =
-    subst (λ z. Same Q (before o (next x)) (before z (last y))) h.1 (before_same Q o (next x) (last y) (g x y h.0))
-then_same R Q (Cut o) (Cut p) next last h g = h
-then_same R Q (Exited o s) (Exited p t) next last h g = h
-then_same R Q (Undefined o) (Undefined p) next last h g = h
-then_same R Q _ _ next last h g = absurd h
-
 -- what follows on the same answer
 then_equal : {A C D : Type 0} (Q : C → D → Type 0) (a b : Answer A) (next : A → Answer C) (last : A → Answer D) → a ≡ b
     → ((x : A) → Same Q (next x) (last x)) → Same Q (then_on a next) (then_on b last)
-then_equal {A = A} Q a b next last e g = subst (λ z. Same Q (then_on a next) (then_on z last)) e (itself a)
-  where
-    itself : (z : Answer A) → Same Q (then_on z next) (then_on z last)
-    itself (Returned x o) = before_same Q o (next x) (last x) (g x)
-    itself (Cut o) = refl
-    itself (Exited o s) = (refl, refl)
-    itself (Undefined o) = refl
+then_equal Q a b next last e g =
+    same-then Equals Q a b next last (equal-same a b e) (λ x y same. subst (λ z. Same Q (next x) (last z)) same (g x))
 
 number_equal : {C D : Type 0} (Q : C → D → Type 0) (v w : Value) (next : ℕ → Answer C) (last : ℕ → Answer D) → v ≡ w
     → ((n : ℕ) → Same Q (next n) (last n)) → Same Q (on_number v next) (on_number w last)
@@ -185,7 +165,7 @@ module _ (c : Context) (f : ℕ → ℕ) where
       → Same (Holds f N) (instrs_run c is s) (instrs_run c (map (placed_instr f) is) q)
   instrs_same [] N s q safe h = (h, refl)
   instrs_same (i ∷ is) N s q safe h =
-      then_same (Holds f (needed_by_instrs is N)) (Holds f N) (instr_run c i s) (instr_run c (placed_instr f i) q) (instrs_run c is)
+      same-then (Holds f (needed_by_instrs is N)) (Holds f N) (instr_run c i s) (instr_run c (placed_instr f i) q) (instrs_run c is)
       (instrs_run c (map (placed_instr f) is)) (instr_same i (needed_by_instrs is N) s q safe.0 h) (λ t u k. instrs_same is N t u safe.1 k)
 
 -- ---- loops
@@ -200,7 +180,7 @@ turns_same : (f : ℕ → ℕ) (L B N : NameSet) (p : ℕ) (body body' back back
     → (n : ℕ) (s q : State) → Holds f L s q → Same (Holds f N) (turns n body p back s) (turns n body' (f p) back' q)
 turns_same f L B N p body body' back back' read after does returns zero s q h = refl
 turns_same f L B N p body body' back back' read after does returns (suc n) s q h =
-    then_same (Holds f B) (Holds f N) (body s) (body' q)
+    same-then (Holds f B) (Holds f N) (body s) (body' q)
     (λ t. on_number (t.names p) (λ w. if w == 0 then Returned t [] else then_on (back t) (turns n body p back)))
     (λ u. on_number (u.names (f p)) (λ w. if w == 0 then Returned u [] else then_on (back' u) (turns n body' (f p) back')))
     (does s q h)
@@ -210,7 +190,7 @@ turns_same f L B N p body body' back back' read after does returns (suc n) s q h
     (λ w.
     if_same (Holds f N) (w == 0) (Returned t []) (then_on (back t) (turns n body p back)) (Returned u []) (then_on (back' u) (turns n body' (f p) back'))
     (fewer f N B t u after k, refl)
-    (then_same (Holds f L) (Holds f N) (back t) (back' u) (turns n body p back) (turns n body' (f p) back') (returns t u k)
+    (same-then (Holds f L) (Holds f N) (back t) (back' u) (turns n body p back) (turns n body' (f p) back') (returns t u k)
     (λ t' u' k'. turns_same f L B N p body body' back back' read after does returns n t' u' k'))))
 
 -- ---- code
@@ -221,13 +201,18 @@ module _ (c : Context) (f : ℕ → ℕ) where
         → Same (Holds f N) (step_run c x s) (step_run c (placed_step f x) q)
     step_same (plain i) N s q safe h =
         instr_same c f i N s q safe (fewer f (needed_by i N) (needed_by_step (plain i) N) s q (λ x n. n) h)
-    step_same (choice p cs) N s q safe h =
-        number_equal (Holds f N) (s.names p) (q.names (f p)) (λ w. chosen w (codes_runs c cs) s) (λ w. chosen w (codes_runs c (placed_codes f cs)) q)
-        (h.values p (inl refl))
-        (λ w. codes_same cs w N s q safe (fewer f (needed_by_codes cs N) (needed_by_step (choice p cs) N) s q (λ x n. inr n) h))
+    step_same (choice p no_codes) N s q safe h = refl
+    step_same (choice p (code_then k no_codes)) N s q safe h =
+        code_same k N s q safe.0 (fewer f (needed_by_code k N) (needed_by_step (choice p (code_then k no_codes)) N) s q (λ x n. inr (inl n)) h)
+    step_same (choice p (code_then k (code_then l ks))) N s q safe h =
+        number_equal (Holds f N) (s.names p) (q.names (f p)) (λ w. chosen w (codes_runs c (code_then k (code_then l ks))) s)
+        (λ w. chosen w (codes_runs c (placed_codes f (code_then k (code_then l ks)))) q) (h.values p (inl (omega arith, refl)))
+        (λ w.
+        codes_same (code_then k (code_then l ks)) w N s q safe
+        (fewer f (needed_by_codes (code_then k (code_then l ks)) N) (needed_by_step (choice p (code_then k (code_then l ks))) N) s q (λ x n. inr n) h))
     step_same (loop moves body p back) N s q safe h =
         let L = at_label body p back N in let B = at_branch body p back N in
-        then_same (Holds f L) (Holds f N) (instrs_run c moves s) (instrs_run c (map (placed_instr f) moves) q)
+        same-then (Holds f L) (Holds f N) (instrs_run c moves s) (instrs_run c (map (placed_instr f) moves) q)
         (turns c.bound (code_run c body) p (instrs_run c back))
         (turns c.bound (code_run c (placed_code f body)) (f p) (instrs_run c (map (placed_instr f) back)))
         (instrs_same c f moves L s q safe.0 (fewer f (needed_by_instrs moves L) (needed_by_step (loop moves body p back) N) s q (λ x n. n) h))
@@ -242,7 +227,7 @@ module _ (c : Context) (f : ℕ → ℕ) where
         → Same (Holds f N) (code_run c k s) (code_run c (placed_code f k) q)
     code_same no_steps N s q safe h = (fewer f N (needed_by_code no_steps N) s q (λ x n. n) h, refl)
     code_same (step_then x k) N s q safe h =
-        then_same (Holds f (needed_by_code k N)) (Holds f N) (step_run c x s) (step_run c (placed_step f x) q) (code_run c k) (code_run c (placed_code f k))
+        same-then (Holds f (needed_by_code k N)) (Holds f N) (step_run c x s) (step_run c (placed_step f x) q) (code_run c k) (code_run c (placed_code f k))
         (step_same x (needed_by_code k N) s q safe.0
         (fewer f (needed_by_step x (needed_by_code k N)) (needed_by_code (step_then x k) N) s q (λ y n. n) h))
         (λ t u r. code_same k N t u safe.1 r)

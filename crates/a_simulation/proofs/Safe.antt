@@ -5,7 +5,6 @@ use Rattle.s_linear.specs.Lines.{Line}
 use Rattle.a_place.specs.Places.{last}
 use Rattle.a_place.specs.Laws.{IsAliveAt}
 use Rattle.s_simulation.specs.Closed.{NameSet, after_instr, after_instrs, none_written, after_step, after_code, after_each, InstrsAreClosed, StepIsClosed, CodeIsClosed, AreClosed}
-use Rattle.a_simulation.specs.Choices.{StepChooses, CodeChooses, EachChooses}
 use Rattle.a_simulation.specs.Need.{these, joined, needed_by_instrs, needed_by_code, at_label, at_branch, SafeInstr, SafeInstrs, SafeStep, SafeCode, SafeCodes}
 use Rattle.a_simulation.specs.Spans.{ArePlacesApart, SpansInstr, SpansInstrs, SpansStep, SpansCode, SpansCodes}
 use Rattle.a_simulation.specs.Laws.{PlacesApartAreSafe}
@@ -80,59 +79,60 @@ module _ (lines : List Line) (f : ℕ → ℕ) (apart : ArePlacesApart lines f) 
   begun_body moves back body p D a b sp begins x (inr w) = moves_begun lines moves a sp.0 sp.3 x w
 
   -- the moves in of a closed loop, and its moves back
-  safe_moves : (moves back : List Instr) (body : Code) (p : ℕ) (D N : NameSet) (a b : ℕ) → StepIsClosed D (loop moves body p back) → CodeChooses body
+  safe_moves : (moves back : List Instr) (body : Code) (p : ℕ) (D N : NameSet) (a b : ℕ) → StepIsClosed D (loop moves body p back)
       → (sp : SpansStep lines a (loop moves body p back) b) → AreBegun lines D a → GoOn lines N b → IsSubset N (after_code (Started moves D) body)
       → SafeInstrs f moves (at_label body p back N)
-  safe_moves moves back body p D N a b k c sp begins goes h =
-      safe_instrs moves D (at_label body p back N) a sp.0 sp.3 k.0 begins (label_last lines moves back body p N a b c sp goes)
+  safe_moves moves back body p D N a b k sp begins goes h =
+      safe_instrs moves D (at_label body p back N) a sp.0 sp.3 k.0 begins (label_last lines moves back body p N a b sp goes)
       (λ x l. moved_in moves D x (label_defined moves back body p D N k h x l))
 
-  safe_moves_back : (moves back : List Instr) (body : Code) (p : ℕ) (D N : NameSet) (a b : ℕ) → StepIsClosed D (loop moves body p back) → CodeChooses body
+  safe_moves_back : (moves back : List Instr) (body : Code) (p : ℕ) (D N : NameSet) (a b : ℕ) → StepIsClosed D (loop moves body p back)
       → (sp : SpansStep lines a (loop moves body p back) b) → AreBegun lines D a → GoOn lines N b → IsSubset N (after_code (Started moves D) body)
       → SafeInstrs f back (at_label body p back N)
-  safe_moves_back moves back body p D N a b k c sp begins goes h =
+  safe_moves_back moves back body p D N a b k sp begins goes h =
       let starts : AreBegun lines (Started moves D) sp.0 = begun_body moves back body p D a b sp begins in
       let le : suc sp.0 ≤ sp.1 = code_le lines body (suc sp.0) sp.1 sp.4 in
       safe_back back (after_code (Started moves D) body) (at_label body p back N) (Started moves D) sp.0 (suc sp.1) sp.2 (omega arith) sp.6
       (back_closed moves back body p D k)
       (later lines (after_code (Started moves D) body) sp.1 (suc sp.1) (omega arith)
-      (code_begun lines body (Started moves D) (suc sp.0) sp.1 c sp.4 (later lines (Started moves D) sp.0 (suc sp.0) (omega arith) starts)))
+      (code_begun lines body (Started moves D) (suc sp.0) sp.1 sp.4 (later lines (Started moves D) sp.0 (suc sp.0) (omega arith) starts)))
       starts (λ x w. inr (same_written back moves none_written none_written (λ y z. z) k.4 x w))
-      (λ x l. goes_on lines x sp.0 (starts x (label_defined moves back body p D N k h x l)) (label_last lines moves back body p N a b c sp goes x l))
+      (λ x l. goes_on lines x sp.0 (starts x (label_defined moves back body p D N k h x l)) (label_last lines moves back body p N a b sp goes x l))
 
   -- ---- code
 
   mutual
-    safe_step : (s : Step) (D N : NameSet) (a b : ℕ) → StepIsClosed D s → StepChooses s → SpansStep lines a s b → AreBegun lines D a → GoOn lines N b
+    safe_step : (s : Step) (D N : NameSet) (a b : ℕ) → StepIsClosed D s → SpansStep lines a s b → AreBegun lines D a → GoOn lines N b
         → IsSubset N (after_step D s) → SafeStep f s N
-    safe_step (plain i) D N a b k c sp begins goes h = safe_instr i D N a sp.0 begins (sooner lines N (suc a) b sp.1 goes) h
-    safe_step (choice p cs) D N a b k c sp begins goes h = safe_codes cs D N a b k.1 c.1 sp.1 begins goes h
-    safe_step (loop moves body p back) D N a b k c sp begins goes h =
+    safe_step (plain i) D N a b k sp begins goes h = safe_instr i D N a sp.0 begins (sooner lines N (suc a) b sp.1 goes) h
+    safe_step (choice p no_codes) D N a b k sp begins goes h = tt
+    safe_step (choice p (code_then r rs)) D N a b k sp begins goes h = safe_codes (code_then r rs) D N a b k.1 sp.1 begins goes h
+    safe_step (loop moves body p back) D N a b k sp begins goes h =
         let after : IsSubset N (after_code (Started moves D) body) = λ x n. after_loop moves back body p D x (h x n) in (
-          safe_moves moves back body p D N a b k c sp begins goes after,
+          safe_moves moves back body p D N a b k sp begins goes after,
           safe_code body (Started moves D) (at_branch body p back N) (suc sp.0) sp.1
-              (code_wider body (after_instrs none_written moves) (Started moves D) (λ x e. inr e) k.1) c sp.4
+              (code_wider body (after_instrs none_written moves) (Started moves D) (λ x e. inr e) k.1) sp.4
               (later lines (Started moves D) sp.0 (suc sp.0) (omega arith) (begun_body moves back body p D a b sp begins))
               (branch_last moves back body p D N a b k sp goes) (branch_in moves back body p D N k after (code_grow body (Started moves D))),
-          safe_moves_back moves back body p D N a b k c sp begins goes after,
+          safe_moves_back moves back body p D N a b k sp begins goes after,
         )
 
-    pub safe_code : (k : Code) (D N : NameSet) (a b : ℕ) → CodeIsClosed D k → CodeChooses k → SpansCode lines a k b → AreBegun lines D a → GoOn lines N b
+    pub safe_code : (k : Code) (D N : NameSet) (a b : ℕ) → CodeIsClosed D k → SpansCode lines a k b → AreBegun lines D a → GoOn lines N b
         → IsSubset N (after_code D k) → SafeCode f k N
-    safe_code no_steps D N a b k c sp begins goes h = tt
-    safe_code (step_then s r) D N a b k c sp begins goes h = (
-      safe_step s D (needed_by_code r N) a sp.0 k.0 c.0 sp.1 begins (code_last lines r N sp.0 b c.1 sp.2 goes) (code_defined r (after_step D s) N k.1 h),
-      safe_code r (after_step D s) N sp.0 b k.1 c.1 sp.2 (step_begun lines s D a sp.0 c.0 sp.1 begins) goes h,
+    safe_code no_steps D N a b k sp begins goes h = tt
+    safe_code (step_then s r) D N a b k sp begins goes h = (
+      safe_step s D (needed_by_code r N) a sp.0 k.0 sp.1 begins (code_last lines r N sp.0 b sp.2 goes) (code_defined r (after_step D s) N k.1 h),
+      safe_code r (after_step D s) N sp.0 b k.1 sp.2 (step_begun lines s D a sp.0 sp.1 begins) goes h,
     )
 
-    safe_codes : (ks : Codes) (D N : NameSet) (a b : ℕ) → AreClosed D ks → EachChooses ks → SpansCodes lines a ks b → AreBegun lines D a → GoOn lines N b
+    safe_codes : (ks : Codes) (D N : NameSet) (a b : ℕ) → AreClosed D ks → SpansCodes lines a ks b → AreBegun lines D a → GoOn lines N b
         → IsSubset N (after_each D ks) → SafeCodes f ks N
-    safe_codes no_codes D N a b k c sp begins goes h = tt
-    safe_codes (code_then r rs) D N a b k c sp begins goes h = (
-      safe_code r D N sp.0.0 sp.0.1 k.0 c.0 sp.0.3 (later lines D a sp.0.0 sp.0.2 begins) (sooner lines N sp.0.1 b sp.0.4 goes) (λ x n. (h x n).0),
-      safe_codes rs D N a b k.1 c.1 sp.1 begins goes (λ x n. (h x n).1),
+    safe_codes no_codes D N a b k sp begins goes h = tt
+    safe_codes (code_then r rs) D N a b k sp begins goes h = (
+      safe_code r D N sp.0.0 sp.0.1 k.0 sp.0.3 (later lines D a sp.0.0 sp.0.2 begins) (sooner lines N sp.0.1 b sp.0.4 goes) (λ x n. (h x n).0),
+      safe_codes rs D N a b k.1 sp.1 begins goes (λ x n. (h x n).1),
     )
 
 pub places_apart_are_safe : PlacesApartAreSafe
-places_apart_are_safe lines place code before after a b apart spans closed chooses begins goes h =
-    safe_code lines place apart code (these before) (these after) a b closed chooses spans begins goes h
+places_apart_are_safe lines place code before after a b apart spans closed begins goes h =
+    safe_code lines place apart code (these before) (these after) a b closed spans begins goes h

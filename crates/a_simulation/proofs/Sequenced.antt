@@ -11,4 +11,4 @@ closed law [] h = tt
 closed law (l ∷ ls) h = (law l h.0, closed law ls h.1)
 
 pub sequenced_functions_agree : SequencedCodeIsClosed → FunctionsAgree → SequencedFunctionsAgree
-sequenced_functions_agree law agree ls h c = agree (map sequenced ls) (closed law ls h) c
+sequenced_functions_agree law agree ls h = agree (map sequenced ls) (closed law ls h)

@@ -1,5 +1,4 @@
 pub mod Placed
-pub mod Choices
 pub mod Need
 pub mod Spans
 pub mod Laws

@@ -1,7 +1,8 @@
 -- Which names are needed before a code when some are needed after it, and when places are safe for a code: a write changes no
 -- other name's place that is needed.
-use Rattle.std.specs.Prelude.{◌≡◌, ◌≢◌, ◌⊎◌, ℕ, List, [], ◌∷◌, Some}
+use Rattle.std.specs.Prelude.{◌≡◌, ◌≢◌, ◌≤◌, ◌⊎◌, ℕ, List, [], ◌∷◌, Some}
 use Rattle.s_linear.specs.Linear.{Instr, Step, plain, choice, loop, Code, no_steps, step_then, Codes, no_codes, code_then}
+use Rattle.s_linear.specs.Lines.{counted}
 use Rattle.s_simulation.specs.Closed.{target_of, sources_of, NameSet, none_written}
 
 abbrev pub IsIn : ℕ → List ℕ → Type 0
@@ -28,12 +29,12 @@ needed_by_instrs (i ∷ is) N = needed_by i (needed_by_instrs is N)
 abbrev pub after_body : (predicate : ℕ) → (back : List Instr) → NameSet → NameSet
 after_body p back N x = (p ≡ x) ⊎ joined N (needed_by_instrs back none_written) x
 
--- What is needed at a loop's label is what its body needs of that: the next turn needs no more, since what is needed at the
--- label and not moved back is needed here already.
+-- A choice of one code reads no predicate. What is needed at a loop's label is what its body needs of that: the next turn needs
+-- no more, since what is needed at the label and not moved back is needed here already.
 abbrev mutual
   pub needed_by_step : Step → NameSet → NameSet
   needed_by_step (plain i) N x = needed_by i N x
-  needed_by_step (choice p cs) N x = (p ≡ x) ⊎ needed_by_codes cs N x
+  needed_by_step (choice p cs) N x = ((2 ≤ counted cs) × (p ≡ x)) ⊎ needed_by_codes cs N x
   needed_by_step (loop moves body p back) N x = needed_by_instrs moves (needed_by_code body (after_body p back N)) x
 
   pub needed_by_code : Code → NameSet → NameSet

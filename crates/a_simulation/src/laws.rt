@@ -16,20 +16,20 @@ pub fn intervals_span_code()
 {}
 
 /// Where names that share a position have different places, places are safe for closed code that
-/// the intervals span and whose choices are of two codes or more: the names written before it have
-/// started, and those needed after it go on to its end.
+/// the intervals span: the names written before it have started, and those needed after it go on
+/// to its end.
 pub fn places_apart_are_safe()
     ensures { PlacesApartAreSafe }
 {}
 
-/// Of each list of closed functions whose choices are of two codes or more, calls over names and
-/// calls over places are equal at every bound, on all arguments, memories and inputs.
+/// Of each list of closed functions, calls over names and calls over places are equal at every
+/// bound, on all arguments, memories and inputs.
 pub fn functions_agree()
     ensures { FunctionsAgree }
 {}
 
-/// Of the linear code of each list of well-formed lambdas, where its choices are of two codes or
-/// more, calls over names and calls over places are equal at every bound.
+/// Of the linear code of each list of well-formed lambdas, calls over names and calls over places
+/// are equal at every bound.
 pub fn sequenced_functions_agree()
     ensures { SequencedFunctionsAgree }
 {

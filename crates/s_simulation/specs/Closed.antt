@@ -61,11 +61,13 @@ after_instrs D (i ∷ is) = after_instrs (after_instr D i) is
 abbrev pub none_written : NameSet
 none_written x = ⊥
 
--- After a code, on each way through it. Each turn of a loop writes what the moves in and the body write.
+-- After a code, on each way through it. A choice of no code writes nothing. Each turn of a loop writes what the moves in and the
+-- body write.
 abbrev mutual
   pub after_step : NameSet → Step → NameSet
   after_step D (plain i) x = after_instr D i x
-  after_step D (choice p cs) x = after_each D cs x
+  after_step D (choice p no_codes) x = D x
+  after_step D (choice p (code_then c cs)) x = after_code D c x × after_each D cs x
   after_step D (loop enter body p back) x = after_code (after_instrs none_written enter) body x ⊎ D x
 
   pub after_code : NameSet → Code → NameSet

@@ -52,6 +52,12 @@ agrees-number R (Num n) w (inr e) next next' go = absurd cc
 agrees-number R (At b o) w less next next' go = tt
 agrees-number R Bad w less next next' go = tt
 
+-- what follows on a number, where the farther side reads none
+pub agrees-unread : {A B : Type 0} (R : A → B → Type 0) (v : Value) (next : ℕ → Answer A) (b : Answer B) → ((n : ℕ) → Agrees R (next n) b) → Agrees R (on_number v next) b
+agrees-unread R (Num n) next b go = go n
+agrees-unread R (At k o) next b go = tt
+agrees-unread R Bad next b go = tt
+
 pub agrees-defined : {A B X : Type 0} (R : A → B → Type 0) (a : Option X) (next : X → Answer A) (next' : X → Answer B) → ((x : X) → Agrees R (next x) (next' x)) →
     Agrees R (on_defined a next) (on_defined a next')
 agrees-defined R (Some x) next next' go = go x

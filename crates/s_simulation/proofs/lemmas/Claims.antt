@@ -1,7 +1,9 @@
 -- What is claimed of a region's nodes and their code, and code that stands after the nodes.
 use Rattle.std.proofs.Common.{◌≡◌, ℕ, zero, suc, ◌+◌, List, [], ◌∷◌, refl, sym, ◌∙◌}
 use Rattle.val_core.specs.Objects.{Addresses}
-use Rattle.val_core.specs.Answers.{then_on}
+use Rattle.val_core.specs.declared.values.Value.{Value}
+use Rattle.val_core.specs.Values.{IsLessDefined}
+use Rattle.val_core.specs.Answers.{Undefined, then_on, on_number}
 use Rattle.val_core.proofs.lemmas.Answers.{then_associates, then_on_given}
 use Rattle.g_graph.specs.declared.op.Kind.{Kind}
 use Rattle.g_graph.specs.Plain.{RegionTree, region, NodeTree, node, NodeTrees, no_nodes, node_then}
@@ -14,6 +16,7 @@ use Rattle.s_linear.specs.Meaning as linear
 use Rattle.s_linear.specs.Meaning.{State, Run, Call, step_run, code_run}
 use Rattle.s_sequence.specs.Sequence.{value_args, Names, no_names, nodes_names, node_names, outputs_at, named, nodes_named, nodes_code, node_step}
 use Rattle.s_simulation.specs.Agreement.{Agrees}
+use Rattle.s_simulation.proofs.lemmas.Answers.{agrees-number, agrees-unread}
 use Rattle.s_simulation.proofs.lemmas.Held.{Carries}
 use Rattle.s_simulation.proofs.lemmas.Running.{Running, NodeDone}
 
@@ -53,7 +56,7 @@ AllAgree R xs s [] [] = Unit {0}
 AllAgree R xs s (m ∷ ms) (r ∷ rs) = Agrees R (m xs) (r s) × AllAgree R xs s ms rs
 AllAgree R xs s _ _ = ⊥
 
-pub chosen-agree : (R : List Datum → State → Type 0) (xs : List Datum) (s : State) (w : ℕ) (ms : List Meaning) (rs : List Run) → AllAgree R xs s ms rs →
+chosen-agree : (R : List Datum → State → Type 0) (xs : List Datum) (s : State) (w : ℕ) (ms : List Meaning) (rs : List Run) → AllAgree R xs s ms rs →
     Agrees R (graph.chosen w ms xs) (linear.chosen w rs s)
 chosen-agree R xs s w [] [] h = tt
 chosen-agree R xs s w (m ∷ []) (r ∷ []) h = h.0
@@ -63,3 +66,16 @@ chosen-agree R xs s w (m ∷ []) (r ∷ q ∷ rs) h = absurd h.1
 chosen-agree R xs s w (m ∷ l ∷ ms) (r ∷ []) h = absurd h.1
 chosen-agree R xs s w [] (r ∷ rs) h = absurd h
 chosen-agree R xs s w (m ∷ ms) [] h = absurd h
+
+-- A Gamma of one region reads its predicate, and the choice of one code does not.
+pub chosen-by-agree : (R : List Datum → State → Type 0) (xs : List Datum) (s : State) (v : Value) (p : ℕ) → IsLessDefined v (s.names p) → (ms : List Meaning) (rs : List Run) → AllAgree R xs s ms rs →
+    Agrees R (on_number v (λ w. graph.chosen w ms xs)) (linear.chosen_by p rs s)
+chosen-by-agree R xs s v p less [] [] h = agrees-unread R v (λ w. Undefined []) (Undefined []) (λ w. tt)
+chosen-by-agree R xs s v p less (m ∷ []) (r ∷ []) h = agrees-unread R v (λ w. m xs) (r s) (λ w. h.0)
+chosen-by-agree R xs s v p less (m ∷ l ∷ ms) (r ∷ q ∷ rs) h =
+    agrees-number R v (s.names p) less (λ w. graph.chosen w (m ∷ l ∷ ms) xs) (λ w. linear.chosen w (r ∷ q ∷ rs) s)
+    (λ w. chosen-agree R xs s w (m ∷ l ∷ ms) (r ∷ q ∷ rs) h)
+chosen-by-agree R xs s v p less (m ∷ []) (r ∷ q ∷ rs) h = absurd h.1
+chosen-by-agree R xs s v p less (m ∷ l ∷ ms) (r ∷ []) h = absurd h.1
+chosen-by-agree R xs s v p less [] (r ∷ rs) h = absurd h
+chosen-by-agree R xs s v p less (m ∷ ms) [] h = absurd h

@@ -1,6 +1,5 @@
 -- The linear code of a well-formed lambda is closed, by one induction over its body.
-use Rattle.std.proofs.Common.{◌≡◌, ◌<◌, ℕ, zero, suc, ◌+◌, true, ◌&&◌, List, [], ◌∷◌, ◌++◌, map, length, refl, sym, ap, subst, ◌∙◌, arith}
-use Rattle.std.specs.Prelude.{replicate}
+use Rattle.std.proofs.Common.{◌≡◌, ◌<◌, ℕ, ◌+◌, true, ◌&&◌, List, [], ◌∷◌, ◌++◌, map, length, refl, sym, ap, subst, ◌∙◌, arith}
 use Rattle.std.proofs.lemmas.Bool.{and_parts}
 use Rattle.g_graph.specs.declared.op.Kind.{Kind}
 use Rattle.g_graph.specs.declared.op.Kind.TheVariants.{Value, Memory, Io}
@@ -12,8 +11,9 @@ use Rattle.g_graph.specs.WellFormed.{are, same, kinds_of, all_regions, every_reg
 use Rattle.g_graph.specs.Splice.{joined_nodes}
 use Rattle.g_graph.proofs.lemmas.Nodes.{are_kinds, same_kinds}
 use Rattle.g_graph.proofs.lemmas.Splices.{joined_none, joined_following}
-use Rattle.s_linear.specs.Linear.{no_steps}
+use Rattle.s_linear.specs.Linear.{choice, no_steps}
 use Rattle.s_sequence.specs.Sequence.{values_in, value_args, Names, no_names, node_names, outputs_at, bases, named, nodes_named, name_of, nodes_code, node_step, branch_codes, body_code, value_name}
+use Rattle.s_sequence.proofs.Named.{body_values}
 use Rattle.s_simulation.specs.Closed.{NameSet, after_step, after_code, after_each, StepIsClosed, CodeIsClosed, AreClosed}
 use Rattle.s_simulation.specs.Laws.{SequencedCodeIsClosed}
 use Rattle.s_simulation.proofs.lemmas.Branches.{region-tests}
@@ -24,6 +24,14 @@ use Rattle.s_simulation.proofs.lemmas.Known.{OriginsKnown, NodeWrites, KnownClai
 
 reads-of : (D : NameSet) (args : List Kind) (base : ℕ) (names : Names) (next : ℕ) (x : NodeTree) → NodeWrites D args base names next x → StepIsClosed D (node_step args base names next x)
 reads-of D args base names next (node id op inputs rs) w = w.reads
+
+-- a Gamma of a region or more has a code or more
+each-written : (D : NameSet) (p : ℕ) (entries : List ℕ) (out next count : ℕ) (r : RegionTree) (rs : RegionTrees) (x : ℕ) →
+    after_each D (branch_codes entries out (bases next count (region_then r rs)) (region_then r rs)) x →
+    after_step D (choice p (branch_codes entries out (bases next count (region_then r rs)) (region_then r rs))) x
+each-written D p entries out next count r no_regions x h = h
+each-written D p entries out next count r (region_then q no_regions) x h = h
+each-written D p entries out next count r (region_then q (region_then u rs)) x h = h
 
 module _ (objects : ℕ) where
   mutual
@@ -58,7 +66,14 @@ module _ (objects : ℕ) where
         let all = list-known args base names earlier D h (p ∷ entries) (Value ∷ args_of r) (are_kinds (map (known args earlier) (p ∷ entries)) (Value ∷ args_of r) t.inputs) in
         let each = regions-known D (outputs_at next (region_then r rs)) (args_of r) (kinds_of ks) (map (name_of args base names) entries) all.1 (region_then r rs)
         (bases next (values_in ks) (region_then r rs)) t.regions nested in
-        record { own = kinds_of ks; are = own; reads = (all.0, each.0); outputs = each.1 }
+        record {
+          own = kinds_of ks;
+          are = own;
+          reads = (all.0, each.0);
+          outputs = λ k low.
+              each-written D (name_of args base names p) (map (name_of args base names) entries) (outputs_at next (region_then r rs)) next (values_in ks) r rs
+              (outputs_at next (region_then r rs) + k) (each.1 k low);
+        }
     node-writes args base names earlier D h next (node id Theta inputs no_regions) t nested = let has = t.has in absurd cc
     node-writes args base names earlier D h next (node id Theta inputs (region_then r (region_then q rs))) t nested = let has = t.has in absurd cc
     node-writes args base names earlier D h next (node id Theta inputs (region_then r no_regions)) t nested =
@@ -84,10 +99,6 @@ module _ (objects : ℕ) where
 
 -- ---- a function
 
-body-values : (n : ℕ) → value_args (replicate n Value ++ Memory ∷ Io ∷ []) ≡ n
-body-values zero = refl
-body-values (suc n) = ap suc (body-values n)
-
 record BodyIsClosed (params : ℕ) (body : RegionTree) : Type 0 where
   code : CodeIsClosed (λ x. x < params) (body_code body)
   value : after_code (λ x. x < params) (body_code body) (value_name body)
@@ -107,7 +118,7 @@ body-closed objects params (region args nodes results) fits =
     parameters x = x < params
 
     count : value_args args ≡ params
-    count = ap value_args fits.args ∙ body-values params
+    count = ap value_args fits.args ∙ body_values params
 
     Whole : ℕ → Type 0
     Whole first =

@@ -24,6 +24,7 @@ use Rattle.g_mean.specs.Meaning.{Meaning, Outputs, no_outputs, read, nodes_run, 
 use Rattle.g_mean.specs.Calls as graph
 use Rattle.g_mean.specs.Calls.{sizes_of, shapes_of, inside, applied, global_of, first_memory, lambda_at, program_at}
 use Rattle.g_mean.specs.Kinds.{AreWellFormed}
+use Rattle.g_mean.proofs.lemmas.Kinds.{found-well}
 use Rattle.s_linear.specs.Linear.{no_steps}
 use Rattle.s_linear.specs.Meaning as linear
 use Rattle.s_linear.specs.Meaning.{State, Call, code_run, first_names, calls}
@@ -186,11 +187,6 @@ module _ (n : ℕ) (call : ℕ → Meaning) (callees : ℕ → Call) (agree : Al
   found-agrees global (Some l) well vs ws less m i = entered-agrees global l (well l refl) vs ws less m i
 
 -- ---- calls at every bound
-
-found-well : (ls : List PlainLambda) → AreWellFormed ls → (f : ℕ) (l : PlainLambda) → slice_get ls f ≡ Some l → well_formed l ≡ true
-found-well [] h f l e = absurd cc
-found-well (k ∷ ls) h zero l e = let same : k ≡ l = cc in subst (λ z. well_formed z ≡ true) same h.0
-found-well (k ∷ ls) h (suc f) l e = found-well ls h.1 f l e
 
 all-calls-agree : (ls : List PlainLambda) → AreWellFormed ls → (global : ℕ → Value) (n : ℕ) → AllCallsAgree (applied ls global n) (calls (map sequenced ls) global n)
 all-calls-agree ls well global zero f vs ws less m i = refl

@@ -13,12 +13,12 @@ use Rattle.g_graph.specs.Scope.{known}
 use Rattle.g_graph.specs.WellFormed.{are}
 use Rattle.g_graph.proofs.lemmas.Nodes.{are_kinds}
 use Rattle.g_graph.proofs.lemmas.Unique.{equal_back}
+use Rattle.g_mean.proofs.lemmas.Kinds.{joined-some, after-more}
 use Rattle.s_linear.specs.Linear.{Instr, Step, plain, Code, no_steps}
 use Rattle.s_linear.specs.Lines.{numbers_from}
 use Rattle.s_sequence.specs.Sequence.{values_in, value_args, kept, Names, no_names, nodes_names, outputs_at, named, nodes_named, name_of, name_at, moves, op_instr, instrs_then, nodes_code, node_step, branch_code, loop_step}
 use Rattle.s_simulation.specs.Closed.{target_of, sources_of, NameSet, none_written, AreIn, after_instrs, after_step, after_code, StepIsClosed, CodeIsClosed}
 use Rattle.s_simulation.proofs.lemmas.Held.{take-values}
-use Rattle.s_simulation.proofs.lemmas.Running.{joined-at, kind-more}
 use Rattle.s_simulation.proofs.lemmas.Nodes.{NodeTests, is_simple}
 use Rattle.s_simulation.proofs.lemmas.Written.{Grows, instrs-grow, instrs-then-closed, instrs-then-after, nodes-then-closed, nodes-then-after, moves-closed, moves-write, same-targets, numbers-length, numbers-in, AreKnown, kept-in, known-at, without-states-in, value-place}
 
@@ -76,7 +76,7 @@ known-more args base names before D h next (node id op inputs rs) grows w = from
 
     new : (p : ℕ) → joined (slice_get (outputs_of op rs) p) ≡ Some Value → E (outputs_at next rs + values_in (take p (outputs_of op rs)))
     new p e =
-        let here : slice_get w.own p ≡ Some Value = joined-at w.own p Value (subst (λ ks. joined (slice_get ks p) ≡ Some Value) w.are e) in
+        let here : slice_get w.own p ≡ Some Value = joined-some w.own p Value (subst (λ ks. joined (slice_get ks p) ≡ Some Value) w.are e) in
         subst (λ ks. E (outputs_at next rs + values_in (take p ks))) (sym w.are) (w.outputs (values_in (take p (map Some w.own))) (value-place w.own p here))
 
     at : (n p : ℕ) (test : Bool) → cond test (joined (slice_get (outputs_of op rs) p)) (kind_after (nodes_of before) n p None) ≡ Some Value →
@@ -88,7 +88,7 @@ known-more args base names before D h next (node id op inputs rs) grows w = from
     from (Arg p) e = grows (base + value_args (take p args)) (h (Arg p) e)
     from (Out n p) e =
         subst (λ b. E (cond b (outputs_at next rs + values_in (take p (outputs_of op rs))) (names n p))) (equal_back id n)
-        (at n p (id == n) (sym (kind-more before (node id op inputs rs) n p None) ∙ e))
+        (at n p (id == n) (sym (after-more before (node id op inputs rs) n p None) ∙ e))
 
 -- ---- ops without regions
 

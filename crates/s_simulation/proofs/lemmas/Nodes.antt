@@ -1,5 +1,5 @@
 -- Nodes, regions and their code agree, by one induction over the tree.
-use Rattle.std.proofs.Common.{◌≡◌, ◌≤◌, ℕ, ◌+◌, ◌-◌, ◌%◌, ◌^◌, Bool, true, false, ◌&&◌, ◌||◌, List, [], ◌∷◌, ◌++◌, map, length, Option, Some, refl, ap, subst, ◌∙◌, arith}
+use Rattle.std.proofs.Common.{◌≡◌, ◌≤◌, ℕ, ◌+◌, ◌-◌, ◌%◌, ◌^◌, Bool, true, false, ◌&&◌, List, [], ◌∷◌, ◌++◌, map, length, Option, Some, refl, ap, subst, ◌∙◌, arith}
 use Rattle.std.proofs.lemmas.Bool.{and_parts}
 use Rattle.val_core.specs.declared.values.Value.TheVariants.{Num, Bad}
 use Rattle.val_core.specs.Objects.{Addresses}
@@ -20,15 +20,16 @@ use Rattle.g_graph.proofs.lemmas.Unique.{times, times_append}
 use Rattle.g_mean.specs.Data.{Datum, value_of}
 use Rattle.g_mean.specs.Meaning as graph
 use Rattle.g_mean.specs.Meaning.{Meaning, Outputs, no_outputs, extended, read, region_meaning, node_run, nodes_run, meanings}
+use Rattle.g_mean.proofs.lemmas.Silent.{theta-gives}
 use Rattle.s_linear.specs.Meaning as linear
 use Rattle.s_linear.specs.Meaning.{State, Call, step_run, code_run, codes_runs}
-use Rattle.s_sequence.specs.Sequence.{values_in, Names, node_names, regions_names, last_names, first_standing, outputs_at, bases, named, name_of, node_step, branch_codes}
+use Rattle.s_sequence.specs.Sequence.{values_in, Names, node_names, outputs_at, bases, named, name_of, node_step, branch_codes}
+use Rattle.s_sequence.proofs.Named.{standing_names}
 use Rattle.s_simulation.specs.Agreement.{Agrees}
-use Rattle.s_simulation.proofs.lemmas.Answers.{agrees-number}
 use Rattle.s_simulation.proofs.lemmas.Held.{IsState, tied-less, Held}
 use Rattle.s_simulation.proofs.lemmas.Running.{Running, NodeDone, advanced, held}
 use Rattle.s_simulation.proofs.lemmas.Ops.{AllCallsAgree, binary-agrees, unary-agrees, load-op-agrees, store-op-agrees, clear-op-agrees, pointers-op-agree, put-agrees, exit-agrees, get-agrees, constant-agrees, call-agrees}
-use Rattle.s_simulation.proofs.lemmas.Claims.{graph_context, code_context, StepDone, AllAgree, chosen-agree}
+use Rattle.s_simulation.proofs.lemmas.Claims.{graph_context, code_context, StepDone, AllAgree, chosen-by-agree}
 
 -- ---- the tests of a node
 
@@ -82,39 +83,19 @@ not-before before x ns once = by (has_node (id_of x) (nodes_of before)) refl
 
 -- ---- names
 
-standing-low : (rs : RegionTrees) → first_standing rs ≤ regions_names rs
-standing-low no_regions = omega arith
-standing-low (region_then r no_regions) = omega arith
-standing-low (region_then r (region_then q no_regions)) = omega arith
-standing-low (region_then r (region_then q (region_then u rs))) = last-low (region_then r (region_then q (region_then u rs)))
-  where
-    last-low : (ks : RegionTrees) → last_names ks ≤ regions_names ks
-    last-low no_regions = omega arith
-    last-low (region_then k no_regions) = omega arith
-    last-low (region_then k (region_then l ks)) = let more = last-low (region_then l ks) in omega (arith, more)
-
 pub advance : (args : List Kind) (base : ℕ) (xs : List Datum) (start : State) (before : List NodeTree) (names : Names) (next : ℕ) (o : Outputs) (s : State) →
     Running args base xs start (nodes_of before) names next o s → (x : NodeTree) → has_node (id_of x) (nodes_of before) ≡ false → (ys : List Datum) (t : State) → StepDone x next s ys t →
     Running args base xs start (nodes_of (before ++ x ∷ [])) (named x next names) (next + node_names x) (extended o (id_of x) ys) t
 advance args base xs start before names next o s run (node id op inputs rs) fresh ys t done =
-    let low = standing-low rs in
+    let low = standing_names rs in
     advanced args base xs start before names next o s run id op inputs rs fresh (next + node_names (node id op inputs rs)) (omega arith) (omega (arith, low)) ys t done
 
 -- ---- the states of a loop
 
-has-some : (k : Kind) (ks : List Kind) → some_of (same_kind k) ks ≡ true → some_of (is_of k) (map Some ks) ≡ true
-has-some k [] e = e
-has-some k (j ∷ ks) e = by (same_kind k j) e (has-some k ks)
-  where
-    by : (test : Bool) → (test || some_of (same_kind k) ks) ≡ true → (some_of (same_kind k) ks ≡ true → some_of (is_of k) (map Some ks) ≡ true) →
-        (test || some_of (is_of k) (map Some ks)) ≡ true
-    by true e more = refl
-    by false e more = more e
-
 pub theta-states : (ks : List Kind) → (some_of (same_kind Memory) ks && some_of (same_kind Io) ks) ≡ true → (k : Kind) → IsState k → some_of (is_of k) (map Some ks) ≡ true
 theta-states ks t ValueKind state = absurd state
-theta-states ks t Memory state = has-some Memory ks (and_parts (some_of (same_kind Memory) ks) (some_of (same_kind Io) ks) t).0
-theta-states ks t Io state = has-some Io ks (and_parts (some_of (same_kind Memory) ks) (some_of (same_kind Io) ks) t).1
+theta-states ks t Memory state = theta-gives Memory ks (and_parts (some_of (same_kind Memory) ks) (some_of (same_kind Io) ks) t).0
+theta-states ks t Io state = theta-gives Io ks (and_parts (some_of (same_kind Memory) ks) (some_of (same_kind Io) ks) t).1
 
 -- ---- ops without regions
 
@@ -198,5 +179,5 @@ module _ (objects n : ℕ) (call : ℕ → Meaning) (callees : ℕ → Call) (ad
         let both = inputs-held (p ∷ entries) t.last (ValueKind ∷ args_of r) t.inputs in
         let less = tied-less base next (read xs o p) (name_of args base names p) s both.0 in
         let agreed = all (map (name_of args base names) entries) (map (read xs o) entries) both.1 in
-        agrees-number (NodeDone next (outputs_at next (region_then r rs)) (result_kinds r) s) (value_of (read xs o p)) (s.names (name_of args base names p)) less _ _
-        (λ w. chosen-agree (NodeDone next (outputs_at next (region_then r rs)) (result_kinds r) s) (map (read xs o) entries) s w (meanings c (region_then r rs)) _ agreed)
+        chosen-by-agree (NodeDone next (outputs_at next (region_then r rs)) (result_kinds r) s) (map (read xs o) entries) s (value_of (read xs o p)) (name_of args base names p) less
+        (meanings c (region_then r rs)) _ agreed

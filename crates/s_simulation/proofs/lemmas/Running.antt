@@ -1,5 +1,5 @@
 -- What holds between the nodes of a region while the region and its linear code run.
-use Rattle.std.proofs.Common.{◌≡◌, ◌⊎◌, ◌<◌, ◌≤◌, inl, inr, ℕ, zero, suc, ◌+◌, ◌==◌, Bool, true, false, not, ◌||◌, cond, List, [], ◌∷◌, ◌++◌, map, slice_get, Option, None, Some, refl, sym, ap, subst, ◌∙◌, arith}
+use Rattle.std.proofs.Common.{◌≡◌, ◌⊎◌, ◌<◌, ◌≤◌, inl, inr, ℕ, ◌+◌, ◌==◌, Bool, true, false, not, ◌||◌, cond, List, [], ◌∷◌, ◌++◌, map, slice_get, Option, None, Some, refl, sym, ap, subst, ◌∙◌, arith}
 use Rattle.std.specs.Prelude.{take}
 use Rattle.std.proofs.lemmas.Bool.{and_parts}
 use Rattle.g_graph.specs.declared.op.Kind.{Kind}
@@ -14,8 +14,10 @@ use Rattle.g_graph.specs.WellFormed.{all_of, some_of, is_last, gives, returns_st
 use Rattle.g_graph.specs.Change.{has_node}
 use Rattle.g_graph.proofs.lemmas.Indexes.{same_number_true, index_kind, index_none, GivesState, KeepsState, state_cases, last_gives}
 use Rattle.g_graph.proofs.lemmas.Unique.{same_number, equal_back}
+use Rattle.g_graph.proofs.SpliceKept.{some_at}
 use Rattle.g_mean.specs.Data.{Datum, at_port}
 use Rattle.g_mean.specs.Meaning.{Outputs, no_outputs, extended, read}
+use Rattle.g_mean.proofs.lemmas.Kinds.{joined-some, after-more}
 use Rattle.s_linear.specs.Meaning.{State}
 use Rattle.s_sequence.specs.Sequence.{values_in, value_args, Names, no_names, outputs_at, named, name_of}
 use Rattle.s_simulation.proofs.lemmas.Held.{IsState, state_datum, Tied, tied-wider, tied-kept, Held, Carries, carries-tied, carries-state, take-values}
@@ -41,24 +43,7 @@ pub record NodeDone (next at : ℕ) (kinds : List (Option Kind)) (start : State)
   pub keeps : (y : ℕ) → y < next → s.names y ≡ start.names y
   pub states : (k : Kind) → IsState k → some_of (is_of k) kinds ≡ false → state_datum k s ≡ state_datum k start
 
--- ---- lists of kinds
-
-pub some-at : (ks : List Kind) (p : ℕ) (k : Kind) → slice_get (map Some ks) p ≡ Some (Some k) → slice_get ks p ≡ Some k
-some-at [] p k e = absurd cc
-some-at (j ∷ ks) zero k e = let same : j ≡ k = cc in ap Some same
-some-at (j ∷ ks) (suc p) k e = some-at ks p k e
-
-pub joined-at : (ks : List Kind) (p : ℕ) (k : Kind) → joined (slice_get (map Some ks) p) ≡ Some k → slice_get ks p ≡ Some k
-joined-at [] p k e = absurd cc
-joined-at (j ∷ ks) zero k e = e
-joined-at (j ∷ ks) (suc p) k e = joined-at ks p k e
-
 -- ---- one more node
-
-pub kind-more : (before : List NodeTree) (x : NodeTree) (n p : ℕ) (found : Option Kind) →
-    kind_after (nodes_of (before ++ x ∷ [])) n p found ≡ cond (id_of x == n) (joined (slice_get (output_kinds x) p)) (kind_after (nodes_of before) n p found)
-kind-more [] x n p found = refl
-kind-more (y ∷ before) x n p found = kind-more before x n p (cond (id_of y == n) (joined (slice_get (output_kinds y) p)) found)
 
 state-more : (k : Kind) (before : List NodeTree) (x : NodeTree) (found : Option Origin) →
     state_after k (nodes_of (before ++ x ∷ [])) found ≡ origin_at (λ p. Out (id_of x) p) (last_index k 0 (output_kinds x) None) (state_after k (nodes_of before) found)
@@ -110,7 +95,7 @@ started args base xs s h =
 
     by : (k : Kind) → IsState k → (l : Option ℕ) → last_index k 0 (map Some args) None ≡ l → carried xs no_outputs (origin_at Arg l None) (state_datum k s) ≡ state_datum k s
     by k state None e = refl
-    by k state (Some p) e = carries-state k state args xs base s h p (some-at args p k (index_kind k (map Some args) p e).0)
+    by k state (Some p) e = carries-state k state args xs base s h p (some_at args p k (index_kind k (map Some args) p e).0)
 
 -- ---- a node is done
 
@@ -141,7 +126,7 @@ advanced args base xs start before names next o s r id op inputs rs fresh last l
 
     new : (p : ℕ) → joined (slice_get (outputs_of op rs) p) ≡ Some ValueKind → Tied base last (at_port ys p) (outputs_at next rs + values_in (take p (outputs_of op rs))) t
     new p e =
-        let here : slice_get done.own p ≡ Some ValueKind = joined-at done.own p ValueKind (subst (λ ks. joined (slice_get ks p) ≡ Some ValueKind) done.are e) in
+        let here : slice_get done.own p ≡ Some ValueKind = joined-some done.own p ValueKind (subst (λ ks. joined (slice_get ks p) ≡ Some ValueKind) done.are e) in
         let h = carries-tied done.own ys (outputs_at next rs) t done.carries p here in
         let taken : values_in (take p (outputs_of op rs)) ≡ value_args (take p done.own) = ap (λ ks. values_in (take p ks)) done.are ∙ take-values done.own p in
         let all : values_in (outputs_of op rs) ≡ value_args done.own = ap values_in done.are in
@@ -158,7 +143,7 @@ advanced args base xs start before names next o s r id op inputs rs fresh last l
     from (Arg p) e = old (at_port xs p) (base + value_args (take p args)) (r.values (Arg p) e)
     from (Out n p) e =
         subst (λ b. Tied base last (extended o id ys n p) (cond b (outputs_at next rs + values_in (take p (outputs_of op rs))) (names n p)) t) (equal_back id n)
-        (at n p (id == n) (sym (kind-more before x n p None) ∙ e))
+        (at n p (id == n) (sym (after-more before x n p None) ∙ e))
 
     by : (k : Kind) → IsState k → (l : Option ℕ) → last_index k 0 (outputs_of op rs) None ≡ l →
         carried xs (extended o id ys) (origin_at (λ p. Out id p) l (last_state k args (nodes_of before))) (state_datum k start) ≡ state_datum k t
@@ -166,7 +151,7 @@ advanced args base xs start before names next o s r id op inputs rs fresh last l
         carried-extended k args xs (nodes_of before) o id ys (state_datum k start) fresh ∙ r.states k state ∙ sym (done.states k state (index_none k (outputs_of op rs) e))
     by k state (Some p) e =
         let here : slice_get (map Some done.own) p ≡ Some (Some k) = subst (λ ks. slice_get ks p ≡ Some (Some k)) done.are (index_kind k (outputs_of op rs) p e).0 in
-        ap (λ b. cond b (at_port ys p) (o id p)) (same_number_true id) ∙ carries-state k state done.own ys (outputs_at next rs) t done.carries p (some-at done.own p k here)
+        ap (λ b. cond b (at_port ys p) (o id p)) (same_number_true id) ∙ carries-state k state done.own ys (outputs_at next rs) t done.carries p (some_at done.own p k here)
 
 -- ---- what origins carry
 

@@ -26,7 +26,8 @@ instrs-grow D (i ∷ is) x h = instrs-grow (after_instr D i) is x (inr h)
 mutual
   pub step-grows : (D : NameSet) (s : Step) → Grows D (after_step D s)
   step-grows D (plain i) x h = inr h
-  step-grows D (choice p cs) x h = each-grows D cs x h
+  step-grows D (choice p no_codes) x h = h
+  step-grows D (choice p (code_then c cs)) x h = each-grows D (code_then c cs) x h
   step-grows D (loop enter body p back) x h = inr h
 
   pub code-grows : (D : NameSet) (c : Code) → Grows D (after_code D c)

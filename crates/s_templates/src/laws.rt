@@ -1,0 +1,106 @@
+//! Laws of instructions where they stand in memory, for the proofs of the crates above: each is the
+//! contract of a function that does nothing.
+
+ghost use Rattle.s_templates.specs.Laws.{StandingIsDone, TextStays, SegmentCodeStands, CodeIsCut, FunctionsStand, ItemsAreResolved, ItemsAreCut, WordsStand, WordsAreTheSame};
+ghost use Rattle.s_templates.specs.Branches.{OffsetLeads, JumpIsDone, BranchNotZeroIsDone, BranchZeroIsDone, BranchEqualIsDone, ExitIsDone};
+ghost use Rattle.s_templates.specs.Memories.{LoadIsDone, StoreIsDone, EqualPointersIsDone, ClearIsDone};
+ghost use Rattle.s_templates.specs.Rows.{ConstIsDone, UndefIsDone, ObjectAddressIsDone, GlobalAddressIsDone, BinaryIsDone, UnaryIsDone, MoveIsDone};
+
+/// The instruction that stands at pc is the one that is done.
+pub fn standing_is_done()
+    ensures { StandingIsDone }
+{}
+
+/// A run leaves a text in memory.
+pub fn text_stays()
+    ensures { TextStays }
+{}
+
+/// The code of a segment that may be executed and not written stands in memory, an instruction at
+/// each word.
+pub fn segment_code_stands()
+    ensures { SegmentCodeStands }
+{}
+
+/// Of two codes one after the other each stands where the other begins or ends.
+pub fn code_is_cut()
+    ensures { CodeIsCut }
+{}
+
+/// In the text of a program each function's code stands at the function's address.
+pub fn functions_stand()
+    ensures { FunctionsStand }
+{}
+
+/// Where the code of a function stands, its items stand one after the other, and each label is
+/// resolved to where it is marked.
+pub fn items_are_resolved()
+    ensures { ItemsAreResolved }
+{}
+
+/// Items that stand are cut as code is, and those that are instructions are code.
+pub fn items_are_code()
+    ensures cut { ItemsAreCut }
+    ensures words { WordsStand }
+{}
+
+/// The instructions of each operation give on words what the operation gives, zero divisors and
+/// sign extensions included.
+pub fn words_are_the_same()
+    ensures { WordsAreTheSame }
+{}
+
+/// The templates of the instructions without memory do on the machine what the instructions do over
+/// places: each writes its value to its place, and all else that the machine stands for stays.
+pub fn templates_write_values()
+    ensures constant { ConstIsDone }
+    ensures undef { UndefIsDone }
+    ensures object_address { ObjectAddressIsDone }
+    ensures global_address { GlobalAddressIsDone }
+    ensures binary { BinaryIsDone }
+    ensures unary { UnaryIsDone }
+    ensures moved { MoveIsDone }
+{}
+
+/// The templates of branches and jumps lead to their targets, and where a branch is not taken to
+/// what follows it.
+pub fn templates_branch()
+    ensures offset { OffsetLeads }
+    ensures jump { JumpIsDone }
+    ensures not_zero { BranchNotZeroIsDone }
+    ensures zero { BranchZeroIsDone }
+    ensures equal { BranchEqualIsDone }
+{}
+
+/// The template of a load does on the machine what the load does over places.
+pub fn templates_load()
+    ensures { LoadIsDone }
+{}
+
+/// So does the template of a store.
+pub fn templates_store()
+    ensures { StoreIsDone }
+{
+    val_core::laws::memory::load_after_store();
+    val_core::laws::memory::load_elsewhere();
+    val_core::laws::memory::store_keeps_blocks();
+}
+
+/// So does that of a comparison of pointers, of blocks that live or with null.
+pub fn templates_compare_pointers()
+    ensures { EqualPointersIsDone }
+{}
+
+/// So does that of clearing an object, a word a turn.
+pub fn templates_clear()
+    ensures { ClearIsDone }
+{
+    val_core::laws::memory::load_after_clear();
+    val_core::laws::memory::clear_elsewhere();
+    val_core::laws::memory::clear_keeps_blocks();
+}
+
+/// The template of an exit ends the run with the low byte of the status.
+pub fn templates_exit()
+    ensures { ExitIsDone }
+{}
