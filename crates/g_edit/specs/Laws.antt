@@ -1,0 +1,30 @@
+-- Laws of the edits.
+use Rattle.std.specs.Prelude.{◌≡◌, ℕ, Bool, false, List}
+use Rattle.g_graph.specs.declared.op.Kind.{Kind}
+use Rattle.g_graph.specs.declared.op.Op.TheVariants.{Gamma}
+use Rattle.g_graph.specs.declared.op.Origin.{Origin}
+use Rattle.g_graph.specs.Plain.{region, NodeTree, node, NodeTrees, node_then, RegionTrees, id_of, PlainLambda}
+use Rattle.g_graph.specs.Splice.{joined_nodes}
+use Rattle.g_mean.specs.Silent.{GivesNoState}
+use Rattle.g_mean.specs.Edits.{IsPartOf}
+use Rattle.g_mean.specs.Replacement.{Replaces}
+use Rattle.g_edit.specs.Uses.{is_read, is_output_of}
+use Rattle.g_edit.specs.Removal.{region_without}
+use Rattle.g_edit.specs.Exits.{is_gone_output, exits_kept}
+
+-- In a region of a well-formed lambda a node that gives no state, and none of whose outputs is read, may go.
+abbrev pub UnreadNodesGo : Type 0
+UnreadNodesGo =
+    (ls ks : List PlainLambda) (l : PlainLambda) (args : List Kind) (before : NodeTrees) (x : NodeTree) (after : NodeTrees) (results : List Origin) →
+    IsPartOf l (region args (joined_nodes before (node_then x after)) results) → GivesNoState x →
+    is_read (is_output_of (id_of x)) (region args (joined_nodes before (node_then x after)) results) ≡ false →
+    Replaces ls ks (region args (joined_nodes before (node_then x after)) results) (region_without (id_of x) (region args (joined_nodes before (node_then x after)) results))
+
+-- Of a Gamma exit variables may go whose outputs are not read, with their results in every region.
+abbrev pub UnreadExitsGo : Type 0
+UnreadExitsGo =
+    (ls ks : List PlainLambda) (l : PlainLambda) (args : List Kind) (before : NodeTrees) (id : ℕ) (inputs : List Origin) (rs : RegionTrees) (after : NodeTrees) (results : List Origin) (stays : List Bool) →
+    IsPartOf l (region args (joined_nodes before (node_then (node id Gamma inputs rs) after)) results) →
+    is_read (is_gone_output id stays) (region args (joined_nodes before (node_then (node id Gamma inputs rs) after)) results) ≡ false →
+    Replaces ls ks (region args (joined_nodes before (node_then (node id Gamma inputs rs) after)) results)
+    (exits_kept id stays (region args (joined_nodes before (node_then (node id Gamma inputs rs) after)) results))

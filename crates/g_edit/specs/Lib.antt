@@ -1,0 +1,7 @@
+pub mod Lookup
+pub mod Uses
+pub mod Removal
+pub mod Places
+pub mod Exits
+pub mod Parts
+pub mod Laws

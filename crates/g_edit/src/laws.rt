@@ -1,0 +1,20 @@
+//! Laws of the edits.
+
+ghost use Rattle.g_edit.specs.Laws.{UnreadNodesGo, UnreadExitsGo};
+ghost use Rattle.g_edit.specs.Parts.{PlacedPartsRefine};
+
+/// A part may come in the place of a node of a region, also one of the node's own number, where it
+/// refines the node as far as its outputs are read.
+pub fn placed_parts_refine()
+    ensures { PlacedPartsRefine }
+{}
+
+/// A node that gives no state, and none of whose outputs is read, may go.
+pub fn unread_nodes_go()
+    ensures { UnreadNodesGo }
+{}
+
+/// Exit variables of a Gamma whose outputs are not read may go.
+pub fn unread_exits_go()
+    ensures { UnreadExitsGo }
+{}
