@@ -31,13 +31,7 @@ fn other_than(id: u32, found: Option<u32>) -> Option<u32>
     ensures { result ≡ other_than id found }
 {
     match found {
-        Some(other) => {
-            if other == id {
-                None
-            } else {
-                Some(other)
-            }
-        }
+        Some(other) => { if other == id { None } else { Some(other) } }
         None => None,
     }
 }

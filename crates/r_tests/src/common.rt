@@ -56,8 +56,10 @@ fn is_changed(
         None => (None, None),
         Some(row) => (Some(in_body(alloc, row)?), Some(in_region(alloc, row)?)),
     };
-    Ok(becomes(in_body(alloc, before)?, node, body)
-        && becomes(in_region(alloc, before)?, node, inside))
+    Ok(
+        becomes(in_body(alloc, before)?, node, body)
+            && becomes(in_region(alloc, before)?, node, inside),
+    )
 }
 
 // Two nodes of these ops and inputs, and the exclusive or of their outputs.
@@ -96,15 +98,51 @@ fn equal_ops_and_inputs_are_common(rt: HostRuntime) -> Result<(), Fail> {
         ((ADD, [A, B].as_slice()), (ADD, [A, B].as_slice()), true),
         ((ADD, [A, B].as_slice()), (ADD, [B, A].as_slice()), false),
         ((ADD, [A, B].as_slice()), (sub, [A, B].as_slice()), false),
-        ((Op::Const(7), [].as_slice()), (Op::Const(7), [].as_slice()), true),
-        ((Op::Const(7), [].as_slice()), (Op::Const(8), [].as_slice()), false),
-        ((Op::Local(0), [].as_slice()), (Op::Local(0), [].as_slice()), true),
-        ((Op::Local(0), [].as_slice()), (Op::Delta(0), [].as_slice()), false),
-        ((Op::Delta(1), [].as_slice()), (Op::Delta(1), [].as_slice()), true),
-        ((Op::Undef, [].as_slice()), (Op::Undef, [].as_slice()), false),
-        ((Op::Load(4), [A, M].as_slice()), (Op::Load(4), [A, M].as_slice()), true),
-        ((Op::Load(4), [A, M].as_slice()), (Op::Load(2), [A, M].as_slice()), false),
-        ((Op::PtrEq, [A, B, M].as_slice()), (Op::PtrEq, [A, B, M].as_slice()), true),
+        (
+            (Op::Const(7), [].as_slice()),
+            (Op::Const(7), [].as_slice()),
+            true,
+        ),
+        (
+            (Op::Const(7), [].as_slice()),
+            (Op::Const(8), [].as_slice()),
+            false,
+        ),
+        (
+            (Op::Local(0), [].as_slice()),
+            (Op::Local(0), [].as_slice()),
+            true,
+        ),
+        (
+            (Op::Local(0), [].as_slice()),
+            (Op::Delta(0), [].as_slice()),
+            false,
+        ),
+        (
+            (Op::Delta(1), [].as_slice()),
+            (Op::Delta(1), [].as_slice()),
+            true,
+        ),
+        (
+            (Op::Undef, [].as_slice()),
+            (Op::Undef, [].as_slice()),
+            false,
+        ),
+        (
+            (Op::Load(4), [A, M].as_slice()),
+            (Op::Load(4), [A, M].as_slice()),
+            true,
+        ),
+        (
+            (Op::Load(4), [A, M].as_slice()),
+            (Op::Load(2), [A, M].as_slice()),
+            false,
+        ),
+        (
+            (Op::PtrEq, [A, B, M].as_slice()),
+            (Op::PtrEq, [A, B, M].as_slice()),
+            true,
+        ),
     ] {
         assert!(rt; pair(alloc, first, second, is_common)?);
     }

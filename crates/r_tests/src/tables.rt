@@ -6,8 +6,11 @@ use std::alloc::Global;
 
 /// Two values among the arguments of a body, and both its states.
 pub const A: Origin = Origin::Arg(0);
+
 pub const B: Origin = Origin::Arg(1);
+
 pub const M: Origin = Origin::Arg(2);
+
 pub const I: Origin = Origin::Arg(3);
 
 /// The arguments of a body with two parameters.
