@@ -1,8 +1,13 @@
 pub mod Lookup
 pub mod Uses
+pub mod Kept
 pub mod Parts
 pub mod Placed
 pub mod Scopes
+pub mod Swapped
 pub mod Removal
 pub mod Gone
 pub mod Exits
+pub mod ExitsFit
+pub mod Entries
+pub mod EntriesFit

@@ -11,6 +11,7 @@ use Rattle.g_mean.specs.Replacement.{Replaces}
 use Rattle.g_edit.specs.Uses.{is_read, is_output_of}
 use Rattle.g_edit.specs.Removal.{region_without}
 use Rattle.g_edit.specs.Exits.{is_gone_output, exits_kept}
+use Rattle.g_edit.specs.Entries.{some_reads, entries_kept}
 
 -- In a region of a well-formed lambda a node that gives no state, and none of whose outputs is read, may go.
 abbrev pub UnreadNodesGo : Type 0
@@ -28,3 +29,11 @@ UnreadExitsGo =
     is_read (is_gone_output id stays) (region args (joined_nodes before (node_then (node id Gamma inputs rs) after)) results) ≡ false →
     Replaces ls ks (region args (joined_nodes before (node_then (node id Gamma inputs rs) after)) results)
     (exits_kept id stays (region args (joined_nodes before (node_then (node id Gamma inputs rs) after)) results))
+
+-- Of a Gamma entry variables may go whose arguments no region reads, with these arguments.
+abbrev pub UnreadEntriesGo : Type 0
+UnreadEntriesGo =
+    (ls ks : List PlainLambda) (l : PlainLambda) (args : List Kind) (before : NodeTrees) (id : ℕ) (inputs : List Origin) (rs : RegionTrees) (after : NodeTrees) (results : List Origin) (stays : List Bool) →
+    IsPartOf l (region args (joined_nodes before (node_then (node id Gamma inputs rs) after)) results) → some_reads stays rs ≡ false →
+    Replaces ls ks (region args (joined_nodes before (node_then (node id Gamma inputs rs) after)) results)
+    (entries_kept id stays (region args (joined_nodes before (node_then (node id Gamma inputs rs) after)) results))

@@ -1,6 +1,6 @@
 //! Laws of the edits.
 
-ghost use Rattle.g_edit.specs.Laws.{UnreadNodesGo, UnreadExitsGo};
+ghost use Rattle.g_edit.specs.Laws.{UnreadNodesGo, UnreadExitsGo, UnreadEntriesGo};
 ghost use Rattle.g_edit.specs.Parts.{PlacedPartsRefine};
 
 /// A part may come in the place of a node of a region, also one of the node's own number, where it
@@ -17,4 +17,9 @@ pub fn unread_nodes_go()
 /// Exit variables of a Gamma whose outputs are not read may go.
 pub fn unread_exits_go()
     ensures { UnreadExitsGo }
+{}
+
+/// Entry variables of a Gamma whose arguments no region reads may go.
+pub fn unread_entries_go()
+    ensures { UnreadEntriesGo }
 {}

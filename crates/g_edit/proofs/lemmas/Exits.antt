@@ -37,19 +37,13 @@ use Rattle.g_edit.specs.Places.{stays_at, kept, place_after}
 use Rattle.g_edit.specs.Exits.{regions_giving, node_giving, output_after, is_gone_output, nodes_giving, exits_kept}
 use Rattle.g_edit.specs.Parts.{CanPlace}
 use Rattle.g_edit.specs.Laws.{UnreadExitsGo}
+use Rattle.g_edit.proofs.lemmas.Kept.{kept_map, is_not}
 use Rattle.g_edit.proofs.lemmas.Parts.{placed_parts_refine}
 use Rattle.g_edit.proofs.lemmas.Placed.{not_before, outside, outside_stays, can_place}
 
 -- ---- lists
 
-kept_map : {X Y : Type 0} (stays : List Bool) (f : X → Y) (xs : List X) → map f (kept stays xs) ≡ kept stays (map f xs)
-kept_map [] f [] = refl
-kept_map (t ∷ ts) f [] = refl
-kept_map [] f (x ∷ xs) = refl
-kept_map (true ∷ ts) f (x ∷ xs) = ap (λ ys. f x ∷ ys) (kept_map ts f xs)
-kept_map (false ∷ ts) f (x ∷ xs) = kept_map ts f xs
-
-kept_port : (stays : List Bool) (xs : List Datum) (k : ℕ) → stays_at stays k ≡ true → at_port (kept stays xs) (place_after stays k) ≡ at_port xs k
+pub kept_port : (stays : List Bool) (xs : List Datum) (k : ℕ) → stays_at stays k ≡ true → at_port (kept stays xs) (place_after stays k) ≡ at_port xs k
 kept_port stays [] k e = refl
 kept_port [] (x ∷ xs) k e = refl
 kept_port (true ∷ ts) (x ∷ xs) zero e = refl
@@ -87,7 +81,7 @@ module _ (stays : List Bool) where
 
   -- ---- the region
 
-  giving_joined : (n : ℕ) (before : NodeTrees) (x : NodeTree) (after : NodeTrees) → has_node n before ≡ false → (id_of x == n) ≡ true →
+  pub giving_joined : (n : ℕ) (before : NodeTrees) (x : NodeTree) (after : NodeTrees) → has_node n before ≡ false → (id_of x == n) ≡ true →
       nodes_giving n stays (joined_nodes before (node_then x after)) ≡ joined_nodes before (node_then (node_giving stays x) (nodes_redirected (output_after n stays) after))
   giving_joined n no_nodes x after b e = rw e
   giving_joined n (node_then y before) x after b e =
@@ -131,15 +125,11 @@ module _ (stays : List Bool) where
     less xs ys o q near like us vs pairs (Out n p) (inr h) = absurd h
     less xs ys o q near like us vs pairs (Out n p) (inl t) = by (id == n) refl (outside_stays args before here after results part.closed part.unique gone move unread n p t)
       where
-        stay : (b : Bool) → not b ≡ false → b ≡ true
-        stay true e = refl
-        stay false e = absurd cc
-
         by : (s : Bool) → (id == n) ≡ s → (s && not (stays_at stays p)) ≡ false →
             IsLessDefinedDatum (cond s (at_port us p) (o n p)) (read ys (extended q id (kept stays vs)) (cond s (Out n (place_after stays p)) (Out n p)))
         by true e k =
             let same : extended q id (kept stays vs) n (place_after stays p) ≡ at_port vs p =
-            ap (λ s. cond s (at_port (kept stays vs) (place_after stays p)) (q n (place_after stays p))) e ∙ kept_port stays vs p (stay (stays_at stays p) k) in
+            ap (λ s. cond s (at_port (kept stays vs) (place_after stays p)) (q n (place_after stays p))) e ∙ kept_port stays vs p (is_not (stays_at stays p) k) in
             subst (λ z. IsLessDefinedDatum (at_port us p) z) (sym same) (paired-at IsLessDefinedDatum less-kept us vs pairs p)
         by false e k =
             let same : extended q id (kept stays vs) n p ≡ q n p = ap (λ s. cond s (at_port (kept stays vs) p) (q n p)) e in

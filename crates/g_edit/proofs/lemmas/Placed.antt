@@ -1,5 +1,5 @@
 -- When a part may come in the place of a node: where what goes is not read, and nodes keep their numbers.
-use Rattle.std.proofs.Common.{◌≡◌, ◌≢◌, ℕ, ◌==◌, ◌⊎◌, Bool, true, false, not, ◌&&◌, List, [], ◌∷◌, ◌++◌, length, refl, sym, ap, subst, ◌∙◌, inl, inr, arith}
+use Rattle.std.proofs.Common.{◌≡◌, ◌≢◌, ℕ, ◌==◌, ◌⊎◌, Bool, true, false, not, ◌&&◌, List, [], ◌∷◌, ◌++◌, map, length, refl, sym, ap, subst, ◌∙◌, inl, inr, arith}
 use Rattle.std.proofs.lemmas.Bool.{and_parts, or_parts, false_from_ne_true}
 use Rattle.g_graph.specs.declared.op.Kind.{Kind}
 use Rattle.g_graph.specs.declared.op.Origin.{Origin}
@@ -8,6 +8,7 @@ use Rattle.g_graph.specs.Plain.{region, NodeTree, node, NodeTrees, no_nodes, nod
 use Rattle.g_graph.specs.Ids.{node_ids, nodes_ids}
 use Rattle.g_graph.specs.WellFormed.{some_of, distinct}
 use Rattle.g_graph.specs.Change.{has_node}
+use Rattle.g_graph.specs.Replace.{nodes_redirected}
 use Rattle.g_graph.specs.Splice.{joined_nodes}
 use Rattle.g_graph.proofs.lemmas.Nodes.{NodeFits, has_times, own_times}
 use Rattle.g_graph.proofs.lemmas.Splices.{nodes_ids-joined}
@@ -19,6 +20,18 @@ use Rattle.g_mean.proofs.lemmas.Splices.{joined-known, joined-read, known-among,
 use Rattle.g_edit.specs.Uses.{nodes_read, is_read}
 use Rattle.g_edit.specs.Parts.{CanPlace}
 use Rattle.g_edit.proofs.lemmas.Parts.{all_unread, nodes_unread}
+
+-- ---- origins that stay
+
+pub all_unmoved : (f : Origin → Origin) → ((o : Origin) → f o ≡ o) → (os : List Origin) → map f os ≡ os
+all_unmoved f e [] = refl
+all_unmoved f e (o ∷ os) = λ i. e o i ∷ all_unmoved f e os i
+
+pub nodes_unmoved : (f : Origin → Origin) → ((o : Origin) → f o ≡ o) → (ns : NodeTrees) → nodes_redirected f ns ≡ ns
+nodes_unmoved f e no_nodes = refl
+nodes_unmoved f e (node_then (node id op inputs rs) ns) = λ i. node_then (node id op (all_unmoved f e inputs i) rs) (nodes_unmoved f e ns i)
+
+-- ---- a node in its region
 
 -- no node of its number stands before a node
 pub not_before : (objects : ℕ) (args : List Kind) (before : NodeTrees) (x : NodeTree) (after : NodeTrees) → NodeFits objects args before x after → has_node (id_of x) before ≡ false

@@ -41,7 +41,7 @@ use Rattle.g_edit.specs.Removal.{nodes_without, region_without}
 use Rattle.g_edit.specs.Parts.{CanPlace}
 use Rattle.g_edit.specs.Laws.{UnreadNodesGo}
 use Rattle.g_edit.proofs.lemmas.Parts.{placed_parts_refine}
-use Rattle.g_edit.proofs.lemmas.Placed.{not_before, read_after, outside, outside_stays, can_place}
+use Rattle.g_edit.proofs.lemmas.Placed.{nodes_unmoved, all_unmoved, not_before, read_after, outside, outside_stays, can_place}
 use Rattle.g_edit.proofs.lemmas.Scopes.{KeepsScope, kept_all, kept_nodes_fit}
 
 -- ---- what goes
@@ -58,20 +58,6 @@ without_is : (objects : ℕ) (args : List Kind) (before : NodeTrees) (x : NodeTr
     region_without (id_of x) (region args (joined_nodes before (node_then x after)) results) ≡ region args (joined_nodes before after) results
 without_is objects args before x after results here =
     ap (λ ns. region args ns results) (without_joined (id_of x) before x after (not_before objects args before x after here) (same_number_true (id_of x)))
-
--- ---- origins that stay
-
-nodes_stay : (ns : NodeTrees) → nodes_redirected (λ o. o) ns ≡ ns
-nodes_stay no_nodes = refl
-nodes_stay (node_then (node id op inputs rs) ns) = λ i. node_then (node id op (all_stay inputs i) rs) (nodes_stay ns i)
-  where
-    all_stay : (os : List Origin) → map (λ o. o) os ≡ os
-    all_stay [] = refl
-    all_stay (o ∷ os) = ap (λ qs. o ∷ qs) (all_stay os)
-
-all_stay : (os : List Origin) → map (λ o. o) os ≡ os
-all_stay [] = refl
-all_stay (o ∷ os) = ap (λ qs. o ∷ qs) (all_stay os)
 
 -- ---- meaning
 
@@ -126,7 +112,7 @@ module _ (l : PlainLambda) (args : List Kind) (before : NodeTrees) (x : NodeTree
 
   placed_is : region args (joined_nodes before (joined_nodes no_nodes (nodes_redirected (λ o. o) after))) (map (λ o. o) results) ≡ region_without (id_of x) whole
   placed_is =
-      (λ i. region args (joined_nodes before (nodes_stay after i)) (all_stay results i)) ∙ sym (without_is (length l.objects) args before x after results here)
+      (λ i. region args (joined_nodes before (nodes_unmoved (λ o. o) (λ o. refl) after i)) (all_unmoved (λ o. o) (λ o. refl) results i)) ∙ sym (without_is (length l.objects) args before x after results here)
 
   pub without_replaces : (ls ks : List PlainLambda) → Replaces ls ks whole (region_without (id_of x) whole)
   without_replaces ls ks =
@@ -186,11 +172,11 @@ module _ (args : List Kind) (x : NodeTree) (none : GivesNoState x) where
       each_node (node_fits objects args) earlier (joined_nodes before (node_then x after)) ≡ true → each_node (node_fits objects args) earlier (joined_nodes before after) ≡ true
   without_fit objects earlier no_nodes after u e =
       let rest = (and_parts (node_fits objects args (nodes_of earlier) x) (each_node (node_fits objects args) (earlier ++ x ∷ []) after) e).1 in
-      subst (λ ns. each_node (node_fits objects args) earlier ns ≡ true) (nodes_stay after)
+      subst (λ ns. each_node (node_fits objects args) earlier ns ≡ true) (nodes_unmoved (λ o. o) (λ o. refl) after)
       (kept_nodes_fit (is_output_of (id_of x)) objects args args (λ o. o) (earlier ++ x ∷ []) earlier after
       (λ front following w.
       subst (λ ns. KeepsScope (is_output_of (id_of x)) args ns args (joined_nodes (nodes_of earlier) (nodes_redirected (λ o. o) front)) (λ o. o)) (sym (joined_following earlier x front))
-      (subst (λ ns. KeepsScope (is_output_of (id_of x)) args (joined_nodes (nodes_of earlier) (node_then x front)) args (joined_nodes (nodes_of earlier) ns) (λ o. o)) (sym (nodes_stay front))
+      (subst (λ ns. KeepsScope (is_output_of (id_of x)) args (joined_nodes (nodes_of earlier) (node_then x front)) args (joined_nodes (nodes_of earlier) ns) (λ o. o)) (sym (nodes_unmoved (λ o. o) (λ o. refl) front))
       (scope_stays (nodes_of earlier) front))) u rest)
   without_fit objects earlier (node_then y before) after u e =
       let both = and_parts (node_fits objects args (nodes_of earlier) y) (each_node (node_fits objects args) (earlier ++ y ∷ []) (joined_nodes before (node_then x after))) e in
@@ -219,7 +205,7 @@ without_kept objects args before x after results here fits none unread =
     let to_last = (and_parts (nodes_fit objects r && results_are_last r) (returns_state Memory r) to_memory).0 in
     let fit = (and_parts (nodes_fit objects r) (results_are_last r) to_last).0 in
     let last : all_of (is_last args ns) results ≡ true = (and_parts (nodes_fit objects r) (results_are_last r) to_last).1 in
-    let all = subst (λ os. (map (known args ms) os ≡ map (known args ns) results) × (all_of (is_last args ms) os ≡ true)) (all_stay results)
+    let all = subst (λ os. (map (known args ms) os ≡ map (known args ns) results) × (all_of (is_last args ms) os ≡ true)) (all_unmoved (λ o. o) (λ o. refl) results)
     (kept_all gone objects args args (λ o. o) ns ms (scope_stays args x none before after) results both.1 last) in
     let now = without_fit args x none objects [] before after (read_after gone before x after both.0) fit in
     let same : region_fits objects (region args ms results) ≡ region_fits objects r =
