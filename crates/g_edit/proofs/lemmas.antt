@@ -11,3 +11,4 @@ pub mod Exits
 pub mod ExitsFit
 pub mod Entries
 pub mod EntriesFit
+pub mod Variables

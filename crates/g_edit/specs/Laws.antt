@@ -1,9 +1,9 @@
 -- Laws of the edits.
 use Rattle.std.specs.Prelude.{◌≡◌, ℕ, Bool, false, List}
 use Rattle.g_graph.specs.declared.op.Kind.{Kind}
-use Rattle.g_graph.specs.declared.op.Op.TheVariants.{Gamma}
+use Rattle.g_graph.specs.declared.op.Op.TheVariants.{Gamma, Theta}
 use Rattle.g_graph.specs.declared.op.Origin.{Origin}
-use Rattle.g_graph.specs.Plain.{region, NodeTree, node, NodeTrees, node_then, RegionTrees, id_of, PlainLambda}
+use Rattle.g_graph.specs.Plain.{RegionTree, region, NodeTree, node, NodeTrees, node_then, RegionTrees, no_regions, region_then, id_of, PlainLambda}
 use Rattle.g_graph.specs.Splice.{joined_nodes}
 use Rattle.g_mean.specs.Silent.{GivesNoState}
 use Rattle.g_mean.specs.Edits.{IsPartOf}
@@ -12,6 +12,7 @@ use Rattle.g_edit.specs.Uses.{is_read, is_output_of}
 use Rattle.g_edit.specs.Removal.{region_without}
 use Rattle.g_edit.specs.Exits.{is_gone_output, exits_kept}
 use Rattle.g_edit.specs.Entries.{some_reads, entries_kept}
+use Rattle.g_edit.specs.Variables.{loop_reads, variables_kept}
 
 -- In a region of a well-formed lambda a node that gives no state, and none of whose outputs is read, may go.
 abbrev pub UnreadNodesGo : Type 0
@@ -37,3 +38,12 @@ UnreadEntriesGo =
     IsPartOf l (region args (joined_nodes before (node_then (node id Gamma inputs rs) after)) results) → some_reads stays rs ≡ false →
     Replaces ls ks (region args (joined_nodes before (node_then (node id Gamma inputs rs) after)) results)
     (entries_kept id stays (region args (joined_nodes before (node_then (node id Gamma inputs rs) after)) results))
+
+-- Of a Theta loop variables may go whose outputs are not read, and whose arguments at most results that go with them read.
+abbrev pub UnreadVariablesGo : Type 0
+UnreadVariablesGo =
+    (ls ks : List PlainLambda) (l : PlainLambda) (args : List Kind) (before : NodeTrees) (id : ℕ) (inputs : List Origin) (r : RegionTree) (after : NodeTrees) (results : List Origin) (stays : List Bool) →
+    IsPartOf l (region args (joined_nodes before (node_then (node id Theta inputs (region_then r no_regions)) after)) results) → loop_reads stays r ≡ false →
+    is_read (is_gone_output id stays) (region args (joined_nodes before (node_then (node id Theta inputs (region_then r no_regions)) after)) results) ≡ false →
+    Replaces ls ks (region args (joined_nodes before (node_then (node id Theta inputs (region_then r no_regions)) after)) results)
+    (variables_kept id stays (region args (joined_nodes before (node_then (node id Theta inputs (region_then r no_regions)) after)) results))

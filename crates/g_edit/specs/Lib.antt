@@ -4,5 +4,6 @@ pub mod Removal
 pub mod Places
 pub mod Exits
 pub mod Entries
+pub mod Variables
 pub mod Parts
 pub mod Laws

@@ -1,6 +1,6 @@
 //! Laws of the edits.
 
-ghost use Rattle.g_edit.specs.Laws.{UnreadNodesGo, UnreadExitsGo, UnreadEntriesGo};
+ghost use Rattle.g_edit.specs.Laws.{UnreadNodesGo, UnreadExitsGo, UnreadEntriesGo, UnreadVariablesGo};
 ghost use Rattle.g_edit.specs.Parts.{PlacedPartsRefine};
 
 /// A part may come in the place of a node of a region, also one of the node's own number, where it
@@ -22,4 +22,10 @@ pub fn unread_exits_go()
 /// Entry variables of a Gamma whose arguments no region reads may go.
 pub fn unread_entries_go()
     ensures { UnreadEntriesGo }
+{}
+
+/// Loop variables of a Theta may go whose outputs are not read, and whose arguments only results
+/// that go read.
+pub fn unread_variables_go()
+    ensures { UnreadVariablesGo }
 {}

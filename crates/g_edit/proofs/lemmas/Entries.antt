@@ -50,25 +50,25 @@ module _ (stays : List Bool) where
   gone = is_gone_argument stays
 
   -- the arguments that stay
-  abbrev stay : Origin → Bool
-  stay (Arg k) = stays_at stays k
-  stay (Out n p) = false
+  abbrev pub staying : Origin → Bool
+  staying (Arg k) = stays_at stays k
+  staying (Out n p) = false
 
-  moves : (ids : List ℕ) → CanMove stay move (λ n. n) ids
+  pub moves : (ids : List ℕ) → CanMove staying move (λ n. n) ids
   moves ids = record { one = λ m n h k e. e; outputs = λ n p h. refl; apart = apart; fresh = fresh }
     where
-      apart : (a : Origin) (n p : ℕ) → stay a ≡ true → a ≡ Out n p → IsAmong n ids → ⊥
+      apart : (a : Origin) (n p : ℕ) → staying a ≡ true → a ≡ Out n p → IsAmong n ids → ⊥
       apart (Arg k) n p t e h = absurd cc
       apart (Out i j) n p t e h = absurd cc
 
-      fresh : (a : Origin) (n p m : ℕ) → stay a ≡ true → move a ≡ Out n p → IsAmong m ids → n ≡ m → ⊥
+      fresh : (a : Origin) (n p m : ℕ) → staying a ≡ true → move a ≡ Out n p → IsAmong m ids → n ≡ m → ⊥
       fresh (Arg k) n p m t e h f = absurd cc
       fresh (Out i j) n p m t e h f = absurd cc
 
-  none_known : (n p : ℕ) → IsAmong n [] → gone (Out n p) ≡ false → stay (Out n p) ≡ true
+  pub none_known : (n p : ℕ) → IsAmong n [] → gone (Out n p) ≡ false → staying (Out n p) ≡ true
   none_known n p h e = absurd h
 
-  arguments_less : (us vs : List Datum) → Paired IsLessDefinedDatum us vs → ReadLessDefined stay [] move us (kept stays vs) no_outputs no_outputs
+  arguments_less : (us vs : List Datum) → Paired IsLessDefinedDatum us vs → ReadLessDefined staying [] move us (kept stays vs) no_outputs no_outputs
   arguments_less us vs pairs (Arg k) (inl t) =
       subst (λ z. IsLessDefinedDatum (at_port us k) z) (sym (kept_port stays vs k t)) (paired-at IsLessDefinedDatum less-kept us vs pairs k)
   arguments_less us vs pairs (Arg k) (inr h) = absurd h
@@ -82,13 +82,13 @@ module _ (stays : List Bool) where
         (region_meaning d (region (kept stays args) (nodes_redirected move nodes) (map move results)) (kept stays vs))
     region_takes args nodes results closed unread us vs pairs =
         let parts = or_parts (nodes_read gone nodes) (some_of gone results) unread in
-        let reads = nodes_unread (length args) stay gone [] (λ k e. is_not (stays_at stays k) e) none_known [] nodes closed.0 parts.0 in
-        let gives = all_unread (length args) stay gone [] (λ k e. is_not (stays_at stays k) e) none_known (known_after [] nodes) results
+        let reads = nodes_unread (length args) staying gone [] (λ k e. is_not (stays_at stays k) e) none_known [] nodes closed.0 parts.0 in
+        let gives = all_unread (length args) staying gone [] (λ k e. is_not (stays_at stays k) e) none_known (known_after [] nodes) results
         (subst (λ ks. AreRead (is_argument (length args)) ks results) (sym (append-nil (known_after [] nodes))) closed.1) parts.1 in
         subst
         (λ ns. Refines no_deeper direction (Paired IsLessDefinedDatum) (region_meaning c (region args nodes results) us) (region_meaning d (region (kept stays args) ns (map move results)) (kept stays vs)))
         (redirected-moved move nodes)
-        (moved_regions_refine direction c d context stay move (λ n. n) args (kept stays args) nodes results (moves (nodes_ids nodes)) reads gives us (kept stays vs) (arguments_less us vs pairs))
+        (moved_regions_refine direction c d context staying move (λ n. n) args (kept stays args) nodes results (moves (nodes_ids nodes)) reads gives us (kept stays vs) (arguments_less us vs pairs))
 
     chosen_takes : (w : ℕ) (rs : RegionTrees) → AllClosed rs → some_reads stays rs ≡ false → (us vs : List Datum) → Paired IsLessDefinedDatum us vs →
         Refines no_deeper direction (Paired IsLessDefinedDatum) (chosen w (meanings c rs) us) (chosen w (meanings d (regions_taking stays rs)) (kept stays vs))

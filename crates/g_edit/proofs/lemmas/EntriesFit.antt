@@ -93,7 +93,7 @@ module _ (stays : List Bool) where
             (kind, gives_last k (kept stays args) (nodes_redirected move front) (move o) (kind ∙ n) (last k o u (last_gives k args front o n e)))
 
   -- it gives the same kinds, and is well formed
-  region_takes : (objects : ℕ) (args : List Kind) (nodes : NodeTrees) (results : List Origin) → is_read gone (region args nodes results) ≡ false →
+  pub region_takes : (objects : ℕ) (args : List Kind) (nodes : NodeTrees) (results : List Origin) → is_read gone (region args nodes results) ≡ false →
       every_region (region_fits objects) (region args nodes results) ≡ true →
       (map (known (kept stays args) (nodes_redirected move nodes)) (map move results) ≡ map (known args nodes) results)
       × (every_region (region_fits objects) (region (kept stays args) (nodes_redirected move nodes) (map move results)) ≡ true)

@@ -61,7 +61,7 @@ module _ (stays : List Bool) where
       let rest = regions_give firsts ks rs both.1 in
       λ i. (own.0 i && now i) && rest i
 
-  fits_inside : (objects : ℕ) (args : List Kind) (nodes : NodeTrees) (results : List Origin) → drops_values stays (map (known args nodes) results) ≡ true →
+  pub fits_inside : (objects : ℕ) (args : List Kind) (nodes : NodeTrees) (results : List Origin) → drops_values stays (map (known args nodes) results) ≡ true →
       every_region (region_fits objects) (region args nodes results) ≡ true → every_region (region_fits objects) (region args nodes (kept stays results)) ≡ true
   fits_inside objects args nodes results v e =
       let r = region args nodes results in
