@@ -12,3 +12,4 @@ pub mod ExitsFit
 pub mod Entries
 pub mod EntriesFit
 pub mod Variables
+pub mod VariablesFit
