@@ -13,3 +13,4 @@ pub mod Entries
 pub mod EntriesFit
 pub mod Variables
 pub mod VariablesFit
+pub mod Shrunk

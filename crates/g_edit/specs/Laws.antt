@@ -10,7 +10,7 @@ use Rattle.g_mean.specs.Edits.{IsPartOf}
 use Rattle.g_mean.specs.Replacement.{Replaces}
 use Rattle.g_edit.specs.Uses.{is_read, is_output_of}
 use Rattle.g_edit.specs.Removal.{region_without}
-use Rattle.g_edit.specs.Exits.{is_gone_output, exits_kept}
+use Rattle.g_edit.specs.Exits.{regions_giving, is_gone_output, exits_kept}
 use Rattle.g_edit.specs.Entries.{some_reads, entries_kept}
 use Rattle.g_edit.specs.Variables.{loop_reads, variables_kept}
 
@@ -38,6 +38,15 @@ UnreadEntriesGo =
     IsPartOf l (region args (joined_nodes before (node_then (node id Gamma inputs rs) after)) results) → some_reads stays rs ≡ false →
     Replaces ls ks (region args (joined_nodes before (node_then (node id Gamma inputs rs) after)) results)
     (entries_kept id stays (region args (joined_nodes before (node_then (node id Gamma inputs rs) after)) results))
+
+-- Both may go, and which arguments are read is asked once the exit variables are gone.
+abbrev pub UnreadExitsAndEntriesGo : Type 0
+UnreadExitsAndEntriesGo =
+    (ls ks : List PlainLambda) (l : PlainLambda) (args : List Kind) (before : NodeTrees) (id : ℕ) (inputs : List Origin) (rs : RegionTrees) (after : NodeTrees) (results : List Origin) →
+    (exits entries : List Bool) → IsPartOf l (region args (joined_nodes before (node_then (node id Gamma inputs rs) after)) results) →
+    is_read (is_gone_output id exits) (region args (joined_nodes before (node_then (node id Gamma inputs rs) after)) results) ≡ false → some_reads entries (regions_giving exits rs) ≡ false →
+    Replaces ls ks (region args (joined_nodes before (node_then (node id Gamma inputs rs) after)) results)
+    (entries_kept id entries (exits_kept id exits (region args (joined_nodes before (node_then (node id Gamma inputs rs) after)) results)))
 
 -- Of a Theta loop variables may go whose outputs are not read, and whose arguments at most results that go with them read.
 abbrev pub UnreadVariablesGo : Type 0

@@ -1,6 +1,6 @@
 //! Laws of the edits.
 
-ghost use Rattle.g_edit.specs.Laws.{UnreadNodesGo, UnreadExitsGo, UnreadEntriesGo, UnreadVariablesGo};
+ghost use Rattle.g_edit.specs.Laws.{UnreadNodesGo, UnreadExitsGo, UnreadEntriesGo, UnreadExitsAndEntriesGo, UnreadVariablesGo};
 ghost use Rattle.g_edit.specs.Parts.{PlacedPartsRefine};
 
 /// A part may come in the place of a node of a region, also one of the node's own number, where it
@@ -14,14 +14,12 @@ pub fn unread_nodes_go()
     ensures { UnreadNodesGo }
 {}
 
-/// Exit variables of a Gamma whose outputs are not read may go.
-pub fn unread_exits_go()
-    ensures { UnreadExitsGo }
-{}
-
-/// Entry variables of a Gamma whose arguments no region reads may go.
-pub fn unread_entries_go()
-    ensures { UnreadEntriesGo }
+/// Exit variables of a Gamma whose outputs are not read may go, entry variables whose arguments no
+/// region reads, and the first and then the second.
+pub fn unread_exits_and_entries_go()
+    ensures exits { UnreadExitsGo }
+    ensures entries { UnreadEntriesGo }
+    ensures both { UnreadExitsAndEntriesGo }
 {}
 
 /// Loop variables of a Theta may go whose outputs are not read, and whose arguments only results

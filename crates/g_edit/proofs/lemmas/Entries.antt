@@ -102,7 +102,7 @@ module _ (stays : List Bool) where
         chosen_takes w (region_then (region args' nodes' results') rs) closed.1
         (or_parts (is_read gone (region args nodes results)) (some_reads stays (region_then (region args' nodes' results') rs)) unread).1 us vs pairs
 
-    node_takes : (id : ℕ) (inputs : List Origin) (rs : RegionTrees) → AllClosed rs → some_reads stays rs ≡ false → (xs ys : List Datum) (o q : Outputs) → Paired IsLessDefinedDatum xs ys →
+    pub node_takes : (id : ℕ) (inputs : List Origin) (rs : RegionTrees) → AllClosed rs → some_reads stays rs ≡ false → (xs ys : List Datum) (o q : Outputs) → Paired IsLessDefinedDatum xs ys →
         OutputsRefine IsLessDefinedDatum o q →
         Refines no_deeper direction (Paired IsLessDefinedDatum) (node_run c (node id Gamma inputs rs) xs o) (node_run d (node_taking stays (node id Gamma inputs rs)) ys q)
     node_takes id [] rs closed unread xs ys o q near like = tt

@@ -1,12 +1,12 @@
 -- Exit variables of a Gamma that nothing reads go.
-use Rattle.std.proofs.Common.{◌≡◌, ◌≢◌, ℕ, zero, suc, ◌==◌, Bool, true, false, not, ◌&&◌, cond, List, [], ◌∷◌, map, length, refl, sym, ap, subst, ◌∙◌, inl, inr}
+use Rattle.std.proofs.Common.{◌≡◌, ◌≢◌, ℕ, zero, suc, ◌==◌, Bool, true, false, not, ◌&&◌, cond, List, [], ◌∷◌, map, length, refl, sym, ap, subst, subst₂, ◌∙◌, inl, inr}
 use Rattle.std.proofs.Math.Path.{fun_ext}
 use Rattle.std.proofs.lemmas.Bool.{or_parts}
 use Rattle.val_core.specs.declared.values.Value.{Value}
 use Rattle.val_core.specs.declared.values.Value.TheVariants.{Num, At, Bad}
 use Rattle.val_core.specs.Answers.{Answer, Returned, then_on, on_number}
 use Rattle.val_core.specs.Refinement.{Direction, Refines, no_deeper}
-use Rattle.val_core.proofs.lemmas.Answers.{then_associates}
+use Rattle.val_core.proofs.lemmas.Answers.{then_associates, then_nothing}
 use Rattle.val_core.proofs.lemmas.Refinement.{refines-then}
 use Rattle.g_graph.specs.declared.op.Kind.{Kind}
 use Rattle.g_graph.specs.declared.op.Op.TheVariants.{Gamma}
@@ -51,10 +51,18 @@ kept_port (true ∷ ts) (x ∷ xs) (suc k) e = kept_port ts xs k e
 kept_port (false ∷ ts) (x ∷ xs) zero e = absurd cc
 kept_port (false ∷ ts) (x ∷ xs) (suc k) e = kept_port ts xs k e
 
+paired_kept : (N : Datum → Datum → Type 0) (stays : List Bool) (us vs : List Datum) → Paired N us vs → Paired N (kept stays us) (kept stays vs)
+paired_kept N stays [] [] h = tt
+paired_kept N [] (u ∷ us) (v ∷ vs) h = h
+paired_kept N (true ∷ ts) (u ∷ us) (v ∷ vs) h = (h.0, paired_kept N ts us vs h.1)
+paired_kept N (false ∷ ts) (u ∷ us) (v ∷ vs) h = paired_kept N ts us vs h.1
+paired_kept N stays [] (v ∷ vs) h = absurd h
+paired_kept N stays (u ∷ us) [] h = absurd h
+
 -- ---- a node that gives what stays
 
 module _ (stays : List Bool) where
-  abbrev drops : List Datum → Answer (List Datum)
+  abbrev pub drops : List Datum → Answer (List Datum)
   drops us = Returned (kept stays us) []
 
   region_gives : (c : Context) (args : List Kind) (nodes : NodeTrees) (results : List Origin) (us : List Datum) →
@@ -70,7 +78,7 @@ module _ (stays : List Bool) where
   chosen_gives c (suc w) (region_then (region args nodes results) (region_then (region args' nodes' results') rs)) us =
       chosen_gives c w (region_then (region args' nodes' results') rs) us
 
-  branched_gives : (c : Context) (rs : RegionTrees) (us : List Datum) → branched (meanings c (regions_giving stays rs)) us ≡ then_on (branched (meanings c rs) us) drops
+  pub branched_gives : (c : Context) (rs : RegionTrees) (us : List Datum) → branched (meanings c (regions_giving stays rs)) us ≡ then_on (branched (meanings c rs) us) drops
   branched_gives c rs [] = refl
   branched_gives c rs (p ∷ us) = by (value_of p)
     where
@@ -119,35 +127,55 @@ module _ (stays : List Bool) where
     can_give : CanPlace args before here after results seen move
     can_give = can_place args before here after results part.closed part.unique gone move unread (λ k. refl) move_port move_other
 
-    less : (xs ys : List Datum) (o q : Outputs) → Paired IsLessDefinedDatum xs ys → OutputsRefine IsLessDefinedDatum o q → (us vs : List Datum) → Paired IsLessDefinedDatum us vs →
-        ReadLessDefined seen [] move xs ys (extended o id us) (extended q id (kept stays vs))
+    -- what the node gives is at its new place
+    less : (xs ys : List Datum) (o q : Outputs) → Paired IsLessDefinedDatum xs ys → OutputsRefine IsLessDefinedDatum o q → (us vs : List Datum) → Paired IsLessDefinedDatum (kept stays us) vs →
+        ReadLessDefined seen [] move xs ys (extended o id us) (extended q id vs)
     less xs ys o q near like us vs pairs (Arg k) h = paired-at IsLessDefinedDatum less-kept xs ys near k
     less xs ys o q near like us vs pairs (Out n p) (inr h) = absurd h
     less xs ys o q near like us vs pairs (Out n p) (inl t) = by (id == n) refl (outside_stays args before here after results part.closed part.unique gone move unread n p t)
       where
         by : (s : Bool) → (id == n) ≡ s → (s && not (stays_at stays p)) ≡ false →
-            IsLessDefinedDatum (cond s (at_port us p) (o n p)) (read ys (extended q id (kept stays vs)) (cond s (Out n (place_after stays p)) (Out n p)))
+            IsLessDefinedDatum (cond s (at_port us p) (o n p)) (read ys (extended q id vs) (cond s (Out n (place_after stays p)) (Out n p)))
         by true e k =
-            let same : extended q id (kept stays vs) n (place_after stays p) ≡ at_port vs p =
-            ap (λ s. cond s (at_port (kept stays vs) (place_after stays p)) (q n (place_after stays p))) e ∙ kept_port stays vs p (is_not (stays_at stays p) k) in
-            subst (λ z. IsLessDefinedDatum (at_port us p) z) (sym same) (paired-at IsLessDefinedDatum less-kept us vs pairs p)
+            let same : extended q id vs n (place_after stays p) ≡ at_port vs (place_after stays p) = ap (λ s. cond s (at_port vs (place_after stays p)) (q n (place_after stays p))) e in
+            subst (λ z. IsLessDefinedDatum (at_port us p) z) (sym same)
+            (subst (λ z. IsLessDefinedDatum z (at_port vs (place_after stays p))) (kept_port stays us p (is_not (stays_at stays p) k))
+            (paired-at IsLessDefinedDatum less-kept (kept stays us) vs pairs (place_after stays p)))
         by false e k =
-            let same : extended q id (kept stays vs) n p ≡ q n p = ap (λ s. cond s (at_port (kept stays vs) p) (q n p)) e in
+            let same : extended q id vs n p ≡ q n p = ap (λ s. cond s (at_port vs p) (q n p)) e in
             subst (λ z. IsLessDefinedDatum (o n p) z) (sym same) (like n p)
+
+    -- a node of the same number that gives what stays
+    module _ (y : NodeTree) (number : id_of y ≡ id)
+        (refines : (direction : Direction) (c d : Context) → ContextRefines no_deeper direction IsLessDefinedDatum c d → (xs ys : List Datum) (o q : Outputs) → Paired IsLessDefinedDatum xs ys →
+        OutputsRefine IsLessDefinedDatum o q → Refines no_deeper direction (λ us vs. Paired IsLessDefinedDatum (kept stays us) vs) (node_run c here xs o) (node_run d y ys q)) where
+      part_refines : (direction : Direction) (c d : Context) → ContextRefines no_deeper direction IsLessDefinedDatum c d → (xs ys : List Datum) (o q : Outputs) → Paired IsLessDefinedDatum xs ys →
+          OutputsRefine IsLessDefinedDatum o q → Refines no_deeper direction (ReadLessDefined seen [] move xs ys) (nodes_run c (node_then here no_nodes) xs o) (nodes_run d (node_then y no_nodes) ys q)
+      part_refines direction c d context xs ys o q near like =
+          refines-then no_deeper no_deeper-compares.goes (λ us vs. Paired IsLessDefinedDatum (kept stays us) vs) (ReadLessDefined seen [] move xs ys) direction (node_run c here xs o) (node_run d y ys q)
+          (λ us. Returned (extended o id us) []) (λ vs. Returned (extended q (id_of y) vs) []) (refines direction c d context xs ys o q near like)
+          (λ us vs pairs. (subst (λ n. ReadLessDefined seen [] move xs ys (extended o id us) (extended q n vs)) (sym number) (less xs ys o q near like us vs pairs), no_deeper-compares.goes.nothing))
+
+      pub placed_replace : (ls ks : List PlainLambda) → Replaces ls ks whole (region args (joined_nodes before (node_then y (nodes_redirected move after))) (map move results))
+      placed_replace ls ks =
+          record {
+            at = λ direction global. record {
+              at = λ c d context linked.
+                  placed_parts_refine direction c d context args before here after results (node_then y no_nodes) seen move can_give
+                  (λ xs ys o q near like have. part_refines direction c d context xs ys o q near like);
+            };
+          }
 
     giving_refines : (direction : Direction) (c d : Context) → ContextRefines no_deeper direction IsLessDefinedDatum c d → (xs ys : List Datum) (o q : Outputs) → Paired IsLessDefinedDatum xs ys →
         OutputsRefine IsLessDefinedDatum o q →
-        Refines no_deeper direction (ReadLessDefined seen [] move xs ys) (nodes_run c (node_then here no_nodes) xs o) (nodes_run d (node_then (node_giving stays here) no_nodes) ys q)
+        Refines no_deeper direction (λ us vs. Paired IsLessDefinedDatum (kept stays us) vs) (node_run c here xs o) (node_run d (node_giving stays here) ys q)
     giving_refines direction c d context xs ys o q near like =
-        let far : nodes_run d (node_then (node_giving stays here) no_nodes) ys q ≡ then_on (node_run d here ys q) (λ vs. Returned (extended q id (kept stays vs)) []) =
-        ap (λ a. then_on a (λ vs. Returned (extended q id vs) [])) (branched_gives d rs (map (read ys q) inputs))
-        ∙ then_associates (node_run d here ys q) drops (λ vs. Returned (extended q id vs) []) in
-        subst (λ b. Refines no_deeper direction (ReadLessDefined seen [] move xs ys) (nodes_run c (node_then here no_nodes) xs o) b) (sym far)
-        (refines-then no_deeper no_deeper-compares.goes (Paired IsLessDefinedDatum) (ReadLessDefined seen [] move xs ys) direction (node_run c here xs o) (node_run d here ys q)
-        (λ us. Returned (extended o id us) []) (λ vs. Returned (extended q id (kept stays vs)) [])
+        subst₂ (λ a b. Refines no_deeper direction (λ us vs. Paired IsLessDefinedDatum (kept stays us) vs) a b) (then_nothing (node_run c here xs o)) (sym (branched_gives d rs (map (read ys q) inputs)))
+        (refines-then no_deeper no_deeper-compares.goes (Paired IsLessDefinedDatum) (λ us vs. Paired IsLessDefinedDatum (kept stays us) vs) direction (node_run c here xs o) (node_run d here ys q)
+        (λ us. Returned us []) drops
         (node-refines no_deeper no_deeper-compares direction IsLessDefinedDatum less-kept Never Always
         (never-refines no_deeper no_deeper-compares direction IsLessDefinedDatum less-kept) c d context tt here here (nodes-itself Never (node_then here no_nodes)).0 xs ys near o q like)
-        (λ us vs pairs. (less xs ys o q near like us vs pairs, no_deeper-compares.goes.nothing)))
+        (λ us vs pairs. (paired_kept IsLessDefinedDatum stays us vs pairs, no_deeper-compares.goes.nothing)))
 
     giving_is : region args (joined_nodes before (node_then (node_giving stays here) (nodes_redirected move after))) (map move results) ≡ exits_kept id stays whole
     giving_is =
@@ -155,15 +183,7 @@ module _ (stays : List Bool) where
         (sym (giving_joined id before here after (not_before (length l.objects) args before here after (node-here l args before here after results part)) (same_number_true id)))
 
     pub exits_replace : (ls ks : List PlainLambda) → Replaces ls ks whole (exits_kept id stays whole)
-    exits_replace ls ks =
-        record {
-          at = λ direction global. record {
-            at = λ c d context linked.
-                subst (λ r. MeaningRefines no_deeper direction IsLessDefinedDatum (region_meaning c whole) (region_meaning d r)) giving_is
-                (placed_parts_refine direction c d context args before here after results (node_then (node_giving stays here) no_nodes) seen move can_give
-                (λ xs ys o q near like have. giving_refines direction c d context xs ys o q near like));
-          };
-        }
+    exits_replace ls ks = subst (λ r. Replaces ls ks whole r) giving_is (placed_replace (node_giving stays here) refl giving_refines ls ks)
 
 pub unread_exits_go : UnreadExitsGo
 unread_exits_go ls ks l args before id inputs rs after results stays part unread = exits_replace stays l args before id inputs rs after results part unread ls ks

@@ -118,7 +118,7 @@ last_kept k s stays ks e = last_from k s stays (place_after stays) 0 0 ks None e
 
 -- ---- kinds of which states may go too
 
-some_fewer : {X : Type 0} (test : X → Bool) (stays : List Bool) (xs : List X) → some_of test xs ≡ false → some_of test (kept stays xs) ≡ false
+pub some_fewer : {X : Type 0} (test : X → Bool) (stays : List Bool) (xs : List X) → some_of test xs ≡ false → some_of test (kept stays xs) ≡ false
 some_fewer test stays [] e = refl
 some_fewer test [] (x ∷ xs) e = e
 some_fewer test (true ∷ ts) (x ∷ xs) e =

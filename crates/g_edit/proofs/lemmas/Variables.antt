@@ -44,7 +44,7 @@ use Rattle.g_edit.proofs.lemmas.Placed.{not_before, outside, outside_stays, can_
 use Rattle.g_edit.proofs.lemmas.Exits.{kept_port}
 use Rattle.g_edit.proofs.lemmas.Entries.{staying, moves, none_known}
 
-kept_reads : (S : Origin → Bool) (known : List ℕ) (stays : List Bool) (os : List Origin) → AreRead S known os → AreRead S known (kept stays os)
+pub kept_reads : (S : Origin → Bool) (known : List ℕ) (stays : List Bool) (os : List Origin) → AreRead S known os → AreRead S known (kept stays os)
 kept_reads S known stays [] h = tt
 kept_reads S known [] (a ∷ os) h = h
 kept_reads S known (true ∷ ts) (a ∷ os) h = (h.0, kept_reads S known ts os h.1)
