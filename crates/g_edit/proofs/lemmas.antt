@@ -14,3 +14,4 @@ pub mod EntriesFit
 pub mod Variables
 pub mod VariablesFit
 pub mod Shrunk
+pub mod Invariant

@@ -1,6 +1,6 @@
 //! Laws of the edits.
 
-ghost use Rattle.g_edit.specs.Laws.{UnreadNodesGo, UnreadExitsGo, UnreadEntriesGo, UnreadExitsAndEntriesGo, UnreadVariablesGo};
+ghost use Rattle.g_edit.specs.Laws.{UnreadNodesGo, UnreadExitsGo, UnreadEntriesGo, UnreadExitsAndEntriesGo, UnreadVariablesGo, LoopsKeepArguments, InvariantUsesMove};
 ghost use Rattle.g_edit.specs.Parts.{PlacedPartsRefine};
 
 /// A part may come in the place of a node of a region, also one of the node's own number, where it
@@ -26,4 +26,11 @@ pub fn unread_exits_and_entries_go()
 /// that go read.
 pub fn unread_variables_go()
     ensures { UnreadVariablesGo }
+{}
+
+/// A loop gives a variable whose result is its argument as it took it, and so uses of its output may
+/// become uses of its input.
+pub fn invariant_uses_move()
+    ensures loops { LoopsKeepArguments }
+    ensures uses { InvariantUsesMove }
 {}

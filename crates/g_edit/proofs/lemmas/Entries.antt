@@ -1,30 +1,24 @@
 -- Entry variables of a Gamma whose arguments no region reads go.
-use Rattle.std.proofs.Common.{◌≡◌, ℕ, zero, suc, ◌==◌, Bool, true, false, not, ◌&&◌, ◌||◌, cond, List, [], ◌∷◌, ◌++◌, map, length, refl, sym, ap, subst, ◌∙◌, inl, inr, append-nil}
+use Rattle.std.proofs.Common.{◌≡◌, ℕ, zero, suc, ◌==◌, Bool, true, false, List, [], ◌∷◌, map, length, refl, sym, ap, subst, inl, inr, append-nil}
 use Rattle.std.proofs.lemmas.Bool.{or_parts}
-use Rattle.val_core.specs.declared.values.Value.{Value}
-use Rattle.val_core.specs.declared.values.Value.TheVariants.{Num, At, Bad}
-use Rattle.val_core.specs.Answers.{Answer, Returned, then_on, on_number}
 use Rattle.val_core.specs.Refinement.{Direction, Refines, no_deeper}
-use Rattle.val_core.proofs.lemmas.Refinement.{refines-then}
 use Rattle.g_graph.specs.declared.op.Kind.{Kind}
 use Rattle.g_graph.specs.declared.op.Op.TheVariants.{Gamma}
 use Rattle.g_graph.specs.declared.op.Origin.{Origin}
 use Rattle.g_graph.specs.declared.op.Origin.TheVariants.{Arg, Out}
-use Rattle.g_graph.specs.Plain.{RegionTree, region, NodeTree, node, NodeTrees, no_nodes, node_then, RegionTrees, no_regions, region_then, id_of, PlainLambda}
+use Rattle.g_graph.specs.Plain.{region, NodeTree, node, NodeTrees, no_nodes, node_then, RegionTrees, no_regions, region_then, id_of}
 use Rattle.g_graph.specs.Ids.{nodes_ids}
 use Rattle.g_graph.specs.Change.{has_node}
 use Rattle.g_graph.specs.WellFormed.{some_of}
 use Rattle.g_graph.specs.Replace.{nodes_redirected}
 use Rattle.g_graph.specs.Splice.{joined_nodes}
 use Rattle.g_graph.proofs.lemmas.Indexes.{same_number_true}
-use Rattle.g_mean.specs.Data.{Datum, at_port, value_of}
-use Rattle.g_mean.specs.Meaning.{Context, chosen, branched, Outputs, no_outputs, extended, read, region_meaning, node_run, nodes_run, meanings}
+use Rattle.g_mean.specs.Data.{Datum, at_port}
+use Rattle.g_mean.specs.Meaning.{Context, chosen, Outputs, no_outputs, read, region_meaning, node_run, meanings}
 use Rattle.g_mean.specs.LessDefined.{Paired, IsLessDefinedDatum}
 use Rattle.g_mean.specs.Refining.{MeaningRefines, ContextRefines}
-use Rattle.g_mean.specs.Copies.{IsAmong, AreRead, NodesRead, known_after, is_argument, IsClosed, AllClosed, CanMove}
+use Rattle.g_mean.specs.Copies.{IsAmong, AreRead, known_after, is_argument, IsClosed, AllClosed, CanMove}
 use Rattle.g_mean.specs.Moves.{ReadLessDefined}
-use Rattle.g_mean.specs.Edits.{IsPartOf}
-use Rattle.g_mean.specs.Replacement.{Replaces}
 use Rattle.g_mean.proofs.lemmas.Kept.{OutputsRefine, paired-at, read-refines, reads-refines}
 use Rattle.g_mean.proofs.lemmas.Regions.{on_number-refines}
 use Rattle.g_mean.proofs.lemmas.Equal.{no_deeper-compares}
@@ -34,7 +28,7 @@ use Rattle.g_mean.proofs.lemmas.Moves.{moved_regions_refine}
 use Rattle.g_mean.proofs.lemmas.Redirects.{replaced_nodes_refine}
 use Rattle.g_mean.proofs.lemmas.Inside.{node-here, regions-closed}
 use Rattle.g_edit.specs.Uses.{nodes_read, is_read}
-use Rattle.g_edit.specs.Places.{stays_at, kept, place_after}
+use Rattle.g_edit.specs.Places.{stays_at, kept}
 use Rattle.g_edit.specs.Entries.{argument_after, is_gone_argument, some_reads, regions_taking, node_taking, nodes_taking, entries_kept}
 use Rattle.g_edit.specs.Laws.{UnreadEntriesGo}
 use Rattle.g_edit.proofs.lemmas.Exits.{kept_port}

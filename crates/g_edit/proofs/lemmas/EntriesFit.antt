@@ -1,5 +1,5 @@
 -- A Gamma without some of its entry variables fits in its place.
-use Rattle.std.proofs.Common.{◌≡◌, ◌≤◌, ◌+◌, ℕ, zero, suc, ◌==◌, ◌⊎◌, cond, Bool, true, false, not, ◌&&◌, ◌||◌, List, [], ◌∷◌, ◌++◌, map, length, Option, None, Some, refl, sym, ap, subst, ◌∙◌, inl, inr, arith}
+use Rattle.std.proofs.Common.{◌≡◌, ℕ, ◌==◌, ◌⊎◌, cond, Bool, true, false, not, ◌&&◌, ◌||◌, List, [], ◌∷◌, ◌++◌, map, length, Option, None, Some, refl, sym, ap, subst, ◌∙◌, inl, inr, arith}
 use Rattle.std.proofs.lemmas.Bool.{and_parts, or_parts}
 use Rattle.std.proofs.lemmas.Option.{same_Some}
 use Rattle.g_graph.specs.declared.op.Kind.{Kind}
@@ -8,15 +8,15 @@ use Rattle.g_graph.specs.declared.op.Op.{Op}
 use Rattle.g_graph.specs.declared.op.Op.TheVariants.{Gamma}
 use Rattle.g_graph.specs.declared.op.Origin.{Origin}
 use Rattle.g_graph.specs.declared.op.Origin.TheVariants.{Arg, Out}
-use Rattle.g_graph.specs.Plain.{RegionTree, region, NodeTree, node, NodeTrees, no_nodes, node_then, RegionTrees, no_regions, region_then, id_of, args_of}
-use Rattle.g_graph.specs.Ids.{nodes_ids, regions_ids}
+use Rattle.g_graph.specs.Plain.{region, NodeTree, node, NodeTrees, no_nodes, node_then, RegionTrees, no_regions, region_then, id_of, args_of}
+use Rattle.g_graph.specs.Ids.{regions_ids}
 use Rattle.g_graph.specs.Signatures.{first_args, result_kinds, outputs_of, output_kinds}
 use Rattle.g_graph.specs.Scope.{is_of, known, last_index, origin_at, state_after, last_state}
-use Rattle.g_graph.specs.WellFormed.{all_of, some_of, all_regions, are, same, at_most_one, one_state_each, gives, kinds_of, is_last, has_its_regions, inputs_fit, inputs_are_last, node_has_one_state_each, regions_fit, theta_has_states, has_its_width, has_its_object, node_fits, nodes_fit, results_are_last, returns_state, region_has_one_state_each, region_fits, every_region, every_in_node, every_in_nodes, every_in_regions}
+use Rattle.g_graph.specs.WellFormed.{all_of, some_of, all_regions, are, same, one_state_each, gives, kinds_of, is_last, has_its_regions, inputs_fit, inputs_are_last, node_has_one_state_each, regions_fit, theta_has_states, has_its_width, has_its_object, node_fits, nodes_fit, results_are_last, returns_state, region_has_one_state_each, region_fits, every_region, every_in_node, every_in_nodes, every_in_regions}
 use Rattle.g_graph.specs.Change.{has_node}
 use Rattle.g_graph.specs.Replace.{nodes_redirected}
 use Rattle.g_graph.specs.Splice.{joined_nodes}
-use Rattle.g_graph.specs.Lists.{RegionOps, NodeOps, NodesOps, RegionsOps}
+use Rattle.g_graph.specs.Lists.{RegionOps, NodesOps, RegionsOps}
 use Rattle.g_graph.proofs.lemmas.Indexes.{same_number_true, last_gives, gives_last}
 use Rattle.g_graph.proofs.lemmas.Moved.{last_is_known}
 use Rattle.g_graph.proofs.lemmas.Nodes.{NodeFits, KeptWithin, are_kinds, same_kinds}
@@ -26,7 +26,7 @@ use Rattle.g_graph.proofs.lemmas.Unique.{times}
 use Rattle.g_edit.specs.Uses.{nodes_read, is_read}
 use Rattle.g_edit.specs.Places.{stays_at, kept, place_after}
 use Rattle.g_edit.specs.Exits.{output_after, is_gone_output}
-use Rattle.g_edit.specs.Entries.{argument_after, is_gone_argument, some_reads, regions_taking, node_taking, nodes_taking, entries_kept}
+use Rattle.g_edit.specs.Entries.{argument_after, is_gone_argument, some_reads, regions_taking, node_taking, entries_kept}
 use Rattle.g_edit.proofs.lemmas.Kept.{from_none, kept_none, kept_map, kept_get, all_kept, is_not, states_fewer, last_follows, are_themselves}
 use Rattle.g_edit.proofs.lemmas.Placed.{not_before, nodes_unmoved, all_unmoved}
 use Rattle.g_edit.proofs.lemmas.Scopes.{KeepsScope, kept_all, kept_nodes_fit}
@@ -244,7 +244,7 @@ module _ (stays : List Bool) where
         let swapped = swapped_kept objects args before x y after [] here refl (outputs_same ∙ sym (kept_none (outputs_of Gamma rs))) refl results node_fits_now inside_now
         (λ m. omega (arith, ap (λ ns. times m (id ∷ ns)) (ids_same rs))) fits (λ i. nodes_gone (joined_nodes before (node_then x after)) i || some_gone results i) in
         let unmoved : region args (joined_nodes before (node_then y (nodes_redirected (output_after id []) after))) (map (output_after id []) results)
-            ≡ region args (joined_nodes before (node_then y after)) results =
+        ≡ region args (joined_nodes before (node_then y after)) results =
         λ i. region args (joined_nodes before (node_then y (nodes_unmoved (output_after id []) output_stays after i))) (all_unmoved (output_after id []) output_stays results i) in
         let is = ap (λ ns. region args ns results) (sym (taking_joined stays id before x after (not_before objects args before x after here) (same_number_true id))) in
         subst (λ s. KeptWithin objects whole s) (unmoved ∙ is) swapped

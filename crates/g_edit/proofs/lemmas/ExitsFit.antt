@@ -1,5 +1,5 @@
 -- A Gamma without some of its exit variables fits in its place.
-use Rattle.std.proofs.Common.{◌≡◌, ◌≤◌, ℕ, ◌==◌, cond, Some, Bool, true, false, not, ◌&&◌, ◌||◌, List, [], ◌∷◌, ◌++◌, map, length, refl, sym, ap, subst, ◌∙◌, arith}
+use Rattle.std.proofs.Common.{◌≡◌, ℕ, ◌==◌, cond, Some, Bool, true, false, not, ◌&&◌, ◌||◌, List, ◌∷◌, ◌++◌, map, refl, sym, ap, subst, ◌∙◌, arith}
 use Rattle.std.proofs.lemmas.Bool.{and_parts}
 use Rattle.g_graph.specs.declared.op.Kind.{Kind}
 use Rattle.g_graph.specs.declared.op.Kind.TheVariants.{Value, Memory, Io}
@@ -8,9 +8,9 @@ use Rattle.g_graph.specs.declared.op.Op.{Op}
 use Rattle.g_graph.specs.declared.op.Origin.{Origin}
 use Rattle.g_graph.specs.Plain.{RegionTree, region, NodeTree, node, NodeTrees, no_nodes, node_then, RegionTrees, no_regions, region_then, id_of, args_of}
 use Rattle.g_graph.specs.Ids.{nodes_ids, regions_ids}
-use Rattle.g_graph.specs.Signatures.{first_args, inputs_of, result_kinds, outputs_of, output_kinds}
+use Rattle.g_graph.specs.Signatures.{first_args, result_kinds, outputs_of}
 use Rattle.g_graph.specs.Scope.{is_of, known}
-use Rattle.g_graph.specs.WellFormed.{all_of, some_of, all_regions, are, same, one_state_each, gives, kinds_of, is_last, has_its_regions, inputs_fit, inputs_are_last, node_has_one_state_each, regions_fit, theta_has_states, has_its_width, has_its_object, node_fits, nodes_fit, results_are_last, returns_state, region_has_one_state_each, region_fits, every_region, every_in_node, every_in_nodes, every_in_regions}
+use Rattle.g_graph.specs.WellFormed.{some_of, all_regions, are, same, one_state_each, gives, kinds_of, is_last, has_its_regions, inputs_fit, inputs_are_last, node_has_one_state_each, regions_fit, node_fits, nodes_fit, results_are_last, returns_state, region_has_one_state_each, region_fits, every_region, every_in_node, every_in_nodes, every_in_regions}
 use Rattle.g_graph.specs.Replace.{nodes_redirected}
 use Rattle.g_graph.specs.Splice.{joined_nodes}
 use Rattle.g_graph.specs.Lists.{RegionOps, NodeOps, NodesOps, RegionsOps}
@@ -21,7 +21,7 @@ use Rattle.g_graph.proofs.lemmas.Unique.{times}
 use Rattle.g_edit.specs.Uses.{is_read}
 use Rattle.g_edit.specs.Places.{kept, drops_values}
 use Rattle.g_edit.specs.Exits.{regions_giving, node_giving, output_after, is_gone_output, nodes_giving, exits_kept}
-use Rattle.g_edit.proofs.lemmas.Kept.{kept_map, all_kept, IsState, memory, io, some_state, states_kept, kinds_of_some, are_themselves}
+use Rattle.g_edit.proofs.lemmas.Kept.{kept_map, all_kept, memory, io, some_state, states_kept, kinds_of_some, are_themselves}
 use Rattle.g_edit.proofs.lemmas.Placed.{not_before}
 use Rattle.g_edit.proofs.lemmas.Exits.{giving_joined}
 use Rattle.g_edit.proofs.lemmas.Swapped.{swapped_kept}

@@ -9,7 +9,7 @@ use Rattle.g_graph.specs.declared.op.Kind.TheVariants.{Value, Memory, Io}
 use Rattle.g_graph.specs.declared.op.Op.{Op}
 use Rattle.g_graph.specs.declared.op.Origin.{Origin}
 use Rattle.g_graph.specs.declared.op.Origin.TheVariants.{Arg, Out}
-use Rattle.g_graph.specs.Plain.{RegionTree, region, NodeTree, node, NodeTrees, no_nodes, node_then, nodes_of, id_of, PlainLambda}
+use Rattle.g_graph.specs.Plain.{RegionTree, region, NodeTree, NodeTrees, no_nodes, node_then, nodes_of, id_of, PlainLambda}
 use Rattle.g_graph.specs.Ids.{node_ids, nodes_ids}
 use Rattle.g_graph.specs.Signatures.{joined, output_kinds, kind_after}
 use Rattle.g_graph.specs.Scope.{is_of, known, last_index, origin_at, state_after, each_node}

@@ -1,28 +1,25 @@
 -- Exit variables of a Gamma go, and then entry variables.
-use Rattle.std.proofs.Common.{◌≡◌, false, Bool, List, [], ◌∷◌, ◌++◌, map, length, refl, sym, ap, subst, ◌∙◌}
+use Rattle.std.proofs.Common.{◌≡◌, Bool, List, [], ◌∷◌, ◌++◌, map, length, refl, sym, ap, subst, ◌∙◌}
 use Rattle.val_core.specs.Answers.{Answer, Returned, Cut, Exited, Undefined, then_on}
 use Rattle.val_core.specs.Events.{Event}
 use Rattle.val_core.specs.Refinement.{Direction, Forward, Backward, Refines, no_deeper}
 use Rattle.val_core.proofs.lemmas.Answers.{before-is}
-use Rattle.g_graph.specs.declared.op.Kind.{Kind}
 use Rattle.g_graph.specs.declared.op.Op.TheVariants.{Gamma}
-use Rattle.g_graph.specs.declared.op.Origin.{Origin}
-use Rattle.g_graph.specs.Plain.{RegionTree, region, node, NodeTrees, node_then, RegionTrees, no_regions, region_then, id_of, PlainLambda}
+use Rattle.g_graph.specs.Plain.{region, node, node_then, RegionTrees, no_regions, region_then}
 use Rattle.g_graph.specs.Replace.{nodes_redirected}
 use Rattle.g_graph.specs.Splice.{joined_nodes}
 use Rattle.g_graph.proofs.lemmas.Indexes.{same_number_true}
-use Rattle.g_mean.specs.Data.{Datum}
 use Rattle.g_mean.specs.Meaning.{read, node_run}
 use Rattle.g_mean.specs.LessDefined.{Paired, IsLessDefinedDatum}
-use Rattle.g_mean.specs.Copies.{known_after, is_argument, IsClosed, AllClosed}
+use Rattle.g_mean.specs.Copies.{known_after, is_argument, AllClosed}
 use Rattle.g_mean.specs.Replacement.{Replaces}
 use Rattle.g_mean.proofs.lemmas.Inside.{node-here, regions-closed}
 use Rattle.g_edit.specs.Places.{kept}
-use Rattle.g_edit.specs.Exits.{regions_giving, node_giving, output_after, nodes_giving, exits_kept}
-use Rattle.g_edit.specs.Entries.{node_taking, nodes_taking, entries_kept}
+use Rattle.g_edit.specs.Exits.{regions_giving, node_giving, output_after}
+use Rattle.g_edit.specs.Entries.{node_taking, nodes_taking}
 use Rattle.g_edit.specs.Laws.{UnreadExitsAndEntriesGo}
 use Rattle.g_edit.proofs.lemmas.Placed.{not_before}
-use Rattle.g_edit.proofs.lemmas.Exits.{drops, branched_gives, giving_joined, placed_replace}
+use Rattle.g_edit.proofs.lemmas.Exits.{branched_gives, giving_joined, placed_replace}
 use Rattle.g_edit.proofs.lemmas.Entries.{node_takes, taking_joined}
 use Rattle.g_edit.proofs.lemmas.Variables.{kept_reads}
 

@@ -1,9 +1,7 @@
 -- Loop variables of a Theta that nothing but what goes reads go.
-use Rattle.std.proofs.Common.{◌≡◌, ℕ, zero, suc, ◌==◌, Bool, true, false, not, ◌&&◌, cond, List, [], ◌∷◌, ◌++◌, map, length, refl, sym, ap, subst, ◌∙◌, inl, inr, append-nil}
+use Rattle.std.proofs.Common.{◌≡◌, ℕ, zero, suc, ◌==◌, Bool, true, false, not, ◌&&◌, cond, List, [], ◌∷◌, ◌++◌, map, length, refl, sym, ap, subst, inl, inr, append-nil}
 use Rattle.std.proofs.lemmas.Bool.{or_parts}
-use Rattle.val_core.specs.declared.values.Value.{Value}
-use Rattle.val_core.specs.declared.values.Value.TheVariants.{Num}
-use Rattle.val_core.specs.Answers.{Returned, then_on}
+use Rattle.val_core.specs.Answers.{Returned}
 use Rattle.val_core.specs.Refinement.{Direction, Refines, no_deeper}
 use Rattle.val_core.proofs.lemmas.Refinement.{refines-then}
 use Rattle.g_graph.specs.declared.op.Kind.{Kind}

@@ -1,5 +1,5 @@
 -- A Theta without some of its loop variables fits in its place.
-use Rattle.std.proofs.Common.{◌≡◌, ◌≤◌, ℕ, ◌==◌, Bool, true, false, ◌&&◌, ◌||◌, List, [], ◌∷◌, ◌++◌, map, length, Some, refl, sym, ap, subst, ◌∙◌, arith}
+use Rattle.std.proofs.Common.{◌≡◌, ℕ, Bool, true, false, ◌&&◌, ◌||◌, List, [], ◌∷◌, ◌++◌, map, length, Some, refl, sym, ap, subst, ◌∙◌, arith}
 use Rattle.std.proofs.lemmas.Bool.{and_parts}
 use Rattle.g_graph.specs.declared.op.Kind.{Kind}
 use Rattle.g_graph.specs.declared.op.Kind.TheVariants.{Value, Memory, Io}
@@ -7,9 +7,8 @@ use Rattle.g_graph.specs.declared.op.Op.{Op}
 use Rattle.g_graph.specs.declared.op.Op.TheVariants.{Theta}
 use Rattle.g_graph.specs.declared.op.Origin.{Origin}
 use Rattle.g_graph.specs.Plain.{RegionTree, region, NodeTree, node, NodeTrees, no_nodes, node_then, no_regions, region_then}
-use Rattle.g_graph.specs.Ids.{nodes_ids}
 use Rattle.g_graph.specs.Scope.{same_kind, is_of, known}
-use Rattle.g_graph.specs.WellFormed.{all_of, some_of, are, one_state_each, is_last, has_its_regions, inputs_fit, inputs_are_last, node_has_one_state_each, regions_fit, theta_has_states, has_its_width, has_its_object, node_fits, region_fits, every_region, every_in_node}
+use Rattle.g_graph.specs.WellFormed.{some_of, are, one_state_each, is_last, has_its_regions, inputs_fit, inputs_are_last, node_has_one_state_each, regions_fit, theta_has_states, has_its_width, has_its_object, node_fits, region_fits, every_region}
 use Rattle.g_graph.specs.Change.{has_node}
 use Rattle.g_graph.specs.Replace.{nodes_redirected}
 use Rattle.g_graph.specs.Splice.{joined_nodes}
