@@ -1,0 +1,17 @@
+pub mod Lookup
+pub mod Uses
+pub mod Kept
+pub mod Parts
+pub mod Placed
+pub mod Scopes
+pub mod Swapped
+pub mod Removal
+pub mod Gone
+pub mod Exits
+pub mod ExitsFit
+pub mod Entries
+pub mod EntriesFit
+pub mod Variables
+pub mod VariablesFit
+pub mod Shrunk
+pub mod Invariant

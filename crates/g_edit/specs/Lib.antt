@@ -1,0 +1,9 @@
+pub mod Lookup
+pub mod Uses
+pub mod Removal
+pub mod Places
+pub mod Exits
+pub mod Entries
+pub mod Variables
+pub mod Parts
+pub mod Laws

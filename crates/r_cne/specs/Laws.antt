@@ -1,0 +1,26 @@
+-- Common node elimination keeps meaning, and keeps lists of lambdas complete.
+use Rattle.std.specs.Prelude.{◌≡◌, ℕ, List, Some, slice_get}
+use Rattle.g_graph.specs.Plain.{RegionTree, PlainLambda}
+use Rattle.g_graph.specs.WellFormed.{IsWellFormed}
+use Rattle.g_mean.specs.Edits.{AreEditedAt, IsPartOf, KeepsComplete}
+use Rattle.g_mean.specs.Replacement.{Replaces, FunctionsKeepMeaning, ProgramKeepsMeaning}
+use Rattle.r_cne.specs.Rule.{cne_here, cne}
+
+-- a changed region of a well-formed lambda may replace the old one, in any lambdas
+abbrev pub CneReplaces : Type 0
+CneReplaces =
+    (ls ks : List PlainLambda) (n : ℕ) (l : PlainLambda) (r s : RegionTree) → IsPartOf l r → cne_here n r ≡ Some s → Replaces ls ks r s
+
+-- Where the well-formed lambda of one function is changed at a node, every function keeps its meaning,
+abbrev pub CneKeepsLambdas : Type 0
+CneKeepsLambdas =
+    (ls ks : List PlainLambda) (n f : ℕ) → AreEditedAt (cne_here n) f ls ks → ((l : PlainLambda) → slice_get ls f ≡ Some l → IsWellFormed l) → FunctionsKeepMeaning ls ks
+
+-- and so does the program.
+abbrev pub CneKeepsPrograms : Type 0
+CneKeepsPrograms =
+    (ls ks : List PlainLambda) (n f : ℕ) → AreEditedAt (cne_here n) f ls ks → ((l : PlainLambda) → slice_get ls f ≡ Some l → IsWellFormed l) → ProgramKeepsMeaning ls ks
+
+-- Lists stay complete.
+abbrev pub CneKeepsLists : Type 0
+CneKeepsLists = (n : ℕ) (l : PlainLambda) → IsWellFormed l → KeepsComplete l (cne n l)

@@ -1,0 +1,21 @@
+//! Common node elimination keeps meaning.
+
+ghost use Rattle.r_cne.specs.Laws.{CneReplaces, CneKeepsLambdas, CneKeepsPrograms, CneKeepsLists};
+
+/// A changed region of a well-formed lambda may replace the old one.
+pub fn cne_replaces()
+    ensures { CneReplaces }
+{}
+
+/// The rule at a node of a well-formed lambda keeps the meaning of every function, and of the
+/// program.
+pub fn cne_keeps_meaning()
+    ensures lambda { CneKeepsLambdas }
+    ensures program { CneKeepsPrograms }
+{}
+
+/// A list of lambdas in which every call has its callee stays one where a well-formed lambda of it
+/// is changed.
+pub fn cne_keeps_lists()
+    ensures { CneKeepsLists }
+{}

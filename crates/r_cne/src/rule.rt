@@ -1,0 +1,90 @@
+ghost use Rattle.std.specs.Prelude.{◌≡◌, MatchBool, IsTrue, is_some};
+ghost use Rattle.std.specs.declared.option.Option.TheVariants.{Some, None};
+ghost use Rattle.g_graph.specs.WellFormed.{IsWellFormed};
+ghost use Rattle.g_graph.specs.Program.{KeepsPrograms};
+ghost use Rattle.g_mean.specs.Edits.{KeepsMeaning, KeepsComplete};
+ghost use Rattle.g_graph.specs.declared.op.Origin.TheVariants.{Out};
+ghost use Rattle.r_cne.specs.Rule.{cne_here, applies, cne};
+
+use crate::find::earlier;
+use g_edit::replace_used;
+use g_graph::{
+    CanChange, Change, Lambda, Origin, Region, can_change_lambda, change_lambda, is_used,
+};
+use std::convert::Infallible;
+
+/// Whether the rule applies at the node of this number: a Const, Local, Delta, Bin, Un, Load or
+/// PtrEq whose output is used, where an earlier node of its region has an equal op and equal inputs.
+/// It is false for a number that is not there. It takes no memory, and time linear in the lambda.
+pub fn applies(lambda: &Lambda, node: u32) -> bool
+    ensures { result ≡ applies lambda.now node }
+{
+    can_change_lambda(lambda, &Common { node })
+}
+
+/// Uses of the node's output become uses of the output of the first node of its region with equal
+/// op and inputs. It takes no memory, and time linear in the lambda.
+pub fn apply(lambda: &mut Lambda, node: u32)
+    requires well_formed { IsWellFormed lambda.old }
+    requires applies { IsTrue (applies lambda.old node) }
+    ensures defined { lambda.new ≡ cne node lambda.old }
+    ensures kept { IsWellFormed lambda.new }
+    ensures meaning { KeepsMeaning lambda.old lambda.new }
+    ensures list { KeepsComplete lambda.old lambda.new }
+    ensures program { KeepsPrograms lambda.old lambda.new }
+{
+    match change_lambda(lambda, &mut Common { node }) {
+        Ok(_) => (),
+        Err(never) => match never {},
+    }
+}
+
+// The change of the region that holds the node, and its test.
+#[derive(Drop)]
+struct Common {
+    node: u32,
+}
+
+impl CanChange for Common {
+    ghost changed = { λ c. cne_here c.node };
+
+    fn can_change(&self, region: &Region) -> bool {
+        can_replace(region, self.node)
+    }
+}
+
+impl Change for Common {
+    type Fault = Infallible;
+
+    ghost changed = { λ c. cne_here c.node };
+
+    fn make(&mut self, region: &mut Region) -> Result<bool, Infallible> {
+        Ok(replace(region, self.node))
+    }
+}
+
+fn can_replace(region: &Region, id: u32) -> bool
+    ensures { result ≡ is_some (cne_here id region.now) }
+{
+    match earlier(&region.nodes, id) {
+        Some(_) => is_used(region, first_output(id)),
+        None => false,
+    }
+}
+
+// Replaces the uses of the node's output, where the rule applies, and answers whether it does.
+fn replace(region: &mut Region, id: u32) -> bool
+    ensures { MatchBool result (cne_here id region.old ≡ Some region.new)
+        ((cne_here id region.old ≡ None) × (region.new ≡ region.old)) }
+{
+    match earlier(&region.nodes, id) {
+        Some(other) => replace_used(region, first_output(id), first_output(other)),
+        None => false,
+    }
+}
+
+fn first_output(node: u32) -> Origin
+    ensures { result ≡ Out node 0 }
+{
+    Origin::Out { node, port: 0 }
+}

@@ -1,0 +1,3 @@
+mod Unused
+mod Dne
+mod Examples

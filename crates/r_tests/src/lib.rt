@@ -1,0 +1,8 @@
+//! Tests of the rules: tables of lambdas, each with a node's number and the lambda that comes out.
+//! No crate stands on it, and it has no function of its own.
+#![tactic(auto)]
+
+#[cfg(test)]
+mod common;
+#[cfg(test)]
+mod tables;

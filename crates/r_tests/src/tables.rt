@@ -1,0 +1,83 @@
+// Lambdas that are written as lists of nodes without regions.
+use g_graph::{Kind, Lambda, Node, Object, Op, Origin, Region};
+use no_memory::NoMemory;
+use smallvec::SmallVec;
+use std::alloc::Global;
+
+/// Two values among the arguments of a body, and both its states.
+pub const A: Origin = Origin::Arg(0);
+
+pub const B: Origin = Origin::Arg(1);
+
+pub const M: Origin = Origin::Arg(2);
+
+pub const I: Origin = Origin::Arg(3);
+
+/// The arguments of a body with two parameters.
+pub const KINDS: [Kind; 4] = [Kind::Value, Kind::Value, Kind::Memory, Kind::Io];
+
+/// A node without regions: its number, its op and its inputs.
+pub type Line<'a> = (u32, Op, &'a [Origin]);
+
+/// The first output of a node.
+pub const fn n(node: u32) -> Origin {
+    Origin::Out { node, port: 0 }
+}
+
+/// An output of a node.
+pub const fn out(node: u32, port: u32) -> Origin {
+    Origin::Out { node, port }
+}
+
+/// A region of these nodes; `NoMemory` only where the allocator has none.
+pub fn region(
+    alloc: Global,
+    args: &[Kind],
+    lines: &[Line],
+    results: &[Origin],
+) -> Result<Region, NoMemory> {
+    let mut nodes = Vec::new(alloc);
+    for (id, op, inputs) in lines {
+        nodes.push(Node {
+            id: *id,
+            op: *op,
+            inputs: SmallVec::from_slice(alloc, *inputs)?,
+            regions: Vec::new(alloc),
+        })?;
+    }
+    Ok(Region {
+        args: Vec::from_slice(alloc, args)?,
+        nodes,
+        results: Vec::from_slice(alloc, results)?,
+    })
+}
+
+/// The lambda of this body, with so many parameters and one object of 4 bytes; `NoMemory` as for
+/// `region`.
+pub fn lambda(alloc: Global, params: u32, body: Region) -> Result<Lambda, NoMemory> {
+    let mut objects = Vec::new(alloc);
+    objects.push(Object {
+        size: 4,
+        leaves: Vec::new(alloc),
+    })?;
+    Ok(Lambda {
+        number: 0,
+        params,
+        objects,
+        body,
+        next: 20,
+    })
+}
+
+/// The body of a Gamma alone, of number 18, whose regions are these two; `NoMemory` as for `region`.
+pub fn nested(alloc: Global, first: Region, second: Region) -> Result<Region, NoMemory> {
+    let mut body = region(alloc, &KINDS, &[], &[n(18), out(18, 1), out(18, 2)])?;
+    let inputs = [A, A, B, M, I];
+    body.nodes.push(Node {
+        id: 18,
+        op: Op::Gamma,
+        inputs: SmallVec::from_slice(alloc, &inputs)?,
+        regions: Vec::from_array(alloc, [first, second])?,
+    })?;
+    Ok(body)
+}
