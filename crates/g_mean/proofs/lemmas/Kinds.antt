@@ -145,10 +145,10 @@ read-kind args xs h ns o m (Out n p) k e = m n p k e
 
 -- ---- the tests of a node and of a region
 
-record NodeTests (args : List Kind) (earlier : NodeTrees) (x : NodeTree) : Type 0 where
-  inputs : inputs_fit args earlier x ≡ true
-  has : has_its_regions x ≡ true
-  regions : regions_fit x ≡ true
+pub record NodeTests (args : List Kind) (earlier : NodeTrees) (x : NodeTree) : Type 0 where
+  pub inputs : inputs_fit args earlier x ≡ true
+  pub has : has_its_regions x ≡ true
+  pub regions : regions_fit x ≡ true
 
 eight : (a b c d e f g h : Bool) → (a && b && c && d && e && f && g && h) ≡ true → (a ≡ true) × (d ≡ true) × (e ≡ true)
 eight a b c d e f g h t =
