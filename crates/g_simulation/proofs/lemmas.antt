@@ -1,3 +1,4 @@
 pub mod Readings
 pub mod Toolbox
 pub mod Held
+pub mod Nodes
