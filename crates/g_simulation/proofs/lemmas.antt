@@ -2,3 +2,5 @@ pub mod Readings
 pub mod Toolbox
 pub mod Held
 pub mod Nodes
+pub mod Renamed
+pub mod Choice
