@@ -4,3 +4,4 @@ pub mod Held
 pub mod Nodes
 pub mod Renamed
 pub mod Choice
+pub mod Unary

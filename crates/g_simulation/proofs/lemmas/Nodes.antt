@@ -104,7 +104,7 @@ module _ (w : Direction) (d : Context) (f : Frame) (flow : Flow) where
   -- ---- tests
 
   module _ (c : IsSoundContext d) (xs : List Datum) (o : Outputs) (t : IsSoundRun xs o) (s : Point) (q : State) (h : Holds f flow (read xs o) s.next s.carried q) where
-    with-const : (n : ℕ) (k : Origin → Point → Built Origin) (v : Value) →
+    pub with-const : (n : ℕ) (k : Origin → Point → Built Origin) (v : Value) →
         ((o' : Outputs) → (z : Origin) → read xs o' z ≡ val (Num (n % 2 ^ 32)) → (u : Point) → Holds f flow (read xs o') u.next u.carried q → Keeps s.next (read xs o) (read xs o') →
         Simulates w d (Line f flow q v) xs o' u.next (k z u) (Returned tt [])) → Simulates w d (Line f flow q v) xs o s.next (bind (const_made n s) k) (Returned tt [])
     with-const n k v go =
