@@ -5,3 +5,4 @@ pub mod Nodes
 pub mod Renamed
 pub mod Choice
 pub mod Unary
+pub mod Comparisons
