@@ -6,3 +6,4 @@ pub mod Renamed
 pub mod Choice
 pub mod Unary
 pub mod Comparisons
+pub mod Pointers
