@@ -7,3 +7,4 @@ pub mod Choice
 pub mod Unary
 pub mod Comparisons
 pub mod Pointers
+pub mod Places
