@@ -8,3 +8,6 @@ pub mod Unary
 pub mod Comparisons
 pub mod Pointers
 pub mod Places
+pub mod Binary
+pub mod Tests
+pub mod Claims

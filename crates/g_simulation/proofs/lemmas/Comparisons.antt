@@ -30,7 +30,7 @@ use Rattle.g_simulation.proofs.lemmas.Readings.{IsBelow, IsSoundContext, IsSound
 use Rattle.g_simulation.proofs.lemmas.Toolbox.{Ran, Simulates}
 use Rattle.g_simulation.proofs.lemmas.Held.{Held, held-is, IsThere, Frame, Holds}
 use Rattle.g_simulation.proofs.lemmas.Nodes.{Values, Line, of-line, line-then, bin-line, ptr-eq-line, is-zero-line}
-use Rattle.g_simulation.proofs.lemmas.Unary.{used-there}
+use Rattle.g_simulation.proofs.lemmas.Unary.{used-there, some-inj, defined-line}
 
 negated-one : (b : Bool) → one_if (not b) ≡ negated (one_if b)
 negated-one true = refl
@@ -47,16 +47,21 @@ IsOrder k = Unit {0}
 
 module _ (w : Direction) (d : Context) (f : Frame) (flow : Flow) (c : IsSoundContext d) (xs : List Datum) (o : Outputs) (t : IsSoundRun xs o) (s : Point) (q : State)
     (h : Holds f flow (read xs o) s.next s.carried q) where
+  pub arithmetic-line : (k : Op2) (p r : Origin) (a b v : Value) → Held (read xs o) s.next a p → Held (read xs o) s.next b r → arithmetic k a b ≡ Some v →
+      Simulates w d (Line f flow q v) xs o s.next (bin_made k p r s) (Returned tt [])
+  arithmetic-line k p r (Num a) (Num b) v g g' z = by (is_defined_on k b) z
+    where
+      by : (t : Bool) → cond t (Some (Num (word2 k a b))) None ≡ Some v → Simulates w d (Line f flow q v) xs o s.next (bin_made k p r s) (Returned tt [])
+      by true z =
+          subst (λ v. Simulates w d (Line f flow q v) xs o s.next (bin_made k p r s) (Returned tt [])) (some-inj z)
+          (bin-line w d f flow xs o s q h k p r (Num a) (Num b) (held-is (read xs o) s.next (Num a) p tt g) (held-is (read xs o) s.next (Num b) r tt g'))
+      by false z = absurd cc
+  arithmetic-line k p r _ _ v g g' z = absurd cc
+
   pub arithmetic-sim : (k : Op2) (p r : Origin) (a b : Value) → Held (read xs o) s.next a p → Held (read xs o) s.next b r →
       Simulates w d (Values f flow) xs o s.next (bin_made k p r s) (on_defined (arithmetic k a b) (gives q))
-  arithmetic-sim k p r (Num a) (Num b) g g' = by (is_defined_on k b)
-    where
-      by : (t : Bool) → Simulates w d (Values f flow) xs o s.next (bin_made k p r s) (on_defined (cond t (Some (Num (word2 k a b))) None) (gives q))
-      by true =
-          of-line w d f flow xs o s.next (bin_made k p r s) q (Num (word2 k a b))
-          (bin-line w d f flow xs o s q h k p r (Num a) (Num b) (held-is (read xs o) s.next (Num a) p tt g) (held-is (read xs o) s.next (Num b) r tt g'))
-      by false = tt
-  arithmetic-sim k p r _ _ g g' = tt
+  arithmetic-sim k p r a b g g' =
+      defined-line w d f flow xs o s.next (bin_made k p r s) q (arithmetic k a b) (λ v z. arithmetic-line k p r a b v g g' z)
 
   -- ---- comparisons
 

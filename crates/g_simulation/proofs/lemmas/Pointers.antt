@@ -28,6 +28,7 @@ use Rattle.g_simulation.proofs.lemmas.Readings.{IsBelow, below-later, IsSoundCon
 use Rattle.g_simulation.proofs.lemmas.Toolbox.{Simulates}
 use Rattle.g_simulation.proofs.lemmas.Held.{Held, held-is, Frame, Holds}
 use Rattle.g_simulation.proofs.lemmas.Nodes.{Values, Line, read-after, of-line, line-then, with-const, const-line, bin-line}
+use Rattle.g_simulation.proofs.lemmas.Unary.{defined-line}
 
 -- ---- words
 
@@ -67,7 +68,7 @@ within : (b : BlockName) (t : Bool) (x : ℕ) (v : Value) → at_offset b t x �
 within b true x v e = (refl, cc)
 within b false x v e = absurd cc
 
-abbrev up-op : (up : Bool) → Op2
+abbrev pub up-op : (up : Bool) → Op2
 up-op true = op.Add
 up-op false = op.Sub
 
@@ -115,9 +116,6 @@ stepped-word false n b o v low fits e =
     let le = leb-true (1 * n) o r.0 in
     address-is b (word2 op.Sub o (n % 2 ^ 32)) (o - 1 * n) (omega (arith, le, low, fits)) (omega (arith, low)) ∙ sym r.1
 
-some-value : {v u : Value} → Some v ≡ Some u → v ≡ u
-some-value e = cc
-
 module _ (w : Direction) (d : Context) (f : Frame) (flow : Flow) (c : IsSoundContext d) (xs : List Datum) (o : Outputs) (t : IsSoundRun xs o) (s : Point) (q : State)
     (h : Holds f flow (read xs o) s.next s.carried q) where
   carried-sound : (p : Origin) (v : Value) → read xs o p ≡ val v → IsSound v
@@ -147,9 +145,9 @@ module _ (w : Direction) (d : Context) (f : Frame) (flow : Flow) (c : IsSoundCon
       second : Built Origin
       second = bin_made op.Mul i (Out s.next 0) first.after
 
-  pub pointer-moved-sim : (up : Bool) (n : ℕ) (u : TypeTree) (p i : Origin) (a b : Value) → Held (read xs o) s.next a p → Held (read xs o) s.next b i →
-      Simulates w d (Values f flow) xs o s.next (moved_made (up-op up) p i n s) (on_defined (pointer_moved up n u a b q.memory) (gives q))
-  pointer-moved-sim up n u p i (At b x) (Num a) g g' = by (is_live_address (At b x) q.memory)
+  pub pointer-moved-line : (up : Bool) (n : ℕ) (u : TypeTree) (p i : Origin) (a b v : Value) → Held (read xs o) s.next a p → Held (read xs o) s.next b i →
+      pointer_moved up n u a b q.memory ≡ Some v → Simulates w d (Line f flow q v) xs o s.next (moved_made (up-op up) p i n s) (Returned tt [])
+  pointer-moved-line up n u p i (At b x) (Num a) v g g' z = by (is_live_address (At b x) q.memory) z
     where
       e : read xs o p ≡ val (At b x)
       e = held-is (read xs o) s.next (At b x) p tt g
@@ -157,18 +155,18 @@ module _ (w : Direction) (d : Context) (f : Frame) (flow : Flow) (c : IsSoundCon
       e' : read xs o i ≡ val (Num a)
       e' = held-is (read xs o) s.next (Num a) i tt g'
 
-      moved : (v : Option Value) → elements_on up (is_unsigned u) n b x a ≡ v → Simulates w d (Values f flow) xs o s.next (moved_made (up-op up) p i n s) (on_defined v (gives q))
-      moved None z = tt
-      moved (Some v) z =
-          of-line w d f flow xs o s.next (moved_made (up-op up) p i n s) q v
-          (subst (λ y. Simulates w d (Line f flow q y) xs o s.next (moved_made (up-op up) p i n s) (Returned tt []))
+      by : (live : Bool) → cond live (elements_on up (is_unsigned u) n b x a) None ≡ Some v → Simulates w d (Line f flow q v) xs o s.next (moved_made (up-op up) p i n s) (Returned tt [])
+      by true z =
+          subst (λ y. Simulates w d (Line f flow q y) xs o s.next (moved_made (up-op up) p i n s) (Returned tt []))
           (elements-word up (is_unsigned u) n b x a v (carried-sound i (Num a) e') (carried-sound p (At b x) e).0 (carried-sound p (At b x) e).1 z)
-          (moved-line (up-op up) p i n (At b x) a e g.below e' g'.below))
+          (moved-line (up-op up) p i n (At b x) a e g.below e' g'.below)
+      by false z = absurd cc
+  pointer-moved-line up n u p i _ _ v g g' z = absurd cc
 
-      by : (live : Bool) → Simulates w d (Values f flow) xs o s.next (moved_made (up-op up) p i n s) (on_defined (cond live (elements_on up (is_unsigned u) n b x a) None) (gives q))
-      by true = moved (elements_on up (is_unsigned u) n b x a) refl
-      by false = tt
-  pointer-moved-sim up n u p i _ _ g g' = tt
+  pub pointer-moved-sim : (up : Bool) (n : ℕ) (u : TypeTree) (p i : Origin) (a b : Value) → Held (read xs o) s.next a p → Held (read xs o) s.next b i →
+      Simulates w d (Values f flow) xs o s.next (moved_made (up-op up) p i n s) (on_defined (pointer_moved up n u a b q.memory) (gives q))
+  pointer-moved-sim up n u p i a b g g' =
+      defined-line w d f flow xs o s.next (moved_made (up-op up) p i n s) q (pointer_moved up n u a b q.memory) (λ v z. pointer-moved-line up n u p i a b v g g' z)
 
   -- the address of a member
   pub member-line : (p : Origin) (a : Value) (n : ℕ) (v : Value) → Held (read xs o) s.next a p → member_address a n q.memory ≡ Some v →

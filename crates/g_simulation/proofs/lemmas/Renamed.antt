@@ -82,7 +82,7 @@ pub holds-inside : (f : Frame) (flow : Flow) (rd : Origin → Datum) (n m : ℕ)
 holds-inside f flow rd n m k q h =
     holds-renamed f flow rd (read (map rd (carried_origins k)) no_outputs) n m k q Arg (record { carries = λ j. refl; below = λ j. tt }) h
 
-reads-sound : (xs : List Datum) (o : Outputs) → IsSoundRun xs o → (ps : List Origin) → AreSound (map (read xs o) ps)
+pub reads-sound : (xs : List Datum) (o : Outputs) → IsSoundRun xs o → (ps : List Origin) → AreSound (map (read xs o) ps)
 reads-sound xs o s [] = tt
 reads-sound xs o s (p ∷ ps) = (read-sound xs o s p, reads-sound xs o s ps)
 

@@ -59,7 +59,7 @@ twice-not : (b : Bool) → one_if (not (not b)) ≡ one_if b
 twice-not true = refl
 twice-not false = refl
 
-some-inj : {A : Type 0} {x y : A} → Some x ≡ Some y → x ≡ y
+pub some-inj : {A : Type 0} {x y : A} → Some x ≡ Some y → x ≡ y
 some-inj e = cc
 
 not-of : (x b : Bool) → not x ≡ b → x ≡ not b
@@ -90,6 +90,12 @@ module _ (w : Direction) (d : Context) (f : Frame) (flow : Flow) where
   used-line xs o n b q (Num a) h = of-line w d f flow xs o n b q (Num a) h
   used-line xs o n b q (At a k) h = of-line w d f flow xs o n b q (At a k) h
   used-line xs o n b q Bad h = tt
+
+  -- a value that the source may not define
+  pub defined-line : (xs : List Datum) (o : Outputs) (n : ℕ) (b : Built Origin) (q : State) (x : Option Value) →
+      ((v : Value) → x ≡ Some v → Simulates w d (Line f flow q v) xs o n b (Returned tt [])) → Simulates w d (Values f flow) xs o n b (on_defined x (gives q))
+  defined-line xs o n b q None go = tt
+  defined-line xs o n b q (Some v) go = of-line w d f flow xs o n b q v (go v refl)
 
   -- an origin given as it is
   pub given-line : (xs : List Datum) (o : Outputs) (s : Point) (q : State) → Holds f flow (read xs o) s.next s.carried q → (p : Origin) (v : Value) → read xs o p ≡ val v → IsBelow s.next p →
