@@ -11,3 +11,5 @@ pub mod Places
 pub mod Binary
 pub mod Tests
 pub mod Claims
+pub mod Calls
+pub mod Shapes
