@@ -13,3 +13,4 @@ pub mod Tests
 pub mod Claims
 pub mod Calls
 pub mod Shapes
+pub mod Forms
