@@ -14,3 +14,4 @@ pub mod Claims
 pub mod Calls
 pub mod Shapes
 pub mod Forms
+pub mod Assignments

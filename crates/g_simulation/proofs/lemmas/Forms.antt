@@ -48,12 +48,6 @@ conditional-gives (pointer_to t) xs o id p h = one_value-gives (λ (x : Valued).
 conditional-gives (array_of t n) xs o id p h = one_value-gives (λ (x : Valued). shown (array_of t n) x.value) xs o id
 conditional-gives (struct_type n) xs o id p h = one_value-gives (λ (x : Valued). shown (struct_type n) x.value) xs o id
 
-carried-later : (rd rd' : Origin → Datum) (n m : ℕ) (vs : List Value) (ps : List Origin) → ((p : Origin) → IsBelow n p → rd' p ≡ rd p) → n ≤ m → AllCarried rd n vs ps → AllCarried rd' m vs ps
-carried-later rd rd' n m [] [] k le h = tt
-carried-later rd rd' n m (v ∷ vs) (p ∷ ps) k le h = ((k p h.0.1 ∙ h.0.0, below-later n m p le h.0.1), carried-later rd rd' n m vs ps k le h.1)
-carried-later rd rd' n m [] (p ∷ ps) k le h = absurd h
-carried-later rd rd' n m (v ∷ vs) [] k le h = absurd h
-
 module _ (w : Direction) (functions : List Signature) (c : source.Context) (d : Context) (fit : ContextsFit w functions c d) (f : Frame) (flow : Flow) where
   -- What is made does what the source does, wherever it stands.
   abbrev pub Claims : {B A : Type 0} → Post B A → (Point → Built A) → (State → Answer B) → Type 0
@@ -193,3 +187,86 @@ module _ (w : Direction) (functions : List Signature) (c : source.Context) (d : 
     where
       first : Built Origin
       first = tested a s
+
+  pub or-form : (t : TypeTree) (a b : ExprTree) → TestClaim a → TestClaim b → FormClaim t (logical_or a b)
+  or-form t a b ca cb xs o r s q h =
+      typed-of t xs o s.next (form_made t (logical_or a b) s) (form_run c t (logical_or a b) q)
+      (subst (λ z. Simulates w d (Values f flow) xs o s.next (form_made t (logical_or a b) s) z) (branched-decides (expr_run c a q) (type_of a) (λ u. given_word u 1) (truth_run b))
+      (sim-bind w d fit.sound (Decides f flow) (Values f flow) xs o s.next r first (λ p u. choice one_value u p (truth_made b) (const_made 1)) (test_run c a q) (ways (λ u. given_word u 1) (truth_run b))
+      (ca xs o r s q h) (λ y o' r' m.
+      ways-sim w d f (λ _. flow) (λ x. x.state) (OneValue (λ x. x.value)) (OneValue (λ x. x.value)) one_value xs o' r' first.after first.value (truth_made b) (const_made 1) flow y
+      (λ u. given_word u 1) (truth_run b) (one_value-gives (λ x. x.value) xs o' first.after.next) (truth-keeps b) (const_later 1) m.post
+      (λ us n r'' h'. const-claim 1 (omega arith) us _ r'' (_) y.state h')
+      (λ us n r'' h'. truth-claim b cb us _ r'' (_) y.state h'))))
+    where
+      first : Built Origin
+      first = tested a s
+
+  pub conditional-form : (t : TypeTree) (e a b : ExprTree) → TestClaim e → type_of a ≡ t → type_of b ≡ t → ExprClaim a → ExprClaim b → FormClaim t (conditional e a b)
+  conditional-form t e a b ce za zb ca cb xs o r s q h =
+      subst (λ z. Simulates w d (Typed f flow t) xs o s.next (form_made t (conditional e a b) s) z) (branched-decides (expr_run c e q) (type_of e) (expr_run c a) (expr_run c b))
+      (sim-bind w d fit.sound (Decides f flow) (Typed f flow t) xs o s.next r first (λ p u. choice (conditional_extra t p) u p (expr_made b) (expr_made a)) (test_run c e q)
+      (ways (expr_run c a) (expr_run c b)) (ce xs o r s q h) (λ y o' r' m.
+      ways-sim w d f (λ _. flow) (λ x. x.state) (OneValue (λ x. shown t x.value)) (OneValue (λ x. shown t x.value)) (conditional_extra t first.value) xs o' r' first.after first.value
+      (expr_made b) (expr_made a) flow y (expr_run c a) (expr_run c b)
+      (conditional-gives t xs o' first.after.next first.value (record { far = Num m.post.1.0; is = m.post.1.1; less = inr refl; below = m.post.1.2 }))
+      (expr_later b) (expr_later a) m.post
+      (λ us n r'' h'. retyped t (type_of a) (expr_made a) (expr_run c a) za ca us _ r'' (_) y.state h')
+      (λ us n r'' h'. retyped t (type_of b) (expr_made b) (expr_run c b) zb cb us _ r'' (_) y.state h')))
+    where
+      first : Built Origin
+      first = tested e s
+
+  -- ---- lists of expressions
+
+  abbrev pub DroppedClaim : ExprTrees → Type 0
+  DroppedClaim es = Claims (States f flow) (commas_made es) (dropped_run c es)
+
+  pub no-dropped : DroppedClaim no_exprs
+  no-dropped xs o r s q h = sim-given w d (States f flow) xs o s.next tt s q (omega arith) h
+
+  pub dropped-then : (e : ExprTree) (es : ExprTrees) → ExprClaim e → DroppedClaim es → DroppedClaim (expr_then e es)
+  dropped-then e es ce ces xs o r s q h =
+      sim-bind w d fit.sound (Typed f flow (type_of e)) (States f flow) xs o s.next r (expr_made e s) (λ _ u. commas_made es u) (expr_run c e q) (λ x. dropped_run c es x.state) (ce xs o r s q h)
+      (λ y o' r' m. ces xs o' r' (expr_made e s).after y.state m.post.0)
+
+  pub comma-form : (t : TypeTree) (es : ExprTrees) (e : ExprTree) → type_of e ≡ t → DroppedClaim es → ExprClaim e → FormClaim t (comma es e)
+  comma-form t es e z ces ce xs o r s q h =
+      sim-bind w d fit.sound (States f flow) (Typed f flow t) xs o s.next r (commas_made es s) (λ _ u. expr_made e u) (dropped_run c es q) (expr_run c e) (ces xs o r s q h)
+      (λ y o' r' m. retyped t (type_of e) (expr_made e) (expr_run c e) z ce xs o' r' (commas_made es s).after y m.post)
+
+  abbrev pub ArgumentsClaim : ExprTrees → Type 0
+  ArgumentsClaim es = Claims (AreGiven f flow (length (types_of es))) (arguments_made es) (arguments_run c es)
+
+  pub no-arguments : ArgumentsClaim no_exprs
+  no-arguments xs o r s q h = sim-given w d (AreGiven f flow 0) xs o s.next [] s (record { values = []; state = q }) (omega arith) (h, tt, refl)
+
+  pub arguments-then : (e : ExprTree) (es : ExprTrees) → IsScalar (type_of e) → ExprClaim e → ArgumentsClaim es → ArgumentsClaim (expr_then e es)
+  arguments-then e es scalar ce ces xs o r s q h =
+      sim-bind w d fit.sound (Typed f flow (type_of e)) (AreGiven f flow (suc (length (types_of es)))) xs o s.next r first (λ x u. bind (arguments_made es u) (λ ys v. given (x ∷ ys) v)) (expr_run c e q)
+      (λ x. used x.value (λ v. then_on (arguments_run c es x.state) (λ y. Returned (record { values = v ∷ y.values; state = y.state }) []))) (ce xs o r s q h) (λ x o' r' m.
+      used-there w (Ran (AreGiven f flow (suc (length (types_of es)))) xs o' first.after.next (rest first.value first.after)) x.value
+      (λ v. then_on (arguments_run c es x.state) (λ y. Returned (record { values = v ∷ y.values; state = y.state }) [])) (nodes_run d (nodes_of (rest first.value first.after).nodes) xs o') (λ there.
+      sim-bind w d fit.sound (AreGiven f flow (length (types_of es))) (AreGiven f flow (suc (length (types_of es)))) xs o' first.after.next r' second (λ ys v. given (first.value ∷ ys) v)
+      (arguments_run c es x.state) (λ y. Returned (record { values = x.value ∷ y.values; state = y.state }) []) (ces xs o' r' first.after x.state m.post.0) (λ y o'' r'' m'.
+      let held : Held (read_origin xs o') first.after.next x.value first.value = shown-held (read_origin xs o') first.after.next (type_of e) x.value first.value scalar m.post.1 in
+      let is : read_origin xs o'' first.value ≡ val x.value = stay-keeps first.after.next xs o' o'' m'.stay first.value held.below ∙ held-is (read_origin xs o') first.after.next x.value first.value there held in
+      sim-given w d (AreGiven f flow (suc (length (types_of es)))) xs o'' second.after.next (first.value ∷ second.value) second.after
+      (record { values = x.value ∷ y.values; state = y.state }) (omega arith)
+      (m'.post.0, ((is, below-later first.after.next second.after.next first.value m'.rises held.below), m'.post.1), ap suc m'.post.2))))
+    where
+      first : Built Origin
+      first = expr_made e s
+
+      second : Built (List Origin)
+      second = arguments_made es first.after
+
+      rest : Origin → Point → Built (List Origin)
+      rest x u = bind (arguments_made es u) (λ ys v. given (x ∷ ys) v)
+
+  pub call-form : (t : TypeTree) (k : ℕ) (es : ExprTrees) (callee : Signature) → slice_get functions k ≡ Some callee → types_of es ≡ callee.params → ArgumentsClaim es → FormClaim t (call k es)
+  call-form t k es callee there z ces xs o r s q h =
+      typed-of t xs o s.next (form_made t (call k es) s) (form_run c t (call k es) q)
+      (sim-bind w d fit.sound (AreGiven f flow (length (types_of es))) (Values f flow) xs o s.next r (arguments_made es s) (apply_made k) (arguments_run c es q)
+      (λ x. then_on (c.calls k x.values x.state.memory x.state.input) (back_from x.state)) (ces xs o r s q h) (λ y o' r' m.
+      apply-sim w d f flow xs o' r' (arguments_made es s).after y.state m.post.0 functions c fit k callee there y.values (arguments_made es s).value (m.post.2 ∙ ap length z) m.post.1))
