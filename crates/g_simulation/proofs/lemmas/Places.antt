@@ -81,7 +81,7 @@ module _ (w : Direction) (d : Context) (f : Frame) (flow : Flow) (c : IsSoundCon
   -- ---- which place
 
   -- an address that is computed
-  address-line : (b : Built Origin) (a : Value) → Simulates w d (Line f flow q a) xs o s.next b (Returned tt []) →
+  pub address-line : (b : Built Origin) (a : Value) → Simulates w d (Line f flow q a) xs o s.next b (Returned tt []) →
       Simulates w d (Places f flow) xs o s.next (address_spot b) (found q (source_expr.at_address a))
   address-line b a k =
       sim-bind w d c (Line f flow q a) (Places f flow) xs o s.next t b (λ p u. given (at_address p) u) (Returned tt []) (λ _. found q (source_expr.at_address a)) k
