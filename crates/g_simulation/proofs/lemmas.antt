@@ -15,3 +15,4 @@ pub mod Calls
 pub mod Shapes
 pub mod Forms
 pub mod Assignments
+pub mod Expressions
