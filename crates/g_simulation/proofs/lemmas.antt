@@ -16,3 +16,4 @@ pub mod Shapes
 pub mod Forms
 pub mod Assignments
 pub mod Expressions
+pub mod Leaves

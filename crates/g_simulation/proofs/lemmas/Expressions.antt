@@ -1,5 +1,6 @@
 -- Every well-typed expression: what is made of it does what the source does, by one induction over the tree.
-use Rattle.std.proofs.Common.{◌≡◌, ◌≤◌, ℕ, suc, List, [], ◌∷◌, refl, sym, ap, ◌∙◌, subst, arith}
+use Rattle.std.specs.Prelude.{length, slice_get, Some}
+use Rattle.std.proofs.Common.{◌≡◌, ◌≤◌, ◌<◌, ℕ, zero, suc, List, [], ◌∷◌, refl, sym, ap, ◌∙◌, subst, arith}
 use Rattle.val_core.specs.declared.values.Value.{Value}
 use Rattle.val_core.specs.Refinement.{Direction}
 use Rattle.val_core.specs.Answers.{Answer, Returned, then_on}
@@ -29,14 +30,19 @@ use Rattle.g_simulation.proofs.lemmas.Calls.{get-sim}
 use Rattle.g_simulation.proofs.lemmas.Forms.{ExprClaim, FormClaim, TestClaim, PlaceClaim, DroppedClaim, ArgumentsClaim, typed-of, constant-form, read-form, address-form, unary-form, binary-form, test-form, and-form, or-form, conditional-form, no-dropped, dropped-then, comma-form, no-arguments, arguments-then, call-form}
 use Rattle.g_simulation.proofs.lemmas.Assignments.{assign-form, compound-form, inc-dec-form}
 
-module _ (w : Direction) (g : Scope) (c : source.Context) (d : Context) (fit : ContextsFit w g.functions c d) (f : Frame) (flow : Flow) where
+module _ (w : Direction) (g : Scope) (c : source.Context) (d : Context) (fit : ContextsFit w g.functions c d) (f : Frame) (count : length g.slots ≡ f.count) (flow : Flow) where
   get-form : (t : TypeTree) → FormClaim w g.functions c d fit f flow t get
   get-form t xs o r s q h = typed-of w g.functions c d fit f flow t xs o s.next (get_made s) (source.got q q.input) (get-sim w d f flow xs o r s q h)
 
   -- ---- places
 
-  local-place : (t : TypeTree) (k : ℕ) → PlaceClaim w g.functions c d fit f flow (place t (local k))
-  local-place t k xs o r s q h = slot-spot-sim w d f flow fit.sound xs o r s q h c fit.addresses k
+  local-place : (t : TypeTree) (k : ℕ) → k < length g.slots → PlaceClaim w g.functions c d fit f flow (place t (local k))
+  local-place t k low xs o r s q h = slot-spot-sim w d f flow fit.sound xs o r s q h c fit.addresses k (subst (λ n. k < n) count low)
+
+  slot-below : {A : Type 0} → (xs : List A) (k : ℕ) (x : A) → slice_get xs k ≡ Some x → k < length xs
+  slot-below [] k x e = absurd cc
+  slot-below (y ∷ xs) zero x e = omega arith
+  slot-below (y ∷ xs) (suc k) x e = let low = slot-below xs k x e in omega (arith, low)
 
   global-place : (t : TypeTree) (k : ℕ) → PlaceClaim w g.functions c d fit f flow (place t (global k))
   global-place t k xs o r s q h =
@@ -96,7 +102,7 @@ module _ (w : Direction) (g : Scope) (c : source.Context) (d : Context) (fit : C
         arguments-then w g.functions c d fit f flow e es scalars.0 (expr-sim e h.0 k.0) (arguments-sim es h.1 k.1 scalars.1)
 
     pub place-sim : (p : PlaceTree) → PlaceIsTyped g p → PlaceDividesByWords p → PlaceClaim w g.functions c d fit f flow p
-    place-sim (place t (local n)) h k = local-place t n
+    place-sim (place t (local n)) h k = local-place t n (slot-below g.slots n h.0 h.1)
     place-sim (place t (global n)) h k = global-place t n
     place-sim (place t (at e)) h k = at-place t e h.1 (expr-sim e h.0 k)
     place-sim (place t (member p n)) h k = member-place t p n (place-sim p h.0 k)

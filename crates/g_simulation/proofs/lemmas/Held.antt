@@ -1,5 +1,5 @@
 -- What the variables, the jumps and the states of a source run are in the graph: each is carried by an origin.
-use Rattle.std.proofs.Common.{◌≡◌, ◌≤◌, ◌⊎◌, inl, inr, ℕ, zero, suc, List, [], ◌∷◌, ◌++◌, map, refl, sym, ap, ◌∙◌, subst, arith}
+use Rattle.std.proofs.Common.{◌≡◌, ◌≤◌, ◌<◌, ◌⊎◌, inl, inr, ℕ, zero, suc, List, [], ◌∷◌, ◌++◌, map, refl, sym, ap, ◌∙◌, subst, arith}
 use Rattle.std.specs.Prelude.{Bool, Option, None, Some, slice_get, slice_set}
 use Rattle.val_core.specs.declared.values.Value.{Value}
 use Rattle.val_core.specs.declared.values.Value.TheVariants.{Num, At, Bad}
@@ -73,13 +73,20 @@ shown-held rd n (struct_type k) v p s h = absurd s
 -- ---- variables
 
 -- Each variable in scope is carried: a value by an origin, an object by its number, and between them the numbers that have
--- no name in the source, in order.
-abbrev pub SlotsHeld : (rd : Origin → Datum) (n : ℕ) → List SlotOrigin → (numbers : List ℕ) → List Slot → Type 0
-SlotsHeld rd n [] [] [] = Unit {0}
-SlotsHeld rd n (held p ∷ xs) hs (source.holds v ∷ ss) = Held rd n v p × SlotsHeld rd n xs hs ss
-SlotsHeld rd n (object k ∷ xs) hs (source.object j ∷ ss) = (j ≡ k) × SlotsHeld rd n xs hs ss
-SlotsHeld rd n (hidden p ∷ xs) (h ∷ hs) ss = (rd p ≡ val (Num h)) × IsBelow n p × SlotsHeld rd n xs hs ss
-SlotsHeld rd n _ _ _ = ⊥
+-- no name in the source, in order. The newest variables may still wait for the value that they begin with.
+abbrev pub SlotsHeld : (rd : Origin → Datum) (n : ℕ) → (waiting : List Slot) → List SlotOrigin → (numbers : List ℕ) → List Slot → Type 0
+SlotsHeld rd n ws [] [] ss = ss ≡ ws
+SlotsHeld rd n ws (held p ∷ xs) hs (source.holds v ∷ ss) = Held rd n v p × SlotsHeld rd n ws xs hs ss
+SlotsHeld rd n ws (object k ∷ xs) hs (source.object j ∷ ss) = (j ≡ k) × SlotsHeld rd n ws xs hs ss
+SlotsHeld rd n ws (hidden p ∷ xs) (h ∷ hs) ss = (rd p ≡ val (Num h)) × IsBelow n p × SlotsHeld rd n ws xs hs ss
+SlotsHeld rd n ws _ _ _ = ⊥
+
+-- how many of what is carried have a slot
+abbrev pub named : List SlotOrigin → ℕ
+named [] = 0
+named (held p ∷ xs) = suc (named xs)
+named (object k ∷ xs) = suc (named xs)
+named (hidden p ∷ xs) = named xs
 
 -- `go` is 0 where control goes on, and 1, 2 or 3 after a `break`, a `continue` and a `return`.
 abbrev pub code : Flow → ℕ
@@ -93,14 +100,18 @@ abbrev pub JumpsHeld : (rd : Origin → Datum) (n : ℕ) → (is_main : Bool) �
 JumpsHeld rd n is_main flow straight g r = flow ≡ normal
 JumpsHeld rd n is_main flow jumping g r = (rd g ≡ val (Num (code flow))) × IsBelow n g × Held rd n (value_or_none (value_at_end is_main flow)) r
 
--- what stays through a statement: the numbers without a name, and whether the function is `main`
+-- What stays through a statement: the numbers without a name, how many variables are carried, those that wait for a value,
+-- and whether the function is `main`.
 pub record Frame : Type 0 where
   pub numbers : List ℕ
+  pub count : ℕ
+  pub waiting : List Slot
   pub is_main : Bool
 
 -- The carried origins, which are below a number, carry a state of the source after this flow.
 pub record Holds (f : Frame) (flow : Flow) (rd : Origin → Datum) (n : ℕ) (k : Carried) (q : State) : Type 0 where
-  pub slots : SlotsHeld rd n k.variables f.numbers q.slots
+  pub slots : SlotsHeld rd n f.waiting k.variables f.numbers q.slots
+  pub count : named k.variables ≡ f.count
   pub jumps : JumpsHeld rd n f.is_main flow k.form k.go k.ret
   pub memory : rd k.memory ≡ memory q.memory
   pub memory_below : IsBelow n k.memory
@@ -109,12 +120,13 @@ pub record Holds (f : Frame) (flow : Flow) (rd : Origin → Datum) (n : ℕ) (k 
 
 -- ---- what is held stays held
 
-pub slots-later : (rd rd' : Origin → Datum) (n m : ℕ) (xs : List SlotOrigin) (hs : List ℕ) (ss : List Slot) → Keeps n rd rd' → n ≤ m → SlotsHeld rd n xs hs ss → SlotsHeld rd' m xs hs ss
-slots-later rd rd' n m [] [] [] k le h = tt
-slots-later rd rd' n m (hidden p ∷ xs) (j ∷ hs) ss k le h = (k p h.1 ∙ h.0, below-later n m p le h.1, slots-later rd rd' n m xs hs ss k le h.2)
-slots-later rd rd' n m (held p ∷ xs) hs (source.holds v ∷ ss) k le h = (held-later rd rd' n m v p k le h.0, slots-later rd rd' n m xs hs ss k le h.1)
-slots-later rd rd' n m (object i ∷ xs) hs (source.object j ∷ ss) k le h = (h.0, slots-later rd rd' n m xs hs ss k le h.1)
-slots-later rd rd' n m _ _ _ k le h = absurd h
+pub slots-later : (rd rd' : Origin → Datum) (n m : ℕ) (ws : List Slot) (xs : List SlotOrigin) (hs : List ℕ) (ss : List Slot) → Keeps n rd rd' → n ≤ m → SlotsHeld rd n ws xs hs ss →
+    SlotsHeld rd' m ws xs hs ss
+slots-later rd rd' n m ws [] [] ss k le h = h
+slots-later rd rd' n m ws (hidden p ∷ xs) (j ∷ hs) ss k le h = (k p h.1 ∙ h.0, below-later n m p le h.1, slots-later rd rd' n m ws xs hs ss k le h.2)
+slots-later rd rd' n m ws (held p ∷ xs) hs (source.holds v ∷ ss) k le h = (held-later rd rd' n m v p k le h.0, slots-later rd rd' n m ws xs hs ss k le h.1)
+slots-later rd rd' n m ws (object i ∷ xs) hs (source.object j ∷ ss) k le h = (h.0, slots-later rd rd' n m ws xs hs ss k le h.1)
+slots-later rd rd' n m ws _ _ _ k le h = absurd h
 
 pub jumps-later : (rd rd' : Origin → Datum) (n m : ℕ) (is_main : Bool) (flow : Flow) (form : Form) (g r : Origin) → Keeps n rd rd' → n ≤ m → JumpsHeld rd n is_main flow form g r →
     JumpsHeld rd' m is_main flow form g r
@@ -125,7 +137,8 @@ jumps-later rd rd' n m is_main flow jumping g r k le h =
 pub holds-later : (f : Frame) (flow : Flow) (rd rd' : Origin → Datum) (n m : ℕ) (c : Carried) (q : State) → Keeps n rd rd' → n ≤ m → Holds f flow rd n c q → Holds f flow rd' m c q
 holds-later f flow rd rd' n m c q k le h =
     record {
-      slots = slots-later rd rd' n m c.variables f.numbers q.slots k le h.slots;
+      slots = slots-later rd rd' n m f.waiting c.variables f.numbers q.slots k le h.slots;
+      count = h.count;
       jumps = jumps-later rd rd' n m f.is_main flow c.form c.go c.ret k le h.jumps;
       memory = k c.memory h.memory_below ∙ h.memory;
       memory_below = below-later n m c.memory le h.memory_below;
@@ -135,21 +148,34 @@ holds-later f flow rd rd' n m c q k le h =
 
 -- ---- a variable read and written
 
--- what stands at a slot on both sides
-abbrev pub SlotHeld : (rd : Origin → Datum) (n : ℕ) → Option Slot → Option SlotOrigin → Type 0
-SlotHeld rd n None None = Unit {0}
-SlotHeld rd n (Some (source.holds v)) (Some (held p)) = Held rd n v p
-SlotHeld rd n (Some (source.object j)) (Some (object k)) = j ≡ k
+-- What stands at a slot on both sides. Nothing is said of a slot that is not carried.
+abbrev pub SlotHeld : (rd : Origin → Datum) (n : ℕ) → Option SlotOrigin → Option Slot → Type 0
+SlotHeld rd n None x = Unit {0}
+SlotHeld rd n (Some (held p)) (Some (source.holds v)) = Held rd n v p
+SlotHeld rd n (Some (object k)) (Some (source.object j)) = j ≡ k
 SlotHeld rd n _ _ = ⊥
 
-pub slot-held : (rd : Origin → Datum) (n : ℕ) (xs : List SlotOrigin) (hs : List ℕ) (ss : List Slot) (k : ℕ) → SlotsHeld rd n xs hs ss → SlotHeld rd n (slice_get ss k) (variable_at xs k)
-slot-held rd n [] [] [] k h = tt
-slot-held rd n (hidden p ∷ xs) (j ∷ hs) ss k h = slot-held rd n xs hs ss k h.2
-slot-held rd n (held p ∷ xs) hs (source.holds v ∷ ss) zero h = h.0
-slot-held rd n (held p ∷ xs) hs (source.holds v ∷ ss) (suc k) h = slot-held rd n xs hs ss k h.1
-slot-held rd n (object i ∷ xs) hs (source.object j ∷ ss) zero h = h.0
-slot-held rd n (object i ∷ xs) hs (source.object j ∷ ss) (suc k) h = slot-held rd n xs hs ss k h.1
-slot-held rd n _ _ _ k h = absurd h
+pub slot-held : (rd : Origin → Datum) (n : ℕ) (ws : List Slot) (xs : List SlotOrigin) (hs : List ℕ) (ss : List Slot) (k : ℕ) → SlotsHeld rd n ws xs hs ss →
+    SlotHeld rd n (variable_at xs k) (slice_get ss k)
+slot-held rd n ws [] hs ss k h = tt
+slot-held rd n ws (hidden p ∷ xs) (j ∷ hs) ss k h = slot-held rd n ws xs hs ss k h.2
+slot-held rd n ws (held p ∷ xs) hs (source.holds v ∷ ss) zero h = h.0
+slot-held rd n ws (held p ∷ xs) hs (source.holds v ∷ ss) (suc k) h = slot-held rd n ws xs hs ss k h.1
+slot-held rd n ws (object i ∷ xs) hs (source.object j ∷ ss) zero h = h.0
+slot-held rd n ws (object i ∷ xs) hs (source.object j ∷ ss) (suc k) h = slot-held rd n ws xs hs ss k h.1
+slot-held rd n ws _ _ _ k h = absurd h
+
+abbrev pub IsCarried : Option SlotOrigin → Type 0
+IsCarried None = ⊥
+IsCarried (Some x) = Unit {0}
+
+pub carried-below : (xs : List SlotOrigin) (k : ℕ) → k < named xs → IsCarried (variable_at xs k)
+carried-below [] k h = absurd (omega (arith, h))
+carried-below (hidden p ∷ xs) k h = carried-below xs k h
+carried-below (held p ∷ xs) zero h = tt
+carried-below (held p ∷ xs) (suc k) h = carried-below xs k (omega (arith, h))
+carried-below (object i ∷ xs) zero h = tt
+carried-below (object i ∷ xs) (suc k) h = carried-below xs k (omega (arith, h))
 
 -- a value variable stands at the slot
 abbrev pub IsValueSlot : Option SlotOrigin → Type 0
@@ -157,15 +183,23 @@ IsValueSlot (Some (held p)) = Unit {0}
 IsValueSlot _ = ⊥
 
 -- it is written
-pub slots-set : (rd : Origin → Datum) (n : ℕ) (xs : List SlotOrigin) (hs : List ℕ) (ss : List Slot) (k : ℕ) (v : Value) (p : Origin) → IsValueSlot (variable_at xs k) → Held rd n v p →
-    SlotsHeld rd n xs hs ss → SlotsHeld rd n (variable_set xs k p) hs (slice_set ss k (source.holds v))
-slots-set rd n [] [] [] k v p t g h = tt
-slots-set rd n (hidden q ∷ xs) (j ∷ hs) ss k v p t g h = (h.0, h.1, slots-set rd n xs hs ss k v p t g h.2)
-slots-set rd n (held q ∷ xs) hs (source.holds u ∷ ss) zero v p t g h = (g, h.1)
-slots-set rd n (held q ∷ xs) hs (source.holds u ∷ ss) (suc k) v p t g h = (h.0, slots-set rd n xs hs ss k v p t g h.1)
-slots-set rd n (object i ∷ xs) hs (source.object j ∷ ss) zero v p t g h = absurd t
-slots-set rd n (object i ∷ xs) hs (source.object j ∷ ss) (suc k) v p t g h = (h.0, slots-set rd n xs hs ss k v p t g h.1)
-slots-set rd n _ _ _ k v p t g h = absurd h
+slots-set : (rd : Origin → Datum) (n : ℕ) (ws : List Slot) (xs : List SlotOrigin) (hs : List ℕ) (ss : List Slot) (k : ℕ) (v : Value) (p : Origin) → IsValueSlot (variable_at xs k) → Held rd n v p →
+    SlotsHeld rd n ws xs hs ss → SlotsHeld rd n ws (variable_set xs k p) hs (slice_set ss k (source.holds v))
+slots-set rd n ws [] hs ss k v p t g h = absurd t
+slots-set rd n ws (hidden q ∷ xs) (j ∷ hs) ss k v p t g h = (h.0, h.1, slots-set rd n ws xs hs ss k v p t g h.2)
+slots-set rd n ws (held q ∷ xs) hs (source.holds u ∷ ss) zero v p t g h = (g, h.1)
+slots-set rd n ws (held q ∷ xs) hs (source.holds u ∷ ss) (suc k) v p t g h = (h.0, slots-set rd n ws xs hs ss k v p t g h.1)
+slots-set rd n ws (object i ∷ xs) hs (source.object j ∷ ss) zero v p t g h = absurd t
+slots-set rd n ws (object i ∷ xs) hs (source.object j ∷ ss) (suc k) v p t g h = (h.0, slots-set rd n ws xs hs ss k v p t g h.1)
+slots-set rd n ws _ _ _ k v p t g h = absurd h
+
+named-set : (xs : List SlotOrigin) (k : ℕ) (p : Origin) → named (variable_set xs k p) ≡ named xs
+named-set [] k p = refl
+named-set (hidden o ∷ xs) k p = named-set xs k p
+named-set (held o ∷ xs) zero p = refl
+named-set (held o ∷ xs) (suc k) p = ap suc (named-set xs k p)
+named-set (object n ∷ xs) zero p = refl
+named-set (object n ∷ xs) (suc k) p = ap suc (named-set xs k p)
 
 -- the same variables from other origins have value variables at the same slots
 value-slot-shape : (xs : List SlotOrigin) (k : ℕ) → IsValueSlot (variable_at (shape xs) k) ≡ IsValueSlot (variable_at xs k)
@@ -186,7 +220,8 @@ pub holds-set : (f : Frame) (flow : Flow) (rd : Origin → Datum) (n : ℕ) (s :
     Holds f flow rd n (with_variables s (variable_set s.carried.variables k p)).carried (source.with_slots q (slice_set q.slots k (source.holds v)))
 holds-set f flow rd n s q k v p t g h =
     record {
-      slots = slots-set rd n s.carried.variables f.numbers q.slots k v p t g h.slots;
+      slots = slots-set rd n f.waiting s.carried.variables f.numbers q.slots k v p t g h.slots;
+      count = named-set s.carried.variables k p ∙ h.count;
       jumps = h.jumps;
       memory = h.memory;
       memory_below = h.memory_below;

@@ -1,5 +1,5 @@
 -- Places: a variable or an address on both sides, and what is read and written there.
-use Rattle.std.proofs.Common.{◌≡◌, ◌≤◌, inl, inr, ℕ, suc, List, [], ◌∷◌, refl, sym, ap, ap₂, ◌∙◌, subst, arith}
+use Rattle.std.proofs.Common.{◌≡◌, ◌≤◌, ◌<◌, inl, inr, ℕ, suc, List, [], ◌∷◌, refl, sym, ap, ap₂, ◌∙◌, subst, arith}
 use Rattle.std.specs.Prelude.{Bool, true, false, cond, Some, Option, None, option_map, slice_set}
 use Rattle.val_core.specs.declared.values.Value.{Value}
 use Rattle.val_core.specs.declared.values.Value.TheVariants.{Num, At, Bad}
@@ -27,7 +27,7 @@ use Rattle.g_mean.specs.Meaning as graph
 use Rattle.g_mean.specs.Meaning.{Context, Outputs, extended as outputs_extended, read, node_run, nodes_run}
 use Rattle.g_simulation.proofs.lemmas.Readings.{IsBelow, below-later, Keeps, stay-keeps, extended-here, extended-stay, IsSoundContext, IsSoundRun}
 use Rattle.g_simulation.proofs.lemmas.Toolbox.{Post, Ran, Simulates, sim-given, sim-node, sim-bind}
-use Rattle.g_simulation.proofs.lemmas.Held.{Held, held-later, held-is, held-exactly, IsThere, SlotHeld, slot-held, IsValueSlot, value-slot-later, holds-set, Frame, Holds}
+use Rattle.g_simulation.proofs.lemmas.Held.{Held, held-later, held-is, held-exactly, IsThere, SlotHeld, slot-held, IsCarried, carried-below, IsValueSlot, value-slot-later, holds-set, Frame, Holds}
 use Rattle.g_simulation.proofs.lemmas.Nodes.{Values, Line, of-line, line-then, line-node, local-line}
 use Rattle.g_simulation.proofs.lemmas.Unary.{holds-states, used-line, extended-line}
 use Rattle.g_simulation.proofs.lemmas.Pointers.{member-line}
@@ -87,22 +87,23 @@ module _ (w : Direction) (d : Context) (f : Frame) (flow : Flow) (c : IsSoundCon
       sim-bind w d c (Line f flow q a) (Places f flow) xs o s.next t b (λ p u. given (at_address p) u) (Returned tt []) (λ _. found q (source_expr.at_address a)) k
       (λ y o' t' r. sim-given w d (Places f flow) xs o' b.after.next (at_address b.value) b.after (record { spot = source_expr.at_address a; state = q }) (omega arith) r.post)
 
-  pub slot-spot-sim : (e : source_expr.Context) → e.addresses ≡ d.addresses → (k : ℕ) →
+  pub slot-spot-sim : (e : source_expr.Context) → e.addresses ≡ d.addresses → (k : ℕ) → k < f.count →
       Simulates w d (Places f flow) xs o s.next (slot_spot k (variable_at s.carried.variables k) s) (source_expr.slot_spot e k (slot_get q k) q)
-  slot-spot-sim e same k =
-      by (slot_get q k) (variable_at s.carried.variables k) refl (slot-held (read xs o) s.next s.carried.variables f.numbers q.slots k h.slots)
+  slot-spot-sim e same k low =
+      by (variable_at s.carried.variables k) (slot_get q k) refl (carried-below s.carried.variables k (subst (λ n. k < n) (sym h.count) low))
+      (slot-held (read xs o) s.next f.waiting s.carried.variables f.numbers q.slots k h.slots)
     where
-      by : (x : Option Slot) (y : Option SlotOrigin) → variable_at s.carried.variables k ≡ y → SlotHeld (read xs o) s.next x y →
+      by : (y : Option SlotOrigin) (x : Option Slot) → variable_at s.carried.variables k ≡ y → IsCarried y → SlotHeld (read xs o) s.next y x →
           Simulates w d (Places f flow) xs o s.next (slot_spot k y s) (source_expr.slot_spot e k x q)
-      by None None z g = tt
-      by (Some (source.holds v)) (Some (held p)) z g =
+      by None x z t g = absurd t
+      by (Some (held p)) (Some (source.holds v)) z t g =
           sim-given w d (Places f flow) xs o s.next (in_slot k) s (record { spot = source_expr.in_slot k; state = q }) (omega arith)
           (h, (refl, value-slot k s.carried.variables (Some (held p)) z tt))
-      by (Some (source.object j)) (Some (object i)) z g =
+      by (Some (object i)) (Some (source.object j)) z t g =
           subst (λ a. Simulates w d (Places f flow) xs o s.next (address_spot (local_made i s)) (found q (source_expr.at_address a)))
           (ap (λ a. a.local i) (sym same) ∙ ap (λ n. e.addresses.local n) (sym g))
           (address-line (local_made i s) (d.addresses.local i) (local-line w d f flow xs o s q h i))
-      by _ _ z g = absurd g
+      by _ _ z t g = absurd g
 
   pub member-spot-sim : (x : source_expr.Spot) (y : Spot) (n : ℕ) → SpotHeld (read xs o) s.next s.carried.variables x y →
       Simulates w d (Places f flow) xs o s.next (member_spot y n s) (source_expr.member_spot x n q)
@@ -124,14 +125,14 @@ module _ (w : Direction) (d : Context) (f : Frame) (flow : Flow) (c : IsSoundCon
   spot-address-sim _ _ g = absurd g
 
   -- a variable's value that is there
-  slot-read-sim : (x : Option Slot) (y : Option SlotOrigin) → SlotHeld (read xs o) s.next x y →
+  slot-read-sim : (y : Option SlotOrigin) (x : Option Slot) → IsValueSlot y → SlotHeld (read xs o) s.next y x →
       Simulates w d (Values f flow) xs o s.next (given (slot_origin y) s) (used (slot_value x) (gives q))
-  slot-read-sim None None g = tt
-  slot-read-sim (Some (source.holds (Num n))) (Some (held p)) g = sim-given w d (Values f flow) xs o s.next p s (record { value = Num n; state = q }) (omega arith) (h, g)
-  slot-read-sim (Some (source.holds (At b n))) (Some (held p)) g = sim-given w d (Values f flow) xs o s.next p s (record { value = At b n; state = q }) (omega arith) (h, g)
-  slot-read-sim (Some (source.holds Bad)) (Some (held p)) g = tt
-  slot-read-sim (Some (source.object j)) (Some (object i)) g = tt
-  slot-read-sim _ _ g = absurd g
+  slot-read-sim None x t g = absurd t
+  slot-read-sim (Some (held p)) (Some (source.holds (Num n))) t g = sim-given w d (Values f flow) xs o s.next p s (record { value = Num n; state = q }) (omega arith) (h, g)
+  slot-read-sim (Some (held p)) (Some (source.holds (At b n))) t g = sim-given w d (Values f flow) xs o s.next p s (record { value = At b n; state = q }) (omega arith) (h, g)
+  slot-read-sim (Some (held p)) (Some (source.holds Bad)) t g = tt
+  slot-read-sim (Some (object i)) x t g = absurd t
+  slot-read-sim _ _ t g = absurd g
 
   load-line : (width : ℕ) (p : Origin) (a v : Value) → Held (read xs o) s.next a p → load width a q.memory ≡ Some v →
       Simulates w d (Line f flow q v) xs o s.next (load_made width p s) (Returned tt [])
@@ -177,7 +178,7 @@ module _ (w : Direction) (d : Context) (f : Frame) (flow : Flow) (c : IsSoundCon
       Simulates w d (Values f flow) xs o s.next (spot_read ty y s) (source_expr.spot_read ty x q)
   spot-read-sim ty (source_expr.in_slot k) (in_slot j) g =
       subst (λ i. Simulates w d (Values f flow) xs o s.next (spot_read ty (in_slot i) s) (source_expr.spot_read ty (source_expr.in_slot k) q)) g.0
-      (slot-read-sim (slot_get q k) (variable_at s.carried.variables k) (slot-held (read xs o) s.next s.carried.variables f.numbers q.slots k h.slots))
+      (slot-read-sim (variable_at s.carried.variables k) (slot_get q k) g.1 (slot-held (read xs o) s.next f.waiting s.carried.variables f.numbers q.slots k h.slots))
   spot-read-sim ty (source_expr.at_address a) (at_address p) g = read-sim ty p a g
   spot-read-sim ty _ _ g = absurd g
 

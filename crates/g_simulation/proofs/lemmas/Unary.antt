@@ -47,7 +47,8 @@ pub holds-states : (f : Frame) (flow : Flow) (rd rd' : Origin → Datum) (s : Po
     Holds f flow rd' (suc s.next) (with_states s m i).carried (record { slots = q.slots; memory = m'; input = i' })
 holds-states f flow rd rd' s q m' i' m i k h e b e' b' =
     record {
-      slots = slots-later rd rd' s.next (suc s.next) s.carried.variables f.numbers q.slots k (omega arith) h.slots;
+      slots = slots-later rd rd' s.next (suc s.next) f.waiting s.carried.variables f.numbers q.slots k (omega arith) h.slots;
+      count = h.count;
       jumps = jumps-later rd rd' s.next (suc s.next) f.is_main flow s.carried.form s.carried.go s.carried.ret k (omega arith) h.jumps;
       memory = e;
       memory_below = b;
