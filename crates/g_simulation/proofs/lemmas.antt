@@ -17,3 +17,4 @@ pub mod Forms
 pub mod Assignments
 pub mod Expressions
 pub mod Leaves
+pub mod Jumps
