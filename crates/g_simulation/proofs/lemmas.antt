@@ -18,3 +18,4 @@ pub mod Assignments
 pub mod Expressions
 pub mod Leaves
 pub mod Jumps
+pub mod Statements

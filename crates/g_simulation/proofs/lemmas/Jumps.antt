@@ -48,12 +48,12 @@ Flows f = After f (λ x. x.flow) (λ x. x.state) Nothing
 -- ---- jumps
 
 -- what the function gives is the same after a jump within it
-jump-left-same : (is_main : Bool) → (value_at_end is_main broke ≡ value_at_end is_main normal) × (value_at_end is_main continued ≡ value_at_end is_main normal)
+pub jump-left-same : (is_main : Bool) → (value_at_end is_main broke ≡ value_at_end is_main normal) × (value_at_end is_main continued ≡ value_at_end is_main normal)
 jump-left-same true = (refl, refl)
 jump-left-same false = (refl, refl)
 
 -- `go` and `ret` where the function has them
-jumps-of : (rd : Origin → Datum) (n : ℕ) (is_main : Bool) (flow : Flow) (form : Form) (g r : Origin) → form ≡ jumping → JumpsHeld rd n is_main flow form g r → JumpsHeld rd n is_main flow jumping g r
+pub jumps-of : (rd : Origin → Datum) (n : ℕ) (is_main : Bool) (flow : Flow) (form : Form) (g r : Origin) → form ≡ jumping → JumpsHeld rd n is_main flow form g r → JumpsHeld rd n is_main flow jumping g r
 jumps-of rd n is_main flow form g r e h = subst (λ x. JumpsHeld rd n is_main flow x g r) e h
 
 pub holds-jump : (f : Frame) (now flow : Flow) (rd : Origin → Datum) (n : ℕ) (t : Point) (q : State) (g r : Origin) → t.carried.form ≡ jumping → Holds f now rd n t.carried q →
@@ -70,7 +70,7 @@ holds-jump f now flow rd n t q g r e h j =
     }
 
 -- a form that may jump, where something jumps
-jumping-form : (form : Form) (b : Bool) → MayJump form b → b ≡ true → form ≡ jumping
+pub jumping-form : (form : Form) (b : Bool) → MayJump form b → b ≡ true → form ≡ jumping
 jumping-form jumping b h e = refl
 jumping-form straight b h e = absurd cc
 

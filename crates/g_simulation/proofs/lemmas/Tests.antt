@@ -49,7 +49,7 @@ branched-decides x t a b = then_associates x (decided t) (ways a b) ∙ ap (then
 abbrev pub Decides : Frame → Flow → Post Decided Origin
 Decides f flow y rd t p = Holds f flow rd t.next t.carried y.state × ((n : ℕ) × (rd p ≡ val (Num n)) × IsBelow t.next p × ((n == 0) ≡ not y.truth))
 
-apart : (n : ℕ) → (suc n == 0) ≡ false
+pub apart : (n : ℕ) → (suc n == 0) ≡ false
 apart n = grind (arith, nat_tests)
 
 module _ (w : Direction) (d : Context) (f : Frame) where
