@@ -19,3 +19,4 @@ pub mod Expressions
 pub mod Leaves
 pub mod Jumps
 pub mod Statements
+pub mod Loops

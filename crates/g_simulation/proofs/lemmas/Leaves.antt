@@ -76,16 +76,16 @@ number-gives P Bad next go = tt
 -- ---- loops
 
 -- how a loop is left, its own `break` too
-abbrev Left : Exits → Flow → Type 0
+abbrev pub Left : Exits → Flow → Type 0
 Left e normal = Unit {0}
-Left e broke = Unit {0}
+Left e broke = e.breaks ≡ true
 Left e continued = ⊥
 Left e (returned v) = e.returns ≡ true
 
 turn-left : (e : Exits) (f : Flow) (s : State) (again : State → Answer Flowed) → Allows e f → ((u : State) → Gives (λ (x : Flowed). Left e x.flow) (again u)) → Gives (λ (x : Flowed). Left e x.flow) (after_turn f s again)
 turn-left e normal s again h go = go s
 turn-left e continued s again h go = go s
-turn-left e broke s again h go = tt
+turn-left e broke s again h go = h
 turn-left e (returned v) s again h go = h
 
 while-gives : (P : Flowed → Type 0) (c : Context) (d : OptionalExpr) (turn : State → Answer Flowed) (s : State) → ((u : State) → Gives P (turn u)) → ((u : State) → P (record { flow = normal; state = u })) →
@@ -94,7 +94,7 @@ while-gives P c no_expr turn s go ends = go s
 while-gives P c (some_expr e) turn s go ends =
     after-any P (expr_run c e s) (λ x. branched (type_of e) x.value (turn x.state) (goes_on x.state)) (λ x. branched-gives P (type_of e) x.value (turn x.state) (goes_on x.state) (go x.state) (ends x.state))
 
-loop-left : (e : Exits) (n : ℕ) (c : Context) (d step : OptionalExpr) (body : State → Answer Flowed) → ((u : State) → EndsBy e (body u)) → (s : State) →
+pub loop-left : (e : Exits) (n : ℕ) (c : Context) (d step : OptionalExpr) (body : State → Answer Flowed) → ((u : State) → EndsBy e (body u)) → (s : State) →
     Gives (λ x. Left e x.flow) (loop_run n c d step body s)
 loop-left e zero c d step body h s = while-gives (λ x. Left e x.flow) c d (λ t. Cut []) s (λ u. tt) (λ u. tt)
 loop-left e (suc n) c d step body h s =
@@ -103,7 +103,7 @@ loop-left e (suc n) c d step body h s =
     (λ x k. turn-left e x.flow x.state (λ u. then_on (optional_step c step u) (loop_run n c d step body)) k
     (λ v. after-any (λ y. Left e y.flow) (optional_step c step v) (loop_run n c d step body) (loop-left e n c d step body h)))) (λ u. tt)
 
-do-left : (e : Exits) (n : ℕ) (c : Context) (d : ExprTree) (body : State → Answer Flowed) → ((u : State) → EndsBy e (body u)) → (s : State) → Gives (λ x. Left e x.flow) (do_run n c d body s)
+pub do-left : (e : Exits) (n : ℕ) (c : Context) (d : ExprTree) (body : State → Answer Flowed) → ((u : State) → EndsBy e (body u)) → (s : State) → Gives (λ x. Left e x.flow) (do_run n c d body s)
 do-left e zero c d body h s = tt
 do-left e (suc n) c d body h s =
     gives-then (λ x. Allows e x.flow) (λ x. Left e x.flow) (body s)
@@ -224,3 +224,9 @@ allows-normal e (returned v) n h = absurd (by e.returns e.breaks e.continues n h
     by : (a b c : Bool) → (a || b || c) ≡ false → a ≡ true → ⊥
     by true b c n h = absurd cc
     by false b c n h = absurd cc
+
+pub left-normal : (e : Exits) (f : Flow) → can_leave e ≡ false → Left e f → f ≡ normal
+left-normal e normal n h = refl
+left-normal e broke n h = allows-normal e broke n h
+left-normal e continued n h = absurd h
+left-normal e (returned v) n h = allows-normal e (returned v) n h
