@@ -20,3 +20,4 @@ pub mod Leaves
 pub mod Jumps
 pub mod Statements
 pub mod Loops
+pub mod Turns
