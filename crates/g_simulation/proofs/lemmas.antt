@@ -21,3 +21,4 @@ pub mod Jumps
 pub mod Statements
 pub mod Loops
 pub mod Turns
+pub mod LoopStatements

@@ -97,7 +97,7 @@ asked-turns c e next (returned v) s = refl
 
 -- ---- as they are made
 
-resumed-left : (is_main : Bool) (f : Flow) → value_at_end is_main (resumed f) ≡ value_at_end is_main f
+pub resumed-left : (is_main : Bool) (f : Flow) → value_at_end is_main (resumed f) ≡ value_at_end is_main f
 resumed-left is_main normal = refl
 resumed-left is_main broke = refl
 resumed-left is_main continued = sym (jump-left-same is_main).1
@@ -109,7 +109,7 @@ past-left-same is_main broke = sym (jump-left-same is_main).0
 past-left-same is_main continued = refl
 past-left-same is_main (returned v) = refl
 
-resumed-code : (f : Flow) → word2 op.Mul (code f) (word2 op.Ne (code f) 2) ≡ code (resumed f)
+pub resumed-code : (f : Flow) → word2 op.Mul (code f) (word2 op.Ne (code f) 2) ≡ code (resumed f)
 resumed-code normal = refl
 resumed-code broke = refl
 resumed-code continued = refl
@@ -127,7 +127,7 @@ Stepped f flow = After f (λ (q : State). flow) (λ q. q) Nothing
 
 module _ (w : Direction) (functions : List Signature) (c : source.Context) (d : Context) (fit : ContextsFit w functions c d) (f : Frame) where
   -- `go` becomes 0 where it is this code
-  jump-ended-sim : (n : ℕ) (flow flow' : Flow) → n % 2 ^ 32 ≡ n → word2 op.Mul (code flow) (word2 op.Ne (code flow) n) ≡ code flow' → value_at_end f.is_main flow' ≡ value_at_end f.is_main flow →
+  pub jump-ended-sim : (n : ℕ) (flow flow' : Flow) → n % 2 ^ 32 ≡ n → word2 op.Mul (code flow) (word2 op.Ne (code flow) n) ≡ code flow' → value_at_end f.is_main flow' ≡ value_at_end f.is_main flow →
       (xs : List Datum) (o : Outputs) → IsSoundRun xs o → (s : Point) (q : State) → Holds f flow (read_origin xs o) s.next s.carried q → s.carried.form ≡ jumping →
       Simulates w d (Stepped f flow') xs o s.next (jump_ended n s) (Returned q [])
   jump-ended-sim n flow flow' word same left xs o r s q h form =
