@@ -1,0 +1,159 @@
+-- Loops, from what is claimed of their conditions, steps and bodies.
+use Rattle.std.proofs.Common.{◌≡◌, ◌≤◌, ◌<◌, inl, inr, ℕ, zero, suc, List, [], ◌∷◌, ◌++◌, map, refl, sym, ap, ◌∙◌, subst, arith}
+use Rattle.std.proofs.Math.Path.{fun_ext}
+use Rattle.std.specs.Prelude.{◌==◌, not, Bool, true, false, cond}
+use Rattle.val_core.specs.declared.values.Value.TheVariants.{Num}
+use Rattle.val_core.specs.Words.{one_if}
+use Rattle.val_core.specs.Refinement.{Direction, Forward, exactly, Refines}
+use Rattle.val_core.specs.Answers.{Answer, Returned, Cut, then_on}
+use Rattle.val_core.proofs.lemmas.Answers.{then_associates, gives-then}
+use Rattle.c_typed.specs.Typed.{ExprTree, OptionalExpr, no_expr, some_expr, StmtTree, loop, do_while, VariableTree}
+use Rattle.c_typed.specs.WellTyped.{Signature, type_of}
+use Rattle.c_mean.specs.State.{State, Valued}
+use Rattle.c_mean.specs.Expressions as source
+use Rattle.c_mean.specs.Expressions.{expr_run}
+use Rattle.c_mean.specs.Statements.{Flow, normal, broke, continued, returned, Flowed, flows, past, after_turn, optional_step, while_true, loop_run, do_run, stmt_run}
+use Rattle.g_graph.specs.declared.op.Origin.{Origin}
+use Rattle.g_graph.specs.declared.op.Origin.TheVariants.{Out}
+use Rattle.g_graph.specs.Plain.{nodes_of}
+use Rattle.g_construct.specs.Writer.{jumping, Point, Built, nothing, bind, dropped, no_value, one_value, inside, choice, repeat}
+use Rattle.g_construct.specs.Operations.{const_made, is_zero_made}
+use Rattle.g_construct.specs.Expressions.{expr_made, tested}
+use Rattle.g_construct.specs.Exits.{stmt_exits, can_leave, stmt_jumps}
+use Rattle.g_construct.specs.Jumps.{jump_ended, break_ended, unless_left, optional_tested, step_made, again_made, turn_made, loop_made, do_again_made, do_made}
+use Rattle.g_construct.specs.Statements.{stmt_made}
+use Rattle.g_construct.proofs.lemmas.Later.{Keeps, later_here, bind_later}
+use Rattle.g_construct.proofs.lemmas.LaterExpressions.{const_later, expr_later, tested_later}
+use Rattle.g_construct.proofs.lemmas.LaterStatements.{dropped_later, jump_ended_later, optional_later, step_later, again_later, turn_later, do_again_later, stmt_later}
+use Rattle.g_built.proofs.lemmas.Exits.{MayJump, stmt_leaves}
+use Rattle.g_mean.specs.Data.{Datum, val, at_port}
+use Rattle.g_mean.specs.Meaning.{Context, Outputs, no_outputs, extended, read as read_origin, nodes_run}
+use Rattle.g_mean.proofs.lemmas.Equal.{exactly-compares}
+use Rattle.g_mean.proofs.lemmas.Regions.{less-cut}
+use Rattle.g_simulation.proofs.lemmas.Readings.{IsBelow, extended-here, IsSoundRun}
+use Rattle.g_simulation.proofs.lemmas.Toolbox.{Post, Ran, Simulates, sim-change, sim-goes, sim-given, sim-bind}
+use Rattle.g_simulation.proofs.lemmas.Held.{Held, held-is, code, Frame, Holds}
+use Rattle.g_simulation.proofs.lemmas.Nodes.{Line, const-line, is-zero-line}
+use Rattle.g_simulation.proofs.lemmas.Choice.{Gift, After, Nothing, ExtraGives, no_value-gives, picked, choice-sim}
+use Rattle.g_simulation.proofs.lemmas.Tests.{Decided, ways, Decides, ways-sim}
+use Rattle.g_simulation.proofs.lemmas.Claims.{ContextsFit, Typed, test_run}
+use Rattle.g_simulation.proofs.lemmas.Forms.{ExprClaim, TestClaim}
+use Rattle.g_simulation.proofs.lemmas.Leaves.{Allows, Left, stmt-ends, loop-left, do-left, allows-normal, left-normal}
+use Rattle.g_simulation.proofs.lemmas.Jumps.{Flows, jumps-of, jumping-form, may-later, may-inside, sim-gives}
+use Rattle.g_simulation.proofs.lemmas.Statements.{StmtClaim}
+use Rattle.g_simulation.proofs.lemmas.Loops.{Turned, turned, Turns, IsLoop, repeat-sim}
+use Rattle.g_simulation.proofs.lemmas.Turns.{resumed, stepped_turn, asked_turn, optional_test, over, while_turn, while-turns, stepped-turns, asked-turns, Stepped, StepClaim, jump-ended-sim, break-ended-sim, resumed-left, resumed-code}
+
+-- whether there is another turn, beside the state
+abbrev TurnsOn : Gift Turned Origin
+TurnsOn y rd n p = ((k : ℕ) × (rd p ≡ val (Num k)) × ((k == 0) ≡ not y.again)) × (y.again ≡ true → y.flow ≡ normal)
+
+turns-give : (xs : List Datum) (o : Outputs) (id : ℕ) → ExtraGives one_value xs o id TurnsOn TurnsOn
+turns-give xs o id =
+    record {
+      ports = λ rd v rest j. refl;
+      value = λ y rd n m v rest less h. ((h.0.0, extended-here o id (map rd (v ∷ rest)) 0 ∙ h.0.1, h.0.2), h.1);
+    }
+
+module _ (w : Direction) (functions : List Signature) (c : source.Context) (d : Context) (fit : ContextsFit w functions c d) (f : Frame) where
+  -- ---- the step
+
+  expr-step : (e : ExprTree) → ExprClaim w functions c d fit f normal e → (xs : List Datum) (o : Outputs) → IsSoundRun xs o → (s : Point) (q : State) →
+      Holds f normal (read_origin xs o) s.next s.carried q → Simulates w d (Stepped f normal) xs o s.next (dropped (expr_made e s)) (optional_step c (some_expr e) q)
+  expr-step e k xs o r s q h =
+      sim-bind w d fit.sound (Typed f normal (type_of e)) (Stepped f normal) xs o s.next r (expr_made e s) (λ _ t. nothing t) (expr_run c e q) (λ x. Returned x.state []) (k xs o r s q h)
+      (λ y o' r' m. sim-given w d (Stepped f normal) xs o' (expr_made e s).after.next tt (expr_made e s).after y.state (omega arith) (m.post.0, tt))
+
+  step-sim : (l : Bool) (step : OptionalExpr) → StepClaim w functions c d fit f step → (xs : List Datum) (o : Outputs) → IsSoundRun xs o → (s : Point) (q : State) →
+      Holds f normal (read_origin xs o) s.next s.carried q → MayJump s.carried.form l → Simulates w d (Stepped f normal) xs o s.next (step_made l step s) (optional_step c step q)
+  step-sim l no_expr k xs o r s q h j = sim-given w d (Stepped f normal) xs o s.next tt s q (omega arith) (h, tt)
+  step-sim false (some_expr e) k xs o r s q h j = expr-step e k xs o r s q h
+  step-sim true (some_expr e) k xs o r s q h j =
+      choice-sim w d f (λ (u : State). normal) (λ u. u) Nothing Nothing no_value xs o r s s.carried.go 0 (λ t. dropped (expr_made e t)) nothing (optional_step c (some_expr e) q) normal q
+      (no_value-gives xs o s.next) (jumps-of (read_origin xs o) s.next f.is_main normal s.carried.form s.carried.go s.carried.ret (jumping-form s.carried.form true j refl) h.jumps).0
+      (λ t. dropped_later t (expr_made e t) (expr_later e t)) later_here h (λ us n r' h'. expr-step e k us no_outputs r' (inside s.carried n) q h')
+
+  -- a step that is passed over
+  passed-sim : (flow : Flow) (n : ℕ) → code flow ≡ suc n → (step : OptionalExpr) (xs : List Datum) (o : Outputs) → IsSoundRun xs o → (s : Point) (q : State) →
+      Holds f flow (read_origin xs o) s.next s.carried q → s.carried.form ≡ jumping → Simulates w d (Stepped f flow) xs o s.next (step_made true step s) (Returned q [])
+  passed-sim flow n e no_expr xs o r s q h j = sim-given w d (Stepped f flow) xs o s.next tt s q (omega arith) (h, tt)
+  passed-sim flow n e (some_expr x) xs o r s q h j =
+      choice-sim w d f (λ (u : State). flow) (λ u. u) Nothing Nothing no_value xs o r s s.carried.go (suc n) (λ t. dropped (expr_made x t)) nothing (Returned q []) flow q
+      (no_value-gives xs o s.next) (subst (λ k. read_origin xs o s.carried.go ≡ val (Num k)) e (jumps-of (read_origin xs o) s.next f.is_main flow s.carried.form s.carried.go s.carried.ret j h.jumps).0)
+      (λ t. dropped_later t (expr_made x t) (expr_later x t)) later_here h
+      (λ us m r' h'. sim-given w d (Stepped f flow) us no_outputs m tt (inside s.carried m) q (omega arith) (h', tt))
+
+  -- ---- after the body
+
+  -- the turn goes on where `go` is 0
+  go-zero-sim : (flow : Flow) (again : Bool) → (one_if (code flow == 0) == 0) ≡ not again → (again ≡ true → flow ≡ normal) → (xs : List Datum) (o : Outputs) → IsSoundRun xs o → (s : Point) (q : State) →
+      Holds f flow (read_origin xs o) s.next s.carried q → s.carried.form ≡ jumping →
+      Simulates w d (Turns f) xs o s.next (is_zero_made s.carried.go s) (Returned (record { again = again; flow = flow; state = q }) [])
+  go-zero-sim flow again z e xs o r s q h j =
+      let g = jumps-of (read_origin xs o) s.next f.is_main flow s.carried.form s.carried.go s.carried.ret j h.jumps in
+      sim-goes w d (Line f flow q (Num (one_if (code flow == 0)))) (Turns f) xs o s.next (is_zero_made s.carried.go s) (Returned tt []) (λ _. record { again = again; flow = flow; state = q })
+      (λ y o' m. (m.post.0, (one_if (code flow == 0), held-is (read_origin xs o') _ (Num (one_if (code flow == 0))) _ tt m.post.1, z), e))
+      (is-zero-line w d f flow fit.sound xs o r s q h s.carried.go (code flow) g.0 g.1)
+
+  again-true-sim : (step : OptionalExpr) → StepClaim w functions c d fit f step → (flow : Flow) (xs : List Datum) (o : Outputs) → IsSoundRun xs o → (s : Point) (q : State) →
+      Holds f flow (read_origin xs o) s.next s.carried q → s.carried.form ≡ jumping → Simulates w d (Turns f) xs o s.next (again_made true step s) (stepped_turn c step flow q)
+  again-true-sim step k flow xs o r s q h j =
+      sim-bind w d fit.sound (Stepped f (resumed flow)) (Turns f) xs o s.next r first (λ _ t. bind (step_made true step t) (λ _ u. is_zero_made u.carried.go u)) (Returned q []) (stepped_turn c step flow)
+      (jump-ended-sim w functions c d fit f 2 flow (resumed flow) refl (resumed-code flow) (resumed-left f.is_main flow) xs o r s q h j) (λ y o' r' m. by flow y o' r' m.post.0)
+    where
+      first : Built (Unit {0})
+      first = jump_ended 2 s
+
+      form : first.after.carried.form ≡ jumping
+      form = (jump_ended_later 2 s).form ∙ j
+
+      second : Built (Unit {0})
+      second = step_made true step first.after
+
+      form' : second.after.carried.form ≡ jumping
+      form' = (step_later true step first.after).form ∙ form
+
+      goes : (y : State) (o' : Outputs) → IsSoundRun xs o' → Holds f normal (read_origin xs o') first.after.next first.after.carried y →
+          Simulates w d (Turns f) xs o' first.after.next (bind second (λ _ u. is_zero_made u.carried.go u)) (stepped_turn c step normal y)
+      goes y o' r' h' =
+          sim-bind w d fit.sound (Stepped f normal) (Turns f) xs o' first.after.next r' second (λ _ u. is_zero_made u.carried.go u) (optional_step c step y)
+          (λ u. Returned (record { again = true; flow = normal; state = u }) []) (step-sim true step k xs o' r' first.after y h' (subst (λ x. MayJump x true) (sym form) tt))
+          (λ u o'' r'' m. go-zero-sim normal true refl (λ e. refl) xs o'' r'' second.after u m.post.0 form')
+
+      leaves : (flow : Flow) (n : ℕ) → code flow ≡ suc n → (y : State) (o' : Outputs) → IsSoundRun xs o' → Holds f flow (read_origin xs o') first.after.next first.after.carried y →
+          Simulates w d (Turns f) xs o' first.after.next (bind second (λ _ u. is_zero_made u.carried.go u)) (Returned (record { again = false; flow = flow; state = y }) [])
+      leaves flow n e y o' r' h' =
+          sim-bind w d fit.sound (Stepped f flow) (Turns f) xs o' first.after.next r' second (λ _ u. is_zero_made u.carried.go u) (Returned y []) (λ u. Returned (record { again = false; flow = flow; state = u }) [])
+          (passed-sim flow n e step xs o' r' first.after y h' form)
+          (λ u o'' r'' m. go-zero-sim flow false (zero flow n e) (λ z. absurd cc) xs o'' r'' second.after u m.post.0 form')
+        where
+          zero : (flow : Flow) (n : ℕ) → code flow ≡ suc n → (one_if (code flow == 0) == 0) ≡ true
+          zero normal n e = absurd cc
+          zero broke n e = refl
+          zero continued n e = refl
+          zero (returned v) n e = refl
+
+      by : (flow : Flow) (y : State) (o' : Outputs) → IsSoundRun xs o' → Holds f (resumed flow) (read_origin xs o') first.after.next first.after.carried y →
+          Simulates w d (Turns f) xs o' first.after.next (bind second (λ _ u. is_zero_made u.carried.go u)) (stepped_turn c step flow y)
+      by normal y o' r' h' = goes y o' r' h'
+      by continued y o' r' h' = goes y o' r' h'
+      by broke y o' r' h' = leaves broke 0 refl y o' r' h'
+      by (returned v) y o' r' h' = leaves (returned v) 2 refl y o' r' h'
+
+  again-false-sim : (step : OptionalExpr) → StepClaim w functions c d fit f step → (xs : List Datum) (o : Outputs) → IsSoundRun xs o → (s : Point) (q : State) →
+      Holds f normal (read_origin xs o) s.next s.carried q → MayJump s.carried.form false → Simulates w d (Turns f) xs o s.next (again_made false step s) (stepped_turn c step normal q)
+  again-false-sim step k xs o r s q h j =
+      sim-bind w d fit.sound (Stepped f normal) (Turns f) xs o s.next r second (λ _ t. const_made 1 t) (optional_step c step q) (λ u. Returned (record { again = true; flow = normal; state = u }) [])
+      (step-sim false step k xs o r s q h j) (λ u o' r' m.
+      sim-goes w d (Line f normal u (Num 1)) (Turns f) xs o' second.after.next (const_made 1 second.after) (Returned tt []) (λ _. record { again = true; flow = normal; state = u })
+      (λ y o'' m'. (m'.post.0, (1, held-is (read_origin xs o'') _ (Num 1) _ tt m'.post.1, refl), λ e. refl)) (const-line w d f normal xs o' second.after u m.post.0 1))
+    where
+      second : Built (Unit {0})
+      second = step_made false step s
+
+  again-sim : (l : Bool) (step : OptionalExpr) → StepClaim w functions c d fit f step → (flow : Flow) → (l ≡ false → flow ≡ normal) → (xs : List Datum) (o : Outputs) → IsSoundRun xs o → (s : Point) (q : State) →
+      Holds f flow (read_origin xs o) s.next s.carried q → MayJump s.carried.form l → Simulates w d (Turns f) xs o s.next (again_made l step s) (stepped_turn c step flow q)
+  again-sim true step k flow n xs o r s q h j = again-true-sim step k flow xs o r s q h (jumping-form s.carried.form true j refl)
+  again-sim false step k flow n xs o r s q h j =
+      subst (λ x. Simulates w d (Turns f) xs o s.next (again_made false step s) (stepped_turn c step x q)) (sym (n refl))
+      (again-false-sim step k xs o r s q (subst (λ x. Holds f x (read_origin xs o) s.next s.carried q) (n refl) h) j)
