@@ -1,5 +1,5 @@
 -- What a source compiles to, why it is refused, and the outcome of one that is not compiled.
-use Rattle.std.specs.Prelude.{◌≡◌, ℕ, List, length, Option, Some, None}
+use Rattle.std.specs.Prelude.{◌≡◌, ◌⊎◌, ℕ, List, length, Option, Some, None}
 use Rattle.std.specs.Option.{ForSome}
 use Rattle.c_typed.specs.Typed.{ProgramTree}
 use Rattle.cc_compile.specs.Accepted.{Accepts, Refuses}
@@ -55,3 +55,7 @@ OneRefusal = (source : List ℕ) (r s : Refusal) → IsRefused source r → IsRe
 -- A source that is accepted has none.
 abbrev pub AcceptedIsNotRefused : Type 0
 AcceptedIsNotRefused = (source : List ℕ) (p : ProgramTree) (r : Refusal) → Accepts source p → IsRefused source r → ⊥
+
+-- A source is accepted, or it has one.
+abbrev pub AcceptedOrRefused : Type 0
+AcceptedOrRefused = (source : List ℕ) → ((p : ProgramTree) × Accepts source p) ⊎ ((r : Refusal) × IsRefused source r)

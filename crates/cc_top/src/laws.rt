@@ -1,6 +1,6 @@
 //! Laws of the definitions, each the contract of a function that does nothing.
 ghost use Rattle.cc_top.specs.Program.{ConstantExits};
-ghost use Rattle.cc_top.specs.Refused.{AcceptedIsNotRefused, OneRefusal};
+ghost use Rattle.cc_top.specs.Refused.{AcceptedIsNotRefused, AcceptedOrRefused, OneRefusal};
 
 /// The image of a constant exits with its low byte.
 pub fn constant_exits()
@@ -19,4 +19,12 @@ pub fn accepted_sources_are_not_refused()
     ensures { AcceptedIsNotRefused }
 {
     cc_compile::laws::accepted_is_not_refused();
+}
+
+/// A source is accepted, or it is refused.
+pub fn sources_are_accepted_or_refused()
+    ensures { AcceptedOrRefused }
+{
+    c_lex::laws::faults_are_first();
+    cc_compile::laws::accepted_or_refused();
 }
