@@ -1,9 +1,7 @@
 -- Common node elimination keeps meaning and what is well formed.
 use Rattle.std.specs.Prelude.{option_and_then, unwrap_or}
-use Rattle.std.proofs.Common.{◌≡◌, ℕ, ◌==◌, ◌⊎◌, Bool, true, false, cond, List, [], ◌∷◌, length, Option, None, Some, slice_get, refl, sym, ap, subst, subst₂, ◌∙◌, inl, inr, arith}
-use Rattle.std.proofs.lemmas.Option.{cond_some}
+use Rattle.std.proofs.Common.{◌≡◌, ℕ, ◌==◌, ◌⊎◌, Bool, true, false, cond, List, [], ◌∷◌, length, Option, None, Some, refl, sym, ap, subst, subst₂, ◌∙◌, inl, inr, arith}
 use Rattle.std.proofs.lemmas.Bool.Decides.{nat_tests}
-use Rattle.val_core.specs.Values.{IsSound}
 use Rattle.g_graph.specs.declared.op.Kind.{Kind}
 use Rattle.g_graph.specs.declared.op.Kind.TheVariants.{Value as ValueKind}
 use Rattle.g_graph.specs.declared.op.Op.{Op}
@@ -25,8 +23,8 @@ use Rattle.g_graph.proofs.lemmas.Nodes.{NodeFits, node_fits_here, KeptWithin}
 use Rattle.g_graph.proofs.lemmas.Numbers.{Numbered}
 use Rattle.g_graph.proofs.lemmas.Ops.{changed_ops}
 use Rattle.g_graph.proofs.lemmas.Unique.{times}
-use Rattle.g_mean.specs.Data.{Datum, val, value_of}
-use Rattle.g_mean.specs.Meaning.{Context, Outputs, read}
+use Rattle.g_mean.specs.Data.{Datum, value_of}
+use Rattle.g_mean.specs.Meaning.{Context, Outputs}
 use Rattle.g_mean.specs.LessDefined.{IsSoundDatum}
 use Rattle.g_mean.specs.Copies.{IsAmong, known_after}
 use Rattle.g_mean.specs.Holds.{HasRun, HaveRun}
@@ -34,7 +32,7 @@ use Rattle.g_mean.specs.Edits.{IsPartOf, KeepsMeaning}
 use Rattle.g_mean.specs.Replacement.{Replaces}
 use Rattle.g_mean.proofs.lemmas.Edits.{edits_replace}
 use Rattle.g_mean.proofs.lemmas.Exchange.{edits_keep_meaning}
-use Rattle.g_mean.proofs.lemmas.Instead.{GivesLessDefined, input-replaces}
+use Rattle.g_mean.proofs.lemmas.Instead.{input-replaces}
 use Rattle.g_mean.proofs.lemmas.Programs.{programs_keep_meaning}
 use Rattle.g_mean.proofs.lemmas.Replacement.{lambdas_keep_meaning}
 use Rattle.g_edit.specs.Lookup.{first_of}
@@ -76,11 +74,11 @@ earlier_among before id op inputs rs after m e =
 
 -- ---- what it gave
 
-have_run : (c : Context) (xs : List Datum) (o : Outputs) (before : NodeTrees) (y : NodeTree) (after : NodeTrees) → HaveRun c xs o (joined_nodes before (node_then y after)) → HasRun c xs o y
+pub have_run : (c : Context) (xs : List Datum) (o : Outputs) (before : NodeTrees) (y : NodeTree) (after : NodeTrees) → HaveRun c xs o (joined_nodes before (node_then y after)) → HasRun c xs o y
 have_run c xs o no_nodes y after h = h.0
 have_run c xs o (node_then x before) y after h = have_run c xs o before y after h.1
 
-known_node : (known : List ℕ) (before : NodeTrees) (y : NodeTree) (after : NodeTrees) → IsAmong (id_of y) (known_after known (joined_nodes before (node_then y after)))
+pub known_node : (known : List ℕ) (before : NodeTrees) (y : NodeTree) (after : NodeTrees) → IsAmong (id_of y) (known_after known (joined_nodes before (node_then y after)))
 known_node known no_nodes y after = stays (id_of y ∷ known) after (inl refl)
   where
     stays : (ks : List ℕ) (ns : NodeTrees) → IsAmong (id_of y) ks → IsAmong (id_of y) (known_after ks ns)
@@ -131,17 +129,17 @@ module _ (args : List Kind) (before : NodeTrees) (id : ℕ) (op : Op) (inputs : 
 -- ---- the change
 
 -- the node of a changed region and the earlier one
-record Changed (n : ℕ) (args : List Kind) (ns : NodeTrees) (results : List Origin) (s : RegionTree) : Type 0 where
-  before : NodeTrees
-  op : Op
-  inputs : List Origin
-  regions : RegionTrees
-  after : NodeTrees
-  is : ns ≡ joined_nodes before (node_then (node n op inputs regions) after)
-  first : ℕ
-  common : is_common op ≡ true
-  among : Among op inputs first before
-  gives : uses_replaced (Out n 0) (Out first 0) (region args ns results) ≡ Some s
+pub record Changed (n : ℕ) (args : List Kind) (ns : NodeTrees) (results : List Origin) (s : RegionTree) : Type 0 where
+  pub before : NodeTrees
+  pub op : Op
+  pub inputs : List Origin
+  pub regions : RegionTrees
+  pub after : NodeTrees
+  pub is : ns ≡ joined_nodes before (node_then (node n op inputs regions) after)
+  pub first : ℕ
+  pub common : is_common op ≡ true
+  pub among : Among op inputs first before
+  pub gives : uses_replaced (Out n 0) (Out first 0) (region args ns results) ≡ Some s
 
 changed_by : (n : ℕ) (args : List Kind) (ns : NodeTrees) (results : List Origin) (s : RegionTree) (x : NodeTree) → Found n ns x → (m : ℕ) → earlier ns x ≡ Some m →
     uses_replaced (Out n 0) (Out m 0) (region args ns results) ≡ Some s → Changed n args ns results s
@@ -162,7 +160,7 @@ changed_by n args ns results s (node id op inputs rs) found m e d =
       gives = d;
     }
 
-changed_at : (n : ℕ) (args : List Kind) (ns : NodeTrees) (results : List Origin) (s : RegionTree) → cne_here n (region args ns results) ≡ Some s → Changed n args ns results s
+pub changed_at : (n : ℕ) (args : List Kind) (ns : NodeTrees) (results : List Origin) (s : RegionTree) → cne_here n (region args ns results) ≡ Some s → Changed n args ns results s
 changed_at n args ns results s e = by_node (node_at n ns) refl e
   where
     by_other : (x : NodeTree) → node_at n ns ≡ Some x → (other : Option ℕ) → earlier ns x ≡ other →

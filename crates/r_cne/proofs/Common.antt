@@ -5,7 +5,7 @@ use Rattle.val_core.specs.declared.values.Value.TheVariants.{Num}
 use Rattle.val_core.specs.Values.{value1, value2}
 use Rattle.val_core.specs.Memory.{Memory, load as load_from, pointers_equal}
 use Rattle.val_core.specs.Events.{Event}
-use Rattle.val_core.specs.Answers.{Answer, Returned, on_defined}
+use Rattle.val_core.specs.Answers.{Returned, on_defined}
 use Rattle.g_graph.specs.declared.op.Kind.TheVariants.{Value as ValueKind}
 use Rattle.g_graph.specs.declared.op.Op.{Op}
 use Rattle.g_graph.specs.declared.op.Op.TheVariants.{Const, Undef, Local, Delta, Bin, Un, Load, Store, Clear, PtrEq, Apply, Put, Exit, Get, Gamma, Theta}
@@ -83,7 +83,7 @@ pub record GivesItsValue (c : Context) (xs : List Datum) (o : Outputs) (op : Op)
   pub output : o n 0 ≡ val value
   pub run : (id : ℕ) (rs : RegionTrees) → node_run c (node id op inputs rs) xs o ≡ Returned (val value ∷ []) []
 
-given_results : (ys zs : List Datum) (p q : List Event) → Returned ys p ≡ Returned zs q → ys ≡ zs
+pub given_results : (ys zs : List Datum) (p q : List Event) → Returned ys p ≡ Returned zs q → ys ≡ zs
 given_results ys zs p q e = cc
 
 pub ran_gives : (c : Context) (xs : List Datum) (o : Outputs) (n : ℕ) (op : Op) (inputs : List Origin) (rs : RegionTrees) → is_common op ≡ true → HasRun c xs o (node n op inputs rs) →

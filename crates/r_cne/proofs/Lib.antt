@@ -1,3 +1,4 @@
 mod Common
 mod Cne
+mod Same
 mod Examples

@@ -2,9 +2,16 @@
 use Rattle.std.specs.Prelude.{◌≡◌, ℕ, List, Some, slice_get}
 use Rattle.g_graph.specs.Plain.{RegionTree, PlainLambda}
 use Rattle.g_graph.specs.WellFormed.{IsWellFormed}
+use Rattle.g_mean.specs.Data.{Datum}
+use Rattle.g_mean.specs.Meaning.{Context, region_meaning}
 use Rattle.g_mean.specs.Edits.{AreEditedAt, IsPartOf, KeepsComplete}
 use Rattle.g_mean.specs.Replacement.{Replaces, FunctionsKeepMeaning, ProgramKeepsMeaning}
 use Rattle.r_cne.specs.Rule.{cne_here, cne}
+
+-- A changed region of a well-formed lambda gives the very same answers, whatever stands around it.
+abbrev pub CneMeansTheSame : Type 0
+CneMeansTheSame =
+    (l : PlainLambda) (n : ℕ) (r s : RegionTree) → IsPartOf l r → cne_here n r ≡ Some s → (c : Context) (xs : List Datum) → region_meaning c s xs ≡ region_meaning c r xs
 
 -- a changed region of a well-formed lambda may replace the old one, in any lambdas
 abbrev pub CneReplaces : Type 0

@@ -1,10 +1,12 @@
 //! Common node elimination keeps meaning.
 
-ghost use Rattle.r_cne.specs.Laws.{CneReplaces, CneKeepsLambdas, CneKeepsPrograms, CneKeepsLists};
+ghost use Rattle.r_cne.specs.Laws.{CneMeansTheSame, CneReplaces, CneKeepsLambdas, CneKeepsPrograms, CneKeepsLists};
 
-/// A changed region of a well-formed lambda may replace the old one.
+/// A changed region of a well-formed lambda gives the very same answers at every bound, and may
+/// replace the old one.
 pub fn cne_replaces()
-    ensures { CneReplaces }
+    ensures same { CneMeansTheSame }
+    ensures replaces { CneReplaces }
 {}
 
 /// The rule at a node of a well-formed lambda keeps the meaning of every function, and of the

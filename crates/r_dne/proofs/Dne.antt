@@ -1,10 +1,10 @@
 -- Dead node elimination keeps meaning and what is well formed.
 use Rattle.std.specs.Prelude.{option_and_then, unwrap_or}
-use Rattle.std.proofs.Common.{◌≡◌, ◌≤◌, ℕ, ◌==◌, Bool, true, false, not, ◌&&◌, ◌||◌, cond, List, [], ◌∷◌, map, length, Option, None, Some, refl, sym, ap, subst, subst₂, ◌∙◌, arith}
-use Rattle.std.proofs.lemmas.Bool.{and_parts, or_parts}
+use Rattle.std.proofs.Common.{◌≡◌, ℕ, Bool, true, false, not, ◌&&◌, ◌||◌, cond, List, map, length, Option, None, Some, refl, sym, ap, subst, subst₂, ◌∙◌, arith}
+use Rattle.std.proofs.lemmas.Bool.{or_parts}
 use Rattle.std.proofs.lemmas.Option.{same_Some}
 use Rattle.g_graph.specs.declared.op.Kind.{Kind}
-use Rattle.g_graph.specs.declared.op.Kind.TheVariants.{Value, Memory, Io}
+use Rattle.g_graph.specs.declared.op.Kind.TheVariants.{Memory, Io}
 use Rattle.g_graph.specs.declared.op.Op.{Op}
 use Rattle.g_graph.specs.declared.op.Op.TheVariants.{Const, Undef, Local, Delta, Bin, Un, Load, Store, Clear, PtrEq, Apply, Put, Exit, Get, Gamma, Theta}
 use Rattle.g_graph.specs.declared.op.Origin.{Origin}
@@ -39,7 +39,6 @@ use Rattle.g_edit.specs.Removal.{region_without}
 use Rattle.g_edit.specs.Exits.{regions_giving, node_giving, output_after, exits_kept}
 use Rattle.g_edit.specs.Entries.{entries_kept}
 use Rattle.g_edit.specs.Variables.{variables_kept}
-use Rattle.g_edit.proofs.lemmas.Entries.{taking_joined}
 use Rattle.g_edit.proofs.lemmas.EntriesFit.{entries_kept_fit, entries_kept_ops}
 use Rattle.g_edit.proofs.lemmas.Exits.{giving_joined}
 use Rattle.g_edit.proofs.lemmas.ExitsFit.{exits_kept_fit, exits_kept_ops}
@@ -48,7 +47,7 @@ use Rattle.g_edit.proofs.lemmas.Removal.{unread_nodes_go, without_kept, without_
 use Rattle.g_edit.proofs.lemmas.Shrunk.{unread_exits_and_entries_go}
 use Rattle.g_edit.proofs.lemmas.Variables.{unread_variables_go}
 use Rattle.g_edit.proofs.lemmas.VariablesFit.{variables_kept_fit, variables_kept_ops}
-use Rattle.r_dne.specs.Rule.{gives_state, is_dead, all_stay, exits_of, entries_of, gamma_shrunk, variables_of, theta_shrunk, shrunk, eliminated, dne_here, dne}
+use Rattle.r_dne.specs.Rule.{gives_state, is_dead, all_stay, exits_of, entries_of, variables_of, shrunk, eliminated, dne_here, dne}
 use Rattle.r_dne.specs.Laws.{DneReplaces, DneKeepsLambdas, DneKeepsPrograms, DneKeeps}
 use Rattle.r_dne.proofs.Unused.{exits_are_values, exits_unread, entries_unread, variables_are_values, variables_unread, loop_unread}
 

@@ -59,6 +59,26 @@ all_used = refl
 state_exit : dne_here 0 (choice (Arg 0) (Arg 1 ∷ []) (region (Memory ∷ []) (nodes_of []) (Arg 0 ∷ []) ∷ []) (Arg 0 ∷ Arg 1 ∷ Arg 2 ∷ [])) ≡ None
 state_exit = refl
 
+-- One of four values is used, which each region makes itself.
+abbrev wide : List Kind
+wide = ValueKind ∷ ValueKind ∷ ValueKind ∷ ValueKind ∷ Memory ∷ Io ∷ []
+
+abbrev read_and_choose : NodeTree → List Origin → RegionTree
+read_and_choose x results =
+    region (Memory ∷ Io ∷ []) (nodes_of (plain 0 Get (Arg 1 ∷ []) ∷ plain 1 (Const 1) [] ∷ plain 2 (Const 2) [] ∷ plain 3 (Const 3) [] ∷ x ∷ [])) results
+
+most_go : dne_here 4 (read_and_choose
+    (node 4 Gamma (Out 0 0 ∷ Out 0 0 ∷ Out 1 0 ∷ Out 2 0 ∷ Out 3 0 ∷ Arg 0 ∷ Out 0 1 ∷ []) (regions_of
+    (region wide (nodes_of (plain 7 (Const 7) [] ∷ [])) (Arg 0 ∷ Arg 1 ∷ Out 7 0 ∷ Arg 3 ∷ Arg 4 ∷ Arg 5 ∷ [])
+    ∷ region wide (nodes_of (plain 5 (Const 5) [] ∷ plain 6 (Const 6) [] ∷ [])) (Arg 0 ∷ Out 5 0 ∷ Out 6 0 ∷ Arg 3 ∷ Arg 4 ∷ Arg 5 ∷ []) ∷ [])))
+    (Out 4 2 ∷ Out 4 4 ∷ Out 4 5 ∷ []))
+    ≡ Some (read_and_choose
+    (node 4 Gamma (Out 0 0 ∷ Arg 0 ∷ Out 0 1 ∷ []) (regions_of
+    (region (Memory ∷ Io ∷ []) (nodes_of (plain 7 (Const 7) [] ∷ [])) (Out 7 0 ∷ Arg 0 ∷ Arg 1 ∷ [])
+    ∷ region (Memory ∷ Io ∷ []) (nodes_of (plain 5 (Const 5) [] ∷ plain 6 (Const 6) [] ∷ [])) (Out 6 0 ∷ Arg 0 ∷ Arg 1 ∷ []) ∷ [])))
+    (Out 4 0 ∷ Out 4 1 ∷ Out 4 2 ∷ []))
+most_go = refl
+
 -- ---- a Theta with two values
 
 abbrev loop : List Kind → List Origin → List NodeTree → List Origin → List Origin → RegionTree
