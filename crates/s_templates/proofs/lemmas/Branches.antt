@@ -13,8 +13,8 @@ use Rattle.s_templates.specs.Steps.{Steps, Arrives}
 use Rattle.s_templates.specs.Branches.{OffsetLeads, JumpIsDone, BranchNotZeroIsDone, BranchZeroIsDone, BranchEqualIsDone}
 use Rattle.s_templates.proofs.lemmas.Stands.{code_is_cut}
 use Rattle.s_templates.proofs.lemmas.Registers.{steps-then, step-to, look-at, code-le, immediate-loads}
-use Rattle.s_templates.proofs.lemmas.Locations.{register-above, location-fits, held-same}
-use Rattle.s_templates.proofs.lemmas.Templates.{IsKept, kept-apart, in-apart, loads}
+use Rattle.s_templates.proofs.lemmas.Locations.{IsKept, kept-apart, register-is-place, location-fits, held-same}
+use Rattle.s_templates.proofs.lemmas.Templates.{in-apart, loads}
 
 pub offset_leads : OffsetLeads
 offset_leads from to low high = omega (arith, low, high)
@@ -49,11 +49,11 @@ module _ (text : Text) where
       pc = refl;
       shows = record {
         stack = regs sp (inl refl) ∙ rep.stack;
-        base = regs s0 (inr (omega arith)) ∙ rep.base;
+        base = regs s0 (inr (inl refl)) ∙ rep.base;
         places = λ p within.
             subst (Shows f.bases (q.names p))
-            (sym (held-same f (location_of p) (location-fits f p within) s.regs u.regs s.mem u.mem (λ r high. regs r (inr (omega (arith, high)))) mem)) (rep.places p within);
-        saved = λ p above low. (let high = register-above p in regs (place_register p) (inr (omega (arith, high)))) ∙ rep.saved p above low;
+            (sym (held-same f (location_of p) (location-fits f p within) s.regs u.regs s.mem u.mem (λ r place. regs r (inr (inr place))) mem)) (rep.places p within);
+        saved = λ p above low. regs (place_register p) (inr (inr (register-is-place p low))) ∙ rep.saved p above low;
         above = λ n from out. ap (λ m. m n) mem ∙ rep.above n from out;
         memory = subst (λ m. ShowsMemory text.flags f.bases q.memory m) (sym mem) rep.memory;
         apart = rep.apart;

@@ -20,11 +20,11 @@ use Rattle.s_templates.specs.Steps.{Steps, Arrives}
 use Rattle.s_templates.specs.Memories.{ClearIsDone}
 use Rattle.s_templates.proofs.lemmas.Stands.{code_is_cut}
 use Rattle.s_templates.proofs.lemmas.Registers.{Computes, steps-then, step-to, look-at, code-le, first-computes, code-after, immediate-loads}
+use Rattle.s_templates.proofs.lemmas.Locations.{IsKept, kept-apart}
 use Rattle.s_templates.proofs.lemmas.Operands.{stored, store-acts}
 use Rattle.s_templates.proofs.lemmas.Blocks.{leaf-of-value, value-there, leaf-there}
 use Rattle.s_templates.proofs.lemmas.Stores.{SameBlocks, same-back, fellow, leaf-same, laid-same, same-some}
 use Rattle.s_templates.proofs.lemmas.Represented.{memory-written}
-use Rattle.s_templates.proofs.lemmas.Templates.{IsKept, kept-apart}
 
 beside : (n at width : ℕ) → (at ≤ n → n < at + width → ⊥) → (n < at) ⊎ (at + width ≤ n)
 beside n at width never =

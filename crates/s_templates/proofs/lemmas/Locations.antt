@@ -1,6 +1,7 @@
 -- Where places are: registers that templates keep, or words of the frame, each apart from the others.
 use Rattle.std.proofs.Common.{◌≡◌, ◌≢◌, ◌⊎◌, ℕ, ◌+◌, ◌-◌, ◌*◌, ◌%◌, ◌<◌, ◌≤◌, ◌==◌, nat_lt, Bool, true, false, cond, refl, sym, ap, subst, ◌∙◌, arith, inl, inr, eqb-true}
 use Rattle.std.proofs.lemmas.Bool.{cases_lt, lt-ltb, le-ltb, eqb-false}
+use Rattle.rv_isa.specs.Registers.{sp, s0}
 use Rattle.rv_machine.specs.Memory.{Bytes, load_bytes}
 use Rattle.s_linear.specs.Frame.{registers}
 use Rattle.s_select.specs.declared.location.Location.{Location}
@@ -8,9 +9,27 @@ use Rattle.s_select.specs.declared.location.Location.TheVariants.{Register, Near
 use Rattle.s_select.specs.Operands.{place_register, word_at, location_of}
 use Rattle.s_templates.specs.Relation.{held, Frame, words_end}
 
--- a register that is no temporary, or a word that is a place
+-- s1 to s11, the registers of places
+abbrev pub IsPlaceRegister : ℕ → Type 0
+IsPlaceRegister r = (r ≡ 9) ⊎ ((17 < r) × (r < 28))
+
+-- what a call leaves: the stack pointer, the stack's base and the registers of places
+abbrev pub IsKept : ℕ → Type 0
+IsKept r = (r ≡ sp) ⊎ (r ≡ s0) ⊎ IsPlaceRegister r
+
+pub place-above : (r : ℕ) → IsPlaceRegister r → 8 < r
+place-above r (inl e) = omega (arith, e)
+place-above r (inr h) = let high = h.0 in omega (arith, high)
+
+-- a temporary register is none of them
+pub kept-apart : (r n : ℕ) → IsKept r → 2 < n → n < 8 → r ≢ n
+kept-apart r n (inl e) low high same = absurd (omega (arith, e, same, low))
+kept-apart r n (inr (inl e)) low high same = absurd (omega (arith, e, same, high))
+kept-apart r n (inr (inr h)) low high same = let above = place-above r h in absurd (omega (arith, above, same, high))
+
+-- the register of a place, or a word that is a place
 abbrev pub LocationFits : Frame → Location → Type 0
-LocationFits f (Register r) = 8 < r
+LocationFits f (Register r) = IsPlaceRegister r
 LocationFits f (Near offset) = (offset % 4 ≡ 0) × (f.sp + offset + 4 ≤ words_end f)
 LocationFits f (Far offset) = (offset % 4 ≡ 0) × (f.sp + offset + 4 ≤ words_end f)
 
@@ -26,19 +45,19 @@ IsOtherAddress f (Far offset) a = (a < f.sp + offset) ⊎ (f.sp + offset + 4 ≤
 
 -- ---- place registers
 
-pub register-above : (p : ℕ) → 8 < place_register p
-register-above p = by (p == 0)
-  where
-    by : (test : Bool) → 8 < cond test 9 (p + 17)
-    by true = omega arith
-    by false = omega arith
-
 register-is : (p : ℕ) → ((p ≡ 0) × (place_register p ≡ 9)) ⊎ ((0 < p) × (place_register p ≡ p + 17))
 register-is p = by (p == 0) refl
   where
     by : (test : Bool) → (p == 0) ≡ test → ((p ≡ 0) × (cond test 9 (p + 17) ≡ 9)) ⊎ ((0 < p) × (cond test 9 (p + 17) ≡ p + 17))
     by true e = inl (eqb-true p 0 e, refl)
     by false e = let ne = eqb-false p 0 e in inr (omega (arith, ne), refl)
+
+pub register-is-place : (p : ℕ) → p < registers → IsPlaceRegister (place_register p)
+register-is-place p low = by (register-is p)
+  where
+    by : ((p ≡ 0) × (place_register p ≡ 9)) ⊎ ((0 < p) × (place_register p ≡ p + 17)) → IsPlaceRegister (place_register p)
+    by (inl h) = inl h.1
+    by (inr h) = let above = h.0 in let is = h.1 in inr (omega (arith, above, is), omega (arith, low, is))
 
 pub registers-apart : (p t : ℕ) → p ≢ t → place_register p ≢ place_register t
 registers-apart p t ne same = by (register-is p) (register-is t)
@@ -64,7 +83,7 @@ at-word p high = rw (le-ltb p 11 high) refl
 pub location-fits : (f : Frame) (p : ℕ) → p < f.places → LocationFits f (location_of p)
 location-fits f p below =
     elim (cases_lt p 11) [
-      | inl low ↦ subst (LocationFits f) (sym (at-register p low)) (register-above p)
+      | inl low ↦ subst (LocationFits f) (sym (at-register p low)) (register-is-place p low)
       | inr high ↦ subst (LocationFits f) (sym (at-word p high)) (word high (nat_lt (4 * (p - 11)) 2048))
     ]
   where
@@ -78,7 +97,7 @@ held-word sp regs mem offset true = refl
 held-word sp regs mem offset false = refl
 
 -- A location is left where its register and its word are.
-pub held-same : (f : Frame) (l : Location) → LocationFits f l → (regs regs' : ℕ → ℕ) (mem mem' : Bytes) → ((r : ℕ) → 8 < r → regs' r ≡ regs r) → mem' ≡ mem
+pub held-same : (f : Frame) (l : Location) → LocationFits f l → (regs regs' : ℕ → ℕ) (mem mem' : Bytes) → ((r : ℕ) → IsPlaceRegister r → regs' r ≡ regs r) → mem' ≡ mem
     → held f.sp regs' mem' l ≡ held f.sp regs mem l
 held-same f (Register r) fits regs regs' mem mem' same kept = same r fits
 held-same f (Near offset) fits regs regs' mem mem' same kept = ap (λ m. load_bytes m (f.sp + offset) 4) kept

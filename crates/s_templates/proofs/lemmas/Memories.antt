@@ -18,11 +18,11 @@ use Rattle.s_templates.specs.Standing.{CodeStands}
 use Rattle.s_templates.specs.Relation.{Shows, ShowsMemory}
 use Rattle.s_templates.specs.Memories.{LoadIsDone, StoreIsDone}
 use Rattle.s_templates.proofs.lemmas.Registers.{steps-then, step-to, look-at, one-computes}
-use Rattle.s_templates.proofs.lemmas.Locations.{location-fits, held-same}
+use Rattle.s_templates.proofs.lemmas.Locations.{kept-apart, location-fits, held-same}
 use Rattle.s_templates.proofs.lemmas.Blocks.{value-there, address-there, leaf-there}
 use Rattle.s_templates.proofs.lemmas.Stores.{same-blocks, stored-there, store-shown}
 use Rattle.s_templates.proofs.lemmas.Represented.{place-written, memory-written}
-use Rattle.s_templates.proofs.lemmas.Templates.{kept-apart, in-apart, out-apart, made, loads, finishes, writes-after}
+use Rattle.s_templates.proofs.lemmas.Templates.{in-apart, out-apart, made, loads, finishes, writes-after}
 
 -- ---- accesses of each width
 
@@ -151,7 +151,7 @@ store_is_done after-store elsewhere keeps text f q s words rep width a v m ina i
     let whole = subst (λ c. CodeStands text s.pc c b) (append_assoc (load_in t0 la) (load_in t1 lv) (instr ∷ [])) there in
     let one = loads text f words s b 5 la (q.names a) (load_in t1 lv ++ instr ∷ []) rep.has_text rep.stack fitsa whole low (omega arith) (omega arith) (rep.places a ina) in
     let u = one.operand.state in
-    let still = held-same f lv fitsv s.regs u.regs s.mem u.mem (λ r high. one.operand.others r (λ e. omega (arith, high, e)) (λ e. omega (arith, high, e))) one.operand.mem in
+    let still = held-same f lv fitsv s.regs u.regs s.mem u.mem (λ r place. one.operand.others r (kept-apart r 5 (inr (inr place)) (omega arith) (omega arith)) (kept-apart r 7 (inr (inr place)) (omega arith) (omega arith))) one.operand.mem in
     let two = loads text f words u b 6 lv (q.names v) (instr ∷ []) one.has one.stack fitsv one.code low (omega arith) (omega arith) (subst (Shows f.bases (q.names v)) (sym still) (rep.places v inv)) in
     let w = two.operand.state in
     let first : w.regs (in_of la t0) ≡ one.word =

@@ -18,7 +18,7 @@ use Rattle.s_templates.specs.Standing.{Text, HasText, CodeStands}
 use Rattle.s_templates.specs.Relation.{Bases, Shows, held, Frame, words_end, HasWords}
 use Rattle.s_templates.specs.Steps.{Steps}
 use Rattle.s_templates.proofs.lemmas.Registers.{steps-none, steps-then, step-to, look-at, Computes, computes-then, code-after, text-after, one-computes, two-compute}
-use Rattle.s_templates.proofs.lemmas.Locations.{LocationFits, IsOtherRegister, IsOtherAddress}
+use Rattle.s_templates.proofs.lemmas.Locations.{IsKept, place-above, kept-apart, LocationFits, IsOtherRegister, IsOtherAddress}
 
 -- what a word shows, the word modulo 2^32 does
 pub shows-word : (bases : Bases) (v : Value) (x : ℕ) → Shows bases v x → Shows bases v (x % 2 ^ 32)
@@ -63,7 +63,7 @@ pub record Writes (text : Text) (f : Frame) (s : State) (b : ℕ) (l : Location)
   pub steps : Steps text.flags s state
   pub pc : state.pc ≡ b
   pub shows : Shows f.bases v (held f.sp state.regs state.mem l)
-  pub registers : (r : ℕ) → (r ≡ sp) ⊎ (8 ≤ r) → IsOtherRegister l r → state.regs r ≡ s.regs r
+  pub registers : (r : ℕ) → IsKept r → IsOtherRegister l r → state.regs r ≡ s.regs r
   pub memory : (a : ℕ) → IsOtherAddress f l a → state.mem a ≡ s.mem a
 
 -- An operand is in a register, and nothing else has changed but the register that it was loaded to and t2.
@@ -104,7 +104,7 @@ module _ (text : Text) (f : Frame) (words : HasWords text f) where
       → rd ≢ 0 → Shows f.bases v (held f.sp s.regs s.mem l) → (x : ℕ) × Shows f.bases v x × Computes text s b rd x
   unfolding act
   get-done s b rd (Register r) v has stack fits code low ne shows =
-      let above : 8 < r = fits in (
+      let above = place-above r fits in (
         s.regs r % 2 ^ 32,
         shows-word f.bases v (s.regs r) shows,
         one-computes text s b (Addi rd r 0) rd (s.regs r % 2 ^ 32) has code low ne
@@ -168,7 +168,7 @@ module _ (text : Text) (f : Frame) (words : HasWords text f) where
       → rs ≢ 0 → rs ≢ t2 → s.regs rs ≡ x → Shows f.bases v x → Writes text f s b l v
   unfolding act
   put-done s b rs x (Register r) v has stack fits code low ne far is shows =
-      let above : 8 < r = fits in
+      let above = place-above r fits in
       let one = one-computes text s b (Addi r rs 0) r (x % 2 ^ 32) has code low (omega (arith, above))
       (ap (λ n. next (give s r n)) (ap (λ n. (n + 0) % 2 ^ 32) (look-at s.regs rs ne ∙ is) ∙ (let e : (x + 0) % 2 ^ 32 ≡ x % 2 ^ 32 = omega arith in e))) in
       record {
@@ -180,9 +180,8 @@ module _ (text : Text) (f : Frame) (words : HasWords text f) where
         memory = λ a other. ap (λ m. m a) one.mem;
       }
     where
-      kept : (q : ℕ) → (q ≡ sp) ⊎ (8 ≤ q) → q ≢ t2
-      kept q (inl e) same = absurd (omega (arith, e, same))
-      kept q (inr e) same = absurd (omega (arith, e, same))
+      kept : (q : ℕ) → IsKept q → q ≢ t2
+      kept q side = kept-apart q t2 side (omega arith) (omega arith)
   put-done s b rs x (Near o) v has stack fits code low ne far is shows =
       let end = code.1 in
       record {
@@ -219,9 +218,8 @@ module _ (text : Text) (f : Frame) (words : HasWords text f) where
         memory = λ a other. left-elsewhere one.state o x a other ∙ ap (λ n. n a) one.mem;
       }
     where
-      kept : (q : ℕ) → (q ≡ sp) ⊎ (8 ≤ q) → q ≢ t2
-      kept q (inl e) same = absurd (omega (arith, e, same))
-      kept q (inr e) same = absurd (omega (arith, e, same))
+      kept : (q : ℕ) → IsKept q → q ≢ t2
+      kept q side = kept-apart q t2 side (omega arith) (omega arith)
 
   -- a result that is in the register of its location, or in t0
   pub result-stored : (s : State) (b x : ℕ) (l : Location) (v : Value) → HasText text s.mem → s.regs sp ≡ f.sp → LocationFits f l → CodeStands text s.pc (store_out l) b → b < 2 ^ 32

@@ -17,7 +17,7 @@ use Rattle.s_templates.specs.Relation.{Shows, IsOutside, ShowsMemory, held, Fram
 use Rattle.s_templates.specs.Steps.{Arrives}
 use Rattle.s_templates.proofs.lemmas.Blocks.{memory-same}
 use Rattle.s_templates.proofs.lemmas.Stores.{SameBlocks, same-back, live-same}
-use Rattle.s_templates.proofs.lemmas.Locations.{LocationFits, IsOtherRegister, register-above, location-fits, other-register, other-addresses, held-at-register, held-at-word, outside-words}
+use Rattle.s_templates.proofs.lemmas.Locations.{LocationFits, IsOtherRegister, IsKept, place-above, register-is-place, location-fits, other-register, other-addresses, held-at-register, held-at-word, outside-words}
 use Rattle.s_templates.proofs.lemmas.Operands.{Writes}
 
 module _ (text : Text) (f : Frame) (words : HasWords text f) where
@@ -41,7 +41,7 @@ module _ (text : Text) (f : Frame) (words : HasWords text f) where
     pc = w.pc;
     shows = record {
       stack = kept sp (inl refl) (high-register sp (omega arith)) ∙ rep.stack;
-      base = kept s0 (inr (omega arith)) (high-register s0 (omega arith)) ∙ rep.base;
+      base = kept s0 (inr (inl refl)) (high-register s0 (omega arith)) ∙ rep.base;
       places = place;
       saved = λ p above low. register p low (apart p above) ∙ rep.saved p above low;
       above = λ a from out. w.memory a (outside-words f t a below (inr from)) ∙ rep.above a from out;
@@ -53,14 +53,14 @@ module _ (text : Text) (f : Frame) (words : HasWords text f) where
     };
   }
     where
-      kept : (r : ℕ) → (r ≡ sp) ⊎ (8 ≤ r) → IsOtherRegister (location_of t) r → w.state.regs r ≡ s.regs r
+      kept : (r : ℕ) → IsKept r → IsOtherRegister (location_of t) r → w.state.regs r ≡ s.regs r
       kept r side other = w.registers r side other
 
       high-register : (r : ℕ) → r ≤ 8 → IsOtherRegister (location_of t) r
       high-register r low = other (location_of t) (location-fits f t below)
         where
           other : (l : Location) → LocationFits f l → IsOtherRegister l r
-          other (Register n) fits = λ same. (let e : r ≡ n = same in let high : 8 < n = fits in omega (arith, e, high, low))
+          other (Register n) fits = λ same. (let e : r ≡ n = same in let high = place-above n fits in omega (arith, e, high, low))
           other (Near o) fits = tt
           other (Far o) fits = tt
 
@@ -69,8 +69,7 @@ module _ (text : Text) (f : Frame) (words : HasWords text f) where
 
       register : (p : ℕ) → p < registers → p ≢ t → w.state.regs (place_register p) ≡ s.regs (place_register p)
       register p low ne =
-          let high = register-above p in
-          kept (place_register p) (inr (omega (arith, high))) (other-register p t ne low)
+          kept (place_register p) (inr (inr (register-is-place p low))) (other-register p t ne low)
 
       same-held : (p : ℕ) → p ≢ t → held f.sp w.state.regs w.state.mem (location_of p) ≡ held f.sp s.regs s.mem (location_of p)
       same-held p ne =
@@ -94,14 +93,14 @@ module _ (text : Text) (f : Frame) (words : HasWords text f) where
           ]
 
   -- memory that is written in blocks that live, and holds other values
-  pub memory-written : (q : linear.State) (s u : machine.State) (m : Memory) → Represents text f q s → SameBlocks q.memory m → ((r : ℕ) → (r ≡ sp) ⊎ (8 ≤ r) → u.regs r ≡ s.regs r)
+  pub memory-written : (q : linear.State) (s u : machine.State) (m : Memory) → Represents text f q s → SameBlocks q.memory m → ((r : ℕ) → IsKept r → u.regs r ≡ s.regs r)
       → ((a : ℕ) → IsOutside f.bases q.memory a → u.mem a ≡ s.mem a) → ((a : ℕ) → has_flag (text.flags a) to_write ≡ false → u.mem a ≡ s.mem a)
       → ShowsMemory text.flags f.bases m u.mem → Represents text f (record { names = q.names; memory = m; input = q.input }) u
   memory-written q s u m rep same regs elsewhere fixed shows = record {
     stack = regs sp (inl refl) ∙ rep.stack;
-    base = regs s0 (inr (omega arith)) ∙ rep.base;
+    base = regs s0 (inr (inl refl)) ∙ rep.base;
     places = λ p within. subst (Shows f.bases (q.names p)) (sym (same-held p within)) (rep.places p within);
-    saved = λ p above low. (let high = register-above p in regs (place_register p) (inr (omega (arith, high)))) ∙ rep.saved p above low;
+    saved = λ p above low. regs (place_register p) (inr (inr (register-is-place p low))) ∙ rep.saved p above low;
     above = λ a from out. elsewhere a (before a out) ∙ rep.above a from (before a out);
     memory = shows;
     apart = λ a from to live. rep.apart a from to (live-same f.bases m q.memory (same-back q.memory m same) a live);
@@ -115,7 +114,7 @@ module _ (text : Text) (f : Frame) (words : HasWords text f) where
       same-held p within =
           elim (cases_lt p 11) [
             | inl low ↦
-                held-at-register f p u.regs u.mem low ∙ (let high = register-above p in regs (place_register p) (inr (omega (arith, high)))) ∙ sym (held-at-register f p s.regs s.mem low)
+                held-at-register f p u.regs u.mem low ∙ regs (place_register p) (inr (inr (register-is-place p low))) ∙ sym (held-at-register f p s.regs s.mem low)
             | inr high ↦
                 held-at-word f p u.regs u.mem high
                 ∙ load-agrees s.mem u.mem (f.sp + 4 * (p - 11)) 4

@@ -16,10 +16,10 @@ use Rattle.s_templates.specs.Relation.{Frame}
 use Rattle.s_templates.specs.Rows.{ConstIsDone, UndefIsDone, ObjectAddressIsDone, GlobalAddressIsDone, BinaryIsDone, UnaryIsDone, MoveIsDone}
 use Rattle.s_templates.proofs.lemmas.Stands.{code_is_cut}
 use Rattle.s_templates.proofs.lemmas.Registers.{steps-none, steps-then, code-le, one-computes, address-loads, immediate-loads}
-use Rattle.s_templates.proofs.lemmas.Locations.{location-fits}
+use Rattle.s_templates.proofs.lemmas.Locations.{kept-apart, location-fits}
 use Rattle.s_templates.proofs.lemmas.Values.{shows1, shows2}
 use Rattle.s_templates.proofs.lemmas.Represented.{place-written}
-use Rattle.s_templates.proofs.lemmas.Templates.{kept-apart, out-apart, Makes, made, binary-computes, unary-computes, finishes, one-writes, two-write, move-writes}
+use Rattle.s_templates.proofs.lemmas.Templates.{out-apart, Makes, made, binary-computes, unary-computes, finishes, one-writes, two-write, move-writes}
 
 pub const_is_done : ConstIsDone
 const_is_done text f q s words rep t w below fits b there low =

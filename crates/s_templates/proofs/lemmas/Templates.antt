@@ -21,21 +21,13 @@ use Rattle.s_templates.specs.Relation.{Shows, held, Frame, HasWords}
 use Rattle.s_templates.specs.Steps.{Steps}
 use Rattle.s_templates.proofs.lemmas.Stands.{code_is_cut}
 use Rattle.s_templates.proofs.lemmas.Registers.{steps-then, look-at, Computes, code-le, one-computes, two-compute}
-use Rattle.s_templates.proofs.lemmas.Locations.{LocationFits, IsOtherRegister, held-same}
+use Rattle.s_templates.proofs.lemmas.Locations.{IsKept, place-above, kept-apart, LocationFits, IsOtherRegister, held-same}
 use Rattle.s_templates.proofs.lemmas.Operands.{Writes, Operand, get-done, operand-done, put-done, result-stored}
 
 -- ---- registers of operands and results
 
--- the stack pointer, the stack's base and the registers of places
-abbrev pub IsKept : ℕ → Type 0
-IsKept r = (r ≡ sp) ⊎ (8 ≤ r)
-
-pub kept-apart : (r n : ℕ) → IsKept r → 2 < n → n < 8 → r ≢ n
-kept-apart r n (inl e) low high same = absurd (omega (arith, e, same, low))
-kept-apart r n (inr e) low high same = absurd (omega (arith, e, same, high))
-
 in-register : (f : Frame) (l : Location) (scratch : ℕ) → LocationFits f l → (in_of l scratch ≡ scratch) ⊎ (8 < in_of l scratch)
-in-register f (Register r) scratch fits = inr fits
+in-register f (Register r) scratch fits = inr (place-above r fits)
 in-register f (Near o) scratch fits = inl refl
 in-register f (Far o) scratch fits = inl refl
 
@@ -48,7 +40,7 @@ in-apart f l scratch n fits low ne same = by (in-register f l scratch fits)
     by (inr high) = absurd (omega (arith, high, same, low))
 
 pub out-apart : (f : Frame) (l : Location) → LocationFits f l → out_of l ≢ 0
-out-apart f (Register r) fits same = let high : 8 < r = fits in let e : r ≡ 0 = same in absurd (omega (arith, high, e))
+out-apart f (Register r) fits same = let high = place-above r fits in let e : r ≡ 0 = same in absurd (omega (arith, high, e))
 out-apart f (Near o) fits same = absurd (omega (arith, same))
 out-apart f (Far o) fits same = absurd (omega (arith, same))
 
@@ -186,7 +178,7 @@ module _ (text : Text) where
         (subst (λ a. CodeStands text a (store_out l) b) (sym h.pc) cut.2) low h.holds shows)
       where
         stack-apart : (k : Location) → LocationFits f k → sp ≢ out_of k
-        stack-apart (Register r) above same = let high : 8 < r = above in let e : 2 ≡ r = same in absurd (omega (arith, high, e))
+        stack-apart (Register r) above same = let high = place-above r above in let e : 2 ≡ r = same in absurd (omega (arith, high, e))
         stack-apart (Near o) above same = absurd (omega (arith, same))
         stack-apart (Far o) above same = absurd (omega (arith, same))
 
@@ -216,7 +208,7 @@ module _ (text : Text) where
         let whole = subst (λ c. CodeStands text s.pc c b) (append_assoc (load_in t0 la ++ load_in t1 lb) last (store_out l) ∙ append_assoc (load_in t0 la) (load_in t1 lb) (last ++ store_out l)) there in
         let one = loads s b 5 la va (load_in t1 lb ++ (last ++ store_out l)) has stack fitsa whole low (omega arith) (omega arith) showsa in
         let u = one.operand.state in
-        let still = held-same f lb fitsb s.regs u.regs s.mem u.mem (λ r high. one.operand.others r (λ e. omega (arith, high, e)) (λ e. omega (arith, high, e))) one.operand.mem in
+        let still = held-same f lb fitsb s.regs u.regs s.mem u.mem (λ r place. one.operand.others r (kept-apart r 5 (inr (inr place)) (omega arith) (omega arith)) (kept-apart r 7 (inr (inr place)) (omega arith) (omega arith))) one.operand.mem in
         let two = loads u b 6 lb vb (last ++ store_out l) one.has one.stack fitsb one.code low (omega arith) (omega arith)
         (subst (Shows f.bases vb) (sym still) showsb) in
         let w = two.operand.state in
@@ -237,7 +229,7 @@ module _ (text : Text) where
     pub move-writes : (s : machine.State) (b : ℕ) (l la : Location) (v : Value) → HasText text s.mem → s.regs sp ≡ f.sp → LocationFits f l → LocationFits f la
         → CodeStands text s.pc (move_code l la) b → b < 2 ^ 32 → Shows f.bases v (held f.sp s.regs s.mem la) → Writes text f s b l v
     move-writes s b (Register r) la v has stack fits fitsa there low shows =
-        let above : 8 < r = fits in
+        let above = place-above r fits in
         let h = get-done text f words s b r la v has stack fitsa there low (λ e. omega (arith, above, e)) shows in
         record {
           state = h.2.state;
