@@ -16,3 +16,4 @@ pub mod Memories
 pub mod Pointers
 pub mod Clears
 pub mod Exits
+pub mod Calls

@@ -6,3 +6,4 @@ pub mod Laws
 pub mod Rows
 pub mod Branches
 pub mod Memories
+pub mod Calls

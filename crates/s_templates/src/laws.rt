@@ -3,6 +3,7 @@
 
 ghost use Rattle.s_templates.specs.Laws.{StandingIsDone, TextStays, SegmentCodeStands, CodeIsCut, FunctionsStand, ItemsAreResolved, ItemsAreCut, WordsStand, WordsAreTheSame};
 ghost use Rattle.s_templates.specs.Branches.{OffsetLeads, JumpIsDone, BranchNotZeroIsDone, BranchZeroIsDone, BranchEqualIsDone, ExitIsDone};
+ghost use Rattle.s_templates.specs.Calls.{CallLeads, ReturnLeads};
 ghost use Rattle.s_templates.specs.Memories.{LoadIsDone, StoreIsDone, EqualPointersIsDone, ClearIsDone};
 ghost use Rattle.s_templates.specs.Rows.{ConstIsDone, UndefIsDone, ObjectAddressIsDone, GlobalAddressIsDone, BinaryIsDone, UnaryIsDone, MoveIsDone};
 
@@ -103,4 +104,11 @@ pub fn templates_clear()
 /// The template of an exit ends the run with the low byte of the status.
 pub fn templates_exit()
     ensures { ExitIsDone }
+{}
+
+/// The instructions of a call lead to its target, with the address after them as the return
+/// address; a return leads back to it.
+pub fn calls_lead()
+    ensures call { CallLeads }
+    ensures back { ReturnLeads }
 {}

@@ -92,9 +92,9 @@ location-fits f p below =
     word high false = (omega arith, omega (arith, below, high))
 
 -- what a word of the frame holds
-held-word : (sp : ℕ) (regs : ℕ → ℕ) (mem : Bytes) (offset : ℕ) (test : Bool) → held sp regs mem (cond test (Near offset) (Far offset)) ≡ load_bytes mem (sp + offset) 4
-held-word sp regs mem offset true = refl
-held-word sp regs mem offset false = refl
+held-word : (stack : ℕ) (regs : ℕ → ℕ) (mem : Bytes) (offset : ℕ) (test : Bool) → held stack regs mem (cond test (Near offset) (Far offset)) ≡ load_bytes mem (stack + offset) 4
+held-word stack regs mem offset true = refl
+held-word stack regs mem offset false = refl
 
 -- A location is left where its register and its word are.
 pub held-same : (f : Frame) (l : Location) → LocationFits f l → (regs regs' : ℕ → ℕ) (mem mem' : Bytes) → ((r : ℕ) → IsPlaceRegister r → regs' r ≡ regs r) → mem' ≡ mem

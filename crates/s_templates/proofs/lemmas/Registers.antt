@@ -39,10 +39,10 @@ step-to text s t i has there does = record {
 pub look-at : (regs : ℕ → ℕ) (r : ℕ) → r ≢ 0 → look regs r ≡ regs r
 look-at regs r ne = rw (ne_eqb r 0 ne) refl
 
-set-same : (regs : ℕ → ℕ) (rd n : ℕ) → rd ≢ 0 → set_register regs rd n rd ≡ n
+pub set-same : (regs : ℕ → ℕ) (rd n : ℕ) → rd ≢ 0 → set_register regs rd n rd ≡ n
 set-same regs rd n ne = rw (ne_eqb rd 0 ne) rw (eq-eqb rd rd refl) refl
 
-set-other : (regs : ℕ → ℕ) (rd n r : ℕ) → rd ≢ 0 → r ≢ rd → set_register regs rd n r ≡ regs r
+pub set-other : (regs : ℕ → ℕ) (rd n r : ℕ) → rd ≢ 0 → r ≢ rd → set_register regs rd n r ≡ regs r
 set-other regs rd n r ne other = rw (ne_eqb rd 0 ne) rw (ne_eqb r rd other) refl
 
 -- Up to address b a register gets a word. No memory changes, and no other register but t2, in which addresses are made.
