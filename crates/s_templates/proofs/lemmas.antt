@@ -17,3 +17,4 @@ pub mod Pointers
 pub mod Clears
 pub mod Exits
 pub mod Calls
+pub mod Stubs

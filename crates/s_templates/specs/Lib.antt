@@ -7,3 +7,4 @@ pub mod Rows
 pub mod Branches
 pub mod Memories
 pub mod Calls
+pub mod Stubs

@@ -5,6 +5,7 @@ ghost use Rattle.s_templates.specs.Laws.{StandingIsDone, TextStays, SegmentCodeS
 ghost use Rattle.s_templates.specs.Branches.{OffsetLeads, JumpIsDone, BranchNotZeroIsDone, BranchZeroIsDone, BranchEqualIsDone, ExitIsDone};
 ghost use Rattle.s_templates.specs.Calls.{CallLeads, ReturnLeads};
 ghost use Rattle.s_templates.specs.Memories.{LoadIsDone, StoreIsDone, EqualPointersIsDone, ClearIsDone};
+ghost use Rattle.s_templates.specs.Stubs.{PutStubWrites};
 ghost use Rattle.s_templates.specs.Rows.{ConstIsDone, UndefIsDone, ObjectAddressIsDone, GlobalAddressIsDone, BinaryIsDone, UnaryIsDone, MoveIsDone};
 
 /// The instruction that stands at pc is the one that is done.
@@ -111,4 +112,9 @@ pub fn templates_exit()
 pub fn calls_lead()
     ensures call { CallLeads }
     ensures back { ReturnLeads }
+{}
+
+/// The stub that writes a byte writes the low byte of a0 and returns.
+pub fn put_stub_writes()
+    ensures { PutStubWrites }
 {}
