@@ -1,10 +1,10 @@
 -- How the command without arguments ends, from how its steps did.
-use Rattle.std.proofs.Common.{◌≡◌, ℕ, List, [], ◌++◌, take, Option, None, Some, refl}
+use Rattle.std.proofs.Common.{◌≡◌, ℕ, List, [], ◌++◌, take, Option, None, Some, refl, ap, sym, append_assoc}
 use Rattle.std.specs.Option.{ForSome}
 use Rattle.cc_io.specs.Source.{prepend}
 use Rattle.cc_top.specs.AcceptEnds.{AcceptCause, IsTold}
 use Rattle.cc_top.specs.Outside.{StreamSeen}
-use Rattle.cc_top.specs.Refused.{Defines, IsRejectionOf}
+use Rattle.cc_top.specs.Refused.{CompilesTo, IsRejectionOf}
 use Rattle.cc_top.specs.declared.outcome.Outcome.{Outcome}
 use Rattle.cc_top.specs.declared.outcome.Outcome.TheVariants.{Done, Usage, ReadFault, WriteFault, Refused, BadImage, NoMemory, Exit, Stack, Budget, Stuck}
 use Rattle.cc_top.proofs.SourceLemmas.{defines_of_read, refused_of_read}
@@ -13,20 +13,24 @@ pub nothing_taken : (left : Option (List ℕ)) → left ≡ prepend [] left
 nothing_taken None = refl
 nothing_taken (Some bytes) = refl
 
+pub taken_twice : (first second : List ℕ) (left : Option (List ℕ)) → prepend first (prepend second left) ≡ prepend (first ++ second) left
+taken_twice first second None = refl
+taken_twice first second (Some bytes) = ap Some (sym (append_assoc first second bytes))
+
 -- the bytes that were read are a source of so many functions
-pub accepted_ends : (functions : ℕ) (e : Outcome) (input input' output output' : StreamSeen) (read : List ℕ) → ForSome input.bytes (λ text. read ≡ take 1048577 text) → Defines functions read
+pub accepted_ends : (functions : ℕ) (e : Outcome) (input input' output output' : StreamSeen) (read bytes : List ℕ) → ForSome input.bytes (λ text. read ≡ take 1048577 text) → CompilesTo read bytes functions
     → IsTold functions e output output' → AcceptCause e input input' output output'
-accepted_ends n Done input input' output output' read same h told = (n, (λ text is. defines_of_read text read n (same text is) h), told)
-accepted_ends n WriteFault input input' output output' read same h told = (n, (λ text is. defines_of_read text read n (same text is) h), told)
-accepted_ends n Usage input input' output output' read same h told = absurd told
-accepted_ends n ReadFault input input' output output' read same h told = absurd told
-accepted_ends n (Refused refusal) input input' output output' read same h told = absurd told
-accepted_ends n (BadImage fault) input input' output output' read same h told = absurd told
-accepted_ends n NoMemory input input' output output' read same h told = absurd told
-accepted_ends n (Exit status) input input' output output' read same h told = absurd told
-accepted_ends n Stack input input' output output' read same h told = absurd told
-accepted_ends n Budget input input' output output' read same h told = absurd told
-accepted_ends n (Stuck pc why) input input' output output' read same h told = absurd told
+accepted_ends n Done input input' output output' read bytes same h told = (n, (λ text is. defines_of_read text read bytes n (same text is) h), told)
+accepted_ends n WriteFault input input' output output' read bytes same h told = (n, (λ text is. defines_of_read text read bytes n (same text is) h), told)
+accepted_ends n Usage input input' output output' read bytes same h told = absurd told
+accepted_ends n ReadFault input input' output output' read bytes same h told = absurd told
+accepted_ends n (Refused refusal) input input' output output' read bytes same h told = absurd told
+accepted_ends n (BadImage fault) input input' output output' read bytes same h told = absurd told
+accepted_ends n NoMemory input input' output output' read bytes same h told = absurd told
+accepted_ends n (Exit status) input input' output output' read bytes same h told = absurd told
+accepted_ends n Stack input input' output output' read bytes same h told = absurd told
+accepted_ends n Budget input input' output output' read bytes same h told = absurd told
+accepted_ends n (Stuck pc why) input input' output output' read bytes same h told = absurd told
 
 -- the bytes that were read are refused, or memory ran out
 pub rejected_ends : (e : Outcome) (input input' output : StreamSeen) (read : List ℕ) → ForSome input.bytes (λ text. read ≡ take 1048577 text) → IsRejectionOf read e

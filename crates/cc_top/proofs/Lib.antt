@@ -1,5 +1,6 @@
 pub mod SourceLemmas
 pub mod AcceptLemmas
+pub mod BuildLemmas
 pub mod RefusalLaws
 pub mod Digits
 pub mod GenerateLemmas

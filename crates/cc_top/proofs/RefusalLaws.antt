@@ -1,5 +1,5 @@
 -- A source has at most one refusal; one that is accepted has none, and any other has one.
-use Rattle.std.proofs.Common.{◌≡◌, ◌≢◌, ◌⊎◌, ◌↔◌, ℕ, List, Some, Err, refl, ap, sym, subst, ◌∙◌, inl, inr}
+use Rattle.std.proofs.Common.{◌≡◌, ◌≢◌, ℕ, List, Some, Err, refl, ap, sym, subst, ◌∙◌, inl, inr}
 use Rattle.std.proofs.lemmas.Option.{same_Some}
 use Rattle.c_lex.specs.Faults.{FaultsAreFirst}
 use Rattle.c_lex.specs.Tokens.{lexed}

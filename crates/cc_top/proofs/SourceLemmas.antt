@@ -1,10 +1,9 @@
 -- A source that is longer than the limit is refused at the limit, so the limit and one more byte decide.
-use Rattle.std.proofs.Common.{◌≡◌, ◌≢◌, ℕ, ◌<◌, ◌+◌, List, length, take, Option, None, Some, Result, Ok, Err, IfOk, IfErr, refl, ap, sym, ◌∙◌, subst, inl, inr, count_by, arith}
+use Rattle.std.proofs.Common.{◌≡◌, ℕ, ◌<◌, ◌+◌, List, length, take, Option, None, Some, Ok, Err, refl, ap, sym, ◌∙◌, subst, inl, inr, count_by, arith}
 use Rattle.std.specs.Option.{ForSome}
 use Rattle.std.proofs.lemmas.Bool.{cases_lt, lt-ltb}
 use Rattle.std.proofs.lemmas.List.{take_all, length-take-le, take-take}
 use Rattle.c_lex.specs.Tokens.{lexed}
-use Rattle.c_lex.specs.declared.fault.LexFault.{LexFault}
 use Rattle.c_lex.specs.declared.fault.LexFault.TheVariants as lexer
 use Rattle.c_lex.specs.declared.token.Token.{Token}
 use Rattle.c_typed.specs.Typed.{ProgramTree}
@@ -13,7 +12,7 @@ use Rattle.cc_compile.specs.declared.fault.CompileFault.{CompileFault}
 use Rattle.cc_compile.specs.declared.fault.CompileFault.TheVariants as fault
 use Rattle.cc_io.specs.Files.{Name, FileSet, content}
 use Rattle.cc_top.specs.Refusal.{is_line_end, refusal_of, refusal_of_text, refused_at}
-use Rattle.cc_top.specs.Refused.{CompileFails, Defines, HasImage, IsRefused, IsRejectionOf, outcome_of_refusal}
+use Rattle.cc_top.specs.Refused.{CompileFails, CompilesTo, Defines, HasImage, IsRefused, IsRejectionOf, outcome_of_refusal}
 use Rattle.cc_top.specs.declared.refusal.Refusal.{Refusal}
 use Rattle.cc_top.specs.declared.refusal.RefusalKind.TheVariants.{LongSource}
 use Rattle.cc_top.specs.declared.outcome.Outcome.{Outcome}
@@ -65,34 +64,37 @@ refused-take s r h =
 
 -- ---- what the bytes that were read compile to, the source compiles to
 
-pub image_of_read : (s read bytes : List ℕ) → read ≡ take 1048577 s → HasImage read bytes → HasImage s bytes
-image_of_read s read bytes same h = (h.0, accepted-take s h.0 (subst (λ t. Accepts t h.0) same h.1), h.2)
+pub image_of_read : (s read bytes : List ℕ) (functions : ℕ) → read ≡ take 1048577 s → CompilesTo read bytes functions → HasImage s bytes
+image_of_read s read bytes functions same h = record {
+  program = h.0;
+  accepted = accepted-take s h.0 (subst (λ t. Accepts t h.0) same h.1);
+  image = h.2;
+}
 
-pub defines_of_read : (s read : List ℕ) (functions : ℕ) → read ≡ take 1048577 s → Defines functions read → Defines functions s
-defines_of_read s read functions same h = (h.0, accepted-take s h.0 (subst (λ t. Accepts t h.0) same h.1), h.2)
+pub defines_of_read : (s read bytes : List ℕ) (functions : ℕ) → read ≡ take 1048577 s → CompilesTo read bytes functions → Defines functions s
+defines_of_read s read bytes functions same h = record {
+  program = h.0;
+  accepted = accepted-take s h.0 (subst (λ t. Accepts t h.0) same h.1);
+  counted = h.3;
+}
 
 pub refused_of_read : (s read : List ℕ) (r : Refusal) → read ≡ take 1048577 s → IsRefused read r → IsRefused s r
 refused_of_read s read r same h = refused-take s r (subst (λ t. IsRefused t r) same h)
 
 -- a refusal of the bytes that were read is one of the source
-fails-so : (name : Name) (e : Outcome) (known : Option FileSet) (unread : Type 0) (read : List ℕ) → ForSome known (λ files. read ≡ take 1048577 (content name files)) → IsRejectionOf read e
+pub fails_of_read : (name : Name) (e : Outcome) (known : Option FileSet) (unread : Type 0) (read : List ℕ) → ForSome known (λ files. read ≡ take 1048577 (content name files)) → IsRejectionOf read e
     → CompileFails name e known unread
-fails-so name (Refused refusal) known unread read same h = λ files is. refused_of_read (content name files) read refusal (same files is) h
-fails-so name NoMemory known unread read same h = tt
-fails-so name Done known unread read same h = absurd h
-fails-so name Usage known unread read same h = absurd h
-fails-so name ReadFault known unread read same h = absurd h
-fails-so name WriteFault known unread read same h = absurd h
-fails-so name (BadImage e) known unread read same h = absurd h
-fails-so name (Exit status) known unread read same h = absurd h
-fails-so name Stack known unread read same h = absurd h
-fails-so name Budget known unread read same h = absurd h
-fails-so name (Stuck pc why) known unread read same h = absurd h
-
-pub fails_of_read : {T : Type 0} (name : Name) (known : Option FileSet) (unread : Type 0) (read : List ℕ) (r : Result T Outcome) → ForSome known (λ files. read ≡ take 1048577 (content name files))
-    → IfErr r (IsRejectionOf read) → IfErr r (λ e. CompileFails name e known unread)
-fails_of_read name known unread read (Ok x) same h = tt
-fails_of_read name known unread read (Err e) same h = fails-so name e known unread read same h
+fails_of_read name (Refused refusal) known unread read same h = λ files is. refused_of_read (content name files) read refusal (same files is) h
+fails_of_read name NoMemory known unread read same h = tt
+fails_of_read name Done known unread read same h = absurd h
+fails_of_read name Usage known unread read same h = absurd h
+fails_of_read name ReadFault known unread read same h = absurd h
+fails_of_read name WriteFault known unread read same h = absurd h
+fails_of_read name (BadImage e) known unread read same h = absurd h
+fails_of_read name (Exit status) known unread read same h = absurd h
+fails_of_read name Stack known unread read same h = absurd h
+fails_of_read name Budget known unread read same h = absurd h
+fails_of_read name (Stuck pc why) known unread read same h = absurd h
 
 -- ---- the outcome of a source that is not compiled
 

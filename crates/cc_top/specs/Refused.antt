@@ -12,12 +12,16 @@ use Rattle.cc_top.specs.declared.outcome.Outcome.TheVariants.{Refused, ReadFault
 use Rattle.cc_top.specs.declared.refusal.Refusal.{Refusal}
 
 -- A source is accepted, and these bytes are its image.
-abbrev pub HasImage : List ℕ → List ℕ → Type 0
-HasImage source bytes = (p : ProgramTree) × Accepts source p × (bytes ≡ image_of p)
+pub record HasImage (source bytes : List ℕ) : Type 0 where
+  pub program : ProgramTree
+  pub accepted : Accepts source program
+  pub image : bytes ≡ image_of program
 
 -- A source is accepted, and defines so many functions.
-abbrev pub Defines : (functions : ℕ) → List ℕ → Type 0
-Defines functions source = (p : ProgramTree) × Accepts source p × (functions ≡ length p.functions)
+pub record Defines (functions : ℕ) (source : List ℕ) : Type 0 where
+  pub program : ProgramTree
+  pub accepted : Accepts source program
+  pub counted : functions ≡ length program.functions
 
 -- A source is accepted, these bytes are its image, and it defines so many functions.
 abbrev pub CompilesTo : List ℕ → (bytes : List ℕ) → (functions : ℕ) → Type 0

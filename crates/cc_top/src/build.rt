@@ -10,14 +10,15 @@ ghost use Rattle.cc_top.specs.Refused.{CompileFails, HasImage};
 use crate::compile::compile;
 use crate::load::{LoadError, load};
 use crate::outcome::Outcome;
+use cc_compile::Compiled;
 use cc_io::{Files, save};
 use limits::MOST_SOURCE_BYTES;
 use std::alloc::Global;
 
-/// The image of the source in the file of this name.
-fn compile_file<F: Files>(alloc: Global, files: &mut F, source: &str) -> Result<Vec<u8>, Outcome>
-    ensures bytes { ForSome (F.known files.old)
-        (λ all. IfOk result (λ bytes. HasImage (content source.now all) bytes.items)) }
+/// What the source in the file of this name compiles to.
+fn compile_file<F: Files>(alloc: Global, files: &mut F, source: &str) -> Result<Compiled, Outcome>
+    ensures image { ForSome (F.known files.old)
+        (λ all. IfOk result (λ c. HasImage (content source.now all) c.image.items)) }
     ensures err { IfErr result (λ e. CompileFails source.now e (F.known files.old)
         (Increased (F.open_faults files.old source.now) (F.open_faults files.new source.now)
         ⊎ Increased (F.read_faults files.old) (F.read_faults files.new))) }
@@ -32,7 +33,7 @@ fn compile_file<F: Files>(alloc: Global, files: &mut F, source: &str) -> Result<
         Err(LoadError::Failed) => return Err(Outcome::ReadFault),
         Err(LoadError::NoMemory) => return Err(Outcome::NoMemory),
     };
-    Ok(compile(alloc, &text)?.image)
+    compile(alloc, &text)
 }
 
 /// Compiles the file named `source` to the file named `image`.
@@ -42,7 +43,7 @@ pub fn build<F: Files>(alloc: Global, files: &mut F, source: &str, image: &str) 
         (files_seen F.known F.read_faults F.write_faults F.open_faults F.create_faults files.new) }
 {
     match compile_file(alloc, files, source) {
-        Ok(bytes) => match save(files, image, &bytes) {
+        Ok(compiled) => match save(files, image, &compiled.image) {
             Ok(()) => Outcome::Done,
             Err(_) => Outcome::WriteFault,
         },
