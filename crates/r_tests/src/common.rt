@@ -1,6 +1,6 @@
 // Common node elimination.
-use crate::tables::{A, B, I, KINDS, Line, M, lambda, n, nested, out, region};
-use g_graph::{Kind, Lambda, Op, Origin, check, equal, ids};
+use crate::tables::{A, B, I, KINDS, Line, M, lambda, n, nested, node, out, region};
+use g_graph::{Kind, Lambda, Op, Origin, Region, check, equal, ids};
 use no_memory::NoMemory;
 use r_cne::{applies, apply};
 use std::alloc::Global;
@@ -12,21 +12,16 @@ const ADD: Op = Op::Bin(Op2::Add);
 // Nodes, the value and the memory that the region gives.
 type Row<'a> = (&'a [Line<'a>], Origin, Origin);
 
-fn in_body(alloc: Global, row: Row) -> Result<Lambda, NoMemory> {
+fn region_of(alloc: Global, row: Row) -> Result<Region, NoMemory> {
     let (lines, value, memory) = row;
-    lambda(alloc, 2, region(alloc, &KINDS, lines, &[value, memory, I])?)
+    region(alloc, &KINDS, lines, &[value, memory, I])
 }
 
-// The second region of a Gamma has the nodes; its first one a sum and a constant.
-fn in_region(alloc: Global, row: Row) -> Result<Lambda, NoMemory> {
-    let (lines, value, memory) = row;
-    let first = region(
-        alloc,
-        &KINDS,
-        &[(16, ADD, &[A, B]), (17, Op::Const(3), &[])],
-        &[n(16), M, I],
-    )?;
-    let second = region(alloc, &KINDS, lines, &[value, memory, I])?;
+// The second region of a Gamma is this one; its first one has a sum and a constant.
+fn in_region(alloc: Global, second: Region) -> Result<Lambda, NoMemory> {
+    let mut first = region(alloc, &KINDS, &[], &[n(16), M, I])?;
+    first.nodes.push(node(alloc, 16, ADD, &[A, B])?)?;
+    first.nodes.push(node(alloc, 17, Op::Const(7), &[])?)?;
     lambda(alloc, 2, nested(alloc, first, second)?)
 }
 
@@ -54,97 +49,71 @@ fn is_changed(
 ) -> Result<bool, NoMemory> {
     let (body, inside) = match wanted {
         None => (None, None),
-        Some(row) => (Some(in_body(alloc, row)?), Some(in_region(alloc, row)?)),
+        Some(row) => (
+            Some(lambda(alloc, 2, region_of(alloc, row)?)?),
+            Some(in_region(alloc, region_of(alloc, row)?)?),
+        ),
     };
     Ok(
-        becomes(in_body(alloc, before)?, node, body)
-            && becomes(in_region(alloc, before)?, node, inside),
+        becomes(lambda(alloc, 2, region_of(alloc, before)?)?, node, body)
+            && becomes(in_region(alloc, region_of(alloc, before)?)?, node, inside),
     )
 }
 
-// Two nodes of these ops and inputs, and the exclusive or of their outputs.
+// The nodes 0 and 2 of these ops and inputs, and the exclusive or of the outputs of 0 and another.
 fn pair(
     alloc: Global,
     first: (Op, &[Origin]),
     second: (Op, &[Origin]),
-    is_common: bool,
-) -> Result<bool, NoMemory> {
-    let xor = Op::Bin(Op2::Xor);
-    let uses = [n(0), n(2)];
-    let lines = [
-        (0, first.0, first.1),
-        (2, second.0, second.1),
-        (3, xor, uses.as_slice()),
-    ];
-    let changed = [n(0), n(0)];
-    let wanted = [
-        (0, first.0, first.1),
-        (2, second.0, second.1),
-        (3, xor, changed.as_slice()),
-    ];
-    let row = if is_common {
-        Some((wanted.as_slice(), n(3), M))
-    } else {
-        None
-    };
-    is_changed(alloc, (lines.as_slice(), n(3), M), 2, row)
+    other: u32,
+) -> Result<Region, NoMemory> {
+    let nodes = Vec::from_array(
+        alloc,
+        [
+            node(alloc, 0, first.0, first.1)?,
+            node(alloc, 2, second.0, second.1)?,
+            node(alloc, 3, Op::Bin(Op2::Xor), &[n(0), n(other)])?,
+        ],
+    )?;
+    let mut region = region(alloc, &KINDS, &[], &[n(3), M, I])?;
+    region.nodes = nodes;
+    Ok(region)
 }
+
+const NONE: &[Origin] = &[];
+
+const AB: &[Origin] = &[A, B];
+
+const BA: &[Origin] = &[B, A];
+
+const AM: &[Origin] = &[A, M];
+
+const ABM: &[Origin] = &[A, B, M];
 
 #[test]
 fn equal_ops_and_inputs_are_common(rt: HostRuntime) -> Result<(), Fail> {
     let alloc = rt.alloc();
-    let sub = Op::Bin(Op2::Sub);
     for (first, second, is_common) in [
-        ((ADD, [A, B].as_slice()), (ADD, [A, B].as_slice()), true),
-        ((ADD, [A, B].as_slice()), (ADD, [B, A].as_slice()), false),
-        ((ADD, [A, B].as_slice()), (sub, [A, B].as_slice()), false),
-        (
-            (Op::Const(7), [].as_slice()),
-            (Op::Const(7), [].as_slice()),
-            true,
-        ),
-        (
-            (Op::Const(7), [].as_slice()),
-            (Op::Const(8), [].as_slice()),
-            false,
-        ),
-        (
-            (Op::Local(0), [].as_slice()),
-            (Op::Local(0), [].as_slice()),
-            true,
-        ),
-        (
-            (Op::Local(0), [].as_slice()),
-            (Op::Delta(0), [].as_slice()),
-            false,
-        ),
-        (
-            (Op::Delta(1), [].as_slice()),
-            (Op::Delta(1), [].as_slice()),
-            true,
-        ),
-        (
-            (Op::Undef, [].as_slice()),
-            (Op::Undef, [].as_slice()),
-            false,
-        ),
-        (
-            (Op::Load(4), [A, M].as_slice()),
-            (Op::Load(4), [A, M].as_slice()),
-            true,
-        ),
-        (
-            (Op::Load(4), [A, M].as_slice()),
-            (Op::Load(2), [A, M].as_slice()),
-            false,
-        ),
-        (
-            (Op::PtrEq, [A, B, M].as_slice()),
-            (Op::PtrEq, [A, B, M].as_slice()),
-            true,
-        ),
+        ((ADD, AB), (ADD, AB), true),
+        ((ADD, AB), (ADD, BA), false),
+        ((ADD, AB), (Op::Bin(Op2::Sub), AB), false),
+        ((Op::Const(7), NONE), (Op::Const(7), NONE), true),
+        ((Op::Const(7), NONE), (Op::Const(8), NONE), false),
+        ((Op::Local(0), NONE), (Op::Local(0), NONE), true),
+        ((Op::Local(0), NONE), (Op::Delta(0), NONE), false),
+        ((Op::Delta(1), NONE), (Op::Delta(1), NONE), true),
+        ((Op::Undef, NONE), (Op::Undef, NONE), false),
+        ((Op::Load(4), AM), (Op::Load(4), AM), true),
+        ((Op::Load(4), AM), (Op::Load(2), AM), false),
+        ((Op::PtrEq, ABM), (Op::PtrEq, ABM), true),
     ] {
-        assert!(rt; pair(alloc, first, second, is_common)?);
+        let wanted = if is_common {
+            Some(lambda(alloc, 2, pair(alloc, first, second, 0)?)?)
+        } else {
+            None
+        };
+        let before = lambda(alloc, 2, pair(alloc, first, second, 2)?)?;
+        assert!(rt; becomes(before, 2, wanted));
     }
     Ok(())
 }
@@ -181,7 +150,7 @@ fn swept(alloc: Global, lambda: &mut Lambda) -> Result<Vec<u32>, NoMemory> {
     let mut steps = Vec::new(alloc);
     let numbers = ids(alloc, lambda)?;
     for node in numbers {
-        if applies(lambda, node) {
+        if check(lambda) && applies(lambda, node) {
             apply(lambda, node);
             steps.push(node)?;
         }

@@ -29,7 +29,17 @@ pub const fn out(node: u32, port: u32) -> Origin {
     Origin::Out { node, port }
 }
 
-/// A region of these nodes; `NoMemory` only where the allocator has none.
+/// A node without regions; `NoMemory` only where the allocator has none.
+pub fn node(alloc: Global, id: u32, op: Op, inputs: &[Origin]) -> Result<Node, NoMemory> {
+    Ok(Node {
+        id,
+        op,
+        inputs: SmallVec::from_slice(alloc, inputs)?,
+        regions: Vec::new(alloc),
+    })
+}
+
+/// A region of these nodes; `NoMemory` as for `node`.
 pub fn region(
     alloc: Global,
     args: &[Kind],
@@ -38,12 +48,7 @@ pub fn region(
 ) -> Result<Region, NoMemory> {
     let mut nodes = Vec::new(alloc);
     for (id, op, inputs) in lines {
-        nodes.push(Node {
-            id: *id,
-            op: *op,
-            inputs: SmallVec::from_slice(alloc, *inputs)?,
-            regions: Vec::new(alloc),
-        })?;
+        nodes.push(node(alloc, *id, *op, *inputs)?)?;
     }
     Ok(Region {
         args: Vec::from_slice(alloc, args)?,
@@ -53,7 +58,7 @@ pub fn region(
 }
 
 /// The lambda of this body, with so many parameters and one object of 4 bytes; `NoMemory` as for
-/// `region`.
+/// `node`.
 pub fn lambda(alloc: Global, params: u32, body: Region) -> Result<Lambda, NoMemory> {
     let mut objects = Vec::new(alloc);
     objects.push(Object {
@@ -69,7 +74,7 @@ pub fn lambda(alloc: Global, params: u32, body: Region) -> Result<Lambda, NoMemo
     })
 }
 
-/// The body of a Gamma alone, of number 18, whose regions are these two; `NoMemory` as for `region`.
+/// The body of a Gamma alone, of number 18, whose regions are these two; `NoMemory` as for `node`.
 pub fn nested(alloc: Global, first: Region, second: Region) -> Result<Region, NoMemory> {
     let mut body = region(alloc, &KINDS, &[], &[n(18), out(18, 1), out(18, 2)])?;
     let inputs = [A, A, B, M, I];

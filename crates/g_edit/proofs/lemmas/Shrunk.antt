@@ -1,5 +1,5 @@
 -- Exit variables of a Gamma go, and then entry variables.
-use Rattle.std.proofs.Common.{◌≡◌, Bool, List, [], ◌∷◌, ◌++◌, map, length, refl, sym, ap, subst, ◌∙◌}
+use Rattle.std.proofs.Common.{◌≡◌, Bool, List, [], ◌∷◌, map, length, refl, sym, ap, subst, append-nil, ◌∙◌}
 use Rattle.val_core.specs.Answers.{Answer, Returned, Cut, Exited, Undefined, then_on}
 use Rattle.val_core.specs.Events.{Event}
 use Rattle.val_core.specs.Refinement.{Direction, Forward, Backward, Refines, no_deeper}
@@ -32,14 +32,10 @@ returned_refines Backward R f x o (Cut p) h = h
 returned_refines direction R f x o (Exited p s) h = absurd h
 returned_refines direction R f x o (Undefined p) h = absurd h
 
-append_none : {X : Type 0} (xs : List X) → xs ++ [] ≡ xs
-append_none [] = refl
-append_none (x ∷ xs) = ap (λ ys. x ∷ ys) (append_none xs)
-
 mapped_refines : {A B C : Type 0} (direction : Direction) (R : B → C → Type 0) (f : A → B) (a : Answer A) (b : Answer C) → Refines no_deeper direction R (then_on a (λ x. Returned (f x) [])) b →
     Refines no_deeper direction (λ u v. R (f u) v) a b
 mapped_refines direction R f (Returned x o) b h =
-    returned_refines direction R f x o b (subst (λ c. Refines no_deeper direction R c b) (before-is o (Returned (f x) []) ∙ ap (Returned (f x)) (append_none o)) h)
+    returned_refines direction R f x o b (subst (λ c. Refines no_deeper direction R c b) (before-is o (Returned (f x) []) ∙ ap (Returned (f x)) (append-nil o)) h)
 mapped_refines direction R f (Undefined o) b h = tt
 mapped_refines Forward R f (Cut o) (Returned y p) h = h
 mapped_refines Forward R f (Cut o) (Cut p) h = h
