@@ -24,6 +24,7 @@ use Rattle.g_simulation.proofs.lemmas.Readings.{IsBelow, extended-here, extended
 use Rattle.g_simulation.proofs.lemmas.Toolbox.{Post, Ran, Simulates}
 use Rattle.g_simulation.proofs.lemmas.Held.{Frame, Holds}
 use Rattle.g_simulation.proofs.lemmas.Renamed.{renamed-same, holds-renamed, holds-inside, reads-sound}
+use Rattle.g_simulation.proofs.lemmas.Choice.{Gift, After}
 use Rattle.g_simulation.proofs.lemmas.Claims.{BoundsFit}
 use Rattle.g_simulation.proofs.lemmas.Jumps.{Flows}
 
@@ -37,9 +38,13 @@ pub record Turned : Type 0 where
 abbrev pub turned : (State → Answer Flowed) → Turned → Answer Flowed
 turned next y = cond y.again (next y.state) (flows y.state y.flow)
 
--- The state after a turn is held, and a number is carried that is 0 where the loop ends. Before another turn control goes on.
+-- A number is carried that is 0 where the loop ends. Before another turn control goes on.
+abbrev pub TurnsOn : Gift Turned Origin
+TurnsOn y rd n p = ((k : ℕ) × (rd p ≡ val (Num k)) × ((k == 0) ≡ not y.again)) × (y.again ≡ true → y.flow ≡ normal)
+
+-- The state after a turn is held, beside that.
 abbrev pub Turns : Frame → Post Turned Origin
-Turns f y rd t p = Holds f y.flow rd t.next t.carried y.state × ((n : ℕ) × (rd p ≡ val (Num n)) × ((n == 0) ≡ not y.again)) × (y.again ≡ true → y.flow ≡ normal)
+Turns f = After f (λ y. y.flow) (λ y. y.state) TurnsOn
 
 -- A loop that takes at most so many turns: the condition is asked before the turn that would be one too many is cut.
 pub record IsLoop (turn last : State → Answer Turned) (loops : ℕ → State → Answer Flowed) : Type 0 where
@@ -88,11 +93,11 @@ module _ (w : Direction) (d : Context) (c : IsSoundContext d) (f : Frame) (s : P
       (refines-far-gives w AreSoundOutputs (Ran (Turns f) us no_outputs n b) (turn q) (nodes_run d (nodes_of b.nodes) us no_outputs) (nodes-sound d c (nodes_of b.nodes) us no_outputs sound) (claim us sound q begun))
       (λ y o r.
       record {
-        test = r.0.post.1.0;
+        test = r.0.post.1.0.0;
         rest = map (read us o) (carried_origins b.after.carried);
-        is = ap (λ x. x ∷ map (read us o) (carried_origins b.after.carried)) r.0.post.1.1;
-        decides = r.0.post.1.2;
-        goes_on = r.0.post.2;
+        is = ap (λ x. x ∷ map (read us o) (carried_origins b.after.carried)) r.0.post.1.0.1;
+        decides = r.0.post.1.0.2;
+        goes_on = r.0.post.1.1;
         carries = record {
           rd = read us o;
           next = b.after.next;
