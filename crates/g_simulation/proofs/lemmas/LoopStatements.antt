@@ -1,45 +1,45 @@
 -- Loops, from what is claimed of their conditions, steps and bodies.
-use Rattle.std.proofs.Common.{◌≡◌, ◌≤◌, ◌<◌, inl, inr, ℕ, zero, suc, List, [], ◌∷◌, ◌++◌, map, refl, sym, ap, ◌∙◌, subst, arith}
+use Rattle.std.proofs.Common.{◌≡◌, ℕ, suc, List, [], ◌∷◌, map, refl, sym, ap, ◌∙◌, subst, arith}
 use Rattle.std.proofs.Math.Path.{fun_ext}
-use Rattle.std.specs.Prelude.{◌==◌, not, Bool, true, false, cond}
+use Rattle.std.specs.Prelude.{◌==◌, not, Bool, true, false}
 use Rattle.std.proofs.lemmas.Bool.{false≢true}
 use Rattle.val_core.specs.declared.values.Value.TheVariants.{Num}
 use Rattle.val_core.specs.Words.{one_if}
 use Rattle.val_core.specs.Refinement.{Direction, Forward, exactly, Refines}
 use Rattle.val_core.specs.Answers.{Answer, Returned, Cut, then_on}
-use Rattle.val_core.proofs.lemmas.Answers.{then_associates, gives-then}
+use Rattle.val_core.proofs.lemmas.Answers.{then_associates}
 use Rattle.c_typed.specs.Typed.{ExprTree, OptionalExpr, no_expr, some_expr, StmtTree, loop, do_while, VariableTree}
 use Rattle.c_typed.specs.WellTyped.{Signature, type_of}
-use Rattle.c_mean.specs.State.{State, Valued}
+use Rattle.c_mean.specs.State.{State}
 use Rattle.c_mean.specs.Expressions as source
 use Rattle.c_mean.specs.Expressions.{expr_run}
-use Rattle.c_mean.specs.Statements.{Flow, normal, broke, continued, returned, Flowed, flows, past, after_turn, optional_step, while_true, loop_run, do_run, stmt_run}
+use Rattle.c_mean.specs.Statements.{Flow, normal, broke, continued, returned, Flowed, past, after_turn, optional_step, loop_run, do_run, stmt_run}
 use Rattle.g_graph.specs.declared.op.Origin.{Origin}
-use Rattle.g_graph.specs.declared.op.Origin.TheVariants.{Out}
 use Rattle.g_graph.specs.Plain.{nodes_of}
 use Rattle.g_construct.specs.Writer.{jumping, Point, Built, nothing, bind, dropped, no_value, one_value, inside, choice, repeat}
 use Rattle.g_construct.specs.Operations.{const_made, is_zero_made}
 use Rattle.g_construct.specs.Expressions.{expr_made, tested}
 use Rattle.g_construct.specs.Exits.{stmt_exits, can_leave, stmt_jumps}
-use Rattle.g_construct.specs.Jumps.{jump_ended, break_ended, unless_left, optional_tested, step_made, again_made, turn_made, loop_made, do_again_made, do_made}
+use Rattle.g_construct.specs.Jumps.{jump_ended, break_ended, optional_tested, step_made, again_made, turn_made, do_again_made}
 use Rattle.g_construct.specs.Statements.{stmt_made}
 use Rattle.g_construct.proofs.lemmas.Later.{Keeps, later_here, bind_later, repeat_later}
 use Rattle.g_construct.proofs.lemmas.LaterExpressions.{const_later, expr_later, tested_later}
 use Rattle.g_construct.proofs.lemmas.LaterStatements.{dropped_later, jump_ended_later, optional_later, step_later, again_later, turn_later, do_again_later, stmt_later}
 use Rattle.g_built.proofs.lemmas.Exits.{MayJump, stmt_leaves}
-use Rattle.g_mean.specs.Data.{Datum, val, at_port}
-use Rattle.g_mean.specs.Meaning.{Context, Outputs, no_outputs, extended, read as read_origin, nodes_run}
+use Rattle.g_mean.specs.Data.{Datum, val}
+use Rattle.g_mean.specs.Meaning.{Context, Outputs, no_outputs, read as read_origin, nodes_run}
 use Rattle.g_mean.proofs.lemmas.Equal.{exactly-compares}
 use Rattle.g_mean.proofs.lemmas.Regions.{less-cut}
-use Rattle.g_simulation.proofs.lemmas.Readings.{IsBelow, extended-here, IsSoundRun}
-use Rattle.g_simulation.proofs.lemmas.Toolbox.{Post, Ran, Simulates, sim-change, sim-goes, sim-given, sim-bind}
-use Rattle.g_simulation.proofs.lemmas.Held.{Held, held-is, code, Frame, Holds}
+use Rattle.g_simulation.specs.Exits.{Allows}
+use Rattle.g_simulation.proofs.lemmas.Readings.{extended-here, IsSoundRun}
+use Rattle.g_simulation.proofs.lemmas.Toolbox.{Post, Ran, Simulates, sim-goes, sim-given, sim-bind}
+use Rattle.g_simulation.proofs.lemmas.Held.{held-is, code, Frame, Holds}
 use Rattle.g_simulation.proofs.lemmas.Nodes.{Line, const-line, is-zero-line}
-use Rattle.g_simulation.proofs.lemmas.Choice.{Gift, After, Nothing, ExtraGives, no_value-gives, picked, choice-sim}
-use Rattle.g_simulation.proofs.lemmas.Tests.{Decided, ways, Decides, ways-sim}
+use Rattle.g_simulation.proofs.lemmas.Choice.{Nothing, ExtraGives, no_value-gives, picked, choice-sim}
+use Rattle.g_simulation.proofs.lemmas.Tests.{ways, Decides, ways-sim}
 use Rattle.g_simulation.proofs.lemmas.Claims.{ContextsFit, Typed, test_run}
 use Rattle.g_simulation.proofs.lemmas.Forms.{ExprClaim, TestClaim}
-use Rattle.g_simulation.proofs.lemmas.Leaves.{Allows, Left, stmt-ends, loop-left, do-left, allows-normal, left-normal}
+use Rattle.g_simulation.proofs.lemmas.Leaves.{Left, stmt-ends, loop-left, do-left, allows-normal, left-normal}
 use Rattle.g_simulation.proofs.lemmas.Jumps.{Flows, jumps-of, jumping-form, may-later, may-inside, sim-gives}
 use Rattle.g_simulation.proofs.lemmas.Statements.{StmtClaim}
 use Rattle.g_simulation.proofs.lemmas.Loops.{Turned, turned, TurnsOn, Turns, IsLoop, repeat-sim}
@@ -332,7 +332,7 @@ module _ (w : Direction) (functions : List Signature) (c : source.Context) (d : 
       is =
           record {
             more = λ n u. sym (
-            then_associates (stmt_run c vs a u) (λ x. asked_turn c e x.flow x.state) (turned (do_run n c e (stmt_run c vs a)))
-            ∙ ap (then_on (stmt_run c vs a u)) (fun_ext (λ x. asked-turns c e (do_run n c e (stmt_run c vs a)) x.flow x.state)));
+                then_associates (stmt_run c vs a u) (λ x. asked_turn c e x.flow x.state) (turned (do_run n c e (stmt_run c vs a)))
+                ∙ ap (then_on (stmt_run c vs a u)) (fun_ext (λ x. asked-turns c e (do_run n c e (stmt_run c vs a)) x.flow x.state)));
             none = λ u. refl;
           }
