@@ -22,3 +22,4 @@ pub mod Statements
 pub mod Loops
 pub mod Turns
 pub mod LoopStatements
+pub mod Scopes
