@@ -23,3 +23,4 @@ pub mod Loops
 pub mod Turns
 pub mod LoopStatements
 pub mod Scopes
+pub mod Declarations

@@ -184,7 +184,7 @@ module _ (w : Direction) (d : Context) (f : Frame) (flow : Flow) (c : IsSoundCon
 
   -- ---- writing
 
-  store-sim : (width : ℕ) (p r : Origin) (a v : Value) (m : Blocks) → Held (read xs o) s.next a p → Held (read xs o) s.next v r → store width a v q.memory ≡ Some m →
+  pub store-sim : (width : ℕ) (p r : Origin) (a v : Value) (m : Blocks) → Held (read xs o) s.next a p → Held (read xs o) s.next v r → store width a v q.memory ≡ Some m →
       Simulates w d (Values f flow) xs o s.next (store_made width p r s) (gives (source.with_memory q m) v)
   store-sim width p r (At b n) v m g g' z =
       sim-node w d (Values f flow) xs o s (Store width) (p ∷ r ∷ s.carried.memory ∷ []) r (Out s.next 0) s.carried.io (record { value = v; state = source.with_memory q m }) (memory m ∷ []) [] run (
