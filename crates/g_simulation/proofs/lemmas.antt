@@ -24,3 +24,4 @@ pub mod Turns
 pub mod LoopStatements
 pub mod Scopes
 pub mod Declarations
+pub mod Objects

@@ -56,7 +56,7 @@ sub-negative o w n size word h fits =
     by : (a b : ℕ) → a + b ≡ 4294967296 * n → o + b ≤ size → (o + (4294967296 - a % 4294967296)) % 4294967296 ≡ o + b
     by a b e le = omega (arith, e, le, fits)
 
-address-is : (b : BlockName) (x y : ℕ) → x ≡ y → y ≤ b.size → address b x ≡ At b y
+pub address-is : (b : BlockName) (x y : ℕ) → x ≡ y → y ≤ b.size → address b x ≡ At b y
 address-is b x y e le = ap (address b) e ∙ ap (λ t. cond t (At b y) Bad) within
   where
     within : nat_le y b.size ≡ true
@@ -117,7 +117,7 @@ stepped-word false n b o v low fits e =
 
 module _ (w : Direction) (d : Context) (f : Frame) (flow : Flow) (c : IsSoundContext d) (xs : List Datum) (o : Outputs) (t : IsSoundRun xs o) (s : Point) (q : State)
     (h : Holds f flow (read xs o) s.next s.carried q) where
-  carried-sound : (p : Origin) (v : Value) → read xs o p ≡ val v → IsSound v
+  pub carried-sound : (p : Origin) (v : Value) → read xs o p ≡ val v → IsSound v
   carried-sound p v e = subst IsSoundDatum e (read-sound xs o t p)
 
   -- a pointer moved by an integer
