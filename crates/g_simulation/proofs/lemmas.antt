@@ -25,3 +25,4 @@ pub mod LoopStatements
 pub mod Scopes
 pub mod Declarations
 pub mod Objects
+pub mod Begun

@@ -90,7 +90,7 @@ module _ (hs : List ℕ) (n : ℕ) (m : Bool) (flow : Flow) (rd : Origin → Dat
         io_below = h.io_below;
       }
 
-  holds-push-object : (j : ℕ) → Holds (framed hs n m) flow rd k t.carried q → Holds (framed hs (suc n) m) flow rd k (pushed (object j) t).carried (in_scope q (source_state.object j))
+  pub holds-push-object : (j : ℕ) → Holds (framed hs n m) flow rd k t.carried q → Holds (framed hs (suc n) m) flow rd k (pushed (object j) t).carried (in_scope q (source_state.object j))
   holds-push-object j h =
       record {
         slots = slots-add-object rd k t.carried.variables hs q.slots j h.slots;
@@ -144,7 +144,7 @@ module _ (w : Direction) (functions : List Signature) (c : source.Context) (d : 
   -- ---- value variables
 
   -- without a value
-  none-begun : BeginsClaim (λ s. bind (undef_made s) (λ o t. nothing (pushed (held o) t))) (λ q. Returned (in_scope q (source_state.holds Bad)) [])
+  pub none-begun : BeginsClaim (λ s. bind (undef_made s) (λ o t. nothing (pushed (held o) t))) (λ q. Returned (in_scope q (source_state.holds Bad)) [])
   none-begun xs o r s q h =
       line-then w d f normal fit.sound (Stepped g normal) xs o s.next r (undef_made s) (λ p t. nothing (pushed (held p) t)) q Bad (Returned (in_scope q (source_state.holds Bad)) [])
       (undef-line w d f normal xs o s q h) (λ o' r' m'.
@@ -152,7 +152,7 @@ module _ (w : Direction) (functions : List Signature) (c : source.Context) (d : 
       (holds-push hs n m normal (read_origin xs o') (undef_made s).after.next (undef_made s).after q Bad (undef_made s).value m'.post.1 m'.post.0, tt))
 
   -- with a value in which it is not named
-  value-begun : (e : ExprTree) → IsScalar (type_of e) → ExprClaim w functions c d fit (with_waiting hs n m) normal e →
+  pub value-begun : (e : ExprTree) → IsScalar (type_of e) → ExprClaim w functions c d fit (with_waiting hs n m) normal e →
       BeginsClaim (value_begun false (initial_value e)) (λ q. source_stmt.value_begun c (initial_value e) (in_scope q (source_state.holds Bad)))
   value-begun e scalar k xs o r s q h =
       sim-bind w d fit.sound (Typed (with_waiting hs n m) normal (type_of e)) (Stepped g normal) xs o s.next r first (λ v t. nothing (pushed (held v) t)) (expr_run c e (in_scope q (source_state.holds Bad)))
@@ -167,7 +167,7 @@ module _ (w : Direction) (functions : List Signature) (c : source.Context) (d : 
       first = expr_made e s
 
   -- with a value in which it is named
-  named-begun : (e : ExprTree) → IsScalar (type_of e) → ExprClaim w functions c d fit g normal e →
+  pub named-begun : (e : ExprTree) → IsScalar (type_of e) → ExprClaim w functions c d fit g normal e →
       BeginsClaim (value_begun true (initial_value e)) (λ q. source_stmt.value_begun c (initial_value e) (in_scope q (source_state.holds Bad)))
   named-begun e scalar k xs o r s q h =
       line-then w d f normal fit.sound (Stepped g normal) xs o s.next r first (λ p t. bind (expr_made e (pushed (held p) t)) (λ v u. nothing (newest_set (held v) u))) q Bad
