@@ -26,3 +26,4 @@ pub mod Scopes
 pub mod Declarations
 pub mod Objects
 pub mod Begun
+pub mod Induction
