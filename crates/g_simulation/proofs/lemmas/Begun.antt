@@ -1,10 +1,9 @@
 -- A declaration of any variable, from what is claimed of what it begins with.
-use Rattle.std.proofs.Common.{◌≡◌, ◌≤◌, ℕ, suc, List, [], ◌∷◌, refl, sym, ap, ◌∙◌, subst}
-use Rattle.std.specs.Prelude.{Bool, true, false, slice_get, Option, Some, None}
+use Rattle.std.proofs.Common.{◌≡◌, ℕ, suc, List, sym, subst}
+use Rattle.std.specs.Prelude.{Bool, true, false, slice_get, Some}
 use Rattle.val_core.specs.declared.values.BlockName.{BlockName}
 use Rattle.val_core.specs.declared.values.Value.TheVariants.{At, Bad}
 use Rattle.val_core.specs.Refinement.{Direction}
-use Rattle.val_core.specs.Answers.{Answer, Returned}
 use Rattle.c_typed.specs.Typed.{InitialTree, no_initial, initial_value, initial_elements, DeclarationTree, VariableTree}
 use Rattle.c_typed.specs.WellTyped.{Signature, IsScalar, type_of}
 use Rattle.c_typed.specs.Objects.{object_number}
@@ -13,13 +12,13 @@ use Rattle.c_mean.specs.State.{State}
 use Rattle.c_mean.specs.Expressions as source
 use Rattle.c_mean.specs.Statements as source_stmt
 use Rattle.c_mean.specs.Statements.{normal, in_scope, declared}
-use Rattle.g_construct.specs.Writer.{object, Point, pushed, Built}
+use Rattle.g_construct.specs.Writer.{object, Point, pushed}
 use Rattle.g_construct.specs.Statements.{value_begun, object_begun, variable_begun, declared_as}
 use Rattle.g_mean.specs.Data.{Datum}
 use Rattle.g_mean.specs.Meaning.{Context, Outputs, read as read_origin}
 use Rattle.g_simulation.proofs.lemmas.Readings.{IsSoundRun}
 use Rattle.g_simulation.proofs.lemmas.Toolbox.{Simulates}
-use Rattle.g_simulation.proofs.lemmas.Held.{Frame, Holds}
+use Rattle.g_simulation.proofs.lemmas.Held.{Holds}
 use Rattle.g_simulation.proofs.lemmas.Claims.{ContextsFit}
 use Rattle.g_simulation.proofs.lemmas.Forms.{ExprClaim}
 use Rattle.g_simulation.proofs.lemmas.Turns.{Stepped}

@@ -1,14 +1,13 @@
 -- Declarations of variables that begin with a value or with none, and the items in their scope.
-use Rattle.std.proofs.Common.{◌≡◌, ◌≤◌, ◌<◌, inl, inr, ℕ, zero, suc, List, [], ◌∷◌, ◌++◌, map, refl, sym, ap, ◌∙◌, subst, arith}
+use Rattle.std.proofs.Common.{◌≡◌, ℕ, suc, List, [], ◌∷◌, ◌++◌, refl, sym, ap, ◌∙◌, subst, arith}
 use Rattle.std.specs.Prelude.{◌-◌, Bool, true, false, take, length, slice_get, Option, Some, None}
 use Rattle.val_core.specs.declared.values.Value.{Value}
-use Rattle.val_core.specs.declared.values.Value.TheVariants.{Num, At, Bad}
-use Rattle.val_core.specs.Memory.{Memory as Blocks, store}
+use Rattle.val_core.specs.declared.values.Value.TheVariants.{Bad}
 use Rattle.val_core.specs.Refinement.{Direction}
-use Rattle.val_core.specs.Answers.{Answer, Returned, then_on, on_defined}
-use Rattle.c_typed.specs.Typed.{ExprTree, InitialTree, no_initial, initial_value, DeclarationTree, ItemTrees, declare_then, VariableTree}
+use Rattle.val_core.specs.Answers.{Answer, Returned, then_on}
+use Rattle.c_typed.specs.Typed.{ExprTree, initial_value, DeclarationTree, ItemTrees, declare_then, VariableTree}
 use Rattle.c_typed.specs.WellTyped.{Signature, IsScalar, type_of}
-use Rattle.c_typed.specs.Objects.{object_number, access_width}
+use Rattle.c_typed.specs.Objects.{object_number}
 use Rattle.c_mean.specs.State as source_state
 use Rattle.c_mean.specs.State.{State, Valued, used, with_slots}
 use Rattle.c_mean.specs.Expressions as source
@@ -16,26 +15,23 @@ use Rattle.c_mean.specs.Expressions.{expr_run}
 use Rattle.c_mean.specs.Statements as source_stmt
 use Rattle.c_mean.specs.Statements.{Flow, normal, Flowed, in_scope, out_of_scope, newest_written, declared, items_run}
 use Rattle.g_graph.specs.declared.op.Origin.{Origin}
-use Rattle.g_graph.specs.declared.op.Origin.TheVariants.{Arg, Out}
 use Rattle.g_graph.specs.Plain.{nodes_of}
-use Rattle.g_construct.specs.Writer.{SlotOrigin, held, object, newest, Point, pushed, popped, newest_set, Built, nothing, bind, dropped}
-use Rattle.g_construct.specs.Operations.{undef_made, local_made, store_made}
+use Rattle.g_construct.specs.Writer.{held, object, newest, Point, pushed, popped, newest_set, Built, nothing, bind}
+use Rattle.g_construct.specs.Operations.{undef_made}
 use Rattle.g_construct.specs.Expressions.{expr_made}
-use Rattle.g_construct.specs.Statements.{object_stored, value_begun, object_begun, variable_begun, declared_as, declared_made, items_made}
+use Rattle.g_construct.specs.Statements.{value_begun, declared_made, items_made}
 use Rattle.g_construct.specs.Exits.{items_jump}
-use Rattle.g_construct.specs.Laws.{Later, variable_shape, shape_as, declared_shape}
+use Rattle.g_construct.specs.Laws.{variable_shape, shape_as, declared_shape}
 use Rattle.g_construct.proofs.lemmas.Later.{later_then}
 use Rattle.g_construct.proofs.lemmas.LaterExpressions.{expr_later}
 use Rattle.g_construct.proofs.lemmas.LaterStatements.{declared_later, items_later}
-use Rattle.g_built.proofs.lemmas.Exits.{MayJump}
-use Rattle.g_mean.specs.Data.{Datum, val}
+use Rattle.g_mean.specs.Data.{Datum}
 use Rattle.g_mean.specs.Meaning.{Context, Outputs, read as read_origin, nodes_run}
-use Rattle.g_simulation.proofs.lemmas.Readings.{IsBelow, IsSoundRun}
-use Rattle.g_simulation.proofs.lemmas.Toolbox.{Post, Ran, Simulates, sim-goes, sim-given, sim-bind}
+use Rattle.g_simulation.proofs.lemmas.Readings.{IsSoundRun}
+use Rattle.g_simulation.proofs.lemmas.Toolbox.{Ran, Simulates, sim-given, sim-bind}
 use Rattle.g_simulation.proofs.lemmas.Held.{Held, shown-held, Frame, Holds}
-use Rattle.g_simulation.proofs.lemmas.Nodes.{Values, Line, line-then, undef-line, local-line, held-after}
+use Rattle.g_simulation.proofs.lemmas.Nodes.{line-then, undef-line}
 use Rattle.g_simulation.proofs.lemmas.Unary.{used-there}
-use Rattle.g_simulation.proofs.lemmas.Places.{store-sim}
 use Rattle.g_simulation.proofs.lemmas.Claims.{ContextsFit, Typed}
 use Rattle.g_simulation.proofs.lemmas.Forms.{ExprClaim}
 use Rattle.g_simulation.proofs.lemmas.Jumps.{Flows, may-later}
@@ -159,9 +155,11 @@ module _ (w : Direction) (functions : List Signature) (c : source.Context) (d : 
       (λ x. used x.value (λ v. Returned (newest_written x.state v) []))
       (k xs o r s (in_scope q (source_state.holds Bad)) (holds-wait hs n m normal (read_origin xs o) s.next s q h)) (λ y o' r' m'.
       used-there w (Ran (Stepped g normal) xs o' first.after.next (nothing (pushed (held first.value) first.after))) y.value (λ v. Returned (newest_written y.state v) []) (nodes_run d (nodes_of []) xs o') (λ there.
-      sim-given w d (Stepped g normal) xs o' first.after.next tt (pushed (held first.value) first.after) (newest_written y.state y.value) (omega arith)
-      (holds-begun hs n m normal (read_origin xs o') first.after.next first.after y.state y.value first.value
-      (shown-held (read_origin xs o') first.after.next (type_of e) y.value first.value scalar m'.post.1) m'.post.0, tt)))
+      sim-given w d (Stepped g normal) xs o' first.after.next tt (pushed (held first.value) first.after) (newest_written y.state y.value) (omega arith) (
+        holds-begun hs n m normal (read_origin xs o') first.after.next first.after y.state y.value first.value
+            (shown-held (read_origin xs o') first.after.next (type_of e) y.value first.value scalar m'.post.1) m'.post.0,
+        tt,
+      )))
     where
       first : Built Origin
       first = expr_made e s
@@ -176,10 +174,12 @@ module _ (w : Direction) (functions : List Signature) (c : source.Context) (d : 
       (λ x. used x.value (λ v. Returned (newest_written x.state v) []))
       (k xs o1 r1 start (in_scope q (source_state.holds Bad)) (holds-push hs n m normal (read_origin xs o1) first.after.next first.after q Bad first.value m1.post.1 m1.post.0)) (λ y o2 r2 m2.
       used-there w (Ran (Stepped g normal) xs o2 second.after.next (nothing (newest_set (held second.value) second.after))) y.value (λ v. Returned (newest_written y.state v) []) (nodes_run d (nodes_of []) xs o2) (λ there.
-      sim-given w d (Stepped g normal) xs o2 second.after.next tt (newest_set (held second.value) second.after) (newest_written y.state y.value) (omega arith)
-      (holds-newest hs n m normal (read_origin xs o2) second.after.next second.after y.state y.value second.value
-      (newest-later first.after second.after (held first.value) tt (expr_later e start))
-      (shown-held (read_origin xs o2) second.after.next (type_of e) y.value second.value scalar m2.post.1) m2.post.0, tt))))
+      sim-given w d (Stepped g normal) xs o2 second.after.next tt (newest_set (held second.value) second.after) (newest_written y.state y.value) (omega arith) (
+        holds-newest hs n m normal (read_origin xs o2) second.after.next second.after y.state y.value second.value
+            (newest-later first.after second.after (held first.value) tt (expr_later e start))
+            (shown-held (read_origin xs o2) second.after.next (type_of e) y.value second.value scalar m2.post.1) m2.post.0,
+        tt,
+      ))))
     where
       first : Built Origin
       first = undef_made s
@@ -198,11 +198,13 @@ module _ (w : Direction) (functions : List Signature) (c : source.Context) (d : 
       (λ t. then_on (items_run c vs is t) (out_of_scope (length q.slots))) (ce xs o r s q h) (λ t o1 r1 m1.
       sim-bind w d fit.sound (Flows g) (Flows f) xs o1 first.after.next r1 second (λ _ u. nothing (popped u)) (items_run c vs is t) (out_of_scope (length q.slots))
       (cis xs o1 r1 first.after t m1.post.0 (may-later (pushed (declared_shape vs e) s) first.after (items_jump is) (declared_later vs e s) j)) (λ y o2 r2 m2.
-      sim-given w d (Flows f) xs o2 second.after.next tt (popped second.after) (record { flow = y.flow; state = with_slots y.state (take (length q.slots) y.state.slots) }) (omega arith)
-      (subst (λ i. Holds f y.flow (read_origin xs o2) second.after.next (popped second.after).carried (with_slots y.state (take i y.state.slots))) (sym count)
-      (holds-pop hs n m y.flow (read_origin xs o2) second.after.next second.after y.state
-      (newest-later s second.after (declared_shape vs e) (shape-has-slot vs e.variable (slice_get vs e.variable)) (later_then (pushed (declared_shape vs e) s) first.after second.after (declared_later vs e s) (items_later vs is first.after)))
-      m2.post.0), tt)))
+      sim-given w d (Flows f) xs o2 second.after.next tt (popped second.after) (record { flow = y.flow; state = with_slots y.state (take (length q.slots) y.state.slots) }) (omega arith) (
+        subst (λ i. Holds f y.flow (read_origin xs o2) second.after.next (popped second.after).carried (with_slots y.state (take i y.state.slots))) (sym count)
+            (holds-pop hs n m y.flow (read_origin xs o2) second.after.next second.after y.state
+            (newest-later s second.after (declared_shape vs e) (shape-has-slot vs e.variable (slice_get vs e.variable)) (later_then (pushed (declared_shape vs e) s) first.after second.after (declared_later vs e s) (items_later vs is first.after)))
+            m2.post.0),
+        tt,
+      )))
     where
       first : Built (Unit {0})
       first = declared_made vs e s

@@ -1,6 +1,6 @@
 -- Every well-typed statement: what is made of it does what the source does, where `switch` does so.
-use Rattle.std.proofs.Common.{◌≡◌, ◌≤◌, ℕ, zero, suc, List, [], ◌∷◌, ◌++◌, refl, sym, ap, ◌∙◌, subst, arith}
-use Rattle.std.specs.Prelude.{Bool, true, false, length, slice_get, Option, Some, None}
+use Rattle.std.proofs.Common.{◌≡◌, ◌≤◌, ◌<◌, ◌^◌, ℕ, suc, List, [], ◌∷◌, refl, sym, subst, arith}
+use Rattle.std.specs.Prelude.{Bool, true, false, length, slice_get, Some}
 use Rattle.std.proofs.lemmas.List.{length-append}
 use Rattle.val_core.specs.declared.values.BlockName.{BlockName}
 use Rattle.val_core.specs.declared.values.Value.TheVariants.{At}
@@ -8,11 +8,11 @@ use Rattle.val_core.specs.declared.leaf.Leaf.{Leaf}
 use Rattle.val_core.specs.Refinement.{Direction}
 use Rattle.c_type.specs.Trees.{TypeTree}
 use Rattle.c_type.specs.Layout.{leaves}
-use Rattle.c_typed.specs.Typed.{ExprTree, OptionalExpr, no_expr, some_expr, ElementTrees, no_elements, value_then, characters_then, InitialTree, no_initial, initial_value, initial_elements, DeclarationTree, StmtTree, null, value, block, if_else, loop, do_while, break, continue, return_value, return_none, switch, ItemTrees, no_items, stmt_then, declare_then, GroupTrees, no_groups, group_then, VariableTree}
+use Rattle.c_typed.specs.Typed.{ExprTree, OptionalExpr, no_expr, some_expr, ElementTrees, no_elements, value_then, characters_then, InitialTree, no_initial, initial_value, initial_elements, StmtTree, null, value, block, if_else, loop, do_while, break, continue, return_value, return_none, switch, ItemTrees, no_items, stmt_then, declare_then, GroupTrees, no_groups, group_then, VariableTree}
 use Rattle.c_typed.specs.WellTyped.{Scope, extended, IsScalar, IsPromoted, type_of, IsOptionalCondition, OptionalIsTyped, ElementsFit, InitialFits, initial_scope, Jumps, in_loop, in_switch, all_cases, defaults, AreWords, AreDistinct, StmtIsTyped, ItemsAreTyped, GroupsAreTyped}
 use Rattle.c_typed.specs.Objects.{object_number}
 use Rattle.c_mean.specs.Expressions as source
-use Rattle.c_mean.specs.Statements.{normal}
+use Rattle.c_mean.specs.Statements.{normal, group_count}
 use Rattle.g_mean.specs.Meaning.{Context}
 use Rattle.g_simulation.proofs.lemmas.Held.{Frame}
 use Rattle.g_simulation.proofs.lemmas.Claims.{ContextsFit, DividesByWords}
@@ -25,7 +25,7 @@ use Rattle.g_simulation.proofs.lemmas.Declarations.{framed, with_waiting, declar
 use Rattle.g_simulation.proofs.lemmas.Objects.{AreWithin, ElementClaims}
 use Rattle.g_simulation.proofs.lemmas.Begun.{InitialClaims, declaration-sim}
 
--- ---- the sizes of elements of differences are words
+-- ---- the sizes of elements of differences are words, and so are the numbers of groups
 
 abbrev pub OptionalDividesByWords : OptionalExpr → Type 0
 OptionalDividesByWords no_expr = Unit {0}
@@ -42,27 +42,27 @@ InitialDividesByWords (initial_value e) = DividesByWords e
 InitialDividesByWords (initial_elements es) = ElementsDivideByWords es
 
 abbrev mutual
-  pub StmtDividesByWords : StmtTree → Type 0
-  StmtDividesByWords null = Unit {0}
-  StmtDividesByWords (value e) = DividesByWords e
-  StmtDividesByWords (block is) = ItemsDivideByWords is
-  StmtDividesByWords (if_else e a b) = DividesByWords e × StmtDividesByWords a × StmtDividesByWords b
-  StmtDividesByWords (loop e step a) = OptionalDividesByWords e × OptionalDividesByWords step × StmtDividesByWords a
-  StmtDividesByWords (do_while a e) = StmtDividesByWords a × DividesByWords e
-  StmtDividesByWords break = Unit {0}
-  StmtDividesByWords continue = Unit {0}
-  StmtDividesByWords (return_value e) = DividesByWords e
-  StmtDividesByWords return_none = Unit {0}
-  StmtDividesByWords (switch e gs) = DividesByWords e × GroupsDivideByWords gs
+  pub StmtFitsWords : StmtTree → Type 0
+  StmtFitsWords null = Unit {0}
+  StmtFitsWords (value e) = DividesByWords e
+  StmtFitsWords (block is) = ItemsFitWords is
+  StmtFitsWords (if_else e a b) = DividesByWords e × StmtFitsWords a × StmtFitsWords b
+  StmtFitsWords (loop e step a) = OptionalDividesByWords e × OptionalDividesByWords step × StmtFitsWords a
+  StmtFitsWords (do_while a e) = StmtFitsWords a × DividesByWords e
+  StmtFitsWords break = Unit {0}
+  StmtFitsWords continue = Unit {0}
+  StmtFitsWords (return_value e) = DividesByWords e
+  StmtFitsWords return_none = Unit {0}
+  StmtFitsWords (switch e gs) = DividesByWords e × (group_count gs < 2 ^ 32) × GroupsFitWords gs
 
-  pub ItemsDivideByWords : ItemTrees → Type 0
-  ItemsDivideByWords no_items = Unit {0}
-  ItemsDivideByWords (stmt_then a is) = StmtDividesByWords a × ItemsDivideByWords is
-  ItemsDivideByWords (declare_then e is) = InitialDividesByWords e.initial × ItemsDivideByWords is
+  pub ItemsFitWords : ItemTrees → Type 0
+  ItemsFitWords no_items = Unit {0}
+  ItemsFitWords (stmt_then a is) = StmtFitsWords a × ItemsFitWords is
+  ItemsFitWords (declare_then e is) = InitialDividesByWords e.initial × ItemsFitWords is
 
-  pub GroupsDivideByWords : GroupTrees → Type 0
-  GroupsDivideByWords no_groups = Unit {0}
-  GroupsDivideByWords (group_then cases e is gs) = ItemsDivideByWords is × GroupsDivideByWords gs
+  pub GroupsFitWords : GroupTrees → Type 0
+  GroupsFitWords no_groups = Unit {0}
+  GroupsFitWords (group_then cases e is gs) = ItemsFitWords is × GroupsFitWords gs
 
 -- ---- objects
 
@@ -82,7 +82,7 @@ module _ (w : Direction) (c : source.Context) (d : Context) (m : Bool) where
   -- A `switch` does what it does in the source where its value and its groups do.
   abbrev pub SwitchClaims : Type 0
   SwitchClaims =
-      (g : Scope) (fit : ContextsFit w g.functions c d) (n : ℕ) (e : ExprTree) (gs : GroupTrees) → IsPromoted (type_of e) → AreWords (all_cases gs) → AreDistinct (all_cases gs) → defaults gs ≤ 1 →
+      (g : Scope) (fit : ContextsFit w g.functions c d) (n : ℕ) (e : ExprTree) (gs : GroupTrees) → IsPromoted (type_of e) → AreWords (all_cases gs) → AreDistinct (all_cases gs) → defaults gs ≤ 1 → group_count gs < 2 ^ 32 →
       ((hs : List ℕ) → ExprClaim w g.functions c d fit (framed hs n m) normal e) → GroupClaims g fit n gs → (hs : List ℕ) → StmtClaim w g.functions c d fit (framed hs n m) g.variables (switch e gs)
 
   elements-claimed : (g : Scope) (fit : ContextsFit w g.functions c d) (f : Frame) → length g.slots ≤ f.count → (es : ElementTrees) (ls : List Leaf) (from : ℕ) → ElementsFit g ls from es → ElementsDivideByWords es →
@@ -131,7 +131,7 @@ module _ (w : Direction) (c : source.Context) (d : Context) (m : Bool) where
         (o.0, o.1, o.2, elements-claimed g fit (framed hs (suc n) m) (omega (arith, count)) es (leaves g.structs v.type) 0 h.1 k)
 
     mutual
-      pub stmt-sim : (g : Scope) (fit : ContextsFit w g.functions c d) → ObjectsFit g d → (n : ℕ) → length g.slots ≡ n → (j : Jumps) (a : StmtTree) → StmtIsTyped g j a → StmtDividesByWords a → (hs : List ℕ) →
+      pub stmt-sim : (g : Scope) (fit : ContextsFit w g.functions c d) → ObjectsFit g d → (n : ℕ) → length g.slots ≡ n → (j : Jumps) (a : StmtTree) → StmtIsTyped g j a → StmtFitsWords a → (hs : List ℕ) →
           StmtClaim w g.functions c d fit (framed hs n m) g.variables a
       stmt-sim g fit objects n count j null h k hs = null-stmt w g.functions c d fit (framed hs n m) g.variables
       stmt-sim g fit objects n count j (value e) h k hs =
@@ -152,9 +152,9 @@ module _ (w : Direction) (c : source.Context) (d : Context) (m : Bool) where
           return-value-stmt w g.functions c d fit (framed hs n m) g.variables e (subst IsScalar (sym h.1) h.2) (expr-sim w g c d fit (framed hs n m) (omega (arith, count)) normal e h.0 k)
       stmt-sim g fit objects n count j return_none h k hs = return-none-stmt w g.functions c d fit (framed hs n m) g.variables
       stmt-sim g fit objects n count j (switch e gs) h k hs =
-          switches g fit n e gs h.1 h.3 h.4 h.5 (λ hs'. expr-sim w g c d fit (framed hs' n m) (omega (arith, count)) normal e h.0 k.0) (groups-sim g fit objects n count (in_switch j) gs h.2 k.1) hs
+          switches g fit n e gs h.1 h.3 h.4 h.5 k.1 (λ hs'. expr-sim w g c d fit (framed hs' n m) (omega (arith, count)) normal e h.0 k.0) (groups-sim g fit objects n count (in_switch j) gs h.2 k.2) hs
 
-      pub items-sim : (g : Scope) (fit : ContextsFit w g.functions c d) → ObjectsFit g d → (n : ℕ) → length g.slots ≡ n → (j : Jumps) (is : ItemTrees) → ItemsAreTyped g j is → ItemsDivideByWords is → (hs : List ℕ) →
+      pub items-sim : (g : Scope) (fit : ContextsFit w g.functions c d) → ObjectsFit g d → (n : ℕ) → length g.slots ≡ n → (j : Jumps) (is : ItemTrees) → ItemsAreTyped g j is → ItemsFitWords is → (hs : List ℕ) →
           ItemsClaim w g.functions c d fit (framed hs n m) g.variables is
       items-sim g fit objects n count j no_items h k hs = no-items w g.functions c d fit (framed hs n m) g.variables
       items-sim g fit objects n count j (stmt_then a is) h k hs =
@@ -166,7 +166,7 @@ module _ (w : Direction) (c : source.Context) (d : Context) (m : Bool) where
           (initial-claims g fit objects n count hs e.variable h.0 h.1 h.2.0 h.0.is_object e.names_itself e.initial refl h.2.2 k.0))
           (items-sim (extended g h.0) fit objects (suc n) (omega (arith, count, more)) j is h.3 k.1 hs)
 
-      groups-sim : (g : Scope) (fit : ContextsFit w g.functions c d) → ObjectsFit g d → (n : ℕ) → length g.slots ≡ n → (j : Jumps) (gs : GroupTrees) → GroupsAreTyped g j gs → GroupsDivideByWords gs →
+      groups-sim : (g : Scope) (fit : ContextsFit w g.functions c d) → ObjectsFit g d → (n : ℕ) → length g.slots ≡ n → (j : Jumps) (gs : GroupTrees) → GroupsAreTyped g j gs → GroupsFitWords gs →
           GroupClaims g fit n gs
       groups-sim g fit objects n count j no_groups h k = tt
       groups-sim g fit objects n count j (group_then cases e is gs) h k =

@@ -1,20 +1,19 @@
 -- Declarations of objects: what they begin with is written in memory.
-use Rattle.std.proofs.Common.{◌≡◌, ◌≤◌, ◌<◌, ℕ, suc, List, [], ◌∷◌, ◌++◌, refl, sym, ap, ◌∙◌, subst, arith}
+use Rattle.std.proofs.Common.{◌≡◌, ◌≤◌, ◌<◌, ℕ, suc, List, [], ◌∷◌, refl, ◌∙◌, subst, arith}
 use Rattle.std.specs.Prelude.{◌+◌, ◌%◌, ◌^◌, Option, Some, None, option_and_then}
 use Rattle.val_core.specs.declared.values.BlockName.{BlockName}
 use Rattle.val_core.specs.declared.values.Value.{Value}
-use Rattle.val_core.specs.declared.values.Value.TheVariants.{Num, At, Bad}
+use Rattle.val_core.specs.declared.values.Value.TheVariants.{Num, At}
 use Rattle.val_core.specs.declared.operation.Op2.TheVariants as op
 use Rattle.val_core.specs.Words.{word2}
 use Rattle.val_core.specs.Values.{value2}
 use Rattle.val_core.specs.Memory.{Memory as Blocks, store, cleared}
 use Rattle.val_core.specs.Refinement.{Direction}
-use Rattle.val_core.specs.Answers.{Answer, Returned, then_on, on_defined}
+use Rattle.val_core.specs.Answers.{Answer, Returned, on_defined}
 use Rattle.c_typed.specs.Typed.{ExprTree, ElementTrees, no_elements, value_then, characters_then, no_initial, initial_value, initial_elements}
 use Rattle.c_typed.specs.WellTyped.{Signature, IsScalar, type_of}
 use Rattle.c_typed.specs.Objects.{access_width}
-use Rattle.c_mean.specs.State as source_state
-use Rattle.c_mean.specs.State.{State, Valued, gives, used, with_memory, bytes_into}
+use Rattle.c_mean.specs.State.{State, gives, used, with_memory, bytes_into}
 use Rattle.c_mean.specs.Expressions as source
 use Rattle.c_mean.specs.Expressions.{expr_run}
 use Rattle.c_mean.specs.Statements as source_stmt
@@ -23,14 +22,14 @@ use Rattle.g_graph.specs.declared.op.Op.TheVariants.{Clear}
 use Rattle.g_graph.specs.declared.op.Origin.{Origin}
 use Rattle.g_graph.specs.declared.op.Origin.TheVariants.{Out}
 use Rattle.g_graph.specs.Plain.{node, nodes_of, no_regions}
-use Rattle.g_construct.specs.Writer.{object, Point, pushed, Built, nothing, bind, dropped}
+use Rattle.g_construct.specs.Writer.{Point, Built, nothing, bind, dropped}
 use Rattle.g_construct.specs.Operations.{const_made, bin_made, local_made, store_made, clear_made, at_offset_made}
 use Rattle.g_construct.specs.Expressions.{expr_made}
 use Rattle.g_construct.specs.Statements.{object_stored, element_stored, characters_made, elements_made, object_begun}
 use Rattle.g_mean.specs.Data.{Datum, val, memory, on_memory}
 use Rattle.g_mean.specs.Meaning as graph
 use Rattle.g_mean.specs.Meaning.{Context, Outputs, extended, read as read_origin, node_run, nodes_run}
-use Rattle.g_simulation.proofs.lemmas.Readings.{IsBelow, below-later, Keeps, stay-keeps, extended-here, extended-stay, IsSoundRun}
+use Rattle.g_simulation.proofs.lemmas.Readings.{below-later, Keeps, stay-keeps, extended-here, extended-stay, IsSoundRun}
 use Rattle.g_simulation.proofs.lemmas.Toolbox.{Ran, Simulates, sim-given, sim-node, sim-bind}
 use Rattle.g_simulation.proofs.lemmas.Held.{Held, held-is, shown-held, Frame, Holds}
 use Rattle.g_simulation.proofs.lemmas.Nodes.{Values, Line, line-then, with-const, const-line, bin-line, local-line, held-after}
@@ -38,7 +37,7 @@ use Rattle.g_simulation.proofs.lemmas.Unary.{used-there, holds-states}
 use Rattle.g_simulation.proofs.lemmas.Places.{store-sim}
 use Rattle.g_simulation.proofs.lemmas.Pointers.{address-is, carried-sound}
 use Rattle.g_simulation.proofs.lemmas.Claims.{ContextsFit, Typed}
-use Rattle.g_simulation.proofs.lemmas.Forms.{Claims, ExprClaim}
+use Rattle.g_simulation.proofs.lemmas.Forms.{ExprClaim}
 use Rattle.g_simulation.proofs.lemmas.Turns.{Stepped}
 
 -- what is done to a memory, in a state
@@ -198,9 +197,11 @@ module _ (w : Direction) (functions : List Signature) (c : source.Context) (d : 
 
   clear-sim : (k : ℕ) (b : BlockName) → d.addresses.local k ≡ At b 0 → Initials (clear_made k) (λ q. Returned (with_memory q (cleared b q.memory)) [])
   clear-sim k b z xs o t s q h =
-      sim-node w d (Stepped f normal) xs o s (Clear k) (s.carried.memory ∷ []) tt (Out s.next 0) s.carried.io (with_memory q m) (memory m ∷ []) [] run
-      (holds-states f normal (read_origin xs o) (read_origin xs o1) s q m q.input (Out s.next 0) s.carried.io same h (extended-here o s.next (memory m ∷ []) 0) (omega arith)
-      (same s.carried.io h.io_below ∙ h.io) (below-later s.next (suc s.next) s.carried.io (omega arith) h.io_below), tt)
+      sim-node w d (Stepped f normal) xs o s (Clear k) (s.carried.memory ∷ []) tt (Out s.next 0) s.carried.io (with_memory q m) (memory m ∷ []) [] run (
+        holds-states f normal (read_origin xs o) (read_origin xs o1) s q m q.input (Out s.next 0) s.carried.io same h (extended-here o s.next (memory m ∷ []) 0) (omega arith)
+            (same s.carried.io h.io_below ∙ h.io) (below-later s.next (suc s.next) s.carried.io (omega arith) h.io_below),
+        tt,
+      )
     where
       m : Blocks
       m = cleared b q.memory

@@ -1,13 +1,12 @@
 -- Variables come into scope and leave it on both sides.
-use Rattle.std.proofs.Common.{◌≡◌, ◌≤◌, ◌<◌, ℕ, zero, suc, List, [], ◌∷◌, ◌++◌, map, refl, sym, ap, ◌∙◌, subst, arith}
-use Rattle.std.specs.Prelude.{◌-◌, take, length, Option, Some, None}
+use Rattle.std.proofs.Common.{◌≡◌, ℕ, suc, List, [], ◌∷◌, ◌++◌, refl, sym, ap, ◌∙◌, subst, arith}
+use Rattle.std.specs.Prelude.{◌-◌, take, length, Option, Some}
 use Rattle.std.proofs.lemmas.List.{length-append}
 use Rattle.std.proofs.Math.Seq.{take-append_seam}
 use Rattle.val_core.specs.declared.values.Value.{Value}
 use Rattle.c_mean.specs.State as source
 use Rattle.c_mean.specs.State.{Slot}
 use Rattle.g_graph.specs.declared.op.Origin.{Origin}
-use Rattle.g_graph.specs.declared.op.Origin.TheVariants.{Arg}
 use Rattle.g_construct.specs.Writer.{SlotOrigin, held, object, hidden, newest, without_newest, Point, pushed}
 use Rattle.g_construct.specs.Laws.{shape, Later}
 use Rattle.g_mean.specs.Data.{Datum}
@@ -113,9 +112,11 @@ slots-left rd n xs hs ss m t e h =
     let r = newest-last xs t in
     let sum = named-add (without_newest xs) r.0 (one-slot r.0 r.2) in
     let all : named xs ≡ suc (named (without_newest xs)) = ap named r.1 ∙ sum in
-    let same : named (without_newest xs) ≡ m = omega (arith, all, e) in
-    (subst (λ k. SlotsHeld rd n [] (without_newest xs) hs (take k ss)) same
-    (slots-drop rd n (without_newest xs) r.0 hs ss r.2 (subst (λ ys. SlotsHeld rd n [] ys hs ss) r.1 h)), same)
+    let same : named (without_newest xs) ≡ m = omega (arith, all, e) in (
+      subst (λ k. SlotsHeld rd n [] (without_newest xs) hs (take k ss)) same
+          (slots-drop rd n (without_newest xs) r.0 hs ss r.2 (subst (λ ys. SlotsHeld rd n [] ys hs ss) r.1 h)),
+      same,
+    )
 
 -- as many variables are carried as there are slots
 pub slots-count : (rd : Origin → Datum) (n : ℕ) (xs : List SlotOrigin) (hs : List ℕ) (ss : List Slot) → SlotsHeld rd n [] xs hs ss → length ss ≡ named xs
