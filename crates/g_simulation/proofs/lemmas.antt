@@ -27,3 +27,4 @@ pub mod Declarations
 pub mod Objects
 pub mod Begun
 pub mod Induction
+pub mod Bodies
