@@ -28,3 +28,4 @@ pub mod Objects
 pub mod Begun
 pub mod Induction
 pub mod Bodies
+pub mod Programs

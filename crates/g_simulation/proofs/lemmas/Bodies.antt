@@ -1,7 +1,6 @@
 -- Bodies of functions without `go` and `ret`: a `return` that is last gives the value.
-use Rattle.std.proofs.Common.{◌≡◌, ◌≤◌, inr, ℕ, suc, List, [], ◌∷◌, ◌++◌, refl, sym, ap, ◌∙◌, subst, arith}
-use Rattle.std.specs.Prelude.{◌&&◌, ◌||◌, not, Bool, true, false, take, length, slice_get, Option, Some, None}
-use Rattle.std.proofs.lemmas.List.{length-append}
+use Rattle.std.proofs.Common.{◌≡◌, ◌≤◌, ℕ, suc, List, [], refl, sym, ◌∙◌, subst}
+use Rattle.std.specs.Prelude.{Bool, true, false, take, length, slice_get, Some, None}
 use Rattle.val_core.specs.declared.values.Value.{Value}
 use Rattle.val_core.specs.declared.values.Value.TheVariants.{Num, At, Bad}
 use Rattle.val_core.specs.Refinement.{Direction, exactly, Refines}
@@ -10,26 +9,26 @@ use Rattle.val_core.proofs.lemmas.Answers.{then_associates, then_nothing}
 use Rattle.val_core.proofs.lemmas.Refinement.{exactly-goes, refines-then}
 use Rattle.c_typed.specs.Typed.{ExprTree, DeclarationTree, StmtTree, null, value, block, if_else, loop, do_while, break, continue, return_value, return_none, switch, ItemTrees, no_items, stmt_then, declare_then, VariableTree}
 use Rattle.c_typed.specs.WellTyped.{Signature, IsScalar, type_of}
-use Rattle.c_mean.specs.State.{State, Valued, used, with_slots}
+use Rattle.c_mean.specs.State.{State, used, with_slots}
 use Rattle.c_mean.specs.Expressions as source
 use Rattle.c_mean.specs.Expressions.{expr_run, value_or_none}
-use Rattle.c_mean.specs.Statements.{Flow, normal, returned, Flowed, flows, goes_on, if_normal, out_of_scope, declared, stmt_run, items_run}
+use Rattle.c_mean.specs.Statements.{normal, returned, Flowed, flows, goes_on, if_normal, out_of_scope, declared, stmt_run, items_run}
 use Rattle.c_mean.specs.Run.{value_at_end}
 use Rattle.g_graph.specs.declared.op.Origin.{Origin}
 use Rattle.g_graph.specs.Plain.{nodes_of}
 use Rattle.g_construct.specs.Writer.{Form, straight, jumping, Point, Built, bind}
 use Rattle.g_construct.specs.Operations.{const_made, undef_made}
 use Rattle.g_construct.specs.Expressions.{expr_made}
-use Rattle.g_construct.specs.Exits.{stmt_jumps, is_return, some_items, body_jumps}
+use Rattle.g_construct.specs.Exits.{stmt_jumps, is_return, some_items}
 use Rattle.g_construct.specs.Statements.{declared_made, stmt_made}
 use Rattle.g_construct.specs.Functions.{end_value, straight_then, straight_made}
 use Rattle.g_construct.proofs.lemmas.LaterStatements.{stmt_later, declared_later}
-use Rattle.g_built.proofs.lemmas.Exits.{MayJump, neither_left, neither_right}
+use Rattle.g_built.proofs.lemmas.Exits.{MayJump}
 use Rattle.g_mean.specs.Data.{Datum, memory, input}
 use Rattle.g_mean.specs.Meaning.{Context, Outputs, read as read_origin, nodes_run}
 use Rattle.g_simulation.proofs.lemmas.Readings.{Stay, IsSoundRun}
 use Rattle.g_simulation.proofs.lemmas.Toolbox.{Post, Ran, Simulates, sim-goes, sim-bind}
-use Rattle.g_simulation.proofs.lemmas.Held.{Held, shown-held, JumpsHeld, Frame, Holds}
+use Rattle.g_simulation.proofs.lemmas.Held.{Held, shown-held, JumpsHeld, Holds}
 use Rattle.g_simulation.proofs.lemmas.Nodes.{Line, const-line, undef-line}
 use Rattle.g_simulation.proofs.lemmas.Claims.{ContextsFit, Typed}
 use Rattle.g_simulation.proofs.lemmas.Forms.{ExprClaim}
