@@ -1,9 +1,9 @@
 -- Worked rows: programs, their runs, and the runs of their graphs.
-use Rattle.std.specs.Prelude.{◌≡◌, ℕ, Bool, true, false, refl, List, [], ◌∷◌}
+use Rattle.std.specs.Prelude.{◌≡◌, ℕ, true, false, refl, List, [], ◌∷◌}
 use Rattle.val_core.specs.declared.operation.Op2.{Op2}
 use Rattle.val_core.specs.declared.operation.Op2.TheVariants as op
 use Rattle.val_core.specs.Events.{Event, wrote, took, met}
-use Rattle.val_core.specs.Answers.{Answer, Returned, Cut, Exited, Undefined, events}
+use Rattle.val_core.specs.Answers.{Answer, Cut, Exited, Undefined}
 use Rattle.c_type.specs.declared.scalar.Scalar.TheVariants as scalar
 use Rattle.c_type.specs.Trees.{TypeTree, scalar_type, pointer_to, void_type}
 use Rattle.c_typed.specs.declared.operator.Relation.{Relation}

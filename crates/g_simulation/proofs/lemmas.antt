@@ -22,3 +22,10 @@ pub mod Statements
 pub mod Loops
 pub mod Turns
 pub mod LoopStatements
+pub mod Scopes
+pub mod Declarations
+pub mod Objects
+pub mod Begun
+pub mod Induction
+pub mod Bodies
+pub mod Programs

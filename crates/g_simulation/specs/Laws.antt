@@ -3,7 +3,7 @@ use Rattle.std.specs.Prelude.{◌≡◌, ℕ, ◌≤◌, List, [], ◌∷◌, �
 use Rattle.val_core.specs.declared.values.Value.{Value}
 use Rattle.val_core.specs.Memory.{Memory as Blocks, IsSoundMemory}
 use Rattle.val_core.specs.Events.{deepest}
-use Rattle.val_core.specs.Answers.{Answer, IsUndefined, events}
+use Rattle.val_core.specs.Answers.{IsUndefined, events}
 use Rattle.val_core.specs.Within.{behaviour, Within, Given, IsLessDefinedOption}
 use Rattle.c_typed.specs.Typed.{FunctionTree, ProgramTree}
 use Rattle.c_typed.specs.WellTyped.{IsWellTyped}

@@ -2,3 +2,5 @@
 //! program does. It stands on the definitions of c_mean, g_construct and g_mean. It promises the
 //! laws, nothing in it runs, and it takes no memory.
 #![tactic(auto)]
+
+pub mod laws;

@@ -1,16 +1,16 @@
 -- Assignments, compound ones, and `++` and `--`, from what is claimed of their operands.
-use Rattle.std.proofs.Common.{◌≡◌, ◌≤◌, ℕ, suc, List, [], ◌∷◌, refl, sym, ap, ◌∙◌, subst, arith}
+use Rattle.std.proofs.Common.{◌≡◌, ℕ, List, refl, sym, subst, arith}
 use Rattle.std.specs.Prelude.{Bool, true, false, if◌then◌else◌, Some, Option, None}
 use Rattle.val_core.specs.declared.values.Value.{Value}
 use Rattle.val_core.specs.declared.values.Value.TheVariants.{Num, At, Bad}
 use Rattle.val_core.specs.Refinement.{Direction}
-use Rattle.val_core.specs.Answers.{Answer, Returned, then_on, on_defined}
+use Rattle.val_core.specs.Answers.{Answer, then_on, on_defined}
 use Rattle.c_type.specs.Layout.{Definitions}
 use Rattle.c_type.specs.declared.scalar.Scalar.TheVariants as scalar
 use Rattle.c_type.specs.Trees.{TypeTree, void_type, scalar_type, pointer_to, array_of, struct_type}
 use Rattle.c_typed.specs.declared.operator.CompoundOp.{CompoundOp}
 use Rattle.c_typed.specs.declared.operator.IncDec.{IncDec}
-use Rattle.c_typed.specs.Typed.{ExprTree, FormTree, assign, compound, inc_dec, PlaceTree}
+use Rattle.c_typed.specs.Typed.{ExprTree, assign, compound, inc_dec, PlaceTree}
 use Rattle.c_typed.specs.WellTyped.{Signature, IsScalar, type_of, CompoundFits, IncDecFits}
 use Rattle.c_mean.specs.State.{State, Valued, gives, used, converted}
 use Rattle.c_mean.specs.Expressions as source
@@ -23,13 +23,12 @@ use Rattle.g_construct.specs.Operations.{converted_made}
 use Rattle.g_construct.specs.Places.{Spot, spot_read, spot_written}
 use Rattle.g_construct.specs.Expressions.{compound_made, stepped_made, expr_made, form_made, place_made}
 use Rattle.g_construct.specs.Laws.{Later}
-use Rattle.g_construct.proofs.lemmas.Later.{later_then}
 use Rattle.g_construct.proofs.lemmas.LaterExpressions.{converted_later, expr_later}
-use Rattle.g_mean.specs.Data.{Datum, val}
+use Rattle.g_mean.specs.Data.{Datum}
 use Rattle.g_mean.specs.Meaning.{Context, Outputs, read as read_origin, nodes_run}
 use Rattle.g_simulation.proofs.lemmas.Readings.{stay-keeps, IsSoundRun}
 use Rattle.g_simulation.proofs.lemmas.Toolbox.{Post, Ran, Simulates, sim-given, sim-bind}
-use Rattle.g_simulation.proofs.lemmas.Held.{Held, held-is, held-exactly, IsThere, shown, shown-held, Frame, Holds}
+use Rattle.g_simulation.proofs.lemmas.Held.{Held, held-is, IsThere, shown-held, Frame, Holds}
 use Rattle.g_simulation.proofs.lemmas.Nodes.{Values, Line, line-then, held-after}
 use Rattle.g_simulation.proofs.lemmas.Unary.{used-there, converted-line}
 use Rattle.g_simulation.proofs.lemmas.Places.{SpotHeld, Places, spot-later, spot-read-sim, spot-written-sim}
@@ -204,14 +203,16 @@ module _ (w : Direction) (functions : List Signature) (c : source.Context) (d : 
           let u : Value = converted t v in
           let fifth : Built Origin = spot_written t first.value fourth.value fourth.after in
           let before : Held (read_origin xs o4) fourth.after.next old.value second.value =
-              held-after (Line f flow old.state u) xs o3 third.after.next fourth tt o4 m4 old.value second.value (held-after (Line f flow old.state v) xs o2 second.after.next third tt o3 m3 old.value second.value g) in
+          held-after (Line f flow old.state u) xs o3 third.after.next fourth tt o4 m4 old.value second.value (held-after (Line f flow old.state v) xs o2 second.after.next third tt o3 m3 old.value second.value g) in
           sim-bind w d fit.sound (Values f flow) (Values f flow) xs o4 fourth.after.next r4 fifth (λ _ y. given (if i.gives_old then second.value else fourth.value) y)
           (source.spot_written t x u old.state) (λ y. gives y.state (if i.gives_old then old.value else u))
           (spot-written-sim w d f flow fit.sound xs o4 r4 fourth.after old.state m4.post.0 t x first.value u fourth.value
           (spot-after (Line f flow old.state u) xs o3 third.after fourth tt o4 m4 (converted_later t third.value third.after) x first.value
           (spot-after (Line f flow old.state v) xs o2 second.after third tt o3 m3 (stepped-keeps i second.value second.after) x first.value spot)) m4.post.1) (λ y o5 r5 m5.
           sim-given w d (Values f flow) xs o5 fifth.after.next (if i.gives_old then second.value else fourth.value) fifth.after
-          (record { value = if i.gives_old then old.value else u; state = y.state }) (omega arith)
-          (m5.post.0, given-held (read_origin xs o5) fifth.after.next i.gives_old old.value u second.value fourth.value
-          (held-after (Values f flow) xs o4 fourth.after.next fifth y o5 m5 old.value second.value before)
-          (held-after (Values f flow) xs o4 fourth.after.next fifth y o5 m5 u fourth.value m4.post.1)))))
+          (record { value = if i.gives_old then old.value else u; state = y.state }) (omega arith) (
+            m5.post.0,
+            given-held (read_origin xs o5) fifth.after.next i.gives_old old.value u second.value fourth.value
+                (held-after (Values f flow) xs o4 fourth.after.next fifth y o5 m5 old.value second.value before)
+                (held-after (Values f flow) xs o4 fourth.after.next fifth y o5 m5 u fourth.value m4.post.1),
+          ))))

@@ -1,33 +1,31 @@
 -- Operations on two operands, of compound assignments, and of `++` and `--`.
-use Rattle.std.proofs.Common.{◌≡◌, ◌≤◌, ◌<◌, inl, inr, ℕ, suc, List, [], ◌∷◌, ◌%◌, ◌^◌, refl, sym, ap, ◌∙◌, subst, arith}
-use Rattle.std.specs.Prelude.{Bool, true, false, cond, Some, Option, None}
+use Rattle.std.proofs.Common.{◌≡◌, ◌<◌, ℕ, List, [], ◌^◌, refl, sym, ◌∙◌, subst}
+use Rattle.std.specs.Prelude.{Bool, true, false, cond, Some, None}
 use Rattle.val_core.specs.declared.values.Value.{Value}
 use Rattle.val_core.specs.declared.values.Value.TheVariants.{Num, At, Bad}
 use Rattle.val_core.specs.declared.operation.Op2.{Op2}
 use Rattle.val_core.specs.declared.operation.Op2.TheVariants as op
 use Rattle.val_core.specs.Words.{word2}
-use Rattle.val_core.specs.Values.{value2}
 use Rattle.val_core.specs.Refinement.{Direction}
-use Rattle.val_core.specs.Answers.{Answer, Returned}
+use Rattle.val_core.specs.Answers.{Returned}
 use Rattle.c_type.specs.Layout.{Definitions}
-use Rattle.c_type.specs.declared.scalar.Scalar.TheVariants as scalar
 use Rattle.c_type.specs.Trees.{TypeTree, void_type, scalar_type, pointer_to, array_of, struct_type}
 use Rattle.c_typed.specs.declared.operator.BinaryOp.{BinaryOp}
 use Rattle.c_typed.specs.declared.operator.BinaryOp.TheVariants as binary_op
 use Rattle.c_typed.specs.declared.operator.CompoundOp.{CompoundOp}
 use Rattle.c_typed.specs.declared.operator.CompoundOp.TheVariants as compound_op
 use Rattle.c_typed.specs.declared.operator.IncDec.{IncDec}
-use Rattle.c_typed.specs.WellTyped.{IsScalar, IsInteger, IsPromoted, is_shift, Serves, IsRightOf, int, unsigned_int, if_unsigned, PointsTo, IsCompared, BinaryFits, CompoundFits, IncDecFits}
-use Rattle.c_mean.specs.State.{State, gives, arithmetic, is_defined_on, pointer_moved}
+use Rattle.c_typed.specs.WellTyped.{IsScalar, is_shift, Serves, IsRightOf, if_unsigned, PointsTo, IsCompared, BinaryFits, CompoundFits, IncDecFits}
+use Rattle.c_mean.specs.State.{State, arithmetic, is_defined_on, pointer_moved}
 use Rattle.c_mean.specs.Expressions.{binary_done, compound_done, stepped, step_op}
 use Rattle.c_mean.specs.Statements.{Flow}
 use Rattle.g_graph.specs.declared.op.Origin.{Origin}
-use Rattle.g_construct.specs.Writer.{Point, Built, bind}
+use Rattle.g_construct.specs.Writer.{Point, bind}
 use Rattle.g_construct.specs.Operations.{const_made, bin_made}
 use Rattle.g_construct.specs.Expressions.{binary_made, compound_made, stepped_made}
-use Rattle.g_mean.specs.Data.{Datum, val}
+use Rattle.g_mean.specs.Data.{Datum}
 use Rattle.g_mean.specs.Meaning.{Context, Outputs, read}
-use Rattle.g_simulation.proofs.lemmas.Readings.{IsBelow, IsSoundContext, IsSoundRun}
+use Rattle.g_simulation.proofs.lemmas.Readings.{IsSoundContext, IsSoundRun}
 use Rattle.g_simulation.proofs.lemmas.Toolbox.{Simulates}
 use Rattle.g_simulation.proofs.lemmas.Held.{Held, held-is, shown, shown-held, Frame, Holds}
 use Rattle.g_simulation.proofs.lemmas.Nodes.{Values, Line, with-const, bin-line}

@@ -1,34 +1,33 @@
 -- Calls of functions, and a byte of the input.
-use Rattle.std.proofs.Common.{◌≡◌, ◌≤◌, inl, inr, ℕ, suc, List, [], ◌∷◌, ◌++◌, map, refl, sym, ap, ap₂, ◌∙◌, subst, arith}
+use Rattle.std.proofs.Common.{◌≡◌, inl, inr, ℕ, suc, List, [], ◌∷◌, ◌++◌, map, refl, sym, ap, ap₂, ◌∙◌, subst, arith}
 use Rattle.std.specs.Prelude.{◌-◌, ◌^◌, length, slice_get, Some, Option, None}
 use Rattle.val_core.specs.declared.values.Value.{Value}
-use Rattle.val_core.specs.declared.values.Value.TheVariants.{Num, Bad}
+use Rattle.val_core.specs.declared.values.Value.TheVariants.{Num}
 use Rattle.val_core.specs.Values.{IsLessDefined}
 use Rattle.val_core.specs.Memory.{Memory as Blocks}
 use Rattle.val_core.specs.Events.{took}
 use Rattle.val_core.specs.Refinement.{Direction, exactly, Refines}
-use Rattle.val_core.specs.Answers.{Answer, Returned, then_on}
+use Rattle.val_core.specs.Answers.{Returned, then_on}
 use Rattle.val_core.specs.Within.{Given, IsLessDefinedOption}
 use Rattle.val_core.proofs.lemmas.Refinement.{exactly-goes, refines-then}
 use Rattle.c_typed.specs.WellTyped.{Signature}
-use Rattle.c_mean.specs.State.{State, Valued}
+use Rattle.c_mean.specs.State.{State}
 use Rattle.c_mean.specs.Expressions as source
 use Rattle.c_mean.specs.Expressions.{back_from, value_or_none}
 use Rattle.c_mean.specs.Statements.{Flow}
-use Rattle.g_graph.specs.declared.op.Op.TheVariants.{Apply, Get}
+use Rattle.g_graph.specs.declared.op.Op.TheVariants.{Get}
 use Rattle.g_graph.specs.declared.op.Origin.{Origin}
 use Rattle.g_graph.specs.declared.op.Origin.TheVariants.{Out}
-use Rattle.g_graph.specs.Plain.{node, no_regions}
-use Rattle.g_construct.specs.Writer.{Point, Built}
+use Rattle.g_construct.specs.Writer.{Point}
 use Rattle.g_construct.specs.Operations.{apply_made, get_made}
 use Rattle.g_mean.specs.Data.{Datum, val, memory, input, at_port, on_input}
 use Rattle.g_mean.specs.Meaning as graph
 use Rattle.g_mean.specs.Meaning.{Context, Outputs, extended, read, node_run}
 use Rattle.g_mean.specs.LessDefined.{AreSound}
 use Rattle.g_simulation.specs.Laws.{taken, GivesBack}
-use Rattle.g_simulation.proofs.lemmas.Readings.{IsBelow, below-later, Keeps, stay-keeps, extended-here, extended-stay, IsSoundContext, IsSoundRun}
+use Rattle.g_simulation.proofs.lemmas.Readings.{below-later, Keeps, stay-keeps, extended-here, extended-stay, IsSoundRun}
 use Rattle.g_simulation.proofs.lemmas.Toolbox.{Ran, Simulates, sim-node}
-use Rattle.g_simulation.proofs.lemmas.Held.{Held, Frame, Holds}
+use Rattle.g_simulation.proofs.lemmas.Held.{Frame, Holds}
 use Rattle.g_simulation.proofs.lemmas.Renamed.{reads-sound}
 use Rattle.g_simulation.proofs.lemmas.Nodes.{Values}
 use Rattle.g_simulation.proofs.lemmas.Unary.{holds-states}
@@ -71,7 +70,7 @@ module _ (w : Direction) (d : Context) (f : Frame) (flow : Flow) (xs : List Datu
           stay = extended-stay o s.next ys;
           post = (
             holds-states f flow (read xs o) (read xs (extended o s.next ys)) s q g.memory g.input (Out s.next 1) (Out s.next 2) (same-after ys) h
-            (extended-here o s.next ys 1 ∙ ap (λ z. at_port z 1) b.is) (omega arith) (extended-here o s.next ys 2 ∙ ap (λ z. at_port z 2) b.is) (omega arith),
+                (extended-here o s.next ys 1 ∙ ap (λ z. at_port z 1) b.is) (omega arith) (extended-here o s.next ys 2 ∙ ap (λ z. at_port z 2) b.is) (omega arith),
             record { far = b.value; is = extended-here o s.next ys 0 ∙ ap (λ z. at_port z 0) b.is; less = none-less g.value b.value b.less; below = omega arith },
           );
         },
@@ -84,20 +83,22 @@ module _ (w : Direction) (d : Context) (f : Frame) (flow : Flow) (xs : List Datu
       by : (i : List ℕ) → q.input ≡ i → Simulates w d (Values f flow) xs o s.next (get_made s) (source.got q i)
       by [] e =
           sim-node w d (Values f flow) xs o s Get (s.carried.io ∷ []) (Out s.next 0) s.carried.memory (Out s.next 1) (record { value = Num (2 ^ 32 - 1); state = q }) ys []
-          ((λ j. on_input (h.io j) graph.got) ∙ ap graph.got e)
-          (holds-states f flow (read xs o) (read xs (extended o s.next ys)) s q q.memory q.input s.carried.memory (Out s.next 1) (same-after ys) h (same-after ys s.carried.memory h.memory_below ∙ h.memory)
-          (below-later s.next (suc s.next) s.carried.memory (omega arith) h.memory_below) (extended-here o s.next ys 1 ∙ ap input (sym e)) (omega arith),
-          record { far = Num (2 ^ 32 - 1); is = extended-here o s.next ys 0; less = inl refl; below = omega arith })
+          ((λ j. on_input (h.io j) graph.got) ∙ ap graph.got e) (
+            holds-states f flow (read xs o) (read xs (extended o s.next ys)) s q q.memory q.input s.carried.memory (Out s.next 1) (same-after ys) h (same-after ys s.carried.memory h.memory_below ∙ h.memory)
+                (below-later s.next (suc s.next) s.carried.memory (omega arith) h.memory_below) (extended-here o s.next ys 1 ∙ ap input (sym e)) (omega arith),
+            record { far = Num (2 ^ 32 - 1); is = extended-here o s.next ys 0; less = inl refl; below = omega arith },
+          )
         where
           ys : List Datum
           ys = val (Num (2 ^ 32 - 1)) ∷ input [] ∷ []
       by (b ∷ i) e =
           sim-node w d (Values f flow) xs o s Get (s.carried.io ∷ []) (Out s.next 0) s.carried.memory (Out s.next 1)
           (record { value = Num b; state = record { slots = q.slots; memory = q.memory; input = i } }) ys (took b ∷ [])
-          ((λ j. on_input (h.io j) graph.got) ∙ ap graph.got e)
-          (holds-states f flow (read xs o) (read xs (extended o s.next ys)) s q q.memory i s.carried.memory (Out s.next 1) (same-after ys) h (same-after ys s.carried.memory h.memory_below ∙ h.memory)
-          (below-later s.next (suc s.next) s.carried.memory (omega arith) h.memory_below) (extended-here o s.next ys 1) (omega arith),
-          record { far = Num b; is = extended-here o s.next ys 0; less = inl refl; below = omega arith })
+          ((λ j. on_input (h.io j) graph.got) ∙ ap graph.got e) (
+            holds-states f flow (read xs o) (read xs (extended o s.next ys)) s q q.memory i s.carried.memory (Out s.next 1) (same-after ys) h (same-after ys s.carried.memory h.memory_below ∙ h.memory)
+                (below-later s.next (suc s.next) s.carried.memory (omega arith) h.memory_below) (extended-here o s.next ys 1) (omega arith),
+            record { far = Num b; is = extended-here o s.next ys 0; less = inl refl; below = omega arith },
+          )
         where
           ys : List Datum
           ys = val (Num b) ∷ input i ∷ []

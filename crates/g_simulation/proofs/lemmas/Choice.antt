@@ -1,9 +1,9 @@
 -- A choice between two regions: the one that the predicate picks does what the source does.
-use Rattle.std.proofs.Common.{◌≡◌, ◌≤◌, ◌<◌, ℕ, zero, suc, List, [], ◌∷◌, ◌++◌, map, refl, sym, ap, ◌∙◌, subst, inr, arith}
+use Rattle.std.proofs.Common.{◌≡◌, ◌≤◌, ◌<◌, ℕ, zero, suc, List, [], ◌∷◌, ◌++◌, map, refl, sym, ap, ◌∙◌, subst, arith}
 use Rattle.val_core.specs.declared.values.Value.{Value}
 use Rattle.val_core.specs.declared.values.Value.TheVariants.{Num, Bad}
 use Rattle.val_core.specs.Refinement.{Direction, exactly, Refines}
-use Rattle.val_core.specs.Answers.{Answer, Returned, then_on, on_number}
+use Rattle.val_core.specs.Answers.{Answer, on_number}
 use Rattle.val_core.proofs.lemmas.Refinement.{exactly-goes, refines-far-goes}
 use Rattle.c_mean.specs.State.{State}
 use Rattle.c_mean.specs.Statements.{Flow}
@@ -11,12 +11,12 @@ use Rattle.g_graph.specs.declared.op.Op.TheVariants.{Gamma}
 use Rattle.g_graph.specs.declared.op.Origin.{Origin}
 use Rattle.g_graph.specs.declared.op.Origin.TheVariants.{Arg, Out}
 use Rattle.g_graph.specs.Plain.{node, nodes_of, regions_of}
-use Rattle.g_construct.specs.Writer.{Carried, carried_origins, renamed, Point, Built, Extra, no_value, one_value, void_value, inside, region_made, Regions, regions_made, gamma, choice}
+use Rattle.g_construct.specs.Writer.{Carried, carried_origins, Point, Built, Extra, no_value, one_value, void_value, inside, region_made, Regions, regions_made, gamma, choice}
 use Rattle.g_construct.specs.Laws.{Later}
-use Rattle.g_construct.proofs.lemmas.Later.{Keeps, later_then, renamed_later, choice_later}
+use Rattle.g_construct.proofs.lemmas.Later.{Keeps, later_then, renamed_later}
 use Rattle.g_mean.specs.Data.{Datum, val, at_port, value_of}
-use Rattle.g_mean.specs.Meaning.{Meaning, Context, chosen, Outputs, no_outputs, extended, read, region_meaning, node_run, nodes_run, meanings}
-use Rattle.g_simulation.proofs.lemmas.Readings.{Stay, stay-keeps, extended-here, extended-stay, IsSoundRun}
+use Rattle.g_mean.specs.Meaning.{Context, chosen, Outputs, no_outputs, extended, read, region_meaning, node_run, nodes_run, meanings}
+use Rattle.g_simulation.proofs.lemmas.Readings.{stay-keeps, extended-here, extended-stay, IsSoundRun}
 use Rattle.g_simulation.proofs.lemmas.Toolbox.{Post, Ran, Simulates}
 use Rattle.g_simulation.proofs.lemmas.Held.{Held, held-later, Frame, Holds}
 use Rattle.g_simulation.proofs.lemmas.Renamed.{renamed-same, holds-renamed, holds-inside, inside-sound}
@@ -114,8 +114,8 @@ module _ (w : Direction) (d : Context) (f : Frame) where
             stay = extended-stay o s.next all;
             post = (
               subst (λ c. Holds f (flow y) (read xs (extended o s.next all)) r.next c (state y)) (renamed-same s b.after out later)
-              (holds-renamed f (flow y) (read us q.outputs) (read xs (extended o s.next all)) b.after.next r.next b.after.carried (state y) out
-              (record { carries = λ i. extended-here o s.next all (x.port i) ∙ fits.ports (read us q.outputs) b.value rest i; below = λ i. omega (arith, up) }) q.ran.post.0),
+                  (holds-renamed f (flow y) (read us q.outputs) (read xs (extended o s.next all)) b.after.next r.next b.after.carried (state y) out
+                  (record { carries = λ i. extended-here o s.next all (x.port i) ∙ fits.ports (read us q.outputs) b.value rest i; below = λ i. omega (arith, up) }) q.ran.post.0),
               fits.value y (read us q.outputs) b.after.next r.next b.value rest (omega (arith, up)) q.ran.post.1,
             );
           })

@@ -1,6 +1,6 @@
 -- What is claimed of an expression and of its parts, wherever it stands, and when contexts on both sides fit.
 use Rattle.std.proofs.Common.{◌≡◌, ◌≤◌, ℕ, suc, List, [], ◌∷◌}
-use Rattle.std.specs.Prelude.{length, slice_get, Option, Some}
+use Rattle.std.specs.Prelude.{length, slice_get, Some}
 use Rattle.val_core.specs.declared.values.Value.{Value}
 use Rattle.val_core.specs.Memory.{Memory as Blocks}
 use Rattle.val_core.specs.Refinement.{Direction, Forward, Backward, exactly, Refines}

@@ -1,6 +1,6 @@
 -- Arithmetic and comparisons of two operands of one type.
-use Rattle.std.proofs.Common.{◌≡◌, ◌≤◌, inl, inr, ℕ, suc, List, [], ◌∷◌, ◌%◌, ◌^◌, refl, sym, ap, ap₂, ◌∙◌, subst, arith}
-use Rattle.std.specs.Prelude.{◌==◌, ◌&&◌, not, Bool, true, false, cond, if◌then◌else◌, Some, Option, None}
+use Rattle.std.proofs.Common.{◌≡◌, ℕ, List, [], refl, ap, subst, arith}
+use Rattle.std.specs.Prelude.{◌==◌, ◌&&◌, not, Bool, true, false, cond, Some, Option, None}
 use Rattle.std.proofs.lemmas.Bool.Decides.{nat_tests}
 use Rattle.val_core.specs.declared.values.BlockName.{BlockName}
 use Rattle.val_core.specs.declared.values.Value.{Value}
@@ -8,10 +8,10 @@ use Rattle.val_core.specs.declared.values.Value.TheVariants.{Num, At, Bad}
 use Rattle.val_core.specs.declared.operation.Op2.{Op2}
 use Rattle.val_core.specs.declared.operation.Op2.TheVariants as op
 use Rattle.val_core.specs.Words.{one_if, word2}
-use Rattle.val_core.specs.Values.{same_block, value2}
-use Rattle.val_core.specs.Memory.{Memory as Blocks, pointers_equal}
-use Rattle.val_core.specs.Refinement.{Direction, exactly, Refines}
-use Rattle.val_core.specs.Answers.{Answer, Returned, on_defined}
+use Rattle.val_core.specs.Values.{same_block}
+use Rattle.val_core.specs.Memory.{pointers_equal}
+use Rattle.val_core.specs.Refinement.{Direction}
+use Rattle.val_core.specs.Answers.{Returned, on_defined}
 use Rattle.c_type.specs.declared.scalar.Scalar.TheVariants as scalar
 use Rattle.c_type.specs.Trees.{TypeTree, void_type, scalar_type, pointer_to, array_of, struct_type}
 use Rattle.c_typed.specs.declared.operator.Relation.{Relation}
@@ -26,7 +26,7 @@ use Rattle.g_construct.specs.Writer.{Point, Built, bind}
 use Rattle.g_construct.specs.Operations.{bin_made, ptr_eq_made, is_zero_made, compared_made}
 use Rattle.g_mean.specs.Data.{Datum, val}
 use Rattle.g_mean.specs.Meaning.{Context, Outputs, read, nodes_run}
-use Rattle.g_simulation.proofs.lemmas.Readings.{IsBelow, IsSoundContext, IsSoundRun}
+use Rattle.g_simulation.proofs.lemmas.Readings.{IsSoundContext, IsSoundRun}
 use Rattle.g_simulation.proofs.lemmas.Toolbox.{Ran, Simulates}
 use Rattle.g_simulation.proofs.lemmas.Held.{Held, held-is, IsThere, Frame, Holds}
 use Rattle.g_simulation.proofs.lemmas.Nodes.{Values, Line, of-line, line-then, bin-line, ptr-eq-line, is-zero-line}

@@ -1,43 +1,39 @@
 -- Every well-typed expression: what is made of it does what the source does, by one induction over the tree.
 use Rattle.std.specs.Prelude.{length, slice_get, Some}
-use Rattle.std.proofs.Common.{◌≡◌, ◌≤◌, ◌<◌, ℕ, zero, suc, List, [], ◌∷◌, refl, sym, ap, ◌∙◌, subst, arith}
-use Rattle.val_core.specs.declared.values.Value.{Value}
+use Rattle.std.proofs.Common.{◌≡◌, ◌≤◌, ◌<◌, ℕ, zero, suc, List, [], ◌∷◌, sym, ap, subst, arith}
 use Rattle.val_core.specs.Refinement.{Direction}
-use Rattle.val_core.specs.Answers.{Answer, Returned, then_on}
 use Rattle.c_type.specs.Trees.{TypeTree, pointer_to}
-use Rattle.c_typed.specs.Typed.{ExprTree, expr, FormTree, constant, read, address, unary, binary, logical_and, logical_or, conditional, comma, assign, compound, inc_dec, call, get, ExprTrees, no_exprs, expr_then, PlaceTree, place, PlaceFormTree, local, global, at, member}
-use Rattle.c_typed.specs.WellTyped.{Scope, IsScalar, AreScalar, type_of, types_of, ExprIsTyped, FormIsTyped, ExprsAreTyped, PlaceIsTyped, PlaceFormIsTyped}
+use Rattle.c_typed.specs.Typed.{ExprTree, expr, FormTree, constant, read, address, unary, binary, logical_and, logical_or, conditional, comma, assign, compound, inc_dec, call, get, ExprTrees, no_exprs, expr_then, PlaceTree, place, local, global, at, member}
+use Rattle.c_typed.specs.WellTyped.{Scope, IsScalar, AreScalar, type_of, types_of, ExprIsTyped, FormIsTyped, ExprsAreTyped, PlaceIsTyped}
 use Rattle.c_mean.specs.State.{used}
 use Rattle.c_mean.specs.Expressions as source
 use Rattle.c_mean.specs.Expressions.{found, form_run, place_run, expr_run}
 use Rattle.c_mean.specs.Statements.{Flow}
 use Rattle.g_graph.specs.declared.op.Origin.{Origin}
 use Rattle.g_graph.specs.Plain.{nodes_of}
-use Rattle.g_construct.specs.Writer.{Point, Built, given, bind}
+use Rattle.g_construct.specs.Writer.{Built, given}
 use Rattle.g_construct.specs.Operations.{delta_made, get_made}
-use Rattle.g_construct.specs.Places.{Spot, at_address, address_spot, member_spot}
-use Rattle.g_construct.specs.Expressions.{expr_made, form_made, place_made, place_form_made}
-use Rattle.g_mean.specs.Data.{Datum}
-use Rattle.g_mean.specs.Meaning.{Context, Outputs, read as read_origin, nodes_run}
-use Rattle.g_simulation.proofs.lemmas.Readings.{IsSoundRun}
+use Rattle.g_construct.specs.Places.{at_address, address_spot, member_spot}
+use Rattle.g_construct.specs.Expressions.{expr_made, place_made}
+use Rattle.g_mean.specs.Meaning.{Context, read as read_origin, nodes_run}
 use Rattle.g_simulation.proofs.lemmas.Toolbox.{Ran, Simulates, sim-given, sim-bind}
 use Rattle.g_simulation.proofs.lemmas.Held.{Frame, shown-held}
 use Rattle.g_simulation.proofs.lemmas.Nodes.{delta-line}
 use Rattle.g_simulation.proofs.lemmas.Unary.{used-there}
 use Rattle.g_simulation.proofs.lemmas.Places.{Places, address-line, slot-spot-sim, member-spot-sim}
-use Rattle.g_simulation.proofs.lemmas.Claims.{ContextsFit, Typed, DividesByWords, FormDividesByWords, AllDivideByWords, PlaceDividesByWords, PlaceFormDividesByWords}
+use Rattle.g_simulation.proofs.lemmas.Claims.{ContextsFit, Typed, DividesByWords, FormDividesByWords, AllDivideByWords, PlaceDividesByWords}
 use Rattle.g_simulation.proofs.lemmas.Calls.{get-sim}
 use Rattle.g_simulation.proofs.lemmas.Forms.{ExprClaim, FormClaim, TestClaim, PlaceClaim, DroppedClaim, ArgumentsClaim, typed-of, constant-form, read-form, address-form, unary-form, binary-form, test-form, and-form, or-form, conditional-form, no-dropped, dropped-then, comma-form, no-arguments, arguments-then, call-form}
 use Rattle.g_simulation.proofs.lemmas.Assignments.{assign-form, compound-form, inc-dec-form}
 
-module _ (w : Direction) (g : Scope) (c : source.Context) (d : Context) (fit : ContextsFit w g.functions c d) (f : Frame) (count : length g.slots ≡ f.count) (flow : Flow) where
+module _ (w : Direction) (g : Scope) (c : source.Context) (d : Context) (fit : ContextsFit w g.functions c d) (f : Frame) (count : length g.slots ≤ f.count) (flow : Flow) where
   get-form : (t : TypeTree) → FormClaim w g.functions c d fit f flow t get
   get-form t xs o r s q h = typed-of w g.functions c d fit f flow t xs o s.next (get_made s) (source.got q q.input) (get-sim w d f flow xs o r s q h)
 
   -- ---- places
 
   local-place : (t : TypeTree) (k : ℕ) → k < length g.slots → PlaceClaim w g.functions c d fit f flow (place t (local k))
-  local-place t k low xs o r s q h = slot-spot-sim w d f flow fit.sound xs o r s q h c fit.addresses k (subst (λ n. k < n) count low)
+  local-place t k low xs o r s q h = slot-spot-sim w d f flow fit.sound xs o r s q h c fit.addresses k (omega (arith, low, count))
 
   slot-below : {A : Type 0} → (xs : List A) (k : ℕ) (x : A) → slice_get xs k ≡ Some x → k < length xs
   slot-below [] k x e = absurd cc

@@ -1,7 +1,6 @@
 -- Forms of expressions, from what is claimed of their operands.
-use Rattle.std.proofs.Common.{◌≡◌, ◌≤◌, ◌<◌, inl, inr, ℕ, suc, List, [], ◌∷◌, ◌%◌, ◌^◌, refl, sym, ap, ◌∙◌, subst, arith}
-use Rattle.std.specs.Prelude.{◌==◌, not, length, slice_get, Bool, true, false, cond, Some, Option, None}
-use Rattle.val_core.specs.declared.values.Value.{Value}
+use Rattle.std.proofs.Common.{◌≡◌, ◌<◌, inr, ℕ, suc, List, [], ◌∷◌, ◌%◌, ◌^◌, refl, ap, ◌∙◌, subst, arith}
+use Rattle.std.specs.Prelude.{not, length, slice_get, Bool, true, false, cond, Some, Option, None}
 use Rattle.val_core.specs.declared.values.Value.TheVariants.{Num, Bad}
 use Rattle.val_core.specs.Words.{one_if}
 use Rattle.val_core.specs.Refinement.{Direction}
@@ -11,14 +10,14 @@ use Rattle.c_type.specs.Trees.{TypeTree, void_type, scalar_type, pointer_to, arr
 use Rattle.c_typed.specs.declared.operator.UnaryOp.{UnaryOp}
 use Rattle.c_typed.specs.declared.operator.BinaryOp.{BinaryOp}
 use Rattle.c_typed.specs.Typed.{ExprTree, expr, FormTree, constant, read, address, unary, binary, logical_and, logical_or, conditional, comma, call, ExprTrees, no_exprs, expr_then, PlaceTree}
-use Rattle.c_typed.specs.WellTyped.{Signature, IsScalar, AreScalar, type_of, types_of, UnaryFits, BinaryFits}
+use Rattle.c_typed.specs.WellTyped.{Signature, IsScalar, type_of, types_of, UnaryFits, BinaryFits}
 use Rattle.c_mean.specs.State.{State, Valued, gives, used, truth}
 use Rattle.c_mean.specs.Expressions as source
 use Rattle.c_mean.specs.Expressions.{Arguments, given_word, branched, expr_run, form_run, dropped_run, arguments_run, place_run, unary_done, binary_done, address_of, back_from}
 use Rattle.c_mean.specs.Statements.{Flow}
 use Rattle.g_graph.specs.declared.op.Origin.{Origin}
 use Rattle.g_graph.specs.Plain.{nodes_of}
-use Rattle.g_construct.specs.Writer.{Point, Built, given, nothing, bind, Extra, one_value, void_value, choice}
+use Rattle.g_construct.specs.Writer.{Point, Built, given, bind, one_value, choice}
 use Rattle.g_construct.specs.Operations.{const_made, apply_made, condition_made, is_not_zero_made}
 use Rattle.g_construct.specs.Places.{spot_address, spot_read}
 use Rattle.g_construct.specs.Expressions.{unary_made, binary_made, conditional_extra, expr_made, form_made, tested, commas_made, arguments_made, place_made}
@@ -26,16 +25,16 @@ use Rattle.g_construct.proofs.lemmas.Later.{Keeps, bind_later}
 use Rattle.g_construct.proofs.lemmas.LaterExpressions.{const_later, expr_later, tested_later}
 use Rattle.g_mean.specs.Data.{Datum, val}
 use Rattle.g_mean.specs.Meaning.{Context, Outputs, read as read_origin, nodes_run}
-use Rattle.g_simulation.proofs.lemmas.Readings.{IsBelow, stay-keeps, below-later, IsSoundRun}
+use Rattle.g_simulation.proofs.lemmas.Readings.{stay-keeps, below-later, IsSoundRun}
 use Rattle.g_simulation.proofs.lemmas.Toolbox.{Post, Ran, Simulates, sim-change, sim-goes, sim-given, sim-bind}
-use Rattle.g_simulation.proofs.lemmas.Held.{Held, held-later, held-is, shown, held-shown, shown-held, Frame, Holds}
+use Rattle.g_simulation.proofs.lemmas.Held.{Held, held-is, shown, held-shown, shown-held, Frame, Holds}
 use Rattle.g_simulation.proofs.lemmas.Nodes.{Values, Line, of-line, const-line, is-not-zero-line, held-after}
-use Rattle.g_simulation.proofs.lemmas.Choice.{After, OneValue, ExtraGives, one_value-gives, void_value-gives}
+use Rattle.g_simulation.proofs.lemmas.Choice.{OneValue, ExtraGives, one_value-gives, void_value-gives}
 use Rattle.g_simulation.proofs.lemmas.Unary.{used-there, Tests, condition-line, unary-sim}
 use Rattle.g_simulation.proofs.lemmas.Places.{Places, spot-address-sim, spot-read-sim}
 use Rattle.g_simulation.proofs.lemmas.Binary.{HasWordSize, binary-sim}
 use Rattle.g_simulation.proofs.lemmas.Tests.{Decided, decided, ways, branched-decides, Decides, ways-sim}
-use Rattle.g_simulation.proofs.lemmas.Claims.{ContextsFit, Typed, States, AllCarried, AreGiven, test_run}
+use Rattle.g_simulation.proofs.lemmas.Claims.{ContextsFit, Typed, States, AreGiven, test_run}
 use Rattle.g_simulation.proofs.lemmas.Calls.{apply-sim}
 use Rattle.g_simulation.proofs.lemmas.Shapes.{is-not-zero-keeps}
 

@@ -1,5 +1,5 @@
 -- What the variables, the jumps and the states of a source run are in the graph: each is carried by an origin.
-use Rattle.std.proofs.Common.{◌≡◌, ◌≤◌, ◌<◌, ◌⊎◌, inl, inr, ℕ, zero, suc, List, [], ◌∷◌, ◌++◌, map, refl, sym, ap, ◌∙◌, subst, arith}
+use Rattle.std.proofs.Common.{◌≡◌, ◌≤◌, ◌<◌, ◌⊎◌, inl, inr, ℕ, zero, suc, List, [], ◌∷◌, refl, sym, ap, ◌∙◌, subst, arith}
 use Rattle.std.specs.Prelude.{Bool, Option, None, Some, slice_get, slice_set}
 use Rattle.val_core.specs.declared.values.Value.{Value}
 use Rattle.val_core.specs.declared.values.Value.TheVariants.{Num, At, Bad}
@@ -8,11 +8,11 @@ use Rattle.c_type.specs.Trees.{TypeTree, void_type, scalar_type, pointer_to, arr
 use Rattle.c_typed.specs.WellTyped.{IsScalar}
 use Rattle.c_mean.specs.State as source
 use Rattle.c_mean.specs.State.{Slot, State}
-use Rattle.c_mean.specs.Expressions.{value_or_none, slot_value}
+use Rattle.c_mean.specs.Expressions.{value_or_none}
 use Rattle.c_mean.specs.Statements.{Flow, normal, broke, continued, returned}
 use Rattle.c_mean.specs.Run.{value_at_end}
 use Rattle.g_graph.specs.declared.op.Origin.{Origin}
-use Rattle.g_construct.specs.Writer.{SlotOrigin, held, object, hidden, variable_at, variable_set, slot_origin, Form, straight, jumping, Carried, Point, with_variables}
+use Rattle.g_construct.specs.Writer.{SlotOrigin, held, object, hidden, variable_at, variable_set, Form, straight, jumping, Carried, Point, with_variables}
 use Rattle.g_mean.specs.Data.{Datum, val, memory, input}
 use Rattle.g_construct.specs.Laws.{shape, Later}
 use Rattle.g_simulation.proofs.lemmas.Readings.{IsBelow, below-later, Keeps}

@@ -1,45 +1,27 @@
 -- Statements without loops, from what is claimed of their parts: jumps, choices, and what follows a statement.
-use Rattle.std.proofs.Common.{◌≡◌, ◌≤◌, inl, inr, ℕ, zero, suc, List, [], ◌∷◌, map, refl, sym, ap, ◌∙◌, subst, arith}
-use Rattle.std.specs.Prelude.{◌&&◌, Bool, true, false, cond, Some, Option, None}
-use Rattle.val_core.specs.declared.values.Value.{Value}
-use Rattle.val_core.specs.declared.values.Value.TheVariants.{Num, Bad}
-use Rattle.val_core.specs.Refinement.{Direction, exactly, Refines}
-use Rattle.val_core.specs.Answers.{Answer, Returned, then_on, Gives}
+use Rattle.std.proofs.Common.{◌≡◌, ◌≤◌, ℕ, zero, suc, List, [], ◌∷◌, map, refl, sym, subst, arith}
+use Rattle.std.specs.Prelude.{Bool, true, false}
+use Rattle.val_core.specs.declared.values.Value.TheVariants.{Num}
+use Rattle.val_core.specs.Refinement.{Direction, exactly}
+use Rattle.val_core.specs.Answers.{Answer, Gives}
 use Rattle.val_core.proofs.lemmas.Refinement.{refines-gives, refines-change}
-use Rattle.c_typed.specs.Typed.{ExprTree, StmtTree, null, value, block, if_else, break, continue, return_value, return_none, ItemTrees, no_items, stmt_then, VariableTree}
-use Rattle.c_typed.specs.WellTyped.{Signature, IsScalar, type_of}
-use Rattle.c_mean.specs.State.{State, Valued, used}
-use Rattle.c_mean.specs.Expressions as source
-use Rattle.c_mean.specs.Expressions.{branched, expr_run, value_or_none}
-use Rattle.c_mean.specs.Statements.{Flow, normal, broke, continued, returned, Flowed, flows, goes_on, if_normal, stmt_run, items_run}
+use Rattle.c_mean.specs.State.{State}
+use Rattle.c_mean.specs.Statements.{Flow, normal, broke, continued, Flowed}
 use Rattle.c_mean.specs.Run.{value_at_end}
 use Rattle.g_graph.specs.declared.op.Origin.{Origin}
 use Rattle.g_graph.specs.declared.op.Origin.TheVariants.{Arg}
 use Rattle.g_graph.specs.Plain.{nodes_of}
-use Rattle.g_construct.specs.Writer.{Form, straight, jumping, Carried, Point, with_jumps, with_go, with_go_and_ret, Built, nothing, bind, Extra, no_value, inside, Regions, regions_made, exchanged, choice_one_first, carried_origins}
-use Rattle.g_construct.specs.Operations.{const_made, undef_made}
-use Rattle.g_construct.specs.Expressions.{expr_made, tested}
-use Rattle.g_construct.specs.Exits.{stmt_exits, can_leave, some_items, stmt_jumps, items_jump}
-use Rattle.g_construct.specs.Jumps.{jump_made, return_made, unless_left}
-use Rattle.g_construct.specs.Statements.{stmt_made, items_made}
+use Rattle.g_construct.specs.Writer.{Form, straight, jumping, Carried, Point, with_go_and_ret, Built, Extra, inside, Regions, regions_made, exchanged, choice_one_first, carried_origins}
 use Rattle.g_construct.specs.Laws.{Later}
-use Rattle.g_construct.proofs.lemmas.Later.{Keeps, later_here, form_renamed}
-use Rattle.g_construct.proofs.lemmas.LaterExpressions.{tested_later}
-use Rattle.g_construct.proofs.lemmas.LaterStatements.{stmt_later, items_later}
-use Rattle.g_built.proofs.lemmas.Exits.{MayJump, jump_left, jump_right, stmt_leaves}
+use Rattle.g_construct.proofs.lemmas.Later.{Keeps, form_renamed}
+use Rattle.g_built.proofs.lemmas.Exits.{MayJump}
 use Rattle.g_mean.specs.Data.{Datum, val}
 use Rattle.g_mean.specs.Meaning.{Context, Outputs, no_outputs, read as read_origin, nodes_run}
-use Rattle.g_simulation.proofs.lemmas.Readings.{IsBelow, stay-keeps, IsSoundRun}
-use Rattle.g_simulation.proofs.lemmas.Toolbox.{Post, Ran, Simulates, sim-given, sim-bind}
-use Rattle.g_simulation.proofs.lemmas.Held.{Held, held-is, held-later, shown, shown-held, code, JumpsHeld, Frame, Holds}
+use Rattle.g_simulation.proofs.lemmas.Readings.{IsSoundRun}
+use Rattle.g_simulation.proofs.lemmas.Toolbox.{Post, Ran, Simulates}
+use Rattle.g_simulation.proofs.lemmas.Held.{JumpsHeld, Frame, Holds}
 use Rattle.g_simulation.proofs.lemmas.Renamed.{holds-inside, inside-sound}
-use Rattle.g_simulation.proofs.lemmas.Nodes.{Values, Line, line-then, const-line, undef-line, held-after}
-use Rattle.g_simulation.proofs.lemmas.Choice.{After, Nothing, ExtraGives, no_value-gives, Gift, picked, gamma-sim, choice-sim}
-use Rattle.g_simulation.proofs.lemmas.Unary.{used-there}
-use Rattle.g_simulation.proofs.lemmas.Tests.{Decided, ways, branched-decides, Decides}
-use Rattle.g_simulation.proofs.lemmas.Claims.{ContextsFit, Typed, test_run}
-use Rattle.g_simulation.proofs.lemmas.Forms.{ExprClaim, TestClaim}
-use Rattle.g_simulation.proofs.lemmas.Leaves.{Allows, stmt-ends, allows-normal}
+use Rattle.g_simulation.proofs.lemmas.Choice.{After, Nothing, ExtraGives, Gift, picked, gamma-sim}
 
 -- The state after a statement is held after its flow.
 abbrev pub Flows : Frame → Post Flowed (Unit {0})

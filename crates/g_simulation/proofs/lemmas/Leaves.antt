@@ -1,6 +1,6 @@
 -- A statement ends in no way but those that its jumps allow: one without jumps that leave it ends normally.
-use Rattle.std.proofs.Common.{◌≡◌, ℕ, zero, suc, List, [], ◌∷◌, refl, sym, ap, ◌∙◌, subst}
-use Rattle.std.specs.Prelude.{◌-◌, Bool, true, false, cond, ◌||◌, Option, None, Some, slice_get, unwrap_or, length}
+use Rattle.std.proofs.Common.{◌≡◌, ℕ, zero, suc, List, [], ◌∷◌, refl}
+use Rattle.std.specs.Prelude.{◌-◌, Bool, true, false, cond, ◌||◌, Option, None, Some, slice_get, length}
 use Rattle.std.proofs.lemmas.Bool.{or_right}
 use Rattle.val_core.specs.declared.values.Value.{Value}
 use Rattle.val_core.specs.declared.values.Value.TheVariants.{Num, At, Bad}
@@ -9,19 +9,11 @@ use Rattle.val_core.proofs.lemmas.Answers.{gives-then}
 use Rattle.c_type.specs.Trees.{TypeTree}
 use Rattle.c_typed.specs.Typed.{ExprTree, OptionalExpr, no_expr, some_expr, StmtTree, null, value, block, if_else, loop, do_while, break, continue, return_value, return_none, switch, ItemTrees, no_items, stmt_then, declare_then, GroupTrees, no_groups, group_then, VariableTree}
 use Rattle.c_typed.specs.WellTyped.{type_of}
-use Rattle.c_mean.specs.State.{State, Valued, used, truth}
+use Rattle.c_mean.specs.State.{State, used, truth}
 use Rattle.c_mean.specs.Expressions.{Context, branched, expr_run}
-use Rattle.c_mean.specs.Statements.{Flow, normal, broke, continued, returned, Flowed, flows, goes_on, if_normal, past_flow, past, after_turn, optional_step, while_true, loop_run, do_run, out_of_scope, declared, from_case, from_default, group_count, chosen_groups, groups_done, stmt_run, items_run, groups_runs}
+use Rattle.c_mean.specs.Statements.{Flow, normal, broke, continued, returned, Flowed, flows, goes_on, if_normal, past_flow, past, after_turn, optional_step, while_true, loop_run, do_run, out_of_scope, declared, group_count, chosen_groups, groups_done, stmt_run, items_run, groups_runs}
+use Rattle.g_simulation.specs.Exits.{Allows, EndsBy}
 use Rattle.g_construct.specs.Exits.{Exits, no_exits, either_exits, past_loop, past_switch, stmt_exits, items_exits, groups_exits, can_leave}
-
-abbrev pub Allows : Exits → Flow → Type 0
-Allows e normal = Unit {0}
-Allows e broke = e.breaks ≡ true
-Allows e continued = e.continues ≡ true
-Allows e (returned v) = e.returns ≡ true
-
-abbrev pub EndsBy : Exits → Answer Flowed → Type 0
-EndsBy e a = Gives (λ x. Allows e x.flow) a
 
 or-left : (a b : Bool) → a ≡ true → (a || b) ≡ true
 or-left true b e = refl
@@ -199,9 +191,10 @@ module _ (c : Context) (vs : List VariableTree) where
     groups-end : (gs : GroupTrees) → AllEndBy (groups_exits gs) (groups_runs c vs gs)
     groups-end no_groups = tt
     groups-end (group_then cases d is gs) =
-        let e = either_exits (items_exits is) (groups_exits gs) in
-        (λ s. ends-more (items_exits is) e (items_run c vs is s) (allows-left (items_exits is) (groups_exits gs)) (items-end is s),
-        all-more (groups_exits gs) e (groups_runs c vs gs) (allows-right (items_exits is) (groups_exits gs)) (groups-end gs))
+        let e = either_exits (items_exits is) (groups_exits gs) in (
+          λ s. ends-more (items_exits is) e (items_run c vs is s) (allows-left (items_exits is) (groups_exits gs)) (items-end is s),
+          all-more (groups_exits gs) e (groups_runs c vs gs) (allows-right (items_exits is) (groups_exits gs)) (groups-end gs),
+        )
 
 -- where nothing leaves, control goes on
 pub allows-normal : (e : Exits) (f : Flow) → can_leave e ≡ false → Allows e f → f ≡ normal

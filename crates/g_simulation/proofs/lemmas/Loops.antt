@@ -1,10 +1,9 @@
 -- A Theta whose body does what a turn of a loop does.
-use Rattle.std.proofs.Common.{◌≡◌, ◌≤◌, ◌<◌, ℕ, zero, suc, List, [], ◌∷◌, ◌++◌, map, refl, sym, ap, ◌∙◌, subst, arith}
+use Rattle.std.proofs.Common.{◌≡◌, ◌≤◌, ℕ, zero, suc, List, [], ◌∷◌, map, refl, sym, ap, ◌∙◌, subst, arith}
 use Rattle.std.specs.Prelude.{◌==◌, not, Bool, true, false, cond}
-use Rattle.std.proofs.lemmas.Bool.{false≢true}
 use Rattle.val_core.specs.declared.values.Value.TheVariants.{Num}
 use Rattle.val_core.specs.Refinement.{Direction, Forward, Backward, exactly, Refines}
-use Rattle.val_core.specs.Answers.{Answer, Returned, Cut, then_on, on_number}
+use Rattle.val_core.specs.Answers.{Answer, Returned, Cut, then_on}
 use Rattle.val_core.proofs.lemmas.Refinement.{exactly-goes, refines-then, refines-far-goes}
 use Rattle.c_mean.specs.State.{State}
 use Rattle.c_mean.specs.Statements.{Flow, normal, Flowed, flows}
@@ -15,15 +14,16 @@ use Rattle.g_graph.specs.Plain.{node, nodes_of, no_regions, region_then}
 use Rattle.g_construct.specs.Writer.{Carried, carried_origins, renamed, Point, Built, one_value, inside, region_made, repeat}
 use Rattle.g_construct.specs.Laws.{Later}
 use Rattle.g_construct.proofs.lemmas.Later.{Keeps, later_then, renamed_later}
-use Rattle.g_mean.specs.Data.{Datum, val, at_port, value_of}
+use Rattle.g_mean.specs.Data.{Datum, val, at_port}
 use Rattle.g_mean.specs.Meaning.{Meaning, Context, again, turns, Outputs, no_outputs, extended, read, region_meaning, node_run, nodes_run}
 use Rattle.g_mean.specs.LessDefined.{AreSound}
 use Rattle.g_mean.proofs.lemmas.Equal.{exactly-compares}
 use Rattle.g_mean.proofs.lemmas.Regions.{less-cut, far-cut}
-use Rattle.g_simulation.proofs.lemmas.Readings.{IsBelow, extended-here, extended-stay, IsSoundContext, AreSoundOutputs, IsSoundRun, nodes-sound, refines-far-gives}
+use Rattle.g_simulation.proofs.lemmas.Readings.{extended-here, extended-stay, IsSoundContext, AreSoundOutputs, IsSoundRun, nodes-sound, refines-far-gives}
 use Rattle.g_simulation.proofs.lemmas.Toolbox.{Post, Ran, Simulates}
 use Rattle.g_simulation.proofs.lemmas.Held.{Frame, Holds}
 use Rattle.g_simulation.proofs.lemmas.Renamed.{renamed-same, holds-renamed, holds-inside, reads-sound}
+use Rattle.g_simulation.proofs.lemmas.Choice.{Gift, After}
 use Rattle.g_simulation.proofs.lemmas.Claims.{BoundsFit}
 use Rattle.g_simulation.proofs.lemmas.Jumps.{Flows}
 
@@ -37,9 +37,13 @@ pub record Turned : Type 0 where
 abbrev pub turned : (State → Answer Flowed) → Turned → Answer Flowed
 turned next y = cond y.again (next y.state) (flows y.state y.flow)
 
--- The state after a turn is held, and a number is carried that is 0 where the loop ends. Before another turn control goes on.
+-- A number is carried that is 0 where the loop ends. Before another turn control goes on.
+abbrev pub TurnsOn : Gift Turned Origin
+TurnsOn y rd n p = ((k : ℕ) × (rd p ≡ val (Num k)) × ((k == 0) ≡ not y.again)) × (y.again ≡ true → y.flow ≡ normal)
+
+-- The state after a turn is held, beside that.
 abbrev pub Turns : Frame → Post Turned Origin
-Turns f y rd t p = Holds f y.flow rd t.next t.carried y.state × ((n : ℕ) × (rd p ≡ val (Num n)) × ((n == 0) ≡ not y.again)) × (y.again ≡ true → y.flow ≡ normal)
+Turns f = After f (λ y. y.flow) (λ y. y.state) TurnsOn
 
 -- A loop that takes at most so many turns: the condition is asked before the turn that would be one too many is cut.
 pub record IsLoop (turn last : State → Answer Turned) (loops : ℕ → State → Answer Flowed) : Type 0 where
@@ -88,11 +92,11 @@ module _ (w : Direction) (d : Context) (c : IsSoundContext d) (f : Frame) (s : P
       (refines-far-gives w AreSoundOutputs (Ran (Turns f) us no_outputs n b) (turn q) (nodes_run d (nodes_of b.nodes) us no_outputs) (nodes-sound d c (nodes_of b.nodes) us no_outputs sound) (claim us sound q begun))
       (λ y o r.
       record {
-        test = r.0.post.1.0;
+        test = r.0.post.1.0.0;
         rest = map (read us o) (carried_origins b.after.carried);
-        is = ap (λ x. x ∷ map (read us o) (carried_origins b.after.carried)) r.0.post.1.1;
-        decides = r.0.post.1.2;
-        goes_on = r.0.post.2;
+        is = ap (λ x. x ∷ map (read us o) (carried_origins b.after.carried)) r.0.post.1.0.1;
+        decides = r.0.post.1.0.2;
+        goes_on = r.0.post.1.1;
         carries = record {
           rd = read us o;
           next = b.after.next;
@@ -181,8 +185,8 @@ module _ (w : Direction) (d : Context) (c : IsSoundContext d) (f : Frame) (s : P
               stay = extended-stay o s.next ys;
               post = (
                 subst (λ k. Holds f y.flow (read xs (extended o s.next ys)) b.after.next k y.state) (g.same (λ j. Out s.next j))
-                (holds-renamed f y.flow g.rd (read xs (extended o s.next ys)) g.next b.after.next g.k y.state (λ j. Out s.next j)
-                (record { carries = λ j. extended-here o s.next ys j ∙ ap (λ us. at_port us j) g.is; below = λ j. omega (arith, up) }) g.holds),
+                    (holds-renamed f y.flow g.rd (read xs (extended o s.next ys)) g.next b.after.next g.k y.state (λ j. Out s.next j)
+                    (record { carries = λ j. extended-here o s.next ys j ∙ ap (λ us. at_port us j) g.is; below = λ j. omega (arith, up) }) g.holds),
                 tt,
               );
             }

@@ -1,14 +1,14 @@
 -- Nodes that give a value: what they give on what their inputs carry.
-use Rattle.std.proofs.Common.{◌≡◌, ◌≤◌, inl, ℕ, suc, List, [], ◌∷◌, ◌%◌, ◌^◌, refl, sym, ap, ap₂, ◌∙◌, subst, arith}
+use Rattle.std.proofs.Common.{◌≡◌, inl, ℕ, suc, List, [], ◌∷◌, ◌%◌, ◌^◌, refl, ap, ap₂, ◌∙◌, arith}
 use Rattle.std.specs.Prelude.{◌==◌, not, Some}
 use Rattle.val_core.specs.declared.values.Value.{Value}
-use Rattle.val_core.specs.declared.values.Value.TheVariants.{Num, At, Bad}
+use Rattle.val_core.specs.declared.values.Value.TheVariants.{Num, Bad}
 use Rattle.val_core.specs.declared.operation.Op1.{Op1}
 use Rattle.val_core.specs.declared.operation.Op2.{Op2}
 use Rattle.val_core.specs.declared.operation.Op2.TheVariants as op
 use Rattle.val_core.specs.Words.{one_if}
-use Rattle.val_core.specs.Values.{value1, value2, IsLessDefined}
-use Rattle.val_core.specs.Memory.{Memory, pointers_equal}
+use Rattle.val_core.specs.Values.{value1, value2}
+use Rattle.val_core.specs.Memory.{pointers_equal}
 use Rattle.val_core.specs.Refinement.{Direction}
 use Rattle.val_core.specs.Answers.{Answer, Returned, on_defined}
 use Rattle.c_mean.specs.State.{State, Valued, gives}
@@ -20,12 +20,12 @@ use Rattle.g_graph.specs.declared.op.Origin.TheVariants.{Out}
 use Rattle.g_graph.specs.Plain.{node, no_regions}
 use Rattle.g_construct.specs.Writer.{Point, Built, bind}
 use Rattle.g_construct.specs.Operations.{value_node, const_made, undef_made, local_made, delta_made, bin_made, un_made, ptr_eq_made, is_zero_made, is_not_zero_made, is_null_made}
-use Rattle.g_mean.specs.Data.{Datum, val, memory, value_of, on_memory}
+use Rattle.g_mean.specs.Data.{Datum, val, value_of, on_memory}
 use Rattle.g_mean.specs.Meaning as graph
 use Rattle.g_mean.specs.Meaning.{Context, Outputs, extended, read, node_run}
 use Rattle.g_simulation.proofs.lemmas.Readings.{IsBelow, Keeps, stay-keeps, extended-here, extended-stay, IsSoundContext, IsSoundRun}
 use Rattle.g_simulation.proofs.lemmas.Toolbox.{Post, Ran, Simulates, sim-goes, sim-node, sim-bind}
-use Rattle.g_simulation.proofs.lemmas.Held.{Held, held-later, held-is, held-exactly, Frame, Holds, holds-later}
+use Rattle.g_simulation.proofs.lemmas.Held.{Held, held-later, held-is, Frame, Holds, holds-later}
 
 -- The state after an expression is held, and its value is carried.
 abbrev pub Values : Frame → Flow → Post Valued Origin
@@ -63,9 +63,10 @@ module _ (w : Direction) (d : Context) (f : Frame) (flow : Flow) where
   pub line-node : (xs : List Datum) (o : Outputs) (s : Point) (o1 : Op) (inputs : List Origin) (q : State) (v : Value) → Holds f flow (read xs o) s.next s.carried q →
       node_run d (node s.next o1 inputs no_regions) xs o ≡ Returned (val v ∷ []) [] → Simulates w d (Line f flow q v) xs o s.next (value_node s o1 inputs) (Returned tt [])
   line-node xs o s o1 inputs q v h run =
-      sim-node w d (Line f flow q v) xs o s o1 inputs (Out s.next 0) s.carried.memory s.carried.io tt (val v ∷ []) [] run
-      (holds-later f flow (read xs o) (read xs o') s.next (suc s.next) s.carried q (stay-keeps s.next xs o o' (extended-stay o s.next (val v ∷ []))) (omega arith) h,
-      record { far = v; is = extended-here o s.next (val v ∷ []) 0; less = inl refl; below = omega arith })
+      sim-node w d (Line f flow q v) xs o s o1 inputs (Out s.next 0) s.carried.memory s.carried.io tt (val v ∷ []) [] run (
+        holds-later f flow (read xs o) (read xs o') s.next (suc s.next) s.carried q (stay-keeps s.next xs o o' (extended-stay o s.next (val v ∷ []))) (omega arith) h,
+        record { far = v; is = extended-here o s.next (val v ∷ []) 0; less = inl refl; below = omega arith },
+      )
     where
       o' : Outputs
       o' = extended o s.next (val v ∷ [])

@@ -1,11 +1,11 @@
 -- Places: a variable or an address on both sides, and what is read and written there.
-use Rattle.std.proofs.Common.{◌≡◌, ◌≤◌, ◌<◌, inl, inr, ℕ, suc, List, [], ◌∷◌, refl, sym, ap, ap₂, ◌∙◌, subst, arith}
+use Rattle.std.proofs.Common.{◌≡◌, ◌≤◌, ◌<◌, ℕ, suc, List, [], ◌∷◌, refl, sym, ap, ◌∙◌, subst, arith}
 use Rattle.std.specs.Prelude.{Bool, true, false, cond, Some, Option, None, option_map, slice_set}
 use Rattle.val_core.specs.declared.values.Value.{Value}
 use Rattle.val_core.specs.declared.values.Value.TheVariants.{Num, At, Bad}
 use Rattle.val_core.specs.Memory.{Memory as Blocks, load, store, takes_store, block_named, block_changed, written}
 use Rattle.val_core.specs.Refinement.{Direction}
-use Rattle.val_core.specs.Answers.{Answer, Returned, on_defined}
+use Rattle.val_core.specs.Answers.{Returned, on_defined}
 use Rattle.c_type.specs.declared.scalar.Scalar.TheVariants as scalar
 use Rattle.c_type.specs.Trees.{TypeTree, void_type, scalar_type, pointer_to, array_of, struct_type}
 use Rattle.c_typed.specs.Objects.{access_width}
@@ -17,18 +17,18 @@ use Rattle.c_mean.specs.Statements.{Flow}
 use Rattle.g_graph.specs.declared.op.Op.TheVariants.{Load, Store}
 use Rattle.g_graph.specs.declared.op.Origin.{Origin}
 use Rattle.g_graph.specs.declared.op.Origin.TheVariants.{Out}
-use Rattle.g_graph.specs.Plain.{node, nodes_of, no_regions}
-use Rattle.g_construct.specs.Writer.{SlotOrigin, held, object, hidden, variable_at, variable_set, slot_origin, Point, with_variables, Built, given, bind}
+use Rattle.g_graph.specs.Plain.{node, no_regions}
+use Rattle.g_construct.specs.Writer.{SlotOrigin, held, object, variable_at, variable_set, slot_origin, Point, with_variables, Built, given}
 use Rattle.g_construct.specs.Operations.{local_made, load_made, store_made, read_made, at_offset_made, extended_made}
 use Rattle.g_construct.specs.Places.{Spot, in_slot, at_address, address_spot, slot_spot, member_spot, spot_address, spot_read, spot_written}
 use Rattle.g_construct.specs.Laws.{Later}
-use Rattle.g_mean.specs.Data.{Datum, val, memory, input, value_of, on_memory}
+use Rattle.g_mean.specs.Data.{Datum, val, memory, value_of, on_memory}
 use Rattle.g_mean.specs.Meaning as graph
 use Rattle.g_mean.specs.Meaning.{Context, Outputs, extended as outputs_extended, read, node_run, nodes_run}
-use Rattle.g_simulation.proofs.lemmas.Readings.{IsBelow, below-later, Keeps, stay-keeps, extended-here, extended-stay, IsSoundContext, IsSoundRun}
+use Rattle.g_simulation.proofs.lemmas.Readings.{below-later, Keeps, stay-keeps, extended-here, extended-stay, IsSoundContext, IsSoundRun}
 use Rattle.g_simulation.proofs.lemmas.Toolbox.{Post, Ran, Simulates, sim-given, sim-node, sim-bind}
-use Rattle.g_simulation.proofs.lemmas.Held.{Held, held-later, held-is, held-exactly, IsThere, SlotHeld, slot-held, IsCarried, carried-below, IsValueSlot, value-slot-later, holds-set, Frame, Holds}
-use Rattle.g_simulation.proofs.lemmas.Nodes.{Values, Line, of-line, line-then, line-node, local-line}
+use Rattle.g_simulation.proofs.lemmas.Held.{Held, held-later, held-is, IsThere, SlotHeld, slot-held, IsCarried, carried-below, IsValueSlot, value-slot-later, holds-set, Frame, Holds}
+use Rattle.g_simulation.proofs.lemmas.Nodes.{Values, Line, line-node, local-line}
 use Rattle.g_simulation.proofs.lemmas.Unary.{holds-states, used-line, extended-line}
 use Rattle.g_simulation.proofs.lemmas.Pointers.{member-line}
 
@@ -184,12 +184,14 @@ module _ (w : Direction) (d : Context) (f : Frame) (flow : Flow) (c : IsSoundCon
 
   -- ---- writing
 
-  store-sim : (width : ℕ) (p r : Origin) (a v : Value) (m : Blocks) → Held (read xs o) s.next a p → Held (read xs o) s.next v r → store width a v q.memory ≡ Some m →
+  pub store-sim : (width : ℕ) (p r : Origin) (a v : Value) (m : Blocks) → Held (read xs o) s.next a p → Held (read xs o) s.next v r → store width a v q.memory ≡ Some m →
       Simulates w d (Values f flow) xs o s.next (store_made width p r s) (gives (source.with_memory q m) v)
   store-sim width p r (At b n) v m g g' z =
-      sim-node w d (Values f flow) xs o s (Store width) (p ∷ r ∷ s.carried.memory ∷ []) r (Out s.next 0) s.carried.io (record { value = v; state = source.with_memory q m }) (memory m ∷ []) [] run
-      (holds-states f flow (read xs o) (read xs o1) s q m q.input (Out s.next 0) s.carried.io same h (extended-here o s.next (memory m ∷ []) 0) (omega arith) (same s.carried.io h.io_below ∙ h.io)
-      (below-later s.next (suc s.next) s.carried.io (omega arith) h.io_below), held-later (read xs o) (read xs o1) s.next (suc s.next) v r same (omega arith) g')
+      sim-node w d (Values f flow) xs o s (Store width) (p ∷ r ∷ s.carried.memory ∷ []) r (Out s.next 0) s.carried.io (record { value = v; state = source.with_memory q m }) (memory m ∷ []) [] run (
+        holds-states f flow (read xs o) (read xs o1) s q m q.input (Out s.next 0) s.carried.io same h (extended-here o s.next (memory m ∷ []) 0) (omega arith) (same s.carried.io h.io_below ∙ h.io)
+            (below-later s.next (suc s.next) s.carried.io (omega arith) h.io_below),
+        held-later (read xs o) (read xs o1) s.next (suc s.next) v r same (omega arith) g',
+      )
     where
       o1 : Outputs
       o1 = outputs_extended o s.next (memory m ∷ [])

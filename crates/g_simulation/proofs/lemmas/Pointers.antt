@@ -1,6 +1,6 @@
 -- Arithmetic of addresses: where the exact arithmetic of the source stays within the block, the words of the graph are it.
-use Rattle.std.proofs.Common.{◌≡◌, ◌≤◌, ◌<◌, inl, inr, ℕ, ◌+◌, ◌*◌, suc, List, [], ◌∷◌, ◌%◌, ◌^◌, refl, sym, ap, ap₂, ◌∙◌, subst, arith, leb-true}
-use Rattle.std.specs.Prelude.{◌==◌, ◌-◌, ◌&&◌, not, nat_le, Bool, true, false, cond, Some, Option, None}
+use Rattle.std.proofs.Common.{◌≡◌, ◌≤◌, ◌<◌, ℕ, ◌+◌, ◌*◌, suc, List, [], ◌%◌, ◌^◌, refl, sym, ap, ◌∙◌, subst, arith, leb-true}
+use Rattle.std.specs.Prelude.{◌-◌, ◌&&◌, nat_le, Bool, true, false, cond, Some, None}
 use Rattle.std.proofs.Math.Nat.{add-mul}
 use Rattle.std.proofs.lemmas.Nat.{mul-mod_second}
 use Rattle.std.proofs.lemmas.Bool.Decides.{nat_tests}
@@ -11,9 +11,8 @@ use Rattle.val_core.specs.declared.operation.Op2.{Op2}
 use Rattle.val_core.specs.declared.operation.Op2.TheVariants as op
 use Rattle.val_core.specs.Words.{word2}
 use Rattle.val_core.specs.Values.{same_block, value2, IsSound, address}
-use Rattle.val_core.specs.Memory.{Memory as Blocks}
 use Rattle.val_core.specs.Refinement.{Direction}
-use Rattle.val_core.specs.Answers.{Answer, Returned, on_defined}
+use Rattle.val_core.specs.Answers.{Returned, on_defined}
 use Rattle.c_type.specs.Trees.{TypeTree}
 use Rattle.c_mean.specs.State.{State, gives, at_offset, moved_up, moved_down, is_negative, elements_on, pointer_moved, pointer_difference, member_address, is_live_address, is_unsigned}
 use Rattle.c_mean.specs.Statements.{Flow}
@@ -57,7 +56,7 @@ sub-negative o w n size word h fits =
     by : (a b : ℕ) → a + b ≡ 4294967296 * n → o + b ≤ size → (o + (4294967296 - a % 4294967296)) % 4294967296 ≡ o + b
     by a b e le = omega (arith, e, le, fits)
 
-address-is : (b : BlockName) (x y : ℕ) → x ≡ y → y ≤ b.size → address b x ≡ At b y
+pub address-is : (b : BlockName) (x y : ℕ) → x ≡ y → y ≤ b.size → address b x ≡ At b y
 address-is b x y e le = ap (address b) e ∙ ap (λ t. cond t (At b y) Bad) within
   where
     within : nat_le y b.size ≡ true
@@ -118,7 +117,7 @@ stepped-word false n b o v low fits e =
 
 module _ (w : Direction) (d : Context) (f : Frame) (flow : Flow) (c : IsSoundContext d) (xs : List Datum) (o : Outputs) (t : IsSoundRun xs o) (s : Point) (q : State)
     (h : Holds f flow (read xs o) s.next s.carried q) where
-  carried-sound : (p : Origin) (v : Value) → read xs o p ≡ val v → IsSound v
+  pub carried-sound : (p : Origin) (v : Value) → read xs o p ≡ val v → IsSound v
   carried-sound p v e = subst IsSoundDatum e (read-sound xs o t p)
 
   -- a pointer moved by an integer

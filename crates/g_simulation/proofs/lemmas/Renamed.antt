@@ -1,20 +1,18 @@
 -- What is carried into a region and out of one: the same variables, from a numbering in their order.
-use Rattle.std.proofs.Common.{◌≡◌, ◌≤◌, ◌<◌, ℕ, zero, suc, Bool, List, [], ◌∷◌, ◌++◌, map, refl, sym, ap, ◌∙◌, subst, arith}
+use Rattle.std.proofs.Common.{◌≡◌, ℕ, suc, List, [], ◌∷◌, ◌++◌, map, refl, sym, ap, ◌∙◌}
 use Rattle.c_mean.specs.State as source
 use Rattle.c_mean.specs.State.{Slot, State}
-use Rattle.c_mean.specs.Expressions.{value_or_none}
 use Rattle.c_mean.specs.Statements.{Flow}
-use Rattle.c_mean.specs.Run.{value_at_end}
 use Rattle.g_graph.specs.declared.op.Origin.{Origin}
-use Rattle.g_graph.specs.declared.op.Origin.TheVariants.{Arg, Out}
+use Rattle.g_graph.specs.declared.op.Origin.TheVariants.{Arg}
 use Rattle.g_construct.specs.Writer.{SlotOrigin, held, object, hidden, Form, straight, jumping, Carried, value_origins, last_origins, carried_origins, numbered, beyond, with_last, renamed, Point, inside}
-use Rattle.g_construct.specs.Laws.{shape, Later}
+use Rattle.g_construct.specs.Laws.{Later}
 use Rattle.g_construct.proofs.lemmas.Later.{numbered_twice}
 use Rattle.g_mean.specs.Data.{Datum, memory, input, at_port}
 use Rattle.g_mean.specs.Meaning.{Outputs, no_outputs, read}
 use Rattle.g_mean.specs.LessDefined.{AreSound}
 use Rattle.g_simulation.proofs.lemmas.Readings.{IsBelow, IsSoundRun, read-sound}
-use Rattle.g_simulation.proofs.lemmas.Held.{Held, SlotsHeld, named, JumpsHeld, Frame, Holds}
+use Rattle.g_simulation.proofs.lemmas.Held.{SlotsHeld, named, JumpsHeld, Frame, Holds}
 
 -- ---- the same variables have the same numbering
 

@@ -12,7 +12,7 @@ use Rattle.c_typed.specs.declared.operator.IncDec.{IncDec}
 use Rattle.g_graph.specs.declared.op.Origin.{Origin}
 use Rattle.g_graph.specs.declared.op.Origin.TheVariants.{Out}
 use Rattle.g_graph.specs.declared.op.Op.TheVariants.{Load}
-use Rattle.g_construct.specs.Writer.{Point, bind}
+use Rattle.g_construct.specs.Writer.{bind}
 use Rattle.g_construct.specs.Operations.{const_made, bin_made, load_made, extended_made, is_not_zero_made, moved_made}
 use Rattle.g_construct.specs.Places.{Spot, in_slot, at_address, spot_read}
 use Rattle.g_construct.specs.Expressions.{compound_made, step_op, stepped_made}

@@ -1,46 +1,43 @@
 -- Statements without loops, from what is claimed of their parts.
-use Rattle.std.proofs.Common.{◌≡◌, ◌≤◌, inl, inr, ℕ, zero, suc, List, [], ◌∷◌, map, refl, sym, ap, ◌∙◌, subst, arith}
+use Rattle.std.proofs.Common.{◌≡◌, ℕ, zero, suc, List, refl, sym, ◌∙◌, subst, arith}
 use Rattle.std.specs.Prelude.{◌==◌, ◌%◌, ◌^◌, not, ◌&&◌, Bool, true, false, cond, Some, Option, None}
 use Rattle.std.proofs.lemmas.Bool.{false≢true}
 use Rattle.val_core.specs.declared.values.Value.{Value}
 use Rattle.val_core.specs.declared.values.Value.TheVariants.{Num, Bad}
-use Rattle.val_core.specs.Refinement.{Direction, exactly, Refines}
-use Rattle.val_core.specs.Answers.{Answer, Returned, then_on, Gives}
-use Rattle.val_core.proofs.lemmas.Refinement.{refines-gives, refines-change}
+use Rattle.val_core.specs.Refinement.{Direction}
+use Rattle.val_core.specs.Answers.{Answer}
 use Rattle.c_typed.specs.Typed.{ExprTree, StmtTree, null, value, block, if_else, break, continue, return_value, return_none, ItemTrees, no_items, stmt_then, declare_then, VariableTree}
 use Rattle.c_typed.specs.WellTyped.{Signature, IsScalar, type_of}
-use Rattle.c_mean.specs.State.{State, Valued, used}
+use Rattle.c_mean.specs.State.{State, used}
 use Rattle.c_mean.specs.Expressions as source
 use Rattle.c_mean.specs.Expressions.{branched, expr_run, value_or_none}
 use Rattle.c_mean.specs.Statements.{Flow, normal, broke, continued, returned, Flowed, flows, goes_on, if_normal, stmt_run, items_run}
 use Rattle.c_mean.specs.Run.{value_at_end}
 use Rattle.g_graph.specs.declared.op.Origin.{Origin}
-use Rattle.g_graph.specs.declared.op.Origin.TheVariants.{Arg}
 use Rattle.g_graph.specs.Plain.{nodes_of}
-use Rattle.g_construct.specs.Writer.{Form, straight, jumping, Carried, Point, with_jumps, with_go, with_go_and_ret, Built, nothing, bind, Extra, no_value, inside, Regions, regions_made, exchanged, choice_one_first, carried_origins}
+use Rattle.g_construct.specs.Writer.{jumping, Point, with_go, with_go_and_ret, Built, nothing, no_value, inside, choice_one_first}
 use Rattle.g_construct.specs.Operations.{const_made, undef_made}
 use Rattle.g_construct.specs.Expressions.{expr_made, tested}
 use Rattle.g_construct.specs.Exits.{stmt_exits, can_leave, some_items, stmt_jumps, items_jump}
 use Rattle.g_construct.specs.Jumps.{jump_made, return_made, unless_left}
 use Rattle.g_construct.specs.Statements.{stmt_made, items_made}
-use Rattle.g_construct.specs.Laws.{Later}
-use Rattle.g_construct.proofs.lemmas.Later.{Keeps, later_here, form_renamed}
+use Rattle.g_construct.proofs.lemmas.Later.{later_here}
 use Rattle.g_construct.proofs.lemmas.LaterExpressions.{expr_later, tested_later}
 use Rattle.g_construct.proofs.lemmas.LaterStatements.{stmt_later, items_later}
 use Rattle.g_built.proofs.lemmas.Exits.{MayJump, jump_left, jump_right, stmt_leaves}
 use Rattle.g_mean.specs.Data.{Datum, val}
 use Rattle.g_mean.specs.Meaning.{Context, Outputs, no_outputs, read as read_origin, nodes_run}
-use Rattle.g_simulation.proofs.lemmas.Readings.{IsBelow, stay-keeps, IsSoundRun}
-use Rattle.g_simulation.proofs.lemmas.Toolbox.{Post, Ran, Simulates, sim-given, sim-bind}
-use Rattle.g_simulation.proofs.lemmas.Held.{Held, held-is, held-later, shown, shown-held, code, JumpsHeld, Frame, Holds}
-use Rattle.g_simulation.proofs.lemmas.Renamed.{holds-inside, inside-sound}
-use Rattle.g_simulation.proofs.lemmas.Nodes.{Values, Line, line-then, const-line, undef-line, held-after}
-use Rattle.g_simulation.proofs.lemmas.Choice.{After, Nothing, ExtraGives, no_value-gives, Gift, picked, gamma-sim, choice-sim}
+use Rattle.g_simulation.specs.Exits.{Allows}
+use Rattle.g_simulation.proofs.lemmas.Readings.{IsSoundRun}
+use Rattle.g_simulation.proofs.lemmas.Toolbox.{Ran, Simulates, sim-given, sim-bind}
+use Rattle.g_simulation.proofs.lemmas.Held.{Held, held-is, shown-held, code, Frame, Holds}
+use Rattle.g_simulation.proofs.lemmas.Nodes.{Line, line-then, const-line, undef-line, held-after}
+use Rattle.g_simulation.proofs.lemmas.Choice.{Nothing, no_value-gives, picked, choice-sim}
 use Rattle.g_simulation.proofs.lemmas.Unary.{used-there}
-use Rattle.g_simulation.proofs.lemmas.Tests.{Decided, ways, apart, branched-decides, Decides}
+use Rattle.g_simulation.proofs.lemmas.Tests.{ways, apart, branched-decides, Decides}
 use Rattle.g_simulation.proofs.lemmas.Claims.{ContextsFit, Typed, test_run}
 use Rattle.g_simulation.proofs.lemmas.Forms.{ExprClaim, TestClaim}
-use Rattle.g_simulation.proofs.lemmas.Leaves.{Allows, stmt-ends, allows-normal}
+use Rattle.g_simulation.proofs.lemmas.Leaves.{stmt-ends, allows-normal}
 use Rattle.g_simulation.proofs.lemmas.Jumps.{Flows, jump-left-same, jumps-of, holds-jump, jumping-form, may-later, may-inside, sim-gives, one-first-sim}
 
 some-form : (a b : Bool) → (a && b) ≡ true → a ≡ true
@@ -108,9 +105,11 @@ module _ (w : Direction) (functions : List Signature) (c : source.Context) (d : 
       line-then w d f normal fit.sound (Flows f) xs o s.next r first (λ x t. nothing (with_go t x)) q (Num (code flow % 2 ^ 32)) (flows q flow) (const-line w d f normal xs o s q h (code flow)) (λ o' r' m.
       let old = jumps-of (read_origin xs o') first.after.next f.is_main normal s.carried.form s.carried.go s.carried.ret form m.post.0.jumps in
       nothing-sim xs o' (with_go first.after first.value) q flow
-      (holds-jump f normal flow (read_origin xs o') first.after.next first.after q first.value s.carried.ret form m.post.0
-      (subst (λ n. read_origin xs o' first.value ≡ val (Num n)) (small flow) (held-is (read_origin xs o') first.after.next (Num (code flow % 2 ^ 32)) first.value tt m.post.1), m.post.1.below,
-      subst (λ v. Held (read_origin xs o') first.after.next (value_or_none v) s.carried.ret) (sym same) old.2)))
+      (holds-jump f normal flow (read_origin xs o') first.after.next first.after q first.value s.carried.ret form m.post.0 (
+        subst (λ n. read_origin xs o' first.value ≡ val (Num n)) (small flow) (held-is (read_origin xs o') first.after.next (Num (code flow % 2 ^ 32)) first.value tt m.post.1),
+        m.post.1.below,
+        subst (λ v. Held (read_origin xs o') first.after.next (value_or_none v) s.carried.ret) (sym same) old.2,
+      )))
     where
       first : Built Origin
       first = const_made (code flow) s

@@ -1,10 +1,9 @@
 -- Conditions: an operand is tested, and the truth of it picks a region.
-use Rattle.std.proofs.Common.{◌≡◌, ◌≤◌, inl, inr, ℕ, zero, suc, List, [], ◌∷◌, refl, sym, ap, ◌∙◌, subst, arith}
+use Rattle.std.proofs.Common.{◌≡◌, ℕ, zero, suc, List, [], refl, sym, ap, ◌∙◌, arith}
 use Rattle.std.proofs.Math.Path.{fun_ext}
 use Rattle.std.specs.Prelude.{◌==◌, not, Bool, true, false, cond, Some, Option, None}
 use Rattle.std.proofs.lemmas.Bool.{false≢true}
 use Rattle.std.proofs.lemmas.Bool.Decides.{nat_tests}
-use Rattle.val_core.specs.declared.values.Value.{Value}
 use Rattle.val_core.specs.declared.values.Value.TheVariants.{Num}
 use Rattle.val_core.specs.Refinement.{Direction}
 use Rattle.val_core.specs.Answers.{Answer, Returned, then_on, on_defined}
@@ -21,7 +20,7 @@ use Rattle.g_mean.specs.Meaning.{Context, Outputs, no_outputs, read}
 use Rattle.g_simulation.proofs.lemmas.Readings.{IsBelow, IsSoundRun}
 use Rattle.g_simulation.proofs.lemmas.Toolbox.{Post, Simulates}
 use Rattle.g_simulation.proofs.lemmas.Held.{Frame, Holds}
-use Rattle.g_simulation.proofs.lemmas.Choice.{Gift, After, ExtraGives, picked, choice-sim}
+use Rattle.g_simulation.proofs.lemmas.Choice.{Gift, After, ExtraGives, choice-sim}
 
 -- what a condition gives: whether it is true, and the state after it
 pub record Decided : Type 0 where

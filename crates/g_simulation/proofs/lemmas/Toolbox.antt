@@ -1,9 +1,9 @@
 -- A source part and what is made of it do the same: one part after another, parts that make nothing, and one node.
-use Rattle.std.proofs.Common.{◌≡◌, ◌≤◌, ℕ, suc, List, [], ◌∷◌, ◌++◌, refl, sym, ap, ◌∙◌, subst, arith}
+use Rattle.std.proofs.Common.{◌≡◌, ◌≤◌, ℕ, List, [], refl, sym, subst, arith}
 use Rattle.std.proofs.lemmas.List.{append-nil}
 use Rattle.val_core.specs.Events.{Event}
 use Rattle.val_core.specs.Refinement.{Direction, exactly, Refines}
-use Rattle.val_core.specs.Answers.{Answer, Returned, before, then_on}
+use Rattle.val_core.specs.Answers.{Answer, Returned, then_on}
 use Rattle.val_core.proofs.lemmas.Answers.{before-is}
 use Rattle.val_core.proofs.lemmas.Refinement.{exactly-goes, refines-then, refines-change, refines-less-goes}
 use Rattle.g_graph.specs.declared.op.Op.{Op}

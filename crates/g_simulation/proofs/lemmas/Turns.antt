@@ -1,43 +1,37 @@
 -- Turns of loops, in the source and as they are made: what stands around the body.
-use Rattle.std.proofs.Common.{◌≡◌, ◌≤◌, ◌<◌, inl, inr, ℕ, zero, suc, List, [], ◌∷◌, ◌++◌, map, refl, sym, ap, ◌∙◌, subst, arith}
+use Rattle.std.proofs.Common.{◌≡◌, ℕ, List, [], refl, sym, ap, ◌∙◌, subst, arith}
 use Rattle.std.proofs.Math.Path.{fun_ext}
-use Rattle.std.specs.Prelude.{◌==◌, ◌%◌, ◌^◌, not, Bool, true, false, cond, Option, None, Some}
-use Rattle.val_core.specs.declared.values.Value.{Value}
+use Rattle.std.specs.Prelude.{◌%◌, ◌^◌, Bool, true, false, cond}
 use Rattle.val_core.specs.declared.values.Value.TheVariants.{Num}
 use Rattle.val_core.specs.declared.operation.Op2.TheVariants as op
-use Rattle.val_core.specs.Words.{word2, one_if}
-use Rattle.val_core.specs.Refinement.{Direction, Forward, exactly}
-use Rattle.val_core.specs.Answers.{Answer, Returned, Cut, then_on}
+use Rattle.val_core.specs.Words.{word2}
+use Rattle.val_core.specs.Refinement.{Direction}
+use Rattle.val_core.specs.Answers.{Answer, Returned, then_on}
 use Rattle.val_core.proofs.lemmas.Answers.{then_associates}
 use Rattle.c_typed.specs.Typed.{ExprTree, OptionalExpr, no_expr, some_expr}
 use Rattle.c_typed.specs.WellTyped.{Signature, type_of}
-use Rattle.c_mean.specs.State.{State, Valued}
+use Rattle.c_mean.specs.State.{State}
 use Rattle.c_mean.specs.Expressions as source
 use Rattle.c_mean.specs.Expressions.{branched, expr_run, value_or_none}
-use Rattle.c_mean.specs.Statements.{Flow, normal, broke, continued, returned, Flowed, flows, goes_on, past_flow, past, after_turn, optional_step, while_true, loop_run, do_run}
+use Rattle.c_mean.specs.Statements.{Flow, normal, broke, continued, returned, Flowed, flows, goes_on, past_flow, after_turn, optional_step, while_true}
 use Rattle.c_mean.specs.Run.{value_at_end}
 use Rattle.g_graph.specs.declared.op.Origin.{Origin}
-use Rattle.g_construct.specs.Writer.{jumping, Point, with_go, Built, nothing, bind, dropped, no_value, one_value, inside, choice}
-use Rattle.g_construct.specs.Operations.{const_made, bin_made, is_zero_made}
-use Rattle.g_construct.specs.Expressions.{expr_made, tested}
-use Rattle.g_construct.specs.Jumps.{jump_ended, break_ended, unless_left, optional_tested, step_made, again_made}
-use Rattle.g_construct.specs.Laws.{Later}
-use Rattle.g_construct.proofs.lemmas.Later.{later_here}
-use Rattle.g_construct.proofs.lemmas.LaterExpressions.{expr_later}
-use Rattle.g_construct.proofs.lemmas.LaterStatements.{dropped_later, jump_ended_later, step_later}
+use Rattle.g_construct.specs.Writer.{jumping, Point, with_go, Built, nothing, bind}
+use Rattle.g_construct.specs.Operations.{const_made, bin_made}
+use Rattle.g_construct.specs.Jumps.{jump_ended, break_ended}
 use Rattle.g_built.proofs.lemmas.Exits.{MayJump}
 use Rattle.g_mean.specs.Data.{Datum, val}
-use Rattle.g_mean.specs.Meaning.{Context, Outputs, no_outputs, read as read_origin}
-use Rattle.g_simulation.proofs.lemmas.Readings.{IsBelow, IsSoundRun}
-use Rattle.g_simulation.proofs.lemmas.Toolbox.{Post, Ran, Simulates, sim-change, sim-goes, sim-given, sim-bind}
-use Rattle.g_simulation.proofs.lemmas.Held.{Held, held-is, code, JumpsHeld, Frame, Holds}
-use Rattle.g_simulation.proofs.lemmas.Nodes.{Line, line-then, const-line, bin-line, is-zero-line, held-after, read-after}
-use Rattle.g_simulation.proofs.lemmas.Choice.{Gift, After, Nothing, ExtraGives, no_value-gives, picked, choice-sim}
-use Rattle.g_simulation.proofs.lemmas.Tests.{Decided, decided, ways, branched-decides, Decides}
-use Rattle.g_simulation.proofs.lemmas.Claims.{ContextsFit, Typed, States, test_run}
+use Rattle.g_mean.specs.Meaning.{Context, Outputs, read as read_origin}
+use Rattle.g_simulation.proofs.lemmas.Readings.{IsSoundRun}
+use Rattle.g_simulation.proofs.lemmas.Toolbox.{Post, Simulates, sim-goes, sim-given}
+use Rattle.g_simulation.proofs.lemmas.Held.{Held, held-is, code, Frame, Holds}
+use Rattle.g_simulation.proofs.lemmas.Nodes.{line-then, const-line, bin-line}
+use Rattle.g_simulation.proofs.lemmas.Choice.{After, Nothing}
+use Rattle.g_simulation.proofs.lemmas.Tests.{Decided, ways, branched-decides}
+use Rattle.g_simulation.proofs.lemmas.Claims.{ContextsFit, test_run}
 use Rattle.g_simulation.proofs.lemmas.Forms.{ExprClaim}
-use Rattle.g_simulation.proofs.lemmas.Jumps.{Flows, jump-left-same, jumps-of, holds-jump, jumping-form, may-later}
-use Rattle.g_simulation.proofs.lemmas.Loops.{Turned, turned, Turns}
+use Rattle.g_simulation.proofs.lemmas.Jumps.{Flows, jump-left-same, jumps-of, holds-jump, jumping-form}
+use Rattle.g_simulation.proofs.lemmas.Loops.{Turned, turned}
 
 -- ---- in the source
 
@@ -142,11 +136,15 @@ module _ (w : Direction) (functions : List Signature) (c : source.Context) (d : 
       (bin-line w d f flow xs o2 second.after q m2.post.0 op.Mul s.carried.go second.value (Num (code flow)) (Num (word2 op.Ne (code flow) (n % 2 ^ 32))) (go-of xs o2 second.after.next m2.post.0)
       (held-is (read_origin xs o2) second.after.next (Num (word2 op.Ne (code flow) (n % 2 ^ 32))) second.value tt m2.post.1)) (λ o3 r3 m3.
       let old = jumps-of (read_origin xs o3) third.after.next f.is_main flow s.carried.form s.carried.go s.carried.ret form m3.post.0.jumps in
-      sim-given w d (Stepped f flow') xs o3 third.after.next tt (with_go third.after third.value) q (omega arith)
-      (holds-jump f flow flow' (read_origin xs o3) third.after.next third.after q third.value s.carried.ret form m3.post.0
-      (subst (λ k. read_origin xs o3 third.value ≡ val (Num k)) (ap (λ k. word2 op.Mul (code flow) (word2 op.Ne (code flow) k)) word ∙ same)
-      (held-is (read_origin xs o3) third.after.next (Num (word2 op.Mul (code flow) (word2 op.Ne (code flow) (n % 2 ^ 32)))) third.value tt m3.post.1), m3.post.1.below,
-      subst (λ v. Held (read_origin xs o3) third.after.next (value_or_none v) s.carried.ret) (sym left) old.2), tt))))
+      sim-given w d (Stepped f flow') xs o3 third.after.next tt (with_go third.after third.value) q (omega arith) (
+        holds-jump f flow flow' (read_origin xs o3) third.after.next third.after q third.value s.carried.ret form m3.post.0 (
+          subst (λ k. read_origin xs o3 third.value ≡ val (Num k)) (ap (λ k. word2 op.Mul (code flow) (word2 op.Ne (code flow) k)) word ∙ same)
+              (held-is (read_origin xs o3) third.after.next (Num (word2 op.Mul (code flow) (word2 op.Ne (code flow) (n % 2 ^ 32)))) third.value tt m3.post.1),
+          m3.post.1.below,
+          subst (λ v. Held (read_origin xs o3) third.after.next (value_or_none v) s.carried.ret) (sym left) old.2,
+        ),
+        tt,
+      ))))
     where
       first : Built Origin
       first = const_made n s

@@ -1,13 +1,12 @@
 -- Operations on one operand: conversions, signs, tests, and the predeclared functions.
-use Rattle.std.proofs.Common.{◌≡◌, ◌≤◌, inl, inr, ℕ, suc, List, [], ◌∷◌, ◌%◌, ◌^◌, refl, sym, ap, ap₂, ◌∙◌, subst, arith}
+use Rattle.std.proofs.Common.{◌≡◌, inr, ℕ, suc, List, [], ◌∷◌, ◌%◌, ◌^◌, refl, sym, ap, ◌∙◌, subst, arith}
 use Rattle.std.specs.Prelude.{◌==◌, ◌-◌, not, Bool, true, false, Some, Option, None}
 use Rattle.val_core.specs.declared.values.Value.{Value}
 use Rattle.val_core.specs.declared.values.Value.TheVariants.{Num, At, Bad}
 use Rattle.val_core.specs.declared.operation.Op1.TheVariants as op1
-use Rattle.val_core.specs.declared.operation.Op2.{Op2}
 use Rattle.val_core.specs.declared.operation.Op2.TheVariants as op
 use Rattle.val_core.specs.Words.{one_if, word2}
-use Rattle.val_core.specs.Memory.{Memory as Blocks, pointers_equal}
+use Rattle.val_core.specs.Memory.{Memory as Blocks}
 use Rattle.val_core.specs.Events.{wrote}
 use Rattle.val_core.specs.Refinement.{Direction, exactly, Refines}
 use Rattle.val_core.specs.Answers.{Answer, Returned, Exited, then_on, on_number, on_defined}
@@ -16,15 +15,14 @@ use Rattle.c_type.specs.Trees.{TypeTree, void_type, scalar_type, pointer_to, arr
 use Rattle.c_typed.specs.declared.operator.UnaryOp.{UnaryOp}
 use Rattle.c_typed.specs.declared.operator.UnaryOp.TheVariants as unary_op
 use Rattle.c_typed.specs.WellTyped.{IsScalar, IsInteger, IsPromoted, int, UnaryFits}
-use Rattle.c_mean.specs.State as source
-use Rattle.c_mean.specs.State.{State, Valued, gives, used, converted, extended, arithmetic, truth, is_defined_on, is_pointer}
+use Rattle.c_mean.specs.State.{State, gives, used, converted, extended, arithmetic, truth}
 use Rattle.c_mean.specs.Expressions.{unary_done, given_word}
 use Rattle.c_mean.specs.Statements.{Flow}
-use Rattle.g_graph.specs.declared.op.Op.TheVariants.{Put, Exit}
+use Rattle.g_graph.specs.declared.op.Op.TheVariants.{Put}
 use Rattle.g_graph.specs.declared.op.Origin.{Origin}
 use Rattle.g_graph.specs.declared.op.Origin.TheVariants.{Out}
 use Rattle.g_graph.specs.Plain.{node, nodes_of, no_regions}
-use Rattle.g_construct.specs.Writer.{Point, with_states, Built, given, bind}
+use Rattle.g_construct.specs.Writer.{Point, with_states, Built, given}
 use Rattle.g_construct.specs.Operations.{bin_made, un_made, put_made, exit_made, converted_made, extended_made, not_made, condition_made, is_zero_made, is_null_made}
 use Rattle.g_construct.specs.Expressions.{unary_made}
 use Rattle.g_mean.specs.Data.{Datum, val, memory, input, value_of, on_input}
@@ -210,10 +208,11 @@ module _ (w : Direction) (d : Context) (f : Frame) (flow : Flow) where
         (on_number v (λ n. Returned (record { value = Num (n % 256); state = q }) (wrote (n % 256) ∷ [])))
     put-sim p (Num a) g =
         sim-bind w d c (Line f flow q (Num a)) (Values f flow) xs o s.next t (put_made p s) (un_made op1.Zext8) (Returned tt (wrote (a % 256) ∷ [])) (λ _. gives q (Num (a % 256)))
-        (sim-node w d (Line f flow q (Num a)) xs o s Put (p ∷ s.carried.io ∷ []) p s.carried.memory (Out s.next 0) tt (input q.input ∷ []) (wrote (a % 256) ∷ []) run
-        (holds-states f flow (read xs o) (read xs o1) s q q.memory q.input s.carried.memory (Out s.next 0) same h (same s.carried.memory h.memory_below ∙ h.memory)
-        (below-later s.next (suc s.next) s.carried.memory (omega arith) h.memory_below) (extended-here o s.next (input q.input ∷ []) 0) (omega arith),
-        held-exactly (read xs o1) (suc s.next) (Num a) p (same p g.below ∙ is) (below-later s.next (suc s.next) p (omega arith) g.below)))
+        (sim-node w d (Line f flow q (Num a)) xs o s Put (p ∷ s.carried.io ∷ []) p s.carried.memory (Out s.next 0) tt (input q.input ∷ []) (wrote (a % 256) ∷ []) run (
+          holds-states f flow (read xs o) (read xs o1) s q q.memory q.input s.carried.memory (Out s.next 0) same h (same s.carried.memory h.memory_below ∙ h.memory)
+              (below-later s.next (suc s.next) s.carried.memory (omega arith) h.memory_below) (extended-here o s.next (input q.input ∷ []) 0) (omega arith),
+          held-exactly (read xs o1) (suc s.next) (Num a) p (same p g.below ∙ is) (below-later s.next (suc s.next) p (omega arith) g.below),
+        ))
         (λ y o' t' r.
         of-line w d f flow xs o' (suc s.next) (un_made op1.Zext8 p (put_made p s).after) q (Num (a % 256))
         (un-line w d f flow xs o' (put_made p s).after q r.post.0 op1.Zext8 p (Num a) (held-is (read xs o') (suc s.next) (Num a) p tt r.post.1)))
