@@ -1,5 +1,5 @@
 -- Bodies of functions without `go` and `ret`: a `return` that is last gives the value.
-use Rattle.std.proofs.Common.{◌≡◌, ◌≤◌, ℕ, suc, List, [], refl, sym, ◌∙◌, subst}
+use Rattle.std.proofs.Common.{arith, ◌≡◌, ◌≤◌, ℕ, suc, List, [], refl, sym, ◌∙◌, subst}
 use Rattle.std.specs.Prelude.{Bool, true, false, take, length, slice_get, Some, None}
 use Rattle.val_core.specs.declared.values.Value.{Value}
 use Rattle.val_core.specs.declared.values.Value.TheVariants.{Num, At, Bad}
@@ -16,24 +16,24 @@ use Rattle.c_mean.specs.Statements.{normal, returned, Flowed, flows, goes_on, if
 use Rattle.c_mean.specs.Run.{value_at_end}
 use Rattle.g_graph.specs.declared.op.Origin.{Origin}
 use Rattle.g_graph.specs.Plain.{nodes_of}
-use Rattle.g_construct.specs.Writer.{Form, straight, jumping, Point, Built, bind}
+use Rattle.g_construct.specs.Writer.{Form, straight, jumping, Point, Built, bind, given, nothing, with_jumps}
 use Rattle.g_construct.specs.Operations.{const_made, undef_made}
 use Rattle.g_construct.specs.Expressions.{expr_made}
-use Rattle.g_construct.specs.Exits.{stmt_jumps, is_return, some_items}
-use Rattle.g_construct.specs.Statements.{declared_made, stmt_made}
-use Rattle.g_construct.specs.Functions.{end_value, straight_then, straight_made}
-use Rattle.g_construct.proofs.lemmas.LaterStatements.{stmt_later, declared_later}
+use Rattle.g_construct.specs.Exits.{stmt_jumps, is_return, some_items, items_jump}
+use Rattle.g_construct.specs.Statements.{declared_made, stmt_made, items_made}
+use Rattle.g_construct.specs.Functions.{end_value, straight_then, straight_made, jumps_begun}
+use Rattle.g_construct.proofs.lemmas.LaterStatements.{stmt_later, declared_later, items_later}
 use Rattle.g_built.proofs.lemmas.Exits.{MayJump}
 use Rattle.g_mean.specs.Data.{Datum, memory, input}
 use Rattle.g_mean.specs.Meaning.{Context, Outputs, read as read_origin, nodes_run}
 use Rattle.g_simulation.proofs.lemmas.Readings.{Stay, IsSoundRun}
-use Rattle.g_simulation.proofs.lemmas.Toolbox.{Post, Ran, Simulates, sim-goes, sim-bind}
-use Rattle.g_simulation.proofs.lemmas.Held.{Held, shown-held, JumpsHeld, Holds}
-use Rattle.g_simulation.proofs.lemmas.Nodes.{Line, const-line, undef-line}
+use Rattle.g_simulation.proofs.lemmas.Toolbox.{Post, Ran, Simulates, sim-goes, sim-bind, sim-given}
+use Rattle.g_simulation.proofs.lemmas.Held.{Held, shown-held, JumpsHeld, Holds, held-is}
+use Rattle.g_simulation.proofs.lemmas.Nodes.{Line, const-line, undef-line, line-then, held-after}
 use Rattle.g_simulation.proofs.lemmas.Claims.{ContextsFit, Typed}
 use Rattle.g_simulation.proofs.lemmas.Forms.{ExprClaim}
-use Rattle.g_simulation.proofs.lemmas.Jumps.{Flows}
-use Rattle.g_simulation.proofs.lemmas.Statements.{StmtClaim}
+use Rattle.g_simulation.proofs.lemmas.Jumps.{Flows, jumps-of}
+use Rattle.g_simulation.proofs.lemmas.Statements.{StmtClaim, ItemsClaim}
 use Rattle.g_simulation.proofs.lemmas.Turns.{Stepped}
 use Rattle.g_simulation.proofs.lemmas.Declarations.{framed, DeclarationClaim}
 
@@ -128,3 +128,56 @@ module _ (w : Direction) (functions : List Signature) (c : source.Context) (d : 
       sim-goes w d (Ends m) (Ends m) xs o' (declared_made vs e s).after.next (straight_made m vs is (declared_made vs e s).after) (items_run c vs is t)
       (λ x. record { flow = x.flow; state = with_slots x.state (take (length q.slots) x.state.slots) }) (λ y o'' k'. k'.post)
       (cis xs o' r' (declared_made vs e s).after t k.post.0 ((declared_later vs e s).form ∙ z)))
+
+  -- ---- functions with `go` and `ret`
+
+  -- `ret` carries what the function gives
+  pub jumping-ends : (vs : List VariableTree) (n : ℕ) (is : ItemTrees) → ItemsClaim w functions c d fit (framed [] n m) vs is → (xs : List Datum) (o : Outputs) → IsSoundRun xs o → (s : Point) (q : State) →
+      Holds (framed [] n m) normal (read_origin xs o) s.next s.carried q → s.carried.form ≡ jumping →
+      Simulates w d (Ends m) xs o s.next (bind (items_made vs is s) (λ _ u. given u.carried.ret u)) (items_run c vs is q)
+  jumping-ends vs n is k xs o r s q h e =
+      subst (λ a. Simulates w d (Ends m) xs o s.next (bind first (λ _ u. given u.carried.ret u)) a) (then_nothing (items_run c vs is q))
+      (sim-bind w d fit.sound (Flows (framed [] n m)) (Ends m) xs o s.next r first (λ _ u. given u.carried.ret u) (items_run c vs is q) (λ y. Returned y [])
+      (k xs o r s q h (subst (λ x. MayJump x (items_jump is)) (sym e) tt)) (λ y o' r' t.
+      let form : first.after.carried.form ≡ jumping = (items_later vs is s).form ∙ e in
+      let g = jumps-of (read_origin xs o') first.after.next m y.flow first.after.carried.form first.after.carried.go first.after.carried.ret form t.post.0.jumps in
+      sim-given w d (Ends m) xs o' first.after.next first.after.carried.ret first.after y (omega arith) (t.post.0.memory, t.post.0.io, g.2)))
+    where
+      first : Built (Unit {0})
+      first = items_made vs is s
+
+  -- `go` and `ret` begin
+  pub jumps-begin : (n : ℕ) (xs : List Datum) (o : Outputs) → IsSoundRun xs o → (s : Point) (q : State) → Holds (framed [] n m) normal (read_origin xs o) s.next s.carried q →
+      Simulates w d (Stepped (framed [] n m) normal) xs o s.next (jumps_begun m s) (Returned q [])
+  jumps-begin n xs o r s q h =
+      line-then w d (framed [] n m) normal fit.sound (Stepped (framed [] n m) normal) xs o s.next r first (λ g t. bind (end_value m t) (λ x u. nothing (with_jumps u jumping g x))) q (Num 0) (Returned q [])
+      (const-line w d (framed [] n m) normal xs o s q h 0) (λ o1 r1 t1.
+      line-then w d (framed [] n m) normal fit.sound (Stepped (framed [] n m) normal) xs o1 first.after.next r1 second (λ x u. nothing (with_jumps u jumping first.value x)) q (value_or_none (value_at_end m normal))
+      (Returned q []) (ending m o1 t1.post.0) (λ o2 r2 t2.
+      sim-given w d (Stepped (framed [] n m) normal) xs o2 second.after.next tt (with_jumps second.after jumping first.value second.value) q (omega arith) (
+        record {
+          slots = t2.post.0.slots;
+          count = t2.post.0.count;
+          jumps = (
+            held-is (read_origin xs o2) second.after.next (Num 0) first.value tt (held-after (Line (framed [] n m) normal q (value_or_none (value_at_end m normal))) xs o1 first.after.next second tt o2 t2 (Num 0) first.value t1.post.1),
+            (held-after (Line (framed [] n m) normal q (value_or_none (value_at_end m normal))) xs o1 first.after.next second tt o2 t2 (Num 0) first.value t1.post.1).below,
+            t2.post.1,
+          );
+          memory = t2.post.0.memory;
+          memory_below = t2.post.0.memory_below;
+          io = t2.post.0.io;
+          io_below = t2.post.0.io_below;
+        },
+        tt,
+      )))
+    where
+      first : Built Origin
+      first = const_made 0 s
+
+      second : Built Origin
+      second = end_value m first.after
+
+      ending : (b : Bool) (o1 : Outputs) → Holds (framed [] n b) normal (read_origin xs o1) first.after.next first.after.carried q →
+          Simulates w d (Line (framed [] n b) normal q (value_or_none (value_at_end b normal))) xs o1 first.after.next (end_value b first.after) (Returned tt [])
+      ending true o1 h1 = const-line w d (framed [] n true) normal xs o1 first.after q h1 0
+      ending false o1 h1 = undef-line w d (framed [] n false) normal xs o1 first.after q h1
