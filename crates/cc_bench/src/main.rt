@@ -3,6 +3,7 @@
 //! own.
 #![tactic(auto)]
 
+use c_check::check;
 use c_lex::{Punct, Token, TokenKind, lex};
 use c_parse::parse;
 use c_scope::{Members, Names, Scopes};
@@ -36,6 +37,25 @@ fn count_declarations(rt: &(impl Input + Print + AllocGlobal)) -> io::Result<()>
     match parse(rt.alloc(), &tokens, length) {
         Ok(unit) => println!(rt; "{} declarations", unit.externals.len()),
         Err(fault) => println!(rt; "{fault}"),
+    }
+}
+
+/// Reads a source from standard input and tells whether the checker accepts it, or its fault.
+fn check_source(rt: &(impl Input + Print + AllocGlobal)) -> io::Result<()> {
+    let mut source = Vec::new(rt.alloc());
+    rt.reader().read_to_end(&mut source)?;
+    let tokens = match lex(rt.alloc(), &source) {
+        Ok(tokens) => tokens,
+        Err(fault) => return println!(rt; "{fault:?}"),
+    };
+    let length = u32::try_from(source.len()).unwrap_or(u32::MAX);
+    let unit = match parse(rt.alloc(), &tokens, length) {
+        Ok(unit) => unit,
+        Err(fault) => return println!(rt; "{fault}"),
+    };
+    match check(rt.alloc(), &unit, length) {
+        Ok(_) => println!(rt; "accepted"),
+        Err(fault) => println!(rt; "{fault:?}"),
     }
 }
 
@@ -118,9 +138,10 @@ fn main(rt: HostRuntime) -> io::Result<()> {
     match env::args(&rt)?.nth(1) {
         Some(word) if word.as_str() == "lex" => count_tokens(&rt),
         Some(word) if word.as_str() == "parse" => count_declarations(&rt),
+        Some(word) if word.as_str() == "check" => check_source(&rt),
         Some(word) if word.as_str() == "scopes" => count_names(&rt, false),
         Some(word) if word.as_str() == "members" => count_names(&rt, true),
         Some(word) if word.as_str() == "decode" => tell_instructions(&rt),
-        _ => eprintln!(rt; "usage: cc_bench lex | parse | scopes | members | decode"),
+        _ => eprintln!(rt; "usage: cc_bench lex | parse | check | scopes | members | decode"),
     }
 }
