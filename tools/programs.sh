@@ -1,7 +1,7 @@
 #!/bin/sh
 # Builds each program of examples/ with gcc and with rvcc, and compares what both write and end with, on the program's input.
 # gcc checks for undefined behaviour too; the image is run by `rvcc run` and by qemu-riscv32. readelf reads each image, and
-# objdump finds an instruction in each word of its text up to the constants.
+# objdump finds an instruction in each word of its text, where the text holds no constants.
 set -u
 cd "$(dirname "$0")/.." || exit 1
 script=tools/programs.sh
@@ -34,5 +34,12 @@ for source in examples/*.c; do
 
     riscv64-unknown-elf-readelf --wide --file-header --segments "$image" >"$folder/headers" 2>&1 || fail "readelf refused the image of $source"
     grep -qi 'warning\|error' "$folder/headers" && fail "readelf complained of the image of $source"
+    grep -v '^#\|^//' "$source" | grep -q '"\|^const ' && continue
+    size=$(awk '$1 == "LOAD" && / R E / { print $5 }' "$folder/headers")
+    dd if="$image" of="$folder/text" bs=4 skip=1024 count=$((size / 4)) 2>/dev/null
+    riscv64-unknown-elf-objdump -D -b binary -m riscv:rv32 -M no-aliases,numeric "$folder/text" >"$folder/listing" \
+        || fail "objdump refused the text of $source"
+    [ "$(grep -c '^ *[0-9a-f]*:' "$folder/listing")" -eq $((size / 4)) ] || fail "objdump did not read all of the text of $source"
+    grep -q '\.word\|\.insn\|unknown' "$folder/listing" && fail "objdump found a word that is no instruction in $source"
 done
-echo "$script: the examples agree with gcc and qemu-riscv32"
+echo "$script: the examples agree with gcc, qemu-riscv32, readelf and objdump"
