@@ -6,13 +6,13 @@ use Rattle.std.proofs.lemmas.Bool.{cases_Bool}
 use Rattle.std.proofs.lemmas.Bool.Decides.{nat_tests}
 use Rattle.std.proofs.lemmas.List.{length-map, take_all, drop_all, append-nil, same_lists}
 use Rattle.g_graph.specs.WellFormed.{some_of}
+use Rattle.s_linear.proofs.lemmas.Numbers.{length_numbers}
 use Rattle.s_linear.specs.Lines.{Line, line_names, numbers_from}
 use Rattle.s_linear.specs.Views.{line_of}
 use Rattle.s_linear.specs.declared.line.Line as code_line
 use Rattle.a_place.specs.Places.{among, occurs, first, last, above, name_count}
 use Rattle.a_place.specs.Sweep.{span_of, spans_of, begun, span_from}
 use Rattle.a_place.specs.declared.spans.Span.{Span}
-use Rattle.a_place.proofs.lemmas.Names.{length_numbers}
 use Rattle.a_place.proofs.Order.{first_within, get_numbers}
 
 -- a name that does not occur has its first position after the lines, and 0 as its last

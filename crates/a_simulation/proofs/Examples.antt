@@ -15,7 +15,7 @@ use Rattle.s_linear.specs.Meaning.{calls}
 use Rattle.a_place.specs.Places.{first, last, in_order, least, count_of, place_in, places}
 use Rattle.a_place.specs.Places as place
 use Rattle.s_simulation.specs.Closed.{FunctionIsClosed}
-use Rattle.a_simulation.specs.Placed.{placed_at, placed, placed_calls}
+use Rattle.a_place.specs.Placed.{placed_at, placed, placed_calls}
 
 abbrev no_globals : ℕ → Value
 no_globals k = Bad

@@ -12,7 +12,7 @@ use Rattle.s_linear.specs.Linear.{LinearFunction}
 use Rattle.s_linear.specs.Lines.{enter, leave, code_lines, numbers_from, lines}
 use Rattle.s_linear.specs.Meaning.{State, Context, Call, no_names, written, code_run, first_names, shapes, entered, calls}
 use Rattle.a_place.proofs.Apart.{overlapping_names_differ}
-use Rattle.a_simulation.specs.Placed.{placed_code, place_of, placed, put_params, placed_entered}
+use Rattle.a_place.specs.Placed.{placed_code, place_of, placed, put_params, placed_entered}
 use Rattle.s_simulation.specs.Closed.{NameSet, after_code, FunctionIsClosed}
 use Rattle.a_simulation.specs.Need.{IsIn, these, needed_by_code, SafeCode}
 use Rattle.a_simulation.specs.Spans.{StandAt, ArePlacesApart}

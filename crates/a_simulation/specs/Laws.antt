@@ -10,7 +10,7 @@ use Rattle.g_mean.specs.Kinds.{AreWellFormed}
 use Rattle.g_mean.specs.Copies.{Same}
 use Rattle.s_sequence.specs.Sequence.{sequenced}
 use Rattle.a_place.specs.Places.{last}
-use Rattle.a_simulation.specs.Placed.{placed_code, placed, placed_calls}
+use Rattle.a_place.specs.Placed.{placed_code, placed, placed_calls}
 use Rattle.s_simulation.specs.Closed.{NameSet, after_code, CodeIsClosed, FunctionIsClosed}
 use Rattle.a_simulation.specs.Need.{IsIn, these, needed_by_code, SafeCode}
 use Rattle.a_simulation.specs.Spans.{StandAt, IsBegunAt, ArePlacesApart, SpansCode}

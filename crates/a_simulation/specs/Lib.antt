@@ -1,4 +1,3 @@
-pub mod Placed
 pub mod Need
 pub mod Spans
 pub mod Laws

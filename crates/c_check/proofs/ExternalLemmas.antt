@@ -1,5 +1,6 @@
 -- What the definition says of each declaration at file scope.
 use Rattle.std.proofs.Common.{◌≡◌, ℕ, ◌+◌, ◌<◌, Bool, false, true, List, [], ◌∷◌, length, take, get_or, Option, None, Some, is_some, refl, sym, ap, ◌∙◌}
+use Rattle.std.proofs.lemmas.Option.{same_Some}
 use Rattle.std.specs.Prelude.{unwrap_or}
 use Rattle.c_lex.specs.declared.keyword.Keyword.TheVariants as w
 use Rattle.c_lex.specs.declared.punct.Punct.TheVariants as m
@@ -34,9 +35,6 @@ use Rattle.c_check.specs.Functions.{unless_broken}
 
 -- ---- specifiers
 
-some_same : (a b : ℕ) → Some a ≡ Some b → a ≡ b
-some_same a b h = ap (λ o. unwrap_or o 0) h
-
 abbrev declared : (stars name rest : Tree) → Tree
 declared a n rest = node l.Declared (a ∷ n ∷ rest ∷ [])
 
@@ -52,10 +50,10 @@ by_specifiers (Some k) q x a n rest at s h =
       | Some a ↦ refl
     ] in
     ap (λ b. after (specified_type (spec_tree x) s) (following k.at b a n rest)) present
-    ∙ ap (λ o. after (specified_type (spec_tree x) s) (following o (is_some q) a n rest)) (some_same k.at at h)
-by_specifiers None (Some k) x a n rest at s h = ap (λ o. after (specified_type (spec_tree x) s) (following o true a n rest)) (some_same k.at at h)
-by_specifiers None None (spec.Struct k t) a n rest at s h = ap (λ o. after (specified_type (spec_tree (spec.Struct k t)) s) (following o false a n rest)) (some_same k.at at h)
-by_specifiers None None (spec.Void k) a n rest at s h = ap (λ o. after (specified_type (spec_tree (spec.Void k)) s) (following o false a n rest)) (some_same k.at at h)
+    ∙ ap (λ o. after (specified_type (spec_tree x) s) (following o (is_some q) a n rest)) (same_Some k.at at h)
+by_specifiers None (Some k) x a n rest at s h = ap (λ o. after (specified_type (spec_tree x) s) (following o true a n rest)) (same_Some k.at at h)
+by_specifiers None None (spec.Struct k t) a n rest at s h = ap (λ o. after (specified_type (spec_tree (spec.Struct k t)) s) (following o false a n rest)) (same_Some k.at at h)
+by_specifiers None None (spec.Void k) a n rest at s h = ap (λ o. after (specified_type (spec_tree (spec.Void k)) s) (following o false a n rest)) (same_Some k.at at h)
 by_specifiers None None (spec.Plain b) a n rest at s h =
     ap (λ o. after (specified_type (spec_tree (spec.Plain b)) s) (following (unwrap_or o 0) false a n rest)) h
 by_specifiers None None (spec.Signed k b c) a n rest at s h =

@@ -176,7 +176,7 @@ pointer_moved up size t _ _ m = None
 -- the difference of two addresses in one live object, in elements
 abbrev pub pointer_difference : (size : ℕ) → Value → Value → Memory → Option Value
 pointer_difference size (At b o) (At c p) m =
-    if same_block b c && is_live_address (At b o) m then Some (Num (word2 op.Div (word2 op.Sub o p) size)) else None
+    if same_block b c && is_live_address (At b o) m then Some (Num (word2 op.Div (word2 op.Sub o p) (size % 2 ^ 32))) else None
 pointer_difference size _ _ m = None
 
 -- the address of a member at an offset

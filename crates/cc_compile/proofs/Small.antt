@@ -15,6 +15,7 @@ use Rattle.c_elaboration.specs.Limits.{many_functions, first_above, bytes_of, ob
 use Rattle.g_construct.specs.Functions.{function_values}
 use Rattle.g_build.specs.Passed.{first_large, limit_passed, most_built_values}
 use Rattle.g_built.specs.BuiltLaws.{FunctionIsSmall, IsSmall}
+use Rattle.c_sound.proofs.lemmas.Accepted.{none_above, get_none}
 use Rattle.cc_compile.specs.Compiled.{UnlimitedAreSmall}
 use Rattle.g_graph.proofs.ChangeLemmas.{none_map}
 
@@ -32,21 +33,6 @@ at_most : (m n : ℕ) → nat_lt m n ≡ false → n ≤ m
 at_most m n h = grind (arith, nat_tests, h)
 
 -- ---- each function
-
-few : {X : Type 0} (xs : List X) (n : ℕ) → slice_get xs n ≡ None → length xs ≤ n
-few [] n h = omega arith
-few (x ∷ xs) zero h = absurd cc
-few (x ∷ xs) (suc n) h = omega (arith, few xs n h)
-
-none_above : (q : Quantity) (most : ℕ) (count : FunctionTree → ℕ) (fs : List FunctionTree) → first_above q most count fs ≡ None →
-    (k : ℕ) (f : FunctionTree) → slice_get fs k ≡ Some f → count f ≤ most
-none_above q most count [] h k f e = absurd cc
-none_above q most count (g ∷ fs) h zero f e =
-    let same : g ≡ f = cc in
-    let within = if_none (nat_lt most (count g)) (above_limit q g.at (count g)) (first_above q most count fs) h in
-    subst (λ (x : FunctionTree). count x ≤ most) same (at_most most (count g) within.0)
-none_above q most count (g ∷ fs) h (suc k) f e =
-    none_above q most count fs (if_none (nat_lt most (count g)) (above_limit q g.at (count g)) (first_above q most count fs) h).1 k f e
 
 none_large : (fs : List FunctionTree) → first_large fs ≡ None → (k : ℕ) (f : FunctionTree) → slice_get fs k ≡ Some f → function_values f ≤ most_lambda_values
 none_large [] h k f e = absurd cc
@@ -73,7 +59,7 @@ unlimited_are_small p checked built =
     let values = or_none (first_large p.functions) _ built in
     let all = if_none (nat_lt most_built_values (sum_by function_values p.functions)) _ None values.1 in
     record {
-      functions = few p.functions most_functions (none_map _ (slice_get p.functions most_functions) first.0);
+      functions = get_none p.functions most_functions (none_map _ (slice_get p.functions most_functions) first.0);
       each = λ k f e. record {
         parameters = none_above Parameters most_parameters (λ f. f.params) p.functions second.0 k f e;
         objects =

@@ -1,7 +1,7 @@
 -- The links of a program's globals stand within them, apart.
 use Rattle.std.proofs.Common.{◌≡◌, ℕ, ◌+◌, ◌%◌, ◌≤◌, ◌==◌, refl, Bool, true, false, List, [], ◌∷◌, map, length, inl, inr, eq-eqb, arith}
 use Rattle.std.specs.Prelude.{◌⊎◌, ◌&&◌, ◌||◌, not, nat_le, nat_lt}
-use Rattle.std.proofs.lemmas.Bool.{and_from, and_parts, leb-true, le-leb}
+use Rattle.std.proofs.lemmas.Bool.{and_from, and_parts, leb-true, le-leb, or_left, or_right}
 use Rattle.val_core.specs.declared.leaf.Leaf.{Leaf}
 use Rattle.g_graph.specs.declared.link.Link.{Link}
 use Rattle.g_graph.specs.Program.{link_fits}
@@ -9,7 +9,7 @@ use Rattle.g_graph.specs.WellFormed.{all_of, some_of, distinct, is_width, leaves
 use Rattle.g_graph.proofs.lemmas.Unique.{all_of_holds, same_number}
 use Rattle.rv_layout.specs.Conditions.{link_has_global, link_is_within, are_apart, links_are_apart}
 use Rattle.cc_emit.specs.Laws.{GlobalsFit}
-use Rattle.cc_emit.proofs.Placed.{or_cases, or_left, or_right}
+use Rattle.cc_emit.proofs.Placed.{or_cases}
 
 -- ---- leaves
 

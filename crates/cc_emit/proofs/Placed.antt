@@ -1,13 +1,14 @@
 -- Each name of lines has a place.
 use Rattle.std.proofs.Common.{◌≡◌, ℕ, zero, suc, ◌<◌, ◌==◌, refl, ◌∙◌, Bool, true, false, List, [], ◌∷◌, length, slice_index, arith}
-use Rattle.std.proofs.lemmas.Bool.{and_from, lt-ltb}
+use Rattle.std.proofs.lemmas.Bool.{and_from, lt-ltb, or_left, or_right}
 use Rattle.std.proofs.lemmas.Bool.Decides.{nat_tests}
 use Rattle.std.proofs.lemmas.List.{length-map}
 use Rattle.std.specs.Prelude.{◌||◌, nat_lt, is_some, slice_get}
 use Rattle.g_graph.specs.WellFormed.{all_of, some_of}
+use Rattle.s_linear.proofs.lemmas.Numbers.{length_numbers}
 use Rattle.s_linear.specs.Lines.{Line, line_names, numbers_from}
 use Rattle.a_place.specs.Laws.{PlacesAreBelowCount}
-use Rattle.a_place.proofs.lemmas.Names.{length_numbers, below_name_count}
+use Rattle.a_place.proofs.lemmas.Names.{below_name_count}
 use Rattle.a_place.specs.Places.{occurs, name_count, all_given, place_in, places}
 use Rattle.s_select.specs.Conditions.{has_place}
 use Rattle.s_select.specs.Conditions as condition
@@ -16,13 +17,6 @@ use Rattle.cc_emit.specs.Laws.{NamesHavePlaces}
 pub or_cases : (a b : Bool) (P : Type 0) → (a || b) ≡ true → (a ≡ true → P) → (b ≡ true → P) → P
 or_cases true b P h f g = f refl
 or_cases false b P h f g = g h
-
-pub or_left : (a b : Bool) → a ≡ true → (a || b) ≡ true
-or_left a b h = rw h refl
-
-pub or_right : (a b : Bool) → b ≡ true → (a || b) ≡ true
-or_right true b h = refl
-or_right false b h = h
 
 there : (xs : List ℕ) (k : ℕ) → k < length xs → is_some (slice_get xs k) ≡ true
 there [] k h = absurd (omega arith)

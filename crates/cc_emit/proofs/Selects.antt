@@ -3,6 +3,7 @@ use Rattle.std.proofs.Common.{◌≡◌, ◌≤◌, refl, subst, sym, true, List
 use Rattle.std.proofs.lemmas.Bool.{le-leb}
 use Rattle.std.specs.Prelude.{nat_le}
 use Rattle.g_graph.specs.WellFormed.{all_of}
+use Rattle.s_linear.proofs.lemmas.Numbers.{length_numbers}
 use Rattle.s_linear.proofs.Passing.{StepPasses, CodePasses, CodesPass, lines_pass}
 use Rattle.s_linear.specs.Linear.{Instr, Step, plain, choice, loop, Code, no_steps, step_then, Codes, no_codes, code_then}
 use Rattle.s_linear.specs.Lines.{done, numbers_from}
@@ -11,7 +12,6 @@ use Rattle.s_sequence.specs.Sequence.{sequenced}
 use Rattle.s_select.specs.Conditions.{has_few_params}
 use Rattle.cc_emit.specs.Image.{lines_of}
 use Rattle.cc_emit.specs.Laws.{NamesHavePlaces, LambdaCanSelect}
-use Rattle.a_place.proofs.lemmas.Names.{length_numbers}
 
 few_instrs : (is : List Instr) → all_of has_few_params (map done is) ≡ true
 few_instrs [] = refl

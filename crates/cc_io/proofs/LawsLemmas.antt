@@ -1,14 +1,10 @@
 -- The laws, each by cases.
-use Rattle.std.proofs.Common.{◌≡◌, ◌≢◌, ℕ, Bool, true, false, cond, List, ◌++◌, Option, None, Some, option_map, refl, sym, ap, append_assoc}
+use Rattle.std.proofs.Common.{◌≡◌, ◌≢◌, ℕ, Bool, true, false, cond, List, ◌++◌, Option, None, Some, option_map, refl, sym, ap}
 use mathlib.Core.Path.{fun_ext}
 use Rattle.std.specs.Str.{bytes_eq}
 use Rattle.std.proofs.lemmas.Slice.Eq.{bytes_eq-Decides}
 use Rattle.cc_io.specs.Files.{Name, FileSet}
-use Rattle.cc_io.specs.Laws.{PrependTwice, PutThenAppend, PutTwice, PutHere, PutElsewhere}
-
-pub prepend-twice : PrependTwice
-prepend-twice first second None = refl
-prepend-twice first second (Some rest) = ap Some (sym (append_assoc first second rest))
+use Rattle.cc_io.specs.Laws.{PutThenAppend, PutTwice, PutHere, PutElsewhere}
 
 both : {X : Type 0} (f : X → X) (b : Bool) (x : X) (y : Option X) → cond b (option_map f (cond b (Some x) y)) (cond b (Some x) y) ≡ cond b (Some (f x)) y
 both f true x y = refl

@@ -9,14 +9,6 @@ use Rattle.cc_top.specs.declared.outcome.Outcome.{Outcome}
 use Rattle.cc_top.specs.declared.outcome.Outcome.TheVariants.{Done, Usage, ReadFault, WriteFault, Refused, BadImage, NoMemory, Exit, Stack, Budget, Stuck}
 use Rattle.cc_top.proofs.SourceLemmas.{defines_of_read, refused_of_read}
 
-pub nothing_taken : (left : Option (List ℕ)) → left ≡ prepend [] left
-nothing_taken None = refl
-nothing_taken (Some bytes) = refl
-
-pub taken_twice : (first second : List ℕ) (left : Option (List ℕ)) → prepend first (prepend second left) ≡ prepend (first ++ second) left
-taken_twice first second None = refl
-taken_twice first second (Some bytes) = ap Some (sym (append_assoc first second bytes))
-
 -- the bytes that were read are a source of so many functions
 pub accepted_ends : (functions : ℕ) (e : Outcome) (input input' output output' : StreamSeen) (read bytes : List ℕ) → ForSome input.bytes (λ text. read ≡ take 1048577 text) → CompilesTo read bytes functions
     → IsTold functions e output output' → AcceptCause e input input' output output'

@@ -81,13 +81,6 @@ places_set n (held o ∷ xs) (suc i) p = ap (λ zs. n ∷ zs) (places_set (suc n
 places_set n (object k ∷ xs) (suc i) p = ap (λ zs. n ∷ zs) (places_set (suc n) xs i p)
 places_set n (hidden o ∷ xs) (suc i) p = places_set (suc n) xs i p
 
--- ---- the newest
-
-pub newest_append : (xs : List SlotOrigin) (x : SlotOrigin) → newest (xs ++ x ∷ []) ≡ Some x
-newest_append [] x = refl
-newest_append (y ∷ []) x = refl
-newest_append (y ∷ z ∷ ys) x = newest_append (z ∷ ys) x
-
 -- ---- values
 
 pub origins_cons : (x : SlotOrigin) (xs : List SlotOrigin) → value_origins (x ∷ xs) ≡ value_origins (x ∷ []) ++ value_origins xs

@@ -12,7 +12,8 @@ use Rattle.g_graph.specs.WellFormed.{some_of, are, same, body_fits, well_formed}
 use Rattle.g_formation.specs.Formation.{HasBothStates, RegionForms}
 use Rattle.g_formation.specs.FormationLaws.{OpFits, FormedIsWellFormed}
 use Rattle.g_formation.proofs.lemmas.Outputs.{results_are}
-use Rattle.g_formation.proofs.lemmas.Fits.{are_self, values_then_states, region_tests}
+use Rattle.g_graph.proofs.lemmas.KindLists.{are_themselves}
+use Rattle.g_formation.proofs.lemmas.Fits.{values_then_states, region_tests}
 use Rattle.g_formation.proofs.lemmas.Once.{region_once, once_fits}
 use Rattle.g_formation.proofs.lemmas.Names.{region_ops, fits_allows_only, fits_calls, fits_names}
 
@@ -34,8 +35,8 @@ formed_is_well_formed ls globals l h =
     let outs = Value ∷ Memory ∷ Io ∷ [] in
     let starts = params_have_states l.params in
     let fits : body_fits l ≡ true =
-    λ i. (ap (λ own. same own args) (args_are a 0 args outs l.body l.next h.body) ∙ are_self args) i
-    && (ap (λ xs. are xs outs) (results_are a 0 args outs l.body l.next starts h.body) ∙ are_self outs) i in
+    λ i. (ap (λ own. same own args) (args_are a 0 args outs l.body l.next h.body) ∙ are_themselves args) i
+    && (ap (λ xs. are xs outs) (results_are a 0 args outs l.body l.next starts h.body) ∙ are_themselves outs) i in
     let tests = region_tests a (length l.objects) 0 args outs l.body l.next (fits_allows_only ls globals (length l.objects)) starts
     (record { once = refl; memory = refl; io = refl }) h.body in
     let whole : well_formed l ≡ true = λ i. ((fits i && once_fits 0 (region_ids l.body) l.next (region_once a 0 args outs l.body l.next h.body) i) && tests i) && h.leaves i in (

@@ -1,6 +1,8 @@
 pub mod Unique
 pub mod Indexes
 pub mod Redirects
+pub mod KindLists
+pub mod Freed
 pub mod Splices
 pub mod Numbers
 pub mod Moved

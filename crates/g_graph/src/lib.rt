@@ -38,7 +38,7 @@ pub use copy::{copy_of, copy_region};
 pub use count::values;
 pub use equality::equal;
 pub use find::{holds_node, node_at, node_index, set_node};
-pub use kinds::{is_pure, op_outputs};
+pub use kinds::{is_pure, known, op_outputs, output_kind};
 pub use lambda::{Lambda, Object};
 pub use link::Link;
 pub use names::main_index;

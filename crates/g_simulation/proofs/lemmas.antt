@@ -12,7 +12,6 @@ pub mod Binary
 pub mod Tests
 pub mod Claims
 pub mod Calls
-pub mod Shapes
 pub mod Forms
 pub mod Assignments
 pub mod Expressions

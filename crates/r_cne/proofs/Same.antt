@@ -24,16 +24,13 @@ use Rattle.g_mean.proofs.lemmas.Copies.{Equals, among-right, test-other, reads-s
 use Rattle.g_mean.proofs.lemmas.Edits.{distinct-split}
 use Rattle.g_mean.proofs.lemmas.Holds.{none-among, among-none, distinct-apart, holds-from}
 use Rattle.g_mean.proofs.lemmas.Splices.{joined-run, joined-known, joined-read, joined-reads, known-among, all-wider, nodes-wider, known-split, all-among}
+use Rattle.g_mean.proofs.lemmas.Redirects.{redirected-joined}
 use Rattle.g_edit.proofs.lemmas.Lookup.{Among}
 use Rattle.g_edit.proofs.lemmas.Uses.{replaced_is}
 use Rattle.r_cne.specs.Rule.{is_common}
 use Rattle.r_cne.specs.Laws.{CneMeansTheSame}
 use Rattle.r_cne.proofs.Common.{ran_gives, given_results}
 use Rattle.r_cne.proofs.Cne.{have_run, known_node, changed_at}
-
-redirected_joined : (f : Origin → Origin) (ns ms : NodeTrees) → nodes_redirected f (joined_nodes ns ms) ≡ joined_nodes (nodes_redirected f ns) (nodes_redirected f ms)
-redirected_joined f no_nodes ms = refl
-redirected_joined f (node_then x ns) ms = ap (node_then (node_redirected f x)) (redirected_joined f ns ms)
 
 module _ (l : PlainLambda) (args : List Kind) (before : NodeTrees) (id : ℕ) (op : Op) (inputs : List Origin) (rs : RegionTrees) (after : NodeTrees) (results : List Origin) (m : ℕ)
     (common : is_common op ≡ true) (among : Among op inputs m before)
@@ -100,7 +97,7 @@ module _ (l : PlainLambda) (args : List Kind) (before : NodeTrees) (id : ℕ) (o
 
   redirected_is : nodes_redirected move (joined_nodes before (node_then here after)) ≡ joined_nodes before (node_then here (nodes_redirected move after))
   redirected_is =
-      redirected_joined move before (node_then here after)
+      redirected-joined move before (node_then here after)
       ∙ ap₂ (λ ns is. joined_nodes ns (node_then (node id op is rs) (nodes_redirected move after))) (nodes_stay [] before (λ h. h) at_before whole_read.0)
       (inputs_stay (known_after [] before) (λ h. at_before (known_before id h)) inputs whole_read.1.0.0)
 

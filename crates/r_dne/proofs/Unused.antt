@@ -1,6 +1,6 @@
 -- What is not used is not read.
 use Rattle.std.proofs.Common.{◌≡◌, ℕ, zero, suc, ◌+◌, ◌==◌, Bool, true, false, not, ◌&&◌, ◌||◌, List, [], ◌∷◌, map, Option, Some, refl, sym, ap, subst, ◌∙◌, arith}
-use Rattle.std.proofs.lemmas.Bool.{and_parts, or_parts}
+use Rattle.std.proofs.lemmas.Bool.{and_parts, or_parts, not-true}
 use Rattle.g_graph.specs.declared.op.Kind.{Kind}
 use Rattle.g_graph.specs.declared.op.Kind.TheVariants.{Value}
 use Rattle.g_graph.specs.declared.op.Origin.{Origin}
@@ -45,10 +45,6 @@ module _ (gone : Origin → Bool) where
       let rest = some_unread results (λ a e. (or_parts (nodes_use a nodes) (some_of (same_origin a) results) (h a e)).1) in
       λ i. first i || rest i
 
-not_stays : (b : Bool) → not b ≡ true → b ≡ false
-not_stays true e = absurd cc
-not_stays false e = refl
-
 -- ---- exit variables
 
 exit_unused : (n : ℕ) (r : RegionTree) (p : ℕ) (ks : List (Option Kind)) (j : ℕ) → stays_at (used_exits n r p ks) j ≡ false → is_used (Out n (p + j)) r ≡ false
@@ -77,7 +73,7 @@ exits_unread n r ks = unread (is_gone_output n (used_exits n r 0 ks)) r (λ a e.
     by (Out m p) e =
         let both = and_parts (n == m) (not (stays_at (used_exits n r 0 ks) p)) e in
         let number : p ≡ 0 + p = omega arith in
-        ap (λ q. is_used (Out q p) r) (sym (same_number n m both.0)) ∙ ap (λ q. is_used (Out n q) r) number ∙ exit_unused n r 0 ks p (not_stays (stays_at (used_exits n r 0 ks) p) both.1)
+        ap (λ q. is_used (Out q p) r) (sym (same_number n m both.0)) ∙ ap (λ q. is_used (Out n q) r) number ∙ exit_unused n r 0 ks p (not-true (stays_at (used_exits n r 0 ks) p) both.1)
 
 -- ---- entry variables
 
@@ -98,7 +94,7 @@ regions_unread stays (region_then r rs) h =
     λ i. first i || rest i
   where
     by : (a : Origin) → is_gone_argument stays a ≡ true → is_used a r ≡ false
-    by (Arg k) e = (or_parts (is_used (Arg k) r) (some_uses (Arg k) rs) (h k (not_stays (stays_at stays k) e))).0
+    by (Arg k) e = (or_parts (is_used (Arg k) r) (some_uses (Arg k) rs) (h k (not-true (stays_at stays k) e))).0
     by (Out m p) e = absurd cc
 
 pub entries_unread : (rs : RegionTrees) (js : List Kind) → some_reads (used_entries rs 0 js) rs ≡ false
@@ -156,7 +152,7 @@ module _ (n : ℕ) (r : RegionTree) (nodes : NodeTrees) (outs : List Origin) whe
       by (Arg k) e = absurd cc
       by (Out m p) e =
           let both = and_parts (n == m) (not (stays_at (used_variables n r nodes outs 0 js) p)) e in
-          ap (λ q. is_used (Out q p) r) (sym (same_number n m both.0)) ∙ (unused_at js p (not_stays (stays_at (used_variables n r nodes outs 0 js) p) both.1)).output
+          ap (λ q. is_used (Out q p) r) (sym (same_number n m both.0)) ∙ (unused_at js p (not-true (stays_at (used_variables n r nodes outs 0 js) p) both.1)).output
 
   -- what only a result that goes uses, the results that stay do not use
   others_unused : (ts : List Bool) (os : List Origin) (own : ℕ) (o : Origin) → stays_at ts own ≡ false → others_use own o os ≡ false → some_of (same_origin o) (kept ts os) ≡ false
@@ -177,7 +173,7 @@ module _ (n : ℕ) (r : RegionTree) (nodes : NodeTrees) (outs : List Origin) whe
       by : (a : Origin) → is_gone_argument (used_variables n r nodes outs 0 js) a ≡ true → is_used a (region own nodes (kept (true ∷ used_variables n r nodes outs 0 js) outs)) ≡ false
       by (Out m p) e = absurd cc
       by (Arg k) e =
-          let gone = not_stays (stays_at (used_variables n r nodes outs 0 js) k) e in
+          let gone = not-true (stays_at (used_variables n r nodes outs 0 js) k) e in
           let unused = unused_at js k gone in
           let results = others_unused (true ∷ used_variables n r nodes outs 0 js) outs (suc k) (Arg k) gone unused.others in
           λ i. unused.inside i || results i

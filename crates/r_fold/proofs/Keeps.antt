@@ -20,7 +20,7 @@ use Rattle.g_graph.specs.Change.{region_changed}
 use Rattle.g_graph.specs.WellFormed.{all_of, some_of, are, one_state_each, gives, is_last, nodes_fit, results_are_last, returns_state, region_has_one_state_each, region_fits, every_region, every_in_nodes, well_formed, IsWellFormed}
 use Rattle.g_graph.specs.Replace.{nodes_redirected, region_redirected, origin_replaced}
 use Rattle.g_graph.specs.Splice.{args_to_inputs, outputs_to_results, joined_nodes, nodes_spliced, region_spliced}
-use Rattle.g_graph.proofs.lemmas.Redirects.{region_ids-redirected}
+use Rattle.g_graph.proofs.lemmas.Redirects.{region_ids-redirected, all_unmoved, nodes_unmoved}
 use Rattle.g_graph.proofs.lemmas.Splices.{Split, split_at}
 use Rattle.g_graph.proofs.lemmas.Unique.{same_number, times, times_append, times_cons}
 use Rattle.g_graph.proofs.lemmas.Numbers.{Numbered}
@@ -64,18 +64,6 @@ const_output n (Out m p) = by_test (m == n) refl p
     by_test true q (suc p) = refl
     by_test false q p = refl
 
-redirected_same : (f : Origin → Origin) → ((o : Origin) → f o ≡ o) → (ns : NodeTrees) → nodes_redirected f ns ≡ ns
-redirected_same f e no_nodes = refl
-redirected_same f e (node_then (node id op inputs rs) ns) = λ i. node_then (node id op (origins_same inputs i) rs) (redirected_same f e ns i)
-  where
-    origins_same : (os : List Origin) → map f os ≡ os
-    origins_same [] = refl
-    origins_same (o ∷ os) = λ i. e o i ∷ origins_same os i
-
-origins_same : (f : Origin → Origin) → ((o : Origin) → f o ≡ o) → (os : List Origin) → map f os ≡ os
-origins_same f e [] = refl
-origins_same f e (o ∷ os) = λ i. e o i ∷ origins_same f e os i
-
 set_spliced : (n w : ℕ) (ns : NodeTrees) → nodes_spliced n (const_nodes n w) (Out n 0 ∷ []) ns ≡ node_set n (node n (Const w) [] no_regions) ns
 set_spliced n w no_nodes = refl
 set_spliced n w (node_then x ns) = by_test (id_of x == n) (set_spliced n w ns)
@@ -83,13 +71,13 @@ set_spliced n w (node_then x ns) = by_test (id_of x == n) (set_spliced n w ns)
     by_test : (t : Bool) → nodes_spliced n (const_nodes n w) (Out n 0 ∷ []) ns ≡ node_set n (node n (Const w) [] no_regions) ns →
         (if t then joined_nodes (const_nodes n w) (nodes_redirected (outputs_to_results n (Out n 0 ∷ [])) ns) else node_then x (nodes_spliced n (const_nodes n w) (Out n 0 ∷ []) ns))
         ≡ (if t then node_then (node n (Const w) [] no_regions) ns else node_then x (node_set n (node n (Const w) [] no_regions) ns))
-    by_test true h = ap (node_then (node n (Const w) [] no_regions)) (redirected_same (outputs_to_results n (Out n 0 ∷ [])) (const_output n) ns)
+    by_test true h = ap (node_then (node n (Const w) [] no_regions)) (nodes_unmoved (outputs_to_results n (Out n 0 ∷ [])) (const_output n) ns)
     by_test false h = ap (node_then x) h
 
 word_spliced : (n w : ℕ) (args : List Kind) (ns : NodeTrees) (results : List Origin) →
     region_spliced n (region_redirected (args_to_inputs []) (region [] (const_nodes n w) (Out n 0 ∷ []))) (region args ns results)
     ≡ region args (node_set n (node n (Const w) [] no_regions) ns) results
-word_spliced n w args ns results = λ i. region args (set_spliced n w ns i) (origins_same (outputs_to_results n (Out n 0 ∷ [])) (const_output n) results i)
+word_spliced n w args ns results = λ i. region args (set_spliced n w ns i) (all_unmoved (outputs_to_results n (Out n 0 ∷ [])) (const_output n) results i)
 
 -- ---- the region of a Theta that runs once
 

@@ -5,6 +5,7 @@ use Rattle.std.proofs.lemmas.List.{append-nil}
 use Rattle.cc_io.specs.Sink.{append}
 use Rattle.cc_io.proofs.lemmas.Sink.{append-none, append-append}
 use Rattle.cc_io.specs.Source.{prepend, IsAtEnd}
+use Rattle.cc_io.proofs.lemmas.Prepends.{prepend-none, prepend-twice}
 use Rattle.rv_machine.specs.Machine.{State, Effect, next, stop, put, get, next_effect}
 use Rattle.rv_machine.specs.Run.{Hart, running, ended, standing, after_output, follow, run_state, run}
 use Rattle.rv_machine.specs.Laws.{then_run}
@@ -20,14 +21,6 @@ pub record IsReached (flags : ℕ → ℕ) (n : ℕ) (old : Hart) (before : Port
   pub held : now.held ≡ append before.held written
   pub left : before.left ≡ prepend taken now.left
   pub at_end : now.closed ≡ true → IsAtEnd now.left
-
-prepend-none : (left : Option (List ℕ)) → left ≡ prepend [] left
-prepend-none None = refl
-prepend-none (Some bytes) = refl
-
-prepend-more : (left : Option (List ℕ)) (xs ys : List ℕ) → prepend xs (prepend ys left) ≡ prepend (xs ++ ys) left
-prepend-more None xs ys = refl
-prepend-more (Some bytes) xs ys = ap Some (sym (append_assoc xs ys bytes))
 
 pub reached_none : (flags : ℕ → ℕ) (h : Hart) (p : Port) → p.closed ≡ false → IsReached flags 0 h p h p
 reached_none flags h p open_ = record {
@@ -112,7 +105,7 @@ reached_by flags n old before s h now after (get received) is r (Some byte, h_is
       ∙ go flags n old s (received (Some byte)) h (get received) r.written (r.taken ++ byte ∷ rest) (byte ∷ rest) rest is
       (r.to (byte ∷ rest) (λ c. absurd (false≢true (sym got.1 ∙ c)))) refl h_is;
   held = held_is ∙ r.held;
-  left = r.left ∙ ap (prepend r.taken) got.0 ∙ prepend-more after.left r.taken (byte ∷ []);
+  left = r.left ∙ ap (prepend r.taken) got.0 ∙ prepend-twice r.taken (byte ∷ []) after.left;
   at_end = λ c. absurd (false≢true (sym got.2 ∙ c));
 }
 

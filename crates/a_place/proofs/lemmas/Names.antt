@@ -6,10 +6,6 @@ use Rattle.g_graph.specs.WellFormed.{some_of}
 use Rattle.s_linear.specs.Lines.{Line, line_names, numbers_from}
 use Rattle.a_place.specs.Places.{among, occurs, above, name_count}
 
-pub length_numbers : (from n : ℕ) → length (numbers_from from n) ≡ n
-length_numbers from zero = refl
-length_numbers from (suc n) = ap suc (length_numbers (suc from) n)
-
 pub above_all : (x : ℕ) (xs : List ℕ) → among x xs ≡ true → x < above xs
 above_all x [] e = cc
 above_all x (y ∷ ys) e =

@@ -103,7 +103,7 @@ map_none : {A B : Type 0} → (f : A → B) (o : Option A) → option_map f o �
 map_none f None h = refl
 map_none f (Some x) h = absurd (cc)
 
-get_none : {A : Type 0} → (xs : List A) (n : ℕ) → slice_get xs n ≡ None → length xs ≤ n
+pub get_none : {A : Type 0} → (xs : List A) (n : ℕ) → slice_get xs n ≡ None → length xs ≤ n
 get_none [] n h = omega arith
 get_none (x ∷ xs) zero h = absurd (cc)
 get_none (x ∷ xs) (suc n) h = let r = get_none xs n h in omega (arith, r)

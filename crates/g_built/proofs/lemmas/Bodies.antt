@@ -90,7 +90,7 @@ params_stored_ok f k a (p ∷ ps) c s q h = by_kind p.is_object (λ d t r x. par
 
 -- ---- bodies without jumps
 
-may_stay : (form : Form) (b : Bool) → b ≡ false → MayJump form b
+pub may_stay : (form : Form) (b : Bool) → b ≡ false → MayJump form b
 may_stay straight b h = h
 may_stay jumping b h = tt
 

@@ -106,6 +106,11 @@ shape_without_newest (hidden o ∷ held p ∷ xs) = ap (λ zs. hidden (Arg 0) �
 shape_without_newest (hidden o ∷ object m ∷ xs) = ap (λ zs. hidden (Arg 0) ∷ zs) (shape_without_newest (object m ∷ xs))
 shape_without_newest (hidden o ∷ hidden p ∷ xs) = ap (λ zs. hidden (Arg 0) ∷ zs) (shape_without_newest (hidden p ∷ xs))
 
+pub newest_append : (xs : List SlotOrigin) (x : SlotOrigin) → newest (xs ++ x ∷ []) ≡ Some x
+newest_append [] x = refl
+newest_append (y ∷ []) x = refl
+newest_append (y ∷ z ∷ ys) x = newest_append (z ∷ ys) x
+
 pub without_newest_append : (xs : List SlotOrigin) (x : SlotOrigin) → without_newest (xs ++ x ∷ []) ≡ xs
 without_newest_append [] x = refl
 without_newest_append (y ∷ []) x = refl

@@ -85,7 +85,7 @@ read_later t a s = bind_later s (load_made (access_width t) a s) (extended_made 
 pub is_zero_later : (v : Origin) → Keeps (is_zero_made v)
 is_zero_later v s = bind_later s (const_made 0 s) (λ z t. bin_made op.Eq v z t) (const_later 0 s) (λ z. bin_later op.Eq v z)
 
-is_not_zero_later : (v : Origin) → Keeps (is_not_zero_made v)
+pub is_not_zero_later : (v : Origin) → Keeps (is_not_zero_made v)
 is_not_zero_later v s = bind_later s (const_made 0 s) (λ z t. bin_made op.Ne v z t) (const_later 0 s) (λ z. bin_later op.Ne v z)
 
 is_null_later : (v : Origin) → Keeps (is_null_made v)
@@ -159,7 +159,7 @@ spot_address_later : (x : Spot) → Keeps (spot_address x)
 spot_address_later (in_slot k) s = later_here s
 spot_address_later (at_address a) s = later_here s
 
-spot_read_later : (t : TypeTree) (x : Spot) → Keeps (spot_read t x)
+pub spot_read_later : (t : TypeTree) (x : Spot) → Keeps (spot_read t x)
 spot_read_later t (in_slot k) s = later_here s
 spot_read_later t (at_address a) s = read_later t a s
 
@@ -188,12 +188,12 @@ binary_later (binary_op.IntegerPlus n) t a b s = moved_later op.Add b a n s
 binary_later (binary_op.PointerMinus n) t a b s = moved_later op.Sub a b n s
 binary_later (binary_op.PointerDifference n) t a b s = difference_later a b n s
 
-compound_later : (o : CompoundOp) (a b : Origin) → Keeps (compound_made o a b)
+pub compound_later : (o : CompoundOp) (a b : Origin) → Keeps (compound_made o a b)
 compound_later (compound_op.Arithmetic o unsigned) a b s = bin_later o a b s
 compound_later (compound_op.PointerPlus n) a b s = moved_later op.Add a b n s
 compound_later (compound_op.PointerMinus n) a b s = moved_later op.Sub a b n s
 
-stepped_later : (i : IncDec) (v : Origin) → Keeps (stepped_made i v)
+pub stepped_later : (i : IncDec) (v : Origin) → Keeps (stepped_made i v)
 stepped_later i v s = bind_later s (const_made i.by s) (λ c t. bin_made (step_op i.up) v c t) (const_later i.by s) (λ c. bin_later (step_op i.up) v c)
 
 -- ---- expressions

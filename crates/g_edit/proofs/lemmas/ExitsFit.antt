@@ -21,7 +21,8 @@ use Rattle.g_graph.proofs.lemmas.Unique.{times}
 use Rattle.g_edit.specs.Uses.{is_read}
 use Rattle.g_edit.specs.Places.{kept, drops_values}
 use Rattle.g_edit.specs.Exits.{regions_giving, node_giving, output_after, is_gone_output, nodes_giving, exits_kept}
-use Rattle.g_edit.proofs.lemmas.Kept.{kept_map, all_kept, memory, io, some_state, states_kept, kinds_of_some, are_themselves}
+use Rattle.g_graph.proofs.lemmas.KindLists.{are_themselves, kinds_of_some}
+use Rattle.g_edit.proofs.lemmas.Kept.{kept_map, all_kept, memory, io, some_state, states_kept}
 use Rattle.g_edit.proofs.lemmas.Placed.{not_before}
 use Rattle.g_edit.proofs.lemmas.Exits.{giving_joined}
 use Rattle.g_edit.proofs.lemmas.Swapped.{swapped_kept}

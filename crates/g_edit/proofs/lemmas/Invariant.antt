@@ -19,20 +19,11 @@ use Rattle.g_mean.proofs.lemmas.Kept.{OutputsRefine, read-refines}
 use Rattle.g_mean.proofs.lemmas.LessDefined.{less-kept}
 use Rattle.g_mean.proofs.lemmas.Holds.{was-given}
 use Rattle.g_mean.proofs.lemmas.Inside.{inputs-read}
+use Rattle.g_mean.proofs.lemmas.Splices.{get-port, get-read}
 use Rattle.g_mean.proofs.lemmas.Redirects.{redirected_regions_refine}
 use Rattle.g_edit.specs.Laws.{LoopsKeepArguments, InvariantUsesMove}
 
 -- ---- places in lists
-
-port_of : (f : Origin → Datum) (os : List Origin) (k : ℕ) (a : Origin) → slice_get os k ≡ Some a → at_port (map f os) k ≡ f a
-port_of f [] k a e = absurd cc
-port_of f (b ∷ os) zero a e = let same : b ≡ a = cc in ap f same
-port_of f (b ∷ os) (suc k) a e = port_of f os k a e
-
-read_at : (S : Origin → Bool) (known : List ℕ) (os : List Origin) → AreRead S known os → (k : ℕ) (a : Origin) → slice_get os k ≡ Some a → IsRead S known a
-read_at S known [] r k a e = absurd cc
-read_at S known (b ∷ os) r zero a e = let same : b ≡ a = cc in subst (λ z. IsRead S known z) same r.0
-read_at S known (b ∷ os) r (suc k) a e = read_at S known os r.1 k a e
 
 given_is : {A : Type 0} (x y : A) (o p : List Event) → Returned x o ≡ Returned y p → x ≡ y
 given_is x y o p e = cc
@@ -50,8 +41,8 @@ module _ (c : Context) (own : List Kind) (nodes : NodeTrees) (outs : List Origin
   after_turn n rest us o (q ∷ os) i vs did e = by_value (value_of (read us o q)) e
     where
       by_test : (t : Bool) → cond t (Returned (map (read us o) os) []) (turns n body (map (read us o) os)) ≡ Returned vs did → at_port vs p ≡ at_port us p
-      by_test true d = ap (λ zs. at_port zs p) (sym (given_is (map (read us o) os) vs [] did d)) ∙ port_of (read us o) os p (Arg p) i
-      by_test false d = rest (map (read us o) os) vs did d ∙ port_of (read us o) os p (Arg p) i
+      by_test true d = ap (λ zs. at_port zs p) (sym (given_is (map (read us o) os) vs [] did d)) ∙ get-port (read us o) os p (Arg p) i
+      by_test false d = rest (map (read us o) os) vs did d ∙ get-port (read us o) os p (Arg p) i
 
       by_value : (v : Value) → on_number v (λ w. cond (w == 0) (Returned (map (read us o) os) []) (turns n body (map (read us o) os))) ≡ Returned vs did → at_port vs p ≡ at_port us p
       by_value (Num w) d = by_test (w == 0) d
@@ -92,7 +83,7 @@ invariant_uses_move ls ks l args before id inputs own nodes outs after results m
     own_read : (p : ℕ) → (move (Out id p) ≡ Out id p) ⊎ ((slice_get outs (suc p) ≡ Some (Arg p)) × (slice_get inputs p ≡ Some (move (Out id p)))) →
         IsRead (is_argument (length args)) (id ∷ known_after [] before) (move (Out id p))
     own_read p (inl e) = subst (λ z. IsRead (is_argument (length args)) (id ∷ known_after [] before) z) (sym e) (inr (inl refl))
-    own_read p (inr h) = more (move (Out id p)) (read_at (is_argument (length args)) (known_after [] before) inputs reads p (move (Out id p)) h.1)
+    own_read p (inr h) = more (move (Out id p)) (get-read (is_argument (length args)) (known_after [] before) inputs reads p (move (Out id p)) h.1)
 
     can : CanRedirect args before (node id Theta inputs (region_then (region own nodes outs) no_regions)) after results move
     can = record { closed = part.closed; unique = part.unique; arguments = arguments; others = others; own = λ p. own_read p (moves p) }
@@ -103,5 +94,5 @@ invariant_uses_move ls ks l args before id inputs own nodes outs after results m
     less c xs ys o q near like ran p (inl e) = subst (λ z. IsLessDefinedDatum (o id p) (read ys q z)) (sym e) (like id p)
     less c xs ys o q near like ran p (inr h) =
         let kept : o id p ≡ read xs o (move (Out id p)) =
-        ran.outputs p ∙ turns_keep c own nodes outs p h.0 c.bound (map (read xs o) inputs) ran.results ran.did ran.run ∙ port_of (read xs o) inputs p (move (Out id p)) h.1 in
+        ran.outputs p ∙ turns_keep c own nodes outs p h.0 c.bound (map (read xs o) inputs) ran.results ran.did ran.run ∙ get-port (read xs o) inputs p (move (Out id p)) h.1 in
         subst (λ z. IsLessDefinedDatum z (read ys q (move (Out id p)))) (sym kept) (read-refines IsLessDefinedDatum less-kept xs ys near o q like (move (Out id p)))

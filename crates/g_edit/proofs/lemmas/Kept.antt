@@ -1,6 +1,6 @@
 -- Lists without what stands at some places.
 use Rattle.std.proofs.Common.{◌≡◌, ℕ, zero, suc, ◌+◌, Bool, true, false, not, ◌&&◌, ◌||◌, cond, List, [], ◌∷◌, map, Option, None, Some, option_map, slice_get, refl, sym, ap, subst, ◌∙◌, arith}
-use Rattle.std.proofs.lemmas.Bool.{and_parts, or_parts}
+use Rattle.std.proofs.lemmas.Bool.{and_parts, or_parts, not-true}
 use Rattle.std.proofs.lemmas.Option.{same_Some}
 use Rattle.g_graph.specs.declared.op.Kind.{Kind}
 use Rattle.g_graph.specs.declared.op.Kind.TheVariants.{Value, Memory, Io}
@@ -132,10 +132,6 @@ none_is_one k (x ∷ ks) e =
     let both = or_parts (is_of k x) (some_of (is_of k) ks) e in
     ap (λ b. cond b (not (some_of (is_of k) ks)) (at_most_one k ks)) both.0 ∙ none_is_one k ks both.1
 
-not_some : (b : Bool) → not b ≡ true → b ≡ false
-not_some true e = absurd cc
-not_some false e = refl
-
 one_fewer : (k : Kind) (stays : List Bool) (ks : List (Option Kind)) → at_most_one k ks ≡ true → at_most_one k (kept stays ks) ≡ true
 one_fewer k stays [] e = refl
 one_fewer k [] (x ∷ ks) e = e
@@ -143,12 +139,12 @@ one_fewer k (true ∷ ts) (x ∷ ks) e = by (is_of k x) e (one_fewer k ts ks)
   where
     by : (t : Bool) → cond t (not (some_of (is_of k) ks)) (at_most_one k ks) ≡ true → (at_most_one k ks ≡ true → at_most_one k (kept ts ks) ≡ true) →
         cond t (not (some_of (is_of k) (kept ts ks))) (at_most_one k (kept ts ks)) ≡ true
-    by true d rest = ap not (some_fewer (is_of k) ts ks (not_some (some_of (is_of k) ks) d))
+    by true d rest = ap not (some_fewer (is_of k) ts ks (not-true (some_of (is_of k) ks) d))
     by false d rest = rest d
 one_fewer k (false ∷ ts) (x ∷ ks) e = by (is_of k x) e (one_fewer k ts ks)
   where
     by : (t : Bool) → cond t (not (some_of (is_of k) ks)) (at_most_one k ks) ≡ true → (at_most_one k ks ≡ true → at_most_one k (kept ts ks) ≡ true) → at_most_one k (kept ts ks) ≡ true
-    by true d rest = none_is_one k (kept ts ks) (some_fewer (is_of k) ts ks (not_some (some_of (is_of k) ks) d))
+    by true d rest = none_is_one k (kept ts ks) (some_fewer (is_of k) ts ks (not-true (some_of (is_of k) ks) d))
     by false d rest = rest d
 
 pub states_fewer : (stays : List Bool) (ks : List (Option Kind)) → one_state_each ks ≡ true → one_state_each (kept stays ks) ≡ true
@@ -194,16 +190,3 @@ last_follows k good g (false ∷ ts) first now (x ∷ ks) found there a b h j e 
     here false i d c = h i d c
 
 -- ---- kinds that all are there
-
-pub kinds_of_some : (js : List Kind) → kinds_of (map Some js) ≡ js
-kinds_of_some [] = refl
-kinds_of_some (j ∷ js) = ap (λ ks. j ∷ ks) (kinds_of_some js)
-
-pub are_themselves : (js : List Kind) → are (map Some js) js ≡ true
-are_themselves [] = refl
-are_themselves (j ∷ js) = λ i. itself j i && are_themselves js i
-  where
-    itself : (k : Kind) → same_kind k k ≡ true
-    itself Value = refl
-    itself Memory = refl
-    itself Io = refl

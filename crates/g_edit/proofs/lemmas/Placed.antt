@@ -21,16 +21,6 @@ use Rattle.g_edit.specs.Uses.{nodes_read, is_read}
 use Rattle.g_edit.specs.Parts.{CanPlace}
 use Rattle.g_edit.proofs.lemmas.Parts.{all_unread, nodes_unread}
 
--- ---- origins that stay
-
-pub all_unmoved : (f : Origin → Origin) → ((o : Origin) → f o ≡ o) → (os : List Origin) → map f os ≡ os
-all_unmoved f e [] = refl
-all_unmoved f e (o ∷ os) = λ i. e o i ∷ all_unmoved f e os i
-
-pub nodes_unmoved : (f : Origin → Origin) → ((o : Origin) → f o ≡ o) → (ns : NodeTrees) → nodes_redirected f ns ≡ ns
-nodes_unmoved f e no_nodes = refl
-nodes_unmoved f e (node_then (node id op inputs rs) ns) = λ i. node_then (node id op (all_unmoved f e inputs i) rs) (nodes_unmoved f e ns i)
-
 -- ---- a node in its region
 
 -- no node of its number stands before a node

@@ -41,7 +41,8 @@ use Rattle.g_edit.specs.Removal.{nodes_without, region_without}
 use Rattle.g_edit.specs.Parts.{CanPlace}
 use Rattle.g_edit.specs.Laws.{UnreadNodesGo}
 use Rattle.g_edit.proofs.lemmas.Parts.{placed_parts_refine}
-use Rattle.g_edit.proofs.lemmas.Placed.{nodes_unmoved, all_unmoved, not_before, read_after, outside, outside_stays, can_place}
+use Rattle.g_graph.proofs.lemmas.Redirects.{all_unmoved, nodes_unmoved}
+use Rattle.g_edit.proofs.lemmas.Placed.{not_before, read_after, outside, outside_stays, can_place}
 use Rattle.g_edit.proofs.lemmas.Scopes.{KeepsScope, kept_all, kept_nodes_fit}
 
 -- ---- what goes

@@ -12,40 +12,13 @@ use Rattle.g_graph.specs.Scope.{known, each_node}
 use Rattle.g_graph.specs.WellFormed.{all_of, some_of, are, one_state_each, has_its_regions, regions_fit, theta_has_states, has_its_width, has_its_object, inputs_fit, is_last, inputs_are_last, node_has_one_state_each, node_fits}
 use Rattle.g_graph.specs.Replace.{node_redirected, nodes_redirected}
 use Rattle.g_graph.specs.Splice.{joined_nodes}
+use Rattle.g_graph.proofs.lemmas.Freed.{shape_free, regions_free, theta_free, width_free, object_free}
 use Rattle.g_graph.proofs.lemmas.Splices.{joined_none, joined_following}
 use Rattle.g_edit.specs.Uses.{nodes_read}
 
 -- An origin that is known and the last of its kind of state stays so, but for those that are gone.
 pub record KeepsScope (gone : Origin → Bool) (args : List Kind) (bs : NodeTrees) (others : List Kind) (cs : NodeTrees) (f : Origin → Origin) : Type 0 where
   pub one : (o : Origin) → gone o ≡ false → is_last args bs o ≡ true → (known others cs (f o) ≡ known args bs o) × (is_last others cs (f o) ≡ true)
-
-shape_free : (id : ℕ) (op : Op) (is js : List Origin) (rs : RegionTrees) → has_its_regions (node id op js rs) ≡ has_its_regions (node id op is rs)
-shape_free id Gamma is js no_regions = refl
-shape_free id Gamma is js (region_then r rs) = refl
-shape_free id Theta is js no_regions = refl
-shape_free id Theta is js (region_then r no_regions) = refl
-shape_free id Theta is js (region_then r (region_then t rs)) = refl
-shape_free id _ is js no_regions = refl
-shape_free id _ is js (region_then r rs) = refl
-
-regions_free : (id : ℕ) (op : Op) (is js : List Origin) (rs : RegionTrees) → regions_fit (node id op js rs) ≡ regions_fit (node id op is rs)
-regions_free id Gamma is js rs = refl
-regions_free id Theta is js rs = refl
-regions_free id _ is js rs = refl
-
-theta_free : (id : ℕ) (op : Op) (is js : List Origin) (rs : RegionTrees) → theta_has_states (node id op js rs) ≡ theta_has_states (node id op is rs)
-theta_free id Theta is js rs = refl
-theta_free id _ is js rs = refl
-
-width_free : (id : ℕ) (op : Op) (is js : List Origin) (rs : RegionTrees) → has_its_width (node id op js rs) ≡ has_its_width (node id op is rs)
-width_free id (Load w) is js rs = refl
-width_free id (Store w) is js rs = refl
-width_free id _ is js rs = refl
-
-object_free : (objects id : ℕ) (op : Op) (is js : List Origin) (rs : RegionTrees) → has_its_object objects (node id op js rs) ≡ has_its_object objects (node id op is rs)
-object_free objects id (Local k) is js rs = refl
-object_free objects id (Clear k) is js rs = refl
-object_free objects id _ is js rs = refl
 
 module _ (gone : Origin → Bool) (objects : ℕ) (args others : List Kind) (f : Origin → Origin) where
   pub kept_all : (bs cs : NodeTrees) → KeepsScope gone args bs others cs f → (os : List Origin) → some_of gone os ≡ false → all_of (is_last args bs) os ≡ true →

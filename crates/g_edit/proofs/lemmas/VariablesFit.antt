@@ -23,7 +23,8 @@ use Rattle.g_edit.specs.Places.{kept, drops_values}
 use Rattle.g_edit.specs.Exits.{output_after, is_gone_output}
 use Rattle.g_edit.specs.Entries.{argument_after}
 use Rattle.g_edit.specs.Variables.{region_looping, loop_reads, node_looping, variables_kept}
-use Rattle.g_edit.proofs.lemmas.Kept.{kept_map, all_kept, IsState, memory, io, some_state, states_fewer, are_themselves}
+use Rattle.g_graph.proofs.lemmas.KindLists.{are_themselves}
+use Rattle.g_edit.proofs.lemmas.Kept.{kept_map, all_kept, IsState, memory, io, some_state, states_fewer}
 use Rattle.g_edit.proofs.lemmas.Placed.{not_before}
 use Rattle.g_edit.proofs.lemmas.ExitsFit.{fits_inside}
 use Rattle.g_edit.proofs.lemmas.EntriesFit.{region_takes}

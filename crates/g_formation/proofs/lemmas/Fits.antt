@@ -12,6 +12,7 @@ use Rattle.g_graph.specs.Plain.{RegionTree, region, NodeTree, node, NodeTrees, n
 use Rattle.g_graph.specs.Signatures.{first_args, inputs_of, op_outputs, outputs_of, result_kinds}
 use Rattle.g_graph.specs.Scope.{same_kind, is_of, known, each_node}
 use Rattle.g_graph.specs.WellFormed.{all_of, some_of, all_regions, every_region, every_in_node, every_in_nodes, every_in_regions, are, same, one_state_each, inputs_fit, has_its_regions, kinds_of, regions_fit, theta_has_states, is_last, inputs_are_last, node_has_one_state_each, has_its_width, has_its_object, node_fits, gives, returns_state, region_fits}
+use Rattle.g_graph.proofs.lemmas.KindLists.{are_themselves, kinds_of_some}
 use Rattle.g_graph.proofs.lemmas.Indexes.{gives_last}
 use Rattle.g_formation.specs.Formation.{Standing, at_start, after_node, Has, HasAll, HasBothStates, AreSome, IsOne, NodeForms, NodesForm, RegionForms, RegionsForm}
 use Rattle.g_formation.proofs.lemmas.Joins.{Ends}
@@ -19,16 +20,6 @@ use Rattle.g_formation.proofs.lemmas.Agree.{Agrees, agrees_start, agrees_node}
 use Rattle.g_formation.proofs.lemmas.Outputs.{has_kinds, outputs_are, results_are, nodes_lead}
 
 -- ---- kinds
-
-pub are_self : (ks : List Kind) → are (map Some ks) ks ≡ true
-are_self [] = refl
-are_self (Value ∷ ks) = are_self ks
-are_self (Memory ∷ ks) = are_self ks
-are_self (Io ∷ ks) = are_self ks
-
-kinds_some : (ks : List Kind) → kinds_of (map Some ks) ≡ ks
-kinds_some [] = refl
-kinds_some (k ∷ ks) = ap (λ js. k ∷ js) (kinds_some ks)
 
 some_kind : (k : Kind) (ks : List Kind) → some_of (is_of k) (map Some ks) ≡ some_of (same_kind k) ks
 some_kind k [] = refl
@@ -102,20 +93,20 @@ record Used (args : List Kind) (before : NodeTrees) (ks : List Kind) (os : List 
 used : (args : List Kind) (before : NodeTrees) (c : Standing) (ks : List Kind) (os : List Origin) → Agrees args before c → HasAll c ks os → OneEach ks → Used args before ks os
 used args before c ks os g h once =
     let e = has_kinds args before c ks os g h in
-    record { kinds = ap (λ xs. are xs ks) e ∙ are_self ks; last = have_last args before c ks os g h; once = ap one_state_each e ∙ once }
+    record { kinds = ap (λ xs. are xs ks) e ∙ are_themselves ks; last = have_last args before c ks os g h; once = ap one_state_each e ∙ once }
 
 -- ---- regions of one node
 
 results_fit : (allowed : Op → ℕ → Type 0) (n : ℕ) (args outs : List Kind) (r : RegionTree) (m : ℕ) → HasBothStates args → RegionForms allowed n args outs r m →
     (args_of r ≡ args) × (are (result_kinds r) outs ≡ true)
-results_fit a n args outs (region own nodes results) m b h = (h.0, ap (λ xs. are xs outs) (results_are a n args outs (region own nodes results) m b h) ∙ are_self outs)
+results_fit a n args outs (region own nodes results) m b h = (h.0, ap (λ xs. are xs outs) (results_are a n args outs (region own nodes results) m b h) ∙ are_themselves outs)
 
 gamma_regions : (allowed : Op → ℕ → Type 0) (n : ℕ) (args outs : List Kind) (rs : RegionTrees) (m : ℕ) → HasBothStates args → RegionsForm allowed n args outs rs m →
     all_regions (λ r. same (args_of r) args && are (result_kinds r) outs) rs ≡ true
 gamma_regions a n args outs no_regions m b h = refl
 gamma_regions a n args outs (region_then r rs) m b h =
     let f = results_fit a h.0 args outs r h.1 b h.4 in
-    λ i. ((ap (λ own. same own args) f.0 ∙ are_self args) i && f.1 i) && gamma_regions a h.2 args outs rs h.3 b h.5 i
+    λ i. ((ap (λ own. same own args) f.0 ∙ are_themselves args) i && f.1 i) && gamma_regions a h.2 args outs rs h.3 b h.5 i
 
 first_args_are : (allowed : Op → ℕ → Type 0) (n : ℕ) (args outs : List Kind) (rs : RegionTrees) (m : ℕ) → AreSome rs → RegionsForm allowed n args outs rs m → first_args rs ≡ args
 first_args_are a n args outs no_regions m s h = absurd s
@@ -177,7 +168,7 @@ node_tests a objects args before c (node id Gamma inputs rs) ks m allows g h =
       regions = some_regions id inputs rs h.2.4;
       fit =
           ap (λ js. all_regions (λ r. same (args_of r) js && are (result_kinds r) (kinds_of (outputs_of Gamma rs))) rs) first
-          ∙ ap (λ js. all_regions (λ r. same (args_of r) h.2.0 && are (result_kinds r) js) rs) (ap kinds_of outputs ∙ kinds_some ks)
+          ∙ ap (λ js. all_regions (λ r. same (args_of r) h.2.0 && are (result_kinds r) js) rs) (ap kinds_of outputs ∙ kinds_of_some ks)
           ∙ gamma_regions a (suc id) h.2.0 ks rs m h.2.2 h.2.5;
       states = refl;
       width = (allows Gamma (length inputs) h.1 id inputs rs).0;

@@ -54,3 +54,13 @@ gives-redirected f k (node_then (node id op inputs rs) ns) = ap (λ b. some_of (
 pub every_in_nodes-redirected : (test : RegionTree → Bool) (f : Origin → Origin) (ns : NodeTrees) → every_in_nodes test (nodes_redirected f ns) ≡ every_in_nodes test ns
 every_in_nodes-redirected test f no_nodes = refl
 every_in_nodes-redirected test f (node_then (node id op inputs rs) ns) = ap (λ b. every_in_regions test rs && b) (every_in_nodes-redirected test f ns)
+
+-- ---- origins that stay
+
+pub all_unmoved : (f : Origin → Origin) → ((o : Origin) → f o ≡ o) → (os : List Origin) → map f os ≡ os
+all_unmoved f e [] = refl
+all_unmoved f e (o ∷ os) = λ i. e o i ∷ all_unmoved f e os i
+
+pub nodes_unmoved : (f : Origin → Origin) → ((o : Origin) → f o ≡ o) → (ns : NodeTrees) → nodes_redirected f ns ≡ ns
+nodes_unmoved f e no_nodes = refl
+nodes_unmoved f e (node_then (node id op inputs rs) ns) = λ i. node_then (node id op (all_unmoved f e inputs i) rs) (nodes_unmoved f e ns i)

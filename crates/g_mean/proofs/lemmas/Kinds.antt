@@ -147,10 +147,12 @@ read-kind args xs h ns o m (Out n p) k e = m n p k e
 
 pub record NodeTests (args : List Kind) (earlier : NodeTrees) (x : NodeTree) : Type 0 where
   pub inputs : inputs_fit args earlier x ≡ true
+  pub last : inputs_are_last args earlier x ≡ true
   pub has : has_its_regions x ≡ true
   pub regions : regions_fit x ≡ true
+  pub states : theta_has_states x ≡ true
 
-eight : (a b c d e f g h : Bool) → (a && b && c && d && e && f && g && h) ≡ true → (a ≡ true) × (d ≡ true) × (e ≡ true)
+eight : (a b c d e f g h : Bool) → (a && b && c && d && e && f && g && h) ≡ true → (a ≡ true) × (b ≡ true) × (d ≡ true) × (e ≡ true) × (f ≡ true)
 eight a b c d e f g h t =
     let p = and_parts (a && b && c && d && e && f && g) h t in
     let q = and_parts (a && b && c && d && e && f) g p.0 in
@@ -158,13 +160,14 @@ eight a b c d e f g h t =
     let s = and_parts (a && b && c && d) e r.0 in
     let u = and_parts (a && b && c) d s.0 in
     let v = and_parts (a && b) c u.0 in
-    ((and_parts a b v.0).0, u.1, s.1)
+    let w = and_parts a b v.0 in
+    (w.0, w.1, u.1, s.1, r.1)
 
 pub node-tests : (k : ℕ) (args : List Kind) (b : NodeTrees) (x : NodeTree) → node_fits k args b x ≡ true → NodeTests args b x
 node-tests k args b x t =
     let w = eight (inputs_fit args b x) (inputs_are_last args b x) (node_has_one_state_each args b x) (has_its_regions x) (regions_fit x) (theta_has_states x) (has_its_width x)
     (has_its_object k x) t in
-    record { inputs = w.0; has = w.1; regions = w.2 }
+    record { inputs = w.0; last = w.1; has = w.2; regions = w.3; states = w.4 }
 
 region-nodes : (k : ℕ) (r : RegionTree) → region_fits k r ≡ true → nodes_fit k r ≡ true
 region-nodes k r t =

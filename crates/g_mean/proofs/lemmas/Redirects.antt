@@ -60,7 +60,7 @@ nodes-stay S known move h at others (node_then x ns) out apart r =
     out-more (inl e) = apart (among-left at (node_ids x) (nodes_ids ns) (subst (λ z. IsAmong z (node_ids x)) (sym e) (id-among x)))
     out-more (inr m) = out m
 
-redirected-joined : (move : Origin → Origin) (ns ms : NodeTrees) → nodes_redirected move (joined_nodes ns ms) ≡ joined_nodes (nodes_redirected move ns) (nodes_redirected move ms)
+pub redirected-joined : (move : Origin → Origin) (ns ms : NodeTrees) → nodes_redirected move (joined_nodes ns ms) ≡ joined_nodes (nodes_redirected move ns) (nodes_redirected move ms)
 redirected-joined move no_nodes ms = refl
 redirected-joined move (node_then x ns) ms = ap (node_then (node_redirected move x)) (redirected-joined move ns ms)
 

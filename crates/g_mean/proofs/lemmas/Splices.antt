@@ -109,12 +109,12 @@ get-some [] k h = absurd (grind (arith, nat_tests))
 get-some (x ∷ xs) zero h = (x, refl)
 get-some (x ∷ xs) (suc k) h = let small : nat_lt k (length xs) ≡ true = grind (arith, nat_tests) in get-some xs k small
 
-get-read : (S : Origin → Bool) (known : List ℕ) (origins : List Origin) → AreRead S known origins → (k : ℕ) (b : Origin) → slice_get origins k ≡ Some b → IsRead S known b
+pub get-read : (S : Origin → Bool) (known : List ℕ) (origins : List Origin) → AreRead S known origins → (k : ℕ) (b : Origin) → slice_get origins k ≡ Some b → IsRead S known b
 get-read S known [] h k b e = absurd cc
 get-read S known (a ∷ origins) h zero b e = let same : a ≡ b = cc in subst (λ z. IsRead S known z) same h.0
 get-read S known (a ∷ origins) h (suc k) b e = get-read S known origins h.1 k b e
 
-get-port : (f : Origin → Datum) (origins : List Origin) (k : ℕ) (b : Origin) → slice_get origins k ≡ Some b → at_port (map f origins) k ≡ f b
+pub get-port : (f : Origin → Datum) (origins : List Origin) (k : ℕ) (b : Origin) → slice_get origins k ≡ Some b → at_port (map f origins) k ≡ f b
 get-port f [] k b e = absurd cc
 get-port f (a ∷ origins) zero b e = let same : a ≡ b = cc in ap f same
 get-port f (a ∷ origins) (suc k) b e = get-port f origins k b e

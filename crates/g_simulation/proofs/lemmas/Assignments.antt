@@ -23,7 +23,7 @@ use Rattle.g_construct.specs.Operations.{converted_made}
 use Rattle.g_construct.specs.Places.{Spot, spot_read, spot_written}
 use Rattle.g_construct.specs.Expressions.{compound_made, stepped_made, expr_made, form_made, place_made}
 use Rattle.g_construct.specs.Laws.{Later}
-use Rattle.g_construct.proofs.lemmas.LaterExpressions.{converted_later, expr_later}
+use Rattle.g_construct.proofs.lemmas.LaterExpressions.{converted_later, expr_later, spot_read_later, compound_later, stepped_later}
 use Rattle.g_mean.specs.Data.{Datum}
 use Rattle.g_mean.specs.Meaning.{Context, Outputs, read as read_origin, nodes_run}
 use Rattle.g_simulation.proofs.lemmas.Readings.{stay-keeps, IsSoundRun}
@@ -35,7 +35,6 @@ use Rattle.g_simulation.proofs.lemmas.Places.{SpotHeld, Places, spot-later, spot
 use Rattle.g_simulation.proofs.lemmas.Binary.{operand-scalar, compound-line, step-line}
 use Rattle.g_simulation.proofs.lemmas.Claims.{ContextsFit, Typed}
 use Rattle.g_simulation.proofs.lemmas.Forms.{ExprClaim, FormClaim, PlaceClaim, typed-of}
-use Rattle.g_simulation.proofs.lemmas.Shapes.{spot-read-keeps, compound-keeps, stepped-keeps}
 
 -- a place that is held when a part begins is held when it has run
 spot-after : {B A : Type 0} → (Q : Post B A) (xs : List Datum) (o : Outputs) (s : Point) (b : Built A) (y : B) (o' : Outputs) → Ran Q xs o s.next b y o' → Later s b.after → (x : source.Spot) (z : Spot) →
@@ -119,7 +118,7 @@ module _ (w : Direction) (functions : List Signature) (c : source.Context) (d : 
       (held-after (Typed f flow (type_of e)) xs o2 second.after.next third y o3 m3 old.value second.value m2.post.1)
       (shown-held (read_origin xs o3) third.after.next (type_of e) y.value third.value (operand-scalar defs k t (type_of e) fits) m3.post.1)
       (spot-after (Typed f flow (type_of e)) xs o2 second.after third y o3 m3 (expr_later e second.after) x.spot first.value
-      (spot-after (Values f flow) xs o1 first.after second old o2 m2 (spot-read-keeps t first.value first.after) x.spot first.value m1.post.1))
+      (spot-after (Values f flow) xs o1 first.after second old o2 m2 (spot_read_later t first.value first.after) x.spot first.value m1.post.1))
       (compound_done k (type_of e) old.value y.value y.state) refl))))
     where
       first : Built Spot
@@ -152,7 +151,7 @@ module _ (w : Direction) (functions : List Signature) (c : source.Context) (d : 
           converted-then t xs o4 r4 fourth.after y.state m4.post.0 v fourth.value m4.post.1 (spot_written t first.value) (λ u. source.spot_written t x u y.state) (λ o5 r5 m5.
           spot-written-sim w d f flow fit.sound xs o5 r5 (converted_made t fourth.value fourth.after).after y.state m5.post.0 t x first.value (converted t v) (converted_made t fourth.value fourth.after).value
           (spot-after (Line f flow y.state (converted t v)) xs o4 fourth.after (converted_made t fourth.value fourth.after) tt o5 m5 (converted_later t fourth.value fourth.after) x first.value
-          (spot-after (Line f flow y.state v) xs o3 third.after fourth tt o4 m4 (compound-keeps k second.value third.value third.after) x first.value spot)) m5.post.1))
+          (spot-after (Line f flow y.state v) xs o3 third.after fourth tt o4 m4 (compound_later k second.value third.value third.after) x first.value spot)) m5.post.1))
 
   pub inc-dec-form : (defs : Definitions) (t : TypeTree) (i : IncDec) (p : PlaceTree) → IncDecFits defs i.by t → PlaceClaim w functions c d fit f flow p → FormClaim w functions c d fit f flow t (inc_dec i p)
   inc-dec-form defs t i p fits cp xs o r s q h =
@@ -165,7 +164,7 @@ module _ (w : Direction) (functions : List Signature) (c : source.Context) (d : 
       (source.spot_read t x.spot x.state) (λ old. on_defined (stepped i t old.value old.state) (written x.spot old))
       (spot-read-sim w d f flow fit.sound xs o1 r1 first.after x.state m1.post.0 t x.spot first.value m1.post.1) (λ old o2 r2 m2.
       last x.spot old o2 r2 m2.post.0 m2.post.1
-      (spot-after (Values f flow) xs o1 first.after second old o2 m2 (spot-read-keeps t first.value first.after) x.spot first.value m1.post.1) (stepped i t old.value old.state) refl)))
+      (spot-after (Values f flow) xs o1 first.after second old o2 m2 (spot_read_later t first.value first.after) x.spot first.value m1.post.1) (stepped i t old.value old.state) refl)))
     where
       first : Built Spot
       first = place_made p s
@@ -208,7 +207,7 @@ module _ (w : Direction) (functions : List Signature) (c : source.Context) (d : 
           (source.spot_written t x u old.state) (λ y. gives y.state (if i.gives_old then old.value else u))
           (spot-written-sim w d f flow fit.sound xs o4 r4 fourth.after old.state m4.post.0 t x first.value u fourth.value
           (spot-after (Line f flow old.state u) xs o3 third.after fourth tt o4 m4 (converted_later t third.value third.after) x first.value
-          (spot-after (Line f flow old.state v) xs o2 second.after third tt o3 m3 (stepped-keeps i second.value second.after) x first.value spot)) m4.post.1) (λ y o5 r5 m5.
+          (spot-after (Line f flow old.state v) xs o2 second.after third tt o3 m3 (stepped_later i second.value second.after) x first.value spot)) m4.post.1) (λ y o5 r5 m5.
           sim-given w d (Values f flow) xs o5 fifth.after.next (if i.gives_old then second.value else fourth.value) fifth.after
           (record { value = if i.gives_old then old.value else u; state = y.state }) (omega arith) (
             m5.post.0,

@@ -24,6 +24,7 @@ use Rattle.g_construct.specs.Statements.{declared_made, stmt_made, items_made}
 use Rattle.g_construct.specs.Functions.{end_value, straight_then, straight_made, jumps_begun}
 use Rattle.g_construct.proofs.lemmas.LaterStatements.{stmt_later, declared_later, items_later}
 use Rattle.g_built.proofs.lemmas.Exits.{MayJump}
+use Rattle.g_built.proofs.lemmas.Bodies.{may_stay}
 use Rattle.g_mean.specs.Data.{Datum, memory, input}
 use Rattle.g_mean.specs.Meaning.{Context, Outputs, read as read_origin, nodes_run}
 use Rattle.g_simulation.proofs.lemmas.Readings.{Stay, IsSoundRun}
@@ -40,10 +41,6 @@ use Rattle.g_simulation.proofs.lemmas.Declarations.{framed, DeclarationClaim}
 -- The states after a body are carried, and what the function gives.
 abbrev pub Ends : (is_main : Bool) → Post Flowed Origin
 Ends m y rd t p = (rd t.carried.memory ≡ memory y.state.memory) × (rd t.carried.io ≡ input y.state.input) × Held rd t.next (value_or_none (value_at_end m y.flow)) p
-
-may-none : (form : Form) (b : Bool) → b ≡ false → MayJump form b
-may-none straight b e = e
-may-none jumping b e = tt
 
 -- a statement that gives no value by itself
 abbrev IsPlain : (follows : Bool) → StmtTree → Type 0
@@ -115,7 +112,7 @@ module _ (w : Direction) (functions : List Signature) (c : source.Context) (d : 
   body-then vs n a is plain none ca cis xs o r s q h e =
       subst (λ b. Simulates w d (Ends m) xs o s.next b (items_run c vs (stmt_then a is) q)) (sym (plain-then (some_items is) vs a (straight_made m vs is) s plain))
       (sim-bind w d fit.sound (Flows (framed [] n m)) (Ends m) xs o s.next r (stmt_made vs a s) (λ _ t. straight_made m vs is t) (stmt_run c vs a q) (λ x. if_normal x.flow x.state (items_run c vs is))
-      (ca xs o r s q h (may-none s.carried.form (stmt_jumps a) none)) (λ y o' r' t.
+      (ca xs o r s q h (may_stay s.carried.form (stmt_jumps a) none)) (λ y o' r' t.
       let form : (stmt_made vs a s).after.carried.form ≡ straight = (stmt_later vs a s).form ∙ e in
       let flow : y.flow ≡ normal = subst (λ x. JumpsHeld (read_origin xs o') (stmt_made vs a s).after.next m y.flow x (stmt_made vs a s).after.carried.go (stmt_made vs a s).after.carried.ret) form t.post.0.jumps in
       subst (λ x. Simulates w d (Ends m) xs o' (stmt_made vs a s).after.next (straight_made m vs is (stmt_made vs a s).after) (if_normal x y.state (items_run c vs is))) (sym flow)

@@ -22,7 +22,7 @@ use Rattle.g_construct.specs.Operations.{const_made, apply_made, condition_made,
 use Rattle.g_construct.specs.Places.{spot_address, spot_read}
 use Rattle.g_construct.specs.Expressions.{unary_made, binary_made, conditional_extra, expr_made, form_made, tested, commas_made, arguments_made, place_made}
 use Rattle.g_construct.proofs.lemmas.Later.{Keeps, bind_later}
-use Rattle.g_construct.proofs.lemmas.LaterExpressions.{const_later, expr_later, tested_later}
+use Rattle.g_construct.proofs.lemmas.LaterExpressions.{const_later, expr_later, tested_later, is_not_zero_later}
 use Rattle.g_mean.specs.Data.{Datum, val}
 use Rattle.g_mean.specs.Meaning.{Context, Outputs, read as read_origin, nodes_run}
 use Rattle.g_simulation.proofs.lemmas.Readings.{stay-keeps, below-later, IsSoundRun}
@@ -36,7 +36,6 @@ use Rattle.g_simulation.proofs.lemmas.Binary.{HasWordSize, binary-sim}
 use Rattle.g_simulation.proofs.lemmas.Tests.{Decided, decided, ways, branched-decides, Decides, ways-sim}
 use Rattle.g_simulation.proofs.lemmas.Claims.{ContextsFit, Typed, States, AreGiven, test_run}
 use Rattle.g_simulation.proofs.lemmas.Calls.{apply-sim}
-use Rattle.g_simulation.proofs.lemmas.Shapes.{is-not-zero-keeps}
 
 -- a condition that may have no value is carried, as none
 conditional-gives : (t : TypeTree) (xs : List Datum) (o : Outputs) (id : ℕ) (p : Origin) → Held (read_origin xs o) id Bad p →
@@ -171,7 +170,7 @@ module _ (w : Direction) (functions : List Signature) (c : source.Context) (d : 
           (is-not-zero-line w d f flow fit.sound xs o' r' first.after y.state m.post.0 first.value n m.post.1.1 m.post.1.2)))
 
   truth-keeps : (e : ExprTree) → Keeps (truth_made e)
-  truth-keeps e s = bind_later s (tested e s) is_not_zero_made (tested_later e s) is-not-zero-keeps
+  truth-keeps e s = bind_later s (tested e s) is_not_zero_made (tested_later e s) is_not_zero_later
 
   pub and-form : (t : TypeTree) (a b : ExprTree) → TestClaim a → TestClaim b → FormClaim t (logical_and a b)
   and-form t a b ca cb xs o r s q h =

@@ -1,7 +1,7 @@
 -- A statement ends in no way but those that its jumps allow: one without jumps that leave it ends normally.
 use Rattle.std.proofs.Common.{◌≡◌, ℕ, zero, suc, List, [], ◌∷◌, refl}
 use Rattle.std.specs.Prelude.{◌-◌, Bool, true, false, cond, ◌||◌, Option, None, Some, slice_get, length}
-use Rattle.std.proofs.lemmas.Bool.{or_right}
+use Rattle.std.proofs.lemmas.Bool.{or_left, or_right}
 use Rattle.val_core.specs.declared.values.Value.{Value}
 use Rattle.val_core.specs.declared.values.Value.TheVariants.{Num, At, Bad}
 use Rattle.val_core.specs.Answers.{Answer, Returned, Cut, Exited, Undefined, then_on, on_number, on_defined, Gives}
@@ -15,15 +15,11 @@ use Rattle.c_mean.specs.Statements.{Flow, normal, broke, continued, returned, Fl
 use Rattle.g_simulation.specs.Exits.{Allows, EndsBy}
 use Rattle.g_construct.specs.Exits.{Exits, no_exits, either_exits, past_loop, past_switch, stmt_exits, items_exits, groups_exits, can_leave}
 
-or-left : (a b : Bool) → a ≡ true → (a || b) ≡ true
-or-left true b e = refl
-or-left false b e = absurd cc
-
 allows-left : (a b : Exits) (f : Flow) → Allows a f → Allows (either_exits a b) f
 allows-left a b normal h = tt
-allows-left a b broke h = or-left a.breaks b.breaks h
-allows-left a b continued h = or-left a.continues b.continues h
-allows-left a b (returned v) h = or-left a.returns b.returns h
+allows-left a b broke h = or_left a.breaks b.breaks h
+allows-left a b continued h = or_left a.continues b.continues h
+allows-left a b (returned v) h = or_left a.returns b.returns h
 
 allows-right : (a b : Exits) (f : Flow) → Allows b f → Allows (either_exits a b) f
 allows-right a b normal h = tt

@@ -10,6 +10,7 @@ use Rattle.g_graph.specs.declared.op.Origin.{Origin}
 use Rattle.g_construct.specs.Writer.{SlotOrigin, held, object, hidden, newest, without_newest, Point, pushed}
 use Rattle.g_construct.specs.Laws.{shape, Later}
 use Rattle.g_mean.specs.Data.{Datum}
+use Rattle.g_construct.proofs.lemmas.Later.{newest_append}
 use Rattle.g_simulation.proofs.lemmas.Held.{Held, SlotsHeld, named}
 
 -- ---- a variable that waits for its value
@@ -142,12 +143,7 @@ newest-shape (hidden o ∷ held p ∷ xs) = newest-shape (held p ∷ xs)
 newest-shape (hidden o ∷ object k ∷ xs) = newest-shape (object k ∷ xs)
 newest-shape (hidden o ∷ hidden p ∷ xs) = newest-shape (hidden p ∷ xs)
 
-newest-append : (xs : List SlotOrigin) (x : SlotOrigin) → newest (xs ++ x ∷ []) ≡ Some x
-newest-append [] x = refl
-newest-append (y ∷ []) x = refl
-newest-append (y ∷ z ∷ xs) x = newest-append (z ∷ xs) x
-
 pub newest-later : (s t : Point) (x : SlotOrigin) → HasSlot (Some x) → Later (pushed x s) t → HasSlot (newest t.carried.variables)
 newest-later s t x h l =
     subst (λ (X : Type 0). X)
-    (ap HasSlot (sym (newest-append s.carried.variables x)) ∙ sym (newest-shape (s.carried.variables ++ x ∷ [])) ∙ ap (λ xs. HasSlot (newest xs)) (sym l.shape) ∙ newest-shape t.carried.variables) h
+    (ap HasSlot (sym (newest_append s.carried.variables x)) ∙ sym (newest-shape (s.carried.variables ++ x ∷ [])) ∙ ap (λ xs. HasSlot (newest xs)) (sym l.shape) ∙ newest-shape t.carried.variables) h

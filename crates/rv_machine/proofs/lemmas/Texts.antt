@@ -36,7 +36,7 @@ segment_is_in_memory ss k s x sound e has =
     let h : holds s x ≡ true = holds-true s x has.0 has.1 in
     (memory_at ss k s x at h, flags_at ss k s x at h)
 
-contained-at : (ss : List LoadedSegment) (k : ℕ) (s : LoadedSegment) → AreSound ss → slice_get ss k ≡ Some s → IsContained s
+pub contained-at : (ss : List LoadedSegment) (k : ℕ) (s : LoadedSegment) → AreSound ss → slice_get ss k ≡ Some s → IsContained s
 contained-at ss k s sound e =
     let P : LoadedSegment → Type 0 = λ y. IsContained y in
     subst P (get_or_from_slice_get ss k s s e) (sound.contained k s (listed ss k s e))

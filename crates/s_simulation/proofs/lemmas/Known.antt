@@ -14,13 +14,15 @@ use Rattle.g_graph.specs.WellFormed.{are}
 use Rattle.g_graph.proofs.lemmas.Nodes.{are_kinds}
 use Rattle.g_graph.proofs.lemmas.Unique.{equal_back}
 use Rattle.g_mean.proofs.lemmas.Kinds.{joined-some, after-more}
+use Rattle.s_linear.proofs.lemmas.Numbers.{length_numbers}
 use Rattle.s_linear.specs.Linear.{Instr, Step, plain, Code, no_steps}
 use Rattle.s_linear.specs.Lines.{numbers_from}
 use Rattle.s_sequence.specs.Sequence.{values_in, value_args, kept, Names, no_names, nodes_names, outputs_at, named, nodes_named, name_of, name_at, moves, op_instr, instrs_then, nodes_code, node_step, branch_code, loop_step}
+use Rattle.g_mean.proofs.lemmas.Kinds.{NodeTests}
 use Rattle.s_simulation.specs.Closed.{target_of, sources_of, NameSet, none_written, AreIn, after_instrs, after_step, after_code, StepIsClosed, CodeIsClosed}
 use Rattle.s_simulation.proofs.lemmas.Held.{take-values}
-use Rattle.s_simulation.proofs.lemmas.Nodes.{NodeTests, is_simple}
-use Rattle.s_simulation.proofs.lemmas.Written.{Grows, instrs-grow, instrs-then-closed, instrs-then-after, nodes-then-closed, nodes-then-after, moves-closed, moves-write, same-targets, numbers-length, numbers-in, AreKnown, kept-in, known-at, without-states-in, value-place}
+use Rattle.s_simulation.proofs.lemmas.Nodes.{is_simple}
+use Rattle.s_simulation.proofs.lemmas.Written.{Grows, instrs-grow, instrs-then-closed, instrs-then-after, nodes-then-closed, nodes-then-after, moves-closed, moves-write, same-targets, numbers-in, AreKnown, kept-in, known-at, without-states-in, value-place}
 
 -- the name of each value that a region's origin carries is written
 abbrev pub OriginsKnown : (args : List Kind) (base : ℕ) (names : Names) (earlier : NodeTrees) → NameSet → Type 0
@@ -208,7 +210,7 @@ loop-writes D (region args nodes (predicate ∷ results)) claim kinds next entri
         nodes-then-after E args next no_names (next + value_args args) nodes ends (name_of args next all predicate)
             (instrs-then-after F (moves top exits) no_steps (name_of args next all predicate) (instrs-grow F (moves top exits) (name_of args next all predicate) known-all.0)),
         moves-closed (after_code E body) next (numbers_from top (value_args args)) (numbers-in (after_code E body) top (value_args args) written),
-        same-targets next (numbers_from top (value_args args)) moved (numbers-length top (value_args args) ∙ sym entered.1),
+        same-targets next (numbers_from top (value_args args)) moved (length_numbers top (value_args args) ∙ sym entered.1),
       );
       outputs = λ k low. let same : top + k ≡ next + (value_args args + nodes_names nodes) + k = omega arith in inl (subst (after_code E body) same (written k low));
     }

@@ -25,37 +25,12 @@ use Rattle.s_linear.specs.Meaning as linear
 use Rattle.s_linear.specs.Meaning.{State, Call, step_run, code_run, codes_runs}
 use Rattle.s_sequence.specs.Sequence.{values_in, Names, node_names, outputs_at, bases, named, name_of, node_step, branch_codes}
 use Rattle.s_sequence.proofs.Named.{standing_names}
+use Rattle.g_mean.proofs.lemmas.Kinds.{NodeTests}
 use Rattle.s_simulation.specs.Agreement.{Agrees}
 use Rattle.s_simulation.proofs.lemmas.Held.{IsState, tied-less, Held}
 use Rattle.s_simulation.proofs.lemmas.Running.{Running, NodeDone, advanced, held}
 use Rattle.s_simulation.proofs.lemmas.Ops.{AllCallsAgree, binary-agrees, unary-agrees, load-op-agrees, store-op-agrees, clear-op-agrees, pointers-op-agree, put-agrees, exit-agrees, get-agrees, constant-agrees, call-agrees}
 use Rattle.s_simulation.proofs.lemmas.Claims.{graph_context, code_context, StepDone, AllAgree, chosen-by-agree}
-
--- ---- the tests of a node
-
-pub record NodeTests (args : List Kind) (earlier : NodeTrees) (x : NodeTree) : Type 0 where
-  pub inputs : inputs_fit args earlier x ≡ true
-  pub last : inputs_are_last args earlier x ≡ true
-  pub has : has_its_regions x ≡ true
-  pub regions : regions_fit x ≡ true
-  pub states : theta_has_states x ≡ true
-
-eight : (a b c d e f g h : Bool) → (a && b && c && d && e && f && g && h) ≡ true → (a ≡ true) × (b ≡ true) × (d ≡ true) × (e ≡ true) × (f ≡ true)
-eight a b c d e f g h t =
-    let p = and_parts (a && b && c && d && e && f && g) h t in
-    let q = and_parts (a && b && c && d && e && f) g p.0 in
-    let r = and_parts (a && b && c && d && e) f q.0 in
-    let s = and_parts (a && b && c && d) e r.0 in
-    let u = and_parts (a && b && c) d s.0 in
-    let v = and_parts (a && b) c u.0 in
-    let w = and_parts a b v.0 in
-    (w.0, w.1, u.1, s.1, r.1)
-
-pub node-tests : (k : ℕ) (args : List Kind) (b : NodeTrees) (x : NodeTree) → node_fits k args b x ≡ true → NodeTests args b x
-node-tests k args b x t =
-    let w = eight (inputs_fit args b x) (inputs_are_last args b x) (node_has_one_state_each args b x) (has_its_regions x) (regions_fit x) (theta_has_states x) (has_its_width x)
-    (has_its_object k x) t in
-    record { inputs = w.0; last = w.1; has = w.2; regions = w.3; states = w.4 }
 
 -- ---- numbers
 

@@ -21,6 +21,7 @@ use Rattle.s_linear.specs.Linear.{no_steps}
 use Rattle.s_linear.specs.Meaning as linear
 use Rattle.s_linear.specs.Meaning.{State, Call, step_run, code_run, codes_runs}
 use Rattle.s_sequence.specs.Sequence.{values_in, value_args, Names, no_names, node_names, nodes_names, outputs_at, bases, named, nodes_named, name_of, nodes_code, node_step, branch_codes}
+use Rattle.g_mean.proofs.lemmas.Kinds.{NodeTests, node-tests}
 use Rattle.s_simulation.specs.Agreement.{Agrees}
 use Rattle.s_simulation.proofs.lemmas.Answers.{agrees-then}
 use Rattle.s_simulation.proofs.lemmas.Held.{Held}
@@ -29,7 +30,7 @@ use Rattle.s_simulation.proofs.lemmas.Ops.{AllCallsAgree}
 use Rattle.s_simulation.proofs.lemmas.Claims.{graph_context, code_context, StepDone, RegionClaim, AllAgree}
 use Rattle.s_simulation.proofs.lemmas.Branches.{region-tests, branch-agrees, AllFit, bases-fit}
 use Rattle.s_simulation.proofs.lemmas.Loops.{loop-agrees}
-use Rattle.s_simulation.proofs.lemmas.Nodes.{NodeTests, node-tests, AtMostOnce, times-more, not-before, advance, theta-states, inputs-held, op-agrees, gamma-agrees}
+use Rattle.s_simulation.proofs.lemmas.Nodes.{AtMostOnce, times-more, not-before, advance, theta-states, inputs-held, op-agrees, gamma-agrees}
 
 pub every-here : (test : RegionTree → Bool) (r : RegionTree) → every_region test r ≡ true → test r ≡ true
 every-here test (region args nodes results) t = (and_parts (test (region args nodes results)) (every_in_nodes test nodes) t).0

@@ -81,10 +81,6 @@ same-targets t (x ∷ xs) (y ∷ ys) e = ap (λ r. Some t ∷ r) (same-targets (
 same-targets t [] (y ∷ ys) e = absurd (omega (arith, e))
 same-targets t (x ∷ xs) [] e = absurd (omega (arith, e))
 
-pub numbers-length : (first count : ℕ) → length (numbers_from first count) ≡ count
-numbers-length first zero = refl
-numbers-length first (suc count) = ap suc (numbers-length (suc first) count)
-
 pub numbers-in : (D : NameSet) (first count : ℕ) → ((k : ℕ) → k < count → D (first + k)) → AreIn D (numbers_from first count)
 numbers-in D first zero h = tt
 numbers-in D first (suc count) h =

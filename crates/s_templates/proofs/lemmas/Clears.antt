@@ -1,5 +1,6 @@
 -- Clearing an object on the machine, a word a turn.
 use Rattle.std.proofs.Common.{◌≡◌, ◌≢◌, ◌⊎◌, ℕ, zero, suc, ◌+◌, ◌-◌, ◌*◌, ◌/◌, ◌%◌, ◌^◌, ◌<◌, ◌≤◌, ◌==◌, nat_lt, true, false, cond, List, [], ◌∷◌, ◌++◌, Some, slice_get, refl, sym, ap, ap₂, subst, ◌∙◌, arith, inl, inr, eq-eqb, eqb-true}
+use Rattle.std.proofs.lemmas.Option.{same_Some}
 use Rattle.std.proofs.lemmas.Bool.{cases_lt, cases_Bool, eqb-false, lt-ltb, le-ltb, both_ways}
 use Rattle.val_core.specs.declared.values.BlockName.{BlockName}
 use Rattle.val_core.specs.declared.values.Value.{Value}
@@ -23,7 +24,7 @@ use Rattle.s_templates.proofs.lemmas.Registers.{Computes, steps-then, step-to, l
 use Rattle.s_templates.proofs.lemmas.Locations.{IsKept, kept-apart}
 use Rattle.s_templates.proofs.lemmas.Operands.{stored, store-acts}
 use Rattle.s_templates.proofs.lemmas.Blocks.{leaf-of-value, value-there, leaf-there}
-use Rattle.s_templates.proofs.lemmas.Stores.{SameBlocks, same-back, fellow, leaf-same, laid-same, same-some}
+use Rattle.s_templates.proofs.lemmas.Stores.{SameBlocks, same-back, fellow, leaf-same, laid-same}
 use Rattle.s_templates.proofs.lemmas.Represented.{memory-written}
 
 beside : (n at width : ℕ) → (at ≤ n → n < at + width → ⊥) → (n < at) ⊎ (at + width ≤ n)
@@ -205,7 +206,7 @@ module _ (zeroed : LoadAfterClear) (elsewhere : ClearElsewhere) (keeps : ClearKe
       in-block w p c v loaded number =
           let found = value-there w p c (cleared b m) v loaded in
           let old = fellow (cleared b m) m (same-back m (cleared b m) (clear-same b m)) c.number found.block found.lives in
-          let same : old.block ≡ k = same-some old.block k (sym old.there.there ∙ ap (slice_get m) (sym number) ∙ lives.there) in
+          let same : old.block ≡ k = same_Some old.block k (sym old.there.there ∙ ap (slice_get m) (sym number) ∙ lives.there) in
           let shape = ap shape_of (sym same) ∙ old.shape in
           let leaf = leaf-same w p k found.block shape (leaf-of-value w p found.block.cells v found.has) in
           let sizes : b.size ≡ c.size = sym size ∙ ap (λ s. s.size) shape ∙ found.size in

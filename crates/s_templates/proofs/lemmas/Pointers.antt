@@ -1,5 +1,6 @@
 -- Pointers are equal on the machine where they are equal as values.
 use Rattle.std.proofs.Common.{◌≡◌, ◌≢◌, ◌⊎◌, ℕ, ◌+◌, ◌^◌, ◌<◌, ◌≤◌, ◌==◌, ◌&&◌, Bool, true, false, cond, Option, None, Some, slice_get, refl, sym, ap, ap₂, subst, ◌∙◌, arith, inl, inr, eqb-true, eq-eqb}
+use Rattle.std.proofs.lemmas.Option.{same_Some}
 use Rattle.std.specs.Prelude.{option_and_then}
 use Rattle.std.proofs.lemmas.Bool.{and_parts, cases_Bool, eqb-false, ne_eqb}
 use Rattle.val_core.specs.Words.{one_if}
@@ -36,9 +37,6 @@ named-there b m e = by (slice_get m b.number) refl e
     by None there live = absurd cc
     by (Some k) there live = sized k there (k.size == b.size) refl live
 
-same-block : (j k : Block) → Some j ≡ Some k → j ≡ k
-same-block j k e = cc
-
 -- an address below 2^32, which is not 0
 address-low : (base size offset x : ℕ) → ShowsAddress base size offset x → (0 < x) × (x < 2 ^ 32)
 address-low base size offset x h =
@@ -63,7 +61,7 @@ module _ (flags : ℕ → ℕ) (bases : Bases) (m : Memory) (laid : AreLaidOut f
     where
       in-one : b.number ≡ c.number → (b.number == c.number) ≡ true → (x == y) ≡ (same_block b c && (o == p))
       in-one number same =
-          let block : j.block ≡ k.block = same-block j.block k.block (sym j.lives.there ∙ ap (slice_get m) number ∙ k.lives.there) in
+          let block : j.block ≡ k.block = same_Some j.block k.block (sym j.lives.there ∙ ap (slice_get m) number ∙ k.lives.there) in
           let size : b.size ≡ c.size = sym j.size ∙ ap (λ z. z.size) block ∙ k.size in
           let sizes : (b.size == c.size) ≡ true = eq-eqb b.size c.size size in
           let base = ap bases number in

@@ -11,7 +11,7 @@ use Rattle.rv_isa.specs.Words.{word_of, FitsFormat}
 use Rattle.rv_isa.specs.declared.instruction.Instr.{Instr}
 use Rattle.rv_isa.specs.declared.instruction.Instr.TheVariants.{Ebreak}
 use Rattle.rv_machine.specs.Memory.{load_bytes, has_flag, memory_of, flags_of, to_execute, to_write}
-use Rattle.rv_machine.proofs.lemmas.Texts.{segment_is_in_memory, flags_allow}
+use Rattle.rv_machine.proofs.lemmas.Texts.{segment_is_in_memory, contained-at, flags_allow}
 use Rattle.rv_layout.proofs.Placed.{length-bytes_of}
 use Rattle.rv_layout.specs.Sequences.{bytes_of}
 use Rattle.s_templates.specs.Standing.{Text, StandsAt, AllFit, HasCode}
@@ -71,11 +71,6 @@ module _ (text : Text) (at : ℕ) (code : List Instr) (h : HasCode text at code)
   }
 
 -- ---- segments
-
-contained-at : (ss : List LoadedSegment) (k : ℕ) (s : LoadedSegment) → AreSound ss → slice_get ss k ≡ Some s → IsContained s
-contained-at ss k s sound e =
-    let P : LoadedSegment → Type 0 = λ y. IsContained y in
-    subst P (get_or_from_slice_get ss k s s e) (sound.contained k s (slice_get_within ss k s e))
 
 pub segment_code_stands : SegmentCodeStands
 segment_code_stands segments k s code sound there is_code aligned executable fixed fit =

@@ -4,7 +4,7 @@ use Rattle.std.specs.Prelude.{option_and_then}
 use Rattle.std.specs.List.{list_any}
 use Rattle.std.proofs.Math.Nat.{mod-le}
 use Rattle.std.proofs.lemmas.Bool.{cases_Bool, eqb-false}
-use Rattle.std.proofs.lemmas.Option.{slice_get-map}
+use Rattle.std.proofs.lemmas.Option.{slice_get-map, same_Some}
 use Rattle.val_core.specs.declared.leaf.Leaf.{Leaf}
 use Rattle.val_core.specs.declared.values.BlockName.{BlockName}
 use Rattle.val_core.specs.declared.values.Value.{Value}
@@ -182,9 +182,6 @@ abbrev number-of : Value → ℕ
 number-of (At b o) = b.number
 number-of _ = 0
 
-pub same-some : (b c : Block) → Some b ≡ Some c → b ≡ c
-same-some b c e = cc
-
 width-above : (w : ℕ) → IsWidth w → 0 < w
 width-above w (inl e) = omega (arith, e)
 width-above w (inr (inl e)) = omega (arith, e)
@@ -226,7 +223,7 @@ module _ (after : LoadAfterStore) (elsewhere : LoadElsewhere) (keeps : StoreKeep
       here : (w p : ℕ) (c : BlockName) (y : Value) → load w (At c p) m' ≡ Some y → (found : ValueAt w p c m' y) → b.number ≡ c.number
           → ((width ≡ w) × (o ≡ p)) ⊎ (o + width ≤ p) ⊎ (p + w ≤ o) → Loads w p c y
       here w p c y loaded found number (inl same) =
-          let block : there.block ≡ found.block = same-some there.block found.block (sym there.lives.there ∙ ap (slice_get m') number ∙ found.lives.there) in
+          let block : there.block ≡ found.block = same_Some there.block found.block (sym there.lives.there ∙ ap (slice_get m') number ∙ found.lives.there) in
           let size : b.size ≡ c.size = sym there.size ∙ ap (λ k. k.size) block ∙ found.size in
           let name : b ≡ c = ap₂ (λ n s. record { number = n; size = s }) number size in
           let value : Some target.part ≡ Some y = sym now ∙ (λ i. load (same.0 i) (At (name i) (same.1 i)) m') ∙ loaded in
@@ -263,7 +260,7 @@ module _ (after : LoadAfterStore) (elsewhere : LoadElsewhere) (keeps : StoreKeep
           elim (cases_Bool (b.number == c.number)) [
             | inl same ↦
                 let number : b.number ≡ c.number = eqb-true b.number c.number same in
-                let block : found.block ≡ there.block = same-some found.block there.block (sym found.lives.there ∙ ap (slice_get m') (sym number) ∙ there.lives.there) in
+                let block : found.block ≡ there.block = same_Some found.block there.block (sym found.lives.there ∙ ap (slice_get m') (sym number) ∙ there.lives.there) in
                 here w p c y loaded found number
                 (laid.leaves_apart b.number width o w p there.block there.lives (leaf-of-value width o there.block.cells target.part there.has)
                 (subst (λ k. has_leaf w p k ≡ true) block (leaf-of-value w p found.block.cells y found.has)))
