@@ -32,5 +32,6 @@ pub mod Switches
 pub mod Objects
 pub mod Begun
 pub mod Induction
+pub mod Blocks
 pub mod Bodies
 pub mod Programs

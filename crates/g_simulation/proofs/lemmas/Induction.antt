@@ -31,7 +31,7 @@ use Rattle.g_simulation.proofs.lemmas.Begun.{InitialClaims, declaration-sim}
 -- Where a variable is an object, its block has the elements that it may begin with.
 abbrev pub ObjectsFit : Scope → Context → Type 0
 ObjectsFit g d =
-    (k : ℕ) (v : VariableTree) → slice_get g.variables k ≡ Some v → (h : Scope) → h.structs ≡ g.structs → (es : ElementTrees) → ElementsFit h (leaves g.structs v.type) 0 es →
+    (k : ℕ) (v : VariableTree) → slice_get g.variables k ≡ Some v → v.is_object ≡ true → (h : Scope) → h.structs ≡ g.structs → (es : ElementTrees) → ElementsFit h (leaves g.structs v.type) 0 es →
     (b : BlockName) × (d.addresses.local (object_number g.variables k) ≡ At b 0) × AreWithin b.size es
 
 module _ (w : Direction) (c : source.Context) (d : Context) (m : Bool) where
@@ -51,7 +51,7 @@ module _ (w : Direction) (c : source.Context) (d : Context) (m : Bool) where
   step-claim g fit f count (some_expr e) h = expr-sim w g c d fit f count normal e h
 
   -- what a variable begins with
-  initial-claims : (g : Scope) (fit : ContextsFit w g.functions c d) → ObjectsFit g d → (n : ℕ) → length g.slots ≡ n → (hs : List ℕ) (number : ℕ) (v : VariableTree) → slice_get g.variables number ≡ Some v →
+  pub initial-claims : (g : Scope) (fit : ContextsFit w g.functions c d) → ObjectsFit g d → (n : ℕ) → length g.slots ≡ n → (hs : List ℕ) (number : ℕ) (v : VariableTree) → slice_get g.variables number ≡ Some v →
       (t : TypeTree) (is_object names : Bool) (i : InitialTree) → v.is_object ≡ is_object → InitialFits (initial_scope names g v t) v i →
       InitialClaims w g.functions c d fit hs n m is_object names (object_number g.variables number) i
   initial-claims g fit objects n count hs number v there t false names no_initial z h = by names
@@ -73,10 +73,10 @@ module _ (w : Direction) (c : source.Context) (d : Context) (m : Bool) where
       (subst IsScalar (sym h.1) h.2, expr-sim w g c d fit (framed hs (suc n) m) (omega (arith, count)) normal e h.0)
   initial-claims g fit objects n count hs number v there t true true (initial_elements es) z h =
       let more = length-append g.slots (record v { type = t } ∷ []) in
-      let o = objects number v there (extended g (record v { type = t })) refl es h.1 in
+      let o = objects number v there z (extended g (record v { type = t })) refl es h.1 in
       (o.0, o.1, o.2, elements-claimed (extended g (record v { type = t })) fit (framed hs (suc n) m) (omega (arith, count, more)) es (leaves g.structs v.type) 0 h.1)
   initial-claims g fit objects n count hs number v there t true false (initial_elements es) z h =
-      let o = objects number v there g refl es h.1 in
+      let o = objects number v there z g refl es h.1 in
       (o.0, o.1, o.2, elements-claimed g fit (framed hs (suc n) m) (omega (arith, count)) es (leaves g.structs v.type) 0 h.1)
 
   mutual
