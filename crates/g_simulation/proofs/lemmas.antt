@@ -33,5 +33,7 @@ pub mod Objects
 pub mod Begun
 pub mod Induction
 pub mod Blocks
+pub mod Starts
 pub mod Bodies
 pub mod Programs
+pub mod Functions
