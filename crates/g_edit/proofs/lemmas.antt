@@ -17,3 +17,5 @@ pub mod Shrunk
 pub mod Invariant
 pub mod InPlace
 pub mod PlacesInPlace
+pub mod Redirected
+pub mod Carried

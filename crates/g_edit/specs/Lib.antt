@@ -9,3 +9,4 @@ pub mod Parts
 pub mod Laws
 pub mod InPlace
 pub mod Sources
+pub mod Carried
