@@ -7,3 +7,6 @@ pub mod Entries
 pub mod Variables
 pub mod Parts
 pub mod Laws
+pub mod InPlace
+pub mod Sources
+pub mod Carried

@@ -89,3 +89,19 @@ pub fn nested(alloc: Global, first: Region, second: Region) -> Result<Region, No
     })?;
     Ok(body)
 }
+
+/// A node with regions; `NoMemory` as for `node`.
+pub fn nest(
+    alloc: Global,
+    id: u32,
+    op: Op,
+    inputs: &[Origin],
+    regions: Vec<Region>,
+) -> Result<Node, NoMemory> {
+    Ok(Node {
+        id,
+        op,
+        inputs: SmallVec::from_slice(alloc, inputs)?,
+        regions,
+    })
+}
