@@ -15,3 +15,4 @@ pub mod Variables
 pub mod VariablesFit
 pub mod Shrunk
 pub mod Invariant
+pub mod Steps

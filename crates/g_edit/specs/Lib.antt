@@ -7,3 +7,4 @@ pub mod Entries
 pub mod Variables
 pub mod Parts
 pub mod Laws
+pub mod Steps

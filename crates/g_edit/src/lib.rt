@@ -6,6 +6,7 @@
 pub mod laws;
 mod lookup;
 mod removal;
+pub mod steps;
 mod uses;
 
 pub use lookup::{first_of, same_op, same_origins};
