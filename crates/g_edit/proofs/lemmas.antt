@@ -15,4 +15,5 @@ pub mod Variables
 pub mod VariablesFit
 pub mod Shrunk
 pub mod Invariant
+pub mod Size
 pub mod Steps

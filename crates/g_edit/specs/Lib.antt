@@ -7,4 +7,5 @@ pub mod Entries
 pub mod Variables
 pub mod Parts
 pub mod Laws
+pub mod Size
 pub mod Steps

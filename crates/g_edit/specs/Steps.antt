@@ -1,6 +1,6 @@
 -- What a step of a rule promises of the changed lambda, and what it keeps of every list of lambdas, so that steps can
 -- follow each other.
-use Rattle.std.specs.Prelude.{◌≡◌, ◌≢◌, ◌⊎◌, ℕ, ◌≤◌, List, [], ◌∷◌, Option, Some, slice_get, slice_set}
+use Rattle.std.specs.Prelude.{◌≡◌, ◌≢◌, ℕ, ◌≤◌, List, [], ◌∷◌, Option, Some, slice_get, slice_set}
 use Rattle.val_core.specs.declared.values.Value.{Value}
 use Rattle.val_core.specs.Values.{IsSound}
 use Rattle.val_core.specs.Events.{deepest}
@@ -14,6 +14,7 @@ use Rattle.g_mean.specs.Data.{Datum}
 use Rattle.g_mean.specs.Calls.{lambda_at, program_at}
 use Rattle.g_mean.specs.LessDefined.{Paired, AreBytes, AreSound, IsLessDefinedDatum, AreSoundDeltas}
 use Rattle.g_mean.specs.Edits.{IsEdited, KeepsMeaning, KeepsComplete}
+use Rattle.g_edit.specs.Size.{IsNoLarger}
 
 -- ---- bounded runs of two sides
 
@@ -47,14 +48,6 @@ pub record KeepsInterface (l k : PlainLambda) : Type 0 where
   pub number : k.number ≡ l.number
   pub params : k.params ≡ l.params
   pub objects : k.objects ≡ l.objects
-
--- the values that no rule exceeds by making a lambda larger
-abbrev pub most_grown_values : ℕ
-most_grown_values = 8192
-
--- at most so many values, or no more than before
-abbrev pub IsNoLarger : (before after : ℕ) → Type 0
-IsNoLarger before after = (after ≤ most_grown_values) ⊎ (after ≤ before)
 
 -- each of these lambdas stands at its number
 abbrev pub HasEach : (held ls : List PlainLambda) → Type 0

@@ -6,9 +6,11 @@
 pub mod laws;
 mod lookup;
 mod removal;
+mod size;
 pub mod steps;
 mod uses;
 
 pub use lookup::{first_of, same_op, same_origins};
 pub use removal::remove_node;
+pub use size::may_change_size;
 pub use uses::{reads_node, replace_used};

@@ -1,5 +1,6 @@
 //! Laws of steps: of the changes that rules make, one after the other.
 
+ghost use Rattle.g_edit.specs.Size.{ResizedLambdasAreNoLarger};
 ghost use Rattle.g_edit.specs.Steps.{ContractsGiveSteps, EditsKeepInterface, NoStepIsAStep, StepsCompose, ListsStandForThemselves, ListsCompose};
 
 /// A change whose contract keeps meaning, complete lists and programs, and that makes the lambda no
@@ -20,4 +21,10 @@ pub fn steps_compose()
 pub fn lists_compose()
     ensures itself { ListsStandForThemselves }
     ensures next { ListsCompose }
+{}
+
+/// Where the region that a change makes is resized as a lambda of that size may be, the changed
+/// lambda has at most 8,192 values, or no more than before.
+pub fn resized_lambdas_are_no_larger()
+    ensures { ResizedLambdasAreNoLarger }
 {}

@@ -15,7 +15,8 @@ use Rattle.g_mean.specs.Replacement.{Replaces, IsKeptWithinTwice}
 use Rattle.g_mean.proofs.lemmas.Calls.{same-itself}
 use Rattle.g_mean.proofs.lemmas.Programs.{programs_keep_meaning}
 use Rattle.g_mean.proofs.lemmas.Replacement.{lambdas_keep_meaning}
-use Rattle.g_edit.specs.Steps.{WithinBothWays, AreKeptBothWays, MayStandForAll, KeepsInterface, IsNoLarger, HasEach, IsApartFrom, ContractsGiveSteps, EditsKeepInterface, NoStepIsAStep, StepsCompose, ListsStandForThemselves, ListsCompose}
+use Rattle.g_edit.specs.Size.{IsNoLarger}
+use Rattle.g_edit.specs.Steps.{WithinBothWays, AreKeptBothWays, MayStandForAll, KeepsInterface, HasEach, IsApartFrom, ContractsGiveSteps, EditsKeepInterface, NoStepIsAStep, StepsCompose, ListsStandForThemselves, ListsCompose}
 
 -- ---- runs within each other
 
