@@ -16,4 +16,5 @@ pub mod VariablesFit
 pub mod Shrunk
 pub mod Invariant
 pub mod Size
+pub mod Added
 pub mod Steps

@@ -8,4 +8,5 @@ pub mod Variables
 pub mod Parts
 pub mod Laws
 pub mod Size
+pub mod Added
 pub mod Steps

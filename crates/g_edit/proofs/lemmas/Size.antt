@@ -1,6 +1,6 @@
 -- The count of values of a lambda of which a region is changed.
 use Rattle.std.specs.Option.{option_or}
-use Rattle.std.proofs.Common.{◌≡◌, ℕ, ◌+◌, ◌≤◌, Bool, true, false, nat_le, ◌||◌, map, length, Option, None, Some, option_map, unwrap_or, refl, sym, ap, subst, ◌∙◌, inl, inr, arith}
+use Rattle.std.proofs.Common.{◌≡◌, ℕ, ◌+◌, ◌≤◌, Bool, true, false, nat_le, ◌||◌, map, length, Option, None, Some, option_map, unwrap_or, refl, sym, subst, ◌∙◌, inl, inr, arith}
 use Rattle.std.proofs.lemmas.Bool.Decides.{nat_tests}
 use Rattle.std.proofs.lemmas.List.{length-map}
 use Rattle.std.proofs.lemmas.Option.{same_Some}
@@ -10,9 +10,10 @@ use Rattle.g_graph.specs.Plain.{RegionTree, region, NodeTree, node, NodeTrees, n
 use Rattle.g_graph.specs.Signatures.{outputs_of, result_kinds}
 use Rattle.g_graph.specs.Count.{region_values, node_values, nodes_values, regions_values}
 use Rattle.g_graph.specs.declared.op.Origin.{Origin}
-use Rattle.g_graph.specs.Replace.{nodes_redirected, region_redirected}
+use Rattle.g_graph.specs.Replace.{region_redirected}
 use Rattle.g_graph.specs.Change.{region_changed, node_changed, nodes_changed, regions_changed}
 use Rattle.g_graph.specs.Program.{lambda_values}
+use Rattle.g_graph.proofs.lemmas.Redirects.{nodes_values-redirected}
 use Rattle.g_edit.specs.Size.{IsNoLarger, Resized, IsResized, ResizedLambdasAreNoLarger}
 
 -- what stays around a count that changes
@@ -134,15 +135,11 @@ resized_lambdas_are_no_larger here l local = by (region_changed here l.body) ref
 
 -- ---- edits that keep the count
 
-pub redirected-values : (f : Origin → Origin) (ns : NodeTrees) → nodes_values (nodes_redirected f ns) ≡ nodes_values ns
-redirected-values f no_nodes = refl
-redirected-values f (node_then (node id op inputs rs) ns) = ap (λ m. node_values (node id op inputs rs) + m) (redirected-values f ns)
-
 -- where inputs and results come from elsewhere
 pub redirected-resized : (values : ℕ) (f : Origin → Origin) (r : RegionTree) → IsResized values r (region_redirected f r)
 redirected-resized values f (region args nodes results) =
     record {
       args = refl;
       results = length-map (map f results) _ ∙ length-map results f ∙ sym (length-map results _);
-      resized = record { added = 0; gone = 0; count = omega (arith, redirected-values f nodes, length-map results f); may = refl };
+      resized = record { added = 0; gone = 0; count = omega (arith, nodes_values-redirected f nodes, length-map results f); may = refl };
     }
