@@ -19,3 +19,6 @@ pub mod InPlace
 pub mod PlacesInPlace
 pub mod Redirected
 pub mod Carried
+pub mod Size
+pub mod Added
+pub mod Steps

@@ -10,3 +10,6 @@ pub mod Laws
 pub mod InPlace
 pub mod Sources
 pub mod Carried
+pub mod Size
+pub mod Added
+pub mod Steps

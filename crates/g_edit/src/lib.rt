@@ -12,6 +12,8 @@ mod places;
 mod removal;
 mod source;
 mod stays;
+mod size;
+pub mod steps;
 mod uses;
 mod variables;
 
@@ -25,5 +27,6 @@ pub use places::{
 pub use removal::remove_node;
 pub use source::{Source, is_source, is_source_among, nodes_use_source, uses_source};
 pub use stays::{Stays, all_stay, are_all_true, list_of};
+pub use size::may_change_size;
 pub use uses::{reads_node, replace_used};
 pub use variables::keep_variables;
