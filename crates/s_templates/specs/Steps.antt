@@ -4,7 +4,7 @@ use Rattle.rv_machine.specs.Laws.{Reaches}
 use Rattle.rv_machine.specs.Machine.{State, exit}
 use Rattle.rv_machine.specs.Run.{run, running, ended, standing}
 use Rattle.s_linear.specs.Meaning as linear
-use Rattle.s_templates.specs.Standing.{Text}
+use Rattle.rv_machine.specs.Standing.{Text}
 use Rattle.s_templates.specs.Relation.{Frame, Represents}
 
 -- from one state to another, on every input
