@@ -18,3 +18,4 @@ pub mod Calls
 pub mod Stubs
 pub mod PutStub
 pub mod GetStub
+pub mod Streams

@@ -8,3 +8,4 @@ pub mod Branches
 pub mod Memories
 pub mod Calls
 pub mod Stubs
+pub mod Streams

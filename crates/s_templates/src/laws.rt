@@ -5,6 +5,7 @@ ghost use Rattle.s_templates.specs.Laws.{FunctionsStand, ItemsAreResolved, Items
 ghost use Rattle.s_templates.specs.Branches.{OffsetLeads, JumpIsDone, BranchNotZeroIsDone, BranchZeroIsDone, BranchEqualIsDone, ExitIsDone};
 ghost use Rattle.s_templates.specs.Calls.{CallLeads, ReturnLeads};
 ghost use Rattle.s_templates.specs.Memories.{LoadIsDone, StoreIsDone, EqualPointersIsDone, ClearIsDone};
+ghost use Rattle.s_templates.specs.Streams.{PutIsDone, GetIsDone};
 ghost use Rattle.s_templates.specs.Stubs.{PutStubWrites, GetStubReads};
 ghost use Rattle.s_templates.specs.Rows.{ConstIsDone, UndefIsDone, ObjectAddressIsDone, GlobalAddressIsDone, BinaryIsDone, UnaryIsDone, MoveIsDone};
 
@@ -101,4 +102,11 @@ pub fn put_stub_writes()
 /// The stub that reads a byte has the next byte of the input in a0, or -1 at its end, and returns.
 pub fn get_stub_reads()
     ensures { GetStubReads }
+{}
+
+/// The templates of output and input do on the machine what the instructions do, by way of the stubs
+/// and their buffer.
+pub fn templates_write_and_read()
+    ensures output { PutIsDone }
+    ensures input { GetIsDone }
 {}

@@ -1,5 +1,5 @@
 -- The stub that reads a byte.
-use Rattle.std.proofs.Common.{◌≡◌, ◌≢◌, ◌⊎◌, ℕ, ◌+◌, ◌-◌, ◌*◌, ◌%◌, ◌^◌, ◌<◌, ◌≤◌, ◌==◌, true, false, List, [], ◌∷◌, Some, None, refl, sym, ap, subst, ◌∙◌, arith, inl, inr, eq-eqb}
+use Rattle.std.proofs.Common.{◌≡◌, ℕ, ◌+◌, ◌-◌, ◌*◌, ◌%◌, ◌^◌, ◌<◌, ◌≤◌, ◌==◌, true, false, List, [], ◌∷◌, Some, None, refl, sym, ap, subst, ◌∙◌, arith, eq-eqb}
 use Rattle.std.proofs.lemmas.Bool.{ne_eqb}
 use Rattle.rv_isa.specs.Calls.{read_call}
 use Rattle.rv_isa.specs.Registers.{x0, ra, t0, a0, a1}
@@ -18,7 +18,7 @@ use Rattle.s_templates.specs.Relation.{IsKept}
 use Rattle.s_templates.specs.Steps.{Steps}
 use Rattle.s_templates.specs.Stubs.{FromStub, StubIsCalled, GetStubReads}
 use Rattle.s_templates.proofs.lemmas.Calls.{return_leads}
-use Rattle.s_templates.proofs.lemmas.Locations.{kept-apart, kept-sides}
+use Rattle.s_templates.proofs.lemmas.Locations.{kept-apart, kept-argument}
 use Rattle.s_templates.proofs.lemmas.Registers.{Computes, steps-then, step-to, code-le, address-loads}
 use Rattle.s_templates.proofs.lemmas.Stubs.{setting, access-byte, text-keeps, Set, sets}
 
@@ -70,11 +70,6 @@ comes text s buffer back e called there low = record {
     second =
         sets text first.state 0 read_call buffer asking e has1 (subst (λ a. CodeStands text a (setting 0 read_call asking) e) (sym first.pc) cut.2) low first.holds called.buffer_low
         (omega arith) (omega arith)
-
--- a register that is kept is none of the arguments
-argument : (n : ℕ) → (n < 10) ⊎ (17 < n) → n ≢ a0
-argument n (inl less) same = absurd (omega (arith, less, same))
-argument n (inr more) same = absurd (omega (arith, more, same))
 
 module _ (text : Text) (s : State) (buffer back e : ℕ) (called : StubIsCalled text s buffer back) (h : Asks text s buffer e) (low : e < 2 ^ 32) where
   abbrev p : ℕ
@@ -158,7 +153,7 @@ module _ (text : Text) (s : State) (buffer back e : ℕ) (called : StubIsCalled 
     kept : (r : ℕ) → IsKept r → u4.regs r ≡ s.regs r
     unfolding u4 u3 u2 u1 give
     kept r side =
-        let ne : (r == a0) ≡ false = ne_eqb r a0 (argument r (kept-sides r side)) in
+        let ne : (r == a0) ≡ false = ne_eqb r a0 (kept-argument r a0 side (omega arith) (omega arith)) in
         rw ne (h.kept r side)
 
     mem4 : u4.mem ≡ put_at s.mem buffer b
@@ -237,7 +232,7 @@ module _ (text : Text) (s : State) (buffer back e : ℕ) (called : StubIsCalled 
   kept-end : (r : ℕ) → IsKept r → v4.regs r ≡ s.regs r
   unfolding v4 v3 v2 v1 give
   kept-end r side =
-      let ne : (r == a0) ≡ false = ne_eqb r a0 (argument r (kept-sides r side)) in
+      let ne : (r == a0) ≡ false = ne_eqb r a0 (kept-argument r a0 side (omega arith) (omega arith)) in
       rw ne (h.kept r side)
 
   mem-end : v4.mem ≡ s.mem

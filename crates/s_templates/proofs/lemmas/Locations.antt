@@ -1,6 +1,7 @@
 -- Where places are: registers that templates keep, or words of the frame, each apart from the others.
 use Rattle.std.proofs.Common.{◌≡◌, ◌≢◌, ◌⊎◌, ℕ, ◌+◌, ◌-◌, ◌*◌, ◌%◌, ◌<◌, ◌≤◌, ◌==◌, nat_lt, Bool, true, false, cond, refl, sym, ap, subst, ◌∙◌, arith, inl, inr, eqb-true}
 use Rattle.std.proofs.lemmas.Bool.{cases_lt, lt-ltb, le-ltb, eqb-false}
+use Rattle.rv_isa.specs.Registers.{ra}
 use Rattle.rv_machine.specs.Memory.{Bytes, load_bytes}
 use Rattle.s_linear.specs.Frame.{registers}
 use Rattle.s_select.specs.declared.location.Location.{Location}
@@ -24,6 +25,19 @@ kept-sides r (inl e) = inl (omega (arith, e))
 kept-sides r (inr (inl e)) = inl (omega (arith, e))
 kept-sides r (inr (inr (inl e))) = inl (omega (arith, e))
 kept-sides r (inr (inr (inr h))) = inr h.0
+
+pub kept-argument : (r n : ℕ) → IsKept r → 9 < n → n < 18 → r ≢ n
+kept-argument r n side low high same = by (kept-sides r side)
+  where
+    by : (r < 10) ⊎ (17 < r) → ⊥
+    by (inl less) = omega (arith, less, same, low)
+    by (inr more) = omega (arith, more, same, high)
+
+-- nor the return address
+pub kept-return : (r : ℕ) → IsKept r → r ≢ ra
+kept-return r (inl e) same = absurd (omega (arith, e, same))
+kept-return r (inr (inl e)) same = absurd (omega (arith, e, same))
+kept-return r (inr (inr place)) same = let above = place-above r place in absurd (omega (arith, above, same))
 
 -- the register of a place, or a word that is a place
 abbrev pub LocationFits : Frame → Location → Type 0

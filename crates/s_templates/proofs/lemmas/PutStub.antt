@@ -18,7 +18,7 @@ use Rattle.rv_layout.specs.Sequences.{load_address}
 use Rattle.s_templates.specs.Steps.{Steps}
 use Rattle.s_templates.specs.Stubs.{PutStubWrites}
 use Rattle.s_templates.proofs.lemmas.Calls.{return_leads}
-use Rattle.s_templates.proofs.lemmas.Locations.{kept-apart, kept-sides}
+use Rattle.s_templates.proofs.lemmas.Locations.{kept-apart, kept-argument}
 use Rattle.s_templates.proofs.lemmas.Registers.{Computes, steps-then, step-to, set-other, code-le, address-loads}
 use Rattle.s_templates.proofs.lemmas.Stubs.{setting, access-byte, text-keeps, Set, sets}
 
@@ -35,7 +35,7 @@ stored-byte mem a w =
     let all : store_bytes mem a w 1 a + 256 * 0 ≡ w % 2 ^ (8 * 1) = stored_is_loaded mem a w 1 in
     omega (arith, all)
 
-stored-elsewhere : (mem : Bytes) (buffer w a : ℕ) → a ≢ buffer → store_bytes mem buffer w 1 a ≡ mem a
+pub stored-elsewhere : (mem : Bytes) (buffer w a : ℕ) → a ≢ buffer → store_bytes mem buffer w 1 a ≡ mem a
 stored-elsewhere mem buffer w a ne = by (cases_lt a buffer)
   where
     by : (a < buffer) ⊎ (buffer ≤ a) → store_bytes mem buffer w 1 a ≡ mem a
@@ -52,15 +52,11 @@ put_stub_writes text s buffer back word e input called there low is = record {
       (reaches_onwards text.flags before.count 1 s third.state answered input [] input (word % 256 ∷ []) input (before.reaches input) written) (last.reaches input);
   pc = refl;
   kept = λ r side.
-      set-other third.state.regs a0 1 r (omega arith) (argument r (kept-sides r side))
+      set-other third.state.regs a0 1 r (omega arith) (kept-argument r a0 side (omega arith) (omega arith))
       ∙ third.kept r side ∙ first.others r (kept-apart r 5 side (omega arith) (omega arith)) (kept-apart r 7 side (omega arith) (omega arith));
   mem = third.mem ∙ ap (λ m. store_bytes m buffer word 1) first.mem;
 }
   where
-    argument : (n : ℕ) → (n < 10) ⊎ (17 < n) → n ≢ a0
-    argument n (inl less) same = absurd (omega (arith, less, same))
-    argument n (inr more) same = absurd (omega (arith, more, same))
-
     cut : (c : ℕ) × CodeStands text s.pc (load_address t0 buffer) c × CodeStands text c (Sb t0 a0 0 ∷ setting_put) e
     cut = code_is_cut text s.pc e (load_address t0 buffer) (Sb t0 a0 0 ∷ setting_put) there
 
