@@ -19,3 +19,4 @@ pub mod Stubs
 pub mod PutStub
 pub mod GetStub
 pub mod Streams
+pub mod Table

@@ -9,3 +9,4 @@ pub mod Memories
 pub mod Calls
 pub mod Stubs
 pub mod Streams
+pub mod Table

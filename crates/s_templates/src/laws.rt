@@ -7,6 +7,7 @@ ghost use Rattle.s_templates.specs.Calls.{CallLeads, ReturnLeads};
 ghost use Rattle.s_templates.specs.Memories.{LoadIsDone, StoreIsDone, EqualPointersIsDone, ClearIsDone};
 ghost use Rattle.s_templates.specs.Streams.{PutIsDone, GetIsDone};
 ghost use Rattle.s_templates.specs.Stubs.{PutStubWrites, GetStubReads};
+ghost use Rattle.s_templates.specs.Table.{InstrIsDone};
 ghost use Rattle.s_templates.specs.Rows.{ConstIsDone, UndefIsDone, ObjectAddressIsDone, GlobalAddressIsDone, BinaryIsDone, UnaryIsDone, MoveIsDone};
 
 /// In the text of a program each function's code stands at the function's address.
@@ -110,3 +111,12 @@ pub fn templates_write_and_read()
     ensures output { PutIsDone }
     ensures input { GetIsDone }
 {}
+
+/// The items of each instruction but a call do on the machine what the instruction means over
+/// places.
+pub fn instructions_are_done()
+    ensures { InstrIsDone }
+{
+    templates_store();
+    templates_clear();
+}
