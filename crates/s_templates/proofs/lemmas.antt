@@ -20,3 +20,5 @@ pub mod PutStub
 pub mod GetStub
 pub mod Streams
 pub mod Table
+pub mod Saves
+pub mod Frames

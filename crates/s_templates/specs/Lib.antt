@@ -10,3 +10,4 @@ pub mod Calls
 pub mod Stubs
 pub mod Streams
 pub mod Table
+pub mod Frames

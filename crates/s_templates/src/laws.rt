@@ -4,6 +4,7 @@
 ghost use Rattle.s_templates.specs.Laws.{FunctionsStand, ItemsAreResolved, ItemsAreCut, WordsStand, WordsAreTheSame};
 ghost use Rattle.s_templates.specs.Branches.{OffsetLeads, JumpIsDone, BranchNotZeroIsDone, BranchZeroIsDone, BranchEqualIsDone, ExitIsDone};
 ghost use Rattle.s_templates.specs.Calls.{CallLeads, ReturnLeads};
+ghost use Rattle.s_templates.specs.Frames.{FrameIsTaken, StackIsExceeded, FrameIsGiven};
 ghost use Rattle.s_templates.specs.Memories.{LoadIsDone, StoreIsDone, EqualPointersIsDone, ClearIsDone};
 ghost use Rattle.s_templates.specs.Streams.{PutIsDone, GetIsDone};
 ghost use Rattle.s_templates.specs.Stubs.{PutStubWrites, GetStubReads};
@@ -120,3 +121,16 @@ pub fn instructions_are_done()
     templates_store();
     templates_clear();
 }
+
+/// The start of a function takes its frame where the stack has that many bytes left, and else ends
+/// the run with the status of the stack.
+pub fn frames_are_taken()
+    ensures taken { FrameIsTaken }
+    ensures exceeded { StackIsExceeded }
+{}
+
+/// The end of a function gives its frame back and returns, with the caller's place registers as the
+/// frame holds them.
+pub fn frames_are_given_back()
+    ensures { FrameIsGiven }
+{}

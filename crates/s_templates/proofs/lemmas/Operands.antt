@@ -35,7 +35,7 @@ shows-word bases Bad x h = tt
 access-done : (flags : ℕ → ℕ) (flag a : ℕ) (s : State) (effect : Effect) → a % 4 ≡ 0 → allowed flags flag a 4 ≡ true → access flags flag 4 a s effect ≡ effect
 access-done flags flag a s effect even good = rw (eq-eqb (a % 4) 0 even, good) refl
 
-load-acts : (flags : ℕ → ℕ) (s : State) (rd rs d a : ℕ) → offset (look s.regs rs) d ≡ a → a % 4 ≡ 0 → allowed flags to_read a 4 ≡ true
+pub load-acts : (flags : ℕ → ℕ) (s : State) (rd rs d a : ℕ) → offset (look s.regs rs) d ≡ a → a % 4 ≡ 0 → allowed flags to_read a 4 ≡ true
     → act flags (Lw rd rs d) s ≡ next (give s rd (load_bytes s.mem a 4))
 unfolding act
 load-acts flags s rd rs d a place even good =
