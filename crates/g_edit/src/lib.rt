@@ -10,9 +10,9 @@ pub mod laws;
 mod lookup;
 mod places;
 mod removal;
+mod size;
 mod source;
 mod stays;
-mod size;
 pub mod steps;
 mod uses;
 mod variables;
@@ -25,8 +25,8 @@ pub use places::{
     keep, keep_after_first, keep_inputs, keep_inputs_after_first, place_after, stays_at,
 };
 pub use removal::remove_node;
+pub use size::may_change_size;
 pub use source::{Source, is_source, is_source_among, nodes_use_source, uses_source};
 pub use stays::{Stays, all_stay, are_all_true, list_of};
-pub use size::may_change_size;
 pub use uses::{reads_node, replace_used};
 pub use variables::keep_variables;
