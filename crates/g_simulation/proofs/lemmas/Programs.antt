@@ -67,13 +67,13 @@ module _ (p : ProgramTree) (bodies : BodiesFit p) where
       lambda : slice_get (graph p) f ≡ Some (lambda_made p f t)
       lambda = lambdas_stand_at_their_numbers p f ∙ ap (option_map (lambda_made p f)) there
 
-  forward-fits : (near depth far : ℕ) → suc near + depth ≤ far → CallsFit Forward p (nested p global near depth) (applied (graph p) global far)
+  pub forward-fits : (near depth far : ℕ) → suc near + depth ≤ far → CallsFit Forward p (nested p global near depth) (applied (graph p) global far)
   forward-fits near zero far le f t there vs count m i sound = less-cut exactly exactly-compares Forward GivesBack 0 (omega arith) (applied (graph p) global far f (taken vs m i))
   forward-fits near (suc depth) zero le f t there vs count m i sound = absurd (omega (arith, le))
   forward-fits near (suc depth) (suc far) le f t there vs count m i sound =
       active-fits Forward near depth far (omega (arith, le)) (forward-fits near depth far (omega (arith, le))) f t there vs count m i sound
 
-  backward-fits : (near depth far : ℕ) → far ≤ depth → far ≤ suc near → CallsFit Backward p (nested p global near depth) (applied (graph p) global far)
+  pub backward-fits : (near depth far : ℕ) → far ≤ depth → far ≤ suc near → CallsFit Backward p (nested p global near depth) (applied (graph p) global far)
   backward-fits near depth zero le low f t there vs count m i sound = far-cut exactly exactly-compares Backward GivesBack 0 (omega arith) (nested p global near depth f vs m i)
   backward-fits near zero (suc far) le low f t there vs count m i sound = absurd (omega (arith, le))
   backward-fits near (suc depth) (suc far) le low f t there vs count m i sound =
