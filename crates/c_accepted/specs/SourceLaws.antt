@@ -10,6 +10,7 @@ use Rattle.c_typed.specs.WellTyped.{IsWellTyped}
 use Rattle.c_elaboration.specs.Check.{check}
 use Rattle.c_elaboration.specs.CheckLaws.{IsInRange}
 use Rattle.c_elaboration.specs.Limits.{above_limits}
+use Rattle.c_accepted.specs.Groups.{HasFewGroups}
 
 abbrev pub AreBytes : List ℕ → Type 0
 AreBytes source = All (λ b. b < 2 ^ 8) source
@@ -23,3 +24,8 @@ abbrev pub CheckedAreWellTyped : Type 0
 CheckedAreWellTyped =
     (source : List ℕ) → AreBytes source → (ts : List Token) → lexed source ≡ Ok ts → (t : Tree) → FollowsGrammar t → tokens_of t ≡ ts →
     (n : ℕ) (p : ProgramTree) → check t n ≡ Ok p → IsWellTyped p × (above_limits p ≡ None)
+
+-- A program that is accepted from a source of bytes has fewer than 2^32 groups in each `switch`.
+abbrev pub CheckedHaveFewGroups : Type 0
+CheckedHaveFewGroups =
+    (source : List ℕ) → AreBytes source → (ts : List Token) → lexed source ≡ Ok ts → (t : Tree) → FollowsGrammar t → tokens_of t ≡ ts → (n : ℕ) (p : ProgramTree) → check t n ≡ Ok p → HasFewGroups p
