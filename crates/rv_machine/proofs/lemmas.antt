@@ -1,4 +1,6 @@
+pub mod Codes
 pub mod RunLaws
+pub mod Standing
 pub mod Stores
 pub mod Texts
 pub mod Unwritable

@@ -9,6 +9,8 @@ pub mod Port
 pub mod Run
 pub mod Runs
 pub mod SegmentLaws
+pub mod Standing
+pub mod StandingLaws
 pub mod Steps
 pub mod View
 pub mod Words

@@ -12,6 +12,7 @@ mod memory;
 pub mod memory_laws;
 mod run;
 pub mod segment_laws;
+pub mod standing_laws;
 mod step;
 mod stop;
 mod words;

@@ -1,8 +1,6 @@
-pub mod Stands
 pub mod Registers
 pub mod Locations
 pub mod Operands
-pub mod Segments
 pub mod Items
 pub mod Words
 pub mod Values
@@ -18,3 +16,9 @@ pub mod Clears
 pub mod Exits
 pub mod Calls
 pub mod Stubs
+pub mod PutStub
+pub mod GetStub
+pub mod Streams
+pub mod Table
+pub mod Saves
+pub mod Frames

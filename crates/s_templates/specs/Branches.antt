@@ -6,7 +6,7 @@ use Rattle.rv_isa.specs.Registers.{x0, t0, t1, a0, a7}
 use Rattle.rv_isa.specs.declared.instruction.Instr.TheVariants.{Beq, Bne, Jal, Addi, Ecall}
 use Rattle.rv_layout.specs.Layout.{offset_to}
 use Rattle.s_select.specs.Operands.{location_of, load_immediate, get, in_of, load_in}
-use Rattle.s_templates.specs.Standing.{CodeStands}
+use Rattle.rv_machine.specs.Standing.{CodeStands}
 use Rattle.s_templates.specs.Steps.{Arrives, Exits}
 use Rattle.s_templates.specs.Rows.{InBody}
 

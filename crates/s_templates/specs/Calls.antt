@@ -5,7 +5,7 @@ use Rattle.rv_isa.specs.declared.instruction.Instr.TheVariants.{Jalr}
 use Rattle.rv_machine.specs.Machine.{State}
 use Rattle.rv_layout.specs.Layout.{offset_to}
 use Rattle.rv_layout.specs.Sequences.{call}
-use Rattle.s_templates.specs.Standing.{Text, HasText, StandsAt, CodeStands}
+use Rattle.rv_machine.specs.Standing.{Text, HasText, StandsAt, CodeStands}
 use Rattle.s_templates.specs.Steps.{Steps}
 
 -- At another address, with a return address. No other register and no memory has changed.

@@ -1,41 +1,16 @@
 -- Laws of code where it stands, and of the words that its instructions give.
-use Rattle.std.specs.Prelude.{◌≡◌, ℕ, ◌+◌, ◌*◌, ◌%◌, ◌^◌, ◌<◌, ◌≤◌, true, false, List, ◌++◌, map, length, slice_get, Option, Some}
+use Rattle.std.specs.Prelude.{◌≡◌, ℕ, ◌^◌, ◌<◌, ◌≤◌, List, ◌++◌, map, Option}
 use Rattle.val_core.specs.declared.operation.Op1.{Op1}
 use Rattle.val_core.specs.declared.operation.Op2.{Op2}
 use Rattle.val_core.specs.Words.{word1, word2}
-use Rattle.elf_file.specs.Loading.{LoadedSegment}
-use Rattle.elf_file.specs.Segments.{AreSound}
 use Rattle.rv_isa.specs.declared.instruction.Instr.{Instr}
-use Rattle.rv_machine.specs.Laws.{Reaches}
-use Rattle.rv_machine.specs.Machine.{State, act, next_effect}
-use Rattle.rv_machine.specs.Memory.{memory_of, flags_of, has_flag, to_write, to_execute}
 use Rattle.rv_layout.specs.declared.item.Item.{Item}
 use Rattle.rv_layout.specs.declared.item.Item.TheVariants.{Word}
 use Rattle.rv_layout.specs.Items.{marks, label_at}
 use Rattle.rv_layout.specs.Layout.{Addresses, functions_from, function_code, functions_code}
-use Rattle.rv_layout.specs.Sequences.{bytes_of}
 use Rattle.s_templates.specs.Computed.{computed1, computed2}
-use Rattle.s_templates.specs.Standing.{Text, HasText, StandsAt, CodeStands, AllFit, ItemsStand, FunctionsStandFrom}
-
--- The instruction that stands at pc is done.
-abbrev pub StandingIsDone : Type 0
-StandingIsDone = (text : Text) (s : State) (i : Instr) → HasText text s.mem → StandsAt text s.pc i → next_effect text.flags s ≡ act text.flags i s
-
--- A run leaves the text.
-abbrev pub TextStays : Type 0
-TextStays = (text : Text) (n : ℕ) (s t : State) (input written rest : List ℕ) → Reaches text.flags n s input written t rest
-    → HasText text s.mem → HasText text t.mem
-
--- The code of a segment stands in memory.
-abbrev pub SegmentCodeStands : Type 0
-SegmentCodeStands = (segments : List LoadedSegment) (k : ℕ) (s : LoadedSegment) (code : List Instr) → AreSound segments → slice_get segments k ≡ Some s
-    → s.bytes ≡ bytes_of code → s.at % 4 ≡ 0 → has_flag s.flags to_execute ≡ true → has_flag s.flags to_write ≡ false → AllFit code
-    → CodeStands (record { flags = flags_of segments; bytes = memory_of segments }) s.at code (s.at + 4 * length code)
-
--- Of two codes one after the other, the second begins where the first ends.
-abbrev pub CodeIsCut : Type 0
-CodeIsCut = (text : Text) (a b : ℕ) (first second : List Instr) → CodeStands text a (first ++ second) b
-    → (m : ℕ) × CodeStands text a first m × CodeStands text m second b
+use Rattle.rv_machine.specs.Standing.{Text, CodeStands}
+use Rattle.s_templates.specs.Standing.{ItemsStand, FunctionsStandFrom}
 
 -- Functions stand at their addresses.
 abbrev pub FunctionsStand : Type 0

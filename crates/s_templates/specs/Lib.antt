@@ -8,3 +8,6 @@ pub mod Branches
 pub mod Memories
 pub mod Calls
 pub mod Stubs
+pub mod Streams
+pub mod Table
+pub mod Frames

@@ -13,7 +13,7 @@ use Rattle.s_linear.specs.Meaning as linear
 use Rattle.s_select.specs.declared.location.Location.{Location}
 use Rattle.s_select.specs.declared.location.Location.TheVariants.{Register, Near, Far}
 use Rattle.s_select.specs.Operands.{place_register, location_of}
-use Rattle.s_templates.specs.Standing.{Text, HasText}
+use Rattle.rv_machine.specs.Standing.{Text, HasText}
 
 -- ---- values
 
@@ -81,6 +81,16 @@ pub record AreLaidOut (flags : ℕ → ℕ) (bases : Bases) (blocks : Memory) : 
 pub record ShowsMemory (flags : ℕ → ℕ) (bases : Bases) (blocks : Memory) (mem : Bytes) : Type 0 where
   pub laid : AreLaidOut flags bases blocks
   pub values : (width offset : ℕ) (b : BlockName) (v : Value) → load width (At b offset) blocks ≡ Some v → Shows bases v (load_bytes mem (bases b.number + offset) width)
+
+-- ---- registers
+
+-- s1 to s11, the registers of places
+abbrev pub IsPlaceRegister : ℕ → Type 0
+IsPlaceRegister r = (r ≡ 9) ⊎ ((17 < r) × (r < 28))
+
+-- what a call leaves: the stack pointer, the stack's base and the registers of places
+abbrev pub IsKept : ℕ → Type 0
+IsKept r = (r ≡ sp) ⊎ (r ≡ s0) ⊎ IsPlaceRegister r
 
 -- ---- places
 

@@ -14,7 +14,7 @@ use Rattle.s_linear.specs.Meaning as linear
 use Rattle.s_linear.specs.Meaning.{set}
 use Rattle.s_select.specs.Operands.{location_of, load_immediate, out_of, store_out}
 use Rattle.s_select.specs.Templates.{binary_code, unary_code, with_two, with_one, with_none, move_code}
-use Rattle.s_templates.specs.Standing.{Text, CodeStands}
+use Rattle.rv_machine.specs.Standing.{Text, CodeStands}
 use Rattle.s_templates.specs.Relation.{Shows, Frame, HasWords, Represents}
 use Rattle.s_templates.specs.Steps.{Arrives}
 

@@ -1,33 +1,15 @@
-//! Laws of instructions where they stand in memory, for the proofs of the crates above: each is the
-//! contract of a function that does nothing.
+//! Laws of items and templates where they stand in memory, for the proofs of the crates above: each
+//! is the contract of a function that does nothing.
 
-ghost use Rattle.s_templates.specs.Laws.{StandingIsDone, TextStays, SegmentCodeStands, CodeIsCut, FunctionsStand, ItemsAreResolved, ItemsAreCut, WordsStand, WordsAreTheSame};
+ghost use Rattle.s_templates.specs.Laws.{FunctionsStand, ItemsAreResolved, ItemsAreCut, WordsStand, WordsAreTheSame};
 ghost use Rattle.s_templates.specs.Branches.{OffsetLeads, JumpIsDone, BranchNotZeroIsDone, BranchZeroIsDone, BranchEqualIsDone, ExitIsDone};
 ghost use Rattle.s_templates.specs.Calls.{CallLeads, ReturnLeads};
+ghost use Rattle.s_templates.specs.Frames.{FrameIsTaken, StackIsExceeded, FrameIsGiven};
 ghost use Rattle.s_templates.specs.Memories.{LoadIsDone, StoreIsDone, EqualPointersIsDone, ClearIsDone};
-ghost use Rattle.s_templates.specs.Stubs.{PutStubWrites};
+ghost use Rattle.s_templates.specs.Streams.{PutIsDone, GetIsDone};
+ghost use Rattle.s_templates.specs.Stubs.{PutStubWrites, GetStubReads};
+ghost use Rattle.s_templates.specs.Table.{InstrIsDone};
 ghost use Rattle.s_templates.specs.Rows.{ConstIsDone, UndefIsDone, ObjectAddressIsDone, GlobalAddressIsDone, BinaryIsDone, UnaryIsDone, MoveIsDone};
-
-/// The instruction that stands at pc is the one that is done.
-pub fn standing_is_done()
-    ensures { StandingIsDone }
-{}
-
-/// A run leaves a text in memory.
-pub fn text_stays()
-    ensures { TextStays }
-{}
-
-/// The code of a segment that may be executed and not written stands in memory, an instruction at
-/// each word.
-pub fn segment_code_stands()
-    ensures { SegmentCodeStands }
-{}
-
-/// Of two codes one after the other each stands where the other begins or ends.
-pub fn code_is_cut()
-    ensures { CodeIsCut }
-{}
 
 /// In the text of a program each function's code stands at the function's address.
 pub fn functions_stand()
@@ -117,4 +99,38 @@ pub fn calls_lead()
 /// The stub that writes a byte writes the low byte of a0 and returns.
 pub fn put_stub_writes()
     ensures { PutStubWrites }
+{}
+
+/// The stub that reads a byte has the next byte of the input in a0, or -1 at its end, and returns.
+pub fn get_stub_reads()
+    ensures { GetStubReads }
+{}
+
+/// The templates of output and input do on the machine what the instructions do, by way of the stubs
+/// and their buffer.
+pub fn templates_write_and_read()
+    ensures output { PutIsDone }
+    ensures input { GetIsDone }
+{}
+
+/// The items of each instruction but a call do on the machine what the instruction means over
+/// places.
+pub fn instructions_are_done()
+    ensures { InstrIsDone }
+{
+    templates_store();
+    templates_clear();
+}
+
+/// The start of a function takes its frame where the stack has that many bytes left, and else ends
+/// the run with the status of the stack.
+pub fn frames_are_taken()
+    ensures taken { FrameIsTaken }
+    ensures exceeded { StackIsExceeded }
+{}
+
+/// The end of a function gives its frame back and returns, with the caller's place registers as the
+/// frame holds them.
+pub fn frames_are_given_back()
+    ensures { FrameIsGiven }
 {}

@@ -7,13 +7,13 @@ use Rattle.rv_isa.specs.declared.instruction.Instr.TheVariants.{Beq, Bne, Jal}
 use Rattle.rv_machine.specs.Machine.{State, next, act, jump, offset, after}
 use Rattle.s_linear.specs.Meaning as linear
 use Rattle.s_select.specs.Operands.{place_register, location_of, load_immediate, in_of, load_in}
-use Rattle.s_templates.specs.Standing.{Text, HasText, CodeStands}
-use Rattle.s_templates.specs.Relation.{Shows, ShowsMemory, Frame, HasWords, Represents}
+use Rattle.rv_machine.specs.Standing.{Text, HasText, CodeStands}
+use Rattle.s_templates.specs.Relation.{IsKept, Shows, ShowsMemory, Frame, HasWords, Represents}
 use Rattle.s_templates.specs.Steps.{Steps, Arrives}
 use Rattle.s_templates.specs.Branches.{OffsetLeads, JumpIsDone, BranchNotZeroIsDone, BranchZeroIsDone, BranchEqualIsDone}
-use Rattle.s_templates.proofs.lemmas.Stands.{code_is_cut}
+use Rattle.rv_machine.proofs.lemmas.Standing.{code_is_cut}
 use Rattle.s_templates.proofs.lemmas.Registers.{steps-then, step-to, look-at, code-le, immediate-loads}
-use Rattle.s_templates.proofs.lemmas.Locations.{IsKept, kept-apart, register-is-place, location-fits, held-same}
+use Rattle.s_templates.proofs.lemmas.Locations.{kept-apart, register-is-place, location-fits, held-same}
 use Rattle.s_templates.proofs.lemmas.Templates.{in-apart, loads}
 
 pub offset_leads : OffsetLeads

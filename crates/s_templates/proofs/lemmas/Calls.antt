@@ -6,7 +6,7 @@ use Rattle.rv_isa.specs.declared.instruction.Instr.TheVariants.{Auipc, Jalr}
 use Rattle.rv_isa.proofs.lemmas.WordParts.{parts_make_offset}
 use Rattle.rv_machine.specs.Machine.{State, next, act, give, jump, look, offset, after, set_register}
 use Rattle.rv_layout.specs.Layout.{offset_to}
-use Rattle.s_templates.specs.Standing.{StandsAt}
+use Rattle.rv_machine.specs.Standing.{StandsAt}
 use Rattle.s_templates.specs.Steps.{Steps}
 use Rattle.s_templates.specs.Calls.{CallLeads, ReturnLeads}
 use Rattle.s_templates.proofs.lemmas.Registers.{steps-then, step-to, set-same, set-other}

@@ -15,13 +15,13 @@ use Rattle.rv_machine.specs.Memory.{Bytes, load_bytes, store_bytes, has_flag, to
 use Rattle.rv_machine.proofs.lemmas.Stores.{stored_is_loaded, store_leaves_others, load-agrees}
 use Rattle.rv_machine.proofs.lemmas.Texts.{flags_allow}
 use Rattle.s_select.specs.Operands.{negative, load_immediate}
-use Rattle.s_templates.specs.Standing.{Text, HasText, CodeStands}
-use Rattle.s_templates.specs.Relation.{Bases, Shows, Lives, BlockFits, ShowsMemory, AreLaidOut}
+use Rattle.rv_machine.specs.Standing.{Text, HasText, CodeStands}
+use Rattle.s_templates.specs.Relation.{IsKept, Bases, Shows, Lives, BlockFits, ShowsMemory, AreLaidOut}
 use Rattle.s_templates.specs.Steps.{Steps, Arrives}
 use Rattle.s_templates.specs.Memories.{ClearIsDone}
-use Rattle.s_templates.proofs.lemmas.Stands.{code_is_cut}
+use Rattle.rv_machine.proofs.lemmas.Standing.{code_is_cut}
 use Rattle.s_templates.proofs.lemmas.Registers.{Computes, steps-then, step-to, look-at, code-le, first-computes, code-after, immediate-loads}
-use Rattle.s_templates.proofs.lemmas.Locations.{IsKept, kept-apart}
+use Rattle.s_templates.proofs.lemmas.Locations.{kept-apart}
 use Rattle.s_templates.proofs.lemmas.Operands.{stored, store-acts}
 use Rattle.s_templates.proofs.lemmas.Blocks.{leaf-of-value, value-there, leaf-there}
 use Rattle.s_templates.proofs.lemmas.Stores.{SameBlocks, same-back, fellow, leaf-same, laid-same}

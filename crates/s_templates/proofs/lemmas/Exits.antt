@@ -10,11 +10,11 @@ use Rattle.rv_machine.specs.Machine.{State, next, stop, exit, act, call, give}
 use Rattle.rv_machine.specs.Run.{after_output}
 use Rattle.rv_machine.proofs.lemmas.RunLaws.{run_goes_on, step_ends}
 use Rattle.s_select.specs.Operands.{location_of, get}
-use Rattle.s_templates.specs.Standing.{Text, HasText, StandsAt, CodeStands}
+use Rattle.rv_machine.specs.Standing.{Text, HasText, StandsAt, CodeStands}
 use Rattle.s_templates.specs.Relation.{Shows}
 use Rattle.s_templates.specs.Steps.{Steps, Exits}
 use Rattle.s_templates.specs.Branches.{ExitIsDone}
-use Rattle.s_templates.proofs.lemmas.Stands.{fetched-there, code_is_cut}
+use Rattle.rv_machine.proofs.lemmas.Standing.{fetched-there, code_is_cut}
 use Rattle.s_templates.proofs.lemmas.Registers.{Computes, steps-then, code-le, first-computes, code-after}
 use Rattle.s_templates.proofs.lemmas.Locations.{location-fits}
 use Rattle.s_templates.proofs.lemmas.Operands.{get-done}

@@ -5,9 +5,10 @@ use Rattle.rv_layout.specs.declared.item.Item.{Item}
 use Rattle.rv_layout.specs.declared.item.Item.TheVariants.{Word, Mark, Jump, Call, Stub, Address}
 use Rattle.rv_layout.specs.Items.{item_size, items_size, marks, label_at}
 use Rattle.rv_layout.specs.Layout.{Addresses, functions_from, item_code, items_code, function_code, functions_code}
-use Rattle.s_templates.specs.Standing.{Text, CodeStands, IsResolved, ItemsStand, FunctionsStandFrom}
+use Rattle.rv_machine.specs.Standing.{Text, CodeStands}
+use Rattle.s_templates.specs.Standing.{IsResolved, ItemsStand, FunctionsStandFrom}
 use Rattle.s_templates.specs.Laws.{ItemsAreResolved, ItemsAreCut, WordsStand}
-use Rattle.s_templates.proofs.lemmas.Stands.{code_is_cut}
+use Rattle.rv_machine.proofs.lemmas.Standing.{code_is_cut}
 
 module _ (text : Text) (addresses : Addresses) where
   -- ---- where code ends

@@ -1,21 +1,13 @@
 -- Where places are: registers that templates keep, or words of the frame, each apart from the others.
 use Rattle.std.proofs.Common.{◌≡◌, ◌≢◌, ◌⊎◌, ℕ, ◌+◌, ◌-◌, ◌*◌, ◌%◌, ◌<◌, ◌≤◌, ◌==◌, nat_lt, Bool, true, false, cond, refl, sym, ap, subst, ◌∙◌, arith, inl, inr, eqb-true}
 use Rattle.std.proofs.lemmas.Bool.{cases_lt, lt-ltb, le-ltb, eqb-false}
-use Rattle.rv_isa.specs.Registers.{sp, s0}
+use Rattle.rv_isa.specs.Registers.{ra}
 use Rattle.rv_machine.specs.Memory.{Bytes, load_bytes}
 use Rattle.s_linear.specs.Frame.{registers}
 use Rattle.s_select.specs.declared.location.Location.{Location}
 use Rattle.s_select.specs.declared.location.Location.TheVariants.{Register, Near, Far}
 use Rattle.s_select.specs.Operands.{place_register, word_at, location_of}
-use Rattle.s_templates.specs.Relation.{held, Frame, words_end}
-
--- s1 to s11, the registers of places
-abbrev pub IsPlaceRegister : ℕ → Type 0
-IsPlaceRegister r = (r ≡ 9) ⊎ ((17 < r) × (r < 28))
-
--- what a call leaves: the stack pointer, the stack's base and the registers of places
-abbrev pub IsKept : ℕ → Type 0
-IsKept r = (r ≡ sp) ⊎ (r ≡ s0) ⊎ IsPlaceRegister r
+use Rattle.s_templates.specs.Relation.{IsPlaceRegister, IsKept, held, Frame, words_end}
 
 pub place-above : (r : ℕ) → IsPlaceRegister r → 8 < r
 place-above r (inl e) = omega (arith, e)
@@ -26,6 +18,26 @@ pub kept-apart : (r n : ℕ) → IsKept r → 2 < n → n < 8 → r ≢ n
 kept-apart r n (inl e) low high same = absurd (omega (arith, e, same, low))
 kept-apart r n (inr (inl e)) low high same = absurd (omega (arith, e, same, high))
 kept-apart r n (inr (inr h)) low high same = let above = place-above r h in absurd (omega (arith, above, same, high))
+
+-- nor an argument register
+pub kept-sides : (r : ℕ) → IsKept r → (r < 10) ⊎ (17 < r)
+kept-sides r (inl e) = inl (omega (arith, e))
+kept-sides r (inr (inl e)) = inl (omega (arith, e))
+kept-sides r (inr (inr (inl e))) = inl (omega (arith, e))
+kept-sides r (inr (inr (inr h))) = inr h.0
+
+pub kept-argument : (r n : ℕ) → IsKept r → 9 < n → n < 18 → r ≢ n
+kept-argument r n side low high same = by (kept-sides r side)
+  where
+    by : (r < 10) ⊎ (17 < r) → ⊥
+    by (inl less) = omega (arith, less, same, low)
+    by (inr more) = omega (arith, more, same, high)
+
+-- nor the return address
+pub kept-return : (r : ℕ) → IsKept r → r ≢ ra
+kept-return r (inl e) same = absurd (omega (arith, e, same))
+kept-return r (inr (inl e)) same = absurd (omega (arith, e, same))
+kept-return r (inr (inr place)) same = let above = place-above r place in absurd (omega (arith, above, same))
 
 -- the register of a place, or a word that is a place
 abbrev pub LocationFits : Frame → Location → Type 0

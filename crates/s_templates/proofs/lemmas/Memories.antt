@@ -14,7 +14,7 @@ use Rattle.rv_machine.proofs.lemmas.Stores.{store_leaves_others}
 use Rattle.rv_machine.proofs.lemmas.Texts.{flags_allow}
 use Rattle.s_select.specs.Operands.{location_of, in_of, load_in, out_of, store_out}
 use Rattle.s_select.specs.Templates.{load_instr, store_instr}
-use Rattle.s_templates.specs.Standing.{CodeStands}
+use Rattle.rv_machine.specs.Standing.{CodeStands}
 use Rattle.s_templates.specs.Relation.{Shows, ShowsMemory}
 use Rattle.s_templates.specs.Memories.{LoadIsDone, StoreIsDone}
 use Rattle.s_templates.proofs.lemmas.Registers.{steps-then, step-to, look-at, one-computes}

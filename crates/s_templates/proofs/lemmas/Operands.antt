@@ -14,11 +14,11 @@ use Rattle.rv_machine.proofs.lemmas.Texts.{flags_allow}
 use Rattle.s_select.specs.declared.location.Location.{Location}
 use Rattle.s_select.specs.declared.location.Location.TheVariants.{Register, Near, Far}
 use Rattle.s_select.specs.Operands.{t2, get, put, in_of, load_in, out_of, store_out}
-use Rattle.s_templates.specs.Standing.{Text, HasText, CodeStands}
-use Rattle.s_templates.specs.Relation.{Bases, Shows, held, Frame, words_end, HasWords}
+use Rattle.rv_machine.specs.Standing.{Text, HasText, CodeStands}
+use Rattle.s_templates.specs.Relation.{IsKept, Bases, Shows, held, Frame, words_end, HasWords}
 use Rattle.s_templates.specs.Steps.{Steps}
 use Rattle.s_templates.proofs.lemmas.Registers.{steps-none, steps-then, step-to, look-at, Computes, computes-then, code-after, text-after, one-computes, two-compute}
-use Rattle.s_templates.proofs.lemmas.Locations.{IsKept, place-above, kept-apart, LocationFits, IsOtherRegister, IsOtherAddress}
+use Rattle.s_templates.proofs.lemmas.Locations.{place-above, kept-apart, LocationFits, IsOtherRegister, IsOtherAddress}
 
 -- what a word shows, the word modulo 2^32 does
 pub shows-word : (bases : Bases) (v : Value) (x : ℕ) → Shows bases v x → Shows bases v (x % 2 ^ 32)
@@ -35,7 +35,7 @@ shows-word bases Bad x h = tt
 access-done : (flags : ℕ → ℕ) (flag a : ℕ) (s : State) (effect : Effect) → a % 4 ≡ 0 → allowed flags flag a 4 ≡ true → access flags flag 4 a s effect ≡ effect
 access-done flags flag a s effect even good = rw (eq-eqb (a % 4) 0 even, good) refl
 
-load-acts : (flags : ℕ → ℕ) (s : State) (rd rs d a : ℕ) → offset (look s.regs rs) d ≡ a → a % 4 ≡ 0 → allowed flags to_read a 4 ≡ true
+pub load-acts : (flags : ℕ → ℕ) (s : State) (rd rs d a : ℕ) → offset (look s.regs rs) d ≡ a → a % 4 ≡ 0 → allowed flags to_read a 4 ≡ true
     → act flags (Lw rd rs d) s ≡ next (give s rd (load_bytes s.mem a 4))
 unfolding act
 load-acts flags s rd rs d a place even good =

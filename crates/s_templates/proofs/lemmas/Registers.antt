@@ -13,9 +13,9 @@ use Rattle.rv_machine.specs.Run.{running}
 use Rattle.rv_machine.proofs.lemmas.RunLaws.{run-zero, step_reaches, reaches_onwards}
 use Rattle.rv_layout.specs.Sequences.{load_address}
 use Rattle.s_select.specs.Operands.{t2, load_immediate}
-use Rattle.s_templates.specs.Standing.{Text, HasText, StandsAt, CodeStands}
+use Rattle.rv_machine.specs.Standing.{Text, HasText, StandsAt, CodeStands}
 use Rattle.s_templates.specs.Steps.{Steps}
-use Rattle.s_templates.proofs.lemmas.Stands.{fetched-there}
+use Rattle.rv_machine.proofs.lemmas.Standing.{fetched-there}
 
 -- ---- steps
 

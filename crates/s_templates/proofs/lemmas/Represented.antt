@@ -12,12 +12,12 @@ use Rattle.s_linear.specs.Meaning as linear
 use Rattle.s_select.specs.declared.location.Location.{Location}
 use Rattle.s_select.specs.declared.location.Location.TheVariants.{Register, Near, Far}
 use Rattle.s_select.specs.Operands.{place_register, location_of}
-use Rattle.s_templates.specs.Standing.{Text}
-use Rattle.s_templates.specs.Relation.{Shows, IsOutside, ShowsMemory, held, Frame, words_end, HasWords, Represents}
+use Rattle.rv_machine.specs.Standing.{Text}
+use Rattle.s_templates.specs.Relation.{IsKept, Shows, IsOutside, ShowsMemory, held, Frame, words_end, HasWords, Represents}
 use Rattle.s_templates.specs.Steps.{Arrives}
 use Rattle.s_templates.proofs.lemmas.Blocks.{memory-same}
 use Rattle.s_templates.proofs.lemmas.Stores.{SameBlocks, same-back, live-same}
-use Rattle.s_templates.proofs.lemmas.Locations.{LocationFits, IsOtherRegister, IsKept, place-above, register-is-place, location-fits, other-register, other-addresses, held-at-register, held-at-word, outside-words}
+use Rattle.s_templates.proofs.lemmas.Locations.{LocationFits, IsOtherRegister, place-above, register-is-place, location-fits, other-register, other-addresses, held-at-register, held-at-word, outside-words}
 use Rattle.s_templates.proofs.lemmas.Operands.{Writes}
 
 module _ (text : Text) (f : Frame) (words : HasWords text f) where

@@ -10,11 +10,11 @@ use Rattle.rv_machine.specs.Machine.{next, act, give}
 use Rattle.rv_layout.specs.Sequences.{load_address}
 use Rattle.s_select.specs.Operands.{location_of, load_immediate, out_of}
 use Rattle.s_select.specs.Templates.{binary_code, unary_code}
-use Rattle.s_templates.specs.Standing.{Text, HasText, CodeStands}
+use Rattle.rv_machine.specs.Standing.{Text, HasText, CodeStands}
 use Rattle.s_templates.specs.Computed.{computed1, computed2}
 use Rattle.s_templates.specs.Relation.{Frame}
 use Rattle.s_templates.specs.Rows.{ConstIsDone, UndefIsDone, ObjectAddressIsDone, GlobalAddressIsDone, BinaryIsDone, UnaryIsDone, MoveIsDone}
-use Rattle.s_templates.proofs.lemmas.Stands.{code_is_cut}
+use Rattle.rv_machine.proofs.lemmas.Standing.{code_is_cut}
 use Rattle.s_templates.proofs.lemmas.Registers.{steps-none, steps-then, code-le, one-computes, address-loads, immediate-loads}
 use Rattle.s_templates.proofs.lemmas.Locations.{kept-apart, location-fits}
 use Rattle.s_templates.proofs.lemmas.Values.{shows1, shows2}

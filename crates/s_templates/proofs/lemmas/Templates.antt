@@ -15,13 +15,13 @@ use Rattle.s_select.specs.declared.location.Location.{Location}
 use Rattle.s_select.specs.declared.location.Location.TheVariants.{Register, Near, Far}
 use Rattle.s_select.specs.Operands.{put, in_of, load_in, out_of, store_out}
 use Rattle.s_select.specs.Templates.{binary_instr, binary_code, unary_code, with_two, with_one, move_code}
-use Rattle.s_templates.specs.Standing.{Text, HasText, CodeStands}
+use Rattle.rv_machine.specs.Standing.{Text, HasText, CodeStands}
 use Rattle.s_templates.specs.Computed.{first_word, computed1, computed2}
-use Rattle.s_templates.specs.Relation.{Shows, held, Frame, HasWords}
+use Rattle.s_templates.specs.Relation.{IsKept, Shows, held, Frame, HasWords}
 use Rattle.s_templates.specs.Steps.{Steps}
-use Rattle.s_templates.proofs.lemmas.Stands.{code_is_cut}
+use Rattle.rv_machine.proofs.lemmas.Standing.{code_is_cut}
 use Rattle.s_templates.proofs.lemmas.Registers.{steps-then, look-at, Computes, code-le, one-computes, two-compute}
-use Rattle.s_templates.proofs.lemmas.Locations.{IsKept, place-above, kept-apart, LocationFits, IsOtherRegister, held-same}
+use Rattle.s_templates.proofs.lemmas.Locations.{place-above, kept-apart, LocationFits, IsOtherRegister, held-same}
 use Rattle.s_templates.proofs.lemmas.Operands.{Writes, Operand, get-done, operand-done, put-done, result-stored}
 
 -- ---- registers of operands and results

@@ -1,4 +1,4 @@
-use Rattle.s_templates.proofs.lemmas.Stubs as lemma
+use Rattle.s_templates.proofs.lemmas.PutStub as lemma
 use Rattle.s_templates.proofs.laws.put_stub_writes.Goals as goal
 
 pub returns : goal.returns
