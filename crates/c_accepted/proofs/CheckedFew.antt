@@ -30,7 +30,7 @@ use Rattle.c_sound.proofs.lemmas.Shapes.{in_range, well_shaped}
 use Rattle.c_sound.proofs.lemmas.Parts.{Layouts}
 use Rattle.c_sound.proofs.lemmas.File.{File}
 use Rattle.c_sound.proofs.lemmas.FileShapes.{file_shaped, declarations_few}
-use Rattle.c_accepted.specs.Groups.{HasFewGroups}
+use Rattle.g_simulation.specs.Groups.{HasFewGroups}
 use Rattle.c_accepted.specs.SourceLaws.{TokensAreInRange, CheckedHaveFewGroups}
 use Rattle.c_accepted.proofs.GroupShapes.{groups_few}
 use Rattle.c_accepted.proofs.FewFunctions.{AllFew, externals_few}

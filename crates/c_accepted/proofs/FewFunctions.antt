@@ -31,7 +31,7 @@ use Rattle.c_sound.proofs.lemmas.Params.{result_type_steps, params_out}
 use Rattle.c_sound.proofs.lemmas.FunctionBodies.{name_params_steps, bind_out}
 use Rattle.c_sound.proofs.lemmas.FunctionMoved.{function_moves}
 use Rattle.c_sound.proofs.lemmas.FileSteps.{FileShaped, FileOut, externals_out}
-use Rattle.c_accepted.specs.Groups.{ItemsHaveFewGroups}
+use Rattle.g_simulation.specs.Groups.{ItemsHaveFewGroups}
 use Rattle.c_accepted.proofs.GroupShapes.{groups_in}
 use Rattle.c_accepted.proofs.FewGroups.{items_few}
 

@@ -13,7 +13,7 @@ use Rattle.c_elaboration.specs.Expressions.{expressions}
 use Rattle.c_elaboration.specs.Declarators.{items_joined, declarator, more_declarators, locals}
 use Rattle.c_elaboration.specs.Statements.{Jumps, in_loop, in_switch, condition, subject, condition_clause, value_clause, value_stmt, if_stmt, with_else, do_stmt, switch_stmt, return_stmt, returned, next_group, label, more_labels, with_group, Groups, value_items, for_start, statement, items, groups, group}
 use Rattle.c_sound.proofs.lemmas.Later.{entered}
-use Rattle.c_accepted.specs.Groups.{StmtHasFewGroups, ItemsHaveFewGroups, GroupsHaveFewGroups}
+use Rattle.g_simulation.specs.Groups.{StmtHasFewGroups, ItemsHaveFewGroups, GroupsHaveFewGroups}
 use Rattle.c_accepted.proofs.GroupShapes.{groups_in}
 
 -- ---- parts

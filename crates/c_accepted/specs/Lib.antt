@@ -1,2 +1,1 @@
 pub mod SourceLaws
-pub mod Groups

@@ -10,7 +10,9 @@ use Rattle.c_typed.specs.WellTyped.{IsWellTyped}
 use Rattle.c_elaboration.specs.Check.{check}
 use Rattle.c_elaboration.specs.CheckLaws.{IsInRange}
 use Rattle.c_elaboration.specs.Limits.{above_limits}
-use Rattle.c_accepted.specs.Groups.{HasFewGroups}
+use Rattle.g_construct.specs.Functions.{graph}
+use Rattle.g_simulation.specs.Groups.{HasFewGroups}
+use Rattle.g_simulation.specs.Laws.{HasMeaning, StartsAsProgram}
 
 abbrev pub AreBytes : List ℕ → Type 0
 AreBytes source = All (λ b. b < 2 ^ 8) source
@@ -29,3 +31,9 @@ CheckedAreWellTyped =
 abbrev pub CheckedHaveFewGroups : Type 0
 CheckedHaveFewGroups =
     (source : List ℕ) → AreBytes source → (ts : List Token) → lexed source ≡ Ok ts → (t : Tree) → FollowsGrammar t → tokens_of t ≡ ts → (n : ℕ) (p : ProgramTree) → check t n ≡ Ok p → HasFewGroups p
+
+-- The graph of a source of bytes that is accepted means what its program means, call for call and from the start.
+abbrev pub AcceptedKeepMeaning : Type 0
+AcceptedKeepMeaning =
+    (source : List ℕ) → AreBytes source → (ts : List Token) → lexed source ≡ Ok ts → (t : Tree) → FollowsGrammar t → tokens_of t ≡ ts →
+    (n : ℕ) (p : ProgramTree) → check t n ≡ Ok p → HasMeaning p (graph p) × StartsAsProgram p (graph p)
