@@ -98,7 +98,8 @@ after_moved r s t a b =
       few = λ clean h k. let p = a.go (b.broken clean) h in b.few clean p.1 (subst AllFew (sym p.2) k);
     }
 
-after_name_few : (y : Layouts) (starts : ℕ) (x : Specified) (is_const : Bool) (stars : ℕ) (name t : Tree) (s : State) → IsNoArray x.type → InRange t → WellShaped t → FileShaped t → declarations t ≤ 200000 →
+after_name_few : (y : Layouts) (starts : ℕ) (x : Specified) (is_const : Bool) (stars : ℕ) (name t : Tree) (s : State) → IsNoArray x.type → InRange t → WellShaped t → FileShaped t →
+    declarations t ≤ 200000 →
     groups_in t < 2 ^ 32 → FewOut s (after_name starts x is_const stars (name_of name) (offset_of name) t s).1
 after_name_few y starts x is_const stars name (Node l.Function (Cons opening (Cons xs (Cons closing (Cons body none))))) s base r w f few groups =
     record {
@@ -110,7 +111,8 @@ after_name_few y starts x is_const stars name (Node l.Globals (Cons bounds (Cons
     moved_few s _ (moved_then s _ _ g (more_globals_moved y x is_const more _ base r.1.1.0 w.1))
 after_name_few y starts x is_const stars name t s base r w f few groups = moved_few s s (moved_step s s (stay s) (no_texts s))
 
-after_type_few : (y : Layouts) (starts : ℕ) (x : Specified) (is_const : Bool) (t : Tree) (s : State) → IsNoArray x.type → InRange t → WellShaped t → FileShaped t → declarations t ≤ 200000 → groups_in t < 2 ^ 32 →
+after_type_few : (y : Layouts) (starts : ℕ) (x : Specified) (is_const : Bool) (t : Tree) (s : State) → IsNoArray x.type → InRange t → WellShaped t → FileShaped t → declarations t ≤ 200000 →
+    groups_in t < 2 ^ 32 →
     FewOut s (after_type starts x is_const t s).1
 after_type_few y starts x is_const (Node l.Declared (Cons stars (Cons name (Cons rest none)))) s base r w f few groups =
     after_name_few y starts x is_const (count_of stars) name rest s base r.1.1.0 w.1.1.0 f.1.1.0 (omega (arith, few)) (omega (arith, groups))
@@ -126,7 +128,8 @@ after_tag_few y starts tag (Node l.StructMembers (Cons opening (Cons first (Cons
     moved_few s _ (struct_moved (name_of tag) (offset_of tag) (Node l.StructMembers (Cons opening (Cons first (Cons more none)))) s f r)
 after_tag_few y starts tag t s r w f few groups = moved_few s _ (struct_moved (name_of tag) (offset_of tag) t s tt r)
 
-specified_few : (y : Layouts) (starts : ℕ) (is_const : Bool) (specifier rest : Tree) (s : State) → InRange rest → WellShaped rest → FileShaped rest → declarations rest ≤ 200000 → groups_in rest < 2 ^ 32 →
+specified_few : (y : Layouts) (starts : ℕ) (is_const : Bool) (specifier rest : Tree) (s : State) → InRange rest → WellShaped rest → FileShaped rest → declarations rest ≤ 200000 →
+    groups_in rest < 2 ^ 32 →
     FewOut s (after_type starts (specified_type specifier s).0 is_const rest (specified_type specifier s).1).1
 specified_few y starts is_const specifier rest s r w f few groups =
     let x = specified_type specifier s in

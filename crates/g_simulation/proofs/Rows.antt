@@ -79,6 +79,15 @@ widths =
 widths-both : Ends widths 1 1 14
 widths-both = (refl, refl)
 
+-- int main(void) { return (2 > 1) + 2 * (1 > 2); }
+abbrev orders : ProgramTree
+orders =
+    program 0
+    (main [] (returned (computed op.Add (compared relation.Greater (number 2) (number 1)) (computed op.Mul (number 2) (compared relation.Greater (number 1) (number 2))))) ∷ [])
+
+orders-both : Ends orders 1 1 1
+orders-both = (refl, refl)
+
 -- ---- loops and jumps
 
 -- int main(void) { int a = 0, b = 1, t, i; for (i = 0; i < 10; i++) { t = a; a = b; b = t + b; } return a; }
@@ -179,6 +188,18 @@ compares =
 
 compares-both : Ends compares 1 1 12
 compares-both = (refl, refl)
+
+-- int main(void) { int a, b; &a; &b; a = b = 2; return a + 3 * b; } without the two statements that make objects of a and b
+abbrev stores : ProgramTree
+stores =
+    program 0
+    (main (int_object ∷ int_object ∷ [])
+    (declare 0 (
+    declare 1 (
+    stmt_then (value (assigned (local 0) (assigned (local 1) (number 2)))) (returned (computed op.Add (variable 0) (computed op.Mul (number 3) (variable 1))))))) ∷ [])
+
+stores-both : Ends stores 1 1 8
+stores-both = (refl, refl)
 
 abbrev ints : (count : ℕ) → TypeTree
 ints n = array_of int n

@@ -49,7 +49,8 @@ named-at : (fs : List FunctionTree) (k : ℕ) → name_index main_name (map (λ 
 named-at [] k e = absurd cc
 named-at (f ∷ fs) k e = by (same_bytes f.name main_name) refl (name_index main_name (map (λ (f : FunctionTree). f.name) fs)) refl k e (λ j z. named-at fs j z)
   where
-    by : (t : Bool) → same_bytes f.name main_name ≡ t → (x : Option ℕ) → name_index main_name (map (λ (f : FunctionTree). f.name) fs) ≡ x → (k : ℕ) → (if t then Some 0 else option_map suc x) ≡ Some k →
+    by : (t : Bool) → same_bytes f.name main_name ≡ t → (x : Option ℕ) → name_index main_name (map (λ (f : FunctionTree). f.name) fs) ≡ x → (k : ℕ) →
+        (if t then Some 0 else option_map suc x) ≡ Some k →
         ((j : ℕ) → name_index main_name (map (λ (f : FunctionTree). f.name) fs) ≡ Some j → Named fs j) → Named (f ∷ fs) k
     by true z x y zero q r = record { function = f; there = refl; name = bytes-equal f.name main_name z }
     by true z x y (suc k) q r = absurd cc
@@ -62,7 +63,8 @@ named-at (f ∷ fs) k e = by (same_bytes f.name main_name) refl (name_index main
 
 -- ---- the end of a program
 
-ends : (direction : Direction) (g : Given (Option Value)) (ys : List Datum) → GivesBack g ys → Refines exactly direction (λ (g : Given (Option Value)) (ys : List Datum). ⊥) (source.finished g) (graph_calls.finished ys)
+ends : (direction : Direction) (g : Given (Option Value)) (ys : List Datum) → GivesBack g ys → Refines exactly direction (λ (g : Given (Option Value)) (ys : List Datum). ⊥) (source.finished g)
+    (graph_calls.finished ys)
 ends direction g ys h =
     subst (λ zs. Refines exactly direction (λ (g : Given (Option Value)) (ys : List Datum). ⊥) (source.finished g) (graph_calls.finished zs)) (sym h.is) (by g.value h.less)
   where
@@ -94,7 +96,8 @@ module _ (p : ProgramTree) (typed : IsWellTyped p) (few : HasFewGroups p) (law :
 
     program-is : (n : ℕ) → then_on (far n) graph_calls.finished ≡ program_at n (construction.omega p) (graph p) i
     program-is n =
-        sym (ap₂ (λ (global : ℕ → Value) (m : Blocks). then_on (lambda_at n (graph p) global p.main (memory m ∷ input i ∷ [])) graph_calls.finished) (addresses-same p typed law) (memory-same p typed law))
+        sym (ap₂ (λ (global : ℕ → Value) (m : Blocks). then_on (lambda_at n (graph p) global p.main (memory m ∷ input i ∷ [])) graph_calls.finished) (addresses-same p typed law)
+        (memory-same p typed law))
         ∙ ap (λ x. started n (construction.omega p) (graph p) x i) (sym main-found)
 
     sound : AreSound (memory (first_memory p) ∷ input i ∷ [])
@@ -102,7 +105,8 @@ module _ (p : ProgramTree) (typed : IsWellTyped p) (few : HasFewGroups p) (law :
 
     whole : (w : Direction) (n m : ℕ) → Refines exactly w GivesBack (near n) (far m) → Refines exactly w (λ g ys. ⊥) (run n p i) (program_at m (construction.omega p) (graph p) i)
     whole w n m h =
-        subst (λ z. Refines exactly w (λ g ys. ⊥) (run n p i) z) (program-is m) (refines-then exactly exactly-goes GivesBack (λ g ys. ⊥) w (near n) (far m) source.finished graph_calls.finished h (ends w))
+        subst (λ z. Refines exactly w (λ g ys. ⊥) (run n p i) z) (program-is m) (refines-then exactly exactly-goes GivesBack (λ g ys. ⊥) w (near n) (far m) source.finished graph_calls.finished h
+        (ends w))
 
     forth : (k : ℕ) → Refines exactly Forward (λ g ys. ⊥) (run k p i) (program_at (2 * k + 1) (construction.omega p) (graph p) i)
     forth k =
