@@ -77,13 +77,15 @@ initial_file names =
     by_function : (k : ℕ) → (means.Function k ≡ means.Function 2) ⊎ ((means.Function k ≡ means.Function 1) ⊎ (means.Function k ≡ means.Function 0)) → FunctionTyped predeclared k
     by_function k (inl e) =
         let same : 2 ≡ k = cc in
-        subst (FunctionTyped predeclared) same (record { function = record { result = Some void_type; params = Some int ∷ []; is_defined = true }; there = refl; result = void_type; has = refl; types = int ∷ []; takes = (refl, tt) })
+        subst (FunctionTyped predeclared) same
+        (record { function = record { result = Some void_type; params = Some int ∷ []; is_defined = true }; there = refl; result = void_type; has = refl; types = int ∷ []; takes = (refl, tt) })
     by_function k (inr (inl e)) =
         let same : 1 ≡ k = cc in
         subst (FunctionTyped predeclared) same (record { function = record { result = Some int; params = []; is_defined = true }; there = refl; result = int; has = refl; types = []; takes = tt })
     by_function k (inr (inr e)) =
         let same : 0 ≡ k = cc in
-        subst (FunctionTyped predeclared) same (record { function = record { result = Some int; params = Some int ∷ []; is_defined = true }; there = refl; result = int; has = refl; types = int ∷ []; takes = (refl, tt) })
+        subst (FunctionTyped predeclared) same
+        (record { function = record { result = Some int; params = Some int ∷ []; is_defined = true }; there = refl; result = int; has = refl; types = int ∷ []; takes = (refl, tt) })
 
 -- ---- the file
 

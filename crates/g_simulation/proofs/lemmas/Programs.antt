@@ -59,9 +59,11 @@ module _ (p : ProgramTree) (bodies : BodiesFit p) where
   active-fits w near depth far fits calls f t there vs count m i sound =
       refines-active exactly exactly-goes GivesBack w f (function_run p near (nested p global near depth) global (f == p.main) (slice_get p.functions f) vs m i)
       (entered far (applied (graph p) global far) global (slice_get (graph p) f) (taken vs m i))
-      (subst (λ x. Refines exactly w GivesBack (function_run p near (nested p global near depth) global (f == p.main) x vs m i) (entered far (applied (graph p) global far) global (slice_get (graph p) f) (taken vs m i)))
+      (subst (λ x. Refines exactly w GivesBack (function_run p near (nested p global near depth) global (f == p.main) x vs m i)
+      (entered far (applied (graph p) global far) global (slice_get (graph p) f) (taken vs m i)))
       (sym there)
-      (subst (λ l. Refines exactly w GivesBack (body_run p near (nested p global near depth) global (f == p.main) t vs m i) (entered far (applied (graph p) global far) global l (taken vs m i))) (sym lambda)
+      (subst (λ l. Refines exactly w GivesBack (body_run p near (nested p global near depth) global (f == p.main) t vs m i) (entered far (applied (graph p) global far) global l (taken vs m i)))
+      (sym lambda)
       (bodies w near far fits (nested p global near depth) (applied (graph p) global far) calls (applied-sound far) f t there vs count m i sound)))
     where
       lambda : slice_get (graph p) f ≡ Some (lambda_made p f t)
