@@ -19,3 +19,4 @@ pub mod InPlace
 pub mod PlacesInPlace
 pub mod Redirected
 pub mod Carried
+pub mod CarriedFit
