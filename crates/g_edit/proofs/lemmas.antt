@@ -20,3 +20,4 @@ pub mod PlacesInPlace
 pub mod Redirected
 pub mod Carried
 pub mod CarriedFit
+pub mod CarriedExits

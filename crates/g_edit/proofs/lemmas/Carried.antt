@@ -84,13 +84,13 @@ passed_is inputs p args nodes results rs o e = by (outer inputs (slice_get resul
     by None q d = absurd cc
     by (Some a) q d = by_test a (all_pass inputs a p rs) q refl d
 
-passed_input : (inputs : List Origin) (p : ℕ) (rs : RegionTrees) (o : Origin) → passed inputs p rs ≡ Some o → (k : ℕ) × (slice_get inputs (suc k) ≡ Some o)
+pub passed_input : (inputs : List Origin) (p : ℕ) (rs : RegionTrees) (o : Origin) → passed inputs p rs ≡ Some o → (k : ℕ) × (slice_get inputs (suc k) ≡ Some o)
 passed_input inputs p no_regions o e = absurd cc
 passed_input inputs p (region_then (region args nodes results) rs) o e =
     let at = passed_is inputs p args nodes results rs o e in
     (at.first.argument, at.first.input)
 
-passed_all : (inputs : List Origin) (p : ℕ) (rs : RegionTrees) (o : Origin) → passed inputs p rs ≡ Some o → all_pass inputs o p rs ≡ true
+pub passed_all : (inputs : List Origin) (p : ℕ) (rs : RegionTrees) (o : Origin) → passed inputs p rs ≡ Some o → all_pass inputs o p rs ≡ true
 passed_all inputs p no_regions o e = refl
 passed_all inputs p (region_then (region args nodes results) rs) o e =
     let at = passed_is inputs p args nodes results rs o e in
@@ -141,7 +141,7 @@ gamma_passes c (predicate ∷ entries) rs f o p vs did e d = by (value_of (f pre
 
 -- ---- lists
 
-stays_none : (cs : List (Option Origin)) (p : ℕ) → joined (slice_get cs p) ≡ None → stays_at (staying cs) p ≡ true
+pub stays_none : (cs : List (Option Origin)) (p : ℕ) → joined (slice_get cs p) ≡ None → stays_at (staying cs) p ≡ true
 stays_none [] p e = refl
 stays_none (None ∷ cs) zero e = refl
 stays_none (Some o ∷ cs) zero e = absurd cc
