@@ -21,3 +21,4 @@ pub mod Redirected
 pub mod Carried
 pub mod CarriedFit
 pub mod CarriedExits
+pub mod CarriedUses

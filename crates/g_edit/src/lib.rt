@@ -3,6 +3,7 @@
 //! It promises that an edit gives the defined region, and takes no memory; a list of tests does.
 #![tactic(auto)]
 
+mod carried;
 mod entries;
 mod exits;
 mod in_place;
@@ -15,6 +16,7 @@ mod stays;
 mod uses;
 mod variables;
 
+pub use carried::{carry_exits, carry_uses};
 pub use entries::keep_entries;
 pub use exits::keep_exits;
 pub use in_place::{NodeEdit, RegionEdit, edit_first, edit_regions, redirect_after};

@@ -32,12 +32,12 @@ use Rattle.g_edit.proofs.lemmas.CarriedFit.{Carries, carried_kept}
 
 -- ---- lists
 
-get_map : {X Y : Type 0} (f : X → Y) (xs : List X) (i : ℕ) (x : X) → slice_get xs i ≡ Some x → slice_get (map f xs) i ≡ Some (f x)
+pub get_map : {X Y : Type 0} (f : X → Y) (xs : List X) (i : ℕ) (x : X) → slice_get xs i ≡ Some x → slice_get (map f xs) i ≡ Some (f x)
 get_map f [] i x e = absurd cc
 get_map f (a ∷ xs) zero x e = ap (λ z. Some (f z)) (same_Some a x e)
 get_map f (a ∷ xs) (suc i) x e = get_map f xs i x e
 
-get_all : {X : Type 0} (test : X → Bool) (xs : List X) (i : ℕ) (x : X) → all_of test xs ≡ true → slice_get xs i ≡ Some x → test x ≡ true
+pub get_all : {X : Type 0} (test : X → Bool) (xs : List X) (i : ℕ) (x : X) → all_of test xs ≡ true → slice_get xs i ≡ Some x → test x ≡ true
 get_all test [] i x a e = absurd cc
 get_all test (y ∷ xs) zero x a e = ap test (sym (same_Some y x e)) ∙ (and_parts (test y) (all_of test xs) a).0
 get_all test (y ∷ xs) (suc i) x a e = get_all test xs i x (and_parts (test y) (all_of test xs) a).1 e

@@ -1,5 +1,5 @@
 -- The edits made in place are the defined ones.
-use Rattle.std.proofs.Common.{◌≡◌, ◌<◌, ◌≤◌, ℕ, zero, suc, ◌+◌, ◌==◌, Bool, true, false, cond, List, [], ◌∷◌, ◌++◌, map, take, drop, length, get_or, None, Some, refl, sym, ap, ◌∙◌, add-one, arith}
+use Rattle.std.proofs.Common.{◌≡◌, ◌<◌, ◌≤◌, ℕ, zero, suc, ◌+◌, ◌==◌, Bool, true, false, cond, List, [], ◌∷◌, ◌++◌, map, take, drop, length, get_or, Option, None, Some, refl, sym, ap, ◌∙◌, add-one, arith}
 use Rattle.std.specs.Prelude.{◌&&◌, slice_get, slice_set}
 use Rattle.std.proofs.lemmas.Option.{same_Some}
 use Rattle.g_graph.specs.declared.op.Op.{Op}
@@ -13,6 +13,7 @@ use Rattle.g_edit.specs.Places.{kept}
 use Rattle.g_edit.specs.Exits.{regions_giving, node_giving, output_after, nodes_giving}
 use Rattle.g_edit.specs.Entries.{regions_taking, node_taking, nodes_taking}
 use Rattle.g_edit.specs.Variables.{region_looping, node_looping, nodes_looping}
+use Rattle.g_edit.specs.Carried.{output_carried, staying, nodes_carrying}
 use Rattle.g_edit.specs.InPlace.{all_stay, nodes_edited, redirected_after, region_giving, region_taking}
 
 -- ---- a node, by its index
@@ -112,6 +113,12 @@ looping_is n stays (node_then x ns) =
 pub taking_is : (n : ℕ) (stays : List Bool) (ns : NodeTrees) → nodes_edited n (node_taking stays) ns ≡ nodes_taking n stays ns
 taking_is n stays no_nodes = refl
 taking_is n stays (node_then x ns) = ap (λ ms. cond (id_of x == n) (node_then (node_taking stays x) ns) (node_then x ms)) (taking_is n stays ns)
+
+pub carrying_is : (n : ℕ) (cs : List (Option Origin)) (ns : NodeTrees) →
+    redirected_after n (output_carried n cs (staying cs)) (nodes_edited n (node_giving (staying cs)) ns) ≡ nodes_carrying n cs ns
+carrying_is n cs no_nodes = refl
+carrying_is n cs (node_then x ns) =
+    sym (edited_then n (node_giving (staying cs)) (output_carried n cs (staying cs)) (giving_id (staying cs)) x ns (nodes_carrying n cs ns) (id_of x == n) refl (sym (carrying_is n cs ns)))
 
 -- ---- the regions of a node
 
