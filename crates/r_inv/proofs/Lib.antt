@@ -1,1 +1,2 @@
 mod Inv
+mod Lists

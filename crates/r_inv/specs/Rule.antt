@@ -3,12 +3,13 @@
 use Rattle.std.specs.Prelude.{ℕ, suc, ◌&&◌, ◌||◌, if◌then◌else◌, Bool, false, List, [], ◌∷◌, Option, None, Some, option_and_then, is_some, slice_get}
 use Rattle.g_graph.specs.declared.op.Kind.{Kind}
 use Rattle.g_graph.specs.declared.op.Kind.TheVariants.{Value}
+use Rattle.g_graph.specs.declared.op.Op.{Op}
 use Rattle.g_graph.specs.declared.op.Op.TheVariants.{Gamma, Theta}
 use Rattle.g_graph.specs.declared.op.Origin.{Origin}
 use Rattle.g_graph.specs.declared.op.Origin.TheVariants.{Arg, Out}
 use Rattle.g_graph.specs.Plain.{RegionTree, region, NodeTree, node, RegionTrees, no_regions, region_then, PlainLambda}
 use Rattle.g_graph.specs.Signatures.{outputs_of}
-use Rattle.g_graph.specs.Scope.{same_kind}
+use Rattle.g_graph.specs.Scope.{same_kind, is_of}
 use Rattle.g_graph.specs.WellFormed.{is_origin}
 use Rattle.g_graph.specs.Change.{region_changed, lambda_changed}
 use Rattle.g_graph.specs.Nodes.{node_at, is_used}
@@ -27,6 +28,13 @@ abbrev pub variables_from : (inputs outs : List Origin) → (first : ℕ) → Li
 variables_from inputs outs p [] = []
 variables_from inputs outs p (j ∷ js) =
     (if same_kind Value j && is_origin (slice_get outs (suc p)) (Arg p) then slice_get inputs p else None) ∷ variables_from inputs outs (suc p) js
+
+-- whether one of them is kept, and what it carries
+abbrev pub keeps : RegionTree → ℕ → Bool
+keeps (region own nodes outs) p = is_of Value (slice_get own p) && is_origin (slice_get outs (suc p)) (Arg p)
+
+abbrev pub variable_carries : (inputs : List Origin) → RegionTree → ℕ → Option Origin
+variable_carries inputs q p = if keeps q p then slice_get inputs p else None
 
 -- from a first output of node n on, one that carries something is used
 abbrev pub some_used : (n : ℕ) → RegionTree → (first : ℕ) → (carried : List (Option Origin)) → Bool
@@ -61,3 +69,9 @@ applies l n = is_some (region_changed (inv_here n) l.body)
 
 abbrev pub inv : ℕ → PlainLambda → PlainLambda
 inv n l = lambda_changed (inv_here n) l
+
+abbrev pub op_of : NodeTree → Op
+op_of (node id op inputs rs) = op
+
+abbrev pub results_of : RegionTree → List Origin
+results_of (region args nodes results) = results

@@ -3,4 +3,12 @@
 //! Promise: `apply` gives the changed lambda, and a changed lambda keeps its meaning in any program.
 #![tactic(auto)]
 
+mod carried;
+mod find;
+mod gamma;
 pub mod laws;
+mod plan;
+mod rule;
+mod theta;
+
+pub use rule::{applies, apply};
