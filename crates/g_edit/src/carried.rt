@@ -11,9 +11,9 @@ use crate::places::place_after;
 use g_graph::{Origin, Redirect, Region, redirect_origins};
 
 /// Of the Gamma of this number in the region the exit variables go that carry an origin, and what
-/// names their outputs names that origin; `stays` says which ones carry none. It takes no memory, and
-/// time linear in the region's inputs and results and in the results of the Gamma's regions, but for
-/// uses of its outputs, which take time linear in `stays`.
+/// names their outputs names that origin; `stays` says which ones carry none. It takes no memory,
+/// and time linear in the region's inputs and results and in the results of the Gamma's regions,
+/// but for uses of its outputs, which take time linear in `stays`.
 pub fn carry_exits(region: &mut Region, id: u32, carried: &[Option<Origin>], stays: &[bool])
     requires { stays.now ≡ staying carried.now }
     ensures { region.new ≡ exits_carried id carried.now region.old }
@@ -22,8 +22,8 @@ pub fn carry_exits(region: &mut Region, id: u32, carried: &[Option<Origin>], sta
     redirect_carried(region, id, carried, stays);
 }
 
-/// What names an output of the node of this number that carries an origin names that origin. It takes
-/// no memory, and time linear in the region's inputs and results.
+/// What names an output of the node of this number that carries an origin names that origin. It
+/// takes no memory, and time linear in the region's inputs and results.
 pub fn carry_uses(region: &mut Region, id: u32, carried: &[Option<Origin>])
     ensures { region.new ≡ outputs_redirected id (output_carried id carried.now []) region.old }
 {

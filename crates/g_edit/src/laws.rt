@@ -29,8 +29,8 @@ pub fn unread_variables_go()
     ensures { UnreadVariablesGo }
 {}
 
-/// A loop gives a variable whose result is its argument as it took it, and so uses of its output may
-/// become uses of its input.
+/// A loop gives a variable whose result is its argument as it took it, and so uses of its output
+/// may become uses of its input.
 pub fn invariant_uses_move()
     ensures loops { LoopsKeepArguments }
     ensures uses { InvariantUsesMove }

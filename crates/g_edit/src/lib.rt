@@ -1,5 +1,5 @@
-//! What the rules share: what they ask a region for, and the named edits that their changes are made
-//! of, each with its laws. It stands on g_graph, g_mean and no_memory.
+//! What the rules share: what they ask a region for, and the named edits that their changes are
+//! made of, each with its laws. It stands on g_graph, g_mean and no_memory.
 //! It promises that an edit gives the defined region, and takes no memory; a list of tests does.
 #![tactic(auto)]
 

@@ -1,5 +1,5 @@
 -- What variables carry, by index.
-use Rattle.std.proofs.Common.{◌≡◌, ◌<◌, ℕ, zero, suc, ◌+◌, Bool, ◌&&◌, ◌||◌, cond, List, [], ◌∷◌, ◌++◌, take, drop, length, Option, None, Some, refl, sym, ap, subst, ◌∙◌, add-one, arith}
+use Rattle.std.proofs.Common.{◌≡◌, ◌<◌, ℕ, zero, suc, ◌+◌, ◌&&◌, ◌||◌, cond, List, [], ◌∷◌, ◌++◌, take, drop, length, Option, None, Some, refl, sym, ap, subst, ◌∙◌, add-one, arith}
 use Rattle.std.specs.Prelude.{slice_get, is_some, option_and_then}
 use Rattle.std.proofs.lemmas.Option.{same_Some}
 use Rattle.g_graph.specs.declared.op.Kind.{Kind}
@@ -71,14 +71,6 @@ pub used_more : (n : ℕ) (r : RegionTree) (cs : List (Option Origin)) (i : ℕ)
 used_more n r cs i c e =
     let number : 0 + i ≡ i = omega arith in
     rw add-one (ap (λ q. some_used n r q (drop i cs)) (sym number) ∙ used_from n r 0 cs i c e ∙ ap (λ q. (is_some c && is_used (Out n q) r) || some_used n r (suc q) (drop (suc i) cs)) number)
-
-take_suc : (cs : List (Option Origin)) (i : ℕ) (c : Option Origin) → slice_get cs i ≡ Some c → take (suc i) cs ≡ take i cs ++ c ∷ []
-take_suc [] i c e = absurd cc
-take_suc (d ∷ cs) zero c e = ap (λ z. z ∷ []) (same_Some d c e)
-take_suc (d ∷ cs) (suc i) c e = ap (λ zs. d ∷ zs) (take_suc cs i c e)
-
-pub take_get : (cs : List (Option Origin)) (i : ℕ) (c : Option Origin) → slice_get cs i ≡ Some c → take (i + 1) cs ≡ take i cs ++ c ∷ []
-take_get cs i c e = rw add-one (take_suc cs i c e)
 
 -- ---- a node
 

@@ -26,8 +26,8 @@ pub trait Carried {
         ensures { slice_get (carried self.now) index ≡ Some result };
 }
 
-/// Whether an output of the node of this number that carries something is used. It takes the time of
-/// a walk through the region for each such output.
+/// Whether an output of the node of this number that carries something is used. It takes the time
+/// of a walk through the region for each such output.
 pub fn some_used<C: Carried>(region: &Region, id: u32, variables: &C) -> bool
     ensures { result ≡ some_used id region.now 0 (C.carried variables.now) }
 {

@@ -70,7 +70,8 @@ fn all_pass(inputs: &[Origin], origin: Origin, port: usize, regions: &[Region]) 
 }
 
 fn passes(inputs: &[Origin], origin: Origin, port: usize, region: &Region) -> bool
-    ensures { result ≡ is_origin (outer inputs.now (slice_get (results_of region.now) port)) origin }
+    ensures { result ≡
+        is_origin (outer inputs.now (slice_get (results_of region.now) port)) origin }
 {
     match outer(inputs, region.results.get(port).copied()) {
         Some(found) => same_origin(found, origin),

@@ -1,5 +1,5 @@
-//! Invariant value redirection: what reads an output of a Gamma or a Theta that carries an origin of
-//! outside reads that origin.
+//! Invariant value redirection: what reads an output of a Gamma or a Theta that carries an origin
+//! of outside reads that origin.
 //! Promise: `apply` gives the changed lambda, and a changed lambda keeps its meaning in any program.
 #![tactic(auto)]
 

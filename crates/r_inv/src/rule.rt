@@ -13,11 +13,11 @@ use g_graph::{CanChange, Change, Lambda, Region, can_change_lambda, change_lambd
 use no_memory::NoMemory;
 use std::alloc::Global;
 
-/// Whether the rule applies at the node of this number: a Gamma with exits, states too, that in every
-/// region are arguments of one origin, or a Theta with value variables whose result is their
+/// Whether the rule applies at the node of this number: a Gamma with exits, states too, that in
+/// every region are arguments of one origin, or a Theta with value variables whose result is their
 /// argument, where an output of one of them is used. It is false for a number that is not there. It
-/// takes no memory. It takes time linear in the lambda, and for a Gamma or a Theta the time of a walk
-/// through its region for each of those variables.
+/// takes no memory. It takes time linear in the lambda, and for a Gamma or a Theta the time of a
+/// walk through its region for each of those variables.
 pub fn applies(lambda: &Lambda, node: u32) -> bool
     ensures { result ≡ applies lambda.now node }
 {

@@ -141,8 +141,8 @@ fn a_variable_that_nothing_else_reads_goes(rt: HostRuntime) -> Result<(), Fail> 
     Ok(())
 }
 
-/// The numbers at which the rule applies in a sweep from the last node to the first, of which each is
-/// applied.
+/// The numbers at which the rule applies in a sweep from the last node to the first, of which each
+/// is applied.
 pub fn swept(alloc: Global, lambda: &mut Lambda) -> Result<Vec<u32>, NoMemory> {
     let mut steps = Vec::new(alloc);
     let numbers = ids(alloc, lambda)?;

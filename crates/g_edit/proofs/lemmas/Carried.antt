@@ -1,6 +1,6 @@
 -- Exit variables of a Gamma that carry one origin in every region go.
-use Rattle.std.proofs.Common.{◌≡◌, ◌≢◌, ℕ, zero, suc, ◌==◌, ◌⊎◌, Bool, true, false, not, ◌&&◌, cond, List, [], ◌∷◌, map, length, Option, None, Some, slice_get, refl, sym, ap, subst, subst₂, ◌∙◌, inl, inr}
-use Rattle.std.specs.Prelude.{option_and_then, is_none, unwrap_or}
+use Rattle.std.proofs.Common.{◌≡◌, ◌≢◌, ℕ, zero, suc, ◌==◌, Bool, true, false, ◌&&◌, cond, List, [], ◌∷◌, map, length, Option, None, Some, slice_get, refl, sym, ap, subst, subst₂, ◌∙◌, inl, inr}
+use Rattle.std.specs.Prelude.{option_and_then, unwrap_or}
 use Rattle.std.proofs.Math.Path.{fun_ext}
 use Rattle.std.proofs.lemmas.Bool.{and_parts, or_parts}
 use Rattle.std.proofs.lemmas.Option.{same_Some}
@@ -23,12 +23,11 @@ use Rattle.g_graph.specs.Replace.{nodes_redirected}
 use Rattle.g_graph.specs.Splice.{joined_nodes}
 use Rattle.g_graph.proofs.lemmas.Indexes.{same_number_true}
 use Rattle.g_graph.proofs.lemmas.Moved.{same_origin_true}
-use Rattle.g_graph.proofs.lemmas.Unique.{same_number}
 use Rattle.g_mean.specs.Data.{Datum, at_port, value_of}
 use Rattle.g_mean.specs.Meaning.{Context, chosen, branched, Outputs, no_outputs, extended, read, region_meaning, node_run, nodes_run, meanings}
 use Rattle.g_mean.specs.LessDefined.{Paired, IsLessDefinedDatum}
 use Rattle.g_mean.specs.Refining.{ContextRefines}
-use Rattle.g_mean.specs.Copies.{IsRead, AreRead, known_after, is_argument}
+use Rattle.g_mean.specs.Copies.{IsRead, known_after, is_argument}
 use Rattle.g_mean.specs.Moves.{ReadLessDefined}
 use Rattle.g_mean.specs.Splices.{CanRedirect}
 use Rattle.g_mean.specs.Edits.{IsPartOf}
@@ -47,8 +46,8 @@ use Rattle.g_edit.specs.Places.{stays_at, kept, place_after}
 use Rattle.g_edit.specs.Exits.{node_giving}
 use Rattle.g_edit.specs.Carried.{outer, all_pass, passed, output_carried, staying, nodes_carrying, exits_carried, CarriedExitsGo, CarriedUsesMove}
 use Rattle.g_edit.specs.InPlace.{redirected_after, outputs_redirected}
-use Rattle.g_edit.proofs.lemmas.Exits.{kept_port, branched_gives, drops}
-use Rattle.g_edit.proofs.lemmas.Invariant.{loops_keep_arguments}
+use Rattle.g_edit.proofs.lemmas.Exits.{kept_port, paired_kept, branched_gives, drops}
+use Rattle.g_edit.proofs.lemmas.Invariant.{given_is, loops_keep_arguments}
 use Rattle.g_edit.proofs.lemmas.Kept.{kept_none}
 use Rattle.g_edit.proofs.lemmas.Parts.{placed_parts_refine}
 use Rattle.g_edit.proofs.lemmas.Placed.{not_before}
@@ -105,9 +104,6 @@ passed_all inputs p (region_then (region args nodes results) rs) o e =
     itself (Arg k) = same_number_true k
     itself (Out n q) = λ i. same_number_true n i && same_number_true q i
 
-given_is : {A : Type 0} (x y : A) (o q : List Event) → Returned x o ≡ Returned y q → x ≡ y
-given_is x y o q e = cc
-
 -- what a region gives of an argument
 region_passes : (c : Context) (args : List Kind) (nodes : NodeTrees) (results : List Origin) (us vs : List Datum) (did : List Event) (p k : ℕ) → slice_get results p ≡ Some (Arg k) →
     region_meaning c (region args nodes results) us ≡ Returned vs did → at_port vs p ≡ at_port us k
@@ -150,14 +146,6 @@ stays_none [] p e = refl
 stays_none (None ∷ cs) zero e = refl
 stays_none (Some o ∷ cs) zero e = absurd cc
 stays_none (c ∷ cs) (suc p) e = stays_none cs p e
-
-paired_kept : (N : Datum → Datum → Type 0) (stays : List Bool) (us vs : List Datum) → Paired N us vs → Paired N (kept stays us) (kept stays vs)
-paired_kept N stays [] [] h = tt
-paired_kept N [] (u ∷ us) (v ∷ vs) h = h
-paired_kept N (true ∷ ts) (u ∷ us) (v ∷ vs) h = (h.0, paired_kept N ts us vs h.1)
-paired_kept N (false ∷ ts) (u ∷ us) (v ∷ vs) h = paired_kept N ts us vs h.1
-paired_kept N stays [] (v ∷ vs) h = absurd h
-paired_kept N stays (u ∷ us) [] h = absurd h
 
 -- ---- the region
 

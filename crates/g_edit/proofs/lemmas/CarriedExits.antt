@@ -1,5 +1,5 @@
 -- A Gamma without exit variables that carry one origin in every region fits in its place.
-use Rattle.std.proofs.Common.{◌≡◌, ℕ, zero, suc, ◌==◌, ◌⊎◌, inl, inr, cond, Option, None, Some, slice_get, Bool, true, false, not, ◌&&◌, ◌||◌, List, [], ◌∷◌, ◌++◌, map, refl, sym, ap, subst, ◌∙◌, arith}
+use Rattle.std.proofs.Common.{◌≡◌, ℕ, zero, suc, ◌==◌, ◌⊎◌, inl, inr, cond, Option, None, Some, slice_get, Bool, true, false, not, ◌&&◌, ◌||◌, List, [], ◌∷◌, map, refl, sym, ap, subst, ◌∙◌, arith}
 use Rattle.std.proofs.lemmas.Bool.{and_parts}
 use Rattle.std.proofs.lemmas.Option.{same_Some}
 use Rattle.g_graph.specs.declared.op.Kind.{Kind}
@@ -9,10 +9,9 @@ use Rattle.g_graph.specs.declared.op.Op.{Op}
 use Rattle.g_graph.specs.declared.op.Origin.{Origin}
 use Rattle.g_graph.specs.declared.op.Origin.TheVariants.{Arg, Out}
 use Rattle.g_graph.specs.Plain.{RegionTree, region, NodeTree, node, NodeTrees, no_nodes, node_then, RegionTrees, no_regions, region_then, id_of, args_of}
-use Rattle.g_graph.specs.Ids.{nodes_ids, regions_ids}
 use Rattle.g_graph.specs.Signatures.{joined, first_args, result_kinds, outputs_of}
 use Rattle.g_graph.specs.Scope.{is_of, known, last_state, last_index, origin_at}
-use Rattle.g_graph.specs.WellFormed.{all_of, some_of, all_regions, are, same, one_state_each, gives, kinds_of, is_origin, is_last, has_its_regions, inputs_fit, inputs_are_last, node_has_one_state_each, regions_fit, theta_has_states, has_its_width, has_its_object, node_fits, nodes_fit, results_are_last, returns_state, region_has_one_state_each, region_fits, every_region, every_in_node, every_in_nodes, every_in_regions}
+use Rattle.g_graph.specs.WellFormed.{all_of, some_of, all_regions, are, same, one_state_each, kinds_of, is_origin, is_last, inputs_are_last, regions_fit, node_fits, nodes_fit, results_are_last, returns_state, region_has_one_state_each, region_fits, every_region, every_in_node, every_in_nodes, every_in_regions}
 use Rattle.g_graph.specs.Replace.{nodes_redirected}
 use Rattle.g_graph.specs.Splice.{joined_nodes}
 use Rattle.g_graph.specs.Lists.{RegionOps, NodesOps}
@@ -27,7 +26,7 @@ use Rattle.g_edit.specs.Carried.{outer, all_pass, passed, output_carried, stayin
 use Rattle.g_edit.proofs.lemmas.Kept.{kept_map, all_kept, IsState, memory, io, states_fewer}
 use Rattle.g_edit.proofs.lemmas.ExitsFit.{first_args_same, gives_kept, ids_same, shape_same, regions_give, exits_are, node_giving_ops}
 use Rattle.g_edit.proofs.lemmas.Placed.{not_before}
-use Rattle.g_edit.proofs.lemmas.Carried.{Outer, outer_is, origin_is, passed_is, passed_all, stays_none, carrying_joined}
+use Rattle.g_edit.proofs.lemmas.Carried.{outer_is, origin_is, passed_is, passed_all, stays_none, carrying_joined}
 use Rattle.g_edit.proofs.lemmas.CarriedFit.{Carries, carried_kept}
 
 -- ---- lists

@@ -1,5 +1,5 @@
 -- A Theta of which values are read where they come from fits in its place.
-use Rattle.std.proofs.Common.{◌≡◌, ℕ, suc, ◌==◌, inl, cond, Option, None, Some, slice_get, Bool, true, false, ◌&&◌, List, [], ◌∷◌, map, refl, sym, ap, subst, ◌∙◌, arith}
+use Rattle.std.proofs.Common.{◌≡◌, ℕ, ◌==◌, inl, cond, Option, Some, slice_get, Bool, true, false, ◌&&◌, List, [], map, refl, sym, ap, subst, ◌∙◌, arith}
 use Rattle.std.proofs.lemmas.Bool.{and_parts}
 use Rattle.std.proofs.lemmas.Option.{same_Some}
 use Rattle.g_graph.specs.declared.op.Kind.{Kind}
@@ -10,7 +10,7 @@ use Rattle.g_graph.specs.declared.op.Origin.{Origin}
 use Rattle.g_graph.specs.Plain.{RegionTree, region, NodeTree, node, NodeTrees, no_nodes, node_then, no_regions, region_then, id_of}
 use Rattle.g_graph.specs.Signatures.{joined}
 use Rattle.g_graph.specs.Scope.{known}
-use Rattle.g_graph.specs.WellFormed.{are, one_state_each, is_last, nodes_fit, results_are_last, returns_state, region_has_one_state_each, region_fits, every_region, every_in_nodes}
+use Rattle.g_graph.specs.WellFormed.{one_state_each, is_last, nodes_fit, results_are_last, returns_state, region_has_one_state_each, region_fits, every_region, every_in_nodes}
 use Rattle.g_graph.specs.Replace.{nodes_redirected}
 use Rattle.g_graph.specs.Splice.{joined_nodes}
 use Rattle.g_graph.specs.Lists.{RegionOps, NodesOps}

@@ -4,7 +4,7 @@ use Rattle.std.specs.Prelude.{◌&&◌, slice_get, slice_set}
 use Rattle.std.proofs.lemmas.Option.{same_Some}
 use Rattle.g_graph.specs.declared.op.Op.{Op}
 use Rattle.g_graph.specs.declared.op.Origin.{Origin}
-use Rattle.g_graph.specs.Plain.{RegionTree, region, NodeTree, node, NodeTrees, no_nodes, node_then, RegionTrees, no_regions, region_then, nodes_of, regions_of, id_of}
+use Rattle.g_graph.specs.Plain.{RegionTree, region, NodeTree, node, NodeTrees, no_nodes, node_then, no_regions, region_then, nodes_of, regions_of, id_of}
 use Rattle.g_graph.specs.Change.{node_index}
 use Rattle.g_graph.specs.Replace.{node_redirected, nodes_redirected}
 use Rattle.g_graph.proofs.lemmas.Redirects.{nodes_of-redirected}
@@ -162,13 +162,13 @@ stay_suc (s ∷ ts) (suc i) t e = stay_suc ts i t e
 pub stay_more : (ts : List Bool) (i : ℕ) (t : Bool) → slice_get ts i ≡ Some t → all_stay (drop i ts) ≡ (t && all_stay (drop (i + 1) ts))
 stay_more ts i t e = rw add-one (stay_suc ts i t e)
 
-take_suc : (ts : List Bool) (i : ℕ) (t : Bool) → slice_get ts i ≡ Some t → take (suc i) ts ≡ take i ts ++ t ∷ []
-take_suc [] i t e = absurd cc
-take_suc (s ∷ ts) zero t e = ap (λ u. u ∷ []) (same_Some s t e)
-take_suc (s ∷ ts) (suc i) t e = ap (λ us. s ∷ us) (take_suc ts i t e)
+take_suc : {X : Type 0} (xs : List X) (i : ℕ) (x : X) → slice_get xs i ≡ Some x → take (suc i) xs ≡ take i xs ++ x ∷ []
+take_suc [] i x e = absurd cc
+take_suc (y ∷ xs) zero x e = ap (λ z. z ∷ []) (same_Some y x e)
+take_suc (y ∷ xs) (suc i) x e = ap (λ ys. y ∷ ys) (take_suc xs i x e)
 
-pub take_get : (ts : List Bool) (i : ℕ) (t : Bool) → slice_get ts i ≡ Some t → take (i + 1) ts ≡ take i ts ++ t ∷ []
-take_get ts i t e = rw add-one (take_suc ts i t e)
+pub take_get : {X : Type 0} (xs : List X) (i : ℕ) (x : X) → slice_get xs i ≡ Some x → take (i + 1) xs ≡ take i xs ++ x ∷ []
+take_get xs i x e = rw add-one (take_suc xs i x e)
 
 -- ---- a Theta with its one region
 
