@@ -22,3 +22,6 @@ pub mod Carried
 pub mod Size
 pub mod Added
 pub mod Steps
+pub mod CarriedFit
+pub mod CarriedExits
+pub mod CarriedUses
