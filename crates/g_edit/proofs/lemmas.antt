@@ -17,4 +17,5 @@ pub mod Shrunk
 pub mod Invariant
 pub mod Size
 pub mod Added
+pub mod AddedFit
 pub mod Steps
