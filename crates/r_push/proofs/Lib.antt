@@ -11,4 +11,6 @@ mod RegionsFit
 mod LeftFit
 mod Resized
 mod Kept
+mod Counted
+mod Saturated
 mod Examples

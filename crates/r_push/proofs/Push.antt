@@ -35,7 +35,7 @@ use Rattle.g_mean.proofs.lemmas.Splices.{joined-known, joined-read, known-among}
 use Rattle.g_edit.specs.Added.{input_added}
 use Rattle.g_edit.specs.Uses.{is_read, is_output_of}
 use Rattle.g_edit.specs.Size.{may_change_size}
-use Rattle.r_push.specs.Rule.{names_argument, leaving, leaving_one, is_invariant, leaving_loop, regions_carried, looped, placed, growth, pushed, pushed_within, nodes_pushed, psh_here}
+use Rattle.r_push.specs.Rule.{names_argument, leaving, leaving_one, is_invariant, leaving_loop, regions_carried, looped, placed, growth, can_count, pushed, pushed_within, nodes_pushed, psh_here}
 use Rattle.r_push.specs.Laws.{PshReplaces, PshKeepsLambdas, PshKeepsPrograms}
 use Rattle.r_push.proofs.Stays.{known-own, region-unread}
 use Rattle.r_push.proofs.Leaving.{Leaves, leaves, Gives, gives-both}
@@ -74,7 +74,7 @@ nodes-changed values n (node_then x ns) ms e = by (pushed_within values n x) ref
         option_or (option_map (λ part. joined_nodes part ns) first) (option_map (node_then x) rest) ≡ Some ms →
         ((js : NodeTrees) → nodes_pushed values n ns ≡ Some js → NodesChanged values n ns js) → NodesChanged values n (node_then x ns) ms
     by (Some two) d rest f h more =
-        let both = within (may_change_size values (growth x) 0) refl d in
+        let both = within (may_change_size values (growth x) 0 && can_count x) refl d in
         record {
           before = no_nodes;
           left = x;
@@ -86,8 +86,8 @@ nodes-changed values n (node_then x ns) ms e = by (pushed_within values n x) ref
           result = sym (same_Some (joined_nodes two ns) ms h);
         }
       where
-        within : (t : Bool) → may_change_size values (growth x) 0 ≡ t → cond t (pushed n x) None ≡ Some two → (may_change_size values (growth x) 0 ≡ true) × (pushed n x ≡ Some two)
-        within true m g = (m, g)
+        within : (t : Bool) → (may_change_size values (growth x) 0 && can_count x) ≡ t → cond t (pushed n x) None ≡ Some two → (may_change_size values (growth x) 0 ≡ true) × (pushed n x ≡ Some two)
+        within true m g = ((and_parts (may_change_size values (growth x) 0) (can_count x) m).0, g)
         within false m g = absurd cc
     by None d (Some js) f h more =
         let at = more js f in
