@@ -19,3 +19,4 @@ pub mod Size
 pub mod Added
 pub mod AddedFit
 pub mod Steps
+pub mod Returns
