@@ -20,3 +20,4 @@ pub mod Added
 pub mod AddedFit
 pub mod Steps
 pub mod Returns
+pub mod Fewer
