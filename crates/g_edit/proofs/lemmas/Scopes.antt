@@ -30,7 +30,7 @@ module _ (gone : Origin → Bool) (objects : ℕ) (args others : List Kind) (f :
       let rest = kept_all bs cs m os unread.1 last.1 in
       (λ i. one.0 i ∷ rest.0 i, λ i. one.1 i && rest.1 i)
 
-  kept_node_fits : (bs cs : NodeTrees) → KeepsScope gone args bs others cs f → (id : ℕ) (op : Op) (inputs : List Origin) (rs : RegionTrees) → some_of gone inputs ≡ false →
+  pub kept_node_fits : (bs cs : NodeTrees) → KeepsScope gone args bs others cs f → (id : ℕ) (op : Op) (inputs : List Origin) (rs : RegionTrees) → some_of gone inputs ≡ false →
       node_fits objects args bs (node id op inputs rs) ≡ true → node_fits objects others cs (node id op (map f inputs) rs) ≡ true
   kept_node_fits bs cs m id op inputs rs u e =
       let x = node id op inputs rs in
