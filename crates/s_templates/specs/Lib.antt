@@ -11,3 +11,4 @@ pub mod Stubs
 pub mod Streams
 pub mod Table
 pub mod Frames
+pub mod Codes

@@ -3,6 +3,7 @@
 
 ghost use Rattle.s_templates.specs.Laws.{FunctionsStand, ItemsAreResolved, ItemsAreCut, WordsStand, WordsAreTheSame};
 ghost use Rattle.s_templates.specs.Branches.{OffsetLeads, JumpIsDone, BranchNotZeroIsDone, BranchZeroIsDone, BranchEqualIsDone, ExitIsDone};
+ghost use Rattle.s_templates.specs.Codes.{CodeIsDone};
 ghost use Rattle.s_templates.specs.Calls.{CallLeads, ReturnLeads};
 ghost use Rattle.s_templates.specs.Frames.{FrameIsTaken, StackIsExceeded, FrameIsGiven};
 ghost use Rattle.s_templates.specs.Memories.{LoadIsDone, StoreIsDone, EqualPointersIsDone, ClearIsDone};
@@ -134,3 +135,13 @@ pub fn frames_are_taken()
 pub fn frames_are_given_back()
     ensures { FrameIsGiven }
 {}
+
+/// The lines of code without calls do on the machine what the code means over places, its choices and
+/// loops included.
+pub fn code_is_done()
+    ensures { CodeIsDone }
+{
+    instructions_are_done();
+    val_core::laws::memory::store_keeps_blocks();
+    val_core::laws::memory::clear_keeps_blocks();
+}

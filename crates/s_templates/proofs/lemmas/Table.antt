@@ -1,5 +1,5 @@
 -- The items of each instruction but a call do what it means: the rows, gathered.
-use Rattle.std.proofs.Common.{◌≡◌, ℕ, ◌+◌, ◌%◌, ◌^◌, ◌<◌, ◌&&◌, Bool, true, IsTrue, List, [], ◌∷◌, ◌++◌, length, slice_index, Option, Some, None, refl, sym, subst, arith}
+use Rattle.std.proofs.Common.{◌≡◌, ℕ, ◌+◌, ◌%◌, ◌^◌, ◌<◌, ◌&&◌, Bool, true, IsTrue, List, [], ◌∷◌, ◌++◌, length, slice_get, slice_index, is_some, nat_lt, Option, Some, None, refl, sym, subst, arith}
 use Rattle.std.specs.Prelude.{All}
 use Rattle.std.proofs.lemmas.Bool.{and_parts, ltb-true}
 use Rattle.val_core.specs.declared.values.Value.{Value}
@@ -62,7 +62,7 @@ module _ (store_is_done : StoreIsDone) (clear_is_done : ClearIsDone) (text : Tex
 
   -- the place of a name is one of the frame's
   below : (x : ℕ) → has_place p x ≡ true → place_at p x < f.places
-  below x e = let less = ltb-true (place_at p x) p.count (and_parts _ _ e).1 in let same = body.count in omega (arith, less, same)
+  below x e = let less : place_at p x < p.count = ltb-true (place_at p x) p.count (and_parts (is_some (slice_get p.of x)) (nat_lt (place_at p x) p.count) e).1 in let same = body.count in omega (arith, less, same)
 
   stands : (code : List isa.Instr) → ItemsStand text addresses labels s.pc (words code) b → CodeStands text s.pc code b
   stands code h = words_stand text addresses labels s.pc b code h
