@@ -84,7 +84,8 @@ module _ (text : Text) (f : Frame) (sizes : ℕ → ℕ) (left : ℕ) (Inv : lin
           let le' = lines-le text addresses labels p os code.0 b tail code.2 in
           let le1 = lines-le text addresses labels p os cut.0 m (branches x (suc r) first (k ∷ ls)) cut.2 in
           let le2 = lines-le text addresses labels p os m n (last_lines (l ∷ k ∷ ls)) final in
-          let branch = branches-equal text addresses labels p os f has q s x w cut.0 (first + r) jumped.0 rep inside word (omega (arith, le1, le2, small)) here.0 (omega (arith, le, low)) r (omega (arith, few)) cut.1 in
+          let branch =
+          branches-equal text addresses labels p os f has q s x w cut.0 (first + r) jumped.0 rep inside word (omega (arith, le1, le2, small)) here.0 (omega (arith, le, low)) r (omega (arith, few)) cut.1 in
           let same : (w == r) ≡ true = eq-eqb w r (omega (arith, sum)) in
           let arrives = subst (λ t. Arrives text f (if t then jumped.0 else cut.0) q s) same branch in
           arrives-outcome text f sizes left Inv jumped.0 b c.bound q s (run q) arrives
@@ -100,7 +101,8 @@ module _ (text : Text) (f : Frame) (sizes : ℕ → ℕ) (left : ℕ) (Inv : lin
           let le = lines-le text addresses labels p os jumped.0 b (l ++ tail) here.1 in
           let le1 = lines-le text addresses labels p os cut.0 m (branches x (suc r) first (k ∷ ls)) cut.2 in
           let le2 = lines-le text addresses labels p os m n (last_lines (l ∷ k ∷ ls)) final in
-          let branch = branches-equal text addresses labels p os f has q s x w cut.0 (first + r) jumped.0 rep inside word (omega (arith, le1, le2, small)) here.0 (omega (arith, le, low)) r (omega (arith, few)) cut.1 in
+          let branch =
+          branches-equal text addresses labels p os f has q s x w cut.0 (first + r) jumped.0 rep inside word (omega (arith, le1, le2, small)) here.0 (omega (arith, le, low)) r (omega (arith, few)) cut.1 in
           let other : (w == r) ≡ false = ne_eqb w r (λ e. omega (arith, sum, e)) in
           let arrives = subst (λ t. Arrives text f (if t then jumped.0 else cut.0) q s) other branch in
           arrives-outcome text f sizes left Inv cut.0 b c.bound q s (chosen v (next ∷ rs) q) arrives

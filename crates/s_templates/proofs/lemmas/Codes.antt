@@ -75,7 +75,8 @@ module _ (text : Text) (f : Frame) (sizes : ℕ → ℕ) (left : ℕ) (Inv : lin
       end : (labels (suc first) ≡ Some jumped.0) × (jumped.0 ≡ b)
       end = label-here text addresses labels p os jumped.0 b (suc first) [] jumped.2
 
-      stands : LoopStands text f sizes left Inv has addresses labels p os c x first inside body (map done back) run (instrs_run c (map (placed_instr (place_at p)) back)) follows (instrs back fit') moved-in.0 b
+      stands : LoopStands text f sizes left Inv has addresses labels p os c x first inside body (map done back) run (instrs_run c (map (placed_instr (place_at p)) back)) follows
+          (instrs back fit') moved-in.0 b
       stands = record {
         body_end = most.0;
         branch_end = branch.0;

@@ -49,7 +49,9 @@ module _ (text : Text) (f : Frame) (sizes : ℕ → ℕ) (left : ℕ) (Inv : lin
 
   -- the place of a predicate is one of the frame's
   pub predicate-below : (x : ℕ) → f.places ≡ p.count → has_place p x ≡ true → place_at p x < f.places
-  predicate-below x same e = let less : place_at p x < p.count = ltb-true (place_at p x) p.count (and_parts (is_some (slice_get p.of x)) (nat_lt (place_at p x) p.count) e).1 in omega (arith, less, same)
+  predicate-below x same e =
+      let less : place_at p x < p.count =
+      ltb-true (place_at p x) p.count (and_parts (is_some (slice_get p.of x)) (nat_lt (place_at p x) p.count) e).1 in omega (arith, less, same)
 
   -- nothing is said where there is no number
   pub on-a-number : (b least : ℕ) (v : Value) (next : ℕ → Answer linear.State) (s : State) (input : List ℕ) → ((w : ℕ) → v ≡ Num w → Out b least (next w) s input)
