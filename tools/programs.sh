@@ -30,7 +30,7 @@ for source in examples/*.c; do
     qemu-riscv32 "$image" <"$input" >"$folder/output"
     [ $? -eq "$status" ] && cmp "$folder/wanted" "$folder/output" || fail "$source differs under qemu-riscv32"
     ./rvcc <"$source" >"$folder/output" || fail "$source is not accepted from standard input"
-    grep -qx 'accepted [0-9]*' "$folder/output" || fail "$source is told as: $(cat "$folder/output")"
+    grep -qx 'accepted [0-9]*' "$folder/output" || fail "$source is reported as: $(cat "$folder/output")"
 
     riscv64-unknown-elf-readelf --wide --file-header --segments "$image" >"$folder/headers" 2>&1 || fail "readelf refused the image of $source"
     grep -qi 'warning\|error' "$folder/headers" && fail "readelf complained of the image of $source"

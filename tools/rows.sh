@@ -1,5 +1,5 @@
 #!/bin/sh
-# Compares the compiler with tables of expected values: refusals, images, words of images, and runs. The tables stand beside the
+# Compares the compiler with tables of expected values: refusals, images, words of images, and runs. The tables stand next to the
 # repository, in ../shared/rows, with the program read.py that reads them; of their values those are compared that need no option
 # of `build`. It prints each difference.
 set -u

@@ -46,7 +46,7 @@ pub enum Step {
     Turn(u32, Act),
     /// Takes in the seat of this worker.
     Join(u32),
-    /// All workers but 0 claim and publish, in four threads, until each is told that all is done.
+    /// All workers but 0 claim and publish, in four threads, until each learns that all is done.
     Finish,
     /// All workers but 0 take and give the board so often, in four threads.
     Idle(u32),
@@ -347,7 +347,7 @@ fn drive<L: Named, R: Threads + Wait + Sync>(
 }
 
 /// Drives a new board by the steps, takes in all seats and closes it. Gives the first step that did
-/// not have the answer beside it, and the board.
+/// not have its answer, and the board.
 pub fn run<R: Threads + Wait + Sync>(
     rt: &R,
     alloc: Global,

@@ -13,7 +13,7 @@ IsByte b = b < 2 ^ 8
 
 -- ---- one character
 
--- A byte, if there is one, with a length beside it.
+-- A byte, if there is one, with a length.
 abbrev GivesByte : Option ℕ → Type 0
 GivesByte o = (b : ℕ) → o ≡ Some b → IsByte b
 

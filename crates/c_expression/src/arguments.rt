@@ -40,7 +40,7 @@ fn some_arguments(state: &mut State, xs: &ExprList) -> Result<Vec<Term>, NoMemor
     more_arguments(state, all, xs.more.as_slice())
 }
 
-// The arguments after commas, behind others.
+// The arguments after commas, after others.
 #[cycle(expression)]
 #[tactic(auto, using(crate::proofs::ListLemmas::grows))]
 fn more_arguments(

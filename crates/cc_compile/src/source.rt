@@ -34,8 +34,9 @@ fn tree_of(alloc: Global, source: &[u8]) -> Result<Unit, CompileFault>
     Ok(parse(alloc, &tokens, source.len() as u32)?)
 }
 
-// The typed program of a source.
-fn typed_of(alloc: Global, source: &[u8]) -> Result<Typed, CompileFault>
+/// The typed program of a source. `Lex`, `Parse` and `Check` come exactly where that phase refuses
+/// the source, with its fault, and `NoMemory` may come in place of any answer.
+pub fn typed_of(alloc: Global, source: &[u8]) -> Result<Typed, CompileFault>
     ensures checked { IfOk result (λ p. Checks source.now p) }
     ensures typed { IfOk result (λ p. IsWellTyped p) }
     ensures limits { IfOk result (λ p. above_limits p ≡ None) }

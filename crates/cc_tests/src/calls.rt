@@ -70,6 +70,6 @@ pub fn called_on(
 }
 
 /// Calls `top` without arguments on an input of these bytes.
-pub fn told_on(alloc: Global, source: &[u8]) -> Result<Left, AllocError> {
+pub fn answered(alloc: Global, source: &[u8]) -> Result<Left, AllocError> {
     called(alloc, &["rvcc"], ("in", b""), source, [&[], &[], &[], &[]])
 }

@@ -1,5 +1,5 @@
 //! Sources that are refused, and the line that is reported, by a build and from the input alike.
-use crate::calls::{BUILD, called_on, told_on};
+use crate::calls::{BUILD, answered, called_on};
 use std::alloc::{AllocError, Global};
 use std::test::Fail;
 
@@ -139,14 +139,14 @@ fn parenthesised(alloc: Global, count: usize) -> Result<Vec<u8>, AllocError> {
 /// Builds this source, and compiles it from the input: both report this line, and leave nothing.
 fn is_refused(alloc: Global, source: &[u8], line: &[u8]) -> Result<bool, AllocError> {
     let built = called_on(alloc, &BUILD, source, &[])?;
-    let told = told_on(alloc, source)?;
+    let given = answered(alloc, source)?;
     Ok(
         built.status == 4
             && built.report.bytes() == line
             && built.files.get("out").is_none()
-            && told.status == 4
-            && told.report.bytes() == line
-            && told.output.bytes().is_empty(),
+            && given.status == 4
+            && given.report.bytes() == line
+            && given.output.bytes().is_empty(),
     )
 }
 
@@ -167,12 +167,12 @@ fn long_and_deep_sources_are_refused(rt: HostRuntime) -> Result<(), Fail> {
         source.resize(count, byte)?;
         assert!(rt; is_refused(alloc, &source, line)?);
     }
-    assert_eq!(rt; told_on(alloc, &parenthesised(alloc, 99)?)?.status, 0);
+    assert_eq!(rt; answered(alloc, &parenthesised(alloc, 99)?)?.status, 0);
     assert!(rt; is_refused(alloc, &parenthesised(alloc, 100)?, TOO_DEEP)?);
     Ok(())
 }
 
-/// What stands in front of a repeated text, that text, how often, what stands behind it, and the
+/// What stands in front of a repeated text, that text, how often, what stands after it, and the
 /// report.
 const LIMITS: [(&[u8], &[u8], usize, &[u8], &[u8]); 2] = [
     (
@@ -222,13 +222,13 @@ fn limits_are_named_with_their_counts(rt: HostRuntime) -> Result<(), Fail> {
         b"65; 65; }",
     )?;
     assert_eq!(rt;
-        told_on(alloc, &most)?.output.bytes(),
+        answered(alloc, &most)?.output.bytes(),
         b"accepted 1\n".as_slice()
     );
     Ok(())
 }
 
-/// So many functions, each in a line, and `main` behind them.
+/// So many functions, each in a line, and `main` after them.
 fn functions(alloc: Global, count: usize) -> Result<Vec<u8>, AllocError> {
     let mut source = Vec::new(alloc);
     for k in 0..count {
@@ -242,7 +242,7 @@ fn functions(alloc: Global, count: usize) -> Result<Vec<u8>, AllocError> {
 #[test]
 fn a_program_has_512_functions_at_most(rt: HostRuntime) -> Result<(), Fail> {
     let alloc = rt.alloc();
-    let most = told_on(alloc, &functions(alloc, 511)?)?;
+    let most = answered(alloc, &functions(alloc, 511)?)?;
     assert_eq!(rt; most.output.bytes(), b"accepted 512\n".as_slice());
     let line = b"refused Limit 42 line 513 which 1 count 513\n";
     assert!(rt; is_refused(alloc, &functions(alloc, 512)?, line)?);

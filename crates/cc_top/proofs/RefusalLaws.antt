@@ -18,7 +18,7 @@ use Rattle.cc_top.specs.Refusal.{refusal_of, refusal_of_text, refusal_of_tokens,
 use Rattle.cc_top.specs.Refused.{AcceptedIsNotRefused, AcceptedOrRefused, IsRefused, OneRefusal}
 use Rattle.cc_top.specs.declared.refusal.Refusal.{Refusal}
 
--- want of memory is no refusal
+-- running out of memory is no refusal
 not_memory : (e : CompileFault) (s : List ℕ) (r : Refusal) → refusal_of e s ≡ Some r → e ≢ fault.NoMemory
 not_memory e s r is same = let none : refusal_of fault.NoMemory s ≡ Some r = subst (λ f. refusal_of f s ≡ Some r) same is in cc
 
@@ -30,7 +30,7 @@ one_refusal law s p q h k =
 pub accepted_is_not_refused : AcceptedHasNoFault → AcceptedIsNotRefused
 accepted_is_not_refused law s p r a h = law s p h.0 (not_memory h.0 s r h.2) a h.1
 
--- ---- each fault but want of memory is a refusal
+-- ---- each fault but `NoMemory` is a refusal
 
 text_told : (s : List ℕ) (e : LexFault) → e ≢ lexer.NoMemory → (r : Refusal) × (refusal_of_text e s ≡ Some r)
 text_told s (lexer.BadByte at) some = (_, refl)

@@ -15,3 +15,10 @@ pub mod Variables
 pub mod VariablesFit
 pub mod Shrunk
 pub mod Invariant
+pub mod InPlace
+pub mod PlacesInPlace
+pub mod Redirected
+pub mod Carried
+pub mod Size
+pub mod Added
+pub mod Steps

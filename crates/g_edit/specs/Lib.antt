@@ -7,3 +7,9 @@ pub mod Entries
 pub mod Variables
 pub mod Parts
 pub mod Laws
+pub mod InPlace
+pub mod Sources
+pub mod Carried
+pub mod Size
+pub mod Added
+pub mod Steps

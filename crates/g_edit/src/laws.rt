@@ -2,6 +2,7 @@
 
 ghost use Rattle.g_edit.specs.Laws.{UnreadNodesGo, UnreadExitsGo, UnreadEntriesGo, UnreadExitsAndEntriesGo, UnreadVariablesGo, LoopsKeepArguments, InvariantUsesMove};
 ghost use Rattle.g_edit.specs.Parts.{PlacedPartsRefine};
+ghost use Rattle.g_edit.specs.Carried.{CarriedExitsGo};
 
 /// A part may come in the place of a node of a region, also one of the node's own number, where it
 /// refines the node as far as its outputs are read.
@@ -33,4 +34,10 @@ pub fn unread_variables_go()
 pub fn invariant_uses_move()
     ensures loops { LoopsKeepArguments }
     ensures uses { InvariantUsesMove }
+{}
+
+/// Exit variables of a Gamma that carry one origin in every region may go, where their uses become
+/// its uses.
+pub fn carried_exits_go()
+    ensures { CarriedExitsGo }
 {}

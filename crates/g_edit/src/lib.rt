@@ -1,13 +1,32 @@
 //! What the rules share: what they ask a region for, and the named edits that their changes are made
-//! of, each with its laws. It stands on g_graph and g_mean.
-//! It promises that an edit gives the defined region, and takes no memory.
+//! of, each with its laws. It stands on g_graph, g_mean and no_memory.
+//! It promises that an edit gives the defined region, and takes no memory; a list of tests does.
 #![tactic(auto)]
 
+mod entries;
+mod exits;
+mod in_place;
 pub mod laws;
 mod lookup;
+mod places;
 mod removal;
+mod size;
+mod source;
+mod stays;
+pub mod steps;
 mod uses;
+mod variables;
 
+pub use entries::keep_entries;
+pub use exits::keep_exits;
+pub use in_place::{NodeEdit, RegionEdit, edit_first, edit_regions, redirect_after};
 pub use lookup::{first_of, same_op, same_origins};
+pub use places::{
+    keep, keep_after_first, keep_inputs, keep_inputs_after_first, place_after, stays_at,
+};
 pub use removal::remove_node;
+pub use size::may_change_size;
+pub use source::{Source, is_source, is_source_among, nodes_use_source, uses_source};
+pub use stays::{Stays, all_stay, are_all_true, list_of};
 pub use uses::{reads_node, replace_used};
+pub use variables::keep_variables;

@@ -4,6 +4,8 @@ pub mod Held
 pub mod Nodes
 pub mod Renamed
 pub mod Choice
+pub mod Choices
+pub mod Targets
 pub mod Unary
 pub mod Comparisons
 pub mod Pointers
@@ -23,8 +25,15 @@ pub mod Turns
 pub mod LoopStatements
 pub mod Scopes
 pub mod Declarations
+pub mod From
+pub mod Selected
+pub mod Segments
+pub mod Switches
 pub mod Objects
 pub mod Begun
 pub mod Induction
+pub mod Blocks
+pub mod Starts
 pub mod Bodies
 pub mod Programs
+pub mod Functions

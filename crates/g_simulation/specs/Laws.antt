@@ -13,6 +13,7 @@ use Rattle.g_construct.specs.Functions.{graph}
 use Rattle.g_mean.specs.Data.{Datum, val, memory, input}
 use Rattle.g_mean.specs.Calls.{lambda_at}
 use Rattle.g_mean.specs.LessDefined.{AreBytes, AreSound}
+use Rattle.g_simulation.specs.Groups.{HasFewGroups}
 
 -- what a lambda takes: its arguments, the memory and the input
 abbrev pub taken : List Value → Blocks → List ℕ → List Datum
@@ -49,6 +50,6 @@ HasMeaning p ls =
     (f : ℕ) (vs : List Value) (m : Blocks) (i : List ℕ) → IsCall p f vs m i → ((n : ℕ) → IsUndefined (call_run p (global_address p) n f vs m i) → ⊥) →
     (n : ℕ) → CallIsKept p ls f vs m i n
 
--- Construction keeps meaning.
+-- Construction keeps the meaning of each well-typed program with few groups in each `switch`.
 abbrev pub ConstructionKeepsMeaning : Type 0
-ConstructionKeepsMeaning = (p : ProgramTree) → IsWellTyped p → HasMeaning p (graph p)
+ConstructionKeepsMeaning = (p : ProgramTree) → IsWellTyped p → HasFewGroups p → HasMeaning p (graph p)

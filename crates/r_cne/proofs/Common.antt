@@ -37,7 +37,7 @@ gives_value id Theta inputs rs e = absurd cc
 
 -- ---- what the op does on these inputs
 
--- the op gives this value, whatever regions are beside it
+-- the op gives this value, whatever regions it has
 pub record GivesValue (c : Context) (op : Op) (us : List Datum) : Type 0 where
   pub value : Value
   pub same : (ms : List Meaning) → act c op ms us ≡ given value

@@ -28,9 +28,9 @@ shared = refl
 swapped : cne_here 2 (sums (Arg 1 ∷ Arg 0 ∷ []) (Out 0 0) (Out 2 0) (Out 3 0)) ≡ None
 swapped = refl
 
--- the equal node stands behind
-behind : cne_here 0 (sums (Arg 0 ∷ Arg 1 ∷ []) (Out 0 0) (Out 2 0) (Out 3 0)) ≡ None
-behind = refl
+-- the equal node stands later
+later : cne_here 0 (sums (Arg 0 ∷ Arg 1 ∷ []) (Out 0 0) (Out 2 0) (Out 3 0)) ≡ None
+later = refl
 
 unused : cne_here 2 (sums (Arg 0 ∷ Arg 1 ∷ []) (Out 0 0) (Out 0 0) (Out 3 0)) ≡ None
 unused = refl

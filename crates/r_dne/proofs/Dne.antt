@@ -34,6 +34,7 @@ use Rattle.g_mean.proofs.lemmas.Edits.{edits_replace}
 use Rattle.g_mean.proofs.lemmas.Exchange.{edits_keep_meaning}
 use Rattle.g_mean.proofs.lemmas.Programs.{programs_keep_meaning}
 use Rattle.g_mean.proofs.lemmas.Replacement.{lambdas_keep_meaning}
+use Rattle.g_edit.specs.InPlace.{all_stay}
 use Rattle.g_edit.specs.Uses.{is_read, is_output_of}
 use Rattle.g_edit.specs.Removal.{region_without}
 use Rattle.g_edit.specs.Exits.{regions_giving, node_giving, output_after, exits_kept}
@@ -47,7 +48,7 @@ use Rattle.g_edit.proofs.lemmas.Removal.{unread_nodes_go, without_kept, without_
 use Rattle.g_edit.proofs.lemmas.Shrunk.{unread_exits_and_entries_go}
 use Rattle.g_edit.proofs.lemmas.Variables.{unread_variables_go}
 use Rattle.g_edit.proofs.lemmas.VariablesFit.{variables_kept_fit, variables_kept_ops}
-use Rattle.r_dne.specs.Rule.{gives_state, is_dead, all_stay, exits_of, entries_of, variables_of, shrunk, eliminated, dne_here, dne}
+use Rattle.r_dne.specs.Rule.{gives_state, is_dead, exits_of, entries_of, variables_of, shrunk, eliminated, dne_here, dne}
 use Rattle.r_dne.specs.Laws.{DneReplaces, DneKeepsLambdas, DneKeepsPrograms, DneKeeps}
 use Rattle.r_dne.proofs.Unused.{exits_are_values, exits_unread, entries_unread, variables_are_values, variables_unread, loop_unread}
 

@@ -1,3 +1,4 @@
 mod Unused
 mod Dne
 mod Examples
+mod Tests

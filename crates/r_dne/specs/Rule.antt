@@ -12,6 +12,7 @@ use Rattle.g_graph.specs.Scope.{same_kind, is_of, same_origin}
 use Rattle.g_graph.specs.WellFormed.{some_of}
 use Rattle.g_graph.specs.Change.{region_changed, lambda_changed}
 use Rattle.g_graph.specs.Nodes.{node_at, nodes_use, is_used}
+use Rattle.g_edit.specs.InPlace.{all_stay}
 use Rattle.g_edit.specs.Uses.{is_read, is_output_of}
 use Rattle.g_edit.specs.Removal.{region_without}
 use Rattle.g_edit.specs.Exits.{regions_giving, exits_kept}
@@ -25,11 +26,6 @@ gives_state x = some_of (is_of Memory) (output_kinds x) || some_of (is_of Io) (o
 
 abbrev pub is_dead : RegionTree → NodeTree → Bool
 is_dead r x = not (gives_state x || is_read (is_output_of (id_of x)) r)
-
--- whether all variables stay
-abbrev pub all_stay : List Bool → Bool
-all_stay [] = true
-all_stay (t ∷ ts) = t && all_stay ts
 
 -- ---- a Gamma
 
@@ -65,6 +61,10 @@ abbrev pub others_use : (own : ℕ) → Origin → List Origin → Bool
 others_use own o [] = false
 others_use zero o (a ∷ os) = some_of (same_origin o) os
 others_use (suc k) o (a ∷ os) = same_origin o a || others_use k o os
+
+-- something else than its own result uses the argument of a loop variable; the first result is the predicate
+abbrev pub argument_used : ℕ → RegionTree → Bool
+argument_used k (region own nodes outs) = nodes_use (Arg k) nodes || others_use (suc k) (Arg k) outs
 
 -- Of the loop variables of node n, of these kinds and from a first one on, states stay, and values whose output is used,
 -- or whose argument something else than its own result uses. The first result is the predicate.

@@ -138,7 +138,7 @@ fn the_first_of_three_is_taken(rt: HostRuntime) -> Result<(), Fail> {
     let row = (before.as_slice(), n(4), M);
     let wanted = (third.as_slice(), n(4), M);
     assert!(rt; is_changed(alloc, row, 3, Some(wanted))?);
-    // an equal node behind is not taken, nor one without uses, nor a number that is not there
+    // an equal later node is not taken, nor one without uses, nor a number that is not there
     for (node, lines) in [(5, before), (3, third), (9, before)] {
         assert!(rt; is_changed(alloc, (lines.as_slice(), n(4), M), node, None)?);
     }

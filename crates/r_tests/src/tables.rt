@@ -4,13 +4,16 @@ use no_memory::NoMemory;
 use smallvec::SmallVec;
 use std::alloc::Global;
 
-/// Two values among the arguments of a body, and both its states.
+/// The first argument of a lambda.
 pub const A: Origin = Origin::Arg(0);
 
+/// The second argument of a lambda.
 pub const B: Origin = Origin::Arg(1);
 
+/// The memory of a lambda with two parameters.
 pub const M: Origin = Origin::Arg(2);
 
+/// The input and output of a lambda with two parameters.
 pub const I: Origin = Origin::Arg(3);
 
 /// The arguments of a body with two parameters.
@@ -85,4 +88,20 @@ pub fn nested(alloc: Global, first: Region, second: Region) -> Result<Region, No
         regions: Vec::from_array(alloc, [first, second])?,
     })?;
     Ok(body)
+}
+
+/// A node with regions; `NoMemory` as for `node`.
+pub fn nest(
+    alloc: Global,
+    id: u32,
+    op: Op,
+    inputs: &[Origin],
+    regions: Vec<Region>,
+) -> Result<Node, NoMemory> {
+    Ok(Node {
+        id,
+        op,
+        inputs: SmallVec::from_slice(alloc, inputs)?,
+        regions,
+    })
 }

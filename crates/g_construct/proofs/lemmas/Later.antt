@@ -1,9 +1,9 @@
 -- Construction keeps the variables that are carried, and numbers only grow.
-use Rattle.std.proofs.Common.{◌≡◌, ◌≤◌, ℕ, zero, suc, List, [], ◌∷◌, ◌++◌, refl, sym, ap, ◌∙◌, arith}
+use Rattle.std.proofs.Common.{◌≡◌, ◌≤◌, ℕ, zero, suc, List, [], ◌∷◌, ◌++◌, Some, refl, sym, ap, ◌∙◌, arith}
 use Rattle.g_graph.specs.declared.op.Origin.{Origin}
 use Rattle.g_graph.specs.declared.op.Origin.TheVariants.{Arg, Out}
 use Rattle.g_graph.specs.declared.op.Op.{Op}
-use Rattle.g_construct.specs.Writer.{SlotOrigin, held, object, hidden, variable_set, without_newest, straight, jumping, Carried, numbered, with_last, renamed, beyond, Point, with_variables, pushed, popped, Built, bind, one_node, Extra, inside, regions_made, choices, choice, choice_one_first, repeat}
+use Rattle.g_construct.specs.Writer.{SlotOrigin, held, object, hidden, variable_set, newest, without_newest, straight, jumping, Carried, numbered, with_last, renamed, beyond, Point, with_variables, pushed, popped, Built, bind, one_node, Extra, inside, regions_made, choices, choice, choice_one_first, repeat}
 use Rattle.g_construct.specs.Laws.{shape, Later}
 
 abbrev pub Keeps : {A : Type 0} → (Point → Built A) → Type 0

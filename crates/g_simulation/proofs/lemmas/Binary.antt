@@ -1,5 +1,5 @@
 -- Operations on two operands, of compound assignments, and of `++` and `--`.
-use Rattle.std.proofs.Common.{◌≡◌, ◌<◌, ℕ, List, [], ◌^◌, refl, sym, ◌∙◌, subst}
+use Rattle.std.proofs.Common.{◌≡◌, ℕ, List, [], refl, sym, ◌∙◌, subst}
 use Rattle.std.specs.Prelude.{Bool, true, false, cond, Some, None}
 use Rattle.val_core.specs.declared.values.Value.{Value}
 use Rattle.val_core.specs.declared.values.Value.TheVariants.{Num, At, Bad}
@@ -32,11 +32,6 @@ use Rattle.g_simulation.proofs.lemmas.Nodes.{Values, Line, with-const, bin-line}
 use Rattle.g_simulation.proofs.lemmas.Unary.{some-inj, integer-scalar, promoted-scalar}
 use Rattle.g_simulation.proofs.lemmas.Comparisons.{arithmetic-line, arithmetic-sim, compared-sim}
 use Rattle.g_simulation.proofs.lemmas.Pointers.{pointer-moved-line, pointer-moved-sim, stepped-line, difference-sim}
-
--- the size of the elements of a difference is a word
-abbrev pub HasWordSize : BinaryOp → Type 0
-HasWordSize (binary_op.PointerDifference n) = n < 2 ^ 32
-HasWordSize k = Unit {0}
 
 -- ---- operands have values
 
@@ -99,20 +94,20 @@ operand-scalar defs (compound_op.PointerMinus n) t v i = integer-scalar v i.1
 
 module _ (w : Direction) (d : Context) (f : Frame) (flow : Flow) (c : IsSoundContext d) (xs : List Datum) (o : Outputs) (t : IsSoundRun xs o) (s : Point) (q : State)
     (h : Holds f flow (read xs o) s.next s.carried q) where
-  binary-held : (defs : Definitions) (k : BinaryOp) (to u v : TypeTree) → BinaryFits defs k to u v → HasWordSize k → (p r : Origin) (a b : Value) → Held (read xs o) s.next a p →
+  binary-held : (defs : Definitions) (k : BinaryOp) (to u v : TypeTree) → BinaryFits defs k to u v → (p r : Origin) (a b : Value) → Held (read xs o) s.next a p →
       Held (read xs o) s.next b r → Simulates w d (Values f flow) xs o s.next (binary_made k u p r s) (binary_done k u v a b q)
-  binary-held defs (binary_op.Arithmetic k) to u v i words p r a b g g' = arithmetic-sim w d f flow c xs o t s q h k p r a b g g'
-  binary-held defs (binary_op.Compare k) to u v i words p r a b g g' = compared-sim w d f flow c xs o t s q h k u p r a b i.1 g g'
-  binary-held defs (binary_op.PointerPlus n) to u v i words p r a b g g' = pointer-moved-sim w d f flow c xs o t s q h true n v p r a b g g'
-  binary-held defs (binary_op.IntegerPlus n) to u v i words p r a b g g' = pointer-moved-sim w d f flow c xs o t s q h true n u r p b a g' g
-  binary-held defs (binary_op.PointerMinus n) to u v i words p r a b g g' = pointer-moved-sim w d f flow c xs o t s q h false n v p r a b g g'
-  binary-held defs (binary_op.PointerDifference n) to u v i words p r a b g g' = difference-sim w d f flow c xs o t s q h p r n a b words g g'
+  binary-held defs (binary_op.Arithmetic k) to u v i p r a b g g' = arithmetic-sim w d f flow c xs o t s q h k p r a b g g'
+  binary-held defs (binary_op.Compare k) to u v i p r a b g g' = compared-sim w d f flow c xs o t s q h k u p r a b i.1 g g'
+  binary-held defs (binary_op.PointerPlus n) to u v i p r a b g g' = pointer-moved-sim w d f flow c xs o t s q h true n v p r a b g g'
+  binary-held defs (binary_op.IntegerPlus n) to u v i p r a b g g' = pointer-moved-sim w d f flow c xs o t s q h true n u r p b a g' g
+  binary-held defs (binary_op.PointerMinus n) to u v i p r a b g g' = pointer-moved-sim w d f flow c xs o t s q h false n v p r a b g g'
+  binary-held defs (binary_op.PointerDifference n) to u v i p r a b g g' = difference-sim w d f flow c xs o t s q h p r n a b g g'
 
-  pub binary-sim : (defs : Definitions) (k : BinaryOp) (to u v : TypeTree) → BinaryFits defs k to u v → HasWordSize k → (p r : Origin) (a b : Value) → Held (read xs o) s.next (shown u a) p →
+  pub binary-sim : (defs : Definitions) (k : BinaryOp) (to u v : TypeTree) → BinaryFits defs k to u v → (p r : Origin) (a b : Value) → Held (read xs o) s.next (shown u a) p →
       Held (read xs o) s.next (shown v b) r → Simulates w d (Values f flow) xs o s.next (binary_made k u p r s) (binary_done k u v a b q)
-  binary-sim defs k to u v i words p r a b g g' =
+  binary-sim defs k to u v i p r a b g g' =
       let scalars = operands-scalar defs k to u v i in
-      binary-held defs k to u v i words p r a b (shown-held (read xs o) s.next u a p scalars.0 g) (shown-held (read xs o) s.next v b r scalars.1 g')
+      binary-held defs k to u v i p r a b (shown-held (read xs o) s.next u a p scalars.0 g) (shown-held (read xs o) s.next v b r scalars.1 g')
 
   pub compound-line : (k : CompoundOp) (u : TypeTree) (p r : Origin) (a b v : Value) → Held (read xs o) s.next a p → Held (read xs o) s.next b r → compound_done k u a b q ≡ Some v →
       Simulates w d (Line f flow q v) xs o s.next (compound_made k p r s) (Returned tt [])

@@ -16,7 +16,7 @@ use Rattle.c_mean.specs.Statements.{normal, returned, Flowed, flows, goes_on, if
 use Rattle.c_mean.specs.Run.{value_at_end}
 use Rattle.g_graph.specs.declared.op.Origin.{Origin}
 use Rattle.g_graph.specs.Plain.{nodes_of}
-use Rattle.g_construct.specs.Writer.{Form, straight, jumping, Point, Built, bind, given, nothing, with_jumps}
+use Rattle.g_construct.specs.Writer.{straight, jumping, Point, Built, bind, given, nothing, with_jumps}
 use Rattle.g_construct.specs.Operations.{const_made, undef_made}
 use Rattle.g_construct.specs.Expressions.{expr_made}
 use Rattle.g_construct.specs.Exits.{stmt_jumps, is_return, some_items, items_jump}

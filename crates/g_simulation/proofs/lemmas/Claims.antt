@@ -6,7 +6,7 @@ use Rattle.val_core.specs.Memory.{Memory as Blocks}
 use Rattle.val_core.specs.Refinement.{Direction, Forward, Backward, exactly, Refines}
 use Rattle.val_core.specs.Answers.{Answer, then_on}
 use Rattle.c_type.specs.Trees.{TypeTree}
-use Rattle.c_typed.specs.Typed.{ExprTree, expr, FormTree, constant, read, address, unary, binary, logical_and, logical_or, conditional, comma, assign, compound, inc_dec, call, get, ExprTrees, no_exprs, expr_then, PlaceTree, place, PlaceFormTree, local, global, at, member}
+use Rattle.c_typed.specs.Typed.{ExprTree}
 use Rattle.c_typed.specs.WellTyped.{Signature, AreScalar, type_of}
 use Rattle.c_mean.specs.State.{State, Valued}
 use Rattle.c_mean.specs.Expressions as source
@@ -21,7 +21,6 @@ use Rattle.g_simulation.proofs.lemmas.Readings.{IsBelow, IsSoundContext}
 use Rattle.g_simulation.proofs.lemmas.Toolbox.{Post}
 use Rattle.g_simulation.proofs.lemmas.Held.{shown, Frame, Holds}
 use Rattle.g_simulation.proofs.lemmas.Choice.{After, OneValue}
-use Rattle.g_simulation.proofs.lemmas.Binary.{HasWordSize}
 use Rattle.g_simulation.proofs.lemmas.Tests.{Decided, decided}
 
 -- The graph counts the last look at the condition of a loop as a turn, so forwards it has one turn more.
@@ -59,38 +58,3 @@ AreGiven f flow count y rd t ps = Holds f flow rd t.next t.carried y.state × Al
 -- a condition
 abbrev pub test_run : source.Context → ExprTree → State → Answer Decided
 test_run c e q = then_on (expr_run c e q) (decided (type_of e))
-
--- ---- the sizes of elements of differences are words
-
-abbrev mutual
-  pub DividesByWords : ExprTree → Type 0
-  DividesByWords (expr t f) = FormDividesByWords f
-
-  pub FormDividesByWords : FormTree → Type 0
-  FormDividesByWords (constant n) = Unit {0}
-  FormDividesByWords (read p) = PlaceDividesByWords p
-  FormDividesByWords (address p) = PlaceDividesByWords p
-  FormDividesByWords (unary o e) = DividesByWords e
-  FormDividesByWords (binary o a b) = HasWordSize o × DividesByWords a × DividesByWords b
-  FormDividesByWords (logical_and a b) = DividesByWords a × DividesByWords b
-  FormDividesByWords (logical_or a b) = DividesByWords a × DividesByWords b
-  FormDividesByWords (conditional d a b) = DividesByWords d × DividesByWords a × DividesByWords b
-  FormDividesByWords (comma es e) = AllDivideByWords es × DividesByWords e
-  FormDividesByWords (assign p e) = PlaceDividesByWords p × DividesByWords e
-  FormDividesByWords (compound o p e) = PlaceDividesByWords p × DividesByWords e
-  FormDividesByWords (inc_dec i p) = PlaceDividesByWords p
-  FormDividesByWords (call k es) = AllDivideByWords es
-  FormDividesByWords get = Unit {0}
-
-  pub AllDivideByWords : ExprTrees → Type 0
-  AllDivideByWords no_exprs = Unit {0}
-  AllDivideByWords (expr_then e es) = DividesByWords e × AllDivideByWords es
-
-  pub PlaceDividesByWords : PlaceTree → Type 0
-  PlaceDividesByWords (place t f) = PlaceFormDividesByWords f
-
-  pub PlaceFormDividesByWords : PlaceFormTree → Type 0
-  PlaceFormDividesByWords (local k) = Unit {0}
-  PlaceFormDividesByWords (global k) = Unit {0}
-  PlaceFormDividesByWords (at e) = DividesByWords e
-  PlaceFormDividesByWords (member p n) = PlaceDividesByWords p

@@ -21,7 +21,7 @@ use Rattle.g_simulation.proofs.lemmas.Held.{Frame, shown-held}
 use Rattle.g_simulation.proofs.lemmas.Nodes.{delta-line}
 use Rattle.g_simulation.proofs.lemmas.Unary.{used-there}
 use Rattle.g_simulation.proofs.lemmas.Places.{Places, address-line, slot-spot-sim, member-spot-sim}
-use Rattle.g_simulation.proofs.lemmas.Claims.{ContextsFit, Typed, DividesByWords, FormDividesByWords, AllDivideByWords, PlaceDividesByWords}
+use Rattle.g_simulation.proofs.lemmas.Claims.{ContextsFit, Typed}
 use Rattle.g_simulation.proofs.lemmas.Calls.{get-sim}
 use Rattle.g_simulation.proofs.lemmas.Forms.{ExprClaim, FormClaim, TestClaim, PlaceClaim, DroppedClaim, ArgumentsClaim, typed-of, constant-form, read-form, address-form, unary-form, binary-form, test-form, and-form, or-form, conditional-form, no-dropped, dropped-then, comma-form, no-arguments, arguments-then, call-form}
 use Rattle.g_simulation.proofs.lemmas.Assignments.{assign-form, compound-form, inc-dec-form}
@@ -64,41 +64,41 @@ module _ (w : Direction) (g : Scope) (c : source.Context) (d : Context) (fit : C
   -- ---- the induction
 
   mutual
-    pub expr-sim : (e : ExprTree) → ExprIsTyped g e → DividesByWords e → ExprClaim w g.functions c d fit f flow e
-    expr-sim (expr t e) h k = form-sim t e h k
+    pub expr-sim : (e : ExprTree) → ExprIsTyped g e → ExprClaim w g.functions c d fit f flow e
+    expr-sim (expr t e) h = form-sim t e h
 
-    pub form-sim : (t : TypeTree) (e : FormTree) → FormIsTyped g t e → FormDividesByWords e → FormClaim w g.functions c d fit f flow t e
-    form-sim t (constant n) h k = constant-form w g.functions c d fit f flow t n h.1
-    form-sim t (read p) h k = read-form w g.functions c d fit f flow t p (place-sim p h.0 k)
-    form-sim t (address p) h k = address-form w g.functions c d fit f flow t p (place-sim p h.0 k)
-    form-sim t (unary o e) h k = unary-form w g.functions c d fit f flow t o e h.1 (expr-sim e h.0 k)
-    form-sim t (binary o a b) h k = binary-form w g.functions c d fit f flow g.structs t o a b h.2 k.0 (expr-sim a h.0 k.1) (expr-sim b h.1 k.2)
-    form-sim t (logical_and a b) h k = and-form w g.functions c d fit f flow t a b (test-sim a h.0 h.2 k.0) (test-sim b h.1 h.3 k.1)
-    form-sim t (logical_or a b) h k = or-form w g.functions c d fit f flow t a b (test-sim a h.0 h.2 k.0) (test-sim b h.1 h.3 k.1)
-    form-sim t (conditional e a b) h k =
-        conditional-form w g.functions c d fit f flow t e a b (test-sim e h.0 h.3 k.0) h.4 h.5 (expr-sim a h.1 k.1) (expr-sim b h.2 k.2)
-    form-sim t (comma es e) h k = comma-form w g.functions c d fit f flow t es e h.2 (dropped-sim es h.0 k.0) (expr-sim e h.1 k.1)
-    form-sim t (assign p e) h k = assign-form w g.functions c d fit f flow t p e (subst IsScalar (sym h.3) h.4) (place-sim p h.0 k.0) (expr-sim e h.1 k.1)
-    form-sim t (compound o p e) h k = compound-form w g.functions c d fit f flow g.structs t o p e h.3 (place-sim p h.0 k.0) (expr-sim e h.1 k.1)
-    form-sim t (inc_dec i p) h k = inc-dec-form w g.functions c d fit f flow g.structs t i p h.2 (place-sim p h.0 k)
-    form-sim t (call n es) h k =
-        call-form w g.functions c d fit f flow t n es h.1.callee h.1.there h.1.takes (arguments-sim es h.0 k (subst AreScalar (sym h.1.takes) (fit.scalars n h.1.callee h.1.there)))
-    form-sim t get h k = get-form t
+    pub form-sim : (t : TypeTree) (e : FormTree) → FormIsTyped g t e → FormClaim w g.functions c d fit f flow t e
+    form-sim t (constant n) h = constant-form w g.functions c d fit f flow t n h.1
+    form-sim t (read p) h = read-form w g.functions c d fit f flow t p (place-sim p h.0)
+    form-sim t (address p) h = address-form w g.functions c d fit f flow t p (place-sim p h.0)
+    form-sim t (unary o e) h = unary-form w g.functions c d fit f flow t o e h.1 (expr-sim e h.0)
+    form-sim t (binary o a b) h = binary-form w g.functions c d fit f flow g.structs t o a b h.2 (expr-sim a h.0) (expr-sim b h.1)
+    form-sim t (logical_and a b) h = and-form w g.functions c d fit f flow t a b (test-sim a h.0 h.2) (test-sim b h.1 h.3)
+    form-sim t (logical_or a b) h = or-form w g.functions c d fit f flow t a b (test-sim a h.0 h.2) (test-sim b h.1 h.3)
+    form-sim t (conditional e a b) h =
+        conditional-form w g.functions c d fit f flow t e a b (test-sim e h.0 h.3) h.4 h.5 (expr-sim a h.1) (expr-sim b h.2)
+    form-sim t (comma es e) h = comma-form w g.functions c d fit f flow t es e h.2 (dropped-sim es h.0) (expr-sim e h.1)
+    form-sim t (assign p e) h = assign-form w g.functions c d fit f flow t p e (subst IsScalar (sym h.3) h.4) (place-sim p h.0) (expr-sim e h.1)
+    form-sim t (compound o p e) h = compound-form w g.functions c d fit f flow g.structs t o p e h.3 (place-sim p h.0) (expr-sim e h.1)
+    form-sim t (inc_dec i p) h = inc-dec-form w g.functions c d fit f flow g.structs t i p h.2 (place-sim p h.0)
+    form-sim t (call n es) h =
+        call-form w g.functions c d fit f flow t n es h.1.callee h.1.there h.1.takes (arguments-sim es h.0 (subst AreScalar (sym h.1.takes) (fit.scalars n h.1.callee h.1.there)))
+    form-sim t get h = get-form t
 
-    pub test-sim : (e : ExprTree) → ExprIsTyped g e → IsScalar (type_of e) → DividesByWords e → TestClaim w g.functions c d fit f flow e
-    test-sim (expr t e) h scalar k = test-form w g.functions c d fit f flow t e scalar (form-sim t e h k)
+    pub test-sim : (e : ExprTree) → ExprIsTyped g e → IsScalar (type_of e) → TestClaim w g.functions c d fit f flow e
+    test-sim (expr t e) h scalar = test-form w g.functions c d fit f flow t e scalar (form-sim t e h)
 
-    dropped-sim : (es : ExprTrees) → ExprsAreTyped g es → AllDivideByWords es → DroppedClaim w g.functions c d fit f flow es
-    dropped-sim no_exprs h k = no-dropped w g.functions c d fit f flow
-    dropped-sim (expr_then e es) h k = dropped-then w g.functions c d fit f flow e es (expr-sim e h.0 k.0) (dropped-sim es h.1 k.1)
+    dropped-sim : (es : ExprTrees) → ExprsAreTyped g es → DroppedClaim w g.functions c d fit f flow es
+    dropped-sim no_exprs h = no-dropped w g.functions c d fit f flow
+    dropped-sim (expr_then e es) h = dropped-then w g.functions c d fit f flow e es (expr-sim e h.0) (dropped-sim es h.1)
 
-    arguments-sim : (es : ExprTrees) → ExprsAreTyped g es → AllDivideByWords es → AreScalar (types_of es) → ArgumentsClaim w g.functions c d fit f flow es
-    arguments-sim no_exprs h k scalars = no-arguments w g.functions c d fit f flow
-    arguments-sim (expr_then e es) h k scalars =
-        arguments-then w g.functions c d fit f flow e es scalars.0 (expr-sim e h.0 k.0) (arguments-sim es h.1 k.1 scalars.1)
+    arguments-sim : (es : ExprTrees) → ExprsAreTyped g es → AreScalar (types_of es) → ArgumentsClaim w g.functions c d fit f flow es
+    arguments-sim no_exprs h scalars = no-arguments w g.functions c d fit f flow
+    arguments-sim (expr_then e es) h scalars =
+        arguments-then w g.functions c d fit f flow e es scalars.0 (expr-sim e h.0) (arguments-sim es h.1 scalars.1)
 
-    pub place-sim : (p : PlaceTree) → PlaceIsTyped g p → PlaceDividesByWords p → PlaceClaim w g.functions c d fit f flow p
-    place-sim (place t (local n)) h k = local-place t n (slot-below g.slots n h.0 h.1)
-    place-sim (place t (global n)) h k = global-place t n
-    place-sim (place t (at e)) h k = at-place t e h.1 (expr-sim e h.0 k)
-    place-sim (place t (member p n)) h k = member-place t p n (place-sim p h.0 k)
+    pub place-sim : (p : PlaceTree) → PlaceIsTyped g p → PlaceClaim w g.functions c d fit f flow p
+    place-sim (place t (local n)) h = local-place t n (slot-below g.slots n h.0 h.1)
+    place-sim (place t (global n)) h = global-place t n
+    place-sim (place t (at e)) h = at-place t e h.1 (expr-sim e h.0)
+    place-sim (place t (member p n)) h = member-place t p n (place-sim p h.0)

@@ -32,7 +32,7 @@ use Rattle.g_simulation.proofs.lemmas.Nodes.{Values, Line, of-line, const-line, 
 use Rattle.g_simulation.proofs.lemmas.Choice.{OneValue, ExtraGives, one_value-gives, void_value-gives}
 use Rattle.g_simulation.proofs.lemmas.Unary.{used-there, Tests, condition-line, unary-sim}
 use Rattle.g_simulation.proofs.lemmas.Places.{Places, spot-address-sim, spot-read-sim}
-use Rattle.g_simulation.proofs.lemmas.Binary.{HasWordSize, binary-sim}
+use Rattle.g_simulation.proofs.lemmas.Binary.{binary-sim}
 use Rattle.g_simulation.proofs.lemmas.Tests.{Decided, decided, ways, branched-decides, Decides, ways-sim}
 use Rattle.g_simulation.proofs.lemmas.Claims.{ContextsFit, Typed, States, AreGiven, test_run}
 use Rattle.g_simulation.proofs.lemmas.Calls.{apply-sim}
@@ -102,14 +102,14 @@ module _ (w : Direction) (functions : List Signature) (c : source.Context) (d : 
       (claim xs o r s q h)
       (λ y o' r' m. unary-sim w d f flow fit.sound xs o' r' (expr_made e s).after y.state m.post.0 k t (type_of e) fits (expr_made e s).value y.value m.post.1))
 
-  pub binary-form : (defs : Definitions) (t : TypeTree) (k : BinaryOp) (a b : ExprTree) → BinaryFits defs k t (type_of a) (type_of b) → HasWordSize k → ExprClaim a → ExprClaim b → FormClaim t (binary k a b)
-  binary-form defs t k a b fits words ca cb xs o r s q h =
+  pub binary-form : (defs : Definitions) (t : TypeTree) (k : BinaryOp) (a b : ExprTree) → BinaryFits defs k t (type_of a) (type_of b) → ExprClaim a → ExprClaim b → FormClaim t (binary k a b)
+  binary-form defs t k a b fits ca cb xs o r s q h =
       typed-of t xs o s.next (form_made t (binary k a b) s) (form_run c t (binary k a b) q)
       (sim-bind w d fit.sound (Typed f flow (type_of a)) (Values f flow) xs o s.next r first (λ x u. bind (expr_made b u) (binary_made k (type_of a) x)) (expr_run c a q)
       (λ x. then_on (expr_run c b x.state) (λ y. binary_done k (type_of a) (type_of b) x.value y.value y.state)) (ca xs o r s q h) (λ x o' r' m.
       sim-bind w d fit.sound (Typed f flow (type_of b)) (Values f flow) xs o' first.after.next r' second (binary_made k (type_of a) first.value) (expr_run c b x.state)
       (λ y. binary_done k (type_of a) (type_of b) x.value y.value y.state) (cb xs o' r' first.after x.state m.post.0) (λ y o'' r'' m'.
-      binary-sim w d f flow fit.sound xs o'' r'' second.after y.state m'.post.0 defs k t (type_of a) (type_of b) fits words first.value second.value x.value y.value
+      binary-sim w d f flow fit.sound xs o'' r'' second.after y.state m'.post.0 defs k t (type_of a) (type_of b) fits first.value second.value x.value y.value
       (held-after (Typed f flow (type_of b)) xs o' first.after.next second y o'' m' (shown (type_of a) x.value) first.value m.post.1) m'.post.1)))
     where
       first : Built Origin

@@ -1,5 +1,5 @@
 -- A statement ends in no way but those that its jumps allow: one without jumps that leave it ends normally.
-use Rattle.std.proofs.Common.{◌≡◌, ℕ, zero, suc, List, [], ◌∷◌, refl}
+use Rattle.std.proofs.Common.{◌≡◌, ℕ, zero, suc, List, [], ◌∷◌, refl, sym, ◌∙◌}
 use Rattle.std.specs.Prelude.{◌-◌, Bool, true, false, cond, ◌||◌, Option, None, Some, slice_get, length}
 use Rattle.std.proofs.lemmas.Bool.{or_left, or_right}
 use Rattle.val_core.specs.declared.values.Value.{Value}
@@ -40,7 +40,7 @@ gives-any (Exited o s) = tt
 gives-any (Undefined o) = tt
 
 -- whatever is done first
-after-any : {A B : Type 0} → (P : B → Type 0) (a : Answer A) (next : A → Answer B) → ((x : A) → Gives P (next x)) → Gives P (then_on a next)
+pub after-any : {A B : Type 0} → (P : B → Type 0) (a : Answer A) (next : A → Answer B) → ((x : A) → Gives P (next x)) → Gives P (then_on a next)
 after-any P a next go = gives-then (λ _. Unit {0}) P a next (gives-any a) (λ x h. go x)
 
 branched-gives : {A : Type 0} → (P : A → Type 0) (t : TypeTree) (v : Value) (a b : Answer A) → Gives P a → Gives P b → Gives P (branched t v a b)
@@ -51,7 +51,7 @@ branched-gives P t v a b h k = by (truth t v)
     by (Some true) = h
     by (Some false) = k
 
-used-gives : {A : Type 0} → (P : A → Type 0) (v : Value) (next : Value → Answer A) → ((u : Value) → Gives P (next u)) → Gives P (used v next)
+pub used-gives : {A : Type 0} → (P : A → Type 0) (v : Value) (next : Value → Answer A) → ((u : Value) → Gives P (next u)) → Gives P (used v next)
 used-gives P (Num n) next go = go (Num n)
 used-gives P (At b o) next go = go (At b o)
 used-gives P Bad next go = tt
@@ -120,7 +120,7 @@ past-switched e x h = by x.flow h
 
 -- ---- statements
 
-abbrev AllEndBy : Exits → List (State → Answer Flowed) → Type 0
+abbrev pub AllEndBy : Exits → List (State → Answer Flowed) → Type 0
 AllEndBy e [] = Unit {0}
 AllEndBy e (r ∷ rs) = ((s : State) → EndsBy e (r s)) × AllEndBy e rs
 
@@ -130,7 +130,7 @@ if-normal-ends e broke s next h go = h
 if-normal-ends e continued s next h go = h
 if-normal-ends e (returned v) s next h go = h
 
-groups-done-end : (e : Exits) (n : ℕ) (rs : List (State → Answer Flowed)) → AllEndBy e rs → (s : State) → EndsBy e (groups_done n rs s)
+pub groups-done-end : (e : Exits) (n : ℕ) (rs : List (State → Answer Flowed)) → AllEndBy e rs → (s : State) → EndsBy e (groups_done n rs s)
 groups-done-end e n [] h s = tt
 groups-done-end e (suc n) (r ∷ rs) h s = groups-done-end e n rs h.1 s
 groups-done-end e zero (r ∷ rs) h s =
@@ -184,7 +184,7 @@ module _ (c : Context) (vs : List VariableTree) where
         after-any (λ x. Allows (items_exits is) x.flow) (declared c vs d.variable (slice_get vs d.variable) d.initial s) (λ t. then_on (items_run c vs is t) (out_of_scope (length s.slots)))
         (λ t. gives-then (λ x. Allows (items_exits is) x.flow) (λ x. Allows (items_exits is) x.flow) (items_run c vs is t) (out_of_scope (length s.slots)) (items-end is t) (λ x k. k))
 
-    groups-end : (gs : GroupTrees) → AllEndBy (groups_exits gs) (groups_runs c vs gs)
+    pub groups-end : (gs : GroupTrees) → AllEndBy (groups_exits gs) (groups_runs c vs gs)
     groups-end no_groups = tt
     groups-end (group_then cases d is gs) =
         let e = either_exits (items_exits is) (groups_exits gs) in (
@@ -219,3 +219,10 @@ left-normal e normal n h = refl
 left-normal e broke n h = allows-normal e broke n h
 left-normal e continued n h = absurd h
 left-normal e (returned v) n h = allows-normal e (returned v) n h
+
+-- where no `break` leaves, none is ended
+pub unbroken : (e : Exits) (f : Flow) → Allows e f → e.breaks ≡ false → past_flow f ≡ f
+unbroken e normal h n = refl
+unbroken e continued h n = refl
+unbroken e (returned v) h n = refl
+unbroken e broke h n = let z = sym h ∙ n in absurd cc

@@ -13,7 +13,7 @@ use Rattle.c_typed.specs.WellTyped.{Signature, type_of}
 use Rattle.c_mean.specs.State.{State}
 use Rattle.c_mean.specs.Expressions as source
 use Rattle.c_mean.specs.Expressions.{expr_run}
-use Rattle.c_mean.specs.Statements.{Flow, normal, broke, continued, returned, Flowed, past, after_turn, optional_step, loop_run, do_run, stmt_run}
+use Rattle.c_mean.specs.Statements.{Flow, normal, broke, continued, returned, Flowed, past_flow, past, after_turn, optional_step, loop_run, do_run, stmt_run}
 use Rattle.g_graph.specs.declared.op.Origin.{Origin}
 use Rattle.g_graph.specs.Plain.{nodes_of}
 use Rattle.g_construct.specs.Writer.{jumping, Point, Built, nothing, bind, dropped, no_value, one_value, inside, choice, repeat}
@@ -221,7 +221,7 @@ module _ (w : Direction) (functions : List Signature) (c : source.Context) (d : 
       Simulates w d (Flows f) xs o s.next (bind (repeat s body) (λ _ t. break_ended (can_leave (stmt_exits a)) t)) (then_on x past)
   past-sim vs a xs o r s j body keeps x k =
       sim-bind w d fit.sound (Loops a) (Flows f) xs o s.next r (repeat s body) (λ _ t. break_ended (can_leave (stmt_exits a)) t) x past k (λ y o' r' m.
-      break-ended-sim w functions c d fit f (can_leave (stmt_exits a)) y.flow (λ n. left-normal (stmt_exits a) y.flow n m.post.0) xs o' r' (repeat s body).after y.state m.post.1.0
+      break-ended-sim w functions c d fit f (can_leave (stmt_exits a)) y.flow (λ n. let z = left-normal (stmt_exits a) y.flow n m.post.0 in ap past_flow z ∙ sym z) xs o' r' (repeat s body).after y.state m.post.1.0
       (may-later s (repeat s body).after (can_leave (stmt_exits a)) (repeat_later s body keeps) (stmt_leaves s.carried.form a j)))
 
   pub loop-stmt : (vs : List VariableTree) (e step : OptionalExpr) (a : StmtTree) → OptionalClaim e → StepClaim w functions c d fit f step → StmtClaim w functions c d fit f vs a →

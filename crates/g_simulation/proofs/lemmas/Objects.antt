@@ -41,7 +41,7 @@ use Rattle.g_simulation.proofs.lemmas.Forms.{ExprClaim}
 use Rattle.g_simulation.proofs.lemmas.Turns.{Stepped}
 
 -- what is done to a memory, in a state
-abbrev in_memory : State → Option Blocks → Answer State
+abbrev pub in_memory : State → Option Blocks → Answer State
 in_memory q x = on_defined x (λ m. Returned (with_memory q m) [])
 
 -- characters, and each element, begin within so many bytes
@@ -68,7 +68,7 @@ module _ (w : Direction) (functions : List Signature) (c : source.Context) (d : 
           (store-sim w d f normal fit.sound xs o t s q h width p r a v m g g' e) (λ y o' t' k.
           sim-given w d (Stepped f normal) xs o' (store_made width p r s).after.next tt (store_made width p r s).after y.state (omega arith) (k.post.0, tt))
 
-  object-stored-sim : (k width : ℕ) (r : Origin) (v : Value) (xs : List Datum) (o : Outputs) → IsSoundRun xs o → (s : Point) (q : State) → Holds f normal (read_origin xs o) s.next s.carried q →
+  pub object-stored-sim : (k width : ℕ) (r : Origin) (v : Value) (xs : List Datum) (o : Outputs) → IsSoundRun xs o → (s : Point) (q : State) → Holds f normal (read_origin xs o) s.next s.carried q →
       Held (read_origin xs o) s.next v r → Simulates w d (Stepped f normal) xs o s.next (object_stored k width r s) (in_memory q (store width (d.addresses.local k) v q.memory))
   object-stored-sim k width r v xs o t s q h g =
       line-then w d f normal fit.sound (Stepped f normal) xs o s.next t first (λ a u. dropped (store_made width a r u)) q (d.addresses.local k) (in_memory q (store width (d.addresses.local k) v q.memory))

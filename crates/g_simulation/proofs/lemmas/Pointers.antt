@@ -204,10 +204,10 @@ module _ (w : Direction) (d : Context) (f : Frame) (flow : Flow) (c : IsSoundCon
   stepped-line up u p (Num k) n v i g z = absurd cc
   stepped-line up u p Bad n v i g z = absurd cc
 
-  -- the difference of two addresses in one block, in elements whose size is a word
-  pub difference-sim : (p r : Origin) (n : ℕ) (a b : Value) → n < 2 ^ 32 → Held (read xs o) s.next a p → Held (read xs o) s.next b r →
+  -- the difference of two addresses in one block, in elements
+  pub difference-sim : (p r : Origin) (n : ℕ) (a b : Value) → Held (read xs o) s.next a p → Held (read xs o) s.next b r →
       Simulates w d (Values f flow) xs o s.next (difference_made p r n s) (on_defined (pointer_difference n a b q.memory) (gives q))
-  difference-sim p r n (At b x) (At k y) word g g' = by (same_block b k) (is_live_address (At b x) q.memory) refl
+  difference-sim p r n (At b x) (At k y) g g' = by (same_block b k) (is_live_address (At b x) q.memory) refl
     where
       m : ℕ
       m = word2 op.Sub x y
@@ -220,21 +220,16 @@ module _ (w : Direction) (d : Context) (f : Frame) (flow : Flow) (c : IsSoundCon
           subst (λ v. Simulates w d (Line f flow q v) xs o s.next first (Returned tt [])) (ap (λ z. cond z (Num m) Bad) one)
           (bin-line w d f flow xs o s q h op.Sub p r (At b x) (At k y) (held-is (read xs o) s.next (At b x) p tt g) (held-is (read xs o) s.next (At k y) r tt g'))
 
-      same : n % 2 ^ 32 ≡ n
-      same = omega (arith, word)
-
       by : (one live : Bool) → same_block b k ≡ one →
-          Simulates w d (Values f flow) xs o s.next (difference_made p r n s) (on_defined (cond (one && live) (Some (Num (word2 op.Div m n))) None) (gives q))
+          Simulates w d (Values f flow) xs o s.next (difference_made p r n s) (on_defined (cond (one && live) (Some (Num (word2 op.Div m (n % 2 ^ 32)))) None) (gives q))
       by true true one =
-          of-line w d f flow xs o s.next (difference_made p r n s) q (Num (word2 op.Div m n))
-          (line-then w d f flow c (Line f flow q (Num (word2 op.Div m n))) xs o s.next t first (λ z u. bind (const_made n u) (λ y v. bin_made op.Div z y v)) q (Num m) (Returned tt [])
+          of-line w d f flow xs o s.next (difference_made p r n s) q (Num (word2 op.Div m (n % 2 ^ 32)))
+          (line-then w d f flow c (Line f flow q (Num (word2 op.Div m (n % 2 ^ 32)))) xs o s.next t first (λ z u. bind (const_made n u) (λ y v. bin_made op.Div z y v)) q (Num m) (Returned tt [])
           (sub-line one) (λ o' t' j.
-          subst (λ v. Simulates w d (Line f flow q (Num (word2 op.Div m v))) xs o' (suc s.next) (bind (const_made n first.after) (λ y v. bin_made op.Div (Out s.next 0) y v)) (Returned tt []))
-          same
-          (with-const w d f flow c xs o' t' first.after q j.post.0 n (λ y v. bin_made op.Div (Out s.next 0) y v) (Num (word2 op.Div m (n % 2 ^ 32)))
+          with-const w d f flow c xs o' t' first.after q j.post.0 n (λ y v. bin_made op.Div (Out s.next 0) y v) (Num (word2 op.Div m (n % 2 ^ 32)))
           (λ o'' y e u h' keep.
           bin-line w d f flow xs o'' u q h' op.Div (Out s.next 0) y (Num m) (Num (n % 2 ^ 32))
-          (keep (Out s.next 0) (omega arith) ∙ held-is (read xs o') (suc s.next) (Num m) (Out s.next 0) tt j.post.1) e))))
+          (keep (Out s.next 0) (omega arith) ∙ held-is (read xs o') (suc s.next) (Num m) (Out s.next 0) tt j.post.1) e)))
       by true false one = tt
       by false live one = tt
-  difference-sim p r n _ _ word g g' = tt
+  difference-sim p r n _ _ g g' = tt

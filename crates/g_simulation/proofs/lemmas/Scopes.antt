@@ -1,12 +1,13 @@
 -- Variables come into scope and leave it on both sides.
 use Rattle.std.proofs.Common.{◌≡◌, ℕ, suc, List, [], ◌∷◌, ◌++◌, refl, sym, ap, ◌∙◌, subst, arith}
-use Rattle.std.specs.Prelude.{◌-◌, take, length, Option, Some}
+use Rattle.std.specs.Prelude.{◌-◌, take, length, Option, None, Some, option_map}
 use Rattle.std.proofs.lemmas.List.{length-append}
 use Rattle.std.proofs.Math.Seq.{take-append_seam}
 use Rattle.val_core.specs.declared.values.Value.{Value}
 use Rattle.c_mean.specs.State as source
 use Rattle.c_mean.specs.State.{Slot}
 use Rattle.g_graph.specs.declared.op.Origin.{Origin}
+use Rattle.g_graph.specs.declared.op.Origin.TheVariants.{Arg}
 use Rattle.g_construct.specs.Writer.{SlotOrigin, held, object, hidden, newest, without_newest, Point, pushed}
 use Rattle.g_construct.specs.Laws.{shape, Later}
 use Rattle.g_mean.specs.Data.{Datum}
@@ -127,8 +128,15 @@ slots-count rd n (object k ∷ xs) hs (source.object j ∷ ss) h = ap suc (slots
 slots-count rd n (hidden p ∷ xs) (j ∷ hs) ss h = slots-count rd n xs hs ss h.2
 slots-count rd n _ _ _ h = absurd h
 
--- the newest has a slot whatever the origins are
-newest-shape : (xs : List SlotOrigin) → HasSlot (newest (shape xs)) ≡ HasSlot (newest xs)
+-- ---- whatever the origins are
+
+-- a variable without its origin
+abbrev pub unplaced : SlotOrigin → SlotOrigin
+unplaced (held p) = held (Arg 0)
+unplaced (object k) = object k
+unplaced (hidden p) = hidden (Arg 0)
+
+newest-shape : (xs : List SlotOrigin) → newest (shape xs) ≡ option_map unplaced (newest xs)
 newest-shape [] = refl
 newest-shape (held p ∷ []) = refl
 newest-shape (object k ∷ []) = refl
@@ -143,7 +151,18 @@ newest-shape (hidden o ∷ held p ∷ xs) = newest-shape (held p ∷ xs)
 newest-shape (hidden o ∷ object k ∷ xs) = newest-shape (object k ∷ xs)
 newest-shape (hidden o ∷ hidden p ∷ xs) = newest-shape (hidden p ∷ xs)
 
+-- the newest of the same variables from other origins
+pub newest-same : (xs ys : List SlotOrigin) → shape ys ≡ shape xs → option_map unplaced (newest ys) ≡ option_map unplaced (newest xs)
+newest-same xs ys e = sym (newest-shape ys) ∙ ap newest e ∙ newest-shape xs
+
+slot-placed : (x : Option SlotOrigin) → HasSlot (option_map unplaced x) ≡ HasSlot x
+slot-placed None = refl
+slot-placed (Some (held p)) = refl
+slot-placed (Some (object k)) = refl
+slot-placed (Some (hidden p)) = refl
+
 pub newest-later : (s t : Point) (x : SlotOrigin) → HasSlot (Some x) → Later (pushed x s) t → HasSlot (newest t.carried.variables)
 newest-later s t x h l =
     subst (λ (X : Type 0). X)
-    (ap HasSlot (sym (newest_append s.carried.variables x)) ∙ sym (newest-shape (s.carried.variables ++ x ∷ [])) ∙ ap (λ xs. HasSlot (newest xs)) (sym l.shape) ∙ newest-shape t.carried.variables) h
+    (ap HasSlot (sym (newest_append s.carried.variables x)) ∙ sym (slot-placed (newest (s.carried.variables ++ x ∷ [])))
+    ∙ ap HasSlot (sym (newest-same (s.carried.variables ++ x ∷ []) t.carried.variables l.shape)) ∙ slot-placed (newest t.carried.variables)) h

@@ -21,7 +21,7 @@ use Rattle.g_construct.specs.Expressions.{expr_made, tested}
 use Rattle.g_construct.specs.Exits.{stmt_exits, can_leave, some_items, stmt_jumps, items_jump}
 use Rattle.g_construct.specs.Jumps.{jump_made, return_made, unless_left}
 use Rattle.g_construct.specs.Statements.{stmt_made, items_made}
-use Rattle.g_construct.proofs.lemmas.Later.{later_here}
+use Rattle.g_construct.proofs.lemmas.Later.{Keeps, later_here}
 use Rattle.g_construct.proofs.lemmas.LaterExpressions.{expr_later, tested_later}
 use Rattle.g_construct.proofs.lemmas.LaterStatements.{stmt_later, items_later}
 use Rattle.g_built.proofs.lemmas.Exits.{MayJump, jump_left, jump_right, stmt_leaves}
@@ -161,21 +161,23 @@ module _ (w : Direction) (functions : List Signature) (c : source.Context) (d : 
   no-items vs xs o r s q h j = nothing-sim xs o s q normal h
 
   -- what follows a statement is passed over where it has left
-  follow-sim : (vs : List VariableTree) (is : ItemTrees) → ItemsClaim vs is → (xs : List Datum) (o : Outputs) → IsSoundRun xs o → (s : Point) (q : State) (flow : Flow) →
-      Holds f flow (read_origin xs o) s.next s.carried q → MayJump s.carried.form (items_jump is) → s.carried.form ≡ jumping →
-      Simulates w d (Flows f) xs o s.next (unless_left true (items_made vs is) s) (if_normal flow q (items_run c vs is))
-  follow-sim vs is k xs o r s q flow h j e = by flow h (jumps-of (read_origin xs o) s.next f.is_main flow s.carried.form s.carried.go s.carried.ret e h.jumps).0
+  pub follow-sim : (made : Point → Built (Unit {0})) (run : State → Answer Flowed) → Keeps made → (xs : List Datum) (o : Outputs) → IsSoundRun xs o → (s : Point) (q : State) (flow : Flow) →
+      Holds f flow (read_origin xs o) s.next s.carried q → s.carried.form ≡ jumping →
+      ((us : List Datum) (m : ℕ) → IsSoundRun us no_outputs → Holds f normal (read_origin us no_outputs) m (inside s.carried m).carried q →
+      Simulates w d (Flows f) us no_outputs m (made (inside s.carried m)) (run q)) →
+      Simulates w d (Flows f) xs o s.next (unless_left true made s) (if_normal flow q run)
+  follow-sim made run keeps xs o r s q flow h e k = by flow h (jumps-of (read_origin xs o) s.next f.is_main flow s.carried.form s.carried.go s.carried.ret e h.jumps).0
     where
       chosen : (flow : Flow) (n : ℕ) (a : Answer Flowed) → Holds f flow (read_origin xs o) s.next s.carried q → read_origin xs o s.carried.go ≡ val (Num n) →
           ((us : List Datum) (m : ℕ) → IsSoundRun us no_outputs → Holds f flow (read_origin us no_outputs) m (inside s.carried m).carried q →
-          Simulates w d (Flows f) us no_outputs m (picked n (items_made vs is) nothing (inside s.carried m)) a) →
-          Simulates w d (Flows f) xs o s.next (unless_left true (items_made vs is) s) a
+          Simulates w d (Flows f) us no_outputs m (picked n made nothing (inside s.carried m)) a) →
+          Simulates w d (Flows f) xs o s.next (unless_left true made s) a
       chosen flow n a h e go =
-          choice-sim w d f (λ x. x.flow) (λ x. x.state) Nothing Nothing no_value xs o r s s.carried.go n (items_made vs is) nothing a flow q (no_value-gives xs o s.next) e (items_later vs is) later_here h go
+          choice-sim w d f (λ x. x.flow) (λ x. x.state) Nothing Nothing no_value xs o r s s.carried.go n made nothing a flow q (no_value-gives xs o s.next) e keeps later_here h go
 
       by : (flow : Flow) → Holds f flow (read_origin xs o) s.next s.carried q → read_origin xs o s.carried.go ≡ val (Num (code flow)) →
-          Simulates w d (Flows f) xs o s.next (unless_left true (items_made vs is) s) (if_normal flow q (items_run c vs is))
-      by normal h e = chosen normal 0 (items_run c vs is q) h e (λ us m r' h'. k us no_outputs r' (inside s.carried m) q h' (may-inside s.carried m (items_jump is) j))
+          Simulates w d (Flows f) xs o s.next (unless_left true made s) (if_normal flow q run)
+      by normal h e = chosen normal 0 (run q) h e k
       by broke h e = chosen broke 1 (flows q broke) h e (λ us m r' h'. nothing-sim us no_outputs (inside s.carried m) q broke h')
       by continued h e = chosen continued 2 (flows q continued) h e (λ us m r' h'. nothing-sim us no_outputs (inside s.carried m) q continued h')
       by (returned v) h e = chosen (returned v) 3 (flows q (returned v)) h e (λ us m r' h'. nothing-sim us no_outputs (inside s.carried m) q (returned v) h')
@@ -214,9 +216,10 @@ module _ (w : Direction) (functions : List Signature) (c : source.Context) (d : 
           (l : Bool) → (can_leave (stmt_exits a) && some_items is) ≡ l →
           Simulates w d (Flows f) xs o' first.after.next (unless_left l (items_made vs is) first.after) (if_normal y.flow y.state (items_run c vs is))
       by y o' r' allowed h' true e =
-          follow-sim vs is cis xs o' r' first.after y.state y.flow h'.0 rest
+          follow-sim (items_made vs is) (items_run c vs is) (items_later vs is) xs o' r' first.after y.state y.flow h'.0
           (jumping-form first.after.carried.form (can_leave (stmt_exits a))
           (may-later s first.after (can_leave (stmt_exits a)) (stmt_later vs a s) (stmt_leaves s.carried.form a (jump_left s.carried.form (stmt_jumps a) (items_jump is) j)))
           (some-form (can_leave (stmt_exits a)) (some_items is) e))
+          (λ us m r'' h''. cis us no_outputs r'' (inside first.after.carried m) y.state h'' (may-inside first.after.carried m (items_jump is) rest))
       by y o' r' allowed h' false e =
           goes-sim vs is (can_leave (stmt_exits a)) cis xs o' r' first.after y.state y.flow h'.0 rest e (λ n. allows-normal (stmt_exits a) y.flow n allowed)

@@ -159,14 +159,13 @@ module _ (w : Direction) (functions : List Signature) (c : source.Context) (d : 
       go-of xs o' next h' = (jumps-of (read_origin xs o') next f.is_main flow s.carried.form s.carried.go s.carried.ret form h'.jumps).0
 
   -- a loop or a `switch` has ended
-  pub break-ended-sim : (l : Bool) (flow : Flow) → (l ≡ false → flow ≡ normal) → (xs : List Datum) (o : Outputs) → IsSoundRun xs o → (s : Point) (q : State) →
+  pub break-ended-sim : (l : Bool) (flow : Flow) → (l ≡ false → past_flow flow ≡ flow) → (xs : List Datum) (o : Outputs) → IsSoundRun xs o → (s : Point) (q : State) →
       Holds f flow (read_origin xs o) s.next s.carried q → MayJump s.carried.form l → Simulates w d (Flows f) xs o s.next (break_ended l s) (flows q (past_flow flow))
   break-ended-sim true flow n xs o r s q h j =
       sim-goes w d (Stepped f (past_flow flow)) (Flows f) xs o s.next (jump_ended 1 s) (Returned q []) (λ u. record { flow = past_flow flow; state = u }) (λ y o' m. m.post)
       (jump-ended-sim 1 flow (past_flow flow) refl (past-code flow) (past-left-same f.is_main flow) xs o r s q h (jumping-form s.carried.form true j refl))
   break-ended-sim false flow n xs o r s q h j =
-      subst (λ x. Simulates w d (Flows f) xs o s.next (nothing s) (flows q (past_flow x))) (sym (n refl))
-      (sim-given w d (Flows f) xs o s.next tt s (record { flow = normal; state = q }) (omega arith) (subst (λ x. Holds f x (read_origin xs o) s.next s.carried q) (n refl) h, tt))
+      subst (λ x. Simulates w d (Flows f) xs o s.next (nothing s) (flows q x)) (sym (n refl)) (sim-given w d (Flows f) xs o s.next tt s (record { flow = flow; state = q }) (omega arith) (h, tt))
 
   -- ---- the step
 

@@ -1,0 +1,82 @@
+-- The texts of a list of rows.
+use Rattle.std.specs.Prelude.{ℕ, ◌++◌, ◌==◌, ◌%◌, ◌^◌, List, [], ◌∷◌, length, codes, decimal, flat_map, count_by, sum_by}
+use Rattle.g_graph.specs.declared.steps.Rule.{Rule}
+use Rattle.g_graph.specs.declared.steps.Rule.TheVariants.{Fold, Cne, Dne, Inv, Push, Pull, Invert, Unroll, Inline}
+use Rattle.g_graph.specs.declared.steps.Step.{Step}
+use Rattle.cc_watch.specs.Rows.{PlainRow}
+
+-- the name of a rule in recipes and reports
+abbrev pub rule_name : Rule → List ℕ
+rule_name Fold = codes "fold"
+rule_name Cne = codes "cne"
+rule_name Dne = codes "dne"
+rule_name Inv = codes "inv"
+rule_name Push = codes "psh"
+rule_name Pull = codes "pll"
+rule_name Invert = codes "ivt"
+rule_name Unroll = codes "url"
+rule_name Inline = codes "iln"
+
+-- the rules in the order in which a report lists them
+abbrev pub all_rules : List Rule
+all_rules = Fold ∷ Cne ∷ Dne ∷ Inv ∷ Push ∷ Pull ∷ Invert ∷ Unroll ∷ Inline ∷ []
+
+-- the place of a rule in that order
+abbrev pub rule_place : Rule → ℕ
+rule_place Fold = 0
+rule_place Cne = 1
+rule_place Dne = 2
+rule_place Inv = 3
+rule_place Push = 4
+rule_place Pull = 5
+rule_place Invert = 6
+rule_place Unroll = 7
+rule_place Inline = 8
+
+-- a blank and a number in decimal
+abbrev pub number_text : ℕ → List ℕ
+number_text n = codes " " ++ decimal n
+
+-- ---- the log: a line for each function, and a line for each step
+
+abbrev pub step_text : Step → List ℕ
+step_text s = rule_name s.rule ++ number_text s.node ++ codes "\n"
+
+abbrev pub head_text : PlainRow → List ℕ
+head_text r = codes "function " ++ r.name ++ number_text r.before ++ number_text r.after ++ codes "\n"
+
+abbrev pub row_text : PlainRow → List ℕ
+row_text r = head_text r ++ flat_map step_text r.steps
+
+abbrev pub log_text : List PlainRow → List ℕ
+log_text = flat_map row_text
+
+-- ---- the counts: one line, each number modulo 2^32
+
+-- how many of these steps are of a rule
+abbrev pub steps_of : Rule → List Step → ℕ
+steps_of k = count_by (λ s. rule_place s.rule == rule_place k)
+
+-- how many steps of a rule the rows have
+abbrev pub applied : Rule → List PlainRow → ℕ
+applied k = sum_by (λ r. steps_of k r.steps)
+
+abbrev pub rule_text : (count : Rule → ℕ) → Rule → List ℕ
+rule_text count k = codes " " ++ rule_name k ++ number_text (count k)
+
+unfoldable pub rules_text : (count : Rule → ℕ) → List ℕ
+rules_text count = flat_map (rule_text count) all_rules
+
+abbrev pub functions_text : ℕ → List ℕ
+functions_text functions = codes "functions" ++ number_text functions
+
+abbrev pub values_text : (before after : ℕ) → List ℕ
+values_text before after = codes " before" ++ number_text before ++ codes " after" ++ number_text after ++ codes "\n"
+
+abbrev pub counts_text : (functions : ℕ) (count : Rule → ℕ) (before after : ℕ) → List ℕ
+counts_text functions count before after =
+    functions_text functions ++ rules_text count ++ values_text before after
+
+abbrev pub count_text : List PlainRow → List ℕ
+count_text rows =
+    counts_text (length rows % 2 ^ 32) (λ k. applied k rows % 2 ^ 32) (sum_by (λ r. r.before) rows % 2 ^ 32) (sum_by (λ r. r.after) rows % 2 ^ 32)

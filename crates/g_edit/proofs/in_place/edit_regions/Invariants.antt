@@ -1,0 +1,6 @@
+use Rattle.std.proofs.Common.{◌≡◌}
+use Rattle.g_edit.proofs.lemmas.InPlace.{first_mapped}
+use Rattle.g_edit.proofs.in_place.edit_regions.Given as goal
+
+abbrev pub invariant-loop-i : goal.invariant-loop-i
+invariant-loop-i g l = l.regions.items ≡ first_mapped (g.E.RegionEdit.region_edited l.edit) l.i l.initial.regions.items

@@ -1,0 +1,178 @@
+-- The edits made in place are the defined ones.
+use Rattle.std.proofs.Common.{◌≡◌, ◌<◌, ◌≤◌, ℕ, zero, suc, ◌+◌, ◌==◌, Bool, true, false, cond, List, [], ◌∷◌, ◌++◌, map, take, drop, length, get_or, None, Some, refl, sym, ap, ◌∙◌, add-one, arith}
+use Rattle.std.specs.Prelude.{◌&&◌, slice_get, slice_set}
+use Rattle.std.proofs.lemmas.Option.{same_Some}
+use Rattle.g_graph.specs.declared.op.Op.{Op}
+use Rattle.g_graph.specs.declared.op.Origin.{Origin}
+use Rattle.g_graph.specs.Plain.{RegionTree, region, NodeTree, node, NodeTrees, no_nodes, node_then, RegionTrees, no_regions, region_then, nodes_of, regions_of, id_of}
+use Rattle.g_graph.specs.Change.{node_index}
+use Rattle.g_graph.specs.Replace.{node_redirected, nodes_redirected}
+use Rattle.g_graph.proofs.lemmas.Redirects.{nodes_of-redirected}
+use Rattle.g_graph.proofs.lemmas.Splices.{node_index_least}
+use Rattle.g_edit.specs.Places.{kept}
+use Rattle.g_edit.specs.Exits.{regions_giving, node_giving, output_after, nodes_giving}
+use Rattle.g_edit.specs.Entries.{regions_taking, node_taking, nodes_taking}
+use Rattle.g_edit.specs.Variables.{region_looping, node_looping, nodes_looping}
+use Rattle.g_edit.specs.InPlace.{all_stay, nodes_edited, redirected_after, region_giving, region_taking}
+
+-- ---- a node, by its index
+
+module _ (n : ℕ) (f : NodeTree → NodeTree) where
+  pub edited_none : (first : ℕ) (ns : NodeTrees) → node_index n first ns ≡ None → nodes_edited n f ns ≡ ns
+  edited_none first no_nodes e = refl
+  edited_none first (node_then x ns) e = by (id_of x == n) e (edited_none (suc first) ns)
+    where
+      by : (t : Bool) → cond t (Some first) (node_index n (suc first) ns) ≡ None → (node_index n (suc first) ns ≡ None → nodes_edited n f ns ≡ ns) →
+          cond t (node_then (f x) ns) (node_then x (nodes_edited n f ns)) ≡ node_then x ns
+      by true e h = absurd cc
+      by false e h = ap (node_then x) (h e)
+
+  edited_from : (first p : ℕ) (xs : List NodeTree) (y d : NodeTree) → node_index n first (nodes_of xs) ≡ Some (first + p) → y ≡ f (get_or xs p d) →
+      nodes_edited n f (nodes_of xs) ≡ nodes_of (slice_set xs p y)
+  edited_from first p [] y d e v = absurd cc
+  edited_from first zero (x ∷ xs) y d e v = by (id_of x == n) e
+    where
+      by : (t : Bool) → cond t (Some first) (node_index n (suc first) (nodes_of xs)) ≡ Some (first + 0) →
+          cond t (node_then (f x) (nodes_of xs)) (node_then x (nodes_edited n f (nodes_of xs))) ≡ node_then y (nodes_of xs)
+      by true e = ap (λ z. node_then z (nodes_of xs)) (sym v)
+      by false e = absurd (omega (arith, node_index_least n (suc first) (first + 0) (nodes_of xs) e))
+  edited_from first (suc p) (x ∷ xs) y d e v = by (id_of x == n) e (λ q. edited_from (suc first) p xs y d q v)
+    where
+      by : (t : Bool) → cond t (Some first) (node_index n (suc first) (nodes_of xs)) ≡ Some (first + suc p) →
+          (node_index n (suc first) (nodes_of xs) ≡ Some (suc first + p) → nodes_edited n f (nodes_of xs) ≡ nodes_of (slice_set xs p y)) →
+          cond t (node_then (f x) (nodes_of xs)) (node_then x (nodes_edited n f (nodes_of xs))) ≡ node_then x (nodes_of (slice_set xs p y))
+      by true e h = absurd (omega (arith, same_Some first (first + suc p) e))
+      by false e h = ap (node_then x) (h (e ∙ ap Some (omega arith)))
+
+  pub edited_at : (p : ℕ) (xs : List NodeTree) (x y d : NodeTree) → node_index n 0 (nodes_of xs) ≡ Some p → x ≡ get_or xs p d → y ≡ f x → nodes_of (slice_set xs p y) ≡ nodes_edited n f (nodes_of xs)
+  edited_at p xs x y d e v w = sym (edited_from 0 p xs y d (e ∙ ap Some (omega arith)) (w ∙ ap f v))
+
+module _ (n : ℕ) (f : Origin → Origin) where
+  pub after_none : (first : ℕ) (ns : NodeTrees) → node_index n first ns ≡ None → redirected_after n f ns ≡ ns
+  after_none first no_nodes e = refl
+  after_none first (node_then x ns) e = by (id_of x == n) e (after_none (suc first) ns)
+    where
+      by : (t : Bool) → cond t (Some first) (node_index n (suc first) ns) ≡ None → (node_index n (suc first) ns ≡ None → redirected_after n f ns ≡ ns) →
+          cond t (node_then x (nodes_redirected f ns)) (node_then x (redirected_after n f ns)) ≡ node_then x ns
+      by true e h = absurd cc
+      by false e h = ap (node_then x) (h e)
+
+  after_from : (first p : ℕ) (xs : List NodeTree) → node_index n first (nodes_of xs) ≡ Some (first + p) →
+      redirected_after n f (nodes_of xs) ≡ nodes_of (take (suc p) xs ++ map (node_redirected f) (drop (suc p) xs))
+  after_from first p [] e = absurd cc
+  after_from first zero (x ∷ xs) e = by (id_of x == n) e
+    where
+      by : (t : Bool) → cond t (Some first) (node_index n (suc first) (nodes_of xs)) ≡ Some (first + 0) →
+          cond t (node_then x (nodes_redirected f (nodes_of xs))) (node_then x (redirected_after n f (nodes_of xs))) ≡ node_then x (nodes_of (map (node_redirected f) xs))
+      by true e = ap (node_then x) (sym (nodes_of-redirected f xs))
+      by false e = absurd (omega (arith, node_index_least n (suc first) (first + 0) (nodes_of xs) e))
+  after_from first (suc p) (x ∷ xs) e = by (id_of x == n) e (after_from (suc first) p xs)
+    where
+      by : (t : Bool) → cond t (Some first) (node_index n (suc first) (nodes_of xs)) ≡ Some (first + suc p) →
+          (node_index n (suc first) (nodes_of xs) ≡ Some (suc first + p) → redirected_after n f (nodes_of xs) ≡ nodes_of (take (suc p) xs ++ map (node_redirected f) (drop (suc p) xs))) →
+          cond t (node_then x (nodes_redirected f (nodes_of xs))) (node_then x (redirected_after n f (nodes_of xs))) ≡
+          node_then x (nodes_of (take (suc p) xs ++ map (node_redirected f) (drop (suc p) xs)))
+      by true e h = absurd (omega (arith, same_Some first (first + suc p) e))
+      by false e h = ap (node_then x) (h (e ∙ ap Some (omega arith)))
+
+  pub after_at : (p : ℕ) (xs : List NodeTree) → node_index n 0 (nodes_of xs) ≡ Some p →
+      redirected_after n f (nodes_of xs) ≡ nodes_of (take (p + 1) xs ++ map (node_redirected f) (drop (p + 1) xs))
+  after_at p xs e = rw add-one (after_from 0 p xs (e ∙ ap Some (omega arith)))
+
+-- ---- a node and what follows it
+
+module _ (n : ℕ) (f : NodeTree → NodeTree) (g : Origin → Origin) (same_id : (x : NodeTree) → id_of (f x) ≡ id_of x) where
+  -- the head of a list whose tail is edited
+  edited_then : (x : NodeTree) (ns all : NodeTrees) (t : Bool) → (id_of x == n) ≡ t → all ≡ redirected_after n g (nodes_edited n f ns) →
+      cond t (node_then (f x) (nodes_redirected g ns)) (node_then x all) ≡ redirected_after n g (cond t (node_then (f x) ns) (node_then x (nodes_edited n f ns)))
+  edited_then x ns all true e h =
+      let here : (id_of (f x) == n) ≡ true = ap (λ k. k == n) (same_id x) ∙ e in
+      sym (ap (λ t. cond t (node_then (f x) (nodes_redirected g ns)) (node_then (f x) (redirected_after n g ns))) here)
+  edited_then x ns all false e h =
+      ap (node_then x) h ∙ sym (ap (λ t. cond t (node_then x (nodes_redirected g (nodes_edited n f ns))) (node_then x (redirected_after n g (nodes_edited n f ns)))) e)
+
+giving_id : (stays : List Bool) (x : NodeTree) → id_of (node_giving stays x) ≡ id_of x
+giving_id stays (node id op inputs rs) = refl
+
+pub giving_is : (n : ℕ) (stays : List Bool) (ns : NodeTrees) → redirected_after n (output_after n stays) (nodes_edited n (node_giving stays) ns) ≡ nodes_giving n stays ns
+giving_is n stays no_nodes = refl
+giving_is n stays (node_then x ns) =
+    sym (edited_then n (node_giving stays) (output_after n stays) (giving_id stays) x ns (nodes_giving n stays ns) (id_of x == n) refl (sym (giving_is n stays ns)))
+
+looping_id : (stays : List Bool) (x : NodeTree) → id_of (node_looping stays x) ≡ id_of x
+looping_id stays (node id op inputs no_regions) = refl
+looping_id stays (node id op inputs (region_then r no_regions)) = refl
+looping_id stays (node id op inputs (region_then r (region_then s rs))) = refl
+
+pub looping_is : (n : ℕ) (stays : List Bool) (ns : NodeTrees) → redirected_after n (output_after n stays) (nodes_edited n (node_looping stays) ns) ≡ nodes_looping n stays ns
+looping_is n stays no_nodes = refl
+looping_is n stays (node_then x ns) =
+    sym (edited_then n (node_looping stays) (output_after n stays) (looping_id stays) x ns (nodes_looping n stays ns) (id_of x == n) refl (sym (looping_is n stays ns)))
+
+pub taking_is : (n : ℕ) (stays : List Bool) (ns : NodeTrees) → nodes_edited n (node_taking stays) ns ≡ nodes_taking n stays ns
+taking_is n stays no_nodes = refl
+taking_is n stays (node_then x ns) = ap (λ ms. cond (id_of x == n) (node_then (node_taking stays x) ns) (node_then x ms)) (taking_is n stays ns)
+
+-- ---- the regions of a node
+
+pub regions_giving_is : (stays : List Bool) (rs : List RegionTree) → regions_of (map (region_giving stays) rs) ≡ regions_giving stays (regions_of rs)
+regions_giving_is stays [] = refl
+regions_giving_is stays (region args nodes results ∷ rs) = ap (region_then (region_giving stays (region args nodes results))) (regions_giving_is stays rs)
+
+pub regions_taking_is : (stays : List Bool) (rs : List RegionTree) → regions_of (map (region_taking stays) rs) ≡ regions_taking stays (regions_of rs)
+regions_taking_is stays [] = refl
+regions_taking_is stays (region args nodes results ∷ rs) = ap (region_then (region_taking stays (region args nodes results))) (regions_taking_is stays rs)
+
+-- ---- a list whose first elements are changed, as a loop does it
+
+abbrev pub first_mapped : {X : Type 0} → (X → X) → (count : ℕ) → List X → List X
+first_mapped f zero xs = xs
+first_mapped f (suc i) [] = []
+first_mapped f (suc i) (x ∷ xs) = f x ∷ first_mapped f i xs
+
+mapped_suc : {X : Type 0} (f : X → X) (i : ℕ) (xs : List X) (x d : X) → i < length xs → x ≡ get_or (first_mapped f i xs) i d → slice_set (first_mapped f i xs) i (f x) ≡ first_mapped f (suc i) xs
+mapped_suc f i [] x d b e = absurd (omega arith)
+mapped_suc f zero (z ∷ xs) x d b e = ap (λ y. f y ∷ xs) e
+mapped_suc f (suc i) (z ∷ xs) x d b e = ap (λ ys. f z ∷ ys) (mapped_suc f i xs x d (omega arith) e)
+
+pub mapped_more : {X : Type 0} (f : X → X) (i : ℕ) (xs ys : List X) (x y d : X) → ys ≡ first_mapped f i xs → i < length xs → x ≡ get_or ys i d → y ≡ f x →
+    slice_set ys i y ≡ first_mapped f (i + 1) xs
+mapped_more f i xs ys x y d same b e v = rw add-one ((λ j. slice_set (same j) i (v j)) ∙ mapped_suc f i xs x d b (e ∙ ap (λ zs. get_or zs i d) same))
+
+pub mapped_all : {X : Type 0} (f : X → X) (i : ℕ) (xs : List X) → length xs ≤ i → first_mapped f i xs ≡ map f xs
+mapped_all f zero [] h = refl
+mapped_all f (suc i) [] h = refl
+mapped_all f zero (x ∷ xs) h = absurd (omega arith)
+mapped_all f (suc i) (x ∷ xs) h = ap (λ ys. f x ∷ ys) (mapped_all f i xs (omega arith))
+
+-- ---- tests, one after another
+
+stay_suc : (ts : List Bool) (i : ℕ) (t : Bool) → slice_get ts i ≡ Some t → all_stay (drop i ts) ≡ (t && all_stay (drop (suc i) ts))
+stay_suc [] i t e = absurd cc
+stay_suc (s ∷ ts) zero t e = ap (λ u. u && all_stay ts) (same_Some s t e)
+stay_suc (s ∷ ts) (suc i) t e = stay_suc ts i t e
+
+pub stay_more : (ts : List Bool) (i : ℕ) (t : Bool) → slice_get ts i ≡ Some t → all_stay (drop i ts) ≡ (t && all_stay (drop (i + 1) ts))
+stay_more ts i t e = rw add-one (stay_suc ts i t e)
+
+take_suc : (ts : List Bool) (i : ℕ) (t : Bool) → slice_get ts i ≡ Some t → take (suc i) ts ≡ take i ts ++ t ∷ []
+take_suc [] i t e = absurd cc
+take_suc (s ∷ ts) zero t e = ap (λ u. u ∷ []) (same_Some s t e)
+take_suc (s ∷ ts) (suc i) t e = ap (λ us. s ∷ us) (take_suc ts i t e)
+
+pub take_get : (ts : List Bool) (i : ℕ) (t : Bool) → slice_get ts i ≡ Some t → take (i + 1) ts ≡ take i ts ++ t ∷ []
+take_get ts i t e = rw add-one (take_suc ts i t e)
+
+-- ---- a Theta with its one region
+
+pub not_looping : (stays : List Bool) (id : ℕ) (op : Op) (inputs : List Origin) (rs : List RegionTree) → (length rs ≡ 1 → ⊥) →
+    node_looping stays (node id op inputs (regions_of rs)) ≡ node id op inputs (regions_of rs)
+not_looping stays id op inputs [] h = refl
+not_looping stays id op inputs (r ∷ []) h = absurd (h refl)
+not_looping stays id op inputs (r ∷ s ∷ rs) h = refl
+
+pub one_looping : (stays : List Bool) (id : ℕ) (op : Op) (inputs : List Origin) (rs : List RegionTree) (r d : RegionTree) → length rs ≡ 1 → r ≡ region_looping stays (get_or rs 0 d) →
+    node id op (kept stays inputs) (regions_of (slice_set rs 0 r)) ≡ node_looping stays (node id op inputs (regions_of rs))
+one_looping stays id op inputs [] r d h e = absurd (omega (arith, h))
+one_looping stays id op inputs (q ∷ []) r d h e = ap (λ t. node id op (kept stays inputs) (region_then t no_regions)) e
+one_looping stays id op inputs (q ∷ s ∷ rs) r d h e = absurd (omega (arith, h))

@@ -1,0 +1,9 @@
+use Rattle.g_edit.proofs.lemmas.Steps.{lists_stand_for_themselves}
+use Rattle.g_edit.proofs.lemmas.Steps as steps
+use Rattle.g_edit.proofs.steps.lists_compose.Goals as goal
+
+pub returns-clause-itself : goal.returns-clause-itself
+returns-clause-itself c = lists_stand_for_themselves
+
+pub returns-clause-next : goal.returns-clause-next
+returns-clause-next c = steps.lists_compose

@@ -1,0 +1,102 @@
+ghost use Rattle.std.specs.Prelude.{◌≡◌, MatchBool, IfOk, OnOk, OnErr, IsTrue, is_some};
+ghost use Rattle.std.specs.declared.option.Option.TheVariants.{Some, None};
+ghost use Rattle.g_graph.specs.WellFormed.{IsWellFormed};
+ghost use Rattle.g_graph.specs.Program.{KeepsPrograms};
+ghost use Rattle.g_mean.specs.Edits.{KeepsMeaning, KeepsComplete};
+ghost use Rattle.r_dne.specs.Rule.{dne_here, applies, dne};
+ghost use Rattle.r_dne.specs.Plan.{carried_out};
+
+use crate::find::{can_eliminate, plan_at};
+use crate::plan::Plan;
+use g_edit::{keep_entries, keep_exits, keep_variables, remove_node};
+use g_graph::{CanChange, Change, Lambda, Region, can_change_lambda, change_lambda};
+use no_memory::NoMemory;
+use std::alloc::Global;
+
+/// Whether the rule applies at the node of this number: it gives no state and no output of it is
+/// used; or it is a Gamma with a value exit that is not used, or an entry whose argument no region
+/// uses; or it is a Theta with a value variable whose output is not used and whose argument nothing
+/// but its own result uses. It is false for a number that is not there. It takes no memory. It takes
+/// time linear in the lambda, and for a Gamma or a Theta the time of a walk through its region and
+/// the regions in it for each of its variables.
+pub fn applies(lambda: &Lambda, node: u32) -> bool
+    ensures { result ≡ applies lambda.now node }
+{
+    can_change_lambda(lambda, &Eliminating { node })
+}
+
+/// The node goes; or of a Gamma those exits go, and then the entries whose arguments no region uses
+/// by then; or of a Theta those variables go. It takes memory only for a test for each variable, and
+/// time as `applies`. Where memory runs out nothing changes.
+pub fn apply(alloc: Global, lambda: &mut Lambda, node: u32) -> Result<(), NoMemory>
+    requires well_formed { IsWellFormed lambda.old }
+    requires applies { IsTrue (applies lambda.old node) }
+    ensures ok { OnOk result (lambda.new ≡ dne node lambda.old) }
+    ensures kept { OnOk result (IsWellFormed lambda.new) }
+    ensures meaning { OnOk result (KeepsMeaning lambda.old lambda.new) }
+    ensures list { OnOk result (KeepsComplete lambda.old lambda.new) }
+    ensures program { OnOk result (KeepsPrograms lambda.old lambda.new) }
+    ensures err { OnErr result (lambda.new ≡ lambda.old) }
+{
+    change_lambda(lambda, &mut Elimination { alloc, node })?;
+    Ok(())
+}
+
+// The test of the region that holds the node.
+#[derive(Drop)]
+struct Eliminating {
+    node: u32,
+}
+
+impl CanChange for Eliminating {
+    ghost changed = { λ e. dne_here e.node };
+
+    fn can_change(&self, region: &Region) -> bool {
+        can_eliminate(region, self.node)
+    }
+}
+
+// The change of the region that holds the node.
+#[derive(Drop)]
+struct Elimination {
+    alloc: Global,
+    node: u32,
+}
+
+impl Change for Elimination {
+    type Fault = NoMemory;
+
+    ghost changed = { λ e. dne_here e.node };
+
+    fn make(&mut self, region: &mut Region) -> Result<bool, NoMemory> {
+        eliminate(self.alloc, region, self.node)
+    }
+}
+
+fn eliminate(alloc: Global, region: &mut Region, id: u32) -> Result<bool, NoMemory>
+    ensures ok { IfOk result (λ done.
+        MatchBool done (dne_here id region.old ≡ Some region.new)
+        ((dne_here id region.old ≡ None) × (region.new ≡ region.old))) }
+    ensures err { OnErr result (region.new ≡ region.old) }
+{
+    match plan_at(alloc, region, id)? {
+        Some(plan) => {
+            carry_out(region, id, plan);
+            Ok(true)
+        }
+        None => Ok(false),
+    }
+}
+
+fn carry_out(region: &mut Region, id: u32, plan: Plan)
+    ensures { region.new ≡ carried_out id region.old plan }
+{
+    match plan {
+        Plan::Node => remove_node(region, id),
+        Plan::Gamma(exits, entries) => {
+            keep_exits(region, id, &exits);
+            keep_entries(region, id, &entries);
+        }
+        Plan::Theta(stays) => keep_variables(region, id, &stays),
+    }
+}

@@ -1,0 +1,8 @@
+use Rattle.r_push.proofs.Push.{psh_keeps_lambdas, psh_keeps_programs}
+use Rattle.r_push.proofs.laws.psh_keeps_meaning.Goals as goal
+
+pub returns-clause-lambda : goal.returns-clause-lambda
+returns-clause-lambda c = psh_keeps_lambdas
+
+pub returns-clause-program : goal.returns-clause-program
+returns-clause-program c = psh_keeps_programs

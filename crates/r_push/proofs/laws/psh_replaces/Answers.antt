@@ -1,0 +1,5 @@
+use Rattle.r_push.proofs.Push as rule
+use Rattle.r_push.proofs.laws.psh_replaces.Goals as goal
+
+pub returns : goal.returns
+returns c = rule.psh_replaces

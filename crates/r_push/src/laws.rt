@@ -1,0 +1,15 @@
+//! Push keeps meaning.
+
+ghost use Rattle.r_push.specs.Laws.{PshReplaces, PshKeepsLambdas, PshKeepsPrograms};
+
+/// A changed region of a well-formed lambda may replace the old one.
+pub fn psh_replaces()
+    ensures { PshReplaces }
+{}
+
+/// The rule at a node of a well-formed lambda keeps the meaning of every function, and of the
+/// program.
+pub fn psh_keeps_meaning()
+    ensures lambda { PshKeepsLambdas }
+    ensures program { PshKeepsPrograms }
+{}
