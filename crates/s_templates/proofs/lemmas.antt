@@ -28,3 +28,4 @@ pub mod Follows
 pub mod Choices
 pub mod Codes
 pub mod Bodies
+pub mod Arguments

@@ -12,3 +12,4 @@ pub mod Streams
 pub mod Table
 pub mod Frames
 pub mod Codes
+pub mod Arguments

@@ -1,5 +1,5 @@
 -- A place that is written: the machine goes on standing for the state of linear code.
-use Rattle.std.proofs.Common.{◌≡◌, ◌≢◌, ◌⊎◌, ℕ, ◌+◌, ◌-◌, ◌*◌, ◌<◌, ◌≤◌, ◌==◌, false, refl, sym, subst, ◌∙◌, arith, inl, inr, eqb-true}
+use Rattle.std.proofs.Common.{◌≡◌, ◌≢◌, ◌⊎◌, ℕ, ◌+◌, ◌-◌, ◌*◌, ◌<◌, ◌≤◌, ◌==◌, false, refl, sym, ap, subst, ◌∙◌, arith, inl, inr, eqb-true}
 use Rattle.std.proofs.lemmas.Bool.{cases_lt, cases_Bool, eqb-false, both_ways}
 use Rattle.val_core.specs.declared.values.Value.{Value}
 use Rattle.val_core.specs.Memory.{Memory}
@@ -12,12 +12,12 @@ use Rattle.s_linear.specs.Meaning as linear
 use Rattle.s_select.specs.declared.location.Location.{Location}
 use Rattle.s_select.specs.declared.location.Location.TheVariants.{Register, Near, Far}
 use Rattle.s_select.specs.Operands.{place_register, location_of}
-use Rattle.rv_machine.specs.Standing.{Text}
+use Rattle.rv_machine.specs.Standing.{Text, HasText}
 use Rattle.s_templates.specs.Relation.{IsKept, Shows, IsOutside, ShowsMemory, held, Frame, words_end, HasWords, Represents}
 use Rattle.s_templates.specs.Steps.{Arrives}
 use Rattle.s_templates.proofs.lemmas.Blocks.{memory-same}
 use Rattle.s_templates.proofs.lemmas.Stores.{SameBlocks, same-back, live-same}
-use Rattle.s_templates.proofs.lemmas.Locations.{LocationFits, IsOtherRegister, place-above, register-is-place, location-fits, other-register, other-addresses, held-at-register, held-at-word, outside-words}
+use Rattle.s_templates.proofs.lemmas.Locations.{LocationFits, IsOtherRegister, place-above, register-is-place, location-fits, other-register, other-addresses, held-at-register, held-at-word, held-same, outside-words}
 use Rattle.s_templates.proofs.lemmas.Operands.{Writes}
 
 module _ (text : Text) (f : Frame) (words : HasWords text f) where
@@ -91,6 +91,21 @@ module _ (text : Text) (f : Frame) (words : HasWords text f) where
             | inr other ↦
                 rw other (subst (Shows f.bases (q.names p)) (sym (same-held p (eqb-false p t other))) (rep.places p within))
           ]
+
+  -- registers that are kept, and memory, are as they were
+  pub kept-represents : (q : linear.State) (s u : machine.State) → Represents text f q s → ((r : ℕ) → IsKept r → u.regs r ≡ s.regs r) → u.mem ≡ s.mem → Represents text f q u
+  kept-represents q s u rep regs mem = record {
+    stack = regs sp (inl refl) ∙ rep.stack;
+    base = regs s0 (inr (inl refl)) ∙ rep.base;
+    places = λ p within.
+        subst (Shows f.bases (q.names p))
+        (sym (held-same f (location_of p) (location-fits f p within) s.regs u.regs s.mem u.mem (λ r place. regs r (inr (inr place))) mem)) (rep.places p within);
+    saved = λ p above low. regs (place_register p) (inr (inr (register-is-place p low))) ∙ rep.saved p above low;
+    above = λ n from out. ap (λ m. m n) mem ∙ rep.above n from out;
+    memory = subst (λ m. ShowsMemory text.flags f.bases q.memory m) (sym mem) rep.memory;
+    apart = rep.apart;
+    has_text = subst (HasText text) (sym mem) rep.has_text;
+  }
 
   -- memory that is written in blocks that live, and holds other values
   pub memory-written : (q : linear.State) (s u : machine.State) (m : Memory) → Represents text f q s → SameBlocks q.memory m → ((r : ℕ) → IsKept r → u.regs r ≡ s.regs r)
