@@ -2,7 +2,7 @@
 //! is the contract of a function that does nothing.
 
 ghost use Rattle.s_templates.specs.Laws.{FunctionsStand, ItemsAreResolved, ItemsAreCut, WordsStand, WordsAreTheSame};
-ghost use Rattle.s_templates.specs.Arguments.{ArgumentsAreLoaded};
+ghost use Rattle.s_templates.specs.Arguments.{ArgumentsAreLoaded, ParamsArePut};
 ghost use Rattle.s_templates.specs.Branches.{OffsetLeads, JumpIsDone, BranchNotZeroIsDone, BranchZeroIsDone, BranchEqualIsDone, ExitIsDone};
 ghost use Rattle.s_templates.specs.Codes.{CodeIsDone};
 ghost use Rattle.s_templates.specs.Calls.{CallLeads, ReturnLeads};
@@ -147,7 +147,9 @@ pub fn code_is_done()
     val_core::laws::memory::clear_keeps_blocks();
 }
 
-/// The arguments of a call are loaded into the argument registers.
-pub fn arguments_are_loaded()
-    ensures { ArgumentsAreLoaded }
+/// The arguments of a call are loaded into the argument registers, and what these registers hold is
+/// put into the places of parameters.
+pub fn arguments_are_passed()
+    ensures loaded { ArgumentsAreLoaded }
+    ensures put { ParamsArePut }
 {}
