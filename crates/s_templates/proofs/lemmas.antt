@@ -22,3 +22,10 @@ pub mod Streams
 pub mod Table
 pub mod Saves
 pub mod Frames
+pub mod Outcomes
+pub mod Lines
+pub mod Follows
+pub mod Choices
+pub mod Codes
+pub mod Bodies
+pub mod Arguments

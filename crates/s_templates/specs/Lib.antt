@@ -11,3 +11,5 @@ pub mod Stubs
 pub mod Streams
 pub mod Table
 pub mod Frames
+pub mod Codes
+pub mod Arguments

@@ -1,9 +1,9 @@
 -- Where the machine comes to, with nothing written and nothing read, and what it does where an answer of linear code says what to do.
-use Rattle.std.specs.Prelude.{◌≡◌, ℕ, ◌≤◌, List, []}
+use Rattle.std.specs.Prelude.{◌≡◌, ℕ, ◌<◌, ◌≤◌, List, []}
 use Rattle.val_core.specs.Answers.{Answer, Returned, Cut, Exited, Undefined}
-use Rattle.val_core.specs.Events.{Event, output}
+use Rattle.val_core.specs.Events.{Event, output, deepest, IsPrefixOf}
 use Rattle.rv_machine.specs.Laws.{Reaches}
-use Rattle.rv_machine.specs.Machine.{State, exit}
+use Rattle.rv_machine.specs.Machine.{State, exit, stack}
 use Rattle.rv_machine.specs.Run.{run, running, ended, standing}
 use Rattle.rv_machine.specs.Standing.{Text}
 use Rattle.s_linear.specs.Meaning as linear
@@ -50,6 +50,16 @@ pub record GoesOn (flags : ℕ → ℕ) (least : ℕ) (did : List Event) (s : St
   pub rest : List ℕ
   pub enough : least ≤ count
   pub reaches : Reaches flags count s input (output did) state rest
+
+-- The run ends with the status of the stack: what it has written begins what these events write, and of the stacks of calls that
+-- they meet the frames of one are larger together than what the stack has left.
+pub record Exceeds (flags sizes : ℕ → ℕ) (left : ℕ) (did : List Event) (s : State) (input : List ℕ) : Type 0 where
+  pub count : ℕ
+  pub written : List ℕ
+  pub rest : List ℕ
+  pub runs : run flags count (running s) input ≡ record { hart = ended stack; output = written; rest = rest }
+  pub begins : IsPrefixOf written (output did)
+  pub more : left < deepest sizes did
 
 -- The machine does what an answer of linear code says, up to address b: where the bound cuts the answer, it does so many
 -- instructions at least. An answer without meaning says nothing.

@@ -2,7 +2,9 @@
 //! is the contract of a function that does nothing.
 
 ghost use Rattle.s_templates.specs.Laws.{FunctionsStand, ItemsAreResolved, ItemsAreCut, WordsStand, WordsAreTheSame};
+ghost use Rattle.s_templates.specs.Arguments.{ArgumentsAreLoaded, ParamsArePut};
 ghost use Rattle.s_templates.specs.Branches.{OffsetLeads, JumpIsDone, BranchNotZeroIsDone, BranchZeroIsDone, BranchEqualIsDone, ExitIsDone};
+ghost use Rattle.s_templates.specs.Codes.{CodeIsDone};
 ghost use Rattle.s_templates.specs.Calls.{CallLeads, ReturnLeads};
 ghost use Rattle.s_templates.specs.Frames.{FrameIsTaken, StackIsExceeded, FrameIsGiven};
 ghost use Rattle.s_templates.specs.Memories.{LoadIsDone, StoreIsDone, EqualPointersIsDone, ClearIsDone};
@@ -133,4 +135,21 @@ pub fn frames_are_taken()
 /// frame holds them.
 pub fn frames_are_given_back()
     ensures { FrameIsGiven }
+{}
+
+/// The lines of code without calls do on the machine what the code means over places, its choices and
+/// loops included.
+pub fn code_is_done()
+    ensures { CodeIsDone }
+{
+    instructions_are_done();
+    val_core::laws::memory::store_keeps_blocks();
+    val_core::laws::memory::clear_keeps_blocks();
+}
+
+/// The arguments of a call are loaded into the argument registers, and what these registers hold is
+/// put into the places of parameters.
+pub fn arguments_are_passed()
+    ensures loaded { ArgumentsAreLoaded }
+    ensures put { ParamsArePut }
 {}

@@ -1,19 +1,20 @@
 -- The templates of branches and jumps lead where they say, and change nothing.
-use Rattle.std.proofs.Common.{◌≡◌, ◌≢◌, ℕ, ◌+◌, ◌-◌, ◌%◌, ◌^◌, ◌<◌, ◌==◌, not, Bool, true, false, cond, [], ◌∷◌, ◌++◌, refl, sym, ap, ap₂, subst, ◌∙◌, append_assoc, arith, inl, inr}
+use Rattle.std.proofs.Common.{◌≡◌, ◌≢◌, ℕ, ◌+◌, ◌-◌, ◌%◌, ◌^◌, ◌<◌, ◌==◌, not, Bool, true, false, cond, [], ◌∷◌, ◌++◌, refl, sym, ap, ap₂, subst, ◌∙◌, append_assoc, arith}
 use Rattle.val_core.specs.declared.values.Value.TheVariants.{Num}
-use Rattle.rv_isa.specs.Registers.{x0, sp, s0, t0, t1}
+use Rattle.rv_isa.specs.Registers.{x0, t0, t1}
 use Rattle.rv_isa.specs.declared.instruction.Instr.{Instr}
 use Rattle.rv_isa.specs.declared.instruction.Instr.TheVariants.{Beq, Bne, Jal}
 use Rattle.rv_machine.specs.Machine.{State, next, act, jump, offset, after}
 use Rattle.s_linear.specs.Meaning as linear
-use Rattle.s_select.specs.Operands.{place_register, location_of, load_immediate, in_of, load_in}
+use Rattle.s_select.specs.Operands.{location_of, load_immediate, in_of, load_in}
 use Rattle.rv_machine.specs.Standing.{Text, HasText, CodeStands}
-use Rattle.s_templates.specs.Relation.{IsKept, Shows, ShowsMemory, Frame, HasWords, Represents}
+use Rattle.s_templates.specs.Relation.{IsKept, Shows, Frame, HasWords, Represents}
 use Rattle.s_templates.specs.Steps.{Steps, Arrives}
 use Rattle.s_templates.specs.Branches.{OffsetLeads, JumpIsDone, BranchNotZeroIsDone, BranchZeroIsDone, BranchEqualIsDone}
 use Rattle.rv_machine.proofs.lemmas.Standing.{code_is_cut}
 use Rattle.s_templates.proofs.lemmas.Registers.{steps-then, step-to, look-at, code-le, immediate-loads}
-use Rattle.s_templates.proofs.lemmas.Locations.{kept-apart, register-is-place, location-fits, held-same}
+use Rattle.s_templates.proofs.lemmas.Locations.{kept-apart, location-fits}
+use Rattle.s_templates.proofs.lemmas.Represented.{kept-represents}
 use Rattle.s_templates.proofs.lemmas.Templates.{in-apart, loads}
 
 pub offset_leads : OffsetLeads
@@ -47,18 +48,7 @@ module _ (text : Text) where
       state = at u a;
       steps = steps;
       pc = refl;
-      shows = record {
-        stack = regs sp (inl refl) ∙ rep.stack;
-        base = regs s0 (inr (inl refl)) ∙ rep.base;
-        places = λ p within.
-            subst (Shows f.bases (q.names p))
-            (sym (held-same f (location_of p) (location-fits f p within) s.regs u.regs s.mem u.mem (λ r place. regs r (inr (inr place))) mem)) (rep.places p within);
-        saved = λ p above low. regs (place_register p) (inr (inr (register-is-place p low))) ∙ rep.saved p above low;
-        above = λ n from out. ap (λ m. m n) mem ∙ rep.above n from out;
-        memory = subst (λ m. ShowsMemory text.flags f.bases q.memory m) (sym mem) rep.memory;
-        apart = rep.apart;
-        has_text = subst (HasText text) (sym mem) rep.has_text;
-      };
+      shows = kept-represents text f words q s (at u a) rep regs mem;
     }
 
     -- what the register of a predicate holds

@@ -255,8 +255,8 @@ record FindsEnd (text : Text) (s : State) (size e : ℕ) (rest : List Instr) : T
   others : (r : ℕ) → r ≢ t0 → r ≢ t1 → r ≢ t2 → state.regs r ≡ s.regs r
   mem : state.mem ≡ s.mem
 
-finds-end : (text : Text) (s : State) (size e : ℕ) (rest : List Instr) → HasText text s.mem → s.regs sp + size < 2 ^ 32 → CodeStands text s.pc (load_immediate t0 size ++ Add t1 sp t0 ∷ rest) e → e < 2 ^ 32
-    → FindsEnd text s size e rest
+finds-end : (text : Text) (s : State) (size e : ℕ) (rest : List Instr) → HasText text s.mem → s.regs sp + size < 2 ^ 32
+    → CodeStands text s.pc (load_immediate t0 size ++ Add t1 sp t0 ∷ rest) e → e < 2 ^ 32 → FindsEnd text s size e rest
 unfolding act
 finds-end text s size e rest has high there low = record {
   state = two.state;
@@ -321,7 +321,8 @@ restored text s size saved e has frame there low = record {
         restores text top (let a = has.aligned in let b = frame.aligned in omega (arith, a, b)) has.low saved one.state cut.0 has1 one.end_is (let h = holds in omega (arith, h)) few
         (λ a from to. has.readable a (let h = holds in omega (arith, h, from)) to) cut.1 (let le = code-le text cut.0 leaving e cut.2 in omega (arith, le, low))
 
-leaves : (text : Text) (s : State) (size saved back e : ℕ) → HasFrame text s size → IsFrameSize size saved → e < 2 ^ 32 → load_bytes s.mem (s.regs sp + size - 4) 4 ≡ back → back < 2 ^ 32 → back % 2 ≡ 0
+leaves : (text : Text) (s : State) (size saved back e : ℕ) → HasFrame text s size → IsFrameSize size saved → e < 2 ^ 32
+    → load_bytes s.mem (s.regs sp + size - 4) 4 ≡ back → back < 2 ^ 32 → back % 2 ≡ 0
     → Restored text s size saved e → GivenBack text s size saved back
 unfolding act
 leaves text s size saved back e has frame low return-is small even h = record {

@@ -1,7 +1,7 @@
 -- Where places are: registers that templates keep, or words of the frame, each apart from the others.
 use Rattle.std.proofs.Common.{◌≡◌, ◌≢◌, ◌⊎◌, ℕ, ◌+◌, ◌-◌, ◌*◌, ◌%◌, ◌<◌, ◌≤◌, ◌==◌, nat_lt, Bool, true, false, cond, refl, sym, ap, subst, ◌∙◌, arith, inl, inr, eqb-true}
 use Rattle.std.proofs.lemmas.Bool.{cases_lt, lt-ltb, le-ltb, eqb-false}
-use Rattle.rv_isa.specs.Registers.{ra}
+use Rattle.rv_isa.specs.Registers.{ra, sp}
 use Rattle.rv_machine.specs.Memory.{Bytes, load_bytes}
 use Rattle.s_linear.specs.Frame.{registers}
 use Rattle.s_select.specs.declared.location.Location.{Location}
@@ -18,6 +18,19 @@ pub kept-apart : (r n : ℕ) → IsKept r → 2 < n → n < 8 → r ≢ n
 kept-apart r n (inl e) low high same = absurd (omega (arith, e, same, low))
 kept-apart r n (inr (inl e)) low high same = absurd (omega (arith, e, same, high))
 kept-apart r n (inr (inr h)) low high same = let above = place-above r h in absurd (omega (arith, above, same, high))
+
+-- a register that no template uses for an intermediate word
+abbrev pub IsNoTemporary : ℕ → Type 0
+IsNoTemporary r = (r ≡ sp) ⊎ (7 < r)
+
+pub no-temporary : (r : ℕ) → IsKept r → IsNoTemporary r
+no-temporary r (inl e) = inl e
+no-temporary r (inr (inl e)) = inr (omega (arith, e))
+no-temporary r (inr (inr place)) = let above = place-above r place in inr (omega (arith, above))
+
+pub temporary-apart : (r n : ℕ) → IsNoTemporary r → 2 < n → n < 8 → r ≢ n
+temporary-apart r n (inl e) low high same = absurd (omega (arith, e, same, low))
+temporary-apart r n (inr above) low high same = absurd (omega (arith, above, same, high))
 
 -- nor an argument register
 pub kept-sides : (r : ℕ) → IsKept r → (r < 10) ⊎ (17 < r)

@@ -18,7 +18,7 @@ use Rattle.rv_machine.specs.Standing.{CodeStands}
 use Rattle.s_templates.specs.Relation.{Shows, ShowsMemory}
 use Rattle.s_templates.specs.Memories.{LoadIsDone, StoreIsDone}
 use Rattle.s_templates.proofs.lemmas.Registers.{steps-then, step-to, look-at, one-computes}
-use Rattle.s_templates.proofs.lemmas.Locations.{kept-apart, location-fits, held-same}
+use Rattle.s_templates.proofs.lemmas.Locations.{temporary-apart, kept-apart, location-fits, held-same}
 use Rattle.s_templates.proofs.lemmas.Blocks.{value-there, address-there, leaf-there}
 use Rattle.s_templates.proofs.lemmas.Stores.{same-blocks, stored-there, store-shown}
 use Rattle.s_templates.proofs.lemmas.Represented.{place-written, memory-written}
@@ -94,7 +94,7 @@ load_is_done text f q s words rep width t a v below within loaded b there low =
     ap (λ n. load_bytes u.mem n width) is ∙ ap (λ m. load_bytes m (f.bases k.number + o) width) one.operand.mem in
     place-written text f words q s b t v rep below
     (writes-after text f words s u b l v one.operand.steps
-    (λ r kept other. one.operand.others r (kept-apart r 5 kept (omega arith) (omega arith)) (kept-apart r 7 kept (omega arith) (omega arith))) one.operand.mem
+    (λ r kept other. one.operand.others r (temporary-apart r 5 kept (omega arith) (omega arith)) (temporary-apart r 7 kept (omega arith) (omega arith))) one.operand.mem
     (finishes text f words u b (load_bytes u.mem one.word width) l v (load_instr width (out_of l) (in_of la t0) ∷ []) one.has one.stack fits one.code low
     (λ m small code.
     made text u m (out_of l) (load_bytes u.mem one.word width)

@@ -15,10 +15,10 @@ use Rattle.s_select.specs.declared.location.Location.{Location}
 use Rattle.s_select.specs.declared.location.Location.TheVariants.{Register, Near, Far}
 use Rattle.s_select.specs.Operands.{t2, get, put, in_of, load_in, out_of, store_out}
 use Rattle.rv_machine.specs.Standing.{Text, HasText, CodeStands}
-use Rattle.s_templates.specs.Relation.{IsKept, Bases, Shows, held, Frame, words_end, HasWords}
+use Rattle.s_templates.specs.Relation.{Bases, Shows, held, Frame, words_end, HasWords}
 use Rattle.s_templates.specs.Steps.{Steps}
 use Rattle.s_templates.proofs.lemmas.Registers.{steps-none, steps-then, step-to, look-at, Computes, computes-then, code-after, text-after, one-computes, two-compute}
-use Rattle.s_templates.proofs.lemmas.Locations.{place-above, kept-apart, LocationFits, IsOtherRegister, IsOtherAddress}
+use Rattle.s_templates.proofs.lemmas.Locations.{place-above, IsNoTemporary, temporary-apart, LocationFits, IsOtherRegister, IsOtherAddress}
 
 -- what a word shows, the word modulo 2^32 does
 pub shows-word : (bases : Bases) (v : Value) (x : ℕ) → Shows bases v x → Shows bases v (x % 2 ^ 32)
@@ -63,7 +63,7 @@ pub record Writes (text : Text) (f : Frame) (s : State) (b : ℕ) (l : Location)
   pub steps : Steps text.flags s state
   pub pc : state.pc ≡ b
   pub shows : Shows f.bases v (held f.sp state.regs state.mem l)
-  pub registers : (r : ℕ) → IsKept r → IsOtherRegister l r → state.regs r ≡ s.regs r
+  pub registers : (r : ℕ) → IsNoTemporary r → IsOtherRegister l r → state.regs r ≡ s.regs r
   pub memory : (a : ℕ) → IsOtherAddress f l a → state.mem a ≡ s.mem a
 
 -- An operand is in a register, and nothing else has changed but the register that it was loaded to and t2.
@@ -180,8 +180,8 @@ module _ (text : Text) (f : Frame) (words : HasWords text f) where
         memory = λ a other. ap (λ m. m a) one.mem;
       }
     where
-      kept : (q : ℕ) → IsKept q → q ≢ t2
-      kept q side = kept-apart q t2 side (omega arith) (omega arith)
+      kept : (q : ℕ) → IsNoTemporary q → q ≢ t2
+      kept q side = temporary-apart q t2 side (omega arith) (omega arith)
   put-done s b rs x (Near o) v has stack fits code low ne far is shows =
       let end = code.1 in
       record {
@@ -218,8 +218,8 @@ module _ (text : Text) (f : Frame) (words : HasWords text f) where
         memory = λ a other. left-elsewhere one.state o x a other ∙ ap (λ n. n a) one.mem;
       }
     where
-      kept : (q : ℕ) → IsKept q → q ≢ t2
-      kept q side = kept-apart q t2 side (omega arith) (omega arith)
+      kept : (q : ℕ) → IsNoTemporary q → q ≢ t2
+      kept q side = temporary-apart q t2 side (omega arith) (omega arith)
 
   -- a result that is in the register of its location, or in t0
   pub result-stored : (s : State) (b x : ℕ) (l : Location) (v : Value) → HasText text s.mem → s.regs sp ≡ f.sp → LocationFits f l → CodeStands text s.pc (store_out l) b → b < 2 ^ 32

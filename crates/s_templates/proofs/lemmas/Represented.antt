@@ -1,5 +1,5 @@
 -- A place that is written: the machine goes on standing for the state of linear code.
-use Rattle.std.proofs.Common.{◌≡◌, ◌≢◌, ◌⊎◌, ℕ, ◌+◌, ◌-◌, ◌*◌, ◌<◌, ◌≤◌, ◌==◌, false, refl, sym, subst, ◌∙◌, arith, inl, inr, eqb-true}
+use Rattle.std.proofs.Common.{◌≡◌, ◌≢◌, ◌⊎◌, ℕ, ◌+◌, ◌-◌, ◌*◌, ◌<◌, ◌≤◌, ◌==◌, false, refl, sym, ap, subst, ◌∙◌, arith, inl, inr, eqb-true}
 use Rattle.std.proofs.lemmas.Bool.{cases_lt, cases_Bool, eqb-false, both_ways}
 use Rattle.val_core.specs.declared.values.Value.{Value}
 use Rattle.val_core.specs.Memory.{Memory}
@@ -12,12 +12,12 @@ use Rattle.s_linear.specs.Meaning as linear
 use Rattle.s_select.specs.declared.location.Location.{Location}
 use Rattle.s_select.specs.declared.location.Location.TheVariants.{Register, Near, Far}
 use Rattle.s_select.specs.Operands.{place_register, location_of}
-use Rattle.rv_machine.specs.Standing.{Text}
+use Rattle.rv_machine.specs.Standing.{Text, HasText}
 use Rattle.s_templates.specs.Relation.{IsKept, Shows, IsOutside, ShowsMemory, held, Frame, words_end, HasWords, Represents}
 use Rattle.s_templates.specs.Steps.{Arrives}
 use Rattle.s_templates.proofs.lemmas.Blocks.{memory-same}
 use Rattle.s_templates.proofs.lemmas.Stores.{SameBlocks, same-back, live-same}
-use Rattle.s_templates.proofs.lemmas.Locations.{LocationFits, IsOtherRegister, place-above, register-is-place, location-fits, other-register, other-addresses, held-at-register, held-at-word, outside-words}
+use Rattle.s_templates.proofs.lemmas.Locations.{no-temporary, LocationFits, IsOtherRegister, place-above, register-is-place, location-fits, other-register, other-addresses, held-at-register, held-at-word, held-same, outside-words}
 use Rattle.s_templates.proofs.lemmas.Operands.{Writes}
 
 module _ (text : Text) (f : Frame) (words : HasWords text f) where
@@ -33,28 +33,23 @@ module _ (text : Text) (f : Frame) (words : HasWords text f) where
             ]
       ]
 
-  pub place-written : (q : linear.State) (s : machine.State) (b t : ℕ) (v : Value) → Represents text f q s → t < f.places → Writes text f s b (location_of t) v
-      → Arrives text f b (linear.set q t v) s
-  place-written q s b t v rep below w = record {
-    state = w.state;
-    steps = w.steps;
-    pc = w.pc;
-    shows = record {
-      stack = kept sp (inl refl) (high-register sp (omega arith)) ∙ rep.stack;
-      base = kept s0 (inr (inl refl)) (high-register s0 (omega arith)) ∙ rep.base;
-      places = place;
-      saved = λ p above low. register p low (apart p above) ∙ rep.saved p above low;
-      above = λ a from out. w.memory a (outside-words f t a below (inr from)) ∙ rep.above a from out;
-      memory =
-          memory-same text.flags f.bases q.memory s.mem w.state.mem
-          (λ a live. w.memory a (outside-words f t a below (out-of-words a (λ from to. rep.apart a from to live)))) rep.memory;
-      apart = rep.apart;
-      has_text = λ a fixed. w.memory a (outside-words f t a below (out-of-words a (λ from to. both_ways (has_flag (text.flags a) to_write) fixed (words.writable a from to)))) ∙ rep.has_text a fixed;
-    };
+  pub place-represents : (q : linear.State) (s : machine.State) (b t : ℕ) (v : Value) → Represents text f q s → t < f.places → (w : Writes text f s b (location_of t) v)
+      → Represents text f (linear.set q t v) w.state
+  place-represents q s b t v rep below w = record {
+    stack = kept sp (inl refl) (high-register sp (omega arith)) ∙ rep.stack;
+    base = kept s0 (inr (inl refl)) (high-register s0 (omega arith)) ∙ rep.base;
+    places = place;
+    saved = λ p above low. register p low (apart p above) ∙ rep.saved p above low;
+    above = λ a from out. w.memory a (outside-words f t a below (inr from)) ∙ rep.above a from out;
+    memory =
+        memory-same text.flags f.bases q.memory s.mem w.state.mem
+        (λ a live. w.memory a (outside-words f t a below (out-of-words a (λ from to. rep.apart a from to live)))) rep.memory;
+    apart = rep.apart;
+    has_text = λ a fixed. w.memory a (outside-words f t a below (out-of-words a (λ from to. both_ways (has_flag (text.flags a) to_write) fixed (words.writable a from to)))) ∙ rep.has_text a fixed;
   }
     where
       kept : (r : ℕ) → IsKept r → IsOtherRegister (location_of t) r → w.state.regs r ≡ s.regs r
-      kept r side other = w.registers r side other
+      kept r side other = w.registers r (no-temporary r side) other
 
       high-register : (r : ℕ) → r ≤ 8 → IsOtherRegister (location_of t) r
       high-register r low = other (location_of t) (location-fits f t below)
@@ -91,6 +86,25 @@ module _ (text : Text) (f : Frame) (words : HasWords text f) where
             | inr other ↦
                 rw other (subst (Shows f.bases (q.names p)) (sym (same-held p (eqb-false p t other))) (rep.places p within))
           ]
+
+  pub place-written : (q : linear.State) (s : machine.State) (b t : ℕ) (v : Value) → Represents text f q s → t < f.places → Writes text f s b (location_of t) v
+      → Arrives text f b (linear.set q t v) s
+  place-written q s b t v rep below w = record { state = w.state; steps = w.steps; pc = w.pc; shows = place-represents q s b t v rep below w }
+
+  -- registers that are kept, and memory, are as they were
+  pub kept-represents : (q : linear.State) (s u : machine.State) → Represents text f q s → ((r : ℕ) → IsKept r → u.regs r ≡ s.regs r) → u.mem ≡ s.mem → Represents text f q u
+  kept-represents q s u rep regs mem = record {
+    stack = regs sp (inl refl) ∙ rep.stack;
+    base = regs s0 (inr (inl refl)) ∙ rep.base;
+    places = λ p within.
+        subst (Shows f.bases (q.names p))
+        (sym (held-same f (location_of p) (location-fits f p within) s.regs u.regs s.mem u.mem (λ r place. regs r (inr (inr place))) mem)) (rep.places p within);
+    saved = λ p above low. regs (place_register p) (inr (inr (register-is-place p low))) ∙ rep.saved p above low;
+    above = λ n from out. ap (λ m. m n) mem ∙ rep.above n from out;
+    memory = subst (λ m. ShowsMemory text.flags f.bases q.memory m) (sym mem) rep.memory;
+    apart = rep.apart;
+    has_text = subst (HasText text) (sym mem) rep.has_text;
+  }
 
   -- memory that is written in blocks that live, and holds other values
   pub memory-written : (q : linear.State) (s u : machine.State) (m : Memory) → Represents text f q s → SameBlocks q.memory m → ((r : ℕ) → IsKept r → u.regs r ≡ s.regs r)

@@ -16,7 +16,7 @@ use Rattle.s_templates.specs.Relation.{Frame}
 use Rattle.s_templates.specs.Rows.{ConstIsDone, UndefIsDone, ObjectAddressIsDone, GlobalAddressIsDone, BinaryIsDone, UnaryIsDone, MoveIsDone}
 use Rattle.rv_machine.proofs.lemmas.Standing.{code_is_cut}
 use Rattle.s_templates.proofs.lemmas.Registers.{steps-none, steps-then, code-le, one-computes, address-loads, immediate-loads}
-use Rattle.s_templates.proofs.lemmas.Locations.{kept-apart, location-fits}
+use Rattle.s_templates.proofs.lemmas.Locations.{temporary-apart, location-fits}
 use Rattle.s_templates.proofs.lemmas.Values.{shows1, shows2}
 use Rattle.s_templates.proofs.lemmas.Represented.{place-written}
 use Rattle.s_templates.proofs.lemmas.Templates.{out-apart, Makes, made, binary-computes, unary-computes, finishes, one-writes, two-write, move-writes}
@@ -69,8 +69,8 @@ object-makes text f s m rd offset has stack there low ne fits =
       pc = two.pc;
       holds = two.holds;
       others = λ r kept other.
-          two.others r other (kept-apart r 7 kept (omega arith) (omega arith))
-          ∙ one.others r (kept-apart r 5 kept (omega arith) (omega arith)) (kept-apart r 7 kept (omega arith) (omega arith));
+          two.others r other (temporary-apart r 7 kept (omega arith) (omega arith))
+          ∙ one.others r (temporary-apart r 5 kept (omega arith) (omega arith)) (temporary-apart r 7 kept (omega arith) (omega arith));
       mem = two.mem ∙ one.mem;
     }
 

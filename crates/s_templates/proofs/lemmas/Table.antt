@@ -1,5 +1,5 @@
 -- The items of each instruction but a call do what it means: the rows, gathered.
-use Rattle.std.proofs.Common.{◌≡◌, ℕ, ◌+◌, ◌%◌, ◌^◌, ◌<◌, ◌&&◌, Bool, true, IsTrue, List, [], ◌∷◌, ◌++◌, length, slice_index, Option, Some, None, refl, sym, subst, arith}
+use Rattle.std.proofs.Common.{◌≡◌, ℕ, ◌+◌, ◌%◌, ◌^◌, ◌<◌, ◌&&◌, Bool, true, IsTrue, List, [], ◌∷◌, ◌++◌, length, slice_get, slice_index, is_some, nat_lt, Option, Some, None, refl, sym, subst, arith}
 use Rattle.std.specs.Prelude.{All}
 use Rattle.std.proofs.lemmas.Bool.{and_parts, ltb-true}
 use Rattle.val_core.specs.declared.values.Value.{Value}
@@ -62,7 +62,9 @@ module _ (store_is_done : StoreIsDone) (clear_is_done : ClearIsDone) (text : Tex
 
   -- the place of a name is one of the frame's
   below : (x : ℕ) → has_place p x ≡ true → place_at p x < f.places
-  below x e = let less = ltb-true (place_at p x) p.count (and_parts _ _ e).1 in let same = body.count in omega (arith, less, same)
+  below x e =
+      let less : place_at p x < p.count = ltb-true (place_at p x) p.count (and_parts (is_some (slice_get p.of x)) (nat_lt (place_at p x) p.count) e).1 in
+      let same = body.count in omega (arith, less, same)
 
   stands : (code : List isa.Instr) → ItemsStand text addresses labels s.pc (words code) b → CodeStands text s.pc code b
   stands code h = words_stand text addresses labels s.pc b code h
@@ -159,7 +161,8 @@ module _ (store_is_done : StoreIsDone) (clear_is_done : ClearIsDone) (text : Tex
   instr-done (binary op t x y) e o g plain h =
       let code = stands (with_two (location_of (place_at p t)) (location_of (place_at p x)) (location_of (place_at p y)) (binary_code op)) h in
       comes text f b (linear.set q (place_at p t) (value2 op (q.names (place_at p x)) (q.names (place_at p y)))) s
-      (binary_is_done text f q s has rep op (place_at p t) (place_at p x) (place_at p y) (below t (one _ _ e)) (below x (one _ _ (others _ _ e))) (below y (one _ _ (others _ _ (others _ _ e)))) b code low)
+      (binary_is_done text f q s has rep op (place_at p t) (place_at p x) (place_at p y) (below t (one _ _ e)) (below x (one _ _ (others _ _ e)))
+      (below y (one _ _ (others _ _ (others _ _ e)))) b code low)
   instr-done (unary op t x) e o g plain h =
       let code = stands (with_one (location_of (place_at p t)) (location_of (place_at p x)) (unary_code op)) h in
       comes text f b (linear.set q (place_at p t) (value1 op (q.names (place_at p x)))) s
@@ -171,7 +174,9 @@ module _ (store_is_done : StoreIsDone) (clear_is_done : ClearIsDone) (text : Tex
       comes text f b (linear.set q (place_at p t) v) s
       (load_is_done text f q s has rep width (place_at p t) (place_at p x) v (below t (one _ _ e)) (below x (one _ _ (others _ _ e))) loaded b code low))
   instr-done (store width x v) e o g plain h =
-      let code = stands (load_in t0 (location_of (place_at p x)) ++ load_in t1 (location_of (place_at p v)) ++ store_instr width (in_of (location_of (place_at p x)) t0) (in_of (location_of (place_at p v)) t1) ∷ []) h in
+      let a = location_of (place_at p x) in
+      let l = location_of (place_at p v) in
+      let code = stands (load_in t0 a ++ load_in t1 l ++ store_instr width (in_of a t0) (in_of l t1) ∷ []) h in
       on-defined (mem.store width (q.names (place_at p x)) (q.names (place_at p v)) q.memory) (linear.gives_memory q)
       (λ m stored.
       comes text f b (record { names = q.names; memory = m; input = q.input }) s
@@ -182,7 +187,8 @@ module _ (store_is_done : StoreIsDone) (clear_is_done : ClearIsDone) (text : Tex
       on-defined (mem.pointers_equal (q.names (place_at p x)) (q.names (place_at p y)) q.memory) (λ n. linear.gives q (place_at p t) (Num n))
       (λ n equal.
       comes text f b (linear.set q (place_at p t) (Num n)) s
-      (equal_pointers_is_done text f q s has rep (place_at p t) (place_at p x) (place_at p y) n (below t (one _ _ e)) (below x (one _ _ (others _ _ e))) (below y (one _ _ (others _ _ (others _ _ e)))) equal b code low))
+      (equal_pointers_is_done text f q s has rep (place_at p t) (place_at p x) (place_at p y) n (below t (one _ _ e)) (below x (one _ _ (others _ _ e)))
+      (below y (one _ _ (others _ _ (others _ _ e)))) equal b code low))
   instr-done (move t x) e o g plain h =
       let code = stands (move_code (location_of (place_at p t)) (location_of (place_at p x))) h in
       comes text f b (linear.set q (place_at p t) (q.names (place_at p x))) s

@@ -17,11 +17,11 @@ use Rattle.s_select.specs.Operands.{put, in_of, load_in, out_of, store_out}
 use Rattle.s_select.specs.Templates.{binary_instr, binary_code, unary_code, with_two, with_one, move_code}
 use Rattle.rv_machine.specs.Standing.{Text, HasText, CodeStands}
 use Rattle.s_templates.specs.Computed.{first_word, computed1, computed2}
-use Rattle.s_templates.specs.Relation.{IsKept, Shows, held, Frame, HasWords}
+use Rattle.s_templates.specs.Relation.{Shows, held, Frame, HasWords}
 use Rattle.s_templates.specs.Steps.{Steps}
 use Rattle.rv_machine.proofs.lemmas.Standing.{code_is_cut}
 use Rattle.s_templates.proofs.lemmas.Registers.{steps-then, look-at, Computes, code-le, one-computes, two-compute}
-use Rattle.s_templates.proofs.lemmas.Locations.{place-above, kept-apart, LocationFits, IsOtherRegister, held-same}
+use Rattle.s_templates.proofs.lemmas.Locations.{IsNoTemporary, no-temporary, place-above, temporary-apart, LocationFits, IsOtherRegister, held-same}
 use Rattle.s_templates.proofs.lemmas.Operands.{Writes, Operand, get-done, operand-done, put-done, result-stored}
 
 -- ---- registers of operands and results
@@ -44,10 +44,10 @@ out-apart f (Register r) fits same = let high = place-above r fits in let e : r 
 out-apart f (Near o) fits same = absurd (omega (arith, same))
 out-apart f (Far o) fits same = absurd (omega (arith, same))
 
-kept-out : (l : Location) (r : ℕ) → IsKept r → IsOtherRegister l r → r ≢ out_of l
+kept-out : (l : Location) (r : ℕ) → IsNoTemporary r → IsOtherRegister l r → r ≢ out_of l
 kept-out (Register q) r kept other = other
-kept-out (Near o) r kept other = kept-apart r 5 kept (omega arith) (omega arith)
-kept-out (Far o) r kept other = kept-apart r 5 kept (omega arith) (omega arith)
+kept-out (Near o) r kept other = temporary-apart r 5 kept (omega arith) (omega arith)
+kept-out (Far o) r kept other = temporary-apart r 5 kept (omega arith) (omega arith)
 
 -- Up to address b a register gets a word, and of the others those that are kept stay.
 pub record Makes (text : Text) (s : machine.State) (b rd x : ℕ) : Type 0 where
@@ -55,7 +55,7 @@ pub record Makes (text : Text) (s : machine.State) (b rd x : ℕ) : Type 0 where
   pub steps : Steps text.flags s state
   pub pc : state.pc ≡ b
   pub holds : state.regs rd ≡ x
-  pub others : (r : ℕ) → IsKept r → r ≢ rd → state.regs r ≡ s.regs r
+  pub others : (r : ℕ) → IsNoTemporary r → r ≢ rd → state.regs r ≡ s.regs r
   pub mem : state.mem ≡ s.mem
 
 pub made : (text : Text) (s : machine.State) (b rd x : ℕ) → Computes text s b rd x → Makes text s b rd x
@@ -64,7 +64,7 @@ made text s b rd x h = record {
   steps = h.steps;
   pc = h.pc;
   holds = h.holds;
-  others = λ r kept other. h.others r other (kept-apart r 7 kept (omega arith) (omega arith));
+  others = λ r kept other. h.others r other (temporary-apart r 7 kept (omega arith) (omega arith));
   mem = h.mem;
 }
 
@@ -126,7 +126,7 @@ module _ (text : Text) where
   -- ---- templates of no, one and two operands
 
   module _ (f : Frame) (words : HasWords text f) where
-    pub writes-after : (s u : machine.State) (b : ℕ) (l : Location) (v : Value) → Steps text.flags s u → ((r : ℕ) → IsKept r → IsOtherRegister l r → u.regs r ≡ s.regs r) → u.mem ≡ s.mem
+    pub writes-after : (s u : machine.State) (b : ℕ) (l : Location) (v : Value) → Steps text.flags s u → ((r : ℕ) → IsNoTemporary r → IsOtherRegister l r → u.regs r ≡ s.regs r) → u.mem ≡ s.mem
         → Writes text f u b l v → Writes text f s b l v
     writes-after s u b l v steps regs mem w = record {
       state = w.state;
@@ -191,7 +191,7 @@ module _ (text : Text) where
         let one = loads s b 5 la va (code (out_of l) (in_of la t0) ++ store_out l) has stack fitsa whole low (omega arith) (omega arith) shows in
         let u = one.operand.state in
         writes-after s u b l v one.operand.steps
-        (λ r kept other. one.operand.others r (kept-apart r 5 kept (omega arith) (omega arith)) (kept-apart r 7 kept (omega arith) (omega arith))) one.operand.mem
+        (λ r kept other. one.operand.others r (temporary-apart r 5 kept (omega arith) (omega arith)) (temporary-apart r 7 kept (omega arith) (omega arith))) one.operand.mem
         (finishes u b (g one.word) l v (code (out_of l) (in_of la t0)) one.has one.stack fits one.code low
         (λ m below stands.
         made text u m (out_of l) (g one.word)
@@ -208,7 +208,7 @@ module _ (text : Text) where
         let whole = subst (λ c. CodeStands text s.pc c b) (append_assoc (load_in t0 la ++ load_in t1 lb) last (store_out l) ∙ append_assoc (load_in t0 la) (load_in t1 lb) (last ++ store_out l)) there in
         let one = loads s b 5 la va (load_in t1 lb ++ (last ++ store_out l)) has stack fitsa whole low (omega arith) (omega arith) showsa in
         let u = one.operand.state in
-        let still = held-same f lb fitsb s.regs u.regs s.mem u.mem (λ r place. one.operand.others r (kept-apart r 5 (inr (inr place)) (omega arith) (omega arith)) (kept-apart r 7 (inr (inr place)) (omega arith) (omega arith))) one.operand.mem in
+        let still = held-same f lb fitsb s.regs u.regs s.mem u.mem (λ r place. one.operand.others r (temporary-apart r 5 (no-temporary r (inr (inr place))) (omega arith) (omega arith)) (temporary-apart r 7 (no-temporary r (inr (inr place))) (omega arith) (omega arith))) one.operand.mem in
         let two = loads u b 6 lb vb (last ++ store_out l) one.has one.stack fitsb one.code low (omega arith) (omega arith)
         (subst (Shows f.bases vb) (sym still) showsb) in
         let w = two.operand.state in
@@ -216,8 +216,8 @@ module _ (text : Text) where
         two.operand.others (in_of la t0) (in-apart f la 5 6 fitsa (omega arith) (omega arith)) (in-apart f la 5 7 fitsa (omega arith) (omega arith)) ∙ one.operand.is in
         writes-after s w b l v (steps-then text.flags s u w one.operand.steps two.operand.steps)
         (λ r kept other.
-        two.operand.others r (kept-apart r 6 kept (omega arith) (omega arith)) (kept-apart r 7 kept (omega arith) (omega arith))
-        ∙ one.operand.others r (kept-apart r 5 kept (omega arith) (omega arith)) (kept-apart r 7 kept (omega arith) (omega arith))) (two.operand.mem ∙ one.operand.mem)
+        two.operand.others r (temporary-apart r 6 kept (omega arith) (omega arith)) (temporary-apart r 7 kept (omega arith) (omega arith))
+        ∙ one.operand.others r (temporary-apart r 5 kept (omega arith) (omega arith)) (temporary-apart r 7 kept (omega arith) (omega arith))) (two.operand.mem ∙ one.operand.mem)
         (finishes w b (g one.word two.word) l v last two.has two.stack fits two.code low
         (λ m below stands.
         made text w m (out_of l) (g one.word two.word)
@@ -236,20 +236,20 @@ module _ (text : Text) where
           steps = h.2.steps;
           pc = h.2.pc;
           shows = subst (Shows f.bases v) (sym h.2.holds) h.1;
-          registers = λ q kept other. h.2.others q other (kept-apart q 7 kept (omega arith) (omega arith));
+          registers = λ q kept other. h.2.others q other (temporary-apart q 7 kept (omega arith) (omega arith));
           memory = λ a other. ap (λ m. m a) h.2.mem;
         }
     move-writes s b (Near o) la v has stack fits fitsa there low shows =
         let one = loads s b 5 la v (put (Near o) (in_of la t0)) has stack fitsa there low (omega arith) (omega arith) shows in
         let u = one.operand.state in
         writes-after s u b (Near o) v one.operand.steps
-        (λ r kept other. one.operand.others r (kept-apart r 5 kept (omega arith) (omega arith)) (kept-apart r 7 kept (omega arith) (omega arith))) one.operand.mem
+        (λ r kept other. one.operand.others r (temporary-apart r 5 kept (omega arith) (omega arith)) (temporary-apart r 7 kept (omega arith) (omega arith))) one.operand.mem
         (put-done text f words u b (in_of la t0) one.word (Near o) v one.has one.stack fits one.code low (in-apart f la 5 0 fitsa (omega arith) (omega arith))
         (in-apart f la 5 7 fitsa (omega arith) (omega arith)) one.operand.is one.shows)
     move-writes s b (Far o) la v has stack fits fitsa there low shows =
         let one = loads s b 5 la v (put (Far o) (in_of la t0)) has stack fitsa there low (omega arith) (omega arith) shows in
         let u = one.operand.state in
         writes-after s u b (Far o) v one.operand.steps
-        (λ r kept other. one.operand.others r (kept-apart r 5 kept (omega arith) (omega arith)) (kept-apart r 7 kept (omega arith) (omega arith))) one.operand.mem
+        (λ r kept other. one.operand.others r (temporary-apart r 5 kept (omega arith) (omega arith)) (temporary-apart r 7 kept (omega arith) (omega arith))) one.operand.mem
         (put-done text f words u b (in_of la t0) one.word (Far o) v one.has one.stack fits one.code low (in-apart f la 5 0 fitsa (omega arith) (omega arith))
         (in-apart f la 5 7 fitsa (omega arith) (omega arith)) one.operand.is one.shows)
