@@ -222,7 +222,8 @@ module _ (l : PlainLambda) (args : List Kind) (before : NodeTrees) (here y : Nod
       by_carried e (Some a) w =
           subst₂ (λ y z. IsLessDefinedDatum y z) (sym (post p a w)) (sym (kept_outer a (outer_read p a w))) (read-refines IsLessDefinedDatum less-kept xs ys paired o q ordered a)
 
-      by : (s : Bool) → (id == n) ≡ s → IsLessDefinedDatum (cond s (at_port us p) (o n p)) (read ys (extended q id vs) (cond s (unwrap_or (joined (slice_get cs p)) (Out n (place_after stays p))) (Out n p)))
+      by : (s : Bool) → (id == n) ≡ s →
+          IsLessDefinedDatum (cond s (at_port us p) (o n p)) (read ys (extended q id vs) (cond s (unwrap_or (joined (slice_get cs p)) (Out n (place_after stays p))) (Out n p)))
       by true e = by_carried e (joined (slice_get cs p)) refl
       by false e =
           let same : extended q id vs n p ≡ q n p = ap (λ s. cond s (at_port vs p) (q n p)) e in
@@ -251,7 +252,8 @@ module _ (l : PlainLambda) (args : List Kind) (before : NodeTrees) (here y : Nod
           };
         }
 
-itself_refines : (x : NodeTree) (direction : Direction) (c d : Context) → ContextRefines no_deeper direction IsLessDefinedDatum c d → (xs ys : List Datum) (o q : Outputs) → Paired IsLessDefinedDatum xs ys →
+itself_refines : (x : NodeTree) (direction : Direction) (c d : Context) → ContextRefines no_deeper direction IsLessDefinedDatum c d → (xs ys : List Datum) (o q : Outputs) →
+    Paired IsLessDefinedDatum xs ys →
     OutputsRefine IsLessDefinedDatum o q → Refines no_deeper direction (Paired IsLessDefinedDatum) (node_run c x xs o) (node_run d x ys q)
 itself_refines x direction c d context xs ys o q paired ordered =
     node-refines no_deeper no_deeper-compares direction IsLessDefinedDatum less-kept Never Always
@@ -287,7 +289,8 @@ module _ (l : PlainLambda) (args : List Kind) (before : NodeTrees) (id : ℕ) (i
       (node_run d gamma ys q) (λ us. Returned us []) (drops (staying cs)) (itself_refines gamma direction c d context xs ys o q paired ordered)
       (λ us vs pairs. (paired_kept IsLessDefinedDatum (staying cs) us vs pairs, no_deeper-compares.goes.nothing)))
 
-  gamma_replace : (ls ks : List PlainLambda) → Replaces ls ks (region args (joined_nodes before (node_then gamma after)) results) (exits_carried id cs (region args (joined_nodes before (node_then gamma after)) results))
+  gamma_replace : (ls ks : List PlainLambda) →
+      Replaces ls ks (region args (joined_nodes before (node_then gamma after)) results) (exits_carried id cs (region args (joined_nodes before (node_then gamma after)) results))
   gamma_replace ls ks =
       let none = not_before (length l.objects) args before gamma after (node-here l args before gamma after results part) in
       subst (λ ns. Replaces ls ks (region args (joined_nodes before (node_then gamma after)) results) (region args ns (map (output_carried id cs (staying cs)) results)))

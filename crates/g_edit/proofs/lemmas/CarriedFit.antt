@@ -142,7 +142,8 @@ module _ (objects : ℕ) (args : List Kind) (before : NodeTrees) (x y : NodeTree
   kinds_stay between rest q (Arg k) = refl
   kinds_stay between rest q (Out n p) = by (id_of x == n) refl
     where
-      by_carried : (id_of x == n) ≡ true → (c : Option Origin) → joined (slice_get cs p) ≡ c → known args (new_scope between) (unwrap_or c (Out n (place_after stays p))) ≡ known args (old_scope between) (Out n p)
+      by_carried : (id_of x == n) ≡ true → (c : Option Origin) → joined (slice_get cs p) ≡ c →
+          known args (new_scope between) (unwrap_or c (Out n (place_after stays p))) ≡ known args (old_scope between) (Out n p)
       by_carried e None w =
           let none : has_node n between ≡ false = ap (λ m. has_node m between) (sym (same_number (id_of x) n e)) ∙ none_between between rest q in
           kind_after-joined before (node_then y (nodes_redirected move between)) n (place_after stays p) None
@@ -154,7 +155,8 @@ module _ (objects : ℕ) (args : List Kind) (before : NodeTrees) (x y : NodeTree
           let c = carries p a w in
           outer_known between rest q a c.kind c.outer ∙ sym c.own ∙ sym (old_own between rest q n p e)
 
-      by : (t : Bool) → (id_of x == n) ≡ t → known args (new_scope between) (cond t (unwrap_or (joined (slice_get cs p)) (Out n (place_after stays p))) (Out n p)) ≡ known args (old_scope between) (Out n p)
+      by : (t : Bool) → (id_of x == n) ≡ t →
+          known args (new_scope between) (cond t (unwrap_or (joined (slice_get cs p)) (Out n (place_after stays p))) (Out n p)) ≡ known args (old_scope between) (Out n p)
       by true e = by_carried e (joined (slice_get cs p)) refl
       by false e =
           kind_after-joined before (node_then y (nodes_redirected move between)) n p None
@@ -220,7 +222,8 @@ module _ (objects : ℕ) (args : List Kind) (before : NodeTrees) (x y : NodeTree
       own_some : (c : Option Origin) → joined (slice_get cs p) ≡ c → origin_at (λ q. Out (id_of x) q) (last_index k 0 (kept stays (output_kinds x)) None) state ≡ Some (move (Out (id_of x) p))
       own_some None w =
           ap (λ l. origin_at (λ q. Out (id_of x) q) l state)
-          (last_follows k (λ j. j ≡ p) (place_after stays) stays 0 0 (output_kinds x) None None (λ j d. ap (stays_at stays) (omega (arith, d)) ∙ stay p w) (λ j d. from_none stays j) (λ j d g. absurd cc) p e refl)
+          (last_follows k (λ j. j ≡ p) (place_after stays) stays 0 0 (output_kinds x) None None (λ j d. ap (stays_at stays) (omega (arith, d))
+          ∙ stay p w) (λ j d. from_none stays j) (λ j d g. absurd cc) p e refl)
           ∙ ap Some (sym (own_move ∙ ap (λ z. unwrap_or z (Out (id_of x) (place_after stays p))) w))
       own_some (Some a) w = gone_state a (carries p a w) ∙ ap Some (sym (own_move ∙ ap (λ z. unwrap_or z (Out (id_of x) (place_after stays p))) w))
 
@@ -229,7 +232,8 @@ module _ (objects : ℕ) (args : List Kind) (before : NodeTrees) (x y : NodeTree
     own_state None e = own_none e
     own_state (Some p) e = own_some p e (joined (slice_get cs p)) refl
 
-  last_state_moves : (k : Kind) → IsState k → (between rest : NodeTrees) → after ≡ joined_nodes between rest → last_state k args (new_scope between) ≡ option_map move (last_state k args (old_scope between))
+  last_state_moves : (k : Kind) → IsState k → (between rest : NodeTrees) → after ≡ joined_nodes between rest →
+      last_state k args (new_scope between) ≡ option_map move (last_state k args (old_scope between))
   last_state_moves k s between rest q =
       let first = origin_at Arg (last_index k 0 (map Some args) None) None in
       let state = state_after k before first in
