@@ -43,7 +43,8 @@ use Rattle.r_inv.specs.Laws.{InvReplaces, InvKeepsLambdas, InvKeepsPrograms, Inv
 
 -- ---- what is carried
 
-exits_passed : (inputs : List Origin) (rs : RegionTrees) (p : ℕ) (ks : List (Option Kind)) (i : ℕ) (o : Origin) → joined (slice_get (exits_from inputs rs p ks) i) ≡ Some o → passed inputs (p + i) rs ≡ Some o
+exits_passed : (inputs : List Origin) (rs : RegionTrees) (p : ℕ) (ks : List (Option Kind)) (i : ℕ) (o : Origin) → joined (slice_get (exits_from inputs rs p ks) i) ≡ Some o →
+    passed inputs (p + i) rs ≡ Some o
 exits_passed inputs rs p [] i o e = absurd cc
 exits_passed inputs rs p (k ∷ ks) zero o e =
     let number : p + 0 ≡ p = omega arith in
@@ -62,7 +63,8 @@ record Invariant (inputs outs : List Origin) (p : ℕ) (j : Option Kind) (o : Or
   result : slice_get outs (suc p) ≡ Some (Arg p)
   input : slice_get inputs p ≡ Some o
 
-variables_kept : (inputs outs : List Origin) (p : ℕ) (js : List Kind) (i : ℕ) (o : Origin) → joined (slice_get (variables_from inputs outs p js) i) ≡ Some o → Invariant inputs outs (p + i) (slice_get js i) o
+variables_kept : (inputs outs : List Origin) (p : ℕ) (js : List Kind) (i : ℕ) (o : Origin) → joined (slice_get (variables_from inputs outs p js) i) ≡ Some o →
+    Invariant inputs outs (p + i) (slice_get js i) o
 variables_kept inputs outs p [] i o e = absurd cc
 variables_kept inputs outs p (j ∷ js) zero o e =
     let number : p ≡ p + 0 = omega arith in

@@ -19,7 +19,8 @@ pub exits_count : (inputs : List Origin) (rs : RegionTrees) (p : ℕ) (ks : List
 exits_count inputs rs p [] = refl
 exits_count inputs rs p (k ∷ ks) = ap suc (exits_count inputs rs (suc p) ks)
 
-exit_from : (inputs : List Origin) (rs : RegionTrees) (p : ℕ) (ks : List (Option Kind)) (i : ℕ) → i < length (exits_from inputs rs p ks) → slice_get (exits_from inputs rs p ks) i ≡ Some (passed inputs (p + i) rs)
+exit_from : (inputs : List Origin) (rs : RegionTrees) (p : ℕ) (ks : List (Option Kind)) (i : ℕ) → i < length (exits_from inputs rs p ks) →
+    slice_get (exits_from inputs rs p ks) i ≡ Some (passed inputs (p + i) rs)
 exit_from inputs rs p [] i b = absurd (omega arith)
 exit_from inputs rs p (k ∷ ks) zero b =
     let number : p ≡ p + 0 = omega arith in

@@ -1,6 +1,6 @@
 //! Invariant value redirection: what reads an output of a Gamma or a Theta that carries an origin
 //! of outside reads that origin.
-//! Promise: `apply` gives the changed lambda, and a changed lambda keeps its meaning in any program.
+//! Promise: `apply` gives the changed lambda, which keeps its meaning in any program.
 #![tactic(auto)]
 
 mod carried;

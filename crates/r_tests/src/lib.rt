@@ -5,6 +5,8 @@
 #[cfg(test)]
 mod common;
 #[cfg(test)]
+mod deep;
+#[cfg(test)]
 mod dne;
 #[cfg(test)]
 mod inv;

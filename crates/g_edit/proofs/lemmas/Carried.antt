@@ -202,9 +202,9 @@ module _ (l : PlainLambda) (args : List Kind) (before : NodeTrees) (here y : Nod
   -- what is read afterwards is at its new place
   less : (xs ys : List Datum) (o q : Outputs) → Paired IsLessDefinedDatum xs ys → OutputsRefine IsLessDefinedDatum o q → (us vs : List Datum) → Post xs o us →
       Paired IsLessDefinedDatum (kept stays us) vs → ReadLessDefined seen [] move xs ys (extended o id us) (extended q id vs)
-  less xs ys o q near like us vs post pairs (Arg k) h = paired-at IsLessDefinedDatum less-kept xs ys near k
-  less xs ys o q near like us vs post pairs (Out n p) (inr h) = absurd h
-  less xs ys o q near like us vs post pairs (Out n p) (inl t) = by (id == n) refl
+  less xs ys o q paired ordered us vs post pairs (Arg k) h = paired-at IsLessDefinedDatum less-kept xs ys paired k
+  less xs ys o q paired ordered us vs post pairs (Out n p) (inr h) = absurd h
+  less xs ys o q paired ordered us vs post pairs (Out n p) (inl t) = by (id == n) refl
     where
       -- an origin that is known before the node carries the same after it
       kept_outer : (a : Origin) → IsRead (is_argument (length args)) (known_after [] before) a → read ys (extended q id vs) a ≡ read ys q a
@@ -220,26 +220,27 @@ module _ (l : PlainLambda) (args : List Kind) (before : NodeTrees) (here y : Nod
           (subst (λ z. IsLessDefinedDatum z (at_port vs (place_after stays p))) (kept_port stays us p (stay p w))
           (paired-at IsLessDefinedDatum less-kept (kept stays us) vs pairs (place_after stays p)))
       by_carried e (Some a) w =
-          subst₂ (λ y z. IsLessDefinedDatum y z) (sym (post p a w)) (sym (kept_outer a (outer_read p a w))) (read-refines IsLessDefinedDatum less-kept xs ys near o q like a)
+          subst₂ (λ y z. IsLessDefinedDatum y z) (sym (post p a w)) (sym (kept_outer a (outer_read p a w))) (read-refines IsLessDefinedDatum less-kept xs ys paired o q ordered a)
 
-      by : (s : Bool) → (id == n) ≡ s → IsLessDefinedDatum (cond s (at_port us p) (o n p)) (read ys (extended q id vs) (cond s (unwrap_or (joined (slice_get cs p)) (Out n (place_after stays p))) (Out n p)))
+      by : (s : Bool) → (id == n) ≡ s →
+          IsLessDefinedDatum (cond s (at_port us p) (o n p)) (read ys (extended q id vs) (cond s (unwrap_or (joined (slice_get cs p)) (Out n (place_after stays p))) (Out n p)))
       by true e = by_carried e (joined (slice_get cs p)) refl
       by false e =
           let same : extended q id vs n p ≡ q n p = ap (λ s. cond s (at_port vs p) (q n p)) e in
-          subst (λ z. IsLessDefinedDatum (o n p) z) (sym same) (like n p)
+          subst (λ z. IsLessDefinedDatum (o n p) z) (sym same) (ordered n p)
 
   module _ (posts : (c : Context) (xs : List Datum) (o : Outputs) (a : Answer (List Datum)) → node_run c here xs o ≡ a → Gives (Post xs o) a)
       (refines : (direction : Direction) (c d : Context) → ContextRefines no_deeper direction IsLessDefinedDatum c d → (xs ys : List Datum) (o q : Outputs) → Paired IsLessDefinedDatum xs ys →
       OutputsRefine IsLessDefinedDatum o q → Refines no_deeper direction (λ us vs. Paired IsLessDefinedDatum (kept stays us) vs) (node_run c here xs o) (node_run d y ys q)) where
     part_refines : (direction : Direction) (c d : Context) → ContextRefines no_deeper direction IsLessDefinedDatum c d → (xs ys : List Datum) (o q : Outputs) → Paired IsLessDefinedDatum xs ys →
         OutputsRefine IsLessDefinedDatum o q → Refines no_deeper direction (ReadLessDefined seen [] move xs ys) (nodes_run c (node_then here no_nodes) xs o) (nodes_run d (node_then y no_nodes) ys q)
-    part_refines direction c d context xs ys o q near like =
+    part_refines direction c d context xs ys o q paired ordered =
         refines-then no_deeper no_deeper-compares.goes (λ us vs. Post xs o us × Paired IsLessDefinedDatum (kept stays us) vs) (ReadLessDefined seen [] move xs ys) direction (node_run c here xs o)
         (node_run d y ys q) (λ us. Returned (extended o id us) []) (λ vs. Returned (extended q (id_of y) vs) [])
         (refines-gives no_deeper direction (Post xs o) (λ us vs. Paired IsLessDefinedDatum (kept stays us) vs) (node_run c here xs o) (node_run d y ys q)
-        (posts c xs o (node_run c here xs o) refl) (refines direction c d context xs ys o q near like))
+        (posts c xs o (node_run c here xs o) refl) (refines direction c d context xs ys o q paired ordered))
         (λ us vs h.
-        (subst (λ n. ReadLessDefined seen [] move xs ys (extended o id us) (extended q n vs)) (sym number) (less xs ys o q near like us vs h.0 h.1), no_deeper-compares.goes.nothing))
+        (subst (λ n. ReadLessDefined seen [] move xs ys (extended o id us) (extended q n vs)) (sym number) (less xs ys o q paired ordered us vs h.0 h.1), no_deeper-compares.goes.nothing))
 
     pub carried_replace : (ls ks : List PlainLambda) → Replaces ls ks whole (region args (joined_nodes before (node_then y (nodes_redirected move after))) (map move results))
     carried_replace ls ks =
@@ -247,15 +248,16 @@ module _ (l : PlainLambda) (args : List Kind) (before : NodeTrees) (here y : Nod
           at = λ direction global. record {
             at = λ c d context linked.
                 placed_parts_refine direction c d context args before here after results (node_then y no_nodes) seen move (can_place_redirected args before here after results move can)
-                (λ xs ys o q near like have. part_refines direction c d context xs ys o q near like);
+                (λ xs ys o q paired ordered have. part_refines direction c d context xs ys o q paired ordered);
           };
         }
 
-itself_refines : (x : NodeTree) (direction : Direction) (c d : Context) → ContextRefines no_deeper direction IsLessDefinedDatum c d → (xs ys : List Datum) (o q : Outputs) → Paired IsLessDefinedDatum xs ys →
+itself_refines : (x : NodeTree) (direction : Direction) (c d : Context) → ContextRefines no_deeper direction IsLessDefinedDatum c d → (xs ys : List Datum) (o q : Outputs) →
+    Paired IsLessDefinedDatum xs ys →
     OutputsRefine IsLessDefinedDatum o q → Refines no_deeper direction (Paired IsLessDefinedDatum) (node_run c x xs o) (node_run d x ys q)
-itself_refines x direction c d context xs ys o q near like =
+itself_refines x direction c d context xs ys o q paired ordered =
     node-refines no_deeper no_deeper-compares direction IsLessDefinedDatum less-kept Never Always
-    (never-refines no_deeper no_deeper-compares direction IsLessDefinedDatum less-kept) c d context tt x x (nodes-itself Never (node_then x no_nodes)).0 xs ys near o q like
+    (never-refines no_deeper no_deeper-compares direction IsLessDefinedDatum less-kept) c d context tt x x (nodes-itself Never (node_then x no_nodes)).0 xs ys paired o q ordered
 
 -- ---- a Gamma
 
@@ -280,14 +282,15 @@ module _ (l : PlainLambda) (args : List Kind) (before : NodeTrees) (id : ℕ) (i
   giving_refines : (direction : Direction) (c d : Context) → ContextRefines no_deeper direction IsLessDefinedDatum c d → (xs ys : List Datum) (o q : Outputs) → Paired IsLessDefinedDatum xs ys →
       OutputsRefine IsLessDefinedDatum o q →
       Refines no_deeper direction (λ us vs. Paired IsLessDefinedDatum (kept (staying cs) us) vs) (node_run c gamma xs o) (node_run d (node_giving (staying cs) gamma) ys q)
-  giving_refines direction c d context xs ys o q near like =
+  giving_refines direction c d context xs ys o q paired ordered =
       subst₂ (λ a b. Refines no_deeper direction (λ us vs. Paired IsLessDefinedDatum (kept (staying cs) us) vs) a b) (then_nothing (node_run c gamma xs o))
       (sym (branched_gives (staying cs) d rs (map (read ys q) inputs)))
       (refines-then no_deeper no_deeper-compares.goes (Paired IsLessDefinedDatum) (λ us vs. Paired IsLessDefinedDatum (kept (staying cs) us) vs) direction (node_run c gamma xs o)
-      (node_run d gamma ys q) (λ us. Returned us []) (drops (staying cs)) (itself_refines gamma direction c d context xs ys o q near like)
+      (node_run d gamma ys q) (λ us. Returned us []) (drops (staying cs)) (itself_refines gamma direction c d context xs ys o q paired ordered)
       (λ us vs pairs. (paired_kept IsLessDefinedDatum (staying cs) us vs pairs, no_deeper-compares.goes.nothing)))
 
-  gamma_replace : (ls ks : List PlainLambda) → Replaces ls ks (region args (joined_nodes before (node_then gamma after)) results) (exits_carried id cs (region args (joined_nodes before (node_then gamma after)) results))
+  gamma_replace : (ls ks : List PlainLambda) →
+      Replaces ls ks (region args (joined_nodes before (node_then gamma after)) results) (exits_carried id cs (region args (joined_nodes before (node_then gamma after)) results))
   gamma_replace ls ks =
       let none = not_before (length l.objects) args before gamma after (node-here l args before gamma after results part) in
       subst (λ ns. Replaces ls ks (region args (joined_nodes before (node_then gamma after)) results) (region args ns (map (output_carried id cs (staying cs)) results)))
@@ -328,9 +331,9 @@ module _ (l : PlainLambda) (args : List Kind) (before : NodeTrees) (id : ℕ) (i
 
   theta_refines : (direction : Direction) (c d : Context) → ContextRefines no_deeper direction IsLessDefinedDatum c d → (xs ys : List Datum) (o q : Outputs) → Paired IsLessDefinedDatum xs ys →
       OutputsRefine IsLessDefinedDatum o q → Refines no_deeper direction (λ us vs. Paired IsLessDefinedDatum (kept [] us) vs) (node_run c theta xs o) (node_run d theta ys q)
-  theta_refines direction c d context xs ys o q near like =
+  theta_refines direction c d context xs ys o q paired ordered =
       subst (λ (f : List Datum → List Datum). Refines no_deeper direction (λ us vs. Paired IsLessDefinedDatum (f us) vs) (node_run c theta xs o) (node_run d theta ys q)) (fun_ext (λ us. sym (kept_none us)))
-      (itself_refines theta direction c d context xs ys o q near like)
+      (itself_refines theta direction c d context xs ys o q paired ordered)
 
   theta_replace : (ls ks : List PlainLambda) →
       Replaces ls ks (region args (joined_nodes before (node_then theta after)) results) (outputs_redirected id (output_carried id cs []) (region args (joined_nodes before (node_then theta after)) results))

@@ -160,7 +160,8 @@ module _ (objects : ℕ) (args : List Kind) (before : NodeTrees) (id : ℕ) (inp
   abbrev y : NodeTree
   y = node id Gamma inputs (regions_giving stays rs)
 
-  carries_first : (own : List Kind) (nodes : NodeTrees) (outs : List Origin) (qs : RegionTrees) → rs ≡ region_then (region own nodes outs) qs → (p : ℕ) (o : Origin) → joined (slice_get cs p) ≡ Some o →
+  carries_first : (own : List Kind) (nodes : NodeTrees) (outs : List Origin) (qs : RegionTrees) → rs ≡ region_then (region own nodes outs) qs → (p : ℕ) (o : Origin) →
+      joined (slice_get cs p) ≡ Some o →
       Carries args before (outputs_of Gamma rs) stays p o
   carries_first own nodes outs qs is p o e =
       let at = (passed_is inputs p own nodes outs qs o (sym (ap (passed inputs p) is) ∙ passes p o e)).first in

@@ -116,14 +116,14 @@ module _ (objects : ℕ) (args : List Kind) (before : NodeTrees) (x y : NodeTree
       let same : id_of y ≡ m = same_number (id_of y) m h in
       omega (arith, has_times m before b, own_times x, ap (λ n. times n (node_ids x)) (sym number ∙ same), here.once m))
 
-  abbrev far : NodeTrees → NodeTrees
-  far between = joined_nodes before (node_then y (nodes_redirected move between))
+  abbrev new_scope : NodeTrees → NodeTrees
+  new_scope between = joined_nodes before (node_then y (nodes_redirected move between))
 
-  abbrev near : NodeTrees → NodeTrees
-  near between = joined_nodes before (node_then x between)
+  abbrev old_scope : NodeTrees → NodeTrees
+  old_scope between = joined_nodes before (node_then x between)
 
   -- what is known before the node is known afterwards
-  outer_known : (between rest : NodeTrees) → after ≡ joined_nodes between rest → (o : Origin) (k : Kind) → known args before o ≡ Some k → known args (far between) o ≡ Some k
+  outer_known : (between rest : NodeTrees) → after ≡ joined_nodes between rest → (o : Origin) (k : Kind) → known args before o ≡ Some k → known args (new_scope between) o ≡ Some k
   outer_known between rest q (Arg j) k e = e
   outer_known between rest q (Out m p) k e =
       let there = kind_known before m p k e in
@@ -132,29 +132,31 @@ module _ (objects : ℕ) (args : List Kind) (before : NodeTrees) (x y : NodeTree
       ∙ kind_absent between m p (cond (id_of y == m) (joined (slice_get (output_kinds y) p)) (kind_after before m p None)) (apart_between between rest q m there)
       ∙ ap (λ t. cond t (joined (slice_get (output_kinds y) p)) (kind_after before m p None)) (own_apart m there) ∙ e
 
-  near_own : (between rest : NodeTrees) → after ≡ joined_nodes between rest → (n p : ℕ) → (id_of x == n) ≡ true → known args (near between) (Out n p) ≡ joined (slice_get (output_kinds x) p)
-  near_own between rest q n p e =
+  old_own : (between rest : NodeTrees) → after ≡ joined_nodes between rest → (n p : ℕ) → (id_of x == n) ≡ true → known args (old_scope between) (Out n p) ≡ joined (slice_get (output_kinds x) p)
+  old_own between rest q n p e =
       let none : has_node n between ≡ false = ap (λ m. has_node m between) (sym (same_number (id_of x) n e)) ∙ none_between between rest q in
       kind_after-joined before (node_then x between) n p None ∙ kind_absent between n p (cond (id_of x == n) (joined (slice_get (output_kinds x) p)) (kind_after before n p None)) none
       ∙ ap (λ t. cond t (joined (slice_get (output_kinds x) p)) (kind_after before n p None)) e
 
-  kinds_stay : (between rest : NodeTrees) → after ≡ joined_nodes between rest → (o : Origin) → known args (far between) (move o) ≡ known args (near between) o
+  kinds_stay : (between rest : NodeTrees) → after ≡ joined_nodes between rest → (o : Origin) → known args (new_scope between) (move o) ≡ known args (old_scope between) o
   kinds_stay between rest q (Arg k) = refl
   kinds_stay between rest q (Out n p) = by (id_of x == n) refl
     where
-      by_carried : (id_of x == n) ≡ true → (c : Option Origin) → joined (slice_get cs p) ≡ c → known args (far between) (unwrap_or c (Out n (place_after stays p))) ≡ known args (near between) (Out n p)
+      by_carried : (id_of x == n) ≡ true → (c : Option Origin) → joined (slice_get cs p) ≡ c →
+          known args (new_scope between) (unwrap_or c (Out n (place_after stays p))) ≡ known args (old_scope between) (Out n p)
       by_carried e None w =
           let none : has_node n between ≡ false = ap (λ m. has_node m between) (sym (same_number (id_of x) n e)) ∙ none_between between rest q in
           kind_after-joined before (node_then y (nodes_redirected move between)) n (place_after stays p) None
           ∙ kind_after-redirected move between n (place_after stays p) (cond (id_of y == n) (joined (slice_get (output_kinds y) (place_after stays p))) (kind_after before n (place_after stays p) None))
           ∙ kind_absent between n (place_after stays p) (cond (id_of y == n) (joined (slice_get (output_kinds y) (place_after stays p))) (kind_after before n (place_after stays p) None)) none
           ∙ ap (λ t. cond t (joined (slice_get (output_kinds y) (place_after stays p))) (kind_after before n (place_after stays p) None)) (ap (λ m. m == n) number ∙ e)
-          ∙ ap (λ ks. joined (slice_get ks (place_after stays p))) outputs ∙ ap joined (kept_get stays (output_kinds x) p (stay p w)) ∙ sym (near_own between rest q n p e)
+          ∙ ap (λ ks. joined (slice_get ks (place_after stays p))) outputs ∙ ap joined (kept_get stays (output_kinds x) p (stay p w)) ∙ sym (old_own between rest q n p e)
       by_carried e (Some a) w =
           let c = carries p a w in
-          outer_known between rest q a c.kind c.outer ∙ sym c.own ∙ sym (near_own between rest q n p e)
+          outer_known between rest q a c.kind c.outer ∙ sym c.own ∙ sym (old_own between rest q n p e)
 
-      by : (t : Bool) → (id_of x == n) ≡ t → known args (far between) (cond t (unwrap_or (joined (slice_get cs p)) (Out n (place_after stays p))) (Out n p)) ≡ known args (near between) (Out n p)
+      by : (t : Bool) → (id_of x == n) ≡ t →
+          known args (new_scope between) (cond t (unwrap_or (joined (slice_get cs p)) (Out n (place_after stays p))) (Out n p)) ≡ known args (old_scope between) (Out n p)
       by true e = by_carried e (joined (slice_get cs p)) refl
       by false e =
           kind_after-joined before (node_then y (nodes_redirected move between)) n p None
@@ -220,7 +222,8 @@ module _ (objects : ℕ) (args : List Kind) (before : NodeTrees) (x y : NodeTree
       own_some : (c : Option Origin) → joined (slice_get cs p) ≡ c → origin_at (λ q. Out (id_of x) q) (last_index k 0 (kept stays (output_kinds x)) None) state ≡ Some (move (Out (id_of x) p))
       own_some None w =
           ap (λ l. origin_at (λ q. Out (id_of x) q) l state)
-          (last_follows k (λ j. j ≡ p) (place_after stays) stays 0 0 (output_kinds x) None None (λ j d. ap (stays_at stays) (omega (arith, d)) ∙ stay p w) (λ j d. from_none stays j) (λ j d g. absurd cc) p e refl)
+          (last_follows k (λ j. j ≡ p) (place_after stays) stays 0 0 (output_kinds x) None None (λ j d. ap (stays_at stays) (omega (arith, d))
+          ∙ stay p w) (λ j d. from_none stays j) (λ j d g. absurd cc) p e refl)
           ∙ ap Some (sym (own_move ∙ ap (λ z. unwrap_or z (Out (id_of x) (place_after stays p))) w))
       own_some (Some a) w = gone_state a (carries p a w) ∙ ap Some (sym (own_move ∙ ap (λ z. unwrap_or z (Out (id_of x) (place_after stays p))) w))
 
@@ -229,7 +232,8 @@ module _ (objects : ℕ) (args : List Kind) (before : NodeTrees) (x y : NodeTree
     own_state None e = own_none e
     own_state (Some p) e = own_some p e (joined (slice_get cs p)) refl
 
-  last_state_moves : (k : Kind) → IsState k → (between rest : NodeTrees) → after ≡ joined_nodes between rest → last_state k args (far between) ≡ option_map move (last_state k args (near between))
+  last_state_moves : (k : Kind) → IsState k → (between rest : NodeTrees) → after ≡ joined_nodes between rest →
+      last_state k args (new_scope between) ≡ option_map move (last_state k args (old_scope between))
   last_state_moves k s between rest q =
       let first = origin_at Arg (last_index k 0 (map Some args) None) None in
       let state = state_after k before first in
@@ -246,22 +250,22 @@ module _ (objects : ℕ) (args : List Kind) (before : NodeTrees) (x y : NodeTree
       argument None = refl
       argument (Some p) = refl
 
-  pub scope_moves : (between rest : NodeTrees) → after ≡ joined_nodes between rest → KeepsScope (λ o. false) args (near between) args (far between) move
-  scope_moves between rest q = record { one = λ o u e. by o e (known args (near between) o) refl }
+  pub scope_moves : (between rest : NodeTrees) → after ≡ joined_nodes between rest → KeepsScope (λ o. false) args (old_scope between) args (new_scope between) move
+  scope_moves between rest q = record { one = λ o u e. by o e (known args (old_scope between) o) refl }
     where
-      last : (k : Kind) (o : Origin) → (k ≡ Value) ⊎ (last_state k args (near between) ≡ Some o) → (k ≡ Value) ⊎ (last_state k args (far between) ≡ Some (move o))
+      last : (k : Kind) (o : Origin) → (k ≡ Value) ⊎ (last_state k args (old_scope between) ≡ Some o) → (k ≡ Value) ⊎ (last_state k args (new_scope between) ≡ Some (move o))
       last Value o s = inl refl
       last Memory o (inl v) = inl v
       last Memory o (inr s) = inr (last_state_moves Memory memory between rest q ∙ ap (option_map move) s)
       last Io o (inl v) = inl v
       last Io o (inr s) = inr (last_state_moves Io io between rest q ∙ ap (option_map move) s)
 
-      by : (o : Origin) → is_last args (near between) o ≡ true → (k : Option Kind) → known args (near between) o ≡ k →
-          (known args (far between) (move o) ≡ known args (near between) o) × (is_last args (far between) (move o) ≡ true)
-      by o e None n = absurd (last_is_known args (near between) o e n)
+      by : (o : Origin) → is_last args (old_scope between) o ≡ true → (k : Option Kind) → known args (old_scope between) o ≡ k →
+          (known args (new_scope between) (move o) ≡ known args (old_scope between) o) × (is_last args (new_scope between) (move o) ≡ true)
+      by o e None n = absurd (last_is_known args (old_scope between) o e n)
       by o e (Some k) n =
           let kind = kinds_stay between rest q o in
-          (kind, gives_last k args (far between) (move o) (kind ∙ n) (last k o (last_gives k args (near between) o n e)))
+          (kind, gives_last k args (new_scope between) (move o) (kind ∙ n) (last k o (last_gives k args (old_scope between) o n e)))
 
   -- ---- the region
 

@@ -52,7 +52,8 @@ pub place_zero : (ts : List Bool) → place_after ts 0 ≡ 0
 place_zero [] = refl
 place_zero (t ∷ ts) = refl
 
-pub place_more : (ts : List Bool) (i k : ℕ) (d : Bool) → i < length ts → place_after (drop i ts) (suc k) ≡ cond (get_or ts i d) (suc (place_after (drop (suc i) ts) k)) (place_after (drop (suc i) ts) k)
+pub place_more : (ts : List Bool) (i k : ℕ) (d : Bool) → i < length ts →
+    place_after (drop i ts) (suc k) ≡ cond (get_or ts i d) (suc (place_after (drop (suc i) ts) k)) (place_after (drop (suc i) ts) k)
 place_more [] i k d b = absurd (omega arith)
 place_more (true ∷ ts) zero k d b = refl
 place_more (false ∷ ts) zero k d b = refl
