@@ -33,7 +33,7 @@ use Rattle.g_edit.proofs.lemmas.Steps.{contracts_give_steps, edits_keep_interfac
 use Rattle.r_push.specs.Rule.{names_argument, leaving, leaving_one, leaving_loop, carried, regions_carried, looped, placed, pushed, psh_here, psh, is_invariant}
 use Rattle.r_push.specs.Laws.{PshIsAStep}
 use Rattle.r_push.proofs.Leaving.{Leaves, leaves}
-use Rattle.r_push.proofs.Push.{changed-at, psh_replaces}
+use Rattle.r_push.proofs.Replaced.{changed-at, psh_replaces}
 use Rattle.r_push.proofs.LeftFit.{left-fits}
 use Rattle.r_push.proofs.Resized.{psh_resizes}
 

@@ -21,7 +21,7 @@ use Rattle.g_edit.specs.Removal.{nodes_without}
 use Rattle.g_edit.specs.Added.{input_added}
 use Rattle.g_edit.specs.Size.{IsResized}
 use Rattle.r_push.specs.Rule.{names_argument, may_leave, only, leaving, leaving_one, is_invariant, leaving_loop, carried, regions_carried, looped, placed, count_of, growth, pushed, psh_here}
-use Rattle.r_push.proofs.Push.{changed-at}
+use Rattle.r_push.proofs.Replaced.{changed-at}
 
 -- ---- a region
 

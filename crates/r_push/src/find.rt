@@ -97,7 +97,8 @@ fn leaves(region: &Region, id: u32) -> bool
     }
 }
 
-fn may_leave(region: &Region, node: &Node) -> bool
+/// Whether the node may leave this region of a Gamma.
+pub fn may_leave(region: &Region, node: &Node) -> bool
     ensures { result ≡ may_leave names_argument region.now node.now }
 {
     is_pure(node.op)
@@ -144,7 +145,8 @@ fn loop_leaves(region: &Region, id: u32) -> bool
     }
 }
 
-fn may_leave_loop(region: &Region, node: &Node) -> bool
+/// Whether the node may leave this region of a Theta.
+pub fn may_leave_loop(region: &Region, node: &Node) -> bool
     ensures { result ≡ may_leave (is_invariant (results_of region.now)) region.now node.now }
 {
     is_pure(node.op)
