@@ -227,7 +227,8 @@ pub pushed-by : (v n i : ℕ) (xs : List NodeTree) (x m w : NodeTree) (inputs : 
     nodes_pushed v n (nodes_of xs) ≡ Some (nodes_of (slice_set (insert xs i m) (suc i) w))
 pushed-by v n i xs x m w inputs e at moved more wide = by (left n x) refl moved
   where
-    by : (o : Option NodeTree) → left n x ≡ o → option_map (node_redirected (args_to_inputs (outer x))) o ≡ Some m → nodes_pushed v n (nodes_of xs) ≡ Some (nodes_of (slice_set (insert xs i m) (suc i) w))
+    by : (o : Option NodeTree) → left n x ≡ o → option_map (node_redirected (args_to_inputs (outer x))) o ≡ Some m → nodes_pushed v n (nodes_of xs) ≡
+        Some (nodes_of (slice_set (insert xs i m) (suc i) w))
     by None d f = absurd cc
     by (Some y) d f = pushed-at v n i xs x y m w e at d (sym (same_Some (node_redirected (args_to_inputs (outer x)) y) m f)) (wide ∙ ap (λ os. widened_by n os x) more)
 
@@ -237,7 +238,8 @@ same-index (z ∷ xs) zero x y h e d = e ∙ sym d
 same-index (z ∷ xs) (suc i) x y h e d = same-index xs i x y (omega (arith, h)) e d
 
 -- the node stands after the one that came before it
-pub node-after : (v n i : ℕ) (xs ys : List NodeTree) (m x r : NodeTree) → push_index v n 0 (nodes_of xs) ≡ Some i → ys ≡ insert xs i m → x ≡ slice_index_or xs i x → r ≡ slice_index_or ys (i + 1) r → r ≡ x
+pub node-after : (v n i : ℕ) (xs ys : List NodeTree) (m x r : NodeTree) → push_index v n 0 (nodes_of xs) ≡ Some i → ys ≡ insert xs i m → x ≡ slice_index_or xs i x → r ≡ slice_index_or ys (i + 1) r →
+    r ≡ x
 node-after v n i xs ys m x r e is at after =
     let bound = (found-index v n i xs e).bound in
     let next : i + 1 ≡ suc i = omega arith in

@@ -60,7 +60,8 @@ abbrev pub CarriedTo : (n : ℕ) (loops : Bool) (i : ℕ) (old regions lists : L
 CarriedTo n loops i old regions lists =
     (regions ≡ take i (map (lengthened n loops) old) ++ drop i old) × (drop i lists ≡ drop i (map (longer loops) old)) × (length lists ≡ length old)
 
-pub region-now : (n : ℕ) (loops : Bool) (i : ℕ) (old regions lists : List RegionTree) (r : RegionTree) → CarriedTo n loops i old regions lists → r ≡ slice_index_or regions i r → r ≡ slice_index_or old i r
+pub region-now : (n : ℕ) (loops : Bool) (i : ℕ) (old regions lists : List RegionTree) (r : RegionTree) → CarriedTo n loops i old regions lists → r ≡ slice_index_or regions i r → r ≡
+    slice_index_or old i r
 region-now n loops i old regions lists r inv e = e ∙ ap (λ zs. slice_index_or zs i r) inv.0 ∙ front-index (lengthened n loops) i old r
 
 pub carried-more : (n : ℕ) (loops : Bool) (i : ℕ) (old regions lists : List RegionTree) (r s t none : RegionTree) → CarriedTo n loops i old regions lists → i < length old →

@@ -20,7 +20,8 @@ pub fn carry_all(
 )
     requires count { IsTrue (can_all_count (regions_of regions.old.items)) }
     requires lists { regions_of lists.old.items ≡ all_longer loops (regions_of regions.old.items) }
-    ensures { regions_of regions.new.items ≡ all_lengthened id loops (regions_of regions.old.items) }
+    ensures { regions_of regions.new.items ≡
+        all_lengthened id loops (regions_of regions.old.items) }
 {
     for i in 0..regions.len() {
         let none = Region {

@@ -8,8 +8,8 @@ ghost use Rattle.r_push.specs.Rule.{names_argument, may_leave, leaving, leaving_
 use g_edit::may_change_size;
 use g_graph::{Node, Op, Origin, Region, is_pure, is_used, node_at, same_origin};
 
-/// Whether the node of this number may leave a Gamma or a Theta of the region, in a lambda of so many
-/// values.
+/// Whether the node of this number may leave a Gamma or a Theta of the region, in a lambda of so
+/// many values.
 pub fn can_push(region: &Region, values: u64, id: u32) -> bool
     ensures { result ≡ is_some (psh_here values id region.now) }
 {

@@ -43,7 +43,8 @@ pub fn more_inputs(
 /// For each of these regions its lists, one longer, and no nodes.
 pub fn longer_lists(alloc: Global, regions: &[Region], loops: bool) -> Result<Vec<Region>, NoMemory>
     requires { IsTrue (can_all_count (regions_of regions.now)) }
-    ensures { IfOk result (λ lists. regions_of lists.items ≡ all_longer loops (regions_of regions.now)) }
+    ensures { IfOk result (λ lists. regions_of lists.items ≡
+        all_longer loops (regions_of regions.now)) }
 {
     let mut lists = Vec::with_capacity(alloc, regions.len())?;
     for region in regions {

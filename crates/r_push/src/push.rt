@@ -16,10 +16,11 @@ use no_memory::NoMemory;
 use smallvec::SmallVec;
 use std::alloc::Global;
 
-/// Moves the node of this number out of the first Gamma or Theta of the region that it may leave, in
-/// a lambda of so many values, and answers whether there was one.
+/// Moves the node of this number out of the first Gamma or Theta of the region that it may leave,
+/// in a lambda of so many values, and answers whether there was one.
 pub fn push(alloc: Global, region: &mut Region, values: u64, id: u32) -> Result<bool, NoMemory>
-    ensures ok { IfOk result (λ done. MatchBool done (psh_here values id region.old ≡ Some region.new)
+    ensures ok { IfOk result (λ done.
+        MatchBool done (psh_here values id region.old ≡ Some region.new)
         ((psh_here values id region.old ≡ None) × (region.new ≡ region.old))) }
     ensures err { OnErr result (region.new ≡ region.old) }
 {
@@ -28,8 +29,10 @@ pub fn push(alloc: Global, region: &mut Region, values: u64, id: u32) -> Result<
 
 fn push_nodes(alloc: Global, nodes: &mut Vec<Node>, values: u64, id: u32) -> Result<bool, NoMemory>
     ensures ok { IfOk result (λ done.
-        MatchBool done (nodes_pushed values id (nodes_of nodes.old.items) ≡ Some (nodes_of nodes.new.items))
-        ((nodes_pushed values id (nodes_of nodes.old.items) ≡ None) × (nodes.new.items ≡ nodes.old.items))) }
+        MatchBool done (nodes_pushed values id (nodes_of nodes.old.items) ≡
+        Some (nodes_of nodes.new.items))
+        ((nodes_pushed values id (nodes_of nodes.old.items) ≡ None) ×
+        (nodes.new.items ≡ nodes.old.items))) }
     ensures err { OnErr result (nodes.new.items ≡ nodes.old.items) }
 {
     match push_index(nodes, values, id) {
@@ -108,7 +111,8 @@ fn widen(
     id: u32,
 )
     requires count { IsTrue (can_count node.old) }
-    requires lists { regions_of lists.old.items ≡ all_longer (is_loop node.old) (regions_in node.old) }
+    requires lists { regions_of lists.old.items ≡
+        all_longer (is_loop node.old) (regions_in node.old) }
     ensures { node.new ≡ widened_by id inputs.items node.old }
 {
     node.inputs = inputs;

@@ -12,11 +12,11 @@ use g_graph::{CanChange, Change, Lambda, Region, can_change_lambda, change_lambd
 use no_memory::NoMemory;
 use std::alloc::Global;
 
-/// Whether the rule applies at the node of this number: a Const, Undef, Local, Delta, Bin or Un whose
-/// output is used and whose inputs are all arguments, in a region of a Gamma, or in a Theta where
-/// they are arguments of variables whose result is their argument; and where the lambda has at most
-/// 8,192 values afterwards. It is false for a number that is not there. It takes no memory, and time
-/// linear in the lambda.
+/// Whether the rule applies at the node of this number: a Const, Undef, Local, Delta, Bin or Un
+/// whose output is used and whose inputs are all arguments, in a region of a Gamma, or in a Theta
+/// where they are arguments of variables whose result is their argument; and where the lambda has
+/// at most 8,192 values afterwards. It is false for a number that is not there. It takes no
+/// memory, and time linear in the lambda.
 pub fn applies(lambda: &Lambda, node: u32) -> bool
     ensures { result ≡ applies lambda.now node }
 {
@@ -29,10 +29,10 @@ pub fn applies(lambda: &Lambda, node: u32) -> bool
     )
 }
 
-/// The node moves to directly before the Gamma or Theta, with its number; one more last variable of
-/// that node carries its value, and its uses become the new argument. Out of memory, the lambda is as
-/// it was. It takes time linear in the lambda, and memory for the lists of that node and of its
-/// regions, which become one longer.
+/// The node moves to directly before the Gamma or Theta, with its number; one more last variable
+/// of that node carries its value, and its uses become the new argument. Out of memory, the
+/// lambda is as it was. It takes time linear in the lambda, and memory for the lists of that node
+/// and of its regions, which become one longer.
 pub fn apply(alloc: Global, lambda: &mut Lambda, node: u32) -> Result<(), NoMemory>
     requires well_formed { IsWellFormed lambda.old }
     requires applies { IsTrue (applies lambda.old node) }
@@ -74,7 +74,8 @@ impl Change for Pushing {
     }
 }
 
-// The test for the change of the region that holds the Gamma or Theta, in a lambda of so many values.
+// The test for the change of the region that holds the Gamma or Theta, in a lambda of so many
+// values.
 #[derive(Drop)]
 struct Pushed {
     values: u64,
