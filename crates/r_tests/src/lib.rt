@@ -5,4 +5,6 @@
 #[cfg(test)]
 mod common;
 #[cfg(test)]
+mod push;
+#[cfg(test)]
 mod tables;
