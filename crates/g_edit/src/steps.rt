@@ -18,8 +18,8 @@ pub fn steps_compose()
 {}
 
 /// A list of lambdas may stand for itself, and lists for each other one after the other. Where a
-/// complete list does, calls give equal states, and values of which the farther one may stand for the
-/// nearer.
+/// complete list does, calls give equal states, and values of which the farther one may stand for
+/// the nearer.
 pub fn lists_compose()
     ensures itself { ListsStandForThemselves }
     ensures next { ListsCompose }

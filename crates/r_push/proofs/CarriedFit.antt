@@ -147,7 +147,8 @@ module _ (objects : ℕ) (args : List Kind) (before : NodeTrees) (n : ℕ) (op :
           by zero d = let kind : Value ≡ k = cc in (refl, sym kind)
           by (suc p) d = absurd cc
 
-      states : (k : Kind) → IsState k → (found : Option Origin) → state_after k (joined_nodes before (nodes_redirected moved between)) found ≡ state_after k (joined_nodes before (node_then y between)) found
+      states : (k : Kind) → IsState k → (found : Option Origin) → state_after k (joined_nodes before (nodes_redirected moved between)) found ≡
+          state_after k (joined_nodes before (node_then y between)) found
       states k s found =
           state_after-joined k before (nodes_redirected moved between) found ∙ state_after-redirected moved k between (state_after k before found)
           ∙ ap (λ l. state_after k between (origin_at (λ p. Out n p) l (state_after k before found))) (sym (ap (λ ks. last_index k 0 ks None) (pure-outputs op pure rs) ∙ no-index k s))

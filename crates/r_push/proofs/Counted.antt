@@ -1,7 +1,8 @@
 -- What the code counts and tests, by the definitions.
-use Rattle.std.proofs.Common.{◌≡◌, ◌≢◌, ℕ, false, List, [], ◌∷◌, length, refl, arith}
+use Rattle.std.proofs.Common.{◌≡◌, ◌≢◌, slice_index_or, ℕ, false, List, [], ◌∷◌, length, None, refl, sym, ap, arith}
 use Rattle.g_graph.specs.Plain.{RegionTree, regions_of}
-use Rattle.r_push.specs.Rule.{count_of, leaves_only}
+use Rattle.r_push.specs.Edit.{left_only}
+use Rattle.r_push.specs.Rule.{count_of, leaving_loop, leaves_only}
 
 pub count_length : (rs : List RegionTree) → count_of (regions_of rs) ≡ length rs
 count_length [] = refl
@@ -11,3 +12,13 @@ pub only_none : (n : ℕ) (rs : List RegionTree) → length rs ≢ 1 → leaves_
 only_none n [] e = refl
 only_none n (r ∷ []) e = absurd (e refl)
 only_none n (r ∷ s ∷ rs) e = refl
+
+pub left_only_none : (n : ℕ) (rs : List RegionTree) → length rs ≢ 1 → left_only n (regions_of rs) ≡ None
+left_only_none n [] e = refl
+left_only_none n (r ∷ []) e = absurd (e refl)
+left_only_none n (r ∷ s ∷ rs) e = refl
+
+pub left-only-one : (n : ℕ) (rs : List RegionTree) (r : RegionTree) → length rs ≡ 1 → r ≡ slice_index_or rs 0 r → left_only n (regions_of rs) ≡ leaving_loop n r
+left-only-one n [] r e d = absurd cc
+left-only-one n (s ∷ []) r e d = ap (leaving_loop n) (sym d)
+left-only-one n (s ∷ t ∷ rs) r e d = absurd (omega (arith, e))

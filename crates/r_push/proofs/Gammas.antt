@@ -52,7 +52,8 @@ leaving-means c n us v args nodes results test y closed unique count at gives =
     let runs = taken-same args at.before n at.op at.inputs at.regions at.after results closed' unique' c us v count (λ o. ap (λ z. node_run c z us o) (sym at.node_is) ∙ gives.on o) in
     let same : region_meaning c (region args (joined_nodes at.before (node_then x at.after)) results) us ≡ region_meaning c (region (args ++ Value ∷ []) far (map move results)) more =
     same-equal (region_meaning c (region args (joined_nodes at.before (node_then x at.after)) results) us) (region_meaning c (region (args ++ Value ∷ []) far (map move results)) more)
-    (same-then (λ o q. map (read more q) (map move results) ≡ map (read us o) results) Equals (nodes_run c (joined_nodes at.before (node_then x at.after)) us no_outputs) (nodes_run c far more no_outputs)
+    (same-then (λ o q. map (read more q) (map move results) ≡ map (read us o) results) Equals (nodes_run c (joined_nodes at.before (node_then x at.after)) us no_outputs)
+    (nodes_run c far more no_outputs)
     (λ o. Returned (map (read us o) results) []) (λ q. Returned (map (read more q) (map move results)) []) runs (λ o q h. (sym h, refl))) in
     ap (λ ns. region_meaning c (carried n (region args ns results)) more) at.is
     ∙ ap (λ r. region_meaning c r more) (carried-is args at.before n at.op at.inputs at.regions at.after results closed' unique')

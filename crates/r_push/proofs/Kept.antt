@@ -33,7 +33,7 @@ use Rattle.g_edit.proofs.lemmas.Steps.{contracts_give_steps, edits_keep_interfac
 use Rattle.r_push.specs.Rule.{names_argument, leaving, leaving_one, leaving_loop, carried, regions_carried, looped, placed, pushed, psh_here, psh, is_invariant}
 use Rattle.r_push.specs.Laws.{PshIsAStep}
 use Rattle.r_push.proofs.Leaving.{Leaves, leaves}
-use Rattle.r_push.proofs.Push.{changed-at, psh_replaces}
+use Rattle.r_push.proofs.Replaced.{changed-at, psh_replaces}
 use Rattle.r_push.proofs.LeftFit.{left-fits}
 use Rattle.r_push.proofs.Resized.{psh_resizes}
 
@@ -74,7 +74,8 @@ module _ (p : Op → ℕ → Type 0) (gamma : (m k : ℕ) → p Gamma m → p Ga
   one-ops n y no_regions e h = absurd cc
   one-ops n y (region_then (region args nodes results) rs) e h = by (leaving names_argument n (region args nodes results)) refl e (λ f. one-ops n y rs f h.1)
     where
-      by : (first : Option NodeTree) → leaving names_argument n (region args nodes results) ≡ first → option_or first (leaving_one n rs) ≡ Some y → (leaving_one n rs ≡ Some y → NodeOps p y) → NodeOps p y
+      by : (first : Option NodeTree) → leaving names_argument n (region args nodes results) ≡ first → option_or first (leaving_one n rs) ≡ Some y → (leaving_one n rs ≡ Some y → NodeOps p y) →
+          NodeOps p y
       by (Some z) d f rest = leaves-ops names_argument n nodes y (leaves names_argument n args nodes results y (d ∙ f)) h.0
       by None d f rest = rest f
 

@@ -38,7 +38,7 @@ use Rattle.r_push.proofs.Stays.{known-stays}
 use Rattle.r_push.proofs.Leaving.{Leaves, leaves}
 use Rattle.r_push.proofs.Gammas.{AllTake, leaving-among, one-among}
 use Rattle.r_push.proofs.Thetas.{invariant-arguments}
-use Rattle.r_push.proofs.Push.{Outside, one-outside, leaves-outside, take-all, not-known}
+use Rattle.r_push.proofs.Replaced.{Outside, one-outside, leaves-outside, take-all, not-known}
 use Rattle.r_push.proofs.CarriedFit.{pure-outputs}
 use Rattle.r_push.proofs.TwoFit.{GivesAsMuch, scope-first, two-fit}
 use Rattle.r_push.proofs.RegionsFit.{CarriedFits, numbers_of, leaving-fits, InnerFits, inner-fits, one-fits, AllCarried, all-fit}
@@ -138,7 +138,8 @@ node-parts objects args before x e =
     let to_states = and_parts (fits && lasts && states) shape to_shape in
     record { states = (and_parts (fits && lasts) states to_states.0).1; shape = to_states.1; theta = to_regions.1 }
 
-parts-here : (l : PlainLambda) (args : List Kind) (before : NodeTrees) (x : NodeTree) (after : NodeTrees) (results : List Origin) → IsPartOf l (region args (joined_nodes before (node_then x after)) results) →
+parts-here : (l : PlainLambda) (args : List Kind) (before : NodeTrees) (x : NodeTree) (after : NodeTrees) (results : List Origin) →
+    IsPartOf l (region args (joined_nodes before (node_then x after)) results) →
     NodeParts (length l.objects) args before x
 parts-here l args before x after results part =
     node-parts (length l.objects) args before x
@@ -165,7 +166,8 @@ gamma-fits : (l : PlainLambda) (args : List Kind) (before : NodeTrees) (id : ℕ
     KeptWithin (length l.objects) (region args (joined_nodes before (node_then (node id Gamma (p ∷ entries) rs) after)) results)
     (region args (joined_nodes before (joined_nodes (placed entries y (input_added (Out n 0) (node id Gamma (p ∷ entries) (regions_carried n rs)))) after)) results)
 gamma-fits l args before id p entries rs after results part n y e =
-    subst (λ z. KeptWithin objects (region args (joined_nodes before (node_then x after)) results) (region args (joined_nodes before (joined_nodes (placed entries z x') after)) results)) (sym out.node_is)
+    subst (λ z. KeptWithin objects (region args (joined_nodes before (node_then x after)) results) (region args (joined_nodes before (joined_nodes (placed entries z x') after)) results))
+    (sym out.node_is)
     (two-fit objects args before x y' x' after refl value gives_all fresh results part.fits y-fits x-fits (outside-inside objects firsts n (length entries) y out inner) carried.regions.inside fewer)
   where
     objects : ℕ
@@ -235,7 +237,8 @@ gamma-fits l args before id p entries rs after results part n y e =
     x-fits : node_fits objects args (joined_nodes before (node_then y' no_nodes)) x' ≡ true
     x-fits =
         let states = and_parts (one_state_each (map (known args before) (p ∷ entries))) (one_state_each (outputs_of Gamma rs)) parts.states in
-        let inputs = more-inputs objects args before n y' refl value (scope-first objects args before x y' x' after refl value gives_all fresh) (p ∷ entries) (Value ∷ firsts) inputs_are last states.0 in
+        let inputs = more-inputs objects args before n y' refl value (scope-first objects args before x y' x' after refl value gives_all fresh) (p ∷ entries)
+        (Value ∷ firsts) inputs_are last states.0 in
         let fit = ap (λ ks. are (map (known args (joined_nodes before (node_then y' no_nodes))) ((p ∷ entries) ++ Out n 0 ∷ [])) (Value ∷ ks)) carried.first ∙ inputs.fit in
         let outputs = ap one_state_each carried.outputs ∙ states.1 in
         let regions : regions_fit x' ≡ true =
@@ -272,13 +275,15 @@ some-left test (x ∷ xs) ys e = by (test x) e (some-left test xs ys)
     by true d h = refl
     by false d h = h d
 
-theta-fits : (l : PlainLambda) (args : List Kind) (before : NodeTrees) (id : ℕ) (inputs : List Origin) (own : List Kind) (nodes : NodeTrees) (outs : List Origin) (after : NodeTrees) (results : List Origin) →
+theta-fits : (l : PlainLambda) (args : List Kind) (before : NodeTrees) (id : ℕ) (inputs : List Origin) (own : List Kind) (nodes : NodeTrees) (outs : List Origin) (after : NodeTrees)
+    (results : List Origin) →
     IsPartOf l (region args (joined_nodes before (node_then (node id Theta inputs (region_then (region own nodes outs) no_regions)) after)) results) → (n : ℕ) (y : NodeTree) →
     leaving_loop n (region own nodes outs) ≡ Some y →
     KeptWithin (length l.objects) (region args (joined_nodes before (node_then (node id Theta inputs (region_then (region own nodes outs) no_regions)) after)) results)
     (region args (joined_nodes before (joined_nodes (placed inputs y (input_added (Out n 0) (node id Theta inputs (region_then (looped n (region own nodes outs)) no_regions)))) after)) results)
 theta-fits l args before id inputs own nodes outs after results part n y e =
-    subst (λ z. KeptWithin objects (region args (joined_nodes before (node_then x after)) results) (region args (joined_nodes before (joined_nodes (placed inputs z x') after)) results)) (sym out.node_is)
+    subst (λ z. KeptWithin objects (region args (joined_nodes before (node_then x after)) results) (region args (joined_nodes before (joined_nodes (placed inputs z x') after)) results))
+    (sym out.node_is)
     (two-fit objects args before x y' x' after refl value (value-more own) fresh results part.fits y-fits x-fits (outside-inside objects own n (length inputs) y out inner) inside-now fewer)
   where
     objects : ℕ
@@ -390,10 +395,12 @@ left-fits l args before (node id Gamma (p ∷ entries) rs) after results part n 
   where
     by : (found : Option NodeTree) → leaving_one n rs ≡ found →
         option_map (λ y. placed entries y (input_added (Out n 0) (node id Gamma (p ∷ entries) (regions_carried n rs)))) found ≡ Some two →
-        KeptWithin (length l.objects) (region args (joined_nodes before (node_then (node id Gamma (p ∷ entries) rs) after)) results) (region args (joined_nodes before (joined_nodes two after)) results)
+        KeptWithin (length l.objects) (region args (joined_nodes before (node_then (node id Gamma (p ∷ entries) rs) after)) results)
+        (region args (joined_nodes before (joined_nodes two after)) results)
     by None d f = absurd cc
     by (Some y) d f =
-        subst (λ ns. KeptWithin (length l.objects) (region args (joined_nodes before (node_then (node id Gamma (p ∷ entries) rs) after)) results) (region args (joined_nodes before (joined_nodes ns after)) results))
+        subst (λ ns. KeptWithin (length l.objects) (region args (joined_nodes before (node_then (node id Gamma (p ∷ entries) rs) after)) results)
+        (region args (joined_nodes before (joined_nodes ns after)) results))
         (same_Some _ two f) (gamma-fits l args before id p entries rs after results part n y d)
 left-fits l args before (node id Theta inputs (region_then (region own nodes outs) no_regions)) after results part n two e = by (leaving_loop n (region own nodes outs)) refl e
   where
@@ -405,7 +412,8 @@ left-fits l args before (node id Theta inputs (region_then (region own nodes out
         KeptWithin (length l.objects) (region args (joined_nodes before (node_then x after)) results) (region args (joined_nodes before (joined_nodes two after)) results)
     by None d f = absurd cc
     by (Some y) d f =
-        subst (λ ns. KeptWithin (length l.objects) (region args (joined_nodes before (node_then x after)) results) (region args (joined_nodes before (joined_nodes ns after)) results)) (same_Some _ two f)
+        subst (λ ns. KeptWithin (length l.objects) (region args (joined_nodes before (node_then x after)) results) (region args (joined_nodes before (joined_nodes ns after)) results))
+        (same_Some _ two f)
         (theta-fits l args before id inputs own nodes outs after results part n y d)
 left-fits l args before (node id Gamma [] rs) after results part n two e = absurd cc
 left-fits l args before (node id Theta inputs no_regions) after results part n two e = absurd cc

@@ -4,7 +4,7 @@ mod Leaving
 mod Gammas
 mod Thetas
 mod Placed
-mod Push
+mod Replaced
 mod CarriedFit
 mod TwoFit
 mod RegionsFit
@@ -13,4 +13,6 @@ mod Resized
 mod Kept
 mod Counted
 mod Saturated
+pub mod Listed
+pub mod Indexed
 mod Examples

@@ -171,7 +171,8 @@ module _ (l : PlainLambda) (args : List Kind) (before : NodeTrees) (x : NodeTree
     placed_is : region args (joined_nodes before (joined_nodes two after)) results ≡ region args (joined_nodes before (joined_nodes two (nodes_redirected (λ o. o) after))) (map (λ o. o) results)
     placed_is = sym (λ i. region args (joined_nodes before (joined_nodes two (nodes_unmoved (λ o. o) (λ o. refl) after i))) (all_unmoved (λ o. o) (λ o. refl) results i))
 
-    pub two-replace : ((d : Context) (ys : List Datum) (q : Outputs) → RunsBoth d ys q) → (ls ks : List PlainLambda) → Replaces ls ks whole (region args (joined_nodes before (joined_nodes two after)) results)
+    pub two-replace : ((d : Context) (ys : List Datum) (q : Outputs) → RunsBoth d ys q) → (ls ks : List PlainLambda) →
+        Replaces ls ks whole (region args (joined_nodes before (joined_nodes two after)) results)
     two-replace runs ls ks =
         subst (λ r. Replaces ls ks whole r) (sym placed_is)
         (record {

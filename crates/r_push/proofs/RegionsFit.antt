@@ -138,7 +138,8 @@ module _ (objects n : ℕ) (firsts ks : List Kind) where
     pub first : first_args (regions_carried n rs) ≡ with_value (first_args rs)
     pub outputs : outputs_of Gamma (regions_carried n rs) ≡ outputs_of Gamma rs
 
-  pub all-fit : (y : NodeTree) (rs : RegionTrees) → AllClosed rs → distinct (regions_ids rs) ≡ true → AllFit firsts ks rs → every_in_regions (region_fits objects) rs ≡ true → leaving_one n rs ≡ Some y →
+  pub all-fit : (y : NodeTree) (rs : RegionTrees) → AllClosed rs → distinct (regions_ids rs) ≡ true → AllFit firsts ks rs → every_in_regions (region_fits objects) rs ≡ true → leaving_one n rs ≡
+      Some y →
       AllCarried y rs
   all-fit y no_regions closed unique fit inside e = absurd cc
   all-fit y (region_then (region args nodes results) rs) closed unique fit inside e =
@@ -180,7 +181,8 @@ pub record InnerFits (objects : ℕ) (firsts : List Kind) (y : NodeTree) : Type 
   pub fits : node_fits objects firsts before y ≡ true
   pub inside : every_in_node (region_fits objects) y ≡ true
 
-pub inner-fits : (test : Origin → Bool) (objects n : ℕ) (args : List Kind) (nodes : NodeTrees) (results : List Origin) (y : NodeTree) → every_region (region_fits objects) (region args nodes results) ≡ true →
+pub inner-fits : (test : Origin → Bool) (objects n : ℕ) (args : List Kind) (nodes : NodeTrees) (results : List Origin) (y : NodeTree) →
+    every_region (region_fits objects) (region args nodes results) ≡ true →
     Leaves test n nodes y → InnerFits objects args y
 inner-fits test objects n args nodes results y fits at =
     let whole : nodes ≡ joined_nodes at.before (node_then y at.after) = at.is ∙ ap (λ z. joined_nodes at.before (node_then z at.after)) (sym at.node_is) in
@@ -202,7 +204,8 @@ one-fits objects n firsts ks y (region_then (region args nodes results) rs) fit 
     own : (every_region (region_fits objects) (region args nodes results) ≡ true) × (every_in_regions (region_fits objects) rs ≡ true)
     own = and_parts (every_region (region_fits objects) (region args nodes results)) (every_in_regions (region_fits objects) rs) inside
 
-    by : (first : Option NodeTree) → leaving names_argument n (region args nodes results) ≡ first → option_or first (leaving_one n rs) ≡ Some y → (leaving_one n rs ≡ Some y → InnerFits objects firsts y) →
+    by : (first : Option NodeTree) → leaving names_argument n (region args nodes results) ≡ first → option_or first (leaving_one n rs) ≡ Some y →
+        (leaving_one n rs ≡ Some y → InnerFits objects firsts y) →
         InnerFits objects firsts y
     by (Some z) d f rest =
         let both = and_parts (same args firsts && are (map (known args nodes) results) ks) (all_regions (λ q. same (args_of q) firsts && are (result_kinds q) ks) rs) fit in

@@ -21,11 +21,12 @@ use Rattle.g_edit.specs.Removal.{nodes_without}
 use Rattle.g_edit.specs.Added.{input_added}
 use Rattle.g_edit.specs.Size.{IsResized}
 use Rattle.r_push.specs.Rule.{names_argument, may_leave, only, leaving, leaving_one, is_invariant, leaving_loop, carried, regions_carried, looped, placed, count_of, growth, pushed, psh_here}
-use Rattle.r_push.proofs.Push.{changed-at}
+use Rattle.r_push.proofs.Replaced.{changed-at}
 
 -- ---- a region
 
-leaving-at : (test : Origin → Bool) (n : ℕ) (args : List Kind) (nodes : NodeTrees) (results : List Origin) (y : NodeTree) → leaving test n (region args nodes results) ≡ Some y → node_at n nodes ≡ Some y
+leaving-at : (test : Origin → Bool) (n : ℕ) (args : List Kind) (nodes : NodeTrees) (results : List Origin) (y : NodeTree) → leaving test n (region args nodes results) ≡ Some y → node_at n nodes ≡
+    Some y
 leaving-at test n args nodes results y e = by (node_at n nodes) refl e
   where
     by : (found : Option NodeTree) → node_at n nodes ≡ found → option_and_then (λ x. only (may_leave test (region args nodes results) x) x) found ≡ Some y → node_at n nodes ≡ Some y
@@ -53,7 +54,8 @@ gone-values f n (node_then x ns) y e =
 fewer-values : (f : Origin → Origin) (n : ℕ) (ns : NodeTrees) → nodes_values (nodes_without n (nodes_redirected f ns)) ≤ nodes_values ns
 fewer-values f n no_nodes = omega arith
 fewer-values f n (node_then x ns) =
-    subst (λ i. nodes_values (cond (i == n) (nodes_redirected f ns) (node_then (node_redirected f x) (nodes_without n (nodes_redirected f ns)))) ≤ node_values x + nodes_values ns) (sym (redirected-number f x))
+    subst (λ i. nodes_values (cond (i == n) (nodes_redirected f ns) (node_then (node_redirected f x) (nodes_without n (nodes_redirected f ns)))) ≤ node_values x + nodes_values ns)
+    (sym (redirected-number f x))
     (by (id_of x == n) (fewer-values f n ns))
   where
     by : (t : Bool) → nodes_values (nodes_without n (nodes_redirected f ns)) ≤ nodes_values ns →

@@ -1,12 +1,14 @@
 -- A count that is saturated decides as the count itself.
 use Rattle.std.specs.Option.{option_or}
-use Rattle.std.proofs.Common.{◌≡◌, ℕ, ◌+◌, nat_le, ◌&&◌, ◌||◌, cond, None, option_map, refl, ap, ap₂, arith}
+use Rattle.std.proofs.Common.{◌≡◌, ℕ, ◌+◌, nat_le, ◌&&◌, ◌||◌, cond, None, option_map, refl, ap, ap₂, ◌∙◌, arith}
 use Rattle.std.proofs.Math.Path.{fun_ext}
 use Rattle.std.proofs.lemmas.Bool.Decides.{nat_tests}
-use Rattle.g_graph.specs.Plain.{RegionTree, region, NodeTrees, no_nodes, node_then}
+use Rattle.g_graph.specs.Plain.{RegionTree, region, NodeTrees, no_nodes, node_then, PlainLambda}
+use Rattle.g_graph.specs.Change.{lambda_changed}
+use Rattle.g_graph.specs.Program.{lambda_values}
 use Rattle.g_graph.specs.Count.{saturated}
 use Rattle.g_graph.specs.Splice.{joined_nodes}
-use Rattle.r_push.specs.Rule.{growth, can_count, pushed, nodes_pushed, psh_here}
+use Rattle.r_push.specs.Rule.{growth, can_count, pushed, nodes_pushed, psh_here, psh}
 
 small_same : (v g : ℕ) → nat_le (saturated v + g) (8192 + 0) ≡ nat_le (v + g) (8192 + 0)
 small_same v g = grind (arith, nat_tests)
@@ -22,3 +24,7 @@ here-same v n (region args nodes results) = ap (option_map (λ ns. region args n
 
 pub limit_same : (v n : ℕ) → psh_here (saturated v) n ≡ psh_here v n
 limit_same v n = fun_ext (λ r. here-same v n r)
+
+-- the lambda that the code makes
+pub changed_same : (v n : ℕ) (l k : PlainLambda) → v ≡ saturated (lambda_values l) → k ≡ lambda_changed (psh_here v n) l → k ≡ psh n l
+changed_same v n l k e d = d ∙ ap (λ h. lambda_changed h l) (ap (λ u. psh_here u n) e ∙ limit_same (lambda_values l) n)

@@ -141,7 +141,8 @@ module _ (args : List Kind) (before : NodeTrees) (n : ℕ) (op : Op) (inputs : L
         same-given (ReadSame arg (known_after [] before) (λ a. a) us more) (λ q. (p : ℕ) → q n p ≡ no_outputs n p) (nodes_run c before us no_outputs) (nodes_run c before more no_outputs)
         (subst (λ ns. Same (ReadSame arg (known_after [] before) (λ a. a) us more) (nodes_run c before us no_outputs) (nodes_run c ns more no_outputs))
         (redirected-moved (λ a. a) before ∙ nodes_unmoved (λ a. a) (λ a. refl) before)
-        (copied_nodes_mean_the_same arg (λ a. a) (λ m. m) before (arguments-move (length args) (nodes_ids before)) whole_read.0 c us more no_outputs no_outputs (arguments-same (length args) us (val v) count)))
+        (copied_nodes_mean_the_same arg (λ a. a) (λ m. m) before (arguments-move (length args) (nodes_ids before)) whole_read.0 c us more no_outputs no_outputs
+        (arguments-same (length args) us (val v) count)))
         (λ q did e p. unchanged c before more no_outputs q did e n at_before p)
 
     later_same : (o q : Outputs) → AfterBefore o q → ReadSame seen [] move us more (extended o n (val v ∷ [])) q

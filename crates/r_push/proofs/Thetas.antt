@@ -93,12 +93,14 @@ module _ (c : Context) (n : ℕ) (v : Word) (own : List Kind) (nodes : NodeTrees
       ap (λ r. region_meaning c (result_added (Arg (length own)) r) more) (sym (carried-is own at.before n at.op at.inputs at.regions at.after outs closed' unique'))
       ∙ ap (λ ns. region_meaning c (looped n (region own ns outs)) more) (sym at.is) in
       subst₂ (λ a b. Same (Turned us) a b) (ap (λ ns. region_meaning c (region own ns outs) us) (sym at.is)) far_is
-      (same-then (λ o q. map (read more q) (map move outs) ≡ map (read us o) outs) (Turned us) (nodes_run c (joined_nodes at.before (node_then x at.after)) us no_outputs) (nodes_run c far more no_outputs)
+      (same-then (λ o q. map (read more q) (map move outs) ≡ map (read us o) outs) (Turned us) (nodes_run c (joined_nodes at.before (node_then x at.after)) us no_outputs)
+      (nodes_run c far more no_outputs)
       (λ o. Returned (map (read us o) outs) []) (λ q. Returned (map (read more q) ends) []) runs
       (λ o q h. (record { outputs = o; near = refl; far = map-append (read more q) (map move outs) (Arg (length own) ∷ []) ∙ ap₂ (λ zs z. zs ++ z ∷ []) h last }, refl)))
 
   again-same : (m : ℕ) → ((us : List Datum) → length us ≡ length own → Gives c us y v → Same (Followed v) (turns m body us) (turns m further (us ++ val v ∷ []))) →
-      (us : List Datum) (o : Outputs) → Gives c us y v → (d : Datum) → Same (Followed v) (again (turns m body) (d ∷ map (read us o) rest)) (again (turns m further) (d ∷ map (read us o) rest ++ val v ∷ []))
+      (us : List Datum) (o : Outputs) → Gives c us y v → (d : Datum) →
+      Same (Followed v) (again (turns m body) (d ∷ map (read us o) rest)) (again (turns m further) (d ∷ map (read us o) rest ++ val v ∷ []))
   again-same m turn us o gives d = by (value_of d)
     where
       next : List Datum
@@ -128,7 +130,8 @@ module _ (c : Context) (n : ℕ) (v : Word) (own : List Kind) (nodes : NodeTrees
 
   -- ---- the node
 
-  pub theta-same : (known : List ℕ) (all : ℕ) (ys : List Datum) (q : Outputs) (id : ℕ) (inputs : List Origin) → (IsAmong n known → ⊥) → AreRead (is_argument all) known inputs → length inputs ≡ length own →
+  pub theta-same : (known : List ℕ) (all : ℕ) (ys : List Datum) (q : Outputs) (id : ℕ) (inputs : List Origin) → (IsAmong n known → ⊥) → AreRead (is_argument all) known inputs → length inputs ≡
+      length own →
       Gives c (map (read ys q) inputs) y v →
       Same (Followed v) (node_run c (node id Theta inputs (region_then (region own nodes (p ∷ rest)) no_regions)) ys q)
       (node_run c (input_added (Out n 0) (node id Theta inputs (region_then (looped n (region own nodes (p ∷ rest))) no_regions))) ys (extended q n (val v ∷ [])))

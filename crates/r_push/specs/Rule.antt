@@ -93,8 +93,11 @@ abbrev pub growth : NodeTree → ℕ
 growth (node id op inputs rs) = if same_op op Theta then 3 else count_of rs
 
 -- The index of one more argument of each region is below 2 ^ 32, as it always is in a lambda within the limits.
+abbrev pub can_all_count : RegionTrees → Bool
+can_all_count rs = all_regions (λ r. nat_lt (length (args_of r)) (2 ^ 32)) rs
+
 abbrev pub can_count : NodeTree → Bool
-can_count (node id op inputs rs) = all_regions (λ r. nat_lt (length (args_of r)) (2 ^ 32)) rs
+can_count (node id op inputs rs) = can_all_count rs
 
 -- in a lambda of so many values
 abbrev pub pushed_within : (values n : ℕ) → NodeTree → Option NodeTrees

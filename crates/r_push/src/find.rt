@@ -8,8 +8,8 @@ ghost use Rattle.r_push.specs.Rule.{names_argument, may_leave, leaving, leaving_
 use g_edit::may_change_size;
 use g_graph::{Node, Op, Origin, Region, is_pure, is_used, node_at, same_origin};
 
-/// Whether the node of this number may leave a Gamma or a Theta of the region, in a lambda of so many
-/// values.
+/// Whether the node of this number may leave a Gamma or a Theta of the region, in a lambda of so
+/// many values.
 pub fn can_push(region: &Region, values: u64, id: u32) -> bool
     ensures { result ≡ is_some (psh_here values id region.now) }
 {
@@ -97,7 +97,8 @@ fn leaves(region: &Region, id: u32) -> bool
     }
 }
 
-fn may_leave(region: &Region, node: &Node) -> bool
+/// Whether the node may leave this region of a Gamma.
+pub fn may_leave(region: &Region, node: &Node) -> bool
     ensures { result ≡ may_leave names_argument region.now node.now }
 {
     is_pure(node.op)
@@ -144,7 +145,8 @@ fn loop_leaves(region: &Region, id: u32) -> bool
     }
 }
 
-fn may_leave_loop(region: &Region, node: &Node) -> bool
+/// Whether the node may leave this region of a Theta.
+pub fn may_leave_loop(region: &Region, node: &Node) -> bool
     ensures { result ≡ may_leave (is_invariant (results_of region.now)) region.now node.now }
 {
     is_pure(node.op)

@@ -1,14 +1,22 @@
-ghost use Rattle.std.specs.Prelude.{◌≡◌};
-ghost use Rattle.r_push.specs.Rule.{psh_here, applies};
+ghost use Rattle.std.specs.Prelude.{◌≡◌, OnOk, OnErr, IsTrue};
+ghost use Rattle.std.specs.declared.option.Option.TheVariants.{Some, None};
+ghost use Rattle.g_graph.specs.Program.{lambda_values, KeepsPrograms};
+ghost use Rattle.g_graph.specs.WellFormed.{IsWellFormed};
+ghost use Rattle.g_mean.specs.Edits.{KeepsMeaning, KeepsComplete};
+ghost use Rattle.g_edit.specs.Size.{IsNoLarger};
+ghost use Rattle.r_push.specs.Rule.{psh_here, applies, psh};
 
 use crate::find::can_push;
-use g_graph::{CanChange, Lambda, Region, can_change_lambda, values};
+use crate::push::push;
+use g_graph::{CanChange, Change, Lambda, Region, can_change_lambda, change_lambda, values};
+use no_memory::NoMemory;
+use std::alloc::Global;
 
-/// Whether the rule applies at the node of this number: a Const, Undef, Local, Delta, Bin or Un whose
-/// output is used and whose inputs are all arguments, in a region of a Gamma, or in a Theta where
-/// they are arguments of variables whose result is their argument; and where the lambda has at most
-/// 8,192 values afterwards. It is false for a number that is not there. It takes no memory, and time
-/// linear in the lambda.
+/// Whether the rule applies at the node of this number: a Const, Undef, Local, Delta, Bin or Un
+/// whose output is used and whose inputs are all arguments, in a region of a Gamma, or in a Theta
+/// where they are arguments of variables whose result is their argument; and where the lambda has
+/// at most 8,192 values afterwards. It is false for a number that is not there. It takes no
+/// memory, and time linear in the lambda.
 pub fn applies(lambda: &Lambda, node: u32) -> bool
     ensures { result ≡ applies lambda.now node }
 {
@@ -21,7 +29,53 @@ pub fn applies(lambda: &Lambda, node: u32) -> bool
     )
 }
 
-// The test for the change of the region that holds the Gamma or Theta, in a lambda of so many values.
+/// The node moves to directly before the Gamma or Theta, with its number; one more last variable
+/// of that node carries its value, and its uses become the new argument. Out of memory, the
+/// lambda is as it was. It takes time linear in the lambda, and memory for the lists of that node
+/// and of its regions, which become one longer.
+pub fn apply(alloc: Global, lambda: &mut Lambda, node: u32) -> Result<(), NoMemory>
+    requires well_formed { IsWellFormed lambda.old }
+    requires applies { IsTrue (applies lambda.old node) }
+    ensures ok { OnOk result (lambda.new ≡ psh node lambda.old) }
+    ensures kept { OnOk result (IsWellFormed lambda.new) }
+    ensures meaning { OnOk result (KeepsMeaning lambda.old lambda.new) }
+    ensures list { OnOk result (KeepsComplete lambda.old lambda.new) }
+    ensures program { OnOk result (KeepsPrograms lambda.old lambda.new) }
+    ensures size { OnOk result (IsNoLarger (lambda_values lambda.old) (lambda_values lambda.new)) }
+    ensures err { OnErr result (lambda.new ≡ lambda.old) }
+{
+    let values = values(lambda);
+    change_lambda(
+        lambda,
+        &mut Pushing {
+            alloc,
+            values,
+            node,
+        },
+    )?;
+    Ok(())
+}
+
+// The change of the region that holds the Gamma or Theta.
+#[derive(Drop)]
+struct Pushing {
+    alloc: Global,
+    values: u64,
+    node: u32,
+}
+
+impl Change for Pushing {
+    type Fault = NoMemory;
+
+    ghost changed = { λ c. psh_here c.values c.node };
+
+    fn make(&mut self, region: &mut Region) -> Result<bool, NoMemory> {
+        push(self.alloc, region, self.values, self.node)
+    }
+}
+
+// The test for the change of the region that holds the Gamma or Theta, in a lambda of so many
+// values.
 #[derive(Drop)]
 struct Pushed {
     values: u64,

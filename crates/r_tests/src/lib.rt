@@ -11,4 +11,6 @@ mod dne;
 #[cfg(test)]
 mod inv;
 #[cfg(test)]
+mod push;
+#[cfg(test)]
 mod tables;

@@ -56,7 +56,8 @@ arg_added_means c k args nodes results closed us x e =
     let runs = subst (λ ns. Same (ReadSame S known (λ o. o) us more) (nodes_run c nodes us no_outputs) (nodes_run c ns more no_outputs))
     (redirected-moved (λ o. o) nodes ∙ nodes_unmoved (λ o. o) (λ o. refl) nodes)
     (copied_nodes_mean_the_same S (λ o. o) (λ n. n) nodes (arguments-move (length args) (nodes_ids nodes)) closed.0 c us more no_outputs no_outputs (arguments-same (length args) us x e)) in
-    let ends = λ (o q : Outputs) (h : ReadSame S known (λ a. a) us more o q). sym (reads-same S known (λ a. a) us more o q h results closed.1) ∙ ap (map (read more q)) (all_unmoved (λ a. a) (λ a. refl) results) in
+    let ends = λ (o q : Outputs) (h : ReadSame S known (λ a. a) us more o q). sym (reads-same S known (λ a. a) us more o q h results closed.1)
+    ∙ ap (map (read more q)) (all_unmoved (λ a. a) (λ a. refl) results) in
     sym (same-equal (region_meaning c (region args nodes results) us) (region_meaning c (arg_added k (region args nodes results)) more)
     (same-then (ReadSame S known (λ o. o) us more) Equals (nodes_run c nodes us no_outputs) (nodes_run c nodes more no_outputs)
     (λ o. Returned (map (read us o) results) []) (λ q. Returned (map (read more q) results) []) runs (λ o q h. (ends o q h, refl))))

@@ -55,7 +55,8 @@ module _ (values : ℕ) (here : RegionTree → Option RegionTree) (local : (r s 
     region_resized (region args nodes results) s e = by (here (region args nodes results)) refl (nodes_changed here nodes) refl e (λ ms d. nodes_resized nodes ms d)
       where
         by : (found : Option RegionTree) → here (region args nodes results) ≡ found → (changed : Option NodeTrees) → nodes_changed here nodes ≡ changed →
-            option_or found (option_map (λ ms. region args ms results) changed) ≡ Some s → ((ms : NodeTrees) → nodes_changed here nodes ≡ Some ms → Resized values (nodes_values nodes) (nodes_values ms)) →
+            option_or found (option_map (λ ms. region args ms results) changed) ≡ Some s →
+            ((ms : NodeTrees) → nodes_changed here nodes ≡ Some ms → Resized values (nodes_values nodes) (nodes_values ms)) →
             IsResized values (region args nodes results) s
         by (Some t) d changed c f rest = local (region args nodes results) s (d ∙ f)
         by None d (Some ms) c f rest =

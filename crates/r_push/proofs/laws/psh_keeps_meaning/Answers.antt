@@ -1,5 +1,5 @@
 use Rattle.r_push.proofs.Kept.{psh_is_a_step}
-use Rattle.r_push.proofs.Push.{psh_keeps_lambdas, psh_keeps_programs}
+use Rattle.r_push.proofs.Replaced.{psh_keeps_lambdas, psh_keeps_programs}
 use Rattle.r_push.proofs.laws.psh_keeps_meaning.Goals as goal
 
 pub returns-clause-lambda : goal.returns-clause-lambda

@@ -1,4 +1,4 @@
-use Rattle.r_push.proofs.Push as rule
+use Rattle.r_push.proofs.Replaced as rule
 use Rattle.r_push.proofs.laws.psh_replaces.Goals as goal
 
 pub returns : goal.returns

@@ -145,7 +145,8 @@ leaves-outside test n count args nodes results y many closed at all =
       pure = at.pure;
       all = all;
       reads = subst (λ k. AreRead (is_argument k) (known_after [] at.before) at.inputs) (sym many)
-          (joined-read (is_argument (length args)) [] at.before (node_then (node n at.op at.inputs at.regions) at.after) (subst (λ ns. NodesRead (is_argument (length args)) [] ns) at.is closed.0)).1.0.0;
+          (joined-read (is_argument (length args)) [] at.before (node_then (node n at.op at.inputs at.regions) at.after)
+          (subst (λ ns. NodesRead (is_argument (length args)) [] ns) at.is closed.0)).1.0.0;
     }
 
 pub one-outside : (n count : ℕ) (y : NodeTree) (rs : RegionTrees) → AllClosed rs → AllTake count rs → leaving_one n rs ≡ Some y → Outside n count y
@@ -153,7 +154,8 @@ one-outside n count y no_regions closed counts e = absurd cc
 one-outside n count y (region_then (region args nodes results) rs) closed counts e =
     by (leaving names_argument n (region args nodes results)) refl e (one-outside n count y rs closed.1 counts.1)
   where
-    by : (first : Option NodeTree) → leaving names_argument n (region args nodes results) ≡ first → option_or first (leaving_one n rs) ≡ Some y → (leaving_one n rs ≡ Some y → Outside n count y) → Outside n count y
+    by : (first : Option NodeTree) → leaving names_argument n (region args nodes results) ≡ first → option_or first (leaving_one n rs) ≡ Some y → (leaving_one n rs ≡ Some y → Outside n count y) →
+        Outside n count y
     by (Some z) d f rest =
         let at = leaves names_argument n args nodes results y (d ∙ f) in
         leaves-outside names_argument n count args nodes results y counts.0 closed.0 at at.all
@@ -182,7 +184,8 @@ module _ (l : PlainLambda) (args : List Kind) (before : NodeTrees) (id : ℕ) (o
 
       by : IsAmong n (id ∷ known_after [] before) ⊎ IsAmong n (nodes_ids after) → ⊥
       by (inl (inl e)) = distinct-apart (id ∷ []) (regions_ids rs) (distinct-split (id ∷ regions_ids rs) (nodes_ids after) rest).0 n (inl e) h
-      by (inl (inr j)) = distinct-apart (nodes_ids before) ((id ∷ regions_ids rs) ++ nodes_ids after) all-distinct n (known-own before n j) (among-left n (id ∷ regions_ids rs) (nodes_ids after) (inr h))
+      by (inl (inr j)) = distinct-apart (nodes_ids before) ((id ∷ regions_ids rs) ++ nodes_ids after) all-distinct n (known-own before n j)
+          (among-left n (id ∷ regions_ids rs) (nodes_ids after) (inr h))
       by (inr j) = distinct-apart (id ∷ regions_ids rs) (nodes_ids after) rest n (inr h) j
 
   pub before-unknown : (n : ℕ) → IsAmong n (regions_ids rs) → IsAmong n (known_after [] before) → ⊥
@@ -200,7 +203,8 @@ gamma-replaces : (l : PlainLambda) (args : List Kind) (before : NodeTrees) (id :
     (region args (joined_nodes before (joined_nodes (placed entries y (input_added (Out n 0) (node id Gamma (p ∷ entries) (regions_carried n rs)))) after)) results)
 gamma-replaces l args before id p entries rs after results part n y e ls ks =
     subst (λ z. Replaces ls ks (region args (joined_nodes before (node_then x after)) results) (region args (joined_nodes before (joined_nodes (placed entries z x') after)) results)) (sym out.node_is)
-    (two-replace l args before x after results part n (unread l args before id Gamma (p ∷ entries) rs after results part n among) out.op (map (args_to_inputs entries) out.inputs) out.regions x' out.pure refl runs ls ks)
+    (two-replace l args before x after results part n (unread l args before id Gamma (p ∷ entries) rs after results part n among) out.op
+    (map (args_to_inputs entries) out.inputs) out.regions x' out.pure refl runs ls ks)
   where
     x : NodeTree
     x = node id Gamma (p ∷ entries) rs
@@ -227,7 +231,8 @@ gamma-replaces l args before id p entries rs after results part n y e ls ks =
     among = one-among n y rs e
 
     runs : (d : Context) (ys : List Datum) (q : Outputs) →
-        RunsBoth l args before x after results part n (unread l args before id Gamma (p ∷ entries) rs after results part n among) out.op (map (args_to_inputs entries) out.inputs) out.regions x' out.pure refl d ys q
+        RunsBoth l args before x after results part n (unread l args before id Gamma (p ∷ entries) rs after results part n among) out.op
+        (map (args_to_inputs entries) out.inputs) out.regions x' out.pure refl d ys q
     runs d ys q =
         let us = map (read ys q) entries in
         let g = gives-both d (length entries) n out.known out.op out.inputs out.regions out.pure out.all out.reads ys q entries refl in
@@ -251,7 +256,8 @@ followed-carries v [] (suc i) = inl refl
 followed-carries v (z ∷ zs) zero = inl refl
 followed-carries v (z ∷ zs) (suc i) = followed-carries v zs i
 
-theta-replaces : (l : PlainLambda) (args : List Kind) (before : NodeTrees) (id : ℕ) (inputs : List Origin) (own : List Kind) (nodes : NodeTrees) (outs : List Origin) (after : NodeTrees) (results : List Origin) →
+theta-replaces : (l : PlainLambda) (args : List Kind) (before : NodeTrees) (id : ℕ) (inputs : List Origin) (own : List Kind) (nodes : NodeTrees) (outs : List Origin) (after : NodeTrees)
+    (results : List Origin) →
     IsPartOf l (region args (joined_nodes before (node_then (node id Theta inputs (region_then (region own nodes outs) no_regions)) after)) results) → (n : ℕ) (y : NodeTree) →
     leaving_loop n (region own nodes outs) ≡ Some y → (ls ks : List PlainLambda) →
     Replaces ls ks (region args (joined_nodes before (node_then (node id Theta inputs (region_then (region own nodes outs) no_regions)) after)) results)
@@ -262,7 +268,8 @@ theta-replaces l args before id inputs own nodes [] after results part n y e ls 
     absurd (omega (arith, as-many (known own nodes) [] (Value ∷ own) fits.0))
 theta-replaces l args before id inputs own nodes (p ∷ rest) after results part n y e ls ks =
     subst (λ z. Replaces ls ks (region args (joined_nodes before (node_then x after)) results) (region args (joined_nodes before (joined_nodes (placed inputs z x') after)) results)) (sym out.node_is)
-    (two-replace l args before x after results part n (unread l args before id Theta inputs rs after results part n among) out.op (map (args_to_inputs inputs) out.inputs) out.regions x' out.pure refl runs ls ks)
+    (two-replace l args before x after results part n (unread l args before id Theta inputs rs after results part n among) out.op
+    (map (args_to_inputs inputs) out.inputs) out.regions x' out.pure refl runs ls ks)
   where
     r : RegionTree
     r = region own nodes (p ∷ rest)
@@ -303,7 +310,8 @@ theta-replaces l args before id inputs own nodes (p ∷ rest) after results part
     among = among-left n (nodes_ids nodes) [] (leaving-among (is_invariant (p ∷ rest)) n nodes y at)
 
     runs : (d : Context) (ys : List Datum) (q : Outputs) →
-        RunsBoth l args before x after results part n (unread l args before id Theta inputs rs after results part n among) out.op (map (args_to_inputs inputs) out.inputs) out.regions x' out.pure refl d ys q
+        RunsBoth l args before x after results part n (unread l args before id Theta inputs rs after results part n among) out.op
+        (map (args_to_inputs inputs) out.inputs) out.regions x' out.pure refl d ys q
     runs d ys q =
         let us = map (read ys q) inputs in
         let g = gives-both d (length inputs) n out.known out.op out.inputs out.regions out.pure out.all out.reads ys q inputs refl in

@@ -1,0 +1,7 @@
+use Rattle.std.proofs.Common.{◌≡◌, drop}
+use Rattle.g_graph.specs.Plain.{regions_of}
+use Rattle.r_push.specs.Rule.{leaving_one}
+use Rattle.r_push.proofs.left.leaving_one.Given as goal
+
+abbrev pub invariant-loop-region : goal.invariant-loop-region
+invariant-loop-region l = leaving_one l.id (regions_of (drop l.region-index l.regions)) ≡ leaving_one l.id (regions_of l.regions)
