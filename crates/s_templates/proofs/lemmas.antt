@@ -29,3 +29,5 @@ pub mod Choices
 pub mod Codes
 pub mod Bodies
 pub mod Arguments
+pub mod Formats
+pub mod LineFormats

@@ -13,3 +13,4 @@ pub mod Table
 pub mod Frames
 pub mod Codes
 pub mod Arguments
+pub mod Formats

@@ -6,6 +6,7 @@ ghost use Rattle.s_templates.specs.Arguments.{ArgumentsAreLoaded, ParamsArePut};
 ghost use Rattle.s_templates.specs.Branches.{OffsetLeads, JumpIsDone, BranchNotZeroIsDone, BranchZeroIsDone, BranchEqualIsDone, ExitIsDone};
 ghost use Rattle.s_templates.specs.Codes.{CodeIsDone};
 ghost use Rattle.s_templates.specs.Calls.{CallLeads, ReturnLeads};
+ghost use Rattle.s_templates.specs.Formats.{TemplatesFit, ItemsFit};
 ghost use Rattle.s_templates.specs.Frames.{FrameIsTaken, StackIsExceeded, FrameIsGiven};
 ghost use Rattle.s_templates.specs.Memories.{LoadIsDone, StoreIsDone, EqualPointersIsDone, ClearIsDone};
 ghost use Rattle.s_templates.specs.Streams.{PutIsDone, GetIsDone};
@@ -152,4 +153,11 @@ pub fn code_is_done()
 pub fn arguments_are_passed()
     ensures loaded { ArgumentsAreLoaded }
     ensures put { ParamsArePut }
+{}
+
+/// The instructions of each line's template fit their formats, and so do those that items become
+/// where jumps reach their labels.
+pub fn templates_fit_formats()
+    ensures templates { TemplatesFit }
+    ensures items { ItemsFit }
 {}
