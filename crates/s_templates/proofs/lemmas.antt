@@ -31,3 +31,4 @@ pub mod Bodies
 pub mod Arguments
 pub mod Formats
 pub mod LineFormats
+pub mod TextFormats

@@ -1,13 +1,13 @@
 -- That the instructions of items fit their formats.
 use Rattle.std.specs.Prelude.{ℕ, ◌+◌, ◌^◌, ◌<◌, IsTrue, List, [], ◌∷◌, Option}
-use Rattle.g_graph.specs.Plain.{PlainObject}
+use Rattle.g_graph.specs.Plain.{PlainObject, PlainDelta}
 use Rattle.rv_isa.specs.Words.{FitsFormat}
 use Rattle.rv_machine.specs.Standing.{AllFit}
 use Rattle.rv_layout.specs.declared.item.Item.{Item}
 use Rattle.rv_layout.specs.declared.item.Item.TheVariants.{Word, Address}
-use Rattle.rv_layout.specs.Conditions.{Reaches}
+use Rattle.rv_layout.specs.Conditions.{Reaches, CanLayOut}
 use Rattle.rv_layout.specs.Items.{item_size}
-use Rattle.rv_layout.specs.Layout.{Addresses, items_code}
+use Rattle.rv_layout.specs.Layout.{Addresses, items_code, addresses_of, text_of}
 use Rattle.s_linear.specs.Frame.{PlainPlaces, object_at, frame_size}
 use Rattle.s_linear.specs.Linear.{const}
 use Rattle.s_linear.specs.Lines.{Line, done, branch_equal, does}
@@ -47,3 +47,12 @@ JumpsReach labels at (i ∷ is) = Reaches labels at i × JumpsReach labels (at +
 -- So are the instructions that items become, where jumps reach their labels.
 abbrev pub ItemsFit : Type 0
 ItemsFit = (addresses : Addresses) (labels : ℕ → Option ℕ) (at : ℕ) (items : List Item) → WordsFit items → JumpsReach labels at items → AllFit (items_code addresses labels at items)
+
+-- the items of each function do
+abbrev pub EachFits : List (List Item) → Type 0
+EachFits [] = Unit {0}
+EachFits (f ∷ fs) = WordsFit f × EachFits fs
+
+-- The whole text of a program that can be laid out is of instructions that fit their formats.
+abbrev pub TextFits : Type 0
+TextFits = (fs : List (List Item)) (ds : List PlainDelta) (main : ℕ) → CanLayOut fs ds main → EachFits fs → AllFit (text_of (addresses_of fs ds) fs main)

@@ -6,7 +6,7 @@ ghost use Rattle.s_templates.specs.Arguments.{ArgumentsAreLoaded, ParamsArePut};
 ghost use Rattle.s_templates.specs.Branches.{OffsetLeads, JumpIsDone, BranchNotZeroIsDone, BranchZeroIsDone, BranchEqualIsDone, ExitIsDone};
 ghost use Rattle.s_templates.specs.Codes.{CodeIsDone};
 ghost use Rattle.s_templates.specs.Calls.{CallLeads, ReturnLeads};
-ghost use Rattle.s_templates.specs.Formats.{TemplatesFit, ItemsFit};
+ghost use Rattle.s_templates.specs.Formats.{TemplatesFit, ItemsFit, TextFits};
 ghost use Rattle.s_templates.specs.Frames.{FrameIsTaken, StackIsExceeded, FrameIsGiven};
 ghost use Rattle.s_templates.specs.Memories.{LoadIsDone, StoreIsDone, EqualPointersIsDone, ClearIsDone};
 ghost use Rattle.s_templates.specs.Streams.{PutIsDone, GetIsDone};
@@ -156,8 +156,9 @@ pub fn arguments_are_passed()
 {}
 
 /// The instructions of each line's template fit their formats, and so do those that items become
-/// where jumps reach their labels.
+/// where jumps reach their labels, and all of the text of a program that can be laid out.
 pub fn templates_fit_formats()
     ensures templates { TemplatesFit }
     ensures items { ItemsFit }
+    ensures text { TextFits }
 {}

@@ -46,10 +46,10 @@ items-append (Stub s ∷ is) more fit fit' = items-append is more fit fit'
 
 -- ---- words in registers
 
-upper-fits : (v : ℕ) → upper_part v < 2 ^ 20
+pub upper-fits : (v : ℕ) → upper_part v < 2 ^ 20
 upper-fits v = omega arith
 
-address-fits : (rd v : ℕ) → rd < 32 → AllFit (load_address rd v)
+pub address-fits : (rd v : ℕ) → rd < 32 → AllFit (load_address rd v)
 unfolding FitsFormat
 address-fits rd v low = ((upper-fits v, low), ((low_part_fits v, low, low), tt))
 
@@ -145,7 +145,7 @@ jump-fits from to can =
     let even' = can.to_aligned in
     ((omega arith, omega (arith, back, forth)), omega (arith, back, forth, even, even'), lit< tt)
 
-call-fits : (distance : ℕ) → AllFit (sequences.call distance)
+pub call-fits : (distance : ℕ) → AllFit (sequences.call distance)
 unfolding FitsFormat
 call-fits distance = ((upper-fits distance, lit< tt), ((low_part_fits distance, lit< tt, lit< tt), tt))
 
