@@ -32,3 +32,4 @@ pub mod Arguments
 pub mod Formats
 pub mod LineFormats
 pub mod TextFormats
+pub mod Programs

@@ -14,3 +14,4 @@ pub mod Frames
 pub mod Codes
 pub mod Arguments
 pub mod Formats
+pub mod Programs

@@ -8,6 +8,7 @@ ghost use Rattle.s_templates.specs.Codes.{CodeIsDone};
 ghost use Rattle.s_templates.specs.Calls.{CallLeads, ReturnLeads};
 ghost use Rattle.s_templates.specs.Formats.{TemplatesFit, ItemsFit, TextFits};
 ghost use Rattle.s_templates.specs.Frames.{FrameIsTaken, StackIsExceeded, FrameIsGiven};
+ghost use Rattle.s_templates.specs.Programs.{LaidProgramStands};
 ghost use Rattle.s_templates.specs.Memories.{LoadIsDone, StoreIsDone, EqualPointersIsDone, ClearIsDone};
 ghost use Rattle.s_templates.specs.Streams.{PutIsDone, GetIsDone};
 ghost use Rattle.s_templates.specs.Stubs.{PutStubWrites, GetStubReads};
@@ -161,4 +162,10 @@ pub fn templates_fit_formats()
     ensures templates { TemplatesFit }
     ensures items { ItemsFit }
     ensures text { TextFits }
+{}
+
+/// A program that can be laid out stands in memory once its image is loaded: its start code, its
+/// stubs, and each function at its address.
+pub fn programs_stand()
+    ensures { LaidProgramStands }
 {}
