@@ -29,3 +29,8 @@ pub mod Choices
 pub mod Codes
 pub mod Bodies
 pub mod Arguments
+pub mod Formats
+pub mod LineFormats
+pub mod TextFormats
+pub mod Programs
+pub mod Starts

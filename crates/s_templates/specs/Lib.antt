@@ -13,3 +13,6 @@ pub mod Table
 pub mod Frames
 pub mod Codes
 pub mod Arguments
+pub mod Formats
+pub mod Programs
+pub mod Starts

@@ -6,7 +6,10 @@ ghost use Rattle.s_templates.specs.Arguments.{ArgumentsAreLoaded, ParamsArePut};
 ghost use Rattle.s_templates.specs.Branches.{OffsetLeads, JumpIsDone, BranchNotZeroIsDone, BranchZeroIsDone, BranchEqualIsDone, ExitIsDone};
 ghost use Rattle.s_templates.specs.Codes.{CodeIsDone};
 ghost use Rattle.s_templates.specs.Calls.{CallLeads, ReturnLeads};
+ghost use Rattle.s_templates.specs.Formats.{TemplatesFit, ItemsFit, TextFits};
 ghost use Rattle.s_templates.specs.Frames.{FrameIsTaken, StackIsExceeded, FrameIsGiven};
+ghost use Rattle.s_templates.specs.Programs.{LaidProgramStands};
+ghost use Rattle.s_templates.specs.Starts.{MainIsCalled, MainExits};
 ghost use Rattle.s_templates.specs.Memories.{LoadIsDone, StoreIsDone, EqualPointersIsDone, ClearIsDone};
 ghost use Rattle.s_templates.specs.Streams.{PutIsDone, GetIsDone};
 ghost use Rattle.s_templates.specs.Stubs.{PutStubWrites, GetStubReads};
@@ -152,4 +155,24 @@ pub fn code_is_done()
 pub fn arguments_are_passed()
     ensures loaded { ArgumentsAreLoaded }
     ensures put { ParamsArePut }
+{}
+
+/// The instructions of each line's template fit their formats, and so do those that items become
+/// where jumps reach their labels, and all of the text of a program that can be laid out.
+pub fn templates_fit_formats()
+    ensures templates { TemplatesFit }
+    ensures items { ItemsFit }
+    ensures text { TextFits }
+{}
+
+/// A program that can be laid out stands in memory once its image is loaded: its start code, its
+/// stubs, and each function at its address.
+pub fn programs_stand()
+    ensures { LaidProgramStands }
+{}
+
+/// The start code calls `main`, and exits with the low byte of its value.
+pub fn programs_start()
+    ensures called { MainIsCalled }
+    ensures exits { MainExits }
 {}
