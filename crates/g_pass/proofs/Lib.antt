@@ -1,2 +1,3 @@
 mod Letters
 mod Texts
+mod Swept

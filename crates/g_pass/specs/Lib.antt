@@ -1,1 +1,2 @@
 pub mod Recipe
+pub mod Sweep

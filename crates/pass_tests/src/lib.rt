@@ -2,4 +2,6 @@
 #![tactic(auto)]
 
 #[cfg(test)]
+mod sources;
+#[cfg(test)]
 mod texts;

@@ -1,0 +1,15 @@
+use Rattle.std.proofs.Common.{◌≡◌, take}
+use Rattle.std.specs.List.{fold}
+use Rattle.g_graph.specs.WellFormed.{IsWellFormed}
+use Rattle.g_pass.specs.Sweep.{Swept, sweep}
+use Rattle.g_pass.proofs.sweeps.optimise.Given as goal
+
+-- the lambda is the one after the sweeps so far, and well formed
+abbrev pub invariant-loop-rule : goal.invariant-loop-rule
+invariant-loop-rule l =
+    let now : Swept = record { lambda = l.lambda; steps = l.log.items } in
+    let first : Swept = record { lambda = l.initial.lambda; steps = l.initial.log.items } in
+    record {
+      swept : now ≡ fold sweep first (take l.rule-index l.rule-items);
+      kept : IsWellFormed l.lambda;
+    }

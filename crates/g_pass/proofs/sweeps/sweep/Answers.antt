@@ -1,0 +1,14 @@
+use Rattle.std.proofs.Common.{◌∙◌, ap, take}
+use Rattle.std.specs.List.{fold}
+use Rattle.g_pass.specs.Sweep.{tried}
+use Rattle.g_pass.proofs.Swept.{on_err, same_swept}
+use Rattle.g_pass.proofs.sweeps.sweep.Goals as goal
+
+pub returns-in_err-try_step-clause-err : goal.returns-in_err-try_step-clause-err
+returns-in_err-try_step-clause-err c =
+    on_err _ c.from_residual-in_err-try_step.result (
+      c.loop-node.node-index,
+      same_swept _ _ _ _ c.in_err-try_step.ensures.err_lambda c.in_err-try_step.ensures.err_log
+          ∙ c.loop-node.invariant.swept
+          ∙ ap (λ ns. fold (tried c.args.rule) (record { lambda = c.args.lambda.now; steps = c.args.log.now.items }) (take c.loop-node.node-index ns)) (c.deref-node-items.ensures.value ∙ c.in_ok-numbers.ensures),
+    )

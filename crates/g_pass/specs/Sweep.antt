@@ -1,0 +1,69 @@
+-- What a sweep of a rule makes of a lambda, and what a recipe makes of it, sweep by sweep.
+use Rattle.std.specs.Prelude.{ℕ, ◌++◌, List, [], ◌∷◌, Bool, true, false, reverse, if◌then◌else◌}
+use Rattle.std.specs.List.{fold}
+use Rattle.g_graph.specs.declared.steps.Rule.{Rule}
+use Rattle.g_graph.specs.declared.steps.Rule.TheVariants.{Fold, Cne, Dne, Inv, Push, Pull, Invert, Unroll, Inline}
+use Rattle.g_graph.specs.declared.steps.Step.{Step}
+use Rattle.g_graph.specs.Plain.{PlainLambda}
+use Rattle.g_graph.specs.Ids.{region_ids}
+use Rattle.r_fold.specs.Rule as fold_rule
+use Rattle.r_cne.specs.Rule as cne_rule
+use Rattle.r_dne.specs.Rule as dne_rule
+use Rattle.r_inv.specs.Rule as inv_rule
+use Rattle.r_push.specs.Rule as push_rule
+
+-- Whether a rule applies at a node, and what it makes of the lambda there. A rule that is not there yet never applies.
+abbrev pub applies : Rule → PlainLambda → (node : ℕ) → Bool
+applies Fold l n = fold_rule.applies l n
+applies Cne l n = cne_rule.applies l n
+applies Dne l n = dne_rule.applies l n
+applies Inv l n = inv_rule.applies l n
+applies Push l n = push_rule.applies l n
+applies Pull l n = false
+applies Invert l n = false
+applies Unroll l n = false
+applies Inline l n = false
+
+abbrev pub applied : Rule → (node : ℕ) → PlainLambda → PlainLambda
+applied Fold n l = fold_rule.fold n l
+applied Cne n l = cne_rule.cne n l
+applied Dne n l = dne_rule.dne n l
+applied Inv n l = inv_rule.inv n l
+applied Push n l = push_rule.psh n l
+applied Pull n l = l
+applied Invert n l = l
+applied Unroll n l = l
+applied Inline n l = l
+
+-- a lambda, and the steps that were applied before it
+pub record Swept : Type 0 where
+  pub lambda : PlainLambda
+  pub steps : List Step
+
+-- the rule at one node, where it applies
+abbrev pub tried : Rule → Swept → (node : ℕ) → Swept
+tried r s n =
+    if applies r s.lambda n then record { lambda = applied r n s.lambda; steps = s.steps ++ record { rule = r; node = n } ∷ [] } else s
+
+-- whether a sweep goes from the last node to the first
+abbrev pub is_backward : Rule → Bool
+is_backward Fold = false
+is_backward Cne = false
+is_backward Dne = true
+is_backward Inv = false
+is_backward Push = false
+is_backward Pull = true
+is_backward Invert = false
+is_backward Unroll = false
+is_backward Inline = false
+
+abbrev pub in_order : Rule → List ℕ → List ℕ
+in_order r ns = if is_backward r then reverse ns else ns
+
+-- The numbers that the lambda has as the sweep begins, in pre-order or in that order reversed: what a step makes is not
+-- visited, and what a step takes away does not apply.
+abbrev pub sweep : Swept → Rule → Swept
+sweep s r = fold (tried r) s (in_order r (region_ids s.lambda.body))
+
+abbrev pub optimise : List Rule → PlainLambda → Swept
+optimise rules l = fold sweep (record { lambda = l; steps = [] }) rules

@@ -1,0 +1,75 @@
+//! One rule at one node.
+ghost use Rattle.std.specs.Prelude.{◌≡◌, OnOk, OnErr, IsTrue};
+ghost use Rattle.g_graph.specs.WellFormed.{IsWellFormed};
+ghost use Rattle.g_pass.specs.Sweep.{applies, applied, is_backward, tried};
+
+use g_graph::{Lambda, Rule, Step};
+use no_memory::NoMemory;
+use std::alloc::Global;
+
+/// Whether a sweep of the rule goes from the last node to the first.
+pub const fn is_backward(rule: Rule) -> bool
+    ensures { result ≡ is_backward rule }
+{
+    matches!(rule, Rule::Dne | Rule::Pull)
+}
+
+fn applies(rule: Rule, lambda: &Lambda, node: u32) -> bool
+    ensures { result ≡ applies rule lambda.now node }
+{
+    match rule {
+        Rule::Fold => r_fold::applies(lambda, node),
+        Rule::Cne => r_cne::applies(lambda, node),
+        Rule::Dne => r_dne::applies(lambda, node),
+        Rule::Inv => r_inv::applies(lambda, node),
+        Rule::Push => r_push::applies(lambda, node),
+        Rule::Pull | Rule::Invert | Rule::Unroll | Rule::Inline => false,
+    }
+}
+
+fn apply(alloc: Global, rule: Rule, lambda: &mut Lambda, node: u32) -> Result<(), NoMemory>
+    requires well_formed { IsWellFormed lambda.old }
+    requires applies { IsTrue (applies rule lambda.old node) }
+    ensures ok { OnOk result (lambda.new ≡ applied rule node lambda.old) }
+    ensures kept { IsWellFormed lambda.new }
+    ensures err { OnErr result (lambda.new ≡ lambda.old) }
+{
+    match rule {
+        Rule::Fold => r_fold::apply(alloc, lambda, node),
+        Rule::Cne => {
+            r_cne::apply(lambda, node);
+            Ok(())
+        }
+        Rule::Dne => r_dne::apply(alloc, lambda, node),
+        Rule::Inv => r_inv::apply(alloc, lambda, node),
+        Rule::Push => r_push::apply(alloc, lambda, node),
+        Rule::Pull | Rule::Invert | Rule::Unroll | Rule::Inline => Ok(()),
+    }
+}
+
+/// Applies the rule at the node, where it applies, and notes the step in the log. `NoMemory` only
+/// where the allocator has none; lambda and log are then as they were.
+pub fn try_step(
+    alloc: Global,
+    rule: Rule,
+    lambda: &mut Lambda,
+    node: u32,
+    log: &mut Vec<Step>,
+) -> Result<(), NoMemory>
+    requires well_formed { IsWellFormed lambda.old }
+    ensures ok { OnOk result (record { lambda = lambda.new; steps = log.new.items } ≡
+        tried rule (record { lambda = lambda.old; steps = log.old.items }) node) }
+    ensures kept { IsWellFormed lambda.new }
+    ensures err_lambda { OnErr result (lambda.new ≡ lambda.old) }
+    ensures err_log { OnErr result (log.new.items ≡ log.old.items) }
+{
+    if !applies(rule, lambda, node) {
+        return Ok(());
+    }
+    log.push(Step { rule, node })?;
+    let applied = apply(alloc, rule, lambda, node);
+    if applied.is_err() {
+        log.pop();
+    }
+    applied
+}
