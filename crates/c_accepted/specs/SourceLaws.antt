@@ -10,6 +10,9 @@ use Rattle.c_typed.specs.WellTyped.{IsWellTyped}
 use Rattle.c_elaboration.specs.Check.{check}
 use Rattle.c_elaboration.specs.CheckLaws.{IsInRange}
 use Rattle.c_elaboration.specs.Limits.{above_limits}
+use Rattle.g_construct.specs.Functions.{graph}
+use Rattle.g_simulation.specs.Groups.{HasFewGroups}
+use Rattle.g_simulation.specs.Laws.{HasMeaning, StartsAsProgram}
 
 abbrev pub AreBytes : List ℕ → Type 0
 AreBytes source = All (λ b. b < 2 ^ 8) source
@@ -23,3 +26,14 @@ abbrev pub CheckedAreWellTyped : Type 0
 CheckedAreWellTyped =
     (source : List ℕ) → AreBytes source → (ts : List Token) → lexed source ≡ Ok ts → (t : Tree) → FollowsGrammar t → tokens_of t ≡ ts →
     (n : ℕ) (p : ProgramTree) → check t n ≡ Ok p → IsWellTyped p × (above_limits p ≡ None)
+
+-- A program that is accepted from a source of bytes has fewer than 2^32 groups in each `switch`.
+abbrev pub CheckedHaveFewGroups : Type 0
+CheckedHaveFewGroups =
+    (source : List ℕ) → AreBytes source → (ts : List Token) → lexed source ≡ Ok ts → (t : Tree) → FollowsGrammar t → tokens_of t ≡ ts → (n : ℕ) (p : ProgramTree) → check t n ≡ Ok p → HasFewGroups p
+
+-- The graph of a source of bytes that is accepted means what its program means, call for call and from the start.
+abbrev pub AcceptedKeepMeaning : Type 0
+AcceptedKeepMeaning =
+    (source : List ℕ) → AreBytes source → (ts : List Token) → lexed source ≡ Ok ts → (t : Tree) → FollowsGrammar t → tokens_of t ≡ ts →
+    (n : ℕ) (p : ProgramTree) → check t n ≡ Ok p → HasMeaning p (graph p) × StartsAsProgram p (graph p)

@@ -1,5 +1,6 @@
-//! Laws of accepted sources: their tokens are in range, and what is accepted is well typed. It
-//! stands on the laws of the lexer and of the checker. Nothing in it runs, and it takes no memory.
+//! Laws of accepted sources: their tokens are in range, what is accepted is well typed, and its
+//! graph means what it means. It stands on the laws of the lexer, of the checker and of
+//! construction. Nothing in it runs, and it takes no memory.
 #![tactic(auto)]
 
 pub mod laws;

@@ -7,7 +7,6 @@
 mod counter;
 mod log_keeper;
 mod row;
-mod rules;
 mod text;
 mod watcher;
 
@@ -15,5 +14,4 @@ pub use counter::Counter;
 pub use g_graph::StepList;
 pub use log_keeper::LogKeeper;
 pub use row::Row;
-pub use rules::rule_name;
 pub use watcher::Watcher;

@@ -21,4 +21,10 @@ pub mod Redirected
 pub mod Carried
 pub mod Size
 pub mod Added
+pub mod AddedFit
 pub mod Steps
+pub mod CarriedFit
+pub mod CarriedExits
+pub mod CarriedUses
+pub mod Returns
+pub mod Fewer

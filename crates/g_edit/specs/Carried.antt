@@ -1,12 +1,12 @@
 -- The edit of a Gamma's exit variables that carry origins of the region around it: what reads one of them reads what it
 -- carries, and it goes.
-use Rattle.std.specs.Prelude.{ℕ, suc, ◌==◌, ◌&&◌, if◌then◌else◌, Bool, true, List, map, Option, None, Some, option_and_then, is_none, unwrap_or, slice_get}
+use Rattle.std.specs.Prelude.{ℕ, suc, ◌==◌, ◌&&◌, if◌then◌else◌, Bool, true, List, [], map, Option, None, Some, option_and_then, is_none, unwrap_or, slice_get}
 use Rattle.std.specs.Prelude.{◌≡◌}
 use Rattle.g_graph.specs.declared.op.Kind.{Kind}
-use Rattle.g_graph.specs.declared.op.Op.TheVariants.{Gamma}
+use Rattle.g_graph.specs.declared.op.Op.TheVariants.{Gamma, Theta}
 use Rattle.g_graph.specs.declared.op.Origin.{Origin}
 use Rattle.g_graph.specs.declared.op.Origin.TheVariants.{Arg, Out}
-use Rattle.g_graph.specs.Plain.{RegionTree, region, NodeTree, node, NodeTrees, no_nodes, node_then, RegionTrees, no_regions, region_then, id_of, PlainLambda}
+use Rattle.g_graph.specs.Plain.{RegionTree, region, node, NodeTrees, no_nodes, node_then, RegionTrees, no_regions, region_then, id_of, PlainLambda}
 use Rattle.g_graph.specs.Signatures.{joined}
 use Rattle.g_graph.specs.WellFormed.{is_origin}
 use Rattle.g_graph.specs.Replace.{nodes_redirected}
@@ -15,6 +15,7 @@ use Rattle.g_mean.specs.Edits.{IsPartOf}
 use Rattle.g_mean.specs.Replacement.{Replaces}
 use Rattle.g_edit.specs.Places.{place_after}
 use Rattle.g_edit.specs.Exits.{node_giving}
+use Rattle.g_edit.specs.InPlace.{outputs_redirected}
 
 -- what an argument of a region of a Gamma carries; the first input is the predicate
 abbrev pub outer : (inputs : List Origin) → Option Origin → Option Origin
@@ -57,3 +58,13 @@ CarriedExitsGo =
     ((p : ℕ) (o : Origin) → joined (slice_get carried p) ≡ Some o → passed inputs p rs ≡ Some o) →
     Replaces ls ks (region args (joined_nodes before (node_then (node id Gamma inputs rs) after)) results)
     (exits_carried id carried (region args (joined_nodes before (node_then (node id Gamma inputs rs) after)) results))
+
+-- Uses of outputs of a Theta may become uses of its inputs, where the results of these variables are their arguments.
+abbrev pub CarriedUsesMove : Type 0
+CarriedUsesMove =
+    (ls ks : List PlainLambda) (l : PlainLambda) (args : List Kind) (before : NodeTrees) (id : ℕ) (inputs : List Origin) (own : List Kind) (nodes : NodeTrees) (outs : List Origin) (after : NodeTrees)
+    (results : List Origin) (carried : List (Option Origin)) →
+    IsPartOf l (region args (joined_nodes before (node_then (node id Theta inputs (region_then (region own nodes outs) no_regions)) after)) results) →
+    ((p : ℕ) (o : Origin) → joined (slice_get carried p) ≡ Some o → (slice_get outs (suc p) ≡ Some (Arg p)) × (slice_get inputs p ≡ Some o)) →
+    Replaces ls ks (region args (joined_nodes before (node_then (node id Theta inputs (region_then (region own nodes outs) no_regions)) after)) results)
+    (outputs_redirected id (output_carried id carried []) (region args (joined_nodes before (node_then (node id Theta inputs (region_then (region own nodes outs) no_regions)) after)) results))

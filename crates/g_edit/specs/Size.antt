@@ -19,11 +19,11 @@ IsNoLarger before after = (after ≤ most_grown_values) ⊎ (after ≤ before)
 abbrev pub may_change_size : (values added gone : ℕ) → Bool
 may_change_size values added gone = nat_le added gone || nat_le (values + added) (most_grown_values + gone)
 
--- The one count is another one with so many more and so many fewer, and a lambda of `values` values may change so.
+-- A count becomes at most one with so many more and so many fewer, and a lambda of `values` values may change so.
 pub record Resized (values before after : ℕ) : Type 0 where
   pub added : ℕ
   pub gone : ℕ
-  pub count : after + gone ≡ before + added
+  pub count : after + gone ≤ before + added
   pub may : may_change_size values added gone ≡ true
 
 -- Region `s` has as many arguments and results as `r`, and so resized a count of values.

@@ -12,6 +12,7 @@ use Rattle.g_graph.specs.Program.{lambda_values, IsProgram, KeepsPrograms}
 use Rattle.g_graph.specs.WellFormed.{IsWellFormed}
 use Rattle.g_mean.specs.Data.{Datum}
 use Rattle.g_mean.specs.Calls.{lambda_at, program_at}
+use Rattle.g_mean.specs.Kinds.{AreOfKinds, call_takes, ReturnsRefine}
 use Rattle.g_mean.specs.LessDefined.{Paired, AreBytes, AreSound, IsLessDefinedDatum, AreSoundDeltas}
 use Rattle.g_mean.specs.Edits.{IsEdited, KeepsMeaning, KeepsComplete}
 use Rattle.g_edit.specs.Size.{IsNoLarger}
@@ -95,3 +96,19 @@ ListsStandForThemselves = (ls : List PlainLambda) → MayStandForAll ls ls
 -- and for each other one after the other.
 abbrev pub ListsCompose : Type 0
 ListsCompose = (ls ks js : List PlainLambda) → MayStandForAll ls ks → MayStandForAll ks js → MayStandForAll ls js
+
+-- ---- what calls give
+
+-- Each call over the one list of lambdas is within a call over the other one, as both give a value and both states: the
+-- states are equal, and the value of the farther side may stand for that of the nearer. No stacks are deeper.
+pub record CallsBothWays (ls ks : List PlainLambda) (global : ℕ → Value) (f : ℕ) (xs : List Datum) : Type 0 where
+  pub forward : (n : ℕ) → (m : ℕ) × Within ReturnsRefine (behaviour (lambda_at n ls global f xs)) (behaviour (lambda_at m ks global f xs))
+  pub back : (n : ℕ) → (m : ℕ) × Within (λ ys us. ReturnsRefine us ys) (behaviour (lambda_at n ks global f xs)) (behaviour (lambda_at m ls global f xs))
+  pub no_deeper : (n : ℕ) → (m : ℕ) × ((sizes : ℕ → ℕ) → deepest sizes (events (lambda_at n ks global f xs)) ≤ deepest sizes (events (lambda_at m ls global f xs)))
+
+-- So it is where one complete list may stand for another, and a function is given a value for each parameter and both
+-- states.
+abbrev pub CompleteListsReturn : Type 0
+CompleteListsReturn =
+    (ls ks : List PlainLambda) → MayStandForAll ls ks → IsComplete ls → (global : ℕ → Value) (f count : ℕ) (xs : List Datum) → ((k : ℕ) → IsSound (global k)) → AreSound xs →
+    AreOfKinds (call_takes count) xs → ((n : ℕ) → IsUndefined (lambda_at n ls global f xs) → ⊥) → CallsBothWays ls ks global f xs

@@ -6,11 +6,11 @@ use crate::in_place::{NodeEdit, RegionEdit, edit_first, edit_regions};
 use crate::places::{keep, keep_inputs_after_first, place_after};
 use g_graph::{Node, Origin, Redirect, Region, redirect_region};
 
-/// Of the Gamma of this number in the region some entry variables go: its inputs after the predicate
-/// and the arguments of its regions at the indexes where `stays` is false. What names later arguments
-/// follows. No region reads an argument that goes. It takes no memory, and time linear in the
-/// region's nodes and in the inputs and results of the Gamma's regions, but for uses of arguments,
-/// which take time linear in `stays`.
+/// Of the Gamma of this number in the region some entry variables go: its inputs after the
+/// predicate and the arguments of its regions at the indexes where `stays` is false. What names
+/// later arguments follows. No region reads an argument that goes. It takes no memory, and time
+/// linear in the region's nodes and in the inputs and results of the Gamma's regions, but for uses
+/// of arguments, which take time linear in `stays`.
 #[tactic(auto, using(crate::proofs::lemmas::InPlace::taking_is))]
 pub fn keep_entries(region: &mut Region, id: u32, stays: &[bool])
     ensures { region.new ≡ entries_kept id stays.now region.old }

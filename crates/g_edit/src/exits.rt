@@ -55,9 +55,10 @@ impl Redirect for OutputAfter<'_> {
     }
 }
 
+/// Of a Gamma the exit variables go for which `stays` is false.
 #[derive(Drop)]
-struct ExitsKept<'a> {
-    stays: &'a [bool],
+pub(crate) struct ExitsKept<'a> {
+    pub(crate) stays: &'a [bool],
 }
 
 impl NodeEdit for ExitsKept<'_> {

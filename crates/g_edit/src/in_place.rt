@@ -24,8 +24,8 @@ pub trait RegionEdit {
         ensures { region.new ≡ region_edited self.now region.old };
 }
 
-/// Edits the first of these nodes that has the number. Where there is none nothing changes. It takes
-/// time linear in the nodes, and the time of the edit.
+/// Edits the first of these nodes that has the number. Where there is none nothing changes. It
+/// takes time linear in the nodes, and the time of the edit.
 pub fn edit_first<E: NodeEdit>(nodes: &mut Vec<Node>, id: u32, edit: &E)
     ensures { nodes_of nodes.new.items ≡
         nodes_edited id (E.node_edited edit.now) (nodes_of nodes.old.items) }

@@ -2,7 +2,7 @@
 
 ghost use Rattle.g_edit.specs.Laws.{UnreadNodesGo, UnreadExitsGo, UnreadEntriesGo, UnreadExitsAndEntriesGo, UnreadVariablesGo, LoopsKeepArguments, InvariantUsesMove};
 ghost use Rattle.g_edit.specs.Parts.{PlacedPartsRefine};
-ghost use Rattle.g_edit.specs.Carried.{CarriedExitsGo};
+ghost use Rattle.g_edit.specs.Carried.{CarriedExitsGo, CarriedUsesMove};
 
 /// A part may come in the place of a node of a region, also one of the node's own number, where it
 /// refines the node as far as its outputs are read.
@@ -29,15 +29,16 @@ pub fn unread_variables_go()
     ensures { UnreadVariablesGo }
 {}
 
-/// A loop gives a variable whose result is its argument as it took it, and so uses of its output may
-/// become uses of its input.
+/// A loop gives a variable whose result is its argument as it took it, and so uses of its output
+/// may become uses of its input.
 pub fn invariant_uses_move()
     ensures loops { LoopsKeepArguments }
     ensures uses { InvariantUsesMove }
 {}
 
 /// Exit variables of a Gamma that carry one origin in every region may go, where their uses become
-/// its uses.
-pub fn carried_exits_go()
-    ensures { CarriedExitsGo }
+/// its uses, and uses of outputs of a Theta may become uses of inputs that it keeps.
+pub fn carried_uses_move()
+    ensures exits { CarriedExitsGo }
+    ensures uses { CarriedUsesMove }
 {}

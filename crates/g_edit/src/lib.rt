@@ -1,8 +1,9 @@
-//! What the rules share: what they ask a region for, and the named edits that their changes are made
-//! of, each with its laws. It stands on g_graph, g_mean and no_memory.
+//! What the rules share: what they ask a region for, and the named edits that their changes are
+//! made of, each with its laws. It stands on g_graph, g_mean and no_memory.
 //! It promises that an edit gives the defined region, and takes no memory; a list of tests does.
 #![tactic(auto)]
 
+mod carried;
 mod entries;
 mod exits;
 mod in_place;
@@ -17,6 +18,7 @@ pub mod steps;
 mod uses;
 mod variables;
 
+pub use carried::{carry_exits, carry_uses};
 pub use entries::keep_entries;
 pub use exits::keep_exits;
 pub use in_place::{NodeEdit, RegionEdit, edit_first, edit_regions, redirect_after};

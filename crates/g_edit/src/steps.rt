@@ -1,7 +1,7 @@
 //! Laws of steps: of the changes that rules make, one after the other.
 
 ghost use Rattle.g_edit.specs.Size.{ResizedLambdasAreNoLarger};
-ghost use Rattle.g_edit.specs.Steps.{ContractsGiveSteps, EditsKeepInterface, NoStepIsAStep, StepsCompose, ListsStandForThemselves, ListsCompose};
+ghost use Rattle.g_edit.specs.Steps.{ContractsGiveSteps, EditsKeepInterface, NoStepIsAStep, StepsCompose, ListsStandForThemselves, ListsCompose, CompleteListsReturn};
 
 /// A change whose contract keeps meaning, complete lists and programs, and that makes the lambda no
 /// larger or leaves it small, is a step, whatever lambdas are held.
@@ -17,10 +17,13 @@ pub fn steps_compose()
     ensures next { StepsCompose }
 {}
 
-/// A list of lambdas may stand for itself, and lists for each other one after the other.
+/// A list of lambdas may stand for itself, and lists for each other one after the other. Where a
+/// complete list does, calls give equal states, and values of which the farther one may stand for the
+/// nearer.
 pub fn lists_compose()
     ensures itself { ListsStandForThemselves }
     ensures next { ListsCompose }
+    ensures calls { CompleteListsReturn }
 {}
 
 /// Where the region that a change makes is resized as a lambda of that size may be, the changed

@@ -16,53 +16,53 @@ use Rattle.g_construct.specs.Functions.{graph, omega}
 use Rattle.g_mean.specs.Data.{Datum}
 use Rattle.g_mean.specs.Calls.{program_at}
 
-abbrev int : TypeTree
+abbrev pub int : TypeTree
 int = scalar_type scalar.Int
 
-abbrev number : ℕ → ExprTree
+abbrev pub number : ℕ → ExprTree
 number w = expr int (constant w)
 
-abbrev variable : (slot : ℕ) → ExprTree
+abbrev pub variable : (slot : ℕ) → ExprTree
 variable k = expr int (read (place int (local k)))
 
-abbrev computed : Op2 → ExprTree → ExprTree → ExprTree
+abbrev pub computed : Op2 → ExprTree → ExprTree → ExprTree
 computed o a b = expr int (binary (binary_op.Arithmetic o) a b)
 
-abbrev compared : Relation → ExprTree → ExprTree → ExprTree
+abbrev pub compared : Relation → ExprTree → ExprTree → ExprTree
 compared r a b = expr int (binary (binary_op.Compare r) a b)
 
-abbrev assigned : PlaceFormTree → ExprTree → ExprTree
+abbrev pub assigned : PlaceFormTree → ExprTree → ExprTree
 assigned p e = expr int (assign (place int p) e)
 
-abbrev put : ExprTree → StmtTree
+abbrev pub put : ExprTree → StmtTree
 put e = value (expr int (unary unary_op.Put e))
 
-abbrev more : PlaceFormTree → ExprTree
+abbrev pub more : PlaceFormTree → ExprTree
 more p = expr int (inc_dec (record { up = true; gives_old = true; by = 1 }) (place int p))
 
-abbrev declare : (variable : ℕ) → ItemTrees → ItemTrees
+abbrev pub declare : (variable : ℕ) → ItemTrees → ItemTrees
 declare k is = declare_then (record { variable = k; names_itself = false; initial = no_initial }) is
 
-abbrev begin : (variable : ℕ) → ExprTree → ItemTrees → ItemTrees
+abbrev pub begin : (variable : ℕ) → ExprTree → ItemTrees → ItemTrees
 begin k e is = declare_then (record { variable = k; names_itself = false; initial = initial_value e }) is
 
-abbrev function : (name : List ℕ) → (result : TypeTree) → (params : ℕ) → List VariableTree → ItemTrees → FunctionTree
+abbrev pub function : (name : List ℕ) → (result : TypeTree) → (params : ℕ) → List VariableTree → ItemTrees → FunctionTree
 function name t n vs is = record { name = name; at = 0; starts = 0; ends = 0; result = t; params = n; variables = vs; body = is }
 
-abbrev main : List VariableTree → ItemTrees → FunctionTree
+abbrev pub main : List VariableTree → ItemTrees → FunctionTree
 main vs is = function (109 ∷ 97 ∷ 105 ∷ 110 ∷ []) int 0 vs is
 
-abbrev program : (main : ℕ) → List FunctionTree → ProgramTree
+abbrev pub program : (main : ℕ) → List FunctionTree → ProgramTree
 program m fs = record { structs = []; functions = fs; globals = []; main = m }
 
-abbrev int_value : VariableTree
+abbrev pub int_value : VariableTree
 int_value = record { type = int; is_object = false }
 
-abbrev int_object : VariableTree
+abbrev pub int_object : VariableTree
 int_object = record { type = int; is_object = true }
 
 -- the run of the graph of a program
-abbrev graph_run : ℕ → ProgramTree → List ℕ → Answer (List Datum)
+abbrev pub graph_run : ℕ → ProgramTree → List ℕ → Answer (List Datum)
 graph_run n p i = program_at n (omega p) (graph p) i
 
 -- ---- loops over value variables

@@ -37,3 +37,5 @@ pub mod Starts
 pub mod Bodies
 pub mod Programs
 pub mod Functions
+pub mod Globals
+pub mod Runs

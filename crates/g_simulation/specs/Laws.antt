@@ -7,11 +7,11 @@ use Rattle.val_core.specs.Answers.{IsUndefined, events}
 use Rattle.val_core.specs.Within.{behaviour, Within, Given, IsLessDefinedOption}
 use Rattle.c_typed.specs.Typed.{FunctionTree, ProgramTree}
 use Rattle.c_typed.specs.WellTyped.{IsWellTyped}
-use Rattle.c_mean.specs.Run.{call_run, global_address}
+use Rattle.c_mean.specs.Run.{call_run, global_address, run, deepest_run}
 use Rattle.g_graph.specs.Plain.{PlainLambda}
-use Rattle.g_construct.specs.Functions.{graph}
+use Rattle.g_construct.specs.Functions.{graph, omega}
 use Rattle.g_mean.specs.Data.{Datum, val, memory, input}
-use Rattle.g_mean.specs.Calls.{lambda_at}
+use Rattle.g_mean.specs.Calls.{lambda_at, program_at, deepest_main}
 use Rattle.g_mean.specs.LessDefined.{AreBytes, AreSound}
 use Rattle.g_simulation.specs.Groups.{HasFewGroups}
 
@@ -53,3 +53,21 @@ HasMeaning p ls =
 -- Construction keeps the meaning of each well-typed program with few groups in each `switch`.
 abbrev pub ConstructionKeepsMeaning : Type 0
 ConstructionKeepsMeaning = (p : ProgramTree) → IsWellTyped p → HasFewGroups p → HasMeaning p (graph p)
+
+-- ---- programs
+
+-- Each run of the program is within some run of its graph, and each run of the graph within some run of the program,
+-- which meets stacks no less deep. No run gives anything back: it ends, or its bound does not suffice.
+pub record ProgramIsKept (p : ProgramTree) (ls : List PlainLambda) (i : List ℕ) (n : ℕ) : Type 0 where
+  pub forward : (bound : ℕ) × Within (λ g ys. ⊥) (behaviour (run n p i)) (behaviour (program_at bound (omega p) ls i))
+  pub back : (bound : ℕ) × Within (λ ys g. ⊥) (behaviour (program_at n (omega p) ls i)) (behaviour (run bound p i))
+  pub no_deeper : (sizes : List ℕ) → (bound : ℕ) × (deepest_main n (omega p) ls sizes i ≤ deepest_run bound p sizes i)
+
+-- With these lambdas, and the globals and names of the program, a start does what the program does: on every input on which
+-- no bound makes the program undefined, each run is kept.
+abbrev pub StartsAsProgram : ProgramTree → List PlainLambda → Type 0
+StartsAsProgram p ls = (i : List ℕ) → AreBytes i → ((n : ℕ) → IsUndefined (run n p i) → ⊥) → (n : ℕ) → ProgramIsKept p ls i n
+
+-- Construction keeps programs.
+abbrev pub ConstructionKeepsPrograms : Type 0
+ConstructionKeepsPrograms = (p : ProgramTree) → IsWellTyped p → HasFewGroups p → StartsAsProgram p (graph p)

@@ -2,7 +2,7 @@
 //! contract of a function that does nothing.
 
 ghost use Rattle.g_simulation.specs.Exits.{StatementsEndByTheirExits, ItemsEndByTheirExits};
-ghost use Rattle.g_simulation.specs.Laws.{ConstructionKeepsMeaning};
+ghost use Rattle.g_simulation.specs.Laws.{ConstructionKeepsMeaning, ConstructionKeepsPrograms};
 
 /// A statement ends normally, or by a jump that stands in it and leaves it, and so does a list of
 /// items.
@@ -21,4 +21,17 @@ pub fn construction_keeps_meaning()
     ensures { ConstructionKeepsMeaning }
 {
     c_type::laws::leaves_are_in_order();
+}
+
+/// The graph of a well-typed program, each `switch` of which has fewer than 2^32 groups, with its
+/// globals and names, does what the program does from its start (ISO/IEC 9899:2011, 5.1.2.2). On
+/// every input of bytes on which no bound makes the program undefined: each bounded run of the
+/// program is within a run of the graph at some bound, and each bounded run of the graph is within
+/// a run of the program at some bound, with the same output and status, and stacks of calls no
+/// deeper. So no run of the graph is undefined.
+pub fn construction_keeps_programs()
+    ensures { ConstructionKeepsPrograms }
+{
+    c_type::laws::leaves_are_in_order();
+    g_built::laws::well_typed_are_built();
 }

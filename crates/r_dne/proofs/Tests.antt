@@ -17,7 +17,8 @@ use Rattle.g_edit.specs.InPlace.{all_stay}
 use Rattle.g_edit.specs.Places.{stays_at, kept}
 use Rattle.g_edit.specs.Exits.{regions_giving, exits_kept}
 use Rattle.g_edit.specs.Entries.{entries_kept}
-use Rattle.g_edit.proofs.lemmas.PlacesInPlace.{kept_more, kept_none}
+use Rattle.g_edit.proofs.lemmas.Kept.{kept_none}
+use Rattle.g_edit.proofs.lemmas.PlacesInPlace.{kept_more}
 use Rattle.r_dne.specs.Rule.{used_exits, some_uses, used_entries, others_use, argument_used, used_variables, variables_of, exits_of, entries_of, gamma_shrunk, shrunk, eliminated, dne_here}
 use Rattle.r_dne.specs.Plan.{op_of, regions_in}
 

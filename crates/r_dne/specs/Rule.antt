@@ -1,6 +1,6 @@
 -- Dead node elimination (Reissmann et al., RVSDG, 2020): a node that gives no state and whose outputs are not used goes,
 -- and so do variables of a Gamma or a Theta.
-use Rattle.std.specs.Prelude.{ℕ, zero, suc, ◌&&◌, ◌||◌, not, if◌then◌else◌, Bool, true, false, List, [], ◌∷◌, Option, None, Some, option_and_then, is_some}
+use Rattle.std.specs.Prelude.{ℕ, zero, suc, ◌&&◌, ◌||◌, not, if◌then◌else◌, Bool, false, List, [], ◌∷◌, Option, None, Some, option_and_then, is_some}
 use Rattle.g_graph.specs.declared.op.Kind.{Kind}
 use Rattle.g_graph.specs.declared.op.Kind.TheVariants.{Value, Memory, Io}
 use Rattle.g_graph.specs.declared.op.Op.TheVariants.{Gamma, Theta}

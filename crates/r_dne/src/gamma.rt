@@ -47,8 +47,8 @@ fn exit_stays(region: &Region, node: &Node, port: usize) -> bool
     !is_of(Kind::Value, output_kind(node, port)) || uses_source(region, source)
 }
 
-/// The entry variables of a Gamma of these regions, without the results that do not stay: those stay
-/// whose argument some region uses.
+/// The entry variables of a Gamma of these regions, without the results that do not stay: those
+/// stay whose argument some region uses.
 #[derive(Drop)]
 pub struct Entries<'a> {
     pub regions: &'a [Region],

@@ -16,9 +16,9 @@ use std::alloc::Global;
 /// Whether the rule applies at the node of this number: it gives no state and no output of it is
 /// used; or it is a Gamma with a value exit that is not used, or an entry whose argument no region
 /// uses; or it is a Theta with a value variable whose output is not used and whose argument nothing
-/// but its own result uses. It is false for a number that is not there. It takes no memory. It takes
-/// time linear in the lambda, and for a Gamma or a Theta the time of a walk through its region and
-/// the regions in it for each of its variables.
+/// but its own result uses. It is false for a number that is not there. It takes no memory. It
+/// takes time linear in the lambda, and for a Gamma or a Theta the time of a walk through its
+/// region and the regions in it for each of its variables.
 pub fn applies(lambda: &Lambda, node: u32) -> bool
     ensures { result ≡ applies lambda.now node }
 {
@@ -26,8 +26,8 @@ pub fn applies(lambda: &Lambda, node: u32) -> bool
 }
 
 /// The node goes; or of a Gamma those exits go, and then the entries whose arguments no region uses
-/// by then; or of a Theta those variables go. It takes memory only for a test for each variable, and
-/// time as `applies`. Where memory runs out nothing changes.
+/// by then; or of a Theta those variables go. It takes memory only for a test for each variable,
+/// and time as `applies`. Where memory runs out nothing changes.
 pub fn apply(alloc: Global, lambda: &mut Lambda, node: u32) -> Result<(), NoMemory>
     requires well_formed { IsWellFormed lambda.old }
     requires applies { IsTrue (applies lambda.old node) }

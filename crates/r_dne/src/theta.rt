@@ -11,8 +11,8 @@ use crate::node::is_of;
 use g_edit::{Source, Stays, is_source_among, nodes_use_source, uses_source};
 use g_graph::{Kind, Origin, Region};
 
-/// The loop variables of a Theta of this number in a region: states stay, and values whose output is
-/// used, or whose argument something else than their own result uses.
+/// The loop variables of a Theta of this number in a region: states stay, and values whose output
+/// is used, or whose argument something else than their own result uses.
 #[derive(Drop)]
 pub struct Variables<'a> {
     pub region: &'a Region,
@@ -54,7 +54,8 @@ fn args_of(region: &Region) -> &[Kind]
     &region.args
 }
 
-// Whether something else than the variable's own result, the one after its place, uses its argument.
+// Whether something else than the variable's own result, the one after its place, uses its
+// argument.
 fn argument_stays(nested: &Region, index: usize) -> bool
     requires { index < length (args_of nested.now) }
     ensures { result ≡ argument_used index nested.now }

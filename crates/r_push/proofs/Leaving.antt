@@ -21,7 +21,7 @@ use Rattle.g_mean.specs.Copies.{IsRead, AreRead, is_argument}
 use Rattle.g_mean.proofs.lemmas.Moves.{pure_nodes_give_the_same}
 use Rattle.g_mean.proofs.lemmas.Splices.{get-port}
 use Rattle.g_edit.proofs.lemmas.Added.{argument-less}
-use Rattle.r_push.specs.Rule.{names_argument, may_leave, only, leaving}
+use Rattle.r_push.specs.Rule.{names_argument, has_none, may_leave, only, leaving}
 
 -- ---- in its region
 
@@ -44,8 +44,8 @@ leaves test n args nodes results y e = by (node_at n nodes) refl e
     by (Some (node id op inputs rs)) d f =
         let found = found_at n nodes (node id op inputs rs) d in
         let may = cond_some (may_leave test (region args nodes results) (node id op inputs rs)) (node id op inputs rs) y f in
-        let front = and_parts (is_pure op && all_of test inputs) (is_used (Out id 0) (region args nodes results)) may.0 in
-        let own = and_parts (is_pure op) (all_of test inputs) front.0 in
+        let front = and_parts (is_pure op && has_none rs && all_of test inputs) (is_used (Out id 0) (region args nodes results)) may.0 in
+        let own = and_parts (is_pure op && has_none rs) (all_of test inputs) front.0 in
         record {
           before = found.before;
           op = op;
@@ -54,7 +54,7 @@ leaves test n args nodes results y e = by (node_at n nodes) refl e
           after = found.after;
           node_is = sym may.1 ∙ ap (λ m. node m op inputs rs) found.number;
           is = found.is ∙ ap (λ m. joined_nodes found.before (node_then (node m op inputs rs) found.after)) found.number;
-          pure = own.0;
+          pure = (and_parts (is_pure op) (has_none rs) own.0).0;
           all = own.1;
         }
 

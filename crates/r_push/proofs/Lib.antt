@@ -5,4 +5,12 @@ mod Gammas
 mod Thetas
 mod Placed
 mod Push
+mod CarriedFit
+mod TwoFit
+mod RegionsFit
+mod LeftFit
+mod Resized
+mod Kept
+mod Counted
+mod Saturated
 mod Examples

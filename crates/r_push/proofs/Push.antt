@@ -35,7 +35,7 @@ use Rattle.g_mean.proofs.lemmas.Splices.{joined-known, joined-read, known-among}
 use Rattle.g_edit.specs.Added.{input_added}
 use Rattle.g_edit.specs.Uses.{is_read, is_output_of}
 use Rattle.g_edit.specs.Size.{may_change_size}
-use Rattle.r_push.specs.Rule.{names_argument, leaving, leaving_one, is_invariant, leaving_loop, regions_carried, looped, placed, growth, pushed, pushed_within, nodes_pushed, psh_here}
+use Rattle.r_push.specs.Rule.{names_argument, leaving, leaving_one, is_invariant, leaving_loop, regions_carried, looped, placed, growth, can_count, pushed, pushed_within, nodes_pushed, psh_here}
 use Rattle.r_push.specs.Laws.{PshReplaces, PshKeepsLambdas, PshKeepsPrograms}
 use Rattle.r_push.proofs.Stays.{known-own, region-unread}
 use Rattle.r_push.proofs.Leaving.{Leaves, leaves, Gives, gives-both}
@@ -74,7 +74,7 @@ nodes-changed values n (node_then x ns) ms e = by (pushed_within values n x) ref
         option_or (option_map (λ part. joined_nodes part ns) first) (option_map (node_then x) rest) ≡ Some ms →
         ((js : NodeTrees) → nodes_pushed values n ns ≡ Some js → NodesChanged values n ns js) → NodesChanged values n (node_then x ns) ms
     by (Some two) d rest f h more =
-        let both = within (may_change_size values (growth x) 0) refl d in
+        let both = within (may_change_size values (growth x) 0 && can_count x) refl d in
         record {
           before = no_nodes;
           left = x;
@@ -86,8 +86,8 @@ nodes-changed values n (node_then x ns) ms e = by (pushed_within values n x) ref
           result = sym (same_Some (joined_nodes two ns) ms h);
         }
       where
-        within : (t : Bool) → may_change_size values (growth x) 0 ≡ t → cond t (pushed n x) None ≡ Some two → (may_change_size values (growth x) 0 ≡ true) × (pushed n x ≡ Some two)
-        within true m g = (m, g)
+        within : (t : Bool) → (may_change_size values (growth x) 0 && can_count x) ≡ t → cond t (pushed n x) None ≡ Some two → (may_change_size values (growth x) 0 ≡ true) × (pushed n x ≡ Some two)
+        within true m g = ((and_parts (may_change_size values (growth x) 0) (can_count x) m).0, g)
         within false m g = absurd cc
     by None d (Some js) f h more =
         let at = more js f in
@@ -123,7 +123,7 @@ changed-at values n args ns results s e = by (nodes_pushed values n ns) refl e
 
 -- ---- the node that leaves, seen from outside
 
-record Outside (n count : ℕ) (y : NodeTree) : Type 0 where
+pub record Outside (n count : ℕ) (y : NodeTree) : Type 0 where
   pub op : Op
   pub inputs : List Origin
   pub regions : RegionTrees
@@ -133,7 +133,7 @@ record Outside (n count : ℕ) (y : NodeTree) : Type 0 where
   pub all : all_of names_argument inputs ≡ true
   pub reads : AreRead (is_argument count) known inputs
 
-leaves-outside : (test : Origin → Bool) (n count : ℕ) (args : List Kind) (nodes : NodeTrees) (results : List Origin) (y : NodeTree) → count ≡ length args → IsClosed (region args nodes results) →
+pub leaves-outside : (test : Origin → Bool) (n count : ℕ) (args : List Kind) (nodes : NodeTrees) (results : List Origin) (y : NodeTree) → count ≡ length args → IsClosed (region args nodes results) →
     (at : Leaves test n nodes y) → all_of names_argument at.inputs ≡ true → Outside n count y
 leaves-outside test n count args nodes results y many closed at all =
     record {
@@ -148,7 +148,7 @@ leaves-outside test n count args nodes results y many closed at all =
           (joined-read (is_argument (length args)) [] at.before (node_then (node n at.op at.inputs at.regions) at.after) (subst (λ ns. NodesRead (is_argument (length args)) [] ns) at.is closed.0)).1.0.0;
     }
 
-one-outside : (n count : ℕ) (y : NodeTree) (rs : RegionTrees) → AllClosed rs → AllTake count rs → leaving_one n rs ≡ Some y → Outside n count y
+pub one-outside : (n count : ℕ) (y : NodeTree) (rs : RegionTrees) → AllClosed rs → AllTake count rs → leaving_one n rs ≡ Some y → Outside n count y
 one-outside n count y no_regions closed counts e = absurd cc
 one-outside n count y (region_then (region args nodes results) rs) closed counts e =
     by (leaving names_argument n (region args nodes results)) refl e (one-outside n count y rs closed.1 counts.1)
@@ -161,7 +161,7 @@ one-outside n count y (region_then (region args nodes results) rs) closed counts
 
 -- ---- what is well formed
 
-take-all : (ks : List Kind) (other : RegionTree → Bool) (rs : RegionTrees) → all_regions (λ r. same (args_of r) ks && other r) rs ≡ true → AllTake (length ks) rs
+pub take-all : (ks : List Kind) (other : RegionTree → Bool) (rs : RegionTrees) → all_regions (λ r. same (args_of r) ks && other r) rs ≡ true → AllTake (length ks) rs
 take-all ks other no_regions e = tt
 take-all ks other (region_then r rs) e =
     let both = and_parts (same (args_of r) ks && other r) (all_regions (λ q. same (args_of q) ks && other q) rs) e in
@@ -173,7 +173,7 @@ module _ (l : PlainLambda) (args : List Kind) (before : NodeTrees) (id : ℕ) (o
   all-distinct = subst (λ zs. distinct zs ≡ true) (nodes_ids-joined before (node_then (node id op inputs rs) after)) part.unique
 
   -- a number within the node is none of the region itself
-  not-known : (n : ℕ) → IsAmong n (regions_ids rs) → IsAmong n (known_after [] (joined_nodes before (node_then (node id op inputs rs) after))) → ⊥
+  pub not-known : (n : ℕ) → IsAmong n (regions_ids rs) → IsAmong n (known_after [] (joined_nodes before (node_then (node id op inputs rs) after))) → ⊥
   not-known n h k =
       by (known-among (id ∷ known_after [] before) after n (subst (λ zs. IsAmong n zs) (joined-known [] before (node_then (node id op inputs rs) after)) k))
     where

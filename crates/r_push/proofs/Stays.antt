@@ -105,7 +105,7 @@ carried-elsewhere n args nodes results closed apart =
 
 -- ---- a region that reads only what is there
 
-known-stays : (n : ℕ) (known : List ℕ) (ns : NodeTrees) → IsAmong n known → IsAmong n (known_after known ns)
+pub known-stays : (n : ℕ) (known : List ℕ) (ns : NodeTrees) → IsAmong n known → IsAmong n (known_after known ns)
 known-stays n known no_nodes h = h
 known-stays n known (node_then x ns) h = known-stays n (id_of x ∷ known) ns (inr h)
 

@@ -4,7 +4,8 @@ use Rattle.g_graph.specs.Plain.{RegionTree, PlainLambda}
 use Rattle.g_graph.specs.WellFormed.{IsWellFormed}
 use Rattle.g_mean.specs.Edits.{AreEditedAt, IsPartOf}
 use Rattle.g_mean.specs.Replacement.{Replaces, FunctionsKeepMeaning, ProgramKeepsMeaning}
-use Rattle.r_push.specs.Rule.{psh_here}
+use Rattle.g_edit.specs.Steps.{MayStandFor}
+use Rattle.r_push.specs.Rule.{psh_here, psh}
 
 -- a changed region of a well-formed lambda may replace the old one, in any lambdas
 abbrev pub PshReplaces : Type 0
@@ -20,3 +21,7 @@ PshKeepsLambdas =
 abbrev pub PshKeepsPrograms : Type 0
 PshKeepsPrograms =
     (ls ks : List PlainLambda) (values n f : ℕ) → AreEditedAt (psh_here values n) f ls ks → ((l : PlainLambda) → slice_get ls f ≡ Some l → IsWellFormed l) → ProgramKeepsMeaning ls ks
+
+-- The rule is a step: the lambda stays well formed, may stand for the old one in any list, and is no larger or small.
+abbrev pub PshIsAStep : Type 0
+PshIsAStep = (held : List PlainLambda) (n : ℕ) (l : PlainLambda) → IsWellFormed l → MayStandFor held l (psh n l)

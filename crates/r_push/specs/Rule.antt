@@ -1,6 +1,6 @@
 -- Push: a node that gives a value of arguments alone moves out of a region of a Gamma, or out of a Theta, to directly
 -- before it (Reissmann et al., RVSDG, 2020). One more variable, after all others, carries the value.
-use Rattle.std.specs.Prelude.{ℕ, suc, ◌+◌, ◌&&◌, if◌then◌else◌, Bool, true, false, List, ◌∷◌, length, slice_get, Option, None, Some, option_map, option_and_then, is_some}
+use Rattle.std.specs.Prelude.{ℕ, suc, ◌+◌, ◌^◌, nat_lt, ◌&&◌, if◌then◌else◌, Bool, true, false, List, ◌∷◌, length, slice_get, Option, None, Some, option_map, option_and_then, is_some}
 use Rattle.std.specs.Option.{option_or}
 use Rattle.g_graph.specs.declared.op.Kind.TheVariants.{Value}
 use Rattle.g_graph.specs.declared.op.Op.TheVariants.{Gamma, Theta}
@@ -8,12 +8,13 @@ use Rattle.g_graph.specs.declared.op.Origin.{Origin}
 use Rattle.g_graph.specs.declared.op.Origin.TheVariants.{Arg, Out}
 use Rattle.g_graph.specs.Plain.{RegionTree, region, NodeTree, node, NodeTrees, no_nodes, node_then, RegionTrees, no_regions, region_then, args_of, PlainLambda}
 use Rattle.g_graph.specs.Signatures.{is_pure}
-use Rattle.g_graph.specs.WellFormed.{all_of, is_origin}
+use Rattle.g_graph.specs.WellFormed.{all_of, all_regions, is_origin}
 use Rattle.g_graph.specs.Replace.{node_redirected, region_redirected, origin_replaced}
 use Rattle.g_graph.specs.Splice.{args_to_inputs, joined_nodes}
 use Rattle.g_graph.specs.Change.{region_changed, lambda_changed}
 use Rattle.g_graph.specs.Nodes.{node_at, is_used}
 use Rattle.g_graph.specs.Program.{lambda_values}
+use Rattle.g_edit.specs.Lookup.{same_op}
 use Rattle.g_edit.specs.Removal.{region_without}
 use Rattle.g_edit.specs.Added.{arg_added, result_added, input_added}
 use Rattle.g_edit.specs.Size.{may_change_size}
@@ -24,9 +25,13 @@ abbrev pub names_argument : Origin → Bool
 names_argument (Arg k) = true
 names_argument (Out n p) = false
 
+abbrev pub has_none : RegionTrees → Bool
+has_none no_regions = true
+has_none (region_then r rs) = false
+
 -- a pure node whose inputs are all as the test says, and whose output is used
 abbrev pub may_leave : (Origin → Bool) → RegionTree → NodeTree → Bool
-may_leave test r (node id op inputs rs) = is_pure op && all_of test inputs && is_used (Out id 0) r
+may_leave test r (node id op inputs rs) = is_pure op && has_none rs && all_of test inputs && is_used (Out id 0) r
 
 abbrev pub only : Bool → NodeTree → Option NodeTree
 only t x = if t then Some x else None
@@ -40,13 +45,16 @@ abbrev pub leaving_one : ℕ → RegionTrees → Option NodeTree
 leaving_one n no_regions = None
 leaving_one n (region_then r rs) = option_or (leaving names_argument n r) (leaving_one n rs)
 
+abbrev pub results_of : RegionTree → List Origin
+results_of (region args nodes results) = results
+
 -- an argument of a loop variable whose result is its argument; the first result is the predicate
 abbrev pub is_invariant : (outs : List Origin) → Origin → Bool
 is_invariant outs (Arg k) = is_origin (slice_get outs (suc k)) (Arg k)
 is_invariant outs (Out n p) = false
 
 abbrev pub leaving_loop : ℕ → RegionTree → Option NodeTree
-leaving_loop n (region own nodes outs) = leaving (is_invariant outs) n (region own nodes outs)
+leaving_loop n r = leaving (is_invariant (results_of r)) n r
 
 -- ---- the change
 
@@ -82,12 +90,20 @@ count_of (region_then r rs) = 1 + count_of rs
 
 -- The values that come: an argument of each region of a Gamma; an argument, a result and an output of a Theta.
 abbrev pub growth : NodeTree → ℕ
-growth (node id Theta inputs rs) = 3
-growth (node id op inputs rs) = count_of rs
+growth (node id op inputs rs) = if same_op op Theta then 3 else count_of rs
+
+-- The index of one more argument of each region is below 2 ^ 32, as it always is in a lambda within the limits.
+abbrev pub can_count : NodeTree → Bool
+can_count (node id op inputs rs) = all_regions (λ r. nat_lt (length (args_of r)) (2 ^ 32)) rs
 
 -- in a lambda of so many values
 abbrev pub pushed_within : (values n : ℕ) → NodeTree → Option NodeTrees
-pushed_within values n x = if may_change_size values (growth x) 0 then pushed n x else None
+pushed_within values n x = if may_change_size values (growth x) 0 && can_count x then pushed n x else None
+
+-- whether the node may leave the only one of these regions
+abbrev pub leaves_only : ℕ → RegionTrees → Bool
+leaves_only n (region_then r no_regions) = is_some (leaving_loop n r)
+leaves_only n rs = false
 
 -- ---- the rule
 

@@ -2,4 +2,8 @@
 //! region. Nothing in it runs. It promises the laws.
 #![tactic(auto)]
 
+mod find;
 pub mod laws;
+mod rule;
+
+pub use rule::applies;

@@ -1,6 +1,6 @@
 // Dead node elimination.
-use crate::tables::{A, B, I, KINDS, M, lambda, n, nest, node, out, region};
-use g_graph::{Kind, Lambda, Node, Op, Origin, Region, check, equal, ids, values};
+use crate::tables::{A, B, I, KINDS, M, gamma, holding, lambda, n, nest, node, out, region, theta};
+use g_graph::{Kind, Lambda, Op, Origin, check, equal, ids, values};
 use no_memory::NoMemory;
 use r_dne::{applies, apply};
 use std::alloc::Global;
@@ -38,13 +38,6 @@ fn becomes(
     Ok(check(&lambda) && equal(&lambda, &wanted))
 }
 
-// The lambda of two parameters whose body has this node alone.
-fn holding(alloc: Global, node: Node, results: &[Origin]) -> Result<Lambda, NoMemory> {
-    let mut body = region(alloc, &KINDS, &[], results)?;
-    body.nodes.push(node)?;
-    lambda(alloc, 2, body)
-}
-
 #[test]
 fn a_node_without_state_and_use_goes(rt: HostRuntime) -> Result<(), Fail> {
     let alloc = rt.alloc();
@@ -68,18 +61,6 @@ fn a_node_without_state_and_use_goes(rt: HostRuntime) -> Result<(), Fail> {
         assert!(rt; becomes(alloc, before, 0, wanted)?);
     }
     Ok(())
-}
-
-// A Gamma of number 0 with these entries and regions, and what the body gives of it.
-fn gamma(
-    alloc: Global,
-    entries: &[Origin],
-    first: Region,
-    second: Region,
-    results: &[Origin],
-) -> Result<Lambda, NoMemory> {
-    let regions = Vec::from_array(alloc, [first, second])?;
-    holding(alloc, nest(alloc, 0, Op::Gamma, entries, regions)?, results)
 }
 
 #[test]
@@ -136,18 +117,6 @@ fn a_memory_entry_goes_and_a_state_exit_stays(rt: HostRuntime) -> Result<(), Fai
     Ok(())
 }
 
-// A Theta of number 0 whose region has no nodes, and what the body gives of it.
-fn theta(
-    alloc: Global,
-    kinds: &[Kind],
-    inputs: &[Origin],
-    outs: &[Origin],
-    results: &[Origin],
-) -> Result<Lambda, NoMemory> {
-    let regions = Vec::from_array(alloc, [region(alloc, kinds, &[], outs)?])?;
-    holding(alloc, nest(alloc, 0, Op::Theta, inputs, regions)?, results)
-}
-
 #[test]
 fn a_variable_that_nothing_else_reads_goes(rt: HostRuntime) -> Result<(), Fail> {
     let alloc = rt.alloc();
@@ -172,9 +141,9 @@ fn a_variable_that_nothing_else_reads_goes(rt: HostRuntime) -> Result<(), Fail> 
     Ok(())
 }
 
-// The numbers at which the rule applies in a sweep from the last node to the first, of which each is
-// applied.
-fn swept(alloc: Global, lambda: &mut Lambda) -> Result<Vec<u32>, NoMemory> {
+/// The numbers at which the rule applies in a sweep from the last node to the first, of which each
+/// is applied.
+pub fn swept(alloc: Global, lambda: &mut Lambda) -> Result<Vec<u32>, NoMemory> {
     let mut steps = Vec::new(alloc);
     let numbers = ids(alloc, lambda)?;
     for node in numbers.iter().rev() {

@@ -7,4 +7,6 @@ mod common;
 #[cfg(test)]
 mod dne;
 #[cfg(test)]
+mod inv;
+#[cfg(test)]
 mod tables;

@@ -105,3 +105,34 @@ pub fn nest(
         regions,
     })
 }
+
+/// The lambda of two parameters whose body has this node alone.
+pub fn holding(alloc: Global, node: Node, results: &[Origin]) -> Result<Lambda, NoMemory> {
+    let mut body = region(alloc, &KINDS, &[], results)?;
+    body.nodes.push(node)?;
+    lambda(alloc, 2, body)
+}
+
+/// The lambda whose body is a Gamma of number 0 with these inputs and regions.
+pub fn gamma(
+    alloc: Global,
+    entries: &[Origin],
+    first: Region,
+    second: Region,
+    results: &[Origin],
+) -> Result<Lambda, NoMemory> {
+    let regions = Vec::from_array(alloc, [first, second])?;
+    holding(alloc, nest(alloc, 0, Op::Gamma, entries, regions)?, results)
+}
+
+/// The lambda whose body is a Theta of number 0 with a region without nodes.
+pub fn theta(
+    alloc: Global,
+    kinds: &[Kind],
+    inputs: &[Origin],
+    outs: &[Origin],
+    results: &[Origin],
+) -> Result<Lambda, NoMemory> {
+    let regions = Vec::from_array(alloc, [region(alloc, kinds, &[], outs)?])?;
+    holding(alloc, nest(alloc, 0, Op::Theta, inputs, regions)?, results)
+}

@@ -33,3 +33,4 @@ pub mod Formats
 pub mod LineFormats
 pub mod TextFormats
 pub mod Programs
+pub mod Starts

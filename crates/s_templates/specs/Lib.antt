@@ -15,3 +15,4 @@ pub mod Codes
 pub mod Arguments
 pub mod Formats
 pub mod Programs
+pub mod Starts

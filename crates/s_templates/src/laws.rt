@@ -9,6 +9,7 @@ ghost use Rattle.s_templates.specs.Calls.{CallLeads, ReturnLeads};
 ghost use Rattle.s_templates.specs.Formats.{TemplatesFit, ItemsFit, TextFits};
 ghost use Rattle.s_templates.specs.Frames.{FrameIsTaken, StackIsExceeded, FrameIsGiven};
 ghost use Rattle.s_templates.specs.Programs.{LaidProgramStands};
+ghost use Rattle.s_templates.specs.Starts.{MainIsCalled, MainExits};
 ghost use Rattle.s_templates.specs.Memories.{LoadIsDone, StoreIsDone, EqualPointersIsDone, ClearIsDone};
 ghost use Rattle.s_templates.specs.Streams.{PutIsDone, GetIsDone};
 ghost use Rattle.s_templates.specs.Stubs.{PutStubWrites, GetStubReads};
@@ -168,4 +169,10 @@ pub fn templates_fit_formats()
 /// stubs, and each function at its address.
 pub fn programs_stand()
     ensures { LaidProgramStands }
+{}
+
+/// The start code calls `main`, and exits with the low byte of its value.
+pub fn programs_start()
+    ensures called { MainIsCalled }
+    ensures exits { MainExits }
 {}

@@ -1,6 +1,7 @@
 -- Exit variables of a Gamma that carry one origin in every region go.
-use Rattle.std.proofs.Common.{◌≡◌, ◌≢◌, ℕ, zero, suc, ◌==◌, ◌⊎◌, Bool, true, false, not, ◌&&◌, cond, List, [], ◌∷◌, map, length, Option, None, Some, slice_get, refl, sym, ap, subst, subst₂, ◌∙◌, inl, inr}
-use Rattle.std.specs.Prelude.{option_and_then, is_none, unwrap_or}
+use Rattle.std.proofs.Common.{◌≡◌, ◌≢◌, ℕ, zero, suc, ◌==◌, Bool, true, false, ◌&&◌, cond, List, [], ◌∷◌, map, length, Option, None, Some, slice_get, refl, sym, ap, subst, subst₂, ◌∙◌, inl, inr}
+use Rattle.std.specs.Prelude.{option_and_then, unwrap_or}
+use Rattle.std.proofs.Math.Path.{fun_ext}
 use Rattle.std.proofs.lemmas.Bool.{and_parts, or_parts}
 use Rattle.std.proofs.lemmas.Option.{same_Some}
 use Rattle.val_core.specs.declared.values.Value.{Value}
@@ -11,7 +12,7 @@ use Rattle.val_core.specs.Refinement.{Direction, Refines, no_deeper}
 use Rattle.val_core.proofs.lemmas.Answers.{then_nothing}
 use Rattle.val_core.proofs.lemmas.Refinement.{refines-then, refines-gives}
 use Rattle.g_graph.specs.declared.op.Kind.{Kind}
-use Rattle.g_graph.specs.declared.op.Op.TheVariants.{Gamma}
+use Rattle.g_graph.specs.declared.op.Op.TheVariants.{Gamma, Theta}
 use Rattle.g_graph.specs.declared.op.Origin.{Origin}
 use Rattle.g_graph.specs.declared.op.Origin.TheVariants.{Arg, Out}
 use Rattle.g_graph.specs.Plain.{RegionTree, region, NodeTree, node, NodeTrees, no_nodes, node_then, RegionTrees, no_regions, region_then, id_of, PlainLambda}
@@ -22,12 +23,11 @@ use Rattle.g_graph.specs.Replace.{nodes_redirected}
 use Rattle.g_graph.specs.Splice.{joined_nodes}
 use Rattle.g_graph.proofs.lemmas.Indexes.{same_number_true}
 use Rattle.g_graph.proofs.lemmas.Moved.{same_origin_true}
-use Rattle.g_graph.proofs.lemmas.Unique.{same_number}
 use Rattle.g_mean.specs.Data.{Datum, at_port, value_of}
 use Rattle.g_mean.specs.Meaning.{Context, chosen, branched, Outputs, no_outputs, extended, read, region_meaning, node_run, nodes_run, meanings}
 use Rattle.g_mean.specs.LessDefined.{Paired, IsLessDefinedDatum}
 use Rattle.g_mean.specs.Refining.{ContextRefines}
-use Rattle.g_mean.specs.Copies.{IsRead, AreRead, known_after, is_argument}
+use Rattle.g_mean.specs.Copies.{IsRead, known_after, is_argument}
 use Rattle.g_mean.specs.Moves.{ReadLessDefined}
 use Rattle.g_mean.specs.Splices.{CanRedirect}
 use Rattle.g_mean.specs.Edits.{IsPartOf}
@@ -44,8 +44,11 @@ use Rattle.g_mean.proofs.lemmas.Inside.{node-here, inputs-read}
 use Rattle.g_mean.proofs.lemmas.Splices.{get-port, get-read}
 use Rattle.g_edit.specs.Places.{stays_at, kept, place_after}
 use Rattle.g_edit.specs.Exits.{node_giving}
-use Rattle.g_edit.specs.Carried.{outer, all_pass, passed, output_carried, staying, nodes_carrying, exits_carried, CarriedExitsGo}
-use Rattle.g_edit.proofs.lemmas.Exits.{kept_port, branched_gives, drops}
+use Rattle.g_edit.specs.Carried.{outer, all_pass, passed, output_carried, staying, nodes_carrying, exits_carried, CarriedExitsGo, CarriedUsesMove}
+use Rattle.g_edit.specs.InPlace.{redirected_after, outputs_redirected}
+use Rattle.g_edit.proofs.lemmas.Exits.{kept_port, paired_kept, branched_gives, drops}
+use Rattle.g_edit.proofs.lemmas.Invariant.{given_is, loops_keep_arguments}
+use Rattle.g_edit.proofs.lemmas.Kept.{kept_none}
 use Rattle.g_edit.proofs.lemmas.Parts.{placed_parts_refine}
 use Rattle.g_edit.proofs.lemmas.Placed.{not_before}
 use Rattle.g_edit.proofs.lemmas.Redirected.{outside, known_other, can_place_redirected}
@@ -84,13 +87,13 @@ passed_is inputs p args nodes results rs o e = by (outer inputs (slice_get resul
     by None q d = absurd cc
     by (Some a) q d = by_test a (all_pass inputs a p rs) q refl d
 
-passed_input : (inputs : List Origin) (p : ℕ) (rs : RegionTrees) (o : Origin) → passed inputs p rs ≡ Some o → (k : ℕ) × (slice_get inputs (suc k) ≡ Some o)
+pub passed_input : (inputs : List Origin) (p : ℕ) (rs : RegionTrees) (o : Origin) → passed inputs p rs ≡ Some o → (k : ℕ) × (slice_get inputs (suc k) ≡ Some o)
 passed_input inputs p no_regions o e = absurd cc
 passed_input inputs p (region_then (region args nodes results) rs) o e =
     let at = passed_is inputs p args nodes results rs o e in
     (at.first.argument, at.first.input)
 
-passed_all : (inputs : List Origin) (p : ℕ) (rs : RegionTrees) (o : Origin) → passed inputs p rs ≡ Some o → all_pass inputs o p rs ≡ true
+pub passed_all : (inputs : List Origin) (p : ℕ) (rs : RegionTrees) (o : Origin) → passed inputs p rs ≡ Some o → all_pass inputs o p rs ≡ true
 passed_all inputs p no_regions o e = refl
 passed_all inputs p (region_then (region args nodes results) rs) o e =
     let at = passed_is inputs p args nodes results rs o e in
@@ -100,9 +103,6 @@ passed_all inputs p (region_then (region args nodes results) rs) o e =
     itself : (a : Origin) → is_origin (Some a) a ≡ true
     itself (Arg k) = same_number_true k
     itself (Out n q) = λ i. same_number_true n i && same_number_true q i
-
-given_is : {A : Type 0} (x y : A) (o q : List Event) → Returned x o ≡ Returned y q → x ≡ y
-given_is x y o q e = cc
 
 -- what a region gives of an argument
 region_passes : (c : Context) (args : List Kind) (nodes : NodeTrees) (results : List Origin) (us vs : List Datum) (did : List Event) (p k : ℕ) → slice_get results p ≡ Some (Arg k) →
@@ -141,19 +141,11 @@ gamma_passes c (predicate ∷ entries) rs f o p vs did e d = by (value_of (f pre
 
 -- ---- lists
 
-stays_none : (cs : List (Option Origin)) (p : ℕ) → joined (slice_get cs p) ≡ None → stays_at (staying cs) p ≡ true
+pub stays_none : (cs : List (Option Origin)) (p : ℕ) → joined (slice_get cs p) ≡ None → stays_at (staying cs) p ≡ true
 stays_none [] p e = refl
 stays_none (None ∷ cs) zero e = refl
 stays_none (Some o ∷ cs) zero e = absurd cc
 stays_none (c ∷ cs) (suc p) e = stays_none cs p e
-
-paired_kept : (N : Datum → Datum → Type 0) (stays : List Bool) (us vs : List Datum) → Paired N us vs → Paired N (kept stays us) (kept stays vs)
-paired_kept N stays [] [] h = tt
-paired_kept N [] (u ∷ us) (v ∷ vs) h = h
-paired_kept N (true ∷ ts) (u ∷ us) (v ∷ vs) h = (h.0, paired_kept N ts us vs h.1)
-paired_kept N (false ∷ ts) (u ∷ us) (v ∷ vs) h = paired_kept N ts us vs h.1
-paired_kept N stays [] (v ∷ vs) h = absurd h
-paired_kept N stays (u ∷ us) [] h = absurd h
 
 -- ---- the region
 
@@ -164,28 +156,24 @@ carrying_joined n cs (node_then y before) x after b e =
     let both = or_parts (id_of y == n) (has_node n before) b in
     rw both.0 (ap (node_then y) (carrying_joined n cs before x after both.1 e))
 
-module _ (l : PlainLambda) (args : List Kind) (before : NodeTrees) (id : ℕ) (inputs : List Origin) (rs : RegionTrees) (after : NodeTrees) (results : List Origin) (cs : List (Option Origin))
-    (part : IsPartOf l (region args (joined_nodes before (node_then (node id Gamma inputs rs) after)) results))
-    (passes : (p : ℕ) (o : Origin) → joined (slice_get cs p) ≡ Some o → passed inputs p rs ≡ Some o) where
-  abbrev here : NodeTree
-  here = node id Gamma inputs rs
+-- Of another node of the same number the outputs for which the test is true are those of the node that carry nothing.
+module _ (l : PlainLambda) (args : List Kind) (before : NodeTrees) (here y : NodeTree) (after : NodeTrees) (results : List Origin) (cs : List (Option Origin)) (stays : List Bool)
+    (part : IsPartOf l (region args (joined_nodes before (node_then here after)) results)) (number : id_of y ≡ id_of here) (stay : (p : ℕ) → joined (slice_get cs p) ≡ None → stays_at stays p ≡ true)
+    (outer_read : (p : ℕ) (o : Origin) → joined (slice_get cs p) ≡ Some o → IsRead (is_argument (length args)) (known_after [] before) o) where
+  abbrev id : ℕ
+  id = id_of here
 
   abbrev whole : RegionTree
   whole = region args (joined_nodes before (node_then here after)) results
 
   abbrev move : Origin → Origin
-  move = output_carried id cs (staying cs)
+  move = output_carried id cs stays
 
-  move_own : (p : ℕ) → move (Out id p) ≡ unwrap_or (joined (slice_get cs p)) (Out id (place_after (staying cs) p))
-  move_own p = ap (λ t. cond t (unwrap_or (joined (slice_get cs p)) (Out id (place_after (staying cs) p))) (Out id p)) (same_number_true id)
+  move_own : (p : ℕ) → move (Out id p) ≡ unwrap_or (joined (slice_get cs p)) (Out id (place_after stays p))
+  move_own p = ap (λ t. cond t (unwrap_or (joined (slice_get cs p)) (Out id (place_after stays p))) (Out id p)) (same_number_true id)
 
   move_other : (n p : ℕ) → id ≢ n → move (Out n p) ≡ Out n p
-  move_other n p h = ap (λ t. cond t (unwrap_or (joined (slice_get cs p)) (Out n (place_after (staying cs) p))) (Out n p)) (test-other id n h)
-
-  outer_read : (p : ℕ) (o : Origin) → joined (slice_get cs p) ≡ Some o → IsRead (is_argument (length args)) (known_after [] before) o
-  outer_read p o e =
-      let at = passed_input inputs p rs o (passes p o e) in
-      get-read (is_argument (length args)) (known_after [] before) inputs (inputs-read l args before id Gamma inputs rs after results part) (suc at.0) o at.1
+  move_other n p h = ap (λ t. cond t (unwrap_or (joined (slice_get cs p)) (Out n (place_after stays p))) (Out n p)) (test-other id n h)
 
   own : (p : ℕ) → IsRead (is_argument (length args)) (id ∷ known_after [] before) (move (Out id p))
   own p = by (joined (slice_get cs p)) refl
@@ -197,9 +185,9 @@ module _ (l : PlainLambda) (args : List Kind) (before : NodeTrees) (id : ℕ) (i
 
       by : (x : Option Origin) → joined (slice_get cs p) ≡ x → IsRead (is_argument (length args)) (id ∷ known_after [] before) (move (Out id p))
       by None e =
-          subst (λ z. IsRead (is_argument (length args)) (id ∷ known_after [] before) z) (sym (move_own p ∙ ap (λ x. unwrap_or x (Out id (place_after (staying cs) p))) e)) (inr (inl refl))
+          subst (λ z. IsRead (is_argument (length args)) (id ∷ known_after [] before) z) (sym (move_own p ∙ ap (λ x. unwrap_or x (Out id (place_after stays p))) e)) (inr (inl refl))
       by (Some o) e =
-          subst (λ z. IsRead (is_argument (length args)) (id ∷ known_after [] before) z) (sym (move_own p ∙ ap (λ x. unwrap_or x (Out id (place_after (staying cs) p))) e)) (more o (outer_read p o e))
+          subst (λ z. IsRead (is_argument (length args)) (id ∷ known_after [] before) z) (sym (move_own p ∙ ap (λ x. unwrap_or x (Out id (place_after stays p))) e)) (more o (outer_read p o e))
 
   can : CanRedirect args before here after results move
   can = record { closed = part.closed; unique = part.unique; arguments = λ k. refl; others = λ n p h. move_other n p (λ e. h (sym e)); own = own }
@@ -208,18 +196,12 @@ module _ (l : PlainLambda) (args : List Kind) (before : NodeTrees) (id : ℕ) (i
   seen = outside args before here after results move can
 
   -- what the node gives where it carries something
-  abbrev Post : (xs : List Datum) (o : Outputs) → List Datum → Type 0
+  abbrev pub Post : (xs : List Datum) (o : Outputs) → List Datum → Type 0
   Post xs o us = (p : ℕ) (a : Origin) → joined (slice_get cs p) ≡ Some a → at_port us p ≡ read xs o a
-
-  posts : (c : Context) (xs : List Datum) (o : Outputs) (a : Answer (List Datum)) → node_run c here xs o ≡ a → Gives (Post xs o) a
-  posts c xs o (Returned us did) e = λ p a h. gamma_passes c inputs rs (read xs o) a p us did (passed_all inputs p rs a (passes p a h)) e
-  posts c xs o (Cut q) e = tt
-  posts c xs o (Exited q s) e = tt
-  posts c xs o (Undefined q) e = tt
 
   -- what is read afterwards is at its new place
   less : (xs ys : List Datum) (o q : Outputs) → Paired IsLessDefinedDatum xs ys → OutputsRefine IsLessDefinedDatum o q → (us vs : List Datum) → Post xs o us →
-      Paired IsLessDefinedDatum (kept (staying cs) us) vs → ReadLessDefined seen [] move xs ys (extended o id us) (extended q id vs)
+      Paired IsLessDefinedDatum (kept stays us) vs → ReadLessDefined seen [] move xs ys (extended o id us) (extended q id vs)
   less xs ys o q near like us vs post pairs (Arg k) h = paired-at IsLessDefinedDatum less-kept xs ys near k
   less xs ys o q near like us vs post pairs (Out n p) (inr h) = absurd h
   less xs ys o q near like us vs post pairs (Out n p) (inl t) = by (id == n) refl
@@ -231,59 +213,132 @@ module _ (l : PlainLambda) (args : List Kind) (before : NodeTrees) (id : ℕ) (i
       kept_outer (Out m j) (inr r) =
           ap (λ s. cond s (at_port vs j) (q m j)) (test-other id m (known_other args before here after results move can m r))
 
-      by_carried : (id == n) ≡ true → (x : Option Origin) → joined (slice_get cs p) ≡ x →
-          IsLessDefinedDatum (at_port us p) (read ys (extended q id vs) (unwrap_or x (Out n (place_after (staying cs) p))))
+      by_carried : (id == n) ≡ true → (x : Option Origin) → joined (slice_get cs p) ≡ x → IsLessDefinedDatum (at_port us p) (read ys (extended q id vs) (unwrap_or x (Out n (place_after stays p))))
       by_carried e None w =
-          let same : extended q id vs n (place_after (staying cs) p) ≡ at_port vs (place_after (staying cs) p) = ap (λ s. cond s (at_port vs (place_after (staying cs) p)) (q n (place_after (staying cs) p))) e in
+          let same : extended q id vs n (place_after stays p) ≡ at_port vs (place_after stays p) = ap (λ s. cond s (at_port vs (place_after stays p)) (q n (place_after stays p))) e in
           subst (λ z. IsLessDefinedDatum (at_port us p) z) (sym same)
-          (subst (λ z. IsLessDefinedDatum z (at_port vs (place_after (staying cs) p))) (kept_port (staying cs) us p (stays_none cs p w))
-          (paired-at IsLessDefinedDatum less-kept (kept (staying cs) us) vs pairs (place_after (staying cs) p)))
+          (subst (λ z. IsLessDefinedDatum z (at_port vs (place_after stays p))) (kept_port stays us p (stay p w))
+          (paired-at IsLessDefinedDatum less-kept (kept stays us) vs pairs (place_after stays p)))
       by_carried e (Some a) w =
           subst₂ (λ y z. IsLessDefinedDatum y z) (sym (post p a w)) (sym (kept_outer a (outer_read p a w))) (read-refines IsLessDefinedDatum less-kept xs ys near o q like a)
 
-      by : (s : Bool) → (id == n) ≡ s → IsLessDefinedDatum (cond s (at_port us p) (o n p)) (read ys (extended q id vs) (cond s (unwrap_or (joined (slice_get cs p)) (Out n (place_after (staying cs) p))) (Out n p)))
+      by : (s : Bool) → (id == n) ≡ s → IsLessDefinedDatum (cond s (at_port us p) (o n p)) (read ys (extended q id vs) (cond s (unwrap_or (joined (slice_get cs p)) (Out n (place_after stays p))) (Out n p)))
       by true e = by_carried e (joined (slice_get cs p)) refl
       by false e =
           let same : extended q id vs n p ≡ q n p = ap (λ s. cond s (at_port vs p) (q n p)) e in
           subst (λ z. IsLessDefinedDatum (o n p) z) (sym same) (like n p)
 
+  module _ (posts : (c : Context) (xs : List Datum) (o : Outputs) (a : Answer (List Datum)) → node_run c here xs o ≡ a → Gives (Post xs o) a)
+      (refines : (direction : Direction) (c d : Context) → ContextRefines no_deeper direction IsLessDefinedDatum c d → (xs ys : List Datum) (o q : Outputs) → Paired IsLessDefinedDatum xs ys →
+      OutputsRefine IsLessDefinedDatum o q → Refines no_deeper direction (λ us vs. Paired IsLessDefinedDatum (kept stays us) vs) (node_run c here xs o) (node_run d y ys q)) where
+    part_refines : (direction : Direction) (c d : Context) → ContextRefines no_deeper direction IsLessDefinedDatum c d → (xs ys : List Datum) (o q : Outputs) → Paired IsLessDefinedDatum xs ys →
+        OutputsRefine IsLessDefinedDatum o q → Refines no_deeper direction (ReadLessDefined seen [] move xs ys) (nodes_run c (node_then here no_nodes) xs o) (nodes_run d (node_then y no_nodes) ys q)
+    part_refines direction c d context xs ys o q near like =
+        refines-then no_deeper no_deeper-compares.goes (λ us vs. Post xs o us × Paired IsLessDefinedDatum (kept stays us) vs) (ReadLessDefined seen [] move xs ys) direction (node_run c here xs o)
+        (node_run d y ys q) (λ us. Returned (extended o id us) []) (λ vs. Returned (extended q (id_of y) vs) [])
+        (refines-gives no_deeper direction (Post xs o) (λ us vs. Paired IsLessDefinedDatum (kept stays us) vs) (node_run c here xs o) (node_run d y ys q)
+        (posts c xs o (node_run c here xs o) refl) (refines direction c d context xs ys o q near like))
+        (λ us vs h.
+        (subst (λ n. ReadLessDefined seen [] move xs ys (extended o id us) (extended q n vs)) (sym number) (less xs ys o q near like us vs h.0 h.1), no_deeper-compares.goes.nothing))
+
+    pub carried_replace : (ls ks : List PlainLambda) → Replaces ls ks whole (region args (joined_nodes before (node_then y (nodes_redirected move after))) (map move results))
+    carried_replace ls ks =
+        record {
+          at = λ direction global. record {
+            at = λ c d context linked.
+                placed_parts_refine direction c d context args before here after results (node_then y no_nodes) seen move (can_place_redirected args before here after results move can)
+                (λ xs ys o q near like have. part_refines direction c d context xs ys o q near like);
+          };
+        }
+
+itself_refines : (x : NodeTree) (direction : Direction) (c d : Context) → ContextRefines no_deeper direction IsLessDefinedDatum c d → (xs ys : List Datum) (o q : Outputs) → Paired IsLessDefinedDatum xs ys →
+    OutputsRefine IsLessDefinedDatum o q → Refines no_deeper direction (Paired IsLessDefinedDatum) (node_run c x xs o) (node_run d x ys q)
+itself_refines x direction c d context xs ys o q near like =
+    node-refines no_deeper no_deeper-compares direction IsLessDefinedDatum less-kept Never Always
+    (never-refines no_deeper no_deeper-compares direction IsLessDefinedDatum less-kept) c d context tt x x (nodes-itself Never (node_then x no_nodes)).0 xs ys near o q like
+
+-- ---- a Gamma
+
+module _ (l : PlainLambda) (args : List Kind) (before : NodeTrees) (id : ℕ) (inputs : List Origin) (rs : RegionTrees) (after : NodeTrees) (results : List Origin) (cs : List (Option Origin))
+    (part : IsPartOf l (region args (joined_nodes before (node_then (node id Gamma inputs rs) after)) results))
+    (passes : (p : ℕ) (o : Origin) → joined (slice_get cs p) ≡ Some o → passed inputs p rs ≡ Some o) where
+  abbrev gamma : NodeTree
+  gamma = node id Gamma inputs rs
+
+  outer_is_read : (p : ℕ) (o : Origin) → joined (slice_get cs p) ≡ Some o → IsRead (is_argument (length args)) (known_after [] before) o
+  outer_is_read p o e =
+      let at = passed_input inputs p rs o (passes p o e) in
+      get-read (is_argument (length args)) (known_after [] before) inputs (inputs-read l args before id Gamma inputs rs after results part) (suc at.0) o at.1
+
+  gamma_posts : (c : Context) (xs : List Datum) (o : Outputs) (a : Answer (List Datum)) → node_run c gamma xs o ≡ a →
+      Gives (λ us. (p : ℕ) (z : Origin) → joined (slice_get cs p) ≡ Some z → at_port us p ≡ read xs o z) a
+  gamma_posts c xs o (Returned us did) e = λ p a h. gamma_passes c inputs rs (read xs o) a p us did (passed_all inputs p rs a (passes p a h)) e
+  gamma_posts c xs o (Cut q) e = tt
+  gamma_posts c xs o (Exited q s) e = tt
+  gamma_posts c xs o (Undefined q) e = tt
+
   giving_refines : (direction : Direction) (c d : Context) → ContextRefines no_deeper direction IsLessDefinedDatum c d → (xs ys : List Datum) (o q : Outputs) → Paired IsLessDefinedDatum xs ys →
       OutputsRefine IsLessDefinedDatum o q →
-      Refines no_deeper direction (λ us vs. Paired IsLessDefinedDatum (kept (staying cs) us) vs) (node_run c here xs o) (node_run d (node_giving (staying cs) here) ys q)
+      Refines no_deeper direction (λ us vs. Paired IsLessDefinedDatum (kept (staying cs) us) vs) (node_run c gamma xs o) (node_run d (node_giving (staying cs) gamma) ys q)
   giving_refines direction c d context xs ys o q near like =
-      subst₂ (λ a b. Refines no_deeper direction (λ us vs. Paired IsLessDefinedDatum (kept (staying cs) us) vs) a b) (then_nothing (node_run c here xs o))
+      subst₂ (λ a b. Refines no_deeper direction (λ us vs. Paired IsLessDefinedDatum (kept (staying cs) us) vs) a b) (then_nothing (node_run c gamma xs o))
       (sym (branched_gives (staying cs) d rs (map (read ys q) inputs)))
-      (refines-then no_deeper no_deeper-compares.goes (Paired IsLessDefinedDatum) (λ us vs. Paired IsLessDefinedDatum (kept (staying cs) us) vs) direction (node_run c here xs o) (node_run d here ys q)
-      (λ us. Returned us []) (drops (staying cs))
-      (node-refines no_deeper no_deeper-compares direction IsLessDefinedDatum less-kept Never Always
-      (never-refines no_deeper no_deeper-compares direction IsLessDefinedDatum less-kept) c d context tt here here (nodes-itself Never (node_then here no_nodes)).0 xs ys near o q like)
+      (refines-then no_deeper no_deeper-compares.goes (Paired IsLessDefinedDatum) (λ us vs. Paired IsLessDefinedDatum (kept (staying cs) us) vs) direction (node_run c gamma xs o)
+      (node_run d gamma ys q) (λ us. Returned us []) (drops (staying cs)) (itself_refines gamma direction c d context xs ys o q near like)
       (λ us vs pairs. (paired_kept IsLessDefinedDatum (staying cs) us vs pairs, no_deeper-compares.goes.nothing)))
 
-  part_refines : (direction : Direction) (c d : Context) → ContextRefines no_deeper direction IsLessDefinedDatum c d → (xs ys : List Datum) (o q : Outputs) → Paired IsLessDefinedDatum xs ys →
-      OutputsRefine IsLessDefinedDatum o q →
-      Refines no_deeper direction (ReadLessDefined seen [] move xs ys) (nodes_run c (node_then here no_nodes) xs o) (nodes_run d (node_then (node_giving (staying cs) here) no_nodes) ys q)
-  part_refines direction c d context xs ys o q near like =
-      refines-then no_deeper no_deeper-compares.goes (λ us vs. Post xs o us × Paired IsLessDefinedDatum (kept (staying cs) us) vs) (ReadLessDefined seen [] move xs ys) direction (node_run c here xs o)
-      (node_run d (node_giving (staying cs) here) ys q) (λ us. Returned (extended o id us) []) (λ vs. Returned (extended q id vs) [])
-      (refines-gives no_deeper direction (Post xs o) (λ us vs. Paired IsLessDefinedDatum (kept (staying cs) us) vs) (node_run c here xs o) (node_run d (node_giving (staying cs) here) ys q)
-      (posts c xs o (node_run c here xs o) refl) (giving_refines direction c d context xs ys o q near like))
-      (λ us vs h. (less xs ys o q near like us vs h.0 h.1, no_deeper-compares.goes.nothing))
-
-  carrying_is : region args (joined_nodes before (node_then (node_giving (staying cs) here) (nodes_redirected move after))) (map move results) ≡ exits_carried id cs whole
-  carrying_is =
-      ap (λ ns. region args ns (map move results))
-      (sym (carrying_joined id cs before here after (not_before (length l.objects) args before here after (node-here l args before here after results part)) (same_number_true id)))
-
-  carried_replace : (ls ks : List PlainLambda) → Replaces ls ks whole (exits_carried id cs whole)
-  carried_replace ls ks =
-      subst (λ r. Replaces ls ks whole r) carrying_is
-      (record {
-        at = λ direction global. record {
-          at = λ c d context linked.
-              placed_parts_refine direction c d context args before here after results (node_then (node_giving (staying cs) here) no_nodes) seen move
-              (can_place_redirected args before here after results move can) (λ xs ys o q near like have. part_refines direction c d context xs ys o q near like);
-        };
-      })
+  gamma_replace : (ls ks : List PlainLambda) → Replaces ls ks (region args (joined_nodes before (node_then gamma after)) results) (exits_carried id cs (region args (joined_nodes before (node_then gamma after)) results))
+  gamma_replace ls ks =
+      let none = not_before (length l.objects) args before gamma after (node-here l args before gamma after results part) in
+      subst (λ ns. Replaces ls ks (region args (joined_nodes before (node_then gamma after)) results) (region args ns (map (output_carried id cs (staying cs)) results)))
+      (sym (carrying_joined id cs before gamma after none (same_number_true id)))
+      (carried_replace l args before gamma (node_giving (staying cs) gamma) after results cs (staying cs) part refl (stays_none cs) outer_is_read gamma_posts giving_refines ls ks)
 
 pub carried_exits_go : CarriedExitsGo
-carried_exits_go ls ks l args before id inputs rs after results cs part passes = carried_replace l args before id inputs rs after results cs part passes ls ks
+carried_exits_go ls ks l args before id inputs rs after results cs part passes = gamma_replace l args before id inputs rs after results cs part passes ls ks
+
+-- ---- a Theta
+
+pub redirected_joined : (n : ℕ) (f : Origin → Origin) (before : NodeTrees) (x : NodeTree) (after : NodeTrees) → has_node n before ≡ false → (id_of x == n) ≡ true →
+    redirected_after n f (joined_nodes before (node_then x after)) ≡ joined_nodes before (node_then x (nodes_redirected f after))
+redirected_joined n f no_nodes x after b e = rw e
+redirected_joined n f (node_then y before) x after b e =
+    let both = or_parts (id_of y == n) (has_node n before) b in
+    rw both.0 (ap (node_then y) (redirected_joined n f before x after both.1 e))
+
+module _ (l : PlainLambda) (args : List Kind) (before : NodeTrees) (id : ℕ) (inputs : List Origin) (own_kinds : List Kind) (nodes : NodeTrees) (outs : List Origin) (after : NodeTrees)
+    (results : List Origin) (cs : List (Option Origin))
+    (part : IsPartOf l (region args (joined_nodes before (node_then (node id Theta inputs (region_then (region own_kinds nodes outs) no_regions)) after)) results))
+    (passes : (p : ℕ) (o : Origin) → joined (slice_get cs p) ≡ Some o → (slice_get outs (suc p) ≡ Some (Arg p)) × (slice_get inputs p ≡ Some o)) where
+  abbrev theta : NodeTree
+  theta = node id Theta inputs (region_then (region own_kinds nodes outs) no_regions)
+
+  input_is_read : (p : ℕ) (o : Origin) → joined (slice_get cs p) ≡ Some o → IsRead (is_argument (length args)) (known_after [] before) o
+  input_is_read p o e =
+      get-read (is_argument (length args)) (known_after [] before) inputs (inputs-read l args before id Theta inputs (region_then (region own_kinds nodes outs) no_regions) after results part) p o
+      (passes p o e).1
+
+  theta_posts : (c : Context) (xs : List Datum) (o : Outputs) (a : Answer (List Datum)) → node_run c theta xs o ≡ a →
+      Gives (λ us. (p : ℕ) (z : Origin) → joined (slice_get cs p) ≡ Some z → at_port us p ≡ read xs o z) a
+  theta_posts c xs o (Returned us did) e = λ p z h.
+      loops_keep_arguments c.bound c own_kinds nodes outs (map (read xs o) inputs) us did p (passes p z h).0 e ∙ get-port (read xs o) inputs p z (passes p z h).1
+  theta_posts c xs o (Cut q) e = tt
+  theta_posts c xs o (Exited q s) e = tt
+  theta_posts c xs o (Undefined q) e = tt
+
+  theta_refines : (direction : Direction) (c d : Context) → ContextRefines no_deeper direction IsLessDefinedDatum c d → (xs ys : List Datum) (o q : Outputs) → Paired IsLessDefinedDatum xs ys →
+      OutputsRefine IsLessDefinedDatum o q → Refines no_deeper direction (λ us vs. Paired IsLessDefinedDatum (kept [] us) vs) (node_run c theta xs o) (node_run d theta ys q)
+  theta_refines direction c d context xs ys o q near like =
+      subst (λ (f : List Datum → List Datum). Refines no_deeper direction (λ us vs. Paired IsLessDefinedDatum (f us) vs) (node_run c theta xs o) (node_run d theta ys q)) (fun_ext (λ us. sym (kept_none us)))
+      (itself_refines theta direction c d context xs ys o q near like)
+
+  theta_replace : (ls ks : List PlainLambda) →
+      Replaces ls ks (region args (joined_nodes before (node_then theta after)) results) (outputs_redirected id (output_carried id cs []) (region args (joined_nodes before (node_then theta after)) results))
+  theta_replace ls ks =
+      let none = not_before (length l.objects) args before theta after (node-here l args before theta after results part) in
+      subst (λ ns. Replaces ls ks (region args (joined_nodes before (node_then theta after)) results) (region args ns (map (output_carried id cs []) results)))
+      (sym (redirected_joined id (output_carried id cs []) before theta after none (same_number_true id)))
+      (carried_replace l args before theta theta after results cs [] part refl (λ p e. refl) input_is_read theta_posts theta_refines ls ks)
+
+pub carried_uses_move : CarriedUsesMove
+carried_uses_move ls ks l args before id inputs own_kinds nodes outs after results cs part passes = theta_replace l args before id inputs own_kinds nodes outs after results cs part passes ls ks

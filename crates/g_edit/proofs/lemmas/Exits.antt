@@ -51,7 +51,7 @@ kept_port (true ∷ ts) (x ∷ xs) (suc k) e = kept_port ts xs k e
 kept_port (false ∷ ts) (x ∷ xs) zero e = absurd cc
 kept_port (false ∷ ts) (x ∷ xs) (suc k) e = kept_port ts xs k e
 
-paired_kept : (N : Datum → Datum → Type 0) (stays : List Bool) (us vs : List Datum) → Paired N us vs → Paired N (kept stays us) (kept stays vs)
+pub paired_kept : (N : Datum → Datum → Type 0) (stays : List Bool) (us vs : List Datum) → Paired N us vs → Paired N (kept stays us) (kept stays vs)
 paired_kept N stays [] [] h = tt
 paired_kept N [] (u ∷ us) (v ∷ vs) h = h
 paired_kept N (true ∷ ts) (u ∷ us) (v ∷ vs) h = (h.0, paired_kept N ts us vs h.1)

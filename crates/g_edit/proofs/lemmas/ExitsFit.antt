@@ -30,26 +30,26 @@ use Rattle.g_edit.proofs.lemmas.Swapped.{swapped_kept}
 module _ (stays : List Bool) where
   -- ---- what the node takes and gives
 
-  first_args_same : (rs : RegionTrees) → first_args (regions_giving stays rs) ≡ first_args rs
+  pub first_args_same : (rs : RegionTrees) → first_args (regions_giving stays rs) ≡ first_args rs
   first_args_same no_regions = refl
   first_args_same (region_then (region args nodes results) rs) = refl
 
-  gives_kept : (rs : RegionTrees) → outputs_of Gamma (regions_giving stays rs) ≡ kept stays (outputs_of Gamma rs)
+  pub gives_kept : (rs : RegionTrees) → outputs_of Gamma (regions_giving stays rs) ≡ kept stays (outputs_of Gamma rs)
   gives_kept no_regions = refl
   gives_kept (region_then (region args nodes results) rs) = kept_map stays (known args nodes) results
 
-  ids_same : (rs : RegionTrees) → regions_ids (regions_giving stays rs) ≡ regions_ids rs
+  pub ids_same : (rs : RegionTrees) → regions_ids (regions_giving stays rs) ≡ regions_ids rs
   ids_same no_regions = refl
   ids_same (region_then (region args nodes results) rs) = ap (λ ns. nodes_ids nodes ++ ns) (ids_same rs)
 
-  shape_same : (id : ℕ) (inputs : List Origin) (rs : RegionTrees) → has_its_regions (node id Gamma inputs (regions_giving stays rs)) ≡ has_its_regions (node id Gamma inputs rs)
+  pub shape_same : (id : ℕ) (inputs : List Origin) (rs : RegionTrees) → has_its_regions (node id Gamma inputs (regions_giving stays rs)) ≡ has_its_regions (node id Gamma inputs rs)
   shape_same id inputs no_regions = refl
   shape_same id inputs (region_then (region args nodes results) rs) = refl
 
   -- ---- its regions
 
   -- where every region gives the same kinds, it still does
-  regions_give : (firsts : List Kind) (ks : List Kind) (rs : RegionTrees) → all_regions (λ r. same (args_of r) firsts && are (result_kinds r) ks) rs ≡ true →
+  pub regions_give : (firsts : List Kind) (ks : List Kind) (rs : RegionTrees) → all_regions (λ r. same (args_of r) firsts && are (result_kinds r) ks) rs ≡ true →
       all_regions (λ r. same (args_of r) firsts && are (result_kinds r) (kept stays ks)) (regions_giving stays rs) ≡ true
   regions_give firsts ks no_regions e = refl
   regions_give firsts ks (region_then (region args nodes results) rs) e =
@@ -99,7 +99,7 @@ module _ (stays : List Bool) where
       λ i. own i && rest i
 
   -- the kinds of the exit variables
-  exits_are : (id : ℕ) (inputs : List Origin) (rs : RegionTrees) → regions_fit (node id Gamma inputs rs) ≡ true → outputs_of Gamma rs ≡ map Some (kinds_of (outputs_of Gamma rs))
+  pub exits_are : (id : ℕ) (inputs : List Origin) (rs : RegionTrees) → regions_fit (node id Gamma inputs rs) ≡ true → outputs_of Gamma rs ≡ map Some (kinds_of (outputs_of Gamma rs))
   exits_are id inputs no_regions e = refl
   exits_are id inputs (region_then (region args nodes results) rs) e =
       let kinds = map (known args nodes) results in
@@ -160,7 +160,7 @@ module _ (p : Op → ℕ → Type 0) (stays : List Bool) where
   regions_giving_ops no_regions h = h
   regions_giving_ops (region_then (region args nodes results) rs) h = (h.0, regions_giving_ops rs h.1)
 
-  node_giving_ops : (x : NodeTree) → NodeOps p x → NodeOps p (node_giving stays x)
+  pub node_giving_ops : (x : NodeTree) → NodeOps p x → NodeOps p (node_giving stays x)
   node_giving_ops (node id op inputs rs) h = (h.0, regions_giving_ops rs h.1)
 
   nodes_giving_ops : (n : ℕ) (ns : NodeTrees) → NodesOps p ns → NodesOps p (nodes_giving n stays ns)

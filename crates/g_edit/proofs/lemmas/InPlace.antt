@@ -1,10 +1,10 @@
 -- The edits made in place are the defined ones.
-use Rattle.std.proofs.Common.{◌≡◌, ◌<◌, ◌≤◌, ℕ, zero, suc, ◌+◌, ◌==◌, Bool, true, false, cond, List, [], ◌∷◌, ◌++◌, map, take, drop, length, get_or, None, Some, refl, sym, ap, ◌∙◌, add-one, arith}
+use Rattle.std.proofs.Common.{◌≡◌, ◌<◌, ◌≤◌, ℕ, zero, suc, ◌+◌, ◌==◌, Bool, true, false, cond, List, [], ◌∷◌, ◌++◌, map, take, drop, length, get_or, Option, None, Some, refl, sym, ap, ◌∙◌, add-one, arith}
 use Rattle.std.specs.Prelude.{◌&&◌, slice_get, slice_set}
 use Rattle.std.proofs.lemmas.Option.{same_Some}
 use Rattle.g_graph.specs.declared.op.Op.{Op}
 use Rattle.g_graph.specs.declared.op.Origin.{Origin}
-use Rattle.g_graph.specs.Plain.{RegionTree, region, NodeTree, node, NodeTrees, no_nodes, node_then, RegionTrees, no_regions, region_then, nodes_of, regions_of, id_of}
+use Rattle.g_graph.specs.Plain.{RegionTree, region, NodeTree, node, NodeTrees, no_nodes, node_then, no_regions, region_then, nodes_of, regions_of, id_of}
 use Rattle.g_graph.specs.Change.{node_index}
 use Rattle.g_graph.specs.Replace.{node_redirected, nodes_redirected}
 use Rattle.g_graph.proofs.lemmas.Redirects.{nodes_of-redirected}
@@ -13,6 +13,7 @@ use Rattle.g_edit.specs.Places.{kept}
 use Rattle.g_edit.specs.Exits.{regions_giving, node_giving, output_after, nodes_giving}
 use Rattle.g_edit.specs.Entries.{regions_taking, node_taking, nodes_taking}
 use Rattle.g_edit.specs.Variables.{region_looping, node_looping, nodes_looping}
+use Rattle.g_edit.specs.Carried.{output_carried, staying, nodes_carrying}
 use Rattle.g_edit.specs.InPlace.{all_stay, nodes_edited, redirected_after, region_giving, region_taking}
 
 -- ---- a node, by its index
@@ -113,6 +114,12 @@ pub taking_is : (n : ℕ) (stays : List Bool) (ns : NodeTrees) → nodes_edited 
 taking_is n stays no_nodes = refl
 taking_is n stays (node_then x ns) = ap (λ ms. cond (id_of x == n) (node_then (node_taking stays x) ns) (node_then x ms)) (taking_is n stays ns)
 
+pub carrying_is : (n : ℕ) (cs : List (Option Origin)) (ns : NodeTrees) →
+    redirected_after n (output_carried n cs (staying cs)) (nodes_edited n (node_giving (staying cs)) ns) ≡ nodes_carrying n cs ns
+carrying_is n cs no_nodes = refl
+carrying_is n cs (node_then x ns) =
+    sym (edited_then n (node_giving (staying cs)) (output_carried n cs (staying cs)) (giving_id (staying cs)) x ns (nodes_carrying n cs ns) (id_of x == n) refl (sym (carrying_is n cs ns)))
+
 -- ---- the regions of a node
 
 pub regions_giving_is : (stays : List Bool) (rs : List RegionTree) → regions_of (map (region_giving stays) rs) ≡ regions_giving stays (regions_of rs)
@@ -155,13 +162,13 @@ stay_suc (s ∷ ts) (suc i) t e = stay_suc ts i t e
 pub stay_more : (ts : List Bool) (i : ℕ) (t : Bool) → slice_get ts i ≡ Some t → all_stay (drop i ts) ≡ (t && all_stay (drop (i + 1) ts))
 stay_more ts i t e = rw add-one (stay_suc ts i t e)
 
-take_suc : (ts : List Bool) (i : ℕ) (t : Bool) → slice_get ts i ≡ Some t → take (suc i) ts ≡ take i ts ++ t ∷ []
-take_suc [] i t e = absurd cc
-take_suc (s ∷ ts) zero t e = ap (λ u. u ∷ []) (same_Some s t e)
-take_suc (s ∷ ts) (suc i) t e = ap (λ us. s ∷ us) (take_suc ts i t e)
+take_suc : {X : Type 0} (xs : List X) (i : ℕ) (x : X) → slice_get xs i ≡ Some x → take (suc i) xs ≡ take i xs ++ x ∷ []
+take_suc [] i x e = absurd cc
+take_suc (y ∷ xs) zero x e = ap (λ z. z ∷ []) (same_Some y x e)
+take_suc (y ∷ xs) (suc i) x e = ap (λ ys. y ∷ ys) (take_suc xs i x e)
 
-pub take_get : (ts : List Bool) (i : ℕ) (t : Bool) → slice_get ts i ≡ Some t → take (i + 1) ts ≡ take i ts ++ t ∷ []
-take_get ts i t e = rw add-one (take_suc ts i t e)
+pub take_get : {X : Type 0} (xs : List X) (i : ℕ) (x : X) → slice_get xs i ≡ Some x → take (i + 1) xs ≡ take i xs ++ x ∷ []
+take_get xs i x e = rw add-one (take_suc xs i x e)
 
 -- ---- a Theta with its one region
 

@@ -25,7 +25,7 @@ use Rattle.g_edit.specs.Laws.{LoopsKeepArguments, InvariantUsesMove}
 
 -- ---- places in lists
 
-given_is : {A : Type 0} (x y : A) (o p : List Event) → Returned x o ≡ Returned y p → x ≡ y
+pub given_is : {A : Type 0} (x y : A) (o p : List Event) → Returned x o ≡ Returned y p → x ≡ y
 given_is x y o p e = cc
 
 -- ---- a turn

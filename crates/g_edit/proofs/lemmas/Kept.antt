@@ -4,8 +4,8 @@ use Rattle.std.proofs.lemmas.Bool.{and_parts, or_parts, not-true}
 use Rattle.std.proofs.lemmas.Option.{same_Some}
 use Rattle.g_graph.specs.declared.op.Kind.{Kind}
 use Rattle.g_graph.specs.declared.op.Kind.TheVariants.{Value, Memory, Io}
-use Rattle.g_graph.specs.Scope.{same_kind, is_of, last_index}
-use Rattle.g_graph.specs.WellFormed.{all_of, some_of, are, kinds_of, at_most_one, one_state_each}
+use Rattle.g_graph.specs.Scope.{is_of, last_index}
+use Rattle.g_graph.specs.WellFormed.{all_of, some_of, at_most_one, one_state_each}
 use Rattle.g_edit.specs.Places.{stays_at, kept, place_after, drops_values}
 
 pub kept_none : {X : Type 0} (xs : List X) → kept [] xs ≡ xs

@@ -1,5 +1,5 @@
 -- When a part may come in the place of a node: where what goes is not read, and nodes keep their numbers.
-use Rattle.std.proofs.Common.{◌≡◌, ◌≢◌, ℕ, ◌==◌, ◌⊎◌, Bool, true, false, not, ◌&&◌, List, [], ◌∷◌, ◌++◌, map, length, refl, sym, ap, subst, ◌∙◌, inl, inr, arith}
+use Rattle.std.proofs.Common.{◌≡◌, ◌≢◌, ℕ, ◌==◌, ◌⊎◌, Bool, true, false, not, ◌&&◌, List, [], ◌∷◌, ◌++◌, length, refl, sym, ap, subst, ◌∙◌, inl, inr, arith}
 use Rattle.std.proofs.lemmas.Bool.{and_parts, or_parts, false_from_ne_true}
 use Rattle.g_graph.specs.declared.op.Kind.{Kind}
 use Rattle.g_graph.specs.declared.op.Origin.{Origin}
@@ -8,7 +8,6 @@ use Rattle.g_graph.specs.Plain.{region, NodeTree, node, NodeTrees, no_nodes, nod
 use Rattle.g_graph.specs.Ids.{node_ids, nodes_ids}
 use Rattle.g_graph.specs.WellFormed.{some_of, distinct}
 use Rattle.g_graph.specs.Change.{has_node}
-use Rattle.g_graph.specs.Replace.{nodes_redirected}
 use Rattle.g_graph.specs.Splice.{joined_nodes}
 use Rattle.g_graph.proofs.lemmas.Nodes.{NodeFits, has_times, own_times}
 use Rattle.g_graph.proofs.lemmas.Splices.{nodes_ids-joined}

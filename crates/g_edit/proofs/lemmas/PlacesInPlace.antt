@@ -2,11 +2,8 @@
 use Rattle.std.proofs.Common.{◌≡◌, ◌<◌, ◌≤◌, ℕ, zero, suc, ◌+◌, Bool, true, false, cond, List, [], ◌∷◌, ◌++◌, take, drop, length, get_or, refl, sym, ap, ◌∙◌, add-one, arith, append_assoc}
 use Rattle.std.specs.Prelude.{slice_set}
 use Rattle.std.proofs.lemmas.List.{take_more_set, drop_more, drop-set-lt, drop-drop}
+use Rattle.g_edit.proofs.lemmas.Kept.{kept_none}
 use Rattle.g_edit.specs.Places.{stays_at, kept, place_after}
-
-pub kept_none : {X : Type 0} (xs : List X) → kept [] xs ≡ xs
-kept_none [] = refl
-kept_none (x ∷ xs) = refl
 
 pub kept_more : {X : Type 0} (ts : List Bool) (i : ℕ) (x : X) (xs : List X) →
     kept (drop i ts) (x ∷ xs) ≡ cond (stays_at ts i) (x ∷ kept (drop (suc i) ts) xs) (kept (drop (suc i) ts) xs)

@@ -10,7 +10,7 @@ use Rattle.g_graph.specs.Ids.{node_ids, nodes_ids}
 use Rattle.g_graph.specs.WellFormed.{some_of, distinct}
 use Rattle.g_graph.specs.Splice.{joined_nodes}
 use Rattle.g_graph.proofs.lemmas.Splices.{nodes_ids-joined}
-use Rattle.g_mean.specs.Copies.{IsAmong, IsRead, AreRead, NodesRead, known_after, is_argument, CanMove}
+use Rattle.g_mean.specs.Copies.{IsAmong, IsRead, known_after, is_argument, CanMove}
 use Rattle.g_mean.specs.Splices.{CanRedirect}
 use Rattle.g_mean.proofs.lemmas.Copies.{among-left, among-right}
 use Rattle.g_mean.proofs.lemmas.Edits.{distinct-split}

@@ -4,9 +4,8 @@ use Rattle.std.proofs.lemmas.List.{length-map}
 use Rattle.std.proofs.lemmas.Bool.{and_parts, or_parts}
 use Rattle.g_graph.specs.declared.op.Kind.{Kind}
 use Rattle.g_graph.specs.declared.op.Op.{Op}
-use Rattle.g_graph.specs.declared.op.Op.TheVariants.{Local, Load, Store, Clear, Gamma, Theta}
 use Rattle.g_graph.specs.declared.op.Origin.{Origin}
-use Rattle.g_graph.specs.Plain.{NodeTree, node, NodeTrees, no_nodes, node_then, RegionTrees, no_regions, region_then, nodes_of}
+use Rattle.g_graph.specs.Plain.{NodeTree, node, NodeTrees, no_nodes, node_then, RegionTrees, nodes_of}
 use Rattle.g_graph.specs.Signatures.{inputs_of, outputs_of}
 use Rattle.g_graph.specs.Scope.{known, each_node}
 use Rattle.g_graph.specs.WellFormed.{all_of, some_of, are, one_state_each, has_its_regions, regions_fit, theta_has_states, has_its_width, has_its_object, inputs_fit, is_last, inputs_are_last, node_has_one_state_each, node_fits}
@@ -31,7 +30,7 @@ module _ (gone : Origin → Bool) (objects : ℕ) (args others : List Kind) (f :
       let rest = kept_all bs cs m os unread.1 last.1 in
       (λ i. one.0 i ∷ rest.0 i, λ i. one.1 i && rest.1 i)
 
-  kept_node_fits : (bs cs : NodeTrees) → KeepsScope gone args bs others cs f → (id : ℕ) (op : Op) (inputs : List Origin) (rs : RegionTrees) → some_of gone inputs ≡ false →
+  pub kept_node_fits : (bs cs : NodeTrees) → KeepsScope gone args bs others cs f → (id : ℕ) (op : Op) (inputs : List Origin) (rs : RegionTrees) → some_of gone inputs ≡ false →
       node_fits objects args bs (node id op inputs rs) ≡ true → node_fits objects others cs (node id op (map f inputs) rs) ≡ true
   kept_node_fits bs cs m id op inputs rs u e =
       let x = node id op inputs rs in

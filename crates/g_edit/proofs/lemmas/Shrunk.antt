@@ -1,5 +1,5 @@
 -- Exit variables of a Gamma go, and then entry variables.
-use Rattle.std.proofs.Common.{◌≡◌, Bool, List, [], ◌∷◌, map, length, refl, sym, ap, subst, append-nil, ◌∙◌}
+use Rattle.std.proofs.Common.{Bool, List, [], map, length, refl, sym, ap, subst, append-nil, ◌∙◌}
 use Rattle.val_core.specs.Answers.{Answer, Returned, Cut, Exited, Undefined, then_on}
 use Rattle.val_core.specs.Events.{Event}
 use Rattle.val_core.specs.Refinement.{Direction, Forward, Backward, Refines, no_deeper}

@@ -37,7 +37,8 @@ use Rattle.g_simulation.proofs.lemmas.Claims.{ContextsFit, Typed}
 use Rattle.g_simulation.proofs.lemmas.Forms.{ExprClaim, FormClaim, PlaceClaim, typed-of}
 
 -- a place that is held when a part begins is held when it has run
-spot-after : {B A : Type 0} → (Q : Post B A) (xs : List Datum) (o : Outputs) (s : Point) (b : Built A) (y : B) (o' : Outputs) → Ran Q xs o s.next b y o' → Later s b.after → (x : source.Spot) (z : Spot) →
+spot-after : {B A : Type 0} → (Q : Post B A) (xs : List Datum) (o : Outputs) (s : Point) (b : Built A) (y : B) (o' : Outputs) → Ran Q xs o s.next b y o' → Later s b.after → (x : source.Spot)
+    (z : Spot) →
     SpotHeld (read_origin xs o) s.next s.carried.variables x z → SpotHeld (read_origin xs o') b.after.next b.after.carried.variables x z
 spot-after Q xs o s b y o' r l x z h = spot-later (read_origin xs o) (read_origin xs o') s b.after x z (stay-keeps s.next xs o o' r.stay) r.rises l h
 
@@ -88,7 +89,8 @@ module _ (w : Direction) (functions : List Signature) (c : source.Context) (d : 
       made = converted_made t p s
 
       there : (v : Value) → IsThere v → Held (read_origin xs o) s.next v p →
-          ((o' : Outputs) → IsSoundRun xs o' → Ran (Line f flow q (converted t v)) xs o s.next made tt o' → Simulates w d (Values f flow) xs o' made.after.next (k made.value made.after) (next (converted t v))) →
+          ((o' : Outputs) → IsSoundRun xs o' → Ran (Line f flow q (converted t v)) xs o s.next made tt o' → Simulates w d (Values f flow) xs o' made.after.next (k made.value made.after)
+          (next (converted t v))) →
           Simulates w d (Values f flow) xs o s.next (bind made k) (used (converted t v) next)
       there v is held go =
           line-then w d f flow fit.sound (Values f flow) xs o s.next r made k q (converted t v) (used (converted t v) next)
@@ -96,7 +98,8 @@ module _ (w : Direction) (functions : List Signature) (c : source.Context) (d : 
           used-there w (Ran (Values f flow) xs o' made.after.next (k made.value made.after)) (converted t v) next (nodes_run d (nodes_of (k made.value made.after).nodes) xs o') (λ is'. go o' r' m))
 
       by : (v : Value) → Held (read_origin xs o) s.next v p →
-          ((o' : Outputs) → IsSoundRun xs o' → Ran (Line f flow q (converted t v)) xs o s.next made tt o' → Simulates w d (Values f flow) xs o' made.after.next (k made.value made.after) (next (converted t v))) →
+          ((o' : Outputs) → IsSoundRun xs o' → Ran (Line f flow q (converted t v)) xs o s.next made tt o' → Simulates w d (Values f flow) xs o' made.after.next (k made.value made.after)
+          (next (converted t v))) →
           Simulates w d (Values f flow) xs o s.next (bind made k) (used (converted t v) next)
       by (Num n) held go = there (Num n) tt held go
       by (At b n) held go = there (At b n) tt held go
@@ -106,7 +109,8 @@ module _ (w : Direction) (functions : List Signature) (c : source.Context) (d : 
       ExprClaim w functions c d fit f flow e → FormClaim w functions c d fit f flow t (compound k p e)
   compound-form defs t k p e fits cp ce xs o r s q h =
       typed-of w functions c d fit f flow t xs o s.next (form_made t (compound k p e) s) (form_run c t (compound k p e) q)
-      (sim-bind w d fit.sound (Places f flow) (Values f flow) xs o s.next r first (λ x u. bind (spot_read t x u) (λ old v. bind (expr_made e v) (λ y z. bind (compound_made k old y z) (write x)))) (place_run c p q)
+      (sim-bind w d fit.sound (Places f flow) (Values f flow) xs o s.next r first (λ x u. bind (spot_read t x u) (λ old v. bind (expr_made e v) (λ y z. bind (compound_made k old y z) (write x))))
+      (place_run c p q)
       (λ x. then_on (source.spot_read t x.spot x.state) (λ old. then_on (expr_run c e old.state) (λ y. on_defined (compound_done k (type_of e) old.value y.value y.state) (written x.spot y.state))))
       (cp xs o r s q h) (λ x o1 r1 m1.
       sim-bind w d fit.sound (Values f flow) (Values f flow) xs o1 first.after.next r1 second (λ old v. bind (expr_made e v) (λ y z. bind (compound_made k old y z) (write first.value)))
@@ -142,22 +146,26 @@ module _ (w : Direction) (functions : List Signature) (c : source.Context) (d : 
       last : (x : source.Spot) (old : Value) (y : Valued) (o3 : Outputs) → IsSoundRun xs o3 → Holds f flow (read_origin xs o3) third.after.next third.after.carried y.state →
           Held (read_origin xs o3) third.after.next old second.value → Held (read_origin xs o3) third.after.next y.value third.value →
           SpotHeld (read_origin xs o3) third.after.next third.after.carried.variables x first.value → (z : Option Value) → compound_done k (type_of e) old y.value y.state ≡ z →
-          Simulates w d (Values f flow) xs o3 third.after.next (bind fourth (λ new z. bind (converted_made t new z) (spot_written t first.value))) (on_defined z (λ v. used (converted t v) (λ u. source.spot_written t x u y.state)))
+          Simulates w d (Values f flow) xs o3 third.after.next (bind fourth (λ new z. bind (converted_made t new z) (spot_written t first.value)))
+          (on_defined z (λ v. used (converted t v) (λ u. source.spot_written t x u y.state)))
       last x old y o3 r3 h3 g g' spot None z = tt
       last x old y o3 r3 h3 g g' spot (Some v) z =
           line-then w d f flow fit.sound (Values f flow) xs o3 third.after.next r3 fourth (λ new z. bind (converted_made t new z) (spot_written t first.value)) y.state v
           (used (converted t v) (λ u. source.spot_written t x u y.state))
           (compound-line w d f flow fit.sound xs o3 r3 third.after y.state h3 k (type_of e) second.value third.value old y.value v g g' z) (λ o4 r4 m4.
           converted-then t xs o4 r4 fourth.after y.state m4.post.0 v fourth.value m4.post.1 (spot_written t first.value) (λ u. source.spot_written t x u y.state) (λ o5 r5 m5.
-          spot-written-sim w d f flow fit.sound xs o5 r5 (converted_made t fourth.value fourth.after).after y.state m5.post.0 t x first.value (converted t v) (converted_made t fourth.value fourth.after).value
+          spot-written-sim w d f flow fit.sound xs o5 r5 (converted_made t fourth.value fourth.after).after y.state m5.post.0 t x first.value (converted t v)
+          (converted_made t fourth.value fourth.after).value
           (spot-after (Line f flow y.state (converted t v)) xs o4 fourth.after (converted_made t fourth.value fourth.after) tt o5 m5 (converted_later t fourth.value fourth.after) x first.value
           (spot-after (Line f flow y.state v) xs o3 third.after fourth tt o4 m4 (compound_later k second.value third.value third.after) x first.value spot)) m5.post.1))
 
-  pub inc-dec-form : (defs : Definitions) (t : TypeTree) (i : IncDec) (p : PlaceTree) → IncDecFits defs i.by t → PlaceClaim w functions c d fit f flow p → FormClaim w functions c d fit f flow t (inc_dec i p)
+  pub inc-dec-form : (defs : Definitions) (t : TypeTree) (i : IncDec) (p : PlaceTree) → IncDecFits defs i.by t → PlaceClaim w functions c d fit f flow p →
+      FormClaim w functions c d fit f flow t (inc_dec i p)
   inc-dec-form defs t i p fits cp xs o r s q h =
       typed-of w functions c d fit f flow t xs o s.next (form_made t (inc_dec i p) s) (form_run c t (inc_dec i p) q)
       (sim-bind w d fit.sound (Places f flow) (Values f flow) xs o s.next r first
-      (λ x u. bind (spot_read t x u) (λ old v. bind (stepped_made i old v) (λ new y. bind (converted_made t new y) (λ c z. bind (spot_written t x c z) (λ _ y. given (if i.gives_old then old else c) y)))))
+      (λ x u. bind (spot_read t x u) (λ old v. bind (stepped_made i old v) (λ new y. bind (converted_made t new y)
+      (λ c z. bind (spot_written t x c z) (λ _ y. given (if i.gives_old then old else c) y)))))
       (place_run c p q) (λ x. then_on (source.spot_read t x.spot x.state) (λ old. on_defined (stepped i t old.value old.state) (written x.spot old))) (cp xs o r s q h) (λ x o1 r1 m1.
       sim-bind w d fit.sound (Values f flow) (Values f flow) xs o1 first.after.next r1 second
       (λ old v. bind (stepped_made i old v) (λ new y. bind (converted_made t new y) (λ c z. bind (spot_written t first.value c z) (λ _ y. given (if i.gives_old then old else c) y))))
@@ -202,7 +210,8 @@ module _ (w : Direction) (functions : List Signature) (c : source.Context) (d : 
           let u : Value = converted t v in
           let fifth : Built Origin = spot_written t first.value fourth.value fourth.after in
           let before : Held (read_origin xs o4) fourth.after.next old.value second.value =
-          held-after (Line f flow old.state u) xs o3 third.after.next fourth tt o4 m4 old.value second.value (held-after (Line f flow old.state v) xs o2 second.after.next third tt o3 m3 old.value second.value g) in
+          held-after (Line f flow old.state u) xs o3 third.after.next fourth tt o4 m4 old.value second.value
+          (held-after (Line f flow old.state v) xs o2 second.after.next third tt o3 m3 old.value second.value g) in
           sim-bind w d fit.sound (Values f flow) (Values f flow) xs o4 fourth.after.next r4 fifth (λ _ y. given (if i.gives_old then second.value else fourth.value) y)
           (source.spot_written t x u old.state) (λ y. gives y.state (if i.gives_old then old.value else u))
           (spot-written-sim w d f flow fit.sound xs o4 r4 fourth.after old.state m4.post.0 t x first.value u fourth.value

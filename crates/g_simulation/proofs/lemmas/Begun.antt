@@ -64,7 +64,8 @@ module _ (w : Direction) (functions : List Signature) (c : source.Context) (d : 
       BeginsClaim w functions c d fit hs n m (variable_begun is_object k e) (λ q. source_stmt.begun c is_object k e.initial q)
   variable-sim e false k h xs o r s q g = value-sim e.names_itself e.initial h xs o r s q g
   variable-sim e true k h xs o r s q g =
-      subst (λ a. Simulates w d (Stepped (framed hs (suc n) m) normal) xs o s.next (object_begun k e.initial (pushed (object k) s)) (source_stmt.object_begun c (a.local k) e.initial (in_scope q (source_state.object k))))
+      subst (λ a. Simulates w d (Stepped (framed hs (suc n) m) normal) xs o s.next (object_begun k e.initial (pushed (object k) s))
+      (source_stmt.object_begun c (a.local k) e.initial (in_scope q (source_state.object k))))
       (sym fit.addresses)
       (object-sim k e.initial h xs o r (pushed (object k) s) (in_scope q (source_state.object k)) (holds-push-object hs n m normal (read_origin xs o) s.next s q k g))
 

@@ -72,7 +72,7 @@ object-size defs (x ∷ vs) (suc n) v e o =
 
 -- ---- elements stand within it
 
-order-rises : (low high : ℕ) (ls : List Leaf) → AreInOrder low high ls → low ≤ high
+pub order-rises : (low high : ℕ) (ls : List Leaf) → AreInOrder low high ls → low ≤ high
 order-rises low high [] h = h
 order-rises low high (l ∷ ls) h = let r = order-rises (l.offset + l.width) high ls h.1 in omega (arith, r, h.0.above)
 

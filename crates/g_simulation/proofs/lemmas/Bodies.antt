@@ -47,7 +47,8 @@ abbrev IsPlain : (follows : Bool) → StmtTree → Type 0
 IsPlain true a = Unit {0}
 IsPlain false a = is_return a ≡ false
 
-plain-then : (follows : Bool) (vs : List VariableTree) (a : StmtTree) (rest : Point → Built Origin) (s : Point) → IsPlain follows a → straight_then follows vs a rest s ≡ bind (stmt_made vs a s) (λ _ t. rest t)
+plain-then : (follows : Bool) (vs : List VariableTree) (a : StmtTree) (rest : Point → Built Origin) (s : Point) → IsPlain follows a → straight_then follows vs a rest s ≡ bind (stmt_made vs a s)
+    (λ _ t. rest t)
 plain-then true vs a rest s h = refl
 plain-then false vs (return_value e) rest s h = absurd cc
 plain-then false vs return_none rest s h = absurd cc
@@ -86,12 +87,14 @@ module _ (w : Direction) (functions : List Signature) (c : source.Context) (d : 
           sim-goes w d (Line (framed [] n false) normal q Bad) (Ends false) xs o s.next (undef_made s) (Returned tt []) (λ _. record { flow = normal; state = q })
           (λ y o' k. (k.post.0.memory, k.post.0.io, k.post.1)) (undef-line w d (framed [] n false) normal xs o s q h)
 
-  pub body-value : (vs : List VariableTree) (n : ℕ) (e : ExprTree) → IsScalar (type_of e) → ExprClaim w functions c d fit (framed [] n m) normal e → BodyClaim vs n (stmt_then (return_value e) no_items)
+  pub body-value : (vs : List VariableTree) (n : ℕ) (e : ExprTree) → IsScalar (type_of e) → ExprClaim w functions c d fit (framed [] n m) normal e →
+      BodyClaim vs n (stmt_then (return_value e) no_items)
   body-value vs n e scalar k xs o r s q h z =
       subst (λ a. Simulates w d (Ends m) xs o s.next (expr_made e s) a)
       (sym (then_associates (expr_run c e q) (λ x. used x.value (λ v. flows x.state (returned (Some v)))) (λ x. if_normal x.flow x.state (items_run c vs no_items))))
       (sim-alone (Typed (framed [] n m) normal (type_of e)) (Ends m) xs o s.next (expr_made e s) (expr_run c e q)
-      (λ x. then_on (used x.value (λ v. flows x.state (returned (Some v)))) (λ x. if_normal x.flow x.state (items_run c vs no_items))) (k xs o r s q h) (λ y o' t. by y.value y.state o' t.rises t.stay t.post.0
+      (λ x. then_on (used x.value (λ v. flows x.state (returned (Some v)))) (λ x. if_normal x.flow x.state (items_run c vs no_items))) (k xs o r s q h)
+      (λ y o' t. by y.value y.state o' t.rises t.stay t.post.0
       (shown-held (read_origin xs o') (expr_made e s).after.next (type_of e) y.value (expr_made e s).value scalar t.post.1)))
     where
       by : (v : Value) (u : State) (o' : Outputs) → s.next ≤ (expr_made e s).after.next → Stay s.next o o' →
@@ -107,20 +110,25 @@ module _ (w : Direction) (functions : List Signature) (c : source.Context) (d : 
       (λ y o' k. (k.post.0.memory, k.post.0.io, k.post.1)) (undef-line w d (framed [] n m) normal xs o s q h)
 
   -- a statement that does not return, and the rest
-  pub body-then : (vs : List VariableTree) (n : ℕ) (a : StmtTree) (is : ItemTrees) → IsPlain (some_items is) a → stmt_jumps a ≡ false → StmtClaim w functions c d fit (framed [] n m) vs a → BodyClaim vs n is →
+  pub body-then : (vs : List VariableTree) (n : ℕ) (a : StmtTree) (is : ItemTrees) → IsPlain (some_items is) a → stmt_jumps a ≡ false → StmtClaim w functions c d fit (framed [] n m) vs a →
+      BodyClaim vs n is →
       BodyClaim vs n (stmt_then a is)
   body-then vs n a is plain none ca cis xs o r s q h e =
       subst (λ b. Simulates w d (Ends m) xs o s.next b (items_run c vs (stmt_then a is) q)) (sym (plain-then (some_items is) vs a (straight_made m vs is) s plain))
       (sim-bind w d fit.sound (Flows (framed [] n m)) (Ends m) xs o s.next r (stmt_made vs a s) (λ _ t. straight_made m vs is t) (stmt_run c vs a q) (λ x. if_normal x.flow x.state (items_run c vs is))
       (ca xs o r s q h (may_stay s.carried.form (stmt_jumps a) none)) (λ y o' r' t.
       let form : (stmt_made vs a s).after.carried.form ≡ straight = (stmt_later vs a s).form ∙ e in
-      let flow : y.flow ≡ normal = subst (λ x. JumpsHeld (read_origin xs o') (stmt_made vs a s).after.next m y.flow x (stmt_made vs a s).after.carried.go (stmt_made vs a s).after.carried.ret) form t.post.0.jumps in
+      let flow : y.flow ≡ normal = subst (λ x. JumpsHeld (read_origin xs o') (stmt_made vs a s).after.next m y.flow x (stmt_made vs a s).after.carried.go
+      (stmt_made vs a s).after.carried.ret) form t.post.0.jumps in
       subst (λ x. Simulates w d (Ends m) xs o' (stmt_made vs a s).after.next (straight_made m vs is (stmt_made vs a s).after) (if_normal x y.state (items_run c vs is))) (sym flow)
-      (cis xs o' r' (stmt_made vs a s).after y.state (subst (λ x. Holds (framed [] n m) x (read_origin xs o') (stmt_made vs a s).after.next (stmt_made vs a s).after.carried y.state) flow t.post.0) form)))
+      (cis xs o' r' (stmt_made vs a s).after y.state (subst (λ x. Holds (framed [] n m) x (read_origin xs o') (stmt_made vs a s).after.next
+      (stmt_made vs a s).after.carried y.state) flow t.post.0) form)))
 
-  pub body-declare : (vs : List VariableTree) (n : ℕ) (e : DeclarationTree) (is : ItemTrees) → DeclarationClaim w functions c d fit [] n m vs e → BodyClaim vs (suc n) is → BodyClaim vs n (declare_then e is)
+  pub body-declare : (vs : List VariableTree) (n : ℕ) (e : DeclarationTree) (is : ItemTrees) → DeclarationClaim w functions c d fit [] n m vs e → BodyClaim vs (suc n) is →
+      BodyClaim vs n (declare_then e is)
   body-declare vs n e is ce cis xs o r s q h z =
-      sim-bind w d fit.sound (Stepped (framed [] (suc n) m) normal) (Ends m) xs o s.next r (declared_made vs e s) (λ _ t. straight_made m vs is t) (declared c vs e.variable (slice_get vs e.variable) e.initial q)
+      sim-bind w d fit.sound (Stepped (framed [] (suc n) m) normal) (Ends m) xs o s.next r (declared_made vs e s) (λ _ t. straight_made m vs is t)
+      (declared c vs e.variable (slice_get vs e.variable) e.initial q)
       (λ t. then_on (items_run c vs is t) (out_of_scope (length q.slots))) (ce xs o r s q h) (λ t o' r' k.
       sim-goes w d (Ends m) (Ends m) xs o' (declared_made vs e s).after.next (straight_made m vs is (declared_made vs e s).after) (items_run c vs is t)
       (λ x. record { flow = x.flow; state = with_slots x.state (take (length q.slots) x.state.slots) }) (λ y o'' k'. k'.post)
@@ -129,7 +137,8 @@ module _ (w : Direction) (functions : List Signature) (c : source.Context) (d : 
   -- ---- functions with `go` and `ret`
 
   -- `ret` carries what the function gives
-  pub jumping-ends : (vs : List VariableTree) (n : ℕ) (is : ItemTrees) → ItemsClaim w functions c d fit (framed [] n m) vs is → (xs : List Datum) (o : Outputs) → IsSoundRun xs o → (s : Point) (q : State) →
+  pub jumping-ends : (vs : List VariableTree) (n : ℕ) (is : ItemTrees) → ItemsClaim w functions c d fit (framed [] n m) vs is → (xs : List Datum) (o : Outputs) → IsSoundRun xs o → (s : Point)
+      (q : State) →
       Holds (framed [] n m) normal (read_origin xs o) s.next s.carried q → s.carried.form ≡ jumping →
       Simulates w d (Ends m) xs o s.next (bind (items_made vs is s) (λ _ u. given u.carried.ret u)) (items_run c vs is q)
   jumping-ends vs n is k xs o r s q h e =
@@ -147,16 +156,19 @@ module _ (w : Direction) (functions : List Signature) (c : source.Context) (d : 
   pub jumps-begin : (n : ℕ) (xs : List Datum) (o : Outputs) → IsSoundRun xs o → (s : Point) (q : State) → Holds (framed [] n m) normal (read_origin xs o) s.next s.carried q →
       Simulates w d (Stepped (framed [] n m) normal) xs o s.next (jumps_begun m s) (Returned q [])
   jumps-begin n xs o r s q h =
-      line-then w d (framed [] n m) normal fit.sound (Stepped (framed [] n m) normal) xs o s.next r first (λ g t. bind (end_value m t) (λ x u. nothing (with_jumps u jumping g x))) q (Num 0) (Returned q [])
+      line-then w d (framed [] n m) normal fit.sound (Stepped (framed [] n m) normal) xs o s.next r first (λ g t. bind (end_value m t) (λ x u. nothing (with_jumps u jumping g x))) q (Num 0)
+      (Returned q [])
       (const-line w d (framed [] n m) normal xs o s q h 0) (λ o1 r1 t1.
-      line-then w d (framed [] n m) normal fit.sound (Stepped (framed [] n m) normal) xs o1 first.after.next r1 second (λ x u. nothing (with_jumps u jumping first.value x)) q (value_or_none (value_at_end m normal))
+      line-then w d (framed [] n m) normal fit.sound (Stepped (framed [] n m) normal) xs o1 first.after.next r1 second (λ x u. nothing (with_jumps u jumping first.value x)) q
+      (value_or_none (value_at_end m normal))
       (Returned q []) (ending m o1 t1.post.0) (λ o2 r2 t2.
       sim-given w d (Stepped (framed [] n m) normal) xs o2 second.after.next tt (with_jumps second.after jumping first.value second.value) q (omega arith) (
         record {
           slots = t2.post.0.slots;
           count = t2.post.0.count;
           jumps = (
-            held-is (read_origin xs o2) second.after.next (Num 0) first.value tt (held-after (Line (framed [] n m) normal q (value_or_none (value_at_end m normal))) xs o1 first.after.next second tt o2 t2 (Num 0) first.value t1.post.1),
+            held-is (read_origin xs o2) second.after.next (Num 0) first.value tt (held-after (Line (framed [] n m) normal q
+                (value_or_none (value_at_end m normal))) xs o1 first.after.next second tt o2 t2 (Num 0) first.value t1.post.1),
             (held-after (Line (framed [] n m) normal q (value_or_none (value_at_end m normal))) xs o1 first.after.next second tt o2 t2 (Num 0) first.value t1.post.1).below,
             t2.post.1,
           );

@@ -50,7 +50,8 @@ module _ (w : Direction) (d : Context) (f : Frame) (flow : Flow) (xs : List Datu
   same-after : (ys : List Datum) → Keeps s.next (read xs o) (read xs (extended o s.next ys))
   same-after ys = stay-keeps s.next xs o (extended o s.next ys) (extended-stay o s.next ys)
 
-  pub apply-sim : (functions : List Signature) (c : source.Context) → ContextsFit w functions c d → (k : ℕ) (callee : Signature) → slice_get functions k ≡ Some callee → (vs : List Value) (ps : List Origin) →
+  pub apply-sim : (functions : List Signature) (c : source.Context) → ContextsFit w functions c d → (k : ℕ) (callee : Signature) → slice_get functions k ≡ Some callee → (vs : List Value)
+      (ps : List Origin) →
       length vs ≡ length callee.params → AllCarried (read xs o) s.next vs ps →
       Simulates w d (Values f flow) xs o s.next (apply_made k ps s) (then_on (c.calls k vs q.memory q.input) (back_from q))
   apply-sim functions c fit k callee there vs ps count carried =
@@ -84,7 +85,8 @@ module _ (w : Direction) (d : Context) (f : Frame) (flow : Flow) (xs : List Datu
       by [] e =
           sim-node w d (Values f flow) xs o s Get (s.carried.io ∷ []) (Out s.next 0) s.carried.memory (Out s.next 1) (record { value = Num (2 ^ 32 - 1); state = q }) ys []
           ((λ j. on_input (h.io j) graph.got) ∙ ap graph.got e) (
-            holds-states f flow (read xs o) (read xs (extended o s.next ys)) s q q.memory q.input s.carried.memory (Out s.next 1) (same-after ys) h (same-after ys s.carried.memory h.memory_below ∙ h.memory)
+            holds-states f flow (read xs o) (read xs (extended o s.next ys)) s q q.memory q.input s.carried.memory (Out s.next 1) (same-after ys) h
+                (same-after ys s.carried.memory h.memory_below ∙ h.memory)
                 (below-later s.next (suc s.next) s.carried.memory (omega arith) h.memory_below) (extended-here o s.next ys 1 ∙ ap input (sym e)) (omega arith),
             record { far = Num (2 ^ 32 - 1); is = extended-here o s.next ys 0; less = inl refl; below = omega arith },
           )

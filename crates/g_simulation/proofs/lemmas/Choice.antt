@@ -81,7 +81,8 @@ module _ (w : Direction) (d : Context) (f : Frame) where
       (λ o. map (read us o) (x.results b.value ++ carried_origins b.after.carried)) h (λ y o r. record { outputs = o; ran = r; is = refl })
 
   -- a Gamma of which one region is known
-  pub gamma-sim : {B A : Type 0} → (flow : B → Flow) (state : B → State) (V W : Gift B A) (x : Extra A) (xs : List Datum) (o : Outputs) (s : Point) (p : Origin) (r : Regions) (n j : ℕ) (g : Point → Built A)
+  pub gamma-sim : {B A : Type 0} → (flow : B → Flow) (state : B → State) (V W : Gift B A) (x : Extra A) (xs : List Datum) (o : Outputs) (s : Point) (p : Origin) (r : Regions) (n j : ℕ)
+      (g : Point → Built A)
       (a : Answer B) → ExtraGives x xs o s.next V W → read xs o p ≡ val (Num j) → suc s.next ≤ r.next → s.next ≤ n → Keeps g →
       ((us : List Datum) → chosen j (meanings d (regions_of r.regions)) us ≡ region_meaning d (region_made x s.carried (g (inside s.carried n))) us) →
       Simulates w d (After f flow state V) (map (read xs o) (carried_origins s.carried)) no_outputs n (g (inside s.carried n)) a →

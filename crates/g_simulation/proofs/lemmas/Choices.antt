@@ -40,7 +40,8 @@ region-at d x k n (suc j) g (f ∷ f' ∷ fs) e h =
 
 module _ (w : Direction) (d : Context) (f : Frame) where
   pub choices-sim : {B A : Type 0} → (flow : B → Flow) (state : B → State) (V W : Gift B A) (x : Extra A) (xs : List Datum) (o : Outputs) → IsSoundRun xs o → (s : Point) (p : Origin) (j : ℕ)
-      (g : Point → Built A) (fs : List (Point → Built A)) (a : Answer B) (now : Flow) (q : State) → ExtraGives x xs o s.next V W → read xs o p ≡ val (Num j) → slice_get fs j ≡ Some g → Keeps g → EachKeeps fs →
+      (g : Point → Built A) (fs : List (Point → Built A)) (a : Answer B) (now : Flow) (q : State) → ExtraGives x xs o s.next V W → read xs o p ≡ val
+      (Num j) → slice_get fs j ≡ Some g → Keeps g → EachKeeps fs →
       Holds f now (read xs o) s.next s.carried q →
       ((us : List Datum) (n : ℕ) → IsSoundRun us no_outputs → Holds f now (read us no_outputs) n (inside s.carried n).carried q →
       Simulates w d (After f flow state V) us no_outputs n (g (inside s.carried n)) a) →

@@ -74,7 +74,8 @@ module _ (hs : List ℕ) (n : ℕ) (m : Bool) (flow : Flow) (rd : Origin → Dat
         io_below = h.io_below;
       }
 
-  holds-push : (v : Value) (p : Origin) → Held rd k v p → Holds (framed hs n m) flow rd k t.carried q → Holds (framed hs (suc n) m) flow rd k (pushed (held p) t).carried (in_scope q (source_state.holds v))
+  holds-push : (v : Value) (p : Origin) → Held rd k v p → Holds (framed hs n m) flow rd k t.carried q →
+      Holds (framed hs (suc n) m) flow rd k (pushed (held p) t).carried (in_scope q (source_state.holds v))
   holds-push v p g h =
       record {
         slots = slots-add rd k t.carried.variables hs q.slots v p g h.slots;
@@ -151,10 +152,12 @@ module _ (w : Direction) (functions : List Signature) (c : source.Context) (d : 
   pub value-begun : (e : ExprTree) → IsScalar (type_of e) → ExprClaim w functions c d fit (with_waiting hs n m) normal e →
       BeginsClaim (value_begun false (initial_value e)) (λ q. source_stmt.value_begun c (initial_value e) (in_scope q (source_state.holds Bad)))
   value-begun e scalar k xs o r s q h =
-      sim-bind w d fit.sound (Typed (with_waiting hs n m) normal (type_of e)) (Stepped g normal) xs o s.next r first (λ v t. nothing (pushed (held v) t)) (expr_run c e (in_scope q (source_state.holds Bad)))
+      sim-bind w d fit.sound (Typed (with_waiting hs n m) normal (type_of e)) (Stepped g normal) xs o s.next r first (λ v t. nothing (pushed (held v) t))
+      (expr_run c e (in_scope q (source_state.holds Bad)))
       (λ x. used x.value (λ v. Returned (newest_written x.state v) []))
       (k xs o r s (in_scope q (source_state.holds Bad)) (holds-wait hs n m normal (read_origin xs o) s.next s q h)) (λ y o' r' m'.
-      used-there w (Ran (Stepped g normal) xs o' first.after.next (nothing (pushed (held first.value) first.after))) y.value (λ v. Returned (newest_written y.state v) []) (nodes_run d (nodes_of []) xs o') (λ there.
+      used-there w (Ran (Stepped g normal) xs o' first.after.next (nothing (pushed (held first.value) first.after))) y.value (λ v. Returned (newest_written y.state v) [])
+      (nodes_run d (nodes_of []) xs o') (λ there.
       sim-given w d (Stepped g normal) xs o' first.after.next tt (pushed (held first.value) first.after) (newest_written y.state y.value) (omega arith) (
         holds-begun hs n m normal (read_origin xs o') first.after.next first.after y.state y.value first.value
             (shown-held (read_origin xs o') first.after.next (type_of e) y.value first.value scalar m'.post.1) m'.post.0,
@@ -170,10 +173,12 @@ module _ (w : Direction) (functions : List Signature) (c : source.Context) (d : 
   named-begun e scalar k xs o r s q h =
       line-then w d f normal fit.sound (Stepped g normal) xs o s.next r first (λ p t. bind (expr_made e (pushed (held p) t)) (λ v u. nothing (newest_set (held v) u))) q Bad
       (source_stmt.value_begun c (initial_value e) (in_scope q (source_state.holds Bad))) (undef-line w d f normal xs o s q h) (λ o1 r1 m1.
-      sim-bind w d fit.sound (Typed g normal (type_of e)) (Stepped g normal) xs o1 first.after.next r1 second (λ v u. nothing (newest_set (held v) u)) (expr_run c e (in_scope q (source_state.holds Bad)))
+      sim-bind w d fit.sound (Typed g normal (type_of e)) (Stepped g normal) xs o1 first.after.next r1 second (λ v u. nothing (newest_set (held v) u))
+      (expr_run c e (in_scope q (source_state.holds Bad)))
       (λ x. used x.value (λ v. Returned (newest_written x.state v) []))
       (k xs o1 r1 start (in_scope q (source_state.holds Bad)) (holds-push hs n m normal (read_origin xs o1) first.after.next first.after q Bad first.value m1.post.1 m1.post.0)) (λ y o2 r2 m2.
-      used-there w (Ran (Stepped g normal) xs o2 second.after.next (nothing (newest_set (held second.value) second.after))) y.value (λ v. Returned (newest_written y.state v) []) (nodes_run d (nodes_of []) xs o2) (λ there.
+      used-there w (Ran (Stepped g normal) xs o2 second.after.next (nothing (newest_set (held second.value) second.after))) y.value (λ v. Returned (newest_written y.state v) [])
+      (nodes_run d (nodes_of []) xs o2) (λ there.
       sim-given w d (Stepped g normal) xs o2 second.after.next tt (newest_set (held second.value) second.after) (newest_written y.state y.value) (omega arith) (
         holds-newest hs n m normal (read_origin xs o2) second.after.next second.after y.state y.value second.value
             (newest-later first.after second.after (held first.value) tt (expr_later e start))
@@ -192,16 +197,19 @@ module _ (w : Direction) (functions : List Signature) (c : source.Context) (d : 
 
   -- ---- the items in scope
 
-  pub declare-then : (vs : List VariableTree) (e : DeclarationTree) (is : ItemTrees) → DeclarationClaim vs e → ItemsClaim w functions c d fit g vs is → ItemsClaim w functions c d fit f vs (declare_then e is)
+  pub declare-then : (vs : List VariableTree) (e : DeclarationTree) (is : ItemTrees) → DeclarationClaim vs e → ItemsClaim w functions c d fit g vs is →
+      ItemsClaim w functions c d fit f vs (declare_then e is)
   declare-then vs e is ce cis xs o r s q h j =
-      sim-bind w d fit.sound (Stepped g normal) (Flows f) xs o s.next r first (λ _ t. bind (items_made vs is t) (λ _ u. nothing (popped u))) (declared c vs e.variable (slice_get vs e.variable) e.initial q)
+      sim-bind w d fit.sound (Stepped g normal) (Flows f) xs o s.next r first (λ _ t. bind (items_made vs is t) (λ _ u. nothing (popped u)))
+      (declared c vs e.variable (slice_get vs e.variable) e.initial q)
       (λ t. then_on (items_run c vs is t) (out_of_scope (length q.slots))) (ce xs o r s q h) (λ t o1 r1 m1.
       sim-bind w d fit.sound (Flows g) (Flows f) xs o1 first.after.next r1 second (λ _ u. nothing (popped u)) (items_run c vs is t) (out_of_scope (length q.slots))
       (cis xs o1 r1 first.after t m1.post.0 (may-later (pushed (declared_shape vs e) s) first.after (items_jump is) (declared_later vs e s) j)) (λ y o2 r2 m2.
       sim-given w d (Flows f) xs o2 second.after.next tt (popped second.after) (record { flow = y.flow; state = with_slots y.state (take (length q.slots) y.state.slots) }) (omega arith) (
         subst (λ i. Holds f y.flow (read_origin xs o2) second.after.next (popped second.after).carried (with_slots y.state (take i y.state.slots))) (sym count)
             (holds-pop hs n m y.flow (read_origin xs o2) second.after.next second.after y.state
-            (newest-later s second.after (declared_shape vs e) (shape-has-slot vs e.variable (slice_get vs e.variable)) (later_then (pushed (declared_shape vs e) s) first.after second.after (declared_later vs e s) (items_later vs is first.after)))
+            (newest-later s second.after (declared_shape vs e) (shape-has-slot vs e.variable (slice_get vs e.variable))
+            (later_then (pushed (declared_shape vs e) s) first.after second.after (declared_later vs e s) (items_later vs is first.after)))
             m2.post.0),
         tt,
       )))

@@ -47,9 +47,11 @@ module _ (w : Direction) (g : Scope) (c : source.Context) (d : Context) (fit : C
 
   at-place : (t : TypeTree) (e : ExprTree) → type_of e ≡ pointer_to t → ExprClaim w g.functions c d fit f flow e → PlaceClaim w g.functions c d fit f flow (place t (at e))
   at-place t e z claim xs o r s q h =
-      sim-bind w d fit.sound (Typed f flow (type_of e)) (Places f flow) xs o s.next r first (λ a u. given (at_address a) u) (expr_run c e q) (λ x. used x.value (λ a. found x.state (source.at_address a)))
+      sim-bind w d fit.sound (Typed f flow (type_of e)) (Places f flow) xs o s.next r first (λ a u. given (at_address a) u) (expr_run c e q)
+      (λ x. used x.value (λ a. found x.state (source.at_address a)))
       (claim xs o r s q h) (λ y o' r' m.
-      used-there w (Ran (Places f flow) xs o' first.after.next (given (at_address first.value) first.after)) y.value (λ a. found y.state (source.at_address a)) (nodes_run d (nodes_of []) xs o') (λ there.
+      used-there w (Ran (Places f flow) xs o' first.after.next (given (at_address first.value) first.after)) y.value (λ a. found y.state (source.at_address a)) (nodes_run d (nodes_of []) xs o')
+      (λ there.
       sim-given w d (Places f flow) xs o' first.after.next (at_address first.value) first.after (record { spot = source.at_address y.value; state = y.state }) (omega arith)
       (m.post.0, shown-held (read_origin xs o') first.after.next (type_of e) y.value first.value (subst IsScalar (sym z) tt) m.post.1)))
     where

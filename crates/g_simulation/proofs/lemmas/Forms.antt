@@ -133,7 +133,8 @@ module _ (w : Direction) (functions : List Signature) (c : source.Context) (d : 
       by y o' r' m (Some b) z =
           sim-goes w d (Tests w d f flow fit.sound xs o' r' first.after y.state m.post.0 b) (Decides f flow) xs o' first.after.next (condition_made t first.value first.after) (Returned tt [])
           (λ _. record { truth = b; state = y.state }) (λ _ o'' m'. m'.post)
-          (condition-line w d f flow fit.sound xs o' r' first.after y.state m.post.0 t first.value y.value b scalar z (shown-held (read_origin xs o') first.after.next t y.value first.value scalar m.post.1))
+          (condition-line w d f flow fit.sound xs o' r' first.after y.state m.post.0 t first.value y.value b scalar z
+          (shown-held (read_origin xs o') first.after.next t y.value first.value scalar m.post.1))
 
   -- the word of an operand that is tested
   abbrev truth_made : ExprTree → Point → Built Origin
@@ -176,7 +177,8 @@ module _ (w : Direction) (functions : List Signature) (c : source.Context) (d : 
   and-form t a b ca cb xs o r s q h =
       typed-of t xs o s.next (form_made t (logical_and a b) s) (form_run c t (logical_and a b) q)
       (subst (λ z. Simulates w d (Values f flow) xs o s.next (form_made t (logical_and a b) s) z) (branched-decides (expr_run c a q) (type_of a) (truth_run b) (λ u. given_word u 0))
-      (sim-bind w d fit.sound (Decides f flow) (Values f flow) xs o s.next r first (λ p u. choice one_value u p (const_made 0) (truth_made b)) (test_run c a q) (ways (truth_run b) (λ u. given_word u 0))
+      (sim-bind w d fit.sound (Decides f flow) (Values f flow) xs o s.next r first (λ p u. choice one_value u p (const_made 0) (truth_made b)) (test_run c a q)
+      (ways (truth_run b) (λ u. given_word u 0))
       (ca xs o r s q h) (λ y o' r' m.
       ways-sim w d f (λ _. flow) (λ x. x.state) (OneValue (λ x. x.value)) (OneValue (λ x. x.value)) one_value xs o' r' first.after first.value (const_made 0) (truth_made b) flow y (truth_run b)
       (λ u. given_word u 0) (one_value-gives (λ x. x.value) xs o' first.after.next) (const_later 0) (truth-keeps b) m.post
@@ -190,7 +192,8 @@ module _ (w : Direction) (functions : List Signature) (c : source.Context) (d : 
   or-form t a b ca cb xs o r s q h =
       typed-of t xs o s.next (form_made t (logical_or a b) s) (form_run c t (logical_or a b) q)
       (subst (λ z. Simulates w d (Values f flow) xs o s.next (form_made t (logical_or a b) s) z) (branched-decides (expr_run c a q) (type_of a) (λ u. given_word u 1) (truth_run b))
-      (sim-bind w d fit.sound (Decides f flow) (Values f flow) xs o s.next r first (λ p u. choice one_value u p (truth_made b) (const_made 1)) (test_run c a q) (ways (λ u. given_word u 1) (truth_run b))
+      (sim-bind w d fit.sound (Decides f flow) (Values f flow) xs o s.next r first (λ p u. choice one_value u p (truth_made b) (const_made 1)) (test_run c a q)
+      (ways (λ u. given_word u 1) (truth_run b))
       (ca xs o r s q h) (λ y o' r' m.
       ways-sim w d f (λ _. flow) (λ x. x.state) (OneValue (λ x. x.value)) (OneValue (λ x. x.value)) one_value xs o' r' first.after first.value (truth_made b) (const_made 1) flow y
       (λ u. given_word u 1) (truth_run b) (one_value-gives (λ x. x.value) xs o' first.after.next) (truth-keeps b) (const_later 1) m.post
@@ -241,14 +244,16 @@ module _ (w : Direction) (functions : List Signature) (c : source.Context) (d : 
 
   pub arguments-then : (e : ExprTree) (es : ExprTrees) → IsScalar (type_of e) → ExprClaim e → ArgumentsClaim es → ArgumentsClaim (expr_then e es)
   arguments-then e es scalar ce ces xs o r s q h =
-      sim-bind w d fit.sound (Typed f flow (type_of e)) (AreGiven f flow (suc (length (types_of es)))) xs o s.next r first (λ x u. bind (arguments_made es u) (λ ys v. given (x ∷ ys) v)) (expr_run c e q)
+      sim-bind w d fit.sound (Typed f flow (type_of e)) (AreGiven f flow (suc (length (types_of es)))) xs o s.next r first (λ x u. bind (arguments_made es u) (λ ys v. given (x ∷ ys) v))
+      (expr_run c e q)
       (λ x. used x.value (λ v. then_on (arguments_run c es x.state) (λ y. Returned (record { values = v ∷ y.values; state = y.state }) []))) (ce xs o r s q h) (λ x o' r' m.
       used-there w (Ran (AreGiven f flow (suc (length (types_of es)))) xs o' first.after.next (rest first.value first.after)) x.value
       (λ v. then_on (arguments_run c es x.state) (λ y. Returned (record { values = v ∷ y.values; state = y.state }) [])) (nodes_run d (nodes_of (rest first.value first.after).nodes) xs o') (λ there.
       sim-bind w d fit.sound (AreGiven f flow (length (types_of es))) (AreGiven f flow (suc (length (types_of es)))) xs o' first.after.next r' second (λ ys v. given (first.value ∷ ys) v)
       (arguments_run c es x.state) (λ y. Returned (record { values = x.value ∷ y.values; state = y.state }) []) (ces xs o' r' first.after x.state m.post.0) (λ y o'' r'' m'.
       let held : Held (read_origin xs o') first.after.next x.value first.value = shown-held (read_origin xs o') first.after.next (type_of e) x.value first.value scalar m.post.1 in
-      let is : read_origin xs o'' first.value ≡ val x.value = stay-keeps first.after.next xs o' o'' m'.stay first.value held.below ∙ held-is (read_origin xs o') first.after.next x.value first.value there held in
+      let is : read_origin xs o'' first.value ≡ val x.value = stay-keeps first.after.next xs o' o'' m'.stay first.value held.below ∙ held-is
+      (read_origin xs o') first.after.next x.value first.value there held in
       sim-given w d (AreGiven f flow (suc (length (types_of es)))) xs o'' second.after.next (first.value ∷ second.value) second.after
       (record { values = x.value ∷ y.values; state = y.state }) (omega arith)
       (m'.post.0, ((is, below-later first.after.next second.after.next first.value m'.rises held.below), m'.post.1), ap suc m'.post.2))))

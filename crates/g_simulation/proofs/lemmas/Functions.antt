@@ -53,7 +53,8 @@ use Rattle.g_simulation.proofs.lemmas.Programs.{CallsFit, CallsAreSound, BodiesF
 -- ---- bodies without jumps
 
 -- a body without jumps but a last `return`
-straight-sim : (w : Direction) (c : source.Context) (d : Context) (m : Bool) (g : Scope) (fit : ContextsFit w g.functions c d) → ObjectsFit g d → (n : ℕ) → length g.slots ≡ n → (j : Jumps) (is : ItemTrees) →
+straight-sim : (w : Direction) (c : source.Context) (d : Context) (m : Bool) (g : Scope) (fit : ContextsFit w g.functions c d) → ObjectsFit g d → (n : ℕ) → length g.slots ≡ n → (j : Jumps)
+    (is : ItemTrees) →
     ItemsAreTyped g j is → ItemsHaveFewGroups is → body_jumps is ≡ false → BodyClaim w g.functions c d fit m g.variables n is
 straight-sim w c d m g fit objects n count j no_items h k e = body-end w g.functions c d fit m g.variables n
 straight-sim w c d m g fit objects n count j (stmt_then (return_value x) no_items) h k e =
@@ -118,7 +119,8 @@ module _ (p : ProgramTree) (typed : IsWellTyped p) (few : HasFewGroups p) (law :
   params-count : (k : ℕ) (t : FunctionTree) → slice_get p.functions k ≡ Some t → length (params_of t) ≡ t.params
   params-count k t there = length-take-le t.params t.variables (typed.functions k t there).params
 
-  module _ (w : Direction) (near far : ℕ) (fits : BoundsFit w near far) (calls : ℕ → Call) (call : ℕ → Meaning) (calls_fit : CallsFit w p calls call) (sound : CallsAreSound call) (f : ℕ) (t : FunctionTree)
+  module _ (w : Direction) (near far : ℕ) (fits : BoundsFit w near far) (calls : ℕ → Call) (call : ℕ → Meaning) (calls_fit : CallsFit w p calls call) (sound : CallsAreSound call) (f : ℕ)
+      (t : FunctionTree)
       (there : slice_get p.functions f ≡ Some t) (vs : List Value) (count : length vs ≡ t.params) (m : Blocks) (i : List ℕ) (taken_sound : AreSound (taken vs m i)) (is_main : Bool) where
     abbrev shapes : List BlockShape
     shapes = objects_of p.structs t.variables
@@ -183,7 +185,8 @@ module _ (p : ProgramTree) (typed : IsWellTyped p) (few : HasFewGroups p) (law :
     stores : (o : Outputs) → IsSoundRun us o → (s : Point) (q : State) → Holds (framed [] n is_main) normal (read_origin us o) s.next s.carried q →
         Simulates w d (Stepped (framed [] n is_main) normal) us o s.next (params_stored 0 0 (params_of t) s) (stored q)
     stores o r s q h =
-        subst (λ (a : Addresses). Simulates w d (Stepped (framed [] n is_main) normal) us o s.next (params_stored 0 0 (params_of t) s) (in_memory q (source_run.params_stored a.local 0 (params_of t) vs q.memory)))
+        subst (λ (a : Addresses). Simulates w d (Stepped (framed [] n is_main) normal) us o s.next (params_stored 0 0 (params_of t) s)
+        (in_memory q (source_run.params_stored a.local 0 (params_of t) vs q.memory)))
         (sym fit.addresses) (params-sim w g.functions c d fit n is_main 0 0 (params_of t) vs same-count' us o r (arguments-are vs entry i) s q h)
 
     abbrev made : Point → Built (Unit {0})
@@ -203,7 +206,8 @@ module _ (p : ProgramTree) (typed : IsWellTyped p) (few : HasFewGroups p) (law :
             (λ _ s. bind (made s) (λ _ u. bind (items_made t.variables t.body u) (λ _ v. given v.carried.ret v))) (Returned first []) (λ q. then_on (stored q) (items_run c t.variables t.body))
             (jumps-begin w g.functions c d fit is_main n us no_outputs run (start_of t) first begun) (λ q o r k.
             let s = (jumps_begun is_main (start_of t)).after in
-            sim-bind w d fit.sound (Stepped (framed [] n is_main) normal) (Ends is_main) us o s.next r (made s) (λ _ u. bind (items_made t.variables t.body u) (λ _ v. given v.carried.ret v)) (stored q)
+            sim-bind w d fit.sound (Stepped (framed [] n is_main) normal) (Ends is_main) us o s.next r (made s) (λ _ u. bind (items_made t.variables t.body u) (λ _ v. given v.carried.ret v))
+            (stored q)
             (items_run c t.variables t.body) (stores o r s q k.post.0) (λ y o' r' k'.
             jumping-ends w g.functions c d fit is_main t.variables n t.body
             (items-sim w c d is_main g fit fitting n refl (record { may_break = false; may_continue = false; result = t.result }) t.body (typed.functions f t there).body (few f t there) [])

@@ -51,7 +51,8 @@ module _ (w : Direction) (c : source.Context) (d : Context) (m : Bool) where
   step-claim g fit f count (some_expr e) h = expr-sim w g c d fit f count normal e h
 
   -- what a variable begins with
-  pub initial-claims : (g : Scope) (fit : ContextsFit w g.functions c d) → ObjectsFit g d → (n : ℕ) → length g.slots ≡ n → (hs : List ℕ) (number : ℕ) (v : VariableTree) → slice_get g.variables number ≡ Some v →
+  pub initial-claims : (g : Scope) (fit : ContextsFit w g.functions c d) → ObjectsFit g d → (n : ℕ) → length g.slots ≡ n → (hs : List ℕ) (number : ℕ) (v : VariableTree) →
+      slice_get g.variables number ≡ Some v →
       (t : TypeTree) (is_object names : Bool) (i : InitialTree) → v.is_object ≡ is_object → InitialFits (initial_scope names g v t) v i →
       InitialClaims w g.functions c d fit hs n m is_object names (object_number g.variables number) i
   initial-claims g fit objects n count hs number v there t false names no_initial z h = by names
@@ -80,7 +81,8 @@ module _ (w : Direction) (c : source.Context) (d : Context) (m : Bool) where
       (o.0, o.1, o.2, elements-claimed g fit (framed hs (suc n) m) (omega (arith, count)) es (leaves g.structs v.type) 0 h.1)
 
   mutual
-    pub stmt-sim : (g : Scope) (fit : ContextsFit w g.functions c d) → ObjectsFit g d → (n : ℕ) → length g.slots ≡ n → (j : Jumps) (a : StmtTree) → StmtIsTyped g j a → StmtHasFewGroups a → (hs : List ℕ) →
+    pub stmt-sim : (g : Scope) (fit : ContextsFit w g.functions c d) → ObjectsFit g d → (n : ℕ) → length g.slots ≡ n → (j : Jumps) (a : StmtTree) → StmtIsTyped g j a → StmtHasFewGroups a →
+        (hs : List ℕ) →
         StmtClaim w g.functions c d fit (framed hs n m) g.variables a
     stmt-sim g fit objects n count j null h k hs = null-stmt w g.functions c d fit (framed hs n m) g.variables
     stmt-sim g fit objects n count j (value e) h k hs =
@@ -101,9 +103,11 @@ module _ (w : Direction) (c : source.Context) (d : Context) (m : Bool) where
         return-value-stmt w g.functions c d fit (framed hs n m) g.variables e (subst IsScalar (sym h.1) h.2) (expr-sim w g c d fit (framed hs n m) (omega (arith, count)) normal e h.0)
     stmt-sim g fit objects n count j return_none h k hs = return-none-stmt w g.functions c d fit (framed hs n m) g.variables
     stmt-sim g fit objects n count j (switch e gs) h k hs =
-        switch-stmt w g.functions c d fit n m g.variables hs gs h.3 h.4 k.0 (groups-sim g fit objects n count (in_switch j) gs h.2 k.1) e h.1 (expr-sim w g c d fit (framed hs n m) (omega (arith, count)) normal e h.0)
+        switch-stmt w g.functions c d fit n m g.variables hs gs h.3 h.4 k.0 (groups-sim g fit objects n count (in_switch j) gs h.2 k.1) e h.1
+        (expr-sim w g c d fit (framed hs n m) (omega (arith, count)) normal e h.0)
 
-    pub items-sim : (g : Scope) (fit : ContextsFit w g.functions c d) → ObjectsFit g d → (n : ℕ) → length g.slots ≡ n → (j : Jumps) (is : ItemTrees) → ItemsAreTyped g j is → ItemsHaveFewGroups is → (hs : List ℕ) →
+    pub items-sim : (g : Scope) (fit : ContextsFit w g.functions c d) → ObjectsFit g d → (n : ℕ) → length g.slots ≡ n → (j : Jumps) (is : ItemTrees) → ItemsAreTyped g j is → ItemsHaveFewGroups is →
+        (hs : List ℕ) →
         ItemsClaim w g.functions c d fit (framed hs n m) g.variables is
     items-sim g fit objects n count j no_items h k hs = no-items w g.functions c d fit (framed hs n m) g.variables
     items-sim g fit objects n count j (stmt_then a is) h k hs =

@@ -35,7 +35,8 @@ jump-left-same true = (refl, refl)
 jump-left-same false = (refl, refl)
 
 -- `go` and `ret` where the function has them
-pub jumps-of : (rd : Origin → Datum) (n : ℕ) (is_main : Bool) (flow : Flow) (form : Form) (g r : Origin) → form ≡ jumping → JumpsHeld rd n is_main flow form g r → JumpsHeld rd n is_main flow jumping g r
+pub jumps-of : (rd : Origin → Datum) (n : ℕ) (is_main : Bool) (flow : Flow) (form : Form) (g r : Origin) → form ≡ jumping → JumpsHeld rd n is_main flow form g r →
+    JumpsHeld rd n is_main flow jumping g r
 jumps-of rd n is_main flow form g r e h = subst (λ x. JumpsHeld rd n is_main flow x g r) e h
 
 pub holds-jump : (f : Frame) (now flow : Flow) (rd : Origin → Datum) (n : ℕ) (t : Point) (q : State) (g r : Origin) → t.carried.form ≡ jumping → Holds f now rd n t.carried q →

@@ -70,17 +70,20 @@ Left e broke = e.breaks ≡ true
 Left e continued = ⊥
 Left e (returned v) = e.returns ≡ true
 
-turn-left : (e : Exits) (f : Flow) (s : State) (again : State → Answer Flowed) → Allows e f → ((u : State) → Gives (λ (x : Flowed). Left e x.flow) (again u)) → Gives (λ (x : Flowed). Left e x.flow) (after_turn f s again)
+turn-left : (e : Exits) (f : Flow) (s : State) (again : State → Answer Flowed) → Allows e f → ((u : State) → Gives (λ (x : Flowed). Left e x.flow) (again u)) → Gives (λ (x : Flowed). Left e x.flow)
+    (after_turn f s again)
 turn-left e normal s again h go = go s
 turn-left e continued s again h go = go s
 turn-left e broke s again h go = h
 turn-left e (returned v) s again h go = h
 
-while-gives : (P : Flowed → Type 0) (c : Context) (d : OptionalExpr) (turn : State → Answer Flowed) (s : State) → ((u : State) → Gives P (turn u)) → ((u : State) → P (record { flow = normal; state = u })) →
+while-gives : (P : Flowed → Type 0) (c : Context) (d : OptionalExpr) (turn : State → Answer Flowed) (s : State) → ((u : State) → Gives P (turn u)) →
+    ((u : State) → P (record { flow = normal; state = u })) →
     Gives P (while_true c d turn s)
 while-gives P c no_expr turn s go ends = go s
 while-gives P c (some_expr e) turn s go ends =
-    after-any P (expr_run c e s) (λ x. branched (type_of e) x.value (turn x.state) (goes_on x.state)) (λ x. branched-gives P (type_of e) x.value (turn x.state) (goes_on x.state) (go x.state) (ends x.state))
+    after-any P (expr_run c e s) (λ x. branched (type_of e) x.value (turn x.state) (goes_on x.state))
+    (λ x. branched-gives P (type_of e) x.value (turn x.state) (goes_on x.state) (go x.state) (ends x.state))
 
 pub loop-left : (e : Exits) (n : ℕ) (c : Context) (d step : OptionalExpr) (body : State → Answer Flowed) → ((u : State) → EndsBy e (body u)) → (s : State) →
     Gives (λ x. Left e x.flow) (loop_run n c d step body s)

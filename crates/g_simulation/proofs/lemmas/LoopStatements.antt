@@ -77,14 +77,16 @@ module _ (w : Direction) (functions : List Signature) (c : source.Context) (d : 
   passed-sim flow n e no_expr xs o r s q h j = sim-given w d (Stepped f flow) xs o s.next tt s q (omega arith) (h, tt)
   passed-sim flow n e (some_expr x) xs o r s q h j =
       choice-sim w d f (λ (u : State). flow) (λ u. u) Nothing Nothing no_value xs o r s s.carried.go (suc n) (λ t. dropped (expr_made x t)) nothing (Returned q []) flow q
-      (no_value-gives xs o s.next) (subst (λ k. read_origin xs o s.carried.go ≡ val (Num k)) e (jumps-of (read_origin xs o) s.next f.is_main flow s.carried.form s.carried.go s.carried.ret j h.jumps).0)
+      (no_value-gives xs o s.next) (subst (λ k. read_origin xs o s.carried.go ≡ val (Num k)) e (jumps-of
+      (read_origin xs o) s.next f.is_main flow s.carried.form s.carried.go s.carried.ret j h.jumps).0)
       (λ t. dropped_later t (expr_made x t) (expr_later x t)) later_here h
       (λ us m r' h'. sim-given w d (Stepped f flow) us no_outputs m tt (inside s.carried m) q (omega arith) (h', tt))
 
   -- ---- after the body
 
   -- the turn goes on where `go` is 0
-  go-zero-sim : (flow : Flow) (again : Bool) → (one_if (code flow == 0) == 0) ≡ not again → (again ≡ true → flow ≡ normal) → (xs : List Datum) (o : Outputs) → IsSoundRun xs o → (s : Point) (q : State) →
+  go-zero-sim : (flow : Flow) (again : Bool) → (one_if (code flow == 0) == 0) ≡ not again → (again ≡ true → flow ≡ normal) → (xs : List Datum) (o : Outputs) → IsSoundRun xs o → (s : Point)
+      (q : State) →
       Holds f flow (read_origin xs o) s.next s.carried q → s.carried.form ≡ jumping →
       Simulates w d (Turns f) xs o s.next (is_zero_made s.carried.go s) (Returned (record { again = again; flow = flow; state = q }) [])
   go-zero-sim flow again z e xs o r s q h j =
@@ -96,7 +98,8 @@ module _ (w : Direction) (functions : List Signature) (c : source.Context) (d : 
   again-true-sim : (step : OptionalExpr) → StepClaim w functions c d fit f step → (flow : Flow) (xs : List Datum) (o : Outputs) → IsSoundRun xs o → (s : Point) (q : State) →
       Holds f flow (read_origin xs o) s.next s.carried q → s.carried.form ≡ jumping → Simulates w d (Turns f) xs o s.next (again_made true step s) (stepped_turn c step flow q)
   again-true-sim step k flow xs o r s q h j =
-      sim-bind w d fit.sound (Stepped f (resumed flow)) (Turns f) xs o s.next r first (λ _ t. bind (step_made true step t) (λ _ u. is_zero_made u.carried.go u)) (Returned q []) (stepped_turn c step flow)
+      sim-bind w d fit.sound (Stepped f (resumed flow)) (Turns f) xs o s.next r first (λ _ t. bind (step_made true step t) (λ _ u. is_zero_made u.carried.go u)) (Returned q [])
+      (stepped_turn c step flow)
       (jump-ended-sim w functions c d fit f 2 flow (resumed flow) refl (resumed-code flow) (resumed-left f.is_main flow) xs o r s q h j) (λ y o' r' m. by flow y o' r' m.post.0)
     where
       first : Built (Unit {0})
@@ -121,7 +124,8 @@ module _ (w : Direction) (functions : List Signature) (c : source.Context) (d : 
       leaves : (flow : Flow) (n : ℕ) → code flow ≡ suc n → (y : State) (o' : Outputs) → IsSoundRun xs o' → Holds f flow (read_origin xs o') first.after.next first.after.carried y →
           Simulates w d (Turns f) xs o' first.after.next (bind second (λ _ u. is_zero_made u.carried.go u)) (Returned (record { again = false; flow = flow; state = y }) [])
       leaves flow n e y o' r' h' =
-          sim-bind w d fit.sound (Stepped f flow) (Turns f) xs o' first.after.next r' second (λ _ u. is_zero_made u.carried.go u) (Returned y []) (λ u. Returned (record { again = false; flow = flow; state = u }) [])
+          sim-bind w d fit.sound (Stepped f flow) (Turns f) xs o' first.after.next r' second (λ _ u. is_zero_made u.carried.go u) (Returned y [])
+          (λ u. Returned (record { again = false; flow = flow; state = u }) [])
           (passed-sim flow n e step xs o' r' first.after y h' form)
           (λ u o'' r'' m. go-zero-sim flow false (zero flow n e) (λ z. absurd cc) xs o'' r'' second.after u m.post.0 form')
         where
@@ -149,7 +153,8 @@ module _ (w : Direction) (functions : List Signature) (c : source.Context) (d : 
       second : Built (Unit {0})
       second = step_made false step s
 
-  again-sim : (l : Bool) (step : OptionalExpr) → StepClaim w functions c d fit f step → (flow : Flow) → (l ≡ false → flow ≡ normal) → (xs : List Datum) (o : Outputs) → IsSoundRun xs o → (s : Point) (q : State) →
+  again-sim : (l : Bool) (step : OptionalExpr) → StepClaim w functions c d fit f step → (flow : Flow) → (l ≡ false → flow ≡ normal) → (xs : List Datum) (o : Outputs) → IsSoundRun xs o → (s : Point)
+      (q : State) →
       Holds f flow (read_origin xs o) s.next s.carried q → MayJump s.carried.form l → Simulates w d (Turns f) xs o s.next (again_made l step s) (stepped_turn c step flow q)
   again-sim true step k flow n xs o r s q h j = again-true-sim step k flow xs o r s q h (jumping-form s.carried.form true j refl)
   again-sim false step k flow n xs o r s q h j =
@@ -202,11 +207,13 @@ module _ (w : Direction) (functions : List Signature) (c : source.Context) (d : 
 
   -- the body of a loop and what follows it
   body-sim : (vs : List VariableTree) (a : StmtTree) → StmtClaim w functions c d fit f vs a → (after_made : Point → Built Origin) (after_run : Flow → State → Answer Turned) →
-      ((flow : Flow) → (can_leave (stmt_exits a) ≡ false → flow ≡ normal) → (xs : List Datum) (o : Outputs) → IsSoundRun xs o → (s : Point) (q : State) → Holds f flow (read_origin xs o) s.next s.carried q →
+      ((flow : Flow) → (can_leave (stmt_exits a) ≡ false → flow ≡ normal) → (xs : List Datum) (o : Outputs) → IsSoundRun xs o → (s : Point) (q : State) → Holds f flow
+      (read_origin xs o) s.next s.carried q →
       MayJump s.carried.form (can_leave (stmt_exits a)) → Simulates w d (Turns f) xs o s.next (after_made s) (after_run flow q)) →
       InnerClaim (λ u. bind (stmt_made vs a u) (λ _ v. after_made v)) (stmt_jumps a) (λ q. then_on (stmt_run c vs a q) (λ x. after_run x.flow x.state))
   body-sim vs a k after_made after_run after xs o r s q h j =
-      sim-bind w d fit.sound (λ y rd t v. Allows (stmt_exits a) y.flow × Flows f y rd t v) (Turns f) xs o s.next r (stmt_made vs a s) (λ _ v. after_made v) (stmt_run c vs a q) (λ x. after_run x.flow x.state)
+      sim-bind w d fit.sound (λ y rd t v. Allows (stmt_exits a) y.flow × Flows f y rd t v) (Turns f) xs o s.next r (stmt_made vs a s) (λ _ v. after_made v) (stmt_run c vs a q)
+      (λ x. after_run x.flow x.state)
       (sim-gives w d f (λ y. Allows (stmt_exits a) y.flow) (Flows f) xs o s.next (stmt_made vs a s) (stmt_run c vs a q) (stmt-ends c vs a q) (k xs o r s q h j))
       (λ y o' r' m. after y.flow (λ n. allows-normal (stmt_exits a) y.flow n m.post.0) xs o' r' (stmt_made vs a s).after y.state m.post.1.0
       (may-later s (stmt_made vs a s).after (can_leave (stmt_exits a)) (stmt_later vs a s) (stmt_leaves s.carried.form a j)))
@@ -216,23 +223,27 @@ module _ (w : Direction) (functions : List Signature) (c : source.Context) (d : 
   abbrev Loops : (StmtTree) → Post Flowed (Unit {0})
   Loops a y rd t v = Left (stmt_exits a) y.flow × Flows f y rd t v
 
-  past-sim : (vs : List VariableTree) (a : StmtTree) (xs : List Datum) (o : Outputs) → IsSoundRun xs o → (s : Point) → MayJump s.carried.form (stmt_jumps a) → (body : Point → Built Origin) → Keeps body →
+  past-sim : (vs : List VariableTree) (a : StmtTree) (xs : List Datum) (o : Outputs) → IsSoundRun xs o → (s : Point) → MayJump s.carried.form (stmt_jumps a) → (body : Point → Built Origin) →
+      Keeps body →
       (x : Answer Flowed) → Simulates w d (Loops a) xs o s.next (repeat s body) x →
       Simulates w d (Flows f) xs o s.next (bind (repeat s body) (λ _ t. break_ended (can_leave (stmt_exits a)) t)) (then_on x past)
   past-sim vs a xs o r s j body keeps x k =
       sim-bind w d fit.sound (Loops a) (Flows f) xs o s.next r (repeat s body) (λ _ t. break_ended (can_leave (stmt_exits a)) t) x past k (λ y o' r' m.
-      break-ended-sim w functions c d fit f (can_leave (stmt_exits a)) y.flow (λ n. let z = left-normal (stmt_exits a) y.flow n m.post.0 in ap past_flow z ∙ sym z) xs o' r' (repeat s body).after y.state m.post.1.0
+      break-ended-sim w functions c d fit f (can_leave (stmt_exits a)) y.flow (λ n. let z = left-normal (stmt_exits a) y.flow n m.post.0 in ap past_flow z ∙ sym z) xs o' r'
+      (repeat s body).after y.state m.post.1.0
       (may-later s (repeat s body).after (can_leave (stmt_exits a)) (repeat_later s body keeps) (stmt_leaves s.carried.form a j)))
 
   pub loop-stmt : (vs : List VariableTree) (e step : OptionalExpr) (a : StmtTree) → OptionalClaim e → StepClaim w functions c d fit f step → StmtClaim w functions c d fit f vs a →
       StmtClaim w functions c d fit f vs (loop e step a)
   loop-stmt vs e step a ce cs ca xs o r s q h j =
       past-sim vs a xs o r s j made keeps (loop_run c.bound c e step (stmt_run c vs a) q)
-      (sim-gives w d f (λ y. Left (stmt_exits a) y.flow) (Flows f) xs o s.next (repeat s made) (loop_run c.bound c e step (stmt_run c vs a) q) (loop-left (stmt_exits a) c.bound c e step (stmt_run c vs a) (stmt-ends c vs a) q)
+      (sim-gives w d f (λ y. Left (stmt_exits a) y.flow) (Flows f) xs o s.next (repeat s made) (loop_run c.bound c e step (stmt_run c vs a) q)
+      (loop-left (stmt_exits a) c.bound c e step (stmt_run c vs a) (stmt-ends c vs a) q)
       (repeat-sim w d fit.sound f s made keeps (while_turn c e inner) (while_turn c e (λ u. Cut [])) (λ n. loop_run n c e step (stmt_run c vs a)) is
       (λ us r' q' h'.
       turn-sim e step l (stmt_jumps a) (stmt_made vs a) inner (stmt_later vs a) ce
-      (body-sim vs a ca (again_made l step) (stepped_turn c step) (λ flow n. again-sim l step cs flow n)) us no_outputs r' (inside s.carried (suc s.next)) q' h' (may-inside s.carried (suc s.next) (stmt_jumps a) j))
+      (body-sim vs a ca (again_made l step) (stepped_turn c step) (λ flow n. again-sim l step cs flow n)) us no_outputs r' (inside s.carried (suc s.next)) q' h'
+      (may-inside s.carried (suc s.next) (stmt_jumps a) j))
       (λ z us r' q' h'.
       turn-sim e step l (stmt_jumps a) (stmt_made vs a) (λ u. Cut []) (stmt_later vs a) ce
       (λ xs' o' r'' s' q'' h'' j'. cut-any (Turns f) xs' o' s'.next (bind (stmt_made vs a s') (λ _ v. again_made l step v)) z) us no_outputs r' (inside s.carried (suc s.next)) q' h'
@@ -268,13 +279,15 @@ module _ (w : Direction) (functions : List Signature) (c : source.Context) (d : 
   -- ---- `do`
 
   -- the condition, which is asked unless the body was left
-  asked-sim : (e : ExprTree) → TestClaim w functions c d fit f normal e → (xs : List Datum) (o : Outputs) → IsSoundRun xs o → (s : Point) (q : State) → Holds f normal (read_origin xs o) s.next s.carried q →
+  asked-sim : (e : ExprTree) → TestClaim w functions c d fit f normal e → (xs : List Datum) (o : Outputs) → IsSoundRun xs o → (s : Point) (q : State) →
+      Holds f normal (read_origin xs o) s.next s.carried q →
       Simulates w d (Turns f) xs o s.next (tested e s) (asked_turn c e normal q)
   asked-sim e k xs o r s q h =
       sim-goes w d (Decides f normal) (Turns f) xs o s.next (tested e s) (test_run c e q) (λ y. record { again = y.truth; flow = normal; state = y.state })
       (λ y o' m. (m.post.0, ((m.post.1.0, m.post.1.1, m.post.1.3), λ z. refl))) (k xs o r s q h)
 
-  do-again-sim : (l : Bool) (e : ExprTree) → TestClaim w functions c d fit f normal e → (flow : Flow) → (l ≡ false → flow ≡ normal) → (xs : List Datum) (o : Outputs) → IsSoundRun xs o → (s : Point) (q : State) →
+  do-again-sim : (l : Bool) (e : ExprTree) → TestClaim w functions c d fit f normal e → (flow : Flow) → (l ≡ false → flow ≡ normal) → (xs : List Datum) (o : Outputs) → IsSoundRun xs o → (s : Point)
+      (q : State) →
       Holds f flow (read_origin xs o) s.next s.carried q → MayJump s.carried.form l → Simulates w d (Turns f) xs o s.next (do_again_made l e s) (asked_turn c e flow q)
   do-again-sim false e k flow n xs o r s q h j =
       subst (λ x. Simulates w d (Turns f) xs o s.next (tested e s) (asked_turn c e x q)) (sym (n refl))
@@ -307,13 +320,16 @@ module _ (w : Direction) (functions : List Signature) (c : source.Context) (d : 
       by broke y o' r' h' = chosen broke 1 refl y o' r' (asked_turn c e broke y) h' (λ us n r'' h''. ends-sim broke us no_outputs r'' (inside first.after.carried n) y h'')
       by (returned v) y o' r' h' = chosen (returned v) 3 refl y o' r' (asked_turn c e (returned v) y) h' (λ us n r'' h''. ends-sim (returned v) us no_outputs r'' (inside first.after.carried n) y h'')
 
-  pub do-stmt : (vs : List VariableTree) (a : StmtTree) (e : ExprTree) → TestClaim w functions c d fit f normal e → StmtClaim w functions c d fit f vs a → StmtClaim w functions c d fit f vs (do_while a e)
+  pub do-stmt : (vs : List VariableTree) (a : StmtTree) (e : ExprTree) → TestClaim w functions c d fit f normal e → StmtClaim w functions c d fit f vs a →
+      StmtClaim w functions c d fit f vs (do_while a e)
   do-stmt vs a e ce ca xs o r s q h j =
       past-sim vs a xs o r s j made keeps (do_run c.bound c e (stmt_run c vs a) q)
-      (sim-gives w d f (λ y. Left (stmt_exits a) y.flow) (Flows f) xs o s.next (repeat s made) (do_run c.bound c e (stmt_run c vs a) q) (do-left (stmt_exits a) c.bound c e (stmt_run c vs a) (stmt-ends c vs a) q)
+      (sim-gives w d f (λ y. Left (stmt_exits a) y.flow) (Flows f) xs o s.next (repeat s made) (do_run c.bound c e (stmt_run c vs a) q)
+      (do-left (stmt_exits a) c.bound c e (stmt_run c vs a) (stmt-ends c vs a) q)
       (repeat-sim w d fit.sound f s made keeps turn (λ u. Cut []) (λ n. do_run n c e (stmt_run c vs a)) is
       (λ us r' q' h'.
-      body-sim vs a ca (do_again_made l e) (asked_turn c e) (λ flow n. do-again-sim l e ce flow n) us no_outputs r' (inside s.carried (suc s.next)) q' h' (may-inside s.carried (suc s.next) (stmt_jumps a) j))
+      body-sim vs a ca (do_again_made l e) (asked_turn c e) (λ flow n. do-again-sim l e ce flow n) us no_outputs r' (inside s.carried (suc s.next)) q' h'
+      (may-inside s.carried (suc s.next) (stmt_jumps a) j))
       (λ z us r' q' h'. cut-any (Turns f) us no_outputs (suc s.next) (made (inside s.carried (suc s.next))) z) c.bound fit.bounds xs o r q h))
     where
       l : Bool

@@ -89,7 +89,8 @@ module _ (w : Direction) (d : Context) (c : IsSoundContext d) (f : Frame) (s : P
   turn-sim turn claim us q g =
       refines-far-goes exactly exactly-goes w (λ y o. Ran (Turns f) us no_outputs n b y o × AreSoundOutputs o) Gave (turn q) (nodes_run d (nodes_of b.nodes) us no_outputs)
       (λ o. map (read us o) (b.value ∷ carried_origins b.after.carried))
-      (refines-far-gives w AreSoundOutputs (Ran (Turns f) us no_outputs n b) (turn q) (nodes_run d (nodes_of b.nodes) us no_outputs) (nodes-sound d c (nodes_of b.nodes) us no_outputs sound) (claim us sound q begun))
+      (refines-far-gives w AreSoundOutputs (Ran (Turns f) us no_outputs n b) (turn q) (nodes_run d (nodes_of b.nodes) us no_outputs) (nodes-sound d c (nodes_of b.nodes) us no_outputs sound)
+      (claim us sound q begun))
       (λ y o r.
       record {
         test = r.0.post.1.0.0;
@@ -119,7 +120,8 @@ module _ (w : Direction) (d : Context) (c : IsSoundContext d) (f : Frame) (s : P
   abbrev Over : Flowed → List Datum → Type 0
   Over y us = Carries y.flow y.state us
 
-  after-turn : (next : State → Answer Flowed) (far : Meaning) → ((q : State) (us : List Datum) → Carries normal q us → Refines exactly w Over (next q) (far us)) → (y : Turned) (ys : List Datum) → Gave y ys →
+  after-turn : (next : State → Answer Flowed) (far : Meaning) → ((q : State) (us : List Datum) → Carries normal q us → Refines exactly w Over (next q) (far us)) → (y : Turned) (ys : List Datum) →
+      Gave y ys →
       Refines exactly w Over (turned next y) (again far ys)
   after-turn next far go y ys g =
       subst (λ zs. Refines exactly w Over (turned next y) (again far zs)) (sym g.is) (by y.again g.decides g.goes_on)

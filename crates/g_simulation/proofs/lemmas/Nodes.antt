@@ -52,7 +52,8 @@ module _ (w : Direction) (d : Context) (f : Frame) (flow : Flow) where
   of-line xs o n b q v h =
       sim-goes w d (Line f flow q v) (Values f flow) xs o n b (Returned tt []) (λ _. record { value = v; state = q }) (λ y o' r. r.post) h
 
-  pub line-then : IsSoundContext d → {B A : Type 0} → (S : Post B A) (xs : List Datum) (o : Outputs) (n : ℕ) → IsSoundRun xs o → (a : Built Origin) (k : Origin → Point → Built A) (q : State) (v : Value)
+  pub line-then : IsSoundContext d → {B A : Type 0} → (S : Post B A) (xs : List Datum) (o : Outputs) (n : ℕ) → IsSoundRun xs o → (a : Built Origin) (k : Origin → Point → Built A) (q : State)
+      (v : Value)
       (x : Answer B) → Simulates w d (Line f flow q v) xs o n a (Returned tt []) →
       ((o' : Outputs) → IsSoundRun xs o' → Ran (Line f flow q v) xs o n a tt o' → Simulates w d S xs o' a.after.next (k a.value a.after) x) →
       Simulates w d S xs o n (bind a k) x

@@ -71,7 +71,8 @@ module _ (w : Direction) (functions : List Signature) (c : source.Context) (d : 
   pub object-stored-sim : (k width : ℕ) (r : Origin) (v : Value) (xs : List Datum) (o : Outputs) → IsSoundRun xs o → (s : Point) (q : State) → Holds f normal (read_origin xs o) s.next s.carried q →
       Held (read_origin xs o) s.next v r → Simulates w d (Stepped f normal) xs o s.next (object_stored k width r s) (in_memory q (store width (d.addresses.local k) v q.memory))
   object-stored-sim k width r v xs o t s q h g =
-      line-then w d f normal fit.sound (Stepped f normal) xs o s.next t first (λ a u. dropped (store_made width a r u)) q (d.addresses.local k) (in_memory q (store width (d.addresses.local k) v q.memory))
+      line-then w d f normal fit.sound (Stepped f normal) xs o s.next t first (λ a u. dropped (store_made width a r u)) q (d.addresses.local k)
+      (in_memory q (store width (d.addresses.local k) v q.memory))
       (local-line w d f normal xs o s q h k) (λ o' t' i.
       stored-sim width first.value r (d.addresses.local k) v xs o' t' first.after q i.post.0 i.post.1 (held-after (Line f normal q (d.addresses.local k)) xs o s.next first tt o' i v r g))
     where
@@ -82,7 +83,8 @@ module _ (w : Direction) (functions : List Signature) (c : source.Context) (d : 
   offset-line : (p : Origin) (b : BlockName) (n : ℕ) → n ≤ b.size → (xs : List Datum) (o : Outputs) → IsSoundRun xs o → (s : Point) (q : State) → Holds f normal (read_origin xs o) s.next s.carried q →
       Held (read_origin xs o) s.next (At b 0) p → Simulates w d (Line f normal q (At b (0 + n))) xs o s.next (at_offset_made p n s) (Returned tt [])
   offset-line p b n low xs o t s q h g =
-      subst (λ v. Simulates w d (Line f normal q v) xs o s.next (at_offset_made p n s) (Returned tt [])) (address-is b (word2 op.Add 0 (n % 2 ^ 32)) (0 + n) (omega (arith, low, fits.1)) (omega (arith, low)))
+      subst (λ v. Simulates w d (Line f normal q v) xs o s.next (at_offset_made p n s) (Returned tt []))
+      (address-is b (word2 op.Add 0 (n % 2 ^ 32)) (0 + n) (omega (arith, low, fits.1)) (omega (arith, low)))
       (with-const w d f normal fit.sound xs o t s q h n (λ y u. bin_made op.Add p y u) (value2 op.Add (At b 0) (Num (n % 2 ^ 32)))
       (λ o' y e u h' k. bin-line w d f normal xs o' u q h' op.Add p y (At b 0) (Num (n % 2 ^ 32)) (k p g.below ∙ is) e))
     where
@@ -99,7 +101,8 @@ module _ (w : Direction) (functions : List Signature) (c : source.Context) (d : 
       line-then w d f normal fit.sound (Stepped f normal) xs o s.next t first (λ a u. bind (at_offset_made a n u) (λ z y. dropped (store_made width z r y))) q (At b 0)
       (in_memory q (store width (At b (0 + n)) v q.memory))
       (subst (λ a. Simulates w d (Line f normal q a) xs o s.next first (Returned tt [])) e (local-line w d f normal xs o s q h k)) (λ o1 t1 m1.
-      line-then w d f normal fit.sound (Stepped f normal) xs o1 first.after.next t1 second (λ z y. dropped (store_made width z r y)) q (At b (0 + n)) (in_memory q (store width (At b (0 + n)) v q.memory))
+      line-then w d f normal fit.sound (Stepped f normal) xs o1 first.after.next t1 second (λ z y. dropped (store_made width z r y)) q (At b (0 + n))
+      (in_memory q (store width (At b (0 + n)) v q.memory))
       (offset-line first.value b n low xs o1 t1 first.after q m1.post.0 m1.post.1) (λ o2 t2 m2.
       stored-sim width second.value r (At b (0 + n)) v xs o2 t2 second.after q m2.post.0 m2.post.1
       (held-after (Line f normal q (At b (0 + n))) xs o1 first.after.next second tt o2 m2 v r (held-after (Line f normal q (At b 0)) xs o s.next first tt o1 m1 v r g))))
@@ -112,7 +115,8 @@ module _ (w : Direction) (functions : List Signature) (c : source.Context) (d : 
 
   -- ---- characters and elements
 
-  characters-sim : (k : ℕ) (b : BlockName) → d.addresses.local k ≡ At b 0 → (n : ℕ) (cs : List ℕ) → CharactersWithin b.size n cs → (xs : List Datum) (o : Outputs) → IsSoundRun xs o → (s : Point) (q : State) →
+  characters-sim : (k : ℕ) (b : BlockName) → d.addresses.local k ≡ At b 0 → (n : ℕ) (cs : List ℕ) → CharactersWithin b.size n cs → (xs : List Datum) (o : Outputs) → IsSoundRun xs o → (s : Point)
+      (q : State) →
       Holds f normal (read_origin xs o) s.next s.carried q → Simulates w d (Stepped f normal) xs o s.next (characters_made k n cs s) (in_memory q (characters_stored (At b 0) n cs q.memory))
   characters-sim k b e n [] low xs o t s q h = sim-given w d (Stepped f normal) xs o s.next tt s q (omega arith) (h, tt)
   characters-sim k b e n (a ∷ cs) low xs o t s q h =
@@ -166,12 +170,15 @@ module _ (w : Direction) (functions : List Signature) (c : source.Context) (d : 
   elements-sim k b z (value_then n e es) low claims xs o t s q h =
       sim-bind w d fit.sound (Typed f normal (type_of e)) (Stepped f normal) xs o s.next t (expr_made e s)
       (λ v u. bind (element_stored k n (access_width (type_of e)) v u) (λ _ y. elements_made k es y)) (expr_run c e q)
-      (λ x. used x.value (λ v. on_defined (store (access_width (type_of e)) (bytes_into (At b 0) n) v x.state.memory) (λ m. elements_run c (At b 0) es (with_memory x.state m)))) (claims.1 xs o t s q h)
+      (λ x. used x.value (λ v. on_defined (store (access_width (type_of e)) (bytes_into (At b 0) n) v x.state.memory) (λ m. elements_run c (At b 0) es (with_memory x.state m))))
+      (claims.1 xs o t s q h)
       (λ y o' t' r.
-      used-there w (Ran (Stepped f normal) xs o' (expr_made e s).after.next (bind (element_stored k n (access_width (type_of e)) (expr_made e s).value (expr_made e s).after) (λ _ u. elements_made k es u)))
+      used-there w (Ran (Stepped f normal) xs o' (expr_made e s).after.next (bind (element_stored k n (access_width (type_of e)) (expr_made e s).value (expr_made e s).after)
+      (λ _ u. elements_made k es u)))
       y.value (λ v. on_defined (store (access_width (type_of e)) (bytes_into (At b 0) n) v y.state.memory) (λ m. elements_run c (At b 0) es (with_memory y.state m)))
       (nodes_run d (nodes_of (bind (element_stored k n (access_width (type_of e)) (expr_made e s).value (expr_made e s).after) (λ _ u. elements_made k es u)).nodes) xs o') (λ there.
-      element-then (element_stored k n (access_width (type_of e)) (expr_made e s).value (expr_made e s).after) (elements_made k es) (elements_run c (At b 0) es) xs o' t' (expr_made e s).after.next y.state
+      element-then (element_stored k n (access_width (type_of e)) (expr_made e s).value (expr_made e s).after) (elements_made k es) (elements_run c (At b 0) es) xs o' t'
+      (expr_made e s).after.next y.state
       (store (access_width (type_of e)) (At b (0 + n)) y.value y.state.memory) (elements-sim k b z es low.1 claims.2)
       (element-sim k n (access_width (type_of e)) b z low.0 (expr_made e s).value y.value xs o' t' (expr_made e s).after y.state r.post.0
       (shown-held (read_origin xs o') (expr_made e s).after.next (type_of e) y.value (expr_made e s).value claims.0 r.post.1))))
@@ -218,5 +225,6 @@ module _ (w : Direction) (functions : List Signature) (c : source.Context) (d : 
   pub object-elements : (k : ℕ) (b : BlockName) → d.addresses.local k ≡ At b 0 → (es : ElementTrees) → AreWithin b.size es → ElementClaims es →
       Initials (object_begun k (initial_elements es)) (source_stmt.object_begun c (At b 0) (initial_elements es))
   object-elements k b z es low claims xs o t s q h =
-      sim-bind w d fit.sound (Stepped f normal) (Stepped f normal) xs o s.next t (clear_made k s) (λ _ u. elements_made k es u) (Returned (with_memory q (cleared b q.memory)) []) (elements_run c (At b 0) es)
+      sim-bind w d fit.sound (Stepped f normal) (Stepped f normal) xs o s.next t (clear_made k s) (λ _ u. elements_made k es u) (Returned (with_memory q (cleared b q.memory)) [])
+      (elements_run c (At b 0) es)
       (clear-sim k b z xs o t s q h) (λ y o' t' r. elements-sim k b z es low claims xs o' t' (clear_made k s).after y r.post.0)

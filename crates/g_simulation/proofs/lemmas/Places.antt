@@ -204,7 +204,8 @@ module _ (w : Direction) (d : Context) (f : Frame) (flow : Flow) (c : IsSoundCon
 
       run : node_run d (node s.next (Store width) (p ∷ r ∷ s.carried.memory ∷ []) no_regions) xs o ≡ Returned (memory m ∷ []) []
       run =
-          (λ i. on_memory (h.memory i) (λ k. on_defined (store width (value_of (held-is (read xs o) s.next (At b n) p tt g i)) (value_of (held-is (read xs o) s.next v r there g' i)) k) graph.given_memory))
+          (λ i. on_memory (h.memory i) (λ k. on_defined (store width (value_of (held-is (read xs o) s.next (At b n) p tt g i))
+          (value_of (held-is (read xs o) s.next v r there g' i)) k) graph.given_memory))
           ∙ ap (λ x. on_defined x graph.given_memory) z
   store-sim width p r (Num n) v m g g' z = absurd cc
   store-sim width p r Bad v m g g' z = absurd cc

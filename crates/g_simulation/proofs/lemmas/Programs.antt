@@ -59,21 +59,23 @@ module _ (p : ProgramTree) (bodies : BodiesFit p) where
   active-fits w near depth far fits calls f t there vs count m i sound =
       refines-active exactly exactly-goes GivesBack w f (function_run p near (nested p global near depth) global (f == p.main) (slice_get p.functions f) vs m i)
       (entered far (applied (graph p) global far) global (slice_get (graph p) f) (taken vs m i))
-      (subst (λ x. Refines exactly w GivesBack (function_run p near (nested p global near depth) global (f == p.main) x vs m i) (entered far (applied (graph p) global far) global (slice_get (graph p) f) (taken vs m i)))
+      (subst (λ x. Refines exactly w GivesBack (function_run p near (nested p global near depth) global (f == p.main) x vs m i)
+      (entered far (applied (graph p) global far) global (slice_get (graph p) f) (taken vs m i)))
       (sym there)
-      (subst (λ l. Refines exactly w GivesBack (body_run p near (nested p global near depth) global (f == p.main) t vs m i) (entered far (applied (graph p) global far) global l (taken vs m i))) (sym lambda)
+      (subst (λ l. Refines exactly w GivesBack (body_run p near (nested p global near depth) global (f == p.main) t vs m i) (entered far (applied (graph p) global far) global l (taken vs m i)))
+      (sym lambda)
       (bodies w near far fits (nested p global near depth) (applied (graph p) global far) calls (applied-sound far) f t there vs count m i sound)))
     where
       lambda : slice_get (graph p) f ≡ Some (lambda_made p f t)
       lambda = lambdas_stand_at_their_numbers p f ∙ ap (option_map (lambda_made p f)) there
 
-  forward-fits : (near depth far : ℕ) → suc near + depth ≤ far → CallsFit Forward p (nested p global near depth) (applied (graph p) global far)
+  pub forward-fits : (near depth far : ℕ) → suc near + depth ≤ far → CallsFit Forward p (nested p global near depth) (applied (graph p) global far)
   forward-fits near zero far le f t there vs count m i sound = less-cut exactly exactly-compares Forward GivesBack 0 (omega arith) (applied (graph p) global far f (taken vs m i))
   forward-fits near (suc depth) zero le f t there vs count m i sound = absurd (omega (arith, le))
   forward-fits near (suc depth) (suc far) le f t there vs count m i sound =
       active-fits Forward near depth far (omega (arith, le)) (forward-fits near depth far (omega (arith, le))) f t there vs count m i sound
 
-  backward-fits : (near depth far : ℕ) → far ≤ depth → far ≤ suc near → CallsFit Backward p (nested p global near depth) (applied (graph p) global far)
+  pub backward-fits : (near depth far : ℕ) → far ≤ depth → far ≤ suc near → CallsFit Backward p (nested p global near depth) (applied (graph p) global far)
   backward-fits near depth zero le low f t there vs count m i sound = far-cut exactly exactly-compares Backward GivesBack 0 (omega arith) (nested p global near depth f vs m i)
   backward-fits near zero (suc far) le low f t there vs count m i sound = absurd (omega (arith, le))
   backward-fits near (suc depth) (suc far) le low f t there vs count m i sound =

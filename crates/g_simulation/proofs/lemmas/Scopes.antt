@@ -74,7 +74,8 @@ pub slots-begun : (rd : Origin → Datum) (n : ℕ) (y : Slot) (xs : List SlotOr
     SlotsHeld rd n [] (xs ++ held p ∷ []) hs (take (length ss - 1) ss ++ source.holds v ∷ [])
 slots-begun rd n y xs hs ss v p g h =
     let r = slots-front rd n (y ∷ []) xs hs ss h in
-    subst (λ zs. SlotsHeld rd n [] (xs ++ held p ∷ []) hs (zs ++ source.holds v ∷ [])) (sym (ap (λ zs. take (length zs - 1) zs) r.is ∙ take-front r.front y)) (slots-add rd n xs hs r.front v p g r.held)
+    subst (λ zs. SlotsHeld rd n [] (xs ++ held p ∷ []) hs (zs ++ source.holds v ∷ [])) (sym (ap (λ zs. take (length zs - 1) zs) r.is ∙ take-front r.front y))
+    (slots-add rd n xs hs r.front v p g r.held)
 
 -- ---- the newest variable leaves
 

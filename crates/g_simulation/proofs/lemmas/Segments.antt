@@ -225,7 +225,8 @@ module _ (w : Direction) (functions : List Signature) (c : source.Context) (d : 
 
     joined-done : from ≤ g → ItemsClaim w functions c d fit f vs is → PartClaim (items_jump is || b) (joined g is rest) (λ q. then_on (items_run c vs is q) (λ x. if_normal x.flow x.state run))
     joined-done low k xs o r s q h j has =
-        sim-bind w d fit.sound (λ y rd t v. Allows (items_exits is) y.flow × Flows f y rd t v) (Flows f) xs o s.next r (group_made g (items is) s) (λ _ t. unless_left (can_leave (items_exits is)) rest t)
+        sim-bind w d fit.sound (λ y rd t v. Allows (items_exits is) y.flow × Flows f y rd t v) (Flows f) xs o s.next r (group_made g (items is) s)
+        (λ _ t. unless_left (can_leave (items_exits is)) rest t)
         (items_run c vs is q) (λ x. if_normal x.flow x.state run)
         (sim-gives w d f (λ y. Allows (items_exits is) y.flow) (Flows f) xs o s.next (group_made g (items is) s) (items_run c vs is q) (items-end c vs is q)
         (group-done g (items_jump is) (items is) (items_run c vs is) (items_later vs is) is_several few low k xs o r s q h (jump_left s.carried.form (items_jump is) b j) has))
@@ -233,7 +234,8 @@ module _ (w : Direction) (functions : List Signature) (c : source.Context) (d : 
 
     joined-passed : g < from → PartClaim (items_jump is || b) (joined g is rest) run
     joined-passed low xs o r s q h j has =
-        sim-bind w d fit.sound (λ y rd t v. Allows (items_exits is) y.flow × Flows f y rd t v) (Flows f) xs o s.next r (group_made g (items is) s) (λ _ t. unless_left (can_leave (items_exits is)) rest t)
+        sim-bind w d fit.sound (λ y rd t v. Allows (items_exits is) y.flow × Flows f y rd t v) (Flows f) xs o s.next r (group_made g (items is) s)
+        (λ _ t. unless_left (can_leave (items_exits is)) rest t)
         (goes_on q) (λ x. if_normal x.flow x.state run)
         (sim-gives w d f (λ y. Allows (items_exits is) y.flow) (Flows f) xs o s.next (group_made g (items is) s) (goes_on q) tt
         (group-passed g (items is) (items_later vs is) is_several few low xs o r s q h (jump_left s.carried.form false (items_jump is || b) j) has))
@@ -313,7 +315,8 @@ module _ (w : Direction) (functions : List Signature) (c : source.Context) (d : 
   not-true false e = refl
 
   -- the first segment, from `from` on, which is at or before its first group
-  entered : (begins : Bool) (g : ℕ) (cases : List ℕ) (e : Bool) (is : ItemTrees) (gs : GroupTrees) → (begins ≡ false → several ≡ true) → Several (group_then cases e is gs) → g + suc (group_count gs) < 2 ^ 32 → from ≤ g →
+  entered : (begins : Bool) (g : ℕ) (cases : List ℕ) (e : Bool) (is : ItemTrees) (gs : GroupTrees) → (begins ≡ false → several ≡ true) → Several (group_then cases e is gs) →
+      g + suc (group_count gs) < 2 ^ 32 → from ≤ g →
       GroupsClaim (group_then cases e is gs) →
       Does (items_jump is || groups_jump gs) (groups_done 0 (groups_runs c vs (group_then cases e is gs))) 0 (segments_made vs begins g (group_then cases e is gs))
   entered begins g cases e is no_groups is_several has few low k =
@@ -324,7 +327,8 @@ module _ (w : Direction) (functions : List Signature) (c : source.Context) (d : 
       last = or_right (ends_with_jump is) true refl
   entered begins g cases e is (group_then cases' e' is' gs') is_several has few low k =
       by (ends_segment is (group_then cases' e' is' gs')) refl
-      (λ z. entered false (suc g) cases' e' is' gs' (λ _. z) (λ y. has (or_right (not (ends_segment is (group_then cases' e' is' gs'))) (some_segment_has_several (group_then cases' e' is' gs')) y)) (omega (arith, few))
+      (λ z. entered false (suc g) cases' e' is' gs' (λ _. z) (λ y. has (or_right (not (ends_segment is (group_then cases' e' is' gs'))) (some_segment_has_several (group_then cases' e' is' gs')) y))
+      (omega (arith, few))
       (omega (arith, low)) k.1)
     where
       rest : GroupTrees
@@ -358,13 +362,15 @@ module _ (w : Direction) (functions : List Signature) (c : source.Context) (d : 
       with-some false (ends_segment js gs) g (can_leave (items_exits js)) (items js) (segments_made vs (ends_segment js gs) (suc g) gs)
 
   -- a group of another segment stands first
-  apart-does : (begins : Bool) (g : ℕ) (l : Bool) (made : Point → Built (Unit {0})) (b : Bool) (run : State → Answer Flowed) (j : ℕ) (later gs : List (Point → Built (Unit {0}))) → Does b run j (later ++ gs) →
+  apart-does : (begins : Bool) (g : ℕ) (l : Bool) (made : Point → Built (Unit {0})) (b : Bool) (run : State → Answer Flowed) (j : ℕ) (later gs : List (Point → Built (Unit {0}))) →
+      Does b run j (later ++ gs) →
       Does b run (suc j) (segments_with begins true g l made later ++ gs)
   apart-does true g l made b run j later gs r = record { made = r.made; there = r.there; keeps = r.keeps; does = r.does }
   apart-does false g l made b run j later gs r = record { made = r.made; there = r.there; keeps = r.keeps; does = r.does }
 
   -- a group of the same segment, or of another one, stands first
-  over-does : (begins : Bool) (g : ℕ) (is : ItemTrees) (b : Bool) (run : State → Answer Flowed) (j : ℕ) (later gs : List (Point → Built (Unit {0}))) → IsSome later → several ≡ true → suc g < 2 ^ 32 → g < from →
+  over-does : (begins : Bool) (g : ℕ) (is : ItemTrees) (b : Bool) (run : State → Answer Flowed) (j : ℕ) (later gs : List (Point → Built (Unit {0}))) → IsSome later → several ≡ true → suc g < 2 ^ 32 →
+      g < from →
       Does b run j (later ++ gs) → Does (items_jump is || b) run j (segments_with begins false g (can_leave (items_exits is)) (items is) later ++ gs)
   over-does begins g is b run j [] gs some is_several few low r = absurd some
   over-does begins g is b run j (rest ∷ later) gs some is_several few low r = by begins j r
@@ -390,7 +396,8 @@ module _ (w : Direction) (functions : List Signature) (c : source.Context) (d : 
       by false (suc j) r = does-more (items_jump is) b run (suc j) (joined g is rest ∷ later ++ gs) (record { made = r.made; there = r.there; keeps = r.keeps; does = r.does })
 
   -- The region that the segment of the target picks does the groups from that of the target on.
-  pub target-does : (begins : Bool) (k g : ℕ) (gs : GroupTrees) (t : Target) → IsTarget k g gs t → t.group ≡ from → (begins ≡ false → several ≡ true) → Several gs → g + group_count gs < 2 ^ 32 → GroupsClaim gs →
+  pub target-does : (begins : Bool) (k g : ℕ) (gs : GroupTrees) (t : Target) → IsTarget k g gs t → t.group ≡ from → (begins ≡ false → several ≡ true) → Several gs → g + group_count gs < 2 ^ 32 →
+      GroupsClaim gs →
       Does (groups_jump gs) (groups_done (from - g) (groups_runs c vs gs)) (t.segment - k) (segments_made vs begins g gs ++ nothing ∷ [])
   target-does begins k g no_groups t h e is_several has few claims =
       record {
@@ -404,12 +411,14 @@ module _ (w : Direction) (functions : List Signature) (c : source.Context) (d : 
       let group = h.1 in
       let z : 0 ≡ t.segment - k = omega (arith, segment) in
       let z' : 0 ≡ from - g = omega (arith, group, e) in
-      subst (λ i. Does (items_jump is || groups_jump gs) (groups_done (from - g) (groups_runs c vs (group_then cases e' is gs))) i (segments_made vs begins g (group_then cases e' is gs) ++ nothing ∷ [])) z
+      subst (λ i. Does (items_jump is || groups_jump gs) (groups_done (from - g) (groups_runs c vs (group_then cases e' is gs))) i
+      (segments_made vs begins g (group_then cases e' is gs) ++ nothing ∷ [])) z
       (subst (λ i. Does (items_jump is || groups_jump gs) (groups_done i (groups_runs c vs (group_then cases e' is gs))) 0 (segments_made vs begins g (group_then cases e' is gs) ++ nothing ∷ [])) z'
       (first-does (items_jump is || groups_jump gs) (groups_done 0 (groups_runs c vs (group_then cases e' is gs))) (segments_made vs begins g (group_then cases e' is gs)) (nothing ∷ [])
       (entered begins g cases e' is gs is_several has few (omega (arith, group, e)) claims)))
   target-does begins k g (group_then cases e' is gs) t (inr h) e is_several has few claims =
-      subst (λ i. Does (items_jump is || groups_jump gs) (groups_done i (groups_runs c vs (group_then cases e' is gs))) (t.segment - k) (segments_made vs begins g (group_then cases e' is gs) ++ nothing ∷ [])) z'
+      subst (λ i. Does (items_jump is || groups_jump gs) (groups_done i (groups_runs c vs (group_then cases e' is gs))) (t.segment - k)
+      (segments_made vs begins g (group_then cases e' is gs) ++ nothing ∷ [])) z'
       (by (ends_segment is gs) refl bounds.segment_low
       (target-does (ends_segment is gs) (next_segment k is gs) (suc g) gs t h e (λ z. has (or_left (not (ends_segment is gs)) (some_segment_has_several gs) (not-true (ends_segment is gs) z)))
       (λ y. has (or_right (not (ends_segment is gs)) (some_segment_has_several gs) y)) (omega (arith, few)) claims.1))
@@ -428,10 +437,13 @@ module _ (w : Direction) (functions : List Signature) (c : source.Context) (d : 
           let z : suc (t.segment - suc k) ≡ t.segment - k = omega (arith, low) in
           does-more (items_jump is) (groups_jump gs) (groups_done (from - suc g) (groups_runs c vs gs)) (t.segment - k)
           (segments_with begins true g (can_leave (items_exits is)) (items is) (segments_made vs true (suc g) gs) ++ nothing ∷ [])
-          (subst (λ i. Does (groups_jump gs) (groups_done (from - suc g) (groups_runs c vs gs)) i (segments_with begins true g (can_leave (items_exits is)) (items is) (segments_made vs true (suc g) gs) ++ nothing ∷ [])) z
-          (apart-does begins g (can_leave (items_exits is)) (items is) (groups_jump gs) (groups_done (from - suc g) (groups_runs c vs gs)) (t.segment - suc k) (segments_made vs true (suc g) gs) (nothing ∷ []) r))
+          (subst (λ i. Does (groups_jump gs) (groups_done (from - suc g) (groups_runs c vs gs)) i (segments_with begins true g (can_leave (items_exits is)) (items is)
+          (segments_made vs true (suc g) gs) ++ nothing ∷ [])) z
+          (apart-does begins g (can_leave (items_exits is)) (items is) (groups_jump gs) (groups_done (from - suc g) (groups_runs c vs gs)) (t.segment - suc k) (segments_made vs true (suc g) gs)
+          (nothing ∷ []) r))
       by false y low r =
           let s = has (or_left (not (ends_segment is gs)) (some_segment_has_several gs) (not-true (ends_segment is gs) y)) in
           let l = bounds.group_low in
-          over-does begins g is (groups_jump gs) (groups_done (from - suc g) (groups_runs c vs gs)) (t.segment - k) (segments_made vs false (suc g) gs) (nothing ∷ []) (some-segments (suc g) is gs y) s (omega (arith, few))
+          over-does begins g is (groups_jump gs) (groups_done (from - suc g) (groups_runs c vs gs)) (t.segment - k) (segments_made vs false (suc g) gs) (nothing ∷ [])
+          (some-segments (suc g) is gs y) s (omega (arith, few))
           (omega (arith, l, e)) r

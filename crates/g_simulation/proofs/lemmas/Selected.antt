@@ -79,14 +79,16 @@ module _ (w : Direction) (d : Context) (c : IsSoundContext d) (f : Frame) (flow 
   labels-sim p v e [] r a xs o t s h g g' = sim-given w d (Selects v a []) xs o s.next (record { number = r; equals = [] }) s tt (omega arith) (h, g', tt)
   labels-sim p v e (l ∷ ls) r a xs o t s h g g' =
       line-then w d f flow c Goal xs o s.next t first
-      (λ k u. bind (bin_made op.Eq p k u) (λ y u. bind (moved_where y (word_difference l.target.segment e) r u) (λ m v. bind (labels_made p e ls m v) (λ x z. given (record { number = x.number; equals = y ∷ x.equals }) z))))
+      (λ k u. bind (bin_made op.Eq p k u) (λ y u. bind (moved_where y (word_difference l.target.segment e) r u)
+      (λ m v. bind (labels_made p e ls m v) (λ x z. given (record { number = x.number; equals = y ∷ x.equals }) z))))
       q (Num (l.word % 2 ^ 32)) (Returned tt []) (const-line w d f flow xs o s q h l.word) (λ o1 t1 m1.
       let p1 = reads-after (Word (l.word % 2 ^ 32)) xs o s.next first tt o1 m1 v p g in
       let r1 = reads-after (Word (l.word % 2 ^ 32)) xs o s.next first tt o1 m1 a r g' in
       line-then w d f flow c Goal xs o1 first.after.next t1 second
       (λ y u. bind (moved_where y (word_difference l.target.segment e) r u) (λ m v. bind (labels_made p e ls m v) (λ x z. given (record { number = x.number; equals = y ∷ x.equals }) z)))
       q (Num equal) (Returned tt [])
-      (bin-line w d f flow xs o1 first.after q m1.post.0 op.Eq p first.value (Num v) (Num (l.word % 2 ^ 32)) p1.0 (reads-of (read_origin xs o1) first.after.next (l.word % 2 ^ 32) first.value m1.post.1).0) (λ o2 t2 m2.
+      (bin-line w d f flow xs o1 first.after q m1.post.0 op.Eq p first.value (Num v) (Num (l.word % 2 ^ 32)) p1.0
+      (reads-of (read_origin xs o1) first.after.next (l.word % 2 ^ 32) first.value m1.post.1).0) (λ o2 t2 m2.
       let p2 = reads-after (Word equal) xs o1 first.after.next second tt o2 m2 v p p1 in
       let r2 = reads-after (Word equal) xs o1 first.after.next second tt o2 m2 a r r1 in
       let y2 = reads-of (read_origin xs o2) second.after.next equal second.value m2.post.1 in
@@ -98,7 +100,8 @@ module _ (w : Direction) (d : Context) (c : IsSoundContext d) (f : Frame) (flow 
       (Returned tt []) (λ _. Returned tt [])
       (labels-sim p v e ls third.value number xs o3 t3 third.after m3.post.0 p3 (reads-of (read_origin xs o3) third.after.next number third.value m3.post.1)) (λ _ o4 t4 m4.
       let y4 = reads-after (Selects v (summed v e (λ t. t.segment) number ls) ls) xs o3 third.after.next last tt o4 m4 equal second.value y3 in
-      sim-given w d Goal xs o4 last.after.next (record { number = last.value.number; equals = second.value ∷ last.value.equals }) last.after tt (omega arith) (m4.post.0, m4.post.1, (y4, m4.post.2))))))
+      sim-given w d Goal xs o4 last.after.next (record { number = last.value.number; equals = second.value ∷ last.value.equals }) last.after tt (omega arith)
+      (m4.post.0, m4.post.1, (y4, m4.post.2))))))
     where
       equal : ℕ
       equal = word2 op.Eq v (l.word % 2 ^ 32)
@@ -133,7 +136,8 @@ module _ (w : Direction) (d : Context) (c : IsSoundContext d) (f : Frame) (flow 
       first : Built Origin
       first = const_made e s
 
-  groups-sim : (v e : ℕ) (ls : List Label) (qs : List Origin) (r : Origin) (a : ℕ) (xs : List Datum) (o : Outputs) → IsSoundRun xs o → (s : Point) → Holds f flow (read_origin xs o) s.next s.carried q →
+  groups-sim : (v e : ℕ) (ls : List Label) (qs : List Origin) (r : Origin) (a : ℕ) (xs : List Datum) (o : Outputs) → IsSoundRun xs o → (s : Point) →
+      Holds f flow (read_origin xs o) s.next s.carried q →
       EqualsRead (read_origin xs o) s.next v ls qs → Held (read_origin xs o) s.next (Num a) r → WordClaim (summed v e (λ t. t.group) a ls) (groups_moved e ls qs r) xs o s
   groups-sim v e [] [] r a xs o t s h equals g' = sim-given w d (Word a) xs o s.next r s tt (omega arith) (h, g')
   groups-sim v e (l ∷ ls) (p ∷ ps) r a xs o t s h equals g' =
@@ -150,7 +154,8 @@ module _ (w : Direction) (d : Context) (c : IsSoundContext d) (f : Frame) (flow 
   groups-sim v e (l ∷ ls) [] r a xs o t s h equals g' = absurd equals
 
 -- `from` comes into scope
-pub from-sim : (w : Direction) (d : Context) → IsSoundContext d → (hs : List ℕ) (n : ℕ) (m : Bool) (q : State) (several : Bool) (v e : ℕ) (ls : List Label) (qs : List Origin) (xs : List Datum) (o : Outputs) →
+pub from-sim : (w : Direction) (d : Context) → IsSoundContext d → (hs : List ℕ) (n : ℕ) (m : Bool) (q : State) (several : Bool) (v e : ℕ) (ls : List Label) (qs : List Origin) (xs : List Datum)
+    (o : Outputs) →
     IsSoundRun xs o → (s : Point) → Holds (framed hs n m) normal (read_origin xs o) s.next s.carried q → EqualsRead (read_origin xs o) s.next v ls qs →
     Simulates w d (Stepped (framed (with_from several hs (summed v e (λ t. t.group) (e % 2 ^ 32) ls)) n m) normal) xs o s.next (from_made several e ls qs s) (Returned q [])
 from-sim w d c hs n m q false v e ls qs xs o t s h equals = sim-given w d (Stepped (framed hs n m) normal) xs o s.next tt s q (omega arith) (h, tt)
@@ -158,7 +163,8 @@ from-sim w d c hs n m q true v e ls qs xs o t s h equals =
     line-then w d (framed hs n m) normal c Goal xs o s.next t first (λ n u. bind (groups_moved e ls qs n u) (λ m v. nothing (pushed (hidden m) v))) q (Num (e % 2 ^ 32)) (Returned q [])
     (const-line w d (framed hs n m) normal xs o s q h e) (λ o1 t1 m1.
     line-then w d (framed hs n m) normal c Goal xs o1 first.after.next t1 second (λ m v. nothing (pushed (hidden m) v)) q (Num number) (Returned q [])
-    (groups-sim w d c (framed hs n m) normal q v e ls qs first.value (e % 2 ^ 32) xs o1 t1 first.after m1.post.0 (equals-after (Line (framed hs n m) normal q (Num (e % 2 ^ 32))) xs o s.next first tt o1 m1 v ls qs equals) m1.post.1)
+    (groups-sim w d c (framed hs n m) normal q v e ls qs first.value (e % 2 ^ 32) xs o1 t1 first.after m1.post.0
+    (equals-after (Line (framed hs n m) normal q (Num (e % 2 ^ 32))) xs o s.next first tt o1 m1 v ls qs equals) m1.post.1)
     (λ o2 t2 m2.
     sim-given w d Goal xs o2 second.after.next tt (pushed (hidden second.value) second.after) q (omega arith)
     (holds-hide hs n m number normal (read_origin xs o2) second.after.next second.after q second.value (reads-of (read_origin xs o2) second.after.next number second.value m2.post.1) m2.post.0, tt)))

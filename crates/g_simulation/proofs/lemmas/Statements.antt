@@ -58,7 +58,8 @@ module _ (w : Direction) (functions : List Signature) (c : source.Context) (d : 
   ItemsClaim vs is = StmtClaims (items_jump is) (items_made vs is) (items_run c vs is)
 
   -- nothing is made, and control goes on as it does
-  pub nothing-sim : (xs : List Datum) (o : Outputs) (s : Point) (q : State) (flow : Flow) → Holds f flow (read_origin xs o) s.next s.carried q → Simulates w d (Flows f) xs o s.next (nothing s) (flows q flow)
+  pub nothing-sim : (xs : List Datum) (o : Outputs) (s : Point) (q : State) (flow : Flow) → Holds f flow (read_origin xs o) s.next s.carried q → Simulates w d (Flows f) xs o s.next (nothing s)
+      (flows q flow)
   nothing-sim xs o s q flow h = sim-given w d (Flows f) xs o s.next tt s (record { flow = flow; state = q }) (omega arith) (h, tt)
 
   pub null-stmt : (vs : List VariableTree) → StmtClaim vs null
@@ -84,16 +85,20 @@ module _ (w : Direction) (functions : List Signature) (c : source.Context) (d : 
       form : MayJump first.after.carried.form (stmt_jumps (if_else e a b))
       form = may-later s first.after (stmt_jumps (if_else e a b)) (tested_later e s) j
 
-      by : (o' : Outputs) → IsSoundRun xs o' → (u : State) → Holds f normal (read_origin xs o') first.after.next first.after.carried u → (truth : Bool) (n : ℕ) → read_origin xs o' first.value ≡ val (Num n) →
-          (n == 0) ≡ not truth → Simulates w d (Flows f) xs o' first.after.next (choice_one_first no_value first.after first.value (stmt_made vs b) (stmt_made vs a)) (cond truth (stmt_run c vs a u) (stmt_run c vs b u))
+      by : (o' : Outputs) → IsSoundRun xs o' → (u : State) → Holds f normal (read_origin xs o') first.after.next first.after.carried u → (truth : Bool) (n : ℕ) →
+          read_origin xs o' first.value ≡ val (Num n) →
+          (n == 0) ≡ not truth → Simulates w d (Flows f) xs o' first.after.next (choice_one_first no_value first.after first.value (stmt_made vs b) (stmt_made vs a))
+          (cond truth (stmt_run c vs a u) (stmt_run c vs b u))
       by o' r' u h' true (suc n) z e' =
           one-first-sim w d f (λ x. x.flow) (λ x. x.state) Nothing Nothing no_value xs o' r' first.after first.value (suc n) (stmt_made vs b) (stmt_made vs a) (stmt_run c vs a u) normal u
           (no_value-gives xs o' first.after.next) z (stmt_later vs b) (stmt_later vs a) h'
-          (λ us m r'' h''. ca us no_outputs r'' (inside first.after.carried m) u h'' (may-inside first.after.carried m (stmt_jumps a) (jump_left first.after.carried.form (stmt_jumps a) (stmt_jumps b) form)))
+          (λ us m r'' h''. ca us no_outputs r'' (inside first.after.carried m) u h'' (may-inside first.after.carried m (stmt_jumps a)
+          (jump_left first.after.carried.form (stmt_jumps a) (stmt_jumps b) form)))
       by o' r' u h' false zero z e' =
           one-first-sim w d f (λ x. x.flow) (λ x. x.state) Nothing Nothing no_value xs o' r' first.after first.value 0 (stmt_made vs b) (stmt_made vs a) (stmt_run c vs b u) normal u
           (no_value-gives xs o' first.after.next) z (stmt_later vs b) (stmt_later vs a) h'
-          (λ us m r'' h''. cb us no_outputs r'' (inside first.after.carried m) u h'' (may-inside first.after.carried m (stmt_jumps b) (jump_right first.after.carried.form (stmt_jumps a) (stmt_jumps b) form)))
+          (λ us m r'' h''. cb us no_outputs r'' (inside first.after.carried m) u h'' (may-inside first.after.carried m (stmt_jumps b)
+          (jump_right first.after.carried.form (stmt_jumps a) (stmt_jumps b) form)))
       by o' r' u h' true zero z e' = absurd cc
       by o' r' u h' false (suc n) z e' = absurd (false≢true (sym (apart n) ∙ e'))
 
@@ -102,7 +107,8 @@ module _ (w : Direction) (functions : List Signature) (c : source.Context) (d : 
   jump-sim : (flow : Flow) → value_at_end f.is_main flow ≡ value_at_end f.is_main normal → (xs : List Datum) (o : Outputs) → IsSoundRun xs o → (s : Point) (q : State) →
       Holds f normal (read_origin xs o) s.next s.carried q → MayJump s.carried.form true → Simulates w d (Flows f) xs o s.next (jump_made (code flow) s) (flows q flow)
   jump-sim flow same xs o r s q h j =
-      line-then w d f normal fit.sound (Flows f) xs o s.next r first (λ x t. nothing (with_go t x)) q (Num (code flow % 2 ^ 32)) (flows q flow) (const-line w d f normal xs o s q h (code flow)) (λ o' r' m.
+      line-then w d f normal fit.sound (Flows f) xs o s.next r first (λ x t. nothing (with_go t x)) q (Num (code flow % 2 ^ 32)) (flows q flow) (const-line w d f normal xs o s q h (code flow))
+      (λ o' r' m.
       let old = jumps-of (read_origin xs o') first.after.next f.is_main normal s.carried.form s.carried.go s.carried.ret form m.post.0.jumps in
       nothing-sim xs o' (with_go first.after first.value) q flow
       (holds-jump f normal flow (read_origin xs o') first.after.next first.after q first.value s.carried.ret form m.post.0 (
@@ -129,7 +135,8 @@ module _ (w : Direction) (functions : List Signature) (c : source.Context) (d : 
   pub continue-stmt : (vs : List VariableTree) → StmtClaim vs continue
   continue-stmt vs xs o r s q h j = jump-sim continued (jump-left-same f.is_main).1 xs o r s q h j
 
-  return-sim : (xs : List Datum) (o : Outputs) → IsSoundRun xs o → (s : Point) (q : State) → Holds f normal (read_origin xs o) s.next s.carried q → MayJump s.carried.form true → (v : Option Value) (p : Origin) →
+  return-sim : (xs : List Datum) (o : Outputs) → IsSoundRun xs o → (s : Point) (q : State) → Holds f normal (read_origin xs o) s.next s.carried q → MayJump s.carried.form true → (v : Option Value)
+      (p : Origin) →
       Held (read_origin xs o) s.next (value_or_none v) p → Simulates w d (Flows f) xs o s.next (return_made p s) (flows q (returned v))
   return-sim xs o r s q h j v p g =
       line-then w d f normal fit.sound (Flows f) xs o s.next r first (λ x t. nothing (with_go_and_ret t x p)) q (Num 3) (flows q (returned v)) (const-line w d f normal xs o s q h 3) (λ o' r' m.
@@ -142,8 +149,10 @@ module _ (w : Direction) (functions : List Signature) (c : source.Context) (d : 
 
   pub return-value-stmt : (vs : List VariableTree) (e : ExprTree) → IsScalar (type_of e) → ExprClaim w functions c d fit f normal e → StmtClaim vs (return_value e)
   return-value-stmt vs e scalar k xs o r s q h j =
-      sim-bind w d fit.sound (Typed f normal (type_of e)) (Flows f) xs o s.next r first return_made (expr_run c e q) (λ x. used x.value (λ v. flows x.state (returned (Some v)))) (k xs o r s q h) (λ y o' r' m.
-      used-there w (Ran (Flows f) xs o' first.after.next (return_made first.value first.after)) y.value (λ v. flows y.state (returned (Some v))) (nodes_run d (nodes_of (return_made first.value first.after).nodes) xs o') (λ there.
+      sim-bind w d fit.sound (Typed f normal (type_of e)) (Flows f) xs o s.next r first return_made (expr_run c e q) (λ x. used x.value (λ v. flows x.state (returned (Some v)))) (k xs o r s q h)
+      (λ y o' r' m.
+      used-there w (Ran (Flows f) xs o' first.after.next (return_made first.value first.after)) y.value (λ v. flows y.state (returned (Some v)))
+      (nodes_run d (nodes_of (return_made first.value first.after).nodes) xs o') (λ there.
       return-sim xs o' r' first.after y.state m.post.0 (may-later s first.after true (expr_later e s) j) (Some y.value) first.value
       (shown-held (read_origin xs o') first.after.next (type_of e) y.value first.value scalar m.post.1)))
     where
@@ -201,9 +210,11 @@ module _ (w : Direction) (functions : List Signature) (c : source.Context) (d : 
 
   pub items-then : (vs : List VariableTree) (a : StmtTree) (is : ItemTrees) → StmtClaim vs a → ItemsClaim vs is → ItemsClaim vs (stmt_then a is)
   items-then vs a is ca cis xs o r s q h j =
-      sim-bind w d fit.sound (λ y rd t v. Allows (stmt_exits a) y.flow × Flows f y rd t v) (Flows f) xs o s.next r first (λ _ t. unless_left (can_leave (stmt_exits a) && some_items is) (items_made vs is) t)
+      sim-bind w d fit.sound (λ y rd t v. Allows (stmt_exits a) y.flow × Flows f y rd t v) (Flows f) xs o s.next r first
+      (λ _ t. unless_left (can_leave (stmt_exits a) && some_items is) (items_made vs is) t)
       (stmt_run c vs a q) (λ x. if_normal x.flow x.state (items_run c vs is))
-      (sim-gives w d f (λ y. Allows (stmt_exits a) y.flow) (Flows f) xs o s.next first (stmt_run c vs a q) (stmt-ends c vs a q) (ca xs o r s q h (jump_left s.carried.form (stmt_jumps a) (items_jump is) j)))
+      (sim-gives w d f (λ y. Allows (stmt_exits a) y.flow) (Flows f) xs o s.next first (stmt_run c vs a q) (stmt-ends c vs a q)
+      (ca xs o r s q h (jump_left s.carried.form (stmt_jumps a) (items_jump is) j)))
       (λ y o' r' m. by y o' r' m.post.0 m.post.1 (can_leave (stmt_exits a) && some_items is) refl)
     where
       first : Built (Unit {0})

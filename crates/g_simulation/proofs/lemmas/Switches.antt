@@ -102,7 +102,8 @@ module _ (w : Direction) (functions : List Signature) (c : source.Context) (d : 
       picked-does =
           subst (λ i. Does w functions c d fit hs n m vs several target.group (groups_jump gs) run i regions) (omega arith)
           (subst (λ i. Does w functions c d fit hs n m vs several target.group (groups_jump gs) (groups_done i (groups_runs c vs gs)) (target.segment - 0) regions) same
-          (target-does w functions c d fit hs n m vs several target.group true 0 0 gs target (is-target v gs) refl (λ z. absurd cc) (λ z. z) (omega (arith, few)) (claims-at hs several target.group gs claims)))
+          (target-does w functions c d fit hs n m vs several target.group true 0 0 gs target (is-target v gs) refl (λ z. absurd cc) (λ z. z) (omega (arith, few))
+          (claims-at hs several target.group gs claims)))
         where
           same : target.group - 0 ≡ group_count gs - group_count (chosen_groups v gs)
           same = let z = target-group v gs in omega (arith, z)
@@ -123,7 +124,8 @@ module _ (w : Direction) (functions : List Signature) (c : source.Context) (d : 
       regions-sim : (xs : List Datum) (o : Outputs) → IsSoundRun xs o → (s : Point) (q : State) → Holds g normal (read_origin xs o) s.next s.carried q → MayJump s.carried.form (groups_jump gs) →
           HasFrom several s.carried.variables → (p : Origin) → Reads (read_origin xs o) s.next target.segment p → Simulates w d (Flows g) xs o s.next (choices no_value s p regions) (run q)
       regions-sim xs o r s q h j has p e =
-          choices-sim w d g (λ x. x.flow) (λ x. x.state) Nothing Nothing no_value xs o r s p target.segment picked-does.made regions (run q) normal q (no_value-gives xs o s.next) e.0 picked-does.there picked-does.keeps
+          choices-sim w d g (λ x. x.flow) (λ x. x.state) Nothing Nothing no_value xs o r s p target.segment picked-does.made regions (run q) normal q
+          (no_value-gives xs o s.next) e.0 picked-does.there picked-does.keeps
           regions-keep h (λ us i r' h'. picked-does.does us no_outputs r' (inside s.carried i) q h' (may-inside s.carried i (groups_jump gs) j) (from-inside several s.carried i has))
 
       -- and then `from` leaves, and the `break` of the `switch` has ended
@@ -131,7 +133,8 @@ module _ (w : Direction) (functions : List Signature) (c : source.Context) (d : 
           HasFrom several s.carried.variables → (p : Origin) → Reads (read_origin xs o) s.next target.segment p →
           Simulates w d (Flows f) xs o s.next (bind (choices no_value s p regions) (λ _ t. break_ended (groups_exits gs).breaks (from_popped several t))) (then_on (run q) past)
       left-sim xs o r s q h j has p e =
-          sim-bind w d fit.sound (λ y rd t u. Allows (groups_exits gs) y.flow × Flows g y rd t u) (Flows f) xs o s.next r made (λ _ t. break_ended (groups_exits gs).breaks (from_popped several t)) (run q) past
+          sim-bind w d fit.sound (λ y rd t u. Allows (groups_exits gs) y.flow × Flows g y rd t u) (Flows f) xs o s.next r made (λ _ t. break_ended (groups_exits gs).breaks (from_popped several t))
+          (run q) past
           (sim-gives w d g (λ y. Allows (groups_exits gs) y.flow) (Flows g) xs o s.next made (run q)
           (groups-done-end (groups_exits gs) (group_count gs - group_count (chosen_groups v gs)) (groups_runs c vs gs) (groups-end c vs gs) q) (regions-sim xs o r s q h j has p e)) (λ y o' r' k.
           ended several y o' r' (unbroken (groups_exits gs) y.flow k.post.0)
@@ -156,8 +159,10 @@ module _ (w : Direction) (functions : List Signature) (c : source.Context) (d : 
           sim-bind w d fit.sound (Selects w d fit.sound f normal q v target.segment labels) (Flows f) xs o s.next r first
           (λ x t. bind (from_made several default.group labels x.equals t) (λ _ u. bind (choices no_value u x.number regions) (λ _ z. break_ended (groups_exits gs).breaks (from_popped several z))))
           (Returned tt []) (λ _. then_on (run q) past)
-          (subst (λ k. Simulates w d (Selects w d fit.sound f normal q v k labels) xs o s.next first (Returned tt [])) segment-word (segment-sim w d fit.sound f normal q p v default.segment labels xs o r s h e)) (λ y o1 r1 m1.
-          sim-bind w d fit.sound (Stepped g normal) (Flows f) xs o1 first.after.next r1 second (λ _ u. bind (choices no_value u first.value.number regions) (λ _ z. break_ended (groups_exits gs).breaks (from_popped several z)))
+          (subst (λ k. Simulates w d (Selects w d fit.sound f normal q v k labels) xs o s.next first (Returned tt [])) segment-word
+          (segment-sim w d fit.sound f normal q p v default.segment labels xs o r s h e)) (λ y o1 r1 m1.
+          sim-bind w d fit.sound (Stepped g normal) (Flows f) xs o1 first.after.next r1 second (λ _ u. bind (choices no_value u first.value.number regions)
+          (λ _ z. break_ended (groups_exits gs).breaks (from_popped several z)))
           (Returned q []) (λ u. then_on (run u) past)
           (subst (λ k. Simulates w d (Stepped (framed (with_from several hs k) n m) normal) xs o1 first.after.next second (Returned q [])) from-word
           (from-sim w d fit.sound hs n m q several v default.group labels first.value.equals xs o1 r1 first.after m1.post.0 m1.post.2)) (λ u o2 r2 m2.
@@ -180,12 +185,15 @@ module _ (w : Direction) (functions : List Signature) (c : source.Context) (d : 
     picks-sim xs o r s q h j p v e = by gs refl
       where
         by : (hs : GroupTrees) → gs ≡ hs →
-            Simulates w d (Flows f) xs o s.next (switch_made p gs (segments_made vs true 0 gs) s) (then_on (groups_done (group_count gs - group_count (chosen_groups v gs)) (groups_runs c vs gs) q) past)
+            Simulates w d (Flows f) xs o s.next (switch_made p gs (segments_made vs true 0 gs) s) (then_on
+            (groups_done (group_count gs - group_count (chosen_groups v gs)) (groups_runs c vs gs) q) past)
         by no_groups z =
-            subst (λ hs. Simulates w d (Flows f) xs o s.next (switch_made p hs (segments_made vs true 0 hs) s) (then_on (groups_done (group_count hs - group_count (chosen_groups v hs)) (groups_runs c vs hs) q) past)) (sym z)
+            subst (λ hs. Simulates w d (Flows f) xs o s.next (switch_made p hs (segments_made vs true 0 hs) s)
+            (then_on (groups_done (group_count hs - group_count (chosen_groups v hs)) (groups_runs c vs hs) q) past)) (sym z)
             (nothing-sim w functions c d fit f xs o s q normal h)
         by (group_then cases e' is hs) z =
-            subst (λ b. Simulates w d (Flows f) xs o s.next b (then_on (groups_done (group_count gs - group_count (chosen_groups v gs)) (groups_runs c vs gs) q) past)) (sym (same z)) (chosen-sim v xs o r s q h j p e)
+            subst (λ b. Simulates w d (Flows f) xs o s.next b (then_on (groups_done (group_count gs - group_count (chosen_groups v gs)) (groups_runs c vs gs) q) past)) (sym (same z))
+            (chosen-sim v xs o r s q h j p e)
           where
             same : gs ≡ group_then cases e' is hs → switch_made p gs (segments_made vs true 0 gs) s ≡ chosen_made p gs (segments_made vs true 0 gs) s
             same z = subst (λ hs. switch_made p hs (segments_made vs true 0 hs) s ≡ chosen_made p hs (segments_made vs true 0 hs) s) (sym z) refl
@@ -194,7 +202,8 @@ module _ (w : Direction) (functions : List Signature) (c : source.Context) (d : 
     switch-stmt e promoted k xs o r s q h j =
         sim-bind w d fit.sound (Typed f normal (type_of e)) (Flows f) xs o s.next r first (λ p t. switch_made p gs (segments_made vs true 0 gs) t) (expr_run c e q)
         (λ x. on_number x.value (λ v. then_on (groups_done (group_count gs - group_count (chosen_groups v gs)) (groups_runs c vs gs) x.state) past)) (k xs o r s q h) (λ y o' r' i.
-        number-there w (Ran (Flows f) xs o' first.after.next (rest first.value first.after)) y.value (λ v. then_on (groups_done (group_count gs - group_count (chosen_groups v gs)) (groups_runs c vs gs) y.state) past)
+        number-there w (Ran (Flows f) xs o' first.after.next (rest first.value first.after)) y.value (λ v. then_on
+        (groups_done (group_count gs - group_count (chosen_groups v gs)) (groups_runs c vs gs) y.state) past)
         (nodes_run d (nodes_of (rest first.value first.after).nodes) xs o') (λ v z.
         picks-sim xs o' r' first.after y.state i.post.0 (may-later s first.after (groups_jump gs) (expr_later e s) j) first.value v
         (reads-of (read_origin xs o') first.after.next v first.value

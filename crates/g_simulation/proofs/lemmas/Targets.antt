@@ -37,7 +37,8 @@ labels-lead : (k g : ℕ) (gs : GroupTrees) → AllLabels (IsTarget k g gs) (lab
 labels-lead k g no_groups = tt
 labels-lead k g (group_then cases d is gs) =
     cases-and (IsTarget k g (group_then cases d is gs)) (record { segment = k; group = g }) cases (labels_of (next_segment k is gs) (suc g) gs) (inl (refl, refl))
-    (labels-more (IsTarget (next_segment k is gs) (suc g) gs) (IsTarget k g (group_then cases d is gs)) (labels_of (next_segment k is gs) (suc g) gs) (λ t h. inr h) (labels-lead (next_segment k is gs) (suc g) gs))
+    (labels-more (IsTarget (next_segment k is gs) (suc g) gs) (IsTarget k g (group_then cases d is gs)) (labels_of (next_segment k is gs) (suc g) gs) (λ t h. inr h)
+    (labels-lead (next_segment k is gs) (suc g) gs))
 
 pub default-leads : (k g : ℕ) (gs : GroupTrees) → IsTarget k g gs (default_target k g gs)
 default-leads k g no_groups = (refl, refl)

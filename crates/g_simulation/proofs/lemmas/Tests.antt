@@ -53,7 +53,8 @@ apart n = grind (arith, nat_tests)
 
 module _ (w : Direction) (d : Context) (f : Frame) where
   -- a choice on what was decided: region 1 is done where it is true
-  pub ways-sim : {B A : Type 0} → (flow : B → Flow) (state : B → State) (V W : Gift B A) (x : Extra A) (xs : List Datum) (o : Outputs) → IsSoundRun xs o → (s : Point) (p : Origin) (g0 g1 : Point → Built A)
+  pub ways-sim : {B A : Type 0} → (flow : B → Flow) (state : B → State) (V W : Gift B A) (x : Extra A) (xs : List Datum) (o : Outputs) → IsSoundRun xs o → (s : Point) (p : Origin)
+      (g0 g1 : Point → Built A)
       (now : Flow) (y : Decided) (a b : State → Answer B) → ExtraGives x xs o s.next V W → Keeps g0 → Keeps g1 → Decides f now y (read xs o) s p →
       ((us : List Datum) (n : ℕ) → IsSoundRun us no_outputs → Holds f now (read us no_outputs) n (inside s.carried n).carried y.state →
       Simulates w d (After f flow state V) us no_outputs n (g1 (inside s.carried n)) (a y.state)) →

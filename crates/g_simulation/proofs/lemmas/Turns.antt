@@ -132,7 +132,8 @@ module _ (w : Direction) (functions : List Signature) (c : source.Context) (d : 
       (Num (word2 op.Ne (code flow) (n % 2 ^ 32))) (Returned q [])
       (bin-line w d f flow xs o1 first.after q m1.post.0 op.Ne s.carried.go first.value (Num (code flow)) (Num (n % 2 ^ 32)) (go-of xs o1 first.after.next m1.post.0)
       (held-is (read_origin xs o1) first.after.next (Num (n % 2 ^ 32)) first.value tt m1.post.1)) (λ o2 r2 m2.
-      line-then w d f flow fit.sound (Stepped f flow') xs o2 second.after.next r2 third (λ g v. nothing (with_go v g)) q (Num (word2 op.Mul (code flow) (word2 op.Ne (code flow) (n % 2 ^ 32)))) (Returned q [])
+      line-then w d f flow fit.sound (Stepped f flow') xs o2 second.after.next r2 third (λ g v. nothing (with_go v g)) q (Num (word2 op.Mul (code flow) (word2 op.Ne (code flow) (n % 2 ^ 32))))
+      (Returned q [])
       (bin-line w d f flow xs o2 second.after q m2.post.0 op.Mul s.carried.go second.value (Num (code flow)) (Num (word2 op.Ne (code flow) (n % 2 ^ 32))) (go-of xs o2 second.after.next m2.post.0)
       (held-is (read_origin xs o2) second.after.next (Num (word2 op.Ne (code flow) (n % 2 ^ 32))) second.value tt m2.post.1)) (λ o3 r3 m3.
       let old = jumps-of (read_origin xs o3) third.after.next f.is_main flow s.carried.form s.carried.go s.carried.ret form m3.post.0.jumps in

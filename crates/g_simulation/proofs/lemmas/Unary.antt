@@ -191,7 +191,8 @@ module _ (w : Direction) (d : Context) (f : Frame) (flow : Flow) where
         (h, (a, held-is (read xs o) s.next (Num a) p tt g, g.below, not-of (a == 0) b (some-inj e)))
     condition-line (pointer_to k) p v b i e g =
         line-then w d f flow c (Tests b) xs o s.next t (is_null_made p s) is_zero_made q (Num (one_if (not b))) (Returned tt []) (not-line (pointer_to k) p v b i e g) (λ o' t' r.
-        sim-change w d (Line f flow q (Num (one_if (one_if (not b) == 0)))) (Tests b) xs o' (is_null_made p s).after.next (is_zero_made (is_null_made p s).value (is_null_made p s).after) (Returned tt [])
+        sim-change w d (Line f flow q (Num (one_if (one_if (not b) == 0)))) (Tests b) xs o' (is_null_made p s).after.next (is_zero_made (is_null_made p s).value (is_null_made p s).after)
+        (Returned tt [])
         (λ y o'' r'.
         (r'.post.0, (one_if (one_if (not b) == 0), held-is (read xs o'') _ (Num (one_if (one_if (not b) == 0))) _ tt r'.post.1, r'.post.1.below, zero-of b)))
         (is-zero-line w d f flow c xs o' t' (is_null_made p s).after q r.post.0 (is_null_made p s).value (one_if (not b)) (held-is (read xs o') _ (Num (one_if (not b))) _ tt r.post.1) r.post.1.below))
@@ -234,7 +235,8 @@ module _ (w : Direction) (d : Context) (f : Frame) (flow : Flow) where
     exit-sim : (p : Origin) (v : Value) → Held (read xs o) s.next v p →
         Simulates w d (Values f flow) xs o s.next (exit_made p s) (on_number v (λ n. Exited [] (n % 256)))
     exit-sim p (Num a) g =
-        subst (λ x. Refines exactly w (Ran (Values f flow) xs o s.next (exit_made p s)) (Exited [] (a % 256)) (then_on (on_number (value_of x) (λ n. Exited [] (n % 256))) (λ ys. Returned (outputs_extended o s.next ys) [])))
+        subst (λ x. Refines exactly w (Ran (Values f flow) xs o s.next (exit_made p s)) (Exited [] (a % 256))
+        (then_on (on_number (value_of x) (λ n. Exited [] (n % 256))) (λ ys. Returned (outputs_extended o s.next ys) [])))
         (sym (held-is (read xs o) s.next (Num a) p tt g)) (refl, refl)
     exit-sim p (At b k) g = tt
     exit-sim p Bad g = tt

@@ -20,7 +20,7 @@ use Rattle.s_templates.proofs.lemmas.Locations.{location-fits}
 use Rattle.s_templates.proofs.lemmas.Operands.{get-done}
 
 -- the environment call, where the registers say so
-ends : (text : Text) (s t : State) (w : ℕ) → Steps text.flags s t → HasText text t.mem → StandsAt text t.pc Ecall → t.regs a7 ≡ exit_call → t.regs a0 ≡ w → Exits text.flags s (w % 256)
+pub ends : (text : Text) (s t : State) (w : ℕ) → Steps text.flags s t → HasText text t.mem → StandsAt text t.pc Ecall → t.regs a7 ≡ exit_call → t.regs a0 ≡ w → Exits text.flags s (w % 256)
 unfolding act call
 ends text s t w steps has there is status = record {
   count = steps.count + 1;

@@ -1,4 +1,4 @@
-use Rattle.std.proofs.Common.{◌≡◌, true, false, Some, sym, ap, ◌∙◌, arith}
+use Rattle.std.proofs.Common.{true, false, Some, sym, ap, ◌∙◌, arith}
 use Rattle.std.proofs.lemmas.List.{drop_all}
 use Rattle.g_edit.specs.InPlace.{all_stay}
 use Rattle.g_edit.proofs.lemmas.InPlace.{stay_more}

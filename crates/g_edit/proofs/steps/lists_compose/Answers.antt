@@ -1,3 +1,4 @@
+use Rattle.g_edit.proofs.lemmas.Returns.{complete_lists_return}
 use Rattle.g_edit.proofs.lemmas.Steps.{lists_stand_for_themselves}
 use Rattle.g_edit.proofs.lemmas.Steps as steps
 use Rattle.g_edit.proofs.steps.lists_compose.Goals as goal
@@ -7,3 +8,6 @@ returns-clause-itself c = lists_stand_for_themselves
 
 pub returns-clause-next : goal.returns-clause-next
 returns-clause-next c = steps.lists_compose
+
+pub returns-clause-calls : goal.returns-clause-calls
+returns-clause-calls c = complete_lists_return

@@ -1,4 +1,4 @@
-use Rattle.std.proofs.Common.{◌≡◌, true, false, not, ◌&&◌, [], refl, sym, ap, ◌∙◌}
+use Rattle.std.proofs.Common.{not, ◌&&◌, [], refl, sym, ap, ◌∙◌}
 use Rattle.g_graph.specs.Plain.{regions_of}
 use Rattle.g_graph.specs.Signatures.{first_args}
 use Rattle.g_edit.specs.Exits.{regions_giving}

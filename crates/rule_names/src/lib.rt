@@ -1,6 +1,9 @@
-//! The rules, by name and in order.
+//! The rules by name and in order, as recipes and reports have them. It stands on the steps of
+//! g_graph. Promise: each rule has its name and its place.
+#![tactic(auto)]
+
 ghost use Rattle.std.specs.Prelude.{◌≡◌, ◌<◌};
-ghost use Rattle.cc_watch.specs.Texts.{all_rules, rule_name, rule_place};
+ghost use Rattle.rule_names.specs.Names.{all_rules, rule_name, rule_place};
 
 use g_graph::Rule;
 

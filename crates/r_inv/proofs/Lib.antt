@@ -1,0 +1,2 @@
+mod Inv
+mod Lists

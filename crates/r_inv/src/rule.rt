@@ -1,0 +1,98 @@
+ghost use Rattle.std.specs.Prelude.{◌≡◌, MatchBool, IfOk, OnOk, OnErr, IsTrue, is_some};
+ghost use Rattle.std.specs.declared.option.Option.TheVariants.{Some, None};
+ghost use Rattle.g_graph.specs.WellFormed.{IsWellFormed};
+ghost use Rattle.g_graph.specs.Program.{KeepsPrograms};
+ghost use Rattle.g_mean.specs.Edits.{KeepsMeaning, KeepsComplete};
+ghost use Rattle.r_inv.specs.Rule.{inv_here, applies, inv};
+ghost use Rattle.r_inv.specs.Plan.{carried_out, fits};
+
+use crate::find::{can_redirect, plan_at};
+use crate::plan::Plan;
+use g_edit::{carry_exits, carry_uses};
+use g_graph::{CanChange, Change, Lambda, Region, can_change_lambda, change_lambda};
+use no_memory::NoMemory;
+use std::alloc::Global;
+
+/// Whether the rule applies at the node of this number: a Gamma with exits, states too, that in
+/// every region are arguments of one origin, or a Theta with value variables whose result is their
+/// argument, where an output of one of them is used. It is false for a number that is not there. It
+/// takes no memory. It takes time linear in the lambda, and for a Gamma or a Theta the time of a
+/// walk through its region for each of those variables.
+pub fn applies(lambda: &Lambda, node: u32) -> bool
+    ensures { result ≡ applies lambda.now node }
+{
+    can_change_lambda(lambda, &Redirecting { node })
+}
+
+/// Uses of each such output become uses of that origin, or of the variable's input; of a Gamma all
+/// those exits go, of a Theta nothing does. It takes memory only for an origin and a test for each
+/// variable, and time as `applies`. Where memory runs out nothing changes.
+pub fn apply(alloc: Global, lambda: &mut Lambda, node: u32) -> Result<(), NoMemory>
+    requires well_formed { IsWellFormed lambda.old }
+    requires applies { IsTrue (applies lambda.old node) }
+    ensures ok { OnOk result (lambda.new ≡ inv node lambda.old) }
+    ensures kept { OnOk result (IsWellFormed lambda.new) }
+    ensures meaning { OnOk result (KeepsMeaning lambda.old lambda.new) }
+    ensures list { OnOk result (KeepsComplete lambda.old lambda.new) }
+    ensures program { OnOk result (KeepsPrograms lambda.old lambda.new) }
+    ensures err { OnErr result (lambda.new ≡ lambda.old) }
+{
+    change_lambda(lambda, &mut Redirection { alloc, node })?;
+    Ok(())
+}
+
+// The test of the region that holds the node.
+#[derive(Drop)]
+struct Redirecting {
+    node: u32,
+}
+
+impl CanChange for Redirecting {
+    ghost changed = { λ e. inv_here e.node };
+
+    fn can_change(&self, region: &Region) -> bool {
+        can_redirect(region, self.node)
+    }
+}
+
+// The change of the region that holds the node.
+#[derive(Drop)]
+struct Redirection {
+    alloc: Global,
+    node: u32,
+}
+
+impl Change for Redirection {
+    type Fault = NoMemory;
+
+    ghost changed = { λ e. inv_here e.node };
+
+    fn make(&mut self, region: &mut Region) -> Result<bool, NoMemory> {
+        redirect(self.alloc, region, self.node)
+    }
+}
+
+fn redirect(alloc: Global, region: &mut Region, id: u32) -> Result<bool, NoMemory>
+    ensures ok { IfOk result (λ done.
+        MatchBool done (inv_here id region.old ≡ Some region.new)
+        ((inv_here id region.old ≡ None) × (region.new ≡ region.old))) }
+    ensures err { OnErr result (region.new ≡ region.old) }
+{
+    match plan_at(alloc, region, id)? {
+        Some(plan) => {
+            carry_out(region, id, plan);
+            Ok(true)
+        }
+        None => Ok(false),
+    }
+}
+
+fn carry_out(region: &mut Region, id: u32, plan: Plan)
+    requires { fits plan }
+    ensures { region.new ≡ carried_out id region.old plan }
+{
+    match plan {
+        Plan::Gamma(carried, stays) => carry_exits(region, id, &carried, &stays),
+        Plan::Theta(carried) => carry_uses(region, id, &carried),
+    }
+}
