@@ -1,17 +1,22 @@
 -- The image of a constant exits with its low byte.
-use Rattle.std.proofs.Common.{◌≡◌, ℕ, suc, ◌+◌, ◌-◌, ◌*◌, ◌%◌, ◌<◌, ◌≤◌, ◌^◌, ◌==◌, true, false, nat_lt, nat_le, List, [], ◌∷◌, ◌++◌, length, slice_index, slice_index_or, Ok, refl, ap, ◌∙◌, if◌then◌else◌, arith, inl, inr}
-use Rattle.std.proofs.lemmas.Bool.{cases_lt, lt-ltb, ltb-true, le-ltb, le-leb}
+use Rattle.std.proofs.Common.{◌≡◌, ℕ, suc, ◌+◌, ◌-◌, ◌*◌, ◌%◌, ◌<◌, ◌≤◌, ◌^◌, ◌==◌, true, false, nat_lt, List, [], ◌∷◌, ◌++◌, length, Ok, refl, ap, ◌∙◌, if◌then◌else◌, arith, inl, inr}
+use Rattle.std.proofs.lemmas.Bool.{cases_lt, lt-ltb, ltb-true, le-ltb}
 use Rattle.elf_file.proofs.lemmas.RoundTrip.{written_loads}
 use Rattle.elf_file.specs.Image.{Sections, IsPlaced, data_size}
-use Rattle.elf_file.specs.Laws.{executable_for, text_segment, data_segment}
+use Rattle.elf_file.specs.Laws.{LoadedIsSound, executable_for, text_segment, data_segment}
 use Rattle.elf_file.specs.Loading.{LoadedSegment}
+use Rattle.elf_file.specs.Segments.{AreSound}
 use Rattle.elf_file.specs.Written.{file_of}
-use Rattle.rv_isa.specs.Words.{FitsFormat}
 use Rattle.rv_isa.specs.declared.instruction.Instr.{Instr}
-use Rattle.rv_isa.specs.declared.instruction.Instr.TheVariants.{Lui, Addi, Ebreak}
-use Rattle.rv_machine.specs.Machine.{State, next, exit, next_effect, act, give}
-use Rattle.rv_machine.specs.Memory.{Bytes, allowed, load_bytes, store_bytes, put_at, memory_of, flags_of, has_flag, to_execute, to_read, to_write}
-use Rattle.rv_machine.specs.Run.{run_state, run, executed, executed_if_loaded, image_at, standing, ended}
+use Rattle.rv_isa.specs.declared.instruction.Instr.TheVariants.{Lui, Addi}
+use Rattle.rv_machine.specs.Laws.{Reaches}
+use Rattle.rv_machine.specs.Machine.{State, next, exit, act, give}
+use Rattle.rv_machine.specs.Memory.{Bytes, allowed, load_bytes, store_bytes, put_at, memory_of, flags_of, has_flag, to_read, to_write}
+use Rattle.rv_machine.specs.Run.{run, running, executed, executed_if_loaded, image_at, standing, ended}
+use Rattle.rv_machine.specs.Standing.{Text, StandsAt, AllFit}
+use Rattle.rv_machine.proofs.lemmas.Codes.{segment_code_stands}
+use Rattle.rv_machine.proofs.lemmas.Standing.{standing_reaches, each_stands}
+use Rattle.rv_machine.proofs.lemmas.Texts.{segment_is_in_memory, flags_allow}
 use Rattle.rv_layout.proofs.Placed.{length-bytes_of}
 use Rattle.rv_layout.specs.declared.item.Item.{Item}
 use Rattle.rv_layout.specs.Layout.{laid_out}
@@ -21,55 +26,20 @@ use Rattle.s_select.specs.Templates.{words, take_frame}
 use Rattle.cc_top.specs.Constant.{image_of_constant}
 use Rattle.cc_top.specs.Program.{ExitsWithin, ConstantExits}
 use Rattle.cc_top.proofs.ConstantRun.{program, last_code, TextStands, StackAllows, s0, s13, a0, b0, front-reaches, a-ends, b-ends}
-use Rattle.cc_top.proofs.Standing.{stands-same, effect-act, Reaches, reaches-more}
 use Rattle.std.proofs.Common.{lit≤}
 use Rattle.rv_isa.specs.Formats.{IsSigned}
 use Rattle.rv_isa.specs.WordParts.{upper_part, low_part}
 use Rattle.rv_isa.proofs.lemmas.WordParts.{low_part_fits, parts_make_word}
-use Rattle.cc_top.proofs.ProgramFits.{AllFit-at, small_fits, large_fits}
-use Rattle.cc_top.proofs.Text.{Holds, holds-stands}
+use Rattle.cc_top.proofs.ProgramFits.{small_fits, large_fits}
 
--- ---- the segments in memory
+-- ---- the segments
 
 pub segments : Sections → List LoadedSegment
 segments p = text_segment p ∷ data_segment p ∷ []
 
-pub text_byte : (p : Sections) (k : ℕ) → k < length p.text → memory_of (segments p) (65536 + k) ≡ slice_index p.text k
-unfolding memory_of segments
-text_byte p k inside =
-    let low : nat_le 65536 (65536 + k) ≡ true = le-leb 65536 (65536 + k) (omega arith) in
-    let high : nat_lt (65536 + k) (65536 + length p.text) ≡ true = lt-ltb (65536 + k) (65536 + length p.text) (omega arith) in
-    let back : 65536 + k - 65536 ≡ k = omega arith in
-    rw (low, high, back) refl
-
-text_flag : (p : Sections) (k : ℕ) → k < length p.text → flags_of (segments p) (65536 + k) ≡ 5
-unfolding flags_of segments
-text_flag p k inside =
-    let low : nat_le 65536 (65536 + k) ≡ true = le-leb 65536 (65536 + k) (omega arith) in
-    let high : nat_lt (65536 + k) (65536 + length p.text) ≡ true = lt-ltb (65536 + k) (65536 + length p.text) (omega arith) in
-    rw (low, high) refl
-
-data_flag : (p : Sections) (a : ℕ) → 65536 + length p.text ≤ a → p.data_at ≤ a → a < p.data_at + data_size p → flags_of (segments p) a ≡ 6
-unfolding flags_of segments
-data_flag p a above low high =
-    let out : nat_lt a (65536 + length p.text) ≡ false = le-ltb a (65536 + length p.text) above in
-    let in_low : nat_le 65536 a ≡ true = le-leb 65536 a (omega arith) in
-    let data_low : nat_le p.data_at a ≡ true = le-leb p.data_at a low in
-    let data_high : nat_lt a (p.data_at + data_size p) ≡ true = lt-ltb a (p.data_at + data_size p) high in
-    rw (in_low, out, data_low, data_high) refl
-
--- four bytes of the data segment may be read and written
-data_allows : (p : Sections) (flag a : ℕ) → has_flag 6 flag ≡ true → 65536 + length p.text ≤ a → p.data_at ≤ a → a + 4 ≤ p.data_at + data_size p
-    → allowed (flags_of (segments p)) flag a 4 ≡ true
-unfolding allowed
-data_allows p flag a has above low high =
-    let at : (b : ℕ) → a ≤ b → b < a + 4 → has_flag (flags_of (segments p) b) flag ≡ true =
-    (λ b from to. ap (λ f. has_flag f flag) (data_flag p b (omega arith) (omega arith) (omega arith)) ∙ has) in
-    let f0 = at a (omega arith) (omega arith) in
-    let f1 = at (suc a) (omega arith) (omega arith) in
-    let f2 = at (suc (suc a)) (omega arith) (omega arith) in
-    let f3 = at (suc (suc (suc a))) (omega arith) (omega arith) in
-    rw (f0, f1, f2, f3) refl
+-- the text of an image without fixed bytes
+abbrev text_of : Sections → Text
+text_of p = record { flags = flags_of (segments p); bytes = memory_of (segments p) }
 
 -- ---- the program of a constant
 
@@ -91,7 +61,7 @@ pub record IsImageOf (p : Sections) (li : List Instr) (count : ℕ) : Type 0 whe
   pub counted : length (program li) ≡ count
   pub small : count ≤ 46
   pub most : 37 ≤ count
-  pub fits : (k : ℕ) → k < count → FitsFormat (slice_index_or (program li) k Ebreak)
+  pub fits : AllFit (program li)
 
 image_text_length : {p : Sections} {li : List Instr} {count : ℕ} → IsImageOf p li count → length p.text ≡ 4 * count
 image_text_length {p} {li} h = ap length h.text ∙ length-bytes_of (program li) ∙ ap (λ n. 4 * n) h.counted
@@ -111,11 +81,22 @@ image_segments : {p : Sections} {li : List Instr} {count : ℕ} → IsImageOf p 
 unfolding executable_for segments
 image_segments h = rw h.fixed refl
 
-image_allows : {p : Sections} {li : List Instr} {count : ℕ} → IsImageOf p li count → StackAllows (flags_of (segments p))
-image_allows {p} h =
-    let len = image_text_length h in
+image_sound : LoadedIsSound → {p : Sections} {li : List Instr} {count : ℕ} → IsImageOf p li count → AreSound (segments p)
+image_sound loads {p} h =
+    loads (file_of p) (record { entry = 65536; segments = segments p }) (written_loads p (image_placed h) ∙ ap Ok (image_segments h))
+
+-- four bytes of the data segment may be read and written
+data_allows : (p : Sections) → AreSound (segments p) → (flag a : ℕ) → has_flag 6 flag ≡ true → p.data_at ≤ a → a + 4 ≤ p.data_at + data_size p
+    → allowed (flags_of (segments p)) flag a 4 ≡ true
+unfolding segments
+data_allows p sound flag a has low high =
+    flags_allow (flags_of (segments p)) flag a 4 (λ j below.
+    ap (λ f. has_flag f flag) (segment_is_in_memory (segments p) 1 (data_segment p) (a + j) sound refl (omega (arith, low), omega (arith, high, below))).1 ∙ has)
+
+image_allows : LoadedIsSound → {p : Sections} {li : List Instr} {count : ℕ} → IsImageOf p li count → StackAllows (flags_of (segments p))
+image_allows loads {p} h =
     let at : (flag a : ℕ) → has_flag 6 flag ≡ true → 73728 ≤ a → a + 4 ≤ 8462336 → allowed (flags_of (segments p)) flag a 4 ≡ true =
-    (λ flag a has low high. data_allows p flag a has (omega (arith, h.small)) (omega (arith, h.data_at)) (omega (arith, h.data_at, h.stack_at))) in
+    (λ flag a has low high. data_allows p (image_sound loads h) flag a has (omega (arith, h.data_at, low)) (omega (arith, h.data_at, h.stack_at, high))) in
     record {
       w1 = at to_write 8462332 refl (omega arith) (omega arith);
       w2 = at to_write 8462328 refl (omega arith) (omega arith);
@@ -123,19 +104,13 @@ image_allows {p} h =
       r2 = at to_read 8462328 refl (omega arith) (omega arith);
     }
 
-image_holds : {p : Sections} {li : List Instr} {count : ℕ} → IsImageOf p li count → Holds (flags_of (segments p)) (memory_of (segments p)) 65536 (program li)
-image_holds {p} {li} h =
-    let len = image_text_length h in
-    record {
-      bytes = (λ k inside. text_byte p k (omega (arith, h.counted)) ∙ ap (λ text. slice_index text k) h.text);
-      executable = (λ k inside. ap (λ f. has_flag f to_execute) (text_flag p k (omega (arith, h.counted))));
-      aligned = refl;
-      fits = (λ k inside. h.fits k (omega (arith, h.counted)));
-    }
-
-pub image_stands : {p : Sections} {li : List Instr} {count : ℕ} → IsImageOf p li count → (expected : ℕ) → expected ≤ count
-    → TextStands (flags_of (segments p)) (memory_of (segments p)) expected (program li)
-image_stands h expected within k inside = holds-stands (image_holds h) k (omega (arith, ltb-true k expected inside, h.counted))
+pub image_stands : LoadedIsSound → {p : Sections} {li : List Instr} {count : ℕ} → IsImageOf p li count → (expected : ℕ) → expected ≤ count
+    → TextStands (text_of p) expected (program li)
+unfolding segments bytes_of
+image_stands loads {p} {li} h expected within k inside =
+    each_stands (text_of p) 65536 (65536 + 4 * length (program li)) k (program li)
+    (segment_code_stands (segments p) 0 (text_segment p) (program li) (image_sound loads h) refl h.text refl refl refl h.fits)
+    (omega (arith, ltb-true k expected inside, h.counted, within))
 
 small_image : (n : ℕ) → n < 2048 → IsImageOf (sections_by (Addi 9 0 n ∷ [])) (Addi 9 0 n ∷ []) 45
 small_image n small = record {
@@ -148,7 +123,7 @@ small_image n small = record {
   counted = refl;
   small = lit≤ tt;
   most = lit≤ tt;
-  fits = λ k. AllFit-at (program (Addi 9 0 n ∷ [])) k (small_fits n small);
+  fits = small_fits n small;
 }
 
 large_image : (u l : ℕ) → u < 2 ^ 20 → IsSigned 12 l → IsImageOf (sections_by (Lui 9 u ∷ Addi 9 9 l ∷ [])) (Lui 9 u ∷ Addi 9 9 l ∷ []) 46
@@ -162,15 +137,15 @@ large_image u l upper low = record {
   counted = refl;
   small = lit≤ tt;
   most = lit≤ tt;
-  fits = λ k. AllFit-at (program (Lui 9 u ∷ Addi 9 9 l ∷ [])) k (large_fits u l upper low);
+  fits = large_fits u l upper low;
 }
 
 -- ---- the run
 
 -- a run of the image is a run from its start
 pub image_run : {p : Sections} {li : List Instr} {count : ℕ} → IsImageOf p li count → (n : ℕ) (input : List ℕ)
-    → image_at n (file_of p) input ≡ Ok (run_state (flags_of (segments p)) n (s0 (memory_of (segments p))) input)
-unfolding executed run
+    → image_at n (file_of p) input ≡ Ok (run (flags_of (segments p)) n (running (s0 (memory_of (segments p)))) input)
+unfolding executed
 image_run {p} h n input =
     ap (λ l. executed_if_loaded n l input) (written_loads p (image_placed h) ∙ ap Ok (image_segments h)) ∙ refl
 
@@ -182,67 +157,74 @@ put_twice map at first second =
     (λ z. elim (z == at) as (λ b. (if b then second else (if b then first else map z)) ≡ (if b then second else map z)) [ true ↦ refl | false ↦ refl ]) in
     λ i. λ z. each z i
 
-moves-small : (flags : ℕ → ℕ) (m : Bytes) (n : ℕ) → TextStands flags m 45 (program (Addi 9 0 n ∷ []))
-    → next_effect flags (s13 m) ≡ next (a0 m ((0 + n) % 2 ^ 32))
+-- the first instruction that loads it stands
+load_stands : (text : Text) (i : Instr) (li : List Instr) (count : ℕ) → nat_lt 37 count ≡ true → TextStands text count (program (i ∷ li)) → StandsAt text (s13 text.bytes).pc i
+unfolding give
+load_stands text i li count within code = code 37 within
+
+loads-small : (text : Text) (n : ℕ) → act text.flags (Addi 9 0 n) (s13 text.bytes) ≡ next (a0 text.bytes ((0 + n) % 2 ^ 32))
 unfolding act give load_bytes store_bytes
-moves-small flags m n text = effect-act flags (s13 m) (Addi 9 0 n) (stands-same (text 37 refl) refl) ∙ refl
+loads-small text n = refl
 
 -- between the two instructions of a large constant
 half_loaded : Bytes → ℕ → State
 half_loaded m u = give (s13 m) 9 (u * 2 ^ 12)
 
-moves-upper : (flags : ℕ → ℕ) (m : Bytes) (u l : ℕ) → TextStands flags m 46 (program (Lui 9 u ∷ Addi 9 9 l ∷ []))
-    → next_effect flags (s13 m) ≡ next (half_loaded m u)
+loads-upper : (text : Text) (u : ℕ) → act text.flags (Lui 9 u) (s13 text.bytes) ≡ next (half_loaded text.bytes u)
 unfolding act give load_bytes store_bytes half_loaded
-moves-upper flags m u l text = effect-act flags (s13 m) (Lui 9 u) (stands-same (text 37 refl) refl) ∙ refl
+loads-upper text u = refl
 
-moves-lower : (flags : ℕ → ℕ) (m : Bytes) (u l : ℕ) → TextStands flags m 46 (program (Lui 9 u ∷ Addi 9 9 l ∷ []))
-    → next_effect flags (half_loaded m u) ≡ next (b0 m ((u * 2 ^ 12 + l) % 2 ^ 32))
+loads-lower : (text : Text) (u l : ℕ) → act text.flags (Addi 9 9 l) (half_loaded text.bytes u) ≡ next (b0 text.bytes ((u * 2 ^ 12 + l) % 2 ^ 32))
 unfolding act give load_bytes store_bytes half_loaded
-moves-lower flags m u l text =
-    effect-act flags (half_loaded m u) (Addi 9 9 l) (stands-same (text 38 refl) refl)
-    ∙ ap (λ regs. next (record { pc = 65692; regs = regs; mem = (s13 m).mem })) (put_twice (s13 m).regs 9 (u * 2 ^ 12) ((u * 2 ^ 12 + l) % 2 ^ 32))
+loads-lower text u l =
+    ap (λ regs. next (record { pc = 65692; regs = regs; mem = (s13 text.bytes).mem })) (put_twice (s13 text.bytes).regs 9 (u * 2 ^ 12) ((u * 2 ^ 12 + l) % 2 ^ 32))
+
+-- the second of them stands
+half_stands : (text : Text) (u l : ℕ) → TextStands text 46 (program (Lui 9 u ∷ Addi 9 9 l ∷ [])) → StandsAt text (half_loaded text.bytes u).pc (Addi 9 9 l)
+unfolding give half_loaded
+half_stands text u l code = code 38 refl
 
 -- ---- both cases
 
-small_exits : (n : ℕ) → n < 2048 → ExitsWithin 23 (file_of (sections_by (Addi 9 0 n ∷ []))) (n % 256)
-small_exits n small count input enough =
+small_exits : LoadedIsSound → (n : ℕ) → n < 2048 → ExitsWithin 23 (file_of (sections_by (Addi 9 0 n ∷ []))) (n % 256)
+small_exits loads n small count input enough =
     let li = Addi 9 0 n ∷ [] in
     let image = small_image n small in
-    let p = sections_by li in
-    let flags = flags_of (segments p) in
-    let m = memory_of (segments p) in
-    let whole = image_stands image 45 (lit≤ tt) in
-    let front = image_stands image 37 (lit≤ tt) in
-    let allows = image_allows image in
+    let text = text_of (sections_by li) in
+    let m = text.bytes in
+    let whole = image_stands loads image 45 (lit≤ tt) in
+    let front = image_stands loads image 37 (lit≤ tt) in
+    let allows = image_allows loads image in
     let v = (0 + n) % 2 ^ 32 in
-    let loaded_at : Reaches flags 14 (s0 m) (a0 m v) = reaches-more flags 13 (s0 m) (s13 m) (a0 m v) (front-reaches flags m li front allows) (moves-small flags m n whole) in
+    let loaded_at : Reaches text.flags 14 (s0 m) input [] (a0 m v) input =
+    standing_reaches text 13 (s0 m) (s13 m) (a0 m v) (Addi 9 0 n) input [] input (λ a fixed. refl) (front-reaches text li input front allows) (load_stands text (Addi 9 0 n) [] 45 refl whole) (loads-small text n) in
     let same : (v + 0) % 2 ^ 32 % 256 ≡ n % 256 = omega arith in
     let steps : count ≡ 22 + suc (count - 23) = omega arith in
     image_run image count input
-    ∙ ap (λ k. Ok (run_state flags k (s0 m) input)) steps
-    ∙ ap Ok (a-ends flags m v n whole allows loaded_at (count - 23) input)
+    ∙ ap (λ k. Ok (run text.flags k (running (s0 m)) input)) steps
+    ∙ ap Ok (a-ends text v n input whole allows loaded_at (count - 23))
     ∙ ap (λ status. Ok (standing (ended (exit status)) input)) same
 
-pub large_exits : (n u l : ℕ) → u < 2 ^ 20 → IsSigned 12 l → (u * 2 ^ 12 + l) % 2 ^ 32 ≡ n
+pub large_exits : LoadedIsSound → (n u l : ℕ) → u < 2 ^ 20 → IsSigned 12 l → (u * 2 ^ 12 + l) % 2 ^ 32 ≡ n
     → ExitsWithin 24 (file_of (sections_by (Lui 9 u ∷ Addi 9 9 l ∷ []))) (n % 256)
-large_exits n u l upper low sum count input enough =
+large_exits loads n u l upper low sum count input enough =
     let li = Lui 9 u ∷ Addi 9 9 l ∷ [] in
     let image = large_image u l upper low in
-    let p = sections_by li in
-    let flags = flags_of (segments p) in
-    let m = memory_of (segments p) in
-    let whole = image_stands image 46 (lit≤ tt) in
-    let front = image_stands image 37 (lit≤ tt) in
-    let allows = image_allows image in
+    let text = text_of (sections_by li) in
+    let m = text.bytes in
+    let whole = image_stands loads image 46 (lit≤ tt) in
+    let front = image_stands loads image 37 (lit≤ tt) in
+    let allows = image_allows loads image in
     let v = (u * 2 ^ 12 + l) % 2 ^ 32 in
-    let half : Reaches flags 14 (s0 m) (half_loaded m u) = reaches-more flags 13 (s0 m) (s13 m) (half_loaded m u) (front-reaches flags m li front allows) (moves-upper flags m u l whole) in
-    let loaded_at : Reaches flags 15 (s0 m) (b0 m v) = reaches-more flags 14 (s0 m) (half_loaded m u) (b0 m v) half (moves-lower flags m u l whole) in
+    let half : Reaches text.flags 14 (s0 m) input [] (half_loaded m u) input =
+    standing_reaches text 13 (s0 m) (s13 m) (half_loaded m u) (Lui 9 u) input [] input (λ a fixed. refl) (front-reaches text li input front allows) (load_stands text (Lui 9 u) (Addi 9 9 l ∷ []) 46 refl whole) (loads-upper text u) in
+    let loaded_at : Reaches text.flags 15 (s0 m) input [] (b0 m v) input =
+    standing_reaches text 14 (s0 m) (half_loaded m u) (b0 m v) (Addi 9 9 l) input [] input (λ a fixed. refl) half (half_stands text u l whole) (loads-lower text u l) in
     let same : (v + 0) % 2 ^ 32 % 256 ≡ n % 256 = omega (arith, sum) in
     let steps : count ≡ 23 + suc (count - 24) = omega arith in
     image_run image count input
-    ∙ ap (λ k. Ok (run_state flags k (s0 m) input)) steps
-    ∙ ap Ok (b-ends flags m v u l whole allows loaded_at (count - 24) input)
+    ∙ ap (λ k. Ok (run text.flags k (running (s0 m)) input)) steps
+    ∙ ap Ok (b-ends text v u l input whole allows loaded_at (count - 24))
     ∙ ap (λ status. Ok (standing (ended (exit status)) input)) same
 
 -- the image whose constant is loaded by these instructions
@@ -253,15 +235,15 @@ exits_by : (at starts ends n bound : ℕ) (li : List Instr) → load_immediate 9
 unfolding image_by
 exits_by at starts ends n bound li same exits count input enough = ap (λ code. image_at count (image_by code) input) same ∙ exits count input enough
 
-pub constant_exits : ConstantExits
+pub constant_exits : LoadedIsSound → ConstantExits
 unfolding image_by
-constant_exits at starts ends n bound = elim (cases_lt n 2048) [
+constant_exits loads at starts ends n bound = elim (cases_lt n 2048) [
   | inl small ↦
       let one : load_immediate 9 n ≡ Addi 9 0 n ∷ [] = rw (lt-ltb ((n + 2048) % 2 ^ 32) 4096 (omega arith)) refl in
-      rw (lt-ltb n 2048 small) (exits_by at starts ends n 23 (Addi 9 0 n ∷ []) one (small_exits n small))
+      rw (lt-ltb n 2048 small) (exits_by at starts ends n 23 (Addi 9 0 n ∷ []) one (small_exits loads n small))
   | inr large ↦
       let two : load_immediate 9 n ≡ Lui 9 (upper_part n) ∷ Addi 9 9 (low_part n) ∷ [] = rw (le-ltb ((n + 2048) % 2 ^ 32) 4096 (omega arith)) refl in
       rw (le-ltb n 2048 large)
       (exits_by at starts ends n 24 (Lui 9 (upper_part n) ∷ Addi 9 9 (low_part n) ∷ []) two
-      (large_exits n (upper_part n) (low_part n) (omega arith) (low_part_fits n) (parts_make_word n (omega arith))))
+      (large_exits loads n (upper_part n) (low_part n) (omega arith) (low_part_fits n) (parts_make_word n (omega arith))))
 ]

@@ -1,13 +1,16 @@
 -- The run of the image of a constant, step by step: where the machine is after each instruction.
-use Rattle.std.proofs.Common.{◌≡◌, ℕ, suc, ◌+◌, ◌*◌, ◌%◌, ◌^◌, true, nat_lt, List, [], ◌∷◌, ◌++◌, slice_index_or, refl, ◌∙◌}
+use Rattle.std.proofs.Common.{◌≡◌, ℕ, suc, ◌+◌, ◌*◌, ◌%◌, ◌^◌, true, nat_lt, List, [], ◌∷◌, ◌++◌, slice_index_or, refl}
 use Rattle.rv_isa.specs.declared.instruction.Instr.{Instr}
 use Rattle.rv_isa.specs.declared.instruction.Instr.TheVariants.{Lui, Auipc, Jalr, Bgeu, Lw, Sw, Addi, Add, Sub, Ecall, Ebreak}
-use Rattle.rv_machine.specs.Machine.{State, next, stop, exit, next_effect, act, call, give, jump, after, set_register}
+use Rattle.rv_machine.specs.Laws.{Reaches}
+use Rattle.rv_machine.specs.Machine.{State, next, stop, exit, act, call, give, jump, after, set_register}
 use Rattle.rv_machine.specs.Memory.{Bytes, allowed, load_bytes, store_bytes, put_at, to_read, to_write}
-use Rattle.rv_machine.specs.Run.{run_state, standing, ended}
+use Rattle.rv_machine.specs.Run.{run, running, standing, ended}
+use Rattle.rv_machine.specs.Standing.{Text, StandsAt}
+use Rattle.rv_machine.proofs.lemmas.RunLaws.{run-zero}
+use Rattle.rv_machine.proofs.lemmas.Standing.{standing_reaches, standing_ends}
 use Rattle.rv_layout.specs.Sequences.{start_code, put_stub, get_stub}
 use Rattle.s_select.specs.Templates.{take_frame, give_frame}
-use Rattle.cc_top.proofs.Standing.{StandsAt, stands-same, effect-act, Reaches, reaches-one, reaches-more, reaches-stop}
 
 -- the end of `main`, whose value is in s1
 abbrev pub last_code : List Instr
@@ -18,9 +21,8 @@ abbrev pub program : List Instr → List Instr
 program li = start_code 73728 65652 ++ put_stub 69632 ++ get_stub 69632 ++ take_frame 16 1 ++ li ++ last_code
 
 -- each of the first instructions of a text is at its address
-abbrev pub TextStands : (ℕ → ℕ) → Bytes → (count : ℕ) → List Instr → Type 0
-TextStands flags mem count code =
-    (k : ℕ) → nat_lt k count ≡ true → StandsAt flags mem (65536 + 4 * k) (slice_index_or code k Ebreak)
+abbrev pub TextStands : Text → (count : ℕ) → List Instr → Type 0
+TextStands text count code = (k : ℕ) → nat_lt k count ≡ true → StandsAt text (65536 + 4 * k) (slice_index_or code k Ebreak)
 
 -- the two words of the stack that `main` uses may be read and written
 pub record StackAllows (flags : ℕ → ℕ) : Type 0 where
@@ -80,86 +82,90 @@ s12 m = stored (s11 m) 8462332 65560
 abbrev pub s13 : Bytes → State
 s13 m = stored (s12 m) 8462328 0
 
-moves-s1 : (flags : ℕ → ℕ) (m : Bytes) (li : List Instr) → TextStands flags m 37 (program li) → StackAllows flags → next_effect flags (s0 m) ≡ next (s1 m)
+does-s1 : (text : Text) → StackAllows text.flags → act text.flags (Lui 8 18) (s0 text.bytes) ≡ next (s1 text.bytes)
 unfolding act give jump load_bytes store_bytes
-moves-s1 flags m li text allows =
-    effect-act flags (s0 m) (Lui 8 18) (stands-same (text 0 refl) refl) ∙ refl
+does-s1 text allows = refl
 
-moves-s2 : (flags : ℕ → ℕ) (m : Bytes) (li : List Instr) → TextStands flags m 37 (program li) → StackAllows flags → next_effect flags (s1 m) ≡ next (s2 m)
+does-s2 : (text : Text) → StackAllows text.flags → act text.flags (Addi 8 8 0) (s1 text.bytes) ≡ next (s2 text.bytes)
 unfolding act give jump load_bytes store_bytes
-moves-s2 flags m li text allows =
-    effect-act flags (s1 m) (Addi 8 8 0) (stands-same (text 1 refl) refl) ∙ refl
+does-s2 text allows = refl
 
-moves-s3 : (flags : ℕ → ℕ) (m : Bytes) (li : List Instr) → TextStands flags m 37 (program li) → StackAllows flags → next_effect flags (s2 m) ≡ next (s3 m)
+does-s3 : (text : Text) → StackAllows text.flags → act text.flags (Lui 5 2048) (s2 text.bytes) ≡ next (s3 text.bytes)
 unfolding act give jump load_bytes store_bytes
-moves-s3 flags m li text allows =
-    effect-act flags (s2 m) (Lui 5 2048) (stands-same (text 2 refl) refl) ∙ refl
+does-s3 text allows = refl
 
-moves-s4 : (flags : ℕ → ℕ) (m : Bytes) (li : List Instr) → TextStands flags m 37 (program li) → StackAllows flags → next_effect flags (s3 m) ≡ next (s4 m)
+does-s4 : (text : Text) → StackAllows text.flags → act text.flags (Add 2 8 5) (s3 text.bytes) ≡ next (s4 text.bytes)
 unfolding act give jump load_bytes store_bytes
-moves-s4 flags m li text allows =
-    effect-act flags (s3 m) (Add 2 8 5) (stands-same (text 3 refl) refl) ∙ refl
+does-s4 text allows = refl
 
-moves-s5 : (flags : ℕ → ℕ) (m : Bytes) (li : List Instr) → TextStands flags m 37 (program li) → StackAllows flags → next_effect flags (s4 m) ≡ next (s5 m)
+does-s5 : (text : Text) → StackAllows text.flags → act text.flags (Auipc 1 0) (s4 text.bytes) ≡ next (s5 text.bytes)
 unfolding act give jump load_bytes store_bytes
-moves-s5 flags m li text allows =
-    effect-act flags (s4 m) (Auipc 1 0) (stands-same (text 4 refl) refl) ∙ refl
+does-s5 text allows = refl
 
-moves-s6 : (flags : ℕ → ℕ) (m : Bytes) (li : List Instr) → TextStands flags m 37 (program li) → StackAllows flags → next_effect flags (s5 m) ≡ next (s6 m)
+does-s6 : (text : Text) → StackAllows text.flags → act text.flags (Jalr 1 1 100) (s5 text.bytes) ≡ next (s6 text.bytes)
 unfolding act give jump load_bytes store_bytes
-moves-s6 flags m li text allows =
-    effect-act flags (s5 m) (Jalr 1 1 100) (stands-same (text 5 refl) refl) ∙ refl
+does-s6 text allows = refl
 
-moves-s7 : (flags : ℕ → ℕ) (m : Bytes) (li : List Instr) → TextStands flags m 37 (program li) → StackAllows flags → next_effect flags (s6 m) ≡ next (s7 m)
+does-s7 : (text : Text) → StackAllows text.flags → act text.flags (Addi 5 0 16) (s6 text.bytes) ≡ next (s7 text.bytes)
 unfolding act give jump load_bytes store_bytes
-moves-s7 flags m li text allows =
-    effect-act flags (s6 m) (Addi 5 0 16) (stands-same (text 29 refl) refl) ∙ refl
+does-s7 text allows = refl
 
-moves-s8 : (flags : ℕ → ℕ) (m : Bytes) (li : List Instr) → TextStands flags m 37 (program li) → StackAllows flags → next_effect flags (s7 m) ≡ next (s8 m)
+does-s8 : (text : Text) → StackAllows text.flags → act text.flags (Sub 6 2 8) (s7 text.bytes) ≡ next (s8 text.bytes)
 unfolding act give jump load_bytes store_bytes
-moves-s8 flags m li text allows =
-    effect-act flags (s7 m) (Sub 6 2 8) (stands-same (text 30 refl) refl) ∙ refl
+does-s8 text allows = refl
 
-moves-s9 : (flags : ℕ → ℕ) (m : Bytes) (li : List Instr) → TextStands flags m 37 (program li) → StackAllows flags → next_effect flags (s8 m) ≡ next (s9 m)
+does-s9 : (text : Text) → StackAllows text.flags → act text.flags (Bgeu 6 5 8) (s8 text.bytes) ≡ next (s9 text.bytes)
 unfolding act give jump load_bytes store_bytes
-moves-s9 flags m li text allows =
-    effect-act flags (s8 m) (Bgeu 6 5 8) (stands-same (text 31 refl) refl) ∙ refl
+does-s9 text allows = refl
 
-moves-s10 : (flags : ℕ → ℕ) (m : Bytes) (li : List Instr) → TextStands flags m 37 (program li) → StackAllows flags → next_effect flags (s9 m) ≡ next (s10 m)
+does-s10 : (text : Text) → StackAllows text.flags → act text.flags (Sub 2 2 5) (s9 text.bytes) ≡ next (s10 text.bytes)
 unfolding act give jump load_bytes store_bytes
-moves-s10 flags m li text allows =
-    effect-act flags (s9 m) (Sub 2 2 5) (stands-same (text 33 refl) refl) ∙ refl
+does-s10 text allows = refl
 
-moves-s11 : (flags : ℕ → ℕ) (m : Bytes) (li : List Instr) → TextStands flags m 37 (program li) → StackAllows flags → next_effect flags (s10 m) ≡ next (s11 m)
+does-s11 : (text : Text) → StackAllows text.flags → act text.flags (Add 6 2 5) (s10 text.bytes) ≡ next (s11 text.bytes)
 unfolding act give jump load_bytes store_bytes
-moves-s11 flags m li text allows =
-    effect-act flags (s10 m) (Add 6 2 5) (stands-same (text 34 refl) refl) ∙ refl
+does-s11 text allows = refl
 
-moves-s12 : (flags : ℕ → ℕ) (m : Bytes) (li : List Instr) → TextStands flags m 37 (program li) → StackAllows flags → next_effect flags (s11 m) ≡ next (s12 m)
+does-s12 : (text : Text) → StackAllows text.flags → act text.flags (Sw 6 1 4294967292) (s11 text.bytes) ≡ next (s12 text.bytes)
 unfolding act give jump load_bytes store_bytes
-moves-s12 flags m li text allows =
-    effect-act flags (s11 m) (Sw 6 1 4294967292) (stands-same (text 35 refl) refl) ∙ (rw allows.w1 refl)
+does-s12 text allows = rw allows.w1 refl
 
-moves-s13 : (flags : ℕ → ℕ) (m : Bytes) (li : List Instr) → TextStands flags m 37 (program li) → StackAllows flags → next_effect flags (s12 m) ≡ next (s13 m)
+does-s13 : (text : Text) → StackAllows text.flags → act text.flags (Sw 6 9 4294967288) (s12 text.bytes) ≡ next (s13 text.bytes)
 unfolding act give jump load_bytes store_bytes
-moves-s13 flags m li text allows =
-    effect-act flags (s12 m) (Sw 6 9 4294967288) (stands-same (text 36 refl) refl) ∙ (rw allows.w2 refl)
+does-s13 text allows = rw allows.w2 refl
 
-pub front-reaches : (flags : ℕ → ℕ) (m : Bytes) (li : List Instr) → TextStands flags m 37 (program li) → StackAllows flags → Reaches flags 13 (s0 m) (s13 m)
-front-reaches flags m li text allows =
-    let l1 : Reaches flags 1 (s0 m) (s1 m) = reaches-one flags (s0 m) (s1 m) (moves-s1 flags m li text allows) in
-    let l2 : Reaches flags 2 (s0 m) (s2 m) = reaches-more flags 1 (s0 m) (s1 m) (s2 m) l1 (moves-s2 flags m li text allows) in
-    let l3 : Reaches flags 3 (s0 m) (s3 m) = reaches-more flags 2 (s0 m) (s2 m) (s3 m) l2 (moves-s3 flags m li text allows) in
-    let l4 : Reaches flags 4 (s0 m) (s4 m) = reaches-more flags 3 (s0 m) (s3 m) (s4 m) l3 (moves-s4 flags m li text allows) in
-    let l5 : Reaches flags 5 (s0 m) (s5 m) = reaches-more flags 4 (s0 m) (s4 m) (s5 m) l4 (moves-s5 flags m li text allows) in
-    let l6 : Reaches flags 6 (s0 m) (s6 m) = reaches-more flags 5 (s0 m) (s5 m) (s6 m) l5 (moves-s6 flags m li text allows) in
-    let l7 : Reaches flags 7 (s0 m) (s7 m) = reaches-more flags 6 (s0 m) (s6 m) (s7 m) l6 (moves-s7 flags m li text allows) in
-    let l8 : Reaches flags 8 (s0 m) (s8 m) = reaches-more flags 7 (s0 m) (s7 m) (s8 m) l7 (moves-s8 flags m li text allows) in
-    let l9 : Reaches flags 9 (s0 m) (s9 m) = reaches-more flags 8 (s0 m) (s8 m) (s9 m) l8 (moves-s9 flags m li text allows) in
-    let l10 : Reaches flags 10 (s0 m) (s10 m) = reaches-more flags 9 (s0 m) (s9 m) (s10 m) l9 (moves-s10 flags m li text allows) in
-    let l11 : Reaches flags 11 (s0 m) (s11 m) = reaches-more flags 10 (s0 m) (s10 m) (s11 m) l10 (moves-s11 flags m li text allows) in
-    let l12 : Reaches flags 12 (s0 m) (s12 m) = reaches-more flags 11 (s0 m) (s11 m) (s12 m) l11 (moves-s12 flags m li text allows) in
-    let l13 : Reaches flags 13 (s0 m) (s13 m) = reaches-more flags 12 (s0 m) (s12 m) (s13 m) l12 (moves-s13 flags m li text allows) in
+pub front-reaches : (text : Text) (li : List Instr) (input : List ℕ) → TextStands text 37 (program li) → StackAllows text.flags
+    → Reaches text.flags 13 (s0 text.bytes) input [] (s13 text.bytes) input
+unfolding give
+front-reaches text li input code allows =
+    let m = text.bytes in
+    let l0 : Reaches text.flags 0 (s0 m) input [] (s0 m) input = record { to = run-zero text.flags (running (s0 m)) input } in
+    let l1 : Reaches text.flags 1 (s0 m) input [] (s1 m) input =
+    standing_reaches text 0 (s0 m) (s0 m) (s1 m) (Lui 8 18) input [] input (λ a fixed. refl) l0 (code 0 refl) (does-s1 text allows) in
+    let l2 : Reaches text.flags 2 (s0 m) input [] (s2 m) input =
+    standing_reaches text 1 (s0 m) (s1 m) (s2 m) (Addi 8 8 0) input [] input (λ a fixed. refl) l1 (code 1 refl) (does-s2 text allows) in
+    let l3 : Reaches text.flags 3 (s0 m) input [] (s3 m) input =
+    standing_reaches text 2 (s0 m) (s2 m) (s3 m) (Lui 5 2048) input [] input (λ a fixed. refl) l2 (code 2 refl) (does-s3 text allows) in
+    let l4 : Reaches text.flags 4 (s0 m) input [] (s4 m) input =
+    standing_reaches text 3 (s0 m) (s3 m) (s4 m) (Add 2 8 5) input [] input (λ a fixed. refl) l3 (code 3 refl) (does-s4 text allows) in
+    let l5 : Reaches text.flags 5 (s0 m) input [] (s5 m) input =
+    standing_reaches text 4 (s0 m) (s4 m) (s5 m) (Auipc 1 0) input [] input (λ a fixed. refl) l4 (code 4 refl) (does-s5 text allows) in
+    let l6 : Reaches text.flags 6 (s0 m) input [] (s6 m) input =
+    standing_reaches text 5 (s0 m) (s5 m) (s6 m) (Jalr 1 1 100) input [] input (λ a fixed. refl) l5 (code 5 refl) (does-s6 text allows) in
+    let l7 : Reaches text.flags 7 (s0 m) input [] (s7 m) input =
+    standing_reaches text 6 (s0 m) (s6 m) (s7 m) (Addi 5 0 16) input [] input (λ a fixed. refl) l6 (code 29 refl) (does-s7 text allows) in
+    let l8 : Reaches text.flags 8 (s0 m) input [] (s8 m) input =
+    standing_reaches text 7 (s0 m) (s7 m) (s8 m) (Sub 6 2 8) input [] input (λ a fixed. refl) l7 (code 30 refl) (does-s8 text allows) in
+    let l9 : Reaches text.flags 9 (s0 m) input [] (s9 m) input =
+    standing_reaches text 8 (s0 m) (s8 m) (s9 m) (Bgeu 6 5 8) input [] input (λ a fixed. refl) l8 (code 31 refl) (does-s9 text allows) in
+    let l10 : Reaches text.flags 10 (s0 m) input [] (s10 m) input =
+    standing_reaches text 9 (s0 m) (s9 m) (s10 m) (Sub 2 2 5) input [] input (λ a fixed. refl) l9 (code 33 refl) (does-s10 text allows) in
+    let l11 : Reaches text.flags 11 (s0 m) input [] (s11 m) input =
+    standing_reaches text 10 (s0 m) (s10 m) (s11 m) (Add 6 2 5) input [] input (λ a fixed. refl) l10 (code 34 refl) (does-s11 text allows) in
+    let l12 : Reaches text.flags 12 (s0 m) input [] (s12 m) input =
+    standing_reaches text 11 (s0 m) (s11 m) (s12 m) (Sw 6 1 4294967292) input [] input (λ a fixed. refl) l11 (code 35 refl) (does-s12 text allows) in
+    let l13 : Reaches text.flags 13 (s0 m) input [] (s13 m) input =
+    standing_reaches text 12 (s0 m) (s12 m) (s13 m) (Sw 6 9 4294967288) input [] input (λ a fixed. refl) l12 (code 36 refl) (does-s13 text allows) in
     l13
 
 -- the constant is in its register
@@ -193,62 +199,65 @@ a7 m v = at (a6 m v) 65560
 abbrev pub a8 : Bytes → ℕ → State
 a8 m v = give (a7 m v) 17 93
 
-moves-a1 : (flags : ℕ → ℕ) (m : Bytes) (v : ℕ) (n : ℕ) → TextStands flags m 45 (program (Addi 9 0 n ∷ [])) → StackAllows flags → next_effect flags (a0 m v) ≡ next (a1 m v)
+does-a1 : (text : Text) (v : ℕ) → StackAllows text.flags → act text.flags (Addi 10 9 0) (a0 text.bytes v) ≡ next (a1 text.bytes v)
 unfolding act give jump load_bytes store_bytes
-moves-a1 flags m v n text allows =
-    effect-act flags (a0 m v) (Addi 10 9 0) (stands-same (text 38 refl) refl) ∙ refl
+does-a1 text v allows = refl
 
-moves-a2 : (flags : ℕ → ℕ) (m : Bytes) (v : ℕ) (n : ℕ) → TextStands flags m 45 (program (Addi 9 0 n ∷ [])) → StackAllows flags → next_effect flags (a1 m v) ≡ next (a2 m v)
+does-a2 : (text : Text) (v : ℕ) → StackAllows text.flags → act text.flags (Addi 5 0 16) (a1 text.bytes v) ≡ next (a2 text.bytes v)
 unfolding act give jump load_bytes store_bytes
-moves-a2 flags m v n text allows =
-    effect-act flags (a1 m v) (Addi 5 0 16) (stands-same (text 39 refl) refl) ∙ refl
+does-a2 text v allows = refl
 
-moves-a3 : (flags : ℕ → ℕ) (m : Bytes) (v : ℕ) (n : ℕ) → TextStands flags m 45 (program (Addi 9 0 n ∷ [])) → StackAllows flags → next_effect flags (a2 m v) ≡ next (a3 m v)
+does-a3 : (text : Text) (v : ℕ) → StackAllows text.flags → act text.flags (Add 6 2 5) (a2 text.bytes v) ≡ next (a3 text.bytes v)
 unfolding act give jump load_bytes store_bytes
-moves-a3 flags m v n text allows =
-    effect-act flags (a2 m v) (Add 6 2 5) (stands-same (text 40 refl) refl) ∙ refl
+does-a3 text v allows = refl
 
-moves-a4 : (flags : ℕ → ℕ) (m : Bytes) (v : ℕ) (n : ℕ) → TextStands flags m 45 (program (Addi 9 0 n ∷ [])) → StackAllows flags → next_effect flags (a3 m v) ≡ next (a4 m v)
+does-a4 : (text : Text) (v : ℕ) → StackAllows text.flags → act text.flags (Lw 9 6 4294967288) (a3 text.bytes v) ≡ next (a4 text.bytes v)
 unfolding act give jump load_bytes store_bytes
-moves-a4 flags m v n text allows =
-    effect-act flags (a3 m v) (Lw 9 6 4294967288) (stands-same (text 41 refl) refl) ∙ (rw allows.r2 refl)
+does-a4 text v allows = rw allows.r2 refl
 
-moves-a5 : (flags : ℕ → ℕ) (m : Bytes) (v : ℕ) (n : ℕ) → TextStands flags m 45 (program (Addi 9 0 n ∷ [])) → StackAllows flags → next_effect flags (a4 m v) ≡ next (a5 m v)
+does-a5 : (text : Text) (v : ℕ) → StackAllows text.flags → act text.flags (Lw 1 6 4294967292) (a4 text.bytes v) ≡ next (a5 text.bytes v)
 unfolding act give jump load_bytes store_bytes
-moves-a5 flags m v n text allows =
-    effect-act flags (a4 m v) (Lw 1 6 4294967292) (stands-same (text 42 refl) refl) ∙ (rw allows.r1 refl)
+does-a5 text v allows = rw allows.r1 refl
 
-moves-a6 : (flags : ℕ → ℕ) (m : Bytes) (v : ℕ) (n : ℕ) → TextStands flags m 45 (program (Addi 9 0 n ∷ [])) → StackAllows flags → next_effect flags (a5 m v) ≡ next (a6 m v)
+does-a6 : (text : Text) (v : ℕ) → StackAllows text.flags → act text.flags (Addi 2 6 0) (a5 text.bytes v) ≡ next (a6 text.bytes v)
 unfolding act give jump load_bytes store_bytes
-moves-a6 flags m v n text allows =
-    effect-act flags (a5 m v) (Addi 2 6 0) (stands-same (text 43 refl) refl) ∙ refl
+does-a6 text v allows = refl
 
-moves-a7 : (flags : ℕ → ℕ) (m : Bytes) (v : ℕ) (n : ℕ) → TextStands flags m 45 (program (Addi 9 0 n ∷ [])) → StackAllows flags → next_effect flags (a6 m v) ≡ next (a7 m v)
+does-a7 : (text : Text) (v : ℕ) → StackAllows text.flags → act text.flags (Jalr 0 1 0) (a6 text.bytes v) ≡ next (a7 text.bytes v)
 unfolding act give jump load_bytes store_bytes
-moves-a7 flags m v n text allows =
-    effect-act flags (a6 m v) (Jalr 0 1 0) (stands-same (text 44 refl) refl) ∙ refl
+does-a7 text v allows = refl
 
-moves-a8 : (flags : ℕ → ℕ) (m : Bytes) (v : ℕ) (n : ℕ) → TextStands flags m 45 (program (Addi 9 0 n ∷ [])) → StackAllows flags → next_effect flags (a7 m v) ≡ next (a8 m v)
+does-a8 : (text : Text) (v : ℕ) → StackAllows text.flags → act text.flags (Addi 17 0 93) (a7 text.bytes v) ≡ next (a8 text.bytes v)
 unfolding act give jump load_bytes store_bytes
-moves-a8 flags m v n text allows =
-    effect-act flags (a7 m v) (Addi 17 0 93) (stands-same (text 6 refl) refl) ∙ refl
+does-a8 text v allows = refl
 
-stops-a : (flags : ℕ → ℕ) (m : Bytes) (v : ℕ) (n : ℕ) → TextStands flags m 45 (program (Addi 9 0 n ∷ [])) → next_effect flags (a8 m v) ≡ stop (exit ((v + 0) % 2 ^ 32 % 256))
+stops-a : (text : Text) (v : ℕ) → act text.flags Ecall (a8 text.bytes v) ≡ stop (exit ((v + 0) % 2 ^ 32 % 256))
 unfolding act call give jump load_bytes store_bytes
-stops-a flags m v n text = effect-act flags (a8 m v) Ecall (stands-same (text 7 refl) refl) ∙ refl
+stops-a text v = refl
 
-pub a-ends : (flags : ℕ → ℕ) (m : Bytes) (v : ℕ) (n : ℕ) → TextStands flags m 45 (program (Addi 9 0 n ∷ [])) → StackAllows flags → Reaches flags 14 (s0 m) (a0 m v)
-    → (n' : ℕ) (input : List ℕ) → run_state flags (22 + suc n') (s0 m) input ≡ standing (ended (exit ((v + 0) % 2 ^ 32 % 256))) input
-a-ends flags m v n text allows l0 n' input =
-    let l1 : Reaches flags 15 (s0 m) (a1 m v) = reaches-more flags 14 (s0 m) (a0 m v) (a1 m v) l0 (moves-a1 flags m v n text allows) in
-    let l2 : Reaches flags 16 (s0 m) (a2 m v) = reaches-more flags 15 (s0 m) (a1 m v) (a2 m v) l1 (moves-a2 flags m v n text allows) in
-    let l3 : Reaches flags 17 (s0 m) (a3 m v) = reaches-more flags 16 (s0 m) (a2 m v) (a3 m v) l2 (moves-a3 flags m v n text allows) in
-    let l4 : Reaches flags 18 (s0 m) (a4 m v) = reaches-more flags 17 (s0 m) (a3 m v) (a4 m v) l3 (moves-a4 flags m v n text allows) in
-    let l5 : Reaches flags 19 (s0 m) (a5 m v) = reaches-more flags 18 (s0 m) (a4 m v) (a5 m v) l4 (moves-a5 flags m v n text allows) in
-    let l6 : Reaches flags 20 (s0 m) (a6 m v) = reaches-more flags 19 (s0 m) (a5 m v) (a6 m v) l5 (moves-a6 flags m v n text allows) in
-    let l7 : Reaches flags 21 (s0 m) (a7 m v) = reaches-more flags 20 (s0 m) (a6 m v) (a7 m v) l6 (moves-a7 flags m v n text allows) in
-    let l8 : Reaches flags 22 (s0 m) (a8 m v) = reaches-more flags 21 (s0 m) (a7 m v) (a8 m v) l7 (moves-a8 flags m v n text allows) in
-    reaches-stop flags 22 (s0 m) (a8 m v) (exit ((v + 0) % 2 ^ 32 % 256)) l8 (stops-a flags m v n text) n' input
+pub a-ends : (text : Text) (v : ℕ) (n : ℕ) (input : List ℕ) → TextStands text 45 (program (Addi 9 0 n ∷ [])) → StackAllows text.flags
+    → Reaches text.flags 14 (s0 text.bytes) input [] (a0 text.bytes v) input
+    → (n' : ℕ) → run text.flags (22 + suc n') (running (s0 text.bytes)) input ≡ standing (ended (exit ((v + 0) % 2 ^ 32 % 256))) input
+unfolding give
+a-ends text v n input code allows l0 n' =
+    let m = text.bytes in
+    let l1 : Reaches text.flags 15 (s0 m) input [] (a1 m v) input =
+    standing_reaches text 14 (s0 m) (a0 m v) (a1 m v) (Addi 10 9 0) input [] input (λ a fixed. refl) l0 (code 38 refl) (does-a1 text v allows) in
+    let l2 : Reaches text.flags 16 (s0 m) input [] (a2 m v) input =
+    standing_reaches text 15 (s0 m) (a1 m v) (a2 m v) (Addi 5 0 16) input [] input (λ a fixed. refl) l1 (code 39 refl) (does-a2 text v allows) in
+    let l3 : Reaches text.flags 17 (s0 m) input [] (a3 m v) input =
+    standing_reaches text 16 (s0 m) (a2 m v) (a3 m v) (Add 6 2 5) input [] input (λ a fixed. refl) l2 (code 40 refl) (does-a3 text v allows) in
+    let l4 : Reaches text.flags 18 (s0 m) input [] (a4 m v) input =
+    standing_reaches text 17 (s0 m) (a3 m v) (a4 m v) (Lw 9 6 4294967288) input [] input (λ a fixed. refl) l3 (code 41 refl) (does-a4 text v allows) in
+    let l5 : Reaches text.flags 19 (s0 m) input [] (a5 m v) input =
+    standing_reaches text 18 (s0 m) (a4 m v) (a5 m v) (Lw 1 6 4294967292) input [] input (λ a fixed. refl) l4 (code 42 refl) (does-a5 text v allows) in
+    let l6 : Reaches text.flags 20 (s0 m) input [] (a6 m v) input =
+    standing_reaches text 19 (s0 m) (a5 m v) (a6 m v) (Addi 2 6 0) input [] input (λ a fixed. refl) l5 (code 43 refl) (does-a6 text v allows) in
+    let l7 : Reaches text.flags 21 (s0 m) input [] (a7 m v) input =
+    standing_reaches text 20 (s0 m) (a6 m v) (a7 m v) (Jalr 0 1 0) input [] input (λ a fixed. refl) l6 (code 44 refl) (does-a7 text v allows) in
+    let l8 : Reaches text.flags 22 (s0 m) input [] (a8 m v) input =
+    standing_reaches text 21 (s0 m) (a7 m v) (a8 m v) (Addi 17 0 93) input [] input (λ a fixed. refl) l7 (code 6 refl) (does-a8 text v allows) in
+    standing_ends text 22 n' (s0 m) (a8 m v) Ecall (exit ((v + 0) % 2 ^ 32 % 256)) input [] input (λ a fixed. refl) l8 (code 7 refl) (stops-a text v)
 
 abbrev pub b0 : Bytes → ℕ → State
 b0 m v = held m 65692 v
@@ -277,59 +286,62 @@ b7 m v = at (b6 m v) 65560
 abbrev pub b8 : Bytes → ℕ → State
 b8 m v = give (b7 m v) 17 93
 
-moves-b1 : (flags : ℕ → ℕ) (m : Bytes) (v : ℕ) (u l : ℕ) → TextStands flags m 46 (program (Lui 9 u ∷ Addi 9 9 l ∷ [])) → StackAllows flags → next_effect flags (b0 m v) ≡ next (b1 m v)
+does-b1 : (text : Text) (v : ℕ) → StackAllows text.flags → act text.flags (Addi 10 9 0) (b0 text.bytes v) ≡ next (b1 text.bytes v)
 unfolding act give jump load_bytes store_bytes
-moves-b1 flags m v u l text allows =
-    effect-act flags (b0 m v) (Addi 10 9 0) (stands-same (text 39 refl) refl) ∙ refl
+does-b1 text v allows = refl
 
-moves-b2 : (flags : ℕ → ℕ) (m : Bytes) (v : ℕ) (u l : ℕ) → TextStands flags m 46 (program (Lui 9 u ∷ Addi 9 9 l ∷ [])) → StackAllows flags → next_effect flags (b1 m v) ≡ next (b2 m v)
+does-b2 : (text : Text) (v : ℕ) → StackAllows text.flags → act text.flags (Addi 5 0 16) (b1 text.bytes v) ≡ next (b2 text.bytes v)
 unfolding act give jump load_bytes store_bytes
-moves-b2 flags m v u l text allows =
-    effect-act flags (b1 m v) (Addi 5 0 16) (stands-same (text 40 refl) refl) ∙ refl
+does-b2 text v allows = refl
 
-moves-b3 : (flags : ℕ → ℕ) (m : Bytes) (v : ℕ) (u l : ℕ) → TextStands flags m 46 (program (Lui 9 u ∷ Addi 9 9 l ∷ [])) → StackAllows flags → next_effect flags (b2 m v) ≡ next (b3 m v)
+does-b3 : (text : Text) (v : ℕ) → StackAllows text.flags → act text.flags (Add 6 2 5) (b2 text.bytes v) ≡ next (b3 text.bytes v)
 unfolding act give jump load_bytes store_bytes
-moves-b3 flags m v u l text allows =
-    effect-act flags (b2 m v) (Add 6 2 5) (stands-same (text 41 refl) refl) ∙ refl
+does-b3 text v allows = refl
 
-moves-b4 : (flags : ℕ → ℕ) (m : Bytes) (v : ℕ) (u l : ℕ) → TextStands flags m 46 (program (Lui 9 u ∷ Addi 9 9 l ∷ [])) → StackAllows flags → next_effect flags (b3 m v) ≡ next (b4 m v)
+does-b4 : (text : Text) (v : ℕ) → StackAllows text.flags → act text.flags (Lw 9 6 4294967288) (b3 text.bytes v) ≡ next (b4 text.bytes v)
 unfolding act give jump load_bytes store_bytes
-moves-b4 flags m v u l text allows =
-    effect-act flags (b3 m v) (Lw 9 6 4294967288) (stands-same (text 42 refl) refl) ∙ (rw allows.r2 refl)
+does-b4 text v allows = rw allows.r2 refl
 
-moves-b5 : (flags : ℕ → ℕ) (m : Bytes) (v : ℕ) (u l : ℕ) → TextStands flags m 46 (program (Lui 9 u ∷ Addi 9 9 l ∷ [])) → StackAllows flags → next_effect flags (b4 m v) ≡ next (b5 m v)
+does-b5 : (text : Text) (v : ℕ) → StackAllows text.flags → act text.flags (Lw 1 6 4294967292) (b4 text.bytes v) ≡ next (b5 text.bytes v)
 unfolding act give jump load_bytes store_bytes
-moves-b5 flags m v u l text allows =
-    effect-act flags (b4 m v) (Lw 1 6 4294967292) (stands-same (text 43 refl) refl) ∙ (rw allows.r1 refl)
+does-b5 text v allows = rw allows.r1 refl
 
-moves-b6 : (flags : ℕ → ℕ) (m : Bytes) (v : ℕ) (u l : ℕ) → TextStands flags m 46 (program (Lui 9 u ∷ Addi 9 9 l ∷ [])) → StackAllows flags → next_effect flags (b5 m v) ≡ next (b6 m v)
+does-b6 : (text : Text) (v : ℕ) → StackAllows text.flags → act text.flags (Addi 2 6 0) (b5 text.bytes v) ≡ next (b6 text.bytes v)
 unfolding act give jump load_bytes store_bytes
-moves-b6 flags m v u l text allows =
-    effect-act flags (b5 m v) (Addi 2 6 0) (stands-same (text 44 refl) refl) ∙ refl
+does-b6 text v allows = refl
 
-moves-b7 : (flags : ℕ → ℕ) (m : Bytes) (v : ℕ) (u l : ℕ) → TextStands flags m 46 (program (Lui 9 u ∷ Addi 9 9 l ∷ [])) → StackAllows flags → next_effect flags (b6 m v) ≡ next (b7 m v)
+does-b7 : (text : Text) (v : ℕ) → StackAllows text.flags → act text.flags (Jalr 0 1 0) (b6 text.bytes v) ≡ next (b7 text.bytes v)
 unfolding act give jump load_bytes store_bytes
-moves-b7 flags m v u l text allows =
-    effect-act flags (b6 m v) (Jalr 0 1 0) (stands-same (text 45 refl) refl) ∙ refl
+does-b7 text v allows = refl
 
-moves-b8 : (flags : ℕ → ℕ) (m : Bytes) (v : ℕ) (u l : ℕ) → TextStands flags m 46 (program (Lui 9 u ∷ Addi 9 9 l ∷ [])) → StackAllows flags → next_effect flags (b7 m v) ≡ next (b8 m v)
+does-b8 : (text : Text) (v : ℕ) → StackAllows text.flags → act text.flags (Addi 17 0 93) (b7 text.bytes v) ≡ next (b8 text.bytes v)
 unfolding act give jump load_bytes store_bytes
-moves-b8 flags m v u l text allows =
-    effect-act flags (b7 m v) (Addi 17 0 93) (stands-same (text 6 refl) refl) ∙ refl
+does-b8 text v allows = refl
 
-stops-b : (flags : ℕ → ℕ) (m : Bytes) (v : ℕ) (u l : ℕ) → TextStands flags m 46 (program (Lui 9 u ∷ Addi 9 9 l ∷ [])) → next_effect flags (b8 m v) ≡ stop (exit ((v + 0) % 2 ^ 32 % 256))
+stops-b : (text : Text) (v : ℕ) → act text.flags Ecall (b8 text.bytes v) ≡ stop (exit ((v + 0) % 2 ^ 32 % 256))
 unfolding act call give jump load_bytes store_bytes
-stops-b flags m v u l text = effect-act flags (b8 m v) Ecall (stands-same (text 7 refl) refl) ∙ refl
+stops-b text v = refl
 
-pub b-ends : (flags : ℕ → ℕ) (m : Bytes) (v : ℕ) (u l : ℕ) → TextStands flags m 46 (program (Lui 9 u ∷ Addi 9 9 l ∷ [])) → StackAllows flags → Reaches flags 15 (s0 m) (b0 m v)
-    → (n' : ℕ) (input : List ℕ) → run_state flags (23 + suc n') (s0 m) input ≡ standing (ended (exit ((v + 0) % 2 ^ 32 % 256))) input
-b-ends flags m v u l text allows l0 n' input =
-    let l1 : Reaches flags 16 (s0 m) (b1 m v) = reaches-more flags 15 (s0 m) (b0 m v) (b1 m v) l0 (moves-b1 flags m v u l text allows) in
-    let l2 : Reaches flags 17 (s0 m) (b2 m v) = reaches-more flags 16 (s0 m) (b1 m v) (b2 m v) l1 (moves-b2 flags m v u l text allows) in
-    let l3 : Reaches flags 18 (s0 m) (b3 m v) = reaches-more flags 17 (s0 m) (b2 m v) (b3 m v) l2 (moves-b3 flags m v u l text allows) in
-    let l4 : Reaches flags 19 (s0 m) (b4 m v) = reaches-more flags 18 (s0 m) (b3 m v) (b4 m v) l3 (moves-b4 flags m v u l text allows) in
-    let l5 : Reaches flags 20 (s0 m) (b5 m v) = reaches-more flags 19 (s0 m) (b4 m v) (b5 m v) l4 (moves-b5 flags m v u l text allows) in
-    let l6 : Reaches flags 21 (s0 m) (b6 m v) = reaches-more flags 20 (s0 m) (b5 m v) (b6 m v) l5 (moves-b6 flags m v u l text allows) in
-    let l7 : Reaches flags 22 (s0 m) (b7 m v) = reaches-more flags 21 (s0 m) (b6 m v) (b7 m v) l6 (moves-b7 flags m v u l text allows) in
-    let l8 : Reaches flags 23 (s0 m) (b8 m v) = reaches-more flags 22 (s0 m) (b7 m v) (b8 m v) l7 (moves-b8 flags m v u l text allows) in
-    reaches-stop flags 23 (s0 m) (b8 m v) (exit ((v + 0) % 2 ^ 32 % 256)) l8 (stops-b flags m v u l text) n' input
+pub b-ends : (text : Text) (v : ℕ) (u l : ℕ) (input : List ℕ) → TextStands text 46 (program (Lui 9 u ∷ Addi 9 9 l ∷ [])) → StackAllows text.flags
+    → Reaches text.flags 15 (s0 text.bytes) input [] (b0 text.bytes v) input
+    → (n' : ℕ) → run text.flags (23 + suc n') (running (s0 text.bytes)) input ≡ standing (ended (exit ((v + 0) % 2 ^ 32 % 256))) input
+unfolding give
+b-ends text v u l input code allows l0 n' =
+    let m = text.bytes in
+    let l1 : Reaches text.flags 16 (s0 m) input [] (b1 m v) input =
+    standing_reaches text 15 (s0 m) (b0 m v) (b1 m v) (Addi 10 9 0) input [] input (λ a fixed. refl) l0 (code 39 refl) (does-b1 text v allows) in
+    let l2 : Reaches text.flags 17 (s0 m) input [] (b2 m v) input =
+    standing_reaches text 16 (s0 m) (b1 m v) (b2 m v) (Addi 5 0 16) input [] input (λ a fixed. refl) l1 (code 40 refl) (does-b2 text v allows) in
+    let l3 : Reaches text.flags 18 (s0 m) input [] (b3 m v) input =
+    standing_reaches text 17 (s0 m) (b2 m v) (b3 m v) (Add 6 2 5) input [] input (λ a fixed. refl) l2 (code 41 refl) (does-b3 text v allows) in
+    let l4 : Reaches text.flags 19 (s0 m) input [] (b4 m v) input =
+    standing_reaches text 18 (s0 m) (b3 m v) (b4 m v) (Lw 9 6 4294967288) input [] input (λ a fixed. refl) l3 (code 42 refl) (does-b4 text v allows) in
+    let l5 : Reaches text.flags 20 (s0 m) input [] (b5 m v) input =
+    standing_reaches text 19 (s0 m) (b4 m v) (b5 m v) (Lw 1 6 4294967292) input [] input (λ a fixed. refl) l4 (code 43 refl) (does-b5 text v allows) in
+    let l6 : Reaches text.flags 21 (s0 m) input [] (b6 m v) input =
+    standing_reaches text 20 (s0 m) (b5 m v) (b6 m v) (Addi 2 6 0) input [] input (λ a fixed. refl) l5 (code 44 refl) (does-b6 text v allows) in
+    let l7 : Reaches text.flags 22 (s0 m) input [] (b7 m v) input =
+    standing_reaches text 21 (s0 m) (b6 m v) (b7 m v) (Jalr 0 1 0) input [] input (λ a fixed. refl) l6 (code 45 refl) (does-b7 text v allows) in
+    let l8 : Reaches text.flags 23 (s0 m) input [] (b8 m v) input =
+    standing_reaches text 22 (s0 m) (b7 m v) (b8 m v) (Addi 17 0 93) input [] input (λ a fixed. refl) l7 (code 6 refl) (does-b8 text v allows) in
+    standing_ends text 23 n' (s0 m) (b8 m v) Ecall (exit ((v + 0) % 2 ^ 32 % 256)) input [] input (λ a fixed. refl) l8 (code 7 refl) (stops-b text v)

@@ -4,8 +4,6 @@ pub mod BuildLemmas
 pub mod RefusalLaws
 pub mod Digits
 pub mod GenerateLemmas
-pub mod Standing
-pub mod Text
 pub mod ProgramFits
 pub mod ConstantRun
 pub mod ConstantExits

@@ -1,24 +1,15 @@
 -- The instructions of the program of a constant fit their formats: all but those that load the constant by evaluation.
-use Rattle.std.proofs.Common.{◌≡◌, ℕ, zero, suc, ◌+◌, ◌-◌, ◌%◌, ◌^◌, ◌<◌, ◌==◌, ◌&&◌, nat_lt, Bool, true, List, [], ◌∷◌, ◌++◌, length, slice_index_or, refl, lit<, arith}
+use Rattle.std.proofs.Common.{◌≡◌, ℕ, ◌+◌, ◌-◌, ◌%◌, ◌^◌, ◌<◌, ◌==◌, ◌&&◌, nat_lt, Bool, true, List, [], ◌∷◌, ◌++◌, refl, lit<, arith}
 use Rattle.std.specs.List.{list_all}
 use Rattle.std.proofs.lemmas.Bool.{and_parts, ltb-true, eqb-true}
 use Rattle.rv_isa.specs.Formats.{Encoding, r_type, i_type, s_type, b_type, u_type, j_type, fixed_word, IsSigned, IsInRange}
 use Rattle.rv_isa.specs.Words.{FitsFormat, encoding_of}
 use Rattle.rv_isa.specs.declared.instruction.Instr.{Instr}
-use Rattle.rv_isa.specs.declared.instruction.Instr.TheVariants.{Lui, Addi, Ebreak}
+use Rattle.rv_isa.specs.declared.instruction.Instr.TheVariants.{Lui, Addi}
+use Rattle.rv_machine.specs.Standing.{AllFit}
 use Rattle.rv_layout.specs.Sequences.{start_code, put_stub, get_stub}
 use Rattle.s_select.specs.Templates.{take_frame}
 use Rattle.cc_top.proofs.ConstantRun.{last_code, program}
-
--- each instruction fits its format
-abbrev pub AllFit : List Instr → Type 0
-AllFit [] = Unit {0}
-AllFit (i ∷ code) = FitsFormat i × AllFit code
-
-pub AllFit-at : (code : List Instr) (k : ℕ) → AllFit code → k < length code → FitsFormat (slice_index_or code k Ebreak)
-AllFit-at [] k fits inside = absurd (omega arith)
-AllFit-at (i ∷ code) zero fits inside = fits.0
-AllFit-at (i ∷ code) (suc k) fits inside = AllFit-at code k fits.1 (omega arith)
 
 AllFit-append : (code more : List Instr) → AllFit code → AllFit more → AllFit (code ++ more)
 AllFit-append [] more fits too = too
