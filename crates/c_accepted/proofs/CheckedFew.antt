@@ -30,62 +30,11 @@ use Rattle.c_sound.proofs.lemmas.Shapes.{in_range, well_shaped}
 use Rattle.c_sound.proofs.lemmas.Parts.{Layouts}
 use Rattle.c_sound.proofs.lemmas.File.{File}
 use Rattle.c_sound.proofs.lemmas.FileShapes.{file_shaped, declarations_few}
+use Rattle.c_sound.proofs.lemmas.Accepted.{predeclared_meaning, initial_file}
 use Rattle.g_simulation.specs.Groups.{HasFewGroups}
 use Rattle.c_accepted.specs.SourceLaws.{TokensAreInRange, CheckedHaveFewGroups}
 use Rattle.c_accepted.proofs.GroupShapes.{groups_few}
 use Rattle.c_accepted.proofs.FewFunctions.{AllFew, externals_few}
-
--- ---- the state before the file
-
-predeclared_meaning : (name : Name) (m : Meaning) → meaning (predeclared_names ∷ []) name ≡ Some m → (m ≡ means.Function 2) ⊎ ((m ≡ means.Function 1) ⊎ (m ≡ means.Function 0))
-predeclared_meaning name m h = by_tests (same_name name (codes "exit")) (same_name name (codes "getchar")) (same_name name (codes "putchar")) h
-  where
-    by_tests : (a b c : Bool) → option_or (cond a (Some (means.Function 2)) (cond b (Some (means.Function 1)) (cond c (Some (means.Function 0)) None))) None ≡ Some m →
-        (m ≡ means.Function 2) ⊎ ((m ≡ means.Function 1) ⊎ (m ≡ means.Function 0))
-    by_tests true b c e = inl (let same : means.Function 2 ≡ m = cc in sym same)
-    by_tests false true c e = inr (inl (let same : means.Function 1 ≡ m = cc in sym same))
-    by_tests false false true e = inr (inr (let same : means.Function 0 ≡ m = cc in sym same))
-    by_tests false false false e = absurd cc
-
-initial_file : (names : List Name) → File (initial_state names)
-initial_file names =
-    record {
-      alone = (predeclared_names, refl);
-      variables = refl;
-      slots = refl;
-      no_variables = λ name slot b m. no_variable slot b (predeclared_meaning name (means.Variable slot b) m);
-      globals_named = λ name k b m. absurd (no_global k b (predeclared_meaning name (means.Global k b) m));
-      functions_named = λ name k m. by_function k (predeclared_meaning name (means.Function k) m);
-      put = refl;
-      get = refl;
-      exit = refl;
-      structs = tt;
-      globals = λ k g q. absurd cc;
-      functions = λ k f q. absurd cc;
-    }
-  where
-    no_variable : (slot : ℕ) (b : Bool) → (means.Variable slot b ≡ means.Function 2) ⊎ ((means.Variable slot b ≡ means.Function 1) ⊎ (means.Variable slot b ≡ means.Function 0)) → ⊥
-    no_variable slot b (inl e) = cc
-    no_variable slot b (inr (inl e)) = cc
-    no_variable slot b (inr (inr e)) = cc
-
-    no_global : (k : ℕ) (b : Bool) → (means.Global k b ≡ means.Function 2) ⊎ ((means.Global k b ≡ means.Function 1) ⊎ (means.Global k b ≡ means.Function 0)) → ⊥
-    no_global k b (inl e) = cc
-    no_global k b (inr (inl e)) = cc
-    no_global k b (inr (inr e)) = cc
-
-    by_function : (k : ℕ) → (means.Function k ≡ means.Function 2) ⊎ ((means.Function k ≡ means.Function 1) ⊎ (means.Function k ≡ means.Function 0)) → FunctionTyped predeclared k
-    by_function k (inl e) =
-        let same : 2 ≡ k = cc in
-        subst (FunctionTyped predeclared) same
-        (record { function = record { result = Some void_type; params = Some int ∷ []; is_defined = true }; there = refl; result = void_type; has = refl; types = int ∷ []; takes = (refl, tt) })
-    by_function k (inr (inl e)) =
-        let same : 1 ≡ k = cc in
-        subst (FunctionTyped predeclared) same (record { function = record { result = Some int; params = []; is_defined = true }; there = refl; result = int; has = refl; types = []; takes = tt })
-    by_function k (inr (inr e)) =
-        let same : 0 ≡ k = cc in
-        subst (FunctionTyped predeclared) same
-        (record { function = record { result = Some int; params = Some int ∷ []; is_defined = true }; there = refl; result = int; has = refl; types = int ∷ []; takes = (refl, tt) })
 
 -- ---- the file
 

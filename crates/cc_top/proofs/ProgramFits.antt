@@ -7,13 +7,10 @@ use Rattle.rv_isa.specs.Words.{FitsFormat, encoding_of}
 use Rattle.rv_isa.specs.declared.instruction.Instr.{Instr}
 use Rattle.rv_isa.specs.declared.instruction.Instr.TheVariants.{Lui, Addi}
 use Rattle.rv_machine.specs.Standing.{AllFit}
+use Rattle.rv_machine.proofs.lemmas.Standing.{fits-append}
 use Rattle.rv_layout.specs.Sequences.{start_code, put_stub, get_stub}
 use Rattle.s_select.specs.Templates.{take_frame}
 use Rattle.cc_top.proofs.ConstantRun.{last_code, program}
-
-AllFit-append : (code more : List Instr) → AllFit code → AllFit more → AllFit (code ++ more)
-AllFit-append [] more fits too = too
-AllFit-append (i ∷ code) more fits too = (fits.0, AllFit-append code more fits.1 too)
 
 -- ---- a test that decides it
 
@@ -79,7 +76,7 @@ unfolding in_range is_signed
 last_fits = all_fit last_code refl
 
 by_load : (load : List Instr) → AllFit load → AllFit (program load)
-by_load load fits = AllFit-append (front ++ load) last_code (AllFit-append front load front_fits fits) last_fits
+by_load load fits = fits-append (front ++ load) last_code (fits-append front load front_fits fits) last_fits
 
 pub small_fits : (n : ℕ) → n < 2048 → AllFit (program (Addi 9 0 n ∷ []))
 unfolding FitsFormat

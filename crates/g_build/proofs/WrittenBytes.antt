@@ -9,7 +9,7 @@ use Rattle.c_typed.specs.Typed.{WrittenTree, word_at, link_at, characters_at}
 use Rattle.c_typed.specs.WellTyped.{WrittenFits}
 use Rattle.g_construct.specs.Globals.{byte_at, bytes_from}
 use Rattle.g_build.specs.Globals.{StandApart, bytes_end, item_bytes}
-use Rattle.g_construct.proofs.lemmas.Programs.{bytes_counted}
+use Rattle.g_construct.proofs.lemmas.Programs.{bytes_counted, bytes_same}
 
 -- ---- bytes
 
@@ -23,10 +23,6 @@ bytes_append ws i (suc m) n =
     let f : suc i + m ≡ i + suc m = omega arith in
     ap (bytes_from ws i) e
     ∙ ap (λ t. byte_at ws i ∷ t) (bytes_append ws (suc i) m n ∙ ap (λ j. bytes_from ws (suc i) m ++ bytes_from ws j n) f)
-
-same_bytes : (ws vs : List WrittenTree) (i n : ℕ) → ((j : ℕ) → i ≤ j → j < i + n → byte_at ws j ≡ byte_at vs j) → bytes_from ws i n ≡ bytes_from vs i n
-same_bytes ws vs i zero h = refl
-same_bytes ws vs i (suc n) h = λ k. h i (omega arith) (omega arith) k ∷ same_bytes ws vs (suc i) n (λ j from to. h j (omega arith) (omega arith)) k
 
 pub unwritten : (i n : ℕ) → bytes_from [] i n ≡ replicate n 0
 unwritten i zero = refl
@@ -94,9 +90,9 @@ item_first n k x ws h =
     let later : n ≤ bytes_end n x = ends_later n x ws h in
     let at : n + (bytes_end n x - n) ≡ bytes_end n x = omega (arith, later) in
     let first : bytes_from (x ∷ ws) n (bytes_end n x - n) ≡ item_bytes n x
-    = same_bytes (x ∷ ws) (x ∷ []) n (bytes_end n x - n) (λ j from below. within_item n j x ws h (omega (arith, below, later))) in
+    = bytes_same (x ∷ ws) (x ∷ []) n (bytes_end n x - n) (λ j from below. within_item n j x ws h (omega (arith, below, later))) in
     let rest : bytes_from (x ∷ ws) (n + (bytes_end n x - n)) k ≡ bytes_from ws (bytes_end n x) k
-    = ap (λ m. bytes_from (x ∷ ws) m k) at ∙ same_bytes (x ∷ ws) ws (bytes_end n x) k (λ j from below. past_item n j x ws from) in
+    = ap (λ m. bytes_from (x ∷ ws) m k) at ∙ bytes_same (x ∷ ws) ws (bytes_end n x) k (λ j from below. past_item n j x ws from) in
     bytes_append (x ∷ ws) n (bytes_end n x - n) k ∙ (λ i. first i ++ rest i)
 
 -- an item that begins at o
@@ -106,7 +102,7 @@ item_padded n o m x le h end =
     let size : bytes_end n x - n ≡ (o - n) + m = omega (arith, end, le) in
     let at : n + (o - n) ≡ o = omega (arith, le) in
     let zeros : bytes_from (x ∷ []) n (o - n) ≡ replicate (o - n) 0
-    = same_bytes (x ∷ []) [] n (o - n) (λ j from below. early (x ∷ []) o j h (omega (arith, below, le))) ∙ unwritten n (o - n) in
+    = bytes_same (x ∷ []) [] n (o - n) (λ j from below. early (x ∷ []) o j h (omega (arith, below, le))) ∙ unwritten n (o - n) in
     ap (bytes_from (x ∷ []) n) size ∙ bytes_append (x ∷ []) n (o - n) m ∙ (λ i. zeros i ++ bytes_from (x ∷ []) (at i) m)
 
 -- ---- words and characters

@@ -16,6 +16,7 @@ use Rattle.g_graph.specs.Plain.{PlainLambda, PlainDelta, PlainObject}
 use Rattle.g_graph.specs.Lists.{RegionOps, Calls, NamesGlobal}
 use Rattle.g_graph.specs.Program.{same_bytes, name_index, main_name, IsGlobal, HasMain, lambda_values, IsFunctionWithinLimits}
 use Rattle.g_graph.specs.WellFormed.{IsWellFormed, leaves_fit}
+use Rattle.g_graph.proofs.lemmas.Names.{bytes_same, bytes_equal}
 use Rattle.g_formation.specs.FormationLaws.{LambdaForms, FormedIsWellFormed}
 use Rattle.g_construct.specs.Globals.{global_made, globals_made}
 use Rattle.g_construct.specs.Functions.{objects_made, lambda_made, lambdas_made, function_values, graph, names}
@@ -52,23 +53,6 @@ lambda_good law formed p w n l e =
     (formed (graph p) (length p.globals) (lambda_made p n b.function) (lambda_forms law p w n b.function b.there))
 
 -- ---- `main`
-
-bytes_same : (xs : List ℕ) → same_bytes xs xs ≡ true
-bytes_same [] = refl
-bytes_same (x ∷ xs) = ap (λ t. if t then same_bytes xs xs else false) equal ∙ bytes_same xs
-  where
-    equal : (x == x) ≡ true
-    equal = grind (arith, nat_tests)
-
-bytes_equal : (xs ys : List ℕ) → same_bytes xs ys ≡ true → xs ≡ ys
-bytes_equal [] [] e = refl
-bytes_equal [] (y ∷ ys) e = absurd (cc)
-bytes_equal (x ∷ xs) [] e = absurd (cc)
-bytes_equal (x ∷ xs) (y ∷ ys) e = by_test (x == y) refl e (λ q. bytes_equal xs ys q)
-  where
-    by_test : (t : Bool) → (x == y) ≡ t → (if t then same_bytes xs ys else false) ≡ true → (same_bytes xs ys ≡ true → xs ≡ ys) → x ∷ xs ≡ y ∷ ys
-    by_test true q r s = let same : x ≡ y = grind (arith, nat_tests, q) in λ i. same i ∷ s r i
-    by_test false q r s = absurd (cc)
 
 main_found : (fs : List FunctionTree) (k : ℕ) (f : FunctionTree) → slice_get fs k ≡ Some f → f.name ≡ main_name → ((j : ℕ) (g : FunctionTree) → slice_get fs j ≡ Some g → g.name ≡ main_name → j ≡ k) →
     name_index main_name (map (λ (f : FunctionTree). f.name) fs) ≡ Some k

@@ -11,3 +11,6 @@ pub mod Nests
 pub mod Found
 pub mod Ops
 pub mod Complete
+pub mod Listed
+pub mod Mapped
+pub mod Names

@@ -31,6 +31,10 @@ abbrev pub regions_of : List RegionTree → RegionTrees
 regions_of [] = no_regions
 regions_of (r ∷ rs) = region_then r (regions_of rs)
 
+abbrev pub count_of : RegionTrees → ℕ
+count_of no_regions = 0
+count_of (region_then r rs) = suc (count_of rs)
+
 abbrev pub id_of : NodeTree → ℕ
 id_of (node id op inputs rs) = id
 

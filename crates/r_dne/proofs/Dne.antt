@@ -2,7 +2,7 @@
 use Rattle.std.specs.Prelude.{option_and_then, unwrap_or}
 use Rattle.std.proofs.Common.{◌≡◌, ℕ, Bool, true, false, not, ◌&&◌, ◌||◌, cond, List, map, length, Option, None, Some, refl, sym, ap, subst, subst₂, ◌∙◌, arith}
 use Rattle.std.proofs.lemmas.Bool.{or_parts}
-use Rattle.std.proofs.lemmas.Option.{same_Some}
+use Rattle.std.proofs.lemmas.Option.{same_Some, none-some}
 use Rattle.g_graph.specs.declared.op.Kind.{Kind}
 use Rattle.g_graph.specs.declared.op.Kind.TheVariants.{Memory, Io}
 use Rattle.g_graph.specs.declared.op.Op.{Op}
@@ -59,11 +59,8 @@ pub record AsksNoCount (p : Op → ℕ → Type 0) : Type 0 where
   pub gamma : (m n : ℕ) → p Gamma m → p Gamma n
   pub theta : (m n : ℕ) → p Theta m → p Theta n
 
-no_option : {X : Type 0} {y : X} → None ≡ Some y → ⊥
-no_option e = absurd cc
-
 shrunk_if : (t : Bool) (r s : RegionTree) → cond t None (Some r) ≡ Some s → r ≡ s
-shrunk_if true r s e = absurd (no_option e)
+shrunk_if true r s e = absurd (none-some _ e)
 shrunk_if false r s e = same_Some r s e
 
 kept_both : (objects : ℕ) (r s t : RegionTree) → KeptWithin objects r s → KeptWithin objects s t → KeptWithin objects r t
@@ -106,22 +103,22 @@ module _ (args : List Kind) (before : NodeTrees) (after : NodeTrees) (results : 
       let stays = variables_of id r q in
       subst (λ t. Replaces ls ks r t) (shrunk_if (all_stay stays) (variables_kept id stays r) s e)
       (unread_variables_go ls ks l args before id inputs q after results stays part (loop_unread id r nodes outs own own) (variables_unread id r nodes outs own))
-  shrunk_replaces ls ks l id Theta inputs no_regions s part e = absurd (no_option e)
-  shrunk_replaces ls ks l id Theta inputs (region_then q (region_then t rs)) s part e = absurd (no_option e)
-  shrunk_replaces ls ks l id (Const w) inputs rs s part e = absurd (no_option e)
-  shrunk_replaces ls ks l id Undef inputs rs s part e = absurd (no_option e)
-  shrunk_replaces ls ks l id (Local k) inputs rs s part e = absurd (no_option e)
-  shrunk_replaces ls ks l id (Delta k) inputs rs s part e = absurd (no_option e)
-  shrunk_replaces ls ks l id (Bin op) inputs rs s part e = absurd (no_option e)
-  shrunk_replaces ls ks l id (Un op) inputs rs s part e = absurd (no_option e)
-  shrunk_replaces ls ks l id (Load w) inputs rs s part e = absurd (no_option e)
-  shrunk_replaces ls ks l id (Store w) inputs rs s part e = absurd (no_option e)
-  shrunk_replaces ls ks l id (Clear k) inputs rs s part e = absurd (no_option e)
-  shrunk_replaces ls ks l id PtrEq inputs rs s part e = absurd (no_option e)
-  shrunk_replaces ls ks l id (Apply f) inputs rs s part e = absurd (no_option e)
-  shrunk_replaces ls ks l id Put inputs rs s part e = absurd (no_option e)
-  shrunk_replaces ls ks l id Exit inputs rs s part e = absurd (no_option e)
-  shrunk_replaces ls ks l id Get inputs rs s part e = absurd (no_option e)
+  shrunk_replaces ls ks l id Theta inputs no_regions s part e = absurd (none-some _ e)
+  shrunk_replaces ls ks l id Theta inputs (region_then q (region_then t rs)) s part e = absurd (none-some _ e)
+  shrunk_replaces ls ks l id (Const w) inputs rs s part e = absurd (none-some _ e)
+  shrunk_replaces ls ks l id Undef inputs rs s part e = absurd (none-some _ e)
+  shrunk_replaces ls ks l id (Local k) inputs rs s part e = absurd (none-some _ e)
+  shrunk_replaces ls ks l id (Delta k) inputs rs s part e = absurd (none-some _ e)
+  shrunk_replaces ls ks l id (Bin op) inputs rs s part e = absurd (none-some _ e)
+  shrunk_replaces ls ks l id (Un op) inputs rs s part e = absurd (none-some _ e)
+  shrunk_replaces ls ks l id (Load w) inputs rs s part e = absurd (none-some _ e)
+  shrunk_replaces ls ks l id (Store w) inputs rs s part e = absurd (none-some _ e)
+  shrunk_replaces ls ks l id (Clear k) inputs rs s part e = absurd (none-some _ e)
+  shrunk_replaces ls ks l id PtrEq inputs rs s part e = absurd (none-some _ e)
+  shrunk_replaces ls ks l id (Apply f) inputs rs s part e = absurd (none-some _ e)
+  shrunk_replaces ls ks l id Put inputs rs s part e = absurd (none-some _ e)
+  shrunk_replaces ls ks l id Exit inputs rs s part e = absurd (none-some _ e)
+  shrunk_replaces ls ks l id Get inputs rs s part e = absurd (none-some _ e)
 
   eliminated_replaces : (ls ks : List PlainLambda) (l : PlainLambda) (id : ℕ) (op : Op) (inputs : List Origin) (rs : RegionTrees) (s : RegionTree) → IsPartOf l (whole (node id op inputs rs)) →
       eliminated (whole (node id op inputs rs)) (node id op inputs rs) ≡ Some s → Replaces ls ks (whole (node id op inputs rs)) s
@@ -174,22 +171,22 @@ module _ (args : List Kind) (before : NodeTrees) (after : NodeTrees) (results : 
       subst (λ t. KeptWithin objects r t) (shrunk_if (all_stay stays) (variables_kept id stays r) s e)
       (variables_kept_fit stays objects args before id inputs own nodes outs after here (variables_are_values id r nodes outs 0 own) (loop_unread id r nodes outs own own) results fits
       (variables_unread id r nodes outs own))
-  shrunk_kept objects next id Theta inputs no_regions s fits numbers here e = absurd (no_option e)
-  shrunk_kept objects next id Theta inputs (region_then q (region_then t rs)) s fits numbers here e = absurd (no_option e)
-  shrunk_kept objects next id (Const w) inputs rs s fits numbers here e = absurd (no_option e)
-  shrunk_kept objects next id Undef inputs rs s fits numbers here e = absurd (no_option e)
-  shrunk_kept objects next id (Local k) inputs rs s fits numbers here e = absurd (no_option e)
-  shrunk_kept objects next id (Delta k) inputs rs s fits numbers here e = absurd (no_option e)
-  shrunk_kept objects next id (Bin op) inputs rs s fits numbers here e = absurd (no_option e)
-  shrunk_kept objects next id (Un op) inputs rs s fits numbers here e = absurd (no_option e)
-  shrunk_kept objects next id (Load w) inputs rs s fits numbers here e = absurd (no_option e)
-  shrunk_kept objects next id (Store w) inputs rs s fits numbers here e = absurd (no_option e)
-  shrunk_kept objects next id (Clear k) inputs rs s fits numbers here e = absurd (no_option e)
-  shrunk_kept objects next id PtrEq inputs rs s fits numbers here e = absurd (no_option e)
-  shrunk_kept objects next id (Apply f) inputs rs s fits numbers here e = absurd (no_option e)
-  shrunk_kept objects next id Put inputs rs s fits numbers here e = absurd (no_option e)
-  shrunk_kept objects next id Exit inputs rs s fits numbers here e = absurd (no_option e)
-  shrunk_kept objects next id Get inputs rs s fits numbers here e = absurd (no_option e)
+  shrunk_kept objects next id Theta inputs no_regions s fits numbers here e = absurd (none-some _ e)
+  shrunk_kept objects next id Theta inputs (region_then q (region_then t rs)) s fits numbers here e = absurd (none-some _ e)
+  shrunk_kept objects next id (Const w) inputs rs s fits numbers here e = absurd (none-some _ e)
+  shrunk_kept objects next id Undef inputs rs s fits numbers here e = absurd (none-some _ e)
+  shrunk_kept objects next id (Local k) inputs rs s fits numbers here e = absurd (none-some _ e)
+  shrunk_kept objects next id (Delta k) inputs rs s fits numbers here e = absurd (none-some _ e)
+  shrunk_kept objects next id (Bin op) inputs rs s fits numbers here e = absurd (none-some _ e)
+  shrunk_kept objects next id (Un op) inputs rs s fits numbers here e = absurd (none-some _ e)
+  shrunk_kept objects next id (Load w) inputs rs s fits numbers here e = absurd (none-some _ e)
+  shrunk_kept objects next id (Store w) inputs rs s fits numbers here e = absurd (none-some _ e)
+  shrunk_kept objects next id (Clear k) inputs rs s fits numbers here e = absurd (none-some _ e)
+  shrunk_kept objects next id PtrEq inputs rs s fits numbers here e = absurd (none-some _ e)
+  shrunk_kept objects next id (Apply f) inputs rs s fits numbers here e = absurd (none-some _ e)
+  shrunk_kept objects next id Put inputs rs s fits numbers here e = absurd (none-some _ e)
+  shrunk_kept objects next id Exit inputs rs s fits numbers here e = absurd (none-some _ e)
+  shrunk_kept objects next id Get inputs rs s fits numbers here e = absurd (none-some _ e)
 
   eliminated_kept : (objects next id : ℕ) (op : Op) (inputs : List Origin) (rs : RegionTrees) (s : RegionTree) → every_region (region_fits objects) (whole (node id op inputs rs)) ≡ true →
       Numbered next (region_ids (whole (node id op inputs rs))) → eliminated (whole (node id op inputs rs)) (node id op inputs rs) ≡ Some s → KeptWithin objects (whole (node id op inputs rs)) s
@@ -226,22 +223,22 @@ module _ (args : List Kind) (before : NodeTrees) (after : NodeTrees) (results : 
         let r = whole (node id Theta inputs (region_then q no_regions)) in
         let stays = variables_of id r q in
         subst (RegionOps p) (shrunk_if (all_stay stays) (variables_kept id stays r) s e) (variables_kept_ops p asks.theta stays args before id inputs q after results none h)
-    shrunk_ops id Theta inputs no_regions s none e h = absurd (no_option e)
-    shrunk_ops id Theta inputs (region_then q (region_then t rs)) s none e h = absurd (no_option e)
-    shrunk_ops id (Const w) inputs rs s none e h = absurd (no_option e)
-    shrunk_ops id Undef inputs rs s none e h = absurd (no_option e)
-    shrunk_ops id (Local k) inputs rs s none e h = absurd (no_option e)
-    shrunk_ops id (Delta k) inputs rs s none e h = absurd (no_option e)
-    shrunk_ops id (Bin op) inputs rs s none e h = absurd (no_option e)
-    shrunk_ops id (Un op) inputs rs s none e h = absurd (no_option e)
-    shrunk_ops id (Load w) inputs rs s none e h = absurd (no_option e)
-    shrunk_ops id (Store w) inputs rs s none e h = absurd (no_option e)
-    shrunk_ops id (Clear k) inputs rs s none e h = absurd (no_option e)
-    shrunk_ops id PtrEq inputs rs s none e h = absurd (no_option e)
-    shrunk_ops id (Apply f) inputs rs s none e h = absurd (no_option e)
-    shrunk_ops id Put inputs rs s none e h = absurd (no_option e)
-    shrunk_ops id Exit inputs rs s none e h = absurd (no_option e)
-    shrunk_ops id Get inputs rs s none e h = absurd (no_option e)
+    shrunk_ops id Theta inputs no_regions s none e h = absurd (none-some _ e)
+    shrunk_ops id Theta inputs (region_then q (region_then t rs)) s none e h = absurd (none-some _ e)
+    shrunk_ops id (Const w) inputs rs s none e h = absurd (none-some _ e)
+    shrunk_ops id Undef inputs rs s none e h = absurd (none-some _ e)
+    shrunk_ops id (Local k) inputs rs s none e h = absurd (none-some _ e)
+    shrunk_ops id (Delta k) inputs rs s none e h = absurd (none-some _ e)
+    shrunk_ops id (Bin op) inputs rs s none e h = absurd (none-some _ e)
+    shrunk_ops id (Un op) inputs rs s none e h = absurd (none-some _ e)
+    shrunk_ops id (Load w) inputs rs s none e h = absurd (none-some _ e)
+    shrunk_ops id (Store w) inputs rs s none e h = absurd (none-some _ e)
+    shrunk_ops id (Clear k) inputs rs s none e h = absurd (none-some _ e)
+    shrunk_ops id PtrEq inputs rs s none e h = absurd (none-some _ e)
+    shrunk_ops id (Apply f) inputs rs s none e h = absurd (none-some _ e)
+    shrunk_ops id Put inputs rs s none e h = absurd (none-some _ e)
+    shrunk_ops id Exit inputs rs s none e h = absurd (none-some _ e)
+    shrunk_ops id Get inputs rs s none e h = absurd (none-some _ e)
 
     eliminated_ops : (id : ℕ) (op : Op) (inputs : List Origin) (rs : RegionTrees) (s : RegionTree) → has_node id before ≡ false →
         eliminated (whole (node id op inputs rs)) (node id op inputs rs) ≡ Some s → RegionOps p (whole (node id op inputs rs)) → RegionOps p s
@@ -284,7 +281,7 @@ located : (n : ℕ) (args : List Kind) (ns : NodeTrees) (results : List Origin) 
 located n args ns results s e = by (node_at n ns) refl e
   where
     by : (x : Option NodeTree) → node_at n ns ≡ x → option_and_then (eliminated (region args ns results)) x ≡ Some s → Located n args ns results s
-    by None at d = absurd (no_option d)
+    by None at d = absurd (none-some _ d)
     by (Some x) at d =
         let split = split_at n ns (found_node n ns x at) in
         let here : split.here ≡ x =

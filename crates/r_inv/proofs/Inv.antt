@@ -2,7 +2,7 @@
 use Rattle.std.specs.Prelude.{option_and_then, unwrap_or}
 use Rattle.std.proofs.Common.{◌≡◌, ℕ, zero, suc, ◌+◌, Bool, true, false, ◌&&◌, cond, List, [], ◌∷◌, length, Option, None, Some, slice_get, refl, sym, ap, subst, subst₂, ◌∙◌, arith}
 use Rattle.std.proofs.lemmas.Bool.{and_parts}
-use Rattle.std.proofs.lemmas.Option.{same_Some}
+use Rattle.std.proofs.lemmas.Option.{same_Some, none-some}
 use Rattle.g_graph.specs.declared.op.Kind.{Kind}
 use Rattle.g_graph.specs.declared.op.Kind.TheVariants.{Value}
 use Rattle.g_graph.specs.declared.op.Op.{Op}
@@ -20,7 +20,7 @@ use Rattle.g_graph.specs.Splice.{joined_nodes}
 use Rattle.g_graph.specs.Lists.{RegionOps, Calls, NamesGlobal}
 use Rattle.g_graph.proofs.lemmas.Complete.{complete_set, program_set}
 use Rattle.g_graph.proofs.lemmas.Found.{found_node, node_at-joined}
-use Rattle.g_graph.proofs.lemmas.Indexes.{same_kind_true}
+use Rattle.g_graph.proofs.lemmas.Indexes.{same_kind_true, is_origin_some}
 use Rattle.g_graph.proofs.lemmas.Nests.{changed_well_formed_within}
 use Rattle.g_graph.proofs.lemmas.Nodes.{NodeFits, node_fits_here, KeptWithin}
 use Rattle.g_graph.proofs.lemmas.Numbers.{Numbered}
@@ -35,7 +35,7 @@ use Rattle.g_mean.proofs.lemmas.Programs.{programs_keep_meaning}
 use Rattle.g_mean.proofs.lemmas.Replacement.{lambdas_keep_meaning}
 use Rattle.g_edit.specs.InPlace.{outputs_redirected}
 use Rattle.g_edit.specs.Carried.{passed, output_carried, exits_carried}
-use Rattle.g_edit.proofs.lemmas.Carried.{origin_is, carried_exits_go, carried_uses_move}
+use Rattle.g_edit.proofs.lemmas.Carried.{carried_exits_go, carried_uses_move}
 use Rattle.g_edit.proofs.lemmas.CarriedExits.{exits_carried_fit, exits_carried_ops}
 use Rattle.g_edit.proofs.lemmas.CarriedUses.{uses_carried_fit, outputs_redirected_ops}
 use Rattle.r_inv.specs.Rule.{exits_from, variables_from, some_used, carried_exits, carried_variables, moved, inv_here, inv}
@@ -74,7 +74,7 @@ variables_kept inputs outs p (j ∷ js) zero o e =
     by false h d = absurd cc
     by true h d =
         let both = and_parts (same_kind Value j) (is_origin (slice_get outs (suc p)) (Arg p)) h in
-        record { value = ap Some (sym (same_kind_true Value j both.0)); result = origin_is (slice_get outs (suc p)) (Arg p) both.1; input = d }
+        record { value = ap Some (sym (same_kind_true Value j both.0)); result = is_origin_some (slice_get outs (suc p)) (Arg p) both.1; input = d }
 variables_kept inputs outs p (j ∷ js) (suc i) o e =
     let number : suc p + i ≡ p + suc i = omega arith in
     subst (λ q. Invariant inputs outs q (slice_get js i) o) number (variables_kept inputs outs (suc p) js i o e)
@@ -86,12 +86,9 @@ variable_kept inputs outs js i o e =
 
 -- ---- what a change is
 
-no_option : {X : Type 0} {y : X} → None ≡ Some y → ⊥
-no_option e = absurd cc
-
 moved_if : (t : Bool) (r s : RegionTree) → cond t (Some r) None ≡ Some s → r ≡ s
 moved_if true r s e = same_Some r s e
-moved_if false r s e = absurd (no_option e)
+moved_if false r s e = absurd (none-some _ e)
 
 -- ---- at a node in its place
 
@@ -111,22 +108,22 @@ module _ (args : List Kind) (before : NodeTrees) (after : NodeTrees) (results : 
       let cs = variables_from inputs outs 0 own in
       subst (λ t. Replaces ls ks r t) (moved_if (some_used id r 0 cs) (outputs_redirected id (output_carried id cs []) r) s e)
       (carried_uses_move ls ks l args before id inputs own nodes outs after results cs part (λ p o h. let at = variable_kept inputs outs own p o h in (at.result, at.input)))
-  moved_replaces ls ks l id Theta inputs no_regions s part e = absurd (no_option e)
-  moved_replaces ls ks l id Theta inputs (region_then q (region_then t rs)) s part e = absurd (no_option e)
-  moved_replaces ls ks l id (Const w) inputs rs s part e = absurd (no_option e)
-  moved_replaces ls ks l id Undef inputs rs s part e = absurd (no_option e)
-  moved_replaces ls ks l id (Local k) inputs rs s part e = absurd (no_option e)
-  moved_replaces ls ks l id (Delta k) inputs rs s part e = absurd (no_option e)
-  moved_replaces ls ks l id (Bin op) inputs rs s part e = absurd (no_option e)
-  moved_replaces ls ks l id (Un op) inputs rs s part e = absurd (no_option e)
-  moved_replaces ls ks l id (Load w) inputs rs s part e = absurd (no_option e)
-  moved_replaces ls ks l id (Store w) inputs rs s part e = absurd (no_option e)
-  moved_replaces ls ks l id (Clear k) inputs rs s part e = absurd (no_option e)
-  moved_replaces ls ks l id PtrEq inputs rs s part e = absurd (no_option e)
-  moved_replaces ls ks l id (Apply f) inputs rs s part e = absurd (no_option e)
-  moved_replaces ls ks l id Put inputs rs s part e = absurd (no_option e)
-  moved_replaces ls ks l id Exit inputs rs s part e = absurd (no_option e)
-  moved_replaces ls ks l id Get inputs rs s part e = absurd (no_option e)
+  moved_replaces ls ks l id Theta inputs no_regions s part e = absurd (none-some _ e)
+  moved_replaces ls ks l id Theta inputs (region_then q (region_then t rs)) s part e = absurd (none-some _ e)
+  moved_replaces ls ks l id (Const w) inputs rs s part e = absurd (none-some _ e)
+  moved_replaces ls ks l id Undef inputs rs s part e = absurd (none-some _ e)
+  moved_replaces ls ks l id (Local k) inputs rs s part e = absurd (none-some _ e)
+  moved_replaces ls ks l id (Delta k) inputs rs s part e = absurd (none-some _ e)
+  moved_replaces ls ks l id (Bin op) inputs rs s part e = absurd (none-some _ e)
+  moved_replaces ls ks l id (Un op) inputs rs s part e = absurd (none-some _ e)
+  moved_replaces ls ks l id (Load w) inputs rs s part e = absurd (none-some _ e)
+  moved_replaces ls ks l id (Store w) inputs rs s part e = absurd (none-some _ e)
+  moved_replaces ls ks l id (Clear k) inputs rs s part e = absurd (none-some _ e)
+  moved_replaces ls ks l id PtrEq inputs rs s part e = absurd (none-some _ e)
+  moved_replaces ls ks l id (Apply f) inputs rs s part e = absurd (none-some _ e)
+  moved_replaces ls ks l id Put inputs rs s part e = absurd (none-some _ e)
+  moved_replaces ls ks l id Exit inputs rs s part e = absurd (none-some _ e)
+  moved_replaces ls ks l id Get inputs rs s part e = absurd (none-some _ e)
 
   moved_kept : (objects id : ℕ) (op : Op) (inputs : List Origin) (rs : RegionTrees) (s : RegionTree) → every_region (region_fits objects) (whole (node id op inputs rs)) ≡ true →
       NodeFits objects args before (node id op inputs rs) after → moved (whole (node id op inputs rs)) (node id op inputs rs) ≡ Some s → KeptWithin objects (whole (node id op inputs rs)) s
@@ -140,22 +137,22 @@ module _ (args : List Kind) (before : NodeTrees) (after : NodeTrees) (results : 
       let cs = variables_from inputs outs 0 own in
       subst (λ t. KeptWithin objects r t) (moved_if (some_used id r 0 cs) (outputs_redirected id (output_carried id cs []) r) s e)
       (uses_carried_fit objects args before id inputs own nodes outs after cs here (λ p o h. let at = variable_kept inputs outs own p o h in (at.value, at.input)) results fits)
-  moved_kept objects id Theta inputs no_regions s fits here e = absurd (no_option e)
-  moved_kept objects id Theta inputs (region_then q (region_then t rs)) s fits here e = absurd (no_option e)
-  moved_kept objects id (Const w) inputs rs s fits here e = absurd (no_option e)
-  moved_kept objects id Undef inputs rs s fits here e = absurd (no_option e)
-  moved_kept objects id (Local k) inputs rs s fits here e = absurd (no_option e)
-  moved_kept objects id (Delta k) inputs rs s fits here e = absurd (no_option e)
-  moved_kept objects id (Bin op) inputs rs s fits here e = absurd (no_option e)
-  moved_kept objects id (Un op) inputs rs s fits here e = absurd (no_option e)
-  moved_kept objects id (Load w) inputs rs s fits here e = absurd (no_option e)
-  moved_kept objects id (Store w) inputs rs s fits here e = absurd (no_option e)
-  moved_kept objects id (Clear k) inputs rs s fits here e = absurd (no_option e)
-  moved_kept objects id PtrEq inputs rs s fits here e = absurd (no_option e)
-  moved_kept objects id (Apply f) inputs rs s fits here e = absurd (no_option e)
-  moved_kept objects id Put inputs rs s fits here e = absurd (no_option e)
-  moved_kept objects id Exit inputs rs s fits here e = absurd (no_option e)
-  moved_kept objects id Get inputs rs s fits here e = absurd (no_option e)
+  moved_kept objects id Theta inputs no_regions s fits here e = absurd (none-some _ e)
+  moved_kept objects id Theta inputs (region_then q (region_then t rs)) s fits here e = absurd (none-some _ e)
+  moved_kept objects id (Const w) inputs rs s fits here e = absurd (none-some _ e)
+  moved_kept objects id Undef inputs rs s fits here e = absurd (none-some _ e)
+  moved_kept objects id (Local k) inputs rs s fits here e = absurd (none-some _ e)
+  moved_kept objects id (Delta k) inputs rs s fits here e = absurd (none-some _ e)
+  moved_kept objects id (Bin op) inputs rs s fits here e = absurd (none-some _ e)
+  moved_kept objects id (Un op) inputs rs s fits here e = absurd (none-some _ e)
+  moved_kept objects id (Load w) inputs rs s fits here e = absurd (none-some _ e)
+  moved_kept objects id (Store w) inputs rs s fits here e = absurd (none-some _ e)
+  moved_kept objects id (Clear k) inputs rs s fits here e = absurd (none-some _ e)
+  moved_kept objects id PtrEq inputs rs s fits here e = absurd (none-some _ e)
+  moved_kept objects id (Apply f) inputs rs s fits here e = absurd (none-some _ e)
+  moved_kept objects id Put inputs rs s fits here e = absurd (none-some _ e)
+  moved_kept objects id Exit inputs rs s fits here e = absurd (none-some _ e)
+  moved_kept objects id Get inputs rs s fits here e = absurd (none-some _ e)
 
   -- no op is added
   module _ (p : Op → ℕ → Type 0) where
@@ -166,22 +163,22 @@ module _ (args : List Kind) (before : NodeTrees) (after : NodeTrees) (results : 
     moved_ops id Theta inputs (region_then q no_regions) r s e h =
         let cs = carried_variables inputs q in
         subst (RegionOps p) (moved_if (some_used id r 0 cs) (outputs_redirected id (output_carried id cs []) r) s e) (outputs_redirected_ops p (output_carried id cs []) id r h)
-    moved_ops id Theta inputs no_regions r s e h = absurd (no_option e)
-    moved_ops id Theta inputs (region_then q (region_then t rs)) r s e h = absurd (no_option e)
-    moved_ops id (Const w) inputs rs r s e h = absurd (no_option e)
-    moved_ops id Undef inputs rs r s e h = absurd (no_option e)
-    moved_ops id (Local k) inputs rs r s e h = absurd (no_option e)
-    moved_ops id (Delta k) inputs rs r s e h = absurd (no_option e)
-    moved_ops id (Bin op) inputs rs r s e h = absurd (no_option e)
-    moved_ops id (Un op) inputs rs r s e h = absurd (no_option e)
-    moved_ops id (Load w) inputs rs r s e h = absurd (no_option e)
-    moved_ops id (Store w) inputs rs r s e h = absurd (no_option e)
-    moved_ops id (Clear k) inputs rs r s e h = absurd (no_option e)
-    moved_ops id PtrEq inputs rs r s e h = absurd (no_option e)
-    moved_ops id (Apply f) inputs rs r s e h = absurd (no_option e)
-    moved_ops id Put inputs rs r s e h = absurd (no_option e)
-    moved_ops id Exit inputs rs r s e h = absurd (no_option e)
-    moved_ops id Get inputs rs r s e h = absurd (no_option e)
+    moved_ops id Theta inputs no_regions r s e h = absurd (none-some _ e)
+    moved_ops id Theta inputs (region_then q (region_then t rs)) r s e h = absurd (none-some _ e)
+    moved_ops id (Const w) inputs rs r s e h = absurd (none-some _ e)
+    moved_ops id Undef inputs rs r s e h = absurd (none-some _ e)
+    moved_ops id (Local k) inputs rs r s e h = absurd (none-some _ e)
+    moved_ops id (Delta k) inputs rs r s e h = absurd (none-some _ e)
+    moved_ops id (Bin op) inputs rs r s e h = absurd (none-some _ e)
+    moved_ops id (Un op) inputs rs r s e h = absurd (none-some _ e)
+    moved_ops id (Load w) inputs rs r s e h = absurd (none-some _ e)
+    moved_ops id (Store w) inputs rs r s e h = absurd (none-some _ e)
+    moved_ops id (Clear k) inputs rs r s e h = absurd (none-some _ e)
+    moved_ops id PtrEq inputs rs r s e h = absurd (none-some _ e)
+    moved_ops id (Apply f) inputs rs r s e h = absurd (none-some _ e)
+    moved_ops id Put inputs rs r s e h = absurd (none-some _ e)
+    moved_ops id Exit inputs rs r s e h = absurd (none-some _ e)
+    moved_ops id Get inputs rs r s e h = absurd (none-some _ e)
 
 -- ---- the node in its region
 
@@ -216,7 +213,7 @@ located : (n : ℕ) (args : List Kind) (ns : NodeTrees) (results : List Origin) 
 located n args ns results s e = by (node_at n ns) refl e
   where
     by : (x : Option NodeTree) → node_at n ns ≡ x → option_and_then (moved (region args ns results)) x ≡ Some s → Located n args ns results s
-    by None at d = absurd (no_option d)
+    by None at d = absurd (none-some _ d)
     by (Some x) at d =
         let split = split_at n ns (found_node n ns x at) in
         let here : split.here ≡ x =

@@ -6,7 +6,7 @@ use Rattle.g_graph.specs.declared.op.Kind.TheVariants.{Value}
 use Rattle.g_graph.specs.declared.op.Op.TheVariants.{Gamma}
 use Rattle.g_graph.specs.declared.op.Origin.{Origin}
 use Rattle.g_graph.specs.declared.op.Origin.TheVariants.{Arg, Out}
-use Rattle.g_graph.specs.Plain.{RegionTree, region, NodeTree, node, NodeTrees, no_nodes, node_then, RegionTrees, no_regions, region_then, id_of, PlainLambda}
+use Rattle.g_graph.specs.Plain.{RegionTree, region, NodeTree, node, NodeTrees, no_nodes, node_then, RegionTrees, no_regions, region_then, id_of, PlainLambda, count_of}
 use Rattle.g_graph.specs.Signatures.{is_pure, first_args}
 use Rattle.g_graph.specs.Scope.{same_origin}
 use Rattle.g_graph.specs.WellFormed.{some_of}
@@ -93,10 +93,6 @@ abbrev pub pulled : (stays : List Bool) → (next : ℕ) → NodeTree → NodeTr
 pulled stays next x g = if some_reads stays (regions_of_node g) then node_taking stays (widened stays next x g) else node_taking stays g
 
 -- ---- the size
-
-abbrev pub count_of : RegionTrees → ℕ
-count_of no_regions = 0
-count_of (region_then r rs) = suc (count_of rs)
 
 abbrev pub gone_count : List Bool → ℕ
 gone_count [] = 0

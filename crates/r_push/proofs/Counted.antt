@@ -1,12 +1,9 @@
 -- What the code counts and tests, by the definitions.
 use Rattle.std.proofs.Common.{◌≡◌, ◌≢◌, slice_index_or, ℕ, false, List, [], ◌∷◌, length, None, refl, sym, ap, arith}
-use Rattle.g_graph.specs.Plain.{RegionTree, regions_of}
+use Rattle.g_graph.specs.Plain.{RegionTree, regions_of, count_of}
+use Rattle.g_graph.proofs.lemmas.Listed.{count_is}
 use Rattle.r_push.specs.Edit.{left_only}
-use Rattle.r_push.specs.Rule.{count_of, leaving_loop, leaves_only}
-
-pub count_length : (rs : List RegionTree) → count_of (regions_of rs) ≡ length rs
-count_length [] = refl
-count_length (r ∷ rs) = omega (arith, count_length rs)
+use Rattle.r_push.specs.Rule.{leaving_loop, leaves_only}
 
 pub only_none : (n : ℕ) (rs : List RegionTree) → length rs ≢ 1 → leaves_only n (regions_of rs) ≡ false
 only_none n [] e = refl

@@ -5,6 +5,7 @@ use Rattle.std.proofs.lemmas.Bool.{and_parts}
 use Rattle.std.proofs.lemmas.Bool.Decides.{nat_tests}
 use Rattle.std.proofs.lemmas.List.{length-map}
 use Rattle.g_graph.specs.Plain.{RegionTree, region_then, regions_of, args_of}
+use Rattle.g_graph.proofs.lemmas.Listed.{regions_of_same}
 use Rattle.r_push.specs.Edit.{longer, all_longer, with_lists, lengthened, all_lengthened}
 use Rattle.r_push.specs.Rule.{can_all_count}
 
@@ -94,21 +95,12 @@ count-at (x ∷ xs) (suc i) r t h e =
 
 -- ---- lists and trees
 
-pub regions-same : (xs ys : List RegionTree) → regions_of xs ≡ regions_of ys → xs ≡ ys
-regions-same [] [] e = refl
-regions-same [] (y ∷ ys) e = absurd cc
-regions-same (x ∷ xs) [] e = absurd cc
-regions-same (x ∷ xs) (y ∷ ys) e =
-    let first : x ≡ y = cc in
-    let rest : regions_of xs ≡ regions_of ys = cc in
-    ap₂ (λ z zs. z ∷ zs) first (regions-same xs ys rest)
-
 pub longer-map : (loops : Bool) (xs : List RegionTree) → regions_of (map (longer loops) xs) ≡ all_longer loops (regions_of xs)
 longer-map loops [] = refl
 longer-map loops (x ∷ xs) = ap (λ ss. region_then (longer loops x) ss) (longer-map loops xs)
 
 pub lists-are : (loops : Bool) (lists xs : List RegionTree) → regions_of lists ≡ all_longer loops (regions_of xs) → lists ≡ map (longer loops) xs
-lists-are loops lists xs e = regions-same lists (map (longer loops) xs) (e ∙ sym (longer-map loops xs))
+lists-are loops lists xs e = regions_of_same lists (map (longer loops) xs) (e ∙ sym (longer-map loops xs))
 
 take-all : {X : Type 0} (i : ℕ) (xs : List X) → length xs ≤ i → take i xs ≡ xs
 take-all zero [] h = refl

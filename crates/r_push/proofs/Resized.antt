@@ -9,7 +9,7 @@ use Rattle.g_graph.specs.declared.op.Kind.TheVariants.{Value}
 use Rattle.g_graph.specs.declared.op.Op.TheVariants.{Const, Undef, Local, Delta, Bin, Un, Load, Store, Clear, PtrEq, Apply, Put, Exit, Get, Gamma, Theta}
 use Rattle.g_graph.specs.declared.op.Origin.{Origin}
 use Rattle.g_graph.specs.declared.op.Origin.TheVariants.{Arg, Out}
-use Rattle.g_graph.specs.Plain.{RegionTree, region, NodeTree, node, NodeTrees, no_nodes, node_then, RegionTrees, no_regions, region_then, id_of}
+use Rattle.g_graph.specs.Plain.{RegionTree, region, NodeTree, node, NodeTrees, no_nodes, node_then, RegionTrees, no_regions, region_then, id_of, count_of}
 use Rattle.g_graph.specs.Signatures.{outputs_of}
 use Rattle.g_graph.specs.Count.{region_values, node_values, nodes_values, regions_values}
 use Rattle.g_graph.specs.Nodes.{node_at}
@@ -20,7 +20,7 @@ use Rattle.g_graph.proofs.lemmas.Redirects.{nodes_values-redirected}
 use Rattle.g_edit.specs.Removal.{nodes_without}
 use Rattle.g_edit.specs.Added.{input_added}
 use Rattle.g_edit.specs.Size.{IsResized}
-use Rattle.r_push.specs.Rule.{names_argument, may_leave, only, leaving, leaving_one, is_invariant, leaving_loop, carried, regions_carried, looped, placed, count_of, growth, pushed, psh_here}
+use Rattle.r_push.specs.Rule.{names_argument, may_leave, only, leaving, leaving_one, is_invariant, leaving_loop, carried, regions_carried, looped, placed, growth, pushed, psh_here}
 use Rattle.r_push.proofs.Replaced.{changed-at}
 
 -- ---- a region

@@ -19,6 +19,7 @@ use Rattle.g_mean.proofs.lemmas.Splices.{known-among}
 use Rattle.g_edit.specs.Uses.{nodes_read, is_read, is_output_of}
 use Rattle.g_edit.specs.Removal.{nodes_without}
 use Rattle.g_edit.specs.Added.{arg_added}
+use Rattle.g_edit.proofs.lemmas.Removal.{without_joined}
 use Rattle.r_push.specs.Rule.{carried}
 
 -- ---- numbers
@@ -58,13 +59,6 @@ without-none n no_nodes apart = refl
 without-none n (node_then x ns) apart =
     let own = test-other (id_of x) n (λ e. apart (among-left n (node_ids x) (nodes_ids ns) (subst (λ z. IsAmong z (node_ids x)) e (id-among x)))) in
     ap (λ t. cond t ns (node_then x (nodes_without n ns))) own ∙ ap (node_then x) (without-none n ns (λ h. apart (among-right n (node_ids x) (nodes_ids ns) h)))
-
-pub without-joined : (n : ℕ) (before : NodeTrees) (x : NodeTree) (after : NodeTrees) → has_node n before ≡ false → (id_of x == n) ≡ true →
-    nodes_without n (joined_nodes before (node_then x after)) ≡ joined_nodes before after
-without-joined n no_nodes x after b e = rw e
-without-joined n (node_then y before) x after b e =
-    let both = or_parts (id_of y == n) (has_node n before) b in
-    rw both.0 (ap (node_then y) (without-joined n before x after both.1 e))
 
 -- ---- uses
 

@@ -29,8 +29,9 @@ use Rattle.g_mean.proofs.lemmas.Splices.{joined-run, joined-known, joined-read, 
 use Rattle.g_mean.proofs.lemmas.Redirects.{redirected-joined}
 use Rattle.g_edit.specs.Removal.{nodes_without}
 use Rattle.g_edit.proofs.lemmas.Added.{added-port, last-port, argument-less, arguments-move, arguments-same}
+use Rattle.g_edit.proofs.lemmas.Removal.{without_joined}
 use Rattle.r_push.specs.Rule.{carried}
-use Rattle.r_push.proofs.Stays.{some-among, among-some, known-own, none-has, without-joined, move-other, nodes-stay}
+use Rattle.r_push.proofs.Stays.{some-among, among-some, known-own, none-has, move-other, nodes-stay}
 
 -- what is known of the farther result too
 same-given : {A B : Type 0} (R : A → B → Type 0) (Q : B → Type 0) (a : Answer A) (b : Answer B) → Same R a b → ((y : B) (did : List Event) → b ≡ Returned y did → Q y) →
@@ -86,7 +87,7 @@ module _ (args : List Kind) (before : NodeTrees) (n : ℕ) (op : Op) (inputs : L
       ap (λ ns. region (args ++ Value ∷ []) ns (map move results))
       (ap (nodes_without n) (redirected-joined move before (node_then here after)
       ∙ ap (λ ns. joined_nodes ns (node_then (node_redirected move here) (nodes_redirected move after))) (nodes-stay n to (length args) [] before (λ h. h) at_before whole_read.0))
-      ∙ without-joined n before (node_redirected move here) (nodes_redirected move after) (none-has n before at_before) (same_number_true n))
+      ∙ without_joined n before (node_redirected move here) (nodes_redirected move after) (none-has n before at_before) (same_number_true n))
 
   -- ---- the later nodes
 

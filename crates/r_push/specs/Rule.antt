@@ -6,7 +6,7 @@ use Rattle.g_graph.specs.declared.op.Kind.TheVariants.{Value}
 use Rattle.g_graph.specs.declared.op.Op.TheVariants.{Gamma, Theta}
 use Rattle.g_graph.specs.declared.op.Origin.{Origin}
 use Rattle.g_graph.specs.declared.op.Origin.TheVariants.{Arg, Out}
-use Rattle.g_graph.specs.Plain.{RegionTree, region, NodeTree, node, NodeTrees, no_nodes, node_then, RegionTrees, no_regions, region_then, args_of, PlainLambda}
+use Rattle.g_graph.specs.Plain.{RegionTree, region, NodeTree, node, NodeTrees, no_nodes, node_then, RegionTrees, no_regions, region_then, args_of, PlainLambda, count_of}
 use Rattle.g_graph.specs.Signatures.{is_pure}
 use Rattle.g_graph.specs.WellFormed.{all_of, all_regions, is_origin}
 use Rattle.g_graph.specs.Replace.{node_redirected, region_redirected, origin_replaced}
@@ -83,10 +83,6 @@ pushed n (node id Theta inputs (region_then r no_regions)) =
 pushed n x = None
 
 -- ---- the size
-
-abbrev pub count_of : RegionTrees → ℕ
-count_of no_regions = 0
-count_of (region_then r rs) = 1 + count_of rs
 
 -- The values that come: an argument of each region of a Gamma; an argument, a result and an output of a Theta.
 abbrev pub growth : NodeTree → ℕ

@@ -1,4 +1,4 @@
 mod Examples
-mod ItemLemmas
+pub mod lemmas
 mod LayoutLemmas
 pub mod Placed

@@ -2,16 +2,16 @@
 use Rattle.std.proofs.Common.{◌≡◌, ℕ, suc, ◌+◌, ◌-◌, List, [], ◌∷◌, ◌++◌, length, refl, ap, sym, subst, ◌∙◌, arith, append_assoc, append-nil, add-one, add-suc, add-zero, length-append}
 use Rattle.g_graph.specs.declared.op.Op.TheVariants.{Gamma}
 use Rattle.g_graph.specs.declared.op.Origin.TheVariants.{Arg}
-use Rattle.g_graph.specs.Plain.{RegionTree, RegionTrees, no_regions, region_then, regions_of}
+use Rattle.g_graph.specs.Plain.{RegionTree, RegionTrees, no_regions, region_then, regions_of, count_of}
 use Rattle.g_graph.specs.Signatures.{result_kinds, outputs_of}
 use Rattle.g_graph.specs.Count.{region_values, regions_values}
+use Rattle.g_graph.proofs.lemmas.Listed.{count_is}
 use Rattle.s_linear.specs.Linear.{choice, Codes}
 use Rattle.s_linear.specs.Lines.{Line, LinesOf, jump, label, branch_equal, branch_not_zero, counted, last_labels, code_lines, codes_lines, branches, labelled, last_lines, before_last, step_lines, code_labels}
 use Rattle.s_sequence.specs.Sequence.{values_in, region_names, regions_names, last_names, first_standing, outputs_at, bases, bases_from, branch_codes, branch_code}
 use Rattle.s_sequence.specs.Shape.{HasShape, last_kinds, RegionShaped, RegionsShaped}
-use Rattle.s_sequence.specs.Written.{count_of, region_labels, regions_labels, branch_lines, others_lines, cases_lines}
+use Rattle.s_sequence.specs.Written.{region_labels, regions_labels, branch_lines, others_lines, cases_lines}
 use Rattle.s_sequence.proofs.LabelLemmas.{branch_labels_are}
-use Rattle.s_sequence.proofs.RoomLemmas.{count_is}
 
 abbrev pub with_last : RegionTrees → RegionTree → RegionTrees
 with_last no_regions l = region_then l no_regions

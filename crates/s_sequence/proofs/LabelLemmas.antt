@@ -5,14 +5,14 @@ use Rattle.g_graph.specs.declared.op.Kind.{Kind}
 use Rattle.g_graph.specs.declared.op.Origin.{Origin}
 use Rattle.g_graph.specs.declared.op.Op.{Op}
 use Rattle.g_graph.specs.declared.op.Op.TheVariants.{Gamma, Theta}
-use Rattle.g_graph.specs.Plain.{RegionTree, region, NodeTree, node, NodeTrees, no_nodes, node_then, RegionTrees, no_regions, region_then}
+use Rattle.g_graph.specs.Plain.{RegionTree, region, NodeTree, node, NodeTrees, no_nodes, node_then, RegionTrees, no_regions, region_then, count_of}
 use Rattle.g_graph.specs.Signatures.{outputs_of, result_kinds}
 use Rattle.g_graph.specs.Count.{region_values, node_values, nodes_values, regions_values}
 use Rattle.s_linear.specs.Linear.{Instr, Code, no_steps}
 use Rattle.s_linear.specs.Lines.{counted, step_labels, code_labels, codes_labels}
 use Rattle.s_sequence.specs.Sequence.{value_args, kept, Names, no_names, node_names, nodes_names, named, nodes_named, name_of, moves, instrs_then, loop_results, outputs_at, bases, bases_from, nodes_code, node_step, branch_codes, branch_code, loop_step, region_names, last_names, values_in}
 use Rattle.s_sequence.specs.Shape.{HasShape, RegionShaped, NodeShaped, NodesShaped, RegionsShaped}
-use Rattle.s_sequence.specs.Written.{count_of, own_labels, region_labels, node_labels, nodes_labels, regions_labels}
+use Rattle.s_sequence.specs.Written.{own_labels, region_labels, node_labels, nodes_labels, regions_labels}
 
 own_least : (op : Op) (inputs : List Origin) (rs : RegionTrees) → HasShape op inputs rs → own_labels op rs ≤ 1 + count_of rs
 own_least Gamma inputs rs h = omega arith

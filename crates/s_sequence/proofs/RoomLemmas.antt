@@ -5,11 +5,11 @@ use Rattle.std.specs.declared.option.Option.{Option}
 use Rattle.std.specs.declared.option.Option.TheVariants.{None}
 use Rattle.g_graph.specs.declared.op.Kind.{Kind}
 use Rattle.g_graph.specs.declared.op.Origin.{Origin}
-use Rattle.g_graph.specs.Plain.{RegionTree, region, regions_of, args_of}
+use Rattle.g_graph.specs.Plain.{RegionTree, region, regions_of, args_of, count_of}
 use Rattle.g_graph.specs.Signatures.{kind_of, kind_after, result_kinds}
 use Rattle.g_graph.specs.Count.{region_values, regions_values}
 use Rattle.s_sequence.specs.Sequence.{values_in, value_args, region_names}
-use Rattle.s_sequence.specs.Written.{count_of, results_in}
+use Rattle.s_sequence.specs.Written.{results_in}
 use Rattle.s_sequence.proofs.Named.{args_length, values_length, nodes_names_values}
 
 pub args_room : (r : RegionTree) → value_args (args_of r) < region_values r
@@ -26,10 +26,6 @@ exits_room (region args nodes rs) results f e =
 pub standing_room : (r : RegionTree) → region_names r + values_in (result_kinds r) < region_values r
 standing_room (region args nodes results) =
     omega (arith, exits_room (region args nodes results) results (kind_of args (λ n p. kind_after nodes n p None)) refl)
-
-pub count_is : (xs : List RegionTree) → count_of (regions_of xs) ≡ length xs
-count_is [] = refl
-count_is (x ∷ xs) = ap suc (count_is xs)
 
 pub value_each : (r : RegionTree) → 0 < region_values r
 value_each (region args nodes results) = omega arith

@@ -6,7 +6,7 @@ use Rattle.g_graph.specs.declared.op.Kind.{Kind}
 use Rattle.g_graph.specs.declared.op.Origin.{Origin}
 use Rattle.g_graph.specs.declared.op.Op.{Op}
 use Rattle.g_graph.specs.declared.op.Op.TheVariants.{Gamma, Theta}
-use Rattle.g_graph.specs.Plain.{RegionTree, region, NodeTree, node, NodeTrees, no_nodes, node_then, RegionTrees, no_regions, region_then}
+use Rattle.g_graph.specs.Plain.{RegionTree, region, NodeTree, node, NodeTrees, no_nodes, node_then, RegionTrees, no_regions, region_then, count_of}
 use Rattle.g_graph.specs.Signatures.{kind_of, kind_after, outputs_of}
 use Rattle.s_linear.specs.Linear.{Code}
 use Rattle.s_linear.specs.Lines.{Line, jump, label, branch_equal, code_lines, step_lines}
@@ -21,10 +21,6 @@ use Rattle.s_sequence.specs.Writer.{PlainWriter}
 pub record HasRoom (w : PlainWriter) (values labels : ℕ) : Type 0 where
   pub for_names : w.next + values < 2 ^ 32
   pub for_labels : w.label + labels < 2 ^ 32
-
-abbrev pub count_of : RegionTrees → ℕ
-count_of no_regions = 0
-count_of (region_then r rs) = suc (count_of rs)
 
 abbrev pub own_labels : Op → RegionTrees → ℕ
 own_labels Gamma rs = count_of rs

@@ -5,3 +5,4 @@ pub mod Sound
 pub mod Events
 pub mod Answers
 pub mod Refinement
+pub mod Within

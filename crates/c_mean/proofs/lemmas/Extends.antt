@@ -6,7 +6,7 @@ use Rattle.val_core.specs.Events.{Event, deepest, called, IsPrefixOf}
 use Rattle.val_core.specs.Answers.{Answer, Returned, Cut, Exited, Undefined, before, then_on, on_number, on_defined, active, events}
 use Rattle.val_core.proofs.lemmas.Events.{prefix-self, prefix-more, prefix-after, prefix-called, prefix-deepest}
 use Rattle.val_core.specs.Refinement.{Forward, exactly, Refines}
-use Rattle.val_core.proofs.lemmas.Answers.{added, before-is}
+use Rattle.val_core.proofs.lemmas.Answers.{added, before-is, events-added}
 use Rattle.val_core.proofs.lemmas.Refinement.{refines-itself}
 use Rattle.c_type.specs.Trees.{TypeTree}
 use Rattle.c_mean.specs.State.{used, truth}
@@ -18,13 +18,6 @@ extends-itself (Returned x o) = refl
 extends-itself (Cut o) = prefix-self o
 extends-itself (Exited o s) = refl
 extends-itself (Undefined o) = refl
-
--- the events of an answer with others before it
-events-added : {A : Type 0} (o : List Event) (a : Answer A) → events (added o a) ≡ o ++ events a
-events-added o (Returned x p) = refl
-events-added o (Cut p) = refl
-events-added o (Exited p s) = refl
-events-added o (Undefined p) = refl
 
 extends-added : {A : Type 0} (o : List Event) (a b : Answer A) → Extends a b → Extends (added o a) (added o b)
 extends-added o (Returned x p) b h = ap (added o) h

@@ -46,7 +46,7 @@ use Rattle.c_sound.proofs.lemmas.FileShapes.{file_shaped, declarations_few}
 
 -- ---- the state before the file
 
-predeclared_meaning : (name : Name) (m : Meaning) → meaning (predeclared_names ∷ []) name ≡ Some m → (m ≡ means.Function 2) ⊎ ((m ≡ means.Function 1) ⊎ (m ≡ means.Function 0))
+pub predeclared_meaning : (name : Name) (m : Meaning) → meaning (predeclared_names ∷ []) name ≡ Some m → (m ≡ means.Function 2) ⊎ ((m ≡ means.Function 1) ⊎ (m ≡ means.Function 0))
 predeclared_meaning name m h = by_tests (same_name name (codes "exit")) (same_name name (codes "getchar")) (same_name name (codes "putchar")) h
   where
     by_tests : (a b c : Bool) → option_or (cond a (Some (means.Function 2)) (cond b (Some (means.Function 1)) (cond c (Some (means.Function 0)) None))) None ≡ Some m →
@@ -56,7 +56,7 @@ predeclared_meaning name m h = by_tests (same_name name (codes "exit")) (same_na
     by_tests false false true e = inr (inr (let same : means.Function 0 ≡ m = cc in sym same))
     by_tests false false false e = absurd (cc)
 
-initial_file : (names : List Name) → File (initial_state names)
+pub initial_file : (names : List Name) → File (initial_state names)
 initial_file names = record {
   alone = (predeclared_names, refl);
   variables = refl;

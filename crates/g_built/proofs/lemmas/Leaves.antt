@@ -22,7 +22,7 @@ use Rattle.g_construct.specs.Functions.{objects_made}
 
 -- ---- leaves
 
-order_rises : (low high : ℕ) (ls : List Leaf) → AreInOrder low high ls → low ≤ high
+pub order_rises : (low high : ℕ) (ls : List Leaf) → AreInOrder low high ls → low ≤ high
 order_rises low high [] h = h
 order_rises low high (l ∷ ls) h = let r = order_rises (l.offset + l.width) high ls h.1 in omega (arith, r, h.0.above)
 

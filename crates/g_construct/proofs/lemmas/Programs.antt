@@ -1,5 +1,5 @@
 -- What is made of a program: lambdas and globals by number, and how many values a lambda has.
-use Rattle.std.proofs.Common.{◌≡◌, ℕ, zero, suc, ◌+◌, Bool, true, false, List, [], ◌∷◌, ◌++◌, length, slice_get, Some, option_map, refl, sym, ap, ◌∙◌, arith}
+use Rattle.std.proofs.Common.{◌≡◌, ◌≤◌, ◌<◌, ℕ, zero, suc, ◌+◌, Bool, true, false, List, [], ◌∷◌, ◌++◌, length, slice_get, Some, option_map, refl, sym, ap, ◌∙◌, arith}
 use Rattle.std.specs.Prelude.{if◌then◌else◌}
 use Rattle.std.proofs.lemmas.Option.{slice_get-map}
 use Rattle.c_typed.specs.Typed.{return_value, return_none, StmtTree, ItemTrees, no_items, stmt_then, declare_then, VariableTree, FunctionTree, WrittenTree, ProgramTree}
@@ -10,7 +10,7 @@ use Rattle.g_graph.specs.Count.{node_values, nodes_values}
 use Rattle.g_construct.specs.Writer.{Point, Built}
 use Rattle.g_construct.specs.Exits.{some_items, body_jumps}
 use Rattle.g_construct.specs.Statements.{declared_made, stmt_made}
-use Rattle.g_construct.specs.Globals.{bytes_from, global_made}
+use Rattle.g_construct.specs.Globals.{byte_at, bytes_from, global_made}
 use Rattle.g_construct.specs.Functions.{params_stored, start_of, straight_then, straight_made, jumping_body, straight_body, body_built, lambda_made, lambdas_made}
 use Rattle.c_typed.specs.WellTyped.{params_of}
 use Rattle.g_construct.specs.Laws.{LambdasStandAtTheirNumbers, GlobalsStandAtTheirNumbers, GlobalsHaveTheirSize, ValuesAreOfTheFunction}
@@ -28,6 +28,10 @@ lambdas_stand_at_their_numbers p k =
 
 pub globals_stand_at_their_numbers : GlobalsStandAtTheirNumbers
 globals_stand_at_their_numbers p k = slice_get-map (global_made p.structs) p.globals k
+
+pub bytes_same : (vs ws : List WrittenTree) (i n : ℕ) → ((j : ℕ) → i ≤ j → j < i + n → byte_at vs j ≡ byte_at ws j) → bytes_from vs i n ≡ bytes_from ws i n
+bytes_same vs ws i zero h = refl
+bytes_same vs ws i (suc n) h = λ k. h i (omega arith) (omega arith) k ∷ bytes_same vs ws (suc i) n (λ j low high. h j (omega arith) (omega arith)) k
 
 pub bytes_counted : (ws : List WrittenTree) (i n : ℕ) → length (bytes_from ws i n) ≡ n
 bytes_counted ws i zero = refl

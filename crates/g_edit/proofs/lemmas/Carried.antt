@@ -21,7 +21,7 @@ use Rattle.g_graph.specs.WellFormed.{is_origin}
 use Rattle.g_graph.specs.Change.{has_node}
 use Rattle.g_graph.specs.Replace.{nodes_redirected}
 use Rattle.g_graph.specs.Splice.{joined_nodes}
-use Rattle.g_graph.proofs.lemmas.Indexes.{same_number_true}
+use Rattle.g_graph.proofs.lemmas.Indexes.{same_number_true, is_origin_some}
 use Rattle.g_graph.proofs.lemmas.Moved.{same_origin_true}
 use Rattle.g_mean.specs.Data.{Datum, at_port, value_of}
 use Rattle.g_mean.specs.Meaning.{Context, chosen, branched, Outputs, no_outputs, extended, read, region_meaning, node_run, nodes_run, meanings}
@@ -64,10 +64,6 @@ pub outer_is : (inputs : List Origin) (r : Option Origin) (o : Origin) → outer
 outer_is inputs None o e = absurd cc
 outer_is inputs (Some (Arg k)) o e = record { argument = k; result = refl; input = e }
 outer_is inputs (Some (Out n p)) o e = absurd cc
-
-pub origin_is : (x : Option Origin) (o : Origin) → is_origin x o ≡ true → x ≡ Some o
-origin_is None o e = absurd cc
-origin_is (Some a) o e = ap Some (same_origin_true a o e)
 
 pub record Passed (inputs : List Origin) (p : ℕ) (args : List Kind) (nodes : NodeTrees) (results : List Origin) (rs : RegionTrees) (o : Origin) : Type 0 where
   pub first : Outer inputs (slice_get results p) o
@@ -116,7 +112,7 @@ module _ (c : Context) (predicate : Origin) (entries : List Origin) (f : Origin 
   one_passes : (args : List Kind) (nodes : NodeTrees) (results : List Origin) (vs : List Datum) (did : List Event) → is_origin (outer (predicate ∷ entries) (slice_get results p)) o ≡ true →
       region_meaning c (region args nodes results) (map f entries) ≡ Returned vs did → at_port vs p ≡ f o
   one_passes args nodes results vs did e d =
-      let at = outer_is (predicate ∷ entries) (slice_get results p) o (origin_is (outer (predicate ∷ entries) (slice_get results p)) o e) in
+      let at = outer_is (predicate ∷ entries) (slice_get results p) o (is_origin_some (outer (predicate ∷ entries) (slice_get results p)) o e) in
       region_passes c args nodes results (map f entries) vs did p at.argument at.result d ∙ get-port f entries at.argument o at.input
 
   chosen_passes : (w : ℕ) (rs : RegionTrees) (vs : List Datum) (did : List Event) → all_pass (predicate ∷ entries) o p rs ≡ true →

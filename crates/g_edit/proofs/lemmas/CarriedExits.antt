@@ -15,7 +15,7 @@ use Rattle.g_graph.specs.WellFormed.{all_of, some_of, all_regions, are, same, on
 use Rattle.g_graph.specs.Replace.{nodes_redirected}
 use Rattle.g_graph.specs.Splice.{joined_nodes}
 use Rattle.g_graph.specs.Lists.{RegionOps, NodesOps}
-use Rattle.g_graph.proofs.lemmas.Indexes.{same_number_true, same_kind_true, GivesState, KeepsState, state_cases, last_gives}
+use Rattle.g_graph.proofs.lemmas.Indexes.{same_number_true, same_kind_true, GivesState, KeepsState, state_cases, last_gives, is_of_true, is_origin_some}
 use Rattle.g_graph.proofs.lemmas.KindLists.{kinds_of_some}
 use Rattle.g_graph.proofs.lemmas.Nodes.{NodeFits, KeptWithin, are_kinds}
 use Rattle.g_graph.proofs.lemmas.Ops.{redirected_ops}
@@ -26,7 +26,7 @@ use Rattle.g_edit.specs.Carried.{outer, all_pass, passed, output_carried, stayin
 use Rattle.g_edit.proofs.lemmas.Kept.{kept_map, all_kept, IsState, memory, io, states_fewer}
 use Rattle.g_edit.proofs.lemmas.ExitsFit.{first_args_same, gives_kept, ids_same, shape_same, regions_give, exits_are, node_giving_ops}
 use Rattle.g_edit.proofs.lemmas.Placed.{not_before}
-use Rattle.g_edit.proofs.lemmas.Carried.{outer_is, origin_is, passed_is, passed_all, stays_none, carrying_joined}
+use Rattle.g_edit.proofs.lemmas.Carried.{outer_is, passed_is, passed_all, stays_none, carrying_joined}
 use Rattle.g_edit.proofs.lemmas.CarriedFit.{Carries, carried_kept}
 
 -- ---- lists
@@ -58,10 +58,6 @@ goes_some (None ∷ cs) zero e = absurd cc
 goes_some (Some a ∷ cs) zero e = (a, refl)
 goes_some (c ∷ cs) (suc p) e = goes_some cs p e
 
-is_of_some : (k : Kind) (x : Option Kind) → is_of k x ≡ true → x ≡ Some k
-is_of_some k None e = absurd cc
-is_of_some k (Some j) e = ap Some (sym (same_kind_true k j e))
-
 -- ---- a region some of whose results go that are arguments
 
 abbrev ArgumentsGo : (stays : List Bool) → List Origin → Type 0
@@ -80,7 +76,7 @@ module _ (k : Kind) (state : IsState k) (args : List Kind) (nodes : NodeTrees) (
   -- an argument is not the last of a state that a node gives
   no_argument : (o : Origin) (j : ℕ) → o ≡ Arg j → is_last args nodes o ≡ true → (t : Bool) → is_of k (known args nodes o) ≡ t → t ≡ false
   no_argument o j a l false e = refl
-  no_argument o j a l true e = by (last_gives k args nodes o (is_of_some k (known args nodes o) e) l)
+  no_argument o j a l true e = by (last_gives k args nodes o (is_of_true k (known args nodes o) e) l)
     where
       by : (k ≡ Value) ⊎ (last_state k args nodes ≡ Some o) → true ≡ false
       by (inl v) = absurd (not_value k state v)
@@ -190,7 +186,7 @@ module _ (objects : ℕ) (args : List Kind) (before : NodeTrees) (id : ℕ) (inp
       first p t =
           let some = goes_some cs p t in
           let at = outer_is inputs (slice_get outs p) some.0
-          (origin_is (outer inputs (slice_get outs p)) some.0 (and_parts (is_origin (outer inputs (slice_get outs p)) some.0) (all_pass inputs some.0 p qs) (h p some.0 some.1)).0) in
+          (is_origin_some (outer inputs (slice_get outs p)) some.0 (and_parts (is_origin (outer inputs (slice_get outs p)) some.0) (all_pass inputs some.0 p qs) (h p some.0 some.1)).0) in
           (at.argument, at.result)
 
   exits_one : (qs : RegionTrees) → every_in_regions (region_fits objects) qs ≡ true → one_state_each (outputs_of Gamma qs) ≡ true

@@ -130,28 +130,6 @@ pub regions_taking_is : (stays : List Bool) (rs : List RegionTree) → regions_o
 regions_taking_is stays [] = refl
 regions_taking_is stays (region args nodes results ∷ rs) = ap (region_then (region_taking stays (region args nodes results))) (regions_taking_is stays rs)
 
--- ---- a list whose first elements are changed, as a loop does it
-
-abbrev pub first_mapped : {X : Type 0} → (X → X) → (count : ℕ) → List X → List X
-first_mapped f zero xs = xs
-first_mapped f (suc i) [] = []
-first_mapped f (suc i) (x ∷ xs) = f x ∷ first_mapped f i xs
-
-mapped_suc : {X : Type 0} (f : X → X) (i : ℕ) (xs : List X) (x d : X) → i < length xs → x ≡ get_or (first_mapped f i xs) i d → slice_set (first_mapped f i xs) i (f x) ≡ first_mapped f (suc i) xs
-mapped_suc f i [] x d b e = absurd (omega arith)
-mapped_suc f zero (z ∷ xs) x d b e = ap (λ y. f y ∷ xs) e
-mapped_suc f (suc i) (z ∷ xs) x d b e = ap (λ ys. f z ∷ ys) (mapped_suc f i xs x d (omega arith) e)
-
-pub mapped_more : {X : Type 0} (f : X → X) (i : ℕ) (xs ys : List X) (x y d : X) → ys ≡ first_mapped f i xs → i < length xs → x ≡ get_or ys i d → y ≡ f x →
-    slice_set ys i y ≡ first_mapped f (i + 1) xs
-mapped_more f i xs ys x y d same b e v = rw add-one ((λ j. slice_set (same j) i (v j)) ∙ mapped_suc f i xs x d b (e ∙ ap (λ zs. get_or zs i d) same))
-
-pub mapped_all : {X : Type 0} (f : X → X) (i : ℕ) (xs : List X) → length xs ≤ i → first_mapped f i xs ≡ map f xs
-mapped_all f zero [] h = refl
-mapped_all f (suc i) [] h = refl
-mapped_all f zero (x ∷ xs) h = absurd (omega arith)
-mapped_all f (suc i) (x ∷ xs) h = ap (λ ys. f x ∷ ys) (mapped_all f i xs (omega arith))
-
 -- ---- tests, one after another
 
 stay_suc : (ts : List Bool) (i : ℕ) (t : Bool) → slice_get ts i ≡ Some t → all_stay (drop i ts) ≡ (t && all_stay (drop (suc i) ts))

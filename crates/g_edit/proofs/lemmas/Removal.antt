@@ -47,7 +47,7 @@ use Rattle.g_edit.proofs.lemmas.Scopes.{KeepsScope, kept_all, kept_nodes_fit}
 
 -- ---- what goes
 
-without_joined : (n : ℕ) (before : NodeTrees) (x : NodeTree) (after : NodeTrees) → has_node n before ≡ false → (id_of x == n) ≡ true →
+pub without_joined : (n : ℕ) (before : NodeTrees) (x : NodeTree) (after : NodeTrees) → has_node n before ≡ false → (id_of x == n) ≡ true →
     nodes_without n (joined_nodes before (node_then x after)) ≡ joined_nodes before after
 without_joined n no_nodes x after b e = rw e
 without_joined n (node_then y before) x after b e =

@@ -7,6 +7,7 @@ use Rattle.val_core.specs.Answers.{Answer, Returned, Cut, Exited, Undefined, IsU
 use Rattle.val_core.specs.Events.{IsPrefixOf}
 use Rattle.val_core.specs.Within.{Behaviour, Returns, Running, Terminates, Fails, behaviour, Within}
 use Rattle.val_core.proofs.lemmas.Events.{prefixes_compose}
+use Rattle.val_core.proofs.lemmas.Within.{prefix-eq, fails-within}
 use Rattle.g_graph.specs.Plain.{RegionTree, PlainLambda}
 use Rattle.g_mean.specs.Data.{Datum}
 use Rattle.g_mean.specs.LessDefined.{Paired, IsLessDefinedDatum}
@@ -15,38 +16,18 @@ use Rattle.g_mean.specs.Replacement.{Replaces, IsKeptWithinTwice}
 use Rattle.g_mean.proofs.lemmas.Calls.{same-itself}
 use Rattle.g_mean.proofs.lemmas.Programs.{programs_keep_meaning}
 use Rattle.g_mean.proofs.lemmas.Replacement.{lambdas_keep_meaning}
+use Rattle.g_mean.proofs.lemmas.LocalRefinement.{less-composes, pairs-compose}
+use Rattle.g_mean.proofs.lemmas.Edits.{lambdas-itself}
 use Rattle.g_edit.specs.Size.{IsNoLarger}
 use Rattle.g_edit.specs.Steps.{WithinBothWays, AreKeptBothWays, MayStandForAll, KeepsInterface, HasEach, IsApartFrom, ContractsGiveSteps, EditsKeepInterface, NoStepIsAStep, StepsCompose, ListsStandForThemselves, ListsCompose}
 
 -- ---- runs within each other
 
-less-composes : (x y z : Datum) → IsLessDefinedDatum x y → IsLessDefinedDatum y z → IsLessDefinedDatum x z
-less-composes x y z h k =
-    elim h.0 [
-      | inr e ↦ (inr e, h.1, k.2)
-      | inl e ↦
-          elim k.0 [
-            | inl d ↦ (inl (e ∙ d), h.1, k.2)
-            | inr d ↦ (inr (e ∙ d), h.1, k.2)
-          ]
-    ]
-
-paired-composes : (xs ys zs : List Datum) → Paired IsLessDefinedDatum xs ys → Paired IsLessDefinedDatum ys zs → Paired IsLessDefinedDatum xs zs
-paired-composes [] [] [] h k = tt
-paired-composes (x ∷ xs) (y ∷ ys) (z ∷ zs) h k = (less-composes x y z h.0 k.0, paired-composes xs ys zs h.1 k.1)
-paired-composes [] (y ∷ ys) zs h k = absurd h
-paired-composes (x ∷ xs) [] zs h k = absurd h
-paired-composes [] [] (z ∷ zs) h k = absurd k
-paired-composes (x ∷ xs) (y ∷ ys) [] h k = absurd k
-
-prefix-equal : {A : Type 0} (xs ys zs : List A) → IsPrefixOf xs ys → ys ≡ zs → IsPrefixOf xs zs
-prefix-equal xs ys zs l e = (l.0, l.1 ∙ e)
-
 within-composes : {A : Type 0} (R : A → A → Type 0) → ((x y z : A) → R x y → R y z → R x z) → (x y z : Behaviour A) → Within R x y → Within R y z → Within R x z
 within-composes R join (Returns x o) (Returns y p) (Returns z q) h k = (join x y z h.0 k.0, h.1 ∙ k.1)
 within-composes R join (Terminates o s) (Terminates p t) (Terminates q u) h k = (h.0 ∙ k.0, h.1 ∙ k.1)
-within-composes R join (Running o) (Returns y p) (Returns z q) h k = prefix-equal o p q h k.1
-within-composes R join (Running o) (Terminates p t) (Terminates q u) h k = prefix-equal o p q h k.0
+within-composes R join (Running o) (Returns y p) (Returns z q) h k = prefix-eq o p q h k.1
+within-composes R join (Running o) (Terminates p t) (Terminates q u) h k = prefix-eq o p q h k.0
 within-composes R join (Running o) (Running p) (Returns z q) h k = prefixes_compose o p q h k
 within-composes R join (Running o) (Running p) (Terminates q u) h k = prefixes_compose o p q h k
 within-composes R join (Running o) (Running p) (Running q) h k = prefixes_compose o p q h k
@@ -56,12 +37,6 @@ within-composes R join (Running o) (Returns y p) _ h k = absurd k
 within-composes R join (Running o) (Terminates p t) _ h k = absurd k
 within-composes R join (Running o) (Running p) Fails h k = absurd k
 within-composes R join _ _ _ h k = absurd h
-
-fails-within : {A B : Type 0} (R : A → B → Type 0) (y : Behaviour B) → Within R Fails y → ⊥
-fails-within R (Returns y p) h = h
-fails-within R (Running p) h = h
-fails-within R (Terminates p t) h = h
-fails-within R Fails h = h
 
 undefined-fails : {A : Type 0} (a : Answer A) → IsUndefined a → behaviour a ≡ Fails
 undefined-fails (Undefined o) h = refl
@@ -94,12 +69,12 @@ kept-composes near mid far h k right =
       forward = λ n.
           let a = first.forward n in
           let b = second.forward a.0 in
-          (b.0, within-composes (Paired IsLessDefinedDatum) paired-composes (behaviour (near n)) (behaviour (mid a.0)) (behaviour (far b.0)) a.1 b.1);
+          (b.0, within_composes (Paired IsLessDefinedDatum) (Paired IsLessDefinedDatum) (Paired IsLessDefinedDatum) pairs-compose (behaviour (near n)) (behaviour (mid a.0)) (behaviour (far b.0)) a.1 b.1);
       back = λ n.
           let b = second.back n in
           let a = first.back b.0 in (
             a.0,
-            within-composes (λ ys xs. Paired IsLessDefinedDatum xs ys) (λ zs ys xs f g. paired-composes xs ys zs g f) (behaviour (far n)) (behaviour (mid b.0)) (behaviour (near a.0)) b.1 a.1,
+            within_composes (λ ys xs. Paired IsLessDefinedDatum xs ys) (λ ys xs. Paired IsLessDefinedDatum xs ys) (λ ys xs. Paired IsLessDefinedDatum xs ys) (λ zs ys xs f g. pairs-compose xs ys zs g f) (behaviour (far n)) (behaviour (mid b.0)) (behaviour (near a.0)) b.1 a.1,
           );
       no_deeper = λ n.
           let b = second.no_deeper n in
@@ -108,11 +83,6 @@ kept-composes near mid far h k right =
     }
 
 -- ---- lists of lambdas
-
-lambdas-itself : (P : RegionTree → RegionTree → Type 0) (ls : List PlainLambda) → LambdasSameBut P ls ls
-lambdas-itself P [] = tt
-lambdas-itself P (l ∷ ls) =
-    (record { number = refl; params = refl; objects = refl; body = same-itself P l.body }, lambdas-itself P ls)
 
 pub lists_stand_for_themselves : ListsStandForThemselves
 lists_stand_for_themselves ls =

@@ -36,7 +36,7 @@ same_kind_true Io Value e = absurd (cc)
 same_kind_true Io Memory e = absurd (cc)
 same_kind_true Io Io e = refl
 
-is_of_true : (k : Kind) (x : Option Kind) → is_of k x ≡ true → x ≡ Some k
+pub is_of_true : (k : Kind) (x : Option Kind) → is_of k x ≡ true → x ≡ Some k
 is_of_true k None e = absurd (cc)
 is_of_true k (Some j) e = ap Some (sym (same_kind_true k j e))
 
@@ -179,7 +179,7 @@ state_cases k (node_then x xs) = by_rest (state_cases k xs)
 
 -- ---- what is last
 
-is_origin_some : (s : Option Origin) (o : Origin) → is_origin s o ≡ true → s ≡ Some o
+pub is_origin_some : (s : Option Origin) (o : Origin) → is_origin s o ≡ true → s ≡ Some o
 is_origin_some None o e = absurd (cc)
 is_origin_some (Some p) o e = ap Some (same_origin_true p o e)
 

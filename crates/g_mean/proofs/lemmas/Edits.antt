@@ -130,7 +130,7 @@ body-same P here l local part = by (region_changed here l.body) refl
 
 -- ---- lists of lambdas
 
-lambdas-itself : (P : RegionTree → RegionTree → Type 0) (ls : List PlainLambda) → LambdasSameBut P ls ls
+pub lambdas-itself : (P : RegionTree → RegionTree → Type 0) (ls : List PlainLambda) → LambdasSameBut P ls ls
 lambdas-itself P [] = tt
 lambdas-itself P (l ∷ ls) =
     (record { number = refl; params = refl; objects = refl; body = same-itself P l.body }, lambdas-itself P ls)

@@ -371,28 +371,28 @@ lambdas_keep_kinds n ls global f count xs well kinds = applied-keeps ls global w
 
 -- ---- the replacement law
 
-value-is : (x : Datum) → IsOfKind ValueKind x → (v : Value) × (x ≡ val v)
+pub value-is : (x : Datum) → IsOfKind ValueKind x → (v : Value) × (x ≡ val v)
 value-is (val v) h = (v, refl)
 value-is (memory m) h = absurd h
 value-is (input i) h = absurd h
 
-memory-is : (x : Datum) → IsOfKind Memory x → (m : Blocks) × (x ≡ memory m)
+pub memory-is : (x : Datum) → IsOfKind Memory x → (m : Blocks) × (x ≡ memory m)
 memory-is (memory m) h = (m, refl)
 memory-is (val v) h = absurd h
 memory-is (input i) h = absurd h
 
-input-is : (x : Datum) → IsOfKind Io x → (i : List ℕ) × (x ≡ input i)
+pub input-is : (x : Datum) → IsOfKind Io x → (i : List ℕ) × (x ≡ input i)
 input-is (input i) h = (i, refl)
 input-is (val v) h = absurd h
 input-is (memory m) h = absurd h
 
-record Three (xs : List Datum) : Type 0 where
+pub record Three (xs : List Datum) : Type 0 where
   value : Value
   blocks : Blocks
   left : List ℕ
   is : xs ≡ val value ∷ memory blocks ∷ input left ∷ []
 
-three : (xs : List Datum) → AreOfKinds call_gives xs → Three xs
+pub three : (xs : List Datum) → AreOfKinds call_gives xs → Three xs
 three [] h = absurd h
 three (x ∷ []) h = absurd h.1
 three (x ∷ y ∷ []) h = absurd h.1.1
@@ -408,19 +408,19 @@ three (x ∷ y ∷ z ∷ []) h =
       is = ap (λ u. u ∷ y ∷ z ∷ []) a.1 ∙ ap₂ (λ u w. val a.0 ∷ u ∷ w ∷ []) b.1 c.1;
     }
 
-same-blocks : (m k : Blocks) → (memory m ≡ memory k) ⊎ (memory m ≡ val Bad) → m ≡ k
+pub same-blocks : (m k : Blocks) → (memory m ≡ memory k) ⊎ (memory m ≡ val Bad) → m ≡ k
 same-blocks m k (inl e) = cc
 same-blocks m k (inr e) = absurd cc
 
-same-left : (i j : List ℕ) → (input i ≡ input j) ⊎ (input i ≡ val Bad) → i ≡ j
+pub same-left : (i j : List ℕ) → (input i ≡ input j) ⊎ (input i ≡ val Bad) → i ≡ j
 same-left i j (inl e) = cc
 same-left i j (inr e) = absurd cc
 
-less-values : (v w : Value) → (val v ≡ val w) ⊎ (val v ≡ val Bad) → IsLessDefined v w
+pub less-values : (v w : Value) → (val v ≡ val w) ⊎ (val v ≡ val Bad) → IsLessDefined v w
 less-values v w (inl e) = inl cc
 less-values v w (inr e) = inr cc
 
-return-refine : (xs ys : List Datum) → AreOfKinds call_gives xs → AreOfKinds call_gives ys → Paired IsLessDefinedDatum xs ys → ReturnsRefine xs ys
+pub return-refine : (xs ys : List Datum) → AreOfKinds call_gives xs → AreOfKinds call_gives ys → Paired IsLessDefinedDatum xs ys → ReturnsRefine xs ys
 return-refine xs ys h g p =
     let a = three xs h in
     let b = three ys g in

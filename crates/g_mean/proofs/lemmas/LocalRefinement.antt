@@ -26,7 +26,7 @@ use Rattle.g_mean.proofs.lemmas.Bounds.{Never, Always, never-refines, sound-pair
 
 -- ---- less defined data compose
 
-less-composes : (x y z : Datum) → IsLessDefinedDatum x y → IsLessDefinedDatum y z → IsLessDefinedDatum x z
+pub less-composes : (x y z : Datum) → IsLessDefinedDatum x y → IsLessDefinedDatum y z → IsLessDefinedDatum x z
 less-composes x y z h k = (by h.0 k.0, h.1, k.2)
   where
     by : (x ≡ y) ⊎ (x ≡ val Bad) → (y ≡ z) ⊎ (y ≡ val Bad) → (x ≡ z) ⊎ (x ≡ val Bad)

@@ -21,6 +21,7 @@ use Rattle.g_mean.specs.Calls.{sizes_of, shapes_of}
 use Rattle.g_simulation.proofs.lemmas.Unary.{some-inj}
 use Rattle.g_simulation.proofs.lemmas.Objects.{CharactersWithin, AreWithin}
 use Rattle.g_simulation.proofs.lemmas.Induction.{ObjectsFit}
+use Rattle.g_built.proofs.lemmas.Leaves.{order_rises}
 
 -- ---- the same blocks
 
@@ -72,13 +73,9 @@ object-size defs (x ∷ vs) (suc n) v e o =
 
 -- ---- elements stand within it
 
-pub order-rises : (low high : ℕ) (ls : List Leaf) → AreInOrder low high ls → low ≤ high
-order-rises low high [] h = h
-order-rises low high (l ∷ ls) h = let r = order-rises (l.offset + l.width) high ls h.1 in omega (arith, r, h.0.above)
-
 leaf-within : (low high : ℕ) (ls : List Leaf) (o w : ℕ) → AreInOrder low high ls → HasLeaf ls o w → o ≤ high
 leaf-within low high [] o w h k = absurd k
-leaf-within low high (l ∷ ls) o w h (inl k) = let r = order-rises (l.offset + l.width) high ls h.1 in let same = k.0 in omega (arith, r, same)
+leaf-within low high (l ∷ ls) o w h (inl k) = let r = order_rises (l.offset + l.width) high ls h.1 in let same = k.0 in omega (arith, r, same)
 leaf-within low high (l ∷ ls) o w h (inr k) = leaf-within (l.offset + l.width) high ls o w h.1 k
 
 module _ (ls : List Leaf) (most : ℕ) (within : (o w : ℕ) → HasLeaf ls o w → o ≤ most) where

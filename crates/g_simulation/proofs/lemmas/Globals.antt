@@ -16,13 +16,12 @@ use Rattle.c_mean.specs.Run as source
 use Rattle.c_mean.specs.Run.{global_sizes, global_address}
 use Rattle.g_graph.specs.WellFormed.{all_of}
 use Rattle.g_construct.specs.Globals.{byte_at, bytes_from, links_in, global_made, globals_made}
-use Rattle.g_construct.proofs.lemmas.Programs.{bytes_counted}
-use Rattle.g_built.proofs.lemmas.Leaves.{bytes_below}
+use Rattle.g_construct.proofs.lemmas.Programs.{bytes_counted, bytes_same}
+use Rattle.g_built.proofs.lemmas.Leaves.{bytes_below, order_rises}
 use Rattle.g_mean.specs.Calls as graph
 use Rattle.g_mean.specs.Calls.{delta_sizes, global_of, little_endian}
 use Rattle.g_mean.specs.LessDefined.{AreBytes, AreNarrow, AreSoundDeltas}
 use Rattle.g_mean.proofs.lemmas.Programs.{memory-sound}
-use Rattle.g_simulation.proofs.lemmas.Blocks.{order-rises}
 
 -- ---- leaves that stand apart
 
@@ -33,7 +32,7 @@ Apart o w l = ((o ≡ l.offset) × (w ≡ l.width)) ⊎ ((o + w ≤ l.offset) �
 leaf-low : (low high : ℕ) (ls : List Leaf) (o w : ℕ) → AreInOrder low high ls → HasLeaf ls o w → (low ≤ o) × (o + w ≤ high) × IsWidth w
 leaf-low low high [] o w h k = absurd k
 leaf-low low high (l ∷ ls) o w h (inl k) =
-    let up = order-rises (l.offset + l.width) high ls h.1 in
+    let up = order_rises (l.offset + l.width) high ls h.1 in
     let a = h.0.above in
     let b = k.0 in
     let c = k.1 in
@@ -86,10 +85,6 @@ leaf-bytes ws o w n h =
     let at : 0 + o ≡ o = omega arith in
     ap (λ k. take w (drop o (bytes_from ws 0 k))) (sym all) ∙ ap (take w) (drop-bytes ws 0 o (w + (n - (o + w))) ∙ ap (λ k. bytes_from ws k (w + (n - (o + w)))) at)
     ∙ take-bytes ws o w (n - (o + w))
-
-bytes-same : (vs ws : List WrittenTree) (i n : ℕ) → ((j : ℕ) → i ≤ j → j < i + n → byte_at vs j ≡ byte_at ws j) → bytes_from vs i n ≡ bytes_from ws i n
-bytes-same vs ws i zero h = refl
-bytes-same vs ws i (suc n) h = ap₂ (λ b bs. b ∷ bs) (h i (omega arith) (omega arith)) (bytes-same vs ws (suc i) n (λ j low high. h j (omega (arith, low)) (omega (arith, high))))
 
 -- the bytes of a word, from one on
 abbrev pieces : (word from count : ℕ) → List ℕ
@@ -177,7 +172,7 @@ module _ (ls : List Leaf) (low high : ℕ) (order : AreInOrder low high ls) (l :
 
   -- what is written elsewhere says nothing of the leaf
   passed : (x : WrittenTree) (ws : List WrittenTree) → ((j : ℕ) → l.offset ≤ j → j < l.offset + l.width → byte_at (x ∷ ws) j ≡ byte_at ws j) → leaf_word (x ∷ ws) ≡ leaf_word ws
-  passed x ws h = ap little_endian (bytes-same (x ∷ ws) ws l.offset l.width h)
+  passed x ws h = ap little_endian (bytes_same (x ∷ ws) ws l.offset l.width h)
 
   word-same : (from o width w : ℕ) (ws : List WrittenTree) → WrittenFits ls n from (word_at o width w ∷ ws) → Same ws → Same (word_at o width w ∷ ws)
   word-same from o width w ws h r = by (o == l.offset) refl

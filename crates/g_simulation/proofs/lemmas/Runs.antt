@@ -15,6 +15,7 @@ use Rattle.c_typed.specs.WellTyped.{IsWellTyped}
 use Rattle.c_mean.specs.Run as source
 use Rattle.c_mean.specs.Run.{call_run, global_address, first_memory, run}
 use Rattle.g_graph.specs.Program.{same_bytes, name_index, main_name}
+use Rattle.g_graph.proofs.lemmas.Names.{bytes_equal}
 use Rattle.g_construct.specs.Functions as construction
 use Rattle.g_construct.specs.Functions.{graph, names}
 use Rattle.g_built.specs.BuiltLaws.{WellTypedAreBuilt}
@@ -30,16 +31,6 @@ use Rattle.g_simulation.proofs.lemmas.Globals.{addresses-same, memory-same, firs
 
 -- ---- `main` is found by its name
 
-bytes-equal : (xs ys : List ℕ) → same_bytes xs ys ≡ true → xs ≡ ys
-bytes-equal [] [] e = refl
-bytes-equal [] (y ∷ ys) e = absurd cc
-bytes-equal (x ∷ xs) [] e = absurd cc
-bytes-equal (x ∷ xs) (y ∷ ys) e = by (x == y) refl e (bytes-equal xs ys)
-  where
-    by : (t : Bool) → (x == y) ≡ t → (if t then same_bytes xs ys else false) ≡ true → (same_bytes xs ys ≡ true → xs ≡ ys) → x ∷ xs ≡ y ∷ ys
-    by true z k r = let same : x ≡ y = grind (arith, nat_tests, z) in ap₂ (λ a zs. a ∷ zs) same (r k)
-    by false z k r = absurd cc
-
 record Named (fs : List FunctionTree) (k : ℕ) : Type 0 where
   function : FunctionTree
   there : slice_get fs k ≡ Some function
@@ -52,7 +43,7 @@ named-at (f ∷ fs) k e = by (same_bytes f.name main_name) refl (name_index main
     by : (t : Bool) → same_bytes f.name main_name ≡ t → (x : Option ℕ) → name_index main_name (map (λ (f : FunctionTree). f.name) fs) ≡ x → (k : ℕ) →
         (if t then Some 0 else option_map suc x) ≡ Some k →
         ((j : ℕ) → name_index main_name (map (λ (f : FunctionTree). f.name) fs) ≡ Some j → Named fs j) → Named (f ∷ fs) k
-    by true z x y zero q r = record { function = f; there = refl; name = bytes-equal f.name main_name z }
+    by true z x y zero q r = record { function = f; there = refl; name = bytes_equal f.name main_name z }
     by true z x y (suc k) q r = absurd cc
     by false z None y k q r = absurd cc
     by false z (Some j) y zero q r = absurd cc

@@ -1,5 +1,5 @@
 -- Instructions that stand at their addresses are done, and a run leaves them.
-use Rattle.std.proofs.Common.{◌≡◌, ℕ, zero, suc, ◌+◌, ◌*◌, ◌%◌, ◌==◌, ◌<◌, true, false, List, [], ◌∷◌, length, slice_index_or, Some, refl, ap, subst, ◌∙◌, arith, eq-eqb}
+use Rattle.std.proofs.Common.{◌≡◌, ℕ, zero, suc, ◌+◌, ◌*◌, ◌%◌, ◌==◌, ◌<◌, true, false, List, [], ◌∷◌, ◌++◌, length, slice_index_or, Some, refl, ap, subst, ◌∙◌, arith, eq-eqb}
 use Rattle.std.proofs.lemmas.List.{append-nil}
 use Rattle.rv_isa.specs.Words.{word_of}
 use Rattle.rv_isa.specs.declared.instruction.Instr.{Instr}
@@ -9,11 +9,15 @@ use Rattle.rv_machine.specs.Laws.{Reaches}
 use Rattle.rv_machine.specs.Machine.{State, next_effect, fetched, act_fetched, act_decoded}
 use Rattle.rv_machine.specs.Memory.{Bytes, load_bytes, has_flag, to_write}
 use Rattle.rv_machine.specs.Run.{ended, after_output}
-use Rattle.rv_machine.specs.Standing.{Text, HasText, StandsAt, CodeStands}
+use Rattle.rv_machine.specs.Standing.{Text, HasText, StandsAt, CodeStands, AllFit}
 use Rattle.rv_machine.specs.StandingLaws.{StandingIsDone, TextStays, StandingReaches, StandingEnds, CodeIsCut, EachStands}
 use Rattle.rv_machine.proofs.lemmas.RunLaws.{run_goes_on, reaches_onwards, step_reaches, step_ends}
 use Rattle.rv_machine.proofs.lemmas.Stores.{load-agrees}
 use Rattle.rv_machine.proofs.lemmas.Unwritable.{unwritable_stays}
+
+pub fits-append : (code more : List Instr) → AllFit code → AllFit more → AllFit (code ++ more)
+fits-append [] more fit rest = rest
+fits-append (i ∷ code) more fit rest = (fit.0, fits-append code more fit.1 rest)
 
 word-there : (text : Text) (mem : Bytes) (at : ℕ) → HasText text mem → ((j : ℕ) → j < 4 → has_flag (text.flags (at + j)) to_write ≡ false)
     → load_bytes mem at 4 ≡ load_bytes text.bytes at 4

@@ -13,6 +13,7 @@ use Rattle.rv_isa.specs.declared.instruction.Instr.{Instr}
 use Rattle.rv_isa.specs.declared.instruction.Instr.TheVariants as rv
 use Rattle.rv_isa.proofs.lemmas.WordParts.{low_part_fits}
 use Rattle.rv_machine.specs.Standing.{AllFit}
+use Rattle.rv_machine.proofs.lemmas.Standing.{fits-append}
 use Rattle.rv_layout.specs.declared.item.Item.{Item}
 use Rattle.rv_layout.specs.declared.item.Item.TheVariants.{Word, Mark, Jump, Call, Stub, Address}
 use Rattle.rv_layout.specs.Conditions.{CanJump}
@@ -26,10 +27,6 @@ use Rattle.s_select.specs.Templates.{words, save_places, restore_places, take_fr
 use Rattle.s_templates.specs.Formats.{WordsFit, ItemsFit}
 use Rattle.s_templates.proofs.lemmas.Locations.{register-is-place}
 use Rattle.s_templates.specs.Relation.{IsPlaceRegister}
-
-pub fits-append : (code more : List Instr) → AllFit code → AllFit more → AllFit (code ++ more)
-fits-append [] more fit fit' = fit'
-fits-append (i ∷ code) more fit fit' = (fit.0, fits-append code more fit.1 fit')
 
 pub words-fit : (code : List Instr) → AllFit code → WordsFit (words code)
 words-fit [] fit = tt

@@ -9,6 +9,7 @@ use Rattle.rv_isa.specs.Words.{FitsFormat}
 use Rattle.rv_isa.specs.declared.instruction.Instr.{Instr}
 use Rattle.rv_isa.specs.declared.instruction.Instr.TheVariants as rv
 use Rattle.rv_machine.specs.Standing.{AllFit}
+use Rattle.rv_machine.proofs.lemmas.Standing.{fits-append}
 use Rattle.rv_layout.specs.declared.item.Item.TheVariants.{Jump, Call, Stub}
 use Rattle.s_linear.specs.Frame.{PlainPlaces, saved_of, object_at, frame_size}
 use Rattle.s_linear.specs.Linear as linear
@@ -18,7 +19,7 @@ use Rattle.s_select.specs.declared.location.Location.TheVariants.{Near, Far}
 use Rattle.s_select.specs.Operands.{location_of, load_immediate, get, put, in_of, load_in, store_out}
 use Rattle.s_select.specs.Templates.{words, place_of, take_frame, give_frame, put_params, get_arguments, binary_code, unary_code, load_instr, store_instr, with_two, with_one, with_none, move_code, clear_code, size_of, instr_items, branch_items}
 use Rattle.s_templates.specs.Formats.{WordsFit, IsInRange, NumbersFit, TemplatesFit}
-use Rattle.s_templates.proofs.lemmas.Formats.{fits-append, words-fit, items-append, immediate-fits, IsInReach, get-fits, put-fits, load-fits, store-fits, in-fits, out-fits, binary-fits, unary-fits, place-fits, taken-fits, given-fits, two-fits, one-fits, none-fits, move-fits, load-width, store-width, clear-fits}
+use Rattle.s_templates.proofs.lemmas.Formats.{words-fit, items-append, immediate-fits, IsInReach, get-fits, put-fits, load-fits, store-fits, in-fits, out-fits, binary-fits, unary-fits, place-fits, taken-fits, given-fits, two-fits, one-fits, none-fits, move-fits, load-width, store-width, clear-fits}
 use Rattle.s_templates.proofs.lemmas.Locations.{at-register, at-word}
 
 -- each place is within reach

@@ -2,7 +2,7 @@
 use Rattle.std.proofs.Common.{◌≡◌, ◌⊎◌, ℕ, ◌+◌, ◌≤◌, List, [], ◌++◌, refl, sym, ap, subst, ◌∙◌, arith, inl, inr}
 use Rattle.val_core.specs.Answers.{Answer, Returned, Cut, Exited, Undefined, before, then_on, events}
 use Rattle.val_core.specs.Events.{Event, output, IsPrefixOf}
-use Rattle.val_core.proofs.lemmas.Answers.{added, before-is}
+use Rattle.val_core.proofs.lemmas.Answers.{added, before-is, events-added}
 use Rattle.val_core.proofs.lemmas.Events.{output_appends, deepest_appends, prefix-more, prefix-after}
 use Rattle.rv_machine.specs.Laws.{Reaches}
 use Rattle.rv_machine.specs.Machine.{State, exit, stack}
@@ -12,12 +12,6 @@ use Rattle.rv_machine.proofs.lemmas.RunLaws.{run-zero, run_goes_on, reaches_onwa
 use Rattle.s_linear.specs.Meaning as linear
 use Rattle.s_templates.specs.Relation.{Frame, Represents}
 use Rattle.s_templates.specs.Steps.{Steps, Arrives, Comes, Ends, GoesOn, Exceeds}
-
-events-added : {A : Type 0} (o : List Event) (a : Answer A) → events (added o a) ≡ o ++ events a
-events-added o (Returned x p) = refl
-events-added o (Cut p) = refl
-events-added o (Exited p status) = refl
-events-added o (Undefined p) = refl
 
 events-before : {A : Type 0} (o : List Event) (a : Answer A) → events (before o a) ≡ o ++ events a
 events-before o a = ap events (before-is o a) ∙ events-added o a

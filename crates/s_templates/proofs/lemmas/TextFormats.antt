@@ -10,66 +10,24 @@ use Rattle.rv_isa.specs.Registers.{x0, ra, sp, t0, s0, a0, a1, a2, a7}
 use Rattle.rv_isa.specs.Words.{FitsFormat}
 use Rattle.rv_isa.specs.declared.instruction.Instr.TheVariants as rv
 use Rattle.rv_machine.specs.Standing.{AllFit}
+use Rattle.rv_machine.proofs.lemmas.Standing.{fits-append}
 use Rattle.rv_layout.specs.declared.item.Item.{Item}
 use Rattle.rv_layout.specs.declared.item.Item.TheVariants.{Word, Mark, Jump, Call, Stub, Address}
 use Rattle.rv_layout.specs.Conditions.{is_marked_once, labels_are_marked, is_within_reach, item_fits, function_fits, Reaches}
 use Rattle.rv_layout.specs.Items.{item_size, items_size, marks, label_at}
 use Rattle.rv_layout.specs.Layout.{Addresses, function_code, functions_code, functions_at, addresses_of}
 use Rattle.rv_layout.specs.Sequences.{load_address, call, start_code, put_stub, get_stub}
+use Rattle.rv_layout.proofs.lemmas.Items.{label_within, item_size-aligned, items_size-aligned}
 use Rattle.s_templates.specs.Formats.{JumpsReach, EachFits, TextFits}
-use Rattle.s_templates.proofs.lemmas.Formats.{fits-append, address-fits, call-fits, items_fit}
+use Rattle.s_templates.proofs.lemmas.Formats.{address-fits, call-fits, items_fit}
 
 -- ---- jumps reach their labels
-
--- an address among items that begin at `at`
-record IsWithin (at size a : ℕ) : Type 0 where
-  from : at ≤ a
-  to : a ≤ at + size
-  aligned : a % 4 ≡ at % 4
-
-later : (size at rest whole a : ℕ) → whole ≡ size + rest → size % 4 ≡ 0 → IsWithin (at + size) rest a → IsWithin at whole a
-later size at rest whole a sum four w =
-    let from = w.from in
-    let to = w.to in
-    let aligned = w.aligned in
-    record { from = omega (arith, from); to = omega (arith, to, sum); aligned = omega (arith, aligned, four) }
-
--- at a label, or after it
-here-or-later : (at : ℕ) (size whole : ℕ) (l n : ℕ) (found : Option ℕ) (test : Bool) → whole ≡ 0 + size → (test ≡ false → IsWithin at size (unwrap_or found 0))
-    → IsWithin at whole (unwrap_or (if test then Some at else found) 0)
-here-or-later at size whole l n found true sum rest = record { from = omega arith; to = omega arith; aligned = refl }
-here-or-later at size whole l n found false sum rest =
-    let w = rest refl in
-    let to = w.to in
-    record { from = w.from; to = omega (arith, to, sum); aligned = w.aligned }
-
-counted : (l : ℕ) (is : List Item) (test : Bool) → 1 ≤ (if test then 1 else 0) + marks l is → test ≡ false → 1 ≤ marks l is
-counted l is true h e = absurd (both_ways true e refl)
-counted l is false h e = omega (arith, h)
-
-label-within : (l at : ℕ) (is : List Item) → 1 ≤ marks l is → IsWithin at (items_size is) (unwrap_or (label_at l at is) 0)
-label-within l at [] h = absurd (omega (arith, h))
-label-within l at (Mark n ∷ is) h =
-    here-or-later at (items_size is) (items_size (Mark n ∷ is)) l n (label_at l at is) (n == l) (sum_by-cons item_size (Mark n) is) (λ e. label-within l at is (counted l is (n == l) h e))
-label-within l at (Word i ∷ is) h = later 4 at (items_size is) _ _ (sum_by-cons item_size (Word i) is) refl (label-within l (at + 4) is h)
-label-within l at (Jump k ∷ is) h = later 4 at (items_size is) _ _ (sum_by-cons item_size (Jump k) is) refl (label-within l (at + 4) is h)
-label-within l at (Call f ∷ is) h = later 8 at (items_size is) _ _ (sum_by-cons item_size (Call f) is) refl (label-within l (at + 8) is h)
-label-within l at (Stub s ∷ is) h = later 8 at (items_size is) _ _ (sum_by-cons item_size (Stub s) is) refl (label-within l (at + 8) is h)
-label-within l at (Address r k ∷ is) h = later 8 at (items_size is) _ _ (sum_by-cons item_size (Address r k) is) refl (label-within l (at + 8) is h)
-
-size-aligned : (i : Item) → item_size i % 4 ≡ 0
-size-aligned (Word i) = refl
-size-aligned (Mark l) = refl
-size-aligned (Jump l) = refl
-size-aligned (Call f) = refl
-size-aligned (Stub s) = refl
-size-aligned (Address r k) = refl
 
 module _ (items : List Item) (at : ℕ) (short : items_size items < 2 ^ 20) (even : at % 4 ≡ 0) where
   item-reaches : (here : ℕ) (i : Item) → is_marked_once items i ≡ true → at ≤ here → here ≤ at + items_size items → here % 4 ≡ 0 → Reaches (λ l. label_at l at items) here i
   item-reaches here (Jump l) marked low high aligned =
       let once : marks l items ≡ 1 = grind (arith, nat_tests) in
-      let w = label-within l at items (omega (arith, once)) in
+      let w = label_within l at items (omega (arith, once)) in
       let from = w.from in
       let to = w.to in
       let same = w.aligned in
@@ -91,18 +49,10 @@ module _ (items : List Item) (at : ℕ) (short : items_size items < 2 ^ 20) (eve
   jumps-reach (i ∷ is) here marked low high aligned =
       let parts = and_parts (is_marked_once items i) (all_of (is_marked_once items) is) marked in
       let sum = sum_by-cons item_size i is in
-      let four = size-aligned i in (
+      let four = item_size-aligned i in (
         item-reaches here i parts.0 low (omega (arith, high, sum)) aligned,
         jumps-reach is (here + item_size i) parts.1 (omega (arith, low)) (omega (arith, high, sum)) (omega (arith, aligned, four)),
       )
-
-sizes-aligned : (is : List Item) → items_size is % 4 ≡ 0
-sizes-aligned [] = refl
-sizes-aligned (i ∷ is) =
-    let sum = sum_by-cons item_size i is in
-    let four = size-aligned i in
-    let more = sizes-aligned is in
-    omega (arith, sum, four, more)
 
 -- ---- functions
 
@@ -114,7 +64,7 @@ functions-fit addresses functions globals at (f ∷ fs) fit words even =
     let both = and_parts (labels_are_marked f && is_within_reach f) (all_of (item_fits functions globals) f) parts.0 in
     let pair = and_parts (labels_are_marked f) (is_within_reach f) both.0 in
     let short = ltb-true (items_size f) (2 ^ 20) pair.1 in
-    let four = sizes-aligned f in
+    let four = items_size-aligned f in
     fits-append (function_code addresses at f) (functions_code addresses (at + items_size f) fs)
     (items_fit addresses (λ l. label_at l at f) at f words.0 (jumps-reach f at short even f at pair.0 (omega arith) (omega arith) even))
     (functions-fit addresses functions globals (at + items_size f) fs parts.1 words.1 (omega (arith, even, four)))

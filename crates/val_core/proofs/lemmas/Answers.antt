@@ -1,7 +1,7 @@
 -- The laws of answers.
 use Rattle.std.proofs.Common.{◌≡◌, ℕ, List, [], ◌∷◌, ◌++◌, refl, sym, ap, ◌∙◌, append_assoc}
 use Rattle.val_core.specs.Events.{Event}
-use Rattle.val_core.specs.Answers.{Answer, Returned, Cut, Exited, Undefined, before, then_on, active, Gives}
+use Rattle.val_core.specs.Answers.{Answer, Returned, Cut, Exited, Undefined, before, then_on, active, events, Gives}
 use Rattle.val_core.specs.AnswerLaws.{BeforeTwice, ThenAfterBefore, ThenAssociates, ThenNothing, ThenOnGiven}
 
 -- `before`, by the answer alone
@@ -20,6 +20,13 @@ before-is (e ∷ o) (Returned x p) = refl
 before-is (e ∷ o) (Cut p) = refl
 before-is (e ∷ o) (Exited p status) = refl
 before-is (e ∷ o) (Undefined p) = refl
+
+-- the events of an answer with others before it
+pub events-added : {A : Type 0} (o : List Event) (a : Answer A) → events (added o a) ≡ o ++ events a
+events-added o (Returned x p) = refl
+events-added o (Cut p) = refl
+events-added o (Exited p status) = refl
+events-added o (Undefined p) = refl
 
 added-twice : {A : Type 0} (o p : List Event) (a : Answer A) → added o (added p a) ≡ added (o ++ p) a
 added-twice o p (Returned x q) = ap (Returned x) (sym (append_assoc o p q))

@@ -1,6 +1,6 @@
 use Rattle.std.proofs.Common.{◌<◌, ◌≤◌, sym, ◌∙◌, length, arith}
 use Rattle.g_graph.specs.Replace.{node_redirected}
-use Rattle.g_graph.proofs.Mapped.{mapped_none, mapped_more, mapped_all}
+use Rattle.g_graph.proofs.lemmas.Mapped.{mapped_none, mapped_more, mapped_all}
 use Rattle.g_graph.proofs.redirect.redirect_nodes.Goals as goal
 
 pub loop-i-init : goal.loop-i-init

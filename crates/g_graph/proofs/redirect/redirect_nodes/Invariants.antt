@@ -1,6 +1,6 @@
 use Rattle.std.proofs.Common.{◌≡◌}
 use Rattle.g_graph.specs.Replace.{node_redirected}
-use Rattle.g_graph.proofs.Mapped.{mapped}
+use Rattle.g_graph.proofs.lemmas.Mapped.{mapped}
 use Rattle.g_graph.proofs.redirect.redirect_nodes.Given as goal
 
 abbrev pub invariant-loop-i : goal.invariant-loop-i

@@ -1,6 +1,6 @@
 use Rattle.std.proofs.Common.{sym, ◌∙◌, refl, get_or, arith}
 use Rattle.g_graph.specs.declared.op.Origin.TheVariants.{Arg}
-use Rattle.g_graph.proofs.Mapped.{mapped_none, mapped_more, mapped_all}
+use Rattle.g_graph.proofs.lemmas.Mapped.{mapped_none, mapped_more, mapped_all}
 use Rattle.g_graph.proofs.redirect.redirect_origins.Goals as goal
 
 pub loop-origin-init : goal.loop-origin-init

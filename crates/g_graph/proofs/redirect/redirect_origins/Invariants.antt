@@ -1,5 +1,5 @@
 use Rattle.std.proofs.Common.{◌≡◌}
-use Rattle.g_graph.proofs.Mapped.{mapped}
+use Rattle.g_graph.proofs.lemmas.Mapped.{mapped}
 use Rattle.g_graph.proofs.redirect.redirect_origins.Given as goal
 
 abbrev pub invariant-loop-origin : goal.invariant-loop-origin

@@ -3,7 +3,7 @@ use Rattle.std.proofs.lemmas.List.{drop_more}
 use Rattle.std.proofs.lemmas.List.Sums.{sum_by-cons}
 use Rattle.rv_layout.specs.Items.{items_size}
 use Rattle.rv_layout.specs.Layout.{item_lists}
-use Rattle.rv_layout.proofs.ItemLemmas.{all_first, all_rest, items_size-aligned, functions_step, functions_end}
+use Rattle.rv_layout.proofs.lemmas.Items.{all_first, all_rest, items_size-aligned, functions_step, functions_end}
 use Rattle.rv_layout.proofs.items.push_functions.Goals as goal
 
 pub push_function-requires-clause-fits : goal.push_function-requires-clause-fits

@@ -4,7 +4,7 @@ use Rattle.std.proofs.lemmas.List.Sums.{sum_by-cons}
 use Rattle.std.specs.Ordering.{nat_cmp}
 use Rattle.std.specs.BTreeMap.{get}
 use Rattle.rv_layout.specs.Items.{item_size, items_size, label_at}
-use Rattle.rv_layout.proofs.ItemLemmas.{reaches, items_step, all_first, all_rest, items_short, items_end, item_size-aligned}
+use Rattle.rv_layout.proofs.lemmas.Items.{reaches, items_step, all_first, all_rest, items_short, items_end, item_size-aligned}
 use Rattle.rv_layout.proofs.items.push_items.Goals as goal
 
 pub push_item-requires-clause-reaches : goal.push_item-requires-clause-reaches

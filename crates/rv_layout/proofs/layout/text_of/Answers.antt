@@ -1,7 +1,7 @@
 use Rattle.std.proofs.Common.{◌≡◌, ◌++◌, ◌∙◌, ap, sym, slice_index}
 use Rattle.rv_layout.specs.Sequences.{start_code, put_stub, get_stub, bytes_of}
 use Rattle.rv_layout.specs.Layout.{Addresses, item_lists, functions_at, functions_code}
-use Rattle.rv_layout.proofs.ItemLemmas.{bytes_of-append}
+use Rattle.rv_layout.proofs.lemmas.Items.{bytes_of-append}
 use Rattle.rv_layout.proofs.layout.text_of.Goals as goal
 
 pub returns : goal.returns

@@ -10,6 +10,7 @@ use Rattle.g_graph.specs.declared.op.Op.TheVariants.{Gamma, Theta}
 use Rattle.g_graph.specs.Plain.{RegionTree, RegionTrees, NodeTree, node, NodeTrees, node_then, no_regions, region_then, nodes_of, regions_of, args_of, nodes_in, id_of}
 use Rattle.g_graph.specs.Signatures.{result_kinds, kind_after}
 use Rattle.g_graph.specs.Count.{regions_values, nodes_values}
+use Rattle.g_graph.proofs.lemmas.Listed.{count_is}
 use Rattle.s_linear.specs.Linear.{Code}
 use Rattle.s_linear.specs.Lines.{Line, done, jump, label, code_lines, branch_zero, branch_not_zero, numbers_from}
 use Rattle.s_sequence.specs.Sequence.{values_in, value_args, kept, moves, region_names, regions_names, node_names, nodes_names, nodes_named, nodes_code, branch_code, outputs_at, loop_results, predicate_name}
@@ -21,7 +22,7 @@ use Rattle.s_sequence.specs.Written.{results_in, region_code, region_port, regio
 use Rattle.s_sequence.proofs.Named.{node_names_values, names_values}
 use Rattle.s_sequence.proofs.PortLemmas.{ports_first, ports_end}
 use Rattle.s_sequence.proofs.CodeLemmas.{kinds_written, branch_written, entered_written, loop_written}
-use Rattle.s_sequence.proofs.RoomLemmas.{args_room, loop_room, exits_room, count_is, value_each, standing_room, second}
+use Rattle.s_sequence.proofs.RoomLemmas.{args_room, loop_room, exits_room, value_each, standing_room, second}
 use Rattle.s_sequence.proofs.NodeLemmas.{region_ports, names_after, kind_known, lines_after, begin_code, begin_names, begin_kinds, region_names_are, region_labels_are, region_values_are, region_shaped}
 use Rattle.s_sequence.proofs.StepLemmas.{gamma_written, theta_written, plain_written, only_region, plain_node, plain_names, plain_labels, plain_ports}
 use Rattle.s_sequence.proofs.ChoiceLemmas.{two_written, many_written, cases_written, parts_shaped, names_are, labels_are, values_are, lengths_are, outputs_begin, outputs_are}

@@ -1,4 +1,4 @@
-use Rattle.val_core.proofs.Within.{failed_is_apart}
+use Rattle.val_core.proofs.lemmas.Within.{failed_is_apart}
 use Rattle.val_core.proofs.laws.runs.failed_is_apart.Goals as goal
 
 pub returns : goal.returns

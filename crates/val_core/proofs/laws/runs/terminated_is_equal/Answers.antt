@@ -1,4 +1,4 @@
-use Rattle.val_core.proofs.Within.{terminated_is_equal}
+use Rattle.val_core.proofs.lemmas.Within.{terminated_is_equal}
 use Rattle.val_core.proofs.laws.runs.terminated_is_equal.Goals as goal
 
 pub returns : goal.returns

@@ -1,4 +1,4 @@
-use Rattle.val_core.proofs.Within.{within_itself}
+use Rattle.val_core.proofs.lemmas.Within.{within_itself}
 use Rattle.val_core.proofs.laws.runs.within_itself.Goals as goal
 
 pub returns : goal.returns

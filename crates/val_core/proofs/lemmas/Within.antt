@@ -12,7 +12,7 @@ within_itself (Running o) sane = prefix-self o
 within_itself (Terminates o s) sane = (refl, refl)
 within_itself Fails sane = absurd (sane refl)
 
-prefix-eq : {A : Type 0} (xs ys zs : List A) → IsPrefixOf xs ys → ys ≡ zs → IsPrefixOf xs zs
+pub prefix-eq : {A : Type 0} (xs ys zs : List A) → IsPrefixOf xs ys → ys ≡ zs → IsPrefixOf xs zs
 prefix-eq xs ys zs l e = (l.0, l.1 ∙ e)
 
 pub within_composes : {A B C : Type 0} (R : A → B → Type 0) (S : B → C → Type 0) (T : A → C → Type 0) → WithinComposes A B C R S T
@@ -36,13 +36,13 @@ terminated_is_equal R o s (Returns y p) h = absurd h
 terminated_is_equal R o s (Running p) h = absurd h
 terminated_is_equal R o s Fails h = absurd h
 
-within-fails : {A B : Type 0} (R : A → B → Type 0) (x : Behaviour A) → Within R x Fails → ⊥
+pub within-fails : {A B : Type 0} (R : A → B → Type 0) (x : Behaviour A) → Within R x Fails → ⊥
 within-fails R (Returns x o) h = h
 within-fails R (Running o) h = h
 within-fails R (Terminates o s) h = h
 within-fails R Fails h = h
 
-fails-within : {A B : Type 0} (R : A → B → Type 0) (y : Behaviour B) → Within R Fails y → ⊥
+pub fails-within : {A B : Type 0} (R : A → B → Type 0) (y : Behaviour B) → Within R Fails y → ⊥
 fails-within R (Returns y p) h = h
 fails-within R (Running p) h = h
 fails-within R (Terminates p t) h = h
