@@ -4,10 +4,10 @@ use Rattle.val_core.specs.declared.values.Value.{Value}
 use Rattle.val_core.specs.Memory.{closed}
 use Rattle.val_core.specs.Objects.{address_in, opened}
 use Rattle.val_core.specs.Answers.{Returned, Cut, Undefined, then_on, active}
-use Rattle.g_graph.specs.Plain.{PlainObject}
+use Rattle.g_graph.specs.Plain.{PlainObject, shapes_of}
 use Rattle.s_linear.specs.Linear.{Instr, const, undef, object_address, global_address, binary, unary, load, store, clear, equal_pointers, move, call, put, get, exit, Step, plain, choice, loop, Code, no_steps, step_then, Codes, no_codes, code_then, LinearFunction}
 use Rattle.s_linear.specs.Lines.{numbers_from, lines}
-use Rattle.s_linear.specs.Meaning.{Call, no_names, written, code_run, first_names, shapes}
+use Rattle.s_linear.specs.Meaning.{Call, no_names, written, code_run, first_names}
 use Rattle.a_place.specs.Places.{places}
 
 abbrev pub placed_instr : (place : ℕ → ℕ) → Instr → Instr
@@ -73,7 +73,7 @@ placed_entered n callees global (Some f) vs m i =
     (code_run
     (record { bound = n; call = callees; addresses = record { local = address_in (length m) (map (λ o. o.size) f.objects); global = global } })
     f.code
-    (record { names = put_params f.params 0 vs no_names; memory = m ++ opened (shapes f.objects); input = i }))
+    (record { names = put_params f.params 0 vs no_names; memory = m ++ opened (shapes_of f.objects); input = i }))
     (λ s. Returned (record { value = s.names f.value; memory = closed (length m) (length f.objects) s.memory; input = s.input }) [])
 
 -- a call at a bound, as `calls` of linear code

@@ -10,7 +10,7 @@ use Rattle.val_core.specs.Answers.{Answer, Returned, Cut, Exited, Undefined, bef
 use Rattle.g_mean.specs.Copies.{Same}
 use Rattle.s_linear.specs.Linear.{LinearFunction}
 use Rattle.s_linear.specs.Lines.{enter, leave, code_lines, numbers_from, lines}
-use Rattle.s_linear.specs.Meaning.{State, Context, Call, no_names, written, code_run, first_names, shapes, entered, calls}
+use Rattle.s_linear.specs.Meaning.{State, Context, Call, no_names, written, code_run, first_names, entered, calls}
 use Rattle.a_place.proofs.Apart.{overlapping_names_differ}
 use Rattle.a_place.specs.Placed.{placed_code, place_of, placed, put_params, placed_entered}
 use Rattle.s_simulation.specs.Closed.{NameSet, after_code, FunctionIsClosed}
@@ -22,6 +22,7 @@ use Rattle.a_simulation.proofs.Defined.{code_defined}
 use Rattle.a_simulation.proofs.Positions.{begun, later}
 use Rattle.a_simulation.proofs.Safe.{safe_code}
 use Rattle.a_simulation.proofs.Standing.{alive_at, stand_split, stand_whole, spans_code}
+use Rattle.g_graph.specs.Plain.{shapes_of}
 
 -- ---- the parameters
 
@@ -104,8 +105,8 @@ module _ (f : LinearFunction) (is_closed : FunctionIsClosed f) where
       → entered n callees global (Some f) vs m i ≡ placed_entered n callees global (Some (placed f)) vs m i
   entered_same n callees global vs m i =
       let c : Context = record { bound = n; call = callees; addresses = record { local = address_in (length m) (map (λ o. o.size) f.objects); global = global } } in
-      let s : State = record { names = first_names vs; memory = m ++ opened (shapes f.objects); input = i } in
-      let q : State = record { names = put_params (map (place_of f) (numbers_from 0 f.params)) 0 vs no_names; memory = m ++ opened (shapes f.objects); input = i } in
+      let s : State = record { names = first_names vs; memory = m ++ opened (shapes_of f.objects); input = i } in
+      let q : State = record { names = put_params (map (place_of f) (numbers_from 0 f.params)) 0 vs no_names; memory = m ++ opened (shapes_of f.objects); input = i } in
       same_results (Holds (place_of f) value_only) (code_run c f.code s) (code_run c (placed_code (place_of f) f.code) q)
       (λ t. record { value = t.names f.value; memory = closed (length m) (length f.objects) t.memory; input = t.input })
       (λ u. record { value = u.names (place_of f f.value); memory = closed (length m) (length f.objects) u.memory; input = u.input })

@@ -6,14 +6,14 @@ use Rattle.std.proofs.lemmas.Bool.Decides.{nat_tests}
 use Rattle.val_core.specs.declared.values.Value.{Value}
 use Rattle.val_core.specs.declared.values.Value.TheVariants.{Num, At, Bad}
 use Rattle.val_core.specs.Values.{value1, value2}
-use Rattle.val_core.specs.Memory.{Memory, pointers_equal}
+use Rattle.val_core.specs.Memory.{Memory, pointers_equal, cleared_at}
 use Rattle.val_core.specs.Memory as mem
 use Rattle.val_core.specs.Events.{wrote}
 use Rattle.val_core.specs.Answers.{Answer, Returned, Exited, then_on, on_number, on_defined}
 use Rattle.g_mean.specs.Copies.{Same}
 use Rattle.g_mean.proofs.lemmas.Copies.{same-then, Equals, equal-same}
 use Rattle.s_linear.specs.Linear.{Instr, const, undef, object_address, global_address, binary, unary, load, store, clear, equal_pointers, move, call, put, get, exit, Step, plain, choice, loop, Code, no_steps, step_then, Codes, no_codes, code_then}
-use Rattle.s_linear.specs.Meaning.{State, Run, Context, written, gives, gives_memory, got, cleared_at, back_from, instr_run, instrs_run, chosen, turns, step_run, code_run, codes_runs}
+use Rattle.s_linear.specs.Meaning.{State, Run, Context, written, gives, gives_memory, got, back_from, instr_run, instrs_run, chosen, turns, step_run, code_run, codes_runs}
 use Rattle.a_place.specs.Placed.{placed_instr, placed_step, placed_code, placed_codes}
 use Rattle.s_simulation.specs.Closed.{target_of, NameSet}
 use Rattle.a_simulation.specs.Need.{IsIn, these, needed_by, needed_by_instrs, needed_by_step, needed_by_code, needed_by_codes, at_label, at_branch, SafeInstr, SafeInstrs, SafeStep, SafeCode, SafeCodes}

@@ -30,16 +30,13 @@ use Rattle.c_sound.proofs.lemmas.Shapes.{in_range, well_shaped}
 use Rattle.c_sound.proofs.lemmas.Parts.{Layouts}
 use Rattle.c_sound.proofs.lemmas.File.{File}
 use Rattle.c_sound.proofs.lemmas.FileShapes.{file_shaped, declarations_few}
-use Rattle.c_sound.proofs.lemmas.Accepted.{predeclared_meaning, initial_file}
+use Rattle.c_sound.proofs.lemmas.Accepted.{predeclared_meaning, initial_file, last_state}
 use Rattle.g_simulation.specs.Groups.{HasFewGroups}
 use Rattle.c_accepted.specs.SourceLaws.{TokensAreInRange, CheckedHaveFewGroups}
 use Rattle.c_accepted.proofs.GroupShapes.{groups_few}
 use Rattle.c_accepted.proofs.FewFunctions.{AllFew, externals_few}
 
 -- ---- the file
-
-abbrev last_state : Tree → State
-last_state t = (externals t (initial_state (defined_in t))).1
 
 file_few : Layouts → (t : Tree) → FollowsGrammar t → All IsInRange (spell t) → length (spell t) ≤ most_tokens → (last_state t).broken ≡ None → AllFew (last_state t).functions
 file_few y t follows range few clean =

@@ -3,9 +3,10 @@ ghost use Rattle.c_static.specs.Conversions.{promoted, converted};
 ghost use Rattle.c_type.specs.Trees.{scalar_type};
 ghost use Rattle.c_elaboration.specs.State.{or_broken};
 ghost use Rattle.c_elaboration.specs.declared.rule.Rule.TheVariants.{BadOperands};
-ghost use Rattle.c_elaboration.specs.Statements.{whole, condition, subject, integer_of, integer_by};
+ghost use Rattle.c_elaboration.specs.Statements.{whole, condition, subject, integer_of};
 ghost use Rattle.c_typed.specs.WellTyped.{type_of};
 ghost use Rattle.c_state.specs.Frames.{KeepsDeclarations};
+ghost use Rattle.c_static.specs.Operators.{plus_by};
 
 use c_constant::converted;
 use c_elaboration::Rule;
@@ -89,7 +90,7 @@ fn integer_of(alloc: Global, a: Box<Operand>) -> Result<Option<TExpr>, NoMemory>
 }
 
 fn integer_by(alloc: Global, e: Box<TExpr>) -> Result<Option<TExpr>, NoMemory>
-    ensures { IfOk result (λ r. r ≡ integer_by (type_of e.value) e.value) }
+    ensures { IfOk result (λ r. r ≡ plus_by (type_of e.value) e.value) }
 {
     match &e.ty.form {
         TypeForm::Scalar(s) => {

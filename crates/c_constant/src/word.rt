@@ -1,6 +1,6 @@
 ghost use Rattle.std.specs.Prelude.{◌≡◌};
-ghost use Rattle.c_static.specs.Constants.{expr_word, unary_word, binary_word, converted_word, arithmetic_word, has_result, is_division, is_below, are_related, truth_word};
-ghost use Rattle.c_typed.specs.WellTyped.{is_shift};
+ghost use Rattle.c_static.specs.Constants.{expr_word, unary_word, binary_word, converted_word, arithmetic_word, has_result, is_below, are_related, truth_word};
+ghost use Rattle.c_typed.specs.WellTyped.{is_shift, is_division};
 
 use c_type::{CType, Scalar, TypeForm};
 use c_typed::{BinaryOp, ExprForm, Relation, TExpr, UnaryOp};

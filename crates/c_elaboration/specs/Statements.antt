@@ -7,10 +7,11 @@ use Rattle.c_type.specs.Trees.{TypeTree, scalar_type}
 use Rattle.c_typed.specs.Typed as typed
 use Rattle.c_typed.specs.Typed.{ExprTree, OptionalExpr, no_expr, some_expr, StmtTree, ItemTrees, no_items, stmt_then, GroupTrees, no_groups, group_then}
 use Rattle.c_typed.specs.WellTyped.{type_of}
+use Rattle.c_typed.specs.StmtViews.{optional_of}
 use Rattle.c_static.specs.declared.operand.Operand.{Operand}
 use Rattle.c_static.specs.Conversions.{promoted}
 use Rattle.c_static.specs.Operands.{value_of}
-use Rattle.c_static.specs.Operators.{condition_of}
+use Rattle.c_static.specs.Operators.{condition_of, plus_by}
 use Rattle.c_elaboration.specs.declared.rule.Rule.TheVariants.{BadOperands, NotConstant, BadReturn, BadJump, BadLabel}
 use Rattle.c_elaboration.specs.State.{MaybeType, Elaborated, ◌>>=◌, ◌>>◌, pure, breaks_if, or_broken, if_some, within_scope}
 use Rattle.c_elaboration.specs.Leaves.{offset_of, begin_of}
@@ -42,12 +43,8 @@ whole offset a = if_some a (λ x. or_broken BadOperands offset (value_of x))
 abbrev pub condition : (offset : ℕ) → Term → Elaborated (Option ExprTree)
 condition offset a = if_some a (λ x. or_broken BadOperands offset (condition_of x))
 
-abbrev pub integer_by : TypeTree → ExprTree → Option ExprTree
-integer_by (scalar_type s) e = Some (promoted s e)
-integer_by t e = None
-
 abbrev pub integer_of : Operand → Option ExprTree
-integer_of a = option_and_then (λ e. integer_by (type_of e) e) (value_of a)
+integer_of a = option_and_then (λ e. plus_by (type_of e) e) (value_of a)
 
 -- the promoted value that a `switch` goes by
 abbrev pub subject : (offset : ℕ) → Term → Elaborated (Option ExprTree)
@@ -64,10 +61,6 @@ value_clause (Node (l.Present k) (Cons x none)) = do
   a ← expressions x
   whole (begin_of x) a
 value_clause t = pure None
-
-abbrev pub optional : Option ExprTree → OptionalExpr
-optional None = no_expr
-optional (Some e) = some_expr e
 
 -- ---- statements of expressions
 
@@ -201,7 +194,7 @@ abbrev mutual
     a ← expressions x
     c ← condition (offset_of word) a
     s ← statement (in_loop j) t
-    pure (typed.loop (optional c) no_expr s)
+    pure (typed.loop (optional_of c) no_expr s)
   statement j (Node l.DoWhile (Cons word (Cons t (Cons until (Cons opening (Cons x more)))))) = do
     s ← statement (in_loop j) t
     a ← expressions x
@@ -212,7 +205,7 @@ abbrev mutual
     c ← condition_clause (offset_of word) x
     step ← value_clause y
     s ← statement (in_loop j) t
-    pure (typed.block (items_joined is (stmt_then (typed.loop (optional c) (optional step) s) no_items))))
+    pure (typed.block (items_joined is (stmt_then (typed.loop (optional_of c) (optional_of step) s) no_items))))
   statement j (Node l.Break (Cons word more)) = jump j.may_break (offset_of word) typed.break
   statement j (Node l.Continue (Cons word more)) = jump j.may_continue (offset_of word) typed.continue
   statement j (Node l.Return (Cons word (Cons x more))) = returned j.result (offset_of word) x

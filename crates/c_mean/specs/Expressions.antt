@@ -20,7 +20,7 @@ use Rattle.c_typed.specs.declared.operator.CompoundOp.{CompoundOp}
 use Rattle.c_typed.specs.declared.operator.CompoundOp.TheVariants as compound_op
 use Rattle.c_typed.specs.declared.operator.IncDec.{IncDec}
 use Rattle.c_typed.specs.Typed.{ExprTree, expr, FormTree, constant, read, address, unary, binary, logical_and, logical_or, conditional, comma, assign, compound, inc_dec, call, get, ExprTrees, no_exprs, expr_then, PlaceTree, place, PlaceFormTree, local, global, at, member}
-use Rattle.c_typed.specs.WellTyped.{type_of}
+use Rattle.c_typed.specs.WellTyped.{type_of, step_op}
 use Rattle.c_mean.specs.State.{Slot, holds, object, State, Valued, gives, with_memory, with_slots, used, is_pointer, converted, extended, arithmetic, compared, truth, pointer_moved, pointer_difference, member_address}
 use Rattle.c_typed.specs.Objects.{access_width}
 
@@ -111,9 +111,6 @@ abbrev pub compound_done : CompoundOp → (operand : TypeTree) → Value → Val
 compound_done (compound_op.Arithmetic o unsigned) u a b s = arithmetic o a b
 compound_done (compound_op.PointerPlus size) u a b s = pointer_moved true size u a b s.memory
 compound_done (compound_op.PointerMinus size) u a b s = pointer_moved false size u a b s.memory
-
-abbrev pub step_op : (up : Bool) → Op2
-step_op up = if up then op.Add else op.Sub
 
 abbrev pub stepped : IncDec → TypeTree → Value → State → Option Value
 stepped i t v s = if is_pointer t then pointer_moved i.up i.by t v (Num 1) s.memory else arithmetic (step_op i.up) v (Num i.by)

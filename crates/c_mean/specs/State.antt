@@ -14,6 +14,7 @@ use Rattle.c_type.specs.declared.scalar.Scalar.TheVariants.{Char, SignedChar, Un
 use Rattle.c_type.specs.Trees.{TypeTree, scalar_type, pointer_to}
 use Rattle.c_typed.specs.declared.operator.Relation.{Relation}
 use Rattle.c_typed.specs.declared.operator.Relation.TheVariants.{Less, Greater, LessEqual, GreaterEqual, Equal, NotEqual}
+use Rattle.c_typed.specs.WellTyped.{is_division, is_shift}
 
 -- A variable in scope is a value, which is `Bad` where it has none, or an object of the call, by number.
 pub data Slot : Type 0 where
@@ -77,22 +78,9 @@ extended t v = v
 
 -- ---- integers
 
-abbrev pub divides : Op2 → Bool
-divides op.Div = true
-divides op.Rem = true
-divides op.Divu = true
-divides op.Remu = true
-divides o = false
-
-abbrev pub shifts : Op2 → Bool
-shifts op.Sll = true
-shifts op.Srl = true
-shifts op.Sra = true
-shifts o = false
-
 -- A divisor is not 0, and a shift is by 0 to 31 (6.5.5p5, 6.5.7p3).
 abbrev pub is_defined_on : Op2 → (right : ℕ) → Bool
-is_defined_on o b = if divides o then not (b == 0) else if shifts o then nat_lt b 32 else true
+is_defined_on o b = if is_division o then not (b == 0) else if is_shift o then nat_lt b 32 else true
 
 abbrev pub arithmetic : Op2 → Value → Value → Option Value
 arithmetic o (Num a) (Num b) = if is_defined_on o b then Some (Num (word2 o a b)) else None

@@ -4,9 +4,10 @@ use Rattle.c_ast.specs.Productions as l
 use Rattle.c_ast.specs.Tree.{Tree, Node}
 use Rattle.c_typed.specs.Typed as typed
 use Rattle.c_typed.specs.Typed.{ExprTree, StmtTree, ItemTrees, no_items, stmt_then}
+use Rattle.c_typed.specs.StmtViews.{optional_of}
 use Rattle.c_elaboration.specs.State.{Elaborated, ◌>>=◌, pure, within_scope}
 use Rattle.c_elaboration.specs.Declarators.{items_joined, locals}
-use Rattle.c_elaboration.specs.Statements.{Jumps, in_switch, condition_clause, value_clause, optional, if_stmt, with_else, do_stmt, switch_stmt, for_start, statement, items, groups}
+use Rattle.c_elaboration.specs.Statements.{Jumps, in_switch, condition_clause, value_clause, if_stmt, with_else, do_stmt, switch_stmt, for_start, statement, items, groups}
 use Rattle.c_clause.specs.Clauses.{condition_at, subject_at}
 
 -- an `if` at an offset without its `else`, and the `else` of an `if`
@@ -27,7 +28,7 @@ else_statement j s t = do
 abbrev pub loop : Jumps → (condition step : Option ExprTree) → Tree → Elaborated StmtTree
 loop j c step t = do
   s ← statement j t
-  pure (typed.loop (optional c) (optional step) s)
+  pure (typed.loop (optional_of c) (optional_of step) s)
 
 abbrev pub while_statement : Jumps → (offset : ℕ) → Tree → Tree → Elaborated StmtTree
 while_statement j offset x t = do

@@ -14,7 +14,7 @@ use Rattle.c_typed.specs.declared.operator.UnaryOp.TheVariants as unary_op
 use Rattle.c_typed.specs.declared.operator.BinaryOp.{BinaryOp}
 use Rattle.c_typed.specs.declared.operator.BinaryOp.TheVariants as binary_op
 use Rattle.c_typed.specs.Typed.{ExprTree, expr, FormTree, constant, unary, binary, logical_and, logical_or, conditional}
-use Rattle.c_typed.specs.WellTyped.{type_of, is_shift}
+use Rattle.c_typed.specs.WellTyped.{type_of, is_shift, is_division}
 use Rattle.c_static.specs.Types.{is_integer}
 
 -- ---- the form
@@ -64,13 +64,6 @@ unary_word unary_op.Negate t w = Some (word2 op.Sub 0 w)
 unary_word unary_op.Complement t w = Some (word2 op.Xor w (2 ^ 32 - 1))
 unary_word unary_op.LogicalNot t w = Some (one_if (w == 0))
 unary_word o t w = None
-
-abbrev pub is_division : Op2 → Bool
-is_division op.Div = true
-is_division op.Rem = true
-is_division op.Divu = true
-is_division op.Remu = true
-is_division o = false
 
 -- A divisor is not 0, and a shift is by 0 to 31 (6.5.5p5, 6.5.7p3).
 abbrev pub has_result : Op2 → (right : ℕ) → Bool

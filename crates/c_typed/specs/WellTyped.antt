@@ -1,6 +1,6 @@
 -- Which typed programs are well typed: the operands of each form have the types that it asks for (ISO/IEC 9899:2011, 6.5),
 -- names stand for what is in scope, jumps stand where they may (6.8.6), and initialisers fit what they begin (6.7.9).
-use Rattle.std.specs.Prelude.{◌≡◌, ◌≢◌, ℕ, suc, ◌+◌, ◌*◌, ◌^◌, ◌<◌, ◌≤◌, ◌⊎◌, Bool, true, false, List, [], ◌∷◌, ◌++◌, map, length, take, slice_get, Some, codes}
+use Rattle.std.specs.Prelude.{◌≡◌, ◌≢◌, ℕ, suc, ◌+◌, ◌*◌, ◌^◌, ◌<◌, ◌≤◌, ◌⊎◌, if◌then◌else◌, Bool, true, false, List, [], ◌∷◌, ◌++◌, map, length, take, slice_get, Some, codes}
 use Rattle.val_core.specs.declared.leaf.Leaf.{Leaf}
 use Rattle.val_core.specs.declared.operation.Op2.{Op2}
 use Rattle.val_core.specs.declared.operation.Op2.TheVariants as op
@@ -45,6 +45,17 @@ is_shift op.Sll = true
 is_shift op.Srl = true
 is_shift op.Sra = true
 is_shift o = false
+
+abbrev pub is_division : Op2 → Bool
+is_division op.Div = true
+is_division op.Rem = true
+is_division op.Divu = true
+is_division op.Remu = true
+is_division o = false
+
+-- what `++` and `--` do
+abbrev pub step_op : (up : Bool) → Op2
+step_op up = if up then op.Add else op.Sub
 
 -- The operation serves the type: division, remainder and the shift to the right are of signed or of unsigned numbers.
 abbrev pub Serves : Op2 → TypeTree → Type 0

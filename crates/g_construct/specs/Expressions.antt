@@ -12,7 +12,7 @@ use Rattle.c_typed.specs.declared.operator.CompoundOp.{CompoundOp}
 use Rattle.c_typed.specs.declared.operator.CompoundOp.TheVariants as compound_op
 use Rattle.c_typed.specs.declared.operator.IncDec.{IncDec}
 use Rattle.c_typed.specs.Typed.{ExprTree, expr, FormTree, constant, read, address, unary, binary, logical_and, logical_or, conditional, comma, assign, compound, inc_dec, call, get, ExprTrees, no_exprs, expr_then, PlaceTree, place, PlaceFormTree, local, global, at, member}
-use Rattle.c_typed.specs.WellTyped.{type_of}
+use Rattle.c_typed.specs.WellTyped.{type_of, step_op}
 use Rattle.g_graph.specs.declared.op.Origin.{Origin}
 use Rattle.g_construct.specs.Writer.{variable_at, Point, Built, given, nothing, bind, Extra, one_value, void_value, choice}
 use Rattle.g_construct.specs.Places.{Spot, address_spot, slot_spot, member_spot, spot_address, spot_read, spot_written}
@@ -42,9 +42,6 @@ abbrev pub compound_made : CompoundOp → (old operand : Origin) → Point → B
 compound_made (compound_op.Arithmetic o unsigned) a b s = bin_made o a b s
 compound_made (compound_op.PointerPlus bytes) a b s = moved_made op.Add a b bytes s
 compound_made (compound_op.PointerMinus bytes) a b s = moved_made op.Sub a b bytes s
-
-abbrev pub step_op : (up : Bool) → Op2
-step_op up = if up then op.Add else op.Sub
 
 abbrev pub stepped_made : IncDec → (old : Origin) → Point → Built Origin
 stepped_made i v s = bind (const_made i.by s) (λ c t. bin_made (step_op i.up) v c t)

@@ -13,6 +13,7 @@ use Rattle.c_typed.specs.declared.operator.CompoundOp.{CompoundOp}
 use Rattle.c_typed.specs.declared.operator.CompoundOp.TheVariants as compound_op
 use Rattle.c_typed.specs.Typed.{ExprTree, expr, FormTree, constant, read, address, unary, binary, logical_and, logical_or, conditional, comma, assign, compound, inc_dec, call, get, ExprTrees, no_exprs, expr_then, PlaceTree, place, PlaceFormTree, local, global, at, member, OptionalExpr, no_expr, some_expr, ElementTrees, no_elements, value_then, characters_then, InitialTree, no_initial, initial_value, initial_elements, DeclarationTree, StmtTree, null, value, block, if_else, loop, do_while, break, continue, return_value, return_none, switch, ItemTrees, no_items, stmt_then, declare_then, GroupTrees, no_groups, group_then, VariableTree, FunctionTree}
 use Rattle.c_typed.specs.WellTyped.{type_of, params_of}
+use Rattle.c_typed.specs.Objects.{object_by}
 use Rattle.g_construct.specs.Exits.{stmt_exits, items_exits, groups_exits, can_leave, some_items, body_jumps}
 use Rattle.g_construct.specs.Switch.{ends_segment, some_segment_has_several}
 
@@ -184,13 +185,8 @@ object_values c os no_initial = 0
 object_values c os (initial_value e) = expr_values c os e + 4
 object_values c os (initial_elements es) = 2 + elements_values c os es
 
--- whether a variable is an object
-abbrev pub object_as : Option VariableTree → Bool
-object_as None = false
-object_as (Some v) = v.is_object
-
 abbrev pub declared_object : List VariableTree → DeclarationTree → Bool
-declared_object vs d = object_as (slice_get vs d.variable)
+declared_object vs d = object_by (slice_get vs d.variable)
 
 abbrev pub variable_values : (object : Bool) → (carried : ℕ) → (objects : List Bool) → DeclarationTree → ℕ
 variable_values true c os d = object_values c (os ++ true ∷ []) d.initial

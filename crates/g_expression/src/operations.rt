@@ -1,10 +1,10 @@
 //! The nodes of operations on what operands give.
 ghost use Rattle.std.specs.Prelude.{◌≡◌, ◌-◌, ◌^◌, ◌∷◌, [], OnOk, IfOk};
 ghost use Rattle.g_construct.specs.Operations.{const_made, undef_made, local_made, delta_made, bin_made, un_made, load_made, ptr_eq_made, converted_made, extended_made, read_made, is_zero_made, is_not_zero_made, is_null_made, not_made, condition_made, less_op, equal_made, not_equal_made, compared_made, moved_made, difference_made, at_offset_made};
-ghost use Rattle.g_construct.specs.Expressions.{unary_made, binary_made, compound_made, stepped_made, step_op};
+ghost use Rattle.g_construct.specs.Expressions.{unary_made, binary_made, compound_made, stepped_made};
 ghost use Rattle.g_construct.specs.Writer.{bind};
 ghost use Rattle.c_typed.specs.Objects.{access_width};
-ghost use Rattle.c_typed.specs.WellTyped.{int};
+ghost use Rattle.c_typed.specs.WellTyped.{int, step_op};
 ghost use Rattle.g_expression.specs.Work.{made};
 
 use crate::builder::Builder;

@@ -1,7 +1,8 @@
 -- Lambdas as trees: the regionalised value state dependence graph (Reissmann et al., RVSDG: An Intermediate
 -- Representation for Optimizing Compilers, 2020), where a region is a list of nodes and a node holds its regions.
-use Rattle.std.specs.Prelude.{ℕ, suc, ◌+◌, Bool, List, [], ◌∷◌}
+use Rattle.std.specs.Prelude.{ℕ, suc, ◌+◌, Bool, true, false, List, [], ◌∷◌, map}
 use Rattle.val_core.specs.declared.leaf.Leaf.{Leaf}
+use Rattle.val_core.specs.Memory.{BlockShape}
 use Rattle.g_graph.specs.declared.op.Kind.{Kind}
 use Rattle.g_graph.specs.declared.op.Op.{Op}
 use Rattle.g_graph.specs.declared.op.Origin.{Origin}
@@ -40,6 +41,22 @@ id_of (node id op inputs rs) = id
 
 abbrev pub args_of : RegionTree → List Kind
 args_of (region args nodes results) = args
+
+abbrev pub results_of : RegionTree → List Origin
+results_of (region args nodes results) = results
+
+abbrev pub op_of : NodeTree → Op
+op_of (node id op inputs rs) = op
+
+abbrev pub inputs_in : NodeTree → List Origin
+inputs_in (node id op inputs rs) = inputs
+
+abbrev pub regions_in : NodeTree → RegionTrees
+regions_in (node id op inputs rs) = rs
+
+abbrev pub has_none : RegionTrees → Bool
+has_none no_regions = true
+has_none (region_then r rs) = false
 
 abbrev pub nodes_in : RegionTree → NodeTrees
 nodes_in (region args nodes results) = nodes
@@ -90,3 +107,7 @@ pub record PlainOptimised : Type 0 where
   pub lambda : PlainLambda
   pub steps : List Step
   pub before : ℕ
+
+-- the shapes of the blocks of objects
+abbrev pub shapes_of : List PlainObject → List BlockShape
+shapes_of objects = map (λ o. record { size = o.size; leaves = o.leaves }) objects

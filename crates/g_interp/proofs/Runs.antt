@@ -11,8 +11,8 @@ use Rattle.val_core.specs.Events.{Event}
 use Rattle.val_core.specs.Answers.{Answer, Returned, Undefined, before, then_on, active}
 use Rattle.val_core.proofs.lemmas.Answers.{then_associates}
 use Rattle.g_graph.specs.declared.op.Origin.{Origin}
-use Rattle.g_graph.specs.Plain.{RegionTree, NodeTree, NodeTrees, node_then, nodes_of, regions_of, id_of, PlainObject, PlainLambda}
-use Rattle.g_mean.specs.Calls.{shapes_of, entered, applied, sizes_of}
+use Rattle.g_graph.specs.Plain.{RegionTree, NodeTree, NodeTrees, node_then, nodes_of, regions_of, id_of, PlainObject, PlainLambda, shapes_of}
+use Rattle.g_mean.specs.Calls.{entered, applied, sizes_of}
 use Rattle.g_mean.specs.Data.{Datum, val, memory, input, at_port, on_memory, with_memory, changed_at}
 use Rattle.g_mean.specs.Meaning.{Context, Meaning, Outputs, extended, read, chosen, branched, looped, again, turns, region_meaning, node_run, nodes_run, meanings}
 use Rattle.g_interp.specs.declared.data.Answer as run

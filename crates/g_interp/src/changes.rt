@@ -1,9 +1,8 @@
 ghost use Rattle.std.specs.Prelude.{◌≡◌, ◌+◌, ◌<◌, ◌++◌, map, length, None, Some, IfOk, option_map, if◌then◌else◌};
-ghost use Rattle.val_core.specs.Memory.{block_changed, store, written, zeroed, cell_written, closed, new_block};
+ghost use Rattle.val_core.specs.Memory.{block_changed, store, written, zeroed, cell_written, closed, new_block, cleared_at};
 ghost use Rattle.val_core.specs.Objects.{word_of, opened};
-ghost use Rattle.g_mean.specs.Calls.{shapes_of};
-ghost use Rattle.g_mean.specs.Meaning.{cleared_at};
 ghost use Rattle.g_interp.specs.Views.{cell_of, cells_of, block_of, blocks_of, exited_if, among};
+ghost use Rattle.g_graph.specs.Plain.{shapes_of};
 
 use crate::data::{Block, Cell};
 use crate::memory::{copy_block, copy_memory, takes_store};

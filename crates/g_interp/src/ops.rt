@@ -1,11 +1,11 @@
 ghost use Rattle.std.specs.Prelude.{◌≡◌, ◌%◌, ◌+◌, ◌^◌, [], ◌∷◌, slice_get, IfOk};
 ghost use Rattle.val_core.specs.Answers.{Returned, Exited, on_number, on_defined};
 ghost use Rattle.val_core.specs.Events.{wrote};
-ghost use Rattle.val_core.specs.Memory.{load, store, pointers_equal};
+ghost use Rattle.val_core.specs.Memory.{load, store, pointers_equal, cleared_at};
 ghost use Rattle.val_core.specs.Objects.{block_address};
 ghost use Rattle.g_mean.specs.Calls.{sizes_of};
 ghost use Rattle.g_mean.specs.Data.{input, on_memory, on_input};
-ghost use Rattle.g_mean.specs.Meaning.{given, given_memory, got, cleared_at, done};
+ghost use Rattle.g_mean.specs.Meaning.{given, given_memory, got, done};
 ghost use Rattle.g_interp.specs.Views.{datum_of, data_of, answer_of};
 ghost use Rattle.g_interp.specs.Contexts.{addresses_of};
 ghost use Rattle.val_core.specs.declared.values.Value.TheVariants.{Num};

@@ -1,10 +1,10 @@
 ghost use Rattle.std.specs.Prelude.{◌≡◌, [], ◌∷◌, map, IfOk, if◌then◌else◌, ◌++◌};
 ghost use Rattle.val_core.specs.Memory.{closed};
 ghost use Rattle.val_core.specs.Objects.{opened};
-ghost use Rattle.g_mean.specs.Calls.{shapes_of};
 ghost use Rattle.g_mean.specs.Data.{at_port, value_at, with_memory, changed_at};
 ghost use Rattle.g_mean.specs.Meaning.{read};
 ghost use Rattle.g_interp.specs.Views.{datum_of, data_of, outputs_of, block_count};
+ghost use Rattle.g_graph.specs.Plain.{shapes_of};
 
 use crate::changes::{close, open};
 use crate::data::{Datum, Output};

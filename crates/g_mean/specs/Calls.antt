@@ -8,16 +8,13 @@ use Rattle.val_core.specs.Objects.{Addresses, word_of, address_in, opened}
 use Rattle.val_core.specs.Events.{deepest}
 use Rattle.val_core.specs.Answers.{Answer, Returned, Cut, Exited, Undefined, then_on, on_number, active, events}
 use Rattle.g_graph.specs.declared.link.Link.{Link}
-use Rattle.g_graph.specs.Plain.{RegionTree, PlainObject, PlainLambda, PlainDelta, PlainOmega}
+use Rattle.g_graph.specs.Plain.{RegionTree, PlainObject, PlainLambda, PlainDelta, PlainOmega, shapes_of}
 use Rattle.g_graph.specs.Program.{name_index, main_name}
 use Rattle.g_mean.specs.Data.{Datum, memory, input, at_port, value_at, on_memory, with_memory, changed_at}
 use Rattle.g_mean.specs.Meaning.{Meaning, Context, region_meaning}
 
 abbrev pub sizes_of : List PlainObject → List ℕ
 sizes_of objects = map (λ o. o.size) objects
-
-abbrev pub shapes_of : List PlainObject → List BlockShape
-shapes_of objects = map (λ o. record { size = o.size; leaves = o.leaves }) objects
 
 -- what stands around the body of a lambda with these objects, where the caller's memory is `m`
 abbrev pub inside : ℕ → (call : ℕ → Meaning) → (global : ℕ → Value) → List PlainObject → (m : Memory) → Context

@@ -1,5 +1,5 @@
 -- What an edge of the graph carries while it runs.
-use Rattle.std.specs.Prelude.{ℕ, zero, suc, List, [], ◌∷◌, slice_index_or}
+use Rattle.std.specs.Prelude.{ℕ, zero, suc, List, [], ◌∷◌, ◌++◌, map, slice_index_or}
 use Rattle.val_core.specs.declared.values.Value.{Value}
 use Rattle.val_core.specs.declared.values.Value.TheVariants.{Bad}
 use Rattle.val_core.specs.Memory.{Memory}
@@ -14,6 +14,10 @@ pub data Datum : Type 0 where
 -- what stands at a port; where there is none, a value without meaning
 abbrev pub at_port : List Datum → ℕ → Datum
 at_port xs k = slice_index_or xs k (val Bad)
+
+-- what a lambda takes: its arguments, the memory and the input
+abbrev pub taken : List Value → Memory → List ℕ → List Datum
+taken vs m i = map val vs ++ memory m ∷ input i ∷ []
 
 -- a datum as a value: a state has no meaning as one
 abbrev pub value_of : Datum → Value

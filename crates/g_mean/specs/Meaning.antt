@@ -4,7 +4,7 @@ use Rattle.std.specs.Prelude.{ℕ, zero, suc, ◌-◌, ◌%◌, ◌^◌, ◌==�
 use Rattle.val_core.specs.declared.values.Value.{Value}
 use Rattle.val_core.specs.declared.values.Value.TheVariants.{Num, At, Bad}
 use Rattle.val_core.specs.Values.{value1, value2}
-use Rattle.val_core.specs.Memory.{Memory, load, store, cleared, pointers_equal}
+use Rattle.val_core.specs.Memory.{Memory, load, store, cleared, pointers_equal, cleared_at}
 use Rattle.val_core.specs.Objects.{Addresses}
 use Rattle.val_core.specs.Events.{wrote, took}
 use Rattle.val_core.specs.Answers.{Answer, Returned, Cut, Exited, Undefined, then_on, on_number, on_defined}
@@ -35,11 +35,6 @@ given_memory m = Returned (memory m ∷ []) []
 abbrev pub got : List ℕ → Answer (List Datum)
 got [] = Returned (val (Num (2 ^ 32 - 1)) ∷ input [] ∷ []) []
 got (b ∷ i) = Returned (val (Num b) ∷ input i ∷ []) (took b ∷ [])
-
--- the object at an address cleared
-abbrev pub cleared_at : Value → Memory → Option Memory
-cleared_at (At b o) m = Some (cleared b m)
-cleared_at _ m = None
 
 -- What an op without regions does but for a call. A pure one is total. What else is undefined is undefined: a load or store
 -- that memory does not take, a comparison of pointers outside its cases, and a byte or a status that is no number.

@@ -10,14 +10,10 @@ use Rattle.c_typed.specs.WellTyped.{IsWellTyped}
 use Rattle.c_mean.specs.Run.{call_run, global_address, run, deepest_run}
 use Rattle.g_graph.specs.Plain.{PlainLambda}
 use Rattle.g_construct.specs.Functions.{graph, omega}
-use Rattle.g_mean.specs.Data.{Datum, val, memory, input}
+use Rattle.g_mean.specs.Data.{Datum, val, memory, input, taken}
 use Rattle.g_mean.specs.Calls.{lambda_at, program_at, deepest_main}
 use Rattle.g_mean.specs.LessDefined.{AreBytes, AreSound}
 use Rattle.g_simulation.specs.Groups.{HasFewGroups}
-
--- what a lambda takes: its arguments, the memory and the input
-abbrev pub taken : List Value → Blocks → List ℕ → List Datum
-taken vs m i = map val vs ++ memory m ∷ input i ∷ []
 
 -- A lambda gives back what its function does: the memory, the input, and a value that may stand for that of the function.
 pub record GivesBack (g : Given (Option Value)) (ys : List Datum) : Type 0 where

@@ -8,7 +8,7 @@ use Rattle.g_graph.specs.declared.op.Op.{Op}
 use Rattle.g_graph.specs.declared.op.Op.TheVariants.{Gamma, Theta}
 use Rattle.g_graph.specs.declared.op.Origin.{Origin}
 use Rattle.g_graph.specs.declared.op.Origin.TheVariants.{Arg, Out}
-use Rattle.g_graph.specs.Plain.{RegionTree, region, NodeTree, node, NodeTrees, RegionTrees, no_regions, region_then, regions_of, id_of, args_of}
+use Rattle.g_graph.specs.Plain.{RegionTree, region, NodeTree, node, NodeTrees, RegionTrees, no_regions, region_then, regions_of, id_of, args_of, op_of, regions_in}
 use Rattle.g_graph.specs.Signatures.{joined, first_args, outputs_of, output_kinds}
 use Rattle.g_graph.specs.Scope.{same_kind, is_of, same_origin}
 use Rattle.g_graph.specs.WellFormed.{some_of}
@@ -20,7 +20,6 @@ use Rattle.g_edit.specs.Entries.{entries_kept}
 use Rattle.g_edit.proofs.lemmas.Kept.{kept_none}
 use Rattle.g_edit.proofs.lemmas.PlacesInPlace.{kept_more}
 use Rattle.r_dne.specs.Rule.{used_exits, some_uses, used_entries, others_use, argument_used, used_variables, variables_of, exits_of, entries_of, gamma_shrunk, shrunk, eliminated, dne_here}
-use Rattle.r_dne.specs.Plan.{op_of, regions_in}
 
 -- ---- outputs
 

@@ -17,9 +17,3 @@ carried_out n r (Theta stays) = variables_kept n stays.items r
 abbrev pub planned : ℕ → RegionTree → Option Plan → Option RegionTree
 planned n r None = None
 planned n r (Some plan) = Some (carried_out n r plan)
-
-abbrev pub op_of : NodeTree → Op
-op_of (node id op inputs rs) = op
-
-abbrev pub regions_in : NodeTree → RegionTrees
-regions_in (node id op inputs rs) = rs

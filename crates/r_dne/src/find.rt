@@ -1,8 +1,8 @@
 ghost use Rattle.std.specs.Prelude.{◌≡◌, IfOk, is_some};
 ghost use Rattle.g_graph.specs.declared.op.Op.TheVariants.{Gamma, Theta};
-ghost use Rattle.g_graph.specs.Plain.{id_of};
+ghost use Rattle.g_graph.specs.Plain.{id_of, op_of};
 ghost use Rattle.r_dne.specs.Rule.{shrunk, eliminated, dne_here};
-ghost use Rattle.r_dne.specs.Plan.{op_of, planned};
+ghost use Rattle.r_dne.specs.Plan.{planned};
 
 use crate::gamma::{Entries, Exits};
 use crate::node::is_dead;

@@ -69,9 +69,3 @@ applies l n = is_some (region_changed (inv_here n) l.body)
 
 abbrev pub inv : ℕ → PlainLambda → PlainLambda
 inv n l = lambda_changed (inv_here n) l
-
-abbrev pub op_of : NodeTree → Op
-op_of (node id op inputs rs) = op
-
-abbrev pub results_of : RegionTree → List Origin
-results_of (region args nodes results) = results

@@ -1,7 +1,7 @@
 ghost use Rattle.std.specs.Prelude.{◌≡◌, IfOk, is_some};
 ghost use Rattle.g_graph.specs.declared.op.Op.TheVariants.{Gamma, Theta};
-ghost use Rattle.g_graph.specs.Plain.{id_of};
-ghost use Rattle.r_inv.specs.Rule.{op_of, moved, inv_here};
+ghost use Rattle.g_graph.specs.Plain.{id_of, op_of};
+ghost use Rattle.r_inv.specs.Rule.{moved, inv_here};
 ghost use Rattle.r_inv.specs.Plan.{planned, fits_planned};
 
 use crate::carried::{list_of, some_used, staying};

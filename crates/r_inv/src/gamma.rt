@@ -1,10 +1,10 @@
 ghost use Rattle.std.specs.Prelude.{◌≡◌, length, slice_get};
 ghost use Rattle.g_graph.specs.declared.op.Op.TheVariants.{Gamma};
-ghost use Rattle.g_graph.specs.Plain.{regions_of};
+ghost use Rattle.g_graph.specs.Plain.{regions_of, results_of};
 ghost use Rattle.g_graph.specs.Signatures.{outputs_of};
 ghost use Rattle.g_graph.specs.WellFormed.{is_origin};
 ghost use Rattle.g_edit.specs.Carried.{outer, all_pass, passed};
-ghost use Rattle.r_inv.specs.Rule.{carried_exits, results_of};
+ghost use Rattle.r_inv.specs.Rule.{carried_exits};
 
 use crate::carried::Carried;
 use g_graph::{Origin, Region, same_origin};

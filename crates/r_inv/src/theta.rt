@@ -1,8 +1,8 @@
 ghost use Rattle.std.specs.Prelude.{◌≡◌, length, slice_get};
 ghost use Rattle.g_graph.specs.declared.op.Origin.TheVariants.{Arg};
-ghost use Rattle.g_graph.specs.Plain.{args_of};
+ghost use Rattle.g_graph.specs.Plain.{args_of, results_of};
 ghost use Rattle.g_graph.specs.WellFormed.{is_origin};
-ghost use Rattle.r_inv.specs.Rule.{carried_variables, results_of, keeps, variable_carries};
+ghost use Rattle.r_inv.specs.Rule.{carried_variables, keeps, variable_carries};
 
 use crate::carried::Carried;
 use g_edit::{Source, is_source};

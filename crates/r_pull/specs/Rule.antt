@@ -6,7 +6,7 @@ use Rattle.g_graph.specs.declared.op.Kind.TheVariants.{Value}
 use Rattle.g_graph.specs.declared.op.Op.TheVariants.{Gamma}
 use Rattle.g_graph.specs.declared.op.Origin.{Origin}
 use Rattle.g_graph.specs.declared.op.Origin.TheVariants.{Arg, Out}
-use Rattle.g_graph.specs.Plain.{RegionTree, region, NodeTree, node, NodeTrees, no_nodes, node_then, RegionTrees, no_regions, region_then, id_of, PlainLambda, count_of}
+use Rattle.g_graph.specs.Plain.{RegionTree, region, NodeTree, node, NodeTrees, no_nodes, node_then, RegionTrees, no_regions, region_then, id_of, PlainLambda, count_of, inputs_in, regions_in, nodes_in, has_none}
 use Rattle.g_graph.specs.Signatures.{is_pure, first_args}
 use Rattle.g_graph.specs.Scope.{same_origin}
 use Rattle.g_graph.specs.WellFormed.{some_of}
@@ -77,20 +77,14 @@ copies stays (region_then r rs) = (if is_read (is_gone_argument stays) r then 1 
 
 -- ---- the Gamma
 
-abbrev pub inputs_of_node : NodeTree → List Origin
-inputs_of_node (node id op inputs rs) = inputs
-
 -- with the inputs of the node as last entries, and copies of it
 abbrev pub widened : (stays : List Bool) → (next : ℕ) → NodeTree → NodeTree → NodeTree
 widened stays next x (node id op inputs rs) =
-    node id op (inputs ++ inputs_of_node x) (regions_copied stays next (length (first_args rs)) x (regions_widened (length (inputs_of_node x)) rs))
-
-abbrev pub regions_of_node : NodeTree → RegionTrees
-regions_of_node (node id op inputs rs) = rs
+    node id op (inputs ++ inputs_in x) (regions_copied stays next (length (first_args rs)) x (regions_widened (length (inputs_in x)) rs))
 
 -- where no region reads what goes, nothing comes
 abbrev pub pulled : (stays : List Bool) → (next : ℕ) → NodeTree → NodeTree → NodeTree
-pulled stays next x g = if some_reads stays (regions_of_node g) then node_taking stays (widened stays next x g) else node_taking stays g
+pulled stays next x g = if some_reads stays (regions_in g) then node_taking stays (widened stays next x g) else node_taking stays g
 
 -- ---- the size
 
@@ -123,10 +117,6 @@ into o (node id Gamma (p ∷ entries) rs) =
     if same_origin o p then None else Some (record { gamma = node id Gamma (p ∷ entries) rs; stays = other_entries o entries })
 into o x = None
 
-abbrev pub has_none : RegionTrees → Bool
-has_none no_regions = true
-has_none (region_then r rs) = false
-
 abbrev pub may_move : (results : List Origin) → NodeTree → Bool
 may_move results (node id op inputs rs) = is_pure op && has_none rs && not (some_of (same_origin (Out id 0)) results)
 
@@ -137,8 +127,8 @@ pull_of (region args nodes results) x =
 -- In a lambda of so many values, with that next number: the lambda may change so, and its numbers suffice.
 abbrev pub fits : (values next : ℕ) → NodeTree → Pull → Bool
 fits values next x h =
-    may_change_size values (added h.stays (length (inputs_of_node x)) (regions_of_node h.gamma)) (gone h.stays (regions_of_node h.gamma))
-    && nat_le (next + copies h.stays (regions_of_node h.gamma)) most_next
+    may_change_size values (added h.stays (length (inputs_in x)) (regions_in h.gamma)) (gone h.stays (regions_in h.gamma))
+    && nat_le (next + copies h.stays (regions_in h.gamma)) most_next
 
 abbrev pub fitting : (values next : ℕ) → RegionTree → NodeTree → Option Pull
 fitting values next r x = option_and_then (λ h. if fits values next x h then Some h else None) (pull_of r x)
@@ -148,17 +138,14 @@ abbrev pub region_pulled : (next n : ℕ) → RegionTree → NodeTree → Pull �
 region_pulled next n (region args nodes results) x h =
     region_without n (region args (node_set (id_of h.gamma) (pulled h.stays next x h.gamma) nodes) results)
 
-abbrev pub nodes_in_region : RegionTree → NodeTrees
-nodes_in_region (region args nodes results) = nodes
-
 abbrev pub pll_here : (values next n : ℕ) → RegionTree → Option RegionTree
 pll_here values next n r =
-    option_and_then (λ x. option_map (region_pulled next n r x) (fitting values next r x)) (node_at n (nodes_in_region r))
+    option_and_then (λ x. option_map (region_pulled next n r x) (fitting values next r x)) (node_at n (nodes_in r))
 
 -- how many copies the change of a region makes
 abbrev pub copies_here : (values next n : ℕ) → RegionTree → Option ℕ
 copies_here values next n r =
-    option_and_then (λ x. option_map (λ h. copies h.stays (regions_of_node h.gamma)) (fitting values next r x)) (node_at n (nodes_in_region r))
+    option_and_then (λ x. option_map (λ h. copies h.stays (regions_in h.gamma)) (fitting values next r x)) (node_at n (nodes_in r))
 
 -- of the first region, in pre-order, that has an answer
 abbrev mutual

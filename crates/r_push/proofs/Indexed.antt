@@ -10,7 +10,7 @@ use Rattle.g_graph.specs.declared.op.Op.TheVariants.{Const, Undef, Local, Delta,
 use Rattle.g_graph.specs.declared.op.Kind.TheVariants.{Value}
 use Rattle.g_graph.specs.declared.op.Origin.{Origin}
 use Rattle.g_graph.specs.declared.op.Origin.TheVariants.{Arg, Out}
-use Rattle.g_graph.specs.Plain.{RegionTree, region, NodeTree, node, NodeTrees, node_then, RegionTrees, no_regions, region_then, nodes_of}
+use Rattle.g_graph.specs.Plain.{RegionTree, region, NodeTree, node, NodeTrees, node_then, RegionTrees, no_regions, region_then, nodes_of, results_of, inputs_in, has_none}
 use Rattle.g_graph.specs.Nodes.{node_at, is_used}
 use Rattle.g_graph.specs.Replace.{node_redirected, origin_replaced, nodes_redirected}
 use Rattle.g_graph.specs.Signatures.{is_pure}
@@ -19,8 +19,8 @@ use Rattle.g_graph.specs.WellFormed.{all_of}
 use Rattle.g_graph.proofs.lemmas.Splices.{nodes_of-append}
 use Rattle.g_edit.specs.Removal.{nodes_without}
 use Rattle.g_edit.specs.Size.{may_change_size}
-use Rattle.r_push.specs.Edit.{left, outer, has_no_regions, lengthened, all_lengthened, inputs_in, widened_by, widened, push_index}
-use Rattle.r_push.specs.Rule.{names_argument, has_none, may_leave, only, leaving, leaving_one, results_of, is_invariant, carried, regions_carried, looped, placed, growth, can_count, pushed, pushed_within, nodes_pushed}
+use Rattle.r_push.specs.Edit.{left, outer, has_no_regions, lengthened, all_lengthened, widened_by, widened, push_index}
+use Rattle.r_push.specs.Rule.{names_argument, may_leave, only, leaving, leaving_one, is_invariant, carried, regions_carried, looped, placed, growth, can_count, pushed, pushed_within, nodes_pushed}
 
 -- ---- the node, by its index
 

@@ -9,7 +9,7 @@ use Rattle.g_graph.specs.declared.op.Kind.{Kind}
 use Rattle.g_graph.specs.declared.op.Op.{Op}
 use Rattle.g_graph.specs.declared.op.Origin.{Origin}
 use Rattle.g_graph.specs.declared.op.Origin.TheVariants.{Arg, Out}
-use Rattle.g_graph.specs.Plain.{region, NodeTree, node, NodeTrees, node_then, RegionTrees}
+use Rattle.g_graph.specs.Plain.{region, NodeTree, node, NodeTrees, node_then, RegionTrees, has_none}
 use Rattle.g_graph.specs.Signatures.{is_pure}
 use Rattle.g_graph.specs.WellFormed.{all_of}
 use Rattle.g_graph.specs.Nodes.{node_at, is_used}
@@ -21,7 +21,7 @@ use Rattle.g_mean.specs.Copies.{IsRead, AreRead, is_argument}
 use Rattle.g_mean.proofs.lemmas.Moves.{pure_nodes_give_the_same}
 use Rattle.g_mean.proofs.lemmas.Splices.{get-port}
 use Rattle.g_edit.proofs.lemmas.Added.{argument-less}
-use Rattle.r_push.specs.Rule.{names_argument, has_none, may_leave, only, leaving}
+use Rattle.r_push.specs.Rule.{names_argument, may_leave, only, leaving}
 
 -- ---- in its region
 

@@ -5,11 +5,11 @@ use Rattle.g_graph.specs.declared.op.Kind.TheVariants.{Value}
 use Rattle.g_graph.specs.declared.op.Op.TheVariants.{Gamma, Theta}
 use Rattle.g_graph.specs.declared.op.Origin.{Origin}
 use Rattle.g_graph.specs.declared.op.Origin.TheVariants.{Arg, Out}
-use Rattle.g_graph.specs.Plain.{RegionTree, region, NodeTree, node, NodeTrees, no_nodes, node_then, RegionTrees, no_regions, region_then}
+use Rattle.g_graph.specs.Plain.{RegionTree, region, NodeTree, node, NodeTrees, no_nodes, node_then, RegionTrees, no_regions, region_then, inputs_in, has_none}
 use Rattle.g_graph.specs.Replace.{region_redirected, origin_replaced}
 use Rattle.g_edit.specs.Removal.{region_without}
 use Rattle.g_edit.specs.Lookup.{same_op}
-use Rattle.r_push.specs.Rule.{leaving_one, leaving_loop, has_none, pushed_within}
+use Rattle.r_push.specs.Rule.{leaving_one, leaving_loop, pushed_within}
 
 -- the node of that number, in the only one of these regions, where it may leave it
 abbrev pub left_only : ℕ → RegionTrees → Option NodeTree
@@ -52,12 +52,6 @@ all_lengthened n loops (region_then r rs) = region_then (lengthened n loops r) (
 -- the node that is left, with these inputs, and with one more argument of each region
 abbrev pub widened_by : ℕ → (inputs : List Origin) → NodeTree → NodeTree
 widened_by n more (node id op inputs rs) = node id op more (all_lengthened n (same_op op Theta) rs)
-
-abbrev pub inputs_in : NodeTree → List Origin
-inputs_in (node id op inputs rs) = inputs
-
-abbrev pub regions_in : NodeTree → RegionTrees
-regions_in (node id op inputs rs) = rs
 
 abbrev pub is_loop : NodeTree → Bool
 is_loop (node id op inputs rs) = same_op op Theta

@@ -6,7 +6,7 @@ use Rattle.g_graph.specs.declared.op.Kind.TheVariants.{Value}
 use Rattle.g_graph.specs.declared.op.Op.TheVariants.{Gamma, Theta}
 use Rattle.g_graph.specs.declared.op.Origin.{Origin}
 use Rattle.g_graph.specs.declared.op.Origin.TheVariants.{Arg, Out}
-use Rattle.g_graph.specs.Plain.{RegionTree, region, NodeTree, node, NodeTrees, no_nodes, node_then, RegionTrees, no_regions, region_then, args_of, PlainLambda, count_of}
+use Rattle.g_graph.specs.Plain.{RegionTree, region, NodeTree, node, NodeTrees, no_nodes, node_then, RegionTrees, no_regions, region_then, args_of, PlainLambda, count_of, results_of, has_none}
 use Rattle.g_graph.specs.Signatures.{is_pure}
 use Rattle.g_graph.specs.WellFormed.{all_of, all_regions, is_origin}
 use Rattle.g_graph.specs.Replace.{node_redirected, region_redirected, origin_replaced}
@@ -25,10 +25,6 @@ abbrev pub names_argument : Origin → Bool
 names_argument (Arg k) = true
 names_argument (Out n p) = false
 
-abbrev pub has_none : RegionTrees → Bool
-has_none no_regions = true
-has_none (region_then r rs) = false
-
 -- a pure node whose inputs are all as the test says, and whose output is used
 abbrev pub may_leave : (Origin → Bool) → RegionTree → NodeTree → Bool
 may_leave test r (node id op inputs rs) = is_pure op && has_none rs && all_of test inputs && is_used (Out id 0) r
@@ -44,9 +40,6 @@ leaving test n (region args nodes results) = option_and_then (λ x. only (may_le
 abbrev pub leaving_one : ℕ → RegionTrees → Option NodeTree
 leaving_one n no_regions = None
 leaving_one n (region_then r rs) = option_or (leaving names_argument n r) (leaving_one n rs)
-
-abbrev pub results_of : RegionTree → List Origin
-results_of (region args nodes results) = results
 
 -- an argument of a loop variable whose result is its argument; the first result is the predicate
 abbrev pub is_invariant : (outs : List Origin) → Origin → Bool

@@ -1,10 +1,10 @@
 ghost use Rattle.std.specs.Prelude.{◌≡◌, ◌++◌, [], ◌∷◌, MatchBool, IfOk, OnOk, OnErr, IsTrue, is_some, option_map};
 ghost use Rattle.std.specs.declared.option.Option.TheVariants.{Some, None};
 ghost use Rattle.g_graph.specs.declared.op.Origin.TheVariants.{Out};
-ghost use Rattle.g_graph.specs.Plain.{nodes_of, regions_of};
+ghost use Rattle.g_graph.specs.Plain.{nodes_of, regions_of, regions_in, inputs_in};
 ghost use Rattle.g_graph.specs.Replace.{node_redirected};
 ghost use Rattle.g_graph.specs.Splice.{args_to_inputs};
-ghost use Rattle.r_push.specs.Edit.{left, outer, push_index, widened_by, inputs_in, regions_in, is_loop, all_longer};
+ghost use Rattle.r_push.specs.Edit.{left, outer, push_index, widened_by, is_loop, all_longer};
 ghost use Rattle.r_push.specs.Rule.{can_count, nodes_pushed, psh_here};
 
 use crate::carry::carry_all;

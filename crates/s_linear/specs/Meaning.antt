@@ -4,13 +4,13 @@ use Rattle.std.specs.Prelude.{ℕ, zero, suc, ◌-◌, ◌%◌, ◌^◌, ◌==�
 use Rattle.val_core.specs.declared.values.Value.{Value}
 use Rattle.val_core.specs.declared.values.Value.TheVariants.{Num, At, Bad}
 use Rattle.val_core.specs.Values.{value1, value2}
-use Rattle.val_core.specs.Memory.{Memory, BlockShape, cleared, pointers_equal, closed}
+use Rattle.val_core.specs.Memory.{Memory, BlockShape, cleared, pointers_equal, closed, cleared_at}
 use Rattle.val_core.specs.Memory as mem
 use Rattle.val_core.specs.Objects.{Addresses, address_in, opened}
 use Rattle.val_core.specs.Events.{wrote, took}
 use Rattle.val_core.specs.Answers.{Answer, Returned, Cut, Exited, Undefined, then_on, on_number, on_defined, active}
 use Rattle.val_core.specs.Within.{Given}
-use Rattle.g_graph.specs.Plain.{PlainObject}
+use Rattle.g_graph.specs.Plain.{PlainObject, shapes_of}
 use Rattle.s_linear.specs.Linear.{Instr, const, undef, object_address, global_address, binary, unary, load, store, clear, equal_pointers, move, call, put, get, exit, Step, plain, choice, loop, Code, no_steps, step_then, Codes, no_codes, code_then, LinearFunction}
 
 -- what the names hold, the memory, and what is left of the input
@@ -53,10 +53,6 @@ gives_memory s m = Returned (record { names = s.names; memory = m; input = s.inp
 abbrev pub got : State → (target : ℕ) → List ℕ → Answer State
 got s t [] = gives s t (Num (2 ^ 32 - 1))
 got s t (b ∷ i) = Returned (record { names = written s.names t (Num b); memory = s.memory; input = i }) (took b ∷ [])
-
-abbrev pub cleared_at : Value → Memory → Option Memory
-cleared_at (At b o) m = Some (cleared b m)
-cleared_at _ m = None
 
 -- after a call
 abbrev pub back_from : State → (target : ℕ) → Given Value → Answer State
@@ -122,9 +118,6 @@ abbrev mutual
 abbrev pub first_names : List Value → (ℕ → Value)
 first_names vs x = slice_index_or vs x Bad
 
-abbrev pub shapes : List PlainObject → List BlockShape
-shapes objects = map (λ o. record { size = o.size; leaves = o.leaves }) objects
-
 -- its objects get blocks after those of the memory, whose lifetimes end with the call
 abbrev pub entered : ℕ → (callees : ℕ → Call) → (global : ℕ → Value) → Option LinearFunction → Call
 entered n callees global None vs m i = Undefined []
@@ -133,7 +126,7 @@ entered n callees global (Some f) vs m i =
     (code_run
     (record { bound = n; call = callees; addresses = record { local = address_in (length m) (map (λ o. o.size) f.objects); global = global } })
     f.code
-    (record { names = first_names vs; memory = m ++ opened (shapes f.objects); input = i }))
+    (record { names = first_names vs; memory = m ++ opened (shapes_of f.objects); input = i }))
     (λ s. Returned (record { value = s.names f.value; memory = closed (length m) (length f.objects) s.memory; input = s.input }) [])
 
 -- a call at a bound: at 0 it is cut, and else it runs at the bound below

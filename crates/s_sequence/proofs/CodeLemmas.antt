@@ -3,14 +3,14 @@ use Rattle.std.proofs.Common.{◌≡◌, ℕ, ◌+◌, List, [], ◌∷◌, ◌+
 use Rattle.std.specs.declared.option.Option.TheVariants.{Some}
 use Rattle.g_graph.specs.declared.op.Kind.{Kind}
 use Rattle.g_graph.specs.declared.op.Origin.{Origin}
-use Rattle.g_graph.specs.Plain.{RegionTree, region, args_of}
+use Rattle.g_graph.specs.Plain.{RegionTree, region, args_of, results_of}
 use Rattle.g_graph.specs.Signatures.{result_kinds}
 use Rattle.s_linear.specs.Linear.{Instr, Code, no_steps}
 use Rattle.s_linear.specs.Lines.{Line, done, label, jump, branch_zero, code_lines, step_lines, numbers_from}
 use Rattle.s_sequence.specs.declared.scope.Scope.{Scope}
 use Rattle.s_sequence.specs.Sequence.{value_args, kept, moves, instrs_then, loop_results, predicate_name, no_names, nodes_named, nodes_names, name_of, nodes_code, branch_code, loop_step, region_names}
 use Rattle.s_sequence.specs.Scope.{port_in, name_in, kind_in}
-use Rattle.s_sequence.specs.Written.{results_in, region_port, region_code, entered_code}
+use Rattle.s_sequence.specs.Written.{region_port, region_code, entered_code}
 
 pub instrs_lines : (first : ℕ) (is : List Instr) (k : Code) → code_lines first (instrs_then is k) ≡ map done is ++ code_lines first k
 instrs_lines first [] k = refl
@@ -20,11 +20,11 @@ module _ (base : ℕ) (scope : Scope) where
   names_are : (r : RegionTree) (results : List Origin) → ((o : Origin) → port_in scope o ≡ region_port base r o) → map (name_in scope) results ≡ map (λ o. (region_port base r o).name) results
   names_are r results ports = λ i. map (λ o. (ports o i).name) results
 
-  pub kinds_written : (r : RegionTree) (results : List Origin) → results ≡ results_in r → ((o : Origin) → port_in scope o ≡ region_port base r o) →
+  pub kinds_written : (r : RegionTree) (results : List Origin) → results ≡ results_of r → ((o : Origin) → port_in scope o ≡ region_port base r o) →
       map (kind_in scope) results ≡ result_kinds r
   kinds_written (region args nodes rs) results e ports = ap (map (kind_in scope)) e ∙ (λ i. map (λ o. (ports o i).kind) rs)
 
-  pub branch_written : (r : RegionTree) (results : List Origin) → results ≡ results_in r → ((o : Origin) → port_in scope o ≡ region_port base r o) →
+  pub branch_written : (r : RegionTree) (results : List Origin) → results ≡ results_of r → ((o : Origin) → port_in scope o ≡ region_port base r o) →
       (entries : List ℕ) (outputs k0 k1 : ℕ) (l0 l1 l2 : List Line) →
       ((k : Code) → l1 ++ code_lines k1 k ≡ l0 ++ code_lines k0 (entered_code entries base r k)) →
       l2 ≡ l1 ++ map done (moves outputs (kept (map (kind_in scope) results) (map (name_in scope) results))) →
@@ -47,7 +47,7 @@ entered_written (region own_args nodes rs) args e entries base k0 l0 l1 f k =
     (sym (instrs_lines k0 moved (region_code base (region own_args nodes rs) k)))
 
 -- a loop: moves in, its label, its nodes, and its end
-pub loop_written : (r : RegionTree) (args : List Kind) (results : List Origin) (names : List ℕ) (scope : Scope) → args ≡ args_of r → results ≡ results_in r → names ≡ map (name_in scope) results →
+pub loop_written : (r : RegionTree) (args : List Kind) (results : List Origin) (names : List ℕ) (scope : Scope) → args ≡ args_of r → results ≡ results_of r → names ≡ map (name_in scope) results →
     (entries : List ℕ) (base k0 : ℕ) (l0 l1 l2 l3 l4 : List Line) (k3 n3 : ℕ) →
     l1 ≡ l0 ++ map done (moves base (kept (map Some args) entries)) → l2 ≡ l1 ++ label k0 ∷ [] →
     ((k : Code) → l3 ++ code_lines k3 k ≡ l2 ++ code_lines (k0 + 2) (region_code base r k)) → n3 ≡ base + region_names r → ((o : Origin) → port_in scope o ≡ region_port base r o) →

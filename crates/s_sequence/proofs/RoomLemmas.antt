@@ -5,11 +5,10 @@ use Rattle.std.specs.declared.option.Option.{Option}
 use Rattle.std.specs.declared.option.Option.TheVariants.{None}
 use Rattle.g_graph.specs.declared.op.Kind.{Kind}
 use Rattle.g_graph.specs.declared.op.Origin.{Origin}
-use Rattle.g_graph.specs.Plain.{RegionTree, region, regions_of, args_of, count_of}
+use Rattle.g_graph.specs.Plain.{RegionTree, region, regions_of, args_of, count_of, results_of}
 use Rattle.g_graph.specs.Signatures.{kind_of, kind_after, result_kinds}
 use Rattle.g_graph.specs.Count.{region_values, regions_values}
 use Rattle.s_sequence.specs.Sequence.{values_in, value_args, region_names}
-use Rattle.s_sequence.specs.Written.{results_in}
 use Rattle.s_sequence.proofs.Named.{args_length, values_length, nodes_names_values}
 
 pub args_room : (r : RegionTree) → value_args (args_of r) < region_values r
@@ -19,7 +18,7 @@ pub loop_room : (r : RegionTree) → value_args (args_of r) ≤ length (args_of 
 loop_room r = args_length (args_of r)
 
 -- the results of a region, whatever their kinds, have names after those of its nodes
-pub exits_room : (r : RegionTree) (results : List Origin) (f : Origin → Option Kind) → results ≡ results_in r → values_in (map f results) + region_names r < region_values r
+pub exits_room : (r : RegionTree) (results : List Origin) (f : Origin → Option Kind) → results ≡ results_of r → values_in (map f results) + region_names r < region_values r
 exits_room (region args nodes rs) results f e =
     omega (arith, values_length (map f results), length-map results f, ap length e, args_length args, nodes_names_values nodes)
 

@@ -7,7 +7,7 @@ use Rattle.g_graph.specs.declared.op.Kind.TheVariants.{Memory, Io}
 use Rattle.g_graph.specs.declared.op.Origin.{Origin}
 use Rattle.g_graph.specs.declared.op.Op.{Op}
 use Rattle.g_graph.specs.declared.op.Op.TheVariants.{Gamma, Theta}
-use Rattle.g_graph.specs.Plain.{RegionTree, region, NodeTree, node, NodeTrees, no_nodes, node_then, nodes_of, RegionTrees, no_regions, region_then, args_of, PlainLambda}
+use Rattle.g_graph.specs.Plain.{RegionTree, region, NodeTree, node, NodeTrees, no_nodes, node_then, nodes_of, RegionTrees, no_regions, region_then, args_of, PlainLambda, results_of}
 use Rattle.g_graph.specs.Signatures.{result_kinds}
 use Rattle.g_graph.specs.Scope.{each_node}
 use Rattle.g_graph.specs.WellFormed.{all_regions, are, same, kinds_of, every_region, every_in_node, every_in_nodes, every_in_regions, inputs_fit, inputs_are_last, node_has_one_state_each, has_its_regions, regions_fit, theta_has_states, has_its_width, has_its_object, node_fits, region_fits, results_are_last, returns_state, region_has_one_state_each, IsWellFormed}
@@ -21,7 +21,7 @@ use Rattle.s_sequence.specs.Sequence.{value_args, no_names, name_of, nodes_named
 use Rattle.s_sequence.specs.Scope.{port_in, name_in}
 use Rattle.s_sequence.specs.Shape.{last_kinds, HasShape, RegionShaped, NodeShaped, NodesShaped, RegionsShaped}
 use Rattle.s_sequence.specs.Writer.{PlainWriter, with_lines}
-use Rattle.s_sequence.specs.Written.{HasRoom, results_in, region_labels, region_code, region_port}
+use Rattle.s_sequence.specs.Written.{HasRoom, region_labels, region_code, region_port}
 use Rattle.s_sequence.proofs.LabelLemmas.{region_labels_values}
 use Rattle.s_sequence.proofs.Instrs.{regions_of_well_formed}
 
@@ -95,14 +95,14 @@ body_shaped l w = region_is_shaped (length l.objects) l.body (regions_of_well_fo
 body_is : (r : RegionTree) → region_code 0 r no_steps ≡ body_code r
 body_is (region args nodes results) = ap (λ n. nodes_code args 0 no_names n nodes no_steps) (zero-add (value_args args))
 
-value_is : (r : RegionTree) (scope : Scope) → ((o : Origin) → port_in scope o ≡ region_port 0 r o) → name_at (map (name_in scope) (results_in r)) 0 ≡ value_name r
+value_is : (r : RegionTree) (scope : Scope) → ((o : Origin) → port_in scope o ≡ region_port 0 r o) → name_at (map (name_in scope) (results_of r)) 0 ≡ value_name r
 value_is (region args nodes rs) scope ports =
     (λ i. name_at (map (λ o. (ports o i).name) rs) 0) ∙ (λ i. name_at (map (λ o. name_of args 0 (nodes_named nodes (zero-add (value_args args) i) no_names) o) rs) 0)
 
 -- the lines of a body after those that enter, and the line that leaves
 pub body_written : (r : RegionTree) (scope : Scope) (value : ℕ) (w1 w2 w3 : PlainWriter) (heads : List Line) → w1 ≡ record { lines = heads; next = 0; label = 0 } →
     ((k : Code) → w2.lines ++ code_lines w2.label k ≡ w1.lines ++ code_lines w1.label (region_code w1.next r k)) → ((o : Origin) → port_in scope o ≡ region_port w1.next r o) →
-    value ≡ name_at (map (name_in scope) (results_in r)) 0 → w3 ≡ with_lines w2 (leave value ∷ []) → w3.lines ≡ (heads ++ code_lines 0 (body_code r)) ++ leave (value_name r) ∷ []
+    value ≡ name_at (map (name_in scope) (results_of r)) 0 → w3 ≡ with_lines w2 (leave value ∷ []) → w3.lines ≡ (heads ++ code_lines 0 (body_code r)) ++ leave (value_name r) ∷ []
 body_written r scope value w1 w2 w3 heads begins body ports e f =
     let own : w2.lines ≡ heads ++ code_lines 0 (body_code r) =
     sym (append-nil w2.lines) ∙ body no_steps ∙ ap (λ (w : PlainWriter). w.lines ++ code_lines w.label (region_code w.next r no_steps)) begins ∙ ap (λ c. heads ++ code_lines 0 c) (body_is r) in

@@ -43,9 +43,6 @@ abbrev mutual
   regions_labels no_regions = 0
   regions_labels (region_then r rs) = region_labels r + regions_labels rs
 
-abbrev pub results_in : RegionTree → List Origin
-results_in (region args nodes results) = results
-
 -- the code of a region's nodes, and then `k`
 abbrev pub region_code : (base : ℕ) → RegionTree → Code → Code
 region_code base (region args nodes results) k = nodes_code args base no_names (base + value_args args) nodes k

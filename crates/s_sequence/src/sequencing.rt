@@ -4,7 +4,7 @@ ghost use Rattle.g_graph.specs.WellFormed.{IsWellFormed};
 ghost use Rattle.s_linear.specs.Lines.{lines};
 ghost use Rattle.s_sequence.specs.Sequence.{sequenced, name_at};
 ghost use Rattle.s_sequence.specs.Scope.{name_in};
-ghost use Rattle.s_sequence.specs.Written.{results_in};
+ghost use Rattle.g_graph.specs.Plain.{results_of};
 
 use crate::moves::numbers;
 use crate::ops::name_at;
@@ -45,7 +45,7 @@ fn write_lambda(alloc: Global, w: &mut Writer, lambda: &Lambda) -> Result<(), No
 
 // The name of the first result of a body.
 fn value_of(scope: &Scope, body: &Region) -> u32
-    ensures { result ≡ name_at (map (name_in scope.now) (results_in body.now)) 0 }
+    ensures { result ≡ name_at (map (name_in scope.now) (results_of body.now)) 0 }
 {
     name_at(scope, &body.results, 0)
 }

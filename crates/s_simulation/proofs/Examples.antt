@@ -15,12 +15,12 @@ use Rattle.g_graph.specs.declared.op.Op.{Op}
 use Rattle.g_graph.specs.declared.op.Op.TheVariants.{Const, Local, Delta, Bin, Load, Store, Apply, Put, Exit, Get, Gamma, Theta}
 use Rattle.g_graph.specs.Plain.{region, NodeTree, node, no_regions, nodes_of, regions_of, PlainObject, PlainLambda, PlainOmega}
 use Rattle.g_graph.specs.WellFormed.{well_formed}
-use Rattle.g_mean.specs.Data.{Datum, val, memory, input}
+use Rattle.g_mean.specs.Data.{Datum, val, memory, input, taken}
 use Rattle.g_mean.specs.Calls.{applied, program_at}
 use Rattle.s_linear.specs.Linear.{const, binary, move, choice, loop, Code, no_steps, step_then, no_codes, code_then, LinearFunction}
 use Rattle.s_linear.specs.Meaning.{calls}
 use Rattle.s_sequence.specs.Sequence.{sequenced, instrs_then}
-use Rattle.s_simulation.specs.Agreement.{Agrees, taken, GivesBack}
+use Rattle.s_simulation.specs.Agreement.{Agrees, GivesBack}
 use Rattle.s_simulation.specs.Closed.{target_of, NameSet, CodeIsClosed}
 use Rattle.s_simulation.specs.Programs.{linear_program_at}
 

@@ -23,10 +23,6 @@ AreLessDefined [] [] = Unit {0}
 AreLessDefined (v ∷ vs) (w ∷ ws) = IsLessDefined v w × AreLessDefined vs ws
 AreLessDefined _ _ = ⊥
 
--- what a lambda takes: its arguments, the memory and the input
-abbrev pub taken : List Value → Blocks → List ℕ → List Datum
-taken vs m i = map val vs ++ memory m ∷ input i ∷ []
-
 -- A lambda gives back what its linear code does: the memory, the input, and a value for which that of the code may stand.
 pub record GivesBack (ys : List Datum) (g : Given Value) : Type 0 where
   pub value : Value

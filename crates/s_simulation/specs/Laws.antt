@@ -7,9 +7,10 @@ use Rattle.g_graph.specs.Plain.{PlainLambda, PlainOmega}
 use Rattle.g_graph.specs.WellFormed.{IsWellFormed}
 use Rattle.g_mean.specs.Kinds.{AreWellFormed}
 use Rattle.g_mean.specs.Calls.{applied, program_at}
+use Rattle.g_mean.specs.Data.{taken}
 use Rattle.s_linear.specs.Meaning.{calls}
 use Rattle.s_sequence.specs.Sequence.{sequenced}
-use Rattle.s_simulation.specs.Agreement.{Agrees, AreLessDefined, taken, GivesBack, AreWithin}
+use Rattle.s_simulation.specs.Agreement.{Agrees, AreLessDefined, GivesBack, AreWithin}
 use Rattle.s_simulation.specs.Programs.{linear_program_at}
 use Rattle.s_simulation.specs.Closed.{FunctionIsClosed}
 

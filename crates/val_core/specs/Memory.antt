@@ -84,6 +84,11 @@ zeroed k = record k { cells = map cell_zeroed k.cells }
 abbrev pub cleared : BlockName → Memory → Memory
 cleared b m = block_changed b.number zeroed m
 
+-- the object at an address cleared
+abbrev pub cleared_at : Value → Memory → Option Memory
+cleared_at (At b offset) m = Some (cleared b m)
+cleared_at _ m = None
+
 -- the lifetime of the block has ended
 abbrev pub dead : Block → Block
 dead k = record k { live = false }

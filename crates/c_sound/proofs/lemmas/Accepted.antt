@@ -20,6 +20,7 @@ use Rattle.c_static.specs.Types.{same_type}
 use Rattle.c_static.proofs.lemmas.SameType.{same_type-true}
 use Rattle.c_scope.specs.Scopes.{Name, same_name, meaning}
 use Rattle.c_scope.specs.Names.{number_of, has_name, with_name}
+use Rattle.c_scope.proofs.LatestLemmas.{same-self}
 use Rattle.c_elaboration.specs.declared.rule.Broken.{Broken}
 use Rattle.c_elaboration.specs.declared.rule.Quantity.{Quantity}
 use Rattle.c_elaboration.specs.declared.rule.Quantity.TheVariants.{Parameters}
@@ -36,7 +37,7 @@ use Rattle.c_sound.proofs.lemmas.There.{FunctionTyped}
 use Rattle.c_sound.proofs.lemmas.Shapes.{in_range, well_shaped}
 use Rattle.c_sound.proofs.lemmas.Parts.{Layouts}
 use Rattle.c_sound.proofs.lemmas.File.{Onward, onward_step, File}
-use Rattle.c_sound.proofs.lemmas.Names.{same_self, name_at, get_map}
+use Rattle.c_sound.proofs.lemmas.Names.{name_at, get_map}
 use Rattle.c_sound.proofs.lemmas.FunctionBodies.{ending_of, Ended, map_length}
 use Rattle.c_sound.proofs.lemmas.TypedFunctions.{map_back}
 use Rattle.c_sound.proofs.lemmas.Locals.{get_append_cases}
@@ -155,7 +156,7 @@ AreDistinctNames names = (j k : ℕ) (name : Name) → slice_get names j ≡ Som
 
 has_at : (names : List Name) (k : ℕ) (name : Name) → slice_get names k ≡ Some name → has_name names name ≡ true
 has_at [] k name h = absurd (cc)
-has_at (x ∷ names) zero name h = let same : x ≡ name = cc in ap (λ b. b || has_name names name) (ap (same_name name) same ∙ same_self name)
+has_at (x ∷ names) zero name h = let same : x ≡ name = cc in ap (λ b. b || has_name names name) (ap (same_name name) same ∙ same-self name)
 has_at (x ∷ names) (suc k) name h = or_right (same_name name x) (has_name names name) (has_at names k name h)
   where
     or_right : (a b : Bool) → b ≡ true → (a || b) ≡ true
@@ -275,7 +276,7 @@ end_typed z h main limits typed =
       few_globals = omega (arith, few);
     }
 
-abbrev last_state : Tree → State
+abbrev pub last_state : Tree → State
 last_state t = (externals t (initial_state (defined_in t))).1
 
 file_typed : Layouts → (t : Tree) → FollowsGrammar t → All IsInRange (spell t) → length (spell t) ≤ most_tokens → (last_state t).broken ≡ None → has_main (last_state t) ≡ true →

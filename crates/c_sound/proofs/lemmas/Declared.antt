@@ -8,6 +8,7 @@ use Rattle.c_type.specs.Trees.{TypeTree, array_of}
 use Rattle.c_type.specs.WellDefined.{AreDefinitions}
 use Rattle.c_typed.specs.Typed.{no_initial, DeclarationTree, VariableTree}
 use Rattle.c_typed.specs.WellTyped.{Scope, Jumps, extended, int, IsBegunAs, InitialFits, initial_scope}
+use Rattle.c_typed.specs.Objects.{object_by}
 use Rattle.c_static.specs.Types.{is_scalar}
 use Rattle.c_scope.specs.Scopes.{Name, meaning, is_declared}
 use Rattle.c_elaboration.specs.declared.meaning.Meaning.TheVariants as means
@@ -18,7 +19,7 @@ use Rattle.c_elaboration.specs.Initialisers.{Elements, initial, initialiser, com
 use Rattle.c_elaboration.specs.Leaves.{offset_of, name_of, count_of, is_present}
 use Rattle.c_elaboration.specs.Specifiers.{Specified, specified_type}
 use Rattle.c_elaboration.specs.Declarators.{open_dimensions, is_fixed, is_named, initialise_variable, variable_declared, variable_declarator, declarator, more_declarators}
-use Rattle.c_sound.proofs.lemmas.States.{Ending, object_by, is_object_then, type_now, slots_in, shown, shown_append, Step, Fits, VariableFitsNow, FunctionFits, NamesFit, names_step, At, at_step, structs_at, same_at, same_length}
+use Rattle.c_sound.proofs.lemmas.States.{Ending, is_object_then, type_now, slots_in, shown, shown_append, Step, Fits, VariableFitsNow, FunctionFits, NamesFit, names_step, At, at_step, structs_at, same_at, same_length}
 use Rattle.c_sound.proofs.lemmas.Steps.{breaks_if_steps, specified_type_steps}
 use Rattle.c_sound.proofs.lemmas.StatementSteps.{MayBegin, WellShaped, open_dimensions_steps, object_type_steps, initialise_later, declarator_later, more_declarators_later, Begun, begun_step, change_new, declare_later, declare_slots, initialiser_steps}
 use Rattle.c_sound.proofs.lemmas.Terms.{InRange, get_end, set_there}

@@ -6,6 +6,7 @@ use Rattle.c_type.specs.Layout.{Definitions, IsLaidOut}
 use Rattle.c_type.specs.WellDefined.{AreDefinitions}
 use Rattle.c_typed.specs.Typed.{FunctionTree, VariableTree, ProgramTree}
 use Rattle.c_typed.specs.WellTyped.{IsScalar, VariableFits, VariablesFit, AreScalar, signature_of}
+use Rattle.c_typed.specs.Objects.{object_by}
 use Rattle.c_static.specs.Types.{is_scalar}
 use Rattle.c_scope.specs.Scopes.{Name, meaning, with_declaration}
 use Rattle.c_elaboration.specs.declared.meaning.Meaning.{Meaning}
@@ -13,7 +14,7 @@ use Rattle.c_elaboration.specs.declared.meaning.Meaning.TheVariants as means
 use Rattle.c_elaboration.specs.declared.rule.Rule.TheVariants.{BadType}
 use Rattle.c_elaboration.specs.State.{Variable, State, breaks_if}
 use Rattle.c_elaboration.specs.Externals.{Param, bind_if, bind_params, name_params, variable_tree}
-use Rattle.c_sound.proofs.lemmas.States.{Ending, object_by, is_object_then, type_now, slots_in, Step, stay, step_then, FunctionFits, NamesFit, AllTypes}
+use Rattle.c_sound.proofs.lemmas.States.{Ending, is_object_then, type_now, slots_in, Step, stay, step_then, FunctionFits, NamesFit, AllTypes}
 use Rattle.c_sound.proofs.lemmas.Steps.{breaks_if_steps}
 use Rattle.c_sound.proofs.lemmas.Later.{AreMore, Later, later_then, stay_still, declare_after, entered}
 use Rattle.c_sound.proofs.lemmas.Locals.{declared_meaning}

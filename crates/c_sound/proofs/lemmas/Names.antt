@@ -16,10 +16,7 @@ use Rattle.c_elaboration.specs.declared.meaning.Meaning.{Meaning}
 use Rattle.c_elaboration.specs.declared.meaning.Meaning.TheVariants as means
 use Rattle.c_elaboration.specs.State.{MaybeType, Declared, State}
 use Rattle.c_sound.proofs.lemmas.States.{AllTypes}
-use Rattle.c_scope.proofs.LatestLemmas.{same-equal}
-
-pub same_self : (x : Name) → same_name x x ≡ true
-same_self x = (bytes_eq-Decides x x).1 refl
+use Rattle.c_scope.proofs.LatestLemmas.{same-equal, same-self}
 
 -- a name that is declared keeps its meaning where another is declared
 pub kept_meaning : (x : Scope Meaning) (name : Name) (m : Meaning) (asked : Name) (n : Meaning) → is_declared (x ∷ []) name ≡ false → meaning (x ∷ []) asked ≡ Some n →
@@ -45,7 +42,7 @@ kept_new x name m asked n new h = by_test (same_name asked name) refl
 
 -- the name that is declared has its new meaning
 pub new_meaning : (x : Scope Meaning) (name : Name) (m : Meaning) → meaning (with_declaration (x ∷ []) name m) name ≡ Some m
-new_meaning x name m = ap (λ b. option_or (cond b (Some m) (lookup (same_name name) x)) None) (same_self name)
+new_meaning x name m = ap (λ b. option_or (cond b (Some m) (lookup (same_name name) x)) None) (same-self name)
 
 -- ---- numbers of names
 

@@ -10,11 +10,12 @@ use Rattle.c_typed.specs.Typed as typed
 use Rattle.c_typed.specs.Typed.{ExprTree, OptionalExpr, StmtTree, ItemTrees, no_items, stmt_then, declare_then, VariableTree}
 use Rattle.c_typed.specs.WellTyped as well
 use Rattle.c_typed.specs.WellTyped.{Scope, extended, IsScalar, IsPromoted, IsBegunAs, type_of, ExprIsTyped, IsCondition, OptionalIsTyped, IsOptionalCondition, InitialFits, initial_scope, AreStatements, StmtIsTyped, ItemsAreTyped, GroupsAreTyped}
+use Rattle.c_typed.specs.StmtViews.{optional_of}
 use Rattle.c_static.specs.declared.operand.Operand.{Operand}
 use Rattle.c_static.specs.Operands.{value_of}
 use Rattle.c_static.specs.Types.{is_unsigned}
 use Rattle.c_static.specs.Conversions.{converts, may_convert, converted}
-use Rattle.c_static.specs.Operators.{condition_of}
+use Rattle.c_static.specs.Operators.{condition_of, plus_by}
 use Rattle.c_elaboration.specs.declared.rule.Rule.TheVariants.{BadOperands, BadReturn, BadJump}
 use Rattle.c_elaboration.specs.State.{Variable, State, or_broken, if_some}
 use Rattle.c_elaboration.specs.Leaves.{offset_of, begin_of}
@@ -23,7 +24,7 @@ use Rattle.c_elaboration.specs.Operands.{Term}
 use Rattle.c_elaboration.specs.Calls.{passed}
 use Rattle.c_elaboration.specs.Expressions.{expressions}
 use Rattle.c_elaboration.specs.Declarators.{items_joined, locals}
-use Rattle.c_elaboration.specs.Statements.{Jumps, in_loop, in_switch, whole, condition, integer_by, integer_of, subject, condition_clause, value_clause, optional, value_stmt, if_stmt, with_else, do_stmt, switch_stmt, return_stmt, returned, next_group, label, more_labels, Groups, value_items, for_start, statement, items, groups, group}
+use Rattle.c_elaboration.specs.Statements.{Jumps, in_loop, in_switch, whole, condition, integer_of, subject, condition_clause, value_clause, value_stmt, if_stmt, with_else, do_stmt, switch_stmt, return_stmt, returned, next_group, label, more_labels, Groups, value_items, for_start, statement, items, groups, group}
 use Rattle.c_sound.specs.TypedOperands.{IfSome, ObjectsFit}
 use Rattle.c_sound.proofs.lemmas.Options.{and_then_holds, if_holds}
 use Rattle.c_sound.proofs.lemmas.Values.{value_typed, unsigned_promoted, ScalarValue, ValueOf, promoted_typed, converts_typed}
@@ -104,7 +105,7 @@ record PromotedValue (c : Scope) (e : ExprTree) : Type 0 where
   typed : ExprIsTyped c e
   promoted : IsPromoted (type_of e)
 
-integer_typed : (c : Scope) (t : TypeTree) (e : ExprTree) → ExprIsTyped c e → type_of e ≡ t → IfSome (PromotedValue c) (integer_by t e)
+integer_typed : (c : Scope) (t : TypeTree) (e : ExprTree) → ExprIsTyped c e → type_of e ≡ t → IfSome (PromotedValue c) (plus_by t e)
 integer_typed c (scalar_type s) e ty h = let p = promoted_typed c s e ty h in record { typed = p.typed; promoted = subst IsPromoted (sym p.type) (unsigned_promoted (is_unsigned s)) }
 integer_typed c t e ty h = tt
 
@@ -112,7 +113,7 @@ subject_typed : (c : Scope) (offset : ℕ) (a : Term) (s : State) → ObjectsFit
 subject_typed c offset None s fit ty = tt
 subject_typed c offset (Some a) s fit ty =
     or_broken_holds (PromotedValue c) BadOperands offset (integer_of a) s
-    (and_then_holds (ExprIsTyped c) (PromotedValue c) (λ e. integer_by (type_of e) e) (value_of a) (value_typed c a fit ty) (λ e te. integer_typed c (type_of e) e te refl))
+    (and_then_holds (ExprIsTyped c) (PromotedValue c) (λ e. plus_by (type_of e) e) (value_of a) (value_typed c a fit ty) (λ e te. integer_typed c (type_of e) e te refl))
 
 condition_clause_typed : (e : Ending) (c : Scope) (offset : ℕ) (t : Tree) (s : State) → InRange t → At e c s → Fits e (condition_clause offset t s).1 →
     IfSome (ScalarValue c) (condition_clause offset t s).0
@@ -131,11 +132,11 @@ value_clause_typed e c (Node (l.Present k) (Cons x none)) s r h fit =
     whole_typed c (begin_of x) a.0 a.1 (objects_fit e c a.1 ha fa) (expressions_typed e c x s r.0 h fa)
 value_clause_typed e c t s r h fit = tt
 
-optional_condition : (c : Scope) (o : Option ExprTree) → IfSome (ScalarValue c) o → IsOptionalCondition c (optional o)
+optional_condition : (c : Scope) (o : Option ExprTree) → IfSome (ScalarValue c) o → IsOptionalCondition c (optional_of o)
 optional_condition c None h = tt
 optional_condition c (Some e) h = (h.typed, h.scalar)
 
-optional_value : (c : Scope) (o : Option ExprTree) → IfSome (ExprIsTyped c) o → OptionalIsTyped c (optional o)
+optional_value : (c : Scope) (o : Option ExprTree) → IfSome (ExprIsTyped c) o → OptionalIsTyped c (optional_of o)
 optional_value c None h = tt
 optional_value c (Some e) h = h
 
@@ -318,12 +319,12 @@ mutual
       let hd = at_step e o.scope is.1 d.1 sd o.here in
       let hy = at_step e o.scope d.1 step.1 sy hd in
       let body = statement_typed e ls o.scope (in_loop j) (well.in_loop q) t step.1 r.1.1.1.1.1.1.1.0 w.1.1.1.1.1.1.1.0 gy (loop_jumps j q m) hy eb in
-      let turn : StmtIsTyped o.scope q (typed.loop (optional d.0) (optional step.0) b.0) = (
+      let turn : StmtIsTyped o.scope q (typed.loop (optional_of d.0) (optional_of step.0) b.0) = (
         optional_condition o.scope d.0 (condition_clause_typed e o.scope (offset_of word) x is.1 r.1.1.1.0 o.here fd),
         optional_value o.scope step.0 (value_clause_typed e o.scope y d.1 r.1.1.1.1.1.0 hd ey.fits),
         body,
       ) in
-      lead_typed c o.scope q (items_joined is.0 (stmt_then (typed.loop (optional d.0) (optional step.0) b.0) no_items)) (lead_joined c o.scope o.scope q is.0 _ o.lead (turn, refl))
+      lead_typed c o.scope q (items_joined is.0 (stmt_then (typed.loop (optional_of d.0) (optional_of step.0) b.0) no_items)) (lead_joined c o.scope o.scope q is.0 _ o.lead (turn, refl))
   statement_typed e ls c j q (Node l.Break (Cons word more)) s r w g m h ends =
       sym m.breaks ∙ allowed j.may_break (not_wrong (if j.may_break then false else true) BadJump (offset_of word) s ends.fits.clean)
   statement_typed e ls c j q (Node l.Continue (Cons word more)) s r w g m h ends =

@@ -4,6 +4,7 @@ use Rattle.std.specs.Prelude.{slice_get, Option, None, Some, option_and_then, un
 use Rattle.c_type.specs.Trees.{TypeTree, void_type}
 use Rattle.c_typed.specs.Typed.{VariableTree}
 use Rattle.c_typed.specs.WellTyped.{Signature, Scope, int}
+use Rattle.c_typed.specs.Objects.{object_by}
 use Rattle.c_static.specs.Types.{is_scalar}
 use Rattle.c_scope.specs.Scopes.{Name, meaning}
 use Rattle.c_scope.specs.Names.{number_of}
@@ -21,10 +22,6 @@ pub record Ending : Type 0 where
   pub globals : List TypeTree
   pub variables : List VariableTree
   pub hides : Bool
-
-abbrev pub object_by : Option VariableTree → Bool
-object_by None = false
-object_by (Some v) = v.is_object
 
 -- whether a variable is an object at the end
 abbrev pub is_object_then : Ending → (variable : ℕ) → Bool

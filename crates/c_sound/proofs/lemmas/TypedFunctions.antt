@@ -11,13 +11,14 @@ use Rattle.c_type.specs.WellDefined.{AreDefinitions}
 use Rattle.c_typed.specs.Typed.{VariableTree}
 use Rattle.c_typed.specs.WellTyped as well
 use Rattle.c_typed.specs.WellTyped.{int, Scope, IsScalarOrVoid, ItemsAreTyped, signature_of, scope_of, FunctionIsTyped}
+use Rattle.c_typed.specs.Objects.{object_by}
 use Rattle.c_static.specs.Types.{is_scalar}
 use Rattle.c_scope.specs.Scopes.{Name}
 use Rattle.c_elaboration.specs.State.{MaybeType, Global, Variable, State}
 use Rattle.c_elaboration.specs.Statements.{Jumps, items}
 use Rattle.c_elaboration.specs.Externals.{Param, variable_tree, function_tree}
 use Rattle.c_elaboration.specs.Check.{global_tree, program_of}
-use Rattle.c_sound.proofs.lemmas.States.{object_by, is_object_then, type_now, slots_in, scope_in, Fits}
+use Rattle.c_sound.proofs.lemmas.States.{is_object_then, type_now, slots_in, scope_in, Fits}
 use Rattle.c_sound.proofs.lemmas.Terms.{InRange}
 use Rattle.c_sound.proofs.lemmas.Later.{AreMore, more_at, more_length}
 use Rattle.c_sound.proofs.lemmas.StatementSteps.{WellShaped, items_later}

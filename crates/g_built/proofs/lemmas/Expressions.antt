@@ -14,7 +14,7 @@ use Rattle.c_typed.specs.declared.operator.CompoundOp.{CompoundOp}
 use Rattle.c_typed.specs.declared.operator.CompoundOp.TheVariants as compound_op
 use Rattle.c_typed.specs.declared.operator.IncDec.{IncDec}
 use Rattle.c_typed.specs.Typed.{ExprTree, expr, FormTree, constant, read, address, unary, binary, logical_and, logical_or, conditional, comma, assign, compound, inc_dec, call, get, ExprTrees, no_exprs, expr_then, PlaceTree, place, PlaceFormTree, local, global, at, member, VariableTree}
-use Rattle.c_typed.specs.WellTyped.{Scope, Signature, type_of, types_of, ExprIsTyped, FormIsTyped, ExprsAreTyped, PlaceIsTyped, PlaceFormIsTyped}
+use Rattle.c_typed.specs.WellTyped.{Scope, Signature, type_of, types_of, ExprIsTyped, FormIsTyped, ExprsAreTyped, PlaceIsTyped, PlaceFormIsTyped, step_op}
 use Rattle.g_graph.specs.declared.op.Kind.TheVariants.{Value}
 use Rattle.g_graph.specs.declared.op.Origin.{Origin}
 use Rattle.g_graph.specs.Lists.{HasCallee}
@@ -22,7 +22,7 @@ use Rattle.g_formation.specs.Formation.{Standing}
 use Rattle.g_construct.specs.Writer.{Point, Built, given, bind, one_value, void_value, choice}
 use Rattle.g_construct.specs.Places.{spot_address, spot_read, spot_written, member_spot}
 use Rattle.g_construct.specs.Operations.{const_made, delta_made, bin_made, un_made, apply_made, put_made, is_not_zero_made, condition_made, converted_made}
-use Rattle.g_construct.specs.Expressions.{unary_made, binary_made, compound_made, step_op, stepped_made, conditional_extra, expr_made, form_made, tested, commas_made, arguments_made, place_made, place_form_made}
+use Rattle.g_construct.specs.Expressions.{unary_made, binary_made, compound_made, stepped_made, conditional_extra, expr_made, form_made, tested, commas_made, arguments_made, place_made, place_form_made}
 use Rattle.c_typed.specs.Objects.{object_number}
 use Rattle.g_built.proofs.lemmas.Stands.{Frame, IsValue, NoValue, Stands, Made, MadeInside}
 use Rattle.g_built.proofs.lemmas.Parts.{then_made, given_made, nothing_made, one_value_fits, void_value_fits, choice_made}

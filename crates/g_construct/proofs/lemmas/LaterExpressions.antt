@@ -17,7 +17,7 @@ use Rattle.c_typed.specs.declared.operator.CompoundOp.{CompoundOp}
 use Rattle.c_typed.specs.declared.operator.CompoundOp.TheVariants as compound_op
 use Rattle.c_typed.specs.declared.operator.IncDec.{IncDec}
 use Rattle.c_typed.specs.Typed.{ExprTree, expr, FormTree, constant, read, address, unary, binary, logical_and, logical_or, conditional, comma, assign, compound, inc_dec, call, get, ExprTrees, no_exprs, expr_then, PlaceTree, place, PlaceFormTree, local, global, at, member}
-use Rattle.c_typed.specs.WellTyped.{type_of}
+use Rattle.c_typed.specs.WellTyped.{type_of, step_op}
 use Rattle.g_graph.specs.declared.op.Origin.{Origin}
 use Rattle.g_graph.specs.declared.op.Origin.TheVariants.{Out}
 use Rattle.g_graph.specs.declared.op.Op.{Op}
@@ -26,7 +26,7 @@ use Rattle.g_construct.specs.Writer.{SlotOrigin, held, object, hidden, variable_
 use Rattle.g_construct.specs.Operations.{value_node, const_made, local_made, delta_made, bin_made, un_made, ptr_eq_made, load_made, store_made, apply_made, put_made, converted_made, extended_made, read_made, is_zero_made, is_not_zero_made, is_null_made, not_made, condition_made, less_op, equal_made, not_equal_made, compared_made, moved_made, difference_made, at_offset_made}
 use Rattle.c_typed.specs.Objects.{access_width}
 use Rattle.g_construct.specs.Places.{Spot, in_slot, at_address, address_spot, slot_spot, member_spot, spot_address, spot_read, spot_written}
-use Rattle.g_construct.specs.Expressions.{unary_made, binary_made, compound_made, step_op, stepped_made, conditional_extra, expr_made, form_made, tested, commas_made, arguments_made, place_made, place_form_made}
+use Rattle.g_construct.specs.Expressions.{unary_made, binary_made, compound_made, stepped_made, conditional_extra, expr_made, form_made, tested, commas_made, arguments_made, place_made, place_form_made}
 use Rattle.g_construct.specs.Laws.{Later}
 use Rattle.g_construct.proofs.lemmas.Later.{Keeps, later_here, bind_later, node_later, choice_later, set_later}
 

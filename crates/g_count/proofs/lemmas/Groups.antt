@@ -1,5 +1,6 @@
 -- Items and groups by index.
 use Rattle.std.proofs.Common.{◌≡◌, ℕ, zero, suc, ◌+◌, ◌<◌, ◌≤◌, Bool, true, false, ◌||◌, not, List, [], ◌∷◌, drop, get_or, length, refl, sym, ap, ◌∙◌, arith, drop-cons}
+use Rattle.std.proofs.Math.Bool.{or-true}
 use Rattle.c_typed.specs.Typed.{StmtTree, group_then}
 use Rattle.c_typed.specs.StmtViews.{items_of, groups_of}
 use Rattle.c_typed.specs.declared.statement.Group.{Group}
@@ -73,17 +74,13 @@ group_weight gs i g e h =
 
 -- ---- the ends of segments
 
-or_true : (b : Bool) → (b || true) ≡ true
-or_true true = refl
-or_true false = refl
-
 or_false : (b : Bool) → (b || false) ≡ b
 or_false true = refl
 or_false false = refl
 
 pub ends_at_last : (gs : List Group) (i : ℕ) → i + 1 ≡ length gs → true ≡ first_ends (groups_of (drop i gs))
 ends_at_last [] i e = let no : ⊥ = omega (arith, e) in absurd no
-ends_at_last (g ∷ []) zero e = sym (or_true (ends_with_jump (items_of g.body.items)))
+ends_at_last (g ∷ []) zero e = sym (or-true (ends_with_jump (items_of g.body.items)))
 ends_at_last (g ∷ h ∷ gs) zero e = let no : ⊥ = omega (arith, e) in absurd no
 ends_at_last (g ∷ gs) (suc i) e = let k : i + 1 ≡ length gs = omega (arith, e) in ends_at_last gs i k
 

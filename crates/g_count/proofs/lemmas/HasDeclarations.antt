@@ -8,14 +8,14 @@ use Rattle.g_graph.specs.declared.op.Origin.TheVariants.{Arg, Out}
 use Rattle.g_graph.specs.declared.op.Op.TheVariants.{Undef, Clear}
 use Rattle.g_construct.specs.Writer.{SlotOrigin, held, object, hidden, Point, with_go, with_go_and_ret, pushed, Built, nothing, bind, dropped, no_value, one_value, choice, repeat}
 use Rattle.g_construct.specs.Operations.{const_made, undef_made, local_made, bin_made, store_made, clear_made, at_offset_made, is_zero_made}
-use Rattle.c_typed.specs.Objects.{access_width, object_number}
+use Rattle.c_typed.specs.Objects.{access_width, object_number, object_by}
 use Rattle.g_construct.specs.Expressions.{expr_made, tested}
 use Rattle.g_construct.specs.Jumps.{jump_made, return_made, jump_ended, break_ended, unless_left, optional_tested, step_made, again_made, turn_made, loop_made, do_again_made, do_made}
 use Rattle.g_construct.specs.Statements.{object_stored, element_stored, characters_made, elements_made, value_begun, object_begun, variable_begun, declared_as, declared_made}
 use Rattle.g_construct.specs.Laws.{shape, Later, variable_shape, shape_as, declared_shape}
 use Rattle.g_construct.proofs.lemmas.Programs.{values_in, values_append}
 use Rattle.g_construct.proofs.lemmas.LaterStatements.{declared_later}
-use Rattle.g_count.specs.Values.{choice_values, expr_values, leaving_values, jump_ended_values, optional_tested_values, step_values, again_values, loop_values, do_again_values, do_values, elements_values, value_values, object_values, object_as, declared_object, variable_values, declared_values_as, declared_values, more_carried}
+use Rattle.g_count.specs.Values.{choice_values, expr_values, leaving_values, jump_ended_values, optional_tested_values, step_values, again_values, loop_values, do_again_values, do_values, elements_values, value_values, object_values, declared_object, variable_values, declared_values_as, declared_values, more_carried}
 use Rattle.g_count.proofs.lemmas.Has.{Seen, Sees, Has, Counts, has_equal, given_has, bind_has, node_has, dropped_has, value_count, last_count, marks, numbered_counted, numbered_marks, no_value_gives, one_value_gives, choice_has, repeat_has}
 use Rattle.g_count.proofs.lemmas.HasExpressions.{const_has, bin_has, local_has, store_has, is_zero_has, at_offset_has, expr_has, tested_has}
 
@@ -81,7 +81,7 @@ shape_pushed : (v : Seen) (s : Point) (b : Bool) (k : ℕ) → Sees v s → Sees
 shape_pushed v s false k h = value_pushed v s (Arg 0) h
 shape_pushed v s true k h = object_pushed v s k h
 
-shape_as_pushed : (v : Seen) (s : Point) (vs : List VariableTree) (k : ℕ) (x : Option VariableTree) → Sees v s → Sees (seen_more (object_as x) v) (pushed (shape_as vs k x) s)
+shape_as_pushed : (v : Seen) (s : Point) (vs : List VariableTree) (k : ℕ) (x : Option VariableTree) → Sees v s → Sees (seen_more (object_by x) v) (pushed (shape_as vs k x) s)
 shape_as_pushed v s vs k None h = value_pushed v s (Arg 0) h
 shape_as_pushed v s vs k (Some x) h = shape_pushed v s x.is_object (object_number vs k) h
 
@@ -255,5 +255,5 @@ declared_has v vs d s h =
     let x : Option VariableTree = slice_get vs d.variable in
     record {
       values = declared_as_counted v vs d x s h;
-      sees = sees_later (seen_more (object_as x) v) (pushed (declared_shape vs d) s) (declared_made vs d s).after (declared_later vs d s) (shape_as_pushed v s vs d.variable x h);
+      sees = sees_later (seen_more (object_by x) v) (pushed (declared_shape vs d) s) (declared_made vs d s).after (declared_later vs d s) (shape_as_pushed v s vs d.variable x h);
     }

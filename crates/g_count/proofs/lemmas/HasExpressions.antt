@@ -17,7 +17,7 @@ use Rattle.c_typed.specs.declared.operator.CompoundOp.{CompoundOp}
 use Rattle.c_typed.specs.declared.operator.CompoundOp.TheVariants as compound_op
 use Rattle.c_typed.specs.declared.operator.IncDec.{IncDec}
 use Rattle.c_typed.specs.Typed.{ExprTree, expr, FormTree, constant, read, address, unary, binary, logical_and, logical_or, conditional, comma, assign, compound, inc_dec, call, get, ExprTrees, no_exprs, expr_then, PlaceTree, place, local, global, at, member}
-use Rattle.c_typed.specs.WellTyped.{type_of}
+use Rattle.c_typed.specs.WellTyped.{type_of, step_op}
 use Rattle.g_graph.specs.declared.op.Origin.{Origin}
 use Rattle.g_graph.specs.declared.op.Origin.TheVariants.{Out}
 use Rattle.g_graph.specs.declared.op.Op.TheVariants.{Const, Local, Delta, Bin, Un, Load, Store, PtrEq, Apply, Put, Exit, Get}
@@ -25,7 +25,7 @@ use Rattle.g_construct.specs.Writer.{SlotOrigin, held, object, hidden, variable_
 use Rattle.g_construct.specs.Operations.{const_made, local_made, delta_made, bin_made, un_made, ptr_eq_made, load_made, store_made, apply_made, put_made, converted_made, extended_made, read_made, is_zero_made, is_not_zero_made, is_null_made, not_made, condition_made, less_op, equal_made, not_equal_made, compared_made, moved_made, difference_made, at_offset_made}
 use Rattle.c_typed.specs.Objects.{access_width}
 use Rattle.g_construct.specs.Places.{Spot, in_slot, at_address, address_spot, slot_spot, member_spot, spot_address, spot_read, spot_written}
-use Rattle.g_construct.specs.Expressions.{unary_made, binary_made, compound_made, step_op, stepped_made, conditional_extra, expr_made, form_made, tested, commas_made, arguments_made, place_made}
+use Rattle.g_construct.specs.Expressions.{unary_made, binary_made, compound_made, stepped_made, conditional_extra, expr_made, form_made, tested, commas_made, arguments_made, place_made}
 use Rattle.std.specs.Prelude.{slice_index_or}
 use Rattle.g_construct.specs.Writer.{variable_set, slot_origin, with_variables}
 use Rattle.g_count.specs.Values.{converted_values, load_values, condition_values, not_equal_values, compared_values, unary_values, binary_values, compound_values, conditional_extras, is_object, in_memory, read_values, write_values, expr_values, form_values, tested_values, exprs_values, place_values}

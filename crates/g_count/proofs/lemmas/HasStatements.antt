@@ -2,6 +2,7 @@
 use Rattle.std.proofs.Common.{◌≡◌, ℕ, suc, ◌+◌, ◌*◌, Bool, true, false, ◌&&◌, ◌||◌, not, List, [], ◌∷◌, ◌++◌, map, length, refl, sym, ap, ◌∙◌, arith, length-append}
 use Rattle.std.proofs.lemmas.List.{length-map}
 use Rattle.std.specs.Prelude.{if◌then◌else◌}
+use Rattle.std.proofs.Math.Bool.{or-true}
 use Rattle.val_core.specs.declared.operation.Op2.TheVariants as op
 use Rattle.c_typed.specs.Typed.{ExprTree, StmtTree, null, value, block, if_else, loop, do_while, break, continue, return_value, return_none, switch, ItemTrees, no_items, stmt_then, declare_then, GroupTrees, no_groups, group_then, VariableTree}
 use Rattle.g_graph.specs.declared.op.Origin.{Origin}
@@ -232,11 +233,6 @@ from_objects : (several : Bool) (v : Seen) → (seen_from several v).objects ≡
 from_objects true v = refl
 from_objects false v = refl
 
--- a group that is not the last of its segment has others after it
-or_true : (b : Bool) → (b || true) ≡ true
-or_true true = refl
-or_true false = refl
-
 segments_are_some : (begins ends : Bool) (g : ℕ) (l : Bool) (f : Point → Built (Unit {0})) (fs : List (Point → Built (Unit {0}))) → IsCons (segments_with begins ends g l f fs)
 segments_are_some true true g l f fs = tt
 segments_are_some false true g l f fs = tt
@@ -246,7 +242,7 @@ segments_are_some true false g l f (r ∷ fs) = tt
 segments_are_some false false g l f (r ∷ fs) = tt
 
 others_follow : (vs : List VariableTree) (b : Bool) (g : ℕ) (is : ItemTrees) (gs : GroupTrees) → ends_segment is gs ≡ false → IsCons (segments_made vs b g gs)
-others_follow vs b g is no_groups e = let no : true ≡ false = sym (or_true (ends_with_jump is)) ∙ e in cc
+others_follow vs b g is no_groups e = let no : true ≡ false = sym (or-true (ends_with_jump is)) ∙ e in cc
 others_follow vs b g is (group_then cases d js gs) e =
     segments_are_some b (ends_segment js gs) g (can_leave (items_exits js)) (items_made vs js) (segments_made vs (ends_segment js gs) (suc g) gs)
 

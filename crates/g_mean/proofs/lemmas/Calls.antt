@@ -6,10 +6,10 @@ use Rattle.val_core.specs.Refinement.{Direction, Comparison, Refines}
 use Rattle.val_core.specs.Answers.{Returned, then_on}
 use Rattle.val_core.specs.Objects.{opened}
 use Rattle.val_core.proofs.lemmas.Refinement.{refines-then}
-use Rattle.g_graph.specs.Plain.{RegionTree, region, NodeTree, node, NodeTrees, no_nodes, node_then, RegionTrees, no_regions, region_then, PlainObject, PlainLambda}
+use Rattle.g_graph.specs.Plain.{RegionTree, region, NodeTree, node, NodeTrees, no_nodes, node_then, RegionTrees, no_regions, region_then, PlainObject, PlainLambda, shapes_of}
 use Rattle.g_mean.specs.Data.{Datum, val, at_port, with_memory, changed_at}
 use Rattle.g_mean.specs.Meaning.{Meaning, Context, region_meaning}
-use Rattle.g_mean.specs.Calls.{shapes_of, sizes_of, inside, entered}
+use Rattle.g_mean.specs.Calls.{sizes_of, inside, entered}
 use Rattle.g_mean.specs.LessDefined.{Paired}
 use Rattle.g_mean.specs.Refining.{Compares, InOrder, MeaningRefines, ContextRefines, RegionRefines, SameBut, NodeSameBut, NodesSameBut, RegionsSameBut, LambdaSameBut, LambdasSameBut}
 use Rattle.g_mean.proofs.lemmas.Kept.{IsKept, paired-at}

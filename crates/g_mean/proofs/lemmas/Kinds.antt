@@ -4,7 +4,7 @@ use Rattle.std.proofs.lemmas.Bool.{and_parts}
 use Rattle.val_core.specs.declared.values.Value.{Value}
 use Rattle.val_core.specs.declared.values.Value.TheVariants.{Num, At, Bad}
 use Rattle.val_core.specs.Values.{IsLessDefined}
-use Rattle.val_core.specs.Memory.{Memory as Blocks, load, store, pointers_equal, closed}
+use Rattle.val_core.specs.Memory.{Memory as Blocks, load, store, pointers_equal, closed, cleared_at}
 use Rattle.val_core.specs.Events.{wrote}
 use Rattle.val_core.specs.Answers.{Answer, Returned, Cut, Exited, Undefined, Gives, on_number, on_defined}
 use Rattle.val_core.proofs.lemmas.Answers.{gives-then, gives-active}
@@ -14,7 +14,7 @@ use Rattle.g_graph.specs.declared.op.Op.{Op}
 use Rattle.g_graph.specs.declared.op.Op.TheVariants.{Const, Undef, Local, Delta, Bin, Un, Load, Store, Clear, PtrEq, Apply, Put, Exit, Get, Gamma, Theta}
 use Rattle.g_graph.specs.declared.op.Origin.{Origin}
 use Rattle.g_graph.specs.declared.op.Origin.TheVariants.{Arg, Out}
-use Rattle.g_graph.specs.Plain.{RegionTree, region, NodeTree, node, NodeTrees, no_nodes, node_then, RegionTrees, no_regions, region_then, nodes_of, id_of, args_of, PlainLambda}
+use Rattle.g_graph.specs.Plain.{RegionTree, region, NodeTree, node, NodeTrees, no_nodes, node_then, RegionTrees, no_regions, region_then, nodes_of, id_of, args_of, PlainLambda, shapes_of}
 use Rattle.g_graph.specs.Signatures.{result_kinds, output_kinds, kind_after, joined}
 use Rattle.g_graph.specs.Splice.{joined_nodes}
 use Rattle.g_graph.specs.Scope.{each_node, known}
@@ -22,8 +22,8 @@ use Rattle.g_graph.specs.WellFormed.{IsWellFormed, are, same, kinds_of, all_regi
 use Rattle.g_graph.proofs.lemmas.Nodes.{are_kinds, same_kinds}
 use Rattle.g_graph.proofs.lemmas.Splices.{joined_none, joined_following}
 use Rattle.g_mean.specs.Data.{Datum, val, memory, input, at_port, value_of, value_at, on_memory, on_input, with_memory, changed_at}
-use Rattle.g_mean.specs.Meaning.{Meaning, Context, given, given_memory, got, cleared_at, done, chosen, branched, again, turns, Outputs, no_outputs, extended, read, node_run, nodes_run, region_meaning, meanings}
-use Rattle.g_mean.specs.Calls.{shapes_of, inside, entered, applied, lambda_at}
+use Rattle.g_mean.specs.Meaning.{Meaning, Context, given, given_memory, got, done, chosen, branched, again, turns, Outputs, no_outputs, extended, read, node_run, nodes_run, region_meaning, meanings}
+use Rattle.g_mean.specs.Calls.{inside, entered, applied, lambda_at}
 use Rattle.val_core.specs.Refinement.{Direction, Forward, Backward, Refines, no_deeper}
 use Rattle.val_core.specs.Objects.{opened}
 use Rattle.val_core.proofs.lemmas.Refinement.{forward-within, backward-within, backward-defined, backward-no-deeper, no_deeper-output, no_deeper-depth}

@@ -5,7 +5,7 @@ use Rattle.val_core.specs.declared.values.Value.{Value}
 use Rattle.val_core.specs.declared.values.Value.TheVariants.{Num, At, Bad}
 use Rattle.val_core.specs.Words.{one_if}
 use Rattle.val_core.specs.Values.{IsLessDefined, IsSound, same_block, value1, value2}
-use Rattle.val_core.specs.Memory.{Memory, load, store, takes_store, block_named, block_changed, is_live, written, closed, pointers_equal, IsSoundMemory}
+use Rattle.val_core.specs.Memory.{Memory, load, store, takes_store, block_named, block_changed, is_live, written, closed, pointers_equal, IsSoundMemory, cleared_at}
 use Rattle.val_core.specs.Events.{wrote, took}
 use Rattle.val_core.specs.Refinement.{Direction, Comparison, Refines}
 use Rattle.val_core.specs.Answers.{Answer, Returned, Exited, on_number, on_defined}
@@ -16,7 +16,7 @@ use Rattle.val_core.proofs.lemmas.Sound.{load_is_sound, store_is_sound, clear_is
 use Rattle.g_graph.specs.declared.op.Op.{Op}
 use Rattle.g_graph.specs.declared.op.Op.TheVariants.{Const, Undef, Local, Delta, Bin, Un, Load, Store, Clear, PtrEq, Put, Exit, Get}
 use Rattle.g_mean.specs.Data.{Datum, val, memory, input, at_port, value_of, value_at, on_memory, on_input, with_memory}
-use Rattle.g_mean.specs.Meaning.{done, given, given_memory, got, cleared_at}
+use Rattle.g_mean.specs.Meaning.{done, given, given_memory, got}
 use Rattle.g_mean.specs.LessDefined.{Paired, AreBytes, IsSoundDatum, IsLessDefinedDatum}
 use Rattle.g_mean.specs.Refining.{Compares}
 use Rattle.g_mean.proofs.lemmas.Kept.{AddressesRefine, IsKept}

@@ -15,9 +15,9 @@ use Rattle.c_typed.specs.declared.operator.BinaryOp.TheVariants as binary_op
 use Rattle.c_typed.specs.declared.operator.CompoundOp.{CompoundOp}
 use Rattle.c_typed.specs.declared.operator.CompoundOp.TheVariants as compound_op
 use Rattle.c_typed.specs.declared.operator.IncDec.{IncDec}
-use Rattle.c_typed.specs.WellTyped.{IsScalar, is_shift, Serves, IsRightOf, if_unsigned, PointsTo, IsCompared, BinaryFits, CompoundFits, IncDecFits}
+use Rattle.c_typed.specs.WellTyped.{IsScalar, is_shift, Serves, IsRightOf, if_unsigned, PointsTo, IsCompared, BinaryFits, CompoundFits, IncDecFits, step_op}
 use Rattle.c_mean.specs.State.{State, arithmetic, is_defined_on, pointer_moved}
-use Rattle.c_mean.specs.Expressions.{binary_done, compound_done, stepped, step_op}
+use Rattle.c_mean.specs.Expressions.{binary_done, compound_done, stepped}
 use Rattle.c_mean.specs.Statements.{Flow}
 use Rattle.g_graph.specs.declared.op.Origin.{Origin}
 use Rattle.g_construct.specs.Writer.{Point, bind}

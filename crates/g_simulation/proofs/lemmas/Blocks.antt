@@ -17,11 +17,12 @@ use Rattle.c_typed.specs.Objects.{object_number}
 use Rattle.c_mean.specs.Run.{shape_of, objects_of}
 use Rattle.g_construct.specs.Functions.{object_made, objects_made}
 use Rattle.g_mean.specs.Meaning.{Context}
-use Rattle.g_mean.specs.Calls.{sizes_of, shapes_of}
+use Rattle.g_mean.specs.Calls.{sizes_of}
 use Rattle.g_simulation.proofs.lemmas.Unary.{some-inj}
 use Rattle.g_simulation.proofs.lemmas.Objects.{CharactersWithin, AreWithin}
 use Rattle.g_simulation.proofs.lemmas.Induction.{ObjectsFit}
 use Rattle.g_built.proofs.lemmas.Leaves.{order_rises}
+use Rattle.g_graph.specs.Plain.{shapes_of}
 
 -- ---- the same blocks
 

@@ -20,11 +20,11 @@ use Rattle.g_graph.specs.declared.op.Origin.{Origin}
 use Rattle.g_graph.specs.declared.op.Origin.TheVariants.{Out}
 use Rattle.g_construct.specs.Writer.{Point}
 use Rattle.g_construct.specs.Operations.{apply_made, get_made}
-use Rattle.g_mean.specs.Data.{Datum, val, memory, input, at_port, on_input}
+use Rattle.g_mean.specs.Data.{Datum, val, memory, input, at_port, on_input, taken}
 use Rattle.g_mean.specs.Meaning as graph
 use Rattle.g_mean.specs.Meaning.{Context, Outputs, extended, read, node_run}
 use Rattle.g_mean.specs.LessDefined.{AreSound}
-use Rattle.g_simulation.specs.Laws.{taken, GivesBack}
+use Rattle.g_simulation.specs.Laws.{GivesBack}
 use Rattle.g_simulation.proofs.lemmas.Readings.{below-later, Keeps, stay-keeps, extended-here, extended-stay, IsSoundRun}
 use Rattle.g_simulation.proofs.lemmas.Toolbox.{Ran, Simulates, sim-node}
 use Rattle.g_simulation.proofs.lemmas.Held.{Frame, Holds}

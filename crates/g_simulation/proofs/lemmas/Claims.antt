@@ -13,10 +13,10 @@ use Rattle.c_mean.specs.Expressions as source
 use Rattle.c_mean.specs.Expressions.{Arguments, expr_run}
 use Rattle.c_mean.specs.Statements.{Flow}
 use Rattle.g_graph.specs.declared.op.Origin.{Origin}
-use Rattle.g_mean.specs.Data.{Datum, val}
+use Rattle.g_mean.specs.Data.{Datum, val, taken}
 use Rattle.g_mean.specs.Meaning as graph
 use Rattle.g_mean.specs.LessDefined.{AreSound}
-use Rattle.g_simulation.specs.Laws.{taken, GivesBack}
+use Rattle.g_simulation.specs.Laws.{GivesBack}
 use Rattle.g_simulation.proofs.lemmas.Readings.{IsBelow, IsSoundContext}
 use Rattle.g_simulation.proofs.lemmas.Toolbox.{Post}
 use Rattle.g_simulation.proofs.lemmas.Held.{shown, Frame, Holds}

@@ -22,18 +22,18 @@ use Rattle.c_mean.specs.Statements.{normal, Flowed, items_run}
 use Rattle.c_mean.specs.Run as source_run
 use Rattle.c_mean.specs.Run.{objects_of, ended, value_at_end, body_run, global_sizes, global_address}
 use Rattle.g_graph.specs.declared.op.Origin.{Origin}
-use Rattle.g_graph.specs.Plain.{nodes_of, PlainObject}
+use Rattle.g_graph.specs.Plain.{nodes_of, PlainObject, shapes_of}
 use Rattle.g_construct.specs.Writer.{Point, Built, bind, given}
 use Rattle.g_construct.specs.Exits.{stmt_jumps, body_jumps}
 use Rattle.g_construct.specs.Statements.{items_made}
 use Rattle.g_construct.specs.Functions.{params_stored, start_of, straight_made, jumps_begun, jumping_body, straight_body, body_built, objects_made, body_made, lambda_made}
 use Rattle.g_built.proofs.lemmas.Exits.{neither_left, neither_right}
-use Rattle.g_mean.specs.Data.{Datum, val, memory, input, at_port, on_memory, changed_at}
+use Rattle.g_mean.specs.Data.{Datum, val, memory, input, at_port, on_memory, changed_at, taken}
 use Rattle.g_mean.specs.Data as graph_data
 use Rattle.g_mean.specs.Meaning.{Meaning, Context, Outputs, no_outputs, read as read_origin, region_meaning, nodes_run}
-use Rattle.g_mean.specs.Calls.{sizes_of, shapes_of, inside, entered}
+use Rattle.g_mean.specs.Calls.{sizes_of, inside, entered}
 use Rattle.g_mean.specs.LessDefined.{AreSound}
-use Rattle.g_simulation.specs.Laws.{taken, GivesBack}
+use Rattle.g_simulation.specs.Laws.{GivesBack}
 use Rattle.g_simulation.specs.Groups.{ItemsHaveFewGroups, HasFewGroups}
 use Rattle.g_simulation.proofs.lemmas.Readings.{IsSoundRun}
 use Rattle.g_simulation.proofs.lemmas.Toolbox.{Ran, Simulates, sim-bind}

@@ -14,7 +14,7 @@ use Rattle.c_mean.specs.Expressions.{Call}
 use Rattle.c_mean.specs.Run.{body_run, function_run, nested, call_run, global_sizes, global_address}
 use Rattle.g_construct.specs.Functions.{lambda_made, graph}
 use Rattle.g_construct.proofs.lemmas.Programs.{lambdas_stand_at_their_numbers}
-use Rattle.g_mean.specs.Data.{Datum, val, memory, input}
+use Rattle.g_mean.specs.Data.{Datum, val, memory, input, taken}
 use Rattle.g_mean.specs.Meaning.{Meaning}
 use Rattle.g_mean.specs.Calls.{entered, applied, lambda_at}
 use Rattle.g_mean.specs.LessDefined.{AreSound, IsLessDefinedDatum}
@@ -23,7 +23,7 @@ use Rattle.g_mean.proofs.lemmas.Equal.{exactly-compares}
 use Rattle.g_mean.proofs.lemmas.LessDefined.{less-kept}
 use Rattle.g_mean.proofs.lemmas.Regions.{less-cut, far-cut}
 use Rattle.g_mean.proofs.lemmas.Bounds.{applied-more}
-use Rattle.g_simulation.specs.Laws.{taken, GivesBack, HasMeaning}
+use Rattle.g_simulation.specs.Laws.{GivesBack, HasMeaning}
 use Rattle.g_simulation.proofs.lemmas.Claims.{BoundsFit}
 
 -- calls of each function do the same, on as many arguments as it has parameters and on sound data

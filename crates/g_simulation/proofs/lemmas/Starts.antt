@@ -22,9 +22,8 @@ use Rattle.g_construct.specs.Statements.{object_stored}
 use Rattle.g_construct.specs.Functions.{params_carried, params_stored, start_of}
 use Rattle.g_construct.proofs.lemmas.Later.{Keeps, later_here, bind_later}
 use Rattle.g_construct.proofs.lemmas.LaterStatements.{stored_later}
-use Rattle.g_mean.specs.Data.{Datum, val, memory, input, at_port}
+use Rattle.g_mean.specs.Data.{Datum, val, memory, input, at_port, taken}
 use Rattle.g_mean.specs.Meaning.{Context, Outputs, no_outputs, read as read_origin}
-use Rattle.g_simulation.specs.Laws.{taken}
 use Rattle.g_simulation.proofs.lemmas.Readings.{IsSoundRun}
 use Rattle.g_simulation.proofs.lemmas.Toolbox.{Simulates, sim-given, sim-bind}
 use Rattle.g_simulation.proofs.lemmas.Held.{SlotsHeld, named, Holds}

@@ -12,24 +12,24 @@ use Rattle.val_core.specs.Answers.{Answer, Returned, Exited, then_on}
 use Rattle.val_core.specs.Within.{Given}
 use Rattle.val_core.proofs.lemmas.Answers.{then_nothing}
 use Rattle.g_graph.specs.declared.op.Kind.TheVariants.{Value as ValueKind, Memory, Io}
-use Rattle.g_graph.specs.Plain.{RegionTree, region, PlainLambda, PlainOmega, args_of}
+use Rattle.g_graph.specs.Plain.{RegionTree, region, PlainLambda, PlainOmega, args_of, shapes_of}
 use Rattle.g_graph.specs.Program.{name_index, main_name}
 use Rattle.g_graph.specs.Signatures.{result_kinds}
 use Rattle.g_graph.specs.Ids.{region_ids}
 use Rattle.g_graph.specs.WellFormed.{all_of, are, same, distinct, every_region, region_fits, body_fits, numbers_fit, leaves_fit, well_formed}
 use Rattle.g_graph.proofs.lemmas.Nodes.{are_kinds, same_kinds}
 use Rattle.g_graph.proofs.lemmas.Unique.{counts_of_distinct}
-use Rattle.g_mean.specs.Data.{Datum, val, memory, at_port, with_memory, changed_at}
+use Rattle.g_mean.specs.Data.{Datum, val, memory, at_port, with_memory, changed_at, taken}
 use Rattle.g_mean.specs.Meaning.{Meaning, Outputs, no_outputs, read, nodes_run, region_meaning}
 use Rattle.g_mean.specs.Calls as graph
-use Rattle.g_mean.specs.Calls.{sizes_of, shapes_of, inside, applied, global_of, first_memory, lambda_at, program_at}
+use Rattle.g_mean.specs.Calls.{sizes_of, inside, applied, global_of, first_memory, lambda_at, program_at}
 use Rattle.g_mean.specs.Kinds.{AreWellFormed}
 use Rattle.g_mean.proofs.lemmas.Kinds.{found-well}
 use Rattle.s_linear.specs.Linear.{no_steps}
 use Rattle.s_linear.specs.Meaning as linear
 use Rattle.s_linear.specs.Meaning.{State, Call, code_run, first_names, calls}
 use Rattle.s_sequence.specs.Sequence.{value_args, no_names, nodes_names, nodes_named, name_of, name_at, nodes_code, body_code, value_name, sequenced}
-use Rattle.s_simulation.specs.Agreement.{Agrees, AreLessDefined, taken, GivesBack}
+use Rattle.s_simulation.specs.Agreement.{Agrees, AreLessDefined, GivesBack}
 use Rattle.s_simulation.specs.Programs as linear_program
 use Rattle.s_simulation.specs.Programs.{linear_at, linear_program_at}
 use Rattle.s_simulation.specs.Laws.{CallsAgree, ProgramsAgree, CallsAreWithin, ProgramsAreWithin}

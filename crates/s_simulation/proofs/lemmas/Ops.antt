@@ -17,13 +17,13 @@ use Rattle.g_graph.specs.declared.op.Kind.TheVariants.{Value as ValueKind, Memor
 use Rattle.g_graph.specs.declared.op.Op.TheVariants.{Bin, Un, Load, Store, Clear, PtrEq, Apply, Put, Exit, Get}
 use Rattle.g_graph.specs.Scope.{is_of}
 use Rattle.g_graph.specs.WellFormed.{some_of}
-use Rattle.g_mean.specs.Data.{Datum, val, memory, input, at_port, value_at}
+use Rattle.g_mean.specs.Data.{Datum, val, memory, input, at_port, value_at, taken}
 use Rattle.g_mean.specs.Meaning as graph
 use Rattle.g_mean.specs.Meaning.{Meaning, done, given, given_memory}
 use Rattle.s_linear.specs.Meaning as linear
 use Rattle.s_linear.specs.Meaning.{State, Context, Call, set, gives, gives_memory, written, instr_run, back_from}
 use Rattle.s_sequence.specs.Sequence.{name_at, without_states, op_instr}
-use Rattle.s_simulation.specs.Agreement.{Agrees, AreLessDefined, taken, GivesBack}
+use Rattle.s_simulation.specs.Agreement.{Agrees, AreLessDefined, GivesBack}
 use Rattle.s_simulation.proofs.lemmas.Answers.{agrees-then, agrees-number, agrees-defined}
 use Rattle.s_simulation.proofs.lemmas.Held.{IsState, state_datum, set-states, same-name, other-name, tied-less, Held, held-tied, held-state}
 use Rattle.s_simulation.proofs.lemmas.Running.{NodeDone}

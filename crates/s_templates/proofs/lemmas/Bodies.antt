@@ -9,6 +9,7 @@ use Rattle.val_core.specs.Answers.{Answer, Returned, Cut, Exited, Undefined, on_
 use Rattle.val_core.specs.Events.{Event, wrote, took, met, deepest}
 use Rattle.val_core.specs.Memory as mem
 use Rattle.val_core.specs.MemoryLaws.{StoreKeepsBlocks, ClearKeepsBlocks}
+use Rattle.val_core.specs.Memory.{cleared_at}
 use Rattle.g_graph.specs.Plain.{PlainObject}
 use Rattle.rv_machine.specs.Machine.{State}
 use Rattle.rv_machine.specs.Standing.{Text}
@@ -16,7 +17,7 @@ use Rattle.rv_layout.specs.Layout.{Addresses}
 use Rattle.s_linear.specs.Frame.{PlainPlaces}
 use Rattle.s_linear.specs.Linear.{Instr, const, undef, object_address, global_address, binary, unary, load, store, clear, equal_pointers, move, call, put, get, exit}
 use Rattle.s_linear.specs.Meaning as linear
-use Rattle.s_linear.specs.Meaning.{Context, instr_run, got, cleared_at}
+use Rattle.s_linear.specs.Meaning.{Context, instr_run, got}
 use Rattle.a_place.specs.Placed.{placed_instr, placed_code}
 use Rattle.s_templates.specs.Codes.{InstrFits, CodeIsDone}
 use Rattle.s_templates.specs.Relation.{Frame}

@@ -9,6 +9,7 @@ use Rattle.val_core.specs.Answers.{Answer, on_number, on_defined, Returned, Exit
 use Rattle.val_core.specs.Events.{wrote}
 use Rattle.val_core.specs.Memory as mem
 use Rattle.val_core.specs.Values.{value1, value2}
+use Rattle.val_core.specs.Memory.{cleared_at}
 use Rattle.g_graph.specs.Plain.{PlainObject}
 use Rattle.g_graph.specs.WellFormed.{all_of}
 use Rattle.rv_isa.specs.Calls.{exit_call}
@@ -26,7 +27,7 @@ use Rattle.s_linear.specs.Frame.{PlainPlaces, object_at}
 use Rattle.s_linear.specs.Linear.{Instr, const, undef, object_address, global_address, binary, unary, load, store, clear, equal_pointers, move, call, put, get, exit}
 use Rattle.s_linear.specs.Lines.{instr_names}
 use Rattle.s_linear.specs.Meaning as linear
-use Rattle.s_linear.specs.Meaning.{Context, instr_run, cleared_at}
+use Rattle.s_linear.specs.Meaning.{Context, instr_run}
 use Rattle.s_linear.specs.Operands.{has_its_object, has_its_global}
 use Rattle.a_place.specs.Placed.{placed_instr}
 use Rattle.s_select.specs.Conditions.{has_place}

@@ -1,10 +1,10 @@
 use Rattle.std.proofs.Common.{◌++◌, ◌∙◌, ap}
 use Rattle.val_core.specs.Objects.{opened}
-use Rattle.g_mean.specs.Calls.{shapes_of}
 use Rattle.g_mean.specs.Data.{with_memory}
 use Rattle.g_interp.specs.Views.{data_of}
 use Rattle.g_interp.proofs.Lists.{data_grown, changed_datum}
 use Rattle.g_interp.proofs.ports.open_at.Goals as goal
+use Rattle.g_graph.specs.Plain.{shapes_of}
 
 pub loop-i-preserved : goal.loop-i-preserved
 loop-i-preserved c =

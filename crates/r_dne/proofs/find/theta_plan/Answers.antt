@@ -1,7 +1,7 @@
 use Rattle.std.proofs.Common.{◌≡◌, sym, ap, ◌∙◌, arith}
 use Rattle.g_graph.specs.declared.op.Op.TheVariants.{Theta}
+use Rattle.g_graph.specs.Plain.{op_of}
 use Rattle.r_dne.specs.Rule.{shrunk}
-use Rattle.r_dne.specs.Plan.{op_of}
 use Rattle.r_dne.proofs.Tests.{theta_none}
 use Rattle.r_dne.proofs.find.theta_plan.Goals as goal
 

@@ -1,6 +1,6 @@
 use Rattle.std.proofs.Common.{◌≡◌, true, List, Some, sym, ap, subst, ◌∙◌, arith}
-use Rattle.g_graph.specs.Plain.{NodeTree, nodes_of, regions_of}
-use Rattle.r_push.specs.Edit.{widened_by, regions_in, is_loop, all_longer}
+use Rattle.g_graph.specs.Plain.{NodeTree, nodes_of, regions_of, regions_in}
+use Rattle.r_push.specs.Edit.{widened_by, is_loop, all_longer}
 use Rattle.r_push.specs.Rule.{can_count}
 use Rattle.r_push.proofs.Indexed.{found-index, within-parts, left-some, node-after, nodes-are, pushed-by}
 use Rattle.r_push.proofs.push.push_at.Goals as goal

@@ -7,7 +7,7 @@ use Rattle.g_graph.specs.declared.op.Origin.{Origin}
 use Rattle.g_graph.specs.declared.op.Origin.TheVariants.{Out}
 use Rattle.g_graph.specs.declared.op.Op.{Op}
 use Rattle.g_graph.specs.declared.op.Op.TheVariants.{Gamma, Theta}
-use Rattle.g_graph.specs.Plain.{RegionTree, RegionTrees, NodeTree, node, NodeTrees, node_then, no_regions, region_then, nodes_of, regions_of, args_of, nodes_in, id_of}
+use Rattle.g_graph.specs.Plain.{RegionTree, RegionTrees, NodeTree, node, NodeTrees, node_then, no_regions, region_then, nodes_of, regions_of, args_of, nodes_in, id_of, results_of}
 use Rattle.g_graph.specs.Signatures.{result_kinds, kind_after}
 use Rattle.g_graph.specs.Count.{regions_values, nodes_values}
 use Rattle.g_graph.proofs.lemmas.Listed.{count_is}
@@ -18,7 +18,7 @@ use Rattle.s_sequence.specs.Ports.{PlainPorts, ports_from, port_at}
 use Rattle.s_sequence.specs.Scope.{port_in, name_in, kind_in, names_in}
 use Rattle.s_sequence.specs.Shape.{NodeShaped, NodesShaped, RegionsShaped}
 use Rattle.s_sequence.specs.Writer.{PlainWriter, with_lines}
-use Rattle.s_sequence.specs.Written.{results_in, region_code, region_port, region_labels, regions_labels, node_labels, nodes_labels, node_ports, StepWritten, branch_lines, other_lines, others_lines, cases_lines}
+use Rattle.s_sequence.specs.Written.{region_code, region_port, region_labels, regions_labels, node_labels, nodes_labels, node_ports, StepWritten, branch_lines, other_lines, others_lines, cases_lines}
 use Rattle.s_sequence.proofs.Named.{node_names_values, names_values}
 use Rattle.s_sequence.proofs.PortLemmas.{ports_first, ports_end}
 use Rattle.s_sequence.proofs.CodeLemmas.{kinds_written, branch_written, entered_written, loop_written}
@@ -138,7 +138,7 @@ write_entered-returns-clause-lines t c =
 pub write_first-write_exits-requires : goal.write_first-write_exits-requires
 write_first-write_exits-requires t c =
     let r = c.args.region.now in
-    let e : c.deref.result.now ≡ results_in r = c.deref.ensures.value ∙ ap results_in c.region.view_is in
+    let e : c.deref.result.now ≡ results_of r = c.deref.ensures.value ∙ ap results_of c.region.view_is in
     let n : c.w.inside.next ≡ c.args.w.now.next + region_names r = ap next_of c.w.view_is ∙ c.in_ok-scope.ensures.next in
     omega (arith, n, exits_room r c.deref.result.now (kind_in c.in_ok-scope.scope) e, c.requires.room.for_names)
 
@@ -148,7 +148,7 @@ write_first-returns-clause-lines t c =
     let w = c.args.w.now in
     let scope = c.in_ok-scope.scope in
     let results = c.deref.result.now in
-    let e : results ≡ results_in r = c.deref.ensures.value ∙ ap results_in c.region.view_is in
+    let e : results ≡ results_of r = c.deref.ensures.value ∙ ap results_of c.region.view_is in
     let n : c.w.inside.next ≡ w.next + region_names r = ap next_of c.w.view_is ∙ c.in_ok-scope.ensures.next in
     ap lines_of c.w-2.view_is
     ∙ branch_written w.next scope r results e c.in_ok-scope.ensures.scope c.args.entries.now (w.next + region_names r) w.label c.write_entered.new.w.label w.lines c.write_entered.new.w.lines
@@ -161,7 +161,7 @@ write_first-returns-clause-next t c =
     let r = c.args.region.now in
     let scope = c.in_ok-scope.scope in
     let results = c.deref.result.now in
-    let e : results ≡ results_in r = c.deref.ensures.value ∙ ap results_in c.region.view_is in
+    let e : results ≡ results_of r = c.deref.ensures.value ∙ ap results_of c.region.view_is in
     let n : c.w.inside.next ≡ c.args.w.now.next + region_names r = ap next_of c.w.view_is ∙ c.in_ok-scope.ensures.next in
     let kinds = kinds_written c.args.w.now.next scope r results e c.in_ok-scope.ensures.scope in
     omega (
@@ -175,7 +175,7 @@ write_first-returns-clause-next t c =
 pub write_other-write_exits-requires : goal.write_other-write_exits-requires
 write_other-write_exits-requires t c =
     let r = c.args.region.now in
-    let e : c.deref.result.now ≡ results_in r = c.deref.ensures.value ∙ ap results_in c.region.view_is in
+    let e : c.deref.result.now ≡ results_of r = c.deref.ensures.value ∙ ap results_of c.region.view_is in
     omega (arith, exits_room r c.deref.result.now (kind_in c.in_ok-scope.scope) e, c.requires.room.for_names, c.requires.outputs)
 
 pub write_other-returns-clause-lines : goal.write_other-returns-clause-lines
@@ -185,7 +185,7 @@ write_other-returns-clause-lines t c =
     let two = c.push-2.new.self in
     let scope = c.in_ok-scope.scope in
     let results = c.deref.result.now in
-    let e : results ≡ results_in r = c.deref.ensures.value ∙ ap results_in c.region.view_is in
+    let e : results ≡ results_of r = c.deref.ensures.value ∙ ap results_of c.region.view_is in
     let heads : two ≡ with_lines (with_lines w (jump c.args.end ∷ [])) (label c.args.label ∷ []) = c.in_ok-push-2.ensures ∙ ap (λ v. with_lines v (label c.args.label ∷ [])) c.in_ok-push.ensures in
     branch_written two.next scope r results e c.in_ok-scope.ensures.scope c.args.entries.now c.args.outputs two.label c.write_entered.new.w.label two.lines c.write_entered.new.w.lines
     c.write_exits.new.w.lines
@@ -413,7 +413,7 @@ write_loop-returns-clause-lines t c =
     let scope = c.in_ok-scope.scope in
     let entries = c.args.entries.now in
     let a : args ≡ args_of r = c.deref.ensures.value ∙ ap args_of c.region.view_is in
-    let b : results ≡ results_in r = c.deref-2.ensures.value ∙ ap results_in c.region.view_is in
+    let b : results ≡ results_of r = c.deref-2.ensures.value ∙ ap results_of c.region.view_is in
     let d : names ≡ map (name_in scope) results = c.deref-4.ensures.value ∙ c.in_ok-results.ensures in
     let same : c.deref-3.result.now ≡ args = c.deref-3.ensures.value ∙ sym c.deref.ensures.value in
     let base : c.w.inside.next ≡ w.next = ap next_of c.w.view_is in
