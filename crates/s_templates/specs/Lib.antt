@@ -16,3 +16,4 @@ pub mod Arguments
 pub mod Formats
 pub mod Programs
 pub mod Starts
+pub mod Functions
