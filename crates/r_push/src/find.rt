@@ -34,7 +34,7 @@ pub fn can_leave(node: &Node, values: u64, id: u32) -> bool
     may_change_size(values, growth(node), 0) && can_count(node) && can_move(node, id)
 }
 
-#[tactic(auto, using(crate::proofs::Counted::count_length))]
+#[tactic(auto, using(g_graph::proofs::lemmas::Listed::count_is))]
 fn growth(node: &Node) -> u128
     ensures value { result ≡ growth node.now }
     ensures small { result < 2 ^ 127 }
