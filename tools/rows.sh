@@ -25,8 +25,8 @@ import read
 class Comparison(read.Trial):
     def images(self, what, row):
         status, _, image = self.build(read.source(row), "default")
-        told = (len(image), hashlib.sha256(image).hexdigest()) if image is not None else (status, "no image")
-        self.same(what, (int(row["none-bytes"]), row["none-sha256"]), told)
+        found = (len(image), hashlib.sha256(image).hexdigest()) if image is not None else (status, "no image")
+        self.same(what, (int(row["none-bytes"]), row["none-sha256"]), found)
 
     def runs(self, what, row):
         self.run(what, "default", read.source(row), read.bytes_of(row["input"]), read.bytes_of(row["output"]), "exit " + row["status"])

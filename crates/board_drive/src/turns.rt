@@ -83,8 +83,8 @@ fn stop(board: &mut Board<Numbers>, worker: u32) -> (Answer, bool)
     (Answer::Done, true)
 }
 
-/// Does the act on the board, for this worker. Gives the answer, and whether the board has one event
-/// more.
+/// Does the act on the board, for this worker. Gives the answer, and whether the board has one
+/// event more.
 pub fn on_board(
     alloc: Global,
     board: &mut Board<Numbers>,

@@ -266,7 +266,7 @@ impl<W: Work> Shared<W> {
         board.unwrap()
     }
 
-    /// For a worker that was told to wait on a board with so many events: sleeps, at most until
+    /// For a worker that has to wait on a board with so many events: sleeps, at most until
     /// there are more. It may return at any time, and changes nothing.
     pub fn await_event<H: Wait>(&self, rt: &H, seen: u32) {
         self.table.shared.park(rt, LENGTH, seen);

@@ -21,9 +21,9 @@ pub fn checked_are_well_typed()
     c_sound::laws::accepted_are_well_typed();
 }
 
-/// The program that the checker makes of the tree of a source of bytes has fewer than 2^32 groups in
-/// each `switch` (ISO/IEC 9899:2011, 6.8.4.2): each group has a token, and the tokens of a source
-/// are at most 200,000.
+/// The program that the checker makes of the tree of a source of bytes has fewer than 2^32 groups
+/// in each `switch` (ISO/IEC 9899:2011, 6.8.4.2): each group has a token, and the tokens of a
+/// source are at most 200,000.
 pub fn checked_have_few_groups()
     ensures { CheckedHaveFewGroups }
 {
@@ -35,9 +35,9 @@ pub fn checked_have_few_groups()
 
 /// The graph of an accepted source means what the source means, where no bound makes it undefined
 /// (ISO/IEC 9899:2011, 3.4.3). So it is of each call of a function, on sound values and a sound
-/// memory, and of the program from its start on every input of bytes: each bounded run of the source
-/// is within a run of the graph at some bound, each bounded run of the graph is within a run of the
-/// source at some bound, and it meets stacks of calls no deeper.
+/// memory, and of the program from its start on every input of bytes: each bounded run of the
+/// source is within a run of the graph at some bound, each bounded run of the graph is within a
+/// run of the source at some bound, and it meets stacks of calls no deeper.
 pub fn accepted_keep_meaning()
     ensures { AcceptedKeepMeaning }
 {

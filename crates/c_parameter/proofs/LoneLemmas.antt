@@ -81,7 +81,10 @@ void-lone span = refl
 
 nothing-more : (xs : List (Next ParamItem)) → (count_of (many l.MoreParams (next param_tree) xs) == 0) ≡ true → xs ≡ []
 nothing-more [] h = refl
-nothing-more (x ∷ xs) h = let n = count_many l.MoreParams (next param_tree) (x ∷ xs) in let none = eqb-true (count_of (many l.MoreParams (next param_tree) (x ∷ xs))) 0 h in absurd (omega (arith, n, none))
+nothing-more (x ∷ xs) h =
+    let n = count_many l.MoreParams (next param_tree) (x ∷ xs) in
+    let none = eqb-true (count_of (many l.MoreParams (next param_tree) (x ∷ xs))) 0 h in
+    absurd (omega (arith, n, none))
 
 abbrev pub lone : Params → Bool
 lone p = is_lone_void (param_tree p.first) && (count_of (many l.MoreParams (next param_tree) p.more) == 0)

@@ -9,8 +9,8 @@ use c_typed::Written;
 use no_memory::NoMemory;
 use std::marker::Model;
 
-/// A variable at file scope or a string literal (ISO/IEC 9899:2011, 6.2.4p3, 6.4.5p6): the offset of
-/// its name or of its first token, its type, which is none while a variable is being declared,
+/// A variable at file scope or a string literal (ISO/IEC 9899:2011, 6.2.4p3, 6.4.5p6): the offset
+/// of its name or of its first token, its type, which is none while a variable is being declared,
 /// whether it is a variable, whether it never changes, and what is written in it.
 #[derive(Drop)]
 pub struct GlobalObject {

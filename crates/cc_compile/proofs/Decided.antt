@@ -79,7 +79,8 @@ module _ (source : List ℕ) where
     by_tree : first_left_out ts ≡ None → depth (kinds ts) ≤ 200 → ((t : Tree) × FollowsGrammar t × (tokens_of t ≡ ts)) ⊎ ((rest : List Token) × WrongFrom ts rest) → Decided source
     by_tree known low (inl (t, g, s)) =
         let shaped : FollowsGrammar t × (depth (kinds (tokens_of t)) ≤ 200) = (g, subst (λ (z : List Token). depth (kinds z) ≤ 200) (sym s) low) in
-        let only : (u : Tree) → Shaped u → tokens_of u ≡ ts → u ≡ t = λ u h e. one_tree_at_spans u t h.0 g (ap kinds (e ∙ sym s)) (ap (λ (zs : List Token). map (λ (z : Token). (z.at, z.end)) zs) (e ∙ sym s)) in
+        let only : (u : Tree) → Shaped u → tokens_of u ≡ ts → u ≡ t =
+        λ u h e. one_tree_at_spans u t h.0 g (ap kinds (e ∙ sym s)) (ap (λ (zs : List Token). map (λ (z : Token). (z.at, z.end)) zs) (e ∙ sym s)) in
         by_check t (record { tokens = ts; lexed = lexed_so; known = known; tree = record { shaped = shaped; spells = s; only = only } }) (check t (length source)) refl
     by_tree known low (inr (rest, w)) =
         refused (fault.Parse (parse.Syntax (offset_of rest (length source)))) (λ q. absurd cc)

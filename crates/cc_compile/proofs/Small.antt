@@ -38,7 +38,8 @@ none_large : (fs : List FunctionTree) → first_large fs ≡ None → (k : ℕ) 
 none_large [] h k f e = absurd cc
 none_large (g ∷ fs) h zero f e =
     let same : g ≡ f = cc in
-    subst (λ (x : FunctionTree). function_values x ≤ most_lambda_values) same (at_most most_lambda_values (function_values g) (if_none (nat_lt most_lambda_values (function_values g)) _ (first_large fs) h).0)
+    subst (λ (x : FunctionTree). function_values x ≤ most_lambda_values) same
+    (at_most most_lambda_values (function_values g) (if_none (nat_lt most_lambda_values (function_values g)) _ (first_large fs) h).0)
 none_large (g ∷ fs) h (suc k) f e = none_large fs (if_none (nat_lt most_lambda_values (function_values g)) _ (first_large fs) h).1 k f e
 
 -- ---- the globals

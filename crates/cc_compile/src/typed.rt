@@ -61,8 +61,8 @@ fn file_of(alloc: Global, omega: &Omega) -> Result<Vec<u8>, NoMemory>
     elf_file::write(alloc, &image)
 }
 
-/// The executable file of a well-typed program that is within the limits 1 to 4 of programs. `Limit`
-/// exactly where its functions pass a limit of values.
+/// The executable file of a well-typed program that is within the limits 1 to 4 of programs.
+/// `Limit` exactly where its functions pass a limit of values.
 pub fn compile_typed(alloc: Global, typed: &Typed) -> Result<Vec<u8>, BuildFault>
     requires typed { IsWellTyped typed.now }
     requires limits { above_limits typed.now ≡ None }

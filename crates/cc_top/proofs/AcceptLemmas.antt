@@ -10,19 +10,20 @@ use Rattle.cc_top.specs.declared.outcome.Outcome.TheVariants.{Done, Usage, ReadF
 use Rattle.cc_top.proofs.SourceLemmas.{defines_of_read, refused_of_read}
 
 -- the bytes that were read are a source of so many functions
-pub accepted_ends : (functions : ℕ) (e : Outcome) (input input' output output' : StreamSeen) (read bytes : List ℕ) → ForSome input.bytes (λ text. read ≡ take 1048577 text) → CompilesTo read bytes functions
+pub accepted_ends : (functions : ℕ) (e : Outcome) (input input' output output' : StreamSeen) (read bytes : List ℕ) → ForSome input.bytes (λ text. read ≡ take 1048577 text) →
+    CompilesTo read bytes functions
     → IsTold functions e output output' → AcceptCause e input input' output output'
-accepted_ends n Done input input' output output' read bytes same h told = (n, (λ text is. defines_of_read text read bytes n (same text is) h), told)
-accepted_ends n WriteFault input input' output output' read bytes same h told = (n, (λ text is. defines_of_read text read bytes n (same text is) h), told)
-accepted_ends n Usage input input' output output' read bytes same h told = absurd told
-accepted_ends n ReadFault input input' output output' read bytes same h told = absurd told
-accepted_ends n (Refused refusal) input input' output output' read bytes same h told = absurd told
-accepted_ends n (BadImage fault) input input' output output' read bytes same h told = absurd told
-accepted_ends n NoMemory input input' output output' read bytes same h told = absurd told
-accepted_ends n (Exit status) input input' output output' read bytes same h told = absurd told
-accepted_ends n Stack input input' output output' read bytes same h told = absurd told
-accepted_ends n Budget input input' output output' read bytes same h told = absurd told
-accepted_ends n (Stuck pc why) input input' output output' read bytes same h told = absurd told
+accepted_ends n Done input input' output output' read bytes same h ends = (n, (λ text is. defines_of_read text read bytes n (same text is) h), ends)
+accepted_ends n WriteFault input input' output output' read bytes same h ends = (n, (λ text is. defines_of_read text read bytes n (same text is) h), ends)
+accepted_ends n Usage input input' output output' read bytes same h ends = absurd ends
+accepted_ends n ReadFault input input' output output' read bytes same h ends = absurd ends
+accepted_ends n (Refused refusal) input input' output output' read bytes same h ends = absurd ends
+accepted_ends n (BadImage fault) input input' output output' read bytes same h ends = absurd ends
+accepted_ends n NoMemory input input' output output' read bytes same h ends = absurd ends
+accepted_ends n (Exit status) input input' output output' read bytes same h ends = absurd ends
+accepted_ends n Stack input input' output output' read bytes same h ends = absurd ends
+accepted_ends n Budget input input' output output' read bytes same h ends = absurd ends
+accepted_ends n (Stuck pc why) input input' output output' read bytes same h ends = absurd ends
 
 -- the bytes that were read are refused, or memory ran out
 pub rejected_ends : (e : Outcome) (input input' output : StreamSeen) (read : List ℕ) → ForSome input.bytes (λ text. read ≡ take 1048577 text) → IsRejectionOf read e

@@ -197,7 +197,8 @@ small_exits loads n small count input enough =
     let allows = image_allows loads image in
     let v = (0 + n) % 2 ^ 32 in
     let loaded_at : Reaches text.flags 14 (s0 m) input [] (a0 m v) input =
-    standing_reaches text 13 (s0 m) (s13 m) (a0 m v) (Addi 9 0 n) input [] input (λ a fixed. refl) (front-reaches text li input front allows) (load_stands text (Addi 9 0 n) [] 45 refl whole) (loads-small text n) in
+    standing_reaches text 13 (s0 m) (s13 m) (a0 m v) (Addi 9 0 n) input [] input (λ a fixed. refl)
+    (front-reaches text li input front allows) (load_stands text (Addi 9 0 n) [] 45 refl whole) (loads-small text n) in
     let same : (v + 0) % 2 ^ 32 % 256 ≡ n % 256 = omega arith in
     let steps : count ≡ 22 + suc (count - 23) = omega arith in
     image_run image count input
@@ -217,7 +218,8 @@ large_exits loads n u l upper low sum count input enough =
     let allows = image_allows loads image in
     let v = (u * 2 ^ 12 + l) % 2 ^ 32 in
     let half : Reaches text.flags 14 (s0 m) input [] (half_loaded m u) input =
-    standing_reaches text 13 (s0 m) (s13 m) (half_loaded m u) (Lui 9 u) input [] input (λ a fixed. refl) (front-reaches text li input front allows) (load_stands text (Lui 9 u) (Addi 9 9 l ∷ []) 46 refl whole) (loads-upper text u) in
+    standing_reaches text 13 (s0 m) (s13 m) (half_loaded m u) (Lui 9 u) input [] input (λ a fixed. refl)
+    (front-reaches text li input front allows) (load_stands text (Lui 9 u) (Addi 9 9 l ∷ []) 46 refl whole) (loads-upper text u) in
     let loaded_at : Reaches text.flags 15 (s0 m) input [] (b0 m v) input =
     standing_reaches text 14 (s0 m) (half_loaded m u) (b0 m v) (Addi 9 9 l) input [] input (λ a fixed. refl) half (half_stands text u l whole) (loads-lower text u l) in
     let same : (v + 0) % 2 ^ 32 % 256 ≡ n % 256 = omega (arith, sum) in

@@ -79,15 +79,15 @@ not_text law s e is same =
       | inr faulty ↦ absurd faulty.fault
     ]
 
-told : FaultsAreFirst → (s : List ℕ) (e : CompileFault) → e ≢ fault.NoMemory → Refuses e s → (r : Refusal) × (refusal_of e s ≡ Some r)
-told law s (fault.Lex e) some h = text_told s e (not_text law s e h)
-told law s (fault.Parse e) some h = tokens_told s e h.0
-told law s (fault.Check e) some h = tree_told s e h.0
-told law s (fault.Build e) some h = values_told s e h.0
-told law s fault.NoMemory some h = absurd (some refl)
+refusal_is : FaultsAreFirst → (s : List ℕ) (e : CompileFault) → e ≢ fault.NoMemory → Refuses e s → (r : Refusal) × (refusal_of e s ≡ Some r)
+refusal_is law s (fault.Lex e) some h = text_told s e (not_text law s e h)
+refusal_is law s (fault.Parse e) some h = tokens_told s e h.0
+refusal_is law s (fault.Check e) some h = tree_told s e h.0
+refusal_is law s (fault.Build e) some h = values_told s e h.0
+refusal_is law s fault.NoMemory some h = absurd (some refl)
 
 refused_so : FaultsAreFirst → (s : List ℕ) (e : CompileFault) → e ≢ fault.NoMemory → Refuses e s → (r : Refusal) × IsRefused s r
-refused_so law s e some h = let is = told law s e some h in (is.0, (e, h, is.1))
+refused_so law s e some h = let is = refusal_is law s e some h in (is.0, (e, h, is.1))
 
 pub accepted_or_refused : FaultsAreFirst → AcceptedOrFaulty → AcceptedOrRefused
 accepted_or_refused law decided s =

@@ -48,8 +48,8 @@ refused-long : (s : List ℕ) (r : Refusal) (e : CompileFault) → 1048576 < len
 refused-long s r (fault.Lex e) long h is =
     let front = front_too_long s long in
     let same : e ≡ lexer.LongSource 1048576 = cc in
-    let told : refusal_of_text (lexer.LongSource 1048576) (take 1048577 s) ≡ Some r = subst (λ f. refusal_of_text f (take 1048577 s) ≡ Some r) same is in
-    (fault.Lex (lexer.LongSource 1048576), too_long s long, ap Some (sym (same_refusal s)) ∙ told)
+    let refused : refusal_of_text (lexer.LongSource 1048576) (take 1048577 s) ≡ Some r = subst (λ f. refusal_of_text f (take 1048577 s) ≡ Some r) same is in
+    (fault.Lex (lexer.LongSource 1048576), too_long s long, ap Some (sym (same_refusal s)) ∙ refused)
 refused-long s r (fault.Parse e) long h is = absurd (no_tokens s h.1.0 long h.1.1)
 refused-long s r (fault.Check e) long h is = absurd (no_tokens s h.1.1.tokens long h.1.1.lexed)
 refused-long s r (fault.Build e) long h is = absurd (no_tokens s h.1.1.has_tree.tokens long h.1.1.has_tree.lexed)

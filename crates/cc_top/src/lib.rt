@@ -1,7 +1,7 @@
 //! The top call of the compiler: it carries out the command that the arguments of a command line
 //! ask for, over the files and streams that it is handed. The program `cc_main` stands on it.
-//! Promise: each status comes at its cause, and on status 0 of `build` the source is accepted and OUT
-//! is exactly its image.
+//! Promise: each status comes at its cause, and on status 0 of `build` the source is accepted and
+//! OUT is exactly its image.
 #![tactic(auto)]
 
 mod accept;

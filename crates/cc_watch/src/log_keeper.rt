@@ -7,8 +7,8 @@ use no_memory::NoMemory;
 use std::alloc::Global;
 use std::marker::Model;
 
-/// A watcher that keeps the rows, which contracts see as their list. Its name is `log`, and its text
-/// has a line for each function and then one for each step that was applied to it.
+/// A watcher that keeps the rows, which contracts see as their list. Its name is `log`, and its
+/// text has a line for each function and then one for each step that was applied to it.
 #[derive(Debug, Drop)]
 pub struct LogKeeper {
     rows: Vec<Row>,

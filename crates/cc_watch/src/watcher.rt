@@ -18,8 +18,9 @@ pub trait Watcher: Drop {
     fn name(&self) -> &str
         ensures { result.now ≡ named self.now };
 
-    /// Takes in a row. On Ok, whatever list of rows the value stood for, it stands for that list and
-    /// the row after it, and its name and its texts are the same. On `NoMemory` it is as it was.
+    /// Takes in a row. On Ok, whatever list of rows the value stood for, it stands for that list
+    /// and the row after it, and its name and its texts are the same. On `NoMemory` it is as it
+    /// was.
     fn tell(&mut self, row: &Row) -> Result<(), NoMemory>
         ensures rows { OnOk result ((rows : List PlainRow) → stands_for self.old rows →
             stands_for self.new (rows ++ row.now ∷ [])) }

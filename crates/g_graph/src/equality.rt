@@ -37,7 +37,7 @@ fn equal_object(a: &Object, b: &Object) -> bool
     equal_leaves(&a.leaves, &b.leaves)
 }
 
-#[tactic(auto, using(crate::proofs::EqualLemmas::nodes_of_same))]
+#[tactic(auto, using(crate::proofs::lemmas::Listed::nodes_of_same))]
 #[cycle(equality)]
 fn equal_regions(a: &Region, b: &Region) -> bool
     ensures { IsTrue result ↔ (a.now ≡ b.now) }
@@ -66,7 +66,7 @@ fn equal_node_lists(a: &[Node], b: &[Node]) -> bool
     true
 }
 
-#[tactic(auto, using(crate::proofs::EqualLemmas::regions_of_same))]
+#[tactic(auto, using(crate::proofs::lemmas::Listed::regions_of_same))]
 #[cycle(equality)]
 fn equal_nodes(a: &Node, b: &Node) -> bool
     ensures { IsTrue result ↔ (a.now ≡ b.now) }

@@ -183,7 +183,7 @@ stops-both :
     × (graph_run 2 stops (65 ∷ 66 ∷ 67 ∷ []) ≡ Exited (met (0 ∷ []) ∷ took 65 ∷ wrote 65 ∷ took 66 ∷ wrote 66 ∷ []) 7)
 stops-both = (refl, refl)
 
--- ---- undefined behind output: the graph may go on
+-- ---- undefined after output: the graph may go on
 
 -- int main(void) { putchar(65); return 1 / 0; }
 abbrev divides : ProgramTree

@@ -1,9 +1,9 @@
 ghost use Rattle.std.specs.Prelude.{◌≡◌, ◌<◌, ◌^◌, is_some};
 ghost use Rattle.g_graph.specs.declared.op.Origin.TheVariants.{Out};
 ghost use Rattle.r_push.specs.Rule.{leaves_only};
-ghost use Rattle.g_graph.specs.Plain.{nodes_of, regions_of, results_of, has_none};
+ghost use Rattle.g_graph.specs.Plain.{nodes_of, regions_of, count_of, results_of, has_none};
 ghost use Rattle.g_graph.specs.WellFormed.{all_of};
-ghost use Rattle.r_push.specs.Rule.{names_argument, may_leave, leaving, leaving_one, is_invariant, leaving_loop, pushed, growth, can_count, pushed_within, nodes_pushed, psh_here, count_of};
+ghost use Rattle.r_push.specs.Rule.{names_argument, may_leave, leaving, leaving_one, is_invariant, leaving_loop, pushed, growth, can_count, pushed_within, nodes_pushed, psh_here};
 
 use g_edit::may_change_size;
 use g_graph::{Node, Op, Origin, Region, is_pure, is_used, node_at, same_origin};
@@ -34,7 +34,7 @@ pub fn can_leave(node: &Node, values: u64, id: u32) -> bool
     may_change_size(values, growth(node), 0) && can_count(node) && can_move(node, id)
 }
 
-#[tactic(auto, using(crate::proofs::Counted::count_length))]
+#[tactic(auto, using(g_graph::proofs::lemmas::Listed::count_is))]
 fn growth(node: &Node) -> u128
     ensures value { result ≡ growth node.now }
     ensures small { result < 2 ^ 127 }

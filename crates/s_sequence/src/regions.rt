@@ -3,7 +3,7 @@ ghost use Rattle.std.specs.declared.option.Option.TheVariants.{Some};
 ghost use Rattle.g_graph.specs.declared.op.Op.TheVariants.{Gamma};
 ghost use Rattle.g_graph.specs.declared.op.Origin.{Origin};
 ghost use Rattle.g_graph.specs.declared.op.Origin.TheVariants.{Arg};
-ghost use Rattle.g_graph.specs.Plain.{regions_of, args_of};
+ghost use Rattle.g_graph.specs.Plain.{regions_of, args_of, count_of};
 ghost use Rattle.g_graph.specs.Signatures.{result_kinds, outputs_of};
 ghost use Rattle.g_graph.specs.Count.{region_values, regions_values, node_values};
 ghost use Rattle.s_linear.specs.Linear.{Code, choice};
@@ -12,7 +12,7 @@ ghost use Rattle.s_sequence.specs.Sequence.{values_in, value_args, region_names,
 ghost use Rattle.s_sequence.specs.Ports.{ports_from};
 ghost use Rattle.s_sequence.specs.Scope.{port_in};
 ghost use Rattle.s_sequence.specs.Shape.{HasShape, RegionShaped, RegionsShaped, NodeShaped};
-ghost use Rattle.s_sequence.specs.Written.{HasRoom, region_labels, regions_labels, node_labels, count_of, region_code, region_port, entered_code, StepWritten, node_ports, other_lines, others_lines, cases_lines};
+ghost use Rattle.s_sequence.specs.Written.{HasRoom, region_labels, regions_labels, node_labels, region_code, region_port, entered_code, StepWritten, node_ports, other_lines, others_lines, cases_lines};
 
 use crate::choices::{write_branches, write_plain};
 use crate::loops::write_turn;

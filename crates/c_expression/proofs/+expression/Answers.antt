@@ -70,12 +70,14 @@ pub expressions::expression-returns-in_ok-f-in-Call-clause-value : goal.expressi
 expressions::expression-returns-in_ok-f-in-Call-clause-value t c =
     let v = c.in-Call in
     let f = c.in_ok-f-in-Call in
-    let is = called_as c.args.e.now v.function c.get-in-Call.result.now v.open v.arguments v.close f.f c.args.state.now c.called_function.new.state v.is c.get-in-Call.ensures f.ensures.value f.ensures.state in
+    let is = called_as c.args.e.now v.function c.get-in-Call.result.now v.open v.arguments v.close f.f c.args.state.now c.called_function.new.state v.is
+    c.get-in-Call.ensures f.ensures.value f.ensures.state in
     subst (λ a. IfOk c.call.result (λ r. r ≡ a)) (ap (λ r. r.0) is) c.call.ensures.value
 
 pub expressions::expression-returns-in_ok-f-in-Call-clause-state : goal.expressions::expression-returns-in_ok-f-in-Call-clause-state
 expressions::expression-returns-in_ok-f-in-Call-clause-state t c =
     let v = c.in-Call in
     let f = c.in_ok-f-in-Call in
-    let is = called_as c.args.e.now v.function c.get-in-Call.result.now v.open v.arguments v.close f.f c.args.state.now c.called_function.new.state v.is c.get-in-Call.ensures f.ensures.value f.ensures.state in
+    let is = called_as c.args.e.now v.function c.get-in-Call.result.now v.open v.arguments v.close f.f c.args.state.now c.called_function.new.state v.is
+    c.get-in-Call.ensures f.ensures.value f.ensures.state in
     subst (λ a. OnOk c.call.result (c.call.new.state ≡ a)) (ap (λ r. r.1) is) c.call.ensures.state

@@ -86,13 +86,15 @@ initial_file names = record {
     by_function : (k : ℕ) → (means.Function k ≡ means.Function 2) ⊎ ((means.Function k ≡ means.Function 1) ⊎ (means.Function k ≡ means.Function 0)) → FunctionTyped predeclared k
     by_function k (inl e) =
         let same : 2 ≡ k = cc in
-        subst (FunctionTyped predeclared) same (record { function = record { result = Some void_type; params = Some int ∷ []; is_defined = true }; there = refl; result = void_type; has = refl; types = int ∷ []; takes = (refl, tt) })
+        subst (FunctionTyped predeclared) same
+        (record { function = record { result = Some void_type; params = Some int ∷ []; is_defined = true }; there = refl; result = void_type; has = refl; types = int ∷ []; takes = (refl, tt) })
     by_function k (inr (inl e)) =
         let same : 1 ≡ k = cc in
         subst (FunctionTyped predeclared) same (record { function = record { result = Some int; params = []; is_defined = true }; there = refl; result = int; has = refl; types = []; takes = tt })
     by_function k (inr (inr e)) =
         let same : 0 ≡ k = cc in
-        subst (FunctionTyped predeclared) same (record { function = record { result = Some int; params = Some int ∷ []; is_defined = true }; there = refl; result = int; has = refl; types = int ∷ []; takes = (refl, tt) })
+        subst (FunctionTyped predeclared) same
+        (record { function = record { result = Some int; params = Some int ∷ []; is_defined = true }; there = refl; result = int; has = refl; types = int ∷ []; takes = (refl, tt) })
 
 -- ---- limits
 
@@ -110,7 +112,8 @@ get_none (x ∷ xs) zero h = absurd (cc)
 get_none (x ∷ xs) (suc n) h = let r = get_none xs n h in omega (arith, r)
 
 -- the count of no function is above the most
-pub none_above : (q : Quantity) (most : ℕ) (count : FunctionTree → ℕ) (fs : List FunctionTree) → first_above q most count fs ≡ None → (k : ℕ) (f : FunctionTree) → slice_get fs k ≡ Some f → count f ≤ most
+pub none_above : (q : Quantity) (most : ℕ) (count : FunctionTree → ℕ) (fs : List FunctionTree) → first_above q most count fs ≡ None →
+    (k : ℕ) (f : FunctionTree) → slice_get fs k ≡ Some f → count f ≤ most
 none_above q most count [] h k f e = absurd (cc)
 none_above q most count (g ∷ fs) h k f e = by_test (nat_lt most (count g)) refl h k e (none_above q most count fs)
   where

@@ -119,7 +119,14 @@ goes_nowhere s n = goes_step s s n (stay s) (no_texts s)
 
 -- a scope of its own
 named_entered : (s : State) → Named s → Named (entered s)
-named_entered s h = record { there = h.there; slots = h.slots; variables = h.variables; globals = λ name k b m. let g = h.globals name k b m in record { declared = g.declared; there = g.there; type = g.type; has = g.has }; functions = h.functions }
+named_entered s h =
+    record {
+      there = h.there;
+      slots = h.slots;
+      variables = h.variables;
+      globals = λ name k b m. let g = h.globals name k b m in record { declared = g.declared; there = g.there; type = g.type; has = g.has };
+      functions = h.functions;
+    }
 
 pub named_left : (s t : State) → HasScope s → Later (entered s) t → Named s → Named t → Named (left s t)
 named_left s t g a h k =

@@ -33,12 +33,14 @@ in_range t h = (spelled_range t [] h).0
 -- ---- statements in groups
 
 statement_alone : (t : Tree) → grammar.Fits (grammar.One class.Stmt) t → (before more : Tree) (k : l.Repeated) → StatementsOnly before → StatementsOnly (Node (l.More k) (Cons before (Cons t more)))
-unfolding grammar.Fits grammar.allowed grammar.rule class.includes class.same_nonterminal class.nonterminal_number class.level_number class.repeated_number class.optional_number
+unfolding grammar.Fits grammar.allowed grammar.rule class.includes class.same_nonterminal class.nonterminal_number class.level_number class.repeated_number
+    class.optional_number
 statement_alone (Node l.Locals children) h before more k o = absurd (false≢true h.0)
 statement_alone t h before more k o = o
 
 statements_only : (t : Tree) → grammar.Fits (grammar.One (class.Many l.MoreStmts)) t → StatementsOnly t
-unfolding grammar.Fits grammar.allowed grammar.symbols_of grammar.rule grammar.repeated class.includes class.same_nonterminal class.nonterminal_number class.level_number class.repeated_number class.optional_number
+unfolding grammar.Fits grammar.allowed grammar.symbols_of grammar.rule grammar.repeated class.includes class.same_nonterminal class.nonterminal_number class.level_number class.repeated_number
+    class.optional_number
 statements_only (Node (l.More l.MoreStmts) (Cons before (Cons t more))) h = statement_alone t h.2.1.0 before more l.MoreStmts (statements_only before h.2.0)
 statements_only (Node (l.More l.MoreStmts) children) h = tt
 statements_only (Node (l.More k) children) h = absurd (false≢true h.0)

@@ -7,7 +7,7 @@ use Rattle.val_core.specs.Answers.{Answer, Returned, Cut, Exited, Undefined, IsU
 use Rattle.val_core.specs.Events.{IsPrefixOf}
 use Rattle.val_core.specs.Within.{Behaviour, Returns, Running, Terminates, Fails, behaviour, Within}
 use Rattle.val_core.proofs.lemmas.Events.{prefixes_compose}
-use Rattle.val_core.proofs.lemmas.Within.{prefix-eq, fails-within}
+use Rattle.val_core.proofs.lemmas.Within.{prefix-eq, fails-within, within_composes}
 use Rattle.g_graph.specs.Plain.{RegionTree, PlainLambda}
 use Rattle.g_mean.specs.Data.{Datum}
 use Rattle.g_mean.specs.LessDefined.{Paired, IsLessDefinedDatum}
@@ -22,21 +22,6 @@ use Rattle.g_edit.specs.Size.{IsNoLarger}
 use Rattle.g_edit.specs.Steps.{WithinBothWays, AreKeptBothWays, MayStandForAll, KeepsInterface, HasEach, IsApartFrom, ContractsGiveSteps, EditsKeepInterface, NoStepIsAStep, StepsCompose, ListsStandForThemselves, ListsCompose}
 
 -- ---- runs within each other
-
-within-composes : {A : Type 0} (R : A → A → Type 0) → ((x y z : A) → R x y → R y z → R x z) → (x y z : Behaviour A) → Within R x y → Within R y z → Within R x z
-within-composes R join (Returns x o) (Returns y p) (Returns z q) h k = (join x y z h.0 k.0, h.1 ∙ k.1)
-within-composes R join (Terminates o s) (Terminates p t) (Terminates q u) h k = (h.0 ∙ k.0, h.1 ∙ k.1)
-within-composes R join (Running o) (Returns y p) (Returns z q) h k = prefix-eq o p q h k.1
-within-composes R join (Running o) (Terminates p t) (Terminates q u) h k = prefix-eq o p q h k.0
-within-composes R join (Running o) (Running p) (Returns z q) h k = prefixes_compose o p q h k
-within-composes R join (Running o) (Running p) (Terminates q u) h k = prefixes_compose o p q h k
-within-composes R join (Running o) (Running p) (Running q) h k = prefixes_compose o p q h k
-within-composes R join (Returns x o) (Returns y p) _ h k = absurd k
-within-composes R join (Terminates o s) (Terminates p t) _ h k = absurd k
-within-composes R join (Running o) (Returns y p) _ h k = absurd k
-within-composes R join (Running o) (Terminates p t) _ h k = absurd k
-within-composes R join (Running o) (Running p) Fails h k = absurd k
-within-composes R join _ _ _ h k = absurd h
 
 undefined-fails : {A : Type 0} (a : Answer A) → IsUndefined a → behaviour a ≡ Fails
 undefined-fails (Undefined o) h = refl

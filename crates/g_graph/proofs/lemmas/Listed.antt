@@ -1,6 +1,15 @@
 -- Trees of one list are one list.
 use Rattle.std.proofs.Common.{◌≡◌, suc, List, [], ◌∷◌, length, refl, ap}
-use Rattle.g_graph.specs.Plain.{RegionTree, regions_of, count_of}
+use Rattle.g_graph.specs.Plain.{RegionTree, NodeTree, nodes_of, regions_of, count_of}
+
+pub nodes_of_same : (xs ys : List NodeTree) → nodes_of xs ≡ nodes_of ys → xs ≡ ys
+nodes_of_same [] [] e = refl
+nodes_of_same [] (y ∷ ys) e = absurd (cc)
+nodes_of_same (x ∷ xs) [] e = absurd (cc)
+nodes_of_same (x ∷ xs) (y ∷ ys) e =
+    let first : x ≡ y = cc in
+    let rest : nodes_of xs ≡ nodes_of ys = cc in
+    λ i. first i ∷ nodes_of_same xs ys rest i
 
 pub regions_of_same : (xs ys : List RegionTree) → regions_of xs ≡ regions_of ys → xs ≡ ys
 regions_of_same [] [] e = refl

@@ -41,7 +41,7 @@ turned next y = cond y.again (next y.state) (flows y.state y.flow)
 abbrev pub TurnsOn : Gift Turned Origin
 TurnsOn y rd n p = ((k : ℕ) × (rd p ≡ val (Num k)) × ((k == 0) ≡ not y.again)) × (y.again ≡ true → y.flow ≡ normal)
 
--- The state after a turn is held, beside that.
+-- The state after a turn is held too.
 abbrev pub Turns : Frame → Post Turned Origin
 Turns f = After f (λ y. y.flow) (λ y. y.state) TurnsOn
 

@@ -14,4 +14,5 @@ returns-clause-typed c =
     let source = c.args.source.now in
     let has = c.in_ok-unit.ensures.tree in
     let bytes = All-from_get_or (λ b. b < 2 ^ 8) source 0 (λ k within. (c.type_inv.source k).fits) in
-    (c.checked_are_well_typed.ensures source bytes has.tokens has.lexed (unit_tree c.in_ok-unit.unit) has.tree.shaped.0 has.tree.spells (length source) c.in_ok-checked.field-0 c.in_ok-checked.ensures.ok).0
+    (c.checked_are_well_typed.ensures source bytes has.tokens has.lexed (unit_tree c.in_ok-unit.unit) has.tree.shaped.0 has.tree.spells (length source)
+    c.in_ok-checked.field-0 c.in_ok-checked.ensures.ok).0

@@ -1,7 +1,7 @@
 use Rattle.std.proofs.Common.{◌≡◌, sym, ap, ◌∙◌, arith}
 use Rattle.g_graph.specs.declared.op.Op.TheVariants.{Theta}
 use Rattle.r_inv.specs.Rule.{moved}
-use Rattle.r_inv.specs.Rule.{op_of}
+use Rattle.g_graph.specs.Plain.{op_of}
 use Rattle.r_inv.proofs.Lists.{theta_none}
 use Rattle.r_inv.proofs.find.theta_plan.Goals as goal
 
