@@ -27,6 +27,9 @@ pub mod CallRows
 pub mod Opened
 pub mod Rooms
 pub mod Functions
+pub mod MainRuns
+pub mod CodeFormats
+pub mod LaidFunctions
 pub mod Returns
 pub mod Entries
 pub mod FunctionBodies

@@ -51,18 +51,23 @@ abbrev pub InstrCanRun : PlainPlaces → (objects globals : ℕ) → Instr → T
 InstrCanRun p objects globals i =
     IsTrue (all_of (has_place p) (instr_names i)) × IsTrue (has_its_object objects i) × IsTrue (has_its_global globals i) × NumbersFit (done i) × IsTrue (has_few_arguments i)
 
--- A function whose lines stand over these places from an address on, with labels that are resolved.
+-- A function over these places, of a program with so many globals: its names have places, its frame and its constants are words, and the
+-- leaves of its objects do not overlap.
+pub record FunctionCanRun (globals : ℕ) (p : PlainPlaces) (f : LinearFunction) : Type 0 where
+  pub few : length (numbers_from 0 f.params) ≤ 8
+  pub params : IsTrue (all_of (has_place p) (numbers_from 0 f.params))
+  pub value : has_place p f.value ≡ true
+  pub code : CodeFits (InstrCanRun p (length f.objects) globals) p f.code
+  pub range : IsInRange p f.objects
+  pub leaves : IsTrue (all_of (λ o. leaves_fit o.size 0 o.leaves) f.objects)
+
+-- Its lines stand from an address on, with labels that are resolved.
 pub record FunctionStands (program : Program) (at : ℕ) (p : PlainPlaces) (f : LinearFunction) : Type 0 where
   pub labels : ℕ → Option ℕ
   pub end : ℕ
   pub there : LinesStand program.text program.addresses labels p f.objects at (lines f) end
   pub low : end < 2 ^ 32
-  pub few : length (numbers_from 0 f.params) ≤ 8
-  pub params : IsTrue (all_of (has_place p) (numbers_from 0 f.params))
-  pub value : has_place p f.value ≡ true
-  pub code : CodeFits (InstrCanRun p (length f.objects) (length program.addresses.globals)) p f.code
-  pub range : IsInRange p f.objects
-  pub leaves : IsTrue (all_of (λ o. leaves_fit o.size 0 o.leaves) f.objects)
+  pub can : FunctionCanRun (length program.addresses.globals) p f
 
 -- Each function stands at its address, which is even, the stubs stand, and their buffer may be read and written.
 pub record ProgramCanRun (program : Program) : Type 0 where

@@ -17,3 +17,5 @@ pub mod Formats
 pub mod Programs
 pub mod Starts
 pub mod Functions
+pub mod Mains
+pub mod LaidFunctions

@@ -18,7 +18,7 @@ use Rattle.s_templates.proofs.lemmas.Follows.{Stand, LinesFollow, InstrFollows, 
 use Rattle.s_templates.proofs.lemmas.Lines.{lines-le, lines-cut, line-cut, label-here}
 use Rattle.s_templates.proofs.lemmas.Outcomes.{then-outcome, returns}
 
-length-codes : (last others : ℕ) (cs : Codes) → length (codes_lines last others cs) ≡ counted cs
+pub length-codes : (last others : ℕ) (cs : Codes) → length (codes_lines last others cs) ≡ counted cs
 length-codes last others no_codes = refl
 length-codes last others (code_then k no_codes) = refl
 length-codes last others (code_then k (code_then j ks)) = ap suc (length-codes last (others + code_labels k) (code_then j ks))

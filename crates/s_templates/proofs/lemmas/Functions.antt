@@ -145,7 +145,7 @@ module _ (program : Program) (can : ProgramCanRun program) (bound : ℕ) (meanin
 
   exceeds : s.regs sp - s.regs s0 < size → (es : List Event) → Exceeds text.flags (frame_sizes program.functions) (s.regs sp - s.regs s0) (called k es) s input
   exceeds less es =
-      let h = stack_is_exceeded text s size saved entered.0 is-called.stack (entry.is-size p os stands.range) taking entered-low less in
+      let h = stack_is_exceeded text s size saved entered.0 is-called.stack (entry.is-size p os stands.can.range) taking entered-low less in
       record {
         count = h.count;
         written = [];
@@ -159,19 +159,19 @@ module _ (program : Program) (can : ProgramCanRun program) (bound : ℕ) (meanin
 
   module _ (enough : size ≤ s.regs sp - s.regs s0) where
     taken : Taken text s size saved entered.0
-    taken = frame_is_taken text s size saved entered.0 is-called.stack (entry.is-size p os stands.range) taking entered-low enough
+    taken = frame_is_taken text s size saved entered.0 is-called.stack (entry.is-size p os stands.can.range) taking entered-low enough
 
     abbrev F : Frame
-    F = entry.frame program can p os stands.range stands.leaves k vs m input bases back s is-called enough entered.0 taken
+    F = entry.frame program can p os stands.can.range stands.can.leaves k vs m input bases back s is-called enough entered.0 taken
 
     abbrev all : Memory
-    all = entry.blocks program can p os stands.range stands.leaves k vs m input bases back s is-called enough entered.0 taken
+    all = entry.blocks program can p os stands.can.range stands.can.leaves k vs m input bases back s is-called enough entered.0 taken
 
     abbrev fresh_bases : Bases
-    fresh_bases = entry.addresses program can p os stands.range stands.leaves k vs m input bases back s is-called enough entered.0 taken
+    fresh_bases = entry.addresses program can p os stands.can.range stands.can.leaves k vs m input bases back s is-called enough entered.0 taken
 
     abbrev local : ℕ → Value
-    local = entry.local program can p os stands.range stands.leaves k vs m input bases back s is-called enough entered.0 taken
+    local = entry.local program can p os stands.can.range stands.can.leaves k vs m input bases back s is-called enough entered.0 taken
 
     abbrev I : Bases → linear.State → Type 0
     I more q = InFunction program F p os local all more q
@@ -181,24 +181,24 @@ module _ (program : Program) (can : ProgramCanRun program) (bound : ℕ) (meanin
     start = record { names = put_params (map (place_at p) xs) 0 vs no_names; memory = all; input = input }
 
     base-is : taken.state.regs s0 ≡ s.regs s0
-    base-is = entry.base-is program can p os stands.range stands.leaves k vs m input bases back s is-called enough entered.0 taken
+    base-is = entry.base-is program can p os stands.can.range stands.can.leaves k vs m input bases back s is-called enough entered.0 taken
 
     extends : Extends bases fresh_bases
-    extends = entry.extends program can p os stands.range stands.leaves k vs m input bases back s is-called enough entered.0 taken
+    extends = entry.extends program can p os stands.can.range stands.can.leaves k vs m input bases back s is-called enough entered.0 taken
 
     put : Arrives text F whole.0 start taken.state
     put =
-        params_are_put text F (entry.first program can p os stands.range stands.leaves k vs m input bases back s is-called enough entered.0 taken) taken.state
-        (entry.has-words program can p os stands.range stands.leaves k vs m input bases back s is-called enough entered.0 taken)
-        (entry.represents program can p os stands.range stands.leaves k vs m input bases back s is-called enough entered.0 taken new-keep) p xs vs whole.0 refl stands.params stands.few
+        params_are_put text F (entry.first program can p os stands.can.range stands.can.leaves k vs m input bases back s is-called enough entered.0 taken) taken.state
+        (entry.has-words program can p os stands.can.range stands.can.leaves k vs m input bases back s is-called enough entered.0 taken)
+        (entry.represents program can p os stands.can.range stands.can.leaves k vs m input bases back s is-called enough entered.0 taken new-keep) p xs vs whole.0 refl stands.can.params stands.can.few
         (λ j below.
         subst (Shows fresh_bases (first_names vs j)) (sym (taken.others (a0 + j) (omega arith) (omega arith) (omega arith) (omega arith)))
-        (shows-more bases fresh_bases extends (first_names vs j) (s.regs (a0 + j)) (is-called.values j (let few = stands.few in omega (arith, few, below)))))
+        (shows-more bases fresh_bases extends (first_names vs j) (s.regs (a0 + j)) (is-called.values j (let few = stands.can.few in omega (arith, few, below)))))
         (subst (λ a. CodeStands text a (select.put_params p a0 xs) whole.0) (sym taken.pc) entered.2) whole-low
 
     shown : Shown text F I start put.state
     shown =
-        let i = entry.in-function program can p os stands.range stands.leaves k vs m input bases back s is-called enough entered.0 taken in
+        let i = entry.in-function program can p os stands.can.range stands.can.leaves k vs m input bases back s is-called enough entered.0 taken in
         record {
           bases = fresh_bases;
           inv = record { body = i.body; bytes = i.bytes; extends = i.extends; alike = i.alike; fresh = i.fresh };
@@ -211,7 +211,7 @@ module _ (program : Program) (can : ProgramCanRun program) (bound : ℕ) (meanin
     lead-some : 0 < lead.count
     lead-some =
         steps-some text.flags s put.state sp lead
-        (λ same. let is = put.shows.stack in let holds = (entry.is-size p os stands.range).holds in omega (arith, same, is, holds, enough))
+        (λ same. let is = put.shows.stack in let holds = (entry.is-size p os stands.can.range).holds in omega (arith, same, is, holds, enough))
 
     abbrev answer : Answer linear.State
     answer = code_run (record { bound = bound; call = meaning; addresses = record { local = local; global = program.global } }) (placed_code (place_at p) f.code) start
@@ -220,11 +220,11 @@ module _ (program : Program) (can : ProgramCanRun program) (bound : ℕ) (meanin
     give q = Returned (record { value = q.names (place_at p f.value); memory = closed (length m) (length os) q.memory; input = q.input }) []
 
     stack-body : BodyStack program F all
-    stack-body = entry.body-stack program can p os stands.range stands.leaves k vs m input bases back s is-called enough entered.0 taken
+    stack-body = entry.body-stack program can p os stands.can.range stands.can.leaves k vs m input bases back s is-called enough entered.0 taken
 
     body : Out program can bound meaning calls F p os local all stack-body stands.labels code.0 answer put.state input
     body =
-        body-follows program can bound meaning calls F p os local all stack-body stands.labels refl done store-keeps clear-keeps f.code 0 start put.state code.0 stands.code shown
+        body-follows program can bound meaning calls F p os local all stack-body stands.labels refl done store-keeps clear-keeps f.code 0 start put.state code.0 stands.can.code shown
         (subst (λ a. LinesStand text program.addresses stands.labels p os a (code_lines 0 f.code) code.0) (sym put.pc) code.1) code-low
 
     space : s.regs sp - s.regs s0 ≤ F.sp - F.before.regs s0 + frame_sizes program.functions k
@@ -269,18 +269,18 @@ module _ (program : Program) (can : ProgramCanRun program) (bound : ℕ) (meanin
             subst (λ a. CodeStands text a (get a0 (location_of (place_at p f.value)) ++ give_frame size saved) last.0) (sym h.pc)
             (words_stand text program.addresses stands.labels code.0 last.0 (get a0 (location_of (place_at p f.value)) ++ give_frame size saved) last.1)
 
-        e : ending.Ended program can p os stands.range stands.leaves k vs m input bases back s is-called enough entered.0 taken q more (place_at p f.value) h.state
+        e : ending.Ended program can p os stands.can.range stands.can.leaves k vs m input bases back s is-called enough entered.0 taken q more (place_at p f.value) h.state
         e =
-            ending.ends program can p os stands.range stands.leaves k vs m input bases back s is-called enough entered.0 taken q more inv (place_at p f.value)
-            (place-below p p.count refl f.value stands.value) h.state rep last.0 there last-low
+            ending.ends program can p os stands.can.range stands.can.leaves k vs m input bases back s is-called enough entered.0 taken q more inv (place_at p f.value)
+            (place-below p p.count refl f.value stands.can.value) h.state rep last.0 there last-low
 
         above : (a : ℕ) → s.regs sp ≤ a → IsOutside bases m a → e.state.mem a ≡ s.mem a
         above a from out =
-            let ends = entry.places-end p os stands.range in
+            let ends = entry.places-end p os stands.can.range in
             ap (λ mem. mem a) e.mem
             ∙ rep.above a (omega (arith, from, ends, enough))
-            (λ live. by (ending.live-now program can p os stands.range stands.leaves k vs m input bases back s is-called enough entered.0 taken q more inv (place_at p f.value)
-            (place-below p p.count refl f.value stands.value) h.state rep last.0 there last-low a live))
+            (λ live. by (ending.live-now program can p os stands.can.range stands.can.leaves k vs m input bases back s is-called enough entered.0 taken q more inv (place_at p f.value)
+            (place-below p p.count refl f.value stands.can.value) h.state rep last.0 there last-low a live))
             ∙ taken.memory a (inr from)
           where
             by : IsLive bases m a ⊎ ((F.sp + 4 * words_of p.count ≤ a) × (a < s.regs sp - (4 + 4 * saved))) → ⊥
