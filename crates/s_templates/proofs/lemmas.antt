@@ -30,6 +30,7 @@ pub mod Functions
 pub mod MainRuns
 pub mod CodeFormats
 pub mod LaidFunctions
+pub mod SelectedFunctions
 pub mod Returns
 pub mod Entries
 pub mod FunctionBodies

@@ -24,11 +24,11 @@ abbrev pub InstrsFit : (Instr → Type 0) → List Instr → Type 0
 InstrsFit fits [] = Unit {0}
 InstrsFit fits (i ∷ is) = fits i × InstrsFit fits is
 
--- Each instruction of a code is as said, each predicate has a place, and the numbers of the codes of a choice are words.
+-- Each instruction of a code is as said, each predicate that is read has a place, and the numbers of the codes of a choice are words.
 abbrev mutual
   pub StepFits : (Instr → Type 0) → PlainPlaces → Step → Type 0
   StepFits fits p (plain i) = fits i
-  StepFits fits p (choice x cs) = (has_place p x ≡ true) × (counted cs < 2 ^ 32) × CodesFit fits p cs
+  StepFits fits p (choice x cs) = (1 < counted cs → has_place p x ≡ true) × (counted cs < 2 ^ 32) × CodesFit fits p cs
   StepFits fits p (loop moves body x back) = InstrsFit fits moves × CodeFits fits p body × (has_place p x ≡ true) × InstrsFit fits back
 
   pub CodeFits : (Instr → Type 0) → PlainPlaces → Code → Type 0

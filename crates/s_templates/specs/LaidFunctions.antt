@@ -1,19 +1,25 @@
 -- That the functions of a program that is laid out can run.
-use Rattle.std.specs.Prelude.{◌≡◌, ℕ, ◌+◌, ◌^◌, ◌<◌, ◌≤◌, List, map, length, slice_get, Some, All}
+use Rattle.std.specs.Prelude.{◌≡◌, ℕ, ◌+◌, ◌^◌, ◌<◌, ◌≤◌, nat_lt, Bool, true, IsTrue, List, map, length, slice_get, Some, All}
 use Rattle.val_core.specs.declared.values.Value.{Value}
 use Rattle.val_core.specs.Memory.{Memory}
 use Rattle.elf_file.specs.Image.{IsPlaced, stack_size}
 use Rattle.elf_file.specs.Laws.{executable_for}
 use Rattle.elf_file.specs.Segments.{AreSound}
 use Rattle.g_graph.specs.Plain.{PlainDelta}
+use Rattle.g_graph.specs.WellFormed.{all_of, leaves_fit}
 use Rattle.rv_machine.specs.Run.{start}
 use Rattle.rv_layout.specs.declared.item.Item.{Item}
-use Rattle.rv_layout.specs.Conditions.{CanLayOut}
+use Rattle.rv_layout.specs.Conditions.{is_within_reach, CanLayOut}
 use Rattle.rv_layout.specs.Items.{marks}
 use Rattle.rv_layout.specs.Layout.{put_at, addresses_of, laid_out}
-use Rattle.s_linear.specs.Linear.{LinearFunction}
-use Rattle.s_linear.specs.Lines.{lines}
+use Rattle.s_linear.specs.Frame.{PlainPlaces}
+use Rattle.s_linear.specs.Linear.{Instr, const, LinearFunction}
+use Rattle.s_linear.specs.Lines.{does, lines}
+use Rattle.s_linear.specs.Operands.{has_its_global}
+use Rattle.s_linear.specs.declared.frame.Frame.{Frame}
+use Rattle.s_select.specs.Conditions.{CanSelect}
 use Rattle.s_select.specs.Templates.{items_of}
+use Rattle.s_templates.specs.Formats.{IsInRange}
 use Rattle.s_templates.specs.Functions.{Program, places_of, FunctionCanRun, ProgramCanRun, HasBlocks}
 use Rattle.s_templates.specs.Mains.{HasStart}
 use Rattle.s_templates.specs.Programs.{text_loaded}
@@ -21,6 +27,19 @@ use Rattle.s_templates.specs.Relation.{Bases, ShowsMemory}
 
 abbrev pub function_items : LinearFunction → List Item
 function_items f = items_of (places_of f) f.objects (lines f)
+
+-- a constant is a word
+abbrev pub is_word_constant : Instr → Bool
+is_word_constant (const t w) = nat_lt w (2 ^ 32)
+is_word_constant _ = true
+
+-- A function whose lines can be selected can run, where its lines name globals of the program, its constants are words, its code is short
+-- and its frame in range, and the leaves of its objects do not overlap.
+abbrev pub SelectedCanRun : Type 0
+SelectedCanRun =
+    (globals : ℕ) (f : LinearFunction) (p : PlainPlaces) (frame : Frame) → CanSelect (lines f) p frame f.objects → IsTrue (all_of (does (has_its_global globals)) (lines f))
+    → IsTrue (all_of (does is_word_constant) (lines f)) → IsTrue (is_within_reach (items_of p f.objects (lines f))) → IsInRange p f.objects
+    → IsTrue (all_of (λ o. leaves_fit o.size 0 o.leaves) f.objects) → FunctionCanRun globals p f
 
 -- these functions and globals in memory, as their image is loaded
 abbrev pub loaded_program : List LinearFunction → List PlainDelta → (main : ℕ) → (global : ℕ → Value) → Program

@@ -8,7 +8,7 @@ ghost use Rattle.s_templates.specs.Codes.{CodeIsDone};
 ghost use Rattle.s_templates.specs.Calls.{CallLeads, ReturnLeads};
 ghost use Rattle.s_templates.specs.Formats.{TemplatesFit, ItemsFit, TextFits};
 ghost use Rattle.s_templates.specs.Functions.{FunctionsRun};
-ghost use Rattle.s_templates.specs.LaidFunctions.{LaidProgramCanRun, LaidProgramStarts};
+ghost use Rattle.s_templates.specs.LaidFunctions.{SelectedCanRun, LaidProgramCanRun, LaidProgramStarts};
 ghost use Rattle.s_templates.specs.Mains.{MainRuns};
 ghost use Rattle.s_templates.specs.Frames.{FrameIsTaken, StackIsExceeded, FrameIsGiven};
 ghost use Rattle.s_templates.specs.Programs.{LaidProgramStands};
@@ -194,10 +194,11 @@ pub fn functions_run()
     val_core::laws::memory::closed_blocks_keep_loads();
 }
 
-/// The functions of a program that can be laid out can run once its image is loaded, where their
-/// names have places, their constants and frames are words, and their labels are marked once. Its
+/// A function whose lines can be selected can run. The functions of a program that can be laid out
+/// can run once its image is loaded, where each of them can and its labels are marked once. Its
 /// image begins at its start code with its stack, and with its globals where its bytes show them.
 pub fn laid_programs_can_run()
+    ensures selected { SelectedCanRun }
     ensures can_run { LaidProgramCanRun }
     ensures starts { LaidProgramStarts }
 {}

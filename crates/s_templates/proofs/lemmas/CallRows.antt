@@ -1,11 +1,11 @@
 -- The row of a call, where calls run: arguments into their registers, the call, and its value into its place.
-use Rattle.std.proofs.Common.{◌≡◌, ◌≢◌, ℕ, zero, suc, ◌+◌, ◌-◌, ◌*◌, ◌%◌, ◌^◌, ◌<◌, ◌≤◌, true, List, [], ◌∷◌, ◌++◌, map, length, slice_index, slice_index_or, Option, refl, sym, ap, subst, ◌∙◌, arith, inl, inr}
+use Rattle.std.proofs.Common.{◌≡◌, ◌≢◌, ℕ, zero, suc, ◌+◌, ◌-◌, ◌*◌, ◌%◌, ◌^◌, ◌<◌, ◌≤◌, true, List, [], ◌∷◌, ◌++◌, map, length, slice_index, Option, refl, sym, ap, subst, ◌∙◌, arith, inl, inr}
 use Rattle.std.specs.Prelude.{All}
 use Rattle.std.proofs.lemmas.Bool.{cases_lt, and_parts}
 use Rattle.std.proofs.lemmas.List.{append-nil}
 use Rattle.val_core.specs.declared.values.Value.{Value}
 use Rattle.val_core.specs.declared.values.Value.TheVariants.{Bad}
-use Rattle.val_core.specs.Answers.{Answer, Returned, Cut, Exited, Undefined, before, then_on, events}
+use Rattle.val_core.specs.Answers.{Answer, Returned, Cut, Exited, Undefined, then_on, events}
 use Rattle.val_core.specs.Events.{Event, output}
 use Rattle.val_core.specs.Memory.{Memory}
 use Rattle.val_core.specs.Within.{Given}
@@ -15,13 +15,13 @@ use Rattle.g_graph.specs.WellFormed.{all_of}
 use Rattle.rv_isa.specs.Registers.{sp, s0, ra, a0}
 use Rattle.rv_machine.specs.Laws.{Reaches}
 use Rattle.rv_machine.specs.Machine.{State}
-use Rattle.rv_machine.specs.Memory.{load_bytes, has_flag, to_read, to_write}
-use Rattle.rv_machine.specs.Standing.{Text, HasText, CodeStands}
+use Rattle.rv_machine.specs.Memory.{has_flag, to_read, to_write}
+use Rattle.rv_machine.specs.Standing.{HasText, CodeStands}
 use Rattle.rv_machine.proofs.lemmas.Standing.{text_stays}
 use Rattle.rv_machine.proofs.lemmas.RunLaws.{reaches_onwards}
 use Rattle.rv_machine.proofs.lemmas.Stores.{load-agrees}
 use Rattle.rv_layout.specs.declared.item.Item.TheVariants as item
-use Rattle.rv_layout.specs.Layout.{Addresses, offset_to}
+use Rattle.rv_layout.specs.Layout.{offset_to}
 use Rattle.rv_layout.specs.Sequences as sequences
 use Rattle.s_linear.specs.Frame.{PlainPlaces}
 use Rattle.s_linear.specs.Linear.{call}
@@ -34,18 +34,17 @@ use Rattle.s_select.specs.Operands.{place_register, location_of}
 use Rattle.s_select.specs.Templates.{words, get_arguments, instr_items}
 use Rattle.s_templates.specs.Arguments.{Loaded}
 use Rattle.s_templates.specs.Calls.{Called}
-use Rattle.s_templates.specs.Frames.{HasStack}
-use Rattle.s_templates.specs.Functions.{Program, ProgramCanRun, frame_sizes, HasBlocks, IsCalled, ComesBack, DoesCall, CallOutcome, CallsRun}
+use Rattle.s_templates.specs.Functions.{Program, ProgramCanRun, frame_sizes, HasBlocks, IsCalled, ComesBack, CallOutcome, CallsRun}
 use Rattle.s_templates.specs.Relation.{Bases, Extends, Shows, LivesAlike, IsOutside, AreLaidOut, ShowsMemory, IsPlaceRegister, SameWord, held, Frame, at_bases, HasWords, Represents}
 use Rattle.s_templates.specs.Standing.{ItemsStand}
-use Rattle.s_templates.specs.Steps.{Steps, Exceeds}
+use Rattle.s_templates.specs.Steps.{Exceeds}
 use Rattle.s_templates.specs.Table.{place_at, ObjectStands, IsBody}
 use Rattle.s_templates.proofs.lemmas.Arguments.{arguments_are_loaded, place-below}
 use Rattle.s_templates.proofs.lemmas.Calls.{call_leads}
-use Rattle.s_templates.proofs.lemmas.Extended.{shows-more, extends-then, same-then, shows-same, alike-then, base-kept, live-back, outside-after, outside-before}
+use Rattle.s_templates.proofs.lemmas.Extended.{shows-more, extends-then, same-then, shows-same, alike-then, base-kept, outside-after, outside-before}
 use Rattle.s_templates.proofs.lemmas.Items.{items_are_cut, words_stand}
 use Rattle.s_templates.proofs.lemmas.Locations.{register-is-place, location-fits, held-at-register, held-at-word, place-above}
-use Rattle.s_templates.proofs.lemmas.Operands.{put-done, Writes}
+use Rattle.s_templates.proofs.lemmas.Operands.{put-done}
 use Rattle.s_templates.proofs.lemmas.Outcomes.{Shown, Brings, Outcome, words-at, events-before, exceeds-more, steps-outcome}
 use Rattle.s_templates.proofs.lemmas.Registers.{steps-then, code-le}
 use Rattle.s_templates.proofs.lemmas.Represented.{place-written}

@@ -53,6 +53,35 @@ module _ (text : Text) (f : Frame) (sizes : ℕ → ℕ) (left : ℕ) (Inv : Bas
       before-outcome text f sizes left Inv [] target c.bound c.bound 1 s j.0 q.input q.input j.1 (omega arith) (Returned q [])
       (returns text f sizes left Inv target c.bound q j.0 (record { bases = shown.bases; inv = shown.inv; shows = j.2 }) j.3)
 
+  module _ (x first : ℕ) where
+    -- ---- where the parts of a choice stand
+
+    record Parts (ls : List (List Line)) (a b : ℕ) : Type 0 where
+      m : ℕ
+      n : ℕ
+      tests : At a (branches x 0 first ls) m
+      final : At m (last_lines ls) n
+      others : At n (labelled 0 first (first + before_last ls) ls) b
+      end_is : labels (first + before_last ls) ≡ Some b
+
+    parts : (ls : List (List Line)) (a b : ℕ)
+        → At a (branches x 0 first ls ++ last_lines ls ++ labelled 0 first (first + before_last ls) ls ++ label (first + before_last ls) ∷ []) b → Parts ls a b
+    parts ls a b there =
+        let last = first + before_last ls in
+        let all = lines-cut text addresses labels p os a b (branches x 0 first ls ++ last_lines ls ++ labelled 0 first last ls) (label last ∷ []) there in
+        let end = label-here text addresses labels p os all.0 b last [] all.2 in
+        let most = lines-cut text addresses labels p os a all.0 (branches x 0 first ls ++ last_lines ls) (labelled 0 first last ls) all.1 in
+        let some = lines-cut text addresses labels p os a most.0 (branches x 0 first ls) (last_lines ls) most.1 in
+        let same : all.0 ≡ b = end.1 in
+        record {
+          m = some.0;
+          n = most.0;
+          tests = some.1;
+          final = some.2;
+          others = subst (λ y. At most.0 (labelled 0 first last ls) y) same most.2;
+          end_is = end.0 ∙ ap Some same;
+        }
+
   module _ (x first : ℕ) (inside : place_at p x < f.places) where
     -- ---- codes of a choice but the last, each with its label, and before it the jump of what stands before it
 
@@ -117,34 +146,6 @@ module _ (text : Text) (f : Frame) (sizes : ℕ → ℕ) (left : ℕ) (Inv : Bas
       chosen-follows r (suc v) (l ∷ k ∷ ls) [] all few q s shown w word sum m n g tests final small leave others = absurd all
       chosen-follows r (suc v) (l ∷ k ∷ ls) (run ∷ []) all few q s shown w word sum m n g tests final small leave others = absurd all.1
 
-    -- ---- where the parts of a choice stand
-
-    record Parts (ls : List (List Line)) (a b : ℕ) : Type 0 where
-      m : ℕ
-      n : ℕ
-      tests : At a (branches x 0 first ls) m
-      final : At m (last_lines ls) n
-      others : At n (labelled 0 first (first + before_last ls) ls) b
-      end_is : labels (first + before_last ls) ≡ Some b
-
-    parts : (ls : List (List Line)) (a b : ℕ)
-        → At a (branches x 0 first ls ++ last_lines ls ++ labelled 0 first (first + before_last ls) ls ++ label (first + before_last ls) ∷ []) b → Parts ls a b
-    parts ls a b there =
-        let last = first + before_last ls in
-        let all = lines-cut text addresses labels p os a b (branches x 0 first ls ++ last_lines ls ++ labelled 0 first last ls) (label last ∷ []) there in
-        let end = label-here text addresses labels p os all.0 b last [] all.2 in
-        let most = lines-cut text addresses labels p os a all.0 (branches x 0 first ls ++ last_lines ls) (labelled 0 first last ls) all.1 in
-        let some = lines-cut text addresses labels p os a most.0 (branches x 0 first ls) (last_lines ls) most.1 in
-        let same : all.0 ≡ b = end.1 in
-        record {
-          m = some.0;
-          n = most.0;
-          tests = some.1;
-          final = some.2;
-          others = subst (λ y. At most.0 (labelled 0 first last ls) y) same most.2;
-          end_is = end.0 ∙ ap Some same;
-        }
-
     -- of two codes the first stands where the branch is not taken
     two-follow : (l k : List Line) (run next : Run) → Follow l run → Follow k next → Follow (choice_lines x first (l ∷ k ∷ [])) (chosen_by (place_at p x) (run ∷ next ∷ []))
     two-follow l k run next follows follows' q s b shown there low =
@@ -194,28 +195,28 @@ module _ (text : Text) (f : Frame) (sizes : ℕ → ℕ) (left : ℕ) (Inv : Bas
             (branches-not-zero text addresses labels p os (at_bases f shown.bases) (words-at text f shown.bases has) q s x (suc w) test.0 first over.0 shown.shows inside word test-low second.0 over-low test.1))
             (λ t shown' at. follows' q t b shown' (subst (λ a. At a k b) (sym at) (subst (λ y. At over.0 k y) end.1 second.1)) low)
 
-    pub choice-follows : (ls : List (List Line)) (rs : List Run) → AllFollow ls rs → length ls < 2 ^ 32 → Follow (choice_lines x first ls) (chosen_by (place_at p x) rs)
-    choice-follows [] [] all few q s b shown there low = inr tt
-    choice-follows (l ∷ []) (run ∷ []) all few q s b shown there low =
-        let h = parts (l ∷ []) s.pc b there in
-        let end : h.n ≡ b = h.others in
-        let code = subst (λ y. At h.m l y) end h.final in
-        all.0 q s b shown (subst (λ a. At a l b) (sym h.tests) code) low
-    choice-follows (l ∷ k ∷ []) (run ∷ next ∷ []) all few q s b shown there low = two-follow l k run next all.0 all.1.0 q s b shown there low
-    choice-follows (l ∷ k ∷ j ∷ ls) (run ∷ next ∷ other ∷ rs) all few q s b shown there low =
-        let h = parts (l ∷ k ∷ j ∷ ls) s.pc b there in
-        let last = first + before_last (l ∷ k ∷ j ∷ ls) in
-        let le = lines-le text addresses labels p os h.n b (labelled 0 first last (l ∷ k ∷ j ∷ ls)) h.others in
-        on-a-number text f sizes left Inv has addresses labels p os c b c.bound (q.names (place_at p x)) (λ w. chosen w (run ∷ next ∷ other ∷ rs) q) s q.input
-        (λ w word.
-        chosen-follows last b low h.end_is 0 w (l ∷ k ∷ j ∷ ls) (run ∷ next ∷ other ∷ rs) all (omega (arith, few)) q s shown w word (omega arith) h.m h.n h.n h.tests h.final (omega (arith, le, low))
-        (exits last b low h.end_is 0 (l ∷ k ∷ j ∷ ls) h.n h.others) h.others)
-    choice-follows [] (run ∷ rs) all few q s b shown there low = absurd all
-    choice-follows (l ∷ []) [] all few q s b shown there low = absurd all
-    choice-follows (l ∷ []) (run ∷ next ∷ rs) all few q s b shown there low = absurd all.1
-    choice-follows (l ∷ k ∷ []) [] all few q s b shown there low = absurd all
-    choice-follows (l ∷ k ∷ []) (run ∷ []) all few q s b shown there low = absurd all.1
-    choice-follows (l ∷ k ∷ []) (run ∷ next ∷ other ∷ rs) all few q s b shown there low = absurd all.1.1
-    choice-follows (l ∷ k ∷ j ∷ ls) [] all few q s b shown there low = absurd all
-    choice-follows (l ∷ k ∷ j ∷ ls) (run ∷ []) all few q s b shown there low = absurd all.1
-    choice-follows (l ∷ k ∷ j ∷ ls) (run ∷ next ∷ []) all few q s b shown there low = absurd all.1.1
+  pub choice-follows : (x first : ℕ) (ls : List (List Line)) (rs : List Run) → (1 < length ls → place_at p x < f.places) → AllFollow ls rs → length ls < 2 ^ 32 → Follow (choice_lines x first ls) (chosen_by (place_at p x) rs)
+  choice-follows x first [] [] inside all few q s b shown there low = inr tt
+  choice-follows x first (l ∷ []) (run ∷ []) inside all few q s b shown there low =
+      let h = parts x first (l ∷ []) s.pc b there in
+      let end : h.n ≡ b = h.others in
+      let code = subst (λ y. At h.m l y) end h.final in
+      all.0 q s b shown (subst (λ a. At a l b) (sym h.tests) code) low
+  choice-follows x first (l ∷ k ∷ []) (run ∷ next ∷ []) inside all few q s b shown there low = two-follow x first (inside (omega arith)) l k run next all.0 all.1.0 q s b shown there low
+  choice-follows x first (l ∷ k ∷ j ∷ ls) (run ∷ next ∷ other ∷ rs) inside all few q s b shown there low =
+      let h = parts x first (l ∷ k ∷ j ∷ ls) s.pc b there in
+      let last = first + before_last (l ∷ k ∷ j ∷ ls) in
+      let le = lines-le text addresses labels p os h.n b (labelled 0 first last (l ∷ k ∷ j ∷ ls)) h.others in
+      on-a-number text f sizes left Inv has addresses labels p os c b c.bound (q.names (place_at p x)) (λ w. chosen w (run ∷ next ∷ other ∷ rs) q) s q.input
+      (λ w word.
+      chosen-follows x first (inside (omega arith)) last b low h.end_is 0 w (l ∷ k ∷ j ∷ ls) (run ∷ next ∷ other ∷ rs) all (omega (arith, few)) q s shown w word (omega arith) h.m h.n h.n h.tests h.final (omega (arith, le, low))
+      (exits x first (inside (omega arith)) last b low h.end_is 0 (l ∷ k ∷ j ∷ ls) h.n h.others) h.others)
+  choice-follows x first [] (run ∷ rs) inside all few q s b shown there low = absurd all
+  choice-follows x first (l ∷ []) [] inside all few q s b shown there low = absurd all
+  choice-follows x first (l ∷ []) (run ∷ next ∷ rs) inside all few q s b shown there low = absurd all.1
+  choice-follows x first (l ∷ k ∷ []) [] inside all few q s b shown there low = absurd all
+  choice-follows x first (l ∷ k ∷ []) (run ∷ []) inside all few q s b shown there low = absurd all.1
+  choice-follows x first (l ∷ k ∷ []) (run ∷ next ∷ other ∷ rs) inside all few q s b shown there low = absurd all.1.1
+  choice-follows x first (l ∷ k ∷ j ∷ ls) [] inside all few q s b shown there low = absurd all
+  choice-follows x first (l ∷ k ∷ j ∷ ls) (run ∷ []) inside all few q s b shown there low = absurd all.1
+  choice-follows x first (l ∷ k ∷ j ∷ ls) (run ∷ next ∷ []) inside all few q s b shown there low = absurd all.1.1

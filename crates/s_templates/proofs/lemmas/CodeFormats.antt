@@ -1,5 +1,5 @@
 -- The items of a function that can run are of instructions that fit their formats.
-use Rattle.std.proofs.Common.{◌≡◌, ℕ, zero, suc, ◌+◌, ◌^◌, ◌<◌, ◌≤◌, true, List, [], ◌∷◌, ◌++◌, map, length, refl, arith}
+use Rattle.std.proofs.Common.{◌≡◌, ℕ, suc, ◌+◌, ◌^◌, ◌≤◌, true, List, [], ◌∷◌, ◌++◌, map, length, refl, arith}
 use Rattle.std.proofs.lemmas.Bool.{le-leb}
 use Rattle.g_graph.specs.Plain.{PlainObject}
 use Rattle.s_linear.specs.Frame.{PlainPlaces}

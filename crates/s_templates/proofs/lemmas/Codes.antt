@@ -103,9 +103,12 @@ module _ (text : Text) (f : Frame) (sizes : ℕ → ℕ) (left : ℕ) (Inv : Bas
     step-follows (plain i) first fit = plain-follows first i fit
     step-follows (choice x cs) first fit =
         let later = first + counted cs in
-        choice-follows text f sizes left Inv has addresses labels p os c x first (predicate-below text f sizes left Inv has addresses labels p os c x count fit.0)
-        (codes_lines (last_from later cs) (others_from later cs) cs) (codes_runs c (placed_codes (place_at p) cs)) (codes-follow cs (last_from later cs) (others_from later cs) fit.2)
-        (let few = fit.1 in let same = length-codes (last_from later cs) (others_from later cs) cs in omega (arith, few, same))
+        let ls = codes_lines (last_from later cs) (others_from later cs) cs in
+        let same = length-codes (last_from later cs) (others_from later cs) cs in
+        let few = fit.1 in
+        choice-follows text f sizes left Inv has addresses labels p os c x first ls (codes_runs c (placed_codes (place_at p) cs))
+        (λ two. predicate-below text f sizes left Inv has addresses labels p os c x count (fit.0 (omega (arith, two, same)))) (codes-follow cs (last_from later cs) (others_from later cs) fit.2)
+        (omega (arith, few, same))
     step-follows (loop moves body x back) first fit =
         loop-follows first x moves back (code_lines (2 + first) body) (code_run c (placed_code (place_at p) body)) fit.0
         (predicate-below text f sizes left Inv has addresses labels p os c x count fit.2) fit.3 (code-follows body (2 + first) fit.1)

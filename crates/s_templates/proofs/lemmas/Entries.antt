@@ -1,30 +1,25 @@
 -- How a function begins: its frame is taken, its objects get addresses in it, and the machine stands for the state that it begins with.
-use Rattle.std.proofs.Common.{◌≡◌, ◌≢◌, ◌⊎◌, ℕ, ◌+◌, ◌-◌, ◌*◌, ◌/◌, ◌%◌, ◌^◌, ◌<◌, ◌≤◌, min, true, List, [], ◌++◌, map, take, length, slice_get, slice_index, Option, Some, None, option_map, get_or, refl, sym, ap, subst, ◌∙◌, arith, inl, inr}
-use Rattle.std.specs.Prelude.{All}
+use Rattle.std.proofs.Common.{◌≡◌, ◌⊎◌, ℕ, ◌+◌, ◌-◌, ◌*◌, ◌<◌, ◌≤◌, true, List, ◌++◌, map, length, slice_get, slice_index, Some, None, option_map, get_or, refl, sym, ap, ◌∙◌, arith, inl, inr}
 use Rattle.std.specs.List.{sum_by}
 use Rattle.std.proofs.lemmas.Bool.{cases_lt}
 use Rattle.std.proofs.lemmas.Option.{slice_get-map, slice_get_cases, get_or_from_slice_get}
 use Rattle.val_core.specs.declared.values.BlockName.{BlockName}
 use Rattle.val_core.specs.declared.values.Value.{Value}
-use Rattle.val_core.specs.declared.values.Value.TheVariants.{At}
 use Rattle.val_core.specs.Memory.{Memory, new_block}
 use Rattle.val_core.specs.MemoryLaws.{NewBlocksKeepLoads}
 use Rattle.val_core.specs.Objects.{word_of, block_address, address_in, opened}
 use Rattle.g_graph.specs.Plain.{PlainObject, shapes_of}
 use Rattle.g_graph.specs.WellFormed.{all_of, leaves_fit}
-use Rattle.rv_isa.specs.Registers.{ra, sp, s0, a0}
+use Rattle.rv_isa.specs.Registers.{sp, s0}
 use Rattle.rv_machine.specs.Machine.{State}
-use Rattle.rv_machine.specs.Memory.{has_flag, to_read, to_write}
-use Rattle.rv_machine.specs.Standing.{Text}
 use Rattle.s_linear.specs.Frame.{PlainPlaces, saved_of, words_of, object_room, object_at, frame_size}
 use Rattle.s_linear.specs.Meaning as linear
 use Rattle.s_linear.specs.Meaning.{no_names}
-use Rattle.s_select.specs.Templates.{size_of}
 use Rattle.s_templates.specs.Formats.{IsInRange}
 use Rattle.s_templates.specs.Frames.{IsFrameSize, Taken}
 use Rattle.s_templates.specs.Functions.{Program, ProgramCanRun, IsCalled}
-use Rattle.s_templates.specs.Relation.{Bases, Extends, Shows, IsLive, IsOutside, Frame, HasWords, Represents}
-use Rattle.s_templates.specs.Table.{ObjectStands, IsBody}
+use Rattle.s_templates.specs.Relation.{Bases, Extends, IsLive, IsOutside, Frame, HasWords, Represents}
+use Rattle.s_templates.specs.Table.{ObjectStands}
 use Rattle.s_templates.proofs.lemmas.CallRows.{BodyStack, InFunction}
 use Rattle.s_templates.proofs.lemmas.Extended.{shows-more, extends-self, alike-self}
 use Rattle.s_templates.proofs.lemmas.Opened.{ObjectsFit, opened_bases, base-new, in-back, new-is, opened-extends, opened-fresh, opened-laid, opened-live, opened-shown}

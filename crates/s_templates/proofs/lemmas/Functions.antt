@@ -1,39 +1,37 @@
 -- Functions run: a call takes its frame or ends the run with the status of the stack, puts its parameters, does its body and returns; so at
 -- every bound.
-use Rattle.std.proofs.Common.{◌≡◌, ◌≢◌, ◌⊎◌, ℕ, zero, suc, ◌+◌, ◌-◌, ◌*◌, ◌^◌, ◌<◌, ◌≤◌, true, List, [], ◌∷◌, ◌++◌, map, length, slice_get, slice_index, Option, Some, None, option_map, refl, sym, ap, subst, ◌∙◌, arith, inl, inr}
+use Rattle.std.proofs.Common.{◌≡◌, ◌≢◌, ◌⊎◌, ℕ, zero, suc, ◌+◌, ◌-◌, ◌*◌, ◌^◌, ◌<◌, ◌≤◌, List, [], ◌∷◌, ◌++◌, map, length, slice_get, slice_index, Option, Some, None, option_map, refl, sym, ap, subst, ◌∙◌, arith, inl, inr}
 use Rattle.std.proofs.lemmas.Bool.{cases_lt}
 use Rattle.std.proofs.lemmas.Option.{slice_get-map, get_or_from_slice_get}
 use Rattle.std.proofs.lemmas.List.{append-nil}
 use Rattle.val_core.specs.declared.values.Value.{Value}
 use Rattle.val_core.specs.Answers.{Answer, Returned, Cut, Exited, Undefined, then_on, active, events}
-use Rattle.val_core.specs.Events.{Event, output, called, deepest, IsPrefixOf}
+use Rattle.val_core.specs.Events.{Event, output, called, IsPrefixOf}
 use Rattle.val_core.specs.Memory.{Memory, closed}
 use Rattle.val_core.specs.MemoryLaws.{StoreKeepsBlocks, ClearKeepsBlocks, NewBlocksKeepLoads, ClosedBlocksKeepLoads}
 use Rattle.val_core.specs.Within.{Given}
-use Rattle.val_core.proofs.lemmas.Answers.{added, before-is}
+use Rattle.val_core.proofs.lemmas.Answers.{before-is}
 use Rattle.val_core.proofs.lemmas.Events.{called_keeps_output, called_deepens}
 use Rattle.g_graph.specs.Plain.{PlainObject}
 use Rattle.rv_isa.specs.Registers.{sp, s0, a0}
 use Rattle.rv_machine.specs.Laws.{Reaches}
-use Rattle.rv_machine.specs.Machine.{State, exit, stack}
+use Rattle.rv_machine.specs.Machine.{State, exit}
 use Rattle.rv_machine.specs.Run.{Hart, RunResult, run, running, ended, standing}
 use Rattle.rv_machine.specs.Standing.{Text, CodeStands}
 use Rattle.rv_machine.proofs.lemmas.Standing.{code_is_cut}
 use Rattle.rv_machine.proofs.lemmas.RunLaws.{run-zero, run_goes_on, reaches_onwards}
-use Rattle.rv_layout.specs.Layout.{Addresses}
 use Rattle.s_linear.specs.Frame.{PlainPlaces, saved_of, words_of, frame_size}
 use Rattle.s_linear.specs.Linear.{LinearFunction}
-use Rattle.s_linear.specs.Lines.{Line, enter, leave, code_lines, lines, numbers_from}
+use Rattle.s_linear.specs.Lines.{enter, leave, code_lines, numbers_from}
 use Rattle.s_linear.specs.Meaning as linear
 use Rattle.s_linear.specs.Meaning.{Call, code_run, first_names, no_names}
-use Rattle.a_place.specs.Places.{places}
 use Rattle.a_place.specs.Placed.{placed, placed_code, placed_calls, placed_entered, put_params}
 use Rattle.s_select.specs.Operands.{location_of, get}
 use Rattle.s_select.specs.Templates as select
 use Rattle.s_select.specs.Templates.{take_frame, give_frame, line_items, words}
 use Rattle.s_templates.specs.Codes.{LinesStand}
-use Rattle.s_templates.specs.Frames.{Taken, EndsInStack}
-use Rattle.s_templates.specs.Functions.{Program, ProgramCanRun, FunctionStands, places_of, frame_of, frame_sizes, IsCalled, ComesBack, DoesCall, CallOutcome, CallsRun, FunctionsRun}
+use Rattle.s_templates.specs.Frames.{Taken}
+use Rattle.s_templates.specs.Functions.{Program, ProgramCanRun, FunctionStands, places_of, frame_of, frame_sizes, IsCalled, ComesBack, CallOutcome, CallsRun, FunctionsRun}
 use Rattle.s_templates.specs.Relation.{Bases, Extends, Shows, ShowsMemory, IsOutside, IsLive, Frame, at_bases, Represents}
 use Rattle.s_templates.specs.Standing.{ItemsStand}
 use Rattle.s_templates.specs.Steps.{Steps, Arrives, Exceeds}
@@ -41,7 +39,7 @@ use Rattle.s_templates.specs.Table.{place_at, InstrIsDone}
 use Rattle.s_templates.proofs.lemmas.Arguments.{params_are_put, place-below}
 use Rattle.s_templates.proofs.lemmas.CallRows.{BodyStack, InFunction, Out}
 use Rattle.s_templates.proofs.lemmas.Entries as entry
-use Rattle.s_templates.proofs.lemmas.Extended.{shows-more, extends-then, alike-then}
+use Rattle.s_templates.proofs.lemmas.Extended.{shows-more, extends-then}
 use Rattle.s_templates.proofs.lemmas.Frames.{frame_is_taken, stack_is_exceeded}
 use Rattle.s_templates.proofs.lemmas.FunctionBodies.{body-follows}
 use Rattle.s_templates.proofs.lemmas.Items.{words_stand}

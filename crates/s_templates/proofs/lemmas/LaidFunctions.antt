@@ -1,5 +1,5 @@
 -- The functions of a program that is laid out can run once its image is loaded.
-use Rattle.std.proofs.Common.{◌≡◌, ◌⊎◌, ℕ, zero, suc, ◌+◌, ◌-◌, ◌*◌, ◌%◌, ◌^◌, ◌<◌, ◌≤◌, ◌==◌, if◌then◌else◌, Bool, true, false, List, [], ◌∷◌, ◌++◌, map, length, slice_get, slice_index, Some, None, option_map, get_or, refl, sym, ap, subst, ◌∙◌, arith, inl, inr}
+use Rattle.std.proofs.Common.{◌≡◌, ◌⊎◌, ℕ, zero, suc, ◌+◌, ◌%◌, ◌^◌, ◌<◌, ◌≤◌, ◌==◌, if◌then◌else◌, Bool, true, false, List, [], ◌∷◌, ◌++◌, map, length, slice_get, slice_index, Some, None, option_map, get_or, refl, ap, subst, ◌∙◌, arith, inl, inr}
 use Rattle.std.specs.List.{sum_by}
 use Rattle.std.proofs.lemmas.List.{get_or_past}
 use Rattle.std.proofs.lemmas.List.Sums.{sum_by-cons}
@@ -7,18 +7,16 @@ use Rattle.std.proofs.lemmas.Option.{same_Some, slice_get-map, slice_get_cases}
 use Rattle.elf_file.specs.Image.{Sections, IsPlaced, stack_size}
 use Rattle.elf_file.specs.Laws.{executable_for, text_segment, fixed_segment, data_segment}
 use Rattle.elf_file.specs.Segments.{AreSound}
-use Rattle.g_graph.specs.Plain.{PlainDelta}
 use Rattle.rv_machine.specs.Memory.{has_flag, flags_of, to_read, to_write}
 use Rattle.rv_machine.specs.Standing.{Text, CodeStands}
 use Rattle.rv_machine.proofs.lemmas.Texts.{segment_is_in_memory}
 use Rattle.rv_layout.specs.declared.item.Item.{Item}
 use Rattle.rv_layout.specs.declared.item.Item.TheVariants.{Word, Mark, Jump, Call, Stub, Address}
-use Rattle.rv_layout.specs.Conditions.{CanLayOut}
-use Rattle.rv_layout.specs.Items.{item_size, items_size, marks, label_at}
+use Rattle.rv_layout.specs.Items.{item_size, items_size, label_at}
 use Rattle.rv_layout.specs.Layout.{Addresses, functions_at, functions_from, function_code, addresses_of, laid_out}
 use Rattle.s_linear.specs.Linear.{LinearFunction}
 use Rattle.s_templates.specs.Formats.{EachFits}
-use Rattle.s_templates.specs.Functions.{FunctionStands, FunctionCanRun, ProgramCanRun, places_of}
+use Rattle.s_templates.specs.Functions.{FunctionStands, FunctionCanRun, places_of}
 use Rattle.s_templates.specs.LaidFunctions.{function_items, loaded_program, LaidProgramCanRun, LaidProgramStarts}
 use Rattle.s_templates.specs.Programs.{ProgramStands, text_loaded}
 use Rattle.s_templates.specs.Starts.{main_returns}

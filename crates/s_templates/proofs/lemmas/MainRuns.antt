@@ -1,6 +1,5 @@
 -- The start code calls `main`, which runs, and ends the program with its value.
-use Rattle.std.proofs.Common.{◌≡◌, ◌⊎◌, ℕ, ◌+◌, ◌-◌, ◌%◌, ◌^◌, ◌<◌, ◌≤◌, List, [], ◌++◌, map, slice_index, refl, sym, ap, subst, ◌∙◌, arith, inl, inr, lit<}
-use Rattle.std.specs.Prelude.{All}
+use Rattle.std.proofs.Common.{◌≡◌, ℕ, ◌+◌, ◌-◌, ◌%◌, List, [], ◌++◌, map, slice_index, refl, sym, ap, subst, ◌∙◌, arith, inl, inr, lit<}
 use Rattle.std.proofs.lemmas.List.{append-nil}
 use Rattle.val_core.specs.declared.values.Value.{Value}
 use Rattle.val_core.specs.declared.values.Value.TheVariants.{Num, At, Bad}
@@ -9,21 +8,19 @@ use Rattle.val_core.specs.Events.{Event, output}
 use Rattle.val_core.specs.Memory.{Memory}
 use Rattle.val_core.specs.Within.{Given}
 use Rattle.val_core.proofs.lemmas.Answers.{added, before-is}
-use Rattle.elf_file.specs.Image.{text_at, stack_size}
+use Rattle.elf_file.specs.Image.{stack_size}
 use Rattle.rv_isa.specs.Registers.{sp, s0, a0}
-use Rattle.rv_machine.specs.Laws.{Reaches}
 use Rattle.rv_machine.specs.Machine.{State, exit}
 use Rattle.rv_machine.specs.Run.{ended, after_output}
-use Rattle.rv_machine.specs.Standing.{HasText, CodeStands}
+use Rattle.rv_machine.specs.Standing.{HasText}
 use Rattle.rv_machine.proofs.lemmas.RunLaws.{run_goes_on, reaches_onwards}
 use Rattle.rv_machine.proofs.lemmas.Standing.{text_stays}
-use Rattle.rv_layout.specs.Sequences.{start_code}
 use Rattle.a_place.specs.Placed.{placed, placed_calls}
 use Rattle.s_templates.specs.Functions.{Program, ProgramCanRun, frame_sizes, HasBlocks, IsCalled, ComesBack, CallOutcome, FunctionsRun}
 use Rattle.s_templates.specs.Mains.{ended_with, StartOutcome, HasStart, MainRuns}
 use Rattle.s_templates.specs.Relation.{Bases, Shows, ShowsMemory}
 use Rattle.s_templates.specs.Starts.{main_returns, Started}
-use Rattle.s_templates.specs.Steps.{Steps, Ends, Exceeds, Exits}
+use Rattle.s_templates.specs.Steps.{Ends, Exceeds, Exits}
 use Rattle.s_templates.proofs.lemmas.Outcomes.{events-before, exceeds-more}
 use Rattle.s_templates.proofs.lemmas.Starts.{main_is_called, main_exits}
 

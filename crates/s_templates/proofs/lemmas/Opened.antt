@@ -1,5 +1,5 @@
 -- The blocks of a call's objects: they get addresses in the free stack as the call begins, and are dead once it has ended.
-use Rattle.std.proofs.Common.{◌≡◌, ◌≢◌, ◌⊎◌, ℕ, zero, suc, ◌+◌, ◌-◌, ◌*◌, ◌%◌, ◌^◌, ◌<◌, ◌≤◌, ◌==◌, nat_le, nat_lt, ◌&&◌, ◌||◌, if◌then◌else◌, Bool, true, false, IsTrue, cond, List, [], ◌∷◌, ◌++◌, map, length, slice_get, Option, Some, None, option_map, refl, sym, ap, subst, ◌∙◌, arith, inl, inr, eqb-true}
+use Rattle.std.proofs.Common.{◌≡◌, ◌≢◌, ◌⊎◌, ℕ, zero, suc, ◌+◌, ◌-◌, ◌%◌, ◌^◌, ◌<◌, ◌≤◌, ◌==◌, nat_le, nat_lt, ◌&&◌, ◌||◌, if◌then◌else◌, Bool, true, false, cond, List, [], ◌∷◌, ◌++◌, map, length, slice_get, Some, None, refl, sym, ap, subst, ◌∙◌, arith, inl, inr, eqb-true}
 use Rattle.std.specs.List.{list_any}
 use Rattle.std.proofs.lemmas.Bool.{cases_lt, and_parts, leb-true, le-leb, lt-leb, le-ltb, lt-ltb, both_ways}
 use Rattle.std.proofs.lemmas.List.{length-append}
@@ -8,11 +8,11 @@ use Rattle.val_core.specs.declared.leaf.Leaf.{Leaf}
 use Rattle.val_core.specs.declared.values.BlockName.{BlockName}
 use Rattle.val_core.specs.declared.values.Value.{Value}
 use Rattle.val_core.specs.declared.values.Value.TheVariants.{At}
-use Rattle.val_core.specs.Memory.{Cell, Memory, Block, new_cell, new_block, is_at, value_at, load, dead, closed}
+use Rattle.val_core.specs.Memory.{Memory, Block, new_cell, new_block, is_at, value_at, load, dead, closed}
 use Rattle.val_core.specs.MemoryLaws.{NewBlocksKeepLoads, ClosedBlocksKeepLoads}
 use Rattle.val_core.specs.Objects.{word_of, opened}
 use Rattle.g_graph.specs.Plain.{PlainObject, shapes_of}
-use Rattle.g_graph.specs.WellFormed.{all_of, is_width, leaves_fit}
+use Rattle.g_graph.specs.WellFormed.{is_width, leaves_fit}
 use Rattle.rv_machine.specs.Memory.{Bytes, load_bytes, has_flag, to_read, to_write, IsWidth}
 use Rattle.s_templates.specs.Relation.{Bases, Extends, Shows, Lives, Fellow, LivesAlike, IsLive, IsOutside, has_leaf, LeafFits, BlockFits, AreLaidOut, ShowsMemory}
 use Rattle.s_templates.proofs.lemmas.Blocks.{ValueAt, value-there, memory-same}

@@ -1,5 +1,5 @@
 -- What the machine does for an answer, one answer after another.
-use Rattle.std.proofs.Common.{◌≡◌, ◌⊎◌, ℕ, ◌+◌, ◌≤◌, List, [], ◌++◌, refl, sym, ap, subst, ◌∙◌, arith, inl, inr}
+use Rattle.std.proofs.Common.{◌≡◌, ◌⊎◌, ℕ, ◌+◌, ◌≤◌, List, [], ◌++◌, sym, ap, subst, ◌∙◌, arith, inl, inr}
 use Rattle.val_core.specs.Answers.{Answer, Returned, Cut, Exited, Undefined, before, then_on, events}
 use Rattle.val_core.specs.Events.{Event, output, IsPrefixOf}
 use Rattle.val_core.proofs.lemmas.Answers.{added, before-is, events-added}

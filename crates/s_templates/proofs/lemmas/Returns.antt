@@ -1,12 +1,11 @@
 -- How a function ends: its value is in a0, its frame is given back, and the caller finds its registers and its stack as they were.
-use Rattle.std.proofs.Common.{◌≡◌, ◌≢◌, ◌⊎◌, ℕ, ◌+◌, ◌-◌, ◌*◌, ◌/◌, ◌%◌, ◌^◌, ◌<◌, ◌≤◌, ◌==◌, min, true, false, Bool, cond, List, ◌++◌, length, Option, refl, sym, ap, subst, ◌∙◌, arith, inl, inr, eqb-true}
-use Rattle.std.proofs.lemmas.Bool.{cases_lt, eqb-false}
+use Rattle.std.proofs.Common.{◌≡◌, ◌≢◌, ◌⊎◌, ℕ, ◌+◌, ◌-◌, ◌*◌, ◌%◌, ◌^◌, ◌<◌, ◌≤◌, ◌==◌, true, false, Bool, cond, List, ◌++◌, refl, sym, ap, subst, ◌∙◌, arith, inl, inr, eqb-true}
+use Rattle.std.proofs.lemmas.Bool.{cases_lt}
 use Rattle.val_core.specs.declared.values.Value.{Value}
-use Rattle.val_core.specs.Memory.{Memory, closed}
-use Rattle.val_core.specs.MemoryLaws.{ClosedBlocksKeepLoads}
+use Rattle.val_core.specs.Memory.{Memory}
 use Rattle.g_graph.specs.Plain.{PlainObject}
 use Rattle.g_graph.specs.WellFormed.{all_of, leaves_fit}
-use Rattle.rv_isa.specs.Registers.{ra, sp, s0, a0}
+use Rattle.rv_isa.specs.Registers.{sp, s0, a0}
 use Rattle.rv_machine.specs.Machine.{State}
 use Rattle.rv_machine.specs.Memory.{load_bytes}
 use Rattle.rv_machine.specs.Standing.{HasText, CodeStands}
@@ -19,11 +18,11 @@ use Rattle.s_select.specs.Templates.{give_frame}
 use Rattle.s_templates.specs.Formats.{IsInRange}
 use Rattle.s_templates.specs.Frames.{GivenBack, Taken}
 use Rattle.s_templates.specs.Functions.{Program, ProgramCanRun, IsCalled}
-use Rattle.s_templates.specs.Relation.{Bases, Shows, IsLive, IsOutside, IsPlaceRegister, SameWord, Frame, at_bases, Represents}
+use Rattle.s_templates.specs.Relation.{Bases, Shows, IsLive, IsPlaceRegister, SameWord, Frame, at_bases, Represents}
 use Rattle.s_templates.specs.Steps.{Steps}
 use Rattle.s_templates.proofs.lemmas.CallRows.{InFunction}
 use Rattle.s_templates.proofs.lemmas.Entries as entry
-use Rattle.s_templates.proofs.lemmas.Extended.{same-then, live-back}
+use Rattle.s_templates.proofs.lemmas.Extended.{live-back}
 use Rattle.s_templates.proofs.lemmas.Frames.{frame_is_given}
 use Rattle.s_templates.proofs.lemmas.Locations.{location-fits, place-above, register-is-place, registers-apart}
 use Rattle.s_templates.proofs.lemmas.Operands.{get-done}
