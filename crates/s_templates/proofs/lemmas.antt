@@ -22,6 +22,17 @@ pub mod Streams
 pub mod Table
 pub mod Saves
 pub mod Frames
+pub mod Extended
+pub mod CallRows
+pub mod Opened
+pub mod Rooms
+pub mod Functions
+pub mod MainRuns
+pub mod CodeFormats
+pub mod LaidFunctions
+pub mod Returns
+pub mod Entries
+pub mod FunctionBodies
 pub mod Outcomes
 pub mod Lines
 pub mod Follows

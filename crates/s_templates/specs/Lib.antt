@@ -16,3 +16,6 @@ pub mod Arguments
 pub mod Formats
 pub mod Programs
 pub mod Starts
+pub mod Functions
+pub mod Mains
+pub mod LaidFunctions

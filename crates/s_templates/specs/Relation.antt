@@ -4,7 +4,7 @@ use Rattle.std.specs.List.{list_any}
 use Rattle.val_core.specs.declared.values.BlockName.{BlockName}
 use Rattle.val_core.specs.declared.values.Value.{Value}
 use Rattle.val_core.specs.declared.values.Value.TheVariants.{Num, At, Bad}
-use Rattle.val_core.specs.Memory.{Memory, Block, is_at, load}
+use Rattle.val_core.specs.Memory.{Memory, Block, shape_of, is_at, load}
 use Rattle.rv_isa.specs.Registers.{sp, s0}
 use Rattle.rv_machine.specs.Machine as machine
 use Rattle.rv_machine.specs.Memory.{Bytes, load_bytes, has_flag, to_read, to_write, IsWidth}
@@ -20,6 +20,10 @@ use Rattle.rv_machine.specs.Standing.{Text, HasText}
 -- the address of each block, by its number; it keeps it for ever
 abbrev pub Bases : Type 0
 Bases = ℕ → ℕ
+
+-- each block that has an address keeps it
+abbrev pub Extends : (before after : Bases) → Type 0
+Extends before after = (n : ℕ) → 0 < before n → after n ≡ before n
 
 -- an address is that of its block and the offset; it is not null
 pub record ShowsAddress (base size offset x : ℕ) : Type 0 where
@@ -41,13 +45,25 @@ pub record Lives (blocks : Memory) (number : ℕ) (block : Block) : Type 0 where
   pub there : slice_get blocks number ≡ Some block
   pub live : block.live ≡ true
 
--- an address is of a block that lives, or of the four bytes behind it
+-- an address is of a block that lives, or of the four bytes after it
 pub record IsLive (bases : Bases) (blocks : Memory) (a : ℕ) : Type 0 where
   pub number : ℕ
   pub block : Block
   pub lives : Lives blocks number block
   pub low : bases number ≤ a
   pub high : a < bases number + block.size + 4
+
+-- a block of this number lives, of the same shape as another
+pub record Fellow (blocks : Memory) (number : ℕ) (b : Block) : Type 0 where
+  pub block : Block
+  pub there : Lives blocks number block
+  pub shape : shape_of block ≡ shape_of b
+  pub fixed : block.fixed ≡ b.fixed
+
+-- The same blocks live in both memories, whatever they hold.
+pub record LivesAlike (m m' : Memory) : Type 0 where
+  pub forth : (n : ℕ) (b : Block) → Lives m n b → Fellow m' n b
+  pub back : (n : ℕ) (b : Block) → Lives m' n b → Fellow m n b
 
 abbrev pub IsOutside : Bases → Memory → ℕ → Type 0
 IsOutside bases blocks a = IsLive bases blocks a → ⊥
@@ -69,7 +85,7 @@ pub record BlockFits (flags : ℕ → ℕ) (base : ℕ) (b : Block) : Type 0 whe
   pub readable : (j : ℕ) → j < b.size + 4 → has_flag (flags (base + j)) to_read ≡ true
   pub writable : b.fixed ≡ false → (j : ℕ) → j < b.size + 4 → has_flag (flags (base + j)) to_write ≡ true
 
--- Leaves have no byte in common, nor have blocks that live, with the four bytes behind each.
+-- Leaves have no byte in common, nor have blocks that live, with the four bytes after each.
 pub record AreLaidOut (flags : ℕ → ℕ) (bases : Bases) (blocks : Memory) : Type 0 where
   pub leaves : (n width offset : ℕ) (b : Block) → Lives blocks n b → has_leaf width offset b ≡ true → LeafFits (bases n) b.size width offset
   pub leaves_apart : (n w o w' o' : ℕ) (b : Block) → Lives blocks n b → has_leaf w o b ≡ true → has_leaf w' o' b ≡ true
@@ -92,6 +108,10 @@ IsPlaceRegister r = (r ≡ 9) ⊎ ((17 < r) × (r < 28))
 abbrev pub IsKept : ℕ → Type 0
 IsKept r = (r ≡ sp) ⊎ (r ≡ s0) ⊎ IsPlaceRegister r
 
+-- a register holds what it held, or the low word of that
+abbrev pub SameWord : (before after : ℕ) → Type 0
+SameWord x y = (y ≡ x) ⊎ (y ≡ x % 2 ^ 32)
+
 -- ---- places
 
 -- what a location holds, at this stack pointer
@@ -107,6 +127,10 @@ pub record Frame : Type 0 where
   pub sp : ℕ
   pub bases : Bases
   pub before : machine.State
+
+-- the frame with other addresses of blocks
+abbrev pub at_bases : Frame → Bases → Frame
+at_bases f bases = record { places = f.places; sp = f.sp; bases = bases; before = f.before }
 
 -- the address after the words of the frame that are places
 abbrev pub words_end : Frame → ℕ
@@ -125,7 +149,7 @@ pub record Represents (text : Text) (f : Frame) (q : linear.State) (s : machine.
   pub stack : s.regs sp ≡ f.sp
   pub base : s.regs s0 ≡ f.before.regs s0
   pub places : (p : ℕ) → p < f.places → Shows f.bases (q.names p) (held f.sp s.regs s.mem (location_of p))
-  pub saved : (p : ℕ) → f.places ≤ p → p < registers → s.regs (place_register p) ≡ f.before.regs (place_register p)
+  pub saved : (p : ℕ) → f.places ≤ p → p < registers → SameWord (f.before.regs (place_register p)) (s.regs (place_register p))
   pub above : (a : ℕ) → words_end f ≤ a → IsOutside f.bases q.memory a → s.mem a ≡ f.before.mem a
   pub memory : ShowsMemory text.flags f.bases q.memory s.mem
   pub apart : (a : ℕ) → f.sp ≤ a → a < words_end f → IsOutside f.bases q.memory a

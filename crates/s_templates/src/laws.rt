@@ -7,6 +7,9 @@ ghost use Rattle.s_templates.specs.Branches.{OffsetLeads, JumpIsDone, BranchNotZ
 ghost use Rattle.s_templates.specs.Codes.{CodeIsDone};
 ghost use Rattle.s_templates.specs.Calls.{CallLeads, ReturnLeads};
 ghost use Rattle.s_templates.specs.Formats.{TemplatesFit, ItemsFit, TextFits};
+ghost use Rattle.s_templates.specs.Functions.{FunctionsRun};
+ghost use Rattle.s_templates.specs.LaidFunctions.{LaidProgramCanRun, LaidProgramStarts};
+ghost use Rattle.s_templates.specs.Mains.{MainRuns};
 ghost use Rattle.s_templates.specs.Frames.{FrameIsTaken, StackIsExceeded, FrameIsGiven};
 ghost use Rattle.s_templates.specs.Programs.{LaidProgramStands};
 ghost use Rattle.s_templates.specs.Starts.{MainIsCalled, MainExits};
@@ -176,3 +179,35 @@ pub fn programs_start()
     ensures called { MainIsCalled }
     ensures exits { MainExits }
 {}
+
+/// Functions run: at every bound a call of a function of a program does on the machine what it means
+/// over places. It comes back with its value, its memory and its output, ends the run with the
+/// status, goes on for as many instructions as the bound at least, or stops for want of stack, where
+/// the frames of the calls that are met are larger together than what the stack has left.
+pub fn functions_run()
+    ensures { FunctionsRun }
+{
+    instructions_are_done();
+    val_core::laws::memory::store_keeps_blocks();
+    val_core::laws::memory::clear_keeps_blocks();
+    val_core::laws::memory::new_blocks_keep_loads();
+    val_core::laws::memory::closed_blocks_keep_loads();
+}
+
+/// The functions of a program that can be laid out can run once its image is loaded, where their
+/// names have places, their constants and frames are words, and their labels are marked once. Its
+/// image begins at its start code with its stack, and with its globals where its bytes show them.
+pub fn laid_programs_can_run()
+    ensures can_run { LaidProgramCanRun }
+    ensures starts { LaidProgramStarts }
+{}
+
+/// From the start code on, a program does at every bound what its `main` means: it ends with the low
+/// byte of its value or with the status of an exit, goes on for as many instructions as the bound at
+/// least, or stops for want of stack, where the frames of the calls that are met are larger together
+/// than the stack.
+pub fn programs_run()
+    ensures { MainRuns }
+{
+    functions_run();
+}

@@ -25,7 +25,7 @@ use Rattle.s_templates.proofs.lemmas.Operands.{get-done, put-done, Writes}
 use Rattle.s_templates.proofs.lemmas.Registers.{Computes, steps-none, steps-then, code-le}
 use Rattle.s_templates.proofs.lemmas.Represented.{kept-represents, place-represents}
 
-place-below : (p : PlainPlaces) (places : ℕ) → places ≡ p.count → (x : ℕ) → has_place p x ≡ true → place_at p x < places
+pub place-below : (p : PlainPlaces) (places : ℕ) → places ≡ p.count → (x : ℕ) → has_place p x ≡ true → place_at p x < places
 place-below p places same x e =
     let less : place_at p x < p.count = ltb-true (place_at p x) p.count (and_parts (is_some (slice_get p.of x)) (nat_lt (place_at p x) p.count) e).1 in
     omega (arith, less, same)

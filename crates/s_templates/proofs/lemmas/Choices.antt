@@ -14,15 +14,15 @@ use Rattle.s_linear.specs.Lines.{Line, branch_not_zero, branch_equal, jump, labe
 use Rattle.s_linear.specs.Meaning as linear
 use Rattle.s_linear.specs.Meaning.{Context, Run, chosen, chosen_by}
 use Rattle.s_select.specs.Templates.{line_items}
-use Rattle.s_templates.specs.Relation.{Frame, HasWords, Represents}
+use Rattle.s_templates.specs.Relation.{Bases, Frame, at_bases, HasWords}
 use Rattle.s_templates.specs.Standing.{ItemsStand}
 use Rattle.s_templates.specs.Steps.{Arrives}
 use Rattle.s_templates.specs.Table.{place_at}
 use Rattle.s_templates.proofs.lemmas.Follows.{Out, Stand, LinesFollow, on-a-number}
 use Rattle.s_templates.proofs.lemmas.Lines.{lines-le, lines-cut, line-cut, label-here, branches-not-zero, branches-equal, jumps-once}
-use Rattle.s_templates.proofs.lemmas.Outcomes.{before-outcome, then-outcome, returns, arrives-outcome}
+use Rattle.s_templates.proofs.lemmas.Outcomes.{Shown, words-at, before-outcome, then-outcome, returns, arrives-outcome}
 
-module _ (text : Text) (f : Frame) (sizes : ℕ → ℕ) (left : ℕ) (Inv : linear.State → Type 0) (has : HasWords text f) (addresses : Addresses) (labels : ℕ → Option ℕ) (p : PlainPlaces)
+module _ (text : Text) (f : Frame) (sizes : ℕ → ℕ) (left : ℕ) (Inv : Bases → linear.State → Type 0) (has : HasWords text f) (addresses : Addresses) (labels : ℕ → Option ℕ) (p : PlainPlaces)
     (os : List PlainObject) (c : Context) where
   abbrev To : (b : ℕ) → Answer linear.State → State → (input : List ℕ) → Type 0
   To b a s input = Out text f sizes left Inv has addresses labels p os c b c.bound a s input
@@ -41,40 +41,40 @@ module _ (text : Text) (f : Frame) (sizes : ℕ → ℕ) (left : ℕ) (Inv : lin
 
   -- a run, and then the way to the end
   then-leaves : (m b : ℕ) (a : Answer linear.State) (s : State) (input : List ℕ) → To m a s input
-      → ((q : linear.State) (t : State) → Inv q → Represents text f q t → t.pc ≡ m → To b (Returned q []) t q.input) → To b a s input
+      → ((q : linear.State) (t : State) → Shown text f Inv q t → t.pc ≡ m → To b (Returned q []) t q.input) → To b a s input
   then-leaves m b a s input h leave =
       subst (λ x. To b x s input) (then_nothing a) (then-outcome text f sizes left Inv m b c.bound a (λ t. Returned t []) s input h leave)
 
   -- a jump to the end
-  leaves : (l a b target : ℕ) → ItemsStand text addresses labels a (line_items p os (jump l)) b → b < 2 ^ 32 → labels l ≡ Some target → target < 2 ^ 32 → (q : linear.State) (s : State) → Inv q
-      → Represents text f q s → s.pc ≡ a → To target (Returned q []) s q.input
-  leaves l a b target there low is small q s inv rep here =
-      let j = jumps-once text addresses labels p os f q s b l target q.input rep (subst (λ x. ItemsStand text addresses labels x (line_items p os (jump l)) b) (sym here) there) low is small in
+  leaves : (l a b target : ℕ) → ItemsStand text addresses labels a (line_items p os (jump l)) b → b < 2 ^ 32 → labels l ≡ Some target → target < 2 ^ 32 → (q : linear.State) (s : State) → Shown text f Inv q s
+      → s.pc ≡ a → To target (Returned q []) s q.input
+  leaves l a b target there low is small q s shown here =
+      let j = jumps-once text addresses labels p os (at_bases f shown.bases) q s b l target q.input shown.shows (subst (λ x. ItemsStand text addresses labels x (line_items p os (jump l)) b) (sym here) there) low is small in
       before-outcome text f sizes left Inv [] target c.bound c.bound 1 s j.0 q.input q.input j.1 (omega arith) (Returned q [])
-      (returns text f sizes left Inv target c.bound q j.0 inv j.2 j.3)
+      (returns text f sizes left Inv target c.bound q j.0 (record { bases = shown.bases; inv = shown.inv; shows = j.2 }) j.3)
 
   module _ (x first : ℕ) (inside : place_at p x < f.places) where
     -- ---- codes of a choice but the last, each with its label, and before it the jump of what stands before it
 
     module _ (last b : ℕ) (low : b < 2 ^ 32) (is : labels last ≡ Some b) where
-      exits : (r : ℕ) (ls : List (List Line)) (g : ℕ) → At g (labelled r first last ls) b → (q : linear.State) (s : State) → Inv q → Represents text f q s → s.pc ≡ g → To b (Returned q []) s q.input
-      exits r [] g there q s inv rep here = returns text f sizes left Inv b c.bound q s inv rep (here ∙ there)
-      exits r (l ∷ []) g there q s inv rep here = returns text f sizes left Inv b c.bound q s inv rep (here ∙ there)
-      exits r (l ∷ m ∷ ls) g there q s inv rep here =
+      exits : (r : ℕ) (ls : List (List Line)) (g : ℕ) → At g (labelled r first last ls) b → (q : linear.State) (s : State) → Shown text f Inv q s → s.pc ≡ g → To b (Returned q []) s q.input
+      exits r [] g there q s shown here = returns text f sizes left Inv b c.bound q s shown (here ∙ there)
+      exits r (l ∷ []) g there q s shown here = returns text f sizes left Inv b c.bound q s shown (here ∙ there)
+      exits r (l ∷ m ∷ ls) g there q s shown here =
           let rest = label (first + r) ∷ (l ++ labelled (suc r) first last (m ∷ ls)) in
           let cut = line-cut text addresses labels p os g b (jump last) rest there in
           let le = lines-le text addresses labels p os cut.0 b rest cut.2 in
-          leaves last g cut.0 b cut.1 (omega (arith, le, low)) is low q s inv rep here
+          leaves last g cut.0 b cut.1 (omega (arith, le, low)) is low q s shown here
 
       -- Of the codes from number r on, the one that the predicate chooses is done.
-      chosen-follows : (r v : ℕ) (ls : List (List Line)) (rs : List Run) → AllFollow ls rs → r + length ls < 2 ^ 32 → (q : linear.State) (s : State) → Inv q → Represents text f q s → (w : ℕ)
+      chosen-follows : (r v : ℕ) (ls : List (List Line)) (rs : List Run) → AllFollow ls rs → r + length ls < 2 ^ 32 → (q : linear.State) (s : State) → Shown text f Inv q s → (w : ℕ)
           → q.names (place_at p x) ≡ Num w → w ≡ r + v → (m n g : ℕ) → At s.pc (branches x r first ls) m → At m (last_lines ls) n → n < 2 ^ 32
-          → ((q' : linear.State) (t : State) → Inv q' → Represents text f q' t → t.pc ≡ n → To b (Returned q' []) t q'.input) → At g (labelled r first last ls) b
+          → ((q' : linear.State) (t : State) → Shown text f Inv q' t → t.pc ≡ n → To b (Returned q' []) t q'.input) → At g (labelled r first last ls) b
           → To b (chosen v rs q) s q.input
-      chosen-follows r v [] [] all few q s inv rep w word sum m n g tests final small leave others = inr tt
-      chosen-follows r v (l ∷ []) (run ∷ []) all few q s inv rep w word sum m n g tests final small leave others =
-          then-leaves n b (run q) s q.input (all.0 q s n inv rep (subst (λ a. At a l n) (sym tests) final) small) leave
-      chosen-follows r zero (l ∷ k ∷ ls) (run ∷ next ∷ rs) all few q s inv rep w word sum m n g tests final small leave others =
+      chosen-follows r v [] [] all few q s shown w word sum m n g tests final small leave others = inr tt
+      chosen-follows r v (l ∷ []) (run ∷ []) all few q s shown w word sum m n g tests final small leave others =
+          then-leaves n b (run q) s q.input (all.0 q s n shown (subst (λ a. At a l n) (sym tests) final) small) leave
+      chosen-follows r zero (l ∷ k ∷ ls) (run ∷ next ∷ rs) all few q s shown w word sum m n g tests final small leave others =
           let cut = line-cut text addresses labels p os s.pc m (branch_equal x r (first + r)) (branches x (suc r) first (k ∷ ls)) tests in
           let tail = labelled (suc r) first last (k ∷ ls) in
           let jumped = line-cut text addresses labels p os g b (jump last) (label (first + r) ∷ (l ++ tail)) others in
@@ -85,14 +85,14 @@ module _ (text : Text) (f : Frame) (sizes : ℕ → ℕ) (left : ℕ) (Inv : lin
           let le1 = lines-le text addresses labels p os cut.0 m (branches x (suc r) first (k ∷ ls)) cut.2 in
           let le2 = lines-le text addresses labels p os m n (last_lines (l ∷ k ∷ ls)) final in
           let branch =
-          branches-equal text addresses labels p os f has q s x w cut.0 (first + r) jumped.0 rep inside word (omega (arith, le1, le2, small)) here.0 (omega (arith, le, low)) r (omega (arith, few)) cut.1 in
+          branches-equal text addresses labels p os (at_bases f shown.bases) (words-at text f shown.bases has) q s x w cut.0 (first + r) jumped.0 shown.shows inside word (omega (arith, le1, le2, small)) here.0 (omega (arith, le, low)) r (omega (arith, few)) cut.1 in
           let same : (w == r) ≡ true = eq-eqb w r (omega (arith, sum)) in
-          let arrives = subst (λ t. Arrives text f (if t then jumped.0 else cut.0) q s) same branch in
-          arrives-outcome text f sizes left Inv jumped.0 b c.bound q s (run q) arrives
-          (λ t rep' at.
-          then-leaves code.0 b (run q) t q.input (all.0 q t code.0 inv rep' (subst (λ a. At a l code.0) (sym at) code.1) (omega (arith, le', low)))
+          let arrives = subst (λ t. Arrives text (at_bases f shown.bases) (if t then jumped.0 else cut.0) q s) same branch in
+          arrives-outcome text f sizes left Inv jumped.0 b c.bound q s shown.bases (run q) shown.inv arrives
+          (λ t shown' at.
+          then-leaves code.0 b (run q) t q.input (all.0 q t code.0 shown' (subst (λ a. At a l code.0) (sym at) code.1) (omega (arith, le', low)))
           (exits (suc r) (k ∷ ls) code.0 code.2))
-      chosen-follows r (suc v) (l ∷ k ∷ ls) (run ∷ next ∷ rs) all few q s inv rep w word sum m n g tests final small leave others =
+      chosen-follows r (suc v) (l ∷ k ∷ ls) (run ∷ next ∷ rs) all few q s shown w word sum m n g tests final small leave others =
           let cut = line-cut text addresses labels p os s.pc m (branch_equal x r (first + r)) (branches x (suc r) first (k ∷ ls)) tests in
           let tail = labelled (suc r) first last (k ∷ ls) in
           let jumped = line-cut text addresses labels p os g b (jump last) (label (first + r) ∷ (l ++ tail)) others in
@@ -102,20 +102,20 @@ module _ (text : Text) (f : Frame) (sizes : ℕ → ℕ) (left : ℕ) (Inv : lin
           let le1 = lines-le text addresses labels p os cut.0 m (branches x (suc r) first (k ∷ ls)) cut.2 in
           let le2 = lines-le text addresses labels p os m n (last_lines (l ∷ k ∷ ls)) final in
           let branch =
-          branches-equal text addresses labels p os f has q s x w cut.0 (first + r) jumped.0 rep inside word (omega (arith, le1, le2, small)) here.0 (omega (arith, le, low)) r (omega (arith, few)) cut.1 in
+          branches-equal text addresses labels p os (at_bases f shown.bases) (words-at text f shown.bases has) q s x w cut.0 (first + r) jumped.0 shown.shows inside word (omega (arith, le1, le2, small)) here.0 (omega (arith, le, low)) r (omega (arith, few)) cut.1 in
           let other : (w == r) ≡ false = ne_eqb w r (λ e. omega (arith, sum, e)) in
-          let arrives = subst (λ t. Arrives text f (if t then jumped.0 else cut.0) q s) other branch in
-          arrives-outcome text f sizes left Inv cut.0 b c.bound q s (chosen v (next ∷ rs) q) arrives
-          (λ t rep' at.
-          chosen-follows (suc r) v (k ∷ ls) (next ∷ rs) all.1 (omega (arith, few)) q t inv rep' w word (omega (arith, sum)) m n code.0
+          let arrives = subst (λ t. Arrives text (at_bases f shown.bases) (if t then jumped.0 else cut.0) q s) other branch in
+          arrives-outcome text f sizes left Inv cut.0 b c.bound q s shown.bases (chosen v (next ∷ rs) q) shown.inv arrives
+          (λ t shown' at.
+          chosen-follows (suc r) v (k ∷ ls) (next ∷ rs) all.1 (omega (arith, few)) q t shown' w word (omega (arith, sum)) m n code.0
           (subst (λ a. At a (branches x (suc r) first (k ∷ ls)) m) (sym at) cut.2) final small leave code.2)
-      chosen-follows r v [] (run ∷ rs) all few q s inv rep w word sum m n g tests final small leave others = absurd all
-      chosen-follows r v (l ∷ []) [] all few q s inv rep w word sum m n g tests final small leave others = absurd all
-      chosen-follows r v (l ∷ []) (run ∷ next ∷ rs) all few q s inv rep w word sum m n g tests final small leave others = absurd all.1
-      chosen-follows r zero (l ∷ k ∷ ls) [] all few q s inv rep w word sum m n g tests final small leave others = absurd all
-      chosen-follows r zero (l ∷ k ∷ ls) (run ∷ []) all few q s inv rep w word sum m n g tests final small leave others = absurd all.1
-      chosen-follows r (suc v) (l ∷ k ∷ ls) [] all few q s inv rep w word sum m n g tests final small leave others = absurd all
-      chosen-follows r (suc v) (l ∷ k ∷ ls) (run ∷ []) all few q s inv rep w word sum m n g tests final small leave others = absurd all.1
+      chosen-follows r v [] (run ∷ rs) all few q s shown w word sum m n g tests final small leave others = absurd all
+      chosen-follows r v (l ∷ []) [] all few q s shown w word sum m n g tests final small leave others = absurd all
+      chosen-follows r v (l ∷ []) (run ∷ next ∷ rs) all few q s shown w word sum m n g tests final small leave others = absurd all.1
+      chosen-follows r zero (l ∷ k ∷ ls) [] all few q s shown w word sum m n g tests final small leave others = absurd all
+      chosen-follows r zero (l ∷ k ∷ ls) (run ∷ []) all few q s shown w word sum m n g tests final small leave others = absurd all.1
+      chosen-follows r (suc v) (l ∷ k ∷ ls) [] all few q s shown w word sum m n g tests final small leave others = absurd all
+      chosen-follows r (suc v) (l ∷ k ∷ ls) (run ∷ []) all few q s shown w word sum m n g tests final small leave others = absurd all.1
 
     -- ---- where the parts of a choice stand
 
@@ -147,7 +147,7 @@ module _ (text : Text) (f : Frame) (sizes : ℕ → ℕ) (left : ℕ) (Inv : lin
 
     -- of two codes the first stands where the branch is not taken
     two-follow : (l k : List Line) (run next : Run) → Follow l run → Follow k next → Follow (choice_lines x first (l ∷ k ∷ [])) (chosen_by (place_at p x) (run ∷ next ∷ []))
-    two-follow l k run next follows follows' q s b inv rep there low =
+    two-follow l k run next follows follows' q s b shown there low =
         on-a-number text f sizes left Inv has addresses labels p os c b c.bound (q.names (place_at p x)) (λ w. chosen w (run ∷ next ∷ []) q) s q.input (λ w word. by w word)
       where
         all : (h : ℕ) × At s.pc ((branch_not_zero x first ∷ l) ++ (jump (suc first) ∷ label first ∷ k)) h × At h (label (suc first) ∷ []) b
@@ -182,40 +182,40 @@ module _ (text : Text) (f : Frame) (sizes : ℕ → ℕ) (left : ℕ) (Inv : lin
 
         by : (w : ℕ) → q.names (place_at p x) ≡ Num w → To b (chosen w (run ∷ next ∷ []) q) s q.input
         by zero word =
-            arrives-outcome text f sizes left Inv test.0 b c.bound q s (run q)
-            (branches-not-zero text addresses labels p os f has q s x 0 test.0 first over.0 rep inside word test-low second.0 over-low test.1)
-            (λ t rep' at.
-            then-leaves both.0 b (run q) t q.input (follows q t both.0 inv rep' (subst (λ a. At a l both.0) (sym at) test.2) both-low)
+            arrives-outcome text f sizes left Inv test.0 b c.bound q s shown.bases (run q) shown.inv
+            (branches-not-zero text addresses labels p os (at_bases f shown.bases) (words-at text f shown.bases has) q s x 0 test.0 first over.0 shown.shows inside word test-low second.0 over-low test.1)
+            (λ t shown' at.
+            then-leaves both.0 b (run q) t q.input (follows q t both.0 shown' (subst (λ a. At a l both.0) (sym at) test.2) both-low)
             (leaves (suc first) both.0 over.0 b over.1 over-low end-is low))
         by (suc w) word =
             let other : (suc w == 0) ≡ false = ne_eqb (suc w) 0 (λ e. omega (arith, e)) in
-            arrives-outcome text f sizes left Inv over.0 b c.bound q s (next q)
-            (subst (λ t. Arrives text f (if t then test.0 else over.0) q s) other
-            (branches-not-zero text addresses labels p os f has q s x (suc w) test.0 first over.0 rep inside word test-low second.0 over-low test.1))
-            (λ t rep' at. follows' q t b inv rep' (subst (λ a. At a k b) (sym at) (subst (λ y. At over.0 k y) end.1 second.1)) low)
+            arrives-outcome text f sizes left Inv over.0 b c.bound q s shown.bases (next q) shown.inv
+            (subst (λ t. Arrives text (at_bases f shown.bases) (if t then test.0 else over.0) q s) other
+            (branches-not-zero text addresses labels p os (at_bases f shown.bases) (words-at text f shown.bases has) q s x (suc w) test.0 first over.0 shown.shows inside word test-low second.0 over-low test.1))
+            (λ t shown' at. follows' q t b shown' (subst (λ a. At a k b) (sym at) (subst (λ y. At over.0 k y) end.1 second.1)) low)
 
     pub choice-follows : (ls : List (List Line)) (rs : List Run) → AllFollow ls rs → length ls < 2 ^ 32 → Follow (choice_lines x first ls) (chosen_by (place_at p x) rs)
-    choice-follows [] [] all few q s b inv rep there low = inr tt
-    choice-follows (l ∷ []) (run ∷ []) all few q s b inv rep there low =
+    choice-follows [] [] all few q s b shown there low = inr tt
+    choice-follows (l ∷ []) (run ∷ []) all few q s b shown there low =
         let h = parts (l ∷ []) s.pc b there in
         let end : h.n ≡ b = h.others in
         let code = subst (λ y. At h.m l y) end h.final in
-        all.0 q s b inv rep (subst (λ a. At a l b) (sym h.tests) code) low
-    choice-follows (l ∷ k ∷ []) (run ∷ next ∷ []) all few q s b inv rep there low = two-follow l k run next all.0 all.1.0 q s b inv rep there low
-    choice-follows (l ∷ k ∷ j ∷ ls) (run ∷ next ∷ other ∷ rs) all few q s b inv rep there low =
+        all.0 q s b shown (subst (λ a. At a l b) (sym h.tests) code) low
+    choice-follows (l ∷ k ∷ []) (run ∷ next ∷ []) all few q s b shown there low = two-follow l k run next all.0 all.1.0 q s b shown there low
+    choice-follows (l ∷ k ∷ j ∷ ls) (run ∷ next ∷ other ∷ rs) all few q s b shown there low =
         let h = parts (l ∷ k ∷ j ∷ ls) s.pc b there in
         let last = first + before_last (l ∷ k ∷ j ∷ ls) in
         let le = lines-le text addresses labels p os h.n b (labelled 0 first last (l ∷ k ∷ j ∷ ls)) h.others in
         on-a-number text f sizes left Inv has addresses labels p os c b c.bound (q.names (place_at p x)) (λ w. chosen w (run ∷ next ∷ other ∷ rs) q) s q.input
         (λ w word.
-        chosen-follows last b low h.end_is 0 w (l ∷ k ∷ j ∷ ls) (run ∷ next ∷ other ∷ rs) all (omega (arith, few)) q s inv rep w word (omega arith) h.m h.n h.n h.tests h.final (omega (arith, le, low))
+        chosen-follows last b low h.end_is 0 w (l ∷ k ∷ j ∷ ls) (run ∷ next ∷ other ∷ rs) all (omega (arith, few)) q s shown w word (omega arith) h.m h.n h.n h.tests h.final (omega (arith, le, low))
         (exits last b low h.end_is 0 (l ∷ k ∷ j ∷ ls) h.n h.others) h.others)
-    choice-follows [] (run ∷ rs) all few q s b inv rep there low = absurd all
-    choice-follows (l ∷ []) [] all few q s b inv rep there low = absurd all
-    choice-follows (l ∷ []) (run ∷ next ∷ rs) all few q s b inv rep there low = absurd all.1
-    choice-follows (l ∷ k ∷ []) [] all few q s b inv rep there low = absurd all
-    choice-follows (l ∷ k ∷ []) (run ∷ []) all few q s b inv rep there low = absurd all.1
-    choice-follows (l ∷ k ∷ []) (run ∷ next ∷ other ∷ rs) all few q s b inv rep there low = absurd all.1.1
-    choice-follows (l ∷ k ∷ j ∷ ls) [] all few q s b inv rep there low = absurd all
-    choice-follows (l ∷ k ∷ j ∷ ls) (run ∷ []) all few q s b inv rep there low = absurd all.1
-    choice-follows (l ∷ k ∷ j ∷ ls) (run ∷ next ∷ []) all few q s b inv rep there low = absurd all.1.1
+    choice-follows [] (run ∷ rs) all few q s b shown there low = absurd all
+    choice-follows (l ∷ []) [] all few q s b shown there low = absurd all
+    choice-follows (l ∷ []) (run ∷ next ∷ rs) all few q s b shown there low = absurd all.1
+    choice-follows (l ∷ k ∷ []) [] all few q s b shown there low = absurd all
+    choice-follows (l ∷ k ∷ []) (run ∷ []) all few q s b shown there low = absurd all.1
+    choice-follows (l ∷ k ∷ []) (run ∷ next ∷ other ∷ rs) all few q s b shown there low = absurd all.1.1
+    choice-follows (l ∷ k ∷ j ∷ ls) [] all few q s b shown there low = absurd all
+    choice-follows (l ∷ k ∷ j ∷ ls) (run ∷ []) all few q s b shown there low = absurd all.1
+    choice-follows (l ∷ k ∷ j ∷ ls) (run ∷ next ∷ []) all few q s b shown there low = absurd all.1.1

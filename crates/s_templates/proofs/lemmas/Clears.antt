@@ -24,7 +24,7 @@ use Rattle.s_templates.proofs.lemmas.Registers.{Computes, steps-then, step-to, l
 use Rattle.s_templates.proofs.lemmas.Locations.{kept-apart}
 use Rattle.s_templates.proofs.lemmas.Operands.{stored, store-acts}
 use Rattle.s_templates.proofs.lemmas.Blocks.{leaf-of-value, value-there, leaf-there}
-use Rattle.s_templates.proofs.lemmas.Stores.{SameBlocks, same-back, fellow, leaf-same, laid-same}
+use Rattle.s_templates.proofs.lemmas.Stores.{SameBlocks, same-back, fellow, alike, leaf-same, laid-same}
 use Rattle.s_templates.proofs.lemmas.Represented.{memory-written}
 
 beside : (n at width : ℕ) → (at ≤ n → n < at + width → ⊥) → (n < at) ⊎ (at + width ≤ n)
@@ -200,7 +200,7 @@ module _ (zeroed : LoadAfterClear) (elsewhere : ClearElsewhere) (keeps : ClearKe
   clear-shown flags bases mem mem' b k m shows lives size none left = record { laid = laid; values = values }
     where
       laid : AreLaidOut flags bases (cleared b m)
-      laid = laid-same flags bases m (cleared b m) (clear-same b m) shows.laid
+      laid = laid-same flags bases m (cleared b m) (alike m (cleared b m) (clear-same b m)) shows.laid
 
       in-block : (w p : ℕ) (c : BlockName) (v : Value) → load w (At c p) (cleared b m) ≡ Some v → b.number ≡ c.number → Shows bases v (load_bytes mem' (bases c.number + p) w)
       in-block w p c v loaded number =

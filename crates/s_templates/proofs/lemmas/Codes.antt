@@ -11,19 +11,19 @@ use Rattle.s_linear.specs.Meaning as linear
 use Rattle.s_linear.specs.Meaning.{Context, instrs_run, turns, chosen_by, step_run, code_run, codes_runs}
 use Rattle.a_place.specs.Placed.{placed_instr, placed_step, placed_code, placed_codes}
 use Rattle.s_templates.specs.Codes.{InstrsFit, StepFits, CodeFits, CodesFit}
-use Rattle.s_templates.specs.Relation.{Frame, HasWords}
+use Rattle.s_templates.specs.Relation.{Bases, Frame, HasWords}
 use Rattle.s_templates.specs.Table.{place_at}
 use Rattle.s_templates.proofs.lemmas.Choices.{AllFollow, choice-follows}
 use Rattle.s_templates.proofs.lemmas.Follows.{Stand, LinesFollow, InstrFollows, moved, predicate-below, instrs-follow, LoopStands, turns-follow}
 use Rattle.s_templates.proofs.lemmas.Lines.{lines-le, lines-cut, line-cut, label-here}
 use Rattle.s_templates.proofs.lemmas.Outcomes.{then-outcome, returns}
 
-length-codes : (last others : ℕ) (cs : Codes) → length (codes_lines last others cs) ≡ counted cs
+pub length-codes : (last others : ℕ) (cs : Codes) → length (codes_lines last others cs) ≡ counted cs
 length-codes last others no_codes = refl
 length-codes last others (code_then k no_codes) = refl
 length-codes last others (code_then k (code_then j ks)) = ap suc (length-codes last (others + code_labels k) (code_then j ks))
 
-module _ (text : Text) (f : Frame) (sizes : ℕ → ℕ) (left : ℕ) (Inv : linear.State → Type 0) (has : HasWords text f) (addresses : Addresses) (labels : ℕ → Option ℕ) (p : PlainPlaces)
+module _ (text : Text) (f : Frame) (sizes : ℕ → ℕ) (left : ℕ) (Inv : Bases → linear.State → Type 0) (has : HasWords text f) (addresses : Addresses) (labels : ℕ → Option ℕ) (p : PlainPlaces)
     (os : List PlainObject) (c : Context) (count : f.places ≡ p.count) (fits : Instr → Type 0)
     (instr : (i : Instr) → fits i → InstrFollows text f sizes left Inv has addresses labels p os c i) where
   abbrev At : ℕ → List Line → ℕ → Type 0
@@ -36,23 +36,23 @@ module _ (text : Text) (f : Frame) (sizes : ℕ → ℕ) (left : ℕ) (Inv : lin
   instrs is fit = instrs-follow text f sizes left Inv has addresses labels p os c fits instr is fit
 
   plain-follows : (first : ℕ) (i : Instr) → fits i → Follow (step_lines first (plain i)) (step_run c (placed_step (place_at p) (plain i)))
-  plain-follows first i fit q s b inv rep there low =
+  plain-follows first i fit q s b shown there low =
       let cut = line-cut text addresses labels p os s.pc b (done i) [] there in
       let end : cut.0 ≡ b = cut.2 in
       moved text f sizes left Inv has addresses labels p os c cut.0 b c.bound (linear.instr_run c (placed_instr (place_at p) i) q) s q.input end
-      (instr i fit q s cut.0 inv rep cut.1 (omega (arith, end, low)))
+      (instr i fit q s cut.0 shown cut.1 (omega (arith, end, low)))
 
   -- the variables are moved in, and the loop's parts stand one after the other
   loop-follows : (first x : ℕ) (moves back : List Instr) (body : List Line) (run : linear.Run) → InstrsFit fits moves → place_at p x < f.places → InstrsFit fits back → Follow body run
       → Follow (map done moves ++ label first ∷ body ++ branch_zero x (suc first) ∷ map done back ++ jump first ∷ label (suc first) ∷ [])
       (λ q. then_on (instrs_run c (map (placed_instr (place_at p)) moves) q) (turns c.bound run (place_at p x) (instrs_run c (map (placed_instr (place_at p)) back))))
-  loop-follows first x moves back body run fit inside fit' follows q s b inv rep there low =
+  loop-follows first x moves back body run fit inside fit' follows q s b shown there low =
       let back_run = instrs_run c (map (placed_instr (place_at p)) back) in
       then-outcome text f sizes left Inv moved-in.0 b c.bound (instrs_run c (map (placed_instr (place_at p)) moves) q) (turns c.bound run (place_at p x) back_run) s q.input
-      (instrs moves fit q s moved-in.0 inv rep moved-in.1 (let le = body-le in omega (arith, le, low)))
-      (λ q' t inv' rep' at.
-      turns-follow text f sizes left Inv has addresses labels p os c x first inside body (map done back) run back_run follows (instrs back fit') moved-in.0 b low stands c.bound (omega arith) q' t inv'
-      rep' at)
+      (instrs moves fit q s moved-in.0 shown moved-in.1 (let le = body-le in omega (arith, le, low)))
+      (λ q' t shown' at.
+      turns-follow text f sizes left Inv has addresses labels p os c x first inside body (map done back) run back_run follows (instrs back fit') moved-in.0 b low stands c.bound (omega arith) q' t
+      shown' at)
     where
       all : (m : ℕ) × At s.pc ((map done moves ++ (label first ∷ body)) ++ (branch_zero x (suc first) ∷ map done back)) m × At m (jump first ∷ label (suc first) ∷ []) b
       all = lines-cut text addresses labels p os s.pc b ((map done moves ++ (label first ∷ body)) ++ (branch_zero x (suc first) ∷ map done back)) (jump first ∷ label (suc first) ∷ []) there
@@ -111,14 +111,14 @@ module _ (text : Text) (f : Frame) (sizes : ℕ → ℕ) (left : ℕ) (Inv : lin
         (predicate-below text f sizes left Inv has addresses labels p os c x count fit.2) fit.3 (code-follows body (2 + first) fit.1)
 
     pub code-follows : (k : Code) (first : ℕ) → CodeFits fits p k → Follow (code_lines first k) (code_run c (placed_code (place_at p) k))
-    code-follows no_steps first fit q s b inv rep there low = returns text f sizes left Inv b c.bound q s inv rep there
-    code-follows (step_then x k) first fit q s b inv rep there low =
+    code-follows no_steps first fit q s b shown there low = returns text f sizes left Inv b c.bound q s shown there
+    code-follows (step_then x k) first fit q s b shown there low =
         let rest = code_lines (first + step_labels x) k in
         let cut = lines-cut text addresses labels p os s.pc b (step_lines first x) rest there in
         let le = lines-le text addresses labels p os cut.0 b rest cut.2 in
         then-outcome text f sizes left Inv cut.0 b c.bound (step_run c (placed_step (place_at p) x) q) (code_run c (placed_code (place_at p) k)) s q.input
-        (step-follows x first fit.0 q s cut.0 inv rep cut.1 (omega (arith, le, low)))
-        (λ q' t inv' rep' at. code-follows k (first + step_labels x) fit.1 q' t b inv' rep' (subst (λ a. At a rest b) (sym at) cut.2) low)
+        (step-follows x first fit.0 q s cut.0 shown cut.1 (omega (arith, le, low)))
+        (λ q' t shown' at. code-follows k (first + step_labels x) fit.1 q' t b shown' (subst (λ a. At a rest b) (sym at) cut.2) low)
 
     codes-follow : (cs : Codes) (last others : ℕ) → CodesFit fits p cs
         → AllFollow text f sizes left Inv has addresses labels p os c (codes_lines last others cs) (codes_runs c (placed_codes (place_at p) cs))

@@ -10,14 +10,14 @@ use Rattle.rv_machine.specs.Run.{RunResult, run, running, ended, after_output}
 use Rattle.rv_machine.specs.Standing.{Text}
 use Rattle.rv_machine.proofs.lemmas.RunLaws.{run-zero, run_goes_on, reaches_onwards}
 use Rattle.s_linear.specs.Meaning as linear
-use Rattle.s_templates.specs.Relation.{Frame, Represents}
-use Rattle.s_templates.specs.Steps.{Steps, Arrives, Comes, Ends, GoesOn, Exceeds}
+use Rattle.s_templates.specs.Relation.{Bases, Frame, at_bases, HasWords, Represents}
+use Rattle.s_templates.specs.Steps.{Steps, Arrives, Ends, GoesOn, Exceeds}
 
-events-before : {A : Type 0} (o : List Event) (a : Answer A) → events (before o a) ≡ o ++ events a
+pub events-before : {A : Type 0} (o : List Event) (a : Answer A) → events (before o a) ≡ o ++ events a
 events-before o a = ap events (before-is o a) ∙ events-added o a
 
 -- more events only add to what exceeds the stack
-exceeds-more : (flags sizes : ℕ → ℕ) (left : ℕ) (o p : List Event) (s : State) (input : List ℕ) → Exceeds flags sizes left o s input → Exceeds flags sizes left (o ++ p) s input
+pub exceeds-more : (flags sizes : ℕ → ℕ) (left : ℕ) (o p : List Event) (s : State) (input : List ℕ) → Exceeds flags sizes left o s input → Exceeds flags sizes left (o ++ p) s input
 exceeds-more flags sizes left o p s input h = record {
   count = h.count;
   written = h.written;
@@ -27,11 +27,28 @@ exceeds-more flags sizes left o p s input h = record {
   more = (let more = h.more in let all = deepest_appends sizes o p in omega (arith, more, all));
 }
 
--- Frames and Inv stay the same from one answer to the next; Inv is what holds of each state of linear code.
-module _ (text : Text) (f : Frame) (sizes : ℕ → ℕ) (left : ℕ) (Inv : linear.State → Type 0) where
+-- A state of the machine stands for one of linear code, with some addresses of blocks; Inv is what holds of each state of linear code.
+pub record Shown (text : Text) (f : Frame) (Inv : Bases → linear.State → Type 0) (q : linear.State) (s : State) : Type 0 where
+  pub bases : Bases
+  pub inv : Inv bases q
+  pub shows : Represents text (at_bases f bases) q s
+
+-- to address b, as `Comes`
+pub record Brings (text : Text) (f : Frame) (Inv : Bases → linear.State → Type 0) (b : ℕ) (q : linear.State) (did : List Event) (s : State) (input : List ℕ) : Type 0 where
+  pub state : State
+  pub count : ℕ
+  pub reaches : Reaches text.flags count s input (output did) state q.input
+  pub pc : state.pc ≡ b
+  pub shown : Shown text f Inv q state
+
+-- the words of a frame wherever blocks are
+pub words-at : (text : Text) (f : Frame) (bases : Bases) → HasWords text f → HasWords text (at_bases f bases)
+words-at text f bases has = record { aligned = has.aligned; low = has.low; readable = has.readable; writable = has.writable }
+
+module _ (text : Text) (f : Frame) (sizes : ℕ → ℕ) (left : ℕ) (Inv : Bases → linear.State → Type 0) where
   -- the machine does what the answer says
   abbrev pub Reached : (b least : ℕ) → Answer linear.State → State → (input : List ℕ) → Type 0
-  Reached b least (Returned q did) s input = Comes text f b q did s input × Inv q
+  Reached b least (Returned q did) s input = Brings text f Inv b q did s input
   Reached b least (Cut did) s input = GoesOn text.flags least did s input
   Reached b least (Exited did status) s input = Ends text.flags did status s input
   Reached b least (Undefined did) s input = Unit {0}
@@ -58,19 +75,17 @@ module _ (text : Text) (f : Frame) (sizes : ℕ → ℕ) (left : ℕ) (Inv : lin
         begins = subst (IsPrefixOf (output did ++ h.written)) (sym (output_appends did (events a))) (prefix-after (output did) h.written (output (events a)) h.begins);
         more = (let more = h.more in let all = deepest_appends sizes did (events a) in omega (arith, more, all));
       }))
-  added-outcome did b least least' n s t input rest reaches enough (Returned q o) (inr (h, inv)) =
-      inr (
-        record {
-          state = h.state;
-          count = n + h.count;
-          reaches =
-              subst (λ out. Reaches text.flags (n + h.count) s input out h.state q.input) (sym (output_appends did o))
-              (reaches_onwards text.flags n h.count s t h.state input (output did) rest (output o) q.input reaches h.reaches);
-          pc = h.pc;
-          shows = h.shows;
-        },
-        inv,
-      )
+  added-outcome did b least least' n s t input rest reaches enough (Returned q o) (inr h) =
+      inr
+      (record {
+        state = h.state;
+        count = n + h.count;
+        reaches =
+            subst (λ out. Reaches text.flags (n + h.count) s input out h.state q.input) (sym (output_appends did o))
+            (reaches_onwards text.flags n h.count s t h.state input (output did) rest (output o) q.input reaches h.reaches);
+        pc = h.pc;
+        shown = h.shown;
+      })
   added-outcome did b least least' n s t input rest reaches enough (Cut o) (inr h) =
       inr
       (record {
@@ -105,14 +120,14 @@ module _ (text : Text) (f : Frame) (sizes : ℕ → ℕ) (left : ℕ) (Inv : lin
 
   -- one part, and on its result another
   pub then-outcome : (m b least : ℕ) (a : Answer linear.State) (next : linear.State → Answer linear.State) (s : State) (input : List ℕ) → Outcome m least a s input
-      → ((q : linear.State) (t : State) → Inv q → Represents text f q t → t.pc ≡ m → Outcome b least (next q) t q.input) → Outcome b least (then_on a next) s input
+      → ((q : linear.State) (t : State) → Shown text f Inv q t → t.pc ≡ m → Outcome b least (next q) t q.input) → Outcome b least (then_on a next) s input
   then-outcome m b least (Returned q o) next s input (inl h) go =
       inl (subst (λ es. Exceeds text.flags sizes left es s input) (sym (events-before o (next q))) (exceeds-more text.flags sizes left o (events (next q)) s input h))
   then-outcome m b least (Cut o) next s input (inl h) go = inl h
   then-outcome m b least (Exited o status) next s input (inl h) go = inl h
   then-outcome m b least (Undefined o) next s input (inl h) go = inl h
-  then-outcome m b least (Returned q o) next s input (inr (h, inv)) go =
-      before-outcome o b least least h.count s h.state input q.input h.reaches (omega arith) (next q) (go q h.state inv h.shows h.pc)
+  then-outcome m b least (Returned q o) next s input (inr h) go =
+      before-outcome o b least least h.count s h.state input q.input h.reaches (omega arith) (next q) (go q h.state h.shown h.pc)
   then-outcome m b least (Cut o) next s input (inr h) go = inr h
   then-outcome m b least (Exited o status) next s input (inr h) go = inr h
   then-outcome m b least (Undefined o) next s input (inr h) go = inr tt
@@ -127,11 +142,12 @@ module _ (text : Text) (f : Frame) (sizes : ℕ → ℕ) (left : ℕ) (Inv : lin
   weaker b least least' s input (Undefined o) less (inr h) = inr tt
 
   -- nothing is left to do
-  pub returns : (b least : ℕ) (q : linear.State) (s : State) → Inv q → Represents text f q s → s.pc ≡ b → Outcome b least (Returned q []) s q.input
-  returns b least q s inv rep here =
-      inr (record { state = s; count = 0; reaches = record { to = run-zero text.flags (running s) q.input }; pc = here; shows = rep }, inv)
+  pub returns : (b least : ℕ) (q : linear.State) (s : State) → Shown text f Inv q s → s.pc ≡ b → Outcome b least (Returned q []) s q.input
+  returns b least q s shown here =
+      inr (record { state = s; count = 0; reaches = record { to = run-zero text.flags (running s) q.input }; pc = here; shown = shown })
 
   -- steps without events lead to a state for which something follows
-  pub arrives-outcome : (m b least : ℕ) (q : linear.State) (s : State) (a : Answer linear.State) → Arrives text f m q s → ((t : State) → Represents text f q t → t.pc ≡ m → Outcome b least a t q.input)
-      → Outcome b least a s q.input
-  arrives-outcome m b least q s a h go = steps-outcome b least s h.state q.input a h.steps (go h.state h.shows h.pc)
+  pub arrives-outcome : (m b least : ℕ) (q : linear.State) (s : State) (bases : Bases) (a : Answer linear.State) → Inv bases q → Arrives text (at_bases f bases) m q s
+      → ((t : State) → Shown text f Inv q t → t.pc ≡ m → Outcome b least a t q.input) → Outcome b least a s q.input
+  arrives-outcome m b least q s bases a inv h go =
+      steps-outcome b least s h.state q.input a h.steps (go h.state (record { bases = bases; inv = inv; shows = h.shows }) h.pc)

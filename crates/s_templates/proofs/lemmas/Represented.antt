@@ -13,10 +13,10 @@ use Rattle.s_select.specs.declared.location.Location.{Location}
 use Rattle.s_select.specs.declared.location.Location.TheVariants.{Register, Near, Far}
 use Rattle.s_select.specs.Operands.{place_register, location_of}
 use Rattle.rv_machine.specs.Standing.{Text, HasText}
-use Rattle.s_templates.specs.Relation.{IsKept, Shows, IsOutside, ShowsMemory, held, Frame, words_end, HasWords, Represents}
+use Rattle.s_templates.specs.Relation.{IsKept, SameWord, Shows, IsOutside, ShowsMemory, held, Frame, words_end, HasWords, Represents}
 use Rattle.s_templates.specs.Steps.{Arrives}
 use Rattle.s_templates.proofs.lemmas.Blocks.{memory-same}
-use Rattle.s_templates.proofs.lemmas.Stores.{SameBlocks, same-back, live-same}
+use Rattle.s_templates.proofs.lemmas.Stores.{SameBlocks, same-back, alike, live-same}
 use Rattle.s_templates.proofs.lemmas.Locations.{no-temporary, LocationFits, IsOtherRegister, place-above, register-is-place, location-fits, other-register, other-addresses, held-at-register, held-at-word, held-same, outside-words}
 use Rattle.s_templates.proofs.lemmas.Operands.{Writes}
 
@@ -39,7 +39,7 @@ module _ (text : Text) (f : Frame) (words : HasWords text f) where
     stack = kept sp (inl refl) (high-register sp (omega arith)) ∙ rep.stack;
     base = kept s0 (inr (inl refl)) (high-register s0 (omega arith)) ∙ rep.base;
     places = place;
-    saved = λ p above low. register p low (apart p above) ∙ rep.saved p above low;
+    saved = λ p above low. subst (SameWord (f.before.regs (place_register p))) (sym (register p low (apart p above))) (rep.saved p above low);
     above = λ a from out. w.memory a (outside-words f t a below (inr from)) ∙ rep.above a from out;
     memory =
         memory-same text.flags f.bases q.memory s.mem w.state.mem
@@ -99,7 +99,7 @@ module _ (text : Text) (f : Frame) (words : HasWords text f) where
     places = λ p within.
         subst (Shows f.bases (q.names p))
         (sym (held-same f (location_of p) (location-fits f p within) s.regs u.regs s.mem u.mem (λ r place. regs r (inr (inr place))) mem)) (rep.places p within);
-    saved = λ p above low. regs (place_register p) (inr (inr (register-is-place p low))) ∙ rep.saved p above low;
+    saved = λ p above low. subst (SameWord (f.before.regs (place_register p))) (sym (regs (place_register p) (inr (inr (register-is-place p low))))) (rep.saved p above low);
     above = λ n from out. ap (λ m. m n) mem ∙ rep.above n from out;
     memory = subst (λ m. ShowsMemory text.flags f.bases q.memory m) (sym mem) rep.memory;
     apart = rep.apart;
@@ -114,15 +114,15 @@ module _ (text : Text) (f : Frame) (words : HasWords text f) where
     stack = regs sp (inl refl) ∙ rep.stack;
     base = regs s0 (inr (inl refl)) ∙ rep.base;
     places = λ p within. subst (Shows f.bases (q.names p)) (sym (same-held p within)) (rep.places p within);
-    saved = λ p above low. regs (place_register p) (inr (inr (register-is-place p low))) ∙ rep.saved p above low;
+    saved = λ p above low. subst (SameWord (f.before.regs (place_register p))) (sym (regs (place_register p) (inr (inr (register-is-place p low))))) (rep.saved p above low);
     above = λ a from out. elsewhere a (before a out) ∙ rep.above a from (before a out);
     memory = shows;
-    apart = λ a from to live. rep.apart a from to (live-same f.bases m q.memory (same-back q.memory m same) a live);
+    apart = λ a from to live. rep.apart a from to (live-same f.bases m q.memory (alike m q.memory (same-back q.memory m same)) a live);
     has_text = λ a unwritable. fixed a unwritable ∙ rep.has_text a unwritable;
   }
     where
       before : (a : ℕ) → IsOutside f.bases m a → IsOutside f.bases q.memory a
-      before a out live = out (live-same f.bases q.memory m same a live)
+      before a out live = out (live-same f.bases q.memory m (alike q.memory m same) a live)
 
       same-held : (p : ℕ) → p < f.places → held f.sp u.regs u.mem (location_of p) ≡ held f.sp s.regs s.mem (location_of p)
       same-held p within =

@@ -15,7 +15,7 @@ use Rattle.rv_machine.specs.Memory.{Bytes, load_bytes, store_bytes, IsWidth}
 use Rattle.rv_machine.specs.MemoryLaws.{AreDisjoint}
 use Rattle.rv_machine.proofs.lemmas.Stores.{stored_is_loaded, store_leaves_others}
 use Rattle.rv_machine.proofs.lemmas.Stores as bytes
-use Rattle.s_templates.specs.Relation.{Bases, Shows, Lives, IsLive, has_leaf, LeafFits, BlockFits, AreLaidOut, ShowsMemory}
+use Rattle.s_templates.specs.Relation.{Bases, Shows, Lives, Fellow, LivesAlike, IsLive, has_leaf, LeafFits, BlockFits, AreLaidOut, ShowsMemory}
 use Rattle.s_templates.proofs.lemmas.Blocks.{leaf-of-value, ValueAt, value-there, leaf-there}
 use Rattle.s_templates.proofs.lemmas.Operands.{shows-word}
 
@@ -28,13 +28,6 @@ pub record SameBlocks (m m' : Memory) : Type 0 where
 
 pub same-back : (m m' : Memory) → SameBlocks m m' → SameBlocks m' m
 same-back m m' h = record { shapes = sym h.shapes; lives = sym h.lives; fixed = sym h.fixed }
-
--- the block of the same number
-pub record Fellow (m : Memory) (n : ℕ) (b : Block) : Type 0 where
-  pub block : Block
-  pub there : Lives m n block
-  pub shape : shape_of block ≡ shape_of b
-  pub fixed : block.fixed ≡ b.fixed
 
 mapped : {A B : Type 0} (g : A → B) (xs ys : List A) (n : ℕ) (x : A) → map g xs ≡ map g ys → slice_get xs n ≡ Some x → option_map g (slice_get ys n) ≡ Some (g x)
 mapped g xs ys n x e there = sym (slice_get-map g ys n) ∙ sym (ap (λ l. slice_get l n) e) ∙ slice_get-map g xs n ∙ ap (option_map g) there
@@ -52,6 +45,12 @@ fellow m m' h n b lives =
         let fixed : k.fixed ≡ b.fixed = cc in
         record { block = k; there = record { there = there; live = live ∙ lives.live }; shape = shape; fixed = fixed }
 
+pub alike : (m m' : Memory) → SameBlocks m m' → LivesAlike m m'
+alike m m' h = record { forth = fellow m m' h; back = fellow m' m (same-back m m' h) }
+
+pub alike-back : (m m' : Memory) → LivesAlike m m' → LivesAlike m' m
+alike-back m m' h = record { forth = h.back; back = h.forth }
+
 -- leaves are those of the shape
 abbrev leaf-in : (width offset : ℕ) → List Leaf → Bool
 leaf-in width offset ls = list_any (λ l. (l.offset == offset) && (l.width == width)) ls
@@ -64,11 +63,11 @@ pub leaf-same : (width offset : ℕ) (b c : Block) → shape_of b ≡ shape_of c
 leaf-same width offset b c e has =
     leaves-of-shape width offset b.cells ∙ ap (λ s. leaf-in width offset s.leaves) e ∙ sym (leaves-of-shape width offset c.cells) ∙ has
 
-pub laid-same : (flags : ℕ → ℕ) (bases : Bases) (m m' : Memory) → SameBlocks m m' → AreLaidOut flags bases m → AreLaidOut flags bases m'
+pub laid-same : (flags : ℕ → ℕ) (bases : Bases) (m m' : Memory) → LivesAlike m m' → AreLaidOut flags bases m → AreLaidOut flags bases m'
 laid-same flags bases m m' h laid = record { leaves = leaves; leaves_apart = leaves_apart; blocks_fit = blocks_fit; apart = apart }
   where
     was : (n : ℕ) (b : Block) → Lives m' n b → Fellow m n b
-    was n b lives = fellow m' m (same-back m m' h) n b lives
+    was n b lives = h.back n b lives
 
     size : (n : ℕ) (b : Block) (lives : Lives m' n b) → (was n b lives).block.size ≡ b.size
     size n b lives = ap (λ s. s.size) (was n b lives).shape
@@ -105,9 +104,9 @@ laid-same flags bases m m' h laid = record { leaves = leaves; leaves_apart = lea
         by (inr after) = let same = size p c lives' in inr (omega (arith, after, same))
 
 -- the same addresses are live
-pub live-same : (bases : Bases) (m m' : Memory) → SameBlocks m m' → (a : ℕ) → IsLive bases m a → IsLive bases m' a
+pub live-same : (bases : Bases) (m m' : Memory) → LivesAlike m m' → (a : ℕ) → IsLive bases m a → IsLive bases m' a
 live-same bases m m' h a live =
-    let k = fellow m m' h live.number live.block live.lives in
+    let k = h.forth live.number live.block live.lives in
     let size : k.block.size ≡ live.block.size = ap (λ s. s.size) k.shape in
     let high = live.high in
     record { number = live.number; block = k.block; lives = k.there; low = live.low; high = omega (arith, high, size) }
@@ -196,7 +195,7 @@ module _ (after : LoadAfterStore) (elsewhere : LoadElsewhere) (keeps : StoreKeep
   store-shown flags bases mem width o x b v m m' shows e word = record { laid = laid; values = values }
     where
       laid : AreLaidOut flags bases m'
-      laid = laid-same flags bases m m' (same-blocks width (At b o) v m m' e) shows.laid
+      laid = laid-same flags bases m m' (alike m m' (same-blocks width (At b o) v m m' e)) shows.laid
 
       target : StoredAt width o b v m
       target = stored-there width o b v m m' e

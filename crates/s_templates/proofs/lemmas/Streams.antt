@@ -19,7 +19,7 @@ use Rattle.s_linear.specs.Meaning.{got}
 use Rattle.s_select.specs.Operands as select
 use Rattle.s_select.specs.Operands.{place_register, location_of, get}
 use Rattle.s_templates.specs.Calls.{Called}
-use Rattle.s_templates.specs.Relation.{IsKept, IsLive, Shows, held, Frame, HasWords, Represents}
+use Rattle.s_templates.specs.Relation.{IsKept, SameWord, IsLive, Shows, held, Frame, HasWords, Represents}
 use Rattle.s_templates.specs.Steps.{Steps, Comes, Follows}
 use Rattle.s_templates.specs.Streams.{IsBuffer, PutIsDone, GetIsDone}
 use Rattle.s_templates.specs.Stubs.{FromStub, StubIsCalled}
@@ -40,7 +40,7 @@ module _ (text : Text) (f : Frame) (words : HasWords text f) (q : linear.State) 
     stack = regs sp (inl refl) ∙ rep.stack;
     base = regs s0 (inr (inl refl)) ∙ rep.base;
     places = λ p within. subst (Shows f.bases (q.names p)) (sym (same-held p within)) (rep.places p within);
-    saved = λ p above low. regs (place_register p) (inr (inr (register-is-place p low))) ∙ rep.saved p above low;
+    saved = λ p above low. subst (SameWord (f.before.regs (place_register p))) (sym (regs (place_register p) (inr (inr (register-is-place p low))))) (rep.saved p above low);
     above = λ a from out. mem a (λ e. let below = is.below in omega (arith, below, from, e)) ∙ rep.above a from out;
     memory =
         memory-same text.flags f.bases q.memory s.mem u.mem (λ a live. mem a (λ e. is.outside (subst (IsLive f.bases q.memory) e live))) rep.memory;
