@@ -26,6 +26,7 @@ pub mod Extended
 pub mod CallRows
 pub mod Opened
 pub mod Rooms
+pub mod Kept
 pub mod Functions
 pub mod MainRuns
 pub mod CodeFormats

@@ -18,4 +18,5 @@ pub mod Programs
 pub mod Starts
 pub mod Functions
 pub mod Mains
+pub mod Kept
 pub mod LaidFunctions

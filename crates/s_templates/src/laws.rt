@@ -9,6 +9,7 @@ ghost use Rattle.s_templates.specs.Calls.{CallLeads, ReturnLeads};
 ghost use Rattle.s_templates.specs.Formats.{TemplatesFit, ItemsFit, TextFits};
 ghost use Rattle.s_templates.specs.Functions.{FunctionsRun};
 ghost use Rattle.s_templates.specs.LaidFunctions.{SelectedCanRun, LaidProgramCanRun, LaidProgramStarts};
+ghost use Rattle.s_templates.specs.Kept.{ProgramIsKept};
 ghost use Rattle.s_templates.specs.Mains.{MainRuns};
 ghost use Rattle.s_templates.specs.Frames.{FrameIsTaken, StackIsExceeded, FrameIsGiven};
 ghost use Rattle.s_templates.specs.Programs.{LaidProgramStands};
@@ -211,4 +212,13 @@ pub fn programs_run()
     ensures { MainRuns }
 {
     functions_run();
+}
+
+/// The machine keeps the behaviour of a program from its start code on, where no bounded run of the
+/// program is without meaning: bounded run for bounded run both ways, never stuck, and stopped for
+/// want of stack only where the frames of the calls that are met are larger together than the stack.
+pub fn programs_are_kept()
+    ensures { ProgramIsKept }
+{
+    programs_run();
 }
