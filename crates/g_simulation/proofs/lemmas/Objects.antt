@@ -7,7 +7,7 @@ use Rattle.val_core.specs.declared.values.Value.TheVariants.{Num, At}
 use Rattle.val_core.specs.declared.operation.Op2.TheVariants as op
 use Rattle.val_core.specs.Words.{word2}
 use Rattle.val_core.specs.Values.{value2}
-use Rattle.val_core.specs.Memory.{Memory as Blocks, store, cleared}
+use Rattle.val_core.specs.Memory.{Memory as Blocks, store, cleared, cleared_at}
 use Rattle.val_core.specs.Refinement.{Direction}
 use Rattle.val_core.specs.Answers.{Answer, Returned, on_defined}
 use Rattle.c_typed.specs.Typed.{ExprTree, ElementTrees, no_elements, value_then, characters_then, no_initial, initial_value, initial_elements}
@@ -220,7 +220,7 @@ module _ (w : Direction) (functions : List Signature) (c : source.Context) (d : 
       same = stay-keeps s.next xs o o1 (extended-stay o s.next (memory m ∷ []))
 
       run : node_run d (node s.next (Clear k) (s.carried.memory ∷ []) no_regions) xs o ≡ Returned (memory m ∷ []) []
-      run = λ i. on_memory (h.memory i) (λ u. on_defined (graph.cleared_at (z i) u) graph.given_memory)
+      run = λ i. on_memory (h.memory i) (λ u. on_defined (cleared_at (z i) u) graph.given_memory)
 
   pub object-elements : (k : ℕ) (b : BlockName) → d.addresses.local k ≡ At b 0 → (es : ElementTrees) → AreWithin b.size es → ElementClaims es →
       Initials (object_begun k (initial_elements es)) (source_stmt.object_begun c (At b 0) (initial_elements es))

@@ -6,7 +6,7 @@ use Rattle.val_core.specs.declared.values.Value.TheVariants.{Num, At, Bad}
 use Rattle.val_core.specs.declared.operation.Op1.{Op1}
 use Rattle.val_core.specs.declared.operation.Op2.{Op2}
 use Rattle.val_core.specs.Values.{IsLessDefined, value1, value2}
-use Rattle.val_core.specs.Memory.{Memory as Blocks, load, store, takes_store, block_named, pointers_equal}
+use Rattle.val_core.specs.Memory.{Memory as Blocks, load, store, takes_store, block_named, pointers_equal, cleared_at}
 use Rattle.val_core.specs.Objects.{Addresses}
 use Rattle.val_core.specs.Answers.{Answer, Returned, then_on, on_defined}
 use Rattle.val_core.specs.Within.{Given}
@@ -136,7 +136,7 @@ module _ {A B : Type 0} (R : A → B → Type 0) where
       by Bad = tt
 
   clear-agrees : (a : Value) (m : Blocks) (next : Blocks → Answer A) (next' : Blocks → Answer B) → ((x : Blocks) → Agrees R (next x) (next' x)) →
-      Agrees R (on_defined (graph.cleared_at a m) next) (on_defined (linear.cleared_at a m) next')
+      Agrees R (on_defined (cleared_at a m) next) (on_defined (cleared_at a m) next')
   clear-agrees (At b o) m next next' go = go _
   clear-agrees (Num n) m next next' go = tt
   clear-agrees Bad m next next' go = tt
