@@ -8,7 +8,7 @@ use Rattle.rv_layout.specs.declared.item.Item.{Item}
 use Rattle.rv_layout.specs.Conditions.{CanLayOut}
 use Rattle.rv_layout.specs.Layout.{laid_out}
 use Rattle.cc_emit.specs.Image.{function_items, main_of, image_of, CanEmit}
-use Rattle.cc_emit.proofs.FunctionFits.{main_there, functions_fit}
+use Rattle.cc_emit.proofs.lemmas.FunctionFits.{main_there, functions_fit}
 use Rattle.cc_emit.proofs.Programs.{image_is_placed}
 
 pub main_fits : (program : PlainOmega) (ls : List PlainLambda) → CanEmit program ls → main_of program < 2 ^ 32

@@ -3,10 +3,9 @@ mod Bytes
 mod CodeSize
 mod Emitted
 mod Examples
-mod FunctionFits
 mod Globals
-mod Lambdas
 mod Placed
 mod Programs
 mod Selects
 mod Short
+pub mod lemmas

@@ -6,7 +6,7 @@ use Rattle.rv_layout.specs.Laws.{LaidIsPlaced}
 use Rattle.rv_layout.specs.Layout.{addresses_of}
 use Rattle.cc_emit.specs.Image.{function_items, main_of, image_of}
 use Rattle.cc_emit.specs.Laws.{TextIsShort, ImageIsPlaced, ProgramLoads, FunctionsFit}
-use Rattle.cc_emit.proofs.FunctionFits.{text_sum, memory_end}
+use Rattle.cc_emit.proofs.lemmas.FunctionFits.{text_sum, memory_end}
 
 pub text_is_short : TextIsShort
 text_is_short program ls can =

@@ -1,3 +1,3 @@
 mod Examples
 mod ObjectLemmas
-pub mod Selected
+pub mod lemmas

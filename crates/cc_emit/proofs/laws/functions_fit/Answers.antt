@@ -1,4 +1,4 @@
-use Rattle.cc_emit.proofs.FunctionFits.{functions_fit}
+use Rattle.cc_emit.proofs.lemmas.FunctionFits.{functions_fit}
 use Rattle.cc_emit.proofs.laws.functions_fit.Goals as goal
 
 pub returns : goal.returns

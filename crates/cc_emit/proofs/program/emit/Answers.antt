@@ -5,7 +5,7 @@ use Rattle.g_graph.specs.Plain.{PlainOmega}
 use Rattle.rv_layout.specs.Layout.{item_lists}
 use Rattle.cc_emit.specs.Image.{lambdas_of}
 use Rattle.cc_emit.proofs.Emitted.{main_fits, can_lay_out_here, image_here, placed_here}
-use Rattle.cc_emit.proofs.Lambdas.{is_function}
+use Rattle.cc_emit.proofs.lemmas.Lambdas.{is_function}
 use Rattle.cc_emit.proofs.program.emit.Goals as goal
 
 pub all_items-requires : goal.all_items-requires

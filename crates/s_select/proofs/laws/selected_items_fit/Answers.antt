@@ -1,4 +1,4 @@
-use Rattle.s_select.proofs.Selected.{selected_items_fit}
+use Rattle.s_select.proofs.lemmas.Selected.{selected_items_fit}
 use Rattle.s_select.proofs.laws.selected_items_fit.Goals as goal
 
 pub returns : goal.returns

@@ -1,4 +1,4 @@
-use Rattle.s_select.proofs.Selected.{selected_labels_are_marked}
+use Rattle.s_select.proofs.lemmas.Selected.{selected_labels_are_marked}
 use Rattle.s_select.proofs.laws.selected_labels_are_marked.Goals as goal
 
 pub returns : goal.returns

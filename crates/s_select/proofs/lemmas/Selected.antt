@@ -152,7 +152,7 @@ no_mark_instr p (linear.put a) = tt
 no_mark_instr p (linear.get t) = tt
 no_mark_instr p (linear.exit a) = tt
 
-marks-items : (k : ℕ) (p : PlainPlaces) (os : List PlainObject) (ls : List Line) → marks k (items_of p os ls) ≡ lines.marks k ls
+pub marks-items : (k : ℕ) (p : PlainPlaces) (os : List PlainObject) (ls : List Line) → marks k (items_of p os ls) ≡ lines.marks k ls
 marks-items k p os [] = refl
 marks-items k p os (enter xs ∷ ls) = unmarked k p os (enter xs) (items_of p os ls) (lines.marks k ls) tt (marks-items k p os ls)
 marks-items k p os (leave v ∷ ls) = unmarked k p os (leave v) (items_of p os ls) (lines.marks k ls) tt (marks-items k p os ls)

@@ -18,7 +18,7 @@ use Rattle.s_select.specs.Conditions.{CanSelect, IsFrameOf}
 use Rattle.s_select.specs.Templates.{items_of}
 use Rattle.cc_emit.specs.Image.{lines_of, frame_of, function_items, CanEmit}
 use Rattle.cc_emit.specs.Laws.{IsFunction}
-use Rattle.cc_emit.proofs.FunctionFits.{arguments_few}
+use Rattle.cc_emit.proofs.lemmas.FunctionFits.{arguments_few}
 use Rattle.cc_emit.proofs.Placed.{names_have_places}
 use Rattle.cc_emit.proofs.Selects.{lambda_can_select}
 

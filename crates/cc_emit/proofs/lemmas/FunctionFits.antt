@@ -21,7 +21,7 @@ use Rattle.rv_layout.specs.Items.{items_size}
 use Rattle.rv_layout.specs.Globals.{global_room, is_where, globals_where}
 use Rattle.rv_layout.specs.Layout.{stack_address}
 use Rattle.rv_layout.specs.Conditions.{labels_are_marked, is_within_reach, item_fits, function_fits, global_fits}
-use Rattle.s_select.proofs.Selected.{selected_labels_are_marked, selected_items_fit}
+use Rattle.s_select.proofs.lemmas.Selected.{selected_labels_are_marked, selected_items_fit}
 use Rattle.elf_file.specs.Image.{text_at, stack_size, memory_limit}
 use Rattle.cc_emit.specs.Image.{lines_of, function_items, code_size, main_of, CanEmit}
 use Rattle.cc_emit.specs.Laws.{HasFewArguments, FunctionsFit}
@@ -112,7 +112,7 @@ module _ (program : PlainOmega) (ls : List PlainLambda) (can : CanEmit program l
   size_of_code : (f : ℕ) (l : PlainLambda) → slice_get ls f ≡ Some l → code_size l ≤ 32 * lambda_values l + 256
   size_of_code f l there = code_is_short lines_are_short l (can.limits.each f l there).parameters (arguments_few f l there)
 
-  within_reach : (f : ℕ) (l : PlainLambda) → slice_get ls f ≡ Some l → is_within_reach (function_items l) ≡ true
+  pub within_reach : (f : ℕ) (l : PlainLambda) → slice_get ls f ≡ Some l → is_within_reach (function_items l) ≡ true
   within_reach f l there = lt-ltb (code_size l) (2 ^ 20) (omega (arith, size_of_code f l there, (can.limits.each f l there).values))
 
   pub function_fits_there : (f : ℕ) (l : PlainLambda) → slice_get ls f ≡ Some l → function_fits (length ls) (length program.deltas) (function_items l) ≡ true
