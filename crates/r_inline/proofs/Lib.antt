@@ -1,0 +1,7 @@
+mod Call
+mod Body
+mod Replaced
+mod Fits
+mod Exchanged
+mod Kept
+mod Examples
