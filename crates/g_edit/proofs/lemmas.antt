@@ -28,3 +28,6 @@ pub mod CarriedExits
 pub mod CarriedUses
 pub mod Returns
 pub mod Fewer
+pub mod Exchanged
+pub mod Pure
+pub mod Meant

@@ -1,13 +1,12 @@
 -- Laws of the edits.
-use Rattle.std.specs.Prelude.{◌≡◌, ◌≢◌, ◌⊎◌, ℕ, suc, Bool, false, List, Some, slice_get}
+use Rattle.std.specs.Prelude.{◌≡◌, ℕ, suc, Bool, false, List, Some, slice_get}
 use Rattle.val_core.specs.Events.{Event}
 use Rattle.val_core.specs.Answers.{Returned}
 use Rattle.g_graph.specs.declared.op.Kind.{Kind}
 use Rattle.g_graph.specs.declared.op.Op.TheVariants.{Gamma, Theta}
 use Rattle.g_graph.specs.declared.op.Origin.{Origin}
-use Rattle.g_graph.specs.declared.op.Origin.TheVariants.{Arg, Out}
+use Rattle.g_graph.specs.declared.op.Origin.TheVariants.{Arg}
 use Rattle.g_graph.specs.Plain.{RegionTree, region, NodeTree, node, NodeTrees, node_then, RegionTrees, no_regions, region_then, id_of, PlainLambda}
-use Rattle.g_graph.specs.Replace.{region_redirected}
 use Rattle.g_graph.specs.Splice.{joined_nodes}
 use Rattle.g_mean.specs.Data.{Datum, at_port}
 use Rattle.g_mean.specs.Meaning.{Context, turns, region_meaning}
@@ -70,14 +69,3 @@ abbrev pub LoopsKeepArguments : Type 0
 LoopsKeepArguments =
     (n : ℕ) (c : Context) (own : List Kind) (nodes : NodeTrees) (outs : List Origin) (us vs : List Datum) (did : List Event) (p : ℕ) → slice_get outs (suc p) ≡ Some (Arg p) →
     turns n (region_meaning c (region own nodes outs)) us ≡ Returned vs did → at_port vs p ≡ at_port us p
-
--- Uses of outputs of a Theta may become uses of its inputs, where the variables are such ones.
-abbrev pub InvariantUsesMove : Type 0
-InvariantUsesMove =
-    (ls ks : List PlainLambda) (l : PlainLambda) (args : List Kind) (before : NodeTrees) (id : ℕ) (inputs : List Origin) (own : List Kind) (nodes : NodeTrees) (outs : List Origin) (after : NodeTrees)
-    (results : List Origin) (move : Origin → Origin) →
-    IsPartOf l (region args (joined_nodes before (node_then (node id Theta inputs (region_then (region own nodes outs) no_regions)) after)) results) → ((k : ℕ) → move (Arg k) ≡ Arg k) →
-    ((n p : ℕ) → n ≢ id → move (Out n p) ≡ Out n p) →
-    ((p : ℕ) → (move (Out id p) ≡ Out id p) ⊎ ((slice_get outs (suc p) ≡ Some (Arg p)) × (slice_get inputs p ≡ Some (move (Out id p))))) →
-    Replaces ls ks (region args (joined_nodes before (node_then (node id Theta inputs (region_then (region own nodes outs) no_regions)) after)) results)
-    (region_redirected move (region args (joined_nodes before (node_then (node id Theta inputs (region_then (region own nodes outs) no_regions)) after)) results))

@@ -63,6 +63,15 @@ pub record MayStandFor (held : List PlainLambda) (l k : PlainLambda) : Type 0 wh
   pub values : IsNoLarger (lambda_values l) (lambda_values k)
   pub lists : (ls : List PlainLambda) → slice_get ls l.number ≡ Some l → HasEach held ls → MayStandForAll ls (slice_set ls l.number k)
 
+-- What the contract of a rule promises of the changed lambda: it is well formed, it may stand for the old one in any
+-- list, a list stays complete and one of an image, and it is no larger or small.
+pub record IsKept (l k : PlainLambda) : Type 0 where
+  pub well_formed : IsWellFormed k
+  pub meaning : KeepsMeaning l k
+  pub list : KeepsComplete l k
+  pub program : KeepsPrograms l k
+  pub size : IsNoLarger (lambda_values l) (lambda_values k)
+
 -- ---- laws
 
 -- What the contract of a rule promises is a step, whatever else is held.

@@ -18,6 +18,13 @@ pub fn keep_entries(region: &mut Region, id: u32, stays: &[bool])
     edit_first(&mut region.nodes, id, &EntriesKept { stays });
 }
 
+/// Of a Gamma the entry variables go for which `stays` is false, as `keep_entries` says.
+pub fn keep_entries_of(node: &mut Node, stays: &[bool])
+    ensures { node.new ≡ node_taking stays.now node.old }
+{
+    EntriesKept { stays }.edit_node(node);
+}
+
 /// Where an argument is found once those went for which `stays` is false.
 #[derive(Drop)]
 pub(crate) struct ArgumentAfter<'a> {

@@ -1,6 +1,6 @@
 //! Laws of the edits.
 
-ghost use Rattle.g_edit.specs.Laws.{UnreadNodesGo, UnreadExitsGo, UnreadEntriesGo, UnreadExitsAndEntriesGo, UnreadVariablesGo, LoopsKeepArguments, InvariantUsesMove};
+ghost use Rattle.g_edit.specs.Laws.{UnreadNodesGo, UnreadExitsGo, UnreadEntriesGo, UnreadExitsAndEntriesGo, UnreadVariablesGo, LoopsKeepArguments};
 ghost use Rattle.g_edit.specs.Parts.{PlacedPartsRefine};
 ghost use Rattle.g_edit.specs.Carried.{CarriedExitsGo, CarriedUsesMove};
 
@@ -29,11 +29,9 @@ pub fn unread_variables_go()
     ensures { UnreadVariablesGo }
 {}
 
-/// A loop gives a variable whose result is its argument as it took it, and so uses of its output
-/// may become uses of its input.
-pub fn invariant_uses_move()
-    ensures loops { LoopsKeepArguments }
-    ensures uses { InvariantUsesMove }
+/// A loop gives a variable whose result is its argument as it took it.
+pub fn loops_keep_arguments()
+    ensures { LoopsKeepArguments }
 {}
 
 /// Exit variables of a Gamma that carry one origin in every region may go, where their uses become

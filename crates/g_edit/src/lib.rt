@@ -19,7 +19,7 @@ mod uses;
 mod variables;
 
 pub use carried::{carry_exits, carry_uses};
-pub use entries::keep_entries;
+pub use entries::{keep_entries, keep_entries_of};
 pub use exits::keep_exits;
 pub use in_place::{NodeEdit, RegionEdit, edit_first, edit_regions, redirect_after};
 pub use lookup::{first_of, same_op, same_origins};
@@ -30,5 +30,5 @@ pub use removal::remove_node;
 pub use size::may_change_size;
 pub use source::{Source, is_source, is_source_among, nodes_use_source, uses_source};
 pub use stays::{Stays, all_stay, are_all_true, list_of};
-pub use uses::{reads_node, replace_used};
+pub use uses::{is_output_of, nodes_read, reads_node, replace_used, some_output_of};
 pub use variables::keep_variables;

@@ -28,7 +28,8 @@ pub fn reads_node(region: &Region, id: u32) -> bool
     nodes_read(&region.nodes, id) || some_output_of(&region.results, id)
 }
 
-fn nodes_read(nodes: &[Node], id: u32) -> bool
+/// Whether an output of the node of this number is an input of one of these nodes.
+pub fn nodes_read(nodes: &[Node], id: u32) -> bool
     ensures { result ≡ nodes_read (is_output_of id) (nodes_of nodes.now) }
 {
     for node in nodes {
@@ -39,7 +40,8 @@ fn nodes_read(nodes: &[Node], id: u32) -> bool
     false
 }
 
-fn some_output_of(origins: &[Origin], id: u32) -> bool
+/// Whether one of these origins is an output of the node of this number.
+pub fn some_output_of(origins: &[Origin], id: u32) -> bool
     ensures { result ≡ some_of (is_output_of id) origins.now }
 {
     for origin in origins {
@@ -50,7 +52,8 @@ fn some_output_of(origins: &[Origin], id: u32) -> bool
     false
 }
 
-fn is_output_of(origin: Origin, id: u32) -> bool
+/// Whether the origin is an output of the node of this number.
+pub fn is_output_of(origin: Origin, id: u32) -> bool
     ensures { result ≡ is_output_of id origin }
 {
     match origin {

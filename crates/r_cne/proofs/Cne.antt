@@ -14,7 +14,7 @@ use Rattle.g_graph.specs.Change.{region_changed}
 use Rattle.g_graph.specs.WellFormed.{region_fits, every_region, well_formed, IsWellFormed}
 use Rattle.g_graph.specs.Nodes.{node_at}
 use Rattle.g_graph.specs.Splice.{joined_nodes}
-use Rattle.g_graph.specs.Program.{KeepsPrograms}
+use Rattle.g_graph.specs.Program.{lambda_values, KeepsPrograms}
 use Rattle.g_graph.specs.Lists.{RegionOps, Calls, NamesGlobal}
 use Rattle.g_graph.proofs.lemmas.Complete.{complete_set, program_set}
 use Rattle.g_graph.proofs.lemmas.Found.{Found, found_at}
@@ -37,10 +37,14 @@ use Rattle.g_mean.proofs.lemmas.Programs.{programs_keep_meaning}
 use Rattle.g_mean.proofs.lemmas.Replacement.{lambdas_keep_meaning}
 use Rattle.g_edit.specs.Lookup.{first_of}
 use Rattle.g_edit.specs.Uses.{uses_replaced}
+use Rattle.g_edit.specs.Size.{IsNoLarger, IsResized}
+use Rattle.g_edit.proofs.lemmas.Fewer.{uses-resized}
+use Rattle.g_edit.proofs.lemmas.Size.{resized_lambdas_are_no_larger}
+use Rattle.g_edit.proofs.lemmas.Steps.{contracts_give_steps, edits_keep_interface}
 use Rattle.g_edit.proofs.lemmas.Lookup.{Among, first_before}
 use Rattle.g_edit.proofs.lemmas.Uses.{replaced_is, uses_kept, known_value, uses_ops}
 use Rattle.r_cne.specs.Rule.{is_common, other_than, earlier, cne_here, cne}
-use Rattle.r_cne.specs.Laws.{CneReplaces, CneKeepsLambdas, CneKeepsPrograms, CneKeepsLists}
+use Rattle.r_cne.specs.Laws.{CneReplaces, CneKeepsLambdas, CneKeepsPrograms, CneKeepsLists, CneIsAStep}
 use Rattle.r_cne.proofs.Common.{gives_value, ran_gives}
 
 -- ---- the earlier node
@@ -225,3 +229,18 @@ pub cne_keeps_program : (n : ℕ) (l : PlainLambda) → IsWellFormed l → Keeps
 cne_keeps_program n l well =
     program_set l (cne n l) (cne_well_formed n l well) refl refl (λ ks h. changed_ops (Calls ks) (cne_here n) (cne_here_ops (Calls ks) n) l h)
     (λ count h. changed_ops (NamesGlobal count) (cne_here n) (cne_here_ops (NamesGlobal count) n) l h)
+
+-- ---- the size
+
+cne_resizes : (values n : ℕ) (r s : RegionTree) → cne_here n r ≡ Some s → IsResized values r s
+cne_resizes values n (region args ns results) s e =
+    let at = changed_at n args ns results s e in
+    uses-resized values (Out n 0) (Out at.first 0) (region args ns results) s at.gives
+
+pub cne_is_no_larger : (n : ℕ) (l : PlainLambda) → IsNoLarger (lambda_values l) (lambda_values (cne n l))
+cne_is_no_larger n l = resized_lambdas_are_no_larger (cne_here n) l (λ r s e. cne_resizes (lambda_values l) n r s e)
+
+pub cne_is_a_step : CneIsAStep
+cne_is_a_step held n l well =
+    contracts_give_steps held l (cne n l) (edits_keep_interface (cne_here n) l (cne n l) (record { number = refl; params = refl; objects = refl; body = refl })) (cne_is_no_larger n l)
+    (cne_well_formed n l well) (cne_keeps n l well) (cne_keeps_lists n l well) (cne_keeps_program n l well)

@@ -6,6 +6,7 @@ use Rattle.g_mean.specs.Data.{Datum}
 use Rattle.g_mean.specs.Meaning.{Context, region_meaning}
 use Rattle.g_mean.specs.Edits.{AreEditedAt, IsPartOf, KeepsComplete}
 use Rattle.g_mean.specs.Replacement.{Replaces, FunctionsKeepMeaning, ProgramKeepsMeaning}
+use Rattle.g_edit.specs.Steps.{MayStandFor}
 use Rattle.r_cne.specs.Rule.{cne_here, cne}
 
 -- A changed region of a well-formed lambda gives the very same answers, whatever stands around it.
@@ -31,3 +32,7 @@ CneKeepsPrograms =
 -- Lists stay complete.
 abbrev pub CneKeepsLists : Type 0
 CneKeepsLists = (n : ℕ) (l : PlainLambda) → IsWellFormed l → KeepsComplete l (cne n l)
+
+-- The rule is a step: the lambda stays well formed, may stand for the old one in any list, and is no larger or small.
+abbrev pub CneIsAStep : Type 0
+CneIsAStep = (held : List PlainLambda) (n : ℕ) (l : PlainLambda) → IsWellFormed l → MayStandFor held l (cne n l)

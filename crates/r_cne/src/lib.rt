@@ -1,5 +1,6 @@
 //! Common node elimination: uses of a node become uses of an earlier one that gives the same.
-//! Promise: `apply` gives the changed lambda, and a changed lambda keeps its meaning in any program.
+//! Promise: `apply` gives the changed lambda, and a changed lambda keeps its meaning in any
+//! program.
 #![tactic(auto)]
 
 mod find;

@@ -1,9 +1,10 @@
 ghost use Rattle.std.specs.Prelude.{◌≡◌, MatchBool, IsTrue, is_some};
 ghost use Rattle.std.specs.declared.option.Option.TheVariants.{Some, None};
 ghost use Rattle.g_graph.specs.WellFormed.{IsWellFormed};
-ghost use Rattle.g_graph.specs.Program.{KeepsPrograms};
+ghost use Rattle.g_graph.specs.Program.{lambda_values, KeepsPrograms};
 ghost use Rattle.g_mean.specs.Edits.{KeepsMeaning, KeepsComplete};
 ghost use Rattle.g_graph.specs.declared.op.Origin.TheVariants.{Out};
+ghost use Rattle.g_edit.specs.Size.{IsNoLarger};
 ghost use Rattle.r_cne.specs.Rule.{cne_here, applies, cne};
 
 use crate::find::earlier;
@@ -14,8 +15,9 @@ use g_graph::{
 use std::convert::Infallible;
 
 /// Whether the rule applies at the node of this number: a Const, Local, Delta, Bin, Un, Load or
-/// PtrEq whose output is used, where an earlier node of its region has an equal op and equal inputs.
-/// It is false for a number that is not there. It takes no memory, and time linear in the lambda.
+/// PtrEq whose output is used, where an earlier node of its region has an equal op and equal
+/// inputs. It is false for a number that is not there. It takes no memory, and time linear in the
+/// lambda.
 pub fn applies(lambda: &Lambda, node: u32) -> bool
     ensures { result ≡ applies lambda.now node }
 {
@@ -32,6 +34,7 @@ pub fn apply(lambda: &mut Lambda, node: u32)
     ensures meaning { KeepsMeaning lambda.old lambda.new }
     ensures list { KeepsComplete lambda.old lambda.new }
     ensures program { KeepsPrograms lambda.old lambda.new }
+    ensures size { IsNoLarger (lambda_values lambda.old) (lambda_values lambda.new) }
 {
     match change_lambda(lambda, &mut Common { node }) {
         Ok(_) => (),

@@ -40,16 +40,21 @@ use Rattle.g_edit.specs.Removal.{region_without}
 use Rattle.g_edit.specs.Exits.{regions_giving, node_giving, output_after, exits_kept}
 use Rattle.g_edit.specs.Entries.{entries_kept}
 use Rattle.g_edit.specs.Variables.{variables_kept}
+use Rattle.g_edit.specs.Size.{IsResized}
+use Rattle.g_graph.specs.Program.{lambda_values}
 use Rattle.g_edit.proofs.lemmas.EntriesFit.{entries_kept_fit, entries_kept_ops}
 use Rattle.g_edit.proofs.lemmas.Exits.{giving_joined}
 use Rattle.g_edit.proofs.lemmas.ExitsFit.{exits_kept_fit, exits_kept_ops}
+use Rattle.g_edit.proofs.lemmas.Fewer.{without-resized, variables-resized, exits-and-entries-resized}
+use Rattle.g_edit.proofs.lemmas.Size.{resized_lambdas_are_no_larger}
+use Rattle.g_edit.proofs.lemmas.Steps.{contracts_give_steps, edits_keep_interface}
 use Rattle.g_edit.proofs.lemmas.Placed.{not_before}
 use Rattle.g_edit.proofs.lemmas.Removal.{unread_nodes_go, without_kept, without_ops}
 use Rattle.g_edit.proofs.lemmas.Shrunk.{unread_exits_and_entries_go}
 use Rattle.g_edit.proofs.lemmas.Variables.{unread_variables_go}
 use Rattle.g_edit.proofs.lemmas.VariablesFit.{variables_kept_fit, variables_kept_ops}
 use Rattle.r_dne.specs.Rule.{gives_state, is_dead, exits_of, entries_of, variables_of, shrunk, eliminated, dne_here, dne}
-use Rattle.r_dne.specs.Laws.{DneReplaces, DneKeepsLambdas, DneKeepsPrograms, DneKeeps}
+use Rattle.r_dne.specs.Laws.{DneReplaces, DneKeepsLambdas, DneKeepsPrograms, DneKeeps, DneIsAStep}
 use Rattle.r_dne.proofs.Unused.{exits_are_values, exits_unread, entries_unread, variables_are_values, variables_unread, loop_unread}
 
 -- ---- what a change is
@@ -306,6 +311,47 @@ dne_here_ops p asks n (region args ns results) s e h =
     let at = located n args ns results s e in
     eliminated_ops args at.before at.after results p asks n at.op at.inputs at.regions s at.none at.gives (subst (λ ms. RegionOps p (region args ms results)) at.is h)
 
+-- ---- the size
+
+module _ (values : ℕ) (r : RegionTree) where
+  shrunk_resized : (id : ℕ) (op : Op) (inputs : List Origin) (rs : RegionTrees) (s : RegionTree) → shrunk r (node id op inputs rs) ≡ Some s → IsResized values r s
+  shrunk_resized id Gamma inputs rs s e =
+      let exits = exits_of id r rs in
+      let entries = entries_of id r rs in
+      subst (IsResized values r) (shrunk_if (all_stay exits && all_stay entries) (entries_kept id entries (exits_kept id exits r)) s e) (exits-and-entries-resized exits entries values id r)
+  shrunk_resized id Theta inputs (region_then q no_regions) s e =
+      let stays = variables_of id r q in
+      subst (IsResized values r) (shrunk_if (all_stay stays) (variables_kept id stays r) s e) (variables-resized stays values id r)
+  shrunk_resized id Theta inputs no_regions s e = absurd (none-some _ e)
+  shrunk_resized id Theta inputs (region_then q (region_then t rs)) s e = absurd (none-some _ e)
+  shrunk_resized id (Const w) inputs rs s e = absurd (none-some _ e)
+  shrunk_resized id Undef inputs rs s e = absurd (none-some _ e)
+  shrunk_resized id (Local k) inputs rs s e = absurd (none-some _ e)
+  shrunk_resized id (Delta k) inputs rs s e = absurd (none-some _ e)
+  shrunk_resized id (Bin op) inputs rs s e = absurd (none-some _ e)
+  shrunk_resized id (Un op) inputs rs s e = absurd (none-some _ e)
+  shrunk_resized id (Load w) inputs rs s e = absurd (none-some _ e)
+  shrunk_resized id (Store w) inputs rs s e = absurd (none-some _ e)
+  shrunk_resized id (Clear k) inputs rs s e = absurd (none-some _ e)
+  shrunk_resized id PtrEq inputs rs s e = absurd (none-some _ e)
+  shrunk_resized id (Apply f) inputs rs s e = absurd (none-some _ e)
+  shrunk_resized id Put inputs rs s e = absurd (none-some _ e)
+  shrunk_resized id Exit inputs rs s e = absurd (none-some _ e)
+  shrunk_resized id Get inputs rs s e = absurd (none-some _ e)
+
+  eliminated_resized : (id : ℕ) (op : Op) (inputs : List Origin) (rs : RegionTrees) (s : RegionTree) → eliminated r (node id op inputs rs) ≡ Some s → IsResized values r s
+  eliminated_resized id op inputs rs s e = by (is_dead r (node id op inputs rs)) e
+    where
+      by : (t : Bool) → cond t (Some (region_without id r)) (shrunk r (node id op inputs rs)) ≡ Some s → IsResized values r s
+      by true d = subst (IsResized values r) (same_Some (region_without id r) s d) (without-resized values id r)
+      by false d = shrunk_resized id op inputs rs s d
+
+dne_resizes : (values n : ℕ) (r s : RegionTree) → dne_here n r ≡ Some s → IsResized values r s
+dne_resizes values n (region args ns results) s e =
+    let at = located n args ns results s e in
+    subst (λ ms. IsResized values (region args ms results) s) (sym at.is)
+    (eliminated_resized values (region args (joined_nodes at.before (node_then (node n at.op at.inputs at.regions) at.after)) results) n at.op at.inputs at.regions s at.gives)
+
 -- ---- the lambda
 
 dne_well_formed : (n : ℕ) (l : PlainLambda) → IsWellFormed l → IsWellFormed (dne n l)
@@ -341,4 +387,11 @@ dne_keeps n l well =
           complete_set l (dne n l) now refl refl (λ ks h. changed_ops (Calls ks) (dne_here n) (dne_here_ops (Calls ks) (calls_ask ks) n) l h) ls f at complete;
       program = program_set l (dne n l) now refl refl (λ ks h. changed_ops (Calls ks) (dne_here n) (dne_here_ops (Calls ks) (calls_ask ks) n) l h)
           (λ count h. changed_ops (NamesGlobal count) (dne_here n) (dne_here_ops (NamesGlobal count) (globals_ask count) n) l h);
+      size = resized_lambdas_are_no_larger (dne_here n) l (λ r s e. dne_resizes (lambda_values l) n r s e);
     }
+
+pub dne_is_a_step : DneIsAStep
+dne_is_a_step held n l well =
+    let h = dne_keeps n l well in
+    contracts_give_steps held l (dne n l) (edits_keep_interface (dne_here n) l (dne n l) (record { number = refl; params = refl; objects = refl; body = refl })) h.size h.well_formed
+    h.meaning h.list h.program

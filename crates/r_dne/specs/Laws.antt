@@ -2,9 +2,9 @@
 use Rattle.std.specs.Prelude.{◌≡◌, ℕ, List, Some, slice_get}
 use Rattle.g_graph.specs.Plain.{RegionTree, PlainLambda}
 use Rattle.g_graph.specs.WellFormed.{IsWellFormed}
-use Rattle.g_graph.specs.Program.{KeepsPrograms}
-use Rattle.g_mean.specs.Edits.{AreEditedAt, IsPartOf, KeepsMeaning, KeepsComplete}
+use Rattle.g_mean.specs.Edits.{AreEditedAt, IsPartOf}
 use Rattle.g_mean.specs.Replacement.{Replaces, FunctionsKeepMeaning, ProgramKeepsMeaning}
+use Rattle.g_edit.specs.Steps.{IsKept, MayStandFor}
 use Rattle.r_dne.specs.Rule.{dne_here, dne}
 
 -- a changed region of a well-formed lambda may replace the old one, in any lambdas
@@ -22,13 +22,9 @@ abbrev pub DneKeepsPrograms : Type 0
 DneKeepsPrograms =
     (ls ks : List PlainLambda) (n f : ℕ) → AreEditedAt (dne_here n) f ls ks → ((l : PlainLambda) → slice_get ls f ≡ Some l → IsWellFormed l) → ProgramKeepsMeaning ls ks
 
--- What a step promises of the changed lambda: it is well formed, it may stand for the old one in any list, and a list
--- stays complete and one of an image.
-pub record IsKept (l k : PlainLambda) : Type 0 where
-  pub well_formed : IsWellFormed k
-  pub meaning : KeepsMeaning l k
-  pub list : KeepsComplete l k
-  pub program : KeepsPrograms l k
-
+-- The rule keeps what its contract promises, and is a step, whatever lambdas are held.
 abbrev pub DneKeeps : Type 0
 DneKeeps = (n : ℕ) (l : PlainLambda) → IsWellFormed l → IsKept l (dne n l)
+
+abbrev pub DneIsAStep : Type 0
+DneIsAStep = (held : List PlainLambda) (n : ℕ) (l : PlainLambda) → IsWellFormed l → MayStandFor held l (dne n l)

@@ -7,3 +7,4 @@ mod Keeps
 mod Meaning
 mod Lists
 mod Examples
+mod Fewer

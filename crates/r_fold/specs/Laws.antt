@@ -4,6 +4,7 @@ use Rattle.g_graph.specs.Plain.{RegionTree, PlainLambda}
 use Rattle.g_graph.specs.WellFormed.{IsWellFormed}
 use Rattle.g_mean.specs.Edits.{AreEditedAt, IsPartOf, KeepsComplete}
 use Rattle.g_mean.specs.Replacement.{Replaces, FunctionsKeepMeaning, ProgramKeepsMeaning}
+use Rattle.g_edit.specs.Steps.{MayStandFor}
 use Rattle.r_fold.specs.Rule.{fold_here, fold}
 
 -- a folded region of a well-formed lambda may replace it, in any lambdas
@@ -24,3 +25,7 @@ FoldKeepsPrograms =
 -- Folding keeps lists complete.
 abbrev pub FoldKeepsLists : Type 0
 FoldKeepsLists = (n : ℕ) (l : PlainLambda) → IsWellFormed l → KeepsComplete l (fold n l)
+
+-- The rule is a step: the lambda stays well formed, may stand for the old one in any list, and is no larger or small.
+abbrev pub FoldIsAStep : Type 0
+FoldIsAStep = (held : List PlainLambda) (n : ℕ) (l : PlainLambda) → IsWellFormed l → MayStandFor held l (fold n l)

@@ -3,8 +3,9 @@ ghost use Rattle.std.specs.declared.option.Option.TheVariants.{Some, None};
 ghost use Rattle.g_graph.specs.Plain.{nodes_of, nodes_in};
 ghost use Rattle.g_graph.specs.WellFormed.{IsWellFormed};
 ghost use Rattle.g_graph.specs.Nodes.{node_at};
-ghost use Rattle.g_graph.specs.Program.{KeepsPrograms};
+ghost use Rattle.g_graph.specs.Program.{lambda_values, KeepsPrograms};
 ghost use Rattle.r_fold.specs.Rule.{folding, folded, fold_here, applies, fold};
+ghost use Rattle.g_edit.specs.Size.{IsNoLarger};
 ghost use Rattle.g_mean.specs.Edits.{KeepsMeaning, KeepsComplete};
 ghost use Rattle.r_fold.specs.Plan.{planned};
 
@@ -36,6 +37,7 @@ pub fn apply(alloc: Global, lambda: &mut Lambda, node: u32) -> Result<(), NoMemo
     ensures meaning { OnOk result (KeepsMeaning lambda.old lambda.new) }
     ensures list { OnOk result (KeepsComplete lambda.old lambda.new) }
     ensures program { OnOk result (KeepsPrograms lambda.old lambda.new) }
+    ensures size { OnOk result (IsNoLarger (lambda_values lambda.old) (lambda_values lambda.new)) }
     ensures err { OnErr result (lambda.new ≡ lambda.old) }
 {
     change_lambda(lambda, &mut Fold { alloc, node })?;

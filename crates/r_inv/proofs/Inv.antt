@@ -34,12 +34,17 @@ use Rattle.g_mean.proofs.lemmas.Exchange.{edits_keep_meaning}
 use Rattle.g_mean.proofs.lemmas.Programs.{programs_keep_meaning}
 use Rattle.g_mean.proofs.lemmas.Replacement.{lambdas_keep_meaning}
 use Rattle.g_edit.specs.InPlace.{outputs_redirected}
+use Rattle.g_edit.specs.Size.{IsResized}
+use Rattle.g_graph.specs.Program.{lambda_values}
 use Rattle.g_edit.specs.Carried.{passed, output_carried, exits_carried}
 use Rattle.g_edit.proofs.lemmas.Carried.{carried_exits_go, carried_uses_move}
 use Rattle.g_edit.proofs.lemmas.CarriedExits.{exits_carried_fit, exits_carried_ops}
+use Rattle.g_edit.proofs.lemmas.Fewer.{outputs-resized, carried-resized}
+use Rattle.g_edit.proofs.lemmas.Size.{resized_lambdas_are_no_larger}
+use Rattle.g_edit.proofs.lemmas.Steps.{contracts_give_steps, edits_keep_interface}
 use Rattle.g_edit.proofs.lemmas.CarriedUses.{uses_carried_fit, outputs_redirected_ops}
 use Rattle.r_inv.specs.Rule.{exits_from, variables_from, some_used, carried_exits, carried_variables, moved, inv_here, inv}
-use Rattle.r_inv.specs.Laws.{InvReplaces, InvKeepsLambdas, InvKeepsPrograms, InvKeeps}
+use Rattle.r_inv.specs.Laws.{InvReplaces, InvKeepsLambdas, InvKeepsPrograms, InvKeeps, InvIsAStep}
 
 -- ---- what is carried
 
@@ -239,6 +244,38 @@ inv_here_ops p n (region args ns results) s e h =
     moved_ops args at.before at.after results p n at.op at.inputs at.regions (region args (joined_nodes at.before (node_then (node n at.op at.inputs at.regions) at.after)) results) s at.gives
     (subst (λ ms. RegionOps p (region args ms results)) at.is h)
 
+-- ---- the size
+
+moved_resized : (values : ℕ) (r : RegionTree) (id : ℕ) (op : Op) (inputs : List Origin) (rs : RegionTrees) (s : RegionTree) → moved r (node id op inputs rs) ≡ Some s → IsResized values r s
+moved_resized values r id Gamma inputs rs s e =
+    let cs = carried_exits inputs rs in
+    subst (IsResized values r) (moved_if (some_used id r 0 cs) (exits_carried id cs r) s e) (carried-resized id cs values r)
+moved_resized values r id Theta inputs (region_then q no_regions) s e =
+    let cs = carried_variables inputs q in
+    subst (IsResized values r) (moved_if (some_used id r 0 cs) (outputs_redirected id (output_carried id cs []) r) s e) (outputs-resized values id (output_carried id cs []) r)
+moved_resized values r id Theta inputs no_regions s e = absurd (none-some _ e)
+moved_resized values r id Theta inputs (region_then q (region_then t rs)) s e = absurd (none-some _ e)
+moved_resized values r id (Const w) inputs rs s e = absurd (none-some _ e)
+moved_resized values r id Undef inputs rs s e = absurd (none-some _ e)
+moved_resized values r id (Local k) inputs rs s e = absurd (none-some _ e)
+moved_resized values r id (Delta k) inputs rs s e = absurd (none-some _ e)
+moved_resized values r id (Bin op) inputs rs s e = absurd (none-some _ e)
+moved_resized values r id (Un op) inputs rs s e = absurd (none-some _ e)
+moved_resized values r id (Load w) inputs rs s e = absurd (none-some _ e)
+moved_resized values r id (Store w) inputs rs s e = absurd (none-some _ e)
+moved_resized values r id (Clear k) inputs rs s e = absurd (none-some _ e)
+moved_resized values r id PtrEq inputs rs s e = absurd (none-some _ e)
+moved_resized values r id (Apply f) inputs rs s e = absurd (none-some _ e)
+moved_resized values r id Put inputs rs s e = absurd (none-some _ e)
+moved_resized values r id Exit inputs rs s e = absurd (none-some _ e)
+moved_resized values r id Get inputs rs s e = absurd (none-some _ e)
+
+inv_resizes : (values n : ℕ) (r s : RegionTree) → inv_here n r ≡ Some s → IsResized values r s
+inv_resizes values n (region args ns results) s e =
+    let at = located n args ns results s e in
+    subst (λ ms. IsResized values (region args ms results) s) (sym at.is)
+    (moved_resized values (region args (joined_nodes at.before (node_then (node n at.op at.inputs at.regions) at.after)) results) n at.op at.inputs at.regions s at.gives)
+
 -- ---- the lambda
 
 inv_well_formed : (n : ℕ) (l : PlainLambda) → IsWellFormed l → IsWellFormed (inv n l)
@@ -268,4 +305,11 @@ inv_keeps n l well =
           complete_set l (inv n l) now refl refl (λ ks h. changed_ops (Calls ks) (inv_here n) (inv_here_ops (Calls ks) n) l h) ls f at complete;
       program = program_set l (inv n l) now refl refl (λ ks h. changed_ops (Calls ks) (inv_here n) (inv_here_ops (Calls ks) n) l h)
           (λ count h. changed_ops (NamesGlobal count) (inv_here n) (inv_here_ops (NamesGlobal count) n) l h);
+      size = resized_lambdas_are_no_larger (inv_here n) l (λ r s e. inv_resizes (lambda_values l) n r s e);
     }
+
+pub inv_is_a_step : InvIsAStep
+inv_is_a_step held n l well =
+    let h = inv_keeps n l well in
+    contracts_give_steps held l (inv n l) (edits_keep_interface (inv_here n) l (inv n l) (record { number = refl; params = refl; objects = refl; body = refl })) h.size h.well_formed
+    h.meaning h.list h.program

@@ -2,9 +2,9 @@
 use Rattle.std.specs.Prelude.{◌≡◌, ℕ, List, Some, slice_get}
 use Rattle.g_graph.specs.Plain.{RegionTree, PlainLambda}
 use Rattle.g_graph.specs.WellFormed.{IsWellFormed}
-use Rattle.g_graph.specs.Program.{KeepsPrograms}
-use Rattle.g_mean.specs.Edits.{AreEditedAt, IsPartOf, KeepsMeaning, KeepsComplete}
+use Rattle.g_mean.specs.Edits.{AreEditedAt, IsPartOf}
 use Rattle.g_mean.specs.Replacement.{Replaces, FunctionsKeepMeaning, ProgramKeepsMeaning}
+use Rattle.g_edit.specs.Steps.{IsKept, MayStandFor}
 use Rattle.r_inv.specs.Rule.{inv_here, inv}
 
 -- a changed region of a well-formed lambda may replace the old one, in any lambdas
@@ -22,13 +22,9 @@ abbrev pub InvKeepsPrograms : Type 0
 InvKeepsPrograms =
     (ls ks : List PlainLambda) (n f : ℕ) → AreEditedAt (inv_here n) f ls ks → ((l : PlainLambda) → slice_get ls f ≡ Some l → IsWellFormed l) → ProgramKeepsMeaning ls ks
 
--- What a step promises of the changed lambda: it is well formed, it may stand for the old one in any list, and a list
--- stays complete and one of an image.
-pub record IsKept (l k : PlainLambda) : Type 0 where
-  pub well_formed : IsWellFormed k
-  pub meaning : KeepsMeaning l k
-  pub list : KeepsComplete l k
-  pub program : KeepsPrograms l k
-
+-- The rule keeps what its contract promises, and is a step, whatever lambdas are held.
 abbrev pub InvKeeps : Type 0
 InvKeeps = (n : ℕ) (l : PlainLambda) → IsWellFormed l → IsKept l (inv n l)
+
+abbrev pub InvIsAStep : Type 0
+InvIsAStep = (held : List PlainLambda) (n : ℕ) (l : PlainLambda) → IsWellFormed l → MayStandFor held l (inv n l)

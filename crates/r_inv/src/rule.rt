@@ -1,7 +1,8 @@
 ghost use Rattle.std.specs.Prelude.{◌≡◌, MatchBool, IfOk, OnOk, OnErr, IsTrue, is_some};
 ghost use Rattle.std.specs.declared.option.Option.TheVariants.{Some, None};
 ghost use Rattle.g_graph.specs.WellFormed.{IsWellFormed};
-ghost use Rattle.g_graph.specs.Program.{KeepsPrograms};
+ghost use Rattle.g_graph.specs.Program.{lambda_values, KeepsPrograms};
+ghost use Rattle.g_edit.specs.Size.{IsNoLarger};
 ghost use Rattle.g_mean.specs.Edits.{KeepsMeaning, KeepsComplete};
 ghost use Rattle.r_inv.specs.Rule.{inv_here, applies, inv};
 ghost use Rattle.r_inv.specs.Plan.{carried_out, fits};
@@ -35,6 +36,7 @@ pub fn apply(alloc: Global, lambda: &mut Lambda, node: u32) -> Result<(), NoMemo
     ensures meaning { OnOk result (KeepsMeaning lambda.old lambda.new) }
     ensures list { OnOk result (KeepsComplete lambda.old lambda.new) }
     ensures program { OnOk result (KeepsPrograms lambda.old lambda.new) }
+    ensures size { OnOk result (IsNoLarger (lambda_values lambda.old) (lambda_values lambda.new)) }
     ensures err { OnErr result (lambda.new ≡ lambda.old) }
 {
     change_lambda(lambda, &mut Redirection { alloc, node })?;

@@ -1,1 +1,14 @@
+mod Carried
+mod Means
+mod User
+mod Counted
+mod Resized
+mod FilledFit
+mod PulledFit
+mod Replaced
+mod Answered
+mod Unread
+mod Kept
+mod PulledOps
+mod Step
 mod Examples

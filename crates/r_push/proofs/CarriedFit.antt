@@ -5,7 +5,6 @@ use Rattle.std.proofs.lemmas.Bool.Decides.{nat_tests}
 use Rattle.g_graph.specs.declared.op.Kind.{Kind}
 use Rattle.g_graph.specs.declared.op.Kind.TheVariants.{Value, Memory, Io}
 use Rattle.g_graph.specs.declared.op.Op.{Op}
-use Rattle.g_graph.specs.declared.op.Op.TheVariants.{Const, Undef, Local, Delta, Bin, Un, Load, Store, Clear, PtrEq, Apply, Put, Exit, Get, Gamma, Theta}
 use Rattle.g_graph.specs.declared.op.Origin.{Origin}
 use Rattle.g_graph.specs.declared.op.Origin.TheVariants.{Arg, Out}
 use Rattle.g_graph.specs.Plain.{region, NodeTree, node, NodeTrees, no_nodes, node_then, RegionTrees, nodes_of}
@@ -24,40 +23,8 @@ use Rattle.g_mean.proofs.lemmas.Holds.{distinct-apart}
 use Rattle.g_edit.proofs.lemmas.Kept.{IsState, memory, io}
 use Rattle.g_edit.proofs.lemmas.Scopes.{KeepsScope, kept_all, kept_node_fits, kept_nodes_fit}
 use Rattle.g_edit.proofs.lemmas.AddedFit.{nothing, none-of, none-read, get-added, get-last, scope-from, scope-added, with_value, first-state-added, one-argument-more, fits-parts, fits-from, fits-again}
+use Rattle.g_edit.proofs.lemmas.Pure.{pure-outputs, no-index, no-given, no-value}
 use Rattle.r_push.proofs.Stays.{none-has, move-other}
-
-pub pure-outputs : (op : Op) → is_pure op ≡ true → (rs : RegionTrees) → outputs_of op rs ≡ Some Value ∷ []
-pure-outputs (Const w) e rs = refl
-pure-outputs Undef e rs = refl
-pure-outputs (Local k) e rs = refl
-pure-outputs (Delta k) e rs = refl
-pure-outputs (Bin op) e rs = refl
-pure-outputs (Un op) e rs = refl
-pure-outputs (Load w) e rs = absurd cc
-pure-outputs (Store w) e rs = absurd cc
-pure-outputs (Clear k) e rs = absurd cc
-pure-outputs PtrEq e rs = absurd cc
-pure-outputs (Apply f) e rs = absurd cc
-pure-outputs Put e rs = absurd cc
-pure-outputs Exit e rs = absurd cc
-pure-outputs Get e rs = absurd cc
-pure-outputs Gamma e rs = absurd cc
-pure-outputs Theta e rs = absurd cc
-
-pub no-index : (k : Kind) → IsState k → last_index k 0 (Some Value ∷ []) None ≡ None
-no-index Memory memory = refl
-no-index Io io = refl
-no-index Value s = elim s [ ]
-
-pub no-given : (k : Kind) → IsState k → some_of (is_of k) (Some Value ∷ []) ≡ false
-no-given Memory memory = refl
-no-given Io io = refl
-no-given Value s = elim s [ ]
-
-pub no-value : (k : Kind) → IsState k → k ≡ Value → ⊥
-no-value Memory memory e = absurd cc
-no-value Io io e = absurd cc
-no-value Value s e = elim s [ ]
 
 module _ (args : List Kind) (n : ℕ) where
   abbrev others : List Kind
@@ -124,7 +91,7 @@ module _ (objects : ℕ) (args : List Kind) (before : NodeTrees) (n : ℕ) (op :
       among-first (m ∷ ms) ns (inr h) = inr (among-first ms ns h)
       among-first [] ns h = absurd h
 
-  -- after the nodes behind the node
+  -- after the later nodes
   scope-after : (between rest : NodeTrees) → after ≡ joined_nodes between rest →
       KeepsScope nothing args (joined_nodes before (node_then y between)) all (joined_nodes before (nodes_redirected moved between)) moved
   scope-after between rest w = scope-taken args n (joined_nodes before (node_then y between)) (joined_nodes before (nodes_redirected moved between)) same own states

@@ -39,7 +39,7 @@ use Rattle.r_push.proofs.Leaving.{Leaves, leaves}
 use Rattle.r_push.proofs.Gammas.{AllTake, leaving-among, one-among}
 use Rattle.r_push.proofs.Thetas.{invariant-arguments}
 use Rattle.r_push.proofs.Replaced.{Outside, one-outside, leaves-outside, take-all, not-known}
-use Rattle.r_push.proofs.CarriedFit.{pure-outputs}
+use Rattle.g_edit.proofs.lemmas.Pure.{pure-outputs}
 use Rattle.r_push.proofs.TwoFit.{GivesAsMuch, scope-first, two-fit}
 use Rattle.r_push.proofs.RegionsFit.{CarriedFits, numbers_of, leaving-fits, InnerFits, inner-fits, one-fits, AllCarried, all-fit}
 

@@ -24,7 +24,7 @@ use Rattle.g_graph.specs.Change.{has_node}
 use Rattle.g_edit.proofs.lemmas.Kept.{IsState}
 use Rattle.g_edit.proofs.lemmas.Scopes.{KeepsScope, kept_all, kept_nodes_fit}
 use Rattle.g_edit.proofs.lemmas.AddedFit.{nothing, none-of, none-read, scope-from, fits-parts, fits-from, fits-again}
-use Rattle.r_push.proofs.CarriedFit.{no-index, no-given}
+use Rattle.g_edit.proofs.lemmas.Pure.{no-index, no-given}
 
 -- the outputs of the other node: those of the one, and no other state
 pub record GivesAsMuch (ks js : List (Option Kind)) : Type 0 where

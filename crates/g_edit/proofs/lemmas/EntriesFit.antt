@@ -32,7 +32,7 @@ use Rattle.g_edit.proofs.lemmas.Kept.{from_none, kept_none, kept_map, kept_get, 
 use Rattle.g_edit.proofs.lemmas.Placed.{not_before}
 use Rattle.g_edit.proofs.lemmas.Scopes.{KeepsScope, kept_all, kept_nodes_fit}
 use Rattle.g_edit.proofs.lemmas.Entries.{taking_joined}
-use Rattle.g_edit.proofs.lemmas.Swapped.{swapped_kept}
+use Rattle.g_edit.proofs.lemmas.Exchanged.{exchanged_kept}
 
 module _ (stays : List Bool) where
   abbrev move : Origin → Origin
@@ -152,7 +152,7 @@ module _ (stays : List Bool) where
       (region_takes objects args nodes results (or_parts (is_read gone (region args nodes results)) (some_reads stays rs) u).0
       (and_parts (every_region (region_fits objects) (region args nodes results)) (every_in_regions (region_fits objects) rs) h).0).0
 
-  ids_same : (rs : RegionTrees) → regions_ids (regions_taking stays rs) ≡ regions_ids rs
+  pub ids_same : (rs : RegionTrees) → regions_ids (regions_taking stays rs) ≡ regions_ids rs
   ids_same no_regions = refl
   ids_same (region_then (region args nodes results) rs) = λ i. nodes_ids-redirected move nodes i ++ ids_same rs i
 
@@ -213,42 +213,13 @@ module _ (stays : List Bool) where
     inside_now : every_in_node (region_fits objects) x ≡ true → every_in_node (region_fits objects) y ≡ true
     inside_now e = (regions_take objects (first_args rs) (kinds_of (outputs_of Gamma rs)) rs unread here.regions e).1
 
-    -- no output goes
-    output_stays : (o : Origin) → output_after id [] o ≡ o
-    output_stays (Arg k) = refl
-    output_stays (Out n p) = by (id == n)
-      where
-        by : (t : Bool) → cond t (Out n p) (Out n p) ≡ Out n p
-        by true = refl
-        by false = refl
-
-    none_gone : (o : Origin) → is_gone_output id [] o ≡ false
-    none_gone (Arg k) = refl
-    none_gone (Out n p) = by (id == n)
-      where
-        by : (t : Bool) → (t && false) ≡ false
-        by true = refl
-        by false = refl
-
-    some_gone : (os : List Origin) → some_of (is_gone_output id []) os ≡ false
-    some_gone [] = refl
-    some_gone (o ∷ os) = λ i. none_gone o i || some_gone os i
-
-    nodes_gone : (ns : NodeTrees) → nodes_read (is_gone_output id []) ns ≡ false
-    nodes_gone no_nodes = refl
-    nodes_gone (node_then (node n op is ss) ns) = λ i. some_gone is i || nodes_gone ns i
-
     pub entries_kept_fit : (results : List Origin) → every_region (region_fits objects) (region args (joined_nodes before (node_then x after)) results) ≡ true →
         KeptWithin objects (region args (joined_nodes before (node_then x after)) results) (entries_kept id stays (region args (joined_nodes before (node_then x after)) results))
     entries_kept_fit results fits =
         let whole = region args (joined_nodes before (node_then x after)) results in
-        let swapped = swapped_kept objects args before x y after [] here refl (outputs_same ∙ sym (kept_none (outputs_of Gamma rs))) refl results node_fits_now inside_now
-        (λ m. omega (arith, ap (λ ns. times m (id ∷ ns)) (ids_same rs))) fits (λ i. nodes_gone (joined_nodes before (node_then x after)) i || some_gone results i) in
-        let unmoved : region args (joined_nodes before (node_then y (nodes_redirected (output_after id []) after))) (map (output_after id []) results)
-        ≡ region args (joined_nodes before (node_then y after)) results =
-        λ i. region args (joined_nodes before (node_then y (nodes_unmoved (output_after id []) output_stays after i))) (all_unmoved (output_after id []) output_stays results i) in
         let is = ap (λ ns. region args ns results) (sym (taking_joined stays id before x after (not_before objects args before x after here) (same_number_true id))) in
-        subst (λ s. KeptWithin objects whole s) (unmoved ∙ is) swapped
+        subst (λ s. KeptWithin objects whole s) is
+        (exchanged_kept objects args before x y after here refl outputs_same results node_fits_now inside_now (λ m. omega (arith, ap (λ ns. times m (id ∷ ns)) (ids_same rs))) fits)
 
 -- ---- no op is added
 

@@ -1,5 +1,5 @@
 -- Edits that add no values.
-use Rattle.std.proofs.Common.{◌≡◌, ◌≤◌, ◌+◌, ℕ, ◌==◌, Bool, true, false, cond, List, [], ◌∷◌, map, length, None, Some, refl, sym, subst, ◌∙◌, arith}
+use Rattle.std.proofs.Common.{◌≡◌, ◌≤◌, ◌+◌, ℕ, ◌==◌, Bool, true, false, cond, List, [], ◌∷◌, map, length, Option, None, Some, refl, sym, subst, ◌∙◌, arith}
 use Rattle.std.proofs.lemmas.List.{length-map}
 use Rattle.g_graph.specs.declared.op.Op.{Op}
 use Rattle.g_graph.specs.declared.op.Op.TheVariants.{Const, Undef, Local, Delta, Bin, Un, Load, Store, Clear, PtrEq, Apply, Put, Exit, Get, Gamma, Theta}
@@ -15,6 +15,8 @@ use Rattle.g_edit.specs.Removal.{nodes_without, region_without}
 use Rattle.g_edit.specs.Exits.{regions_giving, node_giving, output_after, nodes_giving, exits_kept}
 use Rattle.g_edit.specs.Entries.{argument_after, regions_taking, node_taking, nodes_taking, entries_kept}
 use Rattle.g_edit.specs.Variables.{region_looping, node_looping, nodes_looping, variables_kept}
+use Rattle.g_edit.specs.InPlace.{redirected_after, outputs_redirected}
+use Rattle.g_edit.specs.Carried.{output_carried, staying, nodes_carrying, exits_carried}
 use Rattle.g_edit.specs.Size.{IsResized}
 use Rattle.g_edit.proofs.lemmas.Size.{redirected-resized}
 use Rattle.g_edit.proofs.lemmas.Uses.{replaced_is}
@@ -46,7 +48,7 @@ outputs-fewer rs ss gamma theta Exit = omega arith
 outputs-fewer rs ss gamma theta Get = omega arith
 
 -- a region with as many arguments and results, and no more values
-no-more : (values : ℕ) (r s : RegionTree) → length (args_of s) ≡ length (args_of r) → length (result_kinds s) ≡ length (result_kinds r) → region_values s ≤ region_values r → IsResized values r s
+pub no-more : (values : ℕ) (r s : RegionTree) → length (args_of s) ≡ length (args_of r) → length (result_kinds s) ≡ length (result_kinds r) → region_values s ≤ region_values r → IsResized values r s
 no-more values r s args results fewer =
     record { args = args; results = results; resized = record { added = 0; gone = 0; count = omega (arith, fewer); may = refl } }
 
@@ -188,3 +190,37 @@ exits-and-entries-resized exits entries values n (region args nodes results) =
     no-more values (region args nodes results) (entries_kept n entries (exits_kept n exits (region args nodes results))) refl
     (length-map (map (output_after n exits) results) _ ∙ length-map results (output_after n exits) ∙ sym (length-map results _))
     (omega (arith, taking-nodes entries n (nodes_giving n exits nodes), giving-nodes exits n nodes, length-map results (output_after n exits)))
+
+-- ---- uses of outputs that become other uses
+
+after-same : (n : ℕ) (f : Origin → Origin) (ns : NodeTrees) → nodes_values (redirected_after n f ns) ≡ nodes_values ns
+after-same n f no_nodes = refl
+after-same n f (node_then x ns) = by (id_of x == n) (after-same n f ns)
+  where
+    by : (t : Bool) → nodes_values (redirected_after n f ns) ≡ nodes_values ns →
+        nodes_values (cond t (node_then x (nodes_redirected f ns)) (node_then x (redirected_after n f ns))) ≡ node_values x + nodes_values ns
+    by true rest = omega (arith, nodes_values-redirected f ns)
+    by false rest = omega (arith, rest)
+
+pub outputs-resized : (values n : ℕ) (f : Origin → Origin) (r : RegionTree) → IsResized values r (outputs_redirected n f r)
+outputs-resized values n f (region args nodes results) =
+    no-more values (region args nodes results) (outputs_redirected n f (region args nodes results)) refl
+    (length-map (map f results) _ ∙ length-map results f ∙ sym (length-map results _)) (omega (arith, after-same n f nodes, length-map results f))
+
+module _ (n : ℕ) (cs : List (Option Origin)) where
+  abbrev move : Origin → Origin
+  move = output_carried n cs (staying cs)
+
+  carrying-nodes : (ns : NodeTrees) → nodes_values (nodes_carrying n cs ns) ≤ nodes_values ns
+  carrying-nodes no_nodes = omega arith
+  carrying-nodes (node_then x ns) = by (id_of x == n) (carrying-nodes ns)
+    where
+      by : (t : Bool) → nodes_values (nodes_carrying n cs ns) ≤ nodes_values ns →
+          nodes_values (cond t (node_then (node_giving (staying cs) x) (nodes_redirected move ns)) (node_then x (nodes_carrying n cs ns))) ≤ node_values x + nodes_values ns
+      by true rest = omega (arith, giving-node (staying cs) x, nodes_values-redirected move ns)
+      by false rest = omega (arith, rest)
+
+  pub carried-resized : (values : ℕ) (r : RegionTree) → IsResized values r (exits_carried n cs r)
+  carried-resized values (region args nodes results) =
+      no-more values (region args nodes results) (exits_carried n cs (region args nodes results)) refl
+      (length-map (map move results) _ ∙ length-map results move ∙ sym (length-map results _)) (omega (arith, carrying-nodes nodes, length-map results move))

@@ -159,7 +159,7 @@ module _ (args : List Kind) (x : NodeTree) (none : GivesNoState x) where
   last_stays bs between (Some Memory) o = ap (λ s. is_origin s o) (state_stays Memory none.memory bs between (origin_at Arg (last_index Memory 0 (map Some args) None) None))
   last_stays bs between (Some Io) o = ap (λ s. is_origin s o) (state_stays Io none.io bs between (origin_at Arg (last_index Io 0 (map Some args) None) None))
 
-  -- after the nodes behind the node all but its outputs is as it was
+  -- after the later nodes all but its outputs is as it was
   scope_stays : (bs between : NodeTrees) → KeepsScope (is_output_of (id_of x)) args (joined_nodes bs (node_then x between)) args (joined_nodes bs between) (λ o. o)
   scope_stays bs between =
       record {

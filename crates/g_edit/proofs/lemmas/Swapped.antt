@@ -5,9 +5,9 @@ use Rattle.g_graph.specs.declared.op.Kind.{Kind}
 use Rattle.g_graph.specs.declared.op.Kind.TheVariants.{Value, Memory, Io}
 use Rattle.g_graph.specs.declared.op.Origin.{Origin}
 use Rattle.g_graph.specs.declared.op.Origin.TheVariants.{Arg, Out}
-use Rattle.g_graph.specs.Plain.{RegionTree, region, NodeTree, NodeTrees, no_nodes, node_then, nodes_of, id_of}
+use Rattle.g_graph.specs.Plain.{RegionTree, region, NodeTree, NodeTrees, no_nodes, node_then, nodes_of, id_of, args_of}
 use Rattle.g_graph.specs.Ids.{node_ids, nodes_ids}
-use Rattle.g_graph.specs.Signatures.{joined, output_kinds, kind_after}
+use Rattle.g_graph.specs.Signatures.{joined, output_kinds, result_kinds, kind_after}
 use Rattle.g_graph.specs.Scope.{is_of, known, last_index, origin_at, state_after, last_state, each_node}
 use Rattle.g_graph.specs.WellFormed.{all_of, some_of, one_state_each, gives, is_last, node_fits, nodes_fit, results_are_last, returns_state, region_has_one_state_each, region_fits, every_region, every_in_node, every_in_nodes}
 use Rattle.g_graph.specs.Change.{has_node}
@@ -25,6 +25,12 @@ use Rattle.g_edit.specs.Exits.{output_after, is_gone_output}
 use Rattle.g_edit.proofs.lemmas.Kept.{kept_get, is_not, IsState, memory, io, some_state, last_kept}
 use Rattle.g_edit.proofs.lemmas.Placed.{not_before, read_after}
 use Rattle.g_edit.proofs.lemmas.Scopes.{KeepsScope, kept_all, kept_nodes_fit}
+
+-- a region that takes and gives what another one does, and is well formed
+pub record RegionStays (objects : ℕ) (r s : RegionTree) : Type 0 where
+  pub args : args_of s ≡ args_of r
+  pub results : result_kinds s ≡ result_kinds r
+  pub inside : every_region (region_fits objects) s ≡ true
 
 module _ (objects : ℕ) (args : List Kind) (before : NodeTrees) (x y : NodeTree) (after : NodeTrees) (stays : List Bool) (here : NodeFits objects args before x after) (number : id_of y ≡ id_of x)
     (outputs : output_kinds y ≡ kept stays (output_kinds x)) (values : drops_values stays (output_kinds x) ≡ true) where
@@ -47,7 +53,7 @@ module _ (objects : ℕ) (args : List Kind) (before : NodeTrees) (x y : NodeTree
         here.once (id_of x),
       ))
 
-  -- ---- what is known behind the node
+  -- ---- what is known after the node
 
   kinds_stay : (between rest : NodeTrees) → after ≡ joined_nodes between rest → (o : Origin) → gone o ≡ false →
       known args (joined_nodes before (node_then y (nodes_redirected move between))) (move o) ≡ known args (joined_nodes before (node_then x between)) o
@@ -137,7 +143,7 @@ module _ (objects : ℕ) (args : List Kind) (before : NodeTrees) (x y : NodeTree
   -- ---- the region
 
   module _ (results : List Origin) (fits_here : node_fits objects args before x ≡ true → node_fits objects args before y ≡ true)
-      (inside_here : every_in_node (region_fits objects) x ≡ true → every_in_node (region_fits objects) y ≡ true) (fewer : (m : ℕ) → times m (node_ids y) ≤ times m (node_ids x))
+      (inside_here : every_in_node (region_fits objects) x ≡ true → every_in_node (region_fits objects) y ≡ true)
       (fits : every_region (region_fits objects) (region args (joined_nodes before (node_then x after)) results) ≡ true)
       (unread : is_read (is_gone_output (id_of x) stays) (region args (joined_nodes before (node_then x after)) results) ≡ false) where
     abbrev whole : RegionTree
@@ -176,8 +182,8 @@ module _ (objects : ℕ) (args : List Kind) (before : NodeTrees) (x y : NodeTree
         ∙ (λ i. gives k before || ((ap (some_of (is_of k)) outputs ∙ some_state k s stays (output_kinds x) values) i || gives-redirected move k after i))
         ∙ sym (gives-joined k before (node_then x after))
 
-    pub swapped_kept : KeptWithin objects whole (region args now (map move results))
-    swapped_kept =
+    pub swapped_stays : RegionStays objects whole (region args now (map move results))
+    swapped_stays =
         let ns = joined_nodes before (node_then x after) in
         let parts = or_parts (nodes_read gone ns) (some_of gone results) unread in
         let own = (and_parts (region_fits objects whole) (every_in_nodes (region_fits objects) ns) fits).0 in
@@ -199,18 +205,28 @@ module _ (objects : ℕ) (args : List Kind) (before : NodeTrees) (x y : NodeTree
         let node = inside_here outer.0 in
         let later = every_in_nodes-redirected (region_fits objects) move after ∙ outer.1 in
         let inside : every_in_nodes (region_fits objects) now ≡ true = every_in_nodes-joined (region_fits objects) before (node_then y follow) ∙ (λ i. inner.0 i && (node i && later i)) in
-        record {
-          kept = record { args = refl; results = all.0; inside = λ i. (same ∙ own) i && inside i };
-          fewer = λ m.
-              omega (
-                arith,
-                fewer m,
-                ap (times m) (nodes_ids-joined before (node_then x after)),
-                times_append m (nodes_ids before) (node_ids x ++ nodes_ids after),
-                times_append m (node_ids x) (nodes_ids after),
-                ap (times m) (nodes_ids-joined before (node_then y follow)),
-                times_append m (nodes_ids before) (node_ids y ++ nodes_ids follow),
-                times_append m (node_ids y) (nodes_ids follow),
-                ap (times m) (nodes_ids-redirected move after),
-              );
-        }
+        record { args = refl; results = all.0; inside = λ i. (same ∙ own) i && inside i }
+
+  -- where it has no numbers but those of the node
+  pub swapped_kept : (results : List Origin) → (node_fits objects args before x ≡ true → node_fits objects args before y ≡ true) →
+      (every_in_node (region_fits objects) x ≡ true → every_in_node (region_fits objects) y ≡ true) → ((m : ℕ) → times m (node_ids y) ≤ times m (node_ids x)) →
+      every_region (region_fits objects) (region args (joined_nodes before (node_then x after)) results) ≡ true →
+      is_read (is_gone_output (id_of x) stays) (region args (joined_nodes before (node_then x after)) results) ≡ false →
+      KeptWithin objects (region args (joined_nodes before (node_then x after)) results) (region args (joined_nodes before (node_then y (nodes_redirected move after))) (map move results))
+  swapped_kept results fits_here inside_here fewer fits unread =
+      let stay = swapped_stays results fits_here inside_here fits unread in
+      record {
+        kept = record { args = stay.args; results = stay.results; inside = stay.inside };
+        fewer = λ m.
+            omega (
+              arith,
+              fewer m,
+              ap (times m) (nodes_ids-joined before (node_then x after)),
+              times_append m (nodes_ids before) (node_ids x ++ nodes_ids after),
+              times_append m (node_ids x) (nodes_ids after),
+              ap (times m) (nodes_ids-joined before (node_then y (nodes_redirected move after))),
+              times_append m (nodes_ids before) (node_ids y ++ nodes_ids (nodes_redirected move after)),
+              times_append m (node_ids y) (nodes_ids (nodes_redirected move after)),
+              ap (times m) (nodes_ids-redirected move after),
+            );
+      }

@@ -1,9 +1,10 @@
 use Rattle.std.proofs.Common.{sym, subst}
 use Rattle.g_graph.specs.Plain.{PlainLambda}
 use Rattle.g_graph.specs.WellFormed.{IsWellFormed}
-use Rattle.g_graph.specs.Program.{KeepsPrograms}
+use Rattle.g_graph.specs.Program.{lambda_values, KeepsPrograms}
+use Rattle.g_edit.specs.Size.{IsNoLarger}
 use Rattle.g_mean.specs.Edits.{KeepsMeaning, KeepsComplete}
-use Rattle.r_cne.proofs.Cne.{cne_well_formed, cne_keeps, cne_keeps_lists, cne_keeps_program}
+use Rattle.r_cne.proofs.Cne.{cne_well_formed, cne_keeps, cne_keeps_lists, cne_keeps_program, cne_is_no_larger}
 use Rattle.r_cne.proofs.rule.apply.Goals as goal
 
 pub returns-clause-kept : goal.returns-clause-kept
@@ -21,3 +22,7 @@ returns-clause-list c =
 pub returns-clause-program : goal.returns-clause-program
 returns-clause-program c =
     subst (λ (l : PlainLambda). KeepsPrograms c.args.lambda.now l) (sym c.in-Ok.ensures.ok) (cne_keeps_program c.args.node c.args.lambda.now c.requires.well_formed)
+
+pub returns-clause-size : goal.returns-clause-size
+returns-clause-size c =
+    subst (λ (l : PlainLambda). IsNoLarger (lambda_values c.args.lambda.now) (lambda_values l)) (sym c.in-Ok.ensures.ok) (cne_is_no_larger c.args.node c.args.lambda.now)

@@ -1,7 +1,8 @@
 use Rattle.std.proofs.Common.{sym, subst}
 use Rattle.g_graph.specs.Plain.{PlainLambda}
 use Rattle.g_graph.specs.WellFormed.{IsWellFormed}
-use Rattle.g_graph.specs.Program.{KeepsPrograms}
+use Rattle.g_graph.specs.Program.{lambda_values, KeepsPrograms}
+use Rattle.g_edit.specs.Size.{IsNoLarger}
 use Rattle.g_mean.specs.Edits.{KeepsMeaning, KeepsComplete}
 use Rattle.r_dne.proofs.Dne.{dne_keeps}
 use Rattle.r_dne.proofs.rule.apply.Goals as goal
@@ -21,3 +22,7 @@ returns-clause-list c =
 pub returns-clause-program : goal.returns-clause-program
 returns-clause-program c =
     subst (λ (l : PlainLambda). KeepsPrograms c.args.lambda.now l) (sym c.in_ok-change_lambda.ensures.ok) (dne_keeps c.args.node c.args.lambda.now c.requires.well_formed).program
+
+pub returns-clause-size : goal.returns-clause-size
+returns-clause-size c =
+    subst (λ (l : PlainLambda). IsNoLarger (lambda_values c.args.lambda.now) (lambda_values l)) (sym c.in_ok-change_lambda.ensures.ok) (dne_keeps c.args.node c.args.lambda.now c.requires.well_formed).size

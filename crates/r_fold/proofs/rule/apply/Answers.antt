@@ -1,8 +1,10 @@
 use Rattle.std.proofs.Common.{sym, subst}
 use Rattle.g_graph.specs.Plain.{PlainLambda}
 use Rattle.g_graph.specs.WellFormed.{IsWellFormed}
-use Rattle.g_graph.specs.Program.{KeepsPrograms}
+use Rattle.g_graph.specs.Program.{lambda_values, KeepsPrograms}
+use Rattle.g_edit.specs.Size.{IsNoLarger}
 use Rattle.g_mean.specs.Edits.{KeepsMeaning, KeepsComplete}
+use Rattle.r_fold.proofs.Fewer.{fold_is_no_larger}
 use Rattle.r_fold.proofs.Keeps.{fold_well_formed}
 use Rattle.r_fold.proofs.Lists.{fold_keeps_lists, fold_keeps_program}
 use Rattle.r_fold.proofs.Meaning.{fold_keeps}
@@ -23,3 +25,7 @@ returns-clause-list c =
 pub returns-clause-program : goal.returns-clause-program
 returns-clause-program c =
     subst (λ (l : PlainLambda). KeepsPrograms c.args.lambda.now l) (sym c.in_ok-change_lambda.ensures.ok) (fold_keeps_program c.args.node c.args.lambda.now c.requires.well_formed)
+
+pub returns-clause-size : goal.returns-clause-size
+returns-clause-size c =
+    subst (λ (l : PlainLambda). IsNoLarger (lambda_values c.args.lambda.now) (lambda_values l)) (sym c.in_ok-change_lambda.ensures.ok) (fold_is_no_larger c.args.node c.args.lambda.now)
