@@ -8,7 +8,7 @@ use Rattle.board_core.specs.declared.event.Event.{Event}
 use Rattle.board_core.specs.declared.event.Event.TheVariants.{Claim, Publish, Stop}
 use Rattle.board_core.specs.Board.{Job, Open, Held, Out, Program, State, job_at, result_of, deps_of, results, released, IsReady, MayHappen, after, start, replay, IsLegal}
 use Rattle.board_core.specs.Answers.{IsRanked, all_some, answer_below, answer}
-use Rattle.board_core.specs.Laws.{ResultsAreAnswers, DepsGiveAnswer, JobsHaveAnswers, IdleBoardsAreDone}
+use Rattle.board_core.specs.Laws.{ResultsAreAnswers, DepsGiveAnswer, JobsHaveAnswers, AnswersComeOfDeps, IdleBoardsAreDone}
 use Rattle.board_core.proofs.MachineLemmas.{legal-keeps, inside-from_job, job-released, result-released, held-released, out-released, job-set}
 
 contains-head : (d : ℕ) (ds : List ℕ) → Contains (d ∷ ds) d
@@ -31,7 +31,7 @@ module _ {M : Type 0} where
   out-of (Held worker) made e = cc
   out-of (Out other) made e = let same : other ≡ made = cc in ap Out same
 
-  all_some-cons : (x : Option M) (xs : List (Option M)) (made : List M) → all_some (x ∷ xs) ≡ Some made
+  pub all_some-cons : (x : Option M) (xs : List (Option M)) (made : List M) → all_some (x ∷ xs) ≡ Some made
       → (first : M) × (others : List M) × (x ≡ Some first) × (all_some xs ≡ Some others) × (made ≡ first ∷ others)
   all_some-cons None xs made e = cc
   all_some-cons (Some first) xs made e = all_some-cons-by first (all_some xs) made e where
@@ -252,3 +252,19 @@ module _ {M : Type 0} where
 
   pub jobs-have-answers : JobsHaveAnswers M
   jobs-have-answers program ranked j inside = answer_below-is program ranked (suc (slice_index program.ranks j)) j (omega arith)
+
+  -- lists of results at which two functions agree
+  pub same-results : (f g : ℕ → Option M) (ds : List ℕ) → ((d : ℕ) → Contains ds d → f d ≡ g d) → map f ds ≡ map g ds
+  same-results f g [] same = refl
+  same-results f g (d ∷ ds) same =
+      let here = same d (contains-head d ds) in
+      let rest = same-results f g ds (λ e h. same e (contains-tail d e ds h)) in
+      cc
+
+  pub answers-come-of-deps : AnswersComeOfDeps M
+  answers-come-of-deps program ranked j =
+      let rank = slice_index program.ranks j in
+      ap (λ xs. option_map (program.made j) (all_some xs)) (same-results (answer_below program rank) (answer program) (deps_of program j) (λ d h.
+      let own = suc (slice_index program.ranks d) in
+      let some = some-of (answer program d) (answer_below-is program ranked own d (omega arith)) in
+      answer_below-more program own rank d some.0 (ranked.smaller j d h) some.1 ∙ sym some.1))

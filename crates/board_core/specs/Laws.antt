@@ -1,8 +1,8 @@
 -- Laws of the board, over every legal history.
-use Rattle.std.specs.Prelude.{◌≡◌, ℕ, ◌+◌, ◌*◌, ◌<◌, ◌≤◌, ◌⊎◌, Some, List, length, IsSome}
+use Rattle.std.specs.Prelude.{◌≡◌, ℕ, ◌+◌, ◌*◌, ◌<◌, ◌≤◌, ◌⊎◌, Some, option_map, List, map, length, IsSome}
 use Rattle.board_core.specs.declared.event.Event.{Event}
 use Rattle.board_core.specs.Board.{Held, Out, Program, job_at, result_of, results, deps_of, IsReady, IsLegal, replay}
-use Rattle.board_core.specs.Answers.{IsRanked, answer}
+use Rattle.board_core.specs.Answers.{IsRanked, all_some, answer}
 
 -- after every legal history the result of each job that is out is that of the recursion on ranks
 abbrev pub ResultsAreAnswers : Type 0 → Type 0
@@ -21,6 +21,12 @@ DepsGiveAnswer M =
 -- each job has a result
 abbrev pub JobsHaveAnswers : Type 0 → Type 0
 JobsHaveAnswers M = (program : Program M) → IsRanked program → (j : ℕ) → j < length program.deps → IsSome (answer program j)
+
+-- The result of a job is what is made of the results of its deps.
+abbrev pub AnswersComeOfDeps : Type 0 → Type 0
+AnswersComeOfDeps M =
+    (program : Program M) → IsRanked program
+    → (j : ℕ) → answer program j ≡ option_map (program.made j) (all_some (map (answer program) (deps_of program j)))
 
 -- where no job is ready and none is held, all jobs are out
 abbrev pub IdleBoardsAreDone : Type 0 → Type 0

@@ -36,7 +36,7 @@ pub struct Board<W: Work> {
 }
 
 impl<W: Work> Model for Board<W> {
-    ghost use Rattle.std.specs.Prelude.{ℕ, List, map, option_map, vec_capacity};
+    ghost use Rattle.std.specs.Prelude.{◌≡◌, ℕ, List, map, option_map, vec_capacity, vec_len};
     ghost use Rattle.std.specs.Arc.{arc_value};
     ghost use Rattle.board_core.specs.History.{History, dep_lists, program_of};
     ghost use Rattle.board_core.specs.Kept.{IsKept};
@@ -54,7 +54,8 @@ impl<W: Work> Model for Board<W> {
         } };
 
     ghost invariant = { λ b.
-        IsKept (program_of W.made
+        (vec_len b.deps ≡ W.jobs b.work.value)
+        × IsKept (program_of W.made
         (record {
           ranks = b.ranks.items;
           deps = dep_lists b.deps.items;
@@ -138,8 +139,8 @@ fn log(events: &mut Vec<Event>, event: Event)
 
 impl<W: Work> Board<W> {
     /// A board of this work, where all jobs are open and nothing has happened. The job j has the
-    /// rank `ranks[j]` and depends on the jobs `deps[j]`; there are at most 512 jobs and 64
-    /// workers. All memory that the board ever needs is taken here. `BadDeps` exactly where a dep
+    /// rank `ranks[j]` and depends on the jobs `deps[j]`; there are as many as the work has, and at
+    /// most 512, and at most 64 workers. All memory that the board ever needs is taken here. `BadDeps` exactly where a dep
     /// is bad.
     pub fn open(
         alloc: Global,
@@ -149,6 +150,7 @@ impl<W: Work> Board<W> {
         workers: u32,
     ) -> Result<Board<W>, OpenFault>
         requires lengths { length ranks.now ≡ length deps.now }
+        requires jobs { length deps.now ≡ W.jobs work.now }
         requires few { length deps.now ≤ 512 }
         requires few_workers { workers ≤ 64 }
         ensures ok { IfOk result (λ board. board ≡ record {
@@ -212,6 +214,7 @@ impl<W: Work> Board<W> {
         ensures same { self.new ≡ self.old }
         ensures some { IfSome result (λ j. (j < length self.old.deps)
             × IsNext (program_of W.made self.old) (state_of W.made self.old) j) }
+        ensures inside { IfSome result (λ j. j < W.jobs self.old.work) }
         ensures none { IfNone result
             ((j : ℕ) → ¬ IsReady (program_of W.made self.old) (state_of W.made self.old) j) }
     {
@@ -239,6 +242,7 @@ impl<W: Work> Board<W> {
         ensures same { self.new ≡ self.old }
         ensures choice { IsChoice (program_of W.made self.old)
             (state_of W.made self.old) self.old.events result }
+        ensures inside { (j : ℕ) → result ≡ Choice.Ready j → j < W.jobs self.old.work }
     {
         if self.is_halted() {
             return Choice::Halted;
@@ -273,6 +277,7 @@ impl<W: Work> Board<W> {
         requires room { 512 ≤ vec_capacity deps_out.old }
         ensures job { (j : ℕ) → result ≡ Ok (Claim.Job j)
             → Claims W.made self.old self.new worker j (map arc_value deps_out.new.items) }
+        ensures inside { (j : ℕ) → result ≡ Ok (Claim.Job j) → j < W.jobs self.old.work }
         ensures wait { (result ≡ Ok Claim.Wait)
             ↔ IsWaiting (program_of W.made self.old) (state_of W.made self.old) }
         ensures done { (result ≡ Ok Claim.Done)

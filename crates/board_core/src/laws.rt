@@ -1,6 +1,6 @@
 //! Laws of the board, for the proofs of callers: each is the contract of a function that does
 //! nothing.
-ghost use Rattle.board_core.specs.Laws.{ResultsAreAnswers, DepsGiveAnswer, JobsHaveAnswers, IdleBoardsAreDone, HistoriesAreShort};
+ghost use Rattle.board_core.specs.Laws.{ResultsAreAnswers, DepsGiveAnswer, JobsHaveAnswers, AnswersComeOfDeps, IdleBoardsAreDone, HistoriesAreShort};
 
 /// After every legal history the result of each job that is out is that of the recursion on ranks.
 pub fn results_are_answers<M>()
@@ -16,6 +16,11 @@ pub fn deps_give_answer<M>()
 /// Each job has a result.
 pub fn jobs_have_answers<M>()
     ensures { JobsHaveAnswers M }
+{}
+
+/// The result of a job is what is made of the results of its deps.
+pub fn answers_come_of_deps<M>()
+    ensures { AnswersComeOfDeps M }
 {}
 
 /// Where no job is ready and none is held, all jobs are out.

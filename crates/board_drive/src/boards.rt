@@ -16,5 +16,6 @@ pub fn free_jobs(alloc: Global, count: usize, workers: u32) -> Result<Board<Numb
         ranks.push(0)?;
         deps.push(Vec::new(alloc))?;
     }
-    Board::open(alloc, &Numbers, ranks.as_slice(), deps.as_slice(), workers)
+    let work = Numbers { jobs: deps.len() };
+    Board::open(alloc, &work, ranks.as_slice(), deps.as_slice(), workers)
 }

@@ -11,11 +11,15 @@ use no_memory::NoMemory;
 use std::alloc::Global;
 use std::sync::{Arc, Wait};
 
-/// Each job makes its own number.
-pub struct Numbers;
+/// Each of so many jobs makes its own number.
+pub struct Numbers {
+    pub jobs: usize,
+}
 
 impl Work for Numbers {
     type Made = u32;
+
+    ghost jobs = { λ work. work.jobs };
 
     ghost made = { λ work job callees. job };
 

@@ -16,7 +16,7 @@ fn three_jobs(alloc: Global, workers: u32) -> Result<Board<Numbers>, OpenFault>
         Vec::new(alloc),
         Vec::from_slice(alloc, &[0, 1])?,
     ];
-    Board::open(alloc, &Numbers, &[0, 0, 1], &deps, workers)
+    Board::open(alloc, &Numbers { jobs: 3 }, &[0, 0, 1], &deps, workers)
 }
 
 fn claims(worker: u32, answer: Claim) -> (Step, Answer) {

@@ -6,11 +6,15 @@ use std::alloc::Global;
 use std::sync::Arc;
 use std::test::Fail;
 
-// Each job makes its own number.
-struct Numbers;
+// Each of so many jobs makes its own number.
+struct Numbers {
+    jobs: usize,
+}
 
 impl Work for Numbers {
     type Made = u32;
+
+    ghost jobs = { λ work. work.jobs };
 
     ghost made = { λ work job callees. job };
 
@@ -41,7 +45,10 @@ fn publish_by(
     if !board.holds(worker, job) {
         return Ok(false);
     }
-    let made = Numbers.make(alloc, job, &[])?;
+    let work = Numbers {
+        jobs: job as usize + 1,
+    };
+    let made = work.make(alloc, job, &[])?;
     board.publish(worker, job, Arc::new(alloc, made)?);
     Ok(true)
 }
@@ -64,7 +71,7 @@ fn open_three(alloc: Global) -> Result<Board<Numbers>, OpenFault> {
     if deps.len() != ranks.len() {
         return Err(OpenFault::NoMemory);
     }
-    Board::open(alloc, &Numbers, &ranks, deps.as_slice(), 2)
+    Board::open(alloc, &Numbers { jobs: 3 }, &ranks, deps.as_slice(), 2)
 }
 
 #[test]
@@ -119,7 +126,7 @@ fn a_dep_of_no_smaller_rank_is_refused(rt: HostRuntime) -> Result<(), Fail> {
         deps.push(Vec::new(alloc))?;
         deps.push(Vec::from_slice(alloc, &[dep])?)?;
         assert_eq!(rt; deps.len(), 2);
-        let opened = Board::open(alloc, &Numbers, &ranks, deps.as_slice(), 1);
+        let opened = Board::open(alloc, &Numbers { jobs: 2 }, &ranks, deps.as_slice(), 1);
         let fault = fault.map(|(job, dep)| OpenFault::BadDeps { job, dep });
         assert!(rt; opened.err() == fault);
     }
@@ -139,7 +146,8 @@ fn a_chain_of_512_jobs_is_finished_in_order(rt: HostRuntime) -> Result<(), Fail>
         deps.push(before)?;
     }
     assert!(rt; ranks.len() == 512 && deps.len() == 512);
-    let mut board = Board::open(alloc, &Numbers, ranks.as_slice(), deps.as_slice(), 64)?;
+    let work = Numbers { jobs: 512 };
+    let mut board = Board::open(alloc, &work, ranks.as_slice(), deps.as_slice(), 64)?;
     let mut out = Vec::with_capacity(alloc, 512)?;
     for job in 0..512u32 {
         let worker = job % 64;
@@ -167,7 +175,7 @@ fn send_board<W: Work>(board: &Board<W>) {
 #[test]
 fn a_board_without_jobs_is_done(rt: HostRuntime) -> Result<(), Fail> {
     let alloc = rt.alloc();
-    let mut board = Board::open(alloc, &Numbers, &[], &[], 1)?;
+    let mut board = Board::open(alloc, &Numbers { jobs: 0 }, &[], &[], 1)?;
     send_board(&board);
     let mut out = Vec::with_capacity(alloc, 512)?;
     assert_eq!(rt; claim_by(&mut board, 0, &mut out)?, Some(Claim::Done));
@@ -184,7 +192,8 @@ fn sixty_four_workers_finish_512_jobs_of_one_rank(rt: HostRuntime) -> Result<(),
         deps.push(Vec::new(alloc))?;
     }
     assert!(rt; ranks.len() == 512 && deps.len() == 512);
-    let mut board = Board::open(alloc, &Numbers, ranks.as_slice(), deps.as_slice(), 64)?;
+    let work = Numbers { jobs: 512 };
+    let mut board = Board::open(alloc, &work, ranks.as_slice(), deps.as_slice(), 64)?;
     let mut out = Vec::with_capacity(alloc, 512)?;
     for round in 0..8u32 {
         for worker in 0..64u32 {

@@ -1,8 +1,11 @@
 -- Lambdas with their steps.
-use Rattle.std.proofs.Common.{◌≡◌, List, Result, Ok, Err, OnErr}
+use Rattle.std.proofs.Common.{◌≡◌, ◌++◌, ℕ, true, false, List, [], ◌∷◌, Some, None, Result, Ok, Err, OnErr, sym, ap}
+use Rattle.std.specs.Prelude.{if◌then◌else◌}
 use Rattle.g_graph.specs.Plain.{PlainLambda}
 use Rattle.g_graph.specs.declared.steps.Step.{Step}
-use Rattle.g_pass.specs.Sweep.{Swept}
+use Rattle.g_graph.specs.declared.steps.Rule.{Rule}
+use Rattle.g_recipe.specs.Sweep.{Swept, stepped, tried}
+use Rattle.g_pass.specs.Sweep.{applies, applied, rules}
 
 abbrev pub with_steps : PlainLambda → List Step → Swept
 with_steps l steps = record { lambda = l; steps = steps }
@@ -13,3 +16,12 @@ same_swept l k ls ks e f = λ i. with_steps (e i) (f i)
 pub on_err : {A B : Type 0} (P : Type 0) (r : Result A B) → P → OnErr r P
 on_err P (Ok x) p = tt
 on_err P (Err e) p = p
+
+-- one node, where the rule applies and where it does not
+pub tried_applied : (r : Rule) (n : ℕ) (callees : List PlainLambda) (l : PlainLambda) (steps : List Step) → applies r l n ≡ true →
+    with_steps (applied r n l) (steps ++ record { rule = r; node = n } ∷ []) ≡ tried rules callees r (with_steps l steps) n
+tried_applied r n callees l steps e = ap (λ b. stepped r n (with_steps l steps) (if b then Some (applied r n l) else None)) (sym e)
+
+pub tried_passed : (r : Rule) (n : ℕ) (callees : List PlainLambda) (l : PlainLambda) (steps : List Step) → applies r l n ≡ false →
+    with_steps l steps ≡ tried rules callees r (with_steps l steps) n
+tried_passed r n callees l steps e = ap (λ b. stepped r n (with_steps l steps) (if b then Some (applied r n l) else None)) (sym e)

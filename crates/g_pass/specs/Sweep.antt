@@ -1,11 +1,9 @@
--- What a sweep of a rule makes of a lambda, and what a recipe makes of it, sweep by sweep.
-use Rattle.std.specs.Prelude.{ℕ, ◌++◌, List, [], ◌∷◌, Bool, true, false, reverse, if◌then◌else◌}
-use Rattle.std.specs.List.{fold}
+-- The rules: where each applies, what it makes of a lambda there, and in which direction it is swept.
+use Rattle.std.specs.Prelude.{ℕ, Bool, true, false, None, Some, if◌then◌else◌}
 use Rattle.g_graph.specs.declared.steps.Rule.{Rule}
 use Rattle.g_graph.specs.declared.steps.Rule.TheVariants.{Fold, Cne, Dne, Inv, Push, Pull, Invert, Unroll, Inline}
-use Rattle.g_graph.specs.declared.steps.Step.{Step}
 use Rattle.g_graph.specs.Plain.{PlainLambda}
-use Rattle.g_graph.specs.Ids.{region_ids}
+use Rattle.g_recipe.specs.Sweep.{RuleTable}
 use Rattle.r_fold.specs.Rule as fold_rule
 use Rattle.r_cne.specs.Rule as cne_rule
 use Rattle.r_dne.specs.Rule as dne_rule
@@ -35,16 +33,6 @@ applied Invert n l = l
 applied Unroll n l = l
 applied Inline n l = l
 
--- a lambda, and the steps that were applied before it
-pub record Swept : Type 0 where
-  pub lambda : PlainLambda
-  pub steps : List Step
-
--- the rule at one node, where it applies
-abbrev pub tried : Rule → Swept → (node : ℕ) → Swept
-tried r s n =
-    if applies r s.lambda n then record { lambda = applied r n s.lambda; steps = s.steps ++ record { rule = r; node = n } ∷ [] } else s
-
 -- whether a sweep goes from the last node to the first
 abbrev pub is_backward : Rule → Bool
 is_backward Fold = false
@@ -57,13 +45,6 @@ is_backward Invert = false
 is_backward Unroll = false
 is_backward Inline = false
 
-abbrev pub in_order : Rule → List ℕ → List ℕ
-in_order r ns = if is_backward r then reverse ns else ns
-
--- The numbers that the lambda has as the sweep begins, in pre-order or in that order reversed: what a step makes is not
--- visited, and what a step takes away does not apply.
-abbrev pub sweep : Swept → Rule → Swept
-sweep s r = fold (tried r) s (in_order r (region_ids s.lambda.body))
-
-abbrev pub optimise : List Rule → PlainLambda → Swept
-optimise rules l = fold sweep (record { lambda = l; steps = [] }) rules
+-- the rules as a table, for sweeps and recipes
+abbrev pub rules : RuleTable
+rules = record { is_backward = is_backward; step = λ r callees n l. if applies r l n then Some (applied r n l) else None }

@@ -1,11 +1,15 @@
 //! One rule at one node.
-ghost use Rattle.std.specs.Prelude.{◌≡◌, OnOk, OnErr, IsTrue};
+ghost use Rattle.std.specs.Prelude.{◌≡◌, map, OnOk, OnErr, IsTrue};
+ghost use Rattle.std.specs.Arc.{arc_value};
 ghost use Rattle.g_graph.specs.WellFormed.{IsWellFormed};
-ghost use Rattle.g_pass.specs.Sweep.{applies, applied, is_backward, tried};
+ghost use Rattle.g_recipe.specs.Answers.{lambdas_of};
+ghost use Rattle.g_recipe.specs.Sweep.{tried};
+ghost use Rattle.g_pass.specs.Sweep.{applies, applied, is_backward, rules};
 
-use g_graph::{Lambda, Rule, Step};
+use g_graph::{Lambda, Optimised, Rule, Step};
 use no_memory::NoMemory;
 use std::alloc::Global;
+use std::sync::Arc;
 
 /// Whether a sweep of the rule goes from the last node to the first.
 pub const fn is_backward(rule: Rule) -> bool
@@ -47,18 +51,22 @@ fn apply(alloc: Global, rule: Rule, lambda: &mut Lambda, node: u32) -> Result<()
     }
 }
 
-/// Applies the rule at the node, where it applies, and notes the step in the log. `NoMemory` only
-/// where the allocator has none; lambda and log are then as they were.
+/// Applies the rule at the node, where it applies, and notes the step in the log; the callees are
+/// what functions that the lambda calls were made into. `NoMemory` only where the allocator has
+/// none; lambda and log are then as they were.
+#[tactic(auto, using(crate::proofs::Swept::tried_applied, crate::proofs::Swept::tried_passed))]
 pub fn try_step(
     alloc: Global,
     rule: Rule,
     lambda: &mut Lambda,
+    callees: &[Arc<Optimised>],
     node: u32,
     log: &mut Vec<Step>,
 ) -> Result<(), NoMemory>
     requires well_formed { IsWellFormed lambda.old }
     ensures ok { OnOk result (record { lambda = lambda.new; steps = log.new.items } ≡
-        tried rule (record { lambda = lambda.old; steps = log.old.items }) node) }
+        tried rules (lambdas_of (map arc_value callees.now)) rule
+        (record { lambda = lambda.old; steps = log.old.items }) node) }
     ensures kept { IsWellFormed lambda.new }
     ensures err_lambda { OnErr result (lambda.new ≡ lambda.old) }
     ensures err_log { OnErr result (log.new.items ≡ log.old.items) }

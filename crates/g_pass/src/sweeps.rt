@@ -1,20 +1,24 @@
 //! Sweeps, and recipes of them.
-ghost use Rattle.std.specs.Prelude.{◌≡◌, ◌<◌, ◌^◌, ℕ, take, OnOk, OnErr, IfOk};
+ghost use Rattle.std.specs.Prelude.{◌≡◌, ◌<◌, ◌^◌, ℕ, map, take, OnOk, OnErr, IfOk};
+ghost use Rattle.std.specs.Arc.{arc_value};
 ghost use Rattle.std.specs.List.{fold};
 ghost use Rattle.g_graph.specs.Count.{region_values};
 ghost use Rattle.g_graph.specs.Ids.{region_ids};
 ghost use Rattle.g_graph.specs.WellFormed.{IsWellFormed};
-ghost use Rattle.g_pass.specs.Sweep.{in_order, optimise, sweep, tried};
+ghost use Rattle.g_recipe.specs.Answers.{lambdas_of};
+ghost use Rattle.g_recipe.specs.Sweep.{in_order, optimise, sweep, tried};
+ghost use Rattle.g_pass.specs.Sweep.{rules};
 
 use crate::Recipe;
 use crate::step::{is_backward, try_step};
 use g_graph::{Lambda, Optimised, Rule, Step, StepList, ids, values};
 use no_memory::NoMemory;
 use std::alloc::Global;
+use std::sync::Arc;
 
 // The numbers of the lambda's nodes in the order in which a sweep of the rule visits them.
 fn numbers(alloc: Global, rule: Rule, lambda: &Lambda) -> Result<Vec<u32>, NoMemory>
-    ensures { IfOk result (λ all. all.items ≡ in_order rule (region_ids lambda.now.body)) }
+    ensures { IfOk result (λ all. all.items ≡ in_order rules rule (region_ids lambda.now.body)) }
 {
     let mut numbers = ids(alloc, lambda)?;
     if is_backward(rule) {
@@ -24,44 +28,52 @@ fn numbers(alloc: Global, rule: Rule, lambda: &Lambda) -> Result<Vec<u32>, NoMem
 }
 
 /// Sweeps a rule over a lambda: tries it at each number that the lambda has at the start, in
-/// pre-order or, for a rule that goes backward, in that order reversed. The steps that applied are
-/// appended to the log. `NoMemory` only where the allocator has none; the lambda is then the one
+/// pre-order or, for a rule that goes backward, in that order reversed. The callees are what
+/// functions that the lambda calls were made into. The steps that applied are appended to the log.
+/// `NoMemory` only where the allocator has none; the lambda is then the one
 /// after the logged steps. It takes time linear in the lambda for each of its nodes.
 pub fn sweep(
     alloc: Global,
     rule: Rule,
     lambda: &mut Lambda,
+    callees: &[Arc<Optimised>],
     log: &mut Vec<Step>,
 ) -> Result<(), NoMemory>
     requires well_formed { IsWellFormed lambda.old }
     ensures ok { OnOk result (record { lambda = lambda.new; steps = log.new.items } ≡
-        sweep (record { lambda = lambda.old; steps = log.old.items }) rule) }
+        sweep rules (lambdas_of (map arc_value callees.now))
+        (record { lambda = lambda.old; steps = log.old.items }) rule) }
     ensures kept { IsWellFormed lambda.new }
     ensures err { OnErr result ((count : ℕ) × (record { lambda = lambda.new; steps = log.new.items } ≡
-        fold (tried rule) (record { lambda = lambda.old; steps = log.old.items })
-        (take count (in_order rule (region_ids lambda.old.body))))) }
+        fold (tried rules (lambdas_of (map arc_value callees.now)) rule)
+        (record { lambda = lambda.old; steps = log.old.items })
+        (take count (in_order rules rule (region_ids lambda.old.body))))) }
 {
     for node in &numbers(alloc, rule, lambda)? {
-        try_step(alloc, rule, lambda, *node, log)?;
+        try_step(alloc, rule, lambda, callees, *node, log)?;
     }
     Ok(())
 }
 
 /// What a recipe makes of a lambda, sweep by sweep: the lambda, the steps that applied, and how many
-/// values the lambda had before them. `NoMemory` only where the allocator has none; the lambda is
-/// then given up.
-pub fn optimise(alloc: Global, lambda: Lambda, recipe: &Recipe) -> Result<Optimised, NoMemory>
+/// values the lambda had before them. The callees are what functions that it calls were made into.
+/// `NoMemory` only where the allocator has none; the lambda is then given up.
+pub fn optimise(
+    alloc: Global,
+    lambda: Lambda,
+    callees: &[Arc<Optimised>],
+    recipe: &Recipe,
+) -> Result<Optimised, NoMemory>
     requires well_formed { IsWellFormed lambda }
     requires small { region_values lambda.body < 2 ^ 32 }
-    ensures swept { IfOk result (λ made. record { lambda = made.lambda; steps = made.steps } ≡
-        optimise recipe.now lambda) }
-    ensures before { IfOk result (λ made. made.before ≡ region_values lambda.body) }
+    ensures { IfOk result (λ made.
+        made ≡ optimise rules (lambdas_of (map arc_value callees.now)) recipe.now lambda) }
 {
     let before = values(&lambda) as u32;
     let mut lambda = lambda;
     let mut log = Vec::new(alloc);
     for rule in recipe.as_slice() {
-        sweep(alloc, *rule, &mut lambda, &mut log)?;
+        sweep(alloc, *rule, &mut lambda, callees, &mut log)?;
     }
     Ok(Optimised {
         lambda,

@@ -135,7 +135,7 @@ fn recipes_make_the_rows(rt: HostRuntime) -> Result<(), Fail> {
         let lambda = program.lambdas.pop().expect(&rt, "a function");
         assert!(rt; check(&lambda), "{lambda:?}");
         assert!(rt; values(&lambda) < 1 << 32, "a lambda has too many values");
-        let made = optimise(alloc, lambda, &recipe)?;
+        let made = optimise(alloc, lambda, &[], &recipe)?;
         assert_eq!(rt; u64::from(made.before), row.values.0);
         assert_eq!(rt; values(&made.lambda), row.values.1);
         assert!(rt; check(&made.lambda), "{made:?}");

@@ -25,13 +25,13 @@ add_results-requires g c =
     record {
       known = λ e h.
           let known = subst within same
-          (λ e i. let it = c.self.invariant.ranked.known c.args.job _ (Contains-get_or (slice_index_or (dep_lists deps) c.args.job []) e 0 i) in omega
+          (λ e i. let it = c.self.invariant.1.ranked.known c.args.job _ (Contains-get_or (slice_index_or (dep_lists deps) c.args.job []) e 0 i) in omega
           (arith, it, length-map deps (λ (x : Vec ℕ Global). x.items))) e h in
           omega (
             arith,
             known,
             ap found c.as_slice-2.ensures.value,
-            made-length _ c.self.inside.events.items _ _ _ _ _ c.self.invariant,
+            made-length _ c.self.inside.events.items _ _ _ _ _ c.self.invariant.1,
             length-map c.self.inside.results.items (option_map (arc_value {X = g.row.W-Made.Denot} {Z = Global})),
             length-map deps (λ (x : Vec ℕ Global). x.items),
           );
@@ -46,7 +46,7 @@ returns-clause-ok g c =
     let same : slice_index_or (dep_lists deps) c.args.job [] ≡ row = row-is deps c.args.job c.index.result.now (omega (arith, low, length-map deps (λ (x : Vec ℕ Global). x.items))) c.index.ensures
     ∙ sym c.as_slice.ensures.value in
     let value = arc_value {X = g.row.W-Made.Denot} {Z = Global} in
-    let kept = given _ c.self.inside.events.items _ _ _ _ _ c.self.invariant value c.self.inside.results.items refl (slice_index_or (dep_lists deps) c.args.job []) in
+    let kept = given _ c.self.inside.events.items _ _ _ _ _ c.self.invariant.1 value c.self.inside.results.items refl (slice_index_or (dep_lists deps) c.args.job []) in
     let read = λ (xs : List (Option (Arc g.row.W-Made.Denot Global))) (ds : List ℕ). filter_map (λ d. option_map value (slice_index_or xs d None)) ds in
     let made = ap (λ xs. read xs row) c.as_slice-2.ensures.value ∙ (ap (read c.self.inside.results.items) (sym same) ∙ kept) in
     let known = λ (h : History g.row.W.Denot). OnOk c.add_results.result

@@ -11,4 +11,4 @@ returns g c =
     let family = λ (h : History g.row.W.Denot). MatchBool c.is_some_held.result (SomeHeld (state_of g.W.Work.made h) × (¬ AllOut (program_of g.W.Work.made h) (state_of g.W.Work.made h)))
     ((¬ SomeHeld (state_of g.W.Work.made h))
     × (((j : ℕ) → ¬ IsReady (program_of g.W.Work.made h) (state_of g.W.Work.made h) j) → AllOut (program_of g.W.Work.made h) (state_of g.W.Work.made h))) in
-    subst family c.self.view_is (busy _ c.self.inside.events.items _ _ _ _ _ c.self.invariant c.is_some_held.result _ c.as_slice.ensures.value c.is_some_held.ensures)
+    subst family c.self.view_is (busy _ c.self.inside.events.items _ _ _ _ _ c.self.invariant.1 c.is_some_held.result _ c.as_slice.ensures.value c.is_some_held.ensures)

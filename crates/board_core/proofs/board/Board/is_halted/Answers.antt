@@ -10,4 +10,4 @@ pub returns : goal.returns
 returns g c =
     let family = λ (h : History g.row.W.Denot). MatchBool c.self.inside.is_stopped (SomebodyStopped h.events × (¬ NobodyStopped (state_of g.W.Work.made h)))
     (NobodyStopped (state_of g.W.Work.made h) × (¬ SomebodyStopped h.events)) in
-    subst family c.self.view_is (halted _ c.self.inside.events.items _ _ _ _ _ c.self.invariant)
+    subst family c.self.view_is (halted _ c.self.inside.events.items _ _ _ _ _ c.self.invariant.1)

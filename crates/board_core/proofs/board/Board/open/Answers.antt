@@ -19,12 +19,14 @@ invariant_of-result g c =
     let none : fine c.args.ranks.now (dep_lists c.args.deps.now) = λ j h. c.in_default.ensures.none j (omega (arith, h, plain)) in
     let here = subst (λ x. fine x (dep_lists c.in_ok-copied.field-0.items)) (sym ranks) (subst (λ y. fine c.args.ranks.now y) (sym deps) none) in
     let count : length c.args.deps.now ≡ length (dep_lists c.in_ok-copied.field-0.items) = omega (arith, jobs) in
-    let room : 2 * length (dep_lists c.in_ok-copied.field-0.items) + c.args.workers ≤ vec_capacity c.in_ok-with_capacity.field-0 = omega (arith, c.in_ok-with_capacity.ensures.exact, jobs) in
-    kept-logged _ [] _ _ _ _ _ _ _
-    (kept-open _ (omega (arith, ap (λ (xs : List ℕ). length xs) ranks, jobs, c.requires.lengths)) (omega (arith, jobs, c.requires.few)) here _ _ _ _
-    (c.in_ok-all_open.ensures ∙ ap (λ n. replicate n OpenState) count) (c.in_ok-no_results.ensures ∙ ap (λ n. replicate n None) count)
-    (c.in_ok-none_checked.ensures ∙ ap (λ n. replicate n 0) count) room)
-    c.in_ok-with_capacity.ensures.items (le-same (vec_capacity c.in_ok-with_capacity.field-0))
+    let room : 2 * length (dep_lists c.in_ok-copied.field-0.items) + c.args.workers ≤ vec_capacity c.in_ok-with_capacity.field-0 = omega (arith, c.in_ok-with_capacity.ensures.exact, jobs) in (
+      omega (arith, jobs, length-map c.in_ok-copied.field-0.items (λ (x : Vec ℕ Global). x.items), c.requires.jobs) ∙ ap g.W.Work.jobs (sym c.of.ensures),
+      kept-logged _ [] _ _ _ _ _ _ _
+          (kept-open _ (omega (arith, ap (λ (xs : List ℕ). length xs) ranks, jobs, c.requires.lengths)) (omega (arith, jobs, c.requires.few)) here _ _ _ _
+          (c.in_ok-all_open.ensures ∙ ap (λ n. replicate n OpenState) count) (c.in_ok-no_results.ensures ∙ ap (λ n. replicate n None) count)
+          (c.in_ok-none_checked.ensures ∙ ap (λ n. replicate n 0) count) room)
+          c.in_ok-with_capacity.ensures.items (le-same (vec_capacity c.in_ok-with_capacity.field-0)),
+    )
 
 pub returns-clause-bad : goal.returns-clause-bad
 returns-clause-bad g c job dep = (

@@ -1,0 +1,5 @@
+use Rattle.board_core.proofs.AnswerLemmas.{answers-come-of-deps}
+use Rattle.board_core.proofs.laws.answers_come_of_deps.Goals as goal
+
+pub returns : goal.returns
+returns g c = answers-come-of-deps

@@ -1,0 +1,5 @@
+pub mod Recipes
+pub mod Kept
+pub mod Answers
+pub mod Chosen
+pub mod Images
