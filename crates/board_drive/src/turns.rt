@@ -12,6 +12,7 @@ use std::alloc::Global;
 use std::sync::{Arc, Wait};
 
 /// Each of so many jobs makes its own number.
+#[derive(Drop)]
 pub struct Numbers {
     pub jobs: usize,
 }

@@ -7,6 +7,7 @@ use std::sync::Arc;
 use std::test::Fail;
 
 // Each of so many jobs makes its own number.
+#[derive(Drop)]
 struct Numbers {
     jobs: usize,
 }
