@@ -1,0 +1,28 @@
+//! Laws of recipes of the rules.
+
+ghost use Rattle.pass_laws.specs.Laws.{RulesAreSteps, AnswersKeepLists, AnswersFitImages};
+
+/// Each rule makes a step: wherever it applies to a well-formed lambda, the changed lambda may stand
+/// for the old one in every list.
+pub fn rules_are_steps()
+    ensures { RulesAreSteps }
+{
+    r_fold::laws::fold_keeps_meaning();
+    r_cne::laws::cne_keeps_meaning();
+    r_dne::laws::dne_keeps_meaning();
+    r_inv::laws::inv_keeps_meaning();
+    r_push::laws::psh_keeps_meaning();
+}
+
+/// What the functions of a complete list are made into under a recipe may stand for them: every
+/// function keeps its meaning, and so does every program, and each lambda keeps its number, its
+/// parameters and its objects, and has at most 8,192 values or no more than before. Where the list
+/// is that of an image, and small enough, the made one is that of an image too.
+pub fn answers_keep_lists()
+    ensures lists { AnswersKeepLists }
+    ensures images { AnswersFitImages }
+{
+    rules_are_steps();
+    g_recipe::laws::answers_keep_lists();
+    g_recipe::laws::kept_lists_fit_images();
+}
