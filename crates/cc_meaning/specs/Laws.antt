@@ -1,0 +1,24 @@
+-- Laws of the meaning of images.
+use Rattle.std.specs.Prelude.{List}
+use Rattle.c_typed.specs.Typed.{ProgramTree}
+use Rattle.c_typed.specs.WellTyped.{IsWellTyped}
+use Rattle.g_graph.specs.Plain.{PlainLambda}
+use Rattle.g_construct.specs.Functions.{graph, omega}
+use Rattle.g_built.specs.BuiltLaws.{IsSmall}
+use Rattle.g_edit.specs.Steps.{MayStandForAll}
+use Rattle.g_simulation.specs.Groups.{HasFewGroups}
+use Rattle.cc_emit.specs.Image.{CanEmit, file_of_program}
+use Rattle.cc_simulation.specs.Images.{HaveWords}
+use Rattle.cc_meaning.specs.Meaning.{KeepsMeaning}
+
+-- The image of a program does what the program does, with every list of lambdas that may stand for the built ones and whose
+-- constants are words.
+abbrev pub ProgramsKeepMeaning : Type 0
+ProgramsKeepMeaning =
+    (p : ProgramTree) → IsWellTyped p → HasFewGroups p → (ls : List PlainLambda) → MayStandForAll (graph p) ls → CanEmit (omega p) ls → HaveWords ls →
+    KeepsMeaning p ls (file_of_program (omega p) ls)
+
+-- So it is with the built lambdas of a program within the limits.
+abbrev pub BuiltProgramsKeepMeaning : Type 0
+BuiltProgramsKeepMeaning =
+    (p : ProgramTree) → IsWellTyped p → HasFewGroups p → IsSmall p → HaveWords (graph p) → KeepsMeaning p (graph p) (file_of_program (omega p) (graph p))

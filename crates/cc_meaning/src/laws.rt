@@ -1,0 +1,22 @@
+//! Laws of the meaning of images, for the proofs of the crates above: each is the contract of a
+//! function that does nothing.
+
+ghost use Rattle.cc_meaning.specs.Laws.{BuiltProgramsKeepMeaning, ProgramsKeepMeaning};
+
+/// The image of a well-typed program, each `switch` of which has fewer than 2^32 groups, keeps the
+/// program's meaning, with the built lambdas or with others that may stand for them, where their
+/// constants are words: on every input of bytes on which no bound makes the program undefined
+/// (ISO/IEC 9899:2011, 3.4.3), it loads and does what the program does, bounded run for bounded run
+/// both ways, or stops for want of stack after a beginning of the program's output, where the
+/// frames of some stack of calls need more than the stack has. So it does with the built lambdas,
+/// where the program is within the limits of an image.
+pub fn programs_keep_meaning()
+    ensures lists { ProgramsKeepMeaning }
+    ensures built { BuiltProgramsKeepMeaning }
+{
+    g_simulation::laws::construction_keeps_programs();
+    g_built::laws::well_typed_are_built();
+    g_built::laws::small_are_within_limits();
+    g_edit::steps::lists_compose();
+    cc_simulation::laws::images_keep_meaning();
+}

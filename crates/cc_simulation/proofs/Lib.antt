@@ -1,0 +1,2 @@
+mod Programs
+pub mod lemmas
