@@ -1,16 +1,15 @@
 -- The image of a program does what the program does.
-use Rattle.std.proofs.Common.{◌≡◌, ◌&&◌, ◌==◌, ℕ, suc, ◌+◌, ◌%◌, ◌≤◌, true, List, [], ◌∷◌, length, map, Some, slice_get, refl, sym, arith, Option}
+use Rattle.std.proofs.Common.{◌≡◌, ◌&&◌, ◌==◌, ℕ, suc, ◌+◌, ◌%◌, ◌≤◌, true, List, [], ◌∷◌, length, Some, slice_get, refl, arith, Option}
 use Rattle.std.specs.Prelude.{nat_lt, nat_le}
 use Rattle.std.proofs.lemmas.Bool.{and_parts}
 use Rattle.std.proofs.lemmas.Bool.Decides.{nat_tests}
 use Rattle.val_core.specs.declared.leaf.Leaf.{Leaf}
 use Rattle.val_core.specs.declared.values.Value.{Value}
-use Rattle.val_core.specs.Answers.{Answer, Returned, Cut, Exited, Undefined, IsUndefined}
-use Rattle.val_core.specs.Within.{Behaviour, behaviour, Within, Given}
+use Rattle.val_core.specs.Answers.{IsUndefined}
+use Rattle.val_core.specs.Within.{Given}
 use Rattle.c_typed.specs.Typed.{ProgramTree}
-use Rattle.c_typed.specs.WellTyped.{IsWellTyped}
 use Rattle.c_mean.specs.Run.{run, deepest_run}
-use Rattle.g_graph.specs.Plain.{PlainLambda, PlainDelta, PlainOmega}
+use Rattle.g_graph.specs.Plain.{PlainLambda, PlainDelta}
 use Rattle.g_graph.specs.Program.{IsGlobal, IsProgram}
 use Rattle.g_graph.specs.WellFormed.{all_of, is_width, leaves_fit}
 use Rattle.g_construct.specs.Functions.{graph, omega}
@@ -19,7 +18,6 @@ use Rattle.g_mean.specs.Data.{Datum}
 use Rattle.g_mean.specs.Calls.{program_at, deepest_main}
 use Rattle.g_mean.specs.LessDefined.{Paired, AreBytes, AreNarrow, AreSoundDeltas, IsLessDefinedDatum}
 use Rattle.g_edit.specs.Steps.{MayStandForAll, WithinBothWays, ListsStandForThemselves}
-use Rattle.g_simulation.specs.Groups.{HasFewGroups}
 use Rattle.g_simulation.specs.Laws.{ConstructionKeepsPrograms, StartsAsProgram}
 use Rattle.cc_emit.specs.Image.{CanEmit, file_of_program}
 use Rattle.cc_behaviour.specs.Behaviour.{FileKeeps}
