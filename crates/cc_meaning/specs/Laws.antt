@@ -1,5 +1,5 @@
 -- Laws of the meaning of images.
-use Rattle.std.specs.Prelude.{List}
+use Rattle.std.specs.Prelude.{ℕ, List}
 use Rattle.c_typed.specs.Typed.{ProgramTree}
 use Rattle.c_typed.specs.WellTyped.{IsWellTyped}
 use Rattle.g_graph.specs.Plain.{PlainLambda}
@@ -8,6 +8,9 @@ use Rattle.g_built.specs.BuiltLaws.{IsSmall}
 use Rattle.g_edit.specs.Steps.{MayStandForAll}
 use Rattle.g_simulation.specs.Groups.{HasFewGroups}
 use Rattle.cc_emit.specs.Image.{CanEmit, file_of_program}
+use Rattle.c_accepted.specs.SourceLaws.{AreBytes}
+use Rattle.cc_compile.specs.Accepted.{Accepts}
+use Rattle.cc_compile.specs.Compiled.{image_of}
 use Rattle.cc_simulation.specs.Images.{HaveWords}
 use Rattle.cc_meaning.specs.Meaning.{KeepsMeaning}
 
@@ -22,3 +25,8 @@ ProgramsKeepMeaning =
 abbrev pub BuiltProgramsKeepMeaning : Type 0
 BuiltProgramsKeepMeaning =
     (p : ProgramTree) → IsWellTyped p → HasFewGroups p → IsSmall p → HaveWords (graph p) → KeepsMeaning p (graph p) (file_of_program (omega p) (graph p))
+
+-- So the image of a source that is accepted does what its program does, where the constants of its graph are words.
+abbrev pub AcceptedSourcesKeepMeaning : Type 0
+AcceptedSourcesKeepMeaning =
+    (source : List ℕ) → AreBytes source → (p : ProgramTree) → Accepts source p → HaveWords (graph p) → KeepsMeaning p (graph p) (image_of p)

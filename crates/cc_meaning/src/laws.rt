@@ -1,7 +1,7 @@
 //! Laws of the meaning of images, for the proofs of the crates above: each is the contract of a
 //! function that does nothing.
 
-ghost use Rattle.cc_meaning.specs.Laws.{BuiltProgramsKeepMeaning, ProgramsKeepMeaning};
+ghost use Rattle.cc_meaning.specs.Laws.{AcceptedSourcesKeepMeaning, BuiltProgramsKeepMeaning, ProgramsKeepMeaning};
 
 /// The image of a well-typed program, each `switch` of which has fewer than 2^32 groups, keeps the
 /// program's meaning, with the built lambdas or with others that may stand for them, where their
@@ -19,4 +19,15 @@ pub fn programs_keep_meaning()
     g_built::laws::small_are_within_limits();
     g_edit::steps::lists_compose();
     cc_simulation::laws::images_keep_meaning();
+}
+
+/// The image of a source of bytes that is accepted keeps the meaning of its program, where the
+/// constants of its graph are words.
+pub fn accepted_sources_keep_meaning()
+    ensures { AcceptedSourcesKeepMeaning }
+{
+    programs_keep_meaning();
+    c_accepted::laws::checked_are_well_typed();
+    c_accepted::laws::checked_have_few_groups();
+    cc_compile::laws::unlimited_are_small();
 }
