@@ -5,8 +5,8 @@ ghost use Rattle.cc_behaviour.specs.Laws.{NearerIsKept};
 
 use val_core::laws::runs::Related;
 
-/// A machine that keeps the behaviour of a family of bounded runs keeps that of a nearer family too,
-/// where the two families are within each other and no stack of the farther one is deeper.
+/// A machine that keeps the behaviour of a family of bounded runs keeps that of a nearer family
+/// too, where the two families are within each other and no stack of the farther one is deeper.
 pub fn nearer_is_kept<A: Related<B>, B>()
     ensures { NearerIsKept A B A.relate }
 {}

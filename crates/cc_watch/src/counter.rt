@@ -39,7 +39,8 @@ impl Counter {
 
 fn count_step(applied: &mut [u32; 9], rule: Rule)
     ensures { (k : Rule) → slice_index applied.new (rule_place k) ≡
-        (slice_index applied.old (rule_place k) + (if rule_place rule == rule_place k then 1 else 0)) % 2 ^ 32 }
+        (slice_index applied.old (rule_place k)
+        + (if rule_place rule == rule_place k then 1 else 0)) % 2 ^ 32 }
 {
     let place = rule_place(rule);
     applied[place] = applied[place].wrapping_add(1);

@@ -30,7 +30,8 @@ UnreadNodesGo =
 -- Of a Gamma exit variables may go whose outputs are not read, with their results in every region.
 abbrev pub UnreadExitsGo : Type 0
 UnreadExitsGo =
-    (ls ks : List PlainLambda) (l : PlainLambda) (args : List Kind) (before : NodeTrees) (id : ℕ) (inputs : List Origin) (rs : RegionTrees) (after : NodeTrees) (results : List Origin) (stays : List Bool) →
+    (ls ks : List PlainLambda) (l : PlainLambda) (args : List Kind) (before : NodeTrees) (id : ℕ) (inputs : List Origin) (rs : RegionTrees) (after : NodeTrees) (results : List Origin)
+    (stays : List Bool) →
     IsPartOf l (region args (joined_nodes before (node_then (node id Gamma inputs rs) after)) results) →
     is_read (is_gone_output id stays) (region args (joined_nodes before (node_then (node id Gamma inputs rs) after)) results) ≡ false →
     Replaces ls ks (region args (joined_nodes before (node_then (node id Gamma inputs rs) after)) results)
@@ -39,7 +40,8 @@ UnreadExitsGo =
 -- Of a Gamma entry variables may go whose arguments no region reads, with these arguments.
 abbrev pub UnreadEntriesGo : Type 0
 UnreadEntriesGo =
-    (ls ks : List PlainLambda) (l : PlainLambda) (args : List Kind) (before : NodeTrees) (id : ℕ) (inputs : List Origin) (rs : RegionTrees) (after : NodeTrees) (results : List Origin) (stays : List Bool) →
+    (ls ks : List PlainLambda) (l : PlainLambda) (args : List Kind) (before : NodeTrees) (id : ℕ) (inputs : List Origin) (rs : RegionTrees) (after : NodeTrees) (results : List Origin)
+    (stays : List Bool) →
     IsPartOf l (region args (joined_nodes before (node_then (node id Gamma inputs rs) after)) results) → some_reads stays rs ≡ false →
     Replaces ls ks (region args (joined_nodes before (node_then (node id Gamma inputs rs) after)) results)
     (entries_kept id stays (region args (joined_nodes before (node_then (node id Gamma inputs rs) after)) results))
@@ -56,7 +58,8 @@ UnreadExitsAndEntriesGo =
 -- Of a Theta loop variables may go whose outputs are not read, and whose arguments at most results that go with them read.
 abbrev pub UnreadVariablesGo : Type 0
 UnreadVariablesGo =
-    (ls ks : List PlainLambda) (l : PlainLambda) (args : List Kind) (before : NodeTrees) (id : ℕ) (inputs : List Origin) (r : RegionTree) (after : NodeTrees) (results : List Origin) (stays : List Bool) →
+    (ls ks : List PlainLambda) (l : PlainLambda) (args : List Kind) (before : NodeTrees) (id : ℕ) (inputs : List Origin) (r : RegionTree) (after : NodeTrees) (results : List Origin)
+    (stays : List Bool) →
     IsPartOf l (region args (joined_nodes before (node_then (node id Theta inputs (region_then r no_regions)) after)) results) → loop_reads stays r ≡ false →
     is_read (is_gone_output id stays) (region args (joined_nodes before (node_then (node id Theta inputs (region_then r no_regions)) after)) results) ≡ false →
     Replaces ls ks (region args (joined_nodes before (node_then (node id Theta inputs (region_then r no_regions)) after)) results)

@@ -44,7 +44,8 @@ pub fn sweep(
         sweep rules (lambdas_of (map arc_value callees.now))
         (record { lambda = lambda.old; steps = log.old.items }) rule) }
     ensures kept { IsWellFormed lambda.new }
-    ensures err { OnErr result ((count : ℕ) × (record { lambda = lambda.new; steps = log.new.items } ≡
+    ensures err { OnErr result ((count : ℕ) ×
+        (record { lambda = lambda.new; steps = log.new.items } ≡
         fold (tried rules (lambdas_of (map arc_value callees.now)) rule)
         (record { lambda = lambda.old; steps = log.old.items })
         (take count (in_order rules rule (region_ids lambda.old.body))))) }
@@ -55,9 +56,9 @@ pub fn sweep(
     Ok(())
 }
 
-/// What a recipe makes of a lambda, sweep by sweep: the lambda, the steps that applied, and how many
-/// values the lambda had before them. The callees are what functions that it calls were made into.
-/// `NoMemory` only where the allocator has none; the lambda is then given up.
+/// What a recipe makes of a lambda, sweep by sweep: the lambda, the steps that applied, and how
+/// many values the lambda had before them. The callees are what functions that it calls were made
+/// into. `NoMemory` only where the allocator has none; the lambda is then given up.
 pub fn optimise(
     alloc: Global,
     lambda: Lambda,

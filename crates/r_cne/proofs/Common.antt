@@ -42,7 +42,8 @@ pub record GivesValue (c : Context) (op : Op) (us : List Datum) : Type 0 where
   pub value : Value
   pub same : (ms : List Meaning) → act c op ms us ≡ given value
 
-given_by : {X : Type 0} (x : Option X) (f : X → Value) (ys : List Datum) (did : List Event) → on_defined x (λ z. given (f z)) ≡ Returned ys did → (v : Value) × (on_defined x (λ z. given (f z)) ≡ given v)
+given_by : {X : Type 0} (x : Option X) (f : X → Value) (ys : List Datum) (did : List Event) → on_defined x (λ z. given (f z)) ≡ Returned ys did →
+    (v : Value) × (on_defined x (λ z. given (f z)) ≡ given v)
 given_by None f ys did e = absurd cc
 given_by (Some z) f ys did e = (f z, refl)
 

@@ -148,7 +148,8 @@ module _ (l : PlainLambda) (args : List Kind) (before : NodeTrees) (id : ℕ) (o
   first_ran c xs o did e =
       let firsts : distinct (nodes_ids first) ≡ true = subst (λ zs. distinct zs ≡ true) (sym (nodes_ids-joined before (node_then here no_nodes)
       ∙ ap (λ zs. nodes_ids before ++ zs) (append-nil (node_ids here))))
-      (distinct-split (nodes_ids before ++ node_ids here) (nodes_ids after) (subst (λ zs. distinct zs ≡ true) (sym (append_assoc (nodes_ids before) (node_ids here) (nodes_ids after))) all_distinct)).0 in
+      (distinct-split (nodes_ids before ++ node_ids here) (nodes_ids after)
+      (subst (λ zs. distinct zs ≡ true) (sym (append_assoc (nodes_ids before) (node_ids here) (nodes_ids after))) all_distinct)).0 in
       let have = holds-from (length args) c first [] xs no_outputs o did (joined-reads arg [] before (node_then here no_nodes) whole_read.0 (whole_read.1.0, tt)) (λ n h k. h) firsts e in
       let ran = have_run c xs o before here no_nodes have in
       let other_at : joined_nodes before (node_then here no_nodes)
@@ -179,7 +180,8 @@ module _ (l : PlainLambda) (args : List Kind) (before : NodeTrees) (id : ℕ) (o
       ∙ ap (λ a. then_on a (ending xs os)) (joined-run c first ns xs no_outputs) ∙ then_associates (nodes_run c first xs no_outputs) (nodes_run c ns xs) (ending xs os)
 
   pub means_the_same : (c : Context) (xs : List Datum) →
-      region_meaning c (region_redirected move (region args (joined_nodes before (node_then here after)) results)) xs ≡ region_meaning c (region args (joined_nodes before (node_then here after)) results) xs
+      region_meaning c (region_redirected move (region args (joined_nodes before (node_then here after)) results)) xs
+      ≡ region_meaning c (region args (joined_nodes before (node_then here after)) results) xs
   means_the_same c xs =
       let far = ap (λ ns. region_meaning c (region args ns (map move results)) xs) redirected_is ∙ in_turn c xs (nodes_redirected move after) (map move results) in
       let same = then_on_given (nodes_run c first xs no_outputs) (λ o. then_on (nodes_run c after xs o) (ending xs results))
@@ -188,7 +190,8 @@ module _ (l : PlainLambda) (args : List Kind) (before : NodeTrees) (id : ℕ) (o
       let runs = subst (λ ns. Same (ReadSame outside (known_after [] after) move xs xs) (nodes_run c after xs o) (nodes_run c ns xs o)) (redirected-moved move after)
       (copied_nodes_mean_the_same outside move (λ n. n) after after_moves after_reads c xs xs o o (later_same c xs o (first_ran c xs o did e))) in
       same-equal (then_on (nodes_run c after xs o) (ending xs results)) (then_on (nodes_run c (nodes_redirected move after) xs o) (ending xs (map move results)))
-      (same-then (ReadSame outside (known_after [] after) move xs xs) Equals (nodes_run c after xs o) (nodes_run c (nodes_redirected move after) xs o) (ending xs results) (ending xs (map move results)) runs
+      (same-then (ReadSame outside (known_after [] after) move xs xs) Equals (nodes_run c after xs o) (nodes_run c (nodes_redirected move after) xs o) (ending xs results)
+      (ending xs (map move results)) runs
       (λ p q h. (sym (reads-same outside (known_after [] after) move xs xs p q h results after_gives), refl)))) in
       far ∙ sym same ∙ sym (in_turn c xs after results)
 

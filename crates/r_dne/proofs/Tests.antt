@@ -1,5 +1,6 @@
 -- The lists of tests, by index.
-use Rattle.std.proofs.Common.{◌≡◌, ◌<◌, ◌≤◌, ℕ, zero, suc, ◌+◌, Bool, true, false, not, ◌&&◌, ◌||◌, cond, List, [], ◌∷◌, take, drop, length, get_or, Option, None, Some, refl, sym, ap, subst, subst₂, ◌∙◌, add-one, arith}
+use Rattle.std.proofs.Common.{◌≡◌, ◌<◌, ◌≤◌, ℕ, zero, suc, ◌+◌, Bool, true, false, not, ◌&&◌, ◌||◌, cond, List, []}
+use Rattle.std.proofs.Common.{◌∷◌, take, drop, length, get_or, Option, None, Some, refl, sym, ap, subst, subst₂, ◌∙◌, add-one, arith}
 use Rattle.std.specs.Prelude.{slice_get, is_some, option_and_then}
 use Rattle.std.proofs.Math.Bool.{or_assoc}
 use Rattle.g_graph.specs.declared.op.Kind.{Kind}
@@ -141,7 +142,8 @@ others_past (suc k) o (a ∷ os) b = ap (λ t. same_origin o a || t) (others_pas
 others_suc : (own : ℕ) (o : Origin) (os : List Origin) → own < length os → (some_of (same_origin o) (take own os) || some_of (same_origin o) (drop (suc own) os)) ≡ others_use own o os
 others_suc own o [] b = absurd (omega arith)
 others_suc zero o (a ∷ os) b = refl
-others_suc (suc k) o (a ∷ os) b = or_assoc (same_origin o a) (some_of (same_origin o) (take k os)) (some_of (same_origin o) (drop (suc k) os)) ∙ ap (λ t. same_origin o a || t) (others_suc k o os (omega arith))
+others_suc (suc k) o (a ∷ os) b = or_assoc (same_origin o a) (some_of (same_origin o) (take k os)) (some_of (same_origin o) (drop (suc k) os))
+    ∙ ap (λ t. same_origin o a || t) (others_suc k o os (omega arith))
 
 pub others_at : (own : ℕ) (o : Origin) (os : List Origin) → own < length os → (some_of (same_origin o) (take own os) || some_of (same_origin o) (drop (own + 1) os)) ≡ others_use own o os
 others_at own o os b = rw add-one (others_suc own o os b)
@@ -151,7 +153,8 @@ others_at own o os b = rw add-one (others_suc own o os b)
 pub gamma_is : (r : RegionTree) (x : NodeTree) (rs : RegionTrees) → op_of x ≡ Gamma → regions_in x ≡ rs →
     is_some (shrunk r x) ≡ not (all_stay (used_exits (id_of x) r 0 (output_kinds x)) && all_stay (used_entries (regions_giving [] rs) 0 (first_args rs)))
 gamma_is r (node id op inputs qs) rs g e =
-    subst₂ (λ (o : Op) (ps : RegionTrees). is_some (shrunk r (node id o inputs qs)) ≡ not (all_stay (used_exits id r 0 (outputs_of o qs)) && all_stay (used_entries (regions_giving [] ps) 0 (first_args ps))))
+    subst₂ (λ (o : Op) (ps : RegionTrees). is_some (shrunk r (node id o inputs qs))
+    ≡ not (all_stay (used_exits id r 0 (outputs_of o qs)) && all_stay (used_entries (regions_giving [] ps) 0 (first_args ps))))
     (sym g) e (by (all_stay exits) refl)
   where
     exits : List Bool
@@ -163,7 +166,8 @@ gamma_is r (node id op inputs qs) rs g e =
 
     by : (t : Bool) → all_stay exits ≡ t → is_some (gamma_shrunk id r qs) ≡ not (all_stay exits && all_stay (used_entries (regions_giving [] qs) 0 (first_args qs)))
     by true a = same (all_stay exits && all_stay (entries_of id r qs)) ∙ ap (λ ps. not (all_stay exits && all_stay (used_entries ps 0 (first_args qs)))) (all_giving exits qs a)
-    by false a = same (all_stay exits && all_stay (entries_of id r qs)) ∙ (λ i. not (a i && all_stay (entries_of id r qs))) ∙ (λ i. not (sym a i && all_stay (used_entries (regions_giving [] qs) 0 (first_args qs))))
+    by false a = same (all_stay exits && all_stay (entries_of id r qs)) ∙ (λ i. not (a i && all_stay (entries_of id r qs)))
+        ∙ (λ i. not (sym a i && all_stay (used_entries (regions_giving [] qs) 0 (first_args qs))))
 
 pub theta_none : (r : RegionTree) (id : ℕ) (op : Op) (inputs : List Origin) (rs : List RegionTree) → op ≡ Theta → (length rs ≡ 1 → ⊥) → shrunk r (node id op inputs (regions_of rs)) ≡ None
 theta_none r id op inputs rs g h = subst (λ (o : Op). shrunk r (node id o inputs (regions_of rs)) ≡ None) (sym g) (by rs h)

@@ -137,7 +137,8 @@ node-fewer ns n Get inputs rs f e = absurd cc
 
 -- ---- the region
 
-folded-resized : (values n : ℕ) (args : List Kind) (ns : NodeTrees) (results : List Origin) (x : NodeTree) → node_at n ns ≡ Some x → (f : Folded) (s : RegionTree) → folded n (region args ns results) f ≡ Some s →
+folded-resized : (values n : ℕ) (args : List Kind) (ns : NodeTrees) (results : List Origin) (x : NodeTree) → node_at n ns ≡ Some x → (f : Folded) (s : RegionTree) →
+    folded n (region args ns results) f ≡ Some s →
     FewerThan (node_values x) f → IsResized values (region args ns results) s
 folded-resized values n args ns results x at (word w) s e two =
     let y = node n (Const w) [] no_regions in
@@ -170,7 +171,8 @@ fold_resizes values n (region args ns results) s e = by-node (node_at n ns) refl
     by-folding x a None b c = absurd cc
     by-folding x a (Some f) b c = folded-resized values n args ns results x a f s c (of-node x f b)
 
-    by-node : (x : Option NodeTree) → node_at n ns ≡ x → option_and_then (λ g. folded n (region args ns results) g) (option_and_then (folding ns) x) ≡ Some s → IsResized values (region args ns results) s
+    by-node : (x : Option NodeTree) → node_at n ns ≡ x → option_and_then (λ g. folded n (region args ns results) g) (option_and_then (folding ns) x) ≡ Some s →
+        IsResized values (region args ns results) s
     by-node None a c = absurd cc
     by-node (Some x) a c = by-folding x a (folding ns x) refl c
 

@@ -328,11 +328,13 @@ module _ (l : PlainLambda) (args : List Kind) (before : NodeTrees) (id : ℕ) (i
   theta_refines : (direction : Direction) (c d : Context) → ContextRefines no_deeper direction IsLessDefinedDatum c d → (xs ys : List Datum) (o q : Outputs) → Paired IsLessDefinedDatum xs ys →
       OutputsRefine IsLessDefinedDatum o q → Refines no_deeper direction (λ us vs. Paired IsLessDefinedDatum (kept [] us) vs) (node_run c theta xs o) (node_run d theta ys q)
   theta_refines direction c d context xs ys o q paired ordered =
-      subst (λ (f : List Datum → List Datum). Refines no_deeper direction (λ us vs. Paired IsLessDefinedDatum (f us) vs) (node_run c theta xs o) (node_run d theta ys q)) (fun_ext (λ us. sym (kept_none us)))
+      subst (λ (f : List Datum → List Datum). Refines no_deeper direction (λ us vs. Paired IsLessDefinedDatum (f us) vs) (node_run c theta xs o) (node_run d theta ys q))
+      (fun_ext (λ us. sym (kept_none us)))
       (itself_refines theta direction c d context xs ys o q paired ordered)
 
   theta_replace : (ls ks : List PlainLambda) →
-      Replaces ls ks (region args (joined_nodes before (node_then theta after)) results) (outputs_redirected id (output_carried id cs []) (region args (joined_nodes before (node_then theta after)) results))
+      Replaces ls ks (region args (joined_nodes before (node_then theta after)) results)
+      (outputs_redirected id (output_carried id cs []) (region args (joined_nodes before (node_then theta after)) results))
   theta_replace ls ks =
       let none = not_before (length l.objects) args before theta after (node-here l args before theta after results part) in
       subst (λ ns. Replaces ls ks (region args (joined_nodes before (node_then theta after)) results) (region args ns (map (output_carried id cs []) results)))

@@ -11,7 +11,8 @@ use Rattle.g_graph.specs.declared.op.Origin.TheVariants.{Arg, Out}
 use Rattle.g_graph.specs.Plain.{RegionTree, region, NodeTree, node, NodeTrees, no_nodes, node_then, RegionTrees, no_regions, region_then, id_of, args_of}
 use Rattle.g_graph.specs.Signatures.{joined, first_args, result_kinds, outputs_of}
 use Rattle.g_graph.specs.Scope.{is_of, known, last_state, last_index, origin_at}
-use Rattle.g_graph.specs.WellFormed.{all_of, some_of, all_regions, are, same, one_state_each, kinds_of, is_origin, is_last, inputs_are_last, regions_fit, node_fits, nodes_fit, results_are_last, returns_state, region_has_one_state_each, region_fits, every_region, every_in_node, every_in_nodes, every_in_regions}
+use Rattle.g_graph.specs.WellFormed.{all_of, some_of, all_regions, are, same, one_state_each, kinds_of, is_origin, is_last, inputs_are_last}
+use Rattle.g_graph.specs.WellFormed.{regions_fit, node_fits, nodes_fit, results_are_last, returns_state, region_has_one_state_each, region_fits, every_region, every_in_node, every_in_nodes, every_in_regions}
 use Rattle.g_graph.specs.Replace.{nodes_redirected}
 use Rattle.g_graph.specs.Splice.{joined_nodes}
 use Rattle.g_graph.specs.Lists.{RegionOps, NodesOps}
@@ -132,7 +133,8 @@ module _ (stays : List Bool) (objects : ℕ) where
       let memory_now = returns_still Memory memory stays args nodes results go were_last gives_memory in
       let io_now = returns_still Io io stays args nodes results go were_last gives_io in
       let each = and_parts (one_state_each (map Some args)) (one_state_each (map (known args nodes) results)) states in
-      let given : one_state_each (map (known args nodes) (kept stays results)) ≡ true = ap one_state_each (kept_map stays (known args nodes) results) ∙ states_fewer stays (map (known args nodes) results) each.1 in
+      let given : one_state_each (map (known args nodes) (kept stays results)) ≡ true =
+      ap one_state_each (kept_map stays (known args nodes) results) ∙ states_fewer stays (map (known args nodes) results) each.1 in
       λ i. (fit i && last i && memory_now i && io_now i && (each.0 i && given i)) && nest i
 
   regions_inside : (rs : RegionTrees) → AllGo stays rs → every_in_regions (region_fits objects) rs ≡ true → every_in_regions (region_fits objects) (regions_giving stays rs) ≡ true
@@ -161,7 +163,8 @@ module _ (objects : ℕ) (args : List Kind) (before : NodeTrees) (id : ℕ) (inp
       Carries args before (outputs_of Gamma rs) stays p o
   carries_first own nodes outs qs is p o e =
       let at = (passed_is inputs p own nodes outs qs o (sym (ap (passed inputs p) is) ∙ passes p o e)).first in
-      let kinds : map (known args before) inputs ≡ map Some (Value ∷ own) = are_kinds (map (known args before) inputs) (Value ∷ own) (sym (ap (λ q. are (map (known args before) inputs) (Value ∷ first_args q)) is) ∙ here.inputs) in
+      let kinds : map (known args before) inputs ≡ map Some (Value ∷ own) =
+      are_kinds (map (known args before) inputs) (Value ∷ own) (sym (ap (λ q. are (map (known args before) inputs) (Value ∷ first_args q)) is) ∙ here.inputs) in
       let found = some_kind own at.argument (known args before o) (sym (ap (λ ks. slice_get ks (suc at.argument)) kinds) ∙ get_map (known args before) inputs (suc at.argument) o at.input) in
       record {
         kind = found.0;

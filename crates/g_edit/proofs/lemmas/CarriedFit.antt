@@ -1,5 +1,6 @@
 -- A node whose outputs come from what they carry, in its place: the region stays well formed.
-use Rattle.std.proofs.Common.{◌≡◌, ◌≤◌, ℕ, zero, suc, ◌==◌, ◌⊎◌, Bool, true, false, not, ◌&&◌, ◌||◌, cond, List, [], ◌∷◌, ◌++◌, map, Option, None, Some, option_map, slice_get, refl, sym, ap, subst, ◌∙◌, inl, inr, arith}
+use Rattle.std.proofs.Common.{◌≡◌, ◌≤◌, ℕ, zero, suc, ◌==◌, ◌⊎◌, Bool, true, false, not, ◌&&◌, ◌||◌, cond, List, []}
+use Rattle.std.proofs.Common.{◌∷◌, ◌++◌, map, Option, None, Some, option_map, slice_get, refl, sym, ap, subst, ◌∙◌, inl, inr, arith}
 use Rattle.std.specs.Prelude.{unwrap_or}
 use Rattle.std.proofs.lemmas.Bool.{and_parts, or_parts, false_from_ne_true, not-true}
 use Rattle.std.proofs.lemmas.Option.{same_Some}
@@ -11,7 +12,8 @@ use Rattle.g_graph.specs.Plain.{RegionTree, region, NodeTree, node, NodeTrees, n
 use Rattle.g_graph.specs.Ids.{node_ids, nodes_ids}
 use Rattle.g_graph.specs.Signatures.{joined, output_kinds, kind_after}
 use Rattle.g_graph.specs.Scope.{is_of, known, last_index, origin_at, state_after, last_state, each_node}
-use Rattle.g_graph.specs.WellFormed.{all_of, some_of, at_most_one, one_state_each, gives, is_last, node_fits, nodes_fit, results_are_last, returns_state, region_has_one_state_each, region_fits, every_region, every_in_node, every_in_nodes}
+use Rattle.g_graph.specs.WellFormed.{all_of, some_of, at_most_one, one_state_each, gives, is_last, node_fits}
+use Rattle.g_graph.specs.WellFormed.{nodes_fit, results_are_last, returns_state, region_has_one_state_each, region_fits, every_region, every_in_node, every_in_nodes}
 use Rattle.g_graph.specs.Change.{has_node}
 use Rattle.g_graph.specs.Replace.{nodes_redirected}
 use Rattle.g_graph.specs.Splice.{joined_nodes}
@@ -147,7 +149,8 @@ module _ (objects : ℕ) (args : List Kind) (before : NodeTrees) (x y : NodeTree
       by_carried e None w =
           let none : has_node n between ≡ false = ap (λ m. has_node m between) (sym (same_number (id_of x) n e)) ∙ none_between between rest q in
           kind_after-joined before (node_then y (nodes_redirected move between)) n (place_after stays p) None
-          ∙ kind_after-redirected move between n (place_after stays p) (cond (id_of y == n) (joined (slice_get (output_kinds y) (place_after stays p))) (kind_after before n (place_after stays p) None))
+          ∙ kind_after-redirected move between n (place_after stays p)
+          (cond (id_of y == n) (joined (slice_get (output_kinds y) (place_after stays p))) (kind_after before n (place_after stays p) None))
           ∙ kind_absent between n (place_after stays p) (cond (id_of y == n) (joined (slice_get (output_kinds y) (place_after stays p))) (kind_after before n (place_after stays p) None)) none
           ∙ ap (λ t. cond t (joined (slice_get (output_kinds y) (place_after stays p))) (kind_after before n (place_after stays p) None)) (ap (λ m. m == n) number ∙ e)
           ∙ ap (λ ks. joined (slice_get ks (place_after stays p))) outputs ∙ ap joined (kept_get stays (output_kinds x) p (stay p w)) ∙ sym (old_own between rest q n p e)
@@ -348,7 +351,8 @@ module _ (objects : ℕ) (args : List Kind) (before : NodeTrees) (x y : NodeTree
         gives_fewer Memory (some_of (is_of Memory) (map (known args now) (map move results))) (ap (λ ks. not (gives Memory ns) || some_of (is_of Memory) ks) all.0 ∙ gave_memory) in
         let io_now : (not (gives Io now) || some_of (is_of Io) (map (known args now) (map move results))) ≡ true =
         gives_fewer Io (some_of (is_of Io) (map (known args now) (map move results))) (ap (λ ks. not (gives Io ns) || some_of (is_of Io) ks) all.0 ∙ gave_io) in
-        let states_now : (one_state_each (map Some args) && one_state_each (map (known args now) (map move results))) ≡ true = ap (λ ks. one_state_each (map Some args) && one_state_each ks) all.0 ∙ states in
+        let states_now : (one_state_each (map Some args) && one_state_each (map (known args now) (map move results))) ≡ true =
+        ap (λ ks. one_state_each (map Some args) && one_state_each ks) all.0 ∙ states in
         let inner = and_parts (every_in_nodes (region_fits objects) before) (every_in_nodes (region_fits objects) (node_then x after))
         (sym (every_in_nodes-joined (region_fits objects) before (node_then x after)) ∙ nest) in
         let outer = and_parts (every_in_node (region_fits objects) x) (every_in_nodes (region_fits objects) after) inner.1 in

@@ -25,7 +25,8 @@ use Rattle.g_edit.proofs.lemmas.Carried.{redirected_joined}
 use Rattle.g_edit.proofs.lemmas.CarriedExits.{get_map, get_all}
 use Rattle.g_edit.proofs.lemmas.CarriedFit.{Carries, carried_kept}
 
-module _ (objects : ℕ) (args : List Kind) (before : NodeTrees) (id : ℕ) (inputs : List Origin) (own : List Kind) (nodes : NodeTrees) (outs : List Origin) (after : NodeTrees) (cs : List (Option Origin))
+module _ (objects : ℕ) (args : List Kind) (before : NodeTrees) (id : ℕ) (inputs : List Origin) (own : List Kind) (nodes : NodeTrees) (outs : List Origin) (after : NodeTrees)
+    (cs : List (Option Origin))
     (here : NodeFits objects args before (node id Theta inputs (region_then (region own nodes outs) no_regions)) after)
     (passes : (p : ℕ) (o : Origin) → joined (slice_get cs p) ≡ Some o → (slice_get own p ≡ Some Value) × (slice_get inputs p ≡ Some o)) where
   abbrev x : NodeTree
@@ -52,7 +53,8 @@ module _ (objects : ℕ) (args : List Kind) (before : NodeTrees) (id : ℕ) (inp
       (and_parts (one_state_each (map Some own)) (one_state_each (map (known own nodes) outs)) states).0
 
   pub uses_carried_fit : (results : List Origin) → every_region (region_fits objects) (region args (joined_nodes before (node_then x after)) results) ≡ true →
-      KeptWithin objects (region args (joined_nodes before (node_then x after)) results) (outputs_redirected id (output_carried id cs []) (region args (joined_nodes before (node_then x after)) results))
+      KeptWithin objects (region args (joined_nodes before (node_then x after)) results)
+      (outputs_redirected id (output_carried id cs []) (region args (joined_nodes before (node_then x after)) results))
   uses_carried_fit results fits =
       subst (λ ns. KeptWithin objects (region args (joined_nodes before (node_then x after)) results) (region args ns (map (output_carried id cs []) results)))
       (sym (redirected_joined id (output_carried id cs []) before x after (not_before objects args before x after here) (same_number_true id)))

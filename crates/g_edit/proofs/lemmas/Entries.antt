@@ -80,7 +80,8 @@ module _ (stays : List Bool) where
         let gives = all_unread (length args) staying gone [] (λ k e. is_not (stays_at stays k) e) none_known (known_after [] nodes) results
         (subst (λ ks. AreRead (is_argument (length args)) ks results) (sym (append-nil (known_after [] nodes))) closed.1) parts.1 in
         subst
-        (λ ns. Refines no_deeper direction (Paired IsLessDefinedDatum) (region_meaning c (region args nodes results) us) (region_meaning d (region (kept stays args) ns (map move results)) (kept stays vs)))
+        (λ ns. Refines no_deeper direction (Paired IsLessDefinedDatum) (region_meaning c (region args nodes results) us)
+        (region_meaning d (region (kept stays args) ns (map move results)) (kept stays vs)))
         (redirected-moved move nodes)
         (moved_regions_refine direction c d context staying move (λ n. n) args (kept stays args) nodes results (moves (nodes_ids nodes)) reads gives us (kept stays vs) (arguments_less us vs pairs))
 

@@ -12,7 +12,8 @@ use Rattle.g_graph.specs.Plain.{region, NodeTree, node, NodeTrees, no_nodes, nod
 use Rattle.g_graph.specs.Ids.{regions_ids}
 use Rattle.g_graph.specs.Signatures.{first_args, result_kinds, outputs_of, output_kinds}
 use Rattle.g_graph.specs.Scope.{is_of, known, last_index, origin_at, state_after, last_state}
-use Rattle.g_graph.specs.WellFormed.{all_of, some_of, all_regions, are, same, one_state_each, gives, kinds_of, is_last, has_its_regions, inputs_fit, inputs_are_last, node_has_one_state_each, regions_fit, theta_has_states, has_its_width, has_its_object, node_fits, nodes_fit, results_are_last, returns_state, region_has_one_state_each, region_fits, every_region, every_in_node, every_in_nodes, every_in_regions}
+use Rattle.g_graph.specs.WellFormed.{all_of, some_of, all_regions, are, same, one_state_each, gives, kinds_of, is_last, has_its_regions, inputs_fit, inputs_are_last, node_has_one_state_each}
+use Rattle.g_graph.specs.WellFormed.{regions_fit, theta_has_states, has_its_width, has_its_object, node_fits, nodes_fit, results_are_last, returns_state, region_has_one_state_each, region_fits, every_region, every_in_node, every_in_nodes, every_in_regions}
 use Rattle.g_graph.specs.Change.{has_node}
 use Rattle.g_graph.specs.Replace.{nodes_redirected}
 use Rattle.g_graph.specs.Splice.{joined_nodes}
@@ -80,7 +81,8 @@ module _ (stays : List Bool) where
     scope_takes : (front : NodeTrees) → KeepsScope gone args front (kept stays args) (nodes_redirected move front) move
     scope_takes front = record { one = λ o u e. by o u e (known args front o) refl }
       where
-        last : (k : Kind) (o : Origin) → gone o ≡ false → (k ≡ Value) ⊎ (last_state k args front ≡ Some o) → (k ≡ Value) ⊎ (last_state k (kept stays args) (nodes_redirected move front) ≡ Some (move o))
+        last : (k : Kind) (o : Origin) → gone o ≡ false → (k ≡ Value) ⊎ (last_state k args front ≡ Some o) →
+            (k ≡ Value) ⊎ (last_state k (kept stays args) (nodes_redirected move front) ≡ Some (move o))
         last k o u (inl v) = inl v
         last k o u (inr s) =
             let now = origin_at Arg (last_index k 0 (map Some (kept stays args)) None) None in

@@ -61,7 +61,8 @@ module _ (objects : ℕ) (args : List Kind) (before : NodeTrees) (x y : NodeTree
       λ i. region args (joined_nodes before (node_then y (nodes_unmoved move (output_stays (id_of x)) after i))) (all_unmoved move (output_stays (id_of x)) results i)
 
   pub exchanged_stays : (results : List Origin) → (node_fits objects args before x ≡ true → node_fits objects args before y ≡ true) →
-      (every_in_node (region_fits objects) x ≡ true → every_in_node (region_fits objects) y ≡ true) → every_region (region_fits objects) (near results) ≡ true → RegionStays objects (near results) (far results)
+      (every_in_node (region_fits objects) x ≡ true → every_in_node (region_fits objects) y ≡ true) → every_region (region_fits objects) (near results) ≡ true →
+      RegionStays objects (near results) (far results)
   exchanged_stays results fits_here inside_here fits =
       subst (λ s. RegionStays objects (near results) s) (unmoved results)
       (swapped_stays objects args before x y after [] here number (outputs ∙ sym (kept_none (output_kinds x))) refl results fits_here inside_here fits

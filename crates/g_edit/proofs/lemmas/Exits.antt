@@ -152,7 +152,8 @@ module _ (stays : List Bool) where
       part_refines : (direction : Direction) (c d : Context) → ContextRefines no_deeper direction IsLessDefinedDatum c d → (xs ys : List Datum) (o q : Outputs) → Paired IsLessDefinedDatum xs ys →
           OutputsRefine IsLessDefinedDatum o q → Refines no_deeper direction (ReadLessDefined seen [] move xs ys) (nodes_run c (node_then here no_nodes) xs o) (nodes_run d (node_then y no_nodes) ys q)
       part_refines direction c d context xs ys o q near like =
-          refines-then no_deeper no_deeper-compares.goes (λ us vs. Paired IsLessDefinedDatum (kept stays us) vs) (ReadLessDefined seen [] move xs ys) direction (node_run c here xs o) (node_run d y ys q)
+          refines-then no_deeper no_deeper-compares.goes (λ us vs. Paired IsLessDefinedDatum (kept stays us) vs) (ReadLessDefined seen [] move xs ys) direction (node_run c here xs o)
+          (node_run d y ys q)
           (λ us. Returned (extended o id us) []) (λ vs. Returned (extended q (id_of y) vs) []) (refines direction c d context xs ys o q near like)
           (λ us vs pairs. (subst (λ n. ReadLessDefined seen [] move xs ys (extended o id us) (extended q n vs)) (sym number) (less xs ys o q near like us vs pairs), no_deeper-compares.goes.nothing))
 
@@ -170,7 +171,8 @@ module _ (stays : List Bool) where
         OutputsRefine IsLessDefinedDatum o q →
         Refines no_deeper direction (λ us vs. Paired IsLessDefinedDatum (kept stays us) vs) (node_run c here xs o) (node_run d (node_giving stays here) ys q)
     giving_refines direction c d context xs ys o q near like =
-        subst₂ (λ a b. Refines no_deeper direction (λ us vs. Paired IsLessDefinedDatum (kept stays us) vs) a b) (then_nothing (node_run c here xs o)) (sym (branched_gives d rs (map (read ys q) inputs)))
+        subst₂ (λ a b. Refines no_deeper direction (λ us vs. Paired IsLessDefinedDatum (kept stays us) vs) a b) (then_nothing (node_run c here xs o))
+        (sym (branched_gives d rs (map (read ys q) inputs)))
         (refines-then no_deeper no_deeper-compares.goes (Paired IsLessDefinedDatum) (λ us vs. Paired IsLessDefinedDatum (kept stays us) vs) direction (node_run c here xs o) (node_run d here ys q)
         (λ us. Returned us []) drops
         (node-refines no_deeper no_deeper-compares direction IsLessDefinedDatum less-kept Never Always

@@ -10,7 +10,8 @@ use Rattle.g_graph.specs.Plain.{RegionTree, region, NodeTree, node, NodeTrees, n
 use Rattle.g_graph.specs.Ids.{nodes_ids, regions_ids}
 use Rattle.g_graph.specs.Signatures.{first_args, result_kinds, outputs_of}
 use Rattle.g_graph.specs.Scope.{is_of, known}
-use Rattle.g_graph.specs.WellFormed.{some_of, all_regions, are, same, one_state_each, gives, kinds_of, is_last, has_its_regions, inputs_fit, inputs_are_last, node_has_one_state_each, regions_fit, node_fits, nodes_fit, results_are_last, returns_state, region_has_one_state_each, region_fits, every_region, every_in_node, every_in_nodes, every_in_regions}
+use Rattle.g_graph.specs.WellFormed.{some_of, all_regions, are, same, one_state_each, gives, kinds_of, is_last, has_its_regions, inputs_fit, inputs_are_last}
+use Rattle.g_graph.specs.WellFormed.{node_has_one_state_each, regions_fit, node_fits, nodes_fit, results_are_last, returns_state, region_has_one_state_each, region_fits, every_region, every_in_node, every_in_nodes, every_in_regions}
 use Rattle.g_graph.specs.Replace.{nodes_redirected}
 use Rattle.g_graph.specs.Splice.{joined_nodes}
 use Rattle.g_graph.specs.Lists.{RegionOps, NodeOps, NodesOps, RegionsOps}
@@ -78,7 +79,8 @@ module _ (stays : List Bool) where
       let fit = (and_parts (nodes_fit objects r) (results_are_last r) to_last).0 in
       let last = all_kept (is_last args nodes) stays results (and_parts (nodes_fit objects r) (results_are_last r) to_last).1 in
       let given = kept_map stays (known args nodes) results in
-      let memory_same : some_of (is_of Memory) (map (known args nodes) (kept stays results)) ≡ some_of (is_of Memory) kinds = ap (some_of (is_of Memory)) given ∙ some_state Memory memory stays kinds v in
+      let memory_same : some_of (is_of Memory) (map (known args nodes) (kept stays results)) ≡ some_of (is_of Memory) kinds =
+      ap (some_of (is_of Memory)) given ∙ some_state Memory memory stays kinds v in
       let io_same : some_of (is_of Io) (map (known args nodes) (kept stays results)) ≡ some_of (is_of Io) kinds = ap (some_of (is_of Io)) given ∙ some_state Io io stays kinds v in
       let memory_now : (not (gives Memory nodes) || some_of (is_of Memory) (map (known args nodes) (kept stays results))) ≡ true = ap (λ b. not (gives Memory nodes) || b) memory_same ∙ gives_memory in
       let io_now : (not (gives Io nodes) || some_of (is_of Io) (map (known args nodes) (kept stays results))) ≡ true = ap (λ b. not (gives Io nodes) || b) io_same ∙ gives_io in
@@ -151,7 +153,8 @@ module _ (stays : List Bool) where
     exits_kept_fit results fits unread =
         subst (λ ns. KeptWithin objects (region args (joined_nodes before (node_then x after)) results) (region args ns (map (output_after id stays) results)))
         (sym (giving_joined stays id before x after (not_before objects args before x after here) (same_number_true id)))
-        (swapped_kept objects args before x y after stays here refl (gives_kept rs) values results node_fits_now inside_now (λ m. omega (arith, ap (λ ns. times m (id ∷ ns)) (ids_same rs))) fits unread)
+        (swapped_kept objects args before x y after stays here refl (gives_kept rs) values results node_fits_now inside_now (λ m. omega (arith, ap (λ ns. times m (id ∷ ns)) (ids_same rs)))
+        fits unread)
 
 -- ---- no op is added
 

@@ -14,7 +14,8 @@ use Rattle.g_mean.proofs.lemmas.Copies.{Equals, reads-same, redirected-moved, sa
 abbrev pub run_to : Context → NodeTrees → (results : List Origin) → List Datum → Outputs → Answer (List Datum)
 run_to c ns results xs o = then_on (nodes_run c ns xs o) (λ q. Returned (map (read xs q) results) [])
 
-pub moved-runs-same : (S : Origin → Bool) (move : Origin → Origin) (ns : NodeTrees) (results : List Origin) → CanMove S move (λ n. n) (nodes_ids ns) → NodesRead S [] ns → AreRead S (known_after [] ns) results →
+pub moved-runs-same : (S : Origin → Bool) (move : Origin → Origin) (ns : NodeTrees) (results : List Origin) → CanMove S move (λ n. n) (nodes_ids ns) → NodesRead S [] ns →
+    AreRead S (known_after [] ns) results →
     (c : Context) (xs ys : List Datum) (o q : Outputs) → ReadSame S [] move xs ys o q → run_to c (nodes_redirected move ns) (map move results) ys q ≡ run_to c ns results xs o
 moved-runs-same S move ns results can reads gives c xs ys o q same =
     let known = known_after [] ns in

@@ -91,7 +91,8 @@ module _ (args : List Kind) (before : NodeTrees) (x : NodeTree) (after : NodeTre
   can_place_redirected = record {
     closed = can.closed;
     unique = can.unique;
-    reads = nodes-wider (is_argument (length args)) outside [] (id_of x ∷ known_after [] before) wider earlier after (joined-read (is_argument (length args)) [] before (node_then x after) can.closed.0).1.1;
+    reads = nodes-wider (is_argument (length args)) outside [] (id_of x ∷ known_after [] before) wider earlier after
+        (joined-read (is_argument (length args)) [] before (node_then x after) can.closed.0).1.1;
     gives = all-wider (is_argument (length args)) outside (known_after [] after) (id_of x ∷ known_after [] before) wider earlier results
         (all-among (is_argument (length args)) (known_after [] (joined_nodes before (node_then x after))) (known_after [] after ++ (id_of x ∷ known_after [] before))
         (λ n h. known-split [] (id_of x ∷ known_after [] before) after n (subst (λ zs. IsAmong n zs) (joined-known [] before (node_then x after)) h)) results can.closed.1);

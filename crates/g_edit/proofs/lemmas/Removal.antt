@@ -13,7 +13,8 @@ use Rattle.g_graph.specs.Plain.{RegionTree, region, NodeTree, NodeTrees, no_node
 use Rattle.g_graph.specs.Ids.{node_ids, nodes_ids}
 use Rattle.g_graph.specs.Signatures.{joined, output_kinds, kind_after}
 use Rattle.g_graph.specs.Scope.{is_of, known, last_index, origin_at, state_after, each_node}
-use Rattle.g_graph.specs.WellFormed.{all_of, some_of, one_state_each, gives, is_origin, is_last_of, is_last, node_fits, nodes_fit, results_are_last, returns_state, region_has_one_state_each, region_fits, every_region, every_in_node, every_in_nodes}
+use Rattle.g_graph.specs.WellFormed.{all_of, some_of, one_state_each, gives, is_origin, is_last_of, is_last, node_fits}
+use Rattle.g_graph.specs.WellFormed.{nodes_fit, results_are_last, returns_state, region_has_one_state_each, region_fits, every_region, every_in_node, every_in_nodes}
 use Rattle.g_graph.specs.Change.{has_node}
 use Rattle.g_graph.specs.Replace.{nodes_redirected}
 use Rattle.g_graph.specs.Splice.{joined_nodes}
@@ -113,7 +114,8 @@ module _ (l : PlainLambda) (args : List Kind) (before : NodeTrees) (x : NodeTree
 
   placed_is : region args (joined_nodes before (joined_nodes no_nodes (nodes_redirected (λ o. o) after))) (map (λ o. o) results) ≡ region_without (id_of x) whole
   placed_is =
-      (λ i. region args (joined_nodes before (nodes_unmoved (λ o. o) (λ o. refl) after i)) (all_unmoved (λ o. o) (λ o. refl) results i)) ∙ sym (without_is (length l.objects) args before x after results here)
+      (λ i. region args (joined_nodes before (nodes_unmoved (λ o. o) (λ o. refl) after i)) (all_unmoved (λ o. o) (λ o. refl) results i))
+      ∙ sym (without_is (length l.objects) args before x after results here)
 
   pub without_replaces : (ls ks : List PlainLambda) → Replaces ls ks whole (region_without (id_of x) whole)
   without_replaces ls ks =
@@ -177,7 +179,8 @@ module _ (args : List Kind) (x : NodeTree) (none : GivesNoState x) where
       (kept_nodes_fit (is_output_of (id_of x)) objects args args (λ o. o) (earlier ++ x ∷ []) earlier after
       (λ front following w.
       subst (λ ns. KeepsScope (is_output_of (id_of x)) args ns args (joined_nodes (nodes_of earlier) (nodes_redirected (λ o. o) front)) (λ o. o)) (sym (joined_following earlier x front))
-      (subst (λ ns. KeepsScope (is_output_of (id_of x)) args (joined_nodes (nodes_of earlier) (node_then x front)) args (joined_nodes (nodes_of earlier) ns) (λ o. o)) (sym (nodes_unmoved (λ o. o) (λ o. refl) front))
+      (subst (λ ns. KeepsScope (is_output_of (id_of x)) args (joined_nodes (nodes_of earlier) (node_then x front)) args (joined_nodes (nodes_of earlier) ns) (λ o. o))
+      (sym (nodes_unmoved (λ o. o) (λ o. refl) front))
       (scope_stays (nodes_of earlier) front))) u rest)
   without_fit objects earlier (node_then y before) after u e =
       let both = and_parts (node_fits objects args (nodes_of earlier) y) (each_node (node_fits objects args) (earlier ++ y ∷ []) (joined_nodes before (node_then x after))) e in

@@ -19,7 +19,8 @@ use Rattle.g_mean.proofs.lemmas.Replacement.{lambdas_keep_meaning}
 use Rattle.g_mean.proofs.lemmas.LocalRefinement.{less-composes, pairs-compose}
 use Rattle.g_mean.proofs.lemmas.Edits.{lambdas-itself}
 use Rattle.g_edit.specs.Size.{IsNoLarger}
-use Rattle.g_edit.specs.Steps.{WithinBothWays, AreKeptBothWays, MayStandForAll, KeepsInterface, HasEach, IsApartFrom, ContractsGiveSteps, EditsKeepInterface, NoStepIsAStep, StepsCompose, ListsStandForThemselves, ListsCompose}
+use Rattle.g_edit.specs.Steps.{WithinBothWays, AreKeptBothWays, MayStandForAll, KeepsInterface, HasEach, IsApartFrom}
+use Rattle.g_edit.specs.Steps.{ContractsGiveSteps, EditsKeepInterface, NoStepIsAStep, StepsCompose, ListsStandForThemselves, ListsCompose}
 
 -- ---- runs within each other
 
@@ -53,13 +54,17 @@ kept-composes near mid far h k right =
     record {
       forward = λ n.
           let a = first.forward n in
-          let b = second.forward a.0 in
-          (b.0, within_composes (Paired IsLessDefinedDatum) (Paired IsLessDefinedDatum) (Paired IsLessDefinedDatum) pairs-compose (behaviour (near n)) (behaviour (mid a.0)) (behaviour (far b.0)) a.1 b.1);
+          let b = second.forward a.0 in (
+            b.0,
+            within_composes (Paired IsLessDefinedDatum) (Paired IsLessDefinedDatum) (Paired IsLessDefinedDatum) pairs-compose (behaviour (near n)) (behaviour (mid a.0))
+                (behaviour (far b.0)) a.1 b.1,
+          );
       back = λ n.
           let b = second.back n in
           let a = first.back b.0 in (
             a.0,
-            within_composes (λ ys xs. Paired IsLessDefinedDatum xs ys) (λ ys xs. Paired IsLessDefinedDatum xs ys) (λ ys xs. Paired IsLessDefinedDatum xs ys) (λ zs ys xs f g. pairs-compose xs ys zs g f) (behaviour (far n)) (behaviour (mid b.0)) (behaviour (near a.0)) b.1 a.1,
+            within_composes (λ ys xs. Paired IsLessDefinedDatum xs ys) (λ ys xs. Paired IsLessDefinedDatum xs ys) (λ ys xs. Paired IsLessDefinedDatum xs ys)
+                (λ zs ys xs f g. pairs-compose xs ys zs g f) (behaviour (far n)) (behaviour (mid b.0)) (behaviour (near a.0)) b.1 a.1,
           );
       no_deeper = λ n.
           let b = second.no_deeper n in

@@ -1,5 +1,6 @@
 -- A node that gives fewer values in the place of a node: the region stays well formed.
-use Rattle.std.proofs.Common.{◌≡◌, ◌≤◌, ℕ, ◌==◌, ◌⊎◌, Bool, true, false, not, ◌&&◌, ◌||◌, cond, List, [], ◌∷◌, ◌++◌, map, Option, None, Some, option_map, slice_get, refl, sym, ap, subst, ◌∙◌, inl, inr, arith}
+use Rattle.std.proofs.Common.{◌≡◌, ◌≤◌, ℕ, ◌==◌, ◌⊎◌, Bool, true, false, not, ◌&&◌, ◌||◌, cond, List, [], ◌∷◌}
+use Rattle.std.proofs.Common.{◌++◌, map, Option, None, Some, option_map, slice_get, refl, sym, ap, subst, ◌∙◌, inl, inr, arith}
 use Rattle.std.proofs.lemmas.Bool.{and_parts, or_parts, false_from_ne_true}
 use Rattle.g_graph.specs.declared.op.Kind.{Kind}
 use Rattle.g_graph.specs.declared.op.Kind.TheVariants.{Value, Memory, Io}
@@ -9,7 +10,8 @@ use Rattle.g_graph.specs.Plain.{RegionTree, region, NodeTree, NodeTrees, no_node
 use Rattle.g_graph.specs.Ids.{node_ids, nodes_ids}
 use Rattle.g_graph.specs.Signatures.{joined, output_kinds, result_kinds, kind_after}
 use Rattle.g_graph.specs.Scope.{is_of, known, last_index, origin_at, state_after, last_state, each_node}
-use Rattle.g_graph.specs.WellFormed.{all_of, some_of, one_state_each, gives, is_last, node_fits, nodes_fit, results_are_last, returns_state, region_has_one_state_each, region_fits, every_region, every_in_node, every_in_nodes}
+use Rattle.g_graph.specs.WellFormed.{all_of, some_of, one_state_each, gives, is_last, node_fits, nodes_fit}
+use Rattle.g_graph.specs.WellFormed.{results_are_last, returns_state, region_has_one_state_each, region_fits, every_region, every_in_node, every_in_nodes}
 use Rattle.g_graph.specs.Change.{has_node}
 use Rattle.g_graph.specs.Replace.{nodes_redirected}
 use Rattle.g_graph.specs.Splice.{joined_nodes}
@@ -61,11 +63,13 @@ module _ (objects : ℕ) (args : List Kind) (before : NodeTrees) (x y : NodeTree
   kinds_stay between rest q (Out n p) u = by (id_of x == n) refl u
     where
       by : (t : Bool) → (id_of x == n) ≡ t → (t && not (stays_at stays p)) ≡ false →
-          known args (joined_nodes before (node_then y (nodes_redirected move between))) (cond t (Out n (place_after stays p)) (Out n p)) ≡ known args (joined_nodes before (node_then x between)) (Out n p)
+          known args (joined_nodes before (node_then y (nodes_redirected move between))) (cond t (Out n (place_after stays p)) (Out n p))
+          ≡ known args (joined_nodes before (node_then x between)) (Out n p)
       by true e v =
           let none : has_node n between ≡ false = ap (λ m. has_node m between) (sym (same_number (id_of x) n e)) ∙ none_between between rest q in
           kind_after-joined before (node_then y (nodes_redirected move between)) n (place_after stays p) None
-          ∙ kind_after-redirected move between n (place_after stays p) (cond (id_of y == n) (joined (slice_get (output_kinds y) (place_after stays p))) (kind_after before n (place_after stays p) None))
+          ∙ kind_after-redirected move between n (place_after stays p)
+          (cond (id_of y == n) (joined (slice_get (output_kinds y) (place_after stays p))) (kind_after before n (place_after stays p) None))
           ∙ kind_absent between n (place_after stays p) (cond (id_of y == n) (joined (slice_get (output_kinds y) (place_after stays p))) (kind_after before n (place_after stays p) None)) none
           ∙ ap (λ t. cond t (joined (slice_get (output_kinds y) (place_after stays p))) (kind_after before n (place_after stays p) None)) (ap (λ m. m == n) number ∙ e)
           ∙ ap (λ ks. joined (slice_get ks (place_after stays p))) outputs ∙ ap joined (kept_get stays (output_kinds x) p (is_not (stays_at stays p) v))
@@ -134,7 +138,8 @@ module _ (objects : ℕ) (args : List Kind) (before : NodeTrees) (x y : NodeTree
       last Io o (inl v) = inl v
       last Io o (inr s) = inr (last_state_moves Io io between rest q ∙ ap (option_map move) s)
 
-      by : (o : Origin) → gone o ≡ false → is_last args (near_scope between) o ≡ true → (k : Option Kind) → known args (near_scope between) o ≡ k → (known args (far_scope between) (move o) ≡ known args (near_scope between) o) × (is_last args (far_scope between) (move o) ≡ true)
+      by : (o : Origin) → gone o ≡ false → is_last args (near_scope between) o ≡ true → (k : Option Kind) → known args (near_scope between) o ≡ k →
+          (known args (far_scope between) (move o) ≡ known args (near_scope between) o) × (is_last args (far_scope between) (move o) ≡ true)
       by o u e None n = absurd (last_is_known args (near_scope between) o e n)
       by o u e (Some k) n =
           let kind = kinds_stay between rest q o u in

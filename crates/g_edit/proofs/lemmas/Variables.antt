@@ -121,7 +121,8 @@ module _ (stays : List Bool) where
       let both = or_parts (id_of y == n) (has_node n before) b in
       rw both.0 (ap (node_then y) (looping_joined n before x after both.1 e))
 
-  module _ (l : PlainLambda) (args : List Kind) (before : NodeTrees) (id : ℕ) (inputs : List Origin) (own : List Kind) (nodes : NodeTrees) (outs : List Origin) (after : NodeTrees) (results : List Origin)
+  module _ (l : PlainLambda) (args : List Kind) (before : NodeTrees) (id : ℕ) (inputs : List Origin) (own : List Kind) (nodes : NodeTrees) (outs : List Origin) (after : NodeTrees)
+      (results : List Origin)
       (part : IsPartOf l (region args (joined_nodes before (node_then (node id Theta inputs (region_then (region own nodes outs) no_regions)) after)) results))
       (loops : loop_reads stays (region own nodes outs) ≡ false)
       (unread : is_read (is_gone_output id stays) (region args (joined_nodes before (node_then (node id Theta inputs (region_then (region own nodes outs) no_regions)) after)) results) ≡ false) where
@@ -174,7 +175,8 @@ module _ (stays : List Bool) where
         subst (λ vs. StayLess (map (read xs o) inputs) vs) (sym (kept_map stays (read ys q) inputs))
         (kept_less (map (read xs o) inputs) (map (read ys q) inputs) (reads-refines IsLessDefinedDatum less-kept xs ys near o q like inputs)) in
         refines-then no_deeper no_deeper-compares.goes StayLess (ReadLessDefined seen [] move xs ys) direction
-        (turns c.bound (region_meaning c (region own nodes outs)) (map (read xs o) inputs)) (turns d.bound (region_meaning d (region_looping stays (region own nodes outs))) (map (read ys q) (kept stays inputs)))
+        (turns c.bound (region_meaning c (region own nodes outs)) (map (read xs o) inputs))
+        (turns d.bound (region_meaning d (region_looping stays (region own nodes outs))) (map (read ys q) (kept stays inputs)))
         (λ us. Returned (extended o id us) []) (λ vs. Returned (extended q id vs) [])
         (loop_refines direction c d context own nodes outs
         (regions-closed l args before id Theta inputs (region_then (region own nodes outs) no_regions) after results part).0 loops (map (read xs o) inputs) (map (read ys q) (kept stays inputs)) first)

@@ -8,7 +8,8 @@ use Rattle.g_graph.specs.declared.op.Op.TheVariants.{Theta}
 use Rattle.g_graph.specs.declared.op.Origin.{Origin}
 use Rattle.g_graph.specs.Plain.{RegionTree, region, NodeTree, node, NodeTrees, no_nodes, node_then, no_regions, region_then}
 use Rattle.g_graph.specs.Scope.{same_kind, is_of, known}
-use Rattle.g_graph.specs.WellFormed.{some_of, are, one_state_each, is_last, has_its_regions, inputs_fit, inputs_are_last, node_has_one_state_each, regions_fit, theta_has_states, has_its_width, has_its_object, node_fits, region_fits, every_region}
+use Rattle.g_graph.specs.WellFormed.{some_of, are, one_state_each, is_last, has_its_regions, inputs_fit, inputs_are_last}
+use Rattle.g_graph.specs.WellFormed.{node_has_one_state_each, regions_fit, theta_has_states, has_its_width, has_its_object, node_fits, region_fits, every_region}
 use Rattle.g_graph.specs.Change.{has_node}
 use Rattle.g_graph.specs.Replace.{nodes_redirected}
 use Rattle.g_graph.specs.Splice.{joined_nodes}
@@ -57,7 +58,8 @@ module _ (stays : List Bool) where
         × (every_region (region_fits objects) (region_looping stays (region own nodes outs)) ≡ true)
     looping =
         region_takes stays objects own nodes (kept (true ∷ stays) outs) loops
-        (fits_inside (true ∷ stays) objects own nodes outs (ap (drops_values (true ∷ stays)) results_are ∙ values) (and_parts (every_region (region_fits objects) (region own nodes outs)) true here.inside).0)
+        (fits_inside (true ∷ stays) objects own nodes outs (ap (drops_values (true ∷ stays)) results_are ∙ values)
+        (and_parts (every_region (region_fits objects) (region own nodes outs)) true here.inside).0)
 
     results_now : map (known (kept stays own) (nodes_redirected (argument_after stays) nodes)) (map (argument_after stays) (kept (true ∷ stays) outs)) ≡ map Some (Value ∷ kept stays own)
     results_now =

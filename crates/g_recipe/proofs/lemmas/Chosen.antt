@@ -1,7 +1,8 @@
 -- A complete list is kept by the answers of a set of its functions that has the deps of its members: they come in the
 -- place of its own lambdas one after the other, by rank and then by number.
 use Rattle.std.specs.Prelude.{slice_set, unwrap_or}
-use Rattle.std.proofs.Common.{◌≡◌, ◌≢◌, ◌<◌, ◌≤◌, ◌⊎◌, ◌+◌, ℕ, zero, suc, Bool, true, false, cond, List, [], ◌∷◌, length, map, Option, None, Some, slice_get, slice_index, slice_index_or, get_or, Contains, refl, sym, ap, subst, ◌∙◌, inl, inr, arith}
+use Rattle.std.proofs.Common.{◌≡◌, ◌≢◌, ◌<◌, ◌≤◌, ◌⊎◌, ◌+◌, ℕ, zero, suc, Bool, true, false, cond, List, [], ◌∷◌, length}
+use Rattle.std.proofs.Common.{map, Option, None, Some, slice_get, slice_index, slice_index_or, get_or, Contains, refl, sym, ap, subst, ◌∙◌, inl, inr, arith}
 use Rattle.std.specs.List.{AllByRecursion}
 use Rattle.std.proofs.lemmas.Bool.{cases_lt, cases_eq}
 use Rattle.std.proofs.lemmas.List.{ext_get_or}
@@ -77,7 +78,8 @@ with_answers-at chosen (k ∷ ls) (b ∷ answers) zero l a e g =
     ap (λ x. Some (cond (chosen 0) b.lambda x)) first ∙ ap (λ (x : PlainOptimised). Some (cond (chosen 0) x.lambda l)) second
 with_answers-at chosen (k ∷ ls) (b ∷ answers) (suc f) l a e g = with_answers-at (λ i. chosen (suc i)) ls answers f l a e g
 
-module _ (is_ranked : OrdersAreRanked) (t : RuleTable) (rows : AreSteps t) (rules : List Rule) (ls : List PlainLambda) (answers : List PlainOptimised) (complete : IsComplete ls) (all : AreAnswers t rules ls answers)
+module _ (is_ranked : OrdersAreRanked) (t : RuleTable) (rows : AreSteps t) (rules : List Rule) (ls : List PlainLambda) (answers : List PlainOptimised) (complete : IsComplete ls)
+    (all : AreAnswers t rules ls answers)
     (chosen : ℕ → Bool) (holds : HoldsDeps chosen all.deps) where
   abbrev rank : ℕ → ℕ
   rank f = slice_index all.ranks f

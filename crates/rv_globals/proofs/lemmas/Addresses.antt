@@ -110,7 +110,8 @@ byte_is f [] k d j sizes there below = absurd cc
 byte_is f (x ∷ ds) zero d j sizes there below =
     let kind : is_where d.fixed x ≡ true = ap (is_where d.fixed) (same_Some x d there) ∙ is_its_kind d in
     let size : length (f x) ≡ global_room d = ap (λ y. length (f y)) (same_Some x d there) ∙ sizes 0 d there in
-    let list : flat_map f (globals_where d.fixed (x ∷ ds)) ≡ f x ++ flat_map f (globals_where d.fixed ds) = ap (λ b. flat_map f (if b then x ∷ globals_where d.fixed ds else globals_where d.fixed ds)) kind in
+    let list : flat_map f (globals_where d.fixed (x ∷ ds)) ≡ f x ++ flat_map f (globals_where d.fixed ds) =
+    ap (λ b. flat_map f (if b then x ∷ globals_where d.fixed ds else globals_where d.fixed ds)) kind in
     let first : 0 + j ≡ j = omega arith in
     ap (λ xs. slice_index xs (0 + j)) list
     ∙ ap (slice_index (f x ++ flat_map f (globals_where d.fixed ds))) first

@@ -1,5 +1,6 @@
 -- The bytes of a global with the addresses that its links name.
-use Rattle.std.proofs.Common.{◌≡◌, ◌⊎◌, ℕ, zero, suc, ◌+◌, ◌-◌, ◌<◌, ◌≤◌, ◌==◌, nat_le, Bool, true, false, IsTrue, if◌then◌else◌, List, [], ◌∷◌, ◌++◌, length, take, drop, replicate, slice_get, slice_index, Some, refl, sym, ap, ◌∙◌, subst, arith, inl, inr, eqb-true, get_or-take}
+use Rattle.std.proofs.Common.{◌≡◌, ◌⊎◌, ℕ, zero, suc, ◌+◌, ◌-◌, ◌<◌, ◌≤◌, ◌==◌, nat_le, Bool, true, false, IsTrue, if◌then◌else◌, List, []}
+use Rattle.std.proofs.Common.{◌∷◌, ◌++◌, length, take, drop, replicate, slice_get, slice_index, Some, refl, sym, ap, ◌∙◌, subst, arith, inl, inr, eqb-true, get_or-take}
 use Rattle.std.proofs.lemmas.Bool.{and_parts, leb-true, or_cases}
 use Rattle.std.proofs.lemmas.List.{get_or_append_left, get_or-append_right, get_or-drop, length-append, length-take, length-drop}
 use Rattle.std.proofs.lemmas.Option.{same_Some}
@@ -138,7 +139,8 @@ linked_byte globals (l ∷ ls) bytes offset k j within apart found low =
     by false other later is = later is low
 
 -- in memory a global has these bytes, and zeros after them
-pub global_byte : (globals : List ℕ) (d : PlainDelta) (j : ℕ) → AreWithin (length d.bytes) d.links → j < length d.bytes → slice_index (global_bytes globals d) j ≡ slice_index (with_links globals d.links d.bytes) j
+pub global_byte : (globals : List ℕ) (d : PlainDelta) (j : ℕ) → AreWithin (length d.bytes) d.links → j < length d.bytes →
+    slice_index (global_bytes globals d) j ≡ slice_index (with_links globals d.links d.bytes) j
 global_byte globals d j within low =
     let same = length_with_links globals d.links d.bytes within in
     get_or_append_left (with_links globals d.links d.bytes) (replicate (global_room d - length d.bytes) 0) 0 j (omega (arith, same, low))

@@ -1,5 +1,6 @@
 -- Globals in memory, once the image of a program is loaded: the bytes of each, and what is allowed there.
-use Rattle.std.proofs.Common.{◌≡◌, ◌≢◌, ◌⊎◌, ℕ, suc, ◌+◌, ◌-◌, ◌%◌, ◌<◌, ◌≤◌, if◌then◌else◌, Bool, true, false, IsTrue, List, [], ◌∷◌, ◌++◌, length, take, replicate, slice_get, slice_index, Some, refl, ap, ◌∙◌, arith, inl, inr}
+use Rattle.std.proofs.Common.{◌≡◌, ◌≢◌, ◌⊎◌, ℕ, suc, ◌+◌, ◌-◌, ◌%◌, ◌<◌, ◌≤◌, if◌then◌else◌, Bool, true, false, IsTrue}
+use Rattle.std.proofs.Common.{List, [], ◌∷◌, ◌++◌, length, take, replicate, slice_get, slice_index, Some, refl, ap, ◌∙◌, arith, inl, inr}
 use Rattle.std.specs.List.{sum_by, flat_map}
 use Rattle.std.proofs.lemmas.Bool.{and_parts, cases_order}
 use Rattle.std.proofs.lemmas.List.{length-append, length-replicate, get_or-append-add}
@@ -45,7 +46,8 @@ length_of_all globals fixed [] sizes = refl
 length_of_all globals fixed (d ∷ ds) sizes = by (is_where fixed d) (length_of_all globals fixed ds (λ i x there. sizes (suc i) x there))
   where
     by : (test : Bool) → length (flat_map (global_bytes globals) (globals_where fixed ds)) ≡ sum_by global_room (globals_where fixed ds)
-        → length (flat_map (global_bytes globals) (if test then d ∷ globals_where fixed ds else globals_where fixed ds)) ≡ sum_by global_room (if test then d ∷ globals_where fixed ds else globals_where fixed ds)
+        → length (flat_map (global_bytes globals) (if test then d ∷ globals_where fixed ds else globals_where fixed ds))
+        ≡ sum_by global_room (if test then d ∷ globals_where fixed ds else globals_where fixed ds)
     by true same =
         let here = sizes 0 d refl in
         let sum = length-append (global_bytes globals d) (flat_map (global_bytes globals) (globals_where fixed ds)) in
@@ -177,7 +179,8 @@ module _ (fs : List (List Item)) (ds : List PlainDelta) (main : ℕ) (can : CanL
       by d.fixed e.fixed (global_at j d there).address (global_at k e there').address (ends_before ds j k d there less) (ends_within ds j d there) (ends_within ds k e there')
     where
       by : (b c : Bool) → slice_index globals_of j ≡ first_address b + offset_of ds j d → slice_index globals_of k ≡ first_address c + rooms_where c (take k ds)
-          → offset_of ds j d + global_room d ≤ rooms_where b (take k ds) → offset_of ds j d + global_room d ≤ rooms_where b ds → rooms_where c (take k ds) + global_room e ≤ rooms_where c ds → Disjoint j k d e
+          → offset_of ds j d + global_room d ≤ rooms_where b (take k ds) → offset_of ds j d + global_room d ≤ rooms_where b ds →
+          rooms_where c (take k ds) + global_room e ≤ rooms_where c ds → Disjoint j k d e
       by true true at at' next end end' = inl (omega (arith, at, at', next))
       by true false at at' next end end' = let last = fixed_end in inl (omega (arith, at, at', end, last))
       by false true at at' next end end' = let last = fixed_end in inr (omega (arith, at, at', end', last))

@@ -1,5 +1,6 @@
 -- The values of the leaves of globals, shown in the bytes of the loaded image.
-use Rattle.std.proofs.Common.{◌≡◌, ◌≢◌, ◌⊎◌, ℕ, zero, suc, ◌+◌, ◌*◌, ◌^◌, ◌<◌, ◌≤◌, nat_lt, true, List, [], ◌∷◌, length, take, drop, slice_get, slice_index, Option, Some, None, refl, sym, ap, ◌∙◌, subst, arith, inl, inr, lit<, length-drop}
+use Rattle.std.proofs.Common.{◌≡◌, ◌≢◌, ◌⊎◌, ℕ, zero, suc, ◌+◌, ◌*◌, ◌^◌, ◌<◌, ◌≤◌, nat_lt, true, List, [], ◌∷◌, length}
+use Rattle.std.proofs.Common.{take, drop, slice_get, slice_index, Option, Some, None, refl, sym, ap, ◌∙◌, subst, arith, inl, inr, lit<, length-drop}
 use Rattle.std.proofs.lemmas.Bool.{and_parts, ltb-true}
 use Rattle.std.proofs.lemmas.List.{get_or-drop}
 use Rattle.elf_file.specs.Header.{word}
@@ -147,7 +148,8 @@ module _ (fs : List (List Item)) (ds : List PlainDelta) (main : ℕ) (can : CanL
       let link = link_there (length ds) d.leaves d.links leaf.offset k (globals n d there).links found in
       let four = leaf_within (length d.bytes) 0 4 leaf.offset d.leaves (globals n d there).leaves link.0 in
       let within = leaf_within (length d.bytes) 0 leaf.width leaf.offset d.leaves (globals n d there).leaves has in
-      let wide : leaf.width ≡ 4 = same-leaf leaf.width leaf.offset within.width_is (leaves_are_separate (length d.bytes) 0 leaf.width leaf.offset 4 leaf.offset d.leaves (globals n d there).leaves has link.0) in
+      let wide : leaf.width ≡ 4 = same-leaf leaf.width leaf.offset within.width_is
+      (leaves_are_separate (length d.bytes) 0 leaf.width leaf.offset 4 leaf.offset d.leaves (globals n d there).leaves has link.0) in
       let loaded = address_loaded n d leaf.offset k there four.to link.1 found in
       subst (Shows bases (global_of ds k)) (sym loaded ∙ ap (load_bytes mem (bases n + leaf.offset)) (sym wide)) (global_address fs ds main can sound k link.1).1
 
@@ -158,7 +160,8 @@ module _ (fs : List (List Item)) (ds : List PlainDelta) (main : ℕ) (can : CanL
       let of = of_global fs ds main can sound b.number there.block there.lives in
       let has = has_leaf_of fs ds main can sound b.number w o there.block of (leaf-of-value w o there.block.cells v there.has) in
       let is = value_is (global_of ds) of.delta w o v of.delta.leaves (ap (λ (k : Block). value_at w o k.cells) of.is ∙ there.has) in
-      let leaf : some_of (is_leaf is.leaf.width is.leaf.offset) of.delta.leaves ≡ true = subst (λ x. some_of (is_leaf is.leaf.width x) of.delta.leaves ≡ true) (sym is.offset) (subst (λ x. some_of (is_leaf x o) of.delta.leaves ≡ true) (sym is.width) has) in
+      let leaf : some_of (is_leaf is.leaf.width is.leaf.offset) of.delta.leaves ≡ true =
+      subst (λ x. some_of (is_leaf is.leaf.width x) of.delta.leaves ≡ true) (sym is.offset) (subst (λ x. some_of (is_leaf x o) of.delta.leaves ≡ true) (sym is.width) has) in
       let shown = leaf_is_shown b.number of.delta is.leaf of.there leaf (link_at is.leaf.offset of.delta.links) refl in
       subst (λ x. Shows bases x (load_bytes mem (bases b.number + o) w)) is.value
       (subst (λ x. Shows bases (leaf_value (global_of ds) of.delta.bytes is.leaf (link_at is.leaf.offset of.delta.links)) (load_bytes mem (bases b.number + x) w)) is.offset

@@ -17,7 +17,8 @@ loop-from-preserved g c =
             bound = omega (arith, w.to-is, invariant.bound);
             same = ap length w.items-is ∙ length-set c.loop-from.items c.loop-from.to x ∙ invariant.same;
             moved = (λ j. take (w.to-is j) (w.items-is j) ++ kept (drop (from + 1) c.args.stays.now) (drop (from + 1) c.args.items.now))
-                ∙ moved_stays c.args.stays.now c.args.items.now c.loop-from.items c.loop-from.to from within invariant.rest x w.index-items-from.is invariant.bound (sym c.stays_at.ensures ∙ w.if-stays_at.true)
+                ∙ moved_stays c.args.stays.now c.args.items.now c.loop-from.items c.loop-from.to from within invariant.rest x w.index-items-from.is invariant.bound
+                (sym c.stays_at.ensures ∙ w.if-stays_at.true)
                 invariant.moved;
             rest = ap (drop (from + 1)) w.items-is ∙ moved_rest c.args.stays.now c.args.items.now c.loop-from.items c.loop-from.to from within invariant.rest x invariant.bound;
           }

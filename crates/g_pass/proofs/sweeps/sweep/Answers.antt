@@ -13,5 +13,6 @@ returns-in_err-try_step-clause-err c =
       c.loop-node.node-index,
       same_swept _ _ _ _ c.in_err-try_step.ensures.err_lambda c.in_err-try_step.ensures.err_log
           ∙ c.loop-node.invariant.swept
-          ∙ ap (λ ns. fold (tried rules (lambdas_of (map arc_value c.args.callees.now)) c.args.rule) (record { lambda = c.args.lambda.now; steps = c.args.log.now.items }) (take c.loop-node.node-index ns)) (c.deref-node-items.ensures.value ∙ c.in_ok-numbers.ensures),
+          ∙ ap (λ ns. fold (tried rules (lambdas_of (map arc_value c.args.callees.now)) c.args.rule) (record { lambda = c.args.lambda.now; steps = c.args.log.now.items })
+          (take c.loop-node.node-index ns)) (c.deref-node-items.ensures.value ∙ c.in_ok-numbers.ensures),
     )

@@ -14,4 +14,5 @@ returns-in-Some c =
     let x = c.in-Some.node.now in
     let at : node_at c.args.id (nodes_of r.nodes.items) ≡ Some x = ap (λ xs. node_at c.args.id (nodes_of xs)) (sym c.deref.ensures.value) ∙ sym c.in-Some.ensures in
     let here = subst (λ (z : RegionTree). eliminated z x ≡ dne_here c.args.id z) c.region.view_is (here_at c.args.id r.args.items (nodes_of r.nodes.items) r.results.items x at) in
-    subst₂ (λ (n : ℕ) (o : Option RegionTree). IfOk c.node_plan.result (λ plan. planned n c.args.region.now plan ≡ o)) (found_at c.args.id (nodes_of r.nodes.items) x at).number here c.node_plan.ensures
+    subst₂ (λ (n : ℕ) (o : Option RegionTree). IfOk c.node_plan.result (λ plan. planned n c.args.region.now plan ≡ o)) (found_at c.args.id (nodes_of r.nodes.items) x at).number here
+    c.node_plan.ensures

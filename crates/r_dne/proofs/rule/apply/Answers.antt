@@ -25,4 +25,5 @@ returns-clause-program c =
 
 pub returns-clause-size : goal.returns-clause-size
 returns-clause-size c =
-    subst (λ (l : PlainLambda). IsNoLarger (lambda_values c.args.lambda.now) (lambda_values l)) (sym c.in_ok-change_lambda.ensures.ok) (dne_keeps c.args.node c.args.lambda.now c.requires.well_formed).size
+    subst (λ (l : PlainLambda). IsNoLarger (lambda_values c.args.lambda.now) (lambda_values l)) (sym c.in_ok-change_lambda.ensures.ok)
+    (dne_keeps c.args.node c.args.lambda.now c.requires.well_formed).size

@@ -11,4 +11,5 @@ returns-then-len-ne1 c =
     let n = c.node.inside in
     let is : n.op ≡ Theta = ap op_of c.node.view_is ∙ c.requires in
     ap is_some
-    (sym (theta_none c.args.region.now n.id n.op n.inputs.items n.regions.items is (λ e. c.if-len-ne1.true (omega (arith, c.len.ensures, e, n.regions.ok.0)))) ∙ ap (moved c.args.region.now) c.node.view_is)
+    (sym (theta_none c.args.region.now n.id n.op n.inputs.items n.regions.items is (λ e. c.if-len-ne1.true (omega (arith, c.len.ensures, e, n.regions.ok.0))))
+    ∙ ap (moved c.args.region.now) c.node.view_is)
