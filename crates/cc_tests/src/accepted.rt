@@ -11,7 +11,8 @@ fn a_source_on_the_input_is_accepted(rt: HostRuntime) -> Result<(), Fail> {
     let rows: [(&[u8], &[u8]); 3] = [
         (ANSWER, b"accepted 1\n"),
         (
-            b"int f(int n); int g(int n) { return f(n); } int f(int n) { return n; } int main() { }",
+            b"int f(int n); int g(int n) { return f(n); } int f(int n) { return n; } int main() \
+              { }",
             b"accepted 3\n",
         ),
         (

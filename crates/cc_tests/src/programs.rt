@@ -19,43 +19,52 @@ const PROGRAMS: [(&[u8], &[u8], &[u8], &[u8]); 15] = [
         b"exit 0\n",
     ),
     (
-        b"int odd(int n); int even(int n) { if (n == 0) return 1; return odd(n - 1); } int odd(int n) { if (n == 0) return 0; return even(n - 1); } int main(void) { return even(10); }",
+        b"int odd(int n); int even(int n) { if (n == 0) return 1; return odd(n - 1); } int \
+          odd(int n) { if (n == 0) return 0; return even(n - 1); } int main(void) { return \
+          even(10); }",
         b"",
         b"",
         b"exit 1\n",
     ),
     (
-        b"int main(void) { int a = 0, b = 1, t, i; for (i = 0; i < 10; i++) { t = a; a = b; b = t + b; } return a; }",
+        b"int main(void) { int a = 0, b = 1, t, i; for (i = 0; i < 10; i++) { t = a; a = b; b = \
+          t + b; } return a; }",
         b"",
         b"",
         b"exit 55\n",
     ),
     (
-        b"struct P { char c; int n; }; struct P a[3]; int main(void) { struct P *p; int s = 0; for (p = a; p != a + 3; p++) { p->n = 5; s = s + p->n; } return s + sizeof(struct P); }",
+        b"struct P { char c; int n; }; struct P a[3]; int main(void) { struct P *p; int s = 0; \
+          for (p = a; p != a + 3; p++) { p->n = 5; s = s + p->n; } return s + sizeof(struct P); }",
         b"",
         b"",
         b"exit 23\n",
     ),
     (
-        b"int main(void) { int i, j, s = 0; for (i = 0; i < 5; i++) { for (j = 0; j < 5; j++) { if (j == 1) continue; if (j == 3) break; if (i == 3) return s; s = s + 10 * i + j; } } return 99; }",
+        b"int main(void) { int i, j, s = 0; for (i = 0; i < 5; i++) { for (j = 0; j < 5; j++) { \
+          if (j == 1) continue; if (j == 3) break; if (i == 3) return s; s = s + 10 * i + j; } } \
+          return 99; }",
         b"",
         b"",
         b"exit 66\n",
     ),
     (
-        b"int main(void) { int i, x = 7, y = 0; for (i = 0; i < 3; i++) { if (y) x = x / y; } return x; }",
+        b"int main(void) { int i, x = 7, y = 0; for (i = 0; i < 3; i++) { if (y) x = x / y; } \
+          return x; }",
         b"",
         b"",
         b"exit 7\n",
     ),
     (
-        b"int main(void) { int a, b; int *p = &a, *q = &b, *z = 0; return (p == q) + 2 * (p + 1 == q) + 4 * (p != 0) + 8 * (z == 0); }",
+        b"int main(void) { int a, b; int *p = &a, *q = &b, *z = 0; return (p == q) + 2 * (p + 1 \
+          == q) + 4 * (p != 0) + 8 * (z == 0); }",
         b"",
         b"",
         b"exit 12\n",
     ),
     (
-        b"int d(int x) { return x + 1; } int b(int x) { return d(x) * 2; } int c(int x) { return d(x) * 3; } int main(void) { return b(1) + c(2); }",
+        b"int d(int x) { return x + 1; } int b(int x) { return d(x) * 2; } int c(int x) { return \
+          d(x) * 3; } int main(void) { return b(1) + c(2); }",
         b"",
         b"",
         b"exit 13\n",
@@ -73,13 +82,15 @@ const PROGRAMS: [(&[u8], &[u8], &[u8], &[u8]); 15] = [
         b"exit 7\n",
     ),
     (
-        b"int main(void) { unsigned char c = 250; signed char s = 200; c = c + 10; return c + 10 * (s < 0); }",
+        b"int main(void) { unsigned char c = 250; signed char s = 200; c = c + 10; return c + 10 \
+          * (s < 0); }",
         b"",
         b"",
         b"exit 14\n",
     ),
     (
-        b"int main(void) { int a[1000] = {0}; int b[3] = {1, 2}; return a[999] + b[0] + b[1] + b[2]; }",
+        b"int main(void) { int a[1000] = {0}; int b[3] = {1, 2}; return a[999] + b[0] + b[1] + \
+          b[2]; }",
         b"",
         b"",
         b"exit 3\n",

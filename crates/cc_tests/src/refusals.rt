@@ -102,7 +102,8 @@ const SOURCES: [(&[u8], &[u8]); 31] = [
         b"refused BadLabel 43 line 2\n",
     ),
     (
-        b"int f(int a, int b, int c, int d, int e, int g, int h, int i, char j) { return 0; } int main(void) { return 0; }",
+        b"int f(int a, int b, int c, int d, int e, int g, int h, int i, char j) { return 0; } \
+          int main(void) { return 0; }",
         b"refused Limit 42 line 1 which 2 count 9\n",
     ),
     (

@@ -109,8 +109,8 @@ fn recipes_make_the_rows(rt: HostRuntime) -> Result<(), Fail> {
             status: 0,
         },
         Case {
-            source: b"int main(void) { int i, x = 7, y = 0; for (i = 0; i < 3; i++) { if (y) x = x / y; }
-                return x; }",
+            source: b"int main(void) { int i, x = 7, y = 0; \
+                for (i = 0; i < 3; i++) { if (y) x = x / y; } return x; }",
             recipe: "psh,psh,psh",
             steps: &[
                 (Rule::Push, 5),

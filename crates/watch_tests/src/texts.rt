@@ -49,7 +49,8 @@ fn watchers_give_the_texts_of_their_rows(rt: HostRuntime) -> Result<(), Fail> {
     let rows: [(&[Line], &[u8], &[u8]); 5] = [
         (
             &[],
-            b"functions 0 fold 0 cne 0 dne 0 inv 0 psh 0 pll 0 ivt 0 url 0 iln 0 before 0 after 0\n",
+            b"functions 0 fold 0 cne 0 dne 0 inv 0 psh 0 pll 0 ivt 0 url 0 iln 0 \
+              before 0 after 0\n",
             b"",
         ),
         (
@@ -59,7 +60,8 @@ fn watchers_give_the_texts_of_their_rows(rt: HostRuntime) -> Result<(), Fail> {
                 8,
                 &[(Rule::Fold, 2), (Rule::Dne, 1), (Rule::Dne, 0)],
             )],
-            b"functions 1 fold 1 cne 0 dne 2 inv 0 psh 0 pll 0 ivt 0 url 0 iln 0 before 12 after 8\n",
+            b"functions 1 fold 1 cne 0 dne 2 inv 0 psh 0 pll 0 ivt 0 url 0 iln 0 \
+              before 12 after 8\n",
             b"function main 12 8\nfold 2\ndne 1\ndne 0\n",
         ),
         (
@@ -69,8 +71,10 @@ fn watchers_give_the_texts_of_their_rows(rt: HostRuntime) -> Result<(), Fail> {
                 (b"c", 15, 15, &[(Rule::Inline, 0)]),
                 (b"main", 20, 28, &[(Rule::Inline, 1), (Rule::Inline, 3)]),
             ],
-            b"functions 4 fold 0 cne 0 dne 0 inv 0 psh 0 pll 0 ivt 0 url 0 iln 4 before 61 after 69\n",
-            b"function d 11 11\nfunction b 15 15\niln 0\nfunction c 15 15\niln 0\nfunction main 20 28\niln 1\niln 3\n",
+            b"functions 4 fold 0 cne 0 dne 0 inv 0 psh 0 pll 0 ivt 0 url 0 iln 4 \
+              before 61 after 69\n",
+            b"function d 11 11\nfunction b 15 15\niln 0\nfunction c 15 15\niln 0\nfunction main \
+              20 28\niln 1\niln 3\n",
         ),
         (
             &[
@@ -87,13 +91,17 @@ fn watchers_give_the_texts_of_their_rows(rt: HostRuntime) -> Result<(), Fail> {
                     &[(Rule::Cne, 7), (Rule::Inv, 7)],
                 ),
             ],
-            b"functions 2 fold 0 cne 1 dne 0 inv 1 psh 1 pll 1 ivt 0 url 0 iln 0 before 0 after 0\n",
-            b"function f 2147483648 1\npsh 4294967295\npll 0\nfunction g 2147483648 4294967295\ncne 7\ninv 7\n",
+            b"functions 2 fold 0 cne 1 dne 0 inv 1 psh 1 pll 1 ivt 0 url 0 iln 0 \
+              before 0 after 0\n",
+            b"function f 2147483648 1\npsh 4294967295\npll 0\nfunction g 2147483648 \
+              4294967295\ncne 7\ninv 7\n",
         ),
         (
             &[(LONG, 0, 0, &[(Rule::Invert, 1), (Rule::Unroll, 10)])],
-            b"functions 1 fold 0 cne 0 dne 0 inv 0 psh 0 pll 0 ivt 1 url 1 iln 0 before 0 after 0\n",
-            b"function a23456789012345678901234567890123456789012345678901234567890123 0 0\nivt 1\nurl 10\n",
+            b"functions 1 fold 0 cne 0 dne 0 inv 0 psh 0 pll 0 ivt 1 url 1 iln 0 \
+              before 0 after 0\n",
+            b"function a23456789012345678901234567890123456789012345678901234567890123 0 0\nivt \
+              1\nurl 10\n",
         ),
     ];
     for (lines, count, log) in rows {
