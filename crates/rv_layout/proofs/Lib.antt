@@ -1,4 +1,3 @@
 mod Examples
 pub mod lemmas
-mod LayoutLemmas
 pub mod Placed

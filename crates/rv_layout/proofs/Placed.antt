@@ -65,7 +65,8 @@ length-with_word : (at w : ℕ) (bytes : List ℕ) → at + 4 ≤ length bytes �
 length-with_word at w bytes within =
     simp (length-append, length-take, length-drop) (omega arith)
 
-length-with_links : (globals : List ℕ) (ls : List Link) (bytes : List ℕ) → IsTrue (all_of (link_is_within (length bytes)) ls) → length (with_links globals ls bytes) ≡ length bytes
+length-with_links : (globals : List ℕ) (ls : List Link) (bytes : List ℕ) → IsTrue (all_of (link_is_within (length bytes)) ls)
+    → length (with_links globals ls bytes) ≡ length bytes
 length-with_links globals [] bytes h = refl
 length-with_links globals (l ∷ ls) bytes h =
     let parts = and_parts (link_is_within (length bytes) l) (all_of (link_is_within (length bytes)) ls) h in
@@ -114,7 +115,8 @@ laid_is_placed fs ds main can limit =
     let fixed = length-globals a.globals (length ds) true ds can.globals_fit in
     let other = length-globals a.globals (length ds) false ds can.globals_fit in
     let end : data_address fs ds + 8 + sum_by global_room (globals_where false ds) ≡ data_address fs ds + length (laid_out fs ds main).globals = omega arith in
-    let after : data_address fs ds + 8 + sum_by global_room (globals_where false ds) ≡ data_address fs ds + (8 + sum_by global_room (globals_where false ds)) = omega arith in
+    let after : data_address fs ds + 8 + sum_by global_room (globals_where false ds) ≡ data_address fs ds + (8 + sum_by global_room (globals_where false ds)) =
+    omega arith in
     record {
       fixed_place = ap next_page (sym text);
       globals_place = ap (λ n. next_page (fixed_address fs + n)) (sym fixed);

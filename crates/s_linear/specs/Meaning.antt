@@ -133,3 +133,7 @@ entered n callees global (Some f) vs m i =
 abbrev pub calls : List LinearFunction → (global : ℕ → Value) → (bound : ℕ) → ℕ → Call
 calls fs global zero f vs m i = Cut []
 calls fs global (suc n) f vs m i = active f (entered n (calls fs global n) global (slice_get fs f) vs m i)
+
+-- a program ends with what its `main` gives back, modulo 256
+abbrev pub finished : Given Value → Answer (Given Value)
+finished g = on_number g.value (λ w. Exited [] (w % 256))

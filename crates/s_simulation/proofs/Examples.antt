@@ -178,7 +178,8 @@ countdown-3 : (graph 3 countdown (2 ∷ []) [] [] ≡ returned 0 [] [] (met (0 �
     × (linear 3 countdown (2 ∷ []) [] [] ≡ gave 0 [] [] (met (0 ∷ []) ∷ wrote 2 ∷ wrote 1 ∷ []))
 countdown-3 = (refl, refl)
 
-countdown-short : (graph 3 countdown (9 ∷ []) [] [] ≡ Cut (met (0 ∷ []) ∷ wrote 9 ∷ wrote 8 ∷ [])) × (linear 3 countdown (9 ∷ []) [] [] ≡ Cut (met (0 ∷ []) ∷ wrote 9 ∷ wrote 8 ∷ []))
+countdown-short : (graph 3 countdown (9 ∷ []) [] [] ≡ Cut (met (0 ∷ []) ∷ wrote 9 ∷ wrote 8 ∷ []))
+    × (linear 3 countdown (9 ∷ []) [] [] ≡ Cut (met (0 ∷ []) ∷ wrote 9 ∷ wrote 8 ∷ []))
 countdown-short = (refl, refl)
 
 -- ---- a loop that swaps its two variables while the first one is not 0
@@ -206,7 +207,8 @@ swap-3 = (refl, refl)
 
 abbrev leaving : List PlainLambda
 leaving =
-    of_body 0 (simple 0 (Const 300) [] ∷ simple 1 (Apply 1) (Out 0 0 ∷ Arg 0 ∷ Arg 1 ∷ []) ∷ simple 2 Put (Out 0 0 ∷ Out 1 2 ∷ []) ∷ []) (Out 0 0 ∷ Out 1 1 ∷ Out 2 0 ∷ [])
+    of_body 0 (simple 0 (Const 300) [] ∷ simple 1 (Apply 1) (Out 0 0 ∷ Arg 0 ∷ Arg 1 ∷ []) ∷ simple 2 Put (Out 0 0 ∷ Out 1 2 ∷ []) ∷ [])
+    (Out 0 0 ∷ Out 1 1 ∷ Out 2 0 ∷ [])
     ∷ of_body 1 (simple 0 Put (Arg 0 ∷ Arg 2 ∷ []) ∷ simple 1 Exit (Arg 0 ∷ Out 0 0 ∷ []) ∷ []) (Arg 0 ∷ Arg 1 ∷ Out 1 0 ∷ []) ∷ []
 
 leaving-fits : map well_formed leaving ≡ true ∷ true ∷ []
@@ -215,7 +217,8 @@ leaving-fits = refl
 leaving-1 : (graph 1 leaving [] [] [] ≡ Cut (met (0 ∷ []) ∷ [])) × (linear 1 leaving [] [] [] ≡ Cut (met (0 ∷ []) ∷ []))
 leaving-1 = (refl, refl)
 
-leaving-3 : (graph 3 leaving [] [] [] ≡ Exited (met (0 ∷ []) ∷ met (0 ∷ 1 ∷ []) ∷ wrote 44 ∷ []) 44) × (linear 3 leaving [] [] [] ≡ Exited (met (0 ∷ []) ∷ met (0 ∷ 1 ∷ []) ∷ wrote 44 ∷ []) 44)
+leaving-3 : (graph 3 leaving [] [] [] ≡ Exited (met (0 ∷ []) ∷ met (0 ∷ 1 ∷ []) ∷ wrote 44 ∷ []) 44)
+    × (linear 3 leaving [] [] [] ≡ Exited (met (0 ∷ []) ∷ met (0 ∷ 1 ∷ []) ∷ wrote 44 ∷ []) 44)
 leaving-3 = (refl, refl)
 
 -- ---- a byte is taken, and then there is none
@@ -247,7 +250,8 @@ dangling = of_body 0 (simple 0 (Apply 1) (Arg 0 ∷ Arg 1 ∷ []) ∷ simple 1 (
 dangling-fits : map well_formed dangling ≡ true ∷ true ∷ []
 dangling-fits = refl
 
-dangling-3 : (graph 3 dangling [] [] [] ≡ Undefined (met (0 ∷ []) ∷ met (0 ∷ 1 ∷ []) ∷ wrote 5 ∷ [])) × (linear 3 dangling [] [] [] ≡ Undefined (met (0 ∷ []) ∷ met (0 ∷ 1 ∷ []) ∷ wrote 5 ∷ []))
+dangling-3 : (graph 3 dangling [] [] [] ≡ Undefined (met (0 ∷ []) ∷ met (0 ∷ 1 ∷ []) ∷ wrote 5 ∷ []))
+    × (linear 3 dangling [] [] [] ≡ Undefined (met (0 ∷ []) ∷ met (0 ∷ 1 ∷ []) ∷ wrote 5 ∷ []))
 dangling-3 = (refl, refl)
 
 -- ---- a program that changes its global, and ends with what it then reads
@@ -266,11 +270,13 @@ program fixed =
       names = (109 ∷ 97 ∷ 105 ∷ 110 ∷ []) ∷ [];
     }
 
-changing-1 : (program_at 1 (program false) changing [] ≡ Exited (met (0 ∷ []) ∷ []) 44) × (linear_program_at 1 (program false) (map sequenced changing) [] ≡ Exited (met (0 ∷ []) ∷ []) 44)
+changing-1 : (program_at 1 (program false) changing [] ≡ Exited (met (0 ∷ []) ∷ []) 44)
+    × (linear_program_at 1 (program false) (map sequenced changing) [] ≡ Exited (met (0 ∷ []) ∷ []) 44)
 changing-1 = (refl, refl)
 
 -- the same with a global that never changes
-fixed-1 : (program_at 1 (program true) changing [] ≡ Undefined (met (0 ∷ []) ∷ [])) × (linear_program_at 1 (program true) (map sequenced changing) [] ≡ Undefined (met (0 ∷ []) ∷ []))
+fixed-1 : (program_at 1 (program true) changing [] ≡ Undefined (met (0 ∷ []) ∷ []))
+    × (linear_program_at 1 (program true) (map sequenced changing) [] ≡ Undefined (met (0 ∷ []) ∷ []))
 fixed-1 = (refl, refl)
 
 -- ---- two wrong sequencings
@@ -305,7 +311,8 @@ exchanged =
       params = 1;
       objects = [];
       code =
-          step_then (choice 0 (code_then (instrs_then (const 1 1 ∷ move 2 1 ∷ []) no_steps) (code_then (instrs_then (const 3 2 ∷ move 2 3 ∷ []) no_steps) no_codes))) no_steps;
+          step_then (choice 0 (code_then (instrs_then (const 1 1 ∷ move 2 1 ∷ []) no_steps) (code_then (instrs_then (const 3 2 ∷ move 2 3 ∷ []) no_steps) no_codes)))
+          no_steps;
       value = 2;
     }
 

@@ -1,21 +1,17 @@
 -- What the linear code of a whole program does at a bound.
-use Rattle.std.specs.Prelude.{ℕ, suc, ◌%◌, List, [], Option, None, Some}
+use Rattle.std.specs.Prelude.{ℕ, suc, List, [], Option, None, Some}
 use Rattle.val_core.specs.declared.values.Value.{Value}
-use Rattle.val_core.specs.Answers.{Answer, Exited, Undefined, then_on, on_number}
+use Rattle.val_core.specs.Answers.{Answer, Undefined, then_on}
 use Rattle.val_core.specs.Within.{Given}
 use Rattle.g_graph.specs.Plain.{PlainOmega}
 use Rattle.g_graph.specs.Program.{name_index, main_name}
 use Rattle.g_mean.specs.Calls.{global_of, first_memory}
 use Rattle.s_linear.specs.Linear.{LinearFunction}
-use Rattle.s_linear.specs.Meaning.{Call, calls}
+use Rattle.s_linear.specs.Meaning.{Call, calls, finished}
 
 -- the linear code of a function at a bound
 abbrev pub linear_at : ℕ → List LinearFunction → (global : ℕ → Value) → ℕ → Call
 linear_at n fs global f vs m i = calls fs global (suc n) f vs m i
-
--- the program ends with what `main` gives back, modulo 256
-abbrev pub finished : Given Value → Answer (Given Value)
-finished g = on_number g.value (λ w. Exited [] (w % 256))
 
 abbrev pub started : ℕ → PlainOmega → List LinearFunction → Option ℕ → List ℕ → Answer (Given Value)
 started n omega fs None i = Undefined []

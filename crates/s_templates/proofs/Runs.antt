@@ -72,10 +72,12 @@ means bound fs input = of_answer (placed_calls (map placed fs) (λ k. Bad) bound
 abbrev values : LinearFunction
 values =
     function 0 0 []
-    (instrs (const 0 5000 ∷ const 1 4745 ∷ binary Sub 2 0 1 ∷ unary Sext8 3 2 ∷ undef 4 ∷ binary Eq 5 3 2 ∷ const 6 201 ∷ binary Add 7 5 6 ∷ move 8 7 ∷ binary Slt 9 3 6 ∷ binary Add 10 8 9 ∷ [])) 10
+    (instrs (const 0 5000 ∷ const 1 4745 ∷ binary Sub 2 0 1 ∷ unary Sext8 3 2 ∷ undef 4 ∷ binary Eq 5 3 2 ∷ const 6 201 ∷ binary Add 7 5 6 ∷ move 8 7 ∷ binary Slt 9 3 6
+    ∷ binary Add 10 8 9 ∷ [])) 10
 
 values-run : runs 60 (items values ∷ []) [] [] ≡ exits 202 []
-unfolding executable_for bytes_of word_of executed run run_state next_effect fetched act give machine.jump machine.call decoded load_bytes store_bytes allowed memory_of flags_of
+unfolding executable_for bytes_of word_of executed run run_state next_effect fetched act give machine.jump machine.call decoded load_bytes store_bytes
+    allowed memory_of flags_of
 values-run = refl
 
 values-mean : means 1 (values ∷ []) [] ≡ Some ([], 202)
@@ -93,11 +95,13 @@ abbrev memory : LinearFunction
 memory =
     function 0 0 (pair ∷ pair ∷ [])
     (instrs
-    (clear 0 ∷ object_address 0 0 ∷ const 1 4 ∷ binary Add 2 0 1 ∷ const 3 77 ∷ store 4 2 3 ∷ load 4 4 2 ∷ load 4 5 0 ∷ object_address 6 1 ∷ equal_pointers 7 0 6 ∷ equal_pointers 8 2 2 ∷ binary Add 9 4 5
+    (clear 0 ∷ object_address 0 0 ∷ const 1 4 ∷ binary Add 2 0 1 ∷ const 3 77 ∷ store 4 2 3 ∷ load 4 4 2 ∷ load 4 5 0 ∷ object_address 6 1 ∷ equal_pointers 7 0 6
+    ∷ equal_pointers 8 2 2 ∷ binary Add 9 4 5
     ∷ binary Add 10 7 8 ∷ binary Add 11 9 10 ∷ [])) 11
 
 memory-runs : runs 100 (items memory ∷ []) [] [] ≡ exits 78 []
-unfolding executable_for bytes_of word_of executed run run_state next_effect fetched act give machine.jump machine.call decoded load_bytes store_bytes allowed memory_of flags_of
+unfolding executable_for bytes_of word_of executed run run_state next_effect fetched act give machine.jump machine.call decoded load_bytes store_bytes
+    allowed memory_of flags_of
 memory-runs = refl
 
 memory-means : means 1 (memory ∷ []) [] ≡ Some ([], 78)
@@ -110,7 +114,8 @@ abbrev global : LinearFunction
 global = function 0 0 [] (instrs (global_address 0 0 ∷ const 1 4 ∷ binary Add 2 0 1 ∷ load 4 3 2 ∷ [])) 3
 
 global-runs : runs 60 (items global ∷ []) (table ∷ []) [] ≡ exits 33 []
-unfolding executable_for bytes_of word_of executed run run_state next_effect fetched act give machine.jump machine.call decoded load_bytes store_bytes allowed memory_of flags_of
+unfolding executable_for bytes_of word_of executed run run_state next_effect fetched act give machine.jump machine.call decoded load_bytes store_bytes
+    allowed memory_of flags_of
 global-runs = refl
 
 -- ---- input and output
@@ -120,7 +125,8 @@ abbrev streams : LinearFunction
 streams = function 0 0 [] (instrs (get 0 ∷ put 0 ∷ get 1 ∷ binary Add 2 0 1 ∷ [])) 2
 
 streams-run : runs 100 (items streams ∷ []) [] (65 ∷ []) ≡ exits 64 (65 ∷ [])
-unfolding executable_for bytes_of word_of executed run run_state next_effect fetched act give machine.jump machine.call decoded load_bytes store_bytes allowed memory_of flags_of
+unfolding executable_for bytes_of word_of executed run run_state next_effect fetched act give machine.jump machine.call decoded load_bytes store_bytes
+    allowed memory_of flags_of
 streams-run = refl
 
 streams-mean : means 1 (streams ∷ []) (65 ∷ []) ≡ Some (65 ∷ [], 64)
@@ -140,7 +146,8 @@ abbrev calling : LinearFunction
 calling = function 0 0 [] (instrs (const 0 5 ∷ call 1 1 (0 ∷ []) ∷ [])) 1
 
 calling-runs : runs 200 (items calling ∷ items summing ∷ []) [] [] ≡ exits 10 []
-unfolding executable_for bytes_of word_of executed run run_state next_effect fetched act give machine.jump machine.call decoded load_bytes store_bytes allowed memory_of flags_of
+unfolding executable_for bytes_of word_of executed run run_state next_effect fetched act give machine.jump machine.call decoded load_bytes store_bytes
+    allowed memory_of flags_of
 calling-runs = refl
 
 calling-means : means 7 (calling ∷ summing ∷ []) [] ≡ Some ([], 10)
@@ -155,11 +162,13 @@ choosing =
     ∷ choice 0 (code_then (instrs (const 1 11 ∷ [])) (code_then (instrs (const 1 22 ∷ [])) (code_then (instrs (const 2 33 ∷ exit 2 ∷ const 1 0 ∷ [])) no_codes))) ∷ [])) 1
 
 chooses-second : runs 100 (items choosing ∷ []) [] (1 ∷ []) ≡ exits 22 []
-unfolding executable_for bytes_of word_of executed run run_state next_effect fetched act give machine.jump machine.call decoded load_bytes store_bytes allowed memory_of flags_of
+unfolding executable_for bytes_of word_of executed run run_state next_effect fetched act give machine.jump machine.call decoded load_bytes store_bytes
+    allowed memory_of flags_of
 chooses-second = refl
 
 chooses-last : runs 100 (items choosing ∷ []) [] (9 ∷ []) ≡ exits 33 []
-unfolding executable_for bytes_of word_of executed run run_state next_effect fetched act give machine.jump machine.call decoded load_bytes store_bytes allowed memory_of flags_of
+unfolding executable_for bytes_of word_of executed run run_state next_effect fetched act give machine.jump machine.call decoded load_bytes store_bytes
+    allowed memory_of flags_of
 chooses-last = refl
 
 choosing-means : means 1 (choosing ∷ []) (9 ∷ []) ≡ Some ([], 33)
@@ -171,15 +180,18 @@ abbrev thirteen : LinearFunction
 thirteen =
     function 0 0 []
     (instrs
-    (const 0 1 ∷ const 1 2 ∷ const 2 3 ∷ const 3 4 ∷ const 4 5 ∷ const 5 6 ∷ const 6 7 ∷ const 7 8 ∷ const 8 9 ∷ const 9 10 ∷ const 10 11 ∷ const 11 12 ∷ const 12 13 ∷ binary Add 13 0 1 ∷ binary Add 14 13 2
-    ∷ binary Add 15 14 3 ∷ binary Add 16 15 4 ∷ binary Add 17 16 5 ∷ binary Add 18 17 6 ∷ binary Add 19 18 7 ∷ binary Add 20 19 8 ∷ binary Add 21 20 9 ∷ binary Add 22 21 10 ∷ binary Add 23 22 11 ∷ binary Add 24 23 12
+    (const 0 1 ∷ const 1 2 ∷ const 2 3 ∷ const 3 4 ∷ const 4 5 ∷ const 5 6 ∷ const 6 7 ∷ const 7 8 ∷ const 8 9 ∷ const 9 10 ∷ const 10 11 ∷ const 11 12 ∷ const 12 13
+    ∷ binary Add 13 0 1 ∷ binary Add 14 13 2
+    ∷ binary Add 15 14 3 ∷ binary Add 16 15 4 ∷ binary Add 17 16 5 ∷ binary Add 18 17 6 ∷ binary Add 19 18 7 ∷ binary Add 20 19 8 ∷ binary Add 21 20 9
+    ∷ binary Add 22 21 10 ∷ binary Add 23 22 11 ∷ binary Add 24 23 12
     ∷ [])) 24
 
 thirteen-places : (places (lines thirteen)).count ≡ 14
 thirteen-places = refl
 
 thirteen-run : runs 120 (items thirteen ∷ []) [] [] ≡ exits 91 []
-unfolding executable_for bytes_of word_of executed run run_state next_effect fetched act give machine.jump machine.call decoded load_bytes store_bytes allowed memory_of flags_of
+unfolding executable_for bytes_of word_of executed run run_state next_effect fetched act give machine.jump machine.call decoded load_bytes store_bytes
+    allowed memory_of flags_of
 thirteen-run = refl
 
 thirteen-mean : means 1 (thirteen ∷ []) [] ≡ Some ([], 91)
@@ -194,7 +206,8 @@ abbrev exceeding : LinearFunction
 exceeding = function 0 0 (large ∷ []) (instrs (const 0 3 ∷ [])) 0
 
 exceeding-ends : runs 40 (items exceeding ∷ []) [] [] ≡ record { hart = ended stack; output = []; rest = [] }
-unfolding executable_for bytes_of word_of executed run run_state next_effect fetched act give machine.jump machine.call decoded load_bytes store_bytes allowed memory_of flags_of
+unfolding executable_for bytes_of word_of executed run run_state next_effect fetched act give machine.jump machine.call decoded load_bytes store_bytes
+    allowed memory_of flags_of
 exceeding-ends = refl
 
 -- Without its test the frame is taken, and the function returns.
@@ -205,7 +218,8 @@ untested =
     ++ words (rv.Addi 10 0 3 ∷ [] ++ give_frame 9_000_032 0)
 
 untested-returns : runs 40 (untested ∷ []) [] [] ≡ exits 3 []
-unfolding executable_for bytes_of word_of executed run run_state next_effect fetched act give machine.jump machine.call decoded load_bytes store_bytes allowed memory_of flags_of
+unfolding executable_for bytes_of word_of executed run run_state next_effect fetched act give machine.jump machine.call decoded load_bytes store_bytes
+    allowed memory_of flags_of
 untested-returns = refl
 
 -- ---- a constant whose lower part is negative
@@ -215,10 +229,12 @@ abbrev shifting : List isa.Instr → List Item
 shifting li = words (li ++ rv.Srli 10 10 11 ∷ rv.Jalr 0 ra 0 ∷ [])
 
 rounded : runs 40 (shifting (load_immediate 10 2048) ∷ []) [] [] ≡ exits 1 []
-unfolding executable_for bytes_of word_of executed run run_state next_effect fetched act give machine.jump machine.call decoded load_bytes store_bytes allowed memory_of flags_of
+unfolding executable_for bytes_of word_of executed run run_state next_effect fetched act give machine.jump machine.call decoded load_bytes store_bytes
+    allowed memory_of flags_of
 rounded = refl
 
 -- where 0x800 is not added to the upper part
 unrounded : runs 40 (shifting (rv.Lui 10 0 ∷ rv.Addi 10 10 (low_part 2048) ∷ []) ∷ []) [] [] ≡ exits 255 []
-unfolding executable_for bytes_of word_of executed run run_state next_effect fetched act give machine.jump machine.call decoded load_bytes store_bytes allowed memory_of flags_of
+unfolding executable_for bytes_of word_of executed run run_state next_effect fetched act give machine.jump machine.call decoded load_bytes store_bytes
+    allowed memory_of flags_of
 unrounded = refl

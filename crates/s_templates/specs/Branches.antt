@@ -15,19 +15,22 @@ abbrev pub OffsetLeads : Type 0
 OffsetLeads = (from to : ℕ) → from < 2 ^ 32 → to < 2 ^ 32 → (from + offset_to from to) % 2 ^ 32 ≡ to
 
 abbrev pub JumpIsDone : Type 0
-JumpIsDone = InBody (λ text f q s. (distance target b : ℕ) → CodeStands text s.pc (Jal x0 distance ∷ []) b → (s.pc + distance) % 2 ^ 32 ≡ target → Arrives text f target q s)
+JumpIsDone = InBody (λ text f q s. (distance target b : ℕ) → CodeStands text s.pc (Jal x0 distance ∷ []) b → (s.pc + distance) % 2 ^ 32 ≡ target
+    → Arrives text f target q s)
 
 -- The jump stands last. Each branch over it reads a predicate, which is a word.
 abbrev pub BranchNotZeroIsDone : Type 0
 BranchNotZeroIsDone =
     InBody (λ text f q s. (p w distance target b : ℕ) → p < f.places → q.names p ≡ Num w
-    → CodeStands text s.pc (load_in t0 (location_of p) ++ Beq (in_of (location_of p) t0) x0 8 ∷ Jal x0 distance ∷ []) b → b < 2 ^ 32 → (b - 4 + distance) % 2 ^ 32 ≡ target
+    → CodeStands text s.pc (load_in t0 (location_of p) ++ Beq (in_of (location_of p) t0) x0 8 ∷ Jal x0 distance ∷ []) b → b < 2 ^ 32
+    → (b - 4 + distance) % 2 ^ 32 ≡ target
     → Arrives text f (if w == 0 then b else target) q s)
 
 abbrev pub BranchZeroIsDone : Type 0
 BranchZeroIsDone =
     InBody (λ text f q s. (p w distance target b : ℕ) → p < f.places → q.names p ≡ Num w
-    → CodeStands text s.pc (load_in t0 (location_of p) ++ Bne (in_of (location_of p) t0) x0 8 ∷ Jal x0 distance ∷ []) b → b < 2 ^ 32 → (b - 4 + distance) % 2 ^ 32 ≡ target
+    → CodeStands text s.pc (load_in t0 (location_of p) ++ Bne (in_of (location_of p) t0) x0 8 ∷ Jal x0 distance ∷ []) b → b < 2 ^ 32
+    → (b - 4 + distance) % 2 ^ 32 ≡ target
     → Arrives text f (if w == 0 then target else b) q s)
 
 abbrev pub BranchEqualIsDone : Type 0
@@ -39,5 +42,6 @@ BranchEqualIsDone =
 -- An exit ends the run with the low byte of its status.
 abbrev pub ExitIsDone : Type 0
 ExitIsDone =
-    InBody (λ text f q s. (a w b : ℕ) → a < f.places → q.names a ≡ Num w → CodeStands text s.pc (get a0 (location_of a) ++ Addi a7 x0 exit_call ∷ Ecall ∷ []) b → b < 2 ^ 32
+    InBody (λ text f q s. (a w b : ℕ) → a < f.places → q.names a ≡ Num w → CodeStands text s.pc (get a0 (location_of a) ++ Addi a7 x0 exit_call ∷ Ecall ∷ []) b
+    → b < 2 ^ 32
     → Exits text.flags s (w % 256))

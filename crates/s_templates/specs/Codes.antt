@@ -51,7 +51,8 @@ InstrFits p objects globals i = IsTrue (all_of (has_place p) (instr_names i)) ×
 -- cuts its meaning, as many instructions at least are done.
 abbrev pub CodeIsDone : Type 0
 CodeIsDone =
-    (text : Text) (f : Frame) (addresses : Addresses) (labels : ℕ → Option ℕ) (p : PlainPlaces) (os : List PlainObject) (c : Context) (q : linear.State) (s : machine.State) (k : Code) (first b : ℕ)
+    (text : Text) (f : Frame) (addresses : Addresses) (labels : ℕ → Option ℕ) (p : PlainPlaces) (os : List PlainObject) (c : Context) (q : linear.State)
+    (s : machine.State) (k : Code) (first b : ℕ)
     → HasWords text f → Represents text f q s → IsBody text f addresses p os c.addresses q.memory → All (λ byte. byte < 2 ^ 8) q.input
     → CodeFits (InstrFits p (length os) (length addresses.globals)) p k → LinesStand text addresses labels p os s.pc (code_lines first k) b → b < 2 ^ 32
     → Follows text f b c.bound (code_run c (placed_code (place_at p) k) q) s q.input

@@ -46,7 +46,8 @@ JumpsReach labels at (i ∷ is) = Reaches labels at i × JumpsReach labels (at +
 
 -- So are the instructions that items become, where jumps reach their labels.
 abbrev pub ItemsFit : Type 0
-ItemsFit = (addresses : Addresses) (labels : ℕ → Option ℕ) (at : ℕ) (items : List Item) → WordsFit items → JumpsReach labels at items → AllFit (items_code addresses labels at items)
+ItemsFit = (addresses : Addresses) (labels : ℕ → Option ℕ) (at : ℕ) (items : List Item) → WordsFit items → JumpsReach labels at items
+    → AllFit (items_code addresses labels at items)
 
 -- the items of each function do
 abbrev pub EachFits : List (List Item) → Type 0

@@ -49,7 +49,8 @@ frame_sizes fs k = slice_index (map frame_of fs) k
 -- Names have places, objects and globals that are named are there, a constant is a word, and arguments are few.
 abbrev pub InstrCanRun : PlainPlaces → (objects globals : ℕ) → Instr → Type 0
 InstrCanRun p objects globals i =
-    IsTrue (all_of (has_place p) (instr_names i)) × IsTrue (has_its_object objects i) × IsTrue (has_its_global globals i) × NumbersFit (done i) × IsTrue (has_few_arguments i)
+    IsTrue (all_of (has_place p) (instr_names i)) × IsTrue (has_its_object objects i) × IsTrue (has_its_global globals i) × NumbersFit (done i)
+    × IsTrue (has_few_arguments i)
 
 -- A function over these places, of a program with so many globals: its names have places, its frame and its constants are words, and the
 -- leaves of its objects do not overlap.
@@ -71,7 +72,8 @@ pub record FunctionStands (program : Program) (at : ℕ) (p : PlainPlaces) (f : 
 
 -- Each function stands at its address, which is even, the stubs stand, and their buffer may be read and written.
 pub record ProgramCanRun (program : Program) : Type 0 where
-  pub functions : (k : ℕ) (f : LinearFunction) → slice_get program.functions k ≡ Some f → FunctionStands program (slice_index program.addresses.functions k) (places_of f) f
+  pub functions : (k : ℕ) (f : LinearFunction) → slice_get program.functions k ≡ Some f
+      → FunctionStands program (slice_index program.addresses.functions k) (places_of f) f
   pub entries : (k : ℕ) → (slice_index program.addresses.functions k < 2 ^ 32) × (slice_index program.addresses.functions k % 2 ≡ 0)
   pub stubs : StubsStand program.text program.addresses.data_at
   pub readable : has_flag (program.text.flags program.addresses.data_at) to_read ≡ true
@@ -84,7 +86,8 @@ pub record ProgramCanRun (program : Program) : Type 0 where
 pub record HasBlocks (program : Program) (bases : Bases) (blocks : Memory) (base top : ℕ) : Type 0 where
   pub fresh : (n : ℕ) → length blocks ≤ n → bases n ≡ 0
   pub free : (a : ℕ) → base ≤ a → a < top → IsOutside bases blocks a
-  pub globals : (k : ℕ) → k < length program.addresses.globals → (slice_index program.addresses.globals k < 2 ^ 32) × Shows bases (program.global k) (slice_index program.addresses.globals k)
+  pub globals : (k : ℕ) → k < length program.addresses.globals → (slice_index program.addresses.globals k < 2 ^ 32)
+      × Shows bases (program.global k) (slice_index program.addresses.globals k)
   pub below : program.addresses.data_at < base
   pub outside : IsOutside bases blocks program.addresses.data_at
 
@@ -138,7 +141,8 @@ CallOutcome program least blocks bases back a s input =
 -- Calls of this meaning run on the machine, each for so many instructions at least where it is cut.
 abbrev pub CallsRun : Program → (least : ℕ) → (ℕ → Call) → Type 0
 CallsRun program least call =
-    (function : ℕ) (arguments : List Value) (blocks : Memory) (input : List ℕ) (bases : Bases) (back : ℕ) (s : State) → IsCalled program function arguments blocks input bases back s
+    (function : ℕ) (arguments : List Value) (blocks : Memory) (input : List ℕ) (bases : Bases) (back : ℕ) (s : State)
+    → IsCalled program function arguments blocks input bases back s
     → CallOutcome program least blocks bases back (call function arguments blocks input) s input
 
 -- Functions run: at every bound, calls do on the machine what they mean over places.

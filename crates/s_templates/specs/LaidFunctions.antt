@@ -37,7 +37,8 @@ is_word_constant _ = true
 -- and its frame in range, and the leaves of its objects do not overlap.
 abbrev pub SelectedCanRun : Type 0
 SelectedCanRun =
-    (globals : ℕ) (f : LinearFunction) (p : PlainPlaces) (frame : Frame) → CanSelect (lines f) p frame f.objects → IsTrue (all_of (does (has_its_global globals)) (lines f))
+    (globals : ℕ) (f : LinearFunction) (p : PlainPlaces) (frame : Frame) → CanSelect (lines f) p frame f.objects
+    → IsTrue (all_of (does (has_its_global globals)) (lines f))
     → IsTrue (all_of (does is_word_constant) (lines f)) → IsTrue (is_within_reach (items_of p f.objects (lines f))) → IsInRange p f.objects
     → IsTrue (all_of (λ o. leaves_fit o.size 0 o.leaves) f.objects) → FunctionCanRun globals p f
 
@@ -58,14 +59,17 @@ LaidProgramCanRun =
     → ((k : ℕ) (f : LinearFunction) → slice_get fs k ≡ Some f → FunctionCanRun (length (addresses_of (map function_items fs) ds).globals) (places_of f) f)
     → ((k : ℕ) (f : LinearFunction) → slice_get fs k ≡ Some f → (l : ℕ) → marks l (function_items f) ≤ 1) → ProgramCanRun (loaded_program fs ds main global)
 
--- Its image begins at the start code, with its stack and its text, where it is placed. What is asked beside is said of the memory of its
+-- Its image begins at the start code, with its stack and its text, where it is placed. The last conditions are on the memory of its
 -- globals: it is shown in the bytes of the image, in blocks apart from the stack.
 abbrev pub LaidProgramStarts : Type 0
 LaidProgramStarts =
-    (fs : List LinearFunction) (ds : List PlainDelta) (main : ℕ) (global : ℕ → Value) (blocks : Memory) (bases : Bases) (input : List ℕ) → CanLayOut (map function_items fs) ds main
+    (fs : List LinearFunction) (ds : List PlainDelta) (main : ℕ) (global : ℕ → Value) (blocks : Memory) (bases : Bases) (input : List ℕ)
+    → CanLayOut (map function_items fs) ds main
     → IsPlaced (laid_out (map function_items fs) ds main) → AreSound (executable_for (laid_out (map function_items fs) ds main)).segments
     → ((k : ℕ) (f : LinearFunction) → slice_get fs k ≡ Some f → FunctionCanRun (length (addresses_of (map function_items fs) ds).globals) (places_of f) f)
     → ShowsMemory (loaded_program fs ds main global).text.flags bases blocks (loaded_program fs ds main global).text.bytes
-    → HasBlocks (loaded_program fs ds main global) bases blocks (addresses_of (map function_items fs) ds).stack_at ((addresses_of (map function_items fs) ds).stack_at + stack_size)
+    → HasBlocks (loaded_program fs ds main global) bases blocks (addresses_of (map function_items fs) ds).stack_at
+    ((addresses_of (map function_items fs) ds).stack_at + stack_size)
     → All (λ byte. byte < 2 ^ 8) input
-    → HasStart (loaded_program fs ds main global) main (addresses_of (map function_items fs) ds).stack_at put_at blocks bases input (start (executable_for (laid_out (map function_items fs) ds main)))
+    → HasStart (loaded_program fs ds main global) main (addresses_of (map function_items fs) ds).stack_at put_at blocks bases input
+    (start (executable_for (laid_out (map function_items fs) ds main)))

@@ -28,7 +28,8 @@ ItemsAreCut = (text : Text) (addresses : Addresses) (labels : ℕ → Option ℕ
     → (m : ℕ) × ItemsStand text addresses labels a first m × ItemsStand text addresses labels m second b
 
 abbrev pub WordsStand : Type 0
-WordsStand = (text : Text) (addresses : Addresses) (labels : ℕ → Option ℕ) (a b : ℕ) (code : List Instr) → ItemsStand text addresses labels a (map Word code) b → CodeStands text a code b
+WordsStand = (text : Text) (addresses : Addresses) (labels : ℕ → Option ℕ) (a b : ℕ) (code : List Instr) → ItemsStand text addresses labels a (map Word code) b
+    → CodeStands text a code b
 
 -- The instructions of each operation give its words.
 pub record WordsAreTheSame : Type 0 where

@@ -1,7 +1,7 @@
 -- What a program does from its start: `main` runs, and the program ends with the low byte of its value.
 use Rattle.std.specs.Prelude.{◌≡◌, ◌⊎◌, ℕ, ◌+◌, ◌%◌, ◌^◌, ◌<◌, ◌≤◌, true, List, [], map, slice_index, All}
 use Rattle.val_core.specs.declared.values.Value.{Value}
-use Rattle.val_core.specs.Answers.{Answer, Returned, Cut, Exited, Undefined, then_on, on_number, events}
+use Rattle.val_core.specs.Answers.{Answer, Returned, Cut, Exited, Undefined, then_on, events}
 use Rattle.val_core.specs.Memory.{Memory}
 use Rattle.val_core.specs.Within.{Given}
 use Rattle.elf_file.specs.Image.{text_at, stack_size}
@@ -9,15 +9,12 @@ use Rattle.rv_machine.specs.Machine.{State}
 use Rattle.rv_machine.specs.Memory.{has_flag, to_read, to_write}
 use Rattle.rv_machine.specs.Standing.{HasText, CodeStands}
 use Rattle.rv_layout.specs.Sequences.{start_code}
+use Rattle.s_linear.specs.Meaning.{finished}
 use Rattle.a_place.specs.Placed.{placed, placed_calls}
 use Rattle.s_templates.specs.Functions.{Program, ProgramCanRun, frame_sizes, HasBlocks}
 use Rattle.s_templates.specs.Relation.{Bases, ShowsMemory}
 use Rattle.s_templates.specs.Starts.{main_returns}
 use Rattle.s_templates.specs.Steps.{Ends, GoesOn, Exceeds}
-
--- the program ends with the low byte of what `main` gives, which is a word
-abbrev pub ended_with : Given Value → Answer (Given Value)
-ended_with g = on_number g.value (λ w. Exited [] (w % 256))
 
 -- What a program does where its meaning is this answer: it ends, or goes on for so many instructions at least where the bound cuts it.
 -- It never returns, and an answer without meaning says nothing.
@@ -49,5 +46,6 @@ pub record HasStart (program : Program) (main stack e : ℕ) (blocks : Memory) (
 -- From the start code on, a program does at every bound what its `main` means over places.
 abbrev pub MainRuns : Type 0
 MainRuns =
-    (program : Program) (main stack e bound : ℕ) (blocks : Memory) (bases : Bases) (input : List ℕ) (s : State) → ProgramCanRun program → HasStart program main stack e blocks bases input s
-    → StartOutcome program bound (then_on (placed_calls (map placed program.functions) program.global bound main [] blocks input) ended_with) s input
+    (program : Program) (main stack e bound : ℕ) (blocks : Memory) (bases : Bases) (input : List ℕ) (s : State) → ProgramCanRun program
+    → HasStart program main stack e blocks bases input s
+    → StartOutcome program bound (then_on (placed_calls (map placed program.functions) program.global bound main [] blocks input) finished) s input

@@ -30,4 +30,5 @@ pub record ProgramStands (fs : List (List Item)) (ds : List PlainDelta) (main : 
 -- A program that can be laid out stands in memory once its image is loaded, where the segments of the image are sound.
 abbrev pub LaidProgramStands : Type 0
 LaidProgramStands =
-    (fs : List (List Item)) (ds : List PlainDelta) (main : ℕ) → CanLayOut fs ds main → EachFits fs → AreSound (executable_for (laid_out fs ds main)).segments → ProgramStands fs ds main
+    (fs : List (List Item)) (ds : List PlainDelta) (main : ℕ) → CanLayOut fs ds main → EachFits fs → AreSound (executable_for (laid_out fs ds main)).segments
+    → ProgramStands fs ds main

@@ -31,7 +31,8 @@ pub record StubIsCalled (text : Text) (s : State) (buffer back : ℕ) : Type 0 w
 -- The low byte of a0 is written, by way of the buffer.
 abbrev pub PutStubWrites : Type 0
 PutStubWrites =
-    (text : Text) (s : State) (buffer back word e : ℕ) (input : List ℕ) → StubIsCalled text s buffer back → CodeStands text s.pc (put_stub buffer) e → e < 2 ^ 32 → s.regs a0 ≡ word
+    (text : Text) (s : State) (buffer back word e : ℕ) (input : List ℕ) → StubIsCalled text s buffer back → CodeStands text s.pc (put_stub buffer) e → e < 2 ^ 32
+    → s.regs a0 ≡ word
     → FromStub text s back (store_bytes s.mem buffer word 1) input (word % 256 ∷ []) input
 
 -- The next byte of the input is in a0, by way of the buffer, and at its end -1.

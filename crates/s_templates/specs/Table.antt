@@ -57,7 +57,8 @@ IsPlain _ = Unit {0}
 -- The items of an instruction do what the instruction means over places.
 abbrev pub InstrIsDone : Type 0
 InstrIsDone =
-    (text : Text) (f : Frame) (addresses : Addresses) (labels : ℕ → Option ℕ) (p : PlainPlaces) (os : List PlainObject) (c : Context) (q : linear.State) (s : machine.State) (i : Instr) (b least : ℕ)
+    (text : Text) (f : Frame) (addresses : Addresses) (labels : ℕ → Option ℕ) (p : PlainPlaces) (os : List PlainObject) (c : Context) (q : linear.State)
+    (s : machine.State) (i : Instr) (b least : ℕ)
     → HasWords text f → Represents text f q s → IsBody text f addresses p os c.addresses q.memory → All (λ byte. byte < 2 ^ 8) q.input
     → IsTrue (all_of (has_place p) (instr_names i)) → IsTrue (has_its_object (length os) i) → IsTrue (has_its_global (length addresses.globals) i) → IsPlain i
     → ItemsStand text addresses labels s.pc (instr_items p os i) b → b < 2 ^ 32

@@ -16,11 +16,11 @@ use Rattle.g_mean.proofs.lemmas.Kinds.{all-well-formed}
 use Rattle.rv_machine.specs.Run.{run, executed, start}
 use Rattle.rv_layout.specs.declared.item.Item.{Item}
 use Rattle.rv_layout.specs.Layout.{laid_out}
-use Rattle.s_linear.specs.Meaning.{calls}
+use Rattle.s_linear.specs.Meaning.{calls, finished}
 use Rattle.s_sequence.specs.Sequence.{sequenced}
 use Rattle.s_simulation.specs.Agreement.{GivesBack}
 use Rattle.s_simulation.specs.Laws.{ProgramsAreWithin}
-use Rattle.s_simulation.specs.Programs.{started, finished, linear_program_at}
+use Rattle.s_simulation.specs.Programs.{started, linear_program_at}
 use Rattle.a_simulation.specs.Laws.{SequencedFunctionsAgree}
 use Rattle.s_templates.specs.Functions.{ProgramCanRun, frame_sizes}
 use Rattle.s_templates.specs.LaidFunctions.{function_items}

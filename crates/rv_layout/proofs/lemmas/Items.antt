@@ -93,7 +93,8 @@ all_rest test x rest all first h = (and_parts (test x) (all_of test rest) (subst
 
 -- the parts of what holds of a function
 pub labels_marked : (fs gs : ℕ) (items : List Item) → IsTrue (function_fits fs gs items) → IsTrue (labels_are_marked items)
-labels_marked fs gs items h = (and_parts (labels_are_marked items) (is_within_reach items) (and_parts (labels_are_marked items && is_within_reach items) (all_of (item_fits fs gs) items) h).0).0
+labels_marked fs gs items h = (and_parts (labels_are_marked items) (is_within_reach items)
+    (and_parts (labels_are_marked items && is_within_reach items) (all_of (item_fits fs gs) items) h).0).0
 
 pub items_short : (fs gs : ℕ) (items : List Item) → IsTrue (function_fits fs gs items) → items_size items < 2 ^ 20
 items_short fs gs items h =

@@ -45,7 +45,8 @@ agrees-change R S _ _ more h = absurd h
 
 -- ---- what follows on a number, on what may be undefined, or on a memory
 
-pub agrees-number : {A B : Type 0} (R : A → B → Type 0) (v w : Value) → IsLessDefined v w → (next : ℕ → Answer A) (next' : ℕ → Answer B) → ((n : ℕ) → Agrees R (next n) (next' n)) →
+pub agrees-number : {A B : Type 0} (R : A → B → Type 0) (v w : Value) → IsLessDefined v w → (next : ℕ → Answer A) (next' : ℕ → Answer B) →
+    ((n : ℕ) → Agrees R (next n) (next' n)) →
     Agrees R (on_number v next) (on_number w next')
 agrees-number R (Num n) w (inl e) next next' go = rw (sym e) (go n)
 agrees-number R (Num n) w (inr e) next next' go = absurd cc
@@ -63,7 +64,8 @@ pub agrees-defined : {A B X : Type 0} (R : A → B → Type 0) (a : Option X) (n
 agrees-defined R (Some x) next next' go = go x
 agrees-defined R None next next' go = tt
 
-pub agrees-memory : {A B : Type 0} (R : A → B → Type 0) (d : Datum) (next : Blocks → Answer A) (b : Answer B) → ((m : Blocks) → d ≡ memory m → Agrees R (next m) b) → Agrees R (on_memory d next) b
+pub agrees-memory : {A B : Type 0} (R : A → B → Type 0) (d : Datum) (next : Blocks → Answer A) (b : Answer B) → ((m : Blocks) → d ≡ memory m → Agrees R (next m) b) →
+    Agrees R (on_memory d next) b
 agrees-memory R (memory m) next b go = go m refl
 agrees-memory R (val v) next b go = tt
 agrees-memory R (input i) next b go = tt

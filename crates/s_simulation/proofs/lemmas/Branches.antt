@@ -48,8 +48,10 @@ region-tests objects r t =
 abbrev pub BaseFits : (next out count base : ℕ) → RegionTree → Type 0
 BaseFits next out count base r = (next ≤ base) × ((base + region_names r ≤ out) ⊎ (out + count ≤ base))
 
-pub branch-agrees : (c : graph.Context) (d : linear.Context) (objects : ℕ) (r : RegionTree) → RegionClaim c d r → region_fits objects r ≡ true → (gives : List Kind) → result_kinds r ≡ map Some gives →
-    (first next out base : ℕ) → BaseFits next out (value_args gives) base r → next ≤ out → (entries : List ℕ) (xs : List Datum) (s : State) → Held first next (args_of r) xs entries s →
+pub branch-agrees : (c : graph.Context) (d : linear.Context) (objects : ℕ) (r : RegionTree) → RegionClaim c d r → region_fits objects r ≡ true → (gives : List Kind) →
+    result_kinds r ≡ map Some gives →
+    (first next out base : ℕ) → BaseFits next out (value_args gives) base r → next ≤ out → (entries : List ℕ) (xs : List Datum) (s : State) →
+    Held first next (args_of r) xs entries s →
     Agrees (NodeDone next out (map Some gives) s) (region_meaning c r xs) (code_run d (branch_code entries out base r) s)
 branch-agrees c d objects (region args nodes results) claim fits gives kinds first next out base place low entries xs s h =
     rw (
@@ -57,7 +59,8 @@ branch-agrees c d objects (region args nodes results) claim fits gives kinds fir
       nodes-then d args base no_names (base + value_args args) nodes ends begun,
     )
     (agrees-then (Running args base xs begun nodes all top) (NodeDone next out (map Some gives) s) (nodes_run c nodes xs no_outputs)
-    (code_run d (nodes_code args base no_names (base + value_args args) nodes no_steps) begun) (λ o. Returned (map (read xs o) results) []) (code_run d ends) (claim base xs begun carries) after)
+    (code_run d (nodes_code args base no_names (base + value_args args) nodes no_steps) begun) (λ o. Returned (map (read xs o) results) []) (code_run d ends)
+    (claim base xs begun carries) after)
   where
     r : RegionTree
     r = region args nodes results
@@ -87,7 +90,8 @@ branch-agrees c d objects (region args nodes results) claim fits gives kinds fir
     away (inl a) = inr (omega (arith, a))
     away (inr a) = inl a
 
-    after : (o : Outputs) (t : State) → Running args base xs begun nodes all top o t → Agrees (NodeDone next out (map Some gives) s) (Returned (map (read xs o) results) []) (code_run d ends t)
+    after : (o : Outputs) (t : State) → Running args base xs begun nodes all top o t →
+        Agrees (NodeDone next out (map Some gives) s) (Returned (map (read xs o) results) []) (code_run d ends t)
     after o t run =
         let results-held = held args base xs begun nodes all top o t run results gives kinds tests.last in
         let low-base = place.0 in
@@ -125,5 +129,6 @@ bases-fit next count no_regions = tt
 bases-fit next count (region_then r no_regions) = ((omega arith, inl (omega arith)), tt)
 bases-fit next count (region_then r (region_then q no_regions)) = ((omega arith, inl (omega arith)), ((omega arith, inr (omega arith)), tt))
 bases-fit next count (region_then r (region_then q (region_then u rs))) =
-    from-fit next (next + last_names (region_then r (region_then q (region_then u rs)))) count (next + last_names (region_then r (region_then q (region_then u rs))) + count)
+    from-fit next (next + last_names (region_then r (region_then q (region_then u rs)))) count
+    (next + last_names (region_then r (region_then q (region_then u rs))) + count)
     (region_then r (region_then q (region_then u rs))) (omega arith) (omega arith) (omega arith)

@@ -35,7 +35,8 @@ nodes-then d args base names next (node_then x ns) k s =
     then_on_given (step_run d (node_step args base names next x) s) (code_run d (nodes_code args base (named x next names) (next + node_names x) ns k))
     (λ t. then_on (code_run d (nodes_code args base (named x next names) (next + node_names x) ns no_steps) t) (code_run d k))
     (λ t o e. nodes-then d args base (named x next names) (next + node_names x) ns k t)
-    ∙ sym (then_associates (step_run d (node_step args base names next x) s) (code_run d (nodes_code args base (named x next names) (next + node_names x) ns no_steps)) (code_run d k))
+    ∙ sym (then_associates (step_run d (node_step args base names next x) s) (code_run d (nodes_code args base (named x next names) (next + node_names x) ns no_steps))
+    (code_run d k))
 
 -- what the step of a node did
 abbrev pub StepDone : NodeTree → (next : ℕ) → State → List Datum → State → Type 0
@@ -45,7 +46,8 @@ StepDone (node id op inputs rs) next s ys t = NodeDone next (outputs_at next rs)
 abbrev pub RegionClaim : graph.Context → linear.Context → RegionTree → Type 0
 RegionClaim c d (region args nodes results) =
     (base : ℕ) (xs : List Datum) (s : State) → Carries args xs base s →
-    Agrees (Running args base xs s nodes (nodes_named nodes (base + value_args args) no_names) (base + value_args args + nodes_names nodes)) (nodes_run c nodes xs no_outputs)
+    Agrees (Running args base xs s nodes (nodes_named nodes (base + value_args args) no_names) (base + value_args args + nodes_names nodes))
+    (nodes_run c nodes xs no_outputs)
     (code_run d (nodes_code args base no_names (base + value_args args) nodes no_steps) s)
 
 -- ---- choices
@@ -68,7 +70,8 @@ chosen-agree R xs s w [] (r ∷ rs) h = absurd h
 chosen-agree R xs s w (m ∷ ms) [] h = absurd h
 
 -- A Gamma of one region reads its predicate, and the choice of one code does not.
-pub chosen-by-agree : (R : List Datum → State → Type 0) (xs : List Datum) (s : State) (v : Value) (p : ℕ) → IsLessDefined v (s.names p) → (ms : List Meaning) (rs : List Run) → AllAgree R xs s ms rs →
+pub chosen-by-agree : (R : List Datum → State → Type 0) (xs : List Datum) (s : State) (v : Value) (p : ℕ) → IsLessDefined v (s.names p) →
+    (ms : List Meaning) (rs : List Run) → AllAgree R xs s ms rs →
     Agrees R (on_number v (λ w. graph.chosen w ms xs)) (linear.chosen_by p rs s)
 chosen-by-agree R xs s v p less [] [] h = agrees-unread R v (λ w. Undefined []) (Undefined []) (λ w. tt)
 chosen-by-agree R xs s v p less (m ∷ []) (r ∷ []) h = agrees-unread R v (λ w. m xs) (r s) (λ w. h.0)

@@ -22,7 +22,8 @@ use Rattle.s_simulation.proofs.lemmas.Functions.{BodyFits, lambda-body}
 use Rattle.s_simulation.proofs.lemmas.Written.{step-grows, AreKnown, known-at}
 use Rattle.s_simulation.proofs.lemmas.Known.{OriginsKnown, NodeWrites, KnownClaim, arguments-known, list-known, known-more, op-writes, branch-writes, loop-writes}
 
-reads-of : (D : NameSet) (args : List Kind) (base : ℕ) (names : Names) (next : ℕ) (x : NodeTree) → NodeWrites D args base names next x → StepIsClosed D (node_step args base names next x)
+reads-of : (D : NameSet) (args : List Kind) (base : ℕ) (names : Names) (next : ℕ) (x : NodeTree) → NodeWrites D args base names next x →
+    StepIsClosed D (node_step args base names next x)
 reads-of D args base names next (node id op inputs rs) w = w.reads
 
 -- a Gamma of a region or more has a code or more
@@ -41,9 +42,11 @@ module _ (objects : ℕ) where
         let tests = region-tests objects (region args nodes results) p.0 in
         nodes-known args base [] nodes tests.nodes p.1 nodes refl no_names (base + value_args args) E h
 
-    nodes-known : (args : List Kind) (base : ℕ) (before : List NodeTree) (ns : NodeTrees) → each_node (node_fits objects args) before ns ≡ true → every_in_nodes (region_fits objects) ns ≡ true →
+    nodes-known : (args : List Kind) (base : ℕ) (before : List NodeTree) (ns : NodeTrees) → each_node (node_fits objects args) before ns ≡ true →
+        every_in_nodes (region_fits objects) ns ≡ true →
         (whole : NodeTrees) → joined_nodes (nodes_of before) ns ≡ whole → (names : Names) (next : ℕ) (D : NameSet) → OriginsKnown args base names (nodes_of before) D →
-        CodeIsClosed D (nodes_code args base names next ns no_steps) × OriginsKnown args base (nodes_named ns next names) whole (after_code D (nodes_code args base names next ns no_steps))
+        CodeIsClosed D (nodes_code args base names next ns no_steps)
+        × OriginsKnown args base (nodes_named ns next names) whole (after_code D (nodes_code args base names next ns no_steps))
     nodes-known args base before no_nodes t nested whole e names next D h =
         let same : nodes_of before ≡ whole = sym (joined_none (nodes_of before)) ∙ e in
         (tt, subst (λ ns. OriginsKnown args base names ns D) same h)
@@ -62,8 +65,10 @@ module _ (objects : ℕ) where
     node-writes args base names earlier D h next (node id Gamma (p ∷ entries) (region_then r rs)) t nested =
         let ks = result_kinds r in
         let own = are_kinds ks (kinds_of ks) (and_parts (same (args_of r) (args_of r)) (are ks (kinds_of ks))
-        (and_parts (same (args_of r) (args_of r) && are ks (kinds_of ks)) (all_regions (λ q. same (args_of q) (args_of r) && are (result_kinds q) (kinds_of ks)) rs) t.regions).0).1 in
-        let all = list-known args base names earlier D h (p ∷ entries) (Value ∷ args_of r) (are_kinds (map (known args earlier) (p ∷ entries)) (Value ∷ args_of r) t.inputs) in
+        (and_parts (same (args_of r) (args_of r) && are ks (kinds_of ks)) (all_regions (λ q. same (args_of q) (args_of r) && are (result_kinds q) (kinds_of ks)) rs)
+        t.regions).0).1 in
+        let all = list-known args base names earlier D h (p ∷ entries) (Value ∷ args_of r)
+        (are_kinds (map (known args earlier) (p ∷ entries)) (Value ∷ args_of r) t.inputs) in
         let each = regions-known D (outputs_at next (region_then r rs)) (args_of r) (kinds_of ks) (map (name_of args base names) entries) all.1 (region_then r rs)
         (bases next (values_in ks) (region_then r rs)) t.regions nested in
         record {
@@ -110,7 +115,8 @@ body-closed objects params (region args nodes results) fits =
       value =
           known-at (after_code parameters (nodes_code args 0 no_names (value_args args) nodes no_steps)) (Value ∷ Memory ∷ Io ∷ [])
           (map (name_of args 0 (nodes_named nodes (value_args args) no_names)) results)
-          (list-known args 0 (nodes_named nodes (value_args args) no_names) nodes (after_code parameters (nodes_code args 0 no_names (value_args args) nodes no_steps)) whole.1 results
+          (list-known args 0 (nodes_named nodes (value_args args) no_names) nodes (after_code parameters (nodes_code args 0 no_names (value_args args) nodes no_steps))
+          whole.1 results
           (Value ∷ Memory ∷ Io ∷ []) fits.results) 0 refl;
     }
   where
@@ -128,7 +134,8 @@ body-closed objects params (region args nodes results) fits =
     whole : Whole (value_args args)
     whole =
         let same : 0 + value_args args ≡ value_args args = omega arith in
-        subst Whole same (region-known objects (region args nodes results) fits.regions 0 parameters (arguments-known args 0 parameters (λ k low. omega (arith, low, count))))
+        subst Whole same (region-known objects (region args nodes results) fits.regions 0 parameters
+        (arguments-known args 0 parameters (λ k low. omega (arith, low, count))))
 
 pub sequenced_code_is_closed : SequencedCodeIsClosed
 sequenced_code_is_closed l well =

@@ -118,7 +118,8 @@ module _ (n : ℕ) (call : ℕ → Meaning) (callees : ℕ → Call) (agree : Al
       subst (λ a. Agrees Gives (region_meaning (graph_context n call addresses) (region args nodes results) (taken vs m i)) a)
       (then_nothing (code_run (code_context n callees addresses) (nodes_code args 0 no_names (value_args args) nodes no_steps) (begun ws m i)))
       (agrees-then (Ends (value_args args)) Gives (nodes_run (graph_context n call addresses) nodes (taken vs m i) no_outputs)
-      (code_run (code_context n callees addresses) (nodes_code args 0 no_names (value_args args) nodes no_steps) (begun ws m i)) (λ o. Returned (map (read (taken vs m i) o) results) [])
+      (code_run (code_context n callees addresses) (nodes_code args 0 no_names (value_args args) nodes no_steps) (begun ws m i))
+      (λ o. Returned (map (read (taken vs m i) o) results) [])
       (λ t. Returned t []) claim after)
     where
       Gives : List Datum → State → Type 0
@@ -156,7 +157,8 @@ module _ (n : ℕ) (call : ℕ → Meaning) (callees : ℕ → Call) (agree : Al
       agrees-memory GivesBack (at_port (taken vs m i) l.params) _ (linear.entered n callees global (Some (sequenced l)) ws m i) (λ k e.
       let place = memory-place vs m i l.params k e in
       let changed = ap (λ p. changed_at p (with_memory open_all) (taken vs m i)) place.0 ∙ taken-changed vs m i open_all in
-      subst (λ b. Agrees GivesBack (then_on (region_meaning (inside n call global l.objects b) l.body (changed_at l.params (with_memory open_all) (taken vs m i))) (graph_end b))
+      subst (λ b. Agrees GivesBack (then_on (region_meaning (inside n call global l.objects b) l.body (changed_at l.params (with_memory open_all) (taken vs m i)))
+      (graph_end b))
       (linear.entered n callees global (Some (sequenced l)) ws m i)) (sym place.1)
       (subst (λ us. Agrees GivesBack (then_on (region_meaning (inside n call global l.objects m) l.body us) (graph_end m))
       (linear.entered n callees global (Some (sequenced l)) ws m i)) (sym changed)
@@ -193,9 +195,11 @@ all-calls-agree ls well global zero f vs ws less m i = refl
 all-calls-agree ls well global (suc n) f vs ws less m i =
     agrees-active GivesBack f (graph.entered n (applied ls global n) global (slice_get ls f) (taken vs m i))
     (linear.entered n (calls (map sequenced ls) global n) global (slice_get (map sequenced ls) f) ws m i)
-    (subst (λ g. Agrees GivesBack (graph.entered n (applied ls global n) global (slice_get ls f) (taken vs m i)) (linear.entered n (calls (map sequenced ls) global n) global g ws m i))
+    (subst (λ g. Agrees GivesBack (graph.entered n (applied ls global n) global (slice_get ls f) (taken vs m i))
+    (linear.entered n (calls (map sequenced ls) global n) global g ws m i))
     (sym (slice_get-map sequenced ls f))
-    (found-agrees n (applied ls global n) (calls (map sequenced ls) global n) (all-calls-agree ls well global n) global (slice_get ls f) (found-well ls well f) vs ws less m i))
+    (found-agrees n (applied ls global n) (calls (map sequenced ls) global n) (all-calls-agree ls well global n) global (slice_get ls f)
+    (found-well ls well f) vs ws less m i))
 
 pub calls_agree : CallsAgree
 calls_agree ls well global n f vs ws less m i = all-calls-agree ls well global n f vs ws less m i
@@ -206,9 +210,9 @@ calls_are_within ls well global n f vs ws less m i right =
 
 -- ---- programs
 
-finished-agrees : (ys : List Datum) (g : Given Value) → GivesBack ys g → Agrees GivesBack (graph.finished ys) (linear_program.finished g)
+finished-agrees : (ys : List Datum) (g : Given Value) → GivesBack ys g → Agrees GivesBack (graph.finished ys) (linear.finished g)
 finished-agrees ys g b =
-    subst (λ us. Agrees GivesBack (graph.finished us) (linear_program.finished g)) (sym b.is)
+    subst (λ us. Agrees GivesBack (graph.finished us) (linear.finished g)) (sym b.is)
     (agrees-number GivesBack b.value g.value b.less (λ w. Exited [] (w % 256)) (λ w. Exited [] (w % 256)) (λ w. (refl, refl)))
 
 started-agrees : (ls : List PlainLambda) → AreWellFormed ls → (omega : PlainOmega) (n : ℕ) (found : Option ℕ) (i : List ℕ) →
@@ -216,7 +220,7 @@ started-agrees : (ls : List PlainLambda) → AreWellFormed ls → (omega : Plain
 started-agrees ls well omega n None i = tt
 started-agrees ls well omega n (Some f) i =
     agrees-then GivesBack GivesBack (lambda_at n ls (global_of omega.deltas) f (taken [] (first_memory omega.deltas) i))
-    (linear_at n (map sequenced ls) (global_of omega.deltas) f [] (first_memory omega.deltas) i) graph.finished linear_program.finished
+    (linear_at n (map sequenced ls) (global_of omega.deltas) f [] (first_memory omega.deltas) i) graph.finished linear.finished
     (calls_agree ls well (global_of omega.deltas) (suc n) f [] [] tt (first_memory omega.deltas) i) finished-agrees
 
 pub programs_agree : ProgramsAgree

@@ -153,7 +153,8 @@ carries-set _ _ x s t v apart h = absurd h
 first-moved : (t : ℕ) (x : ℕ) (xs : List ℕ) (s : State) → (moved (suc t) xs (set s t (s.names x))).names t ≡ s.names x
 first-moved t x xs s = moved-below (suc t) xs (set s t (s.names x)) t (omega arith) ∙ same-name s.names t (s.names x)
 
-pub moves-carry : (first next : ℕ) (ks : List Kind) (ds : List Datum) (xs : List ℕ) (t : ℕ) (s : State) → (t + value_args ks ≤ first) ⊎ (next ≤ t) → Held first next ks ds xs s →
+pub moves-carry : (first next : ℕ) (ks : List Kind) (ds : List Datum) (xs : List ℕ) (t : ℕ) (s : State) → (t + value_args ks ≤ first) ⊎ (next ≤ t) →
+    Held first next ks ds xs s →
     Carries ks ds t (moved t (kept (map Some ks) xs) s)
 moves-carry first next [] [] [] t s apart h = tt
 moves-carry first next (ValueKind ∷ ks) (d ∷ ds) (x ∷ xs) t s apart h = (
@@ -175,7 +176,8 @@ moves-carry first next (Io ∷ ks) (d ∷ ds) (x ∷ xs) t s apart h =
 moves-carry first next _ _ _ t s apart h = absurd h
 
 -- moves back, from the names from `x` on to lower ones
-pub carries-back : (ks : List Kind) (ds : List Datum) (x t : ℕ) (s : State) → t + value_args ks ≤ x → Carries ks ds x s → Carries ks ds t (moved t (numbers_from x (value_args ks)) s)
+pub carries-back : (ks : List Kind) (ds : List Datum) (x t : ℕ) (s : State) → t + value_args ks ≤ x → Carries ks ds x s →
+    Carries ks ds t (moved t (numbers_from x (value_args ks)) s)
 carries-back [] [] x t s apart h = tt
 carries-back (ValueKind ∷ ks) (d ∷ ds) x t s apart h =
     let low : t < suc x = omega (arith, apart) in
@@ -200,12 +202,14 @@ carries-tied (Io ∷ ks) (d ∷ ds) x s h zero e = absurd cc
 carries-tied (ValueKind ∷ ks) (d ∷ ds) x s h (suc p) e =
     let t = carries-tied ks ds (suc x) s h.1 p e in
     let same : suc x + value_args (take p ks) ≡ x + suc (value_args (take p ks)) = omega arith in
-    tied-wider (suc x) (suc x + value_args ks) x (x + suc (value_args ks)) (at_port ds p) (suc x + value_args (take p ks)) (x + suc (value_args (take p ks))) s (omega arith) (omega arith) same t
+    tied-wider (suc x) (suc x + value_args ks) x (x + suc (value_args ks)) (at_port ds p) (suc x + value_args (take p ks)) (x + suc (value_args (take p ks))) s
+    (omega arith) (omega arith) same t
 carries-tied (Memory ∷ ks) (d ∷ ds) x s h (suc p) e = carries-tied ks ds x s h.1 p e
 carries-tied (Io ∷ ks) (d ∷ ds) x s h (suc p) e = carries-tied ks ds x s h.1 p e
 carries-tied _ _ x s h p e = absurd h
 
-pub carries-state : (k : Kind) → IsState k → (ks : List Kind) (ds : List Datum) (x : ℕ) (s : State) → Carries ks ds x s → (p : ℕ) → slice_get ks p ≡ Some k → at_port ds p ≡ state_datum k s
+pub carries-state : (k : Kind) → IsState k → (ks : List Kind) (ds : List Datum) (x : ℕ) (s : State) → Carries ks ds x s → (p : ℕ) → slice_get ks p ≡ Some k →
+    at_port ds p ≡ state_datum k s
 carries-state k state [] [] x s h p e = absurd cc
 carries-state k state (ValueKind ∷ ks) (d ∷ ds) x s h zero e = let same : k ≡ ValueKind = cc in absurd (subst IsState same state)
 carries-state k state (Memory ∷ ks) (d ∷ ds) x s h zero e = let same : Memory ≡ k = cc in subst (λ j. d ≡ state_datum j s) same h.0
@@ -234,7 +238,8 @@ held-tied first next (Memory ∷ ks) (d ∷ ds) (x ∷ xs) s h (suc p) e = held-
 held-tied first next (Io ∷ ks) (d ∷ ds) (x ∷ xs) s h (suc p) e = held-tied first next ks ds xs s h.1 p e
 held-tied first next _ _ _ s h p e = absurd h
 
-pub held-state : (k : Kind) → IsState k → (first next : ℕ) (ks : List Kind) (ds : List Datum) (xs : List ℕ) (s : State) → Held first next ks ds xs s → (p : ℕ) → slice_get ks p ≡ Some k →
+pub held-state : (k : Kind) → IsState k → (first next : ℕ) (ks : List Kind) (ds : List Datum) (xs : List ℕ) (s : State) → Held first next ks ds xs s → (p : ℕ) →
+    slice_get ks p ≡ Some k →
     at_port ds p ≡ state_datum k s
 held-state k state first next [] [] [] s h p e = absurd cc
 held-state k state first next (ValueKind ∷ ks) (d ∷ ds) (x ∷ xs) s h zero e = let same : k ≡ ValueKind = cc in absurd (subst IsState same state)

@@ -43,7 +43,8 @@ abbrev pub KnownClaim : RegionTree → Type 1
 KnownClaim (region args nodes results) =
     (base : ℕ) (E : NameSet) → OriginsKnown args base no_names no_nodes E →
     CodeIsClosed E (nodes_code args base no_names (base + value_args args) nodes no_steps)
-    × OriginsKnown args base (nodes_named nodes (base + value_args args) no_names) nodes (after_code E (nodes_code args base no_names (base + value_args args) nodes no_steps))
+    × OriginsKnown args base (nodes_named nodes (base + value_args args) no_names) nodes
+    (after_code E (nodes_code args base no_names (base + value_args args) nodes no_steps))
 
 -- ---- origins
 
@@ -51,7 +52,8 @@ pub arguments-known : (args : List Kind) (base : ℕ) (E : NameSet) → ((k : �
 arguments-known args base E h (Arg p) e = h (value_args (take p args)) (subst (λ m. m < value_args args) (take-values args p) (value-place args p e))
 arguments-known args base E h (Out n p) e = absurd cc
 
-pub list-known : (args : List Kind) (base : ℕ) (names : Names) (earlier : NodeTrees) (D : NameSet) → OriginsKnown args base names earlier D → (origins : List Origin) (ks : List Kind) →
+pub list-known : (args : List Kind) (base : ℕ) (names : Names) (earlier : NodeTrees) (D : NameSet) → OriginsKnown args base names earlier D →
+    (origins : List Origin) (ks : List Kind) →
     map (known args earlier) origins ≡ map Some ks → AreKnown D ks (map (name_of args base names) origins)
 list-known args base names earlier D h [] [] e = tt
 list-known args base names earlier D h [] (k ∷ ks) e = absurd cc
@@ -68,7 +70,8 @@ list-known args base names earlier D h (a ∷ origins) (Io ∷ ks) e =
     list-known args base names earlier D h origins ks rest
 
 -- one more node
-pub known-more : (args : List Kind) (base : ℕ) (names : Names) (before : List NodeTree) (D : NameSet) → OriginsKnown args base names (nodes_of before) D → (next : ℕ) (x : NodeTree) →
+pub known-more : (args : List Kind) (base : ℕ) (names : Names) (before : List NodeTree) (D : NameSet) → OriginsKnown args base names (nodes_of before) D →
+    (next : ℕ) (x : NodeTree) →
     Grows D (after_step D (node_step args base names next x)) → NodeWrites D args base names next x →
     OriginsKnown args base (named x next names) (nodes_of (before ++ x ∷ [])) (after_step D (node_step args base names next x))
 known-more args base names before D h next (node id op inputs rs) grows w = from
@@ -95,7 +98,8 @@ known-more args base names before D h next (node id op inputs rs) grows w = from
 -- ---- ops without regions
 
 module _ (D : NameSet) (next : ℕ) where
-  one-value : (i : Instr) → target_of i ≡ Some next → AreIn D (sources_of i) → (own : List Kind) → value_args own ≡ 1 → StepWrites D (plain i) (outputs_at next no_regions) (map Some own)
+  one-value : (i : Instr) → target_of i ≡ Some next → AreIn D (sources_of i) → (own : List Kind) → value_args own ≡ 1 →
+      StepWrites D (plain i) (outputs_at next no_regions) (map Some own)
   one-value i target h own one =
       record {
         own = own;
@@ -112,7 +116,8 @@ module _ (args : List Kind) (base : ℕ) (names : Names) (earlier : NodeTrees) (
   inputs-known : (inputs : List Origin) (ks : List Kind) → are (map (known args earlier) inputs) ks ≡ true → AreKnown D ks (map (name_of args base names) inputs)
   inputs-known inputs ks fit = list-known args base names earlier D h inputs ks (are_kinds (map (known args earlier) inputs) ks fit)
 
-  at : (inputs : List Origin) (ks : List Kind) → are (map (known args earlier) inputs) ks ≡ true → (p : ℕ) → slice_get ks p ≡ Some Value → D (name_at (map (name_of args base names) inputs) p)
+  at : (inputs : List Origin) (ks : List Kind) → are (map (known args earlier) inputs) ks ≡ true → (p : ℕ) → slice_get ks p ≡ Some Value →
+      D (name_at (map (name_of args base names) inputs) p)
   at inputs ks fit p e = known-at D ks (map (name_of args base names) inputs) (inputs-known inputs ks fit) p e
 
   pub op-writes : (id : ℕ) (op : Op) (inputs : List Origin) (rs : RegionTrees) → is_simple op ≡ true → NodeTests args earlier (node id op inputs rs) →
@@ -150,11 +155,13 @@ module _ (args : List Kind) (base : ℕ) (names : Names) (earlier : NodeTrees) (
 
 -- ---- a branch of a choice
 
-pub branch-writes : (D : NameSet) (r : RegionTree) → KnownClaim r → (gives : List Kind) → result_kinds r ≡ map Some gives → (out base : ℕ) (entries : List ℕ) → AreKnown D (args_of r) entries →
+pub branch-writes : (D : NameSet) (r : RegionTree) → KnownClaim r → (gives : List Kind) → result_kinds r ≡ map Some gives → (out base : ℕ) (entries : List ℕ) →
+    AreKnown D (args_of r) entries →
     CodeIsClosed D (branch_code entries out base r) × ((k : ℕ) → k < value_args gives → after_code D (branch_code entries out base r) (out + k))
 branch-writes D (region args nodes results) claim gives kinds out base entries h = (
   instrs-then-closed D (moves base moved) body (moves-closed D base moved entered.0)
-      (nodes-then-closed E args base no_names (base + value_args args) nodes ends inside.0 (instrs-then-closed F (moves out exits) no_steps (moves-closed F out exits left.0) tt)),
+      (nodes-then-closed E args base no_names (base + value_args args) nodes ends inside.0
+      (instrs-then-closed F (moves out exits) no_steps (moves-closed F out exits left.0) tt)),
   λ k low.
       instrs-then-after D (moves base moved) body (out + k)
       (nodes-then-after E args base no_names (base + value_args args) nodes ends (out + k)
@@ -197,7 +204,8 @@ branch-writes D (region args nodes results) claim gives kinds out base entries h
 
 -- ---- a loop
 
-pub loop-writes : (D : NameSet) (r : RegionTree) → KnownClaim r → result_kinds r ≡ map Some (Value ∷ args_of r) → (next : ℕ) (entries : List ℕ) → AreKnown D (args_of r) entries →
+pub loop-writes : (D : NameSet) (r : RegionTree) → KnownClaim r → result_kinds r ≡ map Some (Value ∷ args_of r) → (next : ℕ) (entries : List ℕ) →
+    AreKnown D (args_of r) entries →
     StepWrites D (loop_step entries next r) (outputs_at next (region_then r no_regions)) (map Some (args_of r))
 loop-writes D (region args nodes []) claim kinds next entries h = absurd cc
 loop-writes D (region args nodes (predicate ∷ results)) claim kinds next entries h =
@@ -206,9 +214,11 @@ loop-writes D (region args nodes (predicate ∷ results)) claim kinds next entri
       are = refl;
       reads = (
         moves-closed D next moved entered.0,
-        nodes-then-closed E args next no_names (next + value_args args) nodes ends inside.0 (instrs-then-closed F (moves top exits) no_steps (moves-closed F top exits left.0) tt),
+        nodes-then-closed E args next no_names (next + value_args args) nodes ends inside.0
+            (instrs-then-closed F (moves top exits) no_steps (moves-closed F top exits left.0) tt),
         nodes-then-after E args next no_names (next + value_args args) nodes ends (name_of args next all predicate)
-            (instrs-then-after F (moves top exits) no_steps (name_of args next all predicate) (instrs-grow F (moves top exits) (name_of args next all predicate) known-all.0)),
+            (instrs-then-after F (moves top exits) no_steps (name_of args next all predicate)
+            (instrs-grow F (moves top exits) (name_of args next all predicate) known-all.0)),
         moves-closed (after_code E body) next (numbers_from top (value_args args)) (numbers-in (after_code E body) top (value_args args) written),
         same-targets next (numbers_from top (value_args args)) moved (length_numbers top (value_args args) ∙ sym entered.1),
       );

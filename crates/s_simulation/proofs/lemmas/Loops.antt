@@ -33,8 +33,10 @@ module _ (n : ℕ) (call : ℕ → Meaning) (callees : ℕ → Call) (addresses 
   d = code_context n callees addresses
 
   -- the loop of a region whose names begin at `next`, entered in a state
-  module _ (objects : ℕ) (args : List Kind) (nodes : NodeTrees) (predicate : Origin) (results : List Origin) (claim : RegionClaim c d (region args nodes (predicate ∷ results)))
-      (fits : region_fits objects (region args nodes (predicate ∷ results)) ≡ true) (kinds : result_kinds (region args nodes (predicate ∷ results)) ≡ map Some (ValueKind ∷ args)) (next : ℕ)
+  module _ (objects : ℕ) (args : List Kind) (nodes : NodeTrees) (predicate : Origin) (results : List Origin)
+      (claim : RegionClaim c d (region args nodes (predicate ∷ results)))
+      (fits : region_fits objects (region args nodes (predicate ∷ results)) ≡ true)
+      (kinds : result_kinds (region args nodes (predicate ∷ results)) ≡ map Some (ValueKind ∷ args)) (next : ℕ)
       (start : State) where
     abbrev r : RegionTree
     r = region args nodes (predicate ∷ results)
@@ -72,10 +74,12 @@ module _ (n : ℕ) (call : ℕ → Meaning) (callees : ℕ → Call) (addresses 
     body-agrees : (xs : List Datum) (s : State) → Carries args xs next s → Kept s → Agrees TurnDone (region_meaning c r xs) (code_run d body s)
     body-agrees xs s h k =
         rw (nodes-then d args next no_names (next + value_args args) nodes ends s)
-        (agrees-then (Running args next xs s nodes all top) TurnDone (nodes_run c nodes xs no_outputs) (code_run d (nodes_code args next no_names (next + value_args args) nodes no_steps) s)
+        (agrees-then (Running args next xs s nodes all top) TurnDone (nodes_run c nodes xs no_outputs)
+        (code_run d (nodes_code args next no_names (next + value_args args) nodes no_steps) s)
         (λ o. Returned (map (read xs o) (predicate ∷ results)) []) (code_run d ends) (claim next xs s h) after)
       where
-        after : (o : Outputs) (t : State) → Running args next xs s nodes all top o t → Agrees TurnDone (Returned (map (read xs o) (predicate ∷ results)) []) (code_run d ends t)
+        after : (o : Outputs) (t : State) → Running args next xs s nodes all top o t →
+            Agrees TurnDone (Returned (map (read xs o) (predicate ∷ results)) []) (code_run d ends t)
         after o t run =
             let tests = region-tests objects r fits in
             let all-held = held args next xs s nodes all top o t run (predicate ∷ results) (ValueKind ∷ args) kinds tests.last in
@@ -107,14 +111,17 @@ module _ (n : ℕ) (call : ℕ → Meaning) (callees : ℕ → Call) (addresses 
     TurnsAgree m = (xs : List Datum) (s : State) → Carries args xs next s → Kept s → Agrees LoopDone (graph.turns m (region_meaning c r) xs) (code_turns m s)
 
     again-agrees : (m : ℕ) → TurnsAgree m → (ys : List Datum) (t : State) → TurnDone ys t →
-        Agrees LoopDone (graph.again (graph.turns m (region_meaning c r)) ys) (on_number (t.names p) (λ w. cond (w == 0) (Returned t []) (then_on (back t) (code_turns m))))
+        Agrees LoopDone (graph.again (graph.turns m (region_meaning c r)) ys)
+        (on_number (t.names p) (λ w. cond (w == 0) (Returned t []) (then_on (back t) (code_turns m))))
     again-agrees m turns-agree ys t done =
-        subst (λ us. Agrees LoopDone (graph.again (graph.turns m (region_meaning c r)) us) (on_number (t.names p) (λ w. cond (w == 0) (Returned t []) (then_on (back t) (code_turns m)))))
+        subst (λ us. Agrees LoopDone (graph.again (graph.turns m (region_meaning c r)) us)
+        (on_number (t.names p) (λ w. cond (w == 0) (Returned t []) (then_on (back t) (code_turns m)))))
         (sym done.is)
         (agrees-number LoopDone (value_of done.test) (t.names p) done.less _ _ (λ w. by (w == 0)))
       where
         by : (test : Bool) →
-            Agrees LoopDone (cond test (Returned done.rest []) (graph.turns m (region_meaning c r) done.rest)) (cond test (Returned t []) (then_on (back t) (code_turns m)))
+            Agrees LoopDone (cond test (Returned done.rest []) (graph.turns m (region_meaning c r) done.rest))
+            (cond test (Returned t []) (then_on (back t) (code_turns m)))
         by true = ((done.carries, done.keeps), refl)
         by false =
             rw (moves-run d next (numbers_from top (value_args args)) t)
@@ -128,14 +135,18 @@ module _ (n : ℕ) (call : ℕ → Meaning) (callees : ℕ → Call) (addresses 
         (λ t. on_number (t.names p) (λ w. cond (w == 0) (Returned t []) (then_on (back t) (code_turns m)))) (body-agrees xs s h k) (again-agrees m (turns-agree m))
 
   pub loop-agrees : (objects : ℕ) (r : RegionTree) → RegionClaim c d r → region_fits objects r ≡ true → result_kinds r ≡ map Some (ValueKind ∷ args_of r) →
-      ((k : Kind) → IsState k → some_of (is_of k) (map Some (args_of r)) ≡ true) → (first next : ℕ) (entries : List ℕ) (xs : List Datum) (s : State) → Held first next (args_of r) xs entries s →
-      Agrees (NodeDone next (outputs_at next (region_then r no_regions)) (map Some (args_of r)) s) (graph.turns n (region_meaning c r) xs) (step_run d (loop_step entries next r) s)
+      ((k : Kind) → IsState k → some_of (is_of k) (map Some (args_of r)) ≡ true) → (first next : ℕ) (entries : List ℕ) (xs : List Datum) (s : State) →
+      Held first next (args_of r) xs entries s →
+      Agrees (NodeDone next (outputs_at next (region_then r no_regions)) (map Some (args_of r)) s) (graph.turns n (region_meaning c r) xs)
+      (step_run d (loop_step entries next r) s)
   loop-agrees objects (region args nodes []) claim fits kinds both first next entries xs s h = absurd cc
   loop-agrees objects (region args nodes (predicate ∷ results)) claim fits kinds both first next entries xs s h =
       rw (moves-run d next (kept (map Some args) entries) s)
-      (agrees-change (LoopDone objects args nodes predicate results claim fits kinds next s) (NodeDone next (outputs_at next (region_then r' no_regions)) (map Some args) s)
+      (agrees-change (LoopDone objects args nodes predicate results claim fits kinds next s)
+      (NodeDone next (outputs_at next (region_then r' no_regions)) (map Some args) s)
       (graph.turns n (region_meaning c r') xs) _ done
-      (turns-agree objects args nodes predicate results claim fits kinds next s n xs (moved next (kept (map Some args) entries) s) (moves-carry first next args xs entries next s (inr (omega arith)) h)
+      (turns-agree objects args nodes predicate results claim fits kinds next s n xs (moved next (kept (map Some args) entries) s)
+      (moves-carry first next args xs entries next s (inr (omega arith)) h)
       (λ y below. moved-below next (kept (map Some args) entries) s y below)))
     where
       r' : RegionTree

@@ -37,11 +37,13 @@ use Rattle.s_simulation.proofs.lemmas.Claims.{graph_context, code_context, StepD
 abbrev pub AtMostOnce : List ℕ → Type 0
 AtMostOnce ids = (m : ℕ) → times m ids ≤ 1
 
-pub times-more : (m : ℕ) (before : List NodeTree) (x : NodeTree) → times m (nodes_ids (nodes_of (before ++ x ∷ []))) ≡ times m (nodes_ids (nodes_of before)) + times m (node_ids x)
+pub times-more : (m : ℕ) (before : List NodeTree) (x : NodeTree) →
+    times m (nodes_ids (nodes_of (before ++ x ∷ []))) ≡ times m (nodes_ids (nodes_of before)) + times m (node_ids x)
 times-more m before x =
     let whole : nodes_ids (nodes_of (before ++ x ∷ [])) ≡ nodes_ids (nodes_of before) ++ (node_ids x ++ []) =
     ap nodes_ids (nodes_of-append before (x ∷ [])) ∙ nodes_ids-joined (nodes_of before) (node_then x no_nodes) in
-    ap (times m) whole ∙ times_append m (nodes_ids (nodes_of before)) (node_ids x ++ []) ∙ ap (λ k. times m (nodes_ids (nodes_of before)) + k) (times_append m (node_ids x) [] ∙ omega arith)
+    ap (times m) whole ∙ times_append m (nodes_ids (nodes_of before)) (node_ids x ++ [])
+    ∙ ap (λ k. times m (nodes_ids (nodes_of before)) + k) (times_append m (node_ids x) [] ∙ omega arith)
 
 pub not-before : (before : List NodeTree) (x : NodeTree) (ns : NodeTrees) → ((m : ℕ) → times m (nodes_ids (nodes_of before)) + times m (node_ids x ++ nodes_ids ns) ≤ 1) →
     has_node (id_of x) (nodes_of before) ≡ false
@@ -59,7 +61,8 @@ not-before before x ns once = by (has_node (id_of x) (nodes_of before)) refl
 -- ---- names
 
 pub advance : (args : List Kind) (base : ℕ) (xs : List Datum) (start : State) (before : List NodeTree) (names : Names) (next : ℕ) (o : Outputs) (s : State) →
-    Running args base xs start (nodes_of before) names next o s → (x : NodeTree) → has_node (id_of x) (nodes_of before) ≡ false → (ys : List Datum) (t : State) → StepDone x next s ys t →
+    Running args base xs start (nodes_of before) names next o s → (x : NodeTree) → has_node (id_of x) (nodes_of before) ≡ false → (ys : List Datum) (t : State) →
+    StepDone x next s ys t →
     Running args base xs start (nodes_of (before ++ x ∷ [])) (named x next names) (next + node_names x) (extended o (id_of x) ys) t
 advance args base xs start before names next o s run (node id op inputs rs) fresh ys t done =
     let low = standing_names rs in
@@ -67,7 +70,8 @@ advance args base xs start before names next o s run (node id op inputs rs) fres
 
 -- ---- the states of a loop
 
-pub theta-states : (ks : List Kind) → (some_of (same_kind Memory) ks && some_of (same_kind Io) ks) ≡ true → (k : Kind) → IsState k → some_of (is_of k) (map Some ks) ≡ true
+pub theta-states : (ks : List Kind) → (some_of (same_kind Memory) ks && some_of (same_kind Io) ks) ≡ true → (k : Kind) → IsState k →
+    some_of (is_of k) (map Some ks) ≡ true
 theta-states ks t ValueKind state = absurd state
 theta-states ks t Memory state = theta-gives Memory ks (and_parts (some_of (same_kind Memory) ks) (some_of (same_kind Io) ks) t).0
 theta-states ks t Io state = theta-gives Io ks (and_parts (some_of (same_kind Memory) ks) (some_of (same_kind Io) ks) t).1
@@ -97,19 +101,26 @@ module _ (objects n : ℕ) (call : ℕ → Meaning) (callees : ℕ → Call) (ad
 
     -- a node without regions has its outputs where its names begin
     at-next : (id : ℕ) (op : Op) (inputs : List Origin) (kinds : List (Option Kind)) →
-        Agrees (NodeDone next next kinds s) (node_run c (node id op inputs no_regions) xs o) (step_run d (node_step args base names next (node id op inputs no_regions)) s) →
-        Agrees (NodeDone next (outputs_at next no_regions) kinds s) (node_run c (node id op inputs no_regions) xs o) (step_run d (node_step args base names next (node id op inputs no_regions)) s)
+        Agrees (NodeDone next next kinds s) (node_run c (node id op inputs no_regions) xs o)
+        (step_run d (node_step args base names next (node id op inputs no_regions)) s) →
+        Agrees (NodeDone next (outputs_at next no_regions) kinds s) (node_run c (node id op inputs no_regions) xs o)
+        (step_run d (node_step args base names next (node id op inputs no_regions)) s)
     at-next id op inputs kinds h =
         let same : next ≡ next + 0 = omega arith in
-        subst (λ at. Agrees (NodeDone next at kinds s) (node_run c (node id op inputs no_regions) xs o) (step_run d (node_step args base names next (node id op inputs no_regions)) s)) same h
+        subst (λ at. Agrees (NodeDone next at kinds s) (node_run c (node id op inputs no_regions) xs o)
+        (step_run d (node_step args base names next (node id op inputs no_regions)) s)) same h
 
-    pub op-agrees : (id : ℕ) (op : Op) (inputs : List Origin) (rs : RegionTrees) → is_simple op ≡ true → NodeTests args earlier (node id op inputs rs) → StepAgrees (node id op inputs rs)
+    pub op-agrees : (id : ℕ) (op : Op) (inputs : List Origin) (rs : RegionTrees) → is_simple op ≡ true → NodeTests args earlier (node id op inputs rs) →
+        StepAgrees (node id op inputs rs)
     op-agrees id Gamma inputs rs simple t = absurd cc
     op-agrees id Theta inputs rs simple t = absurd cc
-    op-agrees id (Const w) inputs no_regions simple t = at-next id (Const w) inputs (Some ValueKind ∷ []) (constant-agrees n callees addresses base next s (Num (w % 2 ^ 32)))
+    op-agrees id (Const w) inputs no_regions simple t =
+        at-next id (Const w) inputs (Some ValueKind ∷ []) (constant-agrees n callees addresses base next s (Num (w % 2 ^ 32)))
     op-agrees id Undef inputs no_regions simple t = at-next id Undef inputs (Some ValueKind ∷ []) (constant-agrees n callees addresses base next s Bad)
-    op-agrees id (Local k) inputs no_regions simple t = at-next id (Local k) inputs (Some ValueKind ∷ []) (constant-agrees n callees addresses base next s (addresses.local k))
-    op-agrees id (Delta k) inputs no_regions simple t = at-next id (Delta k) inputs (Some ValueKind ∷ []) (constant-agrees n callees addresses base next s (addresses.global k))
+    op-agrees id (Local k) inputs no_regions simple t =
+        at-next id (Local k) inputs (Some ValueKind ∷ []) (constant-agrees n callees addresses base next s (addresses.local k))
+    op-agrees id (Delta k) inputs no_regions simple t =
+        at-next id (Delta k) inputs (Some ValueKind ∷ []) (constant-agrees n callees addresses base next s (addresses.global k))
     op-agrees id (Bin op) inputs no_regions simple t =
         at-next id (Bin op) inputs (Some ValueKind ∷ []) (binary-agrees n callees addresses base next s op (map (read xs o) inputs) (map (name_of args base names) inputs)
         (inputs-held inputs t.last (ValueKind ∷ ValueKind ∷ []) t.inputs))
@@ -154,5 +165,6 @@ module _ (objects n : ℕ) (call : ℕ → Meaning) (callees : ℕ → Call) (ad
         let both = inputs-held (p ∷ entries) t.last (ValueKind ∷ args_of r) t.inputs in
         let less = tied-less base next (read xs o p) (name_of args base names p) s both.0 in
         let agreed = all (map (name_of args base names) entries) (map (read xs o) entries) both.1 in
-        chosen-by-agree (NodeDone next (outputs_at next (region_then r rs)) (result_kinds r) s) (map (read xs o) entries) s (value_of (read xs o p)) (name_of args base names p) less
+        chosen-by-agree (NodeDone next (outputs_at next (region_then r rs)) (result_kinds r) s) (map (read xs o) entries) s (value_of (read xs o p))
+        (name_of args base names p) less
         (meanings c (region_then r rs)) _ agreed

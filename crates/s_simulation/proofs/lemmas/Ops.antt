@@ -73,7 +73,8 @@ read-done next s v w i less =
       states = by;
     }
   where
-    by : (k : Kind) → IsState k → some_of (is_of k) (Some ValueKind ∷ Some Io ∷ []) ≡ false → state_datum k (record { names = written s.names next w; memory = s.memory; input = i }) ≡ state_datum k s
+    by : (k : Kind) → IsState k → some_of (is_of k) (Some ValueKind ∷ Some Io ∷ []) ≡ false →
+        state_datum k (record { names = written s.names next w; memory = s.memory; input = i }) ≡ state_datum k s
     by ValueKind state e = absurd state
     by Memory state e = refl
     by Io state e = absurd cc
@@ -108,7 +109,8 @@ store-bad width Bad m = refl
 store-bad width (At b o) m = nothing-kept _ (takes_store width o (block_named b m))
 
 module _ {A B : Type 0} (R : A → B → Type 0) where
-  load-agrees : (width : ℕ) (m : Blocks) (v w : Value) → IsLessDefined v w → (next : Value → Answer A) (next' : Value → Answer B) → ((x : Value) → Agrees R (next x) (next' x)) →
+  load-agrees : (width : ℕ) (m : Blocks) (v w : Value) → IsLessDefined v w → (next : Value → Answer A) (next' : Value → Answer B) →
+      ((x : Value) → Agrees R (next x) (next' x)) →
       Agrees R (on_defined (load width v m) next) (on_defined (load width w m) next')
   load-agrees width m v w (inl e) next next' go = rw e (agrees-defined R (load width w m) next next' go)
   load-agrees width m v w (inr e) next next' go = rw e tt
@@ -119,7 +121,8 @@ module _ {A B : Type 0} (R : A → B → Type 0) where
   store-agrees width m v w v' w' (inl e) (inr d) next next' go = rw (d, store-bad width v m) tt
   store-agrees width m v w v' w' (inr e) d next next' go = rw e tt
 
-  pointers-agree : (m : Blocks) (v w v' w' : Value) → IsLessDefined v w → IsLessDefined v' w' → (next : ℕ → Answer A) (next' : ℕ → Answer B) → ((x : ℕ) → Agrees R (next x) (next' x)) →
+  pointers-agree : (m : Blocks) (v w v' w' : Value) → IsLessDefined v w → IsLessDefined v' w' → (next : ℕ → Answer A) (next' : ℕ → Answer B) →
+      ((x : ℕ) → Agrees R (next x) (next' x)) →
       Agrees R (on_defined (pointers_equal v v' m) next) (on_defined (pointers_equal w w' m) next')
   pointers-agree m v w v' w' (inl e) (inl d) next next' go = rw (e, d) (agrees-defined R (pointers_equal w w' m) next next' go)
   pointers-agree m v w v' w' (inl e) (inr d) next next' go = rw d (by v)
@@ -179,7 +182,8 @@ module _ (n : ℕ) (callees : ℕ → Call) (addresses : Addresses) (first next 
       Agrees (Done (Some ValueKind ∷ [])) (done addresses (Load width) us) (instr_run around (op_instr (Load width) next xs) s)
   load-op-agrees width us xs h =
       rw (memory-at (ValueKind ∷ Memory ∷ []) us xs h 1 refl)
-      (load-agrees (Done (Some ValueKind ∷ [])) width s.memory (value_at us 0) (s.names (name_at xs 0)) (less-at (ValueKind ∷ Memory ∷ []) us xs h 0 refl) given (gives s next)
+      (load-agrees (Done (Some ValueKind ∷ [])) width s.memory (value_at us 0) (s.names (name_at xs 0)) (less-at (ValueKind ∷ Memory ∷ []) us xs h 0 refl)
+      given (gives s next)
       (λ v. (given-done next s v v (inl refl), refl)))
 
   pub store-op-agrees : (width : ℕ) (us : List Datum) (xs : List ℕ) → Held first next (ValueKind ∷ ValueKind ∷ Memory ∷ []) us xs s →
@@ -218,7 +222,8 @@ module _ (n : ℕ) (callees : ℕ → Call) (addresses : Addresses) (first next 
   got-agrees : (i : List ℕ) → s.input ≡ i → Agrees (Done (Some ValueKind ∷ Some Io ∷ [])) (graph.got i) (linear.got s next i)
   got-agrees [] e = (
     subst (λ j. NodeDone next next (Some ValueKind ∷ Some Io ∷ []) s (val (Num (2 ^ 32 - 1)) ∷ input [] ∷ [])
-        (record { names = written s.names next (Num (2 ^ 32 - 1)); memory = s.memory; input = j })) (sym e) (read-done next s (Num (2 ^ 32 - 1)) (Num (2 ^ 32 - 1)) [] (inl refl)),
+        (record { names = written s.names next (Num (2 ^ 32 - 1)); memory = s.memory; input = j })) (sym e)
+        (read-done next s (Num (2 ^ 32 - 1)) (Num (2 ^ 32 - 1)) [] (inl refl)),
     refl,
   )
   got-agrees (b ∷ i) e = (read-done next s (Num b) (Num b) i (inl refl), refl)
@@ -281,7 +286,8 @@ module _ (n : ℕ) (callees : ℕ → Call) (addresses : Addresses) (first next 
       let ws = map s.names (without_states xs) in
       rw t.is (subst (λ a. Agrees (Done (Some ValueKind ∷ Some Memory ∷ Some Io ∷ [])) a (then_on (callees f ws s.memory s.input) (back_from s next)))
       (then_nothing (call f (taken t.values s.memory s.input)))
-      (agrees-then GivesBack (Done (Some ValueKind ∷ Some Memory ∷ Some Io ∷ [])) (call f (taken t.values s.memory s.input)) (callees f ws s.memory s.input) (λ ys. Returned ys [])
+      (agrees-then GivesBack (Done (Some ValueKind ∷ Some Memory ∷ Some Io ∷ [])) (call f (taken t.values s.memory s.input)) (callees f ws s.memory s.input)
+      (λ ys. Returned ys [])
       (back_from s next) (agree f t.values ws t.less s.memory s.input) back))
     where
       back : (ys : List Datum) (g : Given Value) → GivesBack ys g → Agrees (Done (Some ValueKind ∷ Some Memory ∷ Some Io ∷ [])) (Returned ys []) (back_from s next g)

@@ -50,10 +50,12 @@ module _ (objects n : ℕ) (call : ℕ → Meaning) (callees : ℕ → Call) (ad
     region-agrees (region args nodes results) t once = λ base xs s h.
         let p = and_parts (region_fits objects (region args nodes results)) (every_in_nodes (region_fits objects) nodes) t in
         let tests = region-tests objects (region args nodes results) p.0 in
-        nodes-agree args base xs s [] nodes tests.nodes p.1 (λ m. let one = once m in omega (arith, one)) nodes refl no_names (base + value_args args) (base + value_args args + nodes_names nodes) refl
+        nodes-agree args base xs s [] nodes tests.nodes p.1 (λ m. let one = once m in
+        omega (arith, one)) nodes refl no_names (base + value_args args) (base + value_args args + nodes_names nodes) refl
         no_outputs s (started args base xs s h)
 
-    nodes-agree : (args : List Kind) (base : ℕ) (xs : List Datum) (start : State) (before : List NodeTree) (ns : NodeTrees) → each_node (node_fits objects args) before ns ≡ true →
+    nodes-agree : (args : List Kind) (base : ℕ) (xs : List Datum) (start : State) (before : List NodeTree) (ns : NodeTrees) →
+        each_node (node_fits objects args) before ns ≡ true →
         every_in_nodes (region_fits objects) ns ≡ true → ((m : ℕ) → times m (nodes_ids (nodes_of before)) + times m (nodes_ids ns) ≤ 1) → (whole : NodeTrees) →
         joined_nodes (nodes_of before) ns ≡ whole → (names : Names) (next last : ℕ) → next + nodes_names ns ≡ last → (o : Outputs) (s : State) →
         Running args base xs start (nodes_of before) names next o s →
@@ -74,16 +76,19 @@ module _ (objects n : ℕ) (call : ℕ → Meaning) (callees : ℕ → Call) (ad
         (λ m. let one = once m in let sum = times_append m (node_ids x) (nodes_ids ns) in omega (arith, one, sum)))
         (λ ys u done. nodes-agree args base xs start (before ++ x ∷ []) ns p.1 q.1
         (λ m. let one = once m in let sum = times_append m (node_ids x) (nodes_ids ns) in let more = times-more m before x in omega (arith, one, sum, more)) whole
-        (joined_following before x ns ∙ e) (named x next names) (next + node_names x) last end (extended o (id_of x) ys) u (advance args base xs start before names next o s run x fresh ys u done))
+        (joined_following before x ns ∙ e) (named x next names) (next + node_names x) last end (extended o (id_of x) ys) u
+        (advance args base xs start before names next o s run x fresh ys u done))
 
     node-agrees : (args : List Kind) (base : ℕ) (xs : List Datum) (start : State) (earlier : NodeTrees) (names : Names) (next : ℕ) (o : Outputs) (s : State) →
-        (run : Running args base xs start earlier names next o s) → (x : NodeTree) → NodeTests args earlier x → every_in_node (region_fits objects) x ≡ true → AtMostOnce (node_ids x) →
+        (run : Running args base xs start earlier names next o s) → (x : NodeTree) → NodeTests args earlier x → every_in_node (region_fits objects) x ≡ true →
+        AtMostOnce (node_ids x) →
         Agrees (StepDone x next s) (node_run c x xs o) (step_run d (node_step args base names next x) s)
     node-agrees args base xs start earlier names next o s run (node id Gamma inputs no_regions) t nested once = let h = t.has in absurd cc
     node-agrees args base xs start earlier names next o s run (node id Gamma inputs (region_then r rs)) t nested once =
         let ks = result_kinds r in
         let own = are_kinds ks (kinds_of ks) (and_parts (same (args_of r) (args_of r)) (are ks (kinds_of ks))
-        (and_parts (same (args_of r) (args_of r) && are ks (kinds_of ks)) (all_regions (λ q. same (args_of q) (args_of r) && are (result_kinds q) (kinds_of ks)) rs) t.regions).0).1 in
+        (and_parts (same (args_of r) (args_of r) && are ks (kinds_of ks)) (all_regions (λ q. same (args_of q) (args_of r) && are (result_kinds q) (kinds_of ks)) rs)
+        t.regions).0).1 in
         gamma-agrees objects n call callees addresses agree args base xs start earlier names next o s run id inputs r rs t
         (λ entries us h.
         subst (λ js. AllAgree (NodeDone next (outputs_at next (region_then r rs)) js s) us s (meanings c (region_then r rs))
@@ -104,13 +109,15 @@ module _ (objects n : ℕ) (call : ℕ → Meaning) (callees : ℕ → Call) (ad
         let sum = times_cons m id (region_ids r ++ []) in
         let more = times_append m (region_ids r) [] in
         omega (arith, one, sum, more))) (every-here (region_fits objects) r here.0)
-        (are_kinds (result_kinds r) (ValueKind ∷ args_of r) kinds.0) (theta-states (args_of r) both.0) base next (map (name_of args base names) inputs) (map (read xs o) inputs) s all-held
+        (are_kinds (result_kinds r) (ValueKind ∷ args_of r) kinds.0) (theta-states (args_of r) both.0) base next (map (name_of args base names) inputs)
+        (map (read xs o) inputs) s all-held
     node-agrees args base xs start earlier names next o s run (node id op inputs rs) t nested once =
         op-agrees objects n call callees addresses agree args base xs start earlier names next o s run id op inputs rs refl t
 
     regions-agree : (first next out : ℕ) (takes gives : List Kind) (s : State) (entries : List ℕ) (us : List Datum) → Held first next takes us entries s →
         next ≤ out → (rs : RegionTrees) (bs : List ℕ) →
-        AllFit next out (value_args gives) bs rs → all_regions (λ r. same (args_of r) takes && are (result_kinds r) gives) rs ≡ true → every_in_regions (region_fits objects) rs ≡ true →
+        AllFit next out (value_args gives) bs rs → all_regions (λ r. same (args_of r) takes && are (result_kinds r) gives) rs ≡ true →
+        every_in_regions (region_fits objects) rs ≡ true →
         AtMostOnce (regions_ids rs) → AllAgree (NodeDone next out (map Some gives) s) us s (meanings c rs) (codes_runs d (branch_codes entries out bs rs))
     regions-agree first next out takes gives s entries us h low no_regions [] place t nested once = tt
     regions-agree first next out takes gives s entries us h low no_regions (b ∷ bs) place t nested once = absurd place

@@ -48,7 +48,8 @@ pub instrs-then-after : (D : NameSet) (is : List Instr) (k : Code) (x : ℕ) →
 instrs-then-after D [] k x h = h
 instrs-then-after D (i ∷ is) k x h = instrs-then-after (after_instr D i) is k x h
 
-pub nodes-then-closed : (D : NameSet) (args : List Kind) (base : ℕ) (names : Names) (next : ℕ) (ns : NodeTrees) (k : Code) → CodeIsClosed D (nodes_code args base names next ns no_steps) →
+pub nodes-then-closed : (D : NameSet) (args : List Kind) (base : ℕ) (names : Names) (next : ℕ) (ns : NodeTrees) (k : Code) →
+    CodeIsClosed D (nodes_code args base names next ns no_steps) →
     CodeIsClosed (after_code D (nodes_code args base names next ns no_steps)) k → CodeIsClosed D (nodes_code args base names next ns k)
 nodes-then-closed D args base names next no_nodes k h g = g
 nodes-then-closed D args base names next (node_then x ns) k h g =
@@ -84,8 +85,11 @@ same-targets t (x ∷ xs) [] e = absurd (omega (arith, e))
 pub numbers-in : (D : NameSet) (first count : ℕ) → ((k : ℕ) → k < count → D (first + k)) → AreIn D (numbers_from first count)
 numbers-in D first zero h = tt
 numbers-in D first (suc count) h =
-    let here : first + 0 ≡ first = omega arith in
-    (subst D here (h 0 (omega arith)), numbers-in D (suc first) count (λ k low. let there : first + suc k ≡ suc first + k = omega arith in subst D there (h (suc k) (omega (arith, low)))))
+    let here : first + 0 ≡ first = omega arith in (
+      subst D here (h 0 (omega arith)),
+      numbers-in D (suc first) count (λ k low. let there : first + suc k ≡ suc first + k = omega arith in
+          subst D there (h (suc k) (omega (arith, low)))),
+    )
 
 -- ---- names of these kinds, of which those of values are written
 

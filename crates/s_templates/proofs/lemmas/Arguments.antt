@@ -64,7 +64,8 @@ module _ (text : Text) (f : Frame) (words : HasWords text f) (p : PlainPlaces) (
       next x xs s b r cut.0 got.0 high few got.1 one (loads xs one.state b (suc r) rep' parts.1 (omega (arith, high)) (omega (arith, few))
       (subst (λ a. CodeStands text a (get_arguments p (suc r) xs) b) (sym one.pc) cut.2) low)
     where
-      next : (x : ℕ) (xs : List ℕ) (s : machine.State) (b r m v : ℕ) → 9 < r → r + length (x ∷ xs) ≤ 18 → Shows f.bases (q.names (place_at p x)) v → (one : Computes text s m r v)
+      next : (x : ℕ) (xs : List ℕ) (s : machine.State) (b r m v : ℕ) → 9 < r → r + length (x ∷ xs) ≤ 18 → Shows f.bases (q.names (place_at p x)) v
+          → (one : Computes text s m r v)
           → Loads one.state b (suc r) xs → Loads s b r (x ∷ xs)
       next x xs s b r m v high few shows one rest = record {
         state = rest.state;
@@ -96,7 +97,8 @@ module _ (text : Text) (f : Frame) (words : HasWords text f) (p : PlainPlaces) (
   put-from q k names = record { names = put_params (map (place_at p) names) k vs q.names; memory = q.memory; input = q.input }
 
   -- an argument register is left by what writes to a place
-  argument-left : (s : machine.State) (b t : ℕ) (v : Value) → t < f.places → (w : Writes text f s b (location_of t) v) → (n : ℕ) → 9 < n → n < 18 → w.state.regs n ≡ s.regs n
+  argument-left : (s : machine.State) (b t : ℕ) (v : Value) → t < f.places → (w : Writes text f s b (location_of t) v) → (n : ℕ) → 9 < n → n < 18
+      → w.state.regs n ≡ s.regs n
   argument-left s b t v below w n high few = w.registers n (inr (omega (arith, high))) (other (location_of t) (location-fits f t below))
     where
       apart : (r : ℕ) → IsPlaceRegister r → n ≡ r → ⊥
@@ -109,7 +111,8 @@ module _ (text : Text) (f : Frame) (words : HasWords text f) (p : PlainPlaces) (
       other (Far o) place = tt
 
   puts : (names : List ℕ) (q : linear.State) (s : machine.State) (b k : ℕ) → Represents text f q s → all_of (has_place p) names ≡ true → k + length names ≤ 8
-      → ((j : ℕ) → j < length names → Shows f.bases (first_names vs (k + j)) (s.regs (10 + (k + j)))) → CodeStands text s.pc (select.put_params p (10 + k) names) b → b < 2 ^ 32
+      → ((j : ℕ) → j < length names → Shows f.bases (first_names vs (k + j)) (s.regs (10 + (k + j))))
+      → CodeStands text s.pc (select.put_params p (10 + k) names) b → b < 2 ^ 32
       → Arrives text f b (put-from q k names) s
   puts [] q s b k rep places few shows there low = record { state = s; steps = steps-none text.flags s; pc = there; shows = rep }
   puts (x ∷ xs) q s b k rep places few shows there low =
@@ -123,7 +126,8 @@ module _ (text : Text) (f : Frame) (words : HasWords text f) (p : PlainPlaces) (
       let le = code-le text cut.0 rest b cut.2 in
       let zero-th : k + 0 ≡ k = omega arith in
       let shown = subst (λ n. Shows f.bases (first_names vs n) (s.regs (10 + n))) zero-th (shows 0 (omega arith)) in
-      let w = put-done text f words s cut.0 (10 + k) (s.regs (10 + k)) l v rep.has_text rep.stack (location-fits f t inside) cut.1 (omega (arith, le, low)) (λ e. omega (arith, e))
+      let w = put-done text f words s cut.0 (10 + k) (s.regs (10 + k)) l v rep.has_text rep.stack (location-fits f t inside) cut.1 (omega (arith, le, low))
+      (λ e. omega (arith, e))
       (λ e. omega (arith, e)) refl shown in
       let more : (j : ℕ) → j < length xs → Shows f.bases (first_names vs (suc k + j)) (w.state.regs (10 + (suc k + j))) = λ j below.
       let at : k + suc j ≡ suc k + j = omega arith in

@@ -1,5 +1,6 @@
 -- What is loaded from memory stands in blocks that live.
-use Rattle.std.proofs.Common.{◌≡◌, ℕ, ◌+◌, ◌==◌, Bool, true, false, ◌||◌, cond, List, [], ◌∷◌, Option, None, Some, slice_get, refl, sym, subst, arith, eqb-true}
+use Rattle.std.proofs.Common.{◌≡◌, ◌⊎◌, ℕ, ◌+◌, ◌<◌, ◌≤◌, ◌==◌, Bool, true, false, ◌||◌, cond, List, [], ◌∷◌, Option, None, Some, slice_get, refl, sym, subst, arith, eqb-true, inl, inr}
+use Rattle.std.proofs.lemmas.Bool.{cases_lt}
 use Rattle.std.specs.Prelude.{option_and_then}
 use Rattle.std.specs.List.{list_any}
 use Rattle.val_core.specs.declared.values.BlockName.{BlockName}
@@ -9,6 +10,18 @@ use Rattle.val_core.specs.Memory.{Cell, Memory, Block, is_at, value_at, read_blo
 use Rattle.rv_machine.specs.Memory.{Bytes, load_bytes}
 use Rattle.rv_machine.proofs.lemmas.Stores.{load-agrees}
 use Rattle.s_templates.specs.Relation.{Bases, Shows, Lives, IsLive, LeafFits, AreLaidOut, ShowsMemory}
+
+-- an address that is not among so many from one on stands before these or after them
+pub before-or-after : (n at width : ℕ) → (at ≤ n → n < at + width → ⊥) → (n < at) ⊎ (at + width ≤ n)
+before-or-after n at width never =
+    elim (cases_lt n at) [
+      | inl before ↦ inl before
+      | inr from ↦
+          elim (cases_lt n (at + width)) [
+            | inl inside ↦ absurd (never from inside)
+            | inr beyond ↦ inr beyond
+          ]
+    ]
 
 -- a value stands at a leaf
 pub leaf-of-value : (width offset : ℕ) (cs : List Cell) (v : Value) → value_at width offset cs ≡ Some v → list_any (is_at width offset) cs ≡ true
@@ -52,12 +65,14 @@ address-there width Bad blocks v e = absurd (let f : None ≡ Some v = e in cc)
 address-there width (At b o) blocks v e = (b, o, refl)
 
 -- the leaf that a value stands at
-pub leaf-there : (flags : ℕ → ℕ) (bases : Bases) (blocks : Memory) → AreLaidOut flags bases blocks → (width offset : ℕ) (b : BlockName) (v : Value) → (h : ValueAt width offset b blocks v)
+pub leaf-there : (flags : ℕ → ℕ) (bases : Bases) (blocks : Memory) → AreLaidOut flags bases blocks → (width offset : ℕ) (b : BlockName) (v : Value)
+    → (h : ValueAt width offset b blocks v)
     → LeafFits (bases b.number) h.block.size width offset
 leaf-there flags bases blocks laid width offset b v h = laid.leaves b.number width offset h.block h.lives (leaf-of-value width offset h.block.cells v h.has)
 
 -- memory is shown where the bytes of blocks that live are as they were
-pub memory-same : (flags : ℕ → ℕ) (bases : Bases) (blocks : Memory) (mem mem' : Bytes) → ((a : ℕ) → IsLive bases blocks a → mem' a ≡ mem a) → ShowsMemory flags bases blocks mem
+pub memory-same : (flags : ℕ → ℕ) (bases : Bases) (blocks : Memory) (mem mem' : Bytes) → ((a : ℕ) → IsLive bases blocks a → mem' a ≡ mem a)
+    → ShowsMemory flags bases blocks mem
     → ShowsMemory flags bases blocks mem'
 memory-same flags bases blocks mem mem' same h = record { laid = h.laid; values = values }
   where
@@ -66,5 +81,11 @@ memory-same flags bases blocks mem mem' same h = record { laid = h.laid; values 
         let there = value-there width offset b blocks v loaded in
         let within = (leaf-there flags bases blocks h.laid width offset b v there).within in
         let bytes = load-agrees mem mem' (bases b.number + offset) width (λ j below.
-        same (bases b.number + offset + j) (record { number = b.number; block = there.block; lives = there.lives; low = omega arith; high = omega (arith, within, below) })) in
+        same (bases b.number + offset + j) (record {
+          number = b.number;
+          block = there.block;
+          lives = there.lives;
+          low = omega arith;
+          high = omega (arith, within, below);
+        })) in
         subst (Shows bases v) (sym bytes) (h.values width offset b v loaded)

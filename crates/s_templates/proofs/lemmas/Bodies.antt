@@ -68,7 +68,8 @@ same-self m = record { shapes = refl; lives = refl; fixed = refl }
 abbrev pub Leaves : (before after : linear.State) → Type 0
 Leaves before after = SameBlocks before.memory after.memory × All (λ byte. byte < 2 ^ 8) after.input
 
-module _ (c : Context) (p : PlainPlaces) (store-keeps : StoreKeepsBlocks) (clear-keeps : ClearKeepsBlocks) (q : linear.State) (all : All (λ byte. byte < 2 ^ 8) q.input) where
+module _ (c : Context) (p : PlainPlaces) (store-keeps : StoreKeepsBlocks) (clear-keeps : ClearKeepsBlocks) (q : linear.State)
+    (all : All (λ byte. byte < 2 ^ 8) q.input) where
   same : Leaves q q
   same = (same-self q.memory, all)
 
@@ -142,7 +143,8 @@ no-frames (met s ∷ did) = let h = no-frames did in let e = nothing s in omega 
     nothing (x ∷ xs) = let e = sum_by-cons (λ n. 0) x xs in let h = nothing xs in omega (arith, e, h)
 
 -- what an answer says, and what holds of its result
-pub reached : (text : Text) (f : Frame) (sizes : ℕ → ℕ) (left : ℕ) (Inv : Bases → linear.State → Type 0) (bases : Bases) (b least : ℕ) (a : Answer linear.State) (s : State) (input : List ℕ)
+pub reached : (text : Text) (f : Frame) (sizes : ℕ → ℕ) (left : ℕ) (Inv : Bases → linear.State → Type 0) (bases : Bases) (b least : ℕ) (a : Answer linear.State)
+    (s : State) (input : List ℕ)
     → Follows text (at_bases f bases) b least a s input → Gives (Inv bases) a → Reached text f sizes left Inv b least a s input
 reached text f sizes left Inv bases b least (Returned q did) s input h inv =
     record { state = h.state; count = h.count; reaches = h.reaches; pc = h.pc; shown = record { bases = bases; inv = inv; shows = h.shows } }
@@ -176,16 +178,19 @@ module _ (text : Text) (f : Frame) (addresses : Addresses) (p : PlainPlaces) (os
 pub code_is_done : InstrIsDone → StoreKeepsBlocks → ClearKeepsBlocks → CodeIsDone
 code_is_done instr_is_done store-keeps clear-keeps text f addresses labels p os c q s k first b has rep body bytes fit there low =
     followed text f (IsBodyState text f addresses p os c) b c.bound (linear.code_run c (placed_code (place_at p) k) q) s q.input
-    (code-follows text f (λ n. 0) 0 (StaysIn text f addresses p os c) has addresses labels p os c body.count (InstrFits p (length os) (length addresses.globals)) instr k first fit q s b
+    (code-follows text f (λ n. 0) 0 (StaysIn text f addresses p os c) has addresses labels p os c body.count (InstrFits p (length os) (length addresses.globals)) instr
+    k first fit q s b
     (record { bases = f.bases; inv = (refl, (body, bytes)); shows = rep }) there low)
   where
-    instr : (i : Instr) → InstrFits p (length os) (length addresses.globals) i → InstrFollows text f (λ n. 0) 0 (StaysIn text f addresses p os c) has addresses labels p os c i
+    instr : (i : Instr) → InstrFits p (length os) (length addresses.globals) i
+        → InstrFollows text f (λ n. 0) 0 (StaysIn text f addresses p os c) has addresses labels p os c i
     instr i fits q' s' b' shown there' low' =
         let state = shown.inv.1 in
         let run = instr_run c (placed_instr (place_at p) i) q' in
         inr
         (reached text f (λ n. 0) 0 (StaysIn text f addresses p os c) f.bases b' c.bound run s' q'.input
-        (instr_is_done text f addresses labels p os c q' s' i b' c.bound has (subst (λ bases. Represents text (at_bases f bases) q' s') shown.inv.0 shown.shows) state.0 state.1 fits.0 fits.1 fits.2
+        (instr_is_done text f addresses labels p os c q' s' i b' c.bound has (subst (λ bases. Represents text (at_bases f bases) q' s') shown.inv.0 shown.shows) state.0
+        state.1 fits.0 fits.1 fits.2
         fits.3 there' low')
         (gives-more (Leaves q') (StaysIn text f addresses p os c f.bases) run
         (λ x kept. (refl, (body-same text f addresses p os c q'.memory x.memory (alike q'.memory x.memory kept.0) state.0, kept.1)))

@@ -30,20 +30,23 @@ module _ (text : Text) where
   jumps s d target b has there lands = step-to text s (at s target) (Jal x0 d) has there.0 (ap (λ a. next (at s a)) lands)
 
   -- a branch over a jump
-  branches : (s : State) (i : Instr) (d target b : ℕ) (test : Bool) → HasText text s.mem → CodeStands text s.pc (i ∷ Jal x0 d ∷ []) b → b < 2 ^ 32 → (b - 4 + d) % 2 ^ 32 ≡ target
+  branches : (s : State) (i : Instr) (d target b : ℕ) (test : Bool) → HasText text s.mem → CodeStands text s.pc (i ∷ Jal x0 d ∷ []) b → b < 2 ^ 32
+      → (b - 4 + d) % 2 ^ 32 ≡ target
       → act text.flags i s ≡ next (at s (cond test (offset s.pc 8) (after s.pc))) → Steps text.flags s (at s (cond test b target))
   branches s i d target b true has there low lands acts =
       let end : s.pc + 4 + 4 ≡ b = there.1.1 in
       step-to text s (at s b) i has there.0 (acts ∙ ap (λ a. next (at s a)) (let e : (s.pc + 8) % 2 ^ 32 ≡ b = omega (arith, end, low) in e))
   branches s i d target b false has there low lands acts =
       let end : s.pc + 4 + 4 ≡ b = there.1.1 in
-      let first = step-to text s (at s (s.pc + 4)) i has there.0 (acts ∙ ap (λ a. next (at s a)) (let e : (s.pc + 4) % 2 ^ 32 ≡ s.pc + 4 = omega (arith, end, low) in e)) in
+      let first = step-to text s (at s (s.pc + 4)) i has there.0
+      (acts ∙ ap (λ a. next (at s a)) (let e : (s.pc + 4) % 2 ^ 32 ≡ s.pc + 4 = omega (arith, end, low) in e)) in
       let place : (s.pc + 4 + d) % 2 ^ 32 ≡ target = (let e : (s.pc + 4 + d) % 2 ^ 32 ≡ (b - 4 + d) % 2 ^ 32 = omega (arith, end) in e) ∙ lands in
       steps-then text.flags s (at s (s.pc + 4)) (at s target) first (jumps (at s (s.pc + 4)) d target b has there.1 place)
 
   module _ (f : Frame) (words : HasWords text f) where
     -- registers that are kept, and memory, are as they were
-    arrived : (q : linear.State) (s u : State) (a : ℕ) → Represents text f q s → Steps text.flags s (at u a) → ((r : ℕ) → IsKept r → u.regs r ≡ s.regs r) → u.mem ≡ s.mem → Arrives text f a q s
+    arrived : (q : linear.State) (s u : State) (a : ℕ) → Represents text f q s → Steps text.flags s (at u a) → ((r : ℕ) → IsKept r → u.regs r ≡ s.regs r) → u.mem ≡ s.mem
+        → Arrives text f a q s
     arrived q s u a rep steps regs mem = record {
       state = at u a;
       steps = steps;
@@ -58,12 +61,14 @@ module _ (text : Text) where
     -- a predicate is loaded, and a branch reads it
     tests : (q : linear.State) (s : State) (p w d target b : ℕ) (branch : ℕ → Instr) (test : Bool) → Represents text f q s → p < f.places → q.names p ≡ Num w
         → CodeStands text s.pc (load_in t0 (location_of p) ++ branch (in_of (location_of p) t0) ∷ Jal x0 d ∷ []) b → b < 2 ^ 32 → (b - 4 + d) % 2 ^ 32 ≡ target
-        → ((u : State) (r : ℕ) → r ≢ 0 → u.regs r ≡ w → act text.flags (branch r) u ≡ next (at u (cond test (offset u.pc 8) (after u.pc)))) → Arrives text f (cond test b target) q s
+        → ((u : State) (r : ℕ) → r ≢ 0 → u.regs r ≡ w → act text.flags (branch r) u ≡ next (at u (cond test (offset u.pc 8) (after u.pc))))
+        → Arrives text f (cond test b target) q s
     tests q s p w d target b branch test rep within word there low lands acts =
         let l = location_of p in
         let fits = location-fits f p within in
         let r = in_of l t0 in
-        let one = loads text f words s b 5 l (q.names p) (branch r ∷ Jal x0 d ∷ []) rep.has_text rep.stack fits there low (omega arith) (omega arith) (rep.places p within) in
+        let one = loads text f words s b 5 l (q.names p) (branch r ∷ Jal x0 d ∷ []) rep.has_text rep.stack fits there low (omega arith) (omega arith)
+        (rep.places p within) in
         let u = one.operand.state in
         let is = one.operand.is ∙ word-is q p w one.word word one.shows in
         arrived q s u (cond test b target) rep
@@ -100,7 +105,8 @@ branch_equal_is_done text f q s words rep p w n d target b within word fits ther
     let place = location-fits f p within in
     let r = in_of l t0 in
     let whole = subst (λ c. CodeStands text s.pc c b) (append_assoc (load_in t0 l) (load_immediate t1 n) (Bne r t1 8 ∷ Jal x0 d ∷ [])) there in
-    let one = loads text f words s b 5 l (q.names p) (load_immediate t1 n ++ Bne r t1 8 ∷ Jal x0 d ∷ []) rep.has_text rep.stack place whole low (omega arith) (omega arith) (rep.places p within) in
+    let one = loads text f words s b 5 l (q.names p) (load_immediate t1 n ++ Bne r t1 8 ∷ Jal x0 d ∷ []) rep.has_text rep.stack place whole low (omega arith)
+    (omega arith) (rep.places p within) in
     let u = one.operand.state in
     let cut = code_is_cut text u.pc b (load_immediate t1 n) (Bne r t1 8 ∷ Jal x0 d ∷ []) one.code in
     let le = code-le text cut.0 (Bne r t1 8 ∷ Jal x0 d ∷ []) b cut.2 in

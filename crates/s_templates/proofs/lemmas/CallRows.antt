@@ -61,7 +61,8 @@ pub record BodyStack (program : Program) (f : Frame) (blocks : Memory) : Type 0 
   pub below : program.addresses.data_at < f.before.regs s0
 
 -- what holds of each state of a body
-pub record InFunction (program : Program) (f : Frame) (p : PlainPlaces) (os : List PlainObject) (local : ℕ → Value) (blocks : Memory) (bases : Bases) (q : linear.State) : Type 0 where
+pub record InFunction (program : Program) (f : Frame) (p : PlainPlaces) (os : List PlainObject) (local : ℕ → Value) (blocks : Memory) (bases : Bases)
+    (q : linear.State) : Type 0 where
   pub body : IsBody program.text (at_bases f bases) program.addresses p os (record { local = local; global = program.global }) q.memory
   pub bytes : All (λ byte. byte < 2 ^ 8) q.input
   pub extends : Extends f.bases bases
@@ -79,7 +80,8 @@ names-none names place [] k past = refl
 names-none names place (x ∷ xs) zero past = absurd (omega (arith, past))
 names-none names place (x ∷ xs) (suc k) past = names-none names place xs k (omega (arith, past))
 
-module _ (program : Program) (can : ProgramCanRun program) (bound : ℕ) (meaning : ℕ → Call) (run : CallsRun program bound meaning) (f : Frame) (p : PlainPlaces) (os : List PlainObject)
+module _ (program : Program) (can : ProgramCanRun program) (bound : ℕ) (meaning : ℕ → Call) (run : CallsRun program bound meaning) (f : Frame) (p : PlainPlaces)
+    (os : List PlainObject)
     (local : ℕ → Value) (blocks : Memory) (frame : BodyStack program f blocks) (labels : ℕ → Option ℕ) where
   abbrev pub context : Context
   context = record { bound = bound; call = meaning; addresses = record { local = local; global = program.global } }
@@ -104,7 +106,8 @@ module _ (program : Program) (can : ProgramCanRun program) (bound : ℕ) (meanin
   }
 
   -- what the body finds is still there after a call
-  body-after : (bases more : Bases) (q : linear.State) (m : Memory) → AreLaidOut program.text.flags bases q.memory → Inv bases q → Extends bases more → LivesAlike q.memory m
+  body-after : (bases more : Bases) (q : linear.State) (m : Memory) → AreLaidOut program.text.flags bases q.memory → Inv bases q → Extends bases more
+      → LivesAlike q.memory m
       → IsBody program.text (at_bases f more) program.addresses p os (record { local = local; global = program.global }) m
   body-after bases more q m laid inv e same = record {
     count = inv.body.count;
@@ -134,7 +137,8 @@ module _ (program : Program) (can : ProgramCanRun program) (bound : ℕ) (meanin
           }
 
   -- a call has come back: the machine stands for the caller's state, with the memory and the input that the call left
-  module _ (bases : Bases) (q : linear.State) (s : State) (rep : Represents program.text (at_bases f bases) q s) (inv : Inv bases q) (back : ℕ) (g : Given Value) (did : List Event)
+  module _ (bases : Bases) (q : linear.State) (s : State) (rep : Represents program.text (at_bases f bases) q s) (inv : Inv bases q) (back : ℕ)
+      (g : Given Value) (did : List Event)
       (called : State) (same : (r : ℕ) → r ≢ ra → called.regs r ≡ s.regs r) (kept-memory : called.mem ≡ s.mem)
       (h : ComesBack program q.memory bases back g did called q.input) where
     abbrev after : linear.State
@@ -195,7 +199,8 @@ module _ (program : Program) (can : ProgramCanRun program) (bound : ℕ) (meanin
         → Brings program.text f Inv b (record { names = linear.written q.names t g.value; memory = g.memory; input = g.input }) (did ++ []) called q.input
     put-value t b inside there low =
         let has = words-at program.text f h.bases' frame.has in
-        let w = put-done program.text (at_bases f h.bases') has h.state b a0 (h.state.regs a0) (location_of t) g.value represented.has_text represented.stack (location-fits (at_bases f h.bases') t inside)
+        let w = put-done program.text (at_bases f h.bases') has h.state b a0 (h.state.regs a0) (location_of t) g.value represented.has_text represented.stack
+        (location-fits (at_bases f h.bases') t inside)
         there low (omega arith) (omega arith) refl h.value in
         let last = place-written program.text (at_bases f h.bases') has after h.state b t g.value represented inside w in
         record {
@@ -204,7 +209,8 @@ module _ (program : Program) (can : ProgramCanRun program) (bound : ℕ) (meanin
           reaches =
               subst (λ out. Reaches program.text.flags (h.count + last.steps.count) called q.input out last.state g.input)
               (append-nil (output did) ∙ ap output (sym (append-nil did)))
-              (reaches_onwards program.text.flags h.count last.steps.count called h.state last.state q.input (output did) g.input [] g.input h.reaches (last.steps.reaches g.input));
+              (reaches_onwards program.text.flags h.count last.steps.count called h.state last.state q.input (output did) g.input [] g.input h.reaches
+              (last.steps.reaches g.input));
           pc = last.pc;
           shown = record { bases = h.bases'; inv = in-function (linear.written q.names t g.value); shows = last.shows };
         }
@@ -213,9 +219,12 @@ module _ (program : Program) (can : ProgramCanRun program) (bound : ℕ) (meanin
 
   module _ (t : ℕ) (bases : Bases) (q : linear.State) (s : State) (rep : Represents program.text (at_bases f bases) q s) (inv : Inv bases q)
       (inside : place_at p t < f.places) where
-    after-call : (b back : ℕ) (called : State) → ((r : ℕ) → r ≢ ra → called.regs r ≡ s.regs r) → called.mem ≡ s.mem → CodeStands program.text back (select.put (location_of (place_at p t)) a0) b
-        → b < 2 ^ 32 → (a : Answer (Given Value)) → CallOutcome program bound q.memory bases back a called q.input → Out b (then_on a (back_from q (place_at p t))) called q.input
-    after-call b back called same mem there low a (inl h) = inl (subst (λ n. Exceeds program.text.flags (frame_sizes program.functions) n (events (then_on a (back_from q (place_at p t)))) called q.input) space (more a h))
+    after-call : (b back : ℕ) (called : State) → ((r : ℕ) → r ≢ ra → called.regs r ≡ s.regs r) → called.mem ≡ s.mem
+        → CodeStands program.text back (select.put (location_of (place_at p t)) a0) b
+        → b < 2 ^ 32 → (a : Answer (Given Value)) → CallOutcome program bound q.memory bases back a called q.input
+        → Out b (then_on a (back_from q (place_at p t))) called q.input
+    after-call b back called same mem there low a (inl h) =
+        inl (subst (λ n. Exceeds program.text.flags (frame_sizes program.functions) n (events (then_on a (back_from q (place_at p t)))) called q.input) space (more a h))
       where
         space : called.regs sp - called.regs s0 ≡ left
         space =
@@ -224,9 +233,11 @@ module _ (program : Program) (can : ProgramCanRun program) (bound : ℕ) (meanin
             omega (arith, stack, base)
 
         more : (a : Answer (Given Value)) → Exceeds program.text.flags (frame_sizes program.functions) (called.regs sp - called.regs s0) (events a) called q.input
-            → Exceeds program.text.flags (frame_sizes program.functions) (called.regs sp - called.regs s0) (events (then_on a (back_from q (place_at p t)))) called q.input
+            → Exceeds program.text.flags (frame_sizes program.functions) (called.regs sp - called.regs s0) (events (then_on a (back_from q (place_at p t))))
+            called q.input
         more (Returned g o) h =
-            subst (λ es. Exceeds program.text.flags (frame_sizes program.functions) (called.regs sp - called.regs s0) es called q.input) (sym (events-before o (back_from q (place_at p t) g)))
+            subst (λ es. Exceeds program.text.flags (frame_sizes program.functions) (called.regs sp - called.regs s0) es called q.input)
+            (sym (events-before o (back_from q (place_at p t) g)))
             (exceeds-more program.text.flags (frame_sizes program.functions) (called.regs sp - called.regs s0) o [] called q.input h)
         more (Cut o) h = h
         more (Exited o status) h = h
@@ -234,7 +245,8 @@ module _ (program : Program) (can : ProgramCanRun program) (bound : ℕ) (meanin
     after-call b back called same mem there low (Returned g o) (inr h) =
         subst (λ x. Out b x called q.input) (sym (before-is o (back_from q (place_at p t) g)))
         (inr
-        (put-value bases q s rep inv back g o called same mem h (place_at p t) b inside (subst (λ n. CodeStands program.text n (select.put (location_of (place_at p t)) a0) b) (sym h.pc) there) low))
+        (put-value bases q s rep inv back g o called same mem h (place_at p t) b inside
+        (subst (λ n. CodeStands program.text n (select.put (location_of (place_at p t)) a0) b) (sym h.pc) there) low))
     after-call b back called same mem there low (Cut o) (inr h) = inr h
     after-call b back called same mem there low (Exited o status) (inr h) = inr h
     after-call b back called same mem there low (Undefined o) (inr h) = inr tt
@@ -244,9 +256,11 @@ module _ (program : Program) (can : ProgramCanRun program) (bound : ℕ) (meanin
       → slice_index program.addresses.functions function < 2 ^ 32 → slice_index program.addresses.functions function % 2 ≡ 0
       → Out b (instr_run context (placed_instr (place_at p) (call function t xs)) q) s q.input
   call-follows function t xs q s b placed few same shown there low target-low target-even =
-      steps-outcome program.text f (frame_sizes program.functions) left Inv b bound s two.state q.input (then_on (meaning function arguments q.memory q.input) (back_from q (place_at p t)))
+      steps-outcome program.text f (frame_sizes program.functions) left Inv b bound s two.state q.input
+      (then_on (meaning function arguments q.memory q.input) (back_from q (place_at p t)))
       (steps-then program.text.flags s one.state two.state one.steps two.steps)
-      (after-call t bases q one.state one.shows inv (place-below p f.places same t parts.0) b back.0 two.state two.others two.mem back.1 low (meaning function arguments q.memory q.input)
+      (after-call t bases q one.state one.shows inv (place-below p f.places same t parts.0) b back.0 two.state two.others two.mem back.1 low
+      (meaning function arguments q.memory q.input)
       (run function arguments q.memory q.input bases back.0 two.state is-called))
     where
       bases : Bases
@@ -266,7 +280,8 @@ module _ (program : Program) (can : ProgramCanRun program) (bound : ℕ) (meanin
 
       cut : (m : ℕ) × ItemsStand program.text program.addresses labels s.pc (words (get_arguments p a0 xs)) m
           × ItemsStand program.text program.addresses labels m (item.Call function ∷ words (select.put (location_of (place_at p t)) a0)) b
-      cut = items_are_cut program.text program.addresses labels s.pc b (words (get_arguments p a0 xs)) (item.Call function ∷ words (select.put (location_of (place_at p t)) a0)) there
+      cut = items_are_cut program.text program.addresses labels s.pc b (words (get_arguments p a0 xs))
+          (item.Call function ∷ words (select.put (location_of (place_at p t)) a0)) there
 
       back : (m : ℕ) × CodeStands program.text m (select.put (location_of (place_at p t)) a0) b
       back = (cut.0 + 8, words_stand program.text program.addresses labels (cut.0 + 8) b (select.put (location_of (place_at p t)) a0) cut.2.2)

@@ -22,7 +22,8 @@ use Rattle.s_templates.proofs.lemmas.Follows.{Out, Stand, LinesFollow, on-a-numb
 use Rattle.s_templates.proofs.lemmas.Lines.{lines-le, lines-cut, line-cut, label-here, branches-not-zero, branches-equal, jumps-once}
 use Rattle.s_templates.proofs.lemmas.Outcomes.{Shown, words-at, before-outcome, then-outcome, returns, arrives-outcome}
 
-module _ (text : Text) (f : Frame) (sizes : ℕ → ℕ) (left : ℕ) (Inv : Bases → linear.State → Type 0) (has : HasWords text f) (addresses : Addresses) (labels : ℕ → Option ℕ) (p : PlainPlaces)
+module _ (text : Text) (f : Frame) (sizes : ℕ → ℕ) (left : ℕ) (Inv : Bases → linear.State → Type 0) (has : HasWords text f) (addresses : Addresses)
+    (labels : ℕ → Option ℕ) (p : PlainPlaces)
     (os : List PlainObject) (c : Context) where
   abbrev To : (b : ℕ) → Answer linear.State → State → (input : List ℕ) → Type 0
   To b a s input = Out text f sizes left Inv has addresses labels p os c b c.bound a s input
@@ -46,10 +47,12 @@ module _ (text : Text) (f : Frame) (sizes : ℕ → ℕ) (left : ℕ) (Inv : Bas
       subst (λ x. To b x s input) (then_nothing a) (then-outcome text f sizes left Inv m b c.bound a (λ t. Returned t []) s input h leave)
 
   -- a jump to the end
-  leaves : (l a b target : ℕ) → ItemsStand text addresses labels a (line_items p os (jump l)) b → b < 2 ^ 32 → labels l ≡ Some target → target < 2 ^ 32 → (q : linear.State) (s : State) → Shown text f Inv q s
+  leaves : (l a b target : ℕ) → ItemsStand text addresses labels a (line_items p os (jump l)) b → b < 2 ^ 32 → labels l ≡ Some target → target < 2 ^ 32
+      → (q : linear.State) (s : State) → Shown text f Inv q s
       → s.pc ≡ a → To target (Returned q []) s q.input
   leaves l a b target there low is small q s shown here =
-      let j = jumps-once text addresses labels p os (at_bases f shown.bases) q s b l target q.input shown.shows (subst (λ x. ItemsStand text addresses labels x (line_items p os (jump l)) b) (sym here) there) low is small in
+      let j = jumps-once text addresses labels p os (at_bases f shown.bases) q s b l target q.input shown.shows
+      (subst (λ x. ItemsStand text addresses labels x (line_items p os (jump l)) b) (sym here) there) low is small in
       before-outcome text f sizes left Inv [] target c.bound c.bound 1 s j.0 q.input q.input j.1 (omega arith) (Returned q [])
       (returns text f sizes left Inv target c.bound q j.0 (record { bases = shown.bases; inv = shown.inv; shows = j.2 }) j.3)
 
@@ -86,7 +89,8 @@ module _ (text : Text) (f : Frame) (sizes : ℕ → ℕ) (left : ℕ) (Inv : Bas
     -- ---- codes of a choice but the last, each with its label, and before it the jump of what stands before it
 
     module _ (last b : ℕ) (low : b < 2 ^ 32) (is : labels last ≡ Some b) where
-      exits : (r : ℕ) (ls : List (List Line)) (g : ℕ) → At g (labelled r first last ls) b → (q : linear.State) (s : State) → Shown text f Inv q s → s.pc ≡ g → To b (Returned q []) s q.input
+      exits : (r : ℕ) (ls : List (List Line)) (g : ℕ) → At g (labelled r first last ls) b → (q : linear.State) (s : State) → Shown text f Inv q s → s.pc ≡ g
+          → To b (Returned q []) s q.input
       exits r [] g there q s shown here = returns text f sizes left Inv b c.bound q s shown (here ∙ there)
       exits r (l ∷ []) g there q s shown here = returns text f sizes left Inv b c.bound q s shown (here ∙ there)
       exits r (l ∷ m ∷ ls) g there q s shown here =
@@ -96,7 +100,8 @@ module _ (text : Text) (f : Frame) (sizes : ℕ → ℕ) (left : ℕ) (Inv : Bas
           leaves last g cut.0 b cut.1 (omega (arith, le, low)) is low q s shown here
 
       -- Of the codes from number r on, the one that the predicate chooses is done.
-      chosen-follows : (r v : ℕ) (ls : List (List Line)) (rs : List Run) → AllFollow ls rs → r + length ls < 2 ^ 32 → (q : linear.State) (s : State) → Shown text f Inv q s → (w : ℕ)
+      chosen-follows : (r v : ℕ) (ls : List (List Line)) (rs : List Run) → AllFollow ls rs → r + length ls < 2 ^ 32 → (q : linear.State) (s : State)
+          → Shown text f Inv q s → (w : ℕ)
           → q.names (place_at p x) ≡ Num w → w ≡ r + v → (m n g : ℕ) → At s.pc (branches x r first ls) m → At m (last_lines ls) n → n < 2 ^ 32
           → ((q' : linear.State) (t : State) → Shown text f Inv q' t → t.pc ≡ n → To b (Returned q' []) t q'.input) → At g (labelled r first last ls) b
           → To b (chosen v rs q) s q.input
@@ -114,7 +119,8 @@ module _ (text : Text) (f : Frame) (sizes : ℕ → ℕ) (left : ℕ) (Inv : Bas
           let le1 = lines-le text addresses labels p os cut.0 m (branches x (suc r) first (k ∷ ls)) cut.2 in
           let le2 = lines-le text addresses labels p os m n (last_lines (l ∷ k ∷ ls)) final in
           let branch =
-          branches-equal text addresses labels p os (at_bases f shown.bases) (words-at text f shown.bases has) q s x w cut.0 (first + r) jumped.0 shown.shows inside word (omega (arith, le1, le2, small)) here.0 (omega (arith, le, low)) r (omega (arith, few)) cut.1 in
+          branches-equal text addresses labels p os (at_bases f shown.bases) (words-at text f shown.bases has) q s x w cut.0 (first + r) jumped.0 shown.shows inside word
+          (omega (arith, le1, le2, small)) here.0 (omega (arith, le, low)) r (omega (arith, few)) cut.1 in
           let same : (w == r) ≡ true = eq-eqb w r (omega (arith, sum)) in
           let arrives = subst (λ t. Arrives text (at_bases f shown.bases) (if t then jumped.0 else cut.0) q s) same branch in
           arrives-outcome text f sizes left Inv jumped.0 b c.bound q s shown.bases (run q) shown.inv arrives
@@ -131,7 +137,8 @@ module _ (text : Text) (f : Frame) (sizes : ℕ → ℕ) (left : ℕ) (Inv : Bas
           let le1 = lines-le text addresses labels p os cut.0 m (branches x (suc r) first (k ∷ ls)) cut.2 in
           let le2 = lines-le text addresses labels p os m n (last_lines (l ∷ k ∷ ls)) final in
           let branch =
-          branches-equal text addresses labels p os (at_bases f shown.bases) (words-at text f shown.bases has) q s x w cut.0 (first + r) jumped.0 shown.shows inside word (omega (arith, le1, le2, small)) here.0 (omega (arith, le, low)) r (omega (arith, few)) cut.1 in
+          branches-equal text addresses labels p os (at_bases f shown.bases) (words-at text f shown.bases has) q s x w cut.0 (first + r) jumped.0 shown.shows inside word
+          (omega (arith, le1, le2, small)) here.0 (omega (arith, le, low)) r (omega (arith, few)) cut.1 in
           let other : (w == r) ≡ false = ne_eqb w r (λ e. omega (arith, sum, e)) in
           let arrives = subst (λ t. Arrives text (at_bases f shown.bases) (if t then jumped.0 else cut.0) q s) other branch in
           arrives-outcome text f sizes left Inv cut.0 b c.bound q s shown.bases (chosen v (next ∷ rs) q) shown.inv arrives
@@ -147,9 +154,11 @@ module _ (text : Text) (f : Frame) (sizes : ℕ → ℕ) (left : ℕ) (Inv : Bas
       chosen-follows r (suc v) (l ∷ k ∷ ls) (run ∷ []) all few q s shown w word sum m n g tests final small leave others = absurd all.1
 
     -- of two codes the first stands where the branch is not taken
-    two-follow : (l k : List Line) (run next : Run) → Follow l run → Follow k next → Follow (choice_lines x first (l ∷ k ∷ [])) (chosen_by (place_at p x) (run ∷ next ∷ []))
+    two-follow : (l k : List Line) (run next : Run) → Follow l run → Follow k next
+        → Follow (choice_lines x first (l ∷ k ∷ [])) (chosen_by (place_at p x) (run ∷ next ∷ []))
     two-follow l k run next follows follows' q s b shown there low =
-        on-a-number text f sizes left Inv has addresses labels p os c b c.bound (q.names (place_at p x)) (λ w. chosen w (run ∷ next ∷ []) q) s q.input (λ w word. by w word)
+        on-a-number text f sizes left Inv has addresses labels p os c b c.bound (q.names (place_at p x)) (λ w. chosen w (run ∷ next ∷ []) q) s q.input
+        (λ w word. by w word)
       where
         all : (h : ℕ) × At s.pc ((branch_not_zero x first ∷ l) ++ (jump (suc first) ∷ label first ∷ k)) h × At h (label (suc first) ∷ []) b
         all = lines-cut text addresses labels p os s.pc b ((branch_not_zero x first ∷ l) ++ (jump (suc first) ∷ label first ∷ k)) (label (suc first) ∷ []) there
@@ -184,7 +193,8 @@ module _ (text : Text) (f : Frame) (sizes : ℕ → ℕ) (left : ℕ) (Inv : Bas
         by : (w : ℕ) → q.names (place_at p x) ≡ Num w → To b (chosen w (run ∷ next ∷ []) q) s q.input
         by zero word =
             arrives-outcome text f sizes left Inv test.0 b c.bound q s shown.bases (run q) shown.inv
-            (branches-not-zero text addresses labels p os (at_bases f shown.bases) (words-at text f shown.bases has) q s x 0 test.0 first over.0 shown.shows inside word test-low second.0 over-low test.1)
+            (branches-not-zero text addresses labels p os (at_bases f shown.bases) (words-at text f shown.bases has) q s x 0 test.0 first over.0 shown.shows inside word
+            test-low second.0 over-low test.1)
             (λ t shown' at.
             then-leaves both.0 b (run q) t q.input (follows q t both.0 shown' (subst (λ a. At a l both.0) (sym at) test.2) both-low)
             (leaves (suc first) both.0 over.0 b over.1 over-low end-is low))
@@ -192,24 +202,28 @@ module _ (text : Text) (f : Frame) (sizes : ℕ → ℕ) (left : ℕ) (Inv : Bas
             let other : (suc w == 0) ≡ false = ne_eqb (suc w) 0 (λ e. omega (arith, e)) in
             arrives-outcome text f sizes left Inv over.0 b c.bound q s shown.bases (next q) shown.inv
             (subst (λ t. Arrives text (at_bases f shown.bases) (if t then test.0 else over.0) q s) other
-            (branches-not-zero text addresses labels p os (at_bases f shown.bases) (words-at text f shown.bases has) q s x (suc w) test.0 first over.0 shown.shows inside word test-low second.0 over-low test.1))
+            (branches-not-zero text addresses labels p os (at_bases f shown.bases) (words-at text f shown.bases has) q s x
+            (suc w) test.0 first over.0 shown.shows inside word test-low second.0 over-low test.1))
             (λ t shown' at. follows' q t b shown' (subst (λ a. At a k b) (sym at) (subst (λ y. At over.0 k y) end.1 second.1)) low)
 
-  pub choice-follows : (x first : ℕ) (ls : List (List Line)) (rs : List Run) → (1 < length ls → place_at p x < f.places) → AllFollow ls rs → length ls < 2 ^ 32 → Follow (choice_lines x first ls) (chosen_by (place_at p x) rs)
+  pub choice-follows : (x first : ℕ) (ls : List (List Line)) (rs : List Run) → (1 < length ls → place_at p x < f.places) → AllFollow ls rs → length ls < 2 ^ 32
+      → Follow (choice_lines x first ls) (chosen_by (place_at p x) rs)
   choice-follows x first [] [] inside all few q s b shown there low = inr tt
   choice-follows x first (l ∷ []) (run ∷ []) inside all few q s b shown there low =
       let h = parts x first (l ∷ []) s.pc b there in
       let end : h.n ≡ b = h.others in
       let code = subst (λ y. At h.m l y) end h.final in
       all.0 q s b shown (subst (λ a. At a l b) (sym h.tests) code) low
-  choice-follows x first (l ∷ k ∷ []) (run ∷ next ∷ []) inside all few q s b shown there low = two-follow x first (inside (omega arith)) l k run next all.0 all.1.0 q s b shown there low
+  choice-follows x first (l ∷ k ∷ []) (run ∷ next ∷ []) inside all few q s b shown there low =
+      two-follow x first (inside (omega arith)) l k run next all.0 all.1.0 q s b shown there low
   choice-follows x first (l ∷ k ∷ j ∷ ls) (run ∷ next ∷ other ∷ rs) inside all few q s b shown there low =
       let h = parts x first (l ∷ k ∷ j ∷ ls) s.pc b there in
       let last = first + before_last (l ∷ k ∷ j ∷ ls) in
       let le = lines-le text addresses labels p os h.n b (labelled 0 first last (l ∷ k ∷ j ∷ ls)) h.others in
       on-a-number text f sizes left Inv has addresses labels p os c b c.bound (q.names (place_at p x)) (λ w. chosen w (run ∷ next ∷ other ∷ rs) q) s q.input
       (λ w word.
-      chosen-follows x first (inside (omega arith)) last b low h.end_is 0 w (l ∷ k ∷ j ∷ ls) (run ∷ next ∷ other ∷ rs) all (omega (arith, few)) q s shown w word (omega arith) h.m h.n h.n h.tests h.final (omega (arith, le, low))
+      chosen-follows x first (inside (omega arith)) last b low h.end_is 0 w (l ∷ k ∷ j ∷ ls) (run ∷ next ∷ other ∷ rs) all (omega (arith, few)) q s shown w word
+      (omega arith) h.m h.n h.n h.tests h.final (omega (arith, le, low))
       (exits x first (inside (omega arith)) last b low h.end_is 0 (l ∷ k ∷ j ∷ ls) h.n h.others) h.others)
   choice-follows x first [] (run ∷ rs) inside all few q s b shown there low = absurd all
   choice-follows x first (l ∷ []) [] inside all few q s b shown there low = absurd all

@@ -23,27 +23,17 @@ use Rattle.rv_machine.proofs.lemmas.Standing.{code_is_cut}
 use Rattle.s_templates.proofs.lemmas.Registers.{Computes, steps-then, step-to, look-at, code-le, first-computes, code-after, immediate-loads}
 use Rattle.s_templates.proofs.lemmas.Locations.{kept-apart}
 use Rattle.s_templates.proofs.lemmas.Operands.{stored, store-acts}
-use Rattle.s_templates.proofs.lemmas.Blocks.{leaf-of-value, value-there, leaf-there}
+use Rattle.s_templates.proofs.lemmas.Blocks.{before-or-after, leaf-of-value, value-there, leaf-there}
 use Rattle.s_templates.proofs.lemmas.Stores.{SameBlocks, same-back, fellow, alike, leaf-same, laid-same}
 use Rattle.s_templates.proofs.lemmas.Represented.{memory-written}
-
-beside : (n at width : ℕ) → (at ≤ n → n < at + width → ⊥) → (n < at) ⊎ (at + width ≤ n)
-beside n at width never =
-    elim (cases_lt n at) [
-      | inl before ↦ inl before
-      | inr from ↦
-          elim (cases_lt n (at + width)) [
-            | inl inside ↦ absurd (never from inside)
-            | inr beyond ↦ inr beyond
-          ]
-    ]
 
 -- the bytes of a zero that is stored
 zero-stored : (mem : Bytes) (a n : ℕ) → a ≤ n → n < a + 4 → store_bytes mem a 0 4 n ≡ 0
 unfolding load_bytes
 zero-stored mem a n from to =
     let m = store_bytes mem a 0 4 in
-    let all : m a + 256 * (m (suc a) + 256 * (m (suc (suc a)) + 256 * (m (suc (suc (suc a))) + 256 * 0))) ≡ 0 = stored_is_loaded mem a 0 4 ∙ (let e : 0 % 2 ^ (8 * 4) ≡ 0 = omega arith in e) in
+    let all : m a + 256 * (m (suc a) + 256 * (m (suc (suc a)) + 256 * (m (suc (suc (suc a))) + 256 * 0))) ≡ 0 =
+    stored_is_loaded mem a 0 4 ∙ (let e : 0 % 2 ^ (8 * 4) ≡ 0 = omega arith in e) in
     let b0 : m a ≡ 0 = omega (arith, all) in
     let b1 : m (suc a) ≡ 0 = omega (arith, all) in
     let b2 : m (suc (suc a)) ≡ 0 = omega (arith, all) in
@@ -89,7 +79,7 @@ module _ (text : Text) where
 
   text-kept : (s : State) (x : ℕ) → HasText text s.mem → ((a : ℕ) → x ≤ a → a < x + 4 → has_flag (text.flags a) to_write ≡ true) → HasText text (store_bytes s.mem x 0 4)
   text-kept s x has writable a fixed =
-      by (beside a x 4 (λ from to. both_ways (has_flag (text.flags a) to_write) fixed (writable a from to))) ∙ has a fixed
+      by (before-or-after a x 4 (λ from to. both_ways (has_flag (text.flags a) to_write) fixed (writable a from to))) ∙ has a fixed
     where
       by : (a < x) ⊎ (x + 4 ≤ a) → store_bytes s.mem x 0 4 a ≡ s.mem a
       by (inl before) = store_leaves_others s.mem x 0 4 a (inl (omega (arith, before)))
@@ -113,7 +103,8 @@ module _ (text : Text) where
       let pc2 : u.pc ≡ s.pc + 4 + 4 = two.pc ∙ ap (λ n. n + 4) pc1 in
       let code2 = code-after text s1 b (s1.pc + 4) t0 (x + 4) (Bltu t0 t1 (negative 8) ∷ []) two code1.1 in
       let bound : u.regs t1 ≡ e = two.others t1 (omega arith) (omega arith) ∙ is' in
-      let back : offset u.pc (negative 8) ≡ s.pc = ap (λ n. (n + (2 ^ 32 - 8)) % 2 ^ 32) pc2 ∙ (let p : (s.pc + 4 + 4 + (2 ^ 32 - 8)) % 2 ^ 32 ≡ s.pc = omega (arith, end, low) in p) in
+      let back : offset u.pc (negative 8) ≡ s.pc = ap (λ n. (n + (2 ^ 32 - 8)) % 2 ^ 32) pc2
+      ∙ (let p : (s.pc + 4 + 4 + (2 ^ 32 - 8)) % 2 ^ 32 ≡ s.pc = omega (arith, end, low) in p) in
       let on : after u.pc ≡ b = ap (λ n. (n + 4) % 2 ^ 32) pc2 ∙ (let p : (s.pc + 4 + 4 + 4) % 2 ^ 32 ≡ b = omega (arith, end, low) in p) in
       let target : cond (nat_lt (u.regs t0) (u.regs t1)) (offset u.pc (negative 8)) (after u.pc) ≡ cond (nat_lt (x + 4) e) s.pc b =
       λ i. cond (nat_lt (two.holds i) (bound i)) (back i) (on i) in
@@ -139,7 +130,8 @@ module _ (text : Text) where
     rest : (a : ℕ) → (a < x) ⊎ (x + 4 * n ≤ a) → state.mem a ≡ s.mem a
 
   -- the last turn is the one after which the address is not below the end
-  loops : (n : ℕ) (s : State) (b x e : ℕ) → HasText text s.mem → CodeStands text s.pc turn-code b → b < 2 ^ 32 → s.regs t0 ≡ x → s.regs t1 ≡ e → e ≤ x + 4 * suc n → (0 < n → e ≡ x + 4 * suc n) → x % 4 ≡ 0
+  loops : (n : ℕ) (s : State) (b x e : ℕ) → HasText text s.mem → CodeStands text s.pc turn-code b → b < 2 ^ 32 → s.regs t0 ≡ x → s.regs t1 ≡ e → e ≤ x + 4 * suc n
+      → (0 < n → e ≡ x + 4 * suc n) → x % 4 ≡ 0
       → x + 4 * suc n < 2 ^ 32 → ((a : ℕ) → x ≤ a → a < x + 4 * suc n → has_flag (text.flags a) to_write ≡ true) → Cleared s b x (suc n)
   loops zero s b x e has there low is is' most exact even small writable =
       let one = turns s b x e has there low is is' even (omega (arith, small)) (λ a from to. writable a from (omega (arith, to))) in
@@ -194,7 +186,8 @@ module _ (zeroed : LoadAfterClear) (elsewhere : ClearElsewhere) (keeps : ClearKe
   named-is : (b : BlockName) (k : Block) (m : Memory) → slice_get m b.number ≡ Some k → k.size ≡ b.size → block_named b m ≡ Some k
   named-is b k m there size = let same : (k.size == b.size) ≡ true = eq-eqb k.size b.size size in rw there rw same refl
 
-  clear-shown : (flags : ℕ → ℕ) (bases : Bases) (mem mem' : Bytes) (b : BlockName) (k : Block) (m : Memory) → ShowsMemory flags bases m mem → Lives m b.number k → k.size ≡ b.size
+  clear-shown : (flags : ℕ → ℕ) (bases : Bases) (mem mem' : Bytes) (b : BlockName) (k : Block) (m : Memory) → ShowsMemory flags bases m mem
+      → Lives m b.number k → k.size ≡ b.size
       → ((a : ℕ) → bases b.number ≤ a → a < bases b.number + k.size → mem' a ≡ 0) → ((a : ℕ) → (a < bases b.number) ⊎ (bases b.number + k.size + 4 ≤ a) → mem' a ≡ mem a)
       → ShowsMemory flags bases (cleared b m) mem'
   clear-shown flags bases mem mem' b k m shows lives size none left = record { laid = laid; values = values }
@@ -202,7 +195,8 @@ module _ (zeroed : LoadAfterClear) (elsewhere : ClearElsewhere) (keeps : ClearKe
       laid : AreLaidOut flags bases (cleared b m)
       laid = laid-same flags bases m (cleared b m) (alike m (cleared b m) (clear-same b m)) shows.laid
 
-      in-block : (w p : ℕ) (c : BlockName) (v : Value) → load w (At c p) (cleared b m) ≡ Some v → b.number ≡ c.number → Shows bases v (load_bytes mem' (bases c.number + p) w)
+      in-block : (w p : ℕ) (c : BlockName) (v : Value) → load w (At c p) (cleared b m) ≡ Some v → b.number ≡ c.number
+          → Shows bases v (load_bytes mem' (bases c.number + p) w)
       in-block w p c v loaded number =
           let found = value-there w p c (cleared b m) v loaded in
           let old = fellow (cleared b m) m (same-back m (cleared b m) (clear-same b m)) c.number found.block found.lives in
@@ -219,13 +213,15 @@ module _ (zeroed : LoadAfterClear) (elsewhere : ClearElsewhere) (keeps : ClearKe
           let bytes = load-zero mem' (bases c.number + p) w (λ j under. none (bases c.number + p + j) (omega (arith, base)) (omega (arith, base, within, under))) in
           subst (λ z. Shows bases z (load_bytes mem' (bases c.number + p) w)) is (bytes, omega arith)
 
-      apart : (w p : ℕ) (c : BlockName) (v : Value) → load w (At c p) (cleared b m) ≡ Some v → b.number ≢ c.number → Shows bases v (load_bytes mem' (bases c.number + p) w)
+      apart : (w p : ℕ) (c : BlockName) (v : Value) → load w (At c p) (cleared b m) ≡ Some v → b.number ≢ c.number
+          → Shows bases v (load_bytes mem' (bases c.number + p) w)
       apart w p c v loaded ne =
           let was : load w (At c p) m ≡ Some v = sym (elsewhere w p b c m ne) ∙ loaded in
           let found = value-there w p c m v was in
           let within = (leaf-there flags bases m shows.laid w p c v found).within in
           subst (Shows bases v)
-          (sym (load-agrees mem mem' (bases c.number + p) w (λ j under. left (bases c.number + p + j) (sides (shows.laid.apart b.number c.number k found.block lives found.lives ne) within j under))))
+          (sym (load-agrees mem mem' (bases c.number + p) w (λ j under. left (bases c.number + p + j)
+          (sides (shows.laid.apart b.number c.number k found.block lives found.lives ne) within j under))))
           (shows.values w p c v was)
         where
           sides : {z : ℕ} → (bases b.number + k.size + 4 ≤ bases c.number) ⊎ (bases c.number + z + 4 ≤ bases b.number) → p + w ≤ z → (j : ℕ) → j < w
@@ -274,7 +270,8 @@ module _ (zeroed : LoadAfterClear) (elsewhere : ClearElsewhere) (keeps : ClearKe
     mem : state.mem ≡ s.mem
 
   -- a register, to which another one is added
-  sum-made : (text : Text) (s : State) (m r q x y : ℕ) (rest : List Instr) → HasText text s.mem → CodeStands text s.pc (Add r r q ∷ rest) m → m < 2 ^ 32 → r ≢ 0 → q ≢ 0 → s.regs r ≡ x → s.regs q ≡ y
+  sum-made : (text : Text) (s : State) (m r q x y : ℕ) (rest : List Instr) → HasText text s.mem → CodeStands text s.pc (Add r r q ∷ rest) m → m < 2 ^ 32 → r ≢ 0 → q ≢ 0
+      → s.regs r ≡ x → s.regs q ≡ y
       → y + x < 2 ^ 32 → Made text s m r (y + x) rest
   unfolding act
   sum-made text s m r q x y rest has there low ne ne' is is' small = record {
@@ -292,7 +289,8 @@ module _ (zeroed : LoadAfterClear) (elsewhere : ClearElsewhere) (keeps : ClearKe
       one : Computes text s (s.pc + 4) r (y + x)
       one = first-computes text s m (Add r r q) rest r (y + x) has there low ne (ap (λ n. next (give s r n)) sum)
 
-  immediate-made : (text : Text) (s : State) (m e r w : ℕ) (rest : List Instr) → HasText text s.mem → CodeStands text s.pc (load_immediate r w) m → CodeStands text m rest e → m < 2 ^ 32 → r ≢ 0 → w < 2 ^ 32
+  immediate-made : (text : Text) (s : State) (m e r w : ℕ) (rest : List Instr) → HasText text s.mem → CodeStands text s.pc (load_immediate r w) m
+      → CodeStands text m rest e → m < 2 ^ 32 → r ≢ 0 → w < 2 ^ 32
       → Made text s e r w rest
   immediate-made text s m e r w rest has there more low ne small = record {
     state = one.state;
@@ -318,7 +316,8 @@ module _ (zeroed : LoadAfterClear) (elsewhere : ClearElsewhere) (keeps : ClearKe
   }
 
   -- the address of the object in t0
-  address-made : (text : Text) (s : State) (m o p : ℕ) (rest : List Instr) → HasText text s.mem → s.regs sp ≡ p → CodeStands text s.pc (load_immediate t0 o ++ Add t0 t0 sp ∷ rest) m → m < 2 ^ 32
+  address-made : (text : Text) (s : State) (m o p : ℕ) (rest : List Instr) → HasText text s.mem → s.regs sp ≡ p
+      → CodeStands text s.pc (load_immediate t0 o ++ Add t0 t0 sp ∷ rest) m → m < 2 ^ 32
       → p + o < 2 ^ 32 → Made text s m t0 (p + o) rest
   address-made text s m o p rest has stack there low small = then-made text s m t0 o (p + o) (Add t0 t0 sp ∷ rest) rest one two
     where
@@ -333,10 +332,12 @@ module _ (zeroed : LoadAfterClear) (elsewhere : ClearElsewhere) (keeps : ClearKe
 
       two : Made text one.state m t0 (p + o) rest
       two =
-          sum-made text one.state m t0 sp o p rest (subst (HasText text) (sym one.mem) has) one.code low (omega arith) (omega arith) one.holds (one.others sp (omega arith) (omega arith) ∙ stack) small
+          sum-made text one.state m t0 sp o p rest (subst (HasText text) (sym one.mem) has) one.code low (omega arith) (omega arith) one.holds
+          (one.others sp (omega arith) (omega arith) ∙ stack) small
 
   -- the address after it in t1
-  end-made : (text : Text) (s : State) (m e x w : ℕ) (rest : List Instr) → HasText text s.mem → s.regs t0 ≡ x → CodeStands text s.pc (load_immediate t1 w) m → CodeStands text m (Add t1 t1 t0 ∷ rest) e
+  end-made : (text : Text) (s : State) (m e x w : ℕ) (rest : List Instr) → HasText text s.mem → s.regs t0 ≡ x → CodeStands text s.pc (load_immediate t1 w) m
+      → CodeStands text m (Add t1 t1 t0 ∷ rest) e
       → e < 2 ^ 32 → x + w < 2 ^ 32 → Made text s e t1 (x + w) rest
   end-made text s m e x w rest has is there more low small = then-made text s e t1 w (x + w) (Add t1 t1 t0 ∷ rest) rest one two
     where
@@ -348,7 +349,8 @@ module _ (zeroed : LoadAfterClear) (elsewhere : ClearElsewhere) (keeps : ClearKe
 
       two : Made text one.state e t1 (x + w) rest
       two =
-          sum-made text one.state e t1 t0 w x rest (subst (HasText text) (sym one.mem) has) one.code low (omega arith) (omega arith) one.holds (one.others t0 (omega arith) (omega arith) ∙ is) small
+          sum-made text one.state e t1 t0 w x rest (subst (HasText text) (sym one.mem) has) one.code low (omega arith) (omega arith) one.holds
+          (one.others t0 (omega arith) (omega arith) ∙ is) small
 
   starts : (text : Text) (s : State) (e o p w : ℕ) → HasText text s.mem → s.regs sp ≡ p
       → CodeStands text s.pc (load_immediate t0 o ++ Add t0 t0 sp ∷ load_immediate t1 w ++ Add t1 t1 t0 ∷ turn-code) e → e < 2 ^ 32 → p + o < 2 ^ 32 → p + o + w < 2 ^ 32
@@ -378,7 +380,8 @@ module _ (zeroed : LoadAfterClear) (elsewhere : ClearElsewhere) (keeps : ClearKe
       two = end-made text one.state cut.0 e (p + o) w turn-code (subst (HasText text) (sym one.mem) has) one.holds one.code cut.2 low top
 
   pub clear_is_done : ClearIsDone
-  clear_is_done text f q s words rep o b k lives size free base e there low = whole ((b.size + 3) / 4 - 1) ((b.size + 3) / 4 * 4) (count-of b.size).low (count-of b.size).high (count-of b.size).end (count-of b.size).exact there
+  clear_is_done text f q s words rep o b k lives size free base e there low =
+      whole ((b.size + 3) / 4 - 1) ((b.size + 3) / 4 * 4) (count-of b.size).low (count-of b.size).high (count-of b.size).end (count-of b.size).exact there
     where
       fit : BlockFits text.flags (f.bases b.number) k
       fit = rep.memory.laid.blocks_fit b.number k lives
@@ -393,7 +396,8 @@ module _ (zeroed : LoadAfterClear) (elsewhere : ClearElsewhere) (keeps : ClearKe
       inside a p base n size z at same count to = omega (arith, at, same, count, to)
 
       whole : (n w : ℕ) → 4 * suc n ≤ b.size + 4 → b.size ≤ 4 * suc n → w ≤ 4 * suc n → (0 < n → w ≡ 4 * suc n)
-          → CodeStands text s.pc (load_immediate t0 o ++ Add t0 t0 sp ∷ load_immediate t1 w ++ Add t1 t1 t0 ∷ turn-code) e → Arrives text f e (record { names = q.names; memory = cleared b q.memory; input = q.input }) s
+          → CodeStands text s.pc (load_immediate t0 o ++ Add t0 t0 sp ∷ load_immediate t1 w ++ Add t1 t1 t0 ∷ turn-code) e
+          → Arrives text f e (record { names = q.names; memory = cleared b q.memory; input = q.input }) s
       whole n w count least end exact code =
           let x : ℕ = f.sp + o in
           let top = top-of (f.bases b.number) x n b.size k.size fit.high size base count in
@@ -414,14 +418,21 @@ module _ (zeroed : LoadAfterClear) (elsewhere : ClearElsewhere) (keeps : ClearKe
                 memory-written text f words q s c.state (cleared b q.memory) rep (clear-same b q.memory) (λ r kept. c.kept r kept ∙ first.kept r kept)
                 (λ a out.
                 c.rest a
-                (beside a x (4 * suc n)
+                (before-or-after a x (4 * suc n)
                 (λ from to.
                 out
-                (record { number = b.number; block = k; lives = lives; low = omega (arith, from, base); high = inside a x (f.bases b.number) n b.size k.size base size count to })))
+                (record {
+                  number = b.number;
+                  block = k;
+                  lives = lives;
+                  low = omega (arith, from, base);
+                  high = inside a x (f.bases b.number) n b.size k.size base size count to;
+                })))
                 ∙ ap (λ m. m a) first.mem)
                 (λ a fixed.
-                c.rest a (beside a x (4 * suc n) (λ from to. both_ways (has_flag (text.flags a) to_write) fixed (writes a from to))) ∙ ap (λ m. m a) first.mem)
-                (clear-shown text.flags f.bases s.mem c.state.mem b k q.memory rep.memory lives size (λ a from to. c.zero a (omega (arith, from, base)) (omega (arith, to, base, size, least)))
+                c.rest a (before-or-after a x (4 * suc n) (λ from to. both_ways (has_flag (text.flags a) to_write) fixed (writes a from to))) ∙ ap (λ m. m a) first.mem)
+                (clear-shown text.flags f.bases s.mem c.state.mem b k q.memory rep.memory lives size
+                (λ a from to. c.zero a (omega (arith, from, base)) (omega (arith, to, base, size, least)))
                 (λ a side. c.rest a (outer a n count side) ∙ ap (λ m. m a) first.mem));
           }
         where

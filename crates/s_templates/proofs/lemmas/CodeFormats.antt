@@ -85,7 +85,8 @@ module _ (p : PlainPlaces) (objects globals : ℕ) where
         choice-fit x first (codes_lines (last_from later cs) (others_from later cs) cs) (codes-fit cs (last_from later cs) (others_from later cs) h.2)
         (let few = h.1 in let same = length-codes (last_from later cs) (others_from later cs) cs in omega (arith, few, same))
     step-fit (loop moves body x back) first h =
-        lines-append ((map done moves ++ (label first ∷ code_lines (2 + first) body)) ++ (branch_zero x (suc first) ∷ map done back)) (jump first ∷ label (suc first) ∷ [])
+        lines-append ((map done moves ++ (label first ∷ code_lines (2 + first) body)) ++ (branch_zero x (suc first) ∷ map done back))
+        (jump first ∷ label (suc first) ∷ [])
         (lines-append (map done moves ++ (label first ∷ code_lines (2 + first) body)) (branch_zero x (suc first) ∷ map done back)
         (lines-append (map done moves) (label first ∷ code_lines (2 + first) body) (instrs-fit moves h.0) ((tt, refl, refl), code-fit body (2 + first) h.1))
         ((tt, refl, refl), instrs-fit back h.3))
@@ -93,7 +94,8 @@ module _ (p : PlainPlaces) (objects globals : ℕ) where
 
     code-fit : (k : Code) (first : ℕ) → CodeFits Can p k → LinesFit (code_lines first k)
     code-fit no_steps first h = tt
-    code-fit (step_then s k) first h = lines-append (step_lines first s) (code_lines (first + step_labels s) k) (step-fit s first h.0) (code-fit k (first + step_labels s) h.1)
+    code-fit (step_then s k) first h = lines-append (step_lines first s) (code_lines (first + step_labels s) k) (step-fit s first h.0)
+        (code-fit k (first + step_labels s) h.1)
 
     codes-fit : (cs : Codes) (last others : ℕ) → CodesFit Can p cs → AllLinesFit (codes_lines last others cs)
     codes-fit no_codes last others h = tt
@@ -107,5 +109,7 @@ words-of-lines p os (l ∷ ls) range h =
 
 pub function-fits : (globals : ℕ) (p : PlainPlaces) (f : LinearFunction) → FunctionCanRun globals p f → WordsFit (items_of p f.objects (lines f))
 function-fits globals p f can =
-    words-of-lines p f.objects (lines f) can.range
-    ((tt, le-leb (length (numbers_from 0 f.params)) 8 can.few, refl), lines-append (code_lines 0 f.code) (leave f.value ∷ []) (code-fit p (length f.objects) globals f.code 0 can.code) ((tt, refl, refl), tt))
+    words-of-lines p f.objects (lines f) can.range (
+      (tt, le-leb (length (numbers_from 0 f.params)) 8 can.few, refl),
+      lines-append (code_lines 0 f.code) (leave f.value ∷ []) (code-fit p (length f.objects) globals f.code 0 can.code) ((tt, refl, refl), tt),
+    )

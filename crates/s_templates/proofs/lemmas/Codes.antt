@@ -23,7 +23,8 @@ length-codes last others no_codes = refl
 length-codes last others (code_then k no_codes) = refl
 length-codes last others (code_then k (code_then j ks)) = ap suc (length-codes last (others + code_labels k) (code_then j ks))
 
-module _ (text : Text) (f : Frame) (sizes : ℕ → ℕ) (left : ℕ) (Inv : Bases → linear.State → Type 0) (has : HasWords text f) (addresses : Addresses) (labels : ℕ → Option ℕ) (p : PlainPlaces)
+module _ (text : Text) (f : Frame) (sizes : ℕ → ℕ) (left : ℕ) (Inv : Bases → linear.State → Type 0) (has : HasWords text f) (addresses : Addresses)
+    (labels : ℕ → Option ℕ) (p : PlainPlaces)
     (os : List PlainObject) (c : Context) (count : f.places ≡ p.count) (fits : Instr → Type 0)
     (instr : (i : Instr) → fits i → InstrFollows text f sizes left Inv has addresses labels p os c i) where
   abbrev At : ℕ → List Line → ℕ → Type 0
@@ -43,19 +44,23 @@ module _ (text : Text) (f : Frame) (sizes : ℕ → ℕ) (left : ℕ) (Inv : Bas
       (instr i fit q s cut.0 shown cut.1 (omega (arith, end, low)))
 
   -- the variables are moved in, and the loop's parts stand one after the other
-  loop-follows : (first x : ℕ) (moves back : List Instr) (body : List Line) (run : linear.Run) → InstrsFit fits moves → place_at p x < f.places → InstrsFit fits back → Follow body run
+  loop-follows : (first x : ℕ) (moves back : List Instr) (body : List Line) (run : linear.Run) → InstrsFit fits moves → place_at p x < f.places
+      → InstrsFit fits back → Follow body run
       → Follow (map done moves ++ label first ∷ body ++ branch_zero x (suc first) ∷ map done back ++ jump first ∷ label (suc first) ∷ [])
       (λ q. then_on (instrs_run c (map (placed_instr (place_at p)) moves) q) (turns c.bound run (place_at p x) (instrs_run c (map (placed_instr (place_at p)) back))))
   loop-follows first x moves back body run fit inside fit' follows q s b shown there low =
       let back_run = instrs_run c (map (placed_instr (place_at p)) back) in
-      then-outcome text f sizes left Inv moved-in.0 b c.bound (instrs_run c (map (placed_instr (place_at p)) moves) q) (turns c.bound run (place_at p x) back_run) s q.input
+      then-outcome text f sizes left Inv moved-in.0 b c.bound (instrs_run c (map (placed_instr (place_at p)) moves) q)
+      (turns c.bound run (place_at p x) back_run) s q.input
       (instrs moves fit q s moved-in.0 shown moved-in.1 (let le = body-le in omega (arith, le, low)))
       (λ q' t shown' at.
-      turns-follow text f sizes left Inv has addresses labels p os c x first inside body (map done back) run back_run follows (instrs back fit') moved-in.0 b low stands c.bound (omega arith) q' t
+      turns-follow text f sizes left Inv has addresses labels p os c x first inside body (map done back) run back_run follows
+      (instrs back fit') moved-in.0 b low stands c.bound (omega arith) q' t
       shown' at)
     where
       all : (m : ℕ) × At s.pc ((map done moves ++ (label first ∷ body)) ++ (branch_zero x (suc first) ∷ map done back)) m × At m (jump first ∷ label (suc first) ∷ []) b
-      all = lines-cut text addresses labels p os s.pc b ((map done moves ++ (label first ∷ body)) ++ (branch_zero x (suc first) ∷ map done back)) (jump first ∷ label (suc first) ∷ []) there
+      all = lines-cut text addresses labels p os s.pc b ((map done moves ++ (label first ∷ body)) ++ (branch_zero x (suc first) ∷ map done back))
+          (jump first ∷ label (suc first) ∷ []) there
 
       most : (m : ℕ) × At s.pc (map done moves ++ (label first ∷ body)) m × At m (branch_zero x (suc first) ∷ map done back) all.0
       most = lines-cut text addresses labels p os s.pc all.0 (map done moves ++ (label first ∷ body)) (branch_zero x (suc first) ∷ map done back) all.1
@@ -75,7 +80,8 @@ module _ (text : Text) (f : Frame) (sizes : ℕ → ℕ) (left : ℕ) (Inv : Bas
       end : (labels (suc first) ≡ Some jumped.0) × (jumped.0 ≡ b)
       end = label-here text addresses labels p os jumped.0 b (suc first) [] jumped.2
 
-      stands : LoopStands text f sizes left Inv has addresses labels p os c x first inside body (map done back) run (instrs_run c (map (placed_instr (place_at p)) back)) follows
+      stands : LoopStands text f sizes left Inv has addresses labels p os c x first inside body (map done back) run
+          (instrs_run c (map (placed_instr (place_at p)) back)) follows
           (instrs back fit') moved-in.0 b
       stands = record {
         body_end = most.0;
@@ -107,7 +113,8 @@ module _ (text : Text) (f : Frame) (sizes : ℕ → ℕ) (left : ℕ) (Inv : Bas
         let same = length-codes (last_from later cs) (others_from later cs) cs in
         let few = fit.1 in
         choice-follows text f sizes left Inv has addresses labels p os c x first ls (codes_runs c (placed_codes (place_at p) cs))
-        (λ two. predicate-below text f sizes left Inv has addresses labels p os c x count (fit.0 (omega (arith, two, same)))) (codes-follow cs (last_from later cs) (others_from later cs) fit.2)
+        (λ two. predicate-below text f sizes left Inv has addresses labels p os c x count (fit.0 (omega (arith, two, same))))
+        (codes-follow cs (last_from later cs) (others_from later cs) fit.2)
         (omega (arith, few, same))
     step-follows (loop moves body x back) first fit =
         loop-follows first x moves back (code_lines (2 + first) body) (code_run c (placed_code (place_at p) body)) fit.0

@@ -42,7 +42,8 @@ module _ (p : PlainPlaces) (os : List PlainObject) (range : IsInRange p os) wher
   pub places-end : 4 * words_of p.count + (4 + 4 * saved) ≤ size
   places-end = omega arith
 
-module _ (program : Program) (can : ProgramCanRun program) (p : PlainPlaces) (os : List PlainObject) (range : IsInRange p os) (leaves : all_of (λ (o : PlainObject). leaves_fit o.size 0 o.leaves) os ≡ true)
+module _ (program : Program) (can : ProgramCanRun program) (p : PlainPlaces) (os : List PlainObject) (range : IsInRange p os)
+    (leaves : all_of (λ (o : PlainObject). leaves_fit o.size 0 o.leaves) os ≡ true)
     (function : ℕ) (vs : List Value) (m : Memory) (input : List ℕ) (bases : Bases) (back : ℕ) (s : State) (called : IsCalled program function vs m input bases back s)
     (enough : frame_size p.count os ≤ s.regs sp - s.regs s0) (e : ℕ) (taken : Taken program.text s (frame_size p.count os) (saved_of p.count) e) where
   -- the stack pointer of the function
@@ -98,7 +99,8 @@ module _ (program : Program) (can : ProgramCanRun program) (p : PlainPlaces) (os
   pub live : (a : ℕ) → IsLive addresses blocks a → IsLive bases m a ⊎ ((bottom + 4 * words_of p.count ≤ a) × (a < saves_at))
   live a h = by (opened-live program.text.flags bases m os at (s.regs s0) saves_at fit called.has.fresh free called.memory.laid a h)
     where
-      by : IsLive bases m a ⊎ ((k : ℕ) × (o : PlainObject) × (slice_get os k ≡ Some o) × (at k ≤ a) × (a < at k + o.size + 4)) → IsLive bases m a ⊎ ((bottom + 4 * words_of p.count ≤ a) × (a < saves_at))
+      by : IsLive bases m a ⊎ ((k : ℕ) × (o : PlainObject) × (slice_get os k ≡ Some o) × (at k ≤ a) × (a < at k + o.size + 4)) → IsLive bases m a
+          ⊎ ((bottom + 4 * words_of p.count ≤ a) × (a < saves_at))
       by (inl old) = inl old
       by (inr h) =
           let from = h.3 in
@@ -173,7 +175,8 @@ module _ (program : Program) (can : ProgramCanRun program) (p : PlainPlaces) (os
       make o there =
           let small : word_of o.size ≡ o.size = (let to = fit.to k o there in let high = fit.high in omega (arith, to, high)) in
           let name : BlockName = record { number = length m + k; size = word_of o.size } in
-          let sizes : slice_get (map (λ (x : PlainObject). x.size) os) k ≡ Some o.size = slice_get-map (λ (x : PlainObject). x.size) os k ∙ ap (λ found. option_map (λ (x : PlainObject). x.size) found) there in
+          let sizes : slice_get (map (λ (x : PlainObject). x.size) os) k ≡ Some o.size = slice_get-map (λ (x : PlainObject). x.size) os k
+          ∙ ap (λ found. option_map (λ (x : PlainObject). x.size) found) there in
           record {
             name = name;
             block = new_block (word_of o.size) o.leaves;
@@ -185,7 +188,8 @@ module _ (program : Program) (can : ProgramCanRun program) (p : PlainPlaces) (os
             free = refl;
           }
 
-      by : ((o : PlainObject) × (k < length os) × (slice_get os k ≡ Some o) × (get_or os k o ≡ o)) ⊎ ((length os ≤ k) × (slice_get os k ≡ None)) → ObjectStands frame p os (local k) blocks k
+      by : ((o : PlainObject) × (k < length os) × (slice_get os k ≡ Some o) × (get_or os k o ≡ o)) ⊎ ((length os ≤ k) × (slice_get os k ≡ None))
+          → ObjectStands frame p os (local k) blocks k
       by (inl h) = make h.0 h.2
       by (inr h) = let past = h.0 in absurd (omega (arith, past, below))
 
@@ -194,7 +198,8 @@ module _ (program : Program) (can : ProgramCanRun program) (p : PlainPlaces) (os
     body = record {
       count = refl;
       objects = object;
-      globals = λ k below. let g = called.has.globals k below in (g.0, shows-more bases addresses extends (program.global k) (slice_index program.addresses.globals k) g.1);
+      globals = λ k below. let g = called.has.globals k below in
+          (g.0, shows-more bases addresses extends (program.global k) (slice_index program.addresses.globals k) g.1);
       buffer = record {
         below = (let below = called.has.below in omega (arith, below, enough));
         outside = λ h. buffer (live program.addresses.data_at h);

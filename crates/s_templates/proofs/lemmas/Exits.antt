@@ -20,13 +20,15 @@ use Rattle.s_templates.proofs.lemmas.Locations.{location-fits}
 use Rattle.s_templates.proofs.lemmas.Operands.{get-done}
 
 -- the environment call, where the registers say so
-pub ends : (text : Text) (s t : State) (w : ℕ) → Steps text.flags s t → HasText text t.mem → StandsAt text t.pc Ecall → t.regs a7 ≡ exit_call → t.regs a0 ≡ w → Exits text.flags s (w % 256)
+pub ends : (text : Text) (s t : State) (w : ℕ) → Steps text.flags s t → HasText text t.mem → StandsAt text t.pc Ecall → t.regs a7 ≡ exit_call → t.regs a0 ≡ w
+    → Exits text.flags s (w % 256)
 unfolding act call
 ends text s t w steps has there is status = record {
   count = steps.count + 1;
   runs = λ input.
       run_goes_on text.flags steps.count 1 s t input [] input (steps.reaches input)
-      ∙ ap (after_output []) (step_ends text.flags 0 t (word_of Ecall) Ecall (exit (w % 256)) input (fetched-there text t Ecall has there) (encoded_decodes Ecall there.fits) acts);
+      ∙ ap (after_output []) (step_ends text.flags 0 t (word_of Ecall) Ecall (exit (w % 256)) input (fetched-there text t Ecall has there)
+      (encoded_decodes Ecall there.fits) acts);
 }
   where
     acts : act text.flags Ecall t ≡ stop (exit (w % 256))
@@ -34,7 +36,8 @@ ends text s t w steps has there is status = record {
 
 pub exit_is_done : ExitIsDone
 unfolding act
-exit_is_done text f q s words rep a w b below is there low = ends text s two.state w (steps-then text.flags s one.state two.state one.steps two.steps) has2 code2.0 two.holds status
+exit_is_done text f q s words rep a w b below is there low =
+    ends text s two.state w (steps-then text.flags s one.state two.state one.steps two.steps) has2 code2.0 two.holds status
   where
     cut : (c : ℕ) × CodeStands text s.pc (get a0 (location_of a)) c × CodeStands text c (Addi a7 x0 exit_call ∷ Ecall ∷ []) b
     cut = code_is_cut text s.pc b (get a0 (location_of a)) (Addi a7 x0 exit_call ∷ Ecall ∷ []) there
@@ -53,7 +56,8 @@ exit_is_done text f q s words rep a w b below is there low = ends text s two.sta
 
     two : Computes text one.state (one.state.pc + 4) a7 exit_call
     two =
-        first-computes text one.state b (Addi a7 x0 exit_call) (Ecall ∷ []) a7 exit_call has1 (subst (λ c. CodeStands text c (Addi a7 x0 exit_call ∷ Ecall ∷ []) b) (sym one.pc) cut.2) low (omega arith)
+        first-computes text one.state b (Addi a7 x0 exit_call) (Ecall ∷ []) a7 exit_call has1
+        (subst (λ c. CodeStands text c (Addi a7 x0 exit_call ∷ Ecall ∷ []) b) (sym one.pc) cut.2) low (omega arith)
         (ap (λ n. next (give one.state a7 n)) (let e : (0 + exit_call) % 2 ^ 32 ≡ exit_call = omega arith in e))
 
     has2 : HasText text two.state.mem

@@ -26,7 +26,8 @@ use Rattle.s_templates.specs.Table.{place_at}
 use Rattle.s_templates.proofs.lemmas.Lines.{lines-le, line-cut, branches-zero, jumps-once}
 use Rattle.s_templates.proofs.lemmas.Outcomes.{Outcome, Shown, words-at, before-outcome, then-outcome, weaker, returns, arrives-outcome}
 
-module _ (text : Text) (f : Frame) (sizes : ℕ → ℕ) (left : ℕ) (Inv : Bases → linear.State → Type 0) (has : HasWords text f) (addresses : Addresses) (labels : ℕ → Option ℕ) (p : PlainPlaces)
+module _ (text : Text) (f : Frame) (sizes : ℕ → ℕ) (left : ℕ) (Inv : Bases → linear.State → Type 0) (has : HasWords text f) (addresses : Addresses)
+    (labels : ℕ → Option ℕ) (p : PlainPlaces)
     (os : List PlainObject) (c : Context) where
   abbrev pub Out : (b least : ℕ) → Answer linear.State → State → (input : List ℕ) → Type 0
   Out b least a s input = Outcome text f sizes left Inv b least a s input
@@ -111,12 +112,14 @@ module _ (text : Text) (f : Frame) (sizes : ℕ → ℕ) (left : ℕ) (Inv : Bas
           (weaker text f sizes left Inv h.body_end c.bound (suc n) s q.input (body_run q) less
           (body_follows q s h.body_end shown (subst (λ a. Stand a body h.body_end) (sym here) h.body_stands) (let le = below-end.0 in omega (arith, le, low))))
           (λ q' t shown' at.
-          on-a-number end (suc n) (q'.names (place_at p x)) (λ w. if w == 0 then Returned q' [] else then_on (back_run q') (turns n body_run (place_at p x) back_run)) t q'.input
+          on-a-number end (suc n) (q'.names (place_at p x)) (λ w. if w == 0 then Returned q' [] else then_on (back_run q') (turns n body_run (place_at p x) back_run)) t
+          q'.input
           (λ w word.
           let cut = line-cut text addresses labels p os h.body_end h.branch_end (branch_zero x (suc first)) [] h.branch_stands in
           let last : cut.0 ≡ h.branch_end = cut.2 in
           let le = below-end.1 in
-          let branch = branches-zero text addresses labels p os (at_bases f shown'.bases) (words-at text f shown'.bases has) q' t x w cut.0 (suc first) end shown'.shows inside word (omega (arith, last, le, low)) h.end_is low
+          let branch = branches-zero text addresses labels p os (at_bases f shown'.bases) (words-at text f shown'.bases has) q' t x w cut.0
+          (suc first) end shown'.shows inside word (omega (arith, last, le, low)) h.end_is low
           (subst (λ a. ItemsStand text addresses labels a (line_items p os (branch_zero x (suc first))) cut.0) (sym at) cut.1) in
           tested n (w == 0) q' t shown'.bases shown'.inv cut.0 last branch
           (λ q'' u shown'' here''. turns-follow n (omega (arith, less)) q'' u shown'' here'')
@@ -130,15 +133,19 @@ module _ (text : Text) (f : Frame) (sizes : ℕ → ℕ) (left : ℕ) (Inv : Bas
               let cut = line-cut text addresses labels p os h.back_end h.jump_end (jump first) [] h.jump_stands in
               let last : cut.0 ≡ h.jump_end = cut.2 in
               let o = h.order in
-              let j = jumps-once text addresses labels p os (at_bases f shown.bases) q u cut.0 first start q.input shown.shows (subst (λ a. ItemsStand text addresses labels a (line_items p os (jump first)) cut.0) (sym here) cut.1)
+              let j = jumps-once text addresses labels p os (at_bases f shown.bases) q u cut.0 first start q.input shown.shows
+              (subst (λ a. ItemsStand text addresses labels a (line_items p os (jump first)) cut.0) (sym here) cut.1)
               (omega (arith, last, o, low)) h.start_is start-low in
-              before-outcome text f sizes left Inv [] end n (suc n) 1 u j.0 q.input q.input j.1 (omega arith) (turns n body_run (place_at p x) back_run q) (more q j.0 (record { bases = shown.bases; inv = shown.inv; shows = j.2 }) j.3)
+              before-outcome text f sizes left Inv [] end n (suc n) 1 u j.0 q.input q.input j.1 (omega arith) (turns n body_run (place_at p x) back_run q)
+              (more q j.0 (record { bases = shown.bases; inv = shown.inv; shows = j.2 }) j.3)
 
           tested : (n : ℕ) (test : Bool) (q : linear.State) (t : State) (bases : Bases) → Inv bases q → (b : ℕ) → b ≡ h.branch_end
-              → Arrives text (at_bases f bases) (if test then end else b) q t → ((q' : linear.State) (u : State) → Shown text f Inv q' u → u.pc ≡ start → Out end n (turns n body_run (place_at p x) back_run q') u q'.input)
+              → Arrives text (at_bases f bases) (if test then end else b) q t
+              → ((q' : linear.State) (u : State) → Shown text f Inv q' u → u.pc ≡ start → Out end n (turns n body_run (place_at p x) back_run q') u q'.input)
               → suc n ≤ c.bound → Out end (suc n) (if test then Returned q [] else then_on (back_run q) (turns n body_run (place_at p x) back_run)) t q.input
           tested n true q t bases inv b last branch more less =
-              arrives-outcome text f sizes left Inv end end (suc n) q t bases (Returned q []) inv branch (λ u shown at. returns text f sizes left Inv end (suc n) q u shown at)
+              arrives-outcome text f sizes left Inv end end (suc n) q t bases (Returned q []) inv branch
+              (λ u shown at. returns text f sizes left Inv end (suc n) q u shown at)
           tested n false q t bases inv b last branch more less =
               arrives-outcome text f sizes left Inv b end (suc n) q t bases (then_on (back_run q) (turns n body_run (place_at p x) back_run)) inv branch
               (λ u shown at.

@@ -156,7 +156,8 @@ items_fit addresses labels at (Call f ∷ is) fit reach =
 items_fit addresses labels at (Stub s ∷ is) fit reach =
     fits-append (item_code addresses labels at (Stub s)) (items_code addresses labels (at + 8) is) (call-fits _) (items_fit addresses labels (at + 8) is fit reach.1)
 items_fit addresses labels at (Address r k ∷ is) fit reach =
-    fits-append (item_code addresses labels at (Address r k)) (items_code addresses labels (at + 8) is) (address-fits r _ fit.0) (items_fit addresses labels (at + 8) is fit.1 reach.1)
+    fits-append (item_code addresses labels at (Address r k)) (items_code addresses labels (at + 8) is) (address-fits r _ fit.0)
+    (items_fit addresses labels (at + 8) is fit.1 reach.1)
 
 -- ---- frames
 
@@ -188,7 +189,8 @@ restores-fit (suc n) few =
 pub taken-fits : (size saved : ℕ) → size < 2 ^ 32 → saved ≤ 11 → AllFit (take_frame size saved)
 unfolding FitsFormat
 taken-fits size saved low few =
-    fits-append (load_immediate t0 size) (rv.Sub t1 sp s0 ∷ rv.Bgeu t1 t0 8 ∷ rv.Ebreak ∷ rv.Sub sp sp t0 ∷ rv.Add t1 sp t0 ∷ rv.Sw t1 ra (negative 4) ∷ save_places saved)
+    fits-append (load_immediate t0 size) (rv.Sub t1 sp s0 ∷ rv.Bgeu t1 t0 8 ∷ rv.Ebreak ∷ rv.Sub sp sp t0 ∷ rv.Add t1 sp t0 ∷ rv.Sw t1 ra (negative 4)
+    ∷ save_places saved)
     (immediate-fits t0 size (lit< tt) low) (
       (lit< tt, lit< tt, lit< tt),
       (
@@ -201,12 +203,14 @@ pub given-fits : (size saved : ℕ) → size < 2 ^ 32 → saved ≤ 11 → AllFi
 unfolding FitsFormat
 given-fits size saved low few =
     fits-append (load_immediate t0 size ++ rv.Add t1 sp t0 ∷ restore_places saved) (rv.Lw ra t1 (negative 4) ∷ rv.Addi sp t1 0 ∷ rv.Jalr x0 ra 0 ∷ [])
-    (fits-append (load_immediate t0 size) (rv.Add t1 sp t0 ∷ restore_places saved) (immediate-fits t0 size (lit< tt) low) ((lit< tt, lit< tt, lit< tt), restores-fit saved few))
+    (fits-append (load_immediate t0 size) (rv.Add t1 sp t0 ∷ restore_places saved) (immediate-fits t0 size (lit< tt) low)
+    ((lit< tt, lit< tt, lit< tt), restores-fit saved few))
     ((negative-fits 4 (lit< tt) (omega arith), lit< tt, lit< tt), (((lit< tt, lit< tt), lit< tt, lit< tt), (((lit< tt, lit< tt), lit< tt, lit< tt), tt)))
 
 -- ---- templates
 
-pub two-fits : (t a b : Location) (code : ℕ → ℕ → ℕ → List Instr) → IsInReach t → IsInReach a → IsInReach b → ((rd x y : ℕ) → rd < 32 → x < 32 → y < 32 → AllFit (code rd x y))
+pub two-fits : (t a b : Location) (code : ℕ → ℕ → ℕ → List Instr) → IsInReach t → IsInReach a → IsInReach b
+    → ((rd x y : ℕ) → rd < 32 → x < 32 → y < 32 → AllFit (code rd x y))
     → AllFit (with_two t a b code)
 two-fits t a b code rt ra rb fit =
     fits-append (load_in t0 a ++ load_in t1 b ++ code (out_of t) (in_of a t0) (in_of b t1)) (store_out t)
@@ -215,18 +219,22 @@ two-fits t a b code rt ra rb fit =
     (fit (out_of t) (in_of a t0) (in_of b t1) (out-fits t rt) (in-fits a t0 (lit< tt) ra) (in-fits b t1 (lit< tt) rb)))
     (store-fits t rt)
 
-pub one-fits : (t a : Location) (code : ℕ → ℕ → List Instr) → IsInReach t → IsInReach a → ((rd x : ℕ) → rd < 32 → x < 32 → AllFit (code rd x)) → AllFit (with_one t a code)
+pub one-fits : (t a : Location) (code : ℕ → ℕ → List Instr) → IsInReach t → IsInReach a → ((rd x : ℕ) → rd < 32 → x < 32 → AllFit (code rd x))
+    → AllFit (with_one t a code)
 one-fits t a code rt ra fit =
     fits-append (load_in t0 a ++ code (out_of t) (in_of a t0)) (store_out t)
-    (fits-append (load_in t0 a) (code (out_of t) (in_of a t0)) (load-fits t0 a (lit< tt) ra) (fit (out_of t) (in_of a t0) (out-fits t rt) (in-fits a t0 (lit< tt) ra))) (store-fits t rt)
+    (fits-append (load_in t0 a) (code (out_of t) (in_of a t0)) (load-fits t0 a (lit< tt) ra) (fit (out_of t) (in_of a t0) (out-fits t rt) (in-fits a t0 (lit< tt) ra)))
+    (store-fits t rt)
 
 pub none-fits : (t : Location) (code : ℕ → List Instr) → IsInReach t → ((rd : ℕ) → rd < 32 → AllFit (code rd)) → AllFit (with_none t code)
 none-fits t code rt fit = fits-append (code (out_of t)) (store_out t) (fit (out_of t) (out-fits t rt)) (store-fits t rt)
 
 pub move-fits : (t a : Location) → IsInReach t → IsInReach a → AllFit (move_code t a)
 move-fits (Register r) a rt ra = get-fits r a rt ra
-move-fits (Near o) a rt ra = fits-append (load_in t0 a) (put (Near o) (in_of a t0)) (load-fits t0 a (lit< tt) ra) (put-fits (Near o) (in_of a t0) (in-fits a t0 (lit< tt) ra) rt)
-move-fits (Far o) a rt ra = fits-append (load_in t0 a) (put (Far o) (in_of a t0)) (load-fits t0 a (lit< tt) ra) (put-fits (Far o) (in_of a t0) (in-fits a t0 (lit< tt) ra) rt)
+move-fits (Near o) a rt ra = fits-append (load_in t0 a) (put (Near o) (in_of a t0)) (load-fits t0 a (lit< tt) ra)
+    (put-fits (Near o) (in_of a t0) (in-fits a t0 (lit< tt) ra) rt)
+move-fits (Far o) a rt ra = fits-append (load_in t0 a) (put (Far o) (in_of a t0)) (load-fits t0 a (lit< tt) ra)
+    (put-fits (Far o) (in_of a t0) (in-fits a t0 (lit< tt) ra) rt)
 
 pub load-width : (width rd a : ℕ) → rd < 32 → a < 32 → FitsFormat (load_instr width rd a)
 unfolding FitsFormat
@@ -249,7 +257,8 @@ store-width width a v x y = by (width == 1) (width == 2)
 pub clear-fits : (offset size : ℕ) → offset < 2 ^ 32 → size + 3 < 2 ^ 32 → AllFit (clear_code offset size)
 unfolding FitsFormat
 clear-fits offset size low small =
-    fits-append (load_immediate t0 offset ++ rv.Add t0 t0 sp ∷ load_immediate t1 ((size + 3) / 4 * 4)) (rv.Add t1 t1 t0 ∷ rv.Sw t0 x0 0 ∷ rv.Addi t0 t0 4 ∷ rv.Bltu t0 t1 (negative 8) ∷ [])
+    fits-append (load_immediate t0 offset ++ rv.Add t0 t0 sp ∷ load_immediate t1 ((size + 3) / 4 * 4))
+    (rv.Add t1 t1 t0 ∷ rv.Sw t0 x0 0 ∷ rv.Addi t0 t0 4 ∷ rv.Bltu t0 t1 (negative 8) ∷ [])
     (fits-append (load_immediate t0 offset) (rv.Add t0 t0 sp ∷ load_immediate t1 ((size + 3) / 4 * 4)) (immediate-fits t0 offset (lit< tt) low)
     ((lit< tt, lit< tt, lit< tt), immediate-fits t1 ((size + 3) / 4 * 4) (lit< tt) (omega (arith, small))))
     ((lit< tt, lit< tt, lit< tt), (((lit< tt, lit< tt), lit< tt, lit< tt), (((lit< tt, lit< tt), lit< tt, lit< tt), (((lit< tt, lit< tt), refl, lit< tt, lit< tt), tt))))

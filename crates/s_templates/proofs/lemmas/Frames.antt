@@ -43,7 +43,8 @@ record Tested (text : Text) (s : State) (size saved e : ℕ) : Type 0 where
   others : (r : ℕ) → r ≢ t0 → r ≢ t1 → r ≢ t2 → state.regs r ≡ s.regs r
   mem : state.mem ≡ s.mem
 
-tests : (text : Text) (s : State) (size saved e : ℕ) → HasStack text s → IsFrameSize size saved → CodeStands text s.pc (load_immediate t0 size ++ testing saved) e → e < 2 ^ 32
+tests : (text : Text) (s : State) (size saved e : ℕ) → HasStack text s → IsFrameSize size saved
+    → CodeStands text s.pc (load_immediate t0 size ++ testing saved) e → e < 2 ^ 32
     → Tested text s size saved e
 unfolding act
 tests text s size saved e has frame there low = record {
@@ -272,7 +273,8 @@ finds-end text s size e rest has high there low = record {
 
     one : Computes text s cut.0 t0 size
     one =
-        immediate-loads text s cut.0 t0 size has cut.1 (let le = code-le text cut.0 (Add t1 sp t0 ∷ rest) e cut.2 in omega (arith, le, low)) (omega arith) (omega (arith, high))
+        immediate-loads text s cut.0 t0 size has cut.1 (let le = code-le text cut.0 (Add t1 sp t0 ∷ rest) e cut.2 in
+        omega (arith, le, low)) (omega arith) (omega (arith, high))
 
     code1 : CodeStands text one.state.pc (Add t1 sp t0 ∷ rest) e
     code1 = subst (λ a. CodeStands text a (Add t1 sp t0 ∷ rest) e) (sym one.pc) cut.2
@@ -284,7 +286,8 @@ finds-end text s size e rest has high there low = record {
         (ap₂ (λ a b. (a + b) % 2 ^ 32) (one.others sp (omega arith) (omega arith)) one.holds
         ∙ (let d : (s.regs sp + size) % 2 ^ 32 ≡ s.regs sp + size = omega (arith, high) in d)))
 
-restored : (text : Text) (s : State) (size saved e : ℕ) → HasFrame text s size → IsFrameSize size saved → CodeStands text s.pc (give_frame size saved) e → e < 2 ^ 32 → Restored text s size saved e
+restored : (text : Text) (s : State) (size saved e : ℕ) → HasFrame text s size → IsFrameSize size saved → CodeStands text s.pc (give_frame size saved) e → e < 2 ^ 32
+    → Restored text s size saved e
 restored text s size saved e has frame there low = record {
   state = two.state;
   steps = steps-then text.flags s one.state two.state one.steps two.steps;
@@ -318,7 +321,8 @@ restored text s size saved e has frame there low = record {
 
     two : Restores text top (let a = has.aligned in let b = frame.aligned in omega (arith, a, b)) has.low one.state cut.0 saved
     two =
-        restores text top (let a = has.aligned in let b = frame.aligned in omega (arith, a, b)) has.low saved one.state cut.0 has1 one.end_is (let h = holds in omega (arith, h)) few
+        restores text top (let a = has.aligned in let b = frame.aligned in omega (arith, a, b)) has.low saved one.state cut.0 has1 one.end_is (let h = holds in
+        omega (arith, h)) few
         (λ a from to. has.readable a (let h = holds in omega (arith, h, from)) to) cut.1 (let le = code-le text cut.0 leaving e cut.2 in omega (arith, le, low))
 
 leaves : (text : Text) (s : State) (size saved back e : ℕ) → HasFrame text s size → IsFrameSize size saved → e < 2 ^ 32
@@ -356,7 +360,8 @@ leaves text s size saved back e has frame low return-is small even h = record {
         (load-acts text.flags h.state ra t1 (negative 4) (top - 4)
         (ap (λ z. (z + negative 4) % 2 ^ 32) h.end_is ∙ word-place top 4 (let n = holds in omega (arith, n)) (omega arith) has.low)
         (let a = has.aligned in let b = frame.aligned in let n = holds in omega (arith, a, b, n))
-        (flags_allow text.flags to_read (top - 4) 4 (λ j below. has.readable (top - 4 + j) (let n = holds in omega (arith, n)) (let n = holds in omega (arith, n, below))))
+        (flags_allow text.flags to_read (top - 4) 4 (λ j below. has.readable (top - 4 + j) (let n = holds in omega (arith, n)) (let n = holds in
+        omega (arith, n, below))))
         ∙ ap (λ n. next (give h.state ra n)) (ap (λ m. load_bytes m (top - 4) 4) h.mem ∙ return-is))
 
     has1 : HasText text one.state.mem

@@ -25,8 +25,10 @@ use Rattle.s_templates.proofs.lemmas.Follows.{InstrFollows}
 use Rattle.s_templates.proofs.lemmas.Outcomes.{Shown, words-at}
 use Rattle.s_templates.proofs.lemmas.Stores.{SameBlocks, alike}
 
-module _ (program : Program) (can : ProgramCanRun program) (bound : ℕ) (meaning : ℕ → Call) (run : CallsRun program bound meaning) (f : Frame) (p : PlainPlaces) (os : List PlainObject)
-    (local : ℕ → Value) (blocks : Memory) (frame : BodyStack program f blocks) (labels : ℕ → Option ℕ) (count : f.places ≡ p.count) (done : InstrIsDone) (store-keeps : StoreKeepsBlocks)
+module _ (program : Program) (can : ProgramCanRun program) (bound : ℕ) (meaning : ℕ → Call) (run : CallsRun program bound meaning) (f : Frame) (p : PlainPlaces)
+    (os : List PlainObject)
+    (local : ℕ → Value) (blocks : Memory) (frame : BodyStack program f blocks) (labels : ℕ → Option ℕ) (count : f.places ≡ p.count) (done : InstrIsDone)
+    (store-keeps : StoreKeepsBlocks)
     (clear-keeps : ClearKeepsBlocks) where
   abbrev C : linear.Context
   C = context program can bound meaning run f p os local blocks frame labels
@@ -54,7 +56,8 @@ module _ (program : Program) (can : ProgramCanRun program) (bound : ℕ) (meanin
       let answer = instr_run C (placed_instr (place_at p) i) q in
       inr
       (reached program.text f (frame_sizes program.functions) (f.sp - f.before.regs 8) I shown.bases b bound answer s q.input
-      (done program.text (at_bases f shown.bases) program.addresses labels p os C q s i b bound (words-at program.text f shown.bases frame.has) shown.shows shown.inv.body shown.inv.bytes fits.0 fits.1
+      (done program.text (at_bases f shown.bases) program.addresses labels p os C q s i b bound (words-at program.text f shown.bases frame.has) shown.shows shown.inv.body
+      shown.inv.bytes fits.0 fits.1
       fits.2 plain there low)
       (gives-more (Leaves q) (I shown.bases) answer (λ x h. kept shown.bases q x shown.inv h) (leaves C p store-keeps clear-keeps q shown.inv.bytes i plain)))
 
@@ -62,7 +65,8 @@ module _ (program : Program) (can : ProgramCanRun program) (bound : ℕ) (meanin
   instr-follows (const t w) fits = plain-follows (const t w) fits fits.3
   instr-follows (call n t xs) fits = λ q s b shown there low.
       let entry = can.entries n in
-      call-follows program can bound meaning run f p os local blocks frame labels n t xs q s b fits.0 (leb-true (length xs) 8 fits.4) count shown there low entry.0 entry.1
+      call-follows program can bound meaning run f p os local blocks frame labels n t xs q s b fits.0 (leb-true (length xs) 8 fits.4) count shown there low
+      entry.0 entry.1
   instr-follows (undef t) fits = plain-follows (undef t) fits tt
   instr-follows (object_address t k) fits = plain-follows (object_address t k) fits tt
   instr-follows (global_address t k) fits = plain-follows (global_address t k) fits tt
@@ -77,9 +81,11 @@ module _ (program : Program) (can : ProgramCanRun program) (bound : ℕ) (meanin
   instr-follows (get t) fits = plain-follows (get t) fits tt
   instr-follows (exit x) fits = plain-follows (exit x) fits tt
 
-  pub body-follows : (k : Code) (first : ℕ) (q : linear.State) (s : State) (b : ℕ) → CodeFits (InstrCanRun p (length os) (length program.addresses.globals)) p k → Shown program.text f I q s
+  pub body-follows : (k : Code) (first : ℕ) (q : linear.State) (s : State) (b : ℕ) → CodeFits (InstrCanRun p (length os) (length program.addresses.globals)) p k
+      → Shown program.text f I q s
       → LinesStand program.text program.addresses labels p os s.pc (code_lines first k) b → b < 2 ^ 32
       → Out program can bound meaning run f p os local blocks frame labels b (code_run C (placed_code (place_at p) k) q) s q.input
   body-follows k first q s b fits shown there low =
-      code-follows program.text f (frame_sizes program.functions) (f.sp - f.before.regs 8) I frame.has program.addresses labels p os C count (InstrCanRun p (length os) (length program.addresses.globals))
+      code-follows program.text f (frame_sizes program.functions) (f.sp - f.before.regs 8) I frame.has program.addresses labels p os C count
+      (InstrCanRun p (length os) (length program.addresses.globals))
       instr-follows k first fits q s b shown there low

@@ -87,9 +87,11 @@ exceeds-called flags sizes left left' f n es s t input reaches enough h = record
 
 -- ---- one call
 
-module _ (program : Program) (can : ProgramCanRun program) (bound : ℕ) (meaning : ℕ → Call) (calls : CallsRun program bound meaning) (done : InstrIsDone) (store-keeps : StoreKeepsBlocks)
+module _ (program : Program) (can : ProgramCanRun program) (bound : ℕ) (meaning : ℕ → Call) (calls : CallsRun program bound meaning) (done : InstrIsDone)
+    (store-keeps : StoreKeepsBlocks)
     (clear-keeps : ClearKeepsBlocks) (new-keep : NewBlocksKeepLoads) (closed-keep : ClosedBlocksKeepLoads) (k : ℕ) (p : PlainPlaces) (f : LinearFunction)
-    (stands : FunctionStands program (slice_index program.addresses.functions k) p f) (size-is : frame_sizes program.functions k ≡ frame_size p.count f.objects) (vs : List Value) (m : Memory)
+    (stands : FunctionStands program (slice_index program.addresses.functions k) p f) (size-is : frame_sizes program.functions k ≡ frame_size p.count f.objects)
+    (vs : List Value) (m : Memory)
     (input : List ℕ) (bases : Bases) (back : ℕ) (s : State) (is-called : IsCalled program k vs m input bases back s) where
   abbrev os : List PlainObject
   os = f.objects
@@ -111,12 +113,15 @@ module _ (program : Program) (can : ProgramCanRun program) (bound : ℕ) (meanin
   whole : (b : ℕ) × ItemsStand text program.addresses stands.labels (slice_index program.addresses.functions k) (line_items p os (enter xs)) b
       × LinesStand text program.addresses stands.labels p os b (code_lines 0 f.code ++ leave f.value ∷ []) stands.end
   whole =
-      line-cut text program.addresses stands.labels p os (slice_index program.addresses.functions k) stands.end (enter xs) (code_lines 0 f.code ++ leave f.value ∷ []) stands.there
+      line-cut text program.addresses stands.labels p os (slice_index program.addresses.functions k) stands.end (enter xs)
+      (code_lines 0 f.code ++ leave f.value ∷ []) stands.there
 
-  code : (b : ℕ) × LinesStand text program.addresses stands.labels p os whole.0 (code_lines 0 f.code) b × LinesStand text program.addresses stands.labels p os b (leave f.value ∷ []) stands.end
+  code : (b : ℕ) × LinesStand text program.addresses stands.labels p os whole.0 (code_lines 0 f.code) b
+      × LinesStand text program.addresses stands.labels p os b (leave f.value ∷ []) stands.end
   code = lines-cut text program.addresses stands.labels p os whole.0 stands.end (code_lines 0 f.code) (leave f.value ∷ []) whole.2
 
-  last : (b : ℕ) × ItemsStand text program.addresses stands.labels code.0 (line_items p os (leave f.value)) b × LinesStand text program.addresses stands.labels p os b [] stands.end
+  last : (b : ℕ) × ItemsStand text program.addresses stands.labels code.0 (line_items p os (leave f.value)) b
+      × LinesStand text program.addresses stands.labels p os b [] stands.end
   last = line-cut text program.addresses stands.labels p os code.0 stands.end (leave f.value) [] code.2
 
   entered : (b : ℕ) × CodeStands text (slice_index program.addresses.functions k) (take_frame size saved) b × CodeStands text b (select.put_params p a0 xs) whole.0
@@ -188,7 +193,8 @@ module _ (program : Program) (can : ProgramCanRun program) (bound : ℕ) (meanin
     put =
         params_are_put text F (entry.first program can p os stands.can.range stands.can.leaves k vs m input bases back s is-called enough entered.0 taken) taken.state
         (entry.has-words program can p os stands.can.range stands.can.leaves k vs m input bases back s is-called enough entered.0 taken)
-        (entry.represents program can p os stands.can.range stands.can.leaves k vs m input bases back s is-called enough entered.0 taken new-keep) p xs vs whole.0 refl stands.can.params stands.can.few
+        (entry.represents program can p os stands.can.range stands.can.leaves k vs m input bases back s is-called enough entered.0 taken new-keep) p xs vs whole.0 refl
+        stands.can.params stands.can.few
         (λ j below.
         subst (Shows fresh_bases (first_names vs j)) (sym (taken.others (a0 + j) (omega arith) (omega arith) (omega arith) (omega arith)))
         (shows-more bases fresh_bases extends (first_names vs j) (s.regs (a0 + j)) (is-called.values j (let few = stands.can.few in omega (arith, few, below)))))
@@ -222,7 +228,8 @@ module _ (program : Program) (can : ProgramCanRun program) (bound : ℕ) (meanin
 
     body : Out program can bound meaning calls F p os local all stack-body stands.labels code.0 answer put.state input
     body =
-        body-follows program can bound meaning calls F p os local all stack-body stands.labels refl done store-keeps clear-keeps f.code 0 start put.state code.0 stands.can.code shown
+        body-follows program can bound meaning calls F p os local all stack-body stands.labels refl done store-keeps clear-keeps f.code 0 start put.state code.0
+        stands.can.code shown
         (subst (λ a. LinesStand text program.addresses stands.labels p os a (code_lines 0 f.code) code.0) (sym put.pc) code.1) code-low
 
     space : s.regs sp - s.regs s0 ≤ F.sp - F.before.regs s0 + frame_sizes program.functions k
@@ -230,7 +237,8 @@ module _ (program : Program) (can : ProgramCanRun program) (bound : ℕ) (meanin
 
     -- the frame is given back
     comes-back : (q : linear.State) (o : List Event) → Brings text F I code.0 q o put.state input
-        → ComesBack program m bases back (record { value = q.names (place_at p f.value); memory = closed (length m) (length os) q.memory; input = q.input }) (called k (o ++ [])) s input
+        → ComesBack program m bases back (record { value = q.names (place_at p f.value); memory = closed (length m) (length os) q.memory; input = q.input })
+        (called k (o ++ [])) s input
     comes-back q o h = record {
       state = e.state;
       count = lead.count + (h.count + e.steps.count);
@@ -246,7 +254,8 @@ module _ (program : Program) (can : ProgramCanRun program) (bound : ℕ) (meanin
       bases' = more;
       extends = extends-then bases fresh_bases more extends inv.extends;
       value = e.value;
-      memory = subst (ShowsMemory text.flags more (closed (length m) (length os) q.memory)) (sym e.mem) (closed-shown closed-keep text.flags more h.state.mem (length m) (length os) q.memory rep.memory);
+      memory = subst (ShowsMemory text.flags more (closed (length m) (length os) q.memory)) (sym e.mem)
+          (closed-shown closed-keep text.flags more h.state.mem (length m) (length os) q.memory rep.memory);
       fresh = λ n past. (let same = length-closed (length m) (length os) q.memory in inv.fresh n (omega (arith, past, same)));
       alike = closed-alike m os q.memory inv.alike;
       above = above;
@@ -267,7 +276,8 @@ module _ (program : Program) (can : ProgramCanRun program) (bound : ℕ) (meanin
             subst (λ a. CodeStands text a (get a0 (location_of (place_at p f.value)) ++ give_frame size saved) last.0) (sym h.pc)
             (words_stand text program.addresses stands.labels code.0 last.0 (get a0 (location_of (place_at p f.value)) ++ give_frame size saved) last.1)
 
-        e : ending.Ended program can p os stands.can.range stands.can.leaves k vs m input bases back s is-called enough entered.0 taken q more (place_at p f.value) h.state
+        e : ending.Ended program can p os stands.can.range stands.can.leaves k vs m input bases back s is-called enough entered.0 taken q more
+            (place_at p f.value) h.state
         e =
             ending.ends program can p os stands.can.range stands.can.leaves k vs m input bases back s is-called enough entered.0 taken q more inv (place_at p f.value)
             (place-below p p.count refl f.value stands.can.value) h.state rep last.0 there last-low
@@ -277,7 +287,8 @@ module _ (program : Program) (can : ProgramCanRun program) (bound : ℕ) (meanin
             let ends = entry.places-end p os stands.can.range in
             ap (λ mem. mem a) e.mem
             ∙ rep.above a (omega (arith, from, ends, enough))
-            (λ live. by (ending.live-now program can p os stands.can.range stands.can.leaves k vs m input bases back s is-called enough entered.0 taken q more inv (place_at p f.value)
+            (λ live. by (ending.live-now program can p os stands.can.range stands.can.leaves k vs m input bases back s is-called enough entered.0 taken q more inv
+            (place_at p f.value)
             (place-below p p.count refl f.value stands.can.value) h.state rep last.0 there last-low a live))
             ∙ taken.memory a (inr from)
           where
@@ -290,7 +301,8 @@ module _ (program : Program) (can : ProgramCanRun program) (bound : ℕ) (meanin
     finish a (inl h) =
         inl
         (subst (λ es. Exceeds text.flags (frame_sizes program.functions) (s.regs sp - s.regs s0) es s input) (sym (events-active k (then_on a give)))
-        (exceeds-called text.flags (frame_sizes program.functions) (s.regs sp - s.regs s0) (F.sp - F.before.regs s0) k lead.count (events (then_on a give)) s put.state input (lead.reaches input) space
+        (exceeds-called text.flags (frame_sizes program.functions) (s.regs sp - s.regs s0) (F.sp - F.before.regs s0) k lead.count
+        (events (then_on a give)) s put.state input (lead.reaches input) space
         (all-events a h)))
       where
         all-events : (a : Answer linear.State) → Exceeds text.flags (frame_sizes program.functions) (F.sp - F.before.regs s0) (events a) put.state input
@@ -331,7 +343,8 @@ module _ (program : Program) (can : ProgramCanRun program) (bound : ℕ) (meanin
 
 -- ---- every bound
 
-module _ (program : Program) (can : ProgramCanRun program) (done : InstrIsDone) (store-keeps : StoreKeepsBlocks) (clear-keeps : ClearKeepsBlocks) (new-keep : NewBlocksKeepLoads)
+module _ (program : Program) (can : ProgramCanRun program) (done : InstrIsDone) (store-keeps : StoreKeepsBlocks) (clear-keeps : ClearKeepsBlocks)
+    (new-keep : NewBlocksKeepLoads)
     (closed-keep : ClosedBlocksKeepLoads) where
   -- calls at the bound above
   step : (bound : ℕ) (meaning : ℕ → Call) → CallsRun program bound meaning
@@ -339,7 +352,8 @@ module _ (program : Program) (can : ProgramCanRun program) (done : InstrIsDone) 
   step bound meaning calls k vs m input bases back s is-called = by (slice_get program.functions k) refl
     where
       by : (found : Option LinearFunction) → slice_get program.functions k ≡ found
-          → CallOutcome program (suc bound) m bases back (active k (placed_entered bound meaning program.global (slice_get (map placed program.functions) k) vs m input)) s input
+          → CallOutcome program (suc bound) m bases back (active k (placed_entered bound meaning program.global (slice_get (map placed program.functions) k) vs m input))
+          s input
       by None e =
           subst (λ x. CallOutcome program (suc bound) m bases back (active k (placed_entered bound meaning program.global x vs m input)) s input)
           (sym (slice_get-map placed program.functions k ∙ ap (option_map placed) e)) (inr tt)
@@ -351,17 +365,20 @@ module _ (program : Program) (can : ProgramCanRun program) (done : InstrIsDone) 
                 inl
                 (subst (λ es. Exceeds program.text.flags (frame_sizes program.functions) (s.regs sp - s.regs s0) es s input)
                 (sym (events-active k (placed_entered bound meaning program.global (Some (placed f)) vs m input)))
-                (exceeds program can bound meaning calls done store-keeps clear-keeps new-keep closed-keep k (places_of f) f (can.functions k f e) (size-is f e) vs m input bases back s is-called less
+                (exceeds program can bound meaning calls done store-keeps clear-keeps new-keep closed-keep k (places_of f) f (can.functions k f e)
+                (size-is f e) vs m input bases back s is-called less
                 (events (placed_entered bound meaning program.global (Some (placed f)) vs m input))))
             | inr enough ↦
-                function-runs program can bound meaning calls done store-keeps clear-keeps new-keep closed-keep k (places_of f) f (can.functions k f e) (size-is f e) vs m input bases back s is-called enough
+                function-runs program can bound meaning calls done store-keeps clear-keeps new-keep closed-keep k (places_of f) f (can.functions k f e)
+                (size-is f e) vs m input bases back s is-called enough
           ])
         where
           size-is : (f : LinearFunction) → slice_get program.functions k ≡ Some f → frame_sizes program.functions k ≡ frame_of f
           size-is f e = get_or_from_slice_get (map frame_of program.functions) k (frame_of f) 0 (slice_get-map frame_of program.functions k ∙ ap (option_map frame_of) e)
 
   calls-run : (bound : ℕ) → CallsRun program bound (placed_calls (map placed program.functions) program.global bound)
-  calls-run zero = λ k vs m input bases back s is-called. inr (record { state = s; count = 0; rest = input; enough = omega arith; reaches = record { to = run-zero program.text.flags (running s) input } })
+  calls-run zero = λ k vs m input bases back s is-called. inr
+      (record { state = s; count = 0; rest = input; enough = omega arith; reaches = record { to = run-zero program.text.flags (running s) input } })
   calls-run (suc bound) = step bound (placed_calls (map placed program.functions) program.global bound) (calls-run bound)
 
 pub functions_run : InstrIsDone → StoreKeepsBlocks → ClearKeepsBlocks → NewBlocksKeepLoads → ClosedBlocksKeepLoads → FunctionsRun

@@ -68,7 +68,8 @@ comes text s buffer back e called there low = record {
 
     second : Set text first.state 0 read_call buffer asking e
     second =
-        sets text first.state 0 read_call buffer asking e has1 (subst (λ a. CodeStands text a (setting 0 read_call asking) e) (sym first.pc) cut.2) low first.holds called.buffer_low
+        sets text first.state 0 read_call buffer asking e has1 (subst (λ a. CodeStands text a (setting 0 read_call asking) e) (sym first.pc) cut.2) low first.holds
+        called.buffer_low
         (omega arith) (omega arith)
 
 module _ (text : Text) (s : State) (buffer back e : ℕ) (called : StubIsCalled text s buffer back) (h : Asks text s buffer e) (low : e < 2 ^ 32) where
@@ -114,11 +115,13 @@ module _ (text : Text) (s : State) (buffer back e : ℕ) (called : StubIsCalled 
 
     has1 : HasText text u1.mem
     has1 =
-        text-keeps text h.state.mem u1.mem buffer h.has_text called.writable (λ a ne. ap (λ m. m a) mem1 ∙ (let other : (a == buffer) ≡ false = ne_eqb a buffer ne in rw other refl))
+        text-keeps text h.state.mem u1.mem buffer h.has_text called.writable (λ a ne. ap (λ m. m a) mem1 ∙ (let other : (a == buffer) ≡ false = ne_eqb a buffer ne in
+        rw other refl))
 
     reads : Reaches text.flags 1 h.state (b ∷ input) [] u1 input
     unfolding u1
-    reads = step_reads text.flags h.state (word_of Ecall) Ecall (received h.state) b input (fetched-there text h.state Ecall h.has_text h.code.0) (encoded_decodes Ecall h.code.0.fits) h.asks
+    reads = step_reads text.flags h.state (word_of Ecall) Ecall (received h.state) b input (fetched-there text h.state Ecall h.has_text h.code.0)
+        (encoded_decodes Ecall h.code.0.fits) h.asks
 
     goes-on : Steps text.flags u1 u2
     unfolding act u1 u2 give
@@ -211,7 +214,8 @@ module _ (text : Text) (s : State) (buffer back e : ℕ) (called : StubIsCalled 
 
   at-end : Reaches text.flags 1 h.state [] [] v1 []
   unfolding v1
-  at-end = step_reads_end text.flags h.state (word_of Ecall) Ecall (received h.state) (fetched-there text h.state Ecall h.has_text h.code.0) (encoded_decodes Ecall h.code.0.fits) h.asks
+  at-end = step_reads_end text.flags h.state (word_of Ecall) Ecall (received h.state) (fetched-there text h.state Ecall h.has_text h.code.0)
+      (encoded_decodes Ecall h.code.0.fits) h.asks
 
   skips : Steps text.flags v1 v2
   unfolding act v1 v2 give

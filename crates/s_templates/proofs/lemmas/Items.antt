@@ -38,7 +38,8 @@ module _ (text : Text) (addresses : Addresses) where
       let sum = sum_by-cons item_size i is in
       omega (arith, e, sum)
 
-  pub functions_stand : (at b : ℕ) (fs : List (List Item)) → CodeStands text at (functions_code addresses at fs) b → FunctionsStandFrom text addresses fs (functions_from at fs)
+  pub functions_stand : (at b : ℕ) (fs : List (List Item)) → CodeStands text at (functions_code addresses at fs) b
+      → FunctionsStandFrom text addresses fs (functions_from at fs)
   functions_stand at b [] h = tt
   functions_stand at b (f ∷ fs) h =
       let r = code_is_cut text at b (function_code addresses at f) (functions_code addresses (at + items_size f) fs) h in

@@ -28,10 +28,12 @@ shown-running o t e = subst (λ h. shown (record { hart = h; output = o.output; 
 running-within : (a : Answer (Given Value)) (o : RunResult) (t : State) → (IsUndefined a → ⊥) → o.hart ≡ running t → IsPrefixOf o.output (output (events a)) → Back o a
 running-within (Returned g did) o t defined e pre = subst (λ b. IsWithin b (behaviour (Returned g did))) (sym (shown-running o t e)) pre
 running-within (Cut did) o t defined e pre = let a : Answer (Given Value) = Cut did in subst (λ b. IsWithin b (behaviour a)) (sym (shown-running o t e)) pre
-running-within (Exited did status) o t defined e pre = let a : Answer (Given Value) = Exited did status in subst (λ b. IsWithin b (behaviour a)) (sym (shown-running o t e)) pre
+running-within (Exited did status) o t defined e pre = let a : Answer (Given Value) = Exited did status in
+    subst (λ b. IsWithin b (behaviour a)) (sym (shown-running o t e)) pre
 running-within (Undefined did) o t defined e pre = absurd (defined tt)
 
-module _ (program : Program) (near : ℕ → Answer (Given Value)) (s : State) (input : List ℕ) (outcome : (n : ℕ) → StartOutcome program n (near n) s input) (defined : (n : ℕ) → IsUndefined (near n) → ⊥) where
+module _ (program : Program) (near : ℕ → Answer (Given Value)) (s : State) (input : List ℕ) (outcome : (n : ℕ) → StartOutcome program n (near n) s input)
+    (defined : (n : ℕ) → IsUndefined (near n) → ⊥) where
   abbrev machine : ℕ → RunResult
   machine n = run program.text.flags n (running s) input
 
@@ -62,7 +64,11 @@ module _ (program : Program) (near : ℕ → Answer (Given Value)) (s : State) (
   compare-running n c t le e = by (before n c le (machine n).hart refl)
     where
       by : (machine c ≡ machine n) ⊎ IsBefore n c → IsBefore n c
-      by (inl same) = record { state = t; hart = ap (λ r. r.hart) (sym same) ∙ e; output = subst (λ r. IsPrefixOf (machine n).output r.output) (sym same) (prefix-self (machine n).output) }
+      by (inl same) = record {
+        state = t;
+        hart = ap (λ r. r.hart) (sym same) ∙ e;
+        output = subst (λ r. IsPrefixOf (machine n).output r.output) (sym same) (prefix-self (machine n).output);
+      }
       by (inr h) = h
 
   stops : (n : ℕ) (a : Answer (Given Value)) → near n ≡ a → (h : Over a) → StopsWithin near (machine h.count)
@@ -72,7 +78,8 @@ module _ (program : Program) (near : ℕ → Answer (Given Value)) (s : State) (
 
   -- ---- both directions
 
-  forward : (n : ℕ) (a : Answer (Given Value)) → near n ≡ a → StartOutcome program n a s input → (IsUndefined a → ⊥) → ((m : ℕ) × Near a (machine m)) ⊎ ((m : ℕ) × StopsWithin near (machine m))
+  forward : (n : ℕ) (a : Answer (Given Value)) → near n ≡ a → StartOutcome program n a s input → (IsUndefined a → ⊥) → ((m : ℕ) × Near a (machine m))
+      ⊎ ((m : ℕ) × StopsWithin near (machine m))
   forward n a e (inl h) d = inr (h.count, stops n a e h)
   forward n (Returned g did) e (inr h) d = absurd h
   forward n (Cut did) e (inr h) d = inl (h.count, subst (Near (Cut did)) (sym h.reaches.to) (prefix-self (output did)))
@@ -80,11 +87,16 @@ module _ (program : Program) (near : ℕ → Answer (Given Value)) (s : State) (
   forward n (Undefined did) e (inr h) d = absurd (d tt)
 
   -- a run that goes on yet is within what its bound means
-  within : (n c : ℕ) (a : Answer (Given Value)) → near n ≡ a → (IsUndefined a → ⊥) → IsBefore n c → IsPrefixOf (machine c).output (output (events a)) → (m : ℕ) × Back (machine n) (near m)
-  within n c a e d h pre =
-      (n, subst (Back (machine n)) (sym e) (running-within a (machine n) h.state d h.hart (prefixes_compose (machine n).output (machine c).output (output (events a)) h.output pre)))
+  within : (n c : ℕ) (a : Answer (Given Value)) → near n ≡ a → (IsUndefined a → ⊥) → IsBefore n c → IsPrefixOf (machine c).output (output (events a))
+      → (m : ℕ) × Back (machine n) (near m)
+  within n c a e d h pre = (
+    n,
+    subst (Back (machine n)) (sym e) (running-within a (machine n) h.state d h.hart
+        (prefixes_compose (machine n).output (machine c).output (output (events a)) h.output pre)),
+  )
 
-  back : (n : ℕ) (a : Answer (Given Value)) → near n ≡ a → StartOutcome program n a s input → (IsUndefined a → ⊥) → ((m : ℕ) × Back (machine n) (near m)) ⊎ StopsWithin near (machine n)
+  back : (n : ℕ) (a : Answer (Given Value)) → near n ≡ a → StartOutcome program n a s input → (IsUndefined a → ⊥) → ((m : ℕ) × Back (machine n) (near m))
+      ⊎ StopsWithin near (machine n)
   back n a e (inl h) d = by (compare n h.count stack (ap (λ r. r.hart) h.runs))
     where
       by : (machine n ≡ machine h.count) ⊎ IsBefore n h.count → ((m : ℕ) × Back (machine n) (near m)) ⊎ StopsWithin near (machine n)

@@ -41,7 +41,8 @@ module _ (p : PlainPlaces) (os : List PlainObject) (range : IsInRange p os) wher
   arguments-fit : (r : ℕ) (xs : List ℕ) → r + length xs ≤ 32 → AllFit (get_arguments p r xs)
   arguments-fit r [] few = tt
   arguments-fit r (x ∷ xs) few =
-      fits-append (get r (place_of p x)) (get_arguments p (suc r) xs) (get-fits r (place_of p x) (omega (arith, few)) (at x)) (arguments-fit (suc r) xs (omega (arith, few)))
+      fits-append (get r (place_of p x)) (get_arguments p (suc r) xs) (get-fits r (place_of p x) (omega (arith, few)) (at x))
+      (arguments-fit (suc r) xs (omega (arith, few)))
 
   params-fit : (r : ℕ) (xs : List ℕ) → r + length xs ≤ 32 → AllFit (put_params p r xs)
   params-fit r [] few = tt
@@ -51,15 +52,18 @@ module _ (p : PlainPlaces) (os : List PlainObject) (range : IsInRange p os) wher
   object-fits : (k rd : ℕ) → rd < 32 → AllFit (load_immediate t0 (object_at p.count os k) ++ rv.Add rd t0 sp ∷ [])
   unfolding FitsFormat
   object-fits k rd low =
-      fits-append (load_immediate t0 (object_at p.count os k)) (rv.Add rd t0 sp ∷ []) (immediate-fits t0 (object_at p.count os k) (lit< tt) (range.objects k)) ((lit< tt, lit< tt, low), tt)
+      fits-append (load_immediate t0 (object_at p.count os k)) (rv.Add rd t0 sp ∷ []) (immediate-fits t0 (object_at p.count os k) (lit< tt) (range.objects k))
+      ((lit< tt, lit< tt, low), tt)
 
   exit-fits : (a : ℕ) → AllFit (get a0 (place_of p a) ++ rv.Addi a7 x0 exit_call ∷ rv.Ecall ∷ [])
   unfolding FitsFormat
-  exit-fits a = fits-append (get a0 (place_of p a)) (rv.Addi a7 x0 exit_call ∷ rv.Ecall ∷ []) (get-fits a0 (place_of p a) (lit< tt) (at a)) (((lit< tt, lit< tt), lit< tt, lit< tt), (tt, tt))
+  exit-fits a = fits-append (get a0 (place_of p a)) (rv.Addi a7 x0 exit_call ∷ rv.Ecall ∷ []) (get-fits a0 (place_of p a) (lit< tt) (at a))
+      (((lit< tt, lit< tt), lit< tt, lit< tt), (tt, tt))
 
   instr-fits : (i : linear.Instr) → NumbersFit (done i) → IsTrue (has_few_arguments i) → WordsFit (instr_items p os i)
   instr-fits (linear.const t w) word few =
-      words-fit (with_none (place_of p t) (λ rd. load_immediate rd w)) (none-fits (place_of p t) (λ rd. load_immediate rd w) (at t) (λ rd low. immediate-fits rd w low word))
+      words-fit (with_none (place_of p t) (λ rd. load_immediate rd w))
+      (none-fits (place_of p t) (λ rd. load_immediate rd w) (at t) (λ rd low. immediate-fits rd w low word))
   instr-fits (linear.undef t) word few = tt
   instr-fits (linear.object_address t k) word few =
       words-fit (with_none (place_of p t) (λ rd. load_immediate t0 (object_at p.count os k) ++ rv.Add rd t0 sp ∷ []))
@@ -69,7 +73,8 @@ module _ (p : PlainPlaces) (os : List PlainObject) (range : IsInRange p os) wher
       words-fit (with_two (place_of p t) (place_of p a) (place_of p b) (binary_code o))
       (two-fits (place_of p t) (place_of p a) (place_of p b) (binary_code o) (at t) (at a) (at b) (λ rd x y r u v. binary-fits o rd x y r u v))
   instr-fits (linear.unary o t a) word few =
-      words-fit (with_one (place_of p t) (place_of p a) (unary_code o)) (one-fits (place_of p t) (place_of p a) (unary_code o) (at t) (at a) (λ rd x r u. unary-fits o rd x r u))
+      words-fit (with_one (place_of p t) (place_of p a) (unary_code o))
+      (one-fits (place_of p t) (place_of p a) (unary_code o) (at t) (at a) (λ rd x r u. unary-fits o rd x r u))
   instr-fits (linear.load width t a) word few =
       words-fit (with_one (place_of p t) (place_of p a) (λ rd r. load_instr width rd r ∷ []))
       (one-fits (place_of p t) (place_of p a) (λ rd r. load_instr width rd r ∷ []) (at t) (at a) (λ rd x r u. (load-width width rd x r u, tt)))
@@ -78,8 +83,10 @@ module _ (p : PlainPlaces) (os : List PlainObject) (range : IsInRange p os) wher
       let second = load_in t1 (place_of p v) in
       let last = store_instr width (in_of (place_of p a) t0) (in_of (place_of p v) t1) in
       words-fit (first ++ second ++ last ∷ [])
-      (fits-append (first ++ second) (last ∷ []) (fits-append first second (load-fits t0 (place_of p a) (lit< tt) (at a)) (load-fits t1 (place_of p v) (lit< tt) (at v)))
-      (store-width width (in_of (place_of p a) t0) (in_of (place_of p v) t1) (in-fits (place_of p a) t0 (lit< tt) (at a)) (in-fits (place_of p v) t1 (lit< tt) (at v)), tt))
+      (fits-append (first ++ second) (last ∷ []) (fits-append first second (load-fits t0 (place_of p a) (lit< tt) (at a)) (load-fits t1 (place_of p v) (lit< tt) (at v))) (
+        store-width width (in_of (place_of p a) t0) (in_of (place_of p v) t1) (in-fits (place_of p a) t0 (lit< tt) (at a)) (in-fits (place_of p v) t1 (lit< tt) (at v)),
+        tt,
+      ))
   instr-fits (linear.clear k) word few =
       words-fit (clear_code (object_at p.count os k) (size_of os k)) (clear-fits (object_at p.count os k) (size_of os k) (range.objects k) (range.sizes k))
   instr-fits (linear.equal_pointers t a b) word few =
@@ -88,9 +95,11 @@ module _ (p : PlainPlaces) (os : List PlainObject) (range : IsInRange p os) wher
   instr-fits (linear.move t a) word few = words-fit (move_code (place_of p t) (place_of p a)) (move-fits (place_of p t) (place_of p a) (at t) (at a))
   instr-fits (linear.call f t xs) word few =
       let less = leb-true (length xs) 8 few in
-      items-append (words (get_arguments p a0 xs)) (Call f ∷ words (put (place_of p t) a0)) (words-fit (get_arguments p a0 xs) (arguments-fit 10 xs (omega (arith, less))))
+      items-append (words (get_arguments p a0 xs)) (Call f ∷ words (put (place_of p t) a0))
+      (words-fit (get_arguments p a0 xs) (arguments-fit 10 xs (omega (arith, less))))
       (words-fit (put (place_of p t) a0) (put-fits (place_of p t) a0 (lit< tt) (at t)))
-  instr-fits (linear.put a) word few = items-append (words (get a0 (place_of p a))) (Stub 0 ∷ []) (words-fit (get a0 (place_of p a)) (get-fits a0 (place_of p a) (lit< tt) (at a))) tt
+  instr-fits (linear.put a) word few = items-append (words (get a0 (place_of p a))) (Stub 0 ∷ [])
+      (words-fit (get a0 (place_of p a)) (get-fits a0 (place_of p a) (lit< tt) (at a))) tt
   instr-fits (linear.get t) word few = words-fit (put (place_of p t) a0) (put-fits (place_of p t) a0 (lit< tt) (at t))
   instr-fits (linear.exit a) word few = words-fit (get a0 (place_of p a) ++ rv.Addi a7 x0 exit_call ∷ rv.Ecall ∷ []) (exit-fits a)
 
@@ -100,7 +109,8 @@ module _ (p : PlainPlaces) (os : List PlainObject) (range : IsInRange p os) wher
       let first = load_in t0 (place_of p x) in
       let last = over (in_of (place_of p x) t0) in
       items-append (words (first ++ last)) (Jump l ∷ [])
-      (words-fit (first ++ last) (fits-append first last (load-fits t0 (place_of p x) (lit< tt) (at x)) (fit (in_of (place_of p x) t0) (in-fits (place_of p x) t0 (lit< tt) (at x))))) tt
+      (words-fit (first ++ last) (fits-append first last (load-fits t0 (place_of p x) (lit< tt) (at x))
+      (fit (in_of (place_of p x) t0) (in-fits (place_of p x) t0 (lit< tt) (at x))))) tt
 
   equal-fits : (n r : ℕ) → n < 2 ^ 32 → r < 32 → AllFit (load_immediate t1 n ++ rv.Bne r t1 8 ∷ [])
   unfolding FitsFormat
@@ -122,14 +132,17 @@ templates_fit p os (enter xs) range word params few =
     let less = leb-true (length xs) 8 params in
     let first = take_frame (frame_size p.count os) (saved_of p.count) in
     words-fit (first ++ put_params p a0 xs)
-    (fits-append first (put_params p a0 xs) (taken-fits (frame_size p.count os) (saved_of p.count) range.frame (saved-few p.count)) (params-fit p os range 10 xs (omega (arith, less))))
+    (fits-append first (put_params p a0 xs) (taken-fits (frame_size p.count os) (saved_of p.count) range.frame (saved-few p.count))
+    (params-fit p os range 10 xs (omega (arith, less))))
 templates_fit p os (leave v) range word params few =
     let last = give_frame (frame_size p.count os) (saved_of p.count) in
     words-fit (get a0 (place_of p v) ++ last)
-    (fits-append (get a0 (place_of p v)) last (get-fits a0 (place_of p v) (lit< tt) (at p os range v)) (given-fits (frame_size p.count os) (saved_of p.count) range.frame (saved-few p.count)))
+    (fits-append (get a0 (place_of p v)) last (get-fits a0 (place_of p v) (lit< tt) (at p os range v))
+    (given-fits (frame_size p.count os) (saved_of p.count) range.frame (saved-few p.count)))
 templates_fit p os (done i) range word params few = instr-fits p os range i word few
 templates_fit p os (branch_not_zero x l) range word params few = branch-fits p os range x l (λ r. rv.Beq r x0 8 ∷ []) (λ r low. not-zero-fits p os range r low)
 templates_fit p os (branch_zero x l) range word params few = branch-fits p os range x l (λ r. rv.Bne r x0 8 ∷ []) (λ r low. zero-fits p os range r low)
-templates_fit p os (branch_equal x n l) range word params few = branch-fits p os range x l (λ r. load_immediate t1 n ++ rv.Bne r t1 8 ∷ []) (λ r low. equal-fits p os range n r word low)
+templates_fit p os (branch_equal x n l) range word params few =
+    branch-fits p os range x l (λ r. load_immediate t1 n ++ rv.Bne r t1 8 ∷ []) (λ r low. equal-fits p os range n r word low)
 templates_fit p os (jump l) range word params few = tt
 templates_fit p os (label l) range word params few = tt

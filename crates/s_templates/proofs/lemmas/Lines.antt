@@ -57,7 +57,8 @@ module _ (text : Text) (addresses : Addresses) (labels : ℕ → Option ℕ) whe
     label-here a b l ls h = let same : a + 0 ≡ a = omega arith in (h.0, subst (λ x. Stand x ls b) same h.2)
 
     -- the instructions of a branch over a jump
-    branch-code : (a b l target : ℕ) (code : List isa.Instr) (last : isa.Instr) → ItemsStand text addresses labels a (words (code ++ last ∷ []) ++ Jump l ∷ []) b → labels l ≡ Some target
+    branch-code : (a b l target : ℕ) (code : List isa.Instr) (last : isa.Instr) → ItemsStand text addresses labels a (words (code ++ last ∷ []) ++ Jump l ∷ []) b
+        → labels l ≡ Some target
         → b < 2 ^ 32 → target < 2 ^ 32 → (distance : ℕ) × CodeStands text a (code ++ last ∷ Jal x0 distance ∷ []) b × ((b - 4 + distance) % 2 ^ 32 ≡ target)
     branch-code a b l target code last h is low small =
         let cut = items_are_cut text addresses labels a b (words (code ++ last ∷ [])) (Jump l ∷ []) h in
@@ -93,12 +94,14 @@ module _ (text : Text) (addresses : Addresses) (labels : ℕ → Option ℕ) whe
           let place = location_of (place_at p x) in
           let code = load_in t0 place ++ load_immediate t1 number in
           let last = Bne (in_of place t0) t1 8 in
-          let whole = subst (λ k. ItemsStand text addresses labels s.pc (words k ++ Jump l ∷ []) b) (sym (append_assoc (load_in t0 place) (load_immediate t1 number) (last ∷ []))) h in
+          let whole = subst (λ k. ItemsStand text addresses labels s.pc (words k ++ Jump l ∷ []) b)
+          (sym (append_assoc (load_in t0 place) (load_immediate t1 number) (last ∷ []))) h in
           let c = branch-code s.pc b l target code last whole there low small in
           branch_equal_is_done text f q s has rep (place_at p x) w number c.0 target b within is fits c.1 low c.2
 
     -- a jump is one instruction
-    pub jumps-once : (f : Frame) (q : linear.State) (s : State) (b l target : ℕ) (input : List ℕ) → Represents text f q s → ItemsStand text addresses labels s.pc (line_items p os (lines.jump l)) b
+    pub jumps-once : (f : Frame) (q : linear.State) (s : State) (b l target : ℕ) (input : List ℕ) → Represents text f q s
+        → ItemsStand text addresses labels s.pc (line_items p os (lines.jump l)) b
         → b < 2 ^ 32 → labels l ≡ Some target → target < 2 ^ 32
         → (t : State) × Reaches text.flags 1 s input [] t input × Represents text f q t × (t.pc ≡ target)
     unfolding act jump
@@ -110,7 +113,8 @@ module _ (text : Text) (addresses : Addresses) (labels : ℕ → Option ℕ) whe
         let t : State = record { pc = target; regs = s.regs; mem = s.mem } in
         let stands = h.1.0 in (
           t,
-          step_reaches text.flags s t (word_of (Jal x0 distance)) (Jal x0 distance) input (fetched-there text s (Jal x0 distance) rep.has_text stands) (encoded_decodes (Jal x0 distance) stands.fits)
+          step_reaches text.flags s t (word_of (Jal x0 distance)) (Jal x0 distance) input (fetched-there text s (Jal x0 distance) rep.has_text stands)
+              (encoded_decodes (Jal x0 distance) stands.fits)
               (ap (λ a. next (record { pc = a; regs = s.regs; mem = s.mem })) lands),
           record {
             stack = rep.stack;

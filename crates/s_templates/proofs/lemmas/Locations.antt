@@ -117,7 +117,8 @@ location-fits f p below =
     word high false = (omega arith, omega (arith, below, high))
 
 -- what a word of the frame holds
-held-word : (stack : ℕ) (regs : ℕ → ℕ) (mem : Bytes) (offset : ℕ) (test : Bool) → held stack regs mem (cond test (Near offset) (Far offset)) ≡ load_bytes mem (stack + offset) 4
+held-word : (stack : ℕ) (regs : ℕ → ℕ) (mem : Bytes) (offset : ℕ) (test : Bool)
+    → held stack regs mem (cond test (Near offset) (Far offset)) ≡ load_bytes mem (stack + offset) 4
 held-word stack regs mem offset true = refl
 held-word stack regs mem offset false = refl
 

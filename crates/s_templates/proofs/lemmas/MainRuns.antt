@@ -15,16 +15,18 @@ use Rattle.rv_machine.specs.Run.{ended, after_output}
 use Rattle.rv_machine.specs.Standing.{HasText}
 use Rattle.rv_machine.proofs.lemmas.RunLaws.{run_goes_on, reaches_onwards}
 use Rattle.rv_machine.proofs.lemmas.Standing.{text_stays}
+use Rattle.s_linear.specs.Meaning.{finished}
 use Rattle.a_place.specs.Placed.{placed, placed_calls}
 use Rattle.s_templates.specs.Functions.{Program, ProgramCanRun, frame_sizes, HasBlocks, IsCalled, ComesBack, CallOutcome, FunctionsRun}
-use Rattle.s_templates.specs.Mains.{ended_with, StartOutcome, HasStart, MainRuns}
+use Rattle.s_templates.specs.Mains.{StartOutcome, HasStart, MainRuns}
 use Rattle.s_templates.specs.Relation.{Bases, Shows, ShowsMemory}
 use Rattle.s_templates.specs.Starts.{main_returns, Started}
 use Rattle.s_templates.specs.Steps.{Ends, Exceeds, Exits}
 use Rattle.s_templates.proofs.lemmas.Outcomes.{events-before, exceeds-more}
 use Rattle.s_templates.proofs.lemmas.Starts.{main_is_called, main_exits}
 
-module _ (functions_run : FunctionsRun) (program : Program) (can : ProgramCanRun program) (main stack e bound : ℕ) (blocks : Memory) (bases : Bases) (input : List ℕ) (s : State)
+module _ (functions_run : FunctionsRun) (program : Program) (can : ProgramCanRun program) (main stack e bound : ℕ) (blocks : Memory) (bases : Bases)
+    (input : List ℕ) (s : State)
     (start : HasStart program main stack e blocks bases input s) where
   started : Started program.text stack (slice_index program.addresses.functions main) s
   started =
@@ -54,7 +56,8 @@ module _ (functions_run : FunctionsRun) (program : Program) (can : ProgramCanRun
   }
 
   -- all that `main` did, and then its end
-  ends : (w : ℕ) (g : Given Value) (o : List Event) → g.value ≡ Num w → ComesBack program blocks bases main_returns g o started.state input → Ends program.text.flags (o ++ []) (w % 256) s input
+  ends : (w : ℕ) (g : Given Value) (o : List Event) → g.value ≡ Num w → ComesBack program blocks bases main_returns g o started.state input
+      → Ends program.text.flags (o ++ []) (w % 256) s input
   ends w g o is h = record {
     count = started.steps.count + (h.count + last.count);
     rest = g.input;
@@ -71,18 +74,19 @@ module _ (functions_run : FunctionsRun) (program : Program) (can : ProgramCanRun
       last : Exits program.text.flags h.state (w % 256)
       last =
           main_exits program.text h.state stack (slice_index program.addresses.functions main) e w
-          (text_stays program.text h.count started.state h.state input (output o) g.input h.reaches (subst (HasText program.text) (sym started.mem) start.has_text)) h.pc start.there value
+          (text_stays program.text h.count started.state h.state input (output o) g.input h.reaches (subst (HasText program.text) (sym started.mem) start.has_text)) h.pc
+          start.there value
 
   returned : (g : Given Value) (o : List Event) (v : Value) → g.value ≡ v → ComesBack program blocks bases main_returns g o started.state input
-      → StartOutcome program bound (then_on (Returned g o) ended_with) s input
+      → StartOutcome program bound (then_on (Returned g o) finished) s input
   returned g o (Num w) is h =
-      subst (λ a. StartOutcome program bound a s input) (sym (before-is o (ended_with g)))
+      subst (λ a. StartOutcome program bound a s input) (sym (before-is o (finished g)))
       (subst (λ v. StartOutcome program bound (added o (on_number v (λ n. Exited [] (n % 256)))) s input) (sym is) (inr (ends w g o is h)))
   returned g o (At b i) is h =
-      subst (λ a. StartOutcome program bound a s input) (sym (before-is o (ended_with g)))
+      subst (λ a. StartOutcome program bound a s input) (sym (before-is o (finished g)))
       (subst (λ v. StartOutcome program bound (added o (on_number v (λ n. Exited [] (n % 256)))) s input) (sym is) (inr tt))
   returned g o Bad is h =
-      subst (λ a. StartOutcome program bound a s input) (sym (before-is o (ended_with g)))
+      subst (λ a. StartOutcome program bound a s input) (sym (before-is o (finished g)))
       (subst (λ v. StartOutcome program bound (added o (on_number v (λ n. Exited [] (n % 256)))) s input) (sym is) (inr tt))
 
   exceeded : (es : List Event) → Exceeds program.text.flags (frame_sizes program.functions) (started.state.regs sp - started.state.regs s0) es started.state input
@@ -97,11 +101,12 @@ module _ (functions_run : FunctionsRun) (program : Program) (can : ProgramCanRun
     more = (let more = h.more in let top = started.top in let base = started.base in omega (arith, more, top, base));
   }
 
-  finish : (a : Answer (Given Value)) → CallOutcome program bound blocks bases main_returns a started.state input → StartOutcome program bound (then_on a ended_with) s input
+  finish : (a : Answer (Given Value)) → CallOutcome program bound blocks bases main_returns a started.state input
+      → StartOutcome program bound (then_on a finished) s input
   finish (Returned g o) (inl h) =
       inl
-      (subst (λ es. Exceeds program.text.flags (frame_sizes program.functions) stack_size es s input) (sym (events-before o (ended_with g)))
-      (exceeds-more program.text.flags (frame_sizes program.functions) stack_size o (events (ended_with g)) s input (exceeded o h)))
+      (subst (λ es. Exceeds program.text.flags (frame_sizes program.functions) stack_size es s input) (sym (events-before o (finished g)))
+      (exceeds-more program.text.flags (frame_sizes program.functions) stack_size o (events (finished g)) s input (exceeded o h)))
   finish (Cut o) (inl h) = inl (exceeded o h)
   finish (Exited o status) (inl h) = inl (exceeded o h)
   finish (Undefined o) (inl h) = inl (exceeded o h)
@@ -113,7 +118,8 @@ module _ (functions_run : FunctionsRun) (program : Program) (can : ProgramCanRun
         count = started.steps.count + h.count;
         rest = h.rest;
         enough = (let enough = h.enough in omega (arith, enough));
-        reaches = reaches_onwards program.text.flags started.steps.count h.count s started.state h.state input [] input (output o) h.rest (started.steps.reaches input) h.reaches;
+        reaches = reaches_onwards program.text.flags started.steps.count h.count s started.state h.state input [] input (output o) h.rest
+            (started.steps.reaches input) h.reaches;
       })
   finish (Exited o status) (inr h) =
       inr

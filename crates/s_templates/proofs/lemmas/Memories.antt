@@ -1,6 +1,6 @@
 -- A load on the machine gives what shows the value at the address.
 use Rattle.std.proofs.Common.{◌≡◌, ◌⊎◌, ℕ, ◌+◌, ◌-◌, ◌%◌, ◌^◌, ◌<◌, ◌≤◌, true, [], ◌∷◌, ◌++◌, None, Some, refl, sym, ap, subst, ◌∙◌, append_assoc, arith, inl, inr, eq-eqb}
-use Rattle.std.proofs.lemmas.Bool.{cases_lt, both_ways}
+use Rattle.std.proofs.lemmas.Bool.{both_ways}
 use Rattle.val_core.specs.declared.values.BlockName.{BlockName}
 use Rattle.val_core.specs.declared.values.Value.{Value}
 use Rattle.val_core.specs.declared.values.Value.TheVariants.{Num, At, Bad}
@@ -19,14 +19,15 @@ use Rattle.s_templates.specs.Relation.{Shows, ShowsMemory}
 use Rattle.s_templates.specs.Memories.{LoadIsDone, StoreIsDone}
 use Rattle.s_templates.proofs.lemmas.Registers.{steps-then, step-to, look-at, one-computes}
 use Rattle.s_templates.proofs.lemmas.Locations.{temporary-apart, kept-apart, location-fits, held-same}
-use Rattle.s_templates.proofs.lemmas.Blocks.{value-there, address-there, leaf-there}
+use Rattle.s_templates.proofs.lemmas.Blocks.{before-or-after, value-there, address-there, leaf-there}
 use Rattle.s_templates.proofs.lemmas.Stores.{same-blocks, stored-there, store-shown}
 use Rattle.s_templates.proofs.lemmas.Represented.{place-written, memory-written}
 use Rattle.s_templates.proofs.lemmas.Templates.{in-apart, out-apart, made, loads, finishes, writes-after}
 
 -- ---- accesses of each width
 
-access-goes : (flags : ℕ → ℕ) (flag width a : ℕ) (s : machine.State) (effect : Effect) → a % width ≡ 0 → allowed flags flag a width ≡ true → access flags flag width a s effect ≡ effect
+access-goes : (flags : ℕ → ℕ) (flag width a : ℕ) (s : machine.State) (effect : Effect) → a % width ≡ 0 → allowed flags flag a width ≡ true
+    → access flags flag width a s effect ≡ effect
 access-goes flags flag width a s effect even good = rw (eq-eqb (a % width) 0 even, good) refl
 
 -- a load of a width, from the address in a register
@@ -149,10 +150,14 @@ store_is_done after-store elsewhere keeps text f q s words rep width a v m ina i
     let fitsv = location-fits f v inv in
     let instr = store_instr width (in_of la t0) (in_of lv t1) in
     let whole = subst (λ c. CodeStands text s.pc c b) (append_assoc (load_in t0 la) (load_in t1 lv) (instr ∷ [])) there in
-    let one = loads text f words s b 5 la (q.names a) (load_in t1 lv ++ instr ∷ []) rep.has_text rep.stack fitsa whole low (omega arith) (omega arith) (rep.places a ina) in
+    let one = loads text f words s b 5 la (q.names a) (load_in t1 lv ++ instr ∷ []) rep.has_text rep.stack fitsa whole low (omega arith) (omega arith)
+    (rep.places a ina) in
     let u = one.operand.state in
-    let still = held-same f lv fitsv s.regs u.regs s.mem u.mem (λ r place. one.operand.others r (kept-apart r 5 (inr (inr place)) (omega arith) (omega arith)) (kept-apart r 7 (inr (inr place)) (omega arith) (omega arith))) one.operand.mem in
-    let two = loads text f words u b 6 lv (q.names v) (instr ∷ []) one.has one.stack fitsv one.code low (omega arith) (omega arith) (subst (Shows f.bases (q.names v)) (sym still) (rep.places v inv)) in
+    let still = held-same f lv fitsv s.regs u.regs s.mem u.mem
+    (λ r place. one.operand.others r (kept-apart r 5 (inr (inr place)) (omega arith) (omega arith)) (kept-apart r 7 (inr (inr place)) (omega arith) (omega arith)))
+    one.operand.mem in
+    let two = loads text f words u b 6 lv (q.names v) (instr ∷ []) one.has one.stack fitsv one.code low (omega arith) (omega arith)
+    (subst (Shows f.bases (q.names v)) (sym still) (rep.places v inv)) in
     let w = two.operand.state in
     let first : w.regs (in_of la t0) ≡ one.word =
     two.operand.others (in_of la t0) (in-apart f la 5 6 fitsa (omega arith) (omega arith)) (in-apart f la 5 7 fitsa (omega arith) (omega arith)) ∙ one.operand.is in
@@ -182,8 +187,10 @@ store_is_done after-store elsewhere keeps text f q s words rep width a v m ina i
     let acts = store-acts-at width leaf.is_width text.flags w (in_of la t0) (in_of lv t1) one.word place even (flags_allow text.flags to_write one.word width flag)
     ∙ ap (λ n. next (bytes-stored w width one.word n)) value in
     let pc = two.code.1 in
-    let left : (n : ℕ) → (n < one.word) ⊎ (one.word + width ≤ n) → final.mem n ≡ s.mem n = (λ n side. bytes-left w width one.word two.word n side ∙ ap (λ z. z n) memory) in
-    let shows = store-shown after-store elsewhere keeps text.flags f.bases w.mem width o two.word k (q.names v) q.memory m (subst (ShowsMemory text.flags f.bases q.memory) (sym memory) rep.memory) made two.shows in
+    let left : (n : ℕ) → (n < one.word) ⊎ (one.word + width ≤ n) → final.mem n ≡ s.mem n =
+    (λ n side. bytes-left w width one.word two.word n side ∙ ap (λ z. z n) memory) in
+    let shows = store-shown after-store elsewhere keeps text.flags f.bases w.mem width o two.word k (q.names v) q.memory m
+    (subst (ShowsMemory text.flags f.bases q.memory) (sym memory) rep.memory) made two.shows in
     record {
       state = final;
       steps =
@@ -197,11 +204,11 @@ store_is_done after-store elsewhere keeps text f q s words rep width a v m ina i
           ∙ one.operand.others r (kept-apart r 5 kept (omega arith) (omega arith)) (kept-apart r 7 kept (omega arith) (omega arith)))
           (λ n out.
           left n
-          (beside n one.word width
+          (before-or-after n one.word width
           (λ from to. out (record { number = k.number; block = target.block; lives = target.lives; low = omega (arith, from, is); high = omega (arith, to, is, end) }))))
           (λ n fixed.
           left n
-          (beside n one.word width
+          (before-or-after n one.word width
           (λ from to.
           let at : one.word + (n - one.word) ≡ n = omega (arith, from) in
           both_ways (has_flag (text.flags n) to_write) fixed (subst (λ z. has_flag (text.flags z) to_write ≡ true) at (flag (n - one.word) (omega (arith, from, to)))))))
@@ -211,14 +218,3 @@ store_is_done after-store elsewhere keeps text f q s words rep width a v m ina i
     bytes-left : (w : machine.State) (width at x n : ℕ) → (n < at) ⊎ (at + width ≤ n) → (bytes-stored w width at x).mem n ≡ w.mem n
     bytes-left w width at x n (inl before) = store_leaves_others w.mem at x width n (inl (omega (arith, before)))
     bytes-left w width at x n (inr beyond) = store_leaves_others w.mem at x width n (inr beyond)
-
-    beside : (n at width : ℕ) → (at ≤ n → n < at + width → ⊥) → (n < at) ⊎ (at + width ≤ n)
-    beside n at width never =
-        elim (cases_lt n at) [
-          | inl before ↦ inl before
-          | inr from ↦
-              elim (cases_lt n (at + width)) [
-                | inl inside ↦ absurd (never from inside)
-                | inr beyond ↦ inr beyond
-              ]
-        ]

@@ -42,25 +42,35 @@ record LeafParts (size from : ℕ) (l : Leaf) (ls : List Leaf) : Type 0 where
 
 leaf-parts : (size from : ℕ) (l : Leaf) (ls : List Leaf) → leaves_fit size from (l ∷ ls) ≡ true → LeafParts size from l ls
 leaf-parts size from l ls e =
-    let a = and_parts (nat_le from l.offset && nat_le (l.offset + l.width) size && is_width l.width && (l.offset % l.width == 0)) (leaves_fit size (l.offset + l.width) ls) e in
+    let a = and_parts (nat_le from l.offset && nat_le (l.offset + l.width) size && is_width l.width && (l.offset % l.width == 0))
+    (leaves_fit size (l.offset + l.width) ls) e in
     let b = and_parts (nat_le from l.offset && nat_le (l.offset + l.width) size && is_width l.width) (l.offset % l.width == 0) a.0 in
     let c = and_parts (nat_le from l.offset && nat_le (l.offset + l.width) size) (is_width l.width) b.0 in
     let d = and_parts (nat_le from l.offset) (nat_le (l.offset + l.width) size) c.0 in
     record {
-      here = record { is_width = widths l.width c.1; aligned = eqb-true (l.offset % l.width) 0 b.1; from = leb-true from l.offset d.0; within = leb-true (l.offset + l.width) size d.1 };
+      here = record {
+        is_width = widths l.width c.1;
+        aligned = eqb-true (l.offset % l.width) 0 b.1;
+        from = leb-true from l.offset d.0;
+        within = leb-true (l.offset + l.width) size d.1;
+      };
       more = a.1;
     }
 
-leaf-fits : (size from width offset : ℕ) (ls : List Leaf) → leaves_fit size from ls ≡ true → list_any (is_at width offset) (map new_cell ls) ≡ true → LeafWithin size from width offset
+leaf-fits : (size from width offset : ℕ) (ls : List Leaf) → leaves_fit size from ls ≡ true → list_any (is_at width offset) (map new_cell ls) ≡ true
+    → LeafWithin size from width offset
 leaf-fits size from width offset [] fit has = absurd cc
 leaf-fits size from width offset (l ∷ ls) fit has =
-    by (leaf-parts size from l ls fit) ((l.offset == offset) && (l.width == width)) refl (leaf-fits size (l.offset + l.width) width offset ls (leaf-parts size from l ls fit).more) has
+    by (leaf-parts size from l ls fit) ((l.offset == offset) && (l.width == width)) refl
+    (leaf-fits size (l.offset + l.width) width offset ls (leaf-parts size from l ls fit).more) has
   where
     by : (parts : LeafParts size from l ls) (test : Bool) → ((l.offset == offset) && (l.width == width)) ≡ test
-        → (list_any (is_at width offset) (map new_cell ls) ≡ true → LeafWithin size (l.offset + l.width) width offset) → (test || list_any (is_at width offset) (map new_cell ls)) ≡ true → LeafWithin size from width offset
+        → (list_any (is_at width offset) (map new_cell ls) ≡ true → LeafWithin size (l.offset + l.width) width offset)
+        → (test || list_any (is_at width offset) (map new_cell ls)) ≡ true → LeafWithin size from width offset
     by parts true e later h =
         let two = and_parts (l.offset == offset) (l.width == width) e in
-        subst (λ o. LeafWithin size from width o) (eqb-true l.offset offset two.0) (subst (λ w. LeafWithin size from w l.offset) (eqb-true l.width width two.1) parts.here)
+        subst (λ o. LeafWithin size from width o) (eqb-true l.offset offset two.0)
+        (subst (λ w. LeafWithin size from w l.offset) (eqb-true l.width width two.1) parts.here)
     by parts false e later h =
         let rest = later h in
         let first = parts.here.from in
@@ -70,11 +80,13 @@ leaf-fits size from width offset (l ∷ ls) fit has =
 abbrev AreApart : (w o w' o' : ℕ) → Type 0
 AreApart w o w' o' = ((w ≡ w') × (o ≡ o')) ⊎ (o + w ≤ o') ⊎ (o' + w' ≤ o)
 
-leaves-apart : (size from w o w' o' : ℕ) (ls : List Leaf) → leaves_fit size from ls ≡ true → list_any (is_at w o) (map new_cell ls) ≡ true → list_any (is_at w' o') (map new_cell ls) ≡ true
+leaves-apart : (size from w o w' o' : ℕ) (ls : List Leaf) → leaves_fit size from ls ≡ true → list_any (is_at w o) (map new_cell ls) ≡ true
+    → list_any (is_at w' o') (map new_cell ls) ≡ true
     → AreApart w o w' o'
 leaves-apart size from w o w' o' [] fit has has' = absurd cc
 leaves-apart size from w o w' o' (l ∷ ls) fit has has' =
-    by ((l.offset == o) && (l.width == w)) ((l.offset == o') && (l.width == w')) refl refl (leaves-apart size (l.offset + l.width) w o w' o' ls (leaf-parts size from l ls fit).more) has has'
+    by ((l.offset == o) && (l.width == w)) ((l.offset == o') && (l.width == w')) refl refl
+    (leaves-apart size (l.offset + l.width) w o w' o' ls (leaf-parts size from l ls fit).more) has has'
   where
     parts : LeafParts size from l ls
     parts = leaf-parts size from l ls fit
@@ -86,7 +98,8 @@ leaves-apart size from w o w' o' (l ∷ ls) fit has has' =
     later v p h = (leaf-fits size (l.offset + l.width) v p ls parts.more h).from
 
     by : (test test' : Bool) → ((l.offset == o) && (l.width == w)) ≡ test → ((l.offset == o') && (l.width == w')) ≡ test'
-        → (list_any (is_at w o) (map new_cell ls) ≡ true → list_any (is_at w' o') (map new_cell ls) ≡ true → AreApart w o w' o') → (test || list_any (is_at w o) (map new_cell ls)) ≡ true
+        → (list_any (is_at w o) (map new_cell ls) ≡ true → list_any (is_at w' o') (map new_cell ls) ≡ true → AreApart w o w' o')
+        → (test || list_any (is_at w o) (map new_cell ls)) ≡ true
         → (test' || list_any (is_at w' o') (map new_cell ls)) ≡ true → AreApart w o w' o'
     by true true e e' rest h h' = let a = first w o e in let b = first w' o' e' in inl (sym a.1 ∙ b.1, sym a.0 ∙ b.0)
     by true false e e' rest h h' = let a = first w o e in let b = later w' o' h' in let at = a.0 in let wide = a.1 in inr (inl (omega (arith, at, wide, b)))
@@ -95,7 +108,8 @@ leaves-apart size from w o w' o' (l ∷ ls) fit has has' =
 
 -- ---- lists in two parts
 
-pub in-two : {X : Type 0} (xs ys : List X) (n : ℕ) (x : X) → slice_get (xs ++ ys) n ≡ Some x → ((slice_get xs n ≡ Some x) × (n < length xs)) ⊎ ((j : ℕ) × (n ≡ length xs + j) × (slice_get ys j ≡ Some x))
+pub in-two : {X : Type 0} (xs ys : List X) (n : ℕ) (x : X) → slice_get (xs ++ ys) n ≡ Some x → ((slice_get xs n ≡ Some x) × (n < length xs))
+    ⊎ ((j : ℕ) × (n ≡ length xs + j) × (slice_get ys j ≡ Some x))
 in-two [] ys n x e = inr (n, omega arith, e)
 in-two (a ∷ xs) ys zero x e = inl (e, omega arith)
 in-two {X} (a ∷ xs) ys (suc n) x e = by (in-two xs ys n x e)
@@ -105,24 +119,27 @@ in-two {X} (a ∷ xs) ys (suc n) x e = by (in-two xs ys n x e)
     by (inl h) = let low = h.1 in inl (h.0, omega (arith, low))
     by (inr h) = let at = h.1 in inr (h.0, omega (arith, at), h.2)
 
-pub in-front : {X : Type 0} (xs ys : List X) (n : ℕ) (x : X) → slice_get xs n ≡ Some x → slice_get (xs ++ ys) n ≡ Some x
+in-front : {X : Type 0} (xs ys : List X) (n : ℕ) (x : X) → slice_get xs n ≡ Some x → slice_get (xs ++ ys) n ≡ Some x
 in-front [] ys n x e = absurd cc
 in-front (a ∷ xs) ys zero x e = e
 in-front (a ∷ xs) ys (suc n) x e = in-front xs ys n x e
 
 pub in-back : {X : Type 0} (xs ys : List X) (j : ℕ) (x : X) → slice_get ys j ≡ Some x → slice_get (xs ++ ys) (length xs + j) ≡ Some x
 in-back [] ys j x e = let at : j ≡ 0 + j = omega arith in subst (λ n. slice_get ys n ≡ Some x) at e
-in-back (a ∷ xs) ys j x e = let at : suc (length xs + j) ≡ suc (length xs) + j = omega arith in subst (λ n. slice_get (a ∷ (xs ++ ys)) n ≡ Some x) at (in-back xs ys j x e)
+in-back (a ∷ xs) ys j x e = let at : suc (length xs + j) ≡ suc (length xs) + j = omega arith in
+    subst (λ n. slice_get (a ∷ (xs ++ ys)) n ≡ Some x) at (in-back xs ys j x e)
 
 -- ---- opened
 
 -- what the object of a new block is
-pub new-there : (os : List PlainObject) (j : ℕ) (b : Block) → slice_get (opened (shapes_of os)) j ≡ Some b → (o : PlainObject) × (slice_get os j ≡ Some o) × (b ≡ new_block (word_of o.size) o.leaves)
+pub new-there : (os : List PlainObject) (j : ℕ) (b : Block) → slice_get (opened (shapes_of os)) j ≡ Some b → (o : PlainObject) × (slice_get os j ≡ Some o)
+    × (b ≡ new_block (word_of o.size) o.leaves)
 new-there [] j b e = absurd cc
 new-there (o ∷ os) zero b e = (o, refl, sym (same_Some (new_block (word_of o.size) o.leaves) b e))
 new-there (o ∷ os) (suc j) b e = new-there os j b e
 
-pub new-is : (os : List PlainObject) (j : ℕ) (o : PlainObject) → slice_get os j ≡ Some o → slice_get (opened (shapes_of os)) j ≡ Some (new_block (word_of o.size) o.leaves)
+pub new-is : (os : List PlainObject) (j : ℕ) (o : PlainObject) → slice_get os j ≡ Some o
+    → slice_get (opened (shapes_of os)) j ≡ Some (new_block (word_of o.size) o.leaves)
 new-is [] j o e = absurd cc
 new-is (x ∷ os) zero o e = ap (λ (y : PlainObject). Some (new_block (word_of y.size) y.leaves)) (same_Some x o e)
 new-is (x ∷ os) (suc j) o e = new-is os j o e
@@ -342,7 +359,8 @@ module _ (flags : ℕ → ℕ) (bases : Bases) (m : Memory) (os : List PlainObje
   pub opened-live : (a : ℕ) → IsLive more all a → IsLive bases m a ⊎ ((k : ℕ) × (o : PlainObject) × (slice_get os k ≡ Some o) × (at k ≤ a) × (a < at k + o.size + 4))
   opened-live a live = by (which live.number live.block live.lives)
     where
-      by : Old live.number live.block ⊎ New live.number live.block → IsLive bases m a ⊎ ((k : ℕ) × (o : PlainObject) × (slice_get os k ≡ Some o) × (at k ≤ a) × (a < at k + o.size + 4))
+      by : Old live.number live.block ⊎ New live.number live.block → IsLive bases m a
+          ⊎ ((k : ℕ) × (o : PlainObject) × (slice_get os k ≡ Some o) × (at k ≤ a) × (a < at k + o.size + 4))
       by (inl h) =
           let is = h.base_is in
           let low = live.low in
@@ -355,7 +373,8 @@ module _ (flags : ℕ → ℕ) (bases : Bases) (m : Memory) (os : List PlainObje
           let high = live.high in
           inr (h.j, h.object, h.there, omega (arith, is, low), omega (arith, is, size, high))
 
-  pub opened-shown : NewBlocksKeepLoads → (mem mem' : Bytes) → ((a : ℕ) → IsLive bases m a → mem' a ≡ mem a) → ShowsMemory flags bases m mem → ShowsMemory flags more all mem'
+  pub opened-shown : NewBlocksKeepLoads → (mem mem' : Bytes) → ((a : ℕ) → IsLive bases m a → mem' a ≡ mem a) → ShowsMemory flags bases m mem
+      → ShowsMemory flags more all mem'
   opened-shown keep mem mem' same shows = record { laid = opened-laid; values = values }
     where
       before : ShowsMemory flags bases m mem'
@@ -369,7 +388,8 @@ module _ (flags : ℕ → ℕ) (bases : Bases) (m : Memory) (os : List PlainObje
 
           by : Old b.number there.block ⊎ New b.number there.block → Shows more v (load_bytes mem' (more b.number + offset) width)
           by (inl h) =
-              let was : load width (At b offset) m ≡ Some v = sym (keep width offset b m (opened (shapes_of os)) (slice_get_within m b.number there.block h.was.there)) ∙ loaded in
+              let was : load width (At b offset) m ≡ Some v = sym (keep width offset b m (opened (shapes_of os)) (slice_get_within m b.number there.block h.was.there))
+              ∙ loaded in
               subst (λ x. Shows more v (load_bytes mem' (x + offset) width)) (sym h.base_is)
               (shows-more bases more opened-extends v (load_bytes mem' (bases b.number + offset) width) (before.values width offset b v was))
           by (inr h) =
@@ -379,7 +399,8 @@ module _ (flags : ℕ → ℕ) (bases : Bases) (m : Memory) (os : List PlainObje
 
 -- ---- closed
 
-closed-there : (first count : ℕ) (m : Memory) (n : ℕ) (b : Block) → slice_get (closed first count m) n ≡ Some b → b.live ≡ true → (slice_get m n ≡ Some b) × ((n < first) ⊎ (first + count ≤ n))
+closed-there : (first count : ℕ) (m : Memory) (n : ℕ) (b : Block) → slice_get (closed first count m) n ≡ Some b → b.live ≡ true → (slice_get m n ≡ Some b)
+    × ((n < first) ⊎ (first + count ≤ n))
 closed-there first count [] n b e live = absurd cc
 closed-there (suc first) count (k ∷ m) zero b e live = (e, inl (omega arith))
 closed-there (suc first) count (k ∷ m) (suc n) b e live = by (closed-there first count m n b e live)
@@ -441,7 +462,8 @@ closed-alike m os k h = record { forth = forth; back = back }
         by (inl g) = record { block = f.block; there = record { there = g.0; live = f.there.live }; shape = f.shape; fixed = f.fixed }
         by (inr g) = let o = new-there os g.0 f.block g.2 in absurd (never was.1 g.0 g.1 (slice_get_within os g.0 o.0 o.1))
 
-pub closed-shown : ClosedBlocksKeepLoads → (flags : ℕ → ℕ) (bases : Bases) (mem : Bytes) (first count : ℕ) (k : Memory) → ShowsMemory flags bases k mem → ShowsMemory flags bases (closed first count k) mem
+pub closed-shown : ClosedBlocksKeepLoads → (flags : ℕ → ℕ) (bases : Bases) (mem : Bytes) (first count : ℕ) (k : Memory) → ShowsMemory flags bases k mem
+    → ShowsMemory flags bases (closed first count k) mem
 closed-shown keep flags bases mem first count k shows = record {
   laid = record {
     leaves = λ n width offset b lives has. shows.laid.leaves n width offset b (was n b lives) has;
@@ -455,7 +477,8 @@ closed-shown keep flags bases mem first count k shows = record {
     was : (n : ℕ) (b : Block) → Lives (closed first count k) n b → Lives k n b
     was n b lives = record { there = (closed-there first count k n b lives.there lives.live).0; live = lives.live }
 
-    values : (width offset : ℕ) (b : BlockName) (v : Value) → load width (At b offset) (closed first count k) ≡ Some v → Shows bases v (load_bytes mem (bases b.number + offset) width)
+    values : (width offset : ℕ) (b : BlockName) (v : Value) → load width (At b offset) (closed first count k) ≡ Some v
+        → Shows bases v (load_bytes mem (bases b.number + offset) width)
     values width offset b v loaded =
         let there = value-there width offset b (closed first count k) v loaded in
         let apart = (closed-there first count k b.number there.block there.lives.there there.lives.live).1 in

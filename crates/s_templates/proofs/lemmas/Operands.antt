@@ -89,7 +89,8 @@ module _ (text : Text) (f : Frame) (words : HasWords text f) where
   near o n e end = let low = words.low in omega (arith, e, end, low)
 
   -- the upper part of a far word's address
-  far-starts : (s : State) (b o : ℕ) (i : Instr) → HasText text s.mem → s.regs sp ≡ f.sp → CodeStands text s.pc (Lui t2 (upper_part o) ∷ Add t2 t2 sp ∷ i ∷ []) b → b < 2 ^ 32
+  far-starts : (s : State) (b o : ℕ) (i : Instr) → HasText text s.mem → s.regs sp ≡ f.sp
+      → CodeStands text s.pc (Lui t2 (upper_part o) ∷ Add t2 t2 sp ∷ i ∷ []) b → b < 2 ^ 32
       → Computes text s (s.pc + 4 + 4) t2 ((upper_part o * 2 ^ 12 + f.sp) % 2 ^ 32)
   unfolding act
   far-starts s b o i has stack code low =
@@ -100,7 +101,8 @@ module _ (text : Text) (f : Frame) (words : HasWords text f) where
       let base : u.regs sp ≡ f.sp = others sp (omega arith) (omega arith) ∙ stack in
       λ j. next (give u t2 ((is j + base j) % 2 ^ 32)))
 
-  pub get-done : (s : State) (b rd : ℕ) (l : Location) (v : Value) → HasText text s.mem → s.regs sp ≡ f.sp → LocationFits f l → CodeStands text s.pc (get rd l) b → b < 2 ^ 32
+  pub get-done : (s : State) (b rd : ℕ) (l : Location) (v : Value) → HasText text s.mem → s.regs sp ≡ f.sp → LocationFits f l
+      → CodeStands text s.pc (get rd l) b → b < 2 ^ 32
       → rd ≢ 0 → Shows f.bases v (held f.sp s.regs s.mem l) → (x : ℕ) × Shows f.bases v x × Computes text s b rd x
   unfolding act
   get-done s b rd (Register r) v has stack fits code low ne shows =
@@ -108,7 +110,8 @@ module _ (text : Text) (f : Frame) (words : HasWords text f) where
         s.regs r % 2 ^ 32,
         shows-word f.bases v (s.regs r) shows,
         one-computes text s b (Addi rd r 0) rd (s.regs r % 2 ^ 32) has code low ne
-            (ap (λ n. next (give s rd n)) (ap (λ n. (n + 0) % 2 ^ 32) (look-at s.regs r (omega (arith, above))) ∙ (let e : (s.regs r + 0) % 2 ^ 32 ≡ s.regs r % 2 ^ 32 = omega arith in e))),
+            (ap (λ n. next (give s rd n)) (ap (λ n. (n + 0) % 2 ^ 32) (look-at s.regs r (omega (arith, above)))
+            ∙ (let e : (s.regs r + 0) % 2 ^ 32 ≡ s.regs r % 2 ^ 32 = omega arith in e))),
       )
   get-done s b rd (Near o) v has stack fits code low ne shows = (
     load_bytes s.mem (f.sp + o) 4,
@@ -144,7 +147,8 @@ module _ (text : Text) (f : Frame) (words : HasWords text f) where
     mem = h.mem;
   }
 
-  pub operand-done : (s : State) (b scratch : ℕ) (l : Location) (v : Value) → HasText text s.mem → s.regs sp ≡ f.sp → LocationFits f l → CodeStands text s.pc (load_in scratch l) b
+  pub operand-done : (s : State) (b scratch : ℕ) (l : Location) (v : Value) → HasText text s.mem → s.regs sp ≡ f.sp → LocationFits f l
+      → CodeStands text s.pc (load_in scratch l) b
       → b < 2 ^ 32 → scratch ≢ 0 → Shows f.bases v (held f.sp s.regs s.mem l) → (x : ℕ) × Shows f.bases v x × Operand text s b scratch l x
   operand-done s b scratch (Register r) v has stack fits code low ne shows =
       (s.regs r, shows, record { state = s; steps = steps-none text.flags s; pc = code; is = refl; others = λ q a c. refl; mem = refl })
@@ -156,7 +160,8 @@ module _ (text : Text) (f : Frame) (words : HasWords text f) where
   -- ---- results
 
   -- a word that is stored at an offset from the stack pointer
-  word-written : (s : State) (b o x : ℕ) (v : Value) → s.pc + 4 ≡ b → b < 2 ^ 32 → Shows f.bases v x → Shows f.bases v (load_bytes (stored s (f.sp + o) x).mem (f.sp + o) 4)
+  word-written : (s : State) (b o x : ℕ) (v : Value) → s.pc + 4 ≡ b → b < 2 ^ 32 → Shows f.bases v x
+      → Shows f.bases v (load_bytes (stored s (f.sp + o) x).mem (f.sp + o) 4)
   word-written s b o x v end low shows =
       subst (Shows f.bases v) (sym (stored_is_loaded s.mem (f.sp + o) x 4)) (shows-word f.bases v x shows)
 
@@ -164,7 +169,8 @@ module _ (text : Text) (f : Frame) (words : HasWords text f) where
   left-elsewhere s o x a (inl before) = store_leaves_others s.mem (f.sp + o) x 4 a (inl (omega (arith, before)))
   left-elsewhere s o x a (inr beyond) = store_leaves_others s.mem (f.sp + o) x 4 a (inr (omega (arith, beyond)))
 
-  pub put-done : (s : State) (b rs x : ℕ) (l : Location) (v : Value) → HasText text s.mem → s.regs sp ≡ f.sp → LocationFits f l → CodeStands text s.pc (put l rs) b → b < 2 ^ 32
+  pub put-done : (s : State) (b rs x : ℕ) (l : Location) (v : Value) → HasText text s.mem → s.regs sp ≡ f.sp → LocationFits f l
+      → CodeStands text s.pc (put l rs) b → b < 2 ^ 32
       → rs ≢ 0 → rs ≢ t2 → s.regs rs ≡ x → Shows f.bases v x → Writes text f s b l v
   unfolding act
   put-done s b rs x (Register r) v has stack fits code low ne far is shows =
@@ -222,7 +228,8 @@ module _ (text : Text) (f : Frame) (words : HasWords text f) where
       kept q side = temporary-apart q t2 side (omega arith) (omega arith)
 
   -- a result that is in the register of its location, or in t0
-  pub result-stored : (s : State) (b x : ℕ) (l : Location) (v : Value) → HasText text s.mem → s.regs sp ≡ f.sp → LocationFits f l → CodeStands text s.pc (store_out l) b → b < 2 ^ 32
+  pub result-stored : (s : State) (b x : ℕ) (l : Location) (v : Value) → HasText text s.mem → s.regs sp ≡ f.sp → LocationFits f l
+      → CodeStands text s.pc (store_out l) b → b < 2 ^ 32
       → s.regs (out_of l) ≡ x → Shows f.bases v x → Writes text f s b l v
   result-stored s b x (Register r) v has stack fits code low is shows = record {
     state = s;

@@ -17,7 +17,8 @@ pub events-before : {A : Type 0} (o : List Event) (a : Answer A) → events (bef
 events-before o a = ap events (before-is o a) ∙ events-added o a
 
 -- more events only add to what exceeds the stack
-pub exceeds-more : (flags sizes : ℕ → ℕ) (left : ℕ) (o p : List Event) (s : State) (input : List ℕ) → Exceeds flags sizes left o s input → Exceeds flags sizes left (o ++ p) s input
+pub exceeds-more : (flags sizes : ℕ → ℕ) (left : ℕ) (o p : List Event) (s : State) (input : List ℕ) → Exceeds flags sizes left o s input
+    → Exceeds flags sizes left (o ++ p) s input
 exceeds-more flags sizes left o p s input h = record {
   count = h.count;
   written = h.written;
@@ -34,7 +35,8 @@ pub record Shown (text : Text) (f : Frame) (Inv : Bases → linear.State → Typ
   pub shows : Represents text (at_bases f bases) q s
 
 -- to address b, as `Comes`
-pub record Brings (text : Text) (f : Frame) (Inv : Bases → linear.State → Type 0) (b : ℕ) (q : linear.State) (did : List Event) (s : State) (input : List ℕ) : Type 0 where
+pub record Brings (text : Text) (f : Frame) (Inv : Bases → linear.State → Type 0) (b : ℕ) (q : linear.State) (did : List Event) (s : State)
+    (input : List ℕ) : Type 0 where
   pub state : State
   pub count : ℕ
   pub reaches : Reaches text.flags count s input (output did) state q.input
@@ -62,7 +64,8 @@ module _ (text : Text) (f : Frame) (sizes : ℕ → ℕ) (left : ℕ) (Inv : Bas
       → run text.flags (n + k) (running s) input ≡ after_output written r
   rest-runs n k s t input rest written r reaches runs = run_goes_on text.flags n k s t input written rest reaches ∙ ap (after_output written) runs
 
-  added-outcome : (did : List Event) (b least least' n : ℕ) (s t : State) (input rest : List ℕ) → Reaches text.flags n s input (output did) t rest → least' ≤ n + least → (a : Answer linear.State)
+  added-outcome : (did : List Event) (b least least' n : ℕ) (s t : State) (input rest : List ℕ) → Reaches text.flags n s input (output did) t rest → least' ≤ n + least
+      → (a : Answer linear.State)
       → Outcome b least a t rest → Outcome b least' (added did a) s input
   added-outcome did b least least' n s t input rest reaches enough a (inl h) =
       inl
@@ -109,13 +112,15 @@ module _ (text : Text) (f : Frame) (sizes : ℕ → ℕ) (left : ℕ) (Inv : Bas
   added-outcome did b least least' n s t input rest reaches enough (Undefined o) (inr h) = inr tt
 
   -- after events, from the state that they lead to
-  pub before-outcome : (did : List Event) (b least least' n : ℕ) (s t : State) (input rest : List ℕ) → Reaches text.flags n s input (output did) t rest → least' ≤ n + least
+  pub before-outcome : (did : List Event) (b least least' n : ℕ) (s t : State) (input rest : List ℕ) → Reaches text.flags n s input (output did) t rest
+      → least' ≤ n + least
       → (a : Answer linear.State) → Outcome b least a t rest → Outcome b least' (before did a) s input
   before-outcome did b least least' n s t input rest reaches enough a h =
       subst (λ x. Outcome b least' x s input) (sym (before-is did a)) (added-outcome did b least least' n s t input rest reaches enough a h)
 
   -- after steps without events
-  pub steps-outcome : (b least : ℕ) (s t : State) (input : List ℕ) (a : Answer linear.State) → Steps text.flags s t → Outcome b least a t input → Outcome b least a s input
+  pub steps-outcome : (b least : ℕ) (s t : State) (input : List ℕ) (a : Answer linear.State) → Steps text.flags s t → Outcome b least a t input
+      → Outcome b least a s input
   steps-outcome b least s t input a steps h = before-outcome [] b least least steps.count s t input input (steps.reaches input) (omega arith) a h
 
   -- one part, and on its result another

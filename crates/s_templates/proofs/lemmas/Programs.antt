@@ -26,11 +26,13 @@ get-ends : (text : Text) (buffer m : ℕ) → CodeStands text get_at (get_stub b
 get-ends text buffer m h = sym h.1.1.1.1.1.1.1.1.1.1.1.1
 
 -- the text of an image is in memory
-text-stands : (fs : List (List Item)) (ds : List PlainDelta) (main : ℕ) → AreSound (executable_for (laid_out fs ds main)).segments → AllFit (text_of (addresses_of fs ds) fs main)
+text-stands : (fs : List (List Item)) (ds : List PlainDelta) (main : ℕ) → AreSound (executable_for (laid_out fs ds main)).segments
+    → AllFit (text_of (addresses_of fs ds) fs main)
     → CodeStands (text_loaded fs ds main) text_at (text_of (addresses_of fs ds) fs main) (text_at + 4 * length (text_of (addresses_of fs ds) fs main))
 unfolding executable_for bytes_of
 text-stands fs ds main sound fit =
-    segment_code_stands (executable_for (laid_out fs ds main)).segments 0 (text_segment (laid_out fs ds main)) (text_of (addresses_of fs ds) fs main) sound refl refl refl refl refl fit
+    segment_code_stands (executable_for (laid_out fs ds main)).segments 0 (text_segment (laid_out fs ds main)) (text_of (addresses_of fs ds) fs main) sound refl refl
+    refl refl refl fit
 
 pub laid_program_stands : LaidProgramStands
 laid_program_stands fs ds main can fit sound =

@@ -80,7 +80,8 @@ put_stub_writes text s buffer back word e input called there low is = record {
 
     stores : act text.flags (Sb t0 a0 0) first.state ≡ next stored
     stores =
-        ap₂ (λ n w. access text.flags to_write 1 n first.state (next (record { pc = after first.state.pc; regs = first.state.regs; mem = store_bytes first.state.mem n w 1 }))) place word1
+        ap₂ (λ n w. access text.flags to_write 1 n first.state
+        (next (record { pc = after first.state.pc; regs = first.state.regs; mem = store_bytes first.state.mem n w 1 }))) place word1
         ∙ access-byte text.flags to_write buffer first.state (next stored) called.writable
 
     second : Steps text.flags first.state stored
@@ -94,7 +95,8 @@ put_stub_writes text s buffer back word e input called there low is = record {
 
     third : Set text stored 1 write_call buffer calling e
     third =
-        sets text stored 1 write_call buffer calling e has2 (subst (λ a. CodeStands text a setting_put e) (sym pc2) cut.2.1) low first.holds called.buffer_low (omega arith) (omega arith)
+        sets text stored 1 write_call buffer calling e has2 (subst (λ a. CodeStands text a setting_put e) (sym pc2) cut.2.1) low first.holds called.buffer_low
+        (omega arith) (omega arith)
 
     before : Steps text.flags s third.state
     before = steps-then text.flags s first.state third.state first.steps (steps-then text.flags first.state stored third.state second third.steps)
@@ -117,7 +119,8 @@ put_stub_writes text s buffer back word e input called there low is = record {
 
     written : Reaches text.flags 1 third.state input (word % 256 ∷ []) answered input
     written =
-        step_writes text.flags third.state answered (word_of Ecall) Ecall (word % 256) input (fetched-there text third.state Ecall has3 third.code.0) (encoded_decodes Ecall third.code.0.fits) calls
+        step_writes text.flags third.state answered (word_of Ecall) Ecall (word % 256) input (fetched-there text third.state Ecall has3 third.code.0)
+        (encoded_decodes Ecall third.code.0.fits) calls
 
     pc3 : answered.pc ≡ third.state.pc + 4
     pc3 = let end : third.state.pc + 4 + 4 ≡ e = third.code.1.1 in omega (arith, end, low)

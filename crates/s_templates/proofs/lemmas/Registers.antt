@@ -75,7 +75,8 @@ module _ (text : Text) where
       }
 
   -- one after the other, where the first register is the second or t2
-  pub computes-then : (s : State) (m b rd x rd' y : ℕ) → (one : Computes text s m rd x) → (rd ≡ rd') ⊎ (rd ≡ t2) → Computes text one.state b rd' y → Computes text s b rd' y
+  pub computes-then : (s : State) (m b rd x rd' y : ℕ) → (one : Computes text s m rd x) → (rd ≡ rd') ⊎ (rd ≡ t2) → Computes text one.state b rd' y
+      → Computes text s b rd' y
   computes-then s m b rd x rd' y one is two = record {
     state = two.state;
     steps = steps-then text.flags s one.state two.state one.steps two.steps;
@@ -107,22 +108,26 @@ module _ (text : Text) where
   -- an instruction that goes on with its own register, or with t2
   pub two-compute : (s : State) (b : ℕ) (i j : Instr) (rd x rd' y : ℕ) → HasText text s.mem → CodeStands text s.pc (i ∷ j ∷ []) b → b < 2 ^ 32 → rd ≢ 0 → rd' ≢ 0
       → (rd ≡ rd') ⊎ (rd ≡ t2) → act text.flags i s ≡ next (give s rd x)
-      → ((u : State) → u.regs rd ≡ x → ((r : ℕ) → r ≢ rd → r ≢ t2 → u.regs r ≡ s.regs r) → u.mem ≡ s.mem → act text.flags j u ≡ next (give u rd' y)) → Computes text s b rd' y
+      → ((u : State) → u.regs rd ≡ x → ((r : ℕ) → r ≢ rd → r ≢ t2 → u.regs r ≡ s.regs r) → u.mem ≡ s.mem → act text.flags j u ≡ next (give u rd' y))
+      → Computes text s b rd' y
   two-compute s b i j rd x rd' y has code low ne ne' is does more =
       let one = first-computes s b i (j ∷ []) rd x has code low ne does in
       computes-then s (s.pc + 4) b rd x rd' y one is
-      (one-computes one.state b j rd' y (text-after s (s.pc + 4) rd x one has) (code-after s b (s.pc + 4) rd x (j ∷ []) one code.1) low ne' (more one.state one.holds one.others one.mem))
+      (one-computes one.state b j rd' y (text-after s (s.pc + 4) rd x one has) (code-after s b (s.pc + 4) rd x (j ∷ []) one code.1) low ne'
+      (more one.state one.holds one.others one.mem))
 
   -- ---- a word in a register
 
-  pub address-loads : (s : State) (b rd v : ℕ) → HasText text s.mem → CodeStands text s.pc (load_address rd v) b → b < 2 ^ 32 → rd ≢ 0 → v < 2 ^ 32 → Computes text s b rd v
+  pub address-loads : (s : State) (b rd v : ℕ) → HasText text s.mem → CodeStands text s.pc (load_address rd v) b → b < 2 ^ 32 → rd ≢ 0 → v < 2 ^ 32
+      → Computes text s b rd v
   unfolding act
   address-loads s b rd v has code low ne fits =
       two-compute s b (Lui rd (upper_part v)) (Addi rd rd (low_part v)) rd (upper_part v * 2 ^ 12) rd v has code low ne ne (inl refl) refl
       (λ u is others mem.
       ap (λ n. next (give u rd n)) (ap (λ n. (n + low_part v) % 2 ^ 32) (look-at u.regs rd ne ∙ is) ∙ parts_make_word v fits))
 
-  pub immediate-loads : (s : State) (b rd v : ℕ) → HasText text s.mem → CodeStands text s.pc (load_immediate rd v) b → b < 2 ^ 32 → rd ≢ 0 → v < 2 ^ 32 → Computes text s b rd v
+  pub immediate-loads : (s : State) (b rd v : ℕ) → HasText text s.mem → CodeStands text s.pc (load_immediate rd v) b → b < 2 ^ 32 → rd ≢ 0 → v < 2 ^ 32
+      → Computes text s b rd v
   unfolding act
   immediate-loads s b rd v has code low ne fits = by (nat_lt ((v + 2048) % 2 ^ 32) 4096) code
     where

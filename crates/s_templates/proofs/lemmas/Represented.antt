@@ -45,7 +45,8 @@ module _ (text : Text) (f : Frame) (words : HasWords text f) where
         memory-same text.flags f.bases q.memory s.mem w.state.mem
         (λ a live. w.memory a (outside-words f t a below (out-of-words a (λ from to. rep.apart a from to live)))) rep.memory;
     apart = rep.apart;
-    has_text = λ a fixed. w.memory a (outside-words f t a below (out-of-words a (λ from to. both_ways (has_flag (text.flags a) to_write) fixed (words.writable a from to)))) ∙ rep.has_text a fixed;
+    has_text = λ a fixed. w.memory a (outside-words f t a below
+        (out-of-words a (λ from to. both_ways (has_flag (text.flags a) to_write) fixed (words.writable a from to)))) ∙ rep.has_text a fixed;
   }
     where
       kept : (r : ℕ) → IsKept r → IsOtherRegister (location_of t) r → w.state.regs r ≡ s.regs r
@@ -92,14 +93,16 @@ module _ (text : Text) (f : Frame) (words : HasWords text f) where
   place-written q s b t v rep below w = record { state = w.state; steps = w.steps; pc = w.pc; shows = place-represents q s b t v rep below w }
 
   -- registers that are kept, and memory, are as they were
-  pub kept-represents : (q : linear.State) (s u : machine.State) → Represents text f q s → ((r : ℕ) → IsKept r → u.regs r ≡ s.regs r) → u.mem ≡ s.mem → Represents text f q u
+  pub kept-represents : (q : linear.State) (s u : machine.State) → Represents text f q s → ((r : ℕ) → IsKept r → u.regs r ≡ s.regs r) → u.mem ≡ s.mem
+      → Represents text f q u
   kept-represents q s u rep regs mem = record {
     stack = regs sp (inl refl) ∙ rep.stack;
     base = regs s0 (inr (inl refl)) ∙ rep.base;
     places = λ p within.
         subst (Shows f.bases (q.names p))
         (sym (held-same f (location_of p) (location-fits f p within) s.regs u.regs s.mem u.mem (λ r place. regs r (inr (inr place))) mem)) (rep.places p within);
-    saved = λ p above low. subst (SameWord (f.before.regs (place_register p))) (sym (regs (place_register p) (inr (inr (register-is-place p low))))) (rep.saved p above low);
+    saved = λ p above low. subst (SameWord (f.before.regs (place_register p))) (sym (regs (place_register p) (inr (inr (register-is-place p low)))))
+        (rep.saved p above low);
     above = λ n from out. ap (λ m. m n) mem ∙ rep.above n from out;
     memory = subst (λ m. ShowsMemory text.flags f.bases q.memory m) (sym mem) rep.memory;
     apart = rep.apart;
@@ -114,7 +117,8 @@ module _ (text : Text) (f : Frame) (words : HasWords text f) where
     stack = regs sp (inl refl) ∙ rep.stack;
     base = regs s0 (inr (inl refl)) ∙ rep.base;
     places = λ p within. subst (Shows f.bases (q.names p)) (sym (same-held p within)) (rep.places p within);
-    saved = λ p above low. subst (SameWord (f.before.regs (place_register p))) (sym (regs (place_register p) (inr (inr (register-is-place p low))))) (rep.saved p above low);
+    saved = λ p above low. subst (SameWord (f.before.regs (place_register p))) (sym (regs (place_register p) (inr (inr (register-is-place p low)))))
+        (rep.saved p above low);
     above = λ a from out. elsewhere a (before a out) ∙ rep.above a from (before a out);
     memory = shows;
     apart = λ a from to live. rep.apart a from to (live-same f.bases m q.memory (alike m q.memory (same-back q.memory m same)) a live);

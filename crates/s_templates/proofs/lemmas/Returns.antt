@@ -38,7 +38,8 @@ place-of-register r (inr high) = (r - 17, (let below = high.1 in omega (arith, b
     by true e = let zero_is = eqb-true (r - 17) 0 e in let above = high.0 in absurd (omega (arith, zero_is, above))
     by false e = let above = high.0 in omega (arith, above)
 
-module _ (program : Program) (can : ProgramCanRun program) (p : PlainPlaces) (os : List PlainObject) (range : IsInRange p os) (leaves : all_of (λ (o : PlainObject). leaves_fit o.size 0 o.leaves) os ≡ true)
+module _ (program : Program) (can : ProgramCanRun program) (p : PlainPlaces) (os : List PlainObject) (range : IsInRange p os)
+    (leaves : all_of (λ (o : PlainObject). leaves_fit o.size 0 o.leaves) os ≡ true)
     (function : ℕ) (vs : List Value) (m : Memory) (input : List ℕ) (bases : Bases) (back : ℕ) (s : State) (called : IsCalled program function vs m input bases back s)
     (enough : frame_size p.count os ≤ s.regs sp - s.regs s0) (e : ℕ) (taken : Taken program.text s (frame_size p.count os) (saved_of p.count) e) where
   abbrev F : Frame
@@ -64,14 +65,17 @@ module _ (program : Program) (can : ProgramCanRun program) (p : PlainPlaces) (os
     pub value : Shows more (q.names v) (state.regs a0)
     pub mem : state.mem ≡ u.mem
 
-  module _ (q : linear.State) (more : Bases) (inv : InFunction program F p os (entry.local program can p os range leaves function vs m input bases back s called enough e taken) all more q) (v : ℕ)
-      (inside : v < p.count) (u : State) (rep : Represents program.text (at_bases F more) q u) (end : ℕ) (there : CodeStands program.text u.pc (get a0 (location_of v) ++ give_frame size saved) end)
+  module _ (q : linear.State) (more : Bases) (inv : InFunction program F p os
+      (entry.local program can p os range leaves function vs m input bases back s called enough e taken) all more q) (v : ℕ)
+      (inside : v < p.count) (u : State) (rep : Represents program.text (at_bases F more) q u) (end : ℕ)
+      (there : CodeStands program.text u.pc (get a0 (location_of v) ++ give_frame size saved) end)
       (low : end < 2 ^ 32) where
     -- an address that lives now is one of before, or in an object
     pub live-now : (a : ℕ) → IsLive more q.memory a → IsLive bases m a ⊎ ((F.sp + 4 * words_of p.count ≤ a) × (a < s.regs sp - (4 + 4 * saved)))
     live-now a h =
         entry.live program can p os range leaves function vs m input bases back s called enough e taken a
-        (live-back program.text.flags F.bases more all q.memory (entry.body-stack program can p os range leaves function vs m input bases back s called enough e taken).laid inv.extends inv.alike a h)
+        (live-back program.text.flags F.bases more all q.memory
+        (entry.body-stack program can p os range leaves function vs m input bases back s called enough e taken).laid inv.extends inv.alike a h)
 
     -- the words that save registers are as they were
     saves-kept : (a : ℕ) → s.regs sp - (4 + 4 * saved) ≤ a → a < s.regs sp → u.mem a ≡ taken.state.mem a
@@ -91,8 +95,10 @@ module _ (program : Program) (can : ProgramCanRun program) (p : PlainPlaces) (os
 
     one : (x : ℕ) × Shows more (q.names v) x × Computes program.text u cut.0 a0 x
     one =
-        get-done program.text (at_bases F more) (words-at program.text F more (entry.has-words program can p os range leaves function vs m input bases back s called enough e taken)) u cut.0 a0 (location_of v)
-        (q.names v) rep.has_text rep.stack (location-fits (at_bases F more) v inside) cut.1 (let le = code-le program.text cut.0 (give_frame size saved) end cut.2 in omega (arith, le, low)) (omega arith)
+        get-done program.text (at_bases F more) (words-at program.text F more
+        (entry.has-words program can p os range leaves function vs m input bases back s called enough e taken)) u cut.0 a0 (location_of v)
+        (q.names v) rep.has_text rep.stack (location-fits (at_bases F more) v inside) cut.1 (let le = code-le program.text cut.0 (give_frame size saved) end cut.2 in
+        omega (arith, le, low)) (omega arith)
         (rep.places v inside)
 
     abbrev loaded : State
@@ -121,11 +127,13 @@ module _ (program : Program) (can : ProgramCanRun program) (p : PlainPlaces) (os
         frame_is_given program.text loaded size saved back end
         (record {
           has_text = subst (HasText program.text) (sym one.2.mem) rep.has_text;
-          aligned = (let at = stack-loaded in let aligned = called.stack.aligned in let whole = (entry.is-size p os range).aligned in omega (arith, at, aligned, whole, enough));
+          aligned = (let at = stack-loaded in let aligned = called.stack.aligned in let whole = (entry.is-size p os range).aligned in
+              omega (arith, at, aligned, whole, enough));
           low = (let top = top-is in let small = called.stack.low in omega (arith, top, small));
           readable = λ a from to. (let at = stack-loaded in let top = top-is in called.readable a (omega (arith, from, at, enough)) (omega (arith, to, top)));
         })
-        (entry.is-size p os range) (subst (λ a. CodeStands program.text a (give_frame size saved) end) (sym one.2.pc) cut.2) low return-word called.back_low called.back_even
+        (entry.is-size p os range) (subst (λ a. CodeStands program.text a (give_frame size saved) end) (sym one.2.pc) cut.2) low return-word called.back_low
+        called.back_even
 
     -- a place register, by its place
     kept-at : (k : ℕ) → k < registers → SameWord (s.regs (place_register k)) (given.state.regs (place_register k))
@@ -144,7 +152,8 @@ module _ (program : Program) (can : ProgramCanRun program) (p : PlainPlaces) (os
           given.others (place_register k) (omega (arith, high)) (omega (arith, high)) (omega (arith, high)) (omega (arith, high)) (omega (arith, high))
           (λ j under. registers-apart k j (omega (arith, past, under)))
           ∙ one.2.others (place_register k) (not-a0 (register-is-place k few)) (omega (arith, high)) in
-          let was : taken.state.regs (place_register k) ≡ s.regs (place_register k) = taken.others (place_register k) (omega (arith, high)) (omega (arith, high)) (omega (arith, high)) (omega (arith, high)) in
+          let was : taken.state.regs (place_register k) ≡ s.regs (place_register k) =
+          taken.others (place_register k) (omega (arith, high)) (omega (arith, high)) (omega (arith, high)) (omega (arith, high)) in
           subst (λ x. SameWord x (given.state.regs (place_register k))) was
           (subst (SameWord (taken.state.regs (place_register k))) (sym others) (rep.saved k (omega (arith, past, few)) few))
     ]

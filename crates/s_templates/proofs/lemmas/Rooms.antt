@@ -33,7 +33,8 @@ rooms-within (x ∷ os) (suc k) o there =
     let h = rooms-within os k o there in
     omega (arith, e, d, h)
 
-pub rooms-order : (os : List PlainObject) (j k : ℕ) (o u : PlainObject) → slice_get os j ≡ Some o → slice_get os k ≡ Some u → j < k → rooms (take j os) + object_room o ≤ rooms (take k os)
+pub rooms-order : (os : List PlainObject) (j k : ℕ) (o u : PlainObject) → slice_get os j ≡ Some o → slice_get os k ≡ Some u → j < k
+    → rooms (take j os) + object_room o ≤ rooms (take k os)
 rooms-order [] j k o u there there' less = absurd cc
 rooms-order (x ∷ os) j zero o u there there' less = absurd (omega (arith, less))
 rooms-order (x ∷ os) zero (suc k) o u there there' less =

@@ -51,7 +51,8 @@ undef_is_done text f q s words rep t b there low = record {
 }
 
 -- the offset in t0, and the sum with the stack pointer
-object-makes : (text : Text) (f : Frame) (s : machine.State) (m rd offset : ℕ) → HasText text s.mem → s.regs sp ≡ f.sp → CodeStands text s.pc (load_immediate t0 offset ++ Add rd t0 sp ∷ []) m
+object-makes : (text : Text) (f : Frame) (s : machine.State) (m rd offset : ℕ) → HasText text s.mem → s.regs sp ≡ f.sp
+    → CodeStands text s.pc (load_immediate t0 offset ++ Add rd t0 sp ∷ []) m
     → m < 2 ^ 32 → rd ≢ 0 → f.sp + offset < 2 ^ 32 → Makes text s m rd (f.sp + offset)
 unfolding act
 object-makes text f s m rd offset has stack there low ne fits =
@@ -61,7 +62,8 @@ object-makes text f s m rd offset has stack there low ne fits =
     let u = one.state in
     let base : u.regs sp ≡ f.sp = one.others sp (omega arith) (omega arith) ∙ stack in
     let sum : (offset + f.sp) % 2 ^ 32 ≡ f.sp + offset = omega (arith, fits) in
-    let two = one-computes text u m (Add rd t0 sp) rd (f.sp + offset) (subst (HasText text) (sym one.mem) has) (subst (λ a. CodeStands text a (Add rd t0 sp ∷ []) m) (sym one.pc) cut.2) low ne
+    let two = one-computes text u m (Add rd t0 sp) rd (f.sp + offset) (subst (HasText text) (sym one.mem) has)
+    (subst (λ a. CodeStands text a (Add rd t0 sp ∷ []) m) (sym one.pc) cut.2) low ne
     (ap (λ n. next (give u rd n)) (ap₂ (λ x y. (x + y) % 2 ^ 32) one.holds base ∙ sum)) in
     record {
       state = two.state;
@@ -93,7 +95,8 @@ global_address_is_done text f q s words rep t address v below fits shows b there
 pub binary_is_done : BinaryIsDone
 binary_is_done text f q s words rep o t x y below inx iny b there low =
     place-written text f words q s b t (value2 o (q.names x) (q.names y)) rep below
-    (two-write text f words s b (location_of t) (location_of x) (location_of y) (value2 o (q.names x) (q.names y)) (q.names x) (q.names y) (binary_code o) (computed2 o) rep.has_text rep.stack
+    (two-write text f words s b (location_of t) (location_of x) (location_of y) (value2 o (q.names x) (q.names y)) (q.names x) (q.names y) (binary_code o)
+    (computed2 o) rep.has_text rep.stack
     (location-fits f t below) (location-fits f x inx) (location-fits f y iny) there low (rep.places x inx) (rep.places y iny)
     (λ u m rd a c v w has code small ne nea nec is is'. binary-computes text o u m rd a c v w has code small ne nea nec is is')
     (λ v w p p'. shows2 f.bases o (q.names x) (q.names y) v w p p'))
@@ -101,11 +104,13 @@ binary_is_done text f q s words rep o t x y below inx iny b there low =
 pub unary_is_done : UnaryIsDone
 unary_is_done text f q s words rep o t x below inx b there low =
     place-written text f words q s b t (value1 o (q.names x)) rep below
-    (one-writes text f words s b (location_of t) (location_of x) (value1 o (q.names x)) (q.names x) (unary_code o) (computed1 o) rep.has_text rep.stack (location-fits f t below)
+    (one-writes text f words s b (location_of t) (location_of x) (value1 o (q.names x)) (q.names x) (unary_code o) (computed1 o) rep.has_text rep.stack
+    (location-fits f t below)
     (location-fits f x inx) there low (rep.places x inx)
     (λ u m rd a v has code small ne nea is. unary-computes text o u m rd a v has code small ne nea is) (λ v p. shows1 f.bases o (q.names x) v p))
 
 pub move_is_done : MoveIsDone
 move_is_done text f q s words rep t x below inx b there low =
     place-written text f words q s b t (q.names x) rep below
-    (move-writes text f words s b (location_of t) (location_of x) (q.names x) rep.has_text rep.stack (location-fits f t below) (location-fits f x inx) there low (rep.places x inx))
+    (move-writes text f words s b (location_of t) (location_of x) (q.names x) rep.has_text rep.stack (location-fits f t below) (location-fits f x inx) there low
+    (rep.places x inx))

@@ -18,7 +18,8 @@ use Rattle.s_templates.proofs.lemmas.Operands.{load-acts, store-acts, stored}
 use Rattle.s_templates.proofs.lemmas.Registers.{steps-none, steps-then, step-to, look-at, set-same, set-other}
 
 -- the text is left by a store to bytes that may be written
-pub text-left : (text : Text) (mem : Bytes) (a x : ℕ) → HasText text mem → ((j : ℕ) → j < 4 → has_flag (text.flags (a + j)) to_write ≡ true) → HasText text (store_bytes mem a x 4)
+pub text-left : (text : Text) (mem : Bytes) (a x : ℕ) → HasText text mem → ((j : ℕ) → j < 4 → has_flag (text.flags (a + j)) to_write ≡ true)
+    → HasText text (store_bytes mem a x 4)
 text-left text mem a x has writable n fixed = by (cases_lt n a)
   where
     by : (n < a) ⊎ (a ≤ n) → store_bytes mem a x 4 n ≡ text.bytes n
@@ -29,7 +30,8 @@ text-left text mem a x has writable n fixed = by (cases_lt n a)
         beyond (inr past) = store_leaves_others mem a x 4 n (inr past) ∙ has n fixed
         beyond (inl inside) =
             let same : a + (n - a) ≡ n = omega (arith, from) in
-            absurd (both_ways (has_flag (text.flags n) to_write) fixed (subst (λ z. has_flag (text.flags z) to_write ≡ true) same (writable (n - a) (omega (arith, from, inside)))))
+            absurd (both_ways (has_flag (text.flags n) to_write) fixed
+            (subst (λ z. has_flag (text.flags z) to_write ≡ true) same (writable (n - a) (omega (arith, from, inside)))))
 
 -- the address of the word of register k below the frame's end
 pub word-place : (top d : ℕ) → d ≤ top → 0 < d → top < 2 ^ 32 → (top + negative d) % 2 ^ 32 ≡ top - d
@@ -117,7 +119,8 @@ module _ (text : Text) (top : ℕ) (even : top % 4 ≡ 0) (low : top < 2 ^ 32) w
   saves (suc n) s b has is within few writable there small =
       let cut = code_is_cut text s.pc b (save_places n) (Sw t1 (place_register n) (negative (8 + 4 * n)) ∷ []) there in
       let end : cut.0 + 4 ≡ b = cut.2.1 in
-      let first = saves n s cut.0 has is (omega (arith, within)) (omega (arith, few)) (λ a from to. writable a (omega (arith, from)) to) cut.1 (omega (arith, end, small)) in
+      let first = saves n s cut.0 has is (omega (arith, within)) (omega (arith, few)) (λ a from to. writable a (omega (arith, from)) to) cut.1
+      (omega (arith, end, small)) in
       saves-next n s cut.0 b first is within (omega (arith, few)) writable cut.2 small
 
   -- Up to address b so many place registers are loaded; no other register changes, and no memory.
@@ -203,5 +206,6 @@ module _ (text : Text) (top : ℕ) (even : top % 4 ≡ 0) (low : top < 2 ^ 32) w
   restores (suc n) s b has is within few readable there small =
       let cut = code_is_cut text s.pc b (restore_places n) (Lw (place_register n) t1 (negative (8 + 4 * n)) ∷ []) there in
       let end : cut.0 + 4 ≡ b = cut.2.1 in
-      let first = restores n s cut.0 has is (omega (arith, within)) (omega (arith, few)) (λ a from to. readable a (omega (arith, from)) to) cut.1 (omega (arith, end, small)) in
+      let first = restores n s cut.0 has is (omega (arith, within)) (omega (arith, few)) (λ a from to. readable a (omega (arith, from)) to) cut.1
+      (omega (arith, end, small)) in
       restores-next n s cut.0 b has first is within (omega (arith, few)) readable cut.2 small

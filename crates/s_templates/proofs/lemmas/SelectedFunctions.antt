@@ -40,7 +40,8 @@ module _ (p : PlainPlaces) (objects globals : ℕ) where
   LinesCan [] = Unit {0}
   LinesCan (l ∷ ls) = LineCan p objects globals l × LinesCan ls
 
-  gathered : (ls : List Line) → all_of (names_have_places p) ls ≡ true → all_of (does (has_its_object objects)) ls ≡ true → all_of (does (has_its_global globals)) ls ≡ true
+  gathered : (ls : List Line) → all_of (names_have_places p) ls ≡ true → all_of (does (has_its_object objects)) ls ≡ true
+      → all_of (does (has_its_global globals)) ls ≡ true
       → all_of (does has_few_arguments) ls ≡ true → all_of (does is_word_constant) ls ≡ true → LinesCan ls
   gathered [] a b c d e = tt
   gathered (l ∷ ls) a b c d e =
@@ -114,7 +115,8 @@ module _ (p : PlainPlaces) (objects globals : ℕ) where
         let all = left-good (branches x 0 first ls ++ last_lines ls ++ labelled 0 first end ls) (label end ∷ []) h in
         let most = left-good (branches x 0 first ls ++ last_lines ls) (labelled 0 first end ls) all in (
           left-good (branches x 0 first ls) (last_lines ls) most,
-          labelled-good 0 first end ls (right-good (branches x 0 first ls ++ last_lines ls) (labelled 0 first end ls) all) (right-good (branches x 0 first ls) (last_lines ls) most),
+          labelled-good 0 first end ls (right-good (branches x 0 first ls ++ last_lines ls) (labelled 0 first end ls) all)
+              (right-good (branches x 0 first ls) (last_lines ls) most),
         )
 
     choice-good : (x first : ℕ) (ls : List (List Line)) → Good (choice_lines x first ls) → AllGood ls
@@ -165,8 +167,12 @@ module _ (p : PlainPlaces) (objects globals : ℕ) where
           let later = first + counted cs in
           let ls = codes_lines (last_from later cs) (others_from later cs) cs in
           let same = length-codes (last_from later cs) (others_from later cs) cs in
-          let few = few-codes x first ls h in
-          (λ two. predicate-can x first ls h.0 (omega (arith, two, same)), omega (arith, few, same), codes-can cs (last_from later cs) (others_from later cs) (choice-good x first ls h))
+          let few = few-codes x first ls h in (
+            λ two. predicate-can x first ls h.0 (omega (arith, two, same)),
+            omega (arith, few, same),
+            codes-can cs (last_from later cs) (others_from later cs)
+                (choice-good x first ls h),
+          )
       step-can (loop moves body x back) first h =
           let code = code_lines (2 + first) body in
           let front = map done moves ++ (label first ∷ code) in
@@ -174,8 +180,12 @@ module _ (p : PlainPlaces) (objects globals : ℕ) where
           let all = left-good (front ++ after) (jump first ∷ label (suc first) ∷ []) h in
           let one = left-good front after all in
           let two = right-good front after all in
-          let inner = right-good (label first ∷ []) code (right-good (map done moves) (label first ∷ code) one) in
-          (instrs-can moves (left-good (map done moves) (label first ∷ code) one).0, code-can body (2 + first) inner, (and_parts (has_place p x) true two.0.0.placed).0, instrs-can back two.0.1)
+          let inner = right-good (label first ∷ []) code (right-good (map done moves) (label first ∷ code) one) in (
+            instrs-can moves (left-good (map done moves) (label first ∷ code) one).0,
+            code-can body (2 + first) inner,
+            (and_parts (has_place p x) true two.0.0.placed).0,
+            instrs-can back two.0.1,
+          )
 
       code-can : (k : Code) (first : ℕ) → Good (code_lines first k) → CodeFits (InstrCanRun p objects globals) p k
       code-can no_steps first h = tt
@@ -196,7 +206,8 @@ module _ (p : PlainPlaces) (objects globals : ℕ) where
 
 pub selected_can_run : SelectedCanRun
 selected_can_run globals f p frame can named words short range leaves = record {
-  few = leb-true (length (numbers_from 0 f.params)) 8 (and_parts (has_few_params (enter (numbers_from 0 f.params))) (all_of has_few_params (code_lines 0 f.code ++ leave f.value ∷ [])) can.params).0;
+  few = leb-true (length (numbers_from 0 f.params)) 8
+      (and_parts (has_few_params (enter (numbers_from 0 f.params))) (all_of has_few_params (code_lines 0 f.code ++ leave f.value ∷ [])) can.params).0;
   params = good.0.placed;
   value = parts.1;
   code = parts.0;
@@ -209,5 +220,7 @@ selected_can_run globals f p frame can named words short range leaves = record {
 
     parts : CodeFits (InstrCanRun p (length f.objects) globals) p f.code × (has_place p f.value ≡ true)
     parts =
-        function-code p (length f.objects) globals f.objects f
-        (gathered p (length f.objects) globals (lines f) can.placed can.named named can.arguments words, ltb-true (items_size (items_of p f.objects (lines f))) (2 ^ 20) short)
+        function-code p (length f.objects) globals f.objects f (
+          gathered p (length f.objects) globals (lines f) can.placed can.named named can.arguments words,
+          ltb-true (items_size (items_of p f.objects (lines f))) (2 ^ 20) short,
+        )

@@ -63,7 +63,8 @@ main_is_called text s stack main e has here there low above high even = record {
     code1 = subst (λ a. CodeStands text a (calling main) main_returns) (sym one.pc) code.1.1
 
     two : Computes text one.state (one.state.pc + 4) t0 stack_size
-    two = first-computes text one.state main_returns (Lui t0 (stack_size / 2 ^ 12)) (Add sp s0 t0 ∷ call (main - (text_at + 16))) t0 stack_size has1 code1 (lit< tt) (omega arith) refl
+    two = first-computes text one.state main_returns (Lui t0 (stack_size / 2 ^ 12)) (Add sp s0 t0 ∷ call (main - (text_at + 16))) t0 stack_size has1 code1 (lit< tt)
+        (omega arith) refl
 
     has2 : HasText text two.state.mem
     has2 = subst (HasText text) (sym two.mem) has1
@@ -75,7 +76,8 @@ main_is_called text s stack main e has here there low above high even = record {
     three =
         first-computes text two.state main_returns (Add sp s0 t0) (call (main - (text_at + 16))) sp (stack + stack_size) has2 code2 (lit< tt) (omega arith)
         (ap (λ n. next (give two.state sp n))
-        (ap₂ (λ a b. (a + b) % 2 ^ 32) (two.others s0 (omega arith) (omega arith) ∙ one.holds) two.holds ∙ (let d : (stack + stack_size) % 2 ^ 32 ≡ stack + stack_size = omega (arith, low) in d)))
+        (ap₂ (λ a b. (a + b) % 2 ^ 32) (two.others s0 (omega arith) (omega arith) ∙ one.holds) two.holds
+        ∙ (let d : (stack + stack_size) % 2 ^ 32 ≡ stack + stack_size = omega (arith, low) in d)))
 
     has3 : HasText text three.state.mem
     has3 = subst (HasText text) (sym three.mem) has2

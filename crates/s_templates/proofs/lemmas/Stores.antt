@@ -34,7 +34,8 @@ mapped g xs ys n x e there = sym (slice_get-map g ys n) ∙ sym (ap (λ l. slice
 
 pub fellow : (m m' : Memory) → SameBlocks m m' → (n : ℕ) (b : Block) → Lives m n b → Fellow m' n b
 fellow m m' h n b lives =
-    by (slice_get m' n) refl (mapped shape_of m m' n b h.shapes lives.there) (mapped (λ k. k.live) m m' n b h.lives lives.there) (mapped (λ k. k.fixed) m m' n b h.fixed lives.there)
+    by (slice_get m' n) refl (mapped shape_of m m' n b h.shapes lives.there) (mapped (λ k. k.live) m m' n b h.lives lives.there)
+    (mapped (λ k. k.fixed) m m' n b h.fixed lives.there)
   where
     by : (found : Option Block) → slice_get m' n ≡ found → option_map shape_of found ≡ Some (shape_of b) → option_map (λ k. k.live) found ≡ Some b.live
         → option_map (λ k. k.fixed) found ≡ Some b.fixed → Fellow m' n b
@@ -99,7 +100,8 @@ laid-same flags bases m m' h laid = record { leaves = leaves; leaves_apart = lea
     apart : (n p : ℕ) (b c : Block) → Lives m' n b → Lives m' p c → n ≢ p → (bases n + b.size + 4 ≤ bases p) ⊎ (bases p + c.size + 4 ≤ bases n)
     apart n p b c lives lives' ne = by (laid.apart n p (was n b lives).block (was p c lives').block (was n b lives).there (was p c lives').there ne)
       where
-        by : (bases n + (was n b lives).block.size + 4 ≤ bases p) ⊎ (bases p + (was p c lives').block.size + 4 ≤ bases n) → (bases n + b.size + 4 ≤ bases p) ⊎ (bases p + c.size + 4 ≤ bases n)
+        by : (bases n + (was n b lives).block.size + 4 ≤ bases p) ⊎ (bases p + (was p c lives').block.size + 4 ≤ bases n) → (bases n + b.size + 4 ≤ bases p)
+            ⊎ (bases p + c.size + 4 ≤ bases n)
         by (inl before) = let same = size n b lives in inl (omega (arith, before, same))
         by (inr after) = let same = size p c lives' in inr (omega (arith, after, same))
 
@@ -124,9 +126,11 @@ pub record StoredAt (width offset : ℕ) (b : BlockName) (v : Value) (m : Memory
   pub keeps : kept width v ≡ Some part
 
 pub stored-there : (width offset : ℕ) (b : BlockName) (v : Value) (m m' : Memory) → store width (At b offset) v m ≡ Some m' → StoredAt width offset b v m
-stored-there width o b v m m' e = by (slice_get m b.number) refl (taken (takes_store width o (block_named b m)) refl e) (part (takes_store width o (block_named b m)) (kept width v) refl e)
+stored-there width o b v m m' e = by (slice_get m b.number) refl (taken (takes_store width o (block_named b m)) refl e)
+    (part (takes_store width o (block_named b m)) (kept width v) refl e)
   where
-    taken : (takes : Bool) → takes_store width o (block_named b m) ≡ takes → option_map (λ u. block_changed b.number (written width o u) m) (cond takes (kept width v) None) ≡ Some m'
+    taken : (takes : Bool) → takes_store width o (block_named b m) ≡ takes
+        → option_map (λ u. block_changed b.number (written width o u) m) (cond takes (kept width v) None) ≡ Some m'
         → takes_store width o (block_named b m) ≡ true
     taken true is h = is
     taken false is h = absurd cc
@@ -213,7 +217,8 @@ module _ (after : LoadAfterStore) (elsewhere : LoadElsewhere) (keeps : StoreKeep
       Loads w p c y = Shows bases y (load_bytes (store_bytes mem (bases b.number + o) x width) (bases c.number + p) w)
 
       -- another leaf, whose bytes are elsewhere
-      other : (w p : ℕ) (c : BlockName) (y : Value) → load w (At c p) m' ≡ Some y → Apart width (At b o) w (At c p) → AreDisjoint (bases c.number + p) w (bases b.number + o) width → Loads w p c y
+      other : (w p : ℕ) (c : BlockName) (y : Value) → load w (At c p) m' ≡ Some y → Apart width (At b o) w (At c p)
+          → AreDisjoint (bases c.number + p) w (bases b.number + o) width → Loads w p c y
       other w p c y loaded apart disjoint =
           let was : load w (At c p) m ≡ Some y = sym (elsewhere width w (At b o) (At c p) v m m' apart e) ∙ loaded in
           subst (Shows bases y) (sym (bytes.load_elsewhere mem (bases b.number + o) x width (bases c.number + p) w disjoint)) (shows.values w p c y was)
@@ -228,7 +233,8 @@ module _ (after : LoadAfterStore) (elsewhere : LoadElsewhere) (keeps : StoreKeep
           let value : Some target.part ≡ Some y = sym now ∙ (λ i. load (same.0 i) (At (name i) (same.1 i)) m') ∙ loaded in
           let is : target.part ≡ y = cc in
           let stored = stored_is_loaded mem (bases b.number + o) x width in
-          let moved : load_bytes (store_bytes mem (bases b.number + o) x width) (bases b.number + o) width ≡ load_bytes (store_bytes mem (bases b.number + o) x width) (bases c.number + p) w =
+          let moved : load_bytes (store_bytes mem (bases b.number + o) x width) (bases b.number + o) width ≡ load_bytes (store_bytes mem (bases b.number + o) x width)
+          (bases c.number + p) w =
           λ i. load_bytes (store_bytes mem (bases b.number + o) x width) (bases (number i) + same.1 i) (same.0 i) in
           let part = subst (λ z. Shows bases z (x % 2 ^ (8 * width))) is (part-shown bases width x v target.part target.keeps word) in
           subst (Shows bases y) (sym stored ∙ moved) part
@@ -246,9 +252,11 @@ module _ (after : LoadAfterStore) (elsewhere : LoadElsewhere) (keeps : StoreKeep
       apart w p c y loaded found ne =
           let within = leaf.within in
           let inside = (leaf-there flags bases m' laid w p c y found).within in
-          other w p c y loaded (inl (λ equal. ne (ap number-of equal))) (sides (laid.apart b.number c.number there.block found.block there.lives found.lives ne) within inside)
+          other w p c y loaded (inl (λ equal. ne (ap number-of equal)))
+          (sides (laid.apart b.number c.number there.block found.block there.lives found.lives ne) within inside)
         where
-          sides : (bases b.number + there.block.size + 4 ≤ bases c.number) ⊎ (bases c.number + found.block.size + 4 ≤ bases b.number) → o + width ≤ there.block.size → p + w ≤ found.block.size
+          sides : (bases b.number + there.block.size + 4 ≤ bases c.number) ⊎ (bases c.number + found.block.size + 4 ≤ bases b.number) → o + width ≤ there.block.size
+              → p + w ≤ found.block.size
               → AreDisjoint (bases c.number + p) w (bases b.number + o) width
           sides (inl before) within inside = inr (omega (arith, before, within))
           sides (inr after) within inside = inl (omega (arith, after, inside))

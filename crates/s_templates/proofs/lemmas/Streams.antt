@@ -40,7 +40,8 @@ module _ (text : Text) (f : Frame) (words : HasWords text f) (q : linear.State) 
     stack = regs sp (inl refl) ∙ rep.stack;
     base = regs s0 (inr (inl refl)) ∙ rep.base;
     places = λ p within. subst (Shows f.bases (q.names p)) (sym (same-held p within)) (rep.places p within);
-    saved = λ p above low. subst (SameWord (f.before.regs (place_register p))) (sym (regs (place_register p) (inr (inr (register-is-place p low))))) (rep.saved p above low);
+    saved = λ p above low. subst (SameWord (f.before.regs (place_register p))) (sym (regs (place_register p) (inr (inr (register-is-place p low)))))
+        (rep.saved p above low);
     above = λ a from out. mem a (λ e. let below = is.below in omega (arith, below, from, e)) ∙ rep.above a from out;
     memory =
         memory-same text.flags f.bases q.memory s.mem u.mem (λ a live. mem a (λ e. is.outside (subst (IsLive f.bases q.memory) e live))) rep.memory;
@@ -64,7 +65,8 @@ module _ (text : Text) (f : Frame) (words : HasWords text f) (q : linear.State) 
   buffer-low = let below = is.below in let low = words.low in omega (arith, below, low)
 
   -- a stub is called from an address at which its call stands
-  stub-called : (s : machine.State) (target b : ℕ) → HasText text s.mem → CodeStands text s.pc (call (offset_to s.pc target)) b → b < 2 ^ 32 → (c : Called text s target b)
+  stub-called : (s : machine.State) (target b : ℕ) → HasText text s.mem → CodeStands text s.pc (call (offset_to s.pc target)) b → b < 2 ^ 32
+      → (c : Called text s target b)
       → StubIsCalled text c.state buffer b
   stub-called s target b has there low c = record {
     has_text = subst (HasText text) (sym c.mem) has;
@@ -131,11 +133,13 @@ put_is_done text f q s words rep a w buffer m b below is buf stubs there next lo
 -- ---- input
 
 -- the value that the stub gives is put into its place
-placed-after : (text : Text) (f : Frame) (q q' : linear.State) (s u : machine.State) (t x b : ℕ) (input written : List ℕ) → HasWords text f → t < f.places → Represents text f q' u
+placed-after : (text : Text) (f : Frame) (q q' : linear.State) (s u : machine.State) (t x b : ℕ) (input written : List ℕ) → HasWords text f → t < f.places
+    → Represents text f q' u
     → CodeStands text u.pc (select.put (location_of t) a0) b → b < 2 ^ 32 → u.regs a0 ≡ x → x < 2 ^ 32 → (count : ℕ) → (did : List Event) → output did ≡ []
     → Reaches text.flags count s input [] u q'.input → Comes text f b (linear.set q' t (Num x)) did s input
 placed-after text f q q' s u t x b input written words below rep code low is small count did none reaches =
-    let w = put-done text f words u b a0 x (location_of t) (Num x) rep.has_text rep.stack (location-fits f t below) code low (omega arith) (omega arith) is (refl, small) in
+    let w = put-done text f words u b a0 x (location_of t) (Num x) rep.has_text rep.stack (location-fits f t below) code low (omega arith)
+    (omega arith) is (refl, small) in
     let last = place-written text f words q' u b t (Num x) rep below w in
     record {
       state = last.state;
@@ -189,14 +193,17 @@ get_is_done text f q s words rep t buffer m b least below bytes buf stubs there 
         let back = h.0 in
         let rep' = stays text f words q buffer buf s back.state rep (kept back.state back.kept) (λ n ne. ap (λ k. k n) (back.mem ∙ called.mem)) in
         let reaches = reaches_onwards text.flags called.steps.count back.count s called.state back.state [] [] [] [] [] (called.steps.reaches []) back.reaches in
-        placed-after text f q q s back.state t (2 ^ 32 - 1) b [] [] words below rep' (put-code back.state.pc back.pc) low h.1 (omega arith) (called.steps.count + back.count) [] refl
+        placed-after text f q q s back.state t (2 ^ 32 - 1) b [] [] words below rep' (put-code back.state.pc back.pc) low h.1 (omega arith)
+        (called.steps.count + back.count) [] refl
         (subst (λ rest. Reaches text.flags (called.steps.count + back.count) s [] [] back.state rest) (sym e) reaches)
     by (c ∷ rest) e all =
         let h = get_stub_reads.byte text called.state buffer m c stubs.get_end rest is-called code stubs.get_low in
         let back = h.0 in
         let rep' = stays text f words q buffer buf s back.state rep (kept back.state back.kept)
         (λ n ne. ap (λ k. k n) back.mem ∙ (let other : (n == buffer) ≡ false = ne_eqb n buffer ne in rw other refl) ∙ ap (λ k. k n) called.mem) in
-        let reaches = reaches_onwards text.flags called.steps.count back.count s called.state back.state (c ∷ rest) [] (c ∷ rest) [] rest (called.steps.reaches (c ∷ rest)) back.reaches in
+        let reaches = reaches_onwards text.flags called.steps.count back.count s called.state back.state (c ∷ rest) [] (c ∷ rest) [] rest
+        (called.steps.reaches (c ∷ rest)) back.reaches in
         let small : c < 2 ^ 8 = all 0 0 (omega arith) in
-        placed-after text f q (record { names = q.names; memory = q.memory; input = rest }) s back.state t c b (c ∷ rest) [] words below (with-input text f q rest back.state rep')
+        placed-after text f q (record { names = q.names; memory = q.memory; input = rest }) s back.state t c b (c ∷ rest) [] words below
+        (with-input text f q rest back.state rep')
         (put-code back.state.pc back.pc) low h.1 (omega (arith, small)) (called.steps.count + back.count) (took c ∷ []) refl reaches

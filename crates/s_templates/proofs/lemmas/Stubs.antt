@@ -53,7 +53,8 @@ register-set text s e r x v i rest has there low ne acts same =
     let one = first-computes text s e i rest r v has there low ne (acts ∙ ap (λ n. next (give s r n)) same) in
     (one, code-after text s e (s.pc + 4) r v rest one there.1)
 
-pub sets : (text : Text) (s : State) (file number buffer : ℕ) (rest : List Instr) (e : ℕ) → HasText text s.mem → CodeStands text s.pc (setting file number rest) e → e < 2 ^ 32
+pub sets : (text : Text) (s : State) (file number buffer : ℕ) (rest : List Instr) (e : ℕ) → HasText text s.mem
+    → CodeStands text s.pc (setting file number rest) e → e < 2 ^ 32
     → s.regs t0 ≡ buffer → buffer < 2 ^ 32 → file < 2 ^ 32 → number < 2 ^ 32 → Set text s file number buffer rest e
 unfolding act
 sets text s file number buffer rest e has there low is small file_low number_low = record {
@@ -73,14 +74,16 @@ sets text s file number buffer rest e has there low is small file_low number_low
 }
   where
     one : (c : Computes text s (s.pc + 4) a0 file) × CodeStands text c.state.pc (Addi a1 t0 0 ∷ Addi a2 x0 1 ∷ Addi a7 x0 number ∷ rest) e
-    one = register-set text s e a0 ((0 + file) % 2 ^ 32) file (Addi a0 x0 file) (Addi a1 t0 0 ∷ Addi a2 x0 1 ∷ Addi a7 x0 number ∷ rest) has there low (omega arith) refl (omega (arith, file_low))
+    one = register-set text s e a0 ((0 + file) % 2 ^ 32) file (Addi a0 x0 file) (Addi a1 t0 0 ∷ Addi a2 x0 1 ∷ Addi a7 x0 number ∷ rest) has there low (omega arith) refl
+        (omega (arith, file_low))
 
     has1 : HasText text one.0.state.mem
     has1 = subst (HasText text) (sym one.0.mem) has
 
     two : (c : Computes text one.0.state (one.0.state.pc + 4) a1 buffer) × CodeStands text c.state.pc (Addi a2 x0 1 ∷ Addi a7 x0 number ∷ rest) e
     two =
-        register-set text one.0.state e a1 ((one.0.state.regs t0 + 0) % 2 ^ 32) buffer (Addi a1 t0 0) (Addi a2 x0 1 ∷ Addi a7 x0 number ∷ rest) has1 one.1 low (omega arith) refl
+        register-set text one.0.state e a1 ((one.0.state.regs t0 + 0) % 2 ^ 32) buffer (Addi a1 t0 0) (Addi a2 x0 1 ∷ Addi a7 x0 number ∷ rest) has1 one.1 low
+        (omega arith) refl
         (ap (λ n. (n + 0) % 2 ^ 32) (one.0.others t0 (omega arith) (omega arith) ∙ is) ∙ (let p : (buffer + 0) % 2 ^ 32 ≡ buffer = omega (arith, small) in p))
 
     has2 : HasText text two.0.state.mem

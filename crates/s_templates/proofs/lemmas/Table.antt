@@ -51,12 +51,15 @@ pub comes : (text : Text) (f : Frame) (b : ℕ) (q : linear.State) (s : machine.
 comes text f b q s h = record { state = h.state; count = h.steps.count; reaches = h.steps.reaches q.input; pc = h.pc; shows = h.shows }
 
 -- code after code
-pub code-joined : (text : Text) (a m b : ℕ) (first second : List isa.Instr) → CodeStands text a first m → CodeStands text m second b → CodeStands text a (first ++ second) b
+pub code-joined : (text : Text) (a m b : ℕ) (first second : List isa.Instr) → CodeStands text a first m → CodeStands text m second b
+    → CodeStands text a (first ++ second) b
 code-joined text a m b [] second h more = subst (λ x. CodeStands text x second b) (sym h) more
 code-joined text a m b (i ∷ is) second h more = (h.0, code-joined text (a + 4) m b is second h.1 more)
 
-module _ (store_is_done : StoreIsDone) (clear_is_done : ClearIsDone) (text : Text) (f : Frame) (addresses : Addresses) (labels : ℕ → Option ℕ) (p : PlainPlaces) (os : List PlainObject)
-    (c : Context) (q : linear.State) (s : machine.State) (b least : ℕ) (has : HasWords text f) (rep : Represents text f q s) (body : IsBody text f addresses p os c.addresses q.memory)
+module _ (store_is_done : StoreIsDone) (clear_is_done : ClearIsDone) (text : Text) (f : Frame) (addresses : Addresses) (labels : ℕ → Option ℕ) (p : PlainPlaces)
+    (os : List PlainObject)
+    (c : Context) (q : linear.State) (s : machine.State) (b least : ℕ) (has : HasWords text f) (rep : Represents text f q s)
+    (body : IsBody text f addresses p os c.addresses q.memory)
     (bytes : All (λ byte. byte < 2 ^ 8) q.input) (low : b < 2 ^ 32) where
   abbrev Done : Instr → Type 0
   Done i = ItemsStand text addresses labels s.pc (instr_items p os i) b → Follows text f b least (instr_run c (placed_instr (place_at p) i) q) s q.input
@@ -76,7 +79,8 @@ module _ (store_is_done : StoreIsDone) (clear_is_done : ClearIsDone) (text : Tex
   on-defined None next does = tt
   on-defined (Some x) next does = does x refl
 
-  on-number : (v : Value) (next : ℕ → Answer linear.State) → ((w : ℕ) → v ≡ Num w → Follows text f b least (next w) s q.input) → Follows text f b least (on_number v next) s q.input
+  on-number : (v : Value) (next : ℕ → Answer linear.State) → ((w : ℕ) → v ≡ Num w → Follows text f b least (next w) s q.input)
+      → Follows text f b least (on_number v next) s q.input
   on-number (Num w) next does = does w refl
   on-number (At n o) next does = tt
   on-number Bad next does = tt
@@ -122,7 +126,8 @@ module _ (store_is_done : StoreIsDone) (clear_is_done : ClearIsDone) (text : Tex
       let code = stands (clear_code off (size_of os k)) h in
       subst (λ v. Follows text f b least (on_defined (cleared_at v q.memory) (linear.gives_memory q)) s q.input) (sym o.is)
       (comes text f b (record { names = q.names; memory = mem.cleared o.name q.memory; input = q.input }) s
-      (clear_is_done text f q s has rep off o.name o.block o.lives o.block_size o.free o.base b (subst (λ n. CodeStands text s.pc (clear_code off n) b) (sym o.size) code) low))
+      (clear_is_done text f q s has rep off o.name o.block o.lives o.block_size o.free o.base b
+      (subst (λ n. CodeStands text s.pc (clear_code off n) b) (sym o.size) code) low))
 
   put-done : (a : ℕ) → place_at p a < f.places → Done (put a)
   put-done a inside h =
@@ -131,7 +136,8 @@ module _ (store_is_done : StoreIsDone) (clear_is_done : ClearIsDone) (text : Tex
       let m = cut.0 in
       on-number (q.names (place_at p a)) (λ w. Returned q (wrote (w % 256) ∷ []))
       (λ w word.
-      put_is_done text f q s has rep (place_at p a) w addresses.data_at m b inside word body.buffer body.stubs (words_stand text addresses labels s.pc m (select.get a0 l) cut.1)
+      put_is_done text f q s has rep (place_at p a) w addresses.data_at m b inside word body.buffer body.stubs
+      (words_stand text addresses labels s.pc m (select.get a0 l) cut.1)
       (subst (λ n. CodeStands text m (sequences.call (offset_to m layout.put_at)) n) cut.2.2 cut.2.1) low)
 
   get-done : (t : ℕ) → place_at p t < f.places → Done (get t)
@@ -154,7 +160,8 @@ module _ (store_is_done : StoreIsDone) (clear_is_done : ClearIsDone) (text : Tex
   others : (x y : Bool) → (x && y) ≡ true → y ≡ true
   others x y e = (and_parts x y e).1
 
-  instr-done : (i : Instr) → IsTrue (all_of (has_place p) (instr_names i)) → IsTrue (has_its_object (length os) i) → IsTrue (has_its_global (length addresses.globals) i) → IsPlain i → Done i
+  instr-done : (i : Instr) → IsTrue (all_of (has_place p) (instr_names i)) → IsTrue (has_its_object (length os) i) → IsTrue (has_its_global (length addresses.globals) i)
+      → IsPlain i → Done i
   instr-done (const t w) e o g plain h = const-done t w (below t (one _ _ e)) plain h
   instr-done (undef t) e o g plain h = comes text f b (linear.set q (place_at p t) Bad) s (undef_is_done text f q s has rep (place_at p t) b h low)
   instr-done (object_address t k) e o g plain h = object-done t k (below t (one _ _ e)) o h

@@ -96,7 +96,8 @@ module _ (text : Text) where
   binary-starts s o rd a b x y ne ne' is is' =
       binary-acts s o rd a b ∙ ap (λ n. next (give s rd n)) (ap₂ (first_word o) (look-at s.regs a ne ∙ is) (look-at s.regs b ne' ∙ is'))
 
-  pub binary-computes : (o : Op2) (s : machine.State) (m rd a b x y : ℕ) → HasText text s.mem → CodeStands text s.pc (binary_code o rd a b) m → m < 2 ^ 32 → rd ≢ 0 → a ≢ 0 → b ≢ 0
+  pub binary-computes : (o : Op2) (s : machine.State) (m rd a b x y : ℕ) → HasText text s.mem → CodeStands text s.pc (binary_code o rd a b) m → m < 2 ^ 32
+      → rd ≢ 0 → a ≢ 0 → b ≢ 0
       → s.regs a ≡ x → s.regs b ≡ y → Computes text s m rd (computed2 o x y)
   unfolding act
   binary-computes op.Eq s m rd a b x y has code low ne nea neb is is' =
@@ -126,7 +127,8 @@ module _ (text : Text) where
   -- ---- templates of no, one and two operands
 
   module _ (f : Frame) (words : HasWords text f) where
-    pub writes-after : (s u : machine.State) (b : ℕ) (l : Location) (v : Value) → Steps text.flags s u → ((r : ℕ) → IsNoTemporary r → IsOtherRegister l r → u.regs r ≡ s.regs r) → u.mem ≡ s.mem
+    pub writes-after : (s u : machine.State) (b : ℕ) (l : Location) (v : Value) → Steps text.flags s u
+        → ((r : ℕ) → IsNoTemporary r → IsOtherRegister l r → u.regs r ≡ s.regs r) → u.mem ≡ s.mem
         → Writes text f u b l v → Writes text f s b l v
     writes-after s u b l v steps regs mem w = record {
       state = w.state;
@@ -149,7 +151,8 @@ module _ (text : Text) where
       pub stack : operand.state.regs sp ≡ f.sp
 
     pub loads : (s : machine.State) (b scratch : ℕ) (l : Location) (v : Value) (rest : List Instr) → HasText text s.mem → s.regs sp ≡ f.sp → LocationFits f l
-        → CodeStands text s.pc (load_in scratch l ++ rest) b → b < 2 ^ 32 → 2 < scratch → scratch < 8 → Shows f.bases v (held f.sp s.regs s.mem l) → Loaded s b scratch l v rest
+        → CodeStands text s.pc (load_in scratch l ++ rest) b → b < 2 ^ 32 → 2 < scratch → scratch < 8 → Shows f.bases v (held f.sp s.regs s.mem l)
+        → Loaded s b scratch l v rest
     loads s b scratch l v rest has stack fits code low least most shows =
         let cut = code_is_cut text s.pc b (load_in scratch l) rest code in
         let le = code-le text cut.0 rest b cut.2 in
@@ -167,7 +170,8 @@ module _ (text : Text) where
 
     -- the code of a result, and the store of it
     pub finishes : (s : machine.State) (b x : ℕ) (l : Location) (v : Value) (code : List Instr) → HasText text s.mem → s.regs sp ≡ f.sp → LocationFits f l
-        → CodeStands text s.pc (code ++ store_out l) b → b < 2 ^ 32 → ((m : ℕ) → m < 2 ^ 32 → CodeStands text s.pc code m → Makes text s m (out_of l) x) → Shows f.bases v x
+        → CodeStands text s.pc (code ++ store_out l) b → b < 2 ^ 32 → ((m : ℕ) → m < 2 ^ 32 → CodeStands text s.pc code m → Makes text s m (out_of l) x)
+        → Shows f.bases v x
         → Writes text f s b l v
     finishes s b x l v code has stack fits there low makes shows =
         let cut = code_is_cut text s.pc b code (store_out l) there in
@@ -182,33 +186,42 @@ module _ (text : Text) where
         stack-apart (Near o) above same = absurd (omega (arith, same))
         stack-apart (Far o) above same = absurd (omega (arith, same))
 
-    pub one-writes : (s : machine.State) (b : ℕ) (l la : Location) (v va : Value) (code : ℕ → ℕ → List Instr) (g : ℕ → ℕ) → HasText text s.mem → s.regs sp ≡ f.sp → LocationFits f l
+    pub one-writes : (s : machine.State) (b : ℕ) (l la : Location) (v va : Value) (code : ℕ → ℕ → List Instr) (g : ℕ → ℕ) → HasText text s.mem → s.regs sp ≡ f.sp
+        → LocationFits f l
         → LocationFits f la → CodeStands text s.pc (with_one l la code) b → b < 2 ^ 32 → Shows f.bases va (held f.sp s.regs s.mem la)
-        → ((u : machine.State) (m rd a x : ℕ) → HasText text u.mem → CodeStands text u.pc (code rd a) m → m < 2 ^ 32 → rd ≢ 0 → a ≢ 0 → u.regs a ≡ x → Computes text u m rd (g x))
+        → ((u : machine.State) (m rd a x : ℕ) → HasText text u.mem → CodeStands text u.pc (code rd a) m → m < 2 ^ 32 → rd ≢ 0 → a ≢ 0 → u.regs a ≡ x
+        → Computes text u m rd (g x))
         → ((x : ℕ) → Shows f.bases va x → Shows f.bases v (g x)) → Writes text f s b l v
     one-writes s b l la v va code g has stack fits fitsa there low shows computes gives =
         let whole = subst (λ c. CodeStands text s.pc c b) (append_assoc (load_in t0 la) (code (out_of l) (in_of la t0)) (store_out l)) there in
         let one = loads s b 5 la va (code (out_of l) (in_of la t0) ++ store_out l) has stack fitsa whole low (omega arith) (omega arith) shows in
         let u = one.operand.state in
         writes-after s u b l v one.operand.steps
-        (λ r kept other. one.operand.others r (temporary-apart r 5 kept (omega arith) (omega arith)) (temporary-apart r 7 kept (omega arith) (omega arith))) one.operand.mem
+        (λ r kept other. one.operand.others r (temporary-apart r 5 kept (omega arith) (omega arith)) (temporary-apart r 7 kept (omega arith) (omega arith)))
+        one.operand.mem
         (finishes u b (g one.word) l v (code (out_of l) (in_of la t0)) one.has one.stack fits one.code low
         (λ m below stands.
         made text u m (out_of l) (g one.word)
         (computes u m (out_of l) (in_of la t0) one.word one.has stands below (out-apart f l fits) (in-apart f la 5 0 fitsa (omega arith) (omega arith)) one.operand.is))
         (gives one.word one.shows))
 
-    pub two-write : (s : machine.State) (b : ℕ) (l la lb : Location) (v va vb : Value) (code : ℕ → ℕ → ℕ → List Instr) (g : ℕ → ℕ → ℕ) → HasText text s.mem → s.regs sp ≡ f.sp
-        → LocationFits f l → LocationFits f la → LocationFits f lb → CodeStands text s.pc (with_two l la lb code) b → b < 2 ^ 32 → Shows f.bases va (held f.sp s.regs s.mem la)
+    pub two-write : (s : machine.State) (b : ℕ) (l la lb : Location) (v va vb : Value) (code : ℕ → ℕ → ℕ → List Instr) (g : ℕ → ℕ → ℕ) → HasText text s.mem
+        → s.regs sp ≡ f.sp
+        → LocationFits f l → LocationFits f la → LocationFits f lb → CodeStands text s.pc (with_two l la lb code) b → b < 2 ^ 32
+        → Shows f.bases va (held f.sp s.regs s.mem la)
         → Shows f.bases vb (held f.sp s.regs s.mem lb)
-        → ((u : machine.State) (m rd a c x y : ℕ) → HasText text u.mem → CodeStands text u.pc (code rd a c) m → m < 2 ^ 32 → rd ≢ 0 → a ≢ 0 → c ≢ 0 → u.regs a ≡ x → u.regs c ≡ y
+        → ((u : machine.State) (m rd a c x y : ℕ) → HasText text u.mem → CodeStands text u.pc (code rd a c) m → m < 2 ^ 32 → rd ≢ 0 → a ≢ 0 → c ≢ 0 → u.regs a ≡ x
+        → u.regs c ≡ y
         → Computes text u m rd (g x y)) → ((x y : ℕ) → Shows f.bases va x → Shows f.bases vb y → Shows f.bases v (g x y)) → Writes text f s b l v
     two-write s b l la lb v va vb code g has stack fits fitsa fitsb there low showsa showsb computes gives =
         let last = code (out_of l) (in_of la t0) (in_of lb t1) in
-        let whole = subst (λ c. CodeStands text s.pc c b) (append_assoc (load_in t0 la ++ load_in t1 lb) last (store_out l) ∙ append_assoc (load_in t0 la) (load_in t1 lb) (last ++ store_out l)) there in
+        let whole = subst (λ c. CodeStands text s.pc c b) (append_assoc (load_in t0 la ++ load_in t1 lb) last (store_out l)
+        ∙ append_assoc (load_in t0 la) (load_in t1 lb) (last ++ store_out l)) there in
         let one = loads s b 5 la va (load_in t1 lb ++ (last ++ store_out l)) has stack fitsa whole low (omega arith) (omega arith) showsa in
         let u = one.operand.state in
-        let still = held-same f lb fitsb s.regs u.regs s.mem u.mem (λ r place. one.operand.others r (temporary-apart r 5 (no-temporary r (inr (inr place))) (omega arith) (omega arith)) (temporary-apart r 7 (no-temporary r (inr (inr place))) (omega arith) (omega arith))) one.operand.mem in
+        let still = held-same f lb fitsb s.regs u.regs s.mem u.mem
+        (λ r place. one.operand.others r (temporary-apart r 5 (no-temporary r (inr (inr place))) (omega arith) (omega arith))
+        (temporary-apart r 7 (no-temporary r (inr (inr place))) (omega arith) (omega arith))) one.operand.mem in
         let two = loads u b 6 lb vb (last ++ store_out l) one.has one.stack fitsb one.code low (omega arith) (omega arith)
         (subst (Shows f.bases vb) (sym still) showsb) in
         let w = two.operand.state in
@@ -217,11 +230,13 @@ module _ (text : Text) where
         writes-after s w b l v (steps-then text.flags s u w one.operand.steps two.operand.steps)
         (λ r kept other.
         two.operand.others r (temporary-apart r 6 kept (omega arith) (omega arith)) (temporary-apart r 7 kept (omega arith) (omega arith))
-        ∙ one.operand.others r (temporary-apart r 5 kept (omega arith) (omega arith)) (temporary-apart r 7 kept (omega arith) (omega arith))) (two.operand.mem ∙ one.operand.mem)
+        ∙ one.operand.others r (temporary-apart r 5 kept (omega arith) (omega arith)) (temporary-apart r 7 kept (omega arith) (omega arith)))
+        (two.operand.mem ∙ one.operand.mem)
         (finishes w b (g one.word two.word) l v last two.has two.stack fits two.code low
         (λ m below stands.
         made text w m (out_of l) (g one.word two.word)
-        (computes w m (out_of l) (in_of la t0) (in_of lb t1) one.word two.word two.has stands below (out-apart f l fits) (in-apart f la 5 0 fitsa (omega arith) (omega arith))
+        (computes w m (out_of l) (in_of la t0) (in_of lb t1) one.word two.word two.has stands below (out-apart f l fits)
+        (in-apart f la 5 0 fitsa (omega arith) (omega arith))
         (in-apart f lb 6 0 fitsb (omega arith) (omega arith)) first two.operand.is))
         (gives one.word two.word one.shows two.shows))
 
@@ -243,13 +258,15 @@ module _ (text : Text) where
         let one = loads s b 5 la v (put (Near o) (in_of la t0)) has stack fitsa there low (omega arith) (omega arith) shows in
         let u = one.operand.state in
         writes-after s u b (Near o) v one.operand.steps
-        (λ r kept other. one.operand.others r (temporary-apart r 5 kept (omega arith) (omega arith)) (temporary-apart r 7 kept (omega arith) (omega arith))) one.operand.mem
+        (λ r kept other. one.operand.others r (temporary-apart r 5 kept (omega arith) (omega arith)) (temporary-apart r 7 kept (omega arith) (omega arith)))
+        one.operand.mem
         (put-done text f words u b (in_of la t0) one.word (Near o) v one.has one.stack fits one.code low (in-apart f la 5 0 fitsa (omega arith) (omega arith))
         (in-apart f la 5 7 fitsa (omega arith) (omega arith)) one.operand.is one.shows)
     move-writes s b (Far o) la v has stack fits fitsa there low shows =
         let one = loads s b 5 la v (put (Far o) (in_of la t0)) has stack fitsa there low (omega arith) (omega arith) shows in
         let u = one.operand.state in
         writes-after s u b (Far o) v one.operand.steps
-        (λ r kept other. one.operand.others r (temporary-apart r 5 kept (omega arith) (omega arith)) (temporary-apart r 7 kept (omega arith) (omega arith))) one.operand.mem
+        (λ r kept other. one.operand.others r (temporary-apart r 5 kept (omega arith) (omega arith)) (temporary-apart r 7 kept (omega arith) (omega arith)))
+        one.operand.mem
         (put-done text f words u b (in_of la t0) one.word (Far o) v one.has one.stack fits one.code low (in-apart f la 5 0 fitsa (omega arith) (omega arith))
         (in-apart f la 5 7 fitsa (omega arith) (omega arith)) one.operand.is one.shows)

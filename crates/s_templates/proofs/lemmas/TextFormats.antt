@@ -24,7 +24,8 @@ use Rattle.s_templates.proofs.lemmas.Formats.{address-fits, call-fits, items_fit
 -- ---- jumps reach their labels
 
 module _ (items : List Item) (at : ℕ) (short : items_size items < 2 ^ 20) (even : at % 4 ≡ 0) where
-  item-reaches : (here : ℕ) (i : Item) → is_marked_once items i ≡ true → at ≤ here → here ≤ at + items_size items → here % 4 ≡ 0 → Reaches (λ l. label_at l at items) here i
+  item-reaches : (here : ℕ) (i : Item) → is_marked_once items i ≡ true → at ≤ here → here ≤ at + items_size items → here % 4 ≡ 0
+      → Reaches (λ l. label_at l at items) here i
   item-reaches here (Jump l) marked low high aligned =
       let once : marks l items ≡ 1 = grind (arith, nat_tests) in
       let w = label_within l at items (omega (arith, once)) in
@@ -82,12 +83,19 @@ start-fits stack main =
 put-stub-fits : (buffer : ℕ) → AllFit (put_stub buffer)
 unfolding FitsFormat
 put-stub-fits buffer =
-    fits-append (load_address t0 buffer) (rv.Sb t0 a0 0 ∷ rv.Addi a0 x0 1 ∷ rv.Addi a1 t0 0 ∷ rv.Addi a2 x0 1 ∷ rv.Addi a7 x0 write_call ∷ rv.Ecall ∷ rv.Jalr x0 ra 0 ∷ [])
+    fits-append (load_address t0 buffer) (rv.Sb t0 a0 0 ∷ rv.Addi a0 x0 1 ∷ rv.Addi a1 t0 0 ∷ rv.Addi a2 x0 1 ∷ rv.Addi a7 x0 write_call ∷ rv.Ecall
+    ∷ rv.Jalr x0 ra 0 ∷ [])
     (address-fits t0 buffer (lit< tt)) (
       ((lit< tt, lit< tt), lit< tt, lit< tt),
       (
         ((lit< tt, lit< tt), lit< tt, lit< tt),
-        (((lit< tt, lit< tt), lit< tt, lit< tt), (((lit< tt, lit< tt), lit< tt, lit< tt), (((lit< tt, lit< tt), lit< tt, lit< tt), (tt, (((lit< tt, lit< tt), lit< tt, lit< tt), tt))))),
+        (
+          ((lit< tt, lit< tt), lit< tt, lit< tt),
+          (
+            ((lit< tt, lit< tt), lit< tt, lit< tt),
+            (((lit< tt, lit< tt), lit< tt, lit< tt), (tt, (((lit< tt, lit< tt), lit< tt, lit< tt), tt))),
+          ),
+        ),
       ),
     )
 
@@ -95,7 +103,8 @@ get-stub-fits : (buffer : ℕ) → AllFit (get_stub buffer)
 unfolding FitsFormat
 get-stub-fits buffer =
     fits-append (load_address t0 buffer)
-    (rv.Addi a0 x0 0 ∷ rv.Addi a1 t0 0 ∷ rv.Addi a2 x0 1 ∷ rv.Addi a7 x0 read_call ∷ rv.Ecall ∷ rv.Beq a0 x0 12 ∷ rv.Lbu a0 a1 0 ∷ rv.Jalr x0 ra 0 ∷ rv.Addi a0 x0 (2 ^ 32 - 1) ∷ rv.Jalr x0 ra 0 ∷ [])
+    (rv.Addi a0 x0 0 ∷ rv.Addi a1 t0 0 ∷ rv.Addi a2 x0 1 ∷ rv.Addi a7 x0 read_call ∷ rv.Ecall ∷ rv.Beq a0 x0 12 ∷ rv.Lbu a0 a1 0 ∷ rv.Jalr x0 ra 0
+    ∷ rv.Addi a0 x0 (2 ^ 32 - 1) ∷ rv.Jalr x0 ra 0 ∷ [])
     (address-fits t0 buffer (lit< tt)) (
       ((lit< tt, lit< tt), lit< tt, lit< tt),
       (
@@ -108,7 +117,13 @@ get-stub-fits buffer =
               tt,
               (
                 ((lit< tt, lit< tt), refl, lit< tt, lit< tt),
-                (((lit< tt, lit< tt), lit< tt, lit< tt), (((lit< tt, lit< tt), lit< tt, lit< tt), (((lit< tt, lit< tt), lit< tt, lit< tt), (((lit< tt, lit< tt), lit< tt, lit< tt), tt)))),
+                (
+                  ((lit< tt, lit< tt), lit< tt, lit< tt),
+                  (
+                    ((lit< tt, lit< tt), lit< tt, lit< tt),
+                    (((lit< tt, lit< tt), lit< tt, lit< tt), (((lit< tt, lit< tt), lit< tt, lit< tt), tt)),
+                  ),
+                ),
               ),
             ),
           ),
@@ -121,6 +136,7 @@ text_fits fs ds main can words =
     let a = addresses_of fs ds in
     fits-append (start_code a.stack_at (slice_index a.functions main) ++ put_stub a.data_at ++ get_stub a.data_at) (functions_code a functions_at fs)
     (fits-append (start_code a.stack_at (slice_index a.functions main) ++ put_stub a.data_at) (get_stub a.data_at)
-    (fits-append (start_code a.stack_at (slice_index a.functions main)) (put_stub a.data_at) (start-fits a.stack_at (slice_index a.functions main)) (put-stub-fits a.data_at))
+    (fits-append (start_code a.stack_at (slice_index a.functions main)) (put_stub a.data_at) (start-fits a.stack_at (slice_index a.functions main))
+    (put-stub-fits a.data_at))
     (get-stub-fits a.data_at))
     (functions-fit a (length fs) (length ds) functions_at fs can.functions_fit words refl)

@@ -25,7 +25,8 @@ same-number : (b c : BlockName) → same_block b c ≡ true → b.number ≡ c.n
 same-number b c e = eqb-true b.number c.number (and_parts (b.number == c.number) (b.size == c.size) e).0
 
 -- of two addresses in one block
-number-shown : (bases : Bases) (b c : BlockName) (n x : ℕ) (test : Bool) → same_block b c ≡ test → n < 2 ^ 32 → (b.number ≡ c.number → x ≡ n) → Shows bases (cond test (Num n) Bad) x
+number-shown : (bases : Bases) (b c : BlockName) (n x : ℕ) (test : Bool) → same_block b c ≡ test → n < 2 ^ 32 → (b.number ≡ c.number → x ≡ n)
+    → Shows bases (cond test (Num n) Bad) x
 number-shown bases b c n x true e low is = (is (same-number b c e), low)
 number-shown bases b c n x false e low is = tt
 

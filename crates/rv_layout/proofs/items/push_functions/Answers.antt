@@ -8,7 +8,8 @@ use Rattle.rv_layout.proofs.items.push_functions.Goals as goal
 
 pub push_function-requires-clause-fits : goal.push_function-requires-clause-fits
 push_function-requires-clause-fits c =
-    let more : item_lists (drop c.loop-items.items-index c.args.functions.now) ≡ c.deref.result.now ∷ item_lists (drop (c.loop-items.items-index + 1) c.args.functions.now) =
+    let more : item_lists (drop c.loop-items.items-index c.args.functions.now) ≡ c.deref.result.now
+    ∷ item_lists (drop (c.loop-items.items-index + 1) c.args.functions.now) =
     ap item_lists (drop_more c.args.functions.now c.loop-items.items-index c.items-item.result c.loop-items-test.true)
     ∙ ap (λ x. x.items ∷ item_lists (drop (c.loop-items.items-index + 1) c.args.functions.now)) (sym c.items-item.is)
     ∙ ap (λ x. x ∷ item_lists (drop (c.loop-items.items-index + 1) c.args.functions.now)) (sym c.deref.ensures.value)

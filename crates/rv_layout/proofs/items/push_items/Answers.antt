@@ -29,7 +29,8 @@ loop-item-preserved c =
     in
     record {
       text =
-          items_step c.args.addresses.now (get nat_cmp c.args.labels.now) (λ q. label_at q c.args.at c.args.items.now) c.requires.found c.loop-item.here c.item-item.result
+          items_step c.args.addresses.now (get nat_cmp c.args.labels.now) (λ q. label_at q c.args.at c.args.items.now) c.requires.found c.loop-item.here
+          c.item-item.result
           (drop (c.loop-item.item-index + 1) c.args.items.now) (drop c.loop-item.item-index c.args.items.now) _ c.loop-item.text.items c.push_item.new.text.items _ more
           (ap (λ n. c.loop-item.here + n) c.item_size-here.ensures) c.loop-item.invariant.text c.in_ok-push_item.ensures;
       end = omega arith;

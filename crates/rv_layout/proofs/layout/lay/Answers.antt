@@ -1,6 +1,6 @@
 use Rattle.std.proofs.Common.{◌∙◌, ap, arith}
 use Rattle.rv_layout.specs.Layout.{Addresses, item_lists}
-use Rattle.rv_layout.proofs.LayoutLemmas.{function_count, main_after, functions_fit, globals_fit}
+use Rattle.rv_layout.proofs.lemmas.Addresses.{function_count, main_after, functions_fit, globals_fit}
 use Rattle.rv_layout.proofs.layout.lay.Goals as goal
 
 pub text_of-requires-clause-fits : goal.text_of-requires-clause-fits

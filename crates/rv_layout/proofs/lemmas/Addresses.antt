@@ -15,7 +15,8 @@ length-functions_from at (f ∷ fs) = ap suc (length-functions_from (at + items_
 pub length-globals_from : (fixed other : ℕ) (ds : List PlainDelta) → length (globals_from fixed other ds) ≡ length ds
 length-globals_from fixed other [] = refl
 length-globals_from fixed other (d ∷ ds) =
-    elim d.fixed as (λ b. length (if b then fixed ∷ globals_from (fixed + global_room d) other ds else other ∷ globals_from fixed (other + global_room d) ds) ≡ suc (length ds)) [
+    elim d.fixed as (λ b. length (if b then fixed ∷ globals_from (fixed + global_room d) other ds else other ∷ globals_from fixed (other + global_room d) ds)
+    ≡ suc (length ds)) [
       | true ↦ ap suc (length-globals_from (fixed + global_room d) other ds)
       | false ↦ ap suc (length-globals_from fixed (other + global_room d) ds)
     ]
@@ -36,7 +37,8 @@ function_count a fs ds e = ap (λ (x : Addresses). length x.functions) e ∙ len
 pub global_count : (a : Addresses) (fs : List (List Item)) (ds : List PlainDelta) → a ≡ addresses_of fs ds → length a.globals ≡ length ds
 global_count a fs ds e = ap (λ (x : Addresses). length x.globals) e ∙ length-globals_from (fixed_address fs) (data_address fs ds + 8) ds
 
-pub main_after : (a : Addresses) (fs : List (List Item)) (ds : List PlainDelta) (main : ℕ) → a ≡ addresses_of fs ds → main < length fs → functions_at ≤ slice_index a.functions main
+pub main_after : (a : Addresses) (fs : List (List Item)) (ds : List PlainDelta) (main : ℕ) → a ≡ addresses_of fs ds → main < length fs
+    → functions_at ≤ slice_index a.functions main
 main_after a fs ds main e h = subst (λ (x : Addresses). functions_at ≤ slice_index x.functions main) (sym e) (functions_from-le functions_at fs main h)
 
 pub functions_fit : (a : Addresses) (fs : List (List Item)) (ds : List PlainDelta) → a ≡ addresses_of fs ds
