@@ -115,8 +115,8 @@ pub fn get_stub_reads()
     ensures { GetStubReads }
 {}
 
-/// The templates of output and input do on the machine what the instructions do, by way of the stubs
-/// and their buffer.
+/// The templates of output and input do on the machine what the instructions do, by way of the
+/// stubs and their buffer.
 pub fn templates_write_and_read()
     ensures output { PutIsDone }
     ensures input { GetIsDone }
@@ -144,8 +144,8 @@ pub fn frames_are_given_back()
     ensures { FrameIsGiven }
 {}
 
-/// The lines of code without calls do on the machine what the code means over places, its choices and
-/// loops included.
+/// The lines of code without calls do on the machine what the code means over places, its choices
+/// and loops included.
 pub fn code_is_done()
     ensures { CodeIsDone }
 {
@@ -181,10 +181,11 @@ pub fn programs_start()
     ensures exits { MainExits }
 {}
 
-/// Functions run: at every bound a call of a function of a program does on the machine what it means
-/// over places. It comes back with its value, its memory and its output, ends the run with the
-/// status, goes on for as many instructions as the bound at least, or stops for want of stack, where
-/// the frames of the calls that are met are larger together than what the stack has left.
+/// Functions run: at every bound a call of a function of a program does on the machine what it
+/// means over places. It comes back with its value, its memory and its output, ends the run with
+/// the status, goes on for as many instructions as the bound at least, or stops with the status of
+/// the stack, where the frames of the calls that are met are larger together than what the stack
+/// has left.
 pub fn functions_run()
     ensures { FunctionsRun }
 {
@@ -204,10 +205,10 @@ pub fn laid_programs_can_run()
     ensures starts { LaidProgramStarts }
 {}
 
-/// From the start code on, a program does at every bound what its `main` means: it ends with the low
-/// byte of its value or with the status of an exit, goes on for as many instructions as the bound at
-/// least, or stops for want of stack, where the frames of the calls that are met are larger together
-/// than the stack.
+/// From the start code on, a program does at every bound what its `main` means: it ends with the
+/// low byte of its value or with the status of an exit, goes on for as many instructions as the
+/// bound at least, or stops with the status of the stack, where the frames of the calls that are
+/// met are larger together than the stack.
 pub fn programs_run()
     ensures { MainRuns }
 {
@@ -215,8 +216,9 @@ pub fn programs_run()
 }
 
 /// The machine keeps the behaviour of a program from its start code on, where no bounded run of the
-/// program is without meaning: bounded run for bounded run both ways, never stuck, and stopped for
-/// want of stack only where the frames of the calls that are met are larger together than the stack.
+/// program is without meaning: bounded run for bounded run both ways, never stuck, and stopped with
+/// the status of the stack only where the frames of the calls that are met are larger together than
+/// the stack.
 pub fn programs_are_kept()
     ensures { ProgramIsKept }
 {

@@ -83,7 +83,8 @@ module _ (p : PlainPlaces) (os : List PlainObject) (range : IsInRange p os) wher
       let second = load_in t1 (place_of p v) in
       let last = store_instr width (in_of (place_of p a) t0) (in_of (place_of p v) t1) in
       words-fit (first ++ second ++ last ∷ [])
-      (fits-append (first ++ second) (last ∷ []) (fits-append first second (load-fits t0 (place_of p a) (lit< tt) (at a)) (load-fits t1 (place_of p v) (lit< tt) (at v))) (
+      (fits-append (first ++ second) (last ∷ [])
+      (fits-append first second (load-fits t0 (place_of p a) (lit< tt) (at a)) (load-fits t1 (place_of p v) (lit< tt) (at v))) (
         store-width width (in_of (place_of p a) t0) (in_of (place_of p v) t1) (in-fits (place_of p a) t0 (lit< tt) (at a)) (in-fits (place_of p v) t1 (lit< tt) (at v)),
         tt,
       ))
