@@ -2,8 +2,8 @@
 
 ghost use Rattle.pass_laws.specs.Laws.{RulesAreSteps, AnswersKeepLists, AnswersFitImages};
 
-/// Each rule makes a step: wherever it applies to a well-formed lambda, the changed lambda may stand
-/// for the old one in every list.
+/// Each rule makes a step: wherever it applies to a well-formed lambda, the changed lambda may
+/// stand for the old one in every list.
 pub fn rules_are_steps()
     ensures { RulesAreSteps }
 {

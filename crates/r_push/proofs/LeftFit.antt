@@ -152,9 +152,6 @@ not-has n known (node_then w ns) late =
     let own = test-other (id_of w) n (λ e. late (known-stays n (id_of w ∷ known) ns (inl (sym e)))) in
     λ i. own i || not-has n (id_of w ∷ known) ns late i
 
-tail-same : {X : Type 0} (x y : X) (xs ys : List X) → x ∷ xs ≡ y ∷ ys → xs ≡ ys
-tail-same x y xs ys e = cc
-
 -- ---- a Gamma
 
 shape-carried : (n id : ℕ) (inputs others : List Origin) (rs : RegionTrees) → has_its_regions (node id Gamma inputs rs) ≡ true → has_its_regions (node id Gamma others (regions_carried n rs)) ≡ true
@@ -192,7 +189,7 @@ gamma-fits l args before id p entries rs after results part n y e =
     inputs_are = are_kinds (map (known args before) (p ∷ entries)) (Value ∷ firsts) here.inputs
 
     entries_are : map (known args before) entries ≡ map Some firsts
-    entries_are = tail-same (known args before p) (Some Value) (map (known args before) entries) (map Some firsts) inputs_are
+    entries_are = cc inputs_are
 
     many : length entries ≡ length firsts
     many = let all = as-many (known args before) entries firsts (ap (λ js. are js firsts) entries_are ∙ are_themselves firsts) in all

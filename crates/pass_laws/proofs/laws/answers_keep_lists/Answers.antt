@@ -7,5 +7,6 @@ returns-clause-lists c recipe ls answers complete made = c.answers_keep_lists.en
 
 pub returns-clause-images : goal.returns-clause-images
 returns-clause-images c omega recipe ls answers made program limits few =
-    c.kept_lists_fit_images.ensures omega ls (lambdas_of answers) (c.answers_keep_lists.ensures.all rules c.rules_are_steps.ensures recipe ls answers program.complete made) program
+    c.kept_lists_fit_images.ensures omega ls (lambdas_of answers)
+    (c.answers_keep_lists.ensures.all rules c.rules_are_steps.ensures recipe ls answers program.complete made) program
     limits few
