@@ -67,7 +67,8 @@ marks_labelled k r first end (c ∷ d ∷ cs) =
     end_is n m = omega arith
 
 marks_more : (k p first : ℕ) (c : LinesOf) (cs : List LinesOf) →
-    marks k (branches p 0 first (c ∷ cs) ++ last_lines (c ∷ cs) ++ labelled 0 first (first + before_last (c ∷ cs)) (c ∷ cs) ++ label (first + before_last (c ∷ cs)) ∷ []) + under k first
+    marks k (branches p 0 first (c ∷ cs) ++ last_lines (c ∷ cs) ++ labelled 0 first (first + before_last (c ∷ cs)) (c ∷ cs) ++ label (first + before_last (c ∷ cs))
+    ∷ []) + under k first
     ≡ all_marks k (c ∷ cs) + under k (first + suc (before_last (c ∷ cs)))
 marks_more k p first c cs =
     let end : ℕ = first + before_last (c ∷ cs) in
@@ -148,7 +149,8 @@ choice_marks k p first no_codes h = omega (arith, ap (λ n. under k n) (same fir
     same : (n : ℕ) → n ≡ n + 0
     same n = omega arith
 choice_marks k p first (code_then c no_codes) h =
-    last_first k first 1 (marks k (step_lines first (choice p (code_then c no_codes)))) (all_marks k (code_lines (first + 1) c ∷ [])) (code_labels c) 0 (code_labels c + 0)
+    last_first k first 1 (marks k (step_lines first (choice p (code_then c no_codes)))) (all_marks k (code_lines (first + 1) c ∷ [])) (code_labels c) 0
+    (code_labels c + 0)
     (marks_choice k p first (code_lines (first + 1) c) []) (h (first + 1) (first + 1 + code_labels c)) refl
 choice_marks k p first (code_then c (code_then d no_codes)) h =
     omega (
@@ -168,9 +170,12 @@ choice_marks k p first (code_then c (code_then d (code_then e es))) h =
     let cs : Codes = code_then c (code_then d (code_then e es)) in
     let n : ℕ = counted cs in
     let rest : List LinesOf = codes_lines (first + n) (first + n + last_labels cs + code_labels c) (code_then d (code_then e es)) in
-    let count : suc (before_last (code_lines (first + n + last_labels cs) c ∷ rest)) ≡ n = lines_counted (first + n) (first + n + last_labels cs) c (code_then d (code_then e es)) in
-    last_first k first n (marks k (step_lines first (choice p cs))) (all_marks k (code_lines (first + n + last_labels cs) c ∷ rest)) (last_labels cs) (others_labels cs) (codes_labels cs)
-    (marks_choice k p first (code_lines (first + n + last_labels cs) c) rest ∙ ap (λ m. all_marks k (code_lines (first + n + last_labels cs) c ∷ rest) + under k (first + m)) count)
+    let count : suc (before_last (code_lines (first + n + last_labels cs) c ∷ rest)) ≡ n =
+    lines_counted (first + n) (first + n + last_labels cs) c (code_then d (code_then e es)) in
+    last_first k first n (marks k (step_lines first (choice p cs))) (all_marks k (code_lines (first + n + last_labels cs) c ∷ rest)) (last_labels cs) (others_labels cs)
+    (codes_labels cs)
+    (marks_choice k p first (code_lines (first + n + last_labels cs) c) rest
+    ∙ ap (λ m. all_marks k (code_lines (first + n + last_labels cs) c ∷ rest) + under k (first + m)) count)
     (h (first + n) (first + n + last_labels cs)) (all_labels cs)
 
 mutual

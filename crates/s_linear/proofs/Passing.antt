@@ -53,7 +53,8 @@ module _ (test : Line → Bool) (jumps : (l : ℕ) → test (jump l) ≡ true) (
   labelled_passes r first end [] h = refl
   labelled_passes r first end (c ∷ []) h = refl
   labelled_passes r first end (c ∷ d ∷ cs) h =
-      and_from _ _ (jumps end) (append_passes (label (first + r) ∷ c) (labelled (suc r) first end (d ∷ cs)) (and_from _ _ (labels (first + r)) (first_passes c (d ∷ cs) h))
+      and_from _ _ (jumps end) (append_passes (label (first + r) ∷ c) (labelled (suc r) first end (d ∷ cs))
+      (and_from _ _ (labels (first + r)) (first_passes c (d ∷ cs) h))
       (labelled_passes (suc r) first end (d ∷ cs) (rest_passes c (d ∷ cs) h)))
 
   more_pass : (p first : ℕ) (cs : List LinesOf) → ((r l : ℕ) → test (branch_equal p r l) ≡ true) → AllPass cs →
@@ -92,13 +93,15 @@ module _ (test : Line → Bool) (jumps : (l : ℕ) → test (jump l) ≡ true) (
 
     pub code_passes : (first : ℕ) (c : Code) → CodePasses test c → Pass (code_lines first c)
     code_passes first no_steps h = refl
-    code_passes first (step_then s c) h = append_passes (step_lines first s) (code_lines (first + step_labels s) c) (step_passes first s h.0) (code_passes (first + step_labels s) c h.1)
+    code_passes first (step_then s c) h = append_passes (step_lines first s) (code_lines (first + step_labels s) c) (step_passes first s h.0)
+        (code_passes (first + step_labels s) c h.1)
 
     codes_pass : (last others : ℕ) (cs : Codes) → CodesPass test cs → AllPass (codes_lines last others cs)
     codes_pass last others no_codes h = refl
     codes_pass last others (code_then c no_codes) h = and_from _ _ (code_passes last c h.0) refl
     codes_pass last others (code_then c (code_then d ds)) h = and_from _ _ (code_passes others c h.0) (codes_pass last (others + code_labels c) (code_then d ds) h.1)
 
-  pub lines_pass : (f : LinearFunction) → test (enter (numbers_from 0 f.params)) ≡ true → CodePasses test f.code → test (leave f.value) ≡ true → all_of test (lines f) ≡ true
+  pub lines_pass : (f : LinearFunction) → test (enter (numbers_from 0 f.params)) ≡ true → CodePasses test f.code → test (leave f.value) ≡ true →
+      all_of test (lines f) ≡ true
   lines_pass f a b c =
       append_passes (enter (numbers_from 0 f.params) ∷ code_lines 0 f.code) (leave f.value ∷ []) (and_from _ _ a (code_passes 0 f.code b)) (and_from _ _ c refl)
