@@ -70,7 +70,8 @@ module _ (entries : List ℕ) (outputs : ℕ) where
   counted_from next at (region_then r (region_then s no_regions)) l = ap suc (counted_from next (at + region_names r) (region_then s no_regions) l)
   counted_from next at (region_then r (region_then s (region_then t rs))) l = ap suc (counted_from next (at + region_names r) (region_then s (region_then t rs)) l)
 
-  last_labels_from : (next at : ℕ) (fr : RegionTrees) (l : RegionTree) → last_labels (codes_from next at (with_last fr l)) ≡ code_labels (branch_code entries outputs next l)
+  last_labels_from : (next at : ℕ) (fr : RegionTrees) (l : RegionTree) →
+      last_labels (codes_from next at (with_last fr l)) ≡ code_labels (branch_code entries outputs next l)
   last_labels_from next at no_regions l = refl
   last_labels_from next at (region_then r no_regions) l = refl
   last_labels_from next at (region_then r (region_then s no_regions)) l = last_labels_from next (at + region_names r) (region_then s no_regions) l
@@ -89,7 +90,8 @@ module _ (entries : List ℕ) (outputs : ℕ) where
   before_from next at last others (region_then r (region_then s (region_then t (region_then u rs)))) l =
       ap suc (before_from next (at + region_names r) last (others + code_labels (branch_code entries outputs at r)) (region_then s (region_then t (region_then u rs))) l)
 
-  last_from_is : (next at last others : ℕ) (fr : RegionTrees) (l : RegionTree) → last_lines (lines_from next at last others (with_last fr l)) ≡ code_lines last (branch_code entries outputs next l)
+  last_from_is : (next at last others : ℕ) (fr : RegionTrees) (l : RegionTree) → last_lines (lines_from next at last others (with_last fr l)) ≡ code_lines last
+      (branch_code entries outputs next l)
   last_from_is next at last others no_regions l = refl
   last_from_is next at last others (region_then r no_regions) l = refl
   last_from_is next at last others (region_then r (region_then s no_regions)) l =
@@ -105,19 +107,27 @@ module _ (entries : List ℕ) (outputs : ℕ) where
   labelled_is next at last others k first end (region_then r no_regions) l h = refl
   labelled_is next at last others k first end (region_then r (region_then s no_regions)) l h =
       let c : List Line = jump end ∷ label (first + k) ∷ code_lines others (branch_code entries outputs at r) in
-      ap (λ ls. c ++ ls) (labelled_is next (at + region_names r) last (others + code_labels (branch_code entries outputs at r)) (suc k) first end (region_then s no_regions) l h.1)
-      ∙ ap (λ m. c ++ others_lines entries outputs m end (others + code_labels (branch_code entries outputs at r)) (at + region_names r) (region_then s no_regions)) (add-suc first k)
-      ∙ ap (λ m. c ++ others_lines entries outputs (suc (first + k)) end (others + m) (at + region_names r) (region_then s no_regions)) (branch_labels_are entries outputs at r h.0)
+      ap (λ ls. c ++ ls) (labelled_is next (at + region_names r) last (others + code_labels (branch_code entries outputs at r)) (suc k) first end
+      (region_then s no_regions) l h.1)
+      ∙ ap (λ m. c ++ others_lines entries outputs m end (others + code_labels (branch_code entries outputs at r)) (at + region_names r) (region_then s no_regions))
+      (add-suc first k)
+      ∙ ap (λ m. c ++ others_lines entries outputs (suc (first + k)) end (others + m) (at + region_names r) (region_then s no_regions))
+      (branch_labels_are entries outputs at r h.0)
   labelled_is next at last others k first end (region_then r (region_then s (region_then t no_regions))) l h =
       let c : List Line = jump end ∷ label (first + k) ∷ code_lines others (branch_code entries outputs at r) in
-      ap (λ ls. c ++ ls) (labelled_is next (at + region_names r) last (others + code_labels (branch_code entries outputs at r)) (suc k) first end (region_then s (region_then t no_regions)) l h.1)
-      ∙ ap (λ m. c ++ others_lines entries outputs m end (others + code_labels (branch_code entries outputs at r)) (at + region_names r) (region_then s (region_then t no_regions))) (add-suc first k)
-      ∙ ap (λ m. c ++ others_lines entries outputs (suc (first + k)) end (others + m) (at + region_names r) (region_then s (region_then t no_regions))) (branch_labels_are entries outputs at r h.0)
+      ap (λ ls. c ++ ls) (labelled_is next (at + region_names r) last (others + code_labels (branch_code entries outputs at r)) (suc k) first end
+      (region_then s (region_then t no_regions)) l h.1)
+      ∙ ap (λ m. c ++ others_lines entries outputs m end (others + code_labels (branch_code entries outputs at r)) (at + region_names r)
+      (region_then s (region_then t no_regions))) (add-suc first k)
+      ∙ ap (λ m. c ++ others_lines entries outputs (suc (first + k)) end (others + m) (at + region_names r) (region_then s (region_then t no_regions)))
+      (branch_labels_are entries outputs at r h.0)
   labelled_is next at last others k first end (region_then r (region_then s (region_then t (region_then u rs)))) l h =
       let c : List Line = jump end ∷ label (first + k) ∷ code_lines others (branch_code entries outputs at r) in
-      ap (λ ls. c ++ ls) (labelled_is next (at + region_names r) last (others + code_labels (branch_code entries outputs at r)) (suc k) first end (region_then s (region_then t (region_then u rs)))
+      ap (λ ls. c ++ ls) (labelled_is next (at + region_names r) last (others + code_labels (branch_code entries outputs at r)) (suc k) first end
+      (region_then s (region_then t (region_then u rs)))
       l h.1)
-      ∙ ap (λ m. c ++ others_lines entries outputs m end (others + code_labels (branch_code entries outputs at r)) (at + region_names r) (region_then s (region_then t (region_then u rs))))
+      ∙ ap (λ m. c ++ others_lines entries outputs m end (others + code_labels (branch_code entries outputs at r)) (at + region_names r)
+      (region_then s (region_then t (region_then u rs))))
       (add-suc first k)
       ∙ ap (λ m. c ++ others_lines entries outputs (suc (first + k)) end (others + m) (at + region_names r) (region_then s (region_then t (region_then u rs))))
       (branch_labels_are entries outputs at r h.0)
@@ -125,9 +135,11 @@ module _ (entries : List ℕ) (outputs : ℕ) where
   abbrev choice_of_more : (p first : ℕ) → List LinesOf → List Line
   choice_of_more p first cs = branches p 0 first cs ++ last_lines cs ++ labelled 0 first (first + before_last cs) cs ++ label (first + before_last cs) ∷ []
 
-  more_is : (p first next at last others n : ℕ) (fr : RegionTrees) (l : RegionTree) → RegionsShaped fr → outputs ≡ next + region_names l → at ≡ next + region_names l + n →
+  more_is : (p first next at last others n : ℕ) (fr : RegionTrees) (l : RegionTree) → RegionsShaped fr → outputs ≡ next + region_names l →
+      at ≡ next + region_names l + n →
       last ≡ first + suc (count_of fr) → others ≡ first + suc (count_of fr) + region_labels l →
-      choice_of_more p first (lines_from next at last others (with_last fr l)) ≡ branch_lines p 0 first (count_of fr) ++ cases_lines entries first (first + suc (count_of fr)) next l n fr
+      choice_of_more p first (lines_from next at last others (with_last fr l)) ≡ branch_lines p 0 first (count_of fr) ++ cases_lines entries first
+      (first + suc (count_of fr)) next l n fr
   more_is p first next at last others n fr l h a b d e =
       let cs : List LinesOf = lines_from next at last others (with_last fr l) in
       let k : ℕ = count_of fr in
@@ -142,8 +154,10 @@ module _ (entries : List ℕ) (outputs : ℕ) where
       (labelled_is next at last others 0 first (first + k) fr l h ∙ ap (λ m. others_lines entries outputs m (first + k) others at fr) (add-zero first))
       ∙ ap (λ ls. ls ++ label (first + k) ∷ []) (append_assoc heads own rest) ∙ append_assoc heads (own ++ rest) (label (first + k) ∷ [])
       ∙ ap (λ m. heads ++ (code_lines m (branch_code entries outputs next l) ++ rest ++ label (first + k) ∷ [])) d
-      ∙ ap (λ m. heads ++ (code_lines (first + suc k) (branch_code entries outputs next l) ++ others_lines entries outputs first (first + k) m at fr ++ label (first + k) ∷ [])) e
-      ∙ ap (λ m. heads ++ (code_lines (first + suc k) (branch_code entries outputs next l) ++ others_lines entries outputs first (first + k) (first + suc k + region_labels l) m fr ++ label
+      ∙ ap (λ m. heads ++ (code_lines (first + suc k) (branch_code entries outputs next l) ++ others_lines entries outputs first (first + k) m at fr
+      ++ label (first + k) ∷ [])) e
+      ∙ ap (λ m. heads ++ (code_lines (first + suc k) (branch_code entries outputs next l) ++ others_lines entries outputs first (first + k)
+      (first + suc k + region_labels l) m fr ++ label
       (first + k) ∷ [])) b
       ∙ ap (λ m. heads ++ (code_lines (first + suc k) (branch_code entries m next l)
       ++ others_lines entries m first (first + k) (first + suc k + region_labels l) (next + region_names l + n) fr ++ label (first + k) ∷ [])) a
@@ -154,7 +168,8 @@ module _ (entries : List ℕ) (p first next n : ℕ) where
   lines_of_choice rs = step_lines first (choice p (branch_codes entries (outputs_at next rs) (bases next n rs) rs))
 
   pub two_lines : (r s : RegionTree) → RegionShaped r →
-      lines_of_choice (region_then r (region_then s no_regions)) ≡ (branch_not_zero p first ∷ []) ++ cases_lines entries first (first + 2) next r n (region_then s no_regions)
+      lines_of_choice (region_then r (region_then s no_regions)) ≡ (branch_not_zero p first ∷ []) ++ cases_lines entries first (first + 2) next r n
+      (region_then s no_regions)
   two_lines r s h =
       let out : ℕ = next + region_names r in
       let c : List Line = code_lines (first + 2) (branch_code entries out next r) in
@@ -185,8 +200,10 @@ module _ (entries : List ℕ) (p first next n : ℕ) where
   many_lines (region_then r no_regions) l h k one = absurd (one refl)
   many_lines (region_then r (region_then s no_regions)) l h k one = many (region_then r (region_then s no_regions)) l h k
   many_lines (region_then r (region_then s (region_then t no_regions))) l h k one = many (region_then r (region_then s (region_then t no_regions))) l h k
-  many_lines (region_then r (region_then s (region_then t (region_then u no_regions)))) l h k one = many (region_then r (region_then s (region_then t (region_then u no_regions)))) l h k
-  many_lines (region_then r (region_then s (region_then t (region_then u (region_then v rs))))) l h k one = many (region_then r (region_then s (region_then t (region_then u (region_then v rs)))))
+  many_lines (region_then r (region_then s (region_then t (region_then u no_regions)))) l h k one =
+      many (region_then r (region_then s (region_then t (region_then u no_regions)))) l h k
+  many_lines (region_then r (region_then s (region_then t (region_then u (region_then v rs))))) l h k one =
+      many (region_then r (region_then s (region_then t (region_then u (region_then v rs)))))
       l h k
 
 standing_with_last : (fr : RegionTrees) (l : RegionTree) → (count_of fr ≡ 1 → ⊥) → first_standing (with_last fr l) ≡ region_names l
@@ -243,8 +260,10 @@ module _ (xs ys : List RegionTree) (l : RegionTree) (parts : xs ≡ ys ++ l ∷ 
       ∙ ap (λ m. l0 ++ lines_of_choice entries p first next m (with_last fr l)) (sym (ap values_in (outputs_are shape)))
       ∙ ap (λ rs. l0 ++ lines_of_choice entries p first next (values_in (outputs_of Gamma (regions_of xs))) rs) (sym trees_are)
 
-pub two_written : (xs ys : List RegionTree) (r s : RegionTree) → xs ≡ r ∷ s ∷ [] → ys ≡ s ∷ [] → RegionShaped r → (entries : List ℕ) (p first next : ℕ) (l0 l1 l2 : List Line) (k1 n1 : ℕ) →
-    k1 ≡ first + length xs → n1 ≡ next → l1 ≡ l0 ++ branch_not_zero p first ∷ [] → l2 ≡ l1 ++ cases_lines entries first k1 n1 r (values_in (result_kinds r)) (regions_of ys) →
+pub two_written : (xs ys : List RegionTree) (r s : RegionTree) → xs ≡ r ∷ s ∷ [] → ys ≡ s ∷ [] → RegionShaped r →
+    (entries : List ℕ) (p first next : ℕ) (l0 l1 l2 : List Line) (k1 n1 : ℕ) →
+    k1 ≡ first + length xs → n1 ≡ next → l1 ≡ l0 ++ branch_not_zero p first ∷ [] → l2 ≡ l1 ++ cases_lines entries first k1 n1 r (values_in (result_kinds r))
+    (regions_of ys) →
     l2 ≡ l0 ++ lines_of_choice entries p first next (values_in (outputs_of Gamma (regions_of xs))) (regions_of xs)
 two_written xs ys r s parts rest shaped entries p first next l0 l1 l2 k1 n1 a b e f =
     let n : ℕ = values_in (result_kinds r) in
@@ -256,9 +275,11 @@ two_written xs ys r s parts rest shaped entries p first next l0 l1 l2 k1 n1 a b 
     ∙ ap (λ ls. l0 ++ ls) (sym (two_lines entries p first next n r s shaped))
     ∙ ap (λ zs. l0 ++ lines_of_choice entries p first next (values_in (outputs_of Gamma (regions_of zs))) (regions_of zs)) (sym parts)
 
-pub cases_written : (entries : List ℕ) (first k0 n0 values : ℕ) (r : RegionTree) (rs : RegionTrees) (l0 l1 l2 l3 : List Line) (out k1 n1 end : ℕ) → out ≡ n0 + region_names r →
+pub cases_written : (entries : List ℕ) (first k0 n0 values : ℕ) (r : RegionTree) (rs : RegionTrees) (l0 l1 l2 l3 : List Line) (out k1 n1 end : ℕ) →
+    out ≡ n0 + region_names r →
     k1 ≡ k0 + region_labels r →
-    n1 ≡ n0 + region_names r + values → end ≡ first + count_of rs → l1 ≡ l0 ++ code_lines k0 (branch_code entries (n0 + region_names r) n0 r) → l2 ≡ l1 ++ others_lines entries out first end k1 n1 rs →
+    n1 ≡ n0 + region_names r + values → end ≡ first + count_of rs → l1 ≡ l0 ++ code_lines k0 (branch_code entries (n0 + region_names r) n0 r) →
+    l2 ≡ l1 ++ others_lines entries out first end k1 n1 rs →
     l3 ≡ l2 ++ label end ∷ [] → l3 ≡ l0 ++ cases_lines entries first k0 n0 r values rs
 cases_written entries first k0 n0 values r rs l0 l1 l2 l3 out k1 n1 end a b d e f g h =
     let own : List Line = code_lines k0 (branch_code entries (n0 + region_names r) n0 r) in

@@ -17,7 +17,8 @@ instrs_lines first [] k = refl
 instrs_lines first (i ∷ is) k = ap (λ n. done i ∷ code_lines n (instrs_then is k)) (add-zero first) ∙ ap (λ ls. done i ∷ ls) (instrs_lines first is k)
 
 module _ (base : ℕ) (scope : Scope) where
-  names_are : (r : RegionTree) (results : List Origin) → ((o : Origin) → port_in scope o ≡ region_port base r o) → map (name_in scope) results ≡ map (λ o. (region_port base r o).name) results
+  names_are : (r : RegionTree) (results : List Origin) → ((o : Origin) → port_in scope o ≡ region_port base r o) →
+      map (name_in scope) results ≡ map (λ o. (region_port base r o).name) results
   names_are r results ports = λ i. map (λ o. (ports o i).name) results
 
   pub kinds_written : (r : RegionTree) (results : List Origin) → results ≡ results_of r → ((o : Origin) → port_in scope o ≡ region_port base r o) →
@@ -47,11 +48,14 @@ entered_written (region own_args nodes rs) args e entries base k0 l0 l1 f k =
     (sym (instrs_lines k0 moved (region_code base (region own_args nodes rs) k)))
 
 -- a loop: moves in, its label, its nodes, and its end
-pub loop_written : (r : RegionTree) (args : List Kind) (results : List Origin) (names : List ℕ) (scope : Scope) → args ≡ args_of r → results ≡ results_of r → names ≡ map (name_in scope) results →
+pub loop_written : (r : RegionTree) (args : List Kind) (results : List Origin) (names : List ℕ) (scope : Scope) → args ≡ args_of r → results ≡ results_of r →
+    names ≡ map (name_in scope) results →
     (entries : List ℕ) (base k0 : ℕ) (l0 l1 l2 l3 l4 : List Line) (k3 n3 : ℕ) →
     l1 ≡ l0 ++ map done (moves base (kept (map Some args) entries)) → l2 ≡ l1 ++ label k0 ∷ [] →
-    ((k : Code) → l3 ++ code_lines k3 k ≡ l2 ++ code_lines (k0 + 2) (region_code base r k)) → n3 ≡ base + region_names r → ((o : Origin) → port_in scope o ≡ region_port base r o) →
-    l4 ≡ ((l3 ++ map done (moves n3 (loop_results args names))) ++ branch_zero (predicate_name names) (k0 + 1) ∷ map done (moves base (numbers_from n3 (value_args args)))) ++ jump k0 ∷ label
+    ((k : Code) → l3 ++ code_lines k3 k ≡ l2 ++ code_lines (k0 + 2) (region_code base r k)) → n3 ≡ base + region_names r →
+    ((o : Origin) → port_in scope o ≡ region_port base r o) →
+    l4 ≡ ((l3 ++ map done (moves n3 (loop_results args names))) ++ branch_zero (predicate_name names) (k0 + 1)
+    ∷ map done (moves base (numbers_from n3 (value_args args)))) ++ jump k0 ∷ label
     (k0 + 1) ∷ [] →
     l4 ≡ l0 ++ step_lines k0 (loop_step entries base r)
 loop_written (region own_args nodes rs) args results names scope e f g entries base k0 l0 l1 l2 l3 l4 k3 n3 moved marked body next ports end =
@@ -68,7 +72,8 @@ loop_written (region own_args nodes rs) args results names scope e f g entries b
     let reached : l3 ++ map done (first outputs own own_args) ≡ ((l0 ++ map done into) ++ label k0 ∷ []) ++ code_lines (2 + k0) inside =
     ap (λ ls. l3 ++ ls) (sym (append-nil (map done (first outputs own own_args))) ∙ sym (instrs_lines k3 (first outputs own own_args) no_steps))
     ∙ body (instrs_then (first outputs own own_args) no_steps)
-    ∙ ap (λ ls. ls ++ code_lines (k0 + 2) inside) (marked ∙ ap (λ ls. ls ++ label k0 ∷ []) (moved ∙ ap (λ zs. l0 ++ map done (moves base (kept (map Some zs) entries))) e))
+    ∙ ap (λ ls. ls ++ code_lines (k0 + 2) inside) (marked
+    ∙ ap (λ ls. ls ++ label k0 ∷ []) (moved ∙ ap (λ zs. l0 ++ map done (moves base (kept (map Some zs) entries))) e))
     ∙ ap (λ m. ((l0 ++ map done into) ++ label k0 ∷ []) ++ code_lines m inside) (add_comm k0 2) in
     end ∙ ap (λ ks. whole l3 n3 (k0 + 1) names ks) e ∙ ap (λ ns. whole l3 n3 (k0 + 1) ns own_args) same ∙ ap (λ n. whole l3 n (k0 + 1) own own_args) place
     ∙ ap (λ s. whole l3 outputs s own own_args) (add-one k0)

@@ -72,8 +72,12 @@ module _ (test : Instr → Bool) (p : Op → ℕ → Type 0) (moved : (t s : ℕ
         moves_pass base _ _ (nodes_pass args base no_names (base + value_args args) nodes _ h (moves_pass outputs _ no_steps tt))
 
     loop_passes : (entries : List ℕ) (next : ℕ) (r : RegionTree) → RegionOps p r → StepPasses (does test) (loop_step entries next r)
-    loop_passes entries next (region args nodes results) h =
-        (moves_hold next _, nodes_pass args next no_names (next + value_args args) nodes _ h (moves_pass (next + value_args args + nodes_names nodes) _ no_steps tt), (λ l. refl), moves_hold next _)
+    loop_passes entries next (region args nodes results) h = (
+      moves_hold next _,
+      nodes_pass args next no_names (next + value_args args) nodes _ h (moves_pass (next + value_args args + nodes_names nodes) _ no_steps tt),
+      (λ l. refl),
+      moves_hold next _,
+    )
 
   body_passes : (r : RegionTree) → RegionOps p r → CodePasses (does test) (body_code r)
   body_passes (region args nodes results) h = nodes_pass args 0 no_names (value_args args) nodes no_steps h tt
@@ -96,7 +100,8 @@ module _ (objects : ℕ) (p : Op → ℕ → Type 0)
         ((and_parts _ (returns_state Io (region args nodes results)) ((and_parts _ (region_has_one_state_each (region args nodes results)) here).0)).0)).0)).0)
         ((and_parts (region_fits objects (region args nodes results)) _ e).1)
 
-    node_has : (args : List Kind) (before : NodeTrees) (x : NodeTree) → node_fits objects args before x ≡ true → every_in_node (region_fits objects) x ≡ true → NodeOps p x
+    node_has : (args : List Kind) (before : NodeTrees) (x : NodeTree) → node_fits objects args before x ≡ true →
+        every_in_node (region_fits objects) x ≡ true → NodeOps p x
     node_has args before (node id op inputs rs) e inside = (fits args before id op inputs rs e, regions_have rs inside)
 
     nodes_have : (args : List Kind) (before : List NodeTree) (ns : NodeTrees) → each_node (node_fits objects args) before ns ≡ true →
@@ -104,12 +109,16 @@ module _ (objects : ℕ) (p : Op → ℕ → Type 0)
     nodes_have args before no_nodes e inside = tt
     nodes_have args before (node_then x xs) e inside = (
       node_has args (nodes_of before) x ((and_parts (node_fits objects args (nodes_of before) x) _ e).0) ((and_parts (every_in_node (region_fits objects) x) _ inside).0),
-      nodes_have args (before ++ x ∷ []) xs ((and_parts (node_fits objects args (nodes_of before) x) _ e).1) ((and_parts (every_in_node (region_fits objects) x) _ inside).1),
+      nodes_have args (before ++ x ∷ []) xs ((and_parts (node_fits objects args (nodes_of before) x) _ e).1)
+          ((and_parts (every_in_node (region_fits objects) x) _ inside).1),
     )
 
     regions_have : (rs : RegionTrees) → every_in_regions (region_fits objects) rs ≡ true → RegionsOps p rs
     regions_have no_regions e = tt
-    regions_have (region_then r rs) e = (region_has r ((and_parts (every_region (region_fits objects) r) _ e).0), regions_have rs ((and_parts (every_region (region_fits objects) r) _ e).1))
+    regions_have (region_then r rs) e = (
+      region_has r ((and_parts (every_region (region_fits objects) r) _ e).0),
+      regions_have rs ((and_parts (every_region (region_fits objects) r) _ e).1),
+    )
 
 pub regions_of_well_formed : (l : PlainLambda) → IsWellFormed l → every_region (region_fits (length l.objects)) l.body ≡ true
 regions_of_well_formed l w =
@@ -126,7 +135,8 @@ WidthFits op n = Unit {0}
 width_fits : (objects : ℕ) (args : List Kind) (before : NodeTrees) (id : ℕ) (op : Op) (inputs : List Origin) (rs : RegionTrees) →
     node_fits objects args before (node id op inputs rs) ≡ true → has_its_width (node id op inputs rs) ≡ true
 width_fits objects args before id op inputs rs e =
-    (and_parts (inputs_fit args before (node id op inputs rs) && inputs_are_last args before (node id op inputs rs) && node_has_one_state_each args before (node id op inputs rs)
+    (and_parts (inputs_fit args before (node id op inputs rs) && inputs_are_last args before (node id op inputs rs) && node_has_one_state_each args before
+    (node id op inputs rs)
     && has_its_regions (node id op inputs rs) && regions_fit (node id op inputs rs) && theta_has_states (node id op inputs rs))
     (has_its_width (node id op inputs rs)) ((and_parts _ (has_its_object objects (node id op inputs rs)) e).0)).1
 
@@ -179,7 +189,8 @@ ObjectIsThere objects (Local k) n = nat_lt k objects ≡ true
 ObjectIsThere objects (Clear k) n = nat_lt k objects ≡ true
 ObjectIsThere objects op n = Unit {0}
 
-object_is : (objects id : ℕ) (op : Op) (inputs : List Origin) (rs : RegionTrees) → has_its_object objects (node id op inputs rs) ≡ true → ObjectIsThere objects op (length inputs)
+object_is : (objects id : ℕ) (op : Op) (inputs : List Origin) (rs : RegionTrees) → has_its_object objects (node id op inputs rs) ≡ true →
+    ObjectIsThere objects op (length inputs)
 object_is objects id (Local k) inputs rs e = e
 object_is objects id (Clear k) inputs rs e = e
 object_is objects id (Load width) inputs rs e = tt
@@ -272,5 +283,6 @@ call_made test Get t xs h = refl
 call_made test Gamma t xs h = refl
 call_made test Theta t xs h = refl
 
-pub calls_keep_arguments : (test : ℕ → ℕ → Bool) (l : PlainLambda) → RegionOps (laws.Applies test) l.body → all_of (does (laws.calls_with test)) (lines (sequenced l)) ≡ true
+pub calls_keep_arguments : (test : ℕ → ℕ → Bool) (l : PlainLambda) → RegionOps (laws.Applies test) l.body →
+    all_of (does (laws.calls_with test)) (lines (sequenced l)) ≡ true
 calls_keep_arguments test l h = sequenced_passes (laws.calls_with test) (laws.Applies test) (λ t s. refl) (λ t. refl) (call_made test) l h

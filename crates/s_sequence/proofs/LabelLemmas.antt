@@ -71,11 +71,13 @@ mutual
   nodes_labels_are args base names next (node_then x ns) k h =
       omega (arith, step_labels_are args base names next x h.0, nodes_labels_are args base (named x next names) (next + node_names x) ns k h.1)
 
-  pub step_labels_are : (args : List Kind) (base : ℕ) (names : Names) (next : ℕ) (x : NodeTree) → NodeShaped x → step_labels (node_step args base names next x) ≡ node_labels x
+  pub step_labels_are : (args : List Kind) (base : ℕ) (names : Names) (next : ℕ) (x : NodeTree) → NodeShaped x →
+      step_labels (node_step args base names next x) ≡ node_labels x
   step_labels_are args base names next (node id Gamma [] rs) h = absurd h.0
   step_labels_are args base names next (node id Gamma (p ∷ entries) no_regions) h = absurd h.0
   step_labels_are args base names next (node id Gamma (p ∷ entries) (region_then r rs)) h =
-      choice_labels_are (map (name_of args base names) entries) (outputs_at next (region_then r rs)) (bases next (values_in (outputs_of Gamma (region_then r rs))) (region_then r rs))
+      choice_labels_are (map (name_of args base names) entries) (outputs_at next (region_then r rs))
+      (bases next (values_in (outputs_of Gamma (region_then r rs))) (region_then r rs))
       (region_then r rs)
       (bases_has next (values_in (outputs_of Gamma (region_then r rs))) (region_then r rs)) h.1
   step_labels_are args base names next (node id Theta inputs no_regions) h = absurd h.0
@@ -94,7 +96,8 @@ mutual
 
   pub branch_labels_are : (entries : List ℕ) (outputs base : ℕ) (r : RegionTree) → RegionShaped r → code_labels (branch_code entries outputs base r) ≡ region_labels r
   branch_labels_are entries outputs base (region args nodes results) h =
-      let exits : List Instr = moves outputs (kept (result_kinds (region args nodes results)) (map (name_of args base (nodes_named nodes (base + value_args args) no_names)) results)) in
+      let exits : List Instr = moves outputs (kept (result_kinds (region args nodes results))
+      (map (name_of args base (nodes_named nodes (base + value_args args) no_names)) results)) in
       omega (
         arith,
         instrs_labels (moves base (kept (map Some args) entries)) (nodes_code args base no_names (base + value_args args) nodes (instrs_then exits no_steps)),

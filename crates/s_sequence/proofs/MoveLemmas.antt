@@ -35,13 +35,16 @@ without_last f (a ∷ b ∷ c ∷ os) = ap (λ xs. f a ∷ xs) (without_last f (
 pub one_more : {X : Type 0} (old new rest whole all : List X) (x : X) → new ≡ old ++ x ∷ [] → whole ≡ x ∷ rest → old ++ whole ≡ all → new ++ rest ≡ all
 one_more old new rest whole all x e f g = ap (λ ys. ys ++ rest) e ∙ append_assoc old (x ∷ []) rest ∙ ap (λ ys. old ++ ys) (sym f) ∙ g
 
-pub entry_more : (old new : List Line) (target next : ℕ) (k : Kind) (x : ℕ) (ks : List (Option Kind)) (xs : List ℕ) → new ≡ old ++ exit_lines (Some k) target x → next ≡ name_after (Some k) target →
+pub entry_more : (old new : List Line) (target next : ℕ) (k : Kind) (x : ℕ) (ks : List (Option Kind)) (xs : List ℕ) → new ≡ old ++ exit_lines (Some k) target x →
+    next ≡ name_after (Some k) target →
     new ++ map done (moves next (kept ks xs)) ≡ old ++ map done (moves target (kept (Some k ∷ ks) (x ∷ xs)))
 entry_more old new target next Value x ks xs e f =
     one_more old new (map done (moves next (kept ks xs))) (map done (moves target (x ∷ kept ks xs))) _ (done (move target x)) e
     (ap (λ t. done (move target x) ∷ map done (moves t (kept ks xs))) (sym f)) refl
-entry_more old new target next Memory x ks xs e f = ap (λ ys. ys ++ map done (moves next (kept ks xs))) (e ∙ append-nil old) ∙ ap (λ t. old ++ map done (moves t (kept ks xs))) f
-entry_more old new target next Io x ks xs e f = ap (λ ys. ys ++ map done (moves next (kept ks xs))) (e ∙ append-nil old) ∙ ap (λ t. old ++ map done (moves t (kept ks xs))) f
+entry_more old new target next Memory x ks xs e f = ap (λ ys. ys ++ map done (moves next (kept ks xs))) (e ∙ append-nil old)
+    ∙ ap (λ t. old ++ map done (moves t (kept ks xs))) f
+entry_more old new target next Io x ks xs e f = ap (λ ys. ys ++ map done (moves next (kept ks xs))) (e ∙ append-nil old)
+    ∙ ap (λ t. old ++ map done (moves t (kept ks xs))) f
 
 pub back_more : (t s i n : ℕ) → i < n →
     map done (moves (t + i) (numbers_from (s + i) (n - i))) ≡ done (move (t + i) (s + i)) ∷ map done (moves (t + (i + 1)) (numbers_from (s + (i + 1)) (n - (i + 1))))
@@ -55,7 +58,8 @@ module _ (kinds : List Kind) (sources : List ℕ) (i : ℕ) where
   abbrev Left : (target : ℕ) → (i : ℕ) → List Line
   Left t i = map done (moves t (kept (map Some (drop i kinds)) (drop i sources)))
 
-  pub moves_more : (old new whole : List Line) (target next : ℕ) → i < length kinds → i < length sources → new ≡ old ++ exit_lines (Some (get_or kinds i Value)) target (get_or sources i 0) →
+  pub moves_more : (old new whole : List Line) (target next : ℕ) → i < length kinds → i < length sources →
+      new ≡ old ++ exit_lines (Some (get_or kinds i Value)) target (get_or sources i 0) →
       next ≡ name_after (Some (get_or kinds i Value)) target → old ++ Left target i ≡ whole → new ++ Left next (i + 1) ≡ whole
   moves_more old new whole target next h k e f g =
       let ks : drop i kinds ≡ get_or kinds i Value ∷ drop (i + 1) kinds = rw (add-one, drop-cons kinds i Value) refl in
@@ -67,10 +71,12 @@ module _ (kinds : List Kind) (sources : List ℕ) (i : ℕ) where
   pub moves_end : (old whole : List Line) (target : ℕ) → length sources ≤ i → old ++ Left target i ≡ whole → old ++ Left target (i + 1) ≡ whole
   moves_end old whole target h g =
       let none : (j : ℕ) → length sources ≤ j → Left target j ≡ [] = λ j k.
-      ap (λ zs. map done (moves target (kept (map Some (drop j kinds)) zs))) (drop_of_length-le sources k) ∙ ap (λ zs. map done (moves target zs)) (kept_none (map Some (drop j kinds))) in
+      ap (λ zs. map done (moves target (kept (map Some (drop j kinds)) zs))) (drop_of_length-le sources k)
+      ∙ ap (λ zs. map done (moves target zs)) (kept_none (map Some (drop j kinds))) in
       ap (λ zs. old ++ zs) (none (i + 1) (omega arith) ∙ sym (none i h)) ∙ g
 
-  pub room_more : (target next : ℕ) → i < length kinds → next ≡ name_after (Some (get_or kinds i Value)) target → next + value_args (drop (i + 1) kinds) ≡ target + value_args (drop i kinds)
+  pub room_more : (target next : ℕ) → i < length kinds → next ≡ name_after (Some (get_or kinds i Value)) target →
+      next + value_args (drop (i + 1) kinds) ≡ target + value_args (drop i kinds)
   room_more target next h f =
       let ks : drop i kinds ≡ get_or kinds i Value ∷ drop (i + 1) kinds = rw (add-one, drop-cons kinds i Value) refl in
       by_kind target next (get_or kinds i Value) (drop (i + 1) kinds) f ∙ ap (λ zs. target + value_args zs) (sym ks)

@@ -244,11 +244,13 @@ module _ (n : ℕ) where
   ResultsFit outputs no_regions = Unit {0}
   ResultsFit outputs (region_then r rs) = (outputs + values_in (result_kinds r) ≤ n) × ResultsFit outputs rs
 
-  results_fit : (outputs : ℕ) (args ks : List Kind) (rs : RegionTrees) → outputs + value_args ks ≤ n → all_regions (λ r. same (args_of r) args && are (result_kinds r) ks) rs ≡ true →
+  results_fit : (outputs : ℕ) (args ks : List Kind) (rs : RegionTrees) → outputs + value_args ks ≤ n →
+      all_regions (λ r. same (args_of r) args && are (result_kinds r) ks) rs ≡ true →
       ResultsFit outputs rs
   results_fit outputs args ks no_regions h e = tt
   results_fit outputs args ks (region_then r rs) h e =
-      let own = (and_parts (same (args_of r) args) (are (result_kinds r) ks) ((and_parts _ (all_regions (λ r. same (args_of r) args && are (result_kinds r) ks) rs) e).0)).1 in
+      let own = (and_parts (same (args_of r) args) (are (result_kinds r) ks)
+      ((and_parts _ (all_regions (λ r. same (args_of r) args && are (result_kinds r) ks) rs) e).0)).1 in
       (omega (arith, are_values (result_kinds r) ks own), results_fit outputs args ks rs h ((and_parts (same (args_of r) args && are (result_kinds r) ks) _ e).1))
 
   loop_length : (args : List Kind) (xs : List ℕ) → length (loop_results args xs) ≤ value_args args
@@ -268,9 +270,11 @@ module _ (n : ℕ) where
   gamma_results objects args before id inputs r rs outputs e h =
       let x : NodeTree = node id Gamma inputs (region_then r rs) in
       let ks : List Kind = kinds_of (result_kinds r) in
-      let fit : regions_fit x ≡ true = (and_parts _ (regions_fit x) ((and_parts _ (theta_has_states x) ((and_parts _ (has_its_width x) ((and_parts _ (has_its_object objects x) e).0)).0)).0)).1 in
+      let fit : regions_fit x ≡ true = (and_parts _ (regions_fit x)
+      ((and_parts _ (theta_has_states x) ((and_parts _ (has_its_width x) ((and_parts _ (has_its_object objects x) e).0)).0)).0)).1 in
       let own : are (result_kinds r) ks ≡ true =
-      (and_parts (same (args_of r) (args_of r)) (are (result_kinds r) ks) ((and_parts _ (all_regions (λ s. same (args_of s) (args_of r) && are (result_kinds s) ks) rs) fit).0)).1 in
+      (and_parts (same (args_of r) (args_of r)) (are (result_kinds r) ks)
+      ((and_parts _ (all_regions (λ s. same (args_of s) (args_of r) && are (result_kinds s) ks) rs) fit).0)).1 in
       results_fit outputs (args_of r) ks (region_then r rs) (omega (arith, are_values (result_kinds r) ks own)) fit
 
   module _ (objects : ℕ) where
@@ -283,8 +287,10 @@ module _ (n : ℕ) where
         ((and_parts _ (returns_state Io (region args nodes results)) ((and_parts _ (region_has_one_state_each (region args nodes results)) here).0)).0)).0)).0
 
     mutual
-      nodes_pass : (args : List Kind) (base : ℕ) (names : Names) (next : ℕ) (before : List NodeTree) (ns : NodeTrees) (k : Code) → base + value_args args < n → AreBelow names →
-          next + nodes_names ns < n → each_node (node_fits objects args) before ns ≡ true → every_in_nodes (region_fits objects) ns ≡ true → CodePasses (names_below n) k →
+      nodes_pass : (args : List Kind) (base : ℕ) (names : Names) (next : ℕ) (before : List NodeTree) (ns : NodeTrees) (k : Code) → base + value_args args < n →
+          AreBelow names →
+          next + nodes_names ns < n → each_node (node_fits objects args) before ns ≡ true → every_in_nodes (region_fits objects) ns ≡ true →
+          CodePasses (names_below n) k →
           CodePasses (names_below n) (nodes_code args base names next ns k)
       nodes_pass args base names next before no_nodes k a b c e inside q = q
       nodes_pass args base names next before (node_then x xs) k a b c e inside q = (
@@ -294,7 +300,8 @@ module _ (n : ℕ) where
             ((and_parts (node_fits objects args (nodes_of before) x) _ e).1) ((and_parts (every_in_node (region_fits objects) x) _ inside).1) q,
       )
 
-      node_passes : (args : List Kind) (base : ℕ) (names : Names) (next : ℕ) (before : NodeTrees) (x : NodeTree) → base + value_args args < n → AreBelow names → next + node_names x < n →
+      node_passes : (args : List Kind) (base : ℕ) (names : Names) (next : ℕ) (before : NodeTrees) (x : NodeTree) → base + value_args args < n → AreBelow names →
+          next + node_names x < n →
           node_fits objects args before x ≡ true → every_in_node (region_fits objects) x ≡ true → StepPasses (names_below n) (node_step args base names next x)
       node_passes args base names next before (node id (Const w) inputs rs) a b c e inside = own (Const w) args base names next inputs a b (omega arith)
       node_passes args base names next before (node id Undef inputs rs) a b c e inside = own Undef args base names next inputs a b (omega arith)
@@ -311,18 +318,23 @@ module _ (n : ℕ) where
       node_passes args base names next before (node id Exit inputs rs) a b c e inside = own Exit args base names next inputs a b (omega arith)
       node_passes args base names next before (node id Get inputs rs) a b c e inside = own Get args base names next inputs a b (omega arith)
       node_passes args base names next before (node id Gamma [] rs) a b c e inside = cons next [] (omega arith) refl
-      node_passes args base names next before (node id Gamma (o ∷ entries) no_regions) a b c e inside =
-          ((λ r l. cons (name_of args base names o) [] (name_below args base names a b o) refl), (λ l. cons (name_of args base names o) [] (name_below args base names a b o) refl), tt)
+      node_passes args base names next before (node id Gamma (o ∷ entries) no_regions) a b c e inside = (
+        (λ r l. cons (name_of args base names o) [] (name_below args base names a b o) refl),
+        (λ l. cons (name_of args base names o) [] (name_below args base names a b o) refl),
+        tt,
+      )
       node_passes args base names next before (node id Gamma (o ∷ entries) (region_then r rs)) a b c e inside = (
         (λ r l. cons (name_of args base names o) [] (name_below args base names a b o) refl),
         (λ l. cons (name_of args base names o) [] (name_below args base names a b o) refl),
-        branches_pass (map (name_of args base names) entries) (outputs_at next (region_then r rs)) (bases next (values_in (result_kinds r)) (region_then r rs)) (region_then r rs)
+        branches_pass (map (name_of args base names) entries) (outputs_at next (region_then r rs)) (bases next (values_in (result_kinds r)) (region_then r rs))
+            (region_then r rs)
             (each_map _ entries (name_below args base names a b)) (bases_fit next (values_in (result_kinds r)) (region_then r rs) c)
             (gamma_results objects args before id (o ∷ entries) r rs (outputs_at next (region_then r rs)) e (omega (arith, standing_names (region_then r rs)))) inside,
       )
       node_passes args base names next before (node id Theta inputs no_regions) a b c e inside = cons next [] (omega arith) refl
       node_passes args base names next before (node id Theta inputs (region_then r no_regions)) a b c e inside =
-          loop_passes (map (name_of args base names) inputs) next r (each_map _ inputs (name_below args base names a b)) (omega arith) ((and_parts (every_region (region_fits objects) r) _ inside).0)
+          loop_passes (map (name_of args base names) inputs) next r (each_map _ inputs (name_below args base names a b)) (omega arith)
+          ((and_parts (every_region (region_fits objects) r) _ inside).0)
       node_passes args base names next before (node id Theta inputs (region_then r (region_then s rs))) a b c e inside = cons next [] (omega arith) refl
 
       branches_pass : (entries : List ℕ) (outputs : ℕ) (bs : List ℕ) (rs : RegionTrees) → Each entries → BasesFit bs rs → ResultsFit outputs rs →
@@ -345,22 +357,26 @@ module _ (n : ℕ) where
           ((and_parts (region_fits objects (region args nodes results)) _ inside).1)
           (moves_pass outputs (kept kinds (map (name_of args base names) results)) no_steps (omega (arith, kept_length kinds (map (name_of args base names) results)))
           (each_kept kinds (map (name_of args base names) results)
-          (each_map (name_of args base names) results (name_below args base names (omega arith) (nodes_named_below nodes (base + value_args args) no_names (omega arith) (λ i p. omega arith))))) tt))
+          (each_map (name_of args base names) results (name_below args base names (omega arith)
+          (nodes_named_below nodes (base + value_args args) no_names (omega arith) (λ i p. omega arith))))) tt))
 
-      loop_passes : (entries : List ℕ) (next : ℕ) (r : RegionTree) → Each entries → next + (region_names r + value_args (args_of r)) < n → every_region (region_fits objects) r ≡ true →
+      loop_passes : (entries : List ℕ) (next : ℕ) (r : RegionTree) → Each entries → next + (region_names r + value_args (args_of r)) < n →
+          every_region (region_fits objects) r ≡ true →
           StepPasses (names_below n) (loop_step entries next r)
       loop_passes entries next (region args nodes results) a b inside =
           let own : Names = nodes_named nodes (next + value_args args) no_names in
           let names : List ℕ = map (name_of args next own) results in
           let outputs : ℕ = next + value_args args + nodes_names nodes in
           let each : Each names =
-          each_map (name_of args next own) results (name_below args next own (omega arith) (nodes_named_below nodes (next + value_args args) no_names (omega arith) (λ i p. omega arith))) in (
+          each_map (name_of args next own) results (name_below args next own (omega arith)
+          (nodes_named_below nodes (next + value_args args) no_names (omega arith) (λ i p. omega arith))) in (
             moves_hold next (kept (map Some args) entries) (omega (arith, kept_length (map Some args) entries)) (each_kept (map Some args) entries a),
             nodes_pass args next no_names (next + value_args args) [] nodes _ (omega arith) (λ i p. omega arith) (omega arith) (nodes_are args nodes results inside)
                 ((and_parts (region_fits objects (region args nodes results)) _ inside).1)
                 (moves_pass outputs (loop_results args names) no_steps (omega (arith, loop_length args names)) (each_result args names each) tt),
             (λ l. cons (name_at names 0) [] (at_0 names (omega arith) each) refl),
-            moves_hold next (numbers_from outputs (value_args args)) (omega (arith, numbers_length outputs (value_args args))) (each_number outputs (value_args args) (omega arith)),
+            moves_hold next (numbers_from outputs (value_args args)) (omega (arith, numbers_length outputs (value_args args)))
+                (each_number outputs (value_args args) (omega arith)),
           )
 
     body_passes : (r : RegionTree) → region_names r < n → every_region (region_fits objects) r ≡ true → CodePasses (names_below n) (body_code r)
@@ -372,7 +388,8 @@ module _ (n : ℕ) where
     value_below (region args nodes results) h =
         at_0 _ (omega arith)
         (each_map (name_of args 0 (nodes_named nodes (value_args args) no_names)) results
-        (name_below args 0 (nodes_named nodes (value_args args) no_names) (omega arith) (nodes_named_below nodes (value_args args) no_names (omega arith) (λ i p. omega arith))))
+        (name_below args 0 (nodes_named nodes (value_args args) no_names) (omega arith)
+        (nodes_named_below nodes (value_args args) no_names (omega arith) (λ i p. omega arith))))
 
 params_are : (l : PlainLambda) → body_fits l ≡ true → l.params ≤ region_names l.body
 params_are l e = by_form l.body ((and_parts (same (args_of l.body) (replicate l.params Value ++ Memory ∷ Io ∷ [])) _ e).0)
@@ -385,8 +402,10 @@ names_are_below l w =
     let n : ℕ = region_values l.body in
     let own : (body_fits l && numbers_fit l && every_region (region_fits (length l.objects)) l.body) ≡ true =
     (and_parts (body_fits l && numbers_fit l && every_region (region_fits (length l.objects)) l.body) (all_of (λ o. leaves_fit o.size 0 o.leaves) l.objects) w).0 in
-    let fit : body_fits l ≡ true = (and_parts (body_fits l) (numbers_fit l) ((and_parts (body_fits l && numbers_fit l) (every_region (region_fits (length l.objects)) l.body) own).0)).0 in
+    let fit : body_fits l ≡ true = (and_parts (body_fits l) (numbers_fit l)
+    ((and_parts (body_fits l && numbers_fit l) (every_region (region_fits (length l.objects)) l.body) own).0)).0 in
     lines_pass (names_below n) (λ l. refl) (λ l. refl) (sequenced l)
     (each_number n 0 l.params (omega (arith, params_are l fit, names_values l.body)))
-    (body_passes n (length l.objects) l.body (names_values l.body) ((and_parts (body_fits l && numbers_fit l) (every_region (region_fits (length l.objects)) l.body) own).1))
+    (body_passes n (length l.objects) l.body (names_values l.body)
+    ((and_parts (body_fits l && numbers_fit l) (every_region (region_fits (length l.objects)) l.body) own).1))
     (cons n (value_name l.body) [] (value_below n (length l.objects) l.body (names_values l.body)) refl)

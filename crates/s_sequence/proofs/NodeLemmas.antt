@@ -43,7 +43,8 @@ argument_is scope args base k e =
     ∙ ap (λ kind. record { name = base + value_args (take k args); kind = kind }) (got k args)
 
 -- the names of origins, in a region whose arguments the scope has
-pub names_same : (scope : Scope) (args : List Kind) (base : ℕ) → scope.args ≡ ports_from base (map Some args) → (o : Origin) → name_in scope o ≡ name_of args base (names_in scope) o
+pub names_same : (scope : Scope) (args : List Kind) (base : ℕ) → scope.args ≡ ports_from base (map Some args) → (o : Origin) →
+    name_in scope o ≡ name_of args base (names_in scope) o
 names_same scope args base e (Arg k) = ap (λ (p : Port). p.name) (argument_is scope args base k e)
 names_same scope args base e (Out n p) = refl
 
@@ -72,7 +73,8 @@ module _ (x : NodeTree) (scope after : Scope) (next : ℕ)
   names_after = λ i n p. name_after n p i
 
   pub kind_known : (n p : ℕ) → kind_in after (Out n p) ≡ (if id_of x == n then joined (slice_get (output_kinds x) p) else kind_in scope (Out n p))
-  kind_known n p = ap (λ (q : Port). q.kind) (outputs n p ∙ ap (λ t. if t then port_at (node_ports next x) p else port_in scope (Out n p)) (equal_back n (id_of x))) ∙ by_node x n p
+  kind_known n p = ap (λ (q : Port). q.kind) (outputs n p ∙ ap (λ t. if t then port_at (node_ports next x) p else port_in scope (Out n p)) (equal_back n (id_of x)))
+      ∙ by_node x n p
     where
       by_node : (y : NodeTree) (n p : ℕ) → (if id_of y == n then port_at (node_ports next y) p else port_in scope (Out n p)).kind
           ≡ (if id_of y == n then joined (slice_get (output_kinds y) p) else kind_in scope (Out n p))
@@ -111,7 +113,8 @@ module _ (scope : Scope) (nothing : (n p : ℕ) → port_in scope (Out n p) ≡ 
   begin_names (region args nodes results) ns e base next f n p =
       ap (λ zs. nodes_named zs next (names_in scope) n p) e ∙ ap (λ names. nodes_named nodes next names n p) nothing_named ∙ ap (λ m. nodes_named nodes m no_names n p) f
 
-  pub begin_kinds : (r : RegionTree) (ns : NodeTrees) → ns ≡ nodes_in r → (base n p : ℕ) → kind_after ns n p (kind_in scope (Out n p)) ≡ (region_port base r (Out n p)).kind
+  pub begin_kinds : (r : RegionTree) (ns : NodeTrees) → ns ≡ nodes_in r → (base n p : ℕ) →
+      kind_after ns n p (kind_in scope (Out n p)) ≡ (region_port base r (Out n p)).kind
   begin_kinds (region args nodes results) ns e base n p =
       ap (λ zs. kind_after zs n p (kind_in scope (Out n p))) e ∙ ap (λ (q : Port). kind_after nodes n p q.kind) (nothing n p)
 

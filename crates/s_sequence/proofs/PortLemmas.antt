@@ -48,7 +48,8 @@ listed_at n (k ∷ ks) (suc p) =
     ap (found_at (slice_get (listed (name_after k n) ks) p)) (sym (one_value k ks n)) ∙ listed_at (name_after k n) ks p
     ∙ ap (λ m. record { name = m; kind = joined (slice_get ks p) }) (one_value k (take p ks) n)
 
-pub port_of_kinds : (first : ℕ) (ks : List (Option Kind)) (p : ℕ) → port_at (ports_from first ks) p ≡ record { name = first + values_in (take p ks); kind = joined (slice_get ks p) }
+pub port_of_kinds : (first : ℕ) (ks : List (Option Kind)) (p : ℕ) →
+    port_at (ports_from first ks) p ≡ record { name = first + values_in (take p ks); kind = joined (slice_get ks p) }
 port_of_kinds first ks p =
     ap (λ ls. found_at (slice_get ls p) (ports_from first ks).end) (added_list (no_ports first) ks)
     ∙ ap (found_at (slice_get (listed first ks) p)) (added_end (no_ports first) ks) ∙ listed_at first ks p

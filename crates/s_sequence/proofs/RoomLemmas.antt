@@ -18,7 +18,8 @@ pub loop_room : (r : RegionTree) → value_args (args_of r) ≤ length (args_of 
 loop_room r = args_length (args_of r)
 
 -- the results of a region, whatever their kinds, have names after those of its nodes
-pub exits_room : (r : RegionTree) (results : List Origin) (f : Origin → Option Kind) → results ≡ results_of r → values_in (map f results) + region_names r < region_values r
+pub exits_room : (r : RegionTree) (results : List Origin) (f : Origin → Option Kind) → results ≡ results_of r →
+    values_in (map f results) + region_names r < region_values r
 exits_room (region args nodes rs) results f e =
     omega (arith, values_length (map f results), length-map results f, ap length e, args_length args, nodes_names_values nodes)
 

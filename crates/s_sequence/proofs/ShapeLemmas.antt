@@ -25,12 +25,15 @@ use Rattle.s_sequence.specs.Written.{HasRoom, region_labels, region_code, region
 use Rattle.s_sequence.proofs.LabelLemmas.{region_labels_values}
 use Rattle.s_sequence.proofs.Instrs.{regions_of_well_formed}
 
-last_known : (args ks : List Kind) (r : RegionTree) (rs : RegionTrees) → all_regions (λ s. same (args_of s) args && are (result_kinds s) ks) (region_then r rs) ≡ true → last_kinds r rs ≡ map Some ks
+last_known : (args ks : List Kind) (r : RegionTree) (rs : RegionTrees) → all_regions (λ s. same (args_of s) args && are (result_kinds s) ks) (region_then r rs) ≡ true →
+    last_kinds r rs ≡ map Some ks
 last_known args ks r no_regions e = are_kinds (result_kinds r) ks (and_parts (same (args_of r) args) (are (result_kinds r) ks) (and_parts _ true e).0).1
 last_known args ks r (region_then s rs) e =
-    last_known args ks s rs (and_parts (same (args_of r) args && are (result_kinds r) ks) (all_regions (λ s. same (args_of s) args && are (result_kinds s) ks) (region_then s rs)) e).1
+    last_known args ks s rs (and_parts (same (args_of r) args && are (result_kinds r) ks)
+    (all_regions (λ s. same (args_of s) args && are (result_kinds s) ks) (region_then s rs)) e).1
 
-first_known : (args ks : List Kind) (r : RegionTree) (rs : RegionTrees) → all_regions (λ s. same (args_of s) args && are (result_kinds s) ks) (region_then r rs) ≡ true → result_kinds r ≡ map Some ks
+first_known : (args ks : List Kind) (r : RegionTree) (rs : RegionTrees) → all_regions (λ s. same (args_of s) args && are (result_kinds s) ks) (region_then r rs) ≡ true →
+    result_kinds r ≡ map Some ks
 first_known args ks r rs e =
     are_kinds (result_kinds r) ks
     (and_parts (same (args_of r) args) (are (result_kinds r) ks) (and_parts _ (all_regions (λ s. same (args_of s) args && are (result_kinds s) ks) rs) e).0).1
@@ -48,16 +51,20 @@ shape_is args before id op inputs no_regions a b c = tt
 shape_is args before id op inputs (region_then r rs) a b c = absurd (cc)
 
 module _ (objects : ℕ) where
-  own_shape : (args : List Kind) (before : NodeTrees) (id : ℕ) (op : Op) (inputs : List Origin) (rs : RegionTrees) → node_fits objects args before (node id op inputs rs) ≡ true → HasShape op inputs rs
+  own_shape : (args : List Kind) (before : NodeTrees) (id : ℕ) (op : Op) (inputs : List Origin) (rs : RegionTrees) →
+      node_fits objects args before (node id op inputs rs) ≡ true → HasShape op inputs rs
   own_shape args before id op inputs rs e =
       let x : NodeTree = node id op inputs rs in
       let six = (and_parts _ (theta_has_states x) (and_parts _ (has_its_width x) (and_parts _ (has_its_object objects x) e).0).0).0 in
       let fit : regions_fit x ≡ true =
       (and_parts (inputs_fit args before x && inputs_are_last args before x && node_has_one_state_each args before x && has_its_regions x) (regions_fit x) six).1 in
-      let five = (and_parts (inputs_fit args before x && inputs_are_last args before x && node_has_one_state_each args before x && has_its_regions x) (regions_fit x) six).0 in
-      let has : has_its_regions x ≡ true = (and_parts (inputs_fit args before x && inputs_are_last args before x && node_has_one_state_each args before x) (has_its_regions x) five).1 in
+      let five = (and_parts (inputs_fit args before x && inputs_are_last args before x && node_has_one_state_each args before x && has_its_regions x)
+      (regions_fit x) six).0 in
+      let has : has_its_regions x ≡ true = (and_parts (inputs_fit args before x && inputs_are_last args before x && node_has_one_state_each args before x)
+      (has_its_regions x) five).1 in
       let inputs_are : inputs_fit args before x ≡ true =
-      (and_parts (inputs_fit args before x) (inputs_are_last args before x) (and_parts (inputs_fit args before x && inputs_are_last args before x) (node_has_one_state_each args before x)
+      (and_parts (inputs_fit args before x) (inputs_are_last args before x)
+      (and_parts (inputs_fit args before x && inputs_are_last args before x) (node_has_one_state_each args before x)
       (and_parts (inputs_fit args before x && inputs_are_last args before x && node_has_one_state_each args before x) (has_its_regions x) five).0).0).0 in
       shape_is args before id op inputs rs inputs_are has fit
 
@@ -70,15 +77,18 @@ module _ (objects : ℕ) where
         (and_parts _ (returns_state Io (region args nodes results)) (and_parts _ (region_has_one_state_each (region args nodes results)) here).0).0).0).0
         (and_parts (region_fits objects (region args nodes results)) _ e).1
 
-    node_is_shaped : (args : List Kind) (before : NodeTrees) (x : NodeTree) → node_fits objects args before x ≡ true → every_in_node (region_fits objects) x ≡ true → NodeShaped x
+    node_is_shaped : (args : List Kind) (before : NodeTrees) (x : NodeTree) → node_fits objects args before x ≡ true →
+        every_in_node (region_fits objects) x ≡ true → NodeShaped x
     node_is_shaped args before (node id op inputs rs) e inside = (own_shape args before id op inputs rs e, regions_are_shaped rs inside)
 
     nodes_are_shaped : (args : List Kind) (before : List NodeTree) (ns : NodeTrees) → each_node (node_fits objects args) before ns ≡ true →
         every_in_nodes (region_fits objects) ns ≡ true → NodesShaped ns
     nodes_are_shaped args before no_nodes e inside = tt
     nodes_are_shaped args before (node_then x xs) e inside = (
-      node_is_shaped args (nodes_of before) x (and_parts (node_fits objects args (nodes_of before) x) _ e).0 (and_parts (every_in_node (region_fits objects) x) _ inside).0,
-      nodes_are_shaped args (before ++ x ∷ []) xs (and_parts (node_fits objects args (nodes_of before) x) _ e).1 (and_parts (every_in_node (region_fits objects) x) _ inside).1,
+      node_is_shaped args (nodes_of before) x (and_parts (node_fits objects args (nodes_of before) x) _ e).0
+          (and_parts (every_in_node (region_fits objects) x) _ inside).0,
+      nodes_are_shaped args (before ++ x ∷ []) xs (and_parts (node_fits objects args (nodes_of before) x) _ e).1
+          (and_parts (every_in_node (region_fits objects) x) _ inside).1,
     )
 
     regions_are_shaped : (rs : RegionTrees) → every_in_regions (region_fits objects) rs ≡ true → RegionsShaped rs
@@ -101,11 +111,14 @@ value_is (region args nodes rs) scope ports =
 
 -- the lines of a body after those that enter, and the line that leaves
 pub body_written : (r : RegionTree) (scope : Scope) (value : ℕ) (w1 w2 w3 : PlainWriter) (heads : List Line) → w1 ≡ record { lines = heads; next = 0; label = 0 } →
-    ((k : Code) → w2.lines ++ code_lines w2.label k ≡ w1.lines ++ code_lines w1.label (region_code w1.next r k)) → ((o : Origin) → port_in scope o ≡ region_port w1.next r o) →
-    value ≡ name_at (map (name_in scope) (results_of r)) 0 → w3 ≡ with_lines w2 (leave value ∷ []) → w3.lines ≡ (heads ++ code_lines 0 (body_code r)) ++ leave (value_name r) ∷ []
+    ((k : Code) → w2.lines ++ code_lines w2.label k ≡ w1.lines ++ code_lines w1.label (region_code w1.next r k)) →
+    ((o : Origin) → port_in scope o ≡ region_port w1.next r o) →
+    value ≡ name_at (map (name_in scope) (results_of r)) 0 → w3 ≡ with_lines w2 (leave value ∷ []) → w3.lines ≡ (heads ++ code_lines 0 (body_code r))
+    ++ leave (value_name r) ∷ []
 body_written r scope value w1 w2 w3 heads begins body ports e f =
     let own : w2.lines ≡ heads ++ code_lines 0 (body_code r) =
-    sym (append-nil w2.lines) ∙ body no_steps ∙ ap (λ (w : PlainWriter). w.lines ++ code_lines w.label (region_code w.next r no_steps)) begins ∙ ap (λ c. heads ++ code_lines 0 c) (body_is r) in
+    sym (append-nil w2.lines) ∙ body no_steps ∙ ap (λ (w : PlainWriter). w.lines ++ code_lines w.label (region_code w.next r no_steps)) begins
+    ∙ ap (λ c. heads ++ code_lines 0 c) (body_is r) in
     let named : value ≡ value_name r = e ∙ value_is r scope (λ o. ports o ∙ ap (λ (w : PlainWriter). region_port w.next r o) begins) in
     ap (λ (w : PlainWriter). w.lines) f ∙ ap (λ ls. ls ++ leave value ∷ []) own ∙ ap (λ v. (heads ++ code_lines 0 (body_code r)) ++ leave v ∷ []) named
 

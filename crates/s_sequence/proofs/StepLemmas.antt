@@ -25,11 +25,14 @@ choice_from next rs [] = plain (undef 0)
 choice_from next rs (p ∷ entries) = choice p (branch_codes entries (outputs_at next rs) (bases next (values_in (outputs_of Gamma rs)) rs) rs)
 
 module _ (scope : Scope) (old new : PlainWriter) where
-  same : (inputs : List Origin) (args : List Kind) (base : ℕ) → scope.args ≡ ports_from base (map Some args) → map (name_in scope) inputs ≡ map (name_of args base (names_in scope)) inputs
+  same : (inputs : List Origin) (args : List Kind) (base : ℕ) → scope.args ≡ ports_from base (map Some args) →
+      map (name_in scope) inputs ≡ map (name_of args base (names_in scope)) inputs
   same inputs args base h = λ i. map (λ o. names_same scope args base h o i) inputs
 
-  pub gamma_written : (id : ℕ) (inputs : List Origin) (rs : RegionTrees) (names : List ℕ) (predicate : ℕ) (entries : List ℕ) → names ≡ map (name_in scope) inputs → names ≡ predicate ∷ entries →
-      new.lines ≡ old.lines ++ step_lines old.label (choice predicate (branch_codes entries (outputs_at old.next rs) (bases old.next (values_in (outputs_of Gamma rs)) rs) rs)) →
+  pub gamma_written : (id : ℕ) (inputs : List Origin) (rs : RegionTrees) (names : List ℕ) (predicate : ℕ) (entries : List ℕ) → names ≡ map (name_in scope) inputs →
+      names ≡ predicate ∷ entries →
+      new.lines ≡ old.lines ++ step_lines old.label (choice predicate
+      (branch_codes entries (outputs_at old.next rs) (bases old.next (values_in (outputs_of Gamma rs)) rs) rs)) →
       StepWritten old new scope (node id Gamma inputs rs)
   gamma_written id [] rs names predicate entries e f g args base h = let none : [] ≡ predicate ∷ entries = sym e ∙ f in absurd (cc)
   gamma_written id (p ∷ es) rs names predicate entries e f g args base h =
@@ -40,7 +43,8 @@ module _ (scope : Scope) (old new : PlainWriter) where
       StepWritten old new scope (node id Theta inputs (region_then r no_regions))
   theta_written id inputs r names e g args base h = g ∙ ap (λ zs. old.lines ++ step_lines old.label (loop_step zs old.next r)) (e ∙ same inputs args base h)
 
-  pub plain_written : (id : ℕ) (op : Op) (inputs : List Origin) → (op ≡ Gamma → ⊥) → new.lines ≡ old.lines ++ done (op_instr op old.next (map (name_in scope) inputs)) ∷ [] →
+  pub plain_written : (id : ℕ) (op : Op) (inputs : List Origin) → (op ≡ Gamma → ⊥) →
+      new.lines ≡ old.lines ++ done (op_instr op old.next (map (name_in scope) inputs)) ∷ [] →
       StepWritten old new scope (node id op inputs no_regions)
   plain_written id op inputs other g args base h =
       g ∙ ap (λ zs. old.lines ++ done (op_instr op old.next zs) ∷ []) (same inputs args base h) ∙ ap (λ s. old.lines ++ step_lines old.label s)
@@ -62,9 +66,11 @@ no_region Theta inputs rs g t h = absurd (t refl)
 no_region op inputs no_regions g t h = refl
 no_region op inputs (region_then r rs) g t h = absurd h
 
-pub plain_node : (x : NodeTree) (id : ℕ) (op : Op) (inputs : List Origin) (rs : RegionTrees) → node id op inputs rs ≡ x → (op ≡ Gamma → ⊥) → (op ≡ Theta → ⊥) → NodeShaped x →
+pub plain_node : (x : NodeTree) (id : ℕ) (op : Op) (inputs : List Origin) (rs : RegionTrees) → node id op inputs rs ≡ x → (op ≡ Gamma → ⊥) →
+    (op ≡ Theta → ⊥) → NodeShaped x →
     node id op inputs no_regions ≡ x
-plain_node x id op inputs rs e g t h = let own : NodeShaped (node id op inputs rs) = subst NodeShaped (sym e) h in ap (node id op inputs) (no_region op inputs rs g t own.0) ∙ e
+plain_node x id op inputs rs e g t h = let own : NodeShaped (node id op inputs rs) = subst NodeShaped (sym e) h in
+    ap (node id op inputs) (no_region op inputs rs g t own.0) ∙ e
 
 plain_outputs : (op : Op) → outputs_of op no_regions ≡ map Some (op_outputs op)
 plain_outputs op = by_op op

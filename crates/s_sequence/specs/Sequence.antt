@@ -162,7 +162,8 @@ abbrev mutual
   branch_code entries outputs base (region args nodes results) =
       instrs_then (moves base (kept (map Some args) entries))
       (nodes_code args base no_names (base + value_args args) nodes
-      (instrs_then (moves outputs (kept (result_kinds (region args nodes results)) (map (name_of args base (nodes_named nodes (base + value_args args) no_names)) results)))
+      (instrs_then (moves outputs (kept (result_kinds (region args nodes results))
+      (map (name_of args base (nodes_named nodes (base + value_args args) no_names)) results)))
       no_steps))
 
   -- a loop: its outputs are named after its nodes

@@ -14,7 +14,8 @@ loop-number-preserved c =
     let first = c.args.first in
     let e = c.in_ok-push.ensures in
     record {
-      lines = one_more c.loop-number.w.lines c.push.new.self.lines (branch_lines p (i + 1) first (n - (i + 1))) (branch_lines p i first (n - i)) _ (branch_equal p i (first + i))
+      lines = one_more c.loop-number.w.lines c.push.new.self.lines (branch_lines p (i + 1) first (n - (i + 1))) (branch_lines p i first (n - i)) _
+          (branch_equal p i (first + i))
           (ap (λ (w : PlainWriter). w.lines) e) (branch_more p i first n c.loop-number-test.true) c.loop-number.invariant.lines;
       next = ap (λ (w : PlainWriter). w.next) e ∙ c.loop-number.invariant.next;
       label = ap (λ (w : PlainWriter). w.label) e ∙ c.loop-number.invariant.label;

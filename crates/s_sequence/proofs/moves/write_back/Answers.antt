@@ -14,7 +14,8 @@ loop-i-preserved c =
     let s = c.args.source in
     let e = c.in_ok-push_move.ensures in
     record {
-      lines = one_more c.loop-i.w.lines c.push_move.new.self.lines (map done (moves (t + (i + 1)) (numbers_from (s + (i + 1)) (n - (i + 1))))) (map done (moves (t + i) (numbers_from (s + i) (n - i))))
+      lines = one_more c.loop-i.w.lines c.push_move.new.self.lines (map done (moves (t + (i + 1)) (numbers_from (s + (i + 1)) (n - (i + 1)))))
+          (map done (moves (t + i) (numbers_from (s + i) (n - i))))
           _ (done (move (t + i) (s + i))) (ap (λ (w : PlainWriter). w.lines) e) (back_more t s i n c.loop-i-test.true) c.loop-i.invariant.lines;
       next = ap (λ (w : PlainWriter). w.next) e ∙ c.loop-i.invariant.next;
       label = ap (λ (w : PlainWriter). w.label) e ∙ c.loop-i.invariant.label;

@@ -7,7 +7,8 @@ use Rattle.s_sequence.proofs.moves.write_exits.Given as goal
 
 abbrev pub invariant-loop-result : goal.invariant-loop-result
 invariant-loop-result l = record {
-  lines : l.w.lines ++ map done (moves l.outputs.end (kept (map (kind_in l.scope) (drop l.result-index l.results)) (map (name_in l.scope) (drop l.result-index l.results))))
+  lines : l.w.lines ++ map done (moves l.outputs.end
+      (kept (map (kind_in l.scope) (drop l.result-index l.results)) (map (name_in l.scope) (drop l.result-index l.results))))
       ≡ l.fn.w.lines ++ map done (moves l.first (kept (map (kind_in l.scope) l.results) (map (name_in l.scope) l.results)));
   next : l.w.next ≡ l.fn.w.next;
   label : l.w.label ≡ l.fn.w.label;

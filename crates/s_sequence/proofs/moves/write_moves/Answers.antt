@@ -18,7 +18,8 @@ loop-i-preserved c =
           let e = ap (λ (v : PlainWriter). v.lines) (w.w-is) ∙ ap (λ (v : PlainWriter). v.lines) w.in_ok-target.ensures.lines in
           let f = w.target-is ∙ w.in_ok-target.ensures.next in
           record {
-            lines = moves_more kinds sources i c.loop-i.w.lines c.if-i-sources.w.lines _ c.loop-i.target c.if-i-sources.target c.loop-i-test.true w.if-i-sources.true e f inv.lines;
+            lines = moves_more kinds sources i c.loop-i.w.lines c.if-i-sources.w.lines _ c.loop-i.target c.if-i-sources.target c.loop-i-test.true w.if-i-sources.true e f
+                inv.lines;
             next = ap (λ (v : PlainWriter). v.next) w.w-is ∙ ap (λ (v : PlainWriter). v.next) w.in_ok-target.ensures.lines ∙ inv.next;
             label = ap (λ (v : PlainWriter). v.label) w.w-is ∙ ap (λ (v : PlainWriter). v.label) w.in_ok-target.ensures.lines ∙ inv.label;
             room = omega (arith, room_more kinds sources i c.loop-i.target c.if-i-sources.target c.loop-i-test.true f, inv.room);

@@ -54,9 +54,11 @@ write_nodes-loop-node-init t c =
     let here : c.w.inside.next ≡ base = ap next_of c.w.view_is in
     let args : c.in_ok-args.args ≡ ports_from base (map Some (args_of r)) =
     c.in_ok-args.ensures ∙ ap (λ n. ports_from n (map Some c.deref.result.now)) here ∙ ap (λ ks. ports_from base (map Some ks)) e in
-    let next : c.args-2.inside.end ≡ base + value_args (args_of r) = ap (λ (p : PlainPorts). p.end) c.args-2.view_is ∙ ports_end c.in_ok-args.args base (map Some (args_of r)) args in
+    let next : c.args-2.inside.end ≡ base + value_args (args_of r) = ap (λ (p : PlainPorts). p.end) c.args-2.view_is
+    ∙ ports_end c.in_ok-args.args base (map Some (args_of r)) args in
     record {
-      lines = λ k. ap (λ (w : PlainWriter). w.lines ++ code_lines w.label (nodes_code (args_of r) base (names_in scope) c.args-2.inside.end (nodes_of c.deref-node-items.result.now) k)) c.w.view_is
+      lines = λ k. ap (λ (w : PlainWriter). w.lines ++ code_lines w.label
+          (nodes_code (args_of r) base (names_in scope) c.args-2.inside.end (nodes_of c.deref-node-items.result.now) k)) c.w.view_is
           ∙ ap (λ z. c.args.w.now.lines ++ code_lines c.args.w.now.label z) (begin_code scope c.new-scope.ensures.outputs r _ ns base c.args-2.inside.end next k);
       next = omega (arith, next, region_names_are r _ ns);
       label = omega (arith, ap label_of c.w.view_is, region_labels_are r _ ns);
@@ -97,7 +99,8 @@ write_nodes-loop-node-preserved t c =
       next = omega (arith, given.next, ap nodes_names more, inv.next);
       label = omega (arith, given.label, ap nodes_labels more, inv.label);
       args = c.in_ok-add.ensures.args ∙ inv.args;
-      names = λ n p. ap (λ m. nodes_named ns m (names_in after) n p) given.next ∙ ap (λ names. nodes_named ns (n0 + node_names x) names n p) (names_after x scope after n0 outputs)
+      names = λ n p. ap (λ m. nodes_named ns m (names_in after) n p) given.next
+          ∙ ap (λ names. nodes_named ns (n0 + node_names x) names n p) (names_after x scope after n0 outputs)
           ∙ ap (λ zs. nodes_named zs n0 (names_in scope) n p) (sym more) ∙ inv.names n p;
       kinds = λ n p. ap (kind_after ns n p) (kind_known x scope after n0 outputs n p) ∙ ap (λ zs. kind_after zs n p (kind_in scope (Out n p))) (sym more) ∙ inv.kinds n p;
       shaped = shaped.1;
@@ -151,10 +154,12 @@ write_first-returns-clause-lines t c =
     let e : results ≡ results_of r = c.deref.ensures.value ∙ ap results_of c.region.view_is in
     let n : c.w.inside.next ≡ w.next + region_names r = ap next_of c.w.view_is ∙ c.in_ok-scope.ensures.next in
     ap lines_of c.w-2.view_is
-    ∙ branch_written w.next scope r results e c.in_ok-scope.ensures.scope c.args.entries.now (w.next + region_names r) w.label c.write_entered.new.w.label w.lines c.write_entered.new.w.lines
+    ∙ branch_written w.next scope r results e c.in_ok-scope.ensures.scope c.args.entries.now (w.next + region_names r) w.label c.write_entered.new.w.label w.lines
+    c.write_entered.new.w.lines
     c.write_exits.new.w.lines
     c.in_ok-scope.ensures.lines
-    (ap lines_of c.in_ok-outputs.ensures.lines ∙ ap (λ m. lines_of (with_lines c.write_entered.new.w (map done (moves m (kept (map (kind_in scope) results) (map (name_in scope) results)))))) n)
+    (ap lines_of c.in_ok-outputs.ensures.lines ∙ ap (λ m. lines_of
+    (with_lines c.write_entered.new.w (map done (moves m (kept (map (kind_in scope) results) (map (name_in scope) results)))))) n)
 
 pub write_first-returns-clause-next : goal.write_first-returns-clause-next
 write_first-returns-clause-next t c =
@@ -186,8 +191,10 @@ write_other-returns-clause-lines t c =
     let scope = c.in_ok-scope.scope in
     let results = c.deref.result.now in
     let e : results ≡ results_of r = c.deref.ensures.value ∙ ap results_of c.region.view_is in
-    let heads : two ≡ with_lines (with_lines w (jump c.args.end ∷ [])) (label c.args.label ∷ []) = c.in_ok-push-2.ensures ∙ ap (λ v. with_lines v (label c.args.label ∷ [])) c.in_ok-push.ensures in
-    branch_written two.next scope r results e c.in_ok-scope.ensures.scope c.args.entries.now c.args.outputs two.label c.write_entered.new.w.label two.lines c.write_entered.new.w.lines
+    let heads : two ≡ with_lines (with_lines w (jump c.args.end ∷ [])) (label c.args.label ∷ []) =
+    c.in_ok-push-2.ensures ∙ ap (λ v. with_lines v (label c.args.label ∷ [])) c.in_ok-push.ensures in
+    branch_written two.next scope r results e c.in_ok-scope.ensures.scope c.args.entries.now c.args.outputs two.label c.write_entered.new.w.label two.lines
+    c.write_entered.new.w.lines
     c.write_exits.new.w.lines
     c.in_ok-scope.ensures.lines (ap lines_of c.in_ok-write_exits.ensures.lines)
     ∙ ap (λ (v : PlainWriter). v.lines ++ code_lines v.label (branch_code c.args.entries.now c.args.outputs v.next r)) heads
@@ -260,7 +267,10 @@ write_cases-write_others-requires t c =
       (
         c.requires.shaped.1,
         (
-          record { for_names = omega (arith, given.next, standing_room r, c.requires.room.for_names); for_labels = omega (arith, given.label, c.requires.room.for_labels) },
+          record {
+            for_names = omega (arith, given.next, standing_room r, c.requires.room.for_names);
+            for_labels = omega (arith, given.label, c.requires.room.for_labels);
+          },
           (c.requires.labels, omega (arith, first, given.next)),
         ),
       ),
@@ -274,9 +284,11 @@ write_cases-returns-clause-lines t c =
     let first : c.outputs.inside.first ≡ w.next + region_names r =
     ap (λ (p : PlainPorts). p.first) c.outputs.view_is ∙ ports_first c.in_ok-outputs.outputs (w.next + region_names r) (result_kinds r) given.outputs in
     let end = c.args.first + length c.args.others.now in
-    cases_written c.args.entries.now c.args.first w.label w.next (values_in (result_kinds r)) r (regions_of c.args.others.now) w.lines c.write_first.new.w.lines c.write_others.new.w.lines
+    cases_written c.args.entries.now c.args.first w.label w.next (values_in (result_kinds r)) r (regions_of c.args.others.now) w.lines c.write_first.new.w.lines
+    c.write_others.new.w.lines
     c.push.new.self.lines
-    c.outputs.inside.first c.write_first.new.w.label c.write_first.new.w.next end first given.label given.next (ap (λ n. c.args.first + n) (sym (count_is c.args.others.now))) given.lines
+    c.outputs.inside.first c.write_first.new.w.label c.write_first.new.w.next end first given.label given.next
+    (ap (λ n. c.args.first + n) (sym (count_is c.args.others.now))) given.lines
     c.in_ok-write_others.ensures.lines (ap lines_of c.in_ok-push.ensures)
 
 pub write_choice-overflow_cast-count : goal.write_choice-overflow_cast-count
@@ -298,10 +310,12 @@ write_choice-returns-then-regions-eq2-clause-lines t c =
     let heads : c.push.new.self.lines ≡ w.lines ++ branch_not_zero c.args.predicate w.label ∷ [] =
     ap lines_of pushed ∙ ap (λ (v : PlainWriter). v.lines ++ branch_not_zero c.args.predicate v.label ∷ []) c.w.view_is in
     on_ok_weaker c.write_cases.result
-    (λ h. two_written xs ys r two.0 two.1 two.2 shaped.0 c.args.entries.now c.args.predicate w.label w.next w.lines c.push.new.self.lines c.write_cases.new.w.lines c.push.new.self.label
+    (λ h. two_written xs ys r two.0 two.1 two.2 shaped.0 c.args.entries.now c.args.predicate w.label w.next w.lines c.push.new.self.lines c.write_cases.new.w.lines
+    c.push.new.self.label
     c.push.new.self.next
     (ap label_of pushed ∙ ap (λ n. n + length xs) label) (ap next_of pushed ∙ ap next_of c.w.view_is) heads
-    (h ∙ ap (λ m. c.push.new.self.lines ++ cases_lines c.args.entries.now m c.push.new.self.label c.push.new.self.next r (values_in (result_kinds r)) (regions_of ys)) label))
+    (h ∙ ap (λ m. c.push.new.self.lines ++ cases_lines c.args.entries.now m c.push.new.self.label c.push.new.self.next r (values_in (result_kinds r)) (regions_of ys))
+    label))
     c.write_cases.ensures.lines
 
 pub write_choice-write_branches-requires : goal.write_choice-write_branches-requires
@@ -344,9 +358,11 @@ write_choice-returns-in_ok-write_branches-in-Some-clause-lines t c =
     let heads : mid.lines ≡ w.lines ++ branch_lines c.args.predicate 0 w.label (length xs - 1) =
     ap lines_of pushed ∙ ap (λ (v : PlainWriter). v.lines ++ branch_lines c.args.predicate 0 v.label (length xs - 1)) c.w.view_is in
     on_ok_weaker c.write_cases-in-Some.result
-    (λ h. many_written xs ys l parts other c.args.entries.now c.args.predicate w.label w.next c.requires.shape c.requires.shaped w.lines mid.lines c.write_cases-in-Some.new.w.lines mid.label mid.next
+    (λ h. many_written xs ys l parts other c.args.entries.now c.args.predicate w.label w.next c.requires.shape c.requires.shaped w.lines mid.lines
+    c.write_cases-in-Some.new.w.lines mid.label mid.next
     (ap label_of pushed ∙ ap (λ n. n + length xs) label) (ap next_of pushed ∙ ap next_of c.w.view_is) heads
-    (h ∙ ap (λ m. mid.lines ++ cases_lines c.args.entries.now m mid.label mid.next l (values_in (result_kinds l)) (regions_of ys)) label)) c.write_cases-in-Some.ensures.lines
+    (h ∙ ap (λ m. mid.lines ++ cases_lines c.args.entries.now m mid.label mid.next l (values_in (result_kinds l)) (regions_of ys)) label))
+    c.write_cases-in-Some.ensures.lines
 
 pub write_choice-returns-in_ok-write_branches-in-Some-clause-next : goal.write_choice-returns-in_ok-write_branches-in-Some-clause-next
 write_choice-returns-in_ok-write_branches-in-Some-clause-next t c =
@@ -420,22 +436,27 @@ write_loop-returns-clause-lines t c =
     let first : c.w.inside.label ≡ w.label = ap label_of c.w.view_is in
     let moved : c.write_moves.new.w.lines ≡ w.lines ++ map done (moves w.next (kept (map Some args) entries)) =
     ap lines_of c.in_ok-write_moves.ensures ∙ ap (λ (v : PlainWriter). v.lines ++ map done (moves v.next (kept (map Some args) entries))) c.w.view_is in
-    let marked : c.push.new.self.lines ≡ c.write_moves.new.w.lines ++ label w.label ∷ [] = ap lines_of c.in_ok-push.ensures ∙ ap (λ n. c.write_moves.new.w.lines ++ label n ∷ []) first in
+    let marked : c.push.new.self.lines ≡ c.write_moves.new.w.lines ++ label w.label ∷ [] =
+    ap lines_of c.in_ok-push.ensures ∙ ap (λ n. c.write_moves.new.w.lines ++ label n ∷ []) first in
     let label_is : c.push.new.self.label ≡ w.label + 2 = ap label_of c.in_ok-push.ensures ∙ ap label_of c.in_ok-write_moves.ensures ∙ ap (λ n. n + 2) first in
     let next_is : c.push.new.self.next ≡ w.next = ap next_of c.in_ok-push.ensures ∙ ap next_of c.in_ok-write_moves.ensures ∙ base in
-    let body : (k : Code) → c.write_nodes.new.w.lines ++ code_lines c.write_nodes.new.w.label k ≡ c.push.new.self.lines ++ code_lines (w.label + 2) (region_code w.next r k) = λ k.
+    let body : (k : Code) → c.write_nodes.new.w.lines ++ code_lines c.write_nodes.new.w.label k ≡ c.push.new.self.lines ++ code_lines (w.label + 2)
+    (region_code w.next r k) = λ k.
     c.in_ok-scope.ensures.lines k ∙ ap (λ m. c.push.new.self.lines ++ code_lines m (region_code c.push.new.self.next r k)) label_is
     ∙ ap (λ m. c.push.new.self.lines ++ code_lines (w.label + 2) (region_code m r k)) next_is in
     let ports = λ (o : Origin). c.in_ok-scope.ensures.scope o ∙ ap (λ m. region_port m r o) next_is in
     let n3 = c.write_nodes.new.w.next in
     let l3 = c.write_nodes.new.w.lines in
     let end : ℕ → ℕ → List Kind → List Line = λ m f ks.
-    ((l3 ++ map done (moves n3 (loop_results ks names))) ++ branch_zero (predicate_name names) (f + 1) ∷ map done (moves m (numbers_from n3 (value_args ks)))) ++ jump f ∷ label (f + 1) ∷ [] in
+    ((l3 ++ map done (moves n3 (loop_results ks names))) ++ branch_zero (predicate_name names) (f + 1) ∷ map done (moves m (numbers_from n3 (value_args ks)))) ++ jump f
+    ∷ label (f + 1) ∷ [] in
     on_ok_weaker c.write_turn.result
-    (λ h. loop_written r args results names scope a b d entries w.next w.label w.lines c.write_moves.new.w.lines c.push.new.self.lines l3 c.write_turn.new.w.lines c.write_nodes.new.w.label n3
+    (λ h. loop_written r args results names scope a b d entries w.next w.label w.lines c.write_moves.new.w.lines c.push.new.self.lines l3 c.write_turn.new.w.lines
+    c.write_nodes.new.w.label n3
     moved marked body
     (c.in_ok-scope.ensures.next ∙ ap (λ m. m + region_names r) next_is) ports
-    (h ∙ ap (λ m. end m c.w.inside.label c.deref-3.result.now) base ∙ ap (λ f. end w.next f c.deref-3.result.now) first ∙ ap (λ ks. end w.next w.label ks) same)) c.write_turn.ensures.lines
+    (h ∙ ap (λ m. end m c.w.inside.label c.deref-3.result.now) base ∙ ap (λ f. end w.next f c.deref-3.result.now) first ∙ ap (λ ks. end w.next w.label ks) same))
+    c.write_turn.ensures.lines
 
 -- ---- the step of a node
 
@@ -446,19 +467,23 @@ write_step-returns-in-Some-clause-lines t c =
     let scope = c.args.scope.now in
     let inputs = c.node.inside.inputs.items in
     let regions = c.deref-in-Some.result.now in
-    let names : c.deref.result.now ≡ map (name_in scope) inputs = c.deref.ensures.value ∙ c.in_ok-names-in-Gamma.ensures ∙ ap (map (name_in scope)) c.as_slice-inputs.ensures in
+    let names : c.deref.result.now ≡ map (name_in scope) inputs = c.deref.ensures.value ∙ c.in_ok-names-in-Gamma.ensures
+    ∙ ap (map (name_in scope)) c.as_slice-inputs.ensures in
     let x : node c.node.inside.id Gamma inputs (regions_of regions) ≡ c.args.node.now =
-    ap (node c.node.inside.id Gamma inputs) (ap regions_of c.deref-in-Some.ensures.value) ∙ ap (λ op. node c.node.inside.id op inputs (regions_of c.node.inside.regions.items)) (sym c.in-Gamma.is)
+    ap (node c.node.inside.id Gamma inputs) (ap regions_of c.deref-in-Some.ensures.value)
+    ∙ ap (λ op. node c.node.inside.id op inputs (regions_of c.node.inside.regions.items)) (sym c.in-Gamma.is)
     ∙ c.node.view_is in
     on_ok_weaker c.write_choice.result
     (λ h. subst (StepWritten w new scope) x
-    (gamma_written scope w new c.node.inside.id inputs (regions_of regions) c.deref.result.now c.in-Some.predicate.now c.in-Some.entries.now names c.in-Some.ensures.cases.0 h))
+    (gamma_written scope w new c.node.inside.id inputs (regions_of regions) c.deref.result.now c.in-Some.predicate.now c.in-Some.entries.now names
+    c.in-Some.ensures.cases.0 h))
     c.write_choice.ensures.lines
 
 abbrev theta_node : (id : ℕ) → List Origin → RegionTree → NodeTree
 theta_node id inputs r = node id Theta inputs (region_then r no_regions)
 
-theta_is : (x : NodeTree) (id : ℕ) (op : Op) (inputs : List Origin) (regions : List RegionTree) (r : RegionTree) → op ≡ Theta → node id op inputs (regions_of regions) ≡ x → NodeShaped x →
+theta_is : (x : NodeTree) (id : ℕ) (op : Op) (inputs : List Origin) (regions : List RegionTree) (r : RegionTree) → op ≡ Theta →
+    node id op inputs (regions_of regions) ≡ x → NodeShaped x →
     Some r ≡ slice_get regions 0 → theta_node id inputs r ≡ x
 theta_is x id op inputs regions r e f h g =
     let own : NodeShaped (node id Theta inputs (regions_of regions)) = subst NodeShaped (sym f ∙ ap (λ o. node id o inputs (regions_of regions)) e) h in
@@ -476,11 +501,13 @@ write_step-returns-in-Some-first-clause-lines t c =
     c.deref-in-Some-first.ensures.value ∙ c.in_ok-entries-in-Theta.ensures ∙ ap (map (name_in scope)) c.as_slice-inputs.ensures in
     let x = theta_is c.args.node.now id c.node.inside.op inputs c.node.inside.regions.items r c.in-Theta.is c.node.view_is c.requires.shaped
     (c.in-Some-first.ensures.value ∙ ap (λ xs. slice_get xs 0) c.deref-in-Theta.ensures.value) in
-    on_ok_weaker c.write_loop.result (λ h. subst (StepWritten w new scope) x (theta_written scope w new id inputs r c.deref-in-Some-first.result.now names h)) c.write_loop.ensures.lines
+    on_ok_weaker c.write_loop.result (λ h. subst (StepWritten w new scope) x (theta_written scope w new id inputs r c.deref-in-Some-first.result.now names h))
+    c.write_loop.ensures.lines
 
 pub write_step-returns-in-Some-first-clause-label : goal.write_step-returns-in-Some-first-clause-label
 write_step-returns-in-Some-first-clause-label t c =
-    let x = theta_is c.args.node.now c.node.inside.id c.node.inside.op c.node.inside.inputs.items c.node.inside.regions.items c.in-Some-first.region.now c.in-Theta.is c.node.view_is c.requires.shaped
+    let x = theta_is c.args.node.now c.node.inside.id c.node.inside.op c.node.inside.inputs.items c.node.inside.regions.items c.in-Some-first.region.now c.in-Theta.is
+    c.node.view_is c.requires.shaped
     (c.in-Some-first.ensures.value ∙ ap (λ xs. slice_get xs 0) c.deref-in-Theta.ensures.value) in
     on_ok_weaker c.write_loop.result (λ h. omega (arith, h, ap node_labels x)) c.write_loop.ensures.label
 
@@ -492,12 +519,14 @@ write_step-returns t c =
     let inputs = c.as_slice-inputs.result.now in
     let id = c.node.inside.id in
     let op = c.node.inside.op in
-    let e : node id op inputs (regions_of c.node.inside.regions.items) ≡ c.args.node.now = ap (λ os. node id op os (regions_of c.node.inside.regions.items)) c.as_slice-inputs.ensures
+    let e : node id op inputs (regions_of c.node.inside.regions.items) ≡ c.args.node.now =
+    ap (λ os. node id op os (regions_of c.node.inside.regions.items)) c.as_slice-inputs.ensures
     ∙ c.node.view_is in
     let x : node id op inputs no_regions ≡ c.args.node.now =
     plain_node c.args.node.now id op inputs (regions_of c.node.inside.regions.items) e c.in_default.not-Gamma c.in_default.not-Theta c.requires.shaped in
     record {
-      lines = on_ok_weaker c.write_plain.result (λ h. subst (StepWritten w new scope) x (plain_written scope w new id op inputs c.in_default.not-Gamma h)) c.write_plain.ensures.lines;
+      lines = on_ok_weaker c.write_plain.result (λ h. subst (StepWritten w new scope) x (plain_written scope w new id op inputs c.in_default.not-Gamma h))
+          c.write_plain.ensures.lines;
       next = on_ok_weaker c.write_plain.result (λ h. omega (arith, h, plain_names id op inputs, ap node_names x)) c.write_plain.ensures.next;
       label = on_ok_weaker c.write_plain.result (λ h. omega (arith, h, plain_labels id op inputs c.in_default.not-Theta, ap node_labels x)) c.write_plain.ensures.label;
       outputs = IfOk-weaker c.write_plain.result _ _ (λ p h. h ∙ sym (plain_ports id op inputs w.next) ∙ ap (node_ports w.next) x) c.write_plain.ensures.outputs;

@@ -42,7 +42,8 @@ decreases-write_loop l = 8 * region_values l.region.now + 1
 
 abbrev pub invariant-write_nodes-loop-node : goal.invariant-write_nodes-loop-node
 invariant-write_nodes-loop-node l = record {
-  lines : (k : Code) → l.w.lines ++ code_lines l.w.label (nodes_code (args_of l.region) l.fn.w.next (names_in l.scope) l.w.next (nodes_of (drop l.node-index l.node-items)) k)
+  lines : (k : Code) → l.w.lines ++ code_lines l.w.label
+      (nodes_code (args_of l.region) l.fn.w.next (names_in l.scope) l.w.next (nodes_of (drop l.node-index l.node-items)) k)
       ≡ l.fn.w.lines ++ code_lines l.fn.w.label (region_code l.fn.w.next l.region k);
   next : l.w.next + nodes_names (nodes_of (drop l.node-index l.node-items)) ≡ l.fn.w.next + region_names l.region;
   label : l.w.label + nodes_labels (nodes_of (drop l.node-index l.node-items)) ≡ l.fn.w.label + region_labels l.region;
