@@ -106,7 +106,8 @@ each_once : (f : ℕ → ℕ) (xs : List ℕ) (from n : ℕ)
     → length (flat_map (λ p. filter (λ x. f x == p) xs) (numbers_from from n)) ≤ length (filter (λ x. nat_le from (f x)) xs)
 each_once f xs from zero = zero-le
 each_once f xs from (suc n) =
-    let rest : length (flat_map (λ p. filter (λ x. f x == p) xs) (numbers_from (suc from) n)) ≤ length (filter (λ x. nat_le (suc from) (f x)) xs) = each_once f xs (suc from) n in
+    let rest : length (flat_map (λ p. filter (λ x. f x == p) xs) (numbers_from (suc from) n)) ≤ length (filter (λ x. nat_le (suc from) (f x)) xs) =
+    each_once f xs (suc from) n in
     let both = passing f from xs in
     rw length-append (omega (arith, rest, both))
 

@@ -31,4 +31,5 @@ loop-name-preserved c =
 pub returns-clause-starts : goal.returns-clause-starts
 returns-clause-starts c = λ ls p e h.
     c.loop-name.invariant.starts ls p e h
-    ∙ ap (λ n. filter (λ x. first x ls == p) (numbers_from 0 n)) (let all = length_spans ls c.args.spans.now e in omega (arith, all, c.loop-name-test.false, c.loop-name.auto.name-end))
+    ∙ ap (λ n. filter (λ x. first x ls == p) (numbers_from 0 n)) (let all = length_spans ls c.args.spans.now e in
+    omega (arith, all, c.loop-name-test.false, c.loop-name.auto.name-end))
