@@ -14,7 +14,8 @@ pub offsets_from-at : (at : ℕ) (os : List PlainObject) (k : ℕ) → k < lengt
 offsets_from-at at [] k h = absurd (omega arith)
 offsets_from-at at (o ∷ os) zero h = omega arith
 offsets_from-at at (o ∷ os) (suc k) h =
-    let rest : slice_index (offsets_from (at + object_room o) os) k ≡ at + object_room o + sum_by object_room (take k os) = offsets_from-at (at + object_room o) os k (omega arith) in
+    let rest : slice_index (offsets_from (at + object_room o) os) k ≡ at + object_room o + sum_by object_room (take k os) =
+    offsets_from-at (at + object_room o) os k (omega arith) in
     let sum : sum_by object_room (o ∷ take k os) ≡ object_room o + sum_by object_room (take k os) = sum_by-cons object_room o (take k os) in
     rest ∙ omega arith
 

@@ -253,7 +253,8 @@ register_below p t = location_below (slice_index p.of t) (nat_lt (slice_index p.
 fit_call : (b : Bool) → b ≡ true → (((b && true) && true) && true) ≡ true
 fit_call b h = rw h refl
 
-fit_instr : (fs gs : ℕ) (p : PlainPlaces) (i : linear.Instr) → has_its_callee fs i ≡ true → has_its_global gs i ≡ true → InstrPasses (item_fits fs gs) (λ i. refl) (fit_stub fs gs) p i
+fit_instr : (fs gs : ℕ) (p : PlainPlaces) (i : linear.Instr) → has_its_callee fs i ≡ true → has_its_global gs i ≡ true
+    → InstrPasses (item_fits fs gs) (λ i. refl) (fit_stub fs gs) p i
 fit_instr fs gs p (linear.call f t xs) c g = fit_call (nat_lt f fs) c
 fit_instr fs gs p (linear.global_address t k) c g =
     and_from (nat_lt k gs && true) (nat_lt (out_of (place_of p t)) 32) (and_from (nat_lt k gs) true g refl) (register_below p t)
@@ -288,4 +289,5 @@ selected_items_fit fs gs p os (line ∷ ls) c g =
     let callees = and_parts (does (has_its_callee fs) line) (all_of (does (has_its_callee fs)) ls) c in
     let globals = and_parts (does (has_its_global gs) line) (all_of (does (has_its_global gs)) ls) g in
     append_passes (item_fits fs gs) (λ i. refl) (fit_stub fs gs) (line_items p os line) (items_of p os ls)
-    (line_passes (item_fits fs gs) (λ i. refl) (fit_stub fs gs) p os line (fit_passes fs gs p line callees.0 globals.0)) (selected_items_fit fs gs p os ls callees.1 globals.1)
+    (line_passes (item_fits fs gs) (λ i. refl) (fit_stub fs gs) p os line (fit_passes fs gs p line callees.0 globals.0))
+    (selected_items_fit fs gs p os ls callees.1 globals.1)
