@@ -20,7 +20,8 @@ record FirstLeaf (size from : ℕ) (l : Leaf) (ls : List Leaf) : Type 0 where
 
 first_leaf : (size from : ℕ) (l : Leaf) (ls : List Leaf) → leaves_fit size from (l ∷ ls) ≡ true → FirstLeaf size from l ls
 first_leaf size from l ls h =
-    let last = and_parts (nat_le from l.offset && nat_le (l.offset + l.width) size && is_width l.width && (l.offset % l.width == 0)) (leaves_fit size (l.offset + l.width) ls) h in
+    let last = and_parts (nat_le from l.offset && nat_le (l.offset + l.width) size && is_width l.width && (l.offset % l.width == 0))
+    (leaves_fit size (l.offset + l.width) ls) h in
     let aligned = and_parts (nat_le from l.offset && nat_le (l.offset + l.width) size && is_width l.width) (l.offset % l.width == 0) last.0 in
     let width = and_parts (nat_le from l.offset && nat_le (l.offset + l.width) size) (is_width l.width) aligned.0 in
     let ends = and_parts (nat_le from l.offset) (nat_le (l.offset + l.width) size) width.0 in
@@ -115,5 +116,6 @@ globals_fit globals d g =
     (and_from (all_of (link_has_global globals) d.links) (all_of (link_is_within (length d.bytes)) d.links)
     (all_of_holds (link_fits globals d.leaves) (link_has_global globals) (λ k h. (and_parts _ (nat_lt k.delta globals) h).1) d.links g.links)
     (all_of_holds (link_fits globals d.leaves) (link_is_within (length d.bytes))
-    (λ k h. le-leb (k.at + 4) (length d.bytes) (inside (length d.bytes) 0 d.leaves k.at g.leaves (unfolded globals (length d.bytes) d.leaves g.leaves k h)).end) d.links g.links))
+    (λ k h. le-leb (k.at + 4) (length d.bytes) (inside (length d.bytes) 0 d.leaves k.at g.leaves (unfolded globals (length d.bytes) d.leaves g.leaves k h)).end)
+    d.links g.links))
     (links_apart globals (length d.bytes) d.leaves g.leaves d.links g.links g.apart)

@@ -96,7 +96,8 @@ unary_short Zext16 rd a = omega arith
 two_short : (l a b : Location) (code : ℕ → ℕ → ℕ → List Instr) → ((rd x y : ℕ) → length (code rd x y) ≤ 2) → length (t.with_two l a b code) ≤ 11
 two_short l a b code h =
     both (load_in t0 a ++ load_in t1 b ++ code (out_of l) (in_of a t0) (in_of b t1)) (store_out l) 8 3
-    (both (load_in t0 a ++ load_in t1 b) (code (out_of l) (in_of a t0) (in_of b t1)) 6 2 (both (load_in t0 a) (load_in t1 b) 3 3 (loaded t0 a) (loaded t1 b)) (h _ _ _)) (flushed l)
+    (both (load_in t0 a ++ load_in t1 b) (code (out_of l) (in_of a t0) (in_of b t1)) 6 2 (both (load_in t0 a) (load_in t1 b) 3 3 (loaded t0 a) (loaded t1 b)) (h _ _ _))
+    (flushed l)
 
 one_short : (l a : Location) (code : ℕ → ℕ → List Instr) (n : ℕ) → ((rd x : ℕ) → length (code rd x) ≤ n) → length (t.with_one l a code) ≤ 3 + n + 3
 one_short l a code n h =
@@ -131,7 +132,8 @@ restores_short (suc n) = omega (arith, length-append (t.restore_places n) (rv.Lw
 clear_short : (offset size : ℕ) → length (t.clear_code offset size) ≤ 9
 clear_short offset size =
     let words_size = (size + 3) / 4 * 4 in
-    both (load_immediate t0 offset ++ rv.Add t0 t0 sp ∷ load_immediate t1 words_size) (rv.Add t1 t1 t0 ∷ rv.Sw t0 x0 0 ∷ rv.Addi t0 t0 4 ∷ rv.Bltu t0 t1 (negative 8) ∷ []) 5 4
+    both (load_immediate t0 offset ++ rv.Add t0 t0 sp ∷ load_immediate t1 words_size)
+    (rv.Add t1 t1 t0 ∷ rv.Sw t0 x0 0 ∷ rv.Addi t0 t0 4 ∷ rv.Bltu t0 t1 (negative 8) ∷ []) 5 4
     (both (load_immediate t0 offset) (rv.Add t0 t0 sp ∷ load_immediate t1 words_size) 2 3 (immediate t0 offset) (omega (arith, immediate t1 words_size)))
     (omega arith)
 
@@ -159,7 +161,8 @@ size-cons : (i : Item) (is : List Item) → items_size (i ∷ is) ≡ item_size 
 size-cons i is = sum_by-cons item_size i is
 
 instr_short : (p : PlainPlaces) (os : List PlainObject) (i : linear.Instr) → items_size (t.instr_items p os i) ≤ instr_bytes i
-instr_short p os (linear.const x w) = words_short (t.with_none (place_of p x) (λ rd. load_immediate rd w)) 5 (none_short (place_of p x) (λ rd. load_immediate rd w) 2 (λ rd. immediate rd w))
+instr_short p os (linear.const x w) = words_short (t.with_none (place_of p x) (λ rd. load_immediate rd w)) 5
+    (none_short (place_of p x) (λ rd. load_immediate rd w) 2 (λ rd. immediate rd w))
 instr_short p os (linear.undef x) = omega arith
 instr_short p os (linear.object_address x n) =
     words_short (t.with_none (place_of p x) (λ rd. load_immediate t0 (object_at p.count os n) ++ rv.Add rd t0 sp ∷ [])) 6
@@ -168,8 +171,10 @@ instr_short p os (linear.object_address x n) =
 instr_short p os (linear.global_address x n) =
     omega (arith, size-cons (Address (out_of (place_of p x)) n) (words (store_out (place_of p x))), words_short (store_out (place_of p x)) 3 (flushed (place_of p x)))
 instr_short p os (linear.binary o x a b) =
-    words_short (t.with_two (place_of p x) (place_of p a) (place_of p b) (t.binary_code o)) 11 (two_short (place_of p x) (place_of p a) (place_of p b) (t.binary_code o) (binary_short o))
-instr_short p os (linear.unary o x a) = words_short (t.with_one (place_of p x) (place_of p a) (t.unary_code o)) 8 (one_short (place_of p x) (place_of p a) (t.unary_code o) 2 (unary_short o))
+    words_short (t.with_two (place_of p x) (place_of p a) (place_of p b) (t.binary_code o)) 11
+    (two_short (place_of p x) (place_of p a) (place_of p b) (t.binary_code o) (binary_short o))
+instr_short p os (linear.unary o x a) = words_short (t.with_one (place_of p x) (place_of p a) (t.unary_code o)) 8
+    (one_short (place_of p x) (place_of p a) (t.unary_code o) 2 (unary_short o))
 instr_short p os (linear.load width x a) =
     words_short (t.with_one (place_of p x) (place_of p a) (λ rd r. t.load_instr width rd r ∷ [])) 7
     (one_short (place_of p x) (place_of p a) (λ rd r. t.load_instr width rd r ∷ []) 1 (λ rd r. omega arith))
@@ -179,7 +184,8 @@ instr_short p os (linear.store width a v) =
     (both (load_in t0 (place_of p a)) (load_in t1 (place_of p v)) 3 3 (loaded t0 (place_of p a)) (loaded t1 (place_of p v))) (omega arith))
 instr_short p os (linear.clear n) = words_short (t.clear_code (object_at p.count os n) (t.size_of os n)) 9 (clear_short (object_at p.count os n) (t.size_of os n))
 instr_short p os (linear.equal_pointers x a b) =
-    words_short (t.with_two (place_of p x) (place_of p a) (place_of p b) (t.binary_code op.Eq)) 11 (two_short (place_of p x) (place_of p a) (place_of p b) (t.binary_code op.Eq) (binary_short op.Eq))
+    words_short (t.with_two (place_of p x) (place_of p a) (place_of p b) (t.binary_code op.Eq)) 11
+    (two_short (place_of p x) (place_of p a) (place_of p b) (t.binary_code op.Eq) (binary_short op.Eq))
 instr_short p os (linear.move x a) = words_short (t.move_code (place_of p x) (place_of p a)) 6 (move_short (place_of p x) (place_of p a))
 instr_short p os (linear.call f x xs) =
     omega (
@@ -206,7 +212,8 @@ branch_short l over n k h =
 pub lines_are_short : LinesAreShort
 lines_are_short p os (enter xs) =
     words_short (t.take_frame (frame_size p.count os) (saved_of p.count) ++ t.put_params p a0 xs) (19 + 3 * length xs)
-    (both (t.take_frame (frame_size p.count os) (saved_of p.count)) (t.put_params p a0 xs) 19 (3 * length xs) (take_short (frame_size p.count os) p.count) (params_short p a0 xs))
+    (both (t.take_frame (frame_size p.count os) (saved_of p.count)) (t.put_params p a0 xs) 19 (3 * length xs) (take_short (frame_size p.count os) p.count)
+    (params_short p a0 xs))
 lines_are_short p os (leave v) =
     words_short (get a0 (place_of p v) ++ t.give_frame (frame_size p.count os) (saved_of p.count)) 20
     (both (get a0 (place_of p v)) (t.give_frame (frame_size p.count os) (saved_of p.count)) 3 17 (got a0 (place_of p v)) (give_short (frame_size p.count os) p.count))

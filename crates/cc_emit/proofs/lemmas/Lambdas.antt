@@ -33,9 +33,11 @@ names_fit l f = below_more (lambda_values l) 4294967295 (omega (arith, f.limits.
 pub frame_fits : (l : PlainLambda) → IsFunction l → frame_of l < 2 ^ 32
 frame_fits l f = omega (arith, f.limits.objects, f.limits.values, places_are_few (lambda_values l) (lines_of l) (names_are_below l f.well_formed))
 
-pub can_select : (l : PlainLambda) (frame : Frame) → IsFunction l → IsFrameOf frame (places (lines_of l)) l.objects → CanSelect (lines_of l) (places (lines_of l)) frame l.objects
+pub can_select : (l : PlainLambda) (frame : Frame) → IsFunction l → IsFrameOf frame (places (lines_of l)) l.objects
+    → CanSelect (lines_of l) (places (lines_of l)) frame l.objects
 can_select l frame f framed =
-    lambda_can_select (names_have_places places_are_below_count) objects_are_there calls_keep_arguments widths_fit l frame f.well_formed f.limits.parameters f.arguments framed
+    lambda_can_select (names_have_places places_are_below_count) objects_are_there calls_keep_arguments widths_fit l frame f.well_formed f.limits.parameters
+    f.arguments framed
 
 -- what the code has of a lambda: its lines, their places, and its objects
 module _ (l : PlainLambda) (ls : List Line) (p : PlainPlaces) (os : List PlainObject) (is : ls ≡ lines_of l) (placed : p ≡ places ls) (are : os ≡ l.objects) where

@@ -11,7 +11,8 @@ function_items-requires c =
     let a = c.answer-item.result in
     let is = c.behind-answer.view_is ∙ c.deref.ensures in
     subst (λ (o : PlainOptimised). IsFunction o.lambda) (sym is)
-    (c.requires c.loop-answer.answer-index (arc_value a).lambda (answer_at arc_value c.args.answers.now c.loop-answer.answer-index a c.loop-answer-test.true c.answer-item.is))
+    (c.requires c.loop-answer.answer-index (arc_value a).lambda
+    (answer_at arc_value c.args.answers.now c.loop-answer.answer-index a c.loop-answer-test.true c.answer-item.is))
 
 pub loop-answer-preserved : goal.loop-answer-preserved
 loop-answer-preserved c =

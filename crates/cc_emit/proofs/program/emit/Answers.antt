@@ -17,7 +17,8 @@ main_of-requires c = main_fits c.args.omega.now (lambdas_of (map arc_value c.arg
 pub lay-requires : goal.lay-requires
 lay-requires c =
     can_lay_out_here c.args.omega.now (lambdas_of (map arc_value c.args.answers.now)) (item_lists c.deref.result.now) c.deref-2.result.now c.main_of.result
-    (ap item_lists c.deref.ensures.value ∙ c.in_ok-functions.ensures) (c.deref-2.ensures.value ∙ ap (λ (o : PlainOmega). o.deltas) c.omega.view_is) c.main_of.ensures c.requires
+    (ap item_lists c.deref.ensures.value ∙ c.in_ok-functions.ensures) (c.deref-2.ensures.value ∙ ap (λ (o : PlainOmega). o.deltas) c.omega.view_is)
+    c.main_of.ensures c.requires
 
 pub returns-clause-image : goal.returns-clause-image
 returns-clause-image c =
