@@ -11,7 +11,8 @@ use Rattle.cc_simulation.specs.Images.{linear, program_of, ImagesKeepMeaning}
 use Rattle.cc_simulation.proofs.lemmas.Functions.{can-lay-out, segments_are_sound, program_can_run, program_starts}
 use Rattle.cc_simulation.proofs.lemmas.Images.{image_keeps}
 
-pub images_keep_meaning : ProgramIsKept → SequencedFunctionsAgree → ProgramsAreWithin → ProgramLoads → ImageIsPlaced → LoadedIsSound → GlobalsAreShown → GlobalsHaveBlocks →
+pub images_keep_meaning : ProgramIsKept → SequencedFunctionsAgree → ProgramsAreWithin → ProgramLoads → ImageIsPlaced → LoadedIsSound →
+    GlobalsAreShown → GlobalsHaveBlocks →
     ImagesKeepMeaning
 images_keep_meaning kept agree within loads placed sound shown blocks omega ls can words i bytes right =
     let addresses = (program_of omega ls).addresses in

@@ -96,11 +96,13 @@ is_in_range l f = record {
 }
 
 leaves-fit : (l : PlainLambda) → IsWellFormed l → all_of (λ o. leaves_fit o.size 0 o.leaves) l.objects ≡ true
-leaves-fit l w = (and_parts (body_fits l && numbers_fit l && every_region (region_fits (length l.objects)) l.body) (all_of (λ o. leaves_fit o.size 0 o.leaves) l.objects) w).1
+leaves-fit l w = (and_parts (body_fits l && numbers_fit l && every_region (region_fits (length l.objects)) l.body)
+    (all_of (λ o. leaves_fit o.size 0 o.leaves) l.objects) w).1
 
 -- ---- lists
 
-all-mapped : {X Y : Type 0} (f : X → Y) (P : Y → Type 0) (xs : List X) → ((k : ℕ) (x : X) → slice_get xs k ≡ Some x → P (f x)) → (k : ℕ) (y : Y) → slice_get (map f xs) k ≡ Some y → P y
+all-mapped : {X Y : Type 0} (f : X → Y) (P : Y → Type 0) (xs : List X) → ((k : ℕ) (x : X) → slice_get xs k ≡ Some x → P (f x)) → (k : ℕ) (y : Y)
+    → slice_get (map f xs) k ≡ Some y → P y
 all-mapped f P [] h k y e = absurd cc
 all-mapped f P (x ∷ xs) h zero y e = subst P (same_Some (f x) y e) (h 0 x refl)
 all-mapped f P (x ∷ xs) h (suc k) y e = all-mapped f P xs (λ j z q. h (suc j) z q) k y e
@@ -109,7 +111,8 @@ all-mapped f P (x ∷ xs) h (suc k) y e = all-mapped f P xs (λ j z q. h (suc j)
 globals-counted : (fixed other : ℕ) (ds : List PlainDelta) → length (globals_from fixed other ds) ≡ length ds
 globals-counted fixed other [] = refl
 globals-counted fixed other (d ∷ ds) =
-    elim d.fixed as (λ b. length (if b then fixed ∷ globals_from (fixed + global_room d) other ds else other ∷ globals_from fixed (other + global_room d) ds) ≡ suc (length ds)) [
+    elim d.fixed as (λ b. length (if b then fixed ∷ globals_from (fixed + global_room d) other ds else other ∷ globals_from fixed (other + global_room d) ds)
+    ≡ suc (length ds)) [
       | true ↦ ap suc (globals-counted (fixed + global_room d) other ds)
       | false ↦ ap suc (globals-counted fixed (other + global_room d) ds)
     ]
@@ -154,10 +157,13 @@ module _ (omega : PlainOmega) (ls : List PlainLambda) (can : CanEmit omega ls) (
     program_can_run =
         laid_program_can_run (linear ls) omega.deltas (main_of omega) (global_of omega.deltas) can-lay-out segments_are_sound function-runs (λ k f there. marked-once f)
 
-    pub program_starts : ImageIsPlaced → (bases : Bases) (i : List ℕ) → ShowsMemory (program_of omega ls).text.flags bases (first_memory omega.deltas) (program_of omega ls).text.bytes
-        → HasBlocks (program_of omega ls) bases (first_memory omega.deltas) (addresses_of items omega.deltas).stack_at ((addresses_of items omega.deltas).stack_at + stack_size) → AreBytes i
+    pub program_starts : ImageIsPlaced → (bases : Bases) (i : List ℕ) → ShowsMemory (program_of omega ls).text.flags bases (first_memory omega.deltas)
+        (program_of omega ls).text.bytes
+        → HasBlocks (program_of omega ls) bases (first_memory omega.deltas) (addresses_of items omega.deltas).stack_at
+        ((addresses_of items omega.deltas).stack_at + stack_size) → AreBytes i
         → HasStart (program_of omega ls) (main_of omega) (addresses_of items omega.deltas).stack_at put_at (first_memory omega.deltas) bases i
         (start (executable_for (laid_out items omega.deltas (main_of omega))))
     program_starts placed bases i shows has bytes =
         laid_program_starts (linear ls) omega.deltas (main_of omega) (global_of omega.deltas) (first_memory omega.deltas) bases i can-lay-out
-        (subst (λ fs. IsPlaced (laid_out fs omega.deltas (main_of omega))) (sym (items-same ls)) (placed omega ls can)) segments_are_sound function-runs shows has (bytes-all i bytes)
+        (subst (λ fs. IsPlaced (laid_out fs omega.deltas (main_of omega))) (sym (items-same ls)) (placed omega ls can)) segments_are_sound function-runs shows has
+        (bytes-all i bytes)

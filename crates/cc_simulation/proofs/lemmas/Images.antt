@@ -59,8 +59,10 @@ nothing-within R (Exited o s) right = (output o, refl)
 nothing-within R (Undefined o) right = absurd (right tt)
 
 module _ (kept : ProgramIsKept) (agree : SequencedFunctionsAgree) (within : ProgramsAreWithin) (omega : PlainOmega) (ls : List PlainLambda) (can : CanEmit omega ls)
-    (loads : loaded (file_of_program omega ls) ≡ Ok (executable_for (image_of omega ls))) (can-run : ProgramCanRun (program_of omega ls)) (stack e : ℕ) (bases : Bases) (i : List ℕ)
-    (begins : HasStart (program_of omega ls) (main_of omega) stack e (first_memory omega.deltas) bases i (start (executable_for (laid_out (map function_items (linear ls)) omega.deltas (main_of omega)))))
+    (loads : loaded (file_of_program omega ls) ≡ Ok (executable_for (image_of omega ls))) (can-run : ProgramCanRun (program_of omega ls)) (stack e : ℕ)
+    (bases : Bases) (i : List ℕ)
+    (begins : HasStart (program_of omega ls) (main_of omega) stack e (first_memory omega.deltas) bases i
+    (start (executable_for (laid_out (map function_items (linear ls)) omega.deltas (main_of omega)))))
     (right : (n : ℕ) → IsUndefined (program_at n omega ls i) → ⊥) where
   -- what the program over places does within a bound
   abbrev placed_at : ℕ → Answer (Given Value)
@@ -112,12 +114,14 @@ module _ (kept : ProgramIsKept) (agree : SequencedFunctionsAgree) (within : Prog
         executable = executable_for (image_of omega ls);
         loads = loads;
         runs =
-            subst (λ (items : List (List Item)). IsKept (Given Value) placed_at deeper (λ n. executed n (executable_for (laid_out items omega.deltas (main_of omega))) i)) (items-same ls)
+            subst (λ (items : List (List Item)). IsKept (Given Value) placed_at deeper (λ n. executed n (executable_for (laid_out items omega.deltas (main_of omega))) i))
+            (items-same ls)
             (kept (program_of omega ls) (main_of omega) stack e (first_memory omega.deltas) bases i
             (start (executable_for (laid_out (map function_items (linear ls)) omega.deltas (main_of omega)))) can-run begins placed-right);
       }
 
   pub image_keeps : FileKeeps (List Datum) (λ n. program_at n omega ls i) (λ n. deepest_main n omega ls (frames ls) i) (file_of_program omega ls) i
   image_keeps =
-      nearer_is_kept (List Datum) (Given Value) GivesBack (λ n. program_at n omega ls i) placed_at (λ n. deepest_main n omega ls (frames ls) i) deeper (file_of_program omega ls) i
+      nearer_is_kept (List Datum) (Given Value) GivesBack (λ n. program_at n omega ls i) placed_at (λ n. deepest_main n omega ls (frames ls) i) deeper
+      (file_of_program omega ls) i
       (record { forward = λ n. (suc n, forward n); back = back; no_deeper = no_deeper }) placed-kept
