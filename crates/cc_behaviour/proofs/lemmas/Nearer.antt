@@ -10,7 +10,8 @@ use Rattle.cc_behaviour.specs.Behaviour.{shown, IsWithin, StopsWithin, IsKept, F
 use Rattle.cc_behaviour.specs.Laws.{AreWithin, NearerIsKept}
 
 -- what was written is a beginning of what the run that it is within wrote
-prefix-within : {A B : Type 0} (R : A → B → Type 0) (a : Answer A) (b : Answer B) → Within R (behaviour a) (behaviour b) → IsPrefixOf (output (events a)) (output (events b))
+prefix-within : {A B : Type 0} (R : A → B → Type 0) (a : Answer A) (b : Answer B) → Within R (behaviour a) (behaviour b) →
+    IsPrefixOf (output (events a)) (output (events b))
 prefix-within R (Returned x o) (Returned y p) h = prefix-eq (output o) (output o) (output p) (prefix-self (output o)) h.1
 prefix-within R (Exited o s) (Exited p t) h = prefix-eq (output o) (output o) (output p) (prefix-self (output o)) h.0
 prefix-within R (Cut o) (Returned y p) h = h
@@ -25,14 +26,16 @@ undefined_is_apart R (Returned x o) b wrong h = absurd wrong
 undefined_is_apart R (Cut o) b wrong h = absurd wrong
 undefined_is_apart R (Exited o s) b wrong h = absurd wrong
 
-stops-nearer : {A B : Type 0} (R : A → B → Type 0) (near : ℕ → Answer A) (far : ℕ → Answer B) → ((n : ℕ) → (m : ℕ) × Within (λ y x. R x y) (behaviour (far n)) (behaviour (near m))) →
+stops-nearer : {A B : Type 0} (R : A → B → Type 0) (near : ℕ → Answer A) (far : ℕ → Answer B) →
+    ((n : ℕ) → (m : ℕ) × Within (λ y x. R x y) (behaviour (far n)) (behaviour (near m))) →
     (o : RunResult) → StopsWithin far o → StopsWithin near o
 stops-nearer R near far back o h =
     let k = h.1.0 in
     let m = back k in
     (h.0, (m.0, prefixes_compose o.output (output (events (far k))) (output (events (near m.0))) h.1.1 (prefix-within (λ y x. R x y) (far k) (near m.0) m.1)))
 
-module _ (A B : Type 0) (R : A → B → Type 0) (near : ℕ → Answer A) (far : ℕ → Answer B) (deep deeper : ℕ → ℕ) (machine : ℕ → RunResult) (both : AreWithin A B R near far deep deeper)
+module _ (A B : Type 0) (R : A → B → Type 0) (near : ℕ → Answer A) (far : ℕ → Answer B) (deep deeper : ℕ → ℕ) (machine : ℕ → RunResult)
+    (both : AreWithin A B R near far deep deeper)
     (kept : IsKept B far deeper machine) where
   forward : (n : ℕ) → ((m : ℕ) × IsWithin (behaviour (near n)) (shown (machine m))) ⊎ ((m : ℕ) × StopsWithin near (machine m))
   forward n = by (kept.forward middle.0)
@@ -48,7 +51,8 @@ module _ (A B : Type 0) (R : A → B → Type 0) (near : ℕ → Answer A) (far 
   back : (n : ℕ) → ((m : ℕ) × IsWithin (shown (machine n)) (behaviour (near m))) ⊎ StopsWithin near (machine n)
   back n = by (kept.back n)
     where
-      by : ((m : ℕ) × IsWithin (shown (machine n)) (behaviour (far m))) ⊎ StopsWithin far (machine n) → ((m : ℕ) × IsWithin (shown (machine n)) (behaviour (near m))) ⊎ StopsWithin near (machine n)
+      by : ((m : ℕ) × IsWithin (shown (machine n)) (behaviour (far m))) ⊎ StopsWithin far (machine n) → ((m : ℕ) × IsWithin (shown (machine n)) (behaviour (near m)))
+          ⊎ StopsWithin near (machine n)
       by (inl h) =
           let m = both.back h.0 in
           inl (m.0, within_composes (λ a b. ⊥) (λ y x. R x y) (λ a b. ⊥) (λ x y z r s. r) (shown (machine n)) (behaviour (far h.0)) (behaviour (near m.0)) h.1 m.1)
