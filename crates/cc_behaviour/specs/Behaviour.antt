@@ -22,20 +22,20 @@ shown o = by o.hart
 abbrev pub IsWithin : {A B : Type 0} → Behaviour A → Behaviour B → Type 0
 IsWithin x y = Within (λ a b. ⊥) x y
 
--- it stopped for want of stack, after a beginning of the output of some run
+-- it ran out of stack, after a beginning of the output of some run
 abbrev pub StopsWithin : {A : Type 0} → (near : ℕ → Answer A) → RunResult → Type 0
 StopsWithin near o = (o.hart ≡ ended stack) × ((k : ℕ) × IsPrefixOf o.output (output (events (near k))))
 
 -- The runs of a machine, by their number of instructions, keep the behaviour of a family of bounded runs, with `deep` the
 -- deepest sum of frames that each of these meets:
 pub record IsKept (A : Type 0) (near : ℕ → Answer A) (deep : ℕ → ℕ) (machine : ℕ → RunResult) : Type 0 where
-  -- each bounded run is within a run of the machine, or one stops for want of stack,
+  -- each bounded run is within a run of the machine, or one runs out of stack,
   pub forward : (n : ℕ) → ((m : ℕ) × IsWithin (behaviour (near n)) (shown (machine m))) ⊎ ((m : ℕ) × StopsWithin near (machine m))
-  -- each run of the machine is within a bounded run, or stops for want of stack,
+  -- each run of the machine is within a bounded run, or runs out of stack,
   pub back : (n : ℕ) → ((m : ℕ) × IsWithin (shown (machine n)) (behaviour (near m))) ⊎ StopsWithin near (machine n)
   -- none is stuck,
   pub goes_on : (n pc why : ℕ) → (machine n).hart ≡ ended (stuck pc why) → ⊥
-  -- and where one stops for want of stack, the frames of some stack of calls have more bytes than the stack.
+  -- and where one runs out of stack, the frames of some stack of calls have more bytes than the stack.
   pub exceeds : (n : ℕ) → (machine n).hart ≡ ended stack → (m : ℕ) × (stack_size < deep m)
 
 -- The bytes are a file that loads, and as the machine runs it on the input the behaviour is kept.

@@ -19,9 +19,9 @@ use Rattle.g_mean.specs.LessDefined.{AreBytes}
 use Rattle.rv_machine.specs.Run.{start}
 use Rattle.rv_layout.specs.declared.item.Item.{Item}
 use Rattle.rv_layout.specs.Conditions.{CanLayOut}
-use Rattle.rv_layout.specs.Globals.{global_room, globals_from}
 use Rattle.rv_layout.specs.Items.{marks}
 use Rattle.rv_layout.specs.Layout.{put_at, fixed_address, data_address, addresses_of, laid_out}
+use Rattle.rv_layout.proofs.lemmas.Addresses.{length-globals_from}
 use Rattle.s_linear.specs.Frame.{saved_of, object_room, object_at, frame_size, objects_at}
 use Rattle.s_linear.specs.Linear.{LinearFunction}
 use Rattle.s_linear.specs.Lines.{does, code_labels, lines}
@@ -107,16 +107,6 @@ all-mapped f P [] h k y e = absurd cc
 all-mapped f P (x ∷ xs) h zero y e = subst P (same_Some (f x) y e) (h 0 x refl)
 all-mapped f P (x ∷ xs) h (suc k) y e = all-mapped f P xs (λ j z q. h (suc j) z q) k y e
 
--- each global has an address
-globals-counted : (fixed other : ℕ) (ds : List PlainDelta) → length (globals_from fixed other ds) ≡ length ds
-globals-counted fixed other [] = refl
-globals-counted fixed other (d ∷ ds) =
-    elim d.fixed as (λ b. length (if b then fixed ∷ globals_from (fixed + global_room d) other ds else other ∷ globals_from fixed (other + global_room d) ds)
-    ≡ suc (length ds)) [
-      | true ↦ ap suc (globals-counted (fixed + global_room d) other ds)
-      | false ↦ ap suc (globals-counted fixed (other + global_room d) ds)
-    ]
-
 marked-once : (f : LinearFunction) (l : ℕ) → marks l (function_items f) ≤ 1
 marked-once f l = by (nat_lt l (code_labels f.code)) (marks-items l (places_of f) f.objects (lines f) ∙ labels_are_marked_once f l)
   where
@@ -141,7 +131,7 @@ module _ (omega : PlainOmega) (ls : List PlainLambda) (can : CanEmit omega ls) (
   function-runs : (k : ℕ) (f : LinearFunction) → slice_get (linear ls) k ≡ Some f → FunctionCanRun (length (addresses_of items omega.deltas).globals) (places_of f) f
   function-runs =
       subst (λ n. (k : ℕ) (f : LinearFunction) → slice_get (linear ls) k ≡ Some f → FunctionCanRun n (places_of f) f)
-      (sym (globals-counted (fixed_address items) (data_address items omega.deltas + 8) omega.deltas))
+      (sym (length-globals_from (fixed_address items) (data_address items omega.deltas + 8) omega.deltas))
       (all-mapped sequenced (λ f. FunctionCanRun (length omega.deltas) (places_of f) f) ls lambda-runs)
 
   pub can-lay-out : CanLayOut items omega.deltas (main_of omega)
