@@ -145,7 +145,7 @@ module _ (fs : List (List Item)) (ds : List PlainDelta) (main : ℕ) (can : CanL
       omega (arith, end, high, size, from)
 
   pub buffer_is_outside : IsOutside bases (first_memory ds) (data_address fs ds)
-  buffer_is_outside live = by (global_at fs ds main can sound live.number of.delta of.there).beside
+  buffer_is_outside live = by (global_at fs ds main can sound live.number of.delta of.there).off_buffer
     where
       of : OfGlobal live.number live.block
       of = of_global live.number live.block live.lives

@@ -13,11 +13,11 @@ use Rattle.rv_layout.specs.Globals.{global_room, with_word, with_links, global_b
 use Rattle.rv_layout.specs.Conditions.{link_is_within, are_apart, links_are_apart}
 
 -- the byte is none of a link's
-abbrev pub IsBeside : (j : ℕ) → Link → Type 0
-IsBeside j l = (j < l.at) ⊎ (l.at + 4 ≤ j)
+abbrev pub IsUnlinkedBy : (j : ℕ) → Link → Type 0
+IsUnlinkedBy j l = (j < l.at) ⊎ (l.at + 4 ≤ j)
 
-abbrev pub AllBeside : ℕ → List Link → Type 0
-AllBeside j ls = (i : ℕ) (l : Link) → slice_get ls i ≡ Some l → IsBeside j l
+abbrev pub IsUnlinked : ℕ → List Link → Type 0
+IsUnlinked j ls = (i : ℕ) (l : Link) → slice_get ls i ≡ Some l → IsUnlinkedBy j l
 
 abbrev pub AreWithin : (size : ℕ) → List Link → Type 0
 AreWithin size ls = IsTrue (all_of (link_is_within size) ls)
@@ -66,9 +66,9 @@ with_word-after at w bytes j within past =
     ∙ get_or-drop (at + 4) bytes (j - (at + 4)) 0
     ∙ ap (slice_index bytes) there
 
-with_word-beside : (l : Link) (w : ℕ) (bytes : List ℕ) (j : ℕ) → l.at + 4 ≤ length bytes → IsBeside j l → slice_index (with_word l.at w bytes) j ≡ slice_index bytes j
-with_word-beside l w bytes j within (inl low) = with_word-before l.at w bytes j within low
-with_word-beside l w bytes j within (inr past) = with_word-after l.at w bytes j within past
+with_word-elsewhere : (l : Link) (w : ℕ) (bytes : List ℕ) (j : ℕ) → l.at + 4 ≤ length bytes → IsUnlinkedBy j l → slice_index (with_word l.at w bytes) j ≡ slice_index bytes j
+with_word-elsewhere l w bytes j within (inl low) = with_word-before l.at w bytes j within low
+with_word-elsewhere l w bytes j within (inr past) = with_word-after l.at w bytes j within past
 
 -- ---- links
 
@@ -87,27 +87,27 @@ length_with_links globals (l ∷ ls) bytes within =
     let same = length-linked l w bytes parts.here in
     length_with_links globals ls (with_word l.at w bytes) (subst (λ n. AreWithin n ls) (sym same) parts.rest) ∙ same
 
--- a byte beside every link stays
-pub unlinked_byte : (globals : List ℕ) (ls : List Link) (bytes : List ℕ) (j : ℕ) → AreWithin (length bytes) ls → AllBeside j ls → slice_index (with_links globals ls bytes) j ≡ slice_index bytes j
-unlinked_byte globals [] bytes j within beside = refl
-unlinked_byte globals (l ∷ ls) bytes j within beside =
+-- a byte of no link stays
+pub unlinked_byte : (globals : List ℕ) (ls : List Link) (bytes : List ℕ) (j : ℕ) → AreWithin (length bytes) ls → IsUnlinked j ls → slice_index (with_links globals ls bytes) j ≡ slice_index bytes j
+unlinked_byte globals [] bytes j within unlinked = refl
+unlinked_byte globals (l ∷ ls) bytes j within unlinked =
     let parts = within-parts (length bytes) l ls within in
     let w = slice_index globals l.delta in
     let same = length-linked l w bytes parts.here in
-    unlinked_byte globals ls (with_word l.at w bytes) j (subst (λ n. AreWithin n ls) (sym same) parts.rest) (λ i k there. beside (suc i) k there)
-    ∙ with_word-beside l w bytes j parts.here (beside 0 l refl)
+    unlinked_byte globals ls (with_word l.at w bytes) j (subst (λ n. AreWithin n ls) (sym same) parts.rest) (λ i k there. unlinked (suc i) k there)
+    ∙ with_word-elsewhere l w bytes j parts.here (unlinked 0 l refl)
 
 -- links that are apart from one leave its bytes
-apart-beside : (l : Link) (ls : List Link) (j : ℕ) → IsTrue (all_of (are_apart l) ls) → j < 4 → AllBeside (l.at + j) ls
-apart-beside l [] j apart low i m there = absurd cc
-apart-beside l (x ∷ ls) j apart low zero m there =
+apart-unlinked : (l : Link) (ls : List Link) (j : ℕ) → IsTrue (all_of (are_apart l) ls) → j < 4 → IsUnlinked (l.at + j) ls
+apart-unlinked l [] j apart low i m there = absurd cc
+apart-unlinked l (x ∷ ls) j apart low zero m there =
     let parts = and_parts (are_apart l x) (all_of (are_apart l) ls) apart in
-    subst (IsBeside (l.at + j)) (same_Some x m there) (by (or_cases (nat_le (l.at + 4) x.at) (nat_le (x.at + 4) l.at) parts.0))
+    subst (IsUnlinkedBy (l.at + j)) (same_Some x m there) (by (or_cases (nat_le (l.at + 4) x.at) (nat_le (x.at + 4) l.at) parts.0))
   where
-    by : (nat_le (l.at + 4) x.at ≡ true) ⊎ (nat_le (x.at + 4) l.at ≡ true) → IsBeside (l.at + j) x
+    by : (nat_le (l.at + 4) x.at ≡ true) ⊎ (nat_le (x.at + 4) l.at ≡ true) → IsUnlinkedBy (l.at + j) x
     by (inl e) = let h = leb-true (l.at + 4) x.at e in inl (omega (arith, h, low))
     by (inr e) = let h = leb-true (x.at + 4) l.at e in inr (omega (arith, h))
-apart-beside l (x ∷ ls) j apart low (suc i) m there = apart-beside l ls j (and_parts (are_apart l x) (all_of (are_apart l) ls) apart).1 low i m there
+apart-unlinked l (x ∷ ls) j apart low (suc i) m there = apart-unlinked l ls j (and_parts (are_apart l x) (all_of (are_apart l) ls) apart).1 low i m there
 
 -- the bytes of a link are those of the address
 pub linked_byte : (globals : List ℕ) (ls : List Link) (bytes : List ℕ) (offset k j : ℕ) → AreWithin (length bytes) ls → IsTrue (links_are_apart ls) → link_at offset ls ≡ Some k → j < 4
@@ -133,7 +133,7 @@ linked_byte globals (l ∷ ls) bytes offset k j within apart found low =
     by true same later is =
         let at = eqb-true l.at offset same in
         ap (λ o. slice_index (with_links globals ls (with_word l.at (slice_index globals l.delta) bytes)) (o + j)) (sym at)
-        ∙ unlinked_byte globals ls (with_word l.at (slice_index globals l.delta) bytes) (l.at + j) rest (apart-beside l ls j two.0 low)
+        ∙ unlinked_byte globals ls (with_word l.at (slice_index globals l.delta) bytes) (l.at + j) rest (apart-unlinked l ls j two.0 low)
         ∙ with_word-here l.at (slice_index globals l.delta) bytes j parts.here low
         ∙ ap (λ n. slice_index (word (slice_index globals n)) j) (same_Some l.delta k is)
     by false other later is = later is low

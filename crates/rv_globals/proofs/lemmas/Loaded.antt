@@ -120,7 +120,7 @@ module _ (fs : List (List Item)) (ds : List PlainDelta) (main : ℕ) (can : CanL
     pub aligned : slice_index globals_of k % 4 ≡ 0
     pub low : 0 < slice_index globals_of k
     pub high : slice_index globals_of k + global_room d ≤ stack_address fs ds
-    pub beside : (slice_index globals_of k + global_room d ≤ data_address fs ds) ⊎ (data_address fs ds + 8 ≤ slice_index globals_of k)
+    pub off_buffer : (slice_index globals_of k + global_room d ≤ data_address fs ds) ⊎ (data_address fs ds + 8 ≤ slice_index globals_of k)
 
   pub global_at : (k : ℕ) (d : PlainDelta) → slice_get ds k ≡ Some d → GlobalAt k d
   global_at k d there = record {
@@ -131,7 +131,7 @@ module _ (fs : List (List Item)) (ds : List PlainDelta) (main : ℕ) (can : CanL
     aligned = even d.fixed at (offset_is_even d.fixed (take k ds));
     low = above d.fixed at;
     high = before d.fixed at within;
-    beside = side d.fixed at within;
+    off_buffer = side d.fixed at within;
   }
     where
       mem : ℕ → ℕ

@@ -24,7 +24,7 @@ use Rattle.rv_layout.specs.Layout.{addresses_of, laid_out}
 use Rattle.s_templates.specs.Relation.{Bases, Shows, ShowsMemory}
 use Rattle.s_templates.proofs.lemmas.Blocks.{value-there, leaf-of-value}
 use Rattle.rv_globals.specs.Globals.{bases_of, AreGlobals}
-use Rattle.rv_globals.proofs.lemmas.Bytes.{IsBeside, unlinked_byte, linked_byte, global_byte}
+use Rattle.rv_globals.proofs.lemmas.Bytes.{IsUnlinkedBy, unlinked_byte, linked_byte, global_byte}
 use Rattle.rv_globals.proofs.lemmas.Leaves.{is_leaf, IsWithin, leaf_within, leaves_are_separate, value_is, link_there, links_elsewhere}
 use Rattle.rv_globals.proofs.lemmas.Loaded.{links_at, global_at}
 use Rattle.rv_globals.proofs.lemmas.Blocks.{of_global, has_leaf_of, globals_are_laid_out, global_address}
@@ -118,12 +118,12 @@ module _ (fs : List (List Item)) (ds : List PlainDelta) (main : ℕ) (can : CanL
       bytes_are_loaded mem (bases n + o) w (drop o d.bytes) (let to = within.to in let size = length-drop o d.bytes in omega (arith, to, size)) byte
       ∙ number_is (take w (drop o d.bytes))
     where
-      beside : (j : ℕ) → j < w → (i : ℕ) (l : Link) → slice_get d.links i ≡ Some l → IsBeside (o + j) l
-      beside j low i l at =
+      unlinked : (j : ℕ) → j < w → (i : ℕ) (l : Link) → slice_get d.links i ≡ Some l → IsUnlinkedBy (o + j) l
+      unlinked j low i l at =
           let other = links_elsewhere (length ds) d.leaves d.links o i l (globals n d there).links none at in
           by other.1 (leaves_are_separate (length d.bytes) 0 w o 4 l.at d.leaves (globals n d there).leaves has other.0)
         where
-          by : l.at ≢ o → ((w ≡ 4) × (o ≡ l.at)) ⊎ (o + w ≤ l.at) ⊎ (l.at + 4 ≤ o) → IsBeside (o + j) l
+          by : l.at ≢ o → ((w ≡ 4) × (o ≡ l.at)) ⊎ (o + w ≤ l.at) ⊎ (l.at + 4 ≤ o) → IsUnlinkedBy (o + j) l
           by differ (inl same) = absurd (differ (sym same.1))
           by differ (inr (inl before)) = inl (omega (arith, before, low))
           by differ (inr (inr after)) = inr (omega (arith, after))
@@ -134,7 +134,7 @@ module _ (fs : List (List Item)) (ds : List PlainDelta) (main : ℕ) (can : CanL
           let place : bases n + o + j ≡ bases n + (o + j) = omega arith in
           ap mem place
           ∙ byte_there n d (o + j) there (omega (arith, low, to))
-          ∙ unlinked_byte addresses d.links d.bytes (o + j) (links_at fs ds main can sound n d there).within (beside j low)
+          ∙ unlinked_byte addresses d.links d.bytes (o + j) (links_at fs ds main can sound n d there).within (unlinked j low)
           ∙ sym (get_or-drop o d.bytes j 0)
 
   leaf_is_shown : (n : ℕ) (d : PlainDelta) (leaf : Leaf) → slice_get ds n ≡ Some d → some_of (is_leaf leaf.width leaf.offset) d.leaves ≡ true → (found : Option ℕ) → link_at leaf.offset d.links ≡ found
