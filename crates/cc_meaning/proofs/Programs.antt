@@ -22,7 +22,7 @@ use Rattle.g_simulation.specs.Laws.{ConstructionKeepsPrograms, StartsAsProgram}
 use Rattle.cc_emit.specs.Image.{CanEmit, file_of_program}
 use Rattle.cc_behaviour.specs.Behaviour.{FileKeeps}
 use Rattle.cc_behaviour.proofs.lemmas.Nearer.{undefined_is_apart, nearer_is_kept}
-use Rattle.cc_simulation.specs.Images.{frames, HaveWords, ImagesKeepMeaning}
+use Rattle.cc_simulation.specs.Images.{frames, ImagesKeepMeaning}
 use Rattle.cc_meaning.specs.Laws.{ProgramsKeepMeaning, BuiltProgramsKeepMeaning}
 
 -- ---- the globals of a program are sound
@@ -51,7 +51,7 @@ deltas-sound count (d ∷ ds) h =
 -- ---- from the source to the file
 
 module _ (images : ImagesKeepMeaning) (p : ProgramTree) (ls : List PlainLambda) (built : IsProgram (omega p) (graph p)) (starts : StartsAsProgram p (graph p)) (stands : MayStandForAll (graph p) ls)
-    (can : CanEmit (omega p) ls) (words : HaveWords ls) (i : List ℕ) (bytes : AreBytes i) (right : (n : ℕ) → IsUndefined (run n p i) → ⊥) where
+    (can : CanEmit (omega p) ls) (i : List ℕ) (bytes : AreBytes i) (right : (n : ℕ) → IsUndefined (run n p i) → ⊥) where
   graph-right : (n : ℕ) → IsUndefined (program_at n (omega p) (graph p) i) → ⊥
   graph-right n wrong = let back = (starts i bytes right n).back in undefined_is_apart (λ ys g. ⊥) (program_at n (omega p) (graph p) i) (run back.0 p i) wrong back.1
 
@@ -67,7 +67,7 @@ module _ (images : ImagesKeepMeaning) (p : ProgramTree) (ls : List PlainLambda) 
   graph-kept =
       nearer_is_kept (List Datum) (List Datum) (Paired IsLessDefinedDatum) (λ n. program_at n (omega p) (graph p) i) (λ n. program_at n (omega p) ls i)
       (λ n. deepest_main n (omega p) (graph p) (frames ls) i) (λ n. deepest_main n (omega p) ls (frames ls) i) (file_of_program (omega p) ls) i
-      (record { forward = both.forward; back = both.back; no_deeper = λ n. let m = both.no_deeper n in (m.0, m.1 _) }) (images (omega p) ls can words i bytes right-too)
+      (record { forward = both.forward; back = both.back; no_deeper = λ n. let m = both.no_deeper n in (m.0, m.1 _) }) (images (omega p) ls can i bytes right-too)
 
   kept : FileKeeps (Given (Option Value)) (λ n. run n p i) (λ n. deepest_run n p (frames ls) i) (file_of_program (omega p) ls) i
   kept =
@@ -81,9 +81,9 @@ module _ (images : ImagesKeepMeaning) (p : ProgramTree) (ls : List PlainLambda) 
       graph-kept
 
 pub programs_keep_meaning : ConstructionKeepsPrograms → WellTypedAreBuilt → ImagesKeepMeaning → ProgramsKeepMeaning
-programs_keep_meaning construction built images p typed few ls stands can words i bytes right =
-    kept images p ls (built p typed) (construction p typed few) stands can words i bytes right
+programs_keep_meaning construction built images p typed few ls stands can i bytes right =
+    kept images p ls (built p typed) (construction p typed few) stands can i bytes right
 
 pub built_programs_keep_meaning : ProgramsKeepMeaning → WellTypedAreBuilt → SmallAreWithinLimits → ListsStandForThemselves → BuiltProgramsKeepMeaning
-built_programs_keep_meaning keep built small itself p typed few within words =
-    keep p typed few (graph p) (itself (graph p)) (record { program = built p typed; limits = small p within }) words
+built_programs_keep_meaning keep built small itself p typed few within =
+    keep p typed few (graph p) (itself (graph p)) (record { program = built p typed; limits = small p within })

@@ -11,22 +11,20 @@ use Rattle.cc_emit.specs.Image.{CanEmit, file_of_program}
 use Rattle.c_accepted.specs.SourceLaws.{AreBytes}
 use Rattle.cc_compile.specs.Accepted.{Accepts}
 use Rattle.cc_compile.specs.Compiled.{image_of}
-use Rattle.cc_simulation.specs.Images.{HaveWords}
 use Rattle.cc_meaning.specs.Meaning.{KeepsMeaning}
 
--- The image of a program does what the program does, with every list of lambdas that may stand for the built ones and whose
--- constants are words.
+-- The image of a program does what the program does, with every list of lambdas that may stand for the built ones.
 abbrev pub ProgramsKeepMeaning : Type 0
 ProgramsKeepMeaning =
-    (p : ProgramTree) → IsWellTyped p → HasFewGroups p → (ls : List PlainLambda) → MayStandForAll (graph p) ls → CanEmit (omega p) ls → HaveWords ls →
+    (p : ProgramTree) → IsWellTyped p → HasFewGroups p → (ls : List PlainLambda) → MayStandForAll (graph p) ls → CanEmit (omega p) ls →
     KeepsMeaning p ls (file_of_program (omega p) ls)
 
 -- So it is with the built lambdas of a program within the limits.
 abbrev pub BuiltProgramsKeepMeaning : Type 0
 BuiltProgramsKeepMeaning =
-    (p : ProgramTree) → IsWellTyped p → HasFewGroups p → IsSmall p → HaveWords (graph p) → KeepsMeaning p (graph p) (file_of_program (omega p) (graph p))
+    (p : ProgramTree) → IsWellTyped p → HasFewGroups p → IsSmall p → KeepsMeaning p (graph p) (file_of_program (omega p) (graph p))
 
--- So the image of a source that is accepted does what its program does, where the constants of its graph are words.
+-- So the image of a source that is accepted does what its program does.
 abbrev pub AcceptedSourcesKeepMeaning : Type 0
 AcceptedSourcesKeepMeaning =
-    (source : List ℕ) → AreBytes source → (p : ProgramTree) → Accepts source p → HaveWords (graph p) → KeepsMeaning p (graph p) (image_of p)
+    (source : List ℕ) → AreBytes source → (p : ProgramTree) → Accepts source p → KeepsMeaning p (graph p) (image_of p)

@@ -4,12 +4,12 @@
 ghost use Rattle.cc_meaning.specs.Laws.{AcceptedSourcesKeepMeaning, BuiltProgramsKeepMeaning, ProgramsKeepMeaning};
 
 /// The image of a well-typed program, each `switch` of which has fewer than 2^32 groups, keeps the
-/// program's meaning, with the built lambdas or with others that may stand for them, where their
-/// constants are words: on every input of bytes on which no bound makes the program undefined
-/// (ISO/IEC 9899:2011, 3.4.3), it loads and does what the program does, bounded run for bounded run
-/// both ways, or stops for want of stack after a beginning of the program's output, where the
-/// frames of some stack of calls need more than the stack has. So it does with the built lambdas,
-/// where the program is within the limits of an image.
+/// program's meaning, with the built lambdas or with others that may stand for them: on every input
+/// of bytes on which no bound makes the program undefined (ISO/IEC 9899:2011, 3.4.3), it loads and
+/// does what the program does, bounded run for bounded run both ways, or stops for want of stack
+/// after a beginning of the program's output, where the frames of some stack of calls need more
+/// than the stack has. So it does with the built lambdas, where the program is within the limits
+/// of an image.
 pub fn programs_keep_meaning()
     ensures lists { ProgramsKeepMeaning }
     ensures built { BuiltProgramsKeepMeaning }
@@ -21,8 +21,7 @@ pub fn programs_keep_meaning()
     cc_simulation::laws::images_keep_meaning();
 }
 
-/// The image of a source of bytes that is accepted keeps the meaning of its program, where the
-/// constants of its graph are words.
+/// The image of a source of bytes that is accepted keeps the meaning of its program.
 pub fn accepted_sources_keep_meaning()
     ensures { AcceptedSourcesKeepMeaning }
 {

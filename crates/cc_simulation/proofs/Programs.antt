@@ -14,10 +14,10 @@ use Rattle.cc_simulation.proofs.lemmas.Images.{image_keeps}
 pub images_keep_meaning : ProgramIsKept → SequencedFunctionsAgree → ProgramsAreWithin → ProgramLoads → ImageIsPlaced → LoadedIsSound →
     GlobalsAreShown → GlobalsHaveBlocks →
     ImagesKeepMeaning
-images_keep_meaning kept agree within loads placed sound shown blocks omega ls can words i bytes right =
+images_keep_meaning kept agree within loads placed sound shown blocks omega ls can i bytes right =
     let addresses = (program_of omega ls).addresses in
-    let lays = can-lay-out omega ls can words in
-    let segments = segments_are_sound omega ls can words sound loads in
-    image_keeps kept agree within omega ls can (loads omega ls can) (program_can_run omega ls can words sound loads) addresses.stack_at put_at (bases_of addresses) i
-    (program_starts omega ls can words sound loads placed (bases_of addresses) i (shown (linear ls) omega.deltas (main_of omega) lays segments can.program.globals)
+    let lays = can-lay-out omega ls can in
+    let segments = segments_are_sound omega ls can sound loads in
+    image_keeps kept agree within omega ls can (loads omega ls can) (program_can_run omega ls can sound loads) addresses.stack_at put_at (bases_of addresses) i
+    (program_starts omega ls can sound loads placed (bases_of addresses) i (shown (linear ls) omega.deltas (main_of omega) lays segments can.program.globals)
     (blocks (linear ls) omega.deltas (main_of omega) lays segments) bytes) right

@@ -1,9 +1,6 @@
 -- When an image does what its lambdas do.
-use Rattle.std.specs.Prelude.{◌≡◌, ℕ, ◌^◌, ◌<◌, List, map, Some, slice_get}
+use Rattle.std.specs.Prelude.{ℕ, List, map}
 use Rattle.val_core.specs.Answers.{IsUndefined}
-use Rattle.g_graph.specs.declared.op.Op.{Op}
-use Rattle.g_graph.specs.declared.op.Op.TheVariants.{Const}
-use Rattle.g_graph.specs.Lists.{RegionOps}
 use Rattle.g_graph.specs.Plain.{PlainLambda, PlainOmega}
 use Rattle.g_mean.specs.Data.{Datum}
 use Rattle.g_mean.specs.Calls.{global_of, program_at, deepest_main}
@@ -18,15 +15,6 @@ use Rattle.cc_behaviour.specs.Behaviour.{FileKeeps}
 -- the bytes of the frames of the lambdas' functions, by function
 abbrev pub frames : List PlainLambda → List ℕ
 frames ls = map frame_of ls
-
--- a Const has a word
-abbrev pub HasWord : Op → (count : ℕ) → Type 0
-HasWord (Const w) count = w < 2 ^ 32
-HasWord op count = Unit {0}
-
--- each Const of the lambdas does
-abbrev pub HaveWords : List PlainLambda → Type 0
-HaveWords ls = (f : ℕ) (l : PlainLambda) → slice_get ls f ≡ Some l → RegionOps HasWord l.body
 
 -- the linear code of lambdas
 abbrev pub linear : List PlainLambda → List LinearFunction
@@ -43,6 +31,6 @@ ImageKeepsMeaning omega ls =
     (i : List ℕ) → AreBytes i → ((n : ℕ) → IsUndefined (program_at n omega ls i) → ⊥) →
     FileKeeps (List Datum) (λ n. program_at n omega ls i) (λ n. deepest_main n omega ls (frames ls) i) (file_of_program omega ls) i
 
--- So it is with every program whose constants are words.
+-- So it is with every program.
 abbrev pub ImagesKeepMeaning : Type 0
-ImagesKeepMeaning = (omega : PlainOmega) (ls : List PlainLambda) → CanEmit omega ls → HaveWords ls → ImageKeepsMeaning omega ls
+ImagesKeepMeaning = (omega : PlainOmega) (ls : List PlainLambda) → CanEmit omega ls → ImageKeepsMeaning omega ls

@@ -3,10 +3,10 @@
 
 ghost use Rattle.cc_simulation.specs.Images.{ImagesKeepMeaning};
 
-/// The image of every program within the limits whose constants are words does on the machine what
-/// its lambdas do, on every input of bytes on which no bound makes them undefined: it loads, and
-/// does so bounded run for bounded run both ways, or stops for want of stack after a beginning of
-/// their output, where the frames of some stack of calls need more than the stack has.
+/// The image of every program within the limits does on the machine what its lambdas do, on every
+/// input of bytes on which no bound makes them undefined: it loads, and does so bounded run for
+/// bounded run both ways, or stops for want of stack after a beginning of their output, where the
+/// frames of some stack of calls need more than the stack has.
 pub fn images_keep_meaning()
     ensures { ImagesKeepMeaning }
 {

@@ -125,6 +125,13 @@ regions_of_well_formed l w =
     (and_parts (body_fits l && numbers_fit l) (every_region (region_fits (length l.objects)) l.body)
     ((and_parts (body_fits l && numbers_fit l && every_region (region_fits (length l.objects)) l.body) (all_of (λ o. leaves_fit o.size 0 o.leaves) l.objects) w).0)).1
 
+-- what every instruction of a sequenced op passes
+pub instrs_pass : (test : Instr → Bool) → ((t s : ℕ) → test (move t s) ≡ true) → ((t : ℕ) → test (undef t) ≡ true) →
+    ((op : Op) (t : ℕ) (xs : List ℕ) → test (op_instr op t xs) ≡ true) → (l : PlainLambda) → IsWellFormed l → all_of (does test) (lines (sequenced l)) ≡ true
+instrs_pass test moved unknown made l w =
+    sequenced_passes test (λ op n. Unit {0}) moved unknown (λ op t xs h. made op t xs) l
+    (region_has (length l.objects) (λ op n. Unit {0}) (λ args before id op inputs rs e. tt) l.body (regions_of_well_formed l w))
+
 -- ---- widths
 
 abbrev WidthFits : Op → ℕ → Type 0

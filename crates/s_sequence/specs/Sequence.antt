@@ -1,6 +1,6 @@
 -- The linear code of a lambda: each node is one step, in list order. Names are numbered in the order of first writing, by
 -- arithmetic over the tree; states have none.
-use Rattle.std.specs.Prelude.{ℕ, suc, ◌+◌, ◌==◌, if◌then◌else◌, List, [], ◌∷◌, map, take, slice_index_or}
+use Rattle.std.specs.Prelude.{ℕ, suc, ◌+◌, ◌^◌, ◌%◌, ◌==◌, if◌then◌else◌, List, [], ◌∷◌, map, take, slice_index_or}
 use Rattle.std.specs.declared.option.Option.{Option}
 use Rattle.std.specs.declared.option.Option.TheVariants.{Some}
 use Rattle.g_graph.specs.declared.op.Kind.{Kind}
@@ -108,9 +108,9 @@ abbrev pub without_states : List ℕ → List ℕ
 without_states (x ∷ y ∷ z ∷ xs) = x ∷ without_states (y ∷ z ∷ xs)
 without_states xs = []
 
--- the instruction of an op without regions, with this target and these names of its inputs
+-- the instruction of an op without regions, with this target and these names of its inputs: a Const's number is its low word
 abbrev pub op_instr : Op → (target : ℕ) → List ℕ → Instr
-op_instr (Const w) t xs = const t w
+op_instr (Const w) t xs = const t (w % 2 ^ 32)
 op_instr Undef t xs = undef t
 op_instr (Local k) t xs = object_address t k
 op_instr (Delta k) t xs = global_address t k

@@ -1,6 +1,7 @@
 -- The functions of a program can run once its image is loaded, and its image begins as the machine wants it.
-use Rattle.std.proofs.Common.{◌≡◌, ℕ, zero, suc, ◌+◌, ◌-◌, ◌^◌, ◌<◌, ◌≤◌, Bool, true, false, if◌then◌else◌, List, [], ◌∷◌, map, length, slice_get, Some, refl, sym, ap, subst, ◌∙◌, arith}
+use Rattle.std.proofs.Common.{◌≡◌, ℕ, zero, suc, ◌+◌, ◌-◌, ◌%◌, ◌^◌, ◌<◌, ◌≤◌, Bool, true, false, if◌then◌else◌, List, [], ◌∷◌, map, length, slice_get, Some, refl, sym, ap, subst, ◌∙◌, arith}
 use Rattle.std.proofs.lemmas.Bool.{and_parts, lt-ltb}
+use Rattle.std.proofs.lemmas.Nat.{mod_below}
 use Rattle.std.proofs.lemmas.List.Sums.{sum_by-cons, sum_by-take-le}
 use Rattle.std.proofs.lemmas.Option.{same_Some}
 use Rattle.std.specs.List.{sum_by}
@@ -10,7 +11,6 @@ use Rattle.elf_file.specs.Laws.{executable_for, LoadedIsSound}
 use Rattle.elf_file.specs.Segments.{AreSound}
 use Rattle.g_graph.specs.declared.op.Op.{Op}
 use Rattle.g_graph.specs.declared.op.Op.TheVariants.{Const, Undef, Local, Delta, Bin, Un, Load, Store, Clear, PtrEq, Apply, Put, Exit, Get, Gamma, Theta}
-use Rattle.g_graph.specs.Lists.{RegionOps}
 use Rattle.g_graph.specs.Plain.{PlainObject, PlainDelta, PlainLambda, PlainOmega}
 use Rattle.g_graph.specs.Program.{lambda_values}
 use Rattle.g_graph.specs.WellFormed.{all_of, body_fits, numbers_fit, every_region, region_fits, leaves_fit, IsWellFormed}
@@ -28,7 +28,7 @@ use Rattle.s_linear.specs.Lines.{does, code_labels, lines}
 use Rattle.s_linear.specs.declared.frame.Frame.{Frame}
 use Rattle.s_linear.proofs.Labels.{labels_are_marked_once}
 use Rattle.s_sequence.specs.Sequence.{op_instr, sequenced}
-use Rattle.s_sequence.proofs.Instrs.{sequenced_passes, globals_are_there}
+use Rattle.s_sequence.proofs.Instrs.{instrs_pass, globals_are_there}
 use Rattle.s_sequence.proofs.Named.{names_are_below}
 use Rattle.a_place.proofs.Starting.{places_are_few}
 use Rattle.a_place.specs.Places.{places}
@@ -46,31 +46,31 @@ use Rattle.cc_emit.specs.Image as image
 use Rattle.cc_emit.specs.Laws.{IsFunction, ImageIsPlaced, ProgramLoads}
 use Rattle.cc_emit.proofs.lemmas.FunctionFits.{functions_fit, within_reach}
 use Rattle.cc_emit.proofs.lemmas.Lambdas.{is_function, frame_fits, can_select}
-use Rattle.cc_simulation.specs.Images.{HasWord, HaveWords, linear, program_of}
+use Rattle.cc_simulation.specs.Images.{linear, program_of}
 use Rattle.cc_simulation.proofs.lemmas.Images.{items-same, bytes-all}
 
 -- ---- constants
 
-word_made : (op : Op) (t : ℕ) (xs : List ℕ) → HasWord op (length xs) → is_word_constant (op_instr op t xs) ≡ true
-word_made (Const w) t xs h = lt-ltb w (2 ^ 32) h
-word_made Undef t xs h = refl
-word_made (Local k) t xs h = refl
-word_made (Delta k) t xs h = refl
-word_made (Bin o) t xs h = refl
-word_made (Un o) t xs h = refl
-word_made (Load width) t xs h = refl
-word_made (Store width) t xs h = refl
-word_made (Clear k) t xs h = refl
-word_made PtrEq t xs h = refl
-word_made (Apply f) t xs h = refl
-word_made Put t xs h = refl
-word_made Exit t xs h = refl
-word_made Get t xs h = refl
-word_made Gamma t xs h = refl
-word_made Theta t xs h = refl
+word_made : (op : Op) (t : ℕ) (xs : List ℕ) → is_word_constant (op_instr op t xs) ≡ true
+word_made (Const w) t xs = lt-ltb (w % 2 ^ 32) (2 ^ 32) (mod_below w (2 ^ 32) (omega arith))
+word_made Undef t xs = refl
+word_made (Local k) t xs = refl
+word_made (Delta k) t xs = refl
+word_made (Bin o) t xs = refl
+word_made (Un o) t xs = refl
+word_made (Load width) t xs = refl
+word_made (Store width) t xs = refl
+word_made (Clear k) t xs = refl
+word_made PtrEq t xs = refl
+word_made (Apply f) t xs = refl
+word_made Put t xs = refl
+word_made Exit t xs = refl
+word_made Get t xs = refl
+word_made Gamma t xs = refl
+word_made Theta t xs = refl
 
-pub constants_are_words : (l : PlainLambda) → RegionOps HasWord l.body → all_of (does is_word_constant) (lines (sequenced l)) ≡ true
-constants_are_words l h = sequenced_passes is_word_constant HasWord (λ t s. refl) (λ t. refl) word_made l h
+pub constants_are_words : (l : PlainLambda) → IsWellFormed l → all_of (does is_word_constant) (lines (sequenced l)) ≡ true
+constants_are_words l w = instrs_pass is_word_constant (λ t s. refl) (λ t. refl) word_made l w
 
 -- ---- frames
 
@@ -116,13 +116,13 @@ marked-once f l = by (nat_lt l (code_labels f.code)) (marks-items l (places_of f
 
 -- ---- a program
 
-module _ (omega : PlainOmega) (ls : List PlainLambda) (can : CanEmit omega ls) (words : HaveWords ls) where
+module _ (omega : PlainOmega) (ls : List PlainLambda) (can : CanEmit omega ls) where
   lambda-runs : (k : ℕ) (l : PlainLambda) → slice_get ls k ≡ Some l → FunctionCanRun (length omega.deltas) (places_of (sequenced l)) (sequenced l)
   lambda-runs k l there =
       let f = is_function omega ls can k l there in
       let frame : Frame = record { size = frame_size (places (lines_of l)).count l.objects; objects_at = objects_at (places (lines_of l)).count } in
       selected_can_run (length omega.deltas) (sequenced l) (places (lines_of l)) frame (can_select l frame f (record { size = refl; objects_at = refl }))
-      (globals_are_there (length omega.deltas) l (can.program.named k l there)) (constants_are_words l (words k l there)) (within_reach omega ls can k l there)
+      (globals_are_there (length omega.deltas) l (can.program.named k l there)) (constants_are_words l f.well_formed) (within_reach omega ls can k l there)
       (is_in_range l f) (leaves-fit l f.well_formed)
 
   abbrev items : List (List Item)

@@ -1,7 +1,7 @@
 -- Nodes, regions and their code agree, by one induction over the tree.
-use Rattle.std.proofs.Common.{◌≡◌, ◌≤◌, ℕ, ◌+◌, ◌-◌, ◌%◌, ◌^◌, Bool, true, false, ◌&&◌, List, [], ◌∷◌, ◌++◌, map, length, Option, Some, refl, ap, subst, ◌∙◌, arith}
+use Rattle.std.proofs.Common.{◌≡◌, ◌≤◌, ℕ, ◌+◌, ◌-◌, Bool, true, false, ◌&&◌, List, [], ◌∷◌, ◌++◌, map, length, Option, Some, refl, ap, subst, ◌∙◌, arith}
 use Rattle.std.proofs.lemmas.Bool.{and_parts}
-use Rattle.val_core.specs.declared.values.Value.TheVariants.{Num, Bad}
+use Rattle.val_core.specs.declared.values.Value.TheVariants.{Bad}
 use Rattle.val_core.specs.Objects.{Addresses}
 use Rattle.g_graph.specs.declared.op.Kind.{Kind}
 use Rattle.g_graph.specs.declared.op.Kind.TheVariants.{Value as ValueKind, Memory, Io}
@@ -29,7 +29,7 @@ use Rattle.g_mean.proofs.lemmas.Kinds.{NodeTests}
 use Rattle.s_simulation.specs.Agreement.{Agrees}
 use Rattle.s_simulation.proofs.lemmas.Held.{IsState, tied-less, Held}
 use Rattle.s_simulation.proofs.lemmas.Running.{Running, NodeDone, advanced, held}
-use Rattle.s_simulation.proofs.lemmas.Ops.{AllCallsAgree, binary-agrees, unary-agrees, load-op-agrees, store-op-agrees, clear-op-agrees, pointers-op-agree, put-agrees, exit-agrees, get-agrees, constant-agrees, call-agrees}
+use Rattle.s_simulation.proofs.lemmas.Ops.{AllCallsAgree, binary-agrees, unary-agrees, load-op-agrees, store-op-agrees, clear-op-agrees, pointers-op-agree, put-agrees, exit-agrees, get-agrees, constant-agrees, word-agrees, call-agrees}
 use Rattle.s_simulation.proofs.lemmas.Claims.{graph_context, code_context, StepDone, AllAgree, chosen-by-agree}
 
 -- ---- numbers
@@ -115,7 +115,8 @@ module _ (objects n : ℕ) (call : ℕ → Meaning) (callees : ℕ → Call) (ad
     op-agrees id Gamma inputs rs simple t = absurd cc
     op-agrees id Theta inputs rs simple t = absurd cc
     op-agrees id (Const w) inputs no_regions simple t =
-        at-next id (Const w) inputs (Some ValueKind ∷ []) (constant-agrees n callees addresses base next s (Num (w % 2 ^ 32)))
+        at-next id (Const w) inputs (Some ValueKind ∷ [])
+        (word-agrees n callees addresses base next s w (map (read xs o) inputs) (map (name_of args base names) inputs))
     op-agrees id Undef inputs no_regions simple t = at-next id Undef inputs (Some ValueKind ∷ []) (constant-agrees n callees addresses base next s Bad)
     op-agrees id (Local k) inputs no_regions simple t =
         at-next id (Local k) inputs (Some ValueKind ∷ []) (constant-agrees n callees addresses base next s (addresses.local k))

@@ -1,5 +1,6 @@
 -- The ops without regions: a node and its instruction agree.
-use Rattle.std.proofs.Common.{◌≡◌, ◌<◌, ◌≤◌, inl, inr, ℕ, zero, suc, ◌-◌, ◌^◌, Bool, true, false, cond, List, [], ◌∷◌, ◌++◌, map, length, Option, None, Some, option_map, slice_get, refl, sym, ap₂, subst, arith}
+use Rattle.std.proofs.Common.{◌≡◌, ◌<◌, ◌≤◌, inl, inr, ℕ, zero, suc, ◌-◌, ◌%◌, ◌^◌, Bool, true, false, cond, List, [], ◌∷◌, ◌++◌, map, length, Option, None, Some, option_map, slice_get, refl, sym, ap₂, subst, arith}
+use Rattle.std.proofs.Math.Nat.{mod-mod}
 use Rattle.std.specs.Prelude.{replicate}
 use Rattle.val_core.specs.declared.values.Value.{Value}
 use Rattle.val_core.specs.declared.values.Value.TheVariants.{Num, At, Bad}
@@ -14,7 +15,7 @@ use Rattle.val_core.proofs.lemmas.Answers.{then_nothing}
 use Rattle.val_core.proofs.lemmas.Values.{keeps_less_defined1, keeps_less_defined2}
 use Rattle.g_graph.specs.declared.op.Kind.{Kind}
 use Rattle.g_graph.specs.declared.op.Kind.TheVariants.{Value as ValueKind, Memory, Io}
-use Rattle.g_graph.specs.declared.op.Op.TheVariants.{Bin, Un, Load, Store, Clear, PtrEq, Apply, Put, Exit, Get}
+use Rattle.g_graph.specs.declared.op.Op.TheVariants.{Const, Bin, Un, Load, Store, Clear, PtrEq, Apply, Put, Exit, Get}
 use Rattle.g_graph.specs.Scope.{is_of}
 use Rattle.g_graph.specs.WellFormed.{some_of}
 use Rattle.g_mean.specs.Data.{Datum, val, memory, input, at_port, value_at, taken}
@@ -234,6 +235,11 @@ module _ (n : ℕ) (callees : ℕ → Call) (addresses : Addresses) (first next 
 
   pub constant-agrees : (v : Value) → Agrees (Done (Some ValueKind ∷ [])) (given v) (gives s next v)
   constant-agrees v = (given-done next s v v (inl refl), refl)
+
+  pub word-agrees : (w : ℕ) (us : List Datum) (xs : List ℕ) →
+      Agrees (Done (Some ValueKind ∷ [])) (done addresses (Const w) us) (instr_run around (op_instr (Const w) next xs) s)
+  word-agrees w us xs =
+      subst (λ v. Agrees (Done (Some ValueKind ∷ [])) (given (Num (w % 2 ^ 32))) (gives s next (Num v))) (sym (mod-mod w (2 ^ 32))) (constant-agrees (Num (w % 2 ^ 32)))
 
   -- ---- a call
 
