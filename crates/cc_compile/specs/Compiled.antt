@@ -5,7 +5,7 @@ use Rattle.c_elaboration.specs.Limits.{above_limits}
 use Rattle.g_construct.specs.Functions.{graph, omega}
 use Rattle.g_build.specs.Passed.{limit_passed}
 use Rattle.g_built.specs.BuiltLaws.{IsSmall}
-use Rattle.cc_emit.specs.Image.{file_of_program}
+use Rattle.cc_image.specs.Image.{file_of_program}
 
 -- the image of a program whose functions are as they are built
 abbrev pub image_of : ProgramTree → List ℕ

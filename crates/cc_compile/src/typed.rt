@@ -9,7 +9,7 @@ ghost use Rattle.g_graph.specs.Program.{lambda_values};
 ghost use Rattle.g_graph.specs.WellFormed.{IsWellFormed};
 ghost use Rattle.g_build.specs.Answer.{limit_named};
 ghost use Rattle.g_build.specs.Passed.{limit_passed};
-ghost use Rattle.cc_emit.specs.Image.{file_of_program, lambdas_of, CanEmit};
+ghost use Rattle.cc_image.specs.Image.{file_of_program, lambdas_of, CanEmit};
 ghost use Rattle.cc_compile.specs.Compiled.{image_of};
 
 use c_typed::Typed;

@@ -1,11 +1,2 @@
 mod Answered
-mod Bytes
-mod CodeSize
 mod Emitted
-mod Examples
-mod Globals
-mod Placed
-mod Programs
-mod Selects
-mod Short
-pub mod lemmas

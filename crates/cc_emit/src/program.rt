@@ -2,7 +2,9 @@
 ghost use Rattle.std.specs.Prelude.{◌≡◌, ◌<◌, ◌^◌, map, IfOk};
 ghost use Rattle.std.specs.Arc.{arc_value};
 ghost use Rattle.elf_file.specs.Image.{sections_of, IsPlaced};
-ghost use Rattle.cc_emit.specs.Image.{image_of, lambdas_of, main_of, CanEmit};
+ghost use Rattle.elf_file.specs.Written.{file_of};
+ghost use Rattle.cc_image.specs.Image.{image_of, lambdas_of, main_of, CanEmit};
+ghost use Rattle.cc_simulation.specs.Images.{KeepsLambdas};
 
 use crate::functions::all_items;
 use elf_file::Image;
@@ -24,14 +26,20 @@ fn main_of(omega: &Omega) -> u32
 }
 
 /// The image of a program: the functions that these lambdas are, in the order of the source, and
-/// the globals of the program. It takes time n log n in the values of each function, and linear in
-/// all else. `NoMemory` only where the allocator has none.
+/// the globals of the program. Its file keeps the behaviour of the lambdas: on every input on which
+/// no bound makes them undefined it does on the machine what they do, or stops for want of stack.
+/// It takes time n log n in the values of each function, and linear in all else. `NoMemory` only
+/// where the allocator has none.
 pub fn emit(alloc: Global, answers: &[Arc<Optimised>], omega: &Omega) -> Result<Image, NoMemory>
     requires { CanEmit omega.now (lambdas_of (map arc_value answers.now)) }
     ensures image { IfOk result (λ image.
         sections_of image ≡ image_of omega.now (lambdas_of (map arc_value answers.now))) }
     ensures placed { IfOk result (λ image. IsPlaced (sections_of image)) }
+    ensures kept { IfOk result (λ image. KeepsLambdas omega.now
+        (lambdas_of (map arc_value answers.now)) (file_of (sections_of image))) }
 {
+    cc_image::laws::image_is_placed();
+    cc_simulation::laws::images_keep_meaning();
     let functions = all_items(alloc, answers)?;
     lay(alloc, &functions, &omega.deltas, main_of(omega))
 }

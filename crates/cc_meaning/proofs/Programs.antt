@@ -19,7 +19,7 @@ use Rattle.g_mean.specs.Calls.{program_at, deepest_main}
 use Rattle.g_mean.specs.LessDefined.{Paired, AreBytes, AreNarrow, AreSoundDeltas, IsLessDefinedDatum}
 use Rattle.g_edit.specs.Steps.{MayStandForAll, WithinBothWays, ListsStandForThemselves}
 use Rattle.g_simulation.specs.Laws.{ConstructionKeepsPrograms, StartsAsProgram}
-use Rattle.cc_emit.specs.Image.{CanEmit, file_of_program}
+use Rattle.cc_image.specs.Image.{CanEmit, file_of_program}
 use Rattle.cc_behaviour.specs.Behaviour.{FileKeeps}
 use Rattle.cc_behaviour.proofs.lemmas.Nearer.{undefined_is_apart, nearer_is_kept}
 use Rattle.cc_simulation.specs.Images.{frames, ImagesKeepMeaning}

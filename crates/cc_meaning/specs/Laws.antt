@@ -7,7 +7,7 @@ use Rattle.g_construct.specs.Functions.{graph, omega}
 use Rattle.g_built.specs.BuiltLaws.{IsSmall}
 use Rattle.g_edit.specs.Steps.{MayStandForAll}
 use Rattle.g_simulation.specs.Groups.{HasFewGroups}
-use Rattle.cc_emit.specs.Image.{CanEmit, file_of_program}
+use Rattle.cc_image.specs.Image.{CanEmit, file_of_program}
 use Rattle.c_accepted.specs.SourceLaws.{AreBytes}
 use Rattle.cc_compile.specs.Accepted.{Accepts}
 use Rattle.cc_compile.specs.Compiled.{image_of}

@@ -5,8 +5,8 @@ use Rattle.s_simulation.specs.Laws.{ProgramsAreWithin}
 use Rattle.a_simulation.specs.Laws.{SequencedFunctionsAgree}
 use Rattle.s_templates.specs.Kept.{ProgramIsKept}
 use Rattle.rv_globals.specs.Globals.{bases_of, GlobalsAreShown, GlobalsHaveBlocks}
-use Rattle.cc_emit.specs.Image.{main_of}
-use Rattle.cc_emit.specs.Laws.{ImageIsPlaced, ProgramLoads}
+use Rattle.cc_image.specs.Image.{main_of}
+use Rattle.cc_image.specs.Laws.{ImageIsPlaced, ProgramLoads}
 use Rattle.cc_simulation.specs.Images.{linear, program_of, ImagesKeepMeaning}
 use Rattle.cc_simulation.proofs.lemmas.Functions.{can-lay-out, segments_are_sound, program_can_run, program_starts}
 use Rattle.cc_simulation.proofs.lemmas.Images.{image_keeps}

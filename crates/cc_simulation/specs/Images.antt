@@ -9,7 +9,7 @@ use Rattle.s_linear.specs.Linear.{LinearFunction}
 use Rattle.s_sequence.specs.Sequence.{sequenced}
 use Rattle.s_templates.specs.Functions.{Program}
 use Rattle.s_templates.specs.LaidFunctions.{loaded_program}
-use Rattle.cc_emit.specs.Image.{frame_of, main_of, file_of_program, CanEmit}
+use Rattle.cc_image.specs.Image.{frame_of, main_of, file_of_program, CanEmit}
 use Rattle.cc_behaviour.specs.Behaviour.{FileKeeps}
 
 -- the bytes of the frames of the lambdas' functions, by function
@@ -24,13 +24,13 @@ linear ls = map sequenced ls
 abbrev pub program_of : PlainOmega → List PlainLambda → Program
 program_of omega ls = loaded_program (linear ls) omega.deltas (main_of omega) (global_of omega.deltas)
 
--- The image of these lambdas, with the globals and names of the program, does what they do, on every input of bytes on
--- which no bound makes them undefined.
-abbrev pub ImageKeepsMeaning : PlainOmega → List PlainLambda → Type 0
-ImageKeepsMeaning omega ls =
+-- The file does what these lambdas do, with the globals and names of the program: on every input of bytes on which no bound
+-- makes them undefined, it keeps their behaviour, with the frames of their functions.
+abbrev pub KeepsLambdas : PlainOmega → List PlainLambda → (file : List ℕ) → Type 0
+KeepsLambdas omega ls file =
     (i : List ℕ) → AreBytes i → ((n : ℕ) → IsUndefined (program_at n omega ls i) → ⊥) →
-    FileKeeps (List Datum) (λ n. program_at n omega ls i) (λ n. deepest_main n omega ls (frames ls) i) (file_of_program omega ls) i
+    FileKeeps (List Datum) (λ n. program_at n omega ls i) (λ n. deepest_main n omega ls (frames ls) i) file i
 
--- So it is with every program.
+-- So it is with the image of every program.
 abbrev pub ImagesKeepMeaning : Type 0
-ImagesKeepMeaning = (omega : PlainOmega) (ls : List PlainLambda) → CanEmit omega ls → ImageKeepsMeaning omega ls
+ImagesKeepMeaning = (omega : PlainOmega) (ls : List PlainLambda) → CanEmit omega ls → KeepsLambdas omega ls (file_of_program omega ls)

@@ -13,8 +13,8 @@ pub fn images_keep_meaning()
     s_templates::laws::programs_are_kept();
     a_simulation::laws::sequenced_functions_agree();
     s_simulation::laws::runs_are_within_each_other();
-    cc_emit::laws::program_loads();
-    cc_emit::laws::image_is_placed();
+    cc_image::laws::program_loads();
+    cc_image::laws::image_is_placed();
     elf_file::laws::loaded_is_sound();
     rv_globals::laws::globals_are_shown();
 }

@@ -15,7 +15,7 @@ use Rattle.rv_layout.specs.Sequences.{bytes_of}
 use Rattle.rv_machine.specs.Machine.{exit, act, give, jump, call, fetched, next_effect}
 use Rattle.rv_machine.specs.Memory.{load_bytes, store_bytes, allowed, memory_of, flags_of}
 use Rattle.rv_machine.specs.Run.{RunResult, run_state, run, executed, ended}
-use Rattle.cc_emit.specs.Image.{image_of, file_of_program}
+use Rattle.cc_image.specs.Image.{image_of, file_of_program}
 use Rattle.emit_tests.proofs.Programs.{table_main, table, pointer_main, pointer, echo_main, echo, parity_lambdas, parity, narrow_main, narrow, cleared_main, cleared}
 
 -- so many instructions of the image of a program

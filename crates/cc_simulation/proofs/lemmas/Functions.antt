@@ -41,11 +41,11 @@ use Rattle.s_templates.specs.Mains.{HasStart}
 use Rattle.s_templates.specs.Relation.{Bases, ShowsMemory}
 use Rattle.s_templates.proofs.lemmas.LaidFunctions.{laid_program_can_run, laid_program_starts}
 use Rattle.s_templates.proofs.lemmas.SelectedFunctions.{selected_can_run}
-use Rattle.cc_emit.specs.Image.{lines_of, main_of, image_of, file_of_program, CanEmit}
-use Rattle.cc_emit.specs.Image as image
-use Rattle.cc_emit.specs.Laws.{IsFunction, ImageIsPlaced, ProgramLoads}
-use Rattle.cc_emit.proofs.lemmas.FunctionFits.{functions_fit, within_reach}
-use Rattle.cc_emit.proofs.lemmas.Lambdas.{is_function, frame_fits, can_select}
+use Rattle.cc_image.specs.Image.{lines_of, main_of, image_of, file_of_program, CanEmit}
+use Rattle.cc_image.specs.Image as image
+use Rattle.cc_image.specs.Laws.{IsFunction, ImageIsPlaced, ProgramLoads}
+use Rattle.cc_image.proofs.lemmas.FunctionFits.{functions_fit, within_reach}
+use Rattle.cc_image.proofs.lemmas.Lambdas.{is_function, frame_fits, can_select}
 use Rattle.cc_simulation.specs.Images.{linear, program_of}
 use Rattle.cc_simulation.proofs.lemmas.Images.{items-same, bytes-all}
 

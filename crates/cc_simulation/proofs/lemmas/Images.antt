@@ -28,8 +28,8 @@ use Rattle.s_templates.specs.Kept.{ProgramIsKept}
 use Rattle.s_templates.specs.Kept as placed
 use Rattle.s_templates.specs.Mains.{HasStart}
 use Rattle.s_templates.specs.Relation.{Bases}
-use Rattle.cc_emit.specs.Image.{main_of, image_of, file_of_program, CanEmit}
-use Rattle.cc_emit.specs.Image as image
+use Rattle.cc_image.specs.Image.{main_of, image_of, file_of_program, CanEmit}
+use Rattle.cc_image.specs.Image as image
 use Rattle.cc_behaviour.specs.Behaviour.{IsKept, FileKeeps}
 use Rattle.cc_behaviour.proofs.lemmas.Nearer.{undefined_is_apart, nearer_is_kept}
 use Rattle.cc_simulation.specs.Images.{frames, linear, program_of}

@@ -1,6 +1,6 @@
 use Rattle.std.proofs.Common.{◌≡◌, sym, ap, subst, ◌∙◌}
 use Rattle.g_graph.specs.Plain.{PlainOmega}
-use Rattle.cc_emit.specs.Image.{file_of_program, CanEmit}
+use Rattle.cc_image.specs.Image.{file_of_program, CanEmit}
 use Rattle.cc_compile.proofs.Small.{unlimited_are_small}
 use Rattle.cc_compile.proofs.typed.compile_typed.Goals as goal
 

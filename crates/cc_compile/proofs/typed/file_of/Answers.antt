@@ -2,7 +2,7 @@ use Rattle.std.proofs.Common.{◌≡◌, sym, ap, subst, ◌∙◌, map, slice_g
 use Rattle.std.specs.Arc.{arc_value}
 use Rattle.elf_file.specs.Written.{file_of}
 use Rattle.g_graph.specs.Plain.{PlainOmega}
-use Rattle.cc_emit.specs.Image.{image_of, lambdas_of}
+use Rattle.cc_image.specs.Image.{image_of, lambdas_of}
 use Rattle.cc_compile.proofs.typed.file_of.Goals as goal
 
 pub answers-requires-clause-small : goal.answers-requires-clause-small

@@ -3,9 +3,9 @@ use Rattle.std.specs.Arc.{arc_value}
 use Rattle.elf_file.specs.Image.{sections_of}
 use Rattle.g_graph.specs.Plain.{PlainOmega}
 use Rattle.rv_layout.specs.Layout.{item_lists}
-use Rattle.cc_emit.specs.Image.{lambdas_of}
-use Rattle.cc_emit.proofs.Emitted.{main_fits, can_lay_out_here, image_here, placed_here}
-use Rattle.cc_emit.proofs.lemmas.Lambdas.{is_function}
+use Rattle.cc_image.specs.Image.{lambdas_of}
+use Rattle.cc_emit.proofs.Emitted.{main_fits, can_lay_out_here, image_here, placed_here, kept_here}
+use Rattle.cc_image.proofs.lemmas.Lambdas.{is_function}
 use Rattle.cc_emit.proofs.program.emit.Goals as goal
 
 pub all_items-requires : goal.all_items-requires
@@ -29,4 +29,8 @@ returns-clause-image c =
 
 pub returns-clause-placed : goal.returns-clause-placed
 returns-clause-placed c =
-    placed_here c.args.omega.now (lambdas_of (map arc_value c.args.answers.now)) c.requires c.lay.result (returns-clause-image c)
+    placed_here c.args.omega.now (lambdas_of (map arc_value c.args.answers.now)) c.requires c.image_is_placed.ensures c.lay.result (returns-clause-image c)
+
+pub returns-clause-kept : goal.returns-clause-kept
+returns-clause-kept c =
+    kept_here c.args.omega.now (lambdas_of (map arc_value c.args.answers.now)) c.requires c.images_keep_meaning.ensures c.lay.result (returns-clause-image c)
