@@ -1,3 +1,4 @@
 pub mod Numbering
 pub mod Fits
 pub mod Copies
+pub mod Found

@@ -1,5 +1,5 @@
 -- Copies of regions under new numbers: those from a first one on, in pre-order of the copy.
-use Rattle.std.specs.Prelude.{ℕ, zero, suc, ◌+◌, ◌==◌, if◌then◌else◌, List, [], ◌∷◌, length}
+use Rattle.std.specs.Prelude.{ℕ, zero, suc, ◌+◌, ◌==◌, if◌then◌else◌, List, [], ◌∷◌, length, Option, None, Some, unwrap_or}
 use Rattle.g_graph.specs.Plain.{RegionTree}
 use Rattle.g_graph.specs.Ids.{region_ids}
 use Rattle.g_mean.specs.Copies.{region_copied}
@@ -9,6 +9,15 @@ use Rattle.g_mean.specs.Copies.{region_copied}
 abbrev pub number_from : (next : ℕ) → List ℕ → ℕ → ℕ
 number_from next [] n = next + n
 number_from next (m ∷ ms) n = if m == n then next else number_from (suc next) ms n
+
+-- what a number of the list becomes; none where it is not in the list
+abbrev pub number_among : (next : ℕ) → List ℕ → ℕ → Option ℕ
+number_among next [] n = None
+number_among next (m ∷ ms) n = if m == n then Some next else number_among (suc next) ms n
+
+-- a number that is not found stays
+abbrev pub found_or_same : (found : ℕ → Option ℕ) → ℕ → ℕ
+found_or_same found n = unwrap_or (found n) n
 
 -- so many numbers from `next` on
 abbrev pub numbers_from : (next count : ℕ) → List ℕ
