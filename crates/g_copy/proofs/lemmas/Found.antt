@@ -1,7 +1,11 @@
 -- A copy by the numbers that are found is the copy: a closed region names only nodes of its own.
-use Rattle.std.specs.Prelude.{if◌then◌else◌, unwrap_or, IsTrue}
-use Rattle.std.proofs.Common.{◌≡◌, ℕ, suc, ◌==◌, ◌⊎◌, Bool, true, false, List, [], ◌∷◌, ◌++◌, map, length, Option, None, Some, refl, sym, ap, ap₂, ◌∙◌, inl, inr, arith}
+use Rattle.std.specs.Prelude.{if◌then◌else◌, ◌<◌, ◌+◌, cond, drop, get_or, unwrap_or, IsTrue}
+use Rattle.std.specs.Ordering.{nat_cmp}
+use Rattle.std.specs.BTreeMap.{is_at}
+use Rattle.std.specs.Cmp.{unsigned_tied}
+use Rattle.std.proofs.Common.{◌≡◌, ℕ, suc, ◌==◌, ◌⊎◌, Bool, true, false, List, [], ◌∷◌, map, length, Option, Some, refl, sym, ap, ap₂, ◌∙◌, inl, inr, arith}
 use Rattle.std.proofs.lemmas.Bool.Decides.{nat_tests}
+use Rattle.std.proofs.lemmas.List.{drop_more}
 use Rattle.g_graph.specs.declared.op.Origin.{Origin}
 use Rattle.g_graph.specs.declared.op.Origin.TheVariants.{Arg, Out}
 use Rattle.g_graph.specs.Plain.{RegionTree, region, NodeTree, node, NodeTrees, no_nodes, node_then, RegionTrees, no_regions, region_then, nodes_of, regions_of}
@@ -21,6 +25,16 @@ regions_of-copied to [] = refl
 regions_of-copied to (r ∷ rs) = ap (λ ss. region_then (region_copied to r) ss) (regions_of-copied to rs)
 
 -- ---- numbers that agree
+
+-- the numbers from an index on, one more
+pub number-step : (next k n : ℕ) (ids : List ℕ) (d : ℕ) → k < length ids →
+    cond (is_at (nat_cmp (get_or ids k d)) n) (Some (next + k)) (number_among (next + (k + 1)) (drop (k + 1) ids) n) ≡ number_among (next + k) (drop k ids) n
+number-step next k n ids d h =
+    let m = get_or ids k d in
+    let more : next + (k + 1) ≡ suc (next + k) = omega arith in
+    ap (λ t. cond t (Some (next + k)) (number_among (next + (k + 1)) (drop (k + 1) ids) n)) (unsigned_tied m n)
+    ∙ ap (λ j. cond (m == n) (Some (next + k)) (number_among j (drop (k + 1) ids) n)) more
+    ∙ ap (λ ms. number_among (next + k) ms n) (sym (drop_more ids k d h))
 
 pub found-number : (next : ℕ) (ms : List ℕ) (n : ℕ) → IsAmong n ms → found_or_same (number_among next ms) n ≡ number_from next ms n
 found-number next [] n h = absurd h

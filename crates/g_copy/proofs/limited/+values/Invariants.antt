@@ -1,4 +1,4 @@
-use Rattle.std.proofs.Common.{◌≡◌, ◌-◌, ◌<◌, ◌^◌, drop}
+use Rattle.std.proofs.Common.{◌≡◌, ◌-◌, drop}
 use Rattle.g_graph.specs.Plain.{nodes_of, regions_of}
 use Rattle.g_graph.specs.Count.{region_values, nodes_values, node_values, regions_values}
 use Rattle.g_copy.proofs.limited.+values.Given as goal
