@@ -1,0 +1,12 @@
+use Rattle.std.proofs.Common.{◌≡◌, ◌+◌, ◌*◌, ◌-◌, ◌≤◌, length, vec_capacity}
+use Rattle.board_core.specs.History.{program_of}
+use Rattle.board_one.specs.Alone.{IsBetweenJobs}
+use Rattle.board_one.proofs.jobs.finish_all.Given as goal
+
+abbrev pub invariant-loop-callees : goal.invariant-loop-callees
+invariant-loop-callees g l =
+    (l.board.work ≡ l.work) × (512 ≤ vec_capacity l.callees) × IsBetweenJobs g.W.Work.made l.board
+    × (program_of g.W.Work.made l.board ≡ program_of g.W.Work.made l.initial.board)
+
+abbrev pub decreases-loop-callees : goal.decreases-loop-callees
+decreases-loop-callees g l = 2 * length l.board.deps + l.board.workers - length l.board.events

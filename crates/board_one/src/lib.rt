@@ -1,0 +1,8 @@
+//! All jobs of a work, done by one worker on a board of its own. It stands on the board and its
+//! laws. Promise: the result of each job is the one that recursion on the ranks gives.
+#![tactic(auto)]
+
+mod jobs;
+mod results;
+
+pub use jobs::do_jobs;
