@@ -1,3 +1,4 @@
 mod Letters
 mod Texts
 mod Swept
+mod OneRecipe

@@ -1,5 +1,5 @@
 -- The text of a recipe: the names of its rules, one for each sweep, joined by commas; `none` where it has no sweep.
-use Rattle.std.specs.Prelude.{ℕ, ◌++◌, List, [], ◌∷◌, codes}
+use Rattle.std.specs.Prelude.{◌≡◌, ℕ, ◌++◌, List, [], ◌∷◌, codes}
 use Rattle.g_graph.specs.declared.steps.Rule.{Rule}
 use Rattle.rule_names.specs.Names.{rule_name}
 
@@ -14,3 +14,7 @@ recipe_text (r ∷ rs) = rule_name r ++ later_text rs
 -- the most sweeps of a recipe
 abbrev pub most_sweeps : ℕ
 most_sweeps = 32
+
+-- No two recipes have one text.
+abbrev pub OneRecipe : Type 0
+OneRecipe = (rules others : List Rule) → recipe_text rules ≡ recipe_text others → rules ≡ others

@@ -45,6 +45,18 @@ is_backward Invert = false
 is_backward Unroll = false
 is_backward Inline = false
 
+-- whether a rule is there
+abbrev pub is_built : Rule → Bool
+is_built Fold = true
+is_built Cne = true
+is_built Dne = true
+is_built Inv = true
+is_built Push = true
+is_built Pull = false
+is_built Invert = false
+is_built Unroll = false
+is_built Inline = false
+
 -- the rules as a table, for sweeps and recipes
 abbrev pub rules : RuleTable
 rules = record { is_backward = is_backward; step = λ r callees n l. if applies r l n then Some (applied r n l) else None }

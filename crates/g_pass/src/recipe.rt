@@ -1,8 +1,11 @@
 ghost use Rattle.std.specs.Prelude.{◌≡◌, ◌≢◌, ◌≤◌, ◌<◌, ◌++◌, ◌∷◌, [], List, IfSome, IfNone, length};
+ghost use Rattle.std.specs.List.{list_all};
 ghost use Rattle.g_graph.specs.declared.steps.Rule.{Rule};
 ghost use Rattle.g_pass.specs.Recipe.{recipe_text, most_sweeps};
+ghost use Rattle.g_pass.specs.Sweep.{is_built};
 
 use crate::names::{after, first_rule};
+use crate::step::is_built;
 use g_graph::Rule;
 use std::marker::Model;
 
@@ -38,13 +41,13 @@ impl Recipe {
             text.now ≢ recipe_text rules) }
     {
         if text == "none" {
-            return Some(Recipe::new());
+            return Some(Recipe::none());
         }
         sweeps(text.as_bytes())
     }
 
-    // The recipe without a sweep.
-    fn new() -> Recipe
+    /// The recipe without a sweep.
+    pub fn none() -> Recipe
         ensures { result ≡ [] }
     {
         Recipe {
@@ -59,6 +62,13 @@ impl Recipe {
     {
         self.rules[self.len] = rule;
         self.len += 1;
+    }
+
+    /// Whether each rule of the recipe is there; one that is not never applies.
+    pub fn is_built(&self) -> bool
+        ensures { result ≡ list_all is_built self.now }
+    {
+        self.as_slice().iter().all(|rule| is_built(*rule))
     }
 
     /// The rules of the sweeps, in order.
@@ -76,7 +86,7 @@ fn sweeps(text: &[u8]) -> Option<Recipe>
     ensures none { IfNone result ((rule : Rule) (rules : List Rule) → length rules < most_sweeps →
         text.now ≢ recipe_text (rule ∷ rules)) }
 {
-    let mut recipe = Recipe::new();
+    let mut recipe = Recipe::none();
     let mut left = text;
     for _ in 0..MOST {
         let (rule, rest) = first_rule(left)?;

@@ -4,7 +4,7 @@ ghost use Rattle.std.specs.Arc.{arc_value};
 ghost use Rattle.g_graph.specs.WellFormed.{IsWellFormed};
 ghost use Rattle.g_recipe.specs.Answers.{lambdas_of};
 ghost use Rattle.g_recipe.specs.Sweep.{tried};
-ghost use Rattle.g_pass.specs.Sweep.{applies, applied, is_backward, rules};
+ghost use Rattle.g_pass.specs.Sweep.{applies, applied, is_backward, is_built, rules};
 
 use g_graph::{Lambda, Optimised, Rule, Step};
 use no_memory::NoMemory;
@@ -16,6 +16,16 @@ pub const fn is_backward(rule: Rule) -> bool
     ensures { result ≡ is_backward rule }
 {
     matches!(rule, Rule::Dne | Rule::Pull)
+}
+
+/// Whether the rule is there; one that is not never applies.
+pub const fn is_built(rule: Rule) -> bool
+    ensures { result ≡ is_built rule }
+{
+    !matches!(
+        rule,
+        Rule::Pull | Rule::Invert | Rule::Unroll | Rule::Inline
+    )
 }
 
 fn applies(rule: Rule, lambda: &Lambda, node: u32) -> bool

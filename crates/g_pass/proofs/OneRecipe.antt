@@ -1,0 +1,39 @@
+-- No two recipes have one text.
+use Rattle.std.proofs.Common.{◌≡◌, List, [], ◌∷◌, ◌++◌, refl, sym, ap, ◌∙◌}
+use Rattle.std.specs.Prelude.{codes}
+use Rattle.std.proofs.lemmas.List.{append_cancel_left}
+use Rattle.g_graph.specs.declared.steps.Rule.{Rule}
+use Rattle.g_graph.specs.declared.steps.Rule.TheVariants.{Fold, Cne, Dne, Inv, Push, Pull, Invert, Unroll, Inline}
+use Rattle.rule_names.specs.Names.{rule_name}
+use Rattle.g_pass.specs.Recipe.{later_text, recipe_text, OneRecipe}
+use Rattle.g_pass.proofs.Letters.{same_rule}
+use Rattle.g_pass.proofs.Texts.{rest_is}
+
+-- the text of no sweep begins with the name of no rule
+no_rule : (r : Rule) (rs : List Rule) → codes "none" ≡ recipe_text (r ∷ rs) → ⊥
+no_rule Fold rs e = absurd cc
+no_rule Cne rs e = absurd cc
+no_rule Dne rs e = absurd cc
+no_rule Inv rs e = absurd cc
+no_rule Push rs e = absurd cc
+no_rule Pull rs e = absurd cc
+no_rule Invert rs e = absurd cc
+no_rule Unroll rs e = absurd cc
+no_rule Inline rs e = absurd cc
+
+same_later : (rs ks : List Rule) → later_text rs ≡ later_text ks → rs ≡ ks
+same_later [] [] e = refl
+same_later [] (k ∷ ks) e = absurd cc
+same_later (r ∷ rs) [] e = absurd cc
+same_later (r ∷ rs) (k ∷ ks) e =
+    let flat = append_cancel_left (44 ∷ []) (rule_name r ++ later_text rs) (rule_name k ++ later_text ks) e in
+    ap (λ q. q ∷ rs) (same_rule r k (later_text rs) (later_text ks) flat)
+    ∙ ap (λ qs. k ∷ qs) (same_later rs ks (rest_is r k (later_text rs) (later_text ks) flat))
+
+pub one_recipe : OneRecipe
+one_recipe [] [] e = refl
+one_recipe [] (k ∷ ks) e = absurd (no_rule k ks e)
+one_recipe (r ∷ rs) [] e = absurd (no_rule r rs (sym e))
+one_recipe (r ∷ rs) (k ∷ ks) e =
+    ap (λ q. q ∷ rs) (same_rule r k (later_text rs) (later_text ks) e)
+    ∙ ap (λ qs. k ∷ qs) (same_later rs ks (rest_is r k (later_text rs) (later_text ks) e))
