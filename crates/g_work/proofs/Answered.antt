@@ -1,0 +1,27 @@
+-- The results of the lambdas as jobs are their answers.
+use Rattle.std.proofs.Common.{ℕ, ◌<◌, List, sym, ◌∙◌, arith}
+use Rattle.board_core.specs.Answers.{IsRanked}
+use Rattle.board_one.specs.Alone.{AreResults}
+use Rattle.g_graph.specs.declared.steps.Rule.{Rule}
+use Rattle.g_graph.specs.Plain.{PlainLambda, PlainOptimised}
+use Rattle.g_order.specs.Calls.{IsOrder}
+use Rattle.g_order.specs.Laws.{OrdersAreRanked}
+use Rattle.g_recipe.specs.Answers.{program, AreAnswers}
+use Rattle.g_recipe.proofs.lemmas.Answers.{program-ranked}
+use Rattle.g_pass.specs.Sweep.{rules}
+
+module _ (are_ranked : OrdersAreRanked) (recipe : List Rule) (ls : List PlainLambda) (ranks : List ℕ) (deps : List (List ℕ)) (order : IsOrder ls ranks deps) where
+  pub ranked : IsRanked (program rules recipe ls ranks deps 1)
+  ranked = program-ranked are_ranked rules recipe ls ranks deps order 1
+
+  pub answered : (results : List PlainOptimised) → AreResults (program rules recipe ls ranks deps 1) results → AreAnswers rules recipe ls results
+  answered results are =
+      let long = (are_ranked ls ranks deps order).deps_length in
+      record {
+        ranks = ranks;
+        deps = deps;
+        workers = 1;
+        order = order;
+        count = are.count ∙ long;
+        each = λ j inside. are.each j (omega (arith, inside, long));
+      }

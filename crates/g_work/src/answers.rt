@@ -1,0 +1,41 @@
+//! What the lambdas of a list are made into.
+ghost use Rattle.std.specs.Prelude.{◌≡◌, ◌≤◌, ◌<◌, ◌^◌, ℕ, Some, length, map, slice_get, IfOk};
+ghost use Rattle.std.specs.Arc.{arc_value};
+ghost use Rattle.limits.specs.Limits.{most_functions};
+ghost use Rattle.g_graph.specs.Lists.{IsComplete};
+ghost use Rattle.g_graph.specs.Plain.{PlainLambda};
+ghost use Rattle.g_graph.specs.Program.{lambda_values};
+ghost use Rattle.g_recipe.specs.Answers.{AreAnswers};
+ghost use Rattle.g_pass.specs.Sweep.{rules};
+
+use crate::jobs::LambdaJobs;
+use board_one::do_jobs;
+use g_graph::{Lambda, Optimised};
+use g_order::laws::{complete_lists_know_calls, orders_are_unique};
+use g_order::order;
+use g_pass::Recipe;
+use no_memory::NoMemory;
+use std::alloc::Global;
+use std::sync::Arc;
+
+/// What a recipe makes of each lambda of a complete list of at most 512, which have fewer than 2^32
+/// values each, in the order of the list: each is given what the functions of other units that it
+/// calls were made into. One worker makes them. `NoMemory` only where the allocator has none.
+pub fn answers(
+    alloc: Global,
+    lambdas: &[Lambda],
+    recipe: &Recipe,
+) -> Result<Vec<Arc<Optimised>>, NoMemory>
+    requires few { length lambdas.now ≤ most_functions }
+    requires complete { IsComplete lambdas.now }
+    requires small { (f : ℕ) (l : PlainLambda)
+        → slice_get lambdas.now f ≡ Some l → lambda_values l < 2 ^ 32 }
+    ensures { IfOk result
+        (λ all. AreAnswers rules recipe.now lambdas.now (map arc_value all.items)) }
+{
+    complete_lists_know_calls();
+    orders_are_unique();
+    let work = LambdaJobs::new(lambdas, recipe);
+    let order = order(alloc, lambdas)?;
+    do_jobs(alloc, &work, &order.ranks, &order.deps)
+}
