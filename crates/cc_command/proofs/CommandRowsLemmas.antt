@@ -1,7 +1,7 @@
 -- Each list of arguments is read as its row says.
 use Rattle.std.proofs.Common.{refl}
 use Rattle.cc_command.specs.Command.{number_in}
-use Rattle.cc_command.specs.CommandRows.{BuildRows, RunRows, OtherRows, GenRows}
+use Rattle.cc_command.specs.CommandRows.{BuildRows, RecipeRows, RunRows, OtherRows, GenRows}
 
 pub build_rows : BuildRows
 unfolding number_in
@@ -16,6 +16,20 @@ build_rows = record {
   no_name = refl;
   unknown_option = refl;
   unknown_letter = refl;
+}
+
+pub recipe_rows : RecipeRows
+recipe_rows = record {
+  equals_sign = refl;
+  next_argument = refl;
+  in_front = refl;
+  empty_text = refl;
+  no_value = refl;
+  hyphens_for_value = refl;
+  twice = refl;
+  after_hyphens = refl;
+  cut_short = refl;
+  with_help = refl;
 }
 
 pub other_rows : OtherRows

@@ -8,16 +8,29 @@ command_after_name arguments = command_of (codes "rvcc" ∷ arguments)
 
 -- how many arguments there are, and what an argument looks like
 pub record BuildRows : Type 0 where
-  pub two_names : command_after_name (codes "build" ∷ codes "a" ∷ codes "b" ∷ []) ≡ Some (build (codes "a") (codes "b"))
-  pub empty_name : command_after_name (codes "build" ∷ [] ∷ codes "b" ∷ []) ≡ Some (build [] (codes "b"))
-  pub lone_hyphen : command_after_name (codes "build" ∷ codes "-" ∷ codes "b" ∷ []) ≡ Some (build (codes "-") (codes "b"))
-  pub hyphens_first : command_after_name (codes "build" ∷ codes "--" ∷ codes "-a" ∷ codes "--" ∷ []) ≡ Some (build (codes "-a") (codes "--"))
-  pub hyphens_between : command_after_name (codes "build" ∷ codes "a" ∷ codes "--" ∷ codes "--b" ∷ []) ≡ Some (build (codes "a") (codes "--b"))
+  pub two_names : command_after_name (codes "build" ∷ codes "a" ∷ codes "b" ∷ []) ≡ Some (build (codes "a") (codes "b") (codes "none"))
+  pub empty_name : command_after_name (codes "build" ∷ [] ∷ codes "b" ∷ []) ≡ Some (build [] (codes "b") (codes "none"))
+  pub lone_hyphen : command_after_name (codes "build" ∷ codes "-" ∷ codes "b" ∷ []) ≡ Some (build (codes "-") (codes "b") (codes "none"))
+  pub hyphens_first : command_after_name (codes "build" ∷ codes "--" ∷ codes "-a" ∷ codes "--" ∷ []) ≡ Some (build (codes "-a") (codes "--") (codes "none"))
+  pub hyphens_between : command_after_name (codes "build" ∷ codes "a" ∷ codes "--" ∷ codes "--b" ∷ []) ≡ Some (build (codes "a") (codes "--b") (codes "none"))
   pub one_name : command_after_name (codes "build" ∷ codes "a" ∷ []) ≡ None
   pub three_names : command_after_name (codes "build" ∷ codes "a" ∷ codes "b" ∷ codes "c" ∷ []) ≡ None
   pub no_name : command_after_name (codes "build" ∷ []) ≡ None
   pub unknown_option : command_after_name (codes "build" ∷ codes "a" ∷ codes "b" ∷ codes "--work" ∷ codes "2" ∷ []) ≡ None
   pub unknown_letter : command_after_name (codes "build" ∷ codes "-o" ∷ codes "a" ∷ codes "b" ∷ []) ≡ None
+
+-- the option of `build`
+pub record RecipeRows : Type 0 where
+  pub equals_sign : command_after_name (codes "build" ∷ codes "a" ∷ codes "b" ∷ codes "--recipe=fold" ∷ []) ≡ Some (build (codes "a") (codes "b") (codes "fold"))
+  pub next_argument : command_after_name (codes "build" ∷ codes "a" ∷ codes "b" ∷ codes "--recipe" ∷ codes "fold,fold2" ∷ []) ≡ Some (build (codes "a") (codes "b") (codes "fold,fold2"))
+  pub in_front : command_after_name (codes "build" ∷ codes "--recipe" ∷ codes "fold" ∷ codes "a" ∷ codes "b" ∷ []) ≡ Some (build (codes "a") (codes "b") (codes "fold"))
+  pub empty_text : command_after_name (codes "build" ∷ codes "a" ∷ codes "b" ∷ codes "--recipe=" ∷ []) ≡ Some (build (codes "a") (codes "b") [])
+  pub no_value : command_after_name (codes "build" ∷ codes "a" ∷ codes "b" ∷ codes "--recipe" ∷ []) ≡ None
+  pub hyphens_for_value : command_after_name (codes "build" ∷ codes "a" ∷ codes "b" ∷ codes "--recipe" ∷ codes "--" ∷ []) ≡ None
+  pub twice : command_after_name (codes "build" ∷ codes "a" ∷ codes "b" ∷ codes "--recipe=fold" ∷ codes "--recipe=fold" ∷ []) ≡ None
+  pub after_hyphens : command_after_name (codes "build" ∷ codes "a" ∷ codes "--" ∷ codes "b" ∷ codes "--recipe=fold" ∷ []) ≡ None
+  pub cut_short : command_after_name (codes "build" ∷ codes "a" ∷ codes "b" ∷ codes "--recip" ∷ codes "fold" ∷ []) ≡ None
+  pub with_help : command_after_name (codes "build" ∷ codes "a" ∷ codes "b" ∷ codes "--recipe" ∷ codes "fold" ∷ codes "--help" ∷ []) ≡ None
 
 -- no arguments, and arguments that are no command or ask for help or a version
 pub record OtherRows : Type 0 where
@@ -71,4 +84,4 @@ pub record GenRows : Type 0 where
   pub four_arguments : command_after_name (codes "gen" ∷ codes "1" ∷ codes "1" ∷ codes "x" ∷ codes "y" ∷ []) ≡ None
 
 abbrev pub CommandRows : Type 0
-CommandRows = BuildRows × RunRows × OtherRows × GenRows
+CommandRows = BuildRows × RecipeRows × RunRows × OtherRows × GenRows

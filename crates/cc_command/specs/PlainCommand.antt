@@ -5,6 +5,6 @@ use Rattle.cc_command.specs.declared.arguments.Command.TheVariants.{Accept, Buil
 -- the plain form of a parsed command
 abbrev pub plain_command : Parsed → Command
 plain_command Accept = accept
-plain_command (Build source image) = build source.now image.now
+plain_command (Build source image recipe) = build source.now image.now recipe.now
 plain_command (Run image steps) = run image.now steps
 plain_command (Generate start functions out) = generate start functions out.now

@@ -1,11 +1,11 @@
 //! The arguments of the command line.
-ghost use Rattle.std.specs.Prelude.{◌≡◌, false, map, option_and_then, option_map, IfOk};
+ghost use Rattle.std.specs.Prelude.{◌≡◌, false, Some, map, option_and_then, option_map, IfOk};
 ghost use Rattle.std.specs.String.{string_bytes};
 ghost use Rattle.clap.specs.Words.{app_of, first_of, found_of, rows_of, shape_of, subcommand_rows_of};
 ghost use Rattle.clap.specs.declared.builder.command.Command.TheViews.{out-Command as fields_of};
 ghost use Rattle.cc_command.specs.Arguments.{rvcc, shape_of_form};
-ghost use Rattle.cc_command.specs.Command.{command_of, build_form, forms, generate_form, run_form, steps_option};
-ghost use Rattle.cc_command.specs.Forms.{form_named, number, value_or_default};
+ghost use Rattle.cc_command.specs.Command.{command_of, build_form, forms, generate_form, recipe_option, run_form, steps_option};
+ghost use Rattle.cc_command.specs.Forms.{form_named, number, text, value_or_default};
 ghost use Rattle.cc_command.specs.Reading.{found_by, read_by, read_command};
 ghost use Rattle.cc_command.specs.PlainCommand.{plain_command};
 
@@ -20,10 +20,12 @@ use std::alloc::{AllocError, Global};
 pub enum Command<'a> {
     /// No arguments: say whether the source on the input is accepted.
     Accept,
-    /// `build IN OUT`: compile the source named IN to the image named OUT.
+    /// `build IN OUT [--recipe LIST]`: compile the source named IN to the image named OUT under the
+    /// recipe LIST, which may be any text; `none` where it is not given.
     Build {
         source: &'a str,
         image: &'a str,
+        recipe: &'a str,
     },
     /// `run IMG [--steps N]`: run the image named IMG for at most N instructions, 1 to 10^12; 10^9
     /// where N is not given.
@@ -45,7 +47,8 @@ fn build_arguments<'a>(alloc: Global) -> Result<Reader<'a>, AllocError>
     ensures globals { IfOk result (λ c. (fields_of c).has_globals ≡ false) }
 {
     let command = with_required(alloc, Reader::new(alloc, "build"), "IN")?;
-    with_required(alloc, command, "OUT")
+    let command = with_required(alloc, command, "OUT")?;
+    with_option(alloc, command, "recipe")
 }
 
 fn run_arguments<'a>(alloc: Global) -> Result<Reader<'a>, AllocError>
@@ -75,6 +78,15 @@ fn rvcc<'a>(alloc: Global) -> Result<Reader<'a>, AllocError>
         .subcommand(generate_arguments(alloc)?)
 }
 
+/// The text of the recipe of a build.
+fn recipe_in<'a>(arguments: &ArgMatches<'a>) -> &'a str
+    ensures { Some (text result.now)
+        ≡ value_or_default recipe_option
+        (first_of recipe_option.name (rows_of (found_of arguments.now))) }
+{
+    value(arguments, "recipe").unwrap_or("none")
+}
+
 fn build_in<'a>(arguments: &ArgMatches<'a>) -> Option<Command<'a>>
     ensures { option_map plain_command result
         ≡ read_by build_form (rows_of (found_of arguments.now)) }
@@ -82,6 +94,7 @@ fn build_in<'a>(arguments: &ArgMatches<'a>) -> Option<Command<'a>>
     Some(Command::Build {
         source: value(arguments, "IN")?,
         image: value(arguments, "OUT")?,
+        recipe: recipe_in(arguments),
     })
 }
 
