@@ -2,3 +2,4 @@ mod Small
 mod Short
 mod Determined
 mod Decided
+mod Recipes

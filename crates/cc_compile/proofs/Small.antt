@@ -1,18 +1,21 @@
--- A program that passes no limit is small.
-use Rattle.std.proofs.Common.{◌≡◌, ◌≤◌, ℕ, zero, suc, ◌+◌, Bool, true, false, List, [], ◌∷◌, length, map, refl, sym, subst, arith}
+-- A program that passes no limit is small, and so are its lambdas.
+use Rattle.std.proofs.Common.{◌≡◌, ◌≤◌, ℕ, zero, suc, ◌+◌, Bool, true, false, List, [], ◌∷◌, length, map, refl, sym, ap, subst, ◌∙◌, ◌*◌, ◌==◌, arith}
 use Rattle.std.specs.Prelude.{nat_lt, if◌then◌else◌, Option, None, Some, option_map, slice_get}
 use Rattle.std.specs.List.{sum, sum_by}
 use Rattle.std.specs.Option.{option_or}
 use Rattle.std.proofs.lemmas.Bool.Decides.{nat_tests}
 use Rattle.std.proofs.lemmas.List.Sums.{sum-map, sum_by-cons}
-use Rattle.limits.specs.Limits.{most_functions, most_parameters, most_object_bytes, most_global_bytes, most_lambda_values}
+use Rattle.limits.specs.Limits.{most_functions, most_parameters, most_object_bytes, most_global_bytes, most_lambda_values, most_program_values}
 use Rattle.c_type.specs.Layout.{Definitions}
 use Rattle.c_typed.specs.Typed.{FunctionTree, GlobalTree, ProgramTree}
 use Rattle.c_elaboration.specs.declared.rule.Quantity.{Quantity}
 use Rattle.c_elaboration.specs.declared.rule.Quantity.TheVariants.{Parameters, ObjectBytes, GlobalBytes, Functions}
 use Rattle.c_elaboration.specs.Refusals.{above_limit}
 use Rattle.c_elaboration.specs.Limits.{many_functions, first_above, bytes_of, object_bytes, global_bytes, passing, many_global_bytes, above_limits}
-use Rattle.g_construct.specs.Functions.{function_values}
+use Rattle.g_graph.specs.Program.{lambda_values}
+use Rattle.g_edit.specs.Size.{most_grown_values}
+use Rattle.g_construct.specs.Functions.{function_values, graph, lambdas_made}
+use Rattle.g_construct.proofs.lemmas.Programs.{values_are_of_the_function}
 use Rattle.g_build.specs.Passed.{first_large, limit_passed, most_built_values}
 use Rattle.g_built.specs.BuiltLaws.{FunctionIsSmall, IsSmall}
 use Rattle.c_sound.proofs.lemmas.Accepted.{none_above, get_none}
@@ -71,3 +74,20 @@ unlimited_are_small p checked built =
       values = omega (arith, at_most most_built_values (sum_by function_values p.functions) all.0);
       globals = omega (arith, none_passing p.structs 0 p.globals (omega arith) (none_map _ (passing p.structs 0 p.globals) third.1));
     }
+
+-- ---- its lambdas
+
+values_of_graph : (p : ProgramTree) (n : ℕ) (fs : List FunctionTree) → map lambda_values (lambdas_made p n fs) ≡ map function_values fs
+values_of_graph p n [] = refl
+values_of_graph p n (f ∷ fs) =
+    ap (λ v. v ∷ map lambda_values (lambdas_made p (suc n) fs)) (values_are_of_the_function (n == p.main) f)
+    ∙ ap (λ vs. function_values f ∷ vs) (values_of_graph p (suc n) fs)
+
+-- a recipe may make them larger
+pub graph_may_grow : (p : ProgramTree) → limit_passed p.functions ≡ None → most_functions * most_grown_values + sum_by lambda_values (graph p) ≤ most_program_values
+graph_may_grow p built =
+    let values = or_none (first_large p.functions) _ built in
+    let all = if_none (nat_lt most_built_values (sum_by function_values p.functions)) _ None values.1 in
+    let few = at_most most_built_values (sum_by function_values p.functions) all.0 in
+    let same = sym (sum-map lambda_values (graph p)) ∙ (ap sum (values_of_graph p 0 p.functions) ∙ sum-map function_values p.functions) in
+    omega (arith, few, same)

@@ -1,12 +1,31 @@
 //! Laws of the composition, each the contract of a function that does nothing.
 
 ghost use Rattle.cc_compile.specs.Accepted.{AcceptedIsNotRefused, AcceptedOrRefused, OneFault, OneProgram};
-ghost use Rattle.cc_compile.specs.Compiled.{UnlimitedAreSmall};
+ghost use Rattle.cc_compile.specs.Compiled.{AnswersCanBeEmitted, OneImage, UnlimitedAreSmall, UnsweptImage};
 
 /// A program that passes no limit is small enough for an image.
 pub fn unlimited_are_small()
     ensures { UnlimitedAreSmall }
 {}
+
+/// What a recipe makes of the lambdas of a program that passes no limit can be put in an image.
+pub fn answers_can_be_emitted()
+    ensures { AnswersCanBeEmitted }
+{
+    g_built::laws::well_typed_are_built();
+    g_built::laws::small_are_within_limits();
+    pass_laws::laws::answers_keep_lists();
+}
+
+/// A program has at most one image under a recipe. Under the recipe without a sweep it is that of
+/// the functions as they are built.
+pub fn the_image_is_determined()
+    ensures one { OneImage }
+    ensures unswept { UnsweptImage }
+{
+    g_recipe::laws::answers_are_unique();
+    g_recipe::laws::answers_keep_lists();
+}
 
 /// A source is accepted as one program at most.
 pub fn the_program_is_determined()

@@ -5,7 +5,7 @@ ghost use Rattle.c_typed.specs.Typed.{ProgramTree};
 ghost use Rattle.c_typed.specs.WellTyped.{IsWellTyped};
 ghost use Rattle.c_elaboration.specs.Limits.{above_limits};
 ghost use Rattle.cc_compile.specs.Accepted.{Accepts, Checks, HasTree, Refuses};
-ghost use Rattle.cc_compile.specs.Compiled.{image_of};
+ghost use Rattle.cc_compile.specs.Compiled.{IsImageUnder};
 
 use crate::fault::CompileFault;
 use crate::typed::compile_typed;
@@ -14,6 +14,7 @@ use c_check::check;
 use c_lex::lex;
 use c_parse::parse;
 use c_typed::Typed;
+use g_pass::Recipe;
 use std::alloc::Global;
 
 /// What a source is compiled to.
@@ -49,19 +50,19 @@ pub fn typed_of(alloc: Global, source: &[u8]) -> Result<Typed, CompileFault>
     Ok(checked?)
 }
 
-/// Compiles a source text to an executable file, on one thread.
+/// Compiles a source text under a recipe to an executable file, on one thread.
 ///
 /// `Lex`, `Parse`, `Check` and `Build` come exactly where that phase refuses the source, with its
 /// fault, and `NoMemory` may come in place of any answer.
-pub fn compile_one(alloc: Global, source: &[u8]) -> Result<Compiled, CompileFault>
+pub fn compile_one(alloc: Global, source: &[u8], recipe: &Recipe) -> Result<Compiled, CompileFault>
     ensures accepted { IfOk result (λ c. (p : ProgramTree)
-        × Accepts source.now p × (c.image.items ≡ image_of p)
+        × Accepts source.now p × IsImageUnder recipe.now p c.image.items
         × (c.functions ≡ length p.functions)) }
     ensures refused { IfErr result (λ e. Refuses e source.now) }
 {
     let typed = typed_of(alloc, source)?;
     let functions = typed.functions.len() as u32;
-    let image = compile_typed(alloc, &typed);
+    let image = compile_typed(alloc, &typed, recipe);
     drop(typed);
     Ok(Compiled {
         image: image?,

@@ -2,15 +2,16 @@
 use Rattle.std.specs.Prelude.{ℕ, List}
 use Rattle.c_typed.specs.Typed.{ProgramTree}
 use Rattle.c_typed.specs.WellTyped.{IsWellTyped}
+use Rattle.g_graph.specs.declared.steps.Rule.{Rule}
 use Rattle.g_graph.specs.Plain.{PlainLambda}
 use Rattle.g_construct.specs.Functions.{graph, omega}
 use Rattle.g_built.specs.BuiltLaws.{IsSmall}
 use Rattle.g_edit.specs.Steps.{MayStandForAll}
 use Rattle.g_simulation.specs.Groups.{HasFewGroups}
-use Rattle.cc_image.specs.Image.{CanEmit, file_of_program}
+use Rattle.cc_image.specs.Image.{CanEmit, file_of_program, lambdas_of}
 use Rattle.c_accepted.specs.SourceLaws.{AreBytes}
 use Rattle.cc_compile.specs.Accepted.{Accepts}
-use Rattle.cc_compile.specs.Compiled.{image_of}
+use Rattle.cc_compile.specs.Compiled.{image_of, IsImageUnder}
 use Rattle.cc_meaning.specs.Meaning.{KeepsMeaning}
 
 -- The image of a program does what the program does, with every list of lambdas that may stand for the built ones.
@@ -28,3 +29,9 @@ BuiltProgramsKeepMeaning =
 abbrev pub AcceptedSourcesKeepMeaning : Type 0
 AcceptedSourcesKeepMeaning =
     (source : List ℕ) → AreBytes source → (p : ProgramTree) → Accepts source p → KeepsMeaning p (graph p) (image_of p)
+
+-- And so does its image under a recipe, with what the recipe makes of the lambdas.
+abbrev pub RecipesKeepMeaning : Type 0
+RecipesKeepMeaning =
+    (source : List ℕ) → AreBytes source → (p : ProgramTree) → Accepts source p → (recipe : List Rule) (bytes : List ℕ) (image : IsImageUnder recipe p bytes) →
+    KeepsMeaning p (lambdas_of image.answers) bytes

@@ -1,7 +1,7 @@
 //! Laws of the meaning of images, for the proofs of the crates above: each is the contract of a
 //! function that does nothing.
 
-ghost use Rattle.cc_meaning.specs.Laws.{AcceptedSourcesKeepMeaning, BuiltProgramsKeepMeaning, ProgramsKeepMeaning};
+ghost use Rattle.cc_meaning.specs.Laws.{AcceptedSourcesKeepMeaning, BuiltProgramsKeepMeaning, ProgramsKeepMeaning, RecipesKeepMeaning};
 
 /// The image of a well-typed program, each `switch` of which has fewer than 2^32 groups, keeps the
 /// program's meaning, with the built lambdas or with others that may stand for them: on every input
@@ -29,4 +29,16 @@ pub fn accepted_sources_keep_meaning()
     c_accepted::laws::checked_are_well_typed();
     c_accepted::laws::checked_have_few_groups();
     cc_compile::laws::unlimited_are_small();
+}
+
+/// The image of such a source under a recipe keeps the meaning of its program, whatever the recipe.
+pub fn recipes_keep_meaning()
+    ensures { RecipesKeepMeaning }
+{
+    programs_keep_meaning();
+    c_accepted::laws::checked_are_well_typed();
+    c_accepted::laws::checked_have_few_groups();
+    g_built::laws::well_typed_are_built();
+    cc_compile::laws::answers_can_be_emitted();
+    pass_laws::laws::answers_keep_lists();
 }
