@@ -1,7 +1,7 @@
 #!/bin/sh
 # Compares the compiler with tables of expected values: refusals, images, words of images, and runs. The tables stand next to the
-# repository, in ../shared/rows, with the program read.py that reads them; of their values those are compared that need no option
-# of `build`. It prints each difference.
+# repository, in ../shared/rows, with the program read.py that reads them; of their values those are compared that need no rule, and
+# the images under recipes whose rules are there. It prints each difference.
 set -u
 cd "$(dirname "$0")/.." || exit 1
 script=tools/rows.sh
@@ -24,9 +24,12 @@ import read
 
 class Comparison(read.Trial):
     def images(self, what, row):
-        status, _, image = self.build(read.source(row), "default")
-        found = (len(image), hashlib.sha256(image).hexdigest()) if image is not None else (status, "no image")
-        self.same(what, (int(row["none-bytes"]), row["none-sha256"]), found)
+        for key, recipe in (("none", "none"), ("recipe", row["recipe"])):
+            status, _, image = self.build(read.source(row), recipe)
+            if key == "recipe" and status == 1:
+                continue  # it names a rule that is not there
+            found = (len(image), hashlib.sha256(image).hexdigest()) if image is not None else (status, "no image")
+            self.same("%s, recipe %s" % (what, recipe), (int(row[key + "-bytes"]), row[key + "-sha256"]), found)
 
     def runs(self, what, row):
         self.run(what, "default", read.source(row), read.bytes_of(row["input"]), read.bytes_of(row["output"]), "exit " + row["status"])

@@ -25,7 +25,7 @@ fn long_sources_are_refused(rt: HostRuntime) -> Result<(), Fail> {
 #[test]
 fn other_words_are_usage(rt: HostRuntime) -> Result<(), Fail> {
     let alloc = rt.alloc();
-    let rows: [&[&str]; 14] = [
+    let rows: [&[&str]; 20] = [
         &["rvcc", "build"],
         &["rvcc", "build", "in"],
         &["rvcc", "build", "in", "out", "out"],
@@ -36,6 +36,12 @@ fn other_words_are_usage(rt: HostRuntime) -> Result<(), Fail> {
         &["rvcc", "build", "in", "out", "--help"],
         &["rvcc", "build", "help", "out"],
         &["rvcc", "build", "in", "--", "-V"],
+        &["rvcc", "build", "in", "out", "--recipe", "fold,fold2"],
+        &["rvcc", "build", "in", "out", "--recipe", "none,fold"],
+        &["rvcc", "build", "in", "out", "--recipe="],
+        &["rvcc", "build", "in", "out", "--recipe", "ivt"],
+        &["rvcc", "build", "in", "out", "--recipe"],
+        &["rvcc", "build", "in", "out", "--recipe=cne", "--recipe=cne"],
         &["rvcc", "gen", "+1", "1", "out"],
         &["rvcc", "gen", "4294967296", "1", "out"],
         &["rvcc", "gen", "1", "512", "out"],
@@ -53,6 +59,8 @@ fn other_words_are_usage(rt: HostRuntime) -> Result<(), Fail> {
     }
     let after_hyphens = ["rvcc", "build", "--", "in", "out"];
     assert_eq!(rt; called_on(alloc, &after_hyphens, ANSWER, &[])?.status, 0);
+    let before = ["rvcc", "build", "--recipe", "fold,dne", "in", "out"];
+    assert_eq!(rt; called_on(alloc, &before, ANSWER, &[])?.status, 0);
     let missing = called_on(alloc, &["rvcc", "build", "none", "out"], ANSWER, &[])?;
     assert_eq!(rt; missing.status, 2);
     assert_eq!(rt; missing.report.bytes(), b"read fault\n".as_slice());

@@ -137,14 +137,16 @@ int main(void)
 }
 ";
 
-/// Builds this source and runs its image with this option.
+/// Builds this source under a recipe and runs its image with this option.
 fn built_and_run(
     alloc: Global,
     source: &[u8],
+    recipe: &str,
     input: &[u8],
     steps: &str,
 ) -> Result<Left, AllocError> {
-    let built = called_on(alloc, &BUILD, source, &[])?;
+    let words = ["rvcc", "build", "in", "out", "--recipe", recipe];
+    let built = called_on(alloc, &words, source, &[])?;
     let image = built.files.get("out").unwrap_or(b"");
     called(
         alloc,
@@ -155,21 +157,30 @@ fn built_and_run(
     )
 }
 
+/// Recipes under which each program does what its source says.
+const RECIPES: [&str; 3] = [
+    "none",
+    "psh,psh,psh",
+    "fold,inv,cne,dne,psh,fold,cne,inv,dne,dne",
+];
+
 #[test]
 fn programs_do_what_their_sources_say(rt: HostRuntime) -> Result<(), Fail> {
     let alloc = rt.alloc();
-    for (source, input, output, report) in &PROGRAMS {
-        let left = built_and_run(alloc, source, input, "--steps=1000000")?;
-        assert_eq!(rt; left.status, 0);
-        assert_eq!(rt; left.output.bytes(), *output);
-        assert_eq!(rt; left.report.bytes(), *report);
+    for recipe in RECIPES {
+        for (source, input, output, report) in &PROGRAMS {
+            let left = built_and_run(alloc, source, recipe, input, "--steps=1000000")?;
+            assert_eq!(rt; left.status, 0);
+            assert_eq!(rt; left.output.bytes(), *output);
+            assert_eq!(rt; left.report.bytes(), *report);
+        }
+        let squares = built_and_run(alloc, SQUARES, recipe, b"", "--steps=1000000")?;
+        assert_eq!(rt;
+            squares.output.bytes(),
+            b"1 1\n2 4\n3 9\n4 16\n5 25\n6 36\n7 49\n8 64\n9 81\n10 100\n11 121\n12 144\n".as_slice()
+        );
+        assert_eq!(rt; squares.report.bytes(), b"exit 0\n".as_slice());
     }
-    let squares = built_and_run(alloc, SQUARES, b"", "--steps=1000000")?;
-    assert_eq!(rt;
-        squares.output.bytes(),
-        b"1 1\n2 4\n3 9\n4 16\n5 25\n6 36\n7 49\n8 64\n9 81\n10 100\n11 121\n12 144\n".as_slice()
-    );
-    assert_eq!(rt; squares.report.bytes(), b"exit 0\n".as_slice());
     Ok(())
 }
 
@@ -177,14 +188,16 @@ fn programs_do_what_their_sources_say(rt: HostRuntime) -> Result<(), Fail> {
 fn programs_that_do_not_end_are_stopped(rt: HostRuntime) -> Result<(), Fail> {
     let alloc = rt.alloc();
     let endless = b"int main(void) { while (1); return 0; }";
-    let left = built_and_run(alloc, endless, b"", "--steps=1000")?;
-    assert_eq!(rt; left.status, 7);
-    assert_eq!(rt; left.report.bytes(), b"budget\n".as_slice());
+    for recipe in ["none", "fold", "cne", "dne", "inv", "psh"] {
+        let left = built_and_run(alloc, endless, recipe, b"", "--steps=1000")?;
+        assert_eq!(rt; left.status, 7);
+        assert_eq!(rt; left.report.bytes(), b"budget\n".as_slice());
+    }
 
     // Some 140 frames of 60,000 bytes fit into the stack.
     let deep = b"int f(int n) { char a[60000]; a[0] = n; return f(n + 1) + a[0]; }
         int main(void) { return f(0); }";
-    let left = built_and_run(alloc, deep, b"", "--steps=1000000")?;
+    let left = built_and_run(alloc, deep, "none", b"", "--steps=1000000")?;
     assert_eq!(rt; left.status, 7);
     assert_eq!(rt; left.report.bytes(), b"stack\n".as_slice());
     Ok(())

@@ -11,10 +11,10 @@ use Rattle.cc_top.proofs.SourceLemmas.{defines_of_read, refused_of_read}
 
 -- the bytes that were read are a source of so many functions
 pub accepted_ends : (functions : ℕ) (e : Outcome) (input input' output output' : StreamSeen) (read bytes : List ℕ) → ForSome input.bytes (λ text. read ≡ take 1048577 text) →
-    CompilesTo read bytes functions
+    CompilesTo [] read bytes functions
     → IsTold functions e output output' → AcceptCause e input input' output output'
-accepted_ends n Done input input' output output' read bytes same h ends = (n, (λ text is. defines_of_read text read bytes n (same text is) h), ends)
-accepted_ends n WriteFault input input' output output' read bytes same h ends = (n, (λ text is. defines_of_read text read bytes n (same text is) h), ends)
+accepted_ends n Done input input' output output' read bytes same h ends = (n, (λ text is. defines_of_read [] text read bytes n (same text is) h), ends)
+accepted_ends n WriteFault input input' output output' read bytes same h ends = (n, (λ text is. defines_of_read [] text read bytes n (same text is) h), ends)
 accepted_ends n Usage input input' output output' read bytes same h ends = absurd ends
 accepted_ends n ReadFault input input' output output' read bytes same h ends = absurd ends
 accepted_ends n (Refused refusal) input input' output output' read bytes same h ends = absurd ends

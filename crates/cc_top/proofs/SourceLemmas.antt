@@ -7,6 +7,7 @@ use Rattle.c_lex.specs.Tokens.{lexed}
 use Rattle.c_lex.specs.declared.fault.LexFault.TheVariants as lexer
 use Rattle.c_lex.specs.declared.token.Token.{Token}
 use Rattle.c_typed.specs.Typed.{ProgramTree}
+use Rattle.g_graph.specs.declared.steps.Rule.{Rule}
 use Rattle.cc_compile.specs.Accepted.{Accepts, Refuses}
 use Rattle.cc_compile.specs.declared.fault.CompileFault.{CompileFault}
 use Rattle.cc_compile.specs.declared.fault.CompileFault.TheVariants as fault
@@ -64,15 +65,15 @@ refused-take s r h =
 
 -- ---- what the bytes that were read compile to, the source compiles to
 
-pub image_of_read : (s read bytes : List ℕ) (functions : ℕ) → read ≡ take 1048577 s → CompilesTo read bytes functions → HasImage s bytes
-image_of_read s read bytes functions same h = record {
+pub image_of_read : (recipe : List Rule) (s read bytes : List ℕ) (functions : ℕ) → read ≡ take 1048577 s → CompilesTo recipe read bytes functions → HasImage recipe s bytes
+image_of_read recipe s read bytes functions same h = record {
   program = h.0;
   accepted = accepted-take s h.0 (subst (λ t. Accepts t h.0) same h.1);
   image = h.2;
 }
 
-pub defines_of_read : (s read bytes : List ℕ) (functions : ℕ) → read ≡ take 1048577 s → CompilesTo read bytes functions → Defines functions s
-defines_of_read s read bytes functions same h = record {
+pub defines_of_read : (recipe : List Rule) (s read bytes : List ℕ) (functions : ℕ) → read ≡ take 1048577 s → CompilesTo recipe read bytes functions → Defines functions s
+defines_of_read recipe s read bytes functions same h = record {
   program = h.0;
   accepted = accepted-take s h.0 (subst (λ t. Accepts t h.0) same h.1);
   counted = h.3;

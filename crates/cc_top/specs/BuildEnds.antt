@@ -1,12 +1,16 @@
 -- How `build` ends: the cause of each outcome, and what the files hold then.
-use Rattle.std.specs.Prelude.{◌≡◌, ◌⊎◌, ℕ, List, take, option_map}
+use Rattle.std.specs.Prelude.{◌≡◌, ◌≤◌, ◌⊎◌, ℕ, true, List, length, take, option_map}
+use Rattle.std.specs.List.{list_all}
 use Rattle.std.specs.Option.{ForSome}
+use Rattle.g_graph.specs.declared.steps.Rule.{Rule}
+use Rattle.g_pass.specs.Recipe.{recipe_text, most_sweeps}
+use Rattle.g_pass.specs.Sweep.{is_built}
 use Rattle.cc_io.specs.Faults.{Increased}
 use Rattle.cc_io.specs.Files.{Name, content, put_file}
 use Rattle.cc_top.specs.Outside.{FilesSeen}
 use Rattle.cc_top.specs.Refused.{HasImage, IsRefused}
 use Rattle.cc_top.specs.declared.outcome.Outcome.{Outcome}
-use Rattle.cc_top.specs.declared.outcome.Outcome.TheVariants.{Done, ReadFault, WriteFault, Refused, NoMemory}
+use Rattle.cc_top.specs.declared.outcome.Outcome.TheVariants.{Done, Usage, ReadFault, WriteFault, Refused, NoMemory}
 
 -- the file of this name was not read
 abbrev pub ReadFails : Name → FilesSeen → FilesSeen → Type 0
@@ -34,13 +38,27 @@ WritesPrefix name bytes before after = Unchanged before after ⊎ ((count : ℕ)
 abbrev pub IfKnown : Name → FilesSeen → (List ℕ → Type 0) → Type 0
 IfKnown source before P = ForSome before.known (λ files. P (content source files))
 
-abbrev pub BuildEnds : (source image : Name) → Outcome → FilesSeen → FilesSeen → Type 0
-BuildEnds source image Done before after =
-    IfKnown source before (λ text. (bytes : List ℕ) × HasImage text bytes × Writes image bytes before after)
-BuildEnds source image ReadFault before after = ReadFails source before after × Unchanged before after
-BuildEnds source image WriteFault before after =
+-- under a recipe
+abbrev pub BuildEnds : List Rule → (source image : Name) → Outcome → FilesSeen → FilesSeen → Type 0
+BuildEnds recipe source image Done before after =
+    IfKnown source before (λ text. (bytes : List ℕ) × HasImage recipe text bytes × Writes image bytes before after)
+BuildEnds recipe source image ReadFault before after = ReadFails source before after × Unchanged before after
+BuildEnds recipe source image WriteFault before after =
     WriteFails image before after
-    × IfKnown source before (λ text. (bytes : List ℕ) × HasImage text bytes × WritesPrefix image bytes before after)
-BuildEnds source image (Refused refusal) before after = IfKnown source before (λ text. IsRefused text refusal) × Unchanged before after
-BuildEnds source image NoMemory before after = Unchanged before after
-BuildEnds source image _ before after = ⊥
+    × IfKnown source before (λ text. (bytes : List ℕ) × HasImage recipe text bytes × WritesPrefix image bytes before after)
+BuildEnds recipe source image (Refused refusal) before after = IfKnown source before (λ text. IsRefused text refusal) × Unchanged before after
+BuildEnds recipe source image NoMemory before after = Unchanged before after
+BuildEnds recipe source image _ before after = ⊥
+
+-- ---- the recipe
+
+-- the text of a recipe, each rule of which is there
+pub record IsTextOf (recipe : List Rule) (text : List ℕ) : Type 0 where
+  pub written : text ≡ recipe_text recipe
+  pub short : length recipe ≤ most_sweeps
+  pub built : list_all is_built recipe ≡ true
+
+-- The build ends so under the recipe that the text is of. Where it is of none, the arguments are no command.
+pub record BuildEndsUnder (text : List ℕ) (source image : Name) (ended : Outcome) (before after : FilesSeen) : Type 0 where
+  pub build : (recipe : List Rule) → IsTextOf recipe text → BuildEnds recipe source image ended before after
+  pub usage : ((recipe : List Rule) → IsTextOf recipe text → ⊥) → ((ended ≡ Usage) ⊎ (ended ≡ NoMemory)) × (after ≡ before)

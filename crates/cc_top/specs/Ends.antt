@@ -1,7 +1,7 @@
 -- How a command ends: the cause of each outcome, and what the outside holds then.
 use Rattle.std.specs.Prelude.{◌≡◌, ◌⊎◌, Option, Some, None}
 use Rattle.cc_top.specs.AcceptEnds.{AcceptEnds}
-use Rattle.cc_top.specs.BuildEnds.{BuildEnds}
+use Rattle.cc_top.specs.BuildEnds.{BuildEndsUnder}
 use Rattle.cc_top.specs.RunEnds.{RunEnds}
 use Rattle.cc_top.specs.GenerateEnds.{GenerateEnds}
 use Rattle.cc_command.specs.Command.{Command, accept, build, run, generate}
@@ -15,8 +15,8 @@ abbrev pub Ends : Option Command → Outcome → Outside → Outside → Type 0
 Ends None ended before after = ((ended ≡ Usage) ⊎ (ended ≡ NoMemory)) × (after ≡ before)
 Ends (Some accept) ended before after =
     AcceptEnds ended before.input after.input before.output after.output × (after.files ≡ before.files)
-Ends (Some (build source image)) ended before after =
-    BuildEnds source image ended before.files after.files × KeepsStreams before after
+Ends (Some (build source image recipe)) ended before after =
+    BuildEndsUnder recipe source image ended before.files after.files × KeepsStreams before after
 Ends (Some (generate start functions out)) ended before after =
     GenerateEnds start functions out ended before.files after.files × KeepsStreams before after
 Ends (Some (run image steps)) ended before after = RunEnds image steps ended before after

@@ -3,7 +3,8 @@ use Rattle.std.specs.Prelude.{◌≡◌, ◌⊎◌, ℕ, List, length, Option, S
 use Rattle.std.specs.Option.{ForSome}
 use Rattle.c_typed.specs.Typed.{ProgramTree}
 use Rattle.cc_compile.specs.Accepted.{Accepts, Refuses}
-use Rattle.cc_compile.specs.Compiled.{image_of}
+use Rattle.g_graph.specs.declared.steps.Rule.{Rule}
+use Rattle.cc_compile.specs.Compiled.{IsImageUnder}
 use Rattle.cc_compile.specs.declared.fault.CompileFault.{CompileFault}
 use Rattle.cc_io.specs.Files.{Name, FileSet, content}
 use Rattle.cc_top.specs.Refusal.{refusal_of}
@@ -11,11 +12,11 @@ use Rattle.cc_top.specs.declared.outcome.Outcome.{Outcome}
 use Rattle.cc_top.specs.declared.outcome.Outcome.TheVariants.{Refused, ReadFault, NoMemory}
 use Rattle.cc_top.specs.declared.refusal.Refusal.{Refusal}
 
--- A source is accepted, and these bytes are its image.
-pub record HasImage (source bytes : List ℕ) : Type 0 where
+-- A source is accepted, and these bytes are its image under a recipe.
+pub record HasImage (recipe : List Rule) (source bytes : List ℕ) : Type 0 where
   pub program : ProgramTree
   pub accepted : Accepts source program
-  pub image : bytes ≡ image_of program
+  pub image : IsImageUnder recipe program bytes
 
 -- A source is accepted, and defines so many functions.
 pub record Defines (functions : ℕ) (source : List ℕ) : Type 0 where
@@ -23,9 +24,9 @@ pub record Defines (functions : ℕ) (source : List ℕ) : Type 0 where
   pub accepted : Accepts source program
   pub counted : functions ≡ length program.functions
 
--- A source is accepted, these bytes are its image, and it defines so many functions.
-abbrev pub CompilesTo : List ℕ → (bytes : List ℕ) → (functions : ℕ) → Type 0
-CompilesTo source bytes functions = (p : ProgramTree) × Accepts source p × (bytes ≡ image_of p) × (functions ≡ length p.functions)
+-- A source is accepted, these bytes are its image under a recipe, and it defines so many functions.
+abbrev pub CompilesTo : List Rule → List ℕ → (bytes : List ℕ) → (functions : ℕ) → Type 0
+CompilesTo recipe source bytes functions = (p : ProgramTree) × Accepts source p × IsImageUnder recipe p bytes × (functions ≡ length p.functions)
 
 -- A source is refused so, for its fault.
 abbrev pub IsRefused : List ℕ → Refusal → Type 0

@@ -11,6 +11,7 @@ use crate::line::{Line, push_decimal, push_text};
 use crate::load::{LoadError, load_input};
 use crate::outcome::Outcome;
 use cc_io::{Sink, Source, write_all};
+use g_pass::Recipe;
 use limits::MOST_SOURCE_BYTES;
 use std::alloc::Global;
 
@@ -47,7 +48,7 @@ pub fn accept<I: Source, O: Sink>(alloc: Global, input: &mut I, output: &mut O) 
         Err(LoadError::Failed) => return Outcome::ReadFault,
         Err(LoadError::NoMemory) => return Outcome::NoMemory,
     };
-    match compile(alloc, &text) {
+    match compile(alloc, &text, &Recipe::none()) {
         Ok(compiled) => tell_accepted(output, compiled.functions),
         Err(outcome) => outcome,
     }

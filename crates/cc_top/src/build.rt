@@ -1,9 +1,10 @@
 //! The command `build`.
-ghost use Rattle.std.specs.Prelude.{◌≡◌, ◌≤◌, ◌⊎◌, ℕ, None, Some, take, length, option_map, IsSome, IfOk, OnOk, OnErr, IsErrOf, IfErr, ◌≢◌};
+ghost use Rattle.std.specs.Prelude.{◌≡◌, ◌≤◌, ◌⊎◌, ℕ, List, None, Some, take, length, option_map, IsSome, IfOk, OnOk, OnErr, IsErrOf, IfErr, IfSome, IfNone, ◌≢◌};
 ghost use Rattle.std.specs.Option.{ForSome};
 ghost use Rattle.cc_io.specs.Faults.{Increased};
 ghost use Rattle.cc_io.specs.Files.{Name, content, put_file};
-ghost use Rattle.cc_top.specs.BuildEnds.{BuildEnds};
+ghost use Rattle.g_graph.specs.declared.steps.Rule.{Rule};
+ghost use Rattle.cc_top.specs.BuildEnds.{BuildEnds, BuildEndsUnder, IsTextOf};
 ghost use Rattle.cc_top.specs.Outside.{files_seen};
 ghost use Rattle.cc_top.specs.Refused.{CompileFails, HasImage};
 
@@ -12,13 +13,21 @@ use crate::load::{LoadError, load};
 use crate::outcome::Outcome;
 use cc_compile::Compiled;
 use cc_io::{Files, save};
+use g_pass::Recipe;
+use g_pass::laws::texts_have_one_recipe;
 use limits::MOST_SOURCE_BYTES;
 use std::alloc::Global;
 
-/// What the source in the file of this name compiles to.
-fn compile_file<F: Files>(alloc: Global, files: &mut F, source: &str) -> Result<Compiled, Outcome>
+/// What the source in the file of this name compiles to under a recipe.
+fn compile_file<F: Files>(
+    alloc: Global,
+    files: &mut F,
+    source: &str,
+    recipe: &Recipe,
+) -> Result<Compiled, Outcome>
     ensures image { ForSome (F.known files.old)
-        (λ all. IfOk result (λ c. HasImage (content source.now all) c.image.items)) }
+        (λ all. IfOk result
+        (λ c. HasImage recipe.now (content source.now all) c.image.items)) }
     ensures err { IfErr result (λ e. CompileFails source.now e (F.known files.old)
         (Increased (F.open_faults files.old source.now) (F.open_faults files.new source.now)
         ⊎ Increased (F.read_faults files.old) (F.read_faults files.new))) }
@@ -33,20 +42,62 @@ fn compile_file<F: Files>(alloc: Global, files: &mut F, source: &str) -> Result<
         Err(LoadError::Failed) => return Err(Outcome::ReadFault),
         Err(LoadError::NoMemory) => return Err(Outcome::NoMemory),
     };
-    compile(alloc, &text)
+    compile(alloc, &text, recipe)
 }
 
-/// Compiles the file named `source` to the file named `image`.
-pub fn build<F: Files>(alloc: Global, files: &mut F, source: &str, image: &str) -> Outcome
-    ensures { BuildEnds source.now image.now result
+/// Compiles the file named `source` under a recipe to the file named `image`.
+fn build_under<F: Files>(
+    alloc: Global,
+    files: &mut F,
+    source: &str,
+    image: &str,
+    recipe: &Recipe,
+) -> Outcome
+    ensures { BuildEnds recipe.now source.now image.now result
         (files_seen F.known F.read_faults F.write_faults F.open_faults F.create_faults files.old)
         (files_seen F.known F.read_faults F.write_faults F.open_faults F.create_faults files.new) }
 {
-    match compile_file(alloc, files, source) {
+    match compile_file(alloc, files, source, recipe) {
         Ok(compiled) => match save(files, image, &compiled.image) {
             Ok(()) => Outcome::Done,
             Err(_) => Outcome::WriteFault,
         },
         Err(outcome) => outcome,
+    }
+}
+
+/// The recipe of a text; none where it is of no recipe, or names a rule that is not there.
+#[tactic(auto, using(crate::proofs::BuildLemmas::not_built))]
+fn recipe_of(text: &str) -> Option<Recipe>
+    ensures some { IfSome result (λ recipe. IsTextOf recipe text.now) }
+    ensures none { IfNone result ((recipe : List Rule) → IsTextOf recipe text.now → ⊥) }
+{
+    texts_have_one_recipe();
+    let recipe = Recipe::read(text)?;
+    if recipe.is_built() {
+        Some(recipe)
+    } else {
+        None
+    }
+}
+
+/// Compiles the file named `source` under the recipe of this text to the file named `image`. A text
+/// of no recipe is usage, and no file is opened.
+#[tactic(auto, using(crate::proofs::BuildLemmas::under_it, crate::proofs::BuildLemmas::under_none))]
+pub fn build<F: Files>(
+    alloc: Global,
+    files: &mut F,
+    source: &str,
+    image: &str,
+    recipe: &str,
+) -> Outcome
+    ensures { BuildEndsUnder recipe.now source.now image.now result
+        (files_seen F.known F.read_faults F.write_faults F.open_faults F.create_faults files.old)
+        (files_seen F.known F.read_faults F.write_faults F.open_faults F.create_faults files.new) }
+{
+    texts_have_one_recipe();
+    match recipe_of(recipe) {
+        Some(recipe) => build_under(alloc, files, source, image, &recipe),
+        None => Outcome::Usage,
     }
 }

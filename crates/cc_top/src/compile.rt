@@ -5,6 +5,7 @@ ghost use Rattle.cc_top.specs.Refused.{CompilesTo, IsRejectionOf, outcome_of_ref
 use crate::outcome::Outcome;
 use crate::refusal::{Refusal, refusal_of};
 use cc_compile::{Compiled, compile_one};
+use g_pass::Recipe;
 use std::alloc::Global;
 
 fn outcome_of(refusal: Option<Refusal>) -> Outcome
@@ -16,12 +17,13 @@ fn outcome_of(refusal: Option<Refusal>) -> Outcome
     }
 }
 
-/// The image of a source text, and how many functions it defines.
-pub fn compile(alloc: Global, source: &[u8]) -> Result<Compiled, Outcome>
-    ensures accepted { IfOk result (λ c. CompilesTo source.now c.image.items c.functions) }
+/// The image of a source text under a recipe, and how many functions it defines.
+pub fn compile(alloc: Global, source: &[u8], recipe: &Recipe) -> Result<Compiled, Outcome>
+    ensures accepted { IfOk result
+        (λ c. CompilesTo recipe.now source.now c.image.items c.functions) }
     ensures err { IfErr result (IsRejectionOf source.now) }
 {
-    match compile_one(alloc, source) {
+    match compile_one(alloc, source, recipe) {
         Ok(compiled) => Ok(compiled),
         Err(fault) => Err(outcome_of(refusal_of(fault, source))),
     }

@@ -1,7 +1,7 @@
 //! The top call of the compiler: it carries out the command that the arguments of a command line
 //! ask for, over the files and streams that it is handed. The program `cc_main` stands on it.
 //! Promise: each status comes at its cause, and on status 0 of `build` the source is accepted and
-//! OUT is exactly its image.
+//! OUT is exactly its image under the recipe.
 #![tactic(auto)]
 
 mod accept;
@@ -31,7 +31,9 @@ use std::alloc::Global;
 /// Carries out the command of the arguments `words`, the program's name first, and gives the status
 /// of the process.
 ///
-/// `build IN OUT` compiles the source file IN to the executable OUT. `run IMG [--steps N]` runs the
+/// `build IN OUT [--recipe LIST]` compiles the source file IN to the executable OUT, each function
+/// put through the sweeps of LIST: 1 to 32 names of rules joined by commas, or `none`, which it is
+/// where it is not given. `run IMG [--steps N]` runs the
 /// executable IMG for at most N instructions, from `input` to `output`. `gen NUMBER COUNT OUT`
 /// writes the generated program of COUNT functions, 1 to 511, whose draws begin with NUMBER, 0 to
 /// 4294967295, to the file OUT. Without arguments the source on `input` is compiled and the line
@@ -41,7 +43,7 @@ use std::alloc::Global;
 ///
 /// - 0: `build` or `gen` wrote OUT, `accepted F` was written, or the program that `run` ran has
 ///   exited; the line has its exit status.
-/// - 1: the arguments are no command. Nothing has changed.
+/// - 1: the arguments are no command, or LIST is no recipe. Nothing has changed.
 /// - 2: a file or the input was not read, since a call failed. No file has changed.
 /// - 3: a file, the output or the report was not written, since a call failed. A file or stream
 ///   that was written then holds a prefix of what was to be written.
@@ -111,7 +113,11 @@ fn carry_out<F: Files, I: Source, O: Sink>(
     };
     match command {
         Command::Accept => accept::accept(alloc, input, output),
-        Command::Build { source, image } => build::build(alloc, files, source, image),
+        Command::Build {
+            source,
+            image,
+            recipe,
+        } => build::build(alloc, files, source, image, recipe),
         Command::Run { image, steps } => run::run(alloc, files, input, output, image, steps),
         Command::Generate {
             start,

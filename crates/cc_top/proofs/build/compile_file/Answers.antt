@@ -7,7 +7,7 @@ use Rattle.cc_top.proofs.build.compile_file.Goals as goal
 pub returns-clause-image : goal.returns-clause-image
 returns-clause-image g c = λ all known.
     IfOk-weaker c.compile.result _ _
-    (λ found h. image_of_read (content c.args.source.now all) c.deref.result.now found.image.items found.functions (c.deref.ensures.value ∙ c.in-Ok.ensures.bytes all known) h)
+    (λ found h. image_of_read c.args.recipe.now (content c.args.source.now all) c.deref.result.now found.image.items found.functions (c.deref.ensures.value ∙ c.in-Ok.ensures.bytes all known) h)
     c.compile.ensures.accepted
 
 pub returns-clause-err : goal.returns-clause-err
