@@ -1,1 +1,4 @@
+mod ProgramFits
+mod ConstantRun
+mod ConstantExits
 mod Programs

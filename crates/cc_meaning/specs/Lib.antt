@@ -1,2 +1,4 @@
 pub mod Meaning
 pub mod Laws
+pub mod Constant
+pub mod ConstantExits

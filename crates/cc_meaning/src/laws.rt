@@ -1,6 +1,7 @@
 //! Laws of the meaning of images, for the proofs of the crates above: each is the contract of a
 //! function that does nothing.
 
+ghost use Rattle.cc_meaning.specs.ConstantExits.{ConstantExits};
 ghost use Rattle.cc_meaning.specs.Laws.{AcceptedSourcesKeepMeaning, BuiltProgramsKeepMeaning, ProgramsKeepMeaning, RecipesKeepMeaning};
 
 /// The image of a well-typed program, each `switch` of which has fewer than 2^32 groups, keeps the
@@ -41,4 +42,12 @@ pub fn recipes_keep_meaning()
     g_built::laws::well_typed_are_built();
     cc_compile::laws::answers_can_be_emitted();
     pass_laws::laws::answers_keep_lists();
+}
+
+/// The image of the program that returns a constant ends with its low byte after 23 instructions,
+/// or 24, whatever the input: how many instructions a run takes is what the other laws leave open.
+pub fn constant_exits()
+    ensures { ConstantExits }
+{
+    elf_file::laws::loaded_is_sound();
 }

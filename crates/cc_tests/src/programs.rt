@@ -3,8 +3,12 @@ use crate::calls::{BUILD, Left, called, called_on};
 use std::alloc::{AllocError, Global};
 use std::test::Fail;
 
+/// Writes what it reads.
+const ECHO: &[u8] =
+    b"int main(void) { int c; while ((c = getchar()) != -1) putchar(c); return 0; }";
+
 /// Sources, with what is read, what is written, and the report of the run.
-const PROGRAMS: [(&[u8], &[u8], &[u8], &[u8]); 15] = [
+const PROGRAMS: [(&[u8], &[u8], &[u8], &[u8]); 17] = [
     (b"int main(void) { return 300; }", b"", b"", b"exit 44\n"),
     (
         b"int main(void) { return 2147483647 + 1 < 0; }",
@@ -18,6 +22,8 @@ const PROGRAMS: [(&[u8], &[u8], &[u8], &[u8]); 15] = [
         b"H",
         b"exit 0\n",
     ),
+    (ECHO, b"\x00\n\xff", b"\x00\n\xff", b"exit 0\n"),
+    (ECHO, b"", b"", b"exit 0\n"),
     (
         b"int odd(int n); int even(int n) { if (n == 0) return 1; return odd(n - 1); } int \
           odd(int n) { if (n == 0) return 0; return even(n - 1); } int main(void) { return \
@@ -200,6 +206,25 @@ fn programs_that_do_not_end_are_stopped(rt: HostRuntime) -> Result<(), Fail> {
     let left = built_and_run(alloc, deep, "none", b"", "--steps=1000000")?;
     assert_eq!(rt; left.status, 7);
     assert_eq!(rt; left.report.bytes(), b"stack\n".as_slice());
+
+    // Of the 524,288 frames of 16 bytes that fit, main has one and each other call writes a byte.
+    let writing = b"int f(int n) { putchar(65); return f(n + 1); } int main(void) { return f(0); }";
+    let left = built_and_run(alloc, writing, "none", b"", "--steps=100000000")?;
+    assert_eq!(rt; left.status, 7);
+    assert_eq!(rt; left.report.bytes(), b"stack\n".as_slice());
+    assert_eq!(rt; left.output.bytes().len(), 524287);
+    assert!(rt; left.output.bytes().iter().all(|byte| *byte == 65));
+    Ok(())
+}
+
+#[test]
+fn stores_to_strings_are_stuck(rt: HostRuntime) -> Result<(), Fail> {
+    let alloc = rt.alloc();
+    let source = b"int main(void) { char *s = \"a\"; *s = 98; return 0; }";
+    let left = built_and_run(alloc, source, "none", b"", "--steps=1000")?;
+    assert_eq!(rt; left.status, 7);
+    assert!(rt; left.report.bytes().starts_with(b"stuck "));
+    assert!(rt; left.report.bytes().ends_with(b" 3\n"));
     Ok(())
 }
 

@@ -4,7 +4,4 @@ pub mod BuildLemmas
 pub mod RefusalLaws
 pub mod Digits
 pub mod GenerateLemmas
-pub mod ProgramFits
-pub mod ConstantRun
-pub mod ConstantExits
 pub mod RunLemmas

@@ -67,16 +67,17 @@ refused-take s r h =
 
 pub image_of_read : (recipe : List Rule) (s read bytes : List ℕ) (functions : ℕ) → read ≡ take 1048577 s → CompilesTo recipe read bytes functions → HasImage recipe s bytes
 image_of_read recipe s read bytes functions same h = record {
-  program = h.0;
-  accepted = accepted-take s h.0 (subst (λ t. Accepts t h.0) same h.1);
-  image = h.2;
+  program = h.image.program;
+  accepted = accepted-take s h.image.program (subst (λ t. Accepts t h.image.program) same h.image.accepted);
+  image = h.image.image;
+  meaning = h.image.meaning;
 }
 
 pub defines_of_read : (recipe : List Rule) (s read bytes : List ℕ) (functions : ℕ) → read ≡ take 1048577 s → CompilesTo recipe read bytes functions → Defines functions s
 defines_of_read recipe s read bytes functions same h = record {
-  program = h.0;
-  accepted = accepted-take s h.0 (subst (λ t. Accepts t h.0) same h.1);
-  counted = h.3;
+  program = h.image.program;
+  accepted = accepted-take s h.image.program (subst (λ t. Accepts t h.image.program) same h.image.accepted);
+  counted = h.counted;
 }
 
 pub refused_of_read : (s read : List ℕ) (r : Refusal) → read ≡ take 1048577 s → IsRefused read r → IsRefused s r

@@ -1,6 +1,5 @@
 pub mod Refusal
 pub mod Refused
-pub mod Constant
 pub mod Report
 pub mod Outcome
 pub mod Text
@@ -9,6 +8,5 @@ pub mod AcceptEnds
 pub mod BuildEnds
 pub mod GenerateEnds
 pub mod Ends
-pub mod Program
 pub mod RunEnds
 pub mod StopOutcomes

@@ -7,16 +7,19 @@ use Rattle.g_graph.specs.declared.steps.Rule.{Rule}
 use Rattle.cc_compile.specs.Compiled.{IsImageUnder}
 use Rattle.cc_compile.specs.declared.fault.CompileFault.{CompileFault}
 use Rattle.cc_io.specs.Files.{Name, FileSet, content}
+use Rattle.cc_image.specs.Image.{lambdas_of}
+use Rattle.cc_meaning.specs.Meaning.{KeepsMeaning}
 use Rattle.cc_top.specs.Refusal.{refusal_of}
 use Rattle.cc_top.specs.declared.outcome.Outcome.{Outcome}
 use Rattle.cc_top.specs.declared.outcome.Outcome.TheVariants.{Refused, ReadFault, NoMemory}
 use Rattle.cc_top.specs.declared.refusal.Refusal.{Refusal}
 
--- A source is accepted, and these bytes are its image under a recipe.
+-- A source is accepted, these bytes are its image under a recipe, and on the machine they do what the source does.
 pub record HasImage (recipe : List Rule) (source bytes : List ℕ) : Type 0 where
   pub program : ProgramTree
   pub accepted : Accepts source program
   pub image : IsImageUnder recipe program bytes
+  pub meaning : KeepsMeaning program (lambdas_of image.answers) bytes
 
 -- A source is accepted, and defines so many functions.
 pub record Defines (functions : ℕ) (source : List ℕ) : Type 0 where
@@ -24,9 +27,11 @@ pub record Defines (functions : ℕ) (source : List ℕ) : Type 0 where
   pub accepted : Accepts source program
   pub counted : functions ≡ length program.functions
 
--- A source is accepted, these bytes are its image under a recipe, and it defines so many functions.
-abbrev pub CompilesTo : List Rule → List ℕ → (bytes : List ℕ) → (functions : ℕ) → Type 0
-CompilesTo recipe source bytes functions = (p : ProgramTree) × Accepts source p × IsImageUnder recipe p bytes × (functions ≡ length p.functions)
+-- A source is accepted, these bytes are its image under a recipe, which does what the source does, and it defines so many
+-- functions.
+pub record CompilesTo (recipe : List Rule) (source bytes : List ℕ) (functions : ℕ) : Type 0 where
+  pub image : HasImage recipe source bytes
+  pub counted : functions ≡ length image.program.functions
 
 -- A source is refused so, for its fault.
 abbrev pub IsRefused : List ℕ → Refusal → Type 0

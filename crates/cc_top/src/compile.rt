@@ -17,12 +17,14 @@ fn outcome_of(refusal: Option<Refusal>) -> Outcome
     }
 }
 
-/// The image of a source text under a recipe, and how many functions it defines.
+/// The image of a source text under a recipe, which does what the text means, and how many
+/// functions it defines.
 pub fn compile(alloc: Global, source: &[u8], recipe: &Recipe) -> Result<Compiled, Outcome>
     ensures accepted { IfOk result
         (λ c. CompilesTo recipe.now source.now c.image.items c.functions) }
     ensures err { IfErr result (IsRejectionOf source.now) }
 {
+    cc_meaning::laws::recipes_keep_meaning();
     match compile_one(alloc, source, recipe) {
         Ok(compiled) => Ok(compiled),
         Err(fault) => Err(outcome_of(refusal_of(fault, source))),

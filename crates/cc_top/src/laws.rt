@@ -1,13 +1,5 @@
 //! Laws of the definitions, each the contract of a function that does nothing.
-ghost use Rattle.cc_top.specs.Program.{ConstantExits};
 ghost use Rattle.cc_top.specs.Refused.{AcceptedIsNotRefused, AcceptedOrRefused, OneRefusal};
-
-/// The image of a constant exits with its low byte.
-pub fn constant_exits()
-    ensures { ConstantExits }
-{
-    elf_file::laws::loaded_is_sound();
-}
 
 /// A source has at most one refusal.
 pub fn a_source_has_one_refusal()

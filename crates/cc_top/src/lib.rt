@@ -1,7 +1,7 @@
 //! The top call of the compiler: it carries out the command that the arguments of a command line
 //! ask for, over the files and streams that it is handed. The program `cc_main` stands on it.
-//! Promise: each status comes at its cause, and on status 0 of `build` the source is accepted and
-//! OUT is exactly its image under the recipe.
+//! Promise: each status comes at its cause, and on status 0 of `build` the source is accepted, OUT
+//! is exactly its image under the recipe, and on the machine OUT does what the source does.
 #![tactic(auto)]
 
 mod accept;
@@ -33,7 +33,11 @@ use std::alloc::Global;
 ///
 /// `build IN OUT [--recipe LIST]` compiles the source file IN to the executable OUT, each function
 /// put through the sweeps of LIST: 1 to 32 names of rules joined by commas, or `none`, which it is
-/// where it is not given. `run IMG [--steps N]` runs the
+/// where it is not given. On the machine OUT does what the source does: on every input on which no
+/// bound of turns and calls makes the source's run undefined (ISO/IEC 9899:2011, 3.4.3) it is never
+/// stuck, writes what the source writes and exits with its status, or it stops for want of stack
+/// after a beginning of that output, only where some stack of calls has frames of more than
+/// 8,388,608 bytes. `run IMG [--steps N]` runs the
 /// executable IMG for at most N instructions, from `input` to `output`. `gen NUMBER COUNT OUT`
 /// writes the generated program of COUNT functions, 1 to 511, whose draws begin with NUMBER, 0 to
 /// 4294967295, to the file OUT. Without arguments the source on `input` is compiled and the line

@@ -1,2 +1,3 @@
 mod Programs
 mod Runs
+mod Kept

@@ -10,7 +10,7 @@ use Rattle.rv_machine.specs.Standing.{AllFit}
 use Rattle.rv_machine.proofs.lemmas.Standing.{fits-append}
 use Rattle.rv_layout.specs.Sequences.{start_code, put_stub, get_stub}
 use Rattle.s_select.specs.Templates.{take_frame}
-use Rattle.cc_top.proofs.ConstantRun.{last_code, program}
+use Rattle.cc_meaning.proofs.ConstantRun.{last_code, program}
 
 -- ---- a test that decides it
 

@@ -23,14 +23,14 @@ use Rattle.rv_layout.specs.Layout.{laid_out}
 use Rattle.rv_layout.specs.Sequences.{bytes_of}
 use Rattle.s_select.specs.Operands.{load_immediate}
 use Rattle.s_select.specs.Templates.{words, take_frame}
-use Rattle.cc_top.specs.Constant.{image_of_constant}
-use Rattle.cc_top.specs.Program.{ExitsWithin, ConstantExits}
-use Rattle.cc_top.proofs.ConstantRun.{program, last_code, TextStands, StackAllows, s0, s13, a0, b0, front-reaches, a-ends, b-ends}
+use Rattle.cc_meaning.specs.Constant.{image_of_constant}
+use Rattle.cc_meaning.specs.ConstantExits.{ExitsWithin, ConstantExits}
+use Rattle.cc_meaning.proofs.ConstantRun.{program, last_code, TextStands, StackAllows, s0, s13, a0, b0, front-reaches, a-ends, b-ends}
 use Rattle.std.proofs.Common.{lit≤}
 use Rattle.rv_isa.specs.Formats.{IsSigned}
 use Rattle.rv_isa.specs.WordParts.{upper_part, low_part}
 use Rattle.rv_isa.proofs.lemmas.WordParts.{low_part_fits, parts_make_word}
-use Rattle.cc_top.proofs.ProgramFits.{small_fits, large_fits}
+use Rattle.cc_meaning.proofs.ProgramFits.{small_fits, large_fits}
 
 -- ---- the segments
 

@@ -2,7 +2,7 @@
 use Rattle.std.specs.Prelude.{◌≡◌, ℕ, ◌%◌, ◌<◌, ◌≤◌, ◌^◌, nat_lt, List, Ok, if◌then◌else◌}
 use Rattle.rv_machine.specs.Machine.{exit}
 use Rattle.rv_machine.specs.Run.{image_at, standing, ended}
-use Rattle.cc_top.specs.Constant.{image_of_constant}
+use Rattle.cc_meaning.specs.Constant.{image_of_constant}
 
 -- Whatever the input, this many instructions and any more of the file end with this status, with nothing
 -- written and nothing read.
