@@ -2,3 +2,4 @@ mod Letters
 mod Texts
 mod Swept
 mod OneRecipe
+mod Inlined

@@ -1,5 +1,5 @@
 -- The rules: where each applies, what it makes of a lambda there, and in which direction it is swept.
-use Rattle.std.specs.Prelude.{ℕ, Bool, true, false, None, Some, if◌then◌else◌}
+use Rattle.std.specs.Prelude.{ℕ, ◌==◌, Bool, true, false, List, [], ◌∷◌, Option, None, Some, option_map, option_and_then, if◌then◌else◌}
 use Rattle.g_graph.specs.declared.steps.Rule.{Rule}
 use Rattle.g_graph.specs.declared.steps.Rule.TheVariants.{Fold, Cne, Dne, Inv, Push, Pull, Invert, Unroll, Inline}
 use Rattle.g_graph.specs.Plain.{PlainLambda}
@@ -9,8 +9,11 @@ use Rattle.r_cne.specs.Rule as cne_rule
 use Rattle.r_dne.specs.Rule as dne_rule
 use Rattle.r_inv.specs.Rule as inv_rule
 use Rattle.r_push.specs.Rule as push_rule
+use Rattle.r_inline.specs.Rule as inline_rule
+use Rattle.r_inline.specs.Called.{called_at}
 
--- Whether a rule applies at a node, and what it makes of the lambda there. A rule that is not there yet never applies.
+-- Whether a rule that looks at its lambda alone applies at a node, and what it makes of the lambda there. Inlining looks
+-- at callees too, and a rule that is not there yet never applies.
 abbrev pub applies : Rule → PlainLambda → (node : ℕ) → Bool
 applies Fold l n = fold_rule.applies l n
 applies Cne l n = cne_rule.applies l n
@@ -55,8 +58,23 @@ is_built Push = true
 is_built Pull = false
 is_built Invert = false
 is_built Unroll = false
-is_built Inline = false
+is_built Inline = true
+
+-- the first of these lambdas that has the number
+abbrev pub numbered : ℕ → List PlainLambda → Option PlainLambda
+numbered f [] = None
+numbered f (c ∷ callees) = if c.number == f then Some c else numbered f callees
+
+-- the callee that comes in the place of the call at a node
+abbrev pub inlined_at : (callees : List PlainLambda) → (node : ℕ) → PlainLambda → Option PlainLambda
+inlined_at callees n l =
+    option_and_then (λ f. option_and_then (λ c. if inline_rule.applies l n c then Some c else None) (numbered f callees)) (called_at n l)
+
+-- what a rule makes of a lambda at a node where it applies
+abbrev pub step : Rule → (callees : List PlainLambda) → (node : ℕ) → PlainLambda → Option PlainLambda
+step Inline callees n l = option_map (λ c. inline_rule.iln n c l) (inlined_at callees n l)
+step r callees n l = if applies r l n then Some (applied r n l) else None
 
 -- the rules as a table, for sweeps and recipes
 abbrev pub rules : RuleTable
-rules = record { is_backward = is_backward; step = λ r callees n l. if applies r l n then Some (applied r n l) else None }
+rules = record { is_backward = is_backward; step = step }

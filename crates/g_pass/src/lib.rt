@@ -3,6 +3,7 @@
 //! of a lambda what the definition makes.
 #![tactic(auto)]
 
+mod callee;
 pub mod laws;
 mod names;
 mod recipe;

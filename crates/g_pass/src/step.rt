@@ -1,11 +1,14 @@
 //! One rule at one node.
-ghost use Rattle.std.specs.Prelude.{◌≡◌, map, OnOk, OnErr, IsTrue};
+ghost use Rattle.std.specs.Prelude.{◌≡◌, if◌then◌else◌, map, OnOk, OnErr, IsTrue};
 ghost use Rattle.std.specs.Arc.{arc_value};
+ghost use Rattle.std.specs.declared.option.Option.TheVariants.{Some, None};
 ghost use Rattle.g_graph.specs.WellFormed.{IsWellFormed};
+ghost use Rattle.g_graph.specs.declared.steps.Rule.TheVariants.{Inline};
 ghost use Rattle.g_recipe.specs.Answers.{lambdas_of};
-ghost use Rattle.g_recipe.specs.Sweep.{tried};
+ghost use Rattle.g_recipe.specs.Sweep.{stepped, tried};
 ghost use Rattle.g_pass.specs.Sweep.{applies, applied, is_backward, is_built, rules};
 
+use crate::callee::inlined_at;
 use g_graph::{Lambda, Optimised, Rule, Step};
 use no_memory::NoMemory;
 use std::alloc::Global;
@@ -22,12 +25,10 @@ pub const fn is_backward(rule: Rule) -> bool
 pub const fn is_built(rule: Rule) -> bool
     ensures { result ≡ is_built rule }
 {
-    !matches!(
-        rule,
-        Rule::Pull | Rule::Invert | Rule::Unroll | Rule::Inline
-    )
+    !matches!(rule, Rule::Pull | Rule::Invert | Rule::Unroll)
 }
 
+// Whether a rule that looks at its lambda alone applies.
 fn applies(rule: Rule, lambda: &Lambda, node: u32) -> bool
     ensures { result ≡ applies rule lambda.now node }
 {
@@ -64,7 +65,7 @@ fn apply(alloc: Global, rule: Rule, lambda: &mut Lambda, node: u32) -> Result<()
 /// Applies the rule at the node, where it applies, and notes the step in the log; the callees are
 /// what functions that the lambda calls were made into. `NoMemory` only where the allocator has
 /// none; lambda and log are then as they were.
-#[tactic(auto, using(crate::proofs::Swept::tried_applied, crate::proofs::Swept::tried_passed))]
+#[tactic(auto, using(crate::proofs::Inlined::looks_at_its_lambda))]
 pub fn try_step(
     alloc: Global,
     rule: Rule,
@@ -81,11 +82,65 @@ pub fn try_step(
     ensures err_lambda { OnErr result (lambda.new ≡ lambda.old) }
     ensures err_log { OnErr result (log.new.items ≡ log.old.items) }
 {
+    match rule {
+        Rule::Inline => try_inline(alloc, lambda, callees, node, log),
+        _ => try_alone(alloc, rule, lambda, node, log),
+    }
+}
+
+// A rule that looks at its lambda alone.
+#[tactic(auto, using(crate::proofs::Swept::stepped_applied, crate::proofs::Swept::stepped_passed))]
+fn try_alone(
+    alloc: Global,
+    rule: Rule,
+    lambda: &mut Lambda,
+    node: u32,
+    log: &mut Vec<Step>,
+) -> Result<(), NoMemory>
+    requires well_formed { IsWellFormed lambda.old }
+    ensures ok { OnOk result (record { lambda = lambda.new; steps = log.new.items } ≡
+        stepped rule node (record { lambda = lambda.old; steps = log.old.items })
+        (if applies rule lambda.old node then Some (applied rule node lambda.old) else None)) }
+    ensures kept { IsWellFormed lambda.new }
+    ensures err_lambda { OnErr result (lambda.new ≡ lambda.old) }
+    ensures err_log { OnErr result (log.new.items ≡ log.old.items) }
+{
     if !applies(rule, lambda, node) {
         return Ok(());
     }
     log.push(Step { rule, node })?;
     let applied = apply(alloc, rule, lambda, node);
+    if applied.is_err() {
+        log.pop();
+    }
+    applied
+}
+
+#[tactic(auto, using(crate::proofs::Inlined::tried_inlined, crate::proofs::Inlined::tried_not_inlined))]
+fn try_inline(
+    alloc: Global,
+    lambda: &mut Lambda,
+    callees: &[Arc<Optimised>],
+    node: u32,
+    log: &mut Vec<Step>,
+) -> Result<(), NoMemory>
+    requires well_formed { IsWellFormed lambda.old }
+    ensures ok { OnOk result (record { lambda = lambda.new; steps = log.new.items } ≡
+        tried rules (lambdas_of (map arc_value callees.now)) Inline
+        (record { lambda = lambda.old; steps = log.old.items }) node) }
+    ensures kept { IsWellFormed lambda.new }
+    ensures err_lambda { OnErr result (lambda.new ≡ lambda.old) }
+    ensures err_log { OnErr result (log.new.items ≡ log.old.items) }
+{
+    let callee = match inlined_at(lambda, node, callees) {
+        Some(callee) => callee,
+        None => return Ok(()),
+    };
+    log.push(Step {
+        rule: Rule::Inline,
+        node,
+    })?;
+    let applied = r_inline::apply(alloc, lambda, node, callee);
     if applied.is_err() {
         log.pop();
     }

@@ -2,8 +2,8 @@
 
 ghost use Rattle.pass_laws.specs.Laws.{RulesAreSteps, AnswersKeepLists, AnswersFitImages};
 
-/// Each rule makes a step: wherever it applies to a well-formed lambda, the changed lambda may
-/// stand for the old one in every list.
+/// Each rule makes a step: wherever it applies to a well-formed lambda, given well-formed callees,
+/// the changed lambda may stand for the old one in every list that has these callees.
 pub fn rules_are_steps()
     ensures { RulesAreSteps }
 {
@@ -12,6 +12,7 @@ pub fn rules_are_steps()
     r_dne::laws::dne_keeps_meaning();
     r_inv::laws::inv_keeps_meaning();
     r_push::laws::psh_keeps_meaning();
+    r_inline::laws::iln_keeps_meaning();
 }
 
 /// What the functions of a complete list are made into under a recipe may stand for them: every

@@ -38,13 +38,13 @@ number-step next k n ids d h =
 
 pub found-number : (next : ℕ) (ms : List ℕ) (n : ℕ) → IsAmong n ms → found_or_same (number_among next ms) n ≡ number_from next ms n
 found-number next [] n h = absurd h
-found-number next (m ∷ ms) n h = by (m == n) refl h
+found-number next (m ∷ ms) n h = by (m == n) refl h (found-number (suc next) ms n)
   where
-    by : (t : Bool) → (m == n) ≡ t → (n ≡ m) ⊎ IsAmong n ms →
+    by : (t : Bool) → (m == n) ≡ t → (n ≡ m) ⊎ IsAmong n ms → (IsAmong n ms → found_or_same (number_among (suc next) ms) n ≡ number_from (suc next) ms n) →
         unwrap_or (if t then Some next else number_among (suc next) ms n) n ≡ (if t then next else number_from (suc next) ms n)
-    by true e h = refl
-    by false e (inl same) = absurd (grind (arith, nat_tests))
-    by false e (inr h) = found-number (suc next) ms n h
+    by true e h go = refl
+    by false e (inl same) go = absurd (grind (arith, nat_tests))
+    by false e (inr h) go = go h
 
 abbrev Agree : (to other : ℕ → ℕ) → List ℕ → Type 0
 Agree to other ids = (n : ℕ) → IsAmong n ids → to n ≡ other n

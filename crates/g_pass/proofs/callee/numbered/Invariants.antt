@@ -1,0 +1,10 @@
+use Rattle.std.proofs.Common.{◌≡◌, map, drop}
+use Rattle.std.specs.Arc.{arc_value}
+use Rattle.g_recipe.specs.Answers.{lambdas_of}
+use Rattle.g_pass.specs.Sweep.{numbered}
+use Rattle.g_pass.proofs.callee.numbered.Given as goal
+
+-- the first of the callees from an index on is the first of all
+abbrev pub invariant-loop-callee : goal.invariant-loop-callee
+invariant-loop-callee l =
+    numbered l.function (lambdas_of (map arc_value (drop l.callee-index l.callees))) ≡ numbered l.function (lambdas_of (map arc_value l.callees))
