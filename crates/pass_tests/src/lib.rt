@@ -2,6 +2,8 @@
 #![tactic(auto)]
 
 #[cfg(test)]
+mod inlined;
+#[cfg(test)]
 mod orders;
 #[cfg(test)]
 mod sources;

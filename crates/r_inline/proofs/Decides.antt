@@ -1,6 +1,6 @@
 -- What the code needs: that the callee's body can be copied, and counts that decide as the definition's do.
-use Rattle.std.specs.Prelude.{◌^◌, ◌<◌, ◌&&◌, ◌||◌, ◌==◌, nat_le, if◌then◌else◌, option_map}
-use Rattle.std.proofs.Common.{◌≡◌, ℕ, ◌+◌, Bool, true, false, length, Option, None, Some, refl, sym, ap, ap₂, ◌∙◌, arith}
+use Rattle.std.specs.Prelude.{◌-◌, ◌^◌, ◌<◌, ◌&&◌, ◌||◌, ◌==◌, nat_le, if◌then◌else◌, option_map}
+use Rattle.std.proofs.Common.{◌≡◌, ℕ, ◌+◌, Bool, true, false, [], ◌∷◌, length, Option, None, Some, refl, sym, ap, ap₂, subst, ◌∙◌, arith}
 use Rattle.std.proofs.lemmas.Bool.Decides.{nat_tests}
 use Rattle.std.proofs.lemmas.Option.{cond_some, none-some}
 use Rattle.g_graph.specs.Plain.{RegionTree, PlainLambda, nodes_in}
@@ -13,10 +13,11 @@ use Rattle.g_graph.specs.WellFormed.{IsWellFormed}
 use Rattle.g_mean.specs.Copies.{IsClosed}
 use Rattle.g_mean.proofs.lemmas.Closed.{region-closed}
 use Rattle.g_edit.specs.Size.{may_change_size}
+use Rattle.g_edit.specs.Steps.{MayStandFor}
 use Rattle.g_copy.specs.Numbering.{node_count, region_numbered}
 use Rattle.r_inline.specs.Rule.{call_at, most_callee_values, call_values, may_inline, applies, iln}
 use Rattle.r_inline.proofs.Body.{is-body}
-use Rattle.r_inline.proofs.Kept.{applies-parts}
+use Rattle.r_inline.proofs.Kept.{applies-parts, iln_is_a_step}
 
 -- ---- the copy
 
@@ -34,6 +35,10 @@ pub iln-is : (n : ℕ) (callee l k : PlainLambda) (copy : RegionTree) (next : �
 iln-is n callee l k copy next e f g =
     ap₂ (λ (m : PlainLambda) t. record m { next = t })
     (g ∙ ap (λ c. lambda_changed (λ r. option_map (λ inputs. region_spliced n (region_redirected (args_to_inputs inputs) c) r) (call_at n callee r)) l) e) f
+
+pub iln-step : (n : ℕ) (callee l k : PlainLambda) (next : ℕ) → IsWellFormed callee → IsWellFormed l → applies l n callee ≡ true →
+    record k { next = next } ≡ iln n callee l → MayStandFor (callee ∷ []) l (record k { next = next })
+iln-step n callee l k next known well e is = subst (MayStandFor (callee ∷ []) l) (sym is) (iln_is_a_step n callee l known well e)
 
 -- ---- the condition
 
@@ -59,14 +64,14 @@ is-small : (a t b c : Bool) → t ≡ true → (a && t && b && c) ≡ (a && b &&
 is-small true t b c e = λ i. e i && b && c
 is-small false t b c e = refl
 
-pub may-none : (values next : ℕ) (callee : PlainLambda) → None ≡ nodes_found callee → may_inline values next callee ≡ false
-may-none values next callee e =
+pub may_none : (values next : ℕ) (callee : PlainLambda) → None ≡ nodes_found callee → may_inline values next callee ≡ false
+may_none values next callee e =
     not-small (length callee.objects == 0) (small callee) (room next callee) (may_change_size values (nodes_values (nodes_in callee.body)) call_values)
     (none-there (small callee) (nodes_values (nodes_in callee.body)) e)
 
-pub may-some : (values next nodes : ℕ) (callee : PlainLambda) → Some nodes ≡ nodes_found callee →
+pub may_some : (values next nodes : ℕ) (callee : PlainLambda) → Some nodes ≡ nodes_found callee →
     may_inline values next callee ≡ ((length callee.objects == 0) && room next callee && may_change_size values nodes call_values)
-may-some values next nodes callee e =
+may_some values next nodes callee e =
     let c = cond_some (small callee) (nodes_values (nodes_in callee.body)) nodes (sym e) in
     is-small (length callee.objects == 0) (small callee) (room next callee) (may_change_size values (nodes_values (nodes_in callee.body)) call_values) c.0
     ∙ ap (λ k. (length callee.objects == 0) && room next callee && may_change_size values k call_values) c.1
@@ -81,14 +86,14 @@ size-saturated v nodes =
     let same : nat_le (saturated v + nodes) (8192 + 4) ≡ nat_le (v + nodes) (8192 + 4) = grind (arith, nat_tests) in
     ap (λ t. nat_le nodes call_values || t) same
 
-pub decides-none : (v w next : ℕ) (callee : PlainLambda) → None ≡ nodes_found callee → may_inline v next callee ≡ may_inline w next callee
-decides-none v w next callee e = may-none v next callee e ∙ sym (may-none w next callee e)
+pub decides_none : (v w next : ℕ) (callee : PlainLambda) → None ≡ nodes_found callee → may_inline v next callee ≡ may_inline w next callee
+decides_none v w next callee e = may_none v next callee e ∙ sym (may_none w next callee e)
 
-pub decides-small : (v w next nodes : ℕ) (callee : PlainLambda) → Some nodes ≡ nodes_found callee → nat_le nodes call_values ≡ true → may_inline v next callee ≡ may_inline w next callee
-decides-small v w next nodes callee e h =
-    may-some v next nodes callee e ∙ ap (λ t. (length callee.objects == 0) && room next callee && t) (size-any v w nodes h) ∙ sym (may-some w next nodes callee e)
+pub decides_small : (v w next nodes : ℕ) (callee : PlainLambda) → Some nodes ≡ nodes_found callee → nat_le nodes call_values ≡ true → may_inline v next callee ≡ may_inline w next callee
+decides_small v w next nodes callee e h =
+    may_some v next nodes callee e ∙ ap (λ t. (length callee.objects == 0) && room next callee && t) (size-any v w nodes h) ∙ sym (may_some w next nodes callee e)
 
-pub decides-counted : (v w next : ℕ) (callee : PlainLambda) → v ≡ saturated w → may_inline v next callee ≡ may_inline w next callee
-decides-counted v w next callee e =
+pub decides_counted : (v w next : ℕ) (callee : PlainLambda) → v ≡ saturated w → may_inline v next callee ≡ may_inline w next callee
+decides_counted v w next callee e =
     ap (λ u. may_inline u next callee) e
     ∙ ap (λ t. (length callee.objects == 0) && small callee && room next callee && t) (size-saturated w (nodes_values (nodes_in callee.body)))
