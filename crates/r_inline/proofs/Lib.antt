@@ -5,4 +5,4 @@ mod Fits
 mod Exchanged
 mod Kept
 mod Examples
-mod Decides
+mod Copied

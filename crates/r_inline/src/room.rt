@@ -19,7 +19,6 @@ const CALL_VALUES: u64 = 4;
 
 /// Whether a lambda of so many values, whose next node has the number `next`, may take in the
 /// callee. It takes no memory, and counts at most 401 values of the callee.
-#[tactic(auto, using(crate::proofs::Decides::may_none, crate::proofs::Decides::may_some))]
 pub fn may_inline(values: u64, next: u32, callee: &Lambda) -> bool
     ensures { result ≡ may_inline values next callee.now }
 {
@@ -35,7 +34,6 @@ pub fn may_inline(values: u64, next: u32, callee: &Lambda) -> bool
 
 /// How many values the lambda has, where that decides whether it may take in the callee; else 0,
 /// and the lambda is not counted.
-#[tactic(auto, using(crate::proofs::Decides::decides_none, crate::proofs::Decides::decides_small, crate::proofs::Decides::decides_counted))]
 pub fn values_that_decide(lambda: &Lambda, callee: &Lambda) -> u64
     ensures { may_inline result lambda.now.next callee.now ≡
         may_inline (lambda_values lambda.now) lambda.now.next callee.now }

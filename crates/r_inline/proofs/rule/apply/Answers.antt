@@ -3,7 +3,7 @@ use Rattle.g_graph.specs.Plain.{PlainLambda}
 use Rattle.g_graph.specs.contracts.lambda.Lambda as Lambda
 use Rattle.g_mean.specs.Copies.{IsClosed}
 use Rattle.g_copy.specs.Numbering.{node_count, region_numbered}
-use Rattle.r_inline.proofs.Decides.{body-closed, iln-is, iln-step}
+use Rattle.r_inline.proofs.Copied.{body-closed, iln-is, iln-step}
 use Rattle.r_inline.proofs.rule.apply.Goals as goal
 
 pub copy_numbered-requires-clause-closed : goal.copy_numbered-requires-clause-closed
