@@ -1,6 +1,6 @@
 -- No two recipes have one text.
-use Rattle.std.proofs.Common.{◌≡◌, List, [], ◌∷◌, ◌++◌, refl, sym, ap, ◌∙◌}
-use Rattle.std.specs.Prelude.{codes}
+use Rattle.std.proofs.Common.{◌≡◌, ℕ, List, [], ◌∷◌, ◌++◌, refl, sym, ap, ◌∙◌, arith}
+use Rattle.std.specs.Prelude.{codes, slice_index_or}
 use Rattle.std.proofs.lemmas.List.{append_cancel_left}
 use Rattle.g_graph.specs.declared.steps.Rule.{Rule}
 use Rattle.g_graph.specs.declared.steps.Rule.TheVariants.{Fold, Cne, Dne, Inv, Push, Pull, Invert, Unroll, Inline}
@@ -9,17 +9,20 @@ use Rattle.g_pass.specs.Recipe.{later_text, recipe_text, OneRecipe}
 use Rattle.g_pass.proofs.Letters.{same_rule}
 use Rattle.g_pass.proofs.Texts.{rest_is}
 
+abbrev first_letter : List ℕ → ℕ
+first_letter xs = slice_index_or xs 0 0
+
 -- the text of no sweep begins with the name of no rule
 no_rule : (r : Rule) (rs : List Rule) → codes "none" ≡ recipe_text (r ∷ rs) → ⊥
-no_rule Fold rs e = absurd cc
-no_rule Cne rs e = absurd cc
-no_rule Dne rs e = absurd cc
-no_rule Inv rs e = absurd cc
-no_rule Push rs e = absurd cc
-no_rule Pull rs e = absurd cc
-no_rule Invert rs e = absurd cc
-no_rule Unroll rs e = absurd cc
-no_rule Inline rs e = absurd cc
+no_rule Fold rs e = let first : 110 ≡ 102 = ap first_letter e in omega (arith, first)
+no_rule Cne rs e = let first : 110 ≡ 99 = ap first_letter e in omega (arith, first)
+no_rule Dne rs e = let first : 110 ≡ 100 = ap first_letter e in omega (arith, first)
+no_rule Inv rs e = let first : 110 ≡ 105 = ap first_letter e in omega (arith, first)
+no_rule Push rs e = let first : 110 ≡ 112 = ap first_letter e in omega (arith, first)
+no_rule Pull rs e = let first : 110 ≡ 112 = ap first_letter e in omega (arith, first)
+no_rule Invert rs e = let first : 110 ≡ 105 = ap first_letter e in omega (arith, first)
+no_rule Unroll rs e = let first : 110 ≡ 117 = ap first_letter e in omega (arith, first)
+no_rule Inline rs e = let first : 110 ≡ 105 = ap first_letter e in omega (arith, first)
 
 same_later : (rs ks : List Rule) → later_text rs ≡ later_text ks → rs ≡ ks
 same_later [] [] e = refl
