@@ -3,8 +3,8 @@
 //! under the recipe.
 #![tactic(auto)]
 
-mod answers;
 mod jobs;
+mod results;
 
-pub use answers::answers;
 pub use jobs::LambdaJobs;
+pub use results::answers;
