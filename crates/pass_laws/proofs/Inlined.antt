@@ -31,7 +31,8 @@ numbered_there ls f (h ∷ held) c e each = by (h.number == f) e (λ e. numbered
 
 -- ---- the step
 
-made_by : IlnIsAStep → (held : List PlainLambda) (n f : ℕ) (l k : PlainLambda) → IsWellFormed l → AllByRecursion IsWellFormed held → (found : Option PlainLambda) → numbered f held ≡ found →
+made_by : IlnIsAStep → (held : List PlainLambda) (n f : ℕ) (l k : PlainLambda) → IsWellFormed l → AllByRecursion IsWellFormed held →
+    (found : Option PlainLambda) → numbered f held ≡ found →
     option_map (λ c. inline_rule.iln n c l) (option_and_then (λ c. if inline_rule.applies l n c then Some c else None) found) ≡ Some k → MayStandFor held l k
 made_by iln held n f l k well all None at e = absurd (none-some k e)
 made_by iln held n f l k well all (Some c) at e = by (inline_rule.applies l n c) refl e
@@ -55,7 +56,7 @@ pub inlined_is_a_step : IlnIsAStep → (held : List PlainLambda) (n : ℕ) (l k 
 inlined_is_a_step iln held n l k well all e = by (called_at n l) e
   where
     by : (called : Option ℕ) →
-        option_map (λ c. inline_rule.iln n c l) (option_and_then (λ f. option_and_then (λ c. if inline_rule.applies l n c then Some c else None) (numbered f held)) called) ≡ Some k →
-        MayStandFor held l k
+        option_map (λ c. inline_rule.iln n c l)
+        (option_and_then (λ f. option_and_then (λ c. if inline_rule.applies l n c then Some c else None) (numbered f held)) called) ≡ Some k → MayStandFor held l k
     by None e = absurd (none-some k e)
     by (Some f) e = made_by iln held n f l k well all (numbered f held) refl e
