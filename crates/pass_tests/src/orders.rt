@@ -111,7 +111,7 @@ fn a_hundred_functions_are_a_unit(rt: HostRuntime) -> Result<(), Fail> {
     assert_eq!(rt; found.deps.len(), 101);
     assert!(rt; found.ranks[..100].iter().all(|rank| *rank == 0) && found.ranks[100] == 1);
     assert!(rt; found.deps[..100].iter().all(|own| own.is_empty()));
-    assert_eq!(rt; found.deps[100].as_slice(), &[5]);
+    assert_eq!(rt; found.deps[100].as_slice(), [5].as_slice());
     Ok(())
 }
 
