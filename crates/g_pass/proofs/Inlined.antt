@@ -1,6 +1,6 @@
 -- The callee that is inlined, and a lambda with its steps where one is and where none is.
 use Rattle.std.specs.Prelude.{if◌then◌else◌, option_map, option_and_then}
-use Rattle.std.proofs.Common.{◌≡◌, ◌≢◌, ◌++◌, ℕ, true, false, List, [], ◌∷◌, Option, Some, None, refl, sym, ap, ap₂, ◌∙◌}
+use Rattle.std.proofs.Common.{◌≡◌, ◌≢◌, ◌++◌, ℕ, true, false, List, [], ◌∷◌, Option, Some, None, refl, sym, ap, ◌∙◌}
 use Rattle.g_graph.specs.Plain.{PlainLambda}
 use Rattle.g_graph.specs.declared.steps.Step.{Step}
 use Rattle.g_graph.specs.declared.steps.Rule.{Rule}
@@ -43,7 +43,8 @@ pub tried_not_inlined : (n : ℕ) (callees : List PlainLambda) (l : PlainLambda)
 tried_not_inlined n callees l steps e = ap (λ o. stepped Inline n (with_steps l steps) (option_map (λ c. inline_rule.iln n c l) o)) e
 
 -- a rule that looks at its lambda alone
-pub looks_at_its_lambda : (r : Rule) (n : ℕ) (callees : List PlainLambda) (l : PlainLambda) → r ≢ Inline → step r callees n l ≡ (if applies r l n then Some (applied r n l) else None)
+pub looks_at_its_lambda : (r : Rule) (n : ℕ) (callees : List PlainLambda) (l : PlainLambda) → r ≢ Inline →
+    step r callees n l ≡ (if applies r l n then Some (applied r n l) else None)
 looks_at_its_lambda Fold n callees l h = refl
 looks_at_its_lambda Cne n callees l h = refl
 looks_at_its_lambda Dne n callees l h = refl

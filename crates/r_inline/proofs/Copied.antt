@@ -19,7 +19,8 @@ body-closed n callee l well e = region-closed 0 callee.body ((is-body callee wel
 
 -- the changed lambda with the number after the copy's
 pub iln-is : (n : ℕ) (callee l k : PlainLambda) (copy : RegionTree) (next : ℕ) → copy ≡ region_numbered l.next callee.body → next ≡ l.next + node_count callee.body →
-    k ≡ lambda_changed (λ r. option_map (λ inputs. region_spliced n (region_redirected (args_to_inputs inputs) copy) r) (call_at n callee r)) l → record k { next = next } ≡ iln n callee l
+    k ≡ lambda_changed (λ r. option_map (λ inputs. region_spliced n (region_redirected (args_to_inputs inputs) copy) r) (call_at n callee r)) l →
+    record k { next = next } ≡ iln n callee l
 iln-is n callee l k copy next e f g =
     ap₂ (λ (m : PlainLambda) t. record m { next = t })
     (g ∙ ap (λ c. lambda_changed (λ r. option_map (λ inputs. region_spliced n (region_redirected (args_to_inputs inputs) c) r) (call_at n callee r)) l) e) f

@@ -1,5 +1,5 @@
 -- Worked rows of inlining.
-use Rattle.std.proofs.Common.{◌≡◌, ℕ, zero, suc, true, false, List, [], ◌∷◌, ◌++◌, replicate, refl}
+use Rattle.std.proofs.Common.{◌≡◌, ℕ, zero, suc, true, false, List, [], ◌∷◌, ◌++◌, Some, replicate, refl}
 use Rattle.val_core.specs.declared.operation.Op2.TheVariants.{Add, Mul}
 use Rattle.g_graph.specs.declared.op.Kind.TheVariants.{Value, Memory, Io}
 use Rattle.g_graph.specs.declared.op.Op.{Op}
@@ -10,6 +10,7 @@ use Rattle.g_graph.specs.Plain.{region, NodeTree, node, no_regions, nodes_of, re
 use Rattle.g_graph.specs.Program.{lambda_values}
 use Rattle.g_graph.specs.WellFormed.{well_formed}
 use Rattle.r_inline.specs.Rule.{may_inline, applies, iln}
+use Rattle.r_inline.specs.Called.{called_at}
 
 abbrev plain : ℕ → Op → List Origin → NodeTree
 plain id op inputs = node id op inputs no_regions
@@ -91,9 +92,24 @@ four_values : (lambda_values four ≡ 20) × (lambda_values (iln 0 none four) �
     × (lambda_values (iln 3 id (iln 2 id (iln 0 none four))) ≡ 10)
 four_values = (refl, refl, refl, refl)
 
--- a call with an input too few
-too_few : applies (lambda 2 0 1 (plain 0 (Apply 0) (Arg 0 ∷ Arg 1 ∷ []) ∷ []) (Out 0 0 ∷ Out 0 1 ∷ Out 0 2 ∷ [])) 0 id ≡ false
-too_few = refl
+-- ---- calls with inputs too few and too many, with none, and no node
+
+abbrev calling : List Origin → PlainLambda
+calling inputs = lambda 2 1 1 (plain 0 (Apply 0) inputs ∷ []) (Out 0 0 ∷ Out 0 1 ∷ Out 0 2 ∷ [])
+
+other_inputs : (applies (calling (Arg 1 ∷ Arg 2 ∷ [])) 0 id ≡ false) × (applies (calling (Arg 0 ∷ Arg 0 ∷ Arg 1 ∷ Arg 2 ∷ [])) 0 id ≡ false)
+    × (applies (calling []) 0 id ≡ false) × (applies (calling (Arg 0 ∷ Arg 1 ∷ Arg 2 ∷ [])) 1 id ≡ false)
+other_inputs = (refl, refl, refl, refl)
+
+-- ---- a callee that calls itself is copied once; two equal arguments
+
+again : iln 0 (lambda 0 1 1 (plain 0 (Apply 0) (Arg 0 ∷ Arg 1 ∷ Arg 2 ∷ []) ∷ []) (Out 0 0 ∷ Out 0 1 ∷ Out 0 2 ∷ [])) (calling (Arg 0 ∷ Arg 1 ∷ Arg 2 ∷ []))
+    ≡ lambda 2 1 2 (plain 1 (Apply 0) (Arg 0 ∷ Arg 1 ∷ Arg 2 ∷ []) ∷ []) (Out 1 0 ∷ Out 1 1 ∷ Out 1 2 ∷ [])
+again = refl
+
+doubled : iln 0 (lambda 0 2 1 (plain 0 (Bin Add) (Arg 0 ∷ Arg 1 ∷ []) ∷ []) (Out 0 0 ∷ Arg 2 ∷ Arg 3 ∷ [])) (calling (Arg 0 ∷ Arg 0 ∷ Arg 1 ∷ Arg 2 ∷ []))
+    ≡ lambda 2 1 2 (plain 1 (Bin Add) (Arg 0 ∷ Arg 0 ∷ []) ∷ []) (Out 1 0 ∷ Arg 1 ∷ Arg 2 ∷ [])
+doubled = refl
 
 -- ---- a call in a Gamma, of a callee with a Gamma; a node has its number before those nested in it and those after it
 
@@ -114,6 +130,9 @@ nested_inlined : iln 1 chooses (nested 2 (plain 1 (Apply 0) (Arg 0 ∷ Arg 1 ∷
     (regions_of (region (Io ∷ []) (nodes_of (plain 3 (Const 65) [] ∷ plain 4 Put (Out 3 0 ∷ Arg 0 ∷ []) ∷ [])) (Out 4 0 ∷ []) ∷ region (Io ∷ []) (nodes_of []) (Arg 0 ∷ []) ∷ []))
     ∷ plain 5 Undef [] ∷ []) (Out 5 0 ∷ Arg 1 ∷ Out 2 0 ∷ [])
 nested_inlined = refl
+
+nested_calls : called_at 1 (nested 2 (plain 1 (Apply 0) (Arg 0 ∷ Arg 1 ∷ Arg 2 ∷ []) ∷ []) (Out 1 0 ∷ Out 1 1 ∷ Out 1 2 ∷ [])) ≡ Some 0
+nested_calls = refl
 
 nested_fits : (well_formed chooses ≡ true) × (well_formed (iln 1 chooses (nested 2 (plain 1 (Apply 0) (Arg 0 ∷ Arg 1 ∷ Arg 2 ∷ []) ∷ []) (Out 1 0 ∷ Out 1 1 ∷ Out 1 2 ∷ []))) ≡ true)
 nested_fits = (refl, refl)
