@@ -1,1 +1,9 @@
 mod Examples
+mod Turns
+mod Consecutive
+mod Unrolled
+mod At
+mod Replaced
+mod Fits
+mod Numbers
+mod Kept

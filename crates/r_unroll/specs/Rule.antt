@@ -1,10 +1,10 @@
 -- Unrolling: a turn of a loop becomes up to two of the turns before (Reissmann et al., RVSDG, 2020, of Theta nodes).
-use Rattle.std.specs.Prelude.{ℕ, zero, suc, ◌+◌, ◌-◌, ◌^◌, nat_le, not, ◌&&◌, ◌||◌, if◌then◌else◌, Bool, false, List, [], ◌∷◌, length, Option, None, Some, option_map, option_and_then, is_some, unwrap_or}
+use Rattle.std.specs.Prelude.{ℕ, zero, suc, ◌+◌, ◌-◌, ◌*◌, ◌^◌, nat_le, not, ◌&&◌, ◌||◌, if◌then◌else◌, Bool, false, List, [], ◌∷◌, length, Option, None, Some, option_map, option_and_then, is_some, unwrap_or}
 use Rattle.g_graph.specs.declared.op.Kind.{Kind}
 use Rattle.g_graph.specs.declared.op.Op.TheVariants.{Const, Gamma, Theta}
 use Rattle.g_graph.specs.declared.op.Origin.{Origin}
 use Rattle.g_graph.specs.declared.op.Origin.TheVariants.{Arg, Out}
-use Rattle.g_graph.specs.Plain.{RegionTree, region, NodeTree, node, NodeTrees, no_nodes, node_then, RegionTrees, no_regions, region_then, args_of, results_of, PlainLambda}
+use Rattle.g_graph.specs.Plain.{RegionTree, region, NodeTree, node, NodeTrees, no_nodes, node_then, RegionTrees, no_regions, region_then, args_of, PlainLambda}
 use Rattle.g_graph.specs.Count.{region_values}
 use Rattle.g_graph.specs.Change.{region_changed}
 use Rattle.g_graph.specs.Nodes.{node_at, node_set}
@@ -35,17 +35,13 @@ abbrev mutual
 -- ---- the change
 
 -- so many arguments, or outputs of a node, from a first one on
-abbrev pub arguments_from : (first count : ℕ) → List Origin
-arguments_from first zero = []
-arguments_from first (suc count) = Arg first ∷ arguments_from (suc first) count
-
-abbrev pub outputs_from : (id first count : ℕ) → List Origin
-outputs_from id first zero = []
-outputs_from id first (suc count) = Out id first ∷ outputs_from id (suc first) count
+abbrev pub origins_from : (place : ℕ → Origin) → (first count : ℕ) → List Origin
+origins_from place first zero = []
+origins_from place first (suc count) = place first ∷ origins_from place (suc first) count
 
 -- the region of the Gamma that takes no second turn: the predicate 0, and the loop variables as they are
 abbrev pub stopping : (id : ℕ) → (args : List Kind) → RegionTree
-stopping id args = region args (node_then (node id (Const 0) [] no_regions) no_nodes) (Out id 0 ∷ arguments_from 0 (length args))
+stopping id args = region args (node_then (node id (Const 0) [] no_regions) no_nodes) (Out id 0 ∷ origins_from Arg 0 (length args))
 
 -- After the nodes of the region comes a Gamma on its predicate, which stops or does the region once more. Its number is
 -- `next`, the Const has the number after it, and the copy those that follow.
@@ -54,7 +50,7 @@ unrolled next (region args nodes results) =
     region args
     (joined_nodes nodes (node_then (node next Gamma results
     (region_then (stopping (suc next) args) (region_then (region_numbered (next + 2) (region args nodes results)) no_regions))) no_nodes))
-    (outputs_from next 0 (length results))
+    (origins_from (Out next) 0 (length results))
 
 -- ---- the condition
 
@@ -64,7 +60,7 @@ most_loop_values = 200
 
 -- The values that come: the Gamma and its outputs, the region that stops, and the copy.
 abbrev pub growth : RegionTree → ℕ
-growth r = (1 + length (results_of r)) + (1 + length (args_of r) + 2 + (1 + length (args_of r))) + region_values r
+growth r = (2 + length (args_of r)) + (4 + 2 * length (args_of r)) + region_values r
 
 -- The region may be unrolled in a lambda of so many values, whose next node has the number `next`.
 abbrev pub may_unroll : (values next : ℕ) → RegionTree → Bool

@@ -1,2 +1,5 @@
-//! Unrolling, as a definition: a turn of a loop becomes up to two. Nothing in it runs.
+//! Unrolling, as a definition with its laws: a turn of a loop becomes up to two. Nothing in it
+//! runs. Promise: a changed lambda keeps its meaning in any program.
 #![tactic(auto)]
+
+pub mod laws;

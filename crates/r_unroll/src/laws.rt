@@ -1,0 +1,24 @@
+//! Unrolling keeps meaning.
+
+ghost use Rattle.r_unroll.specs.Laws.{UnrolledRegionsTakeTwoTurns, UnrolledTurnsRefine, UrlReplaces, UrlKeepsLambdas, UrlKeepsPrograms, UrlIsAStep};
+
+/// An unrolled region does a turn and then, where the predicate is not 0, a second one. So at most
+/// n turns are within n unrolled turns, and at most n unrolled turns within 2n turns; no stacks are
+/// deeper.
+pub fn unrolled_turns_refine()
+    ensures region { UnrolledRegionsTakeTwoTurns }
+    ensures turns { UnrolledTurnsRefine }
+{}
+
+/// A changed region of a well-formed lambda may replace the old one in any lambdas.
+pub fn url_replaces()
+    ensures { UrlReplaces }
+{}
+
+/// The rule at a node of a well-formed lambda keeps the meaning of every function, and of the
+/// program; it is a step.
+pub fn url_keeps_meaning()
+    ensures lambda { UrlKeepsLambdas }
+    ensures program { UrlKeepsPrograms }
+    ensures step { UrlIsAStep }
+{}
