@@ -7,3 +7,4 @@ mod Replaced
 mod Fits
 mod Numbers
 mod Kept
+mod Found

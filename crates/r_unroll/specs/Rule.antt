@@ -4,7 +4,7 @@ use Rattle.g_graph.specs.declared.op.Kind.{Kind}
 use Rattle.g_graph.specs.declared.op.Op.TheVariants.{Const, Gamma, Theta}
 use Rattle.g_graph.specs.declared.op.Origin.{Origin}
 use Rattle.g_graph.specs.declared.op.Origin.TheVariants.{Arg, Out}
-use Rattle.g_graph.specs.Plain.{RegionTree, region, NodeTree, node, NodeTrees, no_nodes, node_then, RegionTrees, no_regions, region_then, args_of, PlainLambda}
+use Rattle.g_graph.specs.Plain.{RegionTree, region, NodeTree, node, NodeTrees, no_nodes, node_then, RegionTrees, no_regions, region_then, args_of, results_of, PlainLambda}
 use Rattle.g_graph.specs.Count.{region_values}
 use Rattle.g_graph.specs.Change.{region_changed}
 use Rattle.g_graph.specs.Nodes.{node_at, node_set}
@@ -43,14 +43,19 @@ origins_from place first (suc count) = place first ∷ origins_from place (suc f
 abbrev pub stopping : (id : ℕ) → (args : List Kind) → RegionTree
 stopping id args = region args (node_then (node id (Const 0) [] no_regions) no_nodes) (Out id 0 ∷ origins_from Arg 0 (length args))
 
--- After the nodes of the region comes a Gamma on its predicate, which stops or does the region once more. Its number is
--- `next`, the Const has the number after it, and the copy those that follow.
+-- a region with one more node, after the others, and with these results
+abbrev pub followed_by : NodeTree → (outs : List Origin) → RegionTree → RegionTree
+followed_by last outs (region args nodes results) = region args (joined_nodes nodes (node_then last no_nodes)) outs
+
+-- The Gamma that stops, or does the region once more, as the region's predicate says. Its number is `next`, the Const has
+-- the number after it, and the copy those that follow.
+abbrev pub second_turn_of : (next : ℕ) → RegionTree → NodeTree
+second_turn_of next (region args nodes results) =
+    node next Gamma results (region_then (stopping (suc next) args) (region_then (region_numbered (next + 2) (region args nodes results)) no_regions))
+
+-- After the nodes of the region comes that Gamma, which gives the results.
 abbrev pub unrolled : (next : ℕ) → RegionTree → RegionTree
-unrolled next (region args nodes results) =
-    region args
-    (joined_nodes nodes (node_then (node next Gamma results
-    (region_then (stopping (suc next) args) (region_then (region_numbered (next + 2) (region args nodes results)) no_regions))) no_nodes))
-    (origins_from (Out next) 0 (length results))
+unrolled next r = followed_by (second_turn_of next r) (origins_from (Out next) 0 (length (results_of r))) r
 
 -- ---- the condition
 

@@ -1,0 +1,47 @@
+-- The parts of the change, as it is made: the loop that is found first, and the Gamma that its region gets.
+use Rattle.std.specs.Option.{option_or}
+use Rattle.std.specs.Prelude.{ℕ, suc, ◌+◌, if◌then◌else◌, List, length, Option, None, Some, option_map, option_and_then}
+use Rattle.g_graph.specs.declared.op.Op.TheVariants.{Theta}
+use Rattle.g_graph.specs.declared.op.Origin.{Origin}
+use Rattle.g_graph.specs.Plain.{RegionTree, region, NodeTree, node, NodeTrees, no_nodes, node_then, RegionTrees, no_regions, region_then}
+use Rattle.g_graph.specs.Nodes.{node_at, node_set}
+use Rattle.r_unroll.specs.Rule.{followed_by, may_unroll}
+
+-- ---- the loop
+
+-- the region of a loop that may be unrolled
+abbrev pub loop_body : (values next : ℕ) → NodeTree → Option RegionTree
+loop_body values next (node id Theta inputs (region_then r no_regions)) = if may_unroll values next r then Some r else None
+loop_body values next x = None
+
+-- that of node n, where the region itself holds such a loop there
+abbrev pub loop_at : (values next n : ℕ) → RegionTree → Option RegionTree
+loop_at values next n (region args nodes results) = option_and_then (loop_body values next) (node_at n nodes)
+
+-- what is found in a region, or else in the first of those nested in it
+abbrev mutual
+  pub region_found : (RegionTree → Option RegionTree) → RegionTree → Option RegionTree
+  region_found f (region args nodes results) = option_or (f (region args nodes results)) (nodes_found f nodes)
+
+  pub node_found : (RegionTree → Option RegionTree) → NodeTree → Option RegionTree
+  node_found f (node id op inputs rs) = regions_found f rs
+
+  pub nodes_found : (RegionTree → Option RegionTree) → NodeTrees → Option RegionTree
+  nodes_found f no_nodes = None
+  nodes_found f (node_then x ns) = option_or (node_found f x) (nodes_found f ns)
+
+  pub regions_found : (RegionTree → Option RegionTree) → RegionTrees → Option RegionTree
+  regions_found f no_regions = None
+  regions_found f (region_then r rs) = option_or (region_found f r) (regions_found f rs)
+
+-- ---- the change
+
+-- the node, where it is such a loop, with this last node and these results of its region
+abbrev pub node_followed : (values next : ℕ) → (last : NodeTree) → (outs : List Origin) → NodeTree → Option NodeTree
+node_followed values next last outs (node id Theta inputs (region_then r no_regions)) =
+    if may_unroll values next r then Some (node id Theta inputs (region_then (followed_by last outs r) no_regions)) else None
+node_followed values next last outs x = None
+
+abbrev pub followed_at : (values next n : ℕ) → (last : NodeTree) → (outs : List Origin) → RegionTree → Option RegionTree
+followed_at values next n last outs (region args nodes results) =
+    option_map (λ y. region args (node_set n y nodes) results) (option_and_then (node_followed values next last outs) (node_at n nodes))
