@@ -1,11 +1,9 @@
 -- The loop that is found first is the one that the change unrolls.
 use Rattle.std.specs.Option.{option_or}
-use Rattle.std.specs.Prelude.{◌&&◌, ◌^◌, ◌==◌, nat_le, not, option_and_then, unwrap_or, ◌-◌}
-use Rattle.std.proofs.Common.{◌≡◌, ◌⊎◌, ℕ, suc, ◌+◌, Bool, true, false, cond, List, [], ◌∷◌, ◌++◌, length, length-append, Option, None, Some, option_map, refl, sym, ap, subst, ◌∙◌, inl, inr, arith}
-use Rattle.std.proofs.lemmas.Bool.{and_parts}
+use Rattle.std.specs.Prelude.{◌==◌, option_and_then, unwrap_or, ◌-◌, is_some}
+use Rattle.std.proofs.Common.{◌≡◌, ◌⊎◌, ℕ, ◌+◌, Bool, true, false, cond, List, [], ◌∷◌, ◌++◌, length, length-append, Option, None, Some, option_map, refl, sym, ap, subst, ◌∙◌, inl, inr, arith}
 use Rattle.std.proofs.lemmas.List.{length-map}
 use Rattle.std.proofs.lemmas.Option.{cond_some, same_Some}
-use Rattle.g_graph.specs.declared.op.Kind.{Kind}
 use Rattle.g_graph.specs.declared.op.Op.TheVariants.{Theta}
 use Rattle.g_graph.specs.declared.op.Origin.{Origin}
 use Rattle.g_graph.specs.declared.op.Origin.TheVariants.{Out}
@@ -228,6 +226,24 @@ module _ (values next n : ℕ) (y : RegionTree) where
   pub made-changes : (r : RegionTree) → region_found (loop_at values next n) r ≡ Some y →
       (s : RegionTree) × (region_changed (url_here values next n) r ≡ Some s) × (region_changed (made values next n y) r ≡ Some s)
   made-changes r e = both-change (loop_at values next n) (url_here values next n) (made values next n y) y base r e
+
+-- where the rule applies something is found
+pub found-some : (values next n : ℕ) (r : RegionTree) → is_some (region_changed (url_here values next n) r) ≡ true → is_some (region_found (loop_at values next n) r) ≡ true
+found-some values next n r e = by (region_found (loop_at values next n) r) refl
+  where
+    by : (o : Option RegionTree) → region_found (loop_at values next n) r ≡ o → is_some (region_found (loop_at values next n) r) ≡ true
+    by (Some y) d = ap is_some d
+    by None d =
+        none (region-alike (loop_at values next n) (url_here values next n) (made values next n r) r (base values next n r) r
+        (λ z f. let no : None ≡ Some z = sym d ∙ f in absurd cc))
+      where
+        none : Alike (region_found (loop_at values next n) r) (region_changed (url_here values next n) r) (region_changed (made values next n r) r) → is_some (region_found (loop_at values next n) r) ≡ true
+        none (inl k) =
+            let no : false ≡ true = sym (ap is_some k.1) ∙ e in
+            absurd cc
+        none (inr k) =
+            let no : None ≡ Some k.found = sym d ∙ k.is in
+            absurd cc
 
 -- ---- numbers in number
 

@@ -8,3 +8,6 @@ mod Fits
 mod Numbers
 mod Kept
 mod Found
+mod Counted
+mod Made
+mod Followed

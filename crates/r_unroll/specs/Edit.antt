@@ -1,17 +1,27 @@
 -- The parts of the change, as it is made: the loop that is found first, and the Gamma that its region gets.
 use Rattle.std.specs.Option.{option_or}
-use Rattle.std.specs.Prelude.{ℕ, suc, ◌+◌, if◌then◌else◌, List, length, Option, None, Some, option_map, option_and_then}
+use Rattle.std.specs.Prelude.{ℕ, ◌+◌, if◌then◌else◌, List, length, Option, None, Some, option_map, option_and_then}
 use Rattle.g_graph.specs.declared.op.Op.TheVariants.{Theta}
 use Rattle.g_graph.specs.declared.op.Origin.{Origin}
-use Rattle.g_graph.specs.Plain.{RegionTree, region, NodeTree, node, NodeTrees, no_nodes, node_then, RegionTrees, no_regions, region_then}
+use Rattle.g_graph.specs.declared.op.Origin.TheVariants.{Out}
+use Rattle.g_graph.specs.Plain.{RegionTree, region, NodeTree, node, NodeTrees, no_nodes, node_then, RegionTrees, no_regions, region_then, results_of}
 use Rattle.g_graph.specs.Nodes.{node_at, node_set}
-use Rattle.r_unroll.specs.Rule.{followed_by, may_unroll}
+use Rattle.r_unroll.specs.Rule.{origins_from, followed_by, may_unroll}
+use Rattle.g_copy.specs.Numbering.{node_count}
 
 -- ---- the loop
 
+-- a region that may be unrolled as that of a loop
+abbrev pub small_body : (values next : ℕ) → RegionTree → Option RegionTree
+small_body values next r = if may_unroll values next r then Some r else None
+
+abbrev pub only_body : (values next : ℕ) → RegionTrees → Option RegionTree
+only_body values next (region_then r no_regions) = small_body values next r
+only_body values next rs = None
+
 -- the region of a loop that may be unrolled
 abbrev pub loop_body : (values next : ℕ) → NodeTree → Option RegionTree
-loop_body values next (node id Theta inputs (region_then r no_regions)) = if may_unroll values next r then Some r else None
+loop_body values next (node id Theta inputs rs) = only_body values next rs
 loop_body values next x = None
 
 -- that of node n, where the region itself holds such a loop there
@@ -35,6 +45,18 @@ abbrev mutual
   regions_found f (region_then r rs) = option_or (region_found f r) (regions_found f rs)
 
 -- ---- the change
+
+-- the results of the region of an unrolled loop, and the number after those of the nodes that come
+abbrev pub results_after : (next : ℕ) → RegionTree → List Origin
+results_after next r = origins_from (Out next) 0 (length (results_of r))
+
+abbrev pub next_after : (next : ℕ) → RegionTree → ℕ
+next_after next r = next + 2 + node_count r
+
+-- the only one of these regions, with this last node and these results
+abbrev pub only_followed : (last : NodeTree) → (outs : List Origin) → RegionTrees → RegionTrees
+only_followed last outs (region_then r no_regions) = region_then (followed_by last outs r) no_regions
+only_followed last outs rs = rs
 
 -- the node, where it is such a loop, with this last node and these results of its region
 abbrev pub node_followed : (values next : ℕ) → (last : NodeTree) → (outs : List Origin) → NodeTree → Option NodeTree
