@@ -12,3 +12,7 @@ mod Kept
 mod PulledOps
 mod Step
 mod Examples
+mod Entries
+mod Saturated
+mod Found
+mod Filled

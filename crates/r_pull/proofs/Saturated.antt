@@ -1,0 +1,44 @@
+-- A count that is saturated decides as the count itself.
+use Rattle.std.specs.Prelude.{option_and_then, unwrap_or}
+use Rattle.std.proofs.Common.{◌≡◌, ℕ, ◌+◌, ◌≤◌, nat_le, ◌&&◌, ◌||◌, cond, Bool, true, false, Option, None, Some, option_map, refl, ap, sym, ◌∙◌, arith}
+use Rattle.std.proofs.Math.Path.{fun_ext}
+use Rattle.std.proofs.lemmas.Bool.Decides.{nat_tests}
+use Rattle.g_graph.specs.Plain.{RegionTree, NodeTree, PlainLambda, nodes_in}
+use Rattle.g_graph.specs.Change.{lambda_changed}
+use Rattle.g_graph.specs.Count.{saturated}
+use Rattle.g_graph.specs.Nodes.{node_at}
+use Rattle.g_graph.specs.Program.{lambda_values}
+use Rattle.g_edit.specs.Size.{may_change_size}
+use Rattle.r_pull.specs.Rule.{Pull, added, gone, copies_of, most_next, fits, where_fits, pull_of, pull_at, region_pulled, pll_here, copies_here, region_answer, copies_at, pll}
+
+change-same : (v a g : ℕ) → may_change_size (saturated v) a g ≡ may_change_size v a g
+change-same v a g = by (nat_le a g) refl
+  where
+    by : (t : Bool) → nat_le a g ≡ t → t || nat_le (saturated v + a) (8192 + g) ≡ t || nat_le (v + a) (8192 + g)
+    by true e = refl
+    by false e = grind (arith, nat_tests, e)
+
+fits-same : (v next n : ℕ) (h : Pull) → where_fits (saturated v) next n h ≡ where_fits v next n h
+fits-same v next n h =
+    ap (λ t. cond (t && nat_le (next + copies_of n h) most_next && nat_le (length h.entries + length h.inputs) (2 ^ 32)) (Some h) None) (change-same v (added n h) (gone n h))
+
+at-same : (v next n : ℕ) (r : RegionTree) → pull_at (saturated v) next n r ≡ pull_at v next n r
+at-same v next n r =
+    ap (λ f. option_and_then f (option_and_then (pull_of n r) (node_at n (nodes_in r)))) (fun_ext (λ h. fits-same v next n h))
+
+here-same : (v next n : ℕ) → pll_here (saturated v) next n ≡ pll_here v next n
+here-same v next n = fun_ext (λ r. ap (option_map (region_pulled next n r)) (at-same v next n r))
+
+copies-same : (v next n : ℕ) → copies_here (saturated v) next n ≡ copies_here v next n
+copies-same v next n = fun_ext (λ r. ap (option_map (copies_of n)) (at-same v next n r))
+
+-- the count of copies that the code makes
+pub counted_same : (v n : ℕ) (l : PlainLambda) (o : Option ℕ) → v ≡ saturated (lambda_values l) → o ≡ region_answer (copies_here v l.next n) l.body → o ≡ copies_at l n
+counted_same v n l o e d = d ∙ ap (λ h. region_answer h l.body) (ap (λ u. copies_here u l.next n) e ∙ copies-same (lambda_values l) l.next n)
+
+-- the lambda that the code makes
+pub changed_same : (v n c : ℕ) (l k : PlainLambda) → v ≡ saturated (lambda_values l) → copies_at l n ≡ Some c → k ≡ record (lambda_changed (pll_here v l.next n) l) { next = l.next + c } → k ≡ pll n l
+changed_same v n c l k e a d =
+    d
+    ∙ ap (λ h. record (lambda_changed h l) { next = l.next + c }) (ap (λ u. pll_here u l.next n) e ∙ here-same (lambda_values l) l.next n)
+    ∙ ap (λ o. record (lambda_changed (pll_here (lambda_values l) l.next n) l) { next = l.next + unwrap_or o 0 }) (sym a)

@@ -1,0 +1,183 @@
+ghost use Rattle.std.specs.Prelude.{◌≡◌, ◌≤◌, ◌+◌, ◌++◌, ◌^◌, [], ◌∷◌, IfOk, length, replicate, vec_capacity};
+ghost use Rattle.g_graph.specs.declared.op.Kind.TheVariants.{Value};
+ghost use Rattle.g_graph.specs.Plain.{node, no_regions, regions_of};
+ghost use Rattle.r_pull.specs.Rule.{other_entries, args_from, copies, inputs_carried, most_next};
+ghost use Rattle.r_pull.specs.Edit.{pull_seen, IsCounted, AreListsOf, AreListsOfAll, IsPlanFor};
+
+use crate::find::{Found, entries_of};
+use crate::reads::reads_gone;
+use g_edit::is_output_of;
+use g_graph::{Kind, Node, Op, Origin, Region};
+use no_memory::NoMemory;
+use smallvec::SmallVec;
+use std::alloc::Global;
+
+/// The new lists of a region of the Gamma: its arguments, and, where it takes a copy of the node,
+/// that copy, in a list with room for the nodes of the region.
+#[derive(Drop)]
+pub struct NewLists {
+    pub args: Vec<Kind>,
+    pub nodes: Vec<Node>,
+}
+
+/// The change of the Gamma: which of its entries stay, its inputs with the new ones, and the new
+/// lists of its regions.
+#[derive(Drop)]
+pub struct Plan {
+    pub stays: Vec<bool>,
+    pub inputs: SmallVec<Origin, 4>,
+    pub lists: Vec<NewLists>,
+}
+
+/// The change of the Gamma, with copies numbered from `next` on. It takes all the memory that the
+/// change needs.
+pub fn plan(alloc: Global, found: &Found<'_>, next: u32, id: u32) -> Result<Plan, NoMemory>
+    requires { IsCounted next id found.now }
+    ensures { IfOk result (λ plan. IsPlanFor next id found.now plan) }
+{
+    let form = Form {
+        op: found.node.op,
+        inputs: carried(found, next, id),
+        entries: entries_of(found.user),
+        id,
+    };
+    let stays = staying(alloc, form.entries, id)?;
+    let inputs = longer(alloc, found.user.inputs.as_slice(), form.inputs)?;
+    let lists = all_lists(alloc, &found.user.regions, &form, next)?;
+    Ok(Plan {
+        stays,
+        inputs,
+        lists,
+    })
+}
+
+// The inputs that the Gamma takes: where no region takes a copy, none.
+fn carried<'a>(found: &Found<'a>, next: u32, id: u32) -> &'a [Origin]
+    requires { IsCounted next id found.now }
+    ensures { result.now ≡ inputs_carried id (pull_seen found.now) }
+{
+    if found.copies == 0 {
+        &[]
+    } else {
+        found.node.inputs.as_slice()
+    }
+}
+
+// What the copies are made from: the op of node `id`, the inputs that the Gamma takes, and the
+// entries that it has.
+#[derive(Drop)]
+struct Form<'a> {
+    op: Op,
+    inputs: &'a [Origin],
+    entries: &'a [Origin],
+    id: u32,
+}
+
+fn staying(alloc: Global, entries: &[Origin], id: u32) -> Result<Vec<bool>, NoMemory>
+    ensures { IfOk result (λ stays. stays.items ≡ other_entries id entries.now) }
+{
+    let mut stays = Vec::new(alloc);
+    for entry in entries {
+        stays.push(!is_output_of(*entry, id))?;
+    }
+    Ok(stays)
+}
+
+fn longer(
+    alloc: Global,
+    inputs: &[Origin],
+    more: &[Origin],
+) -> Result<SmallVec<Origin, 4>, NoMemory>
+    ensures { IfOk result (λ all. all.items ≡ inputs.now ++ more.now) }
+{
+    let mut all = SmallVec::from_slice(alloc, inputs)?;
+    all.extend_from_slice(more)?;
+    Ok(all)
+}
+
+fn all_lists(
+    alloc: Global,
+    regions: &[Region],
+    form: &Form<'_>,
+    next: u32,
+) -> Result<Vec<NewLists>, NoMemory>
+    requires index { length form.now.entries.now + length form.now.inputs.now ≤ 2 ^ 32 }
+    requires next { next + copies (other_entries form.now.id form.now.entries.now)
+        (regions_of regions.now) ≤ most_next }
+    ensures { IfOk result (λ lists. AreListsOfAll
+        (other_entries form.now.id form.now.entries.now) next (length form.now.entries.now)
+        form.now.op form.now.inputs.now (regions_of regions.now) lists.items) }
+{
+    let mut lists = Vec::with_capacity(alloc, regions.len())?;
+    let mut copy = next;
+    for region in regions {
+        let new = new_lists(alloc, region, form, copy)?;
+        copy += new.nodes.len() as u32;
+        lists.push(new)?;
+    }
+    Ok(lists)
+}
+
+fn new_lists(
+    alloc: Global,
+    region: &Region,
+    form: &Form<'_>,
+    copy: u32,
+) -> Result<NewLists, NoMemory>
+    requires { length form.now.entries.now + length form.now.inputs.now ≤ 2 ^ 32 }
+    ensures { IfOk result (λ lists. AreListsOf (other_entries form.now.id form.now.entries.now)
+        copy (length form.now.entries.now) form.now.op form.now.inputs.now region.now lists) }
+{
+    let args = longer_args(alloc, &region.args, form.inputs)?;
+    let nodes = if reads_gone(region, form.entries, form.id) {
+        begun(alloc, form, copy, region.nodes.len())?
+    } else {
+        Vec::new(alloc)
+    };
+    Ok(NewLists { args, nodes })
+}
+
+fn longer_args(alloc: Global, args: &[Kind], inputs: &[Origin]) -> Result<Vec<Kind>, NoMemory>
+    ensures { IfOk result (λ all. all.items ≡ args.now ++ replicate (length inputs.now) Value) }
+{
+    let mut all = Vec::from_slice(alloc, args)?;
+    for _input in inputs {
+        all.push(Kind::Value)?;
+    }
+    Ok(all)
+}
+
+// The copy of the node, in a list with room for so many nodes more.
+fn begun(alloc: Global, form: &Form<'_>, copy: u32, room: usize) -> Result<Vec<Node>, NoMemory>
+    requires { length form.now.entries.now + length form.now.inputs.now ≤ 2 ^ 32 }
+    ensures items { IfOk result (λ nodes. nodes.items ≡ node copy form.now.op
+        (args_from (length form.now.entries.now) form.now.inputs.now) no_regions ∷ []) }
+    ensures room { IfOk result (λ nodes. 1 + room ≤ vec_capacity nodes) }
+{
+    let inputs = arguments(alloc, form.entries.len(), form.inputs)?;
+    let mut nodes = Vec::new(alloc);
+    nodes.push(Node {
+        id: copy,
+        op: form.op,
+        inputs,
+        regions: Vec::new(alloc),
+    })?;
+    nodes.reserve(room)?;
+    Ok(nodes)
+}
+
+// As many arguments as there are inputs, from this one on.
+fn arguments(
+    alloc: Global,
+    first: usize,
+    inputs: &[Origin],
+) -> Result<SmallVec<Origin, 4>, NoMemory>
+    requires { first + length inputs.now ≤ 2 ^ 32 }
+    ensures { IfOk result (λ all. all.items ≡ args_from first inputs.now) }
+{
+    let mut all = SmallVec::new(alloc);
+    for k in 0..inputs.len() {
+        all.push(Origin::Arg((first + k) as u32))?;
+    }
+    Ok(all)
+}

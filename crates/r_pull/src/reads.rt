@@ -1,0 +1,53 @@
+ghost use Rattle.std.specs.Prelude.{◌≡◌};
+ghost use Rattle.g_graph.specs.Plain.{nodes_of};
+ghost use Rattle.g_graph.specs.WellFormed.{some_of};
+ghost use Rattle.g_edit.specs.Entries.{is_gone_argument};
+ghost use Rattle.g_edit.specs.Uses.{nodes_read, is_read};
+ghost use Rattle.r_pull.specs.Rule.{other_entries};
+
+use g_edit::is_output_of;
+use g_graph::{Node, Origin, Region};
+
+/// Whether the region reads the argument of an entry that is an output of the node of this number.
+/// It looks at no nested region.
+pub fn reads_gone(region: &Region, entries: &[Origin], id: u32) -> bool
+    ensures { result ≡ is_read (is_gone_argument (other_entries id entries.now)) region.now }
+{
+    nodes_read_gone(&region.nodes, entries, id) || some_gone(&region.results, entries, id)
+}
+
+fn nodes_read_gone(nodes: &[Node], entries: &[Origin], id: u32) -> bool
+    ensures { result ≡
+        nodes_read (is_gone_argument (other_entries id entries.now)) (nodes_of nodes.now) }
+{
+    for node in nodes {
+        if some_gone(node.inputs.as_slice(), entries, id) {
+            return true;
+        }
+    }
+    false
+}
+
+fn some_gone(origins: &[Origin], entries: &[Origin], id: u32) -> bool
+    ensures { result ≡ some_of (is_gone_argument (other_entries id entries.now)) origins.now }
+{
+    for origin in origins {
+        if is_gone(*origin, entries, id) {
+            return true;
+        }
+    }
+    false
+}
+
+#[tactic(auto, using(crate::proofs::Entries::gone_at))]
+fn is_gone(origin: Origin, entries: &[Origin], id: u32) -> bool
+    ensures { result ≡ is_gone_argument (other_entries id entries.now) origin }
+{
+    match origin {
+        Origin::Arg(index) => match entries.get(index as usize) {
+            Some(entry) => is_output_of(*entry, id),
+            None => false,
+        },
+        Origin::Out { .. } => false,
+    }
+}
