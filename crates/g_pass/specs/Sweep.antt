@@ -9,6 +9,8 @@ use Rattle.r_cne.specs.Rule as cne_rule
 use Rattle.r_dne.specs.Rule as dne_rule
 use Rattle.r_inv.specs.Rule as inv_rule
 use Rattle.r_push.specs.Rule as push_rule
+use Rattle.r_pull.specs.Rule as pull_rule
+use Rattle.r_unroll.specs.Rule as unroll_rule
 use Rattle.r_inline.specs.Rule as inline_rule
 use Rattle.r_inline.specs.Called.{called_at}
 
@@ -20,9 +22,9 @@ applies Cne l n = cne_rule.applies l n
 applies Dne l n = dne_rule.applies l n
 applies Inv l n = inv_rule.applies l n
 applies Push l n = push_rule.applies l n
-applies Pull l n = false
+applies Pull l n = pull_rule.applies l n
 applies Invert l n = false
-applies Unroll l n = false
+applies Unroll l n = unroll_rule.applies l n
 applies Inline l n = false
 
 abbrev pub applied : Rule → (node : ℕ) → PlainLambda → PlainLambda
@@ -31,9 +33,9 @@ applied Cne n l = cne_rule.cne n l
 applied Dne n l = dne_rule.dne n l
 applied Inv n l = inv_rule.inv n l
 applied Push n l = push_rule.psh n l
-applied Pull n l = l
+applied Pull n l = pull_rule.pll n l
 applied Invert n l = l
-applied Unroll n l = l
+applied Unroll n l = unroll_rule.url n l
 applied Inline n l = l
 
 -- whether a sweep goes from the last node to the first
@@ -55,9 +57,9 @@ is_built Cne = true
 is_built Dne = true
 is_built Inv = true
 is_built Push = true
-is_built Pull = false
+is_built Pull = true
 is_built Invert = false
-is_built Unroll = false
+is_built Unroll = true
 is_built Inline = true
 
 -- the first of these lambdas that has the number

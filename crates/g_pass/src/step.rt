@@ -25,7 +25,7 @@ pub const fn is_backward(rule: Rule) -> bool
 pub const fn is_built(rule: Rule) -> bool
     ensures { result ≡ is_built rule }
 {
-    !matches!(rule, Rule::Pull | Rule::Invert | Rule::Unroll)
+    !matches!(rule, Rule::Invert)
 }
 
 // Whether a rule that looks at its lambda alone applies.
@@ -38,7 +38,9 @@ fn applies(rule: Rule, lambda: &Lambda, node: u32) -> bool
         Rule::Dne => r_dne::applies(lambda, node),
         Rule::Inv => r_inv::applies(lambda, node),
         Rule::Push => r_push::applies(lambda, node),
-        Rule::Pull | Rule::Invert | Rule::Unroll | Rule::Inline => false,
+        Rule::Pull => r_pull::applies(lambda, node),
+        Rule::Unroll => r_unroll::applies(lambda, node),
+        Rule::Invert | Rule::Inline => false,
     }
 }
 
@@ -58,7 +60,9 @@ fn apply(alloc: Global, rule: Rule, lambda: &mut Lambda, node: u32) -> Result<()
         Rule::Dne => r_dne::apply(alloc, lambda, node),
         Rule::Inv => r_inv::apply(alloc, lambda, node),
         Rule::Push => r_push::apply(alloc, lambda, node),
-        Rule::Pull | Rule::Invert | Rule::Unroll | Rule::Inline => Ok(()),
+        Rule::Pull => r_pull::apply(alloc, lambda, node),
+        Rule::Unroll => r_unroll::apply(alloc, lambda, node),
+        Rule::Invert | Rule::Inline => Ok(()),
     }
 }
 

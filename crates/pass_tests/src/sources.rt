@@ -91,6 +91,16 @@ fn recipes_make_the_rows(rt: HostRuntime) -> Result<(), Fail> {
             status: 15,
         },
         Case {
+            source: b"int main(void) { int a = getchar(), b = a * 7, x = 0; \
+                if (a < 60) x = b; return x; }",
+            recipe: "pll",
+            steps: &[(Rule::Pull, 3), (Rule::Pull, 2), (Rule::Pull, 1)],
+            values: (47, 49),
+            input: b"\x05",
+            output: b"",
+            status: 35,
+        },
+        Case {
             source: b"int main(void) { return 2147483647 + 1 < 0; }",
             recipe: "fold",
             steps: &[(Rule::Fold, 2), (Rule::Fold, 4)],

@@ -1,6 +1,8 @@
 -- What the code finds and counts, by the definitions.
 use Rattle.std.specs.Prelude.{option_and_then, slice_index_or, slice_set}
-use Rattle.std.proofs.Common.{◌≡◌, ◌≢◌, ◌≤◌, ◌<◌, ◌+◌, ◌*◌, ◌^◌, ℕ, zero, suc, nat_le, not, ◌&&◌, ◌||◌, cond, Bool, true, false, List, [], ◌∷◌, drop, length, Option, None, Some, option_map, refl, sym, ap, ◌∙◌, subst, arith}
+use Rattle.std.specs.Option.{option_or}
+use Rattle.std.proofs.Common.{◌≡◌, ◌≢◌, ◌≤◌, ◌<◌, ◌+◌, ◌*◌, ◌-◌, ◌^◌, ℕ, zero, suc, ◌==◌, nat_le, not, ◌&&◌, ◌||◌, cond, Bool, true, false, List, [], ◌∷◌, drop, length, Option, None, Some, option_map, refl, sym, ap, ◌∙◌, subst, arith}
+use Rattle.std.proofs.Math.Nat.{mul-le-mul_left, suc-mul}
 use Rattle.std.proofs.lemmas.Bool.{and_parts}
 use Rattle.std.proofs.lemmas.Bool.Decides.{nat_tests}
 use Rattle.std.proofs.lemmas.Option.{same_Some}
@@ -8,14 +10,15 @@ use Rattle.g_graph.specs.declared.op.Kind.{Kind}
 use Rattle.g_graph.specs.declared.op.Op.{Op}
 use Rattle.g_graph.specs.declared.op.Op.TheVariants.{Const, Undef, Local, Delta, Bin, Un, Load, Store, Clear, PtrEq, Apply, Put, Exit, Get, Gamma, Theta}
 use Rattle.g_graph.specs.declared.op.Origin.{Origin}
-use Rattle.g_graph.specs.Plain.{RegionTree, region, NodeTree, node, NodeTrees, no_nodes, node_then, RegionTrees, no_regions, region_then, nodes_of, regions_of, has_none}
+use Rattle.g_graph.specs.Plain.{RegionTree, region, NodeTree, node, NodeTrees, no_nodes, node_then, RegionTrees, no_regions, region_then, nodes_of, regions_of, nodes_in, has_none}
 use Rattle.g_graph.specs.Signatures.{is_pure}
 use Rattle.g_graph.specs.WellFormed.{some_of}
 use Rattle.g_edit.specs.Uses.{is_read, is_output_of, nodes_read}
 use Rattle.g_edit.specs.Entries.{is_gone_argument, some_reads}
 use Rattle.g_edit.specs.Size.{may_change_size}
-use Rattle.r_pull.specs.Rule.{node_uses, only_user, user_changed, copies_in, copies, Pull, stays_of, inputs_carried, copies_of, added, gone, most_next, fits, into, pull_of}
-use Rattle.r_pull.specs.Edit.{takes, where_takes, user_of, pull_into, first_user, user_index}
+use Rattle.r_pull.specs.declared.find.Found.{Found}
+use Rattle.r_pull.specs.Rule.{node_uses, only_user, user_changed, copies_in, copies, Pull, stays_of, inputs_carried, copies_of, other_entries, gone_among, more_args, added, gone, most_next, fits, into, pull_of, pull_at, copies_here, region_answer, nodes_answer}
+use Rattle.r_pull.specs.Edit.{takes, where_takes, user_of, pull_into, first_user, user_index, pull_seen, IsCounted}
 
 -- ---- the node and its user
 
@@ -147,9 +150,12 @@ none-used n f xs e = none-from n 0 f xs e
 
 -- ---- numbers
 
-pub has_none_of : (rs : List RegionTree) → has_none (regions_of rs) ≡ nat_le (length rs) 0
+pub has_none_of : (rs : List RegionTree) → has_none (regions_of rs) ≡ (length rs == 0)
 has_none_of [] = refl
-has_none_of (r ∷ rs) = refl
+has_none_of (r ∷ rs) = grind (arith, nat_tests)
+
+one-more : (k : ℕ) → true ≡ nat_le 1 (1 + k)
+one-more k = grind (arith, nat_tests)
 
 -- where no region takes a copy no argument that goes is read
 read-copies : (stays : List Bool) (rs : RegionTrees) → some_reads stays rs ≡ nat_le 1 (copies stays rs)
@@ -157,8 +163,8 @@ read-copies stays no_regions = refl
 read-copies stays (region_then r rs) = by (is_read (is_gone_argument stays) r) (read-copies stays rs)
   where
     by : (t : Bool) → some_reads stays rs ≡ nat_le 1 (copies stays rs) → t || some_reads stays rs ≡ nat_le 1 (cond t 1 0 + copies stays rs)
-    by true e = grind (arith, nat_tests)
-    by false e = e
+    by true e = one-more (copies stays rs)
+    by false e = e ∙ ap (nat_le 1) (omega arith)
 
 pub none_carried : (n : ℕ) (h : Pull) → copies_of n h ≡ 0 → inputs_carried n h ≡ []
 none_carried n h e = ap (λ t. cond t h.inputs []) (read-copies (stays_of n h) h.regions ∙ ap (nat_le 1) e)
@@ -170,7 +176,7 @@ all_carried n h e = ap (λ t. cond t h.inputs []) (read-copies (stays_of n h) h.
     some = grind (arith, nat_tests, e)
 
 pub record Suffices (next n : ℕ) (h : Pull) : Type 0 where
-  pub next : next + copies_of n h ≤ most_next
+  pub numbers : next + copies_of n h ≤ most_next
   pub index : length h.entries + length h.inputs ≤ 4294967296
 
 pub fits_suffices : (values next n : ℕ) (h : Pull) → fits values next n h ≡ true → Suffices next n h
@@ -180,7 +186,7 @@ fits_suffices values next n h e =
     let index = nat_le (length h.entries + length h.inputs) (2 ^ 32) in
     let front = and_parts (change && number) index e in
     let low = (and_parts change number front.0).1 in
-    record { next = grind (arith, nat_tests, low); index = grind (arith, nat_tests, front.1) }
+    record { numbers = grind (arith, nat_tests, low); index = grind (arith, nat_tests, front.1) }
 
 -- the tests in the order of the code
 pub fits_in_order : (values next n : ℕ) (h : Pull) → fits values next n h ≡
@@ -197,3 +203,42 @@ fits_in_order values next n h =
     by false true false = refl
     by false false true = refl
     by false false false = refl
+
+-- ---- sums
+
+pub more_args_times : (more : ℕ) (rs : List RegionTree) → more_args more (regions_of rs) ≡ length rs * more
+more_args_times more [] = refl
+more_args_times more (r ∷ rs) = ap (λ k. more + k) (more_args_times more rs) ∙ omega (arith, suc-mul (length rs) more)
+
+pub product_small : (count more : ℕ) → count < 18446744073709551616 → more ≤ 4294967296 → count * more < 1329227995784915872903807060280344576
+product_small count more c m =
+    let wide : count * more ≤ count * 4294967296 = mul-le-mul_left count m in
+    omega (arith, wide, c)
+
+pub none_gone : (stays : List Bool) → gone_among stays 0 ≡ 0
+none_gone [] = refl
+none_gone (true ∷ stays) = refl
+none_gone (false ∷ stays) = refl
+
+pub gone_step : (n : ℕ) (entries : List Origin) (k rest : ℕ) (a : Origin) → k < length entries → a ≡ slice_index_or entries k a → rest ≢ 0 →
+    gone_among (other_entries n (drop k entries)) rest ≡ cond (is_output_of n a) 1 0 + gone_among (other_entries n (drop (suc k) entries)) (rest - 1)
+gone_step n [] k rest a h e z = absurd (omega (arith, h))
+gone_step n (b ∷ entries) (suc k) rest a h e z = gone_step n entries k rest a (omega (arith, h)) e z
+gone_step n (b ∷ entries) zero zero a h e z = absurd (z refl)
+gone_step n (b ∷ entries) zero (suc rest) a h e z =
+    ap (λ c. gone_among (not (is_output_of n c) ∷ other_entries n entries) (suc rest)) (sym e) ∙ by (is_output_of n a) ∙ ap (λ k. cond (is_output_of n a) 1 0 + gone_among (other_entries n entries) k) (omega arith)
+  where
+    by : (t : Bool) → gone_among (not t ∷ other_entries n entries) (suc rest) ≡ cond t 1 0 + gone_among (other_entries n entries) rest
+    by true = refl
+    by false = refl
+
+-- ---- the first region
+
+pub answer_here : (v next n : ℕ) (r : RegionTree) (c : ℕ) → copies_here v next n r ≡ Some c → region_answer (copies_here v next n) r ≡ Some c
+answer_here v next n (region args nodes results) c e = ap (λ o. option_or o (nodes_answer (copies_here v next n) nodes)) e
+
+pub answer_within : (v next n : ℕ) (r : RegionTree) → copies_here v next n r ≡ None → region_answer (copies_here v next n) r ≡ nodes_answer (copies_here v next n) (nodes_in r)
+answer_within v next n (region args nodes results) e = ap (λ o. option_or o (nodes_answer (copies_here v next n) nodes)) e
+
+pub seen_count : (next n v : ℕ) (r : RegionTree) (f : Found) → IsCounted next n f → Some (pull_seen f) ≡ pull_at v next n r → Some f.copies ≡ copies_here v next n r
+seen_count next n v r f h e = ap Some h.copies ∙ ap (option_map (copies_of n)) e

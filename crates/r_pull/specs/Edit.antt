@@ -1,6 +1,6 @@
 -- The parts of the change, as it is made: the node and the Gamma that uses it, and the lists that are new before the Gamma
 -- changes.
-use Rattle.std.specs.Prelude.{◌≡◌, ◌×◌, ◌<◌, ◌≤◌, ◌+◌, ℕ, suc, not, ◌&&◌, if◌then◌else◌, Bool, true, false, List, [], ◌∷◌, map, length, drop, Option, None, Some, option_map, option_and_then, ⊤, ⊥, vec_capacity}
+use Rattle.std.specs.Prelude.{◌≡◌, ◌<◌, ◌≤◌, ◌+◌, ℕ, suc, not, ◌&&◌, if◌then◌else◌, Bool, true, false, List, [], ◌∷◌, map, length, drop, Option, None, Some, option_map, option_and_then, ⊤, vec_capacity}
 use Rattle.g_graph.specs.declared.op.Op.{Op}
 use Rattle.g_graph.specs.declared.op.Op.TheVariants.{Gamma}
 use Rattle.g_graph.specs.declared.op.Kind.{Kind}
@@ -46,7 +46,7 @@ pull_seen f = pull_into f.node.now f.user.now
 -- The number of copies is that of the change, and all numbers suffice.
 pub record IsCounted (next n : ℕ) (f : Found) : Type 0 where
   pub copies : f.copies ≡ copies_of n (pull_seen f)
-  pub next : next + f.copies ≤ most_next
+  pub numbers : next + f.copies ≤ most_next
   pub index : length (pull_seen f).entries + length (pull_seen f).inputs ≤ 4294967296
 
 -- the first of these nodes that uses node n
@@ -60,15 +60,20 @@ user_index n first (node_then x ns) = if node_uses n x then Some first else user
 
 -- ---- new lists of a region
 
--- the region with these arguments, and with these nodes before its own, which read the first of them instead of arguments
--- that go
-abbrev pub begun : (stays : List Bool) → (args : List Kind) → (front : NodeTrees) → RegionTree → RegionTree
-begun stays args no_nodes (region old nodes results) = region args nodes results
-begun stays args (node_then x front) (region old nodes results) =
-    region args (node_then x (joined_nodes front (nodes_redirected (copy_used stays (id_of x)) nodes))) (map (copy_used stays (id_of x)) results)
+abbrev pub with_args : (args : List Kind) → RegionTree → RegionTree
+with_args more (region args nodes results) = region more nodes results
+
+-- the region begins with these nodes, and its own read that copy instead of arguments that go
+abbrev pub begun : (stays : List Bool) → (copy : ℕ) → (front : NodeTrees) → RegionTree → RegionTree
+begun stays copy front (region args nodes results) = region args (joined_nodes front (nodes_redirected (copy_used stays copy) nodes)) (map (copy_used stays copy) results)
+
+-- where there are such nodes; the first is the copy
+abbrev pub begun_where : (stays : List Bool) → (front : List NodeTree) → RegionTree → RegionTree
+begun_where stays [] r = r
+begun_where stays (x ∷ front) r = begun stays (id_of x) (nodes_of (x ∷ front)) r
 
 abbrev pub region_with : (stays : List Bool) → NewLists → RegionTree → RegionTree
-region_with stays lists r = begun stays lists.args.items (nodes_of lists.nodes.items) r
+region_with stays lists r = begun_where stays lists.nodes.items (with_args lists.args.items r)
 
 abbrev pub count_nodes : NodeTrees → ℕ
 count_nodes no_nodes = 0

@@ -1,6 +1,7 @@
-ghost use Rattle.std.specs.Prelude.{◌≡◌, ◌<◌, ◌≤◌, ◌+◌, ◌^◌, length};
+ghost use Rattle.std.specs.Prelude.{◌≡◌, ◌<◌, ◌≤◌, ◌+◌, ◌^◌, length, nat_le};
 ghost use Rattle.g_graph.specs.Plain.{regions_of, inputs_in};
 ghost use Rattle.r_pull.specs.Rule.{other_entries, copies_in, copies, copies_of, inputs_carried, gone_among, gone_args, more_args, added, gone, fits, stays_of};
+ghost use Rattle.g_edit.specs.Size.{may_change_size};
 ghost use Rattle.r_pull.specs.Edit.{entries_of, pull_into};
 
 use crate::find::entries_of;
@@ -36,6 +37,7 @@ fn copies_in(region: &Region, entries: &[Origin], id: u32) -> u64
 
 /// Whether the node may move into the Gamma, in a lambda of so many values and with that next
 /// number.
+#[tactic(auto, using(crate::proofs::Found::fits_in_order))]
 pub fn fits(node: &Node, user: &Node, copies: u64, values: u64, next: u32, id: u32) -> bool
     requires { copies ≡ copies_of id (pull_into node.now user.now) }
     ensures { result ≡ fits values next id (pull_into node.now user.now) }
@@ -67,6 +69,7 @@ fn can_change(node: &Node, user: &Node, copies: u64, values: u64, id: u32) -> bo
 }
 
 // How many inputs the Gamma takes: where no region takes a copy, none.
+#[tactic(auto, using(crate::proofs::Found::none_carried, crate::proofs::Found::all_carried))]
 fn carried_count(node: &Node, user: &Node, copies: u64, id: u32) -> u64
     requires copies { copies ≡ copies_of id (pull_into node.now user.now) }
     requires index { length (entries_of user.now) + length (inputs_in node.now) ≤ 2 ^ 32 }
@@ -81,16 +84,13 @@ fn carried_count(node: &Node, user: &Node, copies: u64, id: u32) -> u64
 }
 
 // The arguments that come: so many in each region.
+#[tactic(auto, using(crate::proofs::Found::more_args_times, crate::proofs::Found::product_small))]
 fn more_args(regions: &[Region], more: u64) -> u128
     requires { more ≤ 2 ^ 32 }
     ensures value { result ≡ more_args more (regions_of regions.now) }
     ensures small { result < 2 ^ 120 }
 {
-    let mut count = 0;
-    for _region in regions {
-        count += u128::from(more);
-    }
-    count
+    u128::from(regions.len() as u64) * u128::from(more)
 }
 
 // The arguments that go from regions with so many more arguments.
@@ -109,6 +109,7 @@ fn gone_args(regions: &[Region], entries: &[Origin], more: u64, id: u32) -> u128
 }
 
 // The arguments that go among so many first ones.
+#[tactic(auto, using(crate::proofs::Found::none_gone, crate::proofs::Found::gone_step))]
 fn gone_among(entries: &[Origin], args: u128, id: u32) -> u64
     ensures value { result ≡ gone_among (other_entries id entries.now) args }
     ensures small { result ≤ length entries.now }
@@ -120,18 +121,9 @@ fn gone_among(entries: &[Origin], args: u128, id: u32) -> u64
             return gone;
         }
         rest -= 1;
-        gone += gone_at(*entry, id);
+        if is_output_of(*entry, id) {
+            gone += 1;
+        }
     }
     gone
-}
-
-fn gone_at(entry: Origin, id: u32) -> u64
-    ensures value { result ≡ (if is_output_of id entry then 1 else 0) }
-    ensures small { result ≤ 1 }
-{
-    if is_output_of(entry, id) {
-        1
-    } else {
-        0
-    }
 }

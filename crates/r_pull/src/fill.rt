@@ -1,7 +1,9 @@
-ghost use Rattle.std.specs.Prelude.{◌≡◌, ◌≤◌, ◌+◌, ◌++◌, List, length, vec_capacity};
-ghost use Rattle.g_graph.specs.Plain.{NodeTree, nodes_of, regions_of, regions_in, nodes_in};
+ghost use Rattle.std.specs.Prelude.{◌≡◌, ◌<◌, ◌≤◌, ◌+◌, length, vec_capacity};
+ghost use Rattle.g_graph.specs.declared.op.Origin.TheVariants.{Arg};
+ghost use Rattle.g_graph.specs.Plain.{nodes_of, regions_of, regions_in, nodes_in, args_of};
+ghost use Rattle.g_graph.specs.Splice.{joined_nodes};
 ghost use Rattle.r_pull.specs.Rule.{user_changed, copy_used};
-ghost use Rattle.r_pull.specs.Edit.{first_user, user_index, begun, region_with, regions_with, count_nodes, HasRoom, HaveRoom, taking, pulled_by, Fits};
+ghost use Rattle.r_pull.specs.Edit.{first_user, user_index, begun, begun_where, with_args, region_with, regions_with, count_nodes, HasRoom, HaveRoom, taking, pulled_by, Fits};
 
 use crate::find::uses;
 use crate::plan::{NewLists, Plan};
@@ -48,19 +50,18 @@ fn take(alloc: Global, user: &mut Node, plan: Plan)
     let Plan {
         stays,
         inputs,
-        lists,
+        mut lists,
     } = plan;
     user.inputs = inputs;
-    fill_all(alloc, &mut user.regions, lists, &stays);
+    fill_all(alloc, &mut user.regions, &mut lists, &stays);
     keep_entries_of(user, &stays);
 }
 
-fn fill_all(alloc: Global, regions: &mut Vec<Region>, lists: Vec<NewLists>, stays: &[bool])
-    requires { HaveRoom lists.items (regions_of regions.old.items) }
+fn fill_all(alloc: Global, regions: &mut Vec<Region>, lists: &mut Vec<NewLists>, stays: &[bool])
+    requires { HaveRoom lists.old.items (regions_of regions.old.items) }
     ensures { regions_of regions.new.items ≡
-        regions_with stays.now lists.items (regions_of regions.old.items) }
+        regions_with stays.now lists.old.items (regions_of regions.old.items) }
 {
-    let mut lists = lists;
     for i in 0..regions.len() {
         let none = NewLists {
             args: Vec::new(alloc),
@@ -76,31 +77,39 @@ fn fill(region: &mut Region, lists: NewLists, stays: &[bool])
 {
     let NewLists { args, nodes } = lists;
     region.args = args;
-    begin(region, nodes, stays);
+    begin_where(region, nodes, stays);
 }
 
-// The region begins with these nodes, and reads the first of them instead of arguments that go.
-fn begin(region: &mut Region, front: Vec<Node>, stays: &[bool])
+// The region begins with these nodes, where there are any; the first is the copy that it reads.
+#[tactic(auto, using(crate::proofs::Filled::begun_none, crate::proofs::Filled::begun_some))]
+fn begin_where(region: &mut Region, front: Vec<Node>, stays: &[bool])
     requires { 0 < length front.items → length front.items + count_nodes (nodes_in region.old)
         ≤ vec_capacity front }
-    ensures { region.new ≡ begun stays.now (args_of region.old) (nodes_of front.items) region.old }
+    ensures { region.new ≡ begun_where stays.now front.items region.old }
 {
     match front.first() {
         Some(node) => {
-            let by = CopyUsed {
-                stays,
-                copy: node.id,
-            };
-            redirect_region(region, &by);
-            put_before(&mut region.nodes, front);
+            let copy = node.id;
+            begin(region, front, copy, stays);
         }
         None => (),
     }
 }
 
+#[tactic(auto, using(crate::proofs::Filled::redirected_count))]
+fn begin(region: &mut Region, front: Vec<Node>, copy: u32, stays: &[bool])
+    requires { length front.items + count_nodes (nodes_in region.old) ≤ vec_capacity front }
+    ensures { region.new ≡ begun stays.now copy (nodes_of front.items) region.old }
+{
+    redirect_region(region, &CopyUsed { stays, copy });
+    put_before(&mut region.nodes, front);
+}
+
+#[tactic(auto, using(crate::proofs::Filled::count_nodes_of, crate::proofs::Filled::joined_of))]
 fn put_before(nodes: &mut Vec<Node>, front: Vec<Node>)
-    requires { length front.items + length nodes.old.items ≤ vec_capacity front }
-    ensures { nodes.new.items ≡ front.items ++ nodes.old.items }
+    requires { length front.items + count_nodes (nodes_of nodes.old.items) ≤ vec_capacity front }
+    ensures { nodes_of nodes.new.items ≡
+        joined_nodes (nodes_of front.items) (nodes_of nodes.old.items) }
 {
     let mut all = front;
     match all.append(nodes) {

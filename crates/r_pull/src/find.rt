@@ -1,4 +1,4 @@
-ghost use Rattle.std.specs.Prelude.{◌≡◌, ◌×◌, IfSome, if◌then◌else◌, option_copied, option_map, option_and_then};
+ghost use Rattle.std.specs.Prelude.{◌≡◌, IfSome, if◌then◌else◌, option_copied, option_map, option_and_then};
 ghost use Rattle.std.specs.declared.option.Option.TheVariants.{Some, None};
 ghost use Rattle.g_graph.specs.Plain.{nodes_of, nodes_in};
 ghost use Rattle.g_graph.specs.WellFormed.{some_of};
@@ -33,6 +33,7 @@ pub fn found_at(region: &Region, values: u64, next: u32, id: u32) -> Option<Foun
     }
 }
 
+#[tactic(auto, using(crate::proofs::Found::pull_seen_of, crate::proofs::Found::user_is_only))]
 fn found_from<'a>(
     region: &'a Region,
     node: &'a Node,
@@ -51,6 +52,7 @@ fn found_from<'a>(
     }
 }
 
+#[tactic(auto, using(crate::proofs::Found::fits_suffices))]
 fn found_into<'a>(
     node: &'a Node,
     user: &'a Node,
@@ -86,6 +88,7 @@ pub fn entries_of(user: &Node) -> &[Origin]
 }
 
 // The Gamma that the node of the region moves into.
+#[tactic(auto, using(crate::proofs::Found::has_none_of))]
 fn user_of<'a>(region: &'a Region, node: &Node, id: u32) -> Option<&'a Node>
     ensures { option_copied result ≡ user_of id region.now node.now }
 {

@@ -31,7 +31,7 @@ pub struct Plan {
 
 /// The change of the Gamma, with copies numbered from `next` on. It takes all the memory that the
 /// change needs.
-pub fn plan(alloc: Global, found: &Found<'_>, next: u32, id: u32) -> Result<Plan, NoMemory>
+pub fn plan_for(alloc: Global, found: &Found<'_>, next: u32, id: u32) -> Result<Plan, NoMemory>
     requires { IsCounted next id found.now }
     ensures { IfOk result (λ plan. IsPlanFor next id found.now plan) }
 {
@@ -52,6 +52,7 @@ pub fn plan(alloc: Global, found: &Found<'_>, next: u32, id: u32) -> Result<Plan
 }
 
 // The inputs that the Gamma takes: where no region takes a copy, none.
+#[tactic(auto, using(crate::proofs::Found::none_carried, crate::proofs::Found::all_carried))]
 fn carried<'a>(found: &Found<'a>, next: u32, id: u32) -> &'a [Origin]
     requires { IsCounted next id found.now }
     ensures { result.now ≡ inputs_carried id (pull_seen found.now) }
@@ -95,6 +96,7 @@ fn longer(
     Ok(all)
 }
 
+#[tactic(auto, using(crate::proofs::Filled::made_begin, crate::proofs::Filled::made_more, crate::proofs::Filled::made_small, crate::proofs::Filled::made_all))]
 fn all_lists(
     alloc: Global,
     regions: &[Region],
@@ -118,6 +120,7 @@ fn all_lists(
     Ok(lists)
 }
 
+#[tactic(auto, using(crate::proofs::Filled::lists_without, crate::proofs::Filled::lists_with))]
 fn new_lists(
     alloc: Global,
     region: &Region,
@@ -137,13 +140,14 @@ fn new_lists(
     Ok(NewLists { args, nodes })
 }
 
+#[tactic(auto, using(crate::proofs::Filled::values_alone))]
 fn longer_args(alloc: Global, args: &[Kind], inputs: &[Origin]) -> Result<Vec<Kind>, NoMemory>
     ensures { IfOk result (λ all. all.items ≡ args.now ++ replicate (length inputs.now) Value) }
 {
+    let mut values = Vec::new(alloc);
+    values.resize(inputs.len(), Kind::Value)?;
     let mut all = Vec::from_slice(alloc, args)?;
-    for _input in inputs {
-        all.push(Kind::Value)?;
-    }
+    all.extend_from_slice(&values)?;
     Ok(all)
 }
 
@@ -167,6 +171,7 @@ fn begun(alloc: Global, form: &Form<'_>, copy: u32, room: usize) -> Result<Vec<N
 }
 
 // As many arguments as there are inputs, from this one on.
+#[tactic(auto, using(crate::proofs::Filled::arguments_step))]
 fn arguments(
     alloc: Global,
     first: usize,

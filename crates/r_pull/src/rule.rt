@@ -1,16 +1,16 @@
-ghost use Rattle.std.specs.Prelude.{◌≡◌, MatchBool, IfOk, OnOk, OnErr, IsTrue};
+ghost use Rattle.std.specs.Prelude.{◌≡◌, ◌≤◌, ◌+◌, IfSome, MatchBool, IfOk, OnOk, OnErr, IsTrue};
 ghost use Rattle.std.specs.declared.option.Option.TheVariants.{Some, None};
 ghost use Rattle.g_graph.specs.Plain.{nodes_in};
 ghost use Rattle.g_graph.specs.Program.{lambda_values, KeepsPrograms};
 ghost use Rattle.g_graph.specs.WellFormed.{IsWellFormed};
 ghost use Rattle.g_mean.specs.Edits.{KeepsMeaning, KeepsComplete};
 ghost use Rattle.g_edit.specs.Size.{IsNoLarger};
-ghost use Rattle.r_pull.specs.Rule.{copies_here, pll_here, region_answer, node_answer, copies_at, applies, pll};
+ghost use Rattle.r_pull.specs.Rule.{copies_here, pll_here, region_answer, node_answer, copies_at, applies, most_next, pll};
 ghost use Rattle.r_pull.specs.Edit.{planned, FitsPlanned};
 
 use crate::fill::carry_out;
 use crate::find::found_at;
-use crate::plan::{Plan, plan};
+use crate::plan::{Plan, plan_for};
 use g_graph::{Change, Lambda, Node, Region, change_lambda, values};
 use no_memory::NoMemory;
 use std::alloc::Global;
@@ -48,8 +48,10 @@ pub fn apply(alloc: Global, lambda: &mut Lambda, node: u32) -> Result<(), NoMemo
     }
 }
 
+#[tactic(auto, using(crate::proofs::Saturated::changed_same))]
 fn pull(alloc: Global, lambda: &mut Lambda, node: u32, copies: u32) -> Result<(), NoMemory>
-    requires { copies_at lambda.old node ≡ Some copies }
+    requires copies { copies_at lambda.old node ≡ Some copies }
+    requires next { lambda.old.next + copies ≤ most_next }
     ensures ok { OnOk result (lambda.new ≡ pll node lambda.old) }
     ensures err { OnErr result (lambda.new ≡ lambda.old) }
 {
@@ -69,24 +71,26 @@ fn pull(alloc: Global, lambda: &mut Lambda, node: u32, copies: u32) -> Result<()
 }
 
 // How many copies the rule makes at the node, where it applies.
+#[tactic(auto, using(crate::proofs::Saturated::counted_same))]
 fn copies_at(lambda: &Lambda, node: u32) -> Option<u32>
-    ensures { result ≡ copies_at lambda.now node }
+    ensures value { result ≡ copies_at lambda.now node }
+    ensures small { IfSome result (λ copies. lambda.now.next + copies ≤ most_next) }
 {
     region_copies(&lambda.body, values(lambda), lambda.next, node)
 }
 
 #[cycle(copies)]
+#[tactic(auto, using(crate::proofs::Found::answer_here, crate::proofs::Found::answer_within))]
 fn region_copies(region: &Region, values: u64, next: u32, id: u32) -> Option<u32>
-    ensures { result ≡ region_answer (copies_here values next id) region.now }
+    ensures value { result ≡ region_answer (copies_here values next id) region.now }
+    ensures small { IfSome result (λ copies. next + copies ≤ most_next) }
 {
-    let here = copies_here(region, values, next, id);
-    if here.is_some() {
-        return here;
+    if let Some(copies) = copies_here(region, values, next, id) {
+        return Some(copies);
     }
     for node in &region.nodes {
-        let within = node_copies(node, values, next, id);
-        if within.is_some() {
-            return within;
+        if let Some(copies) = node_copies(node, values, next, id) {
+            return Some(copies);
         }
     }
     None
@@ -94,19 +98,21 @@ fn region_copies(region: &Region, values: u64, next: u32, id: u32) -> Option<u32
 
 #[cycle(copies)]
 fn node_copies(node: &Node, values: u64, next: u32, id: u32) -> Option<u32>
-    ensures { result ≡ node_answer (copies_here values next id) node.now }
+    ensures value { result ≡ node_answer (copies_here values next id) node.now }
+    ensures small { IfSome result (λ copies. next + copies ≤ most_next) }
 {
     for region in &node.regions {
-        let within = region_copies(region, values, next, id);
-        if within.is_some() {
-            return within;
+        if let Some(copies) = region_copies(region, values, next, id) {
+            return Some(copies);
         }
     }
     None
 }
 
+#[tactic(auto, using(crate::proofs::Found::seen_count))]
 fn copies_here(region: &Region, values: u64, next: u32, id: u32) -> Option<u32>
-    ensures { result ≡ copies_here values next id region.now }
+    ensures value { result ≡ copies_here values next id region.now }
+    ensures small { IfSome result (λ copies. next + copies ≤ most_next) }
 {
     match found_at(region, values, next, id) {
         Some(found) => Some(found.copies),
@@ -140,6 +146,7 @@ impl Change for Pulling {
     }
 }
 
+#[tactic(auto, using(crate::proofs::Filled::planned_is, crate::proofs::Filled::planned_none, crate::proofs::Filled::planned_fits))]
 fn plan_at(
     alloc: Global,
     region: &Region,
@@ -151,7 +158,7 @@ fn plan_at(
     ensures fits { IfOk result (λ p. FitsPlanned id (nodes_in region.now) p) }
 {
     match found_at(region, values, next, id) {
-        Some(found) => Ok(Some(plan(alloc, &found, next, id)?)),
+        Some(found) => Ok(Some(plan_for(alloc, &found, next, id)?)),
         None => Ok(None),
     }
 }

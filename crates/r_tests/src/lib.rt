@@ -11,6 +11,8 @@ mod dne;
 #[cfg(test)]
 mod inv;
 #[cfg(test)]
+mod pull;
+#[cfg(test)]
 mod push;
 #[cfg(test)]
 mod tables;
