@@ -1,2 +1,11 @@
 mod Examples
 mod Turns
+mod Consecutive
+mod Sequence
+mod Alone
+mod Pieces
+mod Whole
+mod Form
+mod Chosen
+mod PartsFit
+mod Composed
