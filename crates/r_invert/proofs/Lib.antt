@@ -9,3 +9,5 @@ mod Form
 mod Chosen
 mod PartsFit
 mod Composed
+mod Looped
+mod Turned

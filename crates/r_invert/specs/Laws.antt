@@ -1,5 +1,5 @@
 -- Inversion keeps meaning.
-use Rattle.std.specs.Prelude.{◌≡◌, ◌==◌, ℕ, suc, ◌≤◌, IsTrue, if◌then◌else◌, List, [], ◌∷◌, length, Some, slice_get}
+use Rattle.std.specs.Prelude.{◌≡◌, ◌==◌, ℕ, suc, ◌≤◌, IsTrue, if◌then◌else◌, List, [], ◌∷◌, Some, slice_get}
 use Rattle.val_core.specs.Answers.{Undefined, then_on, on_number}
 use Rattle.val_core.specs.Refinement.{Direction, Forward, Backward, Refines, no_deeper}
 use Rattle.g_graph.specs.declared.op.Kind.TheVariants.{Value}
@@ -34,7 +34,7 @@ pub record IsLoopRegion (objects : ℕ) (r : RegionTree) : Type 0 where
 -- The inverted loop tests first. Where the test holds, it does turns that end with the test, and then the last part.
 abbrev pub InvertedLoopsTestFirst : Type 0
 InvertedLoopsTestFirst =
-    (objects next : ℕ) (r : RegionTree) (p : Parts) → IsLoopRegion objects r → parts_of r ≡ Some p → (c : Context) (xs : List Datum) → length xs ≡ length (args_of r) →
+    (objects next : ℕ) (r : RegionTree) (p : Parts) → IsLoopRegion objects r → parts_of r ≡ Some p → (c : Context) (xs : List Datum) →
     region_meaning c (inverted next p) xs
     ≡ then_on (region_meaning c p.test xs)
       (either (region_meaning c p.stop) (λ es. then_on (turns c.bound (λ us. then_on (region_meaning c p.go us) (region_meaning c p.test)) es) (region_meaning c p.stop)))
@@ -48,7 +48,7 @@ abbrev pub InvertedLoopsRefine : Type 0
 InvertedLoopsRefine =
     (direction : Direction) (c d : Context) → ContextRefines no_deeper direction IsLessDefinedDatum c d →
     (objects next : ℕ) (r : RegionTree) (p : Parts) → IsLoopRegion objects r → parts_of r ≡ Some p → (n : ℕ) → AreTurnsInverted direction n d.bound →
-    (xs ys : List Datum) → Paired IsLessDefinedDatum xs ys → length ys ≡ length (args_of r) →
+    (xs ys : List Datum) → Paired IsLessDefinedDatum xs ys →
     Refines no_deeper direction (Paired IsLessDefinedDatum) (turns n (region_meaning c r) xs) (region_meaning d (inverted next p) ys)
 
 -- ---- regions and lambdas
