@@ -11,3 +11,5 @@ mod PartsFit
 mod Composed
 mod Looped
 mod Turned
+mod First
+mod At

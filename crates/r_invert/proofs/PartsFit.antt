@@ -29,13 +29,14 @@ use Rattle.r_invert.proofs.Whole.{PartsFit}
 
 -- ---- the sentences of a node
 
-record NodeSays (objects : ℕ) (args : List Kind) (before : NodeTrees) (x : NodeTree) : Type 0 where
-  inputs : inputs_fit args before x ≡ true
-  last : inputs_are_last args before x ≡ true
-  states : node_has_one_state_each args before x ≡ true
-  regions : regions_fit x ≡ true
+pub record NodeSays (objects : ℕ) (args : List Kind) (before : NodeTrees) (x : NodeTree) : Type 0 where
+  pub inputs : inputs_fit args before x ≡ true
+  pub last : inputs_are_last args before x ≡ true
+  pub states : node_has_one_state_each args before x ≡ true
+  pub regions : regions_fit x ≡ true
+  pub theta : theta_has_states x ≡ true
 
-node-says : (objects : ℕ) (args : List Kind) (before : NodeTrees) (x : NodeTree) → node_fits objects args before x ≡ true → NodeSays objects args before x
+pub node-says : (objects : ℕ) (args : List Kind) (before : NodeTrees) (x : NodeTree) → node_fits objects args before x ≡ true → NodeSays objects args before x
 node-says objects args before x e =
     let a = inputs_fit args before x in
     let b = inputs_are_last args before x in
@@ -46,11 +47,11 @@ node-says objects args before x e =
     let h = has_its_width x in
     let to_h = (and_parts (a && b && c && d && f && g && h) (has_its_object objects x) e).0 in
     let to_g = (and_parts (a && b && c && d && f && g) h to_h).0 in
-    let to_f = (and_parts (a && b && c && d && f) g to_g).0 in
-    let of_f = and_parts (a && b && c && d) f to_f in
+    let of_g = and_parts (a && b && c && d && f) g to_g in
+    let of_f = and_parts (a && b && c && d) f of_g.0 in
     let of_c = and_parts (a && b) c (and_parts (a && b && c) d of_f.0).0 in
     let of_b = and_parts a b of_c.0 in
-    record { inputs = of_b.0; last = of_b.1; states = of_c.1; regions = of_f.1 }
+    record { inputs = of_b.0; last = of_b.1; states = of_c.1; regions = of_f.1; theta = of_g.1 }
 
 pub have-states : (r : RegionTree) (ks : List Kind) → args_of r ≡ ks → takes_both_states r ≡ true → HaveStates (map Some ks)
 have-states r ks a t =
