@@ -13,3 +13,4 @@ mod Looped
 mod Turned
 mod First
 mod At
+mod Replaced
