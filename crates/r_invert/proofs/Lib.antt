@@ -14,3 +14,4 @@ mod Turned
 mod First
 mod At
 mod Replaced
+mod Fits

@@ -46,7 +46,7 @@ use Rattle.r_invert.proofs.Whole.{inverted-piece}
 
 -- ---- numbers
 
-below : (m next : ℕ) (ns : List ℕ) → all_of (λ n. nat_lt n next) ns ≡ true → IsAmong m ns → m < next
+pub below : (m next : ℕ) (ns : List ℕ) → all_of (λ n. nat_lt n next) ns ≡ true → IsAmong m ns → m < next
 below m next [] a h = absurd h
 below m next (n ∷ ns) a (inl e) =
     let own : nat_lt n next ≡ true = (and_parts (nat_lt n next) (all_of (λ k. nat_lt k next) ns) a).0 in

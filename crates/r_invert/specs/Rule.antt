@@ -106,7 +106,7 @@ new_nodes p = 2 + 2 * node_count p.test + 2 * node_count p.stop + node_count p.g
 abbrev pub growth : Parts → ℕ
 growth p =
     2 * nodes_values (nodes_in p.test) + 2 * nodes_values (nodes_in p.stop) + nodes_values (nodes_in p.go)
-    + 6 + 3 * length (results_of p.stop) + 5 * length (args_of p.go)
+    + 5 + 3 * length (results_of p.stop) + length (args_of p.stop) + 3 * length (args_of p.go) + length (results_of p.test)
 
 -- the values of a loop with this region
 abbrev pub loop_values : RegionTree → ℕ
