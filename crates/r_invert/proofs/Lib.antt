@@ -15,3 +15,4 @@ mod First
 mod At
 mod Replaced
 mod Fits
+mod Kept
