@@ -1,15 +1,15 @@
 -- A region of one node that takes its arguments and gives its results.
-use Rattle.std.specs.Prelude.{◌&&◌, ◌||◌, not}
-use Rattle.std.proofs.Common.{◌≡◌, ℕ, zero, suc, Bool, true, false, cond, List, [], ◌∷◌, map, length, Option, None, Some, slice_get, refl, sym, ap, ◌∙◌}
+use Rattle.std.specs.Prelude.{◌&&◌}
+use Rattle.std.proofs.Common.{◌≡◌, ℕ, zero, suc, true, cond, List, [], ◌∷◌, map, length, None, Some, slice_get, ap, ◌∙◌}
 use Rattle.g_graph.specs.declared.op.Kind.{Kind}
 use Rattle.g_graph.specs.declared.op.Kind.TheVariants.{Memory, Io}
 use Rattle.g_graph.specs.declared.op.Op.{Op}
 use Rattle.g_graph.specs.declared.op.Origin.{Origin}
 use Rattle.g_graph.specs.declared.op.Origin.TheVariants.{Arg, Out}
-use Rattle.g_graph.specs.Plain.{NodeTree, node, NodeTrees, no_nodes, node_then, RegionTrees}
+use Rattle.g_graph.specs.Plain.{node, NodeTrees, no_nodes, node_then, RegionTrees}
 use Rattle.g_graph.specs.Scope.{is_of, known, last_index, origin_at, last_state}
 use Rattle.g_graph.specs.Signatures.{joined, inputs_of, outputs_of}
-use Rattle.g_graph.specs.WellFormed.{all_of, some_of, are, one_state_each, has_its_regions, regions_fit, theta_has_states, has_its_width, has_its_object, gives, is_last, node_fits, region_fits, every_region, every_in_regions}
+use Rattle.g_graph.specs.WellFormed.{some_of, are, one_state_each, has_its_regions, regions_fit, theta_has_states, has_its_width, has_its_object, gives, node_fits, region_fits, every_region, every_in_regions}
 use Rattle.g_graph.proofs.lemmas.Indexes.{same_number_true}
 use Rattle.g_graph.proofs.lemmas.KindLists.{are_themselves}
 use Rattle.g_edit.proofs.lemmas.AddedFit.{fits-from}

@@ -1,14 +1,14 @@
 -- The loop that is inverted, in its region.
 use Rattle.std.specs.Prelude.{option_and_then}
-use Rattle.std.proofs.Common.{◌≡◌, ℕ, Bool, true, cond, List, Option, None, Some, option_map, refl, sym, ap, ◌∙◌}
+use Rattle.std.proofs.Common.{◌≡◌, ℕ, true, cond, List, Option, None, Some, option_map, refl, sym, ap, ◌∙◌}
 use Rattle.std.proofs.lemmas.Option.{cond_some, same_Some}
 use Rattle.g_graph.specs.declared.op.Kind.{Kind}
 use Rattle.g_graph.specs.declared.op.Op.TheVariants.{Theta}
 use Rattle.g_graph.specs.declared.op.Origin.{Origin}
-use Rattle.g_graph.specs.Plain.{RegionTree, region, NodeTree, node, NodeTrees, node_then, no_regions, region_then, id_of}
+use Rattle.g_graph.specs.Plain.{RegionTree, region, NodeTree, node, NodeTrees, no_regions, region_then, id_of}
 use Rattle.g_graph.specs.Nodes.{node_at}
 use Rattle.g_graph.specs.Replace.{region_redirected}
-use Rattle.g_graph.specs.Splice.{args_to_inputs, joined_nodes, region_spliced}
+use Rattle.g_graph.specs.Splice.{args_to_inputs, region_spliced}
 use Rattle.g_graph.proofs.lemmas.Found.{found_node, node_at-joined}
 use Rattle.g_graph.proofs.lemmas.Splices.{Split, split_at}
 use Rattle.g_graph.proofs.lemmas.Unique.{same_number}

@@ -1,6 +1,6 @@
 -- What the outputs of a node are in one of its regions.
-use Rattle.std.specs.Prelude.{◌==◌, ◌&&◌, unwrap_or}
-use Rattle.std.proofs.Common.{◌≡◌, ℕ, zero, suc, Bool, true, false, cond, List, [], ◌∷◌, map, Option, None, Some, slice_get, refl, sym, ap, subst, ◌∙◌}
+use Rattle.std.specs.Prelude.{◌&&◌, unwrap_or}
+use Rattle.std.proofs.Common.{◌≡◌, ℕ, zero, suc, true, cond, List, [], ◌∷◌, map, Option, None, Some, slice_get, refl, ap, ◌∙◌}
 use Rattle.std.proofs.lemmas.Bool.{and_parts}
 use Rattle.g_graph.specs.declared.op.Kind.{Kind}
 use Rattle.g_graph.specs.declared.op.Origin.{Origin}
@@ -10,10 +10,9 @@ use Rattle.g_graph.specs.Scope.{known}
 use Rattle.g_graph.specs.Signatures.{joined}
 use Rattle.g_graph.specs.Splice.{outputs_to_results}
 use Rattle.g_graph.specs.WellFormed.{all_of, is_last}
-use Rattle.g_graph.proofs.SpliceKept.{some_at}
 use Rattle.g_graph.proofs.lemmas.Unique.{same_number}
 use Rattle.r_invert.specs.Rule.{is_output_of}
-use Rattle.r_invert.proofs.Sequence.{Entry, entry-at}
+use Rattle.r_invert.proofs.Sequence.{entry-at}
 
 -- an output of a node of these kinds
 abbrev pub output_kind : List Kind → Origin → Option Kind

@@ -1,6 +1,6 @@
 -- What a region does that is made of others.
 use Rattle.std.specs.Prelude.{nat_lt, unwrap_or}
-use Rattle.std.proofs.Common.{◌≡◌, ◌≢◌, ◌⊎◌, inl, inr, ℕ, zero, suc, Bool, true, false, List, [], ◌∷◌, map, length, Option, None, Some, slice_get, refl, sym, ap, subst, ◌∙◌, arith}
+use Rattle.std.proofs.Common.{◌≡◌, ◌≢◌, ◌⊎◌, inl, inr, ℕ, zero, suc, Bool, true, List, [], ◌∷◌, map, length, Some, slice_get, refl, sym, ap, subst, ◌∙◌, arith}
 use Rattle.std.proofs.Math.Path.{fun_ext}
 use Rattle.std.proofs.lemmas.Bool.Decides.{nat_tests}
 use Rattle.std.proofs.lemmas.List.{length-map}
@@ -12,13 +12,13 @@ use Rattle.g_graph.specs.declared.op.Kind.{Kind}
 use Rattle.g_graph.specs.declared.op.Op.{Op}
 use Rattle.g_graph.specs.declared.op.Origin.{Origin}
 use Rattle.g_graph.specs.declared.op.Origin.TheVariants.{Arg, Out}
-use Rattle.g_graph.specs.Plain.{RegionTree, region, NodeTrees, RegionTrees, args_of}
-use Rattle.g_graph.specs.Ids.{region_ids, nodes_ids}
+use Rattle.g_graph.specs.Plain.{region, NodeTrees, RegionTrees}
+use Rattle.g_graph.specs.Ids.{nodes_ids}
 use Rattle.g_graph.specs.Replace.{nodes_redirected}
-use Rattle.g_graph.specs.Splice.{args_to_inputs, joined_nodes}
+use Rattle.g_graph.specs.Splice.{args_to_inputs}
 use Rattle.g_mean.specs.Data.{Datum, val, at_port}
-use Rattle.g_mean.specs.Meaning.{Meaning, Context, act, Outputs, no_outputs, extended, read, region_meaning, nodes_run, meanings}
-use Rattle.g_mean.specs.Copies.{IsAmong, IsRead, AreRead, known_after, is_argument, IsClosed, CanMove, Same, ReadSame}
+use Rattle.g_mean.specs.Meaning.{Context, act, Outputs, no_outputs, extended, read, region_meaning, nodes_run, meanings}
+use Rattle.g_mean.specs.Copies.{IsAmong, IsRead, known_after, is_argument, IsClosed, CanMove, Same, ReadSame}
 use Rattle.g_mean.proofs.lemmas.Copies.{same-then, same-equal, Equals, extended-same, copied_nodes_mean_the_same, reads-same, redirected-moved}
 use Rattle.g_mean.proofs.lemmas.Splices.{joined-run, known-among, get-read, get-port}
 use Rattle.r_invert.specs.Compose.{origins_from, in_sequence, alone}

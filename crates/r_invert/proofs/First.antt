@@ -1,8 +1,8 @@
 -- The laws of turns: what is known of a loop that may be inverted.
-use Rattle.std.specs.Prelude.{◌==◌, ◌&&◌}
-use Rattle.std.proofs.Common.{◌≡◌, ℕ, Bool, true, false, List, ◌∷◌, Some, refl, sym, ap, subst, ◌∙◌}
+use Rattle.std.specs.Prelude.{◌==◌}
+use Rattle.std.proofs.Common.{◌≡◌, ℕ, true, false, List, ◌∷◌, Some, sym, ap, subst, ◌∙◌}
 use Rattle.val_core.specs.Answers.{then_on}
-use Rattle.val_core.specs.Refinement.{Direction, Refines, no_deeper}
+use Rattle.val_core.specs.Refinement.{Refines, no_deeper}
 use Rattle.g_graph.specs.declared.op.Kind.{Kind}
 use Rattle.g_graph.specs.declared.op.Origin.{Origin}
 use Rattle.g_graph.specs.Plain.{RegionTree, region, NodeTrees, no_nodes, node_then, args_of}
@@ -11,19 +11,18 @@ use Rattle.g_graph.specs.WellFormed.{all_of}
 use Rattle.g_mean.specs.Data.{Datum}
 use Rattle.g_mean.specs.Meaning.{Context, turns, region_meaning}
 use Rattle.g_mean.specs.LessDefined.{Paired, IsLessDefinedDatum}
-use Rattle.g_mean.specs.Refining.{ContextRefines}
 use Rattle.g_mean.proofs.lemmas.Bounds.{Never, Always, never-refines}
 use Rattle.g_mean.proofs.lemmas.Calls.{same-itself}
 use Rattle.g_mean.proofs.lemmas.Equal.{no_deeper-compares}
 use Rattle.g_mean.proofs.lemmas.LessDefined.{less-kept}
 use Rattle.g_mean.proofs.lemmas.Regions.{region-refines}
 use Rattle.r_invert.specs.Laws.{either, IsLoopRegion, InvertedLoopsTestFirst, InvertedLoopsRefine}
-use Rattle.r_invert.specs.Rule.{Parts, parts_of, is_output_of, takes_both_states, giving, word_given, is_zero, is_other, inverted}
+use Rattle.r_invert.specs.Rule.{Parts, parts_of, is_output_of, takes_both_states, giving, word_given, is_zero, is_other}
 use Rattle.r_invert.proofs.Form.{ending, form-of, word-zero, word-other}
 use Rattle.r_invert.proofs.Looped.{inverted-does}
 use Rattle.r_invert.proofs.PartsFit.{exits, z-kinds, b-kinds, output-kinds, parts-fit, regions-fit, regions-unique}
 use Rattle.r_invert.proofs.Turned.{region-given, turn-is}
-use Rattle.r_invert.proofs.Turns.{with_word, tested_first, turns-refine}
+use Rattle.r_invert.proofs.Turns.{with_word, turns-refine}
 use Rattle.r_invert.proofs.Whole.{PartsFit}
 
 -- a turn is the test, and then the one part or the other, with a predicate of its own

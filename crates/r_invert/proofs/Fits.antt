@@ -1,6 +1,6 @@
 -- A lambda stays well formed where the inverted loop stands in the place of the loop.
-use Rattle.std.specs.Prelude.{◌&&◌, nat_le, nat_lt, count_by, unwrap_or, if◌then◌else◌}
-use Rattle.std.proofs.Common.{◌≡◌, ◌<◌, ◌≤◌, ◌+◌, ℕ, zero, suc, Bool, true, false, List, [], ◌∷◌, ◌++◌, append_assoc, map, length, Some, refl, sym, ap, subst, ◌∙◌, inl, inr, arith}
+use Rattle.std.specs.Prelude.{◌&&◌, nat_le, nat_lt, count_by, if◌then◌else◌}
+use Rattle.std.proofs.Common.{◌≡◌, ◌<◌, ◌≤◌, ◌+◌, ℕ, zero, suc, Bool, true, false, List, [], ◌∷◌, ◌++◌, append_assoc, map, length, Some, refl, sym, ap, subst, ◌∙◌, inl, arith}
 use Rattle.std.proofs.lemmas.Bool.{and_parts, and_from, false_from_ne_true}
 use Rattle.std.proofs.lemmas.Bool.Decides.{nat_tests}
 use Rattle.std.proofs.lemmas.List.Sums.{sum_by-append, sum_by-cons}
@@ -13,7 +13,7 @@ use Rattle.g_graph.specs.Replace.{region_redirected, nodes_redirected}
 use Rattle.g_graph.specs.Scope.{known}
 use Rattle.g_graph.specs.Signatures.{result_kinds, output_kinds}
 use Rattle.g_graph.specs.Splice.{args_to_inputs, outputs_to_results, joined_nodes, region_spliced}
-use Rattle.g_graph.specs.WellFormed.{all_of, are, distinct, inputs_fit, inputs_are_last, every_region, region_fits, leaves_fit, body_fits, numbers_fit, well_formed, IsWellFormed}
+use Rattle.g_graph.specs.WellFormed.{all_of, are, distinct, every_region, region_fits, leaves_fit, body_fits, numbers_fit, well_formed, IsWellFormed}
 use Rattle.g_graph.proofs.SpliceKept.{ReplacementFits, region_spliced_kept}
 use Rattle.g_graph.proofs.lemmas.Nests.{region_changed_ids, numbers_numbered, changed_well_formed}
 use Rattle.g_graph.proofs.lemmas.Numbers.{Numbered, numbered_left, numbered_right}
@@ -27,9 +27,9 @@ use Rattle.g_mean.proofs.lemmas.Holds.{distinct-apart}
 use Rattle.g_copy.specs.Numbering.{numbers_from}
 use Rattle.g_copy.proofs.lemmas.Numbering.{from-not-below, from-once, from-below, none-above}
 use Rattle.r_invert.specs.Laws.{IsLoopRegion}
-use Rattle.r_invert.specs.Rule.{Parts, inverted, new_nodes, ivt_here, with_body}
-use Rattle.r_invert.proofs.At.{loop_node, placed, Inverts, inverts-at}
-use Rattle.r_invert.proofs.First.{LoopSays, loop-says}
+use Rattle.r_invert.specs.Rule.{inverted, new_nodes, ivt_here, with_body}
+use Rattle.r_invert.proofs.At.{loop_node, Inverts, inverts-at}
+use Rattle.r_invert.proofs.First.{loop-says}
 use Rattle.r_invert.proofs.PartsFit.{NodeSays}
 use Rattle.r_invert.proofs.Pieces.{Piece, among-numbers, has-among}
 use Rattle.r_invert.proofs.Replaced.{below, loop-node-says, loop-region}

@@ -1,20 +1,17 @@
 -- The rule keeps meaning and complete lists, and is a step.
-use Rattle.std.specs.Prelude.{◌&&◌, ◌+◌, ◌-◌, ◌^◌, nat_le, count_by, unwrap_or}
-use Rattle.std.proofs.Common.{◌≡◌, ℕ, suc, true, List, [], ◌∷◌, map, length, Option, None, Some, option_map, refl, sym, ap, subst, ◌∙◌, arith}
+use Rattle.std.specs.Prelude.{◌+◌, ◌-◌, ◌^◌, nat_le, unwrap_or}
+use Rattle.std.proofs.Common.{◌≡◌, ℕ, suc, true, List, map, length, Option, None, Some, option_map, refl, sym, ap, subst, ◌∙◌, arith}
 use Rattle.std.proofs.lemmas.Bool.{and_parts}
 use Rattle.std.proofs.lemmas.List.{length-map}
-use Rattle.g_graph.specs.declared.op.Kind.{Kind}
 use Rattle.g_graph.specs.declared.op.Op.{Op}
 use Rattle.g_graph.specs.declared.op.Op.TheVariants.{Gamma, Theta}
 use Rattle.g_graph.specs.declared.op.Origin.{Origin}
-use Rattle.g_graph.specs.Plain.{RegionTree, region, NodeTree, node, NodeTrees, no_nodes, node_then, RegionTrees, no_regions, region_then, args_of, results_of, nodes_in, PlainLambda}
-use Rattle.g_graph.specs.Change.{region_changed}
-use Rattle.g_graph.specs.Count.{region_values, node_values, nodes_values, regions_values}
-use Rattle.g_graph.specs.Ids.{region_ids}
-use Rattle.g_graph.specs.Lists.{RegionOps, NodesOps, RegionsOps, Calls, NamesGlobal}
+use Rattle.g_graph.specs.Plain.{RegionTree, region, NodeTrees, no_nodes, node_then, no_regions, region_then, args_of, results_of, nodes_in, PlainLambda}
+use Rattle.g_graph.specs.Count.{region_values, node_values, nodes_values}
+use Rattle.g_graph.specs.Lists.{RegionOps, NodesOps, Calls, NamesGlobal}
 use Rattle.g_graph.specs.Program.{lambda_values, KeepsPrograms}
 use Rattle.g_graph.specs.Replace.{region_redirected, nodes_redirected}
-use Rattle.g_graph.specs.Signatures.{outputs_of, result_kinds, kind_of, kind_after}
+use Rattle.g_graph.specs.Signatures.{result_kinds, kind_of, kind_after}
 use Rattle.g_graph.specs.Splice.{args_to_inputs, outputs_to_results, joined_nodes, region_spliced}
 use Rattle.g_graph.specs.WellFormed.{well_formed, IsWellFormed}
 use Rattle.g_graph.proofs.lemmas.Complete.{complete_set, program_set}
@@ -29,13 +26,12 @@ use Rattle.g_edit.proofs.lemmas.Steps.{contracts_give_steps, edits_keep_interfac
 use Rattle.g_copy.specs.Numbering.{node_count, region_numbered}
 use Rattle.g_copy.proofs.lemmas.Copies.{numbered-ops}
 use Rattle.g_copy.proofs.lemmas.Fits.{copied-nodes-values, copies_count_the_same}
-use Rattle.r_invert.specs.Compose.{origins_from, in_sequence, alone}
+use Rattle.r_invert.specs.Compose.{in_sequence, alone}
 use Rattle.r_invert.specs.Laws.{IvtIsAStep}
-use Rattle.r_invert.specs.Rule.{Parts, parts_of, giving, turn, remaining, choice, inverted, new_nodes, growth, loop_values, may_invert, ivt_here, body_inverted, with_body, ivt}
+use Rattle.r_invert.specs.Rule.{Parts, parts_of, giving, turn, remaining, choice, inverted, new_nodes, growth, loop_values, ivt_here, body_inverted, with_body, ivt}
 use Rattle.r_invert.proofs.At.{loop_node, placed, inverts-at}
-use Rattle.r_invert.proofs.Consecutive.{length-from}
 use Rattle.r_invert.proofs.Fits.{changed-fits}
-use Rattle.r_invert.proofs.Form.{ending, Form, form-of}
+use Rattle.r_invert.proofs.Form.{ending, form-of}
 use Rattle.r_invert.proofs.Replaced.{ivt_replaces}
 
 -- ---- ops

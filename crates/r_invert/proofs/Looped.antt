@@ -1,9 +1,8 @@
 -- What the inverted loop does.
 use Rattle.std.specs.Prelude.{◌==◌}
-use Rattle.std.proofs.Common.{◌≡◌, ◌+◌, ℕ, zero, suc, Bool, true, false, cond, List, [], ◌∷◌, map, length, Some, refl, sym, ap, subst, ◌∙◌, arith}
+use Rattle.std.proofs.Common.{◌≡◌, ◌+◌, ℕ, zero, suc, Bool, true, false, cond, List, [], ◌∷◌, length, refl, sym, ap, subst, ◌∙◌, arith}
 use Rattle.std.proofs.Math.Path.{fun_ext}
 use Rattle.std.proofs.lemmas.Bool.Decides.{nat_tests}
-use Rattle.std.proofs.lemmas.List.{length-map}
 use Rattle.val_core.specs.declared.values.Value.{Value}
 use Rattle.val_core.specs.declared.values.Value.TheVariants.{Num, At, Bad}
 use Rattle.val_core.specs.Answers.{Answer, Returned, then_on, on_number, Gives}
@@ -13,7 +12,6 @@ use Rattle.g_graph.specs.declared.op.Kind.TheVariants.{Value as ValueKind}
 use Rattle.g_graph.specs.declared.op.Op.TheVariants.{Gamma, Theta}
 use Rattle.g_graph.specs.Plain.{RegionTree, region, no_regions, region_then, args_of, results_of}
 use Rattle.g_graph.specs.Ids.{nodes_ids}
-use Rattle.g_graph.specs.Scope.{known}
 use Rattle.g_mean.specs.Data.{Datum, value_of}
 use Rattle.g_mean.specs.Meaning.{Meaning, Context, chosen, branched, again, turns, region_meaning}
 use Rattle.g_mean.proofs.lemmas.Closed.{region-closed}
@@ -24,8 +22,7 @@ use Rattle.r_invert.specs.Laws.{either}
 use Rattle.r_invert.specs.Rule.{Parts, turn, remaining, choice, inverted}
 use Rattle.r_invert.proofs.Composed.{sequence-means, alone-means, gives-results}
 use Rattle.r_invert.proofs.Pieces.{Part, Piece, apart-pieces, numbered-piece}
-use Rattle.r_invert.proofs.Turns.{either-same}
-use Rattle.r_invert.proofs.Whole.{PartsFit, results-count, turn-piece, loop-piece, last-piece, choice-piece}
+use Rattle.r_invert.proofs.Whole.{PartsFit, results-count, loop-piece, last-piece, choice-piece}
 
 -- ---- pieces
 

@@ -1,18 +1,17 @@
 -- The parts of a loop's region fit.
-use Rattle.std.specs.Prelude.{◌&&◌, ◌||◌, not, if◌then◌else◌}
-use Rattle.std.proofs.Common.{◌≡◌, ℕ, Bool, true, false, List, [], ◌∷◌, ◌++◌, append-nil, map, length, None, Some, slice_get, refl, sym, ap, subst, ◌∙◌}
-use Rattle.std.proofs.lemmas.Bool.{and_parts, and_from}
+use Rattle.std.specs.Prelude.{◌&&◌, if◌then◌else◌}
+use Rattle.std.proofs.Common.{◌≡◌, ℕ, true, List, [], ◌∷◌, ◌++◌, map, None, Some, slice_get, refl, sym, ap, subst, ◌∙◌}
+use Rattle.std.proofs.lemmas.Bool.{and_parts}
 use Rattle.g_graph.specs.declared.op.Kind.{Kind}
 use Rattle.g_graph.specs.declared.op.Kind.TheVariants.{Value, Memory, Io}
-use Rattle.g_graph.specs.declared.op.Op.TheVariants.{Gamma}
 use Rattle.g_graph.specs.declared.op.Origin.{Origin}
 use Rattle.g_graph.specs.declared.op.Origin.TheVariants.{Arg, Out}
-use Rattle.g_graph.specs.Plain.{RegionTree, region, NodeTree, node, NodeTrees, no_nodes, node_then, RegionTrees, no_regions, region_then, nodes_of, args_of}
+use Rattle.g_graph.specs.Plain.{RegionTree, region, NodeTree, NodeTrees, no_nodes, node_then, no_regions, region_then, nodes_of, args_of}
 use Rattle.g_graph.specs.Ids.{region_ids, nodes_ids}
 use Rattle.g_graph.specs.Scope.{same_kind, is_of, known, each_node}
 use Rattle.g_graph.specs.Signatures.{joined, result_kinds, kind_after}
 use Rattle.g_graph.specs.Splice.{outputs_to_results, joined_nodes}
-use Rattle.g_graph.specs.WellFormed.{all_of, some_of, are, same, kinds_of, distinct, one_state_each, inputs_fit, inputs_are_last, node_has_one_state_each, has_its_regions, regions_fit, theta_has_states, has_its_width, has_its_object, gives, is_last, node_fits, region_fits, every_region, every_in_nodes, every_in_regions}
+use Rattle.g_graph.specs.WellFormed.{all_of, some_of, are, same, kinds_of, distinct, one_state_each, inputs_fit, inputs_are_last, node_has_one_state_each, has_its_regions, regions_fit, theta_has_states, has_its_width, has_its_object, gives, node_fits, region_fits, every_region, every_in_nodes, every_in_regions}
 use Rattle.g_graph.proofs.lemmas.Indexes.{same_number_true, each_node-joined}
 use Rattle.g_graph.proofs.lemmas.Nodes.{each_here, are_kinds, same_kinds}
 use Rattle.g_graph.proofs.lemmas.Splices.{nodes_ids-joined, kind_after-joined, every_in_nodes-joined}
@@ -20,9 +19,9 @@ use Rattle.g_graph.proofs.lemmas.Unique.{same_number}
 use Rattle.g_mean.proofs.lemmas.Edits.{distinct-split}
 use Rattle.g_edit.proofs.lemmas.AddedFit.{Fits, fits-parts, fits-from}
 use Rattle.r_invert.specs.Laws.{IsLoopRegion}
-use Rattle.r_invert.specs.Rule.{Parts, is_output_of, takes_both_states, giving, parts_of}
+use Rattle.r_invert.specs.Rule.{is_output_of, takes_both_states, giving}
 use Rattle.r_invert.proofs.Chosen.{output_kind, all-chosen}
-use Rattle.r_invert.proofs.Form.{ending, Ends}
+use Rattle.r_invert.proofs.Form.{ending}
 use Rattle.r_invert.proofs.Pieces.{Part, some-same}
 use Rattle.r_invert.proofs.Sequence.{HaveStates, given-where, list-of}
 use Rattle.r_invert.proofs.Whole.{PartsFit}

@@ -1,20 +1,17 @@
 -- Regions that fit and have the numbers from a first one on, in pre-order, and what is made of them.
 use Rattle.std.specs.Prelude.{◌==◌, ◌&&◌, ◌||◌}
 use Rattle.std.proofs.Common.{◌≡◌, ◌<◌, ◌≤◌, ◌+◌, ℕ, zero, suc, Bool, true, false, List, [], ◌∷◌, ◌++◌, append-nil, map, length, Some, refl, sym, ap, subst, ◌∙◌, inl, inr, arith}
-use Rattle.std.proofs.lemmas.Bool.{and_parts, and_from}
-use Rattle.std.proofs.lemmas.Bool.Decides.{nat_tests}
 use Rattle.g_graph.specs.declared.op.Kind.{Kind}
 use Rattle.g_graph.specs.declared.op.Kind.TheVariants.{Value, Memory, Io}
 use Rattle.g_graph.specs.declared.op.Op.TheVariants.{Gamma, Theta}
-use Rattle.g_graph.specs.declared.op.Origin.{Origin}
-use Rattle.g_graph.specs.Plain.{RegionTree, region, node, NodeTrees, no_nodes, node_then, RegionTrees, no_regions, region_then, args_of}
+use Rattle.g_graph.specs.Plain.{RegionTree, region, node, NodeTrees, no_nodes, node_then, no_regions, region_then, args_of}
 use Rattle.g_graph.specs.Change.{has_node}
 use Rattle.g_graph.specs.Ids.{region_ids, nodes_ids, regions_ids}
 use Rattle.g_graph.specs.Replace.{nodes_redirected}
 use Rattle.g_graph.specs.Scope.{same_kind, is_of, known}
-use Rattle.g_graph.specs.Signatures.{result_kinds, output_kinds}
+use Rattle.g_graph.specs.Signatures.{result_kinds}
 use Rattle.g_graph.specs.Splice.{args_to_inputs}
-use Rattle.g_graph.specs.WellFormed.{some_of, are, same, kinds_of, distinct, one_state_each, region_fits, every_region, every_in_regions}
+use Rattle.g_graph.specs.WellFormed.{some_of, are, same, kinds_of, distinct, one_state_each, region_fits, every_region}
 use Rattle.g_graph.proofs.lemmas.KindLists.{are_themselves, kinds_of_some}
 use Rattle.g_graph.proofs.lemmas.Redirects.{nodes_ids-redirected}
 use Rattle.g_graph.proofs.lemmas.Splices.{nodes_ids-joined}

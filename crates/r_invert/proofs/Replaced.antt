@@ -1,15 +1,14 @@
 -- The inverted loop in the place of the loop may replace it.
-use Rattle.std.specs.Prelude.{◌+◌, ◌&&◌, nat_lt}
-use Rattle.std.proofs.Common.{◌≡◌, ◌⊎◌, ◌<◌, ◌≤◌, ℕ, true, List, [], ◌∷◌, ◌++◌, map, length, Some, slice_get, refl, sym, ap, subst, ◌∙◌, inl, inr, arith}
+use Rattle.std.specs.Prelude.{◌&&◌, nat_lt}
+use Rattle.std.proofs.Common.{◌≡◌, ◌⊎◌, ◌<◌, ℕ, true, List, [], ◌∷◌, ◌++◌, map, length, Some, slice_get, refl, sym, ap, subst, ◌∙◌, inl, inr, arith}
 use Rattle.std.proofs.lemmas.Bool.{and_parts}
 use Rattle.std.proofs.lemmas.Bool.Decides.{nat_tests}
-use Rattle.std.proofs.lemmas.List.{length-map}
 use Rattle.val_core.specs.declared.values.Value.{Value as Word}
 use Rattle.val_core.specs.Refinement.{Direction, Forward, Backward, Refines, no_deeper}
 use Rattle.g_graph.specs.declared.op.Kind.{Kind}
 use Rattle.g_graph.specs.declared.op.Kind.TheVariants.{Value}
 use Rattle.g_graph.specs.declared.op.Origin.{Origin}
-use Rattle.g_graph.specs.Plain.{RegionTree, region, NodeTree, NodeTrees, node_then, no_regions, region_then, args_of, PlainLambda}
+use Rattle.g_graph.specs.Plain.{RegionTree, region, NodeTree, NodeTrees, node_then, args_of, PlainLambda}
 use Rattle.g_graph.specs.Ids.{region_ids, nodes_ids}
 use Rattle.g_graph.specs.Scope.{known}
 use Rattle.g_graph.specs.Signatures.{result_kinds}

@@ -1,12 +1,12 @@
 -- A region and then another one on its results fit where both do.
-use Rattle.std.specs.Prelude.{◌&&◌, ◌||◌, not, unwrap_or}
+use Rattle.std.specs.Prelude.{◌||◌, not, unwrap_or}
 use Rattle.std.proofs.Common.{◌≡◌, ◌⊎◌, inl, inr, ℕ, zero, suc, Bool, true, false, List, [], ◌∷◌, map, Option, None, Some, slice_get, refl, sym, ap, subst, ◌∙◌}
 use Rattle.std.proofs.lemmas.Bool.{and_parts, and_from, false_from_ne_true}
 use Rattle.g_graph.specs.declared.op.Kind.{Kind}
 use Rattle.g_graph.specs.declared.op.Kind.TheVariants.{Value, Memory, Io}
 use Rattle.g_graph.specs.declared.op.Origin.{Origin}
 use Rattle.g_graph.specs.declared.op.Origin.TheVariants.{Arg, Out}
-use Rattle.g_graph.specs.Plain.{RegionTree, region, NodeTree, NodeTrees, no_nodes, node_then, nodes_of}
+use Rattle.g_graph.specs.Plain.{region, NodeTree, NodeTrees, no_nodes, node_then, nodes_of}
 use Rattle.g_graph.specs.Change.{has_node}
 use Rattle.g_graph.specs.Replace.{nodes_redirected}
 use Rattle.g_graph.specs.Scope.{is_of, known, last_index, origin_at, state_after, last_state, each_node}
@@ -17,7 +17,7 @@ use Rattle.g_graph.proofs.SpliceKept.{some_at}
 use Rattle.g_graph.proofs.lemmas.Indexes.{kind_absent, kind_present, kind_known, index_kind, GivesState, KeepsState, state_cases, last_gives, each_node-joined}
 use Rattle.g_graph.proofs.lemmas.Redirects.{kind_after-redirected, state_after-redirected, every_in_nodes-redirected}
 use Rattle.g_graph.proofs.lemmas.Splices.{joined_none, kind_after-joined, state_after-joined, every_in_nodes-joined}
-use Rattle.g_edit.proofs.lemmas.AddedFit.{nothing, none-of, none-read, scope-from, Fits, fits-parts, fits-from}
+use Rattle.g_edit.proofs.lemmas.AddedFit.{nothing, none-of, none-read, scope-from, Fits, fits-from}
 use Rattle.g_edit.proofs.lemmas.Kept.{IsState, memory, io}
 use Rattle.g_edit.proofs.lemmas.Scopes.{KeepsScope, kept_all, kept_nodes_fit}
 use Rattle.r_invert.specs.Compose.{in_sequence}

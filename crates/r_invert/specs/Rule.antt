@@ -1,6 +1,6 @@
 -- Inversion: a loop whose turns begin with a test becomes the test and then, where it holds, a loop whose turns end with
 -- it (Reissmann et al., RVSDG, 2020, of Theta and Gamma nodes).
-use Rattle.std.specs.Prelude.{ℕ, zero, suc, ◌+◌, ◌-◌, ◌*◌, ◌^◌, ◌==◌, nat_le, not, ◌&&◌, if◌then◌else◌, Bool, false, List, [], ◌∷◌, count_by, map, length, Option, None, Some, option_map, option_and_then, is_some, unwrap_or}
+use Rattle.std.specs.Prelude.{ℕ, suc, ◌+◌, ◌-◌, ◌*◌, ◌^◌, ◌==◌, nat_le, not, ◌&&◌, if◌then◌else◌, Bool, false, List, ◌∷◌, count_by, map, length, Option, None, Some, option_map, option_and_then, is_some, unwrap_or}
 use Rattle.g_graph.specs.declared.op.Kind.{Kind}
 use Rattle.g_graph.specs.declared.op.Kind.TheVariants.{Value, Memory, Io}
 use Rattle.g_graph.specs.declared.op.Op.TheVariants.{Gamma, Theta}
