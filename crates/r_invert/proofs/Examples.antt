@@ -1,16 +1,20 @@
 -- Worked rows of inversion.
-use Rattle.std.proofs.Common.{◌≡◌, ℕ, suc, true, false, List, [], ◌∷◌, ◌++◌, refl}
+use Rattle.std.proofs.Common.{◌≡◌, ℕ, suc, Bool, true, false, List, [], ◌∷◌, ◌++◌, Option, Some, option_map, refl}
+use Rattle.val_core.specs.declared.values.Value.TheVariants.{Num, Bad}
+use Rattle.val_core.specs.Answers.{Answer, Returned, Cut}
 use Rattle.val_core.specs.declared.operation.Op2.TheVariants.{Add, Slt}
 use Rattle.g_graph.specs.declared.op.Kind.{Kind}
 use Rattle.g_graph.specs.declared.op.Kind.TheVariants.{Value, Memory, Io}
 use Rattle.g_graph.specs.declared.op.Op.{Op}
-use Rattle.g_graph.specs.declared.op.Op.TheVariants.{Const, Bin, Gamma, Theta}
+use Rattle.g_graph.specs.declared.op.Op.TheVariants.{Const, Bin, Put, Get, Gamma, Theta}
 use Rattle.g_graph.specs.declared.op.Origin.{Origin}
 use Rattle.g_graph.specs.declared.op.Origin.TheVariants.{Arg, Out}
 use Rattle.g_graph.specs.Plain.{RegionTree, region, NodeTree, node, no_regions, nodes_of, regions_of, PlainLambda}
 use Rattle.g_graph.specs.Program.{lambda_values}
 use Rattle.g_graph.specs.WellFormed.{well_formed}
-use Rattle.r_invert.specs.Rule.{applies, ivt}
+use Rattle.g_mean.specs.Data.{Datum, val, memory, input}
+use Rattle.g_mean.specs.Meaning.{Context, region_meaning}
+use Rattle.r_invert.specs.Rule.{may_invert, parts_of, applies, ivt}
 
 abbrev plain : ℕ → Op → List Origin → NodeTree
 plain id op inputs = node id op inputs no_regions
@@ -63,8 +67,14 @@ branching p rs = node 4 Gamma (p ∷ variables) (regions_of rs)
 abbrev all_results : List Origin
 all_results = Out 4 0 ∷ outputs 4 1
 
+abbrev row_nodes : List NodeTree
+row_nodes = testing 2 (Arg 0) ++ branching (Out 3 0) (stopping ∷ going ∷ []) ∷ []
+
+abbrev row_loop : RegionTree
+row_loop = region three (nodes_of row_nodes) all_results
+
 abbrev row : PlainLambda
-row = loop_of (testing 2 (Arg 0) ++ branching (Out 3 0) (stopping ∷ going ∷ []) ∷ []) all_results
+row = loop_of row_nodes all_results
 
 row_inverted : ivt 1 row
     ≡ main_with 23
@@ -95,12 +105,12 @@ not_twice = (refl, refl)
 
 -- ---- other forms
 
--- the form stands where the nodes before the Gamma are none, or take and give a state
+-- no nodes before the Gamma, which takes an argument as its predicate
 no_nodes_before : applies (loop_of (branching (Arg 0) (stopping ∷ going ∷ []) ∷ []) all_results) 1 ≡ true
 no_nodes_before = refl
 
 -- a result that two loop variables share
-shared_result : applies (loop_of (testing 2 (Arg 0) ++ branching (Out 3 0) (stopping ∷ going ∷ []) ∷ []) (Out 4 0 ∷ Out 4 0 ∷ Out 4 2 ∷ Out 4 3 ∷ [])) 1 ≡ true
+shared_result : applies (loop_of row_nodes (Out 4 0 ∷ Out 4 0 ∷ Out 4 2 ∷ Out 4 3 ∷ [])) 1 ≡ true
 shared_result = refl
 
 -- a node after the Gamma
@@ -130,8 +140,8 @@ states_missing = (refl, refl)
 
 -- a result that is an argument, and one of a node before the Gamma
 other_results :
-    (applies (loop_of (testing 2 (Arg 0) ++ branching (Out 3 0) (stopping ∷ going ∷ []) ∷ []) (Out 4 0 ∷ Arg 0 ∷ Out 4 2 ∷ Out 4 3 ∷ [])) 1 ≡ false)
-    × (applies (loop_of (testing 2 (Arg 0) ++ branching (Out 3 0) (stopping ∷ going ∷ []) ∷ []) (Out 4 0 ∷ Out 2 0 ∷ Out 4 2 ∷ Out 4 3 ∷ [])) 1 ≡ false)
+    (applies (loop_of row_nodes (Out 4 0 ∷ Arg 0 ∷ Out 4 2 ∷ Out 4 3 ∷ [])) 1 ≡ false)
+    × (applies (loop_of row_nodes (Out 4 0 ∷ Out 2 0 ∷ Out 4 2 ∷ Out 4 3 ∷ [])) 1 ≡ false)
 other_results = (refl, refl)
 
 -- regions that give these words as the predicate
@@ -162,3 +172,42 @@ carried_in :
     all_results) 1
     ≡ false
 carried_in = refl
+
+-- ---- states
+
+-- a test that reads a byte and writes it: a loop of the output and the input alone
+abbrev echoing : PlainLambda
+echoing =
+    loop_of
+    (plain 2 Get (Arg 2 ∷ []) ∷ plain 3 Put (Out 2 0 ∷ Out 2 1 ∷ [])
+    ∷ node 4 Gamma (Out 2 0 ∷ Arg 0 ∷ Arg 1 ∷ Out 3 0 ∷ [])
+    (regions_of (region three (nodes_of (plain 5 (Const 0) [] ∷ plain 9 Put (Arg 0 ∷ Arg 2 ∷ []) ∷ [])) (Out 5 0 ∷ Arg 0 ∷ Arg 1 ∷ Out 9 0 ∷ []) ∷ going ∷ [])) ∷ [])
+    all_results
+
+states_kept : (well_formed echoing ≡ true) × (applies echoing 1 ≡ true) × (well_formed (ivt 1 echoing) ≡ true)
+states_kept = (refl, refl, refl)
+
+-- ---- the limits
+
+abbrev fits_in : (values next : ℕ) → Option Bool
+fits_in values next = option_map (may_invert values next row_loop) (parts_of row_loop)
+
+-- it takes 11 numbers, and adds three values
+limits : (fits_in 8189 12 ≡ Some true) × (fits_in 8190 12 ≡ Some false) × (fits_in 53 4294967284 ≡ Some true) × (fits_in 53 4294967285 ≡ Some false)
+limits = (refl, refl, refl, refl)
+
+-- ---- a run
+
+abbrev within : (bound : ℕ) → Context
+within bound = record { bound = bound; call = λ f xs. Cut []; addresses = record { local = λ k. Bad; global = λ k. Bad } }
+
+abbrev ended : Answer (List Datum)
+ended = Returned (val (Num 3) ∷ memory [] ∷ input [] ∷ []) []
+
+-- Three turns and a fourth one whose test fails are three turns of the inverted loop.
+runs :
+    (region_meaning (within 4) row.body (memory [] ∷ input [] ∷ []) ≡ ended)
+    × (region_meaning (within 3) row.body (memory [] ∷ input [] ∷ []) ≡ Cut [])
+    × (region_meaning (within 3) (ivt 1 row).body (memory [] ∷ input [] ∷ []) ≡ ended)
+    × (region_meaning (within 2) (ivt 1 row).body (memory [] ∷ input [] ∷ []) ≡ Cut [])
+runs = (refl, refl, refl, refl)

@@ -119,7 +119,7 @@ gamma-asks objects id es outs z b za ba zg bg =
       regions = λ is.
           let one : (r : RegionTree) → args_of r ≡ es → result_kinds r ≡ map Some outs → (same (args_of r) (args_of z) && are (result_kinds r) (kinds_of (result_kinds z))) ≡ true
           = λ r a g. (λ i. same (a i) (za i) && are (g i) (kinds_of (zg i)))
-              ∙ (λ i. are_themselves es i && are (map Some outs) (kinds_of_some outs i)) ∙ are_themselves outs in
+          ∙ (λ i. are_themselves es i && are (map Some outs) (kinds_of_some outs i)) ∙ are_themselves outs in
           λ i. one z za zg i && (one b ba bg i && true);
       theta = λ is. refl;
       width = λ is. refl;

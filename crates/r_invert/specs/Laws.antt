@@ -37,7 +37,7 @@ InvertedLoopsTestFirst =
     (objects next : ℕ) (r : RegionTree) (p : Parts) → IsLoopRegion objects r → parts_of r ≡ Some p → (c : Context) (xs : List Datum) →
     region_meaning c (inverted next p) xs
     ≡ then_on (region_meaning c p.test xs)
-      (either (region_meaning c p.stop) (λ es. then_on (turns c.bound (λ us. then_on (region_meaning c p.go us) (region_meaning c p.test)) es) (region_meaning c p.stop)))
+    (either (region_meaning c p.stop) (λ es. then_on (turns c.bound (λ us. then_on (region_meaning c p.go us) (region_meaning c p.test)) es) (region_meaning c p.stop)))
 
 -- At most n turns are within n turns of the inverted loop, and at most n turns of that within n + 1 turns.
 abbrev pub AreTurnsInverted : Direction → (near far : ℕ) → Type 0
