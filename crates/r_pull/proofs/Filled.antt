@@ -19,8 +19,8 @@ use Rattle.g_edit.specs.Entries.{is_gone_argument, some_reads, node_taking}
 use Rattle.r_pull.specs.declared.find.Found.{Found}
 use Rattle.r_pull.specs.declared.plan.NewLists.{NewLists}
 use Rattle.r_pull.specs.declared.plan.Plan.{Plan}
-use Rattle.r_pull.specs.Rule.{Pull, stays_of, other_entries, inputs_carried, args_from, copy_used, begun_with, copies_in, copies, regions_filled, only_user, gamma_pulled, pull_at, region_pulled, pll_here}
-use Rattle.r_pull.specs.Edit.{entries_of, pull_into, begun, begun_where, region_with, regions_with, count_nodes, HasRoom, HaveRoom, AreListsOf, AreListsOfAll, taking, pull_seen, IsPlanFor, planned, FitsPlanned}
+use Rattle.r_pull.specs.Rule.{Pull, stays_of, other_entries, inputs_carried, args_from, copy_used, begun_with, copies_in, copies, regions_filled, only_user, gamma_pulled, most_next, pull_at, region_pulled, pll_here}
+use Rattle.r_pull.specs.Edit.{entries_of, pull_into, begun, begun_where, region_with, regions_with, count_nodes, HasRoom, HaveRoom, AreListsOf, AreListsOfAll, taking, pull_seen, IsCounted, IsPlanFor, planned, FitsPlanned}
 use Rattle.r_pull.proofs.Found.{changed_alike, only_is_first}
 
 pub count_nodes_of : (xs : List NodeTree) → count_nodes (nodes_of xs) ≡ length xs
@@ -33,10 +33,6 @@ joined_of xs ys = nodes_of-append xs ys
 pub redirected_count : (f : Origin → Origin) (ns : NodeTrees) → count_nodes (nodes_redirected f ns) ≡ count_nodes ns
 redirected_count f no_nodes = refl
 redirected_count f (node_then x ns) = ap suc (redirected_count f ns)
-
-pub values_alone : (n : ℕ) (v : Kind) → take n [] ++ replicate (n - 0) v ≡ replicate n v
-values_alone zero v = refl
-values_alone (suc n) v = refl
 
 -- ---- a region that begins with new nodes
 
@@ -59,9 +55,9 @@ module _ (stays : List Bool) (copy first : ℕ) (op : Op) (inputs : List Origin)
   lists_without (region args nodes results) m e a n =
       record {
         filled =
-          ap₂ (λ front more. begun_where stays front (region more nodes results)) n a
-          ∙ sym (ap (λ t. cond t (begun_with (node copy op (args_from first inputs) no_regions) (region_redirected (copy_used stays copy) (region (args ++ replicate (length inputs) Value) nodes results)))
-          (region (args ++ replicate (length inputs) Value) nodes results)) e);
+            ap₂ (λ front more. begun_where stays front (region more nodes results)) n a
+            ∙ sym (ap (λ t. cond t (begun_with (node copy op (args_from first inputs) no_regions) (region_redirected (copy_used stays copy) (region (args ++ replicate (length inputs) Value) nodes results)))
+            (region (args ++ replicate (length inputs) Value) nodes results)) e);
         count = ap length n ∙ sym (ap (λ t. cond t 1 0) e);
         room = λ h. absurd (omega (arith, h, ap length n));
       }
@@ -71,9 +67,9 @@ module _ (stays : List Bool) (copy first : ℕ) (op : Op) (inputs : List Origin)
   lists_with (region args nodes results) m e a n room =
       record {
         filled =
-          ap₂ (λ front more. begun_where stays front (region more nodes results)) n a
-          ∙ sym (ap (λ t. cond t (begun_with (node copy op (args_from first inputs) no_regions) (region_redirected (copy_used stays copy) (region (args ++ replicate (length inputs) Value) nodes results)))
-          (region (args ++ replicate (length inputs) Value) nodes results)) e);
+            ap₂ (λ front more. begun_where stays front (region more nodes results)) n a
+            ∙ sym (ap (λ t. cond t (begun_with (node copy op (args_from first inputs) no_regions) (region_redirected (copy_used stays copy) (region (args ++ replicate (length inputs) Value) nodes results)))
+            (region (args ++ replicate (length inputs) Value) nodes results)) e);
         count = ap length n ∙ sym (ap (λ t. cond t 1 0) e);
         room = λ h. omega (arith, room, ap length n);
       }
@@ -101,43 +97,63 @@ module _ (stays : List Bool) (first : ℕ) (op : Op) (inputs : List Origin) wher
   all-room copy no_regions (m ∷ ms) h = absurd h
   all-room copy (region_then r rs) [] h = absurd h
 
+pub arguments_more : (first k : ℕ) (inputs all more : List Origin) → k < length inputs → more ≡ all ++ Arg (first + k) ∷ [] → all ++ args_from (first + k) (drop k inputs) ≡ args_from first inputs →
+    more ++ args_from (first + suc k) (drop (suc k) inputs) ≡ args_from first inputs
+arguments_more first k inputs all more h e inv =
+    ap (λ zs. zs ++ args_from (first + suc k) (drop (suc k) inputs)) e
+    ∙ append_assoc all (Arg (first + k) ∷ []) (args_from (first + suc k) (drop (suc k) inputs))
+    ∙ ap (λ zs. all ++ zs) (sym (arguments_step first inputs k h))
+    ∙ inv
+
 -- ---- the plan
 
 pub plan_is : (next n : ℕ) (x g : NodeTree) (p : Plan) (entries carried : List Origin) → entries ≡ entries_of g → carried ≡ inputs_carried n (pull_into x g) → p.stays.items ≡ other_entries n entries →
-    p.inputs.items ≡ inputs_in g ++ carried → AreListsOfAll (other_entries n entries) next (length entries) (op_of x) carried (regions_in g) p.lists.items →
-    (taking p g ≡ gamma_pulled next n (pull_into x g) g) × HaveRoom p.lists.items (regions_in g)
+    p.inputs.items ≡ inputs_in g ++ carried → AreListsOfAll (other_entries n entries) next (length entries) (op_of x) carried (regions_in g) p.lists.items → IsPlanFor next n x g p
 plan_is next n (node xid op xs qs) (node id gop ges rs) p entries carried e c s i l =
     let all = subst₂ (λ es cs. AreListsOfAll (other_entries n es) next (length es) op cs rs p.lists.items) e c l in
     let stays = s ∙ ap (other_entries n) e in
     let inputs = i ∙ ap (λ cs. ges ++ cs) c in
     let h = pull_into (node xid op xs qs) (node id gop ges rs) in
     let same = ap (λ ts. regions_with ts p.lists.items rs) stays ∙ all-filled (other_entries n (drop 1 ges)) (length (drop 1 ges)) op (inputs_carried n h) next rs p.lists.items all in
-    (λ k. node_taking (stays k) (node id gop (inputs k) (same k)), all-room (other_entries n (drop 1 ges)) (length (drop 1 ges)) op (inputs_carried n h) next rs p.lists.items all)
+    record {
+      taken = λ k. node_taking (stays k) (node id gop (inputs k) (same k));
+      room = all-room (other_entries n (drop 1 ges)) (length (drop 1 ges)) op (inputs_carried n h) next rs p.lists.items all;
+    }
 
-pub planned_is : (values next n : ℕ) (r : RegionTree) (f : Found) (p : Plan) → Some (pull_seen f) ≡ pull_at values next n r → only_user n (nodes_in r) ≡ Some f.user.now → IsPlanFor next n f p →
-    planned n r (Some p) ≡ pll_here values next n r
+few-carried : (n : ℕ) (h : Pull) → length (inputs_carried n h) ≤ length h.inputs
+few-carried n h = by (some_reads (stays_of n h) h.regions)
+  where
+    by : (t : Bool) → length (cond t h.inputs []) ≤ length h.inputs
+    by true = omega arith
+    by false = omega arith
+
+pub counted-index : (next n count : ℕ) (x g : NodeTree) (entries carried : List Origin) → IsCounted next n count (pull_into x g) → entries ≡ entries_of g → carried ≡ inputs_carried n (pull_into x g) →
+    length entries + length carried ≤ 4294967296
+counted-index next n count (node xid op xs qs) (node id gop ges rs) entries carried h e c =
+    omega (arith, h.index, ap length e, ap length c, few-carried n (pull_into (node xid op xs qs) (node id gop ges rs)))
+
+pub counted-numbers : (next n count : ℕ) (x g : NodeTree) (entries : List Origin) → IsCounted next n count (pull_into x g) → entries ≡ entries_of g →
+    next + copies (other_entries n entries) (regions_in g) ≤ most_next
+counted-numbers next n count (node xid op xs qs) (node id gop ges rs) entries h e =
+    subst (λ es. next + copies (other_entries n es) rs ≤ most_next) (sym e) (subst (λ k. next + k ≤ most_next) h.copies h.numbers)
+
+pub planned_is : (values next n : ℕ) (r : RegionTree) (f : Found) (p : Plan) → Some (pull_seen f) ≡ pull_at values next n r → only_user n (nodes_in r) ≡ Some f.user.now →
+    IsPlanFor next n f.node.now f.user.now p → planned n r (Some p) ≡ pll_here values next n r
 planned_is values next n (region args nodes results) f p e u h =
     ap (λ ns. Some (region_without n (region args ns results)))
     (changed_alike n (taking p) (gamma_pulled next n (pull_seen f)) nodes
     (λ g first.
-        let same : f.user.now ≡ g = same_Some f.user.now g (sym (only_is_first n nodes f.user.now u) ∙ first) in
-        subst (λ z. taking p z ≡ gamma_pulled next n (pull_seen f) z) same h.taken))
+    let same : f.user.now ≡ g = same_Some f.user.now g (sym (only_is_first n nodes f.user.now u) ∙ first) in
+    subst (λ z. taking p z ≡ gamma_pulled next n (pull_seen f) z) same h.taken))
     ∙ ap (option_map (region_pulled next n (region args nodes results))) e
 
 pub planned_none : (values next n : ℕ) (r : RegionTree) → None ≡ pull_at values next n r → planned n r None ≡ pll_here values next n r
 planned_none values next n r e = ap (option_map (region_pulled next n r)) e
 
-pub planned_fits : (next n : ℕ) (r : RegionTree) (f : Found) (p : Plan) → only_user n (nodes_in r) ≡ Some f.user.now → IsPlanFor next n f p → FitsPlanned n (nodes_in r) (Some p)
+pub planned_fits : (next n : ℕ) (r : RegionTree) (f : Found) (p : Plan) → only_user n (nodes_in r) ≡ Some f.user.now → IsPlanFor next n f.node.now f.user.now p → FitsPlanned n (nodes_in r) (Some p)
 planned_fits next n r f p u h g first =
     let same : f.user.now ≡ g = same_Some f.user.now g (sym (only_is_first n (nodes_in r) f.user.now u) ∙ first) in
     subst (λ z. HaveRoom p.lists.items (regions_in z)) same h.room
-
-pub carried_few : (n : ℕ) (h : Pull) → length (inputs_carried n h) ≤ length h.inputs
-carried_few n h = by (some_reads (stays_of n h) h.regions)
-  where
-    by : (t : Bool) → length (cond t h.inputs []) ≤ length h.inputs
-    by true = omega arith
-    by false = omega arith
 
 -- ---- the loop that makes them
 
@@ -227,11 +243,8 @@ module _ {X : Type 0} where
   set-step (suc i) (y ∷ ys) (x ∷ xs) v e h d = ap (λ zs. y ∷ zs) (set-step i ys xs v (omega (arith, e)) (omega (arith, h)) d)
 
   all-done : (i : ℕ) (ys xs : List X) → length ys ≡ length xs → length xs ≤ i → take i ys ++ drop i xs ≡ ys
-  all-done i [] [] e h = take-none i
-    where
-      take-none : (k : ℕ) → take k [] ++ drop k [] ≡ []
-      take-none zero = refl
-      take-none (suc k) = refl
+  all-done zero [] [] e h = refl
+  all-done (suc i) [] [] e h = refl
   all-done i [] (x ∷ xs) e h = absurd (omega (arith, e))
   all-done i (y ∷ ys) [] e h = absurd (omega (arith, e))
   all-done zero (y ∷ ys) (x ∷ xs) e h = absurd (omega (arith, h))
@@ -285,8 +298,8 @@ filling-more stays i old regions made lists r t m none inv room h e g d =
     let within : i < length made = omega (arith, h, room-count made old room) in
     record {
       regions_are =
-        ap (λ zs. slice_set zs i t) inv.regions_are
-        ∙ set-step i (with-all stays made old) old t (with-length stays made old) h (d ∙ sym (with-index stays made old i m r t within h (g ∙ inv.lists_are i m (omega arith)) here));
+          ap (λ zs. slice_set zs i t) inv.regions_are
+          ∙ set-step i (with-all stays made old) old t (with-length stays made old) h (d ∙ sym (with-index stays made old i m r t within h (g ∙ inv.lists_are i m (omega arith)) here));
       regions_count = set-count regions i t ∙ inv.regions_count;
       lists_are = λ k v b. set-other lists i k none v b ∙ inv.lists_are k v (omega (arith, b));
       lists_count = set-count lists i none ∙ inv.lists_count;

@@ -206,9 +206,12 @@ fits_in_order values next n h =
 
 -- ---- sums
 
+swapped : (a b : ℕ) → a + b ≡ b + a
+swapped a b = omega arith
+
 pub more_args_times : (more : ℕ) (rs : List RegionTree) → more_args more (regions_of rs) ≡ length rs * more
-more_args_times more [] = refl
-more_args_times more (r ∷ rs) = ap (λ k. more + k) (more_args_times more rs) ∙ omega (arith, suc-mul (length rs) more)
+more_args_times more [] = omega arith
+more_args_times more (r ∷ rs) = ap (λ k. more + k) (more_args_times more rs) ∙ swapped more (length rs * more) ∙ sym (suc-mul (length rs) more)
 
 pub product_small : (count more : ℕ) → count < 18446744073709551616 → more ≤ 4294967296 → count * more < 1329227995784915872903807060280344576
 product_small count more c m =
@@ -220,6 +223,12 @@ none_gone [] = refl
 none_gone (true ∷ stays) = refl
 none_gone (false ∷ stays) = refl
 
+none-more : (k : ℕ) → k ≡ 0 + k
+none-more k = omega arith
+
+next-of : (k : ℕ) → suc k ≡ 1 + k
+next-of k = omega arith
+
 pub gone_step : (n : ℕ) (entries : List Origin) (k rest : ℕ) (a : Origin) → k < length entries → a ≡ slice_index_or entries k a → rest ≢ 0 →
     gone_among (other_entries n (drop k entries)) rest ≡ cond (is_output_of n a) 1 0 + gone_among (other_entries n (drop (suc k) entries)) (rest - 1)
 gone_step n [] k rest a h e z = absurd (omega (arith, h))
@@ -229,8 +238,8 @@ gone_step n (b ∷ entries) zero (suc rest) a h e z =
     ap (λ c. gone_among (not (is_output_of n c) ∷ other_entries n entries) (suc rest)) (sym e) ∙ by (is_output_of n a) ∙ ap (λ k. cond (is_output_of n a) 1 0 + gone_among (other_entries n entries) k) (omega arith)
   where
     by : (t : Bool) → gone_among (not t ∷ other_entries n entries) (suc rest) ≡ cond t 1 0 + gone_among (other_entries n entries) rest
-    by true = refl
-    by false = refl
+    by true = next-of (gone_among (other_entries n entries) rest)
+    by false = none-more (gone_among (other_entries n entries) rest)
 
 -- ---- the first region
 
@@ -240,5 +249,5 @@ answer_here v next n (region args nodes results) c e = ap (λ o. option_or o (no
 pub answer_within : (v next n : ℕ) (r : RegionTree) → copies_here v next n r ≡ None → region_answer (copies_here v next n) r ≡ nodes_answer (copies_here v next n) (nodes_in r)
 answer_within v next n (region args nodes results) e = ap (λ o. option_or o (nodes_answer (copies_here v next n) nodes)) e
 
-pub seen_count : (next n v : ℕ) (r : RegionTree) (f : Found) → IsCounted next n f → Some (pull_seen f) ≡ pull_at v next n r → Some f.copies ≡ copies_here v next n r
+pub seen_count : (next n v : ℕ) (r : RegionTree) (f : Found) → IsCounted next n f.copies (pull_seen f) → Some (pull_seen f) ≡ pull_at v next n r → Some f.copies ≡ copies_here v next n r
 seen_count next n v r f h e = ap Some h.copies ∙ ap (option_map (copies_of n)) e

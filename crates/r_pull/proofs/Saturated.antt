@@ -1,6 +1,6 @@
 -- A count that is saturated decides as the count itself.
 use Rattle.std.specs.Prelude.{option_and_then, unwrap_or}
-use Rattle.std.proofs.Common.{◌≡◌, ℕ, ◌+◌, ◌≤◌, nat_le, ◌&&◌, ◌||◌, cond, Bool, true, false, Option, None, Some, option_map, refl, ap, sym, ◌∙◌, arith}
+use Rattle.std.proofs.Common.{◌≡◌, ℕ, ◌+◌, ◌^◌, nat_le, ◌&&◌, ◌||◌, cond, Bool, true, false, length, Option, None, Some, option_map, refl, ap, sym, ◌∙◌, arith}
 use Rattle.std.proofs.Math.Path.{fun_ext}
 use Rattle.std.proofs.lemmas.Bool.Decides.{nat_tests}
 use Rattle.g_graph.specs.Plain.{RegionTree, NodeTree, PlainLambda, nodes_in}
@@ -36,9 +36,10 @@ copies-same v next n = fun_ext (λ r. ap (option_map (copies_of n)) (at-same v n
 pub counted_same : (v n : ℕ) (l : PlainLambda) (o : Option ℕ) → v ≡ saturated (lambda_values l) → o ≡ region_answer (copies_here v l.next n) l.body → o ≡ copies_at l n
 counted_same v n l o e d = d ∙ ap (λ h. region_answer h l.body) (ap (λ u. copies_here u l.next n) e ∙ copies-same (lambda_values l) l.next n)
 
--- the lambda that the code makes
-pub changed_same : (v n c : ℕ) (l k : PlainLambda) → v ≡ saturated (lambda_values l) → copies_at l n ≡ Some c → k ≡ record (lambda_changed (pll_here v l.next n) l) { next = l.next + c } → k ≡ pll n l
-changed_same v n c l k e a d =
-    d
+-- the lambda that the code makes, with x for the next number
+pub pulled_lambda : (v n c x : ℕ) (l k : PlainLambda) → v ≡ saturated (lambda_values l) → copies_at l n ≡ Some c → x ≡ l.next → k ≡ lambda_changed (pll_here v x n) l → record k { next = x + c } ≡ pll n l
+pulled_lambda v n c x l k e a b d =
+    ap (λ (z : PlainLambda). record z { next = x + c }) d
+    ∙ ap (λ y. record (lambda_changed (pll_here v y n) l) { next = y + c }) b
     ∙ ap (λ h. record (lambda_changed h l) { next = l.next + c }) (ap (λ u. pll_here u l.next n) e ∙ here-same (lambda_values l) l.next n)
     ∙ ap (λ o. record (lambda_changed (pll_here (lambda_values l) l.next n) l) { next = l.next + unwrap_or o 0 }) (sym a)

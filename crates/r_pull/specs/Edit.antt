@@ -44,10 +44,10 @@ abbrev pub pull_seen : Found → Pull
 pull_seen f = pull_into f.node.now f.user.now
 
 -- The number of copies is that of the change, and all numbers suffice.
-pub record IsCounted (next n : ℕ) (f : Found) : Type 0 where
-  pub copies : f.copies ≡ copies_of n (pull_seen f)
-  pub numbers : next + f.copies ≤ most_next
-  pub index : length (pull_seen f).entries + length (pull_seen f).inputs ≤ 4294967296
+pub record IsCounted (next n count : ℕ) (h : Pull) : Type 0 where
+  pub copies : count ≡ copies_of n h
+  pub numbers : next + count ≤ most_next
+  pub index : length h.entries + length h.inputs ≤ 4294967296
 
 -- the first of these nodes that uses node n
 abbrev pub first_user : (n : ℕ) → NodeTrees → Option NodeTree
@@ -112,10 +112,10 @@ AreListsOfAll stays copy first op inputs rs ms = ⊥
 abbrev pub taking : Plan → NodeTree → NodeTree
 taking plan (node id op inputs rs) = node_taking plan.stays.items (node id op plan.inputs.items (regions_with plan.stays.items plan.lists.items rs))
 
--- what is planned for the Gamma
-pub record IsPlanFor (next n : ℕ) (f : Found) (plan : Plan) : Type 0 where
-  pub taken : taking plan f.user.now ≡ gamma_pulled next n (pull_seen f) f.user.now
-  pub room : HaveRoom plan.lists.items (regions_in f.user.now)
+-- what is planned for Gamma g that takes node x
+pub record IsPlanFor (next n : ℕ) (x g : NodeTree) (plan : Plan) : Type 0 where
+  pub taken : taking plan g ≡ gamma_pulled next n (pull_into x g) g
+  pub room : HaveRoom plan.lists.items (regions_in g)
 
 abbrev pub pulled_by : (n : ℕ) → Plan → RegionTree → RegionTree
 pulled_by n plan (region args nodes results) = region_without n (region args (user_changed n (taking plan) nodes) results)

@@ -24,7 +24,7 @@ pub struct Found<'a> {
 /// results of the region and in what the Gamma's regions themselves hold.
 pub fn found_at(region: &Region, values: u64, next: u32, id: u32) -> Option<Found<'_>>
     ensures pull { option_map pull_seen result ≡ pull_at values next id region.now }
-    ensures counted { IfSome result (λ f. IsCounted next id f) }
+    ensures counted { IfSome result (λ f. IsCounted next id f.copies (pull_seen f)) }
     ensures user { IfSome result (λ f. only_user id (nodes_in region.now) ≡ Some f.user.now) }
 {
     match node_at(&region.nodes, id) {
@@ -43,7 +43,7 @@ fn found_from<'a>(
 ) -> Option<Found<'a>>
     ensures pull { option_map pull_seen result ≡
         option_and_then (where_fits values next id) (pull_of id region.now node.now) }
-    ensures counted { IfSome result (λ f. IsCounted next id f) }
+    ensures counted { IfSome result (λ f. IsCounted next id f.copies (pull_seen f)) }
     ensures user { IfSome result (λ f. only_user id (nodes_in region.now) ≡ Some f.user.now) }
 {
     match user_of(region, node, id) {
@@ -62,7 +62,7 @@ fn found_into<'a>(
 ) -> Option<Found<'a>>
     ensures pull { option_map pull_seen result ≡
         where_fits values next id (pull_into node.now user.now) }
-    ensures counted { IfSome result (λ f. IsCounted next id f) }
+    ensures counted { IfSome result (λ f. IsCounted next id f.copies (pull_seen f)) }
     ensures user { IfSome result (λ f. f.user.now ≡ user.now) }
 {
     let copies = copies(&user.regions, entries_of(user), id);
@@ -104,11 +104,7 @@ fn taking_user(nodes: &[Node], id: u32) -> Option<&Node>
         option_and_then (where_takes id) (only_user id (nodes_of nodes.now)) }
 {
     match only_user(nodes, id) {
-        Some(user) => if takes(user, id) {
-            Some(user)
-        } else {
-            None
-        },
+        Some(user) => if takes(user, id) { Some(user) } else { None },
         None => None,
     }
 }

@@ -1,10 +1,10 @@
 ghost use Rattle.std.specs.Prelude.{◌≡◌, ◌≤◌, ◌+◌, ◌++◌, ◌^◌, [], ◌∷◌, IfOk, length, replicate, vec_capacity};
 ghost use Rattle.g_graph.specs.declared.op.Kind.TheVariants.{Value};
-ghost use Rattle.g_graph.specs.Plain.{node, no_regions, regions_of};
+ghost use Rattle.g_graph.specs.Plain.{node, no_regions, regions_of, args_of, nodes_in};
 ghost use Rattle.r_pull.specs.Rule.{other_entries, args_from, copies, inputs_carried, most_next};
-ghost use Rattle.r_pull.specs.Edit.{pull_seen, IsCounted, AreListsOf, AreListsOfAll, IsPlanFor};
+ghost use Rattle.r_pull.specs.Edit.{pull_into, count_nodes, IsCounted, AreListsOf, AreListsOfAll, IsPlanFor};
 
-use crate::find::{Found, entries_of};
+use crate::find::entries_of;
 use crate::reads::reads_gone;
 use g_edit::is_output_of;
 use g_graph::{Kind, Node, Op, Origin, Region};
@@ -29,39 +29,69 @@ pub struct Plan {
     pub lists: Vec<NewLists>,
 }
 
-/// The change of the Gamma, with copies numbered from `next` on. It takes all the memory that the
-/// change needs.
-pub fn plan_for(alloc: Global, found: &Found<'_>, next: u32, id: u32) -> Result<Plan, NoMemory>
-    requires { IsCounted next id found.now }
-    ensures { IfOk result (λ plan. IsPlanFor next id found.now plan) }
+/// The change of the Gamma `user` that takes the node, with copies numbered from `next` on. It takes
+/// all the memory that the change needs.
+pub fn plan_for(
+    alloc: Global,
+    node: &Node,
+    user: &Node,
+    copies: u32,
+    next: u32,
+    id: u32,
+) -> Result<Plan, NoMemory>
+    requires { IsCounted next id copies (pull_into node.now user.now) }
+    ensures { IfOk result (λ plan. IsPlanFor next id node.now user.now plan) }
 {
+    let inputs = carried(node, user, copies, next, id);
     let form = Form {
-        op: found.node.op,
-        inputs: carried(found, next, id),
-        entries: entries_of(found.user),
+        op: node.op,
+        inputs,
+        entries: entries_of(user),
         id,
     };
-    let stays = staying(alloc, form.entries, id)?;
-    let inputs = longer(alloc, found.user.inputs.as_slice(), form.inputs)?;
-    let lists = all_lists(alloc, &found.user.regions, &form, next)?;
+    let plan = plan_of(alloc, &form, user.inputs.as_slice(), &user.regions, next)?;
+    Ok(plan)
+}
+
+// The inputs that the Gamma takes: where no region takes a copy, none.
+#[tactic(auto, using(crate::proofs::Found::none_carried, crate::proofs::Found::all_carried))]
+fn carried<'a>(node: &'a Node, user: &Node, copies: u32, next: u32, id: u32) -> &'a [Origin]
+    requires { IsCounted next id copies (pull_into node.now user.now) }
+    ensures { result.now ≡ inputs_carried id (pull_into node.now user.now) }
+{
+    if copies == 0 {
+        &[]
+    } else {
+        node.inputs.as_slice()
+    }
+}
+
+// The same for a Gamma of these inputs and regions.
+fn plan_of(
+    alloc: Global,
+    form: &Form<'_>,
+    inputs: &[Origin],
+    regions: &[Region],
+    next: u32,
+) -> Result<Plan, NoMemory>
+    requires index { length form.now.entries.now + length form.now.inputs.now ≤ 2 ^ 32 }
+    requires next { next + copies (other_entries form.now.id form.now.entries.now)
+        (regions_of regions.now) ≤ most_next }
+    ensures stays { IfOk result (λ plan. plan.stays.items ≡
+        other_entries form.now.id form.now.entries.now) }
+    ensures inputs { IfOk result (λ plan. plan.inputs.items ≡ inputs.now ++ form.now.inputs.now) }
+    ensures lists { IfOk result (λ plan. AreListsOfAll
+        (other_entries form.now.id form.now.entries.now) next (length form.now.entries.now)
+        form.now.op form.now.inputs.now (regions_of regions.now) plan.lists.items) }
+{
+    let stays = staying(alloc, form.entries, form.id)?;
+    let inputs = longer(alloc, inputs, form.inputs)?;
+    let lists = all_lists(alloc, regions, form, next)?;
     Ok(Plan {
         stays,
         inputs,
         lists,
     })
-}
-
-// The inputs that the Gamma takes: where no region takes a copy, none.
-#[tactic(auto, using(crate::proofs::Found::none_carried, crate::proofs::Found::all_carried))]
-fn carried<'a>(found: &Found<'a>, next: u32, id: u32) -> &'a [Origin]
-    requires { IsCounted next id found.now }
-    ensures { result.now ≡ inputs_carried id (pull_seen found.now) }
-{
-    if found.copies == 0 {
-        &[]
-    } else {
-        found.node.inputs.as_slice()
-    }
 }
 
 // What the copies are made from: the op of node `id`, the inputs that the Gamma takes, and the
@@ -131,32 +161,36 @@ fn new_lists(
     ensures { IfOk result (λ lists. AreListsOf (other_entries form.now.id form.now.entries.now)
         copy (length form.now.entries.now) form.now.op form.now.inputs.now region.now lists) }
 {
-    let args = longer_args(alloc, &region.args, form.inputs)?;
-    let nodes = if reads_gone(region, form.entries, form.id) {
-        begun(alloc, form, copy, region.nodes.len())?
-    } else {
-        Vec::new(alloc)
-    };
+    let args = longer_args(alloc, region, form.inputs)?;
+    if !reads_gone(region, form.entries, form.id) {
+        return Ok(NewLists {
+            args,
+            nodes: Vec::new(alloc),
+        });
+    }
+    let nodes = begun(alloc, form, copy, region)?;
     Ok(NewLists { args, nodes })
 }
 
-#[tactic(auto, using(crate::proofs::Filled::values_alone))]
-fn longer_args(alloc: Global, args: &[Kind], inputs: &[Origin]) -> Result<Vec<Kind>, NoMemory>
-    ensures { IfOk result (λ all. all.items ≡ args.now ++ replicate (length inputs.now) Value) }
+fn longer_args(alloc: Global, region: &Region, inputs: &[Origin]) -> Result<Vec<Kind>, NoMemory>
+    ensures { IfOk result (λ all. all.items ≡
+        args_of region.now ++ replicate (length inputs.now) Value) }
 {
     let mut values = Vec::new(alloc);
     values.resize(inputs.len(), Kind::Value)?;
-    let mut all = Vec::from_slice(alloc, args)?;
+    let mut all = Vec::from_slice(alloc, &region.args)?;
     all.extend_from_slice(&values)?;
     Ok(all)
 }
 
-// The copy of the node, in a list with room for so many nodes more.
-fn begun(alloc: Global, form: &Form<'_>, copy: u32, room: usize) -> Result<Vec<Node>, NoMemory>
+// The copy of the node, in a list with room for the nodes of the region.
+#[tactic(auto, using(crate::proofs::Filled::count_nodes_of))]
+fn begun(alloc: Global, form: &Form<'_>, copy: u32, region: &Region) -> Result<Vec<Node>, NoMemory>
     requires { length form.now.entries.now + length form.now.inputs.now ≤ 2 ^ 32 }
     ensures items { IfOk result (λ nodes. nodes.items ≡ node copy form.now.op
         (args_from (length form.now.entries.now) form.now.inputs.now) no_regions ∷ []) }
-    ensures room { IfOk result (λ nodes. 1 + room ≤ vec_capacity nodes) }
+    ensures room { IfOk result (λ nodes.
+        1 + count_nodes (nodes_in region.now) ≤ vec_capacity nodes) }
 {
     let inputs = arguments(alloc, form.entries.len(), form.inputs)?;
     let mut nodes = Vec::new(alloc);
@@ -166,12 +200,11 @@ fn begun(alloc: Global, form: &Form<'_>, copy: u32, room: usize) -> Result<Vec<N
         inputs,
         regions: Vec::new(alloc),
     })?;
-    nodes.reserve(room)?;
+    nodes.reserve(region.nodes.len())?;
     Ok(nodes)
 }
 
 // As many arguments as there are inputs, from this one on.
-#[tactic(auto, using(crate::proofs::Filled::arguments_step))]
 fn arguments(
     alloc: Global,
     first: usize,

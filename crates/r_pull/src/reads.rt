@@ -1,8 +1,8 @@
-ghost use Rattle.std.specs.Prelude.{◌≡◌};
+ghost use Rattle.std.specs.Prelude.{◌≡◌, false, option_map, slice_get, unwrap_or};
 ghost use Rattle.g_graph.specs.Plain.{nodes_of};
 ghost use Rattle.g_graph.specs.WellFormed.{some_of};
 ghost use Rattle.g_edit.specs.Entries.{is_gone_argument};
-ghost use Rattle.g_edit.specs.Uses.{nodes_read, is_read};
+ghost use Rattle.g_edit.specs.Uses.{nodes_read, is_read, is_output_of};
 ghost use Rattle.r_pull.specs.Rule.{other_entries};
 
 use g_edit::is_output_of;
@@ -39,15 +39,21 @@ fn some_gone(origins: &[Origin], entries: &[Origin], id: u32) -> bool
     false
 }
 
-#[tactic(auto, using(crate::proofs::Entries::gone_at))]
 fn is_gone(origin: Origin, entries: &[Origin], id: u32) -> bool
     ensures { result ≡ is_gone_argument (other_entries id entries.now) origin }
 {
     match origin {
-        Origin::Arg(index) => match entries.get(index as usize) {
-            Some(entry) => is_output_of(*entry, id),
-            None => false,
-        },
+        Origin::Arg(index) => argument_goes(entries, index, id),
         Origin::Out { .. } => false,
+    }
+}
+
+fn argument_goes(entries: &[Origin], index: u32, id: u32) -> bool
+    ensures { result ≡
+        unwrap_or (option_map (is_output_of id) (slice_get entries.now index)) false }
+{
+    match entries.get(index as usize) {
+        Some(entry) => is_output_of(*entry, id),
+        None => false,
     }
 }

@@ -42,13 +42,13 @@ pub fn apply(alloc: Global, lambda: &mut Lambda, node: u32) -> Result<(), NoMemo
     ensures size { OnOk result (IsNoLarger (lambda_values lambda.old) (lambda_values lambda.new)) }
     ensures err { OnErr result (lambda.new ≡ lambda.old) }
 {
-    match copies_at(lambda, node) {
-        Some(copies) => pull(alloc, lambda, node, copies),
-        None => unreachable!(),
-    }
+    let Some(copies) = copies_at(lambda, node) else {
+        unreachable!()
+    };
+    pull(alloc, lambda, node, copies)?;
+    Ok(())
 }
 
-#[tactic(auto, using(crate::proofs::Saturated::changed_same))]
 fn pull(alloc: Global, lambda: &mut Lambda, node: u32, copies: u32) -> Result<(), NoMemory>
     requires copies { copies_at lambda.old node ≡ Some copies }
     requires next { lambda.old.next + copies ≤ most_next }
@@ -146,7 +146,7 @@ impl Change for Pulling {
     }
 }
 
-#[tactic(auto, using(crate::proofs::Filled::planned_is, crate::proofs::Filled::planned_none, crate::proofs::Filled::planned_fits))]
+#[tactic(auto, using(crate::proofs::Filled::planned_none))]
 fn plan_at(
     alloc: Global,
     region: &Region,
@@ -158,7 +158,10 @@ fn plan_at(
     ensures fits { IfOk result (λ p. FitsPlanned id (nodes_in region.now) p) }
 {
     match found_at(region, values, next, id) {
-        Some(found) => Ok(Some(plan_for(alloc, &found, next, id)?)),
+        Some(found) => {
+            let plan = plan_for(alloc, found.node, found.user, found.copies, next, id)?;
+            Ok(Some(plan))
+        }
         None => Ok(None),
     }
 }

@@ -71,7 +71,7 @@ fn becomes(alloc: Global, before: Row, wanted: Option<Row>) -> Result<bool, NoMe
 #[test]
 fn a_node_moves_into_the_regions_that_use_it(rt: HostRuntime) -> Result<(), Fail> {
     let alloc = rt.alloc();
-    let three = [
+    let three: [(&[Line], Origin); 3] = [
         (&[(2, Op::Const(3), &[])], n(2)),
         (&[], A),
         (&[(3, Op::Const(4), &[])], n(3)),
