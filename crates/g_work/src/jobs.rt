@@ -42,9 +42,9 @@ impl<'a> LambdaJobs<'a> {
     /// These lambdas, which are well formed and have fewer than 2^32 values each, and this recipe.
     pub fn new(lambdas: &'a [Lambda], recipe: &'a Recipe) -> LambdaJobs<'a>
         requires well_formed { (f : ℕ) (l : PlainLambda)
-            → slice_get lambdas.entry.now f ≡ Some l → IsWellFormed l }
+            → slice_get lambdas.now f ≡ Some l → IsWellFormed l }
         requires small { (f : ℕ) (l : PlainLambda)
-            → slice_get lambdas.entry.now f ≡ Some l → lambda_values l < 2 ^ 32 }
+            → slice_get lambdas.now f ≡ Some l → lambda_values l < 2 ^ 32 }
         ensures { result ≡ record { lambdas = lambdas.entry.now; recipe = recipe.entry.now } }
     {
         LambdaJobs { lambdas, recipe }
