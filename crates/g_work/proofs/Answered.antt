@@ -1,5 +1,5 @@
 -- The results of the lambdas as jobs are their answers.
-use Rattle.std.proofs.Common.{ℕ, ◌<◌, List, sym, ◌∙◌, arith}
+use Rattle.std.proofs.Common.{◌≡◌, ℕ, List, ap, ◌∙◌, arith}
 use Rattle.board_core.specs.Answers.{IsRanked}
 use Rattle.board_one.specs.Alone.{AreResults}
 use Rattle.g_graph.specs.declared.steps.Rule.{Rule}
@@ -9,10 +9,18 @@ use Rattle.g_order.specs.Laws.{OrdersAreRanked}
 use Rattle.g_recipe.specs.Answers.{program, AreAnswers}
 use Rattle.g_recipe.proofs.lemmas.Answers.{program-ranked}
 use Rattle.g_pass.specs.Sweep.{rules}
+use Rattle.g_work.specs.Jobs.{Jobs}
 
 module _ (are_ranked : OrdersAreRanked) (recipe : List Rule) (ls : List PlainLambda) (ranks : List ℕ) (deps : List (List ℕ)) (order : IsOrder ls ranks deps) where
   pub ranked : IsRanked (program rules recipe ls ranks deps 1)
   ranked = program-ranked are_ranked rules recipe ls ranks deps order 1
+
+  -- the program of the board on which they are
+  pub same_program : (work : Jobs) (rs : List ℕ) (ds : List (List ℕ)) → work ≡ record { lambdas = ls; recipe = recipe } → rs ≡ ranks → ds ≡ deps →
+      program rules work.recipe work.lambdas rs ds 1 ≡ program rules recipe ls ranks deps 1
+  same_program work rs ds is same all =
+      ap (λ (j : Jobs). program rules j.recipe j.lambdas rs ds 1) is
+      ∙ (ap (λ xs. program rules recipe ls xs ds 1) same ∙ ap (λ xs. program rules recipe ls ranks xs 1) all)
 
   pub answered : (results : List PlainOptimised) → AreResults (program rules recipe ls ranks deps 1) results → AreAnswers rules recipe ls results
   answered results are =

@@ -17,7 +17,7 @@ optimise-requires-clause-small c =
     let x = c.index-self-job.result in
     let long = ap (λ (j : Jobs). length j.lambdas) c.self.view_is in
     let here = slice_get_read ls (length ls) c.args.job x refl (omega (arith, c.requires, long)) c.index-self-job.is in
-    subst (λ (l : PlainLambda). lambda_values l < 2 ^ 32) (sym c.in_ok-lambda.ensures) (c.self.invariant c.args.job x here).1
+    subst (λ (l : PlainLambda). lambda_values l < 2 ^ 32) (sym (c.in_ok-lambda.ensures ∙ sym c.index-self-job.is)) (c.self.invariant c.args.job x here).1
 
 pub returns : goal.returns
 returns c =
@@ -26,7 +26,7 @@ returns c =
     let long = ap (λ (j : Jobs). length j.lambdas) c.self.view_is in
     let here = slice_get_read ls (length ls) c.args.job x refl (omega (arith, c.requires, long)) c.index-self-job.is in
     let callees = map arc_value c.args.callees.now in
-    let lambda = c.in_ok-lambda.ensures ∙ ap (λ o. unwrap_or o no_lambda) (sym here) in
+    let lambda = c.in_ok-lambda.ensures ∙ (sym c.index-self-job.is ∙ ap (λ o. unwrap_or o no_lambda) (sym here)) in
     let same =
         ap (optimise rules (lambdas_of callees) c.self.inside.recipe.now) lambda
         ∙ ap (λ (j : Jobs). made rules j.recipe j.lambdas c.args.job callees) c.self.view_is in
