@@ -1,7 +1,7 @@
 -- Inlining makes a step where the callees are held.
 use Rattle.std.specs.Prelude.{◌==◌, if◌then◌else◌, option_map, option_and_then}
 use Rattle.std.proofs.Common.{◌≡◌, ℕ, Bool, true, false, List, [], ◌∷◌, Option, Some, None, slice_get, refl, subst}
-use Rattle.std.proofs.lemmas.Option.{none-some, same_Some, cond_some}
+use Rattle.std.proofs.lemmas.Option.{none-some, same_Some}
 use Rattle.std.specs.List.{AllByRecursion}
 use Rattle.g_graph.specs.Plain.{PlainLambda}
 use Rattle.g_graph.specs.WellFormed.{IsWellFormed}

@@ -1,11 +1,8 @@
 -- Each rule makes a step wherever it applies.
-use Rattle.std.proofs.Common.{◌≡◌, ℕ, Bool, true, false, if◌then◌else◌, List, Option, Some, None, subst}
+use Rattle.std.proofs.Common.{◌≡◌, Bool, true, false, if◌then◌else◌, List, Some, None, subst}
 use Rattle.std.proofs.lemmas.Option.{none-some, same_Some}
-use Rattle.std.specs.List.{AllByRecursion}
-use Rattle.g_graph.specs.declared.steps.Rule.{Rule}
 use Rattle.g_graph.specs.declared.steps.Rule.TheVariants.{Fold, Cne, Dne, Inv, Push, Pull, Invert, Unroll, Inline}
 use Rattle.g_graph.specs.Plain.{PlainLambda}
-use Rattle.g_graph.specs.WellFormed.{IsWellFormed}
 use Rattle.g_edit.specs.Steps.{MayStandFor}
 use Rattle.r_fold.specs.Laws.{FoldIsAStep}
 use Rattle.r_cne.specs.Laws.{CneIsAStep}
