@@ -1,0 +1,4 @@
+mod SeatLemmas
+mod CrewLemmas
+mod HiringLemmas
+pub mod lemmas

@@ -1,0 +1,19 @@
+//! Workers that drive a shared board until no job is left to claim. Of the repository it stands on
+//! `board_lock`, `board_laws`, `board_core` and `no_memory`. Promise: the contract of `work`, over
+//! every work and however the steps of the workers interleave. That the workers return, and that
+//! two of them make at once, is not promised.
+#![tactic(auto)]
+
+mod crew;
+mod gate;
+mod hiring;
+mod serving;
+mod threads;
+mod turns;
+mod worker;
+
+pub use crew::work;
+pub use gate::{CountGate, Gate, MeetGate, OpenGate};
+pub use hiring::{dismiss, hire};
+pub use threads::crosses_threads;
+pub use worker::{Worker, WorkerOf};
