@@ -1,4 +1,4 @@
-use Rattle.std.proofs.Common.{◌<◌, ◌^◌, ◌≡◌, List, length, map, slice_get, refl, sym, ap, subst, ◌∙◌, arith}
+use Rattle.std.proofs.Common.{◌≡◌, ◌<◌, ◌^◌, length, map, refl, sym, ap, subst, ◌∙◌, arith}
 use Rattle.std.specs.Prelude.{unwrap_or, IfOk}
 use Rattle.std.specs.Arc.{arc_value}
 use Rattle.std.proofs.lemmas.Option.{slice_get_read}
@@ -28,6 +28,6 @@ returns c =
     let callees = map arc_value c.args.callees.now in
     let lambda = c.in_ok-lambda.ensures ∙ (sym c.index-self-job.is ∙ ap (λ o. unwrap_or o no_lambda) (sym here)) in
     let same =
-        ap (optimise rules (lambdas_of callees) c.self.inside.recipe.now) lambda
-        ∙ ap (λ (j : Jobs). made rules j.recipe j.lambdas c.args.job callees) c.self.view_is in
+    ap (optimise rules (lambdas_of callees) c.self.inside.recipe.now) lambda
+    ∙ ap (λ (j : Jobs). made rules j.recipe j.lambdas c.args.job callees) c.self.view_is in
     subst (λ y. IfOk c.optimise.result (λ it. it ≡ y)) same c.optimise.ensures
