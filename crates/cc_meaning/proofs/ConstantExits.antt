@@ -233,19 +233,19 @@ large_exits loads n u l upper low sum count input enough =
 image_by : List Instr → List ℕ
 image_by li = file_of (sections_by li)
 
-exits_by : (at starts ends n bound : ℕ) (li : List Instr) → load_immediate 9 n ≡ li → ExitsWithin bound (image_by li) (n % 256) → ExitsWithin bound (image_of_constant at starts ends n) (n % 256)
+exits_by : (at starts ends n bound : ℕ) (li : List Instr) → load_immediate 9 (n % 2 ^ 32) ≡ li → ExitsWithin bound (image_by li) (n % 256) → ExitsWithin bound (image_of_constant at starts ends n) (n % 256)
 unfolding image_by
 exits_by at starts ends n bound li same exits count input enough = ap (λ code. image_at count (image_by code) input) same ∙ exits count input enough
 
 pub constant_exits : LoadedIsSound → ConstantExits
 unfolding image_by
-constant_exits loads at starts ends n bound = elim (cases_lt n 2048) [
+constant_exits loads at starts ends n bound = let low : n % 2 ^ 32 ≡ n = omega (arith, bound) in elim (cases_lt n 2048) [
   | inl small ↦
       let one : load_immediate 9 n ≡ Addi 9 0 n ∷ [] = rw (lt-ltb ((n + 2048) % 2 ^ 32) 4096 (omega arith)) refl in
-      rw (lt-ltb n 2048 small) (exits_by at starts ends n 23 (Addi 9 0 n ∷ []) one (small_exits loads n small))
+      rw (lt-ltb n 2048 small) (exits_by at starts ends n 23 (Addi 9 0 n ∷ []) (ap (load_immediate 9) low ∙ one) (small_exits loads n small))
   | inr large ↦
       let two : load_immediate 9 n ≡ Lui 9 (upper_part n) ∷ Addi 9 9 (low_part n) ∷ [] = rw (le-ltb ((n + 2048) % 2 ^ 32) 4096 (omega arith)) refl in
       rw (le-ltb n 2048 large)
-      (exits_by at starts ends n 24 (Lui 9 (upper_part n) ∷ Addi 9 9 (low_part n) ∷ []) two
+      (exits_by at starts ends n 24 (Lui 9 (upper_part n) ∷ Addi 9 9 (low_part n) ∷ []) (ap (load_immediate 9) low ∙ two)
       (large_exits loads n (upper_part n) (low_part n) (omega arith) (low_part_fits n) (parts_make_word n (omega arith))))
 ]
