@@ -1,5 +1,5 @@
 -- The numbers and the values of the changed region.
-use Rattle.std.proofs.Common.{◌≡◌, ◌+◌, ◌*◌, ◌≤◌, ℕ, zero, suc, ◌==◌, Bool, true, false, ◌||◌, cond, List, [], ◌∷◌, ◌++◌, map, length, replicate, Option, None, Some, refl, sym, ap, subst, ◌∙◌, append_assoc, arith}
+use Rattle.std.proofs.Common.{◌≡◌, ◌+◌, ◌*◌, ℕ, zero, suc, ◌==◌, Bool, true, false, cond, List, [], ◌∷◌, ◌++◌, map, length, replicate, Some, refl, sym, ap, ◌∙◌, arith}
 use Rattle.std.proofs.lemmas.List.{length-map, length-append, length-replicate}
 use Rattle.g_graph.specs.declared.op.Kind.TheVariants.{Value}
 use Rattle.g_graph.specs.declared.op.Op.{Op}
@@ -13,17 +13,15 @@ use Rattle.g_graph.specs.Nodes.{node_at}
 use Rattle.g_graph.specs.Replace.{nodes_redirected}
 use Rattle.g_graph.specs.Splice.{joined_nodes}
 use Rattle.g_graph.proofs.lemmas.Redirects.{nodes_ids-redirected, nodes_values-redirected}
-use Rattle.g_graph.proofs.lemmas.Splices.{nodes_ids-joined, nodes_values-joined}
 use Rattle.g_graph.proofs.lemmas.Unique.{times, times_append, times_cons}
 use Rattle.g_edit.specs.Uses.{is_read}
 use Rattle.g_edit.specs.Places.{kept}
-use Rattle.g_edit.specs.Entries.{argument_after, is_gone_argument, regions_taking}
+use Rattle.g_edit.specs.Entries.{argument_after, is_gone_argument}
 use Rattle.g_edit.specs.InPlace.{region_taking}
 use Rattle.g_edit.specs.Removal.{nodes_without}
-use Rattle.g_edit.proofs.lemmas.EntriesFit.{ids_same}
 use Rattle.g_edit.proofs.lemmas.Pure.{pure-outputs}
 use Rattle.r_pull.specs.Rule.{args_from, copy_used, region_filled, copies_in, regions_filled, copies, gone_among, gone_args, more_args}
-use Rattle.r_pull.proofs.Means.{regions_pulled, pulled-is}
+use Rattle.r_pull.proofs.Means.{regions_pulled}
 
 -- ---- consecutive numbers
 

@@ -1,17 +1,17 @@
 -- The regions with copies fit.
-use Rattle.std.proofs.Common.{◌≡◌, ◌≤◌, ◌<◌, ◌+◌, ℕ, zero, suc, ◌==◌, ◌⊎◌, Bool, true, false, not, ◌&&◌, ◌||◌, cond, List, [], ◌∷◌, ◌++◌, map, length, replicate, slice_get, Option, None, Some, refl, sym, ap, subst, ◌∙◌, inl, inr, append_assoc, append-nil, arith}
+use Rattle.std.proofs.Common.{◌≡◌, ◌≤◌, ◌+◌, ℕ, zero, suc, ◌==◌, Bool, true, false, ◌&&◌, ◌||◌, cond, List, [], ◌∷◌, ◌++◌, map, length, slice_get, None, Some, refl, sym, ap, subst, ◌∙◌, append_assoc, append-nil, arith}
 use Rattle.std.proofs.lemmas.Bool.{and_parts, or_parts, false_from_ne_true}
 use Rattle.std.proofs.lemmas.List.{length-append}
 use Rattle.g_graph.specs.declared.op.Kind.{Kind}
-use Rattle.g_graph.specs.declared.op.Kind.TheVariants.{Value, Memory, Io}
+use Rattle.g_graph.specs.declared.op.Kind.TheVariants.{Value}
 use Rattle.g_graph.specs.declared.op.Op.{Op}
 use Rattle.g_graph.specs.declared.op.Op.TheVariants.{Gamma}
 use Rattle.g_graph.specs.declared.op.Origin.{Origin}
 use Rattle.g_graph.specs.declared.op.Origin.TheVariants.{Arg, Out}
-use Rattle.g_graph.specs.Plain.{RegionTree, region, NodeTree, node, NodeTrees, no_nodes, node_then, nodes_of, RegionTrees, no_regions, region_then, id_of, args_of}
-use Rattle.g_graph.specs.Ids.{region_ids, nodes_ids, regions_ids}
+use Rattle.g_graph.specs.Plain.{RegionTree, region, NodeTree, node, NodeTrees, no_nodes, node_then, RegionTrees, no_regions, region_then, id_of, args_of}
+use Rattle.g_graph.specs.Ids.{nodes_ids, regions_ids}
 use Rattle.g_graph.specs.Signatures.{is_pure, joined, first_args, kind_after, outputs_of, output_kinds, result_kinds}
-use Rattle.g_graph.specs.Scope.{is_of, known, last_index, origin_at, state_after, last_state, each_node}
+use Rattle.g_graph.specs.Scope.{is_of, known, last_index, origin_at, state_after, last_state}
 use Rattle.g_graph.specs.WellFormed.{some_of, all_regions, same, are, gives, node_fits, region_fits, every_region, every_in_node, every_in_nodes, every_in_regions}
 use Rattle.g_graph.specs.Change.{has_node}
 use Rattle.g_graph.specs.Replace.{nodes_redirected}
@@ -21,11 +21,11 @@ use Rattle.g_graph.proofs.lemmas.KindLists.{are_themselves}
 use Rattle.g_graph.proofs.lemmas.Nodes.{same_kinds, has_times}
 use Rattle.g_graph.proofs.lemmas.Redirects.{kind_after-redirected, state_after-redirected, gives-redirected, every_in_nodes-redirected}
 use Rattle.g_graph.proofs.lemmas.Unique.{times, times_append, same_number}
-use Rattle.g_edit.specs.Uses.{nodes_read, is_read}
+use Rattle.g_edit.specs.Uses.{is_read}
 use Rattle.g_edit.specs.Places.{stays_at}
 use Rattle.g_edit.specs.Entries.{is_gone_argument, some_reads}
-use Rattle.g_edit.proofs.lemmas.AddedFit.{nothing, none-of, none-read, get-last, scope-from, arg_added_fits, fits-parts, fits-from, fits-again}
-use Rattle.g_edit.proofs.lemmas.Kept.{IsState, memory, io}
+use Rattle.g_edit.proofs.lemmas.AddedFit.{nothing, none-of, none-read, scope-from, arg_added_fits, fits-parts, fits-from, fits-again}
+use Rattle.g_edit.proofs.lemmas.Kept.{IsState}
 use Rattle.g_edit.proofs.lemmas.Pure.{pure-outputs, no-index, no-given, no-value, values}
 use Rattle.g_edit.proofs.lemmas.Scopes.{KeepsScope, kept_all, kept_nodes_fit}
 use Rattle.r_pull.specs.Rule.{args_from, copy_used, region_filled, copies_in, regions_filled}

@@ -1,21 +1,18 @@
 -- The changed region may replace the region, and the rule is a step.
-use Rattle.std.specs.Prelude.{unwrap_or}
-use Rattle.std.proofs.Common.{◌≡◌, ◌≤◌, ◌<◌, ◌+◌, ℕ, zero, suc, ◌==◌, ◌⊎◌, Bool, true, false, not, ◌&&◌, ◌||◌, cond, List, [], ◌∷◌, ◌++◌, map, length, Option, None, Some, refl, sym, ap, subst, ◌∙◌, inl, inr, arith}
-use Rattle.std.proofs.lemmas.Bool.{and_parts, or_parts}
+use Rattle.std.proofs.Common.{◌≡◌, ◌≤◌, ◌+◌, ℕ, ◌==◌, Bool, true, false, ◌||◌, cond, List, [], ◌∷◌, ◌++◌, map, length, Some, refl, sym, ap, subst, ◌∙◌, inl, inr, arith}
+use Rattle.std.proofs.lemmas.Bool.{or_parts}
 use Rattle.val_core.specs.Refinement.{no_deeper}
 use Rattle.g_graph.specs.declared.op.Kind.{Kind}
 use Rattle.g_graph.specs.declared.op.Kind.TheVariants.{Value, Memory, Io}
 use Rattle.g_graph.specs.declared.op.Op.{Op}
 use Rattle.g_graph.specs.declared.op.Op.TheVariants.{Gamma}
 use Rattle.g_graph.specs.declared.op.Origin.{Origin}
-use Rattle.g_graph.specs.Plain.{RegionTree, region, NodeTree, node, NodeTrees, no_nodes, node_then, RegionTrees, no_regions, region_then, id_of, PlainLambda}
-use Rattle.g_graph.specs.Ids.{region_ids, node_ids, nodes_ids, regions_ids}
+use Rattle.g_graph.specs.Plain.{RegionTree, region, NodeTree, node, NodeTrees, no_nodes, node_then, RegionTrees, no_regions, PlainLambda}
+use Rattle.g_graph.specs.Ids.{node_ids, nodes_ids, regions_ids}
 use Rattle.g_graph.specs.Signatures.{is_pure, first_args}
 use Rattle.g_graph.specs.Scope.{is_of, known, each_node}
-use Rattle.g_graph.specs.WellFormed.{some_of, all_of, inputs_fit, node_fits, region_fits, every_region, distinct}
-use Rattle.g_graph.specs.Nodes.{node_at}
+use Rattle.g_graph.specs.WellFormed.{some_of, node_fits, region_fits, every_region}
 use Rattle.g_graph.specs.Splice.{joined_nodes}
-use Rattle.g_graph.proofs.lemmas.Found.{Found, found_at}
 use Rattle.g_graph.proofs.lemmas.Indexes.{same_number_true}
 use Rattle.g_graph.proofs.lemmas.Nodes.{NodeFits, KeptWithin, node_fits_here, each_here}
 use Rattle.g_graph.proofs.lemmas.Numbers.{Numbered, numbered_fewer}
@@ -24,7 +21,7 @@ use Rattle.g_graph.proofs.lemmas.Unique.{times, times_append, times_cons}
 use Rattle.g_mean.specs.Meaning.{Context, region_meaning}
 use Rattle.g_mean.specs.LessDefined.{IsLessDefinedDatum}
 use Rattle.g_mean.specs.Refining.{MeaningRefines}
-use Rattle.g_mean.specs.Copies.{IsAmong, known_after, is_argument, IsClosed, AllClosed, NodesRead}
+use Rattle.g_mean.specs.Copies.{IsAmong}
 use Rattle.g_mean.specs.Silent.{GivesNoState}
 use Rattle.g_mean.specs.Edits.{IsPartOf}
 use Rattle.g_mean.specs.Replacement.{Replaces}
@@ -32,7 +29,7 @@ use Rattle.g_mean.proofs.lemmas.Closed.{region-closed}
 use Rattle.g_mean.proofs.lemmas.Inside.{as-many, regions-closed}
 use Rattle.g_edit.specs.Uses.{nodes_read, is_read, is_output_of}
 use Rattle.g_edit.specs.Places.{kept}
-use Rattle.g_edit.specs.Entries.{some_reads, regions_taking, entries_kept}
+use Rattle.g_edit.specs.Entries.{some_reads, regions_taking}
 use Rattle.g_edit.specs.Removal.{nodes_without, region_without}
 use Rattle.g_edit.proofs.lemmas.AddedFit.{fits-parts}
 use Rattle.g_edit.proofs.lemmas.Entries.{taking_joined}
@@ -42,7 +39,7 @@ use Rattle.g_edit.proofs.lemmas.Placed.{not_before}
 use Rattle.g_edit.proofs.lemmas.Pure.{pure-outputs, no-given, values, pure-takes, pure-fits}
 use Rattle.g_edit.proofs.lemmas.Removal.{unread_nodes_go, without_kept}
 use Rattle.g_edit.proofs.lemmas.Swapped.{RegionStays}
-use Rattle.r_pull.specs.Rule.{other_entries, args_from, regions_filled, copies, Pull, inputs_carried}
+use Rattle.r_pull.specs.Rule.{other_entries, args_from, regions_filled, copies, inputs_carried}
 use Rattle.r_pull.proofs.Answered.{none-from, numbered-more}
 use Rattle.r_pull.proofs.Carried.{late-stays}
 use Rattle.r_pull.proofs.Counted.{counted, filled-ids}

@@ -1,37 +1,35 @@
 -- The changed region fits.
-use Rattle.std.proofs.Common.{◌≡◌, ◌≤◌, ◌<◌, ◌+◌, ℕ, zero, suc, ◌==◌, ◌⊎◌, Bool, true, false, not, ◌&&◌, ◌||◌, cond, List, [], ◌∷◌, ◌++◌, map, length, slice_get, Option, None, Some, refl, sym, ap, subst, ◌∙◌, inl, inr, append_assoc, append-nil, arith}
-use Rattle.std.proofs.lemmas.Bool.{and_parts, or_parts, false_from_ne_true}
-use Rattle.std.proofs.lemmas.List.{map-append, length-map}
-use Rattle.std.proofs.Math.Bool.{and_assoc}
+use Rattle.std.proofs.Common.{◌≡◌, ◌≤◌, ◌+◌, ℕ, zero, suc, ◌==◌, Bool, true, false, ◌&&◌, cond, List, [], ◌∷◌, ◌++◌, map, length, slice_get, Option, None, Some, refl, sym, ap, ◌∙◌, append_assoc, append-nil, arith}
+use Rattle.std.proofs.lemmas.Bool.{and_parts, false_from_ne_true}
+use Rattle.std.proofs.lemmas.List.{map-append}
 use Rattle.g_graph.specs.declared.op.Kind.{Kind}
 use Rattle.g_graph.specs.declared.op.Kind.TheVariants.{Value}
 use Rattle.g_graph.specs.declared.op.Op.{Op}
 use Rattle.g_graph.specs.declared.op.Op.TheVariants.{Gamma}
 use Rattle.g_graph.specs.declared.op.Origin.{Origin}
 use Rattle.g_graph.specs.declared.op.Origin.TheVariants.{Arg, Out}
-use Rattle.g_graph.specs.Plain.{RegionTree, region, NodeTree, node, NodeTrees, no_nodes, node_then, nodes_of, RegionTrees, no_regions, region_then, id_of, args_of}
-use Rattle.g_graph.specs.Ids.{region_ids, node_ids, nodes_ids, regions_ids}
+use Rattle.g_graph.specs.Plain.{region, NodeTree, node, NodeTrees, no_nodes, node_then, RegionTrees, no_regions, region_then, id_of, args_of}
+use Rattle.g_graph.specs.Ids.{nodes_ids, regions_ids}
 use Rattle.g_graph.specs.Signatures.{is_pure, joined, first_args, kind_after, outputs_of, output_kinds, result_kinds}
-use Rattle.g_graph.specs.Scope.{known, each_node}
-use Rattle.g_graph.specs.WellFormed.{all_of, some_of, all_regions, same, are, one_state_each, kinds_of, is_last, inputs_fit, inputs_are_last, node_has_one_state_each, has_its_regions, regions_fit, theta_has_states, has_its_width, has_its_object, node_fits, region_fits, every_region, every_in_node, every_in_nodes, every_in_regions}
+use Rattle.g_graph.specs.Scope.{known}
+use Rattle.g_graph.specs.WellFormed.{all_of, all_regions, same, are, one_state_each, kinds_of, is_last, inputs_fit, inputs_are_last, node_has_one_state_each, has_its_regions, regions_fit, theta_has_states, has_its_width, has_its_object, node_fits, region_fits, every_region}
 use Rattle.g_graph.specs.Change.{has_node}
 use Rattle.g_graph.specs.Splice.{joined_nodes}
-use Rattle.g_graph.proofs.lemmas.Indexes.{same_number_true, has_node-joined, kind_absent, kind_known}
+use Rattle.g_graph.proofs.lemmas.Indexes.{same_number_true, kind_absent, kind_known}
 use Rattle.g_graph.proofs.lemmas.KindLists.{are_themselves}
-use Rattle.g_graph.proofs.lemmas.Nodes.{NodeFits, are_kinds, same_kinds, each_here, has_times, own_times}
-use Rattle.g_graph.proofs.lemmas.Splices.{joined_assoc, kind_after-joined, every_in_nodes-joined}
-use Rattle.g_graph.proofs.lemmas.Unique.{times, times_append, all_of_append, same_number}
+use Rattle.g_graph.proofs.lemmas.Nodes.{NodeFits, are_kinds, has_times}
+use Rattle.g_graph.proofs.lemmas.Splices.{kind_after-joined}
+use Rattle.g_graph.proofs.lemmas.Unique.{times, all_of_append, same_number}
 use Rattle.g_edit.specs.Uses.{is_output_of}
-use Rattle.g_edit.specs.Places.{stays_at}
 use Rattle.g_edit.specs.Entries.{some_reads}
-use Rattle.g_edit.proofs.lemmas.AddedFit.{one-added, fits-parts}
+use Rattle.g_edit.proofs.lemmas.AddedFit.{one-added}
 use Rattle.g_edit.proofs.lemmas.Exchanged.{exchanged_stays}
 use Rattle.g_edit.proofs.lemmas.Kept.{is_not}
-use Rattle.g_edit.proofs.lemmas.Pure.{pure-outputs, values, values-are-last, pure-takes, pure-fits}
+use Rattle.g_edit.proofs.lemmas.Pure.{values, values-are-last}
 use Rattle.g_edit.proofs.lemmas.Swapped.{RegionStays}
-use Rattle.r_pull.specs.Rule.{other_entries, args_from, regions_filled, node_filled}
+use Rattle.r_pull.specs.Rule.{other_entries, args_from, regions_filled}
 use Rattle.r_pull.proofs.Carried.{FirstOutputs}
-use Rattle.r_pull.proofs.FilledFit.{with_values, added-known, GoneValues, Fit, AllFilled, all-filled, first-takes}
+use Rattle.r_pull.proofs.FilledFit.{with_values, GoneValues, AllFilled, all-filled, first-takes}
 
 -- ---- values after others
 

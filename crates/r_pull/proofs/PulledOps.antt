@@ -1,21 +1,18 @@
 -- The changed region has the ops of the region, and copies of the one that moves.
 use Rattle.std.proofs.Common.{◌≡◌, ◌+◌, ℕ, suc, Bool, true, false, ◌||◌, cond, List, [], ◌∷◌, ◌++◌, map, length, replicate, Some, refl, sym, ap, subst, ◌∙◌}
 use Rattle.std.proofs.lemmas.List.{length-map}
-use Rattle.g_graph.specs.declared.op.Kind.{Kind}
 use Rattle.g_graph.specs.declared.op.Kind.TheVariants.{Value}
 use Rattle.g_graph.specs.declared.op.Op.{Op}
 use Rattle.g_graph.specs.declared.op.Op.TheVariants.{Gamma}
 use Rattle.g_graph.specs.declared.op.Origin.{Origin}
 use Rattle.g_graph.specs.Plain.{RegionTree, region, NodeTree, node, NodeTrees, no_nodes, node_then, RegionTrees, no_regions, region_then}
-use Rattle.g_graph.specs.Lists.{RegionOps, NodeOps, NodesOps, RegionsOps}
+use Rattle.g_graph.specs.Lists.{RegionOps, NodesOps, RegionsOps}
 use Rattle.g_graph.specs.Replace.{nodes_redirected}
 use Rattle.g_graph.specs.Splice.{joined_nodes}
 use Rattle.g_graph.proofs.lemmas.Ops.{redirected_ops, joined_ops, found_ops}
 use Rattle.g_edit.specs.Uses.{is_read}
-use Rattle.g_edit.specs.Places.{kept}
 use Rattle.g_edit.specs.Entries.{argument_after, is_gone_argument, some_reads, regions_taking}
 use Rattle.g_edit.specs.InPlace.{region_taking}
-use Rattle.g_edit.specs.Removal.{nodes_without}
 use Rattle.g_edit.proofs.lemmas.Removal.{without_ops}
 use Rattle.r_pull.specs.Rule.{args_from, copy_used, region_filled, copies_in, regions_filled, Pull, stays_of, inputs_carried, gamma_pulled, pll_here}
 use Rattle.r_pull.proofs.Means.{regions_pulled, pulled-is}

@@ -1,60 +1,43 @@
 -- The changed region means what the region meant, and fits.
-use Rattle.std.proofs.Common.{◌≡◌, ◌≤◌, ◌<◌, ◌+◌, ℕ, zero, suc, ◌==◌, ◌⊎◌, Bool, true, false, not, ◌&&◌, ◌||◌, cond, List, [], ◌∷◌, ◌++◌, map, length, Option, None, Some, refl, sym, ap, subst, ◌∙◌, inl, inr, arith}
+use Rattle.std.proofs.Common.{◌≡◌, ◌≤◌, ◌<◌, ℕ, Bool, true, false, List, [], ◌∷◌, ◌++◌, map, length, Some, refl, sym, ap, subst, ◌∙◌, arith}
 use Rattle.std.proofs.Math.Path.{fun_ext}
-use Rattle.std.proofs.lemmas.Bool.{and_parts, or_parts, false_from_ne_true}
-use Rattle.std.proofs.lemmas.Bool.Decides.{nat_tests}
-use Rattle.std.specs.Prelude.{nat_lt}
-use Rattle.val_core.specs.declared.values.Value.{Value as Word}
-use Rattle.val_core.specs.Events.{Event}
-use Rattle.val_core.specs.Answers.{Answer, Returned, then_on}
-use Rattle.val_core.specs.Refinement.{no_deeper}
+use Rattle.std.proofs.lemmas.Bool.{false_from_ne_true}
+use Rattle.val_core.specs.Answers.{Returned, then_on}
 use Rattle.val_core.proofs.lemmas.Answers.{then_on_given}
 use Rattle.g_graph.specs.declared.op.Kind.{Kind}
-use Rattle.g_graph.specs.declared.op.Kind.TheVariants.{Value, Memory, Io}
+use Rattle.g_graph.specs.declared.op.Kind.TheVariants.{Value}
 use Rattle.g_graph.specs.declared.op.Op.{Op}
 use Rattle.g_graph.specs.declared.op.Op.TheVariants.{Gamma}
 use Rattle.g_graph.specs.declared.op.Origin.{Origin}
-use Rattle.g_graph.specs.declared.op.Origin.TheVariants.{Arg, Out}
-use Rattle.g_graph.specs.Plain.{RegionTree, region, NodeTree, node, NodeTrees, no_nodes, node_then, RegionTrees, no_regions, region_then, id_of, PlainLambda}
-use Rattle.g_graph.specs.Ids.{region_ids, node_ids, nodes_ids, regions_ids}
+use Rattle.g_graph.specs.declared.op.Origin.TheVariants.{Out}
+use Rattle.g_graph.specs.Plain.{RegionTree, region, NodeTree, node, NodeTrees, no_nodes, node_then, RegionTrees, no_regions}
+use Rattle.g_graph.specs.Ids.{node_ids, nodes_ids, regions_ids}
 use Rattle.g_graph.specs.Signatures.{is_pure, first_args, output_kinds}
-use Rattle.g_graph.specs.Scope.{known, each_node}
-use Rattle.g_graph.specs.WellFormed.{all_of, some_of, kinds_of, node_fits, region_fits, every_region, distinct}
+use Rattle.g_graph.specs.Scope.{known}
+use Rattle.g_graph.specs.WellFormed.{kinds_of, distinct}
 use Rattle.g_graph.specs.Change.{has_node}
-use Rattle.g_graph.specs.Nodes.{node_at}
 use Rattle.g_graph.specs.Splice.{joined_nodes}
-use Rattle.g_graph.proofs.lemmas.Found.{Found, found_at}
-use Rattle.g_graph.proofs.lemmas.Indexes.{has_node-joined}
-use Rattle.g_graph.proofs.lemmas.Nodes.{NodeFits, node_fits_here, are_kinds, each_here, has_times, own_times}
-use Rattle.g_graph.proofs.lemmas.Numbers.{Numbered}
-use Rattle.g_graph.proofs.lemmas.Splices.{joined_assoc, nodes_ids-joined}
-use Rattle.g_graph.proofs.lemmas.Unique.{times, times_append, counts_of_distinct}
+use Rattle.g_graph.proofs.lemmas.Nodes.{NodeFits, are_kinds, has_times, own_times}
+use Rattle.g_graph.proofs.lemmas.Splices.{nodes_ids-joined}
+use Rattle.g_graph.proofs.lemmas.Unique.{times, times_append}
 use Rattle.g_mean.specs.Data.{Datum, val, at_port}
 use Rattle.g_mean.specs.Meaning.{Context, act, Outputs, no_outputs, extended, read, region_meaning, node_run, nodes_run}
-use Rattle.g_mean.specs.LessDefined.{IsLessDefinedDatum}
-use Rattle.g_mean.specs.Refining.{MeaningRefines}
-use Rattle.g_mean.specs.Copies.{IsAmong, known_after, is_argument, NodesRead, AllClosed, IsClosed}
+use Rattle.g_mean.specs.Copies.{IsAmong, is_argument, NodesRead, AllClosed, IsClosed}
 use Rattle.g_mean.specs.Holds.{HasRun, HaveRun}
 use Rattle.g_mean.specs.Moves.{GivesTheSame}
-use Rattle.g_mean.specs.Silent.{GivesNoState}
-use Rattle.g_mean.specs.Edits.{IsPartOf}
-use Rattle.g_mean.specs.Replacement.{Replaces}
-use Rattle.g_mean.proofs.lemmas.Copies.{among-left}
 use Rattle.g_mean.proofs.lemmas.Edits.{distinct-split}
 use Rattle.g_mean.proofs.lemmas.Holds.{holds-from}
-use Rattle.g_mean.proofs.lemmas.Inside.{node-here, as-many, regions-closed}
+use Rattle.g_mean.proofs.lemmas.Inside.{as-many}
 use Rattle.g_mean.proofs.lemmas.Moves.{pure_nodes_give_the_same}
 use Rattle.g_mean.proofs.lemmas.Splices.{joined-run, joined-read}
-use Rattle.g_edit.specs.Uses.{nodes_read, is_output_of}
 use Rattle.g_edit.specs.Places.{stays_at, kept}
 use Rattle.g_edit.specs.Entries.{some_reads, regions_taking}
 use Rattle.g_edit.proofs.lemmas.Invariant.{given_is}
-use Rattle.g_edit.proofs.lemmas.Kept.{IsState}
-use Rattle.g_edit.proofs.lemmas.Pure.{pure-outputs, no-given, values, pure-takes}
+use Rattle.g_edit.proofs.lemmas.Pure.{pure-outputs}
 use Rattle.r_pull.specs.Rule.{other_entries, regions_filled}
 use Rattle.r_pull.proofs.Carried.{FirstOutputs, late-stays, gone-port}
 use Rattle.r_pull.proofs.Means.{gamma-means}
-use Rattle.r_pull.proofs.PulledFit.{known-later, first-output, first-outputs}
+use Rattle.r_pull.proofs.PulledFit.{first-output, first-outputs}
 
 -- ---- a node that has run
 

@@ -1,12 +1,12 @@
 -- The change takes the numbers that it says, and makes the lambda as much larger as it says.
-use Rattle.std.proofs.Common.{◌≡◌, ◌+◌, ◌*◌, ◌≤◌, ℕ, Bool, true, false, ◌&&◌, cond, List, [], ◌∷◌, ◌++◌, map, length, nat_le, Option, None, Some, refl, sym, ap, subst, ◌∙◌, arith}
+use Rattle.std.proofs.Common.{◌≡◌, ◌+◌, ◌≤◌, ℕ, true, ◌&&◌, List, ◌∷◌, ◌++◌, length, nat_le, Some, refl, sym, ap, ◌∙◌, arith}
 use Rattle.std.proofs.lemmas.Bool.{and_parts}
 use Rattle.std.proofs.lemmas.List.{length-map}
 use Rattle.g_graph.specs.declared.op.Kind.{Kind}
 use Rattle.g_graph.specs.declared.op.Op.{Op}
 use Rattle.g_graph.specs.declared.op.Op.TheVariants.{Const, Undef, Local, Delta, Bin, Un, Load, Store, Clear, PtrEq, Apply, Put, Exit, Get, Gamma, Theta}
 use Rattle.g_graph.specs.declared.op.Origin.{Origin}
-use Rattle.g_graph.specs.Plain.{RegionTree, region, NodeTree, node, NodeTrees, node_then, RegionTrees, no_regions, id_of, args_of}
+use Rattle.g_graph.specs.Plain.{RegionTree, region, NodeTree, node, NodeTrees, node_then, RegionTrees, no_regions, args_of}
 use Rattle.g_graph.specs.Ids.{region_ids, node_ids, nodes_ids, regions_ids}
 use Rattle.g_graph.specs.Signatures.{is_pure, outputs_of, result_kinds}
 use Rattle.g_graph.specs.Count.{region_values, node_values, nodes_values, regions_values}
@@ -15,14 +15,14 @@ use Rattle.g_graph.specs.Splice.{joined_nodes}
 use Rattle.g_graph.proofs.lemmas.Splices.{nodes_ids-joined, nodes_values-joined}
 use Rattle.g_graph.proofs.lemmas.Unique.{times, times_append, times_cons}
 use Rattle.g_edit.specs.Entries.{regions_taking}
-use Rattle.g_edit.specs.Removal.{region_without, nodes_without}
+use Rattle.g_edit.specs.Removal.{nodes_without}
 use Rattle.g_edit.specs.Size.{may_change_size, Resized, IsResized}
 use Rattle.g_edit.proofs.lemmas.EntriesFit.{ids_same}
 use Rattle.g_edit.proofs.lemmas.Pure.{pure-outputs}
-use Rattle.r_pull.specs.Rule.{user_changed, regions_filled, copies, Pull, stays_of, inputs_carried, copies_of, gamma_pulled, gone_args, added, gone, fits, most_next, pll_here}
-use Rattle.r_pull.proofs.Means.{regions_pulled, pulled-is}
+use Rattle.r_pull.specs.Rule.{user_changed, regions_filled, Pull, stays_of, inputs_carried, copies_of, gamma_pulled, gone_args, added, gone, fits, most_next, pll_here}
+use Rattle.r_pull.proofs.Means.{pulled-is}
 use Rattle.r_pull.proofs.Counted.{counted, filled-ids, pulled-values, outputs-as-many, still-found, without-ids, without-values}
-use Rattle.r_pull.proofs.User.{User, PulledAt, pulled-at}
+use Rattle.r_pull.proofs.User.{PulledAt, pulled-at}
 
 -- a node that gives a value is no Gamma
 no-gamma : (op : Op) → is_pure op ≡ true → (id gamma : ℕ) (ins entries : List Origin) (qs rs : RegionTrees) → node gamma Gamma entries rs ≡ node id op ins qs → ⊥

@@ -3,13 +3,13 @@ use Rattle.std.specs.Prelude.{option_and_then, unwrap_or}
 use Rattle.std.proofs.Common.{◌≡◌, ℕ, ◌+◌, ◌^◌, nat_le, ◌&&◌, ◌||◌, cond, Bool, true, false, length, Option, None, Some, option_map, refl, ap, sym, ◌∙◌, arith}
 use Rattle.std.proofs.Math.Path.{fun_ext}
 use Rattle.std.proofs.lemmas.Bool.Decides.{nat_tests}
-use Rattle.g_graph.specs.Plain.{RegionTree, NodeTree, PlainLambda, nodes_in}
+use Rattle.g_graph.specs.Plain.{RegionTree, PlainLambda, nodes_in}
 use Rattle.g_graph.specs.Change.{lambda_changed}
 use Rattle.g_graph.specs.Count.{saturated}
 use Rattle.g_graph.specs.Nodes.{node_at}
 use Rattle.g_graph.specs.Program.{lambda_values}
 use Rattle.g_edit.specs.Size.{may_change_size}
-use Rattle.r_pull.specs.Rule.{Pull, added, gone, copies_of, most_next, fits, where_fits, pull_of, pull_at, region_pulled, pll_here, copies_here, region_answer, copies_at, pll}
+use Rattle.r_pull.specs.Rule.{Pull, added, gone, copies_of, most_next, where_fits, pull_of, pull_at, region_pulled, pll_here, copies_here, region_answer, copies_at, pll}
 
 change-same : (v a g : ℕ) → may_change_size (saturated v) a g ≡ may_change_size v a g
 change-same v a g = by (nat_le a g) refl

@@ -1,25 +1,25 @@
 -- The rule is a step.
 use Rattle.std.specs.Prelude.{unwrap_or}
-use Rattle.std.proofs.Common.{◌≡◌, ◌≤◌, ◌+◌, ℕ, zero, suc, ◌⊎◌, Bool, true, false, ◌&&◌, ◌||◌, cond, List, [], ◌∷◌, ◌++◌, map, length, slice_get, Option, None, Some, refl, sym, ap, subst, ◌∙◌, inl, inr, arith}
+use Rattle.std.proofs.Common.{◌≡◌, ◌+◌, ℕ, ◌⊎◌, true, ◌&&◌, List, [], ◌∷◌, length, slice_get, Option, None, Some, refl, sym, ap, subst, ◌∙◌, inl, inr, arith}
 use Rattle.std.proofs.lemmas.Bool.{and_parts}
 use Rattle.std.proofs.lemmas.Option.{same_Some}
 use Rattle.g_graph.specs.declared.op.Kind.{Kind}
 use Rattle.g_graph.specs.declared.op.Op.{Op}
 use Rattle.g_graph.specs.declared.op.Op.TheVariants.{Gamma}
 use Rattle.g_graph.specs.declared.op.Origin.{Origin}
-use Rattle.g_graph.specs.Plain.{RegionTree, region, NodeTree, node, NodeTrees, no_nodes, node_then, RegionTrees, no_regions, region_then, id_of, PlainLambda}
-use Rattle.g_graph.specs.Ids.{region_ids, nodes_ids}
+use Rattle.g_graph.specs.Plain.{RegionTree, region, NodeTree, node, NodeTrees, node_then, no_regions, PlainLambda}
+use Rattle.g_graph.specs.Ids.{region_ids}
 use Rattle.g_graph.specs.Change.{region_changed}
-use Rattle.g_graph.specs.Lists.{RegionOps, NodeOps, NodesOps, RegionsOps, Calls, NamesGlobal}
+use Rattle.g_graph.specs.Lists.{RegionOps, Calls, NamesGlobal}
 use Rattle.g_graph.specs.Nodes.{node_at}
 use Rattle.g_graph.specs.Program.{lambda_values, KeepsPrograms}
 use Rattle.g_graph.specs.Splice.{joined_nodes}
-use Rattle.g_graph.specs.WellFormed.{well_formed, body_fits, numbers_fit, some_of, region_fits, every_region, IsWellFormed}
+use Rattle.g_graph.specs.WellFormed.{well_formed, body_fits, numbers_fit, region_fits, every_region, IsWellFormed}
 use Rattle.g_graph.proofs.lemmas.Complete.{complete_set, program_set}
-use Rattle.g_graph.proofs.lemmas.Found.{Found, found_at}
+use Rattle.g_graph.proofs.lemmas.Found.{found_at}
 use Rattle.g_graph.proofs.lemmas.Nests.{changed_well_formed, numbers_numbered}
 use Rattle.g_graph.proofs.lemmas.Numbers.{Numbered}
-use Rattle.g_graph.proofs.lemmas.Ops.{redirected_ops, joined_ops, changed_ops}
+use Rattle.g_graph.proofs.lemmas.Ops.{changed_ops}
 use Rattle.g_mean.specs.Copies.{IsAmong, known_after, is_argument}
 use Rattle.g_mean.specs.Edits.{IsPartOf, IsEdited, KeepsMeaning, KeepsComplete}
 use Rattle.g_mean.specs.Replacement.{Replaces}
@@ -35,7 +35,7 @@ use Rattle.g_edit.specs.Size.{IsNoLarger}
 use Rattle.g_edit.proofs.lemmas.Size as size
 use Rattle.g_edit.proofs.lemmas.Steps.{contracts_give_steps, edits_keep_interface}
 use Rattle.g_edit.proofs.lemmas.Swapped.{RegionStays}
-use Rattle.r_pull.specs.Rule.{Pull, copies_of, gamma_pulled, pll_here, copies_here, copies_at, region_answer, pll}
+use Rattle.r_pull.specs.Rule.{copies_of, gamma_pulled, pll_here, copies_here, copies_at, pll}
 use Rattle.r_pull.specs.Laws.{PllReplaces, PllKeepsLambdas, PllKeepsPrograms, PllIsAStep}
 use Rattle.r_pull.proofs.Answered.{numbered-more, Answers, region_silent, region_answers}
 use Rattle.r_pull.proofs.Kept.{gamma-kept, gamma-replaces}

@@ -1,20 +1,19 @@
 -- The node that moves, the only node that uses it, and what is found of both.
-use Rattle.std.specs.Prelude.{option_and_then, is_some}
-use Rattle.std.proofs.Common.{◌≡◌, ◌+◌, ℕ, ◌==◌, Bool, true, false, not, ◌&&◌, ◌||◌, cond, List, [], ◌∷◌, length, Option, None, Some, option_map, refl, sym, ap, subst, ◌∙◌, arith}
-use Rattle.std.proofs.lemmas.Bool.{and_parts, or_parts, not-true}
+use Rattle.std.specs.Prelude.{option_and_then}
+use Rattle.std.proofs.Common.{◌≡◌, ℕ, Bool, true, false, not, ◌&&◌, ◌||◌, cond, List, [], ◌∷◌, Option, None, Some, option_map, refl, sym, ap, subst, ◌∙◌}
+use Rattle.std.proofs.lemmas.Bool.{and_parts, not-true}
 use Rattle.std.proofs.lemmas.Option.{same_Some}
 use Rattle.g_graph.specs.declared.op.Kind.{Kind}
 use Rattle.g_graph.specs.declared.op.Op.{Op}
 use Rattle.g_graph.specs.declared.op.Op.TheVariants.{Const, Undef, Local, Delta, Bin, Un, Load, Store, Clear, PtrEq, Apply, Put, Exit, Get, Gamma, Theta}
 use Rattle.g_graph.specs.declared.op.Origin.{Origin}
-use Rattle.g_graph.specs.Plain.{RegionTree, region, NodeTree, node, NodeTrees, no_nodes, node_then, RegionTrees, no_regions, region_then, id_of, has_none}
+use Rattle.g_graph.specs.Plain.{RegionTree, region, NodeTree, node, NodeTrees, no_nodes, node_then, RegionTrees, no_regions, region_then, has_none}
 use Rattle.g_graph.specs.Signatures.{is_pure}
 use Rattle.g_graph.specs.WellFormed.{some_of}
 use Rattle.g_graph.specs.Nodes.{node_at}
 use Rattle.g_graph.specs.Splice.{joined_nodes}
 use Rattle.g_edit.specs.Uses.{nodes_read, is_output_of}
-use Rattle.g_edit.specs.Removal.{region_without}
-use Rattle.r_pull.specs.Rule.{node_uses, only_user, user_changed, Pull, gamma_pulled, copies_of, fits, into, pull_of, where_fits, pull_at, region_pulled, pll_here, copies_here}
+use Rattle.r_pull.specs.Rule.{node_uses, only_user, user_changed, Pull, copies_of, fits, into, pull_of, where_fits, pull_at, region_pulled, pll_here, copies_here}
 
 -- ---- the user
 

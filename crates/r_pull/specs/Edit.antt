@@ -1,11 +1,11 @@
 -- The parts of the change, as it is made: the node and the Gamma that uses it, and the lists that are new before the Gamma
 -- changes.
-use Rattle.std.specs.Prelude.{◌≡◌, ◌<◌, ◌≤◌, ◌+◌, ℕ, suc, not, ◌&&◌, if◌then◌else◌, Bool, true, false, List, [], ◌∷◌, map, length, drop, Option, None, Some, option_map, option_and_then, ⊤, vec_capacity}
+use Rattle.std.specs.Prelude.{◌≡◌, ◌<◌, ◌≤◌, ◌+◌, ℕ, suc, not, ◌&&◌, if◌then◌else◌, Bool, false, List, [], ◌∷◌, map, length, drop, Option, None, Some, option_and_then, ⊤, vec_capacity}
 use Rattle.g_graph.specs.declared.op.Op.{Op}
 use Rattle.g_graph.specs.declared.op.Op.TheVariants.{Gamma}
 use Rattle.g_graph.specs.declared.op.Kind.{Kind}
 use Rattle.g_graph.specs.declared.op.Origin.{Origin}
-use Rattle.g_graph.specs.Plain.{RegionTree, region, NodeTree, node, NodeTrees, no_nodes, node_then, RegionTrees, no_regions, region_then, nodes_of, regions_of, id_of, nodes_in, regions_in, has_none}
+use Rattle.g_graph.specs.Plain.{RegionTree, region, NodeTree, node, NodeTrees, no_nodes, node_then, RegionTrees, no_regions, region_then, nodes_of, id_of, nodes_in, regions_in, has_none}
 use Rattle.g_graph.specs.Signatures.{is_pure}
 use Rattle.g_graph.specs.WellFormed.{some_of}
 use Rattle.g_graph.specs.Splice.{joined_nodes}

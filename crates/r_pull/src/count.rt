@@ -48,7 +48,8 @@ pub fn fits(node: &Node, user: &Node, copies: u64, values: u64, next: u32, id: u
 }
 
 fn can_index(node: &Node, user: &Node) -> bool
-    ensures { result ≡ nat_le (length (entries_of user.now) + length (inputs_in node.now)) (2 ^ 32) }
+    ensures { result ≡
+        nat_le (length (entries_of user.now) + length (inputs_in node.now)) (2 ^ 32) }
 {
     let entries = entries_of(user).len() as u64;
     let inputs = node.inputs.len() as u64;
@@ -97,7 +98,8 @@ fn more_args(regions: &[Region], more: u64) -> u128
 fn gone_args(regions: &[Region], entries: &[Origin], more: u64, id: u32) -> u128
     requires entries { length entries.now ≤ 2 ^ 32 }
     requires more { more ≤ 2 ^ 32 }
-    ensures value { result ≡ gone_args (other_entries id entries.now) more (regions_of regions.now) }
+    ensures value { result ≡
+        gone_args (other_entries id entries.now) more (regions_of regions.now) }
     ensures small { result < 2 ^ 120 }
 {
     let mut count = 0;

@@ -42,7 +42,8 @@ here_found values next n (region args nodes results) = by (node_at n nodes)
     later None = refl
     later (Some y) = refl
 
-    by : (o : Option NodeTree) → is_some (option_and_then (loop_body values next) o) ≡ is_some (option_map (λ y. region args (node_set n y nodes) results) (option_and_then (node_unrolled values next) o))
+    by : (o : Option NodeTree) → is_some (option_and_then (loop_body values next) o)
+        ≡ is_some (option_map (λ y. region args (node_set n y nodes) results) (option_and_then (node_unrolled values next) o))
     by None = refl
     by (Some x) = found-changes values next x ∙ later (node_unrolled values next x)
 

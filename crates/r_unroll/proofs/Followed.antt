@@ -59,7 +59,8 @@ map-some f (Some x) = refl
 abbrev pub node_with : (last : NodeTree) → (outs : List Origin) → NodeTree → NodeTree
 node_with last outs (node id op inputs rs) = node id op inputs (only_followed last outs rs)
 
-followed-some : (values next : ℕ) (last : NodeTree) (outs : List Origin) (x : NodeTree) → is_some (node_unrolled values next x) ≡ true → node_followed values next last outs x ≡ Some (node_with last outs x)
+followed-some : (values next : ℕ) (last : NodeTree) (outs : List Origin) (x : NodeTree) → is_some (node_unrolled values next x) ≡ true →
+    node_followed values next last outs x ≡ Some (node_with last outs x)
 followed-some values next last outs (node id Theta inputs (region_then r no_regions)) e = by (may_unroll values next r) e
   where
     by : (t : Bool) → is_some (cond t (Some (loop_node id inputs (unrolled next r))) None) ≡ true →

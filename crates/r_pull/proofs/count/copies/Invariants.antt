@@ -1,4 +1,4 @@
-use Rattle.std.proofs.Common.{◌≡◌, ◌≤◌, ◌+◌, ◌*◌, drop}
+use Rattle.std.proofs.Common.{◌≡◌, ◌≤◌, ◌+◌, drop}
 use Rattle.g_graph.specs.Plain.{regions_of}
 use Rattle.r_pull.specs.Rule.{other_entries, copies}
 use Rattle.r_pull.proofs.count.copies.Given as goal

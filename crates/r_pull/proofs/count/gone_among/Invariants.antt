@@ -1,4 +1,4 @@
-use Rattle.std.proofs.Common.{◌≡◌, ◌≤◌, ◌+◌, ◌*◌, drop}
+use Rattle.std.proofs.Common.{◌≡◌, ◌≤◌, ◌+◌, drop}
 use Rattle.r_pull.specs.Rule.{other_entries, gone_among}
 use Rattle.r_pull.proofs.count.gone_among.Given as goal
 
