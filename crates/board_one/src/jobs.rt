@@ -24,7 +24,8 @@ fn open<W: Work>(
 ) -> Result<Board<W>, NoMemory>
     requires jobs { length deps.now ≡ W.jobs work.now }
     requires few { length deps.now ≤ 512 }
-    requires ranked { IsRanked (program_of W.made (opened ranks.now (dep_lists deps.now) work.now)) }
+    requires ranked { IsRanked
+        (program_of W.made (opened ranks.now (dep_lists deps.now) work.now)) }
     ensures { IfOk result (λ board. board ≡ opened ranks.now (dep_lists deps.now) work.now) }
 {
     match Board::open(alloc, work, ranks, deps, 1) {
@@ -115,7 +116,8 @@ pub fn do_jobs<W: Work>(
 ) -> Result<Vec<Arc<W::Made>>, NoMemory>
     requires jobs { length deps.now ≡ W.jobs work.now }
     requires few { length deps.now ≤ 512 }
-    requires ranked { IsRanked (program_of W.made (opened ranks.now (dep_lists deps.now) work.now)) }
+    requires ranked { IsRanked
+        (program_of W.made (opened ranks.now (dep_lists deps.now) work.now)) }
     ensures { IfOk result (λ all. AreResults
         (program_of W.made (opened ranks.now (dep_lists deps.now) work.now))
         (map arc_value all.items)) }

@@ -9,8 +9,8 @@ ghost use Rattle.g_pass.specs.Sweep.{numbered, inlined_at};
 use g_graph::{Lambda, Optimised};
 use std::sync::Arc;
 
-/// What the function that the node of this number calls was made into, where inlining applies there;
-/// none where the node is no call, or its function is not among the callees.
+/// What the function that the node of this number calls was made into, where inlining applies
+/// there; none where the node is no call, or its function is not among the callees.
 #[tactic(auto, using(crate::proofs::Inlined::not_called, crate::proofs::Inlined::not_there, crate::proofs::Inlined::not_applied, crate::proofs::Inlined::is_applied))]
 pub fn inlined_at<'a>(
     lambda: &Lambda,

@@ -1,4 +1,5 @@
-//! Tests of recipes and of the order of functions. No crate stands on it, and it has no function of its own.
+//! Tests of recipes and of the order of functions. No crate stands on it, and it has no function of
+//! its own.
 #![tactic(auto)]
 
 #[cfg(test)]

@@ -195,7 +195,8 @@ module _ (next : ℕ) (f : RegionTree → Option RegionTree) (g : RegionTree →
     node_answers (node id op inputs rs) y e = by (regions_changed f rs) refl e (regions_answers rs)
       where
         by : (rest : Option RegionTrees) → regions_changed f rs ≡ rest → option_map (λ ss. node id op inputs ss) rest ≡ Some y →
-            ((ss : RegionTrees) → regions_changed f rs ≡ Some ss → Answers next (regions_answer g rs) (regions_ids rs) (regions_ids ss)) → Answers next (regions_answer g rs) (id ∷ regions_ids rs) (node_ids y)
+            ((ss : RegionTrees) → regions_changed f rs ≡ Some ss → Answers next (regions_answer g rs) (regions_ids rs) (regions_ids ss)) →
+            Answers next (regions_answer g rs) (id ∷ regions_ids rs) (node_ids y)
         by None b d more = absurd cc
         by (Some ss) b d more =
             let h = more ss b in

@@ -48,7 +48,8 @@ module _ (stays : List Bool) (first : ℕ) (op : Op) (inputs : List Origin) (m :
       used : Origin → Origin
       used = copy_used stays copy
 
-      by : (t : Bool) → times m (region_ids (cond t (region (args ++ replicate (length inputs) Value) (node_then (node copy op (args_from first inputs) no_regions) (nodes_redirected used nodes)) (map used results))
+      by : (t : Bool) → times m (region_ids (cond t (region (args ++ replicate (length inputs) Value)
+          (node_then (node copy op (args_from first inputs) no_regions) (nodes_redirected used nodes)) (map used results))
           (region (args ++ replicate (length inputs) Value) nodes results))) ≡ times m (nodes_ids nodes) + times m (counted copy (cond t 1 0))
       by true = omega (arith, times_cons m copy (nodes_ids (nodes_redirected used nodes)), times_cons m copy [], ap (times m) (nodes_ids-redirected used nodes))
       by false = omega arith
@@ -97,7 +98,8 @@ module _ (stays : List Bool) (first : ℕ) (op : Op) (pure : is_pure op ≡ true
       left = omega (arith, kept-gone stays (args ++ replicate (length inputs) Value), ap (gone_among stays) more, more)
 
       by : (t : Bool) →
-          region_values (region_taking stays (cond t (region (args ++ replicate (length inputs) Value) (node_then (node copy op (args_from first inputs) no_regions) (nodes_redirected used nodes)) (map used results))
+          region_values (region_taking stays (cond t (region (args ++ replicate (length inputs) Value)
+          (node_then (node copy op (args_from first inputs) no_regions) (nodes_redirected used nodes)) (map used results))
           (region (args ++ replicate (length inputs) Value) nodes results)))
           + gone_among stays (length args + length inputs) ≡ region_values (region args nodes results) + length inputs + 2 * cond t 1 0
       by true =
@@ -129,7 +131,8 @@ module _ (stays : List Bool) (first : ℕ) (op : Op) (pure : is_pure op ≡ true
       after = argument_after stays
 
       by : (t : Bool) →
-          length (result_kinds (region_taking stays (cond t (region (args ++ replicate (length inputs) Value) (node_then (node copy op (args_from first inputs) no_regions) (nodes_redirected used nodes)) (map used results))
+          length (result_kinds (region_taking stays (cond t (region (args ++ replicate (length inputs) Value)
+          (node_then (node copy op (args_from first inputs) no_regions) (nodes_redirected used nodes)) (map used results))
           (region (args ++ replicate (length inputs) Value) nodes results)))) ≡ length (result_kinds (region args nodes results))
       by true = length-map (map after (map used results)) _ ∙ length-map (map used results) after ∙ length-map results used ∙ sym (length-map results _)
       by false = length-map (map after results) _ ∙ length-map results after ∙ sym (length-map results _)

@@ -8,7 +8,8 @@ use Rattle.g_graph.specs.declared.op.Kind.TheVariants.{Value}
 use Rattle.g_graph.specs.declared.op.Op.{Op}
 use Rattle.g_graph.specs.declared.op.Origin.{Origin}
 use Rattle.g_graph.specs.declared.op.Origin.TheVariants.{Arg}
-use Rattle.g_graph.specs.Plain.{RegionTree, region, NodeTree, node, NodeTrees, no_nodes, node_then, RegionTrees, no_regions, region_then, nodes_of, regions_of, nodes_in, args_of, id_of, op_of, inputs_in, regions_in}
+use Rattle.g_graph.specs.Plain.{RegionTree, region, NodeTree, node, NodeTrees, no_nodes, node_then, RegionTrees, no_regions}
+use Rattle.g_graph.specs.Plain.{region_then, nodes_of, regions_of, nodes_in, args_of, id_of, op_of, inputs_in, regions_in}
 use Rattle.g_graph.specs.Replace.{nodes_redirected, region_redirected}
 use Rattle.g_graph.specs.Splice.{joined_nodes}
 use Rattle.g_graph.proofs.lemmas.Splices.{nodes_of-append}
@@ -18,8 +19,10 @@ use Rattle.g_edit.specs.Entries.{is_gone_argument, some_reads, node_taking}
 use Rattle.r_pull.specs.declared.find.Found.{Found}
 use Rattle.r_pull.specs.declared.plan.NewLists.{NewLists}
 use Rattle.r_pull.specs.declared.plan.Plan.{Plan}
-use Rattle.r_pull.specs.Rule.{Pull, stays_of, other_entries, inputs_carried, args_from, copy_used, begun_with, copies_in, copies, regions_filled, only_user, gamma_pulled, most_next, pull_at, region_pulled, pll_here}
-use Rattle.r_pull.specs.Edit.{entries_of, pull_into, begun, begun_where, region_with, regions_with, count_nodes, HasRoom, HaveRoom, AreListsOf, AreListsOfAll, taking, pull_seen, IsCounted, IsPlanFor, planned, FitsPlanned}
+use Rattle.r_pull.specs.Rule.{Pull, stays_of, other_entries, inputs_carried, args_from, copy_used, begun_with, copies_in}
+use Rattle.r_pull.specs.Rule.{copies, regions_filled, only_user, gamma_pulled, most_next, pull_at, region_pulled, pll_here}
+use Rattle.r_pull.specs.Edit.{entries_of, pull_into, begun, begun_where, region_with, regions_with, count_nodes, HasRoom}
+use Rattle.r_pull.specs.Edit.{HaveRoom, AreListsOf, AreListsOfAll, taking, pull_seen, IsCounted, IsPlanFor, planned, FitsPlanned}
 use Rattle.r_pull.proofs.Found.{changed_alike, only_is_first}
 
 pub count_nodes_of : (xs : List NodeTree) → count_nodes (nodes_of xs) ≡ length xs
@@ -55,7 +58,8 @@ module _ (stays : List Bool) (copy first : ℕ) (op : Op) (inputs : List Origin)
       record {
         filled =
             ap₂ (λ front more. begun_where stays front (region more nodes results)) n a
-            ∙ sym (ap (λ t. cond t (begun_with (node copy op (args_from first inputs) no_regions) (region_redirected (copy_used stays copy) (region (args ++ replicate (length inputs) Value) nodes results)))
+            ∙ sym (ap (λ t. cond t (begun_with (node copy op (args_from first inputs) no_regions)
+            (region_redirected (copy_used stays copy) (region (args ++ replicate (length inputs) Value) nodes results)))
             (region (args ++ replicate (length inputs) Value) nodes results)) e);
         count = ap length n ∙ sym (ap (λ t. cond t 1 0) e);
         room = λ h. absurd (omega (arith, h, ap length n));
@@ -67,7 +71,8 @@ module _ (stays : List Bool) (copy first : ℕ) (op : Op) (inputs : List Origin)
       record {
         filled =
             ap₂ (λ front more. begun_where stays front (region more nodes results)) n a
-            ∙ sym (ap (λ t. cond t (begun_with (node copy op (args_from first inputs) no_regions) (region_redirected (copy_used stays copy) (region (args ++ replicate (length inputs) Value) nodes results)))
+            ∙ sym (ap (λ t. cond t (begun_with (node copy op (args_from first inputs) no_regions)
+            (region_redirected (copy_used stays copy) (region (args ++ replicate (length inputs) Value) nodes results)))
             (region (args ++ replicate (length inputs) Value) nodes results)) e);
         count = ap length n ∙ sym (ap (λ t. cond t 1 0) e);
         room = λ h. omega (arith, room, ap length n);

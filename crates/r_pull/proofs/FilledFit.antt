@@ -1,5 +1,6 @@
 -- The regions with copies fit.
-use Rattle.std.proofs.Common.{◌≡◌, ◌≤◌, ◌+◌, ℕ, zero, suc, ◌==◌, Bool, true, false, ◌&&◌, ◌||◌, cond, List, [], ◌∷◌, ◌++◌, map, length, slice_get, None, Some, refl, sym, ap, subst, ◌∙◌, append_assoc, append-nil, arith}
+use Rattle.std.proofs.Common.{◌≡◌, ◌≤◌, ◌+◌, ℕ, zero, suc, ◌==◌, Bool, true, false, ◌&&◌, ◌||◌, cond, List, []}
+use Rattle.std.proofs.Common.{◌∷◌, ◌++◌, map, length, slice_get, None, Some, refl, sym, ap, subst, ◌∙◌, append_assoc, append-nil, arith}
 use Rattle.std.proofs.lemmas.Bool.{and_parts, or_parts, false_from_ne_true}
 use Rattle.std.proofs.lemmas.List.{length-append}
 use Rattle.g_graph.specs.declared.op.Kind.{Kind}
@@ -42,7 +43,8 @@ added-fits objects zero args nodes results e =
 added-fits objects (suc count) args nodes results e =
     let first = arg_added_fits objects args nodes results e in
     let rest = added-fits objects count (args ++ Value ∷ []) nodes results first.1 in
-    subst (λ js. (map (known js nodes) results ≡ map (known args nodes) results) × (every_region (region_fits objects) (region js nodes results) ≡ true)) (append_assoc args (Value ∷ []) (values count))
+    subst (λ js. (map (known js nodes) results ≡ map (known args nodes) results) × (every_region (region_fits objects) (region js nodes results) ≡ true))
+    (append_assoc args (Value ∷ []) (values count))
     (rest.0 ∙ first.0, rest.1)
 
 -- they are values
@@ -137,7 +139,8 @@ module _ (objects : ℕ) (stays : List Bool) (copy : ℕ) (args : List Kind) (y 
       (ap (some_of (is_of k)) value ∙ no-given k s) i || gives-redirected used k nodes i in
       let inside : every_in_nodes (region_fits objects) (begun nodes) ≡ true = λ i. inner i && (every_in_nodes-redirected (region_fits objects) used nodes ∙ h.inside) i in (
         all.0,
-        fits-from objects args (begun nodes) (map used results) (fits-again objects args args nodes (begun nodes) results (map used results) h (λ i. first i && rest i) all.0 all.1 given h.first inside),
+        fits-from objects args (begun nodes) (map used results) (fits-again objects args args nodes (begun nodes) results (map used results) h (λ i. first i && rest i) all.0 all.1 given
+            h.first inside),
       )
     where
       front-apart : (front later : NodeTrees) → nodes ≡ joined_nodes front later → has_node copy front ≡ false
@@ -164,7 +167,8 @@ module _ (objects : ℕ) (stays : List Bool) (op : Op) (pure : is_pure op ≡ tr
     pub fits : every_region (region_fits objects) s ≡ true
 
   one-fits : (copy : ℕ) (nodes : NodeTrees) (results : List Origin) → has_node copy nodes ≡ false → (is_read (is_gone_argument stays) (region firsts nodes results) ≡ true → CopyFits) →
-      every_region (region_fits objects) (region firsts nodes results) ≡ true → FilledFits (region firsts nodes results) (region_filled stays copy (length firsts) op inputs (region firsts nodes results))
+      every_region (region_fits objects) (region firsts nodes results) ≡ true →
+      FilledFits (region firsts nodes results) (region_filled stays copy (length firsts) op inputs (region firsts nodes results))
   one-fits copy nodes results apart copies e = by (is_read (is_gone_argument stays) (region firsts nodes results)) refl
     where
       r : RegionTree

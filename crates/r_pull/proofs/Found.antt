@@ -1,7 +1,8 @@
 -- What the code finds and counts, by the definitions.
 use Rattle.std.specs.Prelude.{option_and_then, slice_index_or, slice_set}
 use Rattle.std.specs.Option.{option_or}
-use Rattle.std.proofs.Common.{◌≡◌, ◌≢◌, ◌≤◌, ◌<◌, ◌+◌, ◌*◌, ◌-◌, ◌^◌, ℕ, zero, suc, ◌==◌, nat_le, not, ◌&&◌, ◌||◌, cond, Bool, true, false, List, [], ◌∷◌, drop, length, Option, None, Some, option_map, refl, sym, ap, ◌∙◌, arith}
+use Rattle.std.proofs.Common.{◌≡◌, ◌≢◌, ◌≤◌, ◌<◌, ◌+◌, ◌*◌, ◌-◌, ◌^◌, ℕ, zero, suc, ◌==◌, nat_le, not, ◌&&◌, ◌||◌, cond}
+use Rattle.std.proofs.Common.{Bool, true, false, List, [], ◌∷◌, drop, length, Option, None, Some, option_map, refl, sym, ap, ◌∙◌, arith}
 use Rattle.std.proofs.Math.Nat.{mul-le-mul_left, suc-mul}
 use Rattle.std.proofs.lemmas.Bool.{and_parts}
 use Rattle.std.proofs.lemmas.Bool.Decides.{nat_tests}
@@ -17,7 +18,8 @@ use Rattle.g_edit.specs.Uses.{is_read, is_output_of, nodes_read}
 use Rattle.g_edit.specs.Entries.{is_gone_argument, some_reads}
 use Rattle.g_edit.specs.Size.{may_change_size}
 use Rattle.r_pull.specs.declared.find.Found.{Found}
-use Rattle.r_pull.specs.Rule.{node_uses, only_user, user_changed, copies, Pull, stays_of, inputs_carried, copies_of, other_entries, gone_among, more_args, added, gone, most_next, fits, into, pull_of, pull_at, copies_here, region_answer, nodes_answer}
+use Rattle.r_pull.specs.Rule.{node_uses, only_user, user_changed, copies, Pull, stays_of, inputs_carried, copies_of, other_entries, gone_among}
+use Rattle.r_pull.specs.Rule.{more_args, added, gone, most_next, fits, into, pull_of, pull_at, copies_here, region_answer, nodes_answer}
 use Rattle.r_pull.specs.Edit.{takes, where_takes, user_of, pull_into, first_user, user_index, pull_seen, IsCounted}
 
 -- ---- the node and its user
@@ -235,7 +237,8 @@ gone_step n [] k rest a h e z = absurd (omega (arith, h))
 gone_step n (b ∷ entries) (suc k) rest a h e z = gone_step n entries k rest a (omega (arith, h)) e z
 gone_step n (b ∷ entries) zero zero a h e z = absurd (z refl)
 gone_step n (b ∷ entries) zero (suc rest) a h e z =
-    ap (λ c. gone_among (not (is_output_of n c) ∷ other_entries n entries) (suc rest)) (sym e) ∙ by (is_output_of n a) ∙ ap (λ k. cond (is_output_of n a) 1 0 + gone_among (other_entries n entries) k) (omega arith)
+    ap (λ c. gone_among (not (is_output_of n c) ∷ other_entries n entries) (suc rest)) (sym e) ∙ by (is_output_of n a)
+    ∙ ap (λ k. cond (is_output_of n a) 1 0 + gone_among (other_entries n entries) k) (omega arith)
   where
     by : (t : Bool) → gone_among (not t ∷ other_entries n entries) (suc rest) ≡ cond t 1 0 + gone_among (other_entries n entries) rest
     by true = next-of (gone_among (other_entries n entries) rest)

@@ -146,7 +146,8 @@ module _ (l : PlainLambda) (args : List Kind) (front : NodeTrees) (n : ℕ) (op 
       by true = parts-later.0
       by false = refl
 
-  copies-fit : some_reads stays rs ≡ true → (copy : ℕ) → node_fits (length l.objects) (with_values (length carried) firsts) no_nodes (node copy op (args_from (length firsts) carried) no_regions) ≡ true
+  copies-fit : some_reads stays rs ≡ true → (copy : ℕ) → node_fits (length l.objects) (with_values (length carried) firsts) no_nodes
+      (node copy op (args_from (length firsts) carried) no_regions) ≡ true
   copies-fit e copy =
       subst (λ is. node_fits (length l.objects) (with_values (length is) firsts) no_nodes (node copy op (args_from (length firsts) is) no_regions) ≡ true) (sym (whole-carried e))
       (pure-fits (length l.objects) args (with_values (length inputs) firsts) front no_nodes n copy op inputs (args_from (length firsts) inputs) pure x-fits (added-known firsts inputs ∙ sym x-takes))
@@ -181,7 +182,8 @@ module _ (l : PlainLambda) (args : List Kind) (front : NodeTrees) (n : ℕ) (op 
 
   first-kept : RegionStays (length l.objects) whole first-changed
   first-kept =
-      subst (λ k. RegionStays (length l.objects) whole (region args (joined_nodes before (node_then (node gamma Gamma ((p ∷ entries) ++ carried) (regions_filled stays l.next k op carried rs)) after)) results)) (sym many)
+      subst (λ k. RegionStays (length l.objects) whole (region args (joined_nodes before
+      (node_then (node gamma Gamma ((p ∷ entries) ++ carried) (regions_filled stays l.next k op carried rs)) after)) results)) (sym many)
       (filled-stays (length l.objects) args before gamma p entries rs after here stays l.next op pure carried
       (λ count. gone-values n (known args before) (own-kind (length l.objects) args front n op inputs middle gamma p entries rs after results pure here) entries firsts count
       (entries_are (length l.objects) args front n op inputs middle gamma p entries rs after results pure here))

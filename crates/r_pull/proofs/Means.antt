@@ -135,7 +135,8 @@ module _ (c : Context) (stays : List Bool) (op : Op) (inputs : List Origin) (us 
       abbrev outs : List Origin
       outs = map after (map used results)
 
-      pub read-means : region_meaning c (region_taking stays (region (args ++ replicate (length inputs) Value) (node_then (node copy op (args_from (length us) inputs) no_regions) (nodes_redirected used nodes)) (map used results))) now
+      pub read-means : region_meaning c (region_taking stays (region (args ++ replicate (length inputs) Value)
+          (node_then (node copy op (args_from (length us) inputs) no_regions) (nodes_redirected used nodes)) (map used results))) now
           ≡ region_meaning c r us
       read-means =
           ap (λ a. then_on (then_on a (λ ws. nodes_run c ms now (extended no_outputs copy ws))) (λ o. Returned (map (read now o) outs) [])) run
@@ -202,7 +203,8 @@ pub gamma-means : (c : Context) (stays : List Bool) (op : Op) (carried : List Or
     all_regions (λ r. same (args_of r) firsts && are (result_kinds r) ks) rs ≡ true → ((m : ℕ) → copy ≤ m → IsAmong m (regions_ids rs) → ⊥) →
     ((k : ℕ) → k < length entries → stays_at stays k ≡ false → at_port (map (read xs o) entries) k ≡ val v) →
     (some_reads stays rs ≡ true → act c op [] (map (read xs o) carried) ≡ Returned (val v ∷ []) []) →
-    node_run c (node id Gamma (kept (true ∷ stays) ((p ∷ entries) ++ carried)) (regions_taking stays (regions_filled stays copy (length entries) op carried rs))) xs o ≡ node_run c (node id Gamma (p ∷ entries) rs) xs o
+    node_run c (node id Gamma (kept (true ∷ stays) ((p ∷ entries) ++ carried)) (regions_taking stays (regions_filled stays copy (length entries) op carried rs))) xs o
+    ≡ node_run c (node id Gamma (p ∷ entries) rs) xs o
 gamma-means c stays op carried copy id p entries rs xs o v late firsts ks long closed fit fresh carries run =
     (λ i. on_number (value_of (read xs o p)) (λ w. chosen w (meanings c (regions i)) (given i)))
     ∙ ap (on_number (value_of (read xs o p))) (fun_ext (λ w.

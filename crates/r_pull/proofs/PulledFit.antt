@@ -1,5 +1,6 @@
 -- The changed region fits.
-use Rattle.std.proofs.Common.{◌≡◌, ◌≤◌, ◌+◌, ℕ, zero, suc, ◌==◌, Bool, true, false, ◌&&◌, cond, List, [], ◌∷◌, ◌++◌, map, length, slice_get, Option, None, Some, refl, sym, ap, ◌∙◌, append_assoc, append-nil, arith}
+use Rattle.std.proofs.Common.{◌≡◌, ◌≤◌, ◌+◌, ℕ, zero, suc, ◌==◌, Bool, true, false, ◌&&◌, cond, List, []}
+use Rattle.std.proofs.Common.{◌∷◌, ◌++◌, map, length, slice_get, Option, None, Some, refl, sym, ap, ◌∙◌, append_assoc, append-nil, arith}
 use Rattle.std.proofs.lemmas.Bool.{and_parts, false_from_ne_true}
 use Rattle.std.proofs.lemmas.List.{map-append}
 use Rattle.g_graph.specs.declared.op.Kind.{Kind}
@@ -12,7 +13,8 @@ use Rattle.g_graph.specs.Plain.{region, NodeTree, node, NodeTrees, no_nodes, nod
 use Rattle.g_graph.specs.Ids.{nodes_ids, regions_ids}
 use Rattle.g_graph.specs.Signatures.{is_pure, joined, first_args, kind_after, outputs_of, output_kinds, result_kinds}
 use Rattle.g_graph.specs.Scope.{known}
-use Rattle.g_graph.specs.WellFormed.{all_of, all_regions, same, are, one_state_each, kinds_of, is_last, inputs_fit, inputs_are_last, node_has_one_state_each, has_its_regions, regions_fit, theta_has_states, has_its_width, has_its_object, node_fits, region_fits, every_region}
+use Rattle.g_graph.specs.WellFormed.{all_of, all_regions, same, are, one_state_each, kinds_of, is_last, inputs_fit, inputs_are_last}
+use Rattle.g_graph.specs.WellFormed.{node_has_one_state_each, has_its_regions, regions_fit, theta_has_states, has_its_width, has_its_object, node_fits, region_fits, every_region}
 use Rattle.g_graph.specs.Change.{has_node}
 use Rattle.g_graph.specs.Splice.{joined_nodes}
 use Rattle.g_graph.proofs.lemmas.Indexes.{same_number_true, kind_absent, kind_known}
@@ -109,7 +111,8 @@ module _ (objects : ℕ) (args : List Kind) (before : NodeTrees) (id : ℕ) (p :
     (here : NodeFits objects args before (node id Gamma (p ∷ entries) rs) after) (stays : List Bool) (next : ℕ) (op : Op) (pure : is_pure op ≡ true) (carried : List Origin)
     (gone : (count : ℕ) → GoneValues stays (with_values count (first_args rs))) (taken : map (known args before) carried ≡ map Some (values (length carried)))
     (fresh : (m : ℕ) → next ≤ m → times m (regions_ids rs) ≡ 0)
-    (copies : some_reads stays rs ≡ true → (copy : ℕ) → node_fits objects (with_values (length carried) (first_args rs)) no_nodes (node copy op (args_from (length (first_args rs)) carried) no_regions) ≡ true) where
+    (copies : some_reads stays rs ≡ true → (copy : ℕ) → node_fits objects (with_values (length carried) (first_args rs)) no_nodes
+    (node copy op (args_from (length (first_args rs)) carried) no_regions) ≡ true) where
   abbrev g : NodeTree
   g = node id Gamma (p ∷ entries) rs
 
@@ -128,7 +131,8 @@ module _ (objects : ℕ) (args : List Kind) (before : NodeTrees) (id : ℕ) (p :
   all : AllFilled objects stays op pure carried firsts ks (gone (length carried)) next rs
   all = all-filled objects stays op pure carried firsts ks (gone (length carried)) next rs here.regions here.inside fresh copies
 
-  takes : (qs : RegionTrees) → has_its_regions (node id Gamma (p ∷ entries) qs) ≡ true → (first_args (regions_filled stays next (length (first_args qs)) op carried qs) ≡ with_values (length carried) (first_args qs))
+  takes : (qs : RegionTrees) → has_its_regions (node id Gamma (p ∷ entries) qs) ≡ true →
+      (first_args (regions_filled stays next (length (first_args qs)) op carried qs) ≡ with_values (length carried) (first_args qs))
       × (has_its_regions (node id Gamma ((p ∷ entries) ++ carried) (regions_filled stays next (length (first_args qs)) op carried qs)) ≡ true)
   takes no_regions e = absurd cc
   takes (region_then r qs) e = (first-takes stays op carried next (length (args_of r)) r qs, refl)

@@ -44,7 +44,8 @@ module _ (p : Op → ℕ → Type 0) (gamma : (m k : ℕ) → p Gamma m → p Ga
         long = length-map (args_from first inputs) after ∙ args-long first inputs
 
         by : (t : Bool) → is_read (is_gone_argument stays) (region args nodes results) ≡ t →
-            RegionOps p (region_taking stays (cond t (region (args ++ replicate (length inputs) Value) (node_then (node copy op (args_from first inputs) no_regions) (nodes_redirected used nodes)) (map used results))
+            RegionOps p (region_taking stays (cond t (region (args ++ replicate (length inputs) Value)
+            (node_then (node copy op (args_from first inputs) no_regions) (nodes_redirected used nodes)) (map used results))
             (region (args ++ replicate (length inputs) Value) nodes results)))
         by true e = ((subst (p op) (sym long) (own e), tt), redirected_ops p after (nodes_redirected used nodes) (redirected_ops p used nodes h))
         by false e = redirected_ops p after nodes h

@@ -103,7 +103,8 @@ module _ (objects : ℕ) (args : List Kind) (front : NodeTrees) (n : ℕ) (op : 
     many : length entries ≡ length (first_args rs)
     many = let all = as-many (known args before) (p ∷ entries) (Value ∷ first_args rs) here.inputs in omega (arith, all)
 
-    module _ (next : ℕ) (carried : List Origin) (whole-carried : some_reads stays rs ≡ true → carried ≡ inputs) (closed : AllClosed rs) (fresh : (m : ℕ) → next ≤ m → IsAmong m (regions_ids rs) → ⊥) where
+    module _ (next : ℕ) (carried : List Origin) (whole-carried : some_reads stays rs ≡ true → carried ≡ inputs) (closed : AllClosed rs)
+        (fresh : (m : ℕ) → next ≤ m → IsAmong m (regions_ids rs) → ⊥) where
       -- with copies and without the entries that go
       abbrev y : NodeTree
       y = node gamma Gamma (kept (true ∷ stays) ((p ∷ entries) ++ carried)) (regions_taking stays (regions_filled stays next (length entries) op carried rs))
@@ -142,5 +143,6 @@ module _ (objects : ℕ) (args : List Kind) (front : NodeTrees) (n : ℕ) (op : 
           runs-same xs =
               joined-run c before (node_then y after) xs no_outputs
               ∙ then_on_given (nodes_run c before xs no_outputs) (nodes_run c (node_then y after) xs) (nodes_run c (node_then g after) xs)
-              (λ o did e. ap (λ a. then_on a (λ us. nodes_run c after xs (extended o gamma us))) (node-same c xs o (holds-from (length args) c before [] xs no_outputs o did reads (λ m h k. h) earlier e)))
+              (λ o did e. ap (λ a. then_on a (λ us. nodes_run c after xs (extended o gamma us)))
+              (node-same c xs o (holds-from (length args) c before [] xs no_outputs o did reads (λ m h k. h) earlier e)))
               ∙ sym (joined-run c before (node_then g after) xs no_outputs)

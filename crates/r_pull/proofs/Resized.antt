@@ -62,7 +62,8 @@ module _ (values next n : ℕ) (args : List Kind) (ns : NodeTrees) (results : Li
   -- the region, with the Gamma changed and without the node
   pub result-is : s ≡ region args (nodes_without n changed) results
   result-is =
-      sym at.gives ∙ ap (λ p. region args (nodes_without n (user_changed n (gamma_pulled next n p) ns)) results) at.pull_is ∙ ap (λ ms. region args (nodes_without n ms) results) (at.user.changed (gamma_pulled next n h))
+      sym at.gives ∙ ap (λ p. region args (nodes_without n (user_changed n (gamma_pulled next n p) ns)) results) at.pull_is
+      ∙ ap (λ ms. region args (nodes_without n ms) results) (at.user.changed (gamma_pulled next n h))
 
   pub found-now : node_at n changed ≡ Some x
   found-now =
@@ -130,7 +131,8 @@ module _ (values next n : ℕ) (args : List Kind) (ns : NodeTrees) (results : Li
           nodes_values-joined at.user.before (node_then g at.user.after),
           nodes_values-joined at.user.before (node_then now at.user.after),
         );
-        may = (and_parts (may_change_size values (added n h) (gone n h)) (nat_le (next + copies_of n h) most_next) (and_parts (may_change_size values (added n h) (gone n h) && nat_le (next + copies_of n h) most_next) _ (ap (fits values next n) (sym at.pull_is) ∙ at.can)).0).0;
+        may = (and_parts (may_change_size values (added n h) (gone n h)) (nat_le (next + copies_of n h) most_next)
+            (and_parts (may_change_size values (added n h) (gone n h) && nat_le (next + copies_of n h) most_next) _ (ap (fits values next n) (sym at.pull_is) ∙ at.can)).0).0;
       }
 
   is-resized : IsResized values (region args ns results) s

@@ -37,7 +37,8 @@ pub counted_same : (v n : ℕ) (l : PlainLambda) (o : Option ℕ) → v ≡ satu
 counted_same v n l o e d = d ∙ ap (λ h. region_answer h l.body) (ap (λ u. copies_here u l.next n) e ∙ copies-same (lambda_values l) l.next n)
 
 -- the lambda that the code makes, with x for the next number
-pub pulled_lambda : (v n c x : ℕ) (l k : PlainLambda) → v ≡ saturated (lambda_values l) → copies_at l n ≡ Some c → x ≡ l.next → k ≡ lambda_changed (pll_here v x n) l → record k { next = x + c } ≡ pll n l
+pub pulled_lambda : (v n c x : ℕ) (l k : PlainLambda) → v ≡ saturated (lambda_values l) → copies_at l n ≡ Some c → x ≡ l.next → k ≡ lambda_changed (pll_here v x n) l →
+    record k { next = x + c } ≡ pll n l
 pulled_lambda v n c x l k e a b d =
     ap (λ (z : PlainLambda). record z { next = x + c }) d
     ∙ ap (λ y. record (lambda_changed (pll_here v y n) l) { next = y + c }) b

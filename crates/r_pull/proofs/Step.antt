@@ -80,7 +80,8 @@ module _ (l : PlainLambda) (values n : ℕ) (args : List Kind) (ns : NodeTrees) 
   Whole front = region args (joined_nodes front (node_then g at.user.after)) results
 
   abbrev Result : NodeTrees → RegionTree
-  Result front = region args (nodes_without n (joined_nodes front (node_then (gamma_pulled l.next n (record { op = at.op; inputs = at.inputs; entries = at.entries; regions = at.regions }) g) at.user.after))) results
+  Result front = region args (nodes_without n (joined_nodes front (node_then (gamma_pulled l.next n (record { op = at.op; inputs = at.inputs; entries = at.entries; regions = at.regions }) g)
+      at.user.after))) results
 
   pub region-kept : RegionStays (length l.objects) (region args ns results) s
   region-kept =
@@ -145,7 +146,8 @@ pll_well_formed n l w = by_change (region_changed (here n l) l.body) refl
         let next : l.next + h.count ≡ l.next + unwrap_or (copies_at l n) 0 = ap (λ o. l.next + unwrap_or o 0) (sym h.gives) in
         let now = numbered-more l.next h.count (region_ids l.body) (region_ids s) h.ids (numbers_numbered l (numbers-of l w)) in
         subst (λ k. well_formed (record l { body = s; next = k }) ≡ true) next
-        (changed_well_formed (here n l) l s (l.next + h.count) (record { kept = λ r t q fits numbers. let h = here-keeps n l r t q fits numbers in record { args = h.args; results = h.results; inside = h.inside } }) e w (λ i. now.unique i && now.below i))
+        (changed_well_formed (here n l) l s (l.next + h.count) (record
+        { kept = λ r t q fits numbers. let h = here-keeps n l r t q fits numbers in record { args = h.args; results = h.results; inside = h.inside } }) e w (λ i. now.unique i && now.below i))
 
 edited : (n : ℕ) (l : PlainLambda) → IsEdited (here n l) l (pll n l)
 edited n l = record { number = refl; params = refl; objects = refl; body = refl }

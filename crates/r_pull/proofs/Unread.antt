@@ -99,7 +99,8 @@ uses-known count n known [] r e = absurd cc
 uses-known count n known (Arg k ∷ os) r e = uses-known count n known os r.1 e
 uses-known count n known (Out m p ∷ os) r e = by (n == m) refl e r.0 (uses-known count n known os r.1)
   where
-    by : (t : Bool) → (n == m) ≡ t → (t || some_of (is_output_of n) os) ≡ true → (is_argument count (Out m p) ≡ true) ⊎ IsAmong m known → (some_of (is_output_of n) os ≡ true → IsAmong n known) → IsAmong n known
+    by : (t : Bool) → (n == m) ≡ t → (t || some_of (is_output_of n) os) ≡ true → (is_argument count (Out m p) ≡ true) ⊎ IsAmong m known →
+        (some_of (is_output_of n) os ≡ true → IsAmong n known) → IsAmong n known
     by true d f (inl t) rest = absurd cc
     by true d f (inr h) rest = subst (λ z. IsAmong z known) (sym (same_number n m d)) h
     by false d f h rest = rest f

@@ -26,7 +26,8 @@ pub record User (n : ℕ) (ns : NodeTrees) (g : NodeTree) : Type 0 where
   pub uses : node_uses n g ≡ true
   pub changed : (f : NodeTree → NodeTree) → user_changed n f ns ≡ joined_nodes before (node_then (f g) after)
 
-user-first : (n : ℕ) (x : NodeTree) (ns : NodeTrees) (g : NodeTree) → node_uses n x ≡ true → (read : Bool) → nodes_read (is_output_of n) ns ≡ read → cond read None (Some x) ≡ Some g → User n (node_then x ns) g
+user-first : (n : ℕ) (x : NodeTree) (ns : NodeTrees) (g : NodeTree) → node_uses n x ≡ true → (read : Bool) → nodes_read (is_output_of n) ns ≡ read → cond read None (Some x) ≡ Some g →
+    User n (node_then x ns) g
 user-first n x ns g u true e d = absurd cc
 user-first n x ns g u false e d =
     let same : x ≡ g = cc in
@@ -132,7 +133,8 @@ module _ (values next n : ℕ) (args : List Kind) (ns : NodeTrees) (results : Li
   -- of the node that is found, its user, and what is pulled
   by-fits : (id : ℕ) (op : Op) (inputs : List Origin) (rs : RegionTrees) (s : RegionTree) → node_at n ns ≡ Some (node id op inputs rs) →
       (is_pure op && has_none rs && not (some_of (is_output_of n) results)) ≡ true → (g : NodeTree) → only_user n ns ≡ Some g → (h : Pull) → into n op inputs g ≡ Some h →
-      (t : Bool) → fits values next n h ≡ t → Gives (cond t (Some h) None) s → copies_here values next n whole ≡ option_map (copies_of n) (cond t (Some h) None) → PulledAt values next n args ns results s
+      (t : Bool) → fits values next n h ≡ t → Gives (cond t (Some h) None) s → copies_here values next n whole ≡ option_map (copies_of n) (cond t (Some h) None) →
+      PulledAt values next n args ns results s
   by-fits id op inputs rs s at test g user h found false e d c = absurd cc
   by-fits id op inputs rs s at test g user h found true e d c =
       let i = into-is n op inputs g h found in

@@ -29,8 +29,8 @@ pub struct Plan {
     pub lists: Vec<NewLists>,
 }
 
-/// The change of the Gamma `user` that takes the node, with copies numbered from `next` on. It takes
-/// all the memory that the change needs.
+/// The change of the Gamma `user` that takes the node, with copies numbered from `next` on. It
+/// takes all the memory that the change needs.
 pub fn plan_for(
     alloc: Global,
     node: &Node,

@@ -10,5 +10,6 @@ use Rattle.board_one.proofs.results.all_results.Goals as goal
 pub returns : goal.returns
 returns g c =
     let program = program_of g.W.Work.made c.args.board in
-    let are = results-of-all c.results_are_answers.ensures program c.args.board.events c.events.ensures.ranked c.events.ensures.legal c.requires (option_map arc_value) c.into_results.result.items c.into_results.ensures in
+    let are = results-of-all c.results_are_answers.ensures program c.args.board.events c.events.ensures.ranked c.events.ensures.legal c.requires (option_map arc_value)
+    c.into_results.result.items c.into_results.ensures in
     IfOk-weaker c.all_there.result _ (λ all. AreResults program (map arc_value all.items)) (λ all same. subst (AreResults program) (sym same) are) c.all_there.ensures
