@@ -262,7 +262,8 @@ changed-fits values n l w s e =
     let here = here-keeps objects values l.next n x.old x.new x.here x.fits inside in
     let renewed : Renewed l.next here.count (region_ids l.body) (region_ids s) =
     subst (λ is. Renewed l.next here.count is (region_ids s)) (sym x.old_ids)
-    (subst (Renewed l.next here.count ((x.before ++ region_ids x.old) ++ x.after)) (sym x.new_ids) (renewed-within l.next here.count x.before (region_ids x.old) (region_ids x.new) x.after here.ids)) in
+    (subst (Renewed l.next here.count ((x.before ++ region_ids x.old) ++ x.after)) (sym x.new_ids)
+    (renewed-within l.next here.count x.before (region_ids x.old) (region_ids x.new) x.after here.ids)) in
     let count = renewed-count l.next here.count (region_ids l.body) (region_ids s) renewed old in
     let unique = renewed-unique l.next here.count (region_ids l.body) (region_ids s) renewed old in
     let below : all_of (λ m. nat_lt m (l.next + count_by (λ m. nat_le l.next m) (region_ids s))) (region_ids s) ≡ true

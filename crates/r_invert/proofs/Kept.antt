@@ -1,5 +1,5 @@
 -- The rule keeps meaning and complete lists, and is a step.
-use Rattle.std.specs.Prelude.{◌+◌, ◌-◌, ◌^◌, nat_le, unwrap_or}
+use Rattle.std.specs.Prelude.{◌&&◌, ◌+◌, ◌-◌, ◌^◌, nat_le, unwrap_or}
 use Rattle.std.proofs.Common.{◌≡◌, ℕ, suc, true, List, map, length, Option, None, Some, option_map, refl, sym, ap, subst, ◌∙◌, arith}
 use Rattle.std.proofs.lemmas.Bool.{and_parts}
 use Rattle.std.proofs.lemmas.List.{length-map}
@@ -28,7 +28,7 @@ use Rattle.g_copy.proofs.lemmas.Copies.{numbered-ops}
 use Rattle.g_copy.proofs.lemmas.Fits.{copied-nodes-values, copies_count_the_same}
 use Rattle.r_invert.specs.Compose.{in_sequence, alone}
 use Rattle.r_invert.specs.Laws.{IvtIsAStep}
-use Rattle.r_invert.specs.Rule.{Parts, parts_of, giving, turn, remaining, choice, inverted, new_nodes, growth, loop_values, ivt_here, body_inverted, with_body, ivt}
+use Rattle.r_invert.specs.Rule.{Parts, parts_of, giving, turn, remaining, choice, inverted, new_nodes, growth, loop_values, can_count, ivt_here, body_inverted, with_body, ivt}
 use Rattle.r_invert.proofs.At.{loop_node, placed, inverts-at}
 use Rattle.r_invert.proofs.Fits.{changed-fits}
 use Rattle.r_invert.proofs.Form.{ending, form-of}
@@ -204,7 +204,7 @@ here-resized values next n (region args nodes results) s e =
             added = growth at.parts;
             gone = loop_values at.body;
             count = omega (arith, count, old, new, tail, copied, moved, brought, loop, ports);
-            may = (and_parts (nat_le (next + new_nodes at.parts) (2 ^ 32 - 1)) (may_change_size values (growth at.parts) (loop_values at.body)) at.may).1;
+            may = (and_parts (can_count at.parts && nat_le (next + new_nodes at.parts) (2 ^ 32 - 1)) (may_change_size values (growth at.parts) (loop_values at.body)) at.may).1;
           };
         })
 

@@ -1,6 +1,6 @@
 -- Inversion: a loop whose turns begin with a test becomes the test and then, where it holds, a loop whose turns end with
 -- it (Reissmann et al., RVSDG, 2020, of Theta and Gamma nodes).
-use Rattle.std.specs.Prelude.{ℕ, suc, ◌+◌, ◌-◌, ◌*◌, ◌^◌, ◌==◌, nat_le, not, ◌&&◌, if◌then◌else◌, Bool, false, List, ◌∷◌, count_by, map, length, Option, None, Some, option_map, option_and_then, is_some, unwrap_or}
+use Rattle.std.specs.Prelude.{ℕ, suc, ◌+◌, ◌-◌, ◌*◌, ◌^◌, ◌==◌, nat_le, nat_lt, not, ◌&&◌, if◌then◌else◌, Bool, false, List, ◌∷◌, count_by, map, length, Option, None, Some, option_map, option_and_then, is_some, unwrap_or}
 use Rattle.g_graph.specs.declared.op.Kind.{Kind}
 use Rattle.g_graph.specs.declared.op.Kind.TheVariants.{Value, Memory, Io}
 use Rattle.g_graph.specs.declared.op.Op.TheVariants.{Gamma, Theta}
@@ -112,9 +112,13 @@ growth p =
 abbrev pub loop_values : RegionTree → ℕ
 loop_values r = 1 + length (args_of r) + region_values r
 
+-- The indexes of the entries and of the variables are below 2 ^ 32, as they always are in a lambda within the limits.
+abbrev pub can_count : Parts → Bool
+can_count p = nat_lt (length (args_of p.stop)) (2 ^ 32) && nat_lt (length (args_of p.go)) (2 ^ 32) && nat_lt (length (results_of p.stop)) (2 ^ 32)
+
 -- in a lambda of so many values, whose next node has the number `next`
 abbrev pub may_invert : (values next : ℕ) → (loop : RegionTree) → Parts → Bool
-may_invert values next r p = nat_le (next + new_nodes p) (2 ^ 32 - 1) && may_change_size values (growth p) (loop_values r)
+may_invert values next r p = can_count p && nat_le (next + new_nodes p) (2 ^ 32 - 1) && may_change_size values (growth p) (loop_values r)
 
 -- ---- the rule
 
