@@ -9,6 +9,7 @@ pub trait Gate: Sync {
 }
 
 /// The gate that holds nobody.
+#[derive(Drop)]
 pub struct OpenGate;
 
 impl Gate for OpenGate {
@@ -17,6 +18,7 @@ impl Gate for OpenGate {
 
 /// A gate for tests, which tells whether the makings of two jobs met: it holds one job until
 /// another one has passed, for so many turns at most.
+#[derive(Drop)]
 pub struct MeetGate {
     held: u32,
     awaited: u32,
@@ -65,6 +67,7 @@ impl Gate for MeetGate {
 }
 
 /// A gate for tests, which counts its passes.
+#[derive(Drop)]
 pub struct CountGate {
     passes: AtomicU64,
 }

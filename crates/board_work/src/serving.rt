@@ -58,7 +58,8 @@ fn end<S, M, A>(worker: &mut WorkerOf<S, M>, stopped: bool) -> Option<A>
     None
 }
 
-// Makes the result of the job that the worker holds. Where there is no memory for it, the worker stops.
+// Makes the result of the job that the worker holds. Where there is no memory for it, the worker
+// stops.
 fn make<H: Wait, W: Work>(
     rt: &H,
     alloc: Global,

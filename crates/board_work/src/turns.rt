@@ -139,7 +139,8 @@ fn choose<W: Work>(
     ensures seat { IsSeatOf (lock_of shared.now) seat.new }
     ensures board { IsAtBoard (sitting seat.new) board.new }
     ensures same { IsSameSeat (sitting seat.old) (sitting seat.new) }
-    ensures next { IsNextFor W.made W.jobs (sitting seat.new) (map arc_value deps.new.items) result }
+    ensures next { IsNextFor W.made W.jobs (sitting seat.new)
+        (map arc_value deps.new.items) result }
     ensures room { 512 ≤ vec_capacity deps.new }
 {
     let _events = board.events();

@@ -233,7 +233,8 @@ large_exits loads n u l upper low sum count input enough =
 image_by : List Instr → List ℕ
 image_by li = file_of (sections_by li)
 
-exits_by : (at starts ends n bound : ℕ) (li : List Instr) → load_immediate 9 (n % 2 ^ 32) ≡ li → ExitsWithin bound (image_by li) (n % 256) → ExitsWithin bound (image_of_constant at starts ends n) (n % 256)
+exits_by : (at starts ends n bound : ℕ) (li : List Instr) → load_immediate 9 (n % 2 ^ 32) ≡ li → ExitsWithin bound (image_by li) (n % 256) →
+    ExitsWithin bound (image_of_constant at starts ends n) (n % 256)
 unfolding image_by
 exits_by at starts ends n bound li same exits count input enough = ap (λ code. image_at count (image_by code) input) same ∙ exits count input enough
 

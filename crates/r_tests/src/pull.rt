@@ -38,8 +38,9 @@ const LAST: Origin = Origin::Out {
     port: 0,
 };
 
-// A body: its nodes before the Gamma of number 18, the Gamma's inputs, the arguments of its regions,
-// the nodes and the result of each region, the value that the body gives, and the next number.
+// A body: its nodes before the Gamma of number 18, the Gamma's inputs, the arguments of its
+// regions, the nodes and the result of each region, the value that the body gives, and the next
+// number.
 #[derive(Clone, Copy)]
 struct Row<'a> {
     before: &'a [Line<'a>],
