@@ -109,7 +109,7 @@ module _ (objects next : ℕ) (args : List Kind) (nodes : NodeTrees) (results : 
       let gives_them : (r : RegionTree) → args_of r ≡ args → result_kinds r ≡ map Some (Value ∷ args) → (same (args_of r) args && are (result_kinds r) (kinds_of (output_kinds last))) ≡ true
       = λ r a k. (λ i. same (a i) args && are (k i) (exits i)) ∙ (λ i. are_themselves args i && are_themselves (Value ∷ args) i) in
       λ i. inputs i && parts.last i && (parts.second i && given i) && true && (gives_them (stopping (suc next) args) refl outputs i && (gives_them copy refl copy-results i && true)) && true
-          && true && true
+      && true && true
 
   output-known : (p : ℕ) (k : Kind) → slice_get (Value ∷ args) p ≡ Some k → known args whole (Out next p) ≡ Some k
   output-known p k e =

@@ -205,7 +205,7 @@ module _ (values next n : ℕ) (y : RegionTree) where
 
       test : (id : ℕ) (inputs : List Origin) (r : RegionTree) (t : Bool) → Only y (cond t (Some r) None) →
           Alike (cond t (Some r) None) (option_map with_node (cond t (Some (loop_node id inputs (unrolled next r))) None))
-              (option_map with_node (cond t (Some (loop_node id inputs (followed_by last outs r))) None))
+          (option_map with_node (cond t (Some (loop_node id inputs (followed_by last outs r))) None))
       test id inputs r true only =
           inr (record {
             found = r;
@@ -218,7 +218,7 @@ module _ (values next n : ℕ) (y : RegionTree) where
 
       by : (o : Option NodeTree) → Only y (option_and_then (loop_body values next) o) →
           Alike (option_and_then (loop_body values next) o) (option_map with_node (option_and_then (node_unrolled values next) o))
-              (option_map with_node (option_and_then (node_followed values next last outs) o))
+          (option_map with_node (option_and_then (node_followed values next last outs) o))
       by None only = inl (refl, refl, refl)
       by (Some (node id Theta inputs (region_then r no_regions))) only = test id inputs r (may_unroll values next r) only
       by (Some (node id Theta inputs no_regions)) only = inl (refl, refl, refl)
@@ -310,7 +310,7 @@ module _ (values next n : ℕ) (last : NodeTree) (outs : List Origin) where
 
       by : (o : Option NodeTree) → node_at n nodes ≡ o →
           option_map (λ y. region args (node_set n y nodes) results) (option_and_then (node_followed values next last outs) o) ≡ Some s →
-              node_count s ≡ length (nodes_ids nodes) + length (node_ids last)
+          node_count s ≡ length (nodes_ids nodes) + length (node_ids last)
       by None d f = absurd cc
       by (Some x) d f = by-node x d (node_followed values next last outs x) refl f
 

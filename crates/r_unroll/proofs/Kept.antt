@@ -156,7 +156,7 @@ url_well_formed n l w = by_change (body_unrolled n l) refl
         let adds : Adds l.next kept.count (region_ids l.body) (region_ids s) =
         subst (λ is. Adds l.next kept.count is (region_ids s)) (sym (x.old_ids ∙ at))
         (subst (Adds l.next kept.count (x.before ++ (region_ids x.old ++ x.after))) (sym (x.new_ids ∙ at'))
-            (adds-within l.next kept.count x.before (region_ids x.old) (region_ids x.new) x.after kept.adds)) in
+        (adds-within l.next kept.count x.before (region_ids x.old) (region_ids x.new) x.after kept.adds)) in
         let next : l.next + kept.count ≡ l.next + (node_count s - node_count l.body) = omega (arith, adds.number_more) in
         let unique : distinct (region_ids s) ≡ true = distinct_of_counts (region_ids s) (adds-once l.next kept.count (region_ids l.body) (region_ids s) adds old) in
         let below : all_of (λ m. nat_lt m (l.next + (node_count s - node_count l.body))) (region_ids s) ≡ true
@@ -203,7 +203,7 @@ here-resized values next n (region args ns results) s e =
     let at = unrolls-at values next n args ns results s e in
     by at.before at.inputs at.after at.body
     (and_parts (nat_le (region_values at.body) most_loop_values && not (region_loops at.body) && nat_le (next + 2 + node_count at.body) (2 ^ 32 - 1))
-        (may_change_size values (growth at.body) 0) at.can).1
+    (may_change_size values (growth at.body) 0) at.can).1
     at.whole at.result
   where
     by : (before : NodeTrees) (inputs : List Origin) (after : NodeTrees) (body : RegionTree) → may_change_size values (growth body) 0 ≡ true →

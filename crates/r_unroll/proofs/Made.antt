@@ -107,7 +107,7 @@ url-is v n l k last outs next e w one two three g = by (region_found (loop_at (l
     by : (o : Option RegionTree) → region_found (loop_at (lambda_values l) l.next n) l.body ≡ o →
         option_map (second_turn_of l.next) (region_found (loop_at (lambda_values l) l.next n) l.body) ≡ Some last →
         option_map (results_after l.next) (region_found (loop_at (lambda_values l) l.next n) l.body) ≡ Some outs →
-            option_map (next_after l.next) (region_found (loop_at (lambda_values l) l.next n) l.body) ≡ Some next →
+        option_map (next_after l.next) (region_found (loop_at (lambda_values l) l.next n) l.body) ≡ Some next →
         record k { next = next } ≡ url n l
     by None d a b c =
         let no : None ≡ Some last = sym (ap (option_map (second_turn_of l.next)) d) ∙ a in
