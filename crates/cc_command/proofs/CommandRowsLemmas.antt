@@ -1,7 +1,7 @@
 -- Each list of arguments is read as its row says.
 use Rattle.std.proofs.Common.{refl}
 use Rattle.cc_command.specs.Command.{number_in}
-use Rattle.cc_command.specs.CommandRows.{BuildRows, RecipeRows, RunRows, OtherRows, GenRows}
+use Rattle.cc_command.specs.CommandRows.{BuildRows, RecipeRows, WorkersRows, RunRows, OtherRows, GenRows}
 
 pub build_rows : BuildRows
 unfolding number_in
@@ -30,6 +30,21 @@ recipe_rows = record {
   after_hyphens = refl;
   cut_short = refl;
   with_help = refl;
+}
+
+pub workers_rows : WorkersRows
+unfolding number_in
+workers_rows = record {
+  equals_sign = refl;
+  in_front = refl;
+  greatest = refl;
+  greater = refl;
+  no_workers = refl;
+  empty = refl;
+  plus = refl;
+  letter_last = refl;
+  more_digits = refl;
+  twice = refl;
 }
 
 pub other_rows : OtherRows

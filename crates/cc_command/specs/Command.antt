@@ -8,8 +8,8 @@ use Rattle.cc_command.specs.Forms.{Form, OptionForm, Value, text, number, comman
 pub data Command : Type 0 where
   -- say whether the source on the input is accepted
   accept : Command
-  -- compile the source of the first name to the image of the second, under the recipe that a text gives
-  build : List ℕ → List ℕ → (recipe : List ℕ) → Command
+  -- compile the source of the first name to the image of the second, under the recipe that a text gives, by so many workers
+  build : List ℕ → List ℕ → (recipe : List ℕ) → (workers : ℕ) → Command
   -- run the image of the name for at most this many instructions
   run : List ℕ → (steps : ℕ) → Command
   -- write the generated program of this many functions, whose draws begin with a number, to the file of this name
@@ -42,19 +42,23 @@ read_text a = Some (text a)
 abbrev pub read_number : (least most : ℕ) → Text → Option Value
 read_number least most a = option_map number (number_in least most a)
 
--- `build IN OUT [--recipe LIST]`, LIST being any text, and `none` where it is not given
+-- `build IN OUT [--recipe LIST] [--workers N]`, LIST being any text, and `none` where it is not given, and N from 1 to 64,
+-- and 1 where it is not given
 abbrev pub build_of : List Value → Option Command
-build_of (text source ∷ text image ∷ text recipe ∷ []) = Some (build source image recipe)
+build_of (text source ∷ text image ∷ text recipe ∷ number workers ∷ []) = Some (build source image recipe workers)
 build_of _ = None
 
 abbrev pub recipe_option : OptionForm
 recipe_option = record { name = codes "recipe"; read = read_text; default = text (codes "none") }
 
+abbrev pub workers_option : OptionForm
+workers_option = record { name = codes "workers"; read = read_number 1 64; default = number 1 }
+
 abbrev pub build_form : Form Command
 build_form = record {
   name = codes "build";
   positionals = record { name = codes "IN"; read = read_text } ∷ record { name = codes "OUT"; read = read_text } ∷ [];
-  options = recipe_option ∷ [];
+  options = recipe_option ∷ workers_option ∷ [];
   command = build_of;
 }
 

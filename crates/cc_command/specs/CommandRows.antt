@@ -1,10 +1,14 @@
 -- Lists of arguments with their commands.
 use Rattle.std.specs.Prelude.{◌≡◌, ℕ, List, [], ◌∷◌, Option, Some, None, codes}
-use Rattle.cc_command.specs.Command.{Command, accept, build, run, generate, command_of}
+use Rattle.cc_command.specs.Command.{Command, accept, build as build_by, run, generate, command_of}
 
 -- the command of the arguments after the program's name
 abbrev pub command_after_name : List (List ℕ) → Option Command
 command_after_name arguments = command_of (codes "rvcc" ∷ arguments)
+
+-- a build by one worker
+abbrev pub build : List ℕ → List ℕ → (recipe : List ℕ) → Command
+build source image recipe = build_by source image recipe 1
 
 -- how many arguments there are, and what an argument looks like
 pub record BuildRows : Type 0 where
@@ -19,7 +23,7 @@ pub record BuildRows : Type 0 where
   pub unknown_option : command_after_name (codes "build" ∷ codes "a" ∷ codes "b" ∷ codes "--work" ∷ codes "2" ∷ []) ≡ None
   pub unknown_letter : command_after_name (codes "build" ∷ codes "-o" ∷ codes "a" ∷ codes "b" ∷ []) ≡ None
 
--- the option of `build`
+-- the recipe of `build`
 pub record RecipeRows : Type 0 where
   pub equals_sign : command_after_name (codes "build" ∷ codes "a" ∷ codes "b" ∷ codes "--recipe=fold" ∷ []) ≡ Some (build (codes "a") (codes "b") (codes "fold"))
   pub next_argument : command_after_name (codes "build" ∷ codes "a" ∷ codes "b" ∷ codes "--recipe" ∷ codes "fold,fold2" ∷ []) ≡ Some (build (codes "a") (codes "b") (codes "fold,fold2"))
@@ -31,6 +35,19 @@ pub record RecipeRows : Type 0 where
   pub after_hyphens : command_after_name (codes "build" ∷ codes "a" ∷ codes "--" ∷ codes "b" ∷ codes "--recipe=fold" ∷ []) ≡ None
   pub cut_short : command_after_name (codes "build" ∷ codes "a" ∷ codes "b" ∷ codes "--recip" ∷ codes "fold" ∷ []) ≡ None
   pub with_help : command_after_name (codes "build" ∷ codes "a" ∷ codes "b" ∷ codes "--recipe" ∷ codes "fold" ∷ codes "--help" ∷ []) ≡ None
+
+-- the number of workers of `build`
+pub record WorkersRows : Type 0 where
+  pub equals_sign : command_after_name (codes "build" ∷ codes "a" ∷ codes "b" ∷ codes "--recipe=fold" ∷ codes "--workers=3" ∷ []) ≡ Some (build_by (codes "a") (codes "b") (codes "fold") 3)
+  pub in_front : command_after_name (codes "build" ∷ codes "--workers" ∷ codes "02" ∷ codes "a" ∷ codes "b" ∷ codes "--recipe=fold" ∷ []) ≡ Some (build_by (codes "a") (codes "b") (codes "fold") 2)
+  pub greatest : command_after_name (codes "build" ∷ codes "a" ∷ codes "b" ∷ codes "--recipe=" ∷ codes "--workers" ∷ codes "64" ∷ []) ≡ Some (build_by (codes "a") (codes "b") [] 64)
+  pub greater : command_after_name (codes "build" ∷ codes "a" ∷ codes "b" ∷ codes "--workers" ∷ codes "65" ∷ []) ≡ None
+  pub no_workers : command_after_name (codes "build" ∷ codes "a" ∷ codes "b" ∷ codes "--workers" ∷ codes "0" ∷ []) ≡ None
+  pub empty : command_after_name (codes "build" ∷ codes "a" ∷ codes "b" ∷ codes "--workers=" ∷ []) ≡ None
+  pub plus : command_after_name (codes "build" ∷ codes "a" ∷ codes "b" ∷ codes "--workers" ∷ codes "+4" ∷ []) ≡ None
+  pub letter_last : command_after_name (codes "build" ∷ codes "a" ∷ codes "b" ∷ codes "--workers" ∷ codes "4x" ∷ []) ≡ None
+  pub more_digits : command_after_name (codes "build" ∷ codes "a" ∷ codes "b" ∷ codes "--workers" ∷ codes "000000000000000000004" ∷ []) ≡ None
+  pub twice : command_after_name (codes "build" ∷ codes "a" ∷ codes "b" ∷ codes "--workers=4" ∷ codes "--workers=4" ∷ []) ≡ None
 
 -- no arguments, and arguments that are no command or ask for help or a version
 pub record OtherRows : Type 0 where
@@ -84,4 +101,4 @@ pub record GenRows : Type 0 where
   pub four_arguments : command_after_name (codes "gen" ∷ codes "1" ∷ codes "1" ∷ codes "x" ∷ codes "y" ∷ []) ≡ None
 
 abbrev pub CommandRows : Type 0
-CommandRows = BuildRows × RecipeRows × RunRows × OtherRows × GenRows
+CommandRows = BuildRows × RecipeRows × WorkersRows × RunRows × OtherRows × GenRows

@@ -1,3 +1,4 @@
+use Rattle.std.specs.Prelude.{◌≤◌}
 use Rattle.cc_command.specs.Command.{Command, accept, build, run, generate}
 use Rattle.cc_command.specs.declared.arguments.Command.{Command as Parsed}
 use Rattle.cc_command.specs.declared.arguments.Command.TheVariants.{Accept, Build, Run, Generate}
@@ -5,6 +6,11 @@ use Rattle.cc_command.specs.declared.arguments.Command.TheVariants.{Accept, Buil
 -- the plain form of a parsed command
 abbrev pub plain_command : Parsed → Command
 plain_command Accept = accept
-plain_command (Build source image recipe) = build source.now image.now recipe.now
+plain_command (Build source image recipe workers) = build source.now image.now recipe.now workers
 plain_command (Run image steps) = run image.now steps
 plain_command (Generate start functions out) = generate start functions out.now
+
+-- a build is by 1 to 64 workers
+abbrev pub HasWorkers : Parsed → Type 0
+HasWorkers (Build source image recipe workers) = (1 ≤ workers) × (workers ≤ 64)
+HasWorkers _ = Unit {0}

@@ -1,13 +1,13 @@
 //! The arguments of the command line.
-ghost use Rattle.std.specs.Prelude.{◌≡◌, false, Some, map, option_and_then, option_map, IfOk};
+ghost use Rattle.std.specs.Prelude.{◌≡◌, ◌≤◌, false, Some, map, option_and_then, option_map, IfOk, IfSome};
 ghost use Rattle.std.specs.String.{string_bytes};
 ghost use Rattle.clap.specs.Words.{app_of, first_of, found_of, rows_of, shape_of, subcommand_rows_of};
 ghost use Rattle.clap.specs.declared.builder.command.Command.TheViews.{out-Command as fields_of};
 ghost use Rattle.cc_command.specs.Arguments.{rvcc, shape_of_form};
-ghost use Rattle.cc_command.specs.Command.{command_of, build_form, forms, generate_form, recipe_option, run_form, steps_option};
+ghost use Rattle.cc_command.specs.Command.{command_of, build_form, forms, generate_form, recipe_option, run_form, steps_option, workers_option};
 ghost use Rattle.cc_command.specs.Forms.{form_named, number, text, value_or_default};
 ghost use Rattle.cc_command.specs.Reading.{found_by, read_by, read_command};
-ghost use Rattle.cc_command.specs.PlainCommand.{plain_command};
+ghost use Rattle.cc_command.specs.PlainCommand.{plain_command, HasWorkers};
 
 use crate::numbers::number_in;
 use crate::reader::{help_is_asked, value, with_option, with_required};
@@ -20,12 +20,14 @@ use std::alloc::{AllocError, Global};
 pub enum Command<'a> {
     /// No arguments: say whether the source on the input is accepted.
     Accept,
-    /// `build IN OUT [--recipe LIST]`: compile the source named IN to the image named OUT under the
-    /// recipe LIST, which may be any text; `none` where it is not given.
+    /// `build IN OUT [--recipe LIST] [--workers N]`: compile the source named IN to the image named
+    /// OUT under the recipe LIST, which may be any text; `none` where it is not given. N workers, 1
+    /// to 64, make the functions; 1 where N is not given.
     Build {
         source: &'a str,
         image: &'a str,
         recipe: &'a str,
+        workers: u32,
     },
     /// `run IMG [--steps N]`: run the image named IMG for at most N instructions, 1 to 10^12; 10^9
     /// where N is not given.
@@ -48,7 +50,8 @@ fn build_arguments<'a>(alloc: Global) -> Result<Reader<'a>, AllocError>
 {
     let command = with_required(alloc, Reader::new(alloc, "build"), "IN")?;
     let command = with_required(alloc, command, "OUT")?;
-    with_option(alloc, command, "recipe")
+    let command = with_option(alloc, command, "recipe")?;
+    with_option(alloc, command, "workers")
 }
 
 fn run_arguments<'a>(alloc: Global) -> Result<Reader<'a>, AllocError>
@@ -87,14 +90,30 @@ fn recipe_in<'a>(arguments: &ArgMatches<'a>) -> &'a str
     value(arguments, "recipe").unwrap_or("none")
 }
 
+/// How many workers a build has.
+fn workers_in(arguments: &ArgMatches<'_>) -> Option<u32>
+    ensures value { option_map number result
+        ≡ value_or_default workers_option
+        (first_of workers_option.name (rows_of (found_of arguments.now))) }
+    ensures from { IfSome result (λ n. 1 ≤ n) }
+    ensures within { IfSome result (λ n. n ≤ 64) }
+{
+    match value(arguments, "workers") {
+        Some(text) => Some(number_in(1, 64, text)? as u32),
+        None => Some(1),
+    }
+}
+
 fn build_in<'a>(arguments: &ArgMatches<'a>) -> Option<Command<'a>>
-    ensures { option_map plain_command result
+    ensures command { option_map plain_command result
         ≡ read_by build_form (rows_of (found_of arguments.now)) }
+    ensures workers { IfSome result HasWorkers }
 {
     Some(Command::Build {
         source: value(arguments, "IN")?,
         image: value(arguments, "OUT")?,
         recipe: recipe_in(arguments),
+        workers: workers_in(arguments)?,
     })
 }
 
@@ -135,9 +154,10 @@ fn generate_in<'a>(arguments: &ArgMatches<'a>) -> Option<Command<'a>>
 
 /// The command of this name with these arguments.
 fn command_named<'a>(name: &str, arguments: &ArgMatches<'a>) -> Option<Command<'a>>
-    ensures { option_map plain_command result
+    ensures command { option_map plain_command result
         ≡ option_and_then (λ form. read_by form (rows_of (found_of arguments.now)))
         (form_named name.now forms) }
+    ensures workers { IfSome result HasWorkers }
 {
     match name {
         "build" => build_in(arguments),
@@ -149,7 +169,9 @@ fn command_named<'a>(name: &str, arguments: &ArgMatches<'a>) -> Option<Command<'
 
 /// The command that the arguments name.
 fn command_in<'a>(arguments: &ArgMatches<'a>) -> Option<Command<'a>>
-    ensures { option_map plain_command result ≡ found_by forms (subcommand_rows_of arguments.now) }
+    ensures command { option_map plain_command result
+        ≡ found_by forms (subcommand_rows_of arguments.now) }
+    ensures workers { IfSome result HasWorkers }
 {
     let (name, arguments) = arguments.subcommand()?;
     command_named(name, arguments)
@@ -161,8 +183,9 @@ fn read_arguments<'a>(
     alloc: Global,
     arguments: &'a [String],
 ) -> Result<Option<Command<'a>>, AllocError>
-    ensures { IfOk result (λ command. option_map plain_command command
+    ensures command { IfOk result (λ command. option_map plain_command command
         ≡ read_command (map string_bytes arguments.entry.now)) }
+    ensures workers { IfOk result (λ command. IfSome command HasWorkers) }
 {
     match rvcc(alloc)?.try_get_matches_from(arguments) {
         Ok(matches) => Ok(command_in(&matches)),
@@ -174,13 +197,14 @@ fn read_arguments<'a>(
 }
 
 /// The command of the arguments, the program's name first; `None` where they are no command. No
-/// arguments at all are read as the name alone.
+/// arguments at all are read as the name alone. A build is by 1 to 64 workers.
 pub fn parse_command<'a>(
     alloc: Global,
     arguments: &'a [String],
 ) -> Result<Option<Command<'a>>, AllocError>
-    ensures { IfOk result (λ command. option_map plain_command command
+    ensures command { IfOk result (λ command. option_map plain_command command
         ≡ command_of (map string_bytes arguments.entry.now)) }
+    ensures workers { IfOk result (λ command. IfSome command HasWorkers) }
 {
     if arguments.len() <= 1 {
         Ok(Some(Command::Accept))

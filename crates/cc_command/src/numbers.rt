@@ -31,6 +31,7 @@ pub fn number_in(least: u64, most: u64, text: &str) -> Option<u64>
     requires ordered { least ≤ most }
     requires small { most < 10 ^ 18 }
     ensures value { result ≡ number_in least most text.now }
+    ensures from { IfSome result (λ n. least ≤ n) }
     ensures within { IfSome result (λ n. n ≤ most) }
 {
     let digits = text.as_bytes();
