@@ -1,13 +1,13 @@
--- A board of one worker.
+-- Boards as they are opened, the results of all jobs, and what the one worker of a board does.
 use Rattle.std.specs.Prelude.{◌≡◌, ℕ, ◌<◌, List, [], length, slice_get}
 use Rattle.board_core.specs.Board.{Program, Held, job_at}
 use Rattle.board_core.specs.Answers.{answer}
 use Rattle.board_core.specs.Calls.{SomebodyStopped}
 use Rattle.board_core.specs.History.{History, state_of}
 
--- a work as it is opened for one worker
-abbrev pub opened : {W : Type 0} → (ranks : List ℕ) → (deps : List (List ℕ)) → W → History W
-opened ranks deps work = record { ranks = ranks; deps = deps; workers = 1; work = work; events = [] }
+-- a work as it is opened for so many workers
+abbrev pub opened : {W : Type 0} → (workers : ℕ) → (ranks : List ℕ) → (deps : List (List ℕ)) → W → History W
+opened workers ranks deps work = record { ranks = ranks; deps = deps; workers = workers; work = work; events = [] }
 
 -- these are the results of all jobs, in order, by the recursion on ranks
 pub record AreResults {M : Type 0} (program : Program M) (results : List M) : Type 0 where

@@ -15,20 +15,25 @@ use no_memory::NoMemory;
 use std::alloc::Global;
 use std::sync::Arc;
 
-// A board of one worker.
-fn open<W: Work>(
+/// A board of at most 64 workers, for a work of at most 512 jobs. The job j has the rank `ranks[j]`
+/// and depends on the jobs `deps[j]`, whose ranks are smaller. `NoMemory` only where the allocator
+/// has none.
+pub fn open<W: Work>(
     alloc: Global,
     work: &W,
     ranks: &[u32],
     deps: &[Vec<u32>],
+    workers: u32,
 ) -> Result<Board<W>, NoMemory>
     requires jobs { length deps.now ≡ W.jobs work.now }
     requires few { length deps.now ≤ 512 }
-    requires ranked { IsRanked
-        (program_of W.made (opened ranks.now (dep_lists deps.now) work.now)) }
-    ensures { IfOk result (λ board. board ≡ opened ranks.now (dep_lists deps.now) work.now) }
+    requires few_workers { workers ≤ 64 }
+    requires ranked { IsRanked (program_of W.made
+        (opened workers ranks.now (dep_lists deps.now) work.now)) }
+    ensures { IfOk result (λ board.
+        board ≡ opened workers ranks.now (dep_lists deps.now) work.now) }
 {
-    match Board::open(alloc, work, ranks, deps, 1) {
+    match Board::open(alloc, work, ranks, deps, workers) {
         Ok(board) => Ok(board),
         Err(OpenFault::NoMemory) => Err(NoMemory),
         Err(OpenFault::BadDeps { .. }) => unreachable!(),
@@ -116,13 +121,13 @@ pub fn do_jobs<W: Work>(
 ) -> Result<Vec<Arc<W::Made>>, NoMemory>
     requires jobs { length deps.now ≡ W.jobs work.now }
     requires few { length deps.now ≤ 512 }
-    requires ranked { IsRanked
-        (program_of W.made (opened ranks.now (dep_lists deps.now) work.now)) }
+    requires ranked { IsRanked (program_of W.made
+        (opened 1 ranks.now (dep_lists deps.now) work.now)) }
     ensures { IfOk result (λ all. AreResults
-        (program_of W.made (opened ranks.now (dep_lists deps.now) work.now))
+        (program_of W.made (opened 1 ranks.now (dep_lists deps.now) work.now))
         (map arc_value all.items)) }
 {
-    let mut board = open(alloc, work, ranks, deps)?;
+    let mut board = open(alloc, work, ranks, deps, 1)?;
     finish_all(alloc, work, &mut board)?;
     all_results(alloc, board)
 }
