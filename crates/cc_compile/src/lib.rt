@@ -9,5 +9,5 @@ mod source;
 mod typed;
 
 pub use fault::CompileFault;
-pub use source::{Compiled, compile_one, typed_of};
+pub use source::{Compiled, compile, compile_one, typed_of};
 pub use typed::compile_typed;

@@ -1,5 +1,5 @@
 //! From a source to the file.
-ghost use Rattle.std.specs.Prelude.{◌≡◌, length, IfErr, IfOk, None};
+ghost use Rattle.std.specs.Prelude.{◌≡◌, ◌<◌, ◌≤◌, length, IfErr, IfOk, None};
 ghost use Rattle.c_ast.specs.Externals.{unit_tree};
 ghost use Rattle.c_typed.specs.Typed.{ProgramTree};
 ghost use Rattle.c_typed.specs.WellTyped.{IsWellTyped};
@@ -8,7 +8,8 @@ ghost use Rattle.cc_compile.specs.Accepted.{Accepts, Checks, HasTree, Refuses};
 ghost use Rattle.cc_compile.specs.Compiled.{IsImageUnder};
 
 use crate::fault::CompileFault;
-use crate::typed::compile_typed;
+use crate::typed::{compile_typed, compile_typed_by_workers};
+use board_work::Gate;
 use c_ast::Unit;
 use c_check::check;
 use c_lex::lex;
@@ -16,6 +17,8 @@ use c_parse::parse;
 use c_typed::Typed;
 use g_pass::Recipe;
 use std::alloc::Global;
+use std::sync::Wait;
+use std::thread::Threads;
 
 /// What a source is compiled to.
 #[derive(Drop)]
@@ -63,6 +66,37 @@ pub fn compile_one(alloc: Global, source: &[u8], recipe: &Recipe) -> Result<Comp
     let typed = typed_of(alloc, source)?;
     let functions = typed.functions.len() as u32;
     let image = compile_typed(alloc, &typed, recipe);
+    drop(typed);
+    Ok(Compiled {
+        image: image?,
+        functions,
+    })
+}
+
+/// Compiles a source text under a recipe to an executable file, whose functions 1 to 64 workers
+/// make, each worker in a thread of its own where one can be made. A worker passes the gate for each
+/// function, by its number, before it makes it.
+///
+/// The answers are those of `compile_one`, however the steps of the workers interleave. It may wait,
+/// and nothing is promised of its returning.
+pub fn compile<H: Threads + Wait + Sync, G: Gate>(
+    rt: &H,
+    alloc: Global,
+    source: &[u8],
+    recipe: &Recipe,
+    workers: u32,
+    gate: &G,
+) -> Result<Compiled, CompileFault>
+    requires some_worker { 0 < workers }
+    requires few_workers { workers ≤ 64 }
+    ensures accepted { IfOk result (λ c. (p : ProgramTree)
+        × Accepts source.now p × IsImageUnder recipe.now p c.image.items
+        × (c.functions ≡ length p.functions)) }
+    ensures refused { IfErr result (λ e. Refuses e source.now) }
+{
+    let typed = typed_of(alloc, source)?;
+    let functions = typed.functions.len() as u32;
+    let image = compile_typed_by_workers(rt, alloc, &typed, recipe, workers, gate);
     drop(typed);
     Ok(Compiled {
         image: image?,

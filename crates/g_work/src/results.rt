@@ -9,14 +9,17 @@ ghost use Rattle.g_recipe.specs.Answers.{AreAnswers};
 ghost use Rattle.g_pass.specs.Sweep.{rules};
 
 use crate::jobs::LambdaJobs;
+use board_crew::do_jobs_by_workers;
 use board_one::do_jobs;
+use board_work::Gate;
 use g_graph::{Lambda, Optimised};
 use g_order::laws::{complete_lists_know_calls, orders_are_unique};
 use g_order::order;
 use g_pass::Recipe;
 use no_memory::NoMemory;
 use std::alloc::Global;
-use std::sync::Arc;
+use std::sync::{Arc, Wait};
+use std::thread::Threads;
 
 /// What a recipe makes of each lambda of a complete list of at most 512, which have fewer than 2^32
 /// values each, in the order of the list: each is given what the functions of other units that it
@@ -38,4 +41,32 @@ pub fn answers(
     let work = LambdaJobs::new(lambdas, recipe);
     let order = order(alloc, lambdas)?;
     do_jobs(alloc, &work, &order.ranks, &order.deps)
+}
+
+/// What a recipe makes of each lambda of a complete list, as `answers` has it, made by 1 to 64
+/// workers, each in a thread of its own where one can be made. A worker passes the gate for each
+/// lambda, by its number, before it makes it. `NoMemory` only where the allocator has none. It may
+/// wait, and nothing is promised of its returning.
+pub fn answers_by_workers<H: Threads + Wait + Sync, G: Gate>(
+    rt: &H,
+    alloc: Global,
+    lambdas: &[Lambda],
+    recipe: &Recipe,
+    workers: u32,
+    gate: &G,
+) -> Result<Vec<Arc<Optimised>>, NoMemory>
+    requires few { length lambdas.now ≤ most_functions }
+    requires complete { IsComplete lambdas.now }
+    requires small { (f : ℕ) (l : PlainLambda)
+        → slice_get lambdas.now f ≡ Some l → lambda_values l < 2 ^ 32 }
+    requires some_worker { 0 < workers }
+    requires few_workers { workers ≤ 64 }
+    ensures { IfOk result
+        (λ all. AreAnswers rules recipe.now lambdas.now (map arc_value all.items)) }
+{
+    complete_lists_know_calls();
+    orders_are_unique();
+    let work = LambdaJobs::new(lambdas, recipe);
+    let order = order(alloc, lambdas)?;
+    do_jobs_by_workers(rt, alloc, &work, &order.ranks, &order.deps, workers, gate)
 }

@@ -24,9 +24,9 @@ do_jobs-requires-clause-ranked c κs =
     let deps = call_lists c.in_ok-order.order.deps.items in
     let order = c.in_ok-order.ensures in
     let same =
-    same_program law recipe ls ranks deps order c.new-work.result c.deref.result.now (dep_lists c.deref-2.result.now) c.new-work.ensures c.deref.ensures.value
+    same_program law recipe ls ranks deps order 1 c.new-work.result c.deref.result.now (dep_lists c.deref-2.result.now) c.new-work.ensures c.deref.ensures.value
     (ap dep_lists c.deref-2.ensures.value) in
-    subst (λ (p : Program PlainOptimised). IsRanked p) (sym same) (ranked law recipe ls ranks deps order)
+    subst (λ (p : Program PlainOptimised). IsRanked p) (sym same) (ranked law recipe ls ranks deps order 1)
 
 pub returns : goal.returns
 returns c =
@@ -37,9 +37,9 @@ returns c =
     let deps = call_lists c.in_ok-order.order.deps.items in
     let order = c.in_ok-order.ensures in
     let same =
-    same_program law recipe ls ranks deps order c.new-work.result c.deref.result.now (dep_lists c.deref-2.result.now) c.new-work.ensures c.deref.ensures.value
+    same_program law recipe ls ranks deps order 1 c.new-work.result c.deref.result.now (dep_lists c.deref-2.result.now) c.new-work.ensures c.deref.ensures.value
     (ap dep_lists c.deref-2.ensures.value) in
     IfOk-weaker c.do_jobs.result _ (λ all. AreAnswers rules recipe ls (map arc_value all.items))
     (λ all are.
-    answered law recipe ls ranks deps order (map arc_value all.items) (subst (λ (p : Program PlainOptimised). AreResults p (map arc_value all.items)) same are))
+    answered law recipe ls ranks deps order 1 (map arc_value all.items) (subst (λ (p : Program PlainOptimised). AreResults p (map arc_value all.items)) same are))
     c.do_jobs.ensures
