@@ -1,5 +1,5 @@
 -- A source is accepted, or has a fault.
-use Rattle.std.specs.Prelude.{◌≡◌, ◌≢◌, ◌⊎◌, ℕ, ◌≤◌, List, [], ◌∷◌, length, Option, Some, None, MatchOption, Result, Ok, Err, map}
+use Rattle.std.specs.Prelude.{◌≡◌, ◌≢◌, ◌⊎◌, ℕ, ◌≤◌, List, [], ◌∷◌, length, Option, Some, None, Result, Ok, Err, map}
 use Rattle.std.proofs.Common.{refl, sym, ap, ◌∙◌, subst, inl, inr, arith}
 use Rattle.c_lex.specs.Tokens.{lexed}
 use Rattle.c_lex.specs.declared.fault.LexFault.{LexFault}
@@ -11,13 +11,12 @@ use Rattle.c_ast.specs.Tree.{Tree}
 use Rattle.c_grammar.specs.Beginnings.{WrongFrom}
 use Rattle.c_grammar.proofs.GrammarLaws.{one_tree_at_spans, tree_or_wrong}
 use Rattle.c_parse.specs.LeftOut.{first_left_out}
-use Rattle.c_parse.specs.Refusal.{IsTreeOf, offset_of}
+use Rattle.c_parse.specs.Refusal.{offset_of}
 use Rattle.c_parse.specs.declared.fault.ParseFault.TheVariants as parse
 use Rattle.c_parse.proofs.FirstDeep.{Found, first_deep, finds}
 use Rattle.c_typed.specs.Typed.{ProgramTree}
 use Rattle.c_elaboration.specs.Check.{check}
 use Rattle.c_elaboration.specs.Refusals.{Refusal, rule_broken, no_main, above_limit}
-use Rattle.c_elaboration.specs.declared.rule.Broken.{Broken}
 use Rattle.c_elaboration.specs.declared.rule.Rule.{Rule}
 use Rattle.c_elaboration.specs.declared.rule.Rule.TheVariants as rule
 use Rattle.c_check.specs.Faults as checker

@@ -1,9 +1,7 @@
 -- A source is accepted as one program, or refused for one reason.
 use Rattle.std.proofs.Common.{◌≡◌, ◌≢◌, ℕ, List, length, refl, sym, ap, ◌∙◌, subst}
-use Rattle.std.specs.Prelude.{Option, None, Some, Result, Ok, Err}
+use Rattle.std.specs.Prelude.{None, Result, Ok, Err}
 use Rattle.c_lex.specs.Tokens.{lexed}
-use Rattle.c_lex.specs.declared.fault.LexFault.{LexFault}
-use Rattle.c_lex.specs.declared.token.Token.{Token}
 use Rattle.c_ast.specs.Spelling.{tokens_of}
 use Rattle.c_ast.specs.Tree.{Tree}
 use Rattle.c_parse.specs.Refusal.{IsTreeOf, Answers, Agree, OneAnswer, ShapedIsAccepted}
@@ -20,11 +18,9 @@ use Rattle.c_check.specs.declared.fault.CheckFault.{CheckFault}
 use Rattle.c_check.specs.declared.fault.CheckFault.TheVariants as checker
 use Rattle.g_build.specs.Answer.{limit_named}
 use Rattle.g_build.specs.Passed.{limit_passed}
-use Rattle.g_build.specs.declared.passed.Passed.{Passed}
 use Rattle.g_build.specs.declared.omega.BuildFault.{BuildFault}
 use Rattle.g_build.specs.declared.omega.BuildFault.TheVariants as build
 use Rattle.cc_compile.specs.Accepted.{HasTree, Checks, Accepts, Refuses, OneProgram, OneFault, AcceptedIsNotRefused}
-use Rattle.cc_compile.specs.declared.fault.CompileFault.{CompileFault}
 use Rattle.cc_compile.specs.declared.fault.CompileFault.TheVariants as fault
 
 -- ---- one answer

@@ -1,6 +1,6 @@
 -- Images of programs under recipes.
 use Rattle.std.proofs.Common.{◌≡◌, List, [], ◌∷◌, map, refl, sym, ap, ◌∙◌}
-use Rattle.g_graph.specs.Plain.{PlainLambda, PlainOptimised}
+use Rattle.g_graph.specs.Plain.{PlainLambda}
 use Rattle.g_graph.specs.Program.{lambda_values}
 use Rattle.g_construct.specs.Functions.{graph, omega}
 use Rattle.g_built.specs.BuiltLaws.{WellTypedAreBuilt, SmallAreWithinLimits}

@@ -1,4 +1,4 @@
-use Rattle.std.proofs.Common.{◌≡◌, ◌+◌, ◌*◌, ◌≤◌, sym, subst}
+use Rattle.std.proofs.Common.{◌+◌, ◌*◌, ◌≤◌, sym, subst}
 use Rattle.std.specs.List.{sum_by}
 use Rattle.limits.specs.Limits.{most_functions, most_program_values}
 use Rattle.g_graph.specs.Plain.{PlainOmega}

@@ -1,7 +1,6 @@
 use Rattle.std.proofs.Common.{ap, ◌∙◌, map}
 use Rattle.std.specs.Arc.{arc_value}
 use Rattle.elf_file.specs.Written.{file_of}
-use Rattle.cc_image.specs.Image.{image_of}
 use Rattle.std.proofs.lemmas.Result.{IfOk-weaker}
 use Rattle.cc_compile.specs.Compiled.{IsFileUnder}
 use Rattle.cc_compile.proofs.typed.file_with.Goals as goal
