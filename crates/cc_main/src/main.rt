@@ -3,6 +3,7 @@
 //! error.
 #![tactic(auto)]
 
+use board_work::OpenGate;
 use cc_io::{DirFiles, StdSink, StdSource, write_all};
 use cc_top::top;
 use std::alloc::{AllocError, Global};
@@ -10,6 +11,8 @@ use std::env;
 use std::io::ErrorKind;
 use std::process::ExitCode;
 use std::rt::Env;
+use std::sync::Wait;
+use std::thread::Threads;
 
 /// The status where memory ran out before the top call, which has the same for its own.
 const NO_MEMORY: u8 = 6;
@@ -32,19 +35,22 @@ fn words_of(rt: &(impl Env + AllocGlobal)) -> Result<Vec<String>, AllocError> {
     }
 }
 
-fn run(rt: &HostRuntime) -> Result<u8, AllocError> {
+/// What `rt` has for threads is handed in as `workers`.
+fn run<H: Threads + Wait + Sync>(rt: &HostRuntime, workers: &H) -> Result<u8, AllocError> {
     let words = words_of(rt)?;
     let mut files = DirFiles::new(rt.alloc(), rt, ".")?;
     let mut input = StdSource::new(rt.stdin());
     let mut output = StdSink::new(rt.stdout());
     let mut report = StdSink::new(rt.stderr());
     Ok(top(
+        workers,
         rt.alloc(),
         &words,
         &mut files,
         &mut input,
         &mut output,
         &mut report,
+        &OpenGate,
     ))
 }
 
@@ -57,7 +63,7 @@ fn report_no_memory(rt: &HostRuntime) -> u8 {
 }
 
 fn main(rt: HostRuntime) -> ExitCode {
-    ExitCode::from(match run(&rt) {
+    ExitCode::from(match run(&rt, &rt) {
         Ok(status) => status,
         Err(_) => report_no_memory(&rt),
     })

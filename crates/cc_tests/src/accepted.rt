@@ -22,7 +22,14 @@ fn a_source_on_the_input_is_accepted(rt: HostRuntime) -> Result<(), Fail> {
     ];
     for (source, output) in rows {
         for texts in [[].as_slice(), &["rvcc"]] {
-            let left = called(alloc, texts, ("in", b"kept"), source, [&[], &[], &[], &[]])?;
+            let left = called(
+                &rt,
+                alloc,
+                texts,
+                ("in", b"kept"),
+                source,
+                [&[], &[], &[], &[]],
+            )?;
             assert_eq!(rt; left.status, 0);
             assert_eq!(rt; left.output.bytes(), output);
             assert_eq!(rt; left.report.bytes().len(), 0);
@@ -45,7 +52,7 @@ fn failing_streams_have_their_status(rt: HostRuntime) -> Result<(), Fail> {
         (REFUSED, [&[], &[], &[0], &[0]], 3, b"", b""),
     ];
     for (source, failing, status, output, report) in rows {
-        let left = called(alloc, &["rvcc"], ("in", b""), source, failing)?;
+        let left = called(&rt, alloc, &["rvcc"], ("in", b""), source, failing)?;
         assert_eq!(rt; left.status, status);
         assert_eq!(rt; left.output.bytes(), output);
         assert_eq!(rt; left.report.bytes(), report);

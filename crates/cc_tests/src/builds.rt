@@ -3,17 +3,19 @@ use crate::calls::{ANSWER, BUILD, called_on};
 use cc_gen::generate;
 use cc_io::MemSink;
 use std::alloc::{AllocError, Global};
+use std::sync::Wait;
 use std::test::Fail;
+use std::thread::Threads;
 
 #[test]
 fn long_sources_are_refused(rt: HostRuntime) -> Result<(), Fail> {
     let alloc = rt.alloc();
     let mut source = ANSWER.to_vec(alloc)?;
     source.resize(1_048_576, b' ')?;
-    assert_eq!(rt; called_on(alloc, &BUILD, &source, &[])?.status, 0);
+    assert_eq!(rt; called_on(&rt, alloc, &BUILD, &source, &[])?.status, 0);
     source[100] = b'\n';
     source.push(b'\n')?;
-    let left = called_on(alloc, &BUILD, &source, &[])?;
+    let left = called_on(&rt, alloc, &BUILD, &source, &[])?;
     assert_eq!(rt; left.status, 4);
     assert_eq!(rt;
         left.report.bytes(),
@@ -25,7 +27,7 @@ fn long_sources_are_refused(rt: HostRuntime) -> Result<(), Fail> {
 #[test]
 fn other_words_are_usage(rt: HostRuntime) -> Result<(), Fail> {
     let alloc = rt.alloc();
-    let rows: [&[&str]; 20] = [
+    let rows: [&[&str]; 24] = [
         &["rvcc", "build"],
         &["rvcc", "build", "in"],
         &["rvcc", "build", "in", "out", "out"],
@@ -42,13 +44,17 @@ fn other_words_are_usage(rt: HostRuntime) -> Result<(), Fail> {
         &["rvcc", "build", "in", "out", "--recipe", "ivt"],
         &["rvcc", "build", "in", "out", "--recipe"],
         &["rvcc", "build", "in", "out", "--recipe=cne", "--recipe=cne"],
+        &["rvcc", "build", "in", "out", "--workers", "65"],
+        &["rvcc", "build", "in", "out", "--workers=0"],
+        &["rvcc", "build", "in", "out", "--workers="],
+        &["rvcc", "build", "in", "out", "--workers", "+4"],
         &["rvcc", "gen", "+1", "1", "out"],
         &["rvcc", "gen", "4294967296", "1", "out"],
         &["rvcc", "gen", "1", "512", "out"],
         &["rvcc", "gen", "1", "", "out"],
     ];
     for texts in rows {
-        let left = called_on(alloc, texts, ANSWER, &[])?;
+        let left = called_on(&rt, alloc, texts, ANSWER, &[])?;
         assert_eq!(rt; left.status, 1);
         assert!(rt;
             left.report
@@ -58,10 +64,13 @@ fn other_words_are_usage(rt: HostRuntime) -> Result<(), Fail> {
         assert!(rt; left.files.get("out").is_none());
     }
     let after_hyphens = ["rvcc", "build", "--", "in", "out"];
-    assert_eq!(rt; called_on(alloc, &after_hyphens, ANSWER, &[])?.status, 0);
+    assert_eq!(rt;
+        called_on(&rt, alloc, &after_hyphens, ANSWER, &[])?.status,
+        0
+    );
     let before = ["rvcc", "build", "--recipe", "fold,dne", "in", "out"];
-    assert_eq!(rt; called_on(alloc, &before, ANSWER, &[])?.status, 0);
-    let missing = called_on(alloc, &["rvcc", "build", "none", "out"], ANSWER, &[])?;
+    assert_eq!(rt; called_on(&rt, alloc, &before, ANSWER, &[])?.status, 0);
+    let missing = called_on(&rt, alloc, &["rvcc", "build", "none", "out"], ANSWER, &[])?;
     assert_eq!(rt; missing.status, 2);
     assert_eq!(rt; missing.report.bytes(), b"read fault\n".as_slice());
     assert!(rt; missing.files.get("out").is_none());
@@ -73,7 +82,7 @@ const GEN: [&str; 5] = ["rvcc", "gen", "1", "1", "out"];
 #[test]
 fn a_program_is_generated(rt: HostRuntime) -> Result<(), Fail> {
     let alloc = rt.alloc();
-    let left = called_on(alloc, &GEN, ANSWER, &[])?;
+    let left = called_on(&rt, alloc, &GEN, ANSWER, &[])?;
     assert_eq!(rt; left.status, 0);
     assert_eq!(rt; left.report.bytes().len(), 0);
     let mut text = MemSink::new(alloc, Vec::new(alloc));
@@ -81,13 +90,14 @@ fn a_program_is_generated(rt: HostRuntime) -> Result<(), Fail> {
     assert_eq!(rt; left.files.get("out"), Some(text.bytes()));
     assert_eq!(rt; left.files.get("in"), Some(ANSWER));
 
-    let uncreated = called_on(alloc, &GEN, ANSWER, &[0])?;
+    let uncreated = called_on(&rt, alloc, &GEN, ANSWER, &[0])?;
     assert_eq!(rt; uncreated.status, 3);
     assert!(rt; uncreated.files.get("out").is_none());
 
     // Call 0 creates, and call 1 writes the first chunk.
     for (count, failing, left) in [("1", 1, 0), ("100", 2, 4096)] {
         let cut = called_on(
+            &rt,
             alloc,
             &["rvcc", "gen", "1", count, "out"],
             ANSWER,
@@ -101,15 +111,15 @@ fn a_program_is_generated(rt: HostRuntime) -> Result<(), Fail> {
 }
 
 /// The image of the first example.
-fn answer_image(alloc: Global) -> Result<Vec<u8>, AllocError> {
-    let left = called_on(alloc, &BUILD, ANSWER, &[])?;
+fn answer_image(rt: &(impl Threads + Wait + Sync), alloc: Global) -> Result<Vec<u8>, AllocError> {
+    let left = called_on(rt, alloc, &BUILD, ANSWER, &[])?;
     left.files.get("out").unwrap_or(b"").to_vec(alloc)
 }
 
 #[test]
 fn images_run_as_the_machine_says(rt: HostRuntime) -> Result<(), Fail> {
     let alloc = rt.alloc();
-    let image = answer_image(alloc)?;
+    let image = answer_image(&rt, alloc)?;
     assert_eq!(rt; image.len(), 8200);
     // A change of the image: its offset and the bytes from there on; the option, the status and the
     // line.
@@ -147,7 +157,7 @@ fn images_run_as_the_machine_says(rt: HostRuntime) -> Result<(), Fail> {
                 *old = *byte;
             }
         }
-        let left = called_on(alloc, &["rvcc", "run", "in", steps], &changed, &[])?;
+        let left = called_on(&rt, alloc, &["rvcc", "run", "in", steps], &changed, &[])?;
         assert_eq!(rt; left.status, status);
         assert_eq!(rt; left.report.bytes(), line);
     }
@@ -159,6 +169,7 @@ fn images_run_as_the_machine_says(rt: HostRuntime) -> Result<(), Fail> {
         (8199, b"image BadSegment 4\n"),
     ] {
         let left = called_on(
+            &rt,
             alloc,
             &["rvcc", "run", "in"],
             image.get(..len).unwrap_or(b""),

@@ -1,7 +1,10 @@
 //! Calls of the top call over files in memory.
+use board_work::{Gate, OpenGate};
 use cc_io::{MemFiles, MemSink, MemSource};
 use cc_top::top;
 use std::alloc::{AllocError, Global};
+use std::sync::Wait;
+use std::thread::Threads;
 
 /// The arguments of a build of the file `in`.
 pub const BUILD: [&str; 4] = ["rvcc", "build", "in", "out"];
@@ -29,11 +32,25 @@ fn words_of(alloc: Global, texts: &[&str]) -> Result<Vec<String>, AllocError> {
 /// Calls `top` with these words on a file of this name and these bytes. The numbered calls on the
 /// files, the input, the output and the report, in this order, fail.
 pub fn called(
+    rt: &(impl Threads + Wait + Sync),
     alloc: Global,
     texts: &[&str],
     file: (&str, &[u8]),
     input: &[u8],
     failing: [&[u64]; 4],
+) -> Result<Left, AllocError> {
+    called_through(rt, alloc, texts, file, input, failing, &OpenGate)
+}
+
+/// The same, through this gate.
+fn called_through<G: Gate>(
+    rt: &(impl Threads + Wait + Sync),
+    alloc: Global,
+    texts: &[&str],
+    file: (&str, &[u8]),
+    input: &[u8],
+    failing: [&[u64]; 4],
+    gate: &G,
 ) -> Result<Left, AllocError> {
     let words = words_of(alloc, texts)?;
     let (name, bytes) = file;
@@ -43,12 +60,14 @@ pub fn called(
     let mut output = MemSink::new(alloc, failing[2].to_vec(alloc)?);
     let mut report = MemSink::new(alloc, failing[3].to_vec(alloc)?);
     let status = top(
+        rt,
         alloc,
         &words,
         &mut files,
         &mut input,
         &mut output,
         &mut report,
+        gate,
     );
     Ok(Left {
         status,
@@ -61,15 +80,53 @@ pub fn called(
 /// Calls `top` with these words on a file `in` of these bytes, the numbered calls on the files
 /// failing.
 pub fn called_on(
+    rt: &(impl Threads + Wait + Sync),
     alloc: Global,
     texts: &[&str],
     source: &[u8],
     failing: &[u64],
 ) -> Result<Left, AllocError> {
-    called(alloc, texts, ("in", source), b"", [failing, &[], &[], &[]])
+    called(
+        rt,
+        alloc,
+        texts,
+        ("in", source),
+        b"",
+        [failing, &[], &[], &[]],
+    )
 }
 
 /// Calls `top` without arguments on an input of these bytes.
-pub fn answered(alloc: Global, source: &[u8]) -> Result<Left, AllocError> {
-    called(alloc, &["rvcc"], ("in", b""), source, [&[], &[], &[], &[]])
+pub fn answered(
+    rt: &(impl Threads + Wait + Sync),
+    alloc: Global,
+    source: &[u8],
+) -> Result<Left, AllocError> {
+    called(
+        rt,
+        alloc,
+        &["rvcc"],
+        ("in", b""),
+        source,
+        [&[], &[], &[], &[]],
+    )
+}
+
+/// Builds a file `in` of these bytes by so many workers, through this gate.
+pub fn built_through<G: Gate>(
+    rt: &(impl Threads + Wait + Sync),
+    alloc: Global,
+    workers: &str,
+    source: &[u8],
+    gate: &G,
+) -> Result<Left, AllocError> {
+    called_through(
+        rt,
+        alloc,
+        &["rvcc", "build", "in", "out", "--workers", workers],
+        ("in", source),
+        b"",
+        [&[], &[], &[], &[]],
+        gate,
+    )
 }

@@ -14,3 +14,5 @@ mod programs;
 mod refusals;
 #[cfg(test)]
 mod runs;
+#[cfg(test)]
+mod workers;

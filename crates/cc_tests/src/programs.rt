@@ -1,7 +1,9 @@
 //! Programs that are built and run, with what they write and end with.
 use crate::calls::{BUILD, Left, called, called_on};
 use std::alloc::{AllocError, Global};
+use std::sync::Wait;
 use std::test::Fail;
+use std::thread::Threads;
 
 /// Writes what it reads.
 const ECHO: &[u8] =
@@ -145,6 +147,7 @@ int main(void)
 
 /// Builds this source under a recipe and runs its image with this option.
 fn built_and_run(
+    rt: &(impl Threads + Wait + Sync),
     alloc: Global,
     source: &[u8],
     recipe: &str,
@@ -152,9 +155,10 @@ fn built_and_run(
     steps: &str,
 ) -> Result<Left, AllocError> {
     let words = ["rvcc", "build", "in", "out", "--recipe", recipe];
-    let built = called_on(alloc, &words, source, &[])?;
+    let built = called_on(rt, alloc, &words, source, &[])?;
     let image = built.files.get("out").unwrap_or(b"");
     called(
+        rt,
         alloc,
         &["rvcc", "run", "image", steps],
         ("image", image),
@@ -167,12 +171,12 @@ fn built_and_run(
 fn programs_do_what_their_sources_say(rt: HostRuntime) -> Result<(), Fail> {
     let alloc = rt.alloc();
     for (source, input, output, report) in &PROGRAMS {
-        let left = built_and_run(alloc, source, "none", input, "--steps=1000000")?;
+        let left = built_and_run(&rt, alloc, source, "none", input, "--steps=1000000")?;
         assert_eq!(rt; left.status, 0);
         assert_eq!(rt; left.output.bytes(), *output);
         assert_eq!(rt; left.report.bytes(), *report);
     }
-    let squares = built_and_run(alloc, SQUARES, "none", b"", "--steps=1000000")?;
+    let squares = built_and_run(&rt, alloc, SQUARES, "none", b"", "--steps=1000000")?;
     assert_eq!(rt;
         squares.output.bytes(),
         b"1 1\n2 4\n3 9\n4 16\n5 25\n6 36\n7 49\n8 64\n9 81\n10 100\n11 121\n12 144\n".as_slice()
@@ -194,7 +198,7 @@ fn programs_do_the_same_under_recipes(rt: HostRuntime) -> Result<(), Fail> {
     ];
     for (index, recipe) in rows {
         let (source, input, output, report) = PROGRAMS[index];
-        let left = built_and_run(alloc, source, recipe, input, "--steps=1000000")?;
+        let left = built_and_run(&rt, alloc, source, recipe, input, "--steps=1000000")?;
         assert_eq!(rt; left.output.bytes(), output);
         assert_eq!(rt; left.report.bytes(), report);
     }
@@ -206,7 +210,7 @@ fn programs_that_do_not_end_are_stopped(rt: HostRuntime) -> Result<(), Fail> {
     let alloc = rt.alloc();
     let endless = b"int main(void) { while (1); return 0; }";
     for recipe in ["none", "fold,cne,dne,inv,psh"] {
-        let left = built_and_run(alloc, endless, recipe, b"", "--steps=1000")?;
+        let left = built_and_run(&rt, alloc, endless, recipe, b"", "--steps=1000")?;
         assert_eq!(rt; left.status, 7);
         assert_eq!(rt; left.report.bytes(), b"budget\n".as_slice());
     }
@@ -214,13 +218,13 @@ fn programs_that_do_not_end_are_stopped(rt: HostRuntime) -> Result<(), Fail> {
     // Some 140 frames of 60,000 bytes fit into the stack.
     let deep = b"int f(int n) { char a[60000]; a[0] = n; return f(n + 1) + a[0]; }
         int main(void) { return f(0); }";
-    let left = built_and_run(alloc, deep, "none", b"", "--steps=1000000")?;
+    let left = built_and_run(&rt, alloc, deep, "none", b"", "--steps=1000000")?;
     assert_eq!(rt; left.status, 7);
     assert_eq!(rt; left.report.bytes(), b"stack\n".as_slice());
 
     // Of the 524,288 frames of 16 bytes that fit, main has one and each other call writes a byte.
     let writing = b"int f(int n) { putchar(65); return f(n + 1); } int main(void) { return f(0); }";
-    let left = built_and_run(alloc, writing, "none", b"", "--steps=100000000")?;
+    let left = built_and_run(&rt, alloc, writing, "none", b"", "--steps=100000000")?;
     assert_eq!(rt; left.status, 7);
     assert_eq!(rt; left.report.bytes(), b"stack\n".as_slice());
     assert_eq!(rt; left.output.bytes().len(), 524287);
@@ -232,7 +236,7 @@ fn programs_that_do_not_end_are_stopped(rt: HostRuntime) -> Result<(), Fail> {
 fn stores_to_strings_are_stuck(rt: HostRuntime) -> Result<(), Fail> {
     let alloc = rt.alloc();
     let source = b"int main(void) { char *s = \"a\"; *s = 98; return 0; }";
-    let left = built_and_run(alloc, source, "none", b"", "--steps=1000")?;
+    let left = built_and_run(&rt, alloc, source, "none", b"", "--steps=1000")?;
     assert_eq!(rt; left.status, 7);
     assert!(rt; left.report.bytes().starts_with(b"stuck "));
     assert!(rt; left.report.bytes().ends_with(b" 3\n"));
@@ -242,7 +246,7 @@ fn stores_to_strings_are_stuck(rt: HostRuntime) -> Result<(), Fail> {
 #[test]
 fn failing_calls_of_a_build_have_their_status(rt: HostRuntime) -> Result<(), Fail> {
     let alloc = rt.alloc();
-    let whole = called_on(alloc, &BUILD, SQUARES, &[])?;
+    let whole = called_on(&rt, alloc, &BUILD, SQUARES, &[])?;
     let image = whole.files.get("out").unwrap_or(b"");
     assert_eq!(rt; image.len(), 8200);
     // The number of the call that fails, the status, and the bytes of OUT, where it is there.
@@ -257,7 +261,7 @@ fn failing_calls_of_a_build_have_their_status(rt: HostRuntime) -> Result<(), Fai
         (7, 0, Some(8200)),
     ];
     for (failing, status, len) in rows {
-        let left = called_on(alloc, &BUILD, SQUARES, &[failing])?;
+        let left = called_on(&rt, alloc, &BUILD, SQUARES, &[failing])?;
         let out = left.files.get("out");
         assert_eq!(rt; left.status, status, "call {failing}");
         assert_eq!(rt; out.map(|held| held.len()), len, "call {failing}");

@@ -1,7 +1,9 @@
 //! Sources that are refused, and the line that is reported, by a build and from the input alike.
 use crate::calls::{BUILD, answered, called_on};
 use std::alloc::{AllocError, Global};
+use std::sync::Wait;
 use std::test::Fail;
+use std::thread::Threads;
 
 const TOO_DEEP: &[u8] = b"refused TooDeep 22 line 1\n";
 
@@ -138,9 +140,14 @@ fn parenthesised(alloc: Global, count: usize) -> Result<Vec<u8>, AllocError> {
 }
 
 /// Builds this source, and compiles it from the input: both report this line, and leave nothing.
-fn is_refused(alloc: Global, source: &[u8], line: &[u8]) -> Result<bool, AllocError> {
-    let built = called_on(alloc, &BUILD, source, &[])?;
-    let given = answered(alloc, source)?;
+fn is_refused(
+    rt: &(impl Threads + Wait + Sync),
+    alloc: Global,
+    source: &[u8],
+    line: &[u8],
+) -> Result<bool, AllocError> {
+    let built = called_on(rt, alloc, &BUILD, source, &[])?;
+    let given = answered(rt, alloc, source)?;
     Ok(
         built.status == 4
             && built.report.bytes() == line
@@ -155,7 +162,7 @@ fn is_refused(alloc: Global, source: &[u8], line: &[u8]) -> Result<bool, AllocEr
 fn sources_are_refused_at_their_lines(rt: HostRuntime) -> Result<(), Fail> {
     let alloc = rt.alloc();
     for (source, line) in &SOURCES {
-        assert!(rt; is_refused(alloc, source, line)?);
+        assert!(rt; is_refused(&rt, alloc, source, line)?);
     }
     Ok(())
 }
@@ -166,10 +173,10 @@ fn long_and_deep_sources_are_refused(rt: HostRuntime) -> Result<(), Fail> {
     for (byte, count, line) in REPEATED {
         let mut source = Vec::new(alloc);
         source.resize(count, byte)?;
-        assert!(rt; is_refused(alloc, &source, line)?);
+        assert!(rt; is_refused(&rt, alloc, &source, line)?);
     }
-    assert_eq!(rt; answered(alloc, &parenthesised(alloc, 99)?)?.status, 0);
-    assert!(rt; is_refused(alloc, &parenthesised(alloc, 100)?, TOO_DEEP)?);
+    assert_eq!(rt; answered(&rt, alloc, &parenthesised(alloc, 99)?)?.status, 0);
+    assert!(rt; is_refused(&rt, alloc, &parenthesised(alloc, 100)?, TOO_DEEP)?);
     Ok(())
 }
 
@@ -213,7 +220,7 @@ fn limits_are_named_with_their_counts(rt: HostRuntime) -> Result<(), Fail> {
     let alloc = rt.alloc();
     for (front, text, count, back, line) in &LIMITS {
         let source = repeated(alloc, front, text, *count, back)?;
-        assert!(rt; is_refused(alloc, &source, line)?);
+        assert!(rt; is_refused(&rt, alloc, &source, line)?);
     }
     let most = repeated(
         alloc,
@@ -223,7 +230,7 @@ fn limits_are_named_with_their_counts(rt: HostRuntime) -> Result<(), Fail> {
         b"65; 65; }",
     )?;
     assert_eq!(rt;
-        answered(alloc, &most)?.output.bytes(),
+        answered(&rt, alloc, &most)?.output.bytes(),
         b"accepted 1\n".as_slice()
     );
     Ok(())
@@ -243,9 +250,9 @@ fn functions(alloc: Global, count: usize) -> Result<Vec<u8>, AllocError> {
 #[test]
 fn a_program_has_512_functions_at_most(rt: HostRuntime) -> Result<(), Fail> {
     let alloc = rt.alloc();
-    let most = answered(alloc, &functions(alloc, 511)?)?;
+    let most = answered(&rt, alloc, &functions(alloc, 511)?)?;
     assert_eq!(rt; most.output.bytes(), b"accepted 512\n".as_slice());
     let line = b"refused Limit 42 line 513 which 1 count 513\n";
-    assert!(rt; is_refused(alloc, &functions(alloc, 512)?, line)?);
+    assert!(rt; is_refused(&rt, alloc, &functions(alloc, 512)?, line)?);
     Ok(())
 }

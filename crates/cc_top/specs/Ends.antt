@@ -15,7 +15,7 @@ abbrev pub Ends : Option Command → Outcome → Outside → Outside → Type 0
 Ends None ended before after = ((ended ≡ Usage) ⊎ (ended ≡ NoMemory)) × (after ≡ before)
 Ends (Some accept) ended before after =
     AcceptEnds ended before.input after.input before.output after.output × (after.files ≡ before.files)
-Ends (Some (build source image recipe)) ended before after =
+Ends (Some (build source image recipe workers)) ended before after =
     BuildEndsUnder recipe source image ended before.files after.files × KeepsStreams before after
 Ends (Some (generate start functions out)) ended before after =
     GenerateEnds start functions out ended before.files after.files × KeepsStreams before after

@@ -23,10 +23,13 @@ ghost use Rattle.cc_top.specs.Ends.{Ends};
 ghost use Rattle.cc_top.specs.Outside.{files_seen, stream_seen};
 ghost use Rattle.cc_top.specs.Report.{IsReported};
 
+use board_work::Gate;
 use cc_command::{Command, parse_command};
 use cc_io::{Files, Sink, Source};
 use outcome::Outcome;
 use std::alloc::Global;
+use std::sync::Wait;
+use std::thread::Threads;
 
 /// Carries out the command of the arguments `words`, the program's name first, and gives the status
 /// of the process.
@@ -43,7 +46,12 @@ use std::alloc::Global;
 /// 4294967295, to the file OUT. Without arguments the source on `input` is compiled and the line
 /// `accepted F` written on `output`, F being the number of functions that it defines; no file
 /// changes. What a user reads of the end is written on `report`: nothing on status 0 of `build`,
-/// `gen` and the command without arguments, and else a line. The statuses:
+/// `gen` and the command without arguments, and else a line.
+///
+/// With `--workers N`, 1 to 64, N workers make the functions of a build, each in a thread of its own
+/// where one can be made, and 1 where N is not given; each passes `gate` before it makes a function.
+/// OUT is the same for every N. A call may wait, and what is said here holds where it returns. The
+/// statuses:
 ///
 /// - 0: `build` or `gen` wrote OUT, `accepted F` was written, or the program that `run` ran has
 ///   exited; the line has its exit status.
@@ -58,13 +66,15 @@ use std::alloc::Global;
 /// - 6: memory ran out. No file was created or written, and nothing was written on `output`.
 /// - 7: the program that `run` ran used up its stack, was not done after N instructions, or came to
 ///   an instruction that cannot be done.
-pub fn top<F: Files, I: Source, O: Sink, E: Sink>(
+pub fn top<H: Threads + Wait + Sync, F: Files, I: Source, O: Sink, E: Sink, G: Gate>(
+    rt: &H,
     alloc: Global,
     words: &[String],
     files: &mut F,
     input: &mut I,
     output: &mut O,
     report: &mut E,
+    gate: &G,
 ) -> u8
     // There is an outcome that comes at its cause, and it is reported.
     ensures { (ended : Outcome)
@@ -84,17 +94,19 @@ pub fn top<F: Files, I: Source, O: Sink, E: Sink>(
         × IsReported ended result (E.held report.old) (E.held report.new) (E.faults report.old)
         (E.faults report.new) }
 {
-    let outcome = carry_out(alloc, words, files, input, output);
+    let outcome = carry_out(rt, alloc, words, files, input, output, gate);
     report::tell(report, outcome)
 }
 
 /// Carries out the command of the arguments.
-fn carry_out<F: Files, I: Source, O: Sink>(
+fn carry_out<H: Threads + Wait + Sync, F: Files, I: Source, O: Sink, G: Gate>(
+    rt: &H,
     alloc: Global,
     words: &[String],
     files: &mut F,
     input: &mut I,
     output: &mut O,
+    gate: &G,
 ) -> Outcome
     ensures { Ends (command_of (map string_bytes words.now)) result
         (record {
@@ -121,7 +133,8 @@ fn carry_out<F: Files, I: Source, O: Sink>(
             source,
             image,
             recipe,
-        } => build::build(alloc, files, source, image, recipe),
+            workers,
+        } => build::build(rt, alloc, files, source, image, recipe, workers, gate),
         Command::Run { image, steps } => run::run(alloc, files, input, output, image, steps),
         Command::Generate {
             start,

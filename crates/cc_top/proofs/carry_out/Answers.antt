@@ -11,7 +11,7 @@ use Rattle.cc_top.proofs.carry_out.Goals as goal
 memory-ends : (c : Option Command) (x : Outside) → Ends c NoMemory x x
 memory-ends None x = (inr refl, refl)
 memory-ends (Some accept) x = (record { cause = refl; taken = []; rest = prepend-none x.input.bytes }, refl)
-memory-ends (Some (build source image recipe)) x = (record { build = λ rules is. refl; usage = λ none. (inr refl, refl) }, (refl, refl))
+memory-ends (Some (build source image recipe workers)) x = (record { build = λ rules is. refl; usage = λ none. (inr refl, refl) }, (refl, refl))
 memory-ends (Some (generate start functions out)) x = (refl, (refl, refl))
 memory-ends (Some (run image steps)) x = record { cause = (refl, refl); files = refl; run = λ files is. tt }
 
