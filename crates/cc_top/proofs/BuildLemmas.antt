@@ -1,13 +1,10 @@
 -- How a build ends.
-use Rattle.std.proofs.Common.{◌≡◌, ◌⊎◌, ℕ, ◌≤◌, false, List, Option, length, take, option_map, refl, ap, sym, ◌∙◌, subst, inl, inr}
-use Rattle.std.specs.List.{list_all}
-use Rattle.std.proofs.lemmas.Bool.{false≢true}
+use Rattle.std.proofs.Common.{◌≡◌, ◌≢◌, ◌⊎◌, ℕ, ◌≤◌, List, Option, length, take, option_map, refl, sym, ◌∙◌, subst, inl, inr}
 use Rattle.std.specs.Option.{ForSome}
 use Rattle.g_graph.specs.declared.steps.Rule.{Rule}
 use Rattle.cc_io.specs.Faults.{Increased}
 use Rattle.cc_io.specs.Files.{Name, FileSet, content, put_file}
-use Rattle.g_pass.specs.Recipe.{recipe_text, OneRecipe}
-use Rattle.g_pass.specs.Sweep.{is_built}
+use Rattle.g_pass.specs.Recipe.{recipe_text, most_sweeps, OneRecipe}
 use Rattle.cc_top.specs.BuildEnds.{BuildEnds, BuildEndsUnder, IsTextOf}
 use Rattle.cc_top.specs.Outside.{FilesSeen}
 use Rattle.cc_top.specs.Refused.{HasImage}
@@ -41,13 +38,11 @@ module _ (image : Name) (bytes read : List ℕ) (known0 known1 known2 : Option F
 
 -- ---- the recipe
 
-module _ (one : OneRecipe) (text : List ℕ) (recipe : List Rule) where
-  -- a text of a recipe with a rule that is not there
-  pub not_built : text ≡ recipe_text recipe → list_all is_built recipe ≡ false → (other : List Rule) → IsTextOf other text → ⊥
-  not_built written missing other is =
-      let same = one recipe other (sym written ∙ is.written) in
-      false≢true (sym missing ∙ (ap (list_all is_built) same ∙ is.built))
+-- a text that is of no recipe
+pub no_recipe : (text : List ℕ) → ((rules : List Rule) → length rules ≤ most_sweeps → text ≢ recipe_text rules) → (recipe : List Rule) → IsTextOf recipe text → ⊥
+no_recipe text none recipe is = none recipe is.short is.written
 
+module _ (one : OneRecipe) (text : List ℕ) (recipe : List Rule) where
   pub under_it : (source image : Name) (ended : Outcome) (before after : FilesSeen) → IsTextOf recipe text → BuildEnds recipe source image ended before after →
       BuildEndsUnder text source image ended before after
   under_it source image ended before after it ends = record {

@@ -1,10 +1,8 @@
 -- How `build` ends: the cause of each outcome, and what the files hold then.
-use Rattle.std.specs.Prelude.{◌≡◌, ◌≤◌, ◌⊎◌, ℕ, true, List, length, take, option_map}
-use Rattle.std.specs.List.{list_all}
+use Rattle.std.specs.Prelude.{◌≡◌, ◌≤◌, ◌⊎◌, ℕ, List, length, take, option_map}
 use Rattle.std.specs.Option.{ForSome}
 use Rattle.g_graph.specs.declared.steps.Rule.{Rule}
 use Rattle.g_pass.specs.Recipe.{recipe_text, most_sweeps}
-use Rattle.g_pass.specs.Sweep.{is_built}
 use Rattle.cc_io.specs.Faults.{Increased}
 use Rattle.cc_io.specs.Files.{Name, content, put_file}
 use Rattle.cc_top.specs.Outside.{FilesSeen}
@@ -52,11 +50,10 @@ BuildEnds recipe source image _ before after = ⊥
 
 -- ---- the recipe
 
--- the text of a recipe, each rule of which is there
+-- the text of a recipe
 pub record IsTextOf (recipe : List Rule) (text : List ℕ) : Type 0 where
   pub written : text ≡ recipe_text recipe
   pub short : length recipe ≤ most_sweeps
-  pub built : list_all is_built recipe ≡ true
 
 -- The build ends so under the recipe that the text is of. Where it is of none, the arguments are no command.
 pub record BuildEndsUnder (text : List ℕ) (source image : Name) (ended : Outcome) (before after : FilesSeen) : Type 0 where

@@ -79,19 +79,13 @@ fn build_under<H: Threads + Wait + Sync, F: Files, G: Gate>(
     }
 }
 
-/// The recipe of a text; none where it is of no recipe, or names a rule that is not there.
-#[tactic(auto, using(crate::proofs::BuildLemmas::not_built))]
+/// The recipe of a text; none where it is of no recipe.
+#[tactic(auto, using(crate::proofs::BuildLemmas::no_recipe))]
 fn recipe_of(text: &str) -> Option<Recipe>
     ensures some { IfSome result (λ recipe. IsTextOf recipe text.now) }
     ensures none { IfNone result ((recipe : List Rule) → IsTextOf recipe text.now → ⊥) }
 {
-    texts_have_one_recipe();
-    let recipe = Recipe::read(text)?;
-    if recipe.is_built() {
-        Some(recipe)
-    } else {
-        None
-    }
+    Recipe::read(text)
 }
 
 /// Compiles the file named `source` under the recipe of this text to the file named `image`, by 1 to

@@ -11,11 +11,12 @@ use Rattle.r_inv.specs.Rule as inv_rule
 use Rattle.r_push.specs.Rule as push_rule
 use Rattle.r_pull.specs.Rule as pull_rule
 use Rattle.r_unroll.specs.Rule as unroll_rule
+use Rattle.r_invert.specs.Rule as invert_rule
 use Rattle.r_inline.specs.Rule as inline_rule
 use Rattle.r_inline.specs.Called.{called_at}
 
 -- Whether a rule that looks at its lambda alone applies at a node, and what it makes of the lambda there. Inlining looks
--- at callees too, and a rule that is not there yet never applies.
+-- at callees too.
 abbrev pub applies : Rule → PlainLambda → (node : ℕ) → Bool
 applies Fold l n = fold_rule.applies l n
 applies Cne l n = cne_rule.applies l n
@@ -23,7 +24,7 @@ applies Dne l n = dne_rule.applies l n
 applies Inv l n = inv_rule.applies l n
 applies Push l n = push_rule.applies l n
 applies Pull l n = pull_rule.applies l n
-applies Invert l n = false
+applies Invert l n = invert_rule.applies l n
 applies Unroll l n = unroll_rule.applies l n
 applies Inline l n = false
 
@@ -34,7 +35,7 @@ applied Dne n l = dne_rule.dne n l
 applied Inv n l = inv_rule.inv n l
 applied Push n l = push_rule.psh n l
 applied Pull n l = pull_rule.pll n l
-applied Invert n l = l
+applied Invert n l = invert_rule.ivt n l
 applied Unroll n l = unroll_rule.url n l
 applied Inline n l = l
 
@@ -49,18 +50,6 @@ is_backward Pull = true
 is_backward Invert = false
 is_backward Unroll = false
 is_backward Inline = false
-
--- whether a rule is there
-abbrev pub is_built : Rule → Bool
-is_built Fold = true
-is_built Cne = true
-is_built Dne = true
-is_built Inv = true
-is_built Push = true
-is_built Pull = true
-is_built Invert = false
-is_built Unroll = true
-is_built Inline = true
 
 -- the first of these lambdas that has the number
 abbrev pub numbered : ℕ → List PlainLambda → Option PlainLambda

@@ -1,11 +1,8 @@
 ghost use Rattle.std.specs.Prelude.{◌≡◌, ◌≢◌, ◌≤◌, ◌<◌, ◌++◌, ◌∷◌, [], List, IfSome, IfNone, length};
-ghost use Rattle.std.specs.List.{list_all};
 ghost use Rattle.g_graph.specs.declared.steps.Rule.{Rule};
 ghost use Rattle.g_pass.specs.Recipe.{recipe_text, most_sweeps};
-ghost use Rattle.g_pass.specs.Sweep.{is_built};
 
 use crate::names::{after, first_rule};
-use crate::step::is_built;
 use g_graph::Rule;
 use std::marker::Model;
 
@@ -62,13 +59,6 @@ impl Recipe {
     {
         self.rules[self.len] = rule;
         self.len += 1;
-    }
-
-    /// Whether each rule of the recipe is there; one that is not never applies.
-    pub fn is_built(&self) -> bool
-        ensures { result ≡ list_all is_built self.now }
-    {
-        self.as_slice().iter().all(|rule| is_built(*rule))
     }
 
     /// The rules of the sweeps, in order.

@@ -6,7 +6,7 @@ ghost use Rattle.g_graph.specs.WellFormed.{IsWellFormed};
 ghost use Rattle.g_graph.specs.declared.steps.Rule.TheVariants.{Inline};
 ghost use Rattle.g_recipe.specs.Answers.{lambdas_of};
 ghost use Rattle.g_recipe.specs.Sweep.{stepped, tried};
-ghost use Rattle.g_pass.specs.Sweep.{applies, applied, is_backward, is_built, rules};
+ghost use Rattle.g_pass.specs.Sweep.{applies, applied, is_backward, rules};
 
 use crate::callee::inlined_at;
 use g_graph::{Lambda, Optimised, Rule, Step};
@@ -21,13 +21,6 @@ pub const fn is_backward(rule: Rule) -> bool
     matches!(rule, Rule::Dne | Rule::Pull)
 }
 
-/// Whether the rule is there; one that is not never applies.
-pub const fn is_built(rule: Rule) -> bool
-    ensures { result ≡ is_built rule }
-{
-    !matches!(rule, Rule::Invert)
-}
-
 // Whether a rule that looks at its lambda alone applies.
 fn applies(rule: Rule, lambda: &Lambda, node: u32) -> bool
     ensures { result ≡ applies rule lambda.now node }
@@ -40,7 +33,8 @@ fn applies(rule: Rule, lambda: &Lambda, node: u32) -> bool
         Rule::Push => r_push::applies(lambda, node),
         Rule::Pull => r_pull::applies(lambda, node),
         Rule::Unroll => r_unroll::applies(lambda, node),
-        Rule::Invert | Rule::Inline => false,
+        Rule::Invert => r_invert::applies(lambda, node),
+        Rule::Inline => false,
     }
 }
 
@@ -62,7 +56,8 @@ fn apply(alloc: Global, rule: Rule, lambda: &mut Lambda, node: u32) -> Result<()
         Rule::Push => r_push::apply(alloc, lambda, node),
         Rule::Pull => r_pull::apply(alloc, lambda, node),
         Rule::Unroll => r_unroll::apply(alloc, lambda, node),
-        Rule::Invert | Rule::Inline => Ok(()),
+        Rule::Invert => r_invert::apply(alloc, lambda, node),
+        Rule::Inline => Ok(()),
     }
 }
 

@@ -11,6 +11,7 @@ use Rattle.r_inv.specs.Laws.{InvIsAStep}
 use Rattle.r_push.specs.Laws.{PshIsAStep}
 use Rattle.r_pull.specs.Laws.{PllIsAStep}
 use Rattle.r_unroll.specs.Laws.{UrlIsAStep}
+use Rattle.r_invert.specs.Laws.{IvtIsAStep}
 use Rattle.r_inline.specs.Laws.{IlnIsAStep}
 use Rattle.g_pass.specs.Sweep.{applies, applied}
 use Rattle.pass_laws.proofs.Inlined.{inlined_is_a_step}
@@ -20,13 +21,13 @@ where-it-applies : (held : List PlainLambda) (test : Bool) (l x k : PlainLambda)
 where-it-applies held true l x k step e = subst (MayStandFor held l) (same_Some x k e) step
 where-it-applies held false l x k step e = absurd (none-some k e)
 
-pub rules_are_steps : FoldIsAStep → CneIsAStep → DneIsAStep → InvIsAStep → PshIsAStep → PllIsAStep → UrlIsAStep → IlnIsAStep → RulesAreSteps
-rules_are_steps fold cne dne inv psh pll url iln Fold held n l k well all apart e = where-it-applies held (applies Fold l n) l (applied Fold n l) k (fold held n l well) e
-rules_are_steps fold cne dne inv psh pll url iln Cne held n l k well all apart e = where-it-applies held (applies Cne l n) l (applied Cne n l) k (cne held n l well) e
-rules_are_steps fold cne dne inv psh pll url iln Dne held n l k well all apart e = where-it-applies held (applies Dne l n) l (applied Dne n l) k (dne held n l well) e
-rules_are_steps fold cne dne inv psh pll url iln Inv held n l k well all apart e = where-it-applies held (applies Inv l n) l (applied Inv n l) k (inv held n l well) e
-rules_are_steps fold cne dne inv psh pll url iln Push held n l k well all apart e = where-it-applies held (applies Push l n) l (applied Push n l) k (psh held n l well) e
-rules_are_steps fold cne dne inv psh pll url iln Pull held n l k well all apart e = where-it-applies held (applies Pull l n) l (applied Pull n l) k (pll held n l well) e
-rules_are_steps fold cne dne inv psh pll url iln Invert held n l k well all apart e = absurd (none-some k e)
-rules_are_steps fold cne dne inv psh pll url iln Unroll held n l k well all apart e = where-it-applies held (applies Unroll l n) l (applied Unroll n l) k (url held n l well) e
-rules_are_steps fold cne dne inv psh pll url iln Inline held n l k well all apart e = inlined_is_a_step iln held n l k well all e
+pub rules_are_steps : FoldIsAStep → CneIsAStep → DneIsAStep → InvIsAStep → PshIsAStep → PllIsAStep → IvtIsAStep → UrlIsAStep → IlnIsAStep → RulesAreSteps
+rules_are_steps fold cne dne inv psh pll ivt url iln Fold held n l k well all apart e = where-it-applies held (applies Fold l n) l (applied Fold n l) k (fold held n l well) e
+rules_are_steps fold cne dne inv psh pll ivt url iln Cne held n l k well all apart e = where-it-applies held (applies Cne l n) l (applied Cne n l) k (cne held n l well) e
+rules_are_steps fold cne dne inv psh pll ivt url iln Dne held n l k well all apart e = where-it-applies held (applies Dne l n) l (applied Dne n l) k (dne held n l well) e
+rules_are_steps fold cne dne inv psh pll ivt url iln Inv held n l k well all apart e = where-it-applies held (applies Inv l n) l (applied Inv n l) k (inv held n l well) e
+rules_are_steps fold cne dne inv psh pll ivt url iln Push held n l k well all apart e = where-it-applies held (applies Push l n) l (applied Push n l) k (psh held n l well) e
+rules_are_steps fold cne dne inv psh pll ivt url iln Pull held n l k well all apart e = where-it-applies held (applies Pull l n) l (applied Pull n l) k (pll held n l well) e
+rules_are_steps fold cne dne inv psh pll ivt url iln Invert held n l k well all apart e = where-it-applies held (applies Invert l n) l (applied Invert n l) k (ivt held n l well) e
+rules_are_steps fold cne dne inv psh pll ivt url iln Unroll held n l k well all apart e = where-it-applies held (applies Unroll l n) l (applied Unroll n l) k (url held n l well) e
+rules_are_steps fold cne dne inv psh pll ivt url iln Inline held n l k well all apart e = inlined_is_a_step iln held n l k well all e

@@ -13,6 +13,7 @@ pub fn rules_are_steps()
     r_inv::laws::inv_keeps_meaning();
     r_push::laws::psh_keeps_meaning();
     r_pull::laws::pll_keeps_meaning();
+    r_invert::laws::ivt_keeps_meaning();
     r_unroll::laws::url_keeps_meaning();
     r_inline::laws::iln_keeps_meaning();
 }
