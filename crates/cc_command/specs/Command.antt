@@ -42,14 +42,17 @@ read_text a = Some (text a)
 abbrev pub read_number : (least most : ℕ) → Text → Option Value
 read_number least most a = option_map number (number_in least most a)
 
--- `build IN OUT [--recipe LIST] [--workers N]`, LIST being any text, and `none` where it is not given, and N from 1 to 64,
--- and 1 where it is not given
+-- the recipe of a build that names none
+abbrev pub default_recipe : List ℕ
+default_recipe = codes "iln,fold,inv,cne,dne,ivt,psh,pll,url,fold,cne,inv,dne,dne"
+
+-- `build IN OUT [--recipe LIST] [--workers N]`, LIST being any text, and N from 1 to 64, and 1 where it is not given
 abbrev pub build_of : List Value → Option Command
 build_of (text source ∷ text image ∷ text recipe ∷ number workers ∷ []) = Some (build source image recipe workers)
 build_of _ = None
 
 abbrev pub recipe_option : OptionForm
-recipe_option = record { name = codes "recipe"; read = read_text; default = text (codes "none") }
+recipe_option = record { name = codes "recipe"; read = read_text; default = text default_recipe }
 
 abbrev pub workers_option : OptionForm
 workers_option = record { name = codes "workers"; read = read_number 1 64; default = number 1 }

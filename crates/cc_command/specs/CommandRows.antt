@@ -1,6 +1,6 @@
 -- Lists of arguments with their commands.
 use Rattle.std.specs.Prelude.{◌≡◌, ℕ, List, [], ◌∷◌, Option, Some, None, codes}
-use Rattle.cc_command.specs.Command.{Command, accept, build as build_by, run, generate, command_of}
+use Rattle.cc_command.specs.Command.{Command, accept, build as build_by, default_recipe, run, generate, command_of}
 
 -- the command of the arguments after the program's name
 abbrev pub command_after_name : List (List ℕ) → Option Command
@@ -12,11 +12,11 @@ build source image recipe = build_by source image recipe 1
 
 -- how many arguments there are, and what an argument looks like
 pub record BuildRows : Type 0 where
-  pub two_names : command_after_name (codes "build" ∷ codes "a" ∷ codes "b" ∷ []) ≡ Some (build (codes "a") (codes "b") (codes "none"))
-  pub empty_name : command_after_name (codes "build" ∷ [] ∷ codes "b" ∷ []) ≡ Some (build [] (codes "b") (codes "none"))
-  pub lone_hyphen : command_after_name (codes "build" ∷ codes "-" ∷ codes "b" ∷ []) ≡ Some (build (codes "-") (codes "b") (codes "none"))
-  pub hyphens_first : command_after_name (codes "build" ∷ codes "--" ∷ codes "-a" ∷ codes "--" ∷ []) ≡ Some (build (codes "-a") (codes "--") (codes "none"))
-  pub hyphens_between : command_after_name (codes "build" ∷ codes "a" ∷ codes "--" ∷ codes "--b" ∷ []) ≡ Some (build (codes "a") (codes "--b") (codes "none"))
+  pub two_names : command_after_name (codes "build" ∷ codes "a" ∷ codes "b" ∷ []) ≡ Some (build (codes "a") (codes "b") default_recipe)
+  pub empty_name : command_after_name (codes "build" ∷ [] ∷ codes "b" ∷ []) ≡ Some (build [] (codes "b") default_recipe)
+  pub lone_hyphen : command_after_name (codes "build" ∷ codes "-" ∷ codes "b" ∷ []) ≡ Some (build (codes "-") (codes "b") default_recipe)
+  pub hyphens_first : command_after_name (codes "build" ∷ codes "--" ∷ codes "-a" ∷ codes "--" ∷ []) ≡ Some (build (codes "-a") (codes "--") default_recipe)
+  pub hyphens_between : command_after_name (codes "build" ∷ codes "a" ∷ codes "--" ∷ codes "--b" ∷ []) ≡ Some (build (codes "a") (codes "--b") default_recipe)
   pub one_name : command_after_name (codes "build" ∷ codes "a" ∷ []) ≡ None
   pub three_names : command_after_name (codes "build" ∷ codes "a" ∷ codes "b" ∷ codes "c" ∷ []) ≡ None
   pub no_name : command_after_name (codes "build" ∷ []) ≡ None

@@ -21,8 +21,8 @@ pub enum Command<'a> {
     /// No arguments: say whether the source on the input is accepted.
     Accept,
     /// `build IN OUT [--recipe LIST] [--workers N]`: compile the source named IN to the image named
-    /// OUT under the recipe LIST, which may be any text; `none` where it is not given. N workers, 1
-    /// to 64, make the functions; 1 where N is not given.
+    /// OUT under the recipe LIST, which may be any text; the default recipe where it is not given. N
+    /// workers, 1 to 64, make the functions; 1 where N is not given.
     Build {
         source: &'a str,
         image: &'a str,
@@ -81,13 +81,16 @@ fn rvcc<'a>(alloc: Global) -> Result<Reader<'a>, AllocError>
         .subcommand(generate_arguments(alloc)?)
 }
 
+// The recipe of a build that names none.
+const DEFAULT_RECIPE: &str = "iln,fold,inv,cne,dne,ivt,psh,pll,url,fold,cne,inv,dne,dne";
+
 /// The text of the recipe of a build.
 fn recipe_in<'a>(arguments: &ArgMatches<'a>) -> &'a str
     ensures { Some (text result.now)
         ≡ value_or_default recipe_option
         (first_of recipe_option.name (rows_of (found_of arguments.now))) }
 {
-    value(arguments, "recipe").unwrap_or("none")
+    value(arguments, "recipe").unwrap_or(DEFAULT_RECIPE)
 }
 
 /// How many workers a build has.

@@ -41,7 +41,7 @@ fn other_words_are_usage(rt: HostRuntime) -> Result<(), Fail> {
         &["rvcc", "build", "in", "out", "--recipe", "fold,fold2"],
         &["rvcc", "build", "in", "out", "--recipe", "none,fold"],
         &["rvcc", "build", "in", "out", "--recipe="],
-        &["rvcc", "build", "in", "out", "--recipe", "ivt"],
+        &["rvcc", "build", "in", "out", "--recipe", "ivt,"],
         &["rvcc", "build", "in", "out", "--recipe"],
         &["rvcc", "build", "in", "out", "--recipe=cne", "--recipe=cne"],
         &["rvcc", "build", "in", "out", "--workers", "65"],

@@ -145,6 +145,9 @@ int main(void)
 }
 ";
 
+/// The recipe of a build that names none.
+const DEFAULT: &str = "iln,fold,inv,cne,dne,ivt,psh,pll,url,fold,cne,inv,dne,dne";
+
 /// Builds this source under a recipe and runs its image with this option.
 fn built_and_run(
     rt: &(impl Threads + Wait + Sync),
@@ -192,9 +195,9 @@ fn programs_do_the_same_under_recipes(rt: HostRuntime) -> Result<(), Fail> {
     let rows = [
         (1, "fold"),
         (2, "dne"),
-        (3, "fold,inv,cne,dne,psh,fold,cne,inv,dne,dne"),
+        (3, DEFAULT),
         (7, "psh,psh,psh"),
-        (9, "fold,inv,cne,dne,psh,fold,cne,inv,dne,dne"),
+        (9, DEFAULT),
     ];
     for (index, recipe) in rows {
         let (source, input, output, report) = PROGRAMS[index];
@@ -209,7 +212,7 @@ fn programs_do_the_same_under_recipes(rt: HostRuntime) -> Result<(), Fail> {
 fn programs_that_do_not_end_are_stopped(rt: HostRuntime) -> Result<(), Fail> {
     let alloc = rt.alloc();
     let endless = b"int main(void) { while (1); return 0; }";
-    for recipe in ["none", "fold,cne,dne,inv,psh"] {
+    for recipe in ["none", "ivt,url,pll,psh", DEFAULT] {
         let left = built_and_run(&rt, alloc, endless, recipe, b"", "--steps=1000")?;
         assert_eq!(rt; left.status, 7);
         assert_eq!(rt; left.report.bytes(), b"budget\n".as_slice());

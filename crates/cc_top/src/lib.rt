@@ -35,8 +35,8 @@ use std::thread::Threads;
 /// of the process.
 ///
 /// `build IN OUT [--recipe LIST]` compiles the source file IN to the executable OUT, each function
-/// put through the sweeps of LIST: 1 to 32 names of rules joined by commas, or `none`, which it is
-/// where it is not given. On the machine OUT does what the source does: on every input on which no
+/// put through the sweeps of LIST: 1 to 32 names of rules joined by commas, or `none`; it is
+/// `iln,fold,inv,cne,dne,ivt,psh,pll,url,fold,cne,inv,dne,dne` where it is not given. On the machine OUT does what the source does: on every input on which no
 /// bound of turns and calls makes the source's run undefined (ISO/IEC 9899:2011, 3.4.3) it is never
 /// stuck, writes what the source writes and exits with its status, or it stops for want of stack
 /// after a beginning of that output, only where some stack of calls has frames of more than
