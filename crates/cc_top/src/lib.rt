@@ -36,12 +36,12 @@ use std::thread::Threads;
 ///
 /// `build IN OUT [--recipe LIST]` compiles the source file IN to the executable OUT, each function
 /// put through the sweeps of LIST: 1 to 32 names of rules joined by commas, or `none`; it is
-/// `iln,fold,inv,cne,dne,ivt,psh,pll,url,fold,cne,inv,dne,dne` where it is not given. On the machine OUT does what the source does: on every input on which no
-/// bound of turns and calls makes the source's run undefined (ISO/IEC 9899:2011, 3.4.3) it is never
-/// stuck, writes what the source writes and exits with its status, or it stops for want of stack
-/// after a beginning of that output, only where some stack of calls has frames of more than
-/// 8,388,608 bytes. `run IMG [--steps N]` runs the
-/// executable IMG for at most N instructions, from `input` to `output`. `gen NUMBER COUNT OUT`
+/// `iln,fold,inv,cne,dne,ivt,psh,pll,url,fold,cne,inv,dne,dne` where it is not given. On the machine
+/// OUT does what the source does: on every input on which no bound of turns and calls makes the
+/// source's run undefined (ISO/IEC 9899:2011, 3.4.3) it is never stuck, writes what the source
+/// writes and exits with its status, or it stops for want of stack after a beginning of that output,
+/// only where some stack of calls has frames of more than 8,388,608 bytes. `run IMG [--steps N]`
+/// runs the executable IMG for at most N instructions, from `input` to `output`. `gen NUMBER COUNT OUT`
 /// writes the generated program of COUNT functions, 1 to 511, whose draws begin with NUMBER, 0 to
 /// 4294967295, to the file OUT. Without arguments the source on `input` is compiled and the line
 /// `accepted F` written on `output`, F being the number of functions that it defines; no file
