@@ -81,8 +81,7 @@ module _ (c : Context) (args : List Kind) (ns : NodeTrees) (results : List Origi
       ≡ region_meaning c (region own ms gets) (map (read xs q) results)
   second-there xs q =
       let vs = map (read xs q) results in
-      let nodes = subst (λ ks. Same (ReadSame S (known_after [] ms) move vs xs) (nodes_run c ms vs no_outputs) (nodes_run c ks xs q)) (redirected-moved move ms)
-      (copied_nodes_mean_the_same S move (λ n. n) ms moves second.0 c vs xs no_outputs q (reads xs q)) in
+      let nodes = subst (λ ks. Same (ReadSame S (known_after [] ms) move vs xs) (nodes_run c ms vs no_outputs) (nodes_run c ks xs q)) (redirected-moved move ms) (copied_nodes_mean_the_same S move (λ n. n) ms moves second.0 c vs xs no_outputs q (reads xs q)) in
       sym
       (same-equal (region_meaning c (region own ms gets) vs) (then_on (nodes_run c (nodes_redirected move ms) xs q) (λ r. Returned (map (read xs r) (map move gets)) []))
       (same-then (ReadSame S (known_after [] ms) move vs xs) Equals (nodes_run c ms vs no_outputs) (nodes_run c (nodes_redirected move ms) xs q)

@@ -1,6 +1,6 @@
 -- Consecutive origins: what stands at them, and which are the last of the states.
 use Rattle.std.specs.Prelude.{◌+◌, ◌&&◌, ◌||◌, not}
-use Rattle.std.proofs.Common.{◌≡◌, ◌⊎◌, ℕ, zero, suc, Bool, true, false, cond, List, [], ◌∷◌, map, length, Option, None, Some, slice_get, refl, sym, ap, subst, ◌∙◌, inl, inr, arith}
+use Rattle.std.proofs.Common.{◌++◌, ◌≡◌, ◌⊎◌, ℕ, zero, suc, Bool, true, false, cond, List, [], ◌∷◌, map, length, Option, None, Some, slice_get, refl, sym, ap, subst, ◌∙◌, inl, inr, arith}
 use Rattle.std.proofs.lemmas.Bool.{and_parts}
 use Rattle.std.proofs.lemmas.List.{length-map}
 use Rattle.g_graph.specs.declared.op.Kind.{Kind}
@@ -43,6 +43,19 @@ holds-from test place first (y ∷ ys) h = let n = at-next (λ k z. test (place 
 pub length-from : (place : ℕ → Origin) (first count : ℕ) → length (origins_from place first count) ≡ count
 length-from place first zero = refl
 length-from place first (suc count) = ap suc (length-from place (suc first) count)
+
+more : (place : ℕ → Origin) (first count : ℕ) → origins_from place first (suc count) ≡ origins_from place first count ++ place (first + count) ∷ []
+more place first zero = let last : first ≡ first + 0 = omega arith in ap (λ k. place k ∷ []) last
+more place first (suc count) =
+    let next : suc first + count ≡ first + suc count = omega arith in
+    ap (λ os. place first ∷ os) (more place (suc first) count ∙ ap (λ k. origins_from place (suc first) count ++ place k ∷ []) next)
+
+-- one more of them
+pub more-from : (place : ℕ → Origin) (count : ℕ) → origins_from place 0 (count + 1) ≡ origins_from place 0 count ++ place count ∷ []
+more-from place count =
+    let next : count + 1 ≡ suc count = omega arith in
+    let last : 0 + count ≡ count = omega arith in
+    ap (origins_from place 0) next ∙ more place 0 count ∙ ap (λ n. origins_from place 0 count ++ place n ∷ []) last
 
 -- ---- the last of a kind
 

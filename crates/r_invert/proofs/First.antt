@@ -18,7 +18,7 @@ use Rattle.g_mean.proofs.lemmas.LessDefined.{less-kept}
 use Rattle.g_mean.proofs.lemmas.Regions.{region-refines}
 use Rattle.r_invert.specs.Laws.{either, IsLoopRegion, InvertedLoopsTestFirst, InvertedLoopsRefine}
 use Rattle.r_invert.specs.Rule.{Parts, parts_of, is_output_of, takes_both_states, giving, word_given, is_zero, is_other}
-use Rattle.r_invert.proofs.Form.{ending, form-of, word-zero, word-other}
+use Rattle.r_invert.proofs.Forms.{ending, form-of, word-zero, word-other}
 use Rattle.r_invert.proofs.Looped.{inverted-does}
 use Rattle.r_invert.proofs.PartsFit.{exits, z-kinds, b-kinds, output-kinds, parts-fit, regions-fit, regions-unique}
 use Rattle.r_invert.proofs.Turned.{region-given, turn-is}

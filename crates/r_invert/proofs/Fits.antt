@@ -1,5 +1,5 @@
 -- A lambda stays well formed where the inverted loop stands in the place of the loop.
-use Rattle.std.specs.Prelude.{◌&&◌, nat_le, nat_lt, count_by, if◌then◌else◌}
+use Rattle.std.specs.Prelude.{◌&&◌, ◌-◌, ◌^◌, nat_le, nat_lt, count_by, if◌then◌else◌}
 use Rattle.std.proofs.Common.{◌≡◌, ◌<◌, ◌≤◌, ◌+◌, ℕ, zero, suc, Bool, true, false, List, [], ◌∷◌, ◌++◌, append_assoc, map, length, Some, refl, sym, ap, subst, ◌∙◌, inl, arith}
 use Rattle.std.proofs.lemmas.Bool.{and_parts, and_from, false_from_ne_true}
 use Rattle.std.proofs.lemmas.Bool.Decides.{nat_tests}
@@ -27,7 +27,8 @@ use Rattle.g_mean.proofs.lemmas.Holds.{distinct-apart}
 use Rattle.g_copy.specs.Numbering.{numbers_from}
 use Rattle.g_copy.proofs.lemmas.Numbering.{from-not-below, from-once, from-below, none-above}
 use Rattle.r_invert.specs.Laws.{IsLoopRegion}
-use Rattle.r_invert.specs.Rule.{inverted, new_nodes, ivt_here, with_body}
+use Rattle.g_edit.specs.Size.{may_change_size}
+use Rattle.r_invert.specs.Rule.{inverted, new_nodes, growth, loop_values, can_count, ivt_here, with_body}
 use Rattle.r_invert.proofs.At.{loop_node, Inverts, inverts-at}
 use Rattle.r_invert.proofs.First.{loop-says}
 use Rattle.r_invert.proofs.PartsFit.{NodeSays}
@@ -217,6 +218,9 @@ module _ (objects values next n : ℕ) (args : List Kind) (nodes : NodeTrees) (r
         (nodes_ids-joined part (nodes_redirected (outputs_to_results n outputs) at.split.after)
         ∙ (λ i. (nodes_ids-redirected (args_to_inputs at.inputs) ns ∙ ap region_ids (sym is) ∙ piece.ids) i ++ nodes_ids-redirected (outputs_to_results n outputs) at.split.after i))
 
+has-room : (m : ℕ) → nat_le m 4294967295 ≡ true → m < 4294967296
+has-room m e = grind (arith, nat_tests)
+
 -- what is known of the new region
 pub record Kept (objects next : ℕ) (r s : RegionTree) : Type 0 where
   pub count : ℕ
@@ -224,6 +228,7 @@ pub record Kept (objects next : ℕ) (r s : RegionTree) : Type 0 where
   pub results : result_kinds s ≡ result_kinds r
   pub inside : every_region (region_fits objects) s ≡ true
   pub ids : Renewed next count (region_ids r) (region_ids s)
+  pub room : next + count < 2 ^ 32
 
 here-keeps : (objects values next n : ℕ) (r s : RegionTree) → ivt_here values next n r ≡ Some s → every_region (region_fits objects) r ≡ true → Numbered next (region_ids r) → Kept objects next r s
 here-keeps objects values next n (region args nodes results) s e fits numbers =
@@ -245,6 +250,9 @@ here-keeps objects values next n (region args nodes results) s e fits numbers =
             old = ids objects values next n args nodes results s at fits numbers;
             new = ids-now objects values next n args nodes results s at fits numbers own ns gets is;
           };
+          room = has-room (next + new_nodes at.parts)
+              (and_parts (can_count at.body at.parts) (nat_le (next + new_nodes at.parts) (2 ^ 32 - 1))
+              (and_parts (can_count at.body at.parts && nat_le (next + new_nodes at.parts) (2 ^ 32 - 1)) (may_change_size values (growth at.parts) (loop_values at.body)) at.may).0).1;
         }
 
 -- ---- the lambda
@@ -262,8 +270,7 @@ changed-fits values n l w s e =
     let here = here-keeps objects values l.next n x.old x.new x.here x.fits inside in
     let renewed : Renewed l.next here.count (region_ids l.body) (region_ids s) =
     subst (λ is. Renewed l.next here.count is (region_ids s)) (sym x.old_ids)
-    (subst (Renewed l.next here.count ((x.before ++ region_ids x.old) ++ x.after)) (sym x.new_ids)
-    (renewed-within l.next here.count x.before (region_ids x.old) (region_ids x.new) x.after here.ids)) in
+    (subst (Renewed l.next here.count ((x.before ++ region_ids x.old) ++ x.after)) (sym x.new_ids) (renewed-within l.next here.count x.before (region_ids x.old) (region_ids x.new) x.after here.ids)) in
     let count = renewed-count l.next here.count (region_ids l.body) (region_ids s) renewed old in
     let unique = renewed-unique l.next here.count (region_ids l.body) (region_ids s) renewed old in
     let below : all_of (λ m. nat_lt m (l.next + count_by (λ m. nat_le l.next m) (region_ids s))) (region_ids s) ≡ true
@@ -275,3 +282,30 @@ changed-fits values n l w s e =
           record { args = k.args; results = k.results; inside = k.inside };
     })
     e w (λ i. unique i && below i)
+
+-- there are numbers for what comes
+pub changed-next : (values n : ℕ) (l : PlainLambda) → IsWellFormed l → (s : RegionTree) → region_changed (ivt_here values l.next n) l.body ≡ Some s →
+    l.next + count_by (λ m. nat_le l.next m) (region_ids s) < 2 ^ 32
+changed-next values n l w s e =
+    let objects = length l.objects in
+    let f = ivt_here values l.next n in
+    let nest = every_region (region_fits objects) l.body in
+    let front = (and_parts (body_fits l && numbers_fit l && nest) (all_of (λ o. leaves_fit o.size 0 o.leaves) l.objects) w).0 in
+    let inner = and_parts (body_fits l && numbers_fit l) nest front in
+    let old = numbers_numbered l (and_parts (body_fits l) (numbers_fit l) inner.0).1 in
+    let x = region_changed_ids objects f l.body s e inner.1 in
+    let inside = numbered_right l.next x.before (region_ids x.old) (numbered_left l.next (x.before ++ region_ids x.old) x.after (subst (Numbered l.next) x.old_ids old)) in
+    let here = here-keeps objects values l.next n x.old x.new x.here x.fits inside in
+    let renewed : Renewed l.next here.count (region_ids l.body) (region_ids s) =
+    subst (λ is. Renewed l.next here.count is (region_ids s)) (sym x.old_ids)
+    (subst (Renewed l.next here.count ((x.before ++ region_ids x.old) ++ x.after)) (sym x.new_ids)
+    (renewed-within l.next here.count x.before (region_ids x.old) (region_ids x.new) x.after here.ids)) in
+    omega (arith, here.room, renewed-count l.next here.count (region_ids l.body) (region_ids s) renewed old)
+
+-- what is known of the body of a well-formed lambda
+pub body-sound : (l : PlainLambda) → IsWellFormed l → (every_region (region_fits (length l.objects)) l.body ≡ true) × (distinct (region_ids l.body) ≡ true)
+body-sound l w =
+    let nest = every_region (region_fits (length l.objects)) l.body in
+    let front = (and_parts (body_fits l && numbers_fit l && nest) (all_of (λ o. leaves_fit o.size 0 o.leaves) l.objects) w).0 in
+    let inner = and_parts (body_fits l && numbers_fit l) nest front in
+    (inner.1, (numbers_numbered l (and_parts (body_fits l) (numbers_fit l) inner.0).1).unique)

@@ -31,7 +31,7 @@ use Rattle.r_invert.specs.Laws.{IvtIsAStep}
 use Rattle.r_invert.specs.Rule.{Parts, parts_of, giving, turn, remaining, choice, inverted, new_nodes, growth, loop_values, can_count, ivt_here, body_inverted, with_body, ivt}
 use Rattle.r_invert.proofs.At.{loop_node, placed, inverts-at}
 use Rattle.r_invert.proofs.Fits.{changed-fits}
-use Rattle.r_invert.proofs.Form.{ending, form-of}
+use Rattle.r_invert.proofs.Forms.{ending, form-of}
 use Rattle.r_invert.proofs.Replaced.{ivt_replaces}
 
 -- ---- ops
@@ -106,7 +106,7 @@ numbered-args next (region args ns results) = refl
 numbered-length : (next : ℕ) (r : RegionTree) → length (results_of (region_numbered next r)) ≡ length (results_of r)
 numbered-length next (region args ns results) = length-map results _
 
-kinds-length : (r : RegionTree) → length (result_kinds r) ≡ length (results_of r)
+pub kinds-length : (r : RegionTree) → length (result_kinds r) ≡ length (results_of r)
 kinds-length (region args nodes results) = length-map results (kind_of args (λ n p. kind_after nodes n p None))
 
 values-are : (r : RegionTree) → region_values r ≡ 1 + length (args_of r) + nodes_values (nodes_in r) + length (results_of r)
@@ -204,7 +204,7 @@ here-resized values next n (region args nodes results) s e =
             added = growth at.parts;
             gone = loop_values at.body;
             count = omega (arith, count, old, new, tail, copied, moved, brought, loop, ports);
-            may = (and_parts (can_count at.parts && nat_le (next + new_nodes at.parts) (2 ^ 32 - 1)) (may_change_size values (growth at.parts) (loop_values at.body)) at.may).1;
+            may = (and_parts (can_count at.body at.parts && nat_le (next + new_nodes at.parts) (2 ^ 32 - 1)) (may_change_size values (growth at.parts) (loop_values at.body)) at.may).1;
           };
         })
 

@@ -2,10 +2,10 @@ mod Examples
 mod Turns
 mod Consecutive
 mod Sequence
-mod Alone
+mod AloneFits
 mod Pieces
 mod Whole
-mod Form
+mod Forms
 mod Chosen
 mod PartsFit
 mod Composed
@@ -16,3 +16,9 @@ mod At
 mod Replaced
 mod Fits
 mod Kept
+mod MadeSequence
+mod Counted
+mod Decides
+mod Remade
+mod Found
+mod Applied

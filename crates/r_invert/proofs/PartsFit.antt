@@ -11,8 +11,7 @@ use Rattle.g_graph.specs.Ids.{region_ids, nodes_ids}
 use Rattle.g_graph.specs.Scope.{same_kind, is_of, known, each_node}
 use Rattle.g_graph.specs.Signatures.{joined, result_kinds, kind_after}
 use Rattle.g_graph.specs.Splice.{outputs_to_results, joined_nodes}
-use Rattle.g_graph.specs.WellFormed.{all_of, some_of, are, same, kinds_of, distinct, one_state_each, inputs_fit, inputs_are_last, node_has_one_state_each}
-use Rattle.g_graph.specs.WellFormed.{has_its_regions, regions_fit, theta_has_states, has_its_width, has_its_object, gives, node_fits, region_fits, every_region, every_in_nodes, every_in_regions}
+use Rattle.g_graph.specs.WellFormed.{all_of, some_of, are, same, kinds_of, distinct, one_state_each, inputs_fit, inputs_are_last, node_has_one_state_each, has_its_regions, regions_fit, theta_has_states, has_its_width, has_its_object, gives, node_fits, region_fits, every_region, every_in_nodes, every_in_regions}
 use Rattle.g_graph.proofs.lemmas.Indexes.{same_number_true, each_node-joined}
 use Rattle.g_graph.proofs.lemmas.Nodes.{each_here, are_kinds, same_kinds}
 use Rattle.g_graph.proofs.lemmas.Splices.{nodes_ids-joined, kind_after-joined, every_in_nodes-joined}
@@ -22,7 +21,7 @@ use Rattle.g_edit.proofs.lemmas.AddedFit.{Fits, fits-parts, fits-from}
 use Rattle.r_invert.specs.Laws.{IsLoopRegion}
 use Rattle.r_invert.specs.Rule.{is_output_of, takes_both_states, giving}
 use Rattle.r_invert.proofs.Chosen.{output_kind, all-chosen}
-use Rattle.r_invert.proofs.Form.{ending}
+use Rattle.r_invert.proofs.Forms.{ending}
 use Rattle.r_invert.proofs.Pieces.{Part, some-same}
 use Rattle.r_invert.proofs.Sequence.{HaveStates, given-where, list-of}
 use Rattle.r_invert.proofs.Whole.{PartsFit}
@@ -63,8 +62,7 @@ have-states r ks a t =
 
 -- ---- the parts
 
-module _ (objects : ℕ) (args : List Kind) (before : NodeTrees) (g : ℕ) (inputs : List Origin) (own : List Kind) (ns : NodeTrees) (rs : List Origin) (others : List Kind) (ms : NodeTrees)
-    (ss : List Origin)
+module _ (objects : ℕ) (args : List Kind) (before : NodeTrees) (g : ℕ) (inputs : List Origin) (own : List Kind) (ns : NodeTrees) (rs : List Origin) (others : List Kind) (ms : NodeTrees) (ss : List Origin)
     (predicate : Origin) (variables : List Origin) where
   abbrev z : RegionTree
   z = region own ns rs
@@ -201,8 +199,7 @@ module _ (objects : ℕ) (args : List Kind) (before : NodeTrees) (g : ℕ) (inpu
               (record {
                 each = f.each;
                 last = all.1;
-                memory_given = given-where (gives Memory xs) (some_of (is_of Memory) (map (known ks xs) (map (outputs_to_results g os) variables)))
-                    (ap (some_of (is_of Memory)) all.0 ∙ loop-states.memory);
+                memory_given = given-where (gives Memory xs) (some_of (is_of Memory) (map (known ks xs) (map (outputs_to_results g os) variables))) (ap (some_of (is_of Memory)) all.0 ∙ loop-states.memory);
                 io_given = given-where (gives Io xs) (some_of (is_of Io) (map (known ks xs) (map (outputs_to_results g os) variables))) (ap (some_of (is_of Io)) all.0 ∙ loop-states.io);
                 first = f.first;
                 second = ap one_state_each all.0 ∙ whole.first;

@@ -23,7 +23,7 @@ use Rattle.g_copy.specs.Numbering.{numbers_from, node_count, region_numbered}
 use Rattle.g_copy.proofs.lemmas.Fits.{copies_fit}
 use Rattle.g_copy.proofs.lemmas.Numbering.{copies_are_numbered}
 use Rattle.r_invert.specs.Compose.{in_sequence, alone}
-use Rattle.r_invert.proofs.Alone.{NodeAsks, alone-kinds, alone-fits}
+use Rattle.r_invert.proofs.AloneFits.{NodeAsks, alone-kinds, alone-fits}
 use Rattle.r_invert.proofs.Sequence.{HaveStates, sequence-kinds, sequence-fits}
 
 -- ---- numbers

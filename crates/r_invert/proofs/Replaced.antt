@@ -160,8 +160,7 @@ module _ (ls ks : List PlainLambda) (n : ℕ) (l : PlainLambda) (args : List Kin
           record {
             at = λ direction global. record {
               at = λ c d a linked.
-                  subst (λ r. MeaningRefines no_deeper direction IsLessDefinedDatum (region_meaning c whole)
-                  (region_meaning d (region_spliced n (region_redirected (args_to_inputs inputs) r) whole))) (sym is)
+                  subst (λ r. MeaningRefines no_deeper direction IsLessDefinedDatum (region_meaning c whole) (region_meaning d (region_spliced n (region_redirected (args_to_inputs inputs) r) whole))) (sym is)
                   (spliced_regions_refine direction c d a args before x after results own ns gets inputs fits
                   (λ xs ys o q near like have. loop-refines direction global c d a linked xs ys o q near like));
             };

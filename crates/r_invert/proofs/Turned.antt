@@ -28,7 +28,7 @@ use Rattle.g_edit.proofs.lemmas.AddedFit.{fits-parts}
 use Rattle.r_invert.specs.Laws.{either}
 use Rattle.r_invert.specs.Rule.{is_output_of, giving, word_given}
 use Rattle.r_invert.proofs.Chosen.{output_kind, Chosen, chosen-at}
-use Rattle.r_invert.proofs.Form.{ending}
+use Rattle.r_invert.proofs.Forms.{ending}
 use Rattle.r_invert.proofs.Looped.{branched-two}
 use Rattle.r_invert.proofs.Turns.{with_word, either-then, either-same}
 

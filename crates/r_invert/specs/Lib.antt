@@ -1,3 +1,4 @@
 pub mod Compose
 pub mod Rule
 pub mod Laws
+pub mod Edit

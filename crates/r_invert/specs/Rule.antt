@@ -112,13 +112,15 @@ growth p =
 abbrev pub loop_values : RegionTree → ℕ
 loop_values r = 1 + length (args_of r) + region_values r
 
--- The indexes of the entries and of the variables are below 2 ^ 32, as they always are in a lambda within the limits.
-abbrev pub can_count : Parts → Bool
-can_count p = nat_lt (length (args_of p.stop)) (2 ^ 32) && nat_lt (length (args_of p.go)) (2 ^ 32) && nat_lt (length (results_of p.stop)) (2 ^ 32)
+-- The loop's region has fewer than 2 ^ 60 values, as on every machine. The indexes of the entries and of the variables
+-- are below 2 ^ 32, as they always are in a lambda within the limits.
+abbrev pub can_count : (loop : RegionTree) → Parts → Bool
+can_count r p =
+    nat_lt (region_values r) (2 ^ 60) && nat_lt (length (args_of p.stop)) (2 ^ 32) && nat_lt (length (args_of p.go)) (2 ^ 32) && nat_lt (length (results_of p.stop)) (2 ^ 32)
 
 -- in a lambda of so many values, whose next node has the number `next`
 abbrev pub may_invert : (values next : ℕ) → (loop : RegionTree) → Parts → Bool
-may_invert values next r p = can_count p && nat_le (next + new_nodes p) (2 ^ 32 - 1) && may_change_size values (growth p) (loop_values r)
+may_invert values next r p = can_count r p && nat_le (next + new_nodes p) (2 ^ 32 - 1) && may_change_size values (growth p) (loop_values r)
 
 -- ---- the rule
 

@@ -31,7 +31,7 @@ pub record Ends (args : List Kind) (before : NodeTrees) (results : List Origin) 
   pub other_word : is_other (word_given g predicate b) ≡ true
   pub parts : record { test = region args before inputs; stop = giving g variables z; go = giving g variables b } ≡ p
 
-ends : (args : List Kind) (before : NodeTrees) (results : List Origin) (x : NodeTree) (p : Parts) → parts_with args before results x ≡ Some p → Ends args before results x p
+pub ends : (args : List Kind) (before : NodeTrees) (results : List Origin) (x : NodeTree) (p : Parts) → parts_with args before results x ≡ Some p → Ends args before results x p
 ends args before (o ∷ os) (node g Gamma inputs (region_then z (region_then b no_regions))) p e =
     let made : Parts = record { test = region args before inputs; stop = giving g os z; go = giving g os b } in
     let all = takes_both_states z && all_of (is_output_of g) (o ∷ os) && is_zero (word_given g o z) in
