@@ -3,8 +3,6 @@
 #![tactic(auto)]
 
 #[cfg(test)]
-mod inlined;
-#[cfg(test)]
 mod orders;
 #[cfg(test)]
 mod sources;
