@@ -14,3 +14,4 @@ pub mod Complete
 pub mod Listed
 pub mod Mapped
 pub mod Names
+pub mod Elements

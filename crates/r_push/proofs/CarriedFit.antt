@@ -3,13 +3,13 @@ use Rattle.std.proofs.Common.{◌≡◌, ◌≢◌, ℕ, zero, suc, ◌==◌, Bo
 use Rattle.std.proofs.lemmas.Bool.{and_parts, eqb-false}
 use Rattle.std.proofs.lemmas.Bool.Decides.{nat_tests}
 use Rattle.g_graph.specs.declared.op.Kind.{Kind}
-use Rattle.g_graph.specs.declared.op.Kind.TheVariants.{Value, Memory, Io}
+use Rattle.g_graph.specs.declared.op.Kind.TheVariants.{Value}
 use Rattle.g_graph.specs.declared.op.Op.{Op}
 use Rattle.g_graph.specs.declared.op.Origin.{Origin}
 use Rattle.g_graph.specs.declared.op.Origin.TheVariants.{Arg, Out}
 use Rattle.g_graph.specs.Plain.{region, NodeTree, node, NodeTrees, no_nodes, node_then, RegionTrees, nodes_of}
 use Rattle.g_graph.specs.Ids.{node_ids, nodes_ids}
-use Rattle.g_graph.specs.Signatures.{is_pure, joined, outputs_of, output_kinds, kind_after}
+use Rattle.g_graph.specs.Signatures.{is_pure, joined, output_kinds, kind_after}
 use Rattle.g_graph.specs.Scope.{is_of, known, last_index, origin_at, state_after, last_state, each_node}
 use Rattle.g_graph.specs.WellFormed.{some_of, gives, node_fits, region_fits, every_region, every_in_node, every_in_nodes, distinct}
 use Rattle.g_graph.specs.Replace.{nodes_redirected, origin_replaced}
@@ -17,12 +17,13 @@ use Rattle.g_graph.specs.Splice.{joined_nodes}
 use Rattle.g_graph.proofs.lemmas.Indexes.{kind_absent}
 use Rattle.g_graph.proofs.lemmas.Redirects.{kind_after-redirected, state_after-redirected, gives-redirected, every_in_nodes-redirected, all_unmoved}
 use Rattle.g_graph.proofs.lemmas.Splices.{joined_none, joined_following, nodes_ids-joined, kind_after-joined, state_after-joined, gives-joined, every_in_nodes-joined}
+use Rattle.g_graph.proofs.lemmas.Elements.{get-added}
 use Rattle.g_mean.specs.Copies.{IsAmong}
 use Rattle.g_mean.proofs.lemmas.Edits.{distinct-split}
 use Rattle.g_mean.proofs.lemmas.Holds.{distinct-apart}
-use Rattle.g_edit.proofs.lemmas.Kept.{IsState, memory, io}
+use Rattle.g_edit.proofs.lemmas.Kept.{IsState}
 use Rattle.g_edit.proofs.lemmas.Scopes.{KeepsScope, kept_all, kept_node_fits, kept_nodes_fit}
-use Rattle.g_edit.proofs.lemmas.AddedFit.{nothing, none-of, none-read, get-added, get-last, scope-from, scope-added, with_value, first-state-added, one-argument-more, fits-parts, fits-from, fits-again}
+use Rattle.g_edit.proofs.lemmas.AddedFit.{nothing, none-of, none-read, get-last, scope-from, scope-added, with_value, first-state-added, one-argument-more, fits-parts, fits-from, fits-again}
 use Rattle.g_edit.proofs.lemmas.Pure.{pure-outputs, no-index, no-given, no-value}
 use Rattle.r_push.proofs.Stays.{none-has, move-other}
 

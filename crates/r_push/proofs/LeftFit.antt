@@ -24,6 +24,7 @@ use Rattle.g_graph.proofs.lemmas.Nodes.{NodeFits, KeptWithin, are_kinds, each_he
 use Rattle.g_graph.proofs.lemmas.Redirects.{all_unmoved}
 use Rattle.g_graph.proofs.lemmas.Splices.{kind_after-joined}
 use Rattle.g_graph.proofs.lemmas.Unique.{times, times_append}
+use Rattle.g_graph.proofs.lemmas.Elements.{get-added}
 use Rattle.g_mean.specs.Copies.{IsAmong, known_after, IsClosed}
 use Rattle.g_mean.specs.Edits.{IsPartOf}
 use Rattle.g_mean.proofs.lemmas.Copies.{among-left, test-other}
@@ -32,7 +33,7 @@ use Rattle.g_mean.proofs.lemmas.Inside.{node-here, as-many, regions-closed, inne
 use Rattle.g_edit.specs.Removal.{nodes_without}
 use Rattle.g_edit.specs.Added.{input_added}
 use Rattle.g_edit.proofs.lemmas.Scopes.{KeepsScope, kept_all, kept_node_fits}
-use Rattle.g_edit.proofs.lemmas.AddedFit.{nothing, none-of, one_more, index-added, some-added, get-added, get-last, with_value, one-argument-more, fits-parts, result_added_fits, all-added}
+use Rattle.g_edit.proofs.lemmas.AddedFit.{nothing, none-of, one_more, index-added, some-added, get-last, with_value, one-argument-more, fits-parts, result_added_fits, all-added}
 use Rattle.r_push.specs.Rule.{names_argument, leaving_one, is_invariant, leaving_loop, regions_carried, looped, placed, pushed}
 use Rattle.r_push.proofs.Stays.{known-stays}
 use Rattle.r_push.proofs.Leaving.{Leaves, leaves}

@@ -2,11 +2,11 @@
 use Rattle.std.proofs.Common.{◌≡◌, ℕ, ◌≤◌, Bool, true, false, if◌then◌else◌, List, ◌++◌, Option, None, Some, refl, sym, ap, subst}
 use Rattle.val_core.specs.declared.values.Value.{Value}
 use Rattle.val_core.specs.declared.values.Value.TheVariants.{Num, At, Bad}
-use Rattle.val_core.specs.Events.{Event, deepest, called, IsPrefixOf}
+use Rattle.val_core.specs.Events.{Event, deepest, IsPrefixOf}
 use Rattle.val_core.specs.Answers.{Answer, Returned, Cut, Exited, Undefined, before, then_on, on_number, on_defined, active, events}
 use Rattle.val_core.proofs.lemmas.Events.{prefix-self, prefix-more, prefix-after, prefix-called, prefix-deepest}
 use Rattle.val_core.specs.Refinement.{Forward, exactly, Refines}
-use Rattle.val_core.proofs.lemmas.Answers.{added, before-is, events-added}
+use Rattle.val_core.proofs.lemmas.Answers.{added, before-is, events-added, events-active}
 use Rattle.val_core.proofs.lemmas.Refinement.{refines-itself}
 use Rattle.c_type.specs.Trees.{TypeTree}
 use Rattle.c_mean.specs.State.{used, truth}
@@ -66,12 +66,6 @@ chosen-extends (Some false) a b a' b' h k = k
 
 pub extends-branched : {A : Type 0} (t : TypeTree) (v : Value) (a b a' b' : Answer A) → Extends a a' → Extends b b' → Extends (branched t v a b) (branched t v a' b')
 extends-branched t v a b a' b' h k = chosen-extends (truth t v) a b a' b' h k
-
-events-active : {A : Type 0} (f : ℕ) (a : Answer A) → events (active f a) ≡ called f (events a)
-events-active f (Returned x o) = refl
-events-active f (Cut o) = refl
-events-active f (Exited o s) = refl
-events-active f (Undefined o) = refl
 
 pub extends-active : {A : Type 0} (f : ℕ) (a b : Answer A) → Extends a b → Extends (active f a) (active f b)
 extends-active f (Returned x o) b h = ap (active f) h

@@ -1,5 +1,5 @@
 -- What fits stays so in a scope that has all that it had; one more value at the end of a list changes no state.
-use Rattle.std.proofs.Common.{◌≡◌, ℕ, suc, zero, ◌⊎◌, Bool, true, false, not, ◌&&◌, ◌||◌, cond, List, [], ◌∷◌, ◌++◌, map, length, slice_get, Option, None, Some, refl, sym, ap, subst, ◌∙◌, inl, inr}
+use Rattle.std.proofs.Common.{◌≡◌, ℕ, suc, ◌⊎◌, Bool, true, false, not, ◌&&◌, ◌||◌, cond, List, [], ◌∷◌, ◌++◌, map, length, slice_get, Option, None, Some, refl, sym, ap, subst, ◌∙◌, inl, inr}
 use Rattle.std.proofs.lemmas.Bool.{and_parts}
 use Rattle.std.proofs.lemmas.List.{map-append}
 use Rattle.g_graph.specs.declared.op.Kind.{Kind}
@@ -12,6 +12,7 @@ use Rattle.g_graph.specs.WellFormed.{all_of, some_of, at_most_one, one_state_eac
 use Rattle.g_graph.proofs.lemmas.Indexes.{last_gives, gives_last}
 use Rattle.g_graph.proofs.lemmas.Moved.{last_is_known}
 use Rattle.g_graph.proofs.lemmas.Redirects.{all_unmoved, nodes_unmoved}
+use Rattle.g_graph.proofs.lemmas.Elements.{get-added}
 use Rattle.g_edit.specs.Uses.{nodes_read}
 use Rattle.g_edit.specs.Added.{arg_added, result_added}
 use Rattle.g_edit.proofs.lemmas.Kept.{IsState, memory, io}
@@ -42,11 +43,6 @@ most-added k s (x ∷ xs) = λ i. cond (is_of k x) (not (some-added k s xs i)) (
 
 pub one-added : (xs : List (Option Kind)) → one_state_each (one_more xs) ≡ one_state_each xs
 one-added xs = λ i. most-added Memory memory xs i && most-added Io io xs i
-
-pub get-added : {X : Type 0} (xs ys : List X) (k : ℕ) (x : X) → slice_get xs k ≡ Some x → slice_get (xs ++ ys) k ≡ Some x
-get-added [] ys k x e = absurd cc
-get-added (y ∷ xs) ys zero x e = e
-get-added (y ∷ xs) ys (suc k) x e = get-added xs ys k x e
 
 pub get-last : {X : Type 0} (xs : List X) (x : X) → slice_get (xs ++ x ∷ []) (length xs) ≡ Some x
 get-last [] x = refl

@@ -16,11 +16,12 @@ use Rattle.g_graph.specs.WellFormed.{regions_fit, node_fits, nodes_fit, results_
 use Rattle.g_graph.specs.Replace.{nodes_redirected}
 use Rattle.g_graph.specs.Splice.{joined_nodes}
 use Rattle.g_graph.specs.Lists.{RegionOps, NodesOps}
-use Rattle.g_graph.proofs.lemmas.Indexes.{same_number_true, same_kind_true, GivesState, KeepsState, state_cases, last_gives, is_of_true, is_origin_some}
+use Rattle.g_graph.proofs.lemmas.Indexes.{same_number_true, GivesState, KeepsState, state_cases, last_gives, is_of_true, is_origin_some}
 use Rattle.g_graph.proofs.lemmas.KindLists.{kinds_of_some}
 use Rattle.g_graph.proofs.lemmas.Nodes.{NodeFits, KeptWithin, are_kinds}
 use Rattle.g_graph.proofs.lemmas.Ops.{redirected_ops}
 use Rattle.g_graph.proofs.lemmas.Unique.{times}
+use Rattle.g_graph.proofs.lemmas.Elements.{get-all}
 use Rattle.g_edit.specs.Places.{stays_at, kept}
 use Rattle.g_edit.specs.Exits.{regions_giving, node_giving}
 use Rattle.g_edit.specs.Carried.{outer, all_pass, passed, output_carried, staying, nodes_carrying, exits_carried}
@@ -36,11 +37,6 @@ pub get_map : {X Y : Type 0} (f : X → Y) (xs : List X) (i : ℕ) (x : X) → s
 get_map f [] i x e = absurd cc
 get_map f (a ∷ xs) zero x e = ap (λ z. Some (f z)) (same_Some a x e)
 get_map f (a ∷ xs) (suc i) x e = get_map f xs i x e
-
-pub get_all : {X : Type 0} (test : X → Bool) (xs : List X) (i : ℕ) (x : X) → all_of test xs ≡ true → slice_get xs i ≡ Some x → test x ≡ true
-get_all test [] i x a e = absurd cc
-get_all test (y ∷ xs) zero x a e = ap test (sym (same_Some y x e)) ∙ (and_parts (test y) (all_of test xs) a).0
-get_all test (y ∷ xs) (suc i) x a e = get_all test xs i x (and_parts (test y) (all_of test xs) a).1 e
 
 some_kind : (ks : List Kind) (i : ℕ) (x : Option Kind) → slice_get (map Some ks) i ≡ Some x → (k : Kind) × ((slice_get ks i ≡ Some k) × (x ≡ Some k))
 some_kind [] i x e = absurd cc
@@ -170,7 +166,7 @@ module _ (objects : ℕ) (args : List Kind) (before : NodeTrees) (id : ℕ) (inp
         kind = found.0;
         own = ap (λ q. joined (slice_get (outputs_of Gamma q) p)) is ∙ ap joined (get_map (known own nodes) outs p (Arg at.argument) at.result) ∙ found.1.0;
         outer = found.1.1;
-        last = get_all (is_last args before) inputs (suc at.argument) o here.last at.input;
+        last = get-all (is_last args before) inputs (suc at.argument) o here.last at.input;
         goes = inr (stays_some cs p o e);
       }
 

@@ -17,12 +17,13 @@ use Rattle.g_graph.specs.Lists.{RegionOps, NodesOps}
 use Rattle.g_graph.proofs.lemmas.Indexes.{same_number_true}
 use Rattle.g_graph.proofs.lemmas.Nodes.{NodeFits, KeptWithin, are_kinds}
 use Rattle.g_graph.proofs.lemmas.Ops.{redirected_ops}
+use Rattle.g_graph.proofs.lemmas.Elements.{get-all}
 use Rattle.g_edit.specs.InPlace.{redirected_after, outputs_redirected}
 use Rattle.g_edit.specs.Carried.{output_carried}
 use Rattle.g_edit.proofs.lemmas.Kept.{kept_none}
 use Rattle.g_edit.proofs.lemmas.Placed.{not_before}
 use Rattle.g_edit.proofs.lemmas.Carried.{redirected_joined}
-use Rattle.g_edit.proofs.lemmas.CarriedExits.{get_map, get_all}
+use Rattle.g_edit.proofs.lemmas.CarriedExits.{get_map}
 use Rattle.g_edit.proofs.lemmas.CarriedFit.{Carries, carried_kept}
 
 module _ (objects : ℕ) (args : List Kind) (before : NodeTrees) (id : ℕ) (inputs : List Origin) (own : List Kind) (nodes : NodeTrees) (outs : List Origin) (after : NodeTrees)
@@ -40,7 +41,7 @@ module _ (objects : ℕ) (args : List Kind) (before : NodeTrees) (id : ℕ) (inp
         kind = Value;
         own = ap joined (get_map Some own p Value at.0);
         outer = same_Some (known args before o) (Some Value) (sym (get_map (known args before) inputs p o at.1) ∙ ap (λ ks. slice_get ks p) kinds ∙ get_map Some own p Value at.0);
-        last = get_all (is_last args before) inputs p o here.last at.1;
+        last = get-all (is_last args before) inputs p o here.last at.1;
         goes = inl refl;
       }
 

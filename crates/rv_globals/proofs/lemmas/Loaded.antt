@@ -10,12 +10,12 @@ use Rattle.elf_file.specs.Laws.{executable_for}
 use Rattle.elf_file.specs.Segments.{AreSound}
 use Rattle.g_graph.specs.Plain.{PlainDelta}
 use Rattle.g_graph.specs.WellFormed.{all_of}
+use Rattle.g_graph.proofs.lemmas.Elements.{get-all}
 use Rattle.rv_machine.specs.Memory.{memory_of, flags_of, has_flag, to_read, to_write}
 use Rattle.rv_layout.specs.declared.item.Item.{Item}
 use Rattle.rv_layout.specs.Conditions.{CanLayOut, link_has_global, link_is_within, links_are_apart, global_fits}
 use Rattle.rv_layout.specs.Globals.{global_room, is_where, globals_where, globals_from, with_links, global_bytes}
 use Rattle.rv_layout.specs.Layout.{fixed_address, data_address, stack_address, laid_out}
-use Rattle.s_templates.proofs.lemmas.Rooms.{all_at}
 use Rattle.rv_globals.proofs.lemmas.Addresses.{rooms_where, offset_of, rooms_are, address_is, offset_is_even, ends_within, ends_before, byte_is}
 use Rattle.rv_globals.proofs.lemmas.Bytes.{AreWithin, length_with_links}
 use Rattle.rv_globals.proofs.lemmas.Segments.{data_there, fixed_there}
@@ -71,7 +71,7 @@ module _ (fs : List (List Item)) (ds : List PlainDelta) (main : ℕ) (can : CanL
   bytes_where fixed = flat_map (global_bytes globals_of) (globals_where fixed ds)
 
   pub links_at : (k : ℕ) (d : PlainDelta) → slice_get ds k ≡ Some d → Links d
-  links_at k d there = links_of (length ds) d (all_at (global_fits (length ds)) ds k d can.globals_fit there)
+  links_at k d there = links_of (length ds) d (get-all (global_fits (length ds)) ds k d can.globals_fit there)
 
   sizes : (k : ℕ) (d : PlainDelta) → slice_get ds k ≡ Some d → length (global_bytes globals_of d) ≡ global_room d
   sizes k d there = length_global_bytes globals_of d (links_at k d there)

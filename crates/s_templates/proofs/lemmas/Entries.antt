@@ -10,6 +10,7 @@ use Rattle.val_core.specs.MemoryLaws.{NewBlocksKeepLoads}
 use Rattle.val_core.specs.Objects.{word_of, block_address, address_in, opened}
 use Rattle.g_graph.specs.Plain.{PlainObject, shapes_of}
 use Rattle.g_graph.specs.WellFormed.{all_of, leaves_fit}
+use Rattle.g_graph.proofs.lemmas.Elements.{get-all}
 use Rattle.rv_isa.specs.Registers.{sp, s0}
 use Rattle.rv_machine.specs.Machine.{State}
 use Rattle.s_linear.specs.Frame.{PlainPlaces, saved_of, words_of, object_room, object_at, frame_size}
@@ -23,7 +24,7 @@ use Rattle.s_templates.specs.Table.{ObjectStands}
 use Rattle.s_templates.proofs.lemmas.CallRows.{BodyStack, InFunction}
 use Rattle.s_templates.proofs.lemmas.Extended.{shows-more, extends-self, alike-self}
 use Rattle.s_templates.proofs.lemmas.Opened.{ObjectsFit, opened_bases, base-new, in-back, new-is, opened-extends, opened-fresh, opened-laid, opened-live, opened-shown}
-use Rattle.s_templates.proofs.lemmas.Rooms.{rooms-even, rooms-within, rooms-order, all_at}
+use Rattle.s_templates.proofs.lemmas.Rooms.{rooms-even, rooms-within, rooms-order}
 
 module _ (p : PlainPlaces) (os : List PlainObject) (range : IsInRange p os) where
   abbrev pub size : ℕ
@@ -74,7 +75,7 @@ module _ (program : Program) (can : ProgramCanRun program) (p : PlainPlaces) (os
         let whole = (is-size p os range).aligned in
         omega (arith, even, aligned, whole, enough);
     order = λ j k o u there there' less. let order = rooms-order os j k o u there there' less in omega (arith, order);
-    leaves = λ k o there. all_at (λ (o : PlainObject). leaves_fit o.size 0 o.leaves) os k o leaves there;
+    leaves = λ k o there. get-all (λ (o : PlainObject). leaves_fit o.size 0 o.leaves) os k o leaves there;
   }
 
   free : (a : ℕ) → s.regs s0 ≤ a → a < saves_at → IsOutside bases m a

@@ -10,7 +10,7 @@ use Rattle.val_core.specs.Events.{Event, output, called, IsPrefixOf}
 use Rattle.val_core.specs.Memory.{Memory, closed}
 use Rattle.val_core.specs.MemoryLaws.{StoreKeepsBlocks, ClearKeepsBlocks, NewBlocksKeepLoads, ClosedBlocksKeepLoads}
 use Rattle.val_core.specs.Within.{Given}
-use Rattle.val_core.proofs.lemmas.Answers.{before-is}
+use Rattle.val_core.proofs.lemmas.Answers.{before-is, events-active}
 use Rattle.val_core.proofs.lemmas.Events.{called_keeps_output, called_deepens}
 use Rattle.g_graph.specs.Plain.{PlainObject}
 use Rattle.rv_isa.specs.Registers.{sp, s0, a0}
@@ -28,7 +28,7 @@ use Rattle.s_linear.specs.Meaning.{Call, code_run, first_names, no_names}
 use Rattle.a_place.specs.Placed.{placed, placed_code, placed_calls, placed_entered, put_params}
 use Rattle.s_select.specs.Operands.{location_of, get}
 use Rattle.s_select.specs.Templates as select
-use Rattle.s_select.specs.Templates.{take_frame, give_frame, line_items, words}
+use Rattle.s_select.specs.Templates.{take_frame, give_frame, line_items}
 use Rattle.s_templates.specs.Codes.{LinesStand}
 use Rattle.s_templates.specs.Frames.{Taken}
 use Rattle.s_templates.specs.Functions.{Program, ProgramCanRun, FunctionStands, places_of, frame_of, frame_sizes, IsCalled, ComesBack, CallOutcome, CallsRun, FunctionsRun}
@@ -64,14 +64,6 @@ steps-some flags s t r h differs = elim (cases_lt 0 h.count) [
       sym (run-zero flags (running s) []) ∙ ap (λ n. run flags n (running s) []) (sym zero_is) ∙ (h.reaches []).to in
       absurd (differs (sym (ap (λ (o : RunResult). register-of r o.hart) same)))
 ]
-
--- ---- what is active
-
-events-active : {A : Type 0} (f : ℕ) (a : Answer A) → events (active f a) ≡ called f (events a)
-events-active f (Returned x o) = refl
-events-active f (Cut o) = refl
-events-active f (Exited o status) = refl
-events-active f (Undefined o) = refl
 
 -- the frame of a function and what its calls exceed
 exceeds-called : (flags sizes : ℕ → ℕ) (left left' f n : ℕ) (es : List Event) (s t : State) (input : List ℕ) → Reaches flags n s input [] t input → left ≤ left' + sizes f

@@ -13,6 +13,7 @@ use Rattle.val_core.specs.MemoryLaws.{NewBlocksKeepLoads, ClosedBlocksKeepLoads}
 use Rattle.val_core.specs.Objects.{word_of, opened}
 use Rattle.g_graph.specs.Plain.{PlainObject, shapes_of}
 use Rattle.g_graph.specs.WellFormed.{is_width, leaves_fit}
+use Rattle.g_graph.proofs.lemmas.Elements.{get-added}
 use Rattle.rv_machine.specs.Memory.{Bytes, load_bytes, has_flag, to_read, to_write, IsWidth}
 use Rattle.s_templates.specs.Relation.{Bases, Extends, Shows, Lives, Fellow, LivesAlike, IsLive, IsOutside, has_leaf, LeafFits, BlockFits, AreLaidOut, ShowsMemory}
 use Rattle.s_templates.proofs.lemmas.Blocks.{ValueAt, value-there, memory-same}
@@ -118,11 +119,6 @@ in-two {X} (a ∷ xs) ys (suc n) x e = by (in-two xs ys n x e)
         → ((slice_get (a ∷ xs) (suc n) ≡ Some x) × (suc n < length (a ∷ xs))) ⊎ ((j : ℕ) × (suc n ≡ length (a ∷ xs) + j) × (slice_get ys j ≡ Some x))
     by (inl h) = let low = h.1 in inl (h.0, omega (arith, low))
     by (inr h) = let at = h.1 in inr (h.0, omega (arith, at), h.2)
-
-in-front : {X : Type 0} (xs ys : List X) (n : ℕ) (x : X) → slice_get xs n ≡ Some x → slice_get (xs ++ ys) n ≡ Some x
-in-front [] ys n x e = absurd cc
-in-front (a ∷ xs) ys zero x e = e
-in-front (a ∷ xs) ys (suc n) x e = in-front xs ys n x e
 
 pub in-back : {X : Type 0} (xs ys : List X) (j : ℕ) (x : X) → slice_get ys j ≡ Some x → slice_get (xs ++ ys) (length xs + j) ≡ Some x
 in-back [] ys j x e = let at : j ≡ 0 + j = omega arith in subst (λ n. slice_get ys n ≡ Some x) at e
@@ -437,7 +433,7 @@ closed-alike m os k h = record { forth = forth; back = back }
   where
     forth : (n : ℕ) (b : Block) → Lives m n b → Fellow (closed (length m) (length os) k) n b
     forth n b lives =
-        let f = h.forth n b (record { there = in-front m (opened (shapes_of os)) n b lives.there; live = lives.live }) in
+        let f = h.forth n b (record { there = get-added m (opened (shapes_of os)) n b lives.there; live = lives.live }) in
         record {
           block = f.block;
           there = record { there = closed-front (length m) (length os) k n (slice_get_within m n b lives.there) ∙ f.there.there; live = f.there.live };

@@ -1,11 +1,9 @@
 -- Where the objects of a frame stand: one after the other, below the words that save registers.
-use Rattle.std.proofs.Common.{◌≡◌, ℕ, zero, suc, ◌+◌, ◌%◌, ◌<◌, ◌≤◌, Bool, true, List, [], ◌∷◌, take, slice_get, Some, refl, sym, ap, ◌∙◌, arith}
+use Rattle.std.proofs.Common.{◌≡◌, ℕ, zero, suc, ◌+◌, ◌%◌, ◌<◌, ◌≤◌, List, [], ◌∷◌, take, slice_get, Some, refl, ap, arith}
 use Rattle.std.specs.List.{sum_by}
-use Rattle.std.proofs.lemmas.Bool.{and_parts}
 use Rattle.std.proofs.lemmas.List.Sums.{sum_by-cons}
 use Rattle.std.proofs.lemmas.Option.{same_Some}
 use Rattle.g_graph.specs.Plain.{PlainObject}
-use Rattle.g_graph.specs.WellFormed.{all_of}
 use Rattle.s_linear.specs.Frame.{object_room}
 
 -- the bytes of these objects
@@ -47,9 +45,3 @@ rooms-order (x ∷ os) (suc j) (suc k) o u there there' less =
     let d = room-more x (take j os) in
     let h = rooms-order os j k o u there there' (omega (arith, less)) in
     omega (arith, e, d, h)
-
--- a test that all pass, one passes
-pub all_at : {X : Type 0} (test : X → Bool) (xs : List X) (k : ℕ) (x : X) → all_of test xs ≡ true → slice_get xs k ≡ Some x → test x ≡ true
-all_at test [] k x all there = absurd cc
-all_at test (y ∷ ys) zero x all there = ap test (sym (same_Some y x there)) ∙ (and_parts (test y) (all_of test ys) all).0
-all_at test (y ∷ ys) (suc k) x all there = all_at test ys k x (and_parts (test y) (all_of test ys) all).1 there

@@ -1,6 +1,6 @@
 -- The laws of answers.
 use Rattle.std.proofs.Common.{◌≡◌, ℕ, List, [], ◌∷◌, ◌++◌, refl, sym, ap, ◌∙◌, append_assoc}
-use Rattle.val_core.specs.Events.{Event}
+use Rattle.val_core.specs.Events.{Event, called}
 use Rattle.val_core.specs.Answers.{Answer, Returned, Cut, Exited, Undefined, before, then_on, active, events, Gives}
 use Rattle.val_core.specs.AnswerLaws.{BeforeTwice, ThenAfterBefore, ThenAssociates, ThenNothing, ThenOnGiven}
 
@@ -87,3 +87,9 @@ gives-active P f (Returned x o) h = h
 gives-active P f (Cut o) h = tt
 gives-active P f (Exited o status) h = tt
 gives-active P f (Undefined o) h = tt
+
+pub events-active : {A : Type 0} (f : ℕ) (a : Answer A) → events (active f a) ≡ called f (events a)
+events-active f (Returned x o) = refl
+events-active f (Cut o) = refl
+events-active f (Exited o status) = refl
+events-active f (Undefined o) = refl
