@@ -6,7 +6,7 @@ use Rattle.std.proofs.lemmas.List.{length-map}
 use Rattle.g_graph.specs.declared.op.Op.{Op}
 use Rattle.g_graph.specs.declared.op.Op.TheVariants.{Gamma, Theta}
 use Rattle.g_graph.specs.declared.op.Origin.{Origin}
-use Rattle.g_graph.specs.Plain.{RegionTree, region, NodeTrees, no_nodes, node_then, no_regions, region_then, args_of, results_of, nodes_in, PlainLambda}
+use Rattle.g_graph.specs.Plain.{RegionTree, region, no_nodes, node_then, no_regions, region_then, args_of, results_of, nodes_in, PlainLambda}
 use Rattle.g_graph.specs.Count.{region_values, node_values, nodes_values}
 use Rattle.g_graph.specs.Lists.{RegionOps, NodesOps, Calls, NamesGlobal}
 use Rattle.g_graph.specs.Program.{lambda_values, KeepsPrograms}
@@ -15,7 +15,7 @@ use Rattle.g_graph.specs.Signatures.{result_kinds, kind_of, kind_after}
 use Rattle.g_graph.specs.Splice.{args_to_inputs, outputs_to_results, joined_nodes, region_spliced}
 use Rattle.g_graph.specs.WellFormed.{well_formed, IsWellFormed}
 use Rattle.g_graph.proofs.lemmas.Complete.{complete_set, program_set}
-use Rattle.g_graph.proofs.lemmas.Ops.{redirected_ops, region_redirected_ops, joined_ops, region_spliced_ops, found_ops, changed_ops}
+use Rattle.g_graph.proofs.lemmas.Ops.{redirected_ops, region_redirected_ops, joined_ops, region_spliced_ops, found_ops, changed_ops, split-ops}
 use Rattle.g_graph.proofs.lemmas.Redirects.{nodes_values-redirected}
 use Rattle.g_graph.proofs.lemmas.Splices.{nodes_values-joined}
 use Rattle.g_mean.specs.Edits.{IsEdited, KeepsMeaning, KeepsComplete}
@@ -47,10 +47,6 @@ module _ (p : Op → ℕ → Type 0) (gamma : (m : ℕ) → p Gamma m) (theta : 
     stop : RegionOps p parts.stop
     go : RegionOps p parts.go
 
-  split-ops : (xs ys : NodeTrees) → NodesOps p (joined_nodes xs ys) → NodesOps p xs × NodesOps p ys
-  split-ops no_nodes ys h = (tt, h)
-  split-ops (node_then x xs) ys h = let rest = split-ops xs ys h.1 in ((h.0, rest.0), rest.1)
-
   giving-ops : (g : ℕ) (os : List Origin) (r : RegionTree) → RegionOps p r → RegionOps p (giving g os r)
   giving-ops g os (region args nodes results) h = h
 
@@ -58,7 +54,7 @@ module _ (p : Op → ℕ → Type 0) (gamma : (m : ℕ) → p Gamma m) (theta : 
   parts-have (region args nodes results) parts e h =
       let f = form-of args nodes results parts e in
       let n = f.ends in
-      let split = split-ops f.before (node_then (ending n.g n.inputs n.z n.b) no_nodes)
+      let split = split-ops p f.before (node_then (ending n.g n.inputs n.z n.b) no_nodes)
       (subst (NodesOps p) (f.whole ∙ ap (λ x. joined_nodes f.before (node_then x no_nodes)) n.node) h) in
       subst PartsHave n.parts
       (record { test = split.0; stop = giving-ops n.g n.variables n.z split.1.0.1.0; go = giving-ops n.g n.variables n.b split.1.0.1.1.0 })

@@ -5,11 +5,11 @@ use Rattle.g_graph.specs.declared.op.Kind.TheVariants.{Value}
 use Rattle.g_graph.specs.declared.op.Op.{Op}
 use Rattle.g_graph.specs.declared.op.Op.TheVariants.{Gamma}
 use Rattle.g_graph.specs.declared.op.Origin.{Origin}
-use Rattle.g_graph.specs.Plain.{RegionTree, region, NodeTree, node, NodeTrees, no_nodes, node_then, RegionTrees, no_regions, region_then}
+use Rattle.g_graph.specs.Plain.{RegionTree, region, NodeTree, node, NodeTrees, node_then, RegionTrees, no_regions, region_then}
 use Rattle.g_graph.specs.Lists.{RegionOps, NodesOps, RegionsOps}
 use Rattle.g_graph.specs.Replace.{nodes_redirected}
 use Rattle.g_graph.specs.Splice.{joined_nodes}
-use Rattle.g_graph.proofs.lemmas.Ops.{redirected_ops, joined_ops, found_ops}
+use Rattle.g_graph.proofs.lemmas.Ops.{redirected_ops, joined_ops, found_ops, split-ops}
 use Rattle.g_edit.specs.Uses.{is_read}
 use Rattle.g_edit.specs.Entries.{argument_after, is_gone_argument, some_reads, regions_taking}
 use Rattle.g_edit.specs.InPlace.{region_taking}
@@ -25,10 +25,6 @@ args-long first (a ∷ inputs) = ap suc (args-long (suc first) inputs)
 
 -- of a property that does not ask how many inputs a Gamma has
 module _ (p : Op → ℕ → Type 0) (gamma : (m k : ℕ) → p Gamma m → p Gamma k) where
-  split-ops : (xs ys : NodeTrees) → NodesOps p (joined_nodes xs ys) → NodesOps p xs × NodesOps p ys
-  split-ops no_nodes ys h = (tt, h)
-  split-ops (node_then x xs) ys h = let rest = split-ops xs ys h.1 in ((h.0, rest.0), rest.1)
-
   module _ (stays : List Bool) (first : ℕ) (op : Op) (inputs : List Origin) where
     one-ops : (copy : ℕ) (r : RegionTree) → (is_read (is_gone_argument stays) r ≡ true → p op (length inputs)) → RegionOps p r →
         RegionOps p (region_taking stays (region_filled stays copy first op inputs r))
@@ -87,7 +83,7 @@ module _ (p : Op → ℕ → Type 0) (gamma : (m k : ℕ) → p Gamma m → p Ga
       changed = joined_nodes at.user.before (node_then now at.user.after)
 
       parts : NodesOps p at.user.before × NodesOps p (node_then g at.user.after)
-      parts = split-ops at.user.before (node_then g at.user.after) (subst (λ ms. NodesOps p ms) at.user.is h)
+      parts = split-ops p at.user.before (node_then g at.user.after) (subst (λ ms. NodesOps p ms) at.user.is h)
 
       moved : p at.op (length at.inputs)
       moved = (found_ops p n ns (node at.id at.op at.inputs no_regions) at.at h).0

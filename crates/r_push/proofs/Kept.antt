@@ -9,7 +9,7 @@ use Rattle.g_graph.specs.declared.op.Op.TheVariants.{Const, Undef, Local, Delta,
 use Rattle.g_graph.specs.declared.op.Kind.TheVariants.{Value}
 use Rattle.g_graph.specs.declared.op.Origin.{Origin}
 use Rattle.g_graph.specs.declared.op.Origin.TheVariants.{Arg, Out}
-use Rattle.g_graph.specs.Plain.{RegionTree, region, NodeTree, node, NodeTrees, no_nodes, node_then, RegionTrees, no_regions, region_then, PlainLambda}
+use Rattle.g_graph.specs.Plain.{RegionTree, region, NodeTree, node, NodeTrees, node_then, RegionTrees, no_regions, region_then, PlainLambda}
 use Rattle.g_graph.specs.Ids.{region_ids}
 use Rattle.g_graph.specs.Change.{region_changed}
 use Rattle.g_graph.specs.Lists.{RegionOps, NodeOps, NodesOps, RegionsOps, Calls, NamesGlobal}
@@ -21,7 +21,7 @@ use Rattle.g_graph.proofs.lemmas.Complete.{complete_set, program_set}
 use Rattle.g_graph.proofs.lemmas.Nests.{changed_well_formed_within}
 use Rattle.g_graph.proofs.lemmas.Nodes.{KeptWithin}
 use Rattle.g_graph.proofs.lemmas.Numbers.{Numbered}
-use Rattle.g_graph.proofs.lemmas.Ops.{region_redirected_ops, joined_ops, changed_ops}
+use Rattle.g_graph.proofs.lemmas.Ops.{region_redirected_ops, joined_ops, changed_ops, split-ops}
 use Rattle.g_mean.specs.Edits.{IsPartOf, IsEdited, KeepsMeaning, KeepsComplete}
 use Rattle.g_mean.proofs.lemmas.Closed.{region-closed}
 use Rattle.g_mean.proofs.lemmas.Exchange.{edits_keep_meaning}
@@ -62,13 +62,9 @@ psh_well_formed n l w = by_change (region_changed (psh_here (lambda_values l) n)
 
 -- of a property that does not ask how many inputs a Gamma or a Theta has
 module _ (p : Op → ℕ → Type 0) (gamma : (m k : ℕ) → p Gamma m → p Gamma k) (theta : (m k : ℕ) → p Theta m → p Theta k) where
-  split-ops : (xs ys : NodeTrees) → NodesOps p (joined_nodes xs ys) → NodesOps p xs × NodesOps p ys
-  split-ops no_nodes ys h = (tt, h)
-  split-ops (node_then x xs) ys h = let rest = split-ops xs ys h.1 in ((h.0, rest.0), rest.1)
-
   leaves-ops : (test : Origin → Bool) (n : ℕ) (nodes : NodeTrees) (y : NodeTree) → Leaves test n nodes y → NodesOps p nodes → NodeOps p y
   leaves-ops test n nodes y at h =
-      subst (λ z. NodeOps p z) (sym at.node_is) (split-ops at.before (node_then (node n at.op at.inputs at.regions) at.after) (subst (λ ns. NodesOps p ns) at.is h)).1.0
+      subst (λ z. NodeOps p z) (sym at.node_is) (split-ops p at.before (node_then (node n at.op at.inputs at.regions) at.after) (subst (λ ns. NodesOps p ns) at.is h)).1.0
 
   one-ops : (n : ℕ) (y : NodeTree) (rs : RegionTrees) → leaving_one n rs ≡ Some y → RegionsOps p rs → NodeOps p y
   one-ops n y no_regions e h = absurd cc
@@ -130,7 +126,7 @@ module _ (p : Op → ℕ → Type 0) (gamma : (m k : ℕ) → p Gamma m → p Ga
   here-ops : (values n : ℕ) (r s : RegionTree) → psh_here values n r ≡ Some s → RegionOps p r → RegionOps p s
   here-ops values n (region args ns results) s e h =
       let at = changed-at values n args ns results s e in
-      let parts = split-ops at.before (node_then at.left at.after) (subst (λ ms. NodesOps p ms) at.is h) in
+      let parts = split-ops p at.before (node_then at.left at.after) (subst (λ ms. NodesOps p ms) at.is h) in
       subst (λ t. RegionOps p t) (sym at.result)
       (joined_ops p at.before (joined_nodes at.two at.after) parts.0 (joined_ops p at.two at.after (left-ops n at.left at.two at.gives parts.1.0) parts.1.1))
 

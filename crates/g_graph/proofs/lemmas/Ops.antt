@@ -26,6 +26,10 @@ module _ (p : Op → ℕ → Type 0) where
   joined_ops no_nodes ys h k = k
   joined_ops (node_then x xs) ys h k = (h.0, joined_ops xs ys h.1 k)
 
+  pub split-ops : (xs ys : NodeTrees) → NodesOps p (joined_nodes xs ys) → NodesOps p xs × NodesOps p ys
+  split-ops no_nodes ys h = (tt, h)
+  split-ops (node_then x xs) ys h = let rest = split-ops xs ys h.1 in ((h.0, rest.0), rest.1)
+
   spliced_ops : (n : ℕ) (own : NodeTrees) (outputs : List Origin) (ns : NodeTrees) → NodesOps p own → NodesOps p ns → NodesOps p (nodes_spliced n own outputs ns)
   spliced_ops n own outputs no_nodes k h = h
   spliced_ops n own outputs (node_then x xs) k h = by_test (id_of x == n) (spliced_ops n own outputs xs k h.1)
