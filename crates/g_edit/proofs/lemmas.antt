@@ -31,3 +31,7 @@ pub mod Fewer
 pub mod Exchanged
 pub mod Pure
 pub mod Meant
+pub mod Consecutive
+pub mod Found
+pub mod Loops
+pub mod Numbers

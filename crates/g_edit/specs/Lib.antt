@@ -13,3 +13,5 @@ pub mod Carried
 pub mod Size
 pub mod Added
 pub mod Steps
+pub mod Origins
+pub mod Found

@@ -1,6 +1,7 @@
 //! What the rules share: what they ask a region for, and the named edits that their changes are
 //! made of, each with its laws. It stands on g_graph, g_mean and no_memory.
-//! It promises that an edit gives the defined region, and takes no memory; a list of tests does.
+//! It promises that an edit gives the defined region, and takes no memory; a list of tests or of
+//! origins does.
 #![tactic(auto)]
 
 mod carried;
@@ -9,6 +10,7 @@ mod exits;
 mod in_place;
 pub mod laws;
 mod lookup;
+mod origins;
 mod places;
 mod removal;
 mod size;
@@ -23,6 +25,7 @@ pub use entries::{keep_entries, keep_entries_of};
 pub use exits::keep_exits;
 pub use in_place::{NodeEdit, RegionEdit, edit_first, edit_regions, redirect_after};
 pub use lookup::{first_of, same_op, same_origins};
+pub use origins::{arguments, outputs_of};
 pub use places::{
     keep, keep_after_first, keep_inputs, keep_inputs_after_first, place_after, stays_at,
 };

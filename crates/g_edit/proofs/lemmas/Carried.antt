@@ -22,7 +22,6 @@ use Rattle.g_graph.specs.Change.{has_node}
 use Rattle.g_graph.specs.Replace.{nodes_redirected}
 use Rattle.g_graph.specs.Splice.{joined_nodes}
 use Rattle.g_graph.proofs.lemmas.Indexes.{same_number_true, is_origin_some}
-use Rattle.g_graph.proofs.lemmas.Moved.{same_origin_true}
 use Rattle.g_mean.specs.Data.{Datum, at_port, value_of}
 use Rattle.g_mean.specs.Meaning.{Context, chosen, branched, Outputs, no_outputs, extended, read, region_meaning, node_run, nodes_run, meanings}
 use Rattle.g_mean.specs.LessDefined.{Paired, IsLessDefinedDatum}

@@ -1,5 +1,5 @@
 -- A Gamma without some of its entry variables fits in its place.
-use Rattle.std.proofs.Common.{◌≡◌, ℕ, ◌==◌, ◌⊎◌, cond, Bool, true, false, not, ◌&&◌, ◌||◌, List, [], ◌∷◌, ◌++◌, map, length, Option, None, Some, refl, sym, ap, subst, ◌∙◌, inl, inr, arith}
+use Rattle.std.proofs.Common.{◌≡◌, ℕ, ◌⊎◌, Bool, true, false, not, ◌&&◌, ◌||◌, List, [], ◌∷◌, ◌++◌, map, length, Option, None, Some, refl, sym, ap, subst, ◌∙◌, inl, inr, arith}
 use Rattle.std.proofs.lemmas.Bool.{and_parts, or_parts}
 use Rattle.std.proofs.lemmas.Option.{same_Some}
 use Rattle.g_graph.specs.declared.op.Kind.{Kind}
@@ -22,14 +22,13 @@ use Rattle.g_graph.proofs.lemmas.Indexes.{same_number_true, last_gives, gives_la
 use Rattle.g_graph.proofs.lemmas.Moved.{last_is_known}
 use Rattle.g_graph.proofs.lemmas.Nodes.{NodeFits, KeptWithin, are_kinds, same_kinds}
 use Rattle.g_graph.proofs.lemmas.Ops.{redirected_ops}
-use Rattle.g_graph.proofs.lemmas.Redirects.{nodes_ids-redirected, kind_after-redirected, state_after-redirected, gives-redirected, every_in_nodes-redirected, all_unmoved, nodes_unmoved}
+use Rattle.g_graph.proofs.lemmas.Redirects.{nodes_ids-redirected, kind_after-redirected, state_after-redirected, gives-redirected, every_in_nodes-redirected}
 use Rattle.g_graph.proofs.lemmas.Unique.{times}
 use Rattle.g_edit.specs.Uses.{nodes_read, is_read}
 use Rattle.g_edit.specs.Places.{stays_at, kept, place_after}
-use Rattle.g_edit.specs.Exits.{output_after, is_gone_output}
 use Rattle.g_edit.specs.Entries.{argument_after, is_gone_argument, some_reads, regions_taking, node_taking, entries_kept}
 use Rattle.g_graph.proofs.lemmas.KindLists.{are_themselves}
-use Rattle.g_edit.proofs.lemmas.Kept.{from_none, kept_none, kept_map, kept_get, all_kept, is_not, states_fewer, last_follows}
+use Rattle.g_edit.proofs.lemmas.Kept.{from_none, kept_map, kept_get, all_kept, is_not, states_fewer, last_follows}
 use Rattle.g_edit.proofs.lemmas.Placed.{not_before}
 use Rattle.g_edit.proofs.lemmas.Scopes.{KeepsScope, kept_all, kept_nodes_fit}
 use Rattle.g_edit.proofs.lemmas.Entries.{taking_joined}

@@ -1,5 +1,5 @@
 -- A node that gives the same in the place of a node: the region stays well formed.
-use Rattle.std.proofs.Common.{◌≡◌, ◌≤◌, ℕ, ◌==◌, Bool, true, false, ◌&&◌, ◌||◌, cond, List, [], ◌∷◌, map, refl, sym, ap, subst, ◌∙◌}
+use Rattle.std.proofs.Common.{◌≡◌, ◌≤◌, ℕ, ◌==◌, Bool, true, false, ◌&&◌, ◌||◌, cond, List, [], ◌∷◌, map, refl, sym, subst, ◌∙◌}
 use Rattle.g_graph.specs.declared.op.Kind.{Kind}
 use Rattle.g_graph.specs.declared.op.Origin.{Origin}
 use Rattle.g_graph.specs.declared.op.Origin.TheVariants.{Arg, Out}

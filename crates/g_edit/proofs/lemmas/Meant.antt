@@ -1,12 +1,14 @@
--- Nodes that read the same elsewhere, and so mean the same.
-use Rattle.std.proofs.Common.{◌≡◌, Bool, List, [], ◌∷◌, map, refl, sym, ap, ap₂, subst, ◌∙◌}
+-- What nodes do: those that read the same elsewhere, and one among others.
+use Rattle.std.proofs.Common.{◌≡◌, Bool, List, [], ◌∷◌, map, refl, sym, ap, ap₂, subst}
 use Rattle.val_core.specs.Answers.{Answer, Returned, then_on}
 use Rattle.g_graph.specs.declared.op.Origin.{Origin}
-use Rattle.g_graph.specs.Plain.{node, NodeTrees, no_nodes, node_then}
+use Rattle.g_graph.specs.Plain.{NodeTree, node, NodeTrees, no_nodes, node_then}
 use Rattle.g_graph.specs.Ids.{nodes_ids}
 use Rattle.g_graph.specs.Replace.{nodes_redirected}
+use Rattle.g_graph.specs.Splice.{joined_nodes}
 use Rattle.g_mean.specs.Data.{Datum}
 use Rattle.g_mean.specs.Meaning.{Context, Outputs, read, nodes_run}
+use Rattle.g_mean.specs.Holds.{HasRun, HaveRun}
 use Rattle.g_mean.specs.Copies.{AreRead, NodesRead, known_after, CanMove, Same, ReadSame}
 use Rattle.g_mean.proofs.lemmas.Copies.{Equals, reads-same, redirected-moved, same-then, same-equal, copied_nodes_mean_the_same}
 
@@ -36,3 +38,8 @@ pub redirected-twice : (f g : Origin → Origin) (ns : NodeTrees) → nodes_redi
 redirected-twice f g no_nodes = refl
 redirected-twice f g (node_then (node id op inputs rs) ns) =
     ap₂ (λ os ms. node_then (node id op os rs) ms) (map-twice f g inputs) (redirected-twice f g ns)
+
+-- where all of these have run, so has the one among them
+pub has-run : (c : Context) (xs : List Datum) (o : Outputs) (before : NodeTrees) (x : NodeTree) (after : NodeTrees) → HaveRun c xs o (joined_nodes before (node_then x after)) → HasRun c xs o x
+has-run c xs o no_nodes x after h = h.0
+has-run c xs o (node_then z before) x after h = has-run c xs o before x after h.1

@@ -1,15 +1,9 @@
 -- What calls over two complete lists give, of which one may stand for the other.
-use Rattle.std.proofs.Common.{◌≡◌, ℕ, ◌⊎◌, List, [], ◌∷◌, refl, sym, ap, ap₂, subst₂, ◌∙◌, inl, inr}
-use Rattle.val_core.specs.declared.values.Value.{Value}
-use Rattle.val_core.specs.declared.values.Value.TheVariants.{Bad}
-use Rattle.val_core.specs.Values.{IsLessDefined}
-use Rattle.val_core.specs.Memory.{Memory as Blocks}
+use Rattle.std.proofs.Common.{ℕ}
 use Rattle.val_core.specs.Answers.{Answer, Returned, Cut, Exited, Gives}
 use Rattle.val_core.specs.Within.{behaviour, Within}
-use Rattle.g_graph.specs.declared.op.Kind.TheVariants.{Value as ValueKind, Memory, Io}
-use Rattle.g_mean.specs.Data.{Datum, val, memory, input}
 use Rattle.g_mean.specs.Calls.{lambda_at}
-use Rattle.g_mean.specs.Kinds.{IsOfKind, AreOfKinds, call_gives, ReturnsRefine}
+use Rattle.g_mean.specs.Kinds.{AreOfKinds, call_gives, ReturnsRefine}
 use Rattle.g_mean.specs.LessDefined.{Paired, IsLessDefinedDatum}
 use Rattle.g_mean.proofs.lemmas.Kinds.{all-well-formed, lambdas_keep_kinds, return-refine}
 use Rattle.g_edit.specs.Steps.{CompleteListsReturn}

@@ -8,13 +8,21 @@ use Rattle.g_graph.specs.declared.op.Op.{Op}
 use Rattle.g_graph.specs.declared.op.Op.TheVariants.{Const, Undef, Local, Delta, Bin, Un, Load, Store, Clear, PtrEq, Apply, Put, Exit, Get, Gamma, Theta}
 use Rattle.g_graph.specs.Plain.{RegionTree, region, NodeTree, node, NodeTrees, no_nodes, node_then, RegionTrees, no_regions, region_then, args_of}
 use Rattle.g_graph.specs.Signatures.{outputs_of, result_kinds}
-use Rattle.g_graph.specs.Count.{region_values, node_values, nodes_values, regions_values}
+use Rattle.g_graph.specs.Count.{saturated, region_values, node_values, nodes_values, regions_values}
 use Rattle.g_graph.specs.declared.op.Origin.{Origin}
 use Rattle.g_graph.specs.Replace.{region_redirected}
 use Rattle.g_graph.specs.Change.{region_changed, node_changed, nodes_changed, regions_changed}
 use Rattle.g_graph.specs.Program.{lambda_values}
 use Rattle.g_graph.proofs.lemmas.Redirects.{nodes_values-redirected}
-use Rattle.g_edit.specs.Size.{IsNoLarger, Resized, IsResized, ResizedLambdasAreNoLarger}
+use Rattle.g_edit.specs.Size.{IsNoLarger, may_change_size, Resized, IsResized, ResizedLambdasAreNoLarger}
+
+-- a count that is saturated decides as the count itself
+pub saturated-decides : (v added gone : ℕ) → may_change_size (saturated v) added gone ≡ may_change_size v added gone
+saturated-decides v added gone = by (nat_le added gone) refl
+  where
+    by : (t : Bool) → nat_le added gone ≡ t → t || nat_le (saturated v + added) (8192 + gone) ≡ t || nat_le (v + added) (8192 + gone)
+    by true e = refl
+    by false e = grind (arith, nat_tests, e)
 
 -- what stays around a count that changes
 around : (values before after front rest : ℕ) → Resized values before after → Resized values (front + before + rest) (front + after + rest)

@@ -4,19 +4,15 @@ use Rattle.std.proofs.Common.{◌≡◌, ◌≢◌, ℕ, zero, suc, ◌+◌, ◌
 use Rattle.std.proofs.Math.Nat.{le_trans}
 use Rattle.std.proofs.lemmas.Option.{same_Some}
 use Rattle.val_core.specs.Answers.{Answer, Returned, Cut, Exited, Undefined, IsUndefined}
-use Rattle.val_core.specs.Events.{IsPrefixOf}
-use Rattle.val_core.specs.Within.{Behaviour, Returns, Running, Terminates, Fails, behaviour, Within}
-use Rattle.val_core.proofs.lemmas.Events.{prefixes_compose}
-use Rattle.val_core.proofs.lemmas.Within.{prefix-eq, fails-within, within_composes}
-use Rattle.g_graph.specs.Plain.{RegionTree, PlainLambda}
+use Rattle.val_core.specs.Within.{Fails, behaviour, Within}
+use Rattle.val_core.proofs.lemmas.Within.{fails-within, within_composes}
+use Rattle.g_graph.specs.Plain.{PlainLambda}
 use Rattle.g_mean.specs.Data.{Datum}
 use Rattle.g_mean.specs.LessDefined.{Paired, IsLessDefinedDatum}
-use Rattle.g_mean.specs.Refining.{LambdasSameBut}
 use Rattle.g_mean.specs.Replacement.{Replaces, IsKeptWithinTwice}
-use Rattle.g_mean.proofs.lemmas.Calls.{same-itself}
 use Rattle.g_mean.proofs.lemmas.Programs.{programs_keep_meaning}
 use Rattle.g_mean.proofs.lemmas.Replacement.{lambdas_keep_meaning}
-use Rattle.g_mean.proofs.lemmas.LocalRefinement.{less-composes, pairs-compose}
+use Rattle.g_mean.proofs.lemmas.LocalRefinement.{pairs-compose}
 use Rattle.g_mean.proofs.lemmas.Edits.{lambdas-itself}
 use Rattle.g_edit.specs.Size.{IsNoLarger}
 use Rattle.g_edit.specs.Steps.{WithinBothWays, AreKeptBothWays, MayStandForAll, KeepsInterface, HasEach, IsApartFrom}
@@ -102,12 +98,12 @@ set-again [] f k j = refl
 set-again (l ∷ ls) zero k j = refl
 set-again (l ∷ ls) (suc f) k j = ap (λ ks. l ∷ ks) (set-again ls f k j)
 
-set-there : (ls : List PlainLambda) (f : ℕ) (l k : PlainLambda) → slice_get ls f ≡ Some l → slice_get (slice_set ls f k) f ≡ Some k
+pub set-there : (ls : List PlainLambda) (f : ℕ) (l k : PlainLambda) → slice_get ls f ≡ Some l → slice_get (slice_set ls f k) f ≡ Some k
 set-there [] f l k e = absurd cc
 set-there (j ∷ ls) zero l k e = refl
 set-there (j ∷ ls) (suc f) l k e = set-there ls f l k e
 
-set-elsewhere : (ls : List PlainLambda) (f g : ℕ) (k : PlainLambda) → g ≢ f → slice_get (slice_set ls f k) g ≡ slice_get ls g
+pub set-elsewhere : (ls : List PlainLambda) (f g : ℕ) (k : PlainLambda) → g ≢ f → slice_get (slice_set ls f k) g ≡ slice_get ls g
 set-elsewhere [] f g k n = refl
 set-elsewhere (l ∷ ls) zero zero k n = absurd (n refl)
 set-elsewhere (l ∷ ls) zero (suc g) k n = refl
@@ -124,7 +120,7 @@ interface-composes : (l k j : PlainLambda) → KeepsInterface l k → KeepsInter
 interface-composes l k j h g =
     record { number = g.number ∙ h.number; params = g.params ∙ h.params; objects = g.objects ∙ h.objects }
 
-no-larger-composes : (a b c : ℕ) → IsNoLarger a b → IsNoLarger b c → IsNoLarger a c
+pub no-larger-composes : (a b c : ℕ) → IsNoLarger a b → IsNoLarger b c → IsNoLarger a c
 no-larger-composes a b c h (inl e) = inl e
 no-larger-composes a b c (inl d) (inr e) = inl (le_trans e d)
 no-larger-composes a b c (inr d) (inr e) = inr (le_trans e d)
