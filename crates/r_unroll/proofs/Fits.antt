@@ -21,8 +21,9 @@ use Rattle.g_copy.proofs.lemmas.Fits.{copies_fit}
 use Rattle.g_edit.proofs.lemmas.AddedFit.{Fits, fits-parts, fits-from}
 use Rattle.g_edit.proofs.lemmas.Kept.{IsState}
 use Rattle.g_edit.proofs.lemmas.Pure.{no-index}
-use Rattle.r_unroll.specs.Rule.{origins_from, stopping, unrolled}
-use Rattle.r_unroll.proofs.Consecutive.{all-known, all-last}
+use Rattle.g_edit.proofs.lemmas.Consecutive.{all-known, all-last}
+use Rattle.g_edit.specs.Origins.{origins_from}
+use Rattle.r_unroll.specs.Rule.{stopping, unrolled}
 
 -- ---- one more node
 

@@ -1,14 +1,14 @@
 -- The loop that is found first is the one that the change unrolls.
 use Rattle.std.specs.Option.{option_or}
 use Rattle.std.specs.Prelude.{◌==◌, option_and_then, unwrap_or, ◌-◌, is_some}
-use Rattle.std.proofs.Common.{◌≡◌, ◌⊎◌, ℕ, ◌+◌, Bool, true, false, cond, List, [], ◌∷◌, ◌++◌, length, length-append, Option, None, Some, option_map, refl, sym, ap, subst, ◌∙◌, inl, inr, arith}
+use Rattle.std.proofs.Common.{◌≡◌, ℕ, ◌+◌, Bool, true, false, cond, List, [], ◌∷◌, ◌++◌, length, length-append, Option, None, Some, option_map, refl, sym, ap, subst, ◌∙◌, inl, inr, arith}
 use Rattle.std.proofs.lemmas.List.{length-map}
 use Rattle.std.proofs.lemmas.Option.{cond_some, same_Some}
 use Rattle.g_graph.specs.declared.op.Op.TheVariants.{Theta}
 use Rattle.g_graph.specs.declared.op.Origin.{Origin}
 use Rattle.g_graph.specs.declared.op.Origin.TheVariants.{Out}
 use Rattle.g_graph.specs.Plain.{RegionTree, region, NodeTree, node, NodeTrees, no_nodes, node_then, RegionTrees, no_regions, region_then, id_of, regions_in, results_of, PlainLambda}
-use Rattle.g_graph.specs.Change.{region_changed, node_changed, nodes_changed, regions_changed}
+use Rattle.g_graph.specs.Change.{region_changed}
 use Rattle.g_graph.specs.Ids.{region_ids, nodes_ids, node_ids}
 use Rattle.g_graph.specs.Nodes.{node_at, node_set}
 use Rattle.g_graph.specs.Program.{lambda_values}
@@ -18,88 +18,15 @@ use Rattle.g_graph.proofs.lemmas.Found.{found_at}
 use Rattle.g_graph.proofs.lemmas.Nests.{region_changed_ids}
 use Rattle.g_graph.proofs.lemmas.Splices.{nodes_ids-joined}
 use Rattle.g_mean.specs.Copies.{NodeReads, NodesRead, AllClosed, IsClosed, is_argument}
+use Rattle.g_edit.specs.Found.{region_found, node_found, nodes_found, regions_found}
+use Rattle.g_edit.proofs.lemmas.Found.{Agree, Only, both-change, found-where-changed}
 use Rattle.g_copy.specs.Numbering.{number_from, node_count, region_numbered}
 use Rattle.g_copy.proofs.lemmas.Numbering.{copied-ids}
-use Rattle.r_unroll.specs.Rule.{origins_from, followed_by, second_turn_of, unrolled, may_unroll, node_unrolled, url_here, url}
-use Rattle.r_unroll.specs.Edit.{loop_body, loop_at, region_found, node_found, nodes_found, regions_found, node_followed, followed_at}
-use Rattle.r_unroll.proofs.At.{loop_node}
-
--- ---- two changes that agree where something is found
-
-record Both {X : Type 0} (o : Option RegionTree) (a b : Option X) : Type 0 where
-  found : RegionTree
-  is : o ≡ Some found
-  result : X
-  left : a ≡ Some result
-  right : b ≡ Some result
-
--- nothing is found or changed, or both changes give the same
-abbrev Alike : {X : Type 0} → Option RegionTree → (a b : Option X) → Type 0
-Alike o a b = ((o ≡ None) × (a ≡ None) × (b ≡ None)) ⊎ Both o a b
-
-abbrev Only : RegionTree → Option RegionTree → Type 0
-Only y o = (z : RegionTree) → o ≡ Some z → z ≡ y
-
-or-alike : {X : Type 0} (o o' : Option RegionTree) (a b a' b' : Option X) → Alike o a b → (o ≡ None → Alike o' a' b') → Alike (option_or o o') (option_or a a') (option_or b b')
-or-alike o o' a b a' b' (inl h) go = rw (h.0, h.1, h.2) (go h.0)
-or-alike o o' a b a' b' (inr h) go =
-    inr (record {
-      found = h.found;
-      is = ap (λ x. option_or x o') h.is;
-      result = h.result;
-      left = ap (λ x. option_or x a') h.left;
-      right = ap (λ x. option_or x b') h.right;
-    })
-
-map-alike : {X Y : Type 0} (w : X → Y) (o : Option RegionTree) (a b : Option X) → Alike o a b → Alike o (option_map w a) (option_map w b)
-map-alike w o a b (inl h) = inl (h.0, ap (option_map w) h.1, ap (option_map w) h.2)
-map-alike w o a b (inr h) =
-    inr (record { found = h.found; is = h.is; result = w h.result; left = ap (option_map w) h.left; right = ap (option_map w) h.right })
-
-only-first : (y : RegionTree) (o o' : Option RegionTree) → Only y (option_or o o') → Only y o
-only-first y o o' only z e = only z (ap (λ x. option_or x o') e)
-
-only-later : (y : RegionTree) (o o' : Option RegionTree) → o ≡ None → Only y (option_or o o') → Only y o'
-only-later y o o' none only z e = only z (ap (λ x. option_or x o') none ∙ e)
-
-module _ (h f g : RegionTree → Option RegionTree) (y : RegionTree) (base : (t : RegionTree) → Only y (h t) → Alike (h t) (f t) (g t)) where
-  mutual
-    region-alike : (r : RegionTree) → Only y (region_found h r) → Alike (region_found h r) (region_changed f r) (region_changed g r)
-    region-alike (region args nodes results) only =
-        let r = region args nodes results in
-        or-alike (h r) (nodes_found h nodes) (f r) (g r) (option_map (λ ns. region args ns results) (nodes_changed f nodes)) (option_map (λ ns. region args ns results) (nodes_changed g nodes))
-        (base r (only-first y (h r) (nodes_found h nodes) only))
-        (λ e. map-alike (λ ns. region args ns results) (nodes_found h nodes) (nodes_changed f nodes) (nodes_changed g nodes) (nodes-alike nodes (only-later y (h r) (nodes_found h nodes) e only)))
-
-    node-alike : (x : NodeTree) → Only y (node_found h x) → Alike (node_found h x) (node_changed f x) (node_changed g x)
-    node-alike (node id op inputs rs) only =
-        map-alike (λ ss. node id op inputs ss) (regions_found h rs) (regions_changed f rs) (regions_changed g rs) (regions-alike rs only)
-
-    nodes-alike : (ns : NodeTrees) → Only y (nodes_found h ns) → Alike (nodes_found h ns) (nodes_changed f ns) (nodes_changed g ns)
-    nodes-alike no_nodes only = inl (refl, refl, refl)
-    nodes-alike (node_then x xs) only =
-        or-alike (node_found h x) (nodes_found h xs) (option_map (λ z. node_then z xs) (node_changed f x)) (option_map (λ z. node_then z xs) (node_changed g x))
-        (option_map (λ zs. node_then x zs) (nodes_changed f xs)) (option_map (λ zs. node_then x zs) (nodes_changed g xs))
-        (map-alike (λ z. node_then z xs) (node_found h x) (node_changed f x) (node_changed g x) (node-alike x (only-first y (node_found h x) (nodes_found h xs) only)))
-        (λ e. map-alike (λ zs. node_then x zs) (nodes_found h xs) (nodes_changed f xs) (nodes_changed g xs) (nodes-alike xs (only-later y (node_found h x) (nodes_found h xs) e only)))
-
-    regions-alike : (rs : RegionTrees) → Only y (regions_found h rs) → Alike (regions_found h rs) (regions_changed f rs) (regions_changed g rs)
-    regions-alike no_regions only = inl (refl, refl, refl)
-    regions-alike (region_then r rs) only =
-        or-alike (region_found h r) (regions_found h rs) (option_map (λ s. region_then s rs) (region_changed f r)) (option_map (λ s. region_then s rs) (region_changed g r))
-        (option_map (λ ss. region_then r ss) (regions_changed f rs)) (option_map (λ ss. region_then r ss) (regions_changed g rs))
-        (map-alike (λ s. region_then s rs) (region_found h r) (region_changed f r) (region_changed g r) (region-alike r (only-first y (region_found h r) (regions_found h rs) only)))
-        (λ e. map-alike (λ ss. region_then r ss) (regions_found h rs) (regions_changed f rs) (regions_changed g rs) (regions-alike rs (only-later y (region_found h r) (regions_found h rs) e only)))
-
-  -- both give one region
-  both-change : (r : RegionTree) → region_found h r ≡ Some y → (s : RegionTree) × (region_changed f r ≡ Some s) × (region_changed g r ≡ Some s)
-  both-change r e = by (region-alike r (λ z d. same_Some z y (sym d ∙ e)))
-    where
-      by : Alike (region_found h r) (region_changed f r) (region_changed g r) → (s : RegionTree) × (region_changed f r ≡ Some s) × (region_changed g r ≡ Some s)
-      by (inl k) =
-          let none : None ≡ Some y = sym k.0 ∙ e in
-          absurd cc
-      by (inr k) = (k.result, k.left, k.right)
+use Rattle.g_edit.proofs.lemmas.Loops.{loop_node}
+use Rattle.g_edit.specs.Origins.{origins_from}
+use Rattle.r_unroll.specs.Rule.{followed_by, second_turn_of, unrolled, may_unroll, node_unrolled, url_here, url}
+use Rattle.r_unroll.specs.Edit.{loop_body, loop_at, node_followed, followed_at}
+use Rattle.r_unroll.proofs.Counted.{here_found}
 
 -- ---- what is found is closed
 
@@ -197,14 +124,14 @@ module _ (values next n : ℕ) (y : RegionTree) where
   abbrev outs : List Origin
   outs = origins_from (Out next) 0 (length (results_of y))
 
-  base : (t : RegionTree) → Only y (loop_at values next n t) → Alike (loop_at values next n t) (url_here values next n t) (made values next n y t)
+  base : (t : RegionTree) → Only y (loop_at values next n t) → Agree (loop_at values next n t) (url_here values next n t) (made values next n y t)
   base (region args nodes results) only = by (node_at n nodes) only
     where
       with_node : NodeTree → RegionTree
       with_node x = region args (node_set n x nodes) results
 
       test : (id : ℕ) (inputs : List Origin) (r : RegionTree) (t : Bool) → Only y (cond t (Some r) None) →
-          Alike (cond t (Some r) None) (option_map with_node (cond t (Some (loop_node id inputs (unrolled next r))) None))
+          Agree (cond t (Some r) None) (option_map with_node (cond t (Some (loop_node id inputs (unrolled next r))) None))
           (option_map with_node (cond t (Some (loop_node id inputs (followed_by last outs r))) None))
       test id inputs r true only =
           inr (record {
@@ -217,7 +144,7 @@ module _ (values next n : ℕ) (y : RegionTree) where
       test id inputs r false only = inl (refl, refl, refl)
 
       by : (o : Option NodeTree) → Only y (option_and_then (loop_body values next) o) →
-          Alike (option_and_then (loop_body values next) o) (option_map with_node (option_and_then (node_unrolled values next) o))
+          Agree (option_and_then (loop_body values next) o) (option_map with_node (option_and_then (node_unrolled values next) o))
           (option_map with_node (option_and_then (node_followed values next last outs) o))
       by None only = inl (refl, refl, refl)
       by (Some (node id Theta inputs (region_then r no_regions))) only = test id inputs r (may_unroll values next r) only
@@ -231,22 +158,7 @@ module _ (values next n : ℕ) (y : RegionTree) where
 
 -- where the rule applies something is found
 pub found-some : (values next n : ℕ) (r : RegionTree) → is_some (region_changed (url_here values next n) r) ≡ true → is_some (region_found (loop_at values next n) r) ≡ true
-found-some values next n r e = by (region_found (loop_at values next n) r) refl
-  where
-    by : (o : Option RegionTree) → region_found (loop_at values next n) r ≡ o → is_some (region_found (loop_at values next n) r) ≡ true
-    by (Some y) d = ap is_some d
-    by None d =
-        none (region-alike (loop_at values next n) (url_here values next n) (made values next n r) r (base values next n r) r
-        (λ z f. let no : None ≡ Some z = sym d ∙ f in absurd cc))
-      where
-        none : Alike (region_found (loop_at values next n) r) (region_changed (url_here values next n) r) (region_changed (made values next n r) r) →
-            is_some (region_found (loop_at values next n) r) ≡ true
-        none (inl k) =
-            let no : false ≡ true = sym (ap is_some k.1) ∙ e in
-            absurd cc
-        none (inr k) =
-            let no : None ≡ Some k.found = sym d ∙ k.is in
-            absurd cc
+found-some values next n r e = found-where-changed (loop_at values next n) (url_here values next n) (here_found values next n) r e
 
 -- ---- numbers in number
 

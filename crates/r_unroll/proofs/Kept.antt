@@ -39,10 +39,12 @@ use Rattle.g_edit.proofs.lemmas.Exchanged.{exchanged_stays}
 use Rattle.g_edit.proofs.lemmas.Size as size
 use Rattle.g_edit.proofs.lemmas.Steps.{contracts_give_steps, edits_keep_interface}
 use Rattle.g_edit.proofs.lemmas.Swapped.{RegionStays}
-use Rattle.r_unroll.specs.Rule.{origins_from, stopping, unrolled, region_loops, most_loop_values, growth, url_here, body_unrolled, url}
+use Rattle.g_edit.proofs.lemmas.Loops.{loop_node}
+use Rattle.g_edit.proofs.lemmas.Consecutive.{length-from}
+use Rattle.g_edit.specs.Origins.{origins_from}
+use Rattle.r_unroll.specs.Rule.{stopping, unrolled, region_loops, most_loop_values, growth, url_here, body_unrolled, url}
 use Rattle.r_unroll.specs.Laws.{UrlIsAStep}
-use Rattle.r_unroll.proofs.At.{loop_node, unrolls-at}
-use Rattle.r_unroll.proofs.Consecutive.{length-from}
+use Rattle.r_unroll.proofs.At.{unrolls-at}
 use Rattle.r_unroll.proofs.Fits.{unrolled-results, unrolled-fits}
 use Rattle.r_unroll.proofs.Numbers.{Adds, unrolled-ids, adds-here, adds-within, adds-once}
 use Rattle.r_unroll.proofs.Replaced.{url_replaces}

@@ -1,13 +1,12 @@
 mod Examples
 mod Turns
-mod Consecutive
 mod Unrolled
 mod At
 mod Replaced
 mod Fits
 mod Numbers
 mod Kept
-mod Found
 mod Counted
+mod Found
 mod Made
 mod Followed

@@ -17,9 +17,10 @@ use Rattle.g_mean.specs.Copies.{IsClosed}
 use Rattle.g_mean.proofs.lemmas.Closed.{region-closed}
 use Rattle.g_edit.specs.Size.{may_change_size}
 use Rattle.g_copy.specs.Numbering.{node_count}
-use Rattle.r_unroll.specs.Edit.{loop_body, loop_at, region_found, node_followed, followed_at, results_after, next_after}
+use Rattle.g_edit.proofs.lemmas.Loops.{loop_node}
+use Rattle.g_edit.specs.Found.{region_found}
+use Rattle.r_unroll.specs.Edit.{loop_body, loop_at, node_followed, followed_at, results_after, next_after}
 use Rattle.r_unroll.specs.Rule.{followed_by, second_turn_of, region_loops, most_loop_values, growth, applies, url}
-use Rattle.r_unroll.proofs.At.{loop_node}
 use Rattle.r_unroll.proofs.Counted.{may-same}
 use Rattle.r_unroll.proofs.Found.{found-loop, found-some, made, url-made}
 

@@ -1,8 +1,7 @@
 -- Turns of a loop, each of which is up to two turns of another one.
 use Rattle.std.specs.Prelude.{◌==◌}
 use Rattle.std.proofs.Common.{◌≡◌, ℕ, zero, suc, Bool, true, false, cond, List, [], ◌∷◌, refl, sym, ap, subst, ◌∙◌, arith}
-use Rattle.val_core.specs.declared.values.Value.{Value}
-use Rattle.val_core.specs.declared.values.Value.TheVariants.{Num, At, Bad}
+use Rattle.val_core.specs.declared.values.Value.TheVariants.{Num}
 use Rattle.val_core.specs.Answers.{Answer, Returned, then_on, on_number}
 use Rattle.val_core.specs.Refinement.{Direction, Forward, Backward, Refines, no_deeper}
 use Rattle.val_core.proofs.lemmas.Answers.{then_associates}
@@ -14,6 +13,7 @@ use Rattle.g_mean.specs.Refining.{InOrder}
 use Rattle.g_mean.proofs.lemmas.Equal.{no_deeper-compares}
 use Rattle.g_mean.proofs.lemmas.LessDefined.{less-kept}
 use Rattle.g_mean.proofs.lemmas.Regions.{pick, both-cut, less-cut, far-cut, on_number-refines}
+use Rattle.g_edit.proofs.lemmas.Loops.{then-number}
 use Rattle.r_unroll.specs.Laws.{second_turn, AreTurnsUnrolled}
 
 -- ---- bounds
@@ -31,11 +31,6 @@ two-less Forward n m h = omega (arith, h)
 two-less Backward n m h = omega (arith, h)
 
 -- ---- one turn
-
-pub then-number : {A B : Type 0} (v : Value) (f : ℕ → Answer A) (next : A → Answer B) → then_on (on_number v f) next ≡ on_number v (λ w. then_on (f w) next)
-then-number (Num w) f next = refl
-then-number (At b o) f next = refl
-then-number Bad f next = refl
 
 module _ (direction : Direction) where
   abbrev Near : List Datum → List Datum → Type 0

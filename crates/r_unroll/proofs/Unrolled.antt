@@ -1,33 +1,27 @@
 -- What an unrolled region does.
 use Rattle.std.specs.Prelude.{◌+◌, ◌==◌}
-use Rattle.std.proofs.Common.{◌≡◌, ℕ, zero, suc, Bool, true, false, cond, List, [], ◌∷◌, map, length, Some, slice_get, refl, sym, ap, subst, ◌∙◌, arith}
+use Rattle.std.proofs.Common.{◌≡◌, ℕ, suc, Bool, true, false, cond, List, [], ◌∷◌, map, length, refl, sym, ap, subst, ◌∙◌, arith}
 use Rattle.std.proofs.Math.Path.{fun_ext}
-use Rattle.std.proofs.lemmas.Bool.Decides.{nat_tests}
 use Rattle.std.proofs.lemmas.List.{length-map}
-use Rattle.std.proofs.lemmas.Option.{get_or_from_slice_get}
-use Rattle.val_core.specs.declared.values.Value.TheVariants.{Num, Bad}
+use Rattle.val_core.specs.declared.values.Value.TheVariants.{Num}
 use Rattle.val_core.specs.Answers.{Answer, Returned, then_on, on_number, Gives}
-use Rattle.val_core.proofs.lemmas.Answers.{then_associates, then_nothing, then_on_given, gives-then}
+use Rattle.val_core.proofs.lemmas.Answers.{then_associates, then_nothing, then_on_given}
 use Rattle.g_graph.specs.declared.op.Kind.{Kind}
 use Rattle.g_graph.specs.declared.op.Op.TheVariants.{Gamma}
 use Rattle.g_graph.specs.declared.op.Origin.{Origin}
 use Rattle.g_graph.specs.declared.op.Origin.TheVariants.{Arg, Out}
 use Rattle.g_graph.specs.Plain.{RegionTree, region, NodeTree, node, NodeTrees, no_nodes, node_then, no_regions, region_then}
-use Rattle.g_mean.specs.Data.{Datum, val, at_port}
+use Rattle.g_mean.specs.Data.{Datum, val}
 use Rattle.g_mean.specs.Meaning.{Meaning, Context, chosen, branched, Outputs, no_outputs, extended, read, region_meaning, nodes_run}
 use Rattle.g_mean.proofs.lemmas.Copies.{extended-same}
 use Rattle.g_mean.proofs.lemmas.Splices.{joined-run}
+use Rattle.g_edit.specs.Origins.{origins_from}
+use Rattle.g_edit.proofs.lemmas.Consecutive.{all-from}
+use Rattle.g_edit.proofs.lemmas.Loops.{then-number, at-port, gives-results, chosen-two}
 use Rattle.g_copy.specs.Numbering.{region_numbered}
 use Rattle.g_copy.proofs.lemmas.Copies.{numbered_copies_mean_the_same}
-use Rattle.r_unroll.specs.Rule.{origins_from, stopping, unrolled}
+use Rattle.r_unroll.specs.Rule.{stopping, unrolled}
 use Rattle.r_unroll.specs.Laws.{second_turn, IsLoopRegion, UnrolledRegionsTakeTwoTurns}
-use Rattle.r_unroll.proofs.Consecutive.{all-from}
-use Rattle.r_unroll.proofs.Turns.{then-number}
-
--- ---- data
-
-at-port : (ys : List Datum) (k : ℕ) (y : Datum) → slice_get ys k ≡ Some y → at_port ys k ≡ y
-at-port ys k y e = get_or_from_slice_get ys k y (val Bad) e
 
 -- ---- the region that stops
 
@@ -36,21 +30,6 @@ stops c id args ys e =
     let q = extended no_outputs id (val (Num 0) ∷ []) in
     λ i. Returned (extended-same no_outputs id (val (Num 0) ∷ []) id 0 refl i
     ∷ (ap (λ count. map (read ys q) (origins_from Arg 0 count)) (sym e) ∙ all-from (read ys q) Arg ys (at-port ys)) i) []
-
--- ---- results in number
-
-gives-results : (c : Context) (args : List Kind) (nodes : NodeTrees) (results : List Origin) (xs : List Datum) →
-    Gives (λ ys. length ys ≡ length results) (region_meaning c (region args nodes results) xs)
-gives-results c args nodes results xs =
-    gives-then (λ o. Unit {0}) (λ ys. length ys ≡ length results) (nodes_run c nodes xs no_outputs) (λ o. Returned (map (read xs o) results) []) (any (nodes_run c nodes xs no_outputs))
-    (λ o h. length-map results (read xs o))
-  where
-    any : (a : Answer Outputs) → Gives (λ o. Unit {0}) a
-    any a = by a
-      where
-        by : (a : Answer Outputs) → Gives (λ o. Unit {0}) a
-        by (Returned x o) = tt
-        by _ = tt
 
 -- ---- the Gamma
 
@@ -67,12 +46,6 @@ module _ (c : Context) (next : ℕ) (xs : List Datum) (count : ℕ) where
   choice-nothing : (o : Outputs) (a : Answer (List Datum)) → Gives (λ ys. length ys ≡ count) a → then_on a (after_choice o) ≡ a
   choice-nothing o a h =
       then_on_given a (after_choice o) (λ ys. Returned ys []) (λ ys did e. choice-given o ys (subst (Gives (λ zs. length zs ≡ count)) e h)) ∙ then_nothing a
-
-chosen-two : (w : ℕ) (stop go : Meaning) (ys : List Datum) → chosen w (stop ∷ go ∷ []) ys ≡ cond (w == 0) (stop ys) (go ys)
-chosen-two zero stop go ys = refl
-chosen-two (suc w) stop go ys =
-    let more : (suc w == 0) ≡ false = grind (arith, nat_tests) in
-    sym (ap (λ t. cond t (stop ys) (go ys)) more)
 
 module _ (c : Context) (next : ℕ) (args : List Kind) (nodes : NodeTrees) (results : List Origin) (loop : IsLoopRegion (region args nodes results)) (xs : List Datum) where
   abbrev body : RegionTree

@@ -1,13 +1,13 @@
 -- The parts of the change, as it is made: the loop that is found first, and the Gamma that its region gets.
-use Rattle.std.specs.Option.{option_or}
 use Rattle.std.specs.Prelude.{ℕ, ◌+◌, if◌then◌else◌, List, length, Option, None, Some, option_map, option_and_then}
 use Rattle.g_graph.specs.declared.op.Op.TheVariants.{Theta}
 use Rattle.g_graph.specs.declared.op.Origin.{Origin}
 use Rattle.g_graph.specs.declared.op.Origin.TheVariants.{Out}
-use Rattle.g_graph.specs.Plain.{RegionTree, region, NodeTree, node, NodeTrees, no_nodes, node_then, RegionTrees, no_regions, region_then, results_of}
+use Rattle.g_graph.specs.Plain.{RegionTree, region, NodeTree, node, RegionTrees, no_regions, region_then, results_of}
 use Rattle.g_graph.specs.Nodes.{node_at, node_set}
-use Rattle.r_unroll.specs.Rule.{origins_from, followed_by, may_unroll}
+use Rattle.g_edit.specs.Origins.{origins_from}
 use Rattle.g_copy.specs.Numbering.{node_count}
+use Rattle.r_unroll.specs.Rule.{followed_by, may_unroll}
 
 -- ---- the loop
 
@@ -27,22 +27,6 @@ loop_body values next x = None
 -- that of node n, where the region itself holds such a loop there
 abbrev pub loop_at : (values next n : ℕ) → RegionTree → Option RegionTree
 loop_at values next n (region args nodes results) = option_and_then (loop_body values next) (node_at n nodes)
-
--- what is found in a region, or else in the first of those nested in it
-abbrev mutual
-  pub region_found : (RegionTree → Option RegionTree) → RegionTree → Option RegionTree
-  region_found f (region args nodes results) = option_or (f (region args nodes results)) (nodes_found f nodes)
-
-  pub node_found : (RegionTree → Option RegionTree) → NodeTree → Option RegionTree
-  node_found f (node id op inputs rs) = regions_found f rs
-
-  pub nodes_found : (RegionTree → Option RegionTree) → NodeTrees → Option RegionTree
-  nodes_found f no_nodes = None
-  nodes_found f (node_then x ns) = option_or (node_found f x) (nodes_found f ns)
-
-  pub regions_found : (RegionTree → Option RegionTree) → RegionTrees → Option RegionTree
-  regions_found f no_regions = None
-  regions_found f (region_then r rs) = option_or (region_found f r) (regions_found f rs)
 
 -- ---- the change
 

@@ -1,5 +1,5 @@
 -- Unrolling: a turn of a loop becomes up to two of the turns before (Reissmann et al., RVSDG, 2020, of Theta nodes).
-use Rattle.std.specs.Prelude.{ℕ, zero, suc, ◌+◌, ◌-◌, ◌*◌, ◌^◌, nat_le, not, ◌&&◌, ◌||◌, if◌then◌else◌}
+use Rattle.std.specs.Prelude.{ℕ, suc, ◌+◌, ◌-◌, ◌*◌, ◌^◌, nat_le, not, ◌&&◌, ◌||◌, if◌then◌else◌}
 use Rattle.std.specs.Prelude.{Bool, false, List, [], ◌∷◌, length, Option, None, Some, option_map, option_and_then, is_some, unwrap_or}
 use Rattle.g_graph.specs.declared.op.Kind.{Kind}
 use Rattle.g_graph.specs.declared.op.Op.TheVariants.{Const, Gamma, Theta}
@@ -12,6 +12,7 @@ use Rattle.g_graph.specs.Nodes.{node_at, node_set}
 use Rattle.g_graph.specs.Splice.{joined_nodes}
 use Rattle.g_graph.specs.Program.{lambda_values}
 use Rattle.g_edit.specs.Lookup.{same_op}
+use Rattle.g_edit.specs.Origins.{origins_from}
 use Rattle.g_edit.specs.Size.{may_change_size}
 use Rattle.g_copy.specs.Numbering.{node_count, region_numbered}
 
@@ -34,11 +35,6 @@ abbrev mutual
   regions_loop (region_then r rs) = region_loops r || regions_loop rs
 
 -- ---- the change
-
--- so many arguments, or outputs of a node, from a first one on
-abbrev pub origins_from : (place : ℕ → Origin) → (first count : ℕ) → List Origin
-origins_from place first zero = []
-origins_from place first (suc count) = place first ∷ origins_from place (suc first) count
 
 -- the region of the Gamma that takes no second turn: the predicate 0, and the loop variables as they are
 abbrev pub stopping : (id : ℕ) → (args : List Kind) → RegionTree

@@ -2,8 +2,9 @@
 ghost use Rattle.std.specs.Prelude.{◌≡◌, ◌<◌, ◌+◌, ◌-◌, ◌^◌, nat_le, is_some, option_copied, IsTrue};
 ghost use Rattle.g_graph.specs.Count.{region_values};
 ghost use Rattle.g_graph.specs.Plain.{regions_of};
+ghost use Rattle.g_edit.specs.Found.{region_found, node_found};
 ghost use Rattle.g_copy.specs.Numbering.{node_count};
-ghost use Rattle.r_unroll.specs.Edit.{small_body, only_body, loop_body, loop_at, region_found, node_found};
+ghost use Rattle.r_unroll.specs.Edit.{small_body, only_body, loop_body, loop_at};
 ghost use Rattle.r_unroll.specs.Rule.{region_loops, node_loops, most_loop_values, growth, may_unroll, url_here};
 
 use g_copy::{numbers_left, values_left};

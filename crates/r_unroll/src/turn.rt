@@ -6,12 +6,15 @@ ghost use Rattle.g_graph.specs.Count.{region_values};
 ghost use Rattle.g_graph.specs.Plain.{node, no_regions};
 ghost use Rattle.g_graph.specs.declared.op.Op.TheVariants.{Const};
 ghost use Rattle.g_mean.specs.Copies.{IsClosed};
+ghost use Rattle.g_edit.specs.Found.{region_found};
+ghost use Rattle.g_edit.specs.Origins.{origins_from};
 ghost use Rattle.g_copy.specs.Numbering.{node_count};
-ghost use Rattle.r_unroll.specs.Edit.{loop_at, region_found, results_after, next_after};
-ghost use Rattle.r_unroll.specs.Rule.{origins_from, stopping, second_turn_of};
+ghost use Rattle.r_unroll.specs.Edit.{loop_at, results_after, next_after};
+ghost use Rattle.r_unroll.specs.Rule.{stopping, second_turn_of};
 
 use crate::find::find_loop;
 use g_copy::copy_numbered;
+use g_edit::{arguments, outputs_of};
 use g_graph::{Kind, Node, Op, Origin, Region};
 use no_memory::NoMemory;
 use smallvec::SmallVec;
@@ -112,23 +115,6 @@ fn stopped_results(alloc: Global, id: u32, count: usize) -> Result<Vec<Origin>, 
 {
     let mut results = Vec::new(alloc);
     results.push(Origin::Out { node: id, port: 0 })?;
-    for i in 0..count {
-        results.push(Origin::Arg(i as u32))?;
-    }
-    Ok(results)
-}
-
-// So many outputs of a node.
-fn outputs_of(alloc: Global, id: u32, count: usize) -> Result<Vec<Origin>, NoMemory>
-    requires { count < 2 ^ 32 }
-    ensures { IfOk result (λ results. results.items ≡ origins_from (Out id) 0 count) }
-{
-    let mut results = Vec::new(alloc);
-    for i in 0..count {
-        results.push(Origin::Out {
-            node: id,
-            port: i as u32,
-        })?;
-    }
+    results.extend_from_slice(&arguments(alloc, count)?)?;
     Ok(results)
 }
