@@ -140,8 +140,8 @@ fn log(events: &mut Vec<Event>, event: Event)
 impl<W: Work> Board<W> {
     /// A board of this work, where all jobs are open and nothing has happened. The job j has the
     /// rank `ranks[j]` and depends on the jobs `deps[j]`; there are as many as the work has, and at
-    /// most 512, and at most 64 workers. All memory that the board ever needs is taken here. `BadDeps` exactly where a dep
-    /// is bad.
+    /// most 512, and at most 64 workers. All memory that the board ever needs is taken here.
+    /// `BadDeps` exactly where a dep is bad.
     pub fn open(
         alloc: Global,
         work: &W,
@@ -209,8 +209,8 @@ impl<W: Work> Board<W> {
         is_held_by(self.job_states.as_slice(), worker, job)
     }
 
-    // The least job that is ready.
-    fn next_job(&mut self) -> Option<u32>
+    /// The least job that is open and whose deps are all out.
+    pub fn next_job(&mut self) -> Option<u32>
         ensures same { self.new ≡ self.old }
         ensures some { IfSome result (λ j. (j < length self.old.deps)
             × IsNext (program_of W.made self.old) (state_of W.made self.old) j) }

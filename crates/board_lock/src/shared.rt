@@ -150,8 +150,7 @@ impl<W: Work> Shared<W> {
         }
     }
 
-    /// Tells the lock of the one event that the seat has added to the board that it took. Those who
-    /// wait for a publication or a stop by `await_event` are woken.
+    /// Tells the lock of the one event that the seat has added to the board that it took.
     pub fn note(&self, seat: &mut Seat<W>, board: &Board<W>)
         requires seat { IsSeatOf (lock_of self.now) seat.old }
         requires turn { (sitting seat.old).has_turn ≡ true }
@@ -167,15 +166,6 @@ impl<W: Work> Shared<W> {
             unreachable!()
         };
         self.note_event::<Brand>(seat, board, *event);
-        self.wake_awaiting(*event);
-    }
-
-    // Wakes those for whom the event may have made a job ready, or ended the board.
-    fn wake_awaiting(&self, event: Event) {
-        if let Event::Claim { .. } = event {
-            return;
-        }
-        self.table.shared.wake_all(LENGTH);
     }
 
     fn note_event<E: Noted>(&self, seat: &mut Seat<W>, board: &Board<W>, event: Event)
@@ -266,9 +256,14 @@ impl<W: Work> Shared<W> {
         board.unwrap()
     }
 
-    /// For a worker that has to wait on a board with so many events: sleeps, at most until
-    /// there are more. It may return at any time, and changes nothing.
+    /// For a worker that has to wait on a board with so many events: sleeps until `wake_one`, and
+    /// not at all where there are more. It may return at any time, and changes nothing.
     pub fn await_event<H: Wait>(&self, rt: &H, seen: u32) {
         self.table.shared.park(rt, LENGTH, seen);
+    }
+
+    /// Wakes one of those who sleep by `await_event`, if there is one. It changes nothing.
+    pub fn wake_one(&self) {
+        self.table.shared.wake_one(LENGTH);
     }
 }

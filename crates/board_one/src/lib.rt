@@ -1,6 +1,6 @@
-//! All jobs of a work, done by one worker on a board of its own; how a board is opened, and what the
-//! results of one are on which all jobs are out. It stands on the board and its laws. Promise: the
-//! result of each job is the one that recursion on the ranks gives.
+//! All jobs of a work, done by one worker on a board of its own; how a board is opened, and what
+//! the results of one are on which all jobs are out. It stands on the board and its laws. Promise:
+//! the result of each job is the one that recursion on the ranks gives.
 #![tactic(auto)]
 
 mod jobs;

@@ -45,6 +45,7 @@ fn give_up<H: Wait, W: Work>(rt: &H, shared: &Shared<W>, worker: &mut Worker<W>,
     let (mut board, number) = enter(rt, shared, &mut worker.seat, position);
     stop(shared, &mut worker.seat, &mut board, number);
     shared.give(&mut worker.seat, board);
+    shared.wake_one();
 }
 
 // The worker says whether it has seen a stop, and has nothing in hand.

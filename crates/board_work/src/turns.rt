@@ -162,6 +162,30 @@ fn choose<W: Work>(
     }
 }
 
+// Whether one that sleeps has something to do after a turn with this answer: a job is ready, or
+// there is nothing to wait for any more.
+//
+// Nobody sleeps on while there is. Who sleeps was told to wait in a turn that left no job ready,
+// and fell asleep while the history was as long as it was then, so nothing had happened since. What
+// makes a job ready, the last job out or a stop is an event of a later turn, and that turn wakes
+// one of those who sleep. Who is woken takes a turn, of which the same holds.
+fn is_more_to_do<W: Work>(board: &mut Board<W>, next: &Next) -> bool
+    ensures { board.new ≡ board.old }
+{
+    match next {
+        Next::Make(_) => board.next_job().is_some(),
+        Next::Sleep(_) => false,
+        Next::Done | Next::Stopped => true,
+    }
+}
+
+// Wakes one of those who sleep, where there is more to do.
+fn wake_for<W: Work>(shared: &Shared<W>, is_more: bool) {
+    if is_more {
+        shared.wake_one();
+    }
+}
+
 /// One turn of a worker: it hands in what it has made, and claims the next job.
 pub(crate) fn turn<H: Wait, W: Work>(
     rt: &H,
@@ -186,6 +210,8 @@ pub(crate) fn turn<H: Wait, W: Work>(
         number,
         &mut worker.deps,
     );
+    let is_more = is_more_to_do(&mut board, &next);
     shared.give(&mut worker.seat, board);
+    wake_for(shared, is_more);
     next
 }

@@ -64,7 +64,8 @@ returns-clause-some g c =
 pub returns-clause-inside : goal.returns-clause-inside
 returns-clause-inside g c =
     let family = λ (h : History g.row.W.Denot). IfSome c.next_ready.result (λ j. j < g.W.Work.jobs h.work) in
-    let found = next-some _ c.self.inside.events.items _ _ _ _ _ c.self.invariant.1 c.next_ready.result _ _ (ap dep_lists c.as_slice.ensures.value) c.as_slice-2.ensures.value c.next_ready.ensures.some in
+    let deps = ap dep_lists c.as_slice.ensures.value in
+    let found = next-some _ c.self.inside.events.items _ _ _ _ _ c.self.invariant.1 c.next_ready.result _ _ deps c.as_slice-2.ensures.value c.next_ready.ensures.some in
     subst family c.self.view_is
     (each-found c.next_ready.result _ _ (λ j h. omega (arith, h.0, c.self.invariant.0, length-map c.self.inside.deps.items (λ (x : Vec ℕ Global). x.items))) found)
 

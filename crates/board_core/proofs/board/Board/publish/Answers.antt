@@ -23,5 +23,5 @@ invariant_of-self g c =
     let defined = subst result (sym c.self.view_is) c.requires.defined in
     let kept = kept-publish _ c.self.inside.events.items _ _ _ _ _ c.self.invariant.1 c.args.worker c.args.job (arc_value c.args.made) held defined in (
       c.self.invariant.0,
-      kept-logged _ _ _ _ _ _ _ _ _ (kept-made _ _ _ _ _ _ _ _ kept ((map-set (option_map arc_value) c.self.inside.results.items c.args.job (Some c.args.made)))) c.log.ensures.items c.log.ensures.room,
+      kept-logged _ _ _ _ _ _ _ _ _ (kept-made _ _ _ _ _ _ _ _ kept (map-set (option_map arc_value) c.self.inside.results.items c.args.job (Some c.args.made))) c.log.ensures.items c.log.ensures.room,
     )
