@@ -43,6 +43,7 @@ use Rattle.g_edit.proofs.lemmas.Size.{resized_lambdas_are_no_larger}
 use Rattle.g_edit.proofs.lemmas.Steps.{contracts_give_steps, edits_keep_interface}
 use Rattle.g_edit.proofs.lemmas.Lookup.{Among, first_before}
 use Rattle.g_edit.proofs.lemmas.Uses.{replaced_is, uses_kept, known_value, uses_ops}
+use Rattle.g_edit.proofs.lemmas.Meant.{has-run}
 use Rattle.r_cne.specs.Rule.{is_common, other_than, earlier, cne_here, cne}
 use Rattle.r_cne.specs.Laws.{CneReplaces, CneKeepsLambdas, CneKeepsPrograms, CneKeepsLists, CneIsAStep}
 use Rattle.r_cne.proofs.Common.{gives_value, ran_gives}
@@ -78,10 +79,6 @@ earlier_among before id op inputs rs after m e =
 
 -- ---- what it gave
 
-pub have_run : (c : Context) (xs : List Datum) (o : Outputs) (before : NodeTrees) (y : NodeTree) (after : NodeTrees) → HaveRun c xs o (joined_nodes before (node_then y after)) → HasRun c xs o y
-have_run c xs o no_nodes y after h = h.0
-have_run c xs o (node_then x before) y after h = have_run c xs o before y after h.1
-
 pub known_node : (known : List ℕ) (before : NodeTrees) (y : NodeTree) (after : NodeTrees) → IsAmong (id_of y) (known_after known (joined_nodes before (node_then y after)))
 known_node known no_nodes y after = stays (id_of y ∷ known) after (inl refl)
   where
@@ -104,7 +101,7 @@ module _ (args : List Kind) (before : NodeTrees) (id : ℕ) (op : Op) (inputs : 
   whole = region args (joined_nodes before (node_then here after)) results
 
   other_ran : (c : Context) (xs : List Datum) (o : Outputs) → HaveRun c xs o before → HasRun c xs o other
-  other_ran c xs o have = have_run c xs o among.before other among.after (subst (λ ns. HaveRun c xs o ns) among.is have)
+  other_ran c xs o have = has-run c xs o among.before other among.after (subst (λ ns. HaveRun c xs o ns) among.is have)
 
   other_known : IsAmong m (known_after [] before)
   other_known = subst (λ ns. IsAmong m (known_after [] ns)) (sym among.is) (known_node [] among.before other among.after)

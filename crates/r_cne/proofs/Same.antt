@@ -27,10 +27,11 @@ use Rattle.g_mean.proofs.lemmas.Splices.{joined-run, joined-known, joined-read, 
 use Rattle.g_mean.proofs.lemmas.Redirects.{redirected-joined}
 use Rattle.g_edit.proofs.lemmas.Lookup.{Among}
 use Rattle.g_edit.proofs.lemmas.Uses.{replaced_is}
+use Rattle.g_edit.proofs.lemmas.Meant.{has-run}
 use Rattle.r_cne.specs.Rule.{is_common}
 use Rattle.r_cne.specs.Laws.{CneMeansTheSame}
 use Rattle.r_cne.proofs.Common.{ran_gives, given_results}
-use Rattle.r_cne.proofs.Cne.{have_run, known_node, changed_at}
+use Rattle.r_cne.proofs.Cne.{known_node, changed_at}
 
 module _ (l : PlainLambda) (args : List Kind) (before : NodeTrees) (id : ℕ) (op : Op) (inputs : List Origin) (rs : RegionTrees) (after : NodeTrees) (results : List Origin) (m : ℕ)
     (common : is_common op ≡ true) (among : Among op inputs m before)
@@ -151,12 +152,12 @@ module _ (l : PlainLambda) (args : List Kind) (before : NodeTrees) (id : ℕ) (o
       (distinct-split (nodes_ids before ++ node_ids here) (nodes_ids after)
       (subst (λ zs. distinct zs ≡ true) (sym (append_assoc (nodes_ids before) (node_ids here) (nodes_ids after))) all_distinct)).0 in
       let have = holds-from (length args) c first [] xs no_outputs o did (joined-reads arg [] before (node_then here no_nodes) whole_read.0 (whole_read.1.0, tt)) (λ n h k. h) firsts e in
-      let ran = have_run c xs o before here no_nodes have in
+      let ran = has-run c xs o before here no_nodes have in
       let other_at : joined_nodes before (node_then here no_nodes)
       ≡ joined_nodes among.before (node_then (node m op inputs among.regions) (joined_nodes among.after (node_then here no_nodes))) =
       ap (λ ns. joined_nodes ns (node_then here no_nodes)) among.is
       ∙ joined_assoc among.before (node_then (node m op inputs among.regions) among.after) (node_then here no_nodes) in
-      let other = have_run c xs o among.before (node m op inputs among.regions) (joined_nodes among.after (node_then here no_nodes)) (subst (λ ns. HaveRun c xs o ns) other_at have) in
+      let other = has-run c xs o among.before (node m op inputs among.regions) (joined_nodes among.after (node_then here no_nodes)) (subst (λ ns. HaveRun c xs o ns) other_at have) in
       let g = ran_gives c xs o m op inputs among.regions common other in
       let given = given_results (val g.value ∷ []) ran.results [] ran.did (sym (g.run id rs) ∙ ran.run) in
       ran.outputs 0 ∙ ap (λ us. at_port us 0) (sym given) ∙ sym g.output
