@@ -14,8 +14,9 @@ use Rattle.g_graph.proofs.lemmas.Indexes.{same_number_true}
 use Rattle.g_graph.proofs.lemmas.KindLists.{are_themselves}
 use Rattle.g_edit.proofs.lemmas.AddedFit.{fits-from}
 use Rattle.g_edit.proofs.lemmas.Kept.{IsState}
-use Rattle.r_invert.specs.Compose.{origins_from, alone}
-use Rattle.r_invert.proofs.Consecutive.{all-known, all-last}
+use Rattle.g_edit.specs.Origins.{origins_from}
+use Rattle.g_edit.proofs.lemmas.Consecutive.{all-known, all-last}
+use Rattle.r_invert.specs.Compose.{alone}
 use Rattle.r_invert.proofs.Sequence.{HaveStates, given-where}
 
 -- what the node asks of its op and regions

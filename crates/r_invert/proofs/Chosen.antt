@@ -1,6 +1,6 @@
 -- What the outputs of a node are in one of its regions.
 use Rattle.std.specs.Prelude.{◌&&◌, unwrap_or}
-use Rattle.std.proofs.Common.{◌≡◌, ℕ, zero, suc, true, cond, List, [], ◌∷◌, map, Option, None, Some, slice_get, refl, ap, ◌∙◌}
+use Rattle.std.proofs.Common.{◌≡◌, ℕ, true, cond, List, [], ◌∷◌, map, Option, None, Some, slice_get, refl, ap, ◌∙◌}
 use Rattle.std.proofs.lemmas.Bool.{and_parts}
 use Rattle.g_graph.specs.declared.op.Kind.{Kind}
 use Rattle.g_graph.specs.declared.op.Origin.{Origin}
@@ -11,6 +11,7 @@ use Rattle.g_graph.specs.Signatures.{joined}
 use Rattle.g_graph.specs.Splice.{outputs_to_results}
 use Rattle.g_graph.specs.WellFormed.{all_of, is_last}
 use Rattle.g_graph.proofs.lemmas.Unique.{same_number}
+use Rattle.g_mean.proofs.lemmas.Kinds.{joined-some}
 use Rattle.r_invert.specs.Rule.{is_output_of}
 use Rattle.r_invert.proofs.Sequence.{entry-at}
 
@@ -28,16 +29,11 @@ pub record Chosen (args : List Kind) (ns : NodeTrees) (rs : List Origin) (g : �
   pub last : is_last args ns origin ≡ true
   pub becomes : outputs_to_results g rs o ≡ origin
 
-joined-at : (ks : List Kind) (j : ℕ) (k : Kind) → joined (slice_get (map Some ks) j) ≡ Some k → slice_get ks j ≡ Some k
-joined-at [] j k e = absurd cc
-joined-at (i ∷ ks) zero k e = e
-joined-at (i ∷ ks) (suc j) k e = joined-at ks j k e
-
 pub chosen-at : (args : List Kind) (ns : NodeTrees) (rs : List Origin) (ks : List Kind) → map (known args ns) rs ≡ map Some ks → all_of (is_last args ns) rs ≡ true → (g : ℕ) (o : Origin) (k : Kind) →
     is_output_of g o ≡ true → output_kind ks o ≡ Some k → Chosen args ns rs g o k
 chosen-at args ns rs ks kinds lasts g (Arg j) k t e = absurd cc
 chosen-at args ns rs ks kinds lasts g (Out n j) k t e =
-    let at = entry-at args ns rs ks kinds lasts j k (joined-at ks j k e) in
+    let at = entry-at args ns rs ks kinds lasts j k (joined-some ks j k e) in
     record {
       port = j;
       is = ap (λ m. Out m j) (same_number n g t);

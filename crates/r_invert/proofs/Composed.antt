@@ -1,13 +1,11 @@
 -- What a region does that is made of others.
 use Rattle.std.specs.Prelude.{nat_lt, unwrap_or}
-use Rattle.std.proofs.Common.{◌≡◌, ◌≢◌, ◌⊎◌, inl, inr, ℕ, zero, suc, Bool, true, List, [], ◌∷◌, map, length, Some, slice_get, refl, sym, ap, subst, ◌∙◌, arith}
+use Rattle.std.proofs.Common.{◌≡◌, ◌≢◌, ◌⊎◌, ◌<◌, inl, inr, ℕ, Bool, true, List, [], map, length, Some, slice_get, get_or, refl, sym, ap, subst, ◌∙◌, arith}
 use Rattle.std.proofs.Math.Path.{fun_ext}
 use Rattle.std.proofs.lemmas.Bool.Decides.{nat_tests}
-use Rattle.std.proofs.lemmas.List.{length-map}
-use Rattle.std.proofs.lemmas.Option.{get_or_from_slice_get}
-use Rattle.val_core.specs.declared.values.Value.TheVariants.{Bad}
+use Rattle.std.proofs.lemmas.Option.{slice_get-get_or}
 use Rattle.val_core.specs.Answers.{Answer, Returned, then_on, Gives}
-use Rattle.val_core.proofs.lemmas.Answers.{then_associates, then_nothing, then_on_given, gives-then}
+use Rattle.val_core.proofs.lemmas.Answers.{then_associates, then_nothing, then_on_given}
 use Rattle.g_graph.specs.declared.op.Kind.{Kind}
 use Rattle.g_graph.specs.declared.op.Op.{Op}
 use Rattle.g_graph.specs.declared.op.Origin.{Origin}
@@ -16,20 +14,17 @@ use Rattle.g_graph.specs.Plain.{region, NodeTrees, RegionTrees}
 use Rattle.g_graph.specs.Ids.{nodes_ids}
 use Rattle.g_graph.specs.Replace.{nodes_redirected}
 use Rattle.g_graph.specs.Splice.{args_to_inputs}
-use Rattle.g_mean.specs.Data.{Datum, val, at_port}
+use Rattle.g_mean.specs.Data.{Datum}
 use Rattle.g_mean.specs.Meaning.{Context, act, Outputs, no_outputs, extended, read, region_meaning, nodes_run, meanings}
 use Rattle.g_mean.specs.Copies.{IsAmong, IsRead, known_after, is_argument, IsClosed, CanMove, Same, ReadSame}
 use Rattle.g_mean.proofs.lemmas.Copies.{same-then, same-equal, Equals, extended-same, copied_nodes_mean_the_same, reads-same, redirected-moved}
 use Rattle.g_mean.proofs.lemmas.Splices.{joined-run, known-among, get-read, get-port}
-use Rattle.r_invert.specs.Compose.{origins_from, in_sequence, alone}
-use Rattle.r_invert.proofs.Consecutive.{all-from}
+use Rattle.g_edit.specs.Origins.{origins_from}
+use Rattle.g_edit.proofs.lemmas.Consecutive.{all-from}
+use Rattle.g_edit.proofs.lemmas.Loops.{at-port}
+use Rattle.r_invert.specs.Compose.{in_sequence, alone}
 
 -- ---- one after another
-
-get-some : {X : Type 0} (xs : List X) (k : ℕ) → nat_lt k (length xs) ≡ true → (x : X) × (slice_get xs k ≡ Some x)
-get-some [] k h = absurd (grind (arith, nat_tests))
-get-some (x ∷ xs) zero h = (x, refl)
-get-some (x ∷ xs) (suc k) h = let small : nat_lt k (length xs) ≡ true = grind (arith, nat_tests) in get-some xs k small
 
 module _ (c : Context) (args : List Kind) (ns : NodeTrees) (results : List Origin) (own : List Kind) (ms : NodeTrees) (gets : List Origin) (first : IsClosed (region args ns results))
     (second : IsClosed (region own ms gets)) (count : length own ≡ length results) (apart : (n : ℕ) → IsAmong n (nodes_ids ns) → IsAmong n (nodes_ids ms) → ⊥) where
@@ -41,8 +36,11 @@ module _ (c : Context) (args : List Kind) (ns : NodeTrees) (results : List Origi
 
   placed : (k : ℕ) → nat_lt k (length own) ≡ true → (b : Origin) × (slice_get results k ≡ Some b) × (move (Arg k) ≡ b)
   placed k h =
-      let found = get-some results k (ap (nat_lt k) (sym count) ∙ h) in
-      (found.0, found.1, ap (λ z. unwrap_or z (Arg k)) found.1)
+      let there = slice_get-get_or results k (Arg k) (within (length own) k h count) in
+      (get_or results k (Arg k), there, ap (λ z. unwrap_or z (Arg k)) there)
+    where
+      within : (n k : ℕ) → nat_lt k n ≡ true → n ≡ length results → k < length results
+      within n k h e = grind (arith, nat_tests)
 
   result-among : (k : ℕ) (b : Origin) (n p : ℕ) → slice_get results k ≡ Some b → b ≡ Out n p → IsAmong n (nodes_ids ns)
   result-among k b n p e f = by (subst (λ z. IsRead (is_argument (length args)) (known_after [] ns) z) f (get-read (is_argument (length args)) (known_after [] ns) results first.1 k b e))
@@ -81,7 +79,9 @@ module _ (c : Context) (args : List Kind) (ns : NodeTrees) (results : List Origi
       ≡ region_meaning c (region own ms gets) (map (read xs q) results)
   second-there xs q =
       let vs = map (read xs q) results in
-      let nodes = subst (λ ks. Same (ReadSame S (known_after [] ms) move vs xs) (nodes_run c ms vs no_outputs) (nodes_run c ks xs q)) (redirected-moved move ms) (copied_nodes_mean_the_same S move (λ n. n) ms moves second.0 c vs xs no_outputs q (reads xs q)) in
+      let nodes =
+      subst (λ ks. Same (ReadSame S (known_after [] ms) move vs xs) (nodes_run c ms vs no_outputs) (nodes_run c ks xs q)) (redirected-moved move ms)
+      (copied_nodes_mean_the_same S move (λ n. n) ms moves second.0 c vs xs no_outputs q (reads xs q)) in
       sym
       (same-equal (region_meaning c (region own ms gets) vs) (then_on (nodes_run c (nodes_redirected move ms) xs q) (λ r. Returned (map (read xs r) (map move gets)) []))
       (same-then (ReadSame S (known_after [] ms) move vs xs) Equals (nodes_run c ms vs no_outputs) (nodes_run c (nodes_redirected move ms) xs q)
@@ -98,19 +98,6 @@ module _ (c : Context) (args : List Kind) (ns : NodeTrees) (results : List Origi
       ∙ sym (then_associates (nodes_run c ns xs no_outputs) (λ q. Returned (map (read xs q) results) []) (region_meaning c (region own ms gets)))
 
 -- ---- one node
-
-at-port : (ys : List Datum) (k : ℕ) (y : Datum) → slice_get ys k ≡ Some y → at_port ys k ≡ y
-at-port ys k y e = get_or_from_slice_get ys k y (val Bad) e
-
-pub gives-results : (c : Context) (args : List Kind) (nodes : NodeTrees) (results : List Origin) (xs : List Datum) →
-    Gives (λ ys. length ys ≡ length results) (region_meaning c (region args nodes results) xs)
-gives-results c args nodes results xs =
-    gives-then (λ o. Unit {0}) (λ ys. length ys ≡ length results) (nodes_run c nodes xs no_outputs) (λ o. Returned (map (read xs o) results) []) (any (nodes_run c nodes xs no_outputs))
-    (λ o h. length-map results (read xs o))
-  where
-    any : (a : Answer Outputs) → Gives (λ o. Unit {0}) a
-    any (Returned x o) = tt
-    any _ = tt
 
 module _ (c : Context) (id : ℕ) (op : Op) (args : List Kind) (count : ℕ) (rs : RegionTrees) (xs : List Datum) (long : length xs ≡ length args) where
   abbrev given : List Datum → Answer (List Datum)

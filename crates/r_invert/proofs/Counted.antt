@@ -1,17 +1,16 @@
 -- What the code counts and finds is what the definitions say.
-use Rattle.std.specs.Prelude.{◌&&◌, ◌||◌, ◌+◌, ◌-◌, ◌^◌, ◌<◌, nat_le, nat_lt, option_and_then, is_some}
-use Rattle.std.proofs.Common.{◌≡◌, ◌≢◌, ℕ, true, false, cond, List, [], ◌∷◌, length, Bool, Option, None, Some, option_map, refl, ap, ◌∙◌, arith}
+use Rattle.std.specs.Prelude.{◌&&◌, ◌+◌, ◌-◌, ◌^◌, nat_le, option_and_then, is_some}
+use Rattle.std.proofs.Common.{◌≡◌, ◌≢◌, ℕ, true, false, cond, List, [], ◌∷◌, length, Bool, Option, None, Some, option_map, refl, ap, ◌∙◌}
 use Rattle.std.proofs.Math.Path.{fun_ext}
-use Rattle.std.proofs.lemmas.Bool.Decides.{nat_tests}
 use Rattle.g_graph.specs.declared.op.Op.TheVariants.{Theta}
-use Rattle.g_graph.specs.Plain.{RegionTree, region, NodeTree, node, no_regions, region_then, regions_of, nodes_in, args_of, results_of}
-use Rattle.g_graph.specs.Count.{saturated, region_values}
-use Rattle.g_edit.specs.Size.{may_change_size}
+use Rattle.g_graph.specs.Plain.{RegionTree, region, NodeTree, node, no_regions, region_then, regions_of, nodes_in}
+use Rattle.g_graph.specs.Count.{saturated}
 use Rattle.g_graph.specs.Nodes.{node_at}
 use Rattle.g_graph.specs.Replace.{region_redirected}
 use Rattle.g_graph.specs.Splice.{args_to_inputs, region_spliced}
+use Rattle.g_edit.proofs.lemmas.Size.{saturated-decides}
 use Rattle.r_invert.specs.Edit.{only_may, regions_so, loop_at, loop_of, is_loop}
-use Rattle.r_invert.specs.Rule.{Parts, parts_of, may_invert, inverted, in_place, ivt_here, new_nodes, growth, loop_values}
+use Rattle.r_invert.specs.Rule.{Parts, parts_of, can_count, may_invert, inverted, in_place, ivt_here, new_nodes, growth, loop_values}
 
 pub only_one : (values next : ℕ) (rs : List RegionTree) → length rs ≢ 1 → only_may values next (regions_of rs) ≡ false
 only_one values next [] e = refl
@@ -62,29 +61,9 @@ here_found values next n (region args nodes results) = by (node_at n nodes)
 
 -- ---- a count that is saturated decides as the count itself
 
-size-same : (v g l : ℕ) → l < 4611686018427387904 → may_change_size (saturated v) g l ≡ may_change_size v g l
-size-same v g l less = ap (λ t. nat_le g l || t) (by v g l less)
-  where
-    by : (v g l : ℕ) → l < 4611686018427387904 → nat_le (saturated v + g) (8192 + l) ≡ nat_le (v + g) (8192 + l)
-    by v g l less = grind (arith, nat_tests)
-
 may-same : (v next : ℕ) (r : RegionTree) (p : Parts) → may_invert (saturated v) next r p ≡ may_invert v next r p
-may-same v next (region args nodes results) p = by (nat_lt (region_values (region args nodes results)) (2 ^ 60)) refl
-  where
-    r : RegionTree
-    r = region args nodes results
-
-    test : Bool → Bool → Bool
-    test t s =
-        t && nat_lt (length (args_of p.stop)) (2 ^ 32) && nat_lt (length (args_of p.go)) (2 ^ 32) && nat_lt (length (results_of p.stop)) (2 ^ 32)
-        && nat_le (next + new_nodes p) (2 ^ 32 - 1) && s
-
-    by : (t : Bool) → nat_lt (region_values r) (2 ^ 60) ≡ t →
-        test t (may_change_size (saturated v) (growth p) (loop_values r)) ≡ test t (may_change_size v (growth p) (loop_values r))
-    by false e = refl
-    by true e =
-        let less : region_values r < 1152921504606846976 = grind (arith, nat_tests) in
-        ap (test true) (size-same v (growth p) (loop_values r) (omega (arith, less)))
+may-same v next r p =
+    ap (λ t. can_count r p && nat_le (next + new_nodes p) (2 ^ 32 - 1) && t) (saturated-decides v (growth p) (loop_values r))
 
 place-same : (v next : ℕ) (x : NodeTree) → in_place (saturated v) next x ≡ in_place v next x
 place-same v next (node id Theta inputs (region_then r no_regions)) =

@@ -26,14 +26,16 @@ use Rattle.g_mean.proofs.lemmas.Edits.{distinct-split}
 use Rattle.g_mean.proofs.lemmas.Holds.{distinct-apart}
 use Rattle.g_copy.specs.Numbering.{numbers_from}
 use Rattle.g_copy.proofs.lemmas.Numbering.{from-not-below, from-once, from-below, none-above}
+use Rattle.g_edit.proofs.lemmas.Loops.{loop_node}
+use Rattle.g_edit.proofs.lemmas.Numbers.{below}
 use Rattle.r_invert.specs.Laws.{IsLoopRegion}
 use Rattle.g_edit.specs.Size.{may_change_size}
 use Rattle.r_invert.specs.Rule.{inverted, new_nodes, growth, loop_values, can_count, ivt_here, with_body}
-use Rattle.r_invert.proofs.At.{loop_node, Inverts, inverts-at}
+use Rattle.r_invert.proofs.At.{Inverts, inverts-at}
 use Rattle.r_invert.proofs.First.{loop-says}
 use Rattle.r_invert.proofs.PartsFit.{NodeSays}
 use Rattle.r_invert.proofs.Pieces.{Piece, among-numbers, has-among}
-use Rattle.r_invert.proofs.Replaced.{below, loop-node-says, loop-region}
+use Rattle.r_invert.proofs.Replaced.{loop-node-says, loop-region}
 use Rattle.r_invert.proofs.Whole.{inverted-piece}
 
 -- ---- counts of numbers
@@ -270,7 +272,8 @@ changed-fits values n l w s e =
     let here = here-keeps objects values l.next n x.old x.new x.here x.fits inside in
     let renewed : Renewed l.next here.count (region_ids l.body) (region_ids s) =
     subst (λ is. Renewed l.next here.count is (region_ids s)) (sym x.old_ids)
-    (subst (Renewed l.next here.count ((x.before ++ region_ids x.old) ++ x.after)) (sym x.new_ids) (renewed-within l.next here.count x.before (region_ids x.old) (region_ids x.new) x.after here.ids)) in
+    (subst (Renewed l.next here.count ((x.before ++ region_ids x.old) ++ x.after)) (sym x.new_ids)
+    (renewed-within l.next here.count x.before (region_ids x.old) (region_ids x.new) x.after here.ids)) in
     let count = renewed-count l.next here.count (region_ids l.body) (region_ids s) renewed old in
     let unique = renewed-unique l.next here.count (region_ids l.body) (region_ids s) renewed old in
     let below : all_of (λ m. nat_lt m (l.next + count_by (λ m. nat_le l.next m) (region_ids s))) (region_ids s) ≡ true

@@ -1,7 +1,7 @@
 -- The loop that is found first is the one that the change inverts.
 use Rattle.std.specs.Option.{option_or}
 use Rattle.std.specs.Prelude.{◌&&◌, ◌-◌, ◌^◌, ◌<◌, nat_le, nat_lt, option_and_then, is_some}
-use Rattle.std.proofs.Common.{◌≡◌, ◌⊎◌, ℕ, ◌+◌, Bool, true, false, cond, List, [], ◌∷◌, length, Option, None, Some, option_map, refl, sym, ap, subst, ◌∙◌, inl, inr, arith}
+use Rattle.std.proofs.Common.{◌≡◌, ℕ, ◌+◌, Bool, true, false, cond, List, [], ◌∷◌, length, Option, None, Some, option_map, refl, sym, ap, subst, ◌∙◌, inl, inr, arith}
 use Rattle.std.proofs.lemmas.Bool.{and_parts}
 use Rattle.std.proofs.lemmas.Bool.Decides.{nat_tests}
 use Rattle.std.proofs.lemmas.Option.{cond_some, same_Some}
@@ -9,7 +9,7 @@ use Rattle.g_graph.specs.declared.op.Op.TheVariants.{Theta}
 use Rattle.g_graph.specs.declared.op.Origin.{Origin}
 use Rattle.g_graph.specs.Plain.{RegionTree, region, NodeTree, node, NodeTrees, no_nodes, node_then, RegionTrees, no_regions, region_then, args_of, results_of, nodes_in, inputs_in}
 use Rattle.g_graph.specs.Count.{region_values}
-use Rattle.g_graph.specs.Change.{region_changed, node_changed, nodes_changed, regions_changed}
+use Rattle.g_graph.specs.Change.{region_changed}
 use Rattle.g_graph.specs.Ids.{region_ids, nodes_ids, regions_ids}
 use Rattle.g_graph.specs.Nodes.{node_at}
 use Rattle.g_graph.specs.Replace.{region_redirected}
@@ -18,95 +18,16 @@ use Rattle.g_graph.specs.WellFormed.{distinct, region_fits, every_region, every_
 use Rattle.g_graph.proofs.lemmas.Found.{found_at}
 use Rattle.g_mean.proofs.lemmas.Closed.{region-closed}
 use Rattle.g_mean.proofs.lemmas.Edits.{distinct-split}
+use Rattle.g_edit.specs.Found.{region_found, nodes_found, regions_found}
 use Rattle.g_edit.specs.Size.{may_change_size}
-use Rattle.r_invert.specs.Edit.{CanMake, IsMade, is_loop, loop_of, loop_at, region_found, node_found, nodes_found, regions_found, loop_part, placed_at}
+use Rattle.g_edit.proofs.lemmas.Found.{Agree, Only, both-change, found-where-changed}
+use Rattle.g_edit.proofs.lemmas.Loops.{loop_node}
+use Rattle.r_invert.specs.Edit.{CanMake, IsMade, is_loop, loop_of, loop_at, loop_part, placed_at}
 use Rattle.r_invert.specs.Laws.{IsLoopRegion}
 use Rattle.r_invert.specs.Rule.{Parts, parts_of, inverted, new_nodes, growth, loop_values, may_invert, in_place, ivt_here}
-use Rattle.r_invert.proofs.At.{loop_node}
 use Rattle.r_invert.proofs.Counted.{found-changes, here_found}
 use Rattle.r_invert.proofs.First.{loop-says}
 use Rattle.r_invert.proofs.Replaced.{loop-region}
-
--- ---- two changes that agree where something is found
-
-record Both {X : Type 0} (o : Option NodeTree) (a b : Option X) : Type 0 where
-  found : NodeTree
-  is : o ≡ Some found
-  result : X
-  left : a ≡ Some result
-  right : b ≡ Some result
-
--- nothing is found or changed, or both changes give the same
-abbrev Alike : {X : Type 0} → Option NodeTree → (a b : Option X) → Type 0
-Alike o a b = ((o ≡ None) × (a ≡ None) × (b ≡ None)) ⊎ Both o a b
-
-abbrev Only : NodeTree → Option NodeTree → Type 0
-Only y o = (z : NodeTree) → o ≡ Some z → z ≡ y
-
-or-alike : {X : Type 0} (o o' : Option NodeTree) (a b a' b' : Option X) → Alike o a b → (o ≡ None → Alike o' a' b') → Alike (option_or o o') (option_or a a') (option_or b b')
-or-alike o o' a b a' b' (inl h) go = rw (h.0, h.1, h.2) (go h.0)
-or-alike o o' a b a' b' (inr h) go =
-    inr (record {
-      found = h.found;
-      is = ap (λ x. option_or x o') h.is;
-      result = h.result;
-      left = ap (λ x. option_or x a') h.left;
-      right = ap (λ x. option_or x b') h.right;
-    })
-
-map-alike : {X Y : Type 0} (w : X → Y) (o : Option NodeTree) (a b : Option X) → Alike o a b → Alike o (option_map w a) (option_map w b)
-map-alike w o a b (inl h) = inl (h.0, ap (option_map w) h.1, ap (option_map w) h.2)
-map-alike w o a b (inr h) =
-    inr (record { found = h.found; is = h.is; result = w h.result; left = ap (option_map w) h.left; right = ap (option_map w) h.right })
-
-only-first : (y : NodeTree) (o o' : Option NodeTree) → Only y (option_or o o') → Only y o
-only-first y o o' only z e = only z (ap (λ x. option_or x o') e)
-
-only-later : (y : NodeTree) (o o' : Option NodeTree) → o ≡ None → Only y (option_or o o') → Only y o'
-only-later y o o' none only z e = only z (ap (λ x. option_or x o') none ∙ e)
-
-module _ (h : RegionTree → Option NodeTree) (f g : RegionTree → Option RegionTree) (y : NodeTree) (base : (t : RegionTree) → Only y (h t) → Alike (h t) (f t) (g t)) where
-  mutual
-    region-alike : (r : RegionTree) → Only y (region_found h r) → Alike (region_found h r) (region_changed f r) (region_changed g r)
-    region-alike (region args nodes results) only =
-        let r = region args nodes results in
-        or-alike (h r) (nodes_found h nodes) (f r) (g r) (option_map (λ ns. region args ns results) (nodes_changed f nodes)) (option_map (λ ns. region args ns results) (nodes_changed g nodes))
-        (base r (only-first y (h r) (nodes_found h nodes) only))
-        (λ e. map-alike (λ ns. region args ns results) (nodes_found h nodes) (nodes_changed f nodes) (nodes_changed g nodes) (nodes-alike nodes (only-later y (h r) (nodes_found h nodes) e only)))
-
-    node-alike : (x : NodeTree) → Only y (node_found h x) → Alike (node_found h x) (node_changed f x) (node_changed g x)
-    node-alike (node id op inputs rs) only =
-        map-alike (λ ss. node id op inputs ss) (regions_found h rs) (regions_changed f rs) (regions_changed g rs) (regions-alike rs only)
-
-    nodes-alike : (ns : NodeTrees) → Only y (nodes_found h ns) → Alike (nodes_found h ns) (nodes_changed f ns) (nodes_changed g ns)
-    nodes-alike no_nodes only = inl (refl, refl, refl)
-    nodes-alike (node_then x xs) only =
-        or-alike (node_found h x) (nodes_found h xs) (option_map (λ z. node_then z xs) (node_changed f x)) (option_map (λ z. node_then z xs) (node_changed g x))
-        (option_map (λ zs. node_then x zs) (nodes_changed f xs)) (option_map (λ zs. node_then x zs) (nodes_changed g xs))
-        (map-alike (λ z. node_then z xs) (node_found h x) (node_changed f x) (node_changed g x) (node-alike x (only-first y (node_found h x) (nodes_found h xs) only)))
-        (λ e. map-alike (λ zs. node_then x zs) (nodes_found h xs) (nodes_changed f xs) (nodes_changed g xs) (nodes-alike xs (only-later y (node_found h x) (nodes_found h xs) e only)))
-
-    regions-alike : (rs : RegionTrees) → Only y (regions_found h rs) → Alike (regions_found h rs) (regions_changed f rs) (regions_changed g rs)
-    regions-alike no_regions only = inl (refl, refl, refl)
-    regions-alike (region_then r rs) only =
-        or-alike (region_found h r) (regions_found h rs) (option_map (λ s. region_then s rs) (region_changed f r)) (option_map (λ s. region_then s rs) (region_changed g r))
-        (option_map (λ ss. region_then r ss) (regions_changed f rs)) (option_map (λ ss. region_then r ss) (regions_changed g rs))
-        (map-alike (λ s. region_then s rs) (region_found h r) (region_changed f r) (region_changed g r) (region-alike r (only-first y (region_found h r) (regions_found h rs) only)))
-        (λ e. map-alike (λ ss. region_then r ss) (regions_found h rs) (regions_changed f rs) (regions_changed g rs) (regions-alike rs (only-later y (region_found h r) (regions_found h rs) e only)))
-
-  -- both give one region
-  both-change : (r : RegionTree) → region_found h r ≡ Some y → (s : RegionTree) × (region_changed f r ≡ Some s) × (region_changed g r ≡ Some s)
-  both-change r e = by (region-alike r (λ z d. same_Some z y (sym d ∙ e)))
-    where
-      by : Alike (region_found h r) (region_changed f r) (region_changed g r) → (s : RegionTree) × (region_changed f r ≡ Some s) × (region_changed g r ≡ Some s)
-      by (inl k) =
-          let none : None ≡ Some y = sym k.0 ∙ e in
-          absurd cc
-      by (inr k) = (k.result, k.left, k.right)
-
-none-both : {X : Type 0} (a b : Option X) → option_or a b ≡ None → (a ≡ None) × (b ≡ None)
-none-both None b e = (refl, e)
-none-both (Some x) b e = absurd cc
 
 -- ---- what is found is in a region that fits
 
@@ -239,7 +160,7 @@ no-place values next x e = by (in_place values next x) refl
         absurd cc
 
 module _ (values next n : ℕ) (y : NodeTree) (part : RegionTree) (is : loop_part next y ≡ Some part) where
-  base : (t : RegionTree) → Only y (loop_at values next n t) → Alike (loop_at values next n t) (ivt_here values next n t) (placed_at values next n part t)
+  base : (t : RegionTree) → Only y (loop_at values next n t) → Agree (loop_at values next n t) (ivt_here values next n t) (placed_at values next n part t)
   base (region args nodes results) only = by (node_at n nodes) only
     where
       spliced : RegionTree → RegionTree
@@ -259,12 +180,12 @@ module _ (values next n : ℕ) (y : NodeTree) (part : RegionTree) (is : loop_par
           ∙ ap (λ z. Some (region_redirected (args_to_inputs (inputs_in z)) part)) (sym loop.is)
 
       test : (x : NodeTree) (t : Bool) → is_loop values next x ≡ t → Only y (cond t (Some x) None) →
-          Alike (cond t (Some x) None) (option_map spliced (in_place values next x)) (option_map place (cond t (Some x) None))
+          Agree (cond t (Some x) None) (option_map spliced (in_place values next x)) (option_map place (cond t (Some x) None))
       test x true e only = inr (record { found = x; is = refl; result = place x; left = ap (option_map spliced) (known x e (only x refl)); right = refl })
       test x false e only = inl (refl, ap (option_map spliced) (no-place values next x e), refl)
 
       by : (o : Option NodeTree) → Only y (option_and_then (loop_of values next) o) →
-          Alike (option_and_then (loop_of values next) o) (option_map spliced (option_and_then (in_place values next) o)) (option_map place (option_and_then (loop_of values next) o))
+          Agree (option_and_then (loop_of values next) o) (option_map spliced (option_and_then (in_place values next) o)) (option_map place (option_and_then (loop_of values next) o))
       by None only = inl (refl, refl, refl)
       by (Some x) only = test x (is_loop values next x) refl only
 
@@ -272,47 +193,6 @@ module _ (values next n : ℕ) (y : NodeTree) (part : RegionTree) (is : loop_par
       (s : RegionTree) × (region_changed (ivt_here values next n) r ≡ Some s) × (region_changed (placed_at values next n part) r ≡ Some s)
   placed-changes r e = both-change (loop_at values next n) (ivt_here values next n) (placed_at values next n part) y base r e
 
--- ---- where the rule applies something is found
-
-mutual
-  pub region-some : (h : RegionTree → Option NodeTree) (f : RegionTree → Option RegionTree) → ((t : RegionTree) → h t ≡ None → f t ≡ None) →
-      (r : RegionTree) → region_found h r ≡ None → region_changed f r ≡ None
-  region-some h f base (region args nodes results) e =
-      let p = none-both (h (region args nodes results)) (nodes_found h nodes) e in
-      ap (λ o. option_or o (option_map (λ ns. region args ns results) (nodes_changed f nodes))) (base (region args nodes results) p.0)
-      ∙ ap (option_map (λ ns. region args ns results)) (nodes-some h f base nodes p.1)
-
-  node-some : (h : RegionTree → Option NodeTree) (f : RegionTree → Option RegionTree) → ((t : RegionTree) → h t ≡ None → f t ≡ None) →
-      (x : NodeTree) → node_found h x ≡ None → node_changed f x ≡ None
-  node-some h f base (node id op inputs rs) e = ap (option_map (λ ss. node id op inputs ss)) (regions-some h f base rs e)
-
-  nodes-some : (h : RegionTree → Option NodeTree) (f : RegionTree → Option RegionTree) → ((t : RegionTree) → h t ≡ None → f t ≡ None) →
-      (ns : NodeTrees) → nodes_found h ns ≡ None → nodes_changed f ns ≡ None
-  nodes-some h f base no_nodes e = refl
-  nodes-some h f base (node_then x ns) e =
-      let p = none-both (node_found h x) (nodes_found h ns) e in
-      ap (λ o. option_or (option_map (λ z. node_then z ns) o) (option_map (λ zs. node_then x zs) (nodes_changed f ns))) (node-some h f base x p.0)
-      ∙ ap (option_map (λ zs. node_then x zs)) (nodes-some h f base ns p.1)
-
-  regions-some : (h : RegionTree → Option NodeTree) (f : RegionTree → Option RegionTree) → ((t : RegionTree) → h t ≡ None → f t ≡ None) →
-      (rs : RegionTrees) → regions_found h rs ≡ None → regions_changed f rs ≡ None
-  regions-some h f base no_regions e = refl
-  regions-some h f base (region_then r rs) e =
-      let p = none-both (region_found h r) (regions_found h rs) e in
-      ap (λ o. option_or (option_map (λ s. region_then s rs) o) (option_map (λ ss. region_then r ss) (regions_changed f rs))) (region-some h f base r p.0)
-      ∙ ap (option_map (λ ss. region_then r ss)) (regions-some h f base rs p.1)
-
+-- where the rule applies something is found
 pub found-some : (values next n : ℕ) (r : RegionTree) → is_some (region_changed (ivt_here values next n) r) ≡ true → is_some (region_found (loop_at values next n) r) ≡ true
-found-some values next n r e = by (region_found (loop_at values next n) r) refl
-  where
-    none-of : (o : Option RegionTree) → is_some o ≡ false → o ≡ None
-    none-of None e = refl
-    none-of (Some s) e = absurd cc
-
-    by : (o : Option NodeTree) → region_found (loop_at values next n) r ≡ o → is_some (region_found (loop_at values next n) r) ≡ true
-    by (Some y) d = ap is_some d
-    by None d =
-        let no : false ≡ true =
-        sym (ap is_some (region-some (loop_at values next n) (ivt_here values next n)
-        (λ t f. none-of (ivt_here values next n t) (sym (here_found values next n t) ∙ ap is_some f)) r d)) ∙ e in
-        absurd cc
+found-some values next n r e = found-where-changed (loop_at values next n) (ivt_here values next n) (here_found values next n) r e

@@ -26,10 +26,11 @@ use Rattle.g_edit.proofs.lemmas.Steps.{contracts_give_steps, edits_keep_interfac
 use Rattle.g_copy.specs.Numbering.{node_count, region_numbered}
 use Rattle.g_copy.proofs.lemmas.Copies.{numbered-ops}
 use Rattle.g_copy.proofs.lemmas.Fits.{copied-nodes-values, copies_count_the_same}
+use Rattle.g_edit.proofs.lemmas.Loops.{loop_node}
 use Rattle.r_invert.specs.Compose.{in_sequence, alone}
 use Rattle.r_invert.specs.Laws.{IvtIsAStep}
 use Rattle.r_invert.specs.Rule.{Parts, parts_of, giving, turn, remaining, choice, inverted, new_nodes, growth, loop_values, can_count, ivt_here, body_inverted, with_body, ivt}
-use Rattle.r_invert.proofs.At.{loop_node, placed, inverts-at}
+use Rattle.r_invert.proofs.At.{placed, inverts-at}
 use Rattle.r_invert.proofs.Fits.{changed-fits}
 use Rattle.r_invert.proofs.Forms.{ending, form-of}
 use Rattle.r_invert.proofs.Replaced.{ivt_replaces}

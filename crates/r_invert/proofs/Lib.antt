@@ -1,6 +1,5 @@
 mod Examples
 mod Turns
-mod Consecutive
 mod Sequence
 mod AloneFits
 mod Pieces

@@ -2,7 +2,6 @@
 use Rattle.std.specs.Prelude.{◌==◌}
 use Rattle.std.proofs.Common.{◌≡◌, ◌+◌, ℕ, zero, suc, Bool, true, false, cond, List, [], ◌∷◌, length, refl, sym, ap, subst, ◌∙◌, arith}
 use Rattle.std.proofs.Math.Path.{fun_ext}
-use Rattle.std.proofs.lemmas.Bool.Decides.{nat_tests}
 use Rattle.val_core.specs.declared.values.Value.{Value}
 use Rattle.val_core.specs.declared.values.Value.TheVariants.{Num, At, Bad}
 use Rattle.val_core.specs.Answers.{Answer, Returned, then_on, on_number, Gives}
@@ -13,14 +12,15 @@ use Rattle.g_graph.specs.declared.op.Op.TheVariants.{Gamma, Theta}
 use Rattle.g_graph.specs.Plain.{RegionTree, region, no_regions, region_then, args_of, results_of}
 use Rattle.g_graph.specs.Ids.{nodes_ids}
 use Rattle.g_mean.specs.Data.{Datum, value_of}
-use Rattle.g_mean.specs.Meaning.{Meaning, Context, chosen, branched, again, turns, region_meaning}
+use Rattle.g_mean.specs.Meaning.{Meaning, Context, branched, again, turns, region_meaning}
 use Rattle.g_mean.proofs.lemmas.Closed.{region-closed}
 use Rattle.g_copy.specs.Numbering.{node_count, region_numbered}
 use Rattle.g_copy.proofs.lemmas.Copies.{numbered_copies_mean_the_same}
+use Rattle.g_edit.proofs.lemmas.Loops.{gives-results, chosen-two}
 use Rattle.r_invert.specs.Compose.{in_sequence, alone}
 use Rattle.r_invert.specs.Laws.{either}
 use Rattle.r_invert.specs.Rule.{Parts, turn, remaining, choice, inverted}
-use Rattle.r_invert.proofs.Composed.{sequence-means, alone-means, gives-results}
+use Rattle.r_invert.proofs.Composed.{sequence-means, alone-means}
 use Rattle.r_invert.proofs.Pieces.{Part, Piece, apart-pieces, numbered-piece}
 use Rattle.r_invert.proofs.Whole.{PartsFit, results-count, loop-piece, last-piece, choice-piece}
 
@@ -69,12 +69,6 @@ either-gives P stop go [] h k = tt
 either-gives P stop go (p ∷ es) h k = number-gives P (value_of p) (λ w. cond (w == 0) (stop es) (go es)) (λ w. cond-gives P (w == 0) (stop es) (go es) (h es) (k es))
 
 -- ---- a Gamma of two regions
-
-chosen-two : (w : ℕ) (stop go : Meaning) (es : List Datum) → chosen w (stop ∷ go ∷ []) es ≡ cond (w == 0) (stop es) (go es)
-chosen-two zero stop go es = refl
-chosen-two (suc w) stop go es =
-    let more : (suc w == 0) ≡ false = grind (arith, nat_tests) in
-    sym (ap (λ t. cond t (stop es) (go es)) more)
 
 pub branched-two : (stop go : Meaning) (es : List Datum) → branched (stop ∷ go ∷ []) es ≡ either stop go es
 branched-two stop go [] = refl

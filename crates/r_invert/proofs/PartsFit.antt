@@ -62,7 +62,8 @@ have-states r ks a t =
 
 -- ---- the parts
 
-module _ (objects : ℕ) (args : List Kind) (before : NodeTrees) (g : ℕ) (inputs : List Origin) (own : List Kind) (ns : NodeTrees) (rs : List Origin) (others : List Kind) (ms : NodeTrees) (ss : List Origin)
+module _ (objects : ℕ) (args : List Kind) (before : NodeTrees) (g : ℕ) (inputs : List Origin) (own : List Kind) (ns : NodeTrees) (rs : List Origin)
+    (others : List Kind) (ms : NodeTrees) (ss : List Origin)
     (predicate : Origin) (variables : List Origin) where
   abbrev z : RegionTree
   z = region own ns rs
@@ -199,7 +200,8 @@ module _ (objects : ℕ) (args : List Kind) (before : NodeTrees) (g : ℕ) (inpu
               (record {
                 each = f.each;
                 last = all.1;
-                memory_given = given-where (gives Memory xs) (some_of (is_of Memory) (map (known ks xs) (map (outputs_to_results g os) variables))) (ap (some_of (is_of Memory)) all.0 ∙ loop-states.memory);
+                memory_given = given-where (gives Memory xs) (some_of (is_of Memory) (map (known ks xs) (map (outputs_to_results g os) variables)))
+                    (ap (some_of (is_of Memory)) all.0 ∙ loop-states.memory);
                 io_given = given-where (gives Io xs) (some_of (is_of Io) (map (known ks xs) (map (outputs_to_results g os) variables))) (ap (some_of (is_of Io)) all.0 ∙ loop-states.io);
                 first = f.first;
                 second = ap one_state_each all.0 ∙ whole.first;

@@ -15,7 +15,8 @@ pub record EndMade (next : ℕ) (r : RegionTree) (variables : List Origin) (x : 
   pub can : CanMakeEnd next r variables x
   pub is : body_part next r ≡ made_end next r variables x
 
-pub end-made : (next : ℕ) (r : RegionTree) (x : NodeTree) (o : Origin) (variables : List Origin) → Makes next r → last_node (nodes_in r) ≡ Some x → results_of r ≡ o ∷ variables → EndMade next r variables x
+pub end-made : (next : ℕ) (r : RegionTree) (x : NodeTree) (o : Origin) (variables : List Origin) → Makes next r → last_node (nodes_in r) ≡ Some x →
+    results_of r ≡ o ∷ variables → EndMade next r variables x
 end-made next (region args nodes results) x o variables m e d =
     let form : parts_with args (but_last nodes) results x ≡ Some m.parts = sym (ap (option_and_then (parts_with args (but_last nodes) results)) e) ∙ m.form in
     let h = ends args (but_last nodes) results x m.parts form in

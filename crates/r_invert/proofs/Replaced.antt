@@ -1,8 +1,7 @@
 -- The inverted loop in the place of the loop may replace it.
 use Rattle.std.specs.Prelude.{◌&&◌, nat_lt}
-use Rattle.std.proofs.Common.{◌≡◌, ◌⊎◌, ◌<◌, ℕ, true, List, [], ◌∷◌, ◌++◌, map, length, Some, slice_get, refl, sym, ap, subst, ◌∙◌, inl, inr, arith}
+use Rattle.std.proofs.Common.{◌≡◌, ℕ, true, List, [], ◌∷◌, ◌++◌, map, length, Some, slice_get, refl, sym, ap, subst, ◌∙◌, arith}
 use Rattle.std.proofs.lemmas.Bool.{and_parts}
-use Rattle.std.proofs.lemmas.Bool.Decides.{nat_tests}
 use Rattle.val_core.specs.declared.values.Value.{Value as Word}
 use Rattle.val_core.specs.Refinement.{Direction, Forward, Backward, Refines, no_deeper}
 use Rattle.g_graph.specs.declared.op.Kind.{Kind}
@@ -26,7 +25,6 @@ use Rattle.g_mean.specs.Copies.{IsAmong, AreRead, NodesRead, known_after, is_arg
 use Rattle.g_mean.specs.Edits.{AreEditedAt, IsPartOf}
 use Rattle.g_mean.specs.Splices.{FitsInto}
 use Rattle.g_mean.proofs.lemmas.Closed.{region-closed}
-use Rattle.g_mean.proofs.lemmas.Copies.{among-left, among-right, among-split}
 use Rattle.g_mean.proofs.lemmas.Edits.{distinct-split, edits_replace}
 use Rattle.g_mean.proofs.lemmas.Inside.{as-many}
 use Rattle.g_mean.proofs.lemmas.Kept.{reads-refines}
@@ -35,34 +33,15 @@ use Rattle.g_mean.proofs.lemmas.Programs.{programs_keep_meaning}
 use Rattle.g_mean.proofs.lemmas.Replacement.{lambdas_keep_meaning}
 use Rattle.g_mean.proofs.lemmas.Splices.{joined-read, spliced_regions_refine}
 use Rattle.g_edit.proofs.lemmas.AddedFit.{fits-parts}
+use Rattle.g_edit.proofs.lemmas.Loops.{loop_node}
+use Rattle.g_edit.proofs.lemmas.Numbers.{below, among-whole}
 use Rattle.r_invert.specs.Laws.{IsLoopRegion, AreTurnsInverted, IvtReplaces, IvtKeepsLambdas, IvtKeepsPrograms}
 use Rattle.r_invert.specs.Rule.{Parts, parts_of, takes_both_states, inverted, new_nodes, ivt_here}
-use Rattle.r_invert.proofs.At.{loop_node, placed, inverts-at}
+use Rattle.r_invert.proofs.At.{placed, inverts-at}
 use Rattle.r_invert.proofs.First.{LoopSays, loop-says, inverted_loops_refine}
 use Rattle.r_invert.proofs.PartsFit.{NodeSays, node-says}
 use Rattle.r_invert.proofs.Pieces.{Piece, among-numbers}
 use Rattle.r_invert.proofs.Whole.{inverted-piece}
-
--- ---- numbers
-
-pub below : (m next : ℕ) (ns : List ℕ) → all_of (λ n. nat_lt n next) ns ≡ true → IsAmong m ns → m < next
-below m next [] a h = absurd h
-below m next (n ∷ ns) a (inl e) =
-    let own : nat_lt n next ≡ true = (and_parts (nat_lt n next) (all_of (λ k. nat_lt k next) ns) a).0 in
-    grind (arith, nat_tests)
-below m next (n ∷ ns) a (inr h) = below m next ns (and_parts (nat_lt n next) (all_of (λ k. nat_lt k next) ns) a).1 h
-
--- the numbers of the nodes apart from those inside the node
-among-whole : (m : ℕ) (before : NodeTrees) (id : ℕ) (inner after : List ℕ) → IsAmong m (nodes_ids before ++ id ∷ after) → IsAmong m (nodes_ids before ++ ((id ∷ inner) ++ after))
-among-whole m before id inner after h = by (among-split m (nodes_ids before) (id ∷ after) h)
-  where
-    rest : IsAmong m (id ∷ after) → IsAmong m ((id ∷ inner) ++ after)
-    rest (inl e) = inl e
-    rest (inr k) = inr (among-right m inner after k)
-
-    by : IsAmong m (nodes_ids before) ⊎ IsAmong m (id ∷ after) → IsAmong m (nodes_ids before ++ ((id ∷ inner) ++ after))
-    by (inl k) = among-left m (nodes_ids before) ((id ∷ inner) ++ after) k
-    by (inr k) = among-right m (nodes_ids before) ((id ∷ inner) ++ after) (rest k)
 
 -- ---- the region of the loop
 
@@ -160,7 +139,8 @@ module _ (ls ks : List PlainLambda) (n : ℕ) (l : PlainLambda) (args : List Kin
           record {
             at = λ direction global. record {
               at = λ c d a linked.
-                  subst (λ r. MeaningRefines no_deeper direction IsLessDefinedDatum (region_meaning c whole) (region_meaning d (region_spliced n (region_redirected (args_to_inputs inputs) r) whole))) (sym is)
+                  subst (λ r. MeaningRefines no_deeper direction IsLessDefinedDatum (region_meaning c whole) (region_meaning d (region_spliced n (region_redirected (args_to_inputs inputs) r) whole)))
+                  (sym is)
                   (spliced_regions_refine direction c d a args before x after results own ns gets inputs fits
                   (λ xs ys o q near like have. loop-refines direction global c d a linked xs ys o q near like));
             };

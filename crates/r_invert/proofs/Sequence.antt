@@ -10,13 +10,13 @@ use Rattle.g_graph.specs.Plain.{region, NodeTree, NodeTrees, no_nodes, node_then
 use Rattle.g_graph.specs.Change.{has_node}
 use Rattle.g_graph.specs.Replace.{nodes_redirected}
 use Rattle.g_graph.specs.Scope.{is_of, known, last_index, origin_at, state_after, last_state, each_node}
-use Rattle.g_graph.specs.Signatures.{kind_after}
+use Rattle.g_graph.specs.Signatures.{joined, kind_after}
 use Rattle.g_graph.specs.Splice.{args_to_inputs, joined_nodes}
 use Rattle.g_graph.specs.WellFormed.{all_of, some_of, one_state_each, gives, is_last, node_fits, region_fits, every_region, every_in_nodes}
-use Rattle.g_graph.proofs.SpliceKept.{some_at}
 use Rattle.g_graph.proofs.lemmas.Indexes.{kind_absent, kind_present, kind_known, index_kind, GivesState, KeepsState, state_cases, last_gives, each_node-joined}
 use Rattle.g_graph.proofs.lemmas.Redirects.{kind_after-redirected, state_after-redirected, every_in_nodes-redirected}
 use Rattle.g_graph.proofs.lemmas.Splices.{joined_none, kind_after-joined, state_after-joined, every_in_nodes-joined}
+use Rattle.g_mean.proofs.lemmas.Kinds.{joined-some}
 use Rattle.g_edit.proofs.lemmas.AddedFit.{nothing, none-of, none-read, scope-from, Fits, fits-from}
 use Rattle.g_edit.proofs.lemmas.Kept.{IsState, memory, io}
 use Rattle.g_edit.proofs.lemmas.Scopes.{KeepsScope, kept_all, kept_nodes_fit}
@@ -118,7 +118,7 @@ module _ (objects : ℕ) (args : List Kind) (ns : NodeTrees) (results : List Ori
       at-index (Some j) q r =
           let taken : Some (Arg j) ≡ Some o = sym (ap (λ l. origin_at Arg l None) q) ∙ sym (r.from (start k)) ∙ e in
           let same : Arg j ≡ o = cc in
-          let at = entry j k (some_at own j k (index_kind k (map Some own) j q).0) in
+          let at = entry j k (joined-some own j k (ap joined (index_kind k (map Some own) j q).0)) in
           state-there front k ∙ r.from (last_state k args ns) ∙ not-value k s (last_state k args ns ≡ Some at.origin) (last_gives k args ns at.origin at.kind at.last)
           ∙ sym (ap (λ t. Some (unwrap_or t (Arg j))) at.there) ∙ ap (λ b. Some (move b)) same
 

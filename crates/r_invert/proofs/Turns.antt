@@ -2,8 +2,7 @@
 use Rattle.std.specs.Prelude.{◌==◌}
 use Rattle.std.proofs.Common.{◌≡◌, ℕ, zero, suc, Bool, true, false, cond, List, [], ◌∷◌, refl, sym, ap, subst, ◌∙◌, arith}
 use Rattle.std.proofs.Math.Path.{fun_ext}
-use Rattle.val_core.specs.declared.values.Value.{Value}
-use Rattle.val_core.specs.declared.values.Value.TheVariants.{Num, At, Bad}
+use Rattle.val_core.specs.declared.values.Value.TheVariants.{Num}
 use Rattle.val_core.specs.Answers.{Answer, Returned, Cut, then_on, on_number}
 use Rattle.val_core.specs.Refinement.{Direction, Forward, Backward, Refines, no_deeper}
 use Rattle.val_core.proofs.lemmas.Answers.{then_associates, then_nothing}
@@ -15,6 +14,7 @@ use Rattle.g_mean.specs.Refining.{InOrder}
 use Rattle.g_mean.proofs.lemmas.Equal.{no_deeper-compares}
 use Rattle.g_mean.proofs.lemmas.LessDefined.{less-kept}
 use Rattle.g_mean.proofs.lemmas.Regions.{pick, less-cut, far-cut, on_number-refines}
+use Rattle.g_edit.proofs.lemmas.Loops.{then-number}
 use Rattle.r_invert.specs.Laws.{either, AreTurnsInverted}
 
 -- ---- bounds
@@ -32,11 +32,6 @@ one-less Forward n m h = omega (arith, h)
 one-less Backward n m h = omega (arith, h)
 
 -- ---- what follows the one part or the other
-
-then-number : {A B : Type 0} (v : Value) (f : ℕ → Answer A) (next : A → Answer B) → then_on (on_number v f) next ≡ on_number v (λ w. then_on (f w) next)
-then-number (Num w) f next = refl
-then-number (At b o) f next = refl
-then-number Bad f next = refl
 
 then-choice : {A B : Type 0} (t : Bool) (a b : Answer A) (next : A → Answer B) → then_on (cond t a b) next ≡ cond t (then_on a next) (then_on b next)
 then-choice true a b next = refl

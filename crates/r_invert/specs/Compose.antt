@@ -1,17 +1,12 @@
 -- Regions made of others: one after another, and one of a single node.
-use Rattle.std.specs.Prelude.{ℕ, zero, suc, List, [], ◌∷◌, map, length}
+use Rattle.std.specs.Prelude.{ℕ, List, map, length}
 use Rattle.g_graph.specs.declared.op.Kind.{Kind}
 use Rattle.g_graph.specs.declared.op.Op.{Op}
-use Rattle.g_graph.specs.declared.op.Origin.{Origin}
 use Rattle.g_graph.specs.declared.op.Origin.TheVariants.{Arg, Out}
 use Rattle.g_graph.specs.Plain.{RegionTree, region, node, no_nodes, node_then, RegionTrees}
 use Rattle.g_graph.specs.Replace.{nodes_redirected}
 use Rattle.g_graph.specs.Splice.{args_to_inputs, joined_nodes}
-
--- so many arguments, or outputs of a node, from a first one on
-abbrev pub origins_from : (place : ℕ → Origin) → (first count : ℕ) → List Origin
-origins_from place first zero = []
-origins_from place first (suc count) = place first ∷ origins_from place (suc first) count
+use Rattle.g_edit.specs.Origins.{origins_from}
 
 -- the one region, and then the other one on its results
 abbrev pub in_sequence : RegionTree → RegionTree → RegionTree

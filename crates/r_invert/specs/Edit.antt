@@ -1,10 +1,9 @@
 -- The parts of the change, as it is made.
-use Rattle.std.specs.Option.{option_or}
 use Rattle.std.specs.Prelude.{ℕ, ◌≡◌, ◌+◌, ◌-◌, ◌*◌, ◌^◌, ◌<◌, nat_le, nat_lt, ◌&&◌, if◌then◌else◌, Bool, true, false, List, [], ◌∷◌, length}
 use Rattle.std.specs.Prelude.{count_by, Option, None, Some, option_map, option_and_then, is_some}
 use Rattle.g_graph.specs.declared.op.Op.TheVariants.{Gamma, Theta}
 use Rattle.g_graph.specs.declared.op.Origin.{Origin}
-use Rattle.g_graph.specs.Plain.{RegionTree, region, NodeTree, node, NodeTrees, no_nodes, node_then, RegionTrees, no_regions, region_then, args_of, nodes_in, results_of, inputs_in}
+use Rattle.g_graph.specs.Plain.{RegionTree, region, NodeTree, node, RegionTrees, no_regions, region_then, args_of, nodes_in, results_of, inputs_in}
 use Rattle.g_graph.specs.Count.{region_values}
 use Rattle.g_graph.specs.Nodes.{node_at}
 use Rattle.g_graph.specs.Replace.{region_redirected}
@@ -88,22 +87,6 @@ loop_of values next x = if is_loop values next x then Some x else None
 -- that of number n, where the region itself holds such a loop there
 abbrev pub loop_at : (values next n : ℕ) → RegionTree → Option NodeTree
 loop_at values next n r = option_and_then (loop_of values next) (node_at n (nodes_in r))
-
--- what is found in a region, or else in the first of those nested in it
-abbrev mutual
-  pub region_found : (RegionTree → Option NodeTree) → RegionTree → Option NodeTree
-  region_found f (region args nodes results) = option_or (f (region args nodes results)) (nodes_found f nodes)
-
-  pub node_found : (RegionTree → Option NodeTree) → NodeTree → Option NodeTree
-  node_found f (node id op inputs rs) = regions_found f rs
-
-  pub nodes_found : (RegionTree → Option NodeTree) → NodeTrees → Option NodeTree
-  nodes_found f no_nodes = None
-  nodes_found f (node_then x ns) = option_or (node_found f x) (nodes_found f ns)
-
-  pub regions_found : (RegionTree → Option NodeTree) → RegionTrees → Option NodeTree
-  regions_found f no_regions = None
-  regions_found f (region_then r rs) = option_or (region_found f r) (regions_found f rs)
 
 -- ---- the change
 

@@ -1,10 +1,10 @@
 //! Regions made of others.
 ghost use Rattle.std.specs.Prelude.{◌≡◌, ◌≤◌, ◌^◌, ◌++◌, IfOk, OnOk, length};
-ghost use Rattle.g_graph.specs.declared.op.Origin.TheVariants.{Arg, Out};
 ghost use Rattle.g_graph.specs.Plain.{regions_of};
-ghost use Rattle.r_invert.specs.Compose.{origins_from, in_sequence, alone};
+ghost use Rattle.r_invert.specs.Compose.{in_sequence, alone};
 
-use g_graph::{ArgsToInputs, Kind, Node, Op, Origin, Region, redirect_region};
+use g_edit::{arguments, outputs_of};
+use g_graph::{ArgsToInputs, Kind, Node, Op, Region, redirect_region};
 use no_memory::NoMemory;
 use smallvec::SmallVec;
 use std::alloc::Global;
@@ -67,31 +67,4 @@ pub fn alone(
         nodes,
         results: outputs_of(alloc, id, results)?,
     })
-}
-
-// So many arguments.
-fn arguments(alloc: Global, count: usize) -> Result<Vec<Origin>, NoMemory>
-    requires { count ≤ 2 ^ 32 }
-    ensures { IfOk result (λ origins. origins.items ≡ origins_from Arg 0 count) }
-{
-    let mut origins = Vec::new(alloc);
-    for i in 0..count {
-        origins.push(Origin::Arg(i as u32))?;
-    }
-    Ok(origins)
-}
-
-// So many outputs of a node.
-fn outputs_of(alloc: Global, id: u32, count: usize) -> Result<Vec<Origin>, NoMemory>
-    requires { count ≤ 2 ^ 32 }
-    ensures { IfOk result (λ origins. origins.items ≡ origins_from (Out id) 0 count) }
-{
-    let mut origins = Vec::new(alloc);
-    for i in 0..count {
-        origins.push(Origin::Out {
-            node: id,
-            port: i as u32,
-        })?;
-    }
-    Ok(origins)
 }
