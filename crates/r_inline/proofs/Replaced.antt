@@ -1,8 +1,6 @@
 -- The body in the place of the call may replace it.
 use Rattle.std.specs.Prelude.{◌+◌, nat_lt}
-use Rattle.std.proofs.Common.{◌≡◌, ◌⊎◌, ◌<◌, ◌≤◌, ℕ, true, List, [], ◌∷◌, ◌++◌, map, length, Some, slice_get, refl, sym, ap, subst, ◌∙◌, inl, inr, arith}
-use Rattle.std.proofs.lemmas.Bool.{and_parts}
-use Rattle.std.proofs.lemmas.Bool.Decides.{nat_tests}
+use Rattle.std.proofs.Common.{◌≡◌, ◌≤◌, ℕ, true, List, [], ◌∷◌, ◌++◌, map, length, Some, slice_get, refl, sym, ap, subst, ◌∙◌, inl, inr, arith}
 use Rattle.val_core.specs.declared.values.Value.{Value as Word}
 use Rattle.val_core.specs.Refinement.{Direction, Refines, no_deeper}
 use Rattle.g_graph.specs.declared.op.Kind.{Kind}
@@ -23,7 +21,6 @@ use Rattle.g_mean.specs.Copies.{renumbered, nodes_moved, IsAmong, AreRead, Nodes
 use Rattle.g_mean.specs.Edits.{AreEditedAt, IsPartOf}
 use Rattle.g_mean.specs.Splices.{FitsInto}
 use Rattle.g_mean.proofs.lemmas.Closed.{region-closed}
-use Rattle.g_mean.proofs.lemmas.Copies.{among-left, among-right, among-split}
 use Rattle.g_mean.proofs.lemmas.Edits.{edits_replace}
 use Rattle.g_mean.proofs.lemmas.Kept.{reads-refines}
 use Rattle.g_mean.proofs.lemmas.LessDefined.{less-kept}
@@ -31,6 +28,7 @@ use Rattle.g_mean.proofs.lemmas.LocalRefinement.{bodies_replace_calls}
 use Rattle.g_mean.proofs.lemmas.Programs.{programs_keep_meaning}
 use Rattle.g_mean.proofs.lemmas.Replacement.{lambdas_keep_meaning}
 use Rattle.g_mean.proofs.lemmas.Splices.{joined-read, spliced_regions_refine}
+use Rattle.g_edit.proofs.lemmas.Numbers.{below, among-whole}
 use Rattle.g_copy.specs.Numbering.{number_from, region_numbered}
 use Rattle.g_copy.proofs.lemmas.Numbering.{number_from-least, moved-ids}
 use Rattle.g_copy.proofs.lemmas.Fits.{copies_fit}
@@ -46,25 +44,6 @@ above : (m next : ℕ) (ms ns : List ℕ) → IsAmong m (map (number_from next m
 above m next ms [] h = absurd h
 above m next ms (n ∷ ns) (inl e) = omega (arith, e, number_from-least next ms n)
 above m next ms (n ∷ ns) (inr h) = above m next ms ns h
-
-below : (m next : ℕ) (ns : List ℕ) → all_of (λ n. nat_lt n next) ns ≡ true → IsAmong m ns → m < next
-below m next [] a h = absurd h
-below m next (n ∷ ns) a (inl e) =
-    let own : nat_lt n next ≡ true = (and_parts (nat_lt n next) (all_of (λ k. nat_lt k next) ns) a).0 in
-    grind (arith, nat_tests)
-below m next (n ∷ ns) a (inr h) = below m next ns (and_parts (nat_lt n next) (all_of (λ k. nat_lt k next) ns) a).1 h
-
--- the numbers of the nodes apart from those inside the node
-among-whole : (m : ℕ) (before : NodeTrees) (id : ℕ) (inner after : List ℕ) → IsAmong m (nodes_ids before ++ id ∷ after) → IsAmong m (nodes_ids before ++ ((id ∷ inner) ++ after))
-among-whole m before id inner after h = by (among-split m (nodes_ids before) (id ∷ after) h)
-  where
-    rest : IsAmong m (id ∷ after) → IsAmong m ((id ∷ inner) ++ after)
-    rest (inl e) = inl e
-    rest (inr k) = inr (among-right m inner after k)
-
-    by : IsAmong m (nodes_ids before) ⊎ IsAmong m (id ∷ after) → IsAmong m (nodes_ids before ++ ((id ∷ inner) ++ after))
-    by (inl k) = among-left m (nodes_ids before) ((id ∷ inner) ++ after) k
-    by (inr k) = among-right m (nodes_ids before) ((id ∷ inner) ++ after) (rest k)
 
 -- ---- the region
 
