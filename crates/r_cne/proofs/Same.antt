@@ -11,7 +11,7 @@ use Rattle.g_graph.specs.Plain.{region, NodeTree, node, NodeTrees, no_nodes, nod
 use Rattle.g_graph.specs.Ids.{node_ids, nodes_ids}
 use Rattle.g_graph.specs.Scope.{same_origin}
 use Rattle.g_graph.specs.WellFormed.{some_of, distinct}
-use Rattle.g_graph.specs.Replace.{node_redirected, nodes_redirected, region_redirected, origin_replaced}
+use Rattle.g_graph.specs.Replace.{nodes_redirected, region_redirected, origin_replaced}
 use Rattle.g_graph.specs.Splice.{joined_nodes}
 use Rattle.g_graph.proofs.lemmas.Moved.{same_origin_true}
 use Rattle.g_graph.proofs.lemmas.Splices.{joined_assoc, nodes_ids-joined}

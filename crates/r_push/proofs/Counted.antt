@@ -1,7 +1,6 @@
 -- What the code counts and tests, by the definitions.
 use Rattle.std.proofs.Common.{◌≡◌, ◌≢◌, slice_index_or, ℕ, false, List, [], ◌∷◌, length, None, refl, sym, ap, arith}
-use Rattle.g_graph.specs.Plain.{RegionTree, regions_of, count_of}
-use Rattle.g_graph.proofs.lemmas.Listed.{count_is}
+use Rattle.g_graph.specs.Plain.{RegionTree, regions_of}
 use Rattle.r_push.specs.Edit.{left_only}
 use Rattle.r_push.specs.Rule.{leaving_loop, leaves_only}
 

@@ -1,17 +1,15 @@
 -- A region that has no node of a number does not change where that node goes and its uses become others.
 use Rattle.std.proofs.Common.{◌≡◌, ◌≢◌, ℕ, ◌==◌, ◌⊎◌, Bool, true, false, ◌&&◌, ◌||◌, cond, List, [], ◌∷◌, ◌++◌, map, length, refl, sym, ap, ap₂, subst, ◌∙◌, inl, inr, arith}
-use Rattle.std.proofs.lemmas.Bool.{or_parts}
 use Rattle.std.proofs.lemmas.Bool.Decides.{nat_tests}
 use Rattle.g_graph.specs.declared.op.Kind.{Kind}
 use Rattle.g_graph.specs.declared.op.Kind.TheVariants.{Value}
 use Rattle.g_graph.specs.declared.op.Origin.{Origin}
 use Rattle.g_graph.specs.declared.op.Origin.TheVariants.{Arg, Out}
-use Rattle.g_graph.specs.Plain.{region, NodeTree, node, NodeTrees, no_nodes, node_then, id_of}
+use Rattle.g_graph.specs.Plain.{region, node, NodeTrees, no_nodes, node_then, id_of}
 use Rattle.g_graph.specs.Ids.{node_ids, nodes_ids}
 use Rattle.g_graph.specs.WellFormed.{some_of}
 use Rattle.g_graph.specs.Change.{has_node}
 use Rattle.g_graph.specs.Replace.{nodes_redirected, origin_replaced}
-use Rattle.g_graph.specs.Splice.{joined_nodes}
 use Rattle.g_mean.specs.Copies.{IsAmong, IsRead, AreRead, NodesRead, is_argument, IsClosed, known_after}
 use Rattle.g_mean.proofs.lemmas.Copies.{among-left, among-right, test-other}
 use Rattle.g_mean.proofs.lemmas.Holds.{id-among}
@@ -19,7 +17,6 @@ use Rattle.g_mean.proofs.lemmas.Splices.{known-among}
 use Rattle.g_edit.specs.Uses.{nodes_read, is_read, is_output_of}
 use Rattle.g_edit.specs.Removal.{nodes_without}
 use Rattle.g_edit.specs.Added.{arg_added}
-use Rattle.g_edit.proofs.lemmas.Removal.{without_joined}
 use Rattle.r_push.specs.Rule.{carried}
 
 -- ---- numbers

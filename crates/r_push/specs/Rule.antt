@@ -1,6 +1,6 @@
 -- Push: a node that gives a value of arguments alone moves out of a region of a Gamma, or out of a Theta, to directly
 -- before it (Reissmann et al., RVSDG, 2020). One more variable, after all others, carries the value.
-use Rattle.std.specs.Prelude.{ℕ, suc, ◌+◌, ◌^◌, nat_lt, ◌&&◌, if◌then◌else◌, Bool, true, false, List, ◌∷◌, length, slice_get, Option, None, Some, option_map, option_and_then, is_some}
+use Rattle.std.specs.Prelude.{ℕ, suc, ◌^◌, nat_lt, ◌&&◌, if◌then◌else◌, Bool, true, false, List, ◌∷◌, length, slice_get, Option, None, Some, option_map, option_and_then, is_some}
 use Rattle.std.specs.Option.{option_or}
 use Rattle.g_graph.specs.declared.op.Kind.TheVariants.{Value}
 use Rattle.g_graph.specs.declared.op.Op.TheVariants.{Gamma, Theta}
