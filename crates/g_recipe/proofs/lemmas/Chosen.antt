@@ -16,12 +16,13 @@ use Rattle.g_graph.specs.WellFormed.{IsWellFormed}
 use Rattle.g_edit.specs.Steps.{HasEach, IsApartFrom}
 use Rattle.g_order.specs.Calls.{no_lambda}
 use Rattle.g_order.specs.Laws.{OrdersAreRanked}
+use Rattle.g_edit.proofs.lemmas.Steps.{set-there, set-elsewhere}
 use Rattle.g_recipe.specs.Sweep.{RuleTable, optimise}
 use Rattle.g_recipe.specs.Answers.{lambda_of, lambdas_of, made, program, AreAnswers}
 use Rattle.g_recipe.specs.Kept.{IsKeptBy}
 use Rattle.g_recipe.specs.Laws.{AreSteps, HoldsDeps, with_answers, SomeAnswersKeepLists, AnswersKeepLists}
 use Rattle.g_recipe.proofs.lemmas.Recipes.{recipes_are_steps}
-use Rattle.g_recipe.proofs.lemmas.Kept.{there, elsewhere, lists_keep_themselves, keeping_composes, steps_keep_lists}
+use Rattle.g_recipe.proofs.lemmas.Kept.{lists_keep_themselves, keeping_composes, steps_keep_lists}
 use Rattle.g_recipe.proofs.lemmas.Answers.{IsMadeOf, made-of}
 
 -- ---- what a function is given
@@ -141,19 +142,19 @@ module _ (is_ranked : OrdersAreRanked) (t : RuleTable) (rows : AreSteps t) (rule
           kept = keeping_composes ls ks (slice_set ks i k) now.kept (subst (λ n. IsKeptBy ks (slice_set ks n k)) number-is set);
           own = λ f h g.
               let other : f ≢ i = λ e. let ranks : rank f ≡ rank i = ap rank e in let low = g (ranks ∙ is_rank) in omega (arith, low, e) in
-              elsewhere ks i f k other ∙ now.own f h (λ e. omega (arith, g e));
+              set-elsewhere ks i f k other ∙ now.own f h (λ e. omega (arith, g e));
           unchosen = λ f e.
               let other : f ≢ i = λ q. let clash : true ≡ false = sym is_chosen ∙ (ap chosen (sym q) ∙ e) in absurd cc in
-              elsewhere ks i f k other ∙ now.unchosen f e;
+              set-elsewhere ks i f k other ∙ now.unchosen f e;
           answered = λ f a c b e.
               elim (cases_eq f i) [
                 | inl q ↦
                     let mine : optimise t held rules l ≡ a = same_Some _ a (sym same ∙ (ap (slice_get answers) (sym q) ∙ e)) in
                     ap (slice_get (slice_set ks i k)) q
-                    ∙ (there ks i k (slice_get_within ks i l here) ∙ ap (λ (x : PlainOptimised). Some x.lambda) mine)
+                    ∙ (set-there ks i l k here ∙ ap (λ (x : PlainOptimised). Some x.lambda) mine)
                 | inr q ↦
                     let before : IsBefore r i f = elim b [ inl low ↦ inl low | inr low ↦ inr (low.0, omega (arith, low.1, q)) ] in
-                    elsewhere ks i f k q ∙ now.answered f a c before e
+                    set-elsewhere ks i f k q ∙ now.answered f a c before e
               ];
         }
 
