@@ -42,9 +42,9 @@ fn driven<H: Threads + Wait + Sync, W: Work, G: Gate>(
 }
 
 /// The results of all jobs of a work, which 1 to 64 workers do, each job once. A worker works in a
-/// thread of its own where one can be made, and passes the gate for each job before it makes it. The
-/// job j has the rank `ranks[j]` and depends on the jobs `deps[j]`, whose ranks are smaller; there
-/// are at most 512. `NoMemory` only where the allocator has none. It may wait, and nothing is
+/// thread of its own where one can be made, and passes the gate for each job before it makes it.
+/// The job j has the rank `ranks[j]` and depends on the jobs `deps[j]`, whose ranks are smaller;
+/// there are at most 512. `NoMemory` only where the allocator has none. It may wait, and nothing is
 /// promised of its returning.
 pub fn do_jobs_by_workers<H: Threads + Wait + Sync, W: Work, G: Gate>(
     rt: &H,

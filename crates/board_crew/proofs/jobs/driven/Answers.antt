@@ -1,4 +1,4 @@
-use Rattle.std.proofs.Common.{arith}
+use Rattle.std.proofs.Common.{◌≡◌, length, arith}
 use Rattle.board_lock.specs.Locks.{lock_of}
 use Rattle.board_work.proofs.lemmas.Crews.{crew-may-work, crew-stays}
 use Rattle.board_crew.proofs.Driven.{same-program, all-are-out}
@@ -13,18 +13,20 @@ pub returns-clause-same : goal.returns-clause-same
 returns-clause-same g c =
     let lock = lock_of c.in_ok-shared.shared in
     let crew = c.in_ok-workers.ensures.crew c.args.board c.in_ok-shared.ensures.first in
-    let new =
-    crew-stays lock c.args.board c.args.task.now g.W.Work.made c.in_ok-workers.workers.items c.work-answer.new.workers.items (omega (arith, c.work-answer.ensures.count, c.in_ok-workers.workers.ok.0, c.work-answer.new.workers.ok.0)) crew
-    c.work-answer.ensures.each in
+    let before = c.in_ok-workers.workers in
+    let after = c.work-answer.new.workers in
+    let as_many : length after.items ≡ length before.items = omega (arith, c.work-answer.ensures.count, before.ok.0, after.ok.0) in
+    let new = crew-stays lock c.args.board c.args.task.now g.W.Work.made before.items after.items as_many crew c.work-answer.ensures.each in
     same-program g.W.Work.made c.dismiss-closed.result c.args.board (c.dismiss-closed.ensures c.args.board new).program
 
 pub returns-clause-out : goal.returns-clause-out
 returns-clause-out g c =
     let lock = lock_of c.in_ok-shared.shared in
     let crew = c.in_ok-workers.ensures.crew c.args.board c.in_ok-shared.ensures.first in
-    let new =
-    crew-stays lock c.args.board c.args.task.now g.W.Work.made c.in_ok-workers.workers.items c.work-answer.new.workers.items (omega (arith, c.work-answer.ensures.count, c.in_ok-workers.workers.ok.0, c.work-answer.new.workers.ok.0)) crew
-    c.work-answer.ensures.each in
+    let before = c.in_ok-workers.workers in
+    let after = c.work-answer.new.workers in
+    let as_many : length after.items ≡ length before.items = omega (arith, c.work-answer.ensures.count, before.ok.0, after.ok.0) in
+    let new = crew-stays lock c.args.board c.args.task.now g.W.Work.made before.items after.items as_many crew c.work-answer.ensures.each in
     all-are-out g.W.Work.made c.results_stay.ensures lock c.args.board c.dismiss-closed.result c.work-answer.new.workers.items new c.in_ok-answer.ensures.finished
     (c.dismiss-closed.ensures c.args.board new)
 
@@ -32,8 +34,11 @@ pub dismiss-closed-requires-clause-crew : goal.dismiss-closed-requires-clause-cr
 dismiss-closed-requires-clause-crew g c κs within =
     let lock = lock_of c.in_ok-shared.shared in
     let crew = c.in_ok-workers.ensures.crew c.args.board c.in_ok-shared.ensures.first in
-    let worked = c.work-answer.ensures in
-    (c.args.board, crew-stays lock c.args.board c.args.task.now g.W.Work.made c.in_ok-workers.workers.items c.work-answer.new.workers.items (omega (arith, worked.count, c.in_ok-workers.workers.ok.0, c.work-answer.new.workers.ok.0)) crew worked.each)
+    let before = c.in_ok-workers.workers in
+    let after = c.work-answer.new.workers in
+    let as_many : length after.items ≡ length before.items = omega (arith, c.work-answer.ensures.count, before.ok.0, after.ok.0) in
+    let new = crew-stays lock c.args.board c.args.task.now g.W.Work.made before.items after.items as_many crew c.work-answer.ensures.each in
+    (c.args.board, new)
 
 pub hire-requires-clause-fresh : goal.hire-requires-clause-fresh
 hire-requires-clause-fresh g c κs within =
