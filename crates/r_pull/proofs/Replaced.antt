@@ -10,7 +10,7 @@ use Rattle.g_graph.specs.declared.op.Op.{Op}
 use Rattle.g_graph.specs.declared.op.Op.TheVariants.{Gamma}
 use Rattle.g_graph.specs.declared.op.Origin.{Origin}
 use Rattle.g_graph.specs.declared.op.Origin.TheVariants.{Out}
-use Rattle.g_graph.specs.Plain.{RegionTree, region, NodeTree, node, NodeTrees, no_nodes, node_then, RegionTrees, no_regions}
+use Rattle.g_graph.specs.Plain.{RegionTree, region, NodeTree, node, NodeTrees, node_then, RegionTrees, no_regions}
 use Rattle.g_graph.specs.Ids.{node_ids, nodes_ids, regions_ids}
 use Rattle.g_graph.specs.Signatures.{is_pure, first_args, output_kinds}
 use Rattle.g_graph.specs.Scope.{known}
@@ -33,17 +33,12 @@ use Rattle.g_mean.proofs.lemmas.Splices.{joined-run, joined-read}
 use Rattle.g_edit.specs.Places.{stays_at, kept}
 use Rattle.g_edit.specs.Entries.{some_reads, regions_taking}
 use Rattle.g_edit.proofs.lemmas.Invariant.{given_is}
+use Rattle.g_edit.proofs.lemmas.Meant.{has-run}
 use Rattle.g_edit.proofs.lemmas.Pure.{pure-outputs}
 use Rattle.r_pull.specs.Rule.{other_entries, regions_filled}
 use Rattle.r_pull.proofs.Carried.{FirstOutputs, late-stays, gone-port}
 use Rattle.r_pull.proofs.Means.{gamma-means}
 use Rattle.r_pull.proofs.PulledFit.{first-output, first-outputs}
-
--- ---- a node that has run
-
-has-run : (c : Context) (xs : List Datum) (o : Outputs) (front : NodeTrees) (x : NodeTree) (rest : NodeTrees) → HaveRun c xs o (joined_nodes front (node_then x rest)) → HasRun c xs o x
-has-run c xs o no_nodes x rest h = h.0
-has-run c xs o (node_then z front) x rest h = has-run c xs o front x rest h.1
 
 -- ---- the Gamma, where the node stands before it
 

@@ -1,26 +1,18 @@
 -- A count that is saturated decides as the count itself.
 use Rattle.std.specs.Prelude.{option_and_then, unwrap_or}
-use Rattle.std.proofs.Common.{◌≡◌, ℕ, ◌+◌, ◌^◌, nat_le, ◌&&◌, ◌||◌, cond, Bool, true, false, length, Option, None, Some, option_map, refl, ap, sym, ◌∙◌, arith}
+use Rattle.std.proofs.Common.{◌≡◌, ℕ, ◌+◌, ◌^◌, nat_le, ◌&&◌, cond, length, Option, None, Some, option_map, ap, sym, ◌∙◌}
 use Rattle.std.proofs.Math.Path.{fun_ext}
-use Rattle.std.proofs.lemmas.Bool.Decides.{nat_tests}
 use Rattle.g_graph.specs.Plain.{RegionTree, PlainLambda, nodes_in}
 use Rattle.g_graph.specs.Change.{lambda_changed}
 use Rattle.g_graph.specs.Count.{saturated}
 use Rattle.g_graph.specs.Nodes.{node_at}
 use Rattle.g_graph.specs.Program.{lambda_values}
-use Rattle.g_edit.specs.Size.{may_change_size}
+use Rattle.g_edit.proofs.lemmas.Size.{saturated-decides}
 use Rattle.r_pull.specs.Rule.{Pull, added, gone, copies_of, most_next, where_fits, pull_of, pull_at, region_pulled, pll_here, copies_here, region_answer, copies_at, pll}
-
-change-same : (v a g : ℕ) → may_change_size (saturated v) a g ≡ may_change_size v a g
-change-same v a g = by (nat_le a g) refl
-  where
-    by : (t : Bool) → nat_le a g ≡ t → t || nat_le (saturated v + a) (8192 + g) ≡ t || nat_le (v + a) (8192 + g)
-    by true e = refl
-    by false e = grind (arith, nat_tests, e)
 
 fits-same : (v next n : ℕ) (h : Pull) → where_fits (saturated v) next n h ≡ where_fits v next n h
 fits-same v next n h =
-    ap (λ t. cond (t && nat_le (next + copies_of n h) most_next && nat_le (length h.entries + length h.inputs) (2 ^ 32)) (Some h) None) (change-same v (added n h) (gone n h))
+    ap (λ t. cond (t && nat_le (next + copies_of n h) most_next && nat_le (length h.entries + length h.inputs) (2 ^ 32)) (Some h) None) (saturated-decides v (added n h) (gone n h))
 
 at-same : (v next n : ℕ) (r : RegionTree) → pull_at (saturated v) next n r ≡ pull_at v next n r
 at-same v next n r =
