@@ -1,7 +1,7 @@
 -- Each list of arguments is read as its row says.
 use Rattle.std.proofs.Common.{refl}
 use Rattle.cc_command.specs.Command.{number_in}
-use Rattle.cc_command.specs.CommandRows.{BuildRows, RecipeRows, WorkersRows, RunRows, OtherRows, GenRows}
+use Rattle.cc_command.specs.CommandRows.{BuildRows, RecipeRows, WorkersRows, ReportRows, RunRows, OtherRows, GenRows}
 
 pub build_rows : BuildRows
 unfolding number_in
@@ -45,6 +45,20 @@ workers_rows = record {
   letter_last = refl;
   more_digits = refl;
   twice = refl;
+}
+
+pub report_rows : ReportRows
+unfolding number_in
+report_rows = record {
+  next_argument = refl;
+  in_front = refl;
+  any_text = refl;
+  empty_text = refl;
+  no_value = refl;
+  option_for_value = refl;
+  twice = refl;
+  before_the_command = refl;
+  of_a_run = refl;
 }
 
 pub other_rows : OtherRows

@@ -2,14 +2,14 @@
 use Rattle.std.specs.Prelude.{ℕ, Bool, ◌*◌, ◌+◌, ◌-◌, ◌&&◌, List, [], ◌∷◌, Option, Some, None, codes, fold, length, nat_le, if◌then◌else◌, option_map}
 use Rattle.std.specs.List.{list_all}
 use Rattle.cc_command.specs.ParsedArguments.{Text}
-use Rattle.cc_command.specs.Forms.{Form, OptionForm, Value, text, number, command_among}
+use Rattle.cc_command.specs.Forms.{Form, OptionForm, Value, text, number, absent, command_among}
 
 -- what the arguments ask for; names are the bytes of their text
 pub data Command : Type 0 where
   -- say whether the source on the input is accepted
   accept : Command
-  -- compile the source of the first name to the image of the second, under the recipe that a text gives, by so many workers
-  build : List ℕ → List ℕ → (recipe : List ℕ) → (workers : ℕ) → Command
+  -- compile the source to the image under the recipe that a text gives, by so many workers, and report by the watcher of a name
+  build : (source image recipe : Text) → (workers : ℕ) → (report : Option Text) → Command
   -- run the image of the name for at most this many instructions
   run : List ℕ → (steps : ℕ) → Command
   -- write the generated program of this many functions, whose draws begin with a number, to the file of this name
@@ -46,9 +46,15 @@ read_number least most a = option_map number (number_in least most a)
 abbrev pub default_recipe : List ℕ
 default_recipe = codes "iln,fold,inv,cne,dne,ivt,psh,pll,url,fold,cne,inv,dne,dne"
 
--- `build IN OUT [--recipe LIST] [--workers N]`, LIST being any text, and N from 1 to 64, and 1 where it is not given
+-- the name of a report, or none where it is not given
+abbrev pub report_of : Value → Option (Option Text)
+report_of (text name) = Some (Some name)
+report_of absent = Some None
+report_of (number n) = None
+
+-- `build IN OUT [--recipe LIST] [--workers N] [--report NAME]`, LIST and NAME being any texts, N from 1 to 64, and 1 where it is not given
 abbrev pub build_of : List Value → Option Command
-build_of (text source ∷ text image ∷ text recipe ∷ number workers ∷ []) = Some (build source image recipe workers)
+build_of (text source ∷ text image ∷ text recipe ∷ number workers ∷ report ∷ []) = option_map (build source image recipe workers) (report_of report)
 build_of _ = None
 
 abbrev pub recipe_option : OptionForm
@@ -57,11 +63,14 @@ recipe_option = record { name = codes "recipe"; read = read_text; default = text
 abbrev pub workers_option : OptionForm
 workers_option = record { name = codes "workers"; read = read_number 1 64; default = number 1 }
 
+abbrev pub report_option : OptionForm
+report_option = record { name = codes "report"; read = read_text; default = absent }
+
 abbrev pub build_form : Form Command
 build_form = record {
   name = codes "build";
   positionals = record { name = codes "IN"; read = read_text } ∷ record { name = codes "OUT"; read = read_text } ∷ [];
-  options = recipe_option ∷ workers_option ∷ [];
+  options = recipe_option ∷ workers_option ∷ report_option ∷ [];
   command = build_of;
 }
 

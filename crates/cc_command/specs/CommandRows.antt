@@ -6,9 +6,9 @@ use Rattle.cc_command.specs.Command.{Command, accept, build as build_by, default
 abbrev pub command_after_name : List (List ℕ) → Option Command
 command_after_name arguments = command_of (codes "rvcc" ∷ arguments)
 
--- a build by one worker
+-- a build by one worker, without a report
 abbrev pub build : List ℕ → List ℕ → (recipe : List ℕ) → Command
-build source image recipe = build_by source image recipe 1
+build source image recipe = build_by source image recipe 1 None
 
 -- how many arguments there are, and what an argument looks like
 pub record BuildRows : Type 0 where
@@ -38,9 +38,10 @@ pub record RecipeRows : Type 0 where
 
 -- the number of workers of `build`
 pub record WorkersRows : Type 0 where
-  pub equals_sign : command_after_name (codes "build" ∷ codes "a" ∷ codes "b" ∷ codes "--recipe=fold" ∷ codes "--workers=3" ∷ []) ≡ Some (build_by (codes "a") (codes "b") (codes "fold") 3)
-  pub in_front : command_after_name (codes "build" ∷ codes "--workers" ∷ codes "02" ∷ codes "a" ∷ codes "b" ∷ codes "--recipe=fold" ∷ []) ≡ Some (build_by (codes "a") (codes "b") (codes "fold") 2)
-  pub greatest : command_after_name (codes "build" ∷ codes "a" ∷ codes "b" ∷ codes "--recipe=" ∷ codes "--workers" ∷ codes "64" ∷ []) ≡ Some (build_by (codes "a") (codes "b") [] 64)
+  pub equals_sign : command_after_name (codes "build" ∷ codes "a" ∷ codes "b" ∷ codes "--recipe=fold" ∷ codes "--workers=3" ∷ []) ≡ Some (build_by (codes "a") (codes "b") (codes "fold") 3 None)
+  pub in_front : command_after_name (codes "build" ∷ codes "--workers" ∷ codes "02" ∷ codes "a" ∷ codes "b" ∷ codes "--recipe=fold" ∷ [])
+      ≡ Some (build_by (codes "a") (codes "b") (codes "fold") 2 None)
+  pub greatest : command_after_name (codes "build" ∷ codes "a" ∷ codes "b" ∷ codes "--recipe=" ∷ codes "--workers" ∷ codes "64" ∷ []) ≡ Some (build_by (codes "a") (codes "b") [] 64 None)
   pub greater : command_after_name (codes "build" ∷ codes "a" ∷ codes "b" ∷ codes "--workers" ∷ codes "65" ∷ []) ≡ None
   pub no_workers : command_after_name (codes "build" ∷ codes "a" ∷ codes "b" ∷ codes "--workers" ∷ codes "0" ∷ []) ≡ None
   pub empty : command_after_name (codes "build" ∷ codes "a" ∷ codes "b" ∷ codes "--workers=" ∷ []) ≡ None
@@ -48,6 +49,21 @@ pub record WorkersRows : Type 0 where
   pub letter_last : command_after_name (codes "build" ∷ codes "a" ∷ codes "b" ∷ codes "--workers" ∷ codes "4x" ∷ []) ≡ None
   pub more_digits : command_after_name (codes "build" ∷ codes "a" ∷ codes "b" ∷ codes "--workers" ∷ codes "000000000000000000004" ∷ []) ≡ None
   pub twice : command_after_name (codes "build" ∷ codes "a" ∷ codes "b" ∷ codes "--workers=4" ∷ codes "--workers=4" ∷ []) ≡ None
+
+-- the report of `build`
+pub record ReportRows : Type 0 where
+  pub next_argument : command_after_name (codes "build" ∷ codes "a" ∷ codes "b" ∷ codes "--recipe=fold" ∷ codes "--report" ∷ codes "count" ∷ [])
+      ≡ Some (build_by (codes "a") (codes "b") (codes "fold") 1 (Some (codes "count")))
+  pub in_front : command_after_name (codes "build" ∷ codes "--report=log" ∷ codes "a" ∷ codes "--workers=2" ∷ codes "b" ∷ codes "--recipe=" ∷ [])
+      ≡ Some (build_by (codes "a") (codes "b") [] 2 (Some (codes "log")))
+  pub any_text : command_after_name (codes "build" ∷ codes "a" ∷ codes "b" ∷ codes "--recipe=fold" ∷ codes "--report" ∷ codes "no name" ∷ [])
+      ≡ Some (build_by (codes "a") (codes "b") (codes "fold") 1 (Some (codes "no name")))
+  pub empty_text : command_after_name (codes "build" ∷ codes "a" ∷ codes "b" ∷ codes "--recipe=fold" ∷ codes "--report=" ∷ []) ≡ Some (build_by (codes "a") (codes "b") (codes "fold") 1 (Some []))
+  pub no_value : command_after_name (codes "build" ∷ codes "a" ∷ codes "b" ∷ codes "--report" ∷ []) ≡ None
+  pub option_for_value : command_after_name (codes "build" ∷ codes "a" ∷ codes "b" ∷ codes "--report" ∷ codes "--workers=2" ∷ []) ≡ None
+  pub twice : command_after_name (codes "build" ∷ codes "a" ∷ codes "b" ∷ codes "--report=log" ∷ codes "--report=log" ∷ []) ≡ None
+  pub before_the_command : command_after_name (codes "--report" ∷ codes "log" ∷ codes "build" ∷ codes "a" ∷ codes "b" ∷ []) ≡ None
+  pub of_a_run : command_after_name (codes "run" ∷ codes "a" ∷ codes "--report" ∷ codes "log" ∷ []) ≡ None
 
 -- no arguments, and arguments that are no command or ask for help or a version
 pub record OtherRows : Type 0 where
@@ -101,4 +117,4 @@ pub record GenRows : Type 0 where
   pub four_arguments : command_after_name (codes "gen" ∷ codes "1" ∷ codes "1" ∷ codes "x" ∷ codes "y" ∷ []) ≡ None
 
 abbrev pub CommandRows : Type 0
-CommandRows = BuildRows × RecipeRows × WorkersRows × RunRows × OtherRows × GenRows
+CommandRows = BuildRows × RecipeRows × WorkersRows × ReportRows × RunRows × OtherRows × GenRows

@@ -1,4 +1,4 @@
-use Rattle.std.specs.Prelude.{◌≤◌}
+use Rattle.std.specs.Prelude.{◌≤◌, option_map}
 use Rattle.cc_command.specs.Command.{Command, accept, build, run, generate}
 use Rattle.cc_command.specs.declared.arguments.Command.{Command as Parsed}
 use Rattle.cc_command.specs.declared.arguments.Command.TheVariants.{Accept, Build, Run, Generate}
@@ -6,11 +6,11 @@ use Rattle.cc_command.specs.declared.arguments.Command.TheVariants.{Accept, Buil
 -- the plain form of a parsed command
 abbrev pub plain_command : Parsed → Command
 plain_command Accept = accept
-plain_command (Build source image recipe workers) = build source.now image.now recipe.now workers
+plain_command (Build source image recipe workers report) = build source.now image.now recipe.now workers (option_map (λ s. s.now) report)
 plain_command (Run image steps) = run image.now steps
 plain_command (Generate start functions out) = generate start functions out.now
 
 -- a build is by 1 to 64 workers
 abbrev pub HasWorkers : Parsed → Type 0
-HasWorkers (Build source image recipe workers) = (1 ≤ workers) × (workers ≤ 64)
+HasWorkers (Build source image recipe workers report) = (1 ≤ workers) × (workers ≤ 64)
 HasWorkers _ = Unit {0}

@@ -20,14 +20,16 @@ use std::alloc::{AllocError, Global};
 pub enum Command<'a> {
     /// No arguments: say whether the source on the input is accepted.
     Accept,
-    /// `build IN OUT [--recipe LIST] [--workers N]`: compile the source named IN to the image named
-    /// OUT under the recipe LIST, which may be any text; the default recipe where it is not given. N
-    /// workers, 1 to 64, make the functions; 1 where N is not given.
+    /// `build IN OUT [--recipe LIST] [--workers N] [--report NAME]`: compile the source named IN to
+    /// the image named OUT under the recipe LIST, which may be any text; the default recipe where
+    /// it is not given. N workers, 1 to 64, make the functions; 1 where N is not given. NAME, any
+    /// text too, is the name of the watcher that reports; no report where it is not given.
     Build {
         source: &'a str,
         image: &'a str,
         recipe: &'a str,
         workers: u32,
+        report: Option<&'a str>,
     },
     /// `run IMG [--steps N]`: run the image named IMG for at most N instructions, 1 to 10^12; 10^9
     /// where N is not given.
@@ -51,7 +53,8 @@ fn build_arguments<'a>(alloc: Global) -> Result<Reader<'a>, AllocError>
     let command = with_required(alloc, Reader::new(alloc, "build"), "IN")?;
     let command = with_required(alloc, command, "OUT")?;
     let command = with_option(alloc, command, "recipe")?;
-    with_option(alloc, command, "workers")
+    let command = with_option(alloc, command, "workers")?;
+    with_option(alloc, command, "report")
 }
 
 fn run_arguments<'a>(alloc: Global) -> Result<Reader<'a>, AllocError>
@@ -117,6 +120,7 @@ fn build_in<'a>(arguments: &ArgMatches<'a>) -> Option<Command<'a>>
         image: value(arguments, "OUT")?,
         recipe: recipe_in(arguments),
         workers: workers_in(arguments)?,
+        report: value(arguments, "report"),
     })
 }
 

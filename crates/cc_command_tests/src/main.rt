@@ -1,12 +1,8 @@
-//! A program that prints what lists of arguments are to a command of two required arguments and
-//! three options. A table of them is in `stdin`, one list a line with a blank between two
-//! arguments, and what is printed in `stdout`. It stands on the reader of the commands, and its own
-//! command is read by the laws of all forms.
+//! A program that prints what lists of arguments are to the command line. A table of them is in
+//! `stdin`, one list a line with a blank between two arguments, and what is printed in `stdout`.
 #![tactic(auto)]
 
-mod example;
-
-use example::{Example, parse_example};
+use cc_command::{Command, parse_command};
 use std::alloc::Global;
 use std::io;
 use std::rt::Env;
@@ -24,20 +20,35 @@ fn arguments_of(alloc: Global, row: &str) -> io::Result<Vec<String>> {
     Ok(arguments)
 }
 
-fn print_command(rt: &impl Print, command: Option<Example<'_>>) -> io::Result<()> {
-    let Some(e) = command else {
-        return println!(rt; "usage");
-    };
-    let report = e.report.unwrap_or("-");
-    print!(rt; "from {} to {} workers {} ", e.source, e.image, e.workers)?;
-    println!(rt; "recipe {} report {}", e.recipe, report)
+fn print_command(rt: &impl Print, command: Command<'_>) -> io::Result<()> {
+    match command {
+        Command::Accept => println!(rt; "accept"),
+        Command::Build {
+            source,
+            image,
+            recipe,
+            workers,
+            report,
+        } => {
+            let report = report.unwrap_or("-");
+            print!(rt; "from {source} to {image} workers {workers} ")?;
+            println!(rt; "recipe {recipe} report {report}")
+        }
+        Command::Run { image, steps } => println!(rt; "run {image} steps {steps}"),
+        Command::Generate {
+            start,
+            functions,
+            out,
+        } => println!(rt; "generate {functions} from {start} to {out}"),
+    }
 }
 
 fn main(rt: HostRuntime) -> io::Result<()> {
     for row in rt.lines(rt.alloc()) {
         let arguments = arguments_of(rt.alloc(), row?.as_str())?;
-        match parse_example(rt.alloc(), &arguments) {
-            Ok(command) => print_command(&rt, command)?,
+        match parse_command(rt.alloc(), &arguments) {
+            Ok(Some(command)) => print_command(&rt, command)?,
+            Ok(None) => println!(rt; "usage")?,
             Err(_) => println!(rt; "out of memory")?,
         }
     }

@@ -3,3 +3,4 @@ mod Short
 mod Determined
 mod Decided
 mod Recipes
+mod MadeRows

@@ -1,30 +1,40 @@
 -- What a typed program is compiled to.
-use Rattle.std.specs.Prelude.{◌≡◌, ℕ, List, [], None}
-use Rattle.c_typed.specs.Typed.{ProgramTree}
+use Rattle.std.specs.Prelude.{◌≡◌, ℕ, List, [], None, map, zip}
+use Rattle.c_typed.specs.Typed.{FunctionTree, ProgramTree}
 use Rattle.c_typed.specs.WellTyped.{IsWellTyped}
 use Rattle.c_elaboration.specs.Limits.{above_limits}
 use Rattle.g_graph.specs.declared.steps.Rule.{Rule}
-use Rattle.g_graph.specs.Plain.{PlainOmega, PlainOptimised}
+use Rattle.g_graph.specs.Plain.{PlainOptimised}
+use Rattle.g_graph.specs.Program.{lambda_values}
 use Rattle.g_construct.specs.Functions.{graph, omega}
 use Rattle.g_build.specs.Passed.{limit_passed}
 use Rattle.g_built.specs.BuiltLaws.{IsSmall}
 use Rattle.g_recipe.specs.Answers.{AreAnswers}
 use Rattle.g_pass.specs.Sweep.{rules}
 use Rattle.cc_image.specs.Image.{file_of_program, lambdas_of, CanEmit}
+use Rattle.cc_watch.specs.Rows.{PlainRow}
 
 -- the image of a program whose functions are as they are built
 abbrev pub image_of : ProgramTree → List ℕ
 image_of p = file_of_program (omega p) (graph p)
 
--- These bytes are the file of a program under a recipe: its functions are what the recipe makes of its lambdas.
-pub record IsFileUnder (recipe : List Rule) (omega : PlainOmega) (bytes : List ℕ) : Type 0 where
+-- These bytes are the image of a typed program under a recipe: its functions are what the recipe makes of its lambdas.
+pub record IsImageUnder (recipe : List Rule) (p : ProgramTree) (bytes : List ℕ) : Type 0 where
   pub answers : List PlainOptimised
-  pub made : AreAnswers rules recipe omega.lambdas answers
-  pub file : bytes ≡ file_of_program omega (lambdas_of answers)
+  pub made : AreAnswers rules recipe (graph p) answers
+  pub file : bytes ≡ file_of_program (omega p) (lambdas_of answers)
 
--- They are the image of a typed program under a recipe.
-abbrev pub IsImageUnder : (recipe : List Rule) → ProgramTree → (bytes : List ℕ) → Type 0
-IsImageUnder recipe p bytes = IsFileUnder recipe (omega p) bytes
+-- what a recipe did to a function
+abbrev pub row_of : FunctionTree → (answer : PlainOptimised) → PlainRow
+row_of f answer = record { name = f.name; before = answer.before; after = lambda_values answer.lambda; steps = answer.steps }
+
+-- what it did to each function of a typed program, in source order
+abbrev pub rows_of : ProgramTree → (answers : List PlainOptimised) → List PlainRow
+rows_of p answers = map (λ (q : FunctionTree × PlainOptimised). row_of q.0 q.1) (zip p.functions answers)
+
+-- These bytes are its image under a recipe, and these rows tell what the recipe did to its functions.
+abbrev pub IsCompiledUnder : (recipe : List Rule) → ProgramTree → (bytes : List ℕ) → (rows : List PlainRow) → Type 0
+IsCompiledUnder recipe p bytes rows = (image : IsImageUnder recipe p bytes) × (rows ≡ rows_of p image.answers)
 
 -- ---- laws
 
@@ -32,16 +42,25 @@ IsImageUnder recipe p bytes = IsFileUnder recipe (omega p) bytes
 abbrev pub UnlimitedAreSmall : Type 0
 UnlimitedAreSmall = (p : ProgramTree) → above_limits p ≡ None → limit_passed p.functions ≡ None → IsSmall p
 
--- What a recipe makes of the lambdas of such a program can be put in an image.
+-- The lambdas of such a program can be put in an image,
+abbrev pub ProgramsCanBeEmitted : Type 0
+ProgramsCanBeEmitted = (p : ProgramTree) → IsWellTyped p → above_limits p ≡ None → limit_passed p.functions ≡ None → CanEmit (omega p) (graph p)
+
+-- and so can what a recipe makes of them.
 abbrev pub AnswersCanBeEmitted : Type 0
 AnswersCanBeEmitted =
     (p : ProgramTree) → IsWellTyped p → above_limits p ≡ None → limit_passed p.functions ≡ None →
     (recipe : List Rule) (answers : List PlainOptimised) → AreAnswers rules recipe (graph p) answers → CanEmit (omega p) (lambdas_of answers)
 
--- A program has at most one image under a recipe,
+-- A program has at most one image under a recipe, and one list of rows,
 abbrev pub OneImage : Type 0
 OneImage = (recipe : List Rule) (p : ProgramTree) (bytes others : List ℕ) → IsImageUnder recipe p bytes → IsImageUnder recipe p others → bytes ≡ others
 
--- and under the recipe without a sweep it is that of the functions as they are built.
+abbrev pub OneListOfRows : Type 0
+OneListOfRows =
+    (recipe : List Rule) (p : ProgramTree) (bytes others : List ℕ) (rows more : List PlainRow) → IsCompiledUnder recipe p bytes rows →
+    IsCompiledUnder recipe p others more → rows ≡ more
+
+-- and under the recipe without a sweep the image is that of the functions as they are built.
 abbrev pub UnsweptImage : Type 0
 UnsweptImage = (p : ProgramTree) (bytes : List ℕ) → IsImageUnder [] p bytes → bytes ≡ image_of p

@@ -5,10 +5,10 @@ ghost use Rattle.c_typed.specs.Typed.{ProgramTree};
 ghost use Rattle.c_typed.specs.WellTyped.{IsWellTyped};
 ghost use Rattle.c_elaboration.specs.Limits.{above_limits};
 ghost use Rattle.cc_compile.specs.Accepted.{Accepts, Checks, HasTree, Refuses};
-ghost use Rattle.cc_compile.specs.Compiled.{IsImageUnder};
+ghost use Rattle.cc_compile.specs.Compiled.{IsCompiledUnder};
 
 use crate::fault::CompileFault;
-use crate::typed::{compile_typed, compile_typed_by_workers};
+use crate::typed::{Compiled, compile_typed, compile_typed_by_workers};
 use board_work::Gate;
 use c_ast::Unit;
 use c_check::check;
@@ -19,15 +19,6 @@ use g_pass::Recipe;
 use std::alloc::Global;
 use std::sync::Wait;
 use std::thread::Threads;
-
-/// What a source is compiled to.
-#[derive(Drop)]
-pub struct Compiled {
-    /// The bytes of the executable file.
-    pub image: Vec<u8>,
-    /// How many functions the source defines.
-    pub functions: u32,
-}
 
 // The tree of a source.
 fn tree_of(alloc: Global, source: &[u8]) -> Result<Unit, CompileFault>
@@ -53,32 +44,29 @@ pub fn typed_of(alloc: Global, source: &[u8]) -> Result<Typed, CompileFault>
     Ok(checked?)
 }
 
-/// Compiles a source text under a recipe to an executable file, on one thread.
+/// Compiles a source text under a recipe to an executable file, on one thread, and tells what the
+/// recipe did to each function.
 ///
 /// `Lex`, `Parse`, `Check` and `Build` come exactly where that phase refuses the source, with its
 /// fault, and `NoMemory` may come in place of any answer.
 pub fn compile_one(alloc: Global, source: &[u8], recipe: &Recipe) -> Result<Compiled, CompileFault>
-    ensures accepted { IfOk result (λ c. (p : ProgramTree)
-        × Accepts source.now p × IsImageUnder recipe.now p c.image.items
+    ensures accepted { IfOk result (λ c. (p : ProgramTree) × Accepts source.now p
+        × IsCompiledUnder recipe.now p c.image.items c.rows.items
         × (c.functions ≡ length p.functions)) }
     ensures refused { IfErr result (λ e. Refuses e source.now) }
 {
     let typed = typed_of(alloc, source)?;
-    let functions = typed.functions.len() as u32;
-    let image = compile_typed(alloc, &typed, recipe);
+    let compiled = compile_typed(alloc, &typed, recipe);
     drop(typed);
-    Ok(Compiled {
-        image: image?,
-        functions,
-    })
+    Ok(compiled?)
 }
 
 /// Compiles a source text under a recipe to an executable file, whose functions 1 to 64 workers
-/// make, each worker in a thread of its own where one can be made. A worker passes the gate for each
-/// function, by its number, before it makes it.
+/// make, each worker in a thread of its own where one can be made. A worker passes the gate for
+/// each function, by its number, before it makes it.
 ///
-/// The answers are those of `compile_one`, however the steps of the workers interleave. It may wait,
-/// and nothing is promised of its returning.
+/// The answers are those of `compile_one`, however the steps of the workers interleave. It may
+/// wait, and nothing is promised of its returning.
 pub fn compile<H: Threads + Wait + Sync, G: Gate>(
     rt: &H,
     alloc: Global,
@@ -89,17 +77,13 @@ pub fn compile<H: Threads + Wait + Sync, G: Gate>(
 ) -> Result<Compiled, CompileFault>
     requires some_worker { 0 < workers }
     requires few_workers { workers ≤ 64 }
-    ensures accepted { IfOk result (λ c. (p : ProgramTree)
-        × Accepts source.now p × IsImageUnder recipe.now p c.image.items
+    ensures accepted { IfOk result (λ c. (p : ProgramTree) × Accepts source.now p
+        × IsCompiledUnder recipe.now p c.image.items c.rows.items
         × (c.functions ≡ length p.functions)) }
     ensures refused { IfErr result (λ e. Refuses e source.now) }
 {
     let typed = typed_of(alloc, source)?;
-    let functions = typed.functions.len() as u32;
-    let image = compile_typed_by_workers(rt, alloc, &typed, recipe, workers, gate);
+    let compiled = compile_typed_by_workers(rt, alloc, &typed, recipe, workers, gate);
     drop(typed);
-    Ok(Compiled {
-        image: image?,
-        functions,
-    })
+    Ok(compiled?)
 }

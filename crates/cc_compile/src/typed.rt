@@ -1,23 +1,21 @@
 //! From a typed program to the file.
-ghost use Rattle.std.specs.Prelude.{◌≡◌, ◌+◌, ◌*◌, ◌<◌, ◌≤◌, None, List, map, IfOk};
+ghost use Rattle.std.specs.Prelude.{◌≡◌, ◌<◌, ◌≤◌, None, length, map, IfOk};
 ghost use Rattle.std.specs.Arc.{arc_value};
-ghost use Rattle.std.specs.List.{sum_by};
-ghost use Rattle.limits.specs.Limits.{most_functions, most_program_values};
+ghost use Rattle.limits.specs.Limits.{most_functions};
 ghost use Rattle.c_typed.specs.WellTyped.{IsWellTyped};
 ghost use Rattle.c_elaboration.specs.Limits.{above_limits};
-ghost use Rattle.g_graph.specs.declared.steps.Rule.{Rule};
-ghost use Rattle.g_graph.specs.Program.{lambda_values};
-ghost use Rattle.g_edit.specs.Size.{most_grown_values};
-ghost use Rattle.g_recipe.specs.Answers.{AreAnswers};
-ghost use Rattle.g_pass.specs.Sweep.{rules};
+ghost use Rattle.g_construct.specs.Functions.{omega};
 ghost use Rattle.g_build.specs.Answer.{limit_named};
 ghost use Rattle.g_build.specs.Passed.{limit_passed};
-ghost use Rattle.cc_image.specs.Image.{CanEmit};
-ghost use Rattle.cc_compile.specs.Compiled.{IsFileUnder, IsImageUnder};
+ghost use Rattle.cc_image.specs.Image.{file_of_program, lambdas_of, CanEmit};
+ghost use Rattle.cc_compile.specs.Compiled.{rows_of, IsCompiledUnder};
 
+use crate::laws::{answers_can_be_emitted, programs_can_be_emitted};
+use crate::rows::rows_of;
 use board_work::Gate;
 use c_typed::Typed;
 use cc_emit::emit;
+use cc_watch::Row;
 use g_build::{BuildFault, build};
 use g_graph::{Omega, Optimised};
 use g_pass::Recipe;
@@ -27,69 +25,113 @@ use std::alloc::Global;
 use std::sync::{Arc, Wait};
 use std::thread::Threads;
 
+/// What a program is compiled to.
+#[derive(Drop)]
+pub struct Compiled {
+    /// The bytes of the executable file.
+    pub image: Vec<u8>,
+    /// How many functions the source defines.
+    pub functions: u32,
+    /// What the recipe did to each function, in source order.
+    pub rows: Vec<Row>,
+}
+
 // The file of a program, of whose functions a recipe makes these.
 fn file_with(alloc: Global, omega: &Omega, all: &[Arc<Optimised>]) -> Result<Vec<u8>, NoMemory>
-    requires made { (recipe : List Rule)
-        × AreAnswers rules recipe omega.now.lambdas (map arc_value all.now) }
-    requires program { CanEmit omega.now omega.now.lambdas }
-    requires few { most_functions * most_grown_values
-        + sum_by lambda_values omega.now.lambdas ≤ most_program_values }
-    ensures { (recipe : List Rule)
-        → AreAnswers rules recipe omega.now.lambdas (map arc_value all.now)
-        → IfOk result (λ file. IsFileUnder recipe omega.now file.items) }
+    requires { CanEmit omega.now (lambdas_of (map arc_value all.now)) }
+    ensures { IfOk result (λ file.
+        file.items ≡ file_of_program omega.now (lambdas_of (map arc_value all.now))) }
 {
-    pass_laws::laws::answers_keep_lists();
     let image = emit(alloc, all, omega)?;
     elf_file::write(alloc, &image)
 }
 
-// The file of a program under a recipe, on one thread.
-fn file_of(alloc: Global, omega: &Omega, recipe: &Recipe) -> Result<Vec<u8>, NoMemory>
-    requires program { CanEmit omega.now omega.now.lambdas }
-    requires few { most_functions * most_grown_values
-        + sum_by lambda_values omega.now.lambdas ≤ most_program_values }
-    ensures { IfOk result (λ file. IsFileUnder recipe.now omega.now file.items) }
+// What a typed program is compiled to, of whose functions a recipe makes these.
+fn compiled_with(
+    alloc: Global,
+    typed: &Typed,
+    omega: &Omega,
+    all: &[Arc<Optimised>],
+) -> Result<Compiled, NoMemory>
+    requires few { length typed.now.functions ≤ most_functions }
+    requires image { CanEmit omega.now (lambdas_of (map arc_value all.now)) }
+    ensures compiled { IfOk result (λ c.
+        (c.image.items ≡ file_of_program omega.now (lambdas_of (map arc_value all.now)))
+        × (c.rows.items ≡ rows_of typed.now (map arc_value all.now))) }
+    ensures functions { IfOk result (λ c. c.functions ≡ length typed.now.functions) }
 {
-    let all = answers(alloc, &omega.lambdas, recipe)?;
-    file_with(alloc, omega, &all)
+    let image = file_with(alloc, omega, all)?;
+    let rows = rows_of(alloc, typed, all)?;
+    Ok(Compiled {
+        image,
+        functions: typed.functions.len() as u32,
+        rows,
+    })
 }
 
-// The file of a program under a recipe, whose functions so many workers make.
-fn file_by_workers<H: Threads + Wait + Sync, G: Gate>(
+// What a typed program, whose graph this is, is compiled to under a recipe, on one thread.
+fn compiled_of(
+    alloc: Global,
+    typed: &Typed,
+    program: &Omega,
+    recipe: &Recipe,
+) -> Result<Compiled, NoMemory>
+    requires graph { program.now ≡ omega typed.now }
+    requires typed { IsWellTyped typed.now }
+    requires limits { above_limits typed.now ≡ None }
+    requires values { limit_passed typed.now.functions ≡ None }
+    ensures compiled { IfOk result (λ c.
+        IsCompiledUnder recipe.now typed.now c.image.items c.rows.items) }
+    ensures functions { IfOk result (λ c. c.functions ≡ length typed.now.functions) }
+{
+    programs_can_be_emitted();
+    answers_can_be_emitted();
+    let all = answers(alloc, &program.lambdas, recipe)?;
+    compiled_with(alloc, typed, program, &all)
+}
+
+// The same, where so many workers make the functions.
+fn compiled_by_workers<H: Threads + Wait + Sync, G: Gate>(
     rt: &H,
     alloc: Global,
-    omega: &Omega,
+    typed: &Typed,
+    program: &Omega,
     recipe: &Recipe,
     workers: u32,
     gate: &G,
-) -> Result<Vec<u8>, NoMemory>
-    requires program { CanEmit omega.now omega.now.lambdas }
-    requires few { most_functions * most_grown_values
-        + sum_by lambda_values omega.now.lambdas ≤ most_program_values }
-    requires some_worker { 0 < workers }
-    requires few_workers { workers ≤ 64 }
-    ensures { IfOk result (λ file. IsFileUnder recipe.now omega.now file.items) }
-{
-    let all = answers_by_workers(rt, alloc, &omega.lambdas, recipe, workers, gate)?;
-    file_with(alloc, omega, &all)
-}
-
-/// The executable file of a well-typed program under a recipe, where the program is within the
-/// limits 1 to 4 of programs. `Limit` exactly where its functions pass a limit of values.
-pub fn compile_typed(alloc: Global, typed: &Typed, recipe: &Recipe) -> Result<Vec<u8>, BuildFault>
+) -> Result<Compiled, NoMemory>
+    requires graph { program.now ≡ omega typed.now }
     requires typed { IsWellTyped typed.now }
     requires limits { above_limits typed.now ≡ None }
-    ensures image { IfOk result (λ file. IsImageUnder recipe.now typed.now file.items) }
-    ensures limit { limit_named result ≡ limit_passed typed.now.functions }
+    requires values { limit_passed typed.now.functions ≡ None }
+    requires some_worker { 0 < workers }
+    requires few_workers { workers ≤ 64 }
+    ensures compiled { IfOk result (λ c.
+        IsCompiledUnder recipe.now typed.now c.image.items c.rows.items) }
+    ensures functions { IfOk result (λ c. c.functions ≡ length typed.now.functions) }
 {
-    g_built::laws::well_typed_are_built();
-    g_built::laws::small_are_within_limits();
-    let omega = build(alloc, typed)?;
-    Ok(file_of(alloc, &omega, recipe)?)
+    programs_can_be_emitted();
+    answers_can_be_emitted();
+    let all = answers_by_workers(rt, alloc, &program.lambdas, recipe, workers, gate)?;
+    compiled_with(alloc, typed, program, &all)
 }
 
-/// The executable file of a well-typed program, as `compile_typed` has it, whose functions 1 to 64
-/// workers make.
+/// What a well-typed program is compiled to under a recipe, where the program is within the limits
+/// 1 to 4 of programs. `Limit` exactly where its functions pass a limit of values.
+pub fn compile_typed(alloc: Global, typed: &Typed, recipe: &Recipe) -> Result<Compiled, BuildFault>
+    requires typed { IsWellTyped typed.now }
+    requires limits { above_limits typed.now ≡ None }
+    ensures compiled { IfOk result (λ c.
+        IsCompiledUnder recipe.now typed.now c.image.items c.rows.items) }
+    ensures functions { IfOk result (λ c. c.functions ≡ length typed.now.functions) }
+    ensures limit { limit_named result ≡ limit_passed typed.now.functions }
+{
+    let omega = build(alloc, typed)?;
+    Ok(compiled_of(alloc, typed, &omega, recipe)?)
+}
+
+/// What a well-typed program is compiled to, as `compile_typed` has it, where 1 to 64 workers make
+/// the functions.
 pub(crate) fn compile_typed_by_workers<H: Threads + Wait + Sync, G: Gate>(
     rt: &H,
     alloc: Global,
@@ -97,16 +139,16 @@ pub(crate) fn compile_typed_by_workers<H: Threads + Wait + Sync, G: Gate>(
     recipe: &Recipe,
     workers: u32,
     gate: &G,
-) -> Result<Vec<u8>, BuildFault>
+) -> Result<Compiled, BuildFault>
     requires typed { IsWellTyped typed.now }
     requires limits { above_limits typed.now ≡ None }
     requires some_worker { 0 < workers }
     requires few_workers { workers ≤ 64 }
-    ensures image { IfOk result (λ file. IsImageUnder recipe.now typed.now file.items) }
+    ensures compiled { IfOk result (λ c.
+        IsCompiledUnder recipe.now typed.now c.image.items c.rows.items) }
+    ensures functions { IfOk result (λ c. c.functions ≡ length typed.now.functions) }
     ensures limit { limit_named result ≡ limit_passed typed.now.functions }
 {
-    g_built::laws::well_typed_are_built();
-    g_built::laws::small_are_within_limits();
     let omega = build(alloc, typed)?;
-    Ok(file_by_workers(rt, alloc, &omega, recipe, workers, gate)?)
+    Ok(compiled_by_workers(rt, alloc, typed, &omega, recipe, workers, gate)?)
 }

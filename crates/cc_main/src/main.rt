@@ -6,6 +6,7 @@
 use board_work::OpenGate;
 use cc_io::{DirFiles, StdSink, StdSource, write_all};
 use cc_top::top;
+use cc_watch::{Counter, LogKeeper, Watcher};
 use std::alloc::{AllocError, Global};
 use std::env;
 use std::io::ErrorKind;
@@ -35,13 +36,17 @@ fn words_of(rt: &(impl Env + AllocGlobal)) -> Result<Vec<String>, AllocError> {
     }
 }
 
-/// What `rt` has for threads is handed in as `workers`.
+/// Carries out the command of the arguments. What `rt` has for threads is handed in as `workers`.
+/// Builds report by a counter and a keeper of the log.
 fn run<H: Threads + Wait + Sync>(rt: &HostRuntime, workers: &H) -> Result<u8, AllocError> {
     let words = words_of(rt)?;
     let mut files = DirFiles::new(rt.alloc(), rt, ".")?;
     let mut input = StdSource::new(rt.stdin());
     let mut output = StdSink::new(rt.stdout());
     let mut report = StdSink::new(rt.stderr());
+    let mut watchers: Vec<Box<dyn Watcher>> = Vec::new(rt.alloc());
+    watchers.push(Box::new(rt.alloc(), Counter::new())?)?;
+    watchers.push(Box::new(rt.alloc(), LogKeeper::new(rt.alloc()))?)?;
     Ok(top(
         workers,
         rt.alloc(),
@@ -51,6 +56,7 @@ fn run<H: Threads + Wait + Sync>(rt: &HostRuntime, workers: &H) -> Result<u8, Al
         &mut output,
         &mut report,
         &OpenGate,
+        &mut watchers,
     ))
 }
 

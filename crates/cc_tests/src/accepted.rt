@@ -1,5 +1,5 @@
 //! Sources on the input, which are accepted, and streams that fail.
-use crate::calls::{ANSWER, called};
+use cc_drive::{ANSWER, called};
 use std::test::Fail;
 
 const REFUSED: &[u8] = b"int main(void) { x = 1; return 0; }";

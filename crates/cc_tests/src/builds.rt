@@ -1,11 +1,8 @@
 //! Builds through the top call, over files in memory.
-use crate::calls::{ANSWER, BUILD, called_on};
+use cc_drive::{ANSWER, BUILD, called_on};
 use cc_gen::generate;
 use cc_io::MemSink;
-use std::alloc::{AllocError, Global};
-use std::sync::Wait;
 use std::test::Fail;
-use std::thread::Threads;
 
 #[test]
 fn long_sources_are_refused(rt: HostRuntime) -> Result<(), Fail> {
@@ -27,7 +24,7 @@ fn long_sources_are_refused(rt: HostRuntime) -> Result<(), Fail> {
 #[test]
 fn other_words_are_usage(rt: HostRuntime) -> Result<(), Fail> {
     let alloc = rt.alloc();
-    let rows: [&[&str]; 24] = [
+    let rows: [&[&str]; 25] = [
         &["rvcc", "build"],
         &["rvcc", "build", "in"],
         &["rvcc", "build", "in", "out", "out"],
@@ -48,6 +45,7 @@ fn other_words_are_usage(rt: HostRuntime) -> Result<(), Fail> {
         &["rvcc", "build", "in", "out", "--workers=0"],
         &["rvcc", "build", "in", "out", "--workers="],
         &["rvcc", "build", "in", "out", "--workers", "+4"],
+        &["rvcc", "build", "in", "out", "--report", "x"],
         &["rvcc", "gen", "+1", "1", "out"],
         &["rvcc", "gen", "4294967296", "1", "out"],
         &["rvcc", "gen", "1", "512", "out"],
@@ -70,10 +68,6 @@ fn other_words_are_usage(rt: HostRuntime) -> Result<(), Fail> {
     );
     let before = ["rvcc", "build", "--recipe", "fold,dne", "in", "out"];
     assert_eq!(rt; called_on(&rt, alloc, &before, ANSWER, &[])?.status, 0);
-    let missing = called_on(&rt, alloc, &["rvcc", "build", "none", "out"], ANSWER, &[])?;
-    assert_eq!(rt; missing.status, 2);
-    assert_eq!(rt; missing.report.bytes(), b"read fault\n".as_slice());
-    assert!(rt; missing.files.get("out").is_none());
     Ok(())
 }
 
@@ -106,77 +100,6 @@ fn a_program_is_generated(rt: HostRuntime) -> Result<(), Fail> {
         assert_eq!(rt; cut.status, 3);
         assert_eq!(rt; cut.report.bytes(), b"write fault\n".as_slice());
         assert_eq!(rt; cut.files.get("out").map(|held| held.len()), Some(left));
-    }
-    Ok(())
-}
-
-/// The image of the first example.
-fn answer_image(rt: &(impl Threads + Wait + Sync), alloc: Global) -> Result<Vec<u8>, AllocError> {
-    let left = called_on(rt, alloc, &BUILD, ANSWER, &[])?;
-    left.files.get("out").unwrap_or(b"").to_vec(alloc)
-}
-
-#[test]
-fn images_run_as_the_machine_says(rt: HostRuntime) -> Result<(), Fail> {
-    let alloc = rt.alloc();
-    let image = answer_image(&rt, alloc)?;
-    assert_eq!(rt; image.len(), 8200);
-    // A change of the image: its offset and the bytes from there on; the option, the status and the
-    // line.
-    let rows: [(usize, &[u8], &str, u8, &[u8]); 7] = [
-        (0, b"", "--steps=23", 0, b"exit 42\n"),
-        (0, b"", "--steps=22", 7, b"budget\n"),
-        (0, b"\x7e", "--steps=23", 5, b"image NotElf 2\n"),
-        (
-            4096,
-            b"\x00\x00\x00\x00",
-            "--steps=23",
-            7,
-            b"stuck 00010000 2\n",
-        ),
-        (
-            24,
-            b"\x02\x00\x01\x00",
-            "--steps=23",
-            7,
-            b"stuck 00010002 1\n",
-        ),
-        (
-            24,
-            b"\x00\x10\x01\x00",
-            "--steps=23",
-            7,
-            b"stuck 00011000 1\n",
-        ),
-        (4096, b"\x6f\x00\x00\x00", "--steps=1000", 7, b"budget\n"),
-    ];
-    for (at, bytes, steps, status, line) in rows {
-        let mut changed = image.clone()?;
-        for (k, byte) in bytes.iter().enumerate() {
-            if let Some(old) = changed.get_mut(at.saturating_add(k)) {
-                *old = *byte;
-            }
-        }
-        let left = called_on(&rt, alloc, &["rvcc", "run", "in", steps], &changed, &[])?;
-        assert_eq!(rt; left.status, status);
-        assert_eq!(rt; left.report.bytes(), line);
-    }
-    for (len, line) in [
-        (0, b"image Short 1\n".as_slice()),
-        (51, b"image Short 1\n"),
-        (115, b"image Short 1\n"),
-        (116, b"image BadSegment 4\n"),
-        (8199, b"image BadSegment 4\n"),
-    ] {
-        let left = called_on(
-            &rt,
-            alloc,
-            &["rvcc", "run", "in"],
-            image.get(..len).unwrap_or(b""),
-            &[],
-        )?;
-        assert_eq!(rt; left.status, 5);
-        assert_eq!(rt; left.report.bytes(), line);
     }
     Ok(())
 }

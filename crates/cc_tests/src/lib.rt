@@ -7,12 +7,6 @@ mod accepted;
 #[cfg(test)]
 mod builds;
 #[cfg(test)]
-mod calls;
-#[cfg(test)]
-mod programs;
-#[cfg(test)]
 mod refusals;
 #[cfg(test)]
 mod runs;
-#[cfg(test)]
-mod workers;

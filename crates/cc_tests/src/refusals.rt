@@ -1,5 +1,5 @@
 //! Sources that are refused, and the line that is reported, by a build and from the input alike.
-use crate::calls::{BUILD, answered, called_on};
+use cc_drive::{BUILD, answered, called_on};
 use std::alloc::{AllocError, Global};
 use std::sync::Wait;
 use std::test::Fail;
@@ -8,7 +8,7 @@ use std::thread::Threads;
 const TOO_DEEP: &[u8] = b"refused TooDeep 22 line 1\n";
 
 /// Sources, and the report of each.
-const SOURCES: [(&[u8], &[u8]); 31] = [
+const SOURCES: [(&[u8], &[u8]); 34] = [
     (
         b"int main(void) { a = b + c = d; }",
         b"refused Syntax 23 line 1\n",
@@ -50,6 +50,8 @@ const SOURCES: [(&[u8], &[u8]); 31] = [
         b"\n\nint main(void) { return '; }",
         b"refused OpenText 3 line 3\n",
     ),
+    (b"\x00", b"refused BadByte 1 line 1\n"),
+    (b"\"abc", b"refused OpenText 3 line 1\n"),
     (b"'\\q'\n", b"refused BadText 4 line 1\n"),
     (
         b"int main(void)\n{ return 08; }",
@@ -113,6 +115,10 @@ const SOURCES: [(&[u8], &[u8]); 31] = [
         b"refused Limit 42 line 1 which 3 count 65540\n",
     ),
     (
+        b"int a[262144]; int main(void) { return 0; }",
+        b"refused Limit 42 line 1 which 4 count 1048580\n",
+    ),
+    (
         b"char a[1048568];\nchar *p;\nint main(void) { return 0; }",
         b"refused Limit 42 line 2 which 4 count 1048580\n",
     ),
@@ -139,19 +145,34 @@ fn parenthesised(alloc: Global, count: usize) -> Result<Vec<u8>, AllocError> {
     Ok(source)
 }
 
-/// Builds this source, and compiles it from the input: both report this line, and leave nothing.
+/// Whether these words report this line of a source, and leave nothing.
+fn is_unbuilt(
+    rt: &(impl Threads + Wait + Sync),
+    alloc: Global,
+    words: &[&str],
+    source: &[u8],
+    line: &[u8],
+) -> Result<bool, AllocError> {
+    let built = called_on(rt, alloc, words, source, &[])?;
+    Ok(built.status == 4 && built.report.bytes() == line && built.files.get("out").is_none())
+}
+
+/// The words of a build by as many workers as there may be.
+const BUILD_BY_ALL: [&str; 6] = ["rvcc", "build", "in", "out", "--workers", "64"];
+
+/// Whether this source is refused with this line by builds, of one worker and of 64, and from the
+/// input, and leaves nothing.
 fn is_refused(
     rt: &(impl Threads + Wait + Sync),
     alloc: Global,
     source: &[u8],
     line: &[u8],
 ) -> Result<bool, AllocError> {
-    let built = called_on(rt, alloc, &BUILD, source, &[])?;
+    let built = is_unbuilt(rt, alloc, &BUILD, source, line)?
+        && is_unbuilt(rt, alloc, &BUILD_BY_ALL, source, line)?;
     let given = answered(rt, alloc, source)?;
     Ok(
-        built.status == 4
-            && built.report.bytes() == line
-            && built.files.get("out").is_none()
+        built
             && given.status == 4
             && given.report.bytes() == line
             && given.output.bytes().is_empty(),

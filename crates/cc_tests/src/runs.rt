@@ -1,5 +1,5 @@
 //! Runs of an image through the top call, whose streams fail in mid-stream.
-use crate::calls::{BUILD, Left, called, called_on};
+use cc_drive::{BUILD, Left, called, called_on};
 use std::alloc::{AllocError, Global};
 use std::sync::Wait;
 use std::test::Fail;

@@ -1,55 +1,112 @@
 -- How a build ends.
-use Rattle.std.proofs.Common.{◌≡◌, ◌≢◌, ◌⊎◌, ℕ, ◌≤◌, List, Option, length, take, option_map, refl, ap, sym, ◌∙◌, subst, inl, inr}
-use Rattle.std.specs.Option.{ForSome}
+use Rattle.std.proofs.Common.{◌≡◌, ◌≢◌, ◌⊎◌, ℕ, ◌≤◌, true, false, List, Option, length, take, option_map, refl, ap, sym, ◌∙◌, subst, inl, inr}
+use Rattle.std.proofs.lemmas.Bool.{false≢true}
 use Rattle.g_graph.specs.declared.steps.Rule.{Rule}
-use Rattle.cc_io.specs.Faults.{Increased}
-use Rattle.cc_io.specs.Files.{Name, FileSet, content, put_file}
+use Rattle.cc_io.specs.Files.{Name, FileSet, put_file}
 use Rattle.g_pass.specs.Recipe.{recipe_text, most_sweeps, OneRecipe}
-use Rattle.cc_top.specs.BuildEnds.{BuildEnds, BuildEndsUnder, IsTextOf}
+use Rattle.cc_watch.specs.Rows.{PlainRow}
+use Rattle.cc_top.specs.BuildEnds.{BuildEnds, BuildEndsUnder, Finishes, IsTextOf}
+use Rattle.cc_top.specs.Outcome.{text_of as line_of}
 use Rattle.cc_top.specs.Outside.{FilesSeen}
-use Rattle.cc_top.specs.Refused.{HasImage}
+use Rattle.cc_top.specs.Refused.{WasCompiled, rows_in}
+use Rattle.cc_top.specs.Watchers.{has_reporter}
 use Rattle.cc_top.specs.declared.outcome.Outcome.{Outcome}
-use Rattle.cc_top.specs.declared.outcome.Outcome.TheVariants.{Usage}
+use Rattle.cc_top.specs.declared.outcome.Outcome.TheVariants.{Done, Usage, ReadFault, WriteFault, Refused, BadImage, NoMemory, Exit, Stack, Budget, Stuck}
 
--- ---- an image that was not written
+-- ---- a file that was not written holds a prefix
 
-module _ (image : Name) (bytes read : List ℕ) (known0 known1 known2 : Option FileSet) (recipe : List Rule) (reads : known1 ≡ known0) (same : read ≡ bytes) where
-  -- the files have not changed since the source was read, or one holds the bytes from their front on
-  abbrev pub Prefix : Type 0
-  Prefix = (known2 ≡ known1) ⊎ ((count : ℕ) × (count ≤ length read) × (known2 ≡ option_map (put_file image (take count read)) known1))
+pub a_prefix : (image : Name) (read bytes : List ℕ) (known known' : Option FileSet) → read ≡ bytes
+    → (known' ≡ known) ⊎ ((count : ℕ) × (count ≤ length read) × (known' ≡ option_map (put_file image (take count read)) known))
+    → (known' ≡ known) ⊎ ((count : ℕ) × (known' ≡ option_map (put_file image (take count bytes)) known))
+a_prefix image read bytes known known' same (inl kept) = inl kept
+a_prefix image read bytes known known' same (inr cut) = inr (cut.0, cut.2 ∙ ap (λ b. option_map (put_file image (take cut.0 b)) known) same)
 
-  prefix : Prefix → (known2 ≡ known0) ⊎ ((count : ℕ) × (known2 ≡ option_map (put_file image (take count bytes)) known0))
-  prefix (inl kept) = inl (kept ∙ reads)
-  prefix (inr cut) =
-      inr (
-        cut.0,
-        cut.2 ∙ ap (λ b. option_map (put_file image (take cut.0 b)) known1) same ∙ ap (option_map (put_file image (take cut.0 bytes))) reads,
-      )
+-- ---- a text that is of no recipe
 
-  pub unwritten : (source : Name) (create0 create1 create2 : Name → ℕ) (write0 write1 write2 : ℕ) → create1 ≡ create0 → write1 ≡ write0
-      → Increased (create1 image) (create2 image) ⊎ Increased write1 write2 → ForSome known0 (λ all. HasImage recipe (content source all) bytes) → Prefix
-      → (Increased (create0 image) (create2 image) ⊎ Increased write0 write2)
-      × ForSome known0 (λ all. (b : List ℕ) × HasImage recipe (content source all) b × ((known2 ≡ known0) ⊎ ((count : ℕ) × (known2 ≡ option_map (put_file image (take count b)) known0))))
-  unwritten source create0 create1 create2 write0 write1 write2 created written cause has held = (
-    subst (λ (f : Name → ℕ). Increased (f image) (create2 image) ⊎ Increased write0 write2) created
-        (subst (λ n. Increased (create1 image) (create2 image) ⊎ Increased n write2) written cause),
-    (λ all is. (bytes, has all is, prefix held)),
-  )
-
--- ---- the recipe
-
--- a text that is of no recipe
 pub no_recipe : (text : List ℕ) → ((rules : List Rule) → length rules ≤ most_sweeps → text ≢ recipe_text rules) → (recipe : List Rule) → IsTextOf recipe text → ⊥
 no_recipe text none recipe is = none recipe is.short is.written
 
-module _ (one : OneRecipe) (text : List ℕ) (recipe : List Rule) where
-  pub under_it : (source image : Name) (ended : Outcome) (before after : FilesSeen) → IsTextOf recipe text → BuildEnds recipe source image ended before after →
-      BuildEndsUnder text source image ended before after
-  under_it source image ended before after it ends = record {
-    build = λ other is. subst (λ r. BuildEnds r source image ended before after) (one recipe other (sym it.written ∙ is.written)) ends;
-    usage = λ none. absurd (none recipe it);
-  }
+module _ {W : Type 0} (named : W → List ℕ) (stands_for : W → List PlainRow → Type 0) (text_of : W → List PlainRow → List ℕ) where
+  abbrev Ended : List Rule → Option (List ℕ) → (source image : Name) → Outcome → List ℕ → FilesSeen → FilesSeen → List W → List W → Type 0
+  Ended = BuildEnds named stands_for text_of
 
-pub under_none : (text : List ℕ) (source image : Name) (files : FilesSeen) → ((recipe : List Rule) → IsTextOf recipe text → ⊥) →
-    BuildEndsUnder text source image Usage files files
-under_none text source image files none = record { build = λ recipe is. absurd (none recipe is); usage = λ all. (inl refl, refl) }
+  abbrev EndedUnder : List ℕ → Option (List ℕ) → (source image : Name) → Outcome → List ℕ → FilesSeen → FilesSeen → List W → List W → Type 0
+  EndedUnder = BuildEndsUnder named stands_for text_of
+
+  abbrev Finished : Option (List ℕ) → Name → List ℕ → List PlainRow → Outcome → List ℕ → FilesSeen → FilesSeen → List W → List W → Type 0
+  Finished = Finishes named stands_for text_of
+
+  -- ---- a source that was compiled
+
+  module _ (name : Option (List ℕ)) (image : Name) (bytes : List ℕ) (rows : List PlainRow) (told : List ℕ) (first before after : FilesSeen) (ws ws' : List W)
+      (known : before.known ≡ first.known) (created : before.create_faults ≡ first.create_faults) (written : before.write_faults ≡ first.write_faults) where
+    -- the files have not changed since then
+    abbrev seen : Option FileSet → (Name → ℕ) → ℕ → FilesSeen
+    seen k c w = record { known = k; read_faults = first.read_faults; write_faults = w; open_faults = first.open_faults; create_faults = c }
+
+    -- what is said of the files of `before` is said of those of `first`
+    since : (P : FilesSeen → Type 0) → P (seen before.known before.create_faults before.write_faults) → P first
+    since P h =
+        subst (λ w. P (seen first.known first.create_faults w)) written
+        (subst (λ c. P (seen first.known c before.write_faults)) created (subst (λ k. P (seen k before.create_faults before.write_faults)) known h))
+
+    pub finishes-since : (e : Outcome) → Finished name image bytes rows e told before after ws ws' → Finished name image bytes rows e told first after ws ws'
+    finishes-since Done h = since (λ f. Finished name image bytes rows Done told f after ws ws') h
+    finishes-since WriteFault h = since (λ f. Finished name image bytes rows WriteFault told f after ws ws') h
+    finishes-since NoMemory h = since (λ f. Finished name image bytes rows NoMemory told f after ws ws') h
+    finishes-since Usage h = absurd h
+    finishes-since ReadFault h = absurd h
+    finishes-since (Refused refusal) h = absurd h
+    finishes-since (BadImage fault) h = absurd h
+    finishes-since (Exit status) h = absurd h
+    finishes-since Stack h = absurd h
+    finishes-since Budget h = absurd h
+    finishes-since (Stuck pc why) h = absurd h
+
+  module _ (recipe : List Rule) (name : Option (List ℕ)) (source image : Name) (bytes : List ℕ) (rows : List PlainRow) (told : List ℕ) (before after : FilesSeen) (ws ws' : List W) where
+    pub compiled-ends : (e : Outcome) → WasCompiled recipe source before.known bytes rows → Finished name image bytes rows e told before after ws ws' →
+        Ended recipe name source image e told before after ws ws'
+    compiled-ends Done c h =
+        let k : Finished name image bytes (rows_in c.image) Done told before after ws ws' = subst (λ rs. Finished name image bytes rs Done told before after ws ws') c.told h in
+        record {
+          built = record {
+            text = c.text;
+            read = c.read;
+            program = c.image.program;
+            accepted = c.image.accepted;
+            bytes = bytes;
+            compiled = c.image.image;
+            written = k.0;
+            meaning = c.image.meaning;
+          };
+          watchers = k.1;
+          report = k.2;
+        }
+    compiled-ends WriteFault c h = (bytes, rows, c, h)
+    compiled-ends NoMemory c h = inr (bytes, rows, c, h)
+    compiled-ends Usage c h = absurd h
+    compiled-ends ReadFault c h = absurd h
+    compiled-ends (Refused refusal) c h = absurd h
+    compiled-ends (BadImage fault) c h = absurd h
+    compiled-ends (Exit status) c h = absurd h
+    compiled-ends Stack c h = absurd h
+    compiled-ends Budget c h = absurd h
+    compiled-ends (Stuck pc why) c h = absurd h
+
+  -- ---- the recipe, and the watcher to report
+
+  module _ (one : OneRecipe) (list : List ℕ) (recipe : List Rule) (name : Option (List ℕ)) (source image : Name) (ended : Outcome) (told : List ℕ) (before after : FilesSeen) (ws ws' : List W) where
+    pub under_it : IsTextOf recipe list → true ≡ has_reporter named name ws → (ended ≢ Done → told ≡ line_of ended) → Ended recipe name source image ended told before after ws ws' →
+        EndedUnder list name source image ended told before after ws ws'
+    under_it it some line ends = record {
+      build = λ other is has. subst (λ r. Ended r name source image ended told before after ws ws') (one recipe other (sym it.written ∙ is.written)) ends;
+      usage = λ none. absurd (none recipe it (sym some));
+      line = line;
+    }
+
+  module _ (list : List ℕ) (name : Option (List ℕ)) (source image : Name) (files : FilesSeen) (ws : List W) where
+    pub under_none : ((recipe : List Rule) → IsTextOf recipe list → ⊥) → EndedUnder list name source image Usage (line_of Usage) files files ws ws
+    under_none none = record { build = λ recipe is has. absurd (none recipe is); usage = λ all. (inl refl, refl, refl); line = λ other. refl }
+
+    pub under_nobody : false ≡ has_reporter named name ws → EndedUnder list name source image Usage (line_of Usage) files files ws ws
+    under_nobody nobody = record { build = λ recipe is has. absurd (false≢true (nobody ∙ has)); usage = λ all. (inl refl, refl, refl); line = λ other. refl }

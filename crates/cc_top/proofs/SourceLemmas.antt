@@ -11,9 +11,10 @@ use Rattle.g_graph.specs.declared.steps.Rule.{Rule}
 use Rattle.cc_compile.specs.Accepted.{Accepts, Refuses}
 use Rattle.cc_compile.specs.declared.fault.CompileFault.{CompileFault}
 use Rattle.cc_compile.specs.declared.fault.CompileFault.TheVariants as fault
+use Rattle.cc_watch.specs.Rows.{PlainRow}
 use Rattle.cc_io.specs.Files.{Name, FileSet, content}
 use Rattle.cc_top.specs.Refusal.{is_line_end, refusal_of, refusal_of_text, refused_at}
-use Rattle.cc_top.specs.Refused.{CompileFails, CompilesTo, Defines, HasImage, IsRefused, IsRejectionOf, outcome_of_refusal}
+use Rattle.cc_top.specs.Refused.{CompileFails, CompilesTo, Defines, IsRefused, IsRejectionOf, WasCompiled, outcome_of_refusal}
 use Rattle.cc_top.specs.declared.refusal.Refusal.{Refusal}
 use Rattle.cc_top.specs.declared.refusal.RefusalKind.TheVariants.{LongSource}
 use Rattle.cc_top.specs.declared.outcome.Outcome.{Outcome}
@@ -34,13 +35,6 @@ no_tokens s tokens long is = clash (sym (front_too_long s long) ∙ is) where
   clash e = cc
 
 -- ---- what is said of the first bytes of a source is said of the source
-
-pub accepted-take : (s : List ℕ) (p : ProgramTree) → Accepts (take 1048577 s) p → Accepts s p
-accepted-take s p a =
-    elim (cases_lt 1048576 (length s)) [
-      | inl long ↦ absurd (no_tokens s a.checks.has_tree.tokens long a.checks.has_tree.lexed)
-      | inr short ↦ subst (λ t. Accepts t p) (take_all 1048577 s (omega arith)) a
-    ]
 
 same_refusal : (s : List ℕ) → refused_at LongSource 1048576 (take 1048577 s) ≡ refused_at LongSource 1048576 s
 same_refusal s = ap (λ t. record { kind = LongSource; line = count_by is_line_end t + 1 }) (take-take 1048576 1048577 s (omega arith))
@@ -65,18 +59,29 @@ refused-take s r h =
 
 -- ---- what the bytes that were read compile to, the source compiles to
 
-pub image_of_read : (recipe : List Rule) (s read bytes : List ℕ) (functions : ℕ) → read ≡ take 1048577 s → CompilesTo recipe read bytes functions → HasImage recipe s bytes
-image_of_read recipe s read bytes functions same h = record {
-  program = h.image.program;
-  accepted = accepted-take s h.image.program (subst (λ t. Accepts t h.image.program) same h.image.accepted);
-  image = h.image.image;
-  meaning = h.image.meaning;
+-- the bytes that were read are the whole text, where they are accepted
+pub whole_text : (s read : List ℕ) (p : ProgramTree) → read ≡ take 1048577 s → Accepts read p → read ≡ s
+whole_text s read p same a =
+    elim (cases_lt 1048576 (length s)) [
+      | inl long ↦
+          let front = subst (λ t. Accepts t p) same a in
+          absurd (no_tokens s front.checks.has_tree.tokens long front.checks.has_tree.lexed)
+      | inr short ↦ same ∙ take_all 1048577 s (omega arith)
+    ]
+
+pub compiled_of_read : (recipe : List Rule) (source : Name) (known : Option FileSet) (read bytes : List ℕ) (functions : ℕ) (rows : List PlainRow)
+    → ForSome known (λ files. read ≡ take 1048577 (content source files)) → CompilesTo recipe read bytes functions rows → WasCompiled recipe source known bytes rows
+compiled_of_read recipe source known read bytes functions rows same h = record {
+  text = read;
+  read = λ files is. whole_text (content source files) read h.image.program (same files is) h.image.accepted;
+  image = h.image;
+  told = h.told;
 }
 
-pub defines_of_read : (recipe : List Rule) (s read bytes : List ℕ) (functions : ℕ) → read ≡ take 1048577 s → CompilesTo recipe read bytes functions → Defines functions s
-defines_of_read recipe s read bytes functions same h = record {
+pub defines_of_read : (recipe : List Rule) (s read bytes : List ℕ) (functions : ℕ) (rows : List PlainRow) → read ≡ take 1048577 s → CompilesTo recipe read bytes functions rows → Defines functions s
+defines_of_read recipe s read bytes functions rows same h = record {
   program = h.image.program;
-  accepted = accepted-take s h.image.program (subst (λ t. Accepts t h.image.program) same h.image.accepted);
+  accepted = subst (λ t. Accepts t h.image.program) (whole_text s read h.image.program same h.image.accepted) h.image.accepted;
   counted = h.counted;
 }
 

@@ -1,12 +1,20 @@
--- How `build` ends: the cause of each outcome, and what the files hold then.
-use Rattle.std.specs.Prelude.{◌≡◌, ◌≤◌, ◌⊎◌, ℕ, List, length, take, option_map}
+-- How `build` ends: the cause of each outcome, and what the files hold and the watchers stand for then.
+use Rattle.std.specs.Prelude.{◌≡◌, ◌≢◌, ◌≤◌, ◌⊎◌, ℕ, true, List, length, Option, take, option_map}
 use Rattle.std.specs.Option.{ForSome}
+use Rattle.c_typed.specs.Typed.{ProgramTree}
 use Rattle.g_graph.specs.declared.steps.Rule.{Rule}
 use Rattle.g_pass.specs.Recipe.{recipe_text, most_sweeps}
+use Rattle.cc_compile.specs.Accepted.{Accepts}
+use Rattle.cc_compile.specs.Compiled.{IsImageUnder, rows_of}
+use Rattle.cc_image.specs.Image.{lambdas_of}
+use Rattle.cc_meaning.specs.Meaning.{KeepsMeaning}
+use Rattle.cc_watch.specs.Rows.{PlainRow}
 use Rattle.cc_io.specs.Faults.{Increased}
 use Rattle.cc_io.specs.Files.{Name, content, put_file}
 use Rattle.cc_top.specs.Outside.{FilesSeen}
-use Rattle.cc_top.specs.Refused.{HasImage, IsRefused}
+use Rattle.cc_top.specs.Outcome.{text_of as line_of}
+use Rattle.cc_top.specs.Refused.{IsRefused, WasCompiled}
+use Rattle.cc_top.specs.Watchers.{AllHaveBegun, AllHaveGained, IsReportOf, has_reporter}
 use Rattle.cc_top.specs.declared.outcome.Outcome.{Outcome}
 use Rattle.cc_top.specs.declared.outcome.Outcome.TheVariants.{Done, Usage, ReadFault, WriteFault, Refused, NoMemory}
 
@@ -36,26 +44,74 @@ WritesPrefix name bytes before after = Unchanged before after ⊎ ((count : ℕ)
 abbrev pub IfKnown : Name → FilesSeen → (List ℕ → Type 0) → Type 0
 IfKnown source before P = ForSome before.known (λ files. P (content source files))
 
--- under a recipe
-abbrev pub BuildEnds : List Rule → (source image : Name) → Outcome → FilesSeen → FilesSeen → Type 0
-BuildEnds recipe source image Done before after =
-    IfKnown source before (λ text. (bytes : List ℕ) × HasImage recipe text bytes × Writes image bytes before after)
-BuildEnds recipe source image ReadFault before after = ReadFails source before after × Unchanged before after
-BuildEnds recipe source image WriteFault before after =
-    WriteFails image before after
-    × IfKnown source before (λ text. (bytes : List ℕ) × HasImage recipe text bytes × WritesPrefix image bytes before after)
-BuildEnds recipe source image (Refused refusal) before after = IfKnown source before (λ text. IsRefused text refusal) × Unchanged before after
-BuildEnds recipe source image NoMemory before after = Unchanged before after
-BuildEnds recipe source image _ before after = ⊥
-
--- ---- the recipe
+-- ---- under a recipe
 
 -- the text of a recipe
 pub record IsTextOf (recipe : List Rule) (text : List ℕ) : Type 0 where
   pub written : text ≡ recipe_text recipe
   pub short : length recipe ≤ most_sweeps
 
--- The build ends so under the recipe that the text is of. Where it is of none, the arguments are no command.
-pub record BuildEndsUnder (text : List ℕ) (source image : Name) (ended : Outcome) (before after : FilesSeen) : Type 0 where
-  pub build : (recipe : List Rule) → IsTextOf recipe text → BuildEnds recipe source image ended before after
-  pub usage : ((recipe : List Rule) → IsTextOf recipe text → ⊥) → ((ended ≡ Usage) ⊎ (ended ≡ NoMemory)) × (after ≡ before)
+-- What a build that was done has left of the source, whose text is that of its file where the files are known: it is
+-- accepted, OUT is exactly what it compiles to under the recipe, every other file is as it was, and on the machine OUT
+-- does what the source does.
+pub record HasBuilt (recipe : List Rule) (source image : Name) (before after : FilesSeen) : Type 0 where
+  pub text : List ℕ
+  pub read : ForSome before.known (λ files. text ≡ content source files)
+  pub program : ProgramTree
+  pub accepted : Accepts text program
+  pub bytes : List ℕ
+  pub compiled : IsImageUnder recipe program bytes
+  pub written : Writes image bytes before after
+  pub meaning : KeepsMeaning program (lambdas_of compiled.answers) bytes
+
+-- what the recipe did to its functions, in source order
+abbrev pub rows_built : {recipe : List Rule} {source image : Name} {before after : FilesSeen} → HasBuilt recipe source image before after → List PlainRow
+rows_built h = rows_of h.program h.compiled.answers
+
+module _ {W : Type 0} (named : W → List ℕ) (stands_for : W → List PlainRow → Type 0) (text_of : W → List PlainRow → List ℕ) where
+  -- A build that was done: each watcher has gained the rows, and the report is the named one's.
+  pub record IsBuilt (recipe : List Rule) (name : Option (List ℕ)) (source image : Name) (told : List ℕ) (before after : FilesSeen) (ws ws' : List W) : Type 0 where
+    pub built : HasBuilt recipe source image before after
+    pub watchers : AllHaveGained named stands_for text_of (rows_built built) ws ws'
+    pub report : IsReportOf named stands_for text_of name (rows_built built) ws told
+
+  -- What a source compiles to is told to the watchers, written, and reported, and that ends so.
+  abbrev pub Finishes : (name : Option (List ℕ)) (image : Name) (bytes : List ℕ) (rows : List PlainRow) → Outcome → (told : List ℕ) (before after : FilesSeen) (ws ws' : List W) → Type 0
+  Finishes name image bytes rows Done told before after ws ws' =
+      Writes image bytes before after × AllHaveGained named stands_for text_of rows ws ws' × IsReportOf named stands_for text_of name rows ws told
+  Finishes name image bytes rows WriteFault told before after ws ws' =
+      WriteFails image before after × WritesPrefix image bytes before after × AllHaveGained named stands_for text_of rows ws ws'
+  Finishes name image bytes rows NoMemory told before after ws ws' =
+      (Unchanged before after × AllHaveBegun named stands_for text_of rows ws ws') ⊎ (Writes image bytes before after × AllHaveGained named stands_for text_of rows ws ws')
+  Finishes name image bytes rows _ told before after ws ws' = ⊥
+
+  -- A source that was compiled ends so.
+  abbrev pub FinishesCompiled : (recipe : List Rule) (name : Option (List ℕ)) (source image : Name) → Outcome → (told : List ℕ) (before after : FilesSeen) (ws ws' : List W) → Type 0
+  FinishesCompiled recipe name source image ended told before after ws ws' =
+      (bytes : List ℕ) × (rows : List PlainRow) × WasCompiled recipe source before.known bytes rows × Finishes name image bytes rows ended told before after ws ws'
+
+  abbrev pub BuildEnds : (recipe : List Rule) (name : Option (List ℕ)) (source image : Name) → Outcome → (told : List ℕ) (before after : FilesSeen) (ws ws' : List W) → Type 0
+  BuildEnds recipe name source image Done told before after ws ws' = IsBuilt recipe name source image told before after ws ws'
+  BuildEnds recipe name source image ReadFault told before after ws ws' = ReadFails source before after × Unchanged before after × (ws' ≡ ws)
+  BuildEnds recipe name source image WriteFault told before after ws ws' = FinishesCompiled recipe name source image WriteFault told before after ws ws'
+  BuildEnds recipe name source image (Refused refusal) told before after ws ws' =
+      IfKnown source before (λ text. IsRefused text refusal) × Unchanged before after × (ws' ≡ ws)
+  BuildEnds recipe name source image NoMemory told before after ws ws' =
+      (Unchanged before after × (ws' ≡ ws)) ⊎ FinishesCompiled recipe name source image NoMemory told before after ws ws'
+  BuildEnds recipe name source image _ told before after ws ws' = ⊥
+
+  -- The build ends so under the recipe that the list is of, where there is a watcher to report. Where the list is of no
+  -- recipe, or there is no such watcher, the arguments are no command. What is told of any outcome but `Done` is its line.
+  pub record BuildEndsUnder (list : List ℕ) (name : Option (List ℕ)) (source image : Name) (ended : Outcome) (told : List ℕ) (before after : FilesSeen) (ws ws' : List W) : Type 0 where
+    pub build : (recipe : List Rule) → IsTextOf recipe list → has_reporter named name ws ≡ true → BuildEnds recipe name source image ended told before after ws ws'
+    pub usage : ((recipe : List Rule) → IsTextOf recipe list → has_reporter named name ws ≡ true → ⊥) → ((ended ≡ Usage) ⊎ (ended ≡ NoMemory)) × (after ≡ before) × (ws' ≡ ws)
+    pub line : ended ≢ Done → told ≡ line_of ended
+
+-- ---- a law
+
+-- Two builds that were done, of one source under one recipe to one name, leave the same files where they began with the
+-- same, whatever else they were asked.
+abbrev pub OneBuild : Type 0
+OneBuild =
+    (recipe : List Rule) (source image : Name) (before after other_before other_after : FilesSeen) → HasBuilt recipe source image before after → HasBuilt recipe source image other_before other_after →
+    before.known ≡ other_before.known → after.known ≡ other_after.known

@@ -1,22 +1,29 @@
--- How a command ends: the cause of each outcome, and what the outside holds then.
-use Rattle.std.specs.Prelude.{◌≡◌, ◌⊎◌, Option, Some, None}
+-- How a command ends: the cause of each outcome, what the outside holds and the watchers stand for then, and what is told.
+use Rattle.std.specs.Prelude.{◌≡◌, ◌⊎◌, ℕ, List, Option, Some, None}
+use Rattle.cc_command.specs.Command.{Command, accept, build, run, generate}
+use Rattle.cc_watch.specs.Rows.{PlainRow}
 use Rattle.cc_top.specs.AcceptEnds.{AcceptEnds}
 use Rattle.cc_top.specs.BuildEnds.{BuildEndsUnder}
 use Rattle.cc_top.specs.RunEnds.{RunEnds}
 use Rattle.cc_top.specs.GenerateEnds.{GenerateEnds}
-use Rattle.cc_command.specs.Command.{Command, accept, build, run, generate}
+use Rattle.cc_top.specs.Outcome.{text_of as line_of}
 use Rattle.cc_top.specs.Outside.{Outside, KeepsStreams}
 use Rattle.cc_top.specs.declared.outcome.Outcome.{Outcome}
 use Rattle.cc_top.specs.declared.outcome.Outcome.TheVariants.{Usage, NoMemory}
 
--- The command of the arguments ends so. Arguments that are no command leave all as it was; memory may run out for them
--- too.
-abbrev pub Ends : Option Command → Outcome → Outside → Outside → Type 0
-Ends None ended before after = ((ended ≡ Usage) ⊎ (ended ≡ NoMemory)) × (after ≡ before)
-Ends (Some accept) ended before after =
-    AcceptEnds ended before.input after.input before.output after.output × (after.files ≡ before.files)
-Ends (Some (build source image recipe workers)) ended before after =
-    BuildEndsUnder recipe source image ended before.files after.files × KeepsStreams before after
-Ends (Some (generate start functions out)) ended before after =
-    GenerateEnds start functions out ended before.files after.files × KeepsStreams before after
-Ends (Some (run image steps)) ended before after = RunEnds image steps ended before after
+-- The arguments are no command, which leaves all as it was. Memory may run out for them too.
+abbrev pub EndsUnread : Outcome → Outside → Outside → Type 0
+EndsUnread ended before after = ((ended ≡ Usage) ⊎ (ended ≡ NoMemory)) × (after ≡ before)
+
+-- The command of the arguments ends so. Any command but `build` leaves the watchers as they were and tells the line of
+-- its outcome.
+module _ {W : Type 0} (named : W → List ℕ) (stands_for : W → List PlainRow → Type 0) (text_of : W → List PlainRow → List ℕ) where
+  abbrev pub Ends : Option Command → Outcome → (told : List ℕ) → (before after : Outside) → (ws ws' : List W) → Type 0
+  Ends None ended told before after ws ws' = EndsUnread ended before after × (told ≡ line_of ended) × (ws' ≡ ws)
+  Ends (Some accept) ended told before after ws ws' =
+      AcceptEnds ended before.input after.input before.output after.output × (after.files ≡ before.files) × (told ≡ line_of ended) × (ws' ≡ ws)
+  Ends (Some (build source image list workers name)) ended told before after ws ws' =
+      BuildEndsUnder named stands_for text_of list name source image ended told before.files after.files ws ws' × KeepsStreams before after
+  Ends (Some (generate start functions out)) ended told before after ws ws' =
+      GenerateEnds start functions out ended before.files after.files × KeepsStreams before after × (told ≡ line_of ended) × (ws' ≡ ws)
+  Ends (Some (run image steps)) ended told before after ws ws' = RunEnds image steps ended before after × (told ≡ line_of ended) × (ws' ≡ ws)

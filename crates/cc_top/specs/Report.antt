@@ -3,12 +3,23 @@ use Rattle.std.specs.Prelude.{◌≡◌, ◌⊎◌, ℕ, take, List, Option}
 use Rattle.cc_io.specs.Faults.{Increased}
 use Rattle.cc_io.specs.Sink.{append}
 use Rattle.cc_top.specs.Outcome.{status_of, text_of}
+use Rattle.cc_top.specs.declared.outcome.Ending.{Ending}
+use Rattle.cc_top.specs.declared.outcome.Ending.TheVariants.{Line, Report}
 use Rattle.cc_top.specs.declared.outcome.Outcome.{Outcome}
+use Rattle.cc_top.specs.declared.outcome.Outcome.TheVariants.{Done}
 
--- A call that ended so answers `status`: its text was written whole and the status is its own, or the
--- report's count of faults increased, a prefix of the text was written and the status is 3.
-abbrev pub IsReported : (ended : Outcome) (status : ℕ) (held_before held : Option (List ℕ)) (faults_before faults : ℕ) → Type 0
-IsReported ended status held_before held faults_before faults =
-    ((status ≡ status_of ended) × (held ≡ append held_before (text_of ended)))
-    ⊎ ((status ≡ 3) × Increased faults_before faults
-    × ((count : ℕ) × (held ≡ append held_before (take count (text_of ended)))))
+-- the outcome of an ending, and what is told of it
+abbrev pub outcome_of : Ending → Outcome
+outcome_of (Line outcome) = outcome
+outcome_of (Report text) = Done
+
+abbrev pub told_by : Ending → List ℕ
+told_by (Line outcome) = text_of outcome
+told_by (Report text) = text.items
+
+-- A call that ended so and tells this text answers `status`: the text was written whole and the status is its own, or
+-- the report's count of faults increased, a prefix of the text was written and the status is 3.
+abbrev pub IsReported : (ended : Outcome) (told : List ℕ) (status : ℕ) (held_before held : Option (List ℕ)) (faults_before faults : ℕ) → Type 0
+IsReported ended told status held_before held faults_before faults =
+    ((status ≡ status_of ended) × (held ≡ append held_before told))
+    ⊎ ((status ≡ 3) × Increased faults_before faults × ((count : ℕ) × (held ≡ append held_before (take count told))))

@@ -1,19 +1,22 @@
 //! The command `build`.
-ghost use Rattle.std.specs.Prelude.{◌≡◌, ◌<◌, ◌≤◌, ◌⊎◌, ℕ, List, None, Some, take, length, option_map, IsSome, IfOk, OnOk, OnErr, IsErrOf, IfErr, IfSome, IfNone, ◌≢◌};
-ghost use Rattle.std.specs.Option.{ForSome};
+ghost use Rattle.std.specs.Prelude.{◌≡◌, ◌≢◌, ◌<◌, ◌≤◌, ◌⊎◌, List, option_map, IfOk, IfErr, IfSome, IfNone};
 ghost use Rattle.cc_io.specs.Faults.{Increased};
-ghost use Rattle.cc_io.specs.Files.{Name, content, put_file};
 ghost use Rattle.g_graph.specs.declared.steps.Rule.{Rule};
-ghost use Rattle.cc_top.specs.BuildEnds.{BuildEnds, BuildEndsUnder, IsTextOf};
+ghost use Rattle.cc_top.specs.BuildEnds.{BuildEnds, BuildEndsUnder, Finishes, IsTextOf};
+ghost use Rattle.cc_top.specs.Outcome.{text_of as line_of};
 ghost use Rattle.cc_top.specs.Outside.{files_seen};
-ghost use Rattle.cc_top.specs.Refused.{CompileFails, HasImage};
+ghost use Rattle.cc_top.specs.Refused.{CompileFails, WasCompiled};
+ghost use Rattle.cc_top.specs.Report.{outcome_of, told_by};
+ghost use Rattle.cc_top.specs.declared.outcome.Outcome.TheVariants.{Done};
 
 use crate::compile::compile_by_workers;
 use crate::load::{LoadError, load};
-use crate::outcome::Outcome;
+use crate::outcome::{Ending, Outcome};
+use crate::watchers::{has_reporter, report_of, tell_all};
 use board_work::Gate;
 use cc_compile::Compiled;
 use cc_io::{Files, save};
+use cc_watch::Watcher;
 use g_pass::Recipe;
 use g_pass::laws::texts_have_one_recipe;
 use limits::MOST_SOURCE_BYTES;
@@ -33,9 +36,8 @@ fn compile_file<H: Threads + Wait + Sync, F: Files, G: Gate>(
 ) -> Result<Compiled, Outcome>
     requires some_worker { 0 < workers }
     requires few_workers { workers ≤ 64 }
-    ensures image { ForSome (F.known files.old)
-        (λ all. IfOk result
-        (λ c. HasImage recipe.now (content source.now all) c.image.items)) }
+    ensures compiled { IfOk result (λ c. WasCompiled recipe.now source.now (F.known files.old)
+        c.image.items c.rows.items) }
     ensures err { IfErr result (λ e. CompileFails source.now e (F.known files.old)
         (Increased (F.open_faults files.old source.now) (F.open_faults files.new source.now)
         ⊎ Increased (F.read_faults files.old) (F.read_faults files.new))) }
@@ -53,6 +55,35 @@ fn compile_file<H: Threads + Wait + Sync, F: Files, G: Gate>(
     compile_by_workers(rt, alloc, &text, recipe, workers, gate)
 }
 
+/// Tells the rows to the watchers, writes the image to the file of this name, and makes the report.
+fn finish<F: Files>(
+    alloc: Global,
+    files: &mut F,
+    image: &str,
+    compiled: &Compiled,
+    watchers: &mut Vec<Box<dyn Watcher>>,
+    report: Option<&str>,
+) -> Ending
+    ensures ends { Finishes named stands_for text_of (option_map (λ s. s.now) report.entry)
+        image.now compiled.now.image.items compiled.now.rows.items (outcome_of result)
+        (told_by result)
+        (files_seen F.known F.read_faults F.write_faults F.open_faults F.create_faults files.old)
+        (files_seen F.known F.read_faults F.write_faults F.open_faults F.create_faults files.new)
+        watchers.old.items watchers.new.items }
+    ensures line { outcome_of result ≢ Done → told_by result ≡ line_of (outcome_of result) }
+{
+    match tell_all(watchers, &compiled.rows) {
+        Ok(()) => match save(files, image, &compiled.image) {
+            Ok(()) => match report_of(alloc, watchers, report) {
+                Ok(text) => Ending::Report(text),
+                Err(_) => Ending::Line(Outcome::NoMemory),
+            },
+            Err(_) => Ending::Line(Outcome::WriteFault),
+        },
+        Err(_) => Ending::Line(Outcome::NoMemory),
+    }
+}
+
 /// Compiles the file named `source` under a recipe to the file named `image`.
 fn build_under<H: Threads + Wait + Sync, F: Files, G: Gate>(
     rt: &H,
@@ -62,20 +93,23 @@ fn build_under<H: Threads + Wait + Sync, F: Files, G: Gate>(
     image: &str,
     recipe: &Recipe,
     workers: u32,
+    report: Option<&str>,
     gate: &G,
-) -> Outcome
+    watchers: &mut Vec<Box<dyn Watcher>>,
+) -> Ending
     requires some_worker { 0 < workers }
     requires few_workers { workers ≤ 64 }
-    ensures { BuildEnds recipe.now source.now image.now result
+    ensures ends { BuildEnds named stands_for text_of recipe.now
+        (option_map (λ s. s.now) report.entry) source.now image.now (outcome_of result)
+        (told_by result)
         (files_seen F.known F.read_faults F.write_faults F.open_faults F.create_faults files.old)
-        (files_seen F.known F.read_faults F.write_faults F.open_faults F.create_faults files.new) }
+        (files_seen F.known F.read_faults F.write_faults F.open_faults F.create_faults files.new)
+        watchers.old.items watchers.new.items }
+    ensures line { outcome_of result ≢ Done → told_by result ≡ line_of (outcome_of result) }
 {
     match compile_file(rt, alloc, files, source, recipe, workers, gate) {
-        Ok(compiled) => match save(files, image, &compiled.image) {
-            Ok(()) => Outcome::Done,
-            Err(_) => Outcome::WriteFault,
-        },
-        Err(outcome) => outcome,
+        Ok(compiled) => finish(alloc, files, image, &compiled, watchers, report),
+        Err(outcome) => Ending::Line(outcome),
     }
 }
 
@@ -88,9 +122,10 @@ fn recipe_of(text: &str) -> Option<Recipe>
     Recipe::read(text)
 }
 
-/// Compiles the file named `source` under the recipe of this text to the file named `image`, by 1 to
-/// 64 workers. A text of no recipe is usage, and no file is opened.
-#[tactic(auto, using(crate::proofs::BuildLemmas::under_it, crate::proofs::BuildLemmas::under_none))]
+/// Compiles the file named `source` under the recipe of this text to the file named `image`, by 1
+/// to 64 workers. The watchers are told the rows, and the text of the one named `report` is told. A
+/// text of no recipe is usage, and so is a name that no watcher has; no file is opened then.
+#[tactic(auto, using(crate::proofs::BuildLemmas::under_it, crate::proofs::BuildLemmas::under_none, crate::proofs::BuildLemmas::under_nobody))]
 pub fn build<H: Threads + Wait + Sync, F: Files, G: Gate>(
     rt: &H,
     alloc: Global,
@@ -99,17 +134,27 @@ pub fn build<H: Threads + Wait + Sync, F: Files, G: Gate>(
     image: &str,
     recipe: &str,
     workers: u32,
+    report: Option<&str>,
     gate: &G,
-) -> Outcome
+    watchers: &mut Vec<Box<dyn Watcher>>,
+) -> Ending
     requires some_worker { 0 < workers }
     requires few_workers { workers ≤ 64 }
-    ensures { BuildEndsUnder recipe.now source.now image.now result
+    ensures { BuildEndsUnder named stands_for text_of recipe.now
+        (option_map (λ s. s.now) report.entry) source.now image.now (outcome_of result)
+        (told_by result)
         (files_seen F.known F.read_faults F.write_faults F.open_faults F.create_faults files.old)
-        (files_seen F.known F.read_faults F.write_faults F.open_faults F.create_faults files.new) }
+        (files_seen F.known F.read_faults F.write_faults F.open_faults F.create_faults files.new)
+        watchers.old.items watchers.new.items }
 {
     texts_have_one_recipe();
+    if !has_reporter(watchers, report) {
+        return Ending::Line(Outcome::Usage);
+    }
     match recipe_of(recipe) {
-        Some(recipe) => build_under(rt, alloc, files, source, image, &recipe, workers, gate),
-        None => Outcome::Usage,
+        Some(recipe) => build_under(
+            rt, alloc, files, source, image, &recipe, workers, report, gate, watchers,
+        ),
+        None => Ending::Line(Outcome::Usage),
     }
 }

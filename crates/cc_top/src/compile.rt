@@ -20,11 +20,11 @@ fn outcome_of(refusal: Option<Refusal>) -> Outcome
     }
 }
 
-/// The image of a source text under a recipe, which does what the text means, and how many
-/// functions it defines.
+/// The image of a source text under a recipe, which does what the text means, how many functions it
+/// defines, and what the recipe did to each.
 pub fn compile(alloc: Global, source: &[u8], recipe: &Recipe) -> Result<Compiled, Outcome>
     ensures accepted { IfOk result
-        (λ c. CompilesTo recipe.now source.now c.image.items c.functions) }
+        (λ c. CompilesTo recipe.now source.now c.image.items c.functions c.rows.items) }
     ensures err { IfErr result (IsRejectionOf source.now) }
 {
     cc_meaning::laws::recipes_keep_meaning();
@@ -47,7 +47,7 @@ pub fn compile_by_workers<H: Threads + Wait + Sync, G: Gate>(
     requires some_worker { 0 < workers }
     requires few_workers { workers ≤ 64 }
     ensures accepted { IfOk result
-        (λ c. CompilesTo recipe.now source.now c.image.items c.functions) }
+        (λ c. CompilesTo recipe.now source.now c.image.items c.functions c.rows.items) }
     ensures err { IfErr result (IsRejectionOf source.now) }
 {
     cc_meaning::laws::recipes_keep_meaning();

@@ -1,4 +1,5 @@
 //! Laws of the definitions, each the contract of a function that does nothing.
+ghost use Rattle.cc_top.specs.BuildEnds.{OneBuild};
 ghost use Rattle.cc_top.specs.Refused.{AcceptedIsNotRefused, AcceptedOrRefused, OneRefusal};
 
 /// A source has at most one refusal.
@@ -21,4 +22,14 @@ pub fn sources_are_accepted_or_refused()
 {
     c_lex::laws::faults_are_first();
     cc_compile::laws::accepted_or_refused();
+}
+
+/// Two builds that are done leave the same files, where they begin with the same and are of one
+/// source under one recipe to one name: whatever the number of workers, the order of their steps
+/// and the report.
+pub fn builds_leave_the_same_files()
+    ensures { OneBuild }
+{
+    cc_compile::laws::the_program_is_determined();
+    cc_compile::laws::the_image_is_determined();
 }

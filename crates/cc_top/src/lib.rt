@@ -15,18 +15,22 @@ mod outcome;
 mod refusal;
 mod report;
 mod run;
+mod watchers;
 
-ghost use Rattle.std.specs.Prelude.{map};
+ghost use Rattle.std.specs.Prelude.{◌≡◌, ℕ, List, map};
 ghost use Rattle.std.specs.String.{string_bytes};
 ghost use Rattle.cc_command.specs.Command.{command_of};
+ghost use Rattle.cc_io.specs.Faults.{Increased};
+ghost use Rattle.cc_top.specs.Completes.{Completes};
 ghost use Rattle.cc_top.specs.Ends.{Ends};
 ghost use Rattle.cc_top.specs.Outside.{files_seen, stream_seen};
-ghost use Rattle.cc_top.specs.Report.{IsReported};
+ghost use Rattle.cc_top.specs.Report.{IsReported, outcome_of, told_by};
 
 use board_work::Gate;
 use cc_command::{Command, parse_command};
 use cc_io::{Files, Sink, Source};
-use outcome::Outcome;
+use cc_watch::Watcher;
+use outcome::{Ending, Outcome};
 use std::alloc::Global;
 use std::sync::Wait;
 use std::thread::Threads;
@@ -36,34 +40,43 @@ use std::thread::Threads;
 ///
 /// `build IN OUT [--recipe LIST]` compiles the source file IN to the executable OUT, each function
 /// put through the sweeps of LIST: 1 to 32 names of rules joined by commas, or `none`; it is
-/// `iln,fold,inv,cne,dne,ivt,psh,pll,url,fold,cne,inv,dne,dne` where it is not given. On the machine
-/// OUT does what the source does: on every input on which no bound of turns and calls makes the
-/// source's run undefined (ISO/IEC 9899:2011, 3.4.3) it is never stuck, writes what the source
-/// writes and exits with its status, or it stops for want of stack after a beginning of that output,
-/// only where some stack of calls has frames of more than 8,388,608 bytes. `run IMG [--steps N]`
-/// runs the executable IMG for at most N instructions, from `input` to `output`. `gen NUMBER COUNT OUT`
-/// writes the generated program of COUNT functions, 1 to 511, whose draws begin with NUMBER, 0 to
-/// 4294967295, to the file OUT. Without arguments the source on `input` is compiled and the line
-/// `accepted F` written on `output`, F being the number of functions that it defines; no file
-/// changes. What a user reads of the end is written on `report`: nothing on status 0 of `build`,
-/// `gen` and the command without arguments, and else a line.
+/// `iln,fold,inv,cne,dne,ivt,psh,pll,url,fold,cne,inv,dne,dne` where it is not given. On the
+/// machine OUT does what the source does: on every input on which no bound of turns and calls makes
+/// the source's run undefined (ISO/IEC 9899:2011, 3.4.3) it is never stuck, writes what the source
+/// writes and exits with its status, or it stops for want of stack after a beginning of that
+/// output, only where some stack of calls has frames of more than 8,388,608 bytes. `run IMG
+/// [--steps N]` runs the executable IMG for at most N instructions, from `input` to `output`. `gen
+/// NUMBER COUNT OUT` writes the generated program of COUNT functions, 1 to 511, whose draws begin
+/// with NUMBER, 0 to 4294967295, to the file OUT. Without arguments the source on `input` is
+/// compiled and the line `accepted F` written on `output`, F being the number of functions that it
+/// defines; no file changes. What a user reads of the end is written on `report`: on status 0 of
+/// `build` the text of the report that is asked for, nothing on status 0 of `gen` and the command
+/// without arguments, and else a line.
 ///
-/// With `--workers N`, 1 to 64, N workers make the functions of a build, each in a thread of its own
-/// where one can be made, and 1 where N is not given; each passes `gate` before it makes a function.
-/// OUT is the same for every N. A call may wait, and what is said here holds where it returns. The
-/// statuses:
+/// Each of `watchers` is told what the recipe of a build did to each function, a row a function in
+/// source order, each row before the next, and before OUT is created. `--report NAME` asks for the
+/// text of the first of them whose name is NAME, which is made and written after OUT. No other
+/// command tells them anything.
+///
+/// With `--workers N`, 1 to 64, N workers make the functions of a build, each in a thread of its
+/// own where one can be made, and 1 where N is not given; each passes `gate` before it makes a
+/// function. OUT is the same for every N. A call may wait, and what is said here holds where it
+/// returns. The statuses:
 ///
 /// - 0: `build` or `gen` wrote OUT, `accepted F` was written, or the program that `run` ran has
 ///   exited; the line has its exit status.
-/// - 1: the arguments are no command, or LIST is no recipe. Nothing has changed.
+/// - 1: the arguments are no command, LIST is no recipe, or no watcher has the name NAME. Nothing
+///   has changed.
 /// - 2: a file or the input was not read, since a call failed. No file has changed.
 /// - 3: a file, the output or the report was not written, since a call failed. A file or stream
-///   that was written then holds a prefix of what was to be written.
+///   that was written then holds a prefix of what was to be written; OUT is whole where the report
+///   alone was not written.
 /// - 4: the source is refused; the line names the rule, its number and the source's line, and of a
 ///   limit that is passed its number and the count. No file was created or written, and nothing was
 ///   written on `output`.
 /// - 5: IMG is no executable that can be run; the line names the fault.
-/// - 6: memory ran out. No file was created or written, and nothing was written on `output`.
+/// - 6: memory ran out. Nothing was written on `output`, and no file was created or written, but
+///   that OUT is whole where memory ran out for the text of the report.
 /// - 7: the program that `run` ran used up its stack, was not done after N instructions, or came to
 ///   an instruction that cannot be done.
 pub fn top<H: Threads + Wait + Sync, F: Files, I: Source, O: Sink, E: Sink, G: Gate>(
@@ -75,10 +88,11 @@ pub fn top<H: Threads + Wait + Sync, F: Files, I: Source, O: Sink, E: Sink, G: G
     output: &mut O,
     report: &mut E,
     gate: &G,
+    watchers: &mut Vec<Box<dyn Watcher>>,
 ) -> u8
-    // There is an outcome that comes at its cause, and it is reported.
-    ensures { (ended : Outcome)
-        × Ends (command_of (map string_bytes words.now)) ended
+    // There is an outcome that comes at its cause, and what is told of it is reported.
+    ensures ends { (ended : Outcome) × ((told : List ℕ)
+        × Ends named stands_for text_of (command_of (map string_bytes words.now)) ended told
         (record {
           files = files_seen F.known F.read_faults F.write_faults F.open_faults F.create_faults
               files.old;
@@ -91,11 +105,29 @@ pub fn top<H: Threads + Wait + Sync, F: Files, I: Source, O: Sink, E: Sink, G: G
           input = stream_seen I.left I.faults input.new;
           output = stream_seen O.held O.faults output.new;
         })
-        × IsReported ended result (E.held report.old) (E.held report.new) (E.faults report.old)
-        (E.faults report.new) }
+        watchers.old.items watchers.new.items
+        × IsReported ended told result (E.held report.old) (E.held report.new)
+        (E.faults report.old) (E.faults report.new)) }
+    // Where no call fails a command that has what it asks for is done, or memory ran out.
+    ensures complete { (Increased (E.faults report.old) (E.faults report.new) → ⊥)
+        → Completes named (command_of (map string_bytes words.now)) result
+        (record {
+          files = files_seen F.known F.read_faults F.write_faults F.open_faults F.create_faults
+              files.old;
+          input = stream_seen I.left I.faults input.old;
+          output = stream_seen O.held O.faults output.old;
+        })
+        (record {
+          files = files_seen F.known F.read_faults F.write_faults F.open_faults F.create_faults
+              files.new;
+          input = stream_seen I.left I.faults input.new;
+          output = stream_seen O.held O.faults output.new;
+        })
+        watchers.old.items }
 {
-    let outcome = carry_out(rt, alloc, words, files, input, output, gate);
-    report::tell(report, outcome)
+    laws::accepted_sources_are_not_refused();
+    let ending = carry_out(rt, alloc, words, files, input, output, gate, watchers);
+    report::tell(report, &ending)
 }
 
 /// Carries out the command of the arguments.
@@ -107,8 +139,10 @@ fn carry_out<H: Threads + Wait + Sync, F: Files, I: Source, O: Sink, G: Gate>(
     input: &mut I,
     output: &mut O,
     gate: &G,
-) -> Outcome
-    ensures { Ends (command_of (map string_bytes words.now)) result
+    watchers: &mut Vec<Box<dyn Watcher>>,
+) -> Ending
+    ensures { Ends named stands_for text_of (command_of (map string_bytes words.now))
+        (outcome_of result) (told_by result)
         (record {
           files = files_seen F.known F.read_faults F.write_faults F.open_faults F.create_faults
               files.old;
@@ -120,26 +154,32 @@ fn carry_out<H: Threads + Wait + Sync, F: Files, I: Source, O: Sink, G: Gate>(
               files.new;
           input = stream_seen I.left I.faults input.new;
           output = stream_seen O.held O.faults output.new;
-        }) }
+        })
+        watchers.old.items watchers.new.items }
 {
     let command = match parse_command(alloc, words) {
         Ok(Some(command)) => command,
-        Ok(None) => return Outcome::Usage,
-        Err(_) => return Outcome::NoMemory,
+        Ok(None) => return Ending::Line(Outcome::Usage),
+        Err(_) => return Ending::Line(Outcome::NoMemory),
     };
     match command {
-        Command::Accept => accept::accept(alloc, input, output),
+        Command::Accept => Ending::Line(accept::accept(alloc, input, output)),
         Command::Build {
             source,
             image,
             recipe,
             workers,
-        } => build::build(rt, alloc, files, source, image, recipe, workers, gate),
-        Command::Run { image, steps } => run::run(alloc, files, input, output, image, steps),
+            report,
+        } => build::build(
+            rt, alloc, files, source, image, recipe, workers, report, gate, watchers,
+        ),
+        Command::Run { image, steps } => {
+            Ending::Line(run::run(alloc, files, input, output, image, steps))
+        }
         Command::Generate {
             start,
             functions,
             out,
-        } => generated::write_generated(files, start, functions, out),
+        } => Ending::Line(generated::write_generated(files, start, functions, out)),
     }
 }

@@ -34,6 +34,15 @@ pub enum Outcome {
     Stuck { pc: u32, why: u8 },
 }
 
+/// How a command ended, with what is told of it.
+#[derive(Drop)]
+pub enum Ending {
+    /// So, and the line of the outcome is told.
+    Line(Outcome),
+    /// The command was done, and this report is told.
+    Report(Vec<u8>),
+}
+
 impl From<AllocError> for Outcome {
     ghost from_gives = { λ _ e. e ≡ NoMemory };
 

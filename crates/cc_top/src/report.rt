@@ -1,11 +1,11 @@
 //! The report of how a command ended.
 ghost use Rattle.std.specs.Prelude.{◌≡◌, ◌≤◌, ◌+◌, ◌++◌, length};
 ghost use Rattle.cc_top.specs.Outcome.{limit_text, status_of, text_of};
-ghost use Rattle.cc_top.specs.Report.{IsReported};
+ghost use Rattle.cc_top.specs.Report.{IsReported, outcome_of, told_by};
 ghost use Rattle.cc_top.specs.declared.outcome.Outcome.TheVariants.{BadImage, Exit, Refused, Stuck};
 
 use crate::line::{Line, push_decimal, push_hex, push_text};
-use crate::outcome::Outcome;
+use crate::outcome::{Ending, Outcome};
 use crate::refusal::{Refusal, RefusalKind};
 use cc_io::{Sink, write_all};
 use elf_file::ElfFault;
@@ -121,14 +121,17 @@ fn text_of(outcome: Outcome) -> Line
     }
 }
 
-/// Writes how a command ended, and gives the status of the call: that of the outcome, or 3 where
-/// the report was not written.
-pub fn tell<E: Sink>(report: &mut E, outcome: Outcome) -> u8
-    ensures { IsReported outcome result (E.held report.old) (E.held report.new)
-        (E.faults report.old) (E.faults report.new) }
+/// Writes what is told of the end of a command, and gives the status of the call: that of the
+/// outcome, or 3 where the report was not written.
+pub fn tell<E: Sink>(report: &mut E, ending: &Ending) -> u8
+    ensures { IsReported (outcome_of ending.now) (told_by ending.now) result
+        (E.held report.old) (E.held report.new) (E.faults report.old) (E.faults report.new) }
 {
-    let line = text_of(outcome);
-    match write_all(report, line.as_bytes()) {
+    let (outcome, written) = match ending {
+        Ending::Line(outcome) => (*outcome, write_all(report, text_of(*outcome).as_bytes())),
+        Ending::Report(text) => (Outcome::Done, write_all(report, text)),
+    };
+    match written {
         Ok(()) => status_of(outcome),
         Err(_) => status_of(Outcome::WriteFault),
     }

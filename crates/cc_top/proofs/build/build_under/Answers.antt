@@ -1,9 +1,9 @@
-use Rattle.cc_top.proofs.BuildLemmas.{unwritten}
+use Rattle.cc_top.proofs.BuildLemmas.{compiled-ends, finishes-since}
+use Rattle.cc_top.specs.Report.{outcome_of}
 use Rattle.cc_top.proofs.build.build_under.Goals as goal
 
-pub returns-in-Ok : goal.returns-in-Ok
-returns-in-Ok g c =
+pub returns-in-Ok-clause-ends : goal.returns-in-Ok-clause-ends
+returns-in-Ok-clause-ends g c =
     let read = c.in-Ok.ensures in
-    let failed = c.in-Err-save.ensures in
-    unwritten c.args.image.now c.in-Ok.compiled.image.items c.deref.result.now _ _ (g.F.Files.known c.save.new.files) c.args.recipe.now read.known c.deref.ensures.value c.args.source.now _ _
-    (g.F.Files.create_faults c.save.new.files) _ _ (g.F.Files.write_faults c.save.new.files) read.create_faults read.write_faults failed.cause read.image failed.err
+    let finished = finishes-since _ _ _ _ _ _ _ _ _ _ _ _ _ read.known read.create_faults read.write_faults (outcome_of c.finish.result) c.finish.ensures.ends in
+    compiled-ends _ _ _ c.args.recipe.now _ c.args.source.now c.args.image.now _ _ _ _ _ _ _ (outcome_of c.finish.result) read.compiled finished

@@ -1,0 +1,57 @@
+use Rattle.std.proofs.Common.{◌≤◌, sym, ap, subst, ◌∙◌, length, map, slice_get, List, arith}
+use Rattle.std.specs.Arc.{arc_value}
+use Rattle.std.proofs.lemmas.Result.{IfOk-weaker}
+use Rattle.limits.specs.Limits.{most_functions}
+use Rattle.g_graph.specs.Lists.{IsComplete}
+use Rattle.g_graph.specs.Plain.{PlainLambda, PlainOmega}
+use Rattle.g_construct.specs.Functions as built
+use Rattle.g_recipe.specs.Answers.{AreAnswers}
+use Rattle.g_pass.specs.Sweep.{rules}
+use Rattle.cc_image.specs.Image.{file_of_program, lambdas_of, CanEmit}
+use Rattle.cc_compile.specs.Compiled.{IsCompiledUnder}
+use Rattle.cc_compile.proofs.Small.{unlimited_are_small}
+use Rattle.cc_compile.proofs.typed.compiled_of.Goals as goal
+
+pub answers-requires-clause-few : goal.answers-requires-clause-few
+answers-requires-clause-few c =
+    let lambdas = c.deref.ensures.value ∙ ap (λ (o : PlainOmega). o.lambdas) (c.program.view_is ∙ c.requires.graph) in
+    let can = c.programs_can_be_emitted.ensures c.args.typed.now c.requires.typed c.requires.limits c.requires.values in
+    subst (λ (ls : List PlainLambda). length ls ≤ most_functions) (sym lambdas) can.limits.functions
+
+pub answers-requires-clause-complete : goal.answers-requires-clause-complete
+answers-requires-clause-complete c =
+    let lambdas = c.deref.ensures.value ∙ ap (λ (o : PlainOmega). o.lambdas) (c.program.view_is ∙ c.requires.graph) in
+    let can = c.programs_can_be_emitted.ensures c.args.typed.now c.requires.typed c.requires.limits c.requires.values in
+    subst IsComplete (sym lambdas) can.program.complete
+
+pub answers-requires-clause-small : goal.answers-requires-clause-small
+answers-requires-clause-small c f l e =
+    let lambdas = c.deref.ensures.value ∙ ap (λ (o : PlainOmega). o.lambdas) (c.program.view_is ∙ c.requires.graph) in
+    let can = c.programs_can_be_emitted.ensures c.args.typed.now c.requires.typed c.requires.limits c.requires.values in
+    omega (arith, (can.limits.each f l (ap (λ (ls : List PlainLambda). slice_get ls f) (sym lambdas) ∙ e)).values)
+
+pub compiled_with-requires-clause-few : goal.compiled_with-requires-clause-few
+compiled_with-requires-clause-few c = (unlimited_are_small c.args.typed.now c.requires.limits c.requires.values).functions
+
+pub compiled_with-requires-clause-image : goal.compiled_with-requires-clause-image
+compiled_with-requires-clause-image c =
+    let p = c.args.typed.now in
+    let recipe = c.args.recipe.now in
+    let all = map arc_value c.in_ok-all.all.items in
+    let lambdas = c.deref.ensures.value ∙ ap (λ (o : PlainOmega). o.lambdas) (c.program.view_is ∙ c.requires.graph) in
+    let made = subst (λ (ls : List PlainLambda). AreAnswers rules recipe ls all) lambdas c.in_ok-all.ensures in
+    let can = c.answers_can_be_emitted.ensures p c.requires.typed c.requires.limits c.requires.values recipe all made in
+    subst (λ (o : PlainOmega). CanEmit o (lambdas_of (map arc_value c.deref-2.result.now))) (sym c.requires.graph)
+    (subst (λ xs. CanEmit (built.omega p) (lambdas_of (map arc_value xs))) (sym c.deref-2.ensures.value) can)
+
+pub returns-clause-compiled : goal.returns-clause-compiled
+returns-clause-compiled c =
+    let p = c.args.typed.now in
+    let recipe = c.args.recipe.now in
+    let all = map arc_value c.deref-2.result.now in
+    let lambdas = c.deref.ensures.value ∙ ap (λ (o : PlainOmega). o.lambdas) (c.program.view_is ∙ c.requires.graph) in
+    let made =
+    subst (λ xs. AreAnswers rules recipe (built.omega p).lambdas (map arc_value xs)) (sym c.deref-2.ensures.value)
+    (subst (λ (ls : List PlainLambda). AreAnswers rules recipe ls (map arc_value c.in_ok-all.all.items)) lambdas c.in_ok-all.ensures) in
+    IfOk-weaker c.compiled_with.result _ (λ x. IsCompiledUnder recipe p x.image.items x.rows.items)
+    (λ x is. (record { answers = all; made = made; file = is.0 ∙ ap (λ o. file_of_program o (lambdas_of all)) c.requires.graph }, is.1)) c.compiled_with.ensures.compiled

@@ -1,0 +1,118 @@
+-- A command that has what it asks for, and none of whose calls failed, is done, from how it ends.
+use Rattle.std.proofs.Common.{◌≡◌, ◌⊎◌, ℕ, List, Option, Some, None, Ok, Err, refl, sym, ◌∙◌, inl, inr, subst}
+use Rattle.std.specs.Option.{ForSome}
+use Rattle.c_typed.specs.Typed.{ProgramTree}
+use Rattle.cc_command.specs.Command.{Command, accept, build, run, generate}
+use Rattle.cc_compile.specs.Accepted.{Accepts}
+use Rattle.cc_io.specs.Faults.{Increased}
+use Rattle.cc_io.specs.Files.{Name, content}
+use Rattle.cc_watch.specs.Rows.{PlainRow}
+use Rattle.elf_file.specs.Loading.{Executable, loaded}
+use Rattle.elf_file.specs.declared.fault.ElfFault.{ElfFault}
+use Rattle.cc_top.specs.AcceptEnds.{AcceptCause}
+use Rattle.cc_top.specs.BuildEnds.{BuildEnds, IfKnown, ReadFails, WriteFails}
+use Rattle.cc_top.specs.Completes.{Completes, IsDone, Works}
+use Rattle.cc_top.specs.Ends.{Ends}
+use Rattle.cc_top.specs.GenerateEnds.{GenerateEnds}
+use Rattle.cc_top.specs.Outcome.{status_of}
+use Rattle.cc_top.specs.Outside.{FilesSeen, Outside, StreamSeen}
+use Rattle.cc_top.specs.Refused.{AcceptedIsNotRefused}
+use Rattle.cc_top.specs.Report.{IsReported}
+use Rattle.cc_top.specs.RunEnds.{RunEnds}
+use Rattle.cc_top.specs.declared.outcome.Outcome.{Outcome}
+use Rattle.cc_top.specs.declared.outcome.Outcome.TheVariants.{Done, Usage, ReadFault, WriteFault, Refused, BadImage, NoMemory, Exit, Stack, Budget, Stuck}
+
+-- the status is that of the outcome, where the report was written
+pub status-is : (ended : Outcome) (told : List ℕ) (status : ℕ) (held held' : Option (List ℕ)) (faults faults' : ℕ) → IsReported ended told status held held' faults faults'
+    → (Increased faults faults' → ⊥)
+    → status ≡ status_of ended
+status-is ended told status held held' faults faults' (inl own) works = own.0
+status-is ended told status held held' faults faults' (inr cut) works = absurd (works cut.1)
+
+-- ---- one outcome after the other
+
+module _ (law : AcceptedIsNotRefused) where
+  module _ {W : Type 0} (named : W → List ℕ) (stands_for : W → List PlainRow → Type 0) (text_of : W → List PlainRow → List ℕ) where
+    build-done : (recipe : _) (name : Option (List ℕ)) (source image : Name) (ended : Outcome) (told : List ℕ) (before after : FilesSeen) (ws ws' : List W) →
+        BuildEnds named stands_for text_of recipe name source image ended told before after ws ws' → (ReadFails source before after → ⊥) → (WriteFails image before after → ⊥) →
+        IfKnown source before (λ text. (p : ProgramTree) → Accepts text p → IsDone (status_of ended))
+    build-done recipe name source image Done told before after ws ws' h reads writes = λ files is p a. inl refl
+    build-done recipe name source image NoMemory told before after ws ws' h reads writes = λ files is p a. inr refl
+    build-done recipe name source image ReadFault told before after ws ws' h reads writes = absurd (reads h.0)
+    build-done recipe name source image WriteFault told before after ws ws' h reads writes = absurd (writes h.3.0)
+    build-done recipe name source image (Refused refusal) told before after ws ws' h reads writes = λ files is p a. absurd (law (content source files) p refusal a (h.0 files is))
+    build-done recipe name source image Usage told before after ws ws' h reads writes = absurd h
+    build-done recipe name source image (BadImage fault) told before after ws ws' h reads writes = absurd h
+    build-done recipe name source image (Exit status) told before after ws ws' h reads writes = absurd h
+    build-done recipe name source image Stack told before after ws ws' h reads writes = absurd h
+    build-done recipe name source image Budget told before after ws ws' h reads writes = absurd h
+    build-done recipe name source image (Stuck pc why) told before after ws ws' h reads writes = absurd h
+
+  accept-done : (ended : Outcome) (input input' output output' : StreamSeen) → AcceptCause ended input input' output output' → Works input input' → Works output output'
+      → ForSome input.bytes (λ text. (p : ProgramTree) → Accepts text p → IsDone (status_of ended))
+  accept-done Done input input' output output' h reads writes = λ text is p a. inl refl
+  accept-done NoMemory input input' output output' h reads writes = λ text is p a. inr refl
+  accept-done ReadFault input input' output output' h reads writes = absurd (reads h.0)
+  accept-done WriteFault input input' output output' h reads writes = absurd (writes h.2.0)
+  accept-done (Refused refusal) input input' output output' h reads writes = λ text is p a. absurd (law text p refusal a (h.0 text is))
+  accept-done Usage input input' output output' h reads writes = absurd h
+  accept-done (BadImage fault) input input' output output' h reads writes = absurd h
+  accept-done (Exit status) input input' output output' h reads writes = absurd h
+  accept-done Stack input input' output output' h reads writes = absurd h
+  accept-done Budget input input' output output' h reads writes = absurd h
+  accept-done (Stuck pc why) input input' output output' h reads writes = absurd h
+
+generate-done : (start functions : ℕ) (out : Name) (ended : Outcome) (before after : FilesSeen) → GenerateEnds start functions out ended before after → (WriteFails out before after → ⊥)
+    → IsDone (status_of ended)
+generate-done start functions out Done before after h writes = inl refl
+generate-done start functions out NoMemory before after h writes = inr refl
+generate-done start functions out WriteFault before after h writes = absurd (writes h.0)
+generate-done start functions out Usage before after h writes = absurd h
+generate-done start functions out ReadFault before after h writes = absurd h
+generate-done start functions out (Refused refusal) before after h writes = absurd h
+generate-done start functions out (BadImage fault) before after h writes = absurd h
+generate-done start functions out (Exit status) before after h writes = absurd h
+generate-done start functions out Stack before after h writes = absurd h
+generate-done start functions out Budget before after h writes = absurd h
+generate-done start functions out (Stuck pc why) before after h writes = absurd h
+
+not-loaded : (bytes : List ℕ) (e : Executable) (fault : ElfFault) → loaded bytes ≡ Ok e → loaded bytes ≡ Err fault → ⊥
+not-loaded bytes e fault is other = clash (sym is ∙ other) where
+  clash : Ok e ≡ Err fault → ⊥
+  clash q = cc
+
+run-done : (image : Name) (steps : ℕ) (ended : Outcome) (before after : Outside) → RunEnds image steps ended before after → (ReadFails image before.files after.files → ⊥)
+    → Works before.input after.input
+    → Works before.output after.output → ForSome before.files.known (λ files. (e : Executable) → loaded (content image files) ≡ Ok e → IsDone (status_of ended) ⊎ (status_of ended ≡ 7))
+run-done image steps (Exit status) before after h reads input output = λ files is e loads. inl (inl refl)
+run-done image steps NoMemory before after h reads input output = λ files is e loads. inl (inr refl)
+run-done image steps Stack before after h reads input output = λ files is e loads. inr refl
+run-done image steps Budget before after h reads input output = λ files is e loads. inr refl
+run-done image steps (Stuck pc why) before after h reads input output = λ files is e loads. inr refl
+run-done image steps (BadImage fault) before after h reads input output = λ files is e loads. absurd (not-loaded (content image files) e fault loads (h.run files is))
+run-done image steps ReadFault before after h reads input output = elim h.cause [
+  | inl unread ↦ absurd (reads unread.0)
+  | inr failed ↦ absurd (input failed)
+]
+run-done image steps WriteFault before after h reads input output = absurd (output h.cause)
+run-done image steps Done before after h reads input output = absurd h.cause
+run-done image steps Usage before after h reads input output = absurd h.cause
+run-done image steps (Refused refusal) before after h reads input output = absurd h.cause
+
+-- ---- the command
+
+module _ (law : AcceptedIsNotRefused) {W : Type 0} (named : W → List ℕ) (stands_for : W → List PlainRow → Type 0) (text_of : W → List PlainRow → List ℕ) where
+  ended-completes : (c : Option Command) (ended : Outcome) (told : List ℕ) (before after : Outside) (ws ws' : List W) → Ends named stands_for text_of c ended told before after ws ws'
+      → Completes named c (status_of ended) before after ws
+  ended-completes None ended told before after ws ws' h = tt
+  ended-completes (Some accept) ended told before after ws ws' h = accept-done law ended before.input after.input before.output after.output h.0.cause
+  ended-completes (Some (build source image list workers name)) ended told before after ws ws' h = λ recipe is some.
+      build-done law named stands_for text_of recipe name source image ended told before.files after.files ws ws' (h.0.build recipe is some)
+  ended-completes (Some (generate start functions out)) ended told before after ws ws' h = generate-done start functions out ended before.files after.files h.0
+  ended-completes (Some (run image steps)) ended told before after ws ws' h = run-done image steps ended before after h.0
+
+  pub completes : (c : Option Command) (ended : Outcome) (told : List ℕ) (before after : Outside) (ws ws' : List W) → Ends named stands_for text_of c ended told before after ws ws'
+      → (status : ℕ) (held held' : Option (List ℕ)) (faults faults' : ℕ) → IsReported ended told status held held' faults faults' → (Increased faults faults' → ⊥)
+      → Completes named c status before after ws
+  completes c ended told before after ws ws' h status held held' faults faults' reported works =
+      subst (λ n. Completes named c n before after ws) (sym (status-is ended told status held held' faults faults' reported works)) (ended-completes c ended told before after ws ws' h)

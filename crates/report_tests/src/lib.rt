@@ -1,0 +1,12 @@
+//! Tests of watchers and reports, through the top call. No crate stands on it.
+#![tactic(auto)]
+
+#[cfg(test)]
+mod calls;
+#[cfg(test)]
+mod faults;
+#[cfg(test)]
+mod reports;
+#[cfg(test)]
+mod told;
+pub mod watching;
