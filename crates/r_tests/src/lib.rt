@@ -1,4 +1,5 @@
-//! Tests of the rules: tables of lambdas, each with a node's number and the lambda that comes out.
+//! Tests of the rules on dead, common and kept values: tables of lambdas, each with a node's number
+//! and the lambda that comes out.
 //! No crate stands on it, and it has no function of its own.
 #![tactic(auto)]
 
@@ -10,9 +11,5 @@ mod deep;
 mod dne;
 #[cfg(test)]
 mod inv;
-#[cfg(test)]
-mod pull;
-#[cfg(test)]
-mod push;
 #[cfg(test)]
 mod tables;
