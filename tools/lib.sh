@@ -27,5 +27,13 @@ built() {
     fi
 }
 
+# Proves and builds the compiler where it is needed, and sets `program` to it, so that each run takes the program itself. With no
+# input there is no program to compile.
+compiler() {
+    ./rvcc </dev/null 2>"$folder/report"
+    [ "$(tail -n 1 "$folder/report")" = 'refused NoMain 41 line 1' ] || fail "the compiler does not run: $(cat "$folder/report")"
+    program=crates/cc_main/out/cc_main
+}
+
 folder=$(mktemp -d) || exit 1
 trap 'rm -rf "$folder"' EXIT

@@ -1,6 +1,7 @@
 #!/bin/sh
-# Compares the compiler with tables of expected values: refusals, images, words of images, and runs. The tables stand next to the
-# repository, in ../shared/rows, with the program read.py that reads them and tries them. It prints each difference.
+# Compares the compiler with tables of expected values: refusals, images, words of images, runs, and what recipes do to each
+# function, as the log tells it. The tables stand next to the repository, in ../shared/rows, with the program read.py that
+# reads them and tries them. Every second build has three workers. It prints each difference.
 set -u
 cd "$(dirname "$0")/.." || exit 1
 script=tools/rows.sh
@@ -11,21 +12,32 @@ if [ ! -e "$rows/read.py" ]; then
     echo "$script: skipped, there is no $rows"
     exit 0
 fi
-# Builds the compiler where it is needed, so that each row takes the program itself. With no input there is no program to compile.
-./rvcc </dev/null 2>"$folder/report"
-[ "$(tail -n 1 "$folder/report")" = 'refused NoMain 41 line 1' ] || fail "the compiler does not run: $(cat "$folder/report")"
+compiler
 
-PYTHONDONTWRITEBYTECODE=1 python3 - "$rows" crates/cc_main/out/cc_main "$folder" <<'END'
+PYTHONDONTWRITEBYTECODE=1 python3 - "$rows" "$program" "$folder" <<'END'
 import sys
 sys.path.insert(0, sys.argv[1])
 import read
 
-comparison = read.Trial(sys.argv[2], sys.argv[3])
+
+class ByWorkers(read.Trial):
+    """Tries the program; every second build has three workers."""
+    builds = 0
+
+    def call(self, *words, data=b""):
+        if words[0] == "build":
+            self.builds += 1
+            words += ("--workers", "3") * (self.builds % 2)
+        return super().call(*words, data=data)
+
+
+comparison = ByWorkers(sys.argv[2], sys.argv[3])
 for name in ("refusals", "images", "runs", "undefined", "bounded", "examples", "generated"):
     for number, row in enumerate(read.table(name), 1):
         getattr(comparison, name)("%s %d" % (name, number), row)
-for name in read.names("listings", ".list"):
-    comparison.listings(name)
+for name, ending in (("listings", ".list"), ("graphs", ".graph"), ("rules", ".case")):
+    for row in read.names(name, ending):
+        getattr(comparison, name)(row)
 print("tools/rows.sh: %d compared, %d differ" % (comparison.count, comparison.bad))
 sys.exit(comparison.bad > 0)
 END

@@ -1,15 +1,15 @@
 #!/bin/sh
 # Builds programs with 1, 2, 8 and 64 workers, twenty times each, and compares the images with that of one worker. Then refuses
-# each allocation of some builds in turn: a build ends with the whole image, or reports `memory` and makes no file. An allocation
-# by which a file is opened is part of reading or writing it, and is reported as their fault.
+# each allocation of some builds in turn, under each report: a build ends with the whole image, or reports `memory` and makes no
+# file, or a whole one where the text of the report found no memory. An allocation by which a file is opened is part of reading
+# or writing it, and is reported as their fault.
 set -u
 cd "$(dirname "$0")/.." || exit 1
 script=tools/workers.sh
 . tools/lib.sh
 need gcc
-# Builds the compiler where it is needed, so that what follows takes the program itself.
-./rvcc gen 7 200 "$folder/generated.c" || fail 'no program was generated'
-compiler=crates/cc_main/out/cc_main
+compiler
+"$program" gen 7 200 "$folder/generated.c" || fail 'no program was generated'
 
 echo 'int main(void) { return 42; }' >"$folder/one.c"
 cat >"$folder/four.c" <<'END'
@@ -60,10 +60,10 @@ END
 
 compared=0
 for source in "$folder/squares.c" "$folder/generated.c" examples/*.c; do
-    "$compiler" build "$source" "$folder/wanted.elf" || fail "the build of $source failed"
+    "$program" build "$source" "$folder/wanted.elf" || fail "the build of $source failed"
     for workers in 1 2 8 64; do
         for time in $(seq 20); do
-            "$compiler" build "$source" "$folder/image.elf" --workers "$workers" || fail "the build of $source by $workers failed"
+            "$program" build "$source" "$folder/image.elf" --workers "$workers" || fail "the build of $source by $workers failed"
             cmp "$folder/wanted.elf" "$folder/image.elf" || fail "the image of $source by $workers differs"
             compared=$((compared + 1))
         done
@@ -86,27 +86,39 @@ void *realloc(void *old, size_t size) { return is_refused() ? NULL : __libc_real
 END
 gcc -O1 -shared -fPIC -o "$folder/refuse.so" "$folder/refuse.c" || fail 'gcc refused the library'
 
+# refuse NAME WORKERS [REPORT]: refuses each allocation of that build in turn.
+refuse() {
+    set -- "$1" "$2" ${3:+--report "$3"}
+    "$program" build "$folder/$1.c" "$folder/wanted.elf" 2>"$folder/wanted" ${3:+"$3" "$4"} || fail "the build of $1 failed"
+    number=1
+    while :; do
+        rm -f "$folder/image.elf"
+        REFUSED=$number LD_PRELOAD=$folder/refuse.so "$program" build "$folder/$1.c" "$folder/image.elf" \
+            --workers "$2" ${3:+"$3" "$4"} 2>"$folder/report" 9>"$folder/refused"
+        status=$?
+        where="$* without allocation $number"
+        case "$status $(cat "$folder/report")" in
+            "0 $(cat "$folder/wanted")") cmp "$folder/wanted.elf" "$folder/image.elf" || fail "the image differs: $where" ;;
+            '6 memory')
+                [ ! -e "$folder/image.elf" ] || { [ $# -gt 2 ] && cmp "$folder/wanted.elf" "$folder/image.elf"; } \
+                    || fail "a file was made: $where"
+                ;;
+            '2 read fault' | '3 write fault') [ ! -e "$folder/image.elf" ] || fail "a file was made: $where" ;;
+            *) fail "status $status: $where" ;;
+        esac
+        [ -s "$folder/refused" ] || break
+        number=$((number + 1))
+    done
+    [ "$status" -eq 0 ] || fail "no build ended without a refusal: $*"
+    refused=$((refused + number - 1))
+}
+
 refused=0
 for source in one four chain squares; do
-    "$compiler" build "$folder/$source.c" "$folder/wanted.elf" || fail "the build of $source failed"
     for workers in 1 2; do
-        number=1
-        while :; do
-            rm -f "$folder/image.elf"
-            REFUSED=$number LD_PRELOAD=$folder/refuse.so "$compiler" build "$folder/$source.c" "$folder/image.elf" \
-                --workers "$workers" 2>"$folder/report" 9>"$folder/refused"
-            status=$?
-            where="$source by $workers without allocation $number"
-            case "$status $(cat "$folder/report")" in
-                '0 ') cmp "$folder/wanted.elf" "$folder/image.elf" || fail "the image differs: $where" ;;
-                '6 memory' | '2 read fault' | '3 write fault') [ ! -e "$folder/image.elf" ] || fail "a file was made: $where" ;;
-                *) fail "status $status: $where" ;;
-            esac
-            [ -s "$folder/refused" ] || break
-            number=$((number + 1))
+        for report in '' count log; do
+            refuse "$source" "$workers" "$report"
         done
-        [ "$status" -eq 0 ] || fail "no build ended without a refusal: $source by $workers"
-        refused=$((refused + number - 1))
     done
 done
 echo "$script: $compared images are the same; $refused builds without an allocation end as they should"
