@@ -6,8 +6,9 @@ use Rattle.std.proofs.lemmas.Bool.{cases_Bool}
 use Rattle.std.proofs.lemmas.Bool.Decides.{nat_tests}
 use Rattle.std.proofs.lemmas.List.{length-map, take_all, drop_all, append-nil, same_lists}
 use Rattle.g_graph.specs.WellFormed.{some_of}
-use Rattle.s_linear.proofs.lemmas.Numbers.{length_numbers}
-use Rattle.s_linear.specs.Lines.{Line, line_names, numbers_from}
+use Rattle.val_core.proofs.lemmas.Numbers.{length_numbers}
+use Rattle.s_linear.specs.Lines.{Line, line_names}
+use Rattle.val_core.specs.Numbers.{numbers_from}
 use Rattle.s_linear.specs.Views.{line_of}
 use Rattle.s_linear.specs.declared.line.Line as code_line
 use Rattle.a_place.specs.Places.{among, occurs, first, last, above, name_count}

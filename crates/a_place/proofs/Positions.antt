@@ -1,8 +1,9 @@
 -- The names of a position, with their intervals as the code has them.
 use Rattle.std.proofs.Common.{◌≡◌, ◌<◌, ℕ, ◌+◌, List, map, length, get_or, ap, sym, ◌∙◌, subst, arith}
 use Rattle.std.proofs.lemmas.List.{length-map}
-use Rattle.s_linear.proofs.lemmas.Numbers.{length_numbers}
-use Rattle.s_linear.specs.Lines.{Line, numbers_from}
+use Rattle.val_core.proofs.lemmas.Numbers.{length_numbers}
+use Rattle.s_linear.specs.Lines.{Line}
+use Rattle.val_core.specs.Numbers.{numbers_from}
 use Rattle.s_linear.specs.Views.{line_of}
 use Rattle.s_linear.specs.declared.line.Line as code_line
 use Rattle.a_place.specs.Places.{name_count, starting, given}
@@ -10,7 +11,7 @@ use Rattle.a_place.specs.Sweep.{IsSweepAt, AllStartAt, span_of, spans_of, given_
 use Rattle.a_place.specs.declared.spans.Span.{Span}
 use Rattle.a_place.specs.declared.sweep.Sweep.{Sweep}
 use Rattle.a_place.proofs.Order.{get_numbers}
-use Rattle.a_place.proofs.Starting.{starting_below, starting_last, all_start, given_more}
+use Rattle.a_place.proofs.lemmas.Starting.{starting_below, starting_last, all_start, given_more}
 
 pub length_spans : (lines : List Line) (spans : List Span) → spans ≡ spans_of lines → length spans ≡ name_count lines
 length_spans lines spans e = ap length e ∙ length-map (numbers_from 0 (name_count lines)) (span_of lines) ∙ length_numbers 0 (name_count lines)

@@ -9,13 +9,14 @@ use Rattle.std.proofs.lemmas.Grind.{same_number_lists}
 use Rattle.std.proofs.lemmas.List.{get_or-set_same, get_or-set_other, length-map, take_more}
 use Rattle.std.proofs.lemmas.Bool.Decides.{nat_tests}
 use Rattle.g_graph.specs.WellFormed.{some_of}
-use Rattle.s_linear.proofs.lemmas.Numbers.{length_numbers}
-use Rattle.s_linear.specs.Lines.{Line, numbers_from}
+use Rattle.val_core.proofs.lemmas.Numbers.{length_numbers}
+use Rattle.s_linear.specs.Lines.{Line}
+use Rattle.val_core.specs.Numbers.{numbers_from}
 use Rattle.a_place.specs.Places.{first, last, name_count, Given, held, least, count_of, place_for, given, place_in}
 use Rattle.a_place.specs.Sweep.{held_at, IsSweepAt, TakesFree, TakesNext}
 use Rattle.a_place.specs.declared.sweep.Sweep.{Sweep}
 use Rattle.a_place.proofs.Sweeping.{given_append, least_is, least_none, held_now, free_after, started_after}
-use Rattle.a_place.proofs.Apart.{place_free}
+use Rattle.a_place.proofs.lemmas.Apart.{place_free}
 use Rattle.a_place.proofs.Order.{get_numbers}
 
 pub ended : (lines : List Line) (i : ℕ) (gs : List Given) (old new : Sweep) → new.of ≡ old.of → new.count ≡ old.count → new.ends ≡ old.ends

@@ -6,7 +6,7 @@ use Rattle.std.proofs.lemmas.Bool.Decides.{nat_tests}
 use Rattle.s_linear.specs.Lines.{Line}
 use Rattle.a_place.specs.Places.{first, last, overlap, Given, held, least, count_of, place_for, given}
 use Rattle.a_place.specs.Sweep.{held_at, ends_at, AllStarted, AllFree}
-use Rattle.a_place.proofs.Apart.{not_first}
+use Rattle.a_place.proofs.lemmas.Apart.{not_first}
 
 -- ---- the least place that is not held
 

@@ -6,7 +6,8 @@ use Rattle.val_core.specs.Objects.{address_in, opened}
 use Rattle.val_core.specs.Answers.{Returned, Cut, Undefined, then_on, active}
 use Rattle.g_graph.specs.Plain.{PlainObject, shapes_of}
 use Rattle.s_linear.specs.Linear.{Instr, const, undef, object_address, global_address, binary, unary, load, store, clear, equal_pointers, move, call, put, get, exit, Step, plain, choice, loop, Code, no_steps, step_then, Codes, no_codes, code_then, LinearFunction}
-use Rattle.s_linear.specs.Lines.{numbers_from, lines}
+use Rattle.s_linear.specs.Lines.{lines}
+use Rattle.val_core.specs.Numbers.{numbers_from}
 use Rattle.s_linear.specs.Meaning.{Call, no_names, written, code_run, first_names}
 use Rattle.a_place.specs.Places.{places}
 

@@ -4,7 +4,8 @@ use Rattle.std.specs.Prelude.{ℕ, zero, suc, ◌==◌, nat_le, Bool, ◌&&◌, 
 use Rattle.std.specs.List.{flat_map}
 use Rattle.g_graph.specs.WellFormed.{some_of}
 use Rattle.s_linear.specs.Frame.{PlainPlaces}
-use Rattle.s_linear.specs.Lines.{Line, line_names, numbers_from}
+use Rattle.s_linear.specs.Lines.{Line, line_names}
+use Rattle.val_core.specs.Numbers.{numbers_from}
 
 -- x is one of these numbers
 abbrev pub among : ℕ → List ℕ → Bool

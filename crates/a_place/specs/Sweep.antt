@@ -5,7 +5,8 @@ use Rattle.std.specs.BTreeSet.{contains}
 use Rattle.std.specs.Ordering.{nat_cmp}
 use Rattle.std.specs.List.{flat_map}
 use Rattle.g_graph.specs.WellFormed.{some_of}
-use Rattle.s_linear.specs.Lines.{Line, numbers_from}
+use Rattle.s_linear.specs.Lines.{Line}
+use Rattle.val_core.specs.Numbers.{numbers_from}
 use Rattle.a_place.specs.Places.{occurs, first, last, name_count, starting, Given, held, count_of, given, place_in}
 use Rattle.a_place.specs.declared.spans.Span.{Span}
 use Rattle.a_place.specs.declared.sweep.Sweep.{Sweep}

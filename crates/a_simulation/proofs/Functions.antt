@@ -9,9 +9,10 @@ use Rattle.val_core.specs.Objects.{address_in, opened}
 use Rattle.val_core.specs.Answers.{Answer, Returned, Cut, Exited, Undefined, before, then_on, active}
 use Rattle.g_mean.specs.Copies.{Same}
 use Rattle.s_linear.specs.Linear.{LinearFunction}
-use Rattle.s_linear.specs.Lines.{enter, leave, code_lines, numbers_from, lines}
+use Rattle.s_linear.specs.Lines.{enter, leave, code_lines, lines}
+use Rattle.val_core.specs.Numbers.{numbers_from}
 use Rattle.s_linear.specs.Meaning.{State, Context, Call, no_names, written, code_run, first_names, entered, calls}
-use Rattle.a_place.proofs.Apart.{overlapping_names_differ}
+use Rattle.a_place.proofs.lemmas.Apart.{overlapping_names_differ}
 use Rattle.a_place.specs.Placed.{placed_code, place_of, placed, put_params, placed_entered}
 use Rattle.s_simulation.specs.Closed.{NameSet, after_code, FunctionIsClosed}
 use Rattle.a_simulation.specs.Need.{IsIn, these, needed_by_code, SafeCode}

@@ -1,7 +1,6 @@
+pub mod lemmas
 pub mod MachineLemmas
-pub mod AnswerLemmas
 pub mod CountLemmas
 pub mod JobStateLemmas
-pub mod KeptLemmas
 pub mod ResultLemmas
 pub mod OpenLemmas

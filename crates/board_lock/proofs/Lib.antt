@@ -1,5 +1,5 @@
+pub mod lemmas
 pub mod QueueLemmas
-pub mod ViewLemmas
 pub mod StepLemmas
 pub mod SeatLemmas
 pub mod PartLemmas

@@ -16,7 +16,7 @@ use Rattle.board_lock.specs.Rule.{opening, with_events, Holds, spent, ticket_of,
 use Rattle.board_lock.specs.Seats.{sitting_of, first_view, Closes}
 use Rattle.board_lock.specs.Steps.{splitter, newcomer, taking_in}
 use Rattle.board_lock.proofs.QueueLemmas.{pushes-none}
-use Rattle.board_lock.proofs.ViewLemmas.{one-at, set-there, grown-same, tickets-set, not-spent, all-taken-stay, all-taken-stays, each-stays, placed-stays, spents-set, spents-same, weight-some, two-left, Counts}
+use Rattle.board_lock.proofs.lemmas.Views.{one-at, set-there, grown-same, tickets-set, not-spent, all-taken-stay, all-taken-stays, each-stays, placed-stays, spents-set, spents-same, weight-some, two-left, Counts}
 use Rattle.board_lock.proofs.StepLemmas.{known-at, same-workers}
 
 single : {A : Type 0} (x : A) (i : ℕ) (a : A) → get_elem? (x ∷ []) i ≡ some a → (i ≡ 0) × (x ≡ a)

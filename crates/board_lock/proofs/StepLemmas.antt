@@ -15,7 +15,7 @@ use Rattle.board_lock.specs.declared.view.View.{View}
 use Rattle.board_lock.specs.Rule.{opening, with_events, IsBeginning, spent, ticket_of, IsQueue, IsKnown, IsOut, IsPlaced, IsOneHistory}
 use Rattle.board_lock.specs.Steps.{Part, moved, waiting, on_turn, noted, rested, compared, draws, looks, notes, leaves, Compares, compares}
 use Rattle.board_lock.proofs.QueueLemmas.{draws-ticket, leaves-ticket}
-use Rattle.board_lock.proofs.ViewLemmas.{inside-of, one-at, set-there, begins-all, beginnings-meet, own-event, IsGrown, grown-same, grown-event, begins-grown, tickets-set, not-spent, all-taken-stay, all-taken-stays, each-stays, placed-stays, counts-stay}
+use Rattle.board_lock.proofs.lemmas.Views.{inside-of, one-at, set-there, begins-all, beginnings-meet, own-event, IsGrown, grown-same, grown-event, begins-grown, tickets-set, not-spent, all-taken-stay, all-taken-stays, each-stays, placed-stays, counts-stay}
 
 pub same-workers : {W : Type 0} (a b : History W) → Some (opening a) ≡ Some (opening b) → a.workers ≡ b.workers
 same-workers {W = W} a b same = let is : opening a ≡ opening b = cc in ap (λ (h : History W). h.workers) is

@@ -5,11 +5,11 @@ use Rattle.std.specs.List.{filter_map, cons_option}
 use Rattle.std.proofs.lemmas.List.{map-append, append-nil}
 use Rattle.std.proofs.lemmas.List.Elements.{filter_map-append}
 use Rattle.board_core.specs.declared.event.Event.{Event}
-use Rattle.board_core.specs.Answers.{IsRanked, answer}
-use Rattle.board_core.specs.Board.{Job, Open, Held, Out, Program, job_at, result_of, replay, IsLegal}
+use Rattle.board_core.specs.Answers.{IsRanked}
+use Rattle.board_core.specs.Board.{Job, Open, Held, Out, Program, result_of, replay, IsLegal}
 use Rattle.board_core.specs.Calls.{AllOut}
 use Rattle.board_core.specs.Laws.{ResultsAreAnswers}
-use Rattle.board_core.proofs.AnswerLemmas.{sound-replay}
+use Rattle.board_core.proofs.lemmas.Answers.{sound-replay}
 use Rattle.board_one.specs.Alone.{AreResults}
 
 -- ---- those that are there

@@ -1,5 +1,5 @@
 -- Lists of workers that grow and shrink, and what a split makes of the first seat.
-use Rattle.std.proofs.Common.{◌≡◌, ℕ, zero, suc, ◌+◌, ◌<◌, ◌≤◌, false, Option, Some, None, List, [], ◌∷◌, ◌++◌, length, remove, slice_index_or, vec_capacity, arith, refl, sym, ap, ◌∙◌, subst}
+use Rattle.std.proofs.Common.{◌≡◌, ℕ, zero, suc, ◌+◌, ◌<◌, ◌≤◌, Option, None, List, [], ◌∷◌, ◌++◌, length, remove, slice_index_or, vec_capacity, arith, refl, sym, ap, ◌∙◌, subst}
 use Rattle.std.proofs.lemmas.List.{append-nil, length-append}
 use Rattle.atomic_table.specs.Seated.{TableId}
 use Rattle.atomic_table.specs.declared.shared.Seat.{Seat}
@@ -10,10 +10,10 @@ use Rattle.board_laws.specs.OwnEvents.{held_from}
 use Rattle.board_lock.specs.declared.view.View.{View}
 use Rattle.board_lock.specs.Rule.{opening, IsBeginning}
 use Rattle.board_lock.specs.Seats.{Sitting, sitting, IsSeatOf, TakesIn, Closes, split_from}
-use Rattle.board_lock.proofs.ViewLemmas.{begins-longer}
+use Rattle.board_lock.proofs.lemmas.Views.{begins-longer}
 use Rattle.board_work.proofs.SeatLemmas.{same-opening}
 use Rattle.board_work.specs.Crews.{IsMember, IsCrew, IsTakingIn, first_with}
-use Rattle.board_work.specs.Workers.{Each, WorkerFor, IsResting}
+use Rattle.board_work.specs.Workers.{Each, WorkerFor}
 
 -- ---- what holds of each element, with its position
 

@@ -165,7 +165,7 @@ fn choose<W: Work>(
 // Whether one that sleeps has something to do after a turn with this answer: a job is ready, or
 // there is nothing to wait for any more.
 //
-// Nobody sleeps on while there is. Who sleeps was told to wait in a turn that left no job ready,
+// Nobody sleeps on while there is. Who sleeps was answered `Wait` in a turn that left no job ready,
 // and fell asleep while the history was as long as it was then, so nothing had happened since. What
 // makes a job ready, the last job out or a stop is an event of a later turn, and that turn wakes
 // one of those who sleep. Who is woken takes a turn, of which the same holds.

@@ -28,8 +28,8 @@ use Rattle.c_ast.specs.Productions as production
 use Rattle.c_ast.specs.Specifiers.{spec_tree}
 use Rattle.c_ast.specs.Spelling.{spelled, first_offset, start_of}
 use Rattle.c_ast.specs.Tree.{Tree, Node, Nil, Cons}
-use Rattle.c_ast.proofs.ExprViews.{tree-Name, tree-Number, tree-Char, tree-Text, tree-Paren, tree-Increment, tree-Unary, tree-Sizeof, tree-SizeofType, tree-Cast, tree-Index, tree-Call, tree-Select, tree-PostIncrement, tree-Binary, tree-Conditional, tree-Assign}
-use Rattle.c_ast.proofs.InitViews.{tree-Value, tree-List}
+use Rattle.c_ast.proofs.lemmas.ExprViews.{tree-Name, tree-Number, tree-Char, tree-Text, tree-Paren, tree-Increment, tree-Unary, tree-Sizeof, tree-SizeofType, tree-Cast, tree-Index, tree-Call, tree-Select, tree-PostIncrement, tree-Binary, tree-Conditional, tree-Assign}
+use Rattle.c_ast.proofs.lemmas.InitViews.{tree-Value, tree-List}
 use Rattle.c_ast.proofs.lemmas.Spelling.{spelled_append}
 
 first_append : (xs ys : List Token) (n : ℕ) → first_offset xs ≡ Some n → first_offset (xs ++ ys) ≡ Some n

@@ -1,1 +1,5 @@
 pub mod Spelling
+pub mod ExprViews
+pub mod InitViews
+pub mod Lists
+pub mod StmtViews

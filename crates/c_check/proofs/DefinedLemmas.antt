@@ -17,8 +17,8 @@ use Rattle.c_ast.specs.Nodes.{many}
 use Rattle.c_ast.specs.Productions as l
 use Rattle.c_ast.specs.Statements.{block_tree}
 use Rattle.c_ast.specs.Tree.{Tree}
-use Rattle.c_ast.proofs.ListLemmas.{many-none}
-use Rattle.c_expression.proofs.ListLemmas.{many_next}
+use Rattle.c_ast.proofs.lemmas.Lists.{many-none}
+use Rattle.c_expression.proofs.lemmas.Lists.{many_next}
 use Rattle.c_scope.specs.Scopes.{Name}
 use Rattle.c_elaboration.specs.Externals.{is_block}
 use Rattle.c_elaboration.specs.Check.{defined_in, defined_by, defined_after_type, with_defined}

@@ -22,8 +22,8 @@ use Rattle.c_ast.specs.Productions as l
 use Rattle.c_ast.specs.Specifiers.{constant, stars, spec_tree}
 use Rattle.c_ast.specs.Spelling.{spelled, start_of}
 use Rattle.c_ast.specs.Tree.{Tree, Nil}
-use Rattle.c_ast.proofs.ListLemmas.{many-none}
-use Rattle.c_expression.proofs.ListLemmas.{count_many, many_next}
+use Rattle.c_ast.proofs.lemmas.Lists.{many-none}
+use Rattle.c_expression.proofs.lemmas.Lists.{count_many, many_next}
 use Rattle.c_scope.specs.Scopes.{Name}
 use Rattle.c_elaboration.specs.Leaves.{offset_of, name_of, count_of, is_present}
 use Rattle.c_elaboration.specs.State.{State, after}

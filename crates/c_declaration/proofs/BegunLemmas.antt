@@ -8,7 +8,7 @@ use Rattle.c_ast.specs.declared.declaration.Init.TheVariants as e
 use Rattle.c_ast.specs.Productions as l
 use Rattle.c_ast.specs.Tree.{Tree, Leaf, Node, Nil, Cons}
 use Rattle.c_ast.specs.Declarations.{init_tree, inits, ended_by}
-use Rattle.c_ast.proofs.InitViews.{tree-List, inits-none, inits-snoc}
+use Rattle.c_ast.proofs.lemmas.InitViews.{tree-List, inits-none, inits-snoc}
 use Rattle.c_ast.specs.Spelling.{start_of}
 use Rattle.c_typed.specs.Typed.{ElementTrees, no_elements}
 use Rattle.c_elaboration.specs.State.{MaybeType, State, Elaborated, ◌>>=◌, pure, if_some}

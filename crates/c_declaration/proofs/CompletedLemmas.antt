@@ -7,7 +7,7 @@ use Rattle.c_ast.specs.declared.declaration.Init.TheVariants as e
 use Rattle.c_ast.specs.Productions as l
 use Rattle.c_ast.specs.Tree.{Tree, Leaf, Node, Nil, Cons}
 use Rattle.c_ast.specs.Declarations.{init_tree}
-use Rattle.c_ast.proofs.InitViews.{tree-List}
+use Rattle.c_ast.proofs.lemmas.InitViews.{tree-List}
 use Rattle.c_type.specs.Trees.{TypeTree, array_of}
 use Rattle.c_elaboration.specs.Initialisers.{completed_by}
 use Rattle.c_declaration.specs.Parts.{text_in, is_list, text_length}

@@ -9,14 +9,14 @@ use Rattle.c_ast.specs.Declarations as trees
 use Rattle.c_ast.specs.Declarations.{declarator as declarator_tree}
 use Rattle.c_ast.specs.Expressions.{next}
 use Rattle.c_ast.specs.Nodes.{mark}
-use Rattle.c_ast.proofs.ListLemmas.{many-none, many-snoc}
+use Rattle.c_ast.proofs.lemmas.Lists.{many-none, many-snoc}
 use Rattle.c_scope.specs.Scopes.{Name}
 use Rattle.c_elaboration.specs.declared.dimension.Dimension.{Dimension}
 use Rattle.c_elaboration.specs.State.{State}
 use Rattle.c_elaboration.specs.Specifiers.{Specified}
 use Rattle.c_elaboration.specs.Declarators.{open_dimensions, is_fixed, global_declarator, more_globals}
 use Rattle.c_declaration.specs.Globals.{new_global, global_begun, global_sized}
-use Rattle.c_expression.proofs.ListLemmas.{count_many}
+use Rattle.c_expression.proofs.lemmas.Lists.{count_many}
 
 pub begun-sized : (x : Specified) (fixed : Bool) (n k : ℕ) (name : Name) (at : ℕ) (bounds begun : Tree) (s s1 : State) (ds : List Dimension) →
     ds ≡ (open_dimensions bounds s).0 → s1 ≡ (open_dimensions bounds s).1 → global_begun x fixed n k name at bounds begun s ≡ global_sized x fixed n k name at ds begun s1

@@ -12,7 +12,7 @@ use Rattle.c_ast.specs.declared.expression.Expr.TheVariants as e
 use Rattle.c_ast.specs.declared.operator.Selection.{Selection}
 use Rattle.c_ast.specs.declared.operator.Selection.TheVariants as selection
 use Rattle.c_ast.specs.declared.token.Identifier.{Identifier}
-use Rattle.c_ast.proofs.ExprViews.{tree-Select}
+use Rattle.c_ast.proofs.lemmas.ExprViews.{tree-Select}
 use Rattle.c_declaration.specs.Parts.{text_in, is_list}
 use Rattle.c_ast.specs.Declarations.{inits, init_after, comma_after, ended_by}
 use Rattle.c_elaboration.specs.Initialisers.{count_in, is_zero, is_zero_list}

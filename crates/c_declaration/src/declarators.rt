@@ -1,4 +1,4 @@
-#![tactic(auto, using(crate::proofs::DeclarationLemmas::items))]
+#![tactic(auto, using(crate::proofs::lemmas::Declarations::items))]
 
 ghost use Rattle.std.specs.Prelude.{◌≡◌, length, slice_get, IfOk, OnOk};
 ghost use Rattle.c_ast.specs.Declarations.{initializer, open_dimensions as dimension_trees, declarator as declarator_tree, more_declarators as declarator_trees, locals_tree};

@@ -1,4 +1,4 @@
-#![tactic(auto, using(c_ast::proofs::ExprViews::expr_views, crate::proofs::InitLemmas::selections, c_ast::proofs::InitViews::init_views, crate::proofs::InitLemmas::lists))]
+#![tactic(auto, using(c_ast::proofs::lemmas::ExprViews::expr_views, crate::proofs::InitLemmas::selections, c_ast::proofs::lemmas::InitViews::init_views, crate::proofs::InitLemmas::lists))]
 
 ghost use Rattle.std.specs.Prelude.{◌≡◌, IfOk};
 ghost use Rattle.c_ast.specs.Declarations.{init_tree, inits, ended_by};

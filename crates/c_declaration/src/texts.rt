@@ -1,4 +1,4 @@
-#![tactic(auto, using(c_ast::proofs::ExprViews::expr_views, crate::proofs::InitLemmas::selections))]
+#![tactic(auto, using(c_ast::proofs::lemmas::ExprViews::expr_views, crate::proofs::InitLemmas::selections))]
 
 ghost use Rattle.std.specs.Prelude.{◌≡◌, false, IfOk, OnOk};
 ghost use Rattle.c_ast.specs.Expressions.{expr_tree};

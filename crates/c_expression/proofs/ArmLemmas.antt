@@ -21,7 +21,7 @@ use Rattle.c_ast.specs.Tree.{Nil}
 use Rattle.c_ast.specs.Operators.{selection_production, selection_mark, inc_dec_mark, unary_mark, binary_mark, assign_mark}
 use Rattle.c_ast.specs.Productions as l
 use Rattle.c_ast.specs.Expressions.{expr_tree, type_tree, list_children, list_tree, texts}
-use Rattle.c_ast.proofs.ExprViews.{tree-Name, tree-Number, tree-Char, tree-Text, tree-Paren, tree-Increment, tree-Unary, tree-Sizeof, tree-SizeofType, tree-Cast, tree-Index, tree-Call, tree-Select, tree-PostIncrement, tree-Binary, tree-Conditional, tree-Assign}
+use Rattle.c_ast.proofs.lemmas.ExprViews.{tree-Name, tree-Number, tree-Char, tree-Text, tree-Paren, tree-Increment, tree-Unary, tree-Sizeof, tree-SizeofType, tree-Cast, tree-Index, tree-Call, tree-Select, tree-PostIncrement, tree-Binary, tree-Conditional, tree-Assign}
 use Rattle.c_static.specs.Operands.{operand_type}
 use Rattle.c_elaboration.specs.State.{State, after}
 use Rattle.c_elaboration.specs.declared.call.Called.{Called}

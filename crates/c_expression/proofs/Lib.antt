@@ -1,4 +1,4 @@
-pub mod ListLemmas
+pub mod lemmas
 mod LoopLemmas
 mod ShapeLemmas
 mod ArmLemmas

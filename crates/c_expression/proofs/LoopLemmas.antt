@@ -8,14 +8,14 @@ use Rattle.c_ast.specs.Productions as l
 use Rattle.c_ast.specs.Tree.{Tree}
 use Rattle.c_ast.specs.Nodes.{many}
 use Rattle.c_ast.specs.Expressions.{expr_tree, next, dimension_children}
-use Rattle.c_ast.proofs.ListLemmas.{many-none}
+use Rattle.c_ast.proofs.lemmas.Lists.{many-none}
 use Rattle.c_elaboration.specs.State.{State, after}
 use Rattle.c_elaboration.specs.Leaves.{begin_of}
 use Rattle.c_elaboration.specs.DeclaredTypes.{MaybeSize}
 use Rattle.c_elaboration.specs.Operands.{Term, Sequence, comma}
 use Rattle.c_elaboration.specs.Expressions.{expression, more_expressions, more_arguments, dimensions, size}
 use Rattle.c_state.specs.Frames.{KeepsDeclarations}
-use Rattle.c_expression.proofs.ListLemmas.{many_next}
+use Rattle.c_expression.proofs.lemmas.Lists.{many_next}
 
 pub keeps_both : (s t u : State) → KeepsDeclarations s t → KeepsDeclarations t u → KeepsDeclarations s u
 keeps_both s t u h k = (k.0 ∙ h.0, k.1 ∙ h.1)

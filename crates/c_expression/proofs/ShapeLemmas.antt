@@ -9,7 +9,7 @@ use Rattle.c_ast.specs.declared.operator.Selection.{Selection}
 use Rattle.c_ast.specs.declared.operator.Selection.TheVariants as selection
 use Rattle.c_ast.specs.declared.token.Identifier.{Identifier}
 use Rattle.c_ast.specs.declared.token.Span.{Span}
-use Rattle.c_ast.proofs.ExprViews.{tree-Select}
+use Rattle.c_ast.proofs.lemmas.ExprViews.{tree-Select}
 use Rattle.c_ast.specs.Operators.{selection_production}
 use Rattle.c_ast.specs.Expressions.{expr_tree, expr_step, dimension_step, list_step, type_step}
 use Rattle.std.specs.Prelude.{List}

@@ -42,7 +42,7 @@ fn some_arguments(state: &mut State, xs: &ExprList) -> Result<Vec<Term>, NoMemor
 
 // The arguments after commas, after others.
 #[cycle(expression)]
-#[tactic(auto, using(crate::proofs::ListLemmas::grows))]
+#[tactic(auto, using(crate::proofs::lemmas::Lists::grows))]
 fn more_arguments(
     state: &mut State,
     before: Vec<Term>,

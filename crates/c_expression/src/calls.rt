@@ -64,7 +64,7 @@ fn other_function(state: &mut State, function: &Expr) -> Result<Called, NoMemory
 }
 
 // The name that an expression is.
-#[tactic(auto, using(c_ast::proofs::ExprViews::expr_views, crate::proofs::ShapeLemmas::select_unnamed))]
+#[tactic(auto, using(c_ast::proofs::lemmas::ExprViews::expr_views, crate::proofs::ShapeLemmas::select_unnamed))]
 fn name_in(e: &Expr) -> Option<&Identifier>
     ensures { MatchOption result (is_name (expr_tree e.now) ≡ false)
         (λ i. expr_tree e.now ≡ node l.Name (name i.now ∷ [])) }

@@ -27,7 +27,7 @@ pub fn comma_expression(state: &mut State, es: &ExprList) -> Result<Term, NoMemo
 
 // The expressions after commas.
 #[cycle(expression)]
-#[tactic(auto, using(crate::proofs::ListLemmas::grows))]
+#[tactic(auto, using(crate::proofs::lemmas::Lists::grows))]
 fn more_expressions(
     state: &mut State,
     first: Option<Sequence>,

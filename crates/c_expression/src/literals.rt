@@ -25,7 +25,7 @@ pub(crate) fn text(state: &mut State, first: &Literal, more: &[Literal]) -> Resu
 
 /// The characters of neighbouring string literals, one after another (ISO/IEC 9899:2011,
 /// 5.1.1.2p1).
-#[tactic(auto, using(crate::proofs::ListLemmas::grows))]
+#[tactic(auto, using(crate::proofs::lemmas::Lists::grows))]
 pub fn characters(alloc: Global, first: &Literal, more: &[Literal]) -> Result<Bytes, NoMemory>
     ensures { IfOk result
         (λ r. r ≡ first.now.bytes ++ more_characters (texts more.now)) }

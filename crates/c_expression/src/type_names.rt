@@ -16,7 +16,7 @@ use no_memory::NoMemory;
 
 /// The type that a type name names (ISO/IEC 9899:2011, 6.7.7).
 #[cycle(expression)]
-#[tactic(auto, using(crate::proofs::ListLemmas::counts), unfolding(c_ast::specs::Expressions::type_tree))]
+#[tactic(auto, using(crate::proofs::lemmas::Lists::counts), unfolding(c_ast::specs::Expressions::type_tree))]
 pub fn type_name(state: &mut State, t: &TypeName) -> Result<MaybeType, NoMemory>
     ensures value { IfOk result (λ r. r ≡ (type_name (type_tree t.now) state.old).0) }
     ensures state { OnOk result (state.new ≡ (type_name (type_tree t.now) state.old).1) }
@@ -46,7 +46,7 @@ fn begin(qualifier: Option<Span>, spec: &Spec) -> u32
 
 /// The sizes that the dimensions of an array give (6.7.6.2), each none where it breaks a rule.
 #[cycle(expression)]
-#[tactic(auto, using(crate::proofs::ListLemmas::grows))]
+#[tactic(auto, using(crate::proofs::lemmas::Lists::grows))]
 pub fn dimensions(state: &mut State, ds: &[Dimension]) -> Result<Vec<Option<u32>>, NoMemory>
     ensures value { IfOk result
         (λ r. r.items ≡ (dimensions (dimension_trees ds.now) state.old).0) }

@@ -11,7 +11,7 @@ use Rattle.c_lex.specs.declared.token.TokenKind.TheVariants as kind
 use Rattle.c_ast.specs.Terminals.{Terminal, is}
 use Rattle.c_ast.specs.Grammar.{Symbol, T, N, symbols_of, allowed}
 use Rattle.c_grammar.specs.PredictSets.{at, start, next, begins_type}
-use Rattle.c_grammar.proofs.Lists.{In, all_in, all_kept, in_kept, refuted, conj3, conj5, kept}
+use Rattle.c_grammar.proofs.lemmas.Lists.{In, all_in, all_kept, in_kept, refuted, conj3, conj5, kept}
 use Rattle.c_grammar.proofs.Enumerations.{Payload, same_if_else, kinds, heads, labels, nonterminals, payload, head_payload, same_production, kind_in, head_in, flag_in, production_in, nonterminal_in, same_production-true}
 use Rattle.c_grammar.proofs.Follow.{first_nonterminal, without_front, is_suffix, front, rest_of, is_read, is_nullable, all_nullable, begins, ahead, follows_kind, follows, is_else, ends, precedence}
 use Rattle.c_grammar.proofs.Checks.{good_start, good_next, sits, good_begin, begins_checked, good_look, takes_it, same_choice, looks_checked, good_ranks, ranks_checked, stops, is_choice, alternatives, suffixes, read_nonterminals, flags, good_row, is_nonterminal, starts_checked, nexts_checked, stops_checked, chosen_checked, inner_checked, ends_checked, before_checked, rows_checked, firsts_checked, nonempty_checked, tails_checked, goes, ifs_checked, elses_checked}

@@ -9,7 +9,7 @@ use Rattle.c_ast.specs.Productions as production
 use Rattle.c_ast.specs.Terminals.{is, keyword_number, mark_number, is_of_level, operator_level, is_assign_mark, is_unary_mark, is_inc_dec_mark}
 use Rattle.c_ast.specs.Grammar.{Symbol, T, N, rule, symbols_of, allowed, repeated, optional, tighter}
 use Rattle.c_grammar.specs.PredictSets.{at, begins_base, begins_type, begins_external, begins_expr, begins_init, keyword_stmt, stmt, item, base, plain_spec, spec, external, after_tag, group_label, parenthesis, operand_mark, operand, initialiser, begins_optional, start, begins_repeated, mark_suffix, suffix, left, operation, operand_next, init_next, stmt_next, next}
-use Rattle.c_grammar.proofs.Lists.{kept}
+use Rattle.c_grammar.proofs.lemmas.Lists.{kept}
 use Rattle.c_grammar.proofs.Enumerations.{Payload, kinds, heads, labels, nonterminals, production_number, same_production}
 use Rattle.c_grammar.proofs.Follow.{is_suffix, front, rest_of, is_read, is_nullable, all_nullable, begins, ahead, follows_kind, follows, is_else, ends, precedence}
 

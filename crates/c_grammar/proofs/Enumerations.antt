@@ -7,10 +7,10 @@ use Rattle.c_lex.specs.declared.punct.Punct.TheVariants as mark
 use Rattle.c_lex.specs.declared.token.TokenKind.{TokenKind}
 use Rattle.c_lex.specs.declared.token.TokenKind.TheVariants as kind
 use Rattle.c_ast.specs.Nonterminals.{Nonterminal, Many, Opt, External, AfterTag, AfterType, AfterName, Body, Members, Member, Locals, Decl, Init, InitItems, InitEnded, InitOpen, Param, Spec, PlainSpec, Base, TypeName, Block, Item, Stmt, IfPart, ForFirst, Group, GroupLabel, Expr, Assign, Cond, Binary, Cast, Unary, SizeofOperand, Postfix, level_number, repeated_number, optional_number}
-use Rattle.c_ast.specs.Productions.{Level, Repeated, Optional, Production}
+use Rattle.c_ast.specs.Productions.{Production}
 use Rattle.c_ast.specs.Productions as production
 use Rattle.c_ast.specs.Terminals.{keyword_number, mark_number}
-use Rattle.c_grammar.proofs.Lists.{In, nth, in_nth, in_map}
+use Rattle.c_grammar.proofs.lemmas.Lists.{In, nth, in_nth, in_map}
 
 -- ---- tokens
 

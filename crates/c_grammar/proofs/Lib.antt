@@ -1,3 +1,4 @@
+pub mod lemmas
 pub mod Bridges
 pub mod Checks
 pub mod Complete
@@ -5,10 +6,7 @@ pub mod Enough
 pub mod Enumerations
 pub mod Firsts
 pub mod Follow
-pub mod GrammarLaws
-pub mod Lists
 pub mod Local
-pub mod Spans
 pub mod Samples
 pub mod Small
 pub mod Sound

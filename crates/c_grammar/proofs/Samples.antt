@@ -9,12 +9,12 @@ use Rattle.c_lex.specs.declared.token.Token.{Token}
 use Rattle.c_lex.specs.declared.token.TokenKind.{TokenKind}
 use Rattle.c_lex.specs.declared.token.TokenKind.TheVariants as kind
 use Rattle.c_ast.specs.Nonterminals.{Nonterminal, Many, Opt, External, AfterTag, AfterType, AfterName, Body, Members, Member, Locals, Decl, InitItems, InitEnded, InitOpen, Param, Spec, PlainSpec, Base, TypeName, Block, Item, Stmt, IfPart, ForFirst, Group, GroupLabel, Expr, includes, nonterminal_number, level_number, repeated_number, optional_number, same_nonterminal}
-use Rattle.c_ast.specs.Productions.{Level, Production}
+use Rattle.c_ast.specs.Productions.{Level}
 use Rattle.c_ast.specs.Productions as production
 use Rattle.c_ast.specs.Terminals.{Terminal, AnyName, AnyNumber, AnyChar, AnyLiteral, ThisKeyword, Mark, SignKeyword, AssignMark, BinaryMark, UnaryMark, IncDecMark, is, keyword_number, mark_number, is_of_level, operator_level, is_assign_mark, is_unary_mark, is_inc_dec_mark}
 use Rattle.c_ast.specs.Tree.{Tree, Leaf, Node, Nil, Cons}
 use Rattle.c_ast.specs.Grammar.{Symbol, T, N, Form, One, All, Fits, rule, symbols_of, allowed, waits, else_fits, repeated, optional, tighter}
-use Rattle.c_grammar.proofs.Lists.{all_in, conj3}
+use Rattle.c_grammar.proofs.lemmas.Lists.{all_in, conj3}
 use Rattle.c_grammar.proofs.Enumerations.{nonterminals, nonterminal_in}
 use Rattle.c_grammar.proofs.Trees.{fits_nil, fits_leaf, fits_cons}
 

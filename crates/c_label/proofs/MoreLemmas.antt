@@ -2,10 +2,9 @@
 use Rattle.std.proofs.Common.{◌≡◌, ◌<◌, ℕ, ◌+◌, List, [], ◌∷◌, length, take, get_or, sym, ap, ◌∙◌}
 use Rattle.c_ast.specs.declared.statement.Label.{Label}
 use Rattle.c_ast.specs.Productions as l
-use Rattle.c_ast.specs.Tree.{Tree}
 use Rattle.c_ast.specs.Statements.{label_tree, labels_tree}
-use Rattle.c_ast.proofs.ListLemmas.{many-none}
-use Rattle.c_expression.proofs.ListLemmas.{many_next}
+use Rattle.c_ast.proofs.lemmas.Lists.{many-none}
+use Rattle.c_expression.proofs.lemmas.Lists.{many_next}
 use Rattle.c_elaboration.specs.State.{State, after}
 use Rattle.c_elaboration.specs.Statements.{Labels, label, more_labels}
 

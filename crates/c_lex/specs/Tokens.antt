@@ -10,7 +10,7 @@ use Rattle.c_lex.specs.declared.lexeme.Lexeme.{Lexeme}
 use Rattle.c_lex.specs.declared.lexeme.Lexeme.TheVariants as lexeme
 use Rattle.c_lex.specs.declared.token.Token.{Token}
 
--- Behind 200,000 tokens one more is a fault, which comes before that of a bad number.
+-- After 200,000 tokens one more is a fault, which comes before that of a bad number.
 abbrev pub counted : ℕ → ℕ → Result Lexeme LexFault → Result Lexeme LexFault
 counted count at (Ok (lexeme.Token k n)) = if nat_lt count most_tokens then Ok (lexeme.Token k n) else Err (ManyTokens at)
 counted count at (Err (BadNumber p)) = if nat_lt count most_tokens then Err (BadNumber p) else Err (ManyTokens at)

@@ -1,3 +1,2 @@
-mod Trees
 mod Ended
 mod Undefined

@@ -1,5 +1,5 @@
 -- Whether parameters are a lone `void`.
-use Rattle.std.proofs.Common.{◌≡◌, ℕ, ◌==◌, Bool, true, false, List, [], ◌∷◌, ◌++◌, length, fold, Option, None, Some, IsTrue, ◌↔◌, refl, sym, ap, ◌∙◌, arith, eqb-true}
+use Rattle.std.proofs.Common.{◌≡◌, ℕ, ◌==◌, Bool, true, false, List, [], ◌∷◌, ◌++◌, fold, Option, None, Some, IsTrue, ◌↔◌, refl, sym, ap, ◌∙◌, arith, eqb-true}
 use Rattle.std.specs.Prelude.{◌&&◌, if◌then◌else◌}
 use Rattle.std.proofs.lemmas.Bool.{false≢true, and_parts}
 use Rattle.c_lex.specs.declared.punct.Punct.TheVariants as m
@@ -15,14 +15,13 @@ use Rattle.c_ast.specs.declared.token.Identifier.{Identifier}
 use Rattle.c_ast.specs.declared.token.Span.{Span}
 use Rattle.c_ast.specs.Productions as l
 use Rattle.c_ast.specs.Productions.{Repeated}
-use Rattle.c_ast.specs.Tree.{Tree, Leaf, Node, Nil, Cons}
+use Rattle.c_ast.specs.Tree.{Tree, Node, Nil, Cons}
 use Rattle.c_ast.specs.Nodes.{many, one_more, none_of, opt, mark, name}
 use Rattle.c_ast.specs.Expressions.{next}
 use Rattle.c_ast.specs.Specifiers.{constant, base_tree, spec_tree}
 use Rattle.c_ast.specs.Declarations.{open_dimension}
 use Rattle.c_ast.specs.Externals.{AreNone, param as param_tree, params as params_tree}
-use Rattle.c_ast.proofs.ListLemmas.{many-none}
-use Rattle.c_expression.proofs.ListLemmas.{count_many}
+use Rattle.c_expression.proofs.lemmas.Lists.{count_many}
 use Rattle.c_elaboration.specs.Leaves.{count_of}
 use Rattle.c_elaboration.specs.State.{State, pure}
 use Rattle.c_elaboration.specs.Externals.{Param, is_lone_void, param, more_params, params}

@@ -5,7 +5,6 @@ use Rattle.c_lex.specs.declared.punct.Punct.TheVariants as m
 use Rattle.c_ast.specs.declared.external.Param.{Param as ParamItem}
 use Rattle.c_ast.specs.declared.list.Next.{Next}
 use Rattle.c_ast.specs.declared.token.Identifier.{Identifier}
-use Rattle.c_ast.specs.declared.token.Span.{Span}
 use Rattle.c_ast.specs.Productions as l
 use Rattle.c_ast.specs.Tree.{Tree, Nil, Cons}
 use Rattle.c_ast.specs.Nodes.{many, opt, mark, name}
@@ -13,8 +12,8 @@ use Rattle.c_ast.specs.Expressions.{next}
 use Rattle.c_ast.specs.Declarations.{open_dimensions as dimension_trees}
 use Rattle.c_ast.specs.Externals.{param as param_tree}
 use Rattle.c_ast.specs.Specifiers.{constant, spec_tree}
-use Rattle.c_ast.proofs.ListLemmas.{many-none, many-snoc}
-use Rattle.c_expression.proofs.ListLemmas.{count_many}
+use Rattle.c_ast.proofs.lemmas.Lists.{many-none, many-snoc}
+use Rattle.c_expression.proofs.lemmas.Lists.{count_many}
 use Rattle.c_scope.specs.Scopes.{Name}
 use Rattle.c_elaboration.specs.State.{State}
 use Rattle.c_elaboration.specs.Leaves.{begin_of, is_present}

@@ -40,4 +40,4 @@ unfolding begins_repeated begins_external
 external-begins None = refl
 external-begins (Some k) = refl
 
-pub ruleset beginnings = (begins_by, item-begins, external-begins)
+pub ruleset beginnings = (item-begins, external-begins)

@@ -3,7 +3,7 @@ use Rattle.std.proofs.Common.{◌≡◌, ℕ, ◌+◌, ◌-◌, ◌≤◌, ◌<�
 use Rattle.std.specs.List.{sum}
 use Rattle.c_ast.specs.Nesting.{raised, popped, depth_of}
 use Rattle.c_parse.specs.Counters.{below, stack, cleared}
-use Rattle.c_parse.proofs.FirstDeep.{sum-cons}
+use Rattle.c_parse.proofs.lemmas.FirstDeep.{sum-cons}
 
 below_set : (xs : List ℕ) (i n v : ℕ) → n ≤ i → below (set xs i v) n ≡ below xs n
 below_set xs i zero v h = refl

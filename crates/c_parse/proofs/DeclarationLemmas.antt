@@ -4,25 +4,29 @@ use Rattle.c_lex.specs.declared.punct.Punct.TheVariants as m
 use Rattle.c_lex.specs.declared.token.Token.{Token}
 use Rattle.c_lex.specs.declared.token.TokenKind.{TokenKind}
 use Rattle.c_ast.specs.declared.declaration.Init.{Init}
+use Rattle.c_ast.specs.declared.declaration.Locals.{Locals}
 use Rattle.c_ast.specs.declared.list.Next.{Next}
-use Rattle.c_ast.specs.Nonterminals.{Nonterminal, InitItems}
+use Rattle.c_ast.specs.Nonterminals.{Nonterminal, Opt, Many, InitItems}
 use Rattle.c_ast.specs.Nonterminals as nonterminal
 use Rattle.c_ast.specs.Grammar.{symbols_of, rule}
-use Rattle.c_ast.specs.Declarations.{init_tree, inits, init_after}
+use Rattle.c_ast.specs.Declarations.{init_tree, inits, init_after, declarator, more_declarators, locals_tree}
 use Rattle.c_ast.specs.Productions.{Production}
 use Rattle.c_ast.specs.Productions as production
-use Rattle.c_ast.specs.Nodes.{node}
+use Rattle.c_ast.specs.Nodes.{node, mark}
+use Rattle.c_ast.specs.Specifiers.{constant, spec_tree}
 use Rattle.c_ast.specs.Terminals.{Mark, is}
 use Rattle.c_ast.specs.Tree.{Tree}
-use Rattle.c_ast.proofs.InitViews.{init_views}
-use Rattle.c_ast.proofs.ListLemmas.{grows}
-use Rattle.c_grammar.specs.Reader.{ReadResult, Read, and_then, read, first, begun, children, one, turns, later, production_of}
+use Rattle.c_ast.proofs.lemmas.InitViews.{init_views}
+use Rattle.c_ast.proofs.lemmas.Lists.{grows}
+use Rattle.c_grammar.specs.Reader.{ReadResult, Read, and_then, token, read, first, begun, children, one, turns, later, production_of}
 use Rattle.c_grammar.specs.PredictSets.{head, at, start, next, init_next, begins_init, begins_expr}
 use Rattle.c_ast.specs.declared.token.Span.{Span}
 use Rattle.c_parse.specs.declared.declaration.Inits.{Inits}
 use Rattle.c_parse.specs.Made.{inits_tree, more_production}
 use Rattle.c_parse.proofs.ExprLemmas.{turn-none, turn-some, read-steps}
-use Rattle.c_parse.proofs.ReadLemmas.{loops}
+use Rattle.c_parse.proofs.FlatReads.{begun-row}
+use Rattle.c_parse.proofs.PlainReads.{read-locals}
+use Rattle.c_parse.proofs.ReadLemmas.{loops, repeats}
 use Rattle.c_parse.proofs.SameNonterminal.{init-other, init-list}
 
 abbrev comma_next : Option TokenKind → Option Production
@@ -88,3 +92,20 @@ inits-go n i x y ts k b h e d made =
     ∙ ap (λ (o : ReadResult). and_then o (turns (read (n - 1)) (n - (i + 1)) InitItems)) made
 
 pub ruleset declarations = (loops, grows, init_views, read-steps, turn-none, turn-some, next-inits, next-comma, init-begins, init-other, init-list)
+
+-- ---- declarations in blocks
+
+pub locals-read : (n : ℕ) (ts : List Token) → 0 < n →
+    read n nonterminal.Locals ts
+    ≡ and_then (read (n - 1) (Opt production.Constant) ts) (λ q k. and_then (read (n - 1) nonterminal.Spec k) (λ s j.
+    and_then (read (n - 1) nonterminal.Decl j) (λ t i. and_then (read (n - 1) (Many production.MoreDecls) i) (λ u h.
+    and_then (token (Mark m.Semicolon) h) (λ v g. Read (node production.Locals (q ∷ s ∷ t ∷ u ∷ v ∷ [])) g)))))
+unfolding one symbols_of rule
+locals-read n ts h = read-locals n ts h ∙ begun-row (read (n - 1)) production.Locals ts
+
+pub locals-tree : (x : Locals) → locals_tree x ≡
+    node production.Locals (constant x.qualifier ∷ spec_tree x.spec ∷ declarator x.first ∷ more_declarators x.more ∷ mark m.Semicolon x.semicolon ∷ [])
+unfolding locals_tree
+locals-tree x = refl
+
+pub ruleset local_reads = (repeats, locals-read, locals-tree)

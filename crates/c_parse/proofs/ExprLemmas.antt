@@ -19,11 +19,11 @@ use Rattle.c_ast.specs.Productions.{Production}
 use Rattle.c_ast.specs.Operators.{selection_production, selection_mark, inc_dec_mark, unary_mark, binary_mark, binary_level, assign_mark}
 use Rattle.c_ast.specs.Terminals.{Mark, AnyName, BinaryMark, AssignMark, IncDecMark, UnaryMark, is, mark_number, is_inc_dec_mark, is_unary_mark, is_assign_mark, is_of_level, operator_level}
 use Rattle.c_ast.specs.Tree.{Tree, Node, Cons}
-use Rattle.c_ast.proofs.ExprViews.{expr_views}
-use Rattle.c_ast.proofs.ListLemmas.{grows}
+use Rattle.c_ast.proofs.lemmas.ExprViews.{expr_views}
+use Rattle.c_ast.proofs.lemmas.Lists.{grows}
 use Rattle.c_grammar.specs.Reader.{ReadResult, Read, and_then, read, step as reader_step, first, children, turns, goes_on, later, token, production_of}
 use Rattle.c_grammar.specs.PredictSets.{head, next}
-use Rattle.c_parse.proofs.ReadLemmas.{loops, token-as, at_mark, less}
+use Rattle.c_parse.proofs.ReadLemmas.{loops, token-as, less}
 use Rattle.c_parse.proofs.TypeViews.{type-tree}
 use Rattle.c_parse.proofs.SameNonterminal.{sizeof-type, sizeof-other}
 

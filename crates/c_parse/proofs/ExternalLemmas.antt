@@ -8,13 +8,12 @@ use Rattle.c_ast.specs.declared.specifier.Spec.{Spec}
 use Rattle.c_ast.specs.declared.specifier.Spec.TheVariants as spec
 use Rattle.c_ast.specs.Nonterminals.{Block, Body, AfterTag, AfterType}
 use Rattle.c_ast.specs.Externals.{plain_with}
-use Rattle.c_ast.specs.Productions.{Production}
 use Rattle.c_ast.specs.Productions as production
 use Rattle.c_ast.specs.Nodes.{node}
 use Rattle.c_ast.specs.Specifiers.{spec_tree}
 use Rattle.c_ast.specs.Terminals.{Mark, is, mark_number}
 use Rattle.c_ast.specs.Tree.{Tree}
-use Rattle.c_ast.proofs.ListLemmas.{grows}
+use Rattle.c_ast.proofs.lemmas.Lists.{grows}
 use Rattle.c_grammar.specs.Reader.{read}
 use Rattle.c_grammar.specs.PredictSets.{head, typed, at, start, next, after_tag}
 use Rattle.c_parse.specs.Ahead.{is_struct}

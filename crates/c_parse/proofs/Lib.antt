@@ -1,3 +1,4 @@
+pub mod lemmas
 pub mod FlatReads
 pub mod PlainReads
 pub mod Begins
@@ -13,6 +14,5 @@ pub mod SameNonterminal
 pub mod TypeViews
 pub mod AnswerLaws
 pub mod Counters
-pub mod FirstDeep
 pub mod ParserAnswers
 pub mod LeftOutLaws

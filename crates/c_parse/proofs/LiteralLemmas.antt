@@ -13,8 +13,8 @@ use Rattle.c_ast.specs.Grammar.{symbols_of, rule}
 use Rattle.c_ast.specs.Productions as production
 use Rattle.c_ast.specs.Nodes.{leaf}
 use Rattle.c_ast.specs.Terminals.{AnyNumber, AnyChar, AnyLiteral, is}
-use Rattle.c_ast.proofs.ExprViews.{tree-Number, tree-Char}
-use Rattle.c_ast.proofs.ListLemmas.{grows}
+use Rattle.c_ast.proofs.lemmas.ExprViews.{tree-Number, tree-Char}
+use Rattle.c_ast.proofs.lemmas.Lists.{grows}
 use Rattle.c_grammar.specs.Reader.{ReadResult, Read, SyntaxError, token, begun, children, one}
 use Rattle.c_grammar.specs.PredictSets.{head, at}
 use Rattle.c_parse.specs.Reading.{Takes, number_of, char_of, literal_of}

@@ -6,7 +6,7 @@ use Rattle.c_lex.specs.declared.keyword.Keyword.TheVariants as w
 use Rattle.c_lex.specs.declared.punct.Punct.{Punct}
 use Rattle.c_lex.specs.declared.punct.Punct.TheVariants as m
 use Rattle.c_ast.specs.Terminals.{mark_number, keyword_number}
-use Rattle.c_grammar.proofs.Lists.{nth}
+use Rattle.c_grammar.proofs.lemmas.Lists.{nth}
 
 other_words : List Keyword
 other_words =

@@ -10,7 +10,7 @@ use Rattle.c_ast.specs.declared.operator.Selection.{Selection}
 use Rattle.c_ast.specs.declared.operator.Selection.TheVariants as selection
 use Rattle.c_ast.specs.Productions.{Production, Level}
 use Rattle.c_ast.specs.Productions as production
-use Rattle.c_ast.proofs.ExprViews.{expr_views}
+use Rattle.c_ast.proofs.lemmas.ExprViews.{expr_views}
 use Rattle.c_grammar.specs.PredictSets.{start, next, operand, operation, operand_next, suffix as after, left}
 use Rattle.c_parse.specs.declared.operators.Precedence.{Precedence}
 use Rattle.c_parse.specs.declared.operators.Precedence.TheVariants as precedence

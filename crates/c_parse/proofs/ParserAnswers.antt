@@ -13,7 +13,7 @@ use Rattle.c_ast.specs.Tree.{Tree}
 use Rattle.c_grammar.specs.Beginnings.{WrongFrom}
 use Rattle.c_grammar.specs.Laws.{Says}
 use Rattle.c_grammar.specs.Reader.{ReadResult, Read, SyntaxError, OutOfFuel, read}
-use Rattle.c_grammar.proofs.GrammarLaws.{reader_is_exact}
+use Rattle.c_grammar.proofs.lemmas.GrammarLaws.{reader_is_exact}
 use Rattle.c_parse.specs.LeftOut.{first_left_out}
 use Rattle.c_parse.specs.Refusal.{offset_of, Answers}
 use Rattle.c_parse.specs.declared.fault.ParseFault.TheVariants as fault

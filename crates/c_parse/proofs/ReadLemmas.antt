@@ -5,18 +5,20 @@ use Rattle.c_lex.specs.declared.keyword.Keyword.TheVariants as w
 use Rattle.c_lex.specs.declared.name.Name.{Name}
 use Rattle.std.specs.Option.{option_and_then}
 use Rattle.c_lex.specs.declared.punct.Punct.{Punct}
+use Rattle.c_lex.specs.declared.punct.Punct.TheVariants as m
 use Rattle.c_lex.specs.declared.token.Token.{Token}
 use Rattle.c_lex.specs.declared.token.TokenKind.{TokenKind}
 use Rattle.c_lex.specs.declared.token.TokenKind.TheVariants as kind
 use Rattle.c_ast.specs.declared.token.Span.{Span}
-use Rattle.c_ast.specs.Nodes.{mark, word, name, none_of}
+use Rattle.c_ast.specs.Nodes.{node, mark, word, name, none_of}
 use Rattle.c_ast.specs.Terminals.{Terminal, Mark, ThisKeyword, AnyName, SignKeyword, is, mark_number, keyword_number}
 use Rattle.c_ast.specs.Tree.{Tree, Leaf, Node, Cons}
-use Rattle.c_grammar.specs.Reader.{ReadResult, Read, SyntaxError, OutOfFuel, token, and_then, read, step, first, begun, children, turns, goes_on, later}
+use Rattle.c_ast.proofs.lemmas.Lists.{grows}
+use Rattle.c_grammar.specs.Reader.{ReadResult, Read, SyntaxError, OutOfFuel, token, and_then, read, step, first, begun, one, children, turns, goes_on, later}
 use Rattle.c_grammar.specs.PredictSets.{head, at, start, next, begins_repeated}
 use Rattle.c_ast.specs.Nonterminals.{Nonterminal, Many}
 use Rattle.c_ast.specs.Grammar.{symbols_of, rule, repeated}
-use Rattle.c_ast.specs.Productions.{Repeated, More}
+use Rattle.c_ast.specs.Productions.{Repeated, More, Stars}
 use Rattle.c_parse.specs.declared.fault.Fault.{Fault}
 use Rattle.c_parse.specs.declared.fault.Fault.TheVariants as fault
 use Rattle.c_parse.specs.Reading.{Gives, Takes, token_at, name_of}
@@ -165,6 +167,19 @@ pub many-end : (rd : Nonterminal → List Token → ReadResult) (n i : ℕ) (k :
 unfolding turns goes_on next
 many-end rd n i k t ts h e = rw (less n i h, e)
 
+-- one star more
+pub star-on : (rd : Nonterminal → List Token → ReadResult) (n i : ℕ) (t : Tree) (ts : List Token) →
+    i < n → at (is (Mark m.Star)) (head ts) ≡ true →
+    turns rd (n - i) (Many Stars) t ts
+    ≡ and_then (token (Mark m.Star) ts) (λ x k. turns rd (n - (i + 1)) (Many Stars) (node (More Stars) (t ∷ x ∷ [])) k)
+unfolding begins_repeated repeated children one
+star-on rd n i t ts h e = many-on rd n i Stars t ts h e ∙ then-then (token (Mark m.Star) ts) _ _
+
+pub star-end : (rd : Nonterminal → List Token → ReadResult) (n i : ℕ) (t : Tree) (ts : List Token) →
+    i < n → at (is (Mark m.Star)) (head ts) ≡ false → turns rd (n - i) (Many Stars) t ts ≡ Read t ts
+unfolding begins_repeated
+star-end rd n i t ts h e = many-end rd n i Stars t ts h e
+
 pub turns-deep : (rd : Nonterminal → List Token → ReadResult) (n i : ℕ) (c : Nonterminal) (t : Tree) (ts : List Token) →
     n ≤ i → turns rd (n - i) c t ts ≡ OutOfFuel
 unfolding turns
@@ -173,6 +188,8 @@ turns-deep rd n i c t ts h = let e : n - i ≡ 0 = omega arith in rw e
 pub ruleset signs = (token-unsigned, token-signed)
 
 pub ruleset loops = (stepping, many-first, many-on, many-end, turns-deep)
+
+pub ruleset star_loops = (err-then, done-then, read-zero, many-first, star-on, star-end, turns-deep, grows)
 
 -- for nonterminals whose reading is spelled out
 pub ruleset repeats = (err-then, done-then, read-zero, many-first, many-on, many-end, turns-deep)

@@ -10,8 +10,8 @@ use Rattle.c_ast.specs.Productions.{Production}
 use Rattle.c_ast.specs.Productions as production
 use Rattle.c_ast.specs.Terminals.{ThisKeyword, is}
 use Rattle.c_ast.specs.Tree.{Tree, Node, Cons}
-use Rattle.c_ast.proofs.ListLemmas.{grows}
-use Rattle.c_ast.proofs.StmtViews.{stmt_views}
+use Rattle.c_ast.proofs.lemmas.Lists.{grows}
+use Rattle.c_ast.proofs.lemmas.StmtViews.{stmt_views}
 use Rattle.c_grammar.specs.Reader.{ReadResult, Read, SyntaxError, OutOfFuel, and_then, read, first, begun, children, one, turns, goes_on, later, token, production_of}
 use Rattle.c_grammar.specs.PredictSets.{head, typed, at, start, next, stmt, stmt_next, item, begins_type}
 use Rattle.c_parse.specs.declared.ahead.SimpleStart.{SimpleStart}

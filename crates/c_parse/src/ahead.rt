@@ -221,7 +221,6 @@ impl Tokens<'_> {
     }
 
     /// Whether a statement comes next.
-    #[tactic(auto, using(crate::proofs::Begins::beginnings), unfolding(c_grammar::specs::PredictSets::begins_repeated))]
     pub fn sees_statement(&self) -> bool
         ensures { result ≡ at (predict.begins_repeated production.MoreStmts) (head self.now) }
     {
@@ -229,7 +228,7 @@ impl Tokens<'_> {
     }
 
     /// Whether a statement or a declaration comes next.
-    #[tactic(auto, using(crate::proofs::Begins::beginnings), unfolding(c_grammar::specs::PredictSets::begins_repeated))]
+    #[tactic(auto, using(crate::proofs::Begins::beginnings))]
     pub fn sees_item(&self) -> bool
         ensures { result ≡ at (predict.begins_repeated production.Items) (head self.now) }
     {
@@ -256,7 +255,6 @@ impl Tokens<'_> {
     }
 
     /// Whether a label of a `switch` comes next.
-    #[tactic(auto, using(crate::proofs::Begins::beginnings), unfolding(c_grammar::specs::PredictSets::begins_repeated))]
     pub fn sees_label(&self) -> bool
         ensures groups { result ≡ at (predict.begins_repeated production.Groups) (head self.now) }
         ensures labels { result ≡ at (predict.begins_repeated production.MoreLabels) (head
@@ -289,7 +287,7 @@ impl Tokens<'_> {
     }
 
     /// Whether a declaration at file scope comes next.
-    #[tactic(auto, using(crate::proofs::Begins::beginnings), unfolding(c_grammar::specs::PredictSets::begins_repeated))]
+    #[tactic(auto, using(crate::proofs::Begins::beginnings))]
     pub fn sees_external(&self) -> bool
         ensures { result ≡ at (predict.begins_repeated production.Externals) (head self.now) }
     {

@@ -227,7 +227,7 @@ impl Tokens<'_> {
     }
 
     /// A declaration of variables in a block.
-    #[tactic(auto, using(crate::proofs::ExternalLemmas::externals), unfolding(c_grammar::specs::Reader::children, c_grammar::specs::Reader::one, c_grammar::specs::PredictSets::begins_optional, c_grammar::specs::PredictSets::begins_repeated, c_ast::specs::Grammar::rule, c_ast::specs::Grammar::symbols_of, c_ast::specs::Grammar::optional, c_ast::specs::Grammar::repeated, c_ast::specs::Declarations::locals_tree))]
+    #[tactic(auto, using(crate::proofs::DeclarationLemmas::local_reads))]
     pub fn locals(&mut self, fuel: usize) -> Result<Locals, Fault>
         ensures { Gives locals_tree (read fuel nonterminal.Locals self.old) result self.new }
     {
@@ -241,7 +241,7 @@ impl Tokens<'_> {
     }
 
     /// The variables that are declared with this type, and the semicolon after them.
-    #[tactic(auto, using(crate::proofs::ReadLemmas::repeats), unfolding(c_ast::specs::Declarations::locals_tree))]
+    #[tactic(auto, using(crate::proofs::DeclarationLemmas::local_reads))]
     fn variables(
         &mut self,
         fuel: usize,

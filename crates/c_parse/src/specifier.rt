@@ -36,7 +36,7 @@ impl Tokens<'_> {
     }
 
     /// The `*`s of a declarator.
-    #[tactic(auto, using(crate::proofs::ReadLemmas::loops, c_ast::proofs::ListLemmas::grows), unfolding(c_grammar::specs::Reader::children, c_grammar::specs::Reader::one, c_grammar::specs::PredictSets::begins_repeated, c_ast::specs::Grammar::repeated))]
+    #[tactic(auto, using(crate::proofs::ReadLemmas::star_loops))]
     pub fn stars(&mut self, fuel: usize) -> Result<Items<Span>, Fault>
         ensures { Gives stars (read fuel (Many production.Stars) self.old) result self.new }
     {

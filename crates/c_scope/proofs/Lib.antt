@@ -1,3 +1,3 @@
-pub mod LatestLemmas
+pub mod lemmas
 pub mod ScopesLemmas
 pub mod TagsLemmas

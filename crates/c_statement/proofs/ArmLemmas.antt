@@ -1,5 +1,5 @@
 -- What the definition says of each variant of a statement, and of an item of a block.
-use Rattle.std.proofs.Common.{◌≡◌, ℕ, Bool, true, false, List, [], ◌∷◌, Option, Some, None, refl, ap, ◌∙◌}
+use Rattle.std.proofs.Common.{◌≡◌, Bool, true, false, List, ◌∷◌, Option, Some, None, refl, ap, ◌∙◌}
 use Rattle.c_ast.specs.declared.declaration.Locals.{Locals}
 use Rattle.c_ast.specs.declared.expression.ExprList.{ExprList}
 use Rattle.c_ast.specs.declared.statement.Block.{Block}
@@ -15,11 +15,11 @@ use Rattle.c_ast.specs.declared.statement.Stmt.TheVariants as e
 use Rattle.c_ast.specs.declared.statement.Subject.{Subject}
 use Rattle.c_ast.specs.declared.token.Span.{Span}
 use Rattle.c_ast.specs.Productions as l
-use Rattle.c_ast.specs.Tree.{Tree, Node, Cons}
+use Rattle.c_ast.specs.Tree.{Tree, Node}
 use Rattle.c_ast.specs.Declarations.{locals_tree}
 use Rattle.c_ast.specs.Expressions.{list_tree}
 use Rattle.c_ast.specs.Statements.{clause, start_tree, stmt_tree, item_tree, block_tree, else_children, groups_tree, item_step, stmt_step, block_step, else_step, group_step}
-use Rattle.c_ast.proofs.StmtViews.{item-Stmt, item-Locals, tree-Null, tree-Expr, tree-Block, tree-If, tree-IfElse, tree-While, tree-Do, tree-For, tree-Break, tree-Continue, tree-Return, tree-Switch}
+use Rattle.c_ast.proofs.lemmas.StmtViews.{item-Stmt, item-Locals, tree-Null, tree-Expr, tree-Block, tree-If, tree-IfElse, tree-While, tree-Do, tree-For, tree-Break, tree-Continue, tree-Return, tree-Switch}
 use Rattle.c_typed.specs.Typed as typed
 use Rattle.c_typed.specs.Typed.{no_items, stmt_then}
 use Rattle.c_elaboration.specs.State.{State, after}

@@ -5,12 +5,12 @@ use Rattle.c_ast.specs.Productions as l
 use Rattle.c_ast.specs.Tree.{Tree, Node, Nil, Cons}
 use Rattle.c_ast.specs.Statements.{group_tree}
 use Rattle.c_typed.specs.declared.statement.Group as typed
-use Rattle.c_typed.specs.Typed.{ExprTree, ItemTrees, GroupTrees, no_items, stmt_then, group_then}
+use Rattle.c_typed.specs.Typed.{ExprTree, GroupTrees, group_then}
 use Rattle.c_typed.specs.StmtViews.{items_of, groups_of}
 use Rattle.c_elaboration.specs.State.{State, after}
 use Rattle.c_elaboration.specs.Declarators.{items_joined}
-use Rattle.c_elaboration.specs.Statements.{Jumps, Labels, in_switch, next_group, with_group, switch_stmt, items, groups, group, statement}
-use Rattle.c_declaration.proofs.DeclarationLemmas.{items-none, items-more}
+use Rattle.c_elaboration.specs.Statements.{Jumps, Labels, in_switch, next_group, with_group, switch_stmt, items, groups, group}
+use Rattle.c_declaration.proofs.lemmas.Declarations.{items-none, items-more}
 use Rattle.c_clause.specs.Clauses.{subject_at}
 use Rattle.c_statement.specs.Parts.{switch_statement, item}
 

@@ -1,18 +1,17 @@
 -- One more element of a list that is walked.
-use Rattle.std.proofs.Common.{◌≡◌, ◌<◌, ℕ, ◌+◌, List, [], ◌∷◌, length, take, get_or, refl, sym, ap, ◌∙◌}
+use Rattle.std.proofs.Common.{◌≡◌, ◌<◌, ℕ, ◌+◌, List, [], ◌∷◌, length, take, get_or, sym, ap, ◌∙◌}
 use Rattle.c_ast.specs.declared.statement.BlockItem.{BlockItem}
 use Rattle.c_ast.specs.declared.statement.Group.{Group}
 use Rattle.c_ast.specs.declared.statement.Stmt.{Stmt}
 use Rattle.c_ast.specs.Productions as l
-use Rattle.c_ast.specs.Tree.{Tree}
 use Rattle.c_ast.specs.Statements.{stmt_tree, item_tree, items_tree, stmts_tree, group_tree, groups_tree}
-use Rattle.c_ast.proofs.ListLemmas.{many-none}
-use Rattle.c_expression.proofs.ListLemmas.{many_next}
-use Rattle.c_typed.specs.Typed.{StmtTree, ItemTrees, GroupTrees, no_items, no_groups, stmt_then}
+use Rattle.c_ast.proofs.lemmas.Lists.{many-none}
+use Rattle.c_expression.proofs.lemmas.Lists.{many_next}
+use Rattle.c_typed.specs.Typed.{ItemTrees, GroupTrees, no_items, no_groups, stmt_then}
 use Rattle.c_elaboration.specs.State.{State, after}
 use Rattle.c_elaboration.specs.Declarators.{items_joined}
 use Rattle.c_elaboration.specs.Statements.{Jumps, Labels, Groups, no_labels, next_group, statement, items, groups, group}
-use Rattle.c_declaration.proofs.DeclarationLemmas.{items-none, items-joined}
+use Rattle.c_declaration.proofs.lemmas.Declarations.{items-none, items-joined}
 use Rattle.c_statement.specs.Parts.{item}
 use Rattle.c_statement.proofs.ArmLemmas.{item_statement}
 use Rattle.c_statement.proofs.ItemLemmas.{item-next, group-next}

@@ -9,8 +9,8 @@ use Rattle.c_ast.specs.Nodes.{mark}
 use Rattle.c_ast.specs.Expressions.{next, dimensions as dimension_trees}
 use Rattle.c_ast.specs.Externals.{member as member_tree, members as members_tree, more_members as member_trees}
 use Rattle.c_ast.specs.Specifiers.{spec_tree}
-use Rattle.c_ast.proofs.ListLemmas.{many-none, many-snoc}
-use Rattle.c_expression.proofs.ListLemmas.{count_many}
+use Rattle.c_ast.proofs.lemmas.Lists.{many-none, many-snoc}
+use Rattle.c_expression.proofs.lemmas.Lists.{count_many}
 use Rattle.c_scope.specs.Scopes.{Name}
 use Rattle.c_elaboration.specs.declared.dimension.Dimension.{Dimension}
 use Rattle.c_elaboration.specs.declared.dimension.Dimension.TheVariants as dimension

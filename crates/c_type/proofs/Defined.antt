@@ -10,7 +10,7 @@ use Rattle.c_type.specs.Normal.{AreNormalOf}
 use Rattle.c_type.specs.LaidUpTo.{IsLaid, struct_bytes}
 use Rattle.c_type.specs.Structs.{definitions_of, IsKept, AreIndexed, absent}
 use Rattle.c_type.specs.declared.structs.Struct.{Struct}
-use Rattle.c_type.proofs.Levels.{other-tag, normals-later}
+use Rattle.c_type.proofs.lemmas.Levels.{other-tag, normals-later}
 use Rattle.c_type.proofs.Indices.{get-either, get-set-same, get-set-other}
 use Rattle.c_type.proofs.StructLemmas.{defined-is, has-there}
 

@@ -5,8 +5,8 @@ use Rattle.c_type.specs.Trees.{TypeTree}
 use Rattle.c_type.specs.Layout.{Definitions, is_defined, rounded_up, align, struct_align, largest, size, struct_size, members_end, offset_from, leaves_at, members_leaves, struct_leaves, members}
 use Rattle.c_type.specs.WellDefined.{AreLaidOut, AreDefinitions}
 use Rattle.c_type.specs.LayoutLaws.{IsMultiple, AreInOrder, SizeIsMultiple, MemberIsWithin, LeavesAreInOrder}
-use Rattle.c_type.proofs.Bounds.{align-between, members-between, round-lower, end-grows}
-use Rattle.c_type.proofs.Levels.{level}
+use Rattle.c_type.proofs.lemmas.Bounds.{align-between, members-between, round-lower, end-grows}
+use Rattle.c_type.proofs.lemmas.Levels.{level}
 use Rattle.c_type.proofs.Order.{AreGood, multiple-round, members-width, size-multiple, size-positive, type-order, members-order}
 
 higher : (low high high' : ℕ) (ls : List Leaf) → high ≤ high' → AreInOrder low high ls → AreInOrder low high' ls

@@ -11,10 +11,6 @@ get-front [] y x p is = cc
 get-front (z ∷ xs) y x zero is = is
 get-front (z ∷ xs) y x (suc p) is = get-front xs y x p is
 
-pub get-last : {X : Type 0} (xs : List X) (y : X) → slice_get (xs ++ y ∷ []) (length xs) ≡ Some y
-get-last [] y = refl
-get-last (x ∷ xs) y = get-last xs y
-
 pub get-either : {X : Type 0} (xs : List X) (y x : X) (p : ℕ) → slice_get (xs ++ y ∷ []) p ≡ Some x → (slice_get xs p ≡ Some x) ⊎ ((p ≡ length xs) × (x ≡ y))
 get-either [] y x zero is = inr (refl, cc)
 get-either [] y x (suc p) is = cc

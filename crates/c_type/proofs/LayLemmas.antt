@@ -5,7 +5,7 @@ use Rattle.c_type.specs.Trees.{TypeTree}
 use Rattle.c_type.specs.Layout.{Definitions, rounded_up, align, largest, size, members_end, offset_from, IsLaidOut}
 use Rattle.c_type.specs.WellDefined.{AreLaidOut}
 use Rattle.c_type.specs.LaidUpTo.{LaidUpTo, IsLaid, struct_bytes}
-use Rattle.c_type.proofs.Bounds.{align-between, members-between, round-lower, round-upper, end-grows}
+use Rattle.c_type.proofs.lemmas.Bounds.{align-between, members-between, round-lower, round-upper, end-grows}
 
 pub nothing-laid : (defs : Definitions) (ms : List TypeTree) → AreLaidOut defs ms → LaidUpTo defs ms ms [] 0 1
 nothing-laid defs ms laid =

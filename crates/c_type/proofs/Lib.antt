@@ -1,7 +1,6 @@
+pub mod lemmas
 mod StructLemmas
 mod SizeLemmas
-pub mod Levels
-pub mod Bounds
 mod LeafLemmas
 mod MemberLemmas
 mod Indices

@@ -7,7 +7,7 @@ use Rattle.c_type.specs.WellDefined.{AreLaidOut, MemberFits}
 use Rattle.c_type.specs.Kept.{IsFound}
 use Rattle.c_type.specs.Level.{IsLevel}
 use Rattle.c_type.specs.declared.structs.Struct.{Struct}
-use Rattle.c_type.proofs.Bounds.{align-between, members-between, round-lower, end-grows}
+use Rattle.c_type.proofs.lemmas.Bounds.{align-between, members-between, round-lower, end-grows}
 
 pub at-member : (ms : List TypeTree) (i : ℕ) (t : TypeTree) → i < length ms → t ≡ get_or ms i t → drop i ms ≡ t ∷ drop (i + 1) ms
 at-member ms i t h is = rw (add-one i) (drop-cons ms i t h ∙ ap (λ x. x ∷ drop (suc i) ms) (sym is))

@@ -6,7 +6,7 @@ use Rattle.c_type.specs.Trees.{TypeTree, void_type, scalar_type, pointer_to, arr
 use Rattle.c_type.specs.Layout.{Definitions, rounded_up, align, largest, size, size_by, struct_size, members_end, repeated, leaves_at, leaves_by, members_leaves, struct_leaves}
 use Rattle.c_type.specs.Moved.{moved, CanMove}
 use Rattle.c_type.proofs.LeafLemmas.{within-elements}
-use Rattle.c_type.proofs.Bounds.{align-between, members-between, round-lower, end-grows}
+use Rattle.c_type.proofs.lemmas.Bounds.{align-between, members-between, round-lower, end-grows}
 
 map-append : (f : Leaf → Leaf) (xs ys : List Leaf) → map f (xs ++ ys) ≡ map f xs ++ map f ys
 map-append f [] ys = refl

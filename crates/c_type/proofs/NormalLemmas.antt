@@ -16,7 +16,7 @@ use Rattle.c_type.specs.Normal.{IsNormalOf, AreNormalOf}
 use Rattle.c_type.specs.Level.{IsLevel}
 use Rattle.c_type.specs.Kept.{IsFound}
 use Rattle.c_type.specs.Pending.{leaf_count, type_work, members_work}
-use Rattle.c_type.proofs.Bounds.{align-between, round-lower, round-upper}
+use Rattle.c_type.proofs.lemmas.Bounds.{align-between, round-lower, round-upper}
 use Rattle.c_type.proofs.Order.{size-multiple}
 use Rattle.c_type.proofs.Good.{good}
 use Rattle.c_type.proofs.MemberLemmas.{StructParts, struct-parts}

@@ -8,7 +8,7 @@ use Rattle.c_type.specs.Trees.{TypeTree, void_type, scalar_type, pointer_to, arr
 use Rattle.c_type.specs.Layout.{Definitions, is_defined, is_complete, rounded_up, scalar_size, align, align_by, struct_align, largest, size, struct_size, members_end, repeated, leaves_at, members_leaves, struct_leaves}
 use Rattle.c_type.specs.WellDefined.{AreLaidOut}
 use Rattle.c_type.specs.LayoutLaws.{IsMultiple, IsWidth, AreInOrder, AlignmentIsWidth}
-use Rattle.c_type.proofs.Bounds.{align-between, round-lower}
+use Rattle.c_type.proofs.lemmas.Bounds.{align-between, round-lower}
 
 -- ---- widths
 

@@ -5,7 +5,7 @@ use Rattle.std.proofs.lemmas.Bool.{false_from_ne_true}
 use Rattle.c_type.specs.Layout.{Definitions, is_defined}
 use Rattle.c_type.specs.Structs.{definitions_of, AreIndexed}
 use Rattle.c_type.specs.Kept.{IsFound}
-use Rattle.c_type.proofs.Levels.{level}
+use Rattle.c_type.proofs.lemmas.Levels.{level}
 use Rattle.c_type.specs.declared.structs.Struct.{Struct}
 
 abbrev has_tag : ℕ → List Struct → Bool

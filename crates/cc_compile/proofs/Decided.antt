@@ -9,11 +9,11 @@ use Rattle.c_ast.specs.Shape.{FollowsGrammar, Shaped}
 use Rattle.c_ast.specs.Spelling.{kinds, tokens_of}
 use Rattle.c_ast.specs.Tree.{Tree}
 use Rattle.c_grammar.specs.Beginnings.{WrongFrom}
-use Rattle.c_grammar.proofs.GrammarLaws.{one_tree_at_spans, tree_or_wrong}
+use Rattle.c_grammar.proofs.lemmas.GrammarLaws.{one_tree_at_spans, tree_or_wrong}
 use Rattle.c_parse.specs.LeftOut.{first_left_out}
 use Rattle.c_parse.specs.Refusal.{offset_of}
 use Rattle.c_parse.specs.declared.fault.ParseFault.TheVariants as parse
-use Rattle.c_parse.proofs.FirstDeep.{Found, first_deep, finds}
+use Rattle.c_parse.proofs.lemmas.FirstDeep.{Found, first_deep, finds}
 use Rattle.c_typed.specs.Typed.{ProgramTree}
 use Rattle.c_elaboration.specs.Check.{check}
 use Rattle.c_elaboration.specs.Refusals.{Refusal, rule_broken, no_main, above_limit}

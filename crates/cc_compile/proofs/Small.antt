@@ -2,7 +2,6 @@
 use Rattle.std.proofs.Common.{◌≡◌, ◌≤◌, ℕ, zero, suc, ◌+◌, Bool, true, false, List, [], ◌∷◌, map, refl, sym, ap, subst, ◌∙◌, ◌*◌, ◌==◌, arith}
 use Rattle.std.specs.Prelude.{nat_lt, if◌then◌else◌, Option, None, Some, slice_get}
 use Rattle.std.specs.List.{sum, sum_by}
-use Rattle.std.specs.Option.{option_or}
 use Rattle.std.proofs.lemmas.Bool.Decides.{nat_tests}
 use Rattle.std.proofs.lemmas.List.Sums.{sum-map, sum_by-cons}
 use Rattle.limits.specs.Limits.{most_functions, most_parameters, most_object_bytes, most_global_bytes, most_lambda_values, most_program_values}
@@ -17,13 +16,10 @@ use Rattle.g_construct.proofs.lemmas.Programs.{values_are_of_the_function}
 use Rattle.g_build.specs.Passed.{first_large, limit_passed, most_built_values}
 use Rattle.c_sound.proofs.lemmas.Accepted.{none_above, get_none}
 use Rattle.cc_compile.specs.Compiled.{UnlimitedAreSmall}
-use Rattle.g_graph.proofs.ChangeLemmas.{none_map}
+use Rattle.g_graph.proofs.lemmas.Change.{none_map}
+use Rattle.val_core.proofs.lemmas.Options.{or_none}
 
 -- ---- options that are none
-
-or_none : {X : Type 0} (a b : Option X) → option_or a b ≡ None → (a ≡ None) × (b ≡ None)
-or_none None b h = (refl, h)
-or_none (Some x) b h = absurd cc
 
 if_none : {X : Type 0} (t : Bool) (x : X) (rest : Option X) → (if t then Some x else rest) ≡ None → (t ≡ false) × (rest ≡ None)
 if_none true x rest h = absurd cc

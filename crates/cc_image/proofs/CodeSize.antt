@@ -10,13 +10,14 @@ use Rattle.g_graph.specs.Plain.{PlainObject, RegionTree, region, NodeTree, node,
 use Rattle.g_graph.specs.Count.{region_values, node_values, nodes_values, regions_values}
 use Rattle.g_graph.specs.Lists.{RegionOps, NodeOps, NodesOps, RegionsOps}
 use Rattle.g_graph.specs.Signatures.{result_kinds, output_kinds}
-use Rattle.s_linear.proofs.lemmas.Numbers.{length_numbers}
+use Rattle.val_core.proofs.lemmas.Numbers.{length_numbers}
 use Rattle.s_linear.specs.Frame.{PlainPlaces}
 use Rattle.s_linear.specs.Linear.{move, Code, no_steps}
-use Rattle.s_linear.specs.Lines.{Line, enter, leave, numbers_from, code_lines}
+use Rattle.s_linear.specs.Lines.{Line, enter, leave, code_lines}
+use Rattle.val_core.specs.Numbers.{numbers_from}
 use Rattle.s_sequence.specs.Sequence.{values_in, value_args, kept, Names, no_names, node_names, nodes_names, named, nodes_named, name_of, moves, instrs_then, outputs_at, bases, loop_results, nodes_code, node_step, branch_codes, branch_code, loop_step, body_code, sequenced}
-use Rattle.s_sequence.proofs.Instrs.{arguments_counted}
-use Rattle.s_sequence.proofs.Named.{args_length, kept_length}
+use Rattle.s_sequence.proofs.lemmas.Instrs.{arguments_counted}
+use Rattle.s_sequence.proofs.lemmas.Named.{args_length, kept_length}
 use Rattle.a_place.specs.Places.{places}
 use Rattle.rv_layout.specs.Items.{item_size, items_size}
 use Rattle.s_select.specs.Templates.{line_items, items_of}

@@ -5,8 +5,9 @@ use Rattle.std.proofs.lemmas.Bool.Decides.{nat_tests}
 use Rattle.std.proofs.lemmas.List.{length-map}
 use Rattle.std.specs.Prelude.{◌||◌, nat_lt, is_some, slice_get}
 use Rattle.g_graph.specs.WellFormed.{all_of, some_of}
-use Rattle.s_linear.proofs.lemmas.Numbers.{length_numbers}
-use Rattle.s_linear.specs.Lines.{Line, line_names, numbers_from}
+use Rattle.val_core.proofs.lemmas.Numbers.{length_numbers}
+use Rattle.s_linear.specs.Lines.{Line, line_names}
+use Rattle.val_core.specs.Numbers.{numbers_from}
 use Rattle.a_place.specs.Laws.{PlacesAreBelowCount}
 use Rattle.a_place.proofs.lemmas.Names.{below_name_count}
 use Rattle.a_place.specs.Places.{occurs, name_count, all_given, place_in, places}

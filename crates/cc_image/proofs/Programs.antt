@@ -1,7 +1,7 @@
 -- The sections of a program stand where a file wants them, and its file loads.
 use Rattle.std.proofs.Common.{map, arith}
 use Rattle.elf_file.specs.Laws.{WrittenLoads}
-use Rattle.rv_layout.proofs.Placed.{length-text}
+use Rattle.rv_layout.proofs.lemmas.Placed.{length-text}
 use Rattle.rv_layout.specs.Laws.{LaidIsPlaced}
 use Rattle.rv_layout.specs.Layout.{addresses_of}
 use Rattle.cc_image.specs.Image.{function_items, main_of, image_of}

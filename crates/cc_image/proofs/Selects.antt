@@ -3,10 +3,11 @@ use Rattle.std.proofs.Common.{◌≡◌, ◌≤◌, refl, subst, sym, true, List
 use Rattle.std.proofs.lemmas.Bool.{le-leb}
 use Rattle.std.specs.Prelude.{nat_le}
 use Rattle.g_graph.specs.WellFormed.{all_of}
-use Rattle.s_linear.proofs.lemmas.Numbers.{length_numbers}
-use Rattle.s_linear.proofs.Passing.{StepPasses, CodePasses, CodesPass, lines_pass}
+use Rattle.val_core.proofs.lemmas.Numbers.{length_numbers}
+use Rattle.s_linear.proofs.lemmas.Passing.{StepPasses, CodePasses, CodesPass, lines_pass}
 use Rattle.s_linear.specs.Linear.{Instr, Step, plain, choice, loop, Code, no_steps, step_then, Codes, no_codes, code_then}
-use Rattle.s_linear.specs.Lines.{done, numbers_from}
+use Rattle.s_linear.specs.Lines.{done}
+use Rattle.val_core.specs.Numbers.{numbers_from}
 use Rattle.s_sequence.specs.Laws.{ObjectsAreThere, CallsKeepArguments, WidthsFit}
 use Rattle.s_sequence.specs.Sequence.{sequenced}
 use Rattle.s_select.specs.Conditions.{has_few_params}

@@ -17,7 +17,7 @@ use Rattle.rv_machine.specs.Standing.{Text, StandsAt, AllFit}
 use Rattle.rv_machine.proofs.lemmas.Codes.{segment_code_stands}
 use Rattle.rv_machine.proofs.lemmas.Standing.{standing_reaches, each_stands}
 use Rattle.rv_machine.proofs.lemmas.Texts.{segment_is_in_memory, flags_allow}
-use Rattle.rv_layout.proofs.Placed.{length-bytes_of}
+use Rattle.rv_layout.proofs.lemmas.Placed.{length-bytes_of}
 use Rattle.rv_layout.specs.declared.item.Item.{Item}
 use Rattle.rv_layout.specs.Layout.{laid_out}
 use Rattle.rv_layout.specs.Sequences.{bytes_of}

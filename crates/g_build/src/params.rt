@@ -39,7 +39,7 @@ pub fn enter(b: &mut Builder, params: &[Variable]) -> Result<(), NoMemory>
     Ok(())
 }
 
-#[tactic(auto, using(g_expression::proofs::Made::moved_made))]
+#[tactic(auto, using(g_expression::proofs::lemmas::Made::moved_made))]
 fn store_param(
     b: &mut Builder,
     param: &Variable,

@@ -8,7 +8,8 @@ use Rattle.g_graph.specs.Signatures.{result_kinds}
 use Rattle.g_graph.specs.WellFormed.{distinct, every_region, region_fits}
 use Rattle.g_mean.specs.Copies.{IsClosed}
 use Rattle.g_mean.specs.Meaning.{Context, region_meaning}
-use Rattle.g_copy.specs.Numbering.{numbers_from, node_count, region_numbered}
+use Rattle.g_copy.specs.Numbering.{node_count, region_numbered}
+use Rattle.val_core.specs.Numbers.{numbers_from}
 
 -- A copy of a region with unique numbers has the numbers from `next` on, in pre-order.
 abbrev pub CopiesAreNumbered : Type 0

@@ -1,5 +1,5 @@
 -- Copies of regions under new numbers: those from a first one on, in pre-order of the copy.
-use Rattle.std.specs.Prelude.{ℕ, zero, suc, ◌+◌, ◌==◌, if◌then◌else◌, List, [], ◌∷◌, length, Option, None, Some, unwrap_or}
+use Rattle.std.specs.Prelude.{ℕ, suc, ◌+◌, ◌==◌, if◌then◌else◌, List, [], ◌∷◌, length, Option, None, Some, unwrap_or}
 use Rattle.g_graph.specs.Plain.{RegionTree}
 use Rattle.g_graph.specs.Ids.{region_ids}
 use Rattle.g_mean.specs.Copies.{region_copied}
@@ -18,11 +18,6 @@ number_among next (m ∷ ms) n = if m == n then Some next else number_among (suc
 -- a number that is not found stays
 abbrev pub found_or_same : (found : ℕ → Option ℕ) → ℕ → ℕ
 found_or_same found n = unwrap_or (found n) n
-
--- so many numbers from `next` on
-abbrev pub numbers_from : (next count : ℕ) → List ℕ
-numbers_from next zero = []
-numbers_from next (suc count) = next ∷ numbers_from (suc next) count
 
 -- how many nodes a region has, at any depth
 abbrev pub node_count : RegionTree → ℕ

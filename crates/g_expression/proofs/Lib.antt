@@ -1,7 +1,5 @@
+pub mod lemmas
 pub mod Renaming
 pub mod Slots
-pub mod Scopes
 pub mod Ends
-pub mod Made
-pub mod Choices
 pub mod Sizes

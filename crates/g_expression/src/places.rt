@@ -23,7 +23,7 @@ pub enum Spot {
 
 impl Builder {
     /// The variable at a slot, as a place.
-    #[tactic(auto, using(crate::proofs::Made::made_given))]
+    #[tactic(auto, using(crate::proofs::lemmas::Made::made_given))]
     pub fn slot_spot(&mut self, slot: u32) -> Result<Spot, NoMemory>
         ensures work { OnOk result (self.new ≡ made self.old
             (slot_spot slot (variable_at self.old.point.carried.variables slot) self.old.point)) }
@@ -43,7 +43,7 @@ impl Builder {
     }
 
     /// A member of a place, at an offset in bytes.
-    #[tactic(auto, using(crate::proofs::Made::made_given))]
+    #[tactic(auto, using(crate::proofs::lemmas::Made::made_given))]
     pub fn member_spot(&mut self, whole: Spot, offset: u32) -> Result<Spot, NoMemory>
         ensures work { OnOk result
             (self.new ≡ made self.old (member_spot (spot_of whole) offset self.old.point)) }
@@ -80,7 +80,7 @@ impl Builder {
     }
 
     /// The read of a place of this type.
-    #[tactic(auto, using(crate::proofs::Made::made_given))]
+    #[tactic(auto, using(crate::proofs::lemmas::Made::made_given))]
     pub fn spot_read(&mut self, t: &CType, spot: Spot) -> Result<Origin, NoMemory>
         ensures work { OnOk result
             (self.new ≡ made self.old (spot_read t.now (spot_of spot) self.old.point)) }
@@ -94,7 +94,7 @@ impl Builder {
     }
 
     /// The write of a place of this type.
-    #[tactic(auto, using(crate::proofs::Made::moved_made))]
+    #[tactic(auto, using(crate::proofs::lemmas::Made::moved_made))]
     pub fn spot_write(&mut self, t: &CType, spot: Spot, value: Origin) -> Result<Origin, NoMemory>
         ensures work { OnOk result (self.new ≡
             made self.old (spot_written t.now (spot_of spot) value self.old.point)) }

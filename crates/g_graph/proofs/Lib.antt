@@ -1,8 +1,6 @@
 pub mod lemmas
 mod Examples
-pub mod ChangeLemmas
 mod KindLemmas
 mod NestLemmas
-pub mod SpliceKept
 mod ScopeMaps
 mod StateLemmas

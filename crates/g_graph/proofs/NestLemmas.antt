@@ -17,7 +17,7 @@ use Rattle.g_graph.specs.Scope.{same_kind, is_of, known, last_index, origin_at, 
 use Rattle.g_graph.specs.Ids.{region_ids, node_ids, nodes_ids, regions_ids}
 use Rattle.g_graph.specs.Change.{region_changed, node_changed, nodes_changed, regions_changed}
 use Rattle.g_graph.specs.WellFormed.{all_of, some_of, all_regions, are, same, kinds_of, one_state_each, has_its_regions, regions_fit, theta_has_states, has_its_width, has_its_object, is_origin, is_last_of, is_last, node_fits, gives, region_fits, every_region, every_in_node, every_in_nodes, every_in_regions}
-use Rattle.g_graph.proofs.lemmas.Splices.{nodes_of-append, kind_after-joined, state_after-joined}
+use Rattle.g_graph.proofs.lemmas.Splices.{nodes_of_append, kind_after-joined, state_after-joined}
 use Rattle.g_graph.proofs.lemmas.Numbers.{Numbered, numbered_left, numbered_right, numbered_rest}
 
 -- after the one nodes origins have the kinds that they have after the others, and states come from the same
@@ -45,13 +45,13 @@ pub scope_more : (bs cs : List NodeTree) (x y : NodeTree) → SameScope (nodes_o
     SameScope (nodes_of (bs ++ x ∷ [])) (nodes_of (cs ++ y ∷ []))
 scope_more bs cs x y s i o = record {
   kinds = λ n p found.
-      ap (λ ns. kind_after ns n p found) (nodes_of-append cs (y ∷ [])) ∙ kind_after-joined (nodes_of cs) (node_then y no_nodes) n p found
+      ap (λ ns. kind_after ns n p found) (nodes_of_append cs (y ∷ [])) ∙ kind_after-joined (nodes_of cs) (node_then y no_nodes) n p found
       ∙ (λ j. if i j == n then joined (slice_get (o j) p) else s.kinds n p found j)
-      ∙ sym (ap (λ ns. kind_after ns n p found) (nodes_of-append bs (x ∷ [])) ∙ kind_after-joined (nodes_of bs) (node_then x no_nodes) n p found);
+      ∙ sym (ap (λ ns. kind_after ns n p found) (nodes_of_append bs (x ∷ [])) ∙ kind_after-joined (nodes_of bs) (node_then x no_nodes) n p found);
   states = λ k found.
-      ap (λ ns. state_after k ns found) (nodes_of-append cs (y ∷ [])) ∙ state_after-joined k (nodes_of cs) (node_then y no_nodes) found
+      ap (λ ns. state_after k ns found) (nodes_of_append cs (y ∷ [])) ∙ state_after-joined k (nodes_of cs) (node_then y no_nodes) found
       ∙ (λ j. origin_at (λ p. Out (i j) p) (last_index k 0 (o j) None) (s.states k found j))
-      ∙ sym (ap (λ ns. state_after k ns found) (nodes_of-append bs (x ∷ [])) ∙ state_after-joined k (nodes_of bs) (node_then x no_nodes) found);
+      ∙ sym (ap (λ ns. state_after k ns found) (nodes_of_append bs (x ∷ [])) ∙ state_after-joined k (nodes_of bs) (node_then x no_nodes) found);
 }
 
 -- regions that take and give what the others do, and are well formed

@@ -15,3 +15,5 @@ pub mod Listed
 pub mod Mapped
 pub mod Names
 pub mod Elements
+pub mod Change
+pub mod SpliceKept

@@ -17,7 +17,7 @@ pub trait CanChange {
 
 /// Whether the lambda's body or a region nested in it can be changed so. It takes no memory
 /// but what the test takes. It takes time linear in the lambda, and the time of the tests.
-#[tactic(auto, using(crate::proofs::ChangeLemmas::region_can_change))]
+#[tactic(auto, using(crate::proofs::lemmas::Change::region_can_change))]
 pub fn can_change_lambda<C: CanChange>(lambda: &Lambda, test: &C) -> bool
     ensures { result ≡ is_some (region_changed (C.changed test.now) lambda.now.body) }
 {

@@ -46,7 +46,7 @@ pub fn holds_node(region: &Region, id: u32) -> bool
     has_node(&region.nodes, id)
 }
 
-#[tactic(auto, using(crate::proofs::ChangeLemmas::has_node_index))]
+#[tactic(auto, using(crate::proofs::lemmas::Change::has_node_index))]
 fn has_node(nodes: &[Node], id: u32) -> bool
     ensures { result ≡ has_node id (nodes_of nodes.now) }
 {

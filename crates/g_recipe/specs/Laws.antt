@@ -1,5 +1,5 @@
 -- Recipes keep lists of lambdas, over any table of rules whose steps are steps.
-use Rattle.std.specs.Prelude.{◌≡◌, ℕ, suc, ◌+◌, ◌*◌, ◌≤◌, Bool, true, if◌then◌else◌, List, [], ◌∷◌, map, Option, Some, slice_get, slice_set, slice_index_or, Contains}
+use Rattle.std.specs.Prelude.{◌≡◌, ℕ, suc, ◌+◌, ◌*◌, ◌≤◌, Bool, true, if◌then◌else◌, List, [], ◌∷◌, map, Some, slice_get, slice_set, slice_index_or, Contains}
 use Rattle.std.specs.List.{sum_by, AllByRecursion}
 use Rattle.limits.specs.Limits.{most_functions, most_program_values}
 use Rattle.g_graph.specs.declared.steps.Rule.{Rule}

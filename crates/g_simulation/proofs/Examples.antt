@@ -1,65 +1,28 @@
 -- Worked rows: programs, their runs, and the runs of their graphs.
 use Rattle.std.specs.Prelude.{◌≡◌, ℕ, true, false, refl, List, [], ◌∷◌}
-use Rattle.val_core.specs.declared.operation.Op2.{Op2}
 use Rattle.val_core.specs.declared.operation.Op2.TheVariants as op
 use Rattle.val_core.specs.Events.{Event, wrote, took, met}
 use Rattle.val_core.specs.Answers.{Answer, Cut, Exited, Undefined}
 use Rattle.c_type.specs.declared.scalar.Scalar.TheVariants as scalar
-use Rattle.c_type.specs.Trees.{TypeTree, scalar_type, pointer_to, void_type}
-use Rattle.c_typed.specs.declared.operator.Relation.{Relation}
+use Rattle.c_type.specs.Trees.{pointer_to, void_type}
 use Rattle.c_typed.specs.declared.operator.Relation.TheVariants as relation
 use Rattle.c_typed.specs.declared.operator.UnaryOp.TheVariants as unary_op
 use Rattle.c_typed.specs.declared.operator.BinaryOp.TheVariants as binary_op
-use Rattle.c_typed.specs.Typed.{ExprTree, expr, constant, read, address, unary, binary, logical_and, logical_or, conditional, assign, inc_dec, call, get, no_exprs, expr_then, place, PlaceFormTree, local, at, no_expr, some_expr, no_initial, initial_value, StmtTree, null, value, block, if_else, loop, do_while, break, continue, return_value, switch, ItemTrees, no_items, stmt_then, declare_then, no_groups, group_then, VariableTree, FunctionTree, ProgramTree}
+use Rattle.c_typed.specs.Typed.{ExprTree, expr, read, address, unary, logical_and, logical_or, conditional, inc_dec, call, get, no_exprs, expr_then, place, PlaceFormTree, local, at, no_expr, some_expr, StmtTree, null, value, block, if_else, loop, do_while, break, continue, return_value, switch, ItemTrees, no_items, stmt_then, no_groups, group_then, VariableTree, FunctionTree, ProgramTree}
 use Rattle.c_mean.specs.Run.{run}
 use Rattle.g_construct.specs.Functions.{graph, omega}
 use Rattle.g_mean.specs.Data.{Datum}
 use Rattle.g_mean.specs.Calls.{program_at}
+use Rattle.c_typed.proofs.lemmas.ShortForms.{int, number, variable, computed, compared, assigned, step_by, put, declare, begin, function, program, int_value, int_object}
 
-abbrev pub int : TypeTree
-int = scalar_type scalar.Int
-
-abbrev pub number : ℕ → ExprTree
-number w = expr int (constant w)
-
-abbrev pub variable : (slot : ℕ) → ExprTree
-variable k = expr int (read (place int (local k)))
-
-abbrev pub computed : Op2 → ExprTree → ExprTree → ExprTree
-computed o a b = expr int (binary (binary_op.Arithmetic o) a b)
-
-abbrev pub compared : Relation → ExprTree → ExprTree → ExprTree
-compared r a b = expr int (binary (binary_op.Compare r) a b)
-
-abbrev pub assigned : PlaceFormTree → ExprTree → ExprTree
-assigned p e = expr int (assign (place int p) e)
-
-abbrev pub put : ExprTree → StmtTree
-put e = value (expr int (unary unary_op.Put e))
+abbrev pub writes : ExprTree → StmtTree
+writes e = value (put e)
 
 abbrev pub more : PlaceFormTree → ExprTree
-more p = expr int (inc_dec (record { up = true; gives_old = true; by = 1 }) (place int p))
-
-abbrev pub declare : (variable : ℕ) → ItemTrees → ItemTrees
-declare k is = declare_then (record { variable = k; names_itself = false; initial = no_initial }) is
-
-abbrev pub begin : (variable : ℕ) → ExprTree → ItemTrees → ItemTrees
-begin k e is = declare_then (record { variable = k; names_itself = false; initial = initial_value e }) is
-
-abbrev pub function : (name : List ℕ) → (result : TypeTree) → (params : ℕ) → List VariableTree → ItemTrees → FunctionTree
-function name t n vs is = record { name = name; at = 0; starts = 0; ends = 0; result = t; params = n; variables = vs; body = is }
+more p = expr int (inc_dec (step_by true true 1) (place int p))
 
 abbrev pub main : List VariableTree → ItemTrees → FunctionTree
-main vs is = function (109 ∷ 97 ∷ 105 ∷ 110 ∷ []) int 0 vs is
-
-abbrev pub program : (main : ℕ) → List FunctionTree → ProgramTree
-program m fs = record { structs = []; functions = fs; globals = []; main = m }
-
-abbrev pub int_value : VariableTree
-int_value = record { type = int; is_object = false }
-
-abbrev pub int_object : VariableTree
-int_object = record { type = int; is_object = true }
+main vs is = record (function int 0 vs is) { name = 109 ∷ 97 ∷ 105 ∷ 110 ∷ [] }
 
 -- the run of the graph of a program
 abbrev pub graph_run : ℕ → ProgramTree → List ℕ → Answer (List Datum)
@@ -76,12 +39,12 @@ fibonacci =
     begin 1 (number 1) (
     declare 2 (
     declare 3 (
-    stmt_then (value (assigned (local 3) (number 0))) (
+    stmt_then (value (assigned int (local 3) (number 0))) (
     stmt_then
     (loop (some_expr (compared relation.Less (variable 3) (number 6))) (some_expr (more (local 3)))
     (block
-    (stmt_then (value (assigned (local 2) (variable 0))) (
-    stmt_then (value (assigned (local 0) (variable 1))) (stmt_then (value (assigned (local 1) (computed op.Add (variable 2) (variable 1)))) no_items))))) (
+    (stmt_then (value (assigned int (local 2) (variable 0))) (
+    stmt_then (value (assigned int (local 0) (variable 1))) (stmt_then (value (assigned int (local 1) (computed op.Add (variable 2) (variable 1)))) no_items))))) (
     stmt_then (return_value (variable 0)) no_items))))))) ∷ [])
 
 fibonacci-source : run 6 fibonacci [] ≡ Exited (met (0 ∷ []) ∷ []) 8
@@ -107,16 +70,16 @@ pointed = at pointer
 abbrev letters : ProgramTree
 letters =
     program 1
-    (function [] int 2 (record { type = pointer_to int; is_object = false } ∷ int_value ∷ [])
+    (function int 2 (record { type = pointer_to int; is_object = false } ∷ int_value ∷ [])
     (stmt_then
     (loop no_expr no_expr
     (block
     (stmt_then
     (if_else
     (expr int (logical_or (compared relation.Less (variable 1) (number 1)) (compared relation.Equal (expr int (read (place int pointed))) (number 70)))) break null) (
-    stmt_then (put (expr int (read (place int pointed)))) (
+    stmt_then (writes (expr int (read (place int pointed)))) (
     stmt_then (value (more pointed)) (
-    stmt_then (value (assigned (local 1) (computed op.Sub (variable 1) (number 1)))) no_items)))))) (
+    stmt_then (value (assigned int (local 1) (computed op.Sub (variable 1) (number 1)))) no_items)))))) (
     stmt_then (return_value (variable 1)) no_items))
     ∷ main (int_object ∷ int_value ∷ [])
     (begin 0 (number 65) (
@@ -147,17 +110,17 @@ switches =
     (main (int_value ∷ int_value ∷ [])
     (declare 0 (
     begin 1 (number 0) (
-    stmt_then (value (assigned (local 0) (number 0))) (
+    stmt_then (value (assigned int (local 0) (number 0))) (
     stmt_then
     (loop (some_expr (compared relation.Less (variable 0) (number 5))) (some_expr (more (local 0)))
     (block
     (stmt_then
     (switch (variable 0)
-    (group_then (1 ∷ []) false (stmt_then (value (assigned (local 1) (computed op.Add (variable 1) (number 1)))) no_items) (
-    group_then (2 ∷ []) false (stmt_then (value (assigned (local 1) (computed op.Add (variable 1) (number 10)))) (stmt_then break no_items)) (
+    (group_then (1 ∷ []) false (stmt_then (value (assigned int (local 1) (computed op.Add (variable 1) (number 1)))) no_items) (
+    group_then (2 ∷ []) false (stmt_then (value (assigned int (local 1) (computed op.Add (variable 1) (number 10)))) (stmt_then break no_items)) (
     group_then (3 ∷ []) false (stmt_then continue no_items) (
-    group_then [] true (stmt_then (value (assigned (local 1) (computed op.Add (variable 1) (number 100)))) no_items) no_groups))))) (
-    stmt_then (value (assigned (local 1) (computed op.Add (variable 1) (number 50)))) no_items)))) (
+    group_then [] true (stmt_then (value (assigned int (local 1) (computed op.Add (variable 1) (number 100)))) no_items) no_groups))))) (
+    stmt_then (value (assigned int (local 1) (computed op.Add (variable 1) (number 50)))) no_items)))) (
     stmt_then (return_value (computed op.Rem (variable 1) (number 251))) no_items))))) ∷ [])
 
 switches-source : run 5 switches [] ≡ Exited (met (0 ∷ []) ∷ []) 170
@@ -175,7 +138,7 @@ stops =
     (do_while
     (block
     (begin 0 (expr int get) (
-    stmt_then (put (variable 0)) (stmt_then (if_else (compared relation.Equal (variable 0) (number 66)) (value (expr void_type (unary unary_op.Exit (number 7)))) null) no_items))))
+    stmt_then (writes (variable 0)) (stmt_then (if_else (compared relation.Equal (variable 0) (number 66)) (value (expr void_type (unary unary_op.Exit (number 7)))) null) no_items))))
     (number 1)) no_items) ∷ [])
 
 stops-both :
@@ -187,7 +150,7 @@ stops-both = (refl, refl)
 
 -- int main(void) { putchar(65); return 1 / 0; }
 abbrev divides : ProgramTree
-divides = program 0 (main [] (stmt_then (put (number 65)) (stmt_then (return_value (computed op.Div (number 1) (number 0))) no_items)) ∷ [])
+divides = program 0 (main [] (stmt_then (writes (number 65)) (stmt_then (return_value (computed op.Div (number 1) (number 0))) no_items)) ∷ [])
 
 divides-both : (run 1 divides [] ≡ Undefined (met (0 ∷ []) ∷ wrote 65 ∷ [])) × (graph_run 1 divides [] ≡ Exited (met (0 ∷ []) ∷ wrote 65 ∷ []) 255)
 divides-both = (refl, refl)

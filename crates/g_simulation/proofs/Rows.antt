@@ -10,7 +10,8 @@ use Rattle.c_typed.specs.declared.operator.UnaryOp.TheVariants as unary_op
 use Rattle.c_typed.specs.declared.operator.BinaryOp.TheVariants as binary_op
 use Rattle.c_typed.specs.Typed.{ExprTree, expr, read, address, unary, binary, assign, place, local, at, some_expr, initial_elements, ElementTrees, no_elements, value_then, StmtTree, null, value, block, if_else, loop, break, continue, return_value, switch, ItemTrees, no_items, stmt_then, declare_then, no_groups, group_then, VariableTree, ProgramTree}
 use Rattle.c_mean.specs.Run.{run}
-use Rattle.g_simulation.proofs.Examples.{int, number, variable, computed, compared, assigned, more, declare, begin, main, program, int_value, int_object, graph_run}
+use Rattle.c_typed.proofs.lemmas.ShortForms.{int, number, variable, computed, compared, assigned, declare, begin, program, int_value, int_object}
+use Rattle.g_simulation.proofs.Examples.{more, main, graph_run}
 
 abbrev started : List Event
 started = met (0 ∷ []) ∷ []
@@ -23,7 +24,7 @@ Ends p n m s = (run n p [] ≡ Exited started s) × (graph_run m p [] ≡ Exited
 abbrev counted : (slot limit : ℕ) → ItemTrees → StmtTree
 counted k n is =
     block
-    (stmt_then (value (assigned (local k) (number 0))) (stmt_then (loop (some_expr (compared relation.Less (variable k) (number n))) (some_expr (more (local k))) (block is)) no_items))
+    (stmt_then (value (assigned int (local k) (number 0))) (stmt_then (loop (some_expr (compared relation.Less (variable k) (number n))) (some_expr (more (local k))) (block is)) no_items))
 
 abbrev returned : ExprTree → ItemTrees
 returned e = stmt_then (return_value e) no_items
@@ -101,8 +102,8 @@ sums =
     declare 3 (
     stmt_then
     (counted 3 10
-    (stmt_then (value (assigned (local 2) (variable 0))) (
-    stmt_then (value (assigned (local 0) (variable 1))) (stmt_then (value (assigned (local 1) (computed op.Add (variable 2) (variable 1)))) no_items)))) (
+    (stmt_then (value (assigned int (local 2) (variable 0))) (
+    stmt_then (value (assigned int (local 0) (variable 1))) (stmt_then (value (assigned int (local 1) (computed op.Add (variable 2) (variable 1)))) no_items)))) (
     returned (variable 0))))))) ∷ [])
 
 sums-both : Ends sums 10 11 55
@@ -124,7 +125,7 @@ leaves =
     (stmt_then (if_else (compared relation.Equal (variable 1) (number 1)) continue null) (
     stmt_then (if_else (compared relation.Equal (variable 1) (number 3)) break null) (
     stmt_then (if_else (compared relation.Equal (variable 0) (number 3)) (return_value (variable 2)) null) (
-    stmt_then (value (assigned (local 2) (computed op.Add (computed op.Add (variable 2) (computed op.Mul (number 10) (variable 0))) (variable 1)))) no_items))))) no_items)) (
+    stmt_then (value (assigned int (local 2) (computed op.Add (computed op.Add (variable 2) (computed op.Mul (number 10) (variable 0))) (variable 1)))) no_items))))) no_items)) (
     returned (number 99)))))) ∷ [])
 
 leaves-both : Ends leaves 4 5 66
@@ -142,11 +143,11 @@ segments =
     (counted 0 6
     (stmt_then
     (switch (variable 0)
-    (group_then (1 ∷ []) false (stmt_then (value (assigned (local 1) (computed op.Add (variable 1) (number 1)))) no_items) (
-    group_then (2 ∷ []) false (stmt_then (value (assigned (local 1) (computed op.Add (variable 1) (number 10)))) (stmt_then break no_items)) (
+    (group_then (1 ∷ []) false (stmt_then (value (assigned int (local 1) (computed op.Add (variable 1) (number 1)))) no_items) (
+    group_then (2 ∷ []) false (stmt_then (value (assigned int (local 1) (computed op.Add (variable 1) (number 10)))) (stmt_then break no_items)) (
     group_then (4 ∷ []) false (stmt_then continue no_items) (
-    group_then [] true (stmt_then (value (assigned (local 1) (computed op.Add (variable 1) (number 100)))) no_items) no_groups))))) (
-    stmt_then (value (assigned (local 1) (computed op.Add (variable 1) (number 1000)))) no_items))) (
+    group_then [] true (stmt_then (value (assigned int (local 1) (computed op.Add (variable 1) (number 100)))) no_items) no_groups))))) (
+    stmt_then (value (assigned int (local 1) (computed op.Add (variable 1) (number 1000)))) no_items))) (
     returned (computed op.Rem (variable 1) (number 251)))))) ∷ [])
 
 segments-both : Ends segments 6 7 50
@@ -196,7 +197,7 @@ stores =
     (main (int_object ∷ int_object ∷ [])
     (declare 0 (
     declare 1 (
-    stmt_then (value (assigned (local 0) (assigned (local 1) (number 2)))) (returned (computed op.Add (variable 0) (computed op.Mul (number 3) (variable 1))))))) ∷ [])
+    stmt_then (value (assigned int (local 0) (assigned int (local 1) (number 2)))) (returned (computed op.Add (variable 0) (computed op.Mul (number 3) (variable 1))))))) ∷ [])
 
 stores-both : Ends stores 1 1 8
 stores-both = (refl, refl)

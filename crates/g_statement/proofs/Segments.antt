@@ -15,8 +15,8 @@ use Rattle.g_construct.proofs.lemmas.Later.{Keeps, EachKeeps, later_here}
 use Rattle.g_count.specs.Values.{first_ends}
 use Rattle.g_count.proofs.lemmas.Steps.{either_assoc}
 use Rattle.g_expression.specs.Work.{Enclosing, Work, made, moved_to, begun, closed, with_regions, ended}
-use Rattle.g_expression.proofs.Made.{Makes, bind_makes, made_given}
-use Rattle.g_expression.proofs.Choices.{open_in, close_from, end_from, gamma_enclosing}
+use Rattle.g_expression.proofs.lemmas.Made.{Makes, bind_makes, made_given}
+use Rattle.g_expression.proofs.lemmas.Choices.{open_in, close_from, end_from, gamma_enclosing}
 use Rattle.c_typed.specs.StmtViews.{items_of, groups_of}
 use Rattle.c_typed.specs.declared.statement.Group.{Group}
 use Rattle.g_statement.specs.LabelParts.{segment_chosen}

@@ -8,6 +8,6 @@ abbrev pub coded_variables : Coded (List VariableTree)
 coded_variables = coded_list coded_variable
 
 -- for each variable how many objects stand before it, where so many stand before the first
-abbrev pub numbers_from : ℕ → List VariableTree → List ℕ
-numbers_from n [] = []
-numbers_from n (v ∷ vs) = n ∷ numbers_from (if v.is_object then suc n else n) vs
+abbrev pub object_numbers : ℕ → List VariableTree → List ℕ
+object_numbers n [] = []
+object_numbers n (v ∷ vs) = n ∷ object_numbers (if v.is_object then suc n else n) vs

@@ -164,7 +164,7 @@ fn store_list(b: &mut Builder, number: u32, elements: &[Element]) -> Result<(), 
     store_elements(b, number, elements)
 }
 
-#[tactic(auto, using(g_expression::proofs::Made::moved_made))]
+#[tactic(auto, using(g_expression::proofs::lemmas::Made::moved_made))]
 fn begin_object(b: &mut Builder, number: u32, initial: &Initial) -> Result<(), NoMemory>
     ensures { OnOk result
         (b.new ≡ made b.old (object_begun number (initial_of initial.now) b.old.point)) }
@@ -192,7 +192,7 @@ fn declare_undeclared(b: &mut Builder) -> Result<(), NoMemory>
 }
 
 /// A declaration brings its variable into scope.
-#[tactic(auto, using(g_expression::proofs::Made::moved_made))]
+#[tactic(auto, using(g_expression::proofs::lemmas::Made::moved_made))]
 pub fn declare(
     b: &mut Builder,
     variables: &Objects,

@@ -43,7 +43,7 @@ pub fn end_jump(b: &mut Builder, code: u32) -> Result<(), NoMemory>
 }
 
 /// After a loop or a `switch`: its own `break`, if any, has ended.
-#[tactic(auto, using(g_expression::proofs::Made::moved_made))]
+#[tactic(auto, using(g_expression::proofs::lemmas::Made::moved_made))]
 pub fn end_break(b: &mut Builder, leaves: bool) -> Result<(), NoMemory>
     ensures { OnOk result (b.new ≡ made b.old (break_ended leaves b.old.point)) }
 {
@@ -87,7 +87,7 @@ fn step(b: &mut Builder, e: &TExpr) -> Result<(), NoMemory>
 }
 
 // The step of a loop, which is done unless the body was left.
-#[tactic(auto, using(g_expression::proofs::Made::moved_made))]
+#[tactic(auto, using(g_expression::proofs::lemmas::Made::moved_made))]
 fn optional_step(b: &mut Builder, leaves: bool, e: &Option<TExpr>) -> Result<(), NoMemory>
     ensures { OnOk result
         (b.new ≡ made b.old (step_made leaves (optional_of e.now) b.old.point)) }

@@ -32,9 +32,9 @@ impl<'a> Model for Objects<'a> {
     ghost view = { λ o. o.variables.now };
 
     ghost use Rattle.std.specs.Prelude.{◌≡◌};
-    ghost use Rattle.g_statement.specs.Numbers.{numbers_from};
+    ghost use Rattle.g_statement.specs.Numbers.{object_numbers};
 
-    ghost invariant = { λ o. o.numbers.items ≡ numbers_from 0 o.variables.now };
+    ghost invariant = { λ o. o.numbers.items ≡ object_numbers 0 o.variables.now };
 }
 
 impl<'a> Objects<'a> {

@@ -108,7 +108,7 @@ fn begin_several(
 }
 
 /// `from` comes into scope where some segment has several groups.
-#[tactic(auto, using(g_expression::proofs::Made::moved_made))]
+#[tactic(auto, using(g_expression::proofs::lemmas::Made::moved_made))]
 pub fn begin_from(
     b: &mut Builder,
     several: bool,

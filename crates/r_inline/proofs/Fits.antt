@@ -15,14 +15,15 @@ use Rattle.g_graph.specs.Scope.{known}
 use Rattle.g_graph.specs.Signatures.{result_kinds, output_kinds}
 use Rattle.g_graph.specs.Splice.{args_to_inputs, outputs_to_results, joined_nodes, region_spliced}
 use Rattle.g_graph.specs.WellFormed.{all_of, are, inputs_fit, inputs_are_last, every_region, region_fits, leaves_fit, body_fits, numbers_fit, well_formed, IsWellFormed}
-use Rattle.g_graph.proofs.SpliceKept.{ReplacementFits, region_spliced_kept}
+use Rattle.g_graph.proofs.lemmas.SpliceKept.{ReplacementFits, region_spliced_kept}
 use Rattle.g_graph.proofs.lemmas.Nests.{region_changed_ids, exchanged_counts, exchanged_all, numbers_numbered, changed_well_formed}
 use Rattle.g_graph.proofs.lemmas.Nodes.{NodeFits, node_fits_here, has_times, own_times}
 use Rattle.g_graph.proofs.lemmas.Numbers.{Numbered, numbered_left, numbered_right}
 use Rattle.g_graph.proofs.lemmas.Redirects.{nodes_ids-redirected}
 use Rattle.g_graph.proofs.lemmas.Splices.{nodes_ids-joined}
 use Rattle.g_graph.proofs.lemmas.Unique.{times, times_append, all_of_append, all_of_holds, counts_of_distinct, distinct_of_counts}
-use Rattle.g_copy.specs.Numbering.{numbers_from, node_count, region_numbered}
+use Rattle.g_copy.specs.Numbering.{node_count, region_numbered}
+use Rattle.val_core.specs.Numbers.{numbers_from}
 use Rattle.g_copy.proofs.lemmas.Fits.{copies_fit}
 use Rattle.g_copy.proofs.lemmas.Numbering.{copies_are_numbered, from-not-below, from-once, from-below, none-above}
 use Rattle.r_inline.specs.Rule.{iln_here}

@@ -14,7 +14,7 @@ use Rattle.g_graph.specs.Scope.{known}
 use Rattle.g_graph.specs.Signatures.{result_kinds, output_kinds}
 use Rattle.g_graph.specs.Splice.{args_to_inputs, outputs_to_results, joined_nodes, region_spliced}
 use Rattle.g_graph.specs.WellFormed.{all_of, are, distinct, every_region, region_fits, leaves_fit, body_fits, numbers_fit, well_formed, IsWellFormed}
-use Rattle.g_graph.proofs.SpliceKept.{ReplacementFits, region_spliced_kept}
+use Rattle.g_graph.proofs.lemmas.SpliceKept.{ReplacementFits, region_spliced_kept}
 use Rattle.g_graph.proofs.lemmas.Nests.{region_changed_ids, numbers_numbered, changed_well_formed}
 use Rattle.g_graph.proofs.lemmas.Numbers.{Numbered, numbered_left, numbered_right}
 use Rattle.g_graph.proofs.lemmas.Redirects.{nodes_ids-redirected}
@@ -24,7 +24,7 @@ use Rattle.g_mean.specs.Copies.{IsAmong}
 use Rattle.g_mean.proofs.lemmas.Copies.{among-left, among-right}
 use Rattle.g_mean.proofs.lemmas.Edits.{distinct-split}
 use Rattle.g_mean.proofs.lemmas.Holds.{distinct-apart}
-use Rattle.g_copy.specs.Numbering.{numbers_from}
+use Rattle.val_core.specs.Numbers.{numbers_from}
 use Rattle.g_copy.proofs.lemmas.Numbering.{from-not-below, from-once, from-below, none-above}
 use Rattle.g_edit.proofs.lemmas.Loops.{loop_node}
 use Rattle.g_edit.proofs.lemmas.Numbers.{below}

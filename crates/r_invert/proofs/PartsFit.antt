@@ -22,7 +22,8 @@ use Rattle.r_invert.specs.Laws.{IsLoopRegion}
 use Rattle.r_invert.specs.Rule.{is_output_of, takes_both_states, giving}
 use Rattle.r_invert.proofs.Chosen.{output_kind, all-chosen}
 use Rattle.r_invert.proofs.Forms.{ending}
-use Rattle.r_invert.proofs.Pieces.{Part, some-same}
+use Rattle.r_invert.proofs.Pieces.{Part}
+use Rattle.g_graph.proofs.lemmas.KindLists.{some_kind}
 use Rattle.r_invert.proofs.Sequence.{HaveStates, given-where, list-of}
 use Rattle.r_invert.proofs.Whole.{PartsFit}
 
@@ -56,8 +57,8 @@ pub have-states : (r : RegionTree) (ks : List Kind) → args_of r ≡ ks → tak
 have-states r ks a t =
     let both = and_parts (some_of (same_kind Memory) (args_of r)) (some_of (same_kind Io) (args_of r)) t in
     record {
-      memory = some-same Memory ks ∙ ap (some_of (same_kind Memory)) (sym a) ∙ both.0;
-      io = some-same Io ks ∙ ap (some_of (same_kind Io)) (sym a) ∙ both.1;
+      memory = some_kind Memory ks ∙ ap (some_of (same_kind Memory)) (sym a) ∙ both.0;
+      io = some_kind Io ks ∙ ap (some_of (same_kind Io)) (sym a) ∙ both.1;
     }
 
 -- ---- the parts

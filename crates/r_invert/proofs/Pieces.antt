@@ -19,12 +19,14 @@ use Rattle.g_graph.proofs.lemmas.Unique.{same_number}
 use Rattle.g_mean.specs.Copies.{IsAmong}
 use Rattle.g_mean.proofs.lemmas.Copies.{among-right}
 use Rattle.g_edit.proofs.lemmas.AddedFit.{fits-parts}
-use Rattle.g_copy.specs.Numbering.{numbers_from, node_count, region_numbered}
+use Rattle.g_copy.specs.Numbering.{node_count, region_numbered}
+use Rattle.val_core.specs.Numbers.{numbers_from}
 use Rattle.g_copy.proofs.lemmas.Fits.{copies_fit}
 use Rattle.g_copy.proofs.lemmas.Numbering.{copies_are_numbered}
 use Rattle.r_invert.specs.Compose.{in_sequence, alone}
 use Rattle.r_invert.proofs.AloneFits.{NodeAsks, alone-kinds, alone-fits}
 use Rattle.r_invert.proofs.Sequence.{HaveStates, sequence-kinds, sequence-fits}
+use Rattle.g_graph.proofs.lemmas.KindLists.{some_kind}
 
 -- ---- numbers
 
@@ -140,10 +142,6 @@ gamma-piece objects a j k es outs z b h g states =
       gives = alone-kinds objects a Gamma (Value ∷ es) outs rs asks first second;
     }
 
-pub some-same : (k : Kind) (ks : List Kind) → some_of (is_of k) (map Some ks) ≡ some_of (same_kind k) ks
-some-same k [] = refl
-some-same k (j ∷ ks) = ap (λ t. same_kind k j || t) (some-same k ks)
-
 theta-asks : (objects id : ℕ) (es : List Kind) (r : RegionTree) → args_of r ≡ es → result_kinds r ≡ map Some (Value ∷ es) → HaveStates (map Some es) →
     NodeAsks objects id Theta es es (region_then r no_regions)
 theta-asks objects id es r a g states =
@@ -153,7 +151,7 @@ theta-asks objects id es r a g states =
       shape = λ is. refl;
       regions = λ is. (λ i. are (g i) (Value ∷ a i) && true) ∙ (λ i. are_themselves (Value ∷ es) i && true);
       theta = λ is. (λ i. (some_of (same_kind Memory) (a i) && some_of (same_kind Io) (a i)) && true)
-          ∙ (λ i. ((sym (some-same Memory es) ∙ states.memory) i && (sym (some-same Io es) ∙ states.io) i) && true);
+          ∙ (λ i. ((sym (some_kind Memory es) ∙ states.memory) i && (sym (some_kind Io es) ∙ states.io) i) && true);
       width = λ is. refl;
       object = λ is. refl;
     }

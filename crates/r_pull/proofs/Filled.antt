@@ -11,8 +11,6 @@ use Rattle.g_graph.specs.declared.op.Origin.TheVariants.{Arg}
 use Rattle.g_graph.specs.Plain.{RegionTree, region, NodeTree, node, NodeTrees, no_nodes, node_then, RegionTrees, no_regions}
 use Rattle.g_graph.specs.Plain.{region_then, nodes_of, regions_of, nodes_in, args_of, id_of, op_of, inputs_in, regions_in}
 use Rattle.g_graph.specs.Replace.{nodes_redirected, region_redirected}
-use Rattle.g_graph.specs.Splice.{joined_nodes}
-use Rattle.g_graph.proofs.lemmas.Splices.{nodes_of-append}
 use Rattle.g_edit.specs.Removal.{region_without}
 use Rattle.g_edit.specs.Uses.{is_read}
 use Rattle.g_edit.specs.Entries.{is_gone_argument, some_reads, node_taking}
@@ -28,9 +26,6 @@ use Rattle.r_pull.proofs.Found.{changed_alike, only_is_first}
 pub count_nodes_of : (xs : List NodeTree) → count_nodes (nodes_of xs) ≡ length xs
 count_nodes_of [] = refl
 count_nodes_of (x ∷ xs) = ap suc (count_nodes_of xs)
-
-pub joined_of : (xs ys : List NodeTree) → nodes_of (xs ++ ys) ≡ joined_nodes (nodes_of xs) (nodes_of ys)
-joined_of xs ys = nodes_of-append xs ys
 
 pub redirected_count : (f : Origin → Origin) (ns : NodeTrees) → count_nodes (nodes_redirected f ns) ≡ count_nodes ns
 redirected_count f no_nodes = refl

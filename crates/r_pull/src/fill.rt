@@ -105,7 +105,7 @@ fn begin(region: &mut Region, front: Vec<Node>, copy: u32, stays: &[bool])
     put_before(&mut region.nodes, front);
 }
 
-#[tactic(auto, using(crate::proofs::Filled::count_nodes_of, crate::proofs::Filled::joined_of))]
+#[tactic(auto, using(crate::proofs::Filled::count_nodes_of, g_graph::proofs::lemmas::Splices::nodes_of_append))]
 fn put_before(nodes: &mut Vec<Node>, front: Vec<Node>)
     requires { length front.items + count_nodes (nodes_of nodes.old.items) ≤ vec_capacity front }
     ensures { nodes_of nodes.new.items ≡

@@ -16,7 +16,7 @@ use Rattle.g_graph.specs.Replace.{node_redirected, origin_replaced, nodes_redire
 use Rattle.g_graph.specs.Signatures.{is_pure}
 use Rattle.g_graph.specs.Splice.{args_to_inputs, joined_nodes}
 use Rattle.g_graph.specs.WellFormed.{all_of}
-use Rattle.g_graph.proofs.lemmas.Splices.{nodes_of-append}
+use Rattle.g_graph.proofs.lemmas.Splices.{nodes_of_append}
 use Rattle.g_edit.specs.Removal.{nodes_without}
 use Rattle.g_edit.specs.Size.{may_change_size}
 use Rattle.r_push.specs.Edit.{left, outer, has_no_regions, lengthened, all_lengthened, widened_by, widened, push_index}
@@ -206,7 +206,7 @@ pushed-at v n i xs x y m w e at l moved wide =
     let parts = within-parts v n x (f.can x at) in
     f.gives x (placed (outer x) y (widened n x)) at (parts.2 ∙ pushed-is n x y l)
     ∙ ap Some (ap₂ (λ a b. joined_nodes (nodes_of (take i xs)) (node_then a (node_then b (nodes_of (drop (suc i) xs))))) (sym moved) (sym wide)
-    ∙ sym (nodes_of-append (take i xs) (m ∷ w ∷ drop (suc i) xs)) ∙ ap nodes_of (sym (set-insert xs i m w f.bound)))
+    ∙ sym (nodes_of_append (take i xs) (m ∷ w ∷ drop (suc i) xs)) ∙ ap nodes_of (sym (set-insert xs i m w f.bound)))
 
 pub left-there : (v n i : ℕ) (xs : List NodeTree) (x : NodeTree) → push_index v n 0 (nodes_of xs) ≡ Some i → x ≡ slice_index_or xs i x → left n x ≡ None → ⊥
 left-there v n i xs x e at none =

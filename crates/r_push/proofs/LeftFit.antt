@@ -33,7 +33,7 @@ use Rattle.g_mean.proofs.lemmas.Inside.{node-here, as-many, regions-closed, inne
 use Rattle.g_edit.specs.Removal.{nodes_without}
 use Rattle.g_edit.specs.Added.{input_added}
 use Rattle.g_edit.proofs.lemmas.Scopes.{KeepsScope, kept_all, kept_node_fits}
-use Rattle.g_edit.proofs.lemmas.AddedFit.{nothing, none-of, one_more, index-added, some-added, get-last, with_value, one-argument-more, fits-parts, result_added_fits, all-added}
+use Rattle.g_edit.proofs.lemmas.AddedFit.{nothing, none-of, one_more, index-added, some-added, with_value, one-argument-more, fits-parts, result_added_fits, all-added}
 use Rattle.r_push.specs.Rule.{names_argument, leaving_one, is_invariant, leaving_loop, regions_carried, looped, placed, pushed}
 use Rattle.r_push.proofs.Stays.{known-stays}
 use Rattle.r_push.proofs.Leaving.{Leaves, leaves}
@@ -43,6 +43,7 @@ use Rattle.r_push.proofs.Replaced.{Outside, one-outside, leaves-outside, take-al
 use Rattle.g_edit.proofs.lemmas.Pure.{pure-outputs}
 use Rattle.r_push.proofs.TwoFit.{GivesAsMuch, scope-first, two-fit}
 use Rattle.r_push.proofs.RegionsFit.{CarriedFits, numbers_of, leaving-fits, InnerFits, inner-fits, one-fits, AllCarried, all-fit}
+use Rattle.val_core.proofs.lemmas.Options.{get-last}
 
 -- ---- the node outside
 

@@ -1,6 +1,6 @@
 -- The loop in its region, by the index of its node.
 use Rattle.std.specs.Prelude.{◌==◌, ◌+◌, option_and_then, is_some, slice_set}
-use Rattle.std.proofs.Common.{◌≡◌, ℕ, suc, Bool, true, false, cond, List, [], ◌∷◌, length, slice_index_or, Option, None, Some, option_map, slice_get, refl, sym, ap, ◌∙◌, arith}
+use Rattle.std.proofs.Common.{◌≡◌, ℕ, suc, Bool, true, false, cond, List, [], ◌∷◌, length, slice_index_or, None, Some, option_map, slice_get, refl, sym, ap, ◌∙◌, arith}
 use Rattle.std.proofs.lemmas.Option.{same_Some, slice_get-get_or}
 use Rattle.g_graph.specs.declared.op.Kind.{Kind}
 use Rattle.g_graph.specs.declared.op.Op.{Op}
@@ -14,6 +14,7 @@ use Rattle.g_graph.proofs.lemmas.Splices.{index_within}
 use Rattle.g_edit.proofs.lemmas.Loops.{loop_node}
 use Rattle.r_unroll.specs.Edit.{only_followed, node_followed, followed_at}
 use Rattle.r_unroll.specs.Rule.{unrolled, followed_by, may_unroll, node_unrolled, url_here}
+use Rattle.g_graph.proofs.lemmas.Change.{is_some_map}
 
 -- ---- indexes
 
@@ -51,10 +52,6 @@ none-there n first (node_then x ns) e = by (id_of x == n) e (λ d. none-there n 
 
 -- ---- the loop
 
-map-some : {X Y : Type 0} (f : X → Y) (o : Option X) → is_some (option_map f o) ≡ is_some o
-map-some f None = refl
-map-some f (Some x) = refl
-
 -- the node with another only region
 abbrev pub node_with : (last : NodeTree) → (outs : List Origin) → NodeTree → NodeTree
 node_with last outs (node id op inputs rs) = node id op inputs (only_followed last outs rs)
@@ -80,7 +77,7 @@ one-region values next id _ inputs rs e = absurd cc
 module _ (values next n p : ℕ) (args : List Kind) (xs : List NodeTree) (results : List Origin) (can : is_some (url_here values next n (region args (nodes_of xs) results)) ≡ true) where
   some-at : (x : NodeTree) → node_at n (nodes_of xs) ≡ Some x → is_some (node_unrolled values next x) ≡ true
   some-at x d =
-      sym (map-some (λ y. region args (node_set n y (nodes_of xs)) results) (node_unrolled values next x))
+      sym (is_some_map (λ y. region args (node_set n y (nodes_of xs)) results) (node_unrolled values next x))
       ∙ ap (λ o. is_some (option_map (λ y. region args (node_set n y (nodes_of xs)) results) (option_and_then (node_unrolled values next) o))) (sym d) ∙ can
 
   pub never-none : node_index n 0 (nodes_of xs) ≡ None → ⊥

@@ -12,7 +12,7 @@ use Rattle.g_graph.specs.Change.{lambda_changed}
 use Rattle.g_graph.specs.Count.{saturated, region_values}
 use Rattle.g_graph.specs.Nodes.{node_at, node_set}
 use Rattle.g_graph.specs.Program.{lambda_values}
-use Rattle.g_graph.specs.WellFormed.{all_of, leaves_fit, body_fits, numbers_fit, region_fits, every_region, IsWellFormed}
+use Rattle.g_graph.specs.WellFormed.{IsWellFormed}
 use Rattle.g_mean.specs.Copies.{IsClosed}
 use Rattle.g_mean.proofs.lemmas.Closed.{region-closed}
 use Rattle.g_edit.specs.Size.{may_change_size}
@@ -23,6 +23,7 @@ use Rattle.r_unroll.specs.Edit.{loop_body, loop_at, node_followed, followed_at, 
 use Rattle.r_unroll.specs.Rule.{followed_by, second_turn_of, region_loops, most_loop_values, growth, applies, url}
 use Rattle.r_unroll.proofs.Counted.{may-same}
 use Rattle.r_unroll.proofs.Found.{found-loop, found-some, made, url-made}
+use Rattle.g_graph.proofs.lemmas.Nests.{regions_of_well_formed}
 
 -- ---- the loop that is found
 
@@ -75,13 +76,8 @@ followed-same v next n last outs = fun_ext (λ r. by r)
 
 -- ---- the lambda
 
-fits-of : (l : PlainLambda) → IsWellFormed l → every_region (region_fits (length l.objects)) l.body ≡ true
-fits-of l w =
-    let nest = every_region (region_fits (length l.objects)) l.body in
-    (and_parts (body_fits l && numbers_fit l) nest (and_parts (body_fits l && numbers_fit l && nest) (all_of (λ o. leaves_fit o.size 0 o.leaves) l.objects) w).0).1
-
 pub body-closed : (l : PlainLambda) → IsWellFormed l → IsClosed l.body
-body-closed l w = region-closed (length l.objects) l.body (fits-of l w)
+body-closed l w = region-closed (length l.objects) l.body (regions_of_well_formed l w)
 
 pub applies-finds : (v n : ℕ) (l : PlainLambda) → v ≡ saturated (lambda_values l) → applies l n ≡ true → is_some (region_found (loop_at v l.next n) l.body) ≡ true
 applies-finds v n l e a =
@@ -119,4 +115,4 @@ url-is v n l k last outs next e w one two three g = by (region_found (loop_at (l
         let next_is : next_after l.next y ≡ next = same_Some (next_after l.next y) next (sym (ap (option_map (next_after l.next)) d) ∙ c) in
         let here : followed_at v l.next n last outs ≡ made (lambda_values l) l.next n y =
         ap (λ u. followed_at u l.next n last outs) e ∙ followed-same (lambda_values l) l.next n last outs ∙ (λ i. followed_at (lambda_values l) l.next n (sym last_is i) (sym outs_are i)) in
-        ap₂ (λ (m : PlainLambda) t. record m { next = t }) (g ∙ ap (λ h. lambda_changed h l) here) (sym next_is) ∙ sym (url-made n l y (fits-of l w) d)
+        ap₂ (λ (m : PlainLambda) t. record m { next = t }) (g ∙ ap (λ h. lambda_changed h l) here) (sym next_is) ∙ sym (url-made n l y (regions_of_well_formed l w) d)

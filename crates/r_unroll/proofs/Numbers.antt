@@ -1,6 +1,6 @@
 -- The numbers of a lambda in which a loop is unrolled: those that it had, and others from the next one on.
 use Rattle.std.specs.Prelude.{nat_lt}
-use Rattle.std.proofs.Common.{◌≡◌, ◌<◌, ◌≤◌, ◌+◌, ℕ, suc, Bool, true, false, List, [], ◌∷◌, ◌++◌, length, length-append, append-nil, zero, refl, sym, ap, ◌∙◌, arith}
+use Rattle.std.proofs.Common.{◌≡◌, ◌<◌, ◌≤◌, ◌+◌, ℕ, suc, Bool, true, false, List, [], ◌∷◌, ◌++◌, length, length-append, append-nil, refl, sym, ap, ◌∙◌, arith}
 use Rattle.std.proofs.lemmas.Bool.{and_parts, and_from}
 use Rattle.std.proofs.lemmas.Bool.Decides.{nat_tests}
 use Rattle.g_graph.specs.declared.op.Op.TheVariants.{Gamma}
@@ -10,9 +10,11 @@ use Rattle.g_graph.specs.WellFormed.{all_of, distinct}
 use Rattle.g_graph.proofs.lemmas.Numbers.{Numbered}
 use Rattle.g_graph.proofs.lemmas.Splices.{nodes_ids-joined}
 use Rattle.g_graph.proofs.lemmas.Unique.{times, times_append, all_of_append, all_of_holds, counts_of_distinct}
-use Rattle.g_copy.specs.Numbering.{numbers_from, node_count, region_numbered}
+use Rattle.g_copy.specs.Numbering.{node_count, region_numbered}
+use Rattle.val_core.specs.Numbers.{numbers_from}
 use Rattle.g_copy.proofs.lemmas.Numbering.{copies_are_numbered, from-not-below, from-once, from-below, none-above}
 use Rattle.r_unroll.specs.Rule.{stopping, unrolled}
+use Rattle.val_core.proofs.lemmas.Numbers.{length_numbers}
 
 -- the numbers that come
 abbrev pub new_numbers : (next : ℕ) → RegionTree → List ℕ
@@ -39,10 +41,6 @@ pub record Adds (next count : ℕ) (is js : List ℕ) : Type 0 where
   pub number_more : length js ≡ length is + count
   pub below : all_of (λ n. nat_lt n next) is ≡ true → all_of (λ n. nat_lt n (next + count)) js ≡ true
 
-from-count : (next count : ℕ) → length (numbers_from next count) ≡ count
-from-count next zero = refl
-from-count next (suc count) = ap suc (from-count (suc next) count)
-
 wider : (next count : ℕ) (is : List ℕ) → all_of (λ n. nat_lt n next) is ≡ true → all_of (λ n. nat_lt n (next + count)) is ≡ true
 wider next count is e = all_of_holds (λ n. nat_lt n next) (λ n. nat_lt n (next + count)) (λ n d. grind (arith, nat_tests)) is e
 
@@ -50,7 +48,7 @@ pub adds-here : (next count : ℕ) (is : List ℕ) → Adds next count is (is ++
 adds-here next count is =
     record {
       times_more = λ m. times_append m is (numbers_from next count);
-      number_more = length-append is (numbers_from next count) ∙ ap (λ n. length is + n) (from-count next count);
+      number_more = length-append is (numbers_from next count) ∙ ap (λ n. length is + n) (length_numbers next count);
       below = λ e. all_of_append (λ n. nat_lt n (next + count)) is (numbers_from next count)
           ∙ and_from (all_of (λ n. nat_lt n (next + count)) is) (all_of (λ n. nat_lt n (next + count)) (numbers_from next count)) (wider next count is e)
           (from-below next count (next + count) (omega arith));

@@ -1,3 +1,2 @@
 mod Examples
 pub mod lemmas
-pub mod Placed

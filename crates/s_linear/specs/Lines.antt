@@ -1,7 +1,8 @@
 -- Linear code as a list of lines, each of which is one position. Labels are numbers, each of which is marked once.
-use Rattle.std.specs.Prelude.{ℕ, zero, suc, ◌+◌, ◌==◌, nat_lt, Bool, true, if◌then◌else◌, List, [], ◌∷◌, ◌++◌, map}
+use Rattle.std.specs.Prelude.{ℕ, suc, ◌+◌, ◌==◌, nat_lt, Bool, true, if◌then◌else◌, List, [], ◌∷◌, ◌++◌, map}
 use Rattle.g_graph.specs.WellFormed.{all_of}
 use Rattle.s_linear.specs.Linear.{Instr, const, undef, object_address, global_address, binary, unary, load, store, clear, equal_pointers, move, call, put, get, exit, Step, plain, choice, loop, Code, no_steps, step_then, Codes, no_codes, code_then, LinearFunction}
+use Rattle.val_core.specs.Numbers.{numbers_from}
 
 pub data Line : Type 0 where
   enter : (params : List ℕ) → Line
@@ -101,11 +102,6 @@ abbrev mutual
   codes_lines last others no_codes = []
   codes_lines last others (code_then c no_codes) = code_lines last c ∷ []
   codes_lines last others (code_then c cs) = code_lines others c ∷ codes_lines last (others + code_labels c) cs
-
--- the numbers from `first` on, so many
-abbrev pub numbers_from : (first count : ℕ) → List ℕ
-numbers_from first zero = []
-numbers_from first (suc n) = first ∷ numbers_from (suc first) n
 
 abbrev pub lines : LinearFunction → List Line
 lines f = enter (numbers_from 0 f.params) ∷ code_lines 0 f.code ++ leave f.value ∷ []

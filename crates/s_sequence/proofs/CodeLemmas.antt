@@ -6,7 +6,8 @@ use Rattle.g_graph.specs.declared.op.Origin.{Origin}
 use Rattle.g_graph.specs.Plain.{RegionTree, region, args_of, results_of}
 use Rattle.g_graph.specs.Signatures.{result_kinds}
 use Rattle.s_linear.specs.Linear.{Instr, Code, no_steps}
-use Rattle.s_linear.specs.Lines.{Line, done, label, jump, branch_zero, code_lines, step_lines, numbers_from}
+use Rattle.s_linear.specs.Lines.{Line, done, label, jump, branch_zero, code_lines, step_lines}
+use Rattle.val_core.specs.Numbers.{numbers_from}
 use Rattle.s_sequence.specs.declared.scope.Scope.{Scope}
 use Rattle.s_sequence.specs.Sequence.{value_args, kept, moves, instrs_then, loop_results, predicate_name, no_names, nodes_named, nodes_names, name_of, nodes_code, branch_code, loop_step, region_names}
 use Rattle.s_sequence.specs.Scope.{port_in, name_in, kind_in}

@@ -1,6 +1,5 @@
+pub mod lemmas
 mod Examples
-pub mod Instrs
-pub mod Named
 mod MoveLemmas
 mod PortLemmas
 mod BranchLemmas

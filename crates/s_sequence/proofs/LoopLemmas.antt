@@ -1,7 +1,8 @@
 -- The lines of the end of a loop.
 use Rattle.std.proofs.Common.{◌≡◌, ℕ, ◌+◌, ◌-◌, List, [], ◌∷◌, ◌++◌, map, ap, ◌∙◌, sym, append_assoc}
 use Rattle.g_graph.specs.declared.op.Kind.{Kind}
-use Rattle.s_linear.specs.Lines.{Line, done, branch_zero, jump, label, numbers_from}
+use Rattle.s_linear.specs.Lines.{Line, done, branch_zero, jump, label}
+use Rattle.val_core.specs.Numbers.{numbers_from}
 use Rattle.s_sequence.specs.Sequence.{value_args, moves, loop_results, predicate_name}
 
 grouped : (old a c : List Line) (b j l : Line) → (((old ++ (a ++ b ∷ [])) ++ c) ++ j ∷ []) ++ l ∷ [] ≡ ((old ++ a) ++ b ∷ c) ++ j ∷ l ∷ []

@@ -6,7 +6,8 @@ use Rattle.g_graph.specs.declared.op.Kind.{Kind}
 use Rattle.g_graph.specs.declared.op.Kind.TheVariants.{Value, Memory, Io}
 use Rattle.g_graph.specs.declared.op.Origin.{Origin}
 use Rattle.s_linear.specs.Linear.{move}
-use Rattle.s_linear.specs.Lines.{Line, done, numbers_from}
+use Rattle.s_linear.specs.Lines.{Line, done}
+use Rattle.val_core.specs.Numbers.{numbers_from}
 use Rattle.s_sequence.specs.Sequence.{value_args, kept, without_states, moves}
 use Rattle.s_sequence.specs.Ports.{name_after}
 use Rattle.s_sequence.specs.Moves.{exit_lines}

@@ -18,7 +18,7 @@ use Rattle.s_sequence.specs.Ports.{ports_from, port_at}
 use Rattle.s_sequence.specs.Scope.{port_in, name_in, kind_in, names_in}
 use Rattle.s_sequence.specs.Shape.{NodeShaped, NodesShaped, RegionShaped}
 use Rattle.s_sequence.specs.Written.{node_labels, nodes_labels, region_labels, node_ports, region_port, region_code}
-use Rattle.s_sequence.proofs.Named.{args_length}
+use Rattle.s_sequence.proofs.lemmas.Named.{args_length}
 use Rattle.s_sequence.proofs.PortLemmas.{port_of_kinds}
 use Rattle.s_sequence.proofs.LabelLemmas.{step_labels_are}
 

@@ -1,15 +1,15 @@
 -- Names and labels are left for what is to come.
-use Rattle.std.proofs.Common.{◌≡◌, ◌<◌, ◌≤◌, suc, ◌+◌, ◌-◌, List, [], ◌∷◌, map, length, take, drop, get_or, refl, ap, sym, arith}
+use Rattle.std.proofs.Common.{◌≡◌, ◌<◌, ◌≤◌, ◌+◌, ◌-◌, List, [], ◌∷◌, map, length, take, drop, get_or, refl, ap, sym, arith}
 use Rattle.std.proofs.lemmas.List.{length-map}
 use Rattle.std.specs.declared.option.Option.{Option}
 use Rattle.std.specs.declared.option.Option.TheVariants.{None}
 use Rattle.g_graph.specs.declared.op.Kind.{Kind}
 use Rattle.g_graph.specs.declared.op.Origin.{Origin}
-use Rattle.g_graph.specs.Plain.{RegionTree, region, regions_of, args_of, count_of, results_of}
+use Rattle.g_graph.specs.Plain.{RegionTree, region, regions_of, args_of, results_of}
 use Rattle.g_graph.specs.Signatures.{kind_of, kind_after, result_kinds}
 use Rattle.g_graph.specs.Count.{region_values, regions_values}
 use Rattle.s_sequence.specs.Sequence.{values_in, value_args, region_names}
-use Rattle.s_sequence.proofs.Named.{args_length, values_length, nodes_names_values}
+use Rattle.s_sequence.proofs.lemmas.Named.{args_length, values_length, nodes_names_values}
 
 pub args_room : (r : RegionTree) → value_args (args_of r) < region_values r
 args_room (region args nodes results) = omega (arith, args_length args)

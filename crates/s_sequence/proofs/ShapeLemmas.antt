@@ -23,7 +23,7 @@ use Rattle.s_sequence.specs.Shape.{last_kinds, HasShape, RegionShaped, NodeShape
 use Rattle.s_sequence.specs.Writer.{PlainWriter, with_lines}
 use Rattle.s_sequence.specs.Written.{HasRoom, region_labels, region_code, region_port}
 use Rattle.s_sequence.proofs.LabelLemmas.{region_labels_values}
-use Rattle.s_sequence.proofs.Instrs.{regions_of_well_formed}
+use Rattle.g_graph.proofs.lemmas.Nests.{regions_of_well_formed}
 
 last_known : (args ks : List Kind) (r : RegionTree) (rs : RegionTrees) → all_regions (λ s. same (args_of s) args && are (result_kinds s) ks) (region_then r rs) ≡ true →
     last_kinds r rs ≡ map Some ks

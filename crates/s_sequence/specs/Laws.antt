@@ -7,7 +7,8 @@ use Rattle.g_graph.specs.Count.{region_values}
 use Rattle.g_graph.specs.Lists.{RegionOps, NamesGlobal}
 use Rattle.g_graph.specs.WellFormed.{all_of, IsWellFormed}
 use Rattle.s_linear.specs.Linear.{Instr, call}
-use Rattle.s_linear.specs.Lines.{enter, leave, does, names_below, numbers_from, code_lines, lines}
+use Rattle.s_linear.specs.Lines.{enter, leave, does, names_below, code_lines, lines}
+use Rattle.val_core.specs.Numbers.{numbers_from}
 use Rattle.s_linear.specs.Operands.{has_its_object, has_its_global, has_its_width}
 use Rattle.s_sequence.specs.Sequence.{sequenced}
 

@@ -12,7 +12,7 @@ use Rattle.g_graph.specs.declared.op.Op.TheVariants.{Const, Undef, Local, Delta,
 use Rattle.g_graph.specs.Plain.{RegionTree, region, NodeTree, node, NodeTrees, no_nodes, node_then, RegionTrees, no_regions, region_then, PlainLambda}
 use Rattle.g_graph.specs.Signatures.{result_kinds, output_kinds}
 use Rattle.s_linear.specs.Linear.{Instr, const, undef, object_address, global_address, binary, unary, load, store, clear, equal_pointers, move, call, put, get, exit, Step, plain, choice, loop, Code, no_steps, step_then, Codes, no_codes, code_then, LinearFunction}
-use Rattle.s_linear.specs.Lines.{numbers_from}
+use Rattle.val_core.specs.Numbers.{numbers_from}
 
 -- ---- names
 

@@ -1,6 +1,7 @@
 ghost use Rattle.std.specs.Prelude.{◌≡◌, ◌+◌, ◌<◌, ◌^◌, [], ◌∷◌, ◌++◌, map, OnOk, IfOk};
 ghost use Rattle.std.specs.declared.option.Option.TheVariants.{Some};
-ghost use Rattle.s_linear.specs.Lines.{done, branch_zero, jump, label, numbers_from};
+ghost use Rattle.s_linear.specs.Lines.{done, branch_zero, jump, label};
+ghost use Rattle.val_core.specs.Numbers.{numbers_from};
 ghost use Rattle.s_sequence.specs.Sequence.{value_args, moves, loop_results, predicate_name};
 ghost use Rattle.s_sequence.specs.Ports.{ports_from};
 ghost use Rattle.s_sequence.specs.Writer.{with_lines};

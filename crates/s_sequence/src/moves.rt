@@ -1,6 +1,7 @@
 ghost use Rattle.std.specs.Prelude.{◌≡◌, ◌+◌, ◌<◌, ◌^◌, [], map, OnOk, IfOk};
 ghost use Rattle.std.specs.declared.option.Option.TheVariants.{Some};
-ghost use Rattle.s_linear.specs.Lines.{done, numbers_from};
+ghost use Rattle.s_linear.specs.Lines.{done};
+ghost use Rattle.val_core.specs.Numbers.{numbers_from};
 ghost use Rattle.s_sequence.specs.Sequence.{values_in, value_args, kept, moves};
 ghost use Rattle.s_sequence.specs.Ports.{name_after, port_added, ports_from};
 ghost use Rattle.s_sequence.specs.Scope.{port_in, name_in, kind_in};

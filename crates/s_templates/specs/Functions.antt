@@ -14,7 +14,8 @@ use Rattle.rv_machine.specs.Standing.{Text}
 use Rattle.rv_layout.specs.Layout.{Addresses}
 use Rattle.s_linear.specs.Frame.{PlainPlaces, frame_size}
 use Rattle.s_linear.specs.Linear.{Instr, LinearFunction}
-use Rattle.s_linear.specs.Lines.{done, instr_names, lines, numbers_from}
+use Rattle.s_linear.specs.Lines.{done, instr_names, lines}
+use Rattle.val_core.specs.Numbers.{numbers_from}
 use Rattle.s_linear.specs.Meaning.{Call, first_names}
 use Rattle.s_linear.specs.Operands.{has_its_object, has_its_global}
 use Rattle.a_place.specs.Places.{places}

@@ -6,3 +6,5 @@ pub mod Events
 pub mod Answers
 pub mod Refinement
 pub mod Within
+pub mod Numbers
+pub mod Options

@@ -11,3 +11,4 @@ pub mod ValueLaws
 pub mod MemoryLaws
 pub mod AnswerLaws
 pub mod RunLaws
+pub mod Numbers

@@ -1,9 +1,9 @@
 -- The names of lines are the numbers below their count.
-use Rattle.std.proofs.Common.{◌≡◌, ◌<◌, ℕ, zero, suc, true, List, [], ◌∷◌, length, refl, ap, inl, inr, arith, eqb-true}
+use Rattle.std.proofs.Common.{◌≡◌, ◌<◌, ℕ, true, List, [], ◌∷◌, inl, inr, arith, eqb-true}
 use Rattle.std.specs.Prelude.{◌==◌}
 use Rattle.std.proofs.lemmas.Bool.{or_cases}
 use Rattle.g_graph.specs.WellFormed.{some_of}
-use Rattle.s_linear.specs.Lines.{Line, line_names, numbers_from}
+use Rattle.s_linear.specs.Lines.{Line, line_names}
 use Rattle.a_place.specs.Places.{among, occurs, above, name_count}
 
 pub above_all : (x : ℕ) (xs : List ℕ) → among x xs ≡ true → x < above xs

@@ -9,7 +9,7 @@ use Rattle.c_typed.specs.declared.operator.BinaryOp.TheVariants as binary_op
 use Rattle.c_typed.specs.declared.operator.CompoundOp.TheVariants as compound_op
 use Rattle.c_typed.specs.Typed.{expr, constant, address, unary, binary, logical_and, logical_or, conditional, compound, inc_dec, call, get, no_exprs, expr_then, place, local, global, at, member, no_expr, some_expr, no_elements, value_then, characters_then, initial_elements, null, value, block, if_else, loop, do_while, break, continue, return_value, switch, no_items, stmt_then, declare_then, no_groups, group_then, word_at, link_at, characters_at, ProgramTree}
 use Rattle.c_mean.specs.Run.{exit, cut, heard}
-use Rattle.c_mean.proofs.examples.Trees.{int, char, int_pointer, char_pointer, value_of, object_of, int_value, int_object, number, read_of, variable, computed, compared, converted, assigned, step_by, put, called, set, declare, begin, function, program_with, program}
+use Rattle.c_typed.proofs.lemmas.ShortForms.{int, char, int_pointer, char_pointer, value_of, object_of, int_value, int_object, number, read_of, variable, computed, compared, converted, assigned, step_by, put, called, set, declare, begin, function, program_with, program}
 
 -- int main(void) { int a = 0, b = 1, t, i; for (i = 0; i < 10; i++) { t = a; a = b; b = t + b; } return a; }
 abbrev fibonacci : ProgramTree

@@ -7,7 +7,7 @@ use Rattle.c_typed.specs.declared.operator.Relation.TheVariants as relation
 use Rattle.c_typed.specs.declared.operator.BinaryOp.TheVariants as binary_op
 use Rattle.c_typed.specs.Typed.{expr, constant, address, binary, conditional, inc_dec, call, no_exprs, expr_then, place, local, global, at, some_expr, no_elements, value_then, initial_value, initial_elements, value, block, if_else, loop, return_value, no_items, stmt_then, declare_then, characters_at, ProgramTree}
 use Rattle.c_mean.specs.Run.{undefined, heard}
-use Rattle.c_mean.proofs.examples.Trees.{int, char, int_pointer, char_pointer, value_of, object_of, int_value, int_object, number, read_of, variable, computed, compared, converted, assigned, step_by, put, called, set, declare, begin, function, program_with, program}
+use Rattle.c_typed.proofs.lemmas.ShortForms.{int, char, int_pointer, char_pointer, value_of, object_of, int_value, int_object, number, read_of, variable, computed, compared, converted, assigned, step_by, put, called, set, declare, begin, function, program_with, program}
 
 -- int main(void) { putchar(65); int x; return x; }
 abbrev reads_nothing : ProgramTree

@@ -20,7 +20,7 @@ use Rattle.c_static.specs.Types.{same_type}
 use Rattle.c_static.proofs.lemmas.SameType.{same_type-true}
 use Rattle.c_scope.specs.Scopes.{Name, same_name, meaning}
 use Rattle.c_scope.specs.Names.{number_of, has_name, with_name}
-use Rattle.c_scope.proofs.LatestLemmas.{same-self}
+use Rattle.c_scope.proofs.lemmas.Latest.{same-self}
 use Rattle.c_elaboration.specs.declared.rule.Broken.{Broken}
 use Rattle.c_elaboration.specs.declared.rule.Quantity.{Quantity}
 use Rattle.c_elaboration.specs.declared.rule.Quantity.TheVariants.{Parameters}
@@ -44,6 +44,7 @@ use Rattle.c_sound.proofs.lemmas.Locals.{get_append_cases}
 use Rattle.c_sound.proofs.lemmas.FunctionMoved.{all_types_same, names_of, AreTyped}
 use Rattle.c_sound.proofs.lemmas.FileSteps.{externals_out}
 use Rattle.c_sound.proofs.lemmas.FileShapes.{file_shaped, declarations_few}
+use Rattle.val_core.proofs.lemmas.Options.{or_none}
 
 -- ---- the state before the file
 
@@ -97,10 +98,6 @@ initial_file names = record {
         (record { function = record { result = Some int; params = Some int ∷ []; is_defined = true }; there = refl; result = int; has = refl; types = int ∷ []; takes = (refl, tt) })
 
 -- ---- limits
-
-or_none : {A : Type 0} → (a b : Option A) → option_or a b ≡ None → (a ≡ None) × (b ≡ None)
-or_none None b h = (refl, h)
-or_none (Some x) b h = absurd (cc)
 
 map_none : {A B : Type 0} → (f : A → B) (o : Option A) → option_map f o ≡ None → o ≡ None
 map_none f None h = refl

@@ -1,12 +1,12 @@
 -- Later struct definitions leave what types occupy as it was, and the parts of a type stand in it in order.
-use Rattle.std.proofs.Common.{◌≡◌, ℕ, ◌*◌, zero, suc, Bool, true, false, cond, List, [], ◌∷◌, ◌++◌, refl, sym, ap, ap₂, ◌∙◌, subst, eqb-true}
+use Rattle.std.proofs.Common.{◌≡◌, ℕ, ◌*◌, zero, suc, Bool, true, false, cond, List, [], ◌∷◌, ◌++◌, refl, ap, ap₂, ◌∙◌, subst}
 use Rattle.std.specs.Prelude.{◌==◌, ◌&&◌, ◌||◌, not, slice_get, Some}
-use Rattle.std.proofs.lemmas.Bool.{false≢true, and_parts}
+use Rattle.std.proofs.lemmas.Bool.{and_parts}
 use mathlib.Core.Path.{fun_ext}
 use Rattle.c_type.specs.Trees.{TypeTree, void_type, scalar_type, pointer_to, array_of, struct_type}
 use Rattle.c_type.specs.Layout.{Definition, Definitions, is_defined, is_complete, rounded_up, align, largest, size, struct_size, members_end, offset, offset_from, leaves_at, struct_leaves, members_leaves, repeated, members, IsLaidOut}
 use Rattle.c_type.specs.WellDefined.{AreLaidOut, AreDefinitions}
-use Rattle.c_type.proofs.Levels.{other-tag}
+use Rattle.c_type.proofs.lemmas.Levels.{other-tag}
 
 -- ---- one more definition
 

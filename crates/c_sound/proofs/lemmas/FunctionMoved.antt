@@ -28,7 +28,7 @@ use Rattle.c_sound.proofs.lemmas.GoesLocals.{declarations}
 use Rattle.c_sound.proofs.lemmas.GoesStatements.{items_goes}
 use Rattle.c_sound.proofs.lemmas.File.{Onward, onward_step, onward_then, still_declared, FunctionKnown, known_later, File, file_more, Moved, moved_step}
 use Rattle.c_sound.proofs.lemmas.Params.{result_type_steps, result_type_quiet, result_type_typed, ParamsAre, params_same, params_out}
-use Rattle.c_scope.proofs.LatestLemmas.{same-equal}
+use Rattle.c_scope.proofs.lemmas.Latest.{same-equal}
 use Rattle.c_sound.proofs.lemmas.DeclaredFunctions.{Core, core_of, file_cleared, FunctionOut, declare_function_broken, declare_function_out}
 use Rattle.c_sound.proofs.lemmas.FunctionBodies.{name_params_steps, name_params_quiet, bind_out, params_types, Entry, Ended}
 use Rattle.c_sound.proofs.lemmas.TypedFunctions.{body_typed}

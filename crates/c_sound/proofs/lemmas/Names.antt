@@ -7,7 +7,6 @@ use Rattle.std.proofs.Math.ListN.{get_or}
 use Rattle.std.proofs.lemmas.Bool.{false≢true}
 use Rattle.std.proofs.lemmas.List.Quantifiers.{position-Some}
 use Rattle.std.proofs.lemmas.Option.{slice_get-get_or}
-use Rattle.std.proofs.lemmas.Slice.Eq.{bytes_eq-Decides}
 use Rattle.c_type.specs.Trees.{TypeTree, void_type}
 use Rattle.c_typed.specs.WellTyped.{Signature}
 use Rattle.c_scope.specs.Scopes.{Name, Scope, same_name, meaning, is_declared, with_declaration}
@@ -16,7 +15,7 @@ use Rattle.c_elaboration.specs.declared.meaning.Meaning.{Meaning}
 use Rattle.c_elaboration.specs.declared.meaning.Meaning.TheVariants as means
 use Rattle.c_elaboration.specs.State.{MaybeType, Declared, State}
 use Rattle.c_sound.proofs.lemmas.States.{AllTypes}
-use Rattle.c_scope.proofs.LatestLemmas.{same-equal, same-self}
+use Rattle.c_scope.proofs.lemmas.Latest.{same-equal, same-self}
 
 -- a name that is declared keeps its meaning where another is declared
 pub kept_meaning : (x : Scope Meaning) (name : Name) (m : Meaning) (asked : Name) (n : Meaning) → is_declared (x ∷ []) name ≡ false → meaning (x ∷ []) asked ≡ Some n →

@@ -1,5 +1,5 @@
 -- The elements of an array and the members of a struct stand in it in order.
-use Rattle.std.proofs.Common.{◌≡◌, ◌≤◌, ◌<◌, inl, inr, ℕ, ◌+◌, ◌*◌, ◌-◌, ◌/◌, zero, suc, Bool, true, false, cond, List, [], ◌∷◌, ◌++◌, length, refl, sym, ap, subst, arith, mul_comm, suc-mul}
+use Rattle.std.proofs.Common.{◌≡◌, ◌≤◌, ◌<◌, inl, inr, ℕ, ◌+◌, ◌*◌, ◌-◌, ◌/◌, zero, suc, Bool, true, false, cond, List, [], ◌∷◌, ◌++◌, length, refl, sym, ap, subst, arith, suc-mul}
 use Rattle.std.specs.Prelude.{◌==◌, not, nat_lt, slice_get, None, Some, if◌then◌else◌}
 use Rattle.std.proofs.lemmas.Bool.{and_parts}
 use Rattle.std.proofs.lemmas.Bool.Decides.{nat_tests}
@@ -12,7 +12,7 @@ use Rattle.c_typed.specs.WellTyped.{HasLeaf}
 use Rattle.c_elaboration.specs.State.{MaybeType}
 use Rattle.c_elaboration.specs.Initialisers.{part_type, part_offset, parts_of}
 use Rattle.c_sound.proofs.lemmas.Definitions.{leaves_later, size_later, member_laid, laid_at}
-use Rattle.c_type.proofs.Bounds.{round-lower}
+use Rattle.c_type.proofs.lemmas.Bounds.{round-lower}
 
 -- what the layouts of types keep to
 pub record Layouts : Type 0 where

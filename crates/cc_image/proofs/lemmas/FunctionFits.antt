@@ -12,8 +12,8 @@ use Rattle.g_graph.specs.Lists.{RegionOps, Calls}
 use Rattle.g_graph.specs.Program.{lambda_values, IsFunctionWithinLimits}
 use Rattle.g_graph.specs.WellFormed.{all_of}
 use Rattle.g_graph.proofs.lemmas.Ops.{region_follows}
-use Rattle.s_linear.proofs.Labels.{labels_are_marked_once, lines_go_to_labels}
-use Rattle.s_sequence.proofs.Instrs.{calls_keep_arguments, globals_are_there}
+use Rattle.s_linear.proofs.lemmas.Labels.{labels_are_marked_once, lines_go_to_labels}
+use Rattle.s_sequence.proofs.lemmas.Instrs.{calls_keep_arguments, globals_are_there}
 use Rattle.s_sequence.specs.Laws.{Applies}
 use Rattle.s_sequence.specs.Sequence.{sequenced}
 use Rattle.a_place.specs.Places.{places}

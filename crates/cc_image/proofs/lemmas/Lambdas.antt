@@ -9,10 +9,10 @@ use Rattle.g_graph.proofs.lemmas.Unique.{all_of_holds}
 use Rattle.s_linear.specs.Frame.{PlainPlaces, frame_size, objects_at}
 use Rattle.s_linear.specs.Lines.{Line, line_names, names_below}
 use Rattle.s_linear.specs.declared.frame.Frame.{Frame}
-use Rattle.s_sequence.proofs.Instrs.{calls_keep_arguments, objects_are_there, widths_fit}
-use Rattle.s_sequence.proofs.Named.{names_are_below}
-use Rattle.a_place.proofs.Apart.{places_are_below_count}
-use Rattle.a_place.proofs.Starting.{places_are_few}
+use Rattle.s_sequence.proofs.lemmas.Instrs.{calls_keep_arguments, objects_are_there, widths_fit}
+use Rattle.s_sequence.proofs.lemmas.Named.{names_are_below}
+use Rattle.a_place.proofs.lemmas.Apart.{places_are_below_count}
+use Rattle.a_place.proofs.lemmas.Starting.{places_are_few}
 use Rattle.a_place.specs.Places.{places}
 use Rattle.s_select.specs.Conditions.{CanSelect, IsFrameOf}
 use Rattle.s_select.specs.Templates.{items_of}

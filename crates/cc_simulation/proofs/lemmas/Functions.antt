@@ -1,5 +1,5 @@
 -- The functions of a program can run once its image is loaded, and its image begins as the machine wants it.
-use Rattle.std.proofs.Common.{◌≡◌, ℕ, zero, suc, ◌+◌, ◌-◌, ◌%◌, ◌^◌, ◌<◌, ◌≤◌, Bool, true, false, if◌then◌else◌, List, [], ◌∷◌, map, length, slice_get, Some, refl, sym, ap, subst, ◌∙◌, arith}
+use Rattle.std.proofs.Common.{◌≡◌, ℕ, zero, suc, ◌+◌, ◌-◌, ◌%◌, ◌^◌, ◌<◌, ◌≤◌, Bool, true, false, if◌then◌else◌, List, [], ◌∷◌, map, length, slice_get, Some, refl, sym, subst, ◌∙◌, arith}
 use Rattle.std.proofs.lemmas.Bool.{and_parts, lt-ltb}
 use Rattle.std.proofs.lemmas.Nat.{mod_below}
 use Rattle.std.proofs.lemmas.List.Sums.{sum_by-cons, sum_by-take-le}
@@ -11,7 +11,7 @@ use Rattle.elf_file.specs.Laws.{executable_for, LoadedIsSound}
 use Rattle.elf_file.specs.Segments.{AreSound}
 use Rattle.g_graph.specs.declared.op.Op.{Op}
 use Rattle.g_graph.specs.declared.op.Op.TheVariants.{Const, Undef, Local, Delta, Bin, Un, Load, Store, Clear, PtrEq, Apply, Put, Exit, Get, Gamma, Theta}
-use Rattle.g_graph.specs.Plain.{PlainObject, PlainDelta, PlainLambda, PlainOmega}
+use Rattle.g_graph.specs.Plain.{PlainObject, PlainLambda, PlainOmega}
 use Rattle.g_graph.specs.Program.{lambda_values}
 use Rattle.g_graph.specs.WellFormed.{all_of, body_fits, numbers_fit, every_region, region_fits, leaves_fit, IsWellFormed}
 use Rattle.g_mean.specs.Calls.{global_of, first_memory}
@@ -26,11 +26,11 @@ use Rattle.s_linear.specs.Frame.{saved_of, object_room, object_at, frame_size, o
 use Rattle.s_linear.specs.Linear.{LinearFunction}
 use Rattle.s_linear.specs.Lines.{does, code_labels, lines}
 use Rattle.s_linear.specs.declared.frame.Frame.{Frame}
-use Rattle.s_linear.proofs.Labels.{labels_are_marked_once}
+use Rattle.s_linear.proofs.lemmas.Labels.{labels_are_marked_once}
 use Rattle.s_sequence.specs.Sequence.{op_instr, sequenced}
-use Rattle.s_sequence.proofs.Instrs.{instrs_pass, globals_are_there}
-use Rattle.s_sequence.proofs.Named.{names_are_below}
-use Rattle.a_place.proofs.Starting.{places_are_few}
+use Rattle.s_sequence.proofs.lemmas.Instrs.{instrs_pass, globals_are_there}
+use Rattle.s_sequence.proofs.lemmas.Named.{names_are_below}
+use Rattle.a_place.proofs.lemmas.Starting.{places_are_few}
 use Rattle.a_place.specs.Places.{places}
 use Rattle.s_select.specs.Templates.{size_of}
 use Rattle.s_select.proofs.lemmas.Selected.{marks-items}

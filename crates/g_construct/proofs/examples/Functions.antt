@@ -11,13 +11,14 @@ use Rattle.g_graph.specs.declared.op.Origin.TheVariants.{Arg, Out}
 use Rattle.g_graph.specs.declared.op.Op.TheVariants as node_op
 use Rattle.g_graph.specs.Plain.{region, node, nodes_of, no_regions}
 use Rattle.g_construct.specs.Functions.{lambda_made, function_values}
-use Rattle.g_construct.proofs.examples.Trees.{int, char, char_pointer, value_of, object_of, int_value, number, variable, computed, compared, with_op, set, items, begin, function, program, listed, main_listed}
+use Rattle.c_typed.proofs.lemmas.ShortForms.{int, char, char_pointer, value_of, object_of, int_value, number, variable, computed, compared, set, begin_with, function, program}
+use Rattle.g_construct.proofs.examples.Trees.{with_op, items, listed, main_listed}
 
 -- int main(void) { return 42; }
 abbrev forty_two : FunctionTree
-forty_two = function 0 [] (items (return_value (number 42) ∷ []))
+forty_two = function int 0 [] (items (return_value (number 42) ∷ []))
 
-one_constant : lambda_made (program (forty_two ∷ [])) 0 forty_two
+one_constant : lambda_made (program 0 (forty_two ∷ [])) 0 forty_two
     ≡ record {
       number = 0;
       params = 0;
@@ -31,20 +32,20 @@ one_constant-values : function_values forty_two ≡ 8
 one_constant-values = refl
 
 -- int main(void) { return 40 + 2; }
-sum-values : function_values (function 0 [] (items (return_value (computed Add (number 40) (number 2)) ∷ []))) ≡ 12
+sum-values : function_values (function int 0 [] (items (return_value (computed Add (number 40) (number 2)) ∷ []))) ≡ 12
 sum-values = refl
 
 -- int main(void) { int a = getchar(); return a * a + a * a; }
 abbrev square : ExprTree
 square = computed Mul (variable 0) (variable 0)
 
-squares-values : function_values (function 0 (int_value ∷ []) (begin 0 (initial_value (expr int get)) (items (return_value (computed Add square square) ∷ [])))) ≡ 15
+squares-values : function_values (function int 0 (int_value ∷ []) (begin_with 0 (initial_value (expr int get)) (items (return_value (computed Add square square) ∷ [])))) ≡ 15
 squares-values = refl
 
 -- int f(int a) { a = -a; return ~a <= 3; }
 abbrev unaries : FunctionTree
 unaries =
-    function 1 (int_value ∷ [])
+    function int 1 (int_value ∷ [])
     (items (set 0 (with_op Negate (variable 0)) ∷ return_value (compared LessEqual (with_op Complement (variable 0)) (number 3)) ∷ []))
 
 unaries-listed : listed unaries
@@ -58,7 +59,7 @@ unaries-values = refl
 -- int f(int a, int b) { if (a < b) return a; return b; }
 abbrev lesser : FunctionTree
 lesser =
-    function 2 (int_value ∷ int_value ∷ [])
+    function int 2 (int_value ∷ int_value ∷ [])
     (items (if_else (compared Less (variable 0) (variable 1)) (return_value (variable 0)) null ∷ return_value (variable 1) ∷ []))
 
 lesser-listed : listed lesser
@@ -78,9 +79,9 @@ second_of_s = expr char (read (place char (at (expr char_pointer (binary (binary
 
 abbrev characters : FunctionTree
 characters =
-    function 0 (object_of (array_of char 3) ∷ value_of char_pointer ∷ [])
-    (begin 0 (initial_elements (characters_then 0 (97 ∷ 98 ∷ []) no_elements))
-    (begin 1 (initial_value first_of_s)
+    function int 0 (object_of (array_of char 3) ∷ value_of char_pointer ∷ [])
+    (begin_with 0 (initial_elements (characters_then 0 (97 ∷ 98 ∷ []) no_elements))
+    (begin_with 1 (initial_value first_of_s)
     (items (return_value (expr int (logical_or (with_op LogicalNot (expr char_pointer (read (place char_pointer (local 1))))) second_of_s)) ∷ []))))
 
 characters-listed : main_listed characters

@@ -7,7 +7,8 @@ use Rattle.c_typed.specs.declared.operator.UnaryOp.TheVariants as unary_op
 use Rattle.c_typed.specs.Typed.{ExprTree, expr, get, inc_dec, place, local, no_expr, some_expr, no_initial, initial_value, null, value, block, if_else, loop, do_while, break, return_value, switch, no_groups, group_then, FunctionTree}
 use Rattle.g_graph.specs.declared.op.Op.TheVariants as node_op
 use Rattle.g_construct.specs.Functions.{function_values}
-use Rattle.g_construct.proofs.examples.Trees.{int, int_value, number, variable, computed, compared, with_op, set, items, begin, function, main_listed}
+use Rattle.c_typed.proofs.lemmas.ShortForms.{int, int_value, number, variable, computed, compared, set, begin_with, function}
+use Rattle.g_construct.proofs.examples.Trees.{with_op, items, main_listed}
 
 abbrev less_than_three : (slot : ℕ) → ExprTree
 less_than_three k = compared Less (variable k) (number 3)
@@ -18,9 +19,9 @@ plus_one k = computed Add (variable k) (number 1)
 -- int main(void) { int k = 5, i; for (i = 0; i < 3; i++) ; return k + i; }
 abbrev counted : FunctionTree
 counted =
-    function 0 (int_value ∷ int_value ∷ [])
-    (begin 0 (initial_value (number 5))
-    (begin 1 no_initial
+    function int 0 (int_value ∷ int_value ∷ [])
+    (begin_with 0 (initial_value (number 5))
+    (begin_with 1 no_initial
     (items
     (block (items
     (set 1 (number 0)
@@ -39,32 +40,32 @@ counted-values = refl
 
 -- int main(void) { int a = getchar(), x = 1; if (a) x = a * 3; return x; }
 chosen-values : function_values
-    (function 0 (int_value ∷ int_value ∷ [])
-    (begin 0 (initial_value (expr int get))
-    (begin 1 (initial_value (number 1))
+    (function int 0 (int_value ∷ int_value ∷ [])
+    (begin_with 0 (initial_value (expr int get))
+    (begin_with 1 (initial_value (number 1))
     (items (if_else (variable 0) (set 1 (computed Mul (variable 0) (number 3))) null ∷ return_value (variable 1) ∷ [])))))
     ≡ 38
 chosen-values = refl
 
 -- int main(void) { int i = 0; while (i < 3) i = i + 1; return i; }
 while-values : function_values
-    (function 0 (int_value ∷ [])
-    (begin 0 (initial_value (number 0)) (items (loop (some_expr (less_than_three 0)) no_expr (set 0 (plus_one 0)) ∷ return_value (variable 0) ∷ []))))
+    (function int 0 (int_value ∷ [])
+    (begin_with 0 (initial_value (number 0)) (items (loop (some_expr (less_than_three 0)) no_expr (set 0 (plus_one 0)) ∷ return_value (variable 0) ∷ []))))
     ≡ 53
 while-values = refl
 
 -- int main(void) { int i = 0; do i = i + 1; while (i < 3); return i; }
 do-values : function_values
-    (function 0 (int_value ∷ [])
-    (begin 0 (initial_value (number 0)) (items (do_while (set 0 (plus_one 0)) (less_than_three 0) ∷ return_value (variable 0) ∷ []))))
+    (function int 0 (int_value ∷ [])
+    (begin_with 0 (initial_value (number 0)) (items (do_while (set 0 (plus_one 0)) (less_than_three 0) ∷ return_value (variable 0) ∷ []))))
     ≡ 28
 do-values = refl
 
 -- int main(void) { int x = 2; switch (x) { case 1: ; case 2: putchar(65); break; default: return 9; } return x; }
 abbrev switched : FunctionTree
 switched =
-    function 0 (int_value ∷ [])
-    (begin 0 (initial_value (number 2))
+    function int 0 (int_value ∷ [])
+    (begin_with 0 (initial_value (number 2))
     (items
     (switch (variable 0)
     (group_then (1 ∷ []) false (items (null ∷ []))

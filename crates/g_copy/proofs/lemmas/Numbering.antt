@@ -12,7 +12,8 @@ use Rattle.g_graph.proofs.lemmas.Indexes.{same_number_true}
 use Rattle.g_graph.proofs.lemmas.Unique.{same_number, times, times_cons}
 use Rattle.g_mean.specs.Copies.{renumbered, region_copied, nodes_moved, regions_copied}
 use Rattle.g_copy.specs.Laws.{CopiesAreNumbered}
-use Rattle.g_copy.specs.Numbering.{number_from, numbers_from}
+use Rattle.g_copy.specs.Numbering.{number_from}
+use Rattle.val_core.specs.Numbers.{numbers_from}
 
 -- ---- the new number of each number
 

@@ -1,5 +1,5 @@
 -- What fits stays so in a scope that has all that it had; one more value at the end of a list changes no state.
-use Rattle.std.proofs.Common.{◌≡◌, ℕ, suc, ◌⊎◌, Bool, true, false, not, ◌&&◌, ◌||◌, cond, List, [], ◌∷◌, ◌++◌, map, length, slice_get, Option, None, Some, refl, sym, ap, subst, ◌∙◌, inl, inr}
+use Rattle.std.proofs.Common.{◌≡◌, ℕ, suc, ◌⊎◌, Bool, true, false, not, ◌&&◌, ◌||◌, cond, List, [], ◌∷◌, ◌++◌, map, Option, None, Some, refl, sym, ap, subst, ◌∙◌, inl, inr}
 use Rattle.std.proofs.lemmas.Bool.{and_parts}
 use Rattle.std.proofs.lemmas.List.{map-append}
 use Rattle.g_graph.specs.declared.op.Kind.{Kind}
@@ -43,10 +43,6 @@ most-added k s (x ∷ xs) = λ i. cond (is_of k x) (not (some-added k s xs i)) (
 
 pub one-added : (xs : List (Option Kind)) → one_state_each (one_more xs) ≡ one_state_each xs
 one-added xs = λ i. most-added Memory memory xs i && most-added Io io xs i
-
-pub get-last : {X : Type 0} (xs : List X) (x : X) → slice_get (xs ++ x ∷ []) (length xs) ≡ Some x
-get-last [] x = refl
-get-last (y ∷ xs) x = get-last xs x
 
 -- ---- another scope
 

@@ -6,6 +6,7 @@ use Rattle.std.proofs.lemmas.Option.{same_Some}
 use Rattle.g_graph.specs.Plain.{RegionTree, region, NodeTree, node, NodeTrees, no_nodes, node_then, RegionTrees, no_regions, region_then}
 use Rattle.g_graph.specs.Change.{region_changed, node_changed, nodes_changed, regions_changed}
 use Rattle.g_edit.specs.Found.{region_found, node_found, nodes_found, regions_found}
+use Rattle.val_core.proofs.lemmas.Options.{or_none}
 
 -- ---- two changes that agree where something is found
 
@@ -89,10 +90,6 @@ module _ {X : Type 0} (h : RegionTree → Option X) (f g : RegionTree → Option
 
 -- ---- where something changes something is found
 
-none-both : {X : Type 0} (a b : Option X) → option_or a b ≡ None → (a ≡ None) × (b ≡ None)
-none-both None b e = (refl, e)
-none-both (Some x) b e = absurd cc
-
 none-of : {X : Type 0} (o : Option X) → is_some o ≡ false → o ≡ None
 none-of None e = refl
 none-of (Some x) e = absurd cc
@@ -102,7 +99,7 @@ module _ {X : Type 0} (h : RegionTree → Option X) (f : RegionTree → Option R
     region-none : (r : RegionTree) → region_found h r ≡ None → region_changed f r ≡ None
     region-none (region args nodes results) e =
         let r = region args nodes results in
-        let p = none-both (h r) (nodes_found h nodes) e in
+        let p = or_none (h r) (nodes_found h nodes) e in
         let here : f r ≡ None = none-of (f r) (sym (same r) ∙ ap is_some p.0) in
         ap (λ o. option_or o (option_map (λ ns. region args ns results) (nodes_changed f nodes))) here ∙ ap (option_map (λ ns. region args ns results)) (nodes-none nodes p.1)
 
@@ -112,14 +109,14 @@ module _ {X : Type 0} (h : RegionTree → Option X) (f : RegionTree → Option R
     nodes-none : (ns : NodeTrees) → nodes_found h ns ≡ None → nodes_changed f ns ≡ None
     nodes-none no_nodes e = refl
     nodes-none (node_then x ns) e =
-        let p = none-both (node_found h x) (nodes_found h ns) e in
+        let p = or_none (node_found h x) (nodes_found h ns) e in
         ap (λ o. option_or (option_map (λ z. node_then z ns) o) (option_map (λ zs. node_then x zs) (nodes_changed f ns))) (node-none x p.0)
         ∙ ap (option_map (λ zs. node_then x zs)) (nodes-none ns p.1)
 
     regions-none : (rs : RegionTrees) → regions_found h rs ≡ None → regions_changed f rs ≡ None
     regions-none no_regions e = refl
     regions-none (region_then r rs) e =
-        let p = none-both (region_found h r) (regions_found h rs) e in
+        let p = or_none (region_found h r) (regions_found h rs) e in
         ap (λ o. option_or (option_map (λ s. region_then s rs) o) (option_map (λ ss. region_then r ss) (regions_changed f rs))) (region-none r p.0)
         ∙ ap (option_map (λ ss. region_then r ss)) (regions-none rs p.1)
 

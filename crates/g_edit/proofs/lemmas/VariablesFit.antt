@@ -31,15 +31,12 @@ use Rattle.g_edit.proofs.lemmas.ExitsFit.{fits_inside}
 use Rattle.g_edit.proofs.lemmas.EntriesFit.{region_takes}
 use Rattle.g_edit.proofs.lemmas.Variables.{looping_joined}
 use Rattle.g_edit.proofs.lemmas.Swapped.{swapped_kept}
-
-some_kind : (k : Kind) (ks : List Kind) → some_of (same_kind k) ks ≡ some_of (is_of k) (map Some ks)
-some_kind k [] = refl
-some_kind k (j ∷ ks) = ap (λ b. same_kind k j || b) (some_kind k ks)
+use Rattle.g_graph.proofs.lemmas.KindLists.{some_kind}
 
 module _ (stays : List Bool) where
   state_stays : (k : Kind) → IsState k → (own : List Kind) → drops_values stays (map Some own) ≡ true → some_of (same_kind k) (kept stays own) ≡ some_of (same_kind k) own
   state_stays k s own v =
-      some_kind k (kept stays own) ∙ ap (some_of (is_of k)) (kept_map stays Some own) ∙ some_state k s stays (map Some own) v ∙ sym (some_kind k own)
+      sym (some_kind k (kept stays own)) ∙ ap (some_of (is_of k)) (kept_map stays Some own) ∙ some_state k s stays (map Some own) v ∙ some_kind k own
 
   module _ (objects : ℕ) (args : List Kind) (before : NodeTrees) (id : ℕ) (inputs : List Origin) (own : List Kind) (nodes : NodeTrees) (outs : List Origin) (after : NodeTrees)
       (here : NodeFits objects args before (node id Theta inputs (region_then (region own nodes outs) no_regions)) after) (values : drops_values stays (map Some own) ≡ true)

@@ -11,7 +11,7 @@ use Rattle.g_graph.specs.Plain.{NodeTree, NodeTrees, no_nodes, node_then, nodes_
 use Rattle.g_graph.specs.Signatures.{joined, output_kinds, kind_after}
 use Rattle.g_graph.specs.Scope.{same_kind, known, last_index, origin_at, last_state}
 use Rattle.g_graph.specs.WellFormed.{some_of}
-use Rattle.g_graph.proofs.lemmas.Splices.{nodes_of-append, kind_after-joined, state_after-joined}
+use Rattle.g_graph.proofs.lemmas.Splices.{nodes_of_append, kind_after-joined, state_after-joined}
 use Rattle.g_formation.specs.Formation.{Standing, last_origin, at_start, after_node, HasBothStates}
 
 pub record Agrees (args : List Kind) (before : NodeTrees) (c : Standing) : Type 0 where
@@ -63,7 +63,7 @@ joined_get (k ∷ ks) (suc p) = joined_get ks p
 state_node : (k : Kind) (args : List Kind) (before : List NodeTree) (x : NodeTree) (ks : List Kind) (o : Origin) → output_kinds x ≡ map Some ks → last_state k args (nodes_of before) ≡ Some o →
     last_state k args (nodes_of (before ++ x ∷ [])) ≡ Some (last_origin k (Out (id_of x)) ks o)
 state_node k args before x ks o e h =
-    ap (last_state k args) (nodes_of-append before (x ∷ []))
+    ap (last_state k args) (nodes_of_append before (x ∷ []))
     ∙ state_after-joined k (nodes_of before) (node_then x no_nodes) (origin_at Arg (last_index k 0 (map Some args) None) None)
     ∙ ap (λ s. origin_at (λ p. Out (id_of x) p) (last_index k 0 (output_kinds x) None) s) h
     ∙ ap (λ xs. origin_at (λ p. Out (id_of x) p) (last_index k 0 xs None) (Some o)) e
@@ -80,7 +80,7 @@ agrees_node args before c x ks m e h = record {
     by_origin : (o : Origin) → known args (nodes_of (before ++ x ∷ [])) o ≡ (after_node c (id_of x) ks m).kind o
     by_origin (Arg k) = h.kind (Arg k)
     by_origin (Out n p) =
-        ap (λ ns. kind_after ns n p None) (nodes_of-append before (x ∷ []))
+        ap (λ ns. kind_after ns n p None) (nodes_of_append before (x ∷ []))
         ∙ kind_after-joined (nodes_of before) (node_then x no_nodes) n p None
         ∙ ap (λ b. if id_of x == n then joined (slice_get (output_kinds x) p) else b) (h.kind (Out n p))
         ∙ ap (λ b. if id_of x == n then b else c.kind (Out n p)) (ap (λ xs. joined (slice_get xs p)) e ∙ joined_get ks p)

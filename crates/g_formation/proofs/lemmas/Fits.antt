@@ -18,12 +18,9 @@ use Rattle.g_formation.specs.Formation.{Standing, at_start, after_node, Has, Has
 use Rattle.g_formation.proofs.lemmas.Joins.{Ends}
 use Rattle.g_formation.proofs.lemmas.Agree.{Agrees, agrees_start, agrees_node}
 use Rattle.g_formation.proofs.lemmas.Outputs.{has_kinds, outputs_are, results_are, nodes_lead}
+use Rattle.g_graph.proofs.lemmas.KindLists.{some_kind}
 
 -- ---- kinds
-
-some_kind : (k : Kind) (ks : List Kind) → some_of (is_of k) (map Some ks) ≡ some_of (same_kind k) ks
-some_kind k [] = refl
-some_kind k (j ∷ ks) = ap (λ b. same_kind k j || b) (some_kind k ks)
 
 -- ---- one of each state
 

@@ -9,7 +9,7 @@ use Rattle.g_graph.specs.declared.op.Kind.TheVariants.{Value, Memory, Io}
 use Rattle.g_graph.specs.Plain.{RegionTree, region, NodeTree, node, NodeTrees, no_nodes, node_then, RegionTrees, no_regions, region_then, PlainLambda}
 use Rattle.g_graph.specs.Ids.{region_ids, node_ids, nodes_ids, regions_ids}
 use Rattle.g_graph.specs.Change.{region_changed, node_changed, nodes_changed, regions_changed}
-use Rattle.g_graph.specs.WellFormed.{all_of, distinct, leaves_fit, are, same, region_fits, every_region, every_in_node, every_in_nodes, every_in_regions, body_fits, numbers_fit, well_formed}
+use Rattle.g_graph.specs.WellFormed.{all_of, distinct, leaves_fit, are, same, region_fits, every_region, every_in_node, every_in_nodes, every_in_regions, body_fits, numbers_fit, well_formed, IsWellFormed}
 use Rattle.g_graph.proofs.lemmas.Unique.{times_append, all_of_append}
 use Rattle.g_graph.proofs.lemmas.Numbers.{Numbered, numbered_left, numbered_right, numbered_fewer}
 use Rattle.g_graph.proofs.NestLemmas.{KeepsRegion, region_changed_kept}
@@ -189,3 +189,8 @@ changed_well_formed_within f l s k fewer e w =
     numbered_fewer l.next (region_ids l.body) (region_ids s)
     (λ n. omega (arith, exchanged_counts (length l.objects) f (region_ids l.body) (region_ids s) x n, fewer x.old x.new x.here x.fits here n)) old in
     changed_well_formed f l s l.next k e w (λ i. now.unique i && now.below i)
+
+pub regions_of_well_formed : (l : PlainLambda) → IsWellFormed l → every_region (region_fits (length l.objects)) l.body ≡ true
+regions_of_well_formed l w =
+    (and_parts (body_fits l && numbers_fit l) (every_region (region_fits (length l.objects)) l.body)
+    ((and_parts (body_fits l && numbers_fit l && every_region (region_fits (length l.objects)) l.body) (all_of (λ o. leaves_fit o.size 0 o.leaves) l.objects) w).0)).1

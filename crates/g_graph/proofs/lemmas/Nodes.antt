@@ -21,7 +21,7 @@ use Rattle.g_graph.proofs.lemmas.Numbers.{Numbered}
 use Rattle.g_graph.proofs.lemmas.Indexes.{same_number_true, same_kind_true, has_node-joined, kind_absent, kind_known}
 use Rattle.g_graph.proofs.lemmas.Moved.{ValueFor}
 use Rattle.g_graph.proofs.NestLemmas.{RegionKept}
-use Rattle.g_graph.proofs.SpliceKept.{ReplacementFits, region_spliced_kept}
+use Rattle.g_graph.proofs.lemmas.SpliceKept.{ReplacementFits, region_spliced_kept}
 
 -- ---- numbers
 

@@ -19,9 +19,9 @@ use Rattle.g_graph.specs.Replace.{node_redirected, nodes_redirected}
 use Rattle.g_graph.specs.Splice.{joined_nodes, nodes_spliced, outputs_to_results}
 use Rattle.g_graph.proofs.lemmas.Redirects.{nodes_of-redirected}
 
-pub nodes_of-append : (xs ys : List NodeTree) → nodes_of (xs ++ ys) ≡ joined_nodes (nodes_of xs) (nodes_of ys)
-nodes_of-append [] ys = refl
-nodes_of-append (x ∷ xs) ys = ap (λ zs. node_then x zs) (nodes_of-append xs ys)
+pub nodes_of_append : (xs ys : List NodeTree) → nodes_of (xs ++ ys) ≡ joined_nodes (nodes_of xs) (nodes_of ys)
+nodes_of_append [] ys = refl
+nodes_of_append (x ∷ xs) ys = ap (λ zs. node_then x zs) (nodes_of_append xs ys)
 
 pub nodes_spliced_none : (at first : ℕ) (replacement : NodeTrees) (outputs : List Origin) (xs : NodeTrees) → node_index at first xs ≡ None → nodes_spliced at replacement outputs xs ≡ xs
 nodes_spliced_none at first replacement outputs no_nodes e = refl
@@ -59,7 +59,7 @@ nodes_spliced_suc at first zero replacement outputs (x ∷ xs) e = by_test (id_o
         (if t then joined_nodes (nodes_of replacement) (nodes_redirected (outputs_to_results at outputs) (nodes_of xs)) else node_then x
         (nodes_spliced at (nodes_of replacement) outputs (nodes_of xs)))
         ≡ nodes_of (replacement ++ map (node_redirected (outputs_to_results at outputs)) xs)
-    by_test true e = sym (nodes_of-append replacement (map (node_redirected (outputs_to_results at outputs)) xs)
+    by_test true e = sym (nodes_of_append replacement (map (node_redirected (outputs_to_results at outputs)) xs)
         ∙ ap (joined_nodes (nodes_of replacement)) (nodes_of-redirected (outputs_to_results at outputs) xs))
     by_test false e = absurd (omega (arith, node_index_least at (suc first) (first + 0) (nodes_of xs) e))
 nodes_spliced_suc at first (suc p) replacement outputs (x ∷ xs) e = by_test (id_of x == at) e (nodes_spliced_suc at (suc first) p replacement outputs xs)
@@ -139,7 +139,7 @@ joined_none no_nodes = refl
 joined_none (node_then x xs) = ap (λ ys. node_then x ys) (joined_none xs)
 
 pub joined_following : (bs : List NodeTree) (x : NodeTree) (ns : NodeTrees) → joined_nodes (nodes_of (bs ++ x ∷ [])) ns ≡ joined_nodes (nodes_of bs) (node_then x ns)
-joined_following bs x ns = ap (λ ms. joined_nodes ms ns) (nodes_of-append bs (x ∷ [])) ∙ joined_assoc (nodes_of bs) (node_then x no_nodes) ns
+joined_following bs x ns = ap (λ ms. joined_nodes ms ns) (nodes_of_append bs (x ∷ [])) ∙ joined_assoc (nodes_of bs) (node_then x no_nodes) ns
 
 pub nodes_ids-joined : (xs ys : NodeTrees) → nodes_ids (joined_nodes xs ys) ≡ nodes_ids xs ++ nodes_ids ys
 nodes_ids-joined no_nodes ys = refl

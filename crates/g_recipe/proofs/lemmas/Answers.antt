@@ -1,20 +1,19 @@
 -- A list of lambdas has one list of answers, and each is made of those of its deps.
-use Rattle.std.proofs.Common.{◌≡◌, ◌<◌, ℕ, zero, suc, true, false, List, [], length, map, Option, None, Some, slice_get, slice_index, slice_index_or, get_or, Contains, IsSome, refl, sym, ap, subst, ◌∙◌, arith}
+use Rattle.std.proofs.Common.{◌≡◌, ◌<◌, ℕ, zero, suc, List, [], length, map, Option, None, Some, slice_get, slice_index, slice_index_or, IsSome, refl, sym, ap, subst, ◌∙◌, arith}
 use Rattle.std.specs.Prelude.{option_map, unwrap_or}
 use Rattle.std.specs.List.{range_with_len}
 use Rattle.std.proofs.lemmas.List.{length-map, ext_get_or}
 use Rattle.std.proofs.lemmas.List.FromFn.{length-map-range_with_len, get_or-map-range_with_len}
 use Rattle.std.proofs.lemmas.Option.{slice_get-map, slice_get-get_or, unwrap_or-slice_get}
-use Rattle.board_core.specs.Board.{Program, deps_of}
 use Rattle.board_core.specs.Answers.{IsRanked, all_some, answer_below, answer}
-use Rattle.board_core.proofs.AnswerLemmas.{some-of, same-results, answers-come-of-deps, jobs-have-answers}
+use Rattle.board_core.proofs.lemmas.Answers.{some-of, same-results, answers-come-of-deps, jobs-have-answers}
 use Rattle.g_graph.specs.declared.steps.Rule.{Rule}
 use Rattle.g_graph.specs.Plain.{PlainLambda, PlainOptimised}
 use Rattle.g_graph.specs.Program.{lambda_values}
 use Rattle.g_order.specs.Calls.{no_lambda, IsOrder}
 use Rattle.g_order.specs.Laws.{OrdersAreRanked, OrdersAreUnique}
 use Rattle.g_recipe.specs.Sweep.{RuleTable}
-use Rattle.g_recipe.specs.Answers.{lambda_of, made, program, AreAnswers}
+use Rattle.g_recipe.specs.Answers.{made, program, AreAnswers}
 use Rattle.g_recipe.specs.Laws.{AnswersExist, AnswersAreUnique, UnsweptAnswersAreLambdas}
 
 -- two lists of one length with the same elements

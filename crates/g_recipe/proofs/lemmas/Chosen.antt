@@ -2,13 +2,13 @@
 -- place of its own lambdas one after the other, by rank and then by number.
 use Rattle.std.specs.Prelude.{slice_set, unwrap_or}
 use Rattle.std.proofs.Common.{◌≡◌, ◌≢◌, ◌<◌, ◌≤◌, ◌⊎◌, ◌+◌, ℕ, zero, suc, Bool, true, false, cond, List, [], ◌∷◌, length}
-use Rattle.std.proofs.Common.{map, Option, None, Some, slice_get, slice_index, slice_index_or, get_or, Contains, refl, sym, ap, subst, ◌∙◌, inl, inr, arith}
+use Rattle.std.proofs.Common.{map, Option, Some, slice_get, slice_index, slice_index_or, get_or, Contains, refl, sym, ap, subst, ◌∙◌, inl, inr, arith}
 use Rattle.std.specs.List.{AllByRecursion}
-use Rattle.std.proofs.lemmas.Bool.{cases_lt, cases_eq}
+use Rattle.std.proofs.lemmas.Bool.{cases_eq}
 use Rattle.std.proofs.lemmas.List.{ext_get_or}
 use Rattle.std.proofs.lemmas.Option.{same_Some, slice_get_within, slice_get-get_or, unwrap_or-slice_get}
 use Rattle.board_core.specs.Answers.{all_some, answer}
-use Rattle.board_core.proofs.AnswerLemmas.{all_some-cons}
+use Rattle.board_core.proofs.lemmas.Answers.{all_some-cons}
 use Rattle.g_graph.specs.declared.steps.Rule.{Rule}
 use Rattle.g_graph.specs.Plain.{PlainLambda, PlainOptimised}
 use Rattle.g_graph.specs.Lists.{IsComplete}
@@ -18,7 +18,7 @@ use Rattle.g_order.specs.Calls.{no_lambda}
 use Rattle.g_order.specs.Laws.{OrdersAreRanked}
 use Rattle.g_edit.proofs.lemmas.Steps.{set-there, set-elsewhere}
 use Rattle.g_recipe.specs.Sweep.{RuleTable, optimise}
-use Rattle.g_recipe.specs.Answers.{lambda_of, lambdas_of, made, program, AreAnswers}
+use Rattle.g_recipe.specs.Answers.{lambdas_of, made, program, AreAnswers}
 use Rattle.g_recipe.specs.Kept.{IsKeptBy}
 use Rattle.g_recipe.specs.Laws.{AreSteps, HoldsDeps, with_answers, SomeAnswersKeepLists, AnswersKeepLists}
 use Rattle.g_recipe.proofs.lemmas.Recipes.{recipes_are_steps}

@@ -3,9 +3,9 @@ use Rattle.std.proofs.Common.{◌≡◌, ◌<◌, ◌≤◌, ◌+◌, ◌*◌, �
 use Rattle.std.specs.List.{sum_by, fold}
 use Rattle.std.proofs.lemmas.Option.{slice_get_within, slice_get-get_or}
 use Rattle.limits.specs.Limits.{counted_bytes, most_object_bytes}
-use Rattle.g_graph.specs.Plain.{PlainLambda, PlainObject, PlainOmega}
-use Rattle.g_graph.specs.Program.{lambda_values, IsFunctionWithinLimits, IsWithinLimits}
-use Rattle.g_recipe.specs.Kept.{KeepsShape, IsKeptBy}
+use Rattle.g_graph.specs.Plain.{PlainLambda, PlainObject}
+use Rattle.g_graph.specs.Program.{lambda_values, IsFunctionWithinLimits}
+use Rattle.g_recipe.specs.Kept.{KeepsShape}
 use Rattle.g_recipe.specs.Laws.{KeptListsFitImages}
 
 function-fits : (l k : PlainLambda) → KeepsShape l k → IsFunctionWithinLimits l → IsFunctionWithinLimits k

@@ -1,7 +1,7 @@
 -- Recipes are steps.
 use Rattle.std.proofs.Common.{◌≡◌, ℕ, List, [], ◌∷◌, ◌++◌, Option, None, Some, refl, sym, ap, subst, ◌∙◌}
 use Rattle.std.specs.Prelude.{option_and_then}
-use Rattle.std.specs.List.{fold, AllByRecursion}
+use Rattle.std.specs.List.{fold}
 use Rattle.std.proofs.lemmas.Option.{same_Some}
 use Rattle.g_graph.specs.declared.steps.Rule.{Rule}
 use Rattle.g_graph.specs.declared.steps.Step.{Step}
@@ -11,7 +11,7 @@ use Rattle.g_graph.specs.Ids.{region_ids}
 use Rattle.g_edit.specs.Steps.{IsApartFrom, MayStandFor}
 use Rattle.g_edit.proofs.lemmas.Steps.{no_step_is_a_step, steps_compose}
 use Rattle.g_recipe.specs.Sweep.{RuleTable, Swept, stepped, tried, in_order, sweep, swept, replayed}
-use Rattle.g_recipe.specs.Laws.{AreSteps, ReplaysAreSteps, RecipesReplay, RecipesAreSteps}
+use Rattle.g_recipe.specs.Laws.{ReplaysAreSteps, RecipesReplay, RecipesAreSteps}
 
 and_then-Some : {A : Type 0} (o : Option A) → option_and_then (λ a. Some a) o ≡ o
 and_then-Some None = refl

@@ -13,7 +13,7 @@ use Rattle.g_graph.proofs.lemmas.Nodes.{are_kinds, same_kinds}
 use Rattle.g_graph.proofs.lemmas.Splices.{joined_none, joined_following}
 use Rattle.s_linear.specs.Linear.{choice, no_steps}
 use Rattle.s_sequence.specs.Sequence.{values_in, value_args, Names, no_names, node_names, outputs_at, bases, named, nodes_named, name_of, nodes_code, node_step, branch_codes, body_code, value_name}
-use Rattle.s_sequence.proofs.Named.{body_values}
+use Rattle.s_sequence.proofs.lemmas.Named.{body_values}
 use Rattle.g_mean.proofs.lemmas.Kinds.{NodeTests, node-tests}
 use Rattle.s_simulation.specs.Closed.{NameSet, after_step, after_code, after_each, StepIsClosed, CodeIsClosed, AreClosed}
 use Rattle.s_simulation.specs.Laws.{SequencedCodeIsClosed}

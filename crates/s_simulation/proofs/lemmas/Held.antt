@@ -11,7 +11,7 @@ use Rattle.g_graph.proofs.lemmas.Indexes.{same_number_true}
 use Rattle.g_graph.proofs.lemmas.Unique.{same_number}
 use Rattle.g_mean.specs.Data.{Datum, val, memory, input, at_port, value_of}
 use Rattle.s_linear.specs.Linear.{Code}
-use Rattle.s_linear.specs.Lines.{numbers_from}
+use Rattle.val_core.specs.Numbers.{numbers_from}
 use Rattle.s_linear.specs.Meaning.{State, Context, written, set, instrs_run, code_run}
 use Rattle.s_sequence.specs.Sequence.{values_in, value_args, kept, moves, name_at, instrs_then}
 

@@ -14,9 +14,9 @@ use Rattle.g_graph.specs.WellFormed.{are}
 use Rattle.g_graph.proofs.lemmas.Nodes.{are_kinds}
 use Rattle.g_graph.proofs.lemmas.Unique.{equal_back}
 use Rattle.g_mean.proofs.lemmas.Kinds.{joined-some, after-more}
-use Rattle.s_linear.proofs.lemmas.Numbers.{length_numbers}
+use Rattle.val_core.proofs.lemmas.Numbers.{length_numbers}
 use Rattle.s_linear.specs.Linear.{Instr, Step, plain, Code, no_steps}
-use Rattle.s_linear.specs.Lines.{numbers_from}
+use Rattle.val_core.specs.Numbers.{numbers_from}
 use Rattle.s_sequence.specs.Sequence.{values_in, value_args, kept, Names, no_names, nodes_names, outputs_at, named, nodes_named, name_of, name_at, moves, op_instr, instrs_then, nodes_code, node_step, branch_code, loop_step}
 use Rattle.g_mean.proofs.lemmas.Kinds.{NodeTests}
 use Rattle.s_simulation.specs.Closed.{target_of, sources_of, NameSet, none_written, AreIn, after_instrs, after_step, after_code, StepIsClosed, CodeIsClosed}

@@ -14,7 +14,7 @@ use Rattle.g_mean.specs.Data.{Datum, value_of}
 use Rattle.g_mean.specs.Meaning as graph
 use Rattle.g_mean.specs.Meaning.{Meaning, Outputs, no_outputs, read, nodes_run, region_meaning}
 use Rattle.s_linear.specs.Linear.{Code, no_steps}
-use Rattle.s_linear.specs.Lines.{numbers_from}
+use Rattle.val_core.specs.Numbers.{numbers_from}
 use Rattle.s_linear.specs.Meaning as linear
 use Rattle.s_linear.specs.Meaning.{State, Call, instrs_run, code_run, step_run}
 use Rattle.s_sequence.specs.Sequence.{value_args, kept, Names, no_names, nodes_names, outputs_at, nodes_named, name_of, moves, instrs_then, nodes_code, loop_step}

@@ -12,19 +12,19 @@ use Rattle.g_graph.specs.Plain.{RegionTree, NodeTree, node, NodeTrees, no_nodes,
 use Rattle.g_graph.specs.Signatures.{inputs_of, result_kinds}
 use Rattle.g_graph.specs.Ids.{node_ids, nodes_ids}
 use Rattle.g_graph.specs.Scope.{is_of, same_kind, known}
-use Rattle.g_graph.specs.WellFormed.{all_of, some_of, are, inputs_fit, is_last, inputs_are_last, node_has_one_state_each, has_its_regions, regions_fit, theta_has_states, has_its_width, has_its_object, node_fits}
+use Rattle.g_graph.specs.WellFormed.{all_of, some_of, are, is_last}
 use Rattle.g_graph.specs.Change.{has_node}
 use Rattle.g_graph.proofs.lemmas.Nodes.{are_kinds, has_times, own_times}
-use Rattle.g_graph.proofs.lemmas.Splices.{nodes_of-append, nodes_ids-joined}
+use Rattle.g_graph.proofs.lemmas.Splices.{nodes_of_append, nodes_ids-joined}
 use Rattle.g_graph.proofs.lemmas.Unique.{times, times_append}
 use Rattle.g_mean.specs.Data.{Datum, value_of}
 use Rattle.g_mean.specs.Meaning as graph
-use Rattle.g_mean.specs.Meaning.{Meaning, Outputs, no_outputs, extended, read, region_meaning, node_run, nodes_run, meanings}
+use Rattle.g_mean.specs.Meaning.{Meaning, Outputs, extended, read, node_run, meanings}
 use Rattle.g_mean.proofs.lemmas.Silent.{theta-gives}
 use Rattle.s_linear.specs.Meaning as linear
-use Rattle.s_linear.specs.Meaning.{State, Call, step_run, code_run, codes_runs}
+use Rattle.s_linear.specs.Meaning.{State, Call, step_run, codes_runs}
 use Rattle.s_sequence.specs.Sequence.{values_in, Names, node_names, outputs_at, bases, named, name_of, node_step, branch_codes}
-use Rattle.s_sequence.proofs.Named.{standing_names}
+use Rattle.s_sequence.proofs.lemmas.Named.{standing_names}
 use Rattle.g_mean.proofs.lemmas.Kinds.{NodeTests}
 use Rattle.s_simulation.specs.Agreement.{Agrees}
 use Rattle.s_simulation.proofs.lemmas.Held.{IsState, tied-less, Held}
@@ -41,7 +41,7 @@ pub times-more : (m : ℕ) (before : List NodeTree) (x : NodeTree) →
     times m (nodes_ids (nodes_of (before ++ x ∷ []))) ≡ times m (nodes_ids (nodes_of before)) + times m (node_ids x)
 times-more m before x =
     let whole : nodes_ids (nodes_of (before ++ x ∷ [])) ≡ nodes_ids (nodes_of before) ++ (node_ids x ++ []) =
-    ap nodes_ids (nodes_of-append before (x ∷ [])) ∙ nodes_ids-joined (nodes_of before) (node_then x no_nodes) in
+    ap nodes_ids (nodes_of_append before (x ∷ [])) ∙ nodes_ids-joined (nodes_of before) (node_then x no_nodes) in
     ap (times m) whole ∙ times_append m (nodes_ids (nodes_of before)) (node_ids x ++ [])
     ∙ ap (λ k. times m (nodes_ids (nodes_of before)) + k) (times_append m (node_ids x) [] ∙ omega arith)
 

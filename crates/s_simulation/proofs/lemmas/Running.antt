@@ -14,7 +14,7 @@ use Rattle.g_graph.specs.WellFormed.{all_of, some_of, is_last, gives, returns_st
 use Rattle.g_graph.specs.Change.{has_node}
 use Rattle.g_graph.proofs.lemmas.Indexes.{same_number_true, index_kind, index_none, GivesState, KeepsState, state_cases, last_gives}
 use Rattle.g_graph.proofs.lemmas.Unique.{same_number, equal_back}
-use Rattle.g_graph.proofs.SpliceKept.{some_at}
+use Rattle.g_graph.proofs.lemmas.SpliceKept.{some_at}
 use Rattle.g_mean.specs.Data.{Datum, at_port}
 use Rattle.g_mean.specs.Meaning.{Outputs, no_outputs, extended, read}
 use Rattle.g_mean.proofs.lemmas.Kinds.{joined-some, after-more}

@@ -5,7 +5,7 @@ use Rattle.g_graph.specs.declared.op.Kind.{Kind}
 use Rattle.g_graph.specs.declared.op.Kind.TheVariants.{Value, Memory, Io}
 use Rattle.g_graph.specs.Plain.{NodeTrees, no_nodes, node_then}
 use Rattle.s_linear.specs.Linear.{Instr, move, Step, plain, choice, loop, Code, no_steps, step_then, Codes, no_codes, code_then}
-use Rattle.s_linear.specs.Lines.{numbers_from}
+use Rattle.val_core.specs.Numbers.{numbers_from}
 use Rattle.s_sequence.specs.Sequence.{values_in, value_args, kept, Names, node_names, named, moves, name_at, without_states, instrs_then, nodes_code, node_step}
 use Rattle.s_simulation.specs.Closed.{targets_of, NameSet, AreIn, after_instr, after_instrs, after_step, after_code, after_each, InstrsAreClosed, CodeIsClosed}
 

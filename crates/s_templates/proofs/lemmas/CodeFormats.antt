@@ -4,7 +4,8 @@ use Rattle.std.proofs.lemmas.Bool.{le-leb}
 use Rattle.g_graph.specs.Plain.{PlainObject}
 use Rattle.s_linear.specs.Frame.{PlainPlaces}
 use Rattle.s_linear.specs.Linear.{Instr, Step, plain, choice, loop, Code, no_steps, step_then, Codes, no_codes, code_then, LinearFunction}
-use Rattle.s_linear.specs.Lines.{Line, leave, done, branch_not_zero, branch_zero, jump, label, does, counted, code_labels, step_labels, branches, last_lines, labelled, before_last, choice_lines, step_lines, code_lines, codes_lines, last_from, others_from, lines, numbers_from}
+use Rattle.s_linear.specs.Lines.{Line, leave, done, branch_not_zero, branch_zero, jump, label, does, counted, code_labels, step_labels, branches, last_lines, labelled, before_last, choice_lines, step_lines, code_lines, codes_lines, last_from, others_from, lines}
+use Rattle.val_core.specs.Numbers.{numbers_from}
 use Rattle.s_select.specs.Conditions.{has_few_arguments, has_few_params}
 use Rattle.s_select.specs.Templates.{items_of, line_items}
 use Rattle.s_templates.specs.Codes.{InstrsFit, StepFits, CodeFits, CodesFit}

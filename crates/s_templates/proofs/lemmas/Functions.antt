@@ -22,7 +22,8 @@ use Rattle.rv_machine.proofs.lemmas.Standing.{code_is_cut}
 use Rattle.rv_machine.proofs.lemmas.RunLaws.{run-zero, run_goes_on, reaches_onwards}
 use Rattle.s_linear.specs.Frame.{PlainPlaces, saved_of, words_of, frame_size}
 use Rattle.s_linear.specs.Linear.{LinearFunction}
-use Rattle.s_linear.specs.Lines.{enter, leave, code_lines, numbers_from}
+use Rattle.s_linear.specs.Lines.{enter, leave, code_lines}
+use Rattle.val_core.specs.Numbers.{numbers_from}
 use Rattle.s_linear.specs.Meaning as linear
 use Rattle.s_linear.specs.Meaning.{Call, code_run, first_names, no_names}
 use Rattle.a_place.specs.Placed.{placed, placed_code, placed_calls, placed_entered, put_params}

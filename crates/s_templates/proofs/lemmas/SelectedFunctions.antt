@@ -12,7 +12,8 @@ use Rattle.rv_layout.specs.declared.item.Item.TheVariants.{Jump}
 use Rattle.rv_layout.specs.Items.{item_size, items_size}
 use Rattle.s_linear.specs.Frame.{PlainPlaces}
 use Rattle.s_linear.specs.Linear.{Instr, const, Step, plain, choice, loop, Code, no_steps, step_then, Codes, no_codes, code_then, LinearFunction}
-use Rattle.s_linear.specs.Lines.{Line, enter, leave, done, branch_not_zero, branch_zero, branch_equal, jump, label, does, counted, code_labels, step_labels, branches, last_lines, labelled, before_last, choice_lines, step_lines, code_lines, codes_lines, last_from, others_from, lines, numbers_from}
+use Rattle.s_linear.specs.Lines.{Line, enter, leave, done, branch_not_zero, branch_zero, branch_equal, jump, label, does, counted, code_labels, step_labels, branches, last_lines, labelled, before_last, choice_lines, step_lines, code_lines, codes_lines, last_from, others_from, lines}
+use Rattle.val_core.specs.Numbers.{numbers_from}
 use Rattle.s_linear.specs.Operands.{has_its_object, has_its_global}
 use Rattle.s_select.specs.Conditions.{has_place, names_have_places, has_few_arguments, has_few_params}
 use Rattle.s_select.specs.Operands.{load_immediate, in_of, load_in}

@@ -1,4 +1,4 @@
-use Rattle.a_place.proofs.Starting.{places_are_few}
+use Rattle.a_place.proofs.lemmas.Starting.{places_are_few}
 use Rattle.a_place.proofs.laws.places_are_few.Goals as goal
 
 pub returns : goal.returns

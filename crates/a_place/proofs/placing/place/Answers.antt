@@ -3,7 +3,7 @@ use Rattle.s_linear.specs.Views.{line_of}
 use Rattle.a_place.specs.Places.{name_count, starting}
 use Rattle.a_place.specs.Sweep.{spans_of, given_before}
 use Rattle.a_place.proofs.Positions.{length_spans, names_inside, ends_inside, names_start, given_next, size_of}
-use Rattle.a_place.proofs.Starting.{few_names, room_for}
+use Rattle.a_place.proofs.lemmas.Starting.{few_names, room_for}
 use Rattle.a_place.proofs.placing.place.Goals as goal
 
 pub starts-requires : goal.starts-requires

@@ -1,9 +1,9 @@
 use Rattle.std.proofs.Common.{[], ◌∙◌, ap, filter, length, length-set, get_or, arith}
 use Rattle.std.specs.Prelude.{◌==◌}
-use Rattle.s_linear.specs.Lines.{numbers_from}
+use Rattle.val_core.specs.Numbers.{numbers_from}
 use Rattle.a_place.specs.Places.{first}
 use Rattle.a_place.proofs.Positions.{at_span, length_spans}
-use Rattle.a_place.proofs.Starting.{start_put, start_skip}
+use Rattle.a_place.proofs.lemmas.Starting.{start_put, start_skip}
 use Rattle.a_place.proofs.placing.starts.Goals as goal
 use Rattle.a_place.proofs.placing.starts.Goals.{then-span-end+in_ok-put, else-span-end}
 

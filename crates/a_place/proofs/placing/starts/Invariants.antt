@@ -1,5 +1,6 @@
 use Rattle.std.proofs.Common.{◌≡◌, ◌==◌, ◌<◌, ℕ, List, [], length, filter, slice_index_or}
-use Rattle.s_linear.specs.Lines.{Line, numbers_from}
+use Rattle.s_linear.specs.Lines.{Line}
+use Rattle.val_core.specs.Numbers.{numbers_from}
 use Rattle.a_place.specs.Places.{first}
 use Rattle.a_place.specs.Sweep.{spans_of}
 use Rattle.a_place.proofs.placing.starts.Given as goal

@@ -1,4 +1,4 @@
-use Rattle.board_core.proofs.AnswerLemmas.{idle-boards-are-done}
+use Rattle.board_core.proofs.lemmas.Answers.{idle-boards-are-done}
 use Rattle.board_core.proofs.laws.idle_boards_are_done.Goals as goal
 
 pub returns : goal.returns

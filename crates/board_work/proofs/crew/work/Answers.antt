@@ -1,7 +1,7 @@
-use Rattle.std.proofs.Common.{◌≡◌, ◌++◌, true, false, List, length, take, drop, refl, sym, ap, ◌∙◌, subst, arith}
-use Rattle.board_core.proofs.KeptLemmas.{written-back}
+use Rattle.std.proofs.Common.{◌≡◌, ◌++◌, true, false, refl, sym, ◌∙◌, subst, arith}
+use Rattle.board_core.proofs.lemmas.Kept.{written-back}
 use Rattle.board_lock.specs.Locks.{lock_of}
-use Rattle.board_work.specs.Workers.{Each, SomeAt, WorkerFor, MayWork, HasSeenStop}
+use Rattle.board_work.specs.Workers.{Each, SomeAt, MayWork, HasSeenStop}
 use Rattle.board_work.proofs.CrewLemmas.{some-stopped, none-stopped}
 use Rattle.board_work.proofs.crew.work.Goals as goal
 

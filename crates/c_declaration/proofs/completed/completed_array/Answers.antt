@@ -1,7 +1,7 @@
 use Rattle.std.proofs.Common.{◌≡◌, suc, length, Some, sym, ap, ◌∙◌}
 use Rattle.c_type.specs.Trees.{array_of}
 use Rattle.c_ast.specs.Declarations.{init_tree, inits}
-use Rattle.c_ast.proofs.InitViews.{tree-Value}
+use Rattle.c_ast.proofs.lemmas.InitViews.{tree-Value}
 use Rattle.c_elaboration.specs.Initialisers.{completed_by, character_array, count_in}
 use Rattle.c_declaration.proofs.CompletedLemmas.{completed-list}
 use Rattle.c_declaration.proofs.InitLemmas.{count-inits}

@@ -3,7 +3,7 @@ use Rattle.c_typed.specs.Typed.{no_items, declare_then}
 use Rattle.c_typed.specs.StmtViews.{items_of}
 use Rattle.c_typed.specs.declared.statement.Item.TheVariants as item
 use Rattle.c_elaboration.specs.Declarators.{items_joined}
-use Rattle.c_declaration.proofs.DeclarationLemmas.{declarator-of, items-more}
+use Rattle.c_declaration.proofs.lemmas.Declarations.{declarator-of, items-more}
 use Rattle.c_declaration.proofs.declarators.declarator.Goals as goal
 
 pub returns-clause-items : goal.returns-clause-items

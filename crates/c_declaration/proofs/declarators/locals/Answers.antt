@@ -4,7 +4,7 @@ use Rattle.c_ast.specs.Specifiers.{spec_tree}
 use Rattle.c_typed.specs.StmtViews.{items_of}
 use Rattle.c_elaboration.specs.Specifiers.{specified_type}
 use Rattle.c_elaboration.specs.Declarators.{items_joined, declarator, more_declarators}
-use Rattle.c_declaration.proofs.DeclarationLemmas.{locals-steps, items-joined}
+use Rattle.c_declaration.proofs.lemmas.Declarations.{locals-steps, items-joined}
 use Rattle.c_declaration.proofs.declarators.locals.Goals as goal
 
 pub returns-clause-items : goal.returns-clause-items

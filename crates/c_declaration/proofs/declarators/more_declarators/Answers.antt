@@ -3,7 +3,7 @@ use Rattle.std.proofs.lemmas.List.{take_more}
 use Rattle.c_ast.specs.Declarations as trees
 use Rattle.c_typed.specs.StmtViews.{items_of}
 use Rattle.c_elaboration.specs.Declarators.{items_joined, declarator, more_declarators}
-use Rattle.c_declaration.proofs.DeclarationLemmas.{declarators-none, declarators-more, items-none, items-joined}
+use Rattle.c_declaration.proofs.lemmas.Declarations.{declarators-none, declarators-more, items-none, items-joined}
 use Rattle.c_declaration.proofs.declarators.more_declarators.Goals as goal
 
 pub loop-next-init : goal.loop-next-init

@@ -3,7 +3,7 @@ use Rattle.c_ast.specs.Declarations as trees
 use Rattle.c_typed.specs.StmtViews.{declaration_of}
 use Rattle.c_elaboration.specs.Declarators.{is_fixed, open_dimensions}
 use Rattle.c_declaration.specs.Bounds.{variable_typed}
-use Rattle.c_declaration.proofs.DeclarationLemmas.{declared-typed}
+use Rattle.c_declaration.proofs.lemmas.Declarations.{declared-typed}
 use Rattle.c_declaration.proofs.declarators.variable_declarator.Goals as goal
 
 pub returns-clause-value : goal.returns-clause-value

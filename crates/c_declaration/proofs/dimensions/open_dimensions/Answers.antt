@@ -5,7 +5,7 @@ use Rattle.c_ast.specs.Expressions.{expr_tree}
 use Rattle.c_ast.specs.Nodes.{opt}
 use Rattle.c_ast.specs.Productions as l
 use Rattle.c_elaboration.specs.Declarators.{open_dimension, open_dimensions}
-use Rattle.c_declaration.proofs.DeclarationLemmas.{dimensions-none, dimensions-more}
+use Rattle.c_declaration.proofs.lemmas.Declarations.{dimensions-none, dimensions-more}
 use Rattle.c_declaration.proofs.dimensions.open_dimensions.Goals as goal
 
 pub loop-d-init : goal.loop-d-init

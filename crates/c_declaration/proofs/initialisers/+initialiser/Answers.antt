@@ -2,7 +2,7 @@ use Rattle.std.proofs.Common.{◌≡◌, ℕ, suc, ◌+◌, ◌<◌, ◌&&◌, �
 use Rattle.std.proofs.lemmas.List.{take_more, take_all, length-take-le}
 use Rattle.c_ast.specs.Declarations.{init_tree, inits}
 use Rattle.c_ast.specs.Expressions.{expr_tree}
-use Rattle.c_ast.proofs.InitViews.{tree-Value}
+use Rattle.c_ast.proofs.lemmas.InitViews.{tree-Value}
 use Rattle.c_typed.specs.Typed.{no_elements}
 use Rattle.c_elaboration.specs.State.{if_some}
 use Rattle.c_elaboration.specs.Initialisers.{both_joined, initialiser, elements, list_for, sets_to_zero, count_in, part_of, part_at}

@@ -3,8 +3,8 @@ use Rattle.std.proofs.lemmas.List.{append-nil}
 use Rattle.c_ast.specs.Productions as l
 use Rattle.c_ast.specs.Expressions.{literal}
 use Rattle.c_ast.specs.declared.expression.Literal.{Literal}
-use Rattle.c_ast.proofs.ListLemmas.{many-none}
-use Rattle.c_expression.proofs.ListLemmas.{many_next}
+use Rattle.c_ast.proofs.lemmas.Lists.{many-none}
+use Rattle.c_expression.proofs.lemmas.Lists.{many_next}
 use Rattle.c_expression.proofs.literals.characters.Goals as goal
 
 pub loop-literal-init : goal.loop-literal-init

@@ -1,4 +1,4 @@
-use Rattle.c_grammar.proofs.GrammarLaws as grammar_laws
+use Rattle.c_grammar.proofs.lemmas.GrammarLaws as grammar_laws
 use Rattle.c_grammar.proofs.laws.tokens_are_wrong_from_one_token.Goals as goal
 
 pub returns : goal.returns

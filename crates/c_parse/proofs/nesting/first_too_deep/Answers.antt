@@ -1,6 +1,6 @@
 use Rattle.std.proofs.Common.{arith, ◌≤◌}
 use Rattle.c_ast.specs.Nesting.{depth_of}
-use Rattle.c_parse.proofs.FirstDeep.{scan_more, scan_here, scan_end}
+use Rattle.c_parse.proofs.lemmas.FirstDeep.{scan_more, scan_here, scan_end}
 use Rattle.c_parse.proofs.nesting.first_too_deep.Goals as goal
 
 pub returns-then-depth-gt-MAX_DEPTH : goal.returns-then-depth-gt-MAX_DEPTH

@@ -1,6 +1,6 @@
 use Rattle.std.proofs.Common.{◌≡◌, ◌≤◌, ◌∷◌, [], drop}
 use Rattle.c_ast.specs.Nesting.{depth_of}
-use Rattle.c_parse.proofs.FirstDeep.{first_deep}
+use Rattle.c_parse.proofs.lemmas.FirstDeep.{first_deep}
 use Rattle.c_parse.proofs.nesting.first_too_deep.Given as goal
 
 -- The tokens that are left are searched from the counters so far.

@@ -1,5 +1,5 @@
 use Rattle.std.proofs.Common.{arith}
-use Rattle.g_expression.proofs.Scopes.{set_one, set_past}
+use Rattle.g_expression.proofs.lemmas.Scopes.{set_one, set_past}
 use Rattle.g_expression.proofs.variables.set_held.Goals as goal
 
 pub returns-then-place-len : goal.returns-then-place-len

@@ -1,6 +1,6 @@
 use Rattle.std.proofs.Common.{sym, ◌∙◌}
 use Rattle.std.specs.Prelude.{is_some}
-use Rattle.g_graph.proofs.ChangeLemmas.{some_here}
+use Rattle.g_graph.proofs.lemmas.Change.{some_here}
 use Rattle.g_graph.proofs.can_change.+can_change.Goals as goal
 
 pub region_can_change-returns-then-can_change : goal.region_can_change-returns-then-can_change

@@ -3,7 +3,7 @@ use Rattle.std.specs.Prelude.{slice_set}
 use Rattle.std.specs.declared.option.Option.TheVariants.{Some, None}
 use Rattle.g_graph.specs.Plain.{nodes_of, regions_of}
 use Rattle.g_graph.specs.Change.{node_changed, region_changed, nodes_changed, regions_changed}
-use Rattle.g_graph.proofs.ChangeLemmas.{region_changed_here, nodes_changed_at, nodes_unchanged_more, regions_changed_at, regions_unchanged_more, set_same, when_true, when_false}
+use Rattle.g_graph.proofs.lemmas.Change.{region_changed_here, nodes_changed_at, nodes_unchanged_more, regions_changed_at, regions_unchanged_more, set_same, when_true, when_false}
 use Rattle.g_graph.proofs.change.+changes.Goals as goal
 
 pub change_region-returns-then-branch-clause-ok : goal.change_region-returns-then-branch-clause-ok

@@ -2,7 +2,7 @@ use Rattle.std.proofs.Common.{◌≡◌, sym, ap, ◌∙◌}
 use Rattle.std.specs.Prelude.{true}
 use Rattle.g_construct.specs.Jumps.{do_again_made}
 use Rattle.g_expression.specs.Work.{made}
-use Rattle.g_expression.proofs.Made.{on_ok}
+use Rattle.g_expression.proofs.lemmas.Made.{on_ok}
 use Rattle.g_statement.proofs.jumps.do_again.Goals as goal
 
 pub returns-then-leaves-clause-work : goal.returns-then-leaves-clause-work

@@ -4,7 +4,7 @@ use Rattle.g_construct.specs.Expressions.{expr_made}
 use Rattle.g_construct.proofs.lemmas.LaterExpressions.{expr_later}
 use Rattle.g_construct.proofs.lemmas.LaterStatements.{dropped_later}
 use Rattle.g_expression.specs.Work.{begun}
-use Rattle.g_expression.proofs.Choices.{unless_makes}
+use Rattle.g_expression.proofs.lemmas.Choices.{unless_makes}
 use Rattle.g_statement.proofs.Parts.{dropped_made}
 use Rattle.g_statement.proofs.jumps.step_unless_left.Goals as goal
 

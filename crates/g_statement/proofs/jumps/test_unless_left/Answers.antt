@@ -9,8 +9,8 @@ use Rattle.g_construct.specs.Expressions.{tested}
 use Rattle.g_construct.specs.Jumps.{jump_ended, do_again_made}
 use Rattle.g_construct.proofs.lemmas.LaterExpressions.{const_later, tested_later}
 use Rattle.g_expression.specs.Work.{made, begun, ended}
-use Rattle.g_expression.proofs.Made.{bind_makes, on_ok}
-use Rattle.g_expression.proofs.Choices.{choice_makes}
+use Rattle.g_expression.proofs.lemmas.Made.{bind_makes, on_ok}
+use Rattle.g_expression.proofs.lemmas.Choices.{choice_makes}
 use Rattle.g_statement.proofs.jumps.test_unless_left.Goals as goal
 
 pub returns-clause-work : goal.returns-clause-work

@@ -5,7 +5,7 @@ use Rattle.g_construct.specs.Writer.{Built, hidden, pushed, nothing, bind}
 use Rattle.g_construct.specs.Operations.{const_made}
 use Rattle.g_construct.specs.Switch.{groups_moved, from_made}
 use Rattle.g_expression.specs.Work.{made, moved_to}
-use Rattle.g_expression.proofs.Made.{bind_makes, moved_made, made_given, on_ok}
+use Rattle.g_expression.proofs.lemmas.Made.{bind_makes, moved_made, made_given, on_ok}
 use Rattle.g_statement.specs.LabelViews.{label_of}
 use Rattle.g_statement.proofs.Segments.{moved_end, drop_map}
 use Rattle.std.proofs.lemmas.List.{length-map}

@@ -22,8 +22,8 @@ use Rattle.g_count.specs.Values.{first_ends}
 use Rattle.g_count.proofs.lemmas.Groups.{from_index, groups_from, groups_rest_weight, statement_weight, items_after_weight}
 use Rattle.g_count.proofs.lemmas.Steps.{take_rest, taken_weight, statement_exits}
 use Rattle.g_expression.specs.Work.{made, moved_to, begun}
-use Rattle.g_expression.proofs.Made.{Makes, bind_makes}
-use Rattle.g_expression.proofs.Choices.{choice_makes, first_output, one_first_makes, repeat_makes, unless_makes, where_makes}
+use Rattle.g_expression.proofs.lemmas.Made.{Makes, bind_makes}
+use Rattle.g_expression.proofs.lemmas.Choices.{choice_makes, first_output, one_first_makes, repeat_makes, unless_makes, where_makes}
 use Rattle.g_statement.specs.Pops.{pops}
 use Rattle.g_statement.specs.Segments.{first_region, regions_closed, segment_exits, pending_regions}
 use Rattle.g_statement.proofs.Parts.{then_made}

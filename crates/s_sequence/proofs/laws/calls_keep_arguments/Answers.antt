@@ -1,4 +1,4 @@
-use Rattle.s_sequence.proofs.Instrs.{calls_keep_arguments}
+use Rattle.s_sequence.proofs.lemmas.Instrs.{calls_keep_arguments}
 use Rattle.s_sequence.proofs.laws.calls_keep_arguments.Goals as goal
 
 pub returns : goal.returns

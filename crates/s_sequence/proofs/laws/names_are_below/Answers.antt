@@ -1,4 +1,4 @@
-use Rattle.s_sequence.proofs.Named.{names_are_below}
+use Rattle.s_sequence.proofs.lemmas.Named.{names_are_below}
 use Rattle.s_sequence.proofs.laws.names_are_below.Goals as goal
 
 pub returns : goal.returns

@@ -1,4 +1,4 @@
-use Rattle.s_sequence.proofs.Instrs.{objects_are_there}
+use Rattle.s_sequence.proofs.lemmas.Instrs.{objects_are_there}
 use Rattle.s_sequence.proofs.laws.objects_are_there.Goals as goal
 
 pub returns : goal.returns

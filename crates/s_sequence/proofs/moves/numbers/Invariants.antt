@@ -1,5 +1,5 @@
 use Rattle.std.proofs.Common.{◌≡◌, ◌-◌, ◌++◌}
-use Rattle.s_linear.specs.Lines.{numbers_from}
+use Rattle.val_core.specs.Numbers.{numbers_from}
 use Rattle.s_sequence.proofs.moves.numbers.Given as goal
 
 abbrev pub invariant-loop-i : goal.invariant-loop-i

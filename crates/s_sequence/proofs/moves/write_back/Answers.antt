@@ -1,6 +1,7 @@
 use Rattle.std.proofs.Common.{◌+◌, ◌-◌, map, ap, ◌∙◌}
 use Rattle.s_linear.specs.Linear.{move}
-use Rattle.s_linear.specs.Lines.{done, numbers_from}
+use Rattle.s_linear.specs.Lines.{done}
+use Rattle.val_core.specs.Numbers.{numbers_from}
 use Rattle.s_sequence.specs.Sequence.{moves}
 use Rattle.s_sequence.specs.Writer.{PlainWriter}
 use Rattle.s_sequence.proofs.MoveLemmas.{back_more, one_more}

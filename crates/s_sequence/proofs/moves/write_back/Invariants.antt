@@ -1,5 +1,6 @@
 use Rattle.std.proofs.Common.{◌≡◌, ◌+◌, ◌-◌, ◌++◌, map}
-use Rattle.s_linear.specs.Lines.{done, numbers_from}
+use Rattle.s_linear.specs.Lines.{done}
+use Rattle.val_core.specs.Numbers.{numbers_from}
 use Rattle.s_sequence.specs.Sequence.{moves}
 use Rattle.s_sequence.proofs.moves.write_back.Given as goal
 

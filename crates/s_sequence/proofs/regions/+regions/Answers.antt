@@ -12,14 +12,15 @@ use Rattle.g_graph.specs.Signatures.{result_kinds, kind_after}
 use Rattle.g_graph.specs.Count.{regions_values, nodes_values}
 use Rattle.g_graph.proofs.lemmas.Listed.{count_is}
 use Rattle.s_linear.specs.Linear.{Code}
-use Rattle.s_linear.specs.Lines.{Line, done, jump, label, code_lines, branch_zero, branch_not_zero, numbers_from}
+use Rattle.s_linear.specs.Lines.{Line, done, jump, label, code_lines, branch_zero, branch_not_zero}
+use Rattle.val_core.specs.Numbers.{numbers_from}
 use Rattle.s_sequence.specs.Sequence.{values_in, value_args, kept, moves, region_names, regions_names, node_names, nodes_names, nodes_named, nodes_code, branch_code, outputs_at, loop_results, predicate_name}
 use Rattle.s_sequence.specs.Ports.{PlainPorts, ports_from, port_at}
 use Rattle.s_sequence.specs.Scope.{port_in, name_in, kind_in, names_in}
 use Rattle.s_sequence.specs.Shape.{NodeShaped, NodesShaped, RegionsShaped}
 use Rattle.s_sequence.specs.Writer.{PlainWriter, with_lines}
 use Rattle.s_sequence.specs.Written.{region_code, region_port, region_labels, regions_labels, node_labels, nodes_labels, node_ports, StepWritten, branch_lines, other_lines, others_lines, cases_lines}
-use Rattle.s_sequence.proofs.Named.{node_names_values, names_values}
+use Rattle.s_sequence.proofs.lemmas.Named.{node_names_values, names_values}
 use Rattle.s_sequence.proofs.PortLemmas.{ports_first, ports_end}
 use Rattle.s_sequence.proofs.CodeLemmas.{kinds_written, branch_written, entered_written, loop_written}
 use Rattle.s_sequence.proofs.RoomLemmas.{args_room, loop_room, exits_room, value_each, standing_room, second}

@@ -2,7 +2,8 @@ use Rattle.std.proofs.Common.{◌≡◌, [], ◌∷◌, ◌++◌, ap, sym, subst
 use Rattle.std.proofs.lemmas.Result.{on_ok_weaker}
 use Rattle.g_graph.specs.Plain.{PlainLambda}
 use Rattle.g_graph.specs.Count.{region_values}
-use Rattle.s_linear.specs.Lines.{enter, leave, numbers_from, code_lines}
+use Rattle.s_linear.specs.Lines.{enter, leave, code_lines}
+use Rattle.val_core.specs.Numbers.{numbers_from}
 use Rattle.s_sequence.specs.Sequence.{body_code, value_name}
 use Rattle.s_sequence.specs.Shape.{RegionShaped}
 use Rattle.s_sequence.specs.Writer.{with_lines}

@@ -9,7 +9,7 @@ use Rattle.std.proofs.lemmas.List.Elements.{Contains-get_or}
 use Rattle.board_core.specs.Board.{results, deps_of}
 use Rattle.board_core.specs.History.{History, program_of, state_of, dep_lists}
 use Rattle.board_core.proofs.JobStateLemmas.{row-is}
-use Rattle.board_core.proofs.KeptLemmas.{made-length, given}
+use Rattle.board_core.proofs.lemmas.Kept.{made-length, given}
 use Rattle.board_core.proofs.board.Board.give_deps.Goals as goal
 
 pub add_results-requires : goal.add_results-requires

@@ -2,7 +2,7 @@ use Rattle.std.proofs.Common.{sym, subst, arith}
 use Rattle.board_core.specs.declared.event.Event.TheVariants.{Claim}
 use Rattle.board_core.specs.Board.{MayClaim}
 use Rattle.board_core.specs.History.{History, program_of, state_of}
-use Rattle.board_core.proofs.KeptLemmas.{kept-claim, kept-logged, room-for}
+use Rattle.board_core.proofs.lemmas.Kept.{kept-claim, kept-logged, room-for}
 use Rattle.board_core.proofs.board.Board.hold.Goals as goal
 
 pub log-requires : goal.log-requires

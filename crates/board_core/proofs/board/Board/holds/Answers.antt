@@ -1,7 +1,7 @@
 use Rattle.std.proofs.Common.{◌≡◌, true, subst}
 use Rattle.board_core.specs.Board.{job_at, Held}
 use Rattle.board_core.specs.History.{History, state_of}
-use Rattle.board_core.proofs.KeptLemmas.{holder_is}
+use Rattle.board_core.proofs.lemmas.Kept.{holder_is}
 use Rattle.board_core.proofs.board.Board.holds.Goals as goal
 
 pub returns : goal.returns

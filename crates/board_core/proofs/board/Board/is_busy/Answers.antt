@@ -3,7 +3,7 @@ use Rattle.std.specs.Prelude.{MatchBool}
 use Rattle.board_core.specs.Board.{IsReady}
 use Rattle.board_core.specs.Calls.{AllOut, SomeHeld}
 use Rattle.board_core.specs.History.{History, program_of, state_of}
-use Rattle.board_core.proofs.KeptLemmas.{busy}
+use Rattle.board_core.proofs.lemmas.Kept.{busy}
 use Rattle.board_core.proofs.board.Board.is_busy.Goals as goal
 
 pub returns : goal.returns

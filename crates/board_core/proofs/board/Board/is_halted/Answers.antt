@@ -3,7 +3,7 @@ use Rattle.std.specs.Prelude.{MatchBool}
 use Rattle.board_core.specs.Board.{NobodyStopped}
 use Rattle.board_core.specs.Calls.{SomebodyStopped}
 use Rattle.board_core.specs.History.{History, state_of}
-use Rattle.board_core.proofs.KeptLemmas.{halted}
+use Rattle.board_core.proofs.lemmas.Kept.{halted}
 use Rattle.board_core.proofs.board.Board.is_halted.Goals as goal
 
 pub returns : goal.returns

@@ -1,7 +1,7 @@
 use Rattle.std.proofs.Common.{◌≡◌, true, subst}
 use Rattle.board_core.specs.Board.{HoldsNone}
 use Rattle.board_core.specs.History.{History, state_of}
-use Rattle.board_core.proofs.KeptLemmas.{no_holder}
+use Rattle.board_core.proofs.lemmas.Kept.{no_holder}
 use Rattle.board_core.proofs.board.Board.is_idle.Goals as goal
 
 pub returns : goal.returns

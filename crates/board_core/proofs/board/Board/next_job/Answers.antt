@@ -4,7 +4,7 @@ use Rattle.std.proofs.lemmas.List.{length-map}
 use Rattle.board_core.specs.declared.job_state.JobState.{JobState}
 use Rattle.board_core.specs.Board.{IsNext, IsReady}
 use Rattle.board_core.specs.History.{History, dep_lists, program_of, state_of}
-use Rattle.board_core.proofs.KeptLemmas.{job_states-length, kept-search, next-some, next-none, written-back}
+use Rattle.board_core.proofs.lemmas.Kept.{job_states-length, kept-search, next-some, next-none, written-back}
 use Rattle.board_core.proofs.board.Board.next_job.Goals as goal
 
 each-found : (found : Option ℕ) (P Q : ℕ → Type 0) → ((j : ℕ) → P j → Q j) → IfSome found P → IfSome found Q

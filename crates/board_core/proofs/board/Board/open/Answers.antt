@@ -4,7 +4,7 @@ use Rattle.std.specs.Prelude.{None, replicate, vec_capacity}
 use Rattle.board_core.specs.declared.job_state.JobState.TheVariants.{Open as OpenState}
 use Rattle.board_core.specs.Calls.{NoBadDep}
 use Rattle.board_core.specs.History.{dep_lists}
-use Rattle.board_core.proofs.KeptLemmas.{kept-logged}
+use Rattle.board_core.proofs.lemmas.Kept.{kept-logged}
 use Rattle.board_core.proofs.OpenLemmas.{kept-open, not-first_bad, le-same}
 use Rattle.board_core.proofs.board.Board.open.Goals as goal
 

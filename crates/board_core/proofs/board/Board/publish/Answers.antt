@@ -5,7 +5,7 @@ use Rattle.std.proofs.lemmas.List.{map-set}
 use Rattle.board_core.specs.declared.event.Event.TheVariants.{Publish}
 use Rattle.board_core.specs.Board.{job_at, Held, results, deps_of}
 use Rattle.board_core.specs.History.{History, program_of, state_of}
-use Rattle.board_core.proofs.KeptLemmas.{kept-publish, kept-logged, kept-made, room-for, holder-known}
+use Rattle.board_core.proofs.lemmas.Kept.{kept-publish, kept-logged, kept-made, room-for, holder-known}
 use Rattle.board_core.proofs.board.Board.publish.Goals as goal
 
 pub log-requires : goal.log-requires

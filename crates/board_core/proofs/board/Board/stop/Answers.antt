@@ -4,7 +4,7 @@ use Rattle.board_core.specs.declared.job_state.JobState.{JobState}
 use Rattle.board_core.specs.Board.{HasStopped}
 use Rattle.board_core.specs.JobStates.{released_state}
 use Rattle.board_core.specs.History.{History, state_of}
-use Rattle.board_core.proofs.KeptLemmas.{kept-stop, kept-logged, kept-job_states, room-for, written-back}
+use Rattle.board_core.proofs.lemmas.Kept.{kept-stop, kept-logged, kept-job_states, room-for, written-back}
 use Rattle.board_core.proofs.board.Board.stop.Goals as goal
 
 pub log-requires : goal.log-requires

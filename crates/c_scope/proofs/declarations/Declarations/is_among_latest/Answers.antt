@@ -1,6 +1,6 @@
 use Rattle.std.proofs.Common.{◌-◌, ◌∙◌, ap}
 use Rattle.std.specs.Prelude.{nat_le}
-use Rattle.c_scope.proofs.LatestLemmas.{among, among-none}
+use Rattle.c_scope.proofs.lemmas.Latest.{among, among-none}
 use Rattle.c_scope.proofs.declarations.Declarations.is_among_latest.Goals as goal
 
 pub returns-in-Some-clause-value : goal.returns-in-Some-clause-value

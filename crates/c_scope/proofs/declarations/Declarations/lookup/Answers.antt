@@ -1,7 +1,7 @@
 use Rattle.std.proofs.Common.{◌∙◌, ◌≤◌, ◌<◌, ap, sym, subst, length, get_or, None, Some}
 use Rattle.std.specs.Option.{option_map}
 use Rattle.std.proofs.lemmas.Option.{slice_get_past, slice_get-get_or}
-use Rattle.c_scope.proofs.LatestLemmas.{found}
+use Rattle.c_scope.proofs.lemmas.Latest.{found}
 use Rattle.c_scope.proofs.declarations.Declarations.lookup.Goals as goal
 
 pub returns-in_err-index : goal.returns-in_err-index

@@ -1,6 +1,6 @@
 use Rattle.indexmap.specs.IndexMap.{get}
 use Rattle.c_scope.specs.Scopes.{same_name}
-use Rattle.c_scope.proofs.LatestLemmas.{last-found, popped}
+use Rattle.c_scope.proofs.lemmas.Latest.{last-found, popped}
 use Rattle.c_scope.proofs.declarations.Declarations.pop.Goals as goal
 
 pub restore-requires : goal.restore-requires

@@ -2,7 +2,7 @@ use Rattle.std.proofs.Common.{◌≡◌, ◌∙◌, false, Some, Result, Ok, Err
 use Rattle.std.specs.Result.{is_err}
 use Rattle.indexmap.specs.IndexMap.{get, Updates}
 use Rattle.c_scope.specs.Scopes.{same_name}
-use Rattle.c_scope.proofs.LatestLemmas.{pushed}
+use Rattle.c_scope.proofs.lemmas.Latest.{pushed}
 use Rattle.c_scope.proofs.declarations.Declarations.push.Goals as goal
 
 when-ok : {T E : Type 0} (P : Type 0) (r : Result T E) → false ≡ is_err r → OnOk r P → P

@@ -17,8 +17,8 @@ use Rattle.g_construct.proofs.lemmas.LaterExpressions.{const_later, bin_later, e
 use Rattle.g_expression.specs.Work.{Work, made, ended, port_of}
 use Rattle.g_expression.specs.Parts.{has_value}
 use Rattle.g_expression.proofs.Sizes.{item_size}
-use Rattle.g_expression.proofs.Made.{Makes, bind_makes, on_ok, if_ok}
-use Rattle.g_expression.proofs.Choices.{choice_makes}
+use Rattle.g_expression.proofs.lemmas.Made.{Makes, bind_makes, on_ok, if_ok}
+use Rattle.g_expression.proofs.lemmas.Choices.{choice_makes}
 use Rattle.g_expression.proofs.builder.Builder.+expressions.Goals as goal
 
 pub arguments-expression-requires : goal.arguments-expression-requires

@@ -1,7 +1,7 @@
 use Rattle.std.proofs.Common.{sym, ap, ◌∙◌}
 use Rattle.std.specs.Prelude.{option_copied, slice_get}
 use Rattle.g_construct.specs.Writer.{variable_at}
-use Rattle.g_expression.proofs.Scopes.{item_get, at_found, at_missing}
+use Rattle.g_expression.proofs.lemmas.Scopes.{item_get, at_found, at_missing}
 use Rattle.g_expression.proofs.variables.Variables.at.Goals as goal
 
 pub returns-in-Some : goal.returns-in-Some

@@ -1,7 +1,7 @@
 use Rattle.std.proofs.Common.{◌≡◌, ◌-◌, length, sym, ap, ◌∙◌, arith}
 use Rattle.std.specs.Prelude.{option_copied, slice_get, Some, None}
 use Rattle.g_construct.specs.Writer.{newest, slot_origin}
-use Rattle.g_expression.proofs.Scopes.{newest_of, newest_none}
+use Rattle.g_expression.proofs.lemmas.Scopes.{newest_of, newest_none}
 use Rattle.g_expression.proofs.variables.Variables.newest.Goals as goal
 
 pub returns-in-Some : goal.returns-in-Some

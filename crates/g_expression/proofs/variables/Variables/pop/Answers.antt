@@ -2,7 +2,7 @@ use Rattle.std.proofs.Common.{◌-◌, length, take, sym, ap, ◌∙◌, arith}
 use Rattle.g_construct.specs.Writer.{without_newest}
 use Rattle.g_expression.specs.SlotViews.{slot_of}
 use Rattle.g_expression.specs.Places.{is_hidden}
-use Rattle.g_expression.proofs.Scopes.{pop_drops, pop_keeps, popped_is}
+use Rattle.g_expression.proofs.lemmas.Scopes.{pop_drops, pop_keeps, popped_is}
 use Rattle.std.proofs.lemmas.Bool.{not-true, not-false}
 use Rattle.g_expression.proofs.Slots.{length_more}
 use Rattle.g_expression.proofs.variables.Variables.pop.Goals as goal

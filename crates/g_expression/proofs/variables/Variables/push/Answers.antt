@@ -1,7 +1,7 @@
 use Rattle.std.proofs.Common.{length, sym, ap, ◌∙◌, arith}
 use Rattle.g_expression.specs.SlotViews.{slot_of}
 use Rattle.g_expression.specs.Places.{is_hidden}
-use Rattle.g_expression.proofs.Scopes.{push_keeps}
+use Rattle.g_expression.proofs.lemmas.Scopes.{push_keeps}
 use Rattle.std.proofs.lemmas.Bool.{not-false}
 use Rattle.g_expression.proofs.Slots.{length_more}
 use Rattle.g_expression.proofs.variables.Variables.push.Goals as goal

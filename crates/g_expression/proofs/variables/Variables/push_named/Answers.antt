@@ -1,6 +1,6 @@
 use Rattle.std.proofs.Common.{◌≡◌, Bool, true, [], ◌∷◌, ◌++◌, length, ap, ◌∙◌, arith}
 use Rattle.std.specs.Prelude.{not, is_ok, if◌then◌else◌}
-use Rattle.g_expression.proofs.Scopes.{push_adds, same_length}
+use Rattle.g_expression.proofs.lemmas.Scopes.{push_adds, same_length}
 use Rattle.g_expression.proofs.Slots.{length_more}
 use Rattle.g_expression.proofs.variables.Variables.push_named.Goals as goal
 

@@ -4,7 +4,7 @@ use Rattle.g_construct.specs.Writer.{numbered}
 use Rattle.g_expression.specs.SlotViews.{slot_of}
 use Rattle.g_expression.specs.Numbers.{origin_from}
 use Rattle.g_expression.specs.declared.variables.InScope.TheVariants as scope
-use Rattle.g_expression.proofs.Scopes.{rename_step, rename_all, rename_keeps}
+use Rattle.g_expression.proofs.lemmas.Scopes.{rename_step, rename_all, rename_keeps}
 use Rattle.g_expression.proofs.variables.Variables.rename.Goals as goal
 
 pub loop-variable-preserved : goal.loop-variable-preserved

@@ -1,4 +1,4 @@
-use Rattle.g_expression.proofs.Scopes.{Renamed}
+use Rattle.g_expression.proofs.lemmas.Scopes.{Renamed}
 use Rattle.g_expression.proofs.variables.Variables.rename.Given as goal
 
 abbrev pub invariant-loop-variable : goal.invariant-loop-variable

@@ -1,7 +1,7 @@
 use Rattle.std.proofs.Common.{sym, ap, ◌∙◌, arith}
 use Rattle.std.specs.Prelude.{option_copied, slice_get}
 use Rattle.g_construct.specs.Writer.{variable_set}
-use Rattle.g_expression.proofs.Scopes.{item_get, set_keeps, set_at_found, set_at_missing}
+use Rattle.g_expression.proofs.lemmas.Scopes.{item_get, set_keeps, set_at_found, set_at_missing}
 use Rattle.g_expression.proofs.variables.Variables.set.Goals as goal
 
 pub invariant_of-self : goal.invariant_of-self

@@ -1,7 +1,7 @@
 use Rattle.std.proofs.Common.{◌≡◌, sym, ap, ◌∙◌, List}
 use Rattle.std.specs.Prelude.{Some, None, option_copied, slice_get}
 use Rattle.c_typed.specs.Typed.{VariableTree}
-use Rattle.g_expression.proofs.Scopes.{item_get}
+use Rattle.g_expression.proofs.lemmas.Scopes.{item_get}
 use Rattle.g_statement.proofs.Numbering.{get_lost, get_none, found_in}
 use Rattle.g_statement.proofs.objects.Objects.get.Goals as goal
 

@@ -10,15 +10,16 @@ use Rattle.g_graph.specs.declared.op.Op.TheVariants.{Const, Undef, Local, Delta,
 use Rattle.g_graph.specs.Plain.{RegionTree, region, NodeTree, node, NodeTrees, no_nodes, node_then, nodes_of, RegionTrees, no_regions, region_then, PlainLambda}
 use Rattle.g_graph.specs.Scope.{each_node}
 use Rattle.g_graph.specs.Lists.{RegionOps, NodeOps, NodesOps, RegionsOps, NamesGlobal}
-use Rattle.g_graph.specs.WellFormed.{all_of, is_width, every_region, every_in_node, every_in_nodes, every_in_regions, has_its_width, has_its_object, inputs_fit, inputs_are_last, node_has_one_state_each, has_its_regions, regions_fit, theta_has_states, node_fits, results_are_last, returns_state, region_has_one_state_each, region_fits, body_fits, numbers_fit, leaves_fit, IsWellFormed}
+use Rattle.g_graph.specs.WellFormed.{all_of, is_width, every_region, every_in_node, every_in_nodes, every_in_regions, has_its_width, has_its_object, inputs_fit, inputs_are_last, node_has_one_state_each, has_its_regions, regions_fit, theta_has_states, node_fits, results_are_last, returns_state, region_has_one_state_each, region_fits, IsWellFormed}
 use Rattle.g_graph.specs.declared.op.Kind.TheVariants.{Memory, Io}
 use Rattle.s_linear.specs.Linear.{Instr, move, undef, Code, no_steps}
 use Rattle.s_linear.specs.Lines.{done, does, lines}
 use Rattle.s_linear.specs.Operands as operands
 use Rattle.s_linear.specs.Operands.{has_its_global}
-use Rattle.s_linear.proofs.Passing.{StepPasses, CodePasses, CodesPass, lines_pass}
+use Rattle.s_linear.proofs.lemmas.Passing.{StepPasses, CodePasses, CodesPass, lines_pass}
 use Rattle.s_sequence.specs.Sequence.{value_args, Names, no_names, node_names, nodes_names, named, name_of, moves, without_states, op_instr, instrs_then, outputs_at, nodes_code, node_step, branch_codes, branch_code, loop_step, body_code, sequenced}
 use Rattle.s_sequence.specs.Laws as laws
+use Rattle.g_graph.proofs.lemmas.Nests.{regions_of_well_formed}
 
 module _ (test : Instr → Bool) (p : Op → ℕ → Type 0) (moved : (t s : ℕ) → test (move t s) ≡ true) (unknown : (t : ℕ) → test (undef t) ≡ true)
     (made : (op : Op) (t : ℕ) (xs : List ℕ) → p op (length xs) → test (op_instr op t xs) ≡ true) where
@@ -119,11 +120,6 @@ module _ (objects : ℕ) (p : Op → ℕ → Type 0)
       region_has r ((and_parts (every_region (region_fits objects) r) _ e).0),
       regions_have rs ((and_parts (every_region (region_fits objects) r) _ e).1),
     )
-
-pub regions_of_well_formed : (l : PlainLambda) → IsWellFormed l → every_region (region_fits (length l.objects)) l.body ≡ true
-regions_of_well_formed l w =
-    (and_parts (body_fits l && numbers_fit l) (every_region (region_fits (length l.objects)) l.body)
-    ((and_parts (body_fits l && numbers_fit l && every_region (region_fits (length l.objects)) l.body) (all_of (λ o. leaves_fit o.size 0 o.leaves) l.objects) w).0)).1
 
 -- what every instruction of a sequenced op passes
 pub instrs_pass : (test : Instr → Bool) → ((t s : ℕ) → test (move t s) ≡ true) → ((t : ℕ) → test (undef t) ≡ true) →

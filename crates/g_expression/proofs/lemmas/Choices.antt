@@ -10,7 +10,7 @@ use Rattle.g_construct.specs.Laws.{shape, Later}
 use Rattle.g_construct.proofs.lemmas.Later.{Keeps, later_here, numbered_twice, form_renamed, shape_renamed}
 use Rattle.g_expression.specs.Work.{Enclosing, Work, made, begun, closed, with_regions, with_exchanged, ended, ended_value, port_of}
 use Rattle.g_expression.proofs.Renaming.{last_same, beyond_is, renamed_same}
-use Rattle.g_expression.proofs.Made.{Makes, made_given}
+use Rattle.g_expression.proofs.lemmas.Made.{Makes, made_given}
 
 -- the same variables, whatever their origins
 pub record SameShape (k l : Carried) : Type 0 where

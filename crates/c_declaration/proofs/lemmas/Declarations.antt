@@ -1,22 +1,21 @@
 -- Repetitions in declarations, one element more.
-use Rattle.std.proofs.Common.{◌≡◌, ℕ, ◌+◌, Bool, List, [], ◌∷◌, ◌++◌, length, fold, Option, None, Some, is_some, refl, sym, ap, ◌∙◌, arith}
+use Rattle.std.proofs.Common.{◌≡◌, ℕ, ◌+◌, Bool, List, [], ◌∷◌, ◌++◌, length, Option, None, Some, is_some, refl, sym, ap, ◌∙◌}
 use Rattle.c_lex.specs.declared.punct.Punct.TheVariants as m
 use Rattle.c_ast.specs.declared.declaration.Locals.{Locals}
 use Rattle.c_ast.specs.declared.token.Span.{Span}
 use Rattle.c_ast.specs.Tree.{Tree}
-use Rattle.c_ast.specs.Productions.{Repeated}
 use Rattle.c_ast.specs.Declarations.{declarator as declarator_tree, locals_tree}
 use Rattle.c_ast.specs.Specifiers.{constant, spec_tree}
-use Rattle.c_elaboration.specs.Leaves.{count_of, is_present}
+use Rattle.c_elaboration.specs.Leaves.{is_present}
 use Rattle.c_ast.specs.declared.declaration.OpenDimension.{OpenDimension}
 use Rattle.c_ast.specs.declared.declaration.Declarator.{Declarator}
 use Rattle.c_ast.specs.declared.list.Next.{Next}
 use Rattle.c_ast.specs.Productions as l
 use Rattle.c_ast.specs.Declarations as trees
 use Rattle.c_ast.specs.Expressions.{expr_tree, next}
-use Rattle.c_ast.specs.Nodes.{opt, many, one_more, none_of, mark}
-use Rattle.c_ast.proofs.ListLemmas.{many-none, many-snoc}
-use Rattle.c_expression.proofs.ListLemmas.{count_many}
+use Rattle.c_ast.specs.Nodes.{opt, mark}
+use Rattle.c_ast.proofs.lemmas.Lists.{many-none, many-snoc}
+use Rattle.c_expression.proofs.lemmas.Lists.{count_many}
 use Rattle.c_scope.specs.Scopes.{Name}
 use Rattle.c_declaration.specs.Bounds.{variable_typed}
 use Rattle.c_typed.specs.Typed.{DeclarationTree, ItemTrees, no_items, stmt_then, declare_then}

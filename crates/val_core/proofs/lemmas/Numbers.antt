@@ -1,6 +1,6 @@
 -- Consecutive numbers.
 use Rattle.std.proofs.Common.{◌≡◌, ℕ, zero, suc, length, refl, ap}
-use Rattle.s_linear.specs.Lines.{numbers_from}
+use Rattle.val_core.specs.Numbers.{numbers_from}
 
 pub length_numbers : (from n : ℕ) → length (numbers_from from n) ≡ n
 length_numbers from zero = refl

@@ -22,7 +22,7 @@ use Rattle.c_ast.specs.Nodes.{node, mark, word}
 use Rattle.c_ast.specs.Declarations.{locals_tree}
 use Rattle.c_ast.specs.Expressions.{list_tree}
 use Rattle.c_ast.specs.Statements.{clause, start_tree, label_tree, labels_tree, stmt_tree, item_tree, block_tree, else_children, group_tree, groups_tree, item_step, stmt_step, block_step, else_step, group_step}
-use Rattle.c_ast.proofs.ListLemmas.{many-map}
+use Rattle.c_ast.proofs.lemmas.Lists.{many-map}
 
 abbrev of_block : Block → Tree
 of_block = fold-Block Tree Tree Tree (List Tree) Tree item_step stmt_step block_step else_step group_step

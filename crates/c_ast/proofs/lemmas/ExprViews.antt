@@ -24,7 +24,7 @@ use Rattle.c_ast.specs.Operators.{selection_production, selection_mark, inc_dec_
 use Rattle.c_ast.specs.Nodes.{node, leaf, name, mark, word, opt}
 use Rattle.c_ast.specs.Specifiers.{constant, spec_tree, stars}
 use Rattle.c_ast.specs.Expressions.{expr_tree, type_tree, list_children, list_tree, dimension_children, next, literal, texts, expr_step, dimension_step, list_step, type_step}
-use Rattle.c_ast.proofs.ListLemmas.{many-map}
+use Rattle.c_ast.proofs.lemmas.Lists.{many-map}
 
 abbrev Layer : Type 0
 Layer = Expr-F Expr Dimension ExprList TypeName

@@ -4,7 +4,7 @@ use Rattle.std.proofs.lemmas.Option.{slice_get-get_or}
 use Rattle.c_ast.specs.Productions.{Repeated}
 use Rattle.c_ast.specs.Tree.{Tree}
 use Rattle.c_ast.specs.Nodes.{many, one_more, none_of}
-use Rattle.c_ast.proofs.ListLemmas.{many-take, many-none}
+use Rattle.c_ast.proofs.lemmas.Lists.{many-take, many-none}
 use Rattle.c_elaboration.specs.Leaves.{count_of}
 
 count_from : {X : Type 0} (k : Repeated) (element : X → List Tree) (xs : List X) (before : Tree) → count_of (fold (one_more k element) before xs) ≡ count_of before + length xs

@@ -8,7 +8,7 @@ use Rattle.c_typed.specs.declared.operator.Relation.{Relation}
 use Rattle.c_typed.specs.declared.operator.UnaryOp.TheVariants as unary_op
 use Rattle.c_typed.specs.declared.operator.BinaryOp.TheVariants as binary_op
 use Rattle.c_typed.specs.declared.operator.IncDec.{IncDec}
-use Rattle.c_typed.specs.Typed.{ExprTree, expr, constant, read, unary, binary, assign, call, ExprTrees, place, PlaceFormTree, local, no_initial, initial_value, StmtTree, value, ItemTrees, declare_then, VariableTree, FunctionTree, GlobalTree, ProgramTree}
+use Rattle.c_typed.specs.Typed.{ExprTree, expr, constant, read, unary, binary, assign, call, ExprTrees, place, PlaceFormTree, local, InitialTree, no_initial, initial_value, StmtTree, value, ItemTrees, declare_then, VariableTree, FunctionTree, GlobalTree, ProgramTree}
 
 -- ---- types and variables
 
@@ -73,11 +73,14 @@ called f es = expr int (call f es)
 abbrev pub set : (slot : ℕ) → ExprTree → StmtTree
 set k e = value (assigned int (local k) e)
 
+abbrev pub begin_with : (variable : ℕ) → InitialTree → ItemTrees → ItemTrees
+begin_with k i is = declare_then (record { variable = k; names_itself = false; initial = i }) is
+
 abbrev pub declare : (variable : ℕ) → ItemTrees → ItemTrees
-declare k is = declare_then (record { variable = k; names_itself = false; initial = no_initial }) is
+declare k is = begin_with k no_initial is
 
 abbrev pub begin : (variable : ℕ) → ExprTree → ItemTrees → ItemTrees
-begin k e is = declare_then (record { variable = k; names_itself = false; initial = initial_value e }) is
+begin k e is = begin_with k (initial_value e) is
 
 -- ---- functions and programs
 

@@ -14,7 +14,7 @@ use Rattle.board_core.specs.JobStates.{job_state_at, released_state, AllCheckedO
 use Rattle.board_core.specs.Calls.{SomebodyStopped, SomeHeld, AllOut}
 use Rattle.board_core.specs.Kept.{job_state_of, IsKept}
 use Rattle.board_core.proofs.MachineLemmas.{replay-push, legal-push, inside-from_job, result-released}
-use Rattle.board_core.proofs.AnswerLemmas.{IsSound, sound-replay, idle-done}
+use Rattle.board_core.proofs.lemmas.Answers.{IsSound, sound-replay, idle-done}
 use Rattle.board_core.proofs.CountLemmas.{room-more}
 
 -- a history that goes on by an event that is no stop

@@ -16,7 +16,7 @@ use Rattle.g_graph.specs.WellFormed.{all_of, some_of, are, one_state_each, gives
 use Rattle.g_graph.specs.Replace.{node_redirected, nodes_redirected, region_redirected}
 use Rattle.g_graph.specs.Splice.{args_to_inputs, outputs_to_results, joined_nodes, nodes_spliced, region_spliced}
 use Rattle.g_graph.proofs.lemmas.Redirects.{nodes_of-redirected, kind_after-redirected, state_after-redirected, gives-redirected, every_in_nodes-redirected}
-use Rattle.g_graph.proofs.lemmas.Splices.{joined_none, joined_following, Split, joined_assoc, nodes_of-append, kind_after-joined, state_after-joined, gives-joined, every_in_nodes-joined}
+use Rattle.g_graph.proofs.lemmas.Splices.{joined_none, joined_following, Split, joined_assoc, nodes_of_append, kind_after-joined, state_after-joined, gives-joined, every_in_nodes-joined}
 use Rattle.g_graph.proofs.lemmas.Unique.{same_number, equal_back}
 use Rattle.g_graph.proofs.NestLemmas.{RegionKept}
 use Rattle.g_graph.proofs.ScopeMaps.{ScopeMap, mapped_all, mapped_nodes_fit}
@@ -491,7 +491,7 @@ replacement_kept objects args before x after own replacement outs is results s e
     let following_is : (ms : NodeTrees) → joined_nodes (nodes_of before) (joined_nodes (nodes_redirected (args_to_inputs is) (nodes_of replacement)) ms) ≡
     joined_nodes (nodes_of (before ++ replacement_with_inputs)) ms =
     λ ms.
-    sym (ap (λ ks. joined_nodes ks ms) (nodes_of-append before replacement_with_inputs) ∙ joined_assoc (nodes_of before) (nodes_of replacement_with_inputs) ms
+    sym (ap (λ ks. joined_nodes ks ms) (nodes_of_append before replacement_with_inputs) ∙ joined_assoc (nodes_of before) (nodes_of replacement_with_inputs) ms
     ∙ ap (λ ks. joined_nodes (nodes_of before) (joined_nodes ks ms)) (nodes_of-redirected (args_to_inputs is) replacement)) in
     let moved_fit : each_node fits (before ++ replacement_with_inputs) (nodes_redirected f after) ≡ true =
     mapped_nodes_fit objects args args f (before ++ x ∷ []) (before ++ replacement_with_inputs) after

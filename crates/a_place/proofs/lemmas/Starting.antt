@@ -7,8 +7,9 @@ use Rattle.std.proofs.lemmas.Grind.{flat_map-append}
 use Rattle.std.proofs.lemmas.List.{append-nil, get_or-set_same, get_or-set_other}
 use Rattle.std.proofs.lemmas.List.Elements.{filter-append}
 use Rattle.g_graph.specs.WellFormed.{some_of, all_of}
-use Rattle.s_linear.proofs.lemmas.Numbers.{length_numbers}
-use Rattle.s_linear.specs.Lines.{Line, line_names, names_below, numbers_from}
+use Rattle.val_core.proofs.lemmas.Numbers.{length_numbers}
+use Rattle.s_linear.specs.Lines.{Line, line_names, names_below}
+use Rattle.val_core.specs.Numbers.{numbers_from}
 use Rattle.a_place.specs.Places.{occurs, first, last, above, name_count, starting, in_order, Given, least, count_of, place_for, given, held, places}
 use Rattle.a_place.specs.Sweep.{AllStartAt, given_before}
 use Rattle.a_place.proofs.Intervals.{first_of_none}

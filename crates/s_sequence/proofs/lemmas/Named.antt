@@ -16,8 +16,9 @@ use Rattle.g_graph.specs.Count.{region_values, node_values, nodes_values, region
 use Rattle.g_graph.specs.Scope.{each_node}
 use Rattle.g_graph.specs.WellFormed.{all_of, all_regions, are, same, kinds_of, every_region, every_in_node, every_in_nodes, every_in_regions, has_its_width, has_its_object, regions_fit, theta_has_states, node_fits, results_are_last, returns_state, region_has_one_state_each, region_fits, body_fits, numbers_fit, leaves_fit, IsWellFormed}
 use Rattle.s_linear.specs.Linear.{Code, no_steps}
-use Rattle.s_linear.specs.Lines.{done, names_below, numbers_from, lines}
-use Rattle.s_linear.proofs.Passing.{StepPasses, CodePasses, CodesPass, lines_pass}
+use Rattle.s_linear.specs.Lines.{done, names_below, lines}
+use Rattle.val_core.specs.Numbers.{numbers_from}
+use Rattle.s_linear.proofs.lemmas.Passing.{StepPasses, CodePasses, CodesPass, lines_pass}
 use Rattle.s_sequence.specs.Sequence.{values_in, value_args, kept, Names, no_names, node_names, nodes_names, region_names, regions_names, last_names, first_standing, outputs_at, bases_from, bases, named, nodes_named, name_of, moves, name_at, without_states, op_instr, instrs_then, loop_results, nodes_code, node_step, branch_codes, branch_code, loop_step, body_code, value_name, sequenced}
 
 -- ---- counts of values

@@ -97,7 +97,7 @@ has_node_index n first (node_then x xs) = by_test (id_of x == n) (has_node_index
     by_test true h = refl
     by_test false h = h
 
-is_some_map : {X Y : Type 0} (g : X → Y) (o : Option X) → is_some (option_map g o) ≡ is_some o
+pub is_some_map : {X Y : Type 0} (g : X → Y) (o : Option X) → is_some (option_map g o) ≡ is_some o
 is_some_map g None = refl
 is_some_map g (Some x) = refl
 

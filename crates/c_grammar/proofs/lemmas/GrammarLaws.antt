@@ -19,7 +19,7 @@ use Rattle.c_grammar.proofs.Viable.{read_viable}
 use Rattle.c_grammar.proofs.Local.{SameResult, read_twin}
 use Rattle.c_grammar.proofs.Small.{Small}
 use Rattle.c_grammar.proofs.Enough.{read_enough}
-use Rattle.c_grammar.proofs.Spans.{kinds_append, split_kinds, dress, dressed_fits, token_lists}
+use Rattle.c_grammar.proofs.lemmas.Spans.{kinds_append, split_kinds, dress, dressed_fits, token_lists}
 
 abbrev pub unit : Nonterminal
 unit = Many Externals

@@ -1,0 +1,2 @@
+-- Lemmas and short forms that crates above cite.
+pub mod ShortForms
