@@ -38,7 +38,7 @@ module _ {W : Type 0} (named : W → List ℕ) (stands_for : W → List PlainRow
 
   -- ---- a source that was compiled
 
-  module _ (name : Option (List ℕ)) (image : Name) (bytes : List ℕ) (rows : List PlainRow) (told : List ℕ) (first before after : FilesSeen) (ws ws' : List W)
+  module _ (name : Option (List ℕ)) (image : Name) (bytes : List ℕ) (rows : List PlainRow) (said : List ℕ) (first before after : FilesSeen) (ws ws' : List W)
       (known : before.known ≡ first.known) (created : before.create_faults ≡ first.create_faults) (written : before.write_faults ≡ first.write_faults) where
     -- the files have not changed since then
     abbrev seen : Option FileSet → (Name → ℕ) → ℕ → FilesSeen
@@ -50,10 +50,10 @@ module _ {W : Type 0} (named : W → List ℕ) (stands_for : W → List PlainRow
         subst (λ w. P (seen first.known first.create_faults w)) written
         (subst (λ c. P (seen first.known c before.write_faults)) created (subst (λ k. P (seen k before.create_faults before.write_faults)) known h))
 
-    pub finishes-since : (e : Outcome) → Finished name image bytes rows e told before after ws ws' → Finished name image bytes rows e told first after ws ws'
-    finishes-since Done h = since (λ f. Finished name image bytes rows Done told f after ws ws') h
-    finishes-since WriteFault h = since (λ f. Finished name image bytes rows WriteFault told f after ws ws') h
-    finishes-since NoMemory h = since (λ f. Finished name image bytes rows NoMemory told f after ws ws') h
+    pub finishes-since : (e : Outcome) → Finished name image bytes rows e said before after ws ws' → Finished name image bytes rows e said first after ws ws'
+    finishes-since Done h = since (λ f. Finished name image bytes rows Done said f after ws ws') h
+    finishes-since WriteFault h = since (λ f. Finished name image bytes rows WriteFault said f after ws ws') h
+    finishes-since NoMemory h = since (λ f. Finished name image bytes rows NoMemory said f after ws ws') h
     finishes-since Usage h = absurd h
     finishes-since ReadFault h = absurd h
     finishes-since (Refused refusal) h = absurd h
@@ -63,11 +63,11 @@ module _ {W : Type 0} (named : W → List ℕ) (stands_for : W → List PlainRow
     finishes-since Budget h = absurd h
     finishes-since (Stuck pc why) h = absurd h
 
-  module _ (recipe : List Rule) (name : Option (List ℕ)) (source image : Name) (bytes : List ℕ) (rows : List PlainRow) (told : List ℕ) (before after : FilesSeen) (ws ws' : List W) where
-    pub compiled-ends : (e : Outcome) → WasCompiled recipe source before.known bytes rows → Finished name image bytes rows e told before after ws ws' →
-        Ended recipe name source image e told before after ws ws'
+  module _ (recipe : List Rule) (name : Option (List ℕ)) (source image : Name) (bytes : List ℕ) (rows : List PlainRow) (said : List ℕ) (before after : FilesSeen) (ws ws' : List W) where
+    pub compiled-ends : (e : Outcome) → WasCompiled recipe source before.known bytes rows → Finished name image bytes rows e said before after ws ws' →
+        Ended recipe name source image e said before after ws ws'
     compiled-ends Done c h =
-        let k : Finished name image bytes (rows_in c.image) Done told before after ws ws' = subst (λ rs. Finished name image bytes rs Done told before after ws ws') c.told h in
+        let k : Finished name image bytes (rows_in c.image) Done said before after ws ws' = subst (λ rs. Finished name image bytes rs Done said before after ws ws') c.listed h in
         record {
           built = record {
             text = c.text;
@@ -95,11 +95,11 @@ module _ {W : Type 0} (named : W → List ℕ) (stands_for : W → List PlainRow
 
   -- ---- the recipe, and the watcher to report
 
-  module _ (one : OneRecipe) (list : List ℕ) (recipe : List Rule) (name : Option (List ℕ)) (source image : Name) (ended : Outcome) (told : List ℕ) (before after : FilesSeen) (ws ws' : List W) where
-    pub under_it : IsTextOf recipe list → true ≡ has_reporter named name ws → (ended ≢ Done → told ≡ line_of ended) → Ended recipe name source image ended told before after ws ws' →
-        EndedUnder list name source image ended told before after ws ws'
+  module _ (one : OneRecipe) (list : List ℕ) (recipe : List Rule) (name : Option (List ℕ)) (source image : Name) (ended : Outcome) (said : List ℕ) (before after : FilesSeen) (ws ws' : List W) where
+    pub under_it : IsTextOf recipe list → true ≡ has_reporter named name ws → (ended ≢ Done → said ≡ line_of ended) → Ended recipe name source image ended said before after ws ws' →
+        EndedUnder list name source image ended said before after ws ws'
     under_it it some line ends = record {
-      build = λ other is has. subst (λ r. Ended r name source image ended told before after ws ws') (one recipe other (sym it.written ∙ is.written)) ends;
+      build = λ other is has. subst (λ r. Ended r name source image ended said before after ws ws') (one recipe other (sym it.written ∙ is.written)) ends;
       usage = λ none. absurd (none recipe it (sym some));
       line = line;
     }

@@ -23,30 +23,30 @@ use Rattle.cc_top.specs.declared.outcome.Outcome.{Outcome}
 use Rattle.cc_top.specs.declared.outcome.Outcome.TheVariants.{Done, Usage, ReadFault, WriteFault, Refused, BadImage, NoMemory, Exit, Stack, Budget, Stuck}
 
 -- the status is that of the outcome, where the report was written
-pub status-is : (ended : Outcome) (told : List ℕ) (status : ℕ) (held held' : Option (List ℕ)) (faults faults' : ℕ) → IsReported ended told status held held' faults faults'
+pub status-is : (ended : Outcome) (said : List ℕ) (status : ℕ) (held held' : Option (List ℕ)) (faults faults' : ℕ) → IsReported ended said status held held' faults faults'
     → (Increased faults faults' → ⊥)
     → status ≡ status_of ended
-status-is ended told status held held' faults faults' (inl own) works = own.0
-status-is ended told status held held' faults faults' (inr cut) works = absurd (works cut.1)
+status-is ended said status held held' faults faults' (inl own) works = own.0
+status-is ended said status held held' faults faults' (inr cut) works = absurd (works cut.1)
 
 -- ---- one outcome after the other
 
 module _ (law : AcceptedIsNotRefused) where
   module _ {W : Type 0} (named : W → List ℕ) (stands_for : W → List PlainRow → Type 0) (text_of : W → List PlainRow → List ℕ) where
-    build-done : (recipe : _) (name : Option (List ℕ)) (source image : Name) (ended : Outcome) (told : List ℕ) (before after : FilesSeen) (ws ws' : List W) →
-        BuildEnds named stands_for text_of recipe name source image ended told before after ws ws' → (ReadFails source before after → ⊥) → (WriteFails image before after → ⊥) →
+    build-done : (recipe : _) (name : Option (List ℕ)) (source image : Name) (ended : Outcome) (said : List ℕ) (before after : FilesSeen) (ws ws' : List W) →
+        BuildEnds named stands_for text_of recipe name source image ended said before after ws ws' → (ReadFails source before after → ⊥) → (WriteFails image before after → ⊥) →
         IfKnown source before (λ text. (p : ProgramTree) → Accepts text p → IsDone (status_of ended))
-    build-done recipe name source image Done told before after ws ws' h reads writes = λ files is p a. inl refl
-    build-done recipe name source image NoMemory told before after ws ws' h reads writes = λ files is p a. inr refl
-    build-done recipe name source image ReadFault told before after ws ws' h reads writes = absurd (reads h.0)
-    build-done recipe name source image WriteFault told before after ws ws' h reads writes = absurd (writes h.3.0)
-    build-done recipe name source image (Refused refusal) told before after ws ws' h reads writes = λ files is p a. absurd (law (content source files) p refusal a (h.0 files is))
-    build-done recipe name source image Usage told before after ws ws' h reads writes = absurd h
-    build-done recipe name source image (BadImage fault) told before after ws ws' h reads writes = absurd h
-    build-done recipe name source image (Exit status) told before after ws ws' h reads writes = absurd h
-    build-done recipe name source image Stack told before after ws ws' h reads writes = absurd h
-    build-done recipe name source image Budget told before after ws ws' h reads writes = absurd h
-    build-done recipe name source image (Stuck pc why) told before after ws ws' h reads writes = absurd h
+    build-done recipe name source image Done said before after ws ws' h reads writes = λ files is p a. inl refl
+    build-done recipe name source image NoMemory said before after ws ws' h reads writes = λ files is p a. inr refl
+    build-done recipe name source image ReadFault said before after ws ws' h reads writes = absurd (reads h.0)
+    build-done recipe name source image WriteFault said before after ws ws' h reads writes = absurd (writes h.3.0)
+    build-done recipe name source image (Refused refusal) said before after ws ws' h reads writes = λ files is p a. absurd (law (content source files) p refusal a (h.0 files is))
+    build-done recipe name source image Usage said before after ws ws' h reads writes = absurd h
+    build-done recipe name source image (BadImage fault) said before after ws ws' h reads writes = absurd h
+    build-done recipe name source image (Exit status) said before after ws ws' h reads writes = absurd h
+    build-done recipe name source image Stack said before after ws ws' h reads writes = absurd h
+    build-done recipe name source image Budget said before after ws ws' h reads writes = absurd h
+    build-done recipe name source image (Stuck pc why) said before after ws ws' h reads writes = absurd h
 
   accept-done : (ended : Outcome) (input input' output output' : StreamSeen) → AcceptCause ended input input' output output' → Works input input' → Works output output'
       → ForSome input.bytes (λ text. (p : ProgramTree) → Accepts text p → IsDone (status_of ended))
@@ -102,17 +102,17 @@ run-done image steps (Refused refusal) before after h reads input output = absur
 -- ---- the command
 
 module _ (law : AcceptedIsNotRefused) {W : Type 0} (named : W → List ℕ) (stands_for : W → List PlainRow → Type 0) (text_of : W → List PlainRow → List ℕ) where
-  ended-completes : (c : Option Command) (ended : Outcome) (told : List ℕ) (before after : Outside) (ws ws' : List W) → Ends named stands_for text_of c ended told before after ws ws'
+  ended-completes : (c : Option Command) (ended : Outcome) (said : List ℕ) (before after : Outside) (ws ws' : List W) → Ends named stands_for text_of c ended said before after ws ws'
       → Completes named c (status_of ended) before after ws
-  ended-completes None ended told before after ws ws' h = tt
-  ended-completes (Some accept) ended told before after ws ws' h = accept-done law ended before.input after.input before.output after.output h.0.cause
-  ended-completes (Some (build source image list workers name)) ended told before after ws ws' h = λ recipe is some.
-      build-done law named stands_for text_of recipe name source image ended told before.files after.files ws ws' (h.0.build recipe is some)
-  ended-completes (Some (generate start functions out)) ended told before after ws ws' h = generate-done start functions out ended before.files after.files h.0
-  ended-completes (Some (run image steps)) ended told before after ws ws' h = run-done image steps ended before after h.0
+  ended-completes None ended said before after ws ws' h = tt
+  ended-completes (Some accept) ended said before after ws ws' h = accept-done law ended before.input after.input before.output after.output h.0.cause
+  ended-completes (Some (build source image list workers name)) ended said before after ws ws' h = λ recipe is some.
+      build-done law named stands_for text_of recipe name source image ended said before.files after.files ws ws' (h.0.build recipe is some)
+  ended-completes (Some (generate start functions out)) ended said before after ws ws' h = generate-done start functions out ended before.files after.files h.0
+  ended-completes (Some (run image steps)) ended said before after ws ws' h = run-done image steps ended before after h.0
 
-  pub completes : (c : Option Command) (ended : Outcome) (told : List ℕ) (before after : Outside) (ws ws' : List W) → Ends named stands_for text_of c ended told before after ws ws'
-      → (status : ℕ) (held held' : Option (List ℕ)) (faults faults' : ℕ) → IsReported ended told status held held' faults faults' → (Increased faults faults' → ⊥)
+  pub completes : (c : Option Command) (ended : Outcome) (said : List ℕ) (before after : Outside) (ws ws' : List W) → Ends named stands_for text_of c ended said before after ws ws'
+      → (status : ℕ) (held held' : Option (List ℕ)) (faults faults' : ℕ) → IsReported ended said status held held' faults faults' → (Increased faults faults' → ⊥)
       → Completes named c status before after ws
-  completes c ended told before after ws ws' h status held held' faults faults' reported works =
-      subst (λ n. Completes named c n before after ws) (sym (status-is ended told status held held' faults faults' reported works)) (ended-completes c ended told before after ws ws' h)
+  completes c ended said before after ws ws' h status held held' faults faults' reported works =
+      subst (λ n. Completes named c n before after ws) (sym (status-is ended said status held held' faults faults' reported works)) (ended-completes c ended said before after ws ws' h)

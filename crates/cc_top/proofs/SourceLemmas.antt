@@ -75,7 +75,7 @@ compiled_of_read recipe source known read bytes functions rows same h = record {
   text = read;
   read = λ files is. whole_text (content source files) read h.image.program (same files is) h.image.accepted;
   image = h.image;
-  told = h.told;
+  listed = h.listed;
 }
 
 pub defines_of_read : (recipe : List Rule) (s read bytes : List ℕ) (functions : ℕ) (rows : List PlainRow) → read ≡ take 1048577 s → CompilesTo recipe read bytes functions rows → Defines functions s

@@ -1,4 +1,4 @@
--- Watchers that are told rows one after the other.
+-- Watchers that are given rows one after the other.
 use Rattle.std.proofs.Common.{◌≡◌, ◌<◌, ◌≤◌, ◌+◌, ℕ, zero, suc, Bool, true, false, List, [], ◌∷◌, ◌++◌, take, length, slice_set, slice_index_or, Option, Some, None, refl, sym, ap, subst, ◌∙◌, append_assoc, append-nil, take_all, take-suc, drop, drop-cons, find, arith}
 use Rattle.std.specs.List.{AllZip}
 use Rattle.std.specs.Str.{bytes_eq}
@@ -98,14 +98,14 @@ module _ {W : Type 0} (named : W → List ℕ) (stands_for : W → List PlainRow
     texts = λ L. h.texts L ∙ g.texts L;
   }
 
-  -- A watcher that was told a row, or is as it was, was told a beginning of that row.
+  -- A watcher that was given a row, or is as it was, was given a beginning of that row.
   pub begun-same : (rows : List PlainRow) (w : W) → Begun rows w w
   begun-same rows w = (0, gained-none w)
 
   pub begun-whole : (rows : List PlainRow) (v w : W) → Gained rows v w → Begun rows v w
   begun-whole rows v w g = (length rows, subst (λ rs. Gained rs v w) (sym (take_all (length rows) rows (omega arith))) g)
 
-  -- The watchers below an index were told the rows, and the one at the index none of them.
+  -- The watchers below an index were given the rows, and the one at the index none of them.
   pub begun-below : (rows : List PlainRow) (i : ℕ) (before now : List W) (d x : W) → i < length now → Below (Gained rows) i before now → Gained [] (slice_index_or now i d) x →
       AllHaveBegun named stands_for text_of rows before (slice_set now i x)
   begun-below rows i before now d x inside h none =
@@ -162,7 +162,7 @@ module _ {W : Type 0} (named : W → List ℕ) (stands_for : W → List PlainRow
   abbrev pub Report : Option (List ℕ) → List PlainRow → List W → List ℕ → Type 0
   Report = IsReportOf named stands_for text_of
 
-  -- a report after the rows were told
+  -- a report after the rows were given
   pub report-gained : (report : Option (List ℕ)) (rows : List PlainRow) (before after : List W) (text : List ℕ) → AllHaveGained named stands_for text_of rows before after →
       Report report [] after text → Report report rows before text
   report-gained None rows before after text h is = is

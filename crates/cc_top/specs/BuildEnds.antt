@@ -70,42 +70,42 @@ rows_built h = rows_of h.program h.compiled.answers
 
 module _ {W : Type 0} (named : W → List ℕ) (stands_for : W → List PlainRow → Type 0) (text_of : W → List PlainRow → List ℕ) where
   -- A build that was done: each watcher has gained the rows, and the report is the named one's.
-  pub record IsBuilt (recipe : List Rule) (name : Option (List ℕ)) (source image : Name) (told : List ℕ) (before after : FilesSeen) (ws ws' : List W) : Type 0 where
+  pub record IsBuilt (recipe : List Rule) (name : Option (List ℕ)) (source image : Name) (said : List ℕ) (before after : FilesSeen) (ws ws' : List W) : Type 0 where
     pub built : HasBuilt recipe source image before after
     pub watchers : AllHaveGained named stands_for text_of (rows_built built) ws ws'
-    pub report : IsReportOf named stands_for text_of name (rows_built built) ws told
+    pub report : IsReportOf named stands_for text_of name (rows_built built) ws said
 
-  -- What a source compiles to is told to the watchers, written, and reported, and that ends so.
-  abbrev pub Finishes : (name : Option (List ℕ)) (image : Name) (bytes : List ℕ) (rows : List PlainRow) → Outcome → (told : List ℕ) (before after : FilesSeen) (ws ws' : List W) → Type 0
-  Finishes name image bytes rows Done told before after ws ws' =
-      Writes image bytes before after × AllHaveGained named stands_for text_of rows ws ws' × IsReportOf named stands_for text_of name rows ws told
-  Finishes name image bytes rows WriteFault told before after ws ws' =
+  -- What a source compiles to is given to the watchers, written, and reported, and that ends so.
+  abbrev pub Finishes : (name : Option (List ℕ)) (image : Name) (bytes : List ℕ) (rows : List PlainRow) → Outcome → (said : List ℕ) (before after : FilesSeen) (ws ws' : List W) → Type 0
+  Finishes name image bytes rows Done said before after ws ws' =
+      Writes image bytes before after × AllHaveGained named stands_for text_of rows ws ws' × IsReportOf named stands_for text_of name rows ws said
+  Finishes name image bytes rows WriteFault said before after ws ws' =
       WriteFails image before after × WritesPrefix image bytes before after × AllHaveGained named stands_for text_of rows ws ws'
-  Finishes name image bytes rows NoMemory told before after ws ws' =
+  Finishes name image bytes rows NoMemory said before after ws ws' =
       (Unchanged before after × AllHaveBegun named stands_for text_of rows ws ws') ⊎ (Writes image bytes before after × AllHaveGained named stands_for text_of rows ws ws')
-  Finishes name image bytes rows _ told before after ws ws' = ⊥
+  Finishes name image bytes rows _ said before after ws ws' = ⊥
 
   -- A source that was compiled ends so.
-  abbrev pub FinishesCompiled : (recipe : List Rule) (name : Option (List ℕ)) (source image : Name) → Outcome → (told : List ℕ) (before after : FilesSeen) (ws ws' : List W) → Type 0
-  FinishesCompiled recipe name source image ended told before after ws ws' =
-      (bytes : List ℕ) × (rows : List PlainRow) × WasCompiled recipe source before.known bytes rows × Finishes name image bytes rows ended told before after ws ws'
+  abbrev pub FinishesCompiled : (recipe : List Rule) (name : Option (List ℕ)) (source image : Name) → Outcome → (said : List ℕ) (before after : FilesSeen) (ws ws' : List W) → Type 0
+  FinishesCompiled recipe name source image ended said before after ws ws' =
+      (bytes : List ℕ) × (rows : List PlainRow) × WasCompiled recipe source before.known bytes rows × Finishes name image bytes rows ended said before after ws ws'
 
-  abbrev pub BuildEnds : (recipe : List Rule) (name : Option (List ℕ)) (source image : Name) → Outcome → (told : List ℕ) (before after : FilesSeen) (ws ws' : List W) → Type 0
-  BuildEnds recipe name source image Done told before after ws ws' = IsBuilt recipe name source image told before after ws ws'
-  BuildEnds recipe name source image ReadFault told before after ws ws' = ReadFails source before after × Unchanged before after × (ws' ≡ ws)
-  BuildEnds recipe name source image WriteFault told before after ws ws' = FinishesCompiled recipe name source image WriteFault told before after ws ws'
-  BuildEnds recipe name source image (Refused refusal) told before after ws ws' =
+  abbrev pub BuildEnds : (recipe : List Rule) (name : Option (List ℕ)) (source image : Name) → Outcome → (said : List ℕ) (before after : FilesSeen) (ws ws' : List W) → Type 0
+  BuildEnds recipe name source image Done said before after ws ws' = IsBuilt recipe name source image said before after ws ws'
+  BuildEnds recipe name source image ReadFault said before after ws ws' = ReadFails source before after × Unchanged before after × (ws' ≡ ws)
+  BuildEnds recipe name source image WriteFault said before after ws ws' = FinishesCompiled recipe name source image WriteFault said before after ws ws'
+  BuildEnds recipe name source image (Refused refusal) said before after ws ws' =
       IfKnown source before (λ text. IsRefused text refusal) × Unchanged before after × (ws' ≡ ws)
-  BuildEnds recipe name source image NoMemory told before after ws ws' =
-      (Unchanged before after × (ws' ≡ ws)) ⊎ FinishesCompiled recipe name source image NoMemory told before after ws ws'
-  BuildEnds recipe name source image _ told before after ws ws' = ⊥
+  BuildEnds recipe name source image NoMemory said before after ws ws' =
+      (Unchanged before after × (ws' ≡ ws)) ⊎ FinishesCompiled recipe name source image NoMemory said before after ws ws'
+  BuildEnds recipe name source image _ said before after ws ws' = ⊥
 
   -- The build ends so under the recipe that the list is of, where there is a watcher to report. Where the list is of no
-  -- recipe, or there is no such watcher, the arguments are no command. What is told of any outcome but `Done` is its line.
-  pub record BuildEndsUnder (list : List ℕ) (name : Option (List ℕ)) (source image : Name) (ended : Outcome) (told : List ℕ) (before after : FilesSeen) (ws ws' : List W) : Type 0 where
-    pub build : (recipe : List Rule) → IsTextOf recipe list → has_reporter named name ws ≡ true → BuildEnds recipe name source image ended told before after ws ws'
+  -- recipe, or there is no such watcher, the arguments are no command. What is said of any outcome but `Done` is its line.
+  pub record BuildEndsUnder (list : List ℕ) (name : Option (List ℕ)) (source image : Name) (ended : Outcome) (said : List ℕ) (before after : FilesSeen) (ws ws' : List W) : Type 0 where
+    pub build : (recipe : List Rule) → IsTextOf recipe list → has_reporter named name ws ≡ true → BuildEnds recipe name source image ended said before after ws ws'
     pub usage : ((recipe : List Rule) → IsTextOf recipe list → has_reporter named name ws ≡ true → ⊥) → ((ended ≡ Usage) ⊎ (ended ≡ NoMemory)) × (after ≡ before) × (ws' ≡ ws)
-    pub line : ended ≢ Done → told ≡ line_of ended
+    pub line : ended ≢ Done → said ≡ line_of ended
 
 -- ---- a law
 

@@ -1,4 +1,4 @@
--- How a command ends: the cause of each outcome, what the outside holds and the watchers stand for then, and what is told.
+-- How a command ends: the cause of each outcome, what the outside holds and the watchers stand for then, and what is said.
 use Rattle.std.specs.Prelude.{◌≡◌, ◌⊎◌, ℕ, List, Option, Some, None}
 use Rattle.cc_command.specs.Command.{Command, accept, build, run, generate}
 use Rattle.cc_watch.specs.Rows.{PlainRow}
@@ -18,12 +18,12 @@ EndsUnread ended before after = ((ended ≡ Usage) ⊎ (ended ≡ NoMemory)) × 
 -- The command of the arguments ends so. Any command but `build` leaves the watchers as they were and tells the line of
 -- its outcome.
 module _ {W : Type 0} (named : W → List ℕ) (stands_for : W → List PlainRow → Type 0) (text_of : W → List PlainRow → List ℕ) where
-  abbrev pub Ends : Option Command → Outcome → (told : List ℕ) → (before after : Outside) → (ws ws' : List W) → Type 0
-  Ends None ended told before after ws ws' = EndsUnread ended before after × (told ≡ line_of ended) × (ws' ≡ ws)
-  Ends (Some accept) ended told before after ws ws' =
-      AcceptEnds ended before.input after.input before.output after.output × (after.files ≡ before.files) × (told ≡ line_of ended) × (ws' ≡ ws)
-  Ends (Some (build source image list workers name)) ended told before after ws ws' =
-      BuildEndsUnder named stands_for text_of list name source image ended told before.files after.files ws ws' × KeepsStreams before after
-  Ends (Some (generate start functions out)) ended told before after ws ws' =
-      GenerateEnds start functions out ended before.files after.files × KeepsStreams before after × (told ≡ line_of ended) × (ws' ≡ ws)
-  Ends (Some (run image steps)) ended told before after ws ws' = RunEnds image steps ended before after × (told ≡ line_of ended) × (ws' ≡ ws)
+  abbrev pub Ends : Option Command → Outcome → (said : List ℕ) → (before after : Outside) → (ws ws' : List W) → Type 0
+  Ends None ended said before after ws ws' = EndsUnread ended before after × (said ≡ line_of ended) × (ws' ≡ ws)
+  Ends (Some accept) ended said before after ws ws' =
+      AcceptEnds ended before.input after.input before.output after.output × (after.files ≡ before.files) × (said ≡ line_of ended) × (ws' ≡ ws)
+  Ends (Some (build source image list workers name)) ended said before after ws ws' =
+      BuildEndsUnder named stands_for text_of list name source image ended said before.files after.files ws ws' × KeepsStreams before after
+  Ends (Some (generate start functions out)) ended said before after ws ws' =
+      GenerateEnds start functions out ended before.files after.files × KeepsStreams before after × (said ≡ line_of ended) × (ws' ≡ ws)
+  Ends (Some (run image steps)) ended said before after ws ws' = RunEnds image steps ended before after × (said ≡ line_of ended) × (ws' ≡ ws)

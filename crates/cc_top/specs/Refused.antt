@@ -37,7 +37,7 @@ pub record Defines (functions : ℕ) (source : List ℕ) : Type 0 where
 pub record CompilesTo (recipe : List Rule) (source bytes : List ℕ) (functions : ℕ) (rows : List PlainRow) : Type 0 where
   pub image : HasImage recipe source bytes
   pub counted : functions ≡ length image.program.functions
-  pub told : rows ≡ rows_in image
+  pub listed : rows ≡ rows_in image
 
 -- The text of a source, which is that of the file of its name where the files are known, compiles to these bytes, and
 -- these rows tell what the recipe did to its functions.
@@ -45,7 +45,7 @@ pub record WasCompiled (recipe : List Rule) (source : Name) (known : Option File
   pub text : List ℕ
   pub read : ForSome known (λ files. text ≡ content source files)
   pub image : HasImage recipe text bytes
-  pub told : rows ≡ rows_in image
+  pub listed : rows ≡ rows_in image
 
 -- A source is refused so, for its fault.
 abbrev pub IsRefused : List ℕ → Refusal → Type 0

@@ -1,4 +1,4 @@
--- What the watchers of a call are told, and the report of one of them.
+-- What the watchers of a call are given, and the report of one of them.
 use Rattle.std.specs.Prelude.{◌≡◌, ℕ, Bool, true, List, [], ◌++◌, Option, Some, None, find, is_some, take}
 use Rattle.std.specs.List.{AllZip}
 use Rattle.std.specs.Str.{bytes_eq}
@@ -15,18 +15,18 @@ has_reporter named (Some name) watchers = is_some (watcher_named named name watc
 
 -- A watcher has a name, stands for lists of rows, and gives a text of a list.
 module _ {W : Type 0} (named : W → List ℕ) (stands_for : W → List PlainRow → Type 0) (text_of : W → List PlainRow → List ℕ) where
-  -- A watcher was told these rows: whatever list it stood for, it stands for that list and these rows. Its name and its
+  -- A watcher was given these rows: whatever list it stood for, it stands for that list and these rows. Its name and its
   -- texts are the same.
   pub record HasGained (rows : List PlainRow) (before after : W) : Type 0 where
     pub stands : (L : List PlainRow) → stands_for before L → stands_for after (L ++ rows)
     pub name : named after ≡ named before
     pub texts : (L : List PlainRow) → text_of after L ≡ text_of before L
 
-  -- Each of the watchers was told these rows; they are as many, in the same order.
+  -- Each of the watchers was given these rows; they are as many, in the same order.
   abbrev pub AllHaveGained : List PlainRow → (before after : List W) → Type 0
   AllHaveGained rows before after = AllZip (HasGained rows) before after
 
-  -- Each of them was told a beginning of these rows.
+  -- Each of them was given a beginning of these rows.
   abbrev pub HasBegun : List PlainRow → (before after : W) → Type 0
   HasBegun rows before after = (count : ℕ) × HasGained (take count rows) before after
 

@@ -6,7 +6,7 @@ ghost use Rattle.cc_top.specs.BuildEnds.{BuildEnds, BuildEndsUnder, Finishes, Is
 ghost use Rattle.cc_top.specs.Outcome.{text_of as line_of};
 ghost use Rattle.cc_top.specs.Outside.{files_seen};
 ghost use Rattle.cc_top.specs.Refused.{CompileFails, WasCompiled};
-ghost use Rattle.cc_top.specs.Report.{outcome_of, told_by};
+ghost use Rattle.cc_top.specs.Report.{outcome_of, said_by};
 ghost use Rattle.cc_top.specs.declared.outcome.Outcome.TheVariants.{Done};
 
 use crate::compile::compile_by_workers;
@@ -66,11 +66,11 @@ fn finish<F: Files>(
 ) -> Ending
     ensures ends { Finishes named stands_for text_of (option_map (λ s. s.now) report.entry)
         image.now compiled.now.image.items compiled.now.rows.items (outcome_of result)
-        (told_by result)
+        (said_by result)
         (files_seen F.known F.read_faults F.write_faults F.open_faults F.create_faults files.old)
         (files_seen F.known F.read_faults F.write_faults F.open_faults F.create_faults files.new)
         watchers.old.items watchers.new.items }
-    ensures line { outcome_of result ≢ Done → told_by result ≡ line_of (outcome_of result) }
+    ensures line { outcome_of result ≢ Done → said_by result ≡ line_of (outcome_of result) }
 {
     match tell_all(watchers, &compiled.rows) {
         Ok(()) => match save(files, image, &compiled.image) {
@@ -101,11 +101,11 @@ fn build_under<H: Threads + Wait + Sync, F: Files, G: Gate>(
     requires few_workers { workers ≤ 64 }
     ensures ends { BuildEnds named stands_for text_of recipe.now
         (option_map (λ s. s.now) report.entry) source.now image.now (outcome_of result)
-        (told_by result)
+        (said_by result)
         (files_seen F.known F.read_faults F.write_faults F.open_faults F.create_faults files.old)
         (files_seen F.known F.read_faults F.write_faults F.open_faults F.create_faults files.new)
         watchers.old.items watchers.new.items }
-    ensures line { outcome_of result ≢ Done → told_by result ≡ line_of (outcome_of result) }
+    ensures line { outcome_of result ≢ Done → said_by result ≡ line_of (outcome_of result) }
 {
     match compile_file(rt, alloc, files, source, recipe, workers, gate) {
         Ok(compiled) => finish(alloc, files, image, &compiled, watchers, report),
@@ -123,8 +123,8 @@ fn recipe_of(text: &str) -> Option<Recipe>
 }
 
 /// Compiles the file named `source` under the recipe of this text to the file named `image`, by 1
-/// to 64 workers. The watchers are told the rows, and the text of the one named `report` is told. A
-/// text of no recipe is usage, and so is a name that no watcher has; no file is opened then.
+/// to 64 workers. The watchers are given the rows, and the text of the one named `report` is said.
+/// A text of no recipe is usage, and so is a name that no watcher has; no file is opened then.
 #[tactic(auto, using(crate::proofs::BuildLemmas::under_it, crate::proofs::BuildLemmas::under_none, crate::proofs::BuildLemmas::under_nobody))]
 pub fn build<H: Threads + Wait + Sync, F: Files, G: Gate>(
     rt: &H,
@@ -142,7 +142,7 @@ pub fn build<H: Threads + Wait + Sync, F: Files, G: Gate>(
     requires few_workers { workers ≤ 64 }
     ensures { BuildEndsUnder named stands_for text_of recipe.now
         (option_map (λ s. s.now) report.entry) source.now image.now (outcome_of result)
-        (told_by result)
+        (said_by result)
         (files_seen F.known F.read_faults F.write_faults F.open_faults F.create_faults files.old)
         (files_seen F.known F.read_faults F.write_faults F.open_faults F.create_faults files.new)
         watchers.old.items watchers.new.items }

@@ -24,7 +24,7 @@ ghost use Rattle.cc_io.specs.Faults.{Increased};
 ghost use Rattle.cc_top.specs.Completes.{Completes};
 ghost use Rattle.cc_top.specs.Ends.{Ends};
 ghost use Rattle.cc_top.specs.Outside.{files_seen, stream_seen};
-ghost use Rattle.cc_top.specs.Report.{IsReported, outcome_of, told_by};
+ghost use Rattle.cc_top.specs.Report.{IsReported, outcome_of, said_by};
 
 use board_work::Gate;
 use cc_command::{Command, parse_command};
@@ -53,7 +53,7 @@ use std::thread::Threads;
 /// `build` the text of the report that is asked for, nothing on status 0 of `gen` and the command
 /// without arguments, and else a line.
 ///
-/// Each of `watchers` is told what the recipe of a build did to each function, a row a function in
+/// Each of `watchers` is given what the recipe of a build did to each function, a row a function in
 /// source order, each row before the next, and before OUT is created. `--report NAME` asks for the
 /// text of the first of them whose name is NAME, which is made and written after OUT. No other
 /// command tells them anything.
@@ -90,9 +90,9 @@ pub fn top<H: Threads + Wait + Sync, F: Files, I: Source, O: Sink, E: Sink, G: G
     gate: &G,
     watchers: &mut Vec<Box<dyn Watcher>>,
 ) -> u8
-    // There is an outcome that comes at its cause, and what is told of it is reported.
-    ensures ends { (ended : Outcome) × ((told : List ℕ)
-        × Ends named stands_for text_of (command_of (map string_bytes words.now)) ended told
+    // There is an outcome that comes at its cause, and what is said of it is reported.
+    ensures ends { (ended : Outcome) × ((said : List ℕ)
+        × Ends named stands_for text_of (command_of (map string_bytes words.now)) ended said
         (record {
           files = files_seen F.known F.read_faults F.write_faults F.open_faults F.create_faults
               files.old;
@@ -106,7 +106,7 @@ pub fn top<H: Threads + Wait + Sync, F: Files, I: Source, O: Sink, E: Sink, G: G
           output = stream_seen O.held O.faults output.new;
         })
         watchers.old.items watchers.new.items
-        × IsReported ended told result (E.held report.old) (E.held report.new)
+        × IsReported ended said result (E.held report.old) (E.held report.new)
         (E.faults report.old) (E.faults report.new)) }
     // Where no call fails a command that has what it asks for is done, or memory ran out.
     ensures complete { (Increased (E.faults report.old) (E.faults report.new) → ⊥)
@@ -142,7 +142,7 @@ fn carry_out<H: Threads + Wait + Sync, F: Files, I: Source, O: Sink, G: Gate>(
     watchers: &mut Vec<Box<dyn Watcher>>,
 ) -> Ending
     ensures { Ends named stands_for text_of (command_of (map string_bytes words.now))
-        (outcome_of result) (told_by result)
+        (outcome_of result) (said_by result)
         (record {
           files = files_seen F.known F.read_faults F.write_faults F.open_faults F.create_faults
               files.old;

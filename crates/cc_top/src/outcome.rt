@@ -34,12 +34,12 @@ pub enum Outcome {
     Stuck { pc: u32, why: u8 },
 }
 
-/// How a command ended, with what is told of it.
+/// How a command ended, with what is said of it.
 #[derive(Drop)]
 pub enum Ending {
-    /// So, and the line of the outcome is told.
+    /// So, and the line of the outcome is said.
     Line(Outcome),
-    /// The command was done, and this report is told.
+    /// The command was done, and this report is said.
     Report(Vec<u8>),
 }
 

@@ -1,7 +1,7 @@
 //! The report of how a command ended.
 ghost use Rattle.std.specs.Prelude.{◌≡◌, ◌≤◌, ◌+◌, ◌++◌, length};
 ghost use Rattle.cc_top.specs.Outcome.{limit_text, status_of, text_of};
-ghost use Rattle.cc_top.specs.Report.{IsReported, outcome_of, told_by};
+ghost use Rattle.cc_top.specs.Report.{IsReported, outcome_of, said_by};
 ghost use Rattle.cc_top.specs.declared.outcome.Outcome.TheVariants.{BadImage, Exit, Refused, Stuck};
 
 use crate::line::{Line, push_decimal, push_hex, push_text};
@@ -121,10 +121,10 @@ fn text_of(outcome: Outcome) -> Line
     }
 }
 
-/// Writes what is told of the end of a command, and gives the status of the call: that of the
+/// Writes what is said of the end of a command, and gives the status of the call: that of the
 /// outcome, or 3 where the report was not written.
 pub fn tell<E: Sink>(report: &mut E, ending: &Ending) -> u8
-    ensures { IsReported (outcome_of ending.now) (told_by ending.now) result
+    ensures { IsReported (outcome_of ending.now) (said_by ending.now) result
         (E.held report.old) (E.held report.new) (E.faults report.old) (E.faults report.new) }
 {
     let (outcome, written) = match ending {

@@ -1,4 +1,4 @@
-//! The watchers of a call: they are told rows, and one of them gives a report.
+//! The watchers of a call: they are given rows, and one of them gives a report.
 ghost use Rattle.std.specs.Prelude.{◌≡◌, ◌∷◌, [], List, Some, OnOk, OnErr, IfOk, option_map};
 ghost use Rattle.std.specs.Str.{bytes_eq};
 ghost use Rattle.cc_watch.specs.Rows.{PlainRow};

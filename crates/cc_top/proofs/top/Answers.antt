@@ -1,7 +1,7 @@
-use Rattle.cc_top.specs.Report.{outcome_of, told_by}
+use Rattle.cc_top.specs.Report.{outcome_of, said_by}
 use Rattle.cc_top.proofs.CompleteLemmas.{completes}
 use Rattle.cc_top.proofs.top.Goals as goal
 
 pub returns-clause-complete : goal.returns-clause-complete
 returns-clause-complete g c =
-    completes c.accepted_sources_are_not_refused.ensures _ _ _ _ (outcome_of c.carry_out-ending.result) (told_by c.carry_out-ending.result) _ _ _ _ c.carry_out-ending.ensures _ _ _ _ _ c.tell.ensures
+    completes c.accepted_sources_are_not_refused.ensures _ _ _ _ (outcome_of c.carry_out-ending.result) (said_by c.carry_out-ending.result) _ _ _ _ c.carry_out-ending.ensures _ _ _ _ _ c.tell.ensures

@@ -18,7 +18,7 @@ returns-in-Ok-clause-accepted g c =
         meaning = c.recipes_keep_meaning.ensures source bytes h.0 h.1 c.args.recipe.now c.in-Ok.compiled.image.items h.2.0;
       };
       counted = h.3;
-      told = h.2.1;
+      listed = h.2.1;
     }
 
 pub returns-in-Err-clause-err : goal.returns-in-Err-clause-err

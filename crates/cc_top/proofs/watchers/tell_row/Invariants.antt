@@ -3,7 +3,7 @@ use Rattle.cc_top.specs.Watchers.{HasGained}
 use Rattle.cc_top.proofs.WatcherLemmas.{Below}
 use Rattle.cc_top.proofs.watchers.tell_row.Given as goal
 
--- the watchers so far were told the row
+-- the watchers so far were given the row
 abbrev pub invariant-loop-watcher : goal.invariant-loop-watcher
 invariant-loop-watcher g l =
     Below

@@ -2,7 +2,7 @@ use Rattle.std.proofs.Common.{take}
 use Rattle.cc_top.specs.Watchers.{AllHaveGained}
 use Rattle.cc_top.proofs.watchers.tell_rows.Given as goal
 
--- all watchers were told the rows so far
+-- all watchers were given the rows so far
 abbrev pub invariant-loop-row : goal.invariant-loop-row
 invariant-loop-row g l =
     AllHaveGained (λ b. (goal.Watcher-dyn g (b.vtable, b.value)).named b.value) (λ b. (goal.Watcher-dyn g (b.vtable, b.value)).stands_for b.value)
