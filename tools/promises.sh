@@ -1,12 +1,12 @@
 #!/bin/sh
-# Checks the table of wrong bodies in docs/PROMISES.md: each kept edit and each test that it names is there.
+# Checks the table of mutants in docs/PROMISES.md: each kept edit and each test that it names is there.
 set -u
 cd "$(dirname "$0")/.." || exit 1
 script=tools/promises.sh
 . tools/lib.sh
 
-# The last cell of each row: a crate, and behind its colon the names of edits and tests, each in backquotes.
-sed -n '/^## Wrong bodies/,/^## /p' docs/PROMISES.md | grep '^| [0-9]' | sed 's/ *|$//; s/.*| //' | tr ';' '\n' >"$folder/cells"
+# The last cell of each row: a crate, and after its colon the names of edits and tests, each in backquotes.
+sed -n '/^## Mutants/,/^## /p' docs/PROMISES.md | grep '^| [0-9]' | sed 's/ *|$//; s/.*| //' | tr ';' '\n' >"$folder/cells"
 count=0
 while IFS= read -r cell; do
     crate=$(printf '%s\n' "$cell" | sed -n 's/^[^`]*`\([a-z_]*\)`:.*/\1/p')
@@ -17,5 +17,5 @@ while IFS= read -r cell; do
         count=$((count + 1))
     done
 done <"$folder/cells"
-[ "$count" -gt 0 ] || fail "there is no table of wrong bodies"
-echo "$script: $count edits and tests that refuse wrong bodies are there"
+[ "$count" -gt 0 ] || fail "there is no table of mutants"
+echo "$script: $count edits and tests that refuse mutants are there"
