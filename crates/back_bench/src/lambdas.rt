@@ -2,9 +2,9 @@
 ghost use Rattle.std.specs.Prelude.{◌≤◌};
 
 use g_graph::{Kind, Lambda, Node, Op, Origin, Region, check, values};
+use graph_shapes::{of, out, with_regions};
 use no_memory::NoMemory;
 use s_sequence::sequence;
-use smallvec::SmallVec;
 use std::alloc::Global;
 use val_core::Op2;
 
@@ -30,25 +30,6 @@ pub fn count_lines(alloc: Global, text: &str, sequences: bool) -> Result<usize, 
     } else {
         Ok(0)
     }
-}
-
-const fn out(node: u32, port: u32) -> Origin {
-    Origin::Out { node, port }
-}
-
-fn node(
-    alloc: Global,
-    id: u32,
-    op: Op,
-    inputs: &[Origin],
-    regions: Vec<Region>,
-) -> Result<Node, NoMemory> {
-    Ok(Node {
-        id,
-        op,
-        inputs: SmallVec::from_slice(alloc, inputs)?,
-        regions,
-    })
 }
 
 // So many arguments, which are values, and then both states.
@@ -86,7 +67,7 @@ fn straight(alloc: Global, size: u32) -> Result<Lambda, NoMemory> {
     let mut value = Origin::Arg(0);
     for id in 0..size {
         let inputs = [value, Origin::Arg(0)];
-        nodes.push(node(alloc, id, Op::Bin(Op2::Add), &inputs, Vec::new(alloc))?)?;
+        nodes.push(of(alloc, id, Op::Bin(Op2::Add), &inputs)?)?;
         value = out(id, 0);
     }
     function(alloc, 1, nodes, value)
@@ -104,7 +85,7 @@ fn decisions(alloc: Global, size: u32) -> Result<Lambda, NoMemory>
     for i in 0..size {
         let regions = Vec::from_array(alloc, [passing(alloc, 3 * i)?, passing(alloc, 3 * i + 1)?])?;
         let id = 3 * i + 2;
-        nodes.push(node(alloc, id, Op::Gamma, &carried, regions)?)?;
+        nodes.push(with_regions(alloc, id, Op::Gamma, &carried, regions)?)?;
         carried.clear();
         carried.push(Origin::Arg(0))?;
         for port in 0..CARRIED {
@@ -126,7 +107,7 @@ fn passing(alloc: Global, id: u32) -> Result<Region, NoMemory> {
         }
     }
     results.push(out(id, 0))?;
-    let constant = node(alloc, id, Op::Const(id), &[], Vec::new(alloc))?;
+    let constant = of(alloc, id, Op::Const(id), &[])?;
     Ok(Region {
         args,
         nodes: Vec::from_array(alloc, [constant])?,
@@ -156,5 +137,5 @@ fn nest(alloc: Global, size: u32) -> Result<Lambda, NoMemory> {
 fn around(alloc: Global, id: u32, inside: Region) -> Result<Node, NoMemory> {
     let regions = Vec::from_array(alloc, [inside])?;
     let inputs = [Origin::Arg(0), Origin::Arg(0)];
-    node(alloc, id, Op::Gamma, &inputs, regions)
+    with_regions(alloc, id, Op::Gamma, &inputs, regions)
 }

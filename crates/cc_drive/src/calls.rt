@@ -9,11 +9,8 @@ use std::thread::Threads;
 /// The arguments of a build of the file `in`.
 pub const BUILD: [&str; 4] = ["rvcc", "build", "in", "out"];
 
-/// A source that is built: its program exits with 42.
-pub const ANSWER: &[u8] = b"int main(void) { return 42; }";
-
 /// The calls that fail, where none does.
-const NONE: [&[u64]; 4] = [&[], &[], &[], &[]];
+pub const NONE: [&[u64]; 4] = [&[], &[], &[], &[]];
 
 /// What a call left.
 #[derive(Drop)]
@@ -28,38 +25,34 @@ pub struct Left {
     pub report: MemSink,
 }
 
-fn words_of(alloc: Global, texts: &[&str]) -> Result<Vec<String>, AllocError> {
-    let mut words = Vec::new(alloc);
+fn arguments_of(alloc: Global, texts: &[&str]) -> Result<Vec<String>, AllocError> {
+    let mut arguments = Vec::new(alloc);
     for text in texts {
-        words.push(String::from_str(alloc, text)?)?;
+        arguments.push(String::from_str(alloc, text)?)?;
     }
-    Ok(words)
+    Ok(arguments)
 }
 
-/// Calls `top` with these words on a file of this name and these bytes. The numbered calls on the
-/// files, the input, the output and the report, in this order, fail.
-pub fn called(
-    rt: &(impl Threads + Wait + Sync),
-    alloc: Global,
-    texts: &[&str],
-    file: (&str, &[u8]),
-    input: &[u8],
-    failing: [&[u64]; 4],
-) -> Result<Left, AllocError> {
-    called_through(rt, alloc, texts, file, input, failing, &OpenGate)
+/// The arguments of a build of the file `in` with these options.
+pub fn build_with(alloc: Global, options: &[&str]) -> Result<Vec<String>, AllocError> {
+    let mut arguments = arguments_of(alloc, &BUILD)?;
+    for text in options {
+        arguments.push(String::from_str(alloc, text)?)?;
+    }
+    Ok(arguments)
 }
 
-/// The same, through this gate.
+/// Calls `top` with these arguments on a file of this name and these bytes, through this gate. The
+/// numbered calls on the files, the input, the output and the report, in this order, fail.
 fn called_through<G: Gate>(
     rt: &(impl Threads + Wait + Sync),
     alloc: Global,
-    texts: &[&str],
+    arguments: &[String],
     file: (&str, &[u8]),
     input: &[u8],
     failing: [&[u64]; 4],
     gate: &G,
 ) -> Result<Left, AllocError> {
-    let words = words_of(alloc, texts)?;
     let (name, bytes) = file;
     let mut files = MemFiles::new(alloc, failing[0].to_vec(alloc)?);
     files.insert(name, bytes.to_vec(alloc)?)?;
@@ -69,7 +62,7 @@ fn called_through<G: Gate>(
     let status = top(
         rt,
         alloc,
-        &words,
+        arguments,
         &mut files,
         &mut input,
         &mut output,
@@ -85,7 +78,21 @@ fn called_through<G: Gate>(
     })
 }
 
-/// Calls `top` with these words on a file `in` of these bytes, the numbered calls on the files
+/// Calls `top` with these arguments on a file of this name and these bytes. The numbered calls on
+/// the files, the input, the output and the report, in this order, fail.
+pub fn called(
+    rt: &(impl Threads + Wait + Sync),
+    alloc: Global,
+    texts: &[&str],
+    file: (&str, &[u8]),
+    input: &[u8],
+    failing: [&[u64]; 4],
+) -> Result<Left, AllocError> {
+    let arguments = arguments_of(alloc, texts)?;
+    called_through(rt, alloc, &arguments, file, input, failing, &OpenGate)
+}
+
+/// Calls `top` with these arguments on a file `in` of these bytes, the numbered calls on the files
 /// failing.
 pub fn called_on(
     rt: &(impl Threads + Wait + Sync),
@@ -121,15 +128,8 @@ pub fn built_through<G: Gate>(
     source: &[u8],
     gate: &G,
 ) -> Result<Left, AllocError> {
-    called_through(
-        rt,
-        alloc,
-        &["rvcc", "build", "in", "out", "--workers", workers],
-        ("in", source),
-        b"",
-        NONE,
-        gate,
-    )
+    let arguments = build_with(alloc, &["--workers", workers])?;
+    called_through(rt, alloc, &arguments, ("in", source), b"", NONE, gate)
 }
 
 /// The image that so many workers make of a source under a recipe, where that build ends with 0 and
@@ -141,17 +141,9 @@ pub fn image_by(
     recipe: &str,
     workers: &str,
 ) -> Result<Option<Vec<u8>>, AllocError> {
-    let words = [
-        "rvcc",
-        "build",
-        "in",
-        "out",
-        "--recipe",
-        recipe,
-        "--workers",
-        workers,
-    ];
-    let left = called_on(rt, alloc, &words, source, &[])?;
+    let options = ["--recipe", recipe, "--workers", workers];
+    let arguments = build_with(alloc, &options)?;
+    let left = called_through(rt, alloc, &arguments, ("in", source), b"", NONE, &OpenGate)?;
     if left.status != 0 || !left.report.bytes().is_empty() {
         return Ok(None);
     }
@@ -169,6 +161,6 @@ pub fn ran(
     input: &[u8],
     steps: &str,
 ) -> Result<Left, AllocError> {
-    let words = ["rvcc", "run", "image", steps];
-    called(rt, alloc, &words, ("image", image), input, NONE)
+    let texts = ["rvcc", "run", "image", steps];
+    called(rt, alloc, &texts, ("image", image), input, NONE)
 }

@@ -3,5 +3,11 @@
 #![tactic(auto)]
 
 mod calls;
+mod failing;
+mod sources;
 
-pub use calls::{ANSWER, BUILD, Left, answered, built_through, called, called_on, image_by, ran};
+pub use calls::{
+    BUILD, Left, NONE, answered, build_with, built_through, called, called_on, image_by, ran,
+};
+pub use failing::{FAILING_CALLS, is_left};
+pub use sources::{ANSWER, DIAMOND, ECHO, PRODUCT};

@@ -1,5 +1,5 @@
 //! Sources on the input, which are accepted, and streams that fail.
-use cc_drive::{ANSWER, called};
+use cc_drive::{ANSWER, NONE, called};
 use std::test::Fail;
 
 const REFUSED: &[u8] = b"int main(void) { x = 1; return 0; }";
@@ -22,14 +22,7 @@ fn a_source_on_the_input_is_accepted(rt: HostRuntime) -> Result<(), Fail> {
     ];
     for (source, output) in rows {
         for texts in [[].as_slice(), &["rvcc"]] {
-            let left = called(
-                &rt,
-                alloc,
-                texts,
-                ("in", b"kept"),
-                source,
-                [&[], &[], &[], &[]],
-            )?;
+            let left = called(&rt, alloc, texts, ("in", b"kept"), source, NONE)?;
             assert_eq!(rt; left.status, 0);
             assert_eq!(rt; left.output.bytes(), output);
             assert_eq!(rt; left.report.bytes().len(), 0);

@@ -145,19 +145,19 @@ fn parenthesised(alloc: Global, count: usize) -> Result<Vec<u8>, AllocError> {
     Ok(source)
 }
 
-/// Whether these words report this line of a source, and leave nothing.
+/// Whether these arguments report this line of a source, and leave nothing.
 fn is_unbuilt(
     rt: &(impl Threads + Wait + Sync),
     alloc: Global,
-    words: &[&str],
+    arguments: &[&str],
     source: &[u8],
     line: &[u8],
 ) -> Result<bool, AllocError> {
-    let built = called_on(rt, alloc, words, source, &[])?;
+    let built = called_on(rt, alloc, arguments, source, &[])?;
     Ok(built.status == 4 && built.report.bytes() == line && built.files.get("out").is_none())
 }
 
-/// The words of a build by as many workers as there may be.
+/// The arguments of a build by as many workers as there may be.
 const BUILD_BY_ALL: [&str; 6] = ["rvcc", "build", "in", "out", "--workers", "64"];
 
 /// Whether this source is refused with this line by builds, of one worker and of 64, and from the

@@ -1,15 +1,9 @@
 //! Runs of an image through the top call, whose streams fail in mid-stream.
-use cc_drive::{BUILD, Left, called, called_on};
+use cc_drive::{BUILD, ECHO, Left, NONE, called, called_on};
 use std::alloc::{AllocError, Global};
 use std::sync::Wait;
 use std::test::Fail;
 use std::thread::Threads;
-
-/// Copies its input to its output.
-const COPY: &[u8] =
-    b"int main(void) { int c; while ((c = getchar()) != -1) putchar(c); return 0; }";
-
-const NONE: [&[u64]; 4] = [&[], &[], &[], &[]];
 
 /// Runs the image `image`; the calls as `called` numbers them fail.
 fn run(
@@ -29,8 +23,9 @@ fn run(
     )
 }
 
+/// The image of a program that copies its input to its output.
 fn copy_image(rt: &(impl Threads + Wait + Sync), alloc: Global) -> Result<Vec<u8>, AllocError> {
-    let left = called_on(rt, alloc, &BUILD, COPY, &[])?;
+    let left = called_on(rt, alloc, &BUILD, ECHO, &[])?;
     left.files.get("out").unwrap_or(b"").to_vec(alloc)
 }
 

@@ -2,8 +2,8 @@
 
 use c_lex::Name;
 use g_graph::{Delta, Kind, Lambda, Link, Node, Object, Omega, Op, Origin, Region};
+use graph_shapes::{Row, list, of, out, region};
 use no_memory::NoMemory;
-use smallvec::SmallVec;
 use std::alloc::Global;
 use val_core::{Leaf, Op2};
 
@@ -43,68 +43,31 @@ const fn arg(k: u32) -> Origin {
     Origin::Arg(k)
 }
 
-const fn out(node: u32, port: u32) -> Origin {
-    Origin::Out { node, port }
-}
-
 const fn leaf(offset: u32, width: u8) -> Leaf {
     Leaf { offset, width }
-}
-
-// A node without regions.
-fn of(alloc: Global, id: u32, op: Op, inputs: &[Origin]) -> Result<Node, NoMemory> {
-    Ok(Node {
-        id,
-        op,
-        inputs: SmallVec::from_slice(alloc, inputs)?,
-        regions: Vec::new(alloc),
-    })
-}
-
-fn region(
-    alloc: Global,
-    args: &[Kind],
-    nodes: Vec<Node>,
-    results: &[Origin],
-) -> Result<Region, NoMemory> {
-    let args = Vec::from_slice(alloc, args)?;
-    let results = Vec::from_slice(alloc, results)?;
-    Ok(Region {
-        args,
-        nodes,
-        results,
-    })
-}
-
-fn flat(alloc: Global, rows: &[(u32, Op, &[Origin])]) -> Result<Vec<Node>, NoMemory> {
-    let mut nodes = Vec::new(alloc);
-    for (id, op, inputs) in rows {
-        nodes.push(of(alloc, *id, *op, inputs)?)?;
-    }
-    Ok(nodes)
 }
 
 fn body(
     alloc: Global,
     args: &[Kind],
-    rows: &[(u32, Op, &[Origin])],
+    rows: &[Row],
     results: &[Origin],
 ) -> Result<Region, NoMemory> {
-    region(alloc, args, flat(alloc, rows)?, results)
+    region(alloc, args, list(alloc, rows)?, results)
 }
 
 // The nodes of `rows`, then a node with regions, then those of `after`.
 fn context(
     alloc: Global,
     args: &[Kind],
-    rows: &[(u32, Op, &[Origin])],
+    rows: &[Row],
     nested: Node,
-    after: &[(u32, Op, &[Origin])],
+    after: &[Row],
     results: &[Origin],
 ) -> Result<Region, NoMemory> {
-    let mut nodes = flat(alloc, rows)?;
+    let mut nodes = list(alloc, rows)?;
     nodes.push(nested)?;
-    nodes.append(&mut flat(alloc, after)?)?;
+    nodes.append(&mut list(alloc, after)?)?;
     region(alloc, args, nodes, results)
 }
 

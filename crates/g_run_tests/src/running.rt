@@ -2,6 +2,7 @@ use crate::programs::{Program, graph};
 use g_graph::check;
 use g_interp::{Answer, Datum, Event, RunError, run_lambda, run_program};
 use no_memory::NoMemory;
+use run_answers::{has_ended, output};
 use std::alloc::Global;
 use std::test::Fail;
 use val_core::Value;
@@ -31,26 +32,14 @@ const fn row(program: Program, bound: u32, input: &'static [u8], shown: Shown) -
     }
 }
 
-fn wrote(alloc: Global, events: &[Event]) -> Result<Vec<u8>, NoMemory> {
-    let mut bytes = Vec::new(alloc);
-    for event in events {
-        if let Event::Wrote(byte) = event {
-            bytes.push(*byte)?;
-        }
-    }
-    Ok(bytes)
-}
-
 fn shows(alloc: Global, answer: &Answer, shown: Shown) -> Result<bool, NoMemory> {
     match (answer, shown) {
-        (Answer::Exited { events, status }, Shown::Exited(bytes, wanted)) => {
-            Ok(*status == wanted && wrote(alloc, events)?.as_slice() == bytes)
+        (Answer::Exited { .. }, Shown::Exited(bytes, wanted)) => {
+            has_ended(alloc, answer, bytes, wanted)
         }
-        (Answer::Cut { events }, Shown::Cut(bytes)) => {
-            Ok(wrote(alloc, events)?.as_slice() == bytes)
-        }
-        (Answer::Undefined { events }, Shown::Undefined(bytes)) => {
-            Ok(wrote(alloc, events)?.as_slice() == bytes)
+        (Answer::Cut { .. }, Shown::Cut(bytes)) => Ok(output(alloc, answer)?.as_slice() == bytes),
+        (Answer::Undefined { .. }, Shown::Undefined(bytes)) => {
+            Ok(output(alloc, answer)?.as_slice() == bytes)
         }
         _ => Ok(false),
     }

@@ -2,8 +2,9 @@ use cc_compile::typed_of;
 use g_build::build;
 use g_count::count;
 use g_graph::{check, copy_of, equal, values};
-use g_interp::{Answer, Event, run_program};
+use g_interp::run_program;
 use no_memory::NoMemory;
+use run_answers::has_ended;
 use std::alloc::Global;
 use std::test::Fail;
 
@@ -46,26 +47,6 @@ const fn row_on(
 
 // A bound above the turns of each loop of the table.
 const BOUND: u32 = 10;
-
-fn wrote(alloc: Global, events: &[Event]) -> Result<Vec<u8>, NoMemory> {
-    let mut bytes = Vec::new(alloc);
-    for event in events {
-        if let Event::Wrote(byte) = event {
-            bytes.push(*byte)?;
-        }
-    }
-    Ok(bytes)
-}
-
-// Whether the run has ended as the row has it.
-fn shows(alloc: Global, answer: &Answer, row: Case) -> Result<bool, NoMemory> {
-    match answer {
-        Answer::Exited { events, status } => {
-            Ok(*status == row.status && wrote(alloc, events)?.as_slice() == row.output)
-        }
-        _ => Ok(false),
-    }
-}
 
 #[test]
 fn graphs_of_sources_have_their_values_and_run(rt: HostRuntime) -> Result<(), Fail> {
@@ -154,7 +135,10 @@ fn graphs_of_sources_have_their_values_and_run(rt: HostRuntime) -> Result<(), Fa
             assert_eq!(rt; count(function), *wanted);
         }
         let answer = run_program(alloc, BOUND, &program, row.input)?;
-        assert!(rt; shows(alloc, &answer, row)?, "{answer:?}");
+        assert!(rt;
+            has_ended(alloc, &answer, row.output, row.status)?,
+            "{answer:?}"
+        );
     }
     Ok(())
 }

@@ -1,8 +1,9 @@
-use crate::checks::{A, I, KINDS, M, alone, of, out, region, with_regions};
+use crate::checks::alone;
 use g_graph::{
     Lambda, Node, Object, Op, Origin, Region, check, copy_of, equal, ids, replace_uses, splice,
     values,
 };
+use graph_shapes::{A, I, M, VMI, of, out, region, with_regions};
 use no_memory::NoMemory;
 use smallvec::SmallVec;
 use std::alloc::Global;
@@ -23,7 +24,7 @@ fn context(alloc: Global, inner: Option<Node>) -> Result<Region, NoMemory> {
         nodes.push(node)?;
     }
     Ok(Region {
-        args: Vec::from_array(alloc, KINDS)?,
+        args: Vec::from_slice(alloc, VMI)?,
         nodes,
         results,
     })
@@ -126,7 +127,7 @@ fn sum(alloc: Global, of_constant: u32, results: &[Origin]) -> Result<Lambda, No
             of(alloc, 2, Op::Bin(Op2::Add), &[constant, constant])?,
         ],
     )?;
-    alone(alloc, region(alloc, &KINDS, nodes, results)?)
+    alone(alloc, region(alloc, VMI, nodes, results)?)
 }
 
 #[test]
@@ -154,7 +155,7 @@ fn doubled(alloc: Global) -> Result<Region, NoMemory> {
             of(alloc, 4, Op::Put, &[sum, I])?,
         ],
     )?;
-    region(alloc, &KINDS, nodes, &[sum, M, out(4, 0)])
+    region(alloc, VMI, nodes, &[sum, M, out(4, 0)])
 }
 
 #[test]
@@ -164,7 +165,7 @@ fn a_part_stands_in_the_place_of_a_node(rt: HostRuntime) -> Result<(), Fail> {
     let node = with_regions(alloc, 0, Op::Gamma, &[A, A, M, I], regions)?;
     let last = of(alloc, 9, Op::Put, &[out(0, 0), out(0, 2)])?;
     let nodes = Vec::from_array(alloc, [node, last])?;
-    let outer = region(alloc, &KINDS, nodes, &[out(0, 0), out(0, 1), out(9, 0)])?;
+    let outer = region(alloc, VMI, nodes, &[out(0, 0), out(0, 1), out(9, 0)])?;
     let mut whole = alone(alloc, outer)?;
     splice(alloc, &mut whole, 0, doubled(alloc)?, &[A, M, I])?;
     let nodes = Vec::from_array(
@@ -175,7 +176,7 @@ fn a_part_stands_in_the_place_of_a_node(rt: HostRuntime) -> Result<(), Fail> {
             of(alloc, 9, Op::Put, &[out(3, 0), out(4, 0)])?,
         ],
     )?;
-    let expected = region(alloc, &KINDS, nodes, &[out(3, 0), M, out(9, 0)])?;
+    let expected = region(alloc, VMI, nodes, &[out(3, 0), M, out(9, 0)])?;
     assert!(rt; equal(&whole, &alone(alloc, expected)?));
     assert!(rt; check(&whole));
     Ok(())

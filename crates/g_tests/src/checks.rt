@@ -1,74 +1,17 @@
 // Lambdas with one parameter and one object, whose regions break one sentence of what is well
 // formed, or none.
 use g_graph::{Kind, Lambda, Node, Object, Op, Origin, Region, check};
+use graph_shapes::{A, I, M, VMI, empty, of, out, region, with_regions, word_object};
 use no_memory::NoMemory;
-use smallvec::SmallVec;
 use std::alloc::Global;
 use std::process::Abort;
 use std::test::Fail;
 use val_core::{Leaf, Op1, Op2};
 
-/// A value and both states.
-pub const KINDS: [Kind; 3] = [Kind::Value, Kind::Memory, Kind::Io];
-
-/// The value among the arguments of those kinds.
-pub const A: Origin = Origin::Arg(0);
-
-/// The memory among them.
-pub const M: Origin = Origin::Arg(1);
-
-/// The state of input and output among them.
-pub const I: Origin = Origin::Arg(2);
-
-/// An output of a node.
-pub const fn out(node: u32, port: u32) -> Origin {
-    Origin::Out { node, port }
-}
-
-/// A node without regions; `NoMemory` only where the allocator has none.
-pub fn of(alloc: Global, id: u32, op: Op, inputs: &[Origin]) -> Result<Node, NoMemory> {
-    with_regions(alloc, id, op, inputs, Vec::new(alloc))
-}
-
-/// A node with these regions; `NoMemory` as for `of`.
-pub fn with_regions(
-    alloc: Global,
-    id: u32,
-    op: Op,
-    inputs: &[Origin],
-    regions: Vec<Region>,
-) -> Result<Node, NoMemory> {
-    let inputs = SmallVec::from_slice(alloc, inputs)?;
-    Ok(Node {
-        id,
-        op,
-        inputs,
-        regions,
-    })
-}
-
-/// A region of copies of these lists; `NoMemory` as for `of`.
-pub fn region(
-    alloc: Global,
-    args: &[Kind],
-    nodes: Vec<Node>,
-    results: &[Origin],
-) -> Result<Region, NoMemory> {
-    Ok(Region {
-        args: Vec::from_slice(alloc, args)?,
-        nodes,
-        results: Vec::from_slice(alloc, results)?,
-    })
-}
-
-fn empty(alloc: Global, args: &[Kind], results: &[Origin]) -> Result<Region, NoMemory> {
-    region(alloc, args, Vec::new(alloc), results)
-}
-
 // A region that a Theta repeats once, with a node of this number.
 fn repeating(alloc: Global, id: u32) -> Result<Region, NoMemory> {
     let nodes = Vec::from_array(alloc, [of(alloc, id, Op::Const(0), &[])?])?;
-    region(alloc, &KINDS, nodes, &[out(id, 0), A, M, I])
+    region(alloc, VMI, nodes, &[out(id, 0), A, M, I])
 }
 
 fn gamma(alloc: Global, id: u32, first: Region, second: Region) -> Result<Node, NoMemory> {
@@ -81,20 +24,13 @@ fn theta(alloc: Global, id: u32, inputs: &[Origin], inside: Region) -> Result<No
     with_regions(alloc, id, Op::Theta, inputs, regions)
 }
 
-/// The lambda of this body, with one parameter and one object; `NoMemory` as for `of`.
+/// The lambda of this body, with one parameter and one object; `NoMemory` only where the allocator
+/// has none.
 pub fn alone(alloc: Global, body: Region) -> Result<Lambda, NoMemory> {
-    let leaf = Leaf {
-        offset: 0,
-        width: 4,
-    };
-    let object = Object {
-        size: 4,
-        leaves: Vec::from_array(alloc, [leaf])?,
-    };
     Ok(Lambda {
         number: 0,
         params: 1,
-        objects: Vec::from_array(alloc, [object])?,
+        objects: Vec::from_array(alloc, [word_object(alloc)?])?,
         body,
         next: 20,
     })
@@ -111,9 +47,9 @@ fn check_both(rt: &impl Abort, alloc: Global, inside: Region, fits: bool) -> Res
         body,
         next: _,
     } = whole;
-    let choice = gamma(alloc, 0, empty(alloc, &KINDS, &[A, M, I])?, body)?;
+    let choice = gamma(alloc, 0, empty(alloc, VMI, &[A, M, I])?, body)?;
     let nodes = Vec::from_array(alloc, [choice])?;
-    let outer = region(alloc, &KINDS, nodes, &[out(0, 0), out(0, 1), out(0, 2)])?;
+    let outer = region(alloc, VMI, nodes, &[out(0, 0), out(0, 1), out(0, 2)])?;
     assert!(rt; check(&alone(alloc, outer)?) == fits);
     Ok(())
 }
@@ -126,7 +62,7 @@ fn one(
     fits: bool,
 ) -> Result<(), Fail> {
     let nodes = Vec::from_array(alloc, [node])?;
-    check_both(rt, alloc, region(alloc, &KINDS, nodes, results)?, fits)
+    check_both(rt, alloc, region(alloc, VMI, nodes, results)?, fits)
 }
 
 fn two(
@@ -137,7 +73,7 @@ fn two(
     fits: bool,
 ) -> Result<(), Fail> {
     let nodes = Vec::from_array(alloc, nodes)?;
-    check_both(rt, alloc, region(alloc, &KINDS, nodes, results)?, fits)
+    check_both(rt, alloc, region(alloc, VMI, nodes, results)?, fits)
 }
 
 #[test]
@@ -151,11 +87,11 @@ fn inputs_are_arguments_or_outputs_of_earlier_nodes(rt: HostRuntime) -> Result<(
     let sum = of(alloc, 2, add, &[A, out(1, 0)])?;
     let later = [sum, of(alloc, 1, constant, &[])?];
     two(&rt, alloc, later, &[out(2, 0), M, I], false)?;
-    check_both(&rt, alloc, empty(alloc, &KINDS, &[A, M, I])?, true)?;
+    check_both(&rt, alloc, empty(alloc, VMI, &[A, M, I])?, true)?;
     check_both(
         &rt,
         alloc,
-        empty(alloc, &KINDS, &[Origin::Arg(3), M, I])?,
+        empty(alloc, VMI, &[Origin::Arg(3), M, I])?,
         false,
     )?;
     one(
@@ -251,7 +187,7 @@ fn inputs_are_as_many_and_of_such_kinds_as_the_op_takes(rt: HostRuntime) -> Resu
 #[test]
 fn only_a_gamma_and_a_theta_have_regions(rt: HostRuntime) -> Result<(), Fail> {
     let alloc = rt.alloc();
-    let regions = Vec::from_array(alloc, [empty(alloc, &KINDS, &[A, M, I])?])?;
+    let regions = Vec::from_array(alloc, [empty(alloc, VMI, &[A, M, I])?])?;
     let node = with_regions(alloc, 1, Op::Const(1), &[], regions)?;
     one(&rt, alloc, node, &[out(1, 0), M, I], false)?;
     one(
@@ -274,25 +210,25 @@ fn only_a_gamma_and_a_theta_have_regions(rt: HostRuntime) -> Result<(), Fail> {
 fn regions_take_and_give_what_their_node_does(rt: HostRuntime) -> Result<(), Fail> {
     let alloc = rt.alloc();
     let given = [out(1, 0), out(1, 1), out(1, 2)];
-    let same = empty(alloc, &KINDS, &[A, M, I])?;
+    let same = empty(alloc, VMI, &[A, M, I])?;
     let taken = [Kind::Value, Kind::Io, Kind::Memory];
     let node = gamma(alloc, 1, same, empty(alloc, &taken, &[A, I, M])?)?;
     one(&rt, alloc, node, &given, false)?;
-    let same = empty(alloc, &KINDS, &[A, M, I])?;
-    let node = gamma(alloc, 1, same, empty(alloc, &KINDS, &[A, I, M])?)?;
+    let same = empty(alloc, VMI, &[A, M, I])?;
+    let node = gamma(alloc, 1, same, empty(alloc, VMI, &[A, I, M])?)?;
     one(&rt, alloc, node, &given, false)?;
-    let same = empty(alloc, &KINDS, &[A, M, I])?;
-    let node = gamma(alloc, 1, same, empty(alloc, &KINDS, &[A, M, I])?)?;
+    let same = empty(alloc, VMI, &[A, M, I])?;
+    let node = gamma(alloc, 1, same, empty(alloc, VMI, &[A, M, I])?)?;
     one(&rt, alloc, node, &given, true)?;
-    let without_predicate = empty(alloc, &KINDS, &[A, M, I])?;
+    let without_predicate = empty(alloc, VMI, &[A, M, I])?;
     let node = theta(alloc, 1, &[A, M, I], without_predicate)?;
     one(&rt, alloc, node, &given, false)?;
-    let in_another_order = empty(alloc, &KINDS, &[A, A, I, M])?;
+    let in_another_order = empty(alloc, VMI, &[A, A, I, M])?;
     let node = theta(alloc, 1, &[A, M, I], in_another_order)?;
     one(&rt, alloc, node, &given, false)?;
     let node = theta(alloc, 1, &[A, I, M], repeating(alloc, 2)?)?;
     one(&rt, alloc, node, &given, false)?;
-    check_both(&rt, alloc, empty(alloc, &KINDS, &[A, I, M])?, false)
+    check_both(&rt, alloc, empty(alloc, VMI, &[A, I, M])?, false)
 }
 
 #[test]
@@ -321,9 +257,9 @@ fn numbers_are_unique_and_below_the_next(rt: HostRuntime) -> Result<(), Fail> {
     let in_its_own_region = theta(alloc, 1, &[A, M, I], repeating(alloc, 1)?)?;
     one(&rt, alloc, in_its_own_region, &given, false)?;
     let nodes = Vec::from_array(alloc, [of(alloc, 2, Op::Const(1), &[])?])?;
-    let first = region(alloc, &KINDS, nodes, &[out(2, 0), M, I])?;
+    let first = region(alloc, VMI, nodes, &[out(2, 0), M, I])?;
     let nodes = Vec::from_array(alloc, [of(alloc, 2, Op::Const(1), &[])?])?;
-    let second = region(alloc, &KINDS, nodes, &[out(2, 0), M, I])?;
+    let second = region(alloc, VMI, nodes, &[out(2, 0), M, I])?;
     one(&rt, alloc, gamma(alloc, 1, first, second)?, &given, false)
 }
 
@@ -353,8 +289,8 @@ fn states_are_threaded(rt: HostRuntime) -> Result<(), Fail> {
     let without_io = theta(alloc, 1, &[A, M], inside)?;
     one(&rt, alloc, without_io, &[out(1, 0), out(1, 1), I], false)?;
     let nodes = Vec::from_array(alloc, [of(alloc, 2, Op::Put, &[A, I])?])?;
-    let lost = region(alloc, &KINDS, nodes, &[A])?;
-    let node = gamma(alloc, 1, lost, empty(alloc, &KINDS, &[A])?)?;
+    let lost = region(alloc, VMI, nodes, &[A])?;
+    let node = gamma(alloc, 1, lost, empty(alloc, VMI, &[A])?)?;
     one(&rt, alloc, node, &[out(1, 0), M, I], false)?;
     let kinds = [Kind::Memory, Kind::Memory, Kind::Io];
     let regions = Vec::from_array(alloc, [empty(alloc, &kinds, &[M, I])?])?;
@@ -368,7 +304,7 @@ fn states_are_threaded(rt: HostRuntime) -> Result<(), Fail> {
 
 // An object of eight bytes with these two leaves.
 fn check_leaves(rt: &impl Abort, alloc: Global, leaves: [Leaf; 2], fits: bool) -> Result<(), Fail> {
-    let mut whole = alone(alloc, empty(alloc, &KINDS, &[A, M, I])?)?;
+    let mut whole = alone(alloc, empty(alloc, VMI, &[A, M, I])?)?;
     let leaves = Vec::from_array(alloc, leaves)?;
     whole.objects.push(Object { size: 8, leaves })?;
     assert!(rt; check(&whole) == fits);
@@ -393,11 +329,11 @@ fn leaves_stand_apart_in_order_in_their_object(rt: HostRuntime) -> Result<(), Fa
 #[test]
 fn a_body_takes_its_parameters_and_both_states(rt: HostRuntime) -> Result<(), Fail> {
     let alloc = rt.alloc();
-    let mut whole = alone(alloc, empty(alloc, &KINDS, &[A, M, I])?)?;
+    let mut whole = alone(alloc, empty(alloc, VMI, &[A, M, I])?)?;
     assert!(rt; check(&whole));
     whole.params = 2;
     assert!(rt; !check(&whole));
-    let without_io = alone(alloc, empty(alloc, &KINDS, &[A, M])?)?;
+    let without_io = alone(alloc, empty(alloc, VMI, &[A, M])?)?;
     assert!(rt; !check(&without_io));
     Ok(())
 }

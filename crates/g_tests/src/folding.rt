@@ -1,6 +1,6 @@
 // Lambdas of one region, folded at one of their nodes.
-use crate::checks::{A, I, KINDS, M, of, out, region, with_regions};
 use g_graph::{Kind, Lambda, Node, Op, Origin, Region, check, equal, values};
+use graph_shapes::{A, I, M, VMI, of, out, region, with_regions};
 use no_memory::NoMemory;
 use r_fold::{applies, apply};
 use std::alloc::Global;
@@ -12,7 +12,7 @@ fn constant(alloc: Global, id: u32, word: u32) -> Result<Node, NoMemory> {
 }
 
 fn inside(alloc: Global, nodes: Vec<Node>, results: &[Origin]) -> Result<Region, NoMemory> {
-    region(alloc, &KINDS, nodes, results)
+    region(alloc, VMI, nodes, results)
 }
 
 fn lambda(alloc: Global, body: Region) -> Lambda {

@@ -1,12 +1,14 @@
-//! Regions that are written as constants, and lambdas in which they stand: tests of rules are
-//! tables of them. It stands on g_graph, and promises nothing of its own.
+//! Nodes and regions of given lists, regions that are written as constants, and lambdas in which
+//! they stand: tests of rules are tables of them. It stands on g_graph, and promises nothing of its
+//! own.
 #![tactic(auto)]
 
 pub use g_graph::Origin;
-use g_graph::{Kind, Lambda, Node, Op, Region};
+use g_graph::{Kind, Lambda, Node, Object, Op, Region};
 use no_memory::NoMemory;
 use smallvec::SmallVec;
 use std::alloc::Global;
+use val_core::Leaf;
 
 /// The value that a region takes which takes one, and both states.
 pub const A: Origin = Origin::Arg(0);
@@ -25,6 +27,75 @@ pub const VVMI: &[Kind] = &[Kind::Value, Kind::Value, Kind::Memory, Kind::Io];
 
 /// The arguments of a region that takes both states alone.
 pub const MI: &[Kind] = &[Kind::Memory, Kind::Io];
+
+/// An output of a node.
+pub const fn out(node: u32, port: u32) -> Origin {
+    Origin::Out { node, port }
+}
+
+/// A node with these regions; `NoMemory` only where the allocator has none.
+pub fn with_regions(
+    alloc: Global,
+    id: u32,
+    op: Op,
+    inputs: &[Origin],
+    regions: Vec<Region>,
+) -> Result<Node, NoMemory> {
+    Ok(Node {
+        id,
+        op,
+        inputs: SmallVec::from_slice(alloc, inputs)?,
+        regions,
+    })
+}
+
+/// A node without regions; `NoMemory` as for `with_regions`.
+pub fn of(alloc: Global, id: u32, op: Op, inputs: &[Origin]) -> Result<Node, NoMemory> {
+    with_regions(alloc, id, op, inputs, Vec::new(alloc))
+}
+
+/// A node without regions as a row of a table: its number, its op and its inputs.
+pub type Row<'a> = (u32, Op, &'a [Origin]);
+
+/// The nodes of these rows; `NoMemory` as for `with_regions`.
+pub fn list(alloc: Global, rows: &[Row]) -> Result<Vec<Node>, NoMemory> {
+    let mut nodes = Vec::new(alloc);
+    for (id, op, inputs) in rows {
+        nodes.push(of(alloc, *id, *op, inputs)?)?;
+    }
+    Ok(nodes)
+}
+
+/// A region of these nodes; `NoMemory` as for `with_regions`.
+pub fn region(
+    alloc: Global,
+    args: &[Kind],
+    nodes: Vec<Node>,
+    results: &[Origin],
+) -> Result<Region, NoMemory> {
+    Ok(Region {
+        args: Vec::from_slice(alloc, args)?,
+        nodes,
+        results: Vec::from_slice(alloc, results)?,
+    })
+}
+
+/// A region without nodes; `NoMemory` as for `with_regions`.
+pub fn empty(alloc: Global, args: &[Kind], results: &[Origin]) -> Result<Region, NoMemory> {
+    region(alloc, args, Vec::new(alloc), results)
+}
+
+/// An object of one word; `NoMemory` as for `with_regions`.
+pub fn word_object(alloc: Global) -> Result<Object, NoMemory> {
+    let leaf = Leaf {
+        offset: 0,
+        width: 4,
+    };
+    Ok(Object {
+        size: 4,
+        leaves: Vec::from_array(alloc, [leaf])?,
+    })
+}
 
 /// A region, with all that is nested in it.
 #[derive(Clone, Copy)]
@@ -98,18 +169,14 @@ macro_rules! shape {
 /// The region that gives what it takes.
 pub const SAME: Shape = shape!(VMI, [], [A, M, I]);
 
-/// The region of a shape; `NoMemory` only where the allocator has none.
+/// The region of a shape; `NoMemory` as for `with_regions`.
 #[cycle(made)]
 pub fn region_of(alloc: Global, shape: &Shape) -> Result<Region, NoMemory> {
     let mut nodes = Vec::new(alloc);
     for line in shape.nodes {
         nodes.push(node_of(alloc, line)?)?;
     }
-    Ok(Region {
-        args: Vec::from_slice(alloc, shape.args)?,
-        nodes,
-        results: Vec::from_slice(alloc, shape.results)?,
-    })
+    region(alloc, shape.args, nodes, shape.results)
 }
 
 #[cycle(made)]
@@ -118,16 +185,11 @@ fn node_of(alloc: Global, line: &Line) -> Result<Node, NoMemory> {
     for shape in line.regions {
         regions.push(region_of(alloc, shape)?)?;
     }
-    Ok(Node {
-        id: line.id,
-        op: line.op,
-        inputs: SmallVec::from_slice(alloc, line.inputs)?,
-        regions,
-    })
+    with_regions(alloc, line.id, line.op, line.inputs, regions)
 }
 
 /// So many values more in a region, two or more, by a Gamma of number 11 whose region has them as
-/// arguments; `NoMemory` as for `region_of`.
+/// arguments; `NoMemory` as for `with_regions`.
 pub fn push_values(alloc: Global, region: &mut Region, count: u64) -> Result<(), NoMemory> {
     let mut inputs = SmallVec::from_slice(alloc, &[A])?;
     let mut args = Vec::new(alloc);
@@ -149,7 +211,7 @@ pub fn push_values(alloc: Global, region: &mut Region, count: u64) -> Result<(),
     Ok(())
 }
 
-/// The lambda of a shape, without objects; `NoMemory` as for `region_of`.
+/// The lambda of a shape, without objects; `NoMemory` as for `with_regions`.
 pub fn lambda_of(
     alloc: Global,
     number: u32,
@@ -193,18 +255,13 @@ fn alone(
     inputs: &[Origin],
     regions: Vec<Region>,
 ) -> Result<Region, NoMemory> {
-    let mut region = region_of(alloc, &shape!(VMI, [], [n!(90), n!(90, 1), n!(90, 2)]))?;
-    region.nodes.push(Node {
-        id: 90,
-        op,
-        inputs: SmallVec::from_slice(alloc, inputs)?,
-        regions,
-    })?;
-    Ok(region)
+    let node = with_regions(alloc, 90, op, inputs, regions)?;
+    let nodes = Vec::from_array(alloc, [node])?;
+    region(alloc, VMI, nodes, &[n!(90), n!(90, 1), n!(90, 2)])
 }
 
 /// The lambda of number 1 and of one parameter in which the region stands at that place, with that
-/// next number; `NoMemory` as for `region_of`.
+/// next number; `NoMemory` as for `with_regions`.
 pub fn lambda_with(
     alloc: Global,
     place: Place,

@@ -1,11 +1,10 @@
 //! Lambdas as the tests build them, and their linear code as text.
-use g_graph::{Kind, Lambda, Node, Object, Op, Origin, Region, check, values};
+use g_graph::{Kind, Lambda, Node, Op, Origin, Region, check, values};
+use graph_shapes::{Row, list, out, region, with_regions, word_object};
 use no_memory::NoMemory;
 use s_linear::Linear;
 use s_sequence::sequence;
-use smallvec::SmallVec;
 use std::alloc::Global;
-use val_core::Leaf;
 
 /// A value.
 pub const V: Kind = Kind::Value;
@@ -21,64 +20,8 @@ pub const fn arg(k: u32) -> Origin {
     Origin::Arg(k)
 }
 
-/// An output of the node of this number.
-pub const fn out(node: u32, port: u32) -> Origin {
-    Origin::Out { node, port }
-}
-
-/// A node with these regions; `NoMemory` as for each function here.
-pub fn with_regions(
-    alloc: Global,
-    id: u32,
-    op: Op,
-    inputs: &[Origin],
-    regions: Vec<Region>,
-) -> Result<Node, NoMemory> {
-    Ok(Node {
-        id,
-        op,
-        inputs: SmallVec::from_slice(alloc, inputs)?,
-        regions,
-    })
-}
-
-/// A node without regions.
-pub fn of(alloc: Global, id: u32, op: Op, inputs: &[Origin]) -> Result<Node, NoMemory> {
-    with_regions(alloc, id, op, inputs, Vec::new(alloc))
-}
-
-/// A node as a row of a test: its number, its op and its inputs. It has no regions.
-pub type Row<'a> = (u32, Op, &'a [Origin]);
-
-/// The nodes of these rows.
-pub fn list(alloc: Global, rows: &[Row]) -> Result<Vec<Node>, NoMemory> {
-    let mut nodes = Vec::new(alloc);
-    for (id, op, inputs) in rows {
-        nodes.push(of(alloc, *id, *op, inputs)?)?;
-    }
-    Ok(nodes)
-}
-
-/// A region of these nodes.
-pub fn region(
-    alloc: Global,
-    args: &[Kind],
-    nodes: Vec<Node>,
-    results: &[Origin],
-) -> Result<Region, NoMemory> {
-    Ok(Region {
-        args: Vec::from_slice(alloc, args)?,
-        nodes,
-        results: Vec::from_slice(alloc, results)?,
-    })
-}
-
-/// A region without nodes.
-pub fn empty(alloc: Global, args: &[Kind], results: &[Origin]) -> Result<Region, NoMemory> {
-    region(alloc, args, Vec::new(alloc), results)
-}
-
-/// A region without arguments that gives this constant, by a node of this number.
+/// A region without arguments that gives this constant, by a node of this number; `NoMemory` as for
+/// each function here.
 pub fn constant(alloc: Global, id: u32, word: u32) -> Result<Region, NoMemory> {
     region(
         alloc,
@@ -101,18 +44,10 @@ pub fn function(
     }
     args.push(M)?;
     args.push(I)?;
-    let leaf = Leaf {
-        offset: 0,
-        width: 4,
-    };
-    let object = Object {
-        size: 4,
-        leaves: Vec::from_array(alloc, [leaf])?,
-    };
     Ok(Lambda {
         number: 0,
         params,
-        objects: Vec::from_array(alloc, [object])?,
+        objects: Vec::from_array(alloc, [word_object(alloc)?])?,
         body: region(alloc, &args, nodes, results)?,
         next: u32::MAX,
     })

@@ -1,9 +1,8 @@
 ghost use Rattle.std.specs.Prelude.{◌≤◌};
 
-use crate::building::{
-    I, M, V, arg, code, constant, empty, lines_of_one, out, region, single, with_regions,
-};
+use crate::building::{I, M, V, arg, code, constant, lines_of_one, single};
 use g_graph::{Lambda, Op, Origin};
+use graph_shapes::{empty, out, region, with_regions};
 use no_memory::NoMemory;
 use std::alloc::Global;
 use std::test::Fail;

@@ -1,5 +1,6 @@
-use crate::building::{Row, arg, lines_of, out};
+use crate::building::{arg, lines_of};
 use g_graph::Op;
+use graph_shapes::{Row, out};
 use std::test::Fail;
 use val_core::{Op1, Op2};
 

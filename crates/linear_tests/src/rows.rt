@@ -1,7 +1,6 @@
-use crate::building::{
-    I, M, Row, V, arg, constant, empty, lines_of, lines_of_one, list, out, region,
-};
+use crate::building::{I, M, V, arg, constant, lines_of, lines_of_one};
 use g_graph::Op;
+use graph_shapes::{Row, empty, list, out, region};
 use std::test::Fail;
 use val_core::Op2;
 

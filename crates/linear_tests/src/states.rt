@@ -1,5 +1,6 @@
-use crate::building::{I, M, V, arg, empty, lines_of_one, out};
+use crate::building::{I, M, V, arg, lines_of_one};
 use g_graph::{Kind, Op, Origin};
+use graph_shapes::{empty, out};
 use no_memory::NoMemory;
 use std::alloc::Global;
 use std::test::Fail;

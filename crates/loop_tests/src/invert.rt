@@ -1,5 +1,5 @@
 // Inversion.
-use crate::rows::{Limit, NEXT, Row, Rule, is_limited, is_right, values_after};
+use crate::rows::{Limit, NEXT, Row, Rule, is_limited, is_right, looping, values_after};
 use g_graph::{Kind, Node, Op, Origin, Region};
 use graph_shapes::{
     A, I, Line, M, PLACES, Place, Shape, VMI, VVMI, lambda_with, line, n, region_of, shape,
@@ -18,17 +18,6 @@ const I2: Origin = Origin::Arg(3);
 const VI: &[Kind] = &[Kind::Value, Kind::Io];
 
 const VM: &[Kind] = &[Kind::Value, Kind::Memory];
-
-// A region that has the loop of number 10 alone, whose turn this is.
-macro_rules! looping {
-    ($turn:expr) => {
-        shape!(
-            VMI,
-            [line!(10, Op::Theta, [A, M, I], [$turn])],
-            [n!(10), n!(10, 1), n!(10, 2)]
-        )
-    };
-}
 
 // A loop whose turn has these nodes, and gives the outputs of node 4.
 macro_rules! loop_of {

@@ -20,6 +20,19 @@ pub type Row = (Shape, u32, Option<(u64, u64)>);
 /// values of the lambda after the rule at node 10, where it applies.
 pub type Limit = (Shape, u64, u32, Option<u64>);
 
+/// A region that has the loop of number 10 alone, whose turn this is.
+macro_rules! looping {
+    ($turn:expr) => {
+        shape!(
+            VMI,
+            [line!(10, Op::Theta, [A, M, I], [$turn])],
+            [n!(10), n!(10, 1), n!(10, 2)]
+        )
+    };
+}
+
+pub(crate) use looping;
+
 /// The number of the first node that a rule makes, in rows of no other next number.
 pub const NEXT: u32 = 100;
 

@@ -1,5 +1,5 @@
 // Unrolling.
-use crate::rows::{Limit, NEXT, Row, Rule, is_limited, is_right, values_after};
+use crate::rows::{Limit, NEXT, Row, Rule, is_limited, is_right, looping, values_after};
 use g_graph::{Node, Op, Origin};
 use graph_shapes::{
     A, I, Line, M, MI, PLACES, Place, SAME, Shape, VMI, VVMI, lambda_with, line, n, push_values,
@@ -10,17 +10,6 @@ use smallvec::SmallVec;
 use std::alloc::Global;
 use std::test::Fail;
 use val_core::Op2;
-
-// A region that has the loop of number 10 alone, whose turn this is.
-macro_rules! looping {
-    ($turn:expr) => {
-        shape!(
-            VMI,
-            [line!(10, Op::Theta, [A, M, I], [$turn])],
-            [n!(10), n!(10, 1), n!(10, 2)]
-        )
-    };
-}
 
 // i = i + 1 while i < 3
 const COUNTS: Shape = shape!(

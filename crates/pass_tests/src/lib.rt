@@ -1,5 +1,5 @@
-//! Tests of the texts of recipes and of the order of functions. No crate stands on it, and it has no
-//! function of its own.
+//! Tests of the texts of recipes and of the order of functions. No crate stands on it, and it has
+//! no function of its own.
 #![tactic(auto)]
 
 #[cfg(test)]

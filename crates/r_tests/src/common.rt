@@ -1,6 +1,7 @@
 // Common node elimination.
-use crate::tables::{A, B, I, KINDS, Line, M, lambda, n, nested, node, out, region};
+use crate::tables::{A, B, I, KINDS, M, lambda, n, nested, region};
 use g_graph::{Kind, Lambda, Op, Origin, Region, check, equal, ids};
+use graph_shapes::{Row, of, out};
 use no_memory::NoMemory;
 use r_cne::{applies, apply};
 use std::alloc::Global;
@@ -10,9 +11,9 @@ use val_core::Op2;
 const ADD: Op = Op::Bin(Op2::Add);
 
 // Nodes, the value and the memory that the region gives.
-type Row<'a> = (&'a [Line<'a>], Origin, Origin);
+type Case<'a> = (&'a [Row<'a>], Origin, Origin);
 
-fn region_of(alloc: Global, row: Row) -> Result<Region, NoMemory> {
+fn region_of(alloc: Global, row: Case) -> Result<Region, NoMemory> {
     let (lines, value, memory) = row;
     region(alloc, &KINDS, lines, &[value, memory, I])
 }
@@ -20,8 +21,8 @@ fn region_of(alloc: Global, row: Row) -> Result<Region, NoMemory> {
 // The second region of a Gamma is this one; its first one has a sum and a constant.
 fn in_region(alloc: Global, second: Region) -> Result<Lambda, NoMemory> {
     let mut first = region(alloc, &KINDS, &[], &[n(16), M, I])?;
-    first.nodes.push(node(alloc, 16, ADD, &[A, B])?)?;
-    first.nodes.push(node(alloc, 17, Op::Const(7), &[])?)?;
+    first.nodes.push(of(alloc, 16, ADD, &[A, B])?)?;
+    first.nodes.push(of(alloc, 17, Op::Const(7), &[])?)?;
     lambda(alloc, 2, nested(alloc, first, second)?)
 }
 
@@ -43,9 +44,9 @@ fn becomes(mut before: Lambda, node: u32, wanted: Option<Lambda>) -> bool {
 // The same in a body and in a region of it.
 fn is_changed(
     alloc: Global,
-    before: Row,
+    before: Case,
     node: u32,
-    wanted: Option<Row>,
+    wanted: Option<Case>,
 ) -> Result<bool, NoMemory> {
     let (body, inside) = match wanted {
         None => (None, None),
@@ -70,9 +71,9 @@ fn pair(
     let nodes = Vec::from_array(
         alloc,
         [
-            node(alloc, 0, first.0, first.1)?,
-            node(alloc, 2, second.0, second.1)?,
-            node(alloc, 3, Op::Bin(Op2::Xor), &[n(0), n(other)])?,
+            of(alloc, 0, first.0, first.1)?,
+            of(alloc, 2, second.0, second.1)?,
+            of(alloc, 3, Op::Bin(Op2::Xor), &[n(0), n(other)])?,
         ],
     )?;
     let mut region = region(alloc, &KINDS, &[], &[n(3), M, I])?;
@@ -121,14 +122,14 @@ fn equal_ops_and_inputs_are_common(rt: HostRuntime) -> Result<(), Fail> {
 #[test]
 fn the_first_of_three_is_taken(rt: HostRuntime) -> Result<(), Fail> {
     let alloc = rt.alloc();
-    let before: [Line; 5] = [
+    let before: [Row; 5] = [
         (5, ADD, &[A, B]),
         (1, ADD, &[A, B]),
         (3, ADD, &[A, B]),
         (2, ADD, &[n(5), n(1)]),
         (4, ADD, &[n(2), n(3)]),
     ];
-    let third: [Line; 5] = [
+    let third: [Row; 5] = [
         (5, ADD, &[A, B]),
         (1, ADD, &[A, B]),
         (3, ADD, &[A, B]),
@@ -159,7 +160,7 @@ fn swept(alloc: Global, lambda: &mut Lambda) -> Result<Vec<u32>, NoMemory> {
 }
 
 // The body of a `main` that reads a byte into a variable and adds it up through two pointers.
-fn main_of(alloc: Global, lines: &[Line]) -> Result<Lambda, NoMemory> {
+fn main_of(alloc: Global, lines: &[Row]) -> Result<Lambda, NoMemory> {
     let body = region(
         alloc,
         &[Kind::Memory, Kind::Io],
@@ -172,7 +173,7 @@ fn main_of(alloc: Global, lines: &[Line]) -> Result<Lambda, NoMemory> {
 #[test]
 fn loads_of_one_memory_are_common(rt: HostRuntime) -> Result<(), Fail> {
     let alloc = rt.alloc();
-    let before: [Line; 15] = [
+    let before: [Row; 15] = [
         (0, Op::Get, &[B]),
         (1, Op::Local(0), &[]),
         (2, Op::Store(4), &[n(1), n(0), A]),
@@ -189,7 +190,7 @@ fn loads_of_one_memory_are_common(rt: HostRuntime) -> Result<(), Fail> {
         (13, Op::Load(4), &[n(3), n(9)]),
         (14, ADD, &[n(12), n(13)]),
     ];
-    let after: [Line; 15] = [
+    let after: [Row; 15] = [
         (0, Op::Get, &[B]),
         (1, Op::Local(0), &[]),
         (2, Op::Store(4), &[n(1), n(0), A]),

@@ -1,6 +1,7 @@
 // Changes in a region 1,500 regions deep, which is deeper than any within the limits.
-use crate::tables::{A, I, KINDS, M, lambda, n, nest, region};
+use crate::tables::{A, I, KINDS, M, lambda, n, region};
 use g_graph::{Kind, Lambda, Op, check, ids};
+use graph_shapes::with_regions;
 use no_memory::NoMemory;
 use std::alloc::Global;
 use std::test::Fail;
@@ -16,13 +17,13 @@ fn nested(alloc: Global) -> Result<Lambda, NoMemory> {
         let regions = Vec::from_array(alloc, [inner])?;
         outer
             .nodes
-            .push(nest(alloc, id, Op::Gamma, &[A, A], regions)?)?;
+            .push(with_regions(alloc, id, Op::Gamma, &[A, A], regions)?)?;
         inner = outer;
     }
     let mut body = region(alloc, &KINDS, &[], &[n(DEPTH), M, I])?;
     let regions = Vec::from_array(alloc, [inner])?;
     body.nodes
-        .push(nest(alloc, DEPTH, Op::Gamma, &[A, A], regions)?)?;
+        .push(with_regions(alloc, DEPTH, Op::Gamma, &[A, A], regions)?)?;
     let mut lambda = lambda(alloc, 2, body)?;
     lambda.next = DEPTH + 1;
     Ok(lambda)

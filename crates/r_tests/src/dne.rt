@@ -1,6 +1,7 @@
 // Dead node elimination.
-use crate::tables::{A, B, I, KINDS, M, gamma, holding, lambda, n, nest, node, out, region, theta};
+use crate::tables::{A, B, I, KINDS, M, gamma, holding, lambda, n, region, theta};
 use g_graph::{Kind, Lambda, Op, Origin, check, equal, ids, values};
+use graph_shapes::{of, out, with_regions};
 use no_memory::NoMemory;
 use r_dne::{applies, apply};
 use std::alloc::Global;
@@ -52,7 +53,7 @@ fn a_node_without_state_and_use_goes(rt: HostRuntime) -> Result<(), Fail> {
         (Op::Put, [A, I].as_slice(), [A, M, n(0)], false),
         (Op::Apply(0), abmi, [A, out(0, 1), out(0, 2)], false),
     ] {
-        let before = holding(alloc, node(alloc, 0, op, inputs)?, &results)?;
+        let before = holding(alloc, of(alloc, 0, op, inputs)?, &results)?;
         let wanted = if goes {
             Some(lambda(alloc, 2, region(alloc, &KINDS, &[], &results)?)?)
         } else {
@@ -185,7 +186,7 @@ fn chooser(alloc: Global) -> Result<Lambda, NoMemory> {
     let inputs = [n(0), n(0), n(1), n(2), n(3), A, out(0, 1)];
     let regions = Vec::from_array(alloc, [first, second])?;
     body.nodes
-        .push(nest(alloc, 4, Op::Gamma, &inputs, regions)?)?;
+        .push(with_regions(alloc, 4, Op::Gamma, &inputs, regions)?)?;
     lambda(alloc, 0, body)
 }
 

@@ -1,6 +1,7 @@
 // Invariant value redirection.
-use crate::tables::{A, B, I, KINDS, M, gamma, lambda, n, nest, node, out, region, theta};
+use crate::tables::{A, B, I, KINDS, M, gamma, lambda, n, region, theta};
 use g_graph::{Kind, Lambda, Op, Origin, check, equal, ids, values};
+use graph_shapes::{of, out, with_regions};
 use no_memory::NoMemory;
 use r_inv::{applies, apply};
 use std::alloc::Global;
@@ -134,8 +135,7 @@ fn counter(alloc: Global) -> Result<Lambda, NoMemory> {
         &[n(6), out(6, 1), out(6, 2), out(6, 3), out(6, 4)],
     )?;
     let choice = Vec::from_array(alloc, [done, more])?;
-    turn.nodes
-        .push(nest(alloc, 6, Op::Gamma, &[n(5), A, B, M, I], choice)?)?;
+    turn.nodes.push(with_regions(alloc, 6, Op::Gamma, &[n(5), A, B, M, I], choice)?)?;
     let mut body = region(
         alloc,
         STATES,
@@ -147,10 +147,9 @@ fn counter(alloc: Global) -> Result<Lambda, NoMemory> {
         &[n(11), out(3, 2), out(3, 3)],
     )?;
     let turns = Vec::from_array(alloc, [turn])?;
+    body.nodes.push(with_regions(alloc, 3, Op::Theta, &[n(0), n(2), A, B], turns)?)?;
     body.nodes
-        .push(nest(alloc, 3, Op::Theta, &[n(0), n(2), A, B], turns)?)?;
-    body.nodes
-        .push(node(alloc, 11, Op::Bin(Op2::Add), &[n(3), out(3, 1)])?)?;
+        .push(of(alloc, 11, Op::Bin(Op2::Add), &[n(3), out(3, 1)])?)?;
     lambda(alloc, 0, body)
 }
 

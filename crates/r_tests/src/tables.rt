@@ -1,7 +1,7 @@
 // Lambdas that are written as lists of nodes without regions.
 use g_graph::{Kind, Lambda, Node, Object, Op, Origin, Region};
+use graph_shapes::{Row, list, out, with_regions};
 use no_memory::NoMemory;
-use smallvec::SmallVec;
 use std::alloc::Global;
 
 /// The first argument of a lambda.
@@ -19,49 +19,23 @@ pub const I: Origin = Origin::Arg(3);
 /// The arguments of a body with two parameters.
 pub const KINDS: [Kind; 4] = [Kind::Value, Kind::Value, Kind::Memory, Kind::Io];
 
-/// A node without regions: its number, its op and its inputs.
-pub type Line<'a> = (u32, Op, &'a [Origin]);
-
 /// The first output of a node.
 pub const fn n(node: u32) -> Origin {
     Origin::Out { node, port: 0 }
 }
 
-/// An output of a node.
-pub const fn out(node: u32, port: u32) -> Origin {
-    Origin::Out { node, port }
-}
-
-/// A node without regions; `NoMemory` only where the allocator has none.
-pub fn node(alloc: Global, id: u32, op: Op, inputs: &[Origin]) -> Result<Node, NoMemory> {
-    Ok(Node {
-        id,
-        op,
-        inputs: SmallVec::from_slice(alloc, inputs)?,
-        regions: Vec::new(alloc),
-    })
-}
-
-/// A region of these nodes; `NoMemory` as for `node`.
+/// A region of the nodes of these rows; `NoMemory` only where the allocator has none.
 pub fn region(
     alloc: Global,
     args: &[Kind],
-    lines: &[Line],
+    rows: &[Row],
     results: &[Origin],
 ) -> Result<Region, NoMemory> {
-    let mut nodes = Vec::new(alloc);
-    for (id, op, inputs) in lines {
-        nodes.push(node(alloc, *id, *op, *inputs)?)?;
-    }
-    Ok(Region {
-        args: Vec::from_slice(alloc, args)?,
-        nodes,
-        results: Vec::from_slice(alloc, results)?,
-    })
+    graph_shapes::region(alloc, args, list(alloc, rows)?, results)
 }
 
 /// The lambda of this body, with so many parameters and one object of 4 bytes; `NoMemory` as for
-/// `node`.
+/// `region`.
 pub fn lambda(alloc: Global, params: u32, body: Region) -> Result<Lambda, NoMemory> {
     let mut objects = Vec::new(alloc);
     objects.push(Object {
@@ -77,33 +51,15 @@ pub fn lambda(alloc: Global, params: u32, body: Region) -> Result<Lambda, NoMemo
     })
 }
 
-/// The body of a Gamma alone, of number 18, whose regions are these two; `NoMemory` as for `node`.
+/// The body of a Gamma alone, of number 18, whose regions are these two; `NoMemory` as for
+/// `region`.
 pub fn nested(alloc: Global, first: Region, second: Region) -> Result<Region, NoMemory> {
     let mut body = region(alloc, &KINDS, &[], &[n(18), out(18, 1), out(18, 2)])?;
+    let regions = Vec::from_array(alloc, [first, second])?;
     let inputs = [A, A, B, M, I];
-    body.nodes.push(Node {
-        id: 18,
-        op: Op::Gamma,
-        inputs: SmallVec::from_slice(alloc, &inputs)?,
-        regions: Vec::from_array(alloc, [first, second])?,
-    })?;
+    body.nodes
+        .push(with_regions(alloc, 18, Op::Gamma, &inputs, regions)?)?;
     Ok(body)
-}
-
-/// A node with regions; `NoMemory` as for `node`.
-pub fn nest(
-    alloc: Global,
-    id: u32,
-    op: Op,
-    inputs: &[Origin],
-    regions: Vec<Region>,
-) -> Result<Node, NoMemory> {
-    Ok(Node {
-        id,
-        op,
-        inputs: SmallVec::from_slice(alloc, inputs)?,
-        regions,
-    })
 }
 
 /// The lambda of two parameters whose body has this node alone.
@@ -122,7 +78,11 @@ pub fn gamma(
     results: &[Origin],
 ) -> Result<Lambda, NoMemory> {
     let regions = Vec::from_array(alloc, [first, second])?;
-    holding(alloc, nest(alloc, 0, Op::Gamma, entries, regions)?, results)
+    holding(
+        alloc,
+        with_regions(alloc, 0, Op::Gamma, entries, regions)?,
+        results,
+    )
 }
 
 /// The lambda whose body is a Theta of number 0 with a region without nodes.
@@ -134,5 +94,9 @@ pub fn theta(
     results: &[Origin],
 ) -> Result<Lambda, NoMemory> {
     let regions = Vec::from_array(alloc, [region(alloc, kinds, &[], outs)?])?;
-    holding(alloc, nest(alloc, 0, Op::Theta, inputs, regions)?, results)
+    holding(
+        alloc,
+        with_regions(alloc, 0, Op::Theta, inputs, regions)?,
+        results,
+    )
 }

@@ -1,11 +1,10 @@
-// What recipes make of the functions of a source, and how runs of programs end.
+// What recipes make of the functions of a source.
 ghost use Rattle.cc_image.specs.Image.{CanEmit};
 
 use cc_compile::laws::programs_can_be_emitted;
 use cc_compile::typed_of;
 use g_build::build;
 use g_graph::{Lambda, Omega, Optimised, Rule, Step, check, copy_of};
-use g_interp::{Answer, Event};
 use g_pass::Recipe;
 use g_work::answers;
 use no_memory::NoMemory;
@@ -65,31 +64,5 @@ pub fn compare_steps(rt: &impl Abort, steps: &[Step], row: &[(Rule, u32)]) {
     assert_eq!(rt; steps.len(), row.len());
     for (step, (rule, node)) in steps.iter().zip(row) {
         assert!(rt; step.rule == *rule && step.node == *node, "{step:?}");
-    }
-}
-
-fn wrote(alloc: Global, events: &[Event]) -> Result<Vec<u8>, NoMemory> {
-    let mut bytes = Vec::new(alloc);
-    for event in events {
-        if let Event::Wrote(byte) = event {
-            bytes.push(*byte)?;
-        }
-    }
-    Ok(bytes)
-}
-
-/// Whether the program has ended with this output and status; `NoMemory` only where the allocator
-/// has none.
-pub fn has_ended(
-    alloc: Global,
-    answer: &Answer,
-    output: &[u8],
-    wanted: u8,
-) -> Result<bool, NoMemory> {
-    match answer {
-        Answer::Exited { events, status } => {
-            Ok(*status == wanted && wrote(alloc, events)?.as_slice() == output)
-        }
-        _ => Ok(false),
     }
 }

@@ -1,8 +1,9 @@
 // Recipes on sources: what functions are made into, and what the changed program does.
-use crate::made::{BOUND, DEFAULT, compare_steps, has_ended, lambdas_of, made_of};
+use crate::made::{BOUND, DEFAULT, compare_steps, lambdas_of, made_of};
 use g_graph::{Optimised, Rule, values};
 use g_interp::run_program;
 use g_pass::Recipe;
+use run_answers::has_ended;
 use std::alloc::Global;
 use std::process::Abort;
 use std::sync::Arc;

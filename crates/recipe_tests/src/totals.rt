@@ -1,8 +1,9 @@
 // What the default recipe does to all functions of a program.
-use crate::made::{BOUND, DEFAULT, has_ended, lambdas_of, made_of};
+use crate::made::{BOUND, DEFAULT, lambdas_of, made_of};
 use g_graph::{Optimised, values};
 use g_interp::run_program;
 use g_pass::Recipe;
+use run_answers::has_ended;
 use std::alloc::Global;
 use std::process::Abort;
 use std::sync::Arc;

@@ -1,64 +1,45 @@
-//! Builds through the top call over files in memory, with watchers.
+//! Builds with the watchers of the program `rvcc`, and what several tests name.
 use board_work::OpenGate;
+use cc_drive::{Left, build_with};
 use cc_io::{MemFiles, MemSink, MemSource};
 use cc_top::top;
-use cc_watch::Watcher;
+use cc_watch::{Counter, LogKeeper, Watcher};
 use no_memory::NoMemory;
 use std::alloc::{AllocError, Global};
 use std::sync::Wait;
 use std::thread::Threads;
 
-/// A program of one function.
-pub const ONE: &[u8] = b"int main(void) { return 6 * 7; }";
+/// The counts of `DIAMOND` under the recipe `iln`.
+pub const COUNT_OF_DIAMOND: &[u8] = b"functions 4 fold 0 cne 0 dne 0 inv 0 psh 0 pll 0 ivt 0 url \
+    0 iln 4 before 61 after 69\n";
 
-/// A program of four functions, `b` and `c` of which call `d`, and `main` both.
-pub const FOUR: &[u8] = b"int d(int x) { return x + 1; } int b(int x) { return d(x) * 2; } int c(\
-    int x) { return d(x) * 3; } int main(void) { return b(1) + c(2); }";
+/// Its log.
+pub const LOG_OF_DIAMOND: &[u8] = b"function d 11 11\nfunction b 15 15\niln 0\nfunction c 15 15\n\
+    iln 0\nfunction main 20 28\niln 1\niln 3\n";
 
-/// The log of the second under the recipe `iln`.
-pub const LOG_OF_FOUR: &[u8] = b"function d 11 11\nfunction b 15 15\niln 0\nfunction c 15 15\niln \
-    0\nfunction main 20 28\niln 1\niln 3\n";
-
-/// What a call left.
-#[derive(Drop)]
-pub struct Left {
-    pub status: u8,
-    pub files: MemFiles,
-    pub report: MemSink,
-}
-
-fn words_of(alloc: Global, texts: &[&str]) -> Result<Vec<String>, AllocError> {
-    let mut words = Vec::new(alloc);
-    for text in ["rvcc", "build", "in", "out"] {
-        words.push(String::from_str(alloc, text)?)?;
-    }
-    for text in texts {
-        words.push(String::from_str(alloc, text)?)?;
-    }
-    Ok(words)
-}
-
-/// Builds a file `in` of these bytes to a file `out`, with these words behind. The numbered calls
-/// on the files and the report fail.
-pub fn built(
+/// Builds a file `in` of these bytes with these options and these watchers. The numbered calls on
+/// the files and on the report fail. A function of a library could not hand watchers on, as their
+/// type does not tell what they do.
+pub fn built_watched(
     rt: &(impl Threads + Wait + Sync),
     alloc: Global,
-    texts: &[&str],
+    options: &[&str],
     source: &[u8],
     failing: [&[u64]; 2],
     watchers: &mut Vec<Box<dyn Watcher>>,
 ) -> Result<Left, AllocError> {
-    let words = words_of(alloc, texts)?;
+    let arguments = build_with(alloc, options)?;
     let mut files = MemFiles::new(alloc, failing[0].to_vec(alloc)?);
     files.insert("in", source.to_vec(alloc)?)?;
+    let mut output = MemSink::new(alloc, Vec::new(alloc));
     let mut report = MemSink::new(alloc, failing[1].to_vec(alloc)?);
     let status = top(
         rt,
         alloc,
-        &words,
+        &arguments,
         &mut files,
         &mut MemSource::new(Vec::new(alloc), Vec::new(alloc)),
-        &mut MemSink::new(alloc, Vec::new(alloc)),
+        &mut output,
         &mut report,
         &OpenGate,
         watchers,
@@ -66,8 +47,24 @@ pub fn built(
     Ok(Left {
         status,
         files,
+        output,
         report,
     })
+}
+
+/// What a build leaves that is watched as by the program `rvcc`. The numbered calls on the files
+/// and on the report fail.
+pub fn watched(
+    rt: &(impl Threads + Wait + Sync),
+    alloc: Global,
+    options: &[&str],
+    source: &[u8],
+    failing: [&[u64]; 2],
+) -> Result<Left, AllocError> {
+    let mut watchers: Vec<Box<dyn Watcher>> = Vec::new(alloc);
+    watchers.push(Box::new(alloc, Counter::new())?)?;
+    watchers.push(Box::new(alloc, LogKeeper::new(alloc))?)?;
+    built_watched(rt, alloc, options, source, failing, &mut watchers)
 }
 
 /// The texts of all watchers, one after the other.

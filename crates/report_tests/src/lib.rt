@@ -6,7 +6,7 @@ mod calls;
 #[cfg(test)]
 mod faults;
 #[cfg(test)]
-mod reports;
+mod reported;
 #[cfg(test)]
-mod told;
+mod reports;
 pub mod watching;

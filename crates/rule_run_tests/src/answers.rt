@@ -1,6 +1,7 @@
 // How the answers of a program and of a changed one compare.
 use g_interp::{Answer, Event};
 use no_memory::NoMemory;
+use run_answers::{events, output, status};
 use std::alloc::Global;
 
 /// Which of two sides has the lesser bound: the program before the change, or that after it.
@@ -8,27 +9,6 @@ use std::alloc::Global;
 pub enum Lesser {
     Before,
     After,
-}
-
-/// The events of an answer.
-pub fn events(answer: &Answer) -> &[Event] {
-    match answer {
-        Answer::Returned { events, .. } => events,
-        Answer::Cut { events } => events,
-        Answer::Exited { events, .. } => events,
-        Answer::Undefined { events } => events,
-    }
-}
-
-/// The bytes that are written; `NoMemory` only where the allocator has none.
-pub fn output(alloc: Global, answer: &Answer) -> Result<Vec<u8>, NoMemory> {
-    let mut bytes = Vec::new(alloc);
-    for event in events(answer) {
-        if let Event::Wrote(byte) = event {
-            bytes.push(*byte)?;
-        }
-    }
-    Ok(bytes)
 }
 
 // Whether the functions stand, in their order, among those of the other stack.
@@ -67,14 +47,6 @@ fn is_no_deeper(before: &[Event], after: &[Event]) -> bool {
     true
 }
 
-// The status of a program that has ended.
-fn status(answer: &Answer) -> Option<u8> {
-    match answer {
-        Answer::Exited { status, .. } => Some(*status),
-        _ => None,
-    }
-}
-
 /// Whether the bound has not sufficed.
 pub fn is_cut(answer: &Answer) -> bool {
     match answer {
@@ -85,7 +57,7 @@ pub fn is_cut(answer: &Answer) -> bool {
 
 /// Whether the program after the change may give its answer where the one before it gives the
 /// other: both end alike, with no deeper stacks, or the side of the lesser bound is cut, and has
-/// written the first of what the other one writes. `NoMemory` as for `output`.
+/// written the first of what the other one writes. `NoMemory` only where the allocator has none.
 pub fn may_stand_for(
     alloc: Global,
     lesser: Lesser,
@@ -105,14 +77,4 @@ pub fn may_stand_for(
                 && is_no_deeper,
         ),
     }
-}
-
-/// Whether the program has ended with this output and status; `NoMemory` as for `output`.
-pub fn has_ended(
-    alloc: Global,
-    answer: &Answer,
-    wrote: &[u8],
-    wanted: u8,
-) -> Result<bool, NoMemory> {
-    Ok(status(answer) == Some(wanted) && output(alloc, answer)?.as_slice() == wrote)
 }

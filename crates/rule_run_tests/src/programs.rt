@@ -1,11 +1,12 @@
 // Programs, recipes, and what runs of them show.
-use crate::answers::{Lesser, has_ended, is_cut, may_stand_for};
+use crate::answers::{Lesser, is_cut, may_stand_for};
 use cc_compile::typed_of;
 use g_build::build;
 use g_graph::{Lambda, Omega, Optimised, check, copy_of, values};
 use g_interp::run_program;
 use g_pass::{Recipe, optimise};
 use no_memory::NoMemory;
+use run_answers::has_ended;
 use std::alloc::Global;
 use std::sync::Arc;
 use std::test::Fail;

@@ -1,9 +1,9 @@
 //! Programs that are built and run, with what they write and end with.
 use crate::sources::{
-    CHAIN, COUNTED, DIAMOND, DIVIDING, ECHO, FOR_BRANCH, FOUR, IN_BRANCH, PARITY, PASSED_ON,
-    PRODUCT, SQUARED, SQUARES, TESTED_AFTER, TESTED_FIRST, WRAPPED,
+    CHAIN, COUNTED, DIVIDING, FOR_BRANCH, FOUR, IN_BRANCH, PARITY, PASSED_ON, SQUARED, SQUARES,
+    TESTED_AFTER, TESTED_FIRST, WRAPPED,
 };
-use cc_drive::{ANSWER, BUILD, called_on, image_by, ran};
+use cc_drive::{ANSWER, BUILD, DIAMOND, ECHO, PRODUCT, called_on, image_by, ran};
 use std::alloc::{AllocError, Global};
 use std::sync::Wait;
 use std::test::Fail;

@@ -1,9 +1,9 @@
 //! Programs under recipes of their own, and programs that do not end.
 use crate::sources::{
-    COUNTED, DIAMOND, DIVIDING, FOR_BRANCH, IN_BRANCH, PASSED_ON, PRODUCT, SQUARED, TESTED_AFTER,
-    TESTED_FIRST, WRAPPED,
+    COUNTED, DIVIDING, FOR_BRANCH, IN_BRANCH, PASSED_ON, SQUARED, TESTED_AFTER, TESTED_FIRST,
+    WRAPPED,
 };
-use cc_drive::{BUILD, called_on, image_by, ran};
+use cc_drive::{BUILD, DIAMOND, PRODUCT, called_on, image_by, ran};
 use std::alloc::{AllocError, Global};
 use std::sync::Wait;
 use std::test::Fail;

@@ -1,9 +1,5 @@
 //! Programs that several tables name.
 
-/// Writes what it reads.
-pub const ECHO: &[u8] =
-    b"int main(void) { int c; while ((c = getchar()) != -1) putchar(c); return 0; }";
-
 /// A sum that passes the greatest `int`, and wraps.
 pub const WRAPPED: &[u8] = b"int main(void) { return 2147483647 + 1 < 0; }";
 
@@ -14,10 +10,6 @@ pub const COUNTED: &[u8] =
 /// A division by zero that is not reached.
 pub const DIVIDING: &[u8] = b"int main(void) { int i, x = 7, y = 0; for (i = 0; i < 3; i++) { \
     if (y) x = x / y; } return x; }";
-
-/// One function that two others call, and a fourth that calls these.
-pub const DIAMOND: &[u8] = b"int d(int x) { return x + 1; } int b(int x) { return d(x) * 2; } \
-    int c(int x) { return d(x) * 3; } int main(void) { return b(1) + c(2); }";
 
 /// Twelve functions, of which each but the first calls the one before it.
 pub const CHAIN: &[u8] = b"int f0(int x) { return x; } int f1(int x) { return f0(x) + 1; } \
@@ -36,9 +28,6 @@ pub const PARITY: &[u8] = b"int odd(int n); int even(int n) { if (n == 0) return
 /// Three functions that call none, and one that calls them.
 pub const FOUR: &[u8] = b"int f(int x) { return x; } int g(int x) { return x + 1; } \
     int h(int x) { return x + 2; } int main(void) { return f(1) + g(2) + h(3); }";
-
-/// A product of constants.
-pub const PRODUCT: &[u8] = b"int main(void) { return 6 * 7; }";
 
 /// Squares and a sum of the byte that is read.
 pub const SQUARED: &[u8] = b"int main(void) { int a = getchar(); return a * a + a * a; }";

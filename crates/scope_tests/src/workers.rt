@@ -33,7 +33,7 @@ fn a_build_is_the_work_of_its_workers(rt: HostRuntime) -> Result<(), Fail> {
     Ok(())
 }
 
-/// The words that generate a program of so many functions, and what it writes and ends with.
+/// The arguments that generate a program of so many functions, and what it writes and ends with.
 const GENERATED: [(&[&str], &[u8], &[u8]); 2] = [
     (&["rvcc", "gen", "1", "1", "out"], b"O\n", b"exit 46\n"),
     (&["rvcc", "gen", "1", "2", "out"], b"E\n", b"exit 244\n"),
@@ -43,9 +43,9 @@ const GENERATED: [(&[&str], &[u8], &[u8]); 2] = [
 fn is_generated(
     rt: &(impl Threads + Wait + Sync),
     alloc: Global,
-    (words, output, report): (&[&str], &[u8], &[u8]),
+    (arguments, output, report): (&[&str], &[u8], &[u8]),
 ) -> Result<bool, AllocError> {
-    let made = called_on(rt, alloc, words, b"", &[])?;
+    let made = called_on(rt, alloc, arguments, b"", &[])?;
     let built = called_on(rt, alloc, &BUILD, made.files.get("out").unwrap_or(b""), &[])?;
     let image = built.files.get("out").unwrap_or(b"");
     let left = ran(rt, alloc, image, b"", "--steps=1000000")?;
