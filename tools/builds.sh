@@ -97,6 +97,37 @@ shape 'return n;' 'return n;' "$(seq -f 's = s + f%.0f(1);' 0 510)" 'exit 255'
 shape 'return n;' 'return f%d(n) + 1;' 's = f510(1);' 'exit 255'
 shape "$turn" "$turn" 's = f300(1000);' 'exit 7'
 
+# What must be done and not end for want of memory: more of a thing than most programs have.
+# done_as RECIPE OUTPUT REPORT: the source on the standard input of this function is built under the recipe and runs so.
+done_as() {
+    cat >"$source"
+    ends 0 '' build "$source" "$image" --recipe "$1"
+    runs "$2" "$3"
+}
+done_as "fold$(repeat ',fold' 31)" '' 'exit 42' <examples/answer.c
+{ printf 'int main(void) { int a = getchar(); '; repeat 'a = a + 0; ' 3000; echo 'return a; }'; } >"$source"
+ends 0 'functions 1 fold 3000 cne 0 dne 6000 inv 0 psh 0 pll 0 ivt 0 url 0 iln 0 before 12009 after 9' \
+    build "$source" "$image" --recipe fold,dne --report count
+{
+    printf 'int f(int n) { switch (n) { '
+    for k in $(seq 0 39); do printf 'case %d: return %d; ' "$k" $((k + 3)); done
+    echo 'default: return 1; } } int main(void) { return f(39) + f(40) + f(0); }'
+} | done_as none '' 'exit 46'
+echo 'int f(int a, int b, int c, int d, int e, int f, int g, int h) { return a - b + c - d + e - f + g - h; }
+int main(void) { return f(90, 1, 2, 4, 8, 16, 32, 64); }' | done_as none '' 'exit 47'
+{ printf 'int f('; for k in $(seq 1 40); do printf 'int p%d, ' "$k"; done; echo 'int q) { return 0; } int main(void) { return 0; }'; } >"$source"
+ends 4 'refused Limit 42 line 1 which 2 count 41' build "$source" "$image"
+{ printf 'int main(void) { '; for k in $(seq 0 256); do printf 'int v%d = %d; ' "$k" "$k"; done; echo 'return v200; }'; } | done_as none '' 'exit 200'
+echo 'struct s { char pad[300000]; int x; }; struct s v = {{0}, 5}; int main(void) { return v.x; }' | done_as none '' 'exit 5'
+{ printf 'int main(void) { '; repeat '"a"; ' 10001; echo 'return 0; }'; } | done_as none '' 'exit 0'
+{
+    printf 'int main(void) { '
+    for k in $(seq 0 599); do printf 'int v%d = getchar(); ' "$k"; done
+    printf 'int s = 0; '
+    for k in $(seq 0 599); do printf 's = s - v%d; ' "$k"; done
+    echo 'return s; }'
+} | done_as none '' 'exit 88'
+
 # The large job: 200 generated functions.
 ends 0 '' gen 7 200 "$source"
 same 8 "$default"

@@ -11,7 +11,6 @@ need qemu-riscv32 riscv64-unknown-elf-readelf riscv64-unknown-elf-objdump
 for constant in 0 42 300 2047 2048 4095 4096 305419896 2147483647; do
     printf 'int main(void) { return %s; }\n' "$constant" >"$folder/program.c"
     ./rvcc build "$folder/program.c" "$folder/program.elf" || fail "the build of $constant failed"
-    chmod +x "$folder/program.elf"
     qemu-riscv32 "$folder/program.elf"
     status=$?
     [ "$status" -eq $((constant % 256)) ] || fail "qemu-riscv32 ended with $status for $constant"

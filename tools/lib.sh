@@ -15,24 +15,27 @@ fail() {
     exit 1
 }
 
-# Proves and builds the program of a crate where it is not built or is older than a source, and sets `program` to it.
+# Sets `program` to the program of a crate as the gate built it; where there is none, or a source is newer, the script skips.
 built() {
     program=crates/$1/out/$1
-    newer=$(find crates -path '*/out' -prune -o -type f \( -name '*.rt' -o -name '*.antt' \) -newer "$program" -print 2>/dev/null | head -n 1)
-    if [ ! -x "$program" ] || [ -n "$newer" ]; then
-        echo "$script: proving and building the crate $1"
-        (cd "crates/$1" && rt run </dev/null >"$folder/log" 2>&1)
-        grep -q '^logic=proved' "$folder/log" && [ -x "$program" ] || { tail -n 20 "$folder/log"; exit 1; }
-        touch "$program"
+    if [ ! -x "$program" ] || [ -n "$(find $(sh tools/below "$1" | sed 's,.*,crates/&/src,') -type f -newer "$program" -print 2>/dev/null | head -n 1)" ]; then
+        echo "$script: skipped, the program $1 is not built (rt ci builds it)"
+        exit 0
     fi
 }
 
-# Proves and builds the compiler where it is needed, and sets `program` to it, so that each run takes the program itself. With no
-# input there is no program to compile.
+# Sets `program` to the compiler that ./rvcc takes, so that each run takes the program itself. With no input there is no program
+# to compile.
 compiler() {
-    ./rvcc </dev/null 2>"$folder/report"
+    program=$(sh tools/program) || exit 1
+    "$program" </dev/null 2>"$folder/report"
     [ "$(tail -n 1 "$folder/report")" = 'refused NoMain 41 line 1' ] || fail "the compiler does not run: $(cat "$folder/report")"
-    program=crates/cc_main/out/cc_main
+}
+
+# The sum of all that a try of a crate's mutants reads of the crate.
+mutants_sum() {
+    find "crates/$1/src" "crates/$1/specs" "crates/$1/proofs" "crates/$1/must-fail" "crates/$1/mutants" -type f 2>/dev/null \
+        | LC_ALL=C sort | tr '\n' '\0' | xargs -0 -r sha256sum | sha256sum | cut -d ' ' -f 1
 }
 
 folder=$(mktemp -d) || exit 1

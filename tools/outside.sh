@@ -2,8 +2,8 @@
 # Builds programs under `none`, the default recipe, each rule alone and thirty recipes that are drawn, by 1 and by 7 workers. The two
 # images must be the same bytes. Each image must write and end with what gcc's program does, under `rvcc run` and under qemu-riscv32;
 # readelf reads it without a complaint, and objdump finds an instruction in each word of its text. The programs are those of
-# examples/, which gcc's sanitizers check too, and those of the table of runs in ../shared/rows, where it is there.
-# The seed of the recipes is printed; as an argument it draws the same ones again.
+# examples/, which gcc's sanitizers check too, and those of the table of runs in rows/. The seed of the recipes is printed; as an
+# argument it draws the same ones again. With a second argument so many recipes are tried: `none`, the default and drawn ones.
 set -u
 cd "$(dirname "$0")/.." || exit 1
 script=tools/outside.sh
@@ -43,14 +43,15 @@ for source in examples/*.c; do
     grep -qx 'accepted [0-9]*' "$folder/output" || fail "$source is reported as: $(cat "$folder/output")"
 done
 
-PYTHONDONTWRITEBYTECODE=1 python3 - "$program" "$folder" ../shared/rows "${1:-$(date +%s)}" "$native" <<'PYTHON'
+PYTHONDONTWRITEBYTECODE=1 python3 - "$program" "$folder" "${1:-$(date +%s)}" "$native" "${2:-41}" <<'PYTHON'
 import concurrent.futures, glob, os, random, re, struct, subprocess, sys
 
-program, folder, rows, seed, native = sys.argv[1:6]
+program, folder, seed, native, count = sys.argv[1:6]
 program = os.path.abspath(program)
 RULES = "fold cne dne inv psh pll ivt url iln".split()
 draw = random.Random(int(seed))
-RECIPES = ["none", None] + RULES + [",".join(draw.choices(RULES, k=draw.randint(2, 6))) for _ in range(30)]
+DRAWN = [",".join(draw.choices(RULES, k=draw.randint(2, 6))) for _ in range(30)]
+RECIPES = (["none", None] + (RULES if int(count) > 11 else []) + DRAWN)[:int(count)]
 
 
 # What C leaves open, and gcc does otherwise for x86 than for RISC-V: the order of operands; the least `int` divided by -1.
@@ -62,10 +63,7 @@ def programs():
     for path in sorted(glob.glob("examples/*.c")):
         given = path[:-2] + ".in"
         yield path, open(path, "rb").read(), open(given, "rb").read() if os.path.exists(given) else b"", None
-    if not os.path.exists(os.path.join(rows, "runs.tsv")):
-        print("tools/outside.sh: there is no %s, so the examples alone are built" % rows)
-        return
-    sys.path.insert(0, rows)
+    sys.path.insert(0, "rows")
     import read
     for number, row in enumerate(read.table("runs"), 1):
         wanted = None if "gcc" in row["outside"] and row["about"] not in LEFT_OPEN else (read.bytes_of(row["output"]), int(row["status"]))
@@ -130,7 +128,6 @@ def compare(number, name, source, given, wanted):
     for image, recipe in images.items():
         if not disassembles(home, image):
             wrong.append((recipe, "has an image that readelf or objdump complains of"))
-        os.chmod(home + "/image.elf", 0o755)
         output, status, report = outcome([program, "run", home + "/image.elf"], given)
         if (output, status, report) != (wanted[0], 0, "exit %d\n" % wanted[1]):
             wrong.append((recipe, "runs otherwise than gcc's program: " + report.strip()))

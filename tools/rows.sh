@@ -1,20 +1,15 @@
 #!/bin/sh
 # Compares the compiler with tables of expected values: refusals, images, words of images, runs, and what recipes do to each
-# function, as the log tells it. The tables stand next to the repository, in ../shared/rows, with the program read.py that
-# reads them and tries them. Every second build has three workers. It prints each difference.
+# function, as the log tells it. The tables stand in rows/, with the program read.py that reads them and tries them. Every second
+# build has three workers. It prints each difference.
 set -u
 cd "$(dirname "$0")/.." || exit 1
 script=tools/rows.sh
 . tools/lib.sh
 need python3
-rows=../shared/rows
-if [ ! -e "$rows/read.py" ]; then
-    echo "$script: skipped, there is no $rows"
-    exit 0
-fi
 compiler
 
-PYTHONDONTWRITEBYTECODE=1 python3 - "$rows" "$program" "$folder" <<'END'
+PYTHONDONTWRITEBYTECODE=1 python3 - rows "$program" "$folder" <<'END'
 import sys
 sys.path.insert(0, sys.argv[1])
 import read

@@ -1,3 +1,5 @@
+//! The frame of a function, by its places and its memory objects.
+
 ghost use Rattle.std.specs.Prelude.{◌≡◌, ◌<◌, ◌^◌};
 ghost use Rattle.s_linear.specs.Frame.{frame_size, object_room, objects_at};
 

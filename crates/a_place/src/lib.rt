@@ -1,4 +1,4 @@
-//! The places of a function's names, and its frame. It stands on s_linear, g_graph and no_memory.
+//! Which register or word of the frame holds each name, and the frame of a function.
 //! Promise: `place` gives exactly the places that specs/Places.antt defines. No contract says that
 //! it takes time n log n in lines and names, and a few words of memory for each.
 #![tactic(auto)]

@@ -1,4 +1,5 @@
 //! The places of the names of linear code.
+
 ghost use Rattle.std.specs.Prelude.{◌≡◌, ℕ, ◌<◌, ◌≤◌, [], List, length, IfOk, IsTrue, slice_index_or};
 ghost use Rattle.g_graph.specs.WellFormed.{all_of};
 ghost use Rattle.s_linear.specs.Lines.{Line, names_below};

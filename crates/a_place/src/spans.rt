@@ -1,4 +1,5 @@
 //! The intervals of names.
+
 ghost use Rattle.std.specs.Prelude.{◌≡◌, ℕ, ◌<◌, ◌≤◌, [], ◌++◌, length, map, if◌then◌else◌, IfOk, OnOk, slice_index_or};
 ghost use Rattle.s_linear.specs.Lines.{line_names, instr_names};
 ghost use Rattle.s_linear.specs.Views.{line_of, instr_of};

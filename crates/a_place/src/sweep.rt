@@ -1,6 +1,6 @@
 //! One sweep over the positions of lines, which gives places to names.
 
-ghost use Rattle.std.specs.Prelude.{◌≡◌, ◌==◌, ◌||◌, ℕ, OnOk};
+ghost use Rattle.std.specs.Prelude.{◌≡◌, ◌==◌, ◌||◌, ℕ, OnOk, ◌&&◌};
 ghost use Rattle.std.specs.BTreeSet.{contains};
 ghost use Rattle.std.specs.Ordering.{nat_cmp};
 ghost use Rattle.g_graph.specs.WellFormed.{some_of};
@@ -22,7 +22,7 @@ pub(crate) struct Sweep {
 }
 
 impl Sweep {
-    ghost use Rattle.std.specs.Prelude.{◌⊎◌, ◌&&◌, not, ◌+◌, ◌<◌, ◌≤◌, [], ◌∷◌, List, length, IfOk};
+    ghost use Rattle.std.specs.Prelude.{◌⊎◌, not, ◌+◌, ◌<◌, ◌≤◌, [], ◌∷◌, List, length, IfOk};
     ghost use Rattle.std.specs.Prelude.{vec_len, slice_index, slice_index_or};
     ghost use Rattle.s_linear.specs.Lines.{Line};
     ghost use Rattle.a_place.specs.Places.{first, last, name_count, Given, given};

@@ -3,6 +3,7 @@ use Rattle.std.proofs.Common.{◌≡◌, ℕ, zero, suc, ◌+◌, ◌*◌, ◌<�
 use Rattle.std.specs.Prelude.{replicate}
 use Rattle.std.proofs.lemmas.List.{length-replicate, get_or-replicate, get_or_past, get_or_default}
 use Rattle.std.proofs.lemmas.Bool.{cases_lt, false≢true}
+use Rattle.limits.specs.Limits.{most_jobs}
 use Rattle.board_core.specs.declared.job_state.JobState.{JobState}
 use Rattle.board_core.specs.declared.job_state.JobState.TheVariants.{Open as OpenState}
 use Rattle.board_core.specs.Board.{Job, Open, Program, deps_of, result_of}
@@ -14,7 +15,7 @@ replicate-map : {X Y : Type 0} (f : X → Y) (n : ℕ) (x : X) → replicate n (
 replicate-map f zero x = refl
 replicate-map f (suc n) x = ap (λ xs. f x ∷ xs) (replicate-map f n x)
 
-module _ {M : Type 0} (program : Program M) (counted : length program.ranks ≡ length program.deps) (few : length program.deps ≤ 512)
+module _ {M : Type 0} (program : Program M) (counted : length program.ranks ≡ length program.deps) (few : length program.deps ≤ most_jobs)
     (fine : (j : ℕ) → j < length program.deps → NoBadDep program.ranks (deps_of program j) j) where
   dep-fine : (j d : ℕ) → j < length program.deps → (e : ℕ) → e < length (deps_of program j) → slice_index_or (deps_of program j) e d ≡ d → ¬ IsBadDep program.ranks j d
   dep-fine j d inside e h is =

@@ -1,5 +1,6 @@
 -- The invariant of a board: the states of its jobs are those after its history.
 use Rattle.std.specs.Prelude.{◌≡◌, ℕ, ◌+◌, ◌*◌, ◌≤◌, Bool, true, false, Option, List, length, map, Contains}
+use Rattle.limits.specs.Limits.{most_jobs}
 use Rattle.board_core.specs.declared.event.Event.{Event}
 use Rattle.board_core.specs.declared.event.Event.TheVariants.{Stop}
 use Rattle.board_core.specs.declared.job_state.JobState.{JobState}
@@ -16,7 +17,7 @@ module _ {M : Type 0} where
 
   pub record IsKept (program : Program M) (events : List Event) (job_states : List JobState) (results : List (Option M)) (checked : List ℕ) (is_stopped : Bool) (capacity : ℕ) : Type 0 where
     pub ranked : IsRanked program
-    pub few : length program.deps ≤ 512
+    pub few : length program.deps ≤ most_jobs
     pub legal : IsLegal program events
     pub job_states_are : job_states ≡ map job_state_of (replay program events).jobs
     pub results_are : results ≡ map result_of (replay program events).jobs

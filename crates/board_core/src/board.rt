@@ -1,7 +1,9 @@
-// The board.
+//! The board and its calls.
+
 ghost use Rattle.std.specs.Prelude.{◌≡◌, ◌≢◌, ℕ, ◌+◌, ◌<◌, ◌≤◌, ◌↔◌, ◌++◌, None, length, map, option_map, option_to_list, replicate, slice_index, slice_index_or, OnOk, OnErr, IfOk, IfSome, IfNone, MatchBool, IsErr, IsTrue, [], ◌∷◌, vec_capacity, vec_len};
 ghost use Rattle.std.specs.List.{filter_map};
 ghost use Rattle.std.specs.Arc.{arc_value};
+ghost use Rattle.limits.specs.Limits.{most_jobs, most_workers};
 ghost use Rattle.board_core.specs.Board.{job_at, results, deps_of, HasStopped, Held, HoldsNone, IsLegal, IsNext, IsReady, MayClaim, NobodyStopped, result_of};
 ghost use Rattle.board_core.specs.Answers.{IsRanked};
 ghost use Rattle.board_core.specs.Calls.{with_event, AllOut, Claims, IsWaiting, IsDone, IsNextWithDeps, IsFirstBad, SomeHeld, SomebodyStopped};
@@ -36,7 +38,7 @@ pub struct Board<W: Work> {
 }
 
 impl<W: Work> Model for Board<W> {
-    ghost use Rattle.std.specs.Prelude.{◌≡◌, ℕ, List, map, option_map, vec_capacity, vec_len};
+    ghost use Rattle.std.specs.Prelude.{◌≡◌, ℕ, map, option_map, vec_capacity, vec_len};
     ghost use Rattle.std.specs.Arc.{arc_value};
     ghost use Rattle.board_core.specs.History.{History, dep_lists, program_of};
     ghost use Rattle.board_core.specs.Kept.{IsKept};
@@ -140,8 +142,8 @@ fn log(events: &mut Vec<Event>, event: Event)
 impl<W: Work> Board<W> {
     /// A board of this work, where all jobs are open and nothing has happened. The job j has the
     /// rank `ranks[j]` and depends on the jobs `deps[j]`; there are as many as the work has, and at
-    /// most 512, and at most 64 workers. All memory that the board ever needs is taken here.
-    /// `BadDeps` exactly where a dep is bad.
+    /// most `MOST_JOBS`, and at most `MOST_WORKERS` workers. All memory that the board ever needs
+    /// is taken here. `BadDeps` exactly where a dep is bad.
     pub fn open(
         alloc: Global,
         work: &W,
@@ -151,8 +153,8 @@ impl<W: Work> Board<W> {
     ) -> Result<Board<W>, OpenFault>
         requires lengths { length ranks.now ≡ length deps.now }
         requires jobs { length deps.now ≡ W.jobs work.now }
-        requires few { length deps.now ≤ 512 }
-        requires few_workers { workers ≤ 64 }
+        requires few { length deps.now ≤ most_jobs }
+        requires few_workers { workers ≤ most_workers }
         ensures ok { IfOk result (λ board. board ≡ record {
           ranks = ranks.now;
           deps = dep_lists deps.now;
@@ -264,9 +266,9 @@ impl<W: Work> Board<W> {
     }
 
     /// Gives the worker, which holds no job, the least job that is open and whose deps are all out;
-    /// `deps_out`, which has room for 512 results, then holds those of its deps, in their order.
-    /// Only this adds an event. `NoMemory` only in place of a job that has deps. After every other
-    /// answer the board is as it was and `deps_out` empty.
+    /// `deps_out`, which has room for `MOST_JOBS` results, then holds those of its deps, in their
+    /// order. Only this adds an event. `NoMemory` only in place of a job that has deps. After every
+    /// other answer the board is as it was and `deps_out` empty.
     pub fn claim(
         &mut self,
         worker: u32,
@@ -274,7 +276,7 @@ impl<W: Work> Board<W> {
     ) -> Result<Claim, NoMemory>
         requires known { worker < self.old.workers }
         requires idle { HoldsNone (state_of W.made self.old) worker }
-        requires room { 512 ≤ vec_capacity deps_out.old }
+        requires room { most_jobs ≤ vec_capacity deps_out.old }
         ensures job { (j : ℕ) → result ≡ Ok (Claim.Job j)
             → Claims W.made self.old self.new worker j (map arc_value deps_out.new.items) }
         ensures inside { (j : ℕ) → result ≡ Ok (Claim.Job j) → j < W.jobs self.old.work }
@@ -289,7 +291,7 @@ impl<W: Work> Board<W> {
         // Only a job that is claimed changes anything.
         ensures same { ((j : ℕ) → result ≢ Ok (Claim.Job j))
             → (self.new ≡ self.old) × (deps_out.new.items ≡ []) }
-        ensures room { 512 ≤ vec_capacity deps_out.new }
+        ensures room { most_jobs ≤ vec_capacity deps_out.new }
     {
         deps_out.clear();
         let job = match self.choose() {

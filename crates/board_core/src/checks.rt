@@ -1,5 +1,7 @@
-// The test of the deps of a board.
+//! The test of the deps of a board.
+
 ghost use Rattle.std.specs.Prelude.{◌≡◌, ℕ, ◌<◌, ◌≤◌, [], length, slice_index_or, IfSome, IfNone};
+ghost use Rattle.limits.specs.Limits.{most_jobs};
 ghost use Rattle.board_core.specs.Calls.{IsFirstBadDep, IsFirstBad, NoBadDep};
 ghost use Rattle.board_core.specs.History.{dep_lists};
 
@@ -20,7 +22,7 @@ fn first_bad_dep(ranks: &[u32], deps: &[u32], job: usize) -> Option<u32>
 /// The first job that has a bad dep, and its first bad dep.
 pub(crate) fn first_bad(ranks: &[u32], deps: &[Vec<u32>]) -> Option<(u32, u32)>
     requires lengths { length ranks.now ≡ length deps.now }
-    requires few { length deps.now ≤ 512 }
+    requires few { length deps.now ≤ most_jobs }
     ensures some { IfSome result (λ bad. IsFirstBad ranks.now (dep_lists deps.now) bad.0 bad.1) }
     ensures none { IfNone result ((j : ℕ) → j < length deps.now
         → NoBadDep ranks.now (slice_index_or (dep_lists deps.now) j []) j) }

@@ -1,4 +1,5 @@
-// What happens on a board, and what its calls answer.
+//! What happens on a board, and what its calls answer.
+
 ghost use Rattle.std.specs.Prelude.{◌≡◌};
 ghost use Rattle.board_core.specs.declared.event.OpenFault.TheVariants.{NoMemory};
 

@@ -1,5 +1,7 @@
-// The states of jobs, without their results.
+//! The states of jobs, without their results.
+
 ghost use Rattle.std.specs.Prelude.{◌≡◌, ℕ, ◌<◌, ◌≤◌, ◌↔◌, length, map, replicate, slice_index, slice_index_or, Contains, [], IsTrue, IfOk, IfSome, IfNone};
+ghost use Rattle.limits.specs.Limits.{most_jobs};
 ghost use Rattle.board_core.specs.JobStates.{job_state_at, AllCheckedOut, IsNextState, IsReadyState, IsSomeHeld, released_state};
 ghost use Rattle.board_core.specs.History.{dep_lists};
 
@@ -80,7 +82,7 @@ pub(crate) fn next_ready(
     job_states: &[JobState],
     checked: &mut [usize],
 ) -> Option<u32>
-    requires few { length job_states.now ≤ 512 }
+    requires few { length job_states.now ≤ most_jobs }
     requires deps_length { length deps.now ≡ length job_states.now }
     requires checked_length { length checked.old ≡ length job_states.now }
     requires known { (j d : ℕ) → Contains (slice_index_or (dep_lists deps.now) j []) d

@@ -1,5 +1,6 @@
 //! Laws of the board, for the proofs of callers: each is the contract of a function that does
 //! nothing.
+
 ghost use Rattle.board_core.specs.Laws.{ResultsAreAnswers, DepsGiveAnswer, JobsHaveAnswers, AnswersComeOfDeps, IdleBoardsAreDone, HistoriesAreShort};
 
 /// After every legal history the result of each job that is out is that of the recursion on ranks.

@@ -1,8 +1,9 @@
-//! The board: which jobs are open, held or out, as a machine over events. Of the repository it
-//! stands on `no_memory` alone. Promise: a claim that is given a job, a publication and a stop are
-//! one event each of the machine that specs/Board.antt defines, and no other call changes the
-//! board. A law says that after every legal history the result of each job that is out is the one
-//! value that recursion on the ranks gives.
+//! The board of jobs as a machine over events: which jobs are open, held or out.
+//! Promise: a claim that is given a job, a publication and a stop are one event each of the machine
+//! that specs/Board.antt defines, and no other call changes the board. A law says that after every
+//! legal history the result of each job that is out is the one value that recursion on the ranks
+//! gives.
+//! Always: the history is legal.
 #![tactic(auto)]
 
 mod board;

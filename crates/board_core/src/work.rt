@@ -1,4 +1,5 @@
-// The work that a board hands out.
+//! The work that a board hands out.
+
 ghost use Rattle.std.specs.Prelude.{◌≡◌, ◌<◌, ℕ, List, map, IfOk};
 ghost use Rattle.std.specs.Arc.{arc_value};
 

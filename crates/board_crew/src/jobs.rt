@@ -1,6 +1,8 @@
-// The jobs of a board, done by its workers.
+//! The jobs of a board, done by its workers.
+
 ghost use Rattle.std.specs.Prelude.{◌≡◌, ◌<◌, ◌≤◌, length, map, [], IfOk};
 ghost use Rattle.std.specs.Arc.{arc_value};
+ghost use Rattle.limits.specs.Limits.{most_jobs, most_workers};
 ghost use Rattle.board_core.specs.Answers.{IsRanked};
 ghost use Rattle.board_core.specs.Calls.{AllOut};
 ghost use Rattle.board_core.specs.History.{dep_lists, program_of, state_of};
@@ -41,11 +43,11 @@ fn driven<H: Threads + Wait + Sync, W: Work, G: Gate>(
     Ok(closed)
 }
 
-/// The results of all jobs of a work, which 1 to 64 workers do, each job once. A worker works in a
-/// thread of its own where one can be made, and passes the gate for each job before it makes it.
-/// The job j has the rank `ranks[j]` and depends on the jobs `deps[j]`, whose ranks are smaller;
-/// there are at most 512. `NoMemory` only where the allocator has none. It may wait, and nothing is
-/// promised of its returning.
+/// The results of all jobs of a work, which 1 to `MOST_WORKERS` workers do, each job once. A worker
+/// works in a thread of its own where one can be made, and passes the gate for each job before it
+/// makes it. The job j has the rank `ranks[j]` and depends on the jobs `deps[j]`, whose ranks are
+/// smaller; there are at most `MOST_JOBS`. `NoMemory` only where the allocator has none. It may
+/// wait, and nothing is promised of its returning.
 pub fn do_jobs_by_workers<H: Threads + Wait + Sync, W: Work, G: Gate>(
     rt: &H,
     alloc: Global,
@@ -56,9 +58,9 @@ pub fn do_jobs_by_workers<H: Threads + Wait + Sync, W: Work, G: Gate>(
     gate: &G,
 ) -> Result<Vec<Arc<W::Made>>, NoMemory>
     requires jobs { length deps.now ≡ W.jobs task.now }
-    requires few { length deps.now ≤ 512 }
+    requires few { length deps.now ≤ most_jobs }
     requires some_worker { 0 < workers }
-    requires few_workers { workers ≤ 64 }
+    requires few_workers { workers ≤ most_workers }
     requires ranked { IsRanked (program_of W.made
         (opened workers ranks.now (dep_lists deps.now) task.now)) }
     ensures { IfOk result (λ all. AreResults

@@ -1,5 +1,6 @@
 //! Laws of the board, for the proofs of workers: each is the contract of a function that does
 //! nothing.
+
 ghost use Rattle.board_laws.specs.Beginnings.{HistoriesGrow, ReplaysGoOn, EventsGoOn, BeginningsAreLegal, ResultsStay, HeldJobsKeepResults};
 ghost use Rattle.board_laws.specs.OwnEvents.{OwnEventsDecide, OwnStopsDecide, WorkersHoldOne};
 

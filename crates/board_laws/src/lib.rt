@@ -1,6 +1,6 @@
-//! Laws of the board for workers, for the proofs of callers. Of the repository it stands on
-//! `board_core` alone. Promise: each law is the contract of a function that does nothing, over
-//! every program and every legal history.
+//! Laws of the beginnings of a history and of a worker's own events, for the proofs of workers.
+//! Promise: each law is the contract of a function that does nothing, over every program and every
+//! legal history. Nothing in it runs.
 #![tactic(auto)]
 
 pub mod laws;

@@ -97,9 +97,6 @@ pub record Closes {W M : Type 0} (made : W → ℕ → List M → M) (seat : Sit
   pub no_other : (number : ℕ) → seat.splits < number → own_events number board.events ≡ []
 
 module _ {W M : Type 0} where
-  abbrev pub view_of : Seat (Option (History W)) (View W M) → View W M
-  view_of seat = seat.me.0
-
   abbrev pub sitting_of : View W M → Sitting W
   sitting_of view = record { program = view.program; number = view.number; front = view.front; own = view.own; taken = view.taken; has_turn = view.has_turn; splits = view.splits }
 

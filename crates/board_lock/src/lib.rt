@@ -1,7 +1,8 @@
-//! The lock of a board that several workers drive: whatever the threads do, the history kept under
-//! it is one that a single thread could have made, and the calls of each seat stand in it, each
-//! once and in order. Of the repository it stands on `board_laws`, `board_core` and `no_memory`.
-//! Promise: the contracts of the calls of `Shared`. Nothing is promised of progress.
+//! The lock of a board that several workers drive, by tickets, and their seats.
+//! Whatever the threads do, the history kept under it is one that a single thread could have made,
+//! and the calls of each seat stand in it, each once and in order. Promise: the contracts of the
+//! calls of `Shared`. No progress is promised.
+//! Always: there is one legal history, of which each seat has seen a beginning.
 #![tactic(auto)]
 
 mod shared;

@@ -1,12 +1,13 @@
-// The shared board.
-ghost use Rattle.std.specs.Prelude.{◌≡◌, ◌≢◌, ℕ, ◌+◌, ◌<◌, ◌++◌, Some, None, [], ◌∷◌, true, false, length, IfOk};
+//! The shared board.
+
+ghost use Rattle.std.specs.Prelude.{◌≡◌, ◌≢◌, ◌+◌, ◌<◌, ◌++◌, Some, None, [], ◌∷◌, true, false, length, IfOk};
 ghost use Rattle.board_core.specs.declared.event.Event.{Event};
 ghost use Rattle.board_core.specs.Board.{IsLegal};
 ghost use Rattle.board_core.specs.History.{History, program_of};
 ghost use Rattle.board_laws.specs.OwnEvents.{worker_of};
 ghost use Rattle.board_lock.specs.Rule.{opening};
 ghost use Rattle.board_lock.specs.Seats.{IsSeatOf, IsBoardOf, IsTaken, TakesIn, Closes, sitting, first_sitting, with_turn, with_noted, without_turn, with_split, split_from};
-ghost use Rattle.board_lock.specs.Steps.{Enters, Compares, waiting, noted, taking_in};
+ghost use Rattle.board_lock.specs.Steps.{Enters, Compares, waiting, noted};
 
 use crate::steps::{Compare, Draw, Leave, Look, NewNumber, Note, Noted, TakeIn};
 use crate::view::{OneHistory, Seat, View};

@@ -1,4 +1,5 @@
-// What the steps of the lock tell. These types are for the proofs alone.
+//! What the steps of the lock tell, as types for the proofs alone.
+
 ghost use Rattle.board_lock.specs.Steps.{draws, looks, notes, leaves, compares};
 
 use crate::view::View;

@@ -1,4 +1,5 @@
-// Seats and shared boards cross threads.
+//! The law that seats and shared boards cross threads.
+
 use crate::shared::Shared;
 use crate::view::Seat;
 use board_core::Work;

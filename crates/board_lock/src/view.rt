@@ -1,4 +1,5 @@
-// What a seat knows, and the rule that the lock keeps.
+//! What a seat knows, and the rule that the lock keeps.
+
 use atomic_table::TableRule;
 use board_core::{Board, Event, Work};
 use std::collections::LinkedList;

@@ -1,14 +1,14 @@
 -- What the one worker of a board does.
-use Rattle.std.proofs.Common.{◌≡◌, ◌≢◌, ℕ, zero, suc, ◌+◌, ◌<◌, inl, inr, List, [], ◌∷◌, ◌++◌, length, refl, sym, ap, subst, ◌∙◌, arith}
-use Rattle.std.specs.Prelude.{slice_index, slice_index_or, slice_set, Contains}
-use Rattle.std.specs.List.{filter_map, cons_option}
+use Rattle.std.proofs.Common.{◌≡◌, ◌≢◌, ℕ, zero, suc, ◌<◌, inl, inr, List, [], ◌∷◌, ◌++◌, length, refl, sym, ap, subst, ◌∙◌, arith}
+use Rattle.std.specs.Prelude.{slice_index_or, Contains}
+use Rattle.std.specs.List.{cons_option}
 use Rattle.std.proofs.lemmas.List.{length-set, length-append, get_or_default, get_or-set_same, get_or-set_other}
 use Rattle.std.proofs.lemmas.List.Elements.{Contains-append_cases}
 use Rattle.std.proofs.lemmas.Bool.{cases_eq}
 use Rattle.board_core.specs.declared.event.Event.{Event}
 use Rattle.board_core.specs.declared.event.Event.TheVariants.{Claim, Publish, Stop}
 use Rattle.board_core.specs.Answers.{IsRanked}
-use Rattle.board_core.specs.Board.{Job, Open, Held, Out, Program, State, job_at, result_of, deps_of, results, replay, after}
+use Rattle.board_core.specs.Board.{Job, Open, Held, Out, Program, State, job_at, result_of, deps_of, results, after}
 use Rattle.board_core.specs.Calls.{with_event, Claims, SomebodyStopped, IsFirstBad}
 use Rattle.board_core.specs.History.{History, program_of, state_of}
 use Rattle.board_laws.specs.Beginnings.{EventsGoOn}

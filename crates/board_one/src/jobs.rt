@@ -1,6 +1,8 @@
 //! The jobs of a board, done by one worker.
-ghost use Rattle.std.specs.Prelude.{◌≡◌, ℕ, ◌+◌, ◌*◌, ◌<◌, ◌≤◌, length, map, vec_capacity, true, false, IfOk, OnOk, Ok};
+
+ghost use Rattle.std.specs.Prelude.{◌≡◌, ◌+◌, ◌*◌, ◌<◌, ◌≤◌, length, map, vec_capacity, true, false, IfOk, OnOk, Ok};
 ghost use Rattle.std.specs.Arc.{arc_value};
+ghost use Rattle.limits.specs.Limits.{most_jobs, most_workers};
 ghost use Rattle.board_core.specs.Answers.{IsRanked};
 ghost use Rattle.board_core.specs.Board.{Held, deps_of, job_at, results};
 ghost use Rattle.board_core.specs.Calls.{with_event, AllOut};
@@ -11,13 +13,14 @@ use crate::results::all_results;
 use board_core::laws::histories_are_short;
 use board_core::{Board, Claim, Event, OpenFault, Work};
 use board_laws::laws::events_go_on;
+use limits::MOST_JOBS;
 use no_memory::NoMemory;
 use std::alloc::Global;
 use std::sync::Arc;
 
-/// A board of at most 64 workers, for a work of at most 512 jobs. The job j has the rank `ranks[j]`
-/// and depends on the jobs `deps[j]`, whose ranks are smaller. `NoMemory` only where the allocator
-/// has none.
+/// A board of at most `MOST_WORKERS` workers, for a work of at most `MOST_JOBS` jobs. The job j has
+/// the rank `ranks[j]` and depends on the jobs `deps[j]`, whose ranks are smaller. `NoMemory` only
+/// where the allocator has none.
 pub fn open<W: Work>(
     alloc: Global,
     work: &W,
@@ -26,8 +29,8 @@ pub fn open<W: Work>(
     workers: u32,
 ) -> Result<Board<W>, NoMemory>
     requires jobs { length deps.now ≡ W.jobs work.now }
-    requires few { length deps.now ≤ 512 }
-    requires few_workers { workers ≤ 64 }
+    requires few { length deps.now ≤ most_jobs }
+    requires few_workers { workers ≤ most_workers }
     requires ranked { IsRanked (program_of W.made
         (opened workers ranks.now (dep_lists deps.now) work.now)) }
     ensures { IfOk result (λ board.
@@ -69,9 +72,9 @@ fn step<W: Work>(
 ) -> Result<bool, NoMemory>
     requires work { board.old.work ≡ work.now }
     requires between { IsBetweenJobs W.made board.old }
-    requires room { 512 ≤ vec_capacity callees.old }
+    requires room { most_jobs ≤ vec_capacity callees.old }
     ensures between { OnOk result (IsBetweenJobs W.made board.new) }
-    ensures room { 512 ≤ vec_capacity callees.new }
+    ensures room { most_jobs ≤ vec_capacity callees.new }
     ensures one { result ≡ Ok true → GoesOn board.old board.new }
     ensures none { result ≡ Ok false → board.new ≡ board.old }
     ensures done { result ≡ Ok false
@@ -103,7 +106,7 @@ fn finish_all<W: Work>(alloc: Global, work: &W, board: &mut Board<W>) -> Result<
     ensures same { OnOk result (program_of W.made board.new ≡ program_of W.made board.old) }
     ensures out { OnOk result (AllOut (program_of W.made board.new) (state_of W.made board.new)) }
 {
-    let mut callees = Vec::with_capacity(alloc, 512)?;
+    let mut callees = Vec::with_capacity(alloc, MOST_JOBS)?;
     while step(alloc, work, board, &mut callees)? {
         history_is_short(board);
     }
@@ -111,8 +114,8 @@ fn finish_all<W: Work>(alloc: Global, work: &W, board: &mut Board<W>) -> Result<
 }
 
 /// The results of all jobs of a work, which one worker does, each once. The job j has the rank
-/// `ranks[j]` and depends on the jobs `deps[j]`, whose ranks are smaller; there are at most 512.
-/// `NoMemory` only where the allocator has none.
+/// `ranks[j]` and depends on the jobs `deps[j]`, whose ranks are smaller; there are at most
+/// `MOST_JOBS`. `NoMemory` only where the allocator has none.
 pub fn do_jobs<W: Work>(
     alloc: Global,
     work: &W,
@@ -120,7 +123,7 @@ pub fn do_jobs<W: Work>(
     deps: &[Vec<u32>],
 ) -> Result<Vec<Arc<W::Made>>, NoMemory>
     requires jobs { length deps.now ≡ W.jobs work.now }
-    requires few { length deps.now ≤ 512 }
+    requires few { length deps.now ≤ most_jobs }
     requires ranked { IsRanked (program_of W.made
         (opened 1 ranks.now (dep_lists deps.now) work.now)) }
     ensures { IfOk result (λ all. AreResults

@@ -1,5 +1,5 @@
-//! All jobs of a work, done by one worker on a board of its own; how a board is opened, and what
-//! the results of one are on which all jobs are out. It stands on the board and its laws. Promise:
+//! All jobs of a work, done by one worker on a board of its own.
+//! Here is also how a board is opened, and the results of one on which all jobs are out. Promise:
 //! the result of each job is the one that recursion on the ranks gives.
 #![tactic(auto)]
 

@@ -1,4 +1,5 @@
 //! The results of a board on which all jobs are out.
+
 ghost use Rattle.std.specs.Prelude.{◌≡◌, map, option_map, IfOk};
 ghost use Rattle.std.specs.List.{filter_map};
 ghost use Rattle.std.specs.Arc.{arc_value};

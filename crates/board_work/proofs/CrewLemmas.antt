@@ -1,5 +1,5 @@
 -- What holds of all workers once each of them has ended.
-use Rattle.std.proofs.Common.{◌≡◌, ℕ, ◌<◌, ◌↔◌, Bool, true, false, List, [], ◌∷◌, arith, length, slice_index_or, subst}
+use Rattle.std.proofs.Common.{◌≡◌, ℕ, ◌<◌, true, false, List, [], ◌∷◌, arith, length, slice_index_or, subst}
 use Rattle.atomic_table.specs.Seated.{TableId}
 use Rattle.board_work.specs.Workers.{Each, EachOf, SomeAt, WorkerFor, HasSeenStop, IsFinished, HasWorked}
 

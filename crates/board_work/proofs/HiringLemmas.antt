@@ -1,6 +1,7 @@
 -- Lists of workers that grow and shrink, and what a split makes of the first seat.
-use Rattle.std.proofs.Common.{◌≡◌, ℕ, zero, suc, ◌+◌, ◌<◌, ◌≤◌, Option, None, List, [], ◌∷◌, ◌++◌, length, remove, slice_index_or, vec_capacity, arith, refl, sym, ap, ◌∙◌, subst}
+use Rattle.std.proofs.Common.{◌≡◌, ℕ, zero, suc, ◌+◌, ◌≤◌, Option, None, List, [], ◌∷◌, ◌++◌, length, remove, slice_index_or, vec_capacity, arith, refl, sym, ap, ◌∙◌, subst}
 use Rattle.std.proofs.lemmas.List.{append-nil, length-append}
+use Rattle.limits.specs.Limits.{most_jobs}
 use Rattle.atomic_table.specs.Seated.{TableId}
 use Rattle.atomic_table.specs.declared.shared.Seat.{Seat}
 use Rattle.board_core.specs.declared.event.Event.{Event}
@@ -43,7 +44,7 @@ each-last holds (y ∷ ys) x each = each-last (λ k. holds (suc k)) ys x (each-r
 module _ {W M : Type 0} (lock : TableId) (board : History W) where
   -- a worker at a seat that was split off
   pub split-member : (seat : Sitting W) (n : ℕ) (worker : WorkerFor W M) (new : Seat (Option (History W)) (View W M)) → seat ≡ first_with board n
-      → IsSeatOf lock new → sitting new ≡ split_from seat → worker.seat ≡ new → 512 ≤ vec_capacity worker.deps → IsMember lock board (suc n) worker
+      → IsSeatOf lock new → sitting new ≡ split_from seat → worker.seat ≡ new → most_jobs ≤ vec_capacity worker.deps → IsMember lock board (suc n) worker
   split-member seat n worker new first of is at room =
       let now : sitting worker.seat ≡ split_from (first_with board n) = ap sitting at ∙ is ∙ ap split_from first in
       record {
@@ -55,7 +56,7 @@ module _ {W M : Type 0} (lock : TableId) (board : History W) where
 
   -- the worker at the first seat, once the others are split off
   pub first-member : (n : ℕ) (worker : WorkerFor W M) (first : Seat (Option (History W)) (View W M)) → sitting first ≡ first_with board n
-      → IsSeatOf lock first → worker.seat ≡ first → 512 ≤ vec_capacity worker.deps → IsMember lock board 0 worker
+      → IsSeatOf lock first → worker.seat ≡ first → most_jobs ≤ vec_capacity worker.deps → IsMember lock board 0 worker
   first-member n worker first is of at room =
       let now : sitting worker.seat ≡ first_with board n = ap sitting at ∙ is in
       record {
@@ -66,7 +67,7 @@ module _ {W M : Type 0} (lock : TableId) (board : History W) where
       }
 
   pub crew-of : (n : ℕ) (worker : WorkerFor W M) (first : Seat (Option (History W)) (View W M)) (others : List (WorkerFor W M)) → sitting first ≡ first_with board n
-      → IsSeatOf lock first → worker.seat ≡ first → 512 ≤ vec_capacity worker.deps → n ≡ length others
+      → IsSeatOf lock first → worker.seat ≡ first → most_jobs ≤ vec_capacity worker.deps → n ≡ length others
       → Each (λ k. IsMember lock board (suc k)) others → IsCrew lock board (worker ∷ others)
   crew-of n worker first others is of at room long each =
       record {

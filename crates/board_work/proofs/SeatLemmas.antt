@@ -1,5 +1,5 @@
 -- What a seat says of the board that it has, and what an event that it notes makes of it.
-use Rattle.std.proofs.Common.{◌≡◌, ◌≢◌, ℕ, ◌<◌, ◌++◌, Bool, true, false, inl, inr, Option, None, Some, List, [], ◌∷◌, Contains, arith, refl, sym, ap, ◌∙◌, subst}
+use Rattle.std.proofs.Common.{◌≡◌, ◌≢◌, ℕ, ◌<◌, ◌++◌, Bool, true, false, inl, inr, Option, None, Some, List, [], ◌∷◌, Contains, arith, refl, sym, ap, ◌∙◌, subst, append_assoc}
 use Rattle.std.proofs.lemmas.List.{append_cancel_left}
 use Rattle.std.proofs.lemmas.List.Elements.{Contains-append_right}
 use Rattle.board_core.specs.declared.event.Event.{Event}
@@ -17,7 +17,7 @@ use Rattle.board_work.specs.declared.turns.Hand.{Hand}
 use Rattle.board_work.specs.declared.turns.Hand.TheVariants.{Empty, Full}
 use Rattle.board_work.specs.declared.turns.Next.{Next}
 use Rattle.board_work.specs.declared.turns.Next.TheVariants.{Make, Sleep, Done, Stopped}
-use Rattle.board_work.specs.Turns.{IsAtBoard, Holds, IsIdle, IsResultOf, IsMadeOf, IsInHand, IsNextFor}
+use Rattle.board_work.specs.Turns.{IsAtBoard, Holds, IsIdle, IsResultOf, IsMadeOf, IsInHand, IsNextFor, handing_in, IsChosen, HandsInFirst, IsTurn}
 use Rattle.board_work.specs.Workers.{IsSameSeat, AllJobsOut}
 
 -- ---- lists of own events
@@ -107,10 +107,6 @@ module _ {W : Type 0} where
       } in
       subst (λ s. IsAtBoard s new) (sym noted) (subst (IsAtBoard (with_noted event seat)) (sym added) then)
 
-  pub same-noted : (seat now : Sitting W) (event : Event) → now ≡ with_noted event seat → IsSameSeat seat now
-  same-noted seat now event noted =
-      record { program = ap (λ s. s.program) noted; number = ap (λ s. s.number) noted; splits = ap (λ s. s.splits) noted; taken = ap (λ s. s.taken) noted }
-
   -- it holds no job once it has handed in what it held
   pub idle-handed-in : (seat now : Sitting W) (worker job : ℕ) → now ≡ with_noted (Publish worker job) seat → IsIdle now
   idle-handed-in seat now worker job noted = ap (λ (s : Sitting W). held_from None s.own) noted ∙ held-after None seat.own (Publish worker job)
@@ -155,9 +151,6 @@ module _ {W M : Type 0} (made : W → ℕ → List M → M) (seat : Sitting W) (
         all_out = subst (λ (l : List Event). AllOut (program_of made board) (replay (program_of made board) l)) at.front_is done.all_out;
       }
 
-  pub seen-on-board : SomebodyStopped board.events → SomebodyStopped seat.front
-  seen-on-board stopped = subst SomebodyStopped at.front_is stopped
-
   pub none-on-board : ¬ SomebodyStopped board.events → ¬ SomebodyStopped seat.front
   none-on-board going stopped = going (subst SomebodyStopped (sym at.front_is) stopped)
 
@@ -201,3 +194,26 @@ module _ {W M : Type 0} (made : W → ℕ → List M → M) where
 pub same-then : {W : Type 0} (first then last : Sitting W) → IsSameSeat first then → IsSameSeat then last → IsSameSeat first last
 same-then first then last one two =
     record { program = two.program ∙ one.program; number = two.number ∙ one.number; splits = two.splits ∙ one.splits; taken = two.taken ∙ one.taken }
+
+-- ---- what a worker has noted in a turn
+
+pub a-turn : {W A : Type 0} (position worker : ℕ) (hand : Hand A) (next : Next) (old entered handed done new : Sitting W) → worker ≡ position → entered.own ≡ old.own
+    → handed.own ≡ entered.own ++ handing_in worker hand → (chosen : List Event) → done.own ≡ handed.own ++ chosen → IsChosen worker next chosen → new ≡ without_turn done
+    → IsTurn position hand next old new
+a-turn position worker hand next old entered handed done new number first second chosen third is last =
+    record {
+      chosen = chosen;
+      own_is =
+          ap (λ (s : Sitting _). s.own) last ∙ third
+          ∙ ap (λ (l : List Event). l ++ chosen) (second ∙ ap (λ (w : ℕ). entered.own ++ handing_in w hand) number ∙ ap (λ (l : List Event). l ++ handing_in position hand) first);
+      chosen_is = subst (λ (w : ℕ). IsChosen w next chosen) number is;
+    }
+
+-- what it notes later comes behind
+pub hands-in-first : {W A : Type 0} (position : ℕ) (hand : Hand A) (next : Next) (old then new : Sitting W) → IsTurn position hand next old then → (later : List Event) → new.own ≡ then.own ++ later
+    → HandsInFirst position hand old new
+hands-in-first position hand next old then new turn later is =
+    record {
+      later = turn.chosen ++ later;
+      own_is = is ∙ ap (λ (l : List Event). l ++ later) turn.own_is ∙ append_assoc (old.own ++ handing_in position hand) turn.chosen later;
+    }

@@ -1,8 +1,10 @@
 -- A worker between two calls: what its seat says of the board that it has, and of the job that it holds.
-use Rattle.std.specs.Prelude.{◌≡◌, ℕ, ◌<◌, true, false, None, Some, List}
+use Rattle.std.specs.Prelude.{◌≡◌, ◌⊎◌, ℕ, ◌<◌, true, false, None, Some, List, [], ◌∷◌, ◌++◌}
 use Rattle.board_core.specs.Answers.{answer}
 use Rattle.board_core.specs.Calls.{SomebodyStopped}
 use Rattle.board_core.specs.History.{History, program_of}
+use Rattle.board_core.specs.declared.event.Event.{Event}
+use Rattle.board_core.specs.declared.event.Event.TheVariants.{Claim, Publish, Stop}
 use Rattle.board_laws.specs.OwnEvents.{own_events, held_from, has_stop}
 use Rattle.board_lock.specs.Rule.{opening}
 use Rattle.board_lock.specs.Seats.{Sitting}
@@ -54,3 +56,29 @@ module _ {W M : Type 0} (made : W → ℕ → List M → M) where
   IsNextFor jobs seat deps (Sleep seen) = IsIdle seat
   IsNextFor jobs seat deps Done = IsIdle seat × (¬ SomebodyStopped seat.front) × AllJobsOut made seat
   IsNextFor jobs seat deps Stopped = IsIdle seat × SomebodyStopped seat.front
+
+-- ---- what a worker notes while it has the board
+
+-- it hands in what it has in hand
+abbrev pub handing_in : {A : Type 0} → (worker : ℕ) → Hand A → List Event
+handing_in worker Empty = []
+handing_in worker (Full job it) = Publish worker job ∷ []
+
+-- once it holds no job: that it claims one; nothing; or that it stops, where memory for a claim was refused
+abbrev pub IsChosen : (worker : ℕ) → Next → List Event → Type 0
+IsChosen worker (Make job) noted = noted ≡ Claim worker job ∷ []
+IsChosen worker (Sleep seen) noted = noted ≡ []
+IsChosen worker Done noted = noted ≡ []
+IsChosen worker Stopped noted = (noted ≡ []) ⊎ (noted ≡ Stop worker ∷ [])
+
+-- These are the first events more: what is made is handed in first, whatever the other workers have done.
+pub record HandsInFirst {W A : Type 0} (worker : ℕ) (hand : Hand A) (old new : Sitting W) : Type 0 where
+  pub later : List Event
+  pub own_is : new.own ≡ old.own ++ handing_in worker hand ++ later
+
+-- One turn: it hands in what it has in hand and then, holding no job, notes what follows the answer to its claim. So it
+-- stops in a turn only where it holds no job.
+pub record IsTurn {W A : Type 0} (worker : ℕ) (hand : Hand A) (next : Next) (old new : Sitting W) : Type 0 where
+  pub chosen : List Event
+  pub own_is : new.own ≡ old.own ++ handing_in worker hand ++ chosen
+  pub chosen_is : IsChosen worker next chosen

@@ -1,5 +1,6 @@
 -- Workers of a shared board: what is asked of each, and what is known of it when it has returned.
-use Rattle.std.specs.Prelude.{◌≡◌, ℕ, ◌<◌, ◌≤◌, ◌↔◌, Bool, true, false, Option, None, Some, List, length, slice_index_or, vec_capacity, IsTrue}
+use Rattle.std.specs.Prelude.{◌≡◌, ℕ, ◌<◌, ◌≤◌, true, false, Option, None, Some, List, length, slice_index_or, vec_capacity}
+use Rattle.limits.specs.Limits.{most_jobs}
 use Rattle.atomic_table.specs.Seated.{TableId}
 use Rattle.atomic_table.specs.declared.shared.Seat.{Seat}
 use Rattle.board_core.specs.Board.{replay}
@@ -45,9 +46,9 @@ pub record AllJobsOut {W M : Type 0} (made : W → ℕ → List M → M) (seat :
 module _ {W M : Type 0} where
   -- ---- what is asked of a worker at a position
 
-  -- it has room for the results of 512 jobs
+  -- it has room for the results of all jobs of a board
   abbrev pub HasRoom : ℕ → WorkerFor W M → Type 0
-  HasRoom position worker = 512 ≤ vec_capacity worker.deps
+  HasRoom position worker = most_jobs ≤ vec_capacity worker.deps
 
   -- its seat is the seat of this lock whose number is the position
   abbrev pub IsSeated : TableId → ℕ → WorkerFor W M → Type 0

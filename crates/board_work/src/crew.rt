@@ -1,4 +1,5 @@
-// The workers of a shared board.
+//! The workers of a shared board, at work.
+
 ghost use Rattle.std.specs.Prelude.{◌≡◌, ◌<◌, ◌↔◌, Ok, Err, true, false, vec_len, length, OnOk, MatchBool, IsErr};
 ghost use Rattle.board_lock.specs.Locks.{lock_of};
 ghost use Rattle.board_work.specs.Workers.{Each, EachOf, SomeAt, MayWork, HasWorked, HasSeenStop, IsFinished};
@@ -55,14 +56,14 @@ fn is_some_stopped<S, M>(workers: &[WorkerOf<S, M>]) -> bool
     false
 }
 
-/// Has the workers claim, make and hand in jobs, each in a thread of its own where one can be
-/// made, until all jobs are out or a worker has stopped. The worker at each position is the one
-/// of that number: its seat is that of the shared board, without the turn, and of a board for
-/// this work; it holds no job, and has room for 512 results. `gate.pass` is called for each job
-/// after its claim and before it is made, without the board. A worker for whose claim or result
-/// there is no memory stops. `Ok` only where all jobs are out and nobody has stopped,
-/// `NoMemory` exactly where somebody has. All workers have then returned, and each may work
-/// again by the seat that it had. Nothing is promised of their returning.
+/// Has the workers claim, make and hand in jobs, each in a thread of its own where one can be made,
+/// until all jobs are out or a worker has stopped. The worker at each position is the one of that
+/// number: its seat is that of the shared board, without the turn, and of a board for this work; it
+/// holds no job, and has room for `MOST_JOBS` results. `gate.pass` is called for each job after its
+/// claim and before it is made, without the board. A worker for whose claim or result there is no
+/// memory stops. `Ok` only where all jobs are out and nobody has stopped, `NoMemory` exactly where
+/// somebody has. All workers have then returned, and each may work again by the seat that it had.
+/// Nothing is promised of their returning.
 pub fn work<H: Threads + Wait + Sync, W: Work, G: Gate>(
     rt: &H,
     alloc: Global,

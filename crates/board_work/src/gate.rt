@@ -1,4 +1,5 @@
-// What a worker passes before it makes.
+//! The gate, which a worker passes before it makes a job.
+
 use std::hint;
 use std::sync::atomic::{AtomicBool, AtomicU64, Ordering};
 

@@ -1,5 +1,7 @@
-// All workers of a shared board.
+//! How all workers of a shared board are hired and dismissed.
+
 ghost use Rattle.std.specs.Prelude.{◌≡◌, ◌<◌, ◌≤◌, suc, vec_capacity, vec_len, IfOk, List};
+ghost use Rattle.limits.specs.Limits.{most_jobs};
 ghost use Rattle.board_core.specs.declared.event.Event.{Event};
 ghost use Rattle.board_core.specs.History.{History};
 ghost use Rattle.board_lock.specs.Locks.{lock_of};
@@ -10,19 +12,17 @@ ghost use Rattle.board_work.specs.Workers.{Each};
 use crate::worker::{Worker, WorkerOf};
 use board_core::{Board, Work};
 use board_lock::{Seat, Shared};
+use limits::MOST_JOBS;
 use no_memory::NoMemory;
 use std::alloc::Global;
 
-// How many results a worker has room for: as many as a board has jobs at most.
-const ROOM: usize = 512;
-
-// A worker at this seat.
+// A worker at this seat. It has room for as many results as a board has jobs at most.
 fn hired<S: Drop, M: Drop>(alloc: Global, seat: S) -> Result<WorkerOf<S, M>, NoMemory>
-    ensures { IfOk result (λ worker. (worker.seat ≡ seat) × (512 ≤ vec_capacity worker.deps)) }
+    ensures { IfOk result (λ worker. (worker.seat ≡ seat) × (most_jobs ≤ vec_capacity worker.deps)) }
 {
     Ok(WorkerOf {
         seat,
-        deps: Vec::with_capacity(alloc, ROOM)?,
+        deps: Vec::with_capacity(alloc, MOST_JOBS)?,
         stopped: false,
     })
 }

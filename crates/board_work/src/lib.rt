@@ -1,7 +1,8 @@
-//! Workers that drive a shared board until no job is left to claim. Of the repository it stands on
-//! `board_lock`, `board_laws`, `board_core` and `no_memory`. Promise: the contract of `work`, over
-//! every work and however the steps of the workers interleave. That the workers return, and that
-//! two of them make at once, is not promised.
+//! Workers that drive a shared board, each in a thread of its own: they claim, make and hand in.
+//! They go on until no job is left to claim. Promise: the contract of `work`, over every work and
+//! however the steps of the workers interleave. That the workers return, and that two of them make
+//! at once, is not promised.
+//! Always: a worker that has a job to make holds it.
 #![tactic(auto)]
 
 mod crew;

@@ -1,12 +1,14 @@
-// What one worker does until no job is left to claim.
-ghost use Rattle.std.specs.Prelude.{◌≡◌, ◌<◌, true, false, None, map, IfOk, IfSome, IfNone};
+//! What one worker does until no job is left to claim.
+
+ghost use Rattle.std.specs.Prelude.{◌≡◌, ◌<◌, ◌∷◌, ◌++◌, [], List, true, false, None, map, IfOk, IfSome, IfNone};
 ghost use Rattle.std.specs.Arc.{arc_value};
 ghost use Rattle.board_core.specs.Calls.{SomebodyStopped};
+ghost use Rattle.board_core.specs.declared.event.Event.{Event};
 ghost use Rattle.board_laws.specs.OwnEvents.{has_stop};
 ghost use Rattle.board_lock.specs.Locks.{lock_of};
 ghost use Rattle.board_lock.specs.Seats.{sitting};
 ghost use Rattle.board_work.specs.Workers.{IsResting, IsSameSeat, WorksAt, MayWork, HasEnded, HasWorked};
-ghost use Rattle.board_work.specs.Turns.{IsIdle, Holds, IsMadeOf, IsInHand};
+ghost use Rattle.board_work.specs.Turns.{IsIdle, Holds, IsMadeOf, IsInHand, HandsInFirst};
 
 use crate::gate::Gate;
 use crate::turns::{Hand, Next, enter, stop, turn};
@@ -39,6 +41,8 @@ fn give_up<H: Wait, W: Work>(rt: &H, shared: &Shared<W>, worker: &mut Worker<W>,
     requires going { has_stop (sitting worker.old.seat).own ≡ false }
     ensures rests { IsResting (lock_of shared.now) position worker.new }
     ensures same { IsSameSeat (sitting worker.old.seat) (sitting worker.new.seat) }
+    ensures noted { (sitting worker.new.seat).own
+        ≡ (sitting worker.old.seat).own ++ Event.Stop position ∷ [] }
     ensures idle { IsIdle (sitting worker.new.seat) }
     ensures stopped { SomebodyStopped (sitting worker.new.seat).front }
 {
@@ -77,6 +81,8 @@ fn make<H: Wait, W: Work>(
         (map arc_value worker.old.deps.items) }
     ensures rests { IsResting (lock_of shared.now) position worker.new }
     ensures same { IsSameSeat (sitting worker.old.seat) (sitting worker.new.seat) }
+    ensures later { (later : List Event)
+        × ((sitting worker.new.seat).own ≡ (sitting worker.old.seat).own ++ later) }
     ensures goes_on { IfSome result
         (λ hand. IsInHand W.made arc_value (sitting worker.new.seat) hand) }
     ensures ends { IfNone result (HasEnded W.made position worker.new) }
@@ -91,6 +97,7 @@ fn make<H: Wait, W: Work>(
 }
 
 // One turn, and what follows it. Gives what the worker has in hand, or nothing where it has ended.
+// What it had in hand is handed in before it notes anything else.
 fn go_on<H: Wait, W: Work, G: Gate>(
     rt: &H,
     alloc: Global,
@@ -108,6 +115,8 @@ fn go_on<H: Wait, W: Work, G: Gate>(
     ensures same { IsSameSeat (sitting worker.old.seat) (sitting worker.new.seat) }
     ensures goes_on { IfSome result
         (λ hand. IsInHand W.made arc_value (sitting worker.new.seat) hand) }
+    ensures handed_in { HandsInFirst position hand (sitting worker.old.seat)
+        (sitting worker.new.seat) }
     ensures ends { IfNone result (HasEnded W.made position worker.new) }
 {
     match turn(rt, shared, worker, position, hand) {

@@ -1,4 +1,5 @@
-// Workers cross threads.
+//! The law that workers cross threads.
+
 use crate::worker::Worker;
 use board_core::Work;
 

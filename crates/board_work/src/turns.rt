@@ -1,12 +1,14 @@
-// What a worker does while it has the board.
-ghost use Rattle.std.specs.Prelude.{◌≡◌, ◌≤◌, false, None, Some, map, vec_capacity};
+//! What a worker does while it has the board.
+
+ghost use Rattle.std.specs.Prelude.{◌≡◌, ◌≤◌, ◌++◌, List, false, None, Some, map, vec_capacity};
 ghost use Rattle.std.specs.Arc.{arc_value};
+ghost use Rattle.limits.specs.Limits.{most_jobs};
 ghost use Rattle.board_core.specs.declared.event.Event.{Event};
 ghost use Rattle.board_laws.specs.OwnEvents.{held_from, has_stop};
 ghost use Rattle.board_lock.specs.Locks.{lock_of};
 ghost use Rattle.board_lock.specs.Seats.{IsSeatOf, sitting, with_noted};
 ghost use Rattle.board_work.specs.Workers.{IsResting, IsSameSeat};
-ghost use Rattle.board_work.specs.Turns.{IsAtBoard, Holds, IsIdle, IsResultOf, IsMadeOf, IsInHand, IsNextFor};
+ghost use Rattle.board_work.specs.Turns.{IsAtBoard, IsIdle, IsResultOf, IsInHand, IsNextFor, IsChosen, IsTurn, handing_in};
 
 use crate::worker::Worker;
 use board_core::laws::deps_give_answer;
@@ -117,6 +119,7 @@ fn empty_hand<W: Work>(
     ensures board { IsAtBoard (sitting seat.new) board.new }
     ensures same { IsSameSeat (sitting seat.old) (sitting seat.new) }
     ensures idle { IsIdle (sitting seat.new) }
+    ensures noted { (sitting seat.new).own ≡ (sitting seat.old).own ++ handing_in worker hand }
 {
     if let Hand::Full(job, made) = hand {
         hand_in(shared, seat, board, worker, job, made);
@@ -135,13 +138,16 @@ fn choose<W: Work>(
     requires board { IsAtBoard (sitting seat.old) board.old }
     requires number { (sitting seat.old).number ≡ worker }
     requires idle { IsIdle (sitting seat.old) }
-    requires room { 512 ≤ vec_capacity deps.old }
+    requires room { most_jobs ≤ vec_capacity deps.old }
     ensures seat { IsSeatOf (lock_of shared.now) seat.new }
     ensures board { IsAtBoard (sitting seat.new) board.new }
     ensures same { IsSameSeat (sitting seat.old) (sitting seat.new) }
     ensures next { IsNextFor W.made W.jobs (sitting seat.new)
         (map arc_value deps.new.items) result }
-    ensures room { 512 ≤ vec_capacity deps.new }
+    ensures noted { (chosen : List Event)
+        × ((sitting seat.new).own ≡ (sitting seat.old).own ++ chosen)
+        × IsChosen worker result chosen }
+    ensures room { most_jobs ≤ vec_capacity deps.new }
 {
     let _events = board.events();
     own_events_decide::<W::Made>();
@@ -186,7 +192,8 @@ fn wake_for<W: Work>(shared: &Shared<W>, is_more: bool) {
     }
 }
 
-/// One turn of a worker: it hands in what it has made, and claims the next job.
+/// One turn of a worker: it hands in what it has made, and claims the next job. What it has made is
+/// handed in also where another worker has stopped.
 pub(crate) fn turn<H: Wait, W: Work>(
     rt: &H,
     shared: &Shared<W>,
@@ -200,6 +207,8 @@ pub(crate) fn turn<H: Wait, W: Work>(
     ensures same { IsSameSeat (sitting worker.old.seat) (sitting worker.new.seat) }
     ensures next { IsNextFor W.made W.jobs (sitting worker.new.seat)
         (map arc_value worker.new.deps.items) result }
+    ensures turn { IsTurn position hand result (sitting worker.old.seat)
+        (sitting worker.new.seat) }
 {
     let (mut board, number) = enter(rt, shared, &mut worker.seat, position);
     empty_hand(shared, &mut worker.seat, &mut board, number, hand);

@@ -1,4 +1,5 @@
-// A worker of a shared board.
+//! A worker of a shared board.
+
 use board_core::Work;
 use board_lock::Seat;
 use std::sync::Arc;

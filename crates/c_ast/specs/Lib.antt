@@ -1,5 +1,4 @@
 pub mod Nonterminals
-pub mod Bare
 pub mod Declarations
 pub mod Expressions
 pub mod Externals

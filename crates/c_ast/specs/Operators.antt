@@ -1,4 +1,5 @@
--- Operators: how they are written, and the productions that they stand in.
+-- Operators: how they are written and read, and the productions that they stand in.
+use Rattle.std.specs.Prelude.{Option, None, Some}
 use Rattle.c_lex.specs.declared.punct.Punct.{Punct}
 use Rattle.c_lex.specs.declared.punct.Punct.TheVariants as m
 use Rattle.c_ast.specs.declared.operator.Selection.{Selection}
@@ -87,3 +88,59 @@ assign_mark assign.ShiftRight = m.ShiftRightEqual
 assign_mark assign.BitAnd = m.AmpEqual
 assign_mark assign.BitXor = m.CaretEqual
 assign_mark assign.BitOr = m.PipeEqual
+
+-- ---- the operators that a punctuator is read as: each the inverse of how it is written
+
+unfoldable pub selection_of : Punct → Option Selection
+selection_of m.Dot = Some selection.Dot
+selection_of m.Arrow = Some selection.Arrow
+selection_of _ = None
+
+unfoldable pub inc_dec_of : Punct → Option IncDec
+inc_dec_of m.PlusPlus = Some step.Increment
+inc_dec_of m.MinusMinus = Some step.Decrement
+inc_dec_of _ = None
+
+unfoldable pub unary_of : Punct → Option UnaryOp
+unary_of m.Amp = Some unary.AddressOf
+unary_of m.Star = Some unary.Deref
+unary_of m.Plus = Some unary.Plus
+unary_of m.Minus = Some unary.Minus
+unary_of m.Tilde = Some unary.BitNot
+unary_of m.Bang = Some unary.Not
+unary_of _ = None
+
+unfoldable pub binary_of : Punct → Option BinaryOp
+binary_of m.Star = Some binary.Multiply
+binary_of m.Slash = Some binary.Divide
+binary_of m.Percent = Some binary.Remainder
+binary_of m.Plus = Some binary.Add
+binary_of m.Minus = Some binary.Subtract
+binary_of m.ShiftLeft = Some binary.ShiftLeft
+binary_of m.ShiftRight = Some binary.ShiftRight
+binary_of m.Less = Some binary.Less
+binary_of m.Greater = Some binary.Greater
+binary_of m.LessEqual = Some binary.LessEqual
+binary_of m.GreaterEqual = Some binary.GreaterEqual
+binary_of m.EqualEqual = Some binary.Equal
+binary_of m.BangEqual = Some binary.NotEqual
+binary_of m.Amp = Some binary.BitAnd
+binary_of m.Caret = Some binary.BitXor
+binary_of m.Pipe = Some binary.BitOr
+binary_of m.AmpAmp = Some binary.And
+binary_of m.PipePipe = Some binary.Or
+binary_of _ = None
+
+unfoldable pub assign_of : Punct → Option AssignOp
+assign_of m.Equal = Some assign.Plain
+assign_of m.StarEqual = Some assign.Multiply
+assign_of m.SlashEqual = Some assign.Divide
+assign_of m.PercentEqual = Some assign.Remainder
+assign_of m.PlusEqual = Some assign.Add
+assign_of m.MinusEqual = Some assign.Subtract
+assign_of m.ShiftLeftEqual = Some assign.ShiftLeft
+assign_of m.ShiftRightEqual = Some assign.ShiftRight
+assign_of m.AmpEqual = Some assign.BitAnd
+assign_of m.CaretEqual = Some assign.BitXor
+assign_of m.PipeEqual = Some assign.BitOr
+assign_of _ = None

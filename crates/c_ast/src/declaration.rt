@@ -1,3 +1,4 @@
+//! Declarations of variables in blocks: declarators, dimensions and initialisers.
 #![tactic(auto, using(crate::proofs::StartLemmas::starts))]
 
 ghost use Rattle.std.specs.Prelude.{◌≡◌, Some};

@@ -1,3 +1,4 @@
+//! Expressions, with the parentheses that are written, and type names.
 #![tactic(auto, using(crate::proofs::StartLemmas::starts))]
 
 ghost use Rattle.std.specs.Prelude.{◌≡◌, Some};

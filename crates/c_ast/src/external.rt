@@ -1,3 +1,4 @@
+//! Translation units: structures, variables at file scope, and functions with their parameters.
 #![tactic(auto, using(crate::proofs::StartLemmas::starts))]
 
 ghost use Rattle.std.specs.Prelude.{◌≡◌, ◌↔◌, IsTrue, Some};

@@ -1,5 +1,6 @@
-//! The syntax tree of a program (ISO 9899:2011, 6.5 to 6.9): its types, the grammar that a shaped
-//! tree follows, and how a tree is spelled. The parser makes trees, and the checker reads them.
+//! The syntax tree of a program, and the grammar that it follows (ISO 9899:2011, 6.5 to 6.9). The
+//! grammar is a table of productions; beside it stand the spelling of a tree, its offsets and its
+//! nesting.
 #![tactic(auto)]
 
 mod declaration;

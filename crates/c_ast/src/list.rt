@@ -1,3 +1,5 @@
+//! The elements of lists that have commas between them.
+
 use crate::Span;
 
 /// An element of a list that stands after a comma.

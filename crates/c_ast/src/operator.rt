@@ -1,3 +1,4 @@
+//! The operators of expressions, and the punctuators that spell them.
 #![tactic(auto, unfolding(crate::specs::Operators::selection_mark, crate::specs::Operators::inc_dec_mark, crate::specs::Operators::unary_mark, crate::specs::Operators::binary_mark, crate::specs::Operators::assign_mark))]
 
 ghost use Rattle.std.specs.Prelude.{◌≡◌};

@@ -1,3 +1,4 @@
+//! Type specifiers.
 #![tactic(auto, unfolding(crate::specs::Spelling::spelled))]
 
 ghost use Rattle.std.specs.Prelude.{◌≡◌, Some};

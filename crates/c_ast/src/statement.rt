@@ -1,3 +1,5 @@
+//! Statements and blocks.
+
 use crate::{Expr, ExprList, Locals, Span};
 use sqlite_items::{Boxed, Items};
 

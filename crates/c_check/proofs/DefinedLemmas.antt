@@ -18,10 +18,10 @@ use Rattle.c_ast.specs.Productions as l
 use Rattle.c_ast.specs.Statements.{block_tree}
 use Rattle.c_ast.specs.Tree.{Tree}
 use Rattle.c_ast.proofs.lemmas.Lists.{many-none}
-use Rattle.c_expression.proofs.lemmas.Lists.{many_next}
-use Rattle.c_scope.specs.Scopes.{Name}
-use Rattle.c_elaboration.specs.Externals.{is_block}
-use Rattle.c_elaboration.specs.Check.{defined_in, defined_by, defined_after_type, with_defined}
+use Rattle.c_check_expression.proofs.lemmas.Lists.{many_next}
+use Rattle.c_check_scope.specs.Scopes.{Name}
+use Rattle.c_check_def.specs.Externals.{is_block}
+use Rattle.c_check_def.specs.Check.{defined_in, defined_by, defined_after_type, with_defined}
 
 by_specifiers : (storage qualifier : Option Span) (x : Spec) (rest : Tree) → defined_by (declared_with storage qualifier x rest) ≡ defined_after_type rest
 by_specifiers (Some a) qualifier x rest = refl

@@ -23,14 +23,14 @@ use Rattle.c_ast.specs.Specifiers.{constant, stars, spec_tree}
 use Rattle.c_ast.specs.Spelling.{spelled, start_of}
 use Rattle.c_ast.specs.Tree.{Tree, Nil}
 use Rattle.c_ast.proofs.lemmas.Lists.{many-none}
-use Rattle.c_expression.proofs.lemmas.Lists.{count_many, many_next}
-use Rattle.c_scope.specs.Scopes.{Name}
-use Rattle.c_elaboration.specs.Leaves.{offset_of, name_of, count_of, is_present}
-use Rattle.c_elaboration.specs.State.{State, after}
-use Rattle.c_elaboration.specs.Specifiers.{Specified, specified_type}
-use Rattle.c_elaboration.specs.Declarators.{global_declarator, more_globals}
-use Rattle.c_elaboration.specs.Externals.{struct, function, after_name, external}
-use Rattle.c_elaboration.specs.Check.{externals}
+use Rattle.c_check_expression.proofs.lemmas.Lists.{count_many, many_next}
+use Rattle.c_check_scope.specs.Scopes.{Name}
+use Rattle.c_check_def.specs.Leaves.{offset_of, name_of, count_of, is_present}
+use Rattle.c_check_def.specs.State.{State, after}
+use Rattle.c_check_def.specs.Specifiers.{Specified, specified_type}
+use Rattle.c_check_def.specs.Declarators.{global_declarator, more_globals}
+use Rattle.c_check_def.specs.Externals.{struct, function, after_name, external}
+use Rattle.c_check_def.specs.Check.{externals}
 use Rattle.c_check.specs.Functions.{unless_broken}
 
 -- ---- specifiers

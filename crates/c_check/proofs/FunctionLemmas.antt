@@ -1,9 +1,9 @@
 -- A declaration of a function, from its steps.
 use Rattle.std.proofs.Common.{◌≡◌, ℕ, Bool, List, map, ap, ◌∙◌}
 use Rattle.c_ast.specs.Tree.{Tree}
-use Rattle.c_scope.specs.Scopes.{Name}
-use Rattle.c_elaboration.specs.State.{MaybeType, State}
-use Rattle.c_elaboration.specs.Externals.{Param, declare_function, is_block}
+use Rattle.c_check_scope.specs.Scopes.{Name}
+use Rattle.c_check_def.specs.State.{MaybeType, State}
+use Rattle.c_check_def.specs.Externals.{Param, declare_function, is_block}
 use Rattle.c_check.specs.Functions.{function_ended, function_declared}
 
 abbrev declared : Name → (offset : ℕ) → MaybeType → List Param → Bool → State → State

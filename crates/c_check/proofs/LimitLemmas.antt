@@ -9,7 +9,7 @@ use Rattle.std.proofs.lemmas.List.Sums.{sum-map, sum_by-cons, sum_by_more}
 use Rattle.limits.specs.Limits.{most_global_bytes}
 use Rattle.c_type.specs.Layout.{Definitions}
 use Rattle.c_typed.specs.Typed.{GlobalTree}
-use Rattle.c_elaboration.specs.Limits.{global_bytes, passing}
+use Rattle.c_check_def.specs.Limits.{global_bytes, passing}
 
 -- ---- sums of bytes
 

@@ -1,25 +1,24 @@
 -- Parameters add slots after those that are there.
 use Rattle.std.proofs.Common.{◌≡◌, ℕ, suc, Bool, true, false, [], ◌∷◌, ◌++◌, List, length, take, refl, Option, None, Some}
-use Rattle.std.specs.Prelude.{◌==◌, ◌&&◌, not, if◌then◌else◌}
+use Rattle.std.specs.Prelude.{◌==◌, ◌&&◌, if◌then◌else◌}
 use Rattle.c_ast.specs.Productions as l
 use Rattle.c_ast.specs.Tree.{Tree, Node, Nil, Cons}
-use Rattle.c_scope.specs.Scopes.{Name, is_declared}
-use Rattle.c_elaboration.specs.declared.rule.Rule.TheVariants.{Redeclared}
-use Rattle.c_elaboration.specs.declared.dimension.Dimension.{Dimension}
-use Rattle.c_elaboration.specs.declared.meaning.Meaning.{Meaning}
-use Rattle.c_elaboration.specs.declared.meaning.Meaning.TheVariants as means
-use Rattle.c_elaboration.specs.State.{MaybeType, State, pure, if_some, add_variable}
-use Rattle.c_elaboration.specs.Leaves.{begin_of, count_of, is_present}
-use Rattle.c_elaboration.specs.Specifiers.{Specified, specified_type}
-use Rattle.c_elaboration.specs.DeclaredTypes.{starred, type_if, small_type, elements_specified, elements_type, size_of_dimension, is_param_of, adjusted, other_is_empty, param_type}
-use Rattle.c_elaboration.specs.Declarators.{open_dimensions, is_fixed}
-use Rattle.c_elaboration.specs.Externals.{Param, declare_if, param_name, param_offset, param_at, param, more_params, is_lone_void, params, bind_if, bind_params}
-use Rattle.c_sound.proofs.lemmas.States.{stay, step_then}
-use Rattle.c_sound.proofs.lemmas.Steps.{Steps, breaks_if_steps, if_some_steps, type_if_steps, small_type_steps, starred_steps, specified_type_steps}
-use Rattle.c_sound.proofs.lemmas.StatementSteps.{open_dimensions_steps, unless_empty_steps}
-use Rattle.c_statement.proofs.lemmas.Slots.{Adds, adds_none, adds_then, keeps_slots, items_adds, entered}
+use Rattle.c_check_scope.specs.Scopes.{Name, is_declared}
+use Rattle.c_check_def.specs.declared.refusal_kind.RefusalKind.TheVariants.{Redeclared}
+use Rattle.c_check_def.specs.declared.meaning.Meaning.{Meaning}
+use Rattle.c_check_def.specs.declared.meaning.Meaning.TheVariants as means
+use Rattle.c_check_def.specs.State.{MaybeType, State, pure, add_variable}
+use Rattle.c_check_def.specs.Leaves.{begin_of, count_of, is_present}
+use Rattle.c_check_def.specs.Specifiers.{specified_type}
+use Rattle.c_check_def.specs.DeclaredTypes.{param_type}
+use Rattle.c_check_def.specs.Declarators.{open_dimensions, is_fixed}
+use Rattle.c_check_def.specs.Externals.{Param, declare_if, param_name, param_offset, param_at, param, more_params, is_lone_void, params, bind_if, bind_params}
+use Rattle.c_check_laws.proofs.lemmas.States.{step_then}
+use Rattle.c_check_laws.proofs.lemmas.Steps.{breaks_if_steps, specified_type_steps}
+use Rattle.c_check_laws.proofs.lemmas.StatementSteps.{open_dimensions_steps}
+use Rattle.c_check_arm.proofs.lemmas.Slots.{Adds, adds_none, adds_then, keeps_slots, items_adds, entered}
 use Rattle.c_check.specs.Functions.{body_items}
-use Rattle.c_sound.proofs.lemmas.Params.{adjusted_steps, param_type_steps}
+use Rattle.c_check_laws.proofs.lemmas.Params.{param_type_steps}
 
 -- ---- types of parameters
 

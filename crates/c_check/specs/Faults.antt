@@ -1,13 +1,14 @@
--- What a fault of the checker says.
-use Rattle.std.specs.Prelude.{◌≡◌, ℕ, Result, Err}
+-- What a fault of the checker says, and a limit that is passed.
+use Rattle.std.specs.Prelude.{◌≡◌, ℕ, Option, option_map, Result, Err}
 use Rattle.c_typed.specs.Typed.{ProgramTree}
-use Rattle.c_elaboration.specs.declared.rule.Rule.{Rule}
-use Rattle.c_elaboration.specs.declared.rule.Rule.TheVariants as rule
-use Rattle.c_elaboration.specs.declared.rule.Quantity.{Quantity}
-use Rattle.c_elaboration.specs.declared.rule.Quantity.TheVariants.{Functions, Parameters, ObjectBytes, GlobalBytes}
-use Rattle.c_elaboration.specs.Refusals.{Refusal, rule_broken, no_main, above_limit}
+use Rattle.c_check_def.specs.declared.refusal_kind.RefusalKind.{RefusalKind}
+use Rattle.c_check_def.specs.declared.refusal_kind.RefusalKind.TheVariants as rule
+use Rattle.c_check_def.specs.declared.refusal_kind.Quantity.{Quantity}
+use Rattle.c_check_def.specs.declared.refusal_kind.Quantity.TheVariants.{Functions, Parameters, ObjectBytes, GlobalBytes}
+use Rattle.c_check_def.specs.Refusals.{Refusal, rule_broken, no_main, above_limit}
 use Rattle.c_check.specs.declared.fault.CheckFault.{CheckFault}
 use Rattle.c_check.specs.declared.fault.CheckFault.TheVariants as fault
+use Rattle.c_check.specs.declared.quantities.Passed.{Passed}
 
 -- the numbers of the quantities
 abbrev pub quantity_number : Quantity → ℕ
@@ -17,7 +18,7 @@ quantity_number ObjectBytes = 3
 quantity_number GlobalBytes = 4
 
 -- the rule is broken at the offset
-abbrev pub Breaks : Rule → (offset : ℕ) → Result ProgramTree Refusal → Type 0
+abbrev pub Breaks : RefusalKind → (offset : ℕ) → Result ProgramTree Refusal → Type 0
 Breaks r offset answer = answer ≡ Err (rule_broken (record { rule = r; offset = offset }))
 
 -- A fault says what the answer is, unless memory ran out.
@@ -36,3 +37,11 @@ Refuses (fault.BadLabel at) answer = Breaks rule.BadLabel at answer
 Refuses (fault.NoMain at) answer = answer ≡ Err (no_main at)
 Refuses (fault.Limit at which count) answer = (q : Quantity) × (which ≡ quantity_number q) × (answer ≡ Err (above_limit q at count))
 Refuses fault.NoMemory answer = Unit {0}
+
+-- ---- limits that are passed
+
+abbrev pub refusal_of : Passed → Refusal
+refusal_of p = above_limit p.quantity p.at p.count
+
+abbrev pub maybe_refusal : Option Passed → Option Refusal
+maybe_refusal p = option_map refusal_of p

@@ -2,10 +2,10 @@
 use Rattle.std.specs.Prelude.{ℕ, false, List, [], map, is_some, if◌then◌else◌}
 use Rattle.c_ast.specs.Tree.{Tree}
 use Rattle.c_typed.specs.Typed.{ItemTrees}
-use Rattle.c_scope.specs.Scopes.{Name}
-use Rattle.c_elaboration.specs.State.{MaybeType, Elaborated, ◌>>=◌, ◌>>◌, pure, state, change}
-use Rattle.c_elaboration.specs.Externals.{Param, declare_function, bind_params, is_block, function_body, external}
-use Rattle.c_elaboration.specs.Statements.{items}
+use Rattle.c_check_scope.specs.Scopes.{Name}
+use Rattle.c_check_def.specs.State.{MaybeType, Elaborated, ◌>>=◌, ◌>>◌, pure, state, change}
+use Rattle.c_check_def.specs.Externals.{Param, declare_function, bind_params, is_block, function_body, external}
+use Rattle.c_check_def.specs.Statements.{items}
 
 -- after it is declared
 abbrev pub function_ended : Name → (offset starts : ℕ) → MaybeType → List Param → (body : Tree) → Elaborated (Unit {0})

@@ -1,7 +1,9 @@
+//! The checker as one call.
+
 ghost use Rattle.std.specs.Prelude.{◌≡◌, None, Ok, IfOk, IfErr};
 ghost use Rattle.c_ast.specs.Externals.{unit_tree};
-ghost use Rattle.c_elaboration.specs.Check.{check, judged, or_refused, externals, initial_state, defined_in};
-ghost use Rattle.c_elaboration.specs.Limits.{above_limits};
+ghost use Rattle.c_check_def.specs.Check.{check, judged, or_refused, externals, initial_state, defined_in};
+ghost use Rattle.c_check_def.specs.Limits.{above_limits};
 ghost use Rattle.c_check.specs.Faults.{Refuses, quantity_number};
 
 use crate::defined::defined_in;
@@ -10,8 +12,8 @@ use crate::fault::{CheckFault, fault_of};
 use crate::main_function::has_main;
 use crate::quantities::above_limits;
 use c_ast::Unit;
-use c_elaboration::Quantity;
-use c_state::State;
+use c_check_def::Quantity;
+use c_check_state::State;
 use c_typed::Typed;
 use no_memory::NoMemory;
 use std::alloc::Global;

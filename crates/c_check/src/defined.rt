@@ -1,12 +1,14 @@
+//! The names of the functions that a file defines.
+
 ghost use Rattle.std.specs.Prelude.{◌≡◌, ◌∷◌, [], IfOk, OnOk};
 ghost use Rattle.c_ast.specs.Nodes.{many};
 ghost use Rattle.c_ast.specs.Productions as l;
 ghost use Rattle.c_ast.specs.Externals.{external_tree, body_tree};
-ghost use Rattle.c_elaboration.specs.Externals.{is_block};
-ghost use Rattle.c_elaboration.specs.Check.{defined_in, defined_by, with_defined};
+ghost use Rattle.c_check_def.specs.Externals.{is_block};
+ghost use Rattle.c_check_def.specs.Check.{defined_in, defined_by, with_defined};
 
 use c_ast::{Body, External};
-use c_scope::Names;
+use c_check_scope::Names;
 use no_memory::NoMemory;
 use std::alloc::Global;
 

@@ -1,18 +1,20 @@
+//! The walk over the declarations of a file.
+
 ghost use Rattle.std.specs.Prelude.{◌≡◌, ◌∷◌, [], OnOk};
 ghost use Rattle.c_ast.specs.Nodes.{many};
 ghost use Rattle.c_ast.specs.Productions as l;
 ghost use Rattle.c_ast.specs.declared.external.External.TheVariants as variant;
 ghost use Rattle.c_ast.specs.Externals.{external_tree};
-ghost use Rattle.c_elaboration.specs.Externals.{external};
-ghost use Rattle.c_elaboration.specs.Check.{externals};
+ghost use Rattle.c_check_def.specs.Externals.{external};
+ghost use Rattle.c_check_def.specs.Check.{externals};
 ghost use Rattle.c_check.specs.Functions.{unless_broken};
 
 use crate::functions::function;
 use c_ast::{External, Function, Globals};
-use c_declaration::{global_declared, more_globals};
-use c_declared_type::specified_type;
-use c_state::State;
-use c_struct::structure;
+use c_check_declaration::{global_declared, more_globals};
+use c_check_external::structure;
+use c_check_state::State;
+use c_check_type::specified_type;
 use no_memory::NoMemory;
 
 /// The declarations of a file in order, up to the first one that breaks a rule (ISO/IEC 9899:2011,

@@ -1,9 +1,11 @@
+//! The faults of the checker: why a program is refused, and where.
+
 ghost use Rattle.std.specs.Prelude.{◌≡◌, Err};
-ghost use Rattle.c_elaboration.specs.Refusals.{rule_broken};
+ghost use Rattle.c_check_def.specs.Refusals.{rule_broken};
 ghost use Rattle.c_check.specs.declared.fault.CheckFault.TheVariants as fault;
 ghost use Rattle.c_check.specs.Faults.{Refuses};
 
-use c_elaboration::{Broken, Rule};
+use c_check_def::{Broken, RefusalKind};
 use no_memory::NoMemory;
 use thiserror::Error;
 
@@ -73,16 +75,16 @@ pub(crate) fn fault_of(broken: Broken) -> CheckFault
 {
     let at = broken.offset;
     match broken.rule {
-        Rule::Unknown => CheckFault::Unknown { at },
-        Rule::Redeclared => CheckFault::Redeclared { at },
-        Rule::NotAssignable => CheckFault::NotAssignable { at },
-        Rule::BadOperands => CheckFault::BadOperands { at },
-        Rule::BadCall => CheckFault::BadCall { at },
-        Rule::NotConstant => CheckFault::NotConstant { at },
-        Rule::BadInitialiser => CheckFault::BadInitialiser { at },
-        Rule::BadType => CheckFault::BadType { at },
-        Rule::BadReturn => CheckFault::BadReturn { at },
-        Rule::BadJump => CheckFault::BadJump { at },
-        Rule::BadLabel => CheckFault::BadLabel { at },
+        RefusalKind::Unknown => CheckFault::Unknown { at },
+        RefusalKind::Redeclared => CheckFault::Redeclared { at },
+        RefusalKind::NotAssignable => CheckFault::NotAssignable { at },
+        RefusalKind::BadOperands => CheckFault::BadOperands { at },
+        RefusalKind::BadCall => CheckFault::BadCall { at },
+        RefusalKind::NotConstant => CheckFault::NotConstant { at },
+        RefusalKind::BadInitialiser => CheckFault::BadInitialiser { at },
+        RefusalKind::BadType => CheckFault::BadType { at },
+        RefusalKind::BadReturn => CheckFault::BadReturn { at },
+        RefusalKind::BadJump => CheckFault::BadJump { at },
+        RefusalKind::BadLabel => CheckFault::BadLabel { at },
     }
 }

@@ -1,19 +1,22 @@
+//! Declarations and definitions of functions, with their bodies.
+
 ghost use Rattle.std.specs.Prelude.{◌≡◌, ◌∷◌, ◌++◌, [], map, length, unwrap_or, IfOk, OnOk};
 ghost use Rattle.c_ast.specs.Externals.{params as params_tree, body_tree};
 ghost use Rattle.c_ast.specs.Statements.{block_tree, items_tree};
 ghost use Rattle.c_type.specs.Trees.{void_type};
 ghost use Rattle.c_typed.specs.StmtViews.{items_of};
-ghost use Rattle.c_static.specs.Types.{is_scalar};
-ghost use Rattle.c_elaboration.specs.State.{within_scope};
-ghost use Rattle.c_elaboration.specs.Externals.{params, variable_tree, function_tree, function};
+ghost use Rattle.c_operator_def.specs.Types.{is_scalar};
+ghost use Rattle.c_check_def.specs.State.{within_scope};
+ghost use Rattle.c_check_def.specs.Externals.{params, variable_tree, function_tree, function};
 ghost use Rattle.c_check.specs.Functions.{function_declared, function_ended, body_items};
 
 use crate::defined::is_block;
 use c_ast::{Block, BlockItem, Body, Function, Identifier, Params};
-use c_declared_type::{Specified, result_type};
-use c_parameter::{Param, bind_params, declare_function, name_params, params};
-use c_state::{MaybeType, State, Variable};
-use c_statement::{Jumps, items};
+use c_check_arm::Jumps;
+use c_check_external::{Param, bind_params, declare_function, name_params, params};
+use c_check_state::{MaybeType, State, Variable};
+use c_check_statement::items;
+use c_check_type::{Specified, result_type};
 use c_type::{CType, TypeForm};
 use c_typed::{Item, TFunction, Variable as TVariable};
 use no_memory::NoMemory;

@@ -1,12 +1,14 @@
-ghost use Rattle.std.specs.Prelude.{◌≡◌, codes, IfOk, option_and_then, slice_get};
+//! The test for `main`.
+
+ghost use Rattle.std.specs.Prelude.{◌≡◌, IfOk};
 ghost use Rattle.std.specs.Option.{option_copied};
 ghost use Rattle.c_typed.specs.WellTyped.{int};
-ghost use Rattle.c_static.specs.Types.{same_type};
-ghost use Rattle.c_elaboration.specs.Check.{has_main, is_main};
+ghost use Rattle.c_operator_def.specs.Types.{same_type};
+ghost use Rattle.c_check_def.specs.Check.{has_main, is_main};
 
-use c_constant::same_type;
+use c_check_state::State;
 use c_lex::Name;
-use c_state::State;
+use c_operator::same_type;
 use c_type::{CType, Scalar};
 use c_typed::TFunction;
 use no_memory::NoMemory;

@@ -1,14 +1,16 @@
+//! The quantities that programs have limits of, and the first that a program passes.
+
 ghost use Rattle.std.specs.Prelude.{◌≡◌, ◌+◌, nat_lt, Some, None, map, if◌then◌else◌, IfOk};
 ghost use Rattle.std.specs.Option.{option_or, option_map};
 ghost use Rattle.std.specs.List.{sum};
 ghost use Rattle.limits.specs.Limits.{most_parameters, most_global_bytes, most_object_bytes, counted_bytes};
 ghost use Rattle.c_type.specs.Layout.{size};
-ghost use Rattle.c_elaboration.specs.declared.rule.Quantity.TheVariants.{Parameters, ObjectBytes, GlobalBytes};
-ghost use Rattle.c_elaboration.specs.Refusals.{above_limit};
-ghost use Rattle.c_elaboration.specs.Limits.{above_limits, many_functions, first_above, bytes_of, object_bytes, global_bytes, many_global_bytes};
-ghost use Rattle.c_check.specs.Passed.{maybe_refusal};
+ghost use Rattle.c_check_def.specs.declared.refusal_kind.Quantity.TheVariants.{Parameters, ObjectBytes, GlobalBytes};
+ghost use Rattle.c_check_def.specs.Refusals.{above_limit};
+ghost use Rattle.c_check_def.specs.Limits.{above_limits, many_functions, first_above, bytes_of, object_bytes, global_bytes, many_global_bytes};
+ghost use Rattle.c_check.specs.Faults.{maybe_refusal};
 
-use c_elaboration::Quantity;
+use c_check_def::Quantity;
 use c_type::{CType, Types, is_laid_out, size_of};
 use c_typed::{TFunction, TGlobal, Typed, Variable};
 use limits::{MOST_FUNCTIONS, MOST_GLOBAL_BYTES, MOST_OBJECT_BYTES, MOST_PARAMETERS};

@@ -1,7 +1,7 @@
 -- Reading the characters of a text one after the other.
-use Rattle.std.proofs.Common.{◌≡◌, ℕ, zero, suc, ◌+◌, ◌-◌, ◌<◌, ◌≤◌, List, [], ◌∷◌, ◌++◌, length, drop, Option, Some, None, refl, sym, ap, ◌∙◌, append_assoc, arith}
+use Rattle.std.proofs.Common.{◌≡◌, ℕ, zero, suc, ◌+◌, ◌-◌, ◌<◌, List, [], ◌∷◌, ◌++◌, length, drop, Option, Some, None, refl, sym, ap, ◌∙◌, append_assoc, arith}
 use Rattle.std.specs.Option.{option_map, option_and_then}
-use Rattle.std.proofs.lemmas.List.{drop_all, drop-drop, append-nil, length-drop}
+use Rattle.std.proofs.lemmas.List.{drop_all, drop-drop, length-drop}
 use Rattle.c_lex.specs.Quoted.{character_at, characters, with_first, only}
 
 pub characters_skip : (k : ℕ) (t : List ℕ) → characters k t ≡ characters 0 (drop k t)
@@ -65,13 +65,3 @@ characters_push cs ds v n at text all is pos e h inv =
     let step = characters_step (drop at text) v n pos e (omega (arith, length-drop at text)) in
     ap (λ xs. then_characters xs (characters 0 (drop (at + n) text))) is ∙ sym (regroup cs v (characters 0 (drop (at + n) text)))
     ∙ ap (λ r. then_characters cs (with_first v (characters 0 r))) (sym more) ∙ ap (then_characters cs) (sym step) ∙ inv
-
-pub characters_stop : (cs : List ℕ) (at : ℕ) (text : List ℕ) (all : Option (List ℕ)) → character_at (drop at text) ≡ None → at < length text →
-    then_characters cs (characters 0 (drop at text)) ≡ all → all ≡ None
-characters_stop cs at text all e h inv =
-    sym inv ∙ ap (then_characters cs) (characters_none (drop at text) e (omega (arith, length-drop at text)))
-
-pub characters_end : (cs : List ℕ) (at : ℕ) (text : List ℕ) (all : Option (List ℕ)) → length text ≤ at → then_characters cs (characters 0 (drop at text)) ≡ all → Some cs ≡ all
-characters_end cs at text all h inv =
-    let rest : drop at text ≡ [] = drop_all at text h in
-    ap Some (sym (append-nil cs)) ∙ sym (ap (λ r. then_characters cs (characters 0 r)) rest) ∙ inv

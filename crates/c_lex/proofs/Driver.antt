@@ -3,7 +3,7 @@ use Rattle.std.proofs.Common.{◌≡◌, ℕ, zero, suc, ◌+◌, ◌-◌, ◌<�
 use Rattle.std.specs.Prelude.{IfOk}
 use Rattle.std.proofs.lemmas.List.{drop_all, drop-drop, append-nil}
 use Rattle.limits.specs.Limits.{most_source_bytes, most_tokens}
-use Rattle.c_lex.specs.Results.{◌>>=◌, Gives, Fails}
+use Rattle.c_lex.specs.Results.{◌>>=◌, Gives}
 use Rattle.std.proofs.lemmas.Bool.{lt-ltb, le-ltb, ltb-true}
 use Rattle.c_lex.specs.Trivia.{include_len}
 use Rattle.c_lex.specs.Lexemes.{lexeme_at, lexeme_len}
@@ -23,10 +23,6 @@ skipped count at zero (b ∷ bs) = ap (λ a. tokens_from count a 0 (b ∷ bs)) (
 skipped count at (suc k) (b ∷ bs) =
     let same : at + 1 + k ≡ at + suc k = omega arith in
     skipped count (at + 1) k bs ∙ ap (λ a. tokens_from count a 0 (drop k bs)) same
-
--- what follows a lexeme of n bytes
-after : ℕ → ℕ → List ℕ → Lexeme → Result (List Token) LexFault
-after count at text i = lexeme_then count at (λ c n. tokens_from c (at + n) 0 (drop n text)) i
 
 step_trivia : (count at n : ℕ) (b : ℕ) (bs : List ℕ) → 0 < n → tokens_from count (at + 1) (n - 1) bs ≡ tokens_from count (at + n) 0 (drop n (b ∷ bs))
 step_trivia count at zero b bs h = absurd (omega arith)
@@ -143,25 +139,6 @@ pub ends : (ts : List Token) (count at : ℕ) (text : List ℕ) (all : Result (L
 ends ts count at text all h inv =
     let rest : drop at text ≡ [] = drop_all at text h in
     sym inv ∙ ap (λ r. tokens_then ts (tokens_from count at 0 r)) rest ∙ ap Ok (append-nil ts)
-
-refuses : (ts : List Token) (d : Result Lexeme LexFault) (from all : Result (List Token) LexFault) (e : LexFault) → Gives {X = Lexeme} (λ i. i) (Err e) d → ((f : LexFault) → d ≡ Err f →
-    from ≡ Err f) → tokens_then ts from ≡ all → Fails e all
-refuses ts d from all fault.NoMemory g stop inv = tt
-refuses ts d from all (fault.BadByte p) g stop inv = sym inv ∙ ap (tokens_then ts) (stop (fault.BadByte p) g)
-refuses ts d from all (fault.OpenComment p) g stop inv = sym inv ∙ ap (tokens_then ts) (stop (fault.OpenComment p) g)
-refuses ts d from all (fault.OpenText p) g stop inv = sym inv ∙ ap (tokens_then ts) (stop (fault.OpenText p) g)
-refuses ts d from all (fault.BadText p) g stop inv = sym inv ∙ ap (tokens_then ts) (stop (fault.BadText p) g)
-refuses ts d from all (fault.TooWide p) g stop inv = sym inv ∙ ap (tokens_then ts) (stop (fault.TooWide p) g)
-refuses ts d from all (fault.LongName p) g stop inv = sym inv ∙ ap (tokens_then ts) (stop (fault.LongName p) g)
-refuses ts d from all (fault.Directive p) g stop inv = sym inv ∙ ap (tokens_then ts) (stop (fault.Directive p) g)
-refuses ts d from all (fault.ManyTokens p) g stop inv = sym inv ∙ ap (tokens_then ts) (stop (fault.ManyTokens p) g)
-refuses ts d from all (fault.BadNumber p) g stop inv = sym inv ∙ ap (tokens_then ts) (stop (fault.BadNumber p) g)
-refuses ts d from all (fault.LongSource p) g stop inv = sym inv ∙ ap (tokens_then ts) (stop (fault.LongSource p) g)
-
-pub fails : (ts : List Token) (count at : ℕ) (text rest : List ℕ) (all : Result (List Token) LexFault) (e : LexFault) → rest ≡ drop at text →
-    Gives {X = Lexeme} (λ i. i) (Err e) (counted count at (lexeme_at at rest)) → 0 < length rest → tokens_then ts (tokens_from count at 0 (drop at text)) ≡ all → Fails e all
-fails ts count at text rest all e is g some inv =
-    refuses ts (counted count at (lexeme_at at rest)) (tokens_from count at 0 rest) all e g (λ f h. stops count at rest f h some) (ap (λ r. tokens_then ts (tokens_from count at 0 r)) is ∙ inv)
 
 pub tokens_then_none : (o : Result (List Token) LexFault) → tokens_then [] o ≡ o
 tokens_then_none (Ok more) = refl

@@ -179,10 +179,6 @@ name_read (b ∷ bs) h at more =
 
 -- ---- numbers
 
-octal_len : (n value : ℕ) → length (octal n value) ≡ n
-octal_len zero value = refl
-octal_len (suc n) value = omega (arith, length-append (octal n (value / 8)) ((value % 8 + 48) ∷ []), octal_len n (value / 8))
-
 pub all_append : (p : ℕ → Bool) (xs ys : List ℕ) → list_all p xs ≡ true → list_all p ys ≡ true → list_all p (xs ++ ys) ≡ true
 all_append p [] ys h k = k
 all_append p (x ∷ xs) ys h k =

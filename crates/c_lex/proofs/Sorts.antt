@@ -22,10 +22,6 @@ right_of : (x y : Bool) → (not x && y) ≡ true → y ≡ true
 right_of true y e = absurd cc
 right_of false y e = e
 
-not_true : (x : Bool) → x ≡ true → not x ≡ true → ⊥
-not_true true e f = absurd cc
-not_true false e f = absurd cc
-
 mark_no_letter : (b : ℕ) → is_mark b ≡ true → is_letter b ≡ true → ⊥
 mark_no_letter b m l = not_both (is_letter b) (not (is_digit b) && (not (eqb b 39) && not (eqb b 34))) l m
 

@@ -1,4 +1,5 @@
 //! The classes of bytes.
+
 ghost use Rattle.std.specs.Prelude.{◌≡◌};
 ghost use Rattle.c_lex.specs.Classes as spec;
 

@@ -1,5 +1,6 @@
 //! Digits and their values.
-ghost use Rattle.std.specs.Prelude.{◌≡◌, ◌≤◌, ◌<◌, ◌^◌, SomeIff};
+
+ghost use Rattle.std.specs.Prelude.{◌≡◌, ◌<◌, ◌^◌, SomeIff};
 ghost use Rattle.c_lex.specs.Digits as spec;
 
 use crate::classes::{is_digit, is_hex_digit};

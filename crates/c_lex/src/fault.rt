@@ -1,3 +1,5 @@
+//! The lexical faults: why a source has no tokens, and where.
+
 ghost use Rattle.std.specs.Prelude.{◌≡◌};
 ghost use Rattle.c_lex.specs.declared.fault.LexFault.TheVariants.{NoMemory};
 

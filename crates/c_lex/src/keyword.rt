@@ -1,6 +1,7 @@
+//! The keywords of C11, and which of them the language leaves out.
+
 ghost use Rattle.std.specs.Prelude.{◌≡◌, find};
-ghost use Rattle.std.specs.Str.{bytes_eq};
-ghost use Rattle.c_lex.specs.Keywords.{keyword_spelling, keyword_of, is_left_out, all_keywords};
+ghost use Rattle.c_lex.specs.Keywords.{keyword_spelling, keyword_of, is_left_out};
 
 /// A keyword of C11 (ISO 9899:2011, 6.4.1). The last 23 are not part of the language that is
 /// compiled.

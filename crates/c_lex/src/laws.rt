@@ -1,4 +1,5 @@
 //! Laws of the definition: each function has one as its contract, and does nothing.
+
 ghost use Rattle.c_lex.specs.Faults.{FaultsAreFirst};
 ghost use Rattle.c_lex.specs.Grammar.{TokensAreLongest};
 ghost use Rattle.c_lex.specs.Written.{TokensAreReadAgain};

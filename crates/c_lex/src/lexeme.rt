@@ -1,4 +1,5 @@
 //! What stands at the front of a text.
+
 ghost use Rattle.std.specs.Prelude.{◌≡◌, ◌≤◌, ◌<◌, ◌+◌, length, IfOk};
 ghost use Rattle.limits.specs.Limits.{most_source_bytes};
 ghost use Rattle.c_lex.specs.Keywords.{keyword_of};

@@ -1,4 +1,5 @@
 //! From a source to its tokens.
+
 ghost use Rattle.std.specs.Prelude.{◌≡◌, ◌≤◌, ◌<◌, ◌+◌, length, vec_len, IfOk};
 ghost use Rattle.limits.specs.Limits.{most_source_bytes, most_tokens};
 ghost use Rattle.c_lex.specs.Results.{Gives};

@@ -1,7 +1,7 @@
-//! The first phase of the front end: the tokens of a source text, or its first lexical fault with
-//! its offset (ISO 9899:2011, 6.4). The tree, the parser and the checker stand on its tokens. It
-//! promises exactly the tokens that stand in the source, each the longest run that is one, and
-//! exactly the fault that the definition names.
+//! The lexer: the tokens of a source, or its first lexical fault with its offset. Each token is the
+//! longest one that stands there (ISO 9899:2011, 6.4), and each fault is the one that the
+//! definition names.
+//! Always: offsets of tokens rise and lie within the source.
 #![tactic(auto)]
 
 mod bytes;

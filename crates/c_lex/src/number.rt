@@ -1,7 +1,6 @@
 //! Integer constants.
-ghost use Rattle.std.specs.Prelude.{◌≡◌, ◌≤◌, ◌<◌, ◌^◌, length};
-ghost use Rattle.std.specs.List.{prefix_len};
-ghost use Rattle.c_lex.specs.Classes as class;
+
+ghost use Rattle.std.specs.Prelude.{◌≡◌, ◌<◌};
 ghost use Rattle.c_lex.specs.Numbers as spec;
 ghost use Rattle.c_lex.specs.Digits.{digits_value};
 

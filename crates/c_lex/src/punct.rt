@@ -1,3 +1,5 @@
+//! The punctuators of the language, and how each is written.
+
 ghost use Rattle.std.specs.Prelude.{◌≡◌, nat_eq, find};
 ghost use Rattle.std.specs.List.{starts_with};
 ghost use Rattle.c_lex.specs.Punctuators.{punct_spelling, punct_at, puncts_beginning_with};

@@ -1,4 +1,5 @@
 //! Character constants and string literals.
+
 ghost use Rattle.std.specs.Prelude.{◌≡◌, ◌≤◌, ◌<◌, ◌+◌, false, length, IfSome, IfOk};
 ghost use Rattle.std.specs.Option.{option_and_then, option_map};
 ghost use Rattle.limits.specs.Limits.{most_source_bytes};

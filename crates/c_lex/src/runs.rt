@@ -1,4 +1,5 @@
 //! How many bytes at the front of a text are of a class.
+
 ghost use Rattle.std.specs.Prelude.{◌≡◌, ◌≤◌, length};
 ghost use Rattle.std.specs.List.{prefix_len, position_or_len};
 ghost use Rattle.c_lex.specs.Classes as class;

@@ -1,3 +1,5 @@
+//! Tokens, their kinds, and the offsets at which they stand.
+
 use crate::{Bytes, Keyword, Name, Punct};
 
 /// A token and where it stands in the source: its bytes are those from `at` up to `end`.

@@ -1,9 +1,8 @@
 //! What stands between tokens.
-ghost use Rattle.std.specs.Prelude.{◌≡◌, ◌≤◌, ◌<◌, ◌+◌, length, codes, IfSome};
+
+ghost use Rattle.std.specs.Prelude.{◌≡◌, ◌≤◌, ◌+◌, length, IfSome};
 ghost use Rattle.std.specs.Option.{option_copied};
-ghost use Rattle.std.specs.List.{position_or_len};
 ghost use Rattle.limits.specs.Limits.{most_source_bytes};
-ghost use Rattle.c_lex.specs.Classes as class;
 ghost use Rattle.c_lex.specs.Trivia as spec;
 
 use crate::LexFault;

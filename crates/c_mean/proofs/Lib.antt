@@ -1,2 +1,6 @@
 mod examples
 pub mod lemmas
+mod ExtendRuns
+mod Extends
+mod Heard
+mod TakenRuns

@@ -1,6 +1,6 @@
 -- What an expression does (ISO/IEC 9899:2011, 6.5): operands are evaluated from left to right, and what is undefined is said
 -- where it is used.
-use Rattle.std.specs.Prelude.{ℕ, ◌-◌, ◌%◌, ◌^◌, Bool, true, false, not, if◌then◌else◌, List, [], ◌∷◌, slice_get, slice_set, Option, None, Some}
+use Rattle.std.specs.Prelude.{ℕ, ◌-◌, ◌%◌, ◌^◌, true, false, not, if◌then◌else◌, List, [], ◌∷◌, slice_get, slice_set, Option, None, Some}
 use Rattle.val_core.specs.Words.{one_if}
 use Rattle.val_core.specs.declared.values.Value.{Value}
 use Rattle.val_core.specs.declared.values.Value.TheVariants.{Num, Bad}
@@ -9,7 +9,6 @@ use Rattle.val_core.specs.Objects.{Addresses}
 use Rattle.val_core.specs.Events.{wrote, took}
 use Rattle.val_core.specs.Answers.{Answer, Returned, Exited, Undefined, then_on, on_number, on_defined}
 use Rattle.val_core.specs.Within.{Given}
-use Rattle.val_core.specs.declared.operation.Op2.{Op2}
 use Rattle.val_core.specs.declared.operation.Op2.TheVariants as op
 use Rattle.c_type.specs.Trees.{TypeTree}
 use Rattle.c_typed.specs.declared.operator.UnaryOp.{UnaryOp}

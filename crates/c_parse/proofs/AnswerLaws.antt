@@ -9,12 +9,14 @@ use Rattle.c_ast.specs.Nesting.{depth, deepest, after_token}
 use Rattle.c_ast.specs.Shape.{Shaped}
 use Rattle.c_ast.specs.Spelling.{kinds, tokens_of}
 use Rattle.c_ast.specs.Tree.{Tree}
-use Rattle.c_grammar.proofs.lemmas.GrammarLaws.{one_token}
-use Rattle.c_grammar.proofs.lemmas.Spans.{kinds_append}
-use Rattle.c_parse.specs.Refusal.{FirstTooDeep, offset_of, WrongAt, Answers, Agree, OneAnswer, ShapedIsAccepted}
+use Rattle.c_parse_laws.proofs.lemmas.GrammarLaws.{one_token}
+use Rattle.c_parse_laws.proofs.lemmas.Spans.{kinds_append}
+use Rattle.c_parse.specs.Refusal.{WrongAt, Answers, Agree, OneAnswer, ShapedIsAccepted}
+use Rattle.c_parse_tokens.specs.TooDeep.{FirstTooDeep}
+use Rattle.c_parse_tokens.specs.Reading.{offset_of}
 use Rattle.c_parse.specs.declared.fault.ParseFault.{ParseFault}
 use Rattle.c_parse.specs.declared.fault.ParseFault.TheVariants as fault
-use Rattle.c_parse.proofs.lemmas.FirstDeep.{token_head, token_lower}
+use Rattle.c_parse_tokens.proofs.lemmas.FirstDeep.{token_head, token_lower}
 use Rattle.c_parse.proofs.LeftOutLaws.{none_left_out}
 
 -- ---- the depth grows with the tokens

@@ -15,7 +15,7 @@ use Rattle.c_ast.specs.Shape.{FollowsGrammar}
 use Rattle.c_ast.specs.Spelling.{spelled, tokens_of}
 use Rattle.c_ast.specs.Terminals.{Terminal, ThisKeyword, SignKeyword, is, keyword_number}
 use Rattle.c_ast.specs.Tree.{Tree, Leaf, Node, Nil, Cons}
-use Rattle.c_parse.specs.LeftOut.{is_left_out, first_left_out}
+use Rattle.c_parse_tokens.specs.LeftOut.{is_left_out, first_left_out}
 
 -- ---- terminals
 

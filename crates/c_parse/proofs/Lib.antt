@@ -1,18 +1,8 @@
-pub mod lemmas
-pub mod FlatReads
-pub mod PlainReads
-pub mod Begins
-pub mod ExternalLemmas
-pub mod StatementLemmas
-pub mod DeclarationLemmas
-pub mod ExprLemmas
-pub mod LiteralLemmas
-pub mod Marks
-pub mod OperandLemmas
-pub mod ReadLemmas
-pub mod SameNonterminal
-pub mod TypeViews
-pub mod AnswerLaws
-pub mod Counters
-pub mod ParserAnswers
-pub mod LeftOutLaws
+mod FlatReads
+mod PlainReads
+mod DeclarationLemmas
+mod StatementLemmas
+mod ExternalLemmas
+mod LeftOutLaws
+mod AnswerLaws
+mod ParserAnswers

@@ -1,5 +1,5 @@
 -- What the parser answers on the tokens of a text, and that the answer is determined.
-use Rattle.std.specs.Prelude.{◌≡◌, ℕ, ◌<◌, ◌≤◌, ⊤, List, [], ◌∷◌, ◌++◌, Some, None, Result, Ok, Err}
+use Rattle.std.specs.Prelude.{◌≡◌, ℕ, ◌≤◌, ⊤, List, Some, None, Result, Ok, Err}
 use Rattle.limits.specs.Limits.{most_nesting}
 use Rattle.c_lex.specs.declared.token.Token.{Token}
 use Rattle.c_ast.specs.declared.external.Unit as ast
@@ -8,25 +8,12 @@ use Rattle.c_ast.specs.Nesting.{depth}
 use Rattle.c_ast.specs.Shape.{Shaped}
 use Rattle.c_ast.specs.Spelling.{kinds, tokens_of}
 use Rattle.c_ast.specs.Tree.{Tree}
-use Rattle.c_grammar.specs.Beginnings.{WrongFrom}
-use Rattle.c_parse.specs.LeftOut.{first_left_out}
+use Rattle.c_parse_laws.specs.Beginnings.{WrongFrom}
+use Rattle.c_parse_tokens.specs.LeftOut.{first_left_out}
+use Rattle.c_parse_tokens.specs.Reading.{offset_of}
+use Rattle.c_parse_tokens.specs.TooDeep.{FirstTooDeep}
 use Rattle.c_parse.specs.declared.fault.ParseFault.{ParseFault}
 use Rattle.c_parse.specs.declared.fault.ParseFault.TheVariants as fault
-
--- Up to a token the nesting is at most as deep as the language allows, and with it deeper. The token is at this offset.
-pub record FirstTooDeep (ts : List Token) (offset : ℕ) : Type 0 where
-  pub before : List Token
-  pub token : Token
-  pub rest : List Token
-  pub split : ts ≡ before ++ token ∷ rest
-  pub at : offset ≡ token.at
-  pub shallow : depth (kinds before) ≤ most_nesting
-  pub deep : most_nesting < depth (kinds (before ++ token ∷ []))
-
--- where the next token stands, or the end of the text
-abbrev pub offset_of : List Token → ℕ → ℕ
-offset_of [] length = length
-offset_of (x ∷ rest) length = x.at
 
 -- The tokens begin a program up to one that no program goes on with, or end before a program does. The offset is that of
 -- the token, or the end of the text.

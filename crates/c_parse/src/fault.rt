@@ -1,7 +1,5 @@
-ghost use Rattle.std.specs.Prelude.{◌≡◌};
-ghost use Rattle.c_parse.specs.declared.fault.Fault.TheVariants as fault;
+//! The faults of the parser, as callers see them.
 
-use std::alloc::{AllocError, AllocFailed};
 use thiserror::Error;
 
 /// Why tokens have no tree, with the offset of the fault in the source, in bytes.
@@ -19,29 +17,4 @@ pub enum ParseFault {
     /// Memory ran out.
     #[error("out of memory")]
     NoMemory,
-}
-
-/// Why a nonterminal could not be read. After `Syntax` the next token is the first wrong one.
-#[derive(Clone, Copy)]
-pub enum Fault {
-    Syntax,
-    /// The grammar nests deeper than the reader's bound.
-    OutOfFuel,
-    NoMemory,
-}
-
-impl From<AllocError> for Fault {
-    ghost from_gives = { λ _ e. e ≡ fault.NoMemory };
-
-    fn from(_e: AllocError) -> Fault {
-        Fault::NoMemory
-    }
-}
-
-impl<T: Drop> From<AllocFailed<T>> for Fault {
-    ghost from_gives = { λ _ e. e ≡ fault.NoMemory };
-
-    fn from(_e: AllocFailed<T>) -> Fault {
-        Fault::NoMemory
-    }
 }

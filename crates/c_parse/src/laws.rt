@@ -1,4 +1,5 @@
 //! Laws of the parser's answers: each function has one as its contract, and does nothing.
+
 ghost use Rattle.c_parse.specs.Refusal.{OneAnswer, ShapedIsAccepted};
 
 /// Two answers on the same tokens are the same, unless memory ran out.

@@ -1,22 +1,13 @@
-//! The second phase of the front end: the one shaped tree that the tokens spell, or the first token
-//! that no program could go on with.
+//! The parser: the one syntax tree that the tokens spell, or the first wrong token.
+//! Always: recursion is bounded by the nesting, 200.
 #![tactic(auto)]
 
-mod ahead;
 mod declaration;
-mod expression;
 mod external;
 mod fault;
-mod held;
 pub mod laws;
-mod left_out;
-mod literals;
-mod nesting;
-mod operators;
 mod parser;
-mod specifier;
 mod statement;
-mod tokens;
 
 pub use fault::ParseFault;
 pub use parser::parse;

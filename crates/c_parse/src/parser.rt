@@ -1,13 +1,13 @@
+//! The parser as one call: from tokens to the tree of the translation unit, or to its fault.
 #![tactic(auto, using(crate::proofs::ParserAnswers::parser_answers))]
 
 ghost use Rattle.c_parse.specs.Refusal.{Answers};
 
-use crate::fault::{Fault, ParseFault};
-use crate::left_out::first_left_out;
-use crate::nesting::first_too_deep;
-use crate::tokens::Tokens;
+use crate::external::unit;
+use crate::fault::ParseFault;
 use c_ast::Unit;
 use c_lex::Token;
+use c_parse_tokens::{Fault, Tokens, first_left_out, first_too_deep};
 use std::alloc::Global;
 
 /// The tree of the tokens of a source of `length` bytes.
@@ -25,7 +25,7 @@ pub fn parse(alloc: Global, tokens: &[Token], length: u32) -> Result<Unit, Parse
         return Err(ParseFault::TooDeep(at));
     }
     let mut rest = Tokens::new(alloc, tokens);
-    match rest.unit(16 * (tokens.len() + 1)) {
+    match unit(&mut rest, 16 * (tokens.len() + 1)) {
         Ok(unit) if rest.is_empty() => Ok(unit),
         Ok(_) | Err(Fault::Syntax) => Err(ParseFault::Syntax(rest.offset(length))),
         Err(Fault::OutOfFuel) => unreachable!(),

@@ -1,3 +1,5 @@
+//! Tests of the lexer: tokens, faults and limits.
+
 use c_lex::{Bytes, Keyword, LexFault, Name, Token, TokenKind, lex};
 use std::alloc::{AllocError, Global};
 use std::test::Fail;

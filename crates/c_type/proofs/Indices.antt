@@ -34,9 +34,6 @@ get-set-other (x ∷ xs) (suc i) (suc j) v ne = get-set-other xs i j v (λ e. ne
 
 -- ---- indices of more tags
 
-pub pads-none : (xs : List ℕ) → Pads xs xs
-pads-none xs = record { kept = λ tag p is. is; added = λ tag p is. inl is }
-
 pub pads-one : (xs ys : List ℕ) → Pads xs ys → Pads xs (ys ++ absent ∷ [])
 pads-one xs ys h =
     record {

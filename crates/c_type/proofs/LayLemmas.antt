@@ -4,7 +4,7 @@ use Rattle.limits.specs.Limits.{most_type_bytes}
 use Rattle.c_type.specs.Trees.{TypeTree}
 use Rattle.c_type.specs.Layout.{Definitions, rounded_up, align, largest, size, members_end, offset_from, IsLaidOut}
 use Rattle.c_type.specs.WellDefined.{AreLaidOut}
-use Rattle.c_type.specs.LaidUpTo.{LaidUpTo, IsLaid, struct_bytes}
+use Rattle.c_type.specs.LaidUpTo.{LaidUpTo, struct_bytes}
 use Rattle.c_type.proofs.lemmas.Bounds.{align-between, members-between, round-lower, round-upper, end-grows}
 
 pub nothing-laid : (defs : Definitions) (ms : List TypeTree) → AreLaidOut defs ms → LaidUpTo defs ms ms [] 0 1
@@ -66,18 +66,6 @@ one-laid defs ms t ts offsets end a l small =
       by_place k h one = at_place k (either k (length offsets) (omega (arith, h, one))) where
         either : (i n : ℕ) → i < n + 1 → (i < n) ⊎ (i ≡ n)
         either i n h = grind arith
-
-pub all-laid : (defs : Definitions) (ms : List TypeTree) (offsets : List ℕ) (end a : ℕ) → LaidUpTo defs ms [] offsets end a → rounded_up end a ≤ most_type_bytes →
-    IsLaid defs ms offsets (rounded_up end a) a
-all-laid defs ms offsets end a l small =
-    let al : a ≡ largest (align defs) ms = let h = l.aligned in let p = l.positive in omega (arith, h, p) in
-    record {
-      bytes_is = ap (λ e. rounded_up e a) l.ends ∙ ap (λ x. rounded_up (members_end (size defs) (align defs) 0 ms) x) al;
-      small = small;
-      alignment_is = al;
-      count = let h = l.count in omega (arith, h);
-      offsets_are = l.offsets_are;
-    }
 
 -- what is too large on the way is too large as a whole
 pub too-large-end : (defs : Definitions) (ms : List TypeTree) (t : TypeTree) (ts : List TypeTree) (offsets : List ℕ) (end a : ℕ) → LaidUpTo defs ms (t ∷ ts) offsets end a →

@@ -5,9 +5,7 @@ use Rattle.std.specs.Prelude.{IfOk}
 use Rattle.no_memory.specs.declared.NoMemory.{NoMemory}
 use Rattle.limits.specs.Limits.{most_type_bytes}
 use Rattle.val_core.specs.declared.leaf.Leaf.{Leaf}
-use Rattle.c_type.specs.Trees.{TypeTree, scalar_type, pointer_to, array_of, struct_type}
-use Rattle.c_type.specs.declared.scalar.Scalar.{Scalar}
-use Rattle.c_type.specs.declared.scalar.Scalar.TheVariants.{Int}
+use Rattle.c_type.specs.Trees.{TypeTree, array_of, struct_type}
 use Rattle.c_type.specs.declared.structs.Struct.{Struct}
 use Rattle.c_type.specs.Layout.{Definitions, is_complete, rounded_up, align, size, largest, members, members_end, leaves_at, repeated, members_leaves}
 use Rattle.c_type.specs.LayoutLaws.{IsMultiple}
@@ -46,14 +44,6 @@ round-multiple a n pos (k, e) =
     multiple-least a q k pos (omega (arith, low, e)) (omega (arith, high, e)) ∙ sym e
 
 -- ---- each form
-
-pub normal-scalar : (defs : Definitions) (t : TypeTree) (s : Scalar) → t ≡ scalar_type s → IsNormalOf defs t (scalar_type s)
-normal-scalar defs t s is =
-    subst (λ x. IsNormalOf defs x (scalar_type s)) (sym is) (record { complete = refl; also_complete = refl; size_is = refl; align_is = refl; leaves_are = λ at. refl; normal = refl })
-
-pub normal-pointer : (defs : Definitions) (t u : TypeTree) → t ≡ pointer_to u → IsNormalOf defs t (scalar_type Int)
-normal-pointer defs t u is =
-    subst (λ x. IsNormalOf defs x (scalar_type Int)) (sym is) (record { complete = refl; also_complete = refl; size_is = refl; align_is = refl; leaves_are = λ at. refl; normal = refl })
 
 pub normal-one : (defs : Definitions) (t of u : TypeTree) (n : ℕ) → t ≡ array_of of n → n ≡ 1 → IsNormalOf defs of u → IsNormalOf defs t u
 normal-one defs t of u n is one h =

@@ -64,9 +64,6 @@ members-width defs ts = largest-width (align defs) (alignment_is_width defs) ts
 pub multiple-itself : (a : ℕ) → IsMultiple a a
 multiple-itself a = (1, omega arith)
 
-multiple-zero : (a : ℕ) → IsMultiple a 0
-multiple-zero a = (0, omega arith)
-
 pub multiple-plus : (a m n : ℕ) → IsMultiple a m → IsMultiple a n → IsMultiple a (m + n)
 multiple-plus a m n (j, e) (k, d) = (j + k, ap₂ (λ x y. x + y) e d ∙ sym (add-mul j k a))
 

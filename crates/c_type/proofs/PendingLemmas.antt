@@ -1,5 +1,5 @@
 -- Steps of a listing.
-use Rattle.std.proofs.Common.{◌≡◌, ℕ, zero, suc, ◌+◌, ◌-◌, ◌*◌, ◌<◌, ◌≤◌, false, true, List, [], ◌∷◌, ◌++◌, length, drop, refl, sym, ap, ◌∙◌, subst, arith, length-append, append_assoc, append-nil, add_assoc, add-zero, zero-add, suc-mul, Bor}
+use Rattle.std.proofs.Common.{◌≡◌, ℕ, zero, suc, ◌+◌, ◌-◌, ◌*◌, ◌<◌, ◌≤◌, false, true, List, [], ◌∷◌, ◌++◌, length, drop, refl, sym, ap, ◌∙◌, subst, arith, length-append, append_assoc, add_assoc, add-zero, zero-add, suc-mul, Bor}
 use Rattle.val_core.specs.declared.leaf.Leaf.{Leaf}
 use Rattle.limits.specs.Limits.{most_type_bytes}
 use Rattle.c_type.specs.Trees.{TypeTree, void_type, scalar_type, pointer_to, array_of, struct_type}
@@ -179,14 +179,6 @@ pub member_fits : (defs : Definitions) (ts rest : Bor (List TypeTree)) (t : Bor 
     CanGoOn defs (Members ts at end) others out → MemberFits defs at end t.now
 member_fits defs ts rest t at end others out is h =
     fits-first defs at end t.now rest.now (subst (AreLaidOut defs) is h.next_can.0) (subst (λ x. at + members_end (size defs) (align defs) end x ≤ most_type_bytes) is h.next_can.1)
-
-pub gone_none : (defs : Definitions) (ts : Bor (List TypeTree)) (at end : ℕ) (others : List Pending) (out : List Leaf) → ts.now ≡ [] → CanGoOn defs (Members ts at end) others out →
-    HasGoneOn defs (Members ts at end) others others out out
-gone_none defs ts at end others out is h =
-    let w : members_work defs ts.now ≡ 1 = ap (members_work defs) is in
-    gone defs (Members ts at end) others out out 0
-    (sym (ap (λ x. out ++ members_leaves (size defs) (align defs) (leaves_at defs) at end x) is ∙ append-nil out))
-    (omega arith) (rw w (omega arith)) h
 
 pub gone_member : (defs : Definitions) (ts rest : Bor (List TypeTree)) (t : Bor TypeTree) (at end : ℕ) (others : List Pending) (out : List Leaf) → ts.now ≡ t.now ∷ rest.now →
     CanGoOn defs (Members ts at end) others out →

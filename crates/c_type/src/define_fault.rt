@@ -1,3 +1,5 @@
+//! The reasons why a struct is not defined.
+
 ghost use Rattle.std.specs.Prelude.{◌≡◌};
 ghost use Rattle.c_type.specs.declared.define_fault.DefineFault.TheVariants.{NoMemory};
 

@@ -1,9 +1,11 @@
-ghost use Rattle.std.specs.Prelude.{◌≡◌, ℕ, ◌+◌, ◌<◌, ◌≤◌, ◌^◌, max, length, IfOk, OnOk, IfErr, OnErr};
+//! The offsets, size and alignment of a struct, and the index of its tag.
+
+ghost use Rattle.std.specs.Prelude.{◌≡◌, ◌+◌, ◌<◌, max, length, IfOk, OnOk, IfErr};
 ghost use Rattle.limits.specs.Limits.{most_type_bytes};
 ghost use Rattle.c_type.specs.WellDefined.{AreLaidOut};
 ghost use Rattle.c_type.specs.LaidUpTo.{IsLaid, struct_bytes};
 ghost use Rattle.c_type.specs.Structs.{Pads};
-ghost use Rattle.c_type.specs.declared.define_fault.DefineFault.TheVariants.{NoMemory, TooLarge};
+ghost use Rattle.c_type.specs.declared.define_fault.DefineFault.TheVariants.{TooLarge};
 
 use crate::define_fault::DefineFault;
 use crate::layout::{align_of, rounded_up, size_of};

@@ -1,4 +1,6 @@
-ghost use Rattle.std.specs.Prelude.{◌≡◌, ℕ, ◌+◌, ◌*◌, ◌<◌, ◌≤◌, ◌^◌, true, length, ◌↔◌, IsTrue, SomeIff};
+//! Completeness, sizes, alignments and offsets of types.
+
+ghost use Rattle.std.specs.Prelude.{◌≡◌, ◌+◌, ◌*◌, ◌<◌, ◌≤◌, ◌^◌, true, length, ◌↔◌, IsTrue, SomeIff};
 ghost use Rattle.limits.specs.Limits.{most_type_bytes};
 ghost use Rattle.c_type.specs.WellDefined.{AreLaidOut};
 ghost use Rattle.c_type.specs.Layout.{is_complete, is_defined, rounded_up, scalar_size, align, size, offset, members, IsLaidOut};

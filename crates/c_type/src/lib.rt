@@ -1,7 +1,6 @@
-//! The types of the language: what a C type occupies. The checker, the typed program and
-//! construction stand on it. Promise: sizes, alignments, offsets and leaves are those of the
-//! recursion on the type. Only `leaves` takes memory, and its steps are linear in its result and
-//! the height of the type.
+//! C types: what each occupies, that is its size, alignment, offsets and leaves. Only `leaves`
+//! takes memory; its steps are linear in its result and the height of the type.
+//! Always: a defined struct has at most 1,048,576 bytes.
 #![tactic(auto)]
 
 mod define_fault;
@@ -12,7 +11,6 @@ mod listing;
 mod normal;
 mod same;
 mod scalar;
-mod steps;
 mod structs;
 mod trees;
 

@@ -1,3 +1,5 @@
+//! The leaves of a type: its scalars and pointers in order of offset.
+
 ghost use Rattle.std.specs.Prelude.{◌≡◌, ◌+◌, ◌*◌, ◌<◌, ◌≤◌, ◌++◌, ◌∷◌, ◌-◌, [], OnOk, IfOk, drop, length, map};
 ghost use Rattle.c_type.specs.Layout.{size, leaves, leaves_at, repeated, IsLaidOut};
 ghost use Rattle.c_type.specs.Trees.{tree_height};
@@ -5,13 +7,13 @@ ghost use Rattle.c_type.specs.Moved.{moved, CanMove};
 ghost use Rattle.c_type.specs.Pending.{CanGoOn, HasGoneOn, IsBegun};
 
 use crate::layout::{align_of, rounded_up, size_of, width};
-use crate::steps::Steps;
 use crate::structs::Types;
 use crate::trees::{CType, TypeForm};
 use no_memory::NoMemory;
 use std::alloc::Global;
 use std::marker::Brand;
 use std::sync::ledger::{Blank, Ledger};
+use steps::Steps;
 use val_core::Leaf;
 
 // What is still to be listed. Structs nest thousands deep, so there is no recursion on them.

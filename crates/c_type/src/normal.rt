@@ -1,5 +1,6 @@
 //! Normal types: what the members of a struct occupy, without arrays of one element and structs of
 //! one member.
+
 ghost use Rattle.std.specs.Prelude.{◌≡◌, true, IfOk};
 ghost use Rattle.c_type.specs.Layout.{is_complete};
 ghost use Rattle.c_type.specs.Normal.{IsNormalOf, AreNormalOf};

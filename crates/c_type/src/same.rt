@@ -1,3 +1,5 @@
+//! Types made, copied and compared.
+
 ghost use Rattle.std.specs.Prelude.{◌≡◌, ◌↔◌, IsTrue, IfOk};
 ghost use Rattle.c_type.specs.Trees.{pointer_to, array_of, scalar_type, struct_type, void_type};
 

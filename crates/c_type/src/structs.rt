@@ -1,4 +1,6 @@
-ghost use Rattle.std.specs.Prelude.{◌≡◌, ◌<◌, ◌≤◌, ◌^◌, ◌-◌, ◌∷◌, ◌↔◌, [], false, length, OnOk, OnErr, IfOk, IfErr, vec_len, IsTrue, MatchOption, option_copied, option_and_then, slice_get};
+//! The struct definitions of a program.
+
+ghost use Rattle.std.specs.Prelude.{◌≡◌, ◌<◌, ◌≤◌, ◌^◌, ◌-◌, ◌∷◌, ◌↔◌, [], false, length, OnOk, OnErr, IfOk, IfErr, IsTrue, MatchOption, option_copied, option_and_then, slice_get};
 ghost use Rattle.limits.specs.Limits.{most_type_bytes};
 ghost use Rattle.c_type.specs.Layout.{is_defined, members, struct_size};
 ghost use Rattle.c_type.specs.WellDefined.{AreDefinitions, AreLaidOut};

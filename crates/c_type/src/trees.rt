@@ -1,3 +1,5 @@
+//! C types as trees.
+
 use crate::scalar::Scalar;
 use std::marker::Model;
 

@@ -6,6 +6,5 @@ pub mod ExprViews
 pub mod ExprHeight
 pub mod StmtViews
 pub mod StmtHeight
-pub mod ProgramViews
 pub mod WellTyped
 pub mod Objects

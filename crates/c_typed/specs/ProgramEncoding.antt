@@ -1,4 +1,4 @@
--- How the logic stores a program.
+-- How the logic stores a program, and what the written parts of its globals stand for.
 use Rattle.std.proofs.Common.{◌≡◌, ℕ, List, refl, ap}
 use Rattle.std.specs.Prelude.{Bool}
 use Rattle.std.specs.Coded.{Coded, code_by, coded×, coded_ℕ, coded_bool, coded_list}
@@ -10,6 +10,8 @@ use Rattle.c_type.specs.DefinitionEncoding.{coded_definitions}
 use Rattle.c_typed.specs.Typed.{ItemTrees, VariableTree, FunctionTree, WrittenTree, word_at, link_at, characters_at, GlobalTree, ProgramTree}
 use Rattle.c_typed.specs.ExprEncoding.{head, tail, bit_0, bit_1}
 use Rattle.c_typed.specs.StmtEncoding.{coded_items}
+use Rattle.c_typed.specs.declared.program.Written.{Written}
+use Rattle.c_typed.specs.declared.program.Written.TheVariants as form
 
 abbrev pub coded_variable : Coded VariableTree
 coded_variable = code_by (TypeTree × Bool) (coded× coded_tree coded_bool) (λ v. (v.type, v.is_object)) (λ p. record { type = p.0; is_object = p.1 }) (λ _. refl)
@@ -57,3 +59,9 @@ abbrev pub coded_program : Coded ProgramTree
 coded_program =
     code_by (Definitions × (List FunctionTree × (List GlobalTree × ℕ))) (coded× coded_definitions (coded× (coded_list coded_function) (coded× (coded_list coded_global) coded_ℕ)))
     (λ p. (p.structs, (p.functions, (p.globals, p.main)))) (λ p. record { structs = p.0; functions = p.1.0; globals = p.1.1.0; main = p.1.1.1 }) (λ _. refl)
+
+-- what a written part of a global stands for
+abbrev pub written_of : Written → WrittenTree
+written_of (form.Word offset width word) = word_at offset width word
+written_of (form.Link offset number) = link_at offset number
+written_of (form.Characters offset cs) = characters_at offset cs

@@ -1,3 +1,5 @@
+//! Typed expressions, and the objects that they designate.
+
 use crate::{BinaryOp, CompoundOp, IncDec, UnaryOp};
 use c_type::CType;
 use std::marker::Model;

@@ -1,9 +1,6 @@
-//! The typed program: what the checker makes of a tree. Each expression has its type, each
-//! conversion is written, names are slots and numbers, and string literals are globals. It stands
-//! on `c_type`; the source run, construction and the checker stand on it.
-//!
-//! Promise: contracts see a program as plain trees (`specs/Typed.antt`), and
-//! `specs/WellTyped.antt` says which are well typed.
+//! The typed program that the checker makes of a syntax tree, and which are well typed. Each
+//! expression has its type, each conversion is written, names are slots and numbers, and string
+//! literals are globals. Contracts see it as plain trees.
 #![tactic(auto)]
 
 mod expression;

@@ -1,3 +1,5 @@
+//! The operators of typed expressions.
+
 use val_core::Op2;
 
 /// A comparison (ISO/IEC 9899:2011, 6.5.8, 6.5.9). Its operands have one type, which says whether

@@ -1,3 +1,5 @@
+//! Typed programs: functions with their variables, and globals.
+
 use crate::Item;
 use c_lex::{Bytes, Name};
 use c_type::{CType, Types};
@@ -115,7 +117,7 @@ impl Model for TGlobal {
 
     ghost coded = { coded_global };
 
-    ghost use Rattle.c_typed.specs.ProgramViews.{written_of};
+    ghost use Rattle.c_typed.specs.ProgramEncoding.{written_of};
 
     ghost view = { λ g. record {
       at = g.at;

@@ -1,3 +1,5 @@
+//! Typed statements, declarations in blocks, and initial values.
+
 use crate::TExpr;
 use c_lex::Bytes;
 use std::marker::Model;

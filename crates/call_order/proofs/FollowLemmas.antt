@@ -14,10 +14,6 @@ module _ (calls : List (List ℕ)) (stages : List Stage) (members pending : List
   pending-at : (slice_index_or groups n d).pending_from ≡ d.pending_from
   pending-at = ap (λ (x : Group). x.pending_from) (sym at)
 
-  -- the last group begins within the functions that are held
-  pub from-held : d.members_from < length members
-  from-held = omega (arith, ap (λ (x : Group). x.members_from) at, was.member_end n d (omega arith))
-
   module _ (done : length pending ≡ d.pending_from) (stages' : List Stage) (members' pending' : List ℕ) (groups' : List Group) (put : ClosesFrom calls stages members d.members_from stages' members')
       (same : pending' ≡ pending) (popped : groups' ≡ take n groups) where
     put' : ClosesFrom calls stages members (slice_index_or groups n d).members_from stages' members'

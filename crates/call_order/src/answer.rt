@@ -1,4 +1,5 @@
-// What the crate answers.
+//! The units and ranks of functions, which is what the crate answers.
+
 /// The unit and the rank of each function, by its index in the list.
 #[derive(Debug, PartialEq, Eq, Drop)]
 pub struct Units {

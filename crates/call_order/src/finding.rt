@@ -1,4 +1,5 @@
-// The call of the crate.
+//! Finding the units and ranks, which is the call of the crate.
+
 ghost use Rattle.std.specs.Prelude.{◌≡◌, ◌<◌, ◌^◌, length, map, IfOk};
 ghost use Rattle.call_order.specs.Units.{call_lists, AllKnown, IsUnits};
 ghost use Rattle.call_order.specs.Search.{rank_in, unit_in};

@@ -1,5 +1,6 @@
-// The test of what `units` requires.
-ghost use Rattle.std.specs.Prelude.{ℕ, ◌<◌, ◌↔◌, length, IsTrue, Contains};
+//! The test of what `units` requires.
+
+ghost use Rattle.std.specs.Prelude.{ℕ, ◌<◌, ◌↔◌, IsTrue, Contains};
 ghost use Rattle.call_order.specs.Units.{call_lists, AllKnown};
 
 // Whether each of these functions is below the count.

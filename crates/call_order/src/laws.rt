@@ -1,5 +1,6 @@
 //! Laws of units and ranks, for the proofs of callers: each is the contract of a function that does
 //! nothing.
+
 ghost use Rattle.call_order.specs.Laws.{CalleeRanksBelow, UnitsAreMutual, UnitsAreUnique};
 
 /// A function that is called from outside its unit has a smaller rank.

@@ -1,7 +1,8 @@
-//! Which functions call each other, directly or through others, and the rank of each above those
-//! that it calls. Of the repository it stands on `no_memory` alone. Promise: `units` gives exactly
-//! the units and ranks that specs/Units.antt defines by paths of calls. No contract says that it
-//! takes time and memory linear in functions and calls, and does not recurse.
+//! Functions that call each other as units, and the units' ranks.
+//! Promise: `units` gives exactly the units and ranks that specs/Units.antt defines by paths of
+//! calls. No contract says that it takes time and memory linear in functions and calls, and does
+//! not recurse.
+//! Always: a callee outside the unit has a smaller rank.
 #![tactic(auto)]
 
 mod answer;

@@ -1,7 +1,8 @@
-// A search in depth that keeps the functions of the path it is on in groups, each of which is known
-// to call itself there and back. A call that leads back into an earlier group joins all groups from
-// there on.
-ghost use Rattle.std.specs.Prelude.{◌≡◌, ◌≢◌, ℕ, ◌+◌, ◌-◌, ◌<◌, ◌≤◌, ◌^◌, ◌⊎◌, List, length, take, drop, IfSome, IfNone, IfOk, OnOk, slice_index, slice_index_or, vec_len};
+//! A search in depth over calls, which finds units.
+//! It keeps the functions of its path in groups, each of which is known to call itself there and
+//! back. A call that leads back into an earlier group joins all groups from there on.
+
+ghost use Rattle.std.specs.Prelude.{◌≡◌, ◌≢◌, ℕ, ◌+◌, ◌-◌, ◌<◌, ◌≤◌, ◌^◌, ◌⊎◌, List, length, take, IfSome, IfNone, IfOk, OnOk, slice_index, slice_index_or, vec_len};
 ghost use Rattle.call_order.specs.Units.{call_lists, AllKnown, Calls, Reaches};
 ghost use Rattle.call_order.specs.Search.{above, stage_of};
 ghost use Rattle.call_order.specs.declared.search.Group.{Group};

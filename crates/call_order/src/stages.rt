@@ -1,4 +1,5 @@
-// How far the search has come with each function.
+//! How far the search has come with each function.
+
 ghost use Rattle.std.specs.Prelude.{◌≡◌, ℕ, ◌<◌, ◌≤◌, ◌^◌, ◌⊎◌, Contains, length, slice_index};
 ghost use Rattle.call_order.specs.Search.{above, all_at, rank_in, stage_of, unit_in};
 

@@ -1,12 +1,18 @@
-//! A program for measuring parts of the compiler, and for comparing them with outside programs: the
-//! scripts of `tools/` run it. It stands on the parts that it measures and promises nothing of its
-//! own.
+//! A program for `tools/bench` and `tools/decode.sh` that runs one part of the compiler.
+//! It lexes, parses, checks, scopes or decodes its input, or makes linear code and places of given
+//! shapes. It promises nothing of its own.
 #![tactic(auto)]
 
+mod lambdas;
+mod places;
+
+use crate::lambdas::count_lines;
+use crate::places::Shape;
+use a_place::place;
 use c_check::check;
+use c_check_scope::{Members, Names, Scopes};
 use c_lex::{Punct, Token, TokenKind, lex};
 use c_parse::parse;
-use c_scope::{Members, Names, Scopes};
 use no_memory::NoMemory;
 use rv_isa::decode;
 use std::alloc::Global;
@@ -134,14 +140,60 @@ fn tell_instructions(rt: &(impl Input + Print + AllocGlobal)) -> io::Result<()> 
     Ok(())
 }
 
+/// Gives places to the names of lines of a shape, and tells how many there are.
+fn count_places(rt: &(impl Print + AllocGlobal), shape: Shape, count: u32) -> io::Result<()> {
+    let linear = places::lines(rt.alloc(), shape, count)?;
+    match place(rt.alloc(), &linear) {
+        Ok(places) => println!(rt; "{} places", places.count),
+        Err(fault) => println!(rt; "{fault}"),
+    }
+}
+
+fn shape_of(word: &str) -> Option<Shape> {
+    match word {
+        "alive" => Some(Shape::Alive),
+        "dead" => Some(Shape::Dead),
+        "staircase" => Some(Shape::Staircase),
+        "nest" => Some(Shape::Nest),
+        _ => None,
+    }
+}
+
+/// Reads shapes and sizes of lambdas from standard input, one a line, checks each lambda, and tells
+/// how many lines its linear code has, if it is wanted.
+fn tell_lines(rt: &(impl Input + Print + AllocGlobal), sequences: bool) -> io::Result<()> {
+    for line in rt.lines(rt.alloc()) {
+        match count_lines(rt.alloc(), line?.as_str(), sequences) {
+            Ok(count) => println!(rt; "{count} lines")?,
+            Err(fault) => println!(rt; "{fault}")?,
+        }
+    }
+    Ok(())
+}
+
+/// The words of the program.
+const USAGE: &str = "usage: cc_bench lex | parse | check | scopes | members | decode | lambda \
+    | sequence | place (alive | dead | staircase | nest) COUNT";
+
 fn main(rt: HostRuntime) -> io::Result<()> {
-    match env::args(&rt)?.nth(1) {
+    let mut words = env::args(&rt)?;
+    match words.nth(1) {
         Some(word) if word.as_str() == "lex" => count_tokens(&rt),
         Some(word) if word.as_str() == "parse" => count_declarations(&rt),
         Some(word) if word.as_str() == "check" => check_source(&rt),
         Some(word) if word.as_str() == "scopes" => count_names(&rt, false),
         Some(word) if word.as_str() == "members" => count_names(&rt, true),
         Some(word) if word.as_str() == "decode" => tell_instructions(&rt),
-        _ => eprintln!(rt; "usage: cc_bench lex | parse | check | scopes | members | decode"),
+        Some(word) if word.as_str() == "lambda" => tell_lines(&rt, false),
+        Some(word) if word.as_str() == "sequence" => tell_lines(&rt, true),
+        Some(word) if word.as_str() == "place" => {
+            let shape = words.next().and_then(|shape| shape_of(shape.as_str()));
+            let count = words.next().and_then(|count| count.parse::<u32>().ok());
+            match (shape, count) {
+                (Some(shape), Some(count)) => count_places(&rt, shape, count),
+                _ => eprintln!(rt; "{USAGE}"),
+            }
+        }
+        _ => eprintln!(rt; "{USAGE}"),
     }
 }

@@ -1,6 +1,7 @@
 -- The command line: a command, or none.
 use Rattle.std.specs.Prelude.{ℕ, Bool, ◌*◌, ◌+◌, ◌-◌, ◌&&◌, List, [], ◌∷◌, Option, Some, None, codes, fold, length, nat_le, if◌then◌else◌, option_map}
 use Rattle.std.specs.List.{list_all}
+use Rattle.limits.specs.Limits.{most_workers, most_steps, most_generated_functions}
 use Rattle.cc_command.specs.ParsedArguments.{Text}
 use Rattle.cc_command.specs.Forms.{Form, OptionForm, Value, text, number, absent, command_among}
 
@@ -52,7 +53,7 @@ report_of (text name) = Some (Some name)
 report_of absent = Some None
 report_of (number n) = None
 
--- `build IN OUT [--recipe LIST] [--workers N] [--report NAME]`, LIST and NAME being any texts, N from 1 to 64, and 1 where it is not given
+-- `build IN OUT [--recipe LIST] [--workers N] [--report NAME]`, LIST and NAME being any texts, N from 1 to the most workers, and 1 where it is not given
 abbrev pub build_of : List Value → Option Command
 build_of (text source ∷ text image ∷ text recipe ∷ number workers ∷ report ∷ []) = option_map (build source image recipe workers) (report_of report)
 build_of _ = None
@@ -61,7 +62,7 @@ abbrev pub recipe_option : OptionForm
 recipe_option = record { name = codes "recipe"; read = read_text; default = text default_recipe }
 
 abbrev pub workers_option : OptionForm
-workers_option = record { name = codes "workers"; read = read_number 1 64; default = number 1 }
+workers_option = record { name = codes "workers"; read = read_number 1 most_workers; default = number 1 }
 
 abbrev pub report_option : OptionForm
 report_option = record { name = codes "report"; read = read_text; default = absent }
@@ -74,13 +75,13 @@ build_form = record {
   command = build_of;
 }
 
--- `run IMG [--steps N]`, N from 1 to 10^12, and 10^9 where it is not given
+-- `run IMG [--steps N]`, N from 1 to the most steps, and 10^9 where it is not given
 abbrev pub run_of : List Value → Option Command
 run_of (text image ∷ number steps ∷ []) = Some (run image steps)
 run_of _ = None
 
 abbrev pub steps_option : OptionForm
-steps_option = record { name = codes "steps"; read = read_number 1 1000000000000; default = number 1000000000 }
+steps_option = record { name = codes "steps"; read = read_number 1 most_steps; default = number 1000000000 }
 
 abbrev pub run_form : Form Command
 run_form = record {
@@ -100,7 +101,7 @@ generate_form = record {
   name = codes "gen";
   positionals =
       record { name = codes "NUMBER"; read = read_number 0 4294967295 }
-      ∷ record { name = codes "COUNT"; read = read_number 1 511 }
+      ∷ record { name = codes "COUNT"; read = read_number 1 most_generated_functions }
       ∷ record { name = codes "OUT"; read = read_text }
       ∷ [];
   options = [];

@@ -1,4 +1,6 @@
+-- The plain form of a parsed command.
 use Rattle.std.specs.Prelude.{◌≤◌, option_map}
+use Rattle.limits.specs.Limits.{most_workers}
 use Rattle.cc_command.specs.Command.{Command, accept, build, run, generate}
 use Rattle.cc_command.specs.declared.arguments.Command.{Command as Parsed}
 use Rattle.cc_command.specs.declared.arguments.Command.TheVariants.{Accept, Build, Run, Generate}
@@ -10,7 +12,7 @@ plain_command (Build source image recipe workers report) = build source.now imag
 plain_command (Run image steps) = run image.now steps
 plain_command (Generate start functions out) = generate start functions out.now
 
--- a build is by 1 to 64 workers
+-- a build is by 1 to the most workers
 abbrev pub HasWorkers : Parsed → Type 0
-HasWorkers (Build source image recipe workers report) = (1 ≤ workers) × (workers ≤ 64)
+HasWorkers (Build source image recipe workers report) = (1 ≤ workers) × (workers ≤ most_workers)
 HasWorkers _ = Unit {0}

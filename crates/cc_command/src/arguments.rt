@@ -1,6 +1,8 @@
 //! The arguments of the command line.
+
 ghost use Rattle.std.specs.Prelude.{◌≡◌, ◌≤◌, false, Some, map, option_and_then, option_map, IfOk, IfSome};
 ghost use Rattle.std.specs.String.{string_bytes};
+ghost use Rattle.limits.specs.Limits.{most_workers};
 ghost use Rattle.clap.specs.Words.{app_of, first_of, found_of, rows_of, shape_of, subcommand_rows_of};
 ghost use Rattle.clap.specs.declared.builder.command.Command.TheViews.{out-Command as fields_of};
 ghost use Rattle.cc_command.specs.Arguments.{rvcc, shape_of_form};
@@ -13,6 +15,7 @@ use crate::numbers::number_in;
 use crate::reader::{help_is_asked, value, with_option, with_required};
 use clap::error::ErrorKind;
 use clap::{ArgMatches, Command as Reader};
+use limits::{MOST_GENERATED_FUNCTIONS, MOST_STEPS, MOST_WORKERS};
 use std::alloc::{AllocError, Global};
 
 /// What the arguments of a command line ask for.
@@ -22,8 +25,9 @@ pub enum Command<'a> {
     Accept,
     /// `build IN OUT [--recipe LIST] [--workers N] [--report NAME]`: compile the source named IN to
     /// the image named OUT under the recipe LIST, which may be any text; the default recipe where
-    /// it is not given. N workers, 1 to 64, make the functions; 1 where N is not given. NAME, any
-    /// text too, is the name of the watcher that reports; no report where it is not given.
+    /// it is not given. N workers, 1 to `MOST_WORKERS`, make the functions; 1 where N is not given.
+    /// NAME, any text too, is the name of the watcher that reports; no report where it is not
+    /// given.
     Build {
         source: &'a str,
         image: &'a str,
@@ -31,14 +35,14 @@ pub enum Command<'a> {
         workers: u32,
         report: Option<&'a str>,
     },
-    /// `run IMG [--steps N]`: run the image named IMG for at most N instructions, 1 to 10^12; 10^9
-    /// where N is not given.
+    /// `run IMG [--steps N]`: run the image named IMG for at most N instructions, 1 to
+    /// `MOST_STEPS`; 10^9 where N is not given.
     Run {
         image: &'a str,
         steps: u64,
     },
-    /// `gen NUMBER COUNT OUT`: write the generated program of COUNT functions whose draws begin
-    /// with NUMBER to the file OUT.
+    /// `gen NUMBER COUNT OUT`: write the generated program of COUNT functions, 1 to
+    /// `MOST_GENERATED_FUNCTIONS`, whose draws begin with NUMBER to the file OUT.
     Generate {
         start: u32,
         functions: u32,
@@ -102,10 +106,10 @@ fn workers_in(arguments: &ArgMatches<'_>) -> Option<u32>
         ≡ value_or_default workers_option
         (first_of workers_option.name (rows_of (found_of arguments.now))) }
     ensures from { IfSome result (λ n. 1 ≤ n) }
-    ensures within { IfSome result (λ n. n ≤ 64) }
+    ensures within { IfSome result (λ n. n ≤ most_workers) }
 {
     match value(arguments, "workers") {
-        Some(text) => Some(number_in(1, 64, text)? as u32),
+        Some(text) => Some(number_in(1, u64::from(MOST_WORKERS), text)? as u32),
         None => Some(1),
     }
 }
@@ -131,7 +135,7 @@ fn steps_in(arguments: &ArgMatches<'_>) -> Option<u64>
         (first_of steps_option.name (rows_of (found_of arguments.now))) }
 {
     match value(arguments, "steps") {
-        Some(text) => number_in(1, 1_000_000_000_000, text),
+        Some(text) => number_in(1, MOST_STEPS, text),
         None => Some(1_000_000_000),
     }
 }
@@ -151,7 +155,7 @@ fn generate_in<'a>(arguments: &ArgMatches<'a>) -> Option<Command<'a>>
         ≡ read_by generate_form (rows_of (found_of arguments.now)) }
 {
     let start = number_in(0, 4_294_967_295, value(arguments, "NUMBER")?)?;
-    let functions = number_in(1, 511, value(arguments, "COUNT")?)?;
+    let functions = number_in(1, MOST_GENERATED_FUNCTIONS, value(arguments, "COUNT")?)?;
     Some(Command::Generate {
         start: start as u32,
         functions: functions as u32,
@@ -204,7 +208,7 @@ fn read_arguments<'a>(
 }
 
 /// The command of the arguments, the program's name first; `None` where they are no command. No
-/// arguments at all are read as the name alone. A build is by 1 to 64 workers.
+/// arguments at all are read as the name alone. A build is by 1 to `MOST_WORKERS` workers.
 pub fn parse_command<'a>(
     alloc: Global,
     arguments: &'a [String],

@@ -1,4 +1,5 @@
 //! Laws of the definition, each the contract of a function that does nothing.
+
 ghost use Rattle.cc_command.specs.CommandRows.{CommandRows};
 
 /// Known lists of arguments have their commands.

@@ -1,7 +1,6 @@
-//! The arguments of the command line: what command they are, or that they are none.
-//! The top call stands on it; it stands on the kit's reader of command lines.
-//! Promise: the command is the defined one, whatever the arguments, and no arguments but those of
-//! the definition are a command.
+//! The arguments of the command line: what command they are, or that they are none. The command is
+//! the defined one, whatever the arguments, and no arguments but those of the definition are a
+//! command.
 #![tactic(auto)]
 
 mod arguments;

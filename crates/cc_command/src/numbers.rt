@@ -1,4 +1,5 @@
 //! Numbers of the command line.
+
 ghost use Rattle.std.specs.Prelude.{◌≡◌, ◌<◌, ◌≤◌, ◌^◌, min, IfSome};
 ghost use Rattle.std.specs.List.{list_all};
 ghost use Rattle.cc_command.specs.Command.{digits_value, is_digit, is_number, number_in};

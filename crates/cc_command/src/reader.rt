@@ -1,4 +1,5 @@
 //! The arguments of a command, as the kit's reader of command lines takes them.
+
 ghost use Rattle.std.specs.Prelude.{◌≡◌, drop, false, map, option_map, IfOk};
 ghost use Rattle.std.specs.List.{list_any};
 ghost use Rattle.std.specs.String.{string_bytes};

@@ -1,6 +1,3 @@
 mod Small
-mod Short
-mod Determined
-mod Decided
 mod Recipes
 mod MadeRows

@@ -2,12 +2,12 @@
 use Rattle.std.proofs.Common.{◌≡◌, List, [], ◌∷◌, map, refl, sym, ap, ◌∙◌}
 use Rattle.g_graph.specs.Plain.{PlainLambda}
 use Rattle.g_graph.specs.Program.{lambda_values}
-use Rattle.g_construct.specs.Functions.{graph, omega}
-use Rattle.g_built.specs.BuiltLaws.{WellTypedAreBuilt, SmallAreWithinLimits}
-use Rattle.g_recipe.specs.Laws.{AnswersAreUnique, UnsweptAnswersAreLambdas}
+use Rattle.g_build_def.specs.Functions.{graph, omega}
+use Rattle.g_build_laws.specs.BuiltLaws.{WellTypedAreBuilt, SmallAreWithinLimits}
+use Rattle.g_pass_def.specs.Laws.{AnswersAreUnique, UnsweptAnswersAreLambdas}
 use Rattle.g_pass.specs.Sweep.{rules}
-use Rattle.pass_laws.specs.Laws.{AnswersFitImages}
-use Rattle.cc_image.specs.Image.{file_of_program, lambdas_of}
+use Rattle.g_pass_keeps.specs.Laws.{AnswersFitImages}
+use Rattle.cc_emit_def.specs.Image.{file_of_program, lambdas_of}
 use Rattle.cc_compile.specs.Compiled.{rows_of, AnswersCanBeEmitted, OneImage, OneListOfRows, ProgramsCanBeEmitted, UnsweptImage}
 use Rattle.cc_compile.proofs.Small.{unlimited_are_small, graph_may_grow}
 

@@ -4,17 +4,16 @@ use Rattle.std.specs.Prelude.{nat_lt, if◌then◌else◌, Option, None, Some, s
 use Rattle.std.specs.List.{sum, sum_by}
 use Rattle.std.proofs.lemmas.Bool.Decides.{nat_tests}
 use Rattle.std.proofs.lemmas.List.Sums.{sum-map, sum_by-cons}
-use Rattle.limits.specs.Limits.{most_functions, most_parameters, most_object_bytes, most_global_bytes, most_lambda_values, most_program_values}
+use Rattle.limits.specs.Limits.{most_functions, most_parameters, most_object_bytes, most_global_bytes, most_lambda_values, most_program_values, most_grown_values, most_built_values}
 use Rattle.c_type.specs.Layout.{Definitions}
 use Rattle.c_typed.specs.Typed.{FunctionTree, GlobalTree, ProgramTree}
-use Rattle.c_elaboration.specs.declared.rule.Quantity.TheVariants.{Parameters, ObjectBytes}
-use Rattle.c_elaboration.specs.Limits.{many_functions, first_above, bytes_of, object_bytes, global_bytes, passing, many_global_bytes}
+use Rattle.c_check_def.specs.declared.refusal_kind.Quantity.TheVariants.{Parameters, ObjectBytes}
+use Rattle.c_check_def.specs.Limits.{many_functions, first_above, bytes_of, object_bytes, global_bytes, passing, many_global_bytes}
 use Rattle.g_graph.specs.Program.{lambda_values}
-use Rattle.g_edit.specs.Size.{most_grown_values}
-use Rattle.g_construct.specs.Functions.{function_values, graph, lambdas_made}
-use Rattle.g_construct.proofs.lemmas.Programs.{values_are_of_the_function}
-use Rattle.g_build.specs.Passed.{first_large, limit_passed, most_built_values}
-use Rattle.c_sound.proofs.lemmas.Accepted.{none_above, get_none}
+use Rattle.g_build_def.specs.Functions.{function_values, graph, lambdas_made}
+use Rattle.g_build_def.proofs.lemmas.Programs.{values_are_of_the_function}
+use Rattle.g_build.specs.Passed.{first_large, limit_passed}
+use Rattle.c_check_laws.proofs.lemmas.Accepted.{none_above, get_none}
 use Rattle.cc_compile.specs.Compiled.{UnlimitedAreSmall}
 use Rattle.g_graph.proofs.lemmas.Change.{none_map}
 use Rattle.val_core.proofs.lemmas.Options.{or_none}

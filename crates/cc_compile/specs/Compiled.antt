@@ -2,16 +2,16 @@
 use Rattle.std.specs.Prelude.{◌≡◌, ℕ, List, [], None, map, zip}
 use Rattle.c_typed.specs.Typed.{FunctionTree, ProgramTree}
 use Rattle.c_typed.specs.WellTyped.{IsWellTyped}
-use Rattle.c_elaboration.specs.Limits.{above_limits}
+use Rattle.c_check_def.specs.Limits.{above_limits}
 use Rattle.g_graph.specs.declared.steps.Rule.{Rule}
 use Rattle.g_graph.specs.Plain.{PlainOptimised}
 use Rattle.g_graph.specs.Program.{lambda_values}
-use Rattle.g_construct.specs.Functions.{graph, omega}
+use Rattle.g_build_def.specs.Functions.{graph, omega}
 use Rattle.g_build.specs.Passed.{limit_passed}
-use Rattle.g_built.specs.BuiltLaws.{IsSmall}
-use Rattle.g_recipe.specs.Answers.{AreAnswers}
+use Rattle.g_build_laws.specs.BuiltLaws.{IsSmall}
+use Rattle.g_pass_def.specs.Answers.{AreAnswers}
 use Rattle.g_pass.specs.Sweep.{rules}
-use Rattle.cc_image.specs.Image.{file_of_program, lambdas_of, CanEmit}
+use Rattle.cc_emit_def.specs.Image.{file_of_program, lambdas_of, CanEmit}
 use Rattle.cc_watch.specs.Rows.{PlainRow}
 
 -- the image of a program whose functions are as they are built

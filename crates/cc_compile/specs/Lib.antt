@@ -1,3 +1,1 @@
 pub mod Compiled
-pub mod Accepted
-pub mod Faults

@@ -1,9 +1,10 @@
 //! What a recipe did to each function of a program.
+
 ghost use Rattle.std.specs.Prelude.{◌≡◌, ◌<◌, ◌^◌, ℕ, Some, map, slice_get, IfOk};
 ghost use Rattle.std.specs.Arc.{arc_value};
 ghost use Rattle.g_graph.specs.Plain.{PlainLambda};
 ghost use Rattle.g_graph.specs.Program.{lambda_values};
-ghost use Rattle.cc_image.specs.Image.{lambdas_of};
+ghost use Rattle.cc_emit_def.specs.Image.{lambdas_of};
 ghost use Rattle.cc_compile.specs.Compiled.{row_of, rows_of};
 
 use c_typed::{TFunction, Typed};

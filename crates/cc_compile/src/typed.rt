@@ -1,13 +1,14 @@
 //! From a typed program to the file.
+
 ghost use Rattle.std.specs.Prelude.{◌≡◌, ◌<◌, ◌≤◌, None, length, map, IfOk};
 ghost use Rattle.std.specs.Arc.{arc_value};
-ghost use Rattle.limits.specs.Limits.{most_functions};
+ghost use Rattle.limits.specs.Limits.{most_functions, most_workers};
 ghost use Rattle.c_typed.specs.WellTyped.{IsWellTyped};
-ghost use Rattle.c_elaboration.specs.Limits.{above_limits};
-ghost use Rattle.g_construct.specs.Functions.{omega};
+ghost use Rattle.c_check_def.specs.Limits.{above_limits};
+ghost use Rattle.g_build_def.specs.Functions.{omega};
 ghost use Rattle.g_build.specs.Answer.{limit_named};
 ghost use Rattle.g_build.specs.Passed.{limit_passed};
-ghost use Rattle.cc_image.specs.Image.{file_of_program, lambdas_of, CanEmit};
+ghost use Rattle.cc_emit_def.specs.Image.{file_of_program, lambdas_of, CanEmit};
 ghost use Rattle.cc_compile.specs.Compiled.{rows_of, IsCompiledUnder};
 
 use crate::laws::{answers_can_be_emitted, programs_can_be_emitted};
@@ -19,7 +20,7 @@ use cc_watch::Row;
 use g_build::{BuildFault, build};
 use g_graph::{Omega, Optimised};
 use g_pass::Recipe;
-use g_work::{answers, answers_by_workers};
+use g_pass_work::{answers, answers_by_workers};
 use no_memory::NoMemory;
 use std::alloc::Global;
 use std::sync::{Arc, Wait};
@@ -36,8 +37,8 @@ pub struct Compiled {
     pub rows: Vec<Row>,
 }
 
-// The file of a program, of whose functions a recipe makes these.
-fn file_with(alloc: Global, omega: &Omega, all: &[Arc<Optimised>]) -> Result<Vec<u8>, NoMemory>
+/// The file of a program, of whose functions a recipe makes these.
+pub fn file_with(alloc: Global, omega: &Omega, all: &[Arc<Optimised>]) -> Result<Vec<u8>, NoMemory>
     requires { CanEmit omega.now (lambdas_of (map arc_value all.now)) }
     ensures { IfOk result (λ file.
         file.items ≡ file_of_program omega.now (lambdas_of (map arc_value all.now))) }
@@ -105,7 +106,7 @@ fn compiled_by_workers<H: Threads + Wait + Sync, G: Gate>(
     requires limits { above_limits typed.now ≡ None }
     requires values { limit_passed typed.now.functions ≡ None }
     requires some_worker { 0 < workers }
-    requires few_workers { workers ≤ 64 }
+    requires few_workers { workers ≤ most_workers }
     ensures compiled { IfOk result (λ c.
         IsCompiledUnder recipe.now typed.now c.image.items c.rows.items) }
     ensures functions { IfOk result (λ c. c.functions ≡ length typed.now.functions) }
@@ -130,8 +131,8 @@ pub fn compile_typed(alloc: Global, typed: &Typed, recipe: &Recipe) -> Result<Co
     Ok(compiled_of(alloc, typed, &omega, recipe)?)
 }
 
-/// What a well-typed program is compiled to, as `compile_typed` has it, where 1 to 64 workers make
-/// the functions.
+/// What a well-typed program is compiled to, as `compile_typed` has it, where 1 to `MOST_WORKERS`
+/// workers make the functions.
 pub(crate) fn compile_typed_by_workers<H: Threads + Wait + Sync, G: Gate>(
     rt: &H,
     alloc: Global,
@@ -143,7 +144,7 @@ pub(crate) fn compile_typed_by_workers<H: Threads + Wait + Sync, G: Gate>(
     requires typed { IsWellTyped typed.now }
     requires limits { above_limits typed.now ≡ None }
     requires some_worker { 0 < workers }
-    requires few_workers { workers ≤ 64 }
+    requires few_workers { workers ≤ most_workers }
     ensures compiled { IfOk result (λ c.
         IsCompiledUnder recipe.now typed.now c.image.items c.rows.items) }
     ensures functions { IfOk result (λ c. c.functions ≡ length typed.now.functions) }

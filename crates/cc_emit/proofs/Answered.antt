@@ -6,7 +6,7 @@ use Rattle.std.specs.Prelude.{slice_get}
 use Rattle.g_graph.specs.Plain.{PlainOptimised}
 use Rattle.rv_layout.specs.declared.item.Item.{Item}
 use Rattle.rv_layout.specs.Layout.{item_lists}
-use Rattle.cc_image.specs.Image.{function_items, lambdas_of}
+use Rattle.cc_emit_def.specs.Image.{function_items, lambdas_of}
 
 module _ {X : Type 0} (read : X → PlainOptimised) where
   abbrev items_to : List X → List (List Item)

@@ -7,10 +7,10 @@ use Rattle.g_graph.specs.Plain.{PlainLambda, PlainDelta, PlainOmega}
 use Rattle.rv_layout.specs.declared.item.Item.{Item}
 use Rattle.rv_layout.specs.Conditions.{CanLayOut}
 use Rattle.rv_layout.specs.Layout.{laid_out}
-use Rattle.cc_image.specs.Image.{function_items, main_of, image_of, CanEmit}
-use Rattle.cc_image.proofs.lemmas.FunctionFits.{main_there, functions_fit}
-use Rattle.cc_image.specs.Laws.{ImageIsPlaced}
-use Rattle.cc_simulation.specs.Images.{KeepsLambdas, ImagesKeepMeaning}
+use Rattle.cc_emit_def.specs.Image.{function_items, main_of, image_of, CanEmit}
+use Rattle.cc_emit_def.proofs.lemmas.FunctionFits.{main_there, functions_fit}
+use Rattle.cc_emit_def.specs.Laws.{ImageIsPlaced}
+use Rattle.cc_emit_keeps.specs.Images.{KeepsLambdas, ImagesKeepMeaning}
 
 pub main_fits : (program : PlainOmega) (ls : List PlainLambda) → CanEmit program ls → main_of program < 2 ^ 32
 main_fits program ls can = omega (arith, main_there program ls can, can.limits.functions)

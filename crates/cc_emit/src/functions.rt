@@ -1,10 +1,11 @@
 //! The items of the functions of a program.
+
 ghost use Rattle.std.specs.Prelude.{◌≡◌, ℕ, Some, map, slice_get, IfOk};
 ghost use Rattle.std.specs.Arc.{arc_value};
 ghost use Rattle.g_graph.specs.Plain.{PlainLambda};
 ghost use Rattle.rv_layout.specs.Layout.{item_lists};
-ghost use Rattle.cc_image.specs.Image.{function_items, lambdas_of};
-ghost use Rattle.cc_image.specs.Laws.{IsFunction};
+ghost use Rattle.cc_emit_def.specs.Image.{function_items, lambdas_of};
+ghost use Rattle.cc_emit_def.specs.Laws.{IsFunction};
 
 use a_place::{frame, place};
 use g_graph::{Lambda, Optimised};

@@ -1,6 +1,6 @@
-//! The image of a program: the composition of sequencing, placing, selecting and laying out.
-//! Promise: `emit` gives exactly the sections that `cc_image` defines, and their file does on the
-//! machine what the lambdas do.
+//! The image of a whole program, made by sequencing, placing, selecting and laying out. Its
+//! sections are exactly those of the definition.
+//! Always: an image is placed, and its file does what the lambdas do.
 #![tactic(auto)]
 
 mod functions;

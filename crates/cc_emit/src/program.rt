@@ -1,10 +1,11 @@
 //! The image of a program.
+
 ghost use Rattle.std.specs.Prelude.{◌≡◌, ◌<◌, ◌^◌, map, IfOk};
 ghost use Rattle.std.specs.Arc.{arc_value};
 ghost use Rattle.elf_file.specs.Image.{sections_of, IsPlaced};
 ghost use Rattle.elf_file.specs.Written.{file_of};
-ghost use Rattle.cc_image.specs.Image.{image_of, lambdas_of, main_of, CanEmit};
-ghost use Rattle.cc_simulation.specs.Images.{KeepsLambdas};
+ghost use Rattle.cc_emit_def.specs.Image.{image_of, lambdas_of, main_of, CanEmit};
+ghost use Rattle.cc_emit_keeps.specs.Images.{KeepsLambdas};
 
 use crate::functions::all_items;
 use elf_file::Image;
@@ -38,8 +39,8 @@ pub fn emit(alloc: Global, answers: &[Arc<Optimised>], omega: &Omega) -> Result<
     ensures kept { IfOk result (λ image. KeepsLambdas omega.now
         (lambdas_of (map arc_value answers.now)) (file_of (sections_of image))) }
 {
-    cc_image::laws::image_is_placed();
-    cc_simulation::laws::images_keep_meaning();
+    cc_emit_def::laws::image_is_placed();
+    cc_emit_keeps::laws::images_keep_meaning();
     let functions = all_items(alloc, answers)?;
     lay(alloc, &functions, &omega.deltas, main_of(omega))
 }

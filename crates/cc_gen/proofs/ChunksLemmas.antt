@@ -1,7 +1,7 @@
 -- Bytes that are gathered for a sink and handed on.
 use Rattle.std.proofs.Common.{◌≡◌, ◌≤◌, ℕ, ◌+◌, ◌-◌, List, [], ◌++◌, length, take, drop, Option, None, Some, is_some, unwrap_or, Result, Ok, Err, OnOk, OnErr, refl, sym, ap, subst, ◌∙◌, arith, length-append}
 use Rattle.std.proofs.lemmas.Bool.{false≢true}
-use Rattle.std.proofs.lemmas.List.{take-append-le, take-append-drop, drop-append-le, drop-drop, length-take, take_all, drop_all}
+use Rattle.std.proofs.lemmas.List.{take-append-le, take-append-drop, drop-drop, length-take, take_all, drop_all}
 use Rattle.std.proofs.Math.Seq.{take-append-add, take-append_seam}
 use Rattle.cc_io.specs.Sink.{append}
 use Rattle.cc_io.proofs.lemmas.Sink.{append-append, append-none}
@@ -15,21 +15,6 @@ sent-more before now xs sent n wrote =
     ap (λ held. append held (drop (sent + n) xs)) wrote
     ∙ append-append before (take n (drop sent xs)) (drop (sent + n) xs)
     ∙ ap (append before) (ap (λ rest. take n (drop sent xs) ++ rest) (sym (drop-drop n sent xs)) ∙ take-append-drop n (drop sent xs))
-
-append-grows : (held : Option (List ℕ)) (bytes : List ℕ) → held_length held ≤ held_length (append held bytes)
-append-grows None bytes = omega arith
-append-grows (Some held) bytes = omega (arith, length-append held bytes)
-
--- what is held only grows
-pub grown-more : (first before now : Option (List ℕ)) (bytes : List ℕ) → held_length first ≤ held_length before → now ≡ append before bytes
-    → held_length first ≤ held_length now
-grown-more first before now bytes grown wrote = omega (arith, grown, append-grows before bytes, ap held_length wrote)
-
--- more bytes are gathered
-pub gathered-more : (held : Option (List ℕ)) (xs ys : List ℕ) (sent : ℕ) → sent ≤ length xs
-    → append held (drop sent (xs ++ ys)) ≡ append (append held (drop sent xs)) ys
-gathered-more held xs ys sent fits =
-    ap (append held) (drop-append-le sent xs ys fits) ∙ sym (append-append held (drop sent xs) ys)
 
 -- without the bytes that were not handed on, a prefix is held still
 pub unsent : (text : List ℕ) (first now : Option (List ℕ)) (rest : List ℕ) → held_length first ≤ held_length now

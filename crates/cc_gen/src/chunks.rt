@@ -1,4 +1,5 @@
-// A text handed to a sink in chunks.
+//! A text handed to a sink in chunks.
+
 ghost use Rattle.std.specs.Prelude.{◌≡◌, ◌≤◌, length, drop, OnOk};
 ghost use Rattle.cc_io.specs.Faults.{HasCause};
 ghost use Rattle.cc_io.specs.Sink.{append};

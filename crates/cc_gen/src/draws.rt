@@ -1,4 +1,5 @@
-// What is drawn for the functions of a program.
+//! What is drawn for the functions of a program.
+
 ghost use Rattle.std.specs.Prelude.{◌≡◌, ◌<◌, ◌==◌, if◌then◌else◌};
 ghost use Rattle.cc_gen.specs.Draws.{next_state, number_of, drawn_from};
 

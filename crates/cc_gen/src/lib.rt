@@ -1,7 +1,6 @@
-//! The generator of large C programs: it writes a program of a given number of functions, drawn by
-//! a linear congruential generator, in chunks of 4,096 bytes. The top call of the compiler stands
-//! on it. Promise: exactly the defined text, and a failure only where the sink's count of faults
-//! increased.
+//! Generated C programs, large ones of a given number of functions. What is in a function is drawn
+//! by a linear congruential generator; the text is written in chunks of 4,096 bytes. It is exactly
+//! the defined text, and a failure comes only where the sink's count of faults increased.
 #![tactic(auto)]
 
 mod chunks;

@@ -1,4 +1,5 @@
-// Pieces of a text, and their writing.
+//! Pieces of a text, and their writing.
+
 ghost use Rattle.std.specs.Prelude.{◌≡◌, OnOk, OnErr};
 ghost use Rattle.cc_io.specs.Faults.{HasCause};
 ghost use Rattle.cc_io.specs.Sink.{append};

@@ -1,9 +1,9 @@
-// The texts of functions and of `main`, and the whole program.
-ghost use Rattle.std.specs.Prelude.{◌≡◌, ◌≤◌, Some, OnOk, OnErr, length};
-ghost use Rattle.std.specs.List.{flat_map, range_with_len};
+//! The texts of functions and of `main`, and the whole program.
+
+ghost use Rattle.std.specs.Prelude.{◌≡◌, Some, OnOk, OnErr, length};
 ghost use Rattle.cc_io.specs.Faults.{HasCause};
 ghost use Rattle.cc_io.specs.Sink.{append};
-ghost use Rattle.cc_gen.specs.Generated.{call_line, function_head, function_end, function_text, functions_text, generated, main_head, main_end, main_line, main_lines, main_text, sign_of};
+ghost use Rattle.cc_gen.specs.Generated.{call_line, function_head, function_text, functions_text, generated, main_line, main_lines, main_text, sign_of};
 ghost use Rattle.cc_gen.specs.Pieces.{HoldsPrefix};
 
 use crate::chunks::{Chunks, end};

@@ -2,8 +2,7 @@
 use Rattle.std.proofs.Common.{◌≡◌, ◌≤◌, ℕ, Bool, true, false, cond, List, ◌++◌, length, Option, None, Some, IsSome, is_some, is_err, option_map, Result, Ok, Err, OnOk, OnErr, refl, ap, subst, ◌∙◌, arith}
 use Rattle.std.specs.Str.{bytes_eq}
 use Rattle.std.proofs.lemmas.Slice.Eq.{bytes_eq-Decides}
-use Rattle.cc_io.specs.Files.{Name, FileSet, put_file, append_file}
-use Rattle.cc_io.specs.FileNames.{NamesFit}
+use Rattle.cc_io.specs.Files.{Name, FileSet, put_file, append_file, NamesFit}
 
 put-at : (name other : Name) (bytes : List ℕ) (files : FileSet) (room : ℕ) (b : Bool) → bytes_eq name other ≡ b → length name ≤ room → NamesFit files room → IsSome (cond b (Some bytes) (files other))
     → length other ≤ room

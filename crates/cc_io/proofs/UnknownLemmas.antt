@@ -5,6 +5,6 @@ pub if_ok-always : {E : Type 0} (r : Result ℕ E) (P : ℕ → Type 0) → ((n 
 if_ok-always (Ok n) P all = all n
 if_ok-always (Err e) P all = tt
 
-pub on_err-always : {E P : Type 0} (r : Result ℕ E) → P → OnErr r P
-on_err-always (Ok n) p = tt
+pub on_err-always : {T E P : Type 0} (r : Result T E) → P → OnErr r P
+on_err-always (Ok x) p = tt
 on_err-always (Err e) p = p

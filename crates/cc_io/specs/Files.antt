@@ -1,5 +1,5 @@
--- Files by name, as a known set of files has them.
-use Rattle.std.specs.Prelude.{ℕ, ◌≡◌, ◌≤◌, List, [], ◌++◌, Option, Some, if◌then◌else◌, option_map, unwrap_or}
+-- Files by name, as a known set of files has them, and room for their names.
+use Rattle.std.specs.Prelude.{ℕ, ◌≡◌, ◌≤◌, List, [], ◌++◌, length, Option, Some, IsSome, if◌then◌else◌, option_map, unwrap_or}
 use Rattle.std.specs.Str.{bytes_eq}
 
 -- a file's name: the bytes of its text
@@ -50,3 +50,7 @@ pub record OnlyCreatesRise {F : Type 0} (read_faults write_faults : F → ℕ) (
   pub writes : write_faults new ≡ write_faults old
   pub opens : open_faults new ≡ open_faults old
   pub creates : (name : Name) → create_faults old name ≤ create_faults new name
+
+-- the name of each file is of at most this length
+abbrev pub NamesFit : FileSet → ℕ → Type 0
+NamesFit files room = (name : Name) → IsSome (files name) → length name ≤ room

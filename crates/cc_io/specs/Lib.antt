@@ -6,8 +6,8 @@ pub mod Created
 pub mod Calls
 pub mod DirFiles
 pub mod FileMap
-pub mod FileNames
 pub mod MemFiles
 pub mod Memory
 pub mod StdStreams
+pub mod Buffered
 pub mod Laws

@@ -1,4 +1,5 @@
-// The created file of a `Files`, lent as a sink.
+//! The created file of a `Files`, lent as a sink, and the call that saves a file whole.
+
 ghost use Rattle.std.specs.Prelude.{◌≡◌, ◌≢◌, ◌≤◌, ◌⊎◌, ℕ, Some, length, take, option_map, IsSome, OnOk, OnErr};
 ghost use Rattle.cc_io.specs.Faults.{Increased};
 ghost use Rattle.cc_io.specs.Files.{Name, put_file};
@@ -51,7 +52,8 @@ impl<F: Files> Sink for Created<'_, F> {
     }
 }
 
-/// Creates the file of this name with these bytes. `Failed` only where the create count of this
+/// Creates the file of this name with these bytes, and lets those who may read it execute it: what is
+/// saved whole is an image. `Failed` only where the create count of this
 /// name or the write count increased; no file has changed then, or that file holds a prefix of the
 /// bytes.
 pub fn save<F: Files>(files: &mut F, name: &str, bytes: &[u8]) -> Result<(), Failed>
@@ -75,5 +77,7 @@ pub fn save<F: Files>(files: &mut F, name: &str, bytes: &[u8]) -> Result<(), Fai
         → F.create_faults files.old other ≤ F.create_faults files.new other }
 {
     files.create(name)?;
-    write_all(&mut Created::new(files), bytes)
+    write_all(&mut Created::new(files), bytes)?;
+    files.make_executable();
+    Ok(())
 }

@@ -1,4 +1,5 @@
-// The files of a folder.
+//! The files of a folder of the system.
+
 ghost use Rattle.std.specs.Prelude.{◌≡◌, ◌≤◌, None, length, IsSome, IfOk};
 ghost use Rattle.std.specs.String.{string_bytes};
 ghost use Rattle.std.specs.Io.KnownBytes.{ReadConsumes, WriteAppends};
@@ -7,9 +8,11 @@ ghost use Rattle.cc_io.specs.DirFiles.{name_of, bytes_of};
 use crate::failed::Failed;
 use crate::failing::fault;
 use crate::files::Files;
+use crate::uninterrupted::{read_uninterrupted, write_uninterrupted};
 use std::alloc::{AllocError, Global};
 use std::fs::OpenFile;
 use std::io::{ErrorKind, Read, Write};
+use std::os::unix::fs::PermissionsExt;
 use std::path::Path;
 use std::{fs, io, rt};
 
@@ -28,7 +31,7 @@ fn read_from<H: Read>(reading: &mut Option<NamedFile<H>>, buf: &mut [u8]) -> io:
         (bytes_of H.remaining reading.new) result buf.new }
 {
     match reading {
-        Some(found) => found.file.read(buf),
+        Some(found) => read_uninterrupted(&mut found.file, buf),
         None => unreachable!(),
     }
 }
@@ -41,9 +44,24 @@ fn write_to<H: Write>(writing: &mut Option<NamedFile<H>>, piece: &[u8]) -> io::R
         (bytes_of H.contents writing.new) result piece.now }
 {
     match writing {
-        Some(made) => made.file.write(piece),
+        Some(made) => write_uninterrupted(&mut made.file, piece),
         None => unreachable!(),
     }
+}
+
+/// The bits of a mode of a file that say who may read it: its owner, its group and all others.
+const READ_BITS: u32 = 0o444;
+
+/// Lets those who may read this file execute it, where it is a regular one.
+fn allow_execution<H: OpenFile>(file: &H) -> io::Result<()> {
+    let metadata = file.metadata()?;
+    if !metadata.is_file() {
+        return Ok(());
+    }
+    let mut permissions = metadata.permissions();
+    let mode = permissions.mode();
+    permissions.set_mode(mode | (mode & READ_BITS) >> 2);
+    file.set_permissions(permissions)
 }
 
 /// The files of a folder. A name is a path from there; one that begins with a slash is absolute.
@@ -108,7 +126,7 @@ impl<R: rt::Files> Files for DirFiles<'_, R> {
     ghost use Rattle.std.specs.Prelude.{◌≡◌, ◌≤◌, ◌<◌, None, length, IsSome, IfOk};
     ghost use Rattle.std.specs.Io.KnownBytes.{ReadConsumes, WriteAppends};
     ghost use Rattle.cc_io.specs.Faults.{HasCause};
-    ghost use Rattle.cc_io.specs.Files.{Name, OnlyReadsRise, OnlyWritesRise};
+    ghost use Rattle.cc_io.specs.Files.{OnlyReadsRise, OnlyWritesRise};
     ghost use Rattle.cc_io.specs.DirFiles.{name_of, bytes_of, open_file, made_file, reads_failed};
     ghost use Rattle.cc_io.specs.DirFiles.{writes_failed, opens_failed, creates_failed};
 
@@ -187,6 +205,12 @@ impl<R: rt::Files> Files for DirFiles<'_, R> {
         match write_to(&mut self.writing, piece) {
             Ok(n) if n > 0 || piece.is_empty() => Ok(n),
             _ => Err(fault(&mut self.write_faults)),
+        }
+    }
+
+    fn make_executable(&mut self) {
+        if let Some(made) = &self.writing {
+            let _ = allow_execution(&made.file);
         }
     }
 }

@@ -1,4 +1,5 @@
-// The one error of the outside.
+//! The one error of the outside.
+
 use thiserror::Error;
 
 /// A call of the outside failed. It comes only where the count of faults of that kind of call

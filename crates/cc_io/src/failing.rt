@@ -1,6 +1,7 @@
-// What the forms in memory have in common: the calls that are to fail, counts of faults, and a read
-// of bytes.
-ghost use Rattle.std.specs.Prelude.{◌≡◌, ◌≤◌, ◌↔◌, ℕ, List, [], length, min, take, drop, ◌++◌, IsTrue};
+//! What the forms in memory have in common: the calls that are to fail, counts of faults, and a
+//! read of bytes.
+
+ghost use Rattle.std.specs.Prelude.{◌≡◌, ◌≤◌, ◌↔◌, length, min, take, IsTrue};
 ghost use Rattle.cc_io.specs.Faults.{raised};
 
 use crate::failed::Failed;

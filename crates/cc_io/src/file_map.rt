@@ -1,4 +1,5 @@
-// A map from names to bytes, as files in memory.
+//! A map from names to bytes: the files that are held in memory.
+
 ghost use Rattle.std.specs.Prelude.{◌≡◌, ◌<◌, None, length, min, take, drop, OnOk, OnErr};
 ghost use Rattle.cc_io.specs.Files.{content, put_file, append_file};
 ghost use Rattle.cc_io.specs.FileMap.{file_set, file_room};

@@ -1,4 +1,5 @@
-// Files by name.
+//! Files by name, of which at most one is open to be read and at most one is written.
+
 ghost use Rattle.std.specs.Prelude.{◌≡◌, ◌≢◌, ◌<◌, ◌≤◌, ℕ, List, [], Option, None, Some, length, take, option_map, IsSome, IfOk, OnOk, OnErr};
 ghost use Rattle.std.specs.Option.{ForSome};
 ghost use Rattle.cc_io.specs.Faults.{HasCause};
@@ -102,4 +103,18 @@ pub trait Files {
         ensures left { reading self.old ≢ writing self.old → left self.new ≡ left self.old }
         ensures counts { OnlyWritesRise read_faults write_faults open_faults create_faults self.old
             self.new };
+
+    /// Lets those who may read the created file execute it, where the system has modes of files. A
+    /// change of the mode that is refused is passed over.
+    fn make_executable(&mut self)
+        requires { IsSome (writing self.old) }
+        ensures known { known self.new ≡ known self.old }
+        ensures reading { reading self.new ≡ reading self.old }
+        ensures left { left self.new ≡ left self.old }
+        ensures writing { writing self.new ≡ writing self.old }
+        ensures read_faults { read_faults self.new ≡ read_faults self.old }
+        ensures write_faults { write_faults self.new ≡ write_faults self.old }
+        ensures open_faults { open_faults self.new ≡ open_faults self.old }
+        ensures create_faults { create_faults self.new ≡ create_faults self.old }
+    {}
 }

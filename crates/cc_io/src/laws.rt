@@ -1,5 +1,6 @@
 //! Laws of what is read, written and filed, for the proofs of callers: each is the contract of a
 //! function that does nothing.
+
 ghost use Rattle.cc_io.specs.Laws.{PrependTwice, AppendTwice, PutThenAppend, PutTwice, PutHere, PutElsewhere, WrittenWhole};
 
 /// Two reads, one after the other, take what one read of both pieces takes.

@@ -1,9 +1,11 @@
-//! The outside of the compiler: sources that are read, sinks that are written, and files by name.
-//! Every crate that reads or writes stands on it. Promise: a call fails only where a count of
-//! faults increased in it, and bytes come and go in order, none lost and none twice. Nothing is
-//! promised of what the system's streams and files hold.
+//! The outside of the compiler: sources, sinks and files, in memory and of the system. Bytes come
+//! and go in order, none lost and none twice. Nothing is promised of what the system's streams and
+//! files hold.
+//! Always: a call fails only where a count of faults increased.
 #![tactic(auto)]
 
+mod buffered_sink;
+mod buffered_source;
 mod created;
 mod dir_files;
 mod failed;
@@ -17,7 +19,10 @@ mod mem_source;
 mod sink;
 mod source;
 mod std_streams;
+mod uninterrupted;
 
+pub use buffered_sink::{BufferedSink, Buffering};
+pub use buffered_source::BufferedSource;
 pub use created::{Created, save};
 pub use dir_files::DirFiles;
 pub use failed::Failed;

@@ -1,9 +1,10 @@
-// Files in memory.
-ghost use Rattle.std.specs.Prelude.{◌≡◌, ◌≢◌, ◌<◌, ◌≤◌, ◌⊎◌, ◌↔◌, ℕ, List, [], ◌++◌, Option, None, Some, length, min, take, option_map, IsSome, IsNone, IfOk, IfSome, OnOk, OnErr, IsErr, is_ok, if◌then◌else◌};
+//! Files in memory, with listed calls that fail.
+
+ghost use Rattle.std.specs.Prelude.{◌≡◌, ◌≢◌, ◌<◌, ◌≤◌, ◌⊎◌, ◌↔◌, [], None, Some, length, min, take, IsSome, IsNone, IfOk, OnOk, OnErr, IsErr};
 ghost use Rattle.std.specs.Option.{ForSome, option_copied};
 ghost use Rattle.std.specs.String.{string_bytes, string_capacity};
 ghost use Rattle.cc_io.specs.FileMap.{file_set};
-ghost use Rattle.cc_io.specs.FileNames.{NamesFit};
+ghost use Rattle.cc_io.specs.Files.{NamesFit};
 
 use crate::failed::Failed;
 use crate::failing::{FailingCalls, fault};
@@ -132,10 +133,10 @@ impl MemFiles {
 
 impl Files for MemFiles {
     ghost use Rattle.std.specs.Prelude.{unwrap_or};
-    ghost use Rattle.cc_io.specs.Faults.{HasCause, raised};
-    ghost use Rattle.cc_io.specs.Source.{prepend, IsAtEnd};
+    ghost use Rattle.cc_io.specs.Faults.{HasCause};
+    ghost use Rattle.cc_io.specs.Source.{prepend};
     ghost use Rattle.cc_io.specs.Calls.{NextFails, CountsCall};
-    ghost use Rattle.cc_io.specs.Files.{Name, FileSet, content, put_file, append_file};
+    ghost use Rattle.cc_io.specs.Files.{content, put_file, append_file};
     ghost use Rattle.cc_io.specs.Files.{OnlyReadsRise, OnlyWritesRise, OnlyOpensRise};
     ghost use Rattle.cc_io.specs.Files.{OnlyCreatesRise};
     ghost use Rattle.cc_io.specs.MemFiles.{files_of, open_name, open_left, written_name};

@@ -1,5 +1,6 @@
-// A sink in memory.
-ghost use Rattle.std.specs.Prelude.{◌≡◌, ◌<◌, ◌≤◌, ◌⊎◌, ℕ, List, [], ◌++◌, Some, length, IfOk, OnOk, OnErr, IsErr, is_ok, if◌then◌else◌};
+//! A sink in memory, with listed calls that fail.
+
+ghost use Rattle.std.specs.Prelude.{◌≡◌, ◌<◌, ◌⊎◌, [], ◌++◌, Some, length, IfOk, OnOk, OnErr, IsErr, is_ok, if◌then◌else◌};
 
 use crate::failed::Failed;
 use crate::failing::{FailingCalls, fault};

@@ -1,5 +1,6 @@
-// Sources in memory.
-ghost use Rattle.std.specs.Prelude.{◌≡◌, ◌<◌, ◌≤◌, ◌↔◌, ℕ, List, [], ◌++◌, Ok, Some, length, min, take, vec_len, IfOk, OnErr, IsErr, is_ok, if◌then◌else◌};
+//! Sources in memory: one that never fails, and one with listed calls that fail.
+
+ghost use Rattle.std.specs.Prelude.{◌≡◌, ◌<◌, ◌≤◌, ◌↔◌, ◌++◌, Ok, Some, length, min, take, vec_len, IfOk, OnErr, IsErr, is_ok, if◌then◌else◌};
 
 use crate::failed::Failed;
 use crate::failing::{FailingCalls, copy_front, fault};
@@ -26,7 +27,6 @@ impl NoFailSource {
 
 impl Source for NoFailSource {
     ghost use Rattle.cc_io.specs.Faults.{HasCause};
-    ghost use Rattle.cc_io.specs.Source.{prepend, IsAtEnd};
     ghost use Rattle.cc_io.specs.Memory.{bytes_left};
 
     ghost faults = { λ _. 0 };
@@ -75,7 +75,6 @@ impl MemSource {
 
 impl Source for MemSource {
     ghost use Rattle.cc_io.specs.Faults.{HasCause, raised};
-    ghost use Rattle.cc_io.specs.Source.{prepend, IsAtEnd};
     ghost use Rattle.cc_io.specs.Calls.{NextFails, CountsCall};
     ghost use Rattle.cc_io.specs.Memory.{source_left, source_calls, source_faults};
 

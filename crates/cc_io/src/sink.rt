@@ -1,4 +1,5 @@
-// Where bytes go.
+//! Streams of bytes that are written, and the call that writes a list of bytes whole.
+
 ghost use Rattle.std.specs.Prelude.{◌≡◌, ◌<◌, ◌≤◌, ℕ, List, Option, length, take, IfOk, OnOk, OnErr};
 ghost use Rattle.cc_io.specs.Faults.{HasCause};
 ghost use Rattle.cc_io.specs.Sink.{append};
@@ -33,6 +34,14 @@ pub trait Sink {
         ensures err { OnErr result (held self.new ≡ held self.old) }
         ensures rest { rest self.new ≡ rest self.old }
         ensures cause { HasCause (faults self.old) (faults self.new) result };
+
+    /// Hands over bytes that were taken and are held back, where there are any. Where that fails
+    /// `faults` increases, and no later byte is taken.
+    fn flush(&mut self)
+        ensures held { held self.new ≡ held self.old }
+        ensures rest { rest self.new ≡ rest self.old }
+        ensures faults { faults self.old ≤ faults self.new }
+    {}
 }
 
 /// Appends all of `piece`, in calls of at most `CHUNK` bytes each. `Failed` only where the sink's

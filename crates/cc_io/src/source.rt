@@ -1,5 +1,6 @@
-// Where bytes come from.
-ghost use Rattle.std.specs.Prelude.{◌≡◌, ◌<◌, ◌≤◌, ℕ, List, [], Option, length, take, IfOk, OnErr};
+//! Streams of bytes that are read.
+
+ghost use Rattle.std.specs.Prelude.{◌≡◌, ◌<◌, ◌≤◌, ℕ, List, Option, length, take, IfOk, OnErr};
 ghost use Rattle.cc_io.specs.Faults.{HasCause};
 ghost use Rattle.cc_io.specs.Source.{prepend, IsAtEnd};
 
@@ -24,4 +25,9 @@ pub trait Source {
         ensures at_end { IfOk result (λ n. n ≡ 0 → IsAtEnd (left self.new)) }
         ensures err { OnErr result (left self.new ≡ left self.old) }
         ensures cause { HasCause (faults self.old) (faults self.new) result };
+
+    /// Whether the next read may wait for input. `false` where bytes are at hand.
+    fn may_wait(&self) -> bool {
+        true
+    }
 }

@@ -1,10 +1,12 @@
-// The standard streams of the process, or any other reader or writer of the system.
-ghost use Rattle.std.specs.Prelude.{◌≡◌, ◌≤◌, ◌<◌, ℕ, List, None, length, IfOk};
+//! The standard streams of the process, or any other reader or writer of the system.
+
+ghost use Rattle.std.specs.Prelude.{◌≡◌, ◌≤◌, ◌<◌, None, length, IfOk};
 
 use crate::failed::Failed;
 use crate::failing::fault;
 use crate::sink::Sink;
 use crate::source::Source;
+use crate::uninterrupted::{read_uninterrupted, write_uninterrupted};
 use std::io::{Read, Write};
 
 /// A source over a reader of the system, as standard input. What it has left is unknown.
@@ -43,7 +45,7 @@ impl<R: Read> Source for StdSource<R> {
             (R.remaining (reader_of self.new)) result buf.new }
         ensures cause { HasCause (source_faults self.old) (source_faults self.new) result }
     {
-        match self.reader.read(buf) {
+        match read_uninterrupted(&mut self.reader, buf) {
             Ok(n) => Ok(n),
             Err(_) => Err(fault(&mut self.faults)),
         }
@@ -91,7 +93,7 @@ impl<W: Write> Sink for StdSink<W> {
             (W.contents (writer_of self.new)) result piece.now }
         ensures cause { HasCause (sink_faults self.old) (sink_faults self.new) result }
     {
-        match self.writer.write(piece) {
+        match write_uninterrupted(&mut self.writer, piece) {
             Ok(n) if n > 0 || piece.is_empty() => Ok(n),
             _ => Err(fault(&mut self.faults)),
         }

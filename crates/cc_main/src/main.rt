@@ -1,15 +1,20 @@
-//! The program `rvcc`: it hands the arguments of the command line, the files of the working folder
-//! and the standard streams to the top call, and ends with its status. Reports go to standard
-//! error.
+//! The program `rvcc`: it hands the real files and streams to the top call. Those are the arguments
+//! of the command line, the files of the working folder and the standard streams. It ends with the
+//! status of the call; reports go to standard error.
 #![tactic(auto)]
 
+mod descriptors;
+
 use board_work::OpenGate;
-use cc_io::{DirFiles, StdSink, StdSource, write_all};
+use cc_io::{
+    BufferedSink, BufferedSource, Buffering, DirFiles, Sink, StdSink, StdSource, write_all,
+};
 use cc_top::top;
 use cc_watch::{Counter, LogKeeper, Watcher};
+use descriptors::open_closed;
 use std::alloc::{AllocError, Global};
 use std::env;
-use std::io::ErrorKind;
+use std::io::{ErrorKind, IsTerminal};
 use std::process::ExitCode;
 use std::rt::Env;
 use std::sync::Wait;
@@ -18,8 +23,8 @@ use std::thread::Threads;
 /// The status where memory ran out before the top call, which has the same for its own.
 const NO_MEMORY: u8 = 6;
 
-/// The status where the report was not written.
-const NO_REPORT: u8 = 3;
+/// The status where the output or the report was not written.
+const NOT_WRITTEN: u8 = 3;
 
 /// Two empty arguments, which are no command.
 fn no_command(alloc: Global) -> Result<Vec<String>, AllocError> {
@@ -36,18 +41,29 @@ fn words_of(rt: &(impl Env + AllocGlobal)) -> Result<Vec<String>, AllocError> {
     }
 }
 
+/// When the output hands over what is written: after each line where somebody reads along.
+fn buffering_of(output: &impl IsTerminal) -> Buffering {
+    if output.is_terminal() {
+        Buffering::Line
+    } else {
+        Buffering::Full
+    }
+}
+
 /// Carries out the command of the arguments. What `rt` has for threads is handed in as `workers`.
-/// Builds report by a counter and a keeper of the log.
+/// Builds report by a counter and a keeper of the log. The status is that of the command, or
+/// `NOT_WRITTEN` where some of its output was not handed over.
 fn run<H: Threads + Wait + Sync>(rt: &HostRuntime, workers: &H) -> Result<u8, AllocError> {
     let words = words_of(rt)?;
     let mut files = DirFiles::new(rt.alloc(), rt, ".")?;
-    let mut input = StdSource::new(rt.stdin());
-    let mut output = StdSink::new(rt.stdout());
+    let mut input = BufferedSource::new(StdSource::new(rt.stdin()));
+    let buffering = buffering_of(&rt.stdout());
+    let mut output = BufferedSink::new(StdSink::new(rt.stdout()), buffering);
     let mut report = StdSink::new(rt.stderr());
     let mut watchers: Vec<Box<dyn Watcher>> = Vec::new(rt.alloc());
     watchers.push(Box::new(rt.alloc(), Counter::new())?)?;
     watchers.push(Box::new(rt.alloc(), LogKeeper::new(rt.alloc()))?)?;
-    Ok(top(
+    let status = top(
         workers,
         rt.alloc(),
         &words,
@@ -57,20 +73,29 @@ fn run<H: Threads + Wait + Sync>(rt: &HostRuntime, workers: &H) -> Result<u8, Al
         &mut report,
         &OpenGate,
         &mut watchers,
-    ))
+    );
+    output.flush();
+    Ok(if output.has_failed() {
+        NOT_WRITTEN
+    } else {
+        status
+    })
 }
 
-/// Reports that memory ran out.
-fn report_no_memory(rt: &HostRuntime) -> u8 {
-    match write_all(&mut StdSink::new(rt.stderr()), b"memory\n") {
-        Ok(()) => NO_MEMORY,
-        Err(_) => NO_REPORT,
+/// Writes this line on standard error, and gives the status, or `NOT_WRITTEN` where that fails.
+fn report_line(rt: &HostRuntime, line: &[u8], status: u8) -> u8 {
+    match write_all(&mut StdSink::new(rt.stderr()), line) {
+        Ok(()) => status,
+        Err(_) => NOT_WRITTEN,
     }
 }
 
 fn main(rt: HostRuntime) -> ExitCode {
+    if open_closed(&rt).is_err() {
+        return ExitCode::from(report_line(&rt, b"write fault\n", NOT_WRITTEN));
+    }
     ExitCode::from(match run(&rt, &rt) {
         Ok(status) => status,
-        Err(_) => report_no_memory(&rt),
+        Err(_) => report_line(&rt, b"memory\n", NO_MEMORY),
     })
 }

@@ -1,12 +1,22 @@
-//! Tests of the whole compiler, through its top call. No crate stands on it, and it has no function
-//! of its own.
+//! Tests that need the libraries of the top call: calls that fail, watchers, workers at a gate.
+//! There are a few sources of each kind too, with what is reported or done; what needs the program
+//! alone is a row of `rows/`. No crate stands on it.
 #![tactic(auto)]
 
 #[cfg(test)]
-mod accepted;
+mod calls;
 #[cfg(test)]
-mod builds;
+mod failing;
+#[cfg(test)]
+mod outside;
+#[cfg(test)]
+mod programs;
 #[cfg(test)]
 mod refusals;
 #[cfg(test)]
-mod runs;
+mod sources;
+#[cfg(test)]
+mod texts;
+#[cfg(test)]
+mod watched;
+pub mod watching;

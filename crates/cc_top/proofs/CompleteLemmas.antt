@@ -3,24 +3,24 @@ use Rattle.std.proofs.Common.{◌≡◌, ◌⊎◌, ℕ, List, Option, Some, Non
 use Rattle.std.specs.Option.{ForSome}
 use Rattle.c_typed.specs.Typed.{ProgramTree}
 use Rattle.cc_command.specs.Command.{Command, accept, build, run, generate}
-use Rattle.cc_compile.specs.Accepted.{Accepts}
+use Rattle.cc_source.specs.Accepted.{Accepts}
 use Rattle.cc_io.specs.Faults.{Increased}
 use Rattle.cc_io.specs.Files.{Name, content}
 use Rattle.cc_watch.specs.Rows.{PlainRow}
 use Rattle.elf_file.specs.Loading.{Executable, loaded}
 use Rattle.elf_file.specs.declared.fault.ElfFault.{ElfFault}
-use Rattle.cc_top.specs.AcceptEnds.{AcceptCause}
-use Rattle.cc_top.specs.BuildEnds.{BuildEnds, IfKnown, ReadFails, WriteFails}
+use Rattle.cc_build.specs.AcceptEnds.{AcceptCause}
+use Rattle.cc_build.specs.BuildEnds.{BuildEnds}
+use Rattle.cc_outside.specs.Outside.{IfKnown, ReadFails, WriteFails, FilesSeen, Outside, StreamSeen}
 use Rattle.cc_top.specs.Completes.{Completes, IsDone, Works}
 use Rattle.cc_top.specs.Ends.{Ends}
-use Rattle.cc_top.specs.GenerateEnds.{GenerateEnds}
-use Rattle.cc_top.specs.Outcome.{status_of}
-use Rattle.cc_top.specs.Outside.{FilesSeen, Outside, StreamSeen}
-use Rattle.cc_top.specs.Refused.{AcceptedIsNotRefused}
-use Rattle.cc_top.specs.Report.{IsReported}
-use Rattle.cc_top.specs.RunEnds.{RunEnds}
-use Rattle.cc_top.specs.declared.outcome.Outcome.{Outcome}
-use Rattle.cc_top.specs.declared.outcome.Outcome.TheVariants.{Done, Usage, ReadFault, WriteFault, Refused, BadImage, NoMemory, Exit, Stack, Budget, Stuck}
+use Rattle.cc_run.specs.GenerateEnds.{GenerateEnds}
+use Rattle.cc_report.specs.Outcome.{status_of}
+use Rattle.cc_refusal.specs.Refused.{AcceptedIsNotRefused}
+use Rattle.cc_report.specs.Report.{IsReported}
+use Rattle.cc_run.specs.RunEnds.{RunEnds}
+use Rattle.cc_report.specs.declared.outcome.Outcome.{Outcome}
+use Rattle.cc_report.specs.declared.outcome.Outcome.TheVariants.{Done, ReadFault, WriteFault, Refused, BadImage, NoMemory, Exit, Stack, Budget, Stuck}
 
 -- the status is that of the outcome, where the report was written
 pub status-is : (ended : Outcome) (said : List ℕ) (status : ℕ) (held held' : Option (List ℕ)) (faults faults' : ℕ) → IsReported ended said status held held' faults faults'
@@ -41,12 +41,7 @@ module _ (law : AcceptedIsNotRefused) where
     build-done recipe name source image ReadFault said before after ws ws' h reads writes = absurd (reads h.0)
     build-done recipe name source image WriteFault said before after ws ws' h reads writes = absurd (writes h.3.0)
     build-done recipe name source image (Refused refusal) said before after ws ws' h reads writes = λ files is p a. absurd (law (content source files) p refusal a (h.0 files is))
-    build-done recipe name source image Usage said before after ws ws' h reads writes = absurd h
-    build-done recipe name source image (BadImage fault) said before after ws ws' h reads writes = absurd h
-    build-done recipe name source image (Exit status) said before after ws ws' h reads writes = absurd h
-    build-done recipe name source image Stack said before after ws ws' h reads writes = absurd h
-    build-done recipe name source image Budget said before after ws ws' h reads writes = absurd h
-    build-done recipe name source image (Stuck pc why) said before after ws ws' h reads writes = absurd h
+    build-done recipe name source image _ said before after ws ws' h reads writes = absurd h
 
   accept-done : (ended : Outcome) (input input' output output' : StreamSeen) → AcceptCause ended input input' output output' → Works input input' → Works output output'
       → ForSome input.bytes (λ text. (p : ProgramTree) → Accepts text p → IsDone (status_of ended))
@@ -55,26 +50,14 @@ module _ (law : AcceptedIsNotRefused) where
   accept-done ReadFault input input' output output' h reads writes = absurd (reads h.0)
   accept-done WriteFault input input' output output' h reads writes = absurd (writes h.2.0)
   accept-done (Refused refusal) input input' output output' h reads writes = λ text is p a. absurd (law text p refusal a (h.0 text is))
-  accept-done Usage input input' output output' h reads writes = absurd h
-  accept-done (BadImage fault) input input' output output' h reads writes = absurd h
-  accept-done (Exit status) input input' output output' h reads writes = absurd h
-  accept-done Stack input input' output output' h reads writes = absurd h
-  accept-done Budget input input' output output' h reads writes = absurd h
-  accept-done (Stuck pc why) input input' output output' h reads writes = absurd h
+  accept-done _ input input' output output' h reads writes = absurd h
 
 generate-done : (start functions : ℕ) (out : Name) (ended : Outcome) (before after : FilesSeen) → GenerateEnds start functions out ended before after → (WriteFails out before after → ⊥)
     → IsDone (status_of ended)
 generate-done start functions out Done before after h writes = inl refl
 generate-done start functions out NoMemory before after h writes = inr refl
 generate-done start functions out WriteFault before after h writes = absurd (writes h.0)
-generate-done start functions out Usage before after h writes = absurd h
-generate-done start functions out ReadFault before after h writes = absurd h
-generate-done start functions out (Refused refusal) before after h writes = absurd h
-generate-done start functions out (BadImage fault) before after h writes = absurd h
-generate-done start functions out (Exit status) before after h writes = absurd h
-generate-done start functions out Stack before after h writes = absurd h
-generate-done start functions out Budget before after h writes = absurd h
-generate-done start functions out (Stuck pc why) before after h writes = absurd h
+generate-done start functions out _ before after h writes = absurd h
 
 not-loaded : (bytes : List ℕ) (e : Executable) (fault : ElfFault) → loaded bytes ≡ Ok e → loaded bytes ≡ Err fault → ⊥
 not-loaded bytes e fault is other = clash (sym is ∙ other) where
@@ -95,9 +78,7 @@ run-done image steps ReadFault before after h reads input output = elim h.cause 
   | inr failed ↦ absurd (input failed)
 ]
 run-done image steps WriteFault before after h reads input output = absurd (output h.cause)
-run-done image steps Done before after h reads input output = absurd h.cause
-run-done image steps Usage before after h reads input output = absurd h.cause
-run-done image steps (Refused refusal) before after h reads input output = absurd h.cause
+run-done image steps _ before after h reads input output = absurd h.cause
 
 -- ---- the command
 

@@ -1,10 +1,1 @@
-pub mod SourceLemmas
-pub mod AcceptLemmas
-pub mod BuildLemmas
-pub mod BuildLaws
-pub mod CompleteLemmas
-pub mod WatcherLemmas
-pub mod RefusalLaws
-pub mod Digits
-pub mod GenerateLemmas
-pub mod RunLemmas
+mod CompleteLemmas

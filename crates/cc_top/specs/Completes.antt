@@ -5,12 +5,12 @@ use Rattle.g_graph.specs.declared.steps.Rule.{Rule}
 use Rattle.c_typed.specs.Typed.{ProgramTree}
 use Rattle.elf_file.specs.Loading.{Executable, loaded}
 use Rattle.cc_command.specs.Command.{Command, accept, build, run, generate}
-use Rattle.cc_compile.specs.Accepted.{Accepts}
+use Rattle.cc_source.specs.Accepted.{Accepts}
 use Rattle.cc_io.specs.Faults.{Increased}
 use Rattle.cc_io.specs.Files.{Name, content}
-use Rattle.cc_top.specs.BuildEnds.{IfKnown, IsTextOf, ReadFails, WriteFails}
-use Rattle.cc_top.specs.Outside.{FilesSeen, Outside, StreamSeen}
-use Rattle.cc_top.specs.Watchers.{has_reporter}
+use Rattle.cc_outside.specs.Outside.{IfKnown, ReadFails, WriteFails, FilesSeen, Outside, StreamSeen}
+use Rattle.cc_build.specs.BuildEnds.{IsTextOf}
+use Rattle.cc_build.specs.Watchers.{has_reporter}
 
 -- The status is 0, or that of memory that ran out.
 abbrev pub IsDone : (status : ℕ) → Type 0

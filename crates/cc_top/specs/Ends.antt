@@ -2,14 +2,14 @@
 use Rattle.std.specs.Prelude.{◌≡◌, ◌⊎◌, ℕ, List, Option, Some, None}
 use Rattle.cc_command.specs.Command.{Command, accept, build, run, generate}
 use Rattle.cc_watch.specs.Rows.{PlainRow}
-use Rattle.cc_top.specs.AcceptEnds.{AcceptEnds}
-use Rattle.cc_top.specs.BuildEnds.{BuildEndsUnder}
-use Rattle.cc_top.specs.RunEnds.{RunEnds}
-use Rattle.cc_top.specs.GenerateEnds.{GenerateEnds}
-use Rattle.cc_top.specs.Outcome.{text_of as line_of}
-use Rattle.cc_top.specs.Outside.{Outside, KeepsStreams}
-use Rattle.cc_top.specs.declared.outcome.Outcome.{Outcome}
-use Rattle.cc_top.specs.declared.outcome.Outcome.TheVariants.{Usage, NoMemory}
+use Rattle.cc_build.specs.AcceptEnds.{AcceptEnds}
+use Rattle.cc_build.specs.BuildEnds.{BuildEndsUnder}
+use Rattle.cc_run.specs.RunEnds.{RunEnds}
+use Rattle.cc_run.specs.GenerateEnds.{GenerateEnds}
+use Rattle.cc_report.specs.Outcome.{text_of as line_of}
+use Rattle.cc_outside.specs.Outside.{Outside, KeepsStreams}
+use Rattle.cc_report.specs.declared.outcome.Outcome.{Outcome}
+use Rattle.cc_report.specs.declared.outcome.Outcome.TheVariants.{Usage, NoMemory}
 
 -- The arguments are no command, which leaves all as it was. Memory may run out for them too.
 abbrev pub EndsUnread : Outcome → Outside → Outside → Type 0

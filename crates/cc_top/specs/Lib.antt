@@ -1,14 +1,2 @@
-pub mod Refusal
-pub mod Refused
-pub mod Report
-pub mod Outcome
-pub mod Text
-pub mod Outside
-pub mod Watchers
-pub mod AcceptEnds
-pub mod BuildEnds
-pub mod GenerateEnds
 pub mod Ends
 pub mod Completes
-pub mod RunEnds
-pub mod StopOutcomes

@@ -1,36 +1,26 @@
-//! The top call of the compiler: it carries out the command that the arguments of a command line
-//! ask for, over the files and streams that it is handed. The program `cc_main` stands on it.
-//! Promise: each status comes at its cause, and on status 0 of `build` the source is accepted, OUT
-//! is exactly its image under the recipe, and on the machine OUT does what the source does.
+//! The top call: it carries out a command, and tells how it ended. The command is what the
+//! arguments of a command line ask for; it works over the files and streams that it is handed. Each
+//! status comes at its cause. On status 0 of `build` the source is accepted, OUT is exactly its
+//! image under the recipe, and on the machine OUT does what the source does.
+//! Always: a refused build creates no file.
 #![tactic(auto)]
 
-mod accept;
-mod build;
-mod compile;
-mod generated;
-pub mod laws;
-mod line;
-mod load;
-mod outcome;
-mod refusal;
-mod report;
-mod run;
-mod watchers;
-
-ghost use Rattle.std.specs.Prelude.{◌≡◌, ℕ, List, map};
+ghost use Rattle.std.specs.Prelude.{ℕ, List, map};
 ghost use Rattle.std.specs.String.{string_bytes};
 ghost use Rattle.cc_command.specs.Command.{command_of};
 ghost use Rattle.cc_io.specs.Faults.{Increased};
 ghost use Rattle.cc_top.specs.Completes.{Completes};
 ghost use Rattle.cc_top.specs.Ends.{Ends};
-ghost use Rattle.cc_top.specs.Outside.{files_seen, stream_seen};
-ghost use Rattle.cc_top.specs.Report.{IsReported, outcome_of, said_by};
+ghost use Rattle.cc_outside.specs.Outside.{outside_of};
+ghost use Rattle.cc_report.specs.Report.{IsReported, outcome_of, said_by};
 
 use board_work::Gate;
+use cc_build::{accept, build};
 use cc_command::{Command, parse_command};
 use cc_io::{Files, Sink, Source};
+use cc_report::{Ending, Outcome, tell};
+use cc_run::{generated, run};
 use cc_watch::Watcher;
-use outcome::{Ending, Outcome};
 use std::alloc::Global;
 use std::sync::Wait;
 use std::thread::Threads;
@@ -46,22 +36,22 @@ use std::thread::Threads;
 /// writes and exits with its status, or it stops for want of stack after a beginning of that
 /// output, only where some stack of calls has frames of more than 8,388,608 bytes. `run IMG
 /// [--steps N]` runs the executable IMG for at most N instructions, from `input` to `output`. `gen
-/// NUMBER COUNT OUT` writes the generated program of COUNT functions, 1 to 511, whose draws begin
-/// with NUMBER, 0 to 4294967295, to the file OUT. Without arguments the source on `input` is
-/// compiled and the line `accepted F` written on `output`, F being the number of functions that it
-/// defines; no file changes. What a user reads of the end is written on `report`: on status 0 of
-/// `build` the text of the report that is asked for, nothing on status 0 of `gen` and the command
-/// without arguments, and else a line.
+/// NUMBER COUNT OUT` writes the generated program of COUNT functions, 1 to
+/// `MOST_GENERATED_FUNCTIONS`, whose draws begin with NUMBER, 0 to 4294967295, to the file OUT.
+/// Without arguments the source on `input` is compiled and the line `accepted F` written on
+/// `output`, F being the number of functions that it defines; no file changes. What a user reads of
+/// the end is written on `report`: on status 0 of `build` the text of the report that is asked for,
+/// nothing on status 0 of `gen` and the command without arguments, and else a line.
 ///
 /// Each of `watchers` is given what the recipe of a build did to each function, a row a function in
 /// source order, each row before the next, and before OUT is created. `--report NAME` asks for the
 /// text of the first of them whose name is NAME, which is made and written after OUT. No other
 /// command tells them anything.
 ///
-/// With `--workers N`, 1 to 64, N workers make the functions of a build, each in a thread of its
-/// own where one can be made, and 1 where N is not given; each passes `gate` before it makes a
-/// function. OUT is the same for every N. A call may wait, and what is said here holds where it
-/// returns. The statuses:
+/// With `--workers N`, 1 to `MOST_WORKERS`, N workers make the functions of a build, each in a
+/// thread of its own where one can be made, and 1 where N is not given; each passes `gate` before
+/// it makes a function. OUT is the same for every N. A call may wait, and what is said here holds
+/// where it returns. The statuses:
 ///
 /// - 0: `build` or `gen` wrote OUT, `accepted F` was written, or the program that `run` ran has
 ///   exited; the line has its exit status.
@@ -91,43 +81,25 @@ pub fn top<H: Threads + Wait + Sync, F: Files, I: Source, O: Sink, E: Sink, G: G
     watchers: &mut Vec<Box<dyn Watcher>>,
 ) -> u8
     // There is an outcome that comes at its cause, and what is said of it is reported.
-    ensures ends { (ended : Outcome) × ((said : List ℕ)
+    ensures ends { let seen = outside_of F.known F.read_faults F.write_faults F.open_faults
+        F.create_faults I.left I.faults O.held O.faults in
+        (ended : Outcome) × ((said : List ℕ)
         × Ends named stands_for text_of (command_of (map string_bytes words.now)) ended said
-        (record {
-          files = files_seen F.known F.read_faults F.write_faults F.open_faults F.create_faults
-              files.old;
-          input = stream_seen I.left I.faults input.old;
-          output = stream_seen O.held O.faults output.old;
-        })
-        (record {
-          files = files_seen F.known F.read_faults F.write_faults F.open_faults F.create_faults
-              files.new;
-          input = stream_seen I.left I.faults input.new;
-          output = stream_seen O.held O.faults output.new;
-        })
+        (seen files.old input.old output.old) (seen files.new input.new output.new)
         watchers.old.items watchers.new.items
         × IsReported ended said result (E.held report.old) (E.held report.new)
         (E.faults report.old) (E.faults report.new)) }
     // Where no call fails a command that has what it asks for is done, or memory ran out.
-    ensures complete { (Increased (E.faults report.old) (E.faults report.new) → ⊥)
+    ensures complete { let seen = outside_of F.known F.read_faults F.write_faults F.open_faults
+        F.create_faults I.left I.faults O.held O.faults in
+        (Increased (E.faults report.old) (E.faults report.new) → ⊥)
         → Completes named (command_of (map string_bytes words.now)) result
-        (record {
-          files = files_seen F.known F.read_faults F.write_faults F.open_faults F.create_faults
-              files.old;
-          input = stream_seen I.left I.faults input.old;
-          output = stream_seen O.held O.faults output.old;
-        })
-        (record {
-          files = files_seen F.known F.read_faults F.write_faults F.open_faults F.create_faults
-              files.new;
-          input = stream_seen I.left I.faults input.new;
-          output = stream_seen O.held O.faults output.new;
-        })
+        (seen files.old input.old output.old) (seen files.new input.new output.new)
         watchers.old.items }
 {
-    laws::accepted_sources_are_not_refused();
+    cc_refusal::laws::accepted_sources_are_not_refused();
     let ending = carry_out(rt, alloc, words, files, input, output, gate, watchers);
-    report::tell(report, &ending)
+    tell(report, &ending)
 }
 
 /// Carries out the command of the arguments.
@@ -141,20 +113,11 @@ fn carry_out<H: Threads + Wait + Sync, F: Files, I: Source, O: Sink, G: Gate>(
     gate: &G,
     watchers: &mut Vec<Box<dyn Watcher>>,
 ) -> Ending
-    ensures { Ends named stands_for text_of (command_of (map string_bytes words.now))
+    ensures { let seen = outside_of F.known F.read_faults F.write_faults F.open_faults
+        F.create_faults I.left I.faults O.held O.faults in
+        Ends named stands_for text_of (command_of (map string_bytes words.now))
         (outcome_of result) (said_by result)
-        (record {
-          files = files_seen F.known F.read_faults F.write_faults F.open_faults F.create_faults
-              files.old;
-          input = stream_seen I.left I.faults input.old;
-          output = stream_seen O.held O.faults output.old;
-        })
-        (record {
-          files = files_seen F.known F.read_faults F.write_faults F.open_faults F.create_faults
-              files.new;
-          input = stream_seen I.left I.faults input.new;
-          output = stream_seen O.held O.faults output.new;
-        })
+        (seen files.old input.old output.old) (seen files.new input.new output.new)
         watchers.old.items watchers.new.items }
 {
     let command = match parse_command(alloc, words) {

@@ -1,4 +1,3 @@
 pub mod Rows
 pub mod Texts
 pub mod Counts
-pub mod Begun

@@ -1,8 +1,8 @@
--- The texts of a list of rows.
-use Rattle.std.specs.Prelude.{ℕ, ◌++◌, ◌==◌, ◌%◌, ◌^◌, List, [], ◌∷◌, length, codes, decimal, flat_map, count_by, sum_by}
+-- The texts of a list of rows, and a text that begins with another one.
+use Rattle.std.specs.Prelude.{◌≡◌, ℕ, ◌++◌, ◌==◌, ◌%◌, ◌^◌, List, length, codes, decimal, flat_map, count_by, sum_by}
 use Rattle.g_graph.specs.declared.steps.Rule.{Rule}
 use Rattle.g_graph.specs.declared.steps.Step.{Step}
-use Rattle.rule_names.specs.Names.{rule_name, all_rules, rule_place}
+use Rattle.r_names.specs.Names.{rule_name, all_rules, rule_place}
 use Rattle.cc_watch.specs.Rows.{PlainRow}
 
 -- a blank and a number in decimal
@@ -52,3 +52,7 @@ counts_text functions count before after =
 abbrev pub count_text : List PlainRow → List ℕ
 count_text rows =
     counts_text (length rows % 2 ^ 32) (λ k. applied k rows % 2 ^ 32) (sum_by (λ r. r.before) rows % 2 ^ 32) (sum_by (λ r. r.after) rows % 2 ^ 32)
+
+-- the text goes on from another one
+abbrev pub Extends : (before after : List ℕ) → Type 0
+Extends before after = (more : List ℕ) × (after ≡ before ++ more)

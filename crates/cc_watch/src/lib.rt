@@ -1,7 +1,6 @@
-//! Watchers: values that learn what a recipe did to each function, and give a text of it. The
-//! compiler around them stands on it; it stands on the steps of g_graph and the names of c_lex.
-//! Promise: a watcher that stood for a list of rows stands for that list and the row that it was
-//! given, and its text is that of the list.
+//! Watchers: values that learn what a recipe did to each function, and give a text of it. The text
+//! is that of the list of rows.
+//! Always: a watcher stands for the rows that it was given.
 #![tactic(auto)]
 
 mod counter;

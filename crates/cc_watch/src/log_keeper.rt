@@ -1,3 +1,5 @@
+//! The watcher that keeps all rows.
+
 ghost use Rattle.std.specs.Prelude.{◌≡◌, IfOk};
 
 use crate::text::push_log;

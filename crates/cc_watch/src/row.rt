@@ -1,3 +1,5 @@
+//! Rows: what a recipe did to one function.
+
 use c_lex::Name;
 use g_graph::StepList;
 use no_memory::NoMemory;

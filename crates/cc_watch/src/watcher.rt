@@ -1,3 +1,5 @@
+//! The interface of watchers.
+
 use crate::Row;
 use no_memory::NoMemory;
 

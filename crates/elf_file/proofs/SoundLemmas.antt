@@ -1,5 +1,5 @@
 -- What holds of a file without a fault.
-use Rattle.std.proofs.Common.{◌≡◌, ℕ, ◌+◌, ◌≤◌, Bool, true, false, if◌then◌else◌, List, Option, Some, is_none, not, length, refl, slice_get, [], ◌∷◌, zero, suc, unwrap_or, sym, ap, ◌∙◌}
+use Rattle.std.proofs.Common.{◌≡◌, ℕ, ◌+◌, ◌≤◌, Bool, true, false, if◌then◌else◌, List, Option, Some, is_none, length, refl, slice_get, [], ◌∷◌, zero, suc, unwrap_or, sym, ap, ◌∙◌}
 use Rattle.std.proofs.lemmas.Bool.{and_parts, ltb-false, leb-true, not-false}
 use Rattle.elf_file.specs.Image.{memory_limit}
 use Rattle.elf_file.specs.Header.{ProgramHeader}

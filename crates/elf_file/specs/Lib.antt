@@ -4,6 +4,5 @@ pub mod Image
 pub mod ImageView
 pub mod Laws
 pub mod Loading
-pub mod Segment
 pub mod Segments
 pub mod Written

@@ -1,7 +1,12 @@
--- What holds of the segments of every executable that is loaded.
+-- A segment of a view as a plain record, and what holds of the segments of every executable that is loaded.
 use Rattle.std.specs.Prelude.{ℕ, ◌+◌, ◌^◌, ◌<◌, ◌≤◌, List, length, All, AllPairs, sum_by}
 use Rattle.elf_file.specs.Image.{memory_limit}
 use Rattle.elf_file.specs.Loading.{LoadedSegment}
+use Rattle.elf_file.specs.declared.view.Segment.{Segment}
+
+-- a segment of a view, as a plain record
+abbrev pub segment_of : Segment → LoadedSegment
+segment_of s = record { at = s.at; size = s.size; flags = s.flags; bytes = s.bytes.now }
 
 -- The bytes of the file are no more than those of the memory, which ends within 2^32 bytes.
 pub record IsContained (s : LoadedSegment) : Type 0 where

@@ -1,3 +1,5 @@
+//! Why a file is no executable that can be loaded.
+
 use thiserror::Error;
 
 /// Why a file is no executable that can be loaded. A file with several faults is refused for the

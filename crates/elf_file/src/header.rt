@@ -1,4 +1,6 @@
-ghost use Rattle.std.specs.Prelude.{◌≡◌, ℕ, ◌+◌, ◌≤◌, ◌++◌, OnOk, length};
+//! The headers of an ELF file: their sizes, and how they are read and written.
+
+ghost use Rattle.std.specs.Prelude.{◌≡◌, ◌+◌, ◌≤◌, ◌++◌, OnOk, length};
 ghost use Rattle.elf_file.specs.Header.{half, half_at, word, word_at, elf_header, program_header, header_at, header_of};
 
 use crate::image::PAGE;

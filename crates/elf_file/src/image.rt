@@ -1,3 +1,5 @@
+//! A program in memory, and the numbers that say where its sections stand.
+
 /// The size of a page in bytes. Each section of an image begins on a page of its own.
 pub const PAGE: u32 = 4096;
 

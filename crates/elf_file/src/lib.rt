@@ -1,7 +1,8 @@
-//! Executable files: ELF for 32-bit RISC-V (System V ABI, chapters 4 and 5). It stands on no crate
-//! of the repository but `no_memory`. Promise: `write` gives exactly the file of an image that
-//! specs/Written.antt defines, and `read` exactly what specs/Loading.antt says that a file loads
-//! as, or its first fault.
+//! The executable file of an image, written and read: ELF for 32-bit RISC-V.
+//! It follows the System V ABI, chapters 4 and 5. Promise: `write` gives exactly the file of an
+//! image that specs/Written.antt defines, and `read` exactly what specs/Loading.antt says that a
+//! file loads as, or its first fault.
+//! Always: segments of a view are apart.
 #![tactic(auto)]
 
 mod fault;

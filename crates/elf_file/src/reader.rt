@@ -1,4 +1,6 @@
-ghost use Rattle.std.specs.Prelude.{◌≡◌, ℕ, ◌+◌, ◌*◌, ◌≤◌, ◌&&◌, length, MatchResult, Ok, Err};
+//! Reading an executable, without memory.
+
+ghost use Rattle.std.specs.Prelude.{◌≡◌, ◌+◌, ◌*◌, ◌≤◌, length, MatchResult, Ok, Err, ◌&&◌};
 ghost use Rattle.std.specs.List.{list_all};
 ghost use Rattle.elf_file.specs.Header.{header_of};
 ghost use Rattle.elf_file.specs.ImageView.{executable_of};

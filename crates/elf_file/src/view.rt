@@ -1,8 +1,9 @@
-ghost use Rattle.std.specs.Prelude.{◌≡◌, ℕ, ◌+◌, ◌*◌, ◌<◌, ◌≤◌, is_none, IsTrue, Some, length, slice_get};
+//! What a file that was read shows: its entry, and its segments.
+
+ghost use Rattle.std.specs.Prelude.{◌≡◌, ◌+◌, ◌*◌, ◌<◌, ◌≤◌, is_none, IsTrue, Some, length, slice_get};
 ghost use Rattle.elf_file.specs.Header.{header_of, header_at};
 ghost use Rattle.elf_file.specs.Loading.{headers_start, header_count, segment_at, fault_of};
-ghost use Rattle.elf_file.specs.Segment.{segment_of};
-ghost use Rattle.elf_file.specs.Segments.{IsContained, AreSound};
+ghost use Rattle.elf_file.specs.Segments.{segment_of, IsContained, AreSound};
 
 use crate::header::{
     LOAD, PROGRAM_HEADER_SIZE, ProgramHeader, read_half, read_program_header, read_word,

@@ -7,9 +7,9 @@ use Rattle.std.proofs.lemmas.List.{append-nil, length-append}
 use Rattle.val_core.specs.declared.leaf.Leaf.{Leaf}
 use Rattle.c_typed.specs.Typed.{WrittenTree, word_at, link_at, characters_at}
 use Rattle.c_typed.specs.WellTyped.{WrittenFits}
-use Rattle.g_construct.specs.Globals.{byte_at, bytes_from}
+use Rattle.g_build_def.specs.Globals.{byte_at, bytes_from}
 use Rattle.g_build.specs.Globals.{StandApart, bytes_end, item_bytes}
-use Rattle.g_construct.proofs.lemmas.Programs.{bytes_counted, bytes_same}
+use Rattle.g_build_def.proofs.lemmas.Programs.{bytes_counted, bytes_same}
 
 -- ---- bytes
 
@@ -54,11 +54,6 @@ sooner [] m n le h = tt
 sooner (word_at o width w ∷ ws) m n le h = (omega (arith, le, h.0), h.1)
 sooner (link_at o k ∷ ws) m n le h = (omega (arith, le, h.0), h.1)
 sooner (characters_at o cs ∷ ws) m n le h = (omega (arith, le, h.0), h.1)
-
-first_apart : (n : ℕ) (x : WrittenTree) (ws : List WrittenTree) → StandApart n (x ∷ ws) → StandApart n (x ∷ [])
-first_apart n (word_at o width w) ws h = (h.0, tt)
-first_apart n (link_at o k) ws h = (h.0, tt)
-first_apart n (characters_at o cs) ws h = (h.0, tt)
 
 rest_apart : (n : ℕ) (x : WrittenTree) (ws : List WrittenTree) → StandApart n (x ∷ ws) → StandApart (bytes_end n x) ws
 rest_apart n (word_at o width w) ws h = h.1

@@ -1,7 +1,7 @@
 -- The items that are written in a global, one after another.
 use Rattle.std.specs.Prelude.{ℕ, ◌+◌, ◌-◌, ◌≤◌, List, [], ◌∷◌, length}
 use Rattle.c_typed.specs.Typed.{WrittenTree, word_at, link_at, characters_at}
-use Rattle.g_construct.specs.Globals.{bytes_from}
+use Rattle.g_build_def.specs.Globals.{bytes_from}
 
 -- they stand in order and apart, from an offset on
 abbrev pub StandApart : (from : ℕ) → List WrittenTree → Type 0

@@ -1,4 +1,3 @@
-pub mod Returned
 pub mod Bodies
 pub mod Globals
 pub mod Passed

@@ -2,14 +2,11 @@
 use Rattle.std.specs.Prelude.{ℕ, ◌+◌, nat_lt, if◌then◌else◌, List, [], ◌∷◌, Option, None, Some}
 use Rattle.std.specs.List.{sum_by}
 use Rattle.std.specs.Option.{option_or}
-use Rattle.limits.specs.Limits.{most_lambda_values}
+use Rattle.limits.specs.Limits.{most_lambda_values, most_built_values}
 use Rattle.c_typed.specs.Typed.{FunctionTree}
 use Rattle.g_graph.specs.Count.{saturated}
-use Rattle.g_construct.specs.Functions.{function_values}
+use Rattle.g_build_def.specs.Functions.{function_values}
 use Rattle.g_build.specs.declared.passed.Passed.{Passed}
-
-abbrev pub most_built_values : ℕ
-most_built_values = 400000
 
 -- the first function whose lambda has too many values
 abbrev pub first_large : List FunctionTree → Option Passed

@@ -1,18 +1,19 @@
 //! The body of a function.
+
 ghost use Rattle.std.specs.Prelude.{◌≡◌, ◌++◌, ◌∷◌, ◌<◌, ◌-◌, ◌^◌, [], length, replicate, OnOk, IfOk};
 ghost use Rattle.c_typed.specs.WellTyped.{params_of};
 ghost use Rattle.g_graph.specs.declared.op.Kind.TheVariants.{Value, Memory, Io};
-ghost use Rattle.g_construct.specs.Functions.{start_of, jumps_begun, body_built, body_made, next_number};
-ghost use Rattle.g_expression.specs.Work.{made};
+ghost use Rattle.g_build_def.specs.Functions.{start_of, jumps_begun, body_built, body_made, next_number};
+ghost use Rattle.g_build_expression.specs.Work.{made};
 ghost use Rattle.g_build.specs.Bodies.{jumping_from, straight_from};
 
 use crate::params::{enter, store_params};
 use crate::straight_body::{end_value, straight};
 use c_typed::TFunction;
-use g_count::{body_jumps, params_of};
-use g_expression::{Body, Builder};
+use g_build_count::{body_jumps, params_of};
+use g_build_expression::{Body, Builder};
+use g_build_statement::{Objects, list};
 use g_graph::{Kind, Origin};
-use g_statement::{Objects, list};
 use no_memory::NoMemory;
 use std::alloc::Global;
 

@@ -1,11 +1,12 @@
 //! The globals of a program: their bytes, links and leaves.
+
 ghost use Rattle.std.specs.Prelude.{◌≡◌, ◌++◌, ◌∷◌, ◌≤◌, [], length, map, OnOk, IfOk};
 ghost use Rattle.c_type.specs.Layout.{IsLaidOut};
 ghost use Rattle.c_typed.specs.Typed.{word_at, characters_at};
-ghost use Rattle.c_typed.specs.ProgramViews.{written_of};
+ghost use Rattle.c_typed.specs.ProgramEncoding.{written_of};
 ghost use Rattle.c_typed.specs.WellTyped.{IsWellTyped};
-ghost use Rattle.g_construct.specs.Globals.{bytes_from, links_in, global_made, globals_made};
-ghost use Rattle.g_build.specs.Globals.{StandApart, bytes_end, item_bytes};
+ghost use Rattle.g_build_def.specs.Globals.{bytes_from, links_in, global_made, globals_made};
+ghost use Rattle.g_build.specs.Globals.{StandApart, item_bytes};
 
 use c_type::{Types, leaves, size_of};
 use c_typed::{TGlobal, Typed, Written};

@@ -1,8 +1,9 @@
 //! The lambda of a function.
+
 ghost use Rattle.std.specs.Prelude.{◌≡◌, [], ◌∷◌, ◌++◌, ◌==◌, OnOk, IfOk};
 ghost use Rattle.c_type.specs.Layout.{IsLaidOut};
 ghost use Rattle.c_typed.specs.WellTyped.{VariablesFit};
-ghost use Rattle.g_construct.specs.Functions.{object_made, objects_made, lambda_made};
+ghost use Rattle.g_build_def.specs.Functions.{object_made, objects_made, lambda_made};
 
 use crate::body::build_body;
 use c_type::{Types, leaves, size_of};

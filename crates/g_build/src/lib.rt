@@ -1,7 +1,7 @@
-//! The construction of functions and programs: lambdas, globals, names, and the limits of values,
-//! which are decided before a node is made. It stands on the construction of statements and on
-//! counting. What is made is what the definition makes, and a limit is passed exactly where a count
+//! The graph of a program: its lambdas, globals and names, and the limits of its values.
+//! Promise: what is made is what the definition makes, and a limit is passed exactly where a count
 //! passes it.
+//! Always: a limit is decided before a node is made.
 #![tactic(auto)]
 
 mod body;

@@ -1,7 +1,8 @@
 //! The graph of a program, once its limits are decided.
+
 ghost use Rattle.std.specs.Prelude.{◌≡◌, IfOk};
 ghost use Rattle.c_typed.specs.WellTyped.{IsWellTyped};
-ghost use Rattle.g_construct.specs.Functions.{omega};
+ghost use Rattle.g_build_def.specs.Functions.{omega};
 ghost use Rattle.g_build.specs.declared.omega.BuildFault.TheVariants.{NoMemory};
 ghost use Rattle.g_build.specs.Passed.{limit_passed};
 ghost use Rattle.g_build.specs.Answer.{limit_named};

@@ -1,15 +1,16 @@
 //! The parameters of a function: values are arguments of its body, and objects are stored.
-ghost use Rattle.std.specs.Prelude.{◌≡◌, ◌++◌, ◌∷◌, ◌<◌, ◌-◌, ◌^◌, [], if◌then◌else◌, suc, length, OnOk};
-ghost use Rattle.g_construct.specs.Writer.{held, object, with_variables};
+
+ghost use Rattle.std.specs.Prelude.{◌≡◌, ◌++◌, ◌∷◌, ◌<◌, ◌-◌, ◌^◌, [], if◌then◌else◌, length, OnOk};
+ghost use Rattle.g_build_def.specs.Writer.{held, object, with_variables};
 ghost use Rattle.g_graph.specs.declared.op.Origin.TheVariants.{Arg};
-ghost use Rattle.g_construct.specs.Functions.{params_carried, params_stored};
-ghost use Rattle.g_expression.specs.Work.{made, moved_to};
-ghost use Rattle.g_expression.specs.SlotViews.{slot_of};
+ghost use Rattle.g_build_def.specs.Functions.{params_carried, params_stored};
+ghost use Rattle.g_build_expression.specs.Work.{made, moved_to};
+ghost use Rattle.g_build_expression.specs.SlotViews.{slot_of};
 
 use c_typed::Variable;
-use g_expression::{Builder, InScope, access_width};
+use g_build_expression::{Builder, InScope, access_width};
+use g_build_statement::{number_after, store_object};
 use g_graph::Origin;
-use g_statement::{number_after, store_object};
 use no_memory::NoMemory;
 
 fn in_scope(is_object: bool, number: u32, argument: u32) -> InScope
@@ -39,7 +40,7 @@ pub fn enter(b: &mut Builder, params: &[Variable]) -> Result<(), NoMemory>
     Ok(())
 }
 
-#[tactic(auto, using(g_expression::proofs::lemmas::Made::moved_made))]
+#[tactic(auto, using(g_build_expression::proofs::lemmas::Made::moved_made))]
 fn store_param(
     b: &mut Builder,
     param: &Variable,

@@ -1,16 +1,14 @@
 //! The limits of a program's values, which are decided before a node is made.
-ghost use Rattle.std.specs.Prelude.{◌≡◌, option_map, nat_lt};
+
+ghost use Rattle.std.specs.Prelude.{◌≡◌};
 ghost use Rattle.std.specs.List.{sum_by};
 ghost use Rattle.g_graph.specs.Count.{saturated};
-ghost use Rattle.g_construct.specs.Functions.{function_values};
-ghost use Rattle.g_build.specs.Passed.{limit_passed, first_large, first_beyond, most_built_values};
+ghost use Rattle.g_build_def.specs.Functions.{function_values};
+ghost use Rattle.g_build.specs.Passed.{limit_passed, first_large, first_beyond};
 
 use c_typed::TFunction;
-use g_count::count;
-use limits::MOST_LAMBDA_VALUES;
-
-// The most values of all lambdas as they are built.
-const MOST_BUILT_VALUES: u64 = 400_000;
+use g_build_count::count;
+use limits::{MOST_BUILT_VALUES, MOST_LAMBDA_VALUES};
 
 /// A limit that a program passes: the offset of the name of the function that passes it, its number
 /// (5, the values of one lambda, or 6, those of all lambdas), and how many values there are,

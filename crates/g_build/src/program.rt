@@ -1,7 +1,8 @@
 //! The lambdas of a program, and the names of its functions.
+
 ghost use Rattle.std.specs.Prelude.{◌≡◌, IfOk};
 ghost use Rattle.c_typed.specs.WellTyped.{IsWellTyped};
-ghost use Rattle.g_construct.specs.Functions.{graph, names};
+ghost use Rattle.g_build_def.specs.Functions.{graph, names};
 
 use crate::lambda::build_lambda;
 use c_lex::Name;

@@ -1,15 +1,16 @@
 //! The body of a function without `go`, where a `return` that is last gives the value.
-ghost use Rattle.std.specs.Prelude.{◌≡◌, ◌∷◌, OnOk, IfOk};
+
+ghost use Rattle.std.specs.Prelude.{◌≡◌, OnOk, IfOk};
 ghost use Rattle.c_typed.specs.StmtViews.{items_of};
-ghost use Rattle.g_construct.specs.Functions.{end_value, straight_made};
-ghost use Rattle.g_expression.specs.Work.{made};
-ghost use Rattle.g_build.specs.Returned.{returned_made};
+ghost use Rattle.g_build_def.specs.Functions.{end_value, straight_made};
+ghost use Rattle.g_build_expression.specs.Work.{made};
+ghost use Rattle.g_build.specs.Bodies.{returned_made};
 
 use c_typed::{Item, StmtForm, TStmt};
-use g_count::{is_return, items_follow};
-use g_expression::Builder;
+use g_build_count::{is_return, items_follow};
+use g_build_expression::Builder;
+use g_build_statement::{Objects, declare, statement};
 use g_graph::Origin;
-use g_statement::{Objects, declare, statement};
 use no_memory::NoMemory;
 
 /// What a function gives that ends without a `return`: 0 for `main`.

@@ -3,10 +3,8 @@ use Rattle.std.proofs.Common.{◌≡◌, ℕ, ◌++◌, true, ◌&&◌, List, []
 use Rattle.std.proofs.lemmas.List.{length-map}
 use Rattle.std.proofs.lemmas.Bool.{and_parts}
 use Rattle.g_graph.specs.declared.op.Kind.{Kind}
-use Rattle.g_graph.specs.declared.op.Op.{Op}
-use Rattle.g_graph.specs.declared.op.Op.TheVariants.{Local, Load, Store, Clear, Gamma, Theta}
 use Rattle.g_graph.specs.declared.op.Origin.{Origin}
-use Rattle.g_graph.specs.Plain.{NodeTree, node, NodeTrees, no_nodes, node_then, RegionTrees, no_regions, region_then, nodes_of}
+use Rattle.g_graph.specs.Plain.{NodeTree, node, NodeTrees, no_nodes, node_then, nodes_of}
 use Rattle.g_graph.specs.Signatures.{inputs_of, outputs_of}
 use Rattle.g_graph.specs.Scope.{known, each_node}
 use Rattle.g_graph.specs.WellFormed.{all_of, are, one_state_each, has_its_regions, regions_fit, theta_has_states, has_its_width, has_its_object, inputs_fit, is_last, inputs_are_last, node_has_one_state_each, node_fits}

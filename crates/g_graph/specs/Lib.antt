@@ -3,6 +3,7 @@ pub mod Codes
 pub mod Signatures
 pub mod Count
 pub mod Ids
+pub mod Views
 pub mod Scope
 pub mod WellFormed
 pub mod Change

@@ -1,3 +1,5 @@
+//! Whether a lambda has a region that passes the test for a change.
+
 ghost use Rattle.std.specs.Prelude.{◌≡◌, is_some};
 ghost use Rattle.g_graph.specs.Change.{region_changed, some_region, some_in_node};
 

@@ -1,3 +1,5 @@
+//! A change made in the first region that admits it, in pre-order.
+
 ghost use Rattle.std.specs.Prelude.{◌≡◌, MatchBool, IfOk, OnOk, OnErr, is_some};
 ghost use Rattle.std.specs.declared.option.Option.TheVariants.{Some, None};
 ghost use Rattle.g_graph.specs.Plain.{RegionTree, nodes_of, regions_of};

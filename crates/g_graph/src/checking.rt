@@ -1,4 +1,6 @@
-ghost use Rattle.std.specs.Prelude.{◌≡◌, ◌&&◌, [], ◌∷◌, ◌++◌, map, replicate};
+//! Whether a lambda is well formed.
+
+ghost use Rattle.std.specs.Prelude.{◌≡◌, [], ◌∷◌, ◌++◌, map, replicate, ◌&&◌};
 ghost use Rattle.g_graph.specs.declared.op.Kind.TheVariants.{Value, Memory, Io};
 ghost use Rattle.g_graph.specs.declared.op.Op.TheVariants.{Gamma};
 ghost use Rattle.g_graph.specs.Plain.{node, nodes_of, regions_of, args_of};

@@ -1,3 +1,5 @@
+//! The words of constants, and of origins that are constants.
+
 ghost use Rattle.std.specs.Prelude.{◌≡◌, option_and_then};
 ghost use Rattle.g_graph.specs.Plain.{nodes_of};
 ghost use Rattle.g_graph.specs.Nodes.{node_at, op_word, const_word, constant};

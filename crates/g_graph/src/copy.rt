@@ -1,3 +1,5 @@
+//! Copies of lambdas and of regions.
+
 ghost use Rattle.std.specs.Prelude.{◌≡◌, IfOk};
 
 use crate::{Lambda, Node, Object, Region};

@@ -1,3 +1,5 @@
+//! How many values a lambda has, and how many outputs a node.
+
 ghost use Rattle.std.specs.Prelude.{◌≡◌, length};
 ghost use Rattle.g_graph.specs.Signatures.{output_kinds};
 ghost use Rattle.g_graph.specs.Count.{saturated, region_values, node_values};

@@ -1,3 +1,5 @@
+//! Whether two lambdas are equal.
+
 ghost use Rattle.std.specs.Prelude.{◌≡◌, ◌↔◌, IsTrue};
 
 use crate::{Kind, Lambda, Node, Object, Origin, Region};

@@ -1,3 +1,5 @@
+//! The nodes of a list by their numbers.
+
 ghost use Rattle.std.specs.Prelude.{◌≡◌, option_copied};
 ghost use Rattle.g_graph.specs.Plain.{nodes_of, nodes_in};
 ghost use Rattle.g_graph.specs.Change.{has_node, node_index};

@@ -1,3 +1,6 @@
+//! The kinds of lists of origins: whether they are the wanted ones, and how many of a kind there
+//! are.
+
 ghost use Rattle.std.specs.Prelude.{◌≡◌, ◌+◌, ◌-◌, ◌++◌, map, ◌∷◌, [], replicate, length, count_by, if◌then◌else◌};
 ghost use Rattle.std.specs.declared.option.Option.TheVariants.{Some};
 ghost use Rattle.g_graph.specs.declared.op.Kind.TheVariants.{Value, Memory, Io};

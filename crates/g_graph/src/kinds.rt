@@ -1,3 +1,5 @@
+//! The kinds of origins and of outputs, and the signatures of ops.
+
 ghost use Rattle.std.specs.Prelude.{◌≡◌, ◌==◌, slice_get, if◌then◌else◌};
 ghost use Rattle.std.specs.declared.option.Option.TheVariants.{Some, None};
 ghost use Rattle.g_graph.specs.Plain.{nodes_of, regions_of, id_of};

@@ -1,3 +1,5 @@
+//! The types of functions and of their memory objects.
+
 use crate::Region;
 use std::marker::Model;
 use val_core::Leaf;

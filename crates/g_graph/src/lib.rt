@@ -1,6 +1,7 @@
-//! The graph of a function: types, the tree that contracts see, and what a well-formed one is.
-//! Construction, rules and sequencing stand on it; it stands on no_memory, val_core and c_lex.
-//! It promises what its public calls say of that tree, and takes no memory where a call only reads.
+//! The graph of a function, whether it is well formed, and its changes.
+//! Promise: each public call does what its contract says of the graph's tree, and takes no memory
+//! where it only reads.
+//! Always: an `Optimised` holds a well-formed lambda.
 #![tactic(auto)]
 
 mod can_change;
@@ -38,11 +39,11 @@ pub use copy::{copy_of, copy_region};
 pub use count::values;
 pub use equality::equal;
 pub use find::{holds_node, node_at, node_index, set_node};
-pub use kinds::{is_pure, known, op_outputs, output_kind};
+pub use kinds::{first_args, is_of, is_pure, known, op_outputs, output_kind};
 pub use lambda::{Lambda, Object};
 pub use link::Link;
 pub use names::main_index;
-pub use numbers::ids;
+pub use numbers::{ids, region_ids};
 pub use objects::leaves_fit;
 pub use omega::{Delta, Omega};
 pub use op::{Kind, Op, Origin};

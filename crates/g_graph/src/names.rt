@@ -1,3 +1,5 @@
+//! The function `main` among the names of a program.
+
 ghost use Rattle.std.specs.Prelude.{◌≡◌};
 ghost use Rattle.g_graph.specs.Program.{main_name, same_bytes, name_index};
 

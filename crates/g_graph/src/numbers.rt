@@ -1,3 +1,5 @@
+//! The numbers of the nodes of a lambda, in pre-order.
+
 ghost use Rattle.std.specs.Prelude.{◌≡◌, ◌++◌, IfOk, OnOk};
 ghost use Rattle.g_graph.specs.Ids.{region_ids, node_ids};
 
@@ -10,8 +12,15 @@ use std::alloc::Global;
 pub fn ids(alloc: Global, lambda: &Lambda) -> Result<Vec<u32>, NoMemory>
     ensures { IfOk result (λ all. all.items ≡ region_ids lambda.now.body) }
 {
+    region_ids(alloc, &lambda.body)
+}
+
+/// The numbers of the region's nodes in pre-order. It takes time linear in the region.
+pub fn region_ids(alloc: Global, region: &Region) -> Result<Vec<u32>, NoMemory>
+    ensures { IfOk result (λ all. all.items ≡ region_ids region.now) }
+{
     let mut all = Vec::new(alloc);
-    push_region(&lambda.body, &mut all)?;
+    push_region(region, &mut all)?;
     Ok(all)
 }
 

@@ -1,4 +1,6 @@
-ghost use Rattle.std.specs.Prelude.{◌≡◌, ◌+◌, ◌%◌, ◌==◌, ◌&&◌, nat_le};
+//! Whether the leaves of objects stand in order, apart and within the object.
+
+ghost use Rattle.std.specs.Prelude.{◌≡◌, ◌+◌, ◌%◌, ◌==◌, nat_le, ◌&&◌};
 ghost use Rattle.g_graph.specs.WellFormed.{is_width, leaves_fit, all_of};
 
 use crate::Object;

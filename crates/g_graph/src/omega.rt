@@ -1,3 +1,5 @@
+//! The types of globals and of programs.
+
 use crate::{Lambda, Link};
 use c_lex::Name;
 use std::marker::Model;

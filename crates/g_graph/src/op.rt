@@ -1,3 +1,5 @@
+//! The kinds of edges, the ops of nodes, and origins.
+
 use val_core::{Op1, Op2};
 
 /// What an edge carries: a value, or one of the two states that keep side effects in order.

@@ -1,3 +1,5 @@
+//! The steps that a recipe took, and the lambda that they led to.
+
 ghost use Rattle.std.specs.Prelude.{◌≡◌};
 
 use crate::{Lambda, Step};

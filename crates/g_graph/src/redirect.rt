@@ -1,3 +1,5 @@
+//! Origins replaced by others, in a region or in a list of nodes.
+
 ghost use Rattle.std.specs.Prelude.{◌≡◌, ◌++◌, map, take, drop, unwrap_or, slice_get};
 ghost use Rattle.g_graph.specs.declared.op.Origin.{Origin};
 ghost use Rattle.g_graph.specs.Scope.{same_origin};

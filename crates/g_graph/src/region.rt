@@ -1,3 +1,5 @@
+//! The types of regions and nodes, and the trees that contracts see of them.
+
 use crate::{Kind, Op, Origin};
 use smallvec::SmallVec;
 use std::marker::Model;

@@ -1,3 +1,5 @@
+//! The uses of one origin replaced by those of another in one region of a lambda.
+
 ghost use Rattle.std.specs.Prelude.{◌≡◌};
 ghost use Rattle.g_graph.specs.Change.{in_region_of};
 ghost use Rattle.g_graph.specs.Replace.{region_redirected, origin_replaced, replaced};

@@ -1,3 +1,5 @@
+//! The nodes of a replacement put in the place of a node.
+
 ghost use Rattle.std.specs.Prelude.{◌≡◌, ◌+◌, ◌<◌, ◌++◌, OnOk, OnErr, take, drop, vec_len};
 ghost use Rattle.std.specs.declared.option.Option.TheVariants.{Some};
 ghost use Rattle.g_graph.specs.Plain.{nodes_of};

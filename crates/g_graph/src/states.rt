@@ -1,7 +1,9 @@
+//! Whether origins are the last of their kind of state.
+
 ghost use Rattle.std.specs.Prelude.{◌≡◌, map, if◌then◌else◌};
 ghost use Rattle.std.specs.declared.option.Option.TheVariants.{Some, None};
 ghost use Rattle.g_graph.specs.declared.op.Origin.TheVariants.{Arg, Out};
-ghost use Rattle.g_graph.specs.Plain.{nodes_of, id_of};
+ghost use Rattle.g_graph.specs.Plain.{nodes_of};
 ghost use Rattle.g_graph.specs.Signatures.{output_kinds};
 ghost use Rattle.g_graph.specs.Scope.{same_origin, last_index, origin_at, last_state};
 ghost use Rattle.g_graph.specs.WellFormed.{is_origin, is_last, all_of};

@@ -1,3 +1,5 @@
+//! The rules by name, and the steps that apply them.
+
 /// A rule that changes a lambda and keeps its meaning.
 #[derive(Clone, Copy, PartialEq, Eq, Debug)]
 pub enum Rule {

@@ -1,4 +1,6 @@
-ghost use Rattle.std.specs.Prelude.{◌≡◌, ◌==◌, ◌&&◌, nat_lt, count_by};
+//! Whether the numbers of nodes are unique, and below the next one.
+
+ghost use Rattle.std.specs.Prelude.{◌≡◌, ◌==◌, nat_lt, count_by, ◌&&◌};
 ghost use Rattle.g_graph.specs.Count.{saturated};
 ghost use Rattle.g_graph.specs.Ids.{region_ids, node_ids};
 ghost use Rattle.g_graph.specs.WellFormed.{all_of, distinct};

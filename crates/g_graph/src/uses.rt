@@ -1,3 +1,5 @@
+//! Whether an origin is used in a region.
+
 ghost use Rattle.std.specs.Prelude.{◌≡◌};
 ghost use Rattle.g_graph.specs.Plain.{nodes_of};
 ghost use Rattle.g_graph.specs.Scope.{same_origin};

@@ -1,6 +1,6 @@
 -- How many calls and nested nodes can be active.
 use Rattle.std.proofs.Common.{◌≡◌, ℕ, zero, suc, ◌+◌, ◌-◌, ◌*◌, ◌<◌, ◌≤◌, List, [], ◌∷◌, length, slice_get, slice_index_or, Some, refl, ap, ◌∙◌, arith}
-use Rattle.g_graph.specs.Plain.{RegionTree, NodeTree, node, nodes_of, regions_of, PlainLambda}
+use Rattle.g_graph.specs.Plain.{RegionTree, NodeTree, nodes_of, regions_of, PlainLambda}
 use Rattle.g_interp.specs.Errors.{region_levels, node_levels, nodes_levels, regions_levels, most_levels, IsTooDeep}
 
 pub node-within : (ns : List NodeTree) (i : ℕ) (x : NodeTree) → i < length ns → x ≡ slice_index_or ns i x → node_levels x ≤ nodes_levels (nodes_of ns)
@@ -40,10 +40,3 @@ deep-call ls f l depth calls h within e d =
     let w = lambda-within ls f l within e in
     let k = fewer calls (most_levels ls) h in
     omega (arith, w, k, d)
-
--- a node is one level above what it nests
-pub deep-nested : (x : NodeTree) (levels depth calls : ℕ) (ls : List PlainLambda) → suc levels ≤ node_levels x → IsTooDeep (depth - 1) levels calls ls → IsTooDeep depth (node_levels x) calls ls
-deep-nested x levels depth calls ls h d = omega (arith, h, d)
-
-pub one-level : (x : NodeTree) → 1 ≤ node_levels x
-one-level (node id op inputs rs) = omega arith

@@ -1,3 +1,5 @@
+//! Answers and their events: how they are made, joined, and put around a call.
+
 ghost use Rattle.std.specs.Prelude.{◌≡◌, [], ◌∷◌, ◌++◌, IfOk};
 ghost use Rattle.val_core.specs.Answers.{Undefined, before, active};
 ghost use Rattle.val_core.specs.Events.{called};

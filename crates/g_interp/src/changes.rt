@@ -1,7 +1,9 @@
-ghost use Rattle.std.specs.Prelude.{◌≡◌, ◌+◌, ◌<◌, ◌++◌, map, length, None, Some, IfOk, option_map, if◌then◌else◌};
+//! What changes a memory: stores, new blocks, cleared ones, and the ends of lifetimes.
+
+ghost use Rattle.std.specs.Prelude.{◌≡◌, ◌<◌, ◌++◌, None, Some, IfOk, option_map, if◌then◌else◌};
 ghost use Rattle.val_core.specs.Memory.{block_changed, store, written, zeroed, cell_written, closed, new_block, cleared_at};
 ghost use Rattle.val_core.specs.Objects.{word_of, opened};
-ghost use Rattle.g_interp.specs.Views.{cell_of, cells_of, block_of, blocks_of, exited_if, among};
+ghost use Rattle.g_interp.specs.Views.{cell_of, block_of, blocks_of, exited_if, among};
 ghost use Rattle.g_graph.specs.Plain.{shapes_of};
 
 use crate::data::{Block, Cell};

@@ -1,3 +1,5 @@
+//! What the run of a region takes from outside.
+
 use g_graph::{Lambda, Object};
 
 /// What the run of a region takes from outside: the bound, the lambdas, the sizes of the globals,

@@ -1,3 +1,5 @@
+//! What the interpreter computes with: memory, data of edges, events and answers.
+
 use val_core::{Leaf, Value};
 
 /// A leaf of a block, and its value, if it has one.

@@ -1,3 +1,5 @@
+//! Why a run has no answer.
+
 ghost use Rattle.std.specs.Prelude.{◌≡◌};
 
 use no_memory::NoMemory;

@@ -1,3 +1,5 @@
+//! The memory of the globals, as a program starts.
+
 ghost use Rattle.std.specs.Prelude.{◌≡◌, ◌≤◌, ◌^◌, map, take, drop, IfOk, IfErr, ◌≢◌, IsTrue, MatchOption};
 ghost use Rattle.std.specs.List.{list_any};
 ghost use Rattle.val_core.specs.Objects.{address_in};

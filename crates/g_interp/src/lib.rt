@@ -1,6 +1,7 @@
-//! A slow interpreter of lambdas and programs: it runs what the definitions of meaning say. Tests
-//! and comparisons of runs stand on it; it stands on the trees of g_graph and the meaning of
-//! g_mean. It promises that each of its answers is the definition's, at the given bound.
+//! An interpreter of lambdas and programs, for tests and comparisons.
+//! It is slow, and runs what the definitions of meaning say. Promise: each of its answers is the
+//! definition's, at the given bound.
+//! Always: its answers are those that `g_mean` defines.
 #![tactic(auto)]
 
 mod answers;

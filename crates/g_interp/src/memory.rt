@@ -1,7 +1,9 @@
-ghost use Rattle.std.specs.Prelude.{◌≡◌, ◌+◌, ◌<◌, ◌++◌, map, length, None, Some, IfOk, MatchOption, option_map, if◌then◌else◌};
+//! What is read of a memory: loads, comparisons of pointers, and copies.
+
+ghost use Rattle.std.specs.Prelude.{◌≡◌, ◌<◌, None, Some, IfOk, MatchOption};
 ghost use Rattle.std.specs.List.{list_any};
-ghost use Rattle.val_core.specs.Memory.{is_at, value_at, block_named, block_changed, load, store, takes_store, written, zeroed, cell_written, cell_zeroed, cleared, closed, dead, is_live, new_block, pointers_equal};
-ghost use Rattle.g_interp.specs.Views.{cell_of, cells_of, block_of, blocks_of};
+ghost use Rattle.val_core.specs.Memory.{is_at, value_at, block_named, load, takes_store, is_live, pointers_equal};
+ghost use Rattle.g_interp.specs.Views.{cells_of, block_of, blocks_of};
 
 use crate::data::{Block, Cell};
 use g_graph::Object;

@@ -1,4 +1,6 @@
-ghost use Rattle.std.specs.Prelude.{◌≡◌, ◌%◌, ◌+◌, ◌^◌, [], ◌∷◌, slice_get, IfOk};
+//! What an op without regions does, but for a call.
+
+ghost use Rattle.std.specs.Prelude.{◌≡◌, ◌%◌, ◌+◌, [], ◌∷◌, slice_get, IfOk};
 ghost use Rattle.val_core.specs.Answers.{Returned, Exited, on_number, on_defined};
 ghost use Rattle.val_core.specs.Events.{wrote};
 ghost use Rattle.val_core.specs.Memory.{load, store, pointers_equal, cleared_at};

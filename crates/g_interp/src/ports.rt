@@ -1,4 +1,6 @@
-ghost use Rattle.std.specs.Prelude.{◌≡◌, [], ◌∷◌, map, IfOk, if◌then◌else◌, ◌++◌};
+//! What stands at ports and origins, and the objects of a call in it.
+
+ghost use Rattle.std.specs.Prelude.{◌≡◌, map, IfOk, if◌then◌else◌, ◌++◌};
 ghost use Rattle.val_core.specs.Memory.{closed};
 ghost use Rattle.val_core.specs.Objects.{opened};
 ghost use Rattle.g_mean.specs.Data.{at_port, value_at, with_memory, changed_at};

@@ -1,3 +1,5 @@
+//! The run of a program.
+
 ghost use Rattle.std.specs.Prelude.{◌≡◌, ◌+◌, IsTrue, IfOk};
 ghost use Rattle.std.specs.List.{list_any};
 ghost use Rattle.val_core.specs.Answers.{then_on};

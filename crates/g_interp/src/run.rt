@@ -1,3 +1,5 @@
+//! The runs of calls, regions and nodes.
+
 ghost use Rattle.std.specs.Prelude.{◌≡◌, ◌≢◌, ◌+◌, Some, IfOk, IfErr};
 ghost use Rattle.g_graph.specs.Plain.{regions_of};
 ghost use Rattle.g_mean.specs.Meaning.{branched, looped, turns, node_run, region_meaning, meanings};

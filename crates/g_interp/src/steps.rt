@@ -1,3 +1,5 @@
+//! What comes after a node, a turn of a loop, a choice and the body of a call.
+
 ghost use Rattle.std.specs.Prelude.{◌≡◌, List, None, Some, IfOk, MatchOption};
 ghost use Rattle.val_core.specs.Answers as a;
 ghost use Rattle.val_core.specs.Answers.{before, then_on};

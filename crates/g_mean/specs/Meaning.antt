@@ -1,10 +1,10 @@
 -- What a region does (Reissmann et al., RVSDG, 2020): its nodes run in the order of the list, each on what its inputs
 -- carry, and a map from outputs to data grows. A bound limits the turns of each Theta and the depth of calls.
-use Rattle.std.specs.Prelude.{ℕ, zero, suc, ◌-◌, ◌%◌, ◌^◌, ◌==◌, if◌then◌else◌, List, [], ◌∷◌, map, Option, None, Some}
+use Rattle.std.specs.Prelude.{ℕ, zero, suc, ◌-◌, ◌%◌, ◌^◌, ◌==◌, if◌then◌else◌, List, [], ◌∷◌, map}
 use Rattle.val_core.specs.declared.values.Value.{Value}
-use Rattle.val_core.specs.declared.values.Value.TheVariants.{Num, At, Bad}
+use Rattle.val_core.specs.declared.values.Value.TheVariants.{Num, Bad}
 use Rattle.val_core.specs.Values.{value1, value2}
-use Rattle.val_core.specs.Memory.{Memory, load, store, cleared, pointers_equal, cleared_at}
+use Rattle.val_core.specs.Memory.{Memory, load, store, pointers_equal, cleared_at}
 use Rattle.val_core.specs.Objects.{Addresses}
 use Rattle.val_core.specs.Events.{wrote, took}
 use Rattle.val_core.specs.Answers.{Answer, Returned, Cut, Exited, Undefined, then_on, on_number, on_defined}

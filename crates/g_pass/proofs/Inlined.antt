@@ -1,15 +1,12 @@
 -- The callee that is inlined, and a lambda with its steps where one is and where none is.
-use Rattle.std.specs.Prelude.{if◌then◌else◌, option_map, option_and_then}
-use Rattle.std.proofs.Common.{◌≡◌, ◌≢◌, ◌++◌, ℕ, true, false, List, [], ◌∷◌, Option, Some, None, refl, sym, ap, ◌∙◌}
+use Rattle.std.specs.Prelude.{if◌then◌else◌, option_and_then}
+use Rattle.std.proofs.Common.{◌≡◌, ◌≢◌, ℕ, true, false, List, Option, Some, None, refl, sym, ap, ◌∙◌}
 use Rattle.g_graph.specs.Plain.{PlainLambda}
-use Rattle.g_graph.specs.declared.steps.Step.{Step}
 use Rattle.g_graph.specs.declared.steps.Rule.{Rule}
 use Rattle.g_graph.specs.declared.steps.Rule.TheVariants.{Fold, Cne, Dne, Inv, Push, Pull, Invert, Unroll, Inline}
-use Rattle.g_recipe.specs.Sweep.{stepped, tried}
 use Rattle.r_inline.specs.Rule as inline_rule
 use Rattle.r_inline.specs.Called.{called_at}
-use Rattle.g_pass.specs.Sweep.{applies, applied, numbered, inlined_at, step, rules}
-use Rattle.g_pass.proofs.Swept.{with_steps}
+use Rattle.g_pass.specs.Sweep.{applies, applied, numbered, inlined_at, step}
 
 -- ---- the callee
 
@@ -31,16 +28,6 @@ pub is_applied : (callees : List PlainLambda) (n f : ℕ) (l c : PlainLambda) �
     Some c ≡ inlined_at callees n l
 is_applied callees n f l c e g h =
     ap (λ t. if t then Some c else None) (sym h) ∙ ap (option_and_then (λ c. if inline_rule.applies l n c then Some c else None)) g ∙ ap (in_place callees n l) e
-
--- ---- one node
-
-pub tried_inlined : (n : ℕ) (callees : List PlainLambda) (l c : PlainLambda) (steps : List Step) → Some c ≡ inlined_at callees n l →
-    with_steps (inline_rule.iln n c l) (steps ++ record { rule = Inline; node = n } ∷ []) ≡ tried rules callees Inline (with_steps l steps) n
-tried_inlined n callees l c steps e = ap (λ o. stepped Inline n (with_steps l steps) (option_map (λ c. inline_rule.iln n c l) o)) e
-
-pub tried_not_inlined : (n : ℕ) (callees : List PlainLambda) (l : PlainLambda) (steps : List Step) → None ≡ inlined_at callees n l →
-    with_steps l steps ≡ tried rules callees Inline (with_steps l steps) n
-tried_not_inlined n callees l steps e = ap (λ o. stepped Inline n (with_steps l steps) (option_map (λ c. inline_rule.iln n c l) o)) e
 
 -- a rule that looks at its lambda alone
 pub looks_at_its_lambda : (r : Rule) (n : ℕ) (callees : List PlainLambda) (l : PlainLambda) → r ≢ Inline →

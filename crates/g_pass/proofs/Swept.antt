@@ -1,11 +1,10 @@
 -- Lambdas with their steps.
-use Rattle.std.proofs.Common.{◌≡◌, ◌++◌, ℕ, true, false, List, [], ◌∷◌, Some, None, Result, Ok, Err, OnErr, sym, ap}
-use Rattle.std.specs.Prelude.{if◌then◌else◌}
+use Rattle.std.proofs.Common.{◌≡◌, ◌++◌, ℕ, List, [], ◌∷◌, Some, None, Result, Ok, Err, OnErr, sym, ap}
 use Rattle.g_graph.specs.Plain.{PlainLambda}
 use Rattle.g_graph.specs.declared.steps.Step.{Step}
 use Rattle.g_graph.specs.declared.steps.Rule.{Rule}
-use Rattle.g_recipe.specs.Sweep.{Swept, stepped}
-use Rattle.g_pass.specs.Sweep.{applies, applied}
+use Rattle.g_pass_def.specs.Sweep.{Swept, stepped, tried}
+use Rattle.g_pass.specs.Sweep.{step, rules}
 
 abbrev pub with_steps : PlainLambda → List Step → Swept
 with_steps l steps = record { lambda = l; steps = steps }
@@ -17,11 +16,11 @@ pub on_err : {A B : Type 0} (P : Type 0) (r : Result A B) → P → OnErr r P
 on_err P (Ok x) p = tt
 on_err P (Err e) p = p
 
--- one node, where the rule applies and where it does not
-pub stepped_applied : (r : Rule) (n : ℕ) (l : PlainLambda) (steps : List Step) → applies r l n ≡ true →
-    with_steps (applied r n l) (steps ++ record { rule = r; node = n } ∷ []) ≡ stepped r n (with_steps l steps) (if applies r l n then Some (applied r n l) else None)
-stepped_applied r n l steps e = ap (λ b. stepped r n (with_steps l steps) (if b then Some (applied r n l) else None)) (sym e)
+-- one node, where the step is made and where it is not
+pub tried_made : (r : Rule) (callees : List PlainLambda) (n : ℕ) (l k : PlainLambda) (steps : List Step) → step r callees n l ≡ Some k →
+    with_steps k (steps ++ record { rule = r; node = n } ∷ []) ≡ tried rules callees r (with_steps l steps) n
+tried_made r callees n l k steps e = ap (λ o. stepped r n (with_steps l steps) o) (sym e)
 
-pub stepped_passed : (r : Rule) (n : ℕ) (l : PlainLambda) (steps : List Step) → applies r l n ≡ false →
-    with_steps l steps ≡ stepped r n (with_steps l steps) (if applies r l n then Some (applied r n l) else None)
-stepped_passed r n l steps e = ap (λ b. stepped r n (with_steps l steps) (if b then Some (applied r n l) else None)) (sym e)
+pub tried_unmade : (r : Rule) (callees : List PlainLambda) (n : ℕ) (l : PlainLambda) (steps : List Step) → step r callees n l ≡ None →
+    with_steps l steps ≡ tried rules callees r (with_steps l steps) n
+tried_unmade r callees n l steps e = ap (λ o. stepped r n (with_steps l steps) o) (sym e)

@@ -3,7 +3,7 @@ use Rattle.std.specs.Prelude.{ℕ, ◌==◌, Bool, true, false, List, [], ◌∷
 use Rattle.g_graph.specs.declared.steps.Rule.{Rule}
 use Rattle.g_graph.specs.declared.steps.Rule.TheVariants.{Fold, Cne, Dne, Inv, Push, Pull, Invert, Unroll, Inline}
 use Rattle.g_graph.specs.Plain.{PlainLambda}
-use Rattle.g_recipe.specs.Sweep.{RuleTable}
+use Rattle.g_pass_def.specs.Sweep.{RuleTable}
 use Rattle.r_fold.specs.Rule as fold_rule
 use Rattle.r_cne.specs.Rule as cne_rule
 use Rattle.r_dne.specs.Rule as dne_rule

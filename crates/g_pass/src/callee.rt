@@ -1,8 +1,9 @@
 //! The callee that comes in the place of a call.
+
 ghost use Rattle.std.specs.Prelude.{◌≡◌, map, option_copied, IfSome, IsTrue};
 ghost use Rattle.std.specs.Arc.{arc_value};
 ghost use Rattle.g_graph.specs.WellFormed.{IsWellFormed};
-ghost use Rattle.g_recipe.specs.Answers.{lambdas_of};
+ghost use Rattle.g_pass_def.specs.Answers.{lambdas_of};
 ghost use Rattle.r_inline.specs.Rule as inline_rule;
 ghost use Rattle.g_pass.specs.Sweep.{numbered, inlined_at};
 

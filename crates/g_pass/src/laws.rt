@@ -1,4 +1,5 @@
 //! A law of the texts of recipes, the contract of a function that does nothing.
+
 ghost use Rattle.g_pass.specs.Recipe.{OneRecipe};
 
 /// No two recipes have one text.

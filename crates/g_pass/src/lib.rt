@@ -1,14 +1,16 @@
-//! Passes: recipes, which are lists of sweeps, and what they make of a function. It stands on the
-//! rules. Promise: a text is read as exactly the recipe that it is the text of, and a sweep makes
-//! of a lambda what the definition makes.
+//! Steps and sweeps of a rule over a lambda, and recipes of sweeps.
+//! Promise: a text is read as exactly the recipe that it is the text of, and a step or a sweep
+//! makes of a lambda what the definition makes.
+//! Always: out of memory, a swept lambda is the one after the logged steps.
 #![tactic(auto)]
 
 mod callee;
 pub mod laws;
 mod names;
 mod recipe;
-mod step;
+mod rule_step;
 mod sweeps;
 
 pub use recipe::Recipe;
+pub use rule_step::step;
 pub use sweeps::{optimise, sweep};

@@ -1,10 +1,11 @@
 //! The names of rules at the beginning of a text.
+
 ghost use Rattle.std.specs.Prelude.{◌≡◌, ◌≢◌, ◌++◌, ℕ, List, IfSome, IfNone};
 ghost use Rattle.g_graph.specs.declared.steps.Rule.{Rule};
-ghost use Rattle.rule_names.specs.Names.{rule_name};
+ghost use Rattle.r_names.specs.Names.{rule_name};
 
 use g_graph::Rule;
-use rule_names::{all_rules, rule_name};
+use r_names::{all_rules, rule_name};
 
 /// What follows a beginning of a text; none where the text does not begin so.
 pub fn after<'a>(text: &'a [u8], beginning: &[u8]) -> Option<&'a [u8]>

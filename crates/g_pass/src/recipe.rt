@@ -1,36 +1,38 @@
+//! Recipes, and how their texts are read.
+
 ghost use Rattle.std.specs.Prelude.{◌≡◌, ◌≢◌, ◌≤◌, ◌<◌, ◌++◌, ◌∷◌, [], List, IfSome, IfNone, length};
+ghost use Rattle.limits.specs.Limits.{most_sweeps};
 ghost use Rattle.g_graph.specs.declared.steps.Rule.{Rule};
-ghost use Rattle.g_pass.specs.Recipe.{recipe_text, most_sweeps};
+ghost use Rattle.g_pass.specs.Recipe.{recipe_text};
 
 use crate::names::{after, first_rule};
 use g_graph::Rule;
+use limits::MOST_SWEEPS;
 use std::marker::Model;
 
-/// The most sweeps of a recipe.
-const MOST: usize = 32;
-
-/// A recipe: the rules of its sweeps, in order, at most 32. Contracts see the list. It takes no
-/// memory.
+/// A recipe: the rules of its sweeps, in order, at most `MOST_SWEEPS`. Contracts see the list. It
+/// takes no memory.
 #[derive(Debug, Drop)]
 pub struct Recipe {
-    rules: [Rule; MOST],
+    rules: [Rule; MOST_SWEEPS],
     len: usize,
 }
 
 impl Model for Recipe {
     ghost use Rattle.std.specs.Prelude.{List, take, ◌≤◌};
+    ghost use Rattle.limits.specs.Limits.{most_sweeps};
     ghost use Rattle.g_graph.specs.declared.steps.Rule.{Rule};
 
     ghost Value = { List Rule };
 
     ghost view = { λ r. take r.len r.rules };
 
-    ghost invariant = { λ r. r.len ≤ 32 };
+    ghost invariant = { λ r. r.len ≤ most_sweeps };
 }
 
 impl Recipe {
-    /// The recipe of this text: `none`, or 1 to 32 names of rules that are joined by commas; none
-    /// for every other text. It takes no memory.
+    /// The recipe of this text: `none`, or 1 to `MOST_SWEEPS` names of rules that are joined by
+    /// commas; none for every other text. It takes no memory.
     pub fn read(text: &str) -> Option<Recipe>
         ensures some { IfSome result (λ recipe. text.now ≡ recipe_text recipe) }
         ensures short { IfSome result (λ recipe. length recipe ≤ most_sweeps) }
@@ -48,13 +50,13 @@ impl Recipe {
         ensures { result ≡ [] }
     {
         Recipe {
-            rules: [Rule::Fold; MOST],
+            rules: [Rule::Fold; MOST_SWEEPS],
             len: 0,
         }
     }
 
     fn push(&mut self, rule: Rule)
-        requires { length self.old < 32 }
+        requires { length self.old < most_sweeps }
         ensures { self.new ≡ self.old ++ rule ∷ [] }
     {
         self.rules[self.len] = rule;
@@ -78,7 +80,7 @@ fn sweeps(text: &[u8]) -> Option<Recipe>
 {
     let mut recipe = Recipe::none();
     let mut left = text;
-    for _ in 0..MOST {
+    for _ in 0..MOST_SWEEPS {
         let (rule, rest) = first_rule(left)?;
         recipe.push(rule);
         if rest.is_empty() {

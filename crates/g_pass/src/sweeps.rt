@@ -1,16 +1,17 @@
 //! Sweeps, and recipes of them.
+
 ghost use Rattle.std.specs.Prelude.{◌≡◌, ◌<◌, ◌^◌, ℕ, map, take, OnOk, OnErr, IfOk};
 ghost use Rattle.std.specs.Arc.{arc_value};
 ghost use Rattle.std.specs.List.{fold};
 ghost use Rattle.g_graph.specs.Count.{region_values};
 ghost use Rattle.g_graph.specs.Ids.{region_ids};
 ghost use Rattle.g_graph.specs.WellFormed.{IsWellFormed};
-ghost use Rattle.g_recipe.specs.Answers.{lambdas_of};
-ghost use Rattle.g_recipe.specs.Sweep.{in_order, optimise, sweep, tried};
+ghost use Rattle.g_pass_def.specs.Answers.{lambdas_of};
+ghost use Rattle.g_pass_def.specs.Sweep.{in_order, optimise, sweep, tried};
 ghost use Rattle.g_pass.specs.Sweep.{rules};
 
 use crate::Recipe;
-use crate::step::{is_backward, try_step};
+use crate::rule_step::{is_backward, try_step};
 use g_graph::{Lambda, Optimised, Rule, Step, StepList, ids, values};
 use no_memory::NoMemory;
 use std::alloc::Global;

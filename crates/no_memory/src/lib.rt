@@ -1,5 +1,4 @@
-//! The answer of a call that found no memory, one type for every crate. It stands on no crate of
-//! the repository.
+//! The answer of a call that found no memory, one type for every crate.
 //! Promise: a failed allocation, with or without a value that is given back, turns into it.
 #![tactic(auto)]
 

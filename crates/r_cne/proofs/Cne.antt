@@ -35,15 +35,15 @@ use Rattle.g_mean.proofs.lemmas.Exchange.{edits_keep_meaning}
 use Rattle.g_mean.proofs.lemmas.Instead.{input-replaces}
 use Rattle.g_mean.proofs.lemmas.Programs.{programs_keep_meaning}
 use Rattle.g_mean.proofs.lemmas.Replacement.{lambdas_keep_meaning}
-use Rattle.g_edit.specs.Lookup.{first_of}
-use Rattle.g_edit.specs.Uses.{uses_replaced}
-use Rattle.g_edit.specs.Size.{IsNoLarger, IsResized}
-use Rattle.g_edit.proofs.lemmas.Fewer.{uses-resized}
-use Rattle.g_edit.proofs.lemmas.Size.{resized_lambdas_are_no_larger}
-use Rattle.g_edit.proofs.lemmas.Steps.{contracts_give_steps, edits_keep_interface}
-use Rattle.g_edit.proofs.lemmas.Lookup.{Among, first_before}
-use Rattle.g_edit.proofs.lemmas.Uses.{replaced_is, uses_kept, known_value, uses_ops}
-use Rattle.g_edit.proofs.lemmas.Meant.{has-run}
+use Rattle.r_edit.specs.Lookup.{first_of}
+use Rattle.r_edit.specs.Uses.{uses_replaced}
+use Rattle.r_edit.specs.Size.{IsNoLarger, IsResized}
+use Rattle.r_edit.proofs.lemmas.Fewer.{uses-resized}
+use Rattle.r_edit.proofs.lemmas.Size.{resized_lambdas_are_no_larger}
+use Rattle.r_edit.proofs.lemmas.Steps.{contracts_give_steps, edits_keep_interface}
+use Rattle.r_edit.proofs.lemmas.Lookup.{Among, first_before}
+use Rattle.r_edit.proofs.lemmas.Uses.{replaced_is, uses_kept, known_value, uses_ops}
+use Rattle.r_edit.proofs.lemmas.Meant.{has-run}
 use Rattle.r_cne.specs.Rule.{is_common, other_than, earlier, cne_here, cne}
 use Rattle.r_cne.specs.Laws.{CneReplaces, CneKeepsLambdas, CneKeepsPrograms, CneKeepsLists, CneIsAStep}
 use Rattle.r_cne.proofs.Common.{gives_value, ran_gives}

@@ -25,9 +25,9 @@ use Rattle.g_mean.proofs.lemmas.Edits.{distinct-split}
 use Rattle.g_mean.proofs.lemmas.Holds.{none-among, among-none, distinct-apart, holds-from}
 use Rattle.g_mean.proofs.lemmas.Splices.{joined-run, joined-known, joined-read, joined-reads, known-among, all-wider, nodes-wider, known-split, all-among}
 use Rattle.g_mean.proofs.lemmas.Redirects.{redirected-joined}
-use Rattle.g_edit.proofs.lemmas.Lookup.{Among}
-use Rattle.g_edit.proofs.lemmas.Uses.{replaced_is}
-use Rattle.g_edit.proofs.lemmas.Meant.{has-run}
+use Rattle.r_edit.proofs.lemmas.Lookup.{Among}
+use Rattle.r_edit.proofs.lemmas.Uses.{replaced_is}
+use Rattle.r_edit.proofs.lemmas.Meant.{has-run}
 use Rattle.r_cne.specs.Rule.{is_common}
 use Rattle.r_cne.specs.Laws.{CneMeansTheSame}
 use Rattle.r_cne.proofs.Common.{ran_gives, given_results}

@@ -6,7 +6,7 @@ use Rattle.g_mean.specs.Data.{Datum}
 use Rattle.g_mean.specs.Meaning.{Context, region_meaning}
 use Rattle.g_mean.specs.Edits.{AreEditedAt, IsPartOf, KeepsComplete}
 use Rattle.g_mean.specs.Replacement.{Replaces, FunctionsKeepMeaning, ProgramKeepsMeaning}
-use Rattle.g_edit.specs.Steps.{MayStandFor}
+use Rattle.r_edit.specs.Steps.{MayStandFor}
 use Rattle.r_cne.specs.Rule.{cne_here, cne}
 
 -- A changed region of a well-formed lambda gives the very same answers, whatever stands around it.

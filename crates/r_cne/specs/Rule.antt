@@ -7,8 +7,8 @@ use Rattle.g_graph.specs.declared.op.Origin.TheVariants.{Out}
 use Rattle.g_graph.specs.Plain.{RegionTree, region, NodeTree, node, NodeTrees, PlainLambda}
 use Rattle.g_graph.specs.Change.{region_changed, lambda_changed}
 use Rattle.g_graph.specs.Nodes.{node_at}
-use Rattle.g_edit.specs.Lookup.{first_of}
-use Rattle.g_edit.specs.Uses.{uses_replaced}
+use Rattle.r_edit.specs.Lookup.{first_of}
+use Rattle.r_edit.specs.Uses.{uses_replaced}
 
 -- An op that gives one value, the same on the same inputs. An Undef may give any value each time.
 abbrev pub is_common : Op → Bool

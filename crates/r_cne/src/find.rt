@@ -1,10 +1,12 @@
+//! The earlier node that gives the same.
+
 ghost use Rattle.std.specs.Prelude.{◌≡◌, option_and_then};
 ghost use Rattle.g_graph.specs.Plain.{nodes_of};
 ghost use Rattle.g_graph.specs.Nodes.{node_at};
 ghost use Rattle.r_cne.specs.Rule.{is_common, other_than, earlier};
 
-use g_edit::first_of;
 use g_graph::{Node, Op, node_at};
+use r_edit::first_of;
 
 /// The number of the first of these nodes that gives the same as the one of this number, where it
 /// is another one.

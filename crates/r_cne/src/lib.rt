@@ -1,6 +1,7 @@
-//! Common node elimination: uses of a node become uses of an earlier one that gives the same.
+//! Common node elimination: of equal nodes of a region the first gives for all.
 //! Promise: `apply` gives the changed lambda, and a changed lambda keeps its meaning in any
 //! program.
+//! Always: it takes no memory.
 #![tactic(auto)]
 
 mod find;

@@ -1,17 +1,19 @@
+//! Where the rule applies, and what it does there.
+
 ghost use Rattle.std.specs.Prelude.{◌≡◌, MatchBool, IsTrue, is_some};
 ghost use Rattle.std.specs.declared.option.Option.TheVariants.{Some, None};
 ghost use Rattle.g_graph.specs.WellFormed.{IsWellFormed};
 ghost use Rattle.g_graph.specs.Program.{lambda_values, KeepsPrograms};
 ghost use Rattle.g_mean.specs.Edits.{KeepsMeaning, KeepsComplete};
 ghost use Rattle.g_graph.specs.declared.op.Origin.TheVariants.{Out};
-ghost use Rattle.g_edit.specs.Size.{IsNoLarger};
+ghost use Rattle.r_edit.specs.Size.{IsNoLarger};
 ghost use Rattle.r_cne.specs.Rule.{cne_here, applies, cne};
 
 use crate::find::earlier;
-use g_edit::replace_used;
 use g_graph::{
     CanChange, Change, Lambda, Origin, Region, can_change_lambda, change_lambda, is_used,
 };
+use r_edit::replace_used;
 use std::convert::Infallible;
 
 /// Whether the rule applies at the node of this number: a Const, Local, Delta, Bin, Un, Load or

@@ -34,25 +34,25 @@ use Rattle.g_mean.proofs.lemmas.Edits.{edits_replace}
 use Rattle.g_mean.proofs.lemmas.Exchange.{edits_keep_meaning}
 use Rattle.g_mean.proofs.lemmas.Programs.{programs_keep_meaning}
 use Rattle.g_mean.proofs.lemmas.Replacement.{lambdas_keep_meaning}
-use Rattle.g_edit.specs.InPlace.{all_stay}
-use Rattle.g_edit.specs.Uses.{is_read, is_output_of}
-use Rattle.g_edit.specs.Removal.{region_without}
-use Rattle.g_edit.specs.Exits.{regions_giving, node_giving, output_after, exits_kept}
-use Rattle.g_edit.specs.Entries.{entries_kept}
-use Rattle.g_edit.specs.Variables.{variables_kept}
-use Rattle.g_edit.specs.Size.{IsResized}
+use Rattle.r_edit.specs.InPlace.{all_stay}
+use Rattle.r_edit.specs.Uses.{is_read, is_output_of}
+use Rattle.r_edit.specs.Removal.{region_without}
+use Rattle.r_edit.specs.Exits.{regions_giving, node_giving, output_after, exits_kept}
+use Rattle.r_edit.specs.Entries.{entries_kept}
+use Rattle.r_edit.specs.Variables.{variables_kept}
+use Rattle.r_edit.specs.Size.{IsResized}
 use Rattle.g_graph.specs.Program.{lambda_values}
-use Rattle.g_edit.proofs.lemmas.EntriesFit.{entries_kept_fit, entries_kept_ops}
-use Rattle.g_edit.proofs.lemmas.Exits.{giving_joined}
-use Rattle.g_edit.proofs.lemmas.ExitsFit.{exits_kept_fit, exits_kept_ops}
-use Rattle.g_edit.proofs.lemmas.Fewer.{without-resized, variables-resized, exits-and-entries-resized}
-use Rattle.g_edit.proofs.lemmas.Size.{resized_lambdas_are_no_larger}
-use Rattle.g_edit.proofs.lemmas.Steps.{contracts_give_steps, edits_keep_interface}
-use Rattle.g_edit.proofs.lemmas.Placed.{not_before}
-use Rattle.g_edit.proofs.lemmas.Removal.{unread_nodes_go, without_kept, without_ops}
-use Rattle.g_edit.proofs.lemmas.Shrunk.{unread_exits_and_entries_go}
-use Rattle.g_edit.proofs.lemmas.Variables.{unread_variables_go}
-use Rattle.g_edit.proofs.lemmas.VariablesFit.{variables_kept_fit, variables_kept_ops}
+use Rattle.r_edit.proofs.lemmas.EntriesFit.{entries_kept_fit, entries_kept_ops}
+use Rattle.r_edit.proofs.lemmas.Exits.{giving_joined}
+use Rattle.r_edit.proofs.lemmas.ExitsFit.{exits_kept_fit, exits_kept_ops}
+use Rattle.r_edit.proofs.lemmas.Fewer.{without-resized, variables-resized, exits-and-entries-resized}
+use Rattle.r_edit.proofs.lemmas.Size.{resized_lambdas_are_no_larger}
+use Rattle.r_edit.proofs.lemmas.Steps.{contracts_give_steps, edits_keep_interface}
+use Rattle.r_edit.proofs.lemmas.Placed.{not_before}
+use Rattle.r_edit.proofs.lemmas.Removal.{unread_nodes_go, without_kept, without_ops}
+use Rattle.r_edit.proofs.lemmas.Shrunk.{unread_exits_and_entries_go}
+use Rattle.r_edit.proofs.lemmas.Variables.{unread_variables_go}
+use Rattle.r_edit.proofs.lemmas.VariablesFit.{variables_kept_fit, variables_kept_ops}
 use Rattle.r_dne.specs.Rule.{gives_state, is_dead, exits_of, entries_of, variables_of, shrunk, eliminated, dne_here, dne}
 use Rattle.r_dne.specs.Laws.{DneReplaces, DneKeepsLambdas, DneKeepsPrograms, DneKeeps, DneIsAStep}
 use Rattle.r_dne.proofs.Unused.{exits_are_values, exits_unread, entries_unread, variables_are_values, variables_unread, loop_unread}

@@ -14,12 +14,12 @@ use Rattle.g_graph.specs.Signatures.{joined, first_args, outputs_of, output_kind
 use Rattle.g_graph.specs.Scope.{same_kind, is_of, same_origin}
 use Rattle.g_graph.specs.WellFormed.{some_of}
 use Rattle.g_graph.specs.Nodes.{node_at, nodes_use, is_used}
-use Rattle.g_edit.specs.InPlace.{all_stay}
-use Rattle.g_edit.specs.Places.{stays_at, kept}
-use Rattle.g_edit.specs.Exits.{regions_giving, exits_kept}
-use Rattle.g_edit.specs.Entries.{entries_kept}
-use Rattle.g_edit.proofs.lemmas.Kept.{kept_none}
-use Rattle.g_edit.proofs.lemmas.PlacesInPlace.{kept_more}
+use Rattle.r_edit.specs.InPlace.{all_stay}
+use Rattle.r_edit.specs.Places.{stays_at, kept}
+use Rattle.r_edit.specs.Exits.{regions_giving, exits_kept}
+use Rattle.r_edit.specs.Entries.{entries_kept}
+use Rattle.r_edit.proofs.lemmas.Kept.{kept_none}
+use Rattle.r_edit.proofs.lemmas.PlacesInPlace.{kept_more}
 use Rattle.r_dne.specs.Rule.{used_exits, some_uses, used_entries, others_use, argument_used, used_variables, variables_of, exits_of, entries_of, gamma_shrunk, shrunk, eliminated, dne_here}
 
 -- ---- outputs

@@ -11,12 +11,12 @@ use Rattle.g_graph.specs.WellFormed.{some_of}
 use Rattle.g_graph.specs.Nodes.{nodes_use, is_used}
 use Rattle.g_graph.proofs.lemmas.Indexes.{same_origin_self}
 use Rattle.g_graph.proofs.lemmas.Unique.{same_number}
-use Rattle.g_edit.specs.Uses.{nodes_read, is_read}
-use Rattle.g_edit.specs.Places.{stays_at, kept, drops_values}
-use Rattle.g_edit.specs.Exits.{is_gone_output}
-use Rattle.g_edit.specs.Entries.{is_gone_argument, some_reads}
-use Rattle.g_edit.specs.Variables.{loop_reads}
-use Rattle.g_edit.proofs.lemmas.Kept.{some_fewer}
+use Rattle.r_edit.specs.Uses.{nodes_read, is_read}
+use Rattle.r_edit.specs.Places.{stays_at, kept, drops_values}
+use Rattle.r_edit.specs.Exits.{is_gone_output}
+use Rattle.r_edit.specs.Entries.{is_gone_argument, some_reads}
+use Rattle.r_edit.specs.Variables.{loop_reads}
+use Rattle.r_edit.proofs.lemmas.Kept.{some_fewer}
 use Rattle.r_dne.specs.Rule.{used_exits, some_uses, used_entries, others_use, used_variables}
 
 -- ---- a region reads no origin that it does not use

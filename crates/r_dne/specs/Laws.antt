@@ -4,7 +4,7 @@ use Rattle.g_graph.specs.Plain.{RegionTree, PlainLambda}
 use Rattle.g_graph.specs.WellFormed.{IsWellFormed}
 use Rattle.g_mean.specs.Edits.{AreEditedAt, IsPartOf}
 use Rattle.g_mean.specs.Replacement.{Replaces, FunctionsKeepMeaning, ProgramKeepsMeaning}
-use Rattle.g_edit.specs.Steps.{IsKept, MayStandFor}
+use Rattle.r_edit.specs.Steps.{IsKept, MayStandFor}
 use Rattle.r_dne.specs.Rule.{dne_here, dne}
 
 -- a changed region of a well-formed lambda may replace the old one, in any lambdas

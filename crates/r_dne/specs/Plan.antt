@@ -1,11 +1,10 @@
 -- What is to go, once it is known, and the region without it.
 use Rattle.std.specs.Prelude.{ℕ, Option, None, Some}
-use Rattle.g_graph.specs.declared.op.Op.{Op}
-use Rattle.g_graph.specs.Plain.{RegionTree, NodeTree, node, RegionTrees}
-use Rattle.g_edit.specs.Removal.{region_without}
-use Rattle.g_edit.specs.Exits.{exits_kept}
-use Rattle.g_edit.specs.Entries.{entries_kept}
-use Rattle.g_edit.specs.Variables.{variables_kept}
+use Rattle.g_graph.specs.Plain.{RegionTree}
+use Rattle.r_edit.specs.Removal.{region_without}
+use Rattle.r_edit.specs.Exits.{exits_kept}
+use Rattle.r_edit.specs.Entries.{entries_kept}
+use Rattle.r_edit.specs.Variables.{variables_kept}
 use Rattle.r_dne.specs.declared.plan.Plan.{Plan}
 use Rattle.r_dne.specs.declared.plan.Plan.TheVariants.{Node, Gamma, Theta}
 

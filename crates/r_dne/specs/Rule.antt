@@ -12,12 +12,12 @@ use Rattle.g_graph.specs.Scope.{same_kind, is_of, same_origin}
 use Rattle.g_graph.specs.WellFormed.{some_of}
 use Rattle.g_graph.specs.Change.{region_changed, lambda_changed}
 use Rattle.g_graph.specs.Nodes.{node_at, nodes_use, is_used}
-use Rattle.g_edit.specs.InPlace.{all_stay}
-use Rattle.g_edit.specs.Uses.{is_read, is_output_of}
-use Rattle.g_edit.specs.Removal.{region_without}
-use Rattle.g_edit.specs.Exits.{regions_giving, exits_kept}
-use Rattle.g_edit.specs.Entries.{entries_kept}
-use Rattle.g_edit.specs.Variables.{variables_kept}
+use Rattle.r_edit.specs.InPlace.{all_stay}
+use Rattle.r_edit.specs.Uses.{is_read, is_output_of}
+use Rattle.r_edit.specs.Removal.{region_without}
+use Rattle.r_edit.specs.Exits.{regions_giving, exits_kept}
+use Rattle.r_edit.specs.Entries.{entries_kept}
+use Rattle.r_edit.specs.Variables.{variables_kept}
 
 -- ---- a node
 

@@ -1,3 +1,5 @@
+//! What of a node may go, and the plan for it.
+
 ghost use Rattle.std.specs.Prelude.{◌≡◌, IfOk, is_some};
 ghost use Rattle.g_graph.specs.declared.op.Op.TheVariants.{Gamma, Theta};
 ghost use Rattle.g_graph.specs.Plain.{id_of, op_of};
@@ -8,9 +10,9 @@ use crate::gamma::{Entries, Exits};
 use crate::node::is_dead;
 use crate::plan::Plan;
 use crate::theta::Variables;
-use g_edit::{all_stay, are_all_true, list_of};
 use g_graph::{Node, Op, Region, node_at};
 use no_memory::NoMemory;
+use r_edit::{all_stay, are_all_true, list_of};
 use std::alloc::Global;
 
 /// Whether the region holds the node of this number, and some of it may go.

@@ -1,4 +1,6 @@
-ghost use Rattle.std.specs.Prelude.{◌≡◌, ◌&&◌, ◌||◌, not, slice_get};
+//! The entry and exit variables of a Gamma that stay.
+
+ghost use Rattle.std.specs.Prelude.{◌≡◌, ◌||◌, not, slice_get, ◌&&◌};
 ghost use Rattle.g_graph.specs.declared.op.Kind.TheVariants.{Value};
 ghost use Rattle.g_graph.specs.declared.op.Origin.TheVariants.{Arg, Out};
 ghost use Rattle.g_graph.specs.Plain.{regions_of, id_of};
@@ -6,14 +8,14 @@ ghost use Rattle.g_graph.specs.Signatures.{joined, first_args, output_kinds};
 ghost use Rattle.g_graph.specs.Scope.{is_of, same_origin};
 ghost use Rattle.g_graph.specs.WellFormed.{some_of};
 ghost use Rattle.g_graph.specs.Nodes.{is_used};
-ghost use Rattle.g_edit.specs.Places.{stays_at, kept};
-ghost use Rattle.g_edit.specs.Exits.{regions_giving};
-ghost use Rattle.g_edit.specs.InPlace.{region_giving};
+ghost use Rattle.r_edit.specs.Places.{stays_at, kept};
+ghost use Rattle.r_edit.specs.Exits.{regions_giving};
+ghost use Rattle.r_edit.specs.InPlace.{region_giving};
 ghost use Rattle.r_dne.specs.Rule.{used_exits, some_uses, used_entries};
 
-use crate::node::{first_args, is_of, output_count};
-use g_edit::{Source, Stays, is_source, nodes_use_source, stays_at, uses_source};
-use g_graph::{Kind, Node, Origin, Region, output_kind};
+use crate::node::output_count;
+use g_graph::{Kind, Node, Origin, Region, first_args, is_of, output_kind};
+use r_edit::{Source, Stays, is_source, nodes_use_source, stays_at, uses_source};
 
 /// The exit variables of a node of a region: states stay, and values that are used.
 #[derive(Drop)]

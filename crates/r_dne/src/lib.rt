@@ -1,6 +1,6 @@
-//! Dead node elimination: a node whose outputs are not used goes, and so do variables of a Gamma or
-//! a Theta.
+//! Dead node elimination: a node or variables that nothing uses go.
 //! Promise: `apply` gives the changed lambda, which keeps its meaning in any program.
+//! Always: out of memory, the lambda is as it was.
 #![tactic(auto)]
 
 mod find;

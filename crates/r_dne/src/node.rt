@@ -1,12 +1,13 @@
+//! Whether a node is dead.
+
 ghost use Rattle.std.specs.Prelude.{◌≡◌, length};
-ghost use Rattle.g_graph.specs.Plain.{regions_of};
-ghost use Rattle.g_graph.specs.Signatures.{first_args, output_kinds};
+ghost use Rattle.g_graph.specs.Signatures.{output_kinds};
 ghost use Rattle.g_graph.specs.Scope.{is_of};
 ghost use Rattle.g_graph.specs.WellFormed.{some_of};
 ghost use Rattle.r_dne.specs.Rule.{gives_state, is_dead};
 
-use g_edit::reads_node;
-use g_graph::{Kind, Node, Op, Region, op_outputs, output_kind};
+use g_graph::{Kind, Node, Op, Region, first_args, is_of, op_outputs, output_kind};
+use r_edit::reads_node;
 
 /// Whether the node gives no state, and nothing uses an output of it.
 pub fn is_dead(region: &Region, node: &Node) -> bool
@@ -45,26 +46,4 @@ pub fn output_count(node: &Node) -> usize
         Op::Theta => first_args(&node.regions).len(),
         op => op_outputs(op).len(),
     }
-}
-
-/// The arguments of the first region; none where there is no region.
-pub fn first_args(regions: &[Region]) -> &[Kind]
-    ensures { result.now ≡ first_args (regions_of regions.now) }
-{
-    match regions.first() {
-        Some(region) => &region.args,
-        None => &[],
-    }
-}
-
-/// Whether there is a kind, and it is this one.
-pub fn is_of(kind: Kind, found: Option<Kind>) -> bool
-    ensures { result ≡ is_of kind found }
-{
-    matches!(
-        (kind, found),
-        (Kind::Value, Some(Kind::Value))
-            | (Kind::Memory, Some(Kind::Memory))
-            | (Kind::Io, Some(Kind::Io))
-    )
 }

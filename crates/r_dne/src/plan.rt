@@ -1,3 +1,5 @@
+//! The plan: what of a region is to go.
+
 /// What of a region is to go.
 #[derive(Drop)]
 pub enum Plan {

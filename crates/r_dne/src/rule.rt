@@ -1,17 +1,19 @@
-ghost use Rattle.std.specs.Prelude.{◌≡◌, MatchBool, IfOk, OnOk, OnErr, IsTrue, is_some};
+//! Where the rule applies, and what it does there.
+
+ghost use Rattle.std.specs.Prelude.{◌≡◌, MatchBool, IfOk, OnOk, OnErr, IsTrue};
 ghost use Rattle.std.specs.declared.option.Option.TheVariants.{Some, None};
 ghost use Rattle.g_graph.specs.WellFormed.{IsWellFormed};
 ghost use Rattle.g_graph.specs.Program.{lambda_values, KeepsPrograms};
-ghost use Rattle.g_edit.specs.Size.{IsNoLarger};
+ghost use Rattle.r_edit.specs.Size.{IsNoLarger};
 ghost use Rattle.g_mean.specs.Edits.{KeepsMeaning, KeepsComplete};
 ghost use Rattle.r_dne.specs.Rule.{dne_here, applies, dne};
 ghost use Rattle.r_dne.specs.Plan.{carried_out};
 
 use crate::find::{can_eliminate, plan_at};
 use crate::plan::Plan;
-use g_edit::{keep_entries, keep_exits, keep_variables, remove_node};
 use g_graph::{CanChange, Change, Lambda, Region, can_change_lambda, change_lambda};
 use no_memory::NoMemory;
+use r_edit::{keep_entries, keep_exits, keep_variables, remove_node};
 use std::alloc::Global;
 
 /// Whether the rule applies at the node of this number: it gives no state and no output of it is

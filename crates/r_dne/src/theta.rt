@@ -1,15 +1,16 @@
+//! The loop variables of a Theta that stay.
+
 ghost use Rattle.std.specs.Prelude.{◌≡◌, ◌<◌, ◌||◌, not, length, slice_get};
 ghost use Rattle.g_graph.specs.declared.op.Kind.TheVariants.{Value};
 ghost use Rattle.g_graph.specs.declared.op.Origin.TheVariants.{Out};
 ghost use Rattle.g_graph.specs.Plain.{args_of};
 ghost use Rattle.g_graph.specs.Scope.{is_of};
 ghost use Rattle.g_graph.specs.Nodes.{is_used};
-ghost use Rattle.g_edit.specs.Sources.{origin_of};
+ghost use Rattle.r_edit.specs.Origins.{origin_of};
 ghost use Rattle.r_dne.specs.Rule.{others_use, argument_used, variables_of};
 
-use crate::node::is_of;
-use g_edit::{Source, Stays, is_source_among, nodes_use_source, uses_source};
-use g_graph::{Kind, Origin, Region};
+use g_graph::{Kind, Origin, Region, is_of};
+use r_edit::{Source, Stays, is_source_among, nodes_use_source, uses_source};
 
 /// The loop variables of a Theta of this number in a region: states stay, and values whose output
 /// is used, or whose argument something else than their own result uses.

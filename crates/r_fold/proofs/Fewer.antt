@@ -1,6 +1,6 @@
 -- A folded lambda is no larger.
 use Rattle.std.specs.Prelude.{option_and_then}
-use Rattle.std.proofs.Common.{◌≡◌, ◌≤◌, ◌+◌, ℕ, zero, suc, ◌==◌, Bool, true, false, cond, List, [], ◌∷◌, map, length, Option, Some, None, option_map, refl, sym, subst, ◌∙◌, arith}
+use Rattle.std.proofs.Common.{◌≡◌, ◌≤◌, ◌+◌, ℕ, zero, suc, ◌==◌, Bool, true, false, cond, List, [], ◌∷◌, map, Option, Some, None, option_map, refl, sym, subst, ◌∙◌, arith}
 use Rattle.std.proofs.lemmas.List.{length-map}
 use Rattle.std.proofs.lemmas.Option.{same_Some}
 use Rattle.val_core.specs.declared.operation.Op1.{Op1}
@@ -16,14 +16,13 @@ use Rattle.g_graph.specs.Count.{region_values, node_values, nodes_values, region
 use Rattle.g_graph.specs.Nodes.{node_at, node_set, constant, is_used}
 use Rattle.g_graph.specs.Program.{lambda_values}
 use Rattle.g_graph.specs.Replace.{nodes_redirected, region_redirected, origin_replaced}
-use Rattle.g_graph.specs.Splice.{args_to_inputs, outputs_to_results, joined_nodes, nodes_spliced, region_spliced}
-use Rattle.g_graph.specs.WellFormed.{IsWellFormed}
+use Rattle.g_graph.specs.Splice.{args_to_inputs, outputs_to_results, joined_nodes, nodes_spliced}
 use Rattle.g_graph.proofs.lemmas.Redirects.{nodes_values-redirected}
 use Rattle.g_graph.proofs.lemmas.Splices.{nodes_values-joined}
-use Rattle.g_edit.specs.Size.{IsNoLarger, IsResized}
-use Rattle.g_edit.proofs.lemmas.Fewer.{no-more}
-use Rattle.g_edit.proofs.lemmas.Size.{resized_lambdas_are_no_larger, redirected-resized}
-use Rattle.g_edit.proofs.lemmas.Steps.{contracts_give_steps, edits_keep_interface}
+use Rattle.r_edit.specs.Size.{IsNoLarger, IsResized}
+use Rattle.r_edit.proofs.lemmas.Fewer.{no-more}
+use Rattle.r_edit.proofs.lemmas.Size.{resized_lambdas_are_no_larger, redirected-resized}
+use Rattle.r_edit.proofs.lemmas.Steps.{contracts_give_steps, edits_keep_interface}
 use Rattle.r_fold.specs.Rule.{is_word, left_neutral, right_neutral, Folded, word, input, replacement, bin_folded, gamma_folded, theta_folded, chosen_region, folding, folded, fold_here, fold}
 use Rattle.r_fold.specs.Laws.{FoldIsAStep}
 use Rattle.r_fold.proofs.Keeps.{fold_well_formed}

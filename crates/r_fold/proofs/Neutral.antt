@@ -4,7 +4,7 @@ use Rattle.std.specs.Int.{int_shr, w32}
 use Rattle.std.specs.Int.Bits.{or_zero_l, or_zero_r, xor_zero_l, xor_zero_r}
 use Rattle.std.proofs.lemmas.Int.{of_z-to_z}
 use Rattle.std.proofs.lemmas.Bool.Decides.{nat_tests}
-use Rattle.std.proofs.Math.Nat.{mod-eq_of_lt, div-one}
+use Rattle.std.proofs.Math.Nat.{div-one}
 use Rattle.val_core.specs.declared.operation.Op2.{Op2}
 use Rattle.val_core.specs.declared.operation.Op2.TheVariants.{Add, Sub, Mul, Or, Xor, Sll, Srl, Sra}
 use Rattle.val_core.specs.declared.values.BlockName.{BlockName}
@@ -14,9 +14,6 @@ use Rattle.val_core.specs.Words.{word2, signed, word}
 use Rattle.val_core.specs.Values.{address, value2, IsLessDefined, IsSound}
 use Rattle.val_core.proofs.lemmas.Values.{bad-left, bad-right}
 use Rattle.r_fold.specs.Rule.{left_neutral, right_neutral}
-
-small : (a : ℕ) → a < 2 ^ 32 → a % 2 ^ 32 ≡ a
-small a h = mod-eq_of_lt h
 
 address-within : (b : BlockName) (o : ℕ) → o ≤ b.size → address b o ≡ At b o
 address-within b o h = let t : nat_le o b.size ≡ true = grind (arith, nat_tests) in rw t

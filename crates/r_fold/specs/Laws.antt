@@ -4,7 +4,7 @@ use Rattle.g_graph.specs.Plain.{RegionTree, PlainLambda}
 use Rattle.g_graph.specs.WellFormed.{IsWellFormed}
 use Rattle.g_mean.specs.Edits.{AreEditedAt, IsPartOf, KeepsComplete}
 use Rattle.g_mean.specs.Replacement.{Replaces, FunctionsKeepMeaning, ProgramKeepsMeaning}
-use Rattle.g_edit.specs.Steps.{MayStandFor}
+use Rattle.r_edit.specs.Steps.{MayStandFor}
 use Rattle.r_fold.specs.Rule.{fold_here, fold}
 
 -- a folded region of a well-formed lambda may replace it, in any lambdas

@@ -1,7 +1,8 @@
+//! Folding a node by the plan that was made for it.
+
 ghost use Rattle.std.specs.Prelude.{◌≡◌, [], MatchBool, IfOk, OnErr, is_some};
 ghost use Rattle.std.specs.declared.option.Option.TheVariants.{Some, None};
-ghost use Rattle.g_graph.specs.Plain.{node, no_regions, nodes_of};
-ghost use Rattle.g_graph.specs.Nodes.{node_set};
+ghost use Rattle.g_graph.specs.Plain.{node, no_regions};
 ghost use Rattle.r_fold.specs.Plan.{with_word, with_input, carried_out};
 
 use crate::plan::Plan;

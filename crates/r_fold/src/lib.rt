@@ -1,5 +1,6 @@
-//! Folding: a node whose inputs are constants becomes what it gives.
+//! Constant folding: a node whose inputs are constants becomes what it gives.
 //! Promise: `apply` gives the folded lambda, and a folded lambda keeps its meaning in any program.
+//! Always: out of memory, the lambda is as it was.
 #![tactic(auto)]
 
 mod edit;

@@ -1,3 +1,5 @@
+//! The plan for a node, and that of one without regions.
+
 ghost use Rattle.std.specs.Prelude.{◌≡◌, option_map};
 ghost use Rattle.g_graph.specs.Plain.{nodes_of};
 ghost use Rattle.r_fold.specs.Rule.{is_word, left_neutral, right_neutral, bin_folded};

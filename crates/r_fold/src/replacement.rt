@@ -1,3 +1,5 @@
+//! The plan for a node with regions, one of which comes instead of it.
+
 ghost use Rattle.std.specs.Prelude.{◌≡◌, IfOk, is_some, option_map, option_copied};
 ghost use Rattle.g_graph.specs.Plain.{nodes_of, regions_of};
 ghost use Rattle.g_graph.specs.Replace.{region_redirected};

@@ -1,3 +1,5 @@
+//! Where the rule applies, and what it does there.
+
 ghost use Rattle.std.specs.Prelude.{◌≡◌, MatchBool, IfOk, OnOk, OnErr, IsTrue, is_some, option_map, option_and_then};
 ghost use Rattle.std.specs.declared.option.Option.TheVariants.{Some, None};
 ghost use Rattle.g_graph.specs.Plain.{nodes_of, nodes_in};
@@ -5,7 +7,7 @@ ghost use Rattle.g_graph.specs.WellFormed.{IsWellFormed};
 ghost use Rattle.g_graph.specs.Nodes.{node_at};
 ghost use Rattle.g_graph.specs.Program.{lambda_values, KeepsPrograms};
 ghost use Rattle.r_fold.specs.Rule.{folding, folded, fold_here, applies, fold};
-ghost use Rattle.g_edit.specs.Size.{IsNoLarger};
+ghost use Rattle.r_edit.specs.Size.{IsNoLarger};
 ghost use Rattle.g_mean.specs.Edits.{KeepsMeaning, KeepsComplete};
 ghost use Rattle.r_fold.specs.Plan.{planned};
 

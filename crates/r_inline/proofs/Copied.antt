@@ -8,8 +8,8 @@ use Rattle.g_graph.specs.Splice.{args_to_inputs, region_spliced}
 use Rattle.g_graph.specs.WellFormed.{IsWellFormed}
 use Rattle.g_mean.specs.Copies.{IsClosed}
 use Rattle.g_mean.proofs.lemmas.Closed.{region-closed}
-use Rattle.g_edit.specs.Steps.{MayStandFor}
-use Rattle.g_copy.specs.Numbering.{node_count, region_numbered}
+use Rattle.r_edit.specs.Steps.{MayStandFor}
+use Rattle.r_copy.specs.Numbering.{node_count, region_numbered}
 use Rattle.r_inline.specs.Rule.{call_at, applies, iln}
 use Rattle.r_inline.proofs.Body.{is-body}
 use Rattle.r_inline.proofs.Kept.{applies-parts, iln_is_a_step}

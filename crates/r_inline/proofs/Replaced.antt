@@ -28,11 +28,11 @@ use Rattle.g_mean.proofs.lemmas.LocalRefinement.{bodies_replace_calls}
 use Rattle.g_mean.proofs.lemmas.Programs.{programs_keep_meaning}
 use Rattle.g_mean.proofs.lemmas.Replacement.{lambdas_keep_meaning}
 use Rattle.g_mean.proofs.lemmas.Splices.{joined-read, spliced_regions_refine}
-use Rattle.g_edit.proofs.lemmas.Numbers.{below, among-whole}
-use Rattle.g_copy.specs.Numbering.{number_from, region_numbered}
-use Rattle.g_copy.proofs.lemmas.Numbering.{number_from-least, moved-ids}
-use Rattle.g_copy.proofs.lemmas.Fits.{copies_fit}
-use Rattle.g_copy.proofs.lemmas.Copies.{numbered_copies_mean_the_same}
+use Rattle.r_edit.proofs.lemmas.Numbers.{below, among-whole}
+use Rattle.r_copy.specs.Numbering.{number_from, region_numbered}
+use Rattle.r_copy.proofs.lemmas.Numbering.{number_from-least, moved-ids}
+use Rattle.r_copy.proofs.lemmas.Fits.{copies_fit}
+use Rattle.r_copy.proofs.lemmas.Copies.{numbered_copies_mean_the_same}
 use Rattle.r_inline.specs.Rule.{inlined, iln_here}
 use Rattle.r_inline.specs.Laws.{IlnReplaces, IlnKeepsLambdas, IlnKeepsPrograms}
 use Rattle.r_inline.proofs.Body.{IsBody, is-body, arguments-count}

@@ -1,5 +1,6 @@
 -- Inlining: a copy of the called function's body in the place of a call (Reissmann et al., RVSDG, 2020, of Apply nodes).
 use Rattle.std.specs.Prelude.{ℕ, ◌+◌, ◌-◌, ◌^◌, ◌==◌, nat_le, ◌&&◌, if◌then◌else◌, Bool, false, List, length, Option, None, Some, option_map, option_and_then, is_some}
+use Rattle.limits.specs.Limits.{most_callee_values}
 use Rattle.g_graph.specs.declared.op.Op.TheVariants.{Apply}
 use Rattle.g_graph.specs.declared.op.Origin.{Origin}
 use Rattle.g_graph.specs.Plain.{RegionTree, NodeTree, node, inputs_in, nodes_in, PlainLambda}
@@ -9,8 +10,8 @@ use Rattle.g_graph.specs.Nodes.{node_at}
 use Rattle.g_graph.specs.Replace.{region_redirected}
 use Rattle.g_graph.specs.Splice.{args_to_inputs, region_spliced}
 use Rattle.g_graph.specs.Change.{region_changed, lambda_changed}
-use Rattle.g_edit.specs.Size.{may_change_size}
-use Rattle.g_copy.specs.Numbering.{node_count, region_numbered}
+use Rattle.r_edit.specs.Size.{may_change_size}
+use Rattle.r_copy.specs.Numbering.{node_count, region_numbered}
 
 -- ---- the call
 
@@ -38,10 +39,6 @@ abbrev pub iln_here : (next n : ℕ) → (callee : PlainLambda) → RegionTree �
 iln_here next n callee r = option_map (λ inputs. region_spliced n (inlined next callee inputs) r) (call_at n callee r)
 
 -- ---- the condition
-
--- the values of a callee, counted whole
-abbrev pub most_callee_values : ℕ
-most_callee_values = 400
 
 -- the values of an Apply: the node and its three outputs
 abbrev pub call_values : ℕ

@@ -1,4 +1,5 @@
 //! The function that a node calls.
+
 ghost use Rattle.std.specs.Prelude.{◌≡◌};
 ghost use Rattle.r_inline.specs.Called.{called_by, region_calls, node_calls, called_at};
 

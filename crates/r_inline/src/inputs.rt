@@ -1,4 +1,5 @@
 //! The call that is inlined.
+
 ghost use Rattle.std.specs.Prelude.{◌≡◌, option_copied};
 ghost use Rattle.r_inline.specs.Rule.{is_call, inputs_of_call, call_at};
 

@@ -1,6 +1,7 @@
-//! Inlining: a copy of the called function's body in the place of a call. It stands on g_copy and
-//! g_edit. Promise: `apply` gives the changed lambda, which keeps its meaning in any program that
-//! has the callee.
+//! Inlining: a copy of the called function's body in the place of a call.
+//! Promise: `apply` gives the changed lambda, which keeps its meaning in any program that has the
+//! callee.
+//! Always: out of memory, the lambda is as it was.
 #![tactic(auto)]
 
 mod called;

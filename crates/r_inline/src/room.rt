@@ -1,24 +1,24 @@
 //! Whether a lambda may take in a callee.
+
 ghost use Rattle.std.specs.Prelude.{◌≡◌, ◌+◌, ◌-◌, ◌^◌, nat_le, if◌then◌else◌};
 ghost use Rattle.std.specs.declared.option.Option.TheVariants.{Some, None};
+ghost use Rattle.limits.specs.Limits.{most_callee_values};
 ghost use Rattle.g_graph.specs.Plain.{nodes_in};
 ghost use Rattle.g_graph.specs.Count.{nodes_values};
 ghost use Rattle.g_graph.specs.Program.{lambda_values};
-ghost use Rattle.g_copy.specs.Numbering.{node_count};
-ghost use Rattle.r_inline.specs.Rule.{most_callee_values, may_inline};
+ghost use Rattle.r_copy.specs.Numbering.{node_count};
+ghost use Rattle.r_inline.specs.Rule.{may_inline};
 
-use g_copy::{numbers_left, values_left};
-use g_edit::may_change_size;
 use g_graph::{Lambda, values};
-
-/// The most values of a callee, counted whole.
-const MOST_CALLEE_VALUES: u64 = 400;
+use limits::MOST_CALLEE_VALUES;
+use r_copy::{numbers_left, values_left};
+use r_edit::may_change_size;
 
 /// The values of a call: the node and its three outputs.
 const CALL_VALUES: u64 = 4;
 
 /// Whether a lambda of so many values, whose next node has the number `next`, may take in the
-/// callee. It takes no memory, and counts at most 401 values of the callee.
+/// callee. It takes no memory, and counts at most `MOST_CALLEE_VALUES + 1` values of the callee.
 pub fn may_inline(values: u64, next: u32, callee: &Lambda) -> bool
     ensures { result ≡ may_inline values next callee.now }
 {
@@ -50,7 +50,8 @@ pub fn values_that_decide(lambda: &Lambda, callee: &Lambda) -> u64
     }
 }
 
-// How many values the callee's nodes have; none where the callee has more than 400, counted whole.
+// How many values the callee's nodes have; none where the callee, counted whole, has more than
+// `MOST_CALLEE_VALUES`.
 fn values_of_nodes(callee: &Lambda) -> Option<u64>
     ensures { result ≡ (if nat_le (lambda_values callee.now) most_callee_values
         then Some (nodes_values (nodes_in callee.now.body)) else None) }

@@ -1,28 +1,30 @@
-//! The rule.
-ghost use Rattle.std.specs.Prelude.{◌≡◌, ◌&&◌, ◌∷◌, [], OnOk, OnErr, IsTrue, is_some, option_map};
+//! Where the rule applies, and what it does there.
+
+ghost use Rattle.std.specs.Prelude.{◌≡◌, ◌∷◌, [], OnOk, OnErr, IsTrue, is_some, option_map, ◌&&◌};
 ghost use Rattle.g_graph.specs.Change.{region_changed};
 ghost use Rattle.g_graph.specs.Replace.{region_redirected};
 ghost use Rattle.g_graph.specs.Splice.{args_to_inputs, region_spliced};
 ghost use Rattle.g_graph.specs.WellFormed.{IsWellFormed};
-ghost use Rattle.g_edit.specs.Steps.{MayStandFor};
+ghost use Rattle.r_edit.specs.Steps.{MayStandFor};
 ghost use Rattle.r_inline.specs.Rule.{call_at, iln_here, may_inline, applies, iln};
 
 use crate::inputs::call_at;
 use crate::room::{may_inline, values_that_decide};
-use g_copy::copy_numbered;
 use g_graph::{
     ArgsToInputs, CanChange, Change, Lambda, Origin, Region, can_change_lambda, change_lambda,
     redirect_region, splice_region,
 };
 use no_memory::NoMemory;
+use r_copy::copy_numbered;
 use std::alloc::Global;
 use std::mem;
 
 /// Whether the rule applies at the node of this number: a call of the callee with an input for each
-/// parameter and both states, at any depth, where the callee has no objects and at most 400 values,
-/// counted whole; where there are numbers for its nodes; and where the lambda does not become
-/// larger, or has at most 8,192 values afterwards. It is false for a number that is not there. It
-/// takes no memory, and time linear in the lambda; of the callee it counts at most 401 values.
+/// parameter and both states, at any depth, where the callee has no objects and at most
+/// `MOST_CALLEE_VALUES` values, counted whole; where there are numbers for its nodes; and where the
+/// lambda does not become larger, or has at most `MOST_GROWN_VALUES` values afterwards. It is false
+/// for a number that is not there. It takes no memory, and time linear in the lambda; of the callee
+/// it counts at most one more value.
 pub fn applies(lambda: &Lambda, node: u32, callee: &Lambda) -> bool
     ensures { result ≡ applies lambda.now node callee.now }
 {

@@ -33,16 +33,16 @@ use Rattle.g_mean.proofs.lemmas.Edits.{edits_replace}
 use Rattle.g_mean.proofs.lemmas.Exchange.{edits_keep_meaning}
 use Rattle.g_mean.proofs.lemmas.Programs.{programs_keep_meaning}
 use Rattle.g_mean.proofs.lemmas.Replacement.{lambdas_keep_meaning}
-use Rattle.g_edit.specs.InPlace.{outputs_redirected}
-use Rattle.g_edit.specs.Size.{IsResized}
+use Rattle.r_edit.specs.InPlace.{outputs_redirected}
+use Rattle.r_edit.specs.Size.{IsResized}
 use Rattle.g_graph.specs.Program.{lambda_values}
-use Rattle.g_edit.specs.Carried.{passed, output_carried, exits_carried}
-use Rattle.g_edit.proofs.lemmas.Carried.{carried_exits_go, carried_uses_move}
-use Rattle.g_edit.proofs.lemmas.CarriedExits.{exits_carried_fit, exits_carried_ops}
-use Rattle.g_edit.proofs.lemmas.Fewer.{outputs-resized, carried-resized}
-use Rattle.g_edit.proofs.lemmas.Size.{resized_lambdas_are_no_larger}
-use Rattle.g_edit.proofs.lemmas.Steps.{contracts_give_steps, edits_keep_interface}
-use Rattle.g_edit.proofs.lemmas.CarriedUses.{uses_carried_fit, outputs_redirected_ops}
+use Rattle.r_edit.specs.Carried.{passed, output_carried, exits_carried}
+use Rattle.r_edit.proofs.lemmas.Carried.{carried_exits_go, carried_uses_move}
+use Rattle.r_edit.proofs.lemmas.CarriedExits.{exits_carried_fit, exits_carried_ops}
+use Rattle.r_edit.proofs.lemmas.Fewer.{outputs-resized, carried-resized}
+use Rattle.r_edit.proofs.lemmas.Size.{resized_lambdas_are_no_larger}
+use Rattle.r_edit.proofs.lemmas.Steps.{contracts_give_steps, edits_keep_interface}
+use Rattle.r_edit.proofs.lemmas.CarriedUses.{uses_carried_fit, outputs_redirected_ops}
 use Rattle.r_inv.specs.Rule.{exits_from, variables_from, some_used, carried_exits, carried_variables, moved, inv_here, inv}
 use Rattle.r_inv.specs.Laws.{InvReplaces, InvKeepsLambdas, InvKeepsPrograms, InvKeeps, InvIsAStep}
 

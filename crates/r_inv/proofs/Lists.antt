@@ -1,5 +1,5 @@
 -- What variables carry, by index.
-use Rattle.std.proofs.Common.{◌≡◌, ◌<◌, ℕ, zero, suc, ◌+◌, ◌&&◌, ◌||◌, cond, List, [], ◌∷◌, ◌++◌, take, drop, length, Option, None, Some, refl, sym, ap, subst, ◌∙◌, add-one, arith}
+use Rattle.std.proofs.Common.{◌≡◌, ◌<◌, ℕ, zero, suc, ◌+◌, ◌&&◌, ◌||◌, cond, List, [], ◌∷◌, drop, length, Option, None, Some, refl, sym, ap, subst, ◌∙◌, add-one, arith}
 use Rattle.std.specs.Prelude.{slice_get, is_some, option_and_then}
 use Rattle.std.proofs.lemmas.Option.{same_Some}
 use Rattle.g_graph.specs.declared.op.Kind.{Kind}
@@ -12,7 +12,7 @@ use Rattle.g_graph.specs.Plain.{RegionTree, region, NodeTree, node, NodeTrees, R
 use Rattle.g_graph.specs.Scope.{is_of}
 use Rattle.g_graph.specs.WellFormed.{is_origin}
 use Rattle.g_graph.specs.Nodes.{node_at, is_used}
-use Rattle.g_edit.specs.Carried.{passed}
+use Rattle.r_edit.specs.Carried.{passed}
 use Rattle.r_inv.specs.Rule.{exits_from, variables_from, variable_carries, carried_variables, some_used, moved, inv_here}
 
 pub exits_count : (inputs : List Origin) (rs : RegionTrees) (p : ℕ) (ks : List (Option Kind)) → length (exits_from inputs rs p ks) ≡ length ks

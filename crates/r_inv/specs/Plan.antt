@@ -1,8 +1,8 @@
 -- Which uses are to move, once it is known, and the region where they have moved.
 use Rattle.std.specs.Prelude.{◌≡◌, ℕ, [], Option, None, Some, ⊤}
 use Rattle.g_graph.specs.Plain.{RegionTree}
-use Rattle.g_edit.specs.InPlace.{outputs_redirected}
-use Rattle.g_edit.specs.Carried.{output_carried, staying, exits_carried}
+use Rattle.r_edit.specs.InPlace.{outputs_redirected}
+use Rattle.r_edit.specs.Carried.{output_carried, staying, exits_carried}
 use Rattle.r_inv.specs.declared.plan.Plan.{Plan}
 use Rattle.r_inv.specs.declared.plan.Plan.TheVariants.{Gamma, Theta}
 

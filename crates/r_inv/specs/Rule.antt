@@ -3,7 +3,6 @@
 use Rattle.std.specs.Prelude.{ℕ, suc, ◌&&◌, ◌||◌, if◌then◌else◌, Bool, false, List, [], ◌∷◌, Option, None, Some, option_and_then, is_some, slice_get}
 use Rattle.g_graph.specs.declared.op.Kind.{Kind}
 use Rattle.g_graph.specs.declared.op.Kind.TheVariants.{Value}
-use Rattle.g_graph.specs.declared.op.Op.{Op}
 use Rattle.g_graph.specs.declared.op.Op.TheVariants.{Gamma, Theta}
 use Rattle.g_graph.specs.declared.op.Origin.{Origin}
 use Rattle.g_graph.specs.declared.op.Origin.TheVariants.{Arg, Out}
@@ -13,8 +12,8 @@ use Rattle.g_graph.specs.Scope.{same_kind, is_of}
 use Rattle.g_graph.specs.WellFormed.{is_origin}
 use Rattle.g_graph.specs.Change.{region_changed, lambda_changed}
 use Rattle.g_graph.specs.Nodes.{node_at, is_used}
-use Rattle.g_edit.specs.InPlace.{outputs_redirected}
-use Rattle.g_edit.specs.Carried.{passed, output_carried, exits_carried}
+use Rattle.r_edit.specs.InPlace.{outputs_redirected}
+use Rattle.r_edit.specs.Carried.{passed, output_carried, exits_carried}
 
 -- What each exit variable of a Gamma carries, from a first one on: an origin that is an argument, of any kind, in every
 -- region, if there is one.

@@ -1,12 +1,14 @@
-ghost use Rattle.std.specs.Prelude.{◌≡◌, ◌&&◌, IfOk, is_some};
+//! What the variables of a node carry.
+
+ghost use Rattle.std.specs.Prelude.{◌≡◌, IfOk, is_some, ◌&&◌};
 ghost use Rattle.g_graph.specs.declared.op.Origin.TheVariants.{Out};
 ghost use Rattle.g_graph.specs.Nodes.{is_used};
-ghost use Rattle.g_edit.specs.Carried.{staying};
+ghost use Rattle.r_edit.specs.Carried.{staying};
 ghost use Rattle.r_inv.specs.Rule.{some_used};
 
-use g_edit::{Source, uses_source};
 use g_graph::{Origin, Region};
 use no_memory::NoMemory;
+use r_edit::{Source, uses_source};
 use std::alloc::Global;
 
 /// What the variables of a node carry.

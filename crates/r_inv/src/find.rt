@@ -1,3 +1,5 @@
+//! Which uses may move, and the plan for them.
+
 ghost use Rattle.std.specs.Prelude.{◌≡◌, IfOk, is_some};
 ghost use Rattle.g_graph.specs.declared.op.Op.TheVariants.{Gamma, Theta};
 ghost use Rattle.g_graph.specs.Plain.{id_of, op_of};

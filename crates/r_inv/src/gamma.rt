@@ -1,9 +1,11 @@
+//! What the exit variables of a Gamma carry.
+
 ghost use Rattle.std.specs.Prelude.{◌≡◌, length, slice_get};
 ghost use Rattle.g_graph.specs.declared.op.Op.TheVariants.{Gamma};
 ghost use Rattle.g_graph.specs.Plain.{regions_of, results_of};
 ghost use Rattle.g_graph.specs.Signatures.{outputs_of};
 ghost use Rattle.g_graph.specs.WellFormed.{is_origin};
-ghost use Rattle.g_edit.specs.Carried.{outer, all_pass, passed};
+ghost use Rattle.r_edit.specs.Carried.{outer, all_pass, passed};
 ghost use Rattle.r_inv.specs.Rule.{carried_exits};
 
 use crate::carried::Carried;

@@ -1,6 +1,6 @@
-//! Invariant value redirection: what reads an output of a Gamma or a Theta that carries an origin
-//! of outside reads that origin.
+//! Invariant value redirection: what a Gamma or a Theta passes on is read where it comes from.
 //! Promise: `apply` gives the changed lambda, which keeps its meaning in any program.
+//! Always: out of memory, the lambda is as it was.
 #![tactic(auto)]
 
 mod carried;

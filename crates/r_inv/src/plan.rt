@@ -1,3 +1,5 @@
+//! The plan: which uses are to move.
+
 use g_graph::Origin;
 
 /// Which uses are to move.

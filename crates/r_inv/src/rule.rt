@@ -1,17 +1,19 @@
-ghost use Rattle.std.specs.Prelude.{◌≡◌, MatchBool, IfOk, OnOk, OnErr, IsTrue, is_some};
+//! Where the rule applies, and what it does there.
+
+ghost use Rattle.std.specs.Prelude.{◌≡◌, MatchBool, IfOk, OnOk, OnErr, IsTrue};
 ghost use Rattle.std.specs.declared.option.Option.TheVariants.{Some, None};
 ghost use Rattle.g_graph.specs.WellFormed.{IsWellFormed};
 ghost use Rattle.g_graph.specs.Program.{lambda_values, KeepsPrograms};
-ghost use Rattle.g_edit.specs.Size.{IsNoLarger};
+ghost use Rattle.r_edit.specs.Size.{IsNoLarger};
 ghost use Rattle.g_mean.specs.Edits.{KeepsMeaning, KeepsComplete};
 ghost use Rattle.r_inv.specs.Rule.{inv_here, applies, inv};
 ghost use Rattle.r_inv.specs.Plan.{carried_out, fits};
 
 use crate::find::{can_redirect, plan_at};
 use crate::plan::Plan;
-use g_edit::{carry_exits, carry_uses};
 use g_graph::{CanChange, Change, Lambda, Region, can_change_lambda, change_lambda};
 use no_memory::NoMemory;
+use r_edit::{carry_exits, carry_uses};
 use std::alloc::Global;
 
 /// Whether the rule applies at the node of this number: a Gamma with exits, states too, that in

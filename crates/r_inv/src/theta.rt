@@ -1,3 +1,5 @@
+//! What the loop variables of a Theta carry.
+
 ghost use Rattle.std.specs.Prelude.{◌≡◌, length, slice_get};
 ghost use Rattle.g_graph.specs.declared.op.Origin.TheVariants.{Arg};
 ghost use Rattle.g_graph.specs.Plain.{args_of, results_of};
@@ -5,8 +7,8 @@ ghost use Rattle.g_graph.specs.WellFormed.{is_origin};
 ghost use Rattle.r_inv.specs.Rule.{carried_variables, keeps, variable_carries};
 
 use crate::carried::Carried;
-use g_edit::{Source, is_source};
 use g_graph::{Kind, Origin, Region};
+use r_edit::{Source, is_source};
 
 /// What the loop variables carry of a Theta with these inputs and this region.
 #[derive(Drop)]

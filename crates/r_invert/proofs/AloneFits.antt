@@ -12,10 +12,10 @@ use Rattle.g_graph.specs.Signatures.{joined, inputs_of, outputs_of}
 use Rattle.g_graph.specs.WellFormed.{some_of, are, one_state_each, has_its_regions, regions_fit, theta_has_states, has_its_width, has_its_object, gives, node_fits, region_fits, every_region, every_in_regions}
 use Rattle.g_graph.proofs.lemmas.Indexes.{same_number_true}
 use Rattle.g_graph.proofs.lemmas.KindLists.{are_themselves}
-use Rattle.g_edit.proofs.lemmas.AddedFit.{fits-from}
-use Rattle.g_edit.proofs.lemmas.Kept.{IsState}
-use Rattle.g_edit.specs.Origins.{origins_from}
-use Rattle.g_edit.proofs.lemmas.Consecutive.{all-known, all-last}
+use Rattle.r_edit.proofs.lemmas.AddedFit.{fits-from}
+use Rattle.r_edit.proofs.lemmas.Kept.{IsState}
+use Rattle.r_edit.specs.Origins.{origins_from}
+use Rattle.r_edit.proofs.lemmas.Consecutive.{all-known, all-last}
 use Rattle.r_invert.specs.Compose.{alone}
 use Rattle.r_invert.proofs.Sequence.{HaveStates, given-where}
 

@@ -7,7 +7,7 @@ use Rattle.g_graph.specs.Count.{saturated}
 use Rattle.g_graph.specs.Ids.{region_ids}
 use Rattle.g_graph.specs.Program.{lambda_values}
 use Rattle.g_graph.specs.WellFormed.{IsWellFormed}
-use Rattle.g_edit.specs.Found.{region_found}
+use Rattle.r_edit.specs.Found.{region_found}
 use Rattle.r_invert.specs.Edit.{IsMade, loop_at, loop_part, placed_at, new_in}
 use Rattle.r_invert.specs.Rule.{ivt_here, body_inverted, applies, with_body, ivt}
 use Rattle.r_invert.proofs.Counted.{ivt-same, at-same}

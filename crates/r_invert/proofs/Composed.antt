@@ -19,9 +19,9 @@ use Rattle.g_mean.specs.Meaning.{Context, act, Outputs, no_outputs, extended, re
 use Rattle.g_mean.specs.Copies.{IsAmong, IsRead, known_after, is_argument, IsClosed, CanMove, Same, ReadSame}
 use Rattle.g_mean.proofs.lemmas.Copies.{same-then, same-equal, Equals, extended-same, copied_nodes_mean_the_same, reads-same, redirected-moved}
 use Rattle.g_mean.proofs.lemmas.Splices.{joined-run, known-among, get-read, get-port}
-use Rattle.g_edit.specs.Origins.{origins_from}
-use Rattle.g_edit.proofs.lemmas.Consecutive.{all-from}
-use Rattle.g_edit.proofs.lemmas.Loops.{at-port}
+use Rattle.r_edit.specs.Origins.{origins_from}
+use Rattle.r_edit.proofs.lemmas.Consecutive.{all-from}
+use Rattle.r_edit.proofs.lemmas.Loops.{at-port}
 use Rattle.r_invert.specs.Compose.{in_sequence, alone}
 
 -- ---- one after another

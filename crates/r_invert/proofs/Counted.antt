@@ -8,7 +8,7 @@ use Rattle.g_graph.specs.Count.{saturated}
 use Rattle.g_graph.specs.Nodes.{node_at}
 use Rattle.g_graph.specs.Replace.{region_redirected}
 use Rattle.g_graph.specs.Splice.{args_to_inputs, region_spliced}
-use Rattle.g_edit.proofs.lemmas.Size.{saturated-decides}
+use Rattle.r_edit.proofs.lemmas.Size.{saturated-decides}
 use Rattle.r_invert.specs.Edit.{only_may, regions_so, loop_at, loop_of, is_loop}
 use Rattle.r_invert.specs.Rule.{Parts, parts_of, can_count, may_invert, inverted, in_place, ivt_here, new_nodes, growth, loop_values}
 

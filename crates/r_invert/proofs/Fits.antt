@@ -25,11 +25,11 @@ use Rattle.g_mean.proofs.lemmas.Copies.{among-left, among-right}
 use Rattle.g_mean.proofs.lemmas.Edits.{distinct-split}
 use Rattle.g_mean.proofs.lemmas.Holds.{distinct-apart}
 use Rattle.val_core.specs.Numbers.{numbers_from}
-use Rattle.g_copy.proofs.lemmas.Numbering.{from-not-below, from-once, from-below, none-above}
-use Rattle.g_edit.proofs.lemmas.Loops.{loop_node}
-use Rattle.g_edit.proofs.lemmas.Numbers.{below}
+use Rattle.r_copy.proofs.lemmas.Numbering.{from-not-below, from-once, from-below, none-above}
+use Rattle.r_edit.proofs.lemmas.Loops.{loop_node}
+use Rattle.r_edit.proofs.lemmas.Numbers.{below}
 use Rattle.r_invert.specs.Laws.{IsLoopRegion}
-use Rattle.g_edit.specs.Size.{may_change_size}
+use Rattle.r_edit.specs.Size.{may_change_size}
 use Rattle.r_invert.specs.Rule.{inverted, new_nodes, growth, loop_values, can_count, ivt_here, with_body}
 use Rattle.r_invert.proofs.At.{Inverts, inverts-at}
 use Rattle.r_invert.proofs.First.{loop-says}

@@ -18,10 +18,10 @@ use Rattle.g_graph.specs.WellFormed.{distinct, region_fits, every_region, every_
 use Rattle.g_graph.proofs.lemmas.Found.{found_at}
 use Rattle.g_mean.proofs.lemmas.Closed.{region-closed}
 use Rattle.g_mean.proofs.lemmas.Edits.{distinct-split}
-use Rattle.g_edit.specs.Found.{region_found, nodes_found, regions_found}
-use Rattle.g_edit.specs.Size.{may_change_size}
-use Rattle.g_edit.proofs.lemmas.Found.{Agree, Only, both-change, found-where-changed}
-use Rattle.g_edit.proofs.lemmas.Loops.{loop_node}
+use Rattle.r_edit.specs.Found.{region_found, nodes_found, regions_found}
+use Rattle.r_edit.specs.Size.{may_change_size}
+use Rattle.r_edit.proofs.lemmas.Found.{Agree, Only, both-change, found-where-changed}
+use Rattle.r_edit.proofs.lemmas.Loops.{loop_node}
 use Rattle.r_invert.specs.Edit.{CanMake, IsMade, is_loop, loop_of, loop_at, loop_part, placed_at}
 use Rattle.r_invert.specs.Laws.{IsLoopRegion}
 use Rattle.r_invert.specs.Rule.{Parts, parts_of, inverted, new_nodes, growth, loop_values, may_invert, in_place, ivt_here}

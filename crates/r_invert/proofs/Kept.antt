@@ -20,13 +20,13 @@ use Rattle.g_graph.proofs.lemmas.Redirects.{nodes_values-redirected}
 use Rattle.g_graph.proofs.lemmas.Splices.{nodes_values-joined}
 use Rattle.g_mean.specs.Edits.{IsEdited, KeepsMeaning, KeepsComplete}
 use Rattle.g_mean.proofs.lemmas.Exchange.{edits_keep_meaning}
-use Rattle.g_edit.specs.Size.{IsNoLarger, IsResized, may_change_size}
-use Rattle.g_edit.proofs.lemmas.Size as size
-use Rattle.g_edit.proofs.lemmas.Steps.{contracts_give_steps, edits_keep_interface}
-use Rattle.g_copy.specs.Numbering.{node_count, region_numbered}
-use Rattle.g_copy.proofs.lemmas.Copies.{numbered-ops}
-use Rattle.g_copy.proofs.lemmas.Fits.{copied-nodes-values, copies_count_the_same}
-use Rattle.g_edit.proofs.lemmas.Loops.{loop_node}
+use Rattle.r_edit.specs.Size.{IsNoLarger, IsResized, may_change_size}
+use Rattle.r_edit.proofs.lemmas.Size as size
+use Rattle.r_edit.proofs.lemmas.Steps.{contracts_give_steps, edits_keep_interface}
+use Rattle.r_copy.specs.Numbering.{node_count, region_numbered}
+use Rattle.r_copy.proofs.lemmas.Copies.{numbered-ops}
+use Rattle.r_copy.proofs.lemmas.Fits.{copied-nodes-values, copies_count_the_same}
+use Rattle.r_edit.proofs.lemmas.Loops.{loop_node}
 use Rattle.r_invert.specs.Compose.{in_sequence, alone}
 use Rattle.r_invert.specs.Laws.{IvtIsAStep}
 use Rattle.r_invert.specs.Rule.{Parts, parts_of, giving, turn, remaining, choice, inverted, new_nodes, growth, loop_values, can_count, ivt_here, body_inverted, with_body, ivt}

@@ -14,9 +14,9 @@ use Rattle.g_graph.specs.Ids.{nodes_ids}
 use Rattle.g_mean.specs.Data.{Datum, value_of}
 use Rattle.g_mean.specs.Meaning.{Meaning, Context, branched, again, turns, region_meaning}
 use Rattle.g_mean.proofs.lemmas.Closed.{region-closed}
-use Rattle.g_copy.specs.Numbering.{node_count, region_numbered}
-use Rattle.g_copy.proofs.lemmas.Copies.{numbered_copies_mean_the_same}
-use Rattle.g_edit.proofs.lemmas.Loops.{gives-results, chosen-two}
+use Rattle.r_copy.specs.Numbering.{node_count, region_numbered}
+use Rattle.r_copy.proofs.lemmas.Copies.{numbered_copies_mean_the_same}
+use Rattle.r_edit.proofs.lemmas.Loops.{gives-results, chosen-two}
 use Rattle.r_invert.specs.Compose.{in_sequence, alone}
 use Rattle.r_invert.specs.Laws.{either}
 use Rattle.r_invert.specs.Rule.{Parts, turn, remaining, choice, inverted}

@@ -17,7 +17,7 @@ use Rattle.g_graph.proofs.lemmas.Nodes.{each_here, are_kinds, same_kinds}
 use Rattle.g_graph.proofs.lemmas.Splices.{nodes_ids-joined, kind_after-joined, every_in_nodes-joined}
 use Rattle.g_graph.proofs.lemmas.Unique.{same_number}
 use Rattle.g_mean.proofs.lemmas.Edits.{distinct-split}
-use Rattle.g_edit.proofs.lemmas.AddedFit.{Fits, fits-parts, fits-from}
+use Rattle.r_edit.proofs.lemmas.AddedFit.{Fits, fits-parts, fits-from}
 use Rattle.r_invert.specs.Laws.{IsLoopRegion}
 use Rattle.r_invert.specs.Rule.{is_output_of, takes_both_states, giving}
 use Rattle.r_invert.proofs.Chosen.{output_kind, all-chosen}

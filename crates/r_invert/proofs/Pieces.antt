@@ -18,11 +18,11 @@ use Rattle.g_graph.proofs.lemmas.Splices.{nodes_ids-joined}
 use Rattle.g_graph.proofs.lemmas.Unique.{same_number}
 use Rattle.g_mean.specs.Copies.{IsAmong}
 use Rattle.g_mean.proofs.lemmas.Copies.{among-right}
-use Rattle.g_edit.proofs.lemmas.AddedFit.{fits-parts}
-use Rattle.g_copy.specs.Numbering.{node_count, region_numbered}
+use Rattle.r_edit.proofs.lemmas.AddedFit.{fits-parts}
+use Rattle.r_copy.specs.Numbering.{node_count, region_numbered}
 use Rattle.val_core.specs.Numbers.{numbers_from}
-use Rattle.g_copy.proofs.lemmas.Fits.{copies_fit}
-use Rattle.g_copy.proofs.lemmas.Numbering.{copies_are_numbered}
+use Rattle.r_copy.proofs.lemmas.Fits.{copies_fit}
+use Rattle.r_copy.proofs.lemmas.Numbering.{copies_are_numbered}
 use Rattle.r_invert.specs.Compose.{in_sequence, alone}
 use Rattle.r_invert.proofs.AloneFits.{NodeAsks, alone-kinds, alone-fits}
 use Rattle.r_invert.proofs.Sequence.{HaveStates, sequence-kinds, sequence-fits}

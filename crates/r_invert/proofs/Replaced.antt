@@ -14,7 +14,7 @@ use Rattle.g_graph.specs.Signatures.{result_kinds}
 use Rattle.g_graph.specs.Replace.{region_redirected}
 use Rattle.g_graph.specs.Splice.{args_to_inputs, joined_nodes, region_spliced}
 use Rattle.g_graph.specs.WellFormed.{all_of, are, distinct, node_fits, region_fits, every_region, every_in_nodes, IsWellFormed}
-use Rattle.g_graph.proofs.lemmas.Nodes.{each_here, are_kinds}
+use Rattle.g_graph.proofs.lemmas.Nodes.{each_here}
 use Rattle.g_graph.proofs.lemmas.Splices.{nodes_ids-joined, every_in_nodes-joined}
 use Rattle.g_mean.specs.Data.{Datum}
 use Rattle.g_mean.specs.Meaning.{Context, Outputs, read, region_meaning, node_run}
@@ -32,9 +32,9 @@ use Rattle.g_mean.proofs.lemmas.LessDefined.{less-kept}
 use Rattle.g_mean.proofs.lemmas.Programs.{programs_keep_meaning}
 use Rattle.g_mean.proofs.lemmas.Replacement.{lambdas_keep_meaning}
 use Rattle.g_mean.proofs.lemmas.Splices.{joined-read, spliced_regions_refine}
-use Rattle.g_edit.proofs.lemmas.AddedFit.{fits-parts}
-use Rattle.g_edit.proofs.lemmas.Loops.{loop_node}
-use Rattle.g_edit.proofs.lemmas.Numbers.{below, among-whole}
+use Rattle.r_edit.proofs.lemmas.AddedFit.{fits-parts}
+use Rattle.r_edit.proofs.lemmas.Loops.{loop_node}
+use Rattle.r_edit.proofs.lemmas.Numbers.{below, among-whole}
 use Rattle.r_invert.specs.Laws.{IsLoopRegion, AreTurnsInverted, IvtReplaces, IvtKeepsLambdas, IvtKeepsPrograms}
 use Rattle.r_invert.specs.Rule.{Parts, parts_of, takes_both_states, inverted, new_nodes, ivt_here}
 use Rattle.r_invert.proofs.At.{placed, inverts-at}
@@ -67,9 +67,6 @@ module _ (objects : ℕ) (args : List Kind) (before : NodeTrees) (n : ℕ) (inpu
         results = (and_parts (are (result_kinds body) (Value ∷ args_of body)) true loop-node-says.regions).0;
         states = (and_parts (takes_both_states body) true loop-node-says.theta).0;
       }
-
-  pub input-kinds : map (known args before) inputs ≡ map Some (args_of body)
-  input-kinds = are_kinds (map (known args before) inputs) (args_of body) loop-node-says.inputs
 
 -- ---- the region that holds it
 

@@ -17,9 +17,9 @@ use Rattle.g_graph.proofs.lemmas.Indexes.{kind_absent, kind_present, kind_known,
 use Rattle.g_graph.proofs.lemmas.Redirects.{kind_after-redirected, state_after-redirected, every_in_nodes-redirected}
 use Rattle.g_graph.proofs.lemmas.Splices.{joined_none, kind_after-joined, state_after-joined, every_in_nodes-joined}
 use Rattle.g_mean.proofs.lemmas.Kinds.{joined-some}
-use Rattle.g_edit.proofs.lemmas.AddedFit.{nothing, none-of, none-read, scope-from, Fits, fits-from}
-use Rattle.g_edit.proofs.lemmas.Kept.{IsState, memory, io}
-use Rattle.g_edit.proofs.lemmas.Scopes.{KeepsScope, kept_all, kept_nodes_fit}
+use Rattle.r_edit.proofs.lemmas.AddedFit.{nothing, none-of, none-read, scope-from, Fits, fits-from}
+use Rattle.r_edit.proofs.lemmas.Kept.{IsState, memory, io}
+use Rattle.r_edit.proofs.lemmas.Scopes.{KeepsScope, kept_all, kept_nodes_fit}
 use Rattle.r_invert.specs.Compose.{in_sequence}
 
 -- both states are among these

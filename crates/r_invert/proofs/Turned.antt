@@ -24,7 +24,7 @@ use Rattle.g_mean.proofs.lemmas.Constants.{constant-holds}
 use Rattle.g_mean.proofs.lemmas.Copies.{extended-same}
 use Rattle.g_mean.proofs.lemmas.Holds.{run_nodes_hold}
 use Rattle.g_mean.proofs.lemmas.Splices.{joined-run, get-read, get-port}
-use Rattle.g_edit.proofs.lemmas.AddedFit.{fits-parts}
+use Rattle.r_edit.proofs.lemmas.AddedFit.{fits-parts}
 use Rattle.r_invert.specs.Laws.{either}
 use Rattle.r_invert.specs.Rule.{is_output_of, giving, word_given}
 use Rattle.r_invert.proofs.Chosen.{output_kind, Chosen, chosen-at}

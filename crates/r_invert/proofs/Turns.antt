@@ -14,7 +14,7 @@ use Rattle.g_mean.specs.Refining.{InOrder}
 use Rattle.g_mean.proofs.lemmas.Equal.{no_deeper-compares}
 use Rattle.g_mean.proofs.lemmas.LessDefined.{less-kept}
 use Rattle.g_mean.proofs.lemmas.Regions.{pick, less-cut, far-cut, on_number-refines}
-use Rattle.g_edit.proofs.lemmas.Loops.{then-number}
+use Rattle.r_edit.proofs.lemmas.Loops.{then-number}
 use Rattle.r_invert.specs.Laws.{either, AreTurnsInverted}
 
 -- ---- bounds

@@ -6,7 +6,7 @@ use Rattle.g_graph.specs.declared.op.Origin.TheVariants.{Arg, Out}
 use Rattle.g_graph.specs.Plain.{RegionTree, region, node, no_nodes, node_then, RegionTrees}
 use Rattle.g_graph.specs.Replace.{nodes_redirected}
 use Rattle.g_graph.specs.Splice.{args_to_inputs, joined_nodes}
-use Rattle.g_edit.specs.Origins.{origins_from}
+use Rattle.r_edit.specs.Origins.{origins_from}
 
 -- the one region, and then the other one on its results
 abbrev pub in_sequence : RegionTree → RegionTree → RegionTree

@@ -10,8 +10,8 @@ use Rattle.g_graph.specs.Replace.{region_redirected}
 use Rattle.g_graph.specs.Splice.{args_to_inputs, region_spliced}
 use Rattle.g_graph.specs.WellFormed.{all_of}
 use Rattle.g_mean.specs.Copies.{IsClosed}
-use Rattle.g_edit.specs.Size.{may_change_size}
-use Rattle.g_copy.specs.Numbering.{node_count}
+use Rattle.r_edit.specs.Size.{may_change_size}
+use Rattle.r_copy.specs.Numbering.{node_count}
 use Rattle.r_invert.specs.Rule.{Parts, parts_of, is_output_of, takes_both_states, word_given, is_zero, is_other, may_invert, inverted, new_nodes, but_last, giving}
 
 abbrev pub parts_are : (test stop go : RegionTree) → Parts

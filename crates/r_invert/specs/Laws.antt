@@ -13,7 +13,7 @@ use Rattle.g_mean.specs.LessDefined.{Paired, IsLessDefinedDatum}
 use Rattle.g_mean.specs.Refining.{ContextRefines}
 use Rattle.g_mean.specs.Edits.{AreEditedAt, IsPartOf}
 use Rattle.g_mean.specs.Replacement.{Replaces, FunctionsKeepMeaning, ProgramKeepsMeaning}
-use Rattle.g_edit.specs.Steps.{MayStandFor}
+use Rattle.r_edit.specs.Steps.{MayStandFor}
 use Rattle.r_invert.specs.Rule.{Parts, parts_of, inverted, takes_both_states, ivt_here, ivt}
 
 -- ---- turns

@@ -16,8 +16,8 @@ use Rattle.g_graph.specs.Scope.{same_kind}
 use Rattle.g_graph.specs.Splice.{args_to_inputs, outputs_to_results, region_spliced}
 use Rattle.g_graph.specs.Program.{lambda_values}
 use Rattle.g_graph.specs.WellFormed.{all_of, some_of}
-use Rattle.g_edit.specs.Size.{may_change_size}
-use Rattle.g_copy.specs.Numbering.{node_count, region_numbered}
+use Rattle.r_edit.specs.Size.{may_change_size}
+use Rattle.r_copy.specs.Numbering.{node_count, region_numbered}
 use Rattle.r_invert.specs.Compose.{in_sequence, alone}
 
 -- ---- the form of the loop

@@ -1,11 +1,12 @@
 //! Regions made of others.
+
 ghost use Rattle.std.specs.Prelude.{◌≡◌, ◌≤◌, ◌^◌, ◌++◌, IfOk, OnOk, length};
 ghost use Rattle.g_graph.specs.Plain.{regions_of};
 ghost use Rattle.r_invert.specs.Compose.{in_sequence, alone};
 
-use g_edit::{arguments, outputs_of};
 use g_graph::{ArgsToInputs, Kind, Node, Op, Region, redirect_region};
 use no_memory::NoMemory;
+use r_edit::{arguments, outputs_of};
 use smallvec::SmallVec;
 use std::alloc::Global;
 

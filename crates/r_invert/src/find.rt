@@ -1,7 +1,8 @@
 //! The loop that is inverted.
+
 ghost use Rattle.std.specs.Prelude.{◌≡◌, ◌-◌, option_copied};
 ghost use Rattle.g_graph.specs.Ids.{region_ids, node_ids};
-ghost use Rattle.g_edit.specs.Found.{region_found, node_found};
+ghost use Rattle.r_edit.specs.Found.{region_found, node_found};
 ghost use Rattle.r_invert.specs.Edit.{loop_of, loop_at, new_in};
 
 use crate::room::is_loop;

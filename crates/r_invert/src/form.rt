@@ -1,4 +1,5 @@
 //! The form of a loop that may be inverted.
+
 ghost use Rattle.std.specs.Prelude.{◌≡◌};
 ghost use Rattle.g_graph.specs.Scope.{same_kind};
 ghost use Rattle.g_graph.specs.WellFormed.{all_of, some_of};

@@ -1,6 +1,7 @@
-//! Inversion: a loop whose turns begin with a test becomes the test and, where it holds, a loop
-//! whose turns end with it. It stands on g_copy and g_edit. Promise: `apply` gives the changed
-//! lambda, which keeps its meaning in any program.
+//! Inversion: a loop that tests first becomes the test and, where it holds, a loop that tests last.
+//! A loop that tests last does so after each turn. Promise: `apply` gives the changed lambda, which
+//! keeps its meaning in any program.
+//! Always: out of memory, the lambda is as it was.
 #![tactic(auto)]
 
 mod compose;

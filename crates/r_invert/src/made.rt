@@ -1,16 +1,17 @@
 //! The inverted loop, as it is made.
+
 ghost use Rattle.std.specs.Prelude.{◌≡◌, ◌<◌, ◌+◌, ◌^◌, ◌∷◌, IfOk, length};
 ghost use Rattle.g_graph.specs.declared.op.Kind.TheVariants.{Value};
 ghost use Rattle.g_graph.specs.Plain.{args_of, results_of};
 ghost use Rattle.g_mean.specs.Copies.{IsClosed};
-ghost use Rattle.g_copy.specs.Numbering.{node_count};
+ghost use Rattle.r_copy.specs.Numbering.{node_count};
 ghost use Rattle.r_invert.specs.Edit.{parts_are};
 ghost use Rattle.r_invert.specs.Rule.{turn, remaining, choice, inverted, new_nodes};
 
 use crate::compose::{alone, in_sequence};
-use g_copy::{Numbered, copy_numbered};
 use g_graph::{Kind, Op, Region};
 use no_memory::NoMemory;
+use r_copy::{Numbered, copy_numbered};
 use std::alloc::Global;
 
 /// The inverted loop with these parts, with numbers from `next` on in pre-order, and the number

@@ -1,9 +1,10 @@
 //! What comes in the place of a loop.
+
 ghost use Rattle.std.specs.Prelude.{◌≡◌, IfOk, IsTrue, is_some, option_and_then};
 ghost use Rattle.std.specs.declared.option.Option.TheVariants.{Some};
 ghost use Rattle.g_graph.specs.Plain.{region, args_of, nodes_in, regions_of};
 ghost use Rattle.g_graph.specs.WellFormed.{IsWellFormed};
-ghost use Rattle.g_edit.specs.Found.{region_found};
+ghost use Rattle.r_edit.specs.Found.{region_found};
 ghost use Rattle.r_invert.specs.Edit.{loop_at, body_part, regions_part, loop_part, parts_from, made_of, made_end, CanMake, Makes, AreMade, IsMade, CanMakeOf, CanMakeEnd};
 ghost use Rattle.r_invert.specs.Rule.{giving, but_last, inverted};
 

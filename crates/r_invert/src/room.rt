@@ -1,12 +1,13 @@
 //! Whether a loop may be inverted.
-ghost use Rattle.std.specs.Prelude.{◌≡◌, ◌<◌, ◌^◌, ◌-◌, is_some, length};
-ghost use Rattle.g_graph.specs.Plain.{regions_of, args_of, results_of};
+
+ghost use Rattle.std.specs.Prelude.{◌≡◌, ◌<◌, ◌^◌, ◌-◌, is_some};
+ghost use Rattle.g_graph.specs.Plain.{regions_of};
 ghost use Rattle.r_invert.specs.Edit.{values_counted, nodes_counted, growth_so, numbers_so, indexes_so, room_so, loop_parts, two_so, regions_so, ends_so, only_may, is_loop};
 
 use crate::form::branches_so;
-use g_copy::{numbers_left, values_left};
-use g_edit::may_change_size;
 use g_graph::{Node, Op, Region};
+use r_copy::{numbers_left, values_left};
+use r_edit::may_change_size;
 
 /// More values than the region of a loop has, on any machine.
 const MOST_VALUES: u64 = 1 << 60;

@@ -1,4 +1,5 @@
-//! The rule.
+//! Where the rule applies, and what it does there.
+
 ghost use Rattle.std.specs.Prelude.{◌≡◌, ◌<◌, ◌+◌, ◌^◌, OnOk, OnErr, IsTrue, is_some};
 ghost use Rattle.g_graph.specs.Change.{region_changed};
 ghost use Rattle.g_graph.specs.Ids.{region_ids};
@@ -7,7 +8,7 @@ ghost use Rattle.g_graph.specs.Replace.{region_redirected};
 ghost use Rattle.g_graph.specs.Splice.{args_to_inputs};
 ghost use Rattle.g_graph.specs.WellFormed.{IsWellFormed};
 ghost use Rattle.g_mean.specs.Edits.{KeepsMeaning, KeepsComplete};
-ghost use Rattle.g_edit.specs.Size.{IsNoLarger};
+ghost use Rattle.r_edit.specs.Size.{IsNoLarger};
 ghost use Rattle.r_invert.specs.Edit.{placed_at, new_in};
 ghost use Rattle.r_invert.specs.Rule.{ivt_here, applies, ivt};
 
@@ -24,8 +25,8 @@ use std::mem;
 /// Whether the rule applies at the node of this number: a Theta whose region ends with a Gamma,
 /// which takes both states and gives all results; its region 0 gives the predicate 0 and its region
 /// 1 another word, each by a Const. There are numbers for the nodes that come, and the lambda does
-/// not become larger, or has at most 8,192 values afterwards. It is false for a number that is not
-/// there. It takes no memory, and time linear in the lambda.
+/// not become larger, or has at most `MOST_GROWN_VALUES` values afterwards. It is false for a
+/// number that is not there. It takes no memory, and time linear in the lambda.
 pub fn applies(lambda: &Lambda, node: u32) -> bool
     ensures { result ≡ applies lambda.now node }
 {

@@ -9,11 +9,11 @@ use Rattle.g_graph.specs.WellFormed.{some_of}
 use Rattle.g_mean.specs.Data.{Datum, at_port}
 use Rattle.g_mean.specs.Meaning.{Outputs, read}
 use Rattle.g_mean.specs.Copies.{IsRead, AreRead, NodesRead, is_argument}
-use Rattle.g_edit.specs.Uses.{nodes_read, is_output_of}
-use Rattle.g_edit.specs.Places.{stays_at, kept, place_after}
-use Rattle.g_edit.specs.Entries.{argument_after, is_gone_argument}
-use Rattle.g_edit.proofs.lemmas.Exits.{kept_port}
-use Rattle.g_edit.proofs.lemmas.Kept.{is_not}
+use Rattle.r_edit.specs.Uses.{nodes_read, is_output_of}
+use Rattle.r_edit.specs.Places.{stays_at, kept, place_after}
+use Rattle.r_edit.specs.Entries.{argument_after, is_gone_argument}
+use Rattle.r_edit.proofs.lemmas.Exits.{kept_port}
+use Rattle.r_edit.proofs.lemmas.Kept.{is_not}
 use Rattle.r_pull.specs.Rule.{other_entries, args_from}
 
 -- ---- data with more after them

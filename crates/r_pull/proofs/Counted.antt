@@ -14,12 +14,12 @@ use Rattle.g_graph.specs.Replace.{nodes_redirected}
 use Rattle.g_graph.specs.Splice.{joined_nodes}
 use Rattle.g_graph.proofs.lemmas.Redirects.{nodes_ids-redirected, nodes_values-redirected}
 use Rattle.g_graph.proofs.lemmas.Unique.{times, times_append, times_cons}
-use Rattle.g_edit.specs.Uses.{is_read}
-use Rattle.g_edit.specs.Places.{kept}
-use Rattle.g_edit.specs.Entries.{argument_after, is_gone_argument}
-use Rattle.g_edit.specs.InPlace.{region_taking}
-use Rattle.g_edit.specs.Removal.{nodes_without}
-use Rattle.g_edit.proofs.lemmas.Pure.{pure-outputs}
+use Rattle.r_edit.specs.Uses.{is_read}
+use Rattle.r_edit.specs.Places.{kept}
+use Rattle.r_edit.specs.Entries.{argument_after, is_gone_argument}
+use Rattle.r_edit.specs.InPlace.{region_taking}
+use Rattle.r_edit.specs.Removal.{nodes_without}
+use Rattle.r_edit.proofs.lemmas.Pure.{pure-outputs}
 use Rattle.r_pull.specs.Rule.{args_from, copy_used, region_filled, copies_in, regions_filled, copies, gone_among, gone_args, more_args}
 use Rattle.r_pull.proofs.Means.{regions_pulled}
 

@@ -4,8 +4,8 @@ use Rattle.std.proofs.Common.{◌≡◌, ℕ, zero, suc, Bool, false, List, [], 
 use Rattle.std.proofs.Math.Bool.{not-not}
 use Rattle.g_graph.specs.declared.op.Origin.{Origin}
 use Rattle.g_graph.specs.declared.op.Origin.TheVariants.{Arg}
-use Rattle.g_edit.specs.Uses.{is_output_of}
-use Rattle.g_edit.specs.Entries.{is_gone_argument}
+use Rattle.r_edit.specs.Uses.{is_output_of}
+use Rattle.r_edit.specs.Entries.{is_gone_argument}
 use Rattle.r_pull.specs.Rule.{other_entries}
 
 gone-at : (n : ℕ) (entries : List Origin) (k : ℕ) → is_gone_argument (other_entries n entries) (Arg k) ≡ unwrap_or (option_map (is_output_of n) (slice_get entries k)) false

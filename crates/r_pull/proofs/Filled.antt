@@ -11,16 +11,16 @@ use Rattle.g_graph.specs.declared.op.Origin.TheVariants.{Arg}
 use Rattle.g_graph.specs.Plain.{RegionTree, region, NodeTree, node, NodeTrees, no_nodes, node_then, RegionTrees, no_regions}
 use Rattle.g_graph.specs.Plain.{region_then, nodes_of, regions_of, nodes_in, args_of, id_of, op_of, inputs_in, regions_in}
 use Rattle.g_graph.specs.Replace.{nodes_redirected, region_redirected}
-use Rattle.g_edit.specs.Removal.{region_without}
-use Rattle.g_edit.specs.Uses.{is_read}
-use Rattle.g_edit.specs.Entries.{is_gone_argument, some_reads, node_taking}
+use Rattle.r_edit.specs.Removal.{region_without}
+use Rattle.r_edit.specs.Uses.{is_read}
+use Rattle.r_edit.specs.Entries.{is_gone_argument, node_taking}
 use Rattle.r_pull.specs.declared.find.Found.{Found}
 use Rattle.r_pull.specs.declared.plan.NewLists.{NewLists}
 use Rattle.r_pull.specs.declared.plan.Plan.{Plan}
-use Rattle.r_pull.specs.Rule.{Pull, stays_of, other_entries, inputs_carried, args_from, copy_used, begun_with, copies_in}
-use Rattle.r_pull.specs.Rule.{copies, regions_filled, only_user, gamma_pulled, most_next, pull_at, region_pulled, pll_here}
+use Rattle.r_pull.specs.Rule.{other_entries, inputs_carried, args_from, copy_used, begun_with, copies_in}
+use Rattle.r_pull.specs.Rule.{copies, regions_filled, only_user, gamma_pulled, pull_at, region_pulled, pll_here}
 use Rattle.r_pull.specs.Edit.{entries_of, pull_into, begun, begun_where, region_with, regions_with, count_nodes, HasRoom}
-use Rattle.r_pull.specs.Edit.{HaveRoom, AreListsOf, AreListsOfAll, taking, pull_seen, IsCounted, IsPlanFor, planned, FitsPlanned}
+use Rattle.r_pull.specs.Edit.{HaveRoom, AreListsOf, AreListsOfAll, taking, pull_seen, IsPlanFor, planned, FitsPlanned}
 use Rattle.r_pull.proofs.Found.{changed_alike, only_is_first}
 
 pub count_nodes_of : (xs : List NodeTree) → count_nodes (nodes_of xs) ≡ length xs
@@ -40,10 +40,6 @@ begun_none stays (x ∷ front) r e = absurd cc
 pub begun_some : (stays : List Bool) (front : List NodeTree) (x : NodeTree) (r : RegionTree) → slice_get front 0 ≡ Some x → begun_where stays front r ≡ begun stays (id_of x) (nodes_of front) r
 begun_some stays [] x r e = absurd cc
 begun_some stays (y ∷ front) x r e = ap (λ z. begun stays (id_of z) (nodes_of (y ∷ front)) r) (same_Some y x e)
-
-pub some_more : (front : List NodeTree) (x : NodeTree) → slice_get front 0 ≡ Some x → 0 < length front
-some_more [] x e = absurd cc
-some_more (y ∷ front) x e = omega arith
 
 -- the lists of a region that takes no copy, and of one that does
 module _ (stays : List Bool) (copy first : ℕ) (op : Op) (inputs : List Origin) where
@@ -118,23 +114,6 @@ plan_is next n (node xid op xs qs) (node id gop ges rs) p entries carried e c s 
       taken = λ k. node_taking (stays k) (node id gop (inputs k) (same k));
       room = all-room (other_entries n (drop 1 ges)) (length (drop 1 ges)) op (inputs_carried n h) next rs p.lists.items all;
     }
-
-few-carried : (n : ℕ) (h : Pull) → length (inputs_carried n h) ≤ length h.inputs
-few-carried n h = by (some_reads (stays_of n h) h.regions)
-  where
-    by : (t : Bool) → length (cond t h.inputs []) ≤ length h.inputs
-    by true = omega arith
-    by false = omega arith
-
-pub counted-index : (next n count : ℕ) (x g : NodeTree) (entries carried : List Origin) → IsCounted next n count (pull_into x g) → entries ≡ entries_of g → carried ≡ inputs_carried n (pull_into x g) →
-    length entries + length carried ≤ 4294967296
-counted-index next n count (node xid op xs qs) (node id gop ges rs) entries carried h e c =
-    omega (arith, h.index, ap length e, ap length c, few-carried n (pull_into (node xid op xs qs) (node id gop ges rs)))
-
-pub counted-numbers : (next n count : ℕ) (x g : NodeTree) (entries : List Origin) → IsCounted next n count (pull_into x g) → entries ≡ entries_of g →
-    next + copies (other_entries n entries) (regions_in g) ≤ most_next
-counted-numbers next n count (node xid op xs qs) (node id gop ges rs) entries h e =
-    subst (λ es. next + copies (other_entries n es) rs ≤ most_next) (sym e) (subst (λ k. next + k ≤ most_next) h.copies h.numbers)
 
 pub planned_is : (values next n : ℕ) (r : RegionTree) (f : Found) (p : Plan) → Some (pull_seen f) ≡ pull_at values next n r → only_user n (nodes_in r) ≡ Some f.user.now →
     IsPlanFor next n f.node.now f.user.now p → planned n r (Some p) ≡ pll_here values next n r

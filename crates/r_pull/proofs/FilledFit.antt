@@ -22,13 +22,13 @@ use Rattle.g_graph.proofs.lemmas.KindLists.{are_themselves}
 use Rattle.g_graph.proofs.lemmas.Nodes.{same_kinds, has_times}
 use Rattle.g_graph.proofs.lemmas.Redirects.{kind_after-redirected, state_after-redirected, gives-redirected, every_in_nodes-redirected}
 use Rattle.g_graph.proofs.lemmas.Unique.{times, times_append, same_number}
-use Rattle.g_edit.specs.Uses.{is_read}
-use Rattle.g_edit.specs.Places.{stays_at}
-use Rattle.g_edit.specs.Entries.{is_gone_argument, some_reads}
-use Rattle.g_edit.proofs.lemmas.AddedFit.{nothing, none-of, none-read, scope-from, arg_added_fits, fits-parts, fits-from, fits-again}
-use Rattle.g_edit.proofs.lemmas.Kept.{IsState}
-use Rattle.g_edit.proofs.lemmas.Pure.{pure-outputs, no-index, no-given, no-value, values}
-use Rattle.g_edit.proofs.lemmas.Scopes.{KeepsScope, kept_all, kept_nodes_fit}
+use Rattle.r_edit.specs.Uses.{is_read}
+use Rattle.r_edit.specs.Places.{stays_at}
+use Rattle.r_edit.specs.Entries.{is_gone_argument, some_reads}
+use Rattle.r_edit.proofs.lemmas.AddedFit.{nothing, none-of, none-read, scope-from, arg_added_fits, fits-parts, fits-from, fits-again}
+use Rattle.r_edit.proofs.lemmas.Kept.{IsState}
+use Rattle.r_edit.proofs.lemmas.Pure.{pure-outputs, no-index, no-given, no-value, values}
+use Rattle.r_edit.proofs.lemmas.Scopes.{KeepsScope, kept_all, kept_nodes_fit}
 use Rattle.r_pull.specs.Rule.{args_from, copy_used, region_filled, copies_in, regions_filled}
 
 abbrev pub with_values : ℕ → List Kind → List Kind

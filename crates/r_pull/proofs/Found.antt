@@ -14,9 +14,9 @@ use Rattle.g_graph.specs.declared.op.Origin.{Origin}
 use Rattle.g_graph.specs.Plain.{RegionTree, region, NodeTree, node, NodeTrees, no_nodes, node_then, RegionTrees, no_regions, region_then, nodes_of, regions_of, nodes_in, has_none}
 use Rattle.g_graph.specs.Signatures.{is_pure}
 use Rattle.g_graph.specs.WellFormed.{some_of}
-use Rattle.g_edit.specs.Uses.{is_read, is_output_of, nodes_read}
-use Rattle.g_edit.specs.Entries.{is_gone_argument, some_reads}
-use Rattle.g_edit.specs.Size.{may_change_size}
+use Rattle.r_edit.specs.Uses.{is_read, is_output_of, nodes_read}
+use Rattle.r_edit.specs.Entries.{is_gone_argument, some_reads}
+use Rattle.r_edit.specs.Size.{may_change_size}
 use Rattle.r_pull.specs.declared.find.Found.{Found}
 use Rattle.r_pull.specs.Rule.{node_uses, only_user, user_changed, copies, Pull, stays_of, inputs_carried, copies_of, other_entries, gone_among}
 use Rattle.r_pull.specs.Rule.{more_args, added, gone, most_next, fits, into, pull_of, pull_at, copies_here, region_answer, nodes_answer}

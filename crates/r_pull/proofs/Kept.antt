@@ -27,18 +27,18 @@ use Rattle.g_mean.specs.Edits.{IsPartOf}
 use Rattle.g_mean.specs.Replacement.{Replaces}
 use Rattle.g_mean.proofs.lemmas.Closed.{region-closed}
 use Rattle.g_mean.proofs.lemmas.Inside.{as-many, regions-closed}
-use Rattle.g_edit.specs.Uses.{nodes_read, is_read, is_output_of}
-use Rattle.g_edit.specs.Places.{kept}
-use Rattle.g_edit.specs.Entries.{some_reads, regions_taking}
-use Rattle.g_edit.specs.Removal.{nodes_without, region_without}
-use Rattle.g_edit.proofs.lemmas.AddedFit.{fits-parts}
-use Rattle.g_edit.proofs.lemmas.Entries.{taking_joined}
-use Rattle.g_edit.proofs.lemmas.EntriesFit.{entries_kept_fit}
-use Rattle.g_edit.proofs.lemmas.Kept.{memory, io}
-use Rattle.g_edit.proofs.lemmas.Placed.{not_before}
-use Rattle.g_edit.proofs.lemmas.Pure.{pure-outputs, no-given, values, pure-takes, pure-fits}
-use Rattle.g_edit.proofs.lemmas.Removal.{unread_nodes_go, without_kept}
-use Rattle.g_edit.proofs.lemmas.Swapped.{RegionStays}
+use Rattle.r_edit.specs.Uses.{nodes_read, is_read, is_output_of}
+use Rattle.r_edit.specs.Places.{kept}
+use Rattle.r_edit.specs.Entries.{some_reads, regions_taking}
+use Rattle.r_edit.specs.Removal.{nodes_without, region_without}
+use Rattle.r_edit.proofs.lemmas.AddedFit.{fits-parts}
+use Rattle.r_edit.proofs.lemmas.Entries.{taking_joined}
+use Rattle.r_edit.proofs.lemmas.EntriesFit.{entries_kept_fit}
+use Rattle.r_edit.proofs.lemmas.Kept.{memory, io}
+use Rattle.r_edit.proofs.lemmas.Placed.{not_before}
+use Rattle.r_edit.proofs.lemmas.Pure.{pure-outputs, no-given, values, pure-takes, pure-fits}
+use Rattle.r_edit.proofs.lemmas.Removal.{unread_nodes_go, without_kept}
+use Rattle.r_edit.proofs.lemmas.Swapped.{RegionStays}
 use Rattle.r_pull.specs.Rule.{other_entries, args_from, regions_filled, copies, inputs_carried}
 use Rattle.r_pull.proofs.Answered.{none-from, numbered-more}
 use Rattle.r_pull.proofs.Carried.{late-stays}

@@ -21,14 +21,14 @@ use Rattle.g_mean.specs.Data.{Datum, val, value_of, at_port}
 use Rattle.g_mean.specs.Meaning.{Context, chosen, act, Outputs, no_outputs, extended, read, region_meaning, node_run, nodes_run, meanings}
 use Rattle.g_mean.specs.Copies.{IsAmong, known_after, is_argument, IsClosed, AllClosed, CanMove, ReadSame}
 use Rattle.g_mean.proofs.lemmas.Copies.{among-left, among-right, extended-same}
-use Rattle.g_edit.specs.Uses.{nodes_read, is_read}
-use Rattle.g_edit.specs.Places.{stays_at, kept, place_after}
-use Rattle.g_edit.specs.Entries.{argument_after, is_gone_argument, some_reads, regions_taking}
-use Rattle.g_edit.specs.InPlace.{region_taking}
-use Rattle.g_edit.proofs.lemmas.Added.{argument-less}
-use Rattle.g_edit.proofs.lemmas.Exits.{kept_port}
-use Rattle.g_edit.proofs.lemmas.Kept.{kept_map}
-use Rattle.g_edit.proofs.lemmas.Meant.{moved-runs-same, map-twice, redirected-twice}
+use Rattle.r_edit.specs.Uses.{nodes_read, is_read}
+use Rattle.r_edit.specs.Places.{stays_at, kept, place_after}
+use Rattle.r_edit.specs.Entries.{argument_after, is_gone_argument, some_reads, regions_taking}
+use Rattle.r_edit.specs.InPlace.{region_taking}
+use Rattle.r_edit.proofs.lemmas.Added.{argument-less}
+use Rattle.r_edit.proofs.lemmas.Exits.{kept_port}
+use Rattle.r_edit.proofs.lemmas.Kept.{kept_map}
+use Rattle.r_edit.proofs.lemmas.Meant.{moved-runs-same, map-twice, redirected-twice}
 use Rattle.r_pull.specs.Rule.{args_from, copy_used, region_filled, copies_in, regions_filled}
 use Rattle.r_pull.proofs.Carried.{front-port, reads-from, staying, all-stay, nodes-stay}
 

@@ -22,13 +22,13 @@ use Rattle.g_graph.proofs.lemmas.KindLists.{are_themselves}
 use Rattle.g_graph.proofs.lemmas.Nodes.{NodeFits, are_kinds, has_times}
 use Rattle.g_graph.proofs.lemmas.Splices.{kind_after-joined}
 use Rattle.g_graph.proofs.lemmas.Unique.{times, all_of_append, same_number}
-use Rattle.g_edit.specs.Uses.{is_output_of}
-use Rattle.g_edit.specs.Entries.{some_reads}
-use Rattle.g_edit.proofs.lemmas.AddedFit.{one-added}
-use Rattle.g_edit.proofs.lemmas.Exchanged.{exchanged_stays}
-use Rattle.g_edit.proofs.lemmas.Kept.{is_not}
-use Rattle.g_edit.proofs.lemmas.Pure.{values, values-are-last}
-use Rattle.g_edit.proofs.lemmas.Swapped.{RegionStays}
+use Rattle.r_edit.specs.Uses.{is_output_of}
+use Rattle.r_edit.specs.Entries.{some_reads}
+use Rattle.r_edit.proofs.lemmas.AddedFit.{one-added}
+use Rattle.r_edit.proofs.lemmas.Exchanged.{exchanged_stays}
+use Rattle.r_edit.proofs.lemmas.Kept.{is_not}
+use Rattle.r_edit.proofs.lemmas.Pure.{values, values-are-last}
+use Rattle.r_edit.proofs.lemmas.Swapped.{RegionStays}
 use Rattle.r_pull.specs.Rule.{other_entries, args_from, regions_filled}
 use Rattle.r_pull.proofs.Carried.{FirstOutputs}
 use Rattle.r_pull.proofs.FilledFit.{with_values, GoneValues, AllFilled, all-filled, first-takes}
@@ -103,9 +103,6 @@ module _ (n : ℕ) (f : Origin → Option Kind) (own : (p : ℕ) (k : Kind) → 
       gone-values entries kinds count rest j k t s
 
 -- ---- the Gamma with copies
-
-tail-same : {X : Type 0} (x y : X) (xs ys : List X) → x ∷ xs ≡ y ∷ ys → xs ≡ ys
-tail-same x y xs ys e = cc
 
 module _ (objects : ℕ) (args : List Kind) (before : NodeTrees) (id : ℕ) (p : Origin) (entries : List Origin) (rs : RegionTrees) (after : NodeTrees)
     (here : NodeFits objects args before (node id Gamma (p ∷ entries) rs) after) (stays : List Bool) (next : ℕ) (op : Op) (pure : is_pure op ≡ true) (carried : List Origin)

@@ -10,10 +10,10 @@ use Rattle.g_graph.specs.Lists.{RegionOps, NodesOps, RegionsOps}
 use Rattle.g_graph.specs.Replace.{nodes_redirected}
 use Rattle.g_graph.specs.Splice.{joined_nodes}
 use Rattle.g_graph.proofs.lemmas.Ops.{redirected_ops, joined_ops, found_ops, split-ops}
-use Rattle.g_edit.specs.Uses.{is_read}
-use Rattle.g_edit.specs.Entries.{argument_after, is_gone_argument, some_reads, regions_taking}
-use Rattle.g_edit.specs.InPlace.{region_taking}
-use Rattle.g_edit.proofs.lemmas.Removal.{without_ops}
+use Rattle.r_edit.specs.Uses.{is_read}
+use Rattle.r_edit.specs.Entries.{argument_after, is_gone_argument, some_reads, regions_taking}
+use Rattle.r_edit.specs.InPlace.{region_taking}
+use Rattle.r_edit.proofs.lemmas.Removal.{without_ops}
 use Rattle.r_pull.specs.Rule.{args_from, copy_used, region_filled, copies_in, regions_filled, Pull, stays_of, inputs_carried, gamma_pulled, pll_here}
 use Rattle.r_pull.proofs.Means.{regions_pulled, pulled-is}
 use Rattle.r_pull.proofs.Resized.{result-is}

@@ -30,11 +30,11 @@ use Rattle.g_mean.proofs.lemmas.Holds.{holds-from}
 use Rattle.g_mean.proofs.lemmas.Inside.{as-many}
 use Rattle.g_mean.proofs.lemmas.Moves.{pure_nodes_give_the_same}
 use Rattle.g_mean.proofs.lemmas.Splices.{joined-run, joined-read}
-use Rattle.g_edit.specs.Places.{stays_at, kept}
-use Rattle.g_edit.specs.Entries.{some_reads, regions_taking}
-use Rattle.g_edit.proofs.lemmas.Invariant.{given_is}
-use Rattle.g_edit.proofs.lemmas.Meant.{has-run}
-use Rattle.g_edit.proofs.lemmas.Pure.{pure-outputs}
+use Rattle.r_edit.specs.Places.{stays_at, kept}
+use Rattle.r_edit.specs.Entries.{some_reads, regions_taking}
+use Rattle.r_edit.proofs.lemmas.Invariant.{given_is}
+use Rattle.r_edit.proofs.lemmas.Meant.{has-run}
+use Rattle.r_edit.proofs.lemmas.Pure.{pure-outputs}
 use Rattle.r_pull.specs.Rule.{other_entries, regions_filled}
 use Rattle.r_pull.proofs.Carried.{FirstOutputs, late-stays, gone-port}
 use Rattle.r_pull.proofs.Means.{gamma-means}

@@ -14,11 +14,11 @@ use Rattle.g_graph.specs.Nodes.{node_at}
 use Rattle.g_graph.specs.Splice.{joined_nodes}
 use Rattle.g_graph.proofs.lemmas.Splices.{nodes_ids-joined, nodes_values-joined}
 use Rattle.g_graph.proofs.lemmas.Unique.{times, times_append, times_cons}
-use Rattle.g_edit.specs.Entries.{regions_taking}
-use Rattle.g_edit.specs.Removal.{nodes_without}
-use Rattle.g_edit.specs.Size.{may_change_size, Resized, IsResized}
-use Rattle.g_edit.proofs.lemmas.EntriesFit.{ids_same}
-use Rattle.g_edit.proofs.lemmas.Pure.{pure-outputs}
+use Rattle.r_edit.specs.Entries.{regions_taking}
+use Rattle.r_edit.specs.Removal.{nodes_without}
+use Rattle.r_edit.specs.Size.{may_change_size, Resized, IsResized}
+use Rattle.r_edit.proofs.lemmas.EntriesFit.{ids_same}
+use Rattle.r_edit.proofs.lemmas.Pure.{pure-outputs}
 use Rattle.r_pull.specs.Rule.{user_changed, regions_filled, Pull, stays_of, inputs_carried, copies_of, gamma_pulled, gone_args, added, gone, fits, most_next, pll_here}
 use Rattle.r_pull.proofs.Means.{pulled-is}
 use Rattle.r_pull.proofs.Counted.{counted, filled-ids, pulled-values, outputs-as-many, still-found, without-ids, without-values}

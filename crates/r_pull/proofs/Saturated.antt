@@ -7,7 +7,7 @@ use Rattle.g_graph.specs.Change.{lambda_changed}
 use Rattle.g_graph.specs.Count.{saturated}
 use Rattle.g_graph.specs.Nodes.{node_at}
 use Rattle.g_graph.specs.Program.{lambda_values}
-use Rattle.g_edit.proofs.lemmas.Size.{saturated-decides}
+use Rattle.r_edit.proofs.lemmas.Size.{saturated-decides}
 use Rattle.r_pull.specs.Rule.{Pull, added, gone, copies_of, most_next, where_fits, pull_of, pull_at, region_pulled, pll_here, copies_here, region_answer, copies_at, pll}
 
 fits-same : (v next n : ℕ) (h : Pull) → where_fits (saturated v) next n h ≡ where_fits v next n h

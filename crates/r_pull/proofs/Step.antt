@@ -29,12 +29,12 @@ use Rattle.g_mean.proofs.lemmas.Exchange.{edits_keep_meaning}
 use Rattle.g_mean.proofs.lemmas.Programs.{programs_keep_meaning}
 use Rattle.g_mean.proofs.lemmas.Replacement.{lambdas_keep_meaning}
 use Rattle.g_mean.proofs.lemmas.Splices.{joined-read}
-use Rattle.g_edit.specs.Uses.{nodes_read, is_output_of}
-use Rattle.g_edit.specs.Removal.{nodes_without}
-use Rattle.g_edit.specs.Size.{IsNoLarger}
-use Rattle.g_edit.proofs.lemmas.Size as size
-use Rattle.g_edit.proofs.lemmas.Steps.{contracts_give_steps, edits_keep_interface}
-use Rattle.g_edit.proofs.lemmas.Swapped.{RegionStays}
+use Rattle.r_edit.specs.Uses.{nodes_read, is_output_of}
+use Rattle.r_edit.specs.Removal.{nodes_without}
+use Rattle.r_edit.specs.Size.{IsNoLarger}
+use Rattle.r_edit.proofs.lemmas.Size as size
+use Rattle.r_edit.proofs.lemmas.Steps.{contracts_give_steps, edits_keep_interface}
+use Rattle.r_edit.proofs.lemmas.Swapped.{RegionStays}
 use Rattle.r_pull.specs.Rule.{copies_of, gamma_pulled, pll_here, copies_here, copies_at, pll}
 use Rattle.r_pull.specs.Laws.{PllReplaces, PllKeepsLambdas, PllKeepsPrograms, PllIsAStep}
 use Rattle.r_pull.proofs.Answered.{numbered-more, Answers, region_silent, region_answers}

@@ -14,10 +14,10 @@ use Rattle.g_graph.specs.Replace.{nodes_redirected}
 use Rattle.g_graph.specs.Splice.{joined_nodes}
 use Rattle.g_graph.proofs.lemmas.Unique.{same_number}
 use Rattle.g_mean.specs.Copies.{IsAmong, AreRead, known_after, is_argument}
-use Rattle.g_edit.specs.Uses.{nodes_read, is_read, is_output_of}
-use Rattle.g_edit.specs.Places.{stays_at, kept}
-use Rattle.g_edit.specs.Entries.{is_gone_argument, some_reads}
-use Rattle.g_edit.proofs.lemmas.Kept.{kept_none}
+use Rattle.r_edit.specs.Uses.{nodes_read, is_read, is_output_of}
+use Rattle.r_edit.specs.Places.{stays_at, kept}
+use Rattle.r_edit.specs.Entries.{is_gone_argument, some_reads}
+use Rattle.r_edit.proofs.lemmas.Kept.{kept_none}
 use Rattle.r_pull.specs.Rule.{other_entries, args_from, copy_used, region_filled, copies_in, regions_filled}
 
 -- ---- nodes before and after others

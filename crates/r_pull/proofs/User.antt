@@ -12,7 +12,7 @@ use Rattle.g_graph.specs.Signatures.{is_pure}
 use Rattle.g_graph.specs.WellFormed.{some_of}
 use Rattle.g_graph.specs.Nodes.{node_at}
 use Rattle.g_graph.specs.Splice.{joined_nodes}
-use Rattle.g_edit.specs.Uses.{nodes_read, is_output_of}
+use Rattle.r_edit.specs.Uses.{nodes_read, is_output_of}
 use Rattle.r_pull.specs.Rule.{node_uses, only_user, user_changed, Pull, copies_of, fits, into, pull_of, where_fits, pull_at, region_pulled, pll_here, copies_here}
 
 -- ---- the user

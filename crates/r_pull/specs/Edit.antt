@@ -10,9 +10,9 @@ use Rattle.g_graph.specs.Signatures.{is_pure}
 use Rattle.g_graph.specs.WellFormed.{some_of}
 use Rattle.g_graph.specs.Splice.{joined_nodes}
 use Rattle.g_graph.specs.Replace.{nodes_redirected}
-use Rattle.g_edit.specs.Uses.{is_output_of}
-use Rattle.g_edit.specs.Entries.{node_taking}
-use Rattle.g_edit.specs.Removal.{region_without}
+use Rattle.r_edit.specs.Uses.{is_output_of}
+use Rattle.r_edit.specs.Entries.{node_taking}
+use Rattle.r_edit.specs.Removal.{region_without}
 use Rattle.r_pull.specs.declared.find.Found.{Found}
 use Rattle.r_pull.specs.declared.plan.NewLists.{NewLists}
 use Rattle.r_pull.specs.declared.plan.Plan.{Plan}

@@ -14,11 +14,11 @@ use Rattle.g_graph.specs.Replace.{region_redirected}
 use Rattle.g_graph.specs.Change.{lambda_changed}
 use Rattle.g_graph.specs.Nodes.{node_at}
 use Rattle.g_graph.specs.Program.{lambda_values}
-use Rattle.g_edit.specs.Uses.{nodes_read, is_read, is_output_of}
-use Rattle.g_edit.specs.Places.{stays_at}
-use Rattle.g_edit.specs.Entries.{is_gone_argument, some_reads, node_taking}
-use Rattle.g_edit.specs.Removal.{region_without}
-use Rattle.g_edit.specs.Size.{may_change_size}
+use Rattle.r_edit.specs.Uses.{nodes_read, is_read, is_output_of}
+use Rattle.r_edit.specs.Places.{stays_at}
+use Rattle.r_edit.specs.Entries.{is_gone_argument, some_reads, node_taking}
+use Rattle.r_edit.specs.Removal.{region_without}
+use Rattle.r_edit.specs.Size.{may_change_size}
 
 -- ---- the uses of node n
 

@@ -1,13 +1,15 @@
+//! How many copies of the node there will be, and whether these and the lambda are small enough.
+
 ghost use Rattle.std.specs.Prelude.{◌≡◌, ◌<◌, ◌≤◌, ◌+◌, ◌^◌, length, nat_le};
 ghost use Rattle.g_graph.specs.Plain.{regions_of, inputs_in};
-ghost use Rattle.r_pull.specs.Rule.{other_entries, copies_in, copies, copies_of, inputs_carried, gone_among, gone_args, more_args, added, gone, fits, stays_of};
-ghost use Rattle.g_edit.specs.Size.{may_change_size};
+ghost use Rattle.r_pull.specs.Rule.{other_entries, copies_in, copies, copies_of, inputs_carried, gone_among, gone_args, more_args, added, gone, fits};
+ghost use Rattle.r_edit.specs.Size.{may_change_size};
 ghost use Rattle.r_pull.specs.Edit.{entries_of, pull_into};
 
 use crate::find::entries_of;
 use crate::reads::reads_gone;
-use g_edit::{is_output_of, may_change_size};
 use g_graph::{Node, Origin, Region};
+use r_edit::{is_output_of, may_change_size};
 
 /// The arguments that a region may have, so that each has a number.
 const MOST_ARGUMENTS: u128 = 4_294_967_296;

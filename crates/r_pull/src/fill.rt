@@ -1,14 +1,16 @@
+//! The Gamma and its regions, changed as planned.
+
 ghost use Rattle.std.specs.Prelude.{◌≡◌, ◌<◌, ◌≤◌, ◌+◌, length, vec_capacity};
 ghost use Rattle.g_graph.specs.declared.op.Origin.TheVariants.{Arg};
-ghost use Rattle.g_graph.specs.Plain.{nodes_of, regions_of, regions_in, nodes_in, args_of};
+ghost use Rattle.g_graph.specs.Plain.{nodes_of, regions_of, regions_in, nodes_in};
 ghost use Rattle.g_graph.specs.Splice.{joined_nodes};
 ghost use Rattle.r_pull.specs.Rule.{user_changed, copy_used};
-ghost use Rattle.r_pull.specs.Edit.{first_user, user_index, begun, begun_where, with_args, region_with, regions_with, count_nodes, HasRoom, HaveRoom, taking, pulled_by, Fits};
+ghost use Rattle.r_pull.specs.Edit.{user_index, begun, begun_where, region_with, regions_with, count_nodes, HasRoom, HaveRoom, taking, pulled_by, Fits};
 
 use crate::find::uses;
 use crate::plan::{NewLists, Plan};
-use g_edit::{keep_entries_of, remove_node, stays_at};
 use g_graph::{Node, Origin, Redirect, Region, redirect_region};
+use r_edit::{keep_entries_of, remove_node, stays_at};
 use std::alloc::Global;
 use std::mem;
 

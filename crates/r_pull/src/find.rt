@@ -1,14 +1,15 @@
+//! The node that may move, and the Gamma that uses it.
+
 ghost use Rattle.std.specs.Prelude.{◌≡◌, IfSome, if◌then◌else◌, option_copied, option_map, option_and_then};
 ghost use Rattle.std.specs.declared.option.Option.TheVariants.{Some, None};
 ghost use Rattle.g_graph.specs.Plain.{nodes_of, nodes_in};
-ghost use Rattle.g_graph.specs.WellFormed.{some_of};
-ghost use Rattle.g_edit.specs.Uses.{nodes_read, is_output_of};
+ghost use Rattle.r_edit.specs.Uses.{nodes_read, is_output_of};
 ghost use Rattle.r_pull.specs.Rule.{node_uses, only_user, pull_of, where_fits, pull_at};
 ghost use Rattle.r_pull.specs.Edit.{takes, where_takes, user_of, entries_of, pull_into, pull_seen, IsCounted};
 
 use crate::count::{copies, fits};
-use g_edit::{is_output_of, nodes_read, some_output_of};
 use g_graph::{Node, Op, Origin, Region, is_pure, node_at};
+use r_edit::{is_output_of, nodes_read, some_output_of};
 
 /// A node that may move, the Gamma that it moves into, and the number of copies that then stand in
 /// the Gamma's regions.

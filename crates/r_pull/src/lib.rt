@@ -1,6 +1,7 @@
-//! Pull: a node that gives a value, and that only one Gamma uses, moves into the regions that use
-//! it. Promise: `apply` gives the changed lambda, and a changed lambda keeps its meaning in any
+//! Pull: a node that one Gamma alone uses moves into its regions.
+//! Promise: `apply` gives the changed lambda, and a changed lambda keeps its meaning in any
 //! program.
+//! Always: out of memory, the lambda is as it was.
 #![tactic(auto)]
 
 mod count;

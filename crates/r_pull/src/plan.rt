@@ -1,3 +1,5 @@
+//! The plan: the new lists of the Gamma and of its regions.
+
 ghost use Rattle.std.specs.Prelude.{◌≡◌, ◌≤◌, ◌+◌, ◌++◌, ◌^◌, [], ◌∷◌, IfOk, length, replicate, vec_capacity};
 ghost use Rattle.g_graph.specs.declared.op.Kind.TheVariants.{Value};
 ghost use Rattle.g_graph.specs.Plain.{node, no_regions, regions_of, args_of, nodes_in};
@@ -6,9 +8,9 @@ ghost use Rattle.r_pull.specs.Edit.{pull_into, count_nodes, IsCounted, AreListsO
 
 use crate::find::entries_of;
 use crate::reads::reads_gone;
-use g_edit::is_output_of;
 use g_graph::{Kind, Node, Op, Origin, Region};
 use no_memory::NoMemory;
+use r_edit::is_output_of;
 use smallvec::SmallVec;
 use std::alloc::Global;
 

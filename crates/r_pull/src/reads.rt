@@ -1,12 +1,14 @@
+//! Whether a region reads an entry that goes.
+
 ghost use Rattle.std.specs.Prelude.{◌≡◌, false, option_map, slice_get, unwrap_or};
 ghost use Rattle.g_graph.specs.Plain.{nodes_of};
 ghost use Rattle.g_graph.specs.WellFormed.{some_of};
-ghost use Rattle.g_edit.specs.Entries.{is_gone_argument};
-ghost use Rattle.g_edit.specs.Uses.{nodes_read, is_read, is_output_of};
+ghost use Rattle.r_edit.specs.Entries.{is_gone_argument};
+ghost use Rattle.r_edit.specs.Uses.{nodes_read, is_read, is_output_of};
 ghost use Rattle.r_pull.specs.Rule.{other_entries};
 
-use g_edit::is_output_of;
 use g_graph::{Node, Origin, Region};
+use r_edit::is_output_of;
 
 /// Whether the region reads the argument of an entry that is an output of the node of this number.
 /// It looks at no nested region.

@@ -1,10 +1,12 @@
-ghost use Rattle.std.specs.Prelude.{◌≡◌, ◌≤◌, ◌+◌, IfSome, MatchBool, IfOk, OnOk, OnErr, IsTrue};
+//! Where the rule applies, and what it does there.
+
+ghost use Rattle.std.specs.Prelude.{◌≡◌, ◌≤◌, ◌+◌, IfSome, IfOk, OnOk, OnErr, IsTrue};
 ghost use Rattle.std.specs.declared.option.Option.TheVariants.{Some, None};
 ghost use Rattle.g_graph.specs.Plain.{nodes_in};
 ghost use Rattle.g_graph.specs.Program.{lambda_values, KeepsPrograms};
 ghost use Rattle.g_graph.specs.WellFormed.{IsWellFormed};
 ghost use Rattle.g_mean.specs.Edits.{KeepsMeaning, KeepsComplete};
-ghost use Rattle.g_edit.specs.Size.{IsNoLarger};
+ghost use Rattle.r_edit.specs.Size.{IsNoLarger};
 ghost use Rattle.r_pull.specs.Rule.{copies_here, pll_here, region_answer, node_answer, copies_at, applies, most_next, pll};
 ghost use Rattle.r_pull.specs.Edit.{planned, FitsPlanned};
 
@@ -17,9 +19,9 @@ use std::alloc::Global;
 
 /// Whether the rule applies at the node of this number: a Const, Undef, Local, Delta, Bin or Un
 /// that one Gamma of its region uses, by entries alone, and nothing else; where the lambda then has
-/// at most 8,192 values, or no more than before, and the next number is at most 4294967295
-/// afterwards. It is false for a number that is not there. It takes no memory, and time linear in
-/// the lambda.
+/// at most `MOST_GROWN_VALUES` values, or no more than before, and the next number is at most
+/// 4294967295 afterwards. It is false for a number that is not there. It takes no memory, and time
+/// linear in the lambda.
 pub fn applies(lambda: &Lambda, node: u32) -> bool
     ensures { result ≡ applies lambda.now node }
 {

@@ -21,10 +21,10 @@ use Rattle.g_graph.proofs.lemmas.Elements.{get-added}
 use Rattle.g_mean.specs.Copies.{IsAmong}
 use Rattle.g_mean.proofs.lemmas.Edits.{distinct-split}
 use Rattle.g_mean.proofs.lemmas.Holds.{distinct-apart}
-use Rattle.g_edit.proofs.lemmas.Kept.{IsState}
-use Rattle.g_edit.proofs.lemmas.Scopes.{KeepsScope, kept_all, kept_node_fits, kept_nodes_fit}
-use Rattle.g_edit.proofs.lemmas.AddedFit.{nothing, none-of, none-read, scope-from, scope-added, with_value, first-state-added, one-argument-more, fits-parts, fits-from, fits-again}
-use Rattle.g_edit.proofs.lemmas.Pure.{pure-outputs, no-index, no-given, no-value}
+use Rattle.r_edit.proofs.lemmas.Kept.{IsState}
+use Rattle.r_edit.proofs.lemmas.Scopes.{KeepsScope, kept_all, kept_node_fits, kept_nodes_fit}
+use Rattle.r_edit.proofs.lemmas.AddedFit.{nothing, none-of, none-read, scope-from, scope-added, with_value, first-state-added, one-argument-more, fits-parts, fits-from, fits-again}
+use Rattle.r_edit.proofs.lemmas.Pure.{pure-outputs, no-index, no-given, no-value}
 use Rattle.r_push.proofs.Stays.{none-has, move-other}
 use Rattle.val_core.proofs.lemmas.Options.{get-last}
 

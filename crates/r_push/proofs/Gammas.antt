@@ -23,8 +23,8 @@ use Rattle.g_mean.specs.Copies.{IsAmong, IsRead, AreRead, is_argument, IsClosed,
 use Rattle.g_mean.proofs.lemmas.Copies.{Equals, among-left, among-right, extended-other, same-then, same-equal}
 use Rattle.g_mean.proofs.lemmas.Edits.{distinct-split}
 use Rattle.g_mean.proofs.lemmas.Holds.{distinct-apart}
-use Rattle.g_edit.specs.Added.{input_added}
-use Rattle.g_edit.proofs.lemmas.Added.{arg_added_means}
+use Rattle.r_edit.specs.Added.{input_added}
+use Rattle.r_edit.proofs.lemmas.Added.{arg_added_means}
 use Rattle.r_push.specs.Rule.{names_argument, leaving, leaving_one, carried, regions_carried}
 use Rattle.r_push.proofs.Stays.{carried-elsewhere}
 use Rattle.r_push.proofs.Taken.{carried-is, taken-same, taken_nodes}

@@ -17,8 +17,8 @@ use Rattle.g_graph.specs.Signatures.{is_pure}
 use Rattle.g_graph.specs.Splice.{args_to_inputs, joined_nodes}
 use Rattle.g_graph.specs.WellFormed.{all_of}
 use Rattle.g_graph.proofs.lemmas.Splices.{nodes_of_append}
-use Rattle.g_edit.specs.Removal.{nodes_without}
-use Rattle.g_edit.specs.Size.{may_change_size}
+use Rattle.r_edit.specs.Removal.{nodes_without}
+use Rattle.r_edit.specs.Size.{may_change_size}
 use Rattle.r_push.specs.Edit.{left, outer, has_no_regions, lengthened, all_lengthened, widened_by, widened, push_index}
 use Rattle.r_push.specs.Rule.{names_argument, may_leave, only, leaving, leaving_one, is_invariant, carried, regions_carried, looped, placed, growth, can_count, pushed, pushed_within, nodes_pushed}
 

@@ -25,11 +25,11 @@ use Rattle.g_graph.proofs.lemmas.Ops.{region_redirected_ops, joined_ops, changed
 use Rattle.g_mean.specs.Edits.{IsPartOf, IsEdited, KeepsMeaning, KeepsComplete}
 use Rattle.g_mean.proofs.lemmas.Closed.{region-closed}
 use Rattle.g_mean.proofs.lemmas.Exchange.{edits_keep_meaning}
-use Rattle.g_edit.specs.Size.{IsNoLarger}
-use Rattle.g_edit.specs.Added.{arg_added, input_added}
-use Rattle.g_edit.proofs.lemmas.Removal.{without_ops}
-use Rattle.g_edit.proofs.lemmas.Size as size
-use Rattle.g_edit.proofs.lemmas.Steps.{contracts_give_steps, edits_keep_interface}
+use Rattle.r_edit.specs.Size.{IsNoLarger}
+use Rattle.r_edit.specs.Added.{arg_added, input_added}
+use Rattle.r_edit.proofs.lemmas.Removal.{without_ops}
+use Rattle.r_edit.proofs.lemmas.Size as size
+use Rattle.r_edit.proofs.lemmas.Steps.{contracts_give_steps, edits_keep_interface}
 use Rattle.r_push.specs.Rule.{names_argument, leaving, leaving_one, leaving_loop, carried, regions_carried, looped, placed, pushed, psh_here, psh, is_invariant}
 use Rattle.r_push.specs.Laws.{PshIsAStep}
 use Rattle.r_push.proofs.Leaving.{Leaves, leaves}

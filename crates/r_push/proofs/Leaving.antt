@@ -20,7 +20,7 @@ use Rattle.g_mean.specs.Meaning.{Context, act, Outputs, no_outputs, read, node_r
 use Rattle.g_mean.specs.Copies.{IsRead, AreRead, is_argument}
 use Rattle.g_mean.proofs.lemmas.Moves.{pure_nodes_give_the_same}
 use Rattle.g_mean.proofs.lemmas.Splices.{get-port}
-use Rattle.g_edit.proofs.lemmas.Added.{argument-less}
+use Rattle.r_edit.proofs.lemmas.Added.{argument-less}
 use Rattle.r_push.specs.Rule.{names_argument, may_leave, only, leaving}
 
 -- ---- in its region

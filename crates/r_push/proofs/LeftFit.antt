@@ -30,17 +30,17 @@ use Rattle.g_mean.specs.Edits.{IsPartOf}
 use Rattle.g_mean.proofs.lemmas.Copies.{among-left, test-other}
 use Rattle.g_mean.proofs.lemmas.Edits.{distinct-split}
 use Rattle.g_mean.proofs.lemmas.Inside.{node-here, as-many, regions-closed, inner-distinct}
-use Rattle.g_edit.specs.Removal.{nodes_without}
-use Rattle.g_edit.specs.Added.{input_added}
-use Rattle.g_edit.proofs.lemmas.Scopes.{KeepsScope, kept_all, kept_node_fits}
-use Rattle.g_edit.proofs.lemmas.AddedFit.{nothing, none-of, one_more, index-added, some-added, with_value, one-argument-more, fits-parts, result_added_fits, all-added}
+use Rattle.r_edit.specs.Removal.{nodes_without}
+use Rattle.r_edit.specs.Added.{input_added}
+use Rattle.r_edit.proofs.lemmas.Scopes.{KeepsScope, kept_all, kept_node_fits}
+use Rattle.r_edit.proofs.lemmas.AddedFit.{nothing, none-of, one_more, index-added, some-added, with_value, one-argument-more, fits-parts, result_added_fits, all-added}
 use Rattle.r_push.specs.Rule.{names_argument, leaving_one, is_invariant, leaving_loop, regions_carried, looped, placed, pushed}
 use Rattle.r_push.proofs.Stays.{known-stays}
 use Rattle.r_push.proofs.Leaving.{Leaves, leaves}
 use Rattle.r_push.proofs.Gammas.{AllTake, leaving-among, one-among}
 use Rattle.r_push.proofs.Thetas.{invariant-arguments}
 use Rattle.r_push.proofs.Replaced.{Outside, one-outside, leaves-outside, take-all, not-known}
-use Rattle.g_edit.proofs.lemmas.Pure.{pure-outputs}
+use Rattle.r_edit.proofs.lemmas.Pure.{pure-outputs}
 use Rattle.r_push.proofs.TwoFit.{GivesAsMuch, scope-first, two-fit}
 use Rattle.r_push.proofs.RegionsFit.{CarriedFits, numbers_of, leaving-fits, InnerFits, inner-fits, one-fits, AllCarried, all-fit}
 use Rattle.val_core.proofs.lemmas.Options.{get-last}

@@ -30,10 +30,10 @@ use Rattle.g_mean.proofs.lemmas.LessDefined.{less-kept}
 use Rattle.g_mean.proofs.lemmas.Calls.{nodes-itself}
 use Rattle.g_mean.proofs.lemmas.Bounds.{Never, Always, never-refines}
 use Rattle.g_mean.proofs.lemmas.Moves.{pure_nodes_give_the_same}
-use Rattle.g_edit.specs.Uses.{is_read, is_output_of}
-use Rattle.g_edit.specs.Parts.{CanPlace}
-use Rattle.g_edit.proofs.lemmas.Parts.{placed_parts_refine}
-use Rattle.g_edit.proofs.lemmas.Placed.{outside, outside_stays, can_place}
+use Rattle.r_edit.specs.Uses.{is_read, is_output_of}
+use Rattle.r_edit.specs.Parts.{CanPlace}
+use Rattle.r_edit.proofs.lemmas.Parts.{placed_parts_refine}
+use Rattle.r_edit.proofs.lemmas.Placed.{outside, outside_stays, can_place}
 
 -- what an answer is compared with may be the same but for its results
 pub refines-same : {A B C : Type 0} (direction : Direction) (R : A → B → Type 0) (S : B → C → Type 0) (T : A → C → Type 0) → ((x : A) (y : B) (z : C) → R x y → S y z → T x z) →

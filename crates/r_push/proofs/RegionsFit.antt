@@ -21,7 +21,7 @@ use Rattle.g_mean.specs.Copies.{IsAmong, IsClosed, AllClosed}
 use Rattle.g_mean.proofs.lemmas.Copies.{among-left, among-right}
 use Rattle.g_mean.proofs.lemmas.Edits.{distinct-split}
 use Rattle.g_mean.proofs.lemmas.Holds.{distinct-apart}
-use Rattle.g_edit.proofs.lemmas.AddedFit.{with_value, arg_added_fits, fits-parts}
+use Rattle.r_edit.proofs.lemmas.AddedFit.{with_value, arg_added_fits, fits-parts}
 use Rattle.g_graph.specs.declared.op.Op.TheVariants.{Gamma}
 use Rattle.r_push.specs.Rule.{names_argument, leaving, leaving_one, carried, regions_carried}
 use Rattle.r_push.proofs.Stays.{carried-elsewhere}

@@ -32,9 +32,9 @@ use Rattle.g_mean.proofs.lemmas.Inside.{node-here, as-many, inputs-read, regions
 use Rattle.g_mean.proofs.lemmas.Programs.{programs_keep_meaning}
 use Rattle.g_mean.proofs.lemmas.Replacement.{lambdas_keep_meaning}
 use Rattle.g_mean.proofs.lemmas.Splices.{joined-known, joined-read, known-among}
-use Rattle.g_edit.specs.Added.{input_added}
-use Rattle.g_edit.specs.Uses.{is_read, is_output_of}
-use Rattle.g_edit.specs.Size.{may_change_size}
+use Rattle.r_edit.specs.Added.{input_added}
+use Rattle.r_edit.specs.Uses.{is_read, is_output_of}
+use Rattle.r_edit.specs.Size.{may_change_size}
 use Rattle.r_push.specs.Rule.{names_argument, leaving, leaving_one, is_invariant, leaving_loop, regions_carried, looped, placed, growth, can_count, pushed, pushed_within, nodes_pushed, psh_here}
 use Rattle.r_push.specs.Laws.{PshReplaces, PshKeepsLambdas, PshKeepsPrograms}
 use Rattle.r_push.proofs.Stays.{known-own, region-unread}

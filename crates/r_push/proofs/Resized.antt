@@ -17,9 +17,9 @@ use Rattle.g_graph.specs.Replace.{node_redirected, nodes_redirected, origin_repl
 use Rattle.g_graph.specs.Splice.{args_to_inputs, joined_nodes}
 use Rattle.g_graph.proofs.lemmas.Splices.{nodes_values-joined}
 use Rattle.g_graph.proofs.lemmas.Redirects.{nodes_values-redirected}
-use Rattle.g_edit.specs.Removal.{nodes_without}
-use Rattle.g_edit.specs.Added.{input_added}
-use Rattle.g_edit.specs.Size.{IsResized}
+use Rattle.r_edit.specs.Removal.{nodes_without}
+use Rattle.r_edit.specs.Added.{input_added}
+use Rattle.r_edit.specs.Size.{IsResized}
 use Rattle.r_push.specs.Rule.{names_argument, may_leave, only, leaving, leaving_one, is_invariant, leaving_loop, carried, regions_carried, looped, placed, growth, pushed, psh_here}
 use Rattle.r_push.proofs.Replaced.{changed-at}
 

@@ -7,7 +7,7 @@ use Rattle.g_graph.specs.Change.{lambda_changed}
 use Rattle.g_graph.specs.Program.{lambda_values}
 use Rattle.g_graph.specs.Count.{saturated}
 use Rattle.g_graph.specs.Splice.{joined_nodes}
-use Rattle.g_edit.proofs.lemmas.Size.{saturated-decides}
+use Rattle.r_edit.proofs.lemmas.Size.{saturated-decides}
 use Rattle.r_push.specs.Rule.{growth, can_count, pushed, nodes_pushed, psh_here, psh}
 
 nodes-same : (v n : ℕ) (ns : NodeTrees) → nodes_pushed (saturated v) n ns ≡ nodes_pushed v n ns

@@ -14,9 +14,9 @@ use Rattle.g_mean.specs.Copies.{IsAmong, IsRead, AreRead, NodesRead, is_argument
 use Rattle.g_mean.proofs.lemmas.Copies.{among-left, among-right, test-other}
 use Rattle.g_mean.proofs.lemmas.Holds.{id-among}
 use Rattle.g_mean.proofs.lemmas.Splices.{known-among}
-use Rattle.g_edit.specs.Uses.{nodes_read, is_read, is_output_of}
-use Rattle.g_edit.specs.Removal.{nodes_without}
-use Rattle.g_edit.specs.Added.{arg_added}
+use Rattle.r_edit.specs.Uses.{nodes_read, is_read, is_output_of}
+use Rattle.r_edit.specs.Removal.{nodes_without}
+use Rattle.r_edit.specs.Added.{arg_added}
 use Rattle.r_push.specs.Rule.{carried}
 
 -- ---- numbers

@@ -27,9 +27,9 @@ use Rattle.g_mean.proofs.lemmas.Edits.{distinct-split}
 use Rattle.g_mean.proofs.lemmas.Holds.{distinct-apart, unchanged}
 use Rattle.g_mean.proofs.lemmas.Splices.{joined-run, joined-known, joined-read, all-wider, nodes-wider, known-split, all-among}
 use Rattle.g_mean.proofs.lemmas.Redirects.{redirected-joined}
-use Rattle.g_edit.specs.Removal.{nodes_without}
-use Rattle.g_edit.proofs.lemmas.Added.{added-port, last-port, argument-less, arguments-move, arguments-same}
-use Rattle.g_edit.proofs.lemmas.Removal.{without_joined}
+use Rattle.r_edit.specs.Removal.{nodes_without}
+use Rattle.r_edit.proofs.lemmas.Added.{added-port, last-port, argument-less, arguments-move, arguments-same}
+use Rattle.r_edit.proofs.lemmas.Removal.{without_joined}
 use Rattle.r_push.specs.Rule.{carried}
 use Rattle.r_push.proofs.Stays.{some-among, among-some, known-own, none-has, move-other, nodes-stay}
 

@@ -22,8 +22,8 @@ use Rattle.g_mean.specs.Meaning.{Context, Meaning, act, again, turns, Outputs, n
 use Rattle.g_mean.specs.Copies.{IsAmong, AreRead, is_argument, IsClosed, Same}
 use Rattle.g_mean.proofs.lemmas.Copies.{same-then}
 use Rattle.g_mean.proofs.lemmas.Splices.{get-port}
-use Rattle.g_edit.specs.Added.{result_added, input_added}
-use Rattle.g_edit.proofs.lemmas.Added.{last-port}
+use Rattle.r_edit.specs.Added.{result_added, input_added}
+use Rattle.r_edit.proofs.lemmas.Added.{last-port}
 use Rattle.r_push.specs.Rule.{names_argument, is_invariant, looped}
 use Rattle.r_push.proofs.Taken.{carried-is, taken-same, taken_nodes}
 use Rattle.r_push.proofs.Leaving.{Leaves, Gives}

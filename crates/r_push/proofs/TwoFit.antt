@@ -21,10 +21,10 @@ use Rattle.g_graph.proofs.lemmas.Splices.{joined_none, joined_following, nodes_i
 use Rattle.g_graph.proofs.lemmas.Indexes.{has_node-joined, kind_known}
 use Rattle.g_graph.proofs.lemmas.Unique.{times, times_append}
 use Rattle.g_graph.specs.Change.{has_node}
-use Rattle.g_edit.proofs.lemmas.Kept.{IsState}
-use Rattle.g_edit.proofs.lemmas.Scopes.{KeepsScope, kept_all, kept_nodes_fit}
-use Rattle.g_edit.proofs.lemmas.AddedFit.{nothing, none-of, none-read, scope-from, fits-parts, fits-from, fits-again}
-use Rattle.g_edit.proofs.lemmas.Pure.{no-index, no-given}
+use Rattle.r_edit.proofs.lemmas.Kept.{IsState}
+use Rattle.r_edit.proofs.lemmas.Scopes.{KeepsScope, kept_all, kept_nodes_fit}
+use Rattle.r_edit.proofs.lemmas.AddedFit.{nothing, none-of, none-read, scope-from, fits-parts, fits-from, fits-again}
+use Rattle.r_edit.proofs.lemmas.Pure.{no-index, no-given}
 
 -- the outputs of the other node: those of the one, and no other state
 pub record GivesAsMuch (ks js : List (Option Kind)) : Type 0 where

@@ -7,8 +7,8 @@ use Rattle.g_graph.specs.declared.op.Origin.{Origin}
 use Rattle.g_graph.specs.declared.op.Origin.TheVariants.{Arg, Out}
 use Rattle.g_graph.specs.Plain.{RegionTree, region, NodeTree, node, NodeTrees, no_nodes, node_then, RegionTrees, no_regions, region_then, inputs_in, has_none}
 use Rattle.g_graph.specs.Replace.{region_redirected, origin_replaced}
-use Rattle.g_edit.specs.Removal.{region_without}
-use Rattle.g_edit.specs.Lookup.{same_op}
+use Rattle.r_edit.specs.Removal.{region_without}
+use Rattle.g_graph.specs.Views.{same_op}
 use Rattle.r_push.specs.Rule.{leaving_one, leaving_loop, pushed_within}
 
 -- the node of that number, in the only one of these regions, where it may leave it

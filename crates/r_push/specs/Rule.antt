@@ -14,10 +14,10 @@ use Rattle.g_graph.specs.Splice.{args_to_inputs, joined_nodes}
 use Rattle.g_graph.specs.Change.{region_changed, lambda_changed}
 use Rattle.g_graph.specs.Nodes.{node_at, is_used}
 use Rattle.g_graph.specs.Program.{lambda_values}
-use Rattle.g_edit.specs.Lookup.{same_op}
-use Rattle.g_edit.specs.Removal.{region_without}
-use Rattle.g_edit.specs.Added.{arg_added, result_added, input_added}
-use Rattle.g_edit.specs.Size.{may_change_size}
+use Rattle.g_graph.specs.Views.{same_op}
+use Rattle.r_edit.specs.Removal.{region_without}
+use Rattle.r_edit.specs.Added.{arg_added, result_added, input_added}
+use Rattle.r_edit.specs.Size.{may_change_size}
 
 -- ---- the node
 

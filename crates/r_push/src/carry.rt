@@ -1,11 +1,13 @@
-ghost use Rattle.std.specs.Prelude.{◌≡◌, ◌<◌, ◌^◌, length, IsTrue, map};
+//! The regions that the node leaves: each gets its longer lists, and reads the new argument.
+
+ghost use Rattle.std.specs.Prelude.{◌≡◌, ◌<◌, ◌^◌, length, IsTrue};
 ghost use Rattle.g_graph.specs.Plain.{regions_of, args_of};
 ghost use Rattle.r_push.specs.Edit.{all_longer, with_lists, all_lengthened};
 ghost use Rattle.r_push.specs.Rule.{can_all_count};
 
 use crate::find::first_output;
-use g_edit::remove_node;
 use g_graph::{Origin, OriginReplaced, Region, redirect_region};
+use r_edit::remove_node;
 use std::alloc::Global;
 use std::mem;
 

@@ -1,5 +1,6 @@
-ghost use Rattle.std.specs.Prelude.{◌≡◌, ◌<◌, ◌^◌, ◌++◌, [], ◌∷◌, IfOk, map, length, option_copied};
-ghost use Rattle.g_graph.specs.declared.op.Origin.TheVariants.{Out};
+//! What the change needs, made before it: the node outside, and lists that are one longer.
+
+ghost use Rattle.std.specs.Prelude.{◌≡◌, ◌<◌, ◌^◌, ◌++◌, [], ◌∷◌, IfOk, length};
 ghost use Rattle.g_graph.specs.Plain.{regions_of, args_of};
 ghost use Rattle.g_graph.specs.Replace.{node_redirected};
 ghost use Rattle.g_graph.specs.Splice.{args_to_inputs};

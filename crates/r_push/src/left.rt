@@ -1,3 +1,5 @@
+//! The node that may leave, and where its arguments come from.
+
 ghost use Rattle.std.specs.Prelude.{◌≡◌, option_copied};
 ghost use Rattle.g_graph.specs.Plain.{regions_of};
 ghost use Rattle.r_push.specs.Edit.{left, left_only, outer};

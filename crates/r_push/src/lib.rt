@@ -1,6 +1,7 @@
-//! Push: a node that gives a value of arguments alone moves out of a region of a Gamma, or out of a
-//! Theta. Promise: `apply` gives the changed lambda, and a changed lambda keeps its meaning in any
+//! Push: a node of arguments alone moves out of a Gamma or a Theta.
+//! Promise: `apply` gives the changed lambda, and a changed lambda keeps its meaning in any
 //! program.
+//! Always: out of memory, the lambda is as it was.
 #![tactic(auto)]
 
 mod carry;

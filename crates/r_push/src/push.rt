@@ -1,3 +1,5 @@
+//! The move of a node out of a Gamma or a Theta of a region.
+
 ghost use Rattle.std.specs.Prelude.{◌≡◌, ◌++◌, [], ◌∷◌, MatchBool, IfOk, OnOk, OnErr, IsTrue, is_some, option_map};
 ghost use Rattle.std.specs.declared.option.Option.TheVariants.{Some, None};
 ghost use Rattle.g_graph.specs.declared.op.Origin.TheVariants.{Out};

@@ -1,9 +1,10 @@
+//! Where the rule applies, and what it does there.
+
 ghost use Rattle.std.specs.Prelude.{◌≡◌, OnOk, OnErr, IsTrue};
-ghost use Rattle.std.specs.declared.option.Option.TheVariants.{Some, None};
 ghost use Rattle.g_graph.specs.Program.{lambda_values, KeepsPrograms};
 ghost use Rattle.g_graph.specs.WellFormed.{IsWellFormed};
 ghost use Rattle.g_mean.specs.Edits.{KeepsMeaning, KeepsComplete};
-ghost use Rattle.g_edit.specs.Size.{IsNoLarger};
+ghost use Rattle.r_edit.specs.Size.{IsNoLarger};
 ghost use Rattle.r_push.specs.Rule.{psh_here, applies, psh};
 
 use crate::find::can_push;
@@ -15,8 +16,8 @@ use std::alloc::Global;
 /// Whether the rule applies at the node of this number: a Const, Undef, Local, Delta, Bin or Un
 /// whose output is used and whose inputs are all arguments, in a region of a Gamma, or in a Theta
 /// where they are arguments of variables whose result is their argument; and where the lambda has
-/// at most 8,192 values afterwards. It is false for a number that is not there. It takes no
-/// memory, and time linear in the lambda.
+/// at most `MOST_GROWN_VALUES` values afterwards. It is false for a number that is not there. It
+/// takes no memory, and time linear in the lambda.
 pub fn applies(lambda: &Lambda, node: u32) -> bool
     ensures { result ≡ applies lambda.now node }
 {

@@ -9,7 +9,7 @@ use Rattle.g_graph.specs.Plain.{RegionTree, region, NodeTree, node, NodeTrees, n
 use Rattle.g_graph.specs.Nodes.{node_at, node_set}
 use Rattle.g_graph.specs.Splice.{joined_nodes}
 use Rattle.g_graph.proofs.lemmas.Found.{found_at}
-use Rattle.g_edit.proofs.lemmas.Loops.{loop_node}
+use Rattle.r_edit.proofs.lemmas.Loops.{loop_node}
 use Rattle.r_unroll.specs.Rule.{unrolled, may_unroll, node_unrolled, url_here}
 
 record IsUnrolled (values next : ℕ) (x y : NodeTree) : Type 0 where

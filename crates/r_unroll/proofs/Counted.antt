@@ -2,12 +2,13 @@
 use Rattle.std.specs.Prelude.{◌&&◌, ◌+◌, ◌-◌, ◌^◌, nat_le, not, option_and_then, is_some}
 use Rattle.std.proofs.Common.{◌≡◌, ◌≢◌, slice_index_or, ℕ, true, false, cond, List, [], ◌∷◌, length, Bool, Option, None, Some, option_map, refl, sym, ap, ◌∙◌, arith}
 use Rattle.std.proofs.Math.Path.{fun_ext}
+use Rattle.limits.specs.Limits.{most_loop_values}
 use Rattle.g_graph.specs.declared.op.Op.TheVariants.{Theta}
 use Rattle.g_graph.specs.Plain.{RegionTree, region, NodeTree, node, no_regions, region_then, regions_of}
 use Rattle.g_graph.specs.Count.{saturated, region_values}
-use Rattle.g_copy.specs.Numbering.{node_count}
+use Rattle.r_copy.specs.Numbering.{node_count}
 use Rattle.g_graph.specs.Nodes.{node_at, node_set}
-use Rattle.g_edit.proofs.lemmas.Size.{saturated-decides}
+use Rattle.r_edit.proofs.lemmas.Size.{saturated-decides}
 use Rattle.r_unroll.specs.Edit.{small_body, only_body, loop_body, loop_at}
 use Rattle.r_unroll.specs.Rule.{growth, may_unroll, unrolled, region_loops, node_unrolled, url_here}
 
@@ -51,7 +52,7 @@ here_found values next n (region args nodes results) = by (node_at n nodes)
 
 pub may-same : (v next : ℕ) (r : RegionTree) → may_unroll (saturated v) next r ≡ may_unroll v next r
 may-same v next r =
-    ap (λ t. nat_le (region_values r) 200 && not (region_loops r) && nat_le (next + 2 + node_count r) (2 ^ 32 - 1) && t) (saturated-decides v (growth r) 0)
+    ap (λ t. nat_le (region_values r) most_loop_values && not (region_loops r) && nat_le (next + 2 + node_count r) (2 ^ 32 - 1) && t) (saturated-decides v (growth r) 0)
 
 node-same : (v next : ℕ) (x : NodeTree) → node_unrolled (saturated v) next x ≡ node_unrolled v next x
 node-same v next (node id Theta inputs (region_then r no_regions)) =

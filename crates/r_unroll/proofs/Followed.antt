@@ -11,7 +11,7 @@ use Rattle.g_graph.specs.Change.{node_index}
 use Rattle.g_graph.specs.Nodes.{node_at, node_set}
 use Rattle.g_graph.proofs.lemmas.Found.{node_set_at}
 use Rattle.g_graph.proofs.lemmas.Splices.{index_within}
-use Rattle.g_edit.proofs.lemmas.Loops.{loop_node}
+use Rattle.r_edit.proofs.lemmas.Loops.{loop_node}
 use Rattle.r_unroll.specs.Edit.{only_followed, node_followed, followed_at}
 use Rattle.r_unroll.specs.Rule.{unrolled, followed_by, may_unroll, node_unrolled, url_here}
 use Rattle.g_graph.proofs.lemmas.Change.{is_some_map}

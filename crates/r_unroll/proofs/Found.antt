@@ -18,12 +18,12 @@ use Rattle.g_graph.proofs.lemmas.Found.{found_at}
 use Rattle.g_graph.proofs.lemmas.Nests.{region_changed_ids}
 use Rattle.g_graph.proofs.lemmas.Splices.{nodes_ids-joined}
 use Rattle.g_mean.specs.Copies.{NodeReads, NodesRead, AllClosed, IsClosed, is_argument}
-use Rattle.g_edit.specs.Found.{region_found, node_found, nodes_found, regions_found}
-use Rattle.g_edit.proofs.lemmas.Found.{Agree, Only, both-change, found-where-changed}
-use Rattle.g_copy.specs.Numbering.{number_from, node_count, region_numbered}
-use Rattle.g_copy.proofs.lemmas.Numbering.{copied-ids}
-use Rattle.g_edit.proofs.lemmas.Loops.{loop_node}
-use Rattle.g_edit.specs.Origins.{origins_from}
+use Rattle.r_edit.specs.Found.{region_found, node_found, nodes_found, regions_found}
+use Rattle.r_edit.proofs.lemmas.Found.{Agree, Only, both-change, found-where-changed}
+use Rattle.r_copy.specs.Numbering.{number_from, node_count, region_numbered}
+use Rattle.r_copy.proofs.lemmas.Numbering.{copied-ids}
+use Rattle.r_edit.proofs.lemmas.Loops.{loop_node}
+use Rattle.r_edit.specs.Origins.{origins_from}
 use Rattle.r_unroll.specs.Rule.{followed_by, second_turn_of, unrolled, may_unroll, node_unrolled, url_here, url}
 use Rattle.r_unroll.specs.Edit.{loop_body, loop_at, node_followed, followed_at}
 use Rattle.r_unroll.proofs.Counted.{here_found}

@@ -3,6 +3,7 @@ use Rattle.std.specs.Prelude.{◌&&◌, ◌+◌, ◌-◌, ◌^◌, nat_le, not, 
 use Rattle.std.proofs.Common.{◌≡◌, ℕ, suc, Bool, true, List, [], ◌∷◌, ◌++◌, append_assoc, append-nil, map, length, Option, None, Some, refl, sym, ap, subst, ◌∙◌, arith}
 use Rattle.std.proofs.lemmas.Bool.{and_parts}
 use Rattle.std.proofs.lemmas.List.{length-map}
+use Rattle.limits.specs.Limits.{most_loop_values}
 use Rattle.g_graph.specs.declared.op.Kind.{Kind}
 use Rattle.g_graph.specs.declared.op.Kind.TheVariants.{Value}
 use Rattle.g_graph.specs.declared.op.Op.{Op}
@@ -31,18 +32,18 @@ use Rattle.g_mean.specs.Edits.{IsPartOf, IsEdited, KeepsMeaning, KeepsComplete}
 use Rattle.g_mean.proofs.lemmas.Closed.{region-closed}
 use Rattle.g_mean.proofs.lemmas.Exchange.{edits_keep_meaning}
 use Rattle.g_mean.proofs.lemmas.Inside.{node-here, inner-unique}
-use Rattle.g_copy.specs.Numbering.{node_count, region_numbered}
-use Rattle.g_copy.proofs.lemmas.Copies.{numbered-ops}
-use Rattle.g_copy.proofs.lemmas.Fits.{copies_count_the_same}
-use Rattle.g_edit.specs.Size.{IsNoLarger, IsResized, may_change_size}
-use Rattle.g_edit.proofs.lemmas.Exchanged.{exchanged_stays}
-use Rattle.g_edit.proofs.lemmas.Size as size
-use Rattle.g_edit.proofs.lemmas.Steps.{contracts_give_steps, edits_keep_interface}
-use Rattle.g_edit.proofs.lemmas.Swapped.{RegionStays}
-use Rattle.g_edit.proofs.lemmas.Loops.{loop_node}
-use Rattle.g_edit.proofs.lemmas.Consecutive.{length-from}
-use Rattle.g_edit.specs.Origins.{origins_from}
-use Rattle.r_unroll.specs.Rule.{stopping, unrolled, region_loops, most_loop_values, growth, url_here, body_unrolled, url}
+use Rattle.r_copy.specs.Numbering.{node_count, region_numbered}
+use Rattle.r_copy.proofs.lemmas.Copies.{numbered-ops}
+use Rattle.r_copy.proofs.lemmas.Fits.{copies_count_the_same}
+use Rattle.r_edit.specs.Size.{IsNoLarger, IsResized, may_change_size}
+use Rattle.r_edit.proofs.lemmas.Exchanged.{exchanged_stays}
+use Rattle.r_edit.proofs.lemmas.Size as size
+use Rattle.r_edit.proofs.lemmas.Steps.{contracts_give_steps, edits_keep_interface}
+use Rattle.r_edit.proofs.lemmas.Swapped.{RegionStays}
+use Rattle.r_edit.proofs.lemmas.Loops.{loop_node}
+use Rattle.r_edit.proofs.lemmas.Consecutive.{length-from}
+use Rattle.r_edit.specs.Origins.{origins_from}
+use Rattle.r_unroll.specs.Rule.{stopping, unrolled, region_loops, growth, url_here, body_unrolled, url}
 use Rattle.r_unroll.specs.Laws.{UrlIsAStep}
 use Rattle.r_unroll.proofs.At.{unrolls-at}
 use Rattle.r_unroll.proofs.Fits.{unrolled-results, unrolled-fits}

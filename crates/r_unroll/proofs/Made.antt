@@ -5,6 +5,7 @@ use Rattle.std.proofs.Math.Path.{fun_ext}
 use Rattle.std.proofs.lemmas.Bool.{and_parts}
 use Rattle.std.proofs.lemmas.Bool.Decides.{nat_tests}
 use Rattle.std.proofs.lemmas.Option.{same_Some}
+use Rattle.limits.specs.Limits.{most_loop_values}
 use Rattle.g_graph.specs.declared.op.Op.TheVariants.{Theta}
 use Rattle.g_graph.specs.declared.op.Origin.{Origin}
 use Rattle.g_graph.specs.Plain.{RegionTree, region, NodeTree, node, no_regions, region_then, PlainLambda}
@@ -15,12 +16,12 @@ use Rattle.g_graph.specs.Program.{lambda_values}
 use Rattle.g_graph.specs.WellFormed.{IsWellFormed}
 use Rattle.g_mean.specs.Copies.{IsClosed}
 use Rattle.g_mean.proofs.lemmas.Closed.{region-closed}
-use Rattle.g_edit.specs.Size.{may_change_size}
-use Rattle.g_copy.specs.Numbering.{node_count}
-use Rattle.g_edit.proofs.lemmas.Loops.{loop_node}
-use Rattle.g_edit.specs.Found.{region_found}
+use Rattle.r_edit.specs.Size.{may_change_size}
+use Rattle.r_copy.specs.Numbering.{node_count}
+use Rattle.r_edit.proofs.lemmas.Loops.{loop_node}
+use Rattle.r_edit.specs.Found.{region_found}
 use Rattle.r_unroll.specs.Edit.{loop_body, loop_at, node_followed, followed_at, results_after, next_after}
-use Rattle.r_unroll.specs.Rule.{followed_by, second_turn_of, region_loops, most_loop_values, growth, applies, url}
+use Rattle.r_unroll.specs.Rule.{followed_by, second_turn_of, region_loops, growth, applies, url}
 use Rattle.r_unroll.proofs.Counted.{may-same}
 use Rattle.r_unroll.proofs.Found.{found-loop, found-some, made, url-made}
 use Rattle.g_graph.proofs.lemmas.Nests.{regions_of_well_formed}
@@ -30,13 +31,13 @@ use Rattle.g_graph.proofs.lemmas.Nests.{regions_of_well_formed}
 pub found_closed : (values next n : ℕ) (r y : RegionTree) → IsClosed r → region_found (loop_at values next n) r ≡ Some y → IsClosed y
 found_closed values next n r y c e = (found-loop values next n r y c e).closed
 
-pub found_small : (values next n : ℕ) (r y : RegionTree) → IsClosed r → region_found (loop_at values next n) r ≡ Some y → region_values y ≤ 200
+pub found_small : (values next n : ℕ) (r y : RegionTree) → IsClosed r → region_found (loop_at values next n) r ≡ Some y → region_values y ≤ most_loop_values
 found_small values next n r y c e =
     let small = nat_le (region_values y) most_loop_values in
     let loops = not (region_loops y) in
     let numbers = nat_le (next + 2 + node_count y) (2 ^ 32 - 1) in
     let p = and_parts (small && loops && numbers) (may_change_size values (growth y) 0) (found-loop values next n r y c e).can in
-    let q : nat_le (region_values y) 200 ≡ true = (and_parts small loops (and_parts (small && loops) numbers p.0).0).0 in
+    let q : nat_le (region_values y) most_loop_values ≡ true = (and_parts small loops (and_parts (small && loops) numbers p.0).0).0 in
     grind (arith, nat_tests)
 
 pub found_numbers : (values next n : ℕ) (r y : RegionTree) → IsClosed r → region_found (loop_at values next n) r ≡ Some y → next + 2 + node_count y < 2 ^ 32

@@ -27,7 +27,7 @@ use Rattle.g_mean.proofs.lemmas.Programs.{programs_keep_meaning}
 use Rattle.g_mean.proofs.lemmas.Redirects.{replaced_nodes_refine}
 use Rattle.g_mean.proofs.lemmas.Regions.{region-refines}
 use Rattle.g_mean.proofs.lemmas.Replacement.{lambdas_keep_meaning}
-use Rattle.g_edit.proofs.lemmas.Loops.{loop_node}
+use Rattle.r_edit.proofs.lemmas.Loops.{loop_node}
 use Rattle.r_unroll.specs.Rule.{unrolled, url_here}
 use Rattle.r_unroll.specs.Laws.{IsLoopRegion, AreTurnsUnrolled, UnrolledTurnsRefine, UrlReplaces, UrlKeepsLambdas, UrlKeepsPrograms}
 use Rattle.r_unroll.proofs.At.{unrolls-at}

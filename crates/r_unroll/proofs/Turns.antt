@@ -13,7 +13,7 @@ use Rattle.g_mean.specs.Refining.{InOrder}
 use Rattle.g_mean.proofs.lemmas.Equal.{no_deeper-compares}
 use Rattle.g_mean.proofs.lemmas.LessDefined.{less-kept}
 use Rattle.g_mean.proofs.lemmas.Regions.{pick, both-cut, less-cut, far-cut, on_number-refines}
-use Rattle.g_edit.proofs.lemmas.Loops.{then-number}
+use Rattle.r_edit.proofs.lemmas.Loops.{then-number}
 use Rattle.r_unroll.specs.Laws.{second_turn, AreTurnsUnrolled}
 
 -- ---- bounds

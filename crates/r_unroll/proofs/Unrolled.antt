@@ -15,11 +15,11 @@ use Rattle.g_mean.specs.Data.{Datum, val}
 use Rattle.g_mean.specs.Meaning.{Meaning, Context, chosen, branched, Outputs, no_outputs, extended, read, region_meaning, nodes_run}
 use Rattle.g_mean.proofs.lemmas.Copies.{extended-same}
 use Rattle.g_mean.proofs.lemmas.Splices.{joined-run}
-use Rattle.g_edit.specs.Origins.{origins_from}
-use Rattle.g_edit.proofs.lemmas.Consecutive.{all-from}
-use Rattle.g_edit.proofs.lemmas.Loops.{then-number, at-port, gives-results, chosen-two}
-use Rattle.g_copy.specs.Numbering.{region_numbered}
-use Rattle.g_copy.proofs.lemmas.Copies.{numbered_copies_mean_the_same}
+use Rattle.r_edit.specs.Origins.{origins_from}
+use Rattle.r_edit.proofs.lemmas.Consecutive.{all-from}
+use Rattle.r_edit.proofs.lemmas.Loops.{then-number, at-port, gives-results, chosen-two}
+use Rattle.r_copy.specs.Numbering.{region_numbered}
+use Rattle.r_copy.proofs.lemmas.Copies.{numbered_copies_mean_the_same}
 use Rattle.r_unroll.specs.Rule.{stopping, unrolled}
 use Rattle.r_unroll.specs.Laws.{second_turn, IsLoopRegion, UnrolledRegionsTakeTwoTurns}
 

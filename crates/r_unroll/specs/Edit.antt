@@ -5,8 +5,8 @@ use Rattle.g_graph.specs.declared.op.Origin.{Origin}
 use Rattle.g_graph.specs.declared.op.Origin.TheVariants.{Out}
 use Rattle.g_graph.specs.Plain.{RegionTree, region, NodeTree, node, RegionTrees, no_regions, region_then, results_of}
 use Rattle.g_graph.specs.Nodes.{node_at, node_set}
-use Rattle.g_edit.specs.Origins.{origins_from}
-use Rattle.g_copy.specs.Numbering.{node_count}
+use Rattle.r_edit.specs.Origins.{origins_from}
+use Rattle.r_copy.specs.Numbering.{node_count}
 use Rattle.r_unroll.specs.Rule.{followed_by, may_unroll}
 
 -- ---- the loop

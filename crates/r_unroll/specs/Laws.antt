@@ -12,7 +12,7 @@ use Rattle.g_mean.specs.Refining.{ContextRefines}
 use Rattle.g_mean.specs.Copies.{IsClosed}
 use Rattle.g_mean.specs.Edits.{AreEditedAt, IsPartOf}
 use Rattle.g_mean.specs.Replacement.{Replaces, FunctionsKeepMeaning, ProgramKeepsMeaning}
-use Rattle.g_edit.specs.Steps.{MayStandFor}
+use Rattle.r_edit.specs.Steps.{MayStandFor}
 use Rattle.r_unroll.specs.Rule.{unrolled, url_here, url}
 
 -- ---- turns

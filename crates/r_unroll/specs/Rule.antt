@@ -1,6 +1,7 @@
 -- Unrolling: a turn of a loop becomes up to two of the turns before (Reissmann et al., RVSDG, 2020, of Theta nodes).
 use Rattle.std.specs.Prelude.{ℕ, suc, ◌+◌, ◌-◌, ◌*◌, ◌^◌, nat_le, not, ◌&&◌, ◌||◌, if◌then◌else◌}
 use Rattle.std.specs.Prelude.{Bool, false, List, [], ◌∷◌, length, Option, None, Some, option_map, option_and_then, is_some, unwrap_or}
+use Rattle.limits.specs.Limits.{most_loop_values}
 use Rattle.g_graph.specs.declared.op.Kind.{Kind}
 use Rattle.g_graph.specs.declared.op.Op.TheVariants.{Const, Gamma, Theta}
 use Rattle.g_graph.specs.declared.op.Origin.{Origin}
@@ -11,10 +12,10 @@ use Rattle.g_graph.specs.Change.{region_changed}
 use Rattle.g_graph.specs.Nodes.{node_at, node_set}
 use Rattle.g_graph.specs.Splice.{joined_nodes}
 use Rattle.g_graph.specs.Program.{lambda_values}
-use Rattle.g_edit.specs.Lookup.{same_op}
-use Rattle.g_edit.specs.Origins.{origins_from}
-use Rattle.g_edit.specs.Size.{may_change_size}
-use Rattle.g_copy.specs.Numbering.{node_count, region_numbered}
+use Rattle.g_graph.specs.Views.{same_op}
+use Rattle.r_edit.specs.Origins.{origins_from}
+use Rattle.r_edit.specs.Size.{may_change_size}
+use Rattle.r_copy.specs.Numbering.{node_count, region_numbered}
 
 -- ---- the loop
 
@@ -55,10 +56,6 @@ abbrev pub unrolled : (next : ℕ) → RegionTree → RegionTree
 unrolled next r = followed_by (second_turn_of next r) (origins_from (Out next) 0 (length (results_of r))) r
 
 -- ---- the condition
-
--- the values of the region of a loop, itself and all within counted
-abbrev pub most_loop_values : ℕ
-most_loop_values = 200
 
 -- The values that come: the Gamma and its outputs, the region that stops, and the copy.
 abbrev pub growth : RegionTree → ℕ

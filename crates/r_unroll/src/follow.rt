@@ -1,10 +1,11 @@
 //! The edit of a loop's region.
+
 ghost use Rattle.std.specs.Prelude.{◌≡◌, [], OnOk, OnErr, IsTrue, is_some, length};
 ghost use Rattle.std.specs.declared.option.Option.TheVariants.{Some};
 ghost use Rattle.g_graph.specs.declared.op.Op.TheVariants.{Undef};
 ghost use Rattle.g_graph.specs.Plain.{node, no_regions, regions_of};
-ghost use Rattle.r_unroll.specs.Edit.{only_followed, node_followed, followed_at};
-ghost use Rattle.r_unroll.specs.Rule.{url_here, node_unrolled, followed_by};
+ghost use Rattle.r_unroll.specs.Edit.{only_followed, followed_at};
+ghost use Rattle.r_unroll.specs.Rule.{url_here, followed_by};
 
 use g_graph::{Node, Op, Origin, Region, node_index};
 use no_memory::NoMemory;

@@ -1,5 +1,7 @@
-//! Unrolling: a turn of a loop becomes up to two. It stands on g_copy and g_edit. Promise: `apply`
-//! gives the changed lambda, and a changed lambda keeps its meaning in any program.
+//! Unrolling: a turn of a loop becomes up to two.
+//! Promise: `apply` gives the changed lambda, and a changed lambda keeps its meaning in any
+//! program.
+//! Always: out of memory, the lambda is as it was.
 #![tactic(auto)]
 
 mod find;

@@ -1,9 +1,11 @@
+//! Where the rule applies, and what it does there.
+
 ghost use Rattle.std.specs.Prelude.{◌≡◌, OnOk, OnErr, IsTrue, is_some};
 ghost use Rattle.g_graph.specs.Change.{region_changed};
 ghost use Rattle.g_graph.specs.Program.{lambda_values, KeepsPrograms};
 ghost use Rattle.g_graph.specs.WellFormed.{IsWellFormed};
 ghost use Rattle.g_mean.specs.Edits.{KeepsMeaning, KeepsComplete};
-ghost use Rattle.g_edit.specs.Size.{IsNoLarger};
+ghost use Rattle.r_edit.specs.Size.{IsNoLarger};
 ghost use Rattle.r_unroll.specs.Edit.{followed_at};
 ghost use Rattle.r_unroll.specs.Rule.{url_here, applies, url};
 
@@ -17,10 +19,11 @@ use no_memory::NoMemory;
 use std::alloc::Global;
 use std::mem;
 
-/// Whether the rule applies at the node of this number: a Theta whose region has at most 200
-/// values, itself and all within counted, and no Theta at any depth; where there are numbers for
-/// the nodes that come, and the lambda has at most 8,192 values afterwards. It is false for a
-/// number that is not there. It takes no memory, and time linear in the lambda.
+/// Whether the rule applies at the node of this number: a Theta whose region has at most
+/// `MOST_LOOP_VALUES` values, itself and all within counted, and no Theta at any depth; where there
+/// are numbers for the nodes that come, and the lambda has at most `MOST_GROWN_VALUES` values
+/// afterwards. It is false for a number that is not there. It takes no memory, and time linear in
+/// the lambda.
 pub fn applies(lambda: &Lambda, node: u32) -> bool
     ensures { result ≡ applies lambda.now node }
 {

@@ -1,22 +1,24 @@
 //! The second turn, as it is made.
+
 ghost use Rattle.std.specs.Prelude.{◌≡◌, ◌<◌, ◌≤◌, ◌+◌, ◌^◌, [], ◌∷◌, IfOk, length, IsTrue, is_some, option_map};
 ghost use Rattle.std.specs.declared.option.Option.TheVariants.{Some};
+ghost use Rattle.limits.specs.Limits.{most_loop_values};
 ghost use Rattle.g_graph.specs.declared.op.Origin.TheVariants.{Arg, Out};
 ghost use Rattle.g_graph.specs.Count.{region_values};
 ghost use Rattle.g_graph.specs.Plain.{node, no_regions};
 ghost use Rattle.g_graph.specs.declared.op.Op.TheVariants.{Const};
 ghost use Rattle.g_mean.specs.Copies.{IsClosed};
-ghost use Rattle.g_edit.specs.Found.{region_found};
-ghost use Rattle.g_edit.specs.Origins.{origins_from};
-ghost use Rattle.g_copy.specs.Numbering.{node_count};
+ghost use Rattle.r_edit.specs.Found.{region_found};
+ghost use Rattle.r_edit.specs.Origins.{origins_from};
+ghost use Rattle.r_copy.specs.Numbering.{node_count};
 ghost use Rattle.r_unroll.specs.Edit.{loop_at, results_after, next_after};
 ghost use Rattle.r_unroll.specs.Rule.{stopping, second_turn_of};
 
 use crate::find::find_loop;
-use g_copy::copy_numbered;
-use g_edit::{arguments, outputs_of};
 use g_graph::{Kind, Node, Op, Origin, Region};
 use no_memory::NoMemory;
+use r_copy::copy_numbered;
+use r_edit::{arguments, outputs_of};
 use smallvec::SmallVec;
 use std::alloc::Global;
 
@@ -57,7 +59,7 @@ pub fn turn_of(
 // The second turn of a loop with this region, with numbers from `next` on.
 fn second_turn(alloc: Global, region: &Region, next: u32) -> Result<Turn, NoMemory>
     requires closed { IsClosed region.now }
-    requires small { region_values region.now ≤ 200 }
+    requires small { region_values region.now ≤ most_loop_values }
     requires numbers { next + 2 + node_count region.now < 2 ^ 32 }
     ensures last { IfOk result (λ turn. turn.last ≡ second_turn_of next region.now) }
     ensures results { IfOk result (λ turn. turn.results.items ≡

@@ -6,7 +6,7 @@ use Rattle.rv_isa.specs.Words.{word_of}
 use Rattle.rv_isa.specs.Encodings.{Pattern, matches, encodings, first_match, some_encoding_matches, decoded}
 use Rattle.rv_isa.specs.RoundTrip.{SomeIfMatched}
 use Rattle.rv_isa.specs.declared.instruction.Instr.{Instr}
-use Rattle.rv_isa.proofs.lemmas.DecodedEncodes.{decoded_encodes}
+use Rattle.rv_isa.proofs.DecodedEncodes.{decoded_encodes}
 
 any_match :
     (listed : List (Pattern × (ℕ → Instr))) (w : ℕ)

@@ -1,2 +1,3 @@
 mod Decoded
 pub mod lemmas
+mod DecodedEncodes

@@ -1,4 +1,3 @@
-pub mod DecodedEncodes
 pub mod EncodedDecodes
 pub mod EncodedFitsWord
 pub mod WordParts

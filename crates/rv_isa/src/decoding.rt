@@ -1,3 +1,4 @@
+//! The instruction of a word.
 #![tactic(auto, unfolding(crate::specs::Encodings::decoded))]
 
 ghost use Rattle.std.specs.Prelude.{◌≡◌, ◌↔◌, IsNone, IsFalse, IfSome};

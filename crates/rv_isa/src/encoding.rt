@@ -1,3 +1,5 @@
+//! The word of an instruction.
+
 ghost use Rattle.std.specs.Prelude.{◌≡◌};
 ghost use Rattle.rv_isa.specs.Words.{word_of, FitsFormat};
 

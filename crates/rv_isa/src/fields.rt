@@ -1,7 +1,7 @@
 //! The fields of a word, which the formats have in common, and the immediates of each format
 //! (RISC-V Unprivileged ISA 20191213, sections 2.2 and 2.3).
 
-ghost use Rattle.std.specs.Prelude.{◌≡◌, ◌<◌};
+ghost use Rattle.std.specs.Prelude.{◌≡◌};
 ghost use Rattle.rv_isa.specs.Formats as format;
 
 use crate::immediates::{BranchOffset, Imm12, JumpOffset, Shamt, Upper};

@@ -1,3 +1,5 @@
+//! The immediates of the formats, each of a type that holds what fits and no more.
+
 ghost use Rattle.std.specs.Prelude.{ℕ, ◌≡◌, ◌<◌, ◌↔◌, ◌+◌, ◌%◌, ◌^◌, IsTrue};
 
 use std::marker::Model;

@@ -1,3 +1,5 @@
+//! The instructions, each with its fields.
+
 use crate::immediates::{BranchOffset, Imm12, JumpOffset, Shamt, Upper};
 use crate::registers::Reg;
 

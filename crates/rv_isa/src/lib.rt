@@ -1,9 +1,10 @@
-//! RV32IM instructions: the type `Instr`, `encode` to its 32-bit word, and `decode` back; and what
-//! the back end and the machine share: the registers' names, the numbers of the environment calls,
-//! and a word in two parts. It stands on no other crate and takes no memory.
+//! RV32IM instructions: the type `Instr`, `encode` to its 32-bit word, and `decode` back.
+//! Here is also what the back end and the machine share: the registers' names, the numbers of the
+//! environment calls, and a word in two parts. No call takes memory.
 //! Promise: the word is the instruction's encoding in the manual's tables, `decode` gives the
 //! instruction of the encoding that a word matches and `None` exactly where none does, and the two
 //! undo each other.
+//! Always: an immediate fits its format.
 #![tactic(auto)]
 
 mod calls;

@@ -1,3 +1,5 @@
+//! The integer registers, and their names in the calling convention.
+
 ghost use Rattle.std.specs.Prelude.{ℕ, ◌≡◌, ◌<◌, ◌↔◌, IsTrue};
 
 use std::marker::Model;

@@ -1,9 +1,10 @@
 //! Where everything of a program stands.
-ghost use Rattle.std.specs.Prelude.{◌≡◌, ℕ, ◌+◌, ◌<◌, ◌≤◌, ◌^◌, IsTrue, true, false, length, sum_by, IfOk};
-ghost use Rattle.elf_file.specs.Image.{next_page, stack_size};
+
+ghost use Rattle.std.specs.Prelude.{◌≡◌, ◌+◌, ◌<◌, ◌^◌, true, false, sum_by, IfOk};
+ghost use Rattle.elf_file.specs.Image.{next_page};
 ghost use Rattle.rv_layout.specs.Items.{items_size};
 ghost use Rattle.rv_layout.specs.Globals.{global_room, globals_where, globals_from};
-ghost use Rattle.rv_layout.specs.Layout.{item_lists, put_at, get_at, functions_at, stub_at, functions_from, addresses_of};
+ghost use Rattle.rv_layout.specs.Layout.{item_lists, functions_at, stub_at, functions_from, addresses_of};
 ghost use Rattle.rv_layout.specs.Conditions.{FitsMemory};
 
 use crate::Item;

@@ -1,5 +1,6 @@
 //! The bytes of globals, with the addresses that their links name.
-ghost use Rattle.std.specs.Prelude.{◌≡◌, ℕ, ◌+◌, ◌<◌, ◌≤◌, ◌^◌, ◌++◌, IsTrue, length, sum_by, OnOk};
+
+ghost use Rattle.std.specs.Prelude.{◌≡◌, ◌+◌, ◌<◌, ◌≤◌, ◌^◌, ◌++◌, IsTrue, length, sum_by, OnOk};
 ghost use Rattle.std.specs.List.{flat_map};
 ghost use Rattle.g_graph.specs.WellFormed.{all_of};
 ghost use Rattle.rv_layout.specs.Globals.{global_room, globals_where, with_word, with_links, global_bytes};

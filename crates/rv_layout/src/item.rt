@@ -1,3 +1,5 @@
+//! The items of a function: instructions, and what becomes instructions once addresses are known.
+
 use rv_isa::Instr;
 
 /// An item of a function: an instruction, or what becomes instructions once addresses are known.

@@ -1,11 +1,12 @@
 //! The text of functions, once everything has its address.
+
 ghost use Rattle.std.specs.Prelude.{◌≡◌, ℕ, ◌+◌, ◌<◌, ◌%◌, ◌^◌, ◌++◌, IsTrue, length, sum_by, OnOk};
 ghost use Rattle.std.specs.Ordering.{nat_cmp};
 ghost use Rattle.std.specs.BTreeMap.{get};
 ghost use Rattle.g_graph.specs.WellFormed.{all_of};
 ghost use Rattle.rv_layout.specs.Sequences.{bytes_of};
 ghost use Rattle.rv_layout.specs.Items.{items_size, label_at};
-ghost use Rattle.rv_layout.specs.Layout.{item_lists, offset_to, item_code, items_code, function_code, functions_at, functions_code};
+ghost use Rattle.rv_layout.specs.Layout.{item_lists, offset_to, item_code, function_code, functions_at, functions_code};
 ghost use Rattle.rv_layout.specs.Conditions.{CanJump, Reaches, item_fits, function_fits};
 
 use crate::Item;

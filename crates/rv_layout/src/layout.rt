@@ -1,5 +1,6 @@
 //! The image of functions and globals.
-ghost use Rattle.std.specs.Prelude.{◌≡◌, ℕ, ◌+◌, ◌<◌, ◌^◌, ◌++◌, [], IsTrue, true, false, length, replicate, sum_by, slice_index, IfOk};
+
+ghost use Rattle.std.specs.Prelude.{◌≡◌, ◌+◌, ◌<◌, ◌^◌, ◌++◌, IsTrue, true, false, length, replicate, sum_by, slice_index, IfOk};
 ghost use Rattle.std.specs.List.{flat_map};
 ghost use Rattle.elf_file.specs.Image.{sections_of};
 ghost use Rattle.g_graph.specs.WellFormed.{all_of};

@@ -1,5 +1,4 @@
-//! The layout of a program: items of functions, and the image that they make with globals. It
-//! stands on g_graph, rv_isa and elf_file.
+//! Where the functions and globals of a program stand, and the bytes of its image.
 //! Promise: `lay` gives exactly the sections that specs/Layout.antt defines.
 #![tactic(auto)]
 

@@ -1,4 +1,5 @@
 //! Sequences of instructions that every program has, pushed as bytes.
+
 ghost use Rattle.std.specs.Prelude.{◌≡◌, ◌<◌, ◌++◌, ◌+◌, OnOk};
 ghost use Rattle.rv_layout.specs.Sequences.{load_address, call, start_code, put_stub, read_answer, get_stub, bytes_of};
 

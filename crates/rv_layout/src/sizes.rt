@@ -1,5 +1,6 @@
 //! The sizes of items and globals in memory.
-ghost use Rattle.std.specs.Prelude.{◌≡◌, ◌<◌, ◌^◌, length};
+
+ghost use Rattle.std.specs.Prelude.{◌≡◌, ◌<◌, ◌^◌};
 ghost use Rattle.rv_layout.specs.Items.{item_size, items_size};
 ghost use Rattle.rv_layout.specs.Globals.{global_room};
 

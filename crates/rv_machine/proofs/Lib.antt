@@ -1,5 +1,6 @@
 mod Access
 mod Bytes
+mod Decoded
 mod Examples
 mod Found
 mod HeldBlocks
@@ -10,3 +11,4 @@ mod Ports
 mod Reached
 mod Stopped
 mod Writes
+mod Unwritable

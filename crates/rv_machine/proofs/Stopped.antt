@@ -2,7 +2,7 @@
 use Rattle.std.proofs.Common.{◌≡◌, ℕ, ◌+◌, ◌<◌, List, ◌++◌, Some, None, refl, sym, ap, ◌∙◌, subst, arith}
 use Rattle.cc_io.proofs.lemmas.Sink.{append-none}
 use Rattle.rv_machine.specs.Endings.{ending_of, stop_for}
-use Rattle.rv_machine.specs.Machine.{State, Ending, Effect, next, stop, put, get}
+use Rattle.rv_machine.specs.Machine.{State, Ending, stop}
 use Rattle.rv_machine.specs.Machine as plain
 use Rattle.rv_machine.specs.Run.{Hart, running, ended, after_output, follow, run_state, run}
 use Rattle.rv_machine.specs.Port.{Port, IsDoneAt}
@@ -16,13 +16,6 @@ use Rattle.rv_machine.specs.declared.machine.Machine.{Machine}
 use Rattle.rv_machine.specs.View.{state_of, hart_from, hart_of}
 use Rattle.rv_machine.proofs.Reached.{IsReached, reached_more, known, streams, is-known, input_is, come, has_come, stand, step-after}
 use Rattle.rv_machine.proofs.lemmas.RunLaws.{ended_stays, run-ended}
-
--- a step that was done leaves a hart that runs
-pub done_runs : (effect : Effect) (h : Hart) (before after : Port) → IsDoneAt effect h before after → (s : State) × (h ≡ running s)
-done_runs (next s) h before after d = (s, d.0)
-done_runs (stop e) h before after d = absurd d
-done_runs (put byte s) h before after d = (s, d.0)
-done_runs (get received) h before after d = (received d.0, d.1)
 
 module _ (flags : ℕ → ℕ) (n steps : ℕ) (old : Hart) (before : Port) (h : Hart) (now : Port) (r : IsReached flags n old before h now) where
   abbrev input : List ℕ

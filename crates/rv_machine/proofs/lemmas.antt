@@ -3,4 +3,3 @@ pub mod RunLaws
 pub mod Standing
 pub mod Stores
 pub mod Texts
-pub mod Unwritable

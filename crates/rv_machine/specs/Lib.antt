@@ -12,5 +12,6 @@ pub mod SegmentLaws
 pub mod Standing
 pub mod StandingLaws
 pub mod Steps
+pub mod Text
 pub mod View
 pub mod Words

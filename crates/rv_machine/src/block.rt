@@ -1,3 +1,5 @@
+//! A segment in memory.
+
 ghost use Rattle.std.specs.Prelude.{◌≡◌, ◌+◌, ◌-◌, ◌^◌, ◌<◌, ◌≤◌, length, drop, vec_len, IfOk};
 ghost use Rattle.rv_machine.specs.Memory.{number, IsWidth};
 
@@ -15,7 +17,7 @@ pub(crate) struct Block {
 }
 
 impl Block {
-    ghost use Rattle.elf_file.specs.Segment as loaded;
+    ghost use Rattle.elf_file.specs.Segments as loaded;
     ghost use Rattle.elf_file.specs.Segments.{IsContained};
     ghost use Rattle.rv_machine.specs.Block.{segment_of, padded, SameBounds};
     ghost use Rattle.rv_machine.specs.Memory.{holds, has_flag, written};

@@ -1,7 +1,8 @@
 //! One instruction.
 
-ghost use Rattle.std.specs.Prelude.{◌≡◌};
-ghost use Rattle.rv_machine.specs.Machine.{act, call, next_effect};
+ghost use Rattle.std.specs.Prelude.{◌≡◌, option_map};
+ghost use Rattle.rv_isa.specs.Encodings.{decoded};
+ghost use Rattle.rv_machine.specs.Machine.{act, call, fetched, next_effect};
 ghost use Rattle.rv_machine.specs.View.{state_of, flags_in, OnlyStateChanges, HasDone};
 
 use crate::machine::{BAD_PC, Machine, NO_ACCESS, NO_CALL, NO_INSTRUCTION, Progress};
@@ -21,9 +22,22 @@ impl Machine {
             (state_of self.new) result }
         ensures keeps { OnlyStateChanges self.old self.new }
     {
-        let word = self.fetch().ok_or(self.stuck(BAD_PC))?;
-        let instruction = decode(word).ok_or(self.stuck(NO_INSTRUCTION))?;
-        self.execute(instruction)
+        match self.decoded() {
+            Some(Some(instruction)) => self.execute(instruction),
+            Some(None) => Err(self.stuck(NO_INSTRUCTION)),
+            None => Err(self.stuck(BAD_PC)),
+        }
+    }
+
+    /// The word at pc, decoded, where it may be executed.
+    #[inline(always)]
+    fn decoded(&self) -> Option<Option<Instr>>
+        ensures { result ≡ option_map decoded (fetched (flags_in self.now) (state_of self.now)) }
+    {
+        match self.memory.text.word_at(self.pc) {
+            Some(word) => Some(word),
+            None => Some(decode(self.fetch()?)),
+        }
     }
 
     /// Asks for the environment call that a7 names.

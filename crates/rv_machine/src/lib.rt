@@ -1,7 +1,7 @@
-//! A machine for RV32IM executables: registers, memory by segments with flags, and three
-//! environment calls. The command that runs an executable stands on it, and so does the theorem
-//! that an image keeps its source's meaning. Promise: each step does what specs/Machine.antt says
-//! of the instruction at pc, and a run is that many steps.
+//! The machine that runs RV32IM executables, as a definition and as the program that does it.
+//! It has registers, memory by segments with flags, and three environment calls. Promise: each step
+//! does what specs/Machine.antt says of the instruction at pc, and a run is that many steps.
+//! Always: register x0 is 0; an ended run stays ended.
 #![tactic(auto)]
 
 mod block;
@@ -15,6 +15,7 @@ pub mod segment_laws;
 pub mod standing_laws;
 mod step;
 mod stop;
+mod text;
 mod words;
 
 pub use machine::Machine;

@@ -1,4 +1,6 @@
-ghost use Rattle.std.specs.Prelude.{◌≡◌, ◌≢◌, ◌<◌, ◌%◌, ◌^◌, IfOk, IfErr, OnOk, OnErr, MatchResult, if◌then◌else◌};
+//! The machine: its registers, and its accesses to memory.
+
+ghost use Rattle.std.specs.Prelude.{◌≡◌, ◌≢◌, ◌<◌, ◌%◌, ◌^◌, IfOk, IfErr, OnOk, OnErr, MatchResult, if◌then◌else◌, slice_index};
 
 use crate::memory::{EXECUTE, Memory, READ};
 use crate::stop::Ending;
@@ -37,6 +39,7 @@ pub struct Machine {
     pub(crate) pc: u32,
     pub(crate) memory: Memory,
     pub(crate) ending: Option<Ending>,
+    ghost zero: { slice_index registers 0 ≡ 0 },
 }
 
 impl Machine {
@@ -67,12 +70,7 @@ impl Machine {
     pub(crate) fn look(&self, r: Reg) -> u32
         ensures { result ≡ look (state_of self.now).regs r }
     {
-        let number = r.number();
-        if number == 0 {
-            0
-        } else {
-            self.registers[number as usize]
-        }
+        self.registers[r.number() as usize]
     }
 
     /// Goes on to the next instruction.

@@ -1,9 +1,13 @@
+//! The memory of an executable, by segments.
+
 ghost use Rattle.std.specs.Prelude.{IfOk, IfSome, ◌≡◌, ◌+◌, ◌^◌, ◌<◌, ◌≤◌, true, MatchOption, if◌then◌else◌, map, AllPairs};
 ghost use Rattle.elf_file.specs.Segments.{AreApart};
-ghost use Rattle.rv_machine.specs.Block.{outline_of};
+ghost use Rattle.rv_machine.specs.Block.{segment_of, outline_of};
 ghost use Rattle.rv_machine.specs.Memory.{has_flag, allowed, load_bytes, store_bytes, put_at, IsWidth, memory_of, flags_of};
+ghost use Rattle.rv_machine.specs.Text.{IsText};
 
 use crate::block::{Block, number_of};
+use crate::text::Text;
 use elf_file::ImageView;
 use std::alloc::{AllocError, Global};
 
@@ -14,16 +18,18 @@ pub(crate) const WRITE: u32 = 2;
 
 pub(crate) const EXECUTE: u32 = 1;
 
-/// The memory of an executable: its segments, which are apart.
+/// The memory of an executable: its segments, which are apart, and text of them that was decoded.
 #[derive(Drop)]
 pub(crate) struct Memory {
     pub(crate) blocks: Vec<Block>,
+    pub(crate) text: Text,
     ghost apart: { AllPairs AreApart (map outline_of blocks.items) },
+    ghost decoded: { IsText (flags_of (map segment_of blocks.items))
+        (memory_of (map segment_of blocks.items)) text.at text.words.items },
 }
 
 impl Memory {
     ghost use Rattle.elf_file.specs.ImageView.{executable_of};
-    ghost use Rattle.rv_machine.specs.Block.{segment_of};
     ghost use Rattle.rv_machine.specs.Blocks.{bytes_of, allowance_of, IsAbsent, HoldsAt, IsBlockAt};
     ghost use Rattle.rv_machine.specs.Blocks.{IsOutside, EndsWithin};
 
@@ -38,16 +44,17 @@ impl Memory {
         for k in 0..view.count() {
             blocks.push(Block::new(alloc, &view.segment(k))?)?;
         }
-        Ok(Memory { blocks })
+        let text = Text::new(alloc, &blocks)?;
+        Ok(Memory { blocks, text })
     }
 
-    /// Which segment has the address.
+    /// Which segment has the address. The last one is asked first, since data stands behind text.
     fn block_at(&self, address: u32) -> Option<usize>
         ensures { MatchOption result (IsAbsent self.now.blocks.items address)
             (HoldsAt self.now.blocks.items address) }
     {
-        for (k, block) in self.blocks.iter().enumerate() {
-            if block.holds(address) {
+        for k in (0..self.blocks.len()).rev() {
+            if self.blocks[k].holds(address) {
                 return Some(k);
             }
         }
@@ -141,6 +148,7 @@ impl Memory {
     /// Writes within the segment `k`, which has the `width` bytes from the address on.
     #[inline(always)]
     fn write_in(&mut self, k: usize, address: u32, word: u32, width: u32)
+        requires allowed { allowed (allowance_of self.old) WRITE address width ≡ true }
         requires found { HoldsAt self.old.blocks.items address k }
         requires end { EndsWithin self.old.blocks.items (address + width) k }
         ensures bytes { bytes_of self.new ≡ store_bytes (bytes_of self.old) address word width }

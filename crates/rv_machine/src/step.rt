@@ -36,6 +36,17 @@ fn next_byte<I: Source>(input: &mut I, at_end: &mut bool) -> Result<Option<u8>, 
     Ok(Some(buffer[0]))
 }
 
+/// Hands over what was written, where the input may have to be waited for.
+fn hand_over<I: Source, O: Sink>(input: &I, at_end: bool, output: &mut O)
+    ensures held { O.held output.new ≡ O.held output.old }
+    ensures rest { O.rest output.new ≡ O.rest output.old }
+    ensures faults { O.faults output.old ≤ O.faults output.new }
+{
+    if !at_end && input.may_wait() {
+        output.flush();
+    }
+}
+
 impl Machine {
     ghost use Rattle.rv_machine.specs.Port.{IsDoneAt};
     ghost use Rattle.rv_machine.specs.Steps.{hart_effect, IsDone, IsStopped, HasIncreased};
@@ -62,18 +73,24 @@ impl Machine {
             (I.faults input.old) (I.faults input.new) (O.faults output.old) (O.faults output.new)) }
         ensures rest { O.rest output.new ≡ O.rest output.old }
     {
+        if let Some(ending) = self.ending {
+            return Some(Stop::from(ending));
+        }
         let mut at_end = false;
         self.step_from(input, &mut at_end, output)
     }
 
-    /// The same, of an input whose end may have been met.
+    /// The same, of a run that has not ended, and of an input whose end may have been met.
+    #[inline(always)]
     pub(crate) fn step_from<I: Source, O: Sink>(
         &mut self,
         input: &mut I,
         at_end: &mut bool,
         output: &mut O,
     ) -> Option<Stop>
-        requires { at_end.old ≡ true → IsAtEnd (I.left input.old) }
+        requires runs { self.old.ending ≡ None }
+        requires at_end { at_end.old ≡ true → IsAtEnd (I.left input.old) }
+        ensures runs { IfNone result (self.new.ending ≡ None) }
         ensures done { IfNone result
             (IsDoneAt (hart_effect (flags_in self.old) (hart_of self.old)) (hart_of self.new)
             (record { held = O.held output.old; left = I.left input.old; closed = at_end.old })
@@ -91,19 +108,19 @@ impl Machine {
             (I.faults input.old) (I.faults input.new) (O.faults output.old) (O.faults output.new)) }
         ensures rest { O.rest output.new ≡ O.rest output.old }
     {
-        if let Some(ending) = self.ending {
-            return Some(Stop::from(ending));
-        }
         match self.advance() {
             Ok(Progress::Done) => None,
             Ok(Progress::Put(byte)) => match self.put(byte, output) {
                 Ok(()) => None,
                 Err(_) => Some(Stop::WriteFault),
             },
-            Ok(Progress::Get) => match self.get(input, at_end) {
-                Ok(()) => None,
-                Err(_) => Some(Stop::ReadFault),
-            },
+            Ok(Progress::Get) => {
+                hand_over(input, *at_end, output);
+                match self.get(input, at_end) {
+                    Ok(()) => None,
+                    Err(_) => Some(Stop::ReadFault),
+                }
+            }
             Err(ending) => {
                 self.ending = Some(ending);
                 Some(Stop::from(ending))

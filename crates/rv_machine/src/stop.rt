@@ -1,3 +1,5 @@
+//! How the run of a program ends, and why a machine stopped.
+
 /// How the run of a program ends.
 #[derive(Clone, Copy, Debug, PartialEq, Eq)]
 pub(crate) enum Ending {

@@ -2,15 +2,15 @@
 -- input go along. A loop's turn is counted at its label, afresh at each entrance, and a call runs at the bound below.
 use Rattle.std.specs.Prelude.{ℕ, zero, suc, ◌-◌, ◌%◌, ◌^◌, ◌==◌, if◌then◌else◌, List, [], ◌∷◌, ◌++◌, map, length, slice_get, slice_index_or, Option, None, Some}
 use Rattle.val_core.specs.declared.values.Value.{Value}
-use Rattle.val_core.specs.declared.values.Value.TheVariants.{Num, At, Bad}
+use Rattle.val_core.specs.declared.values.Value.TheVariants.{Num, Bad}
 use Rattle.val_core.specs.Values.{value1, value2}
-use Rattle.val_core.specs.Memory.{Memory, BlockShape, cleared, pointers_equal, closed, cleared_at}
+use Rattle.val_core.specs.Memory.{Memory, pointers_equal, closed, cleared_at}
 use Rattle.val_core.specs.Memory as mem
 use Rattle.val_core.specs.Objects.{Addresses, address_in, opened}
 use Rattle.val_core.specs.Events.{wrote, took}
 use Rattle.val_core.specs.Answers.{Answer, Returned, Cut, Exited, Undefined, then_on, on_number, on_defined, active}
 use Rattle.val_core.specs.Within.{Given}
-use Rattle.g_graph.specs.Plain.{PlainObject, shapes_of}
+use Rattle.g_graph.specs.Plain.{shapes_of}
 use Rattle.s_linear.specs.Linear.{Instr, const, undef, object_address, global_address, binary, unary, load, store, clear, equal_pointers, move, call, put, get, exit, Step, plain, choice, loop, Code, no_steps, step_then, Codes, no_codes, code_then, LinearFunction}
 
 -- what the names hold, the memory, and what is left of the input

@@ -1,3 +1,5 @@
+//! The types of places and frames.
+
 use std::marker::Model;
 
 /// Which place each name has, in the order of the names, and how many places there are. Contracts

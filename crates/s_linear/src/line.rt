@@ -1,3 +1,5 @@
+//! The types of instructions, lines and linear code.
+
 use std::marker::Model;
 use val_core::{Op1, Op2};
 

@@ -1,10 +1,9 @@
 -- Lemmas on the offsets and sizes of memory objects.
-use Rattle.std.proofs.Common.{◌≡◌, ℕ, zero, suc, ◌+◌, ◌*◌, ◌/◌, ◌<◌, ◌≤◌, refl, ap, ◌∙◌, List, [], ◌∷◌, length, slice_index, sum_by, take, arith}
+use Rattle.std.proofs.Common.{◌≡◌, ℕ, zero, suc, ◌+◌, ◌<◌, refl, ap, ◌∙◌, List, [], ◌∷◌, length, slice_index, sum_by, take, arith}
 use Rattle.std.proofs.lemmas.List.Sums.{sum_by-cons}
 use Rattle.g_graph.specs.Plain.{PlainObject}
 use Rattle.s_linear.specs.Frame.{object_room}
-use Rattle.s_select.specs.Objects.{offsets_from}
-use Rattle.s_select.specs.Templates.{size_of}
+use Rattle.s_select.specs.Operands.{offsets_from}
 
 pub length-offsets_from : (at : ℕ) (os : List PlainObject) → length (offsets_from at os) ≡ length os
 length-offsets_from at [] = refl
@@ -18,9 +17,3 @@ offsets_from-at at (o ∷ os) (suc k) h =
     offsets_from-at (at + object_room o) os k (omega arith) in
     let sum : sum_by object_room (o ∷ take k os) ≡ object_room o + sum_by object_room (take k os) = sum_by-cons object_room o (take k os) in
     rest ∙ omega arith
-
--- an object is no larger than the room of all
-pub size-le : (os : List PlainObject) (k : ℕ) → k < length os → (size_of os k + 3) / 4 * 4 + 4 ≤ sum_by object_room os
-size-le [] k h = absurd (omega arith)
-size-le (o ∷ os) zero h = omega (arith, sum_by-cons object_room o os)
-size-le (o ∷ os) (suc k) h = omega (arith, sum_by-cons object_room o os, size-le os k (omega arith))

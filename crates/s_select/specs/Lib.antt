@@ -1,5 +1,4 @@
 pub mod Operands
 pub mod Templates
 pub mod Conditions
-pub mod Objects
 pub mod Laws

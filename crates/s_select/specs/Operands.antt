@@ -1,10 +1,12 @@
--- How instructions come to the values at places: a place is a register, or a word of the frame.
+-- How instructions come to the values at places: a place is a register, or a word of the frame. Where memory objects
+-- begin in the frame.
 use Rattle.std.specs.Prelude.{ℕ, ◌+◌, ◌-◌, ◌*◌, ◌%◌, ◌^◌, ◌==◌, nat_lt, if◌then◌else◌, List, [], ◌∷◌}
+use Rattle.g_graph.specs.Plain.{PlainObject}
 use Rattle.rv_isa.specs.Registers.{x0, sp, t0, s1}
 use Rattle.rv_isa.specs.WordParts.{upper_part, low_part}
 use Rattle.rv_isa.specs.declared.instruction.Instr.{Instr}
 use Rattle.rv_isa.specs.declared.instruction.Instr.TheVariants.{Lui, Lw, Sw, Addi, Add}
-use Rattle.s_linear.specs.Frame.{registers}
+use Rattle.s_linear.specs.Frame.{registers, object_room}
 use Rattle.s_select.specs.declared.location.Location.{Location}
 use Rattle.s_select.specs.declared.location.Location.TheVariants.{Register, Near, Far}
 use Rattle.rv_layout.specs.Sequences.{load_address}
@@ -62,3 +64,9 @@ out_of _ = t0
 abbrev pub store_out : Location → List Instr
 store_out (Register r) = []
 store_out l = put l t0
+
+-- where the memory objects of a function begin, in bytes from the stack pointer: the first at an offset, each other after
+-- those before it
+abbrev pub offsets_from : (at : ℕ) → List PlainObject → List ℕ
+offsets_from at [] = []
+offsets_from at (o ∷ os) = at ∷ offsets_from (at + object_room o) os

@@ -1,4 +1,5 @@
 //! How a function takes its frame and gives it back.
+
 ghost use Rattle.std.specs.Prelude.{◌≡◌, ◌++◌, [], ◌∷◌, ◌<◌, ◌≤◌, OnOk};
 ghost use Rattle.s_select.specs.Operands.{negative};
 ghost use Rattle.s_select.specs.Templates.{give_frame, restore_places, save_places, take_frame, words};

@@ -1,13 +1,11 @@
 //! The templates of a function, whose names have places.
+
 ghost use Rattle.std.specs.Prelude.{◌≡◌, ◌++◌, ◌+◌, ◌<◌, ◌≤◌, ◌^◌, IsTrue, length, OnOk};
 ghost use Rattle.g_graph.specs.WellFormed.{all_of};
 ghost use Rattle.s_linear.specs.Frame.{frame_size, object_at, objects_at, saved_of};
-ghost use Rattle.s_linear.specs.Lines.{instr_names};
-ghost use Rattle.s_linear.specs.Views.{instr_of};
-ghost use Rattle.s_select.specs.Objects.{offsets_from};
-ghost use Rattle.s_select.specs.Templates.{get_arguments, place_of, put_params, size_of, words, instr_items};
-ghost use Rattle.s_select.specs.Conditions.{has_few_arguments, has_place};
-ghost use Rattle.s_linear.specs.Operands.{has_its_object};
+ghost use Rattle.s_select.specs.Operands.{offsets_from};
+ghost use Rattle.s_select.specs.Templates.{get_arguments, place_of, put_params, size_of, words};
+ghost use Rattle.s_select.specs.Conditions.{has_place};
 
 use crate::location::{Location, REGISTERS, location_of};
 use crate::operands::{push_get, push_put};

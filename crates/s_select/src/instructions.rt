@@ -1,4 +1,5 @@
 //! The instructions of operations, once their operands are in registers.
+
 ghost use Rattle.std.specs.Prelude.{◌≡◌, ◌<◌, ◌++◌, OnOk};
 ghost use Rattle.s_select.specs.Templates.{binary_code, binary_instr, load_instr, store_instr, unary_code, words};
 

@@ -1,5 +1,4 @@
-//! Selection: the items of a function, by one template for each line of its linear code. It stands
-//! on s_linear, rv_layout and rv_isa.
+//! The instructions of linear code over places, a template for each.
 //! Promise: `select` gives exactly the items that specs/Templates.antt defines.
 #![tactic(auto)]
 

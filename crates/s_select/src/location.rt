@@ -1,3 +1,5 @@
+//! Where a value is: in a register, or in a word of the frame.
+
 ghost use Rattle.std.specs.Prelude.{◌≡◌, ◌-◌, ◌*◌, ◌<◌, ◌^◌};
 ghost use Rattle.s_linear.specs.Frame.{registers};
 ghost use Rattle.s_select.specs.Operands.{in_of, location_of, out_of, place_register};

@@ -1,7 +1,8 @@
 //! Where the memory objects of a function begin.
+
 ghost use Rattle.std.specs.Prelude.{◌≡◌, ◌+◌, ◌<◌, ◌^◌, sum_by, IfOk};
 ghost use Rattle.s_linear.specs.Frame.{object_room};
-ghost use Rattle.s_select.specs.Objects.{offsets_from};
+ghost use Rattle.s_select.specs.Operands.{offsets_from};
 
 use g_graph::Object;
 use std::alloc::{AllocError, Global};

@@ -1,4 +1,5 @@
 //! How instructions come to the values at places.
+
 ghost use Rattle.std.specs.Prelude.{◌≡◌, ◌++◌, [], ◌∷◌, OnOk};
 ghost use Rattle.rv_isa.specs.WordParts.{upper_part};
 ghost use Rattle.s_select.specs.Operands.{get, load_immediate, load_in, put, store_out};

@@ -1,5 +1,6 @@
 //! Selection of items, line by line.
-ghost use Rattle.std.specs.Prelude.{◌≡◌, ◌++◌, ◌≤◌, ◌<◌, ◌^◌, IsTrue, length, IfOk, OnOk};
+
+ghost use Rattle.std.specs.Prelude.{◌≡◌, ◌++◌, ◌≤◌, ◌<◌, IsTrue, length, IfOk, OnOk};
 ghost use Rattle.g_graph.specs.WellFormed.{all_of};
 ghost use Rattle.s_linear.specs.Frame.{frame_size};
 ghost use Rattle.s_linear.specs.Linear as linear;

@@ -1,5 +1,6 @@
 //! The template of each instruction of linear code, over locations.
-ghost use Rattle.std.specs.Prelude.{◌≡◌, ◌++◌, ◌+◌, ◌*◌, ◌/◌, ◌^◌, ◌<◌, [], ◌∷◌, OnOk};
+
+ghost use Rattle.std.specs.Prelude.{◌≡◌, ◌++◌, ◌+◌, ◌^◌, ◌<◌, [], ◌∷◌, OnOk};
 ghost use Rattle.rv_isa.specs.declared.instruction.Instr.TheVariants as rv;
 ghost use Rattle.rv_isa.specs.Calls.{exit_call};
 ghost use Rattle.rv_layout.specs.declared.item.Item.TheVariants as item;

@@ -33,10 +33,6 @@ pub values_with_last : (fr : RegionTrees) (l : RegionTree) → regions_values (w
 values_with_last no_regions l = refl
 values_with_last (region_then r rs) l = omega (arith, values_with_last rs l)
 
-pub count_with_last : (fr : RegionTrees) (l : RegionTree) → count_of (with_last fr l) ≡ suc (count_of fr)
-count_with_last no_regions l = refl
-count_with_last (region_then r rs) l = ap suc (count_with_last rs l)
-
 pub shaped_with_last : (fr : RegionTrees) (l : RegionTree) → RegionsShaped (with_last fr l) → RegionShaped l × RegionsShaped fr
 shaped_with_last no_regions l h = (h.0, tt)
 shaped_with_last (region_then r rs) l h = let e = shaped_with_last rs l h.1 in (e.0, (h.0, e.1))

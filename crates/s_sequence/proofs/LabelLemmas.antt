@@ -1,5 +1,5 @@
 -- The numbers of labels of nodes and regions: those of their codes, and at most those of their values.
-use Rattle.std.proofs.Common.{◌≡◌, ◌≤◌, ◌<◌, ℕ, suc, ◌+◌, List, [], ◌∷◌, map, refl, ap, arith}
+use Rattle.std.proofs.Common.{◌≡◌, ◌≤◌, ◌<◌, ℕ, ◌+◌, List, [], ◌∷◌, map, refl, arith}
 use Rattle.std.specs.declared.option.Option.TheVariants.{Some}
 use Rattle.g_graph.specs.declared.op.Kind.{Kind}
 use Rattle.g_graph.specs.declared.op.Origin.{Origin}
@@ -53,12 +53,6 @@ bases_has next outputs (region_then r no_regions) = tt
 bases_has next outputs (region_then r (region_then s no_regions)) = tt
 bases_has next outputs (region_then r (region_then s (region_then t rs))) =
     from_has next (next + last_names (region_then t rs) + outputs) (region_then r (region_then s (region_then t rs)))
-
-pub counted_are : (entries : List ℕ) (outputs : ℕ) (bs : List ℕ) (rs : RegionTrees) → HasBases bs rs → counted (branch_codes entries outputs bs rs) ≡ count_of rs
-counted_are entries outputs [] no_regions h = refl
-counted_are entries outputs [] (region_then r rs) h = absurd h
-counted_are entries outputs (b ∷ bs) no_regions h = absurd h
-counted_are entries outputs (b ∷ bs) (region_then r rs) h = ap suc (counted_are entries outputs bs rs h)
 
 pub instrs_labels : (is : List Instr) (k : Code) → code_labels (instrs_then is k) ≡ code_labels k
 instrs_labels [] k = refl

@@ -10,7 +10,7 @@ use Rattle.s_linear.specs.Lines.{Line, done}
 use Rattle.val_core.specs.Numbers.{numbers_from}
 use Rattle.s_sequence.specs.Sequence.{value_args, kept, without_states, moves}
 use Rattle.s_sequence.specs.Ports.{name_after}
-use Rattle.s_sequence.specs.Moves.{exit_lines}
+use Rattle.s_sequence.specs.Instructions.{exit_lines}
 
 pub kept_none : (ks : List (Option Kind)) → kept ks [] ≡ []
 kept_none [] = refl

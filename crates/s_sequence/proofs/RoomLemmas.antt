@@ -5,9 +5,9 @@ use Rattle.std.specs.declared.option.Option.{Option}
 use Rattle.std.specs.declared.option.Option.TheVariants.{None}
 use Rattle.g_graph.specs.declared.op.Kind.{Kind}
 use Rattle.g_graph.specs.declared.op.Origin.{Origin}
-use Rattle.g_graph.specs.Plain.{RegionTree, region, regions_of, args_of, results_of}
+use Rattle.g_graph.specs.Plain.{RegionTree, region, args_of, results_of}
 use Rattle.g_graph.specs.Signatures.{kind_of, kind_after, result_kinds}
-use Rattle.g_graph.specs.Count.{region_values, regions_values}
+use Rattle.g_graph.specs.Count.{region_values}
 use Rattle.s_sequence.specs.Sequence.{values_in, value_args, region_names}
 use Rattle.s_sequence.proofs.lemmas.Named.{args_length, values_length, nodes_names_values}
 
@@ -29,10 +29,6 @@ standing_room (region args nodes results) =
 
 pub value_each : (r : RegionTree) → 0 < region_values r
 value_each (region args nodes results) = omega arith
-
-pub count_room : (xs : List RegionTree) → length xs ≤ regions_values (regions_of xs)
-count_room [] = omega arith
-count_room (x ∷ xs) = omega (arith, value_each x, count_room xs)
 
 -- two regions, as a first and a rest
 pub second : (xs : List RegionTree) (r : RegionTree) → length xs ≡ 2 → r ≡ get_or xs 0 r →

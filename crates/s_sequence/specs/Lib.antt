@@ -1,9 +1,8 @@
 pub mod Sequence
 pub mod Ports
 pub mod Scope
-pub mod Ops
 pub mod Writer
-pub mod Moves
+pub mod Instructions
 pub mod Shape
 pub mod Written
 pub mod Laws

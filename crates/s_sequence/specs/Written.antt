@@ -1,6 +1,5 @@
 -- What is written of regions: the lines of parts of choices, and the numbers of labels.
 use Rattle.std.specs.Prelude.{◌≡◌, ℕ, zero, suc, ◌+◌, ◌<◌, ◌^◌, List, [], ◌∷◌, ◌++◌, map}
-use Rattle.std.specs.declared.option.Option.{Option}
 use Rattle.std.specs.declared.option.Option.TheVariants.{Some, None}
 use Rattle.g_graph.specs.declared.op.Kind.{Kind}
 use Rattle.g_graph.specs.declared.op.Origin.{Origin}
@@ -64,9 +63,6 @@ StepWritten old new scope x =
 
 abbrev pub node_ports : (next : ℕ) → NodeTree → PlainPorts
 node_ports next (node id op inputs rs) = ports_from (outputs_at next rs) (outputs_of op rs)
-
-abbrev pub kinds_after : NodeTree → List (Option Kind)
-kinds_after (node id op inputs rs) = outputs_of op rs
 
 -- branches on so many numbers from `number` on
 abbrev pub branch_lines : (predicate number first count : ℕ) → List Line

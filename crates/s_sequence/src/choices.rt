@@ -1,4 +1,6 @@
-ghost use Rattle.std.specs.Prelude.{◌≡◌, ◌+◌, ◌<◌, ◌^◌, [], ◌∷◌, ◌++◌, map, length, OnOk, IfOk};
+//! The lines of ops without regions, and the branches of a choice.
+
+ghost use Rattle.std.specs.Prelude.{◌≡◌, ◌+◌, ◌<◌, ◌^◌, [], ◌∷◌, ◌++◌, map, OnOk, IfOk};
 ghost use Rattle.std.specs.declared.option.Option.TheVariants.{Some};
 ghost use Rattle.g_graph.specs.Signatures.{op_outputs};
 ghost use Rattle.s_linear.specs.Lines.{done};

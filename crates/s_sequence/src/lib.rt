@@ -1,5 +1,4 @@
-//! The linear code of a lambda: the sequencing of its regions, and its laws. It stands on s_linear,
-//! g_graph, no_memory, val_core and c_lex.
+//! The linear code of a lambda: the sequencing of its regions, and its laws.
 #![tactic(auto)]
 
 mod choices;

@@ -1,3 +1,5 @@
+//! The lines at the end of a loop.
+
 ghost use Rattle.std.specs.Prelude.{◌≡◌, ◌+◌, ◌<◌, ◌^◌, [], ◌∷◌, ◌++◌, map, OnOk, IfOk};
 ghost use Rattle.std.specs.declared.option.Option.TheVariants.{Some};
 ghost use Rattle.s_linear.specs.Lines.{done, branch_zero, jump, label};

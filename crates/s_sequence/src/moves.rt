@@ -1,12 +1,14 @@
-ghost use Rattle.std.specs.Prelude.{◌≡◌, ◌+◌, ◌<◌, ◌^◌, [], map, OnOk, IfOk};
+//! Moves between names, as regions are entered and left.
+
+ghost use Rattle.std.specs.Prelude.{◌≡◌, ◌+◌, ◌<◌, ◌^◌, map, OnOk, IfOk};
 ghost use Rattle.std.specs.declared.option.Option.TheVariants.{Some};
 ghost use Rattle.s_linear.specs.Lines.{done};
 ghost use Rattle.val_core.specs.Numbers.{numbers_from};
 ghost use Rattle.s_sequence.specs.Sequence.{values_in, value_args, kept, moves};
 ghost use Rattle.s_sequence.specs.Ports.{name_after, port_added, ports_from};
-ghost use Rattle.s_sequence.specs.Scope.{port_in, name_in, kind_in};
+ghost use Rattle.s_sequence.specs.Scope.{name_in, kind_in};
 ghost use Rattle.s_sequence.specs.Writer.{with_lines};
-ghost use Rattle.s_sequence.specs.Moves.{exit_lines};
+ghost use Rattle.s_sequence.specs.Instructions.{exit_lines};
 
 use crate::ports::{Port, Ports};
 use crate::scope::Scope;

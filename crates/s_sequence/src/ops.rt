@@ -1,7 +1,9 @@
+//! The instructions of ops, over the names of their inputs.
+
 ghost use Rattle.std.specs.Prelude.{◌≡◌, map, IfOk};
 ghost use Rattle.s_linear.specs.Views.{instr_of};
 ghost use Rattle.s_sequence.specs.Sequence.{name_at, without_states, op_instr};
-ghost use Rattle.s_sequence.specs.Ops.{instr_with};
+ghost use Rattle.s_sequence.specs.Instructions.{instr_with};
 ghost use Rattle.s_sequence.specs.Scope.{name_in};
 
 use crate::scope::Scope;

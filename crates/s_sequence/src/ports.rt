@@ -1,4 +1,6 @@
-ghost use Rattle.std.specs.Prelude.{◌≡◌, ◌+◌, ◌<◌, ◌^◌, [], ◌∷◌, map, OnOk, IfOk};
+//! Arguments and outputs, each with its kind and its name.
+
+ghost use Rattle.std.specs.Prelude.{◌≡◌, ◌+◌, ◌<◌, ◌^◌, map, OnOk, IfOk};
 ghost use Rattle.std.specs.declared.option.Option.TheVariants.{Some};
 ghost use Rattle.s_sequence.specs.Sequence.{values_in};
 ghost use Rattle.s_sequence.specs.Ports.{ports_from, port_at, port_added, no_ports};

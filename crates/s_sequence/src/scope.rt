@@ -1,3 +1,5 @@
+//! The names and kinds of a region's origins.
+
 ghost use Rattle.std.specs.Prelude.{◌≡◌, ℕ, ◌==◌, if◌then◌else◌, map, OnOk, IfOk};
 ghost use Rattle.g_graph.specs.declared.op.Origin.TheVariants.{Out};
 ghost use Rattle.s_sequence.specs.Ports.{port_at};

@@ -1,3 +1,5 @@
+//! The linear code of a lambda, which is the call of the crate.
+
 ghost use Rattle.std.specs.Prelude.{◌≡◌, ◌<◌, ◌^◌, [], map, IfOk, OnOk};
 ghost use Rattle.g_graph.specs.Count.{region_values};
 ghost use Rattle.g_graph.specs.WellFormed.{IsWellFormed};

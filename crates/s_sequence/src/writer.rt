@@ -1,4 +1,6 @@
-ghost use Rattle.std.specs.Prelude.{◌≡◌, ◌+◌, ◌<◌, ◌^◌, [], ◌∷◌, map, OnOk};
+//! The writer of lines, with the names and labels that are free.
+
+ghost use Rattle.std.specs.Prelude.{◌≡◌, [], ◌∷◌, map, OnOk};
 ghost use Rattle.s_linear.specs.Linear.{move};
 ghost use Rattle.s_linear.specs.Lines.{done};
 ghost use Rattle.s_linear.specs.Views.{line_of};

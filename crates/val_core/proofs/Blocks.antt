@@ -38,9 +38,6 @@ map-changed p n f [] e = refl
 map-changed p zero f (k ∷ m) e = ap (λ x. x ∷ map p m) (e k)
 map-changed p (suc n) f (k ∷ m) e = ap (λ r. p k ∷ r) (map-changed p n f m e)
 
-sized : (b : BlockName) → Block → Option Block
-sized b k = cond (k.size == b.size) (Some k) None
-
 sized-changed : (b : BlockName) (f : Block → Block) (k : Block) (test : Bool) → (f k).size ≡ k.size → (k.size == b.size) ≡ test →
     cond ((f k).size == b.size) (Some (f k)) None ≡ option_map f (cond test (Some k) None)
 sized-changed b f k true same is = ap (λ s. cond (s == b.size) (Some (f k)) None) same ∙ ap (λ t. cond t (Some (f k)) None) is

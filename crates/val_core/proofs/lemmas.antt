@@ -1,4 +1,5 @@
 pub mod Words
+pub mod Views
 pub mod Values
 pub mod Objects
 pub mod Sound

@@ -1,6 +1,6 @@
 pub mod Words
+pub mod Views
 pub mod Values
-pub mod Kept
 pub mod Memory
 pub mod Objects
 pub mod Events

@@ -1,11 +1,10 @@
 -- Memory: a list of blocks, each named by its place in the list and its size (ISO/IEC 9899:2011, 6.2.4, 6.2.6.1,
 -- 6.5p7). It has no addresses.
-use Rattle.std.specs.Prelude.{ℕ, zero, suc, ◌==◌, ◌&&◌, not, Bool, true, false, if◌then◌else◌, List, [], ◌∷◌, map, slice_get, Option, None, Some, option_map, option_and_then}
+use Rattle.std.specs.Prelude.{ℕ, zero, suc, ◌*◌, ◌%◌, ◌^◌, ◌==◌, ◌&&◌, not, Bool, true, false, if◌then◌else◌, List, [], ◌∷◌, map, slice_get, Option, None, Some, option_map, option_and_then}
 use Rattle.std.specs.List.{list_any}
 use Rattle.std.specs.Option.{IfSome}
 use Rattle.val_core.specs.Words.{one_if}
-use Rattle.val_core.specs.Values.{BlockName, Value, Num, At, same_block, IsSound}
-pub use Rattle.val_core.specs.Kept.{kept}
+use Rattle.val_core.specs.Values.{BlockName, Value, Num, At, Bad, same_block, IsSound}
 use Rattle.val_core.specs.declared.leaf.Leaf.{Leaf}
 
 -- a leaf of a block, and its value, if it has one
@@ -66,6 +65,13 @@ cell_written width offset v c = if is_at width offset c then record c { value = 
 
 abbrev pub written : (width offset : ℕ) → Value → Block → Block
 written width offset v k = record k { cells = map (cell_written width offset v) k.cells }
+
+-- What a leaf of this width keeps of a value: the low bits of a word, an address only where it has room, and nothing of
+-- what has no meaning (6.3.1.3).
+abbrev pub kept : (width : ℕ) → Value → Option Value
+kept width (Num w) = Some (Num (w % 2 ^ (8 * width)))
+kept width (At b o) = if width == 4 then Some (At b o) else None
+kept width Bad = None
 
 -- The memory once a value is stored at an address: at a leaf of this width in a live block that is not fixed.
 abbrev pub store : (width : ℕ) → Value → Value → Memory → Option Memory

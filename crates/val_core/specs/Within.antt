@@ -35,10 +35,6 @@ pub record Given (V : Type 0) : Type 0 where
   pub memory : Memory
   pub input : List ℕ
 
--- the memory and the input are equal, and the values are as `N` says
-abbrev pub GivenRefines : {V W : Type 0} → (V → W → Type 0) → Given V → Given W → Type 0
-GivenRefines N x y = N x.value y.value × (x.memory ≡ y.memory) × (x.input ≡ y.input)
-
 -- the value of a function that ended without one may be any
 abbrev pub IsLessDefinedOption : Option Value → Value → Type 0
 IsLessDefinedOption None y = Unit {0}

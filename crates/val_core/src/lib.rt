@@ -1,7 +1,7 @@
-//! What a 32-bit operation gives on words and on values, and what runs of programs are compared by.
-//! Nearly every crate of the compiler stands on it; it stands on no other crate and takes no
-//! memory. Promise: `op1` and `op2` give the word that the arithmetic of whole numbers says, and
-//! the laws of values, memory, answers and runs hold as stated.
+//! Operations on words and on values, memory, answers, and bounded runs within each other.
+//! Promise: `op1` and `op2` give the word that the arithmetic of whole numbers says, and the laws
+//! of values, memory, answers and runs hold as stated.
+//! Always: an operation on sound values gives a sound value, and it takes no memory.
 #![tactic(auto)]
 
 pub mod laws;

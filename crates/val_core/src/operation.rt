@@ -1,3 +1,5 @@
+//! The operations, by name: on two words, and on one.
+
 /// An operation on two words.
 #[derive(Clone, Copy, PartialEq, Eq, Hash, Debug)]
 pub enum Op2 {

@@ -1,6 +1,8 @@
+//! Values, and what an operation and a store make of them.
+
 ghost use Rattle.std.specs.Prelude.{◌≡◌};
 ghost use Rattle.val_core.specs.Values.{address, value1, value2};
-ghost use Rattle.val_core.specs.Kept.{kept};
+ghost use Rattle.val_core.specs.Memory.{kept};
 
 use crate::operation::{Op1, Op2};
 use crate::word::{op1, op2};

@@ -1,5 +1,7 @@
+//! What the operations give on words.
+
 ghost use Rattle.std.specs.Prelude.{◌≡◌};
-ghost use Rattle.val_core.specs.Words.{word1, word2, quotient, remainder, shifted_down, one_if};
+ghost use Rattle.val_core.specs.Words.{word1, word2, quotient, remainder, shifted_down};
 
 use crate::operation::{Op1, Op2};
 

@@ -12,7 +12,7 @@ use Rattle.a_place.proofs.lemmas.Names.{below_name_count}
 
 -- ---- the least place is free
 
-pub held_below : (lines : List Line) (x : ℕ) (gs : List Given) (p : ℕ) → held lines x gs p ≡ true → p < count_of gs
+held_below : (lines : List Line) (x : ℕ) (gs : List Given) (p : ℕ) → held lines x gs p ≡ true → p < count_of gs
 held_below lines x [] p e = cc
 held_below lines x (g ∷ gs) p e =
     elim (or_cases ((g.place == p) && overlap lines g.name x) (held lines x gs p) e) [

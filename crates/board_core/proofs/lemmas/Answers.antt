@@ -26,7 +26,7 @@ module _ {M : Type 0} where
   some-of None h = absurd (false≢true h)
   some-of (Some made) h = (made, refl)
 
-  pub out-of : (it : Job M) (made : M) → result_of it ≡ Some made → it ≡ Out made
+  out-of : (it : Job M) (made : M) → result_of it ≡ Some made → it ≡ Out made
   out-of Open made e = cc
   out-of (Held worker) made e = cc
   out-of (Out other) made e = let same : other ≡ made = cc in ap Out same

@@ -28,27 +28,27 @@ written-back xs new n e f =
     ap (λ ys. take n (new ++ ys)) (drop_all (length new) xs (omega arith)) ∙ (ap (take n) (append-nil new) ∙ take_all n new (omega arith))
 
 module _ {M : Type 0} where
-  pub out-some : (it : Job M) → job_state_of it ≡ OutState → IsSome (result_of it)
+  out-some : (it : Job M) → job_state_of it ≡ OutState → IsSome (result_of it)
   out-some Open e = cc
   out-some (Held worker) e = cc
   out-some (Out made) e = refl
 
-  pub some-out : (it : Job M) → IsSome (result_of it) → job_state_of it ≡ OutState
+  some-out : (it : Job M) → IsSome (result_of it) → job_state_of it ≡ OutState
   some-out Open e = absurd (false≢true e)
   some-out (Held worker) e = absurd (false≢true e)
   some-out (Out made) e = refl
 
-  pub open-of : (it : Job M) → job_state_of it ≡ OpenState → it ≡ Open
+  open-of : (it : Job M) → job_state_of it ≡ OpenState → it ≡ Open
   open-of Open e = refl
   open-of (Held worker) e = cc
   open-of (Out made) e = cc
 
-  pub held-of : (it : Job M) (worker : ℕ) → job_state_of it ≡ HeldState worker → it ≡ Held worker
+  held-of : (it : Job M) (worker : ℕ) → job_state_of it ≡ HeldState worker → it ≡ Held worker
   held-of Open worker e = cc
   held-of (Held other) worker e = let same : other ≡ worker = cc in ap Held same
   held-of (Out made) worker e = cc
 
-  pub job_state-at : (job_states : List JobState) (jobs : List (Job M)) → job_states ≡ map job_state_of jobs → (j : ℕ) → job_state_at job_states j ≡ job_state_of (slice_index_or jobs j Open)
+  job_state-at : (job_states : List JobState) (jobs : List (Job M)) → job_states ≡ map job_state_of jobs → (j : ℕ) → job_state_at job_states j ≡ job_state_of (slice_index_or jobs j Open)
   job_state-at job_states jobs are j =
       ap (λ xs. job_state_at xs j) are
       ∙ elim (cases_lt j (length jobs)) [

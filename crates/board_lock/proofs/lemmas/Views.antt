@@ -44,13 +44,13 @@ beginnings-meet (x ∷ xs) (y ∷ ys) more others same =
 
 -- ---- own events
 
-pub own-more : (number : ℕ) (log : List Event) (event : Event) → own_events number (log ++ event ∷ []) ≡ own_events number log ++ own_events number (event ∷ [])
+own-more : (number : ℕ) (log : List Event) (event : Event) → own_events number (log ++ event ∷ []) ≡ own_events number log ++ own_events number (event ∷ [])
 own-more number log event = filter-append (λ e. worker_of e == number) log (event ∷ [])
 
 pub own-event : (number : ℕ) (log : List Event) (event : Event) → worker_of event ≡ number → own_events number (log ++ event ∷ []) ≡ own_events number log ++ event ∷ []
 own-event number log event is = own-more number log event ∙ ap (λ (l : List Event). own_events number log ++ l) (rw (eq-eqb (worker_of event) number is) refl)
 
-pub other-event : (number : ℕ) (log : List Event) (event : Event) → worker_of event ≢ number → own_events number (log ++ event ∷ []) ≡ own_events number log
+other-event : (number : ℕ) (log : List Event) (event : Event) → worker_of event ≢ number → own_events number (log ++ event ∷ []) ≡ own_events number log
 other-event number log event other =
     own-more number log event ∙ ap (λ (l : List Event). own_events number log ++ l) (rw (ne_eqb (worker_of event) number other) refl) ∙ append-nil (own_events number log)
 
@@ -74,7 +74,7 @@ grown-event id log now event is by =
 pub begins-grown : (id : ℕ) (front log now : List Event) → IsGrown id log now → IsBeginning front log → IsBeginning front now
 begins-grown id front log now grown begins = subst (IsBeginning front) (sym grown.now_is) (begins-longer front log grown.more begins)
 
-pub weight-le : {W : Type 0} (program : Option (History W)) → program_weight program ≤ 1
+weight-le : {W : Type 0} (program : Option (History W)) → program_weight program ≤ 1
 weight-le None = omega arith
 weight-le (Some program) = omega arith
 
@@ -91,7 +91,7 @@ module _ {W M : Type 0} where
       let is : program_weight x.program ≡ program_weight old.program = ap (λ (v : View W M). program_weight v.program) (some-injective x old at) in omega arith
   spents-set (x ∷ xs) (suc i) old new at = let rest = spents-set xs i old new at in omega arith
 
-  pub spents-le : (views : List (View W M)) → spents views ≤ length views
+  spents-le : (views : List (View W M)) → spents views ≤ length views
   spents-le [] = omega arith
   spents-le (x ∷ xs) = let one = weight-le x.program in let rest = spents-le xs in omega arith
 
@@ -117,7 +117,7 @@ module _ {W M : Type 0} where
       (λ (e : (0 ≢ id) × (get_elem? views 0 ≡ some u)). let was = counts u e.1 in (long ∙ was.0, spent_are ∙ was.1))
       (at_set views id 0 w u there)
 
-  abbrev pub AllTaken : List (View W M) → Type 0
+  abbrev AllTaken : List (View W M) → Type 0
   AllTaken views = (id : ℕ) (first : View W M) → get_elem? views 0 ≡ some first → get_elem? views id ≡ some spent → Holds first.taken id
 
   pub all-taken-stays : (views : List (View W M)) (id : ℕ) (v w : View W M) → get_elem? views id ≡ some v → w ≢ spent → w.taken ≡ v.taken → AllTaken views → AllTaken (set views id w)

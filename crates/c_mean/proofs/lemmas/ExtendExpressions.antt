@@ -9,7 +9,7 @@ use Rattle.c_typed.specs.WellTyped.{type_of}
 use Rattle.c_mean.specs.State.{State}
 use Rattle.c_mean.specs.Expressions.{Call, Context, given_word, expr_run, form_run, dropped_run, arguments_run, place_run, place_form_run}
 use Rattle.c_mean.specs.RunLaws.{Extends}
-use Rattle.c_mean.proofs.lemmas.Extends.{extends-itself, extends-then, extends-used, extends-branched}
+use Rattle.c_mean.proofs.Extends.{extends-itself, extends-then, extends-used, extends-branched}
 
 module _ (n m : ℕ) (calls calls' : ℕ → Call) (addresses : Addresses)
     (more : (f : ℕ) (vs : List Value) (k : Memory) (i : List ℕ) → Extends (calls f vs k i) (calls' f vs k i)) where

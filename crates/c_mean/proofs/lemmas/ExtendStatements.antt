@@ -11,7 +11,7 @@ use Rattle.c_mean.specs.Expressions.{Call, Context, expr_run}
 use Rattle.c_mean.specs.Statements.{Flow, normal, broke, continued, returned, Flowed, goes_on, if_normal, after_turn, optional_step, while_true, loop_run, do_run, elements_run, value_begun, object_begun, begun, declared, group_count, chosen_groups, groups_done, stmt_run, items_run, groups_runs}
 use Rattle.c_typed.specs.Objects.{object_number}
 use Rattle.c_mean.specs.RunLaws.{Extends}
-use Rattle.c_mean.proofs.lemmas.Extends.{extends-itself, extends-then, extends-defined, extends-number, extends-used, extends-branched}
+use Rattle.c_mean.proofs.Extends.{extends-itself, extends-then, extends-defined, extends-number, extends-used, extends-branched}
 use Rattle.c_mean.proofs.lemmas.ExtendExpressions.{expr-extends}
 
 extends-normal : (f : Flow) (s : State) (next next' : State → Answer Flowed) → ((t : State) → Extends (next t) (next' t)) → Extends (if_normal f s next) (if_normal f s next')

@@ -24,10 +24,10 @@ use Rattle.c_mean.proofs.lemmas.Taken.{Takes, takes-then, takes-defined, takes-n
 abbrev pub of_value : Valued → List ℕ
 of_value x = x.state.input
 
-abbrev pub of_place : Located → List ℕ
+abbrev of_place : Located → List ℕ
 of_place x = x.state.input
 
-abbrev pub of_arguments : Arguments → List ℕ
+abbrev of_arguments : Arguments → List ℕ
 of_arguments x = x.state.input
 
 abbrev pub of_given : Given (Option Value) → List ℕ

@@ -6,7 +6,7 @@ use Rattle.c_type.specs.Trees.{TypeTree, void_type, scalar_type, pointer_to, arr
 use Rattle.c_type.specs.Layout.{Definitions, rounded_up, scalar_size, align, align_by, struct_align, largest, members_end}
 
 -- at least 1 and at most 4
-abbrev pub Between : ℕ → Type 0
+abbrev Between : ℕ → Type 0
 Between n = (0 < n) × (n ≤ 4)
 
 scalar-between : (s : Scalar) → Between (scalar_size s)
@@ -33,7 +33,7 @@ pick : (test : Bool) (m n : ℕ) → Between m → Between n → Between (cond t
 pick true m n h k = h
 pick false m n h k = k
 
-pub struct-between : (defs : Definitions) (tag : ℕ) → Between (struct_align defs tag)
+struct-between : (defs : Definitions) (tag : ℕ) → Between (struct_align defs tag)
 struct-between [] tag = (omega arith, omega arith)
 struct-between (d ∷ ds) tag =
     let own = largest-between (align ds) (by-between (struct_align ds) (struct-between ds)) d.members in

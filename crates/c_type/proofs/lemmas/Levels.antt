@@ -20,21 +20,21 @@ other-tag defs tag new here absent = by_test (new == tag) refl where
     clash h = cc
 
 module _ (d : Definition) (ds : Definitions) (new : is_defined ds d.tag ≡ false) where
-  pub size-later : (t : TypeTree) → is_complete ds t ≡ true → size (d ∷ ds) t ≡ size ds t
+  size-later : (t : TypeTree) → is_complete ds t ≡ true → size (d ∷ ds) t ≡ size ds t
   size-later void_type h = refl
   size-later (scalar_type s) h = refl
   size-later (pointer_to t) h = refl
   size-later (array_of t n) h = ap (λ s. n * s) (size-later t (and_parts (not (n == 0)) (is_complete ds t) h).1)
   size-later (struct_type k) h = ap (λ b. cond b (rounded_up (members_end (size ds) (align ds) 0 d.members) (largest (align ds) d.members)) (struct_size ds k)) (other-tag ds k d.tag h new)
 
-  pub align-later : (t : TypeTree) → is_complete ds t ≡ true → align (d ∷ ds) t ≡ align ds t
+  align-later : (t : TypeTree) → is_complete ds t ≡ true → align (d ∷ ds) t ≡ align ds t
   align-later void_type h = refl
   align-later (scalar_type s) h = refl
   align-later (pointer_to t) h = refl
   align-later (array_of t n) h = align-later t (and_parts (not (n == 0)) (is_complete ds t) h).1
   align-later (struct_type k) h = ap (λ b. cond b (largest (align ds) d.members) (struct_align ds k)) (other-tag ds k d.tag h new)
 
-  pub leaves-later : (t : TypeTree) → is_complete ds t ≡ true → leaves_at (d ∷ ds) t ≡ leaves_at ds t
+  leaves-later : (t : TypeTree) → is_complete ds t ≡ true → leaves_at (d ∷ ds) t ≡ leaves_at ds t
   leaves-later void_type h = refl
   leaves-later (scalar_type s) h = refl
   leaves-later (pointer_to t) h = refl
@@ -44,17 +44,17 @@ module _ (d : Definition) (ds : Definitions) (new : is_defined ds d.tag ≡ fals
   leaves-later (struct_type k) h =
       fun_ext (λ at. ap (λ b. cond b (members_leaves (size ds) (align ds) (leaves_at ds) at 0 d.members) (struct_leaves ds k at)) (other-tag ds k d.tag h new))
 
-  pub members-later : (k : ℕ) → is_defined ds k ≡ true → members (d ∷ ds) k ≡ members ds k
+  members-later : (k : ℕ) → is_defined ds k ≡ true → members (d ∷ ds) k ≡ members ds k
   members-later k h = ap (λ b. cond b d.members (members ds k)) (other-tag ds k d.tag h new)
 
-  pub normal-later : (t : TypeTree) → is_complete ds t ≡ true → is_normal (d ∷ ds) t ≡ is_normal ds t
+  normal-later : (t : TypeTree) → is_complete ds t ≡ true → is_normal (d ∷ ds) t ≡ is_normal ds t
   normal-later void_type h = refl
   normal-later (scalar_type s) h = refl
   normal-later (pointer_to t) h = refl
   normal-later (array_of t n) h = ap (λ b. not (n == 1) && b) (normal-later t (and_parts (not (n == 0)) (is_complete ds t) h).1)
   normal-later (struct_type k) h = ap (λ ms. not (length ms == 1)) (members-later k h)
 
-  pub complete-later : (t : TypeTree) → is_complete ds t ≡ true → is_complete (d ∷ ds) t ≡ true
+  complete-later : (t : TypeTree) → is_complete ds t ≡ true → is_complete (d ∷ ds) t ≡ true
   complete-later void_type h = h
   complete-later (scalar_type s) h = h
   complete-later (pointer_to t) h = h
@@ -65,26 +65,26 @@ module _ (d : Definition) (ds : Definitions) (new : is_defined ds d.tag ≡ fals
 
 -- ---- functions that agree on the members
 
-abbrev pub Agree : {X : Type 0} → (f g : TypeTree → X) → List TypeTree → Type 0
+abbrev Agree : {X : Type 0} → (f g : TypeTree → X) → List TypeTree → Type 0
 Agree f g [] = Unit {0}
 Agree f g (t ∷ ts) = (f t ≡ g t) × Agree f g ts
 
-pub end-agree : (s s' a a' : TypeTree → ℕ) (at : ℕ) (ts : List TypeTree) → Agree s s' ts → Agree a a' ts → members_end s a at ts ≡ members_end s' a' at ts
+end-agree : (s s' a a' : TypeTree → ℕ) (at : ℕ) (ts : List TypeTree) → Agree s s' ts → Agree a a' ts → members_end s a at ts ≡ members_end s' a' at ts
 end-agree s s' a a' at [] h k = refl
 end-agree s s' a a' at (t ∷ ts) h k =
     ap₂ (λ x y. members_end s a (rounded_up at y + x) ts) h.0 k.0 ∙ end-agree s s' a a' (rounded_up at (a' t) + s' t) ts h.1 k.1
 
-pub largest-agree : (a a' : TypeTree → ℕ) (ts : List TypeTree) → Agree a a' ts → largest a ts ≡ largest a' ts
+largest-agree : (a a' : TypeTree → ℕ) (ts : List TypeTree) → Agree a a' ts → largest a ts ≡ largest a' ts
 largest-agree a a' [] h = refl
 largest-agree a a' (t ∷ ts) h = ap₂ (λ x y. max x y) h.0 (largest-agree a a' ts h.1)
 
-pub offset-agree : (s s' a a' : TypeTree → ℕ) (at : ℕ) (ts : List TypeTree) (i : ℕ) → Agree s s' ts → Agree a a' ts → offset_from s a at ts i ≡ offset_from s' a' at ts i
+offset-agree : (s s' a a' : TypeTree → ℕ) (at : ℕ) (ts : List TypeTree) (i : ℕ) → Agree s s' ts → Agree a a' ts → offset_from s a at ts i ≡ offset_from s' a' at ts i
 offset-agree s s' a a' at [] i h k = refl
 offset-agree s s' a a' at (t ∷ ts) zero h k = ap (λ y. rounded_up at y) k.0
 offset-agree s s' a a' at (t ∷ ts) (suc i) h k =
     ap₂ (λ x y. offset_from s a (rounded_up at y + x) ts i) h.0 k.0 ∙ offset-agree s s' a a' (rounded_up at (a' t) + s' t) ts i h.1 k.1
 
-pub leaves-agree : (s s' a a' : TypeTree → ℕ) (l l' : TypeTree → ℕ → List Leaf) (start at : ℕ) (ts : List TypeTree) → Agree s s' ts → Agree a a' ts → Agree l l' ts →
+leaves-agree : (s s' a a' : TypeTree → ℕ) (l l' : TypeTree → ℕ → List Leaf) (start at : ℕ) (ts : List TypeTree) → Agree s s' ts → Agree a a' ts → Agree l l' ts →
     members_leaves s a l start at ts ≡ members_leaves s' a' l' start at ts
 leaves-agree s s' a a' l l' start at [] h k j = refl
 leaves-agree s s' a a' l l' start at (t ∷ ts) h k j =

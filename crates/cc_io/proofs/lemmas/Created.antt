@@ -10,15 +10,15 @@ use Rattle.cc_io.specs.Files.{Name, FileSet, put_file, append_file}
 use Rattle.cc_io.specs.Created.{written_content, without_file, other_files, is_same_file, other_left}
 
 -- a name is itself
-pub bytes_eq-same : (name : Name) → bytes_eq name name ≡ true
+bytes_eq-same : (name : Name) → bytes_eq name name ≡ true
 bytes_eq-same name = (bytes_eq-Decides name name).1 refl
 
-pub append-option_map : (held : Option (List ℕ)) (bytes : List ℕ) → option_map (λ h. h ++ bytes) held ≡ append held bytes
+append-option_map : (held : Option (List ℕ)) (bytes : List ℕ) → option_map (λ h. h ++ bytes) held ≡ append held bytes
 append-option_map None bytes = refl
 append-option_map (Some held) bytes = refl
 
 -- bytes appended to the file that is written
-pub append_file-same : (name : Name) (bytes : List ℕ) (files : FileSet) → append_file name bytes files name ≡ append (files name) bytes
+append_file-same : (name : Name) (bytes : List ℕ) (files : FileSet) → append_file name bytes files name ≡ append (files name) bytes
 append_file-same name bytes files =
     ap (λ b. cond b (option_map (λ h. h ++ bytes) (files name)) (files name)) (bytes_eq-same name) ∙ append-option_map (files name) bytes
 
@@ -27,15 +27,15 @@ skip true x y z = refl
 skip false x y z = refl
 
 -- the files without one do not depend on what it holds
-pub without-append : (name : Name) (bytes : List ℕ) (files : FileSet) → without_file name (append_file name bytes files) ≡ without_file name files
+without-append : (name : Name) (bytes : List ℕ) (files : FileSet) → without_file name (append_file name bytes files) ≡ without_file name files
 without-append name bytes files =
     fun_ext (λ other. skip (bytes_eq name other) (option_map (λ h. h ++ bytes) (files other)) (files other) None)
 
-pub without-put : (name : Name) (bytes : List ℕ) (files : FileSet) → without_file name (put_file name bytes files) ≡ without_file name files
+without-put : (name : Name) (bytes : List ℕ) (files : FileSet) → without_file name (put_file name bytes files) ≡ without_file name files
 without-put name bytes files = fun_ext (λ other. skip (bytes_eq name other) (Some bytes) (files other) None)
 
 -- a write as the sink's caller sees it
-pub written-append : (writing writing' : Option Name) (known known' : Option FileSet) (bytes : List ℕ) → ForSome writing (λ name. known' ≡ option_map (append_file name bytes) known)
+written-append : (writing writing' : Option Name) (known known' : Option FileSet) (bytes : List ℕ) → ForSome writing (λ name. known' ≡ option_map (append_file name bytes) known)
     → writing' ≡ writing → written_content writing' known' ≡ append (written_content writing known) bytes
 written-append None writing' known known' bytes step same = ap (λ w. written_content w known') same
 written-append (Some name) writing' None known' bytes step same =
@@ -43,7 +43,7 @@ written-append (Some name) writing' None known' bytes step same =
 written-append (Some name) writing' (Some files) known' bytes step same =
     ap (λ w. written_content w known') same ∙ ap (written_content (Some name)) (step name refl) ∙ append_file-same name bytes files
 
-pub others-append : (writing writing' : Option Name) (known known' : Option FileSet) (bytes : List ℕ) → ForSome writing (λ name. known' ≡ option_map (append_file name bytes) known)
+others-append : (writing writing' : Option Name) (known known' : Option FileSet) (bytes : List ℕ) → ForSome writing (λ name. known' ≡ option_map (append_file name bytes) known)
     → writing' ≡ writing → other_files writing' known' ≡ other_files writing known
 others-append None writing' known known' bytes step same = ap (λ w. other_files w known') same
 others-append (Some name) writing' None known' bytes step same =
@@ -87,7 +87,7 @@ module _ (name : Name) (bytes : List ℕ) (f g : FileSet) (held : g name ≡ Som
       let e : cond (bytes_eq name other) None (g other) ≡ cond (bytes_eq name other) None (f other) = ap (λ h. h other) others in
       rw differ at e
 
-  pub put-together : g ≡ put_file name bytes f
+  put-together : g ≡ put_file name bytes f
   put-together = fun_ext (λ other. at_other other (bytes_eq name other) refl)
 
 -- the one file and the other files make the whole

@@ -1,4 +1,4 @@
-use Rattle.cc_top.specs.Report.{outcome_of, said_by}
+use Rattle.cc_report.specs.Report.{outcome_of, said_by}
 use Rattle.cc_top.proofs.CompleteLemmas.{completes}
 use Rattle.cc_top.proofs.top.Goals as goal
 

@@ -26,7 +26,7 @@ pub record Places (i : Sections) : Type 0 where
 next_page-le : (n : ℕ) → next_page n ≤ n + 4095
 next_page-le n = omega arith
 
-pub places : (i : Sections) → IsPlaced i → Places i
+places : (i : Sections) → IsPlaced i → Places i
 places i p =
     let a = p.fixed_place in
     let a1 = le-next_page (65536 + length i.text) in
@@ -53,12 +53,12 @@ places i p =
       sum = sizes;
     }
 
-pub are_separate-two : (size : ℕ) (t d : ProgramHeader) → is_contained size t ≡ true → is_contained size d ≡ true → is_apart t d ≡ true
+are_separate-two : (size : ℕ) (t d : ProgramHeader) → is_contained size t ≡ true → is_contained size d ≡ true → is_apart t d ≡ true
     → are_separate size (t ∷ d ∷ []) ≡ true
 unfolding are_separate
 are_separate-two size t d c1 c2 a = rw c1 rw c2 rw a refl
 
-pub are_separate-three : (size : ℕ) (t f d : ProgramHeader) → is_contained size t ≡ true → is_contained size f ≡ true → is_contained size d ≡ true
+are_separate-three : (size : ℕ) (t f d : ProgramHeader) → is_contained size t ≡ true → is_contained size f ≡ true → is_contained size d ≡ true
     → is_apart t f ≡ true → is_apart t d ≡ true → is_apart f d ≡ true
     → are_separate size (t ∷ f ∷ d ∷ []) ≡ true
 unfolding are_separate
@@ -69,11 +69,11 @@ or-third true b c d e = refl
 or-third false true c d e = refl
 or-third false false c d e = rw e refl
 
-pub apart-before : (a b : ProgramHeader) → a.at + a.memory_size ≤ b.at → is_apart a b ≡ true
+apart-before : (a b : ProgramHeader) → a.at + a.memory_size ≤ b.at → is_apart a b ≡ true
 unfolding is_apart
 apart-before a b below = or-third (a.memory_size == 0) (b.memory_size == 0) _ (nat_le (b.at + b.memory_size) a.at) (le-leb (a.at + a.memory_size) b.at below)
 
-pub contained : (size : ℕ) (h : ProgramHeader) → h.file_size ≤ h.memory_size → h.offset + h.file_size ≤ size → h.at + h.memory_size ≤ 2 ^ 32 → is_contained size h ≡ true
+contained : (size : ℕ) (h : ProgramHeader) → h.file_size ≤ h.memory_size → h.offset + h.file_size ≤ size → h.at + h.memory_size ≤ 2 ^ 32 → is_contained size h ≡ true
 unfolding is_contained
 contained size h a b c =
     rw (le-leb h.file_size h.memory_size a) rw (le-leb (h.offset + h.file_size) size b) rw (le-leb (h.at + h.memory_size) (2 ^ 32) c) refl

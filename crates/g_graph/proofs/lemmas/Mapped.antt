@@ -34,9 +34,3 @@ mapped_all f (suc from) to [] h = refl
 mapped_all f from zero (x ∷ xs) h = absurd (omega arith)
 mapped_all f zero (suc to) (x ∷ xs) h = ap (λ ys. f x ∷ ys) (mapped_all f zero to xs (omega arith))
 mapped_all f (suc from) (suc to) (x ∷ xs) h = ap (λ ys. x ∷ ys) (mapped_all f from to xs (omega arith))
-
-pub length-mapped : {X : Type 0} (f : X → X) (from to : ℕ) (xs : List X) → length (mapped f from to xs) ≡ length xs
-length-mapped f from to [] = refl
-length-mapped f from zero (x ∷ xs) = refl
-length-mapped f zero (suc to) (x ∷ xs) = ap suc (length-mapped f zero to xs)
-length-mapped f (suc from) (suc to) (x ∷ xs) = ap suc (length-mapped f from to xs)

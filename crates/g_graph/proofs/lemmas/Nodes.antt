@@ -40,7 +40,7 @@ pub own_times : (x : NodeTree) → 1 ≤ times (id_of x) (node_ids x)
 own_times (node id op inputs rs) = omega (arith, times_cons id id (regions_ids rs) ∙ ap (λ t. (if t then 1 else 0) + times id (regions_ids rs)) (same_number_true id))
 
 -- of a node and what stands before and after it each number stands once at most
-pub once_in : (next : ℕ) (before : NodeTrees) (x : NodeTree) (after : NodeTrees) → Numbered next (nodes_ids (joined_nodes before (node_then x after))) → (m : ℕ) →
+once_in : (next : ℕ) (before : NodeTrees) (x : NodeTree) (after : NodeTrees) → Numbered next (nodes_ids (joined_nodes before (node_then x after))) → (m : ℕ) →
     times m (nodes_ids before) + times m (node_ids x) + times m (nodes_ids after) ≤ 1
 once_in next before x after numbers m =
     omega (

@@ -1,17 +1,16 @@
 -- Redirected nodes and regions: only inputs and results change. Numbers, counts, kinds, states and what is nested stay.
 use Rattle.std.proofs.Common.{◌≡◌, ℕ, ◌+◌, ◌++◌, Bool, ◌&&◌, List, [], ◌∷◌, map, length, refl, ap}
 use Rattle.std.specs.Prelude.{◌==◌, ◌||◌, slice_get, if◌then◌else◌}
-use Rattle.std.proofs.lemmas.List.{length-map}
 use Rattle.std.specs.declared.option.Option.{Option}
 use Rattle.std.specs.declared.option.Option.TheVariants.{None}
 use Rattle.g_graph.specs.declared.op.Kind.{Kind}
 use Rattle.g_graph.specs.declared.op.Origin.{Origin}
-use Rattle.g_graph.specs.declared.op.Origin.TheVariants.{Arg, Out}
+use Rattle.g_graph.specs.declared.op.Origin.TheVariants.{Out}
 use Rattle.g_graph.specs.Plain.{RegionTree, region, NodeTree, node, NodeTrees, no_nodes, node_then, nodes_of}
 use Rattle.g_graph.specs.Signatures.{joined, outputs_of, kind_after}
-use Rattle.g_graph.specs.Count.{region_values, nodes_values, regions_values}
+use Rattle.g_graph.specs.Count.{nodes_values, regions_values}
 use Rattle.g_graph.specs.Ids.{region_ids, nodes_ids, regions_ids}
-use Rattle.g_graph.specs.Scope.{is_of, known, last_index, origin_at, state_after}
+use Rattle.g_graph.specs.Scope.{is_of, last_index, origin_at, state_after}
 use Rattle.g_graph.specs.WellFormed.{some_of, gives, every_in_nodes, every_in_regions}
 use Rattle.g_graph.specs.Replace.{node_redirected, nodes_redirected, region_redirected}
 
@@ -30,17 +29,10 @@ pub nodes_values-redirected : (f : Origin → Origin) (ns : NodeTrees) → nodes
 nodes_values-redirected f no_nodes = refl
 nodes_values-redirected f (node_then (node id op inputs rs) ns) = ap (λ n. 1 + length (outputs_of op rs) + regions_values rs + n) (nodes_values-redirected f ns)
 
-pub region_values-redirected : (f : Origin → Origin) (r : RegionTree) → region_values (region_redirected f r) ≡ region_values r
-region_values-redirected f (region args nodes results) = λ i. 1 + length args + nodes_values-redirected f nodes i + length-map results f i
-
 pub kind_after-redirected : (f : Origin → Origin) (ns : NodeTrees) (n p : ℕ) (before : Option Kind) → kind_after (nodes_redirected f ns) n p before ≡ kind_after ns n p before
 kind_after-redirected f no_nodes n p before = refl
 kind_after-redirected f (node_then (node id op inputs rs) ns) n p before =
     kind_after-redirected f ns n p (if id == n then joined (slice_get (outputs_of op rs) p) else before)
-
-pub known-redirected : (f : Origin → Origin) (args : List Kind) (ns : NodeTrees) (o : Origin) → known args (nodes_redirected f ns) o ≡ known args ns o
-known-redirected f args ns (Arg k) = refl
-known-redirected f args ns (Out n p) = kind_after-redirected f ns n p None
 
 pub state_after-redirected : (f : Origin → Origin) (k : Kind) (ns : NodeTrees) (found : Option Origin) → state_after k (nodes_redirected f ns) found ≡ state_after k ns found
 state_after-redirected f k no_nodes found = refl

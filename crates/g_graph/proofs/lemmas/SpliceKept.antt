@@ -455,7 +455,7 @@ module _ (objects : ℕ) (args : List Kind) (before : NodeTrees) (x : NodeTree) 
       every_in_nodes-joined T before (joined_nodes (nodes_redirected (args_to_inputs is) replacement) (nodes_redirected given after))
       ∙ (λ i. first i && (every_in_nodes-joined T (nodes_redirected (args_to_inputs is) replacement) (nodes_redirected given after) ∙ (λ j. middle j && last j)) i)
 
-pub replacement_kept : (objects : ℕ) (args : List Kind) (before : List NodeTree) (x : NodeTree) (after : NodeTrees) (own : List Kind) (replacement : List NodeTree) (outs is results : List Origin) →
+replacement_kept : (objects : ℕ) (args : List Kind) (before : List NodeTree) (x : NodeTree) (after : NodeTrees) (own : List Kind) (replacement : List NodeTree) (outs is results : List Origin) →
     ReplacementFits objects args (nodes_of before) x after own (nodes_of replacement) outs is →
     every_region (region_fits objects) (region args (joined_nodes (nodes_of before) (node_then x after)) results) ≡ true →
     RegionKept objects (region args (joined_nodes (nodes_of before) (node_then x after)) results)

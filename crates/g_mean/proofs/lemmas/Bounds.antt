@@ -47,7 +47,7 @@ module _ (cmp : Comparison) (g : Compares cmp) (direction : Direction) (N : Datu
               (entered m (applied ls global m) global (slice_get ls f) ys) (body.on xs ys near);
         }
 
-  pub region_at-more : (ls : List PlainLambda) (addresses : Addresses) → ((j : ℕ) → N (val (addresses.local j)) (val (addresses.local j))) →
+  region_at-more : (ls : List PlainLambda) (addresses : Addresses) → ((j : ℕ) → N (val (addresses.local j)) (val (addresses.local j))) →
       ((j : ℕ) → N (val (addresses.global j)) (val (addresses.global j))) → (r : RegionTree) (n m : ℕ) → InOrder direction n m → (xs ys : List Datum) → Paired N xs ys →
       Refines cmp direction (Paired N) (region_at n ls r xs addresses) (region_at m ls r ys addresses)
   region_at-more ls addresses locals globals r n m order xs ys near =

@@ -31,7 +31,7 @@ mutual
   regions-itself P no_regions = tt
   regions-itself P (region_then r rs) = (same-itself P r, regions-itself P rs)
 
-abbrev pub FoundSameBut : (P : RegionTree → RegionTree → Type 0) → Option PlainLambda → Option PlainLambda → Type 0
+abbrev FoundSameBut : (P : RegionTree → RegionTree → Type 0) → Option PlainLambda → Option PlainLambda → Type 0
 FoundSameBut P None None = Unit {0}
 FoundSameBut P (Some l) (Some k) = LambdaSameBut P l k
 FoundSameBut P _ _ = ⊥
@@ -48,7 +48,7 @@ found-itself P None = tt
 found-itself P (Some l) = record { number = refl; params = refl; objects = refl; body = same-itself P l.body }
 
 module _ (cmp : Comparison) (g : Compares cmp) (direction : Direction) (N : Datum → Datum → Type 0) (k : IsKept N) where
-  pub changed-refines : (n : ℕ) (f : Datum → Datum) → ((x y : Datum) → N x y → N (f x) (f y)) → (xs ys : List Datum) → Paired N xs ys → Paired N (changed_at n f xs) (changed_at n f ys)
+  changed-refines : (n : ℕ) (f : Datum → Datum) → ((x y : Datum) → N x y → N (f x) (f y)) → (xs ys : List Datum) → Paired N xs ys → Paired N (changed_at n f xs) (changed_at n f ys)
   changed-refines n f h [] [] near = tt
   changed-refines zero f h (x ∷ xs) (y ∷ ys) near = (h x y near.0, near.1)
   changed-refines (suc n) f h (x ∷ xs) (y ∷ ys) near = (near.0, changed-refines n f h xs ys near.1)

@@ -23,7 +23,7 @@ pub record Ran (c : Context) (xs : List Datum) (o : Outputs) (n : ℕ) (ns : Nod
   pub number : id_of found ≡ n
   pub run : HasRun c xs o found
 
-pub known-ran : (c : Context) (xs : List Datum) (o : Outputs) (known : List ℕ) (ns : NodeTrees) (n : ℕ) → HaveRun c xs o ns → IsAmong n (known_after known ns) → IsAmong n known ⊎ Ran c xs o n ns
+known-ran : (c : Context) (xs : List Datum) (o : Outputs) (known : List ℕ) (ns : NodeTrees) (n : ℕ) → HaveRun c xs o ns → IsAmong n (known_after known ns) → IsAmong n known ⊎ Ran c xs o n ns
 known-ran c xs o known no_nodes n have h = inl h
 known-ran c xs o known (node_then x ns) n have h = by (known-ran c xs o (id_of x ∷ known) ns n have.1 h)
   where

@@ -107,7 +107,7 @@ older-among id n known ne (inr k) = k
 
 -- An output that another node has run for: what `N` says of the two sides stays.
 module _ (N : Datum → Datum → Type 0) (S : Origin → Bool) (move : Origin → Origin) (to : ℕ → ℕ) (all : List ℕ) (can : CanMove S move to all) (xs ys : List Datum) where
-  abbrev pub ReadAs : List ℕ → Outputs → Outputs → Type 0
+  abbrev ReadAs : List ℕ → Outputs → Outputs → Type 0
   ReadAs known o q = (a : Origin) → IsRead S known a → N (read xs o a) (read ys q (move a))
 
   less-side : (o : Outputs) (id : ℕ) (us : List Datum) → IsAmong id all → (b : Origin) → S b ≡ true → (b' : Origin) → b ≡ b' → read xs (extended o id us) b ≡ read xs o b
@@ -143,7 +143,7 @@ module _ (N : Datum → Datum → Type 0) (S : Origin → Bool) (move : Origin �
 
 -- ---- nodes and regions
 
-abbrev pub Carries : Datum → Datum → Type 0
+abbrev Carries : Datum → Datum → Type 0
 Carries x y = y ≡ x
 
 pub reads-same : (S : Origin → Bool) (known : List ℕ) (move : Origin → Origin) (xs ys : List Datum) (o q : Outputs) → ReadSame S known move xs ys o q → (origins : List Origin) →
@@ -231,7 +231,7 @@ mutual
   nodes-itself no_nodes = refl
   nodes-itself (node_then x ns) = ap₂ node_then (node-itself x) (nodes-itself ns)
 
-  pub regions-itself : (rs : RegionTrees) → regions_copied (λ n. n) rs ≡ rs
+  regions-itself : (rs : RegionTrees) → regions_copied (λ n. n) rs ≡ rs
   regions-itself no_regions = refl
   regions-itself (region_then r rs) = ap₂ region_then (region-itself r) (regions-itself rs)
 

@@ -41,7 +41,7 @@ distinct-split (x ∷ xs) ys t =
 
 -- ---- the parts of a well-formed lambda
 
-pub body-part : (l : PlainLambda) → well_formed l ≡ true → IsPartOf l l.body
+body-part : (l : PlainLambda) → well_formed l ≡ true → IsPartOf l l.body
 body-part l t =
     let p = and_parts (body_fits l && numbers_fit l && every_region (region_fits (length l.objects)) l.body) (all_of (λ o. leaves_fit o.size 0 o.leaves) l.objects) t in
     let q = and_parts (body_fits l && numbers_fit l) (every_region (region_fits (length l.objects)) l.body) p.0 in
@@ -120,7 +120,7 @@ module _ (P : RegionTree → RegionTree → Type 0) (here : RegionTree → Optio
         region-or-rest P r rs (region_changed here r) (λ s q. changed-same r (record { fits = p.0; closed = region-closed (length l.objects) r p.0; unique = d.0; below = b.0 }) s q)
         (regions_changed here rs) (λ qs q. regions-same rs p.1 d.1 b.1 qs q) ss e
 
-pub body-same : (P : RegionTree → RegionTree → Type 0) (here : RegionTree → Option RegionTree) (l : PlainLambda) → ((r s : RegionTree) → IsPartOf l r → here r ≡ Some s → P r s) →
+body-same : (P : RegionTree → RegionTree → Type 0) (here : RegionTree → Option RegionTree) (l : PlainLambda) → ((r s : RegionTree) → IsPartOf l r → here r ≡ Some s → P r s) →
     IsPartOf l l.body → SameBut P l.body (lambda_changed here l).body
 body-same P here l local part = by (region_changed here l.body) refl
   where

@@ -51,7 +51,7 @@ pub paired-itself : (xs : List Datum) → Paired Equal xs xs
 paired-itself [] = tt
 paired-itself (x ∷ xs) = (refl, paired-itself xs)
 
-pub refines-itself : (cmp : Comparison) → Compares cmp → (direction : Direction) (a : Answer (List Datum)) → Refines cmp direction (Paired Equal) a a
+refines-itself : (cmp : Comparison) → Compares cmp → (direction : Direction) (a : Answer (List Datum)) → Refines cmp direction (Paired Equal) a a
 refines-itself cmp g direction (Returned xs o) = (paired-itself xs, g.itself o)
 refines-itself cmp g direction (Exited o s) = (g.itself o, refl)
 refines-itself cmp g Forward (Cut o) = g.near o o (g.itself o)

@@ -18,7 +18,7 @@ use Rattle.g_mean.specs.Data.{Datum, val, memory, input as input_left, at_port, 
 use Rattle.g_mean.specs.Meaning.{Context, Outputs, read, node_run, region_meaning}
 use Rattle.g_mean.specs.LessDefined.{Paired, IsSoundDatum, IsLessDefinedDatum}
 use Rattle.g_mean.specs.Refining.{ContextRefines}
-use Rattle.g_mean.specs.Copies.{IsRead, NodesRead, known_after, is_argument}
+use Rattle.g_mean.specs.Copies.{IsRead, known_after, is_argument}
 use Rattle.g_mean.specs.Holds.{HasRun, HaveRun}
 use Rattle.g_mean.specs.Edits.{IsPartOf}
 use Rattle.g_mean.specs.Replacement.{Linked, Replaces}
@@ -26,7 +26,7 @@ use Rattle.g_mean.specs.Splices.{FitsInto, CanRedirect}
 use Rattle.g_mean.proofs.lemmas.Kept.{OutputsRefine, read-refines}
 use Rattle.g_mean.proofs.lemmas.LessDefined.{less-kept}
 use Rattle.g_mean.proofs.lemmas.Copies.{test-other}
-use Rattle.g_mean.proofs.lemmas.Splices.{joined-read, spliced_regions_refine}
+use Rattle.g_mean.proofs.lemmas.Splices.{spliced_regions_refine}
 use Rattle.g_mean.proofs.lemmas.Redirects.{replaced_nodes_refine, redirected_regions_refine}
 use Rattle.g_mean.proofs.lemmas.Equal.{no_deeper-compares}
 use Rattle.g_graph.specs.Nodes.{constant}
@@ -50,9 +50,6 @@ module _ (ls ks : List PlainLambda) (l : PlainLambda) (args : List Kind) (before
 
   abbrev count : ℕ
   count = length args
-
-  whole-read : NodesRead (is_argument count) [] before × NodesRead (is_argument count) (known_after [] before) (node_then x after)
-  whole-read = joined-read (is_argument count) [] before (node_then x after) part_of.closed.0
 
   -- a constant input of the node carries its word
   pub input-holds : (c : Context) (xs : List Datum) (o : Outputs) (a : Origin) (u : ℕ) → HaveRun c xs o before → IsRead (is_argument count) (known_after [] before) a → constant nodes a ≡ Some u →

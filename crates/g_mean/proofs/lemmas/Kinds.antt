@@ -371,17 +371,17 @@ lambdas_keep_kinds n ls global f count xs well kinds = applied-keeps ls global w
 
 -- ---- the replacement law
 
-pub value-is : (x : Datum) → IsOfKind ValueKind x → (v : Value) × (x ≡ val v)
+value-is : (x : Datum) → IsOfKind ValueKind x → (v : Value) × (x ≡ val v)
 value-is (val v) h = (v, refl)
 value-is (memory m) h = absurd h
 value-is (input i) h = absurd h
 
-pub memory-is : (x : Datum) → IsOfKind Memory x → (m : Blocks) × (x ≡ memory m)
+memory-is : (x : Datum) → IsOfKind Memory x → (m : Blocks) × (x ≡ memory m)
 memory-is (memory m) h = (m, refl)
 memory-is (val v) h = absurd h
 memory-is (input i) h = absurd h
 
-pub input-is : (x : Datum) → IsOfKind Io x → (i : List ℕ) × (x ≡ input i)
+input-is : (x : Datum) → IsOfKind Io x → (i : List ℕ) × (x ≡ input i)
 input-is (input i) h = (i, refl)
 input-is (val v) h = absurd h
 input-is (memory m) h = absurd h
@@ -392,7 +392,7 @@ pub record Three (xs : List Datum) : Type 0 where
   left : List ℕ
   is : xs ≡ val value ∷ memory blocks ∷ input left ∷ []
 
-pub three : (xs : List Datum) → AreOfKinds call_gives xs → Three xs
+three : (xs : List Datum) → AreOfKinds call_gives xs → Three xs
 three [] h = absurd h
 three (x ∷ []) h = absurd h.1
 three (x ∷ y ∷ []) h = absurd h.1.1
@@ -408,15 +408,15 @@ three (x ∷ y ∷ z ∷ []) h =
       is = ap (λ u. u ∷ y ∷ z ∷ []) a.1 ∙ ap₂ (λ u w. val a.0 ∷ u ∷ w ∷ []) b.1 c.1;
     }
 
-pub same-blocks : (m k : Blocks) → (memory m ≡ memory k) ⊎ (memory m ≡ val Bad) → m ≡ k
+same-blocks : (m k : Blocks) → (memory m ≡ memory k) ⊎ (memory m ≡ val Bad) → m ≡ k
 same-blocks m k (inl e) = cc
 same-blocks m k (inr e) = absurd cc
 
-pub same-left : (i j : List ℕ) → (input i ≡ input j) ⊎ (input i ≡ val Bad) → i ≡ j
+same-left : (i j : List ℕ) → (input i ≡ input j) ⊎ (input i ≡ val Bad) → i ≡ j
 same-left i j (inl e) = cc
 same-left i j (inr e) = absurd cc
 
-pub less-values : (v w : Value) → (val v ≡ val w) ⊎ (val v ≡ val Bad) → IsLessDefined v w
+less-values : (v w : Value) → (val v ≡ val w) ⊎ (val v ≡ val Bad) → IsLessDefined v w
 less-values v w (inl e) = inl cc
 less-values v w (inr e) = inr cc
 

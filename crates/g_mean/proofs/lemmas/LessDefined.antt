@@ -229,7 +229,7 @@ module _ (cmp : Comparison) (g : Compares cmp) (direction : Direction) where
   plain-refines e f h Get xs ys near at = on_input-refines (at_port xs 0) (at_port ys 0) (at 0) got got got-refines
   plain-refines e f h _ xs ys near at = tt
 
-pub less-at : (xs ys : List Datum) → Paired IsLessDefinedDatum xs ys → (k : ℕ) → IsLessDefinedDatum (at_port xs k) (at_port ys k)
+less-at : (xs ys : List Datum) → Paired IsLessDefinedDatum xs ys → (k : ℕ) → IsLessDefinedDatum (at_port xs k) (at_port ys k)
 less-at [] [] h k = (inl refl, tt, tt)
 less-at (x ∷ xs) (y ∷ ys) h zero = h.0
 less-at (x ∷ xs) (y ∷ ys) h (suc k) = less-at xs ys h.1 k

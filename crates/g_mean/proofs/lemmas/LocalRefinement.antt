@@ -26,7 +26,7 @@ use Rattle.g_mean.proofs.lemmas.Bounds.{Never, Always, never-refines, sound-pair
 
 -- ---- less defined data compose
 
-pub less-composes : (x y z : Datum) → IsLessDefinedDatum x y → IsLessDefinedDatum y z → IsLessDefinedDatum x z
+less-composes : (x y z : Datum) → IsLessDefinedDatum x y → IsLessDefinedDatum y z → IsLessDefinedDatum x z
 less-composes x y z h k = (by h.0 k.0, h.1, k.2)
   where
     by : (x ≡ y) ⊎ (x ≡ val Bad) → (y ≡ z) ⊎ (y ≡ val Bad) → (x ≡ z) ⊎ (x ≡ val Bad)
@@ -43,7 +43,7 @@ pairs-compose (x ∷ xs) [] zs h k = absurd h
 pairs-compose (x ∷ xs) (y ∷ ys) [] h k = absurd k
 
 -- what refines to the refinement refines to what it refines
-pub refined-refines : (direction : Direction) (a b c : Answer (List Datum)) → RefinesLocally (Paired IsLessDefinedDatum) a b → Refines no_deeper direction (Paired IsLessDefinedDatum) b c →
+refined-refines : (direction : Direction) (a b c : Answer (List Datum)) → RefinesLocally (Paired IsLessDefinedDatum) a b → Refines no_deeper direction (Paired IsLessDefinedDatum) b c →
     Refines no_deeper direction (Paired IsLessDefinedDatum) a c
 refined-refines direction (Undefined o) b c h k = tt
 refined-refines direction (Returned x o) (Returned y p) (Returned z q) h k =
@@ -130,7 +130,7 @@ same-memory f h (memory m) = ap memory (h m)
 same-memory f h (val v) = refl
 same-memory f h (input i) = refl
 
-pub changed-nothing : (n : ℕ) (f : Datum → Datum) → ((x : Datum) → f x ≡ x) → (xs : List Datum) → changed_at n f xs ≡ xs
+changed-nothing : (n : ℕ) (f : Datum → Datum) → ((x : Datum) → f x ≡ x) → (xs : List Datum) → changed_at n f xs ≡ xs
 changed-nothing n f h [] = refl
 changed-nothing zero f h (x ∷ xs) = ap (λ y. y ∷ xs) (h x)
 changed-nothing (suc n) f h (x ∷ xs) = ap (λ ys. x ∷ ys) (changed-nothing n f h xs)

@@ -80,12 +80,12 @@ module _ (cmp : Comparison) (g : Compares cmp) (direction : Direction) (N : Datu
 
   -- ---- one node
 
-  abbrev pub MeaningsRefine : List Meaning → List Meaning → Type 0
+  abbrev MeaningsRefine : List Meaning → List Meaning → Type 0
   MeaningsRefine [] [] = Unit {0}
   MeaningsRefine (m ∷ ms) (n ∷ ns) = MeaningRefines cmp direction N m n × MeaningsRefine ms ns
   MeaningsRefine _ _ = ⊥
 
-  pub chosen-refines : (w : ℕ) (ms ns : List Meaning) → MeaningsRefine ms ns → (xs ys : List Datum) → Paired N xs ys → Refines cmp direction (Paired N) (chosen w ms xs) (chosen w ns ys)
+  chosen-refines : (w : ℕ) (ms ns : List Meaning) → MeaningsRefine ms ns → (xs ys : List Datum) → Paired N xs ys → Refines cmp direction (Paired N) (chosen w ms xs) (chosen w ns ys)
   chosen-refines w [] ns h xs ys near = tt
   chosen-refines w (m ∷ []) (n ∷ []) h xs ys near = h.0.on xs ys near
   chosen-refines zero (m ∷ l ∷ ms) (n ∷ j ∷ ns) h xs ys near = h.0.on xs ys near
@@ -94,7 +94,7 @@ module _ (cmp : Comparison) (g : Compares cmp) (direction : Direction) (N : Datu
   chosen-refines w (m ∷ l ∷ ms) (n ∷ []) h xs ys near = absurd h.1
   chosen-refines w (m ∷ ms) [] h xs ys near = absurd h
 
-  pub branched-refines : (ms ns : List Meaning) → MeaningsRefine ms ns → MeaningRefines cmp direction N (branched ms) (branched ns)
+  branched-refines : (ms ns : List Meaning) → MeaningsRefine ms ns → MeaningRefines cmp direction N (branched ms) (branched ns)
   branched-refines ms ns h = record { on = λ xs ys near. by xs ys near }
     where
       by : (xs ys : List Datum) → Paired N xs ys → Refines cmp direction (Paired N) (branched ms xs) (branched ns ys)
@@ -121,7 +121,7 @@ module _ (cmp : Comparison) (g : Compares cmp) (direction : Direction) (N : Datu
             (λ us vs near'. again-refines (turns n body) (turns m body') rest us vs near');
       }
 
-  pub looped-refines : (n m : ℕ) → InOrder direction n m → (ms ns : List Meaning) → MeaningsRefine ms ns → MeaningRefines cmp direction N (looped n ms) (looped m ns)
+  looped-refines : (n m : ℕ) → InOrder direction n m → (ms ns : List Meaning) → MeaningsRefine ms ns → MeaningRefines cmp direction N (looped n ms) (looped m ns)
   looped-refines n m order [] ns h = record { on = λ xs ys near. tt }
   looped-refines n m order (b ∷ ms) (c ∷ ns) h = record { on = λ xs ys near. (turns-by b c h.0 n m order).on xs ys near }
   looped-refines n m order (b ∷ ms) [] h = absurd h

@@ -44,7 +44,7 @@ module _ (ls ks : List PlainLambda) (same : LambdasSameBut (Replaces ls ks) ls k
   less-global : (k : ℕ) → IsLessDefinedDatum (val (global k)) (val (global k))
   less-global k = (inl refl, globals k, globals k)
 
-  pub calls-refines : (b n m : ℕ) → lesser direction n m ≤ b → IsTwice direction 1 n m → (f : ℕ) → MeaningRefines no_deeper direction IsLessDefinedDatum (applied ls global n f) (applied ks global m f)
+  calls-refines : (b n m : ℕ) → lesser direction n m ≤ b → IsTwice direction 1 n m → (f : ℕ) → MeaningRefines no_deeper direction IsLessDefinedDatum (applied ls global n f) (applied ks global m f)
   calls-refines b zero zero small twice f = record { on = λ xs ys near. both-cut no_deeper no_deeper-compares direction (Paired IsLessDefinedDatum) }
   calls-refines b zero (suc m) small twice f =
       record {
@@ -76,7 +76,7 @@ module _ (ls ks : List PlainLambda) (same : LambdasSameBut (Replaces ls ks) ls k
             (entered m (applied ks global m) global (slice_get ks f) ys) (body.on xs ys near);
       }
 
-  pub regions-refines : (r s : RegionTree) → SameBut (Replaces ls ks) r s → (local : ℕ → Value) → ((k : ℕ) → IsSound (local k)) → (n m : ℕ) → IsTwice direction 2 n m →
+  regions-refines : (r s : RegionTree) → SameBut (Replaces ls ks) r s → (local : ℕ → Value) → ((k : ℕ) → IsSound (local k)) → (n m : ℕ) → IsTwice direction 2 n m →
       (xs : List Datum) → AreSound xs → Refines no_deeper direction (Paired IsLessDefinedDatum) (region_at n ls r xs (record { local = local; global = global }))
       (region_at m ks s xs (record { local = local; global = global }))
   regions-refines r s alike local locals n m twice xs sound =

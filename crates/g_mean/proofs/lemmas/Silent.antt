@@ -20,7 +20,7 @@ use Rattle.g_mean.specs.Silent.{IsSilent, GivesNoState, StatelessNodesAreSilent}
 
 -- ---- answers
 
-pub then-silent : {A B : Type 0} (a : Answer A) (next : A → Answer B) → IsSilent a → ((x : A) → IsSilent (next x)) → IsSilent (then_on a next)
+then-silent : {A B : Type 0} (a : Answer A) (next : A → Answer B) → IsSilent a → ((x : A) → IsSilent (next x)) → IsSilent (then_on a next)
 then-silent (Returned x o) next h go = subst (λ p. IsSilent (before p (next x))) (sym h) (go x)
 then-silent (Undefined o) next h go = h
 then-silent (Cut o) next h go = absurd h
@@ -109,7 +109,7 @@ eight a b c d e f g h t =
     let u = and_parts (a && b && c) d s.0 in
     (u.1, s.1, r.1)
 
-pub node-parts : (objects : ℕ) (args : List Kind) (before : NodeTrees) (x : NodeTree) → node_fits objects args before x ≡ true → NodeParts x
+node-parts : (objects : ℕ) (args : List Kind) (before : NodeTrees) (x : NodeTree) → node_fits objects args before x ≡ true → NodeParts x
 node-parts objects args before x t =
     let p = eight (inputs_fit args before x) (inputs_are_last args before x) (node_has_one_state_each args before x) (has_its_regions x) (regions_fit x) (theta_has_states x) (has_its_width x)
     (has_its_object objects x) t in

@@ -22,7 +22,7 @@ length-globals_from fixed other (d ∷ ds) =
     ]
 
 -- no function stands before the first
-pub functions_from-le : (at : ℕ) (fs : List (List Item)) (k : ℕ) → k < length fs → at ≤ slice_index (functions_from at fs) k
+functions_from-le : (at : ℕ) (fs : List (List Item)) (k : ℕ) → k < length fs → at ≤ slice_index (functions_from at fs) k
 functions_from-le at [] k h = absurd (omega arith)
 functions_from-le at (f ∷ fs) zero h = omega arith
 functions_from-le at (f ∷ fs) (suc k) h =
@@ -34,7 +34,7 @@ functions_from-le at (f ∷ fs) (suc k) h =
 pub function_count : (a : Addresses) (fs : List (List Item)) (ds : List PlainDelta) → a ≡ addresses_of fs ds → length a.functions ≡ length fs
 function_count a fs ds e = ap (λ (x : Addresses). length x.functions) e ∙ length-functions_from functions_at fs
 
-pub global_count : (a : Addresses) (fs : List (List Item)) (ds : List PlainDelta) → a ≡ addresses_of fs ds → length a.globals ≡ length ds
+global_count : (a : Addresses) (fs : List (List Item)) (ds : List PlainDelta) → a ≡ addresses_of fs ds → length a.globals ≡ length ds
 global_count a fs ds e = ap (λ (x : Addresses). length x.globals) e ∙ length-globals_from (fixed_address fs) (data_address fs ds + 8) ds
 
 pub main_after : (a : Addresses) (fs : List (List Item)) (ds : List PlainDelta) (main : ℕ) → a ≡ addresses_of fs ds → main < length fs

@@ -21,7 +21,7 @@ unfolding bytes_of
 bytes_of-append xs ys = flat_map-append (λ i. word (word_of i)) xs ys
 
 -- the code of an item asks for its label alone
-pub item_code-same : (a : Addresses) (f g : ℕ → Option ℕ) → ((q : ℕ) → f q ≡ g q) → (at : ℕ) (i : Item) → item_code a f at i ≡ item_code a g at i
+item_code-same : (a : Addresses) (f g : ℕ → Option ℕ) → ((q : ℕ) → f q ≡ g q) → (at : ℕ) (i : Item) → item_code a f at i ≡ item_code a g at i
 item_code-same a f g same at (Word i) = refl
 item_code-same a f g same at (Mark l) = refl
 item_code-same a f g same at (Jump l) = rw (same l) refl
@@ -91,19 +91,11 @@ all_first test x rest all first h = (and_parts (test x) (all_of test rest) (subs
 pub all_rest : {X : Type 0} (test : X → Bool) (x : X) (rest all : List X) → all ≡ x ∷ rest → IsTrue (all_of test all) → IsTrue (all_of test rest)
 all_rest test x rest all first h = (and_parts (test x) (all_of test rest) (subst (λ xs. IsTrue (all_of test xs)) first h)).1
 
--- the parts of what holds of a function
-pub labels_marked : (fs gs : ℕ) (items : List Item) → IsTrue (function_fits fs gs items) → IsTrue (labels_are_marked items)
-labels_marked fs gs items h = (and_parts (labels_are_marked items) (is_within_reach items)
-    (and_parts (labels_are_marked items && is_within_reach items) (all_of (item_fits fs gs) items) h).0).0
-
 pub items_short : (fs gs : ℕ) (items : List Item) → IsTrue (function_fits fs gs items) → items_size items < 2 ^ 20
 items_short fs gs items h =
     ltb-true _ _
     (and_parts (labels_are_marked items) (is_within_reach items)
     (and_parts (labels_are_marked items && is_within_reach items) (all_of (item_fits fs gs) items) h).0).1
-
-pub items_fit : (fs gs : ℕ) (items : List Item) → IsTrue (function_fits fs gs items) → IsTrue (all_of (item_fits fs gs) items)
-items_fit fs gs items h = (and_parts (labels_are_marked items && is_within_reach items) (all_of (item_fits fs gs) items) h).1
 
 -- and at the end of the items
 pub items_end : (a : Addresses) (g : ℕ → Option ℕ) (here : ℕ) (rest : List Item) (t whole : List ℕ)

@@ -13,7 +13,7 @@ use Rattle.rv_machine.specs.Standing.{Text, HasText, StandsAt, CodeStands, AllFi
 use Rattle.rv_machine.specs.StandingLaws.{StandingIsDone, TextStays, StandingReaches, StandingEnds, CodeIsCut, EachStands}
 use Rattle.rv_machine.proofs.lemmas.RunLaws.{run_goes_on, reaches_onwards, step_reaches, step_ends}
 use Rattle.rv_machine.proofs.lemmas.Stores.{load-agrees}
-use Rattle.rv_machine.proofs.lemmas.Unwritable.{unwritable_stays}
+use Rattle.rv_machine.proofs.Unwritable.{unwritable_stays}
 
 pub fits-append : (code more : List Instr) → AllFit code → AllFit more → AllFit (code ++ more)
 fits-append [] more fit rest = rest

@@ -12,7 +12,7 @@ use Rattle.rv_machine.specs.Run.{start}
 use Rattle.rv_machine.specs.SegmentLaws.{SegmentIsInMemory, BytesAreLoaded, WordBytesMakeWord, FlagsAllow, FlagIsMissing, TextIsFetched}
 use Rattle.rv_machine.proofs.Access.{allowed_all, allowed_bad, load_same}
 use Rattle.rv_machine.proofs.Lookups.{IsAt, holds-above, holds-below, holds-true, memory_at, flags_at}
-use Rattle.rv_machine.proofs.lemmas.Unwritable.{unwritable_stays}
+use Rattle.rv_machine.proofs.Unwritable.{unwritable_stays}
 
 listed : (ss : List LoadedSegment) (k : ℕ) (s : LoadedSegment) → slice_get ss k ≡ Some s → k < length ss
 listed [] k s e = absurd (let f : None ≡ Some s = e in cc)

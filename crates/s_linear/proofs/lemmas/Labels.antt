@@ -318,10 +318,6 @@ module _ (n : ℕ) where
       (and_from _ _ (lt-ltb (suc first) n (omega arith)) (first_goes d [] (rest_goes c (d ∷ []) h)))) refl)
   choice_goes p first (c ∷ d ∷ f ∷ cs) e h = more_go p first (c ∷ d ∷ f ∷ cs) e h
 
-  before_counted : (last others : ℕ) (cs : Codes) → before_last (codes_lines last others cs) ≤ counted cs
-  before_counted last others no_codes = omega arith
-  before_counted last others (code_then c cs) = omega (arith, lines_counted last others c cs)
-
   abbrev CodesGo : Codes → Type 0
   CodesGo cs = (last others : ℕ) → last + last_labels cs ≤ n → others + others_labels cs ≤ n → AllGo (codes_lines last others cs)
 

@@ -13,7 +13,6 @@ use Rattle.rv_isa.specs.declared.instruction.Instr.TheVariants as rv
 use Rattle.s_linear.specs.Frame.{PlainPlaces, saved_of, object_at, frame_size}
 use Rattle.s_linear.specs.Laws.{LabelsAreMarkedOnce, LinesGoToLabels}
 use Rattle.s_linear.specs.Linear as linear
-use Rattle.s_linear.specs.Linear.{LinearFunction}
 use Rattle.s_linear.specs.Lines as lines
 use Rattle.s_linear.specs.Lines.{Line, enter, leave, done, branch_not_zero, branch_zero, branch_equal, jump, label, does, goes_to, code_labels}
 use Rattle.s_linear.specs.Operands.{has_its_callee, has_its_global}

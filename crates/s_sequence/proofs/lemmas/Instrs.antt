@@ -83,7 +83,7 @@ module _ (test : Instr → Bool) (p : Op → ℕ → Type 0) (moved : (t s : ℕ
   body_passes : (r : RegionTree) → RegionOps p r → CodePasses (does test) (body_code r)
   body_passes (region args nodes results) h = nodes_pass args 0 no_names (value_args args) nodes no_steps h tt
 
-  pub sequenced_passes : (l : PlainLambda) → RegionOps p l.body → all_of (does test) (lines (sequenced l)) ≡ true
+  sequenced_passes : (l : PlainLambda) → RegionOps p l.body → all_of (does test) (lines (sequenced l)) ≡ true
   sequenced_passes l h = lines_pass (does test) (λ l. refl) (λ l. refl) (sequenced l) refl (body_passes l.body h) refl
 
 -- ---- what well-formed lambdas have

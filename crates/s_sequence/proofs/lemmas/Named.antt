@@ -62,7 +62,7 @@ kept_length (Some Value ∷ ks) (x ∷ xs) = omega (arith, kept_length ks xs)
 kept_length (Some Memory ∷ ks) (x ∷ xs) = kept_length ks xs
 kept_length (Some Io ∷ ks) (x ∷ xs) = kept_length ks xs
 
-pub are_values : (xs : List (Option Kind)) (ks : List Kind) → are xs ks ≡ true → values_in xs ≡ value_args ks
+are_values : (xs : List (Option Kind)) (ks : List Kind) → are xs ks ≡ true → values_in xs ≡ value_args ks
 are_values [] [] e = refl
 are_values [] (k ∷ ks) e = absurd (cc)
 are_values (None ∷ xs) ks e = absurd (cc)
@@ -94,7 +94,7 @@ mutual
   nodes_names_values no_nodes = omega arith
   nodes_names_values (node_then x xs) = omega (arith, node_names_values x, nodes_names_values xs)
 
-  pub regions_names_values : (rs : RegionTrees) → regions_names rs ≤ regions_values rs
+  regions_names_values : (rs : RegionTrees) → regions_names rs ≤ regions_values rs
   regions_names_values no_regions = omega arith
   regions_names_values (region_then r rs) = omega (arith, names_values r, regions_names_values rs)
 

@@ -22,7 +22,7 @@ beneath_appends f (wrote b ∷ o) p = ap (λ r. wrote b ∷ r) (beneath_appends 
 beneath_appends f (took b ∷ o) p = ap (λ r. took b ∷ r) (beneath_appends f o p)
 beneath_appends f (met s ∷ o) p = ap (λ r. met (f ∷ s) ∷ r) (beneath_appends f o p)
 
-pub beneath-output : (f : ℕ) (o : List Event) → output (beneath f o) ≡ output o
+beneath-output : (f : ℕ) (o : List Event) → output (beneath f o) ≡ output o
 beneath-output f [] = refl
 beneath-output f (wrote b ∷ o) = ap (λ r. b ∷ r) (beneath-output f o)
 beneath-output f (took b ∷ o) = beneath-output f o
@@ -31,7 +31,7 @@ beneath-output f (met s ∷ o) = beneath-output f o
 pub called_keeps_output : CalledKeepsOutput
 called_keeps_output f o = beneath-output f o
 
-pub beneath-deepest : (sizes : ℕ → ℕ) (f : ℕ) (o : List Event) → max (sizes f) (deepest sizes (beneath f o)) ≡ sizes f + deepest sizes o
+beneath-deepest : (sizes : ℕ → ℕ) (f : ℕ) (o : List Event) → max (sizes f) (deepest sizes (beneath f o)) ≡ sizes f + deepest sizes o
 beneath-deepest sizes f [] = omega arith
 beneath-deepest sizes f (wrote b ∷ o) = beneath-deepest sizes f o
 beneath-deepest sizes f (took b ∷ o) = beneath-deepest sizes f o
@@ -62,9 +62,6 @@ prefix-output o p (r, e) = (output r, sym (output_appends o r) ∙ ap output e)
 
 pub prefix-deepest : (sizes : ℕ → ℕ) (o p : List Event) → IsPrefixOf o p → deepest sizes o ≤ deepest sizes p
 prefix-deepest sizes o p (r, e) = let h = deepest_appends sizes o r in let d : deepest sizes (o ++ r) ≡ deepest sizes p = ap (deepest sizes) e in omega (arith, h, d)
-
-pub prefix-beneath : (f : ℕ) (o p : List Event) → IsPrefixOf o p → IsPrefixOf (beneath f o) (beneath f p)
-prefix-beneath f o p (r, e) = (beneath f r, sym (beneath_appends f o r) ∙ ap (beneath f) e)
 
 pub prefix-called : (f : ℕ) (o p : List Event) → IsPrefixOf o p → IsPrefixOf (called f o) (called f p)
 prefix-called f o p (r, e) = (beneath f r, ap (λ l. met (f ∷ []) ∷ l) (sym (beneath_appends f o r) ∙ ap (beneath f) e))

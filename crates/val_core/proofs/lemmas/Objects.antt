@@ -14,7 +14,7 @@ opened-sound : (shapes : List BlockShape) → IsSoundMemory (opened shapes)
 opened-sound [] = tt
 opened-sound (s ∷ shapes) = (new-sound s.leaves, opened-sound shapes)
 
-pub append-sound : (m k : Memory) → IsSoundMemory m → IsSoundMemory k → IsSoundMemory (m ++ k)
+append-sound : (m k : Memory) → IsSoundMemory m → IsSoundMemory k → IsSoundMemory (m ++ k)
 append-sound [] k s t = t
 append-sound (b ∷ m) k s t = (s.0, append-sound m k s.1 t)
 

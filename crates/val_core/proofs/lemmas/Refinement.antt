@@ -102,7 +102,7 @@ refines-added c g Backward R o p (Exited q s) (Cut r) e h = g.far o p q r e h
 refines-added c g Backward R o p (Cut q) (Cut r) e h = g.far o p q r e h
 refines-added c g direction R o p _ _ e h = absurd h
 
-pub refines-before : {A B : Type 0} (c : Comparison) → GoesOn c → (direction : Direction) (R : A → B → Type 0) (o p : List Event) (a : Answer A) (b : Answer B) → c.Same o p →
+refines-before : {A B : Type 0} (c : Comparison) → GoesOn c → (direction : Direction) (R : A → B → Type 0) (o p : List Event) (a : Answer A) (b : Answer B) → c.Same o p →
     Refines c direction R a b → Refines c direction R (before o a) (before p b)
 refines-before c g direction R o p a b e h = rw (before-is o a, before-is p b) (refines-added c g direction R o p a b e h)
 

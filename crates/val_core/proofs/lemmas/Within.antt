@@ -1,7 +1,6 @@
 -- The laws of runs within each other.
-use Rattle.std.proofs.Common.{◌≡◌, List, Option, None, Some, refl, sym, ap₂, ◌∙◌, inl, inr}
-use Rattle.val_core.specs.Values.{Value, IsLessDefined}
-use Rattle.val_core.specs.Within.{Behaviour, Returns, Running, Terminates, Fails, Within, Given, GivenRefines, IsLessDefinedOption}
+use Rattle.std.proofs.Common.{◌≡◌, List, refl, sym, ap₂, ◌∙◌}
+use Rattle.val_core.specs.Within.{Behaviour, Returns, Running, Terminates, Fails, Within}
 use Rattle.val_core.specs.RunLaws.{WithinItself, WithinComposes, TerminatedIsEqual, FailedIsApart}
 use Rattle.val_core.proofs.lemmas.Events.{prefix-self, prefixes_compose}
 use Rattle.val_core.specs.Events.{IsPrefixOf}
@@ -36,7 +35,7 @@ terminated_is_equal R o s (Returns y p) h = absurd h
 terminated_is_equal R o s (Running p) h = absurd h
 terminated_is_equal R o s Fails h = absurd h
 
-pub within-fails : {A B : Type 0} (R : A → B → Type 0) (x : Behaviour A) → Within R x Fails → ⊥
+within-fails : {A B : Type 0} (R : A → B → Type 0) (x : Behaviour A) → Within R x Fails → ⊥
 within-fails R (Returns x o) h = h
 within-fails R (Running o) h = h
 within-fails R (Terminates o s) h = h
@@ -50,17 +49,3 @@ fails-within R Fails h = h
 
 pub failed_is_apart : {A B : Type 0} (R : A → B → Type 0) → FailedIsApart A B R
 failed_is_apart R = (within-fails R, fails-within R)
-
--- nearness of values composes
-pub less-composes : (x y z : Value) → IsLessDefined x y → IsLessDefined y z → IsLessDefined x z
-less-composes x y z (inr e) k = inr e
-less-composes x y z (inl e) (inl d) = inl (e ∙ d)
-less-composes x y z (inl e) (inr d) = inr (e ∙ d)
-
-pub less-option-composes : (x : Option Value) (y z : Value) → IsLessDefinedOption x y → IsLessDefined y z → IsLessDefinedOption x z
-less-option-composes None y z h k = tt
-less-option-composes (Some x) y z h k = less-composes x y z h k
-
-pub gives-refine-composes : {V W X : Type 0} (M : V → W → Type 0) (N : W → X → Type 0) (L : V → X → Type 0) → ((x : V) (y : W) (z : X) → M x y → N y z → L x z) →
-    (x : Given V) (y : Given W) (z : Given X) → GivenRefines M x y → GivenRefines N y z → GivenRefines L x z
-gives-refine-composes M N L join x y z h k = (join x.value y.value z.value h.0 k.0, h.1 ∙ k.1, h.2 ∙ k.2)

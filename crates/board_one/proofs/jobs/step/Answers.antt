@@ -1,4 +1,4 @@
-use Rattle.std.proofs.Common.{ap, sym, ◌∙◌}
+use Rattle.std.proofs.Common.{ap, ◌∙◌}
 use Rattle.std.specs.Prelude.{Ok, map}
 use Rattle.std.specs.Arc.{arc_value}
 use Rattle.board_one.proofs.OneJob.{held-claimed, given-claimed, between-again, goes-on}

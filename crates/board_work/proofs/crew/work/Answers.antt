@@ -1,4 +1,4 @@
-use Rattle.std.proofs.Common.{◌≡◌, ◌++◌, true, false, refl, sym, ◌∙◌, subst, arith}
+use Rattle.std.proofs.Common.{◌≡◌, true, false, refl, sym, ◌∙◌, subst, arith}
 use Rattle.board_core.proofs.lemmas.Kept.{written-back}
 use Rattle.board_lock.specs.Locks.{lock_of}
 use Rattle.board_work.specs.Workers.{Each, SomeAt, MayWork, HasSeenStop}

@@ -1,4 +1,4 @@
-use Rattle.std.proofs.Common.{sym, ap, ◌∙◌, subst, arith}
+use Rattle.std.proofs.Common.{sym, subst, arith}
 use Rattle.board_lock.specs.Locks.{lock_of}
 use Rattle.board_lock.specs.Rule.{IsBeginning}
 use Rattle.board_lock.specs.Seats.{sitting}

@@ -1,4 +1,3 @@
-use Rattle.std.proofs.Common.{◌≡◌}
 use Rattle.std.specs.Arc.{arc_value}
 use Rattle.board_lock.specs.Locks.{lock_of}
 use Rattle.board_lock.specs.Seats.{sitting}

@@ -1,7 +1,7 @@
-use Rattle.std.proofs.Common.{Ok, Some, refl, [], ◌∷◌, ◌++◌, sym, ap, ◌∙◌, subst}
+use Rattle.std.proofs.Common.{Ok, Some, refl, inl, inr, [], ◌∷◌, ◌++◌, append-nil, sym, ap, ◌∙◌, subst}
 use Rattle.board_core.specs.Board.{HoldsNone}
 use Rattle.board_core.specs.History.{state_of}
-use Rattle.board_core.specs.declared.event.Event.TheVariants.{Claim}
+use Rattle.board_core.specs.declared.event.Event.TheVariants.{Claim, Stop}
 use Rattle.board_lock.specs.Rule.{opening}
 use Rattle.board_lock.specs.Seats.{sitting}
 use Rattle.board_work.proofs.SeatLemmas.{may-claim, is-going, noted-is, at-noted, has-claimed, has-stopped, all-jobs-out, none-on-board}
@@ -55,3 +55,23 @@ returns-in-Ok-Done-clause-next g c =
 
 pub returns-in-Err-clause-next : goal.returns-in-Err-clause-next
 returns-in-Err-clause-next g c = has-stopped (sitting c.args.seat.now) (sitting c.stop.new.seat) c.args.worker c.stop.ensures.noted
+
+pub returns-in-Ok-Job-clause-noted : goal.returns-in-Ok-Job-clause-noted
+returns-in-Ok-Job-clause-noted g c =
+    let claims = c.claim.ensures.job c.in-Ok-Job.job (c.in-Ok-Job.is ∙ ap Ok c.in-Ok-Job.field-0-is) in
+    let noted = c.note.ensures.noted in
+    let event = Claim c.args.worker c.in-Ok-Job.job in
+    let is = noted-is (sitting c.args.seat.now) (sitting c.note.new.seat) c.args.board.now c.claim.new.self event noted.0 c.requires.board claims.happens noted.1 noted.2 in
+    (event ∷ [], ap (λ s. s.own) is, refl)
+
+pub returns-in-Ok-Wait-clause-noted : goal.returns-in-Ok-Wait-clause-noted
+returns-in-Ok-Wait-clause-noted g c = ([], sym (append-nil _), refl)
+
+pub returns-in-Ok-Done-clause-noted : goal.returns-in-Ok-Done-clause-noted
+returns-in-Ok-Done-clause-noted g c = ([], sym (append-nil _), refl)
+
+pub returns-in-Ok-Stopped-clause-noted : goal.returns-in-Ok-Stopped-clause-noted
+returns-in-Ok-Stopped-clause-noted g c = ([], sym (append-nil _), inl refl)
+
+pub returns-in-Err-clause-noted : goal.returns-in-Err-clause-noted
+returns-in-Err-clause-noted g c = (Stop c.args.worker ∷ [], ap (λ s. s.own) c.stop.ensures.noted, inr refl)

@@ -1,8 +1,7 @@
-use Rattle.std.proofs.Common.{ap, ◌∙◌, sym, subst, refl}
+use Rattle.std.proofs.Common.{ap, ◌∙◌}
 use Rattle.board_core.specs.Board.{Held}
-use Rattle.board_core.specs.declared.event.Event.TheVariants.{Publish}
 use Rattle.board_lock.specs.Seats.{sitting}
-use Rattle.board_work.proofs.SeatLemmas.{may-hand-in, noted-is, at-noted}
+use Rattle.board_work.proofs.SeatLemmas.{may-hand-in}
 use Rattle.board_work.proofs.turns.hand_in.Goals as goal
 
 pub publish-requires-clause-holds : goal.publish-requires-clause-holds

@@ -1,4 +1,4 @@
-use Rattle.std.proofs.Common.{sym, subst}
+use Rattle.std.proofs.Common.{subst}
 use Rattle.board_core.specs.Board.{HasStopped}
 use Rattle.board_core.specs.History.{state_of}
 use Rattle.board_lock.specs.Seats.{sitting}

@@ -1,6 +1,6 @@
 use Rattle.std.proofs.Common.{◌∙◌, ap, sym}
 use Rattle.c_ast.specs.Externals.{external_tree}
-use Rattle.c_elaboration.specs.Check.{defined_by, with_defined}
+use Rattle.c_check_def.specs.Check.{defined_by, with_defined}
 use Rattle.c_check.proofs.DefinedLemmas.{defined-begun, defined-after}
 use Rattle.c_check.proofs.defined.defined_in.Goals as goal
 

@@ -1,6 +1,6 @@
 use Rattle.std.proofs.Common.{◌+◌, ◌∙◌, take, map, ap, sym}
 use Rattle.std.specs.List.{sum}
-use Rattle.c_elaboration.specs.Limits.{global_bytes}
+use Rattle.c_check_def.specs.Limits.{global_bytes}
 use Rattle.c_check.proofs.LimitLemmas.{sum-next, passing-next}
 use Rattle.c_check.proofs.quantities.many_global_bytes.Goals as goal
 

@@ -1,6 +1,6 @@
 use Rattle.std.proofs.Common.{◌≡◌, take, map}
 use Rattle.std.specs.List.{sum}
-use Rattle.c_elaboration.specs.Limits.{global_bytes, passing}
+use Rattle.c_check_def.specs.Limits.{global_bytes, passing}
 use Rattle.c_check.proofs.quantities.many_global_bytes.Given as goal
 
 abbrev pub invariant-loop-g : goal.invariant-loop-g

@@ -1,7 +1,7 @@
 use Rattle.std.proofs.Common.{◌≡◌, drop}
 use Rattle.limits.specs.Limits.{most_object_bytes}
-use Rattle.c_elaboration.specs.declared.rule.Quantity.TheVariants.{ObjectBytes}
-use Rattle.c_elaboration.specs.Limits.{first_above, object_bytes}
+use Rattle.c_check_def.specs.declared.refusal_kind.Quantity.TheVariants.{ObjectBytes}
+use Rattle.c_check_def.specs.Limits.{first_above, object_bytes}
 use Rattle.c_check.proofs.quantities.many_object_bytes.Given as goal
 
 abbrev pub invariant-loop-f : goal.invariant-loop-f

@@ -1,4 +1,4 @@
-use Rattle.c_mean.proofs.lemmas.ExtendRuns.{expressions_extend, statements_extend, nested_calls_extend, calls_extend, runs_extend}
+use Rattle.c_mean.proofs.ExtendRuns.{expressions_extend, statements_extend, nested_calls_extend, calls_extend, runs_extend}
 use Rattle.c_mean.proofs.laws.bounds_extend.Goals as goal
 
 pub returns-clause-expressions : goal.returns-clause-expressions

@@ -1,4 +1,4 @@
-use Rattle.c_mean.proofs.lemmas.Extends.{extended_refines}
+use Rattle.c_mean.proofs.Extends.{extended_refines}
 use Rattle.c_mean.proofs.laws.extended_refines.Goals as goal
 
 pub returns : goal.returns

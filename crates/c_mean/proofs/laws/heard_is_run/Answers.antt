@@ -1,4 +1,4 @@
-use Rattle.c_mean.proofs.lemmas.Heard.{heard_is_run, heard_is_undefined, heard_extends}
+use Rattle.c_mean.proofs.Heard.{heard_is_run, heard_is_undefined, heard_extends}
 use Rattle.c_mean.proofs.laws.heard_is_run.Goals as goal
 
 pub returns-clause-agrees : goal.returns-clause-agrees

@@ -1,4 +1,4 @@
-use Rattle.c_mean.proofs.lemmas.TakenRuns.{expressions_take_input, statements_take_input, nested_calls_take_input, calls_take_input, runs_take_input}
+use Rattle.c_mean.proofs.TakenRuns.{expressions_take_input, statements_take_input, nested_calls_take_input, calls_take_input, runs_take_input}
 use Rattle.c_mean.proofs.laws.input_is_taken.Goals as goal
 
 pub returns-clause-expressions : goal.returns-clause-expressions

@@ -4,10 +4,10 @@ use Rattle.std.proofs.lemmas.Result.{IfOk-weaker}
 use Rattle.limits.specs.Limits.{most_functions}
 use Rattle.g_graph.specs.Lists.{IsComplete}
 use Rattle.g_graph.specs.Plain.{PlainLambda, PlainOmega}
-use Rattle.g_construct.specs.Functions as built
-use Rattle.g_recipe.specs.Answers.{AreAnswers}
+use Rattle.g_build_def.specs.Functions as built
+use Rattle.g_pass_def.specs.Answers.{AreAnswers}
 use Rattle.g_pass.specs.Sweep.{rules}
-use Rattle.cc_image.specs.Image.{file_of_program, lambdas_of, CanEmit}
+use Rattle.cc_emit_def.specs.Image.{file_of_program, lambdas_of, CanEmit}
 use Rattle.cc_compile.specs.Compiled.{IsCompiledUnder}
 use Rattle.cc_compile.proofs.Small.{unlimited_are_small}
 use Rattle.cc_compile.proofs.typed.compiled_of.Goals as goal

@@ -2,7 +2,7 @@ use Rattle.std.proofs.Common.{◌≡◌, ap, ◌∙◌, map}
 use Rattle.std.specs.Arc.{arc_value}
 use Rattle.std.proofs.lemmas.Result.{IfOk-weaker}
 use Rattle.elf_file.specs.Written.{file_of}
-use Rattle.cc_image.specs.Image.{file_of_program, lambdas_of}
+use Rattle.cc_emit_def.specs.Image.{file_of_program, lambdas_of}
 use Rattle.cc_compile.proofs.typed.file_with.Goals as goal
 
 pub returns : goal.returns

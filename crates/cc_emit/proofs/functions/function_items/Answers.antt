@@ -2,7 +2,7 @@ use Rattle.std.proofs.Common.{◌≡◌, sym, ap, subst, ◌∙◌, IsTrue, IfOk
 use Rattle.g_graph.specs.Plain.{PlainLambda}
 use Rattle.g_graph.specs.WellFormed.{all_of}
 use Rattle.s_linear.specs.Lines.{names_below}
-use Rattle.cc_image.proofs.lemmas.Lambdas.{names_fit, frame_fits_here, can_select_here, items_are}
+use Rattle.cc_emit_def.proofs.lemmas.Lambdas.{names_fit, frame_fits_here, can_select_here, items_are}
 use Rattle.cc_emit.proofs.functions.function_items.Goals as goal
 
 pub place-requires : goal.place-requires

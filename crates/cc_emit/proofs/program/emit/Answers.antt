@@ -3,9 +3,9 @@ use Rattle.std.specs.Arc.{arc_value}
 use Rattle.elf_file.specs.Image.{sections_of}
 use Rattle.g_graph.specs.Plain.{PlainOmega}
 use Rattle.rv_layout.specs.Layout.{item_lists}
-use Rattle.cc_image.specs.Image.{lambdas_of}
+use Rattle.cc_emit_def.specs.Image.{lambdas_of}
 use Rattle.cc_emit.proofs.Emitted.{main_fits, can_lay_out_here, image_here, placed_here, kept_here}
-use Rattle.cc_image.proofs.lemmas.Lambdas.{is_function}
+use Rattle.cc_emit_def.proofs.lemmas.Lambdas.{is_function}
 use Rattle.cc_emit.proofs.program.emit.Goals as goal
 
 pub all_items-requires : goal.all_items-requires

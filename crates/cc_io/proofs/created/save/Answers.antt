@@ -1,4 +1,5 @@
-use Rattle.std.proofs.Common.{rules}
+use Rattle.std.proofs.Common.{rules, Ok, ◌∙◌}
+use Rattle.cc_io.proofs.UnknownLemmas.{on_err-always}
 use Rattle.cc_io.proofs.lemmas.Created.{Lent, saved-ok, saved-err}
 use Rattle.cc_io.proofs.created.save.Goals as goal
 use Rattle.cc_io.proofs.created.save.Goals.{After-write_all}
@@ -15,10 +16,13 @@ lent g c =
       others = λ i. (kept i).others;
     }
 
+pub returns-in_err-write_all-clause-err : goal.returns-in_err-write_all-clause-err
+returns-in_err-write_all-clause-err g c =
+    let ended = c.from_residual-in_err-write_all.result in
+    saved-err ended g.F.Files.known _ _ _ _ _ _ _ _ (lent g (goal.at.returns-in_err-write_all-clause-err g c).After-write_all)
+    (on_err-always ended c.in_err-write_all.ensures.err) (search rules)
+
 pub returns-clause-ok : goal.returns-clause-ok
 returns-clause-ok g c =
-    saved-ok c.write_all.result g.F.Files.known _ _ _ _ _ _ _ _ (lent g (goal.at.returns-clause-ok g c).After-write_all) c.write_all.ensures.ok (search rules)
-
-pub returns-clause-err : goal.returns-clause-err
-returns-clause-err g c =
-    saved-err c.write_all.result g.F.Files.known _ _ _ _ _ _ _ _ (lent g (goal.at.returns-clause-err g c).After-write_all) c.write_all.ensures.err (search rules)
+    c.make_executable.ensures.known
+    ∙ saved-ok {E = Unit {0}} (Ok tt) g.F.Files.known _ _ _ _ _ _ _ _ (lent g (goal.at.returns-clause-ok g c).After-write_all) c.in_ok-write_all.ensures.ok (search rules)

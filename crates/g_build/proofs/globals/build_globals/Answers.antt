@@ -3,7 +3,7 @@ use Rattle.std.specs.Prelude.{slice_get}
 use Rattle.c_typed.specs.Typed.{ProgramTree}
 use Rattle.c_type.specs.Layout.{IsLaidOut}
 use Rattle.c_typed.specs.WellTyped.{GlobalIsTyped}
-use Rattle.g_expression.proofs.lemmas.Scopes.{within_get}
+use Rattle.g_build_expression.proofs.lemmas.Scopes.{within_get}
 use Rattle.g_build.proofs.WrittenBytes.{fitting_apart}
 use Rattle.g_build.proofs.globals.build_globals.Goals as goal
 

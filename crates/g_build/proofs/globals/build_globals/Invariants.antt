@@ -1,5 +1,5 @@
 use Rattle.std.proofs.Common.{◌≡◌, ◌++◌, map, drop}
-use Rattle.g_construct.specs.Globals.{global_made, globals_made}
+use Rattle.g_build_def.specs.Globals.{global_made, globals_made}
 use Rattle.g_build.proofs.globals.build_globals.Given as goal
 
 abbrev pub invariant-loop-i : goal.invariant-loop-i

@@ -1,8 +1,8 @@
 use Rattle.std.proofs.Common.{◌≡◌, ◌<◌, ◌+◌, ◌++◌, ◌∷◌, [], length, map, drop, take, replicate, ◌-◌, ap, sym, ◌∙◌, subst, arith}
 use Rattle.std.proofs.lemmas.List.{drop_more, drop_all}
 use Rattle.std.proofs.lemmas.Grind.{common_steps}
-use Rattle.c_typed.specs.ProgramViews.{written_of}
-use Rattle.g_construct.specs.Globals.{bytes_from}
+use Rattle.c_typed.specs.ProgramEncoding.{written_of}
+use Rattle.g_build_def.specs.Globals.{bytes_from}
 use Rattle.g_build.specs.Globals.{StandApart, item_bytes}
 use Rattle.g_build.proofs.WrittenBytes.{AreBytesBefore, bytes_more, apart_more, bytes_ended}
 use Rattle.g_build.proofs.globals.bytes.Goals as goal

@@ -1,5 +1,5 @@
 use Rattle.std.proofs.Common.{length, map, drop}
-use Rattle.c_typed.specs.ProgramViews.{written_of}
+use Rattle.c_typed.specs.ProgramEncoding.{written_of}
 use Rattle.g_build.specs.Globals.{StandApart}
 use Rattle.g_build.proofs.WrittenBytes.{AreBytesBefore}
 use Rattle.g_build.proofs.globals.bytes.Given as goal

@@ -1,6 +1,6 @@
 use Rattle.std.proofs.Common.{◌≡◌, ◌++◌, map, drop}
-use Rattle.c_typed.specs.ProgramViews.{written_of}
-use Rattle.g_construct.specs.Globals.{links_in}
+use Rattle.c_typed.specs.ProgramEncoding.{written_of}
+use Rattle.g_build_def.specs.Globals.{links_in}
 use Rattle.g_build.proofs.globals.links.Given as goal
 
 abbrev pub invariant-loop-item : goal.invariant-loop-item

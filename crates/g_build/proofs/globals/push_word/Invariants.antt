@@ -1,6 +1,6 @@
 use Rattle.std.proofs.Common.{◌≡◌, ◌++◌, ◌∷◌, [], ◌/◌, ◌*◌, ◌^◌}
 use Rattle.c_typed.specs.Typed.{word_at}
-use Rattle.g_construct.specs.Globals.{bytes_from}
+use Rattle.g_build_def.specs.Globals.{bytes_from}
 use Rattle.g_build.proofs.globals.push_word.Given as goal
 
 abbrev pub invariant-loop-i : goal.invariant-loop-i

@@ -1,6 +1,6 @@
 use Rattle.std.proofs.Common.{◌≡◌, ◌++◌, drop}
 use Rattle.c_typed.specs.WellTyped.{VariablesFit}
-use Rattle.g_construct.specs.Functions.{objects_made}
+use Rattle.g_build_def.specs.Functions.{objects_made}
 use Rattle.g_build.proofs.lambda.objects.Given as goal
 
 abbrev pub invariant-loop-variable : goal.invariant-loop-variable

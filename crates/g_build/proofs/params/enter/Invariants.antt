@@ -1,7 +1,7 @@
 use Rattle.std.proofs.Common.{◌≡◌, ◌++◌, ◌≤◌, drop}
-use Rattle.g_construct.specs.Writer.{with_variables}
-use Rattle.g_construct.specs.Functions.{params_carried}
-use Rattle.g_expression.specs.Work.{moved_to}
+use Rattle.g_build_def.specs.Writer.{with_variables}
+use Rattle.g_build_def.specs.Functions.{params_carried}
+use Rattle.g_build_expression.specs.Work.{moved_to}
 use Rattle.g_build.proofs.params.enter.Given as goal
 
 abbrev pub invariant-loop-i : goal.invariant-loop-i

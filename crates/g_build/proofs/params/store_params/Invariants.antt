@@ -1,6 +1,6 @@
 use Rattle.std.proofs.Common.{◌≡◌, ◌≤◌, drop}
-use Rattle.g_construct.specs.Functions.{params_stored}
-use Rattle.g_expression.specs.Work.{made}
+use Rattle.g_build_def.specs.Functions.{params_stored}
+use Rattle.g_build_expression.specs.Work.{made}
 use Rattle.g_build.proofs.params.store_params.Given as goal
 
 abbrev pub invariant-loop-i : goal.invariant-loop-i

@@ -1,5 +1,6 @@
 use Rattle.std.proofs.Common.{◌≡◌, ◌≤◌, drop}
-use Rattle.g_build.specs.Passed.{first_beyond, most_built_values}
+use Rattle.limits.specs.Limits.{most_built_values}
+use Rattle.g_build.specs.Passed.{first_beyond}
 use Rattle.g_build.proofs.passed.first_beyond.Given as goal
 
 abbrev pub invariant-loop-f : goal.invariant-loop-f

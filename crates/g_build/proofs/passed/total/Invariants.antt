@@ -1,7 +1,7 @@
 use Rattle.std.proofs.Common.{◌≡◌, ◌+◌, ◌<◌, ◌^◌, drop}
 use Rattle.std.specs.List.{sum_by}
 use Rattle.g_graph.specs.Count.{saturated}
-use Rattle.g_construct.specs.Functions.{function_values}
+use Rattle.g_build_def.specs.Functions.{function_values}
 use Rattle.g_build.proofs.passed.total.Given as goal
 
 abbrev pub invariant-loop-f : goal.invariant-loop-f

@@ -1,7 +1,7 @@
 use Rattle.std.proofs.Common.{◌<◌, length, sym, ap, ◌∙◌, arith}
 use Rattle.std.specs.Prelude.{slice_get}
 use Rattle.c_typed.specs.Typed.{ProgramTree}
-use Rattle.g_expression.proofs.lemmas.Scopes.{within_get}
+use Rattle.g_build_expression.proofs.lemmas.Scopes.{within_get}
 use Rattle.g_build.proofs.program.build_lambdas.Goals as goal
 
 pub build_lambda-requires : goal.build_lambda-requires

@@ -1,5 +1,5 @@
 use Rattle.std.proofs.Common.{◌≡◌, ◌++◌, drop}
-use Rattle.g_construct.specs.Functions.{graph, lambdas_made}
+use Rattle.g_build_def.specs.Functions.{graph, lambdas_made}
 use Rattle.g_build.proofs.program.build_lambdas.Given as goal
 
 abbrev pub invariant-loop-i : goal.invariant-loop-i

@@ -1,7 +1,7 @@
 use Rattle.std.proofs.Common.{◌≡◌, drop}
 use Rattle.c_typed.specs.StmtViews.{items_of}
-use Rattle.g_construct.specs.Functions.{straight_made}
-use Rattle.g_expression.specs.Work.{made}
+use Rattle.g_build_def.specs.Functions.{straight_made}
+use Rattle.g_build_expression.specs.Work.{made}
 use Rattle.g_build.proofs.straight_body.straight.Given as goal
 
 abbrev pub invariant-loop-i : goal.invariant-loop-i

@@ -1,6 +1,6 @@
 use Rattle.std.proofs.Common.{◌≡◌, map, drop}
 use Rattle.std.specs.Arc.{arc_value}
-use Rattle.g_recipe.specs.Answers.{lambdas_of}
+use Rattle.g_pass_def.specs.Answers.{lambdas_of}
 use Rattle.g_pass.specs.Sweep.{numbered}
 use Rattle.g_pass.proofs.callee.numbered.Given as goal
 

@@ -2,8 +2,8 @@ use Rattle.std.proofs.Common.{◌≡◌, map, take}
 use Rattle.std.specs.Arc.{arc_value}
 use Rattle.std.specs.List.{fold}
 use Rattle.g_graph.specs.WellFormed.{IsWellFormed}
-use Rattle.g_recipe.specs.Answers.{lambdas_of}
-use Rattle.g_recipe.specs.Sweep.{Swept, sweep}
+use Rattle.g_pass_def.specs.Answers.{lambdas_of}
+use Rattle.g_pass_def.specs.Sweep.{Swept, sweep}
 use Rattle.g_pass.specs.Sweep.{rules}
 use Rattle.g_pass.proofs.sweeps.optimise.Given as goal
 

@@ -1,8 +1,8 @@
 use Rattle.std.proofs.Common.{◌∙◌, ap, map, take}
 use Rattle.std.specs.Arc.{arc_value}
 use Rattle.std.specs.List.{fold}
-use Rattle.g_recipe.specs.Answers.{lambdas_of}
-use Rattle.g_recipe.specs.Sweep.{tried}
+use Rattle.g_pass_def.specs.Answers.{lambdas_of}
+use Rattle.g_pass_def.specs.Sweep.{tried}
 use Rattle.g_pass.specs.Sweep.{rules}
 use Rattle.g_pass.proofs.Swept.{on_err, same_swept}
 use Rattle.g_pass.proofs.sweeps.sweep.Goals as goal

@@ -2,7 +2,7 @@ use Rattle.std.proofs.Common.{sym, subst}
 use Rattle.g_graph.specs.Plain.{PlainLambda}
 use Rattle.g_graph.specs.WellFormed.{IsWellFormed}
 use Rattle.g_graph.specs.Program.{lambda_values, KeepsPrograms}
-use Rattle.g_edit.specs.Size.{IsNoLarger}
+use Rattle.r_edit.specs.Size.{IsNoLarger}
 use Rattle.g_mean.specs.Edits.{KeepsMeaning, KeepsComplete}
 use Rattle.r_cne.proofs.Cne.{cne_well_formed, cne_keeps, cne_keeps_lists, cne_keeps_program, cne_is_no_larger}
 use Rattle.r_cne.proofs.rule.apply.Goals as goal

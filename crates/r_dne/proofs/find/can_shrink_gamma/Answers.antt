@@ -1,8 +1,8 @@
 use Rattle.std.proofs.Common.{not, ◌&&◌, [], refl, sym, ap, ◌∙◌}
 use Rattle.g_graph.specs.Plain.{regions_of, regions_in}
 use Rattle.g_graph.specs.Signatures.{first_args}
-use Rattle.g_edit.specs.Exits.{regions_giving}
-use Rattle.g_edit.specs.InPlace.{all_stay}
+use Rattle.r_edit.specs.Exits.{regions_giving}
+use Rattle.r_edit.specs.InPlace.{all_stay}
 use Rattle.r_dne.specs.Rule.{used_entries}
 use Rattle.r_dne.proofs.Tests.{gamma_is}
 use Rattle.r_dne.proofs.find.can_shrink_gamma.Goals as goal

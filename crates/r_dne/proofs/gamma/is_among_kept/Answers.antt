@@ -2,7 +2,7 @@ use Rattle.std.proofs.Common.{◌+◌, ◌||◌, drop, sym, ◌∙◌}
 use Rattle.g_graph.specs.declared.op.Origin.TheVariants.{Arg}
 use Rattle.g_graph.specs.Scope.{same_origin}
 use Rattle.g_graph.specs.WellFormed.{some_of}
-use Rattle.g_edit.specs.Places.{kept}
+use Rattle.r_edit.specs.Places.{kept}
 use Rattle.r_dne.proofs.Tests.{kept_some_more}
 use Rattle.r_dne.proofs.gamma.is_among_kept.Goals as goal
 

@@ -1,7 +1,7 @@
 use Rattle.std.proofs.Common.{◌≡◌, drop}
 use Rattle.g_graph.specs.declared.op.Origin.TheVariants.{Arg}
 use Rattle.g_graph.specs.Plain.{regions_of}
-use Rattle.g_edit.specs.Exits.{regions_giving}
+use Rattle.r_edit.specs.Exits.{regions_giving}
 use Rattle.r_dne.specs.Rule.{some_uses}
 use Rattle.r_dne.proofs.gamma.some_uses.Given as goal
 

@@ -2,7 +2,7 @@ use Rattle.std.proofs.Common.{sym, subst}
 use Rattle.g_graph.specs.Plain.{PlainLambda}
 use Rattle.g_graph.specs.WellFormed.{IsWellFormed}
 use Rattle.g_graph.specs.Program.{lambda_values, KeepsPrograms}
-use Rattle.g_edit.specs.Size.{IsNoLarger}
+use Rattle.r_edit.specs.Size.{IsNoLarger}
 use Rattle.g_mean.specs.Edits.{KeepsMeaning, KeepsComplete}
 use Rattle.r_dne.proofs.Dne.{dne_keeps}
 use Rattle.r_dne.proofs.rule.apply.Goals as goal

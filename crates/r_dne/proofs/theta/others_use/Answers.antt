@@ -2,7 +2,7 @@ use Rattle.std.proofs.Common.{◌≡◌, ◌+◌, true, false, ◌||◌, take, d
 use Rattle.std.proofs.lemmas.List.{take_rest}
 use Rattle.g_graph.specs.Scope.{same_origin}
 use Rattle.g_graph.specs.WellFormed.{some_of}
-use Rattle.g_edit.specs.Sources.{origin_of}
+use Rattle.r_edit.specs.Origins.{origin_of}
 use Rattle.r_dne.proofs.Tests.{others_at}
 use Rattle.r_dne.proofs.theta.others_use.Goals as goal
 

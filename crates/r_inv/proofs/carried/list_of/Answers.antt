@@ -1,6 +1,6 @@
 use Rattle.std.proofs.Common.{◌++◌, ◌∷◌, [], sym, ap, ◌∙◌, arith}
 use Rattle.std.proofs.lemmas.List.{take_all}
-use Rattle.g_edit.proofs.lemmas.InPlace.{take_get}
+use Rattle.r_edit.proofs.lemmas.InPlace.{take_get}
 use Rattle.r_inv.proofs.carried.list_of.Goals as goal
 
 pub loop-i-preserved : goal.loop-i-preserved

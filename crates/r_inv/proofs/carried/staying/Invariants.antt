@@ -1,5 +1,5 @@
 use Rattle.std.proofs.Common.{◌≡◌, take}
-use Rattle.g_edit.specs.Carried.{staying}
+use Rattle.r_edit.specs.Carried.{staying}
 use Rattle.r_inv.proofs.carried.staying.Given as goal
 
 abbrev pub invariant-loop-origin : goal.invariant-loop-origin

@@ -1,6 +1,6 @@
 use Rattle.std.proofs.Common.{◌≡◌, drop}
 use Rattle.g_graph.specs.Plain.{regions_of}
-use Rattle.g_edit.specs.Carried.{all_pass}
+use Rattle.r_edit.specs.Carried.{all_pass}
 use Rattle.r_inv.proofs.gamma.all_pass.Given as goal
 
 abbrev pub invariant-loop-region : goal.invariant-loop-region

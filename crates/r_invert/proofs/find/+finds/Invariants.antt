@@ -1,6 +1,6 @@
 use Rattle.std.proofs.Common.{◌≡◌, drop}
 use Rattle.g_graph.specs.Plain.{nodes_of, regions_of}
-use Rattle.g_edit.specs.Found.{region_found, node_found, nodes_found, regions_found}
+use Rattle.r_edit.specs.Found.{region_found, node_found, nodes_found, regions_found}
 use Rattle.r_invert.specs.Edit.{loop_at}
 use Rattle.r_invert.proofs.find.+finds.Given as goal
 

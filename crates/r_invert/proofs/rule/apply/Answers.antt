@@ -4,7 +4,7 @@ use Rattle.g_graph.specs.Program.{lambda_values, KeepsPrograms}
 use Rattle.g_graph.specs.WellFormed.{IsWellFormed}
 use Rattle.g_graph.specs.contracts.lambda.Lambda as Lambda
 use Rattle.g_mean.specs.Edits.{KeepsMeaning, KeepsComplete}
-use Rattle.g_edit.specs.Size.{IsNoLarger}
+use Rattle.r_edit.specs.Size.{IsNoLarger}
 use Rattle.r_invert.proofs.Kept.{ivt_well_formed, ivt_keeps, ivt_keeps_lists, ivt_keeps_program, ivt_is_no_larger}
 use Rattle.r_invert.proofs.Applied.{body-is, applies-finds, next-fits, ivt-is}
 use Rattle.r_invert.proofs.rule.apply.Goals as goal

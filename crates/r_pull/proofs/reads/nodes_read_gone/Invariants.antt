@@ -1,7 +1,7 @@
 use Rattle.std.proofs.Common.{◌≡◌, drop}
 use Rattle.g_graph.specs.Plain.{nodes_of}
-use Rattle.g_edit.specs.Uses.{nodes_read}
-use Rattle.g_edit.specs.Entries.{is_gone_argument}
+use Rattle.r_edit.specs.Uses.{nodes_read}
+use Rattle.r_edit.specs.Entries.{is_gone_argument}
 use Rattle.r_pull.specs.Rule.{other_entries}
 use Rattle.r_pull.proofs.reads.nodes_read_gone.Given as goal
 

@@ -1,6 +1,6 @@
 use Rattle.std.proofs.Common.{◌≡◌, drop}
 use Rattle.g_graph.specs.WellFormed.{some_of}
-use Rattle.g_edit.specs.Entries.{is_gone_argument}
+use Rattle.r_edit.specs.Entries.{is_gone_argument}
 use Rattle.r_pull.specs.Rule.{other_entries}
 use Rattle.r_pull.proofs.reads.some_gone.Given as goal
 

@@ -3,7 +3,7 @@ use Rattle.g_graph.specs.Plain.{PlainLambda}
 use Rattle.g_graph.specs.WellFormed.{IsWellFormed}
 use Rattle.g_graph.specs.Program.{lambda_values, KeepsPrograms}
 use Rattle.g_mean.specs.Edits.{KeepsMeaning, KeepsComplete}
-use Rattle.g_edit.specs.Size.{IsNoLarger}
+use Rattle.r_edit.specs.Size.{IsNoLarger}
 use Rattle.r_pull.proofs.Step.{pll_well_formed, pll_keeps, pll_keeps_lists, pll_keeps_program, pll_is_no_larger}
 use Rattle.r_pull.proofs.rule.apply.Goals as goal
 

@@ -3,7 +3,7 @@ use Rattle.g_graph.specs.Plain.{PlainLambda}
 use Rattle.g_graph.specs.WellFormed.{IsWellFormed}
 use Rattle.g_graph.specs.Program.{lambda_values, KeepsPrograms}
 use Rattle.g_mean.specs.Edits.{KeepsMeaning, KeepsComplete}
-use Rattle.g_edit.specs.Size.{IsNoLarger}
+use Rattle.r_edit.specs.Size.{IsNoLarger}
 use Rattle.r_push.proofs.Kept.{psh_well_formed, psh_keeps, psh_keeps_lists, psh_keeps_program, psh_is_no_larger}
 use Rattle.r_push.proofs.Saturated.{changed_same}
 use Rattle.r_push.proofs.rule.apply.Goals as goal

@@ -7,8 +7,8 @@ use Rattle.g_graph.specs.WellFormed.{IsWellFormed}
 use Rattle.g_graph.specs.contracts.lambda.Lambda as Lambda
 use Rattle.g_mean.specs.Copies.{IsClosed}
 use Rattle.g_mean.specs.Edits.{KeepsMeaning, KeepsComplete}
-use Rattle.g_edit.specs.Size.{IsNoLarger}
-use Rattle.g_edit.specs.Found.{region_found}
+use Rattle.r_edit.specs.Size.{IsNoLarger}
+use Rattle.r_edit.specs.Found.{region_found}
 use Rattle.r_unroll.specs.Edit.{loop_at, followed_at, results_after, next_after}
 use Rattle.r_unroll.specs.Rule.{second_turn_of}
 use Rattle.r_unroll.proofs.Kept.{url_well_formed, url_keeps, url_keeps_lists, url_keeps_program, url_is_no_larger}

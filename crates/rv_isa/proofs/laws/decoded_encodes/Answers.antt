@@ -1,4 +1,4 @@
-use Rattle.rv_isa.proofs.lemmas.DecodedEncodes.{decoded_encodes}
+use Rattle.rv_isa.proofs.DecodedEncodes.{decoded_encodes}
 use Rattle.rv_isa.proofs.laws.decoded_encodes.Goals as goal
 
 pub returns : goal.returns

@@ -1,4 +1,4 @@
-use Rattle.rv_machine.proofs.lemmas.Unwritable.{unwritable_load_stays}
+use Rattle.rv_machine.proofs.Unwritable.{unwritable_load_stays}
 use Rattle.rv_machine.proofs.memory_laws.unwritable_load_stays.Goals as goal
 
 pub returns : goal.returns

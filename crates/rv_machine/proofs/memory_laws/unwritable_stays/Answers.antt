@@ -1,4 +1,4 @@
-use Rattle.rv_machine.proofs.lemmas.Unwritable.{unwritable_stays}
+use Rattle.rv_machine.proofs.Unwritable.{unwritable_stays}
 use Rattle.rv_machine.proofs.memory_laws.unwritable_stays.Goals as goal
 
 pub returns : goal.returns

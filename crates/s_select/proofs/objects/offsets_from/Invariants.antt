@@ -1,6 +1,6 @@
 use Rattle.std.proofs.Common.{◌≡◌, ◌+◌, ◌++◌, drop, sum_by}
 use Rattle.s_linear.specs.Frame.{object_room}
-use Rattle.s_select.specs.Objects.{offsets_from}
+use Rattle.s_select.specs.Operands.{offsets_from}
 use Rattle.s_select.proofs.objects.offsets_from.Given as goal
 
 -- with what is left, all of them

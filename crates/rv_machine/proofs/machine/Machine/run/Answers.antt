@@ -1,7 +1,7 @@
 use Rattle.std.proofs.Common.{refl, ◌∙◌, arith}
 use Rattle.rv_machine.specs.View.{state_of, flags_in, hart_of}
 use Rattle.rv_machine.proofs.Reached.{reached_none}
-use Rattle.rv_machine.proofs.Stopped.{done_runs, reached_next, stopped_next, budget_run, hart-runs, ended_machine}
+use Rattle.rv_machine.proofs.Stopped.{reached_next, stopped_next, budget_run, hart-runs, ended_machine}
 use Rattle.rv_machine.proofs.machine.Machine.run.Goals as goal
 
 pub returns-in-Some-clause-run : goal.returns-in-Some-clause-run
@@ -10,7 +10,7 @@ returns-in-Some-clause-run g c =
 
 pub loop-done-init : goal.loop-done-init
 loop-done-init g c = record {
-  runs = (state_of c.args.self.now, hart-runs c.args.self.now c.in_default.is);
+  runs = c.in_default.is;
   reached = reached_none (flags_in c.args.self.now) (hart_of c.args.self.now) _ refl;
   flags = refl;
   reads = omega arith;
@@ -22,7 +22,7 @@ pub loop-done-preserved : goal.loop-done-preserved
 loop-done-preserved g c =
     let d = c.in_default-step_from.ensures in
     record {
-      runs = done_runs _ _ _ _ d.done;
+      runs = d.runs;
       reached = reached_next (flags_in c.args.self.now) (flags_in c.loop-done.self) c.loop-done._done (hart_of c.args.self.now) _
           (hart_of c.loop-done.self) (hart_of c.step_from.new.self) _ _ c.loop-done.invariant.flags c.loop-done.invariant.reached d.done;
       flags = d.flags ∙ c.loop-done.invariant.flags;
@@ -31,16 +31,17 @@ loop-done-preserved g c =
       rest = d.rest ∙ c.loop-done.invariant.rest;
     }
 
-pub step_from-requires : goal.step_from-requires
-step_from-requires g c = c.loop-done.invariant.reached.at_end
+pub step_from-requires-clause-at_end : goal.step_from-requires-clause-at_end
+step_from-requires-clause-at_end g c = c.loop-done.invariant.reached.at_end
 
 pub returns-in-Some-step_from-clause-run : goal.returns-in-Some-step_from-clause-run
 returns-in-Some-step_from-clause-run g c =
     stopped_next (flags_in c.args.self.now) (flags_in c.loop-done.self) c.loop-done._done c.args.steps (hart_of c.args.self.now) _
     (hart_of c.loop-done.self) (hart_of c.step_from.new.self) _ _ c.in-Some-step_from.stop
-    c.loop-done.invariant.flags c.loop-done.invariant.reached c.loop-done-test.true c.loop-done.invariant.runs c.in-Some-step_from.ensures.stopped
+    c.loop-done.invariant.flags c.loop-done.invariant.reached c.loop-done-test.true
+    (state_of c.loop-done.self, hart-runs c.loop-done.self c.loop-done.invariant.runs) c.in-Some-step_from.ensures.stopped
 
 pub returns-clause-run : goal.returns-clause-run
 returns-clause-run g c =
     budget_run (flags_in c.args.self.now) c.loop-done._done c.args.steps (hart_of c.args.self.now) _ (hart_of c.loop-done.self) _
-    c.loop-done.invariant.reached (omega arith) c.loop-done.invariant.runs
+    c.loop-done.invariant.reached (omega arith) (state_of c.loop-done.self, hart-runs c.loop-done.self c.loop-done.invariant.runs)

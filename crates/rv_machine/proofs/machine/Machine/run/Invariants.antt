@@ -1,13 +1,11 @@
-use Rattle.std.proofs.Common.{◌≡◌, ◌≤◌, false}
-use Rattle.rv_machine.specs.Machine.{State}
-use Rattle.rv_machine.specs.Run.{running}
+use Rattle.std.proofs.Common.{◌≡◌, ◌≤◌, false, None}
 use Rattle.rv_machine.specs.View.{flags_in, hart_of}
 use Rattle.rv_machine.proofs.Reached.{IsReached}
 use Rattle.rv_machine.proofs.machine.Machine.run.Given as goal
 
 abbrev pub invariant-loop-done : goal.invariant-loop-done
 invariant-loop-done g l = record {
-  runs : (s : State) × (hart_of l.self ≡ running s);
+  runs : l.self.ending ≡ None;
   reached : IsReached (flags_in l.fn.self) l._done (hart_of l.fn.self)
       (record { held = g.O.Sink.held l.fn.output; left = g.I.Source.left l.fn.input; closed = false })
       (hart_of l.self)

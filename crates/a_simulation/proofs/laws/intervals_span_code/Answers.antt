@@ -1,5 +1,0 @@
-use Rattle.a_simulation.proofs.Standing.{intervals_span_code}
-use Rattle.a_simulation.proofs.laws.intervals_span_code.Goals as goal
-
-pub returns : goal.returns
-returns c = intervals_span_code

@@ -1,5 +1,0 @@
-use Rattle.a_simulation.proofs.Safe.{places_apart_are_safe}
-use Rattle.a_simulation.proofs.laws.places_apart_are_safe.Goals as goal
-
-pub returns : goal.returns
-returns c = places_apart_are_safe

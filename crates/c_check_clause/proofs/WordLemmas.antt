@@ -1,0 +1,1 @@
+-- One more word in a list and in a set.

@@ -1,0 +1,14 @@
+//! What the checker makes of a syntax tree, as a definition: the typed program, or the first broken
+//! rule. Of several broken rules in a declaration the one at the least offset counts. Nothing in it
+//! runs.
+#![tactic(auto)]
+
+mod call;
+mod dimension;
+mod meaning;
+mod refusal_kind;
+
+pub use call::{Called, Callee};
+pub use dimension::Dimension;
+pub use meaning::Meaning;
+pub use refusal_kind::{Broken, Quantity, RefusalKind};

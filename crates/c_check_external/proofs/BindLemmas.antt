@@ -1,0 +1,1 @@
+-- Parameters that are left, the first of them taken.

@@ -1,0 +1,11 @@
+pub mod ParamLemmas
+pub mod LoneLemmas
+pub mod BindLemmas
+pub mod AgreeLemmas
+pub mod NameLemmas
+pub mod TypeLemmas
+pub mod LaidLemmas
+pub mod KeptLemmas
+pub mod StructLemmas
+pub mod LargeLemmas
+pub mod MemberLemmas

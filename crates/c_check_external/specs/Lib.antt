@@ -1,0 +1,4 @@
+pub mod Codes
+pub mod Params
+pub mod MemberLists
+pub mod Structs

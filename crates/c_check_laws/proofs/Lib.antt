@@ -1,0 +1,5 @@
+pub mod lemmas
+mod Assigning
+mod Binary
+mod Operators
+mod Values

@@ -1,0 +1,39 @@
+use Rattle.std.proofs.Common.{◌+◌, ◌∙◌, ap, sym, subst, reverse, not, arith}
+use Rattle.c_check_scope.specs.Scopes.{is_declared, with_declaration}
+use Rattle.c_check_scope.specs.Nested.{scopes_of, AreCounted}
+use Rattle.c_check_scope.proofs.ScopesLemmas.{few, innermost, counted-more, scopes-more}
+use Rattle.c_check_scope.proofs.scopes.Scopes.declare.Goals as goal
+
+pub is_among_latest-requires : goal.is_among_latest-requires
+is_among_latest-requires g c = few c.self.inside.declarations c.self.inside.count (reverse c.self.inside.outer.items) c.self.invariant
+
+pub returns-then-is_among_latest-clause-new : goal.returns-then-is_among_latest-clause-new
+returns-then-is_among_latest-clause-new g c =
+    let s = c.self.inside in
+    let name = c.args.name.now in
+    ap not (sym c.if-is_among_latest.true ∙ c.is_among_latest.ensures.value ∙ innermost s.declarations s.count (reverse s.outer.items) name ∙ ap (λ scopes. is_declared scopes name) c.self.view_is)
+
+pub overflow_add-self : goal.overflow_add-self
+overflow_add-self g c =
+    let h = few c.self.inside.declarations c.self.inside.count (reverse c.self.inside.outer.items) c.self.invariant in
+    omega (arith, h, c.is_among_latest.ensures.small)
+
+pub invariant_of-self-2 : goal.invariant_of-self-2
+invariant_of-self-2 g c =
+    let s = c.self.inside in
+    let ns = reverse s.outer.items in
+    subst (λ ds. AreCounted ds (s.count + 1) ns) (sym c.in_ok-push.ensures.ok) (counted-more s.declarations s.count ns (c.args.name.now, c.args.meaning) c.self.invariant)
+
+pub returns-clause-new : goal.returns-clause-new
+returns-clause-new g c =
+    let s = c.self.inside in
+    let name = c.args.name.now in
+    ap not (sym c.if-is_among_latest.false ∙ c.is_among_latest.ensures.value ∙ innermost s.declarations s.count (reverse s.outer.items) name ∙ ap (λ scopes. is_declared scopes name) c.self.view_is)
+
+pub returns-clause-scopes : goal.returns-clause-scopes
+returns-clause-scopes g c =
+    let s = c.self.inside in
+    let ns = reverse s.outer.items in
+    let name = c.args.name.now in
+    ap (λ ds. scopes_of ds (s.count + 1) ns) c.in_ok-push.ensures.ok ∙ scopes-more s.declarations s.count ns name c.args.meaning
+    ∙ ap (λ scopes. with_declaration scopes name c.args.meaning) c.self.view_is

@@ -1,6 +1,0 @@
-use Rattle.std.proofs.Common.{sym, ap, ◌∙◌}
-use Rattle.c_elaboration.specs.Initialisers.{is_address}
-use Rattle.c_declaration.proofs.values.is_address.Goals as goal
-
-pub returns-in-Place : goal.returns-in-Place
-returns-in-Place c = c.is_global_array.ensures c.args.state.now.globals c.in-Place.is_const ∙ ap (is_address c.args.state.now.globals) (sym c.in-Place.is)

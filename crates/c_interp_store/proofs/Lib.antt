@@ -1,0 +1,7 @@
+mod Ascending
+mod Cells
+mod Blocks
+mod Lifetimes
+mod Calls
+mod Holding
+mod Shapes

@@ -1,0 +1,4 @@
+pub mod Ascending
+pub mod Cells
+pub mod Blocks
+pub mod Holding

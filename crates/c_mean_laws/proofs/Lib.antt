@@ -1,0 +1,6 @@
+mod Tests
+mod Numbers
+mod Values
+mod Pointers
+mod Accesses
+mod examples

@@ -1,4 +1,0 @@
-pub mod ParamLemmas
-pub mod LoneLemmas
-pub mod BindLemmas
-pub mod AgreeLemmas

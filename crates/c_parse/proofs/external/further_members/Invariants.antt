@@ -1,0 +1,12 @@
+use Rattle.std.proofs.Common.{◌≡◌, ◌-◌, [], ◌∷◌}
+use Rattle.c_ast.specs.Externals.{members}
+use Rattle.c_ast.specs.Nodes.{many}
+use Rattle.c_ast.specs.Nonterminals.{Many}
+use Rattle.c_ast.specs.Productions as production
+use Rattle.c_parse_laws.specs.Reader.{read, turns}
+use Rattle.c_parse.proofs.external.further_members.Given as goal
+
+abbrev pub invariant-loop-of-read_list : goal.invariant-loop-of-read_list
+invariant-loop-of-read_list l =
+    read l.fn.fuel (Many production.MoreMembers) l.fn.tokens
+    ≡ turns (read (l.fn.fuel - 1)) (l.fn.fuel - l._turn) (Many production.MoreMembers) (many production.MoreMembers (λ x. members x ∷ []) l.found) l.tokens

@@ -1,0 +1,11 @@
+use Rattle.std.proofs.Common.{◌≡◌, ◌-◌}
+use Rattle.c_ast.specs.Expressions.{texts}
+use Rattle.c_ast.specs.Nonterminals.{Many}
+use Rattle.c_ast.specs.Productions as production
+use Rattle.c_parse_laws.specs.Reader.{read, turns}
+use Rattle.c_parse_expression.proofs.literals.more_literals.Given as goal
+
+abbrev pub invariant-loop-of-read_list : goal.invariant-loop-of-read_list
+invariant-loop-of-read_list l =
+    read l.fn.fuel (Many production.MoreLiterals) l.fn.tokens
+    ≡ turns (read (l.fn.fuel - 1)) (l.fn.fuel - l._turn) (Many production.MoreLiterals) (texts l.literals) l.tokens

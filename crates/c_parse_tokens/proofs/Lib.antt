@@ -1,0 +1,5 @@
+pub mod lemmas
+mod Marks
+mod Begins
+mod OperandLemmas
+mod Counters

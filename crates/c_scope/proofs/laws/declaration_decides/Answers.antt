@@ -1,5 +1,0 @@
-use Rattle.c_scope.proofs.ScopesLemmas.{declaration-decides}
-use Rattle.c_scope.proofs.laws.declaration_decides.Goals as goal
-
-pub returns : goal.returns
-returns g c = declaration-decides

@@ -1,5 +1,0 @@
-use Rattle.c_scope.proofs.ScopesLemmas.{declaration-is-inner}
-use Rattle.c_scope.proofs.laws.declaration_is_inner.Goals as goal
-
-pub returns : goal.returns
-returns g c = declaration-is-inner

@@ -1,4 +1,0 @@
-pub mod lemmas
-mod ArmLemmas
-mod ItemLemmas
-mod LoopLemmas

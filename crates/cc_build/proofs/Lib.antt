@@ -1,0 +1,5 @@
+mod SourceLemmas
+mod AcceptLemmas
+mod BuildLemmas
+mod BuildLaws
+mod WatcherLemmas

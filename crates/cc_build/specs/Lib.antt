@@ -1,0 +1,4 @@
+pub mod Compiled
+pub mod Watchers
+pub mod AcceptEnds
+pub mod BuildEnds

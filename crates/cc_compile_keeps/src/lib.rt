@@ -1,0 +1,5 @@
+//! The law that the image of a program does what the program does. With it comes the law of how
+//! many instructions a program of one `return` takes. Nothing in it runs, and it takes no memory.
+#![tactic(auto)]
+
+pub mod laws;

@@ -1,0 +1,6 @@
+//! What the image of a whole program is, from its lambdas and globals, with its laws. It is the
+//! composition of sequencing, placing, selecting and laying out. Nothing in it runs, and it takes
+//! no memory.
+#![tactic(auto)]
+
+pub mod laws;

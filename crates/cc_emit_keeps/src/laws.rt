@@ -1,0 +1,20 @@
+//! Laws of images, for the proofs of the crates above: each is the contract of a function that does
+//! nothing.
+
+ghost use Rattle.cc_emit_keeps.specs.Images.{ImagesKeepMeaning};
+
+/// The image of every program within the limits does on the machine what its lambdas do, on every
+/// input of bytes on which no bound makes them undefined: it loads, and does so bounded run for
+/// bounded run both ways, or stops for want of stack after a beginning of their output, where the
+/// frames of some stack of calls need more than the stack has.
+pub fn images_keep_meaning()
+    ensures { ImagesKeepMeaning }
+{
+    s_select_keeps::laws::programs_are_kept();
+    a_place_keeps::laws::sequenced_functions_agree();
+    s_sequence_keeps::laws::runs_are_within_each_other();
+    cc_emit_def::laws::program_loads();
+    cc_emit_def::laws::image_is_placed();
+    elf_file::laws::loaded_is_sound();
+    rv_layout_keeps::laws::globals_are_shown();
+}

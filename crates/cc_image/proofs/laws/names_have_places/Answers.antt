@@ -1,5 +1,0 @@
-use Rattle.cc_image.proofs.Placed.{names_have_places}
-use Rattle.cc_image.proofs.laws.names_have_places.Goals as goal
-
-pub returns : goal.returns
-returns c = names_have_places c.places_are_below_count.ensures

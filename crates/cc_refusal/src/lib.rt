@@ -1,0 +1,10 @@
+//! Why a source is refused: the refusal that each fault of a phase is, with its line.
+//! Always: a source is accepted or has one refusal, never both and never two.
+#![tactic(auto)]
+
+pub mod laws;
+mod outcome;
+mod refusal;
+
+pub use outcome::outcome_of;
+pub use refusal::refusal_of;

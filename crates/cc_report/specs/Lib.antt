@@ -1,0 +1,5 @@
+pub mod Refusal
+pub mod LogFault
+pub mod Outcome
+pub mod Text
+pub mod Report

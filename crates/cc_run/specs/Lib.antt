@@ -1,0 +1,3 @@
+pub mod StopOutcomes
+pub mod RunEnds
+pub mod GenerateEnds

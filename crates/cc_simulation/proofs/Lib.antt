@@ -1,2 +1,0 @@
-mod Programs
-pub mod lemmas

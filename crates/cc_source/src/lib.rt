@@ -1,0 +1,10 @@
+//! From a source to its typed program: which sources are accepted, and why the others are not.
+//! Always: each fault is that of the phase that refuses the source, out of memory apart.
+#![tactic(auto)]
+
+mod fault;
+pub mod laws;
+mod source;
+
+pub use fault::CompileFault;
+pub use source::{accepted_of, typed_of};

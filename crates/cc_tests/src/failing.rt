@@ -1,0 +1,124 @@
+//! Calls on the files and streams that fail in mid-stream.
+use crate::calls::{DEFAULT, FAILING_CALLS, called_on_image, called_on_source, image_by, is_left};
+use crate::sources::{ANSWER, DIAMOND, ECHO};
+use std::test::Fail;
+
+/// The arguments of a call, what it is given on the input, which calls on the files, the input, the
+/// output and the report fail, and then the status, the output, the report and how many bytes the
+/// file `out` has, if it is there. The file `image` is an image of `ECHO`.
+type Row = (
+    &'static [&'static str],
+    &'static [u8],
+    [&'static [u64]; 4],
+    u8,
+    &'static [u8],
+    &'static [u8],
+    Option<usize>,
+);
+
+const RUN: &[&str] = &["rvcc", "run", "image"];
+
+const GEN: &[&str] = &["rvcc", "gen", "1", "1", "out"];
+
+const GEN_LONG: &[&str] = &["rvcc", "gen", "1", "100", "out"];
+
+const REFUSED: &[u8] = b"int main(void) { x = 1; return 0; }";
+
+const READ: &[u8] = b"read fault\n";
+
+const WRITE: &[u8] = b"write fault\n";
+
+const YES: &[u8] = b"accepted 1\n";
+
+const ROWS: [Row; 17] = [
+    // A source on the input.
+    (&[], ANSWER, [&[], &[], &[], &[]], 0, YES, b"", None),
+    (&["rvcc"], ANSWER, [&[], &[0], &[], &[]], 2, b"", READ, None),
+    (&["rvcc"], ANSWER, [&[], &[1], &[], &[]], 2, b"", READ, None),
+    (&["rvcc"], ANSWER, [&[], &[2], &[], &[]], 0, YES, b"", None),
+    (
+        &["rvcc"],
+        ANSWER,
+        [&[0], &[], &[0], &[]],
+        3,
+        b"",
+        WRITE,
+        None,
+    ),
+    (
+        &["rvcc"],
+        ANSWER,
+        [&[0], &[], &[1], &[0]],
+        0,
+        YES,
+        b"",
+        None,
+    ),
+    (
+        &["rvcc"],
+        REFUSED,
+        [&[], &[], &[0], &[0]],
+        3,
+        b"",
+        b"",
+        None,
+    ),
+    // A run of a program that copies its input.
+    (RUN, b"abc", [&[0], &[], &[], &[]], 2, b"", READ, None),
+    (RUN, b"abc", [&[2], &[], &[], &[]], 2, b"", READ, None),
+    (RUN, b"abc", [&[], &[0], &[], &[]], 2, b"", READ, None),
+    (RUN, b"abc", [&[], &[2], &[], &[]], 2, b"ab", READ, None),
+    (RUN, b"abc", [&[], &[], &[0], &[]], 3, b"", WRITE, None),
+    (RUN, b"abc", [&[], &[], &[1], &[]], 3, b"a", WRITE, None),
+    (RUN, b"abc", [&[], &[], &[], &[0]], 3, b"abc", b"", None),
+    // A program is generated: call 0 creates, and call 1 writes the first chunk.
+    (GEN, b"", [&[0], &[], &[], &[]], 3, b"", WRITE, None),
+    (GEN, b"", [&[1], &[], &[], &[]], 3, b"", WRITE, Some(0)),
+    (
+        GEN_LONG,
+        b"",
+        [&[2], &[], &[], &[]],
+        3,
+        b"",
+        WRITE,
+        Some(4096),
+    ),
+];
+
+#[test]
+fn failing_calls_have_their_status(rt: HostRuntime) -> Result<(), Fail> {
+    let alloc = rt.alloc();
+    let image = image_by(&rt, alloc, ECHO, "none", "1")?;
+    for (k, row) in ROWS.iter().enumerate() {
+        let (words, input, failing, status, output, report, len) = *row;
+        let left = called_on_image(&rt, alloc, words, &image, input, failing)?;
+        assert_eq!(rt; left.status, status, "row {k}");
+        assert_eq!(rt; left.output.bytes(), output, "row {k}");
+        assert_eq!(rt; left.report.bytes(), report, "row {k}");
+        assert_eq!(rt;
+            left.files.get("out").map(|held| held.len()),
+            len,
+            "row {k}"
+        );
+    }
+    Ok(())
+}
+
+#[test]
+fn failing_calls_of_a_build_have_their_status(rt: HostRuntime) -> Result<(), Fail> {
+    let alloc = rt.alloc();
+    for source in [ANSWER, DIAMOND] {
+        let image = image_by(&rt, alloc, source, DEFAULT, "1")?;
+        for (call, status, report, len) in FAILING_CALLS {
+            for workers in ["1", "2"] {
+                let words = ["rvcc", "build", "in", "out", "--workers", workers];
+                let left = called_on_source(&rt, alloc, &words, source, &[call])?;
+                assert!(rt;
+                    is_left(&left, status, report, &image, len),
+                    "call {call} by {workers}"
+                );
+            }
+        }
+    }
+    Ok(())
+}

@@ -1,0 +1,5 @@
+pub mod Values
+pub mod ScopeViews
+pub mod ScopeHeight
+pub mod ExitsViews
+pub mod Weights

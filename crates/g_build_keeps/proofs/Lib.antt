@@ -1,0 +1,7 @@
+pub mod lemmas
+pub mod Examples
+mod Rows
+mod Functions
+mod Leaves
+mod Programs
+mod Runs

@@ -1,0 +1,4 @@
+pub mod Variables
+pub mod LabelViews
+pub mod LabelParts
+pub mod Segments

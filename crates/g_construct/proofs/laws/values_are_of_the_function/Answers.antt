@@ -1,5 +1,0 @@
-use Rattle.g_construct.proofs.lemmas.Programs.{values_are_of_the_function}
-use Rattle.g_construct.proofs.laws.values_are_of_the_function.Goals as goal
-
-pub returns : goal.returns
-returns c = values_are_of_the_function

@@ -1,9 +1,0 @@
-pub mod Has
-pub mod HasExpressions
-pub mod HasDeclarations
-pub mod HasStatements
-pub mod HasFunctions
-pub mod Near
-pub mod Groups
-pub mod Steps
-pub mod Entered

@@ -1,6 +1,0 @@
-pub mod Values
-pub mod ScopeViews
-pub mod ScopeCodes
-pub mod ScopeHeight
-pub mod ExitsViews
-pub mod Weights

@@ -1,8 +1,0 @@
-use Rattle.g_edit.proofs.lemmas.Carried as lemma
-use Rattle.g_edit.proofs.laws.carried_uses_move.Goals as goal
-
-pub returns-clause-exits : goal.returns-clause-exits
-returns-clause-exits c = lemma.carried_exits_go
-
-pub returns-clause-uses : goal.returns-clause-uses
-returns-clause-uses c = lemma.carried_uses_move

@@ -1,5 +1,0 @@
-use Rattle.g_edit.proofs.lemmas.Parts as parts
-use Rattle.g_edit.proofs.laws.placed_parts_refine.Goals as goal
-
-pub returns : goal.returns
-returns c = parts.placed_parts_refine

@@ -1,5 +1,0 @@
-use Rattle.g_edit.proofs.lemmas.Removal as removal
-use Rattle.g_edit.proofs.laws.unread_nodes_go.Goals as goal
-
-pub returns : goal.returns
-returns c = removal.unread_nodes_go

@@ -1,5 +1,0 @@
-use Rattle.g_edit.proofs.lemmas.Variables as variables
-use Rattle.g_edit.proofs.laws.unread_variables_go.Goals as goal
-
-pub returns : goal.returns
-returns c = variables.unread_variables_go

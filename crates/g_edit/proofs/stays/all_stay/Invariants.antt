@@ -1,6 +1,0 @@
-use Rattle.std.proofs.Common.{◌≡◌, drop}
-use Rattle.g_edit.specs.InPlace.{all_stay}
-use Rattle.g_edit.proofs.stays.all_stay.Given as goal
-
-abbrev pub invariant-loop-i : goal.invariant-loop-i
-invariant-loop-i g l = all_stay (drop l.i (g.S.Stays.stays l.variables)) ≡ all_stay (g.S.Stays.stays l.variables)

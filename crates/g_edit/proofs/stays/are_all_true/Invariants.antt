@@ -1,6 +1,0 @@
-use Rattle.std.proofs.Common.{◌≡◌, drop}
-use Rattle.g_edit.specs.InPlace.{all_stay}
-use Rattle.g_edit.proofs.stays.are_all_true.Given as goal
-
-abbrev pub invariant-loop-test : goal.invariant-loop-test
-invariant-loop-test l = all_stay (drop l.test-index l.tests) ≡ all_stay l.tests

@@ -1,7 +1,0 @@
-pub mod SlotViews
-pub mod Places
-pub mod Numbers
-pub mod Work
-pub mod WorkCodes
-pub mod SpotViews
-pub mod Parts

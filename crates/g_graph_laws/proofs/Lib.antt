@@ -1,0 +1,5 @@
+pub mod lemmas
+mod FormationLemmas
+mod Fits
+mod Once
+mod Outputs

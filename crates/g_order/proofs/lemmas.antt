@@ -1,3 +1,0 @@
-pub mod Known
-pub mod Increasing
-pub mod Orders

@@ -1,0 +1,6 @@
+pub mod lemmas
+mod Chosen
+mod Images
+mod Kept
+mod Recipes
+mod Replayed

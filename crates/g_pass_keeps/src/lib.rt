@@ -1,0 +1,6 @@
+//! The laws that what recipes make of lambdas may stand for them, and that the answers of a list
+//! keep it.
+//! Nothing in it runs.
+#![tactic(auto)]
+
+pub mod laws;

@@ -1,0 +1,3 @@
+mod Increasing
+mod Known
+mod Orders

@@ -1,5 +1,0 @@
-use Rattle.g_recipe.proofs.lemmas.Images.{kept_lists_fit_images}
-use Rattle.g_recipe.proofs.laws.kept_lists_fit_images.Goals as goal
-
-pub returns : goal.returns
-returns c = kept_lists_fit_images

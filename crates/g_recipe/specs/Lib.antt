@@ -1,4 +1,0 @@
-pub mod Sweep
-pub mod Answers
-pub mod Kept
-pub mod Laws

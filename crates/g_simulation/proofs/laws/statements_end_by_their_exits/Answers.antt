@@ -1,8 +1,0 @@
-use Rattle.g_simulation.proofs.lemmas.Leaves.{stmt-ends, items-end}
-use Rattle.g_simulation.proofs.laws.statements_end_by_their_exits.Goals as goal
-
-pub returns-clause-statements : goal.returns-clause-statements
-returns-clause-statements c = stmt-ends
-
-pub returns-clause-items : goal.returns-clause-items
-returns-clause-items c = items-end

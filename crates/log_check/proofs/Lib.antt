@@ -1,0 +1,7 @@
+mod LineEnds
+mod Maybe
+mod Numbers
+mod OneReading
+mod ReadSoFar
+mod Splits
+mod Words

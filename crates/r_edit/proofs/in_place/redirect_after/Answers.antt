@@ -1,0 +1,24 @@
+use Rattle.std.proofs.Common.{◌≡◌, sym, ap, ◌∙◌, arith}
+use Rattle.std.specs.declared.option.Option.TheVariants.{Some, None}
+use Rattle.g_graph.specs.Plain.{nodes_of}
+use Rattle.g_graph.specs.Change.{node_index}
+use Rattle.g_graph.proofs.lemmas.Splices.{index_within}
+use Rattle.r_edit.proofs.lemmas.InPlace.{after_none, after_at}
+use Rattle.r_edit.proofs.in_place.redirect_after.Goals as goal
+
+pub overflow_add-index : goal.overflow_add-index
+overflow_add-index g c =
+    let index : node_index c.args.id 0 (nodes_of c.args.nodes.now.items) ≡ Some c.in-Some.index =
+    ap (λ xs. node_index c.args.id 0 (nodes_of xs)) (sym c.deref.ensures.value) ∙ sym c.in-Some.ensures in
+    omega (arith, index_within c.args.id c.in-Some.index c.args.nodes.now.items index, c.args.nodes.now.ok.0)
+
+pub returns-in-Some : goal.returns-in-Some
+returns-in-Some g c =
+    let index : node_index c.args.id 0 (nodes_of c.args.nodes.now.items) ≡ Some c.in-Some.index =
+    ap (λ xs. node_index c.args.id 0 (nodes_of xs)) (sym c.deref.ensures.value) ∙ sym c.in-Some.ensures in
+    ap nodes_of c.redirect_nodes.ensures ∙ sym (after_at c.args.id (g.R.Redirect.redirected c.args.by.now) c.in-Some.index c.args.nodes.now.items index)
+
+pub returns-in-None : goal.returns-in-None
+returns-in-None g c =
+    let none : node_index c.args.id 0 (nodes_of c.args.nodes.now.items) ≡ None = ap (λ xs. node_index c.args.id 0 (nodes_of xs)) (sym c.deref.ensures.value) ∙ sym c.in-None.ensures in
+    sym (after_none c.args.id (g.R.Redirect.redirected c.args.by.now) 0 (nodes_of c.args.nodes.now.items) none)

@@ -1,0 +1,35 @@
+pub mod Lookup
+pub mod Uses
+pub mod Kept
+pub mod Parts
+pub mod Placed
+pub mod Scopes
+pub mod Swapped
+pub mod Removal
+pub mod Exits
+pub mod ExitsFit
+pub mod Entries
+pub mod EntriesFit
+pub mod Variables
+pub mod VariablesFit
+pub mod Shrunk
+pub mod Invariant
+pub mod InPlace
+pub mod PlacesInPlace
+mod Redirected
+pub mod Carried
+pub mod Size
+pub mod Added
+pub mod AddedFit
+pub mod Steps
+mod CarriedFit
+pub mod CarriedExits
+pub mod CarriedUses
+pub mod Fewer
+pub mod Exchanged
+pub mod Pure
+pub mod Meant
+pub mod Consecutive
+pub mod Found
+pub mod Loops
+pub mod Numbers

@@ -1,0 +1,14 @@
+use Rattle.std.proofs.Common.{◌++◌, ◌∷◌, [], sym, ap, ◌∙◌, arith}
+use Rattle.std.proofs.lemmas.List.{take_all}
+use Rattle.r_edit.proofs.lemmas.InPlace.{take_get}
+use Rattle.r_edit.proofs.stays.list_of.Goals as goal
+
+pub loop-i-preserved : goal.loop-i-preserved
+loop-i-preserved g c =
+    let xs = g.S.Stays.stays c.args.variables.now in
+    c.in_ok-push.ensures.items ∙ ap (λ ys. ys ++ c.keeps.result ∷ []) c.loop-i.invariant ∙ sym (take_get xs c.loop-i.i c.keeps.result c.keeps.ensures)
+
+pub returns : goal.returns
+returns g c =
+    let xs = g.S.Stays.stays c.args.variables.now in
+    c.loop-i.invariant ∙ take_all c.loop-i.i xs (omega (arith, c.count-i-end.ensures))

@@ -1,0 +1,16 @@
+pub mod Lookup
+pub mod Uses
+pub mod Removal
+pub mod Places
+pub mod Exits
+pub mod Entries
+pub mod Variables
+pub mod Parts
+pub mod Laws
+pub mod InPlace
+pub mod Carried
+pub mod Size
+pub mod Added
+pub mod Steps
+pub mod Origins
+pub mod Found

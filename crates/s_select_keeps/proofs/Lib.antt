@@ -1,0 +1,27 @@
+mod Examples
+mod Runs
+pub mod lemmas
+mod Arguments
+mod Bodies
+mod Branches
+mod Calls
+mod Clears
+mod Exits
+mod Formats
+mod Frames
+mod Functions
+mod GetStub
+mod Items
+mod Kept
+mod LineFormats
+mod MainRuns
+mod Memories
+mod Pointers
+mod Programs
+mod PutStub
+mod Rows
+mod Starts
+mod Streams
+mod Table
+mod TextFormats
+mod Words

@@ -1,0 +1,5 @@
+//! The laws that templates do linear code on the machine, with calls and objects.
+//! Here is also the law that the machine keeps the behaviour of a program. Nothing in it runs.
+#![tactic(auto)]
+
+pub mod laws;

@@ -1,0 +1,4 @@
+pub mod lemmas
+mod Examples
+mod ClosedCode
+mod Functions

@@ -1,3 +1,0 @@
-mod Examples
-mod Runs
-pub mod lemmas

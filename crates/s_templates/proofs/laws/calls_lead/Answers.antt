@@ -1,8 +1,0 @@
-use Rattle.s_templates.proofs.lemmas.Calls.{call_leads, return_leads}
-use Rattle.s_templates.proofs.laws.calls_lead.Goals as goal
-
-pub returns-clause-call : goal.returns-clause-call
-returns-clause-call c = call_leads
-
-pub returns-clause-back : goal.returns-clause-back
-returns-clause-back c = return_leads

@@ -1,5 +1,0 @@
-use Rattle.s_templates.proofs.lemmas.Bodies as lemma
-use Rattle.s_templates.proofs.laws.code_is_done.Goals as goal
-
-pub returns : goal.returns
-returns c = lemma.code_is_done c.instructions_are_done.ensures c.store_keeps_blocks.ensures c.clear_keeps_blocks.ensures

@@ -1,7 +1,0 @@
-use Rattle.s_templates.proofs.lemmas.Functions as lemma
-use Rattle.s_templates.proofs.laws.functions_run.Goals as goal
-
-pub returns : goal.returns
-returns c =
-    lemma.functions_run c.instructions_are_done.ensures c.store_keeps_blocks.ensures c.clear_keeps_blocks.ensures c.new_blocks_keep_loads.ensures
-    c.closed_blocks_keep_loads.ensures

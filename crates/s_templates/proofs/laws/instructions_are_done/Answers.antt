@@ -1,5 +1,0 @@
-use Rattle.s_templates.proofs.lemmas.Table.{instr_is_done}
-use Rattle.s_templates.proofs.laws.instructions_are_done.Goals as goal
-
-pub returns : goal.returns
-returns c = instr_is_done c.templates_store.ensures c.templates_clear.ensures

@@ -1,5 +1,0 @@
-use Rattle.s_templates.proofs.lemmas.Kept.{program_is_kept}
-use Rattle.s_templates.proofs.laws.programs_are_kept.Goals as goal
-
-pub returns : goal.returns
-returns c = program_is_kept c.programs_run.ensures

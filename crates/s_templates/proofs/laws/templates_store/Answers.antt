@@ -1,5 +1,0 @@
-use Rattle.s_templates.proofs.lemmas.Memories.{store_is_done}
-use Rattle.s_templates.proofs.laws.templates_store.Goals as goal
-
-pub returns : goal.returns
-returns c = store_is_done c.load_after_store.ensures c.load_elsewhere.ensures c.store_keeps_blocks.ensures

@@ -1,5 +1,0 @@
-//! Tests of watchers. No crate stands on it, and it has no function of its own.
-#![tactic(auto)]
-
-#[cfg(test)]
-mod texts;

@@ -1,0 +1,113 @@
+#!/bin/sh
+# Holds the tables of crates in docs/ARCHITECTURE.md, between the two marks, against the crates: names, the first sentence of each root
+# file's head, its sentence that begins `Always:`, what the crate stands on, and lines of code, specs and proofs that are not blank. A
+# name, a sentence or an edge must be as it is; a count may be off by a tenth or 50 lines. `map.sh --write` writes the tables.
+set -u
+cd "$(dirname "$0")/.." || exit 1
+script=tools/map.sh
+. tools/lib.sh
+page=docs/ARCHITECTURE.md
+
+# crate, sentence, `Always:` sentence, and counts, separated by tabs; a wrong head ends the script with its file and line.
+sed -n 's/^\([a-z][a-z0-9_]*\).*/\1/p' crates.txt >"$folder/names"
+while read -r crate; do
+    [ -d "crates/$crate" ] || fail "$crate has a line in crates.txt and no folder"
+    root=crates/$crate/src/lib.rt
+    [ -e "$root" ] || root=crates/$crate/src/main.rt
+    [ -e "$root" ] || fail "crates/$crate has no root file"
+    awk -v root="$root" '
+        !/^\/\/!/ { exit }
+        { sub(/^\/\/! ?/, ""); text = text (text == "" ? "" : " ") $0; if (index($0, "|")) { print root ":" NR ": a head has no |"; wrong = 1; exit } }
+        function sentence(s,  at) {
+            at = match(s, /\.( |$)/)
+            return at ? substr(s, 1, at) : ""
+        }
+        END {
+            if (wrong) exit 1
+            first = sentence(text)
+            if (first == "") { print root ":1: the head has no sentence with a full stop"; exit 1 }
+            if (length(first) > 110) { print root ":1: the first sentence is longer than 110 characters"; exit 1 }
+            always = ""
+            at = index(text, "Always: ")
+            if (at) { always = sentence(substr(text, at + 8)); if (always == "") { print root ":1: the sentence after Always: has no full stop"; exit 1 } }
+            print first "\t" always
+        }
+    ' "$root" >"$folder/head" || fail "$(cat "$folder/head")"
+    for part in src specs proofs; do
+        find "crates/$crate/$part" -type f \( -name '*.rt' -o -name '*.antt' \) -exec cat {} + 2>/dev/null | grep -c '[^[:space:]]'
+    done >"$folder/counts"
+    printf '%s\t%s\t%s\n' "$crate" "$(cat "$folder/head")" "$(tr '\n' '\t' <"$folder/counts")" >&3
+done <"$folder/names" 3>"$folder/facts" || exit 1
+
+# The tables: a heading and a table for each comment line of crates.txt that begins a layer (`# Name`), a row for each crate.
+awk -F '\t' '
+    FNR == NR { purpose[$1] = $2; always[$1] = $3; code[$1] = $4; specs[$1] = $5; proofs[$1] = $6; next }
+    /^# [^#]/ { if (FNR > 1) layer[++layers] = substr($0, 3) }
+    /^[a-z]/ {
+        colon = index($0, ":"); name = substr($0, 1, colon - 1); sub(/ .*/, "", name)
+        deps[name] = substr($0, colon + 1); of[name] = layers; order[++count] = name
+    }
+    function reaches(from, to,  names, n, i) {
+        if ((from, to) in known) return known[from, to]
+        known[from, to] = 0
+        n = split(deps[from], names, " ")
+        for (i = 1; i <= n; i++) if (names[i] == to || (names[i] in deps && reaches(names[i], to))) { known[from, to] = 1; break }
+        return known[from, to]
+    }
+    function edges(name,  names, n, i, j, out, reached) {
+        n = split(deps[name], names, " ")
+        for (i = 1; i <= n; i++) {
+            if (!(names[i] in deps)) continue
+            reached = 0
+            for (j = 1; j <= n; j++) if (j != i && (names[j] in deps) && reaches(names[j], names[i])) reached = 1
+            if (!reached) out = out (out == "" ? "" : ", ") "`" names[i] "`"
+        }
+        return out
+    }
+    END {
+        for (l = 1; l <= layers; l++) {
+            printed = 0
+            for (i = 1; i <= count; i++) {
+                name = order[i]
+                if (of[name] != l) continue
+                if (!printed++) {
+                    if (l > 1) print ""
+                    print "### " layer[l] "\n"
+                    print "| Crate | What it is for | Always | Stands on | Code | Specs | Proofs |"
+                    print "|---|---|---|---|---|---|---|"
+                }
+                print "| `" name "` | " purpose[name] " | " always[name] " | " edges(name) " | " code[name] " | " specs[name] " | " proofs[name] " |"
+                sums[1] += code[name]; sums[2] += specs[name]; sums[3] += proofs[name]
+            }
+        }
+        print ""
+        print "Together: " sums[1] " lines of code, " sums[2] " of specs, " sums[3] " of proofs."
+    }
+' "$folder/facts" crates.txt | sed 's/  *|/ |/g' >"$folder/tables"
+
+begin='<!-- made by tools/map.sh --write -->'
+end='<!-- end -->'
+grep -qxF "$begin" $page && grep -qxF "$end" $page || fail "$page lacks the marks of the tables"
+if [ "${1:-}" = --write ]; then
+    awk -v begin="$begin" -v end="$end" -v tables="$folder/tables" '
+        $0 == begin { print; print ""; while ((getline line < tables) > 0) print line; print ""; within = 1; next }
+        $0 == end { within = 0 }
+        !within
+    ' $page >"$folder/page" && cp "$folder/page" $page
+    exit 0
+fi
+awk -v begin="$begin" -v end="$end" '$0 == begin { within = 1; next } $0 == end { within = 0 } within' $page | sed '1d;$d' >"$folder/written"
+awk -F ' [|] ' '
+    function off(a, b) { a += 0; b += 0; return (a > b ? a - b : b - a) > 50 && (a > b ? a - b : b - a) * 10 > b }
+    FNR == NR { if (/^\| `/) { cut = $0; sub(/ \| [0-9]+ \| [0-9]+ \| [0-9]+ \|$/, "", cut); row[$1] = cut; n = split($0, cells, / \| /); for (i = 0; i < 3; i++) count[$1, i] = cells[n - i]; left++ } next }
+    /^\| `/ {
+        cut = $0; sub(/ \| [0-9]+ \| [0-9]+ \| [0-9]+ \|$/, "", cut)
+        if (!($1 in row)) { print "no row of " $1; exit 1 }
+        if (row[$1] != cut) { print "the row of " $1 " is stale: " cut; exit 1 }
+        n = split($0, cells, / \| /)
+        for (i = 0; i < 3; i++) if (off(count[$1, i], cells[n - i])) { print "the counts of " $1 " are stale"; exit 1 }
+        left--
+    }
+    END { if (left > 0) { print "there are rows of crates that are gone"; exit 1 } }
+' "$folder/written" "$folder/tables" >"$folder/wrong" || fail "$page: $(cat "$folder/wrong") (map.sh --write)"
+echo "$script: the tables of $page are those of $(wc -l <"$folder/names") crates"
