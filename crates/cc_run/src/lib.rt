@@ -3,4 +3,5 @@
 #![tactic(auto)]
 
 pub mod generated;
+mod lent;
 pub mod run;
