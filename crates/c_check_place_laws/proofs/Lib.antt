@@ -1,0 +1,7 @@
+mod Tokens
+mod Inside
+mod Expressions
+mod Declarations
+mod Statements
+mod Files
+mod Laws
