@@ -8,6 +8,7 @@ use Rattle.c_ast.specs.Tree.{Tree, Leaf, Node, Nil, Cons}
 use Rattle.c_ast.specs.Grammar as grammar
 use Rattle.c_type.specs.Trees.{TypeTree}
 use Rattle.c_type.specs.Layout.{is_defined}
+use Rattle.c_typed.specs.Typed.{ItemTrees}
 use Rattle.c_check_scope.specs.Scopes.{Name}
 use Rattle.c_check_def.specs.declared.meaning.Meaning.{Meaning}
 use Rattle.c_check_def.specs.declared.meaning.Meaning.TheVariants as means
@@ -241,7 +242,7 @@ module _ (P : ℕ → Type 0) where
       Within P s (function_body name offset starts t ps x s).1
   function_body_inside name offset starts t ps (Node l.Block (Cons opening (Cons xs (Cons closing none)))) s h r =
       let n = name_params ps s in
-      let inner : Elaborated _ = λ s. items (record { may_break = false; may_continue = false; result = t }) xs (bind_params 0 ps s).1 in
+      let inner : Elaborated ItemTrees = λ s. items (record { may_break = false; may_continue = false; result = t }) xs (bind_params 0 ps s).1 in
       let b = within_scope inner n.1 in
       within_then P s n.1 _ (name_params_inside ps h s)
       (within_then P n.1 b.1 _

@@ -4,4 +4,4 @@ mod Expressions
 mod Declarations
 mod Statements
 mod Files
-mod Laws
+mod Reported

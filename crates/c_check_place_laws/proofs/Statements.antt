@@ -238,7 +238,7 @@ module _ (P : ℕ → Type 0) where
     placed_stmt c (Node l.Return (Cons (Leaf word) (Cons x more))) h a = (a.0, placed_clause x h.2.1.0 a.1.0)
     placed_stmt c (Node l.Return (Cons word (Cons x more))) h a = absurd (assumption)
     placed_stmt c (Node l.Switch (Cons (Leaf word) (Cons (Leaf opening) (Cons x (Cons (Leaf closing) (Cons (Leaf begin) (Cons gs more))))))) h a =
-        (a.0, placed P (grammar.One class.Expr) x h.2.1.1.0 a.1.1.0, placed_groups gs h.2.1.1.1.1.0 a.1.1.1.1.0)
+        (a.0, placed P (grammar.One class.Expr) x h.2.1.1.0 a.1.1.0, placed_groups gs h.2.1.1.1.1.1.0 a.1.1.1.1.1.0)
     placed_stmt c (Node l.Switch (Cons word (Cons opening (Cons x (Cons closing (Cons begin (Cons gs more))))))) h a = absurd (assumption)
     placed_stmt c t h a = tt
 

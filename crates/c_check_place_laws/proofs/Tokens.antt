@@ -72,21 +72,20 @@ spelled_more (Node p children) more = spelled_more children more
 spelled_more Nil more = omega arith
 spelled_more (Cons t ts) more = let a = spelled_more ts more in let b = spelled_more t (spelled ts more) in omega (arith, a, b)
 
+-- the first part of some has a token, or the others have
+solid_part : (first rest : Bool) → (first || rest) ≡ true → (more others all : ℕ) → more ≤ others → others ≤ all → (first ≡ true → others < all) → (rest ≡ true → more < others) → more < all
+solid_part true rest e more others all a b c d = let x = c refl in omega (arith, a, x)
+solid_part false rest e more others all a b c d = let x = d e in omega (arith, b, x)
+
 solid_more : (f : grammar.Form) (t : Tree) → grammar.Fits f t → solid_form f ≡ true → (more : List Token) → length more < length (spelled t more)
 unfolding grammar.Fits grammar.allowed spelled
 solid_more (grammar.One c) (Node p children) h e more =
     solid_more (grammar.All (grammar.symbols_of p)) children h.2 (rule_solid p (includes_low c (grammar.rule p).of (solid_low c e) h.0)) more
 solid_more (grammar.All []) Nil h e more = absurd (false≢true e)
 solid_more (grammar.All (grammar.T s ∷ ss)) (Cons (Leaf x) children) h e more = let a = spelled_more children more in omega (arith, a)
-solid_more (grammar.All (grammar.N c ∷ ss)) (Cons t children) h e more = by_test (is_solid c) refl
-  where
-    by_test : (b : Bool) → is_solid c ≡ b → length more < length (spelled t (spelled children more))
-    by_test true q = let a = solid_more (grammar.One c) t h.0 q (spelled children more) in let b = spelled_more children more in omega (arith, a, b)
-    by_test false q =
-        let rest : some_solid ss ≡ true = sym (ap (λ b. b || some_solid ss) q) ∙ e in
-        let a = solid_more (grammar.All ss) children h.1 rest more in
-        let b = spelled_more t (spelled children more) in
-        omega (arith, a, b)
+solid_more (grammar.All (grammar.N c ∷ ss)) (Cons t children) h e more =
+    solid_part (is_solid c) (some_solid ss) e (length more) (length (spelled children more)) (length (spelled t (spelled children more))) (spelled_more children more)
+    (spelled_more t (spelled children more)) (λ q. solid_more (grammar.One c) t h.0 q (spelled children more)) (λ q. solid_more (grammar.All ss) children h.1 q more)
 solid_more f t h e more = absurd h
 
 -- ---- places of tokens

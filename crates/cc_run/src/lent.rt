@@ -20,26 +20,32 @@ impl Loan for Brand {
     ghost lender = { 0 };
 }
 
+/// An input as it is given to a call.
+#[derive(Drop)]
+pub(crate) struct Given<'a, I: Source> {
+    pub(crate) input: &'a mut I,
+}
+
 /// An input that is lent. Whoever has it can only read, so it is the same input, and as much is
 /// known of it as before.
 #[derive(Drop)]
 pub(crate) struct Lent<'a, I: Source, L: Loan> {
-    pub(crate) input: &'a mut I,
+    pub(crate) given: Given<'a, I>,
     pub(crate) loan: PhantomData<L>,
-    ghost lender: { input.ghost_name ≡ L.lender },
-    ghost known: { is_some (I.left input.now) ≡ L.known },
+    ghost lender: { given.input.ghost_name ≡ L.lender },
+    ghost known: { is_some (I.left given.input.now) ≡ L.known },
 }
 
 impl<I: Source, L: Loan> Source for Lent<'_, I, L> {
-    ghost faults = { λ lent. I.faults lent.input.now };
+    ghost faults = { λ lent. I.faults lent.given.input.now };
 
-    ghost left = { λ lent. I.left lent.input.now };
+    ghost left = { λ lent. I.left lent.given.input.now };
 
     fn read(&mut self, buf: &mut [u8]) -> Result<usize, Failed> {
-        self.input.read(buf)
+        self.given.input.read(buf)
     }
 
     fn may_wait(&self) -> bool {
-        self.input.may_wait()
+        self.given.input.may_wait()
     }
 }

@@ -12,7 +12,7 @@ ghost use Rattle.cc_run.specs.RunEnds.{RunEnds};
 ghost use Rattle.cc_run.specs.StopOutcomes.{outcome_of};
 ghost use Rattle.elf_file.specs.declared.fault.ElfFault.{ElfFault};
 
-use crate::lent::{Lent, Loan};
+use crate::lent::{Given, Lent, Loan};
 use cc_io::{Files, Sink, Source};
 use cc_outside::load::{LoadError, load};
 use cc_report::Outcome;
@@ -56,21 +56,21 @@ fn outcome_of(stop: Stop) -> Outcome
 fn run_lent<L: Loan, I: Source, O: Sink>(
     machine: &mut Machine,
     steps: u64,
-    input: &mut I,
+    given: Given<'_, I>,
     output: &mut O,
 ) -> Stop
-    requires lender { input.ghost_name ≡ L.lender }
-    requires known { is_some (I.left input.old) ≡ L.known }
+    requires lender { given.input.ghost_name ≡ L.lender }
+    requires known { is_some (I.left given.input.now) ≡ L.known }
     ensures run { IsSomeRun (flags_in machine.old) steps (hart_of machine.old)
         (hart_of machine.new)
-        (record { held = O.held output.old; left = I.left input.old })
-        (record { held = O.held output.new; left = I.left input.new }) result }
-    ensures known { is_some (I.left input.new) ≡ L.known }
-    ensures cause { HasIncreased result
-        (I.faults input.old) (I.faults input.new) (O.faults output.old) (O.faults output.new) }
+        (record { held = O.held output.old; left = I.left given.entry.input.now })
+        (record { held = O.held output.new; left = I.left given.exit.0.now }) result }
+    ensures known { is_some (I.left given.exit.0.now) ≡ L.known }
+    ensures cause { HasIncreased result (I.faults given.entry.input.now)
+        (I.faults given.exit.0.now) (O.faults output.old) (O.faults output.new) }
 {
     let mut lent = Lent::<I, L> {
-        input,
+        given,
         loan: PhantomData,
     };
     machine.run(steps, &mut lent, output)
@@ -92,7 +92,7 @@ fn run_machine<I: Source, O: Sink>(
     ensures cause { HasIncreased result
         (I.faults input.old) (I.faults input.new) (O.faults output.old) (O.faults output.new) }
 {
-    let stop = run_lent::<Brand, I, O>(machine, steps, input, output);
+    let stop = run_lent::<Brand, I, O>(machine, steps, Given { input }, output);
     output.flush();
     stop
 }

@@ -1,4 +1,4 @@
-use Rattle.c_check_place_laws.proofs.Laws.{later_breaks_stand_later}
+use Rattle.c_check_place_laws.proofs.Reported.{later_breaks_stand_later}
 use Rattle.c_check_place_laws.proofs.laws.later_breaks_stand_later.Goals as goal
 
 pub returns : goal.returns
