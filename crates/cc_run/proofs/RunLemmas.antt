@@ -1,12 +1,10 @@
 -- What the machine and the file's reader say, in the terms of the command `run`.
-use Rattle.std.proofs.Common.{◌≡◌, ◌⊎◌, ℕ, ◌<◌, ◌≤◌, ◌+◌, List, [], ◌++◌, Option, None, Some, Ok, Err, length, take, refl, ap, sym, ◌∙◌, subst, inl, inr, arith}
+use Rattle.std.proofs.Common.{◌≡◌, ◌⊎◌, ℕ, ◌<◌, ◌≤◌, ◌+◌, List, Ok, Err, length, take, refl, ap, sym, ◌∙◌, subst, inl, inr, arith}
 use Rattle.std.specs.Option.{ForSome}
-use Rattle.std.specs.Prelude.{is_some}
-use Rattle.std.proofs.lemmas.Bool.{cases_lt, lt-ltb, false≢true}
+use Rattle.std.proofs.lemmas.Bool.{cases_lt, lt-ltb}
 use Rattle.std.proofs.lemmas.List.{take_all, length-take-le}
 use Rattle.limits.specs.Limits.{most_image_bytes}
 use Rattle.cc_io.specs.Files.{Name, content}
-use Rattle.cc_io.specs.Source.{prepend}
 use Rattle.elf_file.specs.Loading.{Executable, loaded, fault_of}
 use Rattle.elf_file.specs.declared.fault.ElfFault.{ElfFault}
 use Rattle.elf_file.specs.declared.fault.ElfFault.TheVariants.{LongFile}
@@ -16,7 +14,6 @@ use Rattle.rv_machine.specs.Runs.{IsLeft, IsSomeRun, HasCome, IsWhole}
 use Rattle.rv_machine.specs.Steps.{Streams, HasIncreased, stop_of}
 use Rattle.rv_machine.specs.declared.stop.Stop.{Stop}
 use Rattle.rv_machine.specs.declared.stop.Stop.TheVariants as stop
-use Rattle.rv_machine.proofs.lemmas.RunLaws.{input_shrinks, run-zero}
 use Rattle.cc_outside.specs.Outside.{Unchanged, Outside, KeepsStreams}
 use Rattle.cc_run.specs.RunEnds.{RunEnds, RunCause, RunOf, Ran, RanFewer, HasRun}
 use Rattle.cc_run.specs.StopOutcomes.{outcome_of}
@@ -48,49 +45,35 @@ image_at_is : (bytes : List ℕ) (e : Executable) → loaded bytes ≡ Ok e → 
 unfolding executed
 image_at_is bytes e is n input = ap (λ l. executed_if_loaded n l input) is
 
--- bytes were taken from the front of an input that stays as known as it was
-taken_of : (input rest : List ℕ) (before after : Option (List ℕ)) → (taken : List ℕ) × (input ≡ taken ++ rest) → IsLeft before input → IsLeft after rest
-    → is_some after ≡ is_some before → (taken : List ℕ) × (before ≡ prepend taken after)
-taken_of input rest None None cut left unread same = ([], refl)
-taken_of input rest None (Some y) cut left unread same = absurd (false≢true (sym same))
-taken_of input rest (Some x) None cut left unread same = absurd (false≢true same)
-taken_of input rest (Some x) (Some y) cut left unread same = (cut.0, ap Some (left ∙ cut.1 ∙ ap (λ bytes. cut.0 ++ bytes) (sym unread)))
-
-has_run : (flags : ℕ → ℕ) (n : ℕ) (first h : Hart) (input : List ℕ) (before after : Outside) → IsLeft before.input.bytes input
-    → is_some after.input.bytes ≡ is_some before.input.bytes → HasCome (run flags n first input) h (streams_of before) (streams_of after)
-    → HasRun (run flags n first input) before after
-has_run flags n first h input before after left same come =
-    let shrunk = input_shrinks flags 0 n first input (omega arith) in
-    let none : (run flags 0 first input).rest ≡ input = ap (λ o. o.rest) (run-zero flags first input) in
-    let taken = taken_of input (run flags n first input).rest before.input.bytes after.input.bytes (shrunk.0, sym none ∙ shrunk.1) left come.rest same in
-    record { output = come.output; taken = taken.0; rest = taken.1; unread = come.rest }
+has_run : (o : RunResult) (h : Hart) (before after : Outside) → HasCome o h (streams_of before) (streams_of after) → HasRun o before after
+has_run o h before after come = record { output = come.output; rest = come.rest }
 
 -- a run that was not cut off
 whole : (steps : ℕ) (bytes : List ℕ) (e : Executable) → loaded bytes ≡ Ok e → (before after : Outside) (new : Hart) (s : Stop) (input : List ℕ)
-    → is_some after.input.bytes ≡ is_some before.input.bytes → IsLeft before.input.bytes input
+    → IsLeft before.input.bytes input
     → IsWhole (flags_of e.segments) steps input (running (start e)) new (streams_of before) (streams_of after) s
     → Ran steps bytes s before after
-whole steps bytes e is before after new s input known left (come, same) =
+whole steps bytes e is before after new s input left (come, same) =
     let o = run (flags_of e.segments) steps (running (start e)) input in
-    (input, left, (o, image_at_is bytes e is steps input, same ∙ ap stop_of come.hart, has_run (flags_of e.segments) steps (running (start e)) new input before after left known come))
+    (input, left, (o, image_at_is bytes e is steps input, same ∙ ap stop_of come.hart, has_run o new before after come))
 
 cut_off : (steps : ℕ) (bytes : List ℕ) (e : Executable) → loaded bytes ≡ Ok e → (before after : Outside) (new : Hart) (input : List ℕ)
-    → is_some after.input.bytes ≡ is_some before.input.bytes → IsLeft before.input.bytes input → (m : ℕ) → m < steps
+    → IsLeft before.input.bytes input → (m : ℕ) → m < steps
     → HasCome (run (flags_of e.segments) m (running (start e)) input) new (streams_of before) (streams_of after)
     → RanFewer steps bytes before after
-cut_off steps bytes e is before after new input known left m fewer come =
+cut_off steps bytes e is before after new input left m fewer come =
     let o = run (flags_of e.segments) m (running (start e)) input in
-    (input, left, (m, fewer, (o, image_at_is bytes e is m input, has_run (flags_of e.segments) m (running (start e)) new input before after left known come)))
+    (input, left, (m, fewer, (o, image_at_is bytes e is m input, has_run o new before after come)))
 
 run_of : (steps : ℕ) (bytes : List ℕ) (e : Executable) → loaded bytes ≡ Ok e → (before after : Outside) (new : Hart) (s : Stop)
-    → is_some after.input.bytes ≡ is_some before.input.bytes → IsSomeRun (flags_of e.segments) steps (running (start e)) new (streams_of before) (streams_of after) s
+    → IsSomeRun (flags_of e.segments) steps (running (start e)) new (streams_of before) (streams_of after) s
     → RunOf steps (outcome_of s) bytes before after
-run_of steps bytes e is before after new (stop.Exit status) known r = whole steps bytes e is before after new (stop.Exit status) r.0 known r.1 r.2
-run_of steps bytes e is before after new stop.Stack known r = whole steps bytes e is before after new stop.Stack r.0 known r.1 r.2
-run_of steps bytes e is before after new stop.Budget known r = whole steps bytes e is before after new stop.Budget r.0 known r.1 r.2
-run_of steps bytes e is before after new (stop.Stuck pc why) known r = whole steps bytes e is before after new (stop.Stuck pc why) r.0 known r.1 r.2
-run_of steps bytes e is before after new stop.ReadFault known r = inr (cut_off steps bytes e is before after new r.0 known r.1 r.2.0 r.2.1 r.2.2)
-run_of steps bytes e is before after new stop.WriteFault known r = cut_off steps bytes e is before after new r.0 known r.1 r.2.0 r.2.1 r.2.2
+run_of steps bytes e is before after new (stop.Exit status) r = whole steps bytes e is before after new (stop.Exit status) r.0 r.1 r.2
+run_of steps bytes e is before after new stop.Stack r = whole steps bytes e is before after new stop.Stack r.0 r.1 r.2
+run_of steps bytes e is before after new stop.Budget r = whole steps bytes e is before after new stop.Budget r.0 r.1 r.2
+run_of steps bytes e is before after new (stop.Stuck pc why) r = whole steps bytes e is before after new (stop.Stuck pc why) r.0 r.1 r.2
+run_of steps bytes e is before after new stop.ReadFault r = inr (cut_off steps bytes e is before after new r.0 r.1 r.2.0 r.2.1 r.2.2)
+run_of steps bytes e is before after new stop.WriteFault r = cut_off steps bytes e is before after new r.0 r.1 r.2.0 r.2.1 r.2.2
 
 run_cause : (image : Name) (s : Stop) (before after : Outside) → HasIncreased s before.input.faults after.input.faults before.output.faults after.output.faults
     → RunCause image (outcome_of s) before after
@@ -115,19 +98,19 @@ pub run_ends : (image : Name) (steps : ℕ) (before after : Outside) (outcome : 
     → outcome ≡ outcome_of s → Unchanged before.files after.files
     → ForSome before.files.known (λ files. read ≡ take (most_image_bytes + 1) (content image files))
     → (e : Executable) → loaded read ≡ Ok e → old ≡ running (start e) → flags ≡ flags_of e.segments
-    → IsSomeRun flags steps old new (streams_of before) (streams_of after) s → is_some after.input.bytes ≡ is_some before.input.bytes
+    → IsSomeRun flags steps old new (streams_of before) (streams_of after) s
     → HasIncreased s before.input.faults after.input.faults before.output.faults after.output.faults
     → RunEnds image steps outcome before after
-run_ends image steps before after outcome s flags old new read ended keeps bytes e is at allows r known increased =
+run_ends image steps before after outcome s flags old new read ended keeps bytes e is at allows r increased =
     let r' : IsSomeRun (flags_of e.segments) steps (running (start e)) new (streams_of before) (streams_of after) s =
     subst (λ f. IsSomeRun f steps (running (start e)) new (streams_of before) (streams_of after) s) allows
     (subst (λ h. IsSomeRun flags steps h new (streams_of before) (streams_of after) s) at r) in
     subst (λ o. RunEnds image steps o before after) (sym ended) (record {
       cause = run_cause image s before after increased;
       files = keeps;
-      run = λ files there.
-          let same : loaded (content image files) ≡ Ok e = sym (loaded-take (content image files)) ∙ ap loaded (sym (bytes files there)) ∙ is in
-          run_of steps (content image files) e same before after new s known r';
+      run = λ files known.
+          let same : loaded (content image files) ≡ Ok e = sym (loaded-take (content image files)) ∙ ap loaded (sym (bytes files known)) ∙ is in
+          run_of steps (content image files) e same before after new s r';
     })
 
 -- the whole command, where there was no machine to run

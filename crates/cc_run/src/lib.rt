@@ -3,5 +3,4 @@
 #![tactic(auto)]
 
 pub mod generated;
-mod lent;
 pub mod run;

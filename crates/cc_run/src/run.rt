@@ -1,6 +1,6 @@
 //! The command `run`.
 
-ghost use Rattle.std.specs.Prelude.{◌≡◌, ◌⊎◌, is_some, Ok, Err, IfOk, IfErr};
+ghost use Rattle.std.specs.Prelude.{◌≡◌, ◌⊎◌, Ok, Err, IfOk, IfErr};
 ghost use Rattle.elf_file.specs.Loading.{Executable, loaded};
 ghost use Rattle.rv_machine.specs.Memory.{flags_of};
 ghost use Rattle.rv_machine.specs.Run.{running, start};
@@ -12,14 +12,12 @@ ghost use Rattle.cc_run.specs.RunEnds.{RunEnds};
 ghost use Rattle.cc_run.specs.StopOutcomes.{outcome_of};
 ghost use Rattle.elf_file.specs.declared.fault.ElfFault.{ElfFault};
 
-use crate::lent::{Given, Lent, Loan};
 use cc_io::{Files, Sink, Source};
 use cc_outside::load::{LoadError, load};
 use cc_report::Outcome;
 use limits::MOST_IMAGE_BYTES;
 use rv_machine::{Machine, Stop};
 use std::alloc::Global;
-use std::marker::{Brand, PhantomData};
 
 /// The machine of these bytes, at the start of its run.
 fn machine_of(alloc: Global, bytes: &[u8]) -> Result<Machine, Outcome>
@@ -52,30 +50,6 @@ fn outcome_of(stop: Stop) -> Outcome
     }
 }
 
-/// Runs the machine on a lent input.
-fn run_lent<L: Loan, I: Source, O: Sink>(
-    machine: &mut Machine,
-    steps: u64,
-    given: Given<'_, I>,
-    output: &mut O,
-) -> Stop
-    requires lender { given.input.ghost_name ≡ L.lender }
-    requires known { is_some (I.left given.input.now) ≡ L.known }
-    ensures run { IsSomeRun (flags_in machine.old) steps (hart_of machine.old)
-        (hart_of machine.new)
-        (record { held = O.held output.old; left = I.left given.entry.input.now })
-        (record { held = O.held output.new; left = I.left given.exit.0.now }) result }
-    ensures known { is_some (I.left given.exit.0.now) ≡ L.known }
-    ensures cause { HasIncreased result (I.faults given.entry.input.now)
-        (I.faults given.exit.0.now) (O.faults output.old) (O.faults output.new) }
-{
-    let mut lent = Lent::<I, L> {
-        given,
-        loan: PhantomData,
-    };
-    machine.run(steps, &mut lent, output)
-}
-
 /// Runs the machine, and has the output hand over what was written, which then stands before the
 /// report.
 fn run_machine<I: Source, O: Sink>(
@@ -88,11 +62,10 @@ fn run_machine<I: Source, O: Sink>(
         (hart_of machine.new)
         (record { held = O.held output.old; left = I.left input.old })
         (record { held = O.held output.new; left = I.left input.new }) result }
-    ensures known { is_some (I.left input.new) ≡ is_some (I.left input.old) }
     ensures cause { HasIncreased result
         (I.faults input.old) (I.faults input.new) (O.faults output.old) (O.faults output.new) }
 {
-    let stop = run_lent::<Brand, I, O>(machine, steps, Given { input }, output);
+    let stop = machine.run(steps, input, output);
     output.flush();
     stop
 }
