@@ -187,14 +187,13 @@ module _ (P : ℕ → Type 0) where
   expression_first t h a = (begins P class.Init t refl h a, placed P (grammar.One class.Init) t h a)
 
   mutual
-    pub placed_init : (t : Tree) → grammar.Fits (grammar.One class.Init) t → AllAt P t → PlacedInit t
     unfolding grammar.Fits grammar.symbols_of grammar.rule
+    pub placed_init : (t : Tree) → grammar.Fits (grammar.One class.Init) t → AllAt P t → PlacedInit t
     placed_init (Node l.InitList (Cons (Leaf opening) (Cons items closing))) h a = (a.0, placed_elements class.InitItems items h.2.1.0 a.1.0)
     placed_init (Node l.InitList (Cons opening (Cons items closing))) h a = absurd (assumption)
     placed_init t h a = expression_first t h a
 
     placed_elements : (c : class.Nonterminal) (t : Tree) → grammar.Fits (grammar.One c) t → AllAt P t → PlacedElements t
-    unfolding grammar.Fits grammar.symbols_of grammar.rule
     placed_elements c (Node l.InitFirst (Cons x none)) h a = placed_init x h.2.0 a.0
     placed_elements c (Node l.InitComma (Cons before more)) h a = placed_elements class.InitEnded before h.2.0 a.0
     placed_elements c (Node l.InitNext (Cons before (Cons x none))) h a = (placed_elements class.InitOpen before h.2.0 a.0, placed_init x h.2.1.0 a.1.0)

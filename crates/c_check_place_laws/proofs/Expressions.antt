@@ -173,8 +173,9 @@ module _ (P : ℕ → Type 0) where
   -- ---- what the grammar says of these places
 
   mutual
+    unfolding grammar.Fits grammar.allowed grammar.symbols_of grammar.rule grammar.repeated class.includes class.same_nonterminal class.nonterminal_number class.level_number class.repeated_number
+        class.optional_number
     pub placed : (f : grammar.Form) (t : Tree) → grammar.Fits f t → AllAt P t → Placed t
-    unfolding grammar.Fits grammar.symbols_of grammar.rule
     placed (grammar.One c) (Node l.Name (Cons (Leaf x) more)) h a = a.0
     placed (grammar.One c) (Node l.Name children) h a = absurd (assumption)
     placed (grammar.One c) (Node l.Index (Cons array (Cons (Leaf opening) (Cons index more)))) h a =
@@ -226,8 +227,6 @@ module _ (P : ℕ → Type 0) where
     placed f t h a = absurd h
 
     pub placed_more : (t : Tree) → grammar.Fits (grammar.One (class.Many l.MoreAssigns)) t → AllAt P t → PlacedMore t
-    unfolding grammar.Fits grammar.allowed grammar.symbols_of grammar.rule grammar.repeated class.includes class.same_nonterminal class.nonterminal_number class.level_number class.repeated_number
-        class.optional_number
     placed_more (Node (l.More l.MoreAssigns) (Cons before (Cons (Leaf o) (Cons element none)))) h a = (placed_more before h.2.0 a.0, a.1.0, placed (grammar.One class.Assign) element h.2.1.1.0 a.1.1.0)
     placed_more (Node (l.More l.MoreAssigns) (Cons before (Cons o (Cons element none)))) h a = absurd (assumption)
     placed_more (Node (l.More l.MoreAssigns) children) h a = tt
@@ -235,8 +234,6 @@ module _ (P : ℕ → Type 0) where
     placed_more t h a = tt
 
     pub placed_sizes : (t : Tree) → grammar.Fits (grammar.One (class.Many l.Dimensions)) t → AllAt P t → PlacedSizes t
-    unfolding grammar.Fits grammar.allowed grammar.symbols_of grammar.rule grammar.repeated class.includes class.same_nonterminal class.nonterminal_number class.level_number class.repeated_number
-        class.optional_number
     placed_sizes (Node (l.More l.Dimensions) (Cons before (Cons (Leaf opening) (Cons bound none)))) h a =
         (placed_sizes before h.2.0 a.0, begins P class.Cond bound refl h.2.1.1.0 a.1.1.0, placed (grammar.One class.Cond) bound h.2.1.1.0 a.1.1.0)
     placed_sizes (Node (l.More l.Dimensions) (Cons before (Cons opening (Cons bound none)))) h a = absurd (assumption)

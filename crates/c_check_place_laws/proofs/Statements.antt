@@ -207,8 +207,8 @@ module _ (P : ℕ → Type 0) where
   placed_start t h a = placed_locals P class.ForFirst t h a
 
   mutual
+    unfolding grammar.Fits grammar.allowed grammar.symbols_of grammar.rule grammar.repeated class.includes class.same_nonterminal class.nonterminal_number class.repeated_number
     pub placed_stmt : (c : class.Nonterminal) (t : Tree) → grammar.Fits (grammar.One c) t → AllAt P t → PlacedStmt t
-    unfolding grammar.Fits grammar.symbols_of grammar.rule
     placed_stmt c (Node l.Expression (Cons x (Cons semicolon none))) h a = (begins P class.Expr x refl h.2.0 a.0, placed P (grammar.One class.Expr) x h.2.0 a.0)
     placed_stmt c (Node l.Block (Cons (Leaf opening) (Cons xs (Cons closing none)))) h a = placed_items xs h.2.1.0 a.1.0
     placed_stmt c (Node l.Block (Cons opening (Cons xs (Cons closing none)))) h a = absurd (assumption)
@@ -243,7 +243,6 @@ module _ (P : ℕ → Type 0) where
     placed_stmt c t h a = tt
 
     pub placed_items : (t : Tree) → grammar.Fits (grammar.One (class.Many l.Items)) t → AllAt P t → PlacedItems t
-    unfolding grammar.Fits grammar.allowed grammar.symbols_of grammar.rule grammar.repeated class.includes class.same_nonterminal class.nonterminal_number class.repeated_number
     placed_items (Node (l.More l.Items) (Cons before (Cons (Node l.Locals children) none))) h a = (placed_items before h.2.0 a.0, placed_locals P class.Item (Node l.Locals children) h.2.1.0 a.1.0)
     placed_items (Node (l.More l.Items) (Cons before (Cons t none))) h a = (placed_items before h.2.0 a.0, placed_stmt class.Item t h.2.1.0 a.1.0)
     placed_items (Node (l.More l.Items) children) h a = tt
@@ -251,7 +250,6 @@ module _ (P : ℕ → Type 0) where
     placed_items t h a = tt
 
     placed_stmts : (t : Tree) → grammar.Fits (grammar.One (class.Many l.MoreStmts)) t → AllAt P t → PlacedItems t
-    unfolding grammar.Fits grammar.allowed grammar.symbols_of grammar.rule grammar.repeated class.includes class.same_nonterminal class.nonterminal_number class.repeated_number
     placed_stmts (Node (l.More l.MoreStmts) (Cons before (Cons (Node l.Locals children) none))) h a = (placed_stmts before h.2.0 a.0, placed_locals P class.Stmt (Node l.Locals children) h.2.1.0 a.1.0)
     placed_stmts (Node (l.More l.MoreStmts) (Cons before (Cons t none))) h a = (placed_stmts before h.2.0 a.0, placed_stmt class.Stmt t h.2.1.0 a.1.0)
     placed_stmts (Node (l.More l.MoreStmts) children) h a = tt
@@ -259,14 +257,12 @@ module _ (P : ℕ → Type 0) where
     placed_stmts t h a = tt
 
     placed_groups : (t : Tree) → grammar.Fits (grammar.One (class.Many l.Groups)) t → AllAt P t → PlacedGroups t
-    unfolding grammar.Fits grammar.allowed grammar.symbols_of grammar.rule grammar.repeated class.includes class.same_nonterminal class.nonterminal_number class.repeated_number
     placed_groups (Node (l.More l.Groups) (Cons before (Cons t none))) h a = (placed_groups before h.2.0 a.0, placed_group t h.2.1.0 a.1.0)
     placed_groups (Node (l.More l.Groups) children) h a = tt
     placed_groups (Node (l.More k) children) h a = absurd (false≢true h.0)
     placed_groups t h a = tt
 
     placed_group : (t : Tree) → grammar.Fits (grammar.One class.Group) t → AllAt P t → PlacedGroup t
-    unfolding grammar.Fits grammar.symbols_of grammar.rule
     placed_group (Node l.Group (Cons first (Cons more (Cons t (Cons ts none))))) h a =
         (placed_label first h.2.0 a.0, placed_labels more h.2.1.0 a.1.0, placed_stmt class.Stmt t h.2.1.1.0 a.1.1.0, placed_stmts ts h.2.1.1.1.0 a.1.1.1.0)
     placed_group t h a = tt

@@ -113,16 +113,16 @@ module _ (P : ℕ → Type 0) where
         subst Opens (sym same) (opens ts a.1 more (subst (λ xs. length more < length xs) same long))
   ]
     where
+      longer : (xs ys : List Token) → length ys ≤ length (xs ++ ys)
+      longer [] ys = omega arith
+      longer (x ∷ xs) ys = let a = longer xs ys in omega (arith, a)
+
       empty : (xs ys zs : List Token) → zs ≡ xs ++ ys → length zs ≤ length ys → zs ≡ ys
       empty [] ys zs e short = e
       empty (x ∷ xs) ys zs e short =
           let long : length zs ≡ length (x ∷ (xs ++ ys)) = ap length e in
           let part = longer xs ys in
           absurd (omega (arith, long, part, short))
-
-      longer : (xs ys : List Token) → length ys ≤ length (xs ++ ys)
-      longer [] ys = omega arith
-      longer (x ∷ xs) ys = let a = longer xs ys in omega (arith, a)
 
   begun : (t : Tree) → Opens (spelled t []) → P (begin_of t)
   begun t o = subst P (sym (ap (λ x. unwrap_or x 0) o.1)) o.2
