@@ -1,11 +1,10 @@
 -- Where the rules are broken that declarations of variables break, with their initialisers.
-use Rattle.std.proofs.Common.{◌≡◌, ◌≤◌, ◌⊎◌, inl, inr, ℕ, ◌+◌, Bool, true, false, List, [], ◌∷◌, ◌++◌, refl, arith}
-use Rattle.std.specs.Prelude.{◌==◌, Option, None, Some, option_and_then, if◌then◌else◌}
+use Rattle.std.proofs.Common.{ℕ, ◌+◌, Bool, true, false, List, [], ◌++◌, refl}
+use Rattle.std.specs.Prelude.{Option, None, Some, option_and_then, if◌then◌else◌}
 use Rattle.std.proofs.lemmas.Bool.{false≢true}
-use Rattle.std.proofs.lemmas.Bool.Decides.{nat_tests}
 use Rattle.c_ast.specs.Productions as l
 use Rattle.c_ast.specs.Nonterminals as class
-use Rattle.c_ast.specs.Tree.{Tree, Leaf, Node, Nil, Cons}
+use Rattle.c_ast.specs.Tree.{Tree, Leaf, Node, Cons}
 use Rattle.c_ast.specs.Grammar as grammar
 use Rattle.c_typed.specs.Typed as typed
 use Rattle.c_check_scope.specs.Scopes.{Name}

@@ -1,5 +1,5 @@
 -- Where the rules are broken that external declarations break.
-use Rattle.std.proofs.Common.{◌≡◌, ◌⊎◌, inl, inr, ℕ, zero, suc, Bool, true, false, List, [], ◌∷◌, ◌++◌, length, refl, sym, ap, ◌∙◌, subst}
+use Rattle.std.proofs.Common.{ℕ, suc, Bool, true, false, List, [], ◌∷◌, ◌++◌, refl}
 use Rattle.std.specs.Prelude.{◌==◌, ◌&&◌, not, slice_get, is_some, map, Option, None, Some, if◌then◌else◌}
 use Rattle.std.proofs.lemmas.Bool.{false≢true}
 use Rattle.c_ast.specs.Productions as l
@@ -15,7 +15,7 @@ use Rattle.c_check_def.specs.declared.meaning.Meaning.TheVariants as means
 use Rattle.c_check_def.specs.declared.dimension.Dimension.TheVariants as dimension
 use Rattle.c_check_def.specs.declared.refusal_kind.RefusalKind.TheVariants.{Redeclared, BadType}
 use Rattle.c_check_def.specs.State.{MaybeType, Declared, State, Elaborated, pure, breaks_if, meaning_of, within_scope, add_variable}
-use Rattle.c_check_def.specs.Leaves.{offset_of, end_of, begin_of, name_of, count_of, is_present}
+use Rattle.c_check_def.specs.Leaves.{offset_of, begin_of, name_of, count_of, is_present}
 use Rattle.c_check_def.specs.Specifiers.{Specified, specified_type, tagged}
 use Rattle.c_check_def.specs.DeclaredTypes.{object_type, param_type, result_type}
 use Rattle.c_check_def.specs.Expressions.{dimensions}

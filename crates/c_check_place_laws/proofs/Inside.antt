@@ -1,6 +1,6 @@
 -- Where the rules are broken that a step breaks: steps without trees.
 use Rattle.std.proofs.Common.{◌≡◌, ◌⊎◌, inl, inr, ℕ, zero, suc, Bool, true, false, List, [], ◌∷◌, refl, sym, ◌∙◌, subst}
-use Rattle.std.specs.Prelude.{slice_get, not, ◌||◌, ◌&&◌, nat_le, length, Option, None, Some, option_and_then, option_map, if◌then◌else◌}
+use Rattle.std.specs.Prelude.{slice_get, not, ◌||◌, ◌&&◌, nat_le, length, Option, None, Some, if◌then◌else◌}
 use Rattle.c_ast.specs.declared.operator.Selection.{Selection}
 use Rattle.c_ast.specs.declared.operator.IncDec.{IncDec}
 use Rattle.c_ast.specs.declared.operator.UnaryOp.{UnaryOp}
@@ -21,7 +21,7 @@ use Rattle.c_check_def.specs.declared.meaning.Meaning.{Meaning}
 use Rattle.c_check_def.specs.declared.meaning.Meaning.TheVariants as means
 use Rattle.c_check_def.specs.declared.refusal_kind.Broken.{Broken}
 use Rattle.c_check_def.specs.declared.refusal_kind.RefusalKind.{RefusalKind}
-use Rattle.c_check_def.specs.declared.refusal_kind.RefusalKind.TheVariants.{NotAssignable, BadCall, BadOperands, NotConstant, BadInitialiser, BadType, BadReturn, BadJump, BadLabel, Unknown, Redeclared}
+use Rattle.c_check_def.specs.declared.refusal_kind.RefusalKind.TheVariants.{NotAssignable, BadCall, BadOperands, NotConstant, BadInitialiser, BadType, BadJump, BadLabel, Unknown, Redeclared}
 use Rattle.c_check_def.specs.declared.call.Callee.{Callee}
 use Rattle.c_check_def.specs.declared.call.Called.{Called}
 use Rattle.c_check_def.specs.declared.call.Called.TheVariants as calls

@@ -1,8 +1,7 @@
 -- Broken rules stand at tokens, and those of later declarations later.
-use Rattle.std.proofs.Common.{◌≡◌, ◌≤◌, ◌⊎◌, inl, inr, ℕ, Bool, List, refl, sym, ap, ◌∙◌, subst}
-use Rattle.std.specs.Prelude.{Option, None, Some, All, Contains}
+use Rattle.std.proofs.Common.{◌≡◌, ◌≤◌, inl, inr, ℕ, refl, sym, ◌∙◌, subst}
+use Rattle.std.specs.Prelude.{None, Some, Contains}
 use Rattle.std.proofs.lemmas.List.Elements.{All-contains_itself}
-use Rattle.c_lex.specs.declared.token.Token.{Token}
 use Rattle.c_ast.specs.Grammar.{Fits, One}
 use Rattle.c_ast.specs.Nonterminals.{External}
 use Rattle.c_ast.specs.Shape.{FollowsGrammar}
@@ -12,7 +11,7 @@ use Rattle.c_check_def.specs.declared.refusal_kind.Broken.{Broken}
 use Rattle.c_check_def.specs.State.{State}
 use Rattle.c_check_def.specs.Externals.{external}
 use Rattle.c_check_def.specs.Check.{externals}
-use Rattle.c_check_place_laws.specs.PlaceLaws.{IsPlaceIn, StandsBefore, BreaksStandAtTokens, LaterBreaksStandLater}
+use Rattle.c_check_place_laws.specs.PlaceLaws.{IsPlaceIn, BreaksStandAtTokens, LaterBreaksStandLater}
 use Rattle.c_check_place_laws.proofs.Tokens.{AllAt, all_at}
 use Rattle.c_check_place_laws.proofs.Inside.{Within}
 use Rattle.c_check_place_laws.proofs.Files.{external_inside, externals_inside, placed_external, placed_externals}

@@ -1,19 +1,18 @@
 -- Where the rules are broken that statements break.
-use Rattle.std.proofs.Common.{◌≡◌, ℕ, Bool, true, false, List, [], ◌∷◌, refl}
-use Rattle.std.specs.Prelude.{Option, None, Some, if◌then◌else◌}
+use Rattle.std.proofs.Common.{ℕ, true, false, [], ◌∷◌, refl}
+use Rattle.std.specs.Prelude.{if◌then◌else◌}
 use Rattle.std.proofs.lemmas.Bool.{false≢true}
 use Rattle.c_ast.specs.Productions as l
 use Rattle.c_ast.specs.Nonterminals as class
-use Rattle.c_ast.specs.Tree.{Tree, Leaf, Node, Nil, Cons}
+use Rattle.c_ast.specs.Tree.{Tree, Leaf, Node, Cons}
 use Rattle.c_ast.specs.Grammar as grammar
 use Rattle.c_typed.specs.Typed as typed
 use Rattle.c_check_def.specs.declared.refusal_kind.RefusalKind.TheVariants.{NotConstant, BadLabel, BadReturn}
-use Rattle.c_check_def.specs.State.{MaybeType, State, Elaborated, breaks_if, or_broken, within_scope}
+use Rattle.c_check_def.specs.State.{MaybeType, State, Elaborated, or_broken, within_scope}
 use Rattle.c_check_def.specs.Leaves.{offset_of, begin_of}
 use Rattle.c_check_def.specs.Operands.{term_constant}
 use Rattle.c_check_def.specs.Expressions.{expression, expressions}
-use Rattle.c_check_def.specs.Declarators.{locals}
-use Rattle.c_check_def.specs.Statements.{Jumps, in_loop, in_switch, whole, condition, subject, condition_clause, value_clause, gives_none, returned, Labels, next_group, case_label, label, more_labels, Groups, for_start, statement, items, groups, group}
+use Rattle.c_check_def.specs.Statements.{Jumps, in_loop, in_switch, condition, subject, condition_clause, value_clause, gives_none, returned, Labels, next_group, label, more_labels, Groups, for_start, statement, items, groups, group}
 use Rattle.c_check_place_laws.proofs.Tokens.{AllAt, begins}
 use Rattle.c_check_place_laws.proofs.Inside.{Within, within_same, within_nothing, within_then, Inside, breaks_if_inside, or_broken_inside, if_some_inside, whole_inside, condition_inside, subject_inside, jump_inside, case_label_inside}
 use Rattle.c_check_place_laws.proofs.Expressions.{Placed, placed, expression_inside, expressions_inside}
