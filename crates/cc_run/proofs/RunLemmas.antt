@@ -5,6 +5,7 @@ use Rattle.std.proofs.lemmas.Bool.{cases_lt, lt-ltb}
 use Rattle.std.proofs.lemmas.List.{take_all, length-take-le}
 use Rattle.limits.specs.Limits.{most_image_bytes}
 use Rattle.cc_io.specs.Files.{Name, content}
+use Rattle.cc_io.specs.Source.{prepend}
 use Rattle.elf_file.specs.Loading.{Executable, loaded, fault_of}
 use Rattle.elf_file.specs.declared.fault.ElfFault.{ElfFault}
 use Rattle.elf_file.specs.declared.fault.ElfFault.TheVariants.{LongFile}
@@ -45,35 +46,38 @@ image_at_is : (bytes : List ℕ) (e : Executable) → loaded bytes ≡ Ok e → 
 unfolding executed
 image_at_is bytes e is n input = ap (λ l. executed_if_loaded n l input) is
 
-has_run : (o : RunResult) (h : Hart) (before after : Outside) → HasCome o h (streams_of before) (streams_of after) → HasRun o before after
-has_run o h before after come = record { output = come.output; rest = come.rest }
+abbrev IsTaken : (before after : Outside) → Type 0
+IsTaken before after = (taken : List ℕ) × (before.input.bytes ≡ prepend taken after.input.bytes)
+
+has_run : (o : RunResult) (h : Hart) (before after : Outside) → IsTaken before after → HasCome o h (streams_of before) (streams_of after) → HasRun o before after
+has_run o h before after taken come = record { output = come.output; taken = taken.0; rest = taken.1; unread = come.rest }
 
 -- a run that was not cut off
 whole : (steps : ℕ) (bytes : List ℕ) (e : Executable) → loaded bytes ≡ Ok e → (before after : Outside) (new : Hart) (s : Stop) (input : List ℕ)
-    → IsLeft before.input.bytes input
+    → IsTaken before after → IsLeft before.input.bytes input
     → IsWhole (flags_of e.segments) steps input (running (start e)) new (streams_of before) (streams_of after) s
     → Ran steps bytes s before after
-whole steps bytes e is before after new s input left (come, same) =
+whole steps bytes e is before after new s input taken left (come, same) =
     let o = run (flags_of e.segments) steps (running (start e)) input in
-    (input, left, (o, image_at_is bytes e is steps input, same ∙ ap stop_of come.hart, has_run o new before after come))
+    (input, left, (o, image_at_is bytes e is steps input, same ∙ ap stop_of come.hart, has_run o new before after taken come))
 
 cut_off : (steps : ℕ) (bytes : List ℕ) (e : Executable) → loaded bytes ≡ Ok e → (before after : Outside) (new : Hart) (input : List ℕ)
-    → IsLeft before.input.bytes input → (m : ℕ) → m < steps
+    → IsTaken before after → IsLeft before.input.bytes input → (m : ℕ) → m < steps
     → HasCome (run (flags_of e.segments) m (running (start e)) input) new (streams_of before) (streams_of after)
     → RanFewer steps bytes before after
-cut_off steps bytes e is before after new input left m fewer come =
+cut_off steps bytes e is before after new input taken left m fewer come =
     let o = run (flags_of e.segments) m (running (start e)) input in
-    (input, left, (m, fewer, (o, image_at_is bytes e is m input, has_run o new before after come)))
+    (input, left, (m, fewer, (o, image_at_is bytes e is m input, has_run o new before after taken come)))
 
 run_of : (steps : ℕ) (bytes : List ℕ) (e : Executable) → loaded bytes ≡ Ok e → (before after : Outside) (new : Hart) (s : Stop)
-    → IsSomeRun (flags_of e.segments) steps (running (start e)) new (streams_of before) (streams_of after) s
+    → IsTaken before after → IsSomeRun (flags_of e.segments) steps (running (start e)) new (streams_of before) (streams_of after) s
     → RunOf steps (outcome_of s) bytes before after
-run_of steps bytes e is before after new (stop.Exit status) r = whole steps bytes e is before after new (stop.Exit status) r.0 r.1 r.2
-run_of steps bytes e is before after new stop.Stack r = whole steps bytes e is before after new stop.Stack r.0 r.1 r.2
-run_of steps bytes e is before after new stop.Budget r = whole steps bytes e is before after new stop.Budget r.0 r.1 r.2
-run_of steps bytes e is before after new (stop.Stuck pc why) r = whole steps bytes e is before after new (stop.Stuck pc why) r.0 r.1 r.2
-run_of steps bytes e is before after new stop.ReadFault r = inr (cut_off steps bytes e is before after new r.0 r.1 r.2.0 r.2.1 r.2.2)
-run_of steps bytes e is before after new stop.WriteFault r = cut_off steps bytes e is before after new r.0 r.1 r.2.0 r.2.1 r.2.2
+run_of steps bytes e is before after new (stop.Exit status) taken r = whole steps bytes e is before after new (stop.Exit status) r.0 taken r.1 r.2
+run_of steps bytes e is before after new stop.Stack taken r = whole steps bytes e is before after new stop.Stack r.0 taken r.1 r.2
+run_of steps bytes e is before after new stop.Budget taken r = whole steps bytes e is before after new stop.Budget r.0 taken r.1 r.2
+run_of steps bytes e is before after new (stop.Stuck pc why) taken r = whole steps bytes e is before after new (stop.Stuck pc why) r.0 taken r.1 r.2
+run_of steps bytes e is before after new stop.ReadFault taken r = inr (cut_off steps bytes e is before after new r.0 taken r.1 r.2.0 r.2.1 r.2.2)
+run_of steps bytes e is before after new stop.WriteFault taken r = cut_off steps bytes e is before after new r.0 taken r.1 r.2.0 r.2.1 r.2.2
 
 run_cause : (image : Name) (s : Stop) (before after : Outside) → HasIncreased s before.input.faults after.input.faults before.output.faults after.output.faults
     → RunCause image (outcome_of s) before after
@@ -98,19 +102,19 @@ pub run_ends : (image : Name) (steps : ℕ) (before after : Outside) (outcome : 
     → outcome ≡ outcome_of s → Unchanged before.files after.files
     → ForSome before.files.known (λ files. read ≡ take (most_image_bytes + 1) (content image files))
     → (e : Executable) → loaded read ≡ Ok e → old ≡ running (start e) → flags ≡ flags_of e.segments
-    → IsSomeRun flags steps old new (streams_of before) (streams_of after) s
+    → IsSomeRun flags steps old new (streams_of before) (streams_of after) s → IsTaken before after
     → HasIncreased s before.input.faults after.input.faults before.output.faults after.output.faults
     → RunEnds image steps outcome before after
-run_ends image steps before after outcome s flags old new read ended keeps bytes e is at allows r increased =
+run_ends image steps before after outcome s flags old new read ended keeps bytes e is at allows r taken increased =
     let r' : IsSomeRun (flags_of e.segments) steps (running (start e)) new (streams_of before) (streams_of after) s =
     subst (λ f. IsSomeRun f steps (running (start e)) new (streams_of before) (streams_of after) s) allows
     (subst (λ h. IsSomeRun flags steps h new (streams_of before) (streams_of after) s) at r) in
     subst (λ o. RunEnds image steps o before after) (sym ended) (record {
       cause = run_cause image s before after increased;
       files = keeps;
-      run = λ files known.
-          let same : loaded (content image files) ≡ Ok e = sym (loaded-take (content image files)) ∙ ap loaded (sym (bytes files known)) ∙ is in
-          run_of steps (content image files) e same before after new s r';
+      run = λ files there.
+          let same : loaded (content image files) ≡ Ok e = sym (loaded-take (content image files)) ∙ ap loaded (sym (bytes files there)) ∙ is in
+          run_of steps (content image files) e same before after new s taken r';
     })
 
 -- the whole command, where there was no machine to run

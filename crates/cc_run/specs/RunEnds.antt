@@ -4,6 +4,7 @@ use Rattle.std.specs.Option.{ForSome}
 use Rattle.cc_io.specs.Faults.{Increased}
 use Rattle.cc_io.specs.Files.{Name, content}
 use Rattle.cc_io.specs.Sink.{append}
+use Rattle.cc_io.specs.Source.{prepend}
 use Rattle.elf_file.specs.Loading.{loaded}
 use Rattle.rv_machine.specs.Run.{RunResult, image_at}
 use Rattle.rv_machine.specs.Runs.{IsLeft}
@@ -14,10 +15,13 @@ use Rattle.cc_outside.specs.Outside.{Unchanged, ReadFails, Outside, KeepsStreams
 use Rattle.cc_report.specs.declared.outcome.Outcome.{Outcome}
 use Rattle.cc_report.specs.declared.outcome.Outcome.TheVariants.{ReadFault, WriteFault, BadImage, NoMemory, Exit, Stack, Budget, Stuck}
 
--- The output has gained what a run wrote, and the input, where it is known, has left what the run did not read.
+-- The output has gained what a run wrote. Bytes were taken from the front of the input alone, so one that is known stays
+-- known; it has left what the run did not read.
 pub record HasRun (o : RunResult) (before after : Outside) : Type 0 where
   pub output : after.output.bytes ≡ append before.output.bytes o.output
-  pub rest : IsLeft after.input.bytes o.rest
+  pub taken : List ℕ
+  pub rest : before.input.bytes ≡ prepend taken after.input.bytes
+  pub unread : IsLeft after.input.bytes o.rest
 
 -- This many instructions of the image, on the input, the known one where it is known, stop so.
 abbrev pub Ran : (steps : ℕ) (bytes : List ℕ) → Stop → Outside → Outside → Type 0

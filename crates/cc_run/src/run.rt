@@ -1,6 +1,7 @@
 //! The command `run`.
 
-ghost use Rattle.std.specs.Prelude.{◌≡◌, ◌⊎◌, Ok, Err, IfOk, IfErr};
+ghost use Rattle.std.specs.Prelude.{◌≡◌, ◌⊎◌, ℕ, List, Ok, Err, IfOk, IfErr};
+ghost use Rattle.cc_io.specs.Source.{prepend};
 ghost use Rattle.elf_file.specs.Loading.{Executable, loaded};
 ghost use Rattle.rv_machine.specs.Memory.{flags_of};
 ghost use Rattle.rv_machine.specs.Run.{running, start};
@@ -62,6 +63,7 @@ fn run_machine<I: Source, O: Sink>(
         (hart_of machine.new)
         (record { held = O.held output.old; left = I.left input.old })
         (record { held = O.held output.new; left = I.left input.new }) result }
+    ensures left { (taken : List ℕ) × (I.left input.old ≡ prepend taken (I.left input.new)) }
     ensures cause { HasIncreased result
         (I.faults input.old) (I.faults input.new) (O.faults output.old) (O.faults output.new) }
 {

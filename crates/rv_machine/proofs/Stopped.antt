@@ -2,7 +2,7 @@
 use Rattle.std.proofs.Common.{◌≡◌, ℕ, ◌+◌, ◌<◌, List, ◌++◌, Some, None, refl, sym, ap, ◌∙◌, subst, arith}
 use Rattle.cc_io.proofs.lemmas.Sink.{append-none}
 use Rattle.rv_machine.specs.Endings.{ending_of, stop_for}
-use Rattle.rv_machine.specs.Machine.{State, Ending, stop}
+use Rattle.rv_machine.specs.Machine.{State, Ending, Effect, stop}
 use Rattle.rv_machine.specs.Machine as plain
 use Rattle.rv_machine.specs.Run.{Hart, running, ended, after_output, follow, run_state, run}
 use Rattle.rv_machine.specs.Port.{Port, IsDoneAt}
@@ -115,3 +115,12 @@ pub stopped_next : (flags flags' : ℕ → ℕ) (n steps : ℕ) (old : Hart) (be
 stopped_next flags flags' n steps old before h h' now after s e r below runs d =
     let D : (ℕ → ℕ) → Type 0 = λ f. IsStopped (hart_effect f h) h h' (streams now) after s in
     stopped_run flags n steps old before h now r h' after s below runs (subst D e d)
+
+-- a step that stopped the run has taken nothing
+pub stopped_left : (effect : Effect) (old new : Hart) (before after : Streams) (s : Stop) → IsStopped effect old new before after s → after.left ≡ before.left
+stopped_left effect old new before after ReadFault d = ap (λ (x : Streams). x.left) d.2
+stopped_left effect old new before after WriteFault d = ap (λ (x : Streams). x.left) d.2
+stopped_left effect old new before after Budget d = absurd d
+stopped_left effect old new before after (Exit status) d = ap (λ (x : Streams). x.left) d.0.3
+stopped_left effect old new before after Stack d = ap (λ (x : Streams). x.left) d.0.3
+stopped_left effect old new before after (Stuck pc why) d = ap (λ (x : Streams). x.left) d.0.3

@@ -1,6 +1,7 @@
 //! A run of many steps.
 
-ghost use Rattle.std.specs.Prelude.{◌≡◌, ◌≤◌};
+ghost use Rattle.std.specs.Prelude.{◌≡◌, ◌≤◌, ℕ, List};
+ghost use Rattle.cc_io.specs.Source.{prepend};
 ghost use Rattle.rv_machine.specs.Runs.{IsSomeRun};
 ghost use Rattle.rv_machine.specs.Steps.{HasIncreased};
 ghost use Rattle.rv_machine.specs.View.{flags_in, hart_of};
@@ -18,6 +19,7 @@ impl Machine {
         ensures run { IsSomeRun (flags_in self.old) steps (hart_of self.old) (hart_of self.new)
             (record { held = O.held output.old; left = I.left input.old })
             (record { held = O.held output.new; left = I.left input.new }) result }
+        ensures left { (taken : List ℕ) × (I.left input.old ≡ prepend taken (I.left input.new)) }
         ensures flags { flags_in self.new ≡ flags_in self.old }
         ensures read_faults { I.faults input.old ≤ I.faults input.new }
         ensures write_faults { O.faults output.old ≤ O.faults output.new }

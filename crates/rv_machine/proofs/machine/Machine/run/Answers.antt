@@ -1,7 +1,9 @@
-use Rattle.std.proofs.Common.{refl, ◌∙◌, arith}
+use Rattle.std.proofs.Common.{[], refl, sym, ap, ◌∙◌, arith}
+use Rattle.cc_io.specs.Source.{prepend}
+use Rattle.cc_io.proofs.lemmas.Prepends.{prepend-none}
 use Rattle.rv_machine.specs.View.{state_of, flags_in, hart_of}
 use Rattle.rv_machine.proofs.Reached.{reached_none}
-use Rattle.rv_machine.proofs.Stopped.{reached_next, stopped_next, budget_run, hart-runs, ended_machine}
+use Rattle.rv_machine.proofs.Stopped.{reached_next, stopped_next, stopped_left, budget_run, hart-runs, ended_machine}
 use Rattle.rv_machine.proofs.machine.Machine.run.Goals as goal
 
 pub returns-in-Some-clause-run : goal.returns-in-Some-clause-run
@@ -45,3 +47,14 @@ pub returns-clause-run : goal.returns-clause-run
 returns-clause-run g c =
     budget_run (flags_in c.args.self.now) c.loop-done._done c.args.steps (hart_of c.args.self.now) _ (hart_of c.loop-done.self) _
     c.loop-done.invariant.reached (omega arith) (state_of c.loop-done.self, hart-runs c.loop-done.self c.loop-done.invariant.runs)
+
+pub returns-in-Some-clause-left : goal.returns-in-Some-clause-left
+returns-in-Some-clause-left g c = ([], prepend-none _)
+
+pub returns-in-Some-step_from-clause-left : goal.returns-in-Some-step_from-clause-left
+returns-in-Some-step_from-clause-left g c =
+    let r = c.loop-done.invariant.reached in
+    (r.taken, r.left ∙ ap (prepend r.taken) (sym (stopped_left _ _ _ _ _ _ c.in-Some-step_from.ensures.stopped)))
+
+pub returns-clause-left : goal.returns-clause-left
+returns-clause-left g c = (c.loop-done.invariant.reached.taken, c.loop-done.invariant.reached.left)
