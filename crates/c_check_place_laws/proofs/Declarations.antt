@@ -187,6 +187,7 @@ module _ (P : ℕ → Type 0) where
 
   mutual
     unfolding grammar.Fits grammar.symbols_of grammar.rule
+
     pub placed_init : (t : Tree) → grammar.Fits (grammar.One class.Init) t → AllAt P t → PlacedInit t
     placed_init (Node l.InitList (Cons (Leaf opening) (Cons items closing))) h a = (a.0, placed_elements class.InitItems items h.2.1.0 a.1.0)
     placed_init (Node l.InitList (Cons opening (Cons items closing))) h a = absurd (assumption)

@@ -175,6 +175,7 @@ module _ (P : ℕ → Type 0) where
   mutual
     unfolding grammar.Fits grammar.allowed grammar.symbols_of grammar.rule grammar.repeated class.includes class.same_nonterminal class.nonterminal_number class.level_number class.repeated_number
         class.optional_number
+
     pub placed : (f : grammar.Form) (t : Tree) → grammar.Fits f t → AllAt P t → Placed t
     placed (grammar.One c) (Node l.Name (Cons (Leaf x) more)) h a = a.0
     placed (grammar.One c) (Node l.Name children) h a = absurd (assumption)

@@ -51,7 +51,7 @@ module _ (P : ℕ → Type 0) where
   within_nothing s = within_same s s refl
 
   pub within_then : (r s t : State) → Within r s → Within s t → Within r t
-  within_then r s t a b = record { broken = λ x is. elim (b.broken x is) [ | inl p ↦ inl p | inr was ↦ a.broken x was ] }
+  within_then r s t a b = record { broken = λ x is. elim (b.broken x is) [ inl p ↦ inl p | inr was ↦ a.broken x was ] }
 
   abbrev pub Inside : {A : Type 0} → Elaborated A → Type 0
   Inside m = (s : State) → Within s (m s).1

@@ -22,7 +22,7 @@ own_places t = all_at (IsPlaceIn t) (Contains (tokens_of t)) (λ x is. (x, is, r
 
 -- what is broken after a state without a broken rule
 broken_there : (P : ℕ → Type 0) (s u : State) (b : Broken) → Within P s u → s.broken ≡ None → u.broken ≡ Some b → P b.offset
-broken_there P s u b w none is = elim (w.broken b is) [ | inl p ↦ p | inr was ↦ absurd (clash (sym none ∙ was)) ]
+broken_there P s u b w none is = elim (w.broken b is) [ inl p ↦ p | inr was ↦ absurd (clash (sym none ∙ was)) ]
   where
     clash : None ≡ Some b → ⊥
     clash e = cc

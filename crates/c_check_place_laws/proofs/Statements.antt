@@ -207,6 +207,7 @@ module _ (P : ℕ → Type 0) where
 
   mutual
     unfolding grammar.Fits grammar.allowed grammar.symbols_of grammar.rule grammar.repeated class.includes class.same_nonterminal class.nonterminal_number class.repeated_number
+
     pub placed_stmt : (c : class.Nonterminal) (t : Tree) → grammar.Fits (grammar.One c) t → AllAt P t → PlacedStmt t
     placed_stmt c (Node l.Expression (Cons x (Cons semicolon none))) h a = (begins P class.Expr x refl h.2.0 a.0, placed P (grammar.One class.Expr) x h.2.0 a.0)
     placed_stmt c (Node l.Block (Cons (Leaf opening) (Cons xs (Cons closing none)))) h a = placed_items xs h.2.1.0 a.1.0
