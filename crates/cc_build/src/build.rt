@@ -1,8 +1,10 @@
 //! The command `build`.
 
-ghost use Rattle.std.specs.Prelude.{◌≡◌, ◌≢◌, ◌<◌, ◌≤◌, ◌⊎◌, List, option_map, IfOk, IfErr, IfSome, IfNone};
-ghost use Rattle.limits.specs.Limits.{most_workers};
+ghost use Rattle.std.specs.Prelude.{◌≡◌, ◌≢◌, ◌<◌, ◌≤◌, ◌+◌, ◌⊎◌, List, take, option_map, IfOk, IfErr, IfSome, IfNone};
+ghost use Rattle.std.specs.Option.{ForSome};
+ghost use Rattle.limits.specs.Limits.{most_source_bytes, most_workers};
 ghost use Rattle.cc_io.specs.Faults.{Increased};
+ghost use Rattle.cc_io.specs.Files.{content};
 ghost use Rattle.g_graph.specs.declared.steps.Rule.{Rule};
 ghost use Rattle.cc_build.specs.BuildEnds.{BuildEnds, BuildEndsUnder, Finishes, IsTextOf};
 ghost use Rattle.cc_report.specs.Outcome.{text_of as line_of};
@@ -27,6 +29,26 @@ use std::alloc::Global;
 use std::sync::Wait;
 use std::thread::Threads;
 
+/// The text in the file of this name, of which no more is read than a byte over the limit.
+fn read_source<F: Files>(alloc: Global, files: &mut F, source: &str) -> Result<Vec<u8>, Outcome>
+    ensures bytes { ForSome (F.known files.old) (λ all. IfOk result
+        (λ text. text.items ≡ take (most_source_bytes + 1) (content source.now all))) }
+    ensures err { IfErr result (λ e. CompileFails source.now e (F.known files.old)
+        (Increased (F.open_faults files.old source.now) (F.open_faults files.new source.now)
+        ⊎ Increased (F.read_faults files.old) (F.read_faults files.new))) }
+    ensures known { F.known files.new ≡ F.known files.old }
+    ensures create_faults { F.create_faults files.new ≡ F.create_faults files.old }
+    ensures write_faults { F.write_faults files.new ≡ F.write_faults files.old }
+    ensures open_faults { F.open_faults files.old source.now ≤ F.open_faults files.new source.now }
+    ensures read_faults { F.read_faults files.old ≤ F.read_faults files.new }
+{
+    match load(alloc, files, source, MOST_SOURCE_BYTES + 1) {
+        Ok(text) => Ok(text),
+        Err(LoadError::Failed) => Err(Outcome::ReadFault),
+        Err(LoadError::NoMemory) => Err(Outcome::NoMemory),
+    }
+}
+
 /// What the source in the file of this name compiles to under a recipe.
 fn compile_file<H: Threads + Wait + Sync, F: Files, G: Gate>(
     rt: &H,
@@ -50,10 +72,9 @@ fn compile_file<H: Threads + Wait + Sync, F: Files, G: Gate>(
     ensures open_faults { F.open_faults files.old source.now ≤ F.open_faults files.new source.now }
     ensures read_faults { F.read_faults files.old ≤ F.read_faults files.new }
 {
-    let text = match load(alloc, files, source, MOST_SOURCE_BYTES + 1) {
+    let text = match read_source(alloc, files, source) {
         Ok(text) => text,
-        Err(LoadError::Failed) => return Err(Outcome::ReadFault),
-        Err(LoadError::NoMemory) => return Err(Outcome::NoMemory),
+        Err(outcome) => return Err(outcome),
     };
     compile_by_workers(rt, alloc, &text, recipe, workers, gate)
 }

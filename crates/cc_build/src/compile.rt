@@ -1,7 +1,10 @@
 //! What a source compiles to, or how a command ends that was to compile it.
 
-ghost use Rattle.std.specs.Prelude.{◌<◌, ◌≤◌, IfOk, IfErr};
+ghost use Rattle.std.specs.Prelude.{◌≡◌, ◌<◌, ◌≤◌, length, IfOk, IfErr};
 ghost use Rattle.limits.specs.Limits.{most_workers};
+ghost use Rattle.c_typed.specs.Typed.{ProgramTree};
+ghost use Rattle.cc_source.specs.Accepted.{Accepts, Refuses};
+ghost use Rattle.cc_compile.specs.Compiled.{IsCompiledUnder};
 ghost use Rattle.cc_build.specs.Compiled.{CompilesTo};
 ghost use Rattle.cc_refusal.specs.Refused.{IsRejectionOf};
 
@@ -9,10 +12,33 @@ use board_work::Gate;
 use cc_compile::{Compiled, compile_one};
 use cc_refusal::{outcome_of, refusal_of};
 use cc_report::Outcome;
+use cc_source::CompileFault;
 use g_pass::Recipe;
 use std::alloc::Global;
 use std::sync::Wait;
 use std::thread::Threads;
+
+// What a source compiles to does what it means.
+fn does_what_it_means(source: &[u8], recipe: &Recipe, compiled: &Compiled)
+    requires { (p : ProgramTree) × Accepts source.now p
+        × IsCompiledUnder recipe.now p compiled.now.image.items compiled.now.rows.items
+        × (compiled.now.functions ≡ length p.functions) }
+    ensures { CompilesTo recipe.now source.now compiled.now.image.items compiled.now.functions
+        compiled.now.rows.items }
+{
+    cc_compile_keeps::laws::recipes_keep_meaning();
+    let _ = source;
+    let _ = recipe;
+    let _ = compiled;
+}
+
+// How a command ends whose source has this fault.
+fn rejection_of(fault: CompileFault, source: &[u8]) -> Outcome
+    requires { Refuses fault source.now }
+    ensures { IsRejectionOf source.now result }
+{
+    outcome_of(refusal_of(fault, source))
+}
 
 /// The image of a source text under a recipe, which does what the text means, how many functions it
 /// defines, and what the recipe did to each.
@@ -21,10 +47,12 @@ pub fn compile(alloc: Global, source: &[u8], recipe: &Recipe) -> Result<Compiled
         (λ c. CompilesTo recipe.now source.now c.image.items c.functions c.rows.items) }
     ensures err { IfErr result (IsRejectionOf source.now) }
 {
-    cc_compile_keeps::laws::recipes_keep_meaning();
     match compile_one(alloc, source, recipe) {
-        Ok(compiled) => Ok(compiled),
-        Err(fault) => Err(outcome_of(refusal_of(fault, source))),
+        Ok(compiled) => {
+            does_what_it_means(source, recipe, &compiled);
+            Ok(compiled)
+        }
+        Err(fault) => Err(rejection_of(fault, source)),
     }
 }
 
@@ -44,9 +72,11 @@ pub fn compile_by_workers<H: Threads + Wait + Sync, G: Gate>(
         (λ c. CompilesTo recipe.now source.now c.image.items c.functions c.rows.items) }
     ensures err { IfErr result (IsRejectionOf source.now) }
 {
-    cc_compile_keeps::laws::recipes_keep_meaning();
     match cc_compile::compile(rt, alloc, source, recipe, workers, gate) {
-        Ok(compiled) => Ok(compiled),
-        Err(fault) => Err(outcome_of(refusal_of(fault, source))),
+        Ok(compiled) => {
+            does_what_it_means(source, recipe, &compiled);
+            Ok(compiled)
+        }
+        Err(fault) => Err(rejection_of(fault, source)),
     }
 }
