@@ -1,0 +1,5 @@
+pub mod Steps
+pub mod PlaceLaws
+pub mod ExprLaws
+pub mod StmtLaws
+pub mod CallProofs
