@@ -1,0 +1,5 @@
+pub mod Flat
+pub mod Reads
+pub mod Edits
+pub mod Conditions
+pub mod Size
