@@ -48,19 +48,20 @@ use steps::Steps;
 /// of each origin. Contracts see the list of its nodes in pre-order.
 #[derive(Drop)]
 pub struct Arena {
-    number: u32,
-    params: u32,
-    objects: Vec<Object>,
-    next: u32,
-    body: Part,
-    slots: Vec<Slot>,
+    pub(crate) alloc: Global,
+    pub(crate) number: u32,
+    pub(crate) params: u32,
+    pub(crate) objects: Vec<Object>,
+    pub(crate) next: u32,
+    pub(crate) body: Part,
+    pub(crate) slots: Vec<Slot>,
     // The numbers of the nodes of the slots.
-    numbers: IndexSet<u32>,
+    pub(crate) numbers: IndexSet<u32>,
     // One list, of the slots of the nodes that are there.
-    order: CellLists,
+    pub(crate) order: CellLists,
     // The slot of each cell of an input.
-    owners: Vec<usize>,
-    uses: UseIndex,
+    pub(crate) owners: Vec<usize>,
+    pub(crate) uses: UseIndex,
 }
 
 impl Model for Arena {

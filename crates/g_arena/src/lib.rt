@@ -7,6 +7,7 @@
 
 mod arena;
 mod keys;
+mod making;
 mod parts;
 mod slots;
 mod use_index;
