@@ -4,6 +4,8 @@ use Rattle.std.proofs.lemmas.Bool.{eqb-true, eqb-false, eq-eqb, ne_eqb, or_parts
 use Rattle.std.proofs.lemmas.List.{get_or-set_same, get_or-set_other, set-get_or, set-set, length-map, length-set, length-append}
 use Rattle.std.proofs.lemmas.List.Folds.{list_any-append}
 use Rattle.std.proofs.Math.ListN.{get_or-map}
+use Rattle.std.specs.List.{position, position_from}
+use Rattle.std.proofs.lemmas.Iterator.Adapters.{position_from-zero}
 use Rattle.cell_lists.specs.Lists.{Lists, no_cells, list_at, is_in, IsFree, IsListed, AreDistinct, pushed, removed, replaced, without, other_for, first_or, fall, falls}
 use Rattle.cell_lists.specs.Keys.{Keys, no_keys, is_key, key_at, count_of, first_of, with_key, with_moved}
 use Rattle.cell_lists.specs.Indexed.{IsIndexed}
@@ -35,12 +37,12 @@ count-set k (x ∷ xs) (suc i) y h =
     let sums : (a b c d e : ℕ) → b + c ≡ d + e → (a + b) + c ≡ (a + d) + e = λ a b c d e p. omega arith in
     sums (cond (is_key k x) 1 0) _ _ _ _ (count-set k xs i y (omega arith))
 
-none-at : (n c : ℕ) → get_or (replicate n None) c None ≡ None
+none-at : (n c : ℕ) → get_or {A = Option ℕ} (replicate n None) c None ≡ None
 none-at zero c = refl
 none-at (suc n) zero = refl
 none-at (suc n) (suc c) = none-at n c
 
-no_list-at : (n k : ℕ) → get_or (replicate n []) k [] ≡ []
+no_list-at : (n k : ℕ) → get_or {A = List ℕ} (replicate n []) k [] ≡ []
 no_list-at zero k = refl
 no_list-at (suc n) zero = refl
 no_list-at (suc n) (suc k) = no_list-at n k
@@ -374,9 +376,44 @@ module _ (cells : List (Option ℕ)) (s : Lists) (v : Keys) (kept : AreKept cell
   pub first_kept : (k : ℕ) (o : Option ℕ) → falls None (list_at s k) ≡ 0 → o ≡ first_or None (list_at s k) → o ≡ first_of k v.cells
   first_kept k o h e = e ∙ first_rising cells s kept.is k h ∙ ap (first_of k) same_cells
 
-  pub first_seen : (k : ℕ) (o : Option ℕ) → o ≡ first_of k cells → o ≡ first_of k v.cells
-  first_seen k o e = e ∙ ap (first_of k) same_cells
-
 -- a cell that loses its key and comes to hold another
 pub set_twice : (u v w : Keys) (c k : ℕ) → v ≡ with_key u c None → w ≡ with_key v c (Some k) → w ≡ with_key u c (Some k)
 set_twice u v w c k e f = f ∙ ap (λ x. with_key x c (Some k)) e ∙ (λ i. record { count = u.count; cells = set-set u.cells c None (Some k) i })
+
+-- what a cell holds, as it was read
+pub at_read : (cells : List (Option ℕ)) (c : ℕ) (r o : Option ℕ) → c < length cells → r ≡ get_or cells c r → r ≡ o → get_or cells c None ≡ o
+at_read [] c r o lt e f = absurd (omega arith)
+at_read (x ∷ xs) zero r o lt e f = sym e ∙ f
+at_read (x ∷ xs) (suc c) r o lt e f = at_read xs c r o (omega arith) e f
+
+-- a cell that lost its key can come to hold one
+pub after_clear : (u v : Keys) (c k : ℕ) → v ≡ with_key u c None → c < length u.cells → k < u.count → (c < length v.cells) × (k < v.count) × (key_at v c ≡ None)
+after_clear u v c k e lt ltk = (
+  omega (arith, ap (λ (x : Keys). length x.cells) e, length-set u.cells c None, lt),
+  omega (arith, ap (λ (x : Keys). x.count) e, ltk),
+  ap (λ (x : Keys). key_at x c) e ∙ get_or-set_same u.cells c None None lt,
+)
+
+-- the first cell that holds a key, by its index
+add_zero : (o : Option ℕ) → option_map (λ n. n + 0) o ≡ o
+add_zero None = refl
+add_zero (Some n) = ap Some (omega arith)
+
+add_more : (i : ℕ) (o : Option ℕ) → option_map (λ n. n + (i + 1)) o ≡ option_map (λ n. n + i) (option_map suc o)
+add_more i None = refl
+add_more i (Some n) = ap Some (omega arith)
+
+from-first : (k i : ℕ) (xs : List (Option ℕ)) → position_from (is_key k) i xs ≡ option_map (λ n. n + i) (first_of k xs)
+from-first k i [] = refl
+from-first k i (x ∷ xs) = by_test (is_key k x) (from-first k (i + 1) xs)
+  where
+    by_test : (t : Bool) → position_from (is_key k) (i + 1) xs ≡ option_map (λ n. n + (i + 1)) (first_of k xs)
+        → cond t (Some i) (position_from (is_key k) (i + 1) xs) ≡ option_map (λ n. n + i) (cond t (Some 0) (option_map suc (first_of k xs)))
+    by_test true ih = ap Some (sym (zero-add i))
+    by_test false ih = ih ∙ add_more i (first_of k xs)
+
+pub first-position : (k : ℕ) (xs : List (Option ℕ)) → position (is_key k) xs ≡ first_of k xs
+first-position k xs = position_from-zero (is_key k) xs ∙ from-first k 0 xs ∙ add_zero (first_of k xs)
+
+pub first_seen : (cells : List (Option ℕ)) (s : Lists) (v : Keys) → AreKept cells s v → (k : ℕ) (o : Option ℕ) → o ≡ position (is_key k) cells → o ≡ first_of k v.cells
+first_seen cells s v kept k o e = e ∙ first-position k cells ∙ ap (first_of k) (same_cells cells s v kept)

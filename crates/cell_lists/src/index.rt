@@ -1,8 +1,9 @@
 //! Cells that hold keys, with an index from each key to the cells that hold it.
 
-ghost use Rattle.std.specs.Prelude.{◌≡◌, ◌<◌, IfOk, None, Some, length};
+ghost use Rattle.std.specs.Prelude.{◌≡◌, ◌<◌, IfOk, None, Some, length, position};
 ghost use Rattle.cell_lists.specs.Keys.{
   no_keys,
+  is_key,
   key_at,
   count_of,
   first_of,
@@ -117,12 +118,17 @@ impl InvertedIndex {
 
 // The first of these cells that holds a key.
 fn first_in(cells: &[Option<usize>], key: usize) -> Option<usize>
-    ensures { result ≡ first_of key cells.now }
+    ensures { result ≡ position (is_key key) cells.now }
 {
-    for (i, held) in cells.iter().enumerate() {
-        if *held == Some(key) {
-            return Some(i);
-        }
+    cells.iter().position(|held| is_key(key, *held))
+}
+
+// Whether a cell that holds this holds a key.
+fn is_key(key: usize, held: Option<usize>) -> bool
+    ensures { result ≡ is_key key held }
+{
+    match held {
+        Some(other) => other == key,
+        None => false,
     }
-    None
 }

@@ -37,5 +37,5 @@ pub record IsIndexed (a : Inside) : Type 0 where
   pub laid : IsLaidOut a.slots.items a.body
   pub owners : a.owners.items ≡ owners_from 0 a.slots.items
   pub uses : a.uses.cells ≡ cells_of a.slots.items a.body
-  pub named : (u : Use) → IsSome (kind_in u.home u.of (arena_seen a)) → IsNamed u a.uses
+  pub named : (u : Use) → IsSome (kind_in u.home u.of (arena_seen a)) → IsNamed u a.uses.names
   pub nested : AreNested a.slots.items

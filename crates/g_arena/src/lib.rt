@@ -14,3 +14,6 @@ mod use_index;
 
 pub use arena::{Arena, NodeView, Uses};
 pub use keys::Keys;
+
+#[cfg(test)]
+mod tests;

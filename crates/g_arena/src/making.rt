@@ -7,7 +7,7 @@ ghost use Rattle.g_arena_def.specs.Size.{lambda_size};
 
 use crate::Arena;
 use crate::slots::{Part, Slot};
-use crate::use_index::{Use, UseIndex};
+use crate::use_index::{Use, UseIndex, UseNames};
 use cell_lists::CellLists;
 use g_arena_def::Place;
 use g_graph::{Kind, Lambda, Node, Op, Origin, Region, op_outputs};
@@ -287,7 +287,7 @@ fn uses_of(
     body: &Part,
     cells: usize,
 ) -> Result<UseIndex, NoMemory> {
-    let mut names = IndexSet::new(alloc);
+    let mut names = UseNames::new(alloc);
     name_args(&mut names, body, BODY)?;
     for slot in slots {
         name_slot(&mut names, slot)?;
@@ -323,10 +323,10 @@ fn uses_of(
 }
 
 // The uses of the arguments of the region at a place.
-fn name_args(names: &mut IndexSet<Use>, part: &Part, home: Place) -> Result<(), NoMemory> {
+fn name_args(names: &mut UseNames, part: &Part, home: Place) -> Result<(), NoMemory> {
     let mut index = 0;
     for _ in &part.args {
-        names.insert(Use {
+        names.add(Use {
             home,
             of: Origin::Arg(index),
         })?;
@@ -336,14 +336,14 @@ fn name_args(names: &mut IndexSet<Use>, part: &Part, home: Place) -> Result<(), 
 }
 
 // The uses of the outputs of the node of a slot, and of the arguments of its regions.
-fn name_slot(names: &mut IndexSet<Use>, slot: &Slot) -> Result<(), NoMemory> {
+fn name_slot(names: &mut UseNames, slot: &Slot) -> Result<(), NoMemory> {
     let mut port = 0;
     for _ in &slot.outputs {
         let of = Origin::Out {
             node: slot.id,
             port,
         };
-        names.insert(Use {
+        names.add(Use {
             home: slot.home,
             of,
         })?;

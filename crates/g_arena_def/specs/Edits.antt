@@ -3,14 +3,14 @@
 use Rattle.std.specs.Prelude.{ℕ, zero, suc, ◌-◌, ◌==◌, ◌&&◌, ◌||◌, nat_lt, Bool, true, false, if◌then◌else◌, List, [], ◌∷◌, map}
 use Rattle.std.specs.declared.option.Option.{Option}
 use Rattle.std.specs.declared.option.Option.TheVariants.{Some, None}
-use Rattle.std.specs.List.{list_any, remove}
+use Rattle.std.specs.List.{remove}
 use Rattle.g_graph.specs.declared.op.Kind.{Kind}
 use Rattle.g_graph.specs.declared.op.Origin.{Origin}
 use Rattle.g_graph.specs.declared.op.Origin.TheVariants.{Arg, Out}
 use Rattle.g_graph.specs.Scope.{same_origin}
 use Rattle.g_graph.specs.WellFormed.{some_of}
 use Rattle.g_arena_def.specs.declared.place.Place.{Place}
-use Rattle.g_arena_def.specs.Flat.{FlatRegion, FlatNode, Flat, same_place}
+use Rattle.g_arena_def.specs.Flat.{FlatRegion, FlatNode, Flat, same_place, is_in}
 use Rattle.g_arena_def.specs.Reads.{found}
 
 -- the first node of this number, changed
@@ -40,10 +40,6 @@ abbrev pub uses_with : Place → (Origin → Origin) → Flat → Flat
 uses_with p f a = region_with p (λ (r : FlatRegion). record r { results = map f r.results }) (record a { nodes = map (inputs_at p f) a.nodes })
 
 -- a node goes with its regions: the nodes that go are those of these numbers and those in regions of nodes that went
-abbrev pub is_in : List ℕ → Option ℕ → Bool
-is_in gone None = false
-is_in gone (Some n) = list_any (λ m. m == n) gone
-
 abbrev pub nodes_without : (gone : List ℕ) → List FlatNode → List FlatNode
 nodes_without gone [] = []
 nodes_without gone (x ∷ xs) =

@@ -1,6 +1,7 @@
 -- A lambda as a list of its nodes in pre-order: each node has the place of the region where it stands, and of its
 -- regions the arguments and results.
 use Rattle.std.specs.Prelude.{◌≡◌, ℕ, suc, ◌==◌, ◌&&◌, Bool, true, false, if◌then◌else◌, List, [], ◌∷◌, ◌++◌, map}
+use Rattle.std.specs.List.{list_any}
 use Rattle.std.specs.declared.option.Option.{Option}
 use Rattle.std.specs.declared.option.Option.TheVariants.{Some, None}
 use Rattle.g_graph.specs.declared.op.Kind.{Kind}
@@ -83,3 +84,8 @@ same_node _ _ = false
 
 abbrev pub same_place : Place → Place → Bool
 same_place p q = same_node p.node q.node && (p.region == q.region)
+
+-- whether a node is among those of these numbers
+abbrev pub is_in : List ℕ → Option ℕ → Bool
+is_in ns None = false
+is_in ns (Some n) = list_any (λ m. n == m) ns

@@ -3,3 +3,4 @@ pub mod Reads
 pub mod Edits
 pub mod Conditions
 pub mod Size
+pub mod Laws
