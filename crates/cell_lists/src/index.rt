@@ -1,6 +1,6 @@
 //! Cells that hold keys, with an index from each key to the cells that hold it.
 
-ghost use Rattle.std.specs.Prelude.{◌≡◌, ◌<◌, IfOk, None, Some, length, position};
+ghost use Rattle.std.specs.Prelude.{◌≡◌, ◌<◌, IfOk, None, Some, length, position, replicate};
 ghost use Rattle.cell_lists.specs.Keys.{
   no_keys,
   is_key,
@@ -42,9 +42,8 @@ impl InvertedIndex {
     pub fn new(alloc: Global, keys: usize, cells: usize) -> Result<InvertedIndex, NoMemory>
         ensures { IfOk result (λ made. made ≡ no_keys keys cells) }
     {
-        let none: Option<usize> = None;
         let lists = CellLists::new(alloc, keys, cells)?;
-        let keys = vec![in alloc; none; cells]?;
+        let keys = no_keys(alloc, cells)?;
         Ok(InvertedIndex { keys, lists })
     }
 
@@ -114,6 +113,14 @@ impl InvertedIndex {
         }
         first_in(&self.keys, key)
     }
+}
+
+// So many cells that hold none.
+fn no_keys(alloc: Global, cells: usize) -> Result<Vec<Option<usize>>, NoMemory>
+    ensures { IfOk result (λ v. v.items ≡ replicate cells None) }
+{
+    let held = vec![in alloc; None; cells]?;
+    Ok(held)
 }
 
 // The first of these cells that holds a key.

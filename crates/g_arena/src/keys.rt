@@ -1,7 +1,7 @@
 //! The first node of each place, op and inputs.
 
-ghost use Rattle.std.specs.Prelude.{◌≡◌, ◌+◌, [], OnErr, OnOk, Some};
-ghost use Rattle.g_arena.specs.Kept.{kept, kept_or, with_kept};
+ghost use Rattle.std.specs.Prelude.{◌≡◌, ◌+◌, [], IfOk, OnErr, OnOk};
+ghost use Rattle.g_arena.specs.Kept.{kept_or, with_kept};
 
 use g_arena_def::Place;
 use g_graph::{Op, Origin};
@@ -62,6 +62,7 @@ impl Keys {
         looks: &mut Steps<L>,
     ) -> Result<u32, NoMemory>
         ensures ok { OnOk result (self.new ≡ with_kept home op inputs.now node self.old) }
+        ensures node { IfOk result (λ n. n ≡ kept_or home op inputs.now node self.old) }
         ensures err { OnErr result (self.new ≡ self.old) }
         ensures looks { looks.new ≡ looks.old + 1 }
     {

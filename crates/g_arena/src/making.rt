@@ -1,8 +1,9 @@
 //! An arena of a lambda, and the lambda of an arena.
 
 ghost use Rattle.std.specs.Prelude.{◌≡◌, ◌+◌, ◌*◌, ◌≤◌, IfOk, OnOk};
+ghost use Rattle.g_graph.specs.Plain.{PlainLambda};
 ghost use Rattle.g_graph.specs.WellFormed.{IsWellFormed};
-ghost use Rattle.g_arena_def.specs.Flat.{StandsFor, flat_of};
+ghost use Rattle.g_arena_def.specs.Flat.{StandsFor};
 ghost use Rattle.g_arena_def.specs.Size.{lambda_size};
 
 use crate::Arena;

@@ -4,8 +4,8 @@ use Rattle.cell_lists.proofs.index.InvertedIndex.new.Goals as goal
 
 pub invariant_of-result : goal.invariant_of-result
 invariant_of-result c =
-    (new_kept c.in_ok-keys.keys.items c.in_ok-lists.lists c.args.keys c.args.cells (c.in_ok-keys.ensures.items_if_clones_equal (λ y h. h)) c.in_ok-lists.ensures).is
+    (new_kept c.in_ok-keys.keys.items c.in_ok-lists.lists c.args.keys c.args.cells c.in_ok-keys.ensures c.in_ok-lists.ensures).is
 
 pub returns : goal.returns
 returns c =
-    (new_kept c.in_ok-keys.keys.items c.in_ok-lists.lists c.args.keys c.args.cells (c.in_ok-keys.ensures.items_if_clones_equal (λ y h. h)) c.in_ok-lists.ensures).seen
+    (new_kept c.in_ok-keys.keys.items c.in_ok-lists.lists c.args.keys c.args.cells c.in_ok-keys.ensures c.in_ok-lists.ensures).seen
