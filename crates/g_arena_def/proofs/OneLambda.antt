@@ -1,5 +1,5 @@
 -- A list of nodes in pre-order is that of one lambda: which nodes are in a region is seen by their places.
-use Rattle.std.proofs.Common.{◌≡◌, ◌≢◌, ℕ, zero, suc, ◌<◌, Bool, true, false, ◌&&◌, ◌||◌, not, eqb, cond, Option, Some, None, List, [], ◌∷◌, ◌++◌, refl, ap, sym, ◌∙◌, subst, append_assoc, arith, true≢false, IsTrue}
+use Rattle.std.proofs.Common.{◌≡◌, ◌≢◌, ℕ, zero, suc, ◌<◌, Bool, true, false, ◌&&◌, ◌||◌, not, eqb, cond, Option, Some, None, List, [], ◌∷◌, ◌++◌, refl, ap, sym, ◌∙◌, subst, append_assoc, arith, true≢false}
 use Rattle.std.specs.List.{list_any}
 use Rattle.std.proofs.lemmas.Bool.{eqb-true, eq-eqb, ne_eqb, or_parts, or_from, false_from_ne_true}
 use Rattle.std.proofs.lemmas.List.Folds.{list_any-append}
@@ -173,8 +173,7 @@ mutual
       ∙ ap (λ n. in_regions n 0 rs' ++ (in_nodes p ys ++ vs)) (sym ids) in
       let r = regions_once rs rs' id 0 (in_nodes p xs ++ us) (in_nodes p ys ++ vs) (regions_fit_in p id op inputs rs xs us f)
       (subst P (sym ids) (regions_fit_in p id' op' inputs' rs' ys vs g)) (ap (λ (v : FlatNode). v.regions) h) t' in
-      let s = nodes_once xs ys p us vs (later_fits p id op inputs rs xs us f) (later_fits p id' op' inputs' rs' ys vs g) r.1 in
-      (
+      let s = nodes_once xs ys p us vs (later_fits p id op inputs rs xs us f) (later_fits p id' op' inputs' rs' ys vs g) r.1 in (
         λ i. node_then (node (ids i) (ap (λ (v : FlatNode). v.op) h i) (ap (λ (v : FlatNode). v.inputs) h i) (r.0 i)) (s.0 i),
         s.1,
       )
@@ -188,8 +187,7 @@ mutual
       let e' : in_nodes (place_in n k) ns ++ (in_regions n (suc k) rs ++ us) ≡ in_nodes (place_in n k) ms ++ (in_regions n (suc k) ss ++ vs) =
       sym (append_assoc (in_nodes (place_in n k) ns) (in_regions n (suc k) rs) us) ∙ e ∙ append_assoc (in_nodes (place_in n k) ms) (in_regions n (suc k) ss) vs in
       let t = nodes_once ns ms (place_in n k) (in_regions n (suc k) rs ++ us) (in_regions n (suc k) ss ++ vs) (region_fits n k args ns results rs us f) (region_fits n k args' ms results' ss vs g) e' in
-      let s = regions_once rs ss n (suc k) us vs (later_regions n args ns results rs us f) (later_regions n args' ms results' ss vs g) (same_tail _ _ _ _ h) t.1 in
-      (
+      let s = regions_once rs ss n (suc k) us vs (later_regions n args ns results rs us f) (later_regions n args' ms results' ss vs g) (same_tail _ _ _ _ h) t.1 in (
         λ i. region_then (region (ap (λ (v : FlatRegion). v.args) q i) (t.0 i) (ap (λ (v : FlatRegion). v.results) q i)) (s.0 i),
         s.1,
       )
@@ -211,10 +209,6 @@ once : (ns : List ℕ) → distinct ns ≡ true → Once ns
 once [] h = tt
 once (n ∷ ns) h = let p = both _ _ h in (none_of n ns p.0, once ns p.1)
 
-is_true : (b : Bool) → IsTrue b → b ≡ true
-is_true true h = refl
-is_true false h = absurd h
-
 append_nil : {A : Type 0} (xs : List A) → xs ++ [] ≡ xs
 append_nil [] = refl
 append_nil (x ∷ xs) = ap (λ ys. x ∷ ys) (append_nil xs)
@@ -229,7 +223,7 @@ body_once (region args ns results) (region args' ms results') f g h e =
 pub one_lambda : FlatIsOfOneLambda
 one_lambda a l m f g h k =
     let e = sym h ∙ k in
-    let b = body_once l.body m.body (once (region_ids l.body) (is_true _ f)) (once (region_ids m.body) (is_true _ g)) (ap (λ (v : Flat). v.body) e) (ap (λ (v : Flat). v.nodes) e) in
+    let b = body_once l.body m.body (once (region_ids l.body) f) (once (region_ids m.body) g) (ap (λ (v : Flat). v.body) e) (ap (λ (v : Flat). v.nodes) e) in
     λ i. record {
       number = ap (λ (v : Flat). v.number) e i;
       params = ap (λ (v : Flat). v.params) e i;
