@@ -174,9 +174,11 @@ named_none u (w ∷ ws) n = by_test (same_use u w) n
   where
     some_first : Some {A = ℕ} 0 ≡ None → ⊥
     some_first h = cc
+
     none_of : (o : Option ℕ) → option_map suc o ≡ None → o ≡ None
     none_of None h = refl
     none_of (Some j) h = absurd (apart (suc j) (sym h))
+
     by_test : (t : Bool) → cond t (Some 0) (option_map suc (number_of u ws)) ≡ None → (t || is_named u ws) ≡ false
     by_test true n = absurd (some_first n)
     by_test false n = named_none u ws (none_of (number_of u ws) n)
@@ -210,6 +212,7 @@ module _ (names : List Use) (s : Keys) (v : UseCells) (held : AreHeld names s v)
     where
       at : name_of names (key_at s c) ≡ None
       at = sym (get_or-map (name_of names) s.cells c None) ∙ ap (λ xs. get_or xs c None) cells_same ∙ h
+
       by : (o : Option ℕ) → key_at s c ≡ o → key_at s c ≡ None
       by None e = e
       by (Some k) e =

@@ -289,7 +289,13 @@ impl Arena {
     // The region at a place.
     fn part_at(&self, home: Place) -> Option<&Part> {
         match home.node {
-            None => { if home.region == 0 { Some(&self.body) } else { None } }
+            None => {
+                if home.region == 0 {
+                    Some(&self.body)
+                } else {
+                    None
+                }
+            }
             Some(node) => {
                 let at = self.slot_of(node)?;
                 self.slots[at].parts.get(home.region as usize)
@@ -309,7 +315,11 @@ impl Arena {
     fn output_kind(&self, home: Place, node: u32, port: u32) -> Option<Kind> {
         let at = self.slot_of(node)?;
         let slot = &self.slots[at];
-        if slot.home == home { slot.outputs.get(port as usize).copied() } else { None }
+        if slot.home == home {
+            slot.outputs.get(port as usize).copied()
+        } else {
+            None
+        }
     }
 
     // The first use of `from` becomes one of `to`.

@@ -50,7 +50,11 @@ impl Arena {
             numbers: IndexSet::new(alloc),
         };
         let mut body = nodes.region(body, BODY, looks)?;
-        let Nodes { mut slots, numbers, .. } = nodes;
+        let Nodes {
+            mut slots,
+            numbers,
+            ..
+        } = nodes;
         let inputs = lay_inputs(&mut slots);
         let cells = lay_results(&mut slots, &mut body, inputs);
         let order = order_of(alloc, slots.len())?;
@@ -282,12 +286,7 @@ fn owners_of(alloc: Global, slots: &[Slot]) -> Result<Vec<usize>, NoMemory> {
 }
 
 // The index of the uses of the arguments and outputs that there are.
-fn uses_of(
-    alloc: Global,
-    slots: &[Slot],
-    body: &Part,
-    cells: usize,
-) -> Result<UseIndex, NoMemory> {
+fn uses_of(alloc: Global, slots: &[Slot], body: &Part, cells: usize) -> Result<UseIndex, NoMemory> {
     let mut names = UseNames::new(alloc);
     name_args(&mut names, body, BODY)?;
     for slot in slots {
