@@ -1,5 +1,5 @@
 -- Cells that hold keys as contracts see them: the key of each cell, how many cells hold a key, and the first of them.
-use Rattle.std.specs.Prelude.{ℕ, suc, ◌+◌, ◌==◌, Bool, true, false, if◌then◌else◌, Option, Some, None, option_map, List, [], ◌∷◌, replicate, slice_index_or, slice_set}
+use Rattle.std.specs.Prelude.{ℕ, suc, ◌+◌, ◌==◌, Bool, false, if◌then◌else◌, Option, Some, None, option_map, List, [], ◌∷◌, replicate, slice_index_or, slice_set}
 
 -- how many keys there are, and the key of each cell that holds one
 pub record Keys : Type 0 where

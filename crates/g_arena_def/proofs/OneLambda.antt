@@ -1,17 +1,17 @@
 -- A list of nodes in pre-order is that of one lambda: which nodes are in a region is seen by their places.
-use Rattle.std.proofs.Common.{◌≡◌, ◌≢◌, ℕ, zero, suc, ◌<◌, Bool, true, false, ◌&&◌, ◌||◌, not, eqb, cond, Option, Some, None, List, [], ◌∷◌, ◌++◌, refl, ap, sym, ◌∙◌, subst, append_assoc, arith, true≢false}
+use Rattle.std.proofs.Common.{◌≡◌, ℕ, suc, ◌<◌, Bool, true, false, ◌&&◌, ◌||◌, not, eqb, Option, Some, None, List, [], ◌∷◌, ◌++◌, refl, ap, sym, ◌∙◌, subst, append_assoc, arith, true≢false}
 use Rattle.std.specs.List.{list_any}
-use Rattle.std.proofs.lemmas.Bool.{eqb-true, eq-eqb, ne_eqb, or_parts, or_from, false_from_ne_true}
+use Rattle.std.proofs.lemmas.Bool.{eq-eqb, ne_eqb, or_parts, or_from}
 use Rattle.std.proofs.lemmas.List.Folds.{list_any-append}
 use Rattle.g_graph.specs.declared.op.Kind.{Kind}
 use Rattle.g_graph.specs.declared.op.Op.{Op}
 use Rattle.g_graph.specs.declared.op.Origin.{Origin}
-use Rattle.g_graph.specs.Plain.{RegionTree, region, NodeTree, node, NodeTrees, no_nodes, node_then, RegionTrees, no_regions, region_then, PlainLambda}
+use Rattle.g_graph.specs.Plain.{RegionTree, region, node, NodeTrees, no_nodes, node_then, RegionTrees, no_regions, region_then}
 use Rattle.g_graph.specs.Ids.{region_ids, nodes_ids, regions_ids}
 use Rattle.g_graph.specs.WellFormed.{distinct, some_of}
 use Rattle.g_arena_def.specs.declared.place.Place.{Place}
-use Rattle.g_arena_def.specs.Flat.{FlatRegion, FlatNode, Flat, body_place, place_in, regions_flat, in_region, in_nodes, in_regions, region_flat, flat_of, StandsFor, same_node, same_place, is_in}
-use Rattle.g_arena_def.specs.Laws.{HasNumbersOnce, FlatIsOfOneLambda}
+use Rattle.g_arena_def.specs.Flat.{FlatRegion, FlatNode, Flat, body_place, place_in, regions_flat, in_region, in_nodes, in_regions, region_flat, same_node, same_place, is_in}
+use Rattle.g_arena_def.specs.Laws.{FlatIsOfOneLambda}
 
 -- the head and the tail of a list
 head_or : {A : Type 0} → A → List A → A

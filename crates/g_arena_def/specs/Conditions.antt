@@ -1,12 +1,11 @@
 -- What is asked of a call: that what it names is there, and that an origin that goes has no use.
-use Rattle.std.specs.Prelude.{◌≡◌, ℕ, ◌<◌, IfSome, IsSome, List, length}
-use Rattle.std.specs.declared.option.Option.{Option}
-use Rattle.std.specs.declared.option.Option.TheVariants.{Some, None}
+use Rattle.std.specs.Prelude.{◌≡◌, ℕ, ◌<◌, IsSome, length}
+use Rattle.std.specs.declared.option.Option.TheVariants.{Some}
 use Rattle.g_graph.specs.declared.op.Origin.{Origin}
 use Rattle.g_graph.specs.declared.op.Origin.TheVariants.{Arg, Out}
 use Rattle.g_arena_def.specs.declared.place.Place.{Place}
-use Rattle.g_arena_def.specs.Flat.{FlatRegion, FlatNode, Flat}
-use Rattle.g_arena_def.specs.Reads.{found, region_at, result_at, kind_in, uses_in}
+use Rattle.g_arena_def.specs.Flat.{FlatNode, Flat}
+use Rattle.g_arena_def.specs.Reads.{found, result_at, kind_in, uses_in}
 
 abbrev pub IsNode : ℕ → Flat → Type 0
 IsNode n a = IsSome (found n a.nodes)

@@ -1,6 +1,6 @@
 -- What is asked of a list of nodes: a node by its number, its neighbours, a region by its place, and the kind and the
 -- uses of an origin.
-use Rattle.std.specs.Prelude.{ℕ, ◌+◌, ◌==◌, Bool, if◌then◌else◌, option_map, option_and_then, List, [], ◌∷◌, map, length, slice_get}
+use Rattle.std.specs.Prelude.{ℕ, ◌+◌, ◌==◌, if◌then◌else◌, option_map, option_and_then, List, [], ◌∷◌, map, length, slice_get}
 use Rattle.std.specs.declared.option.Option.{Option}
 use Rattle.std.specs.declared.option.Option.TheVariants.{Some, None}
 use Rattle.g_graph.specs.declared.op.Kind.{Kind}

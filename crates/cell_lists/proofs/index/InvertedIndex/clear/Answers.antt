@@ -1,6 +1,6 @@
 -- A cell that loses its key is in the key's list before, and in none then.
-use Rattle.std.proofs.Common.{◌≡◌, get_or, Some, None}
-use Rattle.cell_lists.proofs.KeyLemmas.{cell_in, at_read, listed, clear_kept, clear_none}
+use Rattle.std.proofs.Common.{Some}
+use Rattle.cell_lists.proofs.KeyLemmas.{cell_in, at_read, listed, clear_kept}
 use Rattle.cell_lists.proofs.index.InvertedIndex.clear.Goals as goal
 
 pub remove-requires : goal.remove-requires

@@ -1,5 +1,5 @@
 -- The first cell of the key's list, where they rise, and else the first of all cells that holds it.
-use Rattle.std.proofs.Common.{◌≡◌, ℕ, eqb, true, List, Option, sym, ◌∙◌, ap}
+use Rattle.std.proofs.Common.{ℕ, List, Option, sym, ◌∙◌, ap}
 use Rattle.std.proofs.lemmas.Bool.{eqb-true}
 use Rattle.cell_lists.specs.Keys.{is_key}
 use Rattle.std.specs.List.{position}

@@ -1,6 +1,6 @@
 -- A cell gives its key to one that holds none, which stands in its place in the key's list then.
-use Rattle.std.proofs.Common.{◌≡◌, get_or, Some, None}
-use Rattle.cell_lists.proofs.KeyLemmas.{cell_in, cell_in_lists, is_free, at_read, listed, move_kept, move_none}
+use Rattle.std.proofs.Common.{Some}
+use Rattle.cell_lists.proofs.KeyLemmas.{cell_in, cell_in_lists, is_free, at_read, listed, move_kept}
 use Rattle.cell_lists.proofs.index.InvertedIndex.move_key.Goals as goal
 
 pub replace-requires : goal.replace-requires

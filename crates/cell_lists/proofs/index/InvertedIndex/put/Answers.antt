@@ -1,5 +1,5 @@
 -- A cell that comes to hold a key is in no list before, and in the key's list then.
-use Rattle.cell_lists.proofs.KeyLemmas.{list_in, cell_in, cell_in_lists, is_free, put_kept}
+use Rattle.cell_lists.proofs.KeyLemmas.{list_in, cell_in_lists, is_free, put_kept}
 use Rattle.cell_lists.proofs.index.InvertedIndex.put.Goals as goal
 
 pub push_last-requires : goal.push_last-requires
