@@ -1,7 +1,7 @@
 -- Cells that hold keys, and their lists: what becomes of both where a cell comes to hold a key, loses it, or gives it on.
 use Rattle.std.proofs.Common.{◌≡◌, ◌≢◌, ℕ, zero, suc, ◌+◌, ◌<◌, ◌≤◌, Bool, true, false, ◌||◌, eqb, ltb, cond, Option, Some, None, option_map, List, [], ◌∷◌, ◌++◌, length, map, replicate, get_or, set, refl, ap, sym, ◌∙◌, zero-add, ◌⊎◌, subst, inl, inr, arith, true≢false}
 use Rattle.std.proofs.lemmas.Bool.{eqb-true, eqb-false, eq-eqb, ne_eqb, or_parts, or_cases, or_left, or_right, or_from, false_from_ne_true, ltb-false}
-use Rattle.std.proofs.lemmas.List.{get_or-set_same, get_or-set_other, set-get_or, set-set, length-map, length-set, length-append}
+use Rattle.std.proofs.lemmas.List.{get_or-set_same, get_or-set_other, set-set, length-map, length-set, length-append}
 use Rattle.std.proofs.lemmas.List.Folds.{list_any-append}
 use Rattle.std.proofs.Math.ListN.{get_or-map}
 use Rattle.std.specs.List.{position, position_from}
@@ -347,10 +347,6 @@ module _ (cells : List (Option ℕ)) (s : Lists) (v : Keys) (kept : AreKept cell
     };
   }
 
-  -- a cell that holds none stays so
-  pub clear_none : (c : ℕ) → get_or cells c None ≡ None → v ≡ with_key v c None
-  clear_none c e = λ i. record { count = v.count; cells = sym (ap (set v.cells c) (sym (sym (ap (λ xs. get_or xs c None) same_cells) ∙ e)) ∙ set-get_or v.cells c None) i }
-
   pub move_kept : (c d k : ℕ) (s' : Lists) → c < length v.cells → d < length v.cells → get_or cells c None ≡ Some k → key_at v d ≡ None → s' ≡ replaced s c d
       → AreKept (set (set cells d (Some k)) c None) s' (with_moved v c d)
   move_kept c d k s' ltc ltd e none f = record {
@@ -361,14 +357,6 @@ module _ (cells : List (Option ℕ)) (s : Lists) (v : Keys) (kept : AreKept cell
       cells = set (set (same_cells i) d ((sym e ∙ ap (λ xs. get_or xs c None) same_cells) i)) c None;
     };
   }
-
-  -- where both cells hold none, nothing moves
-  pub move_none : (c d : ℕ) → get_or cells c None ≡ None → key_at v d ≡ None → v ≡ with_moved v c d
-  move_none c d e none =
-      let at_c : key_at v c ≡ None = sym (ap (λ xs. get_or xs c None) same_cells) ∙ e in
-      let stays : set v.cells d (key_at v c) ≡ v.cells = ap (set v.cells d) (at_c ∙ sym none) ∙ set-get_or v.cells d None in
-      let stays' : set v.cells c None ≡ v.cells = ap (set v.cells c) (sym at_c) ∙ set-get_or v.cells c None in
-      λ i. record { count = v.count; cells = sym (ap (λ xs. set xs c None) stays ∙ stays') i }
 
   pub count_kept : (k n : ℕ) → n ≡ length (list_at s k) → n ≡ count_of k v.cells
   count_kept k n e = e ∙ kept.is.counts k ∙ ap (count_of k) same_cells

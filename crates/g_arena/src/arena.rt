@@ -13,7 +13,6 @@ ghost use Rattle.g_arena_def.specs.Reads.{
   uses_in,
 };
 ghost use Rattle.g_arena_def.specs.Conditions.{
-  IsNode,
   IsResult,
   IsOrigin,
   HasInput,

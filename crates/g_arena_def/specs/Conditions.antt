@@ -7,9 +7,6 @@ use Rattle.g_arena_def.specs.declared.place.Place.{Place}
 use Rattle.g_arena_def.specs.Flat.{FlatNode, Flat}
 use Rattle.g_arena_def.specs.Reads.{found, result_at, kind_in, uses_in}
 
-abbrev pub IsNode : ℕ → Flat → Type 0
-IsNode n a = IsSome (found n a.nodes)
-
 abbrev pub IsResult : Place → (index : ℕ) → Flat → Type 0
 IsResult p k a = IsSome (result_at p k a)
 
