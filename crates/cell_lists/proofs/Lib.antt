@@ -1,3 +1,4 @@
 mod ListLemmas
 mod LinkLemmas
 mod StoreLemmas
+mod KeyLemmas

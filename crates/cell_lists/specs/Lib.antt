@@ -1,2 +1,4 @@
 pub mod Lists
 pub mod Linked
+pub mod Keys
+pub mod Indexed
