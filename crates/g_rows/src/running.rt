@@ -2,11 +2,11 @@
 //! bytes of input, from a memory without blocks: each thing that it does, and how it ends. What it
 //! calls is the lambda of the row whose place is the number of the call.
 //!
-//! `keep` keeps a copy of the last lambda. `alike BOUND ARGUMENTS : BYTES` says whether the lambdas
+//! `keep` keeps copies of the lambdas. `alike BOUND ARGUMENTS : BYTES` says whether the lambdas
 //! do as the kept ones at each bound n below this one: those at n and the kept ones at 2n + 2, and
 //! the other way round. Both end alike, and write the same, or that of the lesser bound is cut, and
 //! has written the first of what the other writes; and the lambdas meet no deeper stacks of calls,
-//! if the kept ones are not cut.
+//! if the kept ones are not cut. Where those are undefined nothing is asked.
 
 use crate::row::Row;
 use g_graph::{Lambda, copy_of};
@@ -122,15 +122,10 @@ pub fn run(row: &mut Row, text: &str) -> Result<(), NoMemory> {
     }
 }
 
-/// Keeps a copy of the last lambda.
+/// Keeps copies of the lambdas.
 pub fn keep(row: &mut Row) -> Result<(), NoMemory> {
-    match row.lambdas.last() {
-        Some(last) => {
-            let copy = copy_of(row.alloc, &last.lambda)?;
-            Ok(row.kept.push(copy)?)
-        }
-        None => row.say("no lambda"),
-    }
+    row.kept = copies_of(row.alloc, &row.lambdas)?;
+    Ok(())
 }
 
 fn written(alloc: Global, answer: &Answer) -> Result<Vec<u8>, NoMemory> {
@@ -200,6 +195,9 @@ fn stands_for(
     answer: &Answer,
     is_kept_lesser: bool,
 ) -> Result<bool, NoMemory> {
+    if matches!(kept, Answer::Undefined { .. }) {
+        return Ok(true);
+    }
     let first = written(alloc, kept)?;
     let second = written(alloc, answer)?;
     let is_no_deeper = is_no_deeper(events(kept), events(answer));
