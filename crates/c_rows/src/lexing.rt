@@ -7,8 +7,8 @@ use c_lex::{Bytes, Token, TokenKind, lex};
 use no_memory::NoMemory;
 use std::alloc::Global;
 
-// The bytes that a text of printable characters stands for.
-fn bytes_of(alloc: Global, text: &str) -> Result<Vec<u8>, NoMemory> {
+/// The bytes that a text stands for, in which `%` and two hexadecimal digits are a byte.
+pub fn bytes_of(alloc: Global, text: &str) -> Result<Vec<u8>, NoMemory> {
     let mut bytes = Vec::new(alloc);
     for (i, part) in text.split('%').enumerate() {
         let part = part.as_bytes();
@@ -24,15 +24,17 @@ fn bytes_of(alloc: Global, text: &str) -> Result<Vec<u8>, NoMemory> {
 
 fn digit(letter: u8) -> u8 {
     match letter {
-        b'0'..=b'9' => letter - b'0',
-        b'A'..=b'F' => letter - b'A' + 10,
-        _ => 0,
+        b'0'..=b'9' => letter.wrapping_sub(b'0'),
+        _ => letter.wrapping_sub(b'A').wrapping_add(10),
     }
 }
 
 fn say_ascii(out: &mut String, sort: &str, bytes: &[u8]) -> Result<(), NoMemory> {
     out.push_str(sort)?;
-    Ok(out.push_str(str::from_utf8(bytes).unwrap_or("?"))?)
+    match str::from_utf8(bytes) {
+        Ok(text) => Ok(out.push_str(text)?),
+        Err(_) => Ok(out.push_str("?")?),
+    }
 }
 
 // Says the bytes of a copy.
@@ -67,18 +69,23 @@ fn say_token(out: &mut String, token: &Token) -> Result<(), NoMemory> {
     Ok(write!(out, "{mark}{}-{}", token.at, token.end)?)
 }
 
+fn say_all(out: &mut String, tokens: &[Token]) -> Result<(), NoMemory> {
+    if tokens.len() > 100 {
+        return Ok(write!(out, "{} tokens", tokens.len())?);
+    }
+    for token in tokens {
+        say_token(out, token)?;
+    }
+    Ok(())
+}
+
 /// Says the tokens of a row.
 pub fn say_tokens(out: &mut String, row: &str) -> Result<(), NoMemory> {
     let alloc = *out.allocator();
     let source = source_of(alloc, row)?;
     let bytes = bytes_of(alloc, source.as_str())?;
     match lex(alloc, bytes.as_slice()) {
-        Ok(tokens) if tokens.len() > 100 => write!(out, "{} tokens", tokens.len())?,
-        Ok(tokens) => {
-            for token in &tokens {
-                say_token(out, token)?;
-            }
-        }
+        Ok(tokens) => say_all(out, &tokens)?,
         Err(fault) => write!(out, "{fault:?}")?,
     }
     Ok(out.push_str("\n")?)

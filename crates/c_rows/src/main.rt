@@ -1,16 +1,18 @@
-//! A program that says what parts of the front end answer on the rows of a table. The rows are the
+//! A program that says what parts of the compiler answer on the rows of a table. The rows are the
 //! lines of `stdin`, and what is said the lines of `stdout`. It stands on the crates of these parts,
 //! and promises nothing of its own.
 //!
 //! A line `part NAME` is said again, and begins the rows of a part: `lex` (`lexing`), `type`
 //! (`layouts`), `parse` (`parsing`), `scope` (`scopes`), `operator` (`operators`), `check`
-//! (`checking`) or `command` (`commands`). `tools/parse.sh` and `tools/typing.sh` compare the rows
-//! of `parse` and `operator` with gcc.
+//! (`checking`), `graph` (`graphs`) or `command` (`commands`). `tools/parse.sh` and
+//! `tools/typing.sh` compare the rows of `parse` and `operator` with gcc, and `tools/graphs.sh` has
+//! more rows for `graph`.
 #![tactic(auto)]
 
 mod checking;
 mod commands;
 mod constants;
+mod graphs;
 mod layouts;
 mod lexing;
 mod operands;
@@ -22,6 +24,7 @@ mod sources;
 
 use crate::checking::say_checked;
 use crate::commands::say_command;
+use crate::graphs::say_graph;
 use crate::layouts::say_layouts;
 use crate::lexing::say_tokens;
 use crate::operators::say_table;
@@ -40,6 +43,7 @@ fn say(out: &mut String, part: &str, row: &str) -> Result<(), NoMemory> {
         "scope" => say_calls(out, row),
         "operator" => say_table(out, row),
         "check" => say_checked(out, row),
+        "graph" => say_graph(out, row),
         "command" => say_command(out, row),
         _ => Ok(out.push_str("no part\n")?),
     }
@@ -57,13 +61,14 @@ fn main(rt: HostRuntime) -> io::Result<()> {
     let mut part = String::new(rt.alloc());
     for line in rt.lines(rt.alloc()) {
         let line = line?;
+        let line = line.as_str();
         match line.strip_prefix("part ") {
             Some(name) => {
                 part.clear();
                 part.push_str(name)?;
-                println!(rt; "{}", line.as_str())?;
+                println!(rt; "{line}")?;
             }
-            None => answer(&rt, part.as_str(), line.as_str())?,
+            None => answer(&rt, part.as_str(), line)?,
         }
     }
     Ok(())

@@ -38,7 +38,7 @@ pub const OPERANDS: [(&str, &str); 21] = [
 pub fn type_named(alloc: Global, name: &str) -> Result<Arc<CType>, NoMemory> {
     for (known, ty) in OPERANDS.iter() {
         if *known == name {
-            return shared_type(alloc, ty);
+            return shared_type(alloc, *ty);
         }
     }
     shared_type(alloc, "i")

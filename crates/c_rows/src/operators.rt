@@ -209,10 +209,13 @@ fn say_number(out: &mut String, number: Option<u32>) -> Result<(), NoMemory> {
 }
 
 fn size_number(e: Option<TExpr>) -> Option<u32> {
-    match &e?.form {
+    let e = e?;
+    let number = match &e.form {
         ExprForm::Constant(word) => Some(*word),
         _ => None,
-    }
+    };
+    drop(e);
+    number
 }
 
 fn say_tag(out: &mut String, op: &str, of: (&str, &str)) -> Result<(), NoMemory> {

@@ -18,6 +18,20 @@ fn say_tree(out: &mut String, tokens: &[Token], length: u32) -> Result<(), NoMem
     }
 }
 
+// Says the answers on the first tokens, or on all alone.
+fn say_trees(
+    out: &mut String,
+    tokens: &[Token],
+    length: u32,
+    is_cut: bool,
+) -> Result<(), NoMemory> {
+    let from = if is_cut { 0 } else { tokens.len() };
+    for n in from..=tokens.len() {
+        say_tree(out, &tokens[..n], length)?;
+    }
+    Ok(())
+}
+
 /// Says the answers on a row.
 pub fn say_parsed(out: &mut String, row: &str) -> Result<(), NoMemory> {
     let alloc = *out.allocator();
@@ -25,12 +39,8 @@ pub fn say_parsed(out: &mut String, row: &str) -> Result<(), NoMemory> {
     let source = source_of(alloc, text)?;
     match lex(alloc, source.as_bytes()) {
         Ok(tokens) => {
-            let whole = tokens.len();
-            let first = if text.len() < row.len() { 0 } else { whole };
-            for n in first..=whole {
-                say_tree(out, &tokens[..n], length_of(source.as_str()))?;
-            }
-            Ok(())
+            let is_cut = text.len() < row.len();
+            say_trees(out, &tokens, length_of(source.as_str()), is_cut)
         }
         Err(fault) => Ok(write!(out, "{fault:?}\n")?),
     }

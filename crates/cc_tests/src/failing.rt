@@ -108,10 +108,7 @@ fn is_as_told(
 }
 
 /// Each failing call on files and streams has its status, and leaves what it says.
-pub fn failing_calls_have_their_status(
-    rt: &(impl Threads + Wait + Sync),
-    alloc: Global,
-) -> Tried {
+pub fn failing_calls_have_their_status(rt: &(impl Threads + Wait + Sync), alloc: Global) -> Tried {
     let image = image_by(rt, alloc, ECHO, "none", "1")?;
     for (k, row) in ROWS.iter().enumerate() {
         if !is_as_told(rt, alloc, &image, *row)? {

@@ -48,8 +48,11 @@ impl Write for Flaky {
 /// the buffer holds then.
 const DIGITS: &[u8] = b"0123456789";
 
-const WHOLE: [(Result<usize, Failed>, &[u8]); 3] =
-    [(Ok(6), b"012345"), (Ok(4), b"678945"), (Ok(0), b"678945")];
+const WHOLE: [(Result<usize, Failed>, &[u8]); 3] = [
+    (Ok(6), b"012345"),
+    (Ok(4), b"678945"),
+    (Ok(0), b"678945"),
+];
 
 const SECOND_FAILS: [(Result<usize, Failed>, &[u8]); 4] = [
     (Ok(6), b"012345"),
@@ -66,10 +69,7 @@ const FIRST_FAILS: [(Result<usize, Failed>, &[u8]); 4] = [
 ];
 
 // The first read of a source that does not give what is told.
-fn not_given<S: Source>(
-    source: &mut S,
-    reads: &[(Result<usize, Failed>, &[u8])],
-) -> Option<usize> {
+fn not_given<S: Source>(source: &mut S, reads: &[(Result<usize, Failed>, &[u8])]) -> Option<usize> {
     let mut buf = [0u8; 6];
     for (k, (want, bytes)) in reads.iter().enumerate() {
         let given = source.read(&mut buf);
@@ -81,10 +81,7 @@ fn not_given<S: Source>(
 }
 
 // The first read of an open file that does not give what is told.
-fn not_read<F: Files>(
-    files: &mut F,
-    reads: &[(Result<usize, Failed>, &[u8])],
-) -> Option<usize> {
+fn not_read<F: Files>(files: &mut F, reads: &[(Result<usize, Failed>, &[u8])]) -> Option<usize> {
     let mut buf = [0u8; 6];
     for (k, (want, bytes)) in reads.iter().enumerate() {
         let given = files.read(&mut buf);

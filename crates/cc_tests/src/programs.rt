@@ -45,11 +45,7 @@ fn is_run(
 }
 
 /// The number of the first program that does not do what its source says under this recipe, if any.
-fn not_run(
-    rt: &(impl Threads + Wait + Sync),
-    alloc: Global,
-    recipe: &str,
-) -> Tried {
+fn not_run(rt: &(impl Threads + Wait + Sync), alloc: Global, recipe: &str) -> Tried {
     for (k, program) in PROGRAMS.iter().enumerate() {
         if !is_run(rt, alloc, *program, recipe)? {
             return Ok(Some(k));
@@ -88,10 +84,7 @@ fn built_through<G: Gate>(
 }
 
 /// Two workers are at the gate at once; one alone gives up after so many turns.
-pub fn two_workers_make_at_once(
-    rt: &(impl Threads + Wait + Sync),
-    alloc: Global,
-) -> Tried {
+pub fn two_workers_make_at_once(rt: &(impl Threads + Wait + Sync), alloc: Global) -> Tried {
     let rows: [(&str, u64, bool); 2] = [("2", 1_000_000_000, true), ("1", 1_000, false)];
     for (k, (workers, turns, met)) in rows.iter().enumerate() {
         let gate = MeetGate::new(1, 2, *turns);

@@ -247,10 +247,7 @@ fn is_told(
 }
 
 /// Watchers are told what is built, by one worker and by 64.
-pub fn watchers_are_told_what_is_built(
-    rt: &(impl Threads + Wait + Sync),
-    alloc: Global,
-) -> Tried {
+pub fn watchers_are_told_what_is_built(rt: &(impl Threads + Wait + Sync), alloc: Global) -> Tried {
     for (k, case) in CASES.iter().enumerate() {
         for workers in ["1", "64"] {
             if !is_told(rt, alloc, case, workers)? {
@@ -380,11 +377,7 @@ fn is_cut(
     watchers.push(Box::new(alloc, long_log(alloc, 2_500)?)?)?;
     let options = ("iln", "1", ["--report", "log"].as_slice());
     let left = built(rt, alloc, options, DIAMOND, [&[], failing], &mut watchers)?;
-    Ok(
-        left.status == 3
-            && left.report.bytes().len() == length
-            && left.files.get("out").is_some(),
-    )
+    Ok(left.status == 3 && left.report.bytes().len() == length && left.files.get("out").is_some())
 }
 
 /// A report that is not written whole is a write fault.

@@ -177,7 +177,10 @@ fn is_no_deeper(kept: &[Event], events: &[Event]) -> bool {
 fn ends_alike(kept: &Answer, answer: &Answer) -> bool {
     match (kept, answer) {
         (Answer::Returned { results: x, .. }, Answer::Returned { results: y, .. }) => {
-            matches!((x.first(), y.first()), (Some(Datum::Value(x)), Some(Datum::Value(y))) if x == y)
+            match (x.first(), y.first()) {
+                (Some(Datum::Value(x)), Some(Datum::Value(y))) => x == y,
+                _ => false,
+            }
         }
         (Answer::Exited { status: x, .. }, Answer::Exited { status: y, .. }) => x == y,
         _ => false,
