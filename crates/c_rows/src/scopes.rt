@@ -62,7 +62,12 @@ fn answer_name(
 }
 
 // Makes a call, which has this number on its line.
-fn answer(alloc: Global, tables: &mut Tables, call: &str, number: u32) -> Result<Answer, NoMemory> {
+fn make_call(
+    alloc: Global,
+    tables: &mut Tables,
+    call: &str,
+    number: u32,
+) -> Result<Answer, NoMemory> {
     if let Some((tag, name)) = call.split_once('.') {
         let name = Name::from_slice(alloc, name.as_bytes())?;
         return answer_member(tables, tag, &name);
@@ -96,7 +101,7 @@ fn say_answer(out: &mut String, answer: Answer) -> Result<(), NoMemory> {
 
 fn say_all(out: &mut String, tables: &mut Tables, row: &str) -> Result<(), NoMemory> {
     for (number, call) in (0u32..).zip(row.split(' ')) {
-        let given = answer(*out.allocator(), tables, call, number)?;
+        let given = make_call(*out.allocator(), tables, call, number)?;
         say_answer(out, given)?;
     }
     Ok(out.push_str(".\n")?)
