@@ -1,0 +1,127 @@
+//! A program that prints how commands end over files and streams that move one byte a call, of
+//! which one call fails or answers that there is no more. A table of them is in `stdin`: the object
+//! that has such a call, its number, what it does, the file that is the input, and the command. What
+//! is printed is in `stdout`: the status, how much of the whole output and of the whole OUT was
+//! written, and the report.
+#![tactic(auto)]
+
+mod bytes;
+mod calls;
+
+use crate::bytes::Way;
+use crate::calls::{Named, Object, Odd, arguments_of, called};
+use std::alloc::{AllocError, Global};
+use std::rt::Env;
+use std::sync::Wait;
+use std::thread::Threads;
+use std::{io, str};
+
+/// The sources: of one that exits with 42, of one that writes what it reads, and of none.
+const SOURCES: [(&str, &[u8]); 4] = [
+    ("answer.c", b"int main(void) { return 42; }"),
+    (
+        "echo.c",
+        b"int main(void) { int c; while ((c = getchar()) != -1) putchar(c); return 7; }",
+    ),
+    ("wrong.c", b"int main(void) { x = 1; return 0; }"),
+    ("abc", b"abc"),
+];
+
+/// The images of the first two sources.
+const IMAGES: [(&str, &str); 2] = [("answer.c", "answer.elf"), ("echo.c", "echo.elf")];
+
+/// All files that a row may name.
+fn all_files(rt: &(impl Threads + Wait + Sync), alloc: Global) -> Result<Vec<Named>, AllocError> {
+    let mut files = Vec::new(alloc);
+    for (name, bytes) in SOURCES {
+        files.push(Named {
+            name,
+            bytes: bytes.to_vec(alloc)?,
+        })?;
+    }
+    for (source, image) in IMAGES {
+        let words = arguments_of(
+            alloc,
+            ["build", source, "out", "--recipe", "none"].into_iter(),
+        )?;
+        let left = called(rt, alloc, &words, &files, b"", Odd::NONE)?;
+        files.push(Named {
+            name: image,
+            bytes: left.files.get("out").unwrap_or(b"").to_vec(alloc)?,
+        })?;
+    }
+    Ok(files)
+}
+
+/// The content of the file of this name, or nothing.
+fn content_of<'a>(files: &'a [Named], name: &str) -> &'a [u8] {
+    for file in files {
+        if file.name == name {
+            return &file.bytes;
+        }
+    }
+    b""
+}
+
+fn object_named(name: &str) -> Object {
+    match name {
+        "input" => Object::Input,
+        "output" => Object::Output,
+        "report" => Object::Report,
+        _ => Object::Files,
+    }
+}
+
+fn way_named(name: &str) -> Way {
+    match name {
+        "fails" => Way::Fails,
+        "ends" => Way::Ends,
+        _ => Way::Moves,
+    }
+}
+
+/// Prints how much of the whole a part is, where it is a front of it.
+fn print_part(rt: &impl Print, part: Option<&[u8]>, whole: Option<&[u8]>) -> io::Result<()> {
+    match (part, whole) {
+        (Some(part), Some(whole)) if whole.starts_with(part) => {
+            print!(rt; "{} of {} ", part.len(), whole.len())
+        }
+        (None, _) => print!(rt; "none "),
+        _ => print!(rt; "wrong "),
+    }
+}
+
+/// Prints how the command of a row ends.
+fn print_row(
+    rt: &(impl Print + Threads + Wait + Sync),
+    alloc: Global,
+    files: &[Named],
+    row: &str,
+) -> io::Result<()> {
+    let mut words = row.split(' ');
+    let object = object_named(words.next().unwrap_or(""));
+    let number = words.next().unwrap_or("").parse::<u64>().unwrap_or(0);
+    let way = way_named(words.next().unwrap_or(""));
+    let input = content_of(files, words.next().unwrap_or(""));
+    let words = arguments_of(alloc, words)?;
+    let whole = called(rt, alloc, &words, files, input, Odd::NONE)?;
+    let odd = Odd {
+        object,
+        number,
+        way,
+    };
+    let left = called(rt, alloc, &words, files, input, odd)?;
+    print!(rt; "{} output ", left.status)?;
+    print_part(rt, Some(&left.output), Some(&whole.output))?;
+    print!(rt; "out ")?;
+    print_part(rt, left.files.get("out"), whole.files.get("out"))?;
+    println!(rt; "{:?}", str::from_utf8(&left.report).unwrap_or("no text"))
+}
+
+fn main(rt: HostRuntime) -> io::Result<()> {
+    let files = all_files(&rt, rt.alloc())?;
+    for row in rt.lines(rt.alloc()) {
+        print_row(&rt, rt.alloc(), &files, row?.as_str())?;
+    }
+    Ok(())
+}
