@@ -119,7 +119,7 @@ impl ByteSink {
 }
 
 impl Sink for ByteSink {
-    ghost use Rattle.std.specs.Prelude.{Unit, tt, None};
+    ghost use Rattle.std.specs.Prelude.{None};
 
     ghost faults = { λ sink. sink.faults };
 

@@ -58,9 +58,9 @@ pub struct Left {
     /// The files by name.
     pub files: ByteFiles,
     /// What was written on the output.
-    pub output: Vec<u8>,
+    pub output: ByteSink,
     /// What was reported.
-    pub report: Vec<u8>,
+    pub report: ByteSink,
 }
 
 /// The files, of which the calls have these ways.
@@ -113,16 +113,13 @@ pub fn called(
     Ok(Left {
         status,
         files,
-        output: output.bytes,
-        report: report.bytes,
+        output,
+        report,
     })
 }
 
 /// The arguments of a command, after the name of the program.
-pub fn arguments_of<'a>(
-    alloc: Global,
-    command: impl Iterator<Item = &'a str>,
-) -> Result<Vec<String>, AllocError> {
+pub fn arguments_of(alloc: Global, command: &[&str]) -> Result<Vec<String>, AllocError> {
     let mut words = Vec::new(alloc);
     words.push(String::from_str(alloc, "rvcc")?)?;
     for word in command {

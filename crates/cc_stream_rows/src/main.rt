@@ -91,6 +91,30 @@ fn print_part(rt: &impl Print, part: Option<&[u8]>, whole: Option<&[u8]>) -> io:
     }
 }
 
+/// Prints how a command ends over this input, where one call is an odd one.
+fn print_end(
+    rt: &(impl Print + Threads + Wait + Sync),
+    alloc: Global,
+    files: &[Named],
+    command: &[&str],
+    input: &[u8],
+    odd: Odd,
+) -> io::Result<()> {
+    let words = arguments_of(alloc, command)?;
+    let whole = called(rt, alloc, &words, files, input, Odd::NONE)?;
+    let left = called(rt, alloc, &words, files, input, odd)?;
+    print!(rt; "{} output ", left.status)?;
+    print_part(
+        rt,
+        Some(left.output.bytes.as_slice()),
+        Some(whole.output.bytes.as_slice()),
+    )?;
+    print!(rt; "out ")?;
+    print_part(rt, left.files.get("out"), whole.files.get("out"))?;
+    let report = str::from_utf8(left.report.bytes.as_slice()).unwrap_or("no text");
+    println!(rt; "{report:?}")
+}
+
 /// Prints how the command of a row ends.
 fn print_row(
     rt: &(impl Print + Threads + Wait + Sync),
@@ -98,24 +122,22 @@ fn print_row(
     files: &[Named],
     row: &str,
 ) -> io::Result<()> {
-    let mut words = row.split(' ');
-    let object = object_named(words.next().unwrap_or(""));
-    let number = words.next().unwrap_or("").parse::<u64>().unwrap_or(0);
-    let way = way_named(words.next().unwrap_or(""));
-    let input = content_of(files, words.next().unwrap_or(""));
-    let words = arguments_of(alloc, words)?;
-    let whole = called(rt, alloc, &words, files, input, Odd::NONE)?;
-    let odd = Odd {
-        object,
-        number,
-        way,
-    };
-    let left = called(rt, alloc, &words, files, input, odd)?;
-    print!(rt; "{} output ", left.status)?;
-    print_part(rt, Some(&left.output), Some(&whole.output))?;
-    print!(rt; "out ")?;
-    print_part(rt, left.files.get("out"), whole.files.get("out"))?;
-    println!(rt; "{:?}", str::from_utf8(&left.report).unwrap_or("no text"))
+    let mut words = Vec::new(alloc);
+    for word in row.split(' ') {
+        words.push(word)?;
+    }
+    match words.as_slice() {
+        [object, number, way, input, command @ ..] => {
+            let odd = Odd {
+                object: object_named(object),
+                number: number.parse::<u64>().unwrap_or(0),
+                way: way_named(way),
+            };
+            let input = content_of(files, input);
+            print_end(rt, alloc, files, command, input, odd)
+        }
+        _ => println!(rt; "no row"),
+    }
 }
 
 fn main(rt: HostRuntime) -> io::Result<()> {
