@@ -1,6 +1,6 @@
 //! Sources, sinks and files that move one byte a call. One call is another: it fails, or answers
 //! that there is no more.
-ghost use Rattle.std.specs.Prelude.{◌≤◌, ◌<◌, length};
+ghost use Rattle.std.specs.Prelude.{◌≡◌, ◌≤◌, ◌<◌, length};
 
 use cc_io::{Failed, Files, MemFiles, Sink, Source};
 use std::alloc::{AllocError, Global};
@@ -69,7 +69,8 @@ impl ByteSource {
     /// Moves the next byte, where there is one, and gives how many were moved.
     fn move_byte(&mut self, buf: &mut [u8]) -> usize
         requires { 0 < length buf.old }
-        ensures { result ≤ length buf.old }
+        ensures count { result ≤ length buf.old }
+        ensures faults { self.new.faults ≡ self.old.faults }
     {
         if self.at >= self.bytes.len() {
             return 0;
