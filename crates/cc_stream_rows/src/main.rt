@@ -1,8 +1,8 @@
-//! A program that prints how commands end over files and streams that move one byte a call, of
-//! which one call fails or answers that there is no more. A table of them is in `stdin`: the object
-//! that has such a call, its number, what it does, the file that is the input, and the command. What
-//! is printed is in `stdout`: the status, how much of the whole output and of the whole OUT was
-//! written, and the report.
+//! A program that prints how commands end over streams and files of which a call fails or ends early.
+//! Each call moves one byte. A table is in `stdin`: the object that has a call of its own, the number
+//! of that call, what it does, the file that is the input, and the command. What is printed is in
+//! `stdout`: the status, how much of the whole output and of the whole OUT was written, and the
+//! report.
 #![tactic(auto)]
 
 mod bytes;
@@ -16,7 +16,8 @@ use std::sync::Wait;
 use std::thread::Threads;
 use std::{io, str};
 
-/// The sources: of one that exits with 42, of one that writes what it reads, and of none.
+/// The files that are there: sources of a program that exits with 42, of one that writes what it reads
+/// and of none, and an input.
 const SOURCES: [(&str, &[u8]); 4] = [
     ("answer.c", b"int main(void) { return 42; }"),
     (
@@ -40,10 +41,7 @@ fn all_files(rt: &(impl Threads + Wait + Sync), alloc: Global) -> Result<Vec<Nam
         })?;
     }
     for (source, image) in IMAGES {
-        let words = arguments_of(
-            alloc,
-            ["build", source, "out", "--recipe", "none"].into_iter(),
-        )?;
+        let words = arguments_of(alloc, &["build", source, "out", "--recipe", "none"])?;
         let left = called(rt, alloc, &words, &files, b"", Odd::NONE)?;
         files.push(Named {
             name: image,
