@@ -1,13 +1,156 @@
 #!/bin/sh
-# Shows that the program reports memory that runs out before the top call: its first allocation fails. It proves nothing,
-# and needs the command rt alone.
+# Refuses each allocation of commands in turn: builds of four sources by 1 and 2 workers under each report, runs, a source on the input,
+# and a generated program. A command ends as it does with all its memory, or reports `memory` and has written nothing and made no file
+# (the whole one where the text of a report found no memory). `read fault` and `write fault` come where the name of the file that is opened
+# or created found no memory, and nowhere else: the names are of lengths that nothing else has. That needs gcc. Without it, the first
+# allocation of the program is refused by rt.
 set -u
 cd "$(dirname "$0")/.." || exit 1
 script=tools/memory.sh
 . tools/lib.sh
-need rt
+if ! command -v gcc >/dev/null 2>&1; then
+    need rt
+    (cd crates/cc_main && rt try --fail-alloc 1 </dev/null >"$folder/log" 2>&1)
+    grep -qx memory "$folder/log" || fail "the line \`memory\` is missing"
+    grep -q '^run=ended status=6 ' "$folder/log" || fail "the status is not 6"
+    echo "$script: where the first allocation fails, the line is \`memory\` and the status 6; for the others gcc is needed"
+    exit 0
+fi
+compiler
 
-(cd crates/cc_main && rt try --fail-alloc 1 </dev/null >"$folder/log" 2>&1)
-grep -qx memory "$folder/log" || fail "the line \`memory\` is missing"
-grep -q '^run=ended status=6 ' "$folder/log" || fail "the status is not 6"
-echo "tools/memory.sh: where the first allocation fails, the line is \`memory\` and the status 6"
+# named NAME LENGTH: a path of this length to the file of this name.
+named() {
+    path=$folder/$1
+    while [ ${#path} -lt $(($2 - 1)) ]; do path="${path%/*}/./${path##*/}"; done
+    [ ${#path} -eq "$2" ] || path="${path%/*}//${path##*/}"
+    [ ${#path} -eq "$2" ] || fail "no path of $2 bytes"
+    printf '%s' "$path"
+}
+read_length=1311
+made_length=1733
+out=$(named made.out $made_length) || exit 1
+
+echo 'int main(void) { return 42; }' >"$folder/one.c"
+cat >"$folder/four.c" <<'END'
+int d(int x) { return x + 1; }
+int b(int x) { return d(x) * 2; }
+int c(int x) { return d(x) * 3; }
+int main(void) { return b(1) + c(2); }
+END
+{
+    echo 'int f0(int x) { return x; }'
+    k=1
+    while [ $k -lt 12 ]; do
+        echo "int f$k(int x) { return f$((k - 1))(x) + 1; }"
+        k=$((k + 1))
+    done
+    echo 'int main(void) { return f11(5); }'
+} >"$folder/chain.c"
+cp examples/squares.c "$folder/squares.c" || exit 1
+: >"$folder/nothing"
+
+# A library that refuses one allocation, by its number, and then writes its size to the descriptor 9.
+cat >"$folder/refuse.c" <<'END'
+#include <stdatomic.h>
+#include <stdio.h>
+#include <stdlib.h>
+#include <unistd.h>
+void *__libc_malloc(size_t size);
+void *__libc_realloc(void *old, size_t size);
+static atomic_long asked;
+static long refused;
+__attribute__((constructor)) static void start(void)
+{
+    asked = 0;
+    refused = atol(getenv("REFUSED"));
+}
+static int is_refused(size_t size)
+{
+    char text[24];
+    if (atomic_fetch_add(&asked, 1) + 1 != refused) return 0;
+    return write(9, text, snprintf(text, sizeof text, "%zu\n", size)) > 0;
+}
+void *malloc(size_t size) { return is_refused(size) ? NULL : __libc_malloc(size); }
+void *realloc(void *old, size_t size) { return is_refused(size) ? NULL : __libc_realloc(old, size); }
+END
+gcc -O1 -shared -fPIC -o "$folder/refuse.so" "$folder/refuse.c" || fail 'gcc refused the library'
+
+# is_name LENGTH: the allocation that was refused is of a name of this length: the name, a path to it and the byte that ends it, or the
+# folder `.` that the path begins with.
+is_name() {
+    size=$(cat "$folder/refused")
+    [ "$size" -eq 1 ] || { [ "$size" -ge "$1" ] && [ "$size" -le $(($1 + 4)) ]; }
+}
+
+# What finds no memory where a file is opened (r) or created (w), in order, with its size.
+opening=" r1 r$((read_length + 2)) r$read_length"
+creation=" w1 w$((made_length + 2)) w$made_length"
+
+# refuse FAULTS INPUT WORDS..: refuses each allocation of the command in turn; these are read and write faults.
+refuse() {
+    wanted=$1
+    input=$2
+    shift 2
+    rm -f "$out"
+    "$program" "$@" <"$input" >"$folder/whole_output" 2>"$folder/whole_report" || fail "$* failed"
+    if [ -e "$out" ]; then cp "$out" "$folder/whole_out"; else rm -f "$folder/whole_out"; fi
+    number=1
+    faults=
+    while :; do
+        rm -f "$out"
+        REFUSED=$number LD_PRELOAD=$folder/refuse.so "$program" "$@" <"$input" >"$folder/output" 2>"$folder/report" 9>"$folder/refused"
+        status=$?
+        where="${1-} $(basename "${2-}") $(basename "${3-}") ${4-} ${5-} ${6-} ${7-} without allocation $number of $(cat "$folder/refused") bytes"
+        case "$status $(cat "$folder/report")" in
+            "0 $(cat "$folder/whole_report")")
+                cmp -s "$folder/whole_output" "$folder/output" || fail "the output differs: $where"
+                [ ! -e "$folder/whole_out" ] || cmp -s "$folder/whole_out" "$out" || fail "the file differs: $where"
+                ;;
+            '6 memory')
+                [ ! -s "$folder/output" ] || fail "output was written: $where"
+                [ ! -e "$out" ] || { [ "${4-}" = --report ] && cmp -s "$folder/whole_out" "$out"; } || fail "a file was made: $where"
+                ;;
+            '2 read fault')
+                is_name $read_length || fail "a read fault: $where"
+                [ ! -s "$folder/output" ] && [ ! -e "$out" ] || fail "output or a file: $where"
+                faults="$faults r$size"
+                reads=$((reads + 1))
+                ;;
+            '3 write fault')
+                is_name $made_length || fail "a write fault: $where"
+                [ ! -s "$folder/output" ] && [ ! -e "$out" ] || fail "output or a file: $where"
+                faults="$faults w$size"
+                writes=$((writes + 1))
+                ;;
+            *) fail "status $status, $(head -n 1 "$folder/report"): $where" ;;
+        esac
+        [ -s "$folder/refused" ] || break
+        number=$((number + 1))
+    done
+    [ "$status" -eq 0 ] || fail "no call ended without a refusal: $*"
+    refused=$((refused + number - 1))
+    # When two workers make OUT is not the same allocation each time.
+    case "$*" in
+        *'--workers 2') ;;
+        *) [ "$faults" = "$wanted" ] || fail "$where: the faults are$faults" ;;
+    esac
+}
+
+refused=0
+reads=0
+writes=0
+for source in one four chain squares; do
+    in=$(named $source.c $read_length) || exit 1
+    for workers in 1 2; do
+        refuse "$opening$creation" "$folder/nothing" build "$in" "$out" --workers $workers
+        for report in count log; do
+            refuse "$opening$creation" "$folder/nothing" build "$in" "$out" --report $report --workers $workers
+        done
+    done
+    refuse "" "$folder/$source.c"
+    "$program" build "$folder/$source.c" "$folder/$source.elf" || fail "$source.c is not built"
+    image=$(named $source.elf $read_length) || exit 1
+    refuse "$opening" "$folder/nothing" run "$image"
+done
+refuse "$creation" "$folder/nothing" gen 7 20 "$out"
+echo "$script: $refused commands without an allocation end as they should, $reads of them by a file that was not opened, $writes not created"

@@ -11,9 +11,10 @@ repeat() {
     yes "$1" | head -n "$2" | tr -d '\n'
 }
 
-# What each writes is a program that exits with 3, at its depth N: a loop that is left N times; N parentheses; N branches, each in the
+# What each writes is a program that exits with 3, at its depth N: a loop that is left or gone on with N times; N parentheses; N branches, each in the
 # `else` of the one before it; N loops, each in the one before it, with blocks and without; N times && and ?:, each in the one before it.
 breaks() { printf 'int main(void) { while (1) { '; repeat 'break; ' $1; printf '} return 3; }'; }
+continues() { printf 'int main(void) { do { '; repeat 'continue; ' $1; printf '} while (0); return 3; }'; }
 parentheses() { printf 'int main(void) { return '; repeat '(' $1; printf 3; repeat ')' $1; printf '; }'; }
 branches() {
     printf 'int main(void) { int x = getchar() + 2; '
@@ -56,6 +57,7 @@ while read -r source depth refused; do
     done
 done <<'END'
 breaks 980 Limit 42 line 1 which 5 count 24577
+continues 981 Limit 42 line 1 which 5 count 24598
 parentheses 99 TooDeep 22 line 1
 branches 49 TooDeep 22 line 1
 blocks 65 TooDeep 22 line 1
