@@ -101,3 +101,7 @@ OneBreak = (bytes : List ℕ) (line other : ℕ) → BreaksAt line bytes → Bre
 -- and at none where they are a log.
 abbrev pub LogsDoNotBreak : Type 0
 LogsDoNotBreak = (rows : List PlainRow) (bytes : List ℕ) (line : ℕ) → IsLogOf rows bytes → BreaksAt line bytes → ⊥
+
+-- A log has no more lines than bytes.
+abbrev pub LogsHaveFewLines : Type 0
+LogsHaveFewLines = (rows : List PlainRow) (bytes : List ℕ) → IsLogOf rows bytes → line_count rows ≤ length bytes

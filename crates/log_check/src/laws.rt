@@ -1,6 +1,6 @@
 //! Laws of logs, each the contract of a function that does nothing.
 
-ghost use Rattle.log_check.specs.Log.{LogsDoNotBreak, OneBreak, OneReading};
+ghost use Rattle.log_check.specs.Log.{LogsDoNotBreak, LogsHaveFewLines, OneBreak, OneReading};
 
 /// Bytes are the log of one list of rows at most.
 pub fn texts_have_one_reading()
@@ -11,4 +11,9 @@ pub fn texts_have_one_reading()
 pub fn texts_break_at_one_line()
     ensures one { OneBreak }
     ensures none { LogsDoNotBreak }
+{}
+
+/// A log has no more lines than bytes.
+pub fn logs_have_few_lines()
+    ensures { LogsHaveFewLines }
 {}

@@ -1,8 +1,8 @@
 -- When a log certifies an image of a source, and what is wrong where it does not.
 use Rattle.std.specs.Prelude.{◌≡◌, ◌≢◌, ℕ, suc, ◌<◌, ◌≤◌, List, map, take, length}
-use Rattle.c_typed.specs.Typed.{FunctionTree, ProgramTree}
+use Rattle.c_typed.specs.Typed.{ProgramTree}
 use Rattle.g_graph.specs.Plain.{PlainLambda, PlainOmega}
-use Rattle.g_build_def.specs.Functions.{graph, omega}
+use Rattle.g_build_def.specs.Functions.{graph, names, omega}
 use Rattle.cc_emit_def.specs.Image.{file_of_program}
 use Rattle.cc_source.specs.Accepted.{Accepts, Refuses}
 use Rattle.cc_source.specs.declared.fault.CompileFault.TheVariants as source_fault
@@ -23,9 +23,6 @@ pub record IsRead (bytes : List ℕ) (log : List PlainPart) : Type 0 where
 abbrev pub names_of_log : List PlainPart → List (List ℕ)
 names_of_log log = map (λ (p : PlainPart). p.name) log
 
-abbrev pub names_of : List FunctionTree → List (List ℕ)
-names_of functions = map (λ (f : FunctionTree). f.name) functions
-
 -- The image is that of lambdas that the log's steps make of the program's, and the log has the counts of both.
 pub record IsImageOf (o : PlainOmega) (log : List PlainPart) (image : List ℕ) : Type 0 where
   pub lambdas : List PlainLambda
@@ -37,7 +34,7 @@ pub record IsImageOf (o : PlainOmega) (log : List PlainPart) (image : List ℕ) 
 pub record IsCertified (p : ProgramTree) (log image : List ℕ) : Type 0 where
   pub functions : List PlainPart
   pub read : IsRead log functions
-  pub named : names_of_log functions ≡ names_of p.functions
+  pub named : names_of_log functions ≡ names p
   pub lambdas : List PlainLambda
   pub right : AreRight (graph p) functions lambdas
   pub file : image ≡ file_of_program (omega p) lambdas
@@ -55,9 +52,9 @@ abbrev pub line_of : List PlainPart → (index : ℕ) → ℕ
 line_of log index = suc (line_count (rows_of (take index log)))
 
 -- At this line the names of the log part from those of the program.
-pub record IsMisnamed (functions : List FunctionTree) (log : List PlainPart) (line : ℕ) : Type 0 where
+pub record IsMisnamed (p : ProgramTree) (log : List PlainPart) (line : ℕ) : Type 0 where
   pub index : ℕ
-  pub names : PartAt (names_of_log log) (names_of functions) index
+  pub names : PartAt (names_of_log log) (names p) index
   pub line_is : line ≡ line_of log index
 
 -- At this byte the image parts from that of the lambdas that the log's steps make.
@@ -78,14 +75,14 @@ IsPartFault fault o log image = ⊥
 pub record IsNamedFault (fault : JudgeFault) (p : ProgramTree) (log image : List ℕ) : Type 0 where
   pub functions : List PlainPart
   pub read : IsRead log functions
-  pub named : names_of_log functions ≡ names_of p.functions
+  pub named : names_of_log functions ≡ names p
   pub wrong : IsPartFault fault (omega p) functions image
 
 -- a log that has other names
 pub record IsNameFault (p : ProgramTree) (log : List ℕ) (line : ℕ) : Type 0 where
   pub functions : List PlainPart
   pub read : IsRead log functions
-  pub wrong : IsMisnamed p.functions functions line
+  pub wrong : IsMisnamed p functions line
 
 -- The first of these that applies to a program: the log is too long; a line breaks its form; its names are others; what it
 -- says of functions is wrong, by rank, and within a rank by number; the image is another one.

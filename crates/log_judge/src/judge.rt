@@ -48,7 +48,7 @@ fn judge_typed(
 {
     programs_can_be_emitted();
     let read = read_log(alloc, log)?;
-    if let Some(line) = first_other_name(&typed.functions, &read.functions) {
+    if let Some(line) = first_other_name(typed, &read.functions) {
         return Err(JudgeFault::BadFunction { line });
     }
     let omega = graph_of(alloc, typed)?;

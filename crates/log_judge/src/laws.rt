@@ -12,5 +12,6 @@ pub fn faults_are_first()
     cc_source::laws::the_fault_is_determined();
     cc_source::laws::accepted_is_not_refused();
     log_check::laws::texts_have_one_reading();
+    log_check::laws::texts_break_at_one_line();
     log_replay::laws::faults_are_first();
 }

@@ -1,31 +1,33 @@
 //! Whether a log has the functions of a program.
 
 ghost use Rattle.std.specs.Prelude.{◌≡◌, ◌+◌, ◌<◌, ◌^◌, IfSome, IfNone};
+ghost use Rattle.g_build_def.specs.Functions.{names};
 ghost use Rattle.log_check.specs.Log.{line_count, rows_of};
-ghost use Rattle.log_judge.specs.Judgement.{names_of, names_of_log, IsMisnamed};
+ghost use Rattle.log_judge.specs.Judgement.{names_of_log, IsMisnamed};
 
-use c_typed::TFunction;
+use c_typed::Typed;
 use log_check::LogPart;
-use std::cmp;
 
 /// The first line of a function of the log whose name is not that of the program's function at its
 /// place, or the line behind the last one where functions are missing; none where the log has the
 /// names of the program. Its lines have 32 bits.
-pub fn first_other_name(functions: &[TFunction], log: &[LogPart]) -> Option<u32>
+pub fn first_other_name(typed: &Typed, log: &[LogPart]) -> Option<u32>
     requires { line_count (rows_of log.now) + 1 < 2 ^ 32 }
-    ensures some { IfSome result (λ line. IsMisnamed functions.now log.now line) }
-    ensures none { IfNone result (names_of_log log.now ≡ names_of functions.now) }
+    ensures some { IfSome result (λ line. IsMisnamed typed.now log.now line) }
+    ensures none { IfNone result (names_of_log log.now ≡ names typed.now) }
 {
     let mut line = 1;
-    for index in 0..cmp::min(functions.len(), log.len()) {
-        let part = &log[index];
-        if part.name.as_slice() != functions[index].name.as_slice() {
+    for index in 0..log.len() {
+        if index >= typed.functions.len() {
             return Some(line);
         }
-        line += 1 + part.steps.len() as u32;
+        if log[index].name.as_slice() != typed.functions[index].name.as_slice() {
+            return Some(line);
+        }
+        line += 1 + log[index].steps.len() as u32;
     }
-    if functions.len() == log.len() {
-        return None;
+    if log.len() < typed.functions.len() {
+        return Some(line);
     }
-    Some(line)
+    None
 }

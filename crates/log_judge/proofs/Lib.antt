@@ -1,0 +1,4 @@
+mod Parting
+mod OneFault
+mod Names
+mod Files
