@@ -1,3 +1,4 @@
 mod Stops
 mod FirstFaults
 mod Taken
+mod Made

@@ -1,0 +1,73 @@
+-- One step more, and one callee more.
+use Rattle.std.proofs.Common.{◌≡◌, ◌≢◌, ◌<◌, ◌≤◌, ◌+◌, ◌-◌, ◌^◌, ℕ, zero, suc, Bool, true, false, List, [], ◌∷◌, ◌++◌, length, map, take, None, Some, slice_get, get_or, refl, sym, ap, subst, ◌∙◌, arith}
+use Rattle.std.specs.Prelude.{min, option_and_then, Option, if◌then◌else◌, unwrap_or, option_map}
+use Rattle.std.proofs.lemmas.List.{map-append, take_more}
+use Rattle.std.proofs.lemmas.Option.{slice_get-get_or, slice_get-map}
+use Rattle.g_graph.specs.declared.steps.Step.{Step}
+use Rattle.g_graph.specs.Plain.{PlainLambda, PlainOptimised}
+use Rattle.g_pass_order.specs.Calls.{no_lambda}
+use Rattle.g_pass_def.specs.Answers.{lambda_of, lambdas_of}
+use Rattle.g_pass_def.specs.Sweep.{replayed}
+use Rattle.g_pass_def.specs.Replayed.{lambdas_at}
+use Rattle.g_pass.specs.Sweep.{rules}
+use Rattle.log_replay.specs.Fault.{StopsAfter, IsStepFault}
+
+-- ---- steps
+
+one-more : (callees : List PlainLambda) (steps : List Step) (l k j : PlainLambda) (n : ℕ) (s : Step) → replayed rules callees (take n steps) l ≡ Some k → slice_get steps n ≡ Some s →
+    rules.step s.rule callees s.node k ≡ Some j → replayed rules callees (take (suc n) steps) l ≡ Some j
+one-more callees [] l k j n s made next step = absurd cc
+one-more callees (t ∷ steps) l k j zero s made next step =
+    let here : l ≡ k = cc in
+    let this : t ≡ s = cc in
+    let at : rules.step t.rule callees t.node l ≡ Some j =
+    subst (λ (x : Step). rules.step x.rule callees x.node l ≡ Some j) (sym this) (subst (λ x. rules.step s.rule callees s.node x ≡ Some j) (sym here) step) in
+    ap (option_and_then (replayed rules callees [])) at
+one-more callees (t ∷ steps) l k j (suc n) s made next step = goes-on (rules.step t.rule callees t.node l) made
+  where
+    goes-on : (o : Option PlainLambda) → option_and_then (replayed rules callees (take n steps)) o ≡ Some k → option_and_then (replayed rules callees (take (suc n) steps)) o ≡ Some j
+    goes-on None e = absurd cc
+    goes-on (Some x) e = one-more callees steps x k j n s e next step
+
+pub step-made : (callees : List PlainLambda) (steps : List Step) (l k j : PlainLambda) (n : ℕ) (s : Step) (made : Bool) → replayed rules callees (take n steps) l ≡ Some k →
+    slice_get steps n ≡ Some s → rules.step s.rule callees s.node k ≡ (if made then Some j else None) → made ≡ true → replayed rules callees (take (n + 1) steps) l ≡ Some j
+step-made callees steps l k j n s made so_far next step yes =
+    let at : rules.step s.rule callees s.node k ≡ Some j = step ∙ ap (λ (b : Bool). if b then Some j else None) yes in
+    let next_number : suc n ≡ n + 1 = omega arith in
+    subst (λ m. replayed rules callees (take m steps) l ≡ Some j) next_number (one-more callees steps l k j n s so_far next at)
+
+pub step-stops : (callees : List PlainLambda) (steps : List Step) (l k j : PlainLambda) (n line : ℕ) (s : Step) (made : Bool) → replayed rules callees (take n steps) l ≡ Some k →
+    slice_get steps n ≡ Some s → rules.step s.rule callees s.node k ≡ (if made then Some j else None) → made ≡ false → IsStepFault callees steps l line (line + 1 + n)
+step-stops callees steps l k j n line s made so_far next step no =
+    record {
+      index = n;
+      line_is = omega arith;
+      after = record { lambda = k; step = s; made = so_far; next = next; stops = step ∙ ap (λ (b : Bool). if b then Some j else None) no };
+    }
+
+-- ---- callees
+
+lambda-at : (made : List PlainOptimised) (n : ℕ) (d : PlainOptimised) → n < length made → lambda_of (lambdas_of made) n ≡ (get_or made n d).lambda
+lambda-at made n d inside =
+    ap (λ o. unwrap_or o no_lambda)
+    (slice_get-map (λ (o : PlainOptimised). o.lambda) made n ∙ ap (option_map (λ (o : PlainOptimised). o.lambda)) (slice_get-get_or made n d inside))
+
+pub callee-more : (made got : List PlainOptimised) (numbers : List ℕ) (i : ℕ) (x : PlainOptimised) → i < length numbers → get_or numbers i 0 < length made →
+    x ≡ get_or made (get_or numbers i 0) x → lambdas_of got ≡ lambdas_at (lambdas_of made) (take i numbers) →
+    lambdas_of (got ++ x ∷ []) ≡ lambdas_at (lambdas_of made) (take (i + 1) numbers)
+callee-more made got numbers i x inside there is so_far =
+    let n = get_or numbers i 0 in
+    let here : x.lambda ≡ lambda_of (lambdas_of made) n = ap (λ (o : PlainOptimised). o.lambda) is ∙ sym (lambda-at made n x there) in
+    map-append (λ (o : PlainOptimised). o.lambda) got (x ∷ [])
+    ∙ (ap (λ ks. ks ++ x.lambda ∷ []) so_far
+    ∙ (ap (λ k. lambdas_at (lambdas_of made) (take i numbers) ++ k ∷ []) here
+    ∙ (sym (map-append (lambda_of (lambdas_of made)) (take i numbers) (n ∷ [])) ∙ ap (λ ns. lambdas_at (lambdas_of made) ns) (sym (take_more numbers i 0 inside)))))
+
+-- ---- counts
+
+-- a count of 32 bits is that of a lambda where it is the saturated one
+pub is-count : (count values : ℕ) → count < 2 ^ 32 → min values (2 ^ 64 - 1) ≡ count → count ≡ values
+is-count count values small e = omega (arith, small, e)
+
+pub is-another : (count values : ℕ) → (min values (2 ^ 64 - 1) ≡ count → ⊥) → count < 2 ^ 32 → count ≢ values
+is-another count values other small e = other (omega (arith, small, e))
