@@ -23,26 +23,28 @@ one-more callees (t ∷ steps) l k j zero s made next step =
     let at : rules.step t.rule callees t.node l ≡ Some j =
     subst (λ (x : Step). rules.step x.rule callees x.node l ≡ Some j) (sym this) (subst (λ x. rules.step s.rule callees s.node x ≡ Some j) (sym here) step) in
     ap (option_and_then (replayed rules callees [])) at
-one-more callees (t ∷ steps) l k j (suc n) s made next step = goes-on (rules.step t.rule callees t.node l) made
+one-more callees (t ∷ steps) l k j (suc n) s made next step =
+    goes-on (rules.step t.rule callees t.node l) (λ x e. one-more callees steps x k j n s e next step) made
   where
-    goes-on : (o : Option PlainLambda) → option_and_then (replayed rules callees (take n steps)) o ≡ Some k → option_and_then (replayed rules callees (take (suc n) steps)) o ≡ Some j
-    goes-on None e = absurd cc
-    goes-on (Some x) e = one-more callees steps x k j n s e next step
+    goes-on : (o : Option PlainLambda) → ((x : PlainLambda) → replayed rules callees (take n steps) x ≡ Some k → replayed rules callees (take (suc n) steps) x ≡ Some j) →
+        option_and_then (replayed rules callees (take n steps)) o ≡ Some k → option_and_then (replayed rules callees (take (suc n) steps)) o ≡ Some j
+    goes-on None rest e = absurd cc
+    goes-on (Some x) rest e = rest x e
 
 pub step-made : (callees : List PlainLambda) (steps : List Step) (l k j : PlainLambda) (n : ℕ) (s : Step) (made : Bool) → replayed rules callees (take n steps) l ≡ Some k →
     slice_get steps n ≡ Some s → rules.step s.rule callees s.node k ≡ (if made then Some j else None) → made ≡ true → replayed rules callees (take (n + 1) steps) l ≡ Some j
-step-made callees steps l k j n s made so_far next step yes =
-    let at : rules.step s.rule callees s.node k ≡ Some j = step ∙ ap (λ (b : Bool). if b then Some j else None) yes in
+step-made callees steps l k j n s made so_far next step applied =
+    let at : rules.step s.rule callees s.node k ≡ Some j = step ∙ ap (λ (b : Bool). if b then Some j else None) applied in
     let next_number : suc n ≡ n + 1 = omega arith in
     subst (λ m. replayed rules callees (take m steps) l ≡ Some j) next_number (one-more callees steps l k j n s so_far next at)
 
 pub step-stops : (callees : List PlainLambda) (steps : List Step) (l k j : PlainLambda) (n line : ℕ) (s : Step) (made : Bool) → replayed rules callees (take n steps) l ≡ Some k →
     slice_get steps n ≡ Some s → rules.step s.rule callees s.node k ≡ (if made then Some j else None) → made ≡ false → IsStepFault callees steps l line (line + 1 + n)
-step-stops callees steps l k j n line s made so_far next step no =
+step-stops callees steps l k j n line s made so_far next step stopped =
     record {
       index = n;
       line_is = omega arith;
-      after = record { lambda = k; step = s; made = so_far; next = next; stops = step ∙ ap (λ (b : Bool). if b then Some j else None) no };
+      after = record { lambda = k; step = s; made = so_far; next = next; stops = step ∙ ap (λ (b : Bool). if b then Some j else None) stopped };
     }
 
 -- ---- callees

@@ -1,5 +1,5 @@
 -- A function has one fault at most, and none where what the log says of it is right.
-use Rattle.std.proofs.Common.{◌≡◌, ◌≢◌, ◌<◌, ◌≤◌, ◌⊎◌, ◌+◌, ℕ, zero, suc, List, [], ◌∷◌, length, take, None, Some, slice_get, refl, sym, ap, subst, ◌∙◌, arith}
+use Rattle.std.proofs.Common.{◌≡◌, ◌≢◌, ◌<◌, ◌≤◌, ◌⊎◌, ◌+◌, ℕ, zero, suc, List, [], ◌∷◌, length, take, None, Some, slice_get, refl, sym, ap, subst, ◌∙◌, inl, inr, arith}
 use Rattle.std.specs.Prelude.{option_and_then, Option}
 use Rattle.std.proofs.lemmas.Bool.{cases_eq, cases_lt}
 use Rattle.std.proofs.lemmas.Option.{slice_get_within}
@@ -35,11 +35,13 @@ stops callees (t ∷ steps) l zero (suc m) k s made next stop low =
     let at : rules.step t.rule callees t.node l ≡ None =
     subst (λ (x : Step). rules.step x.rule callees x.node l ≡ None) (sym this) (subst (λ x. rules.step s.rule callees s.node x ≡ None) (sym here) stop) in
     ap (option_and_then (replayed rules callees (take m steps))) at
-stops callees (t ∷ steps) l (suc n) (suc m) k s made next stop low = goes-on (rules.step t.rule callees t.node l) made
+stops callees (t ∷ steps) l (suc n) (suc m) k s made next stop low =
+    goes-on (rules.step t.rule callees t.node l) (λ x e. stops callees steps x n m k s e next stop (omega (arith, low))) made
   where
-    goes-on : (o : Option PlainLambda) → option_and_then (replayed rules callees (take n steps)) o ≡ Some k → option_and_then (replayed rules callees (take m steps)) o ≡ None
-    goes-on None e = refl
-    goes-on (Some x) e = stops callees steps x n m k s e next stop (omega (arith, low))
+    goes-on : (o : Option PlainLambda) → ((x : PlainLambda) → replayed rules callees (take n steps) x ≡ Some k → replayed rules callees (take m steps) x ≡ None) →
+        option_and_then (replayed rules callees (take n steps)) o ≡ Some k → option_and_then (replayed rules callees (take m steps)) o ≡ None
+    goes-on None rest e = refl
+    goes-on (Some x) rest e = rest x e
 
 stops-before : (callees : List PlainLambda) (steps : List Step) (l : PlainLambda) (n m : ℕ) → StopsAfter callees steps l n → n < m → replayed rules callees (take m steps) l ≡ None
 stops-before callees steps l n m h low = stops callees steps l n m h.lambda h.step h.made h.next h.stops low
