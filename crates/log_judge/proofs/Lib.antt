@@ -1,4 +1,4 @@
 mod Parting
 mod OneFault
-mod Names
+mod Named
 mod Files

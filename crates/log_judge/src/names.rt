@@ -21,10 +21,12 @@ pub fn first_other_name(typed: &Typed, log: &[LogPart]) -> Option<u32>
         if index >= typed.functions.len() {
             return Some(line);
         }
-        if log[index].name.as_slice() != typed.functions[index].name.as_slice() {
+        let part = &log[index];
+        let function = &typed.functions[index];
+        if part.name.as_slice() != function.name.as_slice() {
             return Some(line);
         }
-        line += 1 + log[index].steps.len() as u32;
+        line += 1 + part.steps.len() as u32;
     }
     if log.len() < typed.functions.len() {
         return Some(line);

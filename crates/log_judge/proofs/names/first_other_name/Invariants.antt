@@ -1,4 +1,4 @@
-use Rattle.log_judge.proofs.Names.{HasCome}
+use Rattle.log_judge.proofs.Named.{HasCome}
 use Rattle.log_judge.proofs.names.first_other_name.Given as goal
 
 abbrev pub invariant-loop-index : goal.invariant-loop-index
