@@ -47,6 +47,7 @@ fn judge_typed(
     ensures fault { IfErr result (λ e. IsLogFault e typed.now log.now image.now) }
 {
     programs_can_be_emitted();
+    log_check::laws::logs_have_few_lines();
     let read = read_log(alloc, log)?;
     if let Some(line) = first_other_name(typed, &read.functions) {
         return Err(JudgeFault::BadFunction { line });
