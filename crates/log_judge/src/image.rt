@@ -33,12 +33,7 @@ fn file_with(alloc: Global, omega: &Omega, made: &[Arc<Optimised>]) -> Result<Ve
 
 /// Judges an image of a program by a log, which has the program's functions, and lines of 32 bits.
 /// Lists that keep those of the program can be put in an image.
-pub fn judge_image(
-    alloc: Global,
-    omega: &Omega,
-    log: &Log,
-    image: &[u8],
-) -> Result<(), JudgeFault>
+pub fn judge_image(alloc: Global, omega: &Omega, log: &Log, image: &[u8]) -> Result<(), JudgeFault>
     requires few { length omega.now.lambdas < 2 ^ 32 }
     requires complete { IsComplete omega.now.lambdas }
     requires can { (ks : List PlainLambda) → IsKeptBy omega.now.lambdas ks → CanEmit omega.now ks }

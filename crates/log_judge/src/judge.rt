@@ -34,12 +34,7 @@ fn graph_of(alloc: Global, typed: &Typed) -> Result<Omega, NoMemory>
 }
 
 // Judges an image of a program that passes no limit.
-fn judge_typed(
-    alloc: Global,
-    typed: &Typed,
-    log: &[u8],
-    image: &[u8],
-) -> Result<(), JudgeFault>
+fn judge_typed(alloc: Global, typed: &Typed, log: &[u8], image: &[u8]) -> Result<(), JudgeFault>
     requires typed { IsWellTyped typed.now }
     requires limits { above_limits typed.now ≡ None }
     requires values { limit_passed typed.now.functions ≡ None }
@@ -62,12 +57,7 @@ fn judge_typed(
 /// is too long, a line breaks its form, a name is not the program's, what the log says of a
 /// function is wrong, by rank and within a rank by number, or the image is not the one that the
 /// log's steps lead to. `NoMemory` may come in place of any answer.
-pub fn judge(
-    alloc: Global,
-    source: &[u8],
-    log: &[u8],
-    image: &[u8],
-) -> Result<(), JudgeFault>
+pub fn judge(alloc: Global, source: &[u8], log: &[u8], image: &[u8]) -> Result<(), JudgeFault>
     ensures certified { IfOk result (λ _. (c : Certifies source.now log.now image.now)
         × KeepsMeaning c.program c.certified.lambdas image.now) }
     ensures fault { IfErr result (λ e. IsJudgeFault e source.now log.now image.now) }

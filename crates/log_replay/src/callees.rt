@@ -30,11 +30,7 @@ pub fn callees_of(
 }
 
 /// The lambda, with no steps: those that a log has stand in the log.
-pub fn without_steps(
-    alloc: Global,
-    lambda: Lambda,
-    before: u32,
-) -> Result<Arc<Optimised>, NoMemory>
+pub fn without_steps(alloc: Global, lambda: Lambda, before: u32) -> Result<Arc<Optimised>, NoMemory>
     requires { IsWellFormed lambda }
     ensures { IfOk result (λ made. (arc_value made).lambda ≡ lambda) }
 {
