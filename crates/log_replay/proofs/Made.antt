@@ -1,8 +1,11 @@
 -- One step more, and one callee more.
-use Rattle.std.proofs.Common.{◌≡◌, ◌≢◌, ◌<◌, ◌≤◌, ◌+◌, ◌-◌, ◌^◌, ℕ, zero, suc, Bool, true, false, List, [], ◌∷◌, ◌++◌, length, map, take, None, Some, slice_get, get_or, refl, sym, ap, subst, ◌∙◌, arith}
+use Rattle.std.proofs.Common.{◌≡◌, ◌≢◌, ◌<◌, ◌≤◌, ◌+◌, ◌-◌, ◌^◌, ℕ, zero, suc, Bool, true, false, List, [], ◌∷◌, ◌++◌, length, map, take, None, Some, slice_get, get_or, set, Vec, Global, refl, sym, ap, subst, ◌∙◌, arith}
 use Rattle.std.specs.Prelude.{min, option_and_then, Option, if◌then◌else◌, unwrap_or, option_map}
-use Rattle.std.proofs.lemmas.List.{map-append, take_more}
+use Rattle.std.proofs.lemmas.List.{get_or-map, map-append, map-set, take_more}
 use Rattle.std.proofs.lemmas.Option.{slice_get-get_or, slice_get-map}
+use Rattle.std.specs.Arc.{arc_value}
+use Rattle.std.specs.declared.sync.Arc.{Arc}
+use Rattle.call_order.specs.Units.{call_lists}
 use Rattle.g_graph.specs.declared.steps.Step.{Step}
 use Rattle.g_graph.specs.Plain.{PlainLambda, PlainOptimised}
 use Rattle.g_pass_order.specs.Calls.{no_lambda}
@@ -64,6 +67,18 @@ callee-more made got numbers i x inside there is so_far =
     ∙ (ap (λ ks. ks ++ x.lambda ∷ []) so_far
     ∙ (ap (λ k. lambdas_at (lambdas_of made) (take i numbers) ++ k ∷ []) here
     ∙ (sym (map-append (lambda_of (lambdas_of made)) (take i numbers) (n ∷ [])) ∙ ap (λ ns. lambdas_at (lambdas_of made) ns) (sym (take_more numbers i 0 inside)))))
+
+-- ---- lists of vectors, and lists that are written
+
+-- the deps of one function, in the plain lists
+pub row : (lists : List (Vec ℕ Global)) (j : ℕ) (v : Vec ℕ Global) → j < length lists → v ≡ get_or lists j v → get_or (call_lists lists) j [] ≡ v.items
+row lists j v inside is = get_or-map (λ (x : Vec ℕ Global). x.items) lists j v [] inside ∙ ap (λ (x : Vec ℕ Global). x.items) (sym is)
+
+-- the lambdas where one is written
+pub written : (made : List (Arc PlainOptimised Global)) (i : ℕ) (x : Arc PlainOptimised Global) →
+    lambdas_of (map arc_value (set made i x)) ≡ set (lambdas_of (map arc_value made)) i (arc_value x).lambda
+written made i x =
+    ap lambdas_of (map-set arc_value made i x) ∙ map-set (λ (o : PlainOptimised). o.lambda) (map arc_value made) i (arc_value x)
 
 -- ---- counts
 
