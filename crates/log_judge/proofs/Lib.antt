@@ -1,4 +1,0 @@
-mod Parting
-mod OneFault
-mod Named
-mod Files

@@ -1,4 +1,0 @@
-pub mod Parting
-pub mod Faults
-pub mod Judgement
-pub mod Laws

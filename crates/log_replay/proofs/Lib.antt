@@ -1,4 +1,0 @@
-mod Stops
-mod FirstFaults
-mod Taken
-mod Made
