@@ -1,6 +1,6 @@
--- A text is the log of one list of rows at most.
+-- A text is the log of one list of rows at most, or breaks at one line at most.
 use Rattle.std.specs.Prelude.{codes, decimal, ◌==◌, if◌then◌else◌}
-use Rattle.std.proofs.Common.{◌≡◌, ◌≢◌, ◌≤◌, ℕ, List, [], ◌∷◌, ◌++◌, length, refl, sym, ap, ◌∙◌, append_assoc, arith}
+use Rattle.std.proofs.Common.{◌≡◌, ◌≢◌, ◌≤◌, ℕ, suc, List, [], ◌∷◌, ◌++◌, length, refl, sym, ap, ◌∙◌, append_assoc, append-nil, arith}
 use Rattle.std.specs.List.{AllByRecursion, flat_map}
 use Rattle.std.proofs.lemmas.Fmt.{decimal_injective}
 use Rattle.r_names.specs.Names.{rule_name}
@@ -9,7 +9,7 @@ use Rattle.g_graph.specs.declared.steps.Rule.TheVariants.{Fold, Cne, Dne, Inv, P
 use Rattle.g_graph.specs.declared.steps.Step.{Step}
 use Rattle.cc_watch.specs.Rows.{PlainRow}
 use Rattle.cc_watch.specs.Texts.{head_text, step_text, log_text}
-use Rattle.log_check.specs.Log.{IsHead, IsStep, IsRow, OneReading}
+use Rattle.log_check.specs.Log.{line_count, IsHead, IsStep, IsRow, LogsDoNotBreak, OneBreak, OneReading}
 use Rattle.log_check.specs.Lines.{head_line, step_line}
 use Rattle.log_check.specs.Pieces.{HasNo, pair_text, named_text}
 use Rattle.log_check.proofs.Splits.{split_once, decimal_has_no, name_has_no, rule_has_no, function_has_no}
@@ -98,42 +98,103 @@ ends-some : (xs more : List ℕ) → (xs ++ (10 ∷ [])) ++ more ≢ []
 ends-some [] more e = absurd cc
 ends-some (x ∷ xs) more e = absurd cc
 
-step-goes-on : (s : Step) (more : List ℕ) (rows : List PlainRow) → IsStep s → AllByRecursion IsRow rows → step_text s ++ more ≡ log_text rows → ⊥
-step-goes-on s more [] h all e = ends-some (step_line s) more e
-step-goes-on s more (r ∷ rows) h all e =
-    head-or-step r s
-    (sym (lines-apart (step_line s) (head_line r) more (flat_map step_text r.steps ++ log_text rows) (step_has_no s h) (head_has_no r all.0.head)
-    (e ∙ append_assoc (head_text r) (flat_map step_text r.steps) (log_text rows))).0)
+-- a text that begins with no function line and with no step line
+record Ends (rest : List ℕ) : Type 0 where
+  no_head : (r : PlainRow) (after : List ℕ) → IsHead r → rest ≢ head_text r ++ after
+  no_step : (s : Step) (after : List ℕ) → IsStep s → rest ≢ step_text s ++ after
 
-same-steps : (steps others : List Step) (rows more : List PlainRow) → AllByRecursion IsStep steps → AllByRecursion IsStep others → AllByRecursion IsRow rows → AllByRecursion IsRow more →
-    flat_map step_text steps ++ log_text rows ≡ flat_map step_text others ++ log_text more → (steps ≡ others) × (log_text rows ≡ log_text more)
-same-steps [] [] rows more h g all every e = (refl, e)
-same-steps [] (t ∷ others) rows more h g all every e =
-    absurd (step-goes-on t (flat_map step_text others ++ log_text more) rows g.0 all (sym (e ∙ append_assoc (step_text t) (flat_map step_text others) (log_text more))))
-same-steps (s ∷ steps) [] rows more h g all every e =
-    absurd (step-goes-on s (flat_map step_text steps ++ log_text rows) more h.0 every (sym (append_assoc (step_text s) (flat_map step_text steps) (log_text rows)) ∙ e))
-same-steps (s ∷ steps) (t ∷ others) rows more h g all every e =
+regroup : (a b c d : List ℕ) → ((a ++ b) ++ c) ++ d ≡ a ++ (b ++ (c ++ d))
+regroup a b c d = append_assoc (a ++ b) c d ∙ append_assoc a b (c ++ d)
+
+-- rows and what follows them, by the first line
+by-head : (r : PlainRow) (rows : List PlainRow) (rest : List ℕ) → log_text (r ∷ rows) ++ rest ≡ head_text r ++ (flat_map step_text r.steps ++ (log_text rows ++ rest))
+by-head r rows rest = regroup (head_text r) (flat_map step_text r.steps) (log_text rows) rest
+
+by-step : (s : Step) (steps : List Step) (after : List ℕ) → flat_map step_text (s ∷ steps) ++ after ≡ step_text s ++ (flat_map step_text steps ++ after)
+by-step s steps after = append_assoc (step_text s) (flat_map step_text steps) after
+
+step-goes-on : (s : Step) (more : List ℕ) (rows : List PlainRow) (rest : List ℕ) → IsStep s → AllByRecursion IsRow rows → Ends rest → log_text rows ++ rest ≡ step_text s ++ more → ⊥
+step-goes-on s more [] rest h all ends e = ends.no_step s more h e
+step-goes-on s more (r ∷ rows) rest h all ends e =
+    head-or-step r s
+    (lines-apart (head_line r) (step_line s) (flat_map step_text r.steps ++ (log_text rows ++ rest)) more (head_has_no r all.0.head) (step_has_no s h) (sym (by-head r rows rest) ∙ e)).0
+
+same-steps : (steps others : List Step) (rows more : List PlainRow) (rest left : List ℕ) → AllByRecursion IsStep steps → AllByRecursion IsStep others → AllByRecursion IsRow rows →
+    AllByRecursion IsRow more → Ends rest → Ends left → flat_map step_text steps ++ (log_text rows ++ rest) ≡ flat_map step_text others ++ (log_text more ++ left) →
+    (steps ≡ others) × (log_text rows ++ rest ≡ log_text more ++ left)
+same-steps [] [] rows more rest left h g all every ends stops e = (refl, e)
+same-steps [] (t ∷ others) rows more rest left h g all every ends stops e =
+    absurd (step-goes-on t (flat_map step_text others ++ (log_text more ++ left)) rows rest g.0 all ends (e ∙ by-step t others (log_text more ++ left)))
+same-steps (s ∷ steps) [] rows more rest left h g all every ends stops e =
+    absurd (step-goes-on s (flat_map step_text steps ++ (log_text rows ++ rest)) more left h.0 every stops (sym e ∙ by-step s steps (log_text rows ++ rest)))
+same-steps (s ∷ steps) (t ∷ others) rows more rest left h g all every ends stops e =
     let first =
-    lines-apart (step_line s) (step_line t) (flat_map step_text steps ++ log_text rows) (flat_map step_text others ++ log_text more) (step_has_no s h.0) (step_has_no t g.0)
-    (sym (append_assoc (step_text s) (flat_map step_text steps) (log_text rows)) ∙ (e ∙ append_assoc (step_text t) (flat_map step_text others) (log_text more))) in
-    let rest = same-steps steps others rows more h.1 g.1 all every first.1 in
-    (ap (λ x. x ∷ steps) (same-step s t h.0 g.0 first.0) ∙ ap (λ xs. t ∷ xs) rest.0, rest.1)
+    lines-apart (step_line s) (step_line t) (flat_map step_text steps ++ (log_text rows ++ rest)) (flat_map step_text others ++ (log_text more ++ left)) (step_has_no s h.0) (step_has_no t g.0)
+    (sym (by-step s steps (log_text rows ++ rest)) ∙ (e ∙ by-step t others (log_text more ++ left))) in
+    let others_are = same-steps steps others rows more rest left h.1 g.1 all every ends stops first.1 in
+    (ap (λ x. x ∷ steps) (same-step s t h.0 g.0 first.0) ∙ ap (λ xs. t ∷ xs) others_are.0, others_are.1)
 
 same-row : (r q : PlainRow) → SameHead r q → r.steps ≡ q.steps → r ≡ q
 same-row r q head steps = λ i. record { name = head.name i; before = head.before i; after = head.after i; steps = steps i }
 
-same-rows : (rows others : List PlainRow) → AllByRecursion IsRow rows → AllByRecursion IsRow others → log_text rows ≡ log_text others → rows ≡ others
-same-rows [] [] h g e = refl
-same-rows [] (q ∷ others) h g e =
-    absurd (ends-some (head_line q) (flat_map step_text q.steps ++ log_text others) (sym (e ∙ append_assoc (head_text q) (flat_map step_text q.steps) (log_text others))))
-same-rows (r ∷ rows) [] h g e =
-    absurd (ends-some (head_line r) (flat_map step_text r.steps ++ log_text rows) (sym (append_assoc (head_text r) (flat_map step_text r.steps) (log_text rows)) ∙ e))
-same-rows (r ∷ rows) (q ∷ others) h g e =
+same-rows : (rows others : List PlainRow) (rest left : List ℕ) → AllByRecursion IsRow rows → AllByRecursion IsRow others → Ends rest → Ends left →
+    log_text rows ++ rest ≡ log_text others ++ left → (rows ≡ others) × (rest ≡ left)
+same-rows [] [] rest left h g ends stops e = (refl, e)
+same-rows [] (q ∷ others) rest left h g ends stops e =
+    absurd (ends.no_head q (flat_map step_text q.steps ++ (log_text others ++ left)) g.0.head (e ∙ by-head q others left))
+same-rows (r ∷ rows) [] rest left h g ends stops e =
+    absurd (stops.no_head r (flat_map step_text r.steps ++ (log_text rows ++ rest)) h.0.head (sym e ∙ by-head r rows rest))
+same-rows (r ∷ rows) (q ∷ others) rest left h g ends stops e =
     let first =
-    lines-apart (head_line r) (head_line q) (flat_map step_text r.steps ++ log_text rows) (flat_map step_text q.steps ++ log_text others) (head_has_no r h.0.head) (head_has_no q g.0.head)
-    (sym (append_assoc (head_text r) (flat_map step_text r.steps) (log_text rows)) ∙ (e ∙ append_assoc (head_text q) (flat_map step_text q.steps) (log_text others))) in
-    let steps = same-steps r.steps q.steps rows others h.0.steps g.0.steps h.1 g.1 first.1 in
-    ap (λ x. x ∷ rows) (same-row r q (same-head r q h.0.head g.0.head first.0) steps.0) ∙ ap (λ xs. q ∷ xs) (same-rows rows others h.1 g.1 steps.1)
+    lines-apart (head_line r) (head_line q) (flat_map step_text r.steps ++ (log_text rows ++ rest)) (flat_map step_text q.steps ++ (log_text others ++ left)) (head_has_no r h.0.head)
+    (head_has_no q g.0.head) (sym (by-head r rows rest) ∙ (e ∙ by-head q others left)) in
+    let steps = same-steps r.steps q.steps rows others rest left h.0.steps g.0.steps h.1 g.1 ends stops first.1 in
+    let more = same-rows rows others rest left h.1 g.1 ends stops steps.1 in
+    (ap (λ x. x ∷ rows) (same-row r q (same-head r q h.0.head g.0.head first.0) steps.0) ∙ ap (λ xs. q ∷ xs) more.0, more.1)
+
+-- ---- one reading
+
+nothing-more : Ends []
+nothing-more =
+    record {
+      no_head = λ r after h e. ends-some (head_line r) after (sym e);
+      no_step = λ s after h e. ends-some (step_line s) after (sym e);
+    }
 
 pub one_reading : OneReading
-one_reading rows others bytes one other = same-rows rows others one.rows_are other.rows_are (sym one.text ∙ other.text)
+one_reading rows others bytes one other =
+    (same-rows rows others [] [] one.rows_are other.rows_are nothing-more nothing-more
+    (append-nil (log_text rows) ∙ (sym one.text ∙ (other.text ∙ sym (append-nil (log_text others)))))).0
+
+-- ---- one line at which a log breaks
+
+-- what follows some rows, where no line of a log may
+after-rows : (rows : List PlainRow) (rest : List ℕ) → ((r : PlainRow) (after : List ℕ) → IsHead r → rest ≢ head_text r ++ after) →
+    (rows ≢ [] → (s : Step) (after : List ℕ) → IsStep s → rest ≢ step_text s ++ after) → rows ≢ [] → Ends rest
+after-rows rows rest no_head no_step some = record { no_head = no_head; no_step = no_step some }
+
+same-break : (rows others : List PlainRow) (rest left : List ℕ) → AllByRecursion IsRow rows → AllByRecursion IsRow others →
+    ((r : PlainRow) (after : List ℕ) → IsHead r → rest ≢ head_text r ++ after) → (rows ≢ [] → Ends rest) →
+    ((r : PlainRow) (after : List ℕ) → IsHead r → left ≢ head_text r ++ after) → (others ≢ [] → Ends left) →
+    log_text rows ++ rest ≡ log_text others ++ left → (rows ≡ others) × (rest ≡ left)
+same-break [] [] rest left h g no_head ends not_head stops e = (refl, e)
+same-break [] (q ∷ others) rest left h g no_head ends not_head stops e =
+    absurd (no_head q (flat_map step_text q.steps ++ (log_text others ++ left)) g.0.head (e ∙ by-head q others left))
+same-break (r ∷ rows) [] rest left h g no_head ends not_head stops e =
+    absurd (not_head r (flat_map step_text r.steps ++ (log_text rows ++ rest)) h.0.head (sym e ∙ by-head r rows rest))
+same-break (r ∷ rows) (q ∷ others) rest left h g no_head ends not_head stops e =
+    same-rows (r ∷ rows) (q ∷ others) rest left h g (ends (λ none. absurd cc)) (stops (λ none. absurd cc)) e
+
+pub one_break : OneBreak
+one_break bytes line other a b =
+    let same =
+    same-break a.rows b.rows a.rest b.rest a.rows_are b.rows_are a.no_head (after-rows a.rows a.rest a.no_head a.no_step) b.no_head (after-rows b.rows b.rest b.no_head b.no_step)
+    (sym a.text ∙ b.text) in
+    a.number ∙ (ap (λ rows. suc (line_count rows)) same.0 ∙ sym b.number)
+
+pub logs_do_not_break : LogsDoNotBreak
+logs_do_not_break rows bytes line one b =
+    let same =
+    same-break rows b.rows [] b.rest one.rows_are b.rows_are nothing-more.no_head (λ some. nothing-more) b.no_head (after-rows b.rows b.rest b.no_head b.no_step)
+    (append-nil (log_text rows) ∙ (sym one.text ∙ b.text)) in
+    b.more (sym same.1)

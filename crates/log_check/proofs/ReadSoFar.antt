@@ -5,7 +5,7 @@ use Rattle.std.proofs.lemmas.Grind.{flat_map-append}
 use Rattle.g_graph.specs.declared.steps.Step.{Step}
 use Rattle.cc_watch.specs.Rows.{PlainRow}
 use Rattle.cc_watch.specs.Texts.{head_text, step_text, row_text, log_text}
-use Rattle.log_check.specs.Log.{IsHead, IsStep, IsRow, IsLogOf, BreaksAt, line_count, PlainPart, row_of_part, rows_of, part_of, parts_from, parts_of}
+use Rattle.log_check.specs.Log.{IsHead, IsStep, IsRow, IsLogOf, BreaksAt, line_count, PlainPart, row_of_part, rows_of, part_of, parts_from, parts_of, LogsHaveFewLines}
 use Rattle.log_check.specs.Lines.{head_line, step_line, head_row}
 
 all-append : {X : Type 0} (P : X → Type 0) (xs : List X) (x : X) → AllByRecursion P xs → P x → AllByRecursion P (xs ++ x ∷ [])
@@ -126,6 +126,9 @@ row-long r =
 log-long : (rows : List PlainRow) → line_count rows ≤ length (log_text rows)
 log-long [] = omega arith
 log-long (r ∷ rows) = omega (arith, row-long r, log-long rows, length-append (row_text r) (log_text rows))
+
+pub logs_have_few_lines : LogsHaveFewLines
+logs_have_few_lines rows bytes log = omega (arith, log-long rows, ap length log.text)
 
 -- after one more function the number of the next line is one of 32 bits
 pub lines_fit : (bytes : List ℕ) (log : List PlainPart) (line : ℕ) (rest left : List ℕ) (p : PlainPart) → HasRead bytes log line rest →

@@ -93,3 +93,15 @@ pub record BreaksAt (line : ℕ) (bytes : List ℕ) : Type 0 where
 -- Bytes are the log of one list of rows at most.
 abbrev pub OneReading : Type 0
 OneReading = (rows others : List PlainRow) (bytes : List ℕ) → IsLogOf rows bytes → IsLogOf others bytes → rows ≡ others
+
+-- They break at one line at most,
+abbrev pub OneBreak : Type 0
+OneBreak = (bytes : List ℕ) (line other : ℕ) → BreaksAt line bytes → BreaksAt other bytes → line ≡ other
+
+-- and at none where they are a log.
+abbrev pub LogsDoNotBreak : Type 0
+LogsDoNotBreak = (rows : List PlainRow) (bytes : List ℕ) (line : ℕ) → IsLogOf rows bytes → BreaksAt line bytes → ⊥
+
+-- A log has no more lines than bytes.
+abbrev pub LogsHaveFewLines : Type 0
+LogsHaveFewLines = (rows : List PlainRow) (bytes : List ℕ) → IsLogOf rows bytes → line_count rows ≤ length bytes

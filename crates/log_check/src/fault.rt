@@ -1,13 +1,13 @@
 //! Why bytes are not read as a log.
 
 ghost use Rattle.std.specs.Prelude.{◌≡◌};
-ghost use Rattle.log_check.specs.declared.fault.JudgeFault.TheVariants.{NoMemory};
+ghost use Rattle.log_check.specs.declared.fault.ReadFault.TheVariants.{NoMemory};
 
 use thiserror::Error;
 
 /// Why bytes are not read as a log. Lines are numbered from 1.
 #[derive(Clone, Copy, Debug, Error)]
-pub enum JudgeFault {
+pub enum ReadFault {
     /// There are more than 2^31 of them.
     #[error("the log is too long")]
     LongLog,
@@ -19,10 +19,10 @@ pub enum JudgeFault {
     NoMemory,
 }
 
-impl From<no_memory::NoMemory> for JudgeFault {
+impl From<no_memory::NoMemory> for ReadFault {
     ghost from_gives = { λ _ e. e ≡ NoMemory };
 
-    fn from(_e: no_memory::NoMemory) -> JudgeFault {
-        JudgeFault::NoMemory
+    fn from(_e: no_memory::NoMemory) -> ReadFault {
+        ReadFault::NoMemory
     }
 }

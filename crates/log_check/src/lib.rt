@@ -14,6 +14,6 @@ mod pieces;
 mod reader;
 mod row;
 
-pub use fault::JudgeFault;
+pub use fault::ReadFault;
 pub use log::{Log, LogPart};
 pub use reader::read_log;

@@ -7,7 +7,7 @@ ghost use Rattle.cc_watch.specs.Texts.{row_text, step_text};
 ghost use Rattle.log_check.specs.Log.{most_log_bytes, parts_of, row_of_part, rows_of, IsLogOf, IsRow, IsStep};
 ghost use Rattle.log_check.specs.Reading.{IsReadFault, PartFails};
 
-use crate::fault::JudgeFault;
+use crate::fault::ReadFault;
 use crate::line::{first_head, first_step};
 use crate::log::{Log, LogPart};
 use crate::row::Head;
@@ -60,7 +60,7 @@ fn new_part(alloc: Global, line: u32, head: Head<'_>, steps: Vec<Step>) -> Resul
 // What a text says of the function that it begins with, whose line has this number, and what
 // follows.
 #[tactic(auto, using(crate::proofs::ReadSoFar::row_is, crate::proofs::ReadSoFar::begins_with_row))]
-fn read_part(alloc: Global, line: u32, text: &[u8]) -> Result<(LogPart, &[u8]), JudgeFault>
+fn read_part(alloc: Global, line: u32, text: &[u8]) -> Result<(LogPart, &[u8]), ReadFault>
     ensures some { IfOk result (λ read. text.now ≡ row_text (row_of_part read.0) ++ read.1.now) }
     ensures fine { IfOk result (λ read. IsRow (row_of_part read.0)) }
     ensures line { IfOk result (λ read. read.0.line ≡ line) }
@@ -69,7 +69,7 @@ fn read_part(alloc: Global, line: u32, text: &[u8]) -> Result<(LogPart, &[u8]), 
     ensures err { IfErr result (λ e. PartFails e line text.now) }
 {
     let Some((head, rest)) = first_head(text) else {
-        return Err(JudgeFault::BadLine { line });
+        return Err(ReadFault::BadLine { line });
     };
     let (steps, rest) = read_steps(alloc, rest)?;
     let part = new_part(alloc, line, head, steps)?;
@@ -79,14 +79,14 @@ fn read_part(alloc: Global, line: u32, text: &[u8]) -> Result<(LogPart, &[u8]), 
 /// The log that these bytes are. `LongLog` exactly where there are more than 2^31 of them, and else
 /// `BadLine` exactly where they are no log, with the first line that is none of a log's.
 #[tactic(auto, using(crate::proofs::ReadSoFar::begins_read, crate::proofs::ReadSoFar::reads_more, crate::proofs::ReadSoFar::all_read, crate::proofs::ReadSoFar::read_breaks, crate::proofs::ReadSoFar::lines_fit, crate::proofs::ReadSoFar::left_shorter))]
-pub fn read_log(alloc: Global, bytes: &[u8]) -> Result<Log, JudgeFault>
+pub fn read_log(alloc: Global, bytes: &[u8]) -> Result<Log, ReadFault>
     ensures read { IfOk result (λ log. IsLogOf (rows_of log) bytes.now) }
     ensures lines { IfOk result (λ log. log ≡ parts_of (rows_of log)) }
     ensures short { IfOk result (λ log. length bytes.now ≤ most_log_bytes) }
     ensures fault { IfErr result (λ e. IsReadFault e bytes.now) }
 {
     if bytes.len() > MOST_LOG_BYTES {
-        return Err(JudgeFault::LongLog);
+        return Err(ReadFault::LongLog);
     }
     let mut log = Log::new(alloc);
     let mut line = 1;

@@ -1,0 +1,49 @@
+//! Laws of programs and of lists that keep their graphs, for the proofs of the crates above: each is
+//! the contract of a function that does nothing.
+
+ghost use Rattle.cc_source_keeps.specs.Laws.{BuiltProgramsKeepMeaning, KeptListsCanBeEmitted, KeptListsKeepMeaning, ProgramsCanBeEmitted, ProgramsKeepMeaning, UnlimitedAreSmall};
+
+/// A program that passes no limit is small enough for an image.
+pub fn unlimited_are_small()
+    ensures { UnlimitedAreSmall }
+{}
+
+/// The lambdas of a well-typed program that passes no limit can be put in an image, and so can
+/// every list that keeps them.
+pub fn programs_can_be_emitted()
+    ensures graphs { ProgramsCanBeEmitted }
+    ensures lists { KeptListsCanBeEmitted }
+{
+    g_build_laws::laws::well_typed_are_built();
+    g_build_laws::laws::small_are_within_limits();
+    g_pass_def::laws::kept_lists_fit_images();
+}
+
+/// The image of a well-typed program, each `switch` of which has fewer than 2^32 groups, keeps the
+/// program's meaning, with the built lambdas or with others that may stand for them: on every input
+/// of bytes on which no bound makes the program undefined (ISO/IEC 9899:2011, 3.4.3), it loads and
+/// does what the program does, bounded run for bounded run both ways, or stops for want of stack
+/// after a beginning of the program's output, where the frames of some stack of calls need more
+/// than the stack has. So it does with the built lambdas, where the program is within the limits
+/// of an image.
+pub fn programs_keep_meaning()
+    ensures lists { ProgramsKeepMeaning }
+    ensures built { BuiltProgramsKeepMeaning }
+{
+    g_build_keeps::laws::construction_keeps_programs();
+    g_build_laws::laws::well_typed_are_built();
+    g_build_laws::laws::small_are_within_limits();
+    r_edit::steps::lists_compose();
+    cc_emit_keeps::laws::images_keep_meaning();
+}
+
+/// The image of a source of bytes that is accepted keeps the meaning of its program, with every
+/// list that keeps the program's graph.
+pub fn kept_lists_keep_meaning()
+    ensures { KeptListsKeepMeaning }
+{
+    programs_keep_meaning();
+    programs_can_be_emitted();
+    cc_source_laws::laws::checked_are_well_typed();
+    cc_source_laws::laws::checked_have_few_groups();
+}
