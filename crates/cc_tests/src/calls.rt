@@ -3,16 +3,12 @@ use board_work::{Gate, OpenGate};
 use cc_io::{MemFiles, MemSink, MemSource};
 use cc_top::top;
 use cc_watch::Watcher;
-use no_memory::NoMemory;
-use std::alloc::Global;
+use std::alloc::{AllocError, Global};
 use std::sync::Wait;
 use std::thread::Threads;
 
 /// The recipe of a build that names none.
 pub const DEFAULT: &str = "iln,fold,inv,cne,dne,ivt,psh,pll,url,fold,cne,inv,dne,dne";
-
-/// What a test tells: nothing, or the first of its cases that does not hold.
-pub type Tried = Result<Option<usize>, NoMemory>;
 
 /// What a call left.
 #[derive(Drop)]
@@ -42,7 +38,7 @@ pub fn called_through<G: Gate>(
     failing: [&[u64]; 4],
     gate: &G,
     watchers: &mut Vec<Box<dyn Watcher>>,
-) -> Result<Left, NoMemory> {
+) -> Result<Left, AllocError> {
     let mut arguments = Vec::new(alloc);
     for word in words {
         arguments.push(String::from_str(alloc, word)?)?;
@@ -81,7 +77,7 @@ pub fn called(
     file: (&str, &[u8]),
     input: &[u8],
     failing: [&[u64]; 4],
-) -> Result<Left, NoMemory> {
+) -> Result<Left, AllocError> {
     let mut watchers = Vec::new(alloc);
     called_through(
         rt,
@@ -104,7 +100,7 @@ pub fn called_on_image(
     image: &[u8],
     input: &[u8],
     failing: [&[u64]; 4],
-) -> Result<Left, NoMemory> {
+) -> Result<Left, AllocError> {
     called(rt, alloc, words, ("image", image), input, failing)
 }
 
@@ -116,7 +112,7 @@ pub fn called_on_source(
     words: &[&str],
     source: &[u8],
     failing: &[u64],
-) -> Result<Left, NoMemory> {
+) -> Result<Left, AllocError> {
     called(
         rt,
         alloc,
@@ -135,7 +131,7 @@ pub fn image_by(
     source: &[u8],
     recipe: &str,
     workers: &str,
-) -> Result<Vec<u8>, NoMemory> {
+) -> Result<Vec<u8>, AllocError> {
     let words = [
         "rvcc",
         "build",
@@ -150,7 +146,7 @@ pub fn image_by(
     if left.status != 0 || !left.report.bytes().is_empty() {
         return Ok(Vec::new(alloc));
     }
-    Ok(left.files.get("out").unwrap_or(b"").to_vec(alloc)?)
+    left.files.get("out").unwrap_or(b"").to_vec(alloc)
 }
 
 /// Each call on the files of a build whose image has 8,200 bytes, and one more, which is not made:

@@ -1,5 +1,5 @@
 //! What is reported to watchers, and builds with a report in which calls fail.
-use crate::calls::{FAILING_CALLS, Left, Tried, called_through, image_by, is_left};
+use crate::calls::{FAILING_CALLS, Left, called_through, image_by, is_left};
 use crate::sources::{DIAMOND, PRODUCT};
 use crate::watching::{Label, Watching};
 use board_work::OpenGate;
@@ -9,6 +9,7 @@ use g_graph::{Rule, Step};
 use no_memory::NoMemory;
 use std::alloc::Global;
 use std::sync::Wait;
+use std::test::Fail;
 use std::thread::Threads;
 
 /// A watcher of a case: the counter, or a keeper of the log of this name, which takes so many rows
@@ -194,7 +195,7 @@ fn built(
     words.extend_from_slice(options)?;
     let file = ("in", source);
     let failing = [failing[0], &[], &[], failing[1]];
-    called_through(rt, alloc, &words, file, b"", failing, &OpenGate, watchers)
+    Ok(called_through(rt, alloc, &words, file, b"", failing, &OpenGate, watchers)?)
 }
 
 /// Whether a build leaves what is told of it.
@@ -227,35 +228,24 @@ fn texts_of(alloc: Global, watchers: &[Box<dyn Watcher>]) -> Result<Vec<u8>, NoM
     Ok(texts)
 }
 
-/// Whether the builds of a case by so many workers are as told, and its watchers have their texts.
-fn is_told(
-    rt: &(impl Threads + Wait + Sync),
-    alloc: Global,
-    case: &Case,
-    workers: &str,
-) -> Result<bool, NoMemory> {
-    let mut watchers = watchers_of(alloc, case.watchers)?;
-    for build in case.builds {
-        if !is_built(rt, alloc, *build, workers, &mut watchers)? {
-            return Ok(false);
-        }
-    }
-    match case.texts {
-        Some(texts) => Ok(texts_of(alloc, &watchers)?.as_slice() == texts),
-        None => Ok(true),
-    }
-}
-
-/// Watchers are told what is built, by one worker and by 64.
-pub fn watchers_are_told_what_is_built(rt: &(impl Threads + Wait + Sync), alloc: Global) -> Tried {
+#[test]
+fn watchers_are_told_what_is_built(rt: HostRuntime) -> Result<(), Fail> {
+    let alloc = rt.alloc();
     for (k, case) in CASES.iter().enumerate() {
         for workers in ["1", "64"] {
-            if !is_told(rt, alloc, case, workers)? {
-                return Ok(Some(k));
+            let mut watchers = watchers_of(alloc, case.watchers)?;
+            for build in case.builds {
+                assert!(rt;
+                    is_built(&rt, alloc, *build, workers, &mut watchers)?,
+                    "case {k} by {workers}"
+                );
+            }
+            if let Some(texts) = case.texts {
+                assert_eq!(rt; texts_of(alloc, &watchers)?.as_slice(), texts, "case {k}");
             }
         }
     }
-    Ok(None)
+    Ok(())
 }
 
 /// The options of a build of `DIAMOND` under the recipe `iln`, and the report.
@@ -293,55 +283,34 @@ fn watched(
     )
 }
 
-/// The first failing call with these options, and with failing calls on the report, after which not
-/// this is left: the status and the report, and of the image what the call lets through.
-fn not_left(
-    rt: &(impl Threads + Wait + Sync),
-    alloc: Global,
-    options: &[&str],
-    text: &[u8],
-    is_failing: bool,
-) -> Tried {
-    let image = image_by(rt, alloc, DIAMOND, "iln", "1")?;
-    let failing: &[u64] = if is_failing { &[0] } else { &[] };
-    for (k, (call, status, line, len)) in FAILING_CALLS.iter().enumerate() {
-        let report = if *status == 0 { text } else { *line };
-        // Where nothing is reported, the call on the report is not made.
-        let fails = is_failing && !report.is_empty();
-        let status = if fails { 3 } else { *status };
-        let report = if is_failing { b"" } else { report };
-        let left = watched(rt, alloc, options, [&[*call], failing])?;
-        if !is_left(&left, status, report, &image, *len) {
-            return Ok(Some(k));
+#[test]
+fn failing_calls_have_their_status_with_a_report(rt: HostRuntime) -> Result<(), Fail> {
+    let alloc = rt.alloc();
+    let image = image_by(&rt, alloc, DIAMOND, "iln", "1")?;
+    for (options, text) in REPORTS {
+        for (call, status, line, len) in FAILING_CALLS {
+            let report = if status == 0 { text } else { line };
+            let left = watched(&rt, alloc, options, [&[call], &[]])?;
+            assert!(rt; is_left(&left, status, report, &image, len), "call {call}");
         }
     }
-    Ok(None)
+    Ok(())
 }
 
-/// Failing calls have their status with each report.
-pub fn failing_calls_have_their_status_with_a_report(
-    rt: &(impl Threads + Wait + Sync),
-    alloc: Global,
-) -> Tried {
-    for (options, text) in REPORTS.iter() {
-        if let Some(k) = not_left(rt, alloc, options, text, false)? {
-            return Ok(Some(k));
+#[test]
+fn a_failing_report_is_a_write_fault(rt: HostRuntime) -> Result<(), Fail> {
+    let alloc = rt.alloc();
+    let image = image_by(&rt, alloc, DIAMOND, "iln", "1")?;
+    for (options, text) in REPORTS {
+        for (call, status, line, len) in FAILING_CALLS {
+            // Where nothing is reported, the call on the report is not made.
+            let report = if status == 0 { text } else { line };
+            let status = if report.is_empty() { 0 } else { 3 };
+            let left = watched(&rt, alloc, options, [&[call], &[0]])?;
+            assert!(rt; is_left(&left, status, b"", &image, len), "call {call}");
         }
     }
-    Ok(None)
-}
-
-/// A report that fails is a write fault.
-pub fn a_failing_report_is_a_write_fault(
-    rt: &(impl Threads + Wait + Sync),
-    alloc: Global,
-) -> Tried {
-    for (options, text) in REPORTS.iter() {
-        if let Some(k) = not_left(rt, alloc, options, text, true)? {
-            return Ok(Some(k));
-        }
-    }
-    Ok(None)
+    Ok(())
 }
 
 /// A keeper of a row with so many steps, each of a line of eight bytes.
@@ -366,29 +335,17 @@ fn long_log(alloc: Global, steps: usize) -> Result<LogKeeper, NoMemory> {
 /// The call on the report that fails, and how many bytes are written.
 const CUTS: [(&[u64], usize); 3] = [(&[0], 0), (&[1], 4_096), (&[4], 16_384)];
 
-/// Whether a long report of which a call fails is written so far, with its status.
-fn is_cut(
-    rt: &(impl Threads + Wait + Sync),
-    alloc: Global,
-    failing: &[u64],
-    length: usize,
-) -> Result<bool, NoMemory> {
-    let mut watchers: Vec<Box<dyn Watcher>> = Vec::new(alloc);
-    watchers.push(Box::new(alloc, long_log(alloc, 2_500)?)?)?;
-    let options = ("iln", "1", ["--report", "log"].as_slice());
-    let left = built(rt, alloc, options, DIAMOND, [&[], failing], &mut watchers)?;
-    Ok(left.status == 3 && left.report.bytes().len() == length && left.files.get("out").is_some())
-}
-
-/// A report that is not written whole is a write fault.
-pub fn a_report_that_is_not_written_is_a_write_fault(
-    rt: &(impl Threads + Wait + Sync),
-    alloc: Global,
-) -> Tried {
-    for (k, (failing, length)) in CUTS.iter().enumerate() {
-        if !is_cut(rt, alloc, failing, *length)? {
-            return Ok(Some(k));
-        }
+#[test]
+fn a_report_that_is_not_written_is_a_write_fault(rt: HostRuntime) -> Result<(), Fail> {
+    let alloc = rt.alloc();
+    for (failing, length) in CUTS {
+        let mut watchers: Vec<Box<dyn Watcher>> = Vec::new(alloc);
+        watchers.push(Box::new(alloc, long_log(alloc, 2_500)?)?)?;
+        let options = ("iln", "1", ["--report", "log"].as_slice());
+        let left = built(&rt, alloc, options, DIAMOND, [&[], failing], &mut watchers)?;
+        assert_eq!(rt; left.status, 3);
+        assert_eq!(rt; left.report.bytes().len(), length);
+        assert!(rt; left.files.get("out").is_some());
     }
-    Ok(None)
+    Ok(())
 }
