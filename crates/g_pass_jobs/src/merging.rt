@@ -3,7 +3,7 @@
 ghost use Rattle.std.specs.Prelude.{◌≡◌, ◌+◌, ◌<◌, ◌≤◌, ◌^◌, ℕ, List, [], ◌∷◌, ◌++◌, map, drop, slice_get, OnOk, IfOk};
 ghost use Rattle.std.specs.List.{cons_option};
 ghost use Rattle.std.specs.Arc.{arc_value};
-ghost use Rattle.g_pass_renew.specs.Renewal.{merged};
+ghost use Rattle.g_pass_jobs.specs.Renewal.{merged};
 
 use crate::numbering::is_stale;
 use no_memory::NoMemory;
@@ -51,7 +51,7 @@ fn add_next<M: Drop>(
 
 /// Of each of these functions its answer: of a stale one the next of those that are given, of
 /// another the kept one.
-pub(crate) fn merged<M: Drop>(
+pub fn merged<M: Drop>(
     alloc: Global,
     functions: &[u32],
     stale: &[bool],

@@ -1,9 +1,9 @@
 //! The stale functions as jobs: the function, the rank and the deps of each.
 
-ghost use Rattle.std.specs.Prelude.{◌≡◌, ◌<◌, ◌^◌, ℕ, [], length, map, slice_index, slice_index_or, Contains, IfOk};
+ghost use Rattle.std.specs.Prelude.{◌≡◌, ◌+◌, ◌<◌, ◌^◌, ℕ, [], ◌∷◌, ◌++◌, if◌then◌else◌, length, map, slice_index, slice_index_or, Contains, IfOk, OnOk};
 ghost use Rattle.std.specs.List.{range_with_len};
 ghost use Rattle.call_order.specs.Units.{call_lists, AllKnown};
-ghost use Rattle.g_pass_renew.specs.Renewal.{is_stale, functions_of, job_of, stale_jobs};
+ghost use Rattle.g_pass_jobs.specs.Renewal.{is_stale, functions_of, job_of, stale_jobs};
 
 use no_memory::NoMemory;
 use std::alloc::Global;
@@ -12,14 +12,33 @@ use std::alloc::Global;
 pub(crate) fn is_stale(stale: &[bool], function: u32) -> bool
     ensures { result ≡ is_stale stale.now function }
 {
-    match stale.get(function as usize) {
-        Some(it) => *it,
-        None => true,
+    if function as usize >= stale.len() {
+        return true;
     }
+    stale[function as usize]
+}
+
+// Adds a number where the test holds.
+fn push_if(list: &mut Vec<u32>, holds: bool, number: u32) -> Result<(), NoMemory>
+    ensures { OnOk result (list.new.items
+        ≡ list.old.items ++ (if holds then number ∷ [] else [])) }
+{
+    if holds {
+        list.push(number)?;
+    }
+    Ok(())
+}
+
+// One more where the test holds.
+fn counted(count: u32, holds: bool) -> u32
+    requires { count + 1 < 2 ^ 32 }
+    ensures { result ≡ count + (if holds then 1 else 0) }
+{
+    if holds { count + 1 } else { count }
 }
 
 /// The functions 0 to `count` - 1.
-pub(crate) fn first_functions(alloc: Global, count: usize) -> Result<Vec<u32>, NoMemory>
+pub fn first_functions(alloc: Global, count: usize) -> Result<Vec<u32>, NoMemory>
     requires { count < 2 ^ 32 }
     ensures { IfOk result (λ functions. functions.items ≡ range_with_len 0 count) }
 {
@@ -31,21 +50,19 @@ pub(crate) fn first_functions(alloc: Global, count: usize) -> Result<Vec<u32>, N
 }
 
 /// The stale functions in order: the function of each job.
-pub(crate) fn functions_of(alloc: Global, stale: &[bool]) -> Result<Vec<u32>, NoMemory>
+pub fn functions_of(alloc: Global, stale: &[bool]) -> Result<Vec<u32>, NoMemory>
     requires { length stale.now < 2 ^ 32 }
     ensures { IfOk result (λ functions. functions.items ≡ functions_of stale.now) }
 {
     let mut functions = Vec::new(alloc);
     for function in 0..stale.len() {
-        if stale[function] {
-            functions.push(function as u32)?;
-        }
+        push_if(&mut functions, is_stale(stale, function as u32), function as u32)?;
     }
     Ok(functions)
 }
 
 /// Of each function how many stale ones stand before it: of a stale one its job.
-pub(crate) fn jobs_of(alloc: Global, stale: &[bool]) -> Result<Vec<u32>, NoMemory>
+pub fn jobs_of(alloc: Global, stale: &[bool]) -> Result<Vec<u32>, NoMemory>
     requires { length stale.now < 2 ^ 32 }
     ensures { IfOk result (λ jobs.
         jobs.items ≡ map (job_of stale.now) (range_with_len 0 (length stale.now))) }
@@ -54,15 +71,13 @@ pub(crate) fn jobs_of(alloc: Global, stale: &[bool]) -> Result<Vec<u32>, NoMemor
     let mut count = 0;
     for function in 0..stale.len() {
         jobs.push(count)?;
-        if stale[function] {
-            count += 1;
-        }
+        count = counted(count, is_stale(stale, function as u32));
     }
     Ok(jobs)
 }
 
 /// The ranks of these functions.
-pub(crate) fn ranks_of(
+pub fn ranks_of(
     alloc: Global,
     ranks: &[u32],
     functions: &[u32],
@@ -90,15 +105,14 @@ fn stale_jobs(
 {
     let mut own = Vec::new(alloc);
     for function in functions {
-        if is_stale(stale, *function) {
-            own.push(jobs[*function as usize])?;
-        }
+        let job = jobs[*function as usize];
+        push_if(&mut own, is_stale(stale, *function), job)?;
     }
     Ok(own)
 }
 
 /// The stale deps of these functions, as jobs.
-pub(crate) fn deps_of(
+pub fn deps_of(
     alloc: Global,
     stale: &[bool],
     jobs: &[u32],
