@@ -73,18 +73,12 @@ module _ {M : Type 0} where
 
   -- ---- the small program
 
-  module _ (p : Program M) (ranked : IsRanked p) (stale : List Bool) (kept : List M) (long : length stale ≡ length p.deps)
-      (are_kept : (j : ℕ) → is_stale stale j ≡ false → slice_get kept j ≡ answer p j) where
+  module _ (p : Program M) (ranked : IsRanked p) (stale : List Bool) (kept : List M) (long : length stale ≡ length p.deps) where
     abbrev small : Program M
     small = renewal p stale kept
 
     abbrev fs : List ℕ
     fs = functions_of stale
-
-    one-kept : (j : ℕ) → j < length stale → IsKept stale kept (answer p) j
-    one-kept j inside is =
-        let some = some-of (answer p j) (jobs-have-answers p ranked j (omega (arith, inside, long))) in
-        (some.0, some.1, are_kept j is ∙ some.1)
 
     deps-at : (i : ℕ) → i < length fs → deps_of small i ≡ stale_jobs stale (deps_of p (slice_index fs i))
     deps-at i inside = get_or-map (λ j. stale_jobs stale (deps_of p j)) fs i 0 [] inside
@@ -137,44 +131,50 @@ module _ {M : Type 0} where
               omega (arith, dep, rank-at i it.inside, ranked.smaller (slice_index fs i) it.dep it.is_dep);
         }
 
-    -- the answer of a job is that of its function
-    same-below : (bound i : ℕ) → i < length fs → slice_index p.ranks (slice_index fs i) < bound → answer small i ≡ answer p (slice_index fs i)
-    same-below zero i inside below = absurd (omega (arith, below))
-    same-below (suc bound) i inside below =
-        let j = slice_index fs i in
-        let js = deps_of p j in
-        let test = is_stale stale in
-        answers-come-of-deps small small-ranked i
-        ∙ (ap (λ ks. option_map (small.made i) (all_some (map (answer small) ks))) (deps-at i inside)
-        ∙ (ap (λ os. option_map (small.made i) (all_some os))
-        (map-map (answer small) (job_of stale) (filter test js)
-        ∙ same-results (λ d. answer small (job_of stale d)) (answer p) (filter test js)
-        (λ d h.
-        let from = contains-filter test js d h in
-        let low : d < length stale = omega (arith, ranked.known j d from.0, long) in
-        let at = job-is stale d (length stale) low from.1 in
-        let smaller : slice_index p.ranks (slice_index fs (job_of stale d)) < bound = omega (arith, ap (slice_index p.ranks) at, ranked.smaller j d from.0, below) in
-        same-below bound (job_of stale d) (job-inside stale d (length stale) low from.1) smaller ∙ ap (answer p) at))
-        ∙ (map-twice (p.made j) (merged stale kept js) (all_some (map (answer p) (filter test js)))
-        ∙ (ap (option_map (p.made j)) (sym (merged-all stale kept (answer p) js (λ d h. one-kept d (omega (arith, ranked.known j d h, long)))))
-        ∙ sym (answers-come-of-deps p ranked j)))))
+    module _ (are_kept : (j : ℕ) → is_stale stale j ≡ false → slice_get kept j ≡ answer p j) where
+      one-kept : (j : ℕ) → j < length stale → IsKept stale kept (answer p) j
+      one-kept j inside is =
+          let some = some-of (answer p j) (jobs-have-answers p ranked j (omega (arith, inside, long))) in
+          (some.0, some.1, are_kept j is ∙ some.1)
 
-    pub job-answer : (i : ℕ) → i < length fs → answer small i ≡ answer p (slice_index fs i)
-    job-answer i inside = same-below (suc (slice_index p.ranks (slice_index fs i))) i inside (omega arith)
+      -- the answer of a job is that of its function
+      same-below : (bound i : ℕ) → i < length fs → slice_index p.ranks (slice_index fs i) < bound → answer small i ≡ answer p (slice_index fs i)
+      same-below zero i inside below = absurd (omega (arith, below))
+      same-below (suc bound) i inside below =
+          let j = slice_index fs i in
+          let js = deps_of p j in
+          let test = is_stale stale in
+          answers-come-of-deps small small-ranked i
+          ∙ (ap (λ ks. option_map (small.made i) (all_some (map (answer small) ks))) (deps-at i inside)
+          ∙ (ap (λ os. option_map (small.made i) (all_some os))
+          (map-map (answer small) (job_of stale) (filter test js)
+          ∙ same-results (λ d. answer small (job_of stale d)) (answer p) (filter test js)
+          (λ d h.
+          let from = contains-filter test js d h in
+          let low : d < length stale = omega (arith, ranked.known j d from.0, long) in
+          let at = job-is stale d (length stale) low from.1 in
+          let smaller : slice_index p.ranks (slice_index fs (job_of stale d)) < bound = omega (arith, ap (slice_index p.ranks) at, ranked.smaller j d from.0, below) in
+          same-below bound (job_of stale d) (job-inside stale d (length stale) low from.1) smaller ∙ ap (answer p) at))
+          ∙ (map-twice (p.made j) (merged stale kept js) (all_some (map (answer p) (filter test js)))
+          ∙ (ap (option_map (p.made j)) (sym (merged-all stale kept (answer p) js (λ d h. one-kept d (omega (arith, ranked.known j d h, long)))))
+          ∙ sym (answers-come-of-deps p ranked j)))))
 
-    -- the results of the jobs and the kept answers are the answers of all
-    pub all-answers : (results : List M) → length results ≡ length fs → ((i : ℕ) → i < length fs → slice_get results i ≡ answer small i) →
-        let whole = merged stale kept (range_with_len 0 (length stale)) results in (length whole ≡ length p.deps) × ((j : ℕ) → j < length p.deps → slice_get whole j ≡ answer p j)
-    all-answers results many each =
-        let all = range_with_len 0 (length stale) in
-        let made = all_some-read (answer p) fs results many (λ i inside. each i inside ∙ job-answer i inside) in
-        let whole =
-        merged-all stale kept (answer p) all (λ j h. one-kept j (omega (arith, contains-range 0 (length stale) j h)))
-        ∙ ap (option_map (merged stale kept all)) made in
-        let out = all_some-out (answer p) all (merged stale kept all results) whole in
-        let count = length-range_with_len 0 (length stale) in (
-          omega (arith, out.0, count, long),
-          λ j inside.
-              let low : j < length stale = omega (arith, inside, long) in
-              out.1 j (omega (arith, low, count)) ∙ ap (answer p) (get_or-range_with_len 0 (length stale) j 0 low ∙ (let e : 0 + j ≡ j = omega arith in e)),
-        )
+      pub job-answer : (i : ℕ) → i < length fs → answer small i ≡ answer p (slice_index fs i)
+      job-answer i inside = same-below (suc (slice_index p.ranks (slice_index fs i))) i inside (omega arith)
+
+      -- the results of the jobs and the kept answers are the answers of all
+      pub all-answers : (results : List M) → length results ≡ length fs → ((i : ℕ) → i < length fs → slice_get results i ≡ answer small i) →
+          let whole = merged stale kept (range_with_len 0 (length stale)) results in (length whole ≡ length p.deps) × ((j : ℕ) → j < length p.deps → slice_get whole j ≡ answer p j)
+      all-answers results many each =
+          let all = range_with_len 0 (length stale) in
+          let made = all_some-read (answer p) fs results many (λ i inside. each i inside ∙ job-answer i inside) in
+          let whole =
+          merged-all stale kept (answer p) all (λ j h. one-kept j (omega (arith, contains-range 0 (length stale) j h)))
+          ∙ ap (option_map (merged stale kept all)) made in
+          let out = all_some-out (answer p) all (merged stale kept all results) whole in
+          let count = length-range_with_len 0 (length stale) in (
+            omega (arith, out.0, count, long),
+            λ j inside.
+                let low : j < length stale = omega (arith, inside, long) in
+                out.1 j (omega (arith, low, count)) ∙ ap (answer p) (get_or-range_with_len 0 (length stale) j 0 low ∙ (let e : 0 + j ≡ j = omega arith in e)),
+          )

@@ -1,5 +1,5 @@
 -- The functions of the jobs.
-use Rattle.std.proofs.Common.{◌≡◌, ◌<◌, ◌+◌, ◌-◌, ◌++◌, ◌⊎◌, ℕ, zero, suc, Bool, true, false, cond, List, [], ◌∷◌, length, map, slice_index, Contains, refl, sym, ap, subst, ◌∙◌, arith, inl, inr, length-append}
+use Rattle.std.proofs.Common.{◌≡◌, ◌<◌, ◌≤◌, ◌+◌, ◌-◌, ◌++◌, ◌⊎◌, ℕ, zero, suc, Bool, true, false, cond, List, [], ◌∷◌, length, map, slice_index, Contains, refl, sym, ap, subst, ◌∙◌, arith, inl, inr, length-append}
 use Rattle.std.specs.List.{filter, range_with_len}
 use Rattle.std.proofs.lemmas.List.FromFn.{length-range_with_len, get_or-range_with_len}
 use Rattle.std.proofs.lemmas.List.Elements.{filter-append, Contains-get_or}
@@ -96,3 +96,13 @@ module _ (stale : List Bool) where
       let it = contains-map (job_of stale) (filter (is_stale stale) js) k h in
       let from = contains-filter (is_stale stale) js it.0 it.1 in
       (it.0, from.0, from.1, it.2)
+
+shorter : (p : ℕ → Bool) (xs : List ℕ) → length (filter p xs) ≤ length xs
+shorter p [] = omega arith
+shorter p (x ∷ xs) = by (p x) (shorter p xs) where
+  by : (b : Bool) → length (filter p xs) ≤ length xs → length (cond b (x ∷ filter p xs) (filter p xs)) ≤ length (x ∷ xs)
+  by true rest = omega (arith, rest)
+  by false rest = omega (arith, rest)
+
+pub few-functions : (stale : List Bool) → length (functions_of stale) ≤ length stale
+few-functions stale = omega (arith, shorter (is_stale stale) (range_with_len 0 (length stale)), length-range_with_len 0 (length stale))
