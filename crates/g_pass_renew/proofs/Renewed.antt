@@ -69,7 +69,7 @@ same-program t ranks workers work own_ranks own_deps ranks-are deps-are =
     ap (λ (rs : List ℕ). P rs own_deps) ranks-are ∙ ap (λ (ds : List (List ℕ)). P (map (slice_index ranks) (functions_of work.stale)) ds) deps-are
 
 -- where nothing is stale there is no result
-pub none-stale : (p : Program PlainOptimised) (stale : List Bool) (kept results : List PlainOptimised) → functions_of stale ≡ [] → results ≡ [] → AreResults (renewal p stale kept) results
+pub none-stale : (p : Program PlainOptimised) (stale : List Bool) (kept results : List PlainOptimised) → length (functions_of stale) ≡ 0 → results ≡ [] → AreResults (renewal p stale kept) results
 none-stale p stale kept results none is =
-    let long : length (renewal p stale kept).deps ≡ 0 = length-map (functions_of stale) (λ (j : ℕ). stale_jobs stale (deps_of p j)) ∙ ap (λ (xs : List ℕ). length xs) none in
+    let long : length (renewal p stale kept).deps ≡ 0 = length-map (functions_of stale) (λ (j : ℕ). stale_jobs stale (deps_of p j)) ∙ none in
     record { count = ap (λ (xs : List PlainOptimised). length xs) is ∙ sym long; each = λ j inside. absurd (omega (arith, inside, long)) }

@@ -67,9 +67,9 @@ impl<'a> StaleJobs<'a> {
 
     /// Whether there is no job.
     pub(crate) fn is_done(&self) -> bool
-        ensures { IsTrue result ↔ (functions_of self.now.stale ≡ []) }
+        ensures { IsTrue result ↔ (length (functions_of self.now.stale) ≡ 0) }
     {
-        self.functions.is_empty()
+        self.functions.len() == 0
     }
 
     /// The ranks of the jobs, given those of all functions.

@@ -8,8 +8,8 @@ use Rattle.g_pass_renew.proofs.jobs.StaleJobs.ranks.Goals as goal
 
 pub ranks_of-requires : goal.ranks_of-requires
 ranks_of-requires c j h =
-    let in' = c.self.inside in
-    omega (arith, known in'.lambdas.now in'.functions.now in'.stale.now (call_lists in'.deps.now) c.self.invariant j h, ap (λ (w : Jobs). length w.stale) c.self.view_is, c.requires)
+    let fields = c.self.inside in
+    omega (arith, known fields.lambdas.now fields.functions.now fields.stale.now (call_lists fields.deps.now) c.self.invariant j h, ap (λ (w : Jobs). length w.stale) c.self.view_is, c.requires)
 
 pub returns : goal.returns
 returns c =
