@@ -1,8 +1,23 @@
 -- Answers put beside each other, one more at a time.
-use Rattle.std.proofs.Common.{◌≡◌, ◌<◌, ◌+◌, ◌++◌, ℕ, zero, suc, Bool, true, false, cond, List, [], ◌∷◌, drop, Option, None, Some, slice_get, get_or, refl, sym, ap, ◌∙◌, append_assoc}
+use Rattle.std.proofs.Common.{◌≡◌, ◌<◌, ◌≤◌, ◌+◌, ◌++◌, ℕ, zero, suc, Bool, true, false, cond, List, [], ◌∷◌, length, map, drop, Option, None, Some, slice_get, get_or, refl, sym, ap, ◌∙◌, append_assoc, append-nil}
+use Rattle.std.specs.Prelude.{option_map}
 use Rattle.std.specs.List.{cons_option}
-use Rattle.std.proofs.lemmas.List.{drop-drop}
+use Rattle.std.proofs.lemmas.List.{drop-drop, map-append}
+use Rattle.std.proofs.lemmas.Option.{slice_get-map, slice_get_past, slice_get_read}
 use Rattle.g_pass_jobs.specs.Renewal.{is_stale, merged}
+
+module _ {A M : Type 0} (value : A → M) (from old : List A) (i : ℕ) where
+  pub one-added : (new : List A) (x y : A) → x ≡ get_or from i x → i < length from → value y ≡ value x → new ≡ old ++ y ∷ [] →
+      map value new ≡ map value old ++ cons_option (slice_get (map value from) i) []
+  one-added new x y is inside same more =
+      ap (map value) more
+      ∙ (map-append value old (y ∷ [])
+      ∙ (ap (λ v. map value old ++ v ∷ []) same
+      ∙ ap (λ o. map value old ++ cons_option o []) (sym (slice_get-map value from i ∙ ap (option_map value) (slice_get_read from (length from) i x refl inside is)))))
+
+  pub none-added : length from ≤ i → map value old ≡ map value old ++ cons_option (slice_get (map value from) i) []
+  none-added past =
+      sym (append-nil (map value old)) ∙ ap (λ o. map value old ++ cons_option o []) (sym (slice_get-map value from i ∙ ap (option_map value) (slice_get_past from i past)))
 
 module _ {M : Type 0} where
   get-drop : (n : ℕ) (xs : List M) → slice_get (drop n xs) 0 ≡ slice_get xs n

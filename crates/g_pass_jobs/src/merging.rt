@@ -19,10 +19,13 @@ fn add<M: Drop>(
     ensures { OnOk result (map arc_value all.new.items ≡ map arc_value all.old.items
         ++ cons_option (slice_get (map arc_value from.now) index) []) }
 {
-    if let Some(answer) = from.get(index) {
-        all.push(Arc::try_clone(answer)?)?;
+    match from.get(index) {
+        Some(answer) => {
+            all.push(Arc::try_clone(answer)?)?;
+            Ok(())
+        }
+        None => Ok(()),
     }
-    Ok(())
 }
 
 // Adds the answer of a function, and says how many of those that are given have been taken.

@@ -12,7 +12,7 @@ loop-function-preserved g c =
     let functions = c.args.functions.now in
     let i = c.loop-function.function-index in
     let here = drop_more functions i 0 c.loop-function-test.true in (
-      omega (arith, c.loop-function.invariant.0, c.in_ok-add_next.ensures.most),
-      c.in_ok-add_next.ensures.rest (drop (i + 1) functions)
+      omega (arith, c.loop-function.invariant.0, c.in_ok-taken.ensures.most),
+      c.in_ok-taken.ensures.rest (drop (i + 1) functions)
           ∙ (ap (λ (js : List ℕ). map arc_value c.loop-function.all.items ++ merged stale kept js (drop c.loop-function.taken given)) (sym here) ∙ c.loop-function.invariant.1),
     )
