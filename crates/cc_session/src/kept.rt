@@ -24,6 +24,10 @@ impl Model for Kept {
 
     ghost coded = { coded_kept };
 
-    ghost view = { λ k. record { source = k.source.items; lambdas = k.lambdas.items;
-        deps = call_lists k.deps.items; answers = map arc_value k.answers.items } };
+    ghost view = { λ k. record {
+      source = k.source.items;
+      lambdas = k.lambdas.items;
+      deps = call_lists k.deps.items;
+      answers = map arc_value k.answers.items;
+    } };
 }

@@ -86,14 +86,30 @@ pub(crate) fn rebuilt<H: Threads + Wait + Sync, G: Gate>(
         Some(kept) => {
             let stale = stale(alloc, &kept.lambdas, &kept.deps, &graph.lambdas, &order)?;
             let answers = renewed(
-                rt, alloc, &graph.lambdas, recipe, &order, &stale, &kept.answers, workers, gate,
+                rt,
+                alloc,
+                &graph.lambdas,
+                recipe,
+                &order,
+                &stale,
+                &kept.answers,
+                workers,
+                gate,
             )?;
             (stale, answers)
         }
         None => {
             let stale = stale(alloc, &[], &[], &graph.lambdas, &order)?;
             let answers = renewed(
-                rt, alloc, &graph.lambdas, recipe, &order, &stale, &[], workers, gate,
+                rt,
+                alloc,
+                &graph.lambdas,
+                recipe,
+                &order,
+                &stale,
+                &[],
+                workers,
+                gate,
             )?;
             (stale, answers)
         }

@@ -36,8 +36,11 @@ impl Model for Session {
 
     ghost coded = { coded_session };
 
-    ghost view = { λ s. record { source = s.now.source; recipe = s.recipe;
-        last = option_map (λ (k : PlainKept). k.source) s.last } };
+    ghost view = { λ s. record {
+      source = s.now.source;
+      recipe = s.recipe;
+      last = option_map (λ (k : PlainKept). k.source) s.last;
+    } };
 
     ghost invariant = { λ s. IsSession s.now s.recipe s.last };
 }
@@ -45,11 +48,7 @@ impl Model for Session {
 impl Session {
     /// A session on a source, under a recipe, before any rebuild. The faults are those of
     /// `accepted_of`: where a phase refuses the source, or memory ran out.
-    pub fn open(
-        alloc: Global,
-        source: Vec<u8>,
-        recipe: Recipe,
-    ) -> Result<Session, CompileFault>
+    pub fn open(alloc: Global, source: Vec<u8>, recipe: Recipe) -> Result<Session, CompileFault>
         ensures opened { IfOk result (λ s.
             s ≡ record { source = source.items; recipe = recipe; last = None }) }
         ensures refused { IfErr result (λ e. Refuses e source.items) }
@@ -104,8 +103,15 @@ impl Session {
             ≡ record self.old { last = Some self.old.source }) }
         ensures unchanged { OnErr result (self.new ≡ self.old) }
     {
-        let (it, kept) =
-            rebuilt(rt, self.alloc, &self.now, &self.recipe, &self.last, workers, gate)?;
+        let (it, kept) = rebuilt(
+            rt,
+            self.alloc,
+            &self.now,
+            &self.recipe,
+            &self.last,
+            workers,
+            gate,
+        )?;
         self.last = Some(kept);
         Ok(it)
     }

@@ -11,11 +11,7 @@ use std::alloc::Global;
 use std::sync::Arc;
 
 // Adds the answer at an index, where there is one.
-fn add<M: Drop>(
-    from: &[Arc<M>],
-    index: usize,
-    all: &mut Vec<Arc<M>>,
-) -> Result<(), NoMemory>
+fn add<M: Drop>(from: &[Arc<M>], index: usize, all: &mut Vec<Arc<M>>) -> Result<(), NoMemory>
     ensures { OnOk result (map arc_value all.new.items ≡ map arc_value all.old.items
         ++ cons_option (slice_get (map arc_value from.now) index) []) }
 {
@@ -42,7 +38,7 @@ fn add_next<M: Drop>(
     ensures rest { IfOk result (λ next. (js : List ℕ) → map arc_value all.new.items
         ++ merged stale.now (map arc_value kept.now) js (drop next (map arc_value given.now))
         ≡ map arc_value all.old.items ++ merged stale.now (map arc_value kept.now) (function ∷ js)
-            (drop taken (map arc_value given.now))) }
+        (drop taken (map arc_value given.now))) }
 {
     if is_stale(stale, function) {
         add(given, taken, all)?;

@@ -56,7 +56,11 @@ pub fn functions_of(alloc: Global, stale: &[bool]) -> Result<Vec<u32>, NoMemory>
 {
     let mut functions = Vec::new(alloc);
     for function in 0..stale.len() {
-        push_if(&mut functions, is_stale(stale, function as u32), function as u32)?;
+        push_if(
+            &mut functions,
+            is_stale(stale, function as u32),
+            function as u32,
+        )?;
     }
     Ok(functions)
 }
@@ -77,11 +81,7 @@ pub fn jobs_of(alloc: Global, stale: &[bool]) -> Result<Vec<u32>, NoMemory>
 }
 
 /// The ranks of these functions.
-pub fn ranks_of(
-    alloc: Global,
-    ranks: &[u32],
-    functions: &[u32],
-) -> Result<Vec<u32>, NoMemory>
+pub fn ranks_of(alloc: Global, ranks: &[u32], functions: &[u32]) -> Result<Vec<u32>, NoMemory>
     requires { (j : ℕ) → Contains functions.now j → j < length ranks.now }
     ensures { IfOk result (λ own. own.items ≡ map (slice_index ranks.now) functions.now) }
 {

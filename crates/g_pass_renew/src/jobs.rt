@@ -39,8 +39,13 @@ impl<'a> Model for StaleJobs<'a> {
 
     ghost coded = { coded_jobs };
 
-    ghost view = { λ j. record { lambdas = j.lambdas.now; recipe = j.recipe.now;
-        stale = j.stale.now; deps = call_lists j.deps.now; kept = map arc_value j.kept.now } };
+    ghost view = { λ j. record {
+      lambdas = j.lambdas.now;
+      recipe = j.recipe.now;
+      stale = j.stale.now;
+      deps = call_lists j.deps.now;
+      kept = map arc_value j.kept.now;
+    } };
 
     ghost invariant = { λ j. AreJobs
         j.lambdas.now j.functions.now j.stale.now (call_lists j.deps.now) };
@@ -58,11 +63,22 @@ impl<'a> StaleJobs<'a> {
         kept: &'a [Arc<Optimised>],
     ) -> StaleJobs<'a>
         requires { AreJobs lambdas.now functions.now stale.now (call_lists deps.now) }
-        ensures { result ≡ record { lambdas = lambdas.entry.now; recipe = recipe.entry.now;
-            stale = stale.entry.now; deps = call_lists deps.entry.now;
-            kept = map arc_value kept.entry.now } }
+        ensures { result ≡ record {
+          lambdas = lambdas.entry.now;
+          recipe = recipe.entry.now;
+          stale = stale.entry.now;
+          deps = call_lists deps.entry.now;
+          kept = map arc_value kept.entry.now;
+        } }
     {
-        StaleJobs { lambdas, recipe, functions, stale, deps, kept }
+        StaleJobs {
+            lambdas,
+            recipe,
+            functions,
+            stale,
+            deps,
+            kept,
+        }
     }
 
     /// Whether there is no job.

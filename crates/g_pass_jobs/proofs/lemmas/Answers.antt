@@ -49,27 +49,27 @@ module _ {M : Type 0} where
     merged-all [] each = refl
     merged-all (j ∷ js) each =
         by (is_stale stale j) (each j (contains-here j js)) (merged-all js (λ k h. each k (contains-later j k js h))) where
-      taken : (o : Option M) (given : Option (List M)) → all_some (map f js) ≡ option_map (merged stale kept js) given → all_some (map f (filter (is_stale stale) js)) ≡ given →
-          all_some (o ∷ map f js) ≡ option_map (λ xs. cons_option (slice_get xs 0) (merged stale kept js (drop 1 xs))) (all_some (o ∷ map f (filter (is_stale stale) js)))
-      taken None given e is = refl
-      taken (Some x) None e is =
-          ap (option_map (λ xs. x ∷ xs)) e ∙ ap (λ o. option_map (λ xs. cons_option (slice_get xs 0) (merged stale kept js (drop 1 xs))) (option_map (λ xs. x ∷ xs) o)) (sym is)
-      taken (Some x) (Some ys) e is =
-          ap (option_map (λ xs. x ∷ xs)) e ∙ ap (λ o. option_map (λ xs. cons_option (slice_get xs 0) (merged stale kept js (drop 1 xs))) (option_map (λ xs. x ∷ xs) o)) (sym is)
+          taken : (o : Option M) (given : Option (List M)) → all_some (map f js) ≡ option_map (merged stale kept js) given → all_some (map f (filter (is_stale stale) js)) ≡ given →
+              all_some (o ∷ map f js) ≡ option_map (λ xs. cons_option (slice_get xs 0) (merged stale kept js (drop 1 xs))) (all_some (o ∷ map f (filter (is_stale stale) js)))
+          taken None given e is = refl
+          taken (Some x) None e is =
+              ap (option_map (λ xs. x ∷ xs)) e ∙ ap (λ o. option_map (λ xs. cons_option (slice_get xs 0) (merged stale kept js (drop 1 xs))) (option_map (λ xs. x ∷ xs) o)) (sym is)
+          taken (Some x) (Some ys) e is =
+              ap (option_map (λ xs. x ∷ xs)) e ∙ ap (λ o. option_map (λ xs. cons_option (slice_get xs 0) (merged stale kept js (drop 1 xs))) (option_map (λ xs. x ∷ xs) o)) (sym is)
 
-      kept_one : (x : M) (given : Option (List M)) → all_some (map f js) ≡ option_map (merged stale kept js) given →
-          option_map (λ xs. x ∷ xs) (all_some (map f js)) ≡ option_map (λ xs. x ∷ merged stale kept js xs) given
-      kept_one x None e = ap (option_map (λ xs. x ∷ xs)) e
-      kept_one x (Some ys) e = ap (option_map (λ xs. x ∷ xs)) e
+          kept_one : (x : M) (given : Option (List M)) → all_some (map f js) ≡ option_map (merged stale kept js) given →
+              option_map (λ xs. x ∷ xs) (all_some (map f js)) ≡ option_map (λ xs. x ∷ merged stale kept js xs) given
+          kept_one x None e = ap (option_map (λ xs. x ∷ xs)) e
+          kept_one x (Some ys) e = ap (option_map (λ xs. x ∷ xs)) e
 
-      by : (b : Bool) → (b ≡ false → (x : M) × (f j ≡ Some x) × (slice_get kept j ≡ Some x)) → all_some (map f js) ≡ option_map (merged stale kept js) (all_some (map f (filter (is_stale stale) js))) →
-          all_some (f j ∷ map f js) ≡ option_map (λ given. cond b (cons_option (slice_get given 0) (merged stale kept js (drop 1 given))) (cons_option (slice_get kept j) (merged stale kept js given)))
-          (all_some (map f (cond b (j ∷ (filter (is_stale stale) js)) (filter (is_stale stale) js))))
-      by true own rest = taken (f j) (all_some (map f (filter (is_stale stale) js))) rest refl
-      by false own rest =
-          let it = own refl in
-          ap (λ o. all_some (o ∷ map f js)) it.1
-          ∙ (kept_one it.0 (all_some (map f (filter (is_stale stale) js))) rest ∙ ap (λ o. option_map (λ given. cons_option o (merged stale kept js given)) (all_some (map f (filter (is_stale stale) js)))) (sym it.2))
+          by : (b : Bool) → (b ≡ false → (x : M) × (f j ≡ Some x) × (slice_get kept j ≡ Some x)) → all_some (map f js) ≡ option_map (merged stale kept js) (all_some (map f (filter (is_stale stale) js))) →
+              all_some (f j ∷ map f js) ≡ option_map (λ given. cond b (cons_option (slice_get given 0) (merged stale kept js (drop 1 given))) (cons_option (slice_get kept j) (merged stale kept js given)))
+              (all_some (map f (cond b (j ∷ (filter (is_stale stale) js)) (filter (is_stale stale) js))))
+          by true own rest = taken (f j) (all_some (map f (filter (is_stale stale) js))) rest refl
+          by false own rest =
+              let it = own refl in
+              ap (λ o. all_some (o ∷ map f js)) it.1
+              ∙ (kept_one it.0 (all_some (map f (filter (is_stale stale) js))) rest ∙ ap (λ o. option_map (λ given. cons_option o (merged stale kept js given)) (all_some (map f (filter (is_stale stale) js)))) (sym it.2))
 
   -- ---- the small program
 

@@ -1,4 +1,4 @@
-use Rattle.std.proofs.Common.{◌≡◌, map, sym, ◌∙◌, refl}
+use Rattle.std.proofs.Common.{map, sym, ◌∙◌}
 use Rattle.std.specs.Arc.{arc_value}
 use Rattle.g_pass_jobs.proofs.Beside.{one-taken, one-kept}
 use Rattle.g_pass_jobs.proofs.merging.add_next.Goals as goal

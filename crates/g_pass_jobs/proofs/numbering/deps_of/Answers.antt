@@ -1,4 +1,4 @@
-use Rattle.std.proofs.Common.{[], ℕ, List, Vec, Global, length, slice_index, slice_index_or, Contains, sym, ap, subst, ◌∙◌, arith}
+use Rattle.std.proofs.Common.{[], ℕ, List, Vec, Global, slice_index, slice_index_or, Contains, sym, ap, subst, ◌∙◌, arith}
 use Rattle.std.proofs.lemmas.List.{length-map}
 use Rattle.std.proofs.lemmas.List.Elements.{Contains-get_or}
 use Rattle.call_order.specs.Units.{call_lists}

@@ -27,18 +27,19 @@ pub deps_of-requires-clause-inside : goal.deps_of-requires-clause-inside
 deps_of-requires-clause-inside c j h =
     let fields = c.self.inside in
     let items : Vec ℕ Global → List ℕ = λ v. v.items in
-    omega
-    (arith,
-    known fields.lambdas.now fields.functions.now fields.stale.now (call_lists fields.deps.now) c.self.invariant j h,
-    c.self.invariant.all_deps,
-    c.self.invariant.all_stale,
-    length-map fields.deps.now items)
+    omega (
+      arith,
+      known fields.lambdas.now fields.functions.now fields.stale.now (call_lists fields.deps.now) c.self.invariant j h,
+      c.self.invariant.all_deps,
+      c.self.invariant.all_stale,
+      length-map fields.deps.now items,
+    )
 
 pub returns : goal.returns
 returns c =
     let fields = c.self.inside in
     let same : map (λ j. stale_jobs fields.stale.now (slice_index_or (call_lists fields.deps.now) j [])) fields.functions.now
-        ≡ map (λ j. stale_jobs c.args.self.now.stale (slice_index_or c.args.self.now.deps j [])) (functions_of c.args.self.now.stale) =
+    ≡ map (λ j. stale_jobs c.args.self.now.stale (slice_index_or c.args.self.now.deps j [])) (functions_of c.args.self.now.stale) =
     ap (map (λ j. stale_jobs fields.stale.now (slice_index_or (call_lists fields.deps.now) j []))) c.self.invariant.functions_are
     ∙ ap (λ (w : Jobs). map (λ j. stale_jobs w.stale (slice_index_or w.deps j [])) (functions_of w.stale)) c.self.view_is in
     subst (λ (ks : List (List ℕ)). IfOk c.deps_of.result (λ own. call_lists own.items ≡ ks)) same c.deps_of.ensures
