@@ -1,0 +1,5 @@
+pub mod Configurations
+pub mod ExprTasks
+pub mod StmtTasks
+pub mod TaskViews
+pub mod Laws
