@@ -1,0 +1,4 @@
+pub mod Steps
+pub mod PlaceLaws
+pub mod ExprLaws
+pub mod StmtLaws

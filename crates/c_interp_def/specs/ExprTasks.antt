@@ -191,3 +191,9 @@ dropped_tasks (expr_then e es) = drop_each es ∷ discard ∷ evaluate e ∷ []
 abbrev pub passed_tasks : ExprTrees → List ExprTask
 passed_tasks no_exprs = []
 passed_tasks (expr_then e es) = pass_each es ∷ use_it ∷ evaluate e ∷ []
+
+abbrev pub expr_tasks : List Slot → ExprTree → List ExprTask
+expr_tasks slots (expr t f) = form_tasks slots t f
+
+abbrev pub place_tasks_of : PlaceTree → List ExprTask
+place_tasks_of (place t f) = place_tasks f

@@ -1,12 +1,12 @@
 -- What a part of a program does is what the tasks do that it comes to.
-use Rattle.std.specs.Prelude.{◌≡◌, ℕ, zero, suc, List, [], ◌∷◌, ◌++◌, map, length, Option, None, Some}
+use Rattle.std.specs.Prelude.{◌≡◌, ℕ, List, [], ◌∷◌, ◌++◌, map, length, Option, None, Some}
 use Rattle.val_core.specs.Answers.{Answer, Cut, then_on}
 use Rattle.c_type.specs.Trees.{TypeTree}
-use Rattle.c_typed.specs.Typed.{ExprTree, expr, ExprTrees, PlaceTree, place, PlaceFormTree, FormTree, OptionalExpr, ElementTrees, StmtTree, ItemTrees, GroupTrees, ProgramTree}
-use Rattle.c_mean.specs.Statements.{normal}
+use Rattle.c_typed.specs.Typed.{ExprTree, expr, ExprTrees, PlaceTree, place, PlaceFormTree, FormTree, ElementTrees, StmtTree, loop, do_while, ItemTrees, GroupTrees, ProgramTree}
+use Rattle.c_mean.specs.Statements.{normal, continued}
 use Rattle.c_interp_def.specs.Configurations.{Configuration, Reached}
 use Rattle.c_interp_def.specs.ExprTasks.{ExprTask, evaluate, locate, drop_each, pass_each, form_tasks, place_tasks, dropped_tasks, passed_tasks, expr_task_run}
-use Rattle.c_interp_def.specs.StmtTasks.{Task, of_expr, of_stmt, run_stmt, run_items, run_groups, run_turns, do_turns, begin_elements, stmt_tasks, items_tasks, groups_tasks, elements_tasks, turns_tasks, do_tasks, stmt_task_run, tasks_run, variables}
+use Rattle.c_interp_def.specs.StmtTasks.{Task, of_expr, of_stmt, run_stmt, run_items, run_groups, run_turns, begin_elements, stmt_tasks, items_tasks, groups_tasks, elements_tasks, turns_tasks, again_tasks, again_run, stmt_task_run, tasks_run, variables}
 
 -- no jump is on its way
 abbrev pub normally : Configuration → Reached
@@ -62,12 +62,18 @@ abbrev pub tasks_or_cut : ProgramTree → (bound : ℕ) → Option (List Task) �
 tasks_or_cut p n None r = Cut []
 tasks_or_cut p n (Some ts) r = tasks_run p n ts r
 
+abbrev pub IsLoop : StmtTree → Type 0
+IsLoop (loop d step a) = Unit {0}
+IsLoop (do_while a e) = Unit {0}
+IsLoop a = ⊥
+
 abbrev pub TurnsExpand : Type 0
 TurnsExpand =
-    (p : ProgramTree) (n k : ℕ) (d step : OptionalExpr) (a : StmtTree) (x : Configuration) →
-    stmt_task_run p n (run_turns k d step a) x ≡ tasks_or_cut p n (turns_tasks k d step a) (normally x)
+    (p : ProgramTree) (n k : ℕ) (a : StmtTree) (x : Configuration) → IsLoop a →
+    stmt_task_run p n (run_turns k a) x ≡ tasks_or_cut p n (turns_tasks k a) (normally x)
 
-abbrev pub DoTurnsExpand : Type 0
-DoTurnsExpand =
-    (p : ProgramTree) (n k : ℕ) (a : StmtTree) (e : ExprTree) (x : Configuration) →
-    stmt_task_run p n (do_turns k a e) x ≡ tasks_or_cut p n (do_tasks k a e) (normally x)
+-- after a turn that ended normally or by `continue` the loop goes on
+abbrev pub AgainExpands : Type 0
+AgainExpands =
+    (p : ProgramTree) (n k : ℕ) (a : StmtTree) (x : Configuration) → IsLoop a →
+    (again_run p n k a normal x ≡ tasks_run p n (again_tasks k a) (normally x)) × (again_run p n k a continued x ≡ tasks_run p n (again_tasks k a) (normally x))

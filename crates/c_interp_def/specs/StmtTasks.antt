@@ -23,14 +23,12 @@ pub data StmtTask : Type 0 where
   run_stmt : StmtTree → StmtTask
   run_items : ItemTrees → StmtTask
   run_groups : GroupTrees → StmtTask
-  -- what follows a condition, which is the newest operand
-  branch : TypeTree → (then otherwise : StmtTree) → StmtTask
-  select : GroupTrees → StmtTask
-  -- loops with their turns left, before the condition and after it
-  run_turns : (turns : ℕ) → (condition step : OptionalExpr) → StmtTree → StmtTask
-  turn_if : (turns : ℕ) → TypeTree → (condition step : OptionalExpr) → StmtTree → StmtTask
-  do_turns : (turns : ℕ) → StmtTree → (condition : ExprTree) → StmtTask
-  do_if : (turns : ℕ) → TypeTree → StmtTree → (condition : ExprTree) → StmtTask
+  -- an `if`, and a `switch`, whose condition is the newest operand
+  branch : StmtTree → StmtTask
+  select : StmtTree → StmtTask
+  -- a loop with its turns left, and with its condition as the newest operand
+  run_turns : (turns : ℕ) → StmtTree → StmtTask
+  turn_if : (turns : ℕ) → StmtTree → StmtTask
   -- a jump begins, or a return with the newest operand
   jump : Flow → StmtTask
   return_it : StmtTask
@@ -46,8 +44,7 @@ pub data StmtTask : Type 0 where
 -- what is done also where a jump is on its way
 pub data Handler : Type 0 where
   end_switch : Handler
-  next_turn : (turns : ℕ) → (condition step : OptionalExpr) → StmtTree → Handler
-  do_again : (turns : ℕ) → StmtTree → (condition : ExprTree) → Handler
+  again : (turns : ℕ) → StmtTree → Handler
   end_scope : (count : ℕ) → Handler
   end_call : Handler
 
@@ -79,24 +76,54 @@ module _ (p : ProgramTree) (n : ℕ) where
   abbrev pub body_of : Configuration → StmtTree → State → Answer Flowed
   body_of x a = stmt_run (context p n x) (variables x) a
 
+  -- a turn of a loop that has asked its condition
   abbrev pub turn_run : Configuration → (turns : ℕ) → (condition step : OptionalExpr) → StmtTree → State → Answer Flowed
   turn_run x zero d step a s = Cut []
   turn_run x (suc k) d step a s =
       then_on (body_of x a s) (λ r. after_turn r.flow r.state (λ u. then_on (optional_step (context p n x) step u) (loop_run k (context p n x) d step (body_of x a))))
 
+  abbrev pub branch_run : StmtTree → Configuration → Answer Reached
+  branch_run (tree.if_else e a b) x =
+      on_operand x (λ v y. branched (type_of e) v (then_on (body_of y a (state_of y)) (flows_on y)) (then_on (body_of y b (state_of y)) (flows_on y)))
+  branch_run a x = Undefined []
+
+  abbrev pub groups_run : GroupTrees → Configuration → Answer Reached
+  groups_run gs x = then_on (groups_done 0 (groups_runs (context p n x) (variables x) gs) (state_of x)) (flows_on x)
+
+  abbrev pub select_run : StmtTree → Configuration → Answer Reached
+  select_run (tree.switch e gs) x = on_operand x (λ v y. on_number v (λ w. groups_run (chosen_groups w gs) y))
+  select_run a x = Undefined []
+
+  abbrev pub turns_run : (turns : ℕ) → StmtTree → Configuration → Answer Reached
+  turns_run k (tree.loop d step a) x = then_on (loop_run k (context p n x) d step (body_of x a) (state_of x)) (flows_on x)
+  turns_run k (tree.do_while a e) x = then_on (do_run k (context p n x) e (body_of x a) (state_of x)) (flows_on x)
+  turns_run k a x = Undefined []
+
+  abbrev pub asked_run : (turns : ℕ) → StmtTree → Configuration → Answer Reached
+  asked_run k (tree.loop (some_expr e) step a) x =
+      on_operand x (λ v y. branched (type_of e) v (then_on (turn_run y k (some_expr e) step a (state_of y)) (flows_on y)) (reaches normal y))
+  asked_run k (tree.do_while a e) x =
+      on_operand x (λ v y. branched (type_of e) v (then_on (do_run k (context p n y) e (body_of y a) (state_of y)) (flows_on y)) (reaches normal y))
+  asked_run k a x = Undefined []
+
+  abbrev pub again_run : (turns : ℕ) → StmtTree → Flow → Configuration → Answer Reached
+  again_run k (tree.loop d step a) f x =
+      then_on (after_turn f (state_of x) (λ u. then_on (optional_step (context p n x) step u) (loop_run k (context p n x) d step (body_of x a)))) (flows_on x)
+  again_run k (tree.do_while a e) f x =
+      then_on
+      (after_turn f (state_of x) (λ t.
+      then_on (expr_run (context p n x) e t) (λ y. branched (type_of e) y.value (do_run k (context p n x) e (body_of x a) y.state) (goes_on y.state))))
+      (flows_on x)
+  again_run k a f x = Undefined []
+
   abbrev pub stmt_task_run : StmtTask → Configuration → Answer Reached
   stmt_task_run (run_stmt a) x = then_on (stmt_run (context p n x) (variables x) a (state_of x)) (flows_on x)
   stmt_task_run (run_items is) x = then_on (items_run (context p n x) (variables x) is (state_of x)) (flows_on x)
-  stmt_task_run (run_groups gs) x = then_on (groups_done 0 (groups_runs (context p n x) (variables x) gs) (state_of x)) (flows_on x)
-  stmt_task_run (branch t a b) x = on_operand x (λ v y. branched t v (then_on (body_of y a (state_of y)) (flows_on y)) (then_on (body_of y b (state_of y)) (flows_on y)))
-  stmt_task_run (select gs) x =
-      on_operand x (λ v y. on_number v (λ w. then_on (groups_done 0 (groups_runs (context p n y) (variables y) (chosen_groups w gs)) (state_of y)) (flows_on y)))
-  stmt_task_run (run_turns k d step a) x = then_on (loop_run k (context p n x) d step (body_of x a) (state_of x)) (flows_on x)
-  stmt_task_run (turn_if k t d step a) x =
-      on_operand x (λ v y. branched t v (then_on (turn_run y k d step a (state_of y)) (flows_on y)) (reaches normal y))
-  stmt_task_run (do_turns k a e) x = then_on (do_run k (context p n x) e (body_of x a) (state_of x)) (flows_on x)
-  stmt_task_run (do_if k t a e) x =
-      on_operand x (λ v y. branched t v (then_on (do_run k (context p n y) e (body_of y a) (state_of y)) (flows_on y)) (reaches normal y))
+  stmt_task_run (run_groups gs) x = groups_run gs x
+  stmt_task_run (branch a) x = branch_run a x
+  stmt_task_run (select a) x = select_run a x
+  stmt_task_run (run_turns k a) x = turns_run k a x
+  stmt_task_run (turn_if k a) x = asked_run k a x
   stmt_task_run (jump f) x = reaches f x
   stmt_task_run return_it x = on_operand x (λ v y. used v (λ w. reaches (returned (Some w)) y))
   stmt_task_run (enter k) x = on_defined (entered (variables x) k (slice_get (variables x) k) (state_of x)) (goes_on_at x)
@@ -112,13 +139,7 @@ module _ (p : ProgramTree) (n : ℕ) where
 
   abbrev pub handler_run : Handler → Flow → Configuration → Answer Reached
   handler_run end_switch f x = then_on (past (record { flow = f; state = state_of x })) (flows_on x)
-  handler_run (next_turn k d step a) f x =
-      then_on (after_turn f (state_of x) (λ u. then_on (optional_step (context p n x) step u) (loop_run k (context p n x) d step (body_of x a)))) (flows_on x)
-  handler_run (do_again k a e) f x =
-      then_on
-      (after_turn f (state_of x) (λ t.
-      then_on (expr_run (context p n x) e t) (λ y. branched (type_of e) y.value (do_run k (context p n x) e (body_of x a) y.state) (goes_on y.state))))
-      (flows_on x)
+  handler_run (again k a) f x = again_run k a f x
   handler_run (end_scope count) f x = then_on (out_of_scope count (record { flow = f; state = state_of x })) (flows_on x)
   handler_run end_call f x =
       then_on (ended (x.frame.function == p.main) x.frame.first (length (objects_of p.structs (variables x))) (record { flow = f; state = state_of x }))
@@ -148,14 +169,14 @@ abbrev pub stmt_tasks : (bound : ℕ) → StmtTree → List Task
 stmt_tasks n tree.null = []
 stmt_tasks n (tree.value e) = of_expr discard ∷ of_expr (evaluate e) ∷ []
 stmt_tasks n (tree.block is) = of_stmt (run_items is) ∷ []
-stmt_tasks n (tree.if_else e a b) = of_stmt (branch (type_of e) a b) ∷ of_expr (evaluate e) ∷ []
-stmt_tasks n (tree.loop d step a) = handler end_switch ∷ of_stmt (run_turns n d step a) ∷ []
-stmt_tasks n (tree.do_while a e) = handler end_switch ∷ of_stmt (do_turns n a e) ∷ []
+stmt_tasks n (tree.if_else e a b) = of_stmt (branch (tree.if_else e a b)) ∷ of_expr (evaluate e) ∷ []
+stmt_tasks n (tree.loop d step a) = handler end_switch ∷ of_stmt (run_turns n (tree.loop d step a)) ∷ []
+stmt_tasks n (tree.do_while a e) = handler end_switch ∷ of_stmt (run_turns n (tree.do_while a e)) ∷ []
 stmt_tasks n tree.break = of_stmt (jump broke) ∷ []
 stmt_tasks n tree.continue = of_stmt (jump continued) ∷ []
 stmt_tasks n (tree.return_value e) = of_stmt return_it ∷ of_expr (evaluate e) ∷ []
 stmt_tasks n tree.return_none = of_stmt (jump (returned None)) ∷ []
-stmt_tasks n (tree.switch e gs) = handler end_switch ∷ of_stmt (select gs) ∷ of_expr (evaluate e) ∷ []
+stmt_tasks n (tree.switch e gs) = handler end_switch ∷ of_stmt (select (tree.switch e gs)) ∷ of_expr (evaluate e) ∷ []
 
 abbrev pub value_tasks : InitialTree → List Task
 value_tasks (initial_value e) = of_stmt begin_slot ∷ of_expr (evaluate e) ∷ []
@@ -185,22 +206,20 @@ elements_tasks k no_elements = []
 elements_tasks k (value_then o e es) = of_stmt (begin_elements k es) ∷ of_stmt (begin_element k o (type_of e)) ∷ of_expr (evaluate e) ∷ []
 elements_tasks k (characters_then o cs es) = of_stmt (begin_elements k es) ∷ of_stmt (begin_characters k o cs) ∷ []
 
--- a turn of a loop, where one is left
-abbrev pub turn_tasks : (turns : ℕ) → (condition step : OptionalExpr) → StmtTree → Option (List Task)
-turn_tasks zero d step a = None
-turn_tasks (suc k) d step a = Some (handler (next_turn k d step a) ∷ of_stmt (run_stmt a) ∷ [])
+-- a turn of this loop, where one is left
+abbrev pub turn_tasks : (turns : ℕ) → (loop body : StmtTree) → Option (List Task)
+turn_tasks zero l a = None
+turn_tasks (suc k) l a = Some (handler (again k l) ∷ of_stmt (run_stmt a) ∷ [])
 
-abbrev pub turns_tasks : (turns : ℕ) → (condition step : OptionalExpr) → StmtTree → Option (List Task)
-turns_tasks k no_expr step a = turn_tasks k no_expr step a
-turns_tasks k (some_expr e) step a = Some (of_stmt (turn_if k (type_of e) (some_expr e) step a) ∷ of_expr (evaluate e) ∷ [])
-
-abbrev pub do_tasks : (turns : ℕ) → StmtTree → ExprTree → Option (List Task)
-do_tasks zero a e = None
-do_tasks (suc k) a e = Some (handler (do_again k a e) ∷ of_stmt (run_stmt a) ∷ [])
+-- the turns of a loop
+abbrev pub turns_tasks : (turns : ℕ) → StmtTree → Option (List Task)
+turns_tasks k (tree.loop no_expr step a) = turn_tasks k (tree.loop no_expr step a) a
+turns_tasks k (tree.loop (some_expr e) step a) = Some (of_stmt (turn_if k (tree.loop (some_expr e) step a)) ∷ of_expr (evaluate e) ∷ [])
+turns_tasks k (tree.do_while a e) = turn_tasks k (tree.do_while a e) a
+turns_tasks k a = None
 
 -- after a turn, where the loop goes on
-abbrev pub next_tasks : (turns : ℕ) → (condition step : OptionalExpr) → StmtTree → List Task
-next_tasks k d step a = of_stmt (run_turns k d step a) ∷ optional_tasks step
-
-abbrev pub again_tasks : (turns : ℕ) → StmtTree → ExprTree → List Task
-again_tasks k a e = of_stmt (do_if k (type_of e) a e) ∷ of_expr (evaluate e) ∷ []
+abbrev pub again_tasks : (turns : ℕ) → StmtTree → List Task
+again_tasks k (tree.loop d step a) = of_stmt (run_turns k (tree.loop d step a)) ∷ optional_tasks step
+again_tasks k (tree.do_while a e) = of_stmt (turn_if k (tree.do_while a e)) ∷ of_expr (evaluate e) ∷ []
+again_tasks k a = []

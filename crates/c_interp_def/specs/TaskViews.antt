@@ -1,7 +1,7 @@
 -- The tasks, slots and flows that those of the code stand for.
 use Rattle.std.specs.Prelude.{List, [], ◌∷◌, map}
-use Rattle.c_typed.specs.Typed.{exprs_of}
-use Rattle.c_typed.specs.StmtViews.{optional_of, elements_of, items_of, groups_of}
+use Rattle.c_typed.specs.Typed.{exprs_of, StmtTree}
+use Rattle.c_typed.specs.StmtViews.{elements_of, items_of, groups_of}
 use Rattle.c_mean.specs.State as state
 use Rattle.c_mean.specs.Statements as stmt
 use Rattle.c_interp_def.specs.ExprTasks as e
@@ -12,10 +12,12 @@ use Rattle.c_interp_def.specs.declared.task.Flow.{Flow}
 use Rattle.c_interp_def.specs.declared.task.Flow.TheVariants.{Normal, Broke, Continued, Returned}
 use Rattle.c_interp_def.specs.declared.task.ExprTask.{ExprTask}
 use Rattle.c_interp_def.specs.declared.task.ExprTask.TheVariants.{Evaluate, Locate, DropEach, PassEach, Give, LocalAt, GlobalAt, MemberAt, Discard, UseIt, Test, Unary, Binary, AndAlso, OrElse, Choose, LoadFrom, LoadAt, StoreAt, CompoundAt, StepAt, LoadSlot, StoreSlot, CompoundSlot, StepSlot, ReadByte, WriteByte, EndProgram, Call}
+use Rattle.c_interp_def.specs.declared.task.Stage.{Stage}
+use Rattle.c_interp_def.specs.declared.task.Stage.TheVariants.{Run, Branch, Select, RunTurns, TurnIf}
 use Rattle.c_interp_def.specs.declared.task.StmtTask.{StmtTask}
-use Rattle.c_interp_def.specs.declared.task.StmtTask.TheVariants.{RunStmt, RunItems, RunGroups, Branch, Select, RunTurns, TurnIf, DoTurns, DoIf, Jump, ReturnIt, Enter, BeginSlot, BeginObject, ClearObject, BeginElements, BeginElement, BeginCharacters}
+use Rattle.c_interp_def.specs.declared.task.StmtTask.TheVariants.{OnStmt, RunItems, RunGroups, Jump, ReturnIt, Enter, BeginSlot, BeginObject, ClearObject, BeginElements, BeginElement, BeginCharacters}
 use Rattle.c_interp_def.specs.declared.task.Handler.{Handler}
-use Rattle.c_interp_def.specs.declared.task.Handler.TheVariants.{EndSwitch, NextTurn, DoAgain, EndScope, EndCall}
+use Rattle.c_interp_def.specs.declared.task.Handler.TheVariants.{EndSwitch, Again, EndScope, EndCall}
 use Rattle.c_interp_def.specs.declared.task.Task.{Task}
 use Rattle.c_interp_def.specs.declared.task.Task.TheVariants as task
 
@@ -63,16 +65,17 @@ expr_task_of WriteByte = e.write_byte
 expr_task_of EndProgram = e.end_program
 expr_task_of (Call f n) = e.call f n
 
+abbrev pub on_stmt : Stage → StmtTree → s.StmtTask
+on_stmt Run a = s.run_stmt a
+on_stmt Branch a = s.branch a
+on_stmt Select a = s.select a
+on_stmt (RunTurns k) a = s.run_turns k a
+on_stmt (TurnIf k) a = s.turn_if k a
+
 abbrev pub stmt_task_of : StmtTask → s.StmtTask
-stmt_task_of (RunStmt a) = s.run_stmt a.now
+stmt_task_of (OnStmt stage a) = on_stmt stage a.now
 stmt_task_of (RunItems is) = s.run_items (items_of is.now)
 stmt_task_of (RunGroups gs) = s.run_groups (groups_of gs.now)
-stmt_task_of (Branch t a b) = s.branch t.now a.now b.now
-stmt_task_of (Select gs) = s.select (groups_of gs.now)
-stmt_task_of (RunTurns k d step a) = s.run_turns k (optional_of d.now) (optional_of step.now) a.now
-stmt_task_of (TurnIf k t d step a) = s.turn_if k t.now (optional_of d.now) (optional_of step.now) a.now
-stmt_task_of (DoTurns k a x) = s.do_turns k a.now x.now
-stmt_task_of (DoIf k t a x) = s.do_if k t.now a.now x.now
 stmt_task_of (Jump f) = s.jump (flow_of f)
 stmt_task_of ReturnIt = s.return_it
 stmt_task_of (Enter k) = s.enter k
@@ -85,8 +88,7 @@ stmt_task_of (BeginCharacters k o cs) = s.begin_characters k o cs.now
 
 abbrev pub handler_of : Handler → s.Handler
 handler_of EndSwitch = s.end_switch
-handler_of (NextTurn k d step a) = s.next_turn k (optional_of d.now) (optional_of step.now) a.now
-handler_of (DoAgain k a x) = s.do_again k a.now x.now
+handler_of (Again k a) = s.again k a.now
 handler_of (EndScope n) = s.end_scope n
 handler_of EndCall = s.end_call
 

@@ -1,7 +1,7 @@
 //! Laws of tasks, for the proofs of the crates above: each is the contract of a function that does
 //! nothing.
 
-ghost use Rattle.c_interp_def.specs.Laws.{TasksAppend, ExpressionExpands, PlaceExpands, DroppedExpand, PassedExpand, StatementExpands, ItemsExpand, GroupsExpand, ElementsExpand, TurnsExpand, DoTurnsExpand};
+ghost use Rattle.c_interp_def.specs.Laws.{TasksAppend, ExpressionExpands, PlaceExpands, DroppedExpand, PassedExpand, StatementExpands, ItemsExpand, GroupsExpand, ElementsExpand, TurnsExpand, AgainExpands};
 
 /// Tasks after others are done before them.
 pub fn tasks_append()
@@ -25,5 +25,5 @@ pub fn statements_expand()
     ensures groups { GroupsExpand }
     ensures elements { ElementsExpand }
     ensures turns { TurnsExpand }
-    ensures do_turns { DoTurnsExpand }
+    ensures again { AgainExpands }
 {}

@@ -6,4 +6,4 @@
 pub mod laws;
 mod task;
 
-pub use task::{ExprTask, Flow, Handler, Slot, StmtTask, Task};
+pub use task::{ExprTask, Flow, Handler, Slot, Stage, StmtTask, Task};

@@ -47,19 +47,26 @@ pub enum ExprTask<'a> {
     Call(u32, usize),
 }
 
-/// What is left to do of a statement where no jump is on its way. Turns are those that a loop may
-/// still take.
+/// What a statement has come to. Turns are those that a loop may still take.
+#[derive(Clone, Copy)]
+pub enum Stage {
+    /// It begins.
+    Run,
+    /// An `if` whose condition is the newest operand.
+    Branch,
+    /// A `switch` whose operand is the newest one.
+    Select,
+    RunTurns(u64),
+    /// A loop whose condition is the newest operand.
+    TurnIf(u64),
+}
+
+/// What is left to do of a statement where no jump is on its way.
 #[derive(Clone, Copy)]
 pub enum StmtTask<'a> {
-    RunStmt(&'a TStmt),
+    OnStmt(Stage, &'a TStmt),
     RunItems(&'a [Item]),
     RunGroups(&'a [Group]),
-    Branch(&'a CType, &'a TStmt, &'a TStmt),
-    Select(&'a [Group]),
-    RunTurns(u64, &'a Option<TExpr>, &'a Option<TExpr>, &'a TStmt),
-    TurnIf(u64, &'a CType, &'a Option<TExpr>, &'a Option<TExpr>, &'a TStmt),
-    DoTurns(u64, &'a TStmt, &'a TExpr),
-    DoIf(u64, &'a CType, &'a TStmt, &'a TExpr),
     Jump(Flow),
     ReturnIt,
     Enter(u32),
@@ -76,8 +83,8 @@ pub enum StmtTask<'a> {
 pub enum Handler<'a> {
     /// The end of a loop or a `switch`.
     EndSwitch,
-    NextTurn(u64, &'a Option<TExpr>, &'a Option<TExpr>, &'a TStmt),
-    DoAgain(u64, &'a TStmt, &'a TExpr),
+    /// A turn of this loop has ended, and so many are left.
+    Again(u64, &'a TStmt),
     /// The end of a scope, outside which so many variables are in scope.
     EndScope(usize),
     EndCall,
