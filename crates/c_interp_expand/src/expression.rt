@@ -1,5 +1,7 @@
 //! Expressions and places (ISO/IEC 9899:2011, 6.5).
 
+#![tactic(auto, using(crate::proofs::Pushed::pushed_none))]
+
 ghost use Rattle.std.specs.Prelude.{◌≡◌, ◌++◌, OnOk, slice_get};
 ghost use Rattle.c_typed.specs.Typed.{exprs_of};
 ghost use Rattle.c_interp_def.specs.TaskViews.{tasks_of, slots_of};

@@ -8,6 +8,7 @@ use c_interp_def::{ExprTask, Task};
 use no_memory::NoMemory;
 
 /// One more task.
+#[tactic(auto, using(crate::proofs::Pushed::pushed))]
 pub(crate) fn add<'a>(tasks: &mut Vec<Task<'a>>, task: Task<'a>) -> Result<(), NoMemory>
     ensures { OnOk result
         (tasks_of tasks.new.items ≡ tasks_of tasks.old.items ++ task_of task.entry ∷ []) }
@@ -17,6 +18,7 @@ pub(crate) fn add<'a>(tasks: &mut Vec<Task<'a>>, task: Task<'a>) -> Result<(), N
 }
 
 /// Two more tasks.
+#[tactic(auto, using(crate::proofs::Pushed::pushed_more))]
 pub(crate) fn add2<'a>(tasks: &mut Vec<Task<'a>>, a: Task<'a>, b: Task<'a>) -> Result<(), NoMemory>
     ensures { OnOk result
         (tasks_of tasks.new.items ≡ tasks_of tasks.old.items ++ (task_of a.entry ∷ task_of b.entry ∷ [])) }
@@ -26,6 +28,7 @@ pub(crate) fn add2<'a>(tasks: &mut Vec<Task<'a>>, a: Task<'a>, b: Task<'a>) -> R
 }
 
 /// Three more tasks.
+#[tactic(auto, using(crate::proofs::Pushed::pushed_more))]
 pub(crate) fn add3<'a>(
     tasks: &mut Vec<Task<'a>>,
     a: Task<'a>,
@@ -75,6 +78,7 @@ pub(crate) fn push3<'a>(
 }
 
 /// Four more tasks of an expression.
+#[tactic(auto, using(crate::proofs::Pushed::pushed_more))]
 pub(crate) fn push4<'a>(
     tasks: &mut Vec<Task<'a>>,
     a: ExprTask<'a>,

@@ -1,5 +1,7 @@
 //! Statements, declarations and initialisers (ISO/IEC 9899:2011, 6.8, 6.7.9).
 
+#![tactic(auto, using(crate::proofs::Pushed::pushed_none))]
+
 ghost use Rattle.std.specs.Prelude.{◌≡◌, ℕ, ◌<◌, ◌++◌, OnOk, IfOk, Some, length, slice_get};
 ghost use Rattle.c_typed.specs.Typed.{some_expr};
 ghost use Rattle.c_typed.specs.Objects.{object_number};
@@ -190,17 +192,14 @@ pub fn begin_elements<'a>(
 
 /// The tasks of a loop of which at most so many turns are left. `false` where no turn is left and
 /// no condition is to be asked: the run is cut.
-pub fn run_turns<'a>(
-    turns: u64,
-    a: &'a TStmt,
-    tasks: &mut Vec<Task<'a>>,
-) -> Result<bool, NoMemory>
+pub fn run_turns<'a>(turns: u64, a: &'a TStmt, tasks: &mut Vec<Task<'a>>) -> Result<bool, NoMemory>
     ensures { IfOk result
         (IsTurn (turns_tasks turns a.now) (tasks_of tasks.old.items) (tasks_of tasks.new.items)) }
 {
     match &a.form {
         StmtForm::Loop {
-            condition: Some(e), ..
+            condition: Some(e),
+            ..
         } => {
             add2(
                 tasks,
