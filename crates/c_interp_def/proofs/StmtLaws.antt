@@ -111,13 +111,13 @@ module _ (p : ProgramTree) (n : ℕ) where
 
   -- ---- items
 
-  items-skipped : (x : Configuration) (is : ItemTrees) (f : Flow) (s : State) → then_on (if_normal f s (items_run (ctx x) (vars x) is)) (flows_on x) ≡ unless_jump (stmt_task_run p n (run_items is)) f (with_state x s)
+  items-skipped : (x : Configuration) (is : ItemTrees) (f : Flow) (s : State) → then_on (if_normal f s (items_run (ctx x) (vars x) is)) (flows_on x) ≡ unless_jump p n (stmt_task_run p n (run_items is)) f (with_state x s)
   items-skipped x is normal s = refl
   items-skipped x is broke s = refl
   items-skipped x is continued s = refl
   items-skipped x is (returned v) s = refl
 
-  groups-skipped : (x : Configuration) (gs : GroupTrees) (f : Flow) (s : State) → then_on (if_normal f s (groups_done 0 (groups_runs (ctx x) (vars x) gs))) (flows_on x) ≡ unless_jump (stmt_task_run p n (run_groups gs)) f (with_state x s)
+  groups-skipped : (x : Configuration) (gs : GroupTrees) (f : Flow) (s : State) → then_on (if_normal f s (groups_done 0 (groups_runs (ctx x) (vars x) gs))) (flows_on x) ≡ unless_jump p n (stmt_task_run p n (run_groups gs)) f (with_state x s)
   groups-skipped x gs normal s = refl
   groups-skipped x gs broke s = refl
   groups-skipped x gs continued s = refl

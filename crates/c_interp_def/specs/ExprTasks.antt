@@ -40,7 +40,7 @@ pub data ExprTask : Type 0 where
   binary : BinaryOp → (left right : TypeTree) → ExprTask
   and_also : TypeTree → (right : ExprTree) → ExprTask
   or_else : TypeTree → (right : ExprTree) → ExprTask
-  choose : TypeTree → (then otherwise : ExprTree) → ExprTask
+  choose : TypeTree → (chosen otherwise : ExprTree) → ExprTask
   -- the object at an address is read, and the address dropped or kept; it is written
   load_from : TypeTree → ExprTask
   load_at : TypeTree → ExprTask

@@ -3,3 +3,4 @@ pub mod ExprTasks
 pub mod StmtTasks
 pub mod TaskViews
 pub mod Laws
+pub mod CallLaws

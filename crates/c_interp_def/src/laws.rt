@@ -2,6 +2,7 @@
 //! nothing.
 
 ghost use Rattle.c_interp_def.specs.Laws.{TasksAppend, ExpressionExpands, PlaceExpands, DroppedExpand, PassedExpand, StatementExpands, ItemsExpand, GroupsExpand, ElementsExpand, TurnsExpand, AgainExpands};
+ghost use Rattle.c_interp_def.specs.CallLaws.{CallIsCut, CallEnters, RunIsTasks};
 
 /// Tasks after others are done before them.
 pub fn tasks_append()
@@ -26,4 +27,16 @@ pub fn statements_expand()
     ensures elements { ElementsExpand }
     ensures turns { TurnsExpand }
     ensures again { AgainExpands }
+{}
+
+/// A call is cut where no more calls may nest; else what follows on it is heard as what follows on
+/// the tasks of its function.
+pub fn calls_enter()
+    ensures cut { CallIsCut }
+    ensures enters { CallEnters }
+{}
+
+/// The run of a program is heard as the tasks of its `main`.
+pub fn run_is_tasks()
+    ensures { RunIsTasks }
 {}
