@@ -77,18 +77,18 @@ abbrev undefined_in : (A : Type 0) → List Event → Answer A
 undefined_in A o = Undefined o
 
 -- what ended is heard as it is, with the same events
-cut-same : {A B : Type 0} (i : List ℕ) (o e q : List Event) → SameEvents e q → heard_as i (before o (cut_in A e)) ≡ heard_as i (before o (cut_in B q))
-cut-same {A} {B} i o e q h =
+cut-same : (A B : Type 0) (i : List ℕ) (o e q : List Event) → SameEvents e q → heard_as i (before o (cut_in A e)) ≡ heard_as i (before o (cut_in B q))
+cut-same A B i o e q h =
     let k = after-events o e q h in
     ap (heard_as i) (before-is o (cut_in A e)) ∙ ap₂ (heard_with i cut) k.written k.bytes ∙ sym (ap (heard_as i) (before-is o (cut_in B q)))
 
-exit-same : {A B : Type 0} (i : List ℕ) (o e q : List Event) (s : ℕ) → SameEvents e q → heard_as i (before o (exit_in A e s)) ≡ heard_as i (before o (exit_in B q s))
-exit-same {A} {B} i o e q s h =
+exit-same : (A B : Type 0) (i : List ℕ) (o e q : List Event) (s : ℕ) → SameEvents e q → heard_as i (before o (exit_in A e s)) ≡ heard_as i (before o (exit_in B q s))
+exit-same A B i o e q s h =
     let k = after-events o e q h in
     ap (heard_as i) (before-is o (exit_in A e s)) ∙ ap₂ (heard_with i (exit s)) k.written k.bytes ∙ sym (ap (heard_as i) (before-is o (exit_in B q s)))
 
-undefined-same : {A B : Type 0} (i : List ℕ) (o e q : List Event) → SameEvents e q → heard_as i (before o (undefined_in A e)) ≡ heard_as i (before o (undefined_in B q))
-undefined-same {A} {B} i o e q h =
+undefined-same : (A B : Type 0) (i : List ℕ) (o e q : List Event) → SameEvents e q → heard_as i (before o (undefined_in A e)) ≡ heard_as i (before o (undefined_in B q))
+undefined-same A B i o e q h =
     let k = after-events o e q h in
     ap (heard_as i) (before-is o (undefined_in A e)) ∙ ap₂ (heard_with i undefined) k.written k.bytes ∙ sym (ap (heard_as i) (before-is o (undefined_in B q)))
 
@@ -100,16 +100,16 @@ active-then : {A B : Type 0} (f : ℕ) (a : Answer A) (next : A → Answer B) �
 active-then {A} {B} f (Returned x e) next i o =
     ap (heard_as i) (before_twice o (called f e) (next x)) ∙ same-before i (o ++ called f e) (o ++ e) (next x) (after-events o (called f e) e (called-events f e))
     ∙ sym (ap (heard_as i) (before_twice o e (next x)))
-active-then {A} {B} f (Cut e) next i o = cut-same {A = B} {B = B} i o (called f e) e (called-events f e)
-active-then {A} {B} f (Exited e s) next i o = exit-same {A = B} {B = B} i o (called f e) e s (called-events f e)
-active-then {A} {B} f (Undefined e) next i o = undefined-same {A = B} {B = B} i o (called f e) e (called-events f e)
+active-then {A} {B} f (Cut e) next i o = cut-same B B i o (called f e) e (called-events f e)
+active-then {A} {B} f (Exited e s) next i o = exit-same B B i o (called f e) e s (called-events f e)
+active-then {A} {B} f (Undefined e) next i o = undefined-same B B i o (called f e) e (called-events f e)
 
 -- what follows is heard as what is heard of it at each result
 then-heard : {A B C : Type 0} (a : Answer A) (f : A → Answer B) (g : A → Answer C) → ((x : A) → IsHeardAs (f x) (g x)) → IsHeardAs (then_on a f) (then_on a g)
 then-heard {A} {B} {C} (Returned x e) f g h i o = ap (heard_as i) (before_twice o e (f x)) ∙ h x i (o ++ e) ∙ sym (ap (heard_as i) (before_twice o e (g x)))
-then-heard {A} {B} {C} (Cut e) f g h i o = cut-same {A = B} {B = C} i o e e (same-itself e)
-then-heard {A} {B} {C} (Exited e s) f g h i o = exit-same {A = B} {B = C} i o e e s (same-itself e)
-then-heard {A} {B} {C} (Undefined e) f g h i o = undefined-same {A = B} {B = C} i o e e (same-itself e)
+then-heard {A} {B} {C} (Cut e) f g h i o = cut-same B C i o e e (same-itself e)
+then-heard {A} {B} {C} (Exited e s) f g h i o = exit-same B C i o e e s (same-itself e)
+then-heard {A} {B} {C} (Undefined e) f g h i o = undefined-same B C i o e e (same-itself e)
 
 -- ---- calls
 
@@ -166,10 +166,10 @@ call-enters p n f count k x rest e = call-law p n f count k x rest e
 -- ---- the run
 
 last-value : (v : Option Value) → IsHeardAs {A = Given (Option Value)} {B = Reached} (on_defined v (λ u. on_number u (λ w. Exited [] (w % 256)))) (on_number (value_or_none v) (λ w. Exited [] (w % 256)))
-last-value None i o = undefined-same {A = Given (Option Value)} {B = Reached} i o [] [] (same-itself [])
-last-value (Some (Num w)) i o = exit-same {A = Given (Option Value)} {B = Reached} i o [] [] (w % 256) (same-itself [])
-last-value (Some (At b q)) i o = undefined-same {A = Given (Option Value)} {B = Reached} i o [] [] (same-itself [])
-last-value (Some Bad) i o = undefined-same {A = Given (Option Value)} {B = Reached} i o [] [] (same-itself [])
+last-value None i o = undefined-same (Given (Option Value)) Reached i o [] [] (same-itself [])
+last-value (Some (Num w)) i o = exit-same (Given (Option Value)) Reached i o [] [] (w % 256) (same-itself [])
+last-value (Some (At b q)) i o = undefined-same (Given (Option Value)) Reached i o [] [] (same-itself [])
+last-value (Some Bad) i o = undefined-same (Given (Option Value)) Reached i o [] [] (same-itself [])
 
 pub run-is-tasks : RunIsTasks
 run-is-tasks p n input i o =
