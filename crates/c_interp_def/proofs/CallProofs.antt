@@ -1,5 +1,5 @@
 -- What is heard of a call is what is heard of its tasks.
-use Rattle.std.proofs.Common.{◌≡◌, ℕ, zero, suc, ◌+◌, ◌%◌, ◌==◌, List, [], ◌∷◌, ◌++◌, drop, length, slice_get, Option, None, Some, refl, sym, ap, ap₂, ◌∙◌, arith}
+use Rattle.std.proofs.Common.{◌≡◌, ℕ, suc, ◌+◌, ◌%◌, ◌==◌, List, [], ◌∷◌, ◌++◌, drop, length, slice_get, Option, None, Some, refl, sym, ap, ap₂, ◌∙◌, arith}
 use Rattle.val_core.specs.declared.values.Value.{Value}
 use Rattle.val_core.specs.declared.values.Value.TheVariants.{Num, At, Bad}
 use Rattle.val_core.specs.Memory.{Memory}
@@ -133,7 +133,7 @@ module _ (p : ProgramTree) (n f count k : ℕ) (x : Configuration) where
       (λ q. then_on (ended (f == p.main) (length x.memory) (length (objects_of p.structs vs)) q) back)
 
   body-law : (o : Option FunctionTree) → slice_get p.functions f ≡ o →
-    then_on (function_run p n (nested p (global_address p) n k) (global_address p) (f == p.main) o given x.memory x.input) back ≡ call_entered p n x f count k o
+      then_on (function_run p n (nested p (global_address p) n k) (global_address p) (f == p.main) o given x.memory x.input) back ≡ call_entered p n x f count k o
   body-law None e = refl
   body-law (Some fn) e =
       let stored : Option Memory = call_memory p x count fn in
@@ -143,11 +143,11 @@ module _ (p : ProgramTree) (n f count k : ℕ) (x : Configuration) where
       let tasks : Memory → Answer Reached = λ m. tasks_run p n (call_tasks fn) (normally (in_call x f count k fn m)) in
       defined-then stored (λ m. then_on (began m) ends) back
       ∙ defined-on stored (λ m. then_on (then_on (began m) ends) back) tasks
-        (λ m.
-        let y : Configuration = in_call x f count k fn m in
-        then_associates (began m) ends back
-        ∙ sym (ap (λ vs. run_with fn vs m) (ap variables_in e))
-        ∙ sym (then_associates (items_run (context_of p n y.frame) (variables_of p f) fn.body (state_of y)) (flows_on y) (task_run p n (handler end_call))))
+      (λ m.
+      let y : Configuration = in_call x f count k fn m in
+      then_associates (began m) ends back
+      ∙ sym (ap (λ vs. run_with fn vs m) (ap variables_in e))
+      ∙ sym (then_associates (items_run (context_of p n y.frame) (variables_of p f) fn.body (state_of y)) (flows_on y) (task_run p n (handler end_call))))
 
   call-law : (rest : Reached → Answer Reached) → x.frame.depth ≡ suc k → IsHeardAs (then_on (expr_task_run p n (call f count) x) rest) (then_on (call_entered p n x f count k (slice_get p.functions f)) rest)
   call-law rest e i o =

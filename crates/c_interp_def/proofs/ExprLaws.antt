@@ -4,9 +4,7 @@ use Rattle.std.proofs.lemmas.List.{reverse-append, reverse-reverse, length-rever
 use Rattle.std.proofs.Math.Seq.{take-append_seam, drop-append_seam}
 use Rattle.val_core.specs.declared.values.Value.{Value}
 use Rattle.val_core.specs.declared.values.Value.TheVariants.{Num, At, Bad}
-use Rattle.val_core.specs.Events.{Event}
-use Rattle.val_core.specs.Answers.{Answer, Returned, Cut, Exited, Undefined, Gives, then_on, on_number, on_defined}
-use Rattle.val_core.specs.Within.{Given}
+use Rattle.val_core.specs.Answers.{Answer, Returned, Cut, Exited, Undefined, Gives, then_on, on_defined}
 use Rattle.val_core.proofs.lemmas.Answers.{then_associates, then_on_given, gives-then}
 use Rattle.c_type.specs.Trees.{TypeTree}
 use Rattle.c_typed.specs.declared.operator.UnaryOp.{UnaryOp}
@@ -18,12 +16,12 @@ use Rattle.c_typed.specs.Typed as tree
 use Rattle.c_typed.specs.Typed.{ExprTree, expr, ExprTrees, no_exprs, expr_then, PlaceTree, place, PlaceFormTree, FormTree, ProgramTree}
 use Rattle.c_typed.specs.WellTyped.{type_of}
 use Rattle.c_mean.specs.State.{State, Valued, used, member_address}
-use Rattle.c_mean.specs.Expressions.{Context, Spot, found, slot_spot, in_slot, at_address, Located, Arguments, spot_read, spot_written, address_of, member_spot, given_word, unary_done, binary_done, back_from, branched, expr_run, form_run, dropped_run, arguments_run, place_run}
+use Rattle.c_mean.specs.Expressions.{Context, Spot, found, slot_spot, in_slot, at_address, Located, Arguments, spot_read, spot_written, address_of, member_spot, given_word, unary_done, binary_done, back_from, branched, expr_run, dropped_run, arguments_run, place_run}
 use Rattle.c_interp_def.specs.Configurations.{Configuration, Reached, state_of, with_operands, with_value, with_state, gives_value, goes_on_at, context_of}
-use Rattle.c_interp_def.specs.ExprTasks.{ExprTask, evaluate, locate, drop_each, pass_each, store_slot, store_at, compound_at, compound_slot, step_at, step_slot, and_also, or_else, choose, unary, binary, call, write_byte, end_program, load_from, load_at, load_slot, use_it, member_at, discard, address_run, compound_written, step_written, newest, expr_task_run, value_slot, read_tasks, assign_tasks, compound_tasks, step_tasks, unary_tasks, count_of, form_tasks, place_tasks}
-use Rattle.c_interp_def.specs.StmtTasks.{Task, of_expr, task_run, tasks_run}
+use Rattle.c_interp_def.specs.ExprTasks.{ExprTask, evaluate, drop_each, pass_each, store_slot, store_at, compound_at, compound_slot, step_at, step_slot, and_also, or_else, choose, unary, binary, call, write_byte, end_program, load_from, load_at, use_it, member_at, discard, address_run, compound_written, step_written, newest, expr_task_run, value_slot, read_tasks, assign_tasks, compound_tasks, step_tasks, unary_tasks, count_of}
+use Rattle.c_interp_def.specs.StmtTasks.{of_expr, task_run, tasks_run}
 use Rattle.c_interp_def.specs.Laws.{normally, of_exprs, ExpressionExpands, PlaceExpands, DroppedExpand, PassedExpand}
-use Rattle.c_interp_def.proofs.Steps.{on, both, two, three, used-then, used-on, number-then, defined-then, branched-then, branched-on}
+use Rattle.c_interp_def.proofs.Steps.{on, both, two, three, used-then, branched-then}
 use Rattle.c_interp_def.proofs.PlaceLaws.{in-slot, at-address, at_value}
 
 module _ (p : ProgramTree) (n : ℕ) where
@@ -55,16 +53,16 @@ module _ (p : ProgramTree) (n : ℕ) where
   assign-law x t q e (Some k) h =
       ap (λ a. then_on (then_on a (assigned x t e)) (gives_value x)) (in-slot (ctx x) q k (state_of x) h)
       ∙ both (ran x e (state_of x)) (λ y. used y.value (λ v. spot_written t (in_slot k) v y.state)) (gives_value x) (gives_value x) (done (store_slot k t))
-        (λ y. used-then y.value (λ v. spot_written t (in_slot k) v y.state) (gives_value x))
+      (λ y. used-then y.value (λ v. spot_written t (in_slot k) v y.state) (gives_value x))
   assign-law x t q e None h =
       ap (λ a. then_on a (gives_value x)) (at-address (ctx x) q (state_of x) (assigned x t e) h)
       ∙ then_associates (address_run (ctx x) q (state_of x)) (λ r. at_value (assigned x t e) r.value r.state) (gives_value x)
       ∙ on (address_run (ctx x) q (state_of x))
-        (λ r. then_on (at_value (assigned x t e) r.value r.state) (gives_value x))
-        (λ r. then_on (then_on (gives_value x r) (done (evaluate e))) (done (store_at t)))
-        (λ r.
-        both (ran x e r.state) (λ y. used y.value (λ v. spot_written t (at_address r.value) v y.state)) (gives_value x) (gives_value (with_value x r)) (done (store_at t))
-        (λ y. used-then y.value (λ v. spot_written t (at_address r.value) v y.state) (gives_value x)))
+      (λ r. then_on (at_value (assigned x t e) r.value r.state) (gives_value x))
+      (λ r. then_on (then_on (gives_value x r) (done (evaluate e))) (done (store_at t)))
+      (λ r.
+      both (ran x e r.state) (λ y. used y.value (λ v. spot_written t (at_address r.value) v y.state)) (gives_value x) (gives_value (with_value x r)) (done (store_at t))
+      (λ y. used-then y.value (λ v. spot_written t (at_address r.value) v y.state) (gives_value x)))
       ∙ sym (two (address_run (ctx x) q (state_of x)) (gives_value x) (done (evaluate e)) (done (store_at t)))
 
   abbrev compounded : Configuration → CompoundOp → TypeTree → ExprTree → Located → Answer Valued
@@ -77,8 +75,8 @@ module _ (p : ProgramTree) (n : ℕ) where
       ap (λ a. then_on (then_on a (compounded x o t e)) (gives_value x)) (in-slot (ctx x) q k (state_of x) h)
       ∙ then_associates read next (gives_value x)
       ∙ on read (λ old. then_on (next old) (gives_value x)) (λ old. then_on (then_on (gives_value x old) (done (evaluate e))) (done (compound_slot k o t (type_of e))))
-        (λ old.
-        both (ran x e old.state) (λ y. compound_written o t (type_of e) (in_slot k) old.value y.value y.state) (gives_value x) (gives_value (with_value x old)) (done (compound_slot k o t (type_of e))) (λ y. refl))
+      (λ old.
+      both (ran x e old.state) (λ y. compound_written o t (type_of e) (in_slot k) old.value y.value y.state) (gives_value x) (gives_value (with_value x old)) (done (compound_slot k o t (type_of e))) (λ y. refl))
       ∙ sym (two read (gives_value x) (done (evaluate e)) (done (compound_slot k o t (type_of e))))
   compound-law x o t q e None h =
       let place_at : Answer Valued = address_run (ctx x) q (state_of x) in
@@ -87,16 +85,16 @@ module _ (p : ProgramTree) (n : ℕ) where
       ap (λ a. then_on a (gives_value x)) (at-address (ctx x) q (state_of x) (compounded x o t e) h)
       ∙ then_associates place_at (λ r. then_on (spot_read t (at_address r.value) r.state) (next r)) (gives_value x)
       ∙ on place_at
-        (λ r. then_on (then_on (spot_read t (at_address r.value) r.state) (next r)) (gives_value x))
-        (λ r. then_on (then_on (then_on (gives_value x r) (done (load_at t))) (done (evaluate e))) last)
-        (λ r.
-        then_associates (spot_read t (at_address r.value) r.state) (next r) (gives_value x)
-        ∙ on (spot_read t (at_address r.value) r.state)
-          (λ old. then_on (next r old) (gives_value x))
-          (λ old. then_on (then_on (gives_value (with_value x r) old) (done (evaluate e))) last)
-          (λ old.
-          both (ran x e old.state) (λ y. compound_written o t (type_of e) (at_address r.value) old.value y.value y.state) (gives_value x) (gives_value (with_value (with_value x r) old)) last (λ y. refl))
-        ∙ sym (two (spot_read t (at_address r.value) r.state) (gives_value (with_value x r)) (done (evaluate e)) last))
+      (λ r. then_on (then_on (spot_read t (at_address r.value) r.state) (next r)) (gives_value x))
+      (λ r. then_on (then_on (then_on (gives_value x r) (done (load_at t))) (done (evaluate e))) last)
+      (λ r.
+      then_associates (spot_read t (at_address r.value) r.state) (next r) (gives_value x)
+      ∙ on (spot_read t (at_address r.value) r.state)
+      (λ old. then_on (next r old) (gives_value x))
+      (λ old. then_on (then_on (gives_value (with_value x r) old) (done (evaluate e))) last)
+      (λ old.
+      both (ran x e old.state) (λ y. compound_written o t (type_of e) (at_address r.value) old.value y.value y.state) (gives_value x) (gives_value (with_value (with_value x r) old)) last (λ y. refl))
+      ∙ sym (two (spot_read t (at_address r.value) r.state) (gives_value (with_value x r)) (done (evaluate e)) last))
       ∙ sym (three place_at (gives_value x) (done (load_at t)) (done (evaluate e)) last)
 
   abbrev incremented : IncDec → TypeTree → Located → Answer Valued
@@ -111,10 +109,10 @@ module _ (p : ProgramTree) (n : ℕ) where
       ap (λ a. then_on a (gives_value x)) (at-address (ctx x) q (state_of x) (incremented i t) h)
       ∙ then_associates place_at (λ r. at_value (incremented i t) r.value r.state) (gives_value x)
       ∙ on place_at
-        (λ r. then_on (at_value (incremented i t) r.value r.state) (gives_value x))
-        (λ r. then_on (then_on (gives_value x r) (done (load_at t))) (done (step_at i t)))
-        (λ r.
-        both (spot_read t (at_address r.value) r.state) (λ old. step_written i t (at_address r.value) old.value old.state) (gives_value x) (gives_value (with_value x r)) (done (step_at i t)) (λ old. refl))
+      (λ r. then_on (at_value (incremented i t) r.value r.state) (gives_value x))
+      (λ r. then_on (then_on (gives_value x r) (done (load_at t))) (done (step_at i t)))
+      (λ r.
+      both (spot_read t (at_address r.value) r.state) (λ old. step_written i t (at_address r.value) old.value old.state) (gives_value x) (gives_value (with_value x r)) (done (step_at i t)) (λ old. refl))
       ∙ sym (two place_at (gives_value x) (done (load_at t)) (done (step_at i t)))
 
   -- ---- operators
@@ -205,14 +203,14 @@ module _ (p : ProgramTree) (n : ℕ) where
       let called_on : Arguments → Answer Valued = λ r. then_on ((ctx x).calls f r.values r.state.memory r.state.input) (back_from r.state) in
       let passed : Arguments → Configuration = λ r. with_state (with_operands x (reverse r.values ++ x.operands)) r.state in
       let last : Arguments → List Value → List Value → Answer Reached =
-            λ r vs os. then_on ((ctx x).calls f vs r.state.memory r.state.input) (λ g. then_on (back_from r.state g) (gives_value (with_operands (passed r) os))) in
+      λ r vs os. then_on ((ctx x).calls f vs r.state.memory r.state.input) (λ g. then_on (back_from r.state g) (gives_value (with_operands (passed r) os))) in
       then_associates args called_on (gives_value x)
       ∙ then_on_given args (λ r. then_on (called_on r) (gives_value x)) (λ r. last r (newest (count_of es) (reverse r.values ++ x.operands)) (drop (count_of es) (reverse r.values ++ x.operands)))
-        (λ r o e.
-        let len : length r.values ≡ count_of es = subst (λ a. Gives (counts (count_of es)) a) e (counted (ctx x) es (state_of x)) in
-        then_associates ((ctx x).calls f r.values r.state.memory r.state.input) (back_from r.state) (gives_value x)
-        ∙ ap (λ vs. last r vs x.operands) (sym (taken-back (count_of es) r.values x.operands len))
-        ∙ ap (λ os. last r (newest (count_of es) (reverse r.values ++ x.operands)) os) (sym (left-over (count_of es) r.values x.operands len)))
+      (λ r o e.
+      let len : length r.values ≡ count_of es = subst (λ a. Gives (counts (count_of es)) a) e (counted (ctx x) es (state_of x)) in
+      then_associates ((ctx x).calls f r.values r.state.memory r.state.input) (back_from r.state) (gives_value x)
+      ∙ ap (λ vs. last r vs x.operands) (sym (taken-back (count_of es) r.values x.operands len))
+      ∙ ap (λ os. last r (newest (count_of es) (reverse r.values ++ x.operands)) os) (sym (left-over (count_of es) r.values x.operands len)))
       ∙ sym (then_associates args (λ r. goes_on_at (with_operands x (reverse r.values ++ x.operands)) r.state) (done (call f (count_of es))))
 
   -- ---- the laws
@@ -223,7 +221,7 @@ module _ (p : ProgramTree) (n : ℕ) where
       let right : Valued → Answer Valued = λ r. then_on (ran x b r.state) (λ y. binary_done o (type_of a) (type_of b) r.value y.value y.state) in
       then_associates (ran x a (state_of x)) right (gives_value x)
       ∙ on (ran x a (state_of x)) (λ r. then_on (right r) (gives_value x)) (λ r. then_on (then_on (gives_value x r) (done (evaluate b))) last)
-        (λ r. both (ran x b r.state) (λ y. binary_done o (type_of a) (type_of b) r.value y.value y.state) (gives_value x) (gives_value (with_value x r)) last (λ y. refl))
+      (λ r. both (ran x b r.state) (λ y. binary_done o (type_of a) (type_of b) r.value y.value y.state) (gives_value x) (gives_value (with_value x r)) last (λ y. refl))
       ∙ sym (two (ran x a (state_of x)) (gives_value x) (done (evaluate b)) last)
 
   comma-law : (x : Configuration) (t : TypeTree) (es : ExprTrees) (e : ExprTree) → expr_task_run p n (evaluate (expr t (tree.comma es e))) x ≡ all_done (evaluate e ∷ drop_each es ∷ []) x
@@ -293,9 +291,9 @@ pass-value p n es x v s =
     let run : Answer Arguments = arguments_run (context_of p n x.frame) es s in
     then_associates run (with_first p n v) (all-passed p n x)
     ∙ on run
-      (λ q. goes_on_at (with_operands x (reverse (v ∷ q.values) ++ x.operands)) q.state)
-      (λ q. goes_on_at (with_operands x (reverse q.values ++ (v ∷ x.operands))) q.state)
-      (λ q. ap (λ l. goes_on_at (with_operands x l) q.state) (pushed-once v q.values x.operands))
+    (λ q. goes_on_at (with_operands x (reverse (v ∷ q.values) ++ x.operands)) q.state)
+    (λ q. goes_on_at (with_operands x (reverse q.values ++ (v ∷ x.operands))) q.state)
+    (λ q. ap (λ l. goes_on_at (with_operands x l) q.state) (pushed-once v q.values x.operands))
 
 pass-used : (p : ProgramTree) (n : ℕ) (es : ExprTrees) (x : Configuration) (v : Value) (s : State) → then_on (passed_after p n (context_of p n x.frame) es v s) (all-passed p n x) ≡ then_on (task_run p n (of_expr use_it) (normally (with_value x (record { value = v; state = s })))) (task_run p n (of_expr (pass_each es)))
 pass-used p n es x (Num w) s = pass-value p n es x (Num w) s

@@ -1,8 +1,8 @@
 -- A place is a value variable, or what follows on it follows on its address.
-use Rattle.std.proofs.Common.{◌≡◌, ℕ, List, slice_get, Option, None, Some, refl, sym, ap, ◌∙◌}
+use Rattle.std.proofs.Common.{◌≡◌, ℕ, Option, None, Some, refl, sym, ap, ◌∙◌}
 use Rattle.val_core.specs.declared.values.Value.{Value}
 use Rattle.val_core.specs.declared.values.Value.TheVariants.{Num, At, Bad}
-use Rattle.val_core.specs.Answers.{Answer, Returned, Undefined, then_on, on_defined}
+use Rattle.val_core.specs.Answers.{Answer, then_on, on_defined}
 use Rattle.val_core.proofs.lemmas.Answers.{then_associates}
 use Rattle.c_typed.specs.Typed.{PlaceTree, place, local, global, at, member}
 use Rattle.c_mean.specs.State.{Slot, holds, object, State, Valued, used, member_address}

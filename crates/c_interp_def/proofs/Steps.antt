@@ -1,9 +1,9 @@
 -- Chains of answers, and operands that come and go.
-use Rattle.std.proofs.Common.{◌≡◌, ℕ, Bool, true, false, if◌then◌else◌, List, [], ◌∷◌, ◌++◌, Option, None, Some, refl, sym, ap, ◌∙◌}
+use Rattle.std.proofs.Common.{◌≡◌, ℕ, Bool, true, false, if◌then◌else◌, Option, None, Some, refl, sym, ap, ◌∙◌}
 use Rattle.std.proofs.Math.Path.{fun_ext}
 use Rattle.val_core.specs.declared.values.Value.{Value}
 use Rattle.val_core.specs.declared.values.Value.TheVariants.{Num, At, Bad}
-use Rattle.val_core.specs.Answers.{Answer, Returned, Cut, Exited, Undefined, then_on, on_number, on_defined}
+use Rattle.val_core.specs.Answers.{Answer, then_on, on_number, on_defined}
 use Rattle.val_core.proofs.lemmas.Answers.{then_associates}
 use Rattle.c_type.specs.Trees.{TypeTree}
 use Rattle.c_mean.specs.State.{used, truth}
@@ -62,6 +62,3 @@ decided-then (Some false) a b g = refl
 
 pub branched-then : {A B : Type 0} (t : TypeTree) (v : Value) (a b : Answer A) (g : A → Answer B) → then_on (branched t v a b) g ≡ branched t v (then_on a g) (then_on b g)
 branched-then t v a b g = decided-then (truth t v) a b g
-
-pub branched-on : {A : Type 0} (t : TypeTree) (v : Value) (a b c d : Answer A) → a ≡ c → b ≡ d → branched t v a b ≡ branched t v c d
-branched-on t v a b c d e f = ap (λ x. branched t v x b) e ∙ ap (λ x. branched t v c x) f

@@ -1,10 +1,10 @@
 -- What a statement, a declaration or a loop does is what the tasks do that it comes to.
-use Rattle.std.proofs.Common.{◌≡◌, ℕ, zero, suc, ◌-◌, ◌≤◌, ◌==◌, Bool, true, false, if◌then◌else◌, List, [], ◌∷◌, ◌++◌, length, slice_get, Option, None, Some, unwrap_or, refl, sym, ap, ◌∙◌, arith}
+use Rattle.std.proofs.Common.{◌≡◌, ℕ, zero, suc, ◌-◌, ◌≤◌, Bool, true, false, if◌then◌else◌, List, [], ◌∷◌, length, slice_get, Option, None, Some, unwrap_or, refl, sym, ap, ◌∙◌, arith}
 use Rattle.std.specs.Option.{IfSome}
 use Rattle.val_core.specs.declared.values.Value.{Value}
-use Rattle.val_core.specs.declared.values.Value.TheVariants.{Num, At, Bad}
+use Rattle.val_core.specs.declared.values.Value.TheVariants.{Bad}
 use Rattle.val_core.specs.Memory.{Memory, store}
-use Rattle.val_core.specs.Answers.{Answer, Returned, Cut, Undefined, then_on, on_number, on_defined}
+use Rattle.val_core.specs.Answers.{Answer, Returned, Cut, then_on, on_number, on_defined}
 use Rattle.val_core.proofs.lemmas.Answers.{then_associates, then_nothing}
 use Rattle.c_typed.specs.Typed as tree
 use Rattle.c_typed.specs.Typed.{ExprTree, OptionalExpr, no_expr, some_expr, ElementTrees, no_elements, value_then, characters_then, InitialTree, no_initial, initial_value, initial_elements, StmtTree, ItemTrees, no_items, stmt_then, declare_then, GroupTrees, no_groups, group_then, VariableTree, ProgramTree}
@@ -12,11 +12,11 @@ use Rattle.c_typed.specs.WellTyped.{type_of}
 use Rattle.c_typed.specs.Objects.{object_number, access_width}
 use Rattle.c_mean.specs.State.{State, Valued, holds, object, with_memory, used, bytes_into}
 use Rattle.c_mean.specs.Expressions.{Context, branched, expr_run}
-use Rattle.c_mean.specs.Statements.{Flow, normal, broke, continued, returned, Flowed, flows, goes_on, if_normal, past, after_turn, optional_step, loop_run, do_run, in_scope, out_of_scope, newest_written, characters_stored, elements_run, zeros, value_begun, object_begun, begun, declared, has_case, from_case, from_default, group_count, chosen_groups, groups_done, stmt_run, items_run, groups_runs}
-use Rattle.c_interp_def.specs.Configurations.{Configuration, Reached, reaches, state_of, with_operands, with_value, with_state, gives_value, goes_on_at, flows_on, context_of}
+use Rattle.c_mean.specs.Statements.{Flow, normal, broke, continued, returned, Flowed, flows, goes_on, if_normal, past, after_turn, optional_step, loop_run, do_run, in_scope, out_of_scope, newest_written, characters_stored, elements_run, zeros, value_begun, object_begun, begun, declared, has_case, from_case, from_default, group_count, chosen_groups, groups_done, items_run, groups_runs}
+use Rattle.c_interp_def.specs.Configurations.{Configuration, Reached, state_of, with_state, gives_value, goes_on_at, flows_on, context_of}
 use Rattle.c_interp_def.specs.ExprTasks.{evaluate, discard}
-use Rattle.c_interp_def.specs.StmtTasks.{Task, of_expr, of_stmt, handler, StmtTask, run_stmt, run_items, run_groups, branch, select, run_turns, turn_if, return_it, enter, begin_slot, begin_object, clear_object, begin_elements, begin_element, begin_characters, end_switch, again, end_scope, entered, variables, body_of, turn_run, groups_run, again_run, stmt_task_run, unless_jump, task_run, tasks_run, optional_tasks, initial_tasks, object_tasks, value_tasks, items_tasks, turn_tasks, turns_tasks, again_tasks}
-use Rattle.c_interp_def.specs.Laws.{normally, IsLoop, TasksAppend, StatementExpands, ItemsExpand, GroupsExpand, ElementsExpand, TurnsExpand, AgainExpands}
+use Rattle.c_interp_def.specs.StmtTasks.{Task, of_expr, of_stmt, handler, StmtTask, run_stmt, run_items, run_groups, branch, select, run_turns, turn_if, return_it, enter, begin_slot, begin_object, begin_elements, begin_element, end_switch, again, end_scope, entered, variables, body_of, turn_run, stmt_task_run, unless_jump, task_run, tasks_run, initial_tasks, object_tasks, value_tasks, items_tasks, again_tasks}
+use Rattle.c_interp_def.specs.Laws.{normally, TasksAppend, StatementExpands, ItemsExpand, GroupsExpand, ElementsExpand, TurnsExpand, AgainExpands}
 use Rattle.c_interp_def.proofs.Steps.{on, both, two, used-then, used-on, number-then, number-on, defined-then, branched-then}
 
 pub tasks-append : TasksAppend
@@ -95,15 +95,15 @@ module _ (p : ProgramTree) (n : ℕ) where
       let from : State → ℕ → Answer Flowed = λ s w. groups_done 0 (groups_runs (ctx x) (vars x) (chosen_groups w gs)) s in
       then_associates run (λ r. on_number r.value (λ w. then_on (chosen r.state w) past)) (flows_on x)
       ∙ on run
-        (λ r. then_on (on_number r.value (λ w. then_on (chosen r.state w) past)) (flows_on x))
-        (λ r. then_on (then_on (gives_value x r) (done (select (tree.switch e gs)))) end)
-        (λ r.
-        number-then r.value (λ w. then_on (chosen r.state w) past) (flows_on x)
-        ∙ number-on r.value (λ w. then_on (then_on (chosen r.state w) past) (flows_on x)) (λ w. then_on (then_on (from r.state w) (flows_on x)) end)
-          (λ w.
-          ap (λ a. then_on (then_on a past) (flows_on x)) ((chosen-follows (ctx x) (vars x) w gs).same r.state)
-          ∙ both (from r.state w) past (flows_on x) (flows_on x) end (λ f. refl))
-        ∙ sym (number-then r.value (λ w. then_on (from r.state w) (flows_on x)) end))
+      (λ r. then_on (on_number r.value (λ w. then_on (chosen r.state w) past)) (flows_on x))
+      (λ r. then_on (then_on (gives_value x r) (done (select (tree.switch e gs)))) end)
+      (λ r.
+      number-then r.value (λ w. then_on (chosen r.state w) past) (flows_on x)
+      ∙ number-on r.value (λ w. then_on (then_on (chosen r.state w) past) (flows_on x)) (λ w. then_on (then_on (from r.state w) (flows_on x)) end)
+      (λ w.
+      ap (λ a. then_on (then_on a past) (flows_on x)) ((chosen-follows (ctx x) (vars x) w gs).same r.state)
+      ∙ both (from r.state w) past (flows_on x) (flows_on x) end (λ f. refl))
+      ∙ sym (number-then r.value (λ w. then_on (from r.state w) (flows_on x)) end))
       ∙ sym (two run (gives_value x) (done (select (tree.switch e gs))) end)
 
   loop-ends : (x : Configuration) (a : Answer Flowed) → then_on (then_on a past) (flows_on x) ≡ then_on (then_on a (flows_on x)) (task_run p n (handler end_switch))
@@ -145,12 +145,12 @@ module _ (p : ProgramTree) (n : ℕ) where
       ∙ sym (defined-then (zeros a s.memory) (λ m. elements_run (ctx x) a es (with_memory s m)) (goes_on_at x))
 
   kind-begins : (x : Configuration) (k : ℕ) (b : Bool) (i : InitialTree) (s : State) →
-    all_done (if b then object_tasks k i else value_tasks i) (with_state x (in_scope s (if b then object k else holds Bad))) ≡ then_on (begun (ctx x) b k i s) (goes_on_at x)
+      all_done (if b then object_tasks k i else value_tasks i) (with_state x (in_scope s (if b then object k else holds Bad))) ≡ then_on (begun (ctx x) b k i s) (goes_on_at x)
   kind-begins x k false i s = value-begins x i (in_scope s (holds Bad))
   kind-begins x k true i s = object-begins x k i (in_scope s (object k))
 
   declared-law : (x : Configuration) (k : ℕ) (o : Option VariableTree) (i : InitialTree) →
-    then_on (on_defined (entered (vars x) k o (state_of x)) (goes_on_at x)) (tasks_run p n (initial_tasks (vars x) k o i)) ≡ then_on (declared (ctx x) (vars x) k o i (state_of x)) (goes_on_at x)
+      then_on (on_defined (entered (vars x) k o (state_of x)) (goes_on_at x)) (tasks_run p n (initial_tasks (vars x) k o i)) ≡ then_on (declared (ctx x) (vars x) k o i (state_of x)) (goes_on_at x)
   declared-law x k None i = refl
   declared-law x k (Some v) i = kind-begins x (object_number (vars x) k) v.is_object i (state_of x)
 
@@ -163,12 +163,12 @@ module _ (p : ProgramTree) (n : ℕ) where
       let leaves : Flowed → Answer Flowed = out_of_scope (length x.frame.slots) in
       then_associates begins (λ t. then_on (items_run (ctx x) (vars x) is t) leaves) (flows_on x)
       ∙ on begins
-        (λ t. then_on (then_on (items_run (ctx x) (vars x) is t) leaves) (flows_on x))
-        (λ t. then_on (then_on (goes_on_at x t) (done (run_items is))) end)
-        (λ t. both (items_run (ctx x) (vars x) is t) leaves (flows_on x) (flows_on x) end (λ f. refl))
+      (λ t. then_on (then_on (items_run (ctx x) (vars x) is t) leaves) (flows_on x))
+      (λ t. then_on (then_on (goes_on_at x t) (done (run_items is))) end)
+      (λ t. both (items_run (ctx x) (vars x) is t) leaves (flows_on x) (flows_on x) end (λ f. refl))
       ∙ sym (two begins (goes_on_at x) (done (run_items is)) end)
       ∙ ap (λ a. then_on (then_on a (done (run_items is))) end)
-        (sym (declared-law x k o d.initial) ∙ sym (tasks-append p n (initial_tasks (vars x) k o d.initial) (of_stmt (enter k) ∷ []) (normally x)))
+      (sym (declared-law x k o d.initial) ∙ sym (tasks-append p n (initial_tasks (vars x) k o d.initial) (of_stmt (enter k) ∷ []) (normally x)))
 
 pub statement-expands : StatementExpands
 statement-expands p n tree.null x = refl
@@ -208,11 +208,11 @@ elements-expand p n k (value_then o e es) x =
     let rest : Valued → Memory → Answer State = λ r m. elements_run (ctx p n x) a es (with_memory r.state m) in
     then_associates run (λ r. used r.value (λ v. on_defined (into r v) (rest r))) (goes_on_at x)
     ∙ on run
-      (λ r. then_on (used r.value (λ v. on_defined (into r v) (rest r))) (goes_on_at x))
-      (λ r. then_on (then_on (gives_value x r) (done p n (begin_element k o (type_of e)))) (done p n (begin_elements k es)))
-      (λ r.
-      stored-then r.value (into r) (rest r) (goes_on_at x)
-      ∙ sym (stored-then r.value (into r) (λ m. goes_on_at x (with_memory r.state m)) (done p n (begin_elements k es))))
+    (λ r. then_on (used r.value (λ v. on_defined (into r v) (rest r))) (goes_on_at x))
+    (λ r. then_on (then_on (gives_value x r) (done p n (begin_element k o (type_of e)))) (done p n (begin_elements k es)))
+    (λ r.
+    stored-then r.value (into r) (rest r) (goes_on_at x)
+    ∙ sym (stored-then r.value (into r) (λ m. goes_on_at x (with_memory r.state m)) (done p n (begin_elements k es))))
     ∙ sym (two run (gives_value x) (done p n (begin_element k o (type_of e))) (done p n (begin_elements k es)))
 elements-expand p n k (characters_then o cs es) x =
     let a : Value = (ctx p n x).addresses.local k in
@@ -250,7 +250,7 @@ turns-expand p n k tree.return_none x h = absurd h
 turns-expand p n k (tree.switch e gs) x h = absurd h
 
 stepped-law : (p : ProgramTree) (n k : ℕ) (x : Configuration) (d step : OptionalExpr) (a : StmtTree) →
-  then_on (then_on (optional_step (ctx p n x) step (state_of x)) (loop_run k (ctx p n x) d step (body_of p n x a))) (flows_on x) ≡ tasks_run p n (again_tasks k (tree.loop d step a)) (normally x)
+    then_on (then_on (optional_step (ctx p n x) step (state_of x)) (loop_run k (ctx p n x) d step (body_of p n x a))) (flows_on x) ≡ tasks_run p n (again_tasks k (tree.loop d step a)) (normally x)
 stepped-law p n k x d no_expr a = refl
 stepped-law p n k x d (some_expr e) a =
     let run : Answer Valued = expr_run (ctx p n x) e (state_of x) in
@@ -258,8 +258,8 @@ stepped-law p n k x d (some_expr e) a =
     ∙ sym (two run (gives_value x) (task_run p n (of_expr discard)) (done p n (run_turns k (tree.loop d (some_expr e) a))))
 
 asked-again : (p : ProgramTree) (n k : ℕ) (x : Configuration) (a : StmtTree) (e : ExprTree) →
-  then_on (then_on (expr_run (ctx p n x) e (state_of x)) (λ y. branched (type_of e) y.value (do_run k (ctx p n x) e (body_of p n x a) y.state) (goes_on y.state))) (flows_on x)
-  ≡ tasks_run p n (again_tasks k (tree.do_while a e)) (normally x)
+    then_on (then_on (expr_run (ctx p n x) e (state_of x)) (λ y. branched (type_of e) y.value (do_run k (ctx p n x) e (body_of p n x a) y.state) (goes_on y.state))) (flows_on x)
+    ≡ tasks_run p n (again_tasks k (tree.do_while a e)) (normally x)
 asked-again p n k x a e =
     both (expr_run (ctx p n x) e (state_of x)) (λ y. branched (type_of e) y.value (do_run k (ctx p n x) e (body_of p n x a) y.state) (goes_on y.state)) (flows_on x) (gives_value x) (done p n (turn_if k (tree.do_while a e)))
     (λ r. branched-then (type_of e) r.value (do_run k (ctx p n x) e (body_of p n x a) r.state) (goes_on r.state) (flows_on x))

@@ -1,6 +1,5 @@
 -- What a call comes to, and the whole run, as far as it is heard: calls that are active are no part of that.
-use Rattle.std.specs.Prelude.{◌≡◌, ℕ, zero, suc, List, [], ◌∷◌, ◌++◌, drop, length, slice_get, Option, None, Some}
-use Rattle.val_core.specs.declared.values.Value.{Value}
+use Rattle.std.specs.Prelude.{◌≡◌, ℕ, suc, List, [], ◌∷◌, ◌++◌, drop, length, slice_get, Option, None, Some}
 use Rattle.val_core.specs.Memory.{Memory, BlockShape}
 use Rattle.val_core.specs.Objects.{opened, address_in}
 use Rattle.val_core.specs.Events.{Event}

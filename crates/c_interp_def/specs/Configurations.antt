@@ -3,8 +3,8 @@
 use Rattle.std.specs.Prelude.{ℕ, List, [], ◌∷◌, map, slice_get, Option, None, Some}
 use Rattle.val_core.specs.declared.values.Value.{Value}
 use Rattle.val_core.specs.Memory.{Memory}
-use Rattle.val_core.specs.Objects.{Addresses, address_in}
-use Rattle.val_core.specs.Answers.{Answer, Returned, Undefined, then_on}
+use Rattle.val_core.specs.Objects.{address_in}
+use Rattle.val_core.specs.Answers.{Answer, Returned, Undefined}
 use Rattle.c_typed.specs.Typed.{VariableTree, FunctionTree, ProgramTree}
 use Rattle.c_mean.specs.State.{Slot, State, Valued}
 use Rattle.c_mean.specs.Expressions.{Context}

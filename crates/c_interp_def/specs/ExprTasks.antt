@@ -1,11 +1,9 @@
 -- What is left to do of an expression (ISO/IEC 9899:2011, 6.5), as tasks: operands wait until their operator is applied.
 use Rattle.std.specs.Prelude.{ℕ, suc, ◌%◌, if◌then◌else◌, List, [], ◌∷◌, ◌++◌, take, drop, reverse, slice_get, Option, None, Some}
-use Rattle.val_core.specs.Words.{one_if}
 use Rattle.val_core.specs.declared.values.Value.{Value}
-use Rattle.val_core.specs.declared.values.Value.TheVariants.{Num, Bad}
-use Rattle.val_core.specs.Memory.{load}
+use Rattle.val_core.specs.declared.values.Value.TheVariants.{Num}
 use Rattle.val_core.specs.Events.{wrote}
-use Rattle.val_core.specs.Answers.{Answer, Returned, Exited, Undefined, then_on, on_number, on_defined}
+use Rattle.val_core.specs.Answers.{Answer, Returned, Exited, then_on, on_number, on_defined}
 use Rattle.c_type.specs.Trees.{TypeTree}
 use Rattle.c_typed.specs.declared.operator.UnaryOp.{UnaryOp}
 use Rattle.c_typed.specs.declared.operator.UnaryOp.TheVariants as unary_op
@@ -15,10 +13,10 @@ use Rattle.c_typed.specs.declared.operator.IncDec.{IncDec}
 use Rattle.c_typed.specs.Typed as tree
 use Rattle.c_typed.specs.Typed.{ExprTree, expr, FormTree, ExprTrees, no_exprs, expr_then, PlaceTree, place, PlaceFormTree, ProgramTree}
 use Rattle.c_typed.specs.WellTyped.{type_of}
-use Rattle.c_mean.specs.State.{Slot, holds, object, State, Valued, gives, used, converted, truth, member_address}
-use Rattle.c_mean.specs.Expressions.{Context, Spot, in_slot, at_address, Located, slot_get, address_of, slot_spot, slot_value, spot_read, spot_written, given_word, unary_done, binary_done, compound_done, stepped, got, back_from, branched, expr_run, dropped_run, arguments_run, place_run}
+use Rattle.c_mean.specs.State.{Slot, holds, State, Valued, gives, used, converted, member_address}
+use Rattle.c_mean.specs.Expressions.{Context, Spot, in_slot, at_address, slot_get, address_of, slot_spot, spot_read, spot_written, given_word, unary_done, binary_done, compound_done, stepped, got, back_from, branched, expr_run, dropped_run, arguments_run, place_run}
 use Rattle.c_mean.specs.Statements.{normal}
-use Rattle.c_interp_def.specs.Configurations.{Configuration, Reached, reaches, state_of, with_operands, gives_value, goes_on_at, on_top, on_operand, on_operands, on_three, context_of}
+use Rattle.c_interp_def.specs.Configurations.{Configuration, Reached, reaches, state_of, with_operands, gives_value, goes_on_at, on_operand, on_operands, on_three, context_of}
 
 pub data ExprTask : Type 0 where
   -- these parts of a program: an expression, a place, whose address is the operand, operands of commas, and arguments

@@ -1,12 +1,12 @@
 -- What a part of a program does is what the tasks do that it comes to.
-use Rattle.std.specs.Prelude.{◌≡◌, ℕ, List, [], ◌∷◌, ◌++◌, map, length, Option, None, Some}
+use Rattle.std.specs.Prelude.{◌≡◌, ℕ, List, [], ◌++◌, map, length, Option, None, Some}
 use Rattle.val_core.specs.Answers.{Answer, Cut, then_on}
 use Rattle.c_type.specs.Trees.{TypeTree}
-use Rattle.c_typed.specs.Typed.{ExprTree, expr, ExprTrees, PlaceTree, place, PlaceFormTree, FormTree, ElementTrees, StmtTree, loop, do_while, ItemTrees, GroupTrees, ProgramTree}
+use Rattle.c_typed.specs.Typed.{expr, ExprTrees, place, PlaceFormTree, FormTree, ElementTrees, StmtTree, loop, do_while, ItemTrees, GroupTrees, ProgramTree}
 use Rattle.c_mean.specs.Statements.{normal, continued}
 use Rattle.c_interp_def.specs.Configurations.{Configuration, Reached}
 use Rattle.c_interp_def.specs.ExprTasks.{ExprTask, evaluate, locate, drop_each, pass_each, form_tasks, place_tasks, dropped_tasks, passed_tasks, expr_task_run}
-use Rattle.c_interp_def.specs.StmtTasks.{Task, of_expr, of_stmt, run_stmt, run_items, run_groups, run_turns, begin_elements, stmt_tasks, items_tasks, groups_tasks, elements_tasks, turns_tasks, again_tasks, again_run, stmt_task_run, tasks_run, variables}
+use Rattle.c_interp_def.specs.StmtTasks.{Task, of_expr, run_stmt, run_items, run_groups, run_turns, begin_elements, stmt_tasks, items_tasks, groups_tasks, elements_tasks, turns_tasks, again_tasks, again_run, stmt_task_run, tasks_run, variables}
 
 -- no jump is on its way
 abbrev pub normally : Configuration → Reached

@@ -1,9 +1,9 @@
 -- What is left to do of statements and calls (ISO/IEC 9899:2011, 6.8, 6.9.1), as tasks. A jump passes over them until one is
 -- its own.
-use Rattle.std.specs.Prelude.{ℕ, zero, suc, ◌==◌, ◌-◌, true, false, Bool, if◌then◌else◌, List, [], ◌∷◌, ◌++◌, length, slice_get, Option, None, Some}
+use Rattle.std.specs.Prelude.{ℕ, zero, suc, ◌==◌, if◌then◌else◌, List, [], ◌∷◌, ◌++◌, length, slice_get, Option, None, Some}
 use Rattle.val_core.specs.declared.values.Value.{Value}
 use Rattle.val_core.specs.declared.values.Value.TheVariants.{Bad}
-use Rattle.val_core.specs.Memory.{Memory, store}
+use Rattle.val_core.specs.Memory.{store}
 use Rattle.val_core.specs.Answers.{Answer, Returned, Cut, Undefined, then_on, on_number, on_defined}
 use Rattle.val_core.specs.Within.{Given}
 use Rattle.c_type.specs.Trees.{TypeTree}
@@ -11,11 +11,11 @@ use Rattle.c_typed.specs.Typed as tree
 use Rattle.c_typed.specs.Typed.{ExprTree, OptionalExpr, no_expr, some_expr, ElementTrees, no_elements, value_then, characters_then, InitialTree, no_initial, initial_value, initial_elements, StmtTree, ItemTrees, no_items, stmt_then, declare_then, GroupTrees, no_groups, group_then, VariableTree, ProgramTree}
 use Rattle.c_typed.specs.WellTyped.{type_of}
 use Rattle.c_typed.specs.Objects.{object_number, access_width}
-use Rattle.c_mean.specs.State.{Slot, holds, object, State, with_memory, used, bytes_into}
-use Rattle.c_mean.specs.Expressions.{Context, Call, back_from, branched, expr_run}
-use Rattle.c_mean.specs.Statements.{Flow, normal, broke, continued, returned, Flowed, flows, goes_on, past, after_turn, optional_step, loop_run, do_run, in_scope, out_of_scope, newest_written, characters_stored, elements_run, zeros, has_case, from_case, chosen_groups, groups_done, stmt_run, items_run, groups_runs}
+use Rattle.c_mean.specs.State.{holds, object, State, with_memory, used, bytes_into}
+use Rattle.c_mean.specs.Expressions.{back_from, branched, expr_run}
+use Rattle.c_mean.specs.Statements.{Flow, normal, broke, continued, returned, Flowed, goes_on, past, after_turn, optional_step, loop_run, do_run, in_scope, out_of_scope, newest_written, characters_stored, elements_run, zeros, chosen_groups, groups_done, stmt_run, items_run, groups_runs}
 use Rattle.c_mean.specs.Run.{objects_of, ended}
-use Rattle.c_interp_def.specs.Configurations.{Frame, Configuration, Reached, reaches, state_of, with_operands, gives_value, goes_on_at, flows_on, on_operand, variables_of}
+use Rattle.c_interp_def.specs.Configurations.{Frame, Configuration, Reached, reaches, state_of, gives_value, goes_on_at, flows_on, on_operand, variables_of}
 use Rattle.c_interp_def.specs.ExprTasks.{ExprTask, evaluate, discard, context, expr_task_run}
 
 -- what is done where no jump is on its way

@@ -1,5 +1,5 @@
 -- The tasks, slots and flows that those of the code stand for.
-use Rattle.std.specs.Prelude.{List, [], ◌∷◌, map}
+use Rattle.std.specs.Prelude.{List, map}
 use Rattle.c_typed.specs.Typed.{exprs_of, StmtTree}
 use Rattle.c_typed.specs.StmtViews.{elements_of, items_of, groups_of}
 use Rattle.c_mean.specs.State as state
