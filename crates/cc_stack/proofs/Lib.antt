@@ -1,0 +1,5 @@
+mod Lists
+mod Called
+mod Turning
+mod Filling
+mod Bounds

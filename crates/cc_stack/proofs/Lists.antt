@@ -1,0 +1,88 @@
+-- What lists of depths have in common.
+use Rattle.std.proofs.Common.{◌≡◌, ℕ, zero, suc, ◌+◌, ◌≤◌, ◌<◌, max, List, [], ◌∷◌, ◌++◌, length, Contains, Option, None, Some, slice_index_or, refl, sym, ap, ap₂, ◌∙◌, inl, inr, ◌⊎◌, arith}
+use Rattle.cc_stack.specs.Depths.{greater, depth_at, most_of, with_frame}
+
+pub contains-none : {A : Type 0} (x : A) → Contains [] x → ⊥
+contains-none x h = omega (arith, h.1)
+
+pub contains-either : (x y : ℕ) (ys : List ℕ) → Contains (y ∷ ys) x → (y ≡ x) ⊎ Contains ys x
+contains-either x y ys (zero, low, same) = inl same
+contains-either x y ys (suc k, low, same) = inr (k, omega (arith, low), same)
+
+pub contains-later : (x y : ℕ) (ys : List ℕ) → Contains ys x → Contains (y ∷ ys) x
+contains-later x y ys h = (suc h.0, omega (arith, h.1), h.2)
+
+some-same : (a b : ℕ) → Some a ≡ Some b → a ≡ b
+some-same a b e = cc
+
+-- ---- the greatest depth of a list
+
+-- what a greatest depth says of each function of the list
+pub most-parts : (depths : List (Option ℕ)) (ks : List ℕ) (m : ℕ) → most_of depths ks ≡ Some m → (k : ℕ) → Contains ks k → (d : ℕ) × (depth_at depths k ≡ Some d) × (d ≤ m)
+most-parts depths [] m e k h = absurd (contains-none k h)
+most-parts depths (j ∷ ks) m e k h = by (depth_at depths j) (most_of depths ks) refl refl e (contains-either k j ks h) (most-parts depths ks)
+  where
+    by : (a b : Option ℕ) → depth_at depths j ≡ a → most_of depths ks ≡ b → greater a b ≡ Some m → (j ≡ k) ⊎ Contains ks k →
+        ((n : ℕ) → most_of depths ks ≡ Some n → (i : ℕ) → Contains ks i → (d : ℕ) × (depth_at depths i ≡ Some d) × (d ≤ n)) → (d : ℕ) × (depth_at depths k ≡ Some d) × (d ≤ m)
+    by (Some a) (Some b) p q g (inl same) rest = let is = some-same (max a b) m g in (a, ap (depth_at depths) (sym same) ∙ p, omega (arith, is))
+    by (Some a) (Some b) p q g (inr later) rest = let is = some-same (max a b) m g in let found = rest b q k later in (found.0, found.1, omega (arith, is, found.2))
+    by (Some a) None p q g which rest = absurd cc
+    by None b p q g which rest = absurd cc
+
+-- where one function has no depth, there is no greatest one
+pub most-none : (depths : List (Option ℕ)) (ks : List ℕ) (k : ℕ) → Contains ks k → depth_at depths k ≡ None → most_of depths ks ≡ None
+most-none depths [] k h e = absurd (contains-none k h)
+most-none depths (j ∷ ks) k h e = by (contains-either k j ks h) (most-none depths ks k)
+  where
+    none-right : (a : Option ℕ) → greater a None ≡ None
+    none-right (Some a) = refl
+    none-right None = refl
+
+    by : (j ≡ k) ⊎ Contains ks k → (Contains ks k → depth_at depths k ≡ None → most_of depths ks ≡ None) → greater (depth_at depths j) (most_of depths ks) ≡ None
+    by (inl same) rest = ap (λ a. greater a (most_of depths ks)) (ap (depth_at depths) same ∙ e)
+    by (inr later) rest = ap (λ b. greater (depth_at depths j) b) (rest later e) ∙ none-right (depth_at depths j)
+
+-- two lists that agree on these functions
+pub most-same : (depths depths' : List (Option ℕ)) (ks : List ℕ) → ((k : ℕ) → Contains ks k → depth_at depths' k ≡ depth_at depths k) → most_of depths' ks ≡ most_of depths ks
+most-same depths depths' [] h = refl
+most-same depths depths' (j ∷ ks) h =
+    ap₂ greater (h j (0, omega arith, refl)) (most-same depths depths' ks (λ k c. h k (contains-later k j ks c)))
+
+-- a bound of all depths bounds the greatest
+pub most-low : (depths : List (Option ℕ)) (ks : List ℕ) (most : ℕ) → ((k d : ℕ) → depth_at depths k ≡ Some d → d ≤ most) → (m : ℕ) → most_of depths ks ≡ Some m → m ≤ most
+most-low depths [] most h m e = let is = some-same 0 m e in omega (arith, is)
+most-low depths (j ∷ ks) most h m e = by (depth_at depths j) (most_of depths ks) refl refl e (most-low depths ks most h)
+  where
+    by : (a b : Option ℕ) → depth_at depths j ≡ a → most_of depths ks ≡ b → greater a b ≡ Some m → ((n : ℕ) → most_of depths ks ≡ Some n → n ≤ most) → m ≤ most
+    by (Some a) (Some b) p q g rest = let is = some-same (max a b) m g in omega (arith, is, h j a p, rest b q)
+    by (Some a) None p q g rest = absurd cc
+    by None b p q g rest = absurd cc
+
+pub frame-parts : (frame : ℕ) (below : Option ℕ) (d : ℕ) → with_frame frame below ≡ Some d → (m : ℕ) × (below ≡ Some m) × (frame + m ≡ d)
+frame-parts frame (Some m) d e = (m, refl, some-same (frame + m) d e)
+frame-parts frame None d e = absurd cc
+
+-- ---- lists one after another
+
+pub greater-associates : (a b c : Option ℕ) → greater (greater a b) c ≡ greater a (greater b c)
+greater-associates None b c = refl
+greater-associates (Some a) None c = refl
+greater-associates (Some a) (Some b) None = refl
+greater-associates (Some a) (Some b) (Some c) = let e : max (max a b) c ≡ max a (max b c) = omega arith in ap (λ n. Some n) e
+
+pub greater-nothing : (a : Option ℕ) → greater a (Some 0) ≡ a
+greater-nothing None = refl
+greater-nothing (Some a) = let e : max a 0 ≡ a = omega arith in ap (λ n. Some n) e
+
+nothing-greater : (a : Option ℕ) → greater (Some 0) a ≡ a
+nothing-greater None = refl
+nothing-greater (Some a) = let e : max 0 a ≡ a = omega arith in ap (λ n. Some n) e
+
+pub most-append : (depths : List (Option ℕ)) (js ks : List ℕ) → most_of depths (js ++ ks) ≡ greater (most_of depths js) (most_of depths ks)
+most-append depths [] ks = sym (nothing-greater (most_of depths ks))
+most-append depths (j ∷ js) ks =
+    ap (greater (depth_at depths j)) (most-append depths js ks) ∙ sym (greater-associates (depth_at depths j) (most_of depths js) (most_of depths ks))
+
+-- with what came before: first of the one list, then of the other
+pub most-goes-on : (depths : List (Option ℕ)) (so_far : Option ℕ) (js ks : List ℕ) → greater (greater so_far (most_of depths js)) (most_of depths ks) ≡ greater so_far (most_of depths (js ++ ks))
+most-goes-on depths so_far js ks = greater-associates so_far (most_of depths js) (most_of depths ks) ∙ ap (greater so_far) (sym (most-append depths js ks))
