@@ -23,7 +23,8 @@ fn turns(alloc: Global, lambdas: &[Lambda]) -> Result<Vec<u32>, NoMemory>
     units_are_mutual();
     let Order { ranks, deps } = order(alloc, lambdas)?;
     drop(deps);
-    by_rank(alloc, ranks.as_slice())
+    let turns = by_rank(alloc, ranks.as_slice())?;
+    Ok(turns)
 }
 
 // The depths of the functions, found in turn. Until then a function has none, so one that calls

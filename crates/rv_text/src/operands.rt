@@ -1,0 +1,142 @@
+//! The operands of instructions. Where memory is refused in the middle, the beginning is there.
+
+ghost use Rattle.std.specs.Prelude.{◌≡◌, ◌++◌, ◌-◌, ◌^◌, ◌<◌, ◌≤◌, OnOk, decimal};
+ghost use Rattle.rv_text.specs.Texts.{accesses, hex, hex_digit, led, letter, named, numbered, register_name, signed, target};
+
+use itoa::Buffer;
+use no_memory::NoMemory;
+use rv_isa::Reg;
+
+pub fn push(out: &mut Vec<u8>, text: &str) -> Result<(), NoMemory>
+    ensures { OnOk result (out.new.items ≡ out.old.items ++ text.now) }
+{
+    Ok(out.extend_from_slice(text.as_bytes())?)
+}
+
+fn push_number(out: &mut Vec<u8>, number: u32) -> Result<(), NoMemory>
+    ensures { OnOk result (out.new.items ≡ out.old.items ++ decimal number) }
+{
+    let mut buffer = Buffer::new();
+    push(out, buffer.format(u64::from(number)))
+}
+
+// A letter and a number.
+fn push_numbered(out: &mut Vec<u8>, letter: &str, number: u32) -> Result<(), NoMemory>
+    ensures { OnOk result (out.new.items ≡ out.old.items ++ numbered letter.now number) }
+{
+    push(out, letter)?;
+    push_number(out, number)
+}
+
+fn named(number: u32) -> &'static str
+    ensures { result.now ≡ named number }
+{
+    match number {
+        0 => "zero",
+        1 => "ra",
+        2 => "sp",
+        3 => "gp",
+        _ => "tp",
+    }
+}
+
+pub fn push_register(out: &mut Vec<u8>, reg: Reg) -> Result<(), NoMemory>
+    ensures { OnOk result (out.new.items ≡ out.old.items ++ register_name reg) }
+{
+    let number = reg.number();
+    if number < 5 {
+        push(out, named(number))
+    } else if number < 8 {
+        push_numbered(out, "t", number - 5)
+    } else if number < 10 {
+        push_numbered(out, "s", number - 8)
+    } else if number < 18 {
+        push_numbered(out, "a", number - 10)
+    } else if number < 28 {
+        push_numbered(out, "s", number - 16)
+    } else {
+        push_numbered(out, "t", number - 25)
+    }
+}
+
+// What follows on 2^32 - word, which is the word without its sign.
+fn push_negative(out: &mut Vec<u8>, sign: &str, word: u32) -> Result<(), NoMemory>
+    requires { 2 ^ 31 ≤ word }
+    ensures { OnOk result
+        (out.new.items ≡ out.old.items ++ (sign.now ++ decimal (2 ^ 32 - word))) }
+{
+    push(out, sign)?;
+    push_number(out, u32::MAX - word + 1)
+}
+
+/// A word, read as signed.
+pub fn push_signed(out: &mut Vec<u8>, word: u32) -> Result<(), NoMemory>
+    ensures { OnOk result (out.new.items ≡ out.old.items ++ signed word) }
+{
+    if word < 1 << 31 {
+        push_number(out, word)
+    } else {
+        push_negative(out, "-", word)
+    }
+}
+
+/// An address so many bytes after that of the instruction.
+pub fn push_target(out: &mut Vec<u8>, offset: u32) -> Result<(), NoMemory>
+    ensures { OnOk result (out.new.items ≡ out.old.items ++ target offset) }
+{
+    if offset < 1 << 31 {
+        push_numbered(out, ".+", offset)
+    } else {
+        push_negative(out, ".-", offset)
+    }
+}
+
+fn hex_digit(digit: u32) -> u8
+    requires { digit < 16 }
+    ensures { result ≡ hex_digit digit }
+{
+    if digit < 10 {
+        b'0' + digit as u8
+    } else {
+        b'a' + (digit - 10) as u8
+    }
+}
+
+/// A number in hexadecimal, with at most so many digits and no leading zero.
+pub fn push_hex(out: &mut Vec<u8>, digits: u32, number: u32) -> Result<(), NoMemory>
+    ensures { OnOk result (out.new.items ≡ out.old.items ++ hex digits number) }
+{
+    if digits == 0 {
+        return Ok(());
+    }
+    if number >= 16 {
+        push_hex(out, digits - 1, number / 16)?;
+    }
+    Ok(out.push(hex_digit(number % 16))?)
+}
+
+/// The name of an instruction, a tab and its first register.
+pub fn push_led(out: &mut Vec<u8>, name: &str, reg: Reg) -> Result<(), NoMemory>
+    ensures { OnOk result (out.new.items ≡ out.old.items ++ led name.now reg) }
+{
+    push(out, name)?;
+    push(out, "\t")?;
+    push_register(out, reg)
+}
+
+// The letter, where the bit is set.
+fn push_letter(out: &mut Vec<u8>, is_set: bool, name: &str) -> Result<(), NoMemory>
+    ensures { OnOk result (out.new.items ≡ out.old.items ++ letter is_set name.now) }
+{
+    if is_set { push(out, name) } else { Ok(()) }
+}
+
+/// Which accesses a fence orders, by four bits.
+pub fn push_accesses(out: &mut Vec<u8>, bits: u32) -> Result<(), NoMemory>
+    ensures { OnOk result (out.new.items ≡ out.old.items ++ accesses bits) }
+{
+    push_letter(out, bits % 16 > 7, "i")?;
+    push_letter(out, bits % 8 > 3, "o")?;
+    push_letter(out, bits % 4 > 1, "r")?;
+    push_letter(out, bits % 2 > 0, "w")
+}
