@@ -20,7 +20,7 @@ use Rattle.g_graph.specs.Program.{name_index, main_name}
 use Rattle.g_mean.specs.Data.{Datum, memory, val, input, at_port, value_of, value_at, on_memory, on_input}
 use Rattle.g_mean.specs.Meaning.{Meaning, Context, given, given_memory, got, done, chosen, branched, again, turns, looped, act, Outputs, no_outputs, extended, read, region_meaning, node_run, nodes_run, meanings}
 use Rattle.g_mean.specs.Calls.{inside, entered, applied, lambda_at, global_of, first_memory, finished, started, deepest_main}
-use Rattle.g_pass_order.specs.Calls.{op_calls, region_calls, node_calls, nodes_calls, regions_calls}
+use Rattle.g_pass_order.specs.Calls.{op_calls, region_calls, node_calls, nodes_calls, regions_calls, no_lambda}
 use Rattle.cc_stack.specs.Depths.{depth_at, most_of, with_frame, IsDepth}
 use Rattle.cc_stack.specs.Laws.{StacksAreBounded}
 use Rattle.cc_stack.proofs.Lists.{most-parts, frame-parts}
@@ -32,6 +32,9 @@ AtMost size m a = deepest size (events a) ≤ m
 
 none : (m : ℕ) → 0 ≤ m
 none m = omega arith
+
+up : (a b c : ℕ) → a ≤ b → b ≤ c → a ≤ c
+up a b c low high = omega (arith, low, high)
 
 then-most : {A B : Type 0} (size : ℕ → ℕ) (m : ℕ) (a : Answer A) (next : A → Answer B) → AtMost size m a → ((x : A) → AtMost size m (next x)) → AtMost size m (then_on a next)
 then-most size m (Returned x o) next h go =
@@ -189,7 +192,7 @@ module _ (ls : List PlainLambda) (sizes : List ℕ) (depths : List (Option ℕ))
   there f d e none =
       elim (cases_lt f (length ls)) [
         | inl inside ↦
-            let some = slice_get-get_or ls f (record { number = 0; params = 0; objects = []; body = region [] no_nodes []; next = 0 }) inside in
+            let some = slice_get-get_or ls f no_lambda inside in
             cc
         | inr past ↦ let out : depth_at depths f ≡ None = get_or_past depths f None (omega (arith, past, are.counted)) in cc
       ]
@@ -209,10 +212,7 @@ module _ (ls : List PlainLambda) (sizes : List ℕ) (depths : List (Option ℕ))
           let parts = frame-parts (size f) (most_of depths (region_calls l.body)) d (sym (are.each f l p) ∙ e) in
           let m = parts.0 in
           active-most size f m d (entered n (applied ls global n) global (Some l) xs) parts.2
-          (entered-most global n m (applied ls global n) l (λ g h ys. let callee = most-parts depths (region_calls l.body) m parts.1 g h in up (below g callee.0 callee.1 ys) callee.2) xs)
-        where
-          up : {A : Type 0} {a : Answer A} {b m : ℕ} → AtMost size b a → b ≤ m → AtMost size m a
-          up {A} {a} {b} {m} low le = let below : deepest size (events a) ≤ b = low in omega (arith, below, le)
+          (entered-most global n m (applied ls global n) l (λ g h ys. let callee = most-parts depths (region_calls l.body) m parts.1 g h in up (deepest size (events (applied ls global n g ys))) callee.0 m (below g callee.0 callee.1 ys) callee.2) xs)
 
   program-most : (omega' : PlainOmega) (main d n : ℕ) (i : List ℕ) → depth_at depths main ≡ Some d → AtMost size d (started n omega' ls (Some main) i)
   program-most omega' main d n i e =

@@ -67,6 +67,9 @@ module _ (p : ProgramTree) (ls : List PlainLambda) (built : IsProgram (omega p) 
 
 -- ---- so their law says how deep the stack gets
 
+none-between : (deep d : ℕ) → deep ≤ d → stack_size < deep → d ≤ stack_size → ⊥
+none-between deep d low high fits = grind (arith, low, high, fits)
+
 same-executable : (file : List ℕ) (e f : Executable) → loaded file ≡ Ok e → loaded file ≡ Ok f → f ≡ e
 same-executable file e f p q = cc
 
@@ -79,4 +82,4 @@ never-lacks bounded images p ls built starts stands can depths are main d named 
     let exceeds = keeps.runs.exceeds n (subst (λ x. (executed n x i).hart ≡ ended stack) (sym same) out) in
     let deep : deepest_main exceeds.0 (omega p) ls (frames ls) i ≤ d = bounded ls (frames ls) depths are (omega p) main d named known exceeds.0 i in
     let more : stack_size < deepest_main exceeds.0 (omega p) ls (frames ls) i = exceeds.1 in
-    absurd (omega (arith, deep, more, fits))
+    none-between (deepest_main exceeds.0 (omega p) ls (frames ls) i) d deep more fits

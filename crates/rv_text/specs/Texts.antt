@@ -13,25 +13,19 @@ numbered letter n = letter ++ decimal n
 
 -- the registers that have one name each
 abbrev pub named : ℕ → List ℕ
-named zero = codes "zero"
-named (suc zero) = codes "ra"
-named (suc (suc zero)) = codes "sp"
-named (suc (suc (suc zero))) = codes "gp"
-named _ = codes "tp"
+named n =
+    if n == 0 then codes "zero" else (if n == 1 then codes "ra" else (if n == 2 then codes "sp" else (if n == 3 then codes "gp" else codes "tp")))
 
 -- by number, as the calling convention has them (RISC-V ELF psABI, 1.1)
 abbrev pub register_name : ℕ → List ℕ
 register_name n =
-    if nat_lt n 5 then named n
-    else if nat_lt n 8 then numbered (codes "t") (n - 5)
-    else if nat_lt n 10 then numbered (codes "s") (n - 8)
-    else if nat_lt n 18 then numbered (codes "a") (n - 10)
-    else if nat_lt n 28 then numbered (codes "s") (n - 16)
-    else numbered (codes "t") (n - 25)
+    if nat_lt n 5 then named n else (if nat_lt n 8 then numbered (codes "t") (n - 5) else (
+    if nat_lt n 10 then numbered (codes "s") (n - 8) else (if nat_lt n 18 then numbered (codes "a") (n - 10) else (
+    if nat_lt n 28 then numbered (codes "s") (n - 16) else numbered (codes "t") (n - 25)))))
 
 -- a word, read as signed
 abbrev pub signed : ℕ → List ℕ
-signed word = if nat_lt word (2 ^ 31) then decimal word else codes "-" ++ decimal (2 ^ 32 - word)
+signed word = if nat_lt word (2 ^ 31) then decimal word else numbered (codes "-") (2 ^ 32 - word)
 
 abbrev pub hex_digit : ℕ → ℕ
 hex_digit d = if nat_lt d 10 then 48 + d else 87 + d
@@ -39,11 +33,11 @@ hex_digit d = if nat_lt d 10 then 48 + d else 87 + d
 -- in hexadecimal, with at most so many digits and no leading zero
 abbrev pub hex : (digits : ℕ) → ℕ → List ℕ
 hex zero n = []
-hex (suc digits) n = (if nat_lt n 16 then [] else hex digits (n / 16)) ++ hex_digit (n % 16) ∷ []
+hex (suc digits) n = if nat_lt n 16 then hex_digit n ∷ [] else (hex digits (n / 16) ++ hex_digit (n % 16) ∷ [])
 
 -- an address so many bytes after that of the instruction
 abbrev pub target : ℕ → List ℕ
-target offset = if nat_lt offset (2 ^ 31) then codes ".+" ++ decimal offset else codes ".-" ++ decimal (2 ^ 32 - offset)
+target offset = if nat_lt offset (2 ^ 31) then numbered (codes ".+") offset else numbered (codes ".-") (2 ^ 32 - offset)
 
 -- ---- instructions by what operands they have
 
@@ -83,12 +77,16 @@ abbrev pub accesses : ℕ → List ℕ
 accesses bits =
     letter (nat_lt 7 (bits % 16)) (codes "i") ++ letter (nat_lt 3 (bits % 8)) (codes "o") ++ letter (nat_lt 1 (bits % 4)) (codes "r") ++ letter (nat_lt 0 (bits % 2)) (codes "w")
 
+abbrev pub named_fence : (imm : ℕ) → List ℕ
+named_fence imm = codes "fence\t" ++ accesses (imm / 16) ++ codes "," ++ accesses imm
+
+abbrev pub word_text : Instr → List ℕ
+word_text i = codes ".4byte\t0x" ++ hex 8 (word_of i)
+
 -- A fence that is reserved has no name: its word stands for it.
 abbrev pub fence_text : (rd rs1 imm : ℕ) → List ℕ
 fence_text rd rs1 imm =
-    if rd == 0 && rs1 == 0 && nat_lt imm 256
-    then codes "fence\t" ++ accesses (imm / 16) ++ codes "," ++ accesses imm
-    else codes ".4byte\t0x" ++ hex 8 (word_of (Fence rd rs1 imm))
+    if rd == 0 && (rs1 == 0 && nat_lt imm 256) then named_fence imm else word_text (Fence rd rs1 imm)
 
 abbrev pub text : Instr → List ℕ
 text (Lui rd imm) = with_upper (codes "lui") rd imm

@@ -1,10 +1,9 @@
 //! The instructions by what operands they have.
 
-ghost use Rattle.std.specs.Prelude.{◌≡◌, ◌++◌, OnOk, codes};
-ghost use Rattle.rv_isa.specs.Words.{word_of};
+ghost use Rattle.std.specs.Prelude.{◌≡◌, ◌++◌, OnOk};
 ghost use Rattle.rv_text.specs.Texts.{
   fence_text,
-  hex,
+  named_fence,
   text,
   with_address,
   with_branch,
@@ -13,6 +12,7 @@ ghost use Rattle.rv_text.specs.Texts.{
   with_registers,
   with_shift,
   with_upper,
+  word_text,
 };
 
 use crate::operands::{
@@ -131,10 +131,19 @@ fn push_jump(
 // The word of an instruction that has no name.
 fn push_word(out: &mut Vec<u8>, instruction: Instr) -> Result<(), NoMemory>
     ensures { OnOk result
-        (out.new.items ≡ out.old.items ++ (codes ".4byte\t0x" ++ hex 8 (word_of instruction))) }
+        (out.new.items ≡ out.old.items ++ word_text instruction) }
 {
     push(out, ".4byte\t0x")?;
     push_hex(out, 8, encode(instruction))
+}
+
+fn push_named_fence(out: &mut Vec<u8>, bits: u32) -> Result<(), NoMemory>
+    ensures { OnOk result (out.new.items ≡ out.old.items ++ named_fence bits) }
+{
+    push(out, "fence\t")?;
+    push_accesses(out, bits / 16)?;
+    push(out, ",")?;
+    push_accesses(out, bits)
 }
 
 fn push_fence(out: &mut Vec<u8>, rd: Reg, rs1: Reg, imm: Imm12) -> Result<(), NoMemory>
@@ -142,10 +151,7 @@ fn push_fence(out: &mut Vec<u8>, rd: Reg, rs1: Reg, imm: Imm12) -> Result<(), No
 {
     let bits = imm.word();
     if rd.number() == 0 && rs1.number() == 0 && bits < 256 {
-        push(out, "fence\t")?;
-        push_accesses(out, bits / 16)?;
-        push(out, ",")?;
-        push_accesses(out, bits)
+        push_named_fence(out, bits)
     } else {
         push_word(out, Instr::Fence { rd, rs1, imm })
     }

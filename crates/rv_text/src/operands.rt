@@ -1,6 +1,6 @@
 //! The operands of instructions. Where memory is refused in the middle, the beginning is there.
 
-ghost use Rattle.std.specs.Prelude.{◌≡◌, ◌++◌, ◌-◌, ◌^◌, ◌<◌, ◌≤◌, OnOk, decimal};
+ghost use Rattle.std.specs.Prelude.{◌≡◌, ◌++◌, ◌∷◌, ◌-◌, ◌^◌, ◌<◌, ◌≤◌, [], OnOk, decimal};
 ghost use Rattle.rv_text.specs.Texts.{accesses, hex, hex_digit, led, letter, named, numbered, register_name, signed, target};
 
 use itoa::Buffer;
@@ -59,14 +59,12 @@ pub fn push_register(out: &mut Vec<u8>, reg: Reg) -> Result<(), NoMemory>
     }
 }
 
-// What follows on 2^32 - word, which is the word without its sign.
-fn push_negative(out: &mut Vec<u8>, sign: &str, word: u32) -> Result<(), NoMemory>
+// The absolute value of a word that is negative, read as signed.
+fn absolute(word: u32) -> u32
     requires { 2 ^ 31 ≤ word }
-    ensures { OnOk result
-        (out.new.items ≡ out.old.items ++ (sign.now ++ decimal (2 ^ 32 - word))) }
+    ensures { result ≡ 2 ^ 32 - word }
 {
-    push(out, sign)?;
-    push_number(out, u32::MAX - word + 1)
+    u32::MAX - word + 1
 }
 
 /// A word, read as signed.
@@ -76,7 +74,7 @@ pub fn push_signed(out: &mut Vec<u8>, word: u32) -> Result<(), NoMemory>
     if word < 1 << 31 {
         push_number(out, word)
     } else {
-        push_negative(out, "-", word)
+        push_numbered(out, "-", absolute(word))
     }
 }
 
@@ -87,7 +85,7 @@ pub fn push_target(out: &mut Vec<u8>, offset: u32) -> Result<(), NoMemory>
     if offset < 1 << 31 {
         push_numbered(out, ".+", offset)
     } else {
-        push_negative(out, ".-", offset)
+        push_numbered(out, ".-", absolute(offset))
     }
 }
 
@@ -102,17 +100,26 @@ fn hex_digit(digit: u32) -> u8
     }
 }
 
+fn push_digit(out: &mut Vec<u8>, digit: u32) -> Result<(), NoMemory>
+    requires { digit < 16 }
+    ensures { OnOk result (out.new.items ≡ out.old.items ++ hex_digit digit ∷ []) }
+{
+    Ok(out.push(hex_digit(digit))?)
+}
+
 /// A number in hexadecimal, with at most so many digits and no leading zero.
+#[tactic(auto, using(crate::proofs::Hex::hex_one, crate::proofs::Hex::hex_more))]
 pub fn push_hex(out: &mut Vec<u8>, digits: u32, number: u32) -> Result<(), NoMemory>
     ensures { OnOk result (out.new.items ≡ out.old.items ++ hex digits number) }
 {
     if digits == 0 {
         return Ok(());
     }
-    if number >= 16 {
-        push_hex(out, digits - 1, number / 16)?;
+    if number < 16 {
+        return push_digit(out, number);
     }
-    Ok(out.push(hex_digit(number % 16))?)
+    push_hex(out, digits - 1, number / 16)?;
+    push_digit(out, number % 16)
 }
 
 /// The name of an instruction, a tab and its first register.
