@@ -1,5 +1,6 @@
 -- What lists of depths have in common.
-use Rattle.std.proofs.Common.{◌≡◌, ℕ, zero, suc, ◌+◌, ◌≤◌, ◌<◌, max, List, [], ◌∷◌, ◌++◌, length, Contains, Option, None, Some, slice_index_or, refl, sym, ap, ap₂, ◌∙◌, inl, inr, ◌⊎◌, arith}
+use Rattle.std.proofs.Common.{◌≡◌, ℕ, zero, suc, ◌+◌, ◌≤◌, ◌<◌, max, List, [], ◌∷◌, ◌++◌, length, Contains, Option, None, Some, slice_index_or, get_or, refl, sym, ap, ap₂, ◌∙◌, inl, inr, ◌⊎◌, arith}
+use Rattle.std.proofs.lemmas.List.{get_or_default, get_or_past}
 use Rattle.cc_stack.specs.Depths.{greater, depth_at, most_of, with_frame}
 
 pub contains-none : {A : Type 0} (x : A) → Contains [] x → ⊥
@@ -64,13 +65,13 @@ frame-parts frame None d e = absurd cc
 
 -- ---- lists one after another
 
-pub greater-associates : (a b c : Option ℕ) → greater (greater a b) c ≡ greater a (greater b c)
+greater-associates : (a b c : Option ℕ) → greater (greater a b) c ≡ greater a (greater b c)
 greater-associates None b c = refl
 greater-associates (Some a) None c = refl
 greater-associates (Some a) (Some b) None = refl
 greater-associates (Some a) (Some b) (Some c) = let e : max (max a b) c ≡ max a (max b c) = omega arith in ap (λ n. Some n) e
 
-pub greater-nothing : (a : Option ℕ) → greater a (Some 0) ≡ a
+greater-nothing : (a : Option ℕ) → greater a (Some 0) ≡ a
 greater-nothing None = refl
 greater-nothing (Some a) = let e : max a 0 ≡ a = omega arith in ap (λ n. Some n) e
 
@@ -78,11 +79,30 @@ nothing-greater : (a : Option ℕ) → greater (Some 0) a ≡ a
 nothing-greater None = refl
 nothing-greater (Some a) = let e : max 0 a ≡ a = omega arith in ap (λ n. Some n) e
 
-pub most-append : (depths : List (Option ℕ)) (js ks : List ℕ) → most_of depths (js ++ ks) ≡ greater (most_of depths js) (most_of depths ks)
+most-append : (depths : List (Option ℕ)) (js ks : List ℕ) → most_of depths (js ++ ks) ≡ greater (most_of depths js) (most_of depths ks)
 most-append depths [] ks = sym (nothing-greater (most_of depths ks))
 most-append depths (j ∷ js) ks =
     ap (greater (depth_at depths j)) (most-append depths js ks) ∙ sym (greater-associates (depth_at depths j) (most_of depths js) (most_of depths ks))
 
--- with what came before: first of the one list, then of the other
-pub most-goes-on : (depths : List (Option ℕ)) (so_far : Option ℕ) (js ks : List ℕ) → greater (greater so_far (most_of depths js)) (most_of depths ks) ≡ greater so_far (most_of depths (js ++ ks))
-most-goes-on depths so_far js ks = greater-associates so_far (most_of depths js) (most_of depths ks) ∙ ap (greater so_far) (sym (most-append depths js ks))
+-- with what came before: none, one, and more
+pub none_called : (depths : List (Option ℕ)) (a : Option ℕ) → a ≡ greater a (most_of depths [])
+none_called depths a = sym (greater-nothing a)
+
+pub one_called : (depths : List (Option ℕ)) (a : Option ℕ) (f : ℕ) → greater a (depth_at depths f) ≡ greater a (most_of depths (f ∷ []))
+one_called depths a f = ap (greater a) (sym (greater-nothing (depth_at depths f)))
+
+pub goes_on : (depths : List (Option ℕ)) (a b : Option ℕ) (js ks : List ℕ) → b ≡ greater a (most_of depths js) → greater b (most_of depths ks) ≡ greater a (most_of depths (js ++ ks))
+goes_on depths a b js ks e =
+    ap (λ x. greater x (most_of depths ks)) e ∙ (greater-associates a (most_of depths js) (most_of depths ks) ∙ ap (greater a) (sym (most-append depths js ks)))
+
+-- with nothing before
+pub from_nothing : (a : Option ℕ) → greater (Some 0) a ≡ a
+from_nothing a = nothing-greater a
+
+-- ---- reading a list
+
+pub read_depth : (depths : List (Option ℕ)) (f : ℕ) (x : Option ℕ) → x ≡ get_or depths f x → f < length depths → x ≡ depth_at depths f
+read_depth depths f x e inside = e ∙ get_or_default depths f x None inside
+
+pub no_depth : (depths : List (Option ℕ)) (f : ℕ) → length depths ≤ f → None ≡ depth_at depths f
+no_depth depths f past = sym (get_or_past depths f None past)

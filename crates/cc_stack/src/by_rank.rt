@@ -10,9 +10,11 @@ use std::alloc::Global;
 fn rank_of(ranks: &[u32], function: u32) -> u32
     ensures { result ≡ slice_index_or ranks.now function 0 }
 {
-    match ranks.get(function as usize) {
-        Some(rank) => *rank,
-        None => 0,
+    let index = function as usize;
+    if index < ranks.len() {
+        ranks[index]
+    } else {
+        0
     }
 }
 

@@ -1,4 +1,5 @@
 //! What the calls of a lambda need of the stack.
+#![tactic(auto, using(crate::proofs::Lists::none_called, crate::proofs::Lists::one_called, crate::proofs::Lists::goes_on))]
 
 ghost use Rattle.std.specs.Prelude.{◌≡◌, ℕ, ◌+◌, ◌<◌, ◌^◌};
 ghost use Rattle.std.specs.declared.option.Option.TheVariants.{Some};
@@ -10,18 +11,24 @@ use g_graph::{Lambda, Node, Op, Region};
 fn greater(a: Option<u64>, b: Option<u64>) -> Option<u64>
     ensures { result ≡ greater a b }
 {
-    match (a, b) {
-        (Some(a), Some(b)) => Some(if a < b { b } else { a }),
-        _ => None,
+    match a {
+        Some(a) => match b {
+            Some(b) => Some(a.max(b)),
+            None => None,
+        },
+        None => None,
     }
 }
 
+#[tactic(auto, using(crate::proofs::Lists::read_depth, crate::proofs::Lists::no_depth))]
 fn depth_at(depths: &[Option<u64>], function: u32) -> Option<u64>
     ensures { result ≡ depth_at depths.now function }
 {
-    match depths.get(function as usize) {
-        Some(depth) => *depth,
-        None => None,
+    let index = function as usize;
+    if index < depths.len() {
+        depths[index]
+    } else {
+        None
     }
 }
 
