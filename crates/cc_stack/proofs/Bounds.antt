@@ -7,17 +7,17 @@ use Rattle.std.proofs.lemmas.List.Elements.{Contains-append_left, Contains-appen
 use Rattle.std.proofs.lemmas.Option.{slice_get-get_or}
 use Rattle.val_core.specs.declared.values.Value.{Value}
 use Rattle.val_core.specs.declared.values.Value.TheVariants.{Num, At, Bad}
-use Rattle.val_core.specs.Memory.{Memory as Blocks, load, store, pointers_equal, cleared_at}
-use Rattle.val_core.specs.Objects.{Addresses}
+use Rattle.val_core.specs.Memory.{Memory as Blocks, closed, load, store, pointers_equal, cleared_at}
+use Rattle.val_core.specs.Objects.{Addresses, opened}
 use Rattle.val_core.specs.Events.{Event, wrote, took, deepest, called}
 use Rattle.val_core.specs.Answers.{Answer, Returned, Cut, Exited, Undefined, before, then_on, on_number, on_defined, active, events}
 use Rattle.val_core.proofs.lemmas.Answers.{before-is, events-added, events-active}
 use Rattle.val_core.proofs.lemmas.Events.{deepest_appends, called_deepens}
 use Rattle.g_graph.specs.declared.op.Op.{Op}
 use Rattle.g_graph.specs.declared.op.Op.TheVariants.{Const, Undef, Local, Delta, Bin, Un, Load, Store, Clear, PtrEq, Apply, Put, Exit, Get, Gamma, Theta}
-use Rattle.g_graph.specs.Plain.{RegionTree, region, NodeTree, node, NodeTrees, no_nodes, node_then, RegionTrees, no_regions, region_then, id_of, PlainLambda, PlainOmega}
+use Rattle.g_graph.specs.Plain.{RegionTree, region, NodeTree, node, NodeTrees, no_nodes, node_then, RegionTrees, no_regions, region_then, id_of, PlainLambda, PlainOmega, shapes_of}
 use Rattle.g_graph.specs.Program.{name_index, main_name}
-use Rattle.g_mean.specs.Data.{Datum, memory, val, input, at_port, value_of, value_at, on_memory, on_input}
+use Rattle.g_mean.specs.Data.{Datum, memory, val, input, at_port, value_of, value_at, on_memory, on_input, with_memory, changed_at}
 use Rattle.g_mean.specs.Meaning.{Meaning, Context, given, given_memory, got, done, chosen, branched, again, turns, looped, act, Outputs, no_outputs, extended, read, region_meaning, node_run, nodes_run, meanings}
 use Rattle.g_mean.specs.Calls.{inside, entered, applied, lambda_at, global_of, first_memory, finished, started, deepest_main}
 use Rattle.g_pass_order.specs.Calls.{op_calls, region_calls, node_calls, nodes_calls, regions_calls, no_lambda}
@@ -184,6 +184,10 @@ mutual
 
 -- ---- calls and programs
 
+-- the data that a lambda's body takes: the memory has its objects
+abbrev given-objects : PlainLambda → Blocks → List Datum → List Datum
+given-objects l b xs = changed_at l.params (with_memory (λ k. k ++ opened (shapes_of l.objects))) xs
+
 module _ (ls : List PlainLambda) (sizes : List ℕ) (depths : List (Option ℕ)) (are : IsDepth ls sizes depths) where
   abbrev size : ℕ → ℕ
   size f = slice_index_or sizes f 0
@@ -199,7 +203,10 @@ module _ (ls : List PlainLambda) (sizes : List ℕ) (depths : List (Option ℕ))
 
   entered-most : (global : ℕ → Value) (n m : ℕ) (call : ℕ → Meaning) (l : PlainLambda) → CallsMost size m call (region_calls l.body) → MeansMost size m (entered n call global (Some l))
   entered-most global n m call l calls xs =
-      memory-most size m (at_port xs l.params) _ (λ b. then-most size m _ _ (region-most size m (inside n call global l.objects b) l.body calls _) (λ ys. none m))
+      memory-most size m (at_port xs l.params)
+      (λ b. then_on (region_meaning (inside n call global l.objects b) l.body (given-objects l b xs)) (λ ys. Returned (changed_at 1 (with_memory (closed (length b) (length l.objects))) ys) []))
+      (λ b. then-most size m (region_meaning (inside n call global l.objects b) l.body (given-objects l b xs)) (λ ys. Returned (changed_at 1 (with_memory (closed (length b) (length l.objects))) ys) [])
+      (region-most size m (inside n call global l.objects b) l.body calls (given-objects l b xs)) (λ ys. none m))
 
   applied-most : (global : ℕ → Value) (n f d : ℕ) → depth_at depths f ≡ Some d → MeansMost size d (applied ls global n f)
   applied-most global zero f d e xs = none d

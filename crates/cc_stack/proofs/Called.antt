@@ -63,10 +63,10 @@ has-contains (x ∷ xs) n e = by (x == n) refl e (λ later. has-contains xs n la
     by true q h rest = let same : x ≡ n = grind (arith, nat_tests) in (0, omega arith, same)
     by false q h rest = contains-later n x xs (rest h)
 
-range-has : (n x : ℕ) → x < n → Contains (range_with_len 0 n) x
+pub range-has : (n x : ℕ) → x < n → Contains (range_with_len 0 n) x
 range-has n x low = (x, omega (arith, low, length-range_with_len 0 n), omega (arith, get_or-range_with_len 0 n x x low))
 
-in-range : (n x : ℕ) → Contains (range_with_len 0 n) x → x < n
+pub in-range : (n x : ℕ) → Contains (range_with_len 0 n) x → x < n
 in-range n x h = omega (arith, h.1, h.2, length-range_with_len 0 n, get_or-range_with_len 0 n h.0 x (omega (arith, h.1, length-range_with_len 0 n)))
 
 -- ---- calls

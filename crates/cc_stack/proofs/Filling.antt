@@ -61,7 +61,7 @@ module _ (ls : List PlainLambda) (sizes turns : List ℕ) (t f : ℕ) (l : Plain
       most-same depths after (region_calls c.body)
       (λ k h. stays k (λ e. subst (IsRecursive ls) is (are.callees i t c le inside there (subst (Contains (region_calls c.body)) (e ∙ sym is) h))))
 
-  one-more : ((g : ℕ) → slice_index_or sizes g 0 < 2 ^ 32) → IsFilled ls sizes turns (t + 1) after
+  one-more : slice_index_or sizes f 0 < 2 ^ 32 → IsFilled ls sizes turns (t + 1) after
   one-more small =
       record {
         counted = length-set depths f found ∙ filled.counted;
@@ -69,7 +69,7 @@ module _ (ls : List PlainLambda) (sizes turns : List ℕ) (t f : ℕ) (l : Plain
         elim (same-or-not k f) [
           | inl same ↦
               let parts = frame-parts (slice_index_or sizes f 0) (most_of depths (region_calls l.body)) d (sym at-found ∙ (ap (depth_at after) (sym same) ∙ e)) in
-              omega (arith, small f, parts.2, most-low depths (region_calls l.body) (2 ^ 32 * t) filled.low parts.0 parts.1)
+              omega (arith, small, parts.2, most-low depths (region_calls l.body) (2 ^ 32 * t) filled.low parts.0 parts.1)
           | inr other ↦ let old = filled.low k d (sym (elsewhere k other) ∙ e) in omega (arith, old)
         ];
         each = λ i c low there.
@@ -97,19 +97,20 @@ module _ (ls : List PlainLambda) (sizes turns : List ℕ) (t f : ℕ) (l : Plain
           ]
 
 pub filled-more : (ls : List PlainLambda) (sizes turns : List ℕ) (t f : ℕ) (l : PlainLambda) (depths : List (Option ℕ)) → AreTurns ls turns → t < length turns → slice_index_or turns t 0 ≡ f → slice_get ls f ≡ Some l →
-    ((g : ℕ) → slice_index_or sizes g 0 < 2 ^ 32) → IsFilled ls sizes turns t depths →
+    slice_index_or sizes f 0 < 2 ^ 32 → IsFilled ls sizes turns t depths →
     IsFilled ls sizes turns (t + 1) (set depths f (with_frame (slice_index_or sizes f 0) (most_of depths (region_calls l.body))))
 filled-more ls sizes turns t f l depths are inside is at small filled = one-more ls sizes turns t f l depths are inside is at filled small
 
 -- after all turns
-pub filled-all : (ls : List PlainLambda) (sizes turns : List ℕ) (depths : List (Option ℕ)) → AreTurns ls turns → IsFilled ls sizes turns (length turns) depths → IsDepth ls sizes depths
-filled-all ls sizes turns depths are filled =
+pub filled-all : (ls : List PlainLambda) (sizes turns : List ℕ) (count : ℕ) (depths : List (Option ℕ)) → AreTurns ls turns → length turns ≤ count → IsFilled ls sizes turns count depths → IsDepth ls sizes depths
+filled-all ls sizes turns count depths are whole filled =
     record {
       counted = filled.counted;
       each = λ f l at.
       let turn = are.all f (slice_get_within ls f l at) in
       let is : slice_index_or turns turn.0 0 ≡ f = get_or_default turns turn.0 0 f turn.1 ∙ turn.2 in
-      let done = filled.each turn.0 l turn.1 (ap (slice_get ls) is ∙ at) in
+      let had : turn.0 < count = omega (arith, turn.1, whole) in
+      let done = filled.each turn.0 l had (ap (slice_get ls) is ∙ at) in
       subst (λ g. depth_at depths g ≡ with_frame (slice_index_or sizes g 0) (most_of depths (region_calls l.body))) is done;
       recursive = filled.recursive;
     }

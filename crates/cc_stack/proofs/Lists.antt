@@ -1,5 +1,5 @@
 -- What lists of depths have in common.
-use Rattle.std.proofs.Common.{◌≡◌, ℕ, zero, suc, ◌+◌, ◌≤◌, ◌<◌, max, List, [], ◌∷◌, ◌++◌, length, Contains, Option, None, Some, slice_index_or, get_or, refl, sym, ap, ap₂, ◌∙◌, inl, inr, ◌⊎◌, arith}
+use Rattle.std.proofs.Common.{◌≡◌, ℕ, zero, suc, ◌+◌, ◌-◌, ◌^◌, ◌≤◌, ◌<◌, max, List, [], ◌∷◌, ◌++◌, length, Contains, Option, None, Some, slice_index_or, get_or, drop, drop-cons, refl, sym, ap, ap₂, ◌∙◌, inl, inr, ◌⊎◌, arith}
 use Rattle.std.proofs.lemmas.List.{get_or_default, get_or_past}
 use Rattle.cc_stack.specs.Depths.{greater, depth_at, most_of, with_frame}
 
@@ -106,3 +106,16 @@ read_depth depths f x e inside = e ∙ get_or_default depths f x None inside
 
 pub no_depth : (depths : List (Option ℕ)) (f : ℕ) → length depths ≤ f → None ≡ depth_at depths f
 no_depth depths f past = sym (get_or_past depths f None past)
+
+pub drop_next : {A : Type 0} (xs : List A) (i : ℕ) (x : A) → i < length xs → x ≡ get_or xs i x → drop i xs ≡ x ∷ drop (i + 1) xs
+drop_next xs i x low is =
+    let next : suc i ≡ i + 1 = omega arith in
+    drop-cons xs i x low ∙ ap₂ (λ y ys. y ∷ ys) (sym is) (ap (λ k. drop k xs) next)
+
+-- ---- a frame more
+
+pub frame_fits : (depths : List (Option ℕ)) (ks : List ℕ) (frame most : ℕ) → frame < 2 ^ 32 → ((f d : ℕ) → depth_at depths f ≡ Some d → d + 2 ^ 32 < 2 ^ 64) → greater (Some 0) (most_of depths ks) ≡ Some most → frame + most < 2 ^ 64
+frame_fits depths ks frame most small low e =
+    let is : most_of depths ks ≡ Some most = sym (nothing-greater (most_of depths ks)) ∙ e in
+    let bound : most ≤ 2 ^ 64 - 2 ^ 32 - 1 = most-low depths ks (2 ^ 64 - 2 ^ 32 - 1) (λ k d at. let h = low k d at in omega (arith, h)) most is in
+    omega (arith, small, bound)

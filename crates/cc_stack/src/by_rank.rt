@@ -1,6 +1,7 @@
 //! The functions in the order of their ranks.
 
 ghost use Rattle.std.specs.Prelude.{◌≡◌, ℕ, ◌<◌, ◌^◌, ◌↔◌, length, slice_index_or, Contains, IfOk};
+ghost use Rattle.std.specs.List.{range_with_len};
 ghost use Rattle.std.specs.List.Sorted.{IsNonDecreasingBy};
 
 use no_memory::NoMemory;
@@ -18,6 +19,13 @@ fn rank_of(ranks: &[u32], function: u32) -> u32
     }
 }
 
+// The numbers of so many functions.
+fn functions(alloc: Global, count: u32) -> Result<Vec<u32>, NoMemory>
+    ensures { IfOk result (λ numbers. numbers.items ≡ range_with_len 0 count) }
+{
+    Ok((0..count).collect(alloc)?)
+}
+
 /// The numbers of the functions that have these ranks, by rank.
 pub fn by_rank(alloc: Global, ranks: &[u32]) -> Result<Vec<u32>, NoMemory>
     requires { length ranks.now < 2 ^ 32 }
@@ -27,7 +35,7 @@ pub fn by_rank(alloc: Global, ranks: &[u32]) -> Result<Vec<u32>, NoMemory>
     ensures sorted { IfOk result
         (λ turns. IsNonDecreasingBy (λ f. slice_index_or ranks.now f 0) turns.items) }
 {
-    let mut turns: Vec<u32> = (0..ranks.len() as u32).collect(alloc)?;
+    let mut turns = functions(alloc, ranks.len() as u32)?;
     turns.sort_unstable_by_key(|function| rank_of(ranks, *function));
     Ok(turns)
 }
