@@ -5,7 +5,7 @@ ghost use Rattle.std.specs.List.{range_with_len};
 ghost use Rattle.std.specs.List.Sorted.{IsNonDecreasingBy};
 
 use no_memory::NoMemory;
-use std::alloc::Global;
+use std::alloc::{AllocError, Global};
 
 // The rank of a function, and 0 for one that is not there.
 fn rank_of(ranks: &[u32], function: u32) -> u32
@@ -20,10 +20,10 @@ fn rank_of(ranks: &[u32], function: u32) -> u32
 }
 
 // The numbers of so many functions.
-fn functions(alloc: Global, count: u32) -> Result<Vec<u32>, NoMemory>
+fn functions(alloc: Global, count: u32) -> Result<Vec<u32>, AllocError>
     ensures { IfOk result (λ numbers. numbers.items ≡ range_with_len 0 count) }
 {
-    Ok((0..count).collect(alloc)?)
+    (0..count).collect(alloc)
 }
 
 /// The numbers of the functions that have these ranks, by rank.

@@ -1,8 +1,13 @@
-use Rattle.std.proofs.Common.{rules, ◌≡◌, ℕ, List, length, slice_index_or, Contains, sym, subst}
+use Rattle.std.proofs.Common.{rules, ◌≡◌, ℕ, List, length, slice_index_or, Contains, ap, sym, subst, ◌∙◌}
 use Rattle.std.specs.List.{range_with_len}
-use Rattle.std.proofs.lemmas.List.Sorted.{Contains-permutation, IsPermutation-sym, IsNonDecreasingBy-from_sort_by_key}
+use Rattle.std.proofs.lemmas.List.FromFn.{length-range_with_len}
+use Rattle.std.proofs.lemmas.List.Sorted.{Contains-permutation, length_permutation, IsPermutation-sym, IsNonDecreasingBy-from_sort_by_key}
 use Rattle.cc_stack.proofs.Called.{in-range, range-has}
 use Rattle.cc_stack.proofs.by_rank.by_rank.Goals as goal
+
+pub returns-clause-counted : goal.returns-clause-counted
+returns-clause-counted c =
+    length_permutation _ _ c.sort_unstable_by_key.ensures.permutation ∙ (ap (λ (xs : List ℕ). length xs) c.in_ok-turns.ensures ∙ length-range_with_len 0 (length c.args.ranks.now))
 
 pub returns-clause-all : goal.returns-clause-all
 returns-clause-all c =

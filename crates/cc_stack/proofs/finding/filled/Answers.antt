@@ -1,4 +1,4 @@
-use Rattle.std.proofs.Common.{rules, ◌≡◌, ◌<◌, ◌^◌, ◌+◌, ℕ, List, Option, length, set, slice_index_or, refl, ap, sym, subst, ◌∙◌, arith}
+use Rattle.std.proofs.Common.{◌≡◌, ◌+◌, ℕ, List, Option, length, set, slice_index_or, refl, ap, sym, subst, ◌∙◌, arith}
 use Rattle.std.proofs.lemmas.Option.{slice_get_read}
 use Rattle.std.proofs.lemmas.List.Elements.{Contains-get_or}
 use Rattle.g_pass_order.specs.Calls.{region_calls}
@@ -31,7 +31,7 @@ loop-turn-preserved c =
     let depths = c.loop-turn.depths.items in
     let low = c.requires.turns.inside f (Contains-get_or turns t 0 c.loop-turn-test.true) in
     let at = slice_get_read ls (length ls) f l refl low c.index-lambdas-function.is in
-    let small : slice_index_or sizes f 0 < 2 ^ 32 = search rules in
+    let small = (c.type_inv.frames f).fits in
     let is : c.depth_of-depth.result ≡ with_frame (slice_index_or sizes f 0) (most_of depths (region_calls l.body)) =
     c.depth_of-depth.ensures ∙ ap (λ (ds : List (Option ℕ)). with_frame (slice_index_or sizes f 0) (most_of ds (region_calls l.body))) c.as_slice.ensures.value in
     subst (λ (v : Option ℕ). IsFilled ls sizes turns (t + 1) (set depths f v)) (sym is)
