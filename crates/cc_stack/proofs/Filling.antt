@@ -66,26 +66,26 @@ module _ (ls : List PlainLambda) (sizes turns : List ℕ) (t f : ℕ) (l : Plain
       record {
         counted = length-set depths f found ∙ filled.counted;
         low = λ k d e.
-        elim (same-or-not k f) [
-          | inl same ↦
-              let parts = frame-parts (slice_index_or sizes f 0) (most_of depths (region_calls l.body)) d (sym at-found ∙ (ap (depth_at after) (sym same) ∙ e)) in
-              omega (arith, small, parts.2, most-low depths (region_calls l.body) (2 ^ 32 * t) filled.low parts.0 parts.1)
-          | inr other ↦ let old = filled.low k d (sym (elsewhere k other) ∙ e) in omega (arith, old)
-        ];
+            elim (same-or-not k f) [
+              | inl same ↦
+                  let parts = frame-parts (slice_index_or sizes f 0) (most_of depths (region_calls l.body)) d (sym at-found ∙ (ap (depth_at after) (sym same) ∙ e)) in
+                  omega (arith, small, parts.2, most-low depths (region_calls l.body) (2 ^ 32 * t) filled.low parts.0 parts.1)
+              | inr other ↦ let old = filled.low k d (sym (elsewhere k other) ∙ e) in omega (arith, old)
+            ];
         each = λ i c low there.
-        let most = most-stays i c (omega (arith, low)) there in
-        elim (same-or-not (slice_index_or turns i 0) f) [
-          | inl same ↦
-              let lambda = some-lambda l c (slice_get ls f) at (subst (λ g. slice_get ls g ≡ Some c) same there) in
-              ap (depth_at after) same
-              ∙ (at-found
-              ∙ (ap (λ (b : PlainLambda). with_frame (slice_index_or sizes f 0) (most_of depths (region_calls b.body))) lambda
-              ∙ (ap (λ g. with_frame (slice_index_or sizes g 0) (most_of depths (region_calls c.body))) (sym same)
-              ∙ ap (with_frame (slice_index_or sizes (slice_index_or turns i 0) 0)) (sym most))))
-          | inr other ↦
-              let earlier : i < t = before-t i low other in
-              elsewhere (slice_index_or turns i 0) other ∙ (filled.each i c earlier there ∙ ap (with_frame (slice_index_or sizes (slice_index_or turns i 0) 0)) (sym most))
-        ];
+            let most = most-stays i c (omega (arith, low)) there in
+            elim (same-or-not (slice_index_or turns i 0) f) [
+              | inl same ↦
+                  let lambda = some-lambda l c (slice_get ls f) at (subst (λ g. slice_get ls g ≡ Some c) same there) in
+                  ap (depth_at after) same
+                  ∙ (at-found
+                  ∙ (ap (λ (b : PlainLambda). with_frame (slice_index_or sizes f 0) (most_of depths (region_calls b.body))) lambda
+                  ∙ (ap (λ g. with_frame (slice_index_or sizes g 0) (most_of depths (region_calls c.body))) (sym same)
+                  ∙ ap (with_frame (slice_index_or sizes (slice_index_or turns i 0) 0)) (sym most))))
+              | inr other ↦
+                  let earlier : i < t = before-t i low other in
+                  elsewhere (slice_index_or turns i 0) other ∙ (filled.each i c earlier there ∙ ap (with_frame (slice_index_or sizes (slice_index_or turns i 0) 0)) (sym most))
+            ];
         recursive = λ k r. stays k (λ e. subst (IsRecursive ls) e r) ∙ filled.recursive k r;
       }
     where
@@ -107,10 +107,10 @@ filled-all ls sizes turns count depths are whole filled =
     record {
       counted = filled.counted;
       each = λ f l at.
-      let turn = are.all f (slice_get_within ls f l at) in
-      let is : slice_index_or turns turn.0 0 ≡ f = get_or_default turns turn.0 0 f turn.1 ∙ turn.2 in
-      let had : turn.0 < count = omega (arith, turn.1, whole) in
-      let done = filled.each turn.0 l had (ap (slice_get ls) is ∙ at) in
-      subst (λ g. depth_at depths g ≡ with_frame (slice_index_or sizes g 0) (most_of depths (region_calls l.body))) is done;
+          let turn = are.all f (slice_get_within ls f l at) in
+          let is : slice_index_or turns turn.0 0 ≡ f = get_or_default turns turn.0 0 f turn.1 ∙ turn.2 in
+          let had : turn.0 < count = omega (arith, turn.1, whole) in
+          let done = filled.each turn.0 l had (ap (slice_get ls) is ∙ at) in
+          subst (λ g. depth_at depths g ≡ with_frame (slice_index_or sizes g 0) (most_of depths (region_calls l.body))) is done;
       recursive = filled.recursive;
     }

@@ -44,5 +44,5 @@ turns-are below both ls known ranks deps order turns counted all sorted =
       inside = λ f h. let low = (all f).0 h in omega (arith, low, long);
       all = λ f low. (all f).1 (omega (arith, low, long));
       callees = λ i j l le inside at h.
-      no-earlier below both ls known ranks deps order (slice_index_or turns i 0) (slice_index_or turns j 0) l at h (sorted i j 0 le inside);
+          no-earlier below both ls known ranks deps order (slice_index_or turns i 0) (slice_index_or turns j 0) l at h (sorted i j 0 le inside);
     }

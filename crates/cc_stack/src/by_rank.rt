@@ -12,11 +12,7 @@ fn rank_of(ranks: &[u32], function: u32) -> u32
     ensures { result ≡ slice_index_or ranks.now function 0 }
 {
     let index = function as usize;
-    if index < ranks.len() {
-        ranks[index]
-    } else {
-        0
-    }
+    if index < ranks.len() { ranks[index] } else { 0 }
 }
 
 // The numbers of so many functions.
