@@ -1,5 +1,5 @@
 -- Where `main` has a depth, no run of the program has a stack of more bytes.
-use Rattle.std.proofs.Common.{◌≡◌, ℕ, zero, suc, ◌+◌, ◌%◌, ◌≤◌, ◌<◌, Bool, true, false, if◌then◌else◌, List, [], ◌∷◌, ◌++◌, map, length, Contains, Option, None, Some, slice_get, slice_index_or, get_or, refl, sym, ap, subst, ◌∙◌, inl, inr, arith}
+use Rattle.std.proofs.Common.{◌≡◌, ℕ, zero, suc, ◌+◌, ◌%◌, ◌≤◌, Bool, true, false, if◌then◌else◌, List, [], ◌∷◌, ◌++◌, map, length, Contains, Option, None, Some, slice_get, slice_index_or, refl, sym, ap, subst, ◌∙◌, inl, inr, arith}
 use Rattle.std.specs.Prelude.{◌==◌}
 use Rattle.std.proofs.lemmas.Bool.{cases_lt}
 use Rattle.std.proofs.lemmas.List.{get_or_past}
@@ -9,19 +9,18 @@ use Rattle.val_core.specs.declared.values.Value.{Value}
 use Rattle.val_core.specs.declared.values.Value.TheVariants.{Num, At, Bad}
 use Rattle.val_core.specs.Memory.{Memory as Blocks, closed, load, store, pointers_equal, cleared_at}
 use Rattle.val_core.specs.Objects.{Addresses, opened}
-use Rattle.val_core.specs.Events.{Event, wrote, took, deepest, called}
+use Rattle.val_core.specs.Events.{wrote, deepest, called}
 use Rattle.val_core.specs.Answers.{Answer, Returned, Cut, Exited, Undefined, before, then_on, on_number, on_defined, active, events}
 use Rattle.val_core.proofs.lemmas.Answers.{before-is, events-added, events-active}
 use Rattle.val_core.proofs.lemmas.Events.{deepest_appends, called_deepens}
 use Rattle.g_graph.specs.declared.op.Op.{Op}
 use Rattle.g_graph.specs.declared.op.Op.TheVariants.{Const, Undef, Local, Delta, Bin, Un, Load, Store, Clear, PtrEq, Apply, Put, Exit, Get, Gamma, Theta}
 use Rattle.g_graph.specs.Plain.{RegionTree, region, NodeTree, node, NodeTrees, no_nodes, node_then, RegionTrees, no_regions, region_then, id_of, PlainLambda, PlainOmega, shapes_of}
-use Rattle.g_graph.specs.Program.{name_index, main_name}
 use Rattle.g_mean.specs.Data.{Datum, memory, val, input, at_port, value_of, value_at, on_memory, on_input, with_memory, changed_at}
 use Rattle.g_mean.specs.Meaning.{Meaning, Context, given, given_memory, got, done, chosen, branched, again, turns, looped, act, Outputs, no_outputs, extended, read, region_meaning, node_run, nodes_run, meanings}
-use Rattle.g_mean.specs.Calls.{inside, entered, applied, lambda_at, global_of, first_memory, finished, started, deepest_main}
+use Rattle.g_mean.specs.Calls.{inside, entered, applied, lambda_at, global_of, first_memory, finished, started}
 use Rattle.g_pass_order.specs.Calls.{op_calls, region_calls, node_calls, nodes_calls, regions_calls, no_lambda}
-use Rattle.cc_stack.specs.Depths.{depth_at, most_of, with_frame, IsDepth}
+use Rattle.cc_stack.specs.Depths.{depth_at, most_of, IsDepth}
 use Rattle.cc_stack.specs.Laws.{StacksAreBounded}
 use Rattle.cc_stack.proofs.Lists.{most-parts, frame-parts}
 

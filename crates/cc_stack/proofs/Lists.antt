@@ -1,5 +1,5 @@
 -- What lists of depths have in common.
-use Rattle.std.proofs.Common.{◌≡◌, ℕ, zero, suc, ◌+◌, ◌-◌, ◌^◌, ◌≤◌, ◌<◌, max, List, [], ◌∷◌, ◌++◌, length, Contains, Option, None, Some, slice_index_or, get_or, drop, drop-cons, refl, sym, ap, ap₂, ◌∙◌, inl, inr, ◌⊎◌, arith}
+use Rattle.std.proofs.Common.{◌≡◌, ℕ, zero, suc, ◌+◌, ◌-◌, ◌^◌, ◌≤◌, ◌<◌, max, List, [], ◌∷◌, ◌++◌, length, Contains, Option, None, Some, get_or, drop, drop-cons, refl, sym, ap, ap₂, ◌∙◌, inl, inr, ◌⊎◌, arith}
 use Rattle.std.proofs.lemmas.List.{get_or_default, get_or_past}
 use Rattle.cc_stack.specs.Depths.{greater, depth_at, most_of, with_frame}
 
@@ -94,10 +94,6 @@ one_called depths a f = ap (greater a) (sym (greater-nothing (depth_at depths f)
 pub goes_on : (depths : List (Option ℕ)) (a b : Option ℕ) (js ks : List ℕ) → b ≡ greater a (most_of depths js) → greater b (most_of depths ks) ≡ greater a (most_of depths (js ++ ks))
 goes_on depths a b js ks e =
     ap (λ x. greater x (most_of depths ks)) e ∙ (greater-associates a (most_of depths js) (most_of depths ks) ∙ ap (greater a) (sym (most-append depths js ks)))
-
--- with nothing before
-pub from_nothing : (a : Option ℕ) → greater (Some 0) a ≡ a
-from_nothing a = nothing-greater a
 
 -- ---- reading a list
 

@@ -1,11 +1,10 @@
 -- The order by ranks is one by which depths can be found.
-use Rattle.std.proofs.Common.{◌≡◌, ◌≢◌, ◌≤◌, ◌<◌, ℕ, List, length, map, Contains, Option, Some, slice_get, slice_index, slice_index_or, get_or, refl, sym, ap, subst, ◌∙◌, inl, inr, arith}
+use Rattle.std.proofs.Common.{◌≡◌, ◌≢◌, ◌≤◌, ◌<◌, ℕ, List, length, Contains, Some, slice_get, slice_index, slice_index_or, ◌∙◌, inl, inr, arith}
 use Rattle.std.specs.Prelude.{◌↔◌}
 use Rattle.std.specs.List.Sorted.{IsNonDecreasingBy}
 use Rattle.std.proofs.lemmas.Bool.{cases_lt}
 use Rattle.std.proofs.lemmas.List.{length-map}
 use Rattle.std.proofs.lemmas.Option.{slice_get_within}
-use Rattle.call_order.specs.Units.{Calls}
 use Rattle.call_order.specs.Laws.{CalleeRanksBelow, UnitsAreMutual}
 use Rattle.g_graph.specs.Plain.{PlainLambda}
 use Rattle.g_pass_order.specs.Calls.{region_calls, callees, calls_of, CallsAreKnown, IsOrder}

@@ -3,7 +3,6 @@ use Rattle.std.specs.Prelude.{◌≡◌, ℕ, ◌≤◌, List, Option, Some}
 use Rattle.g_graph.specs.Plain.{PlainLambda, PlainOmega}
 use Rattle.g_graph.specs.Program.{name_index, main_name}
 use Rattle.g_mean.specs.Calls.{deepest_main}
-use Rattle.g_pass_order.specs.Calls.{CallsAreKnown, IsOrder}
 use Rattle.cc_stack.specs.Depths.{depth_at, IsDepth}
 
 -- Where `main` has a depth, no run of the program has a stack of more bytes, whatever it reads and however long it runs.

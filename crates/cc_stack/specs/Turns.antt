@@ -1,5 +1,5 @@
 -- An order of the functions of a list by which their depths can be found one after another.
-use Rattle.std.specs.Prelude.{◌≡◌, ℕ, ◌+◌, ◌*◌, ◌^◌, ◌<◌, ◌≤◌, List, length, Option, None, Some, slice_get, slice_index_or, Contains}
+use Rattle.std.specs.Prelude.{◌≡◌, ℕ, ◌*◌, ◌^◌, ◌<◌, ◌≤◌, List, length, Option, None, Some, slice_get, slice_index_or, Contains}
 use Rattle.g_graph.specs.Plain.{PlainLambda}
 use Rattle.g_pass_order.specs.Calls.{region_calls}
 use Rattle.cc_stack.specs.Depths.{depth_at, most_of, with_frame, IsRecursive}

@@ -1,4 +1,4 @@
-use Rattle.std.proofs.Common.{◌≡◌, ℕ, List, sym, subst}
+use Rattle.std.proofs.Common.{◌≡◌, ℕ, List, subst}
 use Rattle.call_order.specs.Units.{call_lists}
 use Rattle.g_pass_order.specs.Calls.{IsOrder}
 use Rattle.cc_stack.proofs.Turning.{turns-are}
