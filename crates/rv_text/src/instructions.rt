@@ -115,12 +115,7 @@ fn push_upper(out: &mut Vec<u8>, name: &str, rd: Reg, imm: Upper) -> Result<(), 
     push_hex(out, 5, imm.bits())
 }
 
-fn push_jump(
-    out: &mut Vec<u8>,
-    name: &str,
-    rd: Reg,
-    offset: JumpOffset,
-) -> Result<(), NoMemory>
+fn push_jump(out: &mut Vec<u8>, name: &str, rd: Reg, offset: JumpOffset) -> Result<(), NoMemory>
     ensures { OnOk result (out.new.items ≡ out.old.items ++ with_jump name.now rd offset) }
 {
     push_led(out, name, rd)?;
