@@ -7,7 +7,6 @@ use crate::changes::{replace, splice_body, wrap};
 use crate::code::{linear, lines, place_lines};
 use crate::row::Row;
 use crate::rules::{at, recipe, rules, sweep_of};
-use crate::running::{alike, keep, run};
 use crate::words::{kept_of, unary_of, value_of_one, value_of_two, word_of_two};
 use g_graph::{Lambda, check, copy_of, equal, ids, values};
 use g_text::Named;
@@ -21,9 +20,6 @@ pub fn call(row: &mut Row, line: &str) -> Result<(), NoMemory> {
         "" | "#" => Ok(()),
         "rules" => rules(row, rest),
         "code" => place_lines(row, rest),
-        "run" => run(row, rest),
-        "keep" => keep(row),
-        "alike" => alike(row, rest),
         "word" => word_of_two(row, rest),
         "unary" => unary_of(row, rest),
         "value" => value_of_two(row, rest),

@@ -15,8 +15,6 @@ pub struct Row {
     pub told: String,
     /// The lambdas that are read. The last is the one that calls are on.
     pub lambdas: Vec<Named>,
-    /// The copies that are kept.
-    pub kept: Vec<Lambda>,
     pub said: String,
     pub wanted: String,
 }
@@ -45,7 +43,6 @@ impl Row {
             name: String::new(alloc),
             told: String::new(alloc),
             lambdas: Vec::new(alloc),
-            kept: Vec::new(alloc),
             said: String::new(alloc),
             wanted: String::new(alloc),
         }

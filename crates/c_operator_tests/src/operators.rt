@@ -1,4 +1,4 @@
-//! Signs of operators.
+//! The operators, by their texts.
 
 use c_ast::{AssignOp, BinaryOp, IncDec, Selection, UnaryOp};
 
