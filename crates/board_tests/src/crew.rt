@@ -367,7 +367,8 @@ pub fn run<R: Threads + Wait + Sync>(
     drive::<Brand, R>(rt, alloc, shared, first, workers, script)
 }
 
-/// Does a step on the board without a lock, where it is a turn, and tells whether it has the answer.
+/// Does a step on the board without a lock, where it is a turn, and tells whether it has the
+/// answer.
 fn is_answered(
     alloc: Global,
     board: &mut Board<Numbers>,

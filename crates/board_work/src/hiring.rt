@@ -18,7 +18,8 @@ use std::alloc::Global;
 
 // A worker at this seat. It has room for as many results as a board has jobs at most.
 fn hired<S: Drop, M: Drop>(alloc: Global, seat: S) -> Result<WorkerOf<S, M>, NoMemory>
-    ensures { IfOk result (λ worker. (worker.seat ≡ seat) × (most_jobs ≤ vec_capacity worker.deps)) }
+    ensures { IfOk result (λ worker. (worker.seat ≡ seat)
+        × (most_jobs ≤ vec_capacity worker.deps)) }
 {
     Ok(WorkerOf {
         seat,

@@ -58,8 +58,10 @@ arm_call x a i b s = ap (λ t. expression t s) (tree-Call x a i b) ∙ call_is (
 pub arm_select : (x : Expr) (by : Selection) (a : Span) (i : Identifier) (s : State) →
     expression (expr_tree (e.Select x by a i)) s ≡ after (expression (expr_tree x) s) (selected by a.at i.name i.span.at)
 unfolding selection_production
-arm_select x selection.Dot a i s = ap (λ t. expression t s) (tree-Select x selection.Dot a i) ∙ ap (λ o. after (expression (expr_tree x) s) (λ y. if_some o (λ op. selected op a.at i.name i.span.at y))) (selection_of-mark selection.Dot)
-arm_select x selection.Arrow a i s = ap (λ t. expression t s) (tree-Select x selection.Arrow a i) ∙ ap (λ o. after (expression (expr_tree x) s) (λ y. if_some o (λ op. selected op a.at i.name i.span.at y))) (selection_of-mark selection.Arrow)
+arm_select x selection.Dot a i s = ap (λ t. expression t s) (tree-Select x selection.Dot a i)
+    ∙ ap (λ o. after (expression (expr_tree x) s) (λ y. if_some o (λ op. selected op a.at i.name i.span.at y))) (selection_of-mark selection.Dot)
+arm_select x selection.Arrow a i s = ap (λ t. expression t s) (tree-Select x selection.Arrow a i)
+    ∙ ap (λ o. after (expression (expr_tree x) s) (λ y. if_some o (λ op. selected op a.at i.name i.span.at y))) (selection_of-mark selection.Arrow)
 
 pub arm_post_increment : (x : Expr) (by : IncDec) (a : Span) (s : State) →
     expression (expr_tree (e.PostIncrement x by a)) s ≡ after (expression (expr_tree x) s) (stepped by a.at true)

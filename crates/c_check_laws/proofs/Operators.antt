@@ -81,7 +81,8 @@ element_typed c t is_const e ty h = tt
 
 pub index_is_typed : (c : Scope) (a b : Operand) → ObjectsFit c → OperandIsTyped c a → OperandIsTyped c b → IfSome (OperandIsTyped c) (index_typed c.structs a b)
 index_is_typed c a b fit ta tb =
-    and_then_holds (ExprIsTyped c) (OperandIsTyped c) (element (has_const_elements a || has_const_elements b)) (binary_typed c.structs binary_operator.Add a b) (binary_is_typed c binary_operator.Add a b fit ta tb)
+    and_then_holds (ExprIsTyped c) (OperandIsTyped c) (element (has_const_elements a || has_const_elements b)) (binary_typed c.structs binary_operator.Add a b)
+    (binary_is_typed c binary_operator.Add a b fit ta tb)
     (λ e ty. element_typed c (type_of e) (has_const_elements a || has_const_elements b) e ty refl)
 
 selected_typed : (c : Scope) (o : Selection) (a : Operand) → ObjectsFit c → OperandIsTyped c a → IfSome (OperandIsTyped c) (selected o a)

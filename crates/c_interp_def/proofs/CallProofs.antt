@@ -137,7 +137,12 @@ module _ (p : ProgramTree) (n f count k : ℕ) (x : Configuration) where
   body-law None e = refl
   body-law (Some fn) e =
       let stored : Option Memory = call_memory p x count fn in
-      let c : Context = record { bound = n; calls = nested p (global_address p) n k; addresses = record { local = address_in (length x.memory) (object_sizes p fn.variables); global = global_address p } } in
+      let c : Context = record {
+        bound = n;
+        calls = nested p (global_address p) n k;
+        addresses = record
+            { local = address_in (length x.memory) (object_sizes p fn.variables); global = global_address p };
+      } in
       let began : Memory → Answer Flowed = λ m. items_run c fn.variables fn.body (record { slots = params_in_scope 0 (params_of fn) given; memory = m; input = x.input }) in
       let ends : Flowed → Answer (Given (Option Value)) = ended (f == p.main) (length x.memory) (length (objects_of p.structs fn.variables)) in
       let tasks : Memory → Answer Reached = λ m. tasks_run p n (call_tasks fn) (normally (in_call x f count k fn m)) in
@@ -149,7 +154,8 @@ module _ (p : ProgramTree) (n f count k : ℕ) (x : Configuration) where
       ∙ sym (ap (λ vs. run_with fn vs m) (ap variables_in e))
       ∙ sym (then_associates (items_run (context_of p n y.frame) (variables_of p f) fn.body (state_of y)) (flows_on y) (task_run p n (handler end_call))))
 
-  call-law : (rest : Reached → Answer Reached) → x.frame.depth ≡ suc k → IsHeardAs (then_on (expr_task_run p n (call f count) x) rest) (then_on (call_entered p n x f count k (slice_get p.functions f)) rest)
+  call-law : (rest : Reached → Answer Reached) → x.frame.depth ≡ suc k →
+      IsHeardAs (then_on (expr_task_run p n (call f count) x) rest) (then_on (call_entered p n x f count k (slice_get p.functions f)) rest)
   call-law rest e i o =
       ap (λ d. heard_as i (before o (then_on (then_on (nested p (global_address p) n d f given x.memory x.input) back) rest))) e
       ∙ ap (λ a. heard_as i (before o a)) (then_associates (active f body) back rest)
@@ -165,7 +171,8 @@ call-enters p n f count k x rest e = call-law p n f count k x rest e
 
 -- ---- the run
 
-last-value : (v : Option Value) → IsHeardAs {A = Given (Option Value)} {B = Reached} (on_defined v (λ u. on_number u (λ w. Exited [] (w % 256)))) (on_number (value_or_none v) (λ w. Exited [] (w % 256)))
+last-value : (v : Option Value) → IsHeardAs {A = Given (Option Value)} {B = Reached} (on_defined v (λ u. on_number u (λ w. Exited [] (w % 256))))
+    (on_number (value_or_none v) (λ w. Exited [] (w % 256)))
 last-value None i o = undefined-same (Given (Option Value)) Reached i o [] [] (same-itself [])
 last-value (Some (Num w)) i o = exit-same (Given (Option Value)) Reached i o [] [] (w % 256) (same-itself [])
 last-value (Some (At b q)) i o = undefined-same (Given (Option Value)) Reached i o [] [] (same-itself [])

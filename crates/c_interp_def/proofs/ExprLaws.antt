@@ -49,7 +49,8 @@ module _ (p : ProgramTree) (n : ℕ) where
   abbrev assigned : Configuration → TypeTree → ExprTree → Located → Answer Valued
   assigned x t e r = then_on (ran x e r.state) (λ y. used y.value (λ v. spot_written t r.spot v y.state))
 
-  assign-law : (x : Configuration) (t : TypeTree) (q : PlaceTree) (e : ExprTree) (o : Option ℕ) → value_slot x.frame.slots q ≡ o → expr_task_run p n (evaluate (expr t (tree.assign q e))) x ≡ all_done (assign_tasks t q e o) x
+  assign-law : (x : Configuration) (t : TypeTree) (q : PlaceTree) (e : ExprTree) (o : Option ℕ) → value_slot x.frame.slots q ≡ o → expr_task_run p n (evaluate (expr t (tree.assign q e))) x
+      ≡ all_done (assign_tasks t q e o) x
   assign-law x t q e (Some k) h =
       ap (λ a. then_on (then_on a (assigned x t e)) (gives_value x)) (in-slot (ctx x) q k (state_of x) h)
       ∙ both (ran x e (state_of x)) (λ y. used y.value (λ v. spot_written t (in_slot k) v y.state)) (gives_value x) (gives_value x) (done (store_slot k t))
@@ -68,7 +69,8 @@ module _ (p : ProgramTree) (n : ℕ) where
   abbrev compounded : Configuration → CompoundOp → TypeTree → ExprTree → Located → Answer Valued
   compounded x o t e r = then_on (spot_read t r.spot r.state) (λ old. then_on (ran x e old.state) (λ y. compound_written o t (type_of e) r.spot old.value y.value y.state))
 
-  compound-law : (x : Configuration) (o : CompoundOp) (t : TypeTree) (q : PlaceTree) (e : ExprTree) (k : Option ℕ) → value_slot x.frame.slots q ≡ k → expr_task_run p n (evaluate (expr t (tree.compound o q e))) x ≡ all_done (compound_tasks o t q e k) x
+  compound-law : (x : Configuration) (o : CompoundOp) (t : TypeTree) (q : PlaceTree) (e : ExprTree) (k : Option ℕ) → value_slot x.frame.slots q ≡ k →
+      expr_task_run p n (evaluate (expr t (tree.compound o q e))) x ≡ all_done (compound_tasks o t q e k) x
   compound-law x o t q e (Some k) h =
       let read : Answer Valued = spot_read t (in_slot k) (state_of x) in
       let next : Valued → Answer Valued = λ old. then_on (ran x e old.state) (λ y. compound_written o t (type_of e) (in_slot k) old.value y.value y.state) in
@@ -76,7 +78,8 @@ module _ (p : ProgramTree) (n : ℕ) where
       ∙ then_associates read next (gives_value x)
       ∙ on read (λ old. then_on (next old) (gives_value x)) (λ old. then_on (then_on (gives_value x old) (done (evaluate e))) (done (compound_slot k o t (type_of e))))
       (λ old.
-      both (ran x e old.state) (λ y. compound_written o t (type_of e) (in_slot k) old.value y.value y.state) (gives_value x) (gives_value (with_value x old)) (done (compound_slot k o t (type_of e))) (λ y. refl))
+      both (ran x e old.state) (λ y. compound_written o t (type_of e) (in_slot k) old.value y.value y.state) (gives_value x) (gives_value (with_value x old))
+      (done (compound_slot k o t (type_of e))) (λ y. refl))
       ∙ sym (two read (gives_value x) (done (evaluate e)) (done (compound_slot k o t (type_of e))))
   compound-law x o t q e None h =
       let place_at : Answer Valued = address_run (ctx x) q (state_of x) in
@@ -100,7 +103,8 @@ module _ (p : ProgramTree) (n : ℕ) where
   abbrev incremented : IncDec → TypeTree → Located → Answer Valued
   incremented i t r = then_on (spot_read t r.spot r.state) (λ old. step_written i t r.spot old.value old.state)
 
-  step-law : (x : Configuration) (i : IncDec) (t : TypeTree) (q : PlaceTree) (k : Option ℕ) → value_slot x.frame.slots q ≡ k → expr_task_run p n (evaluate (expr t (tree.inc_dec i q))) x ≡ all_done (step_tasks i t q k) x
+  step-law : (x : Configuration) (i : IncDec) (t : TypeTree) (q : PlaceTree) (k : Option ℕ) → value_slot x.frame.slots q ≡ k → expr_task_run p n (evaluate (expr t (tree.inc_dec i q))) x
+      ≡ all_done (step_tasks i t q k) x
   step-law x i t q (Some k) h =
       ap (λ a. then_on (then_on a (incremented i t)) (gives_value x)) (in-slot (ctx x) q k (state_of x) h)
       ∙ both (spot_read t (in_slot k) (state_of x)) (λ old. step_written i t (in_slot k) old.value old.state) (gives_value x) (gives_value x) (done (step_slot k i t)) (λ old. refl)
@@ -112,34 +116,45 @@ module _ (p : ProgramTree) (n : ℕ) where
       (λ r. then_on (at_value (incremented i t) r.value r.state) (gives_value x))
       (λ r. then_on (then_on (gives_value x r) (done (load_at t))) (done (step_at i t)))
       (λ r.
-      both (spot_read t (at_address r.value) r.state) (λ old. step_written i t (at_address r.value) old.value old.state) (gives_value x) (gives_value (with_value x r)) (done (step_at i t)) (λ old. refl))
+      both (spot_read t (at_address r.value) r.state) (λ old. step_written i t (at_address r.value) old.value old.state) (gives_value x) (gives_value (with_value x r)) (done (step_at i t))
+      (λ old. refl))
       ∙ sym (two place_at (gives_value x) (done (load_at t)) (done (step_at i t)))
 
   -- ---- operators
 
-  put-value : (x : Configuration) (t u : TypeTree) (r : Valued) (v : Value) → then_on (unary_done unary_op.Put t u v r.state) (gives_value x) ≡ done write_byte (normally (with_value x (record { value = v; state = r.state })))
+  put-value : (x : Configuration) (t u : TypeTree) (r : Valued) (v : Value) → then_on (unary_done unary_op.Put t u v r.state) (gives_value x)
+      ≡ done write_byte (normally (with_value x (record { value = v; state = r.state })))
   put-value x t u r (Num w) = refl
   put-value x t u r (At b o) = refl
   put-value x t u r Bad = refl
 
-  exit-value : (x : Configuration) (t u : TypeTree) (r : Valued) (v : Value) → then_on (unary_done unary_op.Exit t u v r.state) (gives_value x) ≡ done end_program (normally (with_value x (record { value = v; state = r.state })))
+  exit-value : (x : Configuration) (t u : TypeTree) (r : Valued) (v : Value) → then_on (unary_done unary_op.Exit t u v r.state) (gives_value x)
+      ≡ done end_program (normally (with_value x (record { value = v; state = r.state })))
   exit-value x t u r (Num w) = refl
   exit-value x t u r (At b o) = refl
   exit-value x t u r Bad = refl
 
   unary-law : (x : Configuration) (o : UnaryOp) (t : TypeTree) (e : ExprTree) → expr_task_run p n (evaluate (expr t (tree.unary o e))) x ≡ all_done (unary_tasks o t e) x
-  unary-law x unary_op.Convert t e = both (ran x e (state_of x)) (λ r. unary_done unary_op.Convert t (type_of e) r.value r.state) (gives_value x) (gives_value x) (done (unary unary_op.Convert t (type_of e))) (λ r. refl)
-  unary-law x unary_op.Discard t e = both (ran x e (state_of x)) (λ r. unary_done unary_op.Discard t (type_of e) r.value r.state) (gives_value x) (gives_value x) (done (unary unary_op.Discard t (type_of e))) (λ r. refl)
-  unary-law x unary_op.Negate t e = both (ran x e (state_of x)) (λ r. unary_done unary_op.Negate t (type_of e) r.value r.state) (gives_value x) (gives_value x) (done (unary unary_op.Negate t (type_of e))) (λ r. refl)
-  unary-law x unary_op.Complement t e = both (ran x e (state_of x)) (λ r. unary_done unary_op.Complement t (type_of e) r.value r.state) (gives_value x) (gives_value x) (done (unary unary_op.Complement t (type_of e))) (λ r. refl)
-  unary-law x unary_op.LogicalNot t e = both (ran x e (state_of x)) (λ r. unary_done unary_op.LogicalNot t (type_of e) r.value r.state) (gives_value x) (gives_value x) (done (unary unary_op.LogicalNot t (type_of e))) (λ r. refl)
-  unary-law x unary_op.Put t e = both (ran x e (state_of x)) (λ r. unary_done unary_op.Put t (type_of e) r.value r.state) (gives_value x) (gives_value x) (done write_byte) (λ r. put-value x t (type_of e) r r.value)
-  unary-law x unary_op.Exit t e = both (ran x e (state_of x)) (λ r. unary_done unary_op.Exit t (type_of e) r.value r.state) (gives_value x) (gives_value x) (done end_program) (λ r. exit-value x t (type_of e) r r.value)
+  unary-law x unary_op.Convert t e = both (ran x e (state_of x)) (λ r. unary_done unary_op.Convert t (type_of e) r.value r.state) (gives_value x) (gives_value x)
+      (done (unary unary_op.Convert t (type_of e))) (λ r. refl)
+  unary-law x unary_op.Discard t e = both (ran x e (state_of x)) (λ r. unary_done unary_op.Discard t (type_of e) r.value r.state) (gives_value x) (gives_value x)
+      (done (unary unary_op.Discard t (type_of e))) (λ r. refl)
+  unary-law x unary_op.Negate t e = both (ran x e (state_of x)) (λ r. unary_done unary_op.Negate t (type_of e) r.value r.state) (gives_value x) (gives_value x)
+      (done (unary unary_op.Negate t (type_of e))) (λ r. refl)
+  unary-law x unary_op.Complement t e = both (ran x e (state_of x)) (λ r. unary_done unary_op.Complement t (type_of e) r.value r.state) (gives_value x) (gives_value x)
+      (done (unary unary_op.Complement t (type_of e))) (λ r. refl)
+  unary-law x unary_op.LogicalNot t e = both (ran x e (state_of x)) (λ r. unary_done unary_op.LogicalNot t (type_of e) r.value r.state) (gives_value x) (gives_value x)
+      (done (unary unary_op.LogicalNot t (type_of e))) (λ r. refl)
+  unary-law x unary_op.Put t e = both (ran x e (state_of x)) (λ r. unary_done unary_op.Put t (type_of e) r.value r.state) (gives_value x) (gives_value x) (done write_byte)
+      (λ r. put-value x t (type_of e) r r.value)
+  unary-law x unary_op.Exit t e = both (ran x e (state_of x)) (λ r. unary_done unary_op.Exit t (type_of e) r.value r.state) (gives_value x) (gives_value x) (done end_program)
+      (λ r. exit-value x t (type_of e) r r.value)
 
   abbrev tested : Configuration → ExprTree → State → Answer Valued
   tested x b s = then_on (ran x b s) (λ y. branched (type_of b) y.value (given_word y.state 1) (given_word y.state 0))
 
-  tested-law : (x y : Configuration) (b : ExprTree) (s : State) → then_on (tested x b s) (gives_value y) ≡ then_on (ran x b s) (λ r. then_on (branched (type_of b) r.value (given_word r.state 1) (given_word r.state 0)) (gives_value y))
+  tested-law : (x y : Configuration) (b : ExprTree) (s : State) → then_on (tested x b s) (gives_value y)
+      ≡ then_on (ran x b s) (λ r. then_on (branched (type_of b) r.value (given_word r.state 1) (given_word r.state 0)) (gives_value y))
   tested-law x y b s = then_associates (ran x b s) (λ r. branched (type_of b) r.value (given_word r.state 1) (given_word r.state 0)) (gives_value y)
 
   and-law : (x : Configuration) (t : TypeTree) (a b : ExprTree) → expr_task_run p n (evaluate (expr t (tree.logical_and a b))) x ≡ all_done (and_also (type_of a) b ∷ evaluate a ∷ []) x
@@ -215,7 +230,8 @@ module _ (p : ProgramTree) (n : ℕ) where
 
   -- ---- the laws
 
-  binary-law : (x : Configuration) (o : BinaryOp) (t : TypeTree) (a b : ExprTree) → expr_task_run p n (evaluate (expr t (tree.binary o a b))) x ≡ all_done (binary o (type_of a) (type_of b) ∷ evaluate b ∷ evaluate a ∷ []) x
+  binary-law : (x : Configuration) (o : BinaryOp) (t : TypeTree) (a b : ExprTree) → expr_task_run p n (evaluate (expr t (tree.binary o a b))) x
+      ≡ all_done (binary o (type_of a) (type_of b) ∷ evaluate b ∷ evaluate a ∷ []) x
   binary-law x o t a b =
       let last : Reached → Answer Reached = done (binary o (type_of a) (type_of b)) in
       let right : Valued → Answer Valued = λ r. then_on (ran x b r.state) (λ y. binary_done o (type_of a) (type_of b) r.value y.value y.state) in
@@ -245,16 +261,19 @@ expression-expands p n t tree.get x = refl
 
 -- ---- places, dropped operands and arguments
 
-used-address : (x : Configuration) (r : Valued) (v : Value) → then_on (then_on (used v (λ a. found r.state (at_address a))) (λ y. address_of y.spot y.state)) (gives_value x) ≡ used v (λ u. gives_value x (record { value = u; state = r.state }))
+used-address : (x : Configuration) (r : Valued) (v : Value) → then_on (then_on (used v (λ a. found r.state (at_address a))) (λ y. address_of y.spot y.state)) (gives_value x)
+    ≡ used v (λ u. gives_value x (record { value = u; state = r.state }))
 used-address x r (Num w) = refl
 used-address x r (At b o) = refl
 used-address x r Bad = refl
 
-member-address : (x : Configuration) (s : State) (o : Option Value) → then_on (then_on (on_defined o (λ v. found s (at_address v))) (λ y. address_of y.spot y.state)) (gives_value x) ≡ on_defined o (λ a. gives_value x (record { value = a; state = s }))
+member-address : (x : Configuration) (s : State) (o : Option Value) → then_on (then_on (on_defined o (λ v. found s (at_address v))) (λ y. address_of y.spot y.state)) (gives_value x)
+    ≡ on_defined o (λ a. gives_value x (record { value = a; state = s }))
 member-address x s None = refl
 member-address x s (Some v) = refl
 
-member-spot : (p : ProgramTree) (n o : ℕ) (x : Configuration) (at : Spot) (s : State) → then_on (then_on (member_spot at o s) (λ y. address_of y.spot y.state)) (gives_value x) ≡ then_on (then_on (address_of at s) (gives_value x)) (task_run p n (of_expr (member_at o)))
+member-spot : (p : ProgramTree) (n o : ℕ) (x : Configuration) (at : Spot) (s : State) → then_on (then_on (member_spot at o s) (λ y. address_of y.spot y.state)) (gives_value x)
+    ≡ then_on (then_on (address_of at s) (gives_value x)) (task_run p n (of_expr (member_at o)))
 member-spot p n o x (in_slot k) s = refl
 member-spot p n o x (at_address a) s = member-address x s (member_address a o s.memory)
 
@@ -270,7 +289,8 @@ place-expands p n t (tree.at e) x =
 place-expands p n t (tree.member q o) x =
     let run : Answer Located = place_run (context_of p n x.frame) q (state_of x) in
     two run (λ r. member_spot r.spot o r.state) (λ y. address_of y.spot y.state) (gives_value x)
-    ∙ on run (λ r. then_on (then_on (member_spot r.spot o r.state) (λ y. address_of y.spot y.state)) (gives_value x)) (λ r. then_on (then_on (address_of r.spot r.state) (gives_value x)) (task_run p n (of_expr (member_at o)))) (λ r. member-spot p n o x r.spot r.state)
+    ∙ on run (λ r. then_on (then_on (member_spot r.spot o r.state) (λ y. address_of y.spot y.state)) (gives_value x))
+    (λ r. then_on (then_on (address_of r.spot r.state) (gives_value x)) (task_run p n (of_expr (member_at o)))) (λ r. member-spot p n o x r.spot r.state)
     ∙ sym (two run (λ y. address_of y.spot y.state) (gives_value x) (task_run p n (of_expr (member_at o))))
 
 pub dropped-expand : DroppedExpand
@@ -286,7 +306,9 @@ pushed-once v vs ops = ap (λ l. l ++ ops) (reverse-append (v ∷ []) vs) ∙ ap
 abbrev all-passed : ProgramTree → ℕ → Configuration → Arguments → Answer Reached
 all-passed p n x r = goes_on_at (with_operands x (reverse r.values ++ x.operands)) r.state
 
-pass-value : (p : ProgramTree) (n : ℕ) (es : ExprTrees) (x : Configuration) (v : Value) (s : State) → then_on (then_on (arguments_run (context_of p n x.frame) es s) (with_first p n v)) (all-passed p n x) ≡ task_run p n (of_expr (pass_each es)) (normally (with_value x (record { value = v; state = s })))
+pass-value : (p : ProgramTree) (n : ℕ) (es : ExprTrees) (x : Configuration) (v : Value) (s : State) →
+    then_on (then_on (arguments_run (context_of p n x.frame) es s) (with_first p n v)) (all-passed p n x)
+    ≡ task_run p n (of_expr (pass_each es)) (normally (with_value x (record { value = v; state = s })))
 pass-value p n es x v s =
     let run : Answer Arguments = arguments_run (context_of p n x.frame) es s in
     then_associates run (with_first p n v) (all-passed p n x)
@@ -295,7 +317,8 @@ pass-value p n es x v s =
     (λ q. goes_on_at (with_operands x (reverse q.values ++ (v ∷ x.operands))) q.state)
     (λ q. ap (λ l. goes_on_at (with_operands x l) q.state) (pushed-once v q.values x.operands))
 
-pass-used : (p : ProgramTree) (n : ℕ) (es : ExprTrees) (x : Configuration) (v : Value) (s : State) → then_on (passed_after p n (context_of p n x.frame) es v s) (all-passed p n x) ≡ then_on (task_run p n (of_expr use_it) (normally (with_value x (record { value = v; state = s })))) (task_run p n (of_expr (pass_each es)))
+pass-used : (p : ProgramTree) (n : ℕ) (es : ExprTrees) (x : Configuration) (v : Value) (s : State) → then_on (passed_after p n (context_of p n x.frame) es v s) (all-passed p n x)
+    ≡ then_on (task_run p n (of_expr use_it) (normally (with_value x (record { value = v; state = s })))) (task_run p n (of_expr (pass_each es)))
 pass-used p n es x (Num w) s = pass-value p n es x (Num w) s
 pass-used p n es x (At b o) s = pass-value p n es x (At b o) s
 pass-used p n es x Bad s = refl
@@ -307,5 +330,6 @@ passed-expand p n (expr_then e es) x =
     let run : Answer Valued = expr_run c e (state_of x) in
     let rest : Reached → Answer Reached = task_run p n (of_expr (pass_each es)) in
     then_associates run (λ r. passed_after p n c es r.value r.state) (all-passed p n x)
-    ∙ on run (λ r. then_on (passed_after p n c es r.value r.state) (all-passed p n x)) (λ r. then_on (then_on (gives_value x r) (task_run p n (of_expr use_it))) rest) (λ r. pass-used p n es x r.value r.state)
+    ∙ on run (λ r. then_on (passed_after p n c es r.value r.state) (all-passed p n x)) (λ r. then_on (then_on (gives_value x r) (task_run p n (of_expr use_it))) rest)
+    (λ r. pass-used p n es x r.value r.state)
     ∙ sym (two run (gives_value x) (task_run p n (of_expr use_it)) rest)

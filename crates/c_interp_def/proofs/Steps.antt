@@ -15,14 +15,16 @@ pub on : {A B : Type 0} (a : Answer A) (f g : A → Answer B) → ((x : A) → f
 on a f g h = ap (then_on a) (fun_ext h)
 
 -- two sides that begin with the same part
-pub both : {A B C D : Type 0} (a : Answer A) (f : A → Answer B) (g : B → Answer D) (h : A → Answer C) (k : C → Answer D) → ((x : A) → then_on (f x) g ≡ then_on (h x) k) → then_on (then_on a f) g ≡ then_on (then_on a h) k
+pub both : {A B C D : Type 0} (a : Answer A) (f : A → Answer B) (g : B → Answer D) (h : A → Answer C) (k : C → Answer D) → ((x : A) → then_on (f x) g ≡ then_on (h x) k) → then_on (then_on a f) g
+    ≡ then_on (then_on a h) k
 both a f g h k same = then_associates a f g ∙ on a (λ x. then_on (f x) g) (λ x. then_on (h x) k) same ∙ sym (then_associates a h k)
 
 -- what two tasks do after a value became an operand
 pub two : {A B C D : Type 0} (a : Answer A) (g : A → Answer B) (t : B → Answer C) (u : C → Answer D) → then_on (then_on (then_on a g) t) u ≡ then_on a (λ r. then_on (then_on (g r) t) u)
 two a g t u = ap (λ b. then_on b u) (then_associates a g t) ∙ then_associates a (λ r. then_on (g r) t) u
 
-pub three : {A B C D E : Type 0} (a : Answer A) (g : A → Answer B) (t : B → Answer C) (u : C → Answer D) (w : D → Answer E) → then_on (then_on (then_on (then_on a g) t) u) w ≡ then_on a (λ r. then_on (then_on (then_on (g r) t) u) w)
+pub three : {A B C D E : Type 0} (a : Answer A) (g : A → Answer B) (t : B → Answer C) (u : C → Answer D) (w : D → Answer E) → then_on (then_on (then_on (then_on a g) t) u) w
+    ≡ then_on a (λ r. then_on (then_on (then_on (g r) t) u) w)
 three a g t u w = ap (λ b. then_on b w) (two a g t u) ∙ then_associates a (λ r. then_on (then_on (g r) t) u) w
 
 -- ---- what follows on a value, a number, or what may be undefined

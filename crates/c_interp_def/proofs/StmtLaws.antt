@@ -25,7 +25,8 @@ tasks-append p n (t ∷ ts) us r =
     ap (λ a. then_on a (task_run p n t)) (tasks-append p n ts us r) ∙ then_associates (tasks_run p n us r) (tasks_run p n ts) (task_run p n t)
 
 -- a value that is used and may then be stored
-stored-then : {A B : Type 0} (v : Value) (o : Value → Option Memory) (f : Memory → Answer A) (g : A → Answer B) → then_on (used v (λ w. on_defined (o w) f)) g ≡ used v (λ w. on_defined (o w) (λ m. then_on (f m) g))
+stored-then : {A B : Type 0} (v : Value) (o : Value → Option Memory) (f : Memory → Answer A) (g : A → Answer B) → then_on (used v (λ w. on_defined (o w) f)) g
+    ≡ used v (λ w. on_defined (o w) (λ m. then_on (f m) g))
 stored-then v o f g =
     used-then v (λ w. on_defined (o w) f) g
     ∙ used-on v (λ w. then_on (on_defined (o w) f) g) (λ w. on_defined (o w) (λ m. then_on (f m) g)) (λ w. defined-then (o w) f g)
@@ -48,11 +49,13 @@ follows-later c vs cases d is gs hs h =
     let one_more : suc (group_count gs) - group_count hs ≡ suc (group_count gs - group_count hs) = omega arith in
     record { count = omega arith; same = λ s. ap (λ k. groups_done k (groups_runs c vs (group_then cases d is gs)) s) one_more ∙ h.same s }
 
-later-case : (c : Context) (vs : List VariableTree) (cases : List ℕ) (d : Bool) (is : ItemTrees) (gs : GroupTrees) (o : Option GroupTrees) → IfSome o (Follows c vs gs) → IfSome o (Follows c vs (group_then cases d is gs))
+later-case : (c : Context) (vs : List VariableTree) (cases : List ℕ) (d : Bool) (is : ItemTrees) (gs : GroupTrees) (o : Option GroupTrees) → IfSome o (Follows c vs gs) →
+    IfSome o (Follows c vs (group_then cases d is gs))
 later-case c vs cases d is gs None h = h
 later-case c vs cases d is gs (Some hs) h = follows-later c vs cases d is gs hs h
 
-this-case : (c : Context) (vs : List VariableTree) (cases : List ℕ) (d : Bool) (is : ItemTrees) (gs : GroupTrees) (w : ℕ) (b : Bool) → IfSome (from_case w gs) (Follows c vs gs) → IfSome (if b then Some (group_then cases d is gs) else from_case w gs) (Follows c vs (group_then cases d is gs))
+this-case : (c : Context) (vs : List VariableTree) (cases : List ℕ) (d : Bool) (is : ItemTrees) (gs : GroupTrees) (w : ℕ) (b : Bool) → IfSome (from_case w gs) (Follows c vs gs) →
+    IfSome (if b then Some (group_then cases d is gs) else from_case w gs) (Follows c vs (group_then cases d is gs))
 this-case c vs cases d is gs w true h = follows-itself c vs (group_then cases d is gs)
 this-case c vs cases d is gs w false h = later-case c vs cases d is gs (from_case w gs) h
 
@@ -87,7 +90,8 @@ module _ (p : ProgramTree) (n : ℕ) where
   abbrev all_done : List Task → Configuration → Answer Reached
   all_done ts x = tasks_run p n ts (normally x)
 
-  switch-law : (x : Configuration) (e : ExprTree) (gs : GroupTrees) → stmt_task_run p n (run_stmt (tree.switch e gs)) x ≡ all_done (handler end_switch ∷ of_stmt (select (tree.switch e gs)) ∷ of_expr (evaluate e) ∷ []) x
+  switch-law : (x : Configuration) (e : ExprTree) (gs : GroupTrees) → stmt_task_run p n (run_stmt (tree.switch e gs)) x
+      ≡ all_done (handler end_switch ∷ of_stmt (select (tree.switch e gs)) ∷ of_expr (evaluate e) ∷ []) x
   switch-law x e gs =
       let run : Answer Valued = expr_run (ctx x) e (state_of x) in
       let end : Reached → Answer Reached = task_run p n (handler end_switch) in
@@ -111,13 +115,15 @@ module _ (p : ProgramTree) (n : ℕ) where
 
   -- ---- items
 
-  items-skipped : (x : Configuration) (is : ItemTrees) (f : Flow) (s : State) → then_on (if_normal f s (items_run (ctx x) (vars x) is)) (flows_on x) ≡ unless_jump p n (stmt_task_run p n (run_items is)) f (with_state x s)
+  items-skipped : (x : Configuration) (is : ItemTrees) (f : Flow) (s : State) → then_on (if_normal f s (items_run (ctx x) (vars x) is)) (flows_on x)
+      ≡ unless_jump p n (stmt_task_run p n (run_items is)) f (with_state x s)
   items-skipped x is normal s = refl
   items-skipped x is broke s = refl
   items-skipped x is continued s = refl
   items-skipped x is (returned v) s = refl
 
-  groups-skipped : (x : Configuration) (gs : GroupTrees) (f : Flow) (s : State) → then_on (if_normal f s (groups_done 0 (groups_runs (ctx x) (vars x) gs))) (flows_on x) ≡ unless_jump p n (stmt_task_run p n (run_groups gs)) f (with_state x s)
+  groups-skipped : (x : Configuration) (gs : GroupTrees) (f : Flow) (s : State) → then_on (if_normal f s (groups_done 0 (groups_runs (ctx x) (vars x) gs))) (flows_on x)
+      ≡ unless_jump p n (stmt_task_run p n (run_groups gs)) f (with_state x s)
   groups-skipped x gs normal s = refl
   groups-skipped x gs broke s = refl
   groups-skipped x gs continued s = refl
@@ -132,7 +138,8 @@ module _ (p : ProgramTree) (n : ℕ) where
       (λ r. sym (used-then r.value (λ v. Returned (newest_written r.state v) []) (goes_on_at x)))
 
   -- an object begins
-  object-begins : (x : Configuration) (k : ℕ) (i : InitialTree) (s : State) → all_done (object_tasks k i) (with_state x s) ≡ then_on (object_begun (ctx x) ((ctx x).addresses.local k) i s) (goes_on_at x)
+  object-begins : (x : Configuration) (k : ℕ) (i : InitialTree) (s : State) → all_done (object_tasks k i) (with_state x s)
+      ≡ then_on (object_begun (ctx x) ((ctx x).addresses.local k) i s) (goes_on_at x)
   object-begins x k no_initial s = refl
   object-begins x k (initial_value e) s =
       let a : Value = (ctx x).addresses.local k in
@@ -154,7 +161,8 @@ module _ (p : ProgramTree) (n : ℕ) where
   declared-law x k None i = refl
   declared-law x k (Some v) i = kind-begins x (object_number (vars x) k) v.is_object i (state_of x)
 
-  declare-law : (x : Configuration) (d : tree.DeclarationTree) (is : ItemTrees) → stmt_task_run p n (run_items (declare_then d is)) x ≡ all_done (items_tasks (vars x) (length x.frame.slots) (declare_then d is)) x
+  declare-law : (x : Configuration) (d : tree.DeclarationTree) (is : ItemTrees) → stmt_task_run p n (run_items (declare_then d is)) x
+      ≡ all_done (items_tasks (vars x) (length x.frame.slots) (declare_then d is)) x
   declare-law x d is =
       let k : ℕ = d.variable in
       let o : Option VariableTree = slice_get (vars x) k in
@@ -176,7 +184,8 @@ statement-expands p n (tree.value e) x =
     both (expr_run (ctx p n x) e (state_of x)) (λ r. goes_on r.state) (flows_on x) (gives_value x) (task_run p n (of_expr discard)) (λ r. refl)
 statement-expands p n (tree.block is) x = refl
 statement-expands p n (tree.if_else e a b) x =
-    both (expr_run (ctx p n x) e (state_of x)) (λ r. branched (type_of e) r.value (body_of p n x a r.state) (body_of p n x b r.state)) (flows_on x) (gives_value x) (done p n (branch (tree.if_else e a b)))
+    both (expr_run (ctx p n x) e (state_of x)) (λ r. branched (type_of e) r.value (body_of p n x a r.state) (body_of p n x b r.state)) (flows_on x) (gives_value x)
+    (done p n (branch (tree.if_else e a b)))
     (λ r. branched-then (type_of e) r.value (body_of p n x a r.state) (body_of p n x b r.state) (flows_on x))
 statement-expands p n (tree.loop d step a) x = loop-ends p n x (loop_run n (ctx p n x) d step (body_of p n x a) (state_of x))
 statement-expands p n (tree.do_while a e) x = loop-ends p n x (do_run n (ctx p n x) e (body_of p n x a) (state_of x))
@@ -191,13 +200,15 @@ statement-expands p n (tree.switch e gs) x = switch-law p n x e gs
 pub items-expand : ItemsExpand
 items-expand p n no_items x = refl
 items-expand p n (stmt_then a is) x =
-    both (body_of p n x a (state_of x)) (λ r. if_normal r.flow r.state (items_run (ctx p n x) (vars p n x) is)) (flows_on x) (flows_on x) (done p n (run_items is)) (λ r. items-skipped p n x is r.flow r.state)
+    both (body_of p n x a (state_of x)) (λ r. if_normal r.flow r.state (items_run (ctx p n x) (vars p n x) is)) (flows_on x) (flows_on x) (done p n (run_items is))
+    (λ r. items-skipped p n x is r.flow r.state)
 items-expand p n (declare_then d is) x = declare-law p n x d is
 
 pub groups-expand : GroupsExpand
 groups-expand p n no_groups x = refl
 groups-expand p n (group_then cases d is gs) x =
-    both (items_run (ctx p n x) (vars p n x) is (state_of x)) (λ r. if_normal r.flow r.state (groups_done 0 (groups_runs (ctx p n x) (vars p n x) gs))) (flows_on x) (flows_on x) (done p n (run_groups gs)) (λ r. groups-skipped p n x gs r.flow r.state)
+    both (items_run (ctx p n x) (vars p n x) is (state_of x)) (λ r. if_normal r.flow r.state (groups_done 0 (groups_runs (ctx p n x) (vars p n x) gs))) (flows_on x) (flows_on x)
+    (done p n (run_groups gs)) (λ r. groups-skipped p n x gs r.flow r.state)
 
 pub elements-expand : ElementsExpand
 elements-expand p n k no_elements x = refl
@@ -221,23 +232,27 @@ elements-expand p n k (characters_then o cs es) x =
 
 -- ---- loops
 
-asked-law : (p : ProgramTree) (n k : ℕ) (x : Configuration) (e : ExprTree) (step : OptionalExpr) (a : StmtTree) → stmt_task_run p n (run_turns k (tree.loop (some_expr e) step a)) x ≡ tasks_run p n (of_stmt (turn_if k (tree.loop (some_expr e) step a)) ∷ of_expr (evaluate e) ∷ []) (normally x)
+asked-law : (p : ProgramTree) (n k : ℕ) (x : Configuration) (e : ExprTree) (step : OptionalExpr) (a : StmtTree) → stmt_task_run p n (run_turns k (tree.loop (some_expr e) step a)) x
+    ≡ tasks_run p n (of_stmt (turn_if k (tree.loop (some_expr e) step a)) ∷ of_expr (evaluate e) ∷ []) (normally x)
 asked-law p n zero x e step a =
     both (expr_run (ctx p n x) e (state_of x)) (λ r. branched (type_of e) r.value (Cut []) (goes_on r.state)) (flows_on x) (gives_value x) (done p n (turn_if zero (tree.loop (some_expr e) step a)))
     (λ r. branched-then (type_of e) r.value (Cut []) (goes_on r.state) (flows_on x))
 asked-law p n (suc k) x e step a =
-    both (expr_run (ctx p n x) e (state_of x)) (λ r. branched (type_of e) r.value (turn_run p n x (suc k) (some_expr e) step a r.state) (goes_on r.state)) (flows_on x) (gives_value x) (done p n (turn_if (suc k) (tree.loop (some_expr e) step a)))
+    both (expr_run (ctx p n x) e (state_of x)) (λ r. branched (type_of e) r.value (turn_run p n x (suc k) (some_expr e) step a r.state) (goes_on r.state)) (flows_on x) (gives_value x)
+    (done p n (turn_if (suc k) (tree.loop (some_expr e) step a)))
     (λ r. branched-then (type_of e) r.value (turn_run p n x (suc k) (some_expr e) step a r.state) (goes_on r.state) (flows_on x))
 
 pub turns-expand : TurnsExpand
 turns-expand p n zero (tree.loop no_expr step a) x h = refl
 turns-expand p n (suc k) (tree.loop no_expr step a) x h =
-    both (body_of p n x a (state_of x)) (λ r. after_turn r.flow r.state (λ u. then_on (optional_step (ctx p n x) step u) (loop_run k (ctx p n x) no_expr step (body_of p n x a)))) (flows_on x) (flows_on x)
+    both (body_of p n x a (state_of x)) (λ r. after_turn r.flow r.state (λ u. then_on (optional_step (ctx p n x) step u) (loop_run k (ctx p n x) no_expr step (body_of p n x a)))) (flows_on x)
+    (flows_on x)
     (task_run p n (handler (again k (tree.loop no_expr step a)))) (λ r. refl)
 turns-expand p n k (tree.loop (some_expr e) step a) x h = asked-law p n k x e step a
 turns-expand p n zero (tree.do_while a e) x h = refl
 turns-expand p n (suc k) (tree.do_while a e) x h =
-    both (body_of p n x a (state_of x)) (λ r. after_turn r.flow r.state (λ t. then_on (expr_run (ctx p n x) e t) (λ y. branched (type_of e) y.value (do_run k (ctx p n x) e (body_of p n x a) y.state) (goes_on y.state)))) (flows_on x) (flows_on x)
+    both (body_of p n x a (state_of x)) (λ r. after_turn r.flow r.state
+    (λ t. then_on (expr_run (ctx p n x) e t) (λ y. branched (type_of e) y.value (do_run k (ctx p n x) e (body_of p n x a) y.state) (goes_on y.state)))) (flows_on x) (flows_on x)
     (task_run p n (handler (again k (tree.do_while a e)))) (λ r. refl)
 turns-expand p n k tree.null x h = absurd h
 turns-expand p n k (tree.value e) x h = absurd h
@@ -261,7 +276,8 @@ asked-again : (p : ProgramTree) (n k : ℕ) (x : Configuration) (a : StmtTree) (
     then_on (then_on (expr_run (ctx p n x) e (state_of x)) (λ y. branched (type_of e) y.value (do_run k (ctx p n x) e (body_of p n x a) y.state) (goes_on y.state))) (flows_on x)
     ≡ tasks_run p n (again_tasks k (tree.do_while a e)) (normally x)
 asked-again p n k x a e =
-    both (expr_run (ctx p n x) e (state_of x)) (λ y. branched (type_of e) y.value (do_run k (ctx p n x) e (body_of p n x a) y.state) (goes_on y.state)) (flows_on x) (gives_value x) (done p n (turn_if k (tree.do_while a e)))
+    both (expr_run (ctx p n x) e (state_of x)) (λ y. branched (type_of e) y.value (do_run k (ctx p n x) e (body_of p n x a) y.state) (goes_on y.state)) (flows_on x) (gives_value x)
+    (done p n (turn_if k (tree.do_while a e)))
     (λ r. branched-then (type_of e) r.value (do_run k (ctx p n x) e (body_of p n x a) r.state) (goes_on r.state) (flows_on x))
 
 pub again-expands : AgainExpands

@@ -53,7 +53,8 @@ pub listed_append : (n : ℕ) (bs ks : List Block) → listed n (bs ++ ks) ≡ o
 listed_append n [] ks = refl
 listed_append n (b ∷ bs) ks = by_test (b.number == n) (listed_append n bs ks)
   where
-    by_test : (t : Bool) → listed n (bs ++ ks) ≡ or_else (listed n bs) (listed n ks) → (if t then Some (block_of b) else listed n (bs ++ ks)) ≡ or_else (if t then Some (block_of b) else listed n bs) (listed n ks)
+    by_test : (t : Bool) → listed n (bs ++ ks) ≡ or_else (listed n bs) (listed n ks) → (if t then Some (block_of b) else listed n (bs ++ ks))
+        ≡ or_else (if t then Some (block_of b) else listed n bs) (listed n ks)
     by_test true next = refl
     by_test false next = next
 

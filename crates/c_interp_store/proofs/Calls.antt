@@ -32,7 +32,8 @@ apart_more low high (o ∷ os) le apart = (omega (arith, apart.0), apart.1)
 pub calls_below : (bound : ℕ) (calls : List Opened) → AreApart calls bound → AreBelow bound (numbers_of calls)
 calls_below bound [] apart = tt
 calls_below bound (o ∷ os) apart =
-    below_append bound (numbers_of os) (numbers_from o.first o.count) (below_more o.first bound (numbers_of os) (omega (arith, apart.0)) (calls_below o.first os apart.1)) (numbers_below bound o.first o.count apart.0)
+    below_append bound (numbers_of os) (numbers_from o.first o.count) (below_more o.first bound (numbers_of os) (omega (arith, apart.0)) (calls_below o.first os apart.1))
+    (numbers_below bound o.first o.count apart.0)
 
 pub calls_ascend : (bound : ℕ) (calls : List Opened) → AreApart calls bound → ascends (λ n. n) 0 (numbers_of calls) ≡ true
 calls_ascend bound [] apart = refl

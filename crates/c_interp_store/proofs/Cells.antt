@@ -83,7 +83,8 @@ module _ (width offset : ℕ) where
       rw e (ap (λ r. cell_of c ∷ r) (some_written v (suc (offset_of c)) cs i d f.1 (omega arith) there))
 
 -- a cell with another value keeps the order
-pub set_ascends : (from : ℕ) (cs : List Cell) (i : ℕ) (c d : Cell) → i < length cs → offset_of c ≡ offset_of (get_or cs i d) → ascends offset_of from cs ≡ true → ascends offset_of from (set cs i c) ≡ true
+pub set_ascends : (from : ℕ) (cs : List Cell) (i : ℕ) (c d : Cell) → i < length cs → offset_of c ≡ offset_of (get_or cs i d) → ascends offset_of from cs ≡ true → ascends offset_of from (set cs i c)
+    ≡ true
 set_ascends from [] i c d lt same h = absurd (omega arith)
 set_ascends from (x ∷ cs) zero c d lt same h =
     let f = first_ascends offset_of from x cs h in
@@ -95,7 +96,8 @@ set_ascends from (x ∷ cs) (suc i) c d lt same h =
 -- ---- what a search finds
 
 -- the leaf of this offset has another width
-pub other_width : (cs : List Cell) (width offset i : ℕ) (c : Cell) → ascends offset_of 0 cs ≡ true → IsFoundAt offset_of cs offset i → is_at width offset (cell_of (get_or cs i c)) ≡ false → list_any (is_at width offset) (cells_of cs) ≡ false
+pub other_width : (cs : List Cell) (width offset i : ℕ) (c : Cell) → ascends offset_of 0 cs ≡ true → IsFoundAt offset_of cs offset i → is_at width offset (cell_of (get_or cs i c)) ≡ false →
+    list_any (is_at width offset) (cells_of cs) ≡ false
 other_width cs width offset i c h f differs =
     none_any width offset cs (λ j d lt. not_there (is_at width offset (cell_of (get_or cs j d))) (λ there.
     let b = here width offset (get_or cs j d) there in

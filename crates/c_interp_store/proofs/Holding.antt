@@ -84,7 +84,8 @@ module _ (s t : Store) (calls : List Opened) (m : Memory) (h : Holds s calls m) 
   }
 
 -- a block that is not listed may be changed: it does not live
-pub changed_dead : (s : Store) (calls : List Opened) (m : Memory) (j : ℕ) (f : mem.Block → mem.Block) → ((k : mem.Block) → (f k).live ≡ k.live) → IsAbsent number_of s.blocks.items j → Holds s calls m →
+pub changed_dead : (s : Store) (calls : List Opened) (m : Memory) (j : ℕ) (f : mem.Block → mem.Block) → ((k : mem.Block) → (f k).live ≡ k.live) → IsAbsent number_of s.blocks.items j →
+    Holds s calls m →
     Holds s calls (block_changed j f m)
 changed_dead s calls m j f keeps none h = record {
   made = h.made ∙ sym (length_changed j f m);
@@ -142,10 +143,12 @@ dropped s t o calls m h blocks made =
     let bs = s.blocks.items in
     let p = parts (numbers_of calls) (numbers_from o.first o.count) bs h.numbers in
     let size = ap length h.numbers in
-    let count : length bs ≡ length (numbers_of calls) + o.count = sym (length-map bs number_of) ∙ size ∙ length-append (numbers_of calls) (numbers_from o.first o.count) ∙ ap (λ n. length (numbers_of calls) + n) (numbers_length o.first o.count) in
+    let count : length bs ≡ length (numbers_of calls) + o.count = sym (length-map bs number_of) ∙ size ∙ length-append (numbers_of calls) (numbers_from o.first o.count)
+    ∙ ap (λ n. length (numbers_of calls) + n) (numbers_length o.first o.count) in
     let left : length bs - o.count ≡ length (numbers_of calls) = omega arith in
     let is : t.blocks.items ≡ take (length (numbers_of calls)) bs = blocks ∙ ap (λ k. take k bs) left in
-    let whole : (n : ℕ) → listed n (take (length (numbers_of calls)) bs ++ drop (length (numbers_of calls)) bs) ≡ live_block n m = λ n. ap (listed n) (take-append-drop (length (numbers_of calls)) bs) ∙ h.holds n in
+    let whole : (n : ℕ) → listed n (take (length (numbers_of calls)) bs ++ drop (length (numbers_of calls)) bs)
+    ≡ live_block n m = λ n. ap (listed n) (take-append-drop (length (numbers_of calls)) bs) ∙ h.holds n in
     record {
       made = made ∙ h.made ∙ sym (length_closed o.first o.count m);
       numbers = ap (map number_of) is ∙ p.0;
@@ -161,9 +164,11 @@ named_listed s calls b m h = ap (of_size b.size) (sym (h.holds b.number))
 pub named_absent : (s : Store) (calls : List Opened) (b : BlockName) (m : Memory) → Holds s calls m → IsAbsent number_of s.blocks.items b.number → live_named b m ≡ None
 named_absent s calls b m h none = named_listed s calls b m h ∙ ap (of_size b.size) (listed_none b.number s.blocks.items none)
 
-module _ (s : Store) (calls : List Opened) (b : BlockName) (m : Memory) (h : Holds s calls m) (i : ℕ) (k : Block) (f : IsFoundAt number_of s.blocks.items b.number i) (read : k ≡ get_or s.blocks.items i k) where
+module _ (s : Store) (calls : List Opened) (b : BlockName) (m : Memory) (h : Holds s calls m) (i : ℕ) (k : Block) (f : IsFoundAt number_of s.blocks.items b.number i)
+    (read : k ≡ get_or s.blocks.items i k) where
   named_found : live_named b m ≡ of_size b.size (Some (block_of k))
-  named_found = named_listed s calls b m h ∙ ap (of_size b.size) (listed_at b.number 0 s.blocks.items i k (holds_ascends s calls m h) f.inside (f.number_is k)) ∙ ap (λ x. of_size b.size (Some (block_of x))) (sym read)
+  named_found = named_listed s calls b m h ∙ ap (of_size b.size) (listed_at b.number 0 s.blocks.items i k (holds_ascends s calls m h) f.inside (f.number_is k))
+      ∙ ap (λ x. of_size b.size (Some (block_of x))) (sym read)
 
   pub named_at : k.size ≡ b.size → IsNamedAt s.blocks.items b m i
   named_at same = record {
@@ -200,24 +205,28 @@ module _ (calls : List Opened) (b : BlockName) (m : Memory) (width offset : ℕ)
     lives_here : live_named b m ≡ Some (block_of k)
     lives_here = at.lives ∙ ap (λ x. Some (block_of x)) (sym (same_block_at s.blocks.items b m i k at read))
 
-    pub stored : (x : Value) (new : Block) (done : Bool) → kept width v ≡ Some x → k.fixed ≡ false → done ≡ list_any (is_at width offset) (block_of k).cells → (done ≡ true → block_of new ≡ written width offset x (block_of k)) →
+    pub stored : (x : Value) (new : Block) (done : Bool) → kept width v ≡ Some x → k.fixed ≡ false → done ≡ list_any (is_at width offset) (block_of k).cells →
+        (done ≡ true → block_of new ≡ written width offset x (block_of k)) →
         new.number ≡ k.number → t.blocks.items ≡ set s.blocks.items i new → t.made ≡ s.made → IsChanged calls (store width (At b offset) v m) t done
     stored x new false e free there is number blocks made =
         undefined_store t (none_stored (ap (takes_in width offset) lives_here ∙ rw free (sym there)))
     stored x new true e free there is number blocks made =
         let name : number_of new ≡ b.number = number ∙ ap number_of (same_block_at s.blocks.items b m i k at read) ∙ at.number_is in
         let goal : Holds t calls (block_changed (number_of new) (written width offset x) m) =
-        changed s t calls m h i new k (written width offset x) (slice_get_within s.blocks.items i at.block at.there) blocks made (number ∙ ap number_of read) (λ y. refl) (is refl ∙ ap (λ y. written width offset x (block_of y)) read) in
+        changed s t calls m h i new k (written width offset x) (slice_get_within s.blocks.items i at.block at.there) blocks made (number ∙ ap number_of read) (λ y. refl)
+        (is refl ∙ ap (λ y. written width offset x (block_of y)) read) in
         subst (λ o. IsChanged calls o t true) (sym (some_stored x (ap (takes_in width offset) lives_here ∙ rw free (sym there)) e))
         (refl, subst (λ n. Holds t calls (block_changed n (written width offset x) m)) name goal)
 
 -- ---- clearing
 
-pub cleared_listed : (s t : Store) (calls : List Opened) (m : Memory) → Holds s calls m → (b : BlockName) (i : ℕ) → IsFoundAt number_of s.blocks.items b.number i → (k new : Block) → k ≡ get_or s.blocks.items i k → block_of new ≡ zeroed (block_of k) →
+pub cleared_listed : (s t : Store) (calls : List Opened) (m : Memory) → Holds s calls m → (b : BlockName) (i : ℕ) → IsFoundAt number_of s.blocks.items b.number i → (k new : Block) → k
+    ≡ get_or s.blocks.items i k → block_of new ≡ zeroed (block_of k) →
     new.number ≡ k.number → t.blocks.items ≡ set s.blocks.items i new → t.made ≡ s.made → Holds t calls (cleared b m)
 cleared_listed s t calls m h b i f k new read is number blocks made =
     let name : number_of new ≡ b.number = number ∙ ap number_of read ∙ f.number_is k in
-    let goal : Holds t calls (block_changed (number_of new) zeroed m) = changed s t calls m h i new k zeroed f.inside blocks made (number ∙ ap number_of read) (λ y. refl) (is ∙ ap (λ y. zeroed (block_of y)) read) in
+    let goal : Holds t calls (block_changed (number_of new) zeroed m) = changed s t calls m h i new k zeroed f.inside blocks made (number ∙ ap number_of read) (λ y. refl)
+    (is ∙ ap (λ y. zeroed (block_of y)) read) in
     subst (λ n. Holds t calls (block_changed n zeroed m)) name goal
 
 pub cleared_absent : (s : Store) (calls : List Opened) (m : Memory) → Holds s calls m → (b : BlockName) → IsAbsent number_of s.blocks.items b.number → Holds s calls (cleared b m)

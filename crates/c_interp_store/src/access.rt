@@ -14,7 +14,8 @@ use val_core::{BlockName, Value, kept};
 // call stand where their number says; another is searched.
 fn block_index(blocks: &[Block], number: u64) -> Option<usize>
     ensures some { IfSome result (IsFoundAt number_of blocks.now number) }
-    ensures none { IfNone result (IsTrue (ascends number_of 0 blocks.now) → IsAbsent number_of blocks.now number) }
+    ensures none { IfNone result (IsTrue (ascends number_of 0 blocks.now)
+        → IsAbsent number_of blocks.now number) }
 {
     if let Some(i) = near_index(blocks, number) {
         return Some(i);
@@ -24,7 +25,8 @@ fn block_index(blocks: &[Block], number: u64) -> Option<usize>
 
 fn number_index(blocks: &[Block], number: u64) -> Option<usize>
     ensures some { IfSome result (IsFoundAt number_of blocks.now number) }
-    ensures none { IfNone result (IsTrue (ascends number_of 0 blocks.now) → IsAbsent number_of blocks.now number) }
+    ensures none { IfNone result (IsTrue (ascends number_of 0 blocks.now)
+        → IsAbsent number_of blocks.now number) }
 {
     match blocks.binary_search_by_key(&number, |block| block.number) {
         Ok(i) => Some(i),

@@ -37,7 +37,8 @@ impl Block {
     // Whether there is a leaf of this width and offset; it then has the value.
     pub(crate) fn write(&mut self, width: u8, offset: u32, value: Value) -> bool
         ensures there { result ≡ list_any (is_at width offset) (block_of self.old).cells }
-        ensures written { result ≡ true → block_of self.new ≡ written width offset value (block_of self.old) }
+        ensures written { result ≡ true
+            → block_of self.new ≡ written width offset value (block_of self.old) }
         ensures number { self.new.number ≡ self.old.number }
     {
         match cell_index(&self.cells, width, offset) {

@@ -35,7 +35,8 @@ pub(crate) fn cell_index(cells: &[Cell], width: u8, offset: u32) -> Option<usize
 // The index of the cell of this offset.
 fn offset_index(cells: &[Cell], offset: u32) -> Option<usize>
     ensures some { IfSome result (IsFoundAt offset_of cells.now offset) }
-    ensures none { IfNone result (IsTrue (ascends offset_of 0 cells.now) → IsAbsent offset_of cells.now offset) }
+    ensures none { IfNone result (IsTrue (ascends offset_of 0 cells.now)
+        → IsAbsent offset_of cells.now offset) }
 {
     match cells.binary_search_by_key(&offset, |cell| cell.leaf.offset) {
         Ok(i) => Some(i),

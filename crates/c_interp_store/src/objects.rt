@@ -20,7 +20,8 @@ impl Objects {
     /// The address of the first byte of object `k`, of this size in bytes; `Bad` where there are no
     /// more than `k` objects.
     pub fn address(self, k: u32, size: u32) -> Value
-        ensures { result ≡ block_address (self.first + k) (if nat_lt k self.count then Some size else None) }
+        ensures { result
+            ≡ block_address (self.first + k) (if nat_lt k self.count then Some size else None) }
     {
         if u64::from(k) < self.count {
             Value::At {

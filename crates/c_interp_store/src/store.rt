@@ -40,7 +40,8 @@ impl Store {
     pub fn add(&mut self, size: u32, fixed: bool, cells: Vec<Cell>) -> Result<(), NoMemory>
         requires { IsTrue (ascends offset_of 0 cells.items) }
         ensures { OnOk result ((m : Memory) → Holds self.old (globals_of m) m
-            → let n = m ++ whole_block (word_of size) fixed cells.items ∷ [] in Holds self.new (globals_of n) n) }
+            → let n = m ++ whole_block (word_of size) fixed cells.items ∷ [] in
+            Holds self.new (globals_of n) n) }
     {
         self.push(size, fixed, cells)
     }
@@ -48,7 +49,8 @@ impl Store {
     /// Opens the blocks of the objects of a call, of these shapes and without values. `NoMemory`
     /// too where no numbers are left for them; the store is then to be let go.
     pub fn open(&mut self, alloc: Global, shapes: &[Shape]) -> Result<Objects, NoMemory>
-        ensures { IfOk result (λ objects. (calls : List Opened) (m : Memory) → Holds self.old calls m
+        ensures { IfOk result (λ objects. (calls : List Opened) (m : Memory)
+            → Holds self.old calls m
             → (opened_of objects ≡ record { first = length m; count = length shapes.now })
             × Holds self.new (opened_of objects ∷ calls) (m ++ opened (shapes_of shapes.now))) }
     {
@@ -74,7 +76,8 @@ impl Store {
     fn push(&mut self, size: u32, fixed: bool, cells: Vec<Cell>) -> Result<(), NoMemory>
         requires { IsTrue (ascends offset_of 0 cells.items) }
         ensures made { OnOk result (self.new.made ≡ self.old.made + 1) }
-        ensures grown { OnOk result (IsGrown self.old self.new (whole_block (word_of size) fixed cells.items)) }
+        ensures grown { OnOk result
+            (IsGrown self.old self.new (whole_block (word_of size) fixed cells.items)) }
     {
         let Some(made) = self.made.checked_add(1) else {
             return Err(NoMemory);

@@ -41,7 +41,8 @@ module _ (width offset : ℕ) where
   is-there : (cs : List Cell) (c : Cell) → find (is_at width offset) cs ≡ Some c → list_any (is_at width offset) cs ≡ true
   is-there [] c e = none-some e
   is-there (d ∷ cs) c e = by_test (is_at width offset d) refl e (is-there cs c) where
-    by_test : (t : Bool) → is_at width offset d ≡ t → (if t then Some d else find (is_at width offset) cs) ≡ Some c → (find (is_at width offset) cs ≡ Some c → list_any (is_at width offset) cs ≡ true) →
+    by_test : (t : Bool) → is_at width offset d ≡ t → (if t then Some d else find (is_at width offset) cs) ≡ Some c →
+        (find (is_at width offset) cs ≡ Some c → list_any (is_at width offset) cs ≡ true) →
         list_any (is_at width offset) (d ∷ cs) ≡ true
     by_test true is e later = rw is refl
     by_test false is e later = rw is (later e)

@@ -19,8 +19,8 @@ use std::alloc::Global;
 use val_core::Op2;
 
 /// What `=` or a compound assignment makes of its target and an operand (ISO/IEC 9899:2011,
-/// 6.5.16); none where the target may not be assigned (`is_assignable`), and where the operator does
-/// not take the operands.
+/// 6.5.16); none where the target may not be assigned (`is_assignable`), and where the operator
+/// does not take the operands.
 pub fn assigned(
     alloc: Global,
     types: &Types,

@@ -1,5 +1,5 @@
-//! Laws of programs and of lists that keep their graphs, for the proofs of the crates above: each is
-//! the contract of a function that does nothing.
+//! Laws of programs and of lists that keep their graphs, for the proofs of the crates above: each
+//! is the contract of a function that does nothing.
 
 ghost use Rattle.cc_source_keeps.specs.Laws.{BuiltProgramsKeepMeaning, KeptListsCanBeEmitted, KeptListsKeepMeaning, ProgramsCanBeEmitted, ProgramsKeepMeaning, UnlimitedAreSmall};
 

@@ -178,8 +178,11 @@ mutual
 
   regions-most : (size : ℕ → ℕ) (m : ℕ) (c : Context) (rs : RegionTrees) → CallsMost size m c.call (regions_calls rs) → AllMost size m (meanings c rs)
   regions-most size m c no_regions calls = tt
-  regions-most size m c (region_then r rs) calls =
-      (region-most size m c r (λ f h. calls f (Contains-append_left (region_calls r) (regions_calls rs) f h)), regions-most size m c rs (λ f h. calls f (Contains-append_right (region_calls r) (regions_calls rs) f h)))
+  regions-most size m c (region_then r rs) calls = (
+    region-most size m c r (λ f h. calls f (Contains-append_left (region_calls r) (regions_calls rs) f h)),
+    regions-most size m c rs
+        (λ f h. calls f (Contains-append_right (region_calls r) (regions_calls rs) f h)),
+  )
 
 -- ---- calls and programs
 
@@ -204,7 +207,8 @@ module _ (ls : List PlainLambda) (sizes : List ℕ) (depths : List (Option ℕ))
   entered-most global n m call l calls xs =
       memory-most size m (at_port xs l.params)
       (λ b. then_on (region_meaning (inside n call global l.objects b) l.body (given-objects l b xs)) (λ ys. Returned (changed_at 1 (with_memory (closed (length b) (length l.objects))) ys) []))
-      (λ b. then-most size m (region_meaning (inside n call global l.objects b) l.body (given-objects l b xs)) (λ ys. Returned (changed_at 1 (with_memory (closed (length b) (length l.objects))) ys) [])
+      (λ b. then-most size m (region_meaning (inside n call global l.objects b) l.body (given-objects l b xs))
+      (λ ys. Returned (changed_at 1 (with_memory (closed (length b) (length l.objects))) ys) [])
       (region-most size m (inside n call global l.objects b) l.body calls (given-objects l b xs)) (λ ys. none m))
 
   applied-most : (global : ℕ → Value) (n f d : ℕ) → depth_at depths f ≡ Some d → MeansMost size d (applied ls global n f)
@@ -218,7 +222,8 @@ module _ (ls : List PlainLambda) (sizes : List ℕ) (depths : List (Option ℕ))
           let parts = frame-parts (size f) (most_of depths (region_calls l.body)) d (sym (are.each f l p) ∙ e) in
           let m = parts.0 in
           active-most size f m d (entered n (applied ls global n) global (Some l) xs) parts.2
-          (entered-most global n m (applied ls global n) l (λ g h ys. let callee = most-parts depths (region_calls l.body) m parts.1 g h in up (deepest size (events (applied ls global n g ys))) callee.0 m (below g callee.0 callee.1 ys) callee.2) xs)
+          (entered-most global n m (applied ls global n) l (λ g h ys. let callee = most-parts depths (region_calls l.body) m parts.1 g h in up (deepest size (events (applied ls global n g ys)))
+          callee.0 m (below g callee.0 callee.1 ys) callee.2) xs)
 
   program-most : (omega' : PlainOmega) (main d n : ℕ) (i : List ℕ) → depth_at depths main ≡ Some d → AtMost size d (started n omega' ls (Some main) i)
   program-most omega' main d n i e =

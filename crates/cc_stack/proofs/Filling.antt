@@ -25,7 +25,8 @@ some-lambda : (a b : PlainLambda) (o : Option PlainLambda) → o ≡ Some a → 
 some-lambda a b o p q = cc
 
 -- one more turn, that of function f
-module _ (ls : List PlainLambda) (sizes turns : List ℕ) (t f : ℕ) (l : PlainLambda) (depths : List (Option ℕ)) (are : AreTurns ls turns) (inside : t < length turns) (is : slice_index_or turns t 0 ≡ f) (at : slice_get ls f ≡ Some l) (filled : IsFilled ls sizes turns t depths) where
+module _ (ls : List PlainLambda) (sizes turns : List ℕ) (t f : ℕ) (l : PlainLambda) (depths : List (Option ℕ)) (are : AreTurns ls turns) (inside : t < length turns)
+    (is : slice_index_or turns t 0 ≡ f) (at : slice_get ls f ≡ Some l) (filled : IsFilled ls sizes turns t depths) where
   abbrev found : Option ℕ
   found = with_frame (slice_index_or sizes f 0) (most_of depths (region_calls l.body))
 
@@ -96,13 +97,15 @@ module _ (ls : List PlainLambda) (sizes turns : List ℕ) (t f : ℕ) (l : Plain
             | inr no_less ↦ let e : i ≡ t = omega (arith, low, no_less) in absurd (other (ap (λ j. slice_index_or turns j 0) e ∙ is))
           ]
 
-pub filled-more : (ls : List PlainLambda) (sizes turns : List ℕ) (t f : ℕ) (l : PlainLambda) (depths : List (Option ℕ)) → AreTurns ls turns → t < length turns → slice_index_or turns t 0 ≡ f → slice_get ls f ≡ Some l →
+pub filled-more : (ls : List PlainLambda) (sizes turns : List ℕ) (t f : ℕ) (l : PlainLambda) (depths : List (Option ℕ)) → AreTurns ls turns → t < length turns → slice_index_or turns t 0 ≡ f →
+    slice_get ls f ≡ Some l →
     slice_index_or sizes f 0 < 2 ^ 32 → IsFilled ls sizes turns t depths →
     IsFilled ls sizes turns (t + 1) (set depths f (with_frame (slice_index_or sizes f 0) (most_of depths (region_calls l.body))))
 filled-more ls sizes turns t f l depths are inside is at small filled = one-more ls sizes turns t f l depths are inside is at filled small
 
 -- after all turns
-pub filled-all : (ls : List PlainLambda) (sizes turns : List ℕ) (count : ℕ) (depths : List (Option ℕ)) → AreTurns ls turns → length turns ≤ count → IsFilled ls sizes turns count depths → IsDepth ls sizes depths
+pub filled-all : (ls : List PlainLambda) (sizes turns : List ℕ) (count : ℕ) (depths : List (Option ℕ)) → AreTurns ls turns → length turns ≤ count → IsFilled ls sizes turns count depths →
+    IsDepth ls sizes depths
 filled-all ls sizes turns count depths are whole filled =
     record {
       counted = filled.counted;

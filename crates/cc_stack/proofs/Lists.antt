@@ -110,7 +110,8 @@ drop_next xs i x low is =
 
 -- ---- a frame more
 
-pub frame_fits : (depths : List (Option ℕ)) (ks : List ℕ) (frame most : ℕ) → frame < 2 ^ 32 → ((f d : ℕ) → depth_at depths f ≡ Some d → d + 2 ^ 32 < 2 ^ 64) → greater (Some 0) (most_of depths ks) ≡ Some most → frame + most < 2 ^ 64
+pub frame_fits : (depths : List (Option ℕ)) (ks : List ℕ) (frame most : ℕ) → frame < 2 ^ 32 → ((f d : ℕ) → depth_at depths f ≡ Some d → d + 2 ^ 32 < 2 ^ 64) → greater (Some 0) (most_of depths ks)
+    ≡ Some most → frame + most < 2 ^ 64
 frame_fits depths ks frame most small low e =
     let is : most_of depths ks ≡ Some most = sym (nothing-greater (most_of depths ks)) ∙ e in
     let bound : most ≤ 2 ^ 64 - 2 ^ 32 - 1 = most-low depths ks (2 ^ 64 - 2 ^ 32 - 1) (λ k d at. let h = low k d at in omega (arith, h)) most is in

@@ -33,8 +33,8 @@ type Build = (
     bool,
 );
 
-/// Watchers that several builds are given one after the other, and their texts in the end, one after
-/// the other, if none refuses it.
+/// Watchers that several builds are given one after the other, and their texts in the end, one
+/// after the other, if none refuses it.
 struct Case {
     watchers: &'static [Kind],
     builds: &'static [Build],
@@ -52,7 +52,8 @@ const CASES: [Case; 6] = [
         texts: Some(
             b"function main 12 12\nfunction d 11 11\nfunction b 15 15\niln 0\nfunction c 15 15\n\
               iln 0\nfunction main 20 28\niln 1\niln 3\n\
-              functions 5 fold 0 cne 0 dne 0 inv 0 psh 0 pll 0 ivt 0 url 0 iln 4 before 73 after 81\n",
+              functions 5 fold 0 cne 0 dne 0 inv 0 psh 0 pll 0 ivt 0 url 0 iln 4 before 73 \
+              after 81\n",
         ),
     },
     // The first of a name reports: the second one would refuse its text.
@@ -104,7 +105,8 @@ const CASES: [Case; 6] = [
         builds: &[(DIAMOND, "iln", &[], &[], 6, b"memory\n", false)],
         texts: Some(
             b"function d 11 11\nfunction b 15 15\niln 0\nfunction c 15 15\niln 0\n\
-              function d 11 11\nfunction b 15 15\niln 0\nfunction d 11 11\nfunction b 15 15\niln 0\n",
+              function d 11 11\nfunction b 15 15\niln 0\nfunction d 11 11\nfunction b 15 15\n\
+              iln 0\n",
         ),
     },
     // A watcher refuses its text.

@@ -199,7 +199,8 @@ pub map_same : {A B : Type 0} (f g : A → B) (xs : List A) → ((i : ℕ) (x : 
 map_same f g [] h = refl
 map_same f g (x ∷ xs) h = let e = h 0 x refl in let t = map_same f g xs (λ i y p. h (suc i) y p) in cc
 
-pub map_set_at : {A B : Type 0} (f g : A → B) (xs : List A) (k : ℕ) (x : A) (y : B) → f x ≡ y → ((i : ℕ) (z : A) → i ≢ k → slice_get xs i ≡ Some z → f z ≡ g z) → map f (slice_set xs k x) ≡ slice_set (map g xs) k y
+pub map_set_at : {A B : Type 0} (f g : A → B) (xs : List A) (k : ℕ) (x : A) (y : B) → f x ≡ y → ((i : ℕ) (z : A) → i ≢ k → slice_get xs i ≡ Some z → f z ≡ g z) → map f (slice_set xs k x)
+    ≡ slice_set (map g xs) k y
 map_set_at f g [] k x y e h = refl
 map_set_at f g (z ∷ zs) zero x y e h =
     let t = map_same f g zs (λ i w p. h (suc i) w (omega arith) p) in cc

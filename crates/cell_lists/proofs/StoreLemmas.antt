@@ -114,7 +114,8 @@ pushed_there links j k f e c hf he ne free =
     (λ x q. apart links j k f x hf (names links k e x he (last_of_in x (cells_of links e) (sym (ap (λ (r : Ends). r.last) he.ends) ∙ q))) ne)
     hf.linked))
 
-pub pushed_linked : (links : List Link) (lists : List Ends) (k : ℕ) (e : Ends) (c : ℕ) → AreLinked links lists → slice_get lists k ≡ Some e → c < length links → IsFree c (lists_seen links lists) → AreLinked (pushed_links links k e c) (slice_set lists k (with_last e c))
+pub pushed_linked : (links : List Link) (lists : List Ends) (k : ℕ) (e : Ends) (c : ℕ) → AreLinked links lists → slice_get lists k ≡ Some e → c < length links → IsFree c (lists_seen links lists) →
+    AreLinked (pushed_links links k e c) (slice_set lists k (with_last e c))
 pushed_linked links lists k e c h at within free j f p =
     elim (cases_eq j k) [
       | inl q ↦
@@ -128,7 +129,8 @@ pushed_linked links lists k e c h at within free j f p =
           (pushed_there links j k f e c (h j f at') (h k e at) ne (sym (ap (is_in c) (seen_at links lists j f at')) ∙ free j)).linked
     ]
 
-pub pushed_seen : (links : List Link) (lists : List Ends) (k : ℕ) (e : Ends) (c : ℕ) → AreLinked links lists → slice_get lists k ≡ Some e → c < length links → IsFree c (lists_seen links lists) → lists_seen (pushed_links links k e c) (slice_set lists k (with_last e c)) ≡ pushed (lists_seen links lists) k c
+pub pushed_seen : (links : List Link) (lists : List Ends) (k : ℕ) (e : Ends) (c : ℕ) → AreLinked links lists → slice_get lists k ≡ Some e → c < length links → IsFree c (lists_seen links lists) →
+    lists_seen (pushed_links links k e c) (slice_set lists k (with_last e c)) ≡ pushed (lists_seen links lists) k c
 pushed_seen links lists k e c h at within free =
     let here = (pushed_here links k e c (h k e at) (sym (ap (is_in c) (seen_at links lists k e at)) ∙ free k) within).1 in
     let now = seen_at links lists k e at in
@@ -240,7 +242,8 @@ after_in_list links k e c link s x q =
     let h = first_of_in x s.parts.back (sym (ap (λ (r : Link). r.after) s.neighbours) ∙ q) in
     ap (is_in x) s.parts.is ∙ list_any-append (λ y. eqb x y) s.parts.front (c ∷ s.parts.back) ∙ or_right _ _ (or_right _ _ h)
 
-removed_there : (links : List Link) (j k : ℕ) (f e : Ends) (c : ℕ) (link : Link) → IsLinked links j f → IsLinked links k e → j ≢ k → Stands links k e c link → IsKept links (removed_links links link) j f
+removed_there : (links : List Link) (j k : ℕ) (f e : Ends) (c : ℕ) (link : Link) → IsLinked links j f → IsLinked links k e → j ≢ k → Stands links k e c link →
+    IsKept links (removed_links links link) j f
 removed_there links j k f e c link hf he ne s =
     let xs = cells_of links f in
     kept links (removed_links links link) j f hf
@@ -292,7 +295,8 @@ pub record IsStored (links : List Link) (lists : List Ends) (c : ℕ) (link : Li
   pub has : is_in c (cells_of links e) ≡ true
   pub stands : Stands links link.list e c link
 
-pub stored : (links : List Link) (lists : List Ends) (c : ℕ) (link : Link) (e : Ends) → IsInList links lists c link.list → slice_get links c ≡ Some link → slice_get lists link.list ≡ Some e → IsStored links lists c link e
+pub stored : (links : List Link) (lists : List Ends) (c : ℕ) (link : Link) (e : Ends) → IsInList links lists c link.list → slice_get links c ≡ Some link → slice_get lists link.list ≡ Some e →
+    IsStored links lists c link e
 stored links lists c link e p at ends_at =
     let q = same_Some p.ends e (sym p.at ∙ ends_at) in
     let P : Ends → Type 0 = λ r. IsLinked links link.list r in
@@ -311,7 +315,8 @@ before_within links lists c link e s = by_neighbour link.before refl
         let n = names links link.list e x s.linked (before_in_list links link.list e c link s.stands x q) in
         slice_get_within links x n.link n.at
 
-pub removed_linked : (links : List Link) (lists : List Ends) (c : ℕ) (link : Link) (e : Ends) → AreLinked links lists → IsStored links lists c link e → AreLinked (removed_links links link) (slice_set lists link.list (without_cell e c link))
+pub removed_linked : (links : List Link) (lists : List Ends) (c : ℕ) (link : Link) (e : Ends) → AreLinked links lists → IsStored links lists c link e →
+    AreLinked (removed_links links link) (slice_set lists link.list (without_cell e c link))
 removed_linked links lists c link e h s j f p =
     elim (cases_eq j link.list) [
       | inl q ↦
@@ -334,7 +339,8 @@ set_same [] i x h = refl
 set_same (y ∷ ys) zero x h = ap (λ z. z ∷ ys) (sym (same_Some _ _ h))
 set_same (y ∷ ys) (suc i) x h = ap (λ zs. y ∷ zs) (set_same ys i x h)
 
-pub removed_seen : (links : List Link) (lists : List Ends) (c : ℕ) (link : Link) (e : Ends) → AreLinked links lists → IsStored links lists c link e → lists_seen (removed_links links link) (slice_set lists link.list (without_cell e c link)) ≡ removed (lists_seen links lists) c
+pub removed_seen : (links : List Link) (lists : List Ends) (c : ℕ) (link : Link) (e : Ends) → AreLinked links lists → IsStored links lists c link e →
+    lists_seen (removed_links links link) (slice_set lists link.list (without_cell e c link)) ≡ removed (lists_seen links lists) c
 removed_seen links lists c link e h s =
     let g : Ends → List ℕ = λ r. without c (cells_of links r) in
     let owner = names links link.list e c s.linked s.has in
@@ -348,17 +354,20 @@ removed_seen links lists c link e h s =
     ∙ map-map (without c) (cells_of links) lists)
 
 -- what a read of a list, or of a cell, gives
-pub list_read : (links : List Link) (lists : List Ends) (s : Lists) (k : ℕ) (e : Ends) → lists_seen links lists ≡ s → AreLinked links lists → k < length s.lists → e ≡ slice_index_or lists k e → slice_get lists k ≡ Some e
+pub list_read : (links : List Link) (lists : List Ends) (s : Lists) (k : ℕ) (e : Ends) → lists_seen links lists ≡ s → AreLinked links lists → k < length s.lists → e ≡ slice_index_or lists k e →
+    slice_get lists k ≡ Some e
 list_read links lists s k e view h lt q =
     let n : k < length lists = omega (arith, length-map lists (cells_of links), ap (λ (t : Lists). length t.lists) view) in
     slice_get_read lists (length lists) k e refl n q
 
-pub ends_read : (links : List Link) (lists : List Ends) (s : Lists) (k : ℕ) (e : Ends) → lists_seen links lists ≡ s → AreLinked links lists → k < length s.lists → e ≡ slice_index_or lists k e → e ≡ ends_of (list_at s k)
+pub ends_read : (links : List Link) (lists : List Ends) (s : Lists) (k : ℕ) (e : Ends) → lists_seen links lists ≡ s → AreLinked links lists → k < length s.lists → e ≡ slice_index_or lists k e → e
+    ≡ ends_of (list_at s k)
 ends_read links lists s k e view h lt q =
     let at = list_read links lists s k e view h lt q in
     (h k e at).ends ∙ ap ends_of (sym (seen_at links lists k e at)) ∙ ap (λ (t : Lists). ends_of (list_at t k)) view
 
-pub distinct_read : (links : List Link) (lists : List Ends) (s : Lists) (k : ℕ) (e : Ends) → lists_seen links lists ≡ s → AreLinked links lists → k < length s.lists → e ≡ slice_index_or lists k e → AreDistinct (list_at s k)
+pub distinct_read : (links : List Link) (lists : List Ends) (s : Lists) (k : ℕ) (e : Ends) → lists_seen links lists ≡ s → AreLinked links lists → k < length s.lists → e ≡ slice_index_or lists k e →
+    AreDistinct (list_at s k)
 distinct_read links lists s k e view h lt q =
     let at = list_read links lists s k e view h lt q in
     subst AreDistinct (sym (seen_at links lists k e at) ∙ ap (λ (t : Lists). list_at t k) view) (h k e at).distinct
@@ -373,7 +382,8 @@ pub record AreNeighbours (s : Lists) (k c : ℕ) (link : Link) : Type 0 where
   pub before : link.before ≡ before_in None c (list_at s k)
   pub after : link.after ≡ after_in c (list_at s k)
 
-pub neighbours_read : (links : List Link) (lists : List Ends) (s : Lists) (c k : ℕ) (link : Link) → lists_seen links lists ≡ s → AreLinked links lists → is_in c (list_at s k) ≡ true → link ≡ slice_index_or links c link → AreNeighbours s k c link
+pub neighbours_read : (links : List Link) (lists : List Ends) (s : Lists) (c k : ℕ) (link : Link) → lists_seen links lists ≡ s → AreLinked links lists → is_in c (list_at s k) ≡ true → link
+    ≡ slice_index_or links c link → AreNeighbours s k c link
 neighbours_read links lists s c k link view h i q =
     let p = cell_in_list links lists s c k view h i in
     let at = link_read links c link (within links lists c k p) q in
@@ -398,14 +408,16 @@ with_other-of k c d xs ys =
     let f = first_with xs ys c d in
     let l = last_with xs ys c d in
     let n : length (xs ++ c ∷ ys) ≡ length (xs ++ d ∷ ys) = omega (arith, length-append xs (c ∷ ys), length-append xs (d ∷ ys)) in
-    let m : falls None (xs ++ c ∷ ys) - fall (last_or None xs) (Some c) - fall (Some c) (first_or None ys) + fall (last_or None xs) (Some d) + fall (Some d) (first_or None ys) ≡ falls None (xs ++ d ∷ ys) =
+    let m : falls None (xs ++ c ∷ ys) - fall (last_or None xs) (Some c) - fall (Some c) (first_or None ys) + fall (last_or None xs) (Some d) + fall (Some d) (first_or None ys)
+    ≡ falls None (xs ++ d ∷ ys) =
     omega (arith, falls-at c xs ys, falls-at d xs ys) in
     λ i. record { first = f i; last = l i; len = n i; falls = m i }
 
 abbrev pub replaced_links : List Link → Link → ℕ → List Link
 replaced_links links link d = slice_set (before_set (after_set links link.before (Some d)) link.after (Some d)) d link
 
-exchanged : (links : List Link) (k c d : ℕ) (xs ys : List ℕ) → Linked links k None None (xs ++ c ∷ ys) → AreDistinct (xs ++ c ∷ ys) → is_in d (xs ++ c ∷ ys) ≡ false → d < length links → Linked (replaced_links links (link_between k xs ys) d) k None None (xs ++ d ∷ ys)
+exchanged : (links : List Link) (k c d : ℕ) (xs ys : List ℕ) → Linked links k None None (xs ++ c ∷ ys) → AreDistinct (xs ++ c ∷ ys) → is_in d (xs ++ c ∷ ys) ≡ false → d < length links →
+    Linked (replaced_links links (link_between k xs ys) d) k None None (xs ++ d ∷ ys)
 exchanged links k c d xs ys l e free lt =
     let b = last_or None xs in
     let a = first_or None ys in
@@ -445,7 +457,8 @@ replaced_here links k e c d link s free lt =
     let seen = sym (ap (map (other_for c d)) s.parts.is ∙ others-at c d xs ys s.parts.apart (distinct_parts xs (c ∷ ys) s.distinct).1.0) in
     (stored_as _ k _ (xs ++ d ∷ ys) q l (distinct_replaced xs ys c d s.distinct free'), seen_as _ k _ (xs ++ d ∷ ys) q l ∙ seen)
 
-replaced_there : (links : List Link) (j k : ℕ) (f e : Ends) (c d : ℕ) (link : Link) → IsLinked links j f → IsLinked links k e → j ≢ k → Stands links k e c link → is_in d (cells_of links f) ≡ false → IsKept links (replaced_links links link d) j f
+replaced_there : (links : List Link) (j k : ℕ) (f e : Ends) (c d : ℕ) (link : Link) → IsLinked links j f → IsLinked links k e → j ≢ k → Stands links k e c link → is_in d (cells_of links f)
+    ≡ false → IsKept links (replaced_links links link d) j f
 replaced_there links j k f e c d link hf he ne s free =
     let xs = cells_of links f in
     kept links (replaced_links links link d) j f hf
@@ -456,7 +469,8 @@ replaced_there links j k f e c d link hf he ne s free =
     (λ x q. apart links j k f x hf (names links k e x he (before_in_list links k e c link s x q)) ne)
     hf.linked)))
 
-replaced_linked : (links : List Link) (lists : List Ends) (c d : ℕ) (link : Link) (e : Ends) → AreLinked links lists → IsStored links lists c link e → IsFree d (lists_seen links lists) → d < length links → AreLinked (replaced_links links link d) (slice_set lists link.list (with_other e c d link))
+replaced_linked : (links : List Link) (lists : List Ends) (c d : ℕ) (link : Link) (e : Ends) → AreLinked links lists → IsStored links lists c link e → IsFree d (lists_seen links lists) →
+    d < length links → AreLinked (replaced_links links link d) (slice_set lists link.list (with_other e c d link))
 replaced_linked links lists c d link e h s free lt j f p =
     elim (cases_eq j link.list) [
       | inl q ↦
@@ -470,14 +484,16 @@ replaced_linked links lists c d link e h s free lt j f p =
           (replaced_there links j link.list f e c d link (h j f at') s.linked ne s.stands (sym (ap (is_in d) (seen_at links lists j f at')) ∙ free j)).linked
     ]
 
-replaced_seen : (links : List Link) (lists : List Ends) (c d : ℕ) (link : Link) (e : Ends) → AreLinked links lists → IsStored links lists c link e → IsFree d (lists_seen links lists) → d < length links → lists_seen (replaced_links links link d) (slice_set lists link.list (with_other e c d link)) ≡ replaced (lists_seen links lists) c d
+replaced_seen : (links : List Link) (lists : List Ends) (c d : ℕ) (link : Link) (e : Ends) → AreLinked links lists → IsStored links lists c link e → IsFree d (lists_seen links lists) →
+    d < length links → lists_seen (replaced_links links link d) (slice_set lists link.list (with_other e c d link)) ≡ replaced (lists_seen links lists) c d
 replaced_seen links lists c d link e h s free lt =
     let g : Ends → List ℕ = λ r. map (other_for c d) (cells_of links r) in
     let owner = names links link.list e c s.linked s.has in
     let links' = before_set (after_set links link.before (Some d)) link.after (Some d) in
     seen_same _ _ _ _
     (length-set links' d link ∙ length-before (after_set links link.before (Some d)) link.after (Some d) ∙ length-after links link.before (Some d))
-    (map_set_at (cells_of (replaced_links links link d)) g lists link.list (with_other e c d link) (g e) (replaced_here links link.list e c d link s.stands (sym (ap (is_in d) (seen_at links lists link.list e s.at)) ∙ free link.list) lt).1
+    (map_set_at (cells_of (replaced_links links link d)) g lists link.list (with_other e c d link) (g e)
+    (replaced_here links link.list e c d link s.stands (sym (ap (is_in d) (seen_at links lists link.list e s.at)) ∙ free link.list) lt).1
     (λ j f ne at.
     (replaced_there links j link.list f e c d link (h j f at) s.linked ne s.stands (sym (ap (is_in d) (seen_at links lists j f at)) ∙ free j)).seen
     ∙ sym (others-outside c d (cells_of links f) (apart links j link.list f c (h j f at) owner ne)))
@@ -514,7 +530,8 @@ few_falls links lists k e h at =
     let q = (h k e at).ends in
     omega (arith, ap (λ (r : Ends). r.falls) q, ap (λ (r : Ends). r.len) q, falls-le None (cells_of links e))
 
-pub room : (links : List Link) (lists : List Ends) (k : ℕ) (e : Ends) (c : ℕ) → AreLinked links lists → slice_get lists k ≡ Some e → c < length links → IsFree c (lists_seen links lists) → e.len + 1 ≤ length links
+pub room : (links : List Link) (lists : List Ends) (k : ℕ) (e : Ends) (c : ℕ) → AreLinked links lists → slice_get lists k ≡ Some e → c < length links → IsFree c (lists_seen links lists) →
+    e.len + 1 ≤ length links
 room links lists k e c h at lt free =
     let l = h k e at in
     let xs = cells_of links e in
@@ -531,7 +548,9 @@ room links lists k e c h at lt free =
     omega (arith, ap (λ (r : Ends). r.len) l.ends, length-append xs (c ∷ []), length_distinct (xs ++ c ∷ []) (length links) (distinct_pushed xs c l.distinct outer) below)
 
 -- a cell has come to a list
-pub push_done : (links : List Link) (lists : List Ends) (s : Lists) (k : ℕ) (e : Ends) (c : ℕ) (links' : List Link) (e' : Ends) → AreStored links lists s → k < length s.lists → c < s.cells → IsFree c s → e ≡ slice_index_or lists k e → links' ≡ after_set links e.last (Some c) → e' ≡ with_last e c → AreStored (slice_set links' c (record { list = k; before = e.last; after = None })) (slice_set lists k e') (pushed s k c)
+pub push_done : (links : List Link) (lists : List Ends) (s : Lists) (k : ℕ) (e : Ends) (c : ℕ) (links' : List Link) (e' : Ends) → AreStored links lists s → k < length s.lists → c < s.cells →
+    IsFree c s → e ≡ slice_index_or lists k e → links' ≡ after_set links e.last (Some c) → e' ≡ with_last e c →
+    AreStored (slice_set links' c (record { list = k; before = e.last; after = None })) (slice_set lists k e') (pushed s k c)
 push_done links lists s k e c links' e' h lt in_s free read p q =
     let P : List Link → Type 0 = λ ls. AreStored (slice_set ls c (record { list = k; before = e.last; after = None })) (slice_set lists k e') (pushed s k c) in
     let Q : Ends → Type 0 = λ r. AreStored (pushed_links links k e c) (slice_set lists k r) (pushed s k c) in
@@ -545,7 +564,9 @@ push_done links lists s k e c links' e' h lt in_s free read p q =
     }))
 
 -- a cell has gone from its list
-pub remove_done : (links : List Link) (lists : List Ends) (s : Lists) (c : ℕ) (link : Link) (e : Ends) (links' links'' : List Link) (e' : Ends) → AreStored links lists s → IsStored links lists c link e → links' ≡ after_set links link.before link.after → links'' ≡ before_set links' link.after link.before → e' ≡ without_cell e c link → AreStored links'' (slice_set lists link.list e') (removed s c)
+pub remove_done : (links : List Link) (lists : List Ends) (s : Lists) (c : ℕ) (link : Link) (e : Ends) (links' links'' : List Link) (e' : Ends) → AreStored links lists s →
+    IsStored links lists c link e → links' ≡ after_set links link.before link.after → links'' ≡ before_set links' link.after link.before → e' ≡ without_cell e c link →
+    AreStored links'' (slice_set lists link.list e') (removed s c)
 remove_done links lists s c link e links' links'' e' h t p q r =
     let P : List Link → Type 0 = λ ls. AreStored ls (slice_set lists link.list e') (removed s c) in
     let Q : Ends → Type 0 = λ x. AreStored (removed_links links link) (slice_set lists link.list x) (removed s c) in
@@ -560,12 +581,14 @@ link_of links lists s c link h listed read =
     let p = cell_in_list links lists s c listed.0 h.seen h.linked listed.1 in
     in_named links lists c listed.0 link p (link_read links c link (within links lists c listed.0 p) read)
 
-pub stored_at : (links : List Link) (lists : List Ends) (s : Lists) (c : ℕ) (link : Link) → AreStored links lists s → IsListed c s → link ≡ slice_index_or links c link → (e : Ends) × IsStored links lists c link e
+pub stored_at : (links : List Link) (lists : List Ends) (s : Lists) (c : ℕ) (link : Link) → AreStored links lists s → IsListed c s → link ≡ slice_index_or links c link → (e : Ends)
+    × IsStored links lists c link e
 stored_at links lists s c link h listed read =
     let p = link_of links lists s c link h listed read in
     (p.ends, stored links lists c link p.ends p (link_read links c link (within links lists c link.list p) read) p.at)
 
-pub stored_of : (links : List Link) (lists : List Ends) (s : Lists) (c : ℕ) (link : Link) (e : Ends) → AreStored links lists s → IsListed c s → link ≡ slice_index_or links c link → e ≡ slice_index_or lists link.list e → IsStored links lists c link e
+pub stored_of : (links : List Link) (lists : List Ends) (s : Lists) (c : ℕ) (link : Link) (e : Ends) → AreStored links lists s → IsListed c s → link ≡ slice_index_or links c link → e
+    ≡ slice_index_or lists link.list e → IsStored links lists c link e
 stored_of links lists s c link e h listed read read' =
     let p = link_of links lists s c link h listed read in
     let at = link_read links c link (within links lists c link.list p) read in
@@ -579,7 +602,14 @@ has_cell links lists c link e t =
 pub has_falls : (links : List Link) (lists : List Ends) (c : ℕ) (link : Link) (e : Ends) → IsStored links lists c link e → fall link.before (Some c) + fall (Some c) link.after ≤ e.falls
 has_falls links lists c link e t =
     let s = t.stands in
-    omega (arith, ap (λ (r : Ends). r.falls) s.ends, falls-at c s.parts.front s.parts.back, ap (λ (r : Link). fall r.before (Some c)) s.neighbours, ap (λ (r : Link). fall (Some c) r.after) s.neighbours)
+    omega (
+      arith,
+      ap (λ (r : Ends). r.falls) s.ends,
+      falls-at c s.parts.front s.parts.back,
+      ap (λ (r : Link). fall r.before (Some c)) s.neighbours,
+      ap (λ (r : Link). fall (Some c) r.after)
+          s.neighbours,
+    )
 
 -- before another cell stands for it, too
 pub after_within_with : (links : List Link) (lists : List Ends) (c : ℕ) (link : Link) (e : Ends) (to : Option ℕ) → IsStored links lists c link e → IsCell (after_set links link.before to) link.after
@@ -591,18 +621,29 @@ after_within_with links lists c link e to s = by_neighbour link.after refl
         let n = names links link.list e x s.linked (after_in_list links link.list e c link s.stands x q) in
         omega (arith, slice_get_within links x n.link n.at, length-after links link.before to)
 
-pub room_for_other : (links : List Link) (lists : List Ends) (s : Lists) (c d : ℕ) (link : Link) (e : Ends) → AreStored links lists s → IsStored links lists c link e → d < s.cells → IsFree d s → e.falls + 2 ≤ length links
+pub room_for_other : (links : List Link) (lists : List Ends) (s : Lists) (c d : ℕ) (link : Link) (e : Ends) → AreStored links lists s → IsStored links lists c link e → d < s.cells → IsFree d s →
+    e.falls + 2 ≤ length links
 room_for_other links lists s c d link e h t lt free =
     let q = t.linked.ends in
     let F : Lists → Type 0 = λ r. IsFree d r in
     let inside : d < length links = omega (arith, ap (λ (r : Lists). r.cells) h.seen) in
-    omega (arith, ap (λ (r : Ends). r.falls) q, ap (λ (r : Ends). r.len) q, falls-lt (cells_of links e), has_cell links lists c link e t, room links lists link.list e d h.linked t.at inside (subst F (sym h.seen) free))
+    omega (
+      arith,
+      ap (λ (r : Ends). r.falls) q,
+      ap (λ (r : Ends). r.len) q,
+      falls-lt (cells_of links e),
+      has_cell links lists c link e t,
+      room links lists link.list e d h.linked t.at inside
+          (subst F (sym h.seen) free),
+    )
 
 -- the length of the links stays
 pub length-links : (links links' links'' : List Link) (o p q r : Option ℕ) → links' ≡ after_set links o p → links'' ≡ before_set links' q r → length links'' ≡ length links
 length-links links links' links'' o p q r e f = ap length f ∙ length-before links' q r ∙ ap length e ∙ length-after links o p
 
-pub replace_done : (links : List Link) (lists : List Ends) (s : Lists) (c d : ℕ) (link : Link) (e : Ends) (links' links'' : List Link) (e' : Ends) → AreStored links lists s → IsStored links lists c link e → d < s.cells → IsFree d s → links' ≡ after_set links link.before (Some d) → links'' ≡ before_set links' link.after (Some d) → e' ≡ with_other e c d link → AreStored (slice_set links'' d link) (slice_set lists link.list e') (replaced s c d)
+pub replace_done : (links : List Link) (lists : List Ends) (s : Lists) (c d : ℕ) (link : Link) (e : Ends) (links' links'' : List Link) (e' : Ends) → AreStored links lists s →
+    IsStored links lists c link e → d < s.cells → IsFree d s → links' ≡ after_set links link.before (Some d) → links'' ≡ before_set links' link.after (Some d) → e' ≡ with_other e c d link →
+    AreStored (slice_set links'' d link) (slice_set lists link.list e') (replaced s c d)
 replace_done links lists s c d link e links' links'' e' h t lt free p q r =
     let P : List Link → Type 0 = λ ls. AreStored (slice_set ls d link) (slice_set lists link.list e') (replaced s c d) in
     let Q : Ends → Type 0 = λ x. AreStored (replaced_links links link d) (slice_set lists link.list x) (replaced s c d) in

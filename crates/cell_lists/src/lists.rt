@@ -127,7 +127,8 @@ impl CellLists {
     /// The cell before one in its list.
     pub fn before(&self, cell: usize) -> Option<usize>
         requires { IsListed cell self.now }
-        ensures { (k : ℕ) → is_in cell (list_at self.now k) ≡ true → result ≡ before_in None cell (list_at self.now k) }
+        ensures { (k : ℕ) → is_in cell (list_at self.now k) ≡ true
+            → result ≡ before_in None cell (list_at self.now k) }
     {
         self.links[cell].before
     }
@@ -135,7 +136,8 @@ impl CellLists {
     /// The cell after one in its list.
     pub fn after(&self, cell: usize) -> Option<usize>
         requires { IsListed cell self.now }
-        ensures { (k : ℕ) → is_in cell (list_at self.now k) ≡ true → result ≡ after_in cell (list_at self.now k) }
+        ensures { (k : ℕ) → is_in cell (list_at self.now k) ≡ true
+            → result ≡ after_in cell (list_at self.now k) }
     {
         self.links[cell].after
     }

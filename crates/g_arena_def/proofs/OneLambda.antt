@@ -178,7 +178,8 @@ mutual
         s.1,
       )
 
-  regions_once : (rs ss : RegionTrees) (n k : ℕ) (us vs : List FlatNode) → FitsIn n rs us → FitsIn n ss vs → regions_flat rs ≡ regions_flat ss → in_regions n k rs ++ us ≡ in_regions n k ss ++ vs → (rs ≡ ss) × (us ≡ vs)
+  regions_once : (rs ss : RegionTrees) (n k : ℕ) (us vs : List FlatNode) → FitsIn n rs us → FitsIn n ss vs → regions_flat rs ≡ regions_flat ss → in_regions n k rs ++ us ≡ in_regions n k ss ++ vs →
+      (rs ≡ ss) × (us ≡ vs)
   regions_once no_regions no_regions n k us vs f g h e = (refl, e)
   regions_once no_regions (region_then s ss) n k us vs f g h e = cc
   regions_once (region_then r rs) no_regions n k us vs f g h e = cc
@@ -186,7 +187,8 @@ mutual
       let q = same_head _ _ _ _ h in
       let e' : in_nodes (place_in n k) ns ++ (in_regions n (suc k) rs ++ us) ≡ in_nodes (place_in n k) ms ++ (in_regions n (suc k) ss ++ vs) =
       sym (append_assoc (in_nodes (place_in n k) ns) (in_regions n (suc k) rs) us) ∙ e ∙ append_assoc (in_nodes (place_in n k) ms) (in_regions n (suc k) ss) vs in
-      let t = nodes_once ns ms (place_in n k) (in_regions n (suc k) rs ++ us) (in_regions n (suc k) ss ++ vs) (region_fits n k args ns results rs us f) (region_fits n k args' ms results' ss vs g) e' in
+      let t = nodes_once ns ms (place_in n k) (in_regions n (suc k) rs ++ us) (in_regions n (suc k) ss ++ vs) (region_fits n k args ns results rs us f) (region_fits n k args' ms results' ss vs g)
+      e' in
       let s = regions_once rs ss n (suc k) us vs (later_regions n args ns results rs us f) (later_regions n args' ms results' ss vs g) (same_tail _ _ _ _ h) t.1 in (
         λ i. region_then (region (ap (λ (v : FlatRegion). v.args) q i) (t.0 i) (ap (λ (v : FlatRegion). v.results) q i)) (s.0 i),
         s.1,

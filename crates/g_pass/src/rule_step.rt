@@ -66,7 +66,8 @@ fn apply(alloc: Global, rule: Rule, lambda: &mut Lambda, node: u32) -> Result<()
 fn step_alone(alloc: Global, step: Step, lambda: &mut Lambda) -> Result<bool, NoMemory>
     requires well_formed { IsWellFormed lambda.old }
     ensures made { IfOk result (λ made.
-        (if applies step.rule lambda.old step.node then Some (applied step.rule step.node lambda.old) else None)
+        (if applies step.rule lambda.old step.node
+        then Some (applied step.rule step.node lambda.old) else None)
         ≡ (if made then Some lambda.new else None)) }
     ensures unmade { IfOk result (λ made. made ≡ false → lambda.new ≡ lambda.old) }
     ensures kept { IsWellFormed lambda.new }

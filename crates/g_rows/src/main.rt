@@ -1,12 +1,13 @@
-//! A program that tries the rows of a table, each on lambdas, and prints those that fail.
-//! It makes changes, rules at their limits, sweeps, recipes, linear code and places, stands on their
+//! A program that tries the rows of a table, each on lambdas, and prints those that fail. It makes
+//! changes, rules at their limits, sweeps, recipes, linear code and places, stands on their
 //! crates, and promises nothing of its own.
 //!
 //! A row begins with a line `row NAME`. A line that begins with `=` and a blank is wanted of it. A
 //! line `function ..` begins the text of a lambda, the lines of which that follow begin with a
-//! blank; between two `@` stand a count, a blank and a text, which the line repeats that often. Each
-//! other line is a call (`calls`, `rules`, `changes`, `code`, `words`), most on the last lambda. A
-//! row fails where what its calls say is not what is wanted of it. The last line counts the rows.
+//! blank; between two `@` stand a count, a blank and a text, which the line repeats that often.
+//! Each other line is a call (`calls`, `rules`, `changes`, `code`, `words`), most on the last
+//! lambda. A row fails where what its calls say is not what is wanted of it. The last line counts
+//! the rows.
 #![tactic(auto)]
 
 mod calls;

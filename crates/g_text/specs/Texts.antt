@@ -127,7 +127,8 @@ objects_text index (o ∷ os) = object_text index o ++ objects_text (index + 1) 
 
 abbrev pub head_text : (name : List ℕ) → PlainLambda → List ℕ
 head_text name l =
-    numbered (codes "function") l.number ++ codes " " ++ name ++ numbered (codes " params") l.params ++ numbered (codes " values") (saturated (region_values l.body)) ++ numbered (codes " next") l.next ++ codes "\n"
+    numbered (codes "function") l.number ++ codes " " ++ name ++ numbered (codes " params") l.params ++ numbered (codes " values") (saturated (region_values l.body))
+    ++ numbered (codes " next") l.next ++ codes "\n"
 
 -- the function of this name
 abbrev pub lambda_text : (name : List ℕ) → PlainLambda → List ℕ

@@ -218,11 +218,13 @@ mutual
   expression_there (Node l.Dot (Cons object (Cons (Leaf o) (Cons x more)))) s r h clean =
       let a = expression object s in
       let ca = (selected_steps (selection_op_of (Leaf o)) o.at (name_of x) (offset_of x) a.0 a.1).broken clean in
-      selected_there (selection_op_of (Leaf o)) o.at (name_of x) (offset_of x) a.0 a.1 (dot_there o.kind r.1.1.0) (expression_there object s (operand_is_expression class.Postfix object postfix_small r.1.0) h ca) clean
+      selected_there (selection_op_of (Leaf o)) o.at (name_of x) (offset_of x) a.0 a.1 (dot_there o.kind r.1.1.0)
+      (expression_there object s (operand_is_expression class.Postfix object postfix_small r.1.0) h ca) clean
   expression_there (Node l.Arrow (Cons object (Cons (Leaf o) (Cons x more)))) s r h clean =
       let a = expression object s in
       let ca = (selected_steps (selection_op_of (Leaf o)) o.at (name_of x) (offset_of x) a.0 a.1).broken clean in
-      selected_there (selection_op_of (Leaf o)) o.at (name_of x) (offset_of x) a.0 a.1 (arrow_there o.kind r.1.1.0) (expression_there object s (operand_is_expression class.Postfix object postfix_small r.1.0) h ca) clean
+      selected_there (selection_op_of (Leaf o)) o.at (name_of x) (offset_of x) a.0 a.1 (arrow_there o.kind r.1.1.0)
+      (expression_there object s (operand_is_expression class.Postfix object postfix_small r.1.0) h ca) clean
   expression_there (Node l.PostIncrement (Cons operand (Cons (Leaf o) more))) s r h clean =
       let a = expression operand s in
       let ca = (stepped_steps (inc_dec_op_of (Leaf o)) o.at true a.0 a.1).broken clean in
@@ -258,7 +260,8 @@ mutual
       let b = expression right a.1 in
       let cb = (binary_steps (binary_op_of (Leaf o)) o.at a.0 b.0 b.1).broken clean in
       let ca = (expression_steps right a.1).broken cb in
-      binary_there (binary_op_of (Leaf o)) o.at a.0 b.0 b.1 (binary_op_there level o.kind r.1.1.0) (expression_there left s (operand_is_expression (class.Binary level) left (binary_small level) r.1.0) h ca)
+      binary_there (binary_op_of (Leaf o)) o.at a.0 b.0 b.1 (binary_op_there level o.kind r.1.1.0)
+      (expression_there left s (operand_is_expression (class.Binary level) left (binary_small level) r.1.0) h ca)
       (expression_there right a.1 (operand_is_expression (grammar.tighter level) right (tighter_small level) r.1.1.1.0) (typed_step s a.1 (expression_steps left s) h) cb) clean
   expression_there (Node l.Conditional (Cons condition (Cons (Leaf question) (Cons middle (Cons (Leaf colon) (Cons otherwise more)))))) s r h clean =
       let d = expression condition s in

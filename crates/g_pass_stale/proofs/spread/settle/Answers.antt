@@ -18,7 +18,8 @@ returns-clause-settled c =
     let stale = c.args.stale.now in
     let f = c.args.function in
     let b = c.is_kept-is_kept.result in
-    let test = subst (λ (xs : List ℕ). (b ≡ true) ↔ ((slice_index_or c.args.changed.now f true ≡ false) × ((d : ℕ) → Contains xs d → slice_index_or stale d true ≡ false))) (sym own) c.is_kept-is_kept.ensures in
+    let test = subst (λ (xs : List ℕ). (b ≡ true) ↔ ((slice_index_or c.args.changed.now f true ≡ false) × ((d : ℕ) → Contains xs d → slice_index_or stale d true ≡ false))) (sym own)
+    c.is_kept-is_kept.ensures in
     settled-here deps c.args.changed.now stale f (not b) (omega (arith, c.requires.inside, c.requires.all_stale)) (right-value deps c.args.changed.now stale f b c.requires.settled test)
 
 pub returns-clause-kept : goal.returns-clause-kept
@@ -28,5 +29,6 @@ returns-clause-kept c =
     let stale = c.args.stale.now in
     let f = c.args.function in
     let b = c.is_kept-is_kept.result in
-    let test = subst (λ (xs : List ℕ). (b ≡ true) ↔ ((slice_index_or c.args.changed.now f true ≡ false) × ((d : ℕ) → Contains xs d → slice_index_or stale d true ≡ false))) (sym own) c.is_kept-is_kept.ensures in
+    let test = subst (λ (xs : List ℕ). (b ≡ true) ↔ ((slice_index_or c.args.changed.now f true ≡ false) × ((d : ℕ) → Contains xs d → slice_index_or stale d true ≡ false))) (sym own)
+    c.is_kept-is_kept.ensures in
     settled-still deps c.args.changed.now stale f (not b) (omega (arith, c.requires.inside, c.requires.all_stale)) (right-value deps c.args.changed.now stale f b c.requires.settled test)

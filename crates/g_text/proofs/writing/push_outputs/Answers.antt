@@ -13,4 +13,5 @@ loop-port-preserved c =
     let letter : c.letter.result.now ≡ kind_text (joined (slice_get kinds port)) = c.letter.ensures ∙ ap kind_text c.output_kind.ensures in
     let more : c.push-in-loop-port.new.out.items ≡ c.loop-port.out.items ++ c.letter.result.now = c.in_ok-push-2.ensures in
     let below : port < length kinds = omega (arith, c.outputs-count.ensures, c.loop-port-test.true) in
-    more ∙ ap (λ t. t ++ c.letter.result.now) c.loop-port.invariant ∙ append_assoc (start ++ codes " ") so_far c.letter.result.now ∙ ap (λ t. start ++ codes " " ++ t) (ap (λ t. so_far ++ t) letter ∙ letters_more kinds port below)
+    more ∙ ap (λ t. t ++ c.letter.result.now) c.loop-port.invariant ∙ append_assoc (start ++ codes " ") so_far c.letter.result.now
+    ∙ ap (λ t. start ++ codes " " ++ t) (ap (λ t. so_far ++ t) letter ∙ letters_more kinds port below)

@@ -12,5 +12,6 @@ returns t c =
     let some : 0 < c.args.digits = omega arith in
     let high : 16 ≤ n = omega arith in
     on_ok_weaker c.push_digit-2.result
-    (λ e. e ∙ (ap (λ (xs : List ℕ). xs ++ last) c.in_ok-push_hex.ensures ∙ (append_assoc before (hex (c.args.digits - 1) (n / 16)) last ∙ ap (λ (xs : List ℕ). before ++ xs) (sym (hex_more c.args.digits n some high)))))
+    (λ e. e ∙ (ap (λ (xs : List ℕ). xs ++ last) c.in_ok-push_hex.ensures
+    ∙ (append_assoc before (hex (c.args.digits - 1) (n / 16)) last ∙ ap (λ (xs : List ℕ). before ++ xs) (sym (hex_more c.args.digits n some high)))))
     c.push_digit-2.ensures

@@ -13,8 +13,11 @@ pub returns-in-Some : goal.returns-in-Some
 returns-in-Some c = λ calls m h.
     let found = subst (λ bs. IsFoundAt number_of bs c.in-At.block.number c.in-Some.i) c.deref.ensures.value c.in-Some.ensures.some in
     let t : Store = record { blocks = with_item c.args.self.now.blocks c.in-Some.i c.clear.new.self; made = c.args.self.now.made } in
-    subst (λ (a : Value). IsChanged calls (cleared_at a m) t true) (sym c.in-At.is)
-    (refl, cleared_listed c.args.self.now t calls m h c.in-At.block c.in-Some.i found c.index_mut.result.now c.clear.new.self c.index_mut.ensures.value c.clear.ensures.zeroed c.clear.ensures.number refl refl)
+    subst (λ (a : Value). IsChanged calls (cleared_at a m) t true) (sym c.in-At.is) (
+      refl,
+      cleared_listed c.args.self.now t calls m h c.in-At.block c.in-Some.i found c.index_mut.result.now c.clear.new.self c.index_mut.ensures.value c.clear.ensures.zeroed c.clear.ensures.number
+          refl refl,
+    )
 
 pub returns-in_default-block_index : goal.returns-in_default-block_index
 returns-in_default-block_index c = λ calls m h.

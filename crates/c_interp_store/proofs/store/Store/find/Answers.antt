@@ -16,5 +16,6 @@ returns-in_default-clause-named c = λ calls m h.
 
 pub returns-in_default-2-clause-named : goal.returns-in_default-2-clause-named
 returns-in_default-2-clause-named c = λ calls m h.
-    let none = subst (λ bs. IsAbsent number_of bs c.args.name.number) c.deref.ensures.value (c.in_default.ensures.none (subst (λ bs. ascends number_of 0 bs ≡ true) (sym c.deref.ensures.value) (holds_ascends c.args.self.now calls m h))) in
+    let none = subst (λ bs. IsAbsent number_of bs c.args.name.number) c.deref.ensures.value
+    (c.in_default.ensures.none (subst (λ bs. ascends number_of 0 bs ≡ true) (sym c.deref.ensures.value) (holds_ascends c.args.self.now calls m h))) in
     named_absent c.args.self.now calls c.args.name m h none

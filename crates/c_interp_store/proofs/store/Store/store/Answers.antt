@@ -15,5 +15,6 @@ returns c = λ calls m h.
     let t : Store = record { blocks = with_item c.args.self.now.blocks c.in-Some-find.i c.write.new.self; made = c.args.self.now.made } in
     let same = c.index_mut.ensures.value ∙ get_or_default c.args.self.now.blocks.items c.in-Some-find.i c.index_mut.result.now c.index.result.now c.in-Some-find.ensures.inside ∙ sym c.index.ensures in
     subst (λ (a : Value). IsChanged calls (store c.args.width a c.args.value m) t c.write.result) (sym c.in-At.is)
-    (stored calls c.in-At.block m c.args.width c.in-At.offset c.args.value c.args.self.now t h c.in-Some-find.i at c.index_mut.result.now c.index_mut.ensures.value c.in-Some.value c.write.new.self c.write.result
+    (stored calls c.in-At.block m c.args.width c.in-At.offset c.args.value c.args.self.now t h c.in-Some-find.i at c.index_mut.result.now c.index_mut.ensures.value c.in-Some.value c.write.new.self
+    c.write.result
     (sym c.in-Some.ensures) (ap (λ (x : Block). x.fixed) same ∙ c.if-index.false) c.write.ensures.there c.write.ensures.written c.write.ensures.number refl refl)

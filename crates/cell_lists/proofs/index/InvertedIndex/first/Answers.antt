@@ -14,7 +14,9 @@ first-requires c = list_in c.self.inside.keys.items c.self.inside.lists c.args.s
 
 pub returns-then-is_rising : goal.returns-then-is_rising
 returns-then-is_rising c =
-    first_kept c.self.inside.keys.items c.self.inside.lists c.args.self.now (record { is = c.self.invariant; seen = c.self.view_is }) c.args.key _ (eqb-true _ 0 (sym c.is_rising.ensures ∙ c.if-is_rising.true)) c.first.ensures
+    first_kept c.self.inside.keys.items c.self.inside.lists c.args.self.now (record { is = c.self.invariant; seen = c.self.view_is }) c.args.key _
+    (eqb-true _ 0 (sym c.is_rising.ensures ∙ c.if-is_rising.true)) c.first.ensures
 
 pub returns : goal.returns
-returns c = first_seen c.self.inside.keys.items c.self.inside.lists c.args.self.now (record { is = c.self.invariant; seen = c.self.view_is }) c.args.key _ (c.first_in.ensures ∙ ap (λ (xs : List (Option ℕ)). position (is_key c.args.key) xs) c.deref.ensures.value)
+returns c = first_seen c.self.inside.keys.items c.self.inside.lists c.args.self.now (record { is = c.self.invariant; seen = c.self.view_is }) c.args.key _
+    (c.first_in.ensures ∙ ap (λ (xs : List (Option ℕ)). position (is_key c.args.key) xs) c.deref.ensures.value)

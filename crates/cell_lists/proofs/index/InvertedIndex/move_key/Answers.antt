@@ -15,14 +15,16 @@ replace-requires c = record {
 
 pub invariant_of-self : goal.invariant_of-self
 invariant_of-self c =
-    (move_kept c.self.inside.keys.items c.self.inside.lists c.args.self.now (record { is = c.self.invariant; seen = c.self.view_is }) c.args.from c.args.to c.in-Some.key _ c.requires.from_in c.requires.to_in
+    (move_kept c.self.inside.keys.items c.self.inside.lists c.args.self.now (record { is = c.self.invariant; seen = c.self.view_is }) c.args.from c.args.to c.in-Some.key _ c.requires.from_in
+    c.requires.to_in
     (at_read c.self.inside.keys.items c.args.from c.index.result.now (Some c.in-Some.key)
     (cell_in c.self.inside.keys.items c.self.inside.lists c.args.self.now (record { is = c.self.invariant; seen = c.self.view_is }) c.args.from c.requires.from_in) c.index.ensures c.in-Some.is)
     c.requires.free c.replace.ensures).is
 
 pub returns : goal.returns
 returns c =
-    (move_kept c.self.inside.keys.items c.self.inside.lists c.args.self.now (record { is = c.self.invariant; seen = c.self.view_is }) c.args.from c.args.to c.in-Some.key _ c.requires.from_in c.requires.to_in
+    (move_kept c.self.inside.keys.items c.self.inside.lists c.args.self.now (record { is = c.self.invariant; seen = c.self.view_is }) c.args.from c.args.to c.in-Some.key _ c.requires.from_in
+    c.requires.to_in
     (at_read c.self.inside.keys.items c.args.from c.index.result.now (Some c.in-Some.key)
     (cell_in c.self.inside.keys.items c.self.inside.lists c.args.self.now (record { is = c.self.invariant; seen = c.self.view_is }) c.args.from c.requires.from_in) c.index.ensures c.in-Some.is)
     c.requires.free c.replace.ensures).seen

@@ -16,18 +16,21 @@ index-link-requires c =
 
 pub set_after-requires : goal.set_after-requires
 set_after-requires c =
-    let p = stored_at c.self.inside.links.items c.self.inside.lists.items c.args.self.now c.args.cell c.index-link.result.now (record { linked = c.self.invariant; seen = c.self.view_is }) c.requires c.index-link.ensures in
+    let p = stored_at c.self.inside.links.items c.self.inside.lists.items c.args.self.now c.args.cell c.index-link.result.now (record { linked = c.self.invariant; seen = c.self.view_is })
+    c.requires c.index-link.ensures in
     before_within c.self.inside.links.items c.self.inside.lists.items c.args.cell c.index-link.result.now p.0 p.1
 
 pub set_before-requires : goal.set_before-requires
 set_before-requires c =
-    let p = stored_at c.self.inside.links.items c.self.inside.lists.items c.args.self.now c.args.cell c.index-link.result.now (record { linked = c.self.invariant; seen = c.self.view_is }) c.requires c.index-link.ensures in
+    let p = stored_at c.self.inside.links.items c.self.inside.lists.items c.args.self.now c.args.cell c.index-link.result.now (record { linked = c.self.invariant; seen = c.self.view_is })
+    c.requires c.index-link.ensures in
     let P : List Link → Type 0 = λ links. IsCell links c.index-link.result.now.after in
     subst P (sym c.set_after.ensures) (after_within_with c.self.inside.links.items c.self.inside.lists.items c.args.cell c.index-link.result.now p.0 c.index-link.result.now.after p.1)
 
 pub index-ends-requires : goal.index-ends-requires
 index-ends-requires c =
-    let p = link_of c.self.inside.links.items c.self.inside.lists.items c.args.self.now c.args.cell c.index-link.result.now (record { linked = c.self.invariant; seen = c.self.view_is }) c.requires c.index-link.ensures in
+    let p = link_of c.self.inside.links.items c.self.inside.lists.items c.args.self.now c.args.cell c.index-link.result.now (record { linked = c.self.invariant; seen = c.self.view_is }) c.requires
+    c.index-link.ensures in
     let lt : c.index-link.result.now.list < length c.self.inside.lists.items = slice_get_within _ _ p.ends p.at in
     grind (arith, common_steps)
 
@@ -43,7 +46,8 @@ without_cell-requires-clause-falls c =
 
 pub index_mut-requires : goal.index_mut-requires
 index_mut-requires c =
-    let p = link_of c.self.inside.links.items c.self.inside.lists.items c.args.self.now c.args.cell c.index-link.result.now (record { linked = c.self.invariant; seen = c.self.view_is }) c.requires c.index-link.ensures in
+    let p = link_of c.self.inside.links.items c.self.inside.lists.items c.args.self.now c.args.cell c.index-link.result.now (record { linked = c.self.invariant; seen = c.self.view_is }) c.requires
+    c.index-link.ensures in
     let lt : c.index-link.result.now.list < length c.self.inside.lists.items = slice_get_within _ _ p.ends p.at in
     grind (arith, common_steps)
 

@@ -17,18 +17,21 @@ index-link-requires c =
 
 pub set_after-requires : goal.set_after-requires
 set_after-requires c =
-    let p = stored_at c.self.inside.links.items c.self.inside.lists.items c.args.self.now c.args.cell c.index-link.result.now (record { linked = c.self.invariant; seen = c.self.view_is }) c.requires.listed c.index-link.ensures in
+    let p = stored_at c.self.inside.links.items c.self.inside.lists.items c.args.self.now c.args.cell c.index-link.result.now (record { linked = c.self.invariant; seen = c.self.view_is })
+    c.requires.listed c.index-link.ensures in
     before_within c.self.inside.links.items c.self.inside.lists.items c.args.cell c.index-link.result.now p.0 p.1
 
 pub set_before-requires : goal.set_before-requires
 set_before-requires c =
-    let p = stored_at c.self.inside.links.items c.self.inside.lists.items c.args.self.now c.args.cell c.index-link.result.now (record { linked = c.self.invariant; seen = c.self.view_is }) c.requires.listed c.index-link.ensures in
+    let p = stored_at c.self.inside.links.items c.self.inside.lists.items c.args.self.now c.args.cell c.index-link.result.now (record { linked = c.self.invariant; seen = c.self.view_is })
+    c.requires.listed c.index-link.ensures in
     let P : List Link → Type 0 = λ links. IsCell links c.index-link.result.now.after in
     subst P (sym c.set_after.ensures) (after_within_with c.self.inside.links.items c.self.inside.lists.items c.args.cell c.index-link.result.now p.0 _ p.1)
 
 pub index-ends-requires : goal.index-ends-requires
 index-ends-requires c =
-    let p = link_of c.self.inside.links.items c.self.inside.lists.items c.args.self.now c.args.cell c.index-link.result.now (record { linked = c.self.invariant; seen = c.self.view_is }) c.requires.listed c.index-link.ensures in
+    let p = link_of c.self.inside.links.items c.self.inside.lists.items c.args.self.now c.args.cell c.index-link.result.now (record { linked = c.self.invariant; seen = c.self.view_is })
+    c.requires.listed c.index-link.ensures in
     let lt : c.index-link.result.now.list < length c.self.inside.lists.items = slice_get_within _ _ p.ends p.at in
     grind (arith, common_steps)
 
@@ -40,8 +43,10 @@ with_other-requires-clause-falls c =
 pub with_other-requires-clause-room : goal.with_other-requires-clause-room
 with_other-requires-clause-room c =
     let few : c.index-ends.result.now.falls + 2 ≤ length c.self.inside.links.items =
-    room_for_other c.self.inside.links.items c.self.inside.lists.items c.args.self.now c.args.cell c.args.other c.index-link.result.now c.index-ends.result.now (record { linked = c.self.invariant; seen = c.self.view_is })
-    (stored_of _ _ c.args.self.now _ _ _ (record { linked = c.self.invariant; seen = c.self.view_is }) c.requires.listed c.index-link.ensures c.index-ends.ensures) c.requires.cell_in c.requires.free in
+    room_for_other c.self.inside.links.items c.self.inside.lists.items c.args.self.now c.args.cell c.args.other c.index-link.result.now c.index-ends.result.now
+    (record { linked = c.self.invariant; seen = c.self.view_is })
+    (stored_of _ _ c.args.self.now _ _ _ (record { linked = c.self.invariant; seen = c.self.view_is }) c.requires.listed c.index-link.ensures c.index-ends.ensures) c.requires.cell_in
+    c.requires.free in
     grind (arith, common_steps)
 
 pub index_mut-requires : goal.index_mut-requires
@@ -52,7 +57,8 @@ index_mut-requires c =
 
 pub index_mut-requires-2 : goal.index_mut-requires-2
 index_mut-requires-2 c =
-    let p = link_of c.self.inside.links.items c.self.inside.lists.items c.args.self.now c.args.cell c.index-link.result.now (record { linked = c.self.invariant; seen = c.self.view_is }) c.requires.listed c.index-link.ensures in
+    let p = link_of c.self.inside.links.items c.self.inside.lists.items c.args.self.now c.args.cell c.index-link.result.now (record { linked = c.self.invariant; seen = c.self.view_is })
+    c.requires.listed c.index-link.ensures in
     let lt : c.index-link.result.now.list < length c.self.inside.lists.items = slice_get_within _ _ p.ends p.at in
     grind (arith, common_steps)
 
