@@ -32,6 +32,11 @@ compiler() {
     [ "$(tail -n 1 "$folder/report")" = 'refused NoMain 41 line 1' ] || fail "the compiler does not run: $(cat "$folder/report")"
 }
 
+# The lines of a part (`lex`, `parse`, ..) in a table of crates/c_rows: stdin or stdout.
+part_of() {
+    sed -n "/^part $1\$/,/^part /{/^part /!p}" "crates/c_rows/$2"
+}
+
 # The sum of all that a try of a crate's mutants reads of the crate.
 mutants_sum() {
     find "crates/$1/src" "crates/$1/specs" "crates/$1/proofs" "crates/$1/must-fail" "crates/$1/mutants" -type f 2>/dev/null \

@@ -1,5 +1,5 @@
 #!/bin/sh
-# Compares the parser's table with gcc: what the table calls a program has no syntax error there. (gcc takes more than
+# Compares the rows of the parser in crates/c_rows with gcc: what they call a program has no syntax error there. (gcc takes more than
 # the language, so of the others it says nothing.)
 set -u
 cd "$(dirname "$0")/.." || exit 1
@@ -7,6 +7,8 @@ script=tools/parse.sh
 . tools/lib.sh
 need gcc
 count=0
+part_of parse stdin >"$folder/rows"
+part_of parse stdout >"$folder/answers"
 # A row that begins with `#` is read in all its beginnings, with a line of answer each; rows with `@` are written in short form.
 while IFS= read -r source && IFS= read -r answer <&3; do
     case $source in \#*) break ;; *@*) continue ;; esac
@@ -16,5 +18,5 @@ while IFS= read -r source && IFS= read -r answer <&3; do
         fail "gcc finds a syntax error in: $source"
     fi
     count=$((count + 1))
-done <crates/c_parse_tests/stdin 3<crates/c_parse_tests/stdout
+done <"$folder/rows" 3<"$folder/answers"
 echo "tools/parse.sh: gcc finds no syntax error in $count programs"

@@ -1,5 +1,5 @@
 #!/bin/sh
-# Compares the table of crates/c_operator_tests with gcc, for the same declarations with 32-bit pointers, where C11 decides. Where
+# Compares the tables of operators in crates/c_rows with gcc, for the same declarations with 32-bit pointers, where C11 decides. Where
 # the language takes less than C11, the rows are those of the rules below: a structure stands only under `.`, `&` and
 # `sizeof`, a cast goes between integer types or to void, and what is const is so by its name, `.` and `[]` alone.
 # It needs gcc for x86 and python3. With a path as argument it writes the table there.
@@ -10,6 +10,7 @@ script=tools/typing.sh
 need gcc python3
 echo 'int x;' | gcc -m32 -S -x c - -o /dev/null 2>/dev/null || { echo "$script: skipped, gcc has no -m32"; exit 0; }
 
+part_of operator stdin >"$folder/asked"
 python3 - "$folder" "$folder/table" <<'PYTHON' || fail "gcc gave no table"
 import re, subprocess, sys
 folder, out = sys.argv[1:3]
@@ -161,7 +162,7 @@ def table(row):
         return singles([next(sizes) if t else "-" for t in taken])
     sys.exit("no such table: " + row)
 
-with open("crates/c_operator_tests/stdin") as asked, open(out, "w") as made:
+with open(folder + "/asked") as asked, open(out, "w") as made:
     for row in asked.read().splitlines():
         made.write(row + "\n" + table(row))
 PYTHON
@@ -170,5 +171,6 @@ if [ $# -gt 0 ]; then
     cp "$folder/table" "$1"
     exit 0
 fi
-cmp "$folder/table" crates/c_operator_tests/stdout || fail "the table of crates/c_operator_tests differs from gcc"
-echo "$script: the table of crates/c_operator_tests is that of gcc"
+part_of operator stdout >"$folder/stands"
+cmp "$folder/table" "$folder/stands" || fail "the tables of operators in crates/c_rows differ from gcc"
+echo "$script: the tables of operators in crates/c_rows are those of gcc"

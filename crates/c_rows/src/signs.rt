@@ -1,4 +1,4 @@
-//! The operators, by their texts.
+//! Signs of operators.
 
 use c_ast::{AssignOp, BinaryOp, IncDec, Selection, UnaryOp};
 

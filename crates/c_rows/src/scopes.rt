@@ -1,28 +1,26 @@
-//! A program that prints what scopes, tags and members answer. Each line of `stdin` is a list of
-//! calls on tables that are empty at first, and the same line of `stdout` has the answers and a
-//! point. It stands on the names of the lexer and on the tables, and promises nothing of its own.
+//! Scopes, tags and members. A row is a list of calls on tables that are empty at first; their
+//! answers are said, and a point.
 //!
 //! `{` and `}` begin and end a scope. `+x` declares x in it, with the number of the call on its
 //! line as its meaning, and `x` looks it up. `*S` names the tag S, `:S` declares it, and `?S` asks
 //! for it. `.x` inserts x into a set of names, `=3` makes the set the members of the struct of tag
 //! 3, and `3.x` asks for its member x.
-#![tactic(auto)]
 
 use c_check_scope::{Members, Names, Scopes, Tags};
 use c_lex::Name;
 use no_memory::NoMemory;
 use std::alloc::Global;
-use std::rt::Env;
-use std::{io, mem};
+use std::mem;
 
-/// What a call answers.
+// What a call answers.
+#[derive(Clone, Copy)]
 enum Answer {
     Nothing,
     New(bool),
     Number(Option<u32>),
 }
 
-/// The tables of a line.
+// The tables of a row.
 #[derive(Drop)]
 struct Tables {
     scopes: Scopes<u32>,
@@ -31,7 +29,7 @@ struct Tables {
     members: Members,
 }
 
-/// Inserts a name into the set, or asks for a member of the struct of a tag.
+// Inserts a name into the set, or asks for a member of the struct of a tag.
 fn answer_member(tables: &mut Tables, tag: &str, name: &Name) -> Result<Answer, NoMemory> {
     match tag.parse::<u32>() {
         Ok(tag) => Ok(Answer::Number(tables.members.number(tag, name))),
@@ -39,16 +37,15 @@ fn answer_member(tables: &mut Tables, tag: &str, name: &Name) -> Result<Answer, 
     }
 }
 
-/// Makes the set of names the members of the struct of a tag.
+// Makes the set of names the members of the struct of a tag.
 fn define(alloc: Global, tables: &mut Tables, tag: &str) -> Result<Answer, NoMemory> {
     let names = mem::replace(&mut tables.names, Names::new(alloc));
-    tables
-        .members
-        .define(tag.parse::<u32>().unwrap_or(0), names)?;
+    let tag = tag.parse::<u32>().unwrap_or(0);
+    tables.members.define(tag, names)?;
     Ok(Answer::Nothing)
 }
 
-/// Does a call with a name.
+// Makes a call with a name.
 fn answer_name(
     tables: &mut Tables,
     sign: &str,
@@ -64,8 +61,8 @@ fn answer_name(
     }
 }
 
-/// Does a call, which has this number on its line.
-fn do_call(
+// Makes a call, which has this number on its line.
+fn make_call(
     alloc: Global,
     tables: &mut Tables,
     call: &str,
@@ -92,37 +89,32 @@ fn do_call(
     answer_name(tables, sign, &name, number)
 }
 
-/// Prints an answer, or that memory ran out, and a blank.
-fn report(rt: &impl Print, answer: Result<Answer, NoMemory>) -> io::Result<()> {
+fn say_answer(out: &mut String, answer: Answer) -> Result<(), NoMemory> {
     match answer {
-        Ok(Answer::Nothing) => Ok(()),
-        Ok(Answer::New(true)) => print!(rt; "new "),
-        Ok(Answer::New(false)) => print!(rt; "again "),
-        Ok(Answer::Number(Some(number))) => print!(rt; "{number} "),
-        Ok(Answer::Number(None)) => print!(rt; "unknown "),
-        Err(NoMemory) => print!(rt; "out of memory "),
+        Answer::Nothing => Ok(()),
+        Answer::New(true) => Ok(out.push_str("new ")?),
+        Answer::New(false) => Ok(out.push_str("again ")?),
+        Answer::Number(Some(number)) => Ok(write!(out, "{number} ")?),
+        Answer::Number(None) => Ok(out.push_str("unknown ")?),
     }
 }
 
-/// Prints the answers of a line, and a point.
-fn report_line(rt: &(impl Print + AllocGlobal), line: &str) -> io::Result<()> {
-    let alloc = rt.alloc();
+fn say_all(out: &mut String, tables: &mut Tables, row: &str) -> Result<(), NoMemory> {
+    for (number, call) in (0u32..).zip(row.split(' ')) {
+        let given = make_call(*out.allocator(), tables, call, number)?;
+        say_answer(out, given)?;
+    }
+    Ok(out.push_str(".\n")?)
+}
+
+/// Says the answers of a row.
+pub fn say_calls(out: &mut String, row: &str) -> Result<(), NoMemory> {
+    let alloc = *out.allocator();
     let mut tables = Tables {
         scopes: Scopes::new(alloc),
         tags: Tags::new(alloc),
         names: Names::new(alloc),
         members: Members::new(alloc),
     };
-    for (number, call) in (0u32..).zip(line.split(' ')) {
-        let answer = do_call(alloc, &mut tables, call, number);
-        report(rt, answer)?;
-    }
-    println!(rt; ".")
-}
-
-fn main(rt: HostRuntime) -> io::Result<()> {
-    for line in rt.lines(rt.alloc()) {
-        report_line(&rt, line?.as_str())?;
-    }
-    Ok(())
+    say_all(out, &mut tables, row)
 }

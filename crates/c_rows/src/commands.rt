@@ -1,0 +1,53 @@
+//! Commands. A row is a list of arguments after the name of the program, with a blank between two;
+//! an empty row has none. What command they are is said.
+
+use cc_command::{Command, parse_command};
+use no_memory::NoMemory;
+use std::alloc::Global;
+
+fn arguments_of(alloc: Global, row: &str) -> Result<Vec<String>, NoMemory> {
+    let mut arguments = Vec::new(alloc);
+    arguments.push(String::from_str(alloc, "rvcc")?)?;
+    if row.is_empty() {
+        return Ok(arguments);
+    }
+    for argument in row.split(' ') {
+        arguments.push(String::from_str(alloc, argument)?)?;
+    }
+    Ok(arguments)
+}
+
+fn say_one(out: &mut String, command: Command<'_>) -> Result<(), NoMemory> {
+    match command {
+        Command::Accept => out.push_str("accept\n")?,
+        Command::Build {
+            source,
+            image,
+            recipe,
+            workers,
+            report,
+        } => {
+            let report = report.unwrap_or("-");
+            write!(out, "from {source} to {image} workers {workers} ")?;
+            write!(out, "recipe {recipe} report {report}\n")?;
+        }
+        Command::Run { image, steps } => write!(out, "run {image} steps {steps}\n")?,
+        Command::Generate {
+            start,
+            functions,
+            out: image,
+        } => write!(out, "generate {functions} from {start} to {image}\n")?,
+    }
+    Ok(())
+}
+
+/// Says the command of a row.
+pub fn say_command(out: &mut String, row: &str) -> Result<(), NoMemory> {
+    let alloc = *out.allocator();
+    let arguments = arguments_of(alloc, row)?;
+    match parse_command(alloc, &arguments) {
+        Ok(Some(command)) => say_one(out, command),
+        Ok(None) => Ok(out.push_str("usage\n")?),
+        Err(_) => Err(NoMemory),
+    }
+}
