@@ -1,9 +1,9 @@
 -- Declarations of variables, and initialisers, add globals in the order of the tokens.
-use Rattle.std.proofs.Common.{◌≡◌, ℕ, ◌+◌, Bool, true, false, List, [], ◌++◌, refl, ap, ◌∙◌}
+use Rattle.std.proofs.Common.{ℕ, ◌+◌, Bool, true, false, List, [], ◌++◌, refl, ap, ◌∙◌}
 use Rattle.std.specs.Prelude.{Option, None, Some, option_and_then, if◌then◌else◌}
 use Rattle.c_lex.specs.declared.token.Token.{Token}
 use Rattle.c_ast.specs.Productions as l
-use Rattle.c_ast.specs.Tree.{Tree, Leaf, Node, Nil, Cons}
+use Rattle.c_ast.specs.Tree.{Tree, Leaf, Node, Cons}
 use Rattle.c_typed.specs.Typed as typed
 use Rattle.c_check_scope.specs.Scopes.{Name}
 use Rattle.c_check_def.specs.declared.meaning.Meaning.TheVariants as means
