@@ -1,5 +1,5 @@
 -- A list that keeps the graph of a program has the meaning of the program, call for call.
-use Rattle.std.proofs.Common.{◌≡◌, ◌⊎◌, inl, inr, ℕ, ◌+◌, List, [], ◌∷◌, length, map, sym, ◌∙◌, ap₂, subst, le_trans, Option, Some, None, slice_get}
+use Rattle.std.proofs.Common.{◌≡◌, inl, inr, ℕ, ◌+◌, List, [], ◌∷◌, length, map, sym, ◌∙◌, ap₂, subst, le_trans, Option, Some, None, slice_get}
 use Rattle.val_core.specs.declared.values.Value.{Value}
 use Rattle.val_core.specs.Values.{IsLessDefined}
 use Rattle.val_core.specs.Memory.{Memory as Blocks, IsSoundMemory}
