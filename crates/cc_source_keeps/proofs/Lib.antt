@@ -1,4 +1,3 @@
 mod Small
 mod Programs
 mod Kept
-mod Calls

@@ -1,20 +1,15 @@
 -- Laws of the programs of accepted sources, and of the lists that keep their graphs.
-use Rattle.std.specs.Prelude.{◌≡◌, ℕ, Bool, List, None}
+use Rattle.std.specs.Prelude.{◌≡◌, ℕ, List, None}
 use Rattle.c_typed.specs.Typed.{ProgramTree}
 use Rattle.c_typed.specs.WellTyped.{IsWellTyped}
 use Rattle.c_check_def.specs.Limits.{above_limits}
-use Rattle.g_graph.specs.declared.steps.Rule.{Rule}
-use Rattle.g_graph.specs.Plain.{PlainLambda, PlainOptimised}
+use Rattle.g_graph.specs.Plain.{PlainLambda}
 use Rattle.g_build_def.specs.Functions.{graph, omega}
 use Rattle.g_build_laws.specs.BuiltLaws.{IsSmall}
 use Rattle.g_build.specs.Passed.{limit_passed}
 use Rattle.r_edit.specs.Steps.{MayStandForAll}
-use Rattle.g_pass_def.specs.Answers.{AreAnswers}
 use Rattle.g_pass_def.specs.Kept.{IsKeptBy}
-use Rattle.g_pass_def.specs.Laws.{HoldsDeps, with_answers}
-use Rattle.g_pass.specs.Sweep.{rules}
 use Rattle.g_build_keeps.specs.Groups.{HasFewGroups}
-use Rattle.g_build_keeps.specs.Laws.{HasMeaning}
 use Rattle.cc_emit_def.specs.Image.{CanEmit, file_of_program}
 use Rattle.cc_source_laws.specs.SourceLaws.{AreBytes}
 use Rattle.cc_source.specs.Accepted.{Accepts}
@@ -53,25 +48,3 @@ abbrev pub KeptListsKeepMeaning : Type 0
 KeptListsKeepMeaning =
     (source : List ℕ) → AreBytes source → (p : ProgramTree) → Accepts source p → (ks : List PlainLambda) → IsKeptBy (graph p) ks →
     KeepsMeaning p ks (file_of_program (omega p) ks)
-
--- Such a list has the meaning of the program call for call too.
-abbrev pub KeptListsHaveMeaning : Type 0
-KeptListsHaveMeaning =
-    (source : List ℕ) → AreBytes source → (p : ProgramTree) → Accepts source p → (ks : List PlainLambda) → IsKeptBy (graph p) ks → HasMeaning p ks
-
--- ---- the answers of some functions
-
--- This holds of each list that has the answers of a set of functions, and the built lambdas of the others: for every source
--- that is accepted, every recipe, and every set that has what each of its members calls in other units.
-abbrev pub WithSomeAnswers : (ProgramTree → List PlainLambda → Type 0) → Type 0
-WithSomeAnswers Holds =
-    (source : List ℕ) → AreBytes source → (p : ProgramTree) → Accepts source p → (recipe : List Rule) (answers : List PlainOptimised) →
-    (all : AreAnswers rules recipe (graph p) answers) → (chosen : ℕ → Bool) → HoldsDeps chosen all.deps → Holds p (with_answers chosen (graph p) answers)
-
--- Such a list has the meaning of the program call for call,
-abbrev pub SomeAnswersHaveMeaning : Type 0
-SomeAnswersHaveMeaning = WithSomeAnswers HasMeaning
-
--- and its image does what the program does.
-abbrev pub SomeAnswersKeepMeaning : Type 0
-SomeAnswersKeepMeaning = WithSomeAnswers (λ p ks. KeepsMeaning p ks (file_of_program (omega p) ks))
