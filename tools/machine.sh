@@ -126,6 +126,42 @@ bytes: .byte 0x80, 0x7f, 0xff, 0x01, 0, 0, 0, 0, 0, 0, 0, 0
 ASM
 compare memory ''
 
+# Every load and store with the corners of its immediate, at a word of corner bytes.
+{
+    printf '.option norelax\n_start:\n li s0, 0\n la s1, corners\n'
+    for imm in 2047 -2048 -1 1; do
+        printf ' li t2, %s\n sub t2, s1, t2\n' "$imm"
+        for pair in sb:lb sb:lbu sh:lh sh:lhu sw:lw; do
+            for a in 0x80 0x8000 0x80000000 -1 0x7fffffff; do
+                printf " li a0, %s\n %s a0, %s(t2)\n %s a2, %s(t2)\n$mix lw a2, 0(s1)\n$mix" "$a" "${pair%:*}" "$imm" "${pair#*:}" "$imm"
+            done
+        done
+    done
+    printf "$finish$word.align 2\ncorners: .word 0x80ff7f01\n"
+} >"$folder/corners.s"
+compare corners ''
+
+# Every branch to the farthest instruction after and before it, and jal so.
+{
+    printf '.option norelax\n_start:\n li s0, 0\n li a0, -1\n li a1, 1\n'
+    for pair in beq:a1,a1 bne:a0,a1 blt:a0,a1 bge:a1,a0 bltu:a1,a0 bgeu:a0,a1; do
+        branch="${pair%:*} ${pair#*:}"
+        printf " $branch, .+4092\n ebreak\n .space 4084\n addi s0, s0, 1\n j .+4100\n slli s0, s0, 1\n j .+4100\n .space 4088\n $branch, .-4096\n ebreak\n"
+    done
+    printf " jal a2, .+1048572\n ebreak\n .space 1048564\n addi s0, s0, 1\n la t2, 1f\n jr t2\n slli s0, s0, 1\n la t2, 2f\n jr t2\n .space 1048560\n1: jal a2, .-1048576\n ebreak\n2:$mix"
+    printf "$finish$word"
+} >"$folder/farthest.s"
+compare farthest ''
+
+# ebreak: there the run stops, which is a signal (5) under qemu.
+printf '_start:\n li a0, 1\n ebreak\n' >"$folder/break.s"
+riscv64-unknown-elf-as -march=rv32im -mabi=ilp32 -o "$folder/break.o" "$folder/break.s" || fail "break was not assembled"
+riscv64-unknown-elf-ld -m elf32lriscv -Ttext=0x10000 -o "$folder/break.elf" "$folder/break.o" 2>/dev/null || fail "break was not linked"
+(qemu-riscv32 "$folder/break.elf"; exit $?) >/dev/null 2>&1
+[ $? -eq 133 ] || fail "ebreak is no signal under qemu"
+./rvcc run "$folder/break.elf" >/dev/null 2>"$folder/report"
+[ $? -eq 7 ] && [ "$(cat "$folder/report")" = stack ] || fail "ebreak ends with $(cat "$folder/report")"
+
 # Copies its input to its output, and counts the bytes.
 cat >"$folder/copy.s" <<'ASM'
 _start:

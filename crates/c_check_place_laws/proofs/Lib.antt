@@ -5,3 +5,10 @@ mod Declarations
 mod Statements
 mod Files
 mod Reported
+mod Order
+mod Quiet
+mod OrderExpressions
+mod OrderDeclarations
+mod OrderStatements
+mod OrderFiles
+mod GlobalsOrdered
