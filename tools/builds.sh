@@ -50,6 +50,14 @@ cp "$source" "$folder/both"
 ends 0 '' build "$folder/both" "$folder/both"
 cmp -s "$image" "$folder/both" || fail "OUT of the name of IN is not the image"
 
+# Files without an end, of which no more is read than a byte over the limit.
+if [ -e /dev/zero ]; then
+    ends 4 'refused LongSource 10 line 1' build /dev/zero "$folder/zeros.elf"
+    [ ! -e "$folder/zeros.elf" ] || fail 'an image was made of a source that is too long'
+    ends 5 'image LongFile 5' run /dev/zero
+    ends 4 'refused LongSource 10 line 1' </dev/zero
+fi
+
 # The longest source.
 { cat examples/answer.c; yes '' | head -c $((1048576 - $(wc -c <examples/answer.c))); } >"$source"
 same 64 "$default"

@@ -1,8 +1,9 @@
 #!/bin/sh
 # Runs each command under all eight sets of closed descriptors of 0, 1 and 2: it does the same as with all three, but for what comes
-# from or goes to a closed one. Then the mode of what is built, and that output is there before a program waits. Then each call that
-# reads, writes or opens is interrupted, in turn, and fails, and each moves one byte: a command is done all the same, or says that it is
-# not; that needs gcc. At last an echo of 1,000,000 bytes, in at most 1,000 system calls of each kind; that needs strace.
+# from or goes to a closed one. Then the mode of what is built, that output is there before a program waits and, on a terminal, after
+# each line (that needs python3), and that a pipe without a reader is a write fault. Then each call that reads, writes or opens is
+# interrupted, in turn, and fails, and each moves one byte: a command is done all the same, or says that it is not; that needs gcc. At
+# last an echo of 1,000,000 bytes, in at most 1,000 system calls of each kind; that needs strace.
 set -u
 cd "$(dirname "$0")/.." || exit 1
 script=tools/descriptors.sh
@@ -19,6 +20,7 @@ printf 'a\000b\377' >"$folder/bytes"
 "$program" build "$folder/answer.c" "$folder/answer.elf" --recipe none || fail 'answer.c is not built'
 [ "$(wc -c <"$folder/answer.elf")" -eq 8200 ] || fail 'the image has not 8,200 bytes'
 "$program" build "$folder/answer.c" "$folder/answer.elf" --report count 2>"$folder/count" || fail 'answer.c is not built'
+[ "$(wc -c <"$folder/answer.elf")" -eq 8200 ] || fail 'the image under the default recipe has not 8,200 bytes'
 "$program" build "$folder/echo.c" "$folder/echo.elf" || fail 'echo.c is not built'
 "$program" gen 7 20 "$folder/generated.c" || fail 'no program was generated'
 
@@ -137,6 +139,41 @@ if [ -e /dev/full ]; then
 fi
 echo "$script: a prompt is there before the program waits"
 
+# A pipe without a reader, to which more goes than it holds.
+cat >"$folder/many.c" <<'END'
+int main(void) { int i; for (i = 0; i < 100000; i++) putchar('a'); return 0; }
+END
+"$program" build "$folder/many.c" "$folder/many.elf" || fail 'many.c is not built'
+{
+    "$program" run "$folder/many.elf" 2>"$folder/report"
+    echo $? >"$folder/status"
+} | true
+[ "$(cat "$folder/status" "$folder/report")" = "$(printf '3\nwrite fault')" ] || fail "a pipe without a reader: $(cat "$folder/status" "$folder/report")"
+
+# On a terminal a line is there once it ends, and what follows it is not, while the program goes on.
+if command -v python3 >/dev/null 2>&1; then
+    cat >"$folder/line.c" <<'END'
+int main(void) { putchar('a'); putchar(10); putchar('b'); while (1) ; return 0; }
+END
+    "$program" build "$folder/line.c" "$folder/line.elf" || fail 'line.c is not built'
+    cat >"$folder/terminal.py" <<'END'
+import os, pty, select, signal, sys
+child, terminal = pty.fork()
+if child == 0:
+    os.execv(sys.argv[1], [sys.argv[1], "run", sys.argv[2], "--steps=1000000000000"])
+seen = b""
+while not seen.endswith(b"\n") and select.select([terminal], [], [], 20)[0]:
+    seen += os.read(terminal, 100)
+os.kill(child, signal.SIGKILL)
+os.waitpid(child, 0)
+sys.exit(seen != b"a\r\n")
+END
+    python3 "$folder/terminal.py" "$program" "$folder/line.elf" || fail 'a line is not there on a terminal once it ends'
+    echo "$script: a line is there on a terminal once it ends, and a pipe without a reader is a write fault"
+else
+    echo "$script: no terminal is tried, python3 is not installed"
+fi
+
 # A library under which one call that reads, writes or opens, by its number, is interrupted (INTERRUPTED) or fails (FAILED), and then
 # writes to the descriptor 9; or under which each read and write moves one byte (SHORT).
 if command -v gcc >/dev/null 2>&1; then
@@ -181,13 +218,13 @@ END
     gcc -O1 -shared -fPIC -o "$folder/edge.so" "$folder/edge.c" || fail 'gcc refused the library'
     "$program" build examples/squares.c "$folder/squares.elf" --report log 2>"$folder/log" || fail 'squares.c is not built'
 
-    # under VARIABLE VALUE WORDS..: the compiler with these words under the library.
+    # under VARIABLE VALUE WORDS..: the compiler with these words and the given input under the library.
     under() {
         name=$1
         value=$2
         shift 2
         rm -f "$folder/image.elf"
-        env "$name=$value" LD_PRELOAD="$folder/edge.so" "$program" "$@" <"$folder/bytes" >"$folder/output" 2>"$folder/report" 9>"$folder/mark"
+        env "$name=$value" LD_PRELOAD="$folder/edge.so" "$program" "$@" <"$given" >"$folder/output" 2>"$folder/report" 9>"$folder/mark"
         status=$?
     }
 
@@ -199,7 +236,7 @@ END
     # ends REPORT OUTPUT WORDS..: the command was done, with this report and output.
     ends() {
         [ $status -eq 0 ] && cmp -s "$folder/report" "$1" && cmp -s "$folder/output" "$2" || return 1
-        [ "$3" != build ] || cmp -s "$folder/image.elf" "$folder/squares.elf"
+        [ "${3-}" != build ] || cmp -s "$folder/image.elf" "$folder/squares.elf"
     }
 
     # gives_up REPORT OUTPUT WORDS..: the command has not read or written, and says so.
@@ -208,7 +245,7 @@ END
         case "$status $(cat "$folder/report")" in
             '2 read fault') [ ! -e "$folder/image.elf" ] ;;
             '3 write fault') [ ! -e "$folder/image.elf" ] || is_front "$folder/image.elf" "$folder/squares.elf" ;;
-            3*) is_front "$folder/report" "$1" && { [ "$3" != build ] || cmp -s "$folder/image.elf" "$folder/squares.elf"; } ;;
+            3*) is_front "$folder/report" "$1" && { [ "${3-}" != build ] || cmp -s "$folder/image.elf" "$folder/squares.elf"; } ;;
             *) return 1 ;;
         esac
     }
@@ -236,6 +273,9 @@ END
         done
     }
     calls=0
+    given=$folder/answer.c
+    each "$folder/nothing" "$folder/accepted"
+    given=$folder/bytes
     each "$folder/log" "$folder/nothing" build examples/squares.c "$folder/image.elf" --report log --workers 2
     each "$folder/exit" "$folder/bytes" run "$folder/echo.elf"
     each "$folder/nothing" "$folder/nothing" gen 7 20 "$folder/text.c"

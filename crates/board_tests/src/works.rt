@@ -17,13 +17,14 @@ use std::thread::Threads;
 type Jobs = (usize, Shape, &'static [u32]);
 
 /// Works that any number of workers ends: all jobs are done, or one is refused memory.
-const WORKS: [Jobs; 9] = [
+const WORKS: [Jobs; 10] = [
     (0, Shape::Free, &[]),
     (512, Shape::Free, &[]),
     (512, Shape::Chain, &[]),
     (512, Shape::Fork, &[]),
     (512, Shape::Join, &[]),
     (4, Shape::Free, &[1]),
+    (4, Shape::Join, &[1]),
     (4, Shape::Free, &[0, 1, 2, 3]),
     (512, Shape::Chain, &[300]),
     (512, Shape::Join, &[511]),
@@ -92,24 +93,26 @@ fn works_end_by_any_number_of_workers(rt: HostRuntime) -> Result<(), Fail> {
 
 #[test]
 fn one_worker_stops_at_the_job_that_is_refused(rt: HostRuntime) -> Result<(), Fail> {
-    let left = left_of(&rt, rt.alloc(), (4, Shape::Free, &[1]), 1, &OpenGate)?;
-    assert_eq!(rt;
-        left.board.events(),
-        [
-            Event::Claim { worker: 0, job: 0 },
-            Event::Publish { worker: 0, job: 0 },
-            Event::Claim { worker: 0, job: 1 },
-            Event::Stop { worker: 0 },
-        ]
-        .as_slice()
-    );
-    let results = left.board.into_results();
-    assert!(rt;
-        results
-            .iter()
-            .map(Option::is_some)
-            .eq([true, false, false, false])
-    );
+    for shape in [Shape::Free, Shape::Join] {
+        let left = left_of(&rt, rt.alloc(), (4, shape, &[1]), 1, &OpenGate)?;
+        assert_eq!(rt;
+            left.board.events(),
+            [
+                Event::Claim { worker: 0, job: 0 },
+                Event::Publish { worker: 0, job: 0 },
+                Event::Claim { worker: 0, job: 1 },
+                Event::Stop { worker: 0 },
+            ]
+            .as_slice()
+        );
+        let results = left.board.into_results();
+        assert!(rt;
+            results
+                .iter()
+                .map(Option::is_some)
+                .eq([true, false, false, false])
+        );
+    }
     Ok(())
 }
 
