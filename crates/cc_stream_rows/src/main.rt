@@ -1,8 +1,8 @@
-//! A program that prints how commands end over streams and files of which a call fails or ends early.
-//! Each call moves one byte. A table is in `stdin`: the object that has a call of its own, the number
-//! of that call, what it does, the file that is the input, and the command. What is printed is in
-//! `stdout`: the status, how much of the whole output and of the whole OUT was written, and the
-//! report.
+//! A program that prints how commands end over streams and files of which a call fails or ends
+//! early. Each call moves one byte. A table is in `stdin`: the object that has a call of its own,
+//! the number of that call, what it does, the file that is the input, and the command. What is
+//! printed is in `stdout`: the status, how much of the whole output and of the whole OUT was
+//! written, and the report.
 #![tactic(auto)]
 
 mod bytes;
@@ -16,8 +16,8 @@ use std::sync::Wait;
 use std::thread::Threads;
 use std::{io, str};
 
-/// The files that are there: sources of a program that exits with 42, of one that writes what it reads
-/// and of none, and an input.
+/// The files that are there: sources of a program that exits with 42, of one that writes what it
+/// reads and of none, and an input.
 const SOURCES: [(&str, &[u8]); 4] = [
     ("answer.c", b"int main(void) { return 42; }"),
     (
