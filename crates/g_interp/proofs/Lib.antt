@@ -1,5 +1,0 @@
-mod Lists
-mod Events
-mod Runs
-mod Programs
-mod Depth

@@ -1,4 +1,0 @@
-pub mod Views
-pub mod Contexts
-pub mod Runs
-pub mod Errors
