@@ -1,0 +1,14 @@
+//! A call that is active.
+
+use c_interp_def::Slot;
+use c_interp_store::Objects;
+
+/// A call that is active: its function, the blocks of its objects, how deep calls within it may
+/// nest, and its variables in scope.
+#[derive(Drop)]
+pub(crate) struct Frame {
+    pub(crate) function: u32,
+    pub(crate) objects: Objects,
+    pub(crate) depth: u64,
+    pub(crate) slots: Vec<Slot>,
+}

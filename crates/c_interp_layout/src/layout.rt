@@ -1,0 +1,128 @@
+//! The shapes of the objects of each function, the numbers of its variables among these, and the sizes of the globals.
+
+ghost use Rattle.std.specs.Prelude.{◌≡◌, ◌<◌, ◌^◌, IfOk, length, map, slice_get};
+ghost use Rattle.val_core.specs.Objects.{address_in};
+ghost use Rattle.c_type.specs.Layout.{IsLaidOut};
+ghost use Rattle.c_type.specs.WellDefined.{AreDefinitions};
+ghost use Rattle.c_typed.specs.WellTyped.{VariablesFit, FunctionIsTyped, IsWellTyped};
+ghost use Rattle.c_mean.specs.Run.{shape_of, global_sizes};
+ghost use Rattle.c_interp_store.specs.Blocks as store;
+ghost use Rattle.c_interp_layout.specs.Laid.{size_in, sizes_in, IsLayout, AreLayouts, IsLaid};
+
+use c_interp_store::Shape;
+use c_type::{Types, leaves, size_of};
+use c_typed::{TFunction, TGlobal, Typed, Variable};
+use no_memory::NoMemory;
+use std::alloc::Global;
+use val_core::{BlockName, Value};
+
+/// The shapes of the objects of a function, in order of declaration, and for each variable how many
+/// objects are declared before it.
+#[derive(Drop)]
+pub struct Layout {
+    pub shapes: Vec<Shape>,
+    pub numbers: Vec<u32>,
+}
+
+/// The layouts of the functions, and the sizes of the globals in bytes.
+#[derive(Drop)]
+pub struct Layouts {
+    pub functions: Vec<Layout>,
+    pub globals: Vec<u32>,
+}
+
+impl Layouts {
+    /// The address of a global; `Bad` where there is none of this number.
+    pub fn global(&self, number: u32) -> Value
+        ensures { result ≡ address_in 0 self.now.globals.items number }
+    {
+        match self.globals.get(number as usize) {
+            Some(size) => address(u64::from(number), *size),
+            None => Value::Bad,
+        }
+    }
+
+    /// The address of an object of a call of this function, whose first block has this number;
+    /// `Bad` where there is no such object.
+    pub fn object(&self, function: u32, first: u64, number: u32) -> Value
+        requires { first < 2 ^ 63 }
+        ensures { result
+            ≡ address_in first (sizes_in (slice_get self.now.functions.items function)) number }
+    {
+        match self.functions.get(function as usize) {
+            Some(layout) => object_of(&layout.shapes, first, number),
+            None => Value::Bad,
+        }
+    }
+}
+
+fn object_of(shapes: &[Shape], first: u64, number: u32) -> Value
+    requires { first < 2 ^ 63 }
+    ensures { result ≡ address_in first (map size_in shapes.now) number }
+{
+    match shapes.get(number as usize) {
+        Some(shape) => address(first + u64::from(number), shape.size),
+        None => Value::Bad,
+    }
+}
+
+fn address(number: u64, size: u32) -> Value
+    ensures { result ≡ At (record { number = number; size = size }) 0 }
+{
+    Value::At {
+        block: BlockName { number, size },
+        offset: 0,
+    }
+}
+
+/// The layouts of a program.
+pub fn layouts(alloc: Global, typed: &Typed) -> Result<Layouts, NoMemory>
+    requires { IsWellTyped typed.now }
+    ensures { IfOk result (IsLaid typed.now) }
+{
+    let mut functions = Vec::new(alloc);
+    for f in &typed.functions {
+        functions.push(layout(alloc, &typed.structs, &f.variables)?)?;
+    }
+    let globals = sizes(alloc, &typed.structs, &typed.globals)?;
+    Ok(Layouts { functions, globals })
+}
+
+fn sizes(alloc: Global, types: &Types, globals: &[TGlobal]) -> Result<Vec<u32>, NoMemory>
+    requires { (k : ℕ) (g : GlobalTree) → slice_get globals.now k ≡ Some g → IsLaidOut types.now g.type }
+    ensures { IfOk result (λ sizes. sizes.items ≡ map (λ (g : GlobalTree). size types.now g.type) globals.now) }
+{
+    let mut sizes = Vec::new(alloc);
+    for g in globals {
+        sizes.push(size_of(types, &g.ty))?;
+    }
+    Ok(sizes)
+}
+
+fn layout(alloc: Global, types: &Types, variables: &[Variable]) -> Result<Layout, NoMemory>
+    requires defined { AreDefinitions types.now }
+    requires fit { VariablesFit types.now variables.now }
+    requires few { length variables.now < 2 ^ 32 }
+    ensures { IfOk result (IsLayout types.now variables.now) }
+{
+    let mut shapes = Vec::new(alloc);
+    let mut numbers = Vec::new(alloc);
+    for v in variables {
+        numbers.push(shapes.len() as u32)?;
+        if v.is_object {
+            shapes.push(shape(alloc, types, v)?)?;
+        }
+    }
+    Ok(Layout { shapes, numbers })
+}
+
+fn shape(alloc: Global, types: &Types, v: &Variable) -> Result<Shape, NoMemory>
+    requires defined { AreDefinitions types.now }
+    requires laid_out { IsLaidOut types.now v.now.type }
+    ensures { IfOk result (λ s. store.shape_of s ≡ shape_of types.now v.now) }
+{
+    Ok(Shape {
+        size: size_of(types, &v.ty),
+        leaves: leaves(alloc, types, &v.ty)?,
+    })
+}
