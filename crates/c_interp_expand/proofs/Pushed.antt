@@ -1,5 +1,8 @@
 -- Tasks that are put at the end of a list.
 use Rattle.std.proofs.Common.{◌≡◌, List, [], ◌∷◌, ◌++◌, map, refl, sym, ap, ◌∙◌, append_assoc}
+use Rattle.std.proofs.Common.{length, suc}
+use Rattle.c_typed.specs.Typed.{ExprTree, exprs_of}
+use Rattle.c_interp_def.specs.ExprTasks.{count_of}
 use Rattle.c_interp_def.specs.StmtTasks as tree
 use Rattle.c_interp_def.specs.declared.task.Task.{Task}
 use Rattle.c_interp_expand.specs.TaskViews.{task_of, tasks_of}
@@ -20,3 +23,8 @@ pushed_more xs ys zs us t e f = f ∙ ap (λ l. l ++ us) e ∙ append_assoc xs (
 pub pushed_none : (xs ys : List tree.Task) → ys ≡ xs → ys ≡ xs ++ []
 pushed_none [] ys e = e
 pushed_none (x ∷ xs) ys e = e ∙ ap (λ l. x ∷ l) (pushed_none xs xs refl)
+
+-- how many arguments there are
+pub count_is : (es : List ExprTree) → count_of (exprs_of es) ≡ length es
+count_is [] = refl
+count_is (e ∷ es) = ap (λ n. suc n) (count_is es)

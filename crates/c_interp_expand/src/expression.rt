@@ -2,10 +2,11 @@
 
 #![tactic(auto, using(crate::proofs::Pushed::pushed_none))]
 
-ghost use Rattle.std.specs.Prelude.{◌≡◌, ◌++◌, OnOk, slice_get};
+ghost use Rattle.std.specs.Prelude.{◌≡◌, [], ◌∷◌, ◌++◌, OnOk, slice_get};
 ghost use Rattle.c_typed.specs.Typed.{exprs_of};
 ghost use Rattle.c_interp_expand.specs.TaskViews.{tasks_of, slots_of};
-ghost use Rattle.c_interp_def.specs.ExprTasks.{value_slot, holds_value, expr_tasks, place_tasks_of, read_tasks, assign_tasks, compound_tasks, step_tasks, unary_tasks, dropped_tasks, passed_tasks};
+ghost use Rattle.c_interp_def.specs.ExprTasks as task;
+ghost use Rattle.c_interp_def.specs.ExprTasks.{count_of, value_slot, holds_value, expr_tasks, place_tasks_of, read_tasks, assign_tasks, compound_tasks, step_tasks, unary_tasks, dropped_tasks, passed_tasks};
 ghost use Rattle.c_interp_def.specs.Laws.{of_exprs};
 
 use crate::push::{push, push2, push3, push4};
@@ -66,7 +67,7 @@ pub fn evaluate<'a>(e: &'a TExpr, slots: &[Slot], tasks: &mut Vec<Task<'a>>) -> 
         ExprForm::Assign(p, a) => assign(t, p, a, value_slot(p, slots), tasks),
         ExprForm::Compound(op, p, a) => compound(*op, t, p, a, value_slot(p, slots), tasks),
         ExprForm::IncDec(step, p) => inc_dec(*step, t, p, value_slot(p, slots), tasks),
-        ExprForm::Call(f, es) => push2(tasks, ExprTask::Call(*f, es.len()), ExprTask::PassEach(es)),
+        ExprForm::Call(f, es) => call(*f, es, tasks),
         ExprForm::Get => push(tasks, ExprTask::ReadByte),
     }
 }
@@ -149,6 +150,18 @@ fn compound<'a>(
             ExprTask::Locate(p),
         ),
     }
+}
+
+#[tactic(auto, using(crate::proofs::Pushed::count_is))]
+fn call<'a>(f: u32, es: &'a [TExpr], tasks: &mut Vec<Task<'a>>) -> Result<(), NoMemory>
+    ensures { OnOk result (tasks_of tasks.new.items ≡ tasks_of tasks.old.items
+        ++ of_exprs (task.call f (count_of (exprs_of es.now)) ∷ task.pass_each (exprs_of es.now) ∷ [])) }
+{
+    push2(
+        tasks,
+        ExprTask::Call(f, es.len()),
+        ExprTask::PassEach(es),
+    )
 }
 
 fn inc_dec<'a>(

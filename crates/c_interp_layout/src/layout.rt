@@ -1,13 +1,15 @@
 //! The shapes of the objects of each function, the numbers of its variables among these, and the sizes of the globals.
 
-ghost use Rattle.std.specs.Prelude.{◌≡◌, ◌<◌, ◌^◌, IfOk, length, map, slice_get};
+ghost use Rattle.std.specs.Prelude.{◌≡◌, ◌<◌, ◌^◌, ◌∷◌, ◌++◌, [], ℕ, Some, IfOk, OnOk, length, map, slice_get};
 ghost use Rattle.val_core.specs.Objects.{address_in};
-ghost use Rattle.c_type.specs.Layout.{IsLaidOut};
+ghost use Rattle.val_core.specs.declared.values.Value.TheVariants.{At};
+ghost use Rattle.c_type.specs.Layout.{IsLaidOut, size};
 ghost use Rattle.c_type.specs.WellDefined.{AreDefinitions};
-ghost use Rattle.c_typed.specs.WellTyped.{VariablesFit, FunctionIsTyped, IsWellTyped};
-ghost use Rattle.c_mean.specs.Run.{shape_of, global_sizes};
+ghost use Rattle.c_typed.specs.Typed.{GlobalTree};
+ghost use Rattle.c_typed.specs.WellTyped.{VariablesFit, IsWellTyped};
+ghost use Rattle.c_mean.specs.Run.{shape_of, objects_of};
 ghost use Rattle.c_interp_store.specs.Blocks as store;
-ghost use Rattle.c_interp_layout.specs.Laid.{size_in, sizes_in, IsLayout, AreLayouts, IsLaid};
+ghost use Rattle.c_interp_layout.specs.Laid.{size_in, sizes_in, IsLayout, IsLaid};
 
 use c_interp_store::Shape;
 use c_type::{Types, leaves, size_of};
@@ -109,11 +111,27 @@ fn layout(alloc: Global, types: &Types, variables: &[Variable]) -> Result<Layout
     let mut numbers = Vec::new(alloc);
     for v in variables {
         numbers.push(shapes.len() as u32)?;
-        if v.is_object {
-            shapes.push(shape(alloc, types, v)?)?;
-        }
+        add_object(alloc, types, v, &mut shapes)?;
     }
     Ok(Layout { shapes, numbers })
+}
+
+// One more shape, where the variable is an object.
+fn add_object(
+    alloc: Global,
+    types: &Types,
+    v: &Variable,
+    shapes: &mut Vec<Shape>,
+) -> Result<(), NoMemory>
+    requires defined { AreDefinitions types.now }
+    requires laid_out { IsLaidOut types.now v.now.type }
+    ensures { OnOk result (store.shapes_of shapes.new.items
+        ≡ store.shapes_of shapes.old.items ++ objects_of types.now (v.now ∷ [])) }
+{
+    if v.is_object {
+        shapes.push(shape(alloc, types, v)?)?;
+    }
+    Ok(())
 }
 
 fn shape(alloc: Global, types: &Types, v: &Variable) -> Result<Shape, NoMemory>
