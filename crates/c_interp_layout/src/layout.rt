@@ -9,9 +9,10 @@ ghost use Rattle.c_typed.specs.Typed.{GlobalTree};
 ghost use Rattle.c_typed.specs.WellTyped.{VariablesFit, IsWellTyped};
 ghost use Rattle.c_mean.specs.Run.{shape_of, objects_of};
 ghost use Rattle.c_interp_store.specs.Blocks as store;
-ghost use Rattle.c_interp_layout.specs.Laid.{size_in, sizes_in, IsLayout, IsLaid};
+ghost use Rattle.c_interp_layout.specs.Laid.{size_in, sizes_in, IsLayout, AreLayoutsTo, FunctionsFit, IsLaid};
 
 use c_interp_store::Shape;
+use c_type::laws::leaves_are_in_order;
 use c_type::{Types, leaves, size_of};
 use c_typed::{TFunction, TGlobal, Typed, Variable};
 use no_memory::NoMemory;
@@ -78,16 +79,30 @@ fn address(number: u64, size: u32) -> Value
 }
 
 /// The layouts of a program.
-pub fn layouts(alloc: Global, typed: &Typed) -> Result<Layouts, NoMemory>
+pub fn lay_out(alloc: Global, typed: &Typed) -> Result<Layouts, NoMemory>
     requires { IsWellTyped typed.now }
     ensures { IfOk result (IsLaid typed.now) }
 {
-    let mut functions = Vec::new(alloc);
-    for f in &typed.functions {
-        functions.push(layout(alloc, &typed.structs, &f.variables)?)?;
-    }
+    let functions = function_layouts(alloc, &typed.structs, &typed.functions)?;
     let globals = sizes(alloc, &typed.structs, &typed.globals)?;
     Ok(Layouts { functions, globals })
+}
+
+fn function_layouts(
+    alloc: Global,
+    types: &Types,
+    functions: &[TFunction],
+) -> Result<Vec<Layout>, NoMemory>
+    requires defined { AreDefinitions types.now }
+    requires fit { FunctionsFit types.now functions.now }
+    ensures { IfOk result (λ layouts. AreLayoutsTo types.now functions.now
+        (length functions.now) layouts.items) }
+{
+    let mut layouts = Vec::new(alloc);
+    for f in functions {
+        layouts.push(function_layout(alloc, types, &f.variables)?)?;
+    }
+    Ok(layouts)
 }
 
 fn sizes(alloc: Global, types: &Types, globals: &[TGlobal]) -> Result<Vec<u32>, NoMemory>
@@ -101,7 +116,7 @@ fn sizes(alloc: Global, types: &Types, globals: &[TGlobal]) -> Result<Vec<u32>, 
     Ok(sizes)
 }
 
-fn layout(alloc: Global, types: &Types, variables: &[Variable]) -> Result<Layout, NoMemory>
+fn function_layout(alloc: Global, types: &Types, variables: &[Variable]) -> Result<Layout, NoMemory>
     requires defined { AreDefinitions types.now }
     requires fit { VariablesFit types.now variables.now }
     requires few { length variables.now < 2 ^ 32 }
@@ -139,6 +154,7 @@ fn shape(alloc: Global, types: &Types, v: &Variable) -> Result<Shape, NoMemory>
     requires laid_out { IsLaidOut types.now v.now.type }
     ensures { IfOk result (λ s. store.shape_of s ≡ shape_of types.now v.now) }
 {
+    leaves_are_in_order();
     Ok(Shape {
         size: size_of(types, &v.ty),
         leaves: leaves(alloc, types, &v.ty)?,

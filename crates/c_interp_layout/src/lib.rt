@@ -4,8 +4,8 @@
 //! Always: nothing of a run goes in.
 #![tactic(auto)]
 
-mod first_memory;
+mod globals;
 mod layout;
 
-pub use first_memory::first_memory;
-pub use layout::{Layout, Layouts, layouts};
+pub use globals::first_memory;
+pub use layout::{Layout, Layouts, lay_out};

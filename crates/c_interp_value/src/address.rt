@@ -1,6 +1,6 @@
 //! Arithmetic of addresses (ISO/IEC 9899:2011, 6.5.6p8).
 
-ghost use Rattle.std.specs.Prelude.{◌≡◌, ◌<◌, ◌^◌, List};
+ghost use Rattle.std.specs.Prelude.{◌≡◌, ◌*◌, ◌-◌, ◌≤◌, ◌^◌, List};
 ghost use Rattle.val_core.specs.Memory.{Memory};
 ghost use Rattle.c_interp_store.specs.Holding.{Opened, Holds};
 ghost use Rattle.c_mean.specs.State.{is_negative, moved_up, moved_down, elements_on, pointer_moved, pointer_difference, member_address};
@@ -12,7 +12,7 @@ use val_core::{BlockName, Op2, Value, op2};
 
 // So many bytes up from an offset, within the block and to its end.
 fn moved_up(block: BlockName, offset: u32, bytes: u64) -> Option<Value>
-    requires { bytes < 2 ^ 63 }
+    requires { bytes ≤ 2 ^ 64 - 2 ^ 32 }
     ensures { result ≡ moved_up block offset bytes }
 {
     let to = u64::from(offset) + bytes;
@@ -74,14 +74,18 @@ fn elements_on(
     }
 }
 
+#[tactic(auto, using(crate::proofs::Products::product_fits))]
 fn elements_up(number: u32, size: u32) -> u64
-    ensures { result ≡ number * size }
+    ensures bytes { result ≡ number * size }
+    ensures fits { result ≤ 2 ^ 64 - 2 ^ 32 }
 {
     u64::from(number) * u64::from(size)
 }
 
+#[tactic(auto, using(crate::proofs::Products::product_fits))]
 fn elements_down(number: u32, size: u32) -> u64
-    ensures { result ≡ (2 ^ 32 - number) * size }
+    ensures bytes { result ≡ (2 ^ 32 - number) * size }
+    ensures fits { result ≤ 2 ^ 64 - 2 ^ 32 }
 {
     (0x1_0000_0000 - u64::from(number)) * u64::from(size)
 }
