@@ -1,1 +1,3 @@
 pub mod Interpreted
+pub mod Machines
+pub mod Steps

@@ -11,6 +11,9 @@ use std::alloc::Global;
 use std::mem::replace;
 use val_core::Value;
 
+// So many blocks may be made before the last call begins.
+const MOST_BLOCKS: u64 = 0x8000_0000_0000_0000;
+
 impl<'a> Machine<'a> {
     // Calls a function with the newest operands.
     pub(crate) fn call(
@@ -30,6 +33,9 @@ impl<'a> Machine<'a> {
             return Err(UNDEFINED);
         };
         let objects = self.store.open(alloc, &layout.shapes)?;
+        if objects.first >= MOST_BLOCKS {
+            return Err(Stop::NoMemory);
+        }
         let frame = Frame {
             function,
             objects,

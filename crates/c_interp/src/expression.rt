@@ -78,17 +78,9 @@ fn short<'a>(
 
 // The address of an object of the newest call.
 pub(crate) fn object_at<'a>(machine: &Machine<'a>, program: Program<'a>, number: u32) -> Value {
-    match program
+    program
         .layouts
-        .functions
-        .get(machine.frame.function as usize)
-    {
-        Some(layout) => match layout.shapes.get(number as usize) {
-            Some(shape) => machine.frame.objects.address(number, shape.size),
-            None => Value::Bad,
-        },
-        None => Value::Bad,
-    }
+        .object(machine.frame.function, machine.frame.objects.first, number)
 }
 
 fn local_at<'a>(machine: &mut Machine<'a>, program: Program<'a>, slot: u32) -> Result<(), Stop> {

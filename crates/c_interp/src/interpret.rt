@@ -6,11 +6,10 @@ ghost use Rattle.cc_io.specs.Faults.{Increased};
 ghost use Rattle.c_interp.specs.Interpreted.{Streams, HasEnded, IsPart};
 
 use crate::frame::Frame;
-use crate::globals::first_memory;
 use crate::machine::{Machine, Program};
-use crate::program::layouts;
 use crate::stop::{Ending, Stop};
 use c_interp_def::{ExprTask, Flow, Task};
+use c_interp_layout::{first_memory, lay_out};
 use c_interp_store::Objects;
 use c_typed::Typed;
 use cc_io::{Sink, Source};
@@ -45,7 +44,7 @@ pub fn interpret<I: Source, O: Sink>(
         (record { held = O.held output.old; left = I.left input.old })
         (record { held = O.held output.new; left = I.left input.new })) }
 {
-    let layouts = layouts(alloc, typed)?;
+    let layouts = lay_out(alloc, typed)?;
     let program = Program {
         typed,
         layouts: &layouts,
@@ -56,7 +55,10 @@ pub fn interpret<I: Source, O: Sink>(
         operands: Vec::new(alloc),
         frame: Frame {
             function: typed.main,
-            objects: Objects { first: 0, count: 0 },
+            objects: Objects {
+                first: 0,
+                count: typed.globals.len() as u64,
+            },
             depth: bound + 1,
             slots: Vec::new(alloc),
         },

@@ -7,11 +7,9 @@
 mod calls;
 mod expression;
 mod frame;
-mod globals;
 mod interpret;
 mod machine;
 mod operands;
-mod program;
 mod statement;
 mod stop;
 

@@ -2,12 +2,12 @@
 
 use crate::expression::apply;
 use crate::frame::Frame;
-use crate::program::Layouts;
 use crate::stop::{Ending, Stop, UNDEFINED};
 use c_interp_def::{ExprTask, Flow, StmtTask, Task};
 use c_interp_expand::{drop_each, evaluate, locate, pass_each};
+use c_interp_layout::Layouts;
 use c_interp_store::Store;
-use c_typed::Typed;
+use c_typed::{Typed, UnaryOp};
 use cc_io::{Sink, Source};
 use std::alloc::Global;
 use val_core::Value;
@@ -86,8 +86,8 @@ impl<'a> Machine<'a> {
                 Ok(())
             }
             ExprTask::ReadByte => self.read_byte(input, at_end, output),
-            ExprTask::WriteByte => self.write_byte(output),
-            ExprTask::EndProgram => self.end_program(),
+            ExprTask::WriteByte | ExprTask::Unary(UnaryOp::Put, ..) => self.write_byte(output),
+            ExprTask::EndProgram | ExprTask::Unary(UnaryOp::Exit, ..) => self.end_program(),
             ExprTask::Call(f, count) => self.call(alloc, program, f, count),
             _ => apply(self, program, task),
         }

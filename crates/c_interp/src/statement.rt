@@ -22,6 +22,9 @@ impl<'a> Machine<'a> {
             StmtTask::OnStmt(Stage::Branch, a) => self.branch(a),
             StmtTask::OnStmt(Stage::Select, a) => self.select(a),
             StmtTask::OnStmt(Stage::RunTurns(turns), a) => {
+                if !is_loop(a) {
+                    return Err(UNDEFINED);
+                }
                 let goes_on = run_turns(turns, a, &mut self.tasks)?;
                 unless_cut(goes_on)
             }
@@ -213,6 +216,7 @@ impl<'a> Machine<'a> {
                 }
                 Ok(())
             }
+            Handler::Again(_, a) if !is_loop(a) => Err(UNDEFINED),
             Handler::Again(turns, a) => match self.flow {
                 Flow::Normal | Flow::Continued => {
                     self.flow = Flow::Normal;
@@ -228,6 +232,10 @@ impl<'a> Machine<'a> {
             Handler::EndCall => self.end_call(program),
         }
     }
+}
+
+fn is_loop(a: &TStmt) -> bool {
+    matches!(&a.form, StmtForm::Loop { .. } | StmtForm::DoWhile { .. })
 }
 
 fn unless_cut(goes_on: bool) -> Result<(), Stop> {
