@@ -1,1 +1,2 @@
 mod Used
+mod Operands

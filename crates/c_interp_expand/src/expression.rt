@@ -155,7 +155,8 @@ fn compound<'a>(
 #[tactic(auto, using(crate::proofs::Pushed::count_is))]
 fn call<'a>(f: u32, es: &'a [TExpr], tasks: &mut Vec<Task<'a>>) -> Result<(), NoMemory>
     ensures { OnOk result (tasks_of tasks.new.items ≡ tasks_of tasks.old.items
-        ++ of_exprs (task.call f (count_of (exprs_of es.now)) ∷ task.pass_each (exprs_of es.now) ∷ [])) }
+        ++ of_exprs (task.call f (count_of (exprs_of es.now))
+        ∷ task.pass_each (exprs_of es.now) ∷ [])) }
 {
     push2(
         tasks,

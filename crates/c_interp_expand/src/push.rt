@@ -21,7 +21,8 @@ pub(crate) fn add<'a>(tasks: &mut Vec<Task<'a>>, task: Task<'a>) -> Result<(), N
 #[tactic(auto, using(crate::proofs::Pushed::pushed_more))]
 pub(crate) fn add2<'a>(tasks: &mut Vec<Task<'a>>, a: Task<'a>, b: Task<'a>) -> Result<(), NoMemory>
     ensures { OnOk result
-        (tasks_of tasks.new.items ≡ tasks_of tasks.old.items ++ (task_of a.entry ∷ task_of b.entry ∷ [])) }
+        (tasks_of tasks.new.items ≡ tasks_of tasks.old.items
+        ++ (task_of a.entry ∷ task_of b.entry ∷ [])) }
 {
     add(tasks, a)?;
     add(tasks, b)
@@ -36,7 +37,8 @@ pub(crate) fn add3<'a>(
     c: Task<'a>,
 ) -> Result<(), NoMemory>
     ensures { OnOk result
-        (tasks_of tasks.new.items ≡ tasks_of tasks.old.items ++ (task_of a.entry ∷ task_of b.entry ∷ task_of c.entry ∷ [])) }
+        (tasks_of tasks.new.items ≡ tasks_of tasks.old.items
+        ++ (task_of a.entry ∷ task_of b.entry ∷ task_of c.entry ∷ [])) }
 {
     add(tasks, a)?;
     add2(tasks, b, c)
@@ -45,7 +47,8 @@ pub(crate) fn add3<'a>(
 /// One more task of an expression.
 pub(crate) fn push<'a>(tasks: &mut Vec<Task<'a>>, a: ExprTask<'a>) -> Result<(), NoMemory>
     ensures { OnOk result
-        (tasks_of tasks.new.items ≡ tasks_of tasks.old.items ++ of_expr (expr_task_of a.entry) ∷ []) }
+        (tasks_of tasks.new.items
+        ≡ tasks_of tasks.old.items ++ of_expr (expr_task_of a.entry) ∷ []) }
 {
     add(tasks, Task::OfExpr(a))
 }
@@ -72,7 +75,8 @@ pub(crate) fn push3<'a>(
 ) -> Result<(), NoMemory>
     ensures { OnOk result
         (tasks_of tasks.new.items ≡ tasks_of tasks.old.items
-        ++ (of_expr (expr_task_of a.entry) ∷ of_expr (expr_task_of b.entry) ∷ of_expr (expr_task_of c.entry) ∷ [])) }
+        ++ (of_expr (expr_task_of a.entry) ∷ of_expr (expr_task_of b.entry)
+        ∷ of_expr (expr_task_of c.entry) ∷ [])) }
 {
     add3(tasks, Task::OfExpr(a), Task::OfExpr(b), Task::OfExpr(c))
 }

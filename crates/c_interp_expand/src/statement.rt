@@ -71,7 +71,8 @@ pub fn run_items<'a>(
     in_scope: usize,
     tasks: &mut Vec<Task<'a>>,
 ) -> Result<(), NoMemory>
-    requires { (k : ℕ) → k < length variables.now → slice_get numbers.now k ≡ Some (object_number variables.now k) }
+    requires { (k : ℕ) → k < length variables.now
+        → slice_get numbers.now k ≡ Some (object_number variables.now k) }
     ensures { OnOk result (tasks_of tasks.new.items
         ≡ tasks_of tasks.old.items ++ items_tasks variables.now in_scope (items_of items.now)) }
 {
@@ -101,9 +102,11 @@ fn initial<'a>(
     numbers: &[u32],
     tasks: &mut Vec<Task<'a>>,
 ) -> Result<(), NoMemory>
-    requires { (k : ℕ) → k < length variables.now → slice_get numbers.now k ≡ Some (object_number variables.now k) }
+    requires { (k : ℕ) → k < length variables.now
+        → slice_get numbers.now k ≡ Some (object_number variables.now k) }
     ensures { OnOk result (tasks_of tasks.new.items
-        ≡ tasks_of tasks.old.items ++ initial_tasks variables.now d.now.variable (slice_get variables.now d.now.variable) (initial_of d.now.initial)) }
+        ≡ tasks_of tasks.old.items ++ initial_tasks variables.now d.now.variable
+        (slice_get variables.now d.now.variable) (initial_of d.now.initial)) }
 {
     let k = d.variable as usize;
     match variables.get(k) {

@@ -66,7 +66,8 @@ fn cells_of(
     requires laid_out { IsLaidOut types.now t.now }
     requires fit { AreFit (are_written written.now) }
     ensures cells { IfOk result (λ cells. cells.items
-        ≡ map (start_cell (globals_in layouts.now) (are_written written.now)) (leaves types.now t.now)) }
+        ≡ map (start_cell (globals_in layouts.now) (are_written written.now))
+        (leaves types.now t.now)) }
     ensures ascend { IfOk result (λ cells. IsTrue (ascends offset_of 0 cells.items)) }
 {
     leaves_are_in_order();

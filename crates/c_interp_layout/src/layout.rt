@@ -1,4 +1,4 @@
-//! The shapes of the objects of each function, the numbers of its variables among these, and the sizes of the globals.
+//! The shapes of the objects of each function, and the numbers of its variables among these.
 
 ghost use Rattle.std.specs.Prelude.{◌≡◌, ◌<◌, ◌^◌, ◌∷◌, ◌++◌, [], ℕ, Some, IfOk, OnOk, length, map, slice_get};
 ghost use Rattle.val_core.specs.Objects.{address_in};
@@ -106,8 +106,10 @@ fn function_layouts(
 }
 
 fn sizes(alloc: Global, types: &Types, globals: &[TGlobal]) -> Result<Vec<u32>, NoMemory>
-    requires { (k : ℕ) (g : GlobalTree) → slice_get globals.now k ≡ Some g → IsLaidOut types.now g.type }
-    ensures { IfOk result (λ sizes. sizes.items ≡ map (λ (g : GlobalTree). size types.now g.type) globals.now) }
+    requires { (k : ℕ) (g : GlobalTree) → slice_get globals.now k ≡ Some g
+        → IsLaidOut types.now g.type }
+    ensures { IfOk result (λ sizes. sizes.items
+        ≡ map (λ (g : GlobalTree). size types.now g.type) globals.now) }
 {
     let mut sizes = Vec::new(alloc);
     for g in globals {

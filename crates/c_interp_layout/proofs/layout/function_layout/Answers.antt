@@ -22,7 +22,8 @@ loop-v-preserved c =
     let i = c.loop-v.v-index in
     let v = c.v-item.result in
     let inv = c.loop-v.invariant in
-    let number : c.len.result ≡ object_number vs i = c.len.ensures ∙ shapes_count types vs i c.loop-v.shapes.items inv.shapes in
+    let total = shapes_count types vs i c.loop-v.shapes.items inv.shapes in
+    let number : c.len.result ≡ object_number vs i = omega (arith, total, c.len.ensures) in
     record {
       shapes = c.in_ok-add_object.ensures ∙ ap (λ l. l ++ objects_of types (v ∷ [])) inv.shapes
           ∙ ap (λ (x : VariableTree). objects_of types (take i vs) ++ objects_of types (x ∷ [])) c.v-item.is ∙ sym (more_objects types vs i v c.loop-v-test.true);
