@@ -1,5 +1,5 @@
 -- Tasks that are put at the end of a list.
-use Rattle.std.proofs.Common.{◌≡◌, List, [], ◌∷◌, ◌++◌, map, refl, sym, ap, ◌∙◌, append_assoc}
+use Rattle.std.proofs.Common.{◌≡◌, List, [], ◌∷◌, ◌++◌, refl, ap, ◌∙◌, append_assoc}
 use Rattle.std.proofs.Common.{length, suc}
 use Rattle.c_typed.specs.Typed.{ExprTree, exprs_of}
 use Rattle.c_interp_def.specs.ExprTasks.{count_of}

@@ -158,11 +158,7 @@ fn call<'a>(f: u32, es: &'a [TExpr], tasks: &mut Vec<Task<'a>>) -> Result<(), No
         ++ of_exprs (task.call f (count_of (exprs_of es.now))
         ∷ task.pass_each (exprs_of es.now) ∷ [])) }
 {
-    push2(
-        tasks,
-        ExprTask::Call(f, es.len()),
-        ExprTask::PassEach(es),
-    )
+    push2(tasks, ExprTask::Call(f, es.len()), ExprTask::PassEach(es))
 }
 
 fn inc_dec<'a>(
