@@ -1,3 +1,0 @@
-pub mod Interpreted
-pub mod Machines
-pub mod Steps
