@@ -2,7 +2,6 @@
 //! or it is undefined.
 
 ghost use Rattle.std.specs.Prelude.{◌≡◌, List, true};
-ghost use Rattle.val_core.specs.Memory.{Memory};
 ghost use Rattle.val_core.specs.Answers.{on_defined};
 ghost use Rattle.c_interp_store.specs.Holding.{Opened, Holds};
 ghost use Rattle.c_mean.specs.State.{State, gives};
