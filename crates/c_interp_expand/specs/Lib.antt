@@ -1,0 +1,2 @@
+pub mod TaskViews
+pub mod Turns
