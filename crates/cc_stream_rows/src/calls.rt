@@ -77,15 +77,7 @@ fn files_of(alloc: Global, held: &[Named], odd: Odd) -> Result<ByteFiles, AllocE
     Ok(files)
 }
 
-/// The watchers of the program `rvcc`.
-fn watchers_of(alloc: Global) -> Result<Vec<Box<dyn Watcher>>, AllocError> {
-    let mut watchers: Vec<Box<dyn Watcher>> = Vec::new(alloc);
-    watchers.push(Box::new(alloc, Counter::new())?)?;
-    watchers.push(Box::new(alloc, LogKeeper::new(alloc))?)?;
-    Ok(watchers)
-}
-
-/// Calls `top` with these arguments over these files and this input.
+/// Calls `top` with these arguments over these files and this input, and the watchers of `rvcc`.
 pub fn called(
     rt: &(impl Threads + Wait + Sync),
     alloc: Global,
@@ -98,7 +90,9 @@ pub fn called(
     let mut input = ByteSource::new(input.to_vec(alloc)?, odd.calls_of(Object::Input));
     let mut output = ByteSink::new(alloc, odd.calls_of(Object::Output));
     let mut report = ByteSink::new(alloc, odd.calls_of(Object::Report));
-    let mut watchers = watchers_of(alloc)?;
+    let mut watchers: Vec<Box<dyn Watcher>> = Vec::new(alloc);
+    watchers.push(Box::new(alloc, Counter::new())?)?;
+    watchers.push(Box::new(alloc, LogKeeper::new(alloc))?)?;
     let status = top(
         rt,
         alloc,
